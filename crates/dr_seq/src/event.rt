@@ -1,0 +1,16 @@
+//! What the ring carries.
+
+/// An event: two words, whose meaning is its producers' and handlers' own.
+#[derive(Clone, Copy, Debug, PartialEq, Eq)]
+pub struct Event {
+    pub first: u64,
+    pub second: u64,
+}
+
+impl Event {
+    /// What a slot holds before anything is written to it.
+    pub const NONE: Event = Event {
+        first: 0,
+        second: 0,
+    };
+}

@@ -1,0 +1,53 @@
+//! The slots of a ring.
+
+ghost use Rattle.std.specs.Prelude.{◌≡◌, ◌%◌, IfOk, length, replicate, slice_get, slice_set, Some};
+ghost use Rattle.dr_seq.specs.Size.{IsSize};
+ghost use Rattle.dr_seq.specs.Slots.{no_event, event_at};
+
+use crate::event::Event;
+use crate::size::Size;
+use std::alloc::{AllocError, Global};
+use std::marker::Model;
+
+/// An event a slot, made once and used again. Contracts see the events by slot.
+#[derive(Drop)]
+pub struct Slots {
+    events: Vec<Event>,
+    size: Size,
+}
+
+impl Model for Slots {
+    ghost use Rattle.std.specs.Prelude.{◌≡◌, List, length};
+    ghost use Rattle.dr_seq.specs.declared.event.Event.{Event};
+    ghost use Rattle.dr_seq.specs.Size.{IsSize};
+
+    ghost Value = { List Event };
+
+    ghost view = { λ a. a.events.items };
+
+    ghost invariant = { λ a. (length a.events.items ≡ a.size) × IsSize a.size };
+}
+
+impl Slots {
+    /// The slots of a ring of a size, each of two words 0.
+    pub fn new(alloc: Global, size: Size) -> Result<Slots, AllocError>
+        ensures { IfOk result (λ slots. slots ≡ replicate size no_event) }
+    {
+        let events = vec![in alloc; Event::NONE; size.get() as usize]?;
+        Ok(Slots { events, size })
+    }
+
+    /// Puts an event into the slot of a sequence, in place of what lay there.
+    pub fn put(&mut self, s: u64, event: Event)
+        ensures { self.new ≡ slice_set self.old (s % length self.old) event }
+    {
+        self.events[self.size.slot(s)] = event;
+    }
+
+    /// The event in the slot of a sequence.
+    pub fn get(&self, s: u64) -> Event
+        ensures { result ≡ event_at self.now s }
+    {
+        self.events[self.size.slot(s)]
+    }
+}
