@@ -1,13 +1,16 @@
-// A library with one function.
+//! The exchange of events: what it means, and the core that does it on one thread.
+//!
+//! Begin with `specs/`: `Machine` says what each call answers and leaves, `Transcript` what a list
+//! of calls and answers says of each sequence and each handler, and `Laws` what holds of every
+//! transcript. [`every_transcript_is_lawful`] is that theorem, and [`run`] has it for a [`Core`].
 #![tactic(auto)]
 
-ghost use Rattle.std.specs.Prelude.{◌≡◌};
-ghost use Rattle.dr_core.specs.Echo.{echo_of};
+pub mod command;
+pub mod lawful;
+pub mod mode;
+pub mod refusal;
 
-// The `ensures` clause is the contract: what `echo` returns is `echo_of` of its argument, a definition
-// in `specs/Echo.antt`, which a caller's clause can cite too.
-pub fn echo(x: usize) -> usize
-    ensures { result ≡ echo_of x }
-{
-    x
-}
+pub use command::{Claimed, Command, Polled, Reply};
+pub use lawful::every_transcript_is_lawful;
+pub use mode::Mode;
+pub use refusal::Refusal;

@@ -2,7 +2,8 @@
 
 ghost use Rattle.std.specs.Prelude.{◌≡◌, ◌%◌, IfOk, length, replicate, slice_get, slice_set, Some};
 ghost use Rattle.dr_seq.specs.Size.{IsSize};
-ghost use Rattle.dr_seq.specs.Slots.{no_event, event_at};
+ghost use Rattle.dr_seq.specs.Event.{no_event};
+ghost use Rattle.dr_seq.specs.Slots.{event_at};
 
 use crate::event::Event;
 use crate::size::Size;

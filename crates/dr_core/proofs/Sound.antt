@@ -1,0 +1,233 @@
+-- What every state of the machine keeps, and that each command changes it as its entry says.
+use Rattle.std.proofs.Common.{◌≡◌, ℕ, ◌+◌, ◌-◌, ◌<◌, ◌≤◌, ◌≢◌, inl, inr, min, Bool, true, false, cond, ◌||◌, ◌&&◌, List, [], ◌∷◌, arith, refl, ap, sym, ◌∙◌, length, map, replicate, Option, unwrap_or, Some, None, slice_index, slice_set, add-zero}
+use Rattle.std.specs.Prelude.{slice_get, Contains, ◌==◌, nat_lt, is_none}
+use Rattle.std.specs.List.{range_with_len}
+use Rattle.std.proofs.lemmas.Bool.{cond_both, cases_Bool, or_parts, false≢true, eqb-true, eqb-false}
+use Rattle.std.proofs.lemmas.Bool.Decides.{nat_tests}
+use Rattle.std.proofs.lemmas.List.{length-append, length-replicate, get_or-set_same, get_or-set_other}
+use Rattle.std.proofs.lemmas.List.FromFn.{length-map-range_with_len, get_or-map-range_with_len}
+use Rattle.std.proofs.lemmas.Option.{slice_get-get_or}
+use Rattle.dr_core.specs.declared.command.Command.{Command}
+use Rattle.dr_core.specs.declared.command.Command.TheVariants.{Claim, Write, Publish, Poll, Complete, Halt}
+use Rattle.dr_core.specs.declared.command.Reply.{Reply}
+use Rattle.dr_core.specs.declared.command.Reply.TheVariants.{Drained, Gating, Idle, Refused}
+use Rattle.dr_seq.specs.declared.event.Event.{Event}
+use Rattle.dr_seq.specs.Event.{no_event}
+use Rattle.dr_core.specs.Graph.{upstreams_of}
+use Rattle.dr_core.specs.Machine.{Setup, State, Outcome, handlers, next, front, available, offered, least_of, refusals, accepted, step, batch, cursor}
+use Rattle.dr_core.specs.Transcript.{Entry, claimed_below, first_of, wrote, covers, batch_to, completion, halts}
+use Rattle.dr_core.proofs.Least.{least_is, least_of-le}
+use Rattle.dr_core.proofs.Pushes.{or-false}
+use Rattle.dr_core.proofs.Steps.{NoneHold, unless-cases}
+use Rattle.dr_core.proofs.Tells.{Changes}
+
+pub record IsSound (c : Setup) (m : State) : Type 0 where
+  pub claimed : (s : ℕ) → m.published s ≡ true → s < next m
+  pub written : (s : ℕ) → m.published s ≡ true → is_none (m.written s) ≡ false
+  pub taken_len : length m.taken ≡ handlers c
+  pub completed_len : length m.completed ≡ handlers c
+  pub in_front : (h : ℕ) → slice_index m.taken h ≤ front m
+  pub took : (h : ℕ) → slice_index m.completed h ≤ slice_index m.taken h
+  pub after : (h u : ℕ) → Contains (upstreams_of c.upstreams h) u → slice_index m.taken h ≤ slice_index m.completed u
+
+abbrev pub entry_of : Command → Outcome → Entry
+entry_of command o = record { command = command; reply = o.reply; values = o.values }
+
+below_front : (c : Setup) (m : State) → IsSound c m → (h k : ℕ) → k < slice_index m.taken h → m.published k ≡ true
+below_front c m sound h k l =
+    let w : slice_index m.taken h ≤ front m = sound.in_front h in
+    (least_is m.published (next m)).below k (omega arith)
+
+-- a reply that changes nothing
+quiet : (c : Setup) (m : State) (command : Command) (r : Reply) → IsSound c m → claimed_below r ≡ 0 → ((s : ℕ) → covers r command s ≡ false) → ((s : ℕ) → wrote r command s ≡ None) → ((h : ℕ) → batch_to h r command [] ≡ []) → ((h : ℕ) → completion h r command ≡ None) → halts r ≡ false → Changes m (record { command = command; reply = r; values = [] }) m
+quiet c m command r sound a b d e f g = record {
+  next = rw a (omega arith);
+  published = λ s. rw (b s) (sym (or-false _));
+  written = λ s. rw (d s);
+  taken = λ h. rw (e h) (sym (add-zero _));
+  completed = λ h. rw (f h);
+  halted = rw g (sym (or-false _));
+  settled = λ s p. d s;
+  fresh = λ s p. d s;
+  batch = λ h k l. absurd (let n : length (batch_to h r command []) ≡ 0 = ap length (e h) in omega arith);
+  in_front = below_front c m sound;
+}
+
+claim_changes : (c : Setup) (m : State) (p n : ℕ) → IsSound c m → NoneHold (refusals c m (Claim p n)) → Changes m (entry_of (Claim p n) (accepted c m (Claim p n))) (accepted c m (Claim p n)).state
+claim_changes c m p n sound none = record {
+  next = (let some : (n == 0) ≡ false = (or_parts _ _ none.1.0).0 in let ne : n ≢ 0 = eqb-false n 0 some in length-append m.owners (replicate n p) ∙ ap (λ k. length m.owners + k) (length-replicate n p) ∙ omega arith);
+  published = λ s. sym (or-false _);
+  written = λ s. refl;
+  taken = λ h. sym (add-zero _);
+  completed = λ h. refl;
+  halted = sym (or-false _);
+  settled = λ s h. refl;
+  fresh = λ s h. refl;
+  batch = λ h k l. absurd (omega arith);
+  in_front = below_front c m sound;
+}
+
+first_of-if : {A : Type 0} (b : Bool) (v : A) (w : Option A) → cond b (Some v) w ≡ first_of (cond b (Some v) None) w
+first_of-if true v w = refl
+first_of-if false v w = refl
+
+write_changes : (c : Setup) (m : State) (p at : ℕ) (v : Event) → IsSound c m → NoneHold (refusals c m (Write p at v)) → Changes m (entry_of (Write p at v) (accepted c m (Write p at v))) (accepted c m (Write p at v)).state
+write_changes c m p at v sound none = record {
+  next = omega arith;
+  published = λ s. sym (or-false _);
+  written = λ s. first_of-if (s == at) v (m.written s);
+  taken = λ h. sym (add-zero _);
+  completed = λ h. refl;
+  halted = sym (or-false _);
+  settled = λ s h. elim (cases_Bool (s == at)) [
+    | inl y ↦ absurd (false≢true (sym none.1.1.0 ∙ ap m.published (sym (eqb-true s at y)) ∙ h))
+    | inr n ↦ rw n
+  ];
+  fresh = λ s h. absurd (false≢true h);
+  batch = λ h k l. absurd (omega arith);
+  in_front = below_front c m sound;
+}
+
+publish_changes : (c : Setup) (m : State) (p lo hi : ℕ) → IsSound c m → Changes m (entry_of (Publish p lo hi) (accepted c m (Publish p lo hi))) (accepted c m (Publish p lo hi)).state
+publish_changes c m p lo hi sound = record {
+  next = omega arith;
+  published = λ s. refl;
+  written = λ s. refl;
+  taken = λ h. sym (add-zero _);
+  completed = λ h. refl;
+  halted = sym (or-false _);
+  settled = λ s h. refl;
+  fresh = λ s h. refl;
+  batch = λ h k l. absurd (omega arith);
+  in_front = below_front c m sound;
+}
+
+unwrap-if : {A : Type 0} (b : Bool) (v w : A) → cond b v w ≡ unwrap_or (cond b (Some v) None) w
+unwrap-if true v w = refl
+unwrap-if false v w = refl
+
+-- a count that is set
+pub set_count : (ns : List ℕ) (at n h : ℕ) → at < length ns → slice_index (slice_set ns at n) h ≡ cond (h == at) n (slice_index ns h)
+set_count ns at n h l =
+    cond_both (h == at) n (slice_index ns h) (λ r. slice_index (slice_set ns at n) h ≡ r)
+    (λ y. (let e : h ≡ at = eqb-true h at y in rw e (get_or-set_same ns at n 0 l)))
+    (λ no'. get_or-set_other ns at h n 0 (eqb-false h at no'))
+
+complete_changes : (c : Setup) (m : State) (at upto : ℕ) → IsSound c m → NoneHold (refusals c m (Complete at upto)) → Changes m (entry_of (Complete at upto) (accepted c m (Complete at upto))) (accepted c m (Complete at upto)).state
+complete_changes c m at upto sound none = record {
+  next = omega arith;
+  published = λ s. sym (or-false _);
+  written = λ s. refl;
+  taken = λ h. sym (add-zero _);
+  completed = λ h. set_count m.completed at upto h (let l : at < handlers c = grind (arith, nat_tests, none.0) in let e : length m.completed ≡ handlers c = sound.completed_len in omega arith) ∙ unwrap-if (h == at) upto (slice_index m.completed h);
+  halted = sym (or-false _);
+  settled = λ s h. refl;
+  fresh = λ s h. absurd (false≢true h);
+  batch = λ h k l. absurd (omega arith);
+  in_front = below_front c m sound;
+}
+
+or-true : (b : Bool) → true ≡ (b || true)
+or-true true = refl
+or-true false = refl
+
+halt_changes : (c : Setup) (m : State) → IsSound c m → Changes m (entry_of Halt (accepted c m Halt)) (accepted c m Halt).state
+halt_changes c m sound = record {
+  next = omega arith;
+  published = λ s. sym (or-false _);
+  written = λ s. refl;
+  taken = λ h. sym (add-zero _);
+  completed = λ h. refl;
+  halted = or-true m.halted;
+  settled = λ s h. refl;
+  fresh = λ s h. absurd (false≢true h);
+  batch = λ h k l. absurd (omega arith);
+  in_front = below_front c m sound;
+}
+
+-- no handler is offered more than is published
+pub offered-le : (c : Setup) (m : State) → IsSound c m → (hs : List ℕ) → offered m hs ≤ front m
+offered-le c m sound [] = omega arith
+offered-le c m sound (u ∷ us) =
+    let a : least_of (map (λ h. slice_index m.completed h) (u ∷ us)) ≤ slice_index m.completed u = least_of-le (map (λ h. slice_index m.completed h) (u ∷ us)) 0 (omega arith) in
+    let b : slice_index m.completed u ≤ slice_index m.taken u = sound.took u in
+    let d : slice_index m.taken u ≤ front m = sound.in_front u in
+    omega arith
+
+is_some_value : (w : Option Event) → is_none w ≡ false → Some (unwrap_or w no_event) ≡ w
+is_some_value None h = cc
+is_some_value (Some v) h = refl
+
+abbrev pub count_of : Setup → State → ℕ → ℕ → ℕ
+count_of c m at limit = min (available c m at - slice_index m.taken at) limit
+
+abbrev values_of : Setup → State → ℕ → ℕ → List Event
+values_of c m at limit = map (λ s. unwrap_or (m.written s) no_event) (range_with_len (slice_index m.taken at) (count_of c m at limit))
+
+module _ (c : Setup) (m : State) (at limit : ℕ) (sound : IsSound c m) (inside : at < handlers c) where
+  pub within : at < length m.taken
+  within = let e : length m.taken ≡ handlers c = sound.taken_len in omega arith
+
+  many : length (values_of c m at limit) ≡ count_of c m at limit
+  many = length-map-range_with_len (λ s. unwrap_or (m.written s) no_event) (slice_index m.taken at) (count_of c m at limit)
+
+  pub reach : slice_index m.taken at < available c m at → slice_index m.taken at + count_of c m at limit ≤ front m
+  reach more = let o : available c m at ≤ front m = offered-le c m sound (upstreams_of c.upstreams at) in omega arith
+
+  published_there : (k : ℕ) → k < front m → m.published k ≡ true
+  published_there k l = (least_is m.published (next m)).below k l
+
+  value : slice_index m.taken at < available c m at → (k : ℕ) → k < count_of c m at limit → slice_get (values_of c m at limit) k ≡ m.written (slice_index m.taken at + k)
+  value more k l =
+      let r : slice_index m.taken at + count_of c m at limit ≤ front m = reach more in
+      let n : length (values_of c m at limit) ≡ count_of c m at limit = many in
+      slice_get-get_or (values_of c m at limit) k no_event (omega arith)
+      ∙ ap Some (get_or-map-range_with_len (λ s. unwrap_or (m.written s) no_event) (slice_index m.taken at) (count_of c m at limit) k (slice_index m.taken at + k) no_event l refl)
+      ∙ is_some_value (m.written (slice_index m.taken at + k)) (sound.written _ (published_there (slice_index m.taken at + k) (omega arith)))
+
+  batch_changes : slice_index m.taken at < available c m at → Changes m (entry_of (Poll at limit) (batch c m at limit)) (batch c m at limit).state
+  batch_changes more = record {
+    next = omega arith;
+    published = λ s. sym (or-false _);
+    written = λ s. refl;
+    taken = λ h. set_count m.taken at (slice_index m.taken at + count_of c m at limit) h within ∙ cond_both (h == at) (values_of c m at limit) [] (λ vs. cond (h == at) (slice_index m.taken at + count_of c m at limit) (slice_index m.taken h) ≡ slice_index m.taken h + length vs)
+        (λ y. (let e : h ≡ at = eqb-true h at y in rw y (rw e (ap (λ k. slice_index m.taken at + k) (sym many)))))
+        (λ n. rw n (sym (add-zero _)));
+    completed = λ h. refl;
+    halted = sym (or-false _);
+    settled = λ s h. refl;
+    fresh = λ s h. refl;
+    batch = λ h k. cond_both (h == at) (values_of c m at limit) [] (λ vs. k < length vs → slice_get vs k ≡ m.written (slice_index m.taken h + k))
+        (λ y l. (let e : h ≡ at = eqb-true h at y in let n : length (values_of c m at limit) ≡ count_of c m at limit = many in rw e (value more k (omega arith))))
+        (λ n l. absurd (omega arith));
+    in_front = λ h k l. published_there k (cond_both (h == at) (slice_index m.taken at + count_of c m at limit) (slice_index m.taken h) (λ n. k < n → k < front m)
+        (λ y l. (let r : slice_index m.taken at + count_of c m at limit ≤ front m = reach more in omega arith))
+        (λ n l. (let w : slice_index m.taken h ≤ front m = sound.in_front h in omega arith))
+        (rw (set_count m.taken at (slice_index m.taken at + count_of c m at limit) h within) at l));
+  }
+
+poll_changes : (c : Setup) (m : State) (at limit : ℕ) → IsSound c m → NoneHold (refusals c m (Poll at limit)) → Changes m (entry_of (Poll at limit) (accepted c m (Poll at limit))) (accepted c m (Poll at limit)).state
+poll_changes c m at limit sound none =
+    let P : Outcome → Type 0 = λ o. Changes m (entry_of (Poll at limit) o) o.state in
+    cond_both (nat_lt (slice_index m.taken at) (available c m at)) _ _ P
+    (λ y. batch_changes c m at limit sound (grind (arith, nat_tests, none.0)) (grind (arith, nat_tests, y)))
+    (λ n. cond_both (m.halted && (slice_index m.taken at == next m)) _ _ P
+    (λ y. quiet c m (Poll at limit) Drained sound refl (λ s. refl) (λ s. refl) (λ s. refl) (λ s. refl) refl)
+    (λ n'. cond_both (nat_lt (slice_index m.taken at) (cursor c m)) _ _ P
+    (λ y. quiet c m (Poll at limit) Gating sound refl (λ s. refl) (λ s. refl) (λ s. refl) (λ s. refl) refl)
+    (λ n''. quiet c m (Poll at limit) Idle sound refl (λ s. refl) (λ s. refl) (λ s. refl) (λ s. refl) refl)))
+
+accepted_changes : (c : Setup) (m : State) (command : Command) → IsSound c m → NoneHold (refusals c m command) → Changes m (entry_of command (accepted c m command)) (accepted c m command).state
+accepted_changes c m (Claim p n) sound none = claim_changes c m p n sound none
+accepted_changes c m (Write p s v) sound none = write_changes c m p s v sound none
+accepted_changes c m (Publish p lo hi) sound none = publish_changes c m p lo hi sound
+accepted_changes c m (Poll h limit) sound none = poll_changes c m h limit sound none
+accepted_changes c m (Complete h upto) sound none = complete_changes c m h upto sound none
+accepted_changes c m Halt sound none = halt_changes c m sound
+
+-- each step changes the state as its entry says
+pub step_changes : (c : Setup) (m : State) (command : Command) → IsSound c m → Changes m (entry_of command (step c m command)) (step c m command).state
+step_changes c m command sound =
+    unless-cases (λ o. Changes m (entry_of command o) o.state) (refusals c m command) m (accepted c m command)
+    (λ r. quiet c m command (Refused r) sound refl (λ s. refl) (λ s. refl) (λ s. refl) (λ s. refl) refl)
+    (accepted_changes c m command sound)

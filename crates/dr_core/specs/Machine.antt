@@ -1,0 +1,159 @@
+-- The machine: what each call answers and leaves.
+-- Its lists, sets and maps go by sequence and have no bound; it has no slots, and uses nothing again.
+use Rattle.std.specs.Prelude.{ℕ, zero, suc, ◌+◌, ◌-◌, min, Bool, true, false, not, ◌&&◌, ◌||◌, ◌==◌, nat_lt, nat_le, if◌then◌else◌, Option, None, Some, is_none, unwrap_or, List, [], ◌∷◌, ◌++◌, length, map, flat_map, replicate, slice_index, slice_set}
+use Rattle.std.specs.List.{range_with_len}
+use Rattle.dr_seq.specs.declared.event.Event.{Event}
+use Rattle.dr_seq.specs.Event.{no_event}
+use Rattle.dr_core.specs.declared.mode.Mode.{Mode}
+use Rattle.dr_core.specs.declared.mode.Mode.TheVariants.{Single, Multi}
+use Rattle.dr_core.specs.declared.command.Command.{Command}
+use Rattle.dr_core.specs.declared.command.Command.TheVariants.{Claim, Write, Publish, Poll, Complete, Halt}
+use Rattle.dr_core.specs.declared.refusal.Refusal.{Refusal}
+use Rattle.dr_core.specs.declared.refusal.Refusal.TheVariants.{NoRoom, Halted, BadCount, Exhausted, NotClaimed, AlreadyPublished, NotWritten, OutOfOrder, NotTaken, Behind, NoProducer, NoHandler}
+use Rattle.dr_core.specs.declared.command.Reply.{Reply}
+use Rattle.dr_core.specs.declared.command.Reply.TheVariants.{Claimed, Written, Published, Batch, Drained, Gating, Idle, Completed, Halting, Refused}
+use Rattle.dr_core.specs.Graph.{upstreams_of, finals}
+
+-- what an exchange is opened with; the graph is given by each handler's direct upstreams
+pub record Setup : Type 0 where
+  pub upstreams : List (List ℕ)
+  pub size : ℕ
+  pub mode : Mode
+  pub limit : ℕ
+
+pub record State : Type 0 where
+  pub owners : List ℕ  -- of each claimed sequence, its producer
+  pub written : ℕ → Option Event  -- of each sequence, the event last written to it
+  pub published : ℕ → Bool  -- which sequences are published
+  pub taken : List ℕ  -- of each handler, how many events it took
+  pub completed : List ℕ  -- of each handler, how many events it completed
+  pub halted : Bool
+
+-- what a call answers, the events that it hands out, and what it leaves
+pub record Outcome : Type 0 where
+  pub reply : Reply
+  pub values : List Event
+  pub state : State
+
+abbrev pub handlers : Setup → ℕ
+handlers c = length c.upstreams
+
+-- nothing is claimed, written, published, taken or completed
+abbrev pub opening : Setup → State
+opening c =
+    record { owners = []; written = λ s. None; published = λ s. false; taken = replicate (handlers c) 0; completed = replicate (handlers c) 0; halted = false }
+
+abbrev pub is_single : Mode → Bool
+is_single Single = true
+is_single (Multi p) = false
+
+abbrev pub producers : Mode → ℕ
+producers Single = 1
+producers (Multi p) = p
+
+-- the least of some numbers, or 0 of none
+abbrev pub least_of : List ℕ → ℕ
+least_of [] = 0
+least_of (n ∷ []) = n
+least_of (n ∷ m ∷ ms) = min n (least_of (m ∷ ms))
+
+-- the least completed count of some handlers
+abbrev pub least_completed : State → List ℕ → ℕ
+least_completed m hs = least_of (map (λ h. slice_index m.completed h) hs)
+
+-- the least number that is not in a set, or the bound where all below it are
+unfoldable pub least_outside : (ℕ → Bool) → ℕ → ℕ
+least_outside set zero = 0
+least_outside set (suc bound) = if (least_outside set bound == bound) && set bound then suc bound else least_outside set bound
+
+-- how many sequences are claimed
+abbrev pub next : State → ℕ
+next m = length m.owners
+
+-- the least sequence that is not published
+abbrev pub front : State → ℕ
+front m = least_outside m.published (next m)
+
+-- what the barrier of a handler with these upstreams lets through: what is published, or what all of them completed
+abbrev pub offered : State → List ℕ → ℕ
+offered m [] = front m
+offered m (up ∷ ups) = least_completed m (up ∷ ups)
+
+abbrev pub available : Setup → State → ℕ → ℕ
+available c m h = offered m (upstreams_of c.upstreams h)
+
+-- one producer moves the cursor when it publishes, several when they claim
+abbrev pub cursor : Setup → State → ℕ
+cursor c m = if is_single c.mode then front m else next m
+
+-- what refuses to publish one sequence, in order
+abbrev pub publish_faults : State → ℕ → ℕ → List (Bool × Refusal)
+publish_faults m p s =
+    (m.published s, AlreadyPublished) ∷ (not (slice_index m.owners s == p), NotClaimed) ∷ (is_none (m.written s), NotWritten) ∷ []
+
+-- what refuses a command, in order: the first test that holds is answered
+abbrev pub refusals : Setup → State → Command → List (Bool × Refusal)
+refusals c m (Claim p n) =
+    (nat_le (producers c.mode) p, NoProducer)
+    ∷ (n == 0 || nat_lt c.size n, BadCount)
+    ∷ (m.halted, Halted)
+    ∷ (nat_lt c.limit (next m + n), Exhausted)
+    ∷ (nat_lt (c.size + least_completed m (finals c.upstreams)) (next m + n), NoRoom)
+    ∷ []
+refusals c m (Write p s event) =
+    (nat_le (producers c.mode) p, NoProducer)
+    ∷ (nat_le (next m) s, NotClaimed)
+    ∷ (m.published s, AlreadyPublished)
+    ∷ (not (slice_index m.owners s == p), NotClaimed)
+    ∷ []
+refusals c m (Publish p lo hi) =
+    (nat_le (producers c.mode) p, NoProducer)
+    ∷ (nat_lt hi lo, BadCount)
+    ∷ (nat_le (next m) hi, NotClaimed)
+    ∷ (flat_map (publish_faults m p) (range_with_len lo (hi + 1 - lo)) ++ (is_single c.mode && not (lo == front m), OutOfOrder) ∷ [])
+refusals c m (Poll h max) = (nat_le (handlers c) h, NoHandler) ∷ (max == 0, BadCount) ∷ []
+refusals c m (Complete h upto) =
+    (nat_le (handlers c) h, NoHandler)
+    ∷ (nat_lt upto (slice_index m.completed h), Behind)
+    ∷ (nat_lt (slice_index m.taken h) upto, NotTaken)
+    ∷ []
+refusals c m Halt = []
+
+abbrev pub unchanged : Reply → State → Outcome
+unchanged r m = record { reply = r; values = []; state = m }
+
+-- the next events of a handler, at most `max`
+abbrev pub batch : Setup → State → ℕ → ℕ → Outcome
+batch c m h max =
+    let first : ℕ = slice_index m.taken h in
+    let count : ℕ = min (available c m h - first) max in
+    record {
+      reply = Batch first count (first + count == available c m h);
+      values = map (λ s. unwrap_or (m.written s) no_event) (range_with_len first count);
+      state = record m { taken = slice_set m.taken h (first + count) };
+    }
+
+-- what a command answers and leaves where nothing refuses it
+abbrev pub accepted : Setup → State → Command → Outcome
+accepted c m (Claim p n) =
+    record { reply = Claimed (next m) (next m + n - 1); values = []; state = record m { owners = m.owners ++ replicate n p } }
+accepted c m (Write p s event) =
+    record { reply = Written; values = []; state = record m { written = λ k. if k == s then Some event else m.written k } }
+accepted c m (Publish p lo hi) =
+    record { reply = Published; values = []; state = record m { published = λ k. m.published k || (nat_le lo k && nat_le k hi) } }
+accepted c m (Poll h max) =
+    if nat_lt (slice_index m.taken h) (available c m h) then batch c m h max
+    else if m.halted && (slice_index m.taken h == next m) then unchanged Drained m
+    else if nat_lt (slice_index m.taken h) (cursor c m) then unchanged Gating m
+    else unchanged Idle m
+accepted c m (Complete h upto) =
+    record { reply = Completed; values = []; state = record m { completed = slice_set m.completed h upto } }
+accepted c m Halt = record { reply = Halting; values = []; state = record m { halted = true } }
+
+-- the first test that holds refuses, and changes nothing
+abbrev pub unless : List (Bool × Refusal) → State → Outcome → Outcome
+unless [] m o = o
+unless (test ∷ tests) m o = if test.0 then unchanged (Refused test.1) m else unless tests m o
+
+abbrev pub step : Setup → State → Command → Outcome
+step c m command = unless (refusals c m command) m (accepted c m command)

@@ -1,0 +1,11 @@
+//! The theorem that the exchange stands on.
+
+ghost use Rattle.dr_core.specs.Machine.{Setup, State};
+ghost use Rattle.dr_core.specs.Transcript.{Transcript, LeadsTo};
+ghost use Rattle.dr_core.specs.Laws.{Laws};
+
+/// Every transcript that leads from the opening to a state of the machine has the five laws, at
+/// each of its beginnings. It does nothing when it runs: the contract is the theorem.
+pub fn every_transcript_is_lawful()
+    ensures { (c : Setup) (t : Transcript) (m : State) → LeadsTo c t m → Laws c t }
+{}
