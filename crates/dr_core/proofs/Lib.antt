@@ -1,7 +1,16 @@
-pub mod Least
+pub mod Leasts
 pub mod Pushes
 pub mod Steps
 pub mod Tells
 pub mod Sound
 pub mod Keeps
 pub mod FiveLaws
+pub mod Filled
+pub mod CoreSteps
+pub mod Writing
+pub mod Publishing
+pub mod Polling
+pub mod Running
+pub mod Opening
+pub mod Recents
+pub mod Copying
