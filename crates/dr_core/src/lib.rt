@@ -22,3 +22,6 @@ pub use mode::Mode;
 pub use open_fault::OpenFault;
 pub use refusal::Refusal;
 pub use runs::{Ran, run};
+
+#[cfg(test)]
+mod tests;

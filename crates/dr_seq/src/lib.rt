@@ -9,3 +9,6 @@ pub mod slots;
 pub use event::Event;
 pub use size::{Size, SizeFault};
 pub use slots::Slots;
+
+#[cfg(test)]
+mod tests;

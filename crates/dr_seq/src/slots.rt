@@ -42,7 +42,8 @@ impl Slots {
     pub fn put(&mut self, s: u64, event: Event)
         ensures { self.new ≡ slice_set self.old (s % length self.old) event }
     {
-        self.events[self.size.slot(s)] = event;
+        let slot = self.size.slot(s);
+        self.events[slot] = event;
     }
 
     /// The event in the slot of a sequence.
