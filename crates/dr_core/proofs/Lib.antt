@@ -14,3 +14,4 @@ pub mod Running
 pub mod Opening
 pub mod Recents
 pub mod Copying
+pub mod Showings

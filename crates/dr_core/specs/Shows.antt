@@ -1,5 +1,5 @@
 -- Which states of the machine a core shows. It has forgotten what lies further back than its slots.
-use Rattle.std.specs.Prelude.{◌≡◌, ℕ, ◌+◌, ◌<◌, ◌≤◌, Bool, true, false, Option, None, Some, Result, Ok, Err, List, [], ◌∷◌, map, take, slice_index}
+use Rattle.std.specs.Prelude.{◌≡◌, ℕ, ◌+◌, ◌^◌, ◌<◌, ◌≤◌, Bool, true, false, Option, None, Some, Result, Ok, Err, List, [], ◌∷◌, map, take, slice_index}
 use Rattle.dr_seq.specs.declared.event.Event.{Event}
 use Rattle.dr_core.specs.declared.command.Command.{Command}
 use Rattle.dr_core.specs.declared.refusal.Refusal.{Refusal}
@@ -8,7 +8,7 @@ use Rattle.dr_core.specs.declared.command.Reply.TheVariants.{Claimed, Batch, Dra
 use Rattle.dr_core.specs.declared.command.Claimed.{Claimed as Stretch}
 use Rattle.dr_core.specs.declared.command.Polled.{Polled}
 use Rattle.dr_core.specs.declared.command.Polled.TheVariants as answer
-use Rattle.dr_core.specs.Machine.{State, least_of, step, next, front}
+use Rattle.dr_core.specs.Machine.{State, handlers, least_of, step, next, front}
 use Rattle.dr_core.specs.CoreView.{Known, Nothing, ClaimedBy, WrittenBy, PublishedWith, CoreView, known_at}
 
 -- what is known of a claimed sequence agrees with its owner, its publication mark and what is written to it
@@ -61,3 +61,20 @@ polled other out = []
 abbrev pub offered_to : CoreView → List ℕ → ℕ
 offered_to v [] = v.front
 offered_to v (up ∷ ups) = least_of (map (λ h. slice_index v.completed h) (up ∷ ups))
+
+-- what a batch leaves of the counts: the handler took it, has not completed it, and no count wraps
+pub record TakesBatch (h first count : ℕ) (new : CoreView) : Type 0 where
+  pub handler : h < handlers new.setup
+  pub taken : slice_index new.taken h ≡ first + count
+  pub completed : slice_index new.completed h ≤ first
+  pub small : first + count ≤ 2 ^ 62
+
+abbrev pub Takes : ℕ → Result Polled Refusal → CoreView → Type 0
+Takes h (Ok (answer.Batch first count end)) new = TakesBatch h first count new
+Takes h other new = Unit {0}
+
+-- a handler may complete what it took, and takes no completion back
+pub record CanComplete (v : CoreView) (h upto : ℕ) : Type 0 where
+  pub handler : h < handlers v.setup
+  pub completed : slice_index v.completed h ≤ upto
+  pub taken : upto ≤ slice_index v.taken h

@@ -7,6 +7,7 @@
 
 pub mod command;
 pub mod engine;
+pub mod handler;
 pub mod lawful;
 mod least;
 pub mod mode;
@@ -17,6 +18,7 @@ mod slot_state;
 
 pub use command::{Claimed, Command, Polled, Reply};
 pub use engine::{Core, MAX_LIMIT, MAX_PRODUCERS};
+pub use handler::{Handler, processor_turn};
 pub use lawful::every_transcript_is_lawful;
 pub use mode::Mode;
 pub use open_fault::OpenFault;

@@ -1,7 +1,10 @@
 //! What no clause says: that the calls succeed with ample memory, and worked runs by their replies.
 
 use crate::Command::{Claim, Complete, Halt, Poll, Publish, Write};
-use crate::{Claimed, Command, Core, Mode, OpenFault, Polled, Ran, Refusal, Reply, run};
+use crate::{
+    Claimed, Command, Core, Handler, Mode, OpenFault, Polled, Ran, Refusal, Reply, processor_turn,
+    run,
+};
 use dr_seq::{Event, Size};
 use std::alloc::Global;
 use std::process::Abort;
@@ -183,5 +186,105 @@ fn refusals_print_their_names(rt: HostRuntime) -> Result<(), Fail> {
     assert_eq!(rt; Refusal::OutOfOrder.name(), "out-of-order");
     assert_eq!(rt; OpenFault::BadProducers.number(), 32);
     assert_eq!(rt; OpenFault::NoMemory.name(), "no-memory");
+    Ok(())
+}
+
+/// What a handler was shown: words, sequences and marks.
+#[derive(Drop)]
+struct Log {
+    calls: Vec<(u64, u64, bool)>,
+}
+
+impl Handler for Log {
+    ghost goes = { λ old event s end new. Unit {0} };
+
+    fn on_event(&mut self, event: Event, s: u64, end: bool) {
+        let _ = self.calls.push((event.first, s, end));
+    }
+}
+
+/// A handler that adds up the first words.
+#[derive(Drop)]
+struct Sum {
+    total: u64,
+}
+
+impl Handler for Sum {
+    ghost use Rattle.std.specs.Prelude.{◌≡◌, ◌+◌, ◌%◌, ◌^◌};
+
+    ghost goes = { λ old event s end new. new.total ≡ (old.total + event.first) % 2 ^ 64 };
+
+    fn on_event(&mut self, event: Event, _s: u64, _end: bool) {
+        self.total = self.total.wrapping_add(event.first);
+    }
+}
+
+/// A core with the events 4, 5 and 6 published.
+fn with_three_events(alloc: Global) -> Result<Core, Fail> {
+    let mut core = Core::open_one(alloc, Size::new(4)?, Mode::Single, LIMIT)?;
+    core.claim(0, 3)?;
+    for s in 0..3 {
+        core.write(0, s, word(4 + s))?;
+    }
+    core.publish(0, 0, 2)?;
+    Ok(core)
+}
+
+#[test]
+fn a_batch_processor_marks_the_last_available(rt: HostRuntime) -> Result<(), Fail> {
+    let alloc = rt.alloc();
+    let mut core = with_three_events(alloc)?;
+    let mut log = Log {
+        calls: Vec::new(alloc),
+    };
+    let mut buf = [Event::NONE; 2];
+    let limited = Polled::Batch {
+        first: 0,
+        count: 2,
+        end: false,
+    };
+    assert_eq!(rt;
+        processor_turn(&mut core, 0, &mut log, &mut buf),
+        Ok(limited)
+    );
+    assert_eq!(rt;
+        log.calls.as_slice(),
+        [(4, 0, false), (5, 1, false)].as_slice()
+    );
+    let last = Polled::Batch {
+        first: 2,
+        count: 1,
+        end: true,
+    };
+    assert_eq!(rt; processor_turn(&mut core, 0, &mut log, &mut buf), Ok(last));
+    assert_eq!(rt; log.calls.len(), 3);
+    assert_eq!(rt; log.calls[2], (6, 2, true));
+    check_counts(&rt, &core, 3, 3, 3, 3);
+    assert_eq!(rt;
+        processor_turn(&mut core, 0, &mut log, &mut buf),
+        Ok(Polled::Idle)
+    );
+    assert_eq!(rt; log.calls.len(), 3);
+    Ok(())
+}
+
+/// Turns until nothing is left, by any handler.
+fn turn_until_idle<H: Handler>(core: &mut Core, handler: &mut H) -> Result<(), Refusal> {
+    let mut buf = [Event::NONE; 1];
+    for _ in 0..8 {
+        if processor_turn(core, 0, handler, &mut buf)? == Polled::Idle {
+            return Ok(());
+        }
+    }
+    Ok(())
+}
+
+#[test]
+fn a_borrowed_handler_keeps_its_meaning(rt: HostRuntime) -> Result<(), Fail> {
+    let mut core = with_three_events(rt.alloc())?;
+    let mut sum = Sum { total: 0 };
+    let borrowed = &mut sum;
+    turn_until_idle(&mut core, borrowed)?;
+    assert_eq!(rt; sum.total, 15);
     Ok(())
 }

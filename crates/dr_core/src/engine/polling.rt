@@ -1,12 +1,12 @@
 //! The handlers' calls: events are taken as their barriers let them through, and completed.
 
-ghost use Rattle.std.specs.Prelude.{◌≡◌, ◌-◌, ◌↔◌, Err, ◌<◌, ◌≤◌, ◌^◌, ◌+◌, ◌++◌, [], length, map, drop, OnErr, IfOk, IfErr, slice_index, if◌then◌else◌};
+ghost use Rattle.std.specs.Prelude.{◌≡◌, ◌-◌, ◌↔◌, Err, ◌<◌, ◌≤◌, ◌^◌, ◌+◌, ◌++◌, [], length, map, drop, OnErr, IfOk, IfErr, IsOk, slice_index, if◌then◌else◌};
 ghost use Rattle.std.specs.List.{range_with_len};
 ghost use Rattle.dr_seq.specs.Slots.{event_at};
 ghost use Rattle.dr_core.specs.Graph.{upstreams_of};
 ghost use Rattle.dr_core.specs.Machine.{State, available as available_of, handlers, is_single};
 ghost use Rattle.dr_core.specs.Runs.{count_in};
-ghost use Rattle.dr_core.specs.Shows.{Shows, IsStep, offered_to, unit_reply, poll_reply, polled};
+ghost use Rattle.dr_core.specs.Shows.{Shows, IsStep, Takes, CanComplete, offered_to, unit_reply, poll_reply, polled};
 
 use crate::command::{Command, Polled, Reply};
 use crate::engine::Core;
@@ -60,6 +60,7 @@ impl Core {
         ensures step { IsStep self.old (Command.Poll h (length out.old)) (poll_reply result) (polled result out.new) self.new }
         ensures rest { out.new ≡ polled result out.new ++ drop (length (polled result out.new)) out.old }
         ensures fits { count_in (poll_reply result) ≤ length out.old }
+        ensures takes { Takes h result self.new }
         ensures refused { OnErr result (self.new ≡ self.old) }
     {
         if h >= self.upstreams.len() {
@@ -93,6 +94,7 @@ impl Core {
     /// after a final handler their slots may be claimed again.
     pub fn complete(&mut self, h: usize, upto: u64) -> Result<(), Refusal>
         ensures step { IsStep self.old (Command.Complete h upto) (unit_reply Reply.Completed result) [] self.new }
+        ensures accepted { CanComplete self.old h upto → IsOk result }
         ensures refused { OnErr result (self.new ≡ self.old) }
     {
         if h >= self.upstreams.len() {
