@@ -1,6 +1,6 @@
 //! What no clause says: the faults' text, and that the calls succeed with ample memory.
 
-use crate::{Event, Size, SizeFault, Slots};
+use crate::{Event, GateCache, Rounds, Size, SizeFault, Slots};
 use std::process::Abort;
 use std::test::Fail;
 
@@ -56,4 +56,28 @@ fn a_slot_is_used_again_a_round_later(rt: HostRuntime) -> Result<(), Fail> {
     slots.put(7, event(3));
     assert_eq!(rt; slots.get(3), event(3));
     Ok(())
+}
+
+#[test]
+fn a_mark_counts_in_its_own_round(rt: HostRuntime) -> Result<(), Fail> {
+    let mut rounds = Rounds::new(rt.alloc(), Size::new(4)?)?;
+    assert_eq!(rt; rounds.front(0, 4), 0);
+    rounds.mark(0);
+    rounds.mark(1);
+    rounds.mark(3);
+    assert_eq!(rt; rounds.front(0, 4), 2);
+    assert!(rt; !rounds.is_marked(4));
+    rounds.mark(4);
+    assert!(rt; rounds.is_marked(4) && !rounds.is_marked(0));
+    rounds.mark(2);
+    assert_eq!(rt; rounds.front(1, 5), 5);
+    Ok(())
+}
+
+#[test]
+fn the_gate_cache_keeps_the_last_scan(rt: HostRuntime) {
+    let mut cache = GateCache::new();
+    assert_eq!(rt; cache.seen(), 0);
+    cache.raise(7);
+    assert_eq!(rt; cache.seen(), 7);
 }
