@@ -12,3 +12,4 @@ pub mod Grouping
 pub mod Declaring
 pub mod Gating
 pub mod Building
+pub mod Unique

@@ -84,3 +84,7 @@ pub record IsGraphOf (d : Declaration) (graph : Shape) : Type 0 where
   pub named : graph.names ≡ names_in d.names order
   pub complete : length graph.upstreams ≡ length d.names
   pub upstreams : (h : ℕ) → h < length d.names → AreChosen (leads_to d.edges order h) (length d.names) (upstreams_of graph.upstreams h)
+
+-- a declaration has one graph at most
+abbrev pub HasOneGraph : Declaration → Type 0
+HasOneGraph d = (graph other : Shape) → IsGraphOf d graph → IsGraphOf d other → graph ≡ other

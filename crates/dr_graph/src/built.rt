@@ -4,7 +4,7 @@ ghost use Rattle.std.specs.Prelude.{◌≡◌, ◌==◌, ◌⊎◌, ℕ, ◌<◌
 ghost use Rattle.std.specs.List.{list_any};
 ghost use Rattle.std.specs.Str.{bytes_eq};
 ghost use Rattle.std.specs.String.{string_bytes};
-ghost use Rattle.dr_graph.specs.Name.{texts, is_named, number_of};
+ghost use Rattle.dr_graph.specs.Name.{AreDistinct, texts, is_named, number_of};
 ghost use Rattle.dr_graph.specs.Order.{HasCycle};
 ghost use Rattle.dr_graph.specs.KeptBuilder.{IsDeclaration};
 ghost use Rattle.dr_graph.specs.Graph.{IsGraph, IsGraphOf, upstreams_of, names_in, is_final as is_final_of, finals as finals_of};
@@ -42,6 +42,7 @@ impl Graph {
     pub fn len(&self) -> usize
         ensures handlers { result ≡ length self.now.upstreams }
         ensures names { result ≡ length self.now.names }
+        ensures distinct { AreDistinct self.now.names }
         ensures lawful { IsGraph self.now.upstreams }
     {
         self.upstreams.len()
