@@ -1,8 +1,8 @@
 -- A call of the core is the machine's step, on each state that the core shows.
 use Rattle.std.proofs.Common.{◌≡◌, ℕ, ◌+◌, ◌-◌, ◌<◌, ◌≤◌, ◌≢◌, ◌⊎◌, inl, inr, Bool, true, false, List, [], ◌∷◌, ◌++◌, arith, refl, ap, ◌∙◌, length, map, min, get_or, replicate, slice_index, slice_set}
-use Rattle.std.proofs.lemmas.Bool.{cond-true, cond-false, or_from, cases_lt, lt-leb, le-ltb, ne_eqb}
+use Rattle.std.proofs.lemmas.Bool.{cond-true, cond-false, lt-ltb, leb-false, or_from, cases_lt, lt-leb, le-ltb, ne_eqb}
 use Rattle.std.proofs.lemmas.List.{length-append, length-replicate, get_or_append_left, get_or-append_right, get_or-replicate}
-use Rattle.std.specs.Prelude.{All, ◌==◌, ◌||◌, nat_lt}
+use Rattle.std.specs.Prelude.{All, ◌==◌, ◌||◌, nat_le, nat_lt}
 use Rattle.std.specs.List.{range_with_len}
 use Rattle.std.proofs.lemmas.List.Elements.{All-filter}
 use Rattle.std.proofs.lemmas.List.FromFn.{length-range_with_len, get_or-range_with_len, get_or-map-range_with_len}
@@ -11,7 +11,7 @@ use Rattle.dr_core.specs.declared.command.Command.TheVariants.{Claim, Complete, 
 use Rattle.dr_core.specs.declared.command.Reply.{Reply}
 use Rattle.dr_core.specs.declared.command.Reply.TheVariants.{Claimed, Completed, Halting, Refused}
 use Rattle.dr_core.specs.declared.refusal.Refusal.{Refusal}
-use Rattle.dr_core.specs.declared.refusal.Refusal.TheVariants.{BadCount}
+use Rattle.dr_core.specs.declared.refusal.Refusal.TheVariants.{BadCount, NoRoom}
 use Rattle.dr_seq.specs.declared.event.Event.{Event}
 use Rattle.dr_graph.specs.Graph.{is_final, finals, IsGated, least_of}
 use Rattle.dr_core.specs.Machine.{State, Outcome, handlers, producers, next, front, refusals, accepted, unless, unchanged}
@@ -168,6 +168,22 @@ claim_whole v n recent whole limit room = record {
   room = λ h inside. (let l : least_of (map (λ f. slice_index v.completed f) (finals v.setup.upstreams)) ≤ slice_index v.completed h = finals_least v whole h inside in omega arith);
 }
 
+-- what is known of the recent sequences is no part of it
+pub recent_whole : (v : CoreView) (recent : List Known) → IsWhole v → IsWhole (record v { recent = recent })
+recent_whole v recent whole = record {
+  graph = whole.graph;
+  size = whole.size;
+  limit = whole.limit;
+  taken = whole.taken;
+  completed = whole.completed;
+  claimed = whole.claimed;
+  front = whole.front;
+  in_front = whole.in_front;
+  took = whole.took;
+  after = whole.after;
+  room = whole.room;
+}
+
 -- every final is a handler
 pub finals_within : (upstreams : List (List ℕ)) → All (λ h. h < length upstreams) (finals upstreams)
 finals_within upstreams = All-filter (is_final upstreams) (λ h. h < length upstreams) (range_with_len 0 (length upstreams)) (λ k d l. (let n : length (range_with_len 0 (length upstreams)) ≡ length upstreams = length-range_with_len 0 (length upstreams) in let inside : k < length upstreams = omega arith in rw get_or-range_with_len (omega arith)))
@@ -175,3 +191,27 @@ finals_within upstreams = All-filter (is_final upstreams) (λ h. h < length upst
 -- a claim of none, or of more than the size
 pub claim_bad_count : (v : CoreView) (p n : ℕ) → p < producers v.setup.mode → (n == 0 || nat_lt v.setup.size n) ≡ true → IsStep v (Claim p n) (Refused BadCount) [] v
 claim_bad_count v p n producer bad = refused_step v (Claim p n) BadCount (λ m sh. inr (lt-leb _ _ producer, inl (bad, refl)))
+
+-- a claim that does not fit beside what the finals have not completed
+pub claim_no_room : (v : CoreView) (p n : ℕ) → p < producers v.setup.mode → n ≢ 0 → n ≤ v.setup.size → v.halted ≡ false → v.next + n ≤ v.setup.limit
+    → nat_le (v.next + n) (v.setup.size + least_of (map (λ h. slice_index v.completed h) (finals v.setup.upstreams))) ≡ false → IsStep v (Claim p n) (Refused NoRoom) [] v
+claim_no_room v p n producer some fits going limit full =
+    refused_step v (Claim p n) NoRoom
+    (λ m sh. let here : next m ≡ v.next = sh.next in
+    inr (lt-leb _ _ producer, inr (or_from _ _ (ne_eqb n 0 some) (le-ltb _ _ fits), inr (sh.halted ∙ going, inr (rw here (le-ltb _ _ limit), inl (rw (here, sh.completed) (lt-ltb _ _ (leb-false _ _ full)), refl))))))
+
+-- the front moves up, and no further than what is claimed
+pub publish_whole_front : (v : CoreView) (front' : ℕ) (recent : List Known) → IsWhole v → v.front ≤ front' → front' ≤ v.next → IsWhole (record v { front = front'; recent = recent })
+publish_whole_front v front' recent whole low high = record {
+  graph = whole.graph;
+  size = whole.size;
+  limit = whole.limit;
+  taken = whole.taken;
+  completed = whole.completed;
+  claimed = whole.claimed;
+  front = high;
+  in_front = λ h. (let a : slice_index v.taken h ≤ v.front = whole.in_front h in omega arith);
+  took = whole.took;
+  after = whole.after;
+  room = whole.room;
+}

@@ -5,7 +5,7 @@ pub mod Tells
 pub mod Sound
 pub mod Keeps
 pub mod FiveLaws
-pub mod Filled
+pub mod Stamped
 pub mod CoreSteps
 pub mod Writing
 pub mod Publishing
@@ -15,3 +15,4 @@ pub mod Opening
 pub mod Recents
 pub mod Copying
 pub mod Showings
+pub mod Gating

@@ -13,7 +13,7 @@ use Rattle.dr_seq.proofs.Sizes.{size_positive}
 use Rattle.dr_graph.specs.Graph.{upstreams_of, IsGraph, least_of}
 use Rattle.dr_core.specs.Machine.{State, handlers, is_single, next, available, offered, cursor, batch, unchanged, accepted, step}
 use Rattle.dr_core.specs.CoreView.{Known, Nothing, ClaimedBy, WrittenBy, PublishedWith, CoreView, known_at}
-use Rattle.dr_core.specs.SlotStates.{is_shown, value_of}
+use Rattle.dr_core.specs.Availability.{is_shown, value_of}
 use Rattle.dr_core.specs.Shows.{Shows, Agrees, IsStep, offered_to, poll_reply, polled}
 use Rattle.dr_core.specs.Runs.{count_in}
 use Rattle.dr_core.specs.declared.refusal.Refusal.{Refusal}

@@ -8,9 +8,10 @@ use Rattle.dr_core.specs.declared.command.Reply.TheVariants.{Published, Refused}
 use Rattle.dr_core.specs.declared.refusal.Refusal.{Refusal}
 use Rattle.dr_core.specs.declared.refusal.Refusal.TheVariants.{NotClaimed, AlreadyPublished, NotWritten, OutOfOrder}
 use Rattle.dr_seq.specs.declared.event.Event.{Event}
+use Rattle.dr_seq.specs.Rounds.{IsFront}
 use Rattle.dr_core.specs.Machine.{State, producers, is_single, next, front, refusals, accepted, publish_faults}
 use Rattle.dr_core.specs.CoreView.{Known, Nothing, ClaimedBy, WrittenBy, PublishedWith, CoreView, recent_of, known_at}
-use Rattle.dr_core.specs.SlotStates.{publish_fault, value_of, is_shown, IsFrontFrom}
+use Rattle.dr_core.specs.Availability.{publish_fault, value_of, is_shown}
 use Rattle.dr_core.specs.Shows.{Shows, Agrees, IsStep}
 use Rattle.dr_core.specs.Inside.{IsWhole}
 use Rattle.dr_core.proofs.Leasts.{least_is, least_one}
@@ -135,7 +136,7 @@ pub record PublishesKnown (v : CoreView) (lo hi : ℕ) (known : ℕ → Known) :
 
 module _ (v : CoreView) (p lo hi front' : ℕ) (known : ℕ → Known) (knows : PublishesKnown v lo hi known) (whole : IsWhole v) (producer : p < producers v.setup.mode) (order : lo ≤ hi) (claimed : hi < v.next) (fresh : v.front ≤ lo)
     (none : (j : ℕ) → j < hi + 1 - lo → publish_fault (known_at v (lo + j)) p ≡ None)
-    (found : IsFrontFrom (λ s. is_shown (known s)) v.front v.next front') where
+    (found : IsFront (λ s. is_shown (known s)) v.front v.next front') where
   now_published : (m : State) → Shows v m → (k : ℕ) → k < v.next → v.next ≤ k + v.setup.size → is_shown (known k) ≡ (m.published k || in_stretch lo hi k)
   now_published m sh k l r = elim (stretch_cases lo hi k) [
     | inl i ↦ ap is_shown (knows.inside k i.0 i.1) ∙ sym (or_right (m.published k) _ (inside_is lo hi k i.0 i.1))

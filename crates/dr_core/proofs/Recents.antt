@@ -1,123 +1,218 @@
--- What is known of the recent sequences, kept as a state and an event a slot.
-use Rattle.std.proofs.Common.{◌≡◌, ℕ, ◌+◌, ◌-◌, ◌%◌, ◌<◌, ◌≤◌, ◌≢◌, inl, inr, true, List, arith, refl, ap, sym, ◌∙◌, length, set, Option, None, Some}
-use Rattle.std.specs.Prelude.{◌==◌}
+-- What is known of the recent sequences, kept by rounds of the ring.
+use Rattle.std.proofs.Common.{◌≡◌, ◌⊎◌, ℕ, ◌+◌, ◌-◌, ◌%◌, ◌<◌, ◌≤◌, ◌≢◌, inl, inr, true, false, Bool, cond, List, arith, refl, ap, sym, ◌∙◌, length, set, Option, None, Some, replicate}
+use Rattle.std.specs.Prelude.{◌==◌, ◌||◌, nat_lt}
 use Rattle.std.proofs.Math.Nat.{mod-lt}
-use Rattle.std.proofs.lemmas.Bool.{cases_Bool}
+use Rattle.std.proofs.lemmas.Bool.{ne_eqb, cases_Bool, cases_lt, or_left, or_right, or_from, lt-ltb, le-ltb}
 use Rattle.std.proofs.lemmas.List.{length-set, get_or-set_same, get_or-set_other}
 use Rattle.dr_seq.specs.declared.event.Event.{Event}
 use Rattle.dr_seq.specs.Event.{no_event}
+use Rattle.dr_seq.specs.Rounds.{entry_of, is_marked, IsFront}
 use Rattle.dr_seq.specs.Slots.{event_at}
+use Rattle.dr_core.specs.declared.mode.Mode.{Mode}
+use Rattle.dr_core.specs.declared.mode.Mode.TheVariants.{Single, Multi}
 use Rattle.dr_core.specs.declared.refusal.Refusal.{Refusal}
-use Rattle.dr_core.specs.declared.refusal.Refusal.TheVariants.{NotClaimed, NotWritten}
-use Rattle.dr_core.specs.declared.slot_state.SlotState.{SlotState}
-use Rattle.dr_core.specs.declared.slot_state.SlotState.TheVariants.{Free, Claimed, Written, Published}
-use Rattle.dr_core.specs.CoreView.{CoreView, known_at}
-use Rattle.dr_core.specs.SlotStates.{state_at, known_of, slot_known, mark_of, filled, write_fault, publish_fault, is_shown, value_of, IsFrontFrom}
-use Rattle.dr_core.proofs.Filled.{length-filled, filled-in, filled-out, mod-ne}
+use Rattle.dr_core.specs.declared.refusal.Refusal.TheVariants.{NotClaimed, NotWritten, AlreadyPublished}
 use Rattle.dr_core.specs.declared.engine.Core.TheInside.{Inside}
-use Rattle.dr_core.specs.Inside.{view_of}
+use Rattle.dr_core.specs.Machine.{producers}
+use Rattle.dr_core.specs.CoreView.{CoreView, known_at}
+use Rattle.dr_core.specs.Availability.{Kept, owner_at, is_published_at, known_of, slot_known, stamped, owners_after, HasOwners, write_fault, publish_fault, is_shown, value_of}
+use Rattle.dr_core.specs.Inside.{kept_of, view_of, IsAvailable}
+use Rattle.dr_core.proofs.Stamped.{length-stamped, stamped-in, stamped-out, mod-ne, marks_none_after, marked-in, marked-out, mark_is}
+use Rattle.dr_core.proofs.Keeps.{zeros}
 use Rattle.dr_core.proofs.CoreSteps.{ClaimsKnown, known_at-recent}
 use Rattle.dr_core.proofs.Writing.{WritesKnown}
 use Rattle.dr_core.proofs.Publishing.{PublishesKnown}
 
--- what is tested of a slot does not hang on its event
+-- what a core's view says of a recent sequence is what its slot says
+pub known_there : (a : Inside) (s : ℕ) → s < a.next → a.next ≤ s + a.size → known_at (view_of a) s ≡ slot_known (kept_of a) s
+known_there a s claimed near = known_at-recent (slot_known (kept_of a)) a.next a.size s claimed near
 
-pub write_fault-mark : (state : SlotState) (event : Event) (p : ℕ) → write_fault (known_of state event) p ≡ write_fault (mark_of state) p
-write_fault-mark Free event p = refl
-write_fault-mark (Claimed q) event p = refl
-write_fault-mark (Written q) event p = refl
-write_fault-mark Published event p = refl
+-- the tests of a publication, in their order
+pub publish_fault-known : (published written : Bool) (owner p : ℕ) (event : Event) → publish_fault (known_of published written owner event) p ≡ cond published (Some AlreadyPublished) (cond (owner == p) (cond written None (Some NotWritten)) (Some NotClaimed))
+publish_fault-known true written owner p event = refl
+publish_fault-known false true owner p event = elim (cases_Bool (owner == p)) [ inl y ↦ rw y | inr n ↦ rw n ]
+publish_fault-known false false owner p event = elim (cases_Bool (owner == p)) [ inl y ↦ rw y | inr n ↦ rw n ]
 
-pub publish_fault-mark : (state : SlotState) (event : Event) (p : ℕ) → publish_fault (known_of state event) p ≡ publish_fault (mark_of state) p
-publish_fault-mark Free event p = refl
-publish_fault-mark (Claimed q) event p = refl
-publish_fault-mark (Written q) event p = refl
-publish_fault-mark Published event p = refl
-
-is_shown-mark : (state : SlotState) (event : Event) → is_shown (known_of state event) ≡ is_shown (mark_of state)
-is_shown-mark Free event = refl
-is_shown-mark (Claimed q) event = refl
-is_shown-mark (Written q) event = refl
-is_shown-mark Published event = refl
+-- the tests of a write
+pub write_fault-known : (published written : Bool) (owner p : ℕ) (event : Event) → write_fault (known_of published written owner event) p ≡ cond published (Some AlreadyPublished) (cond (owner == p) None (Some NotClaimed))
+write_fault-known true written owner p event = refl
+write_fault-known false true owner p event = refl
+write_fault-known false false owner p event = refl
 
 -- what may be published is known with its slot's event
-value_of-known : (state : SlotState) (event : Event) (p : ℕ) → publish_fault (known_of state event) p ≡ None → value_of (known_of state event) ≡ event
-value_of-known Free event p e = absurd (let f : ◌≡◌ {A = Option Refusal} (Some NotClaimed) None = e in cc)
-value_of-known (Claimed q) event p e = absurd (elim (cases_Bool (q == p)) [
+value_of-known : (published written : Bool) (owner p : ℕ) (event : Event) → publish_fault (known_of published written owner event) p ≡ None → value_of (known_of published written owner event) ≡ event
+value_of-known true written owner p event e = refl
+value_of-known false true owner p event e = refl
+value_of-known false false owner p event e = absurd (elim (cases_Bool (owner == p)) [
   | inl y ↦ (let f : ◌≡◌ {A = Option Refusal} (Some NotWritten) None = rw y at e in cc)
   | inr n ↦ (let f : ◌≡◌ {A = Option Refusal} (Some NotClaimed) None = rw n at e in cc)
 ])
-value_of-known (Written q) event p e = refl
-value_of-known Published event p e = refl
 
 -- what is shown is known with its slot's event
-pub value_of-shown : (state : SlotState) (event : Event) → is_shown (known_of state event) ≡ true → event ≡ value_of (known_of state event)
-value_of-shown Free event e = cc
-value_of-shown (Claimed q) event e = cc
-value_of-shown (Written q) event e = cc
-value_of-shown Published event e = refl
+value_of-shown : (published written : Bool) (owner : ℕ) (event : Event) → is_shown (known_of published written owner event) ≡ true → event ≡ value_of (known_of published written owner event)
+value_of-shown true written owner event e = refl
+value_of-shown false true owner event e = cc
+value_of-shown false false owner event e = cc
 
--- the front that is found by the states alone
-pub front_known : (states : List SlotState) (events : List Event) (from to front : ℕ) → IsFrontFrom (λ s. is_shown (mark_of (state_at states s))) from to front → IsFrontFrom (λ s. is_shown (slot_known states events s)) from to front
-front_known states events from to front found = record {
-  low = found.low;
-  high = found.high;
-  below = λ s a b. is_shown-mark (state_at states s) (event_at events s) ∙ found.below s a b;
-  here = λ l. is_shown-mark (state_at states front) (event_at events front) ∙ found.here l;
-}
+is_shown-known : (published written : Bool) (owner : ℕ) (event : Event) → is_shown (known_of published written owner event) ≡ published
+is_shown-known true written owner event = refl
+is_shown-known false true owner event = refl
+is_shown-known false false owner event = refl
 
-module _ (v : CoreView) (states : List SlotState) (events : List Event) (kept : (s : ℕ) → s < v.next → v.next ≤ s + v.setup.size → known_at v s ≡ slot_known states events s) (slots : length states ≡ v.setup.size) (some : 0 < v.setup.size) where
-  set_in : (from n s : ℕ) (state : SlotState) → n ≤ v.setup.size → from ≤ s → s < from + n → slot_known (filled states from n state) events s ≡ known_of state (event_at events s)
-  set_in from n s state fits low high =
-      let here : state_at (filled states from n state) s ≡ state = rw length-filled (filled-in states from n state Free s (omega arith) (omega arith) low high) in
-      ap (λ x. known_of x (event_at events s)) here
-
-  set_out : (from n s : ℕ) (state : SlotState) → s < v.next → v.next ≤ s + v.setup.size → from + n ≤ s + v.setup.size → s < from + v.setup.size → ((k : ℕ) → k < n → s ≢ from + k) → slot_known (filled states from n state) events s ≡ known_at v s
-  set_out from n s state l r near far out =
-      let here : state_at (filled states from n state) s ≡ state_at states s = rw length-filled (filled-out states from n state Free s (omega arith) (omega arith) out) in
-      ap (λ x. known_of x (event_at events s)) here ∙ sym (kept s l r)
-
-  pub claims_known : (p n : ℕ) → n ≤ v.setup.size → ClaimsKnown v p n (slot_known (filled states v.next n (Claimed p)) events)
-  claims_known p n fits = record {
-    fresh = λ s low high. set_in v.next n s (Claimed p) fits low high;
-    kept = λ s old round. set_out v.next n s (Claimed p) old (omega arith) round (omega arith) (λ k l. (let below : s < v.next + k = omega arith in λ e. absurd (omega arith)));
-  }
-
-  pub writes_known : (p s : ℕ) (x : Event) → length events ≡ v.setup.size → s < v.next → v.next ≤ s + v.setup.size → WritesKnown v p s x (slot_known (set states (s % length states) (Written p)) (set events (s % length events) x))
-  writes_known p s x held claimed near =
-      let inside : s % length states < length states = mod-lt s (omega arith) in
-      let inside' : s % length events < length events = mod-lt s (omega arith) in
-      record {
-        here = (let state : state_at (set states (s % length states) (Written p)) s ≡ Written p = rw length-set (get_or-set_same states (s % length states) (Written p) Free inside) in
-            let event : event_at (set events (s % length events) x) s ≡ x = rw length-set (get_or-set_same events (s % length events) x no_event inside') in
-            rw (state, event));
-        kept = λ k ne l round. (let apart : k % length states ≢ s % length states = mod-ne k s (length states) ne (omega arith) (omega arith) in
-            let apart' : k % length events ≢ s % length events = mod-ne k s (length events) ne (omega arith) (omega arith) in
-            let state : state_at (set states (s % length states) (Written p)) k ≡ state_at states k = rw length-set (get_or-set_other states (s % length states) (k % length states) (Written p) Free apart) in
-            let event : event_at (set events (s % length events) x) k ≡ event_at events k = rw length-set (get_or-set_other events (s % length events) (k % length events) x no_event apart') in
-            rw (state, event) (sym (kept k l round)));
-      }
-
-  pub publishes_known : (p lo hi : ℕ) → lo ≤ hi → hi < v.next → v.next ≤ lo + v.setup.size → ((j : ℕ) → j < hi + 1 - lo → publish_fault (known_at v (lo + j)) p ≡ None)
-      → PublishesKnown v lo hi (slot_known (filled states lo (hi + 1 - lo) Published) events)
-  publishes_known p lo hi order claimed near none = record {
-    inside = λ k low high. (let off : lo + (k - lo) ≡ k = omega arith in
-        let fine : publish_fault (known_at v k) p ≡ None = rw off at (none (k - lo) (omega arith)) in
-        let value : value_of (known_at v k) ≡ event_at events k = ap value_of (kept k (omega arith) (omega arith)) ∙ value_of-known (state_at states k) (event_at events k) p (rw (kept k (omega arith) (omega arith)) at fine) in
-        rw value (set_in lo (hi + 1 - lo) k Published (omega arith) low (omega arith)));
-    outside = λ k l round out. set_out lo (hi + 1 - lo) k Published l round (omega arith) (omega arith) (λ j b. elim out [ inl below ↦ (λ e. absurd (omega arith)) | inr above ↦ (λ e. absurd (omega arith)) ]);
-  }
-
--- what a core's view says of a recent sequence is what its slot says
-pub known_there : (a : Inside) (s : ℕ) → s < a.next → a.next ≤ s + a.size → known_at (view_of a) s ≡ slot_known a.states.items a.events s
-known_there a s claimed near = known_at-recent (slot_known a.states.items a.events) a.next a.size s claimed near
-
--- what refuses to publish a recent sequence is told by its slot's state
-pub faults_known : (a : Inside) (s p : ℕ) → s < a.next → a.next ≤ s + a.size → publish_fault (known_at (view_of a) s) p ≡ publish_fault (mark_of (state_at a.states.items s)) p
-faults_known a s p claimed near = ap (λ k. publish_fault k p) (known_there a s claimed near) ∙ publish_fault-mark (state_at a.states.items s) (event_at a.events s) p
-
--- what is shown is known with the event in its slot
 pub shown_event : (a : Inside) (s : ℕ) → s < a.next → a.next ≤ s + a.size → is_shown (known_at (view_of a) s) ≡ true → event_at a.events s ≡ value_of (known_at (view_of a) s)
 shown_event a s claimed near shown =
-    let there : known_at (view_of a) s ≡ slot_known a.states.items a.events s = known_there a s claimed near in
-    rw there (value_of-shown (state_at a.states.items s) (event_at a.events s) (rw there at shown))
+    let there : known_at (view_of a) s ≡ slot_known (kept_of a) s = known_there a s claimed near in
+    rw there (value_of-shown (is_published_at (kept_of a) s) (is_marked a.written s) (owner_at a.mode a.owners.items s) (event_at a.events s) (rw there at shown))
+
+-- the owners after a claim
+owner-in : (mode : Mode) (owners : List ℕ) (size from n p s : ℕ) → HasOwners mode owners size → 0 < size → n ≤ size → from ≤ s → s < from + n → (mode ≡ Single → p ≡ 0) → owner_at mode (owners_after mode owners from n p) s ≡ p
+owner-in Single owners size from n p s has some fits low high one = sym (one refl)
+owner-in (Multi producers) owners size from n p s has some fits low high one = rw length-stamped (stamped-in (λ k. p) owners from n 0 s (omega arith) (omega arith) low high)
+
+owner-out : (mode : Mode) (owners : List ℕ) (size from n p s : ℕ) → HasOwners mode owners size → from + n ≤ s + size → s < from + size → ((k : ℕ) → k < n → s ≢ from + k) → owner_at mode (owners_after mode owners from n p) s ≡ owner_at mode owners s
+owner-out Single owners size from n p s has near far out = refl
+owner-out (Multi producers) owners size from n p s has near far out = rw length-stamped (stamped-out (λ k. p) owners from n 0 s (omega arith) (omega arith) out)
+
+pub owners_fit : (mode : Mode) (owners : List ℕ) (size from n p : ℕ) → HasOwners mode owners size → HasOwners mode (owners_after mode owners from n p) size
+owners_fit Single owners size from n p has = tt
+owners_fit (Multi producers) owners size from n p has = length-stamped (λ k. p) owners from n ∙ has
+
+-- one producer has the number 0
+pub one_producer : (mode : Mode) (p : ℕ) → p < producers mode → mode ≡ Single → p ≡ 0
+one_producer Single p l same = omega arith
+one_producer (Multi n) p l same = absurd (cc)
+
+-- at first nothing is marked
+pub none_marked : (n s : ℕ) → is_marked (replicate n 0) s ≡ false
+none_marked n s = rw zeros (ne_eqb 0 (entry_of (length (replicate n 0)) s) (λ e. absurd (omega arith)))
+
+module _ (v : CoreView) (a : Kept) (kept : (s : ℕ) → s < v.next → v.next ≤ s + v.setup.size → known_at v s ≡ slot_known a s) (available : IsAvailable a v.setup.size v.next) (fronts : a.front ≤ v.next) (some : 0 < v.setup.size) where
+  -- a claim touches the owners alone
+  pub claims_known : (n p : ℕ) → n ≤ v.setup.size → (a.mode ≡ Single → p ≡ 0) → ClaimsKnown v p n (slot_known (record a { owners = owners_after a.mode a.owners v.next n p }))
+  claims_known n p fits one = record {
+    fresh = λ s low high. (let owner : owner_at a.mode (owners_after a.mode a.owners v.next n p) s ≡ p = owner-in a.mode a.owners v.setup.size v.next n p s available.owners some fits low high one in
+        let open' : (nat_lt s a.front || is_marked a.published s) ≡ false = or_from _ _ (le-ltb _ _ (omega arith)) (available.unpublished s low) in
+        rw (open', available.unwritten s low, owner));
+    kept = λ s old round. (let owner : owner_at a.mode (owners_after a.mode a.owners v.next n p) s ≡ owner_at a.mode a.owners s = owner-out a.mode a.owners v.setup.size v.next n p s available.owners round (omega arith) (λ k l e. absurd (omega arith)) in
+        rw owner (sym (kept s old (omega arith))));
+  }
+
+  pub claims_available : (n p : ℕ) → IsAvailable (record a { owners = owners_after a.mode a.owners v.next n p }) v.setup.size (v.next + n)
+  claims_available n p = record {
+    published = available.published;
+    written = available.written;
+    owners = owners_fit a.mode a.owners v.setup.size v.next n p available.owners;
+    events = available.events;
+    unpublished = λ s after. available.unpublished s (omega arith);
+    unwritten = λ s after. available.unwritten s (omega arith);
+  }
+
+  -- a write marks its sequence as written
+  module _ (p s : ℕ) (x : Event) (claimed : s < v.next) (near : v.next ≤ s + v.setup.size) where
+    abbrev after : Kept
+    after = record a { written = set a.written (s % length a.written) (entry_of (length a.written) s); events = set a.events (s % length a.events) x }
+
+    marks : (k : ℕ) → is_marked after.written k ≡ is_marked (stamped (entry_of (length a.written)) a.written s 1) k
+    marks k = ap (λ w. is_marked w k) (mark_is a.written s)
+
+    pub writes_known : is_published_at a s ≡ false → owner_at a.mode a.owners s ≡ p → WritesKnown v p s x (slot_known after)
+    writes_known unpublished mine =
+        let len : length a.written ≡ v.setup.size = available.written in
+        let lene : length a.events ≡ v.setup.size = available.events in
+        record {
+          here = (let written : is_marked after.written s ≡ true = marks s ∙ marked-in a.written s 1 s (omega arith) (omega arith) (omega arith) (omega arith) in
+              let event : event_at after.events s ≡ x = rw length-set (get_or-set_same a.events (s % length a.events) x no_event (mod-lt s (omega arith))) in
+              rw (unpublished, written, event, mine));
+          kept = λ k ne l round. (let written : is_marked after.written k ≡ is_marked a.written k = marks k ∙ marked-out a.written s 1 k (omega arith) (omega arith) (λ j b e. ne (omega arith)) in
+              let apart : k % length a.events ≢ s % length a.events = mod-ne k s (length a.events) ne (omega arith) (omega arith) in
+              let event : event_at after.events k ≡ event_at a.events k = rw length-set (get_or-set_other a.events (s % length a.events) (k % length a.events) x no_event apart) in
+              rw (written, event) (sym (kept k l round)));
+        }
+
+    pub writes_available : IsAvailable after v.setup.size v.next
+    writes_available =
+        let len : length a.written ≡ v.setup.size = available.written in
+        record {
+          published = available.published;
+          written = length-set a.written _ _ ∙ available.written;
+          owners = available.owners;
+          events = length-set a.events _ x ∙ available.events;
+          unpublished = available.unpublished;
+          unwritten = λ k beyond. marks k ∙ marks_none_after a.written s 1 k (omega arith) (omega arith) (available.unwritten k beyond);
+        }
+
+  -- a publication marks its stretch as published, and moves the front
+  module _ (p lo hi front' : ℕ) (order : lo ≤ hi) (claimed : hi < v.next) (near : v.next ≤ lo + v.setup.size) (same_front : a.front ≡ v.front)
+      (found : IsFront (is_marked (stamped (entry_of (length a.published)) a.published lo (hi + 1 - lo))) v.front v.next front') where
+    abbrev marked : List ℕ
+    marked = stamped (entry_of (length a.published)) a.published lo (hi + 1 - lo)
+
+    abbrev shown : Kept
+    shown = record a { published = marked; front = front' }
+
+    inside : (k : ℕ) → lo ≤ k → k ≤ hi → is_marked marked k ≡ true
+    inside k low high = (let len : length a.published ≡ v.setup.size = available.published in marked-in a.published lo (hi + 1 - lo) k (omega arith) (omega arith) low (omega arith))
+
+    outside : (k : ℕ) → k < v.next → v.next ≤ k + v.setup.size → (k < lo) ⊎ (hi < k) → is_marked marked k ≡ is_marked a.published k
+    outside k l round out =
+        let len : length a.published ≡ v.setup.size = available.published in
+        marked-out a.published lo (hi + 1 - lo) k (omega arith) (omega arith) (λ j b. elim out [ inl below ↦ (λ e. absurd (omega arith)) | inr above ↦ (λ e. absurd (omega arith)) ])
+
+    same_mark : (k : ℕ) → k < v.next → v.next ≤ k + v.setup.size → (k < lo) ⊎ (hi < k) → is_published_at shown k ≡ is_published_at a k
+    same_mark k l round out = elim (cases_lt k v.front) [
+      | inl old ↦ or_left _ _ (let low : v.front ≤ front' = found.low in lt-ltb k front' (omega arith)) ∙ sym (or_left _ _ (lt-ltb k a.front (omega arith)))
+      | inr fresh ↦ elim (cases_lt k front') [
+        | inl passed ↦ or_left _ _ (lt-ltb k front' passed) ∙ sym (or_right (nat_lt k a.front) _ (sym (outside k l round out) ∙ found.below k fresh passed))
+        | inr beyond ↦ ap (λ b. b || is_marked marked k) (le-ltb k front' beyond) ∙ outside k l round out ∙ sym (ap (λ b. b || is_marked a.published k) (le-ltb k a.front (omega arith)))
+      ]
+    ]
+
+    pub publishes_known : ((j : ℕ) → j < hi + 1 - lo → publish_fault (known_at v (lo + j)) p ≡ None) → PublishesKnown v lo hi (slot_known shown)
+    publishes_known none = record {
+      inside = λ k low high. (let off : lo + (k - lo) ≡ k = omega arith in
+          let fine : publish_fault (known_at v k) p ≡ None = rw off at (none (k - lo) (omega arith)) in
+          let there : known_at v k ≡ slot_known a k = kept k (omega arith) (omega arith) in
+          let value : value_of (known_at v k) ≡ event_at a.events k = ap value_of there ∙ value_of-known (is_published_at a k) (is_marked a.written k) (owner_at a.mode a.owners k) p (event_at a.events k) (rw there at fine) in
+          let published : is_published_at shown k ≡ true = or_right (nat_lt k front') _ (inside k low high) in
+          rw (published, value));
+      outside = λ k l round out. rw (same_mark k l round out) (sym (kept k l round));
+    }
+
+    -- the front that the marks have is the front of what is known
+    pub front_known : IsFront (λ s. is_shown (slot_known shown s)) v.front v.next front'
+    front_known = record {
+      low = found.low;
+      high = found.high;
+      below = λ s low high. is_shown-known (is_published_at shown s) (is_marked a.written s) (owner_at a.mode a.owners s) (event_at a.events s) ∙ or_left _ _ (lt-ltb s front' high);
+      here = λ l. is_shown-known (is_published_at shown front') (is_marked a.written front') (owner_at a.mode a.owners front') (event_at a.events front') ∙ or_from _ _ (le-ltb front' front' (omega arith)) (found.here l);
+    }
+
+    pub publishes_available : IsAvailable shown v.setup.size v.next
+    publishes_available =
+        let len : length a.published ≡ v.setup.size = available.published in
+        record {
+          published = length-stamped (entry_of (length a.published)) a.published lo (hi + 1 - lo) ∙ available.published;
+          written = available.written;
+          owners = available.owners;
+          events = available.events;
+          unpublished = λ k beyond. marks_none_after a.published lo (hi + 1 - lo) k (omega arith) (omega arith) (available.unpublished k beyond);
+          unwritten = available.unwritten;
+        }
+
+-- what refuses to publish a recent sequence, by the tests of its slot
+pub publish_fault_is : (a : Inside) (s p : ℕ) (published mine written : Bool) → s < a.next → a.next ≤ s + a.size
+    → is_published_at (kept_of a) s ≡ published → (owner_at a.mode a.owners.items s == p) ≡ mine → is_marked a.written s ≡ written
+    → publish_fault (known_at (view_of a) s) p ≡ cond published (Some AlreadyPublished) (cond mine (cond written None (Some NotWritten)) (Some NotClaimed))
+publish_fault_is a s p published mine written claimed near e1 e2 e3 =
+    ap (λ k. publish_fault k p) (known_there a s claimed near)
+    ∙ publish_fault-known (is_published_at (kept_of a) s) (is_marked a.written s) (owner_at a.mode a.owners.items s) p (event_at a.events s)
+    ∙ rw (e1, e2, e3)
+
+-- what refuses to write one
+pub write_fault_is : (a : Inside) (s p : ℕ) (published mine : Bool) → s < a.next → a.next ≤ s + a.size
+    → is_published_at (kept_of a) s ≡ published → (owner_at a.mode a.owners.items s == p) ≡ mine
+    → write_fault (known_at (view_of a) s) p ≡ cond published (Some AlreadyPublished) (cond mine None (Some NotClaimed))
+write_fault_is a s p published mine claimed near e1 e2 =
+    ap (λ k. write_fault k p) (known_there a s claimed near)
+    ∙ write_fault-known (is_published_at (kept_of a) s) (is_marked a.written s) (owner_at a.mode a.owners.items s) p (event_at a.events s)
+    ∙ rw (e1, e2)

@@ -9,7 +9,7 @@ use Rattle.dr_core.specs.declared.refusal.Refusal.TheVariants.{NotClaimed, Alrea
 use Rattle.dr_seq.specs.declared.event.Event.{Event}
 use Rattle.dr_core.specs.Machine.{State, producers, next, front, accepted}
 use Rattle.dr_core.specs.CoreView.{Known, Nothing, ClaimedBy, WrittenBy, PublishedWith, CoreView, recent_of, known_at}
-use Rattle.dr_core.specs.SlotStates.{write_fault}
+use Rattle.dr_core.specs.Availability.{write_fault}
 use Rattle.dr_core.specs.Shows.{Shows, Agrees, IsStep}
 use Rattle.dr_core.specs.Inside.{IsWhole}
 use Rattle.dr_core.proofs.Leasts.{least_is}

@@ -1,11 +1,15 @@
 -- What a core's fields keep.
-use Rattle.std.specs.Prelude.{◌≡◌, ℕ, ◌+◌, ◌^◌, ◌<◌, ◌≤◌, length, Contains, slice_index}
+use Rattle.std.specs.Prelude.{◌≡◌, ℕ, ◌+◌, ◌^◌, ◌<◌, ◌≤◌, false, length, Contains, slice_index}
+use Rattle.dr_seq.specs.Rounds.{is_marked}
 use Rattle.dr_seq.specs.Size.{IsSize}
 use Rattle.dr_core.specs.declared.engine.Core.TheInside.{Inside}
-use Rattle.dr_graph.specs.Graph.{upstreams_of, IsGraph}
+use Rattle.dr_graph.specs.Graph.{upstreams_of, finals, IsGraph}
 use Rattle.dr_core.specs.Machine.{handlers, setup_of}
 use Rattle.dr_core.specs.CoreView.{CoreView, recent_of}
-use Rattle.dr_core.specs.SlotStates.{slot_known}
+use Rattle.dr_core.specs.Availability.{Kept, slot_known, HasOwners}
+
+abbrev pub kept_of : Inside → Kept
+kept_of a = record { mode = a.mode; front = a.front; published = a.published; written = a.written; owners = a.owners.items; events = a.events }
 
 abbrev pub view_of : Inside → CoreView
 view_of a = record {
@@ -16,7 +20,7 @@ view_of a = record {
   taken = a.taken.items;
   completed = a.completed.items;
   halted = a.halted;
-  recent = recent_of (slot_known a.states.items a.events) a.next a.size;
+  recent = recent_of (slot_known (kept_of a)) a.next a.size;
 }
 
 -- what holds of every core, however it keeps the recent sequences
@@ -33,7 +37,17 @@ pub record IsWhole (v : CoreView) : Type 0 where
   pub after : (h u : ℕ) → Contains (upstreams_of v.setup.upstreams h) u → slice_index v.taken h ≤ slice_index v.completed u
   pub room : (h : ℕ) → h < handlers v.setup → v.next ≤ v.setup.size + slice_index v.completed h
 
+-- a slot a sequence in each list, and no mark of a sequence that is not claimed yet
+pub record IsAvailable (a : Kept) (size next : ℕ) : Type 0 where
+  pub published : length a.published ≡ size
+  pub written : length a.written ≡ size
+  pub owners : HasOwners a.mode a.owners size
+  pub events : length a.events ≡ size
+  pub unpublished : (s : ℕ) → next ≤ s → is_marked a.published s ≡ false
+  pub unwritten : (s : ℕ) → next ≤ s → is_marked a.written s ≡ false
+
+-- the two rounds, and a remembered least count that no final is below
 pub record IsKept (a : Inside) : Type 0 where
   pub whole : IsWhole (view_of a)
-  pub states : length a.states.items ≡ a.size
-  pub events : length a.events ≡ a.size
+  pub available : IsAvailable (kept_of a) a.size a.next
+  pub gate : (f : ℕ) → Contains (finals (view_of a).setup.upstreams) f → a.gate ≤ slice_index a.completed.items f

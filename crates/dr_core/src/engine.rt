@@ -1,16 +1,16 @@
 //! The core: the exchange on one thread.
 
 ghost use Rattle.std.specs.Prelude.{◌≡◌, ◌↔◌, ◌^◌, ◌<◌, Err, IfOk, IfErr, ◌≤◌, true, false, slice_index};
+ghost use Rattle.dr_core.specs.Availability.{HasOwners};
 ghost use Rattle.dr_core.specs.Machine.{opening, handlers, setup_of};
 ghost use Rattle.dr_core.specs.OpenFault.{has_bad_producers, is_bad_limit};
 ghost use Rattle.dr_core.specs.Shows.{Shows};
 
 use crate::mode::Mode;
 use crate::open_fault::OpenFault;
-use crate::slot_state::SlotState;
 use dr_graph::Graph;
-use dr_seq::{Size, Slots};
-use std::alloc::Global;
+use dr_seq::{GateCache, Rounds, Size, Slots};
+use std::alloc::{AllocError, Global};
 use std::marker::Model;
 
 mod execute;
@@ -33,8 +33,11 @@ pub struct Core {
     size: Size,
     mode: Mode,
     limit: u64,
-    states: Vec<SlotState>,
+    published: Rounds,
+    written: Rounds,
+    owners: Vec<u64>,
     events: Slots,
+    gate: GateCache,
     next: u64,
     front: u64,
     taken: Vec<u64>,
@@ -77,7 +80,9 @@ impl Core {
             return Err(OpenFault::BadLimit);
         }
         let handlers = graph.len();
-        let states = vec![in alloc; SlotState::Free; size.get() as usize]?;
+        let published = Rounds::new(alloc, size)?;
+        let written = Rounds::new(alloc, size)?;
+        let owners = owners_for(alloc, mode, size)?;
         let events = Slots::new(alloc, size)?;
         let taken = vec![in alloc; 0u64; handlers]?;
         let completed = vec![in alloc; 0u64; handlers]?;
@@ -86,8 +91,11 @@ impl Core {
             size,
             mode,
             limit,
-            states,
+            published,
+            written,
+            owners,
             events,
+            gate: GateCache::new(),
             next: 0,
             front: 0,
             taken,
@@ -155,5 +163,15 @@ fn is_bad_mode(mode: Mode) -> bool
     match mode {
         Mode::Single => false,
         Mode::Multi(producers) => producers == 0 || producers > MAX_PRODUCERS,
+    }
+}
+
+/// Slots for the numbers of several producers; one producer needs none.
+fn owners_for(alloc: Global, mode: Mode, size: Size) -> Result<Vec<u64>, AllocError>
+    ensures { IfOk result (λ owners. HasOwners mode owners.items size) }
+{
+    match mode {
+        Mode::Single => Ok(Vec::new(alloc)),
+        Mode::Multi(_) => Ok(vec![in alloc; 0u64; size.get() as usize]?),
     }
 }

@@ -5,6 +5,7 @@
 //! transcript. [`every_transcript_is_lawful`] is that theorem, and [`run`] has it for a [`Core`].
 #![tactic(auto)]
 
+mod availability;
 pub mod command;
 pub mod engine;
 pub mod handler;
@@ -14,7 +15,6 @@ pub mod mode;
 pub mod open_fault;
 pub mod refusal;
 pub mod runs;
-mod slot_state;
 
 pub use command::{Claimed, Command, Polled, Reply};
 pub use engine::{Core, MAX_LIMIT, MAX_PRODUCERS};

@@ -1,16 +1,69 @@
 //! The producers' calls: sequences are claimed, written and published.
 
-ghost use Rattle.std.specs.Prelude.{◌≡◌, [], OnErr};
+ghost use Rattle.std.specs.Prelude.{◌≡◌, ℕ, ◌+◌, ◌^◌, ◌<◌, ◌≤◌, nat_le, [], None, Some, map, slice_index, MatchOption, OnErr};
+ghost use Rattle.dr_core.specs.Availability.{publish_fault as publish_fault_of};
+ghost use Rattle.dr_core.specs.CoreView.{known_at};
+ghost use Rattle.dr_graph.specs.Graph.{finals, least_of};
 ghost use Rattle.dr_core.specs.Shows.{IsStep, claim_reply, unit_reply};
 
+use crate::availability::{mark_all, own, owner_of};
 use crate::command::{Claimed, Command, Reply};
 use crate::engine::Core;
 use crate::least::least_count;
 use crate::refusal::Refusal;
-use crate::slot_state::{SlotState, fill, first_fault, front_from};
 use dr_seq::Event;
 
 impl Core {
+    /// Whether `n` more sequences fit in the ring. The finals are scanned only where the least
+    /// count that was last seen is too small, and that there is no room is told only after a scan.
+    fn has_room(&mut self, n: u64) -> bool
+        requires { self.old.next + n < 2 ^ 63 }
+        ensures room { result ≡ nat_le (self.old.next + n) (self.old.setup.size + least_of (map (λ h. slice_index self.old.completed h) (finals self.old.setup.upstreams))) }
+        ensures same { self.new ≡ self.old }
+    {
+        let wanted = self.next + n;
+        let size = self.size.get();
+        if wanted <= size + self.gate.seen() {
+            return true;
+        }
+        let least = least_count(&self.completed, self.graph.finals());
+        self.gate.raise(least);
+        wanted <= size + least
+    }
+
+    /// What refuses a producer to publish a recent sequence.
+    fn publish_fault(&self, s: u64, p: u64) -> Option<Refusal>
+        requires claimed { s < self.now.next }
+        requires recent { self.now.next ≤ s + self.now.setup.size }
+        ensures { result ≡ publish_fault_of (known_at self.now s) p }
+    {
+        if s < self.front || self.published.is_marked(s) {
+            Some(Refusal::AlreadyPublished)
+        } else if owner_of(self.mode, &self.owners, self.size, s) != p {
+            Some(Refusal::NotClaimed)
+        } else if self.written.is_marked(s) {
+            None
+        } else {
+            Some(Refusal::NotWritten)
+        }
+    }
+
+    /// The first refusal to publish a sequence of a stretch.
+    fn first_fault(&self, from: u64, n: u64, p: u64) -> Option<Refusal>
+        requires claimed { from + n ≤ self.now.next }
+        requires recent { self.now.next ≤ from + self.now.setup.size }
+        requires fits { from + n < 2 ^ 63 }
+        ensures { MatchOption result ((k : ℕ) → k < n → publish_fault_of (known_at self.now (from + k)) p ≡ None) (λ r. (k : ℕ) × (k < n) × ((j : ℕ) → j < k → publish_fault_of (known_at self.now (from + j)) p ≡ None) × (publish_fault_of (known_at self.now (from + k)) p ≡ Some r)) }
+    {
+        for k in 0..n {
+            let fault = self.publish_fault(from + k, p);
+            if fault.is_some() {
+                return fault;
+            }
+        }
+        None
+    }
+
     /// Gives a producer the next `n` sequences, where the events that lay in their slots are
     /// completed by every final handler, as LMAX's sequencers do by their gating sequences.
     pub fn claim(&mut self, p: u64, n: u64) -> Result<Claimed, Refusal>
@@ -20,8 +73,7 @@ impl Core {
         if p >= self.mode.producers() {
             return Err(Refusal::NoProducer);
         }
-        let size = self.size.get();
-        if n == 0 || n > size {
+        if n == 0 || n > self.size.get() {
             return Err(Refusal::BadCount);
         }
         if self.halted {
@@ -30,13 +82,12 @@ impl Core {
         if self.next + n > self.limit {
             return Err(Refusal::Exhausted);
         }
-        let least = least_count(&self.completed, self.graph.finals());
-        if self.next + n > size + least {
+        if !self.has_room(n) {
             return Err(Refusal::NoRoom);
         }
         let lo = self.next;
-        fill(&mut self.states, self.size, lo, n, SlotState::Claimed(p));
-        self.next += n;
+        own(self.mode, &mut self.owners, self.size, lo, n, p);
+        self.next = lo + n;
         Ok(Claimed { lo, hi: lo + n - 1 })
     }
 
@@ -54,11 +105,13 @@ impl Core {
         if s < self.front {
             return Err(Refusal::AlreadyPublished);
         }
-        let slot = self.size.slot(s);
-        if let Some(refusal) = self.states[slot].write_fault(p) {
-            return Err(refusal);
+        if self.published.is_marked(s) {
+            return Err(Refusal::AlreadyPublished);
         }
-        self.states[slot] = SlotState::Written(p);
+        if owner_of(self.mode, &self.owners, self.size, s) != p {
+            return Err(Refusal::NotClaimed);
+        }
+        self.written.mark(s);
         self.events.put(s, event);
         Ok(())
     }
@@ -82,14 +135,14 @@ impl Core {
             return Err(Refusal::AlreadyPublished);
         }
         let n = hi + 1 - lo;
-        if let Some(refusal) = first_fault(&self.states, self.size, lo, n, p) {
+        if let Some(refusal) = self.first_fault(lo, n, p) {
             return Err(refusal);
         }
         if self.mode.is_single() && lo != self.front {
             return Err(Refusal::OutOfOrder);
         }
-        fill(&mut self.states, self.size, lo, n, SlotState::Published);
-        self.front = front_from(&self.states, self.size, self.front, self.next);
+        mark_all(&mut self.published, lo, n);
+        self.front = self.published.front(self.front, self.next);
         Ok(())
     }
 }

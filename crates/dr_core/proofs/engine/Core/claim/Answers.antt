@@ -1,82 +1,61 @@
-use Rattle.std.proofs.Common.{ℕ, ◌≡◌, ◌+◌, ◌<◌, ◌≤◌, ◌^◌, length, map, slice_index, sym, ap, ◌∙◌, arith, List, Vec, Global, true}
-use Rattle.std.specs.Prelude.{◌==◌, ◌||◌, nat_lt}
+use Rattle.std.proofs.Common.{ℕ, ◌≡◌, ◌+◌, ◌<◌, ◌≤◌, length, map, slice_index, sym, ap, ◌∙◌, List, Vec, Global, false}
 use Rattle.std.specs.Vec.{with_items}
 use Rattle.std.proofs.lemmas.List.{with_items_is}
-use Rattle.std.proofs.lemmas.Bool.{or_left, or_right, eq-eqb, lt-ltb}
-use Rattle.dr_seq.proofs.Sizes.{size_positive, size_at_most}
-use Rattle.dr_core.specs.declared.slot_state.SlotState.{SlotState}
-use Rattle.dr_core.specs.declared.slot_state.SlotState.TheVariants.{Claimed}
+use Rattle.std.proofs.lemmas.Bool.{leb-true}
+use Rattle.dr_seq.proofs.Sizes.{size_positive}
 use Rattle.dr_graph.specs.Graph.{finals, least_of}
-use Rattle.dr_core.specs.Machine.{handlers}
+use Rattle.dr_core.specs.declared.mode.Mode.{Mode}
+use Rattle.dr_core.specs.declared.mode.Mode.TheVariants.{Single, Multi}
+use Rattle.dr_core.specs.Machine.{producers}
 use Rattle.dr_core.specs.CoreView.{CoreView}
-use Rattle.dr_core.specs.SlotStates.{filled, slot_known}
-use Rattle.dr_core.specs.Inside.{view_of, IsWhole}
-use Rattle.dr_core.proofs.Filled.{length-filled}
-use Rattle.dr_core.proofs.CoreSteps.{ClaimsKnown, claim_step, claim_whole, claim_bad_count, finals_least, finals_within}
-use Rattle.dr_core.proofs.Recents.{claims_known, known_there}
+use Rattle.dr_core.specs.Availability.{owners_after}
+use Rattle.dr_core.specs.Inside.{view_of, kept_of}
+use Rattle.dr_core.proofs.CoreSteps.{claim_step, claim_whole, claim_no_room}
+use Rattle.dr_core.proofs.Recents.{claims_known, claims_available, known_there, one_producer}
+use Rattle.dr_core.proofs.Stamped.{length-stamped}
 use Rattle.dr_core.proofs.engine.Core.claim.Goals as goal
-use Rattle.dr_core.proofs.engine.Core.claim.Goals.{then-n-eq0-via-then-n-eq0, then-n-eq0-via-else-n-eq0+then-n-size}
 
-pub returns-then-n-eq0-clause-step : goal.returns-then-n-eq0-clause-step
-returns-then-n-eq0-clause-step c =
+pub returns-then-not-has_room-clause-step : goal.returns-then-not-has_room-clause-step
+returns-then-not-has_room-clause-step c =
     let v : CoreView = view_of c.self.inside in
-    let bad : (c.args.n == 0 || nat_lt v.setup.size c.args.n) ≡ true = elim c.then-n-eq0.branch [
-      | then-n-eq0-via-then-n-eq0 w ↦ or_left (c.args.n == 0) _ (eq-eqb _ _ w.if-n-eq0.true)
-      | then-n-eq0-via-else-n-eq0+then-n-size w ↦ or_right (c.args.n == 0) _ (lt-ltb _ _ (rw c.get-size.ensures.value at w.if-n-size.true))
-    ] in
-    rw (← c.self.view_is) (claim_bad_count v c.args.p c.args.n (rw c.producers.ensures at c.if-p-producers.false) bad)
+    rw (c.has_room.ensures.same, ← c.self.view_is)
+    (claim_no_room v c.args.p c.args.n (rw c.producers.ensures at c.if-p-producers.false) c.if-n-eq0.false (rw c.get.ensures.value at c.if-n-get.false) c.if-self.false c.if-self-n.false
+    (rw (← c.self.view_is) at (sym c.has_room.ensures.room ∙ c.if-not-has_room.true)))
 
-pub least_count-least-requires : goal.least_count-least-requires
-least_count-least-requires c =
-    rw (c.finals.ensures, c.deref.ensures.value, c.self.invariant.whole.completed) (finals_within (view_of c.self.inside).setup.upstreams)
-
--- what the scan of the finals found
-least_is : (v : CoreView) (counts at : List ℕ) (n : ℕ) → at ≡ finals v.setup.upstreams → counts ≡ v.completed → n ≡ least_of (map (λ h. slice_index counts h) at) → n ≡ least_of (map (λ f. slice_index v.completed f) (finals v.setup.upstreams))
-least_is v counts at n a b e = rw (a, b) at e
-
-small : (v : CoreView) (size least : ℕ) → IsWhole v → size ≡ v.setup.size → least ≡ least_of (map (λ f. slice_index v.completed f) (finals v.setup.upstreams)) → size + least < 2 ^ 64
-small v size least whole a b =
-    let some : 0 < handlers v.setup = whole.graph.some in
-    let low : least_of (map (λ f. slice_index v.completed f) (finals v.setup.upstreams)) ≤ slice_index v.completed 0 = finals_least v whole 0 some in
-    let took : slice_index v.completed 0 ≤ slice_index v.taken 0 = whole.took 0 in
-    let front : slice_index v.taken 0 ≤ v.front = whole.in_front 0 in
-    let next : v.front ≤ v.next = whole.front in
-    let claimed : v.next ≤ v.setup.limit = whole.claimed in
-    let limit : v.setup.limit ≤ 2 ^ 62 = whole.limit in
-    let bound : v.setup.size ≤ 65536 = size_at_most v.setup.size whole.size in
-    omega arith
-
-pub overflow_add-size : goal.overflow_add-size
-overflow_add-size c =
-    let v : CoreView = view_of c.self.inside in
-    let sum : c.get-size.result + c.least_count-least.result < 2 ^ 64 = small v c.get-size.result c.least_count-least.result c.self.invariant.whole c.get-size.ensures.value (least_is v _ _ _ c.finals.ensures c.deref.ensures.value c.least_count-least.ensures) in
-    omega arith
-
-states_are : (states : Vec SlotState Global) (lent new : List SlotState) (from n p : ℕ) → lent ≡ states.items → new ≡ filled lent from n (Claimed p) → (with_items states new).items ≡ filled states.items from n (Claimed p)
-states_are states lent new from n p a b =
-    let e : new ≡ filled states.items from n (Claimed p) = rw a at b in
-    with_items_is states new (ap length e ∙ length-filled states.items from n (Claimed p) ∙ sym states.ok.0) ∙ e
+-- the owners that a claim wrote back
+owners_are : (mode : Mode) (owners : Vec ℕ Global) (lent new : List ℕ) (from n p : ℕ) → lent ≡ owners.items → new ≡ owners_after mode lent from n p → (with_items owners new).items ≡ owners_after mode owners.items from n p
+owners_are Single owners lent new from n p a b = with_items_is owners new (ap length (b ∙ a) ∙ sym owners.ok.0) ∙ b ∙ a
+owners_are (Multi producers) owners lent new from n p a b =
+    let e : new ≡ owners_after (Multi producers) owners.items from n p = b ∙ ap (λ l. owners_after (Multi producers) l from n p) a in
+    with_items_is owners new (ap length e ∙ length-stamped (λ s. p) owners.items from n ∙ sym owners.ok.0) ∙ e
 
 pub invariant_of-self : goal.invariant_of-self
 invariant_of-self c =
-    let v : CoreView = view_of c.self.inside in
-    let same : c.least_count-least.result ≡ least_of (map (λ f. slice_index v.completed f) (finals v.setup.upstreams)) = least_is v _ _ _ c.finals.ensures c.deref.ensures.value c.least_count-least.ensures in
-    let states : (with_items c.self.inside.states c.fill.new.states).items ≡ filled c.self.inside.states.items v.next c.args.n (Claimed c.args.p) = states_are c.self.inside.states _ _ _ _ _ c.deref_mut.ensures.value c.fill.ensures in
+    let v : CoreView = view_of c.self-2.inside in
+    let same : v ≡ view_of c.self.inside = c.self-2.view_is ∙ c.has_room.ensures.same ∙ sym c.self.view_is in
+    let room : v.next + c.args.n ≤ v.setup.size + least_of (map (λ h. slice_index v.completed h) (finals v.setup.upstreams)) =
+    leb-true _ _ (rw (← c.has_room.ensures.same, ← c.self-2.view_is) at (sym c.has_room.ensures.room ∙ c.if-not-has_room.false)) in
+    let limit : v.next + c.args.n ≤ v.setup.limit = rw (ap (λ w. w.next) same, ap (λ w. w.setup.limit) same) c.if-self-n.false in
+    let owners : (with_items c.self-2.inside.owners c.own.new.owners).items ≡ owners_after c.self-2.inside.mode c.self-2.inside.owners.items v.next c.args.n c.args.p = owners_are c.self-2.inside.mode c.self-2.inside.owners _ _ _ _ _ c.deref_mut.ensures.value c.own.ensures in
     record {
-      whole = claim_whole v c.args.n _ c.self.invariant.whole c.if-self-n.false (rw (same, c.get-size.ensures.value) at c.if-self-n-2.false);
-      states = ap length states ∙ length-filled c.self.inside.states.items v.next c.args.n (Claimed c.args.p) ∙ c.self.invariant.states;
-      events = c.self.invariant.events;
+      whole = claim_whole v c.args.n _ c.self-2.invariant.whole limit room;
+      available = rw owners (claims_available v (kept_of c.self-2.inside) (known_there c.self-2.inside) c.self-2.invariant.available c.self-2.invariant.whole.front (size_positive v.setup.size c.self-2.invariant.whole.size) c.args.n c.args.p);
+      gate = c.self-2.invariant.gate;
     }
 
 pub returns-clause-step : goal.returns-clause-step
 returns-clause-step c =
-    let v : CoreView = view_of c.self.inside in
-    let same : c.least_count-least.result ≡ least_of (map (λ f. slice_index v.completed f) (finals v.setup.upstreams)) = least_is v _ _ _ c.finals.ensures c.deref.ensures.value c.least_count-least.ensures in
-    let states : (with_items c.self.inside.states c.fill.new.states).items ≡ filled c.self.inside.states.items v.next c.args.n (Claimed c.args.p) = states_are c.self.inside.states _ _ _ _ _ c.deref_mut.ensures.value c.fill.ensures in
-    let fits : c.args.n ≤ v.setup.size = rw c.get-size.ensures.value at c.if-n-size.false in
-    let knows : ClaimsKnown v c.args.p c.args.n (slot_known (filled c.self.inside.states.items v.next c.args.n (Claimed c.args.p)) c.self.inside.events) =
-    claims_known v c.self.inside.states.items c.self.inside.events (known_there c.self.inside)
-    c.self.invariant.states (size_positive v.setup.size c.self.invariant.whole.size) c.args.p c.args.n fits in
-    rw (← c.self.view_is)
-    (rw states
-    (claim_step v c.args.p c.args.n _ knows (rw c.producers.ensures at c.if-p-producers.false) c.if-n-eq0.false fits c.if-self.false c.if-self-n.false (rw (same, c.get-size.ensures.value) at c.if-self-n-2.false)))
+    let v : CoreView = view_of c.self-2.inside in
+    let same : v ≡ view_of c.self.inside = c.self-2.view_is ∙ c.has_room.ensures.same ∙ sym c.self.view_is in
+    let room : v.next + c.args.n ≤ v.setup.size + least_of (map (λ h. slice_index v.completed h) (finals v.setup.upstreams)) =
+    leb-true _ _ (rw (← c.has_room.ensures.same, ← c.self-2.view_is) at (sym c.has_room.ensures.room ∙ c.if-not-has_room.false)) in
+    let limit : v.next + c.args.n ≤ v.setup.limit = rw (ap (λ w. w.next) same, ap (λ w. w.setup.limit) same) c.if-self-n.false in
+    let producer : c.args.p < producers v.setup.mode = rw (ap (λ w. w.setup.mode) same) (rw c.producers.ensures at c.if-p-producers.false) in
+    let fits : c.args.n ≤ v.setup.size = rw (ap (λ w. w.setup.size) same) (rw c.get.ensures.value at c.if-n-get.false) in
+    let going : v.halted ≡ false = ap (λ w. w.halted) same ∙ c.if-self.false in
+    let owners : (with_items c.self-2.inside.owners c.own.new.owners).items ≡ owners_after c.self-2.inside.mode c.self-2.inside.owners.items v.next c.args.n c.args.p = owners_are c.self-2.inside.mode c.self-2.inside.owners _ _ _ _ _ c.deref_mut.ensures.value c.own.ensures in
+    rw (← c.has_room.ensures.same, ← c.self-2.view_is)
+    (rw owners
+    (claim_step v c.args.p c.args.n _
+    (claims_known v (kept_of c.self-2.inside) (known_there c.self-2.inside) c.self-2.invariant.available c.self-2.invariant.whole.front (size_positive v.setup.size c.self-2.invariant.whole.size) c.args.n c.args.p fits (one_producer c.self-2.inside.mode c.args.p producer))
+    producer c.if-n-eq0.false fits going limit room))

@@ -30,8 +30,8 @@ invariant_of-self c =
     let count : c.min-count.result ≡ min (c.available-available.result - c.index-first.result.now) (length c.args.out.now) = c.min-count.ensures in
     record {
       whole = rw at.taken (batch_whole v c.args.h (length c.args.out.now) at.whole at.inside at.some more c.min-count.result (let a = at.taken in let b = at.offered in omega arith));
-      states = c.self.invariant.states;
-      events = c.self.invariant.events;
+      available = c.self.invariant.available;
+      gate = c.self.invariant.gate;
     }
 
 pub returns-then-first-available-clause-step : goal.returns-then-first-available-clause-step

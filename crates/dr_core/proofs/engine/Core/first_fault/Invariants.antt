@@ -1,0 +1,7 @@
+use Rattle.std.proofs.Common.{◌≡◌, ℕ, ◌<◌, ◌+◌, None}
+use Rattle.dr_core.specs.Availability.{publish_fault}
+use Rattle.dr_core.specs.CoreView.{known_at}
+use Rattle.dr_core.proofs.engine.Core.first_fault.Given as goal
+
+abbrev pub invariant-loop-k : goal.invariant-loop-k
+invariant-loop-k l = (j : ℕ) → j < l.k → publish_fault (known_at l.self (l.from + j)) l.p ≡ None
