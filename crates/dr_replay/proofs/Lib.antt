@@ -1,0 +1,3 @@
+pub mod AllRecords
+pub mod Digits
+pub mod FieldAt
