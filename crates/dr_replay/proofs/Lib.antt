@@ -1,3 +1,9 @@
 pub mod AllRecords
+pub mod Commanding
 pub mod Digits
 pub mod FieldAt
+pub mod Runs
+pub mod SetUps
+pub mod Sizes
+pub mod Whole
+pub mod Writes

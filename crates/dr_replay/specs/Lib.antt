@@ -3,3 +3,9 @@ pub mod Numbers
 pub mod Records
 pub mod Commands
 pub mod Lines
+pub mod Setup
+pub mod DriveText
+pub mod Shows
+pub mod Outcome
+pub mod Tells
+pub mod Status
