@@ -5,12 +5,14 @@
 //! (`specs/Lines`). [`drive`] reads such a file and writes its text.
 #![tactic(auto)]
 
+pub mod command_line;
 pub mod commands;
 pub mod counted;
 pub mod exchange;
 pub mod fault;
 pub mod lines;
 pub mod numbers;
+pub mod plan;
 pub mod records;
 pub mod setup;
 pub mod streams;
@@ -18,4 +20,5 @@ pub mod tool;
 
 pub use counted::Counted;
 pub use fault::{Cause, DriveFault};
+pub use plan::{LineFault, Plan};
 pub use tool::drive;
