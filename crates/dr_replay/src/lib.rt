@@ -22,3 +22,6 @@ pub use counted::Counted;
 pub use fault::{Cause, DriveFault};
 pub use plan::{LineFault, Plan};
 pub use tool::drive;
+
+#[cfg(test)]
+mod tests;
