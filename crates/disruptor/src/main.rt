@@ -2,8 +2,7 @@
 //! goes to standard output, and the line of a fault to standard error.
 #![tactic(auto)]
 
-use dr_replay::command_line::plan;
-use dr_replay::{Counted, DriveFault, LineFault, Plan, drive};
+use dr_replay::{Counted, DriveFault, LineFault, Plan, drive, plan};
 use std::fs::File;
 use std::io::{BufWriter, Write};
 use std::process::ExitCode;

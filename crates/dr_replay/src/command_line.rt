@@ -1,6 +1,6 @@
 //! The command line, read.
 
-use crate::plan::{LineFault, Plan};
+use crate::planned::{LineFault, Plan};
 use clap::error::ErrorKind;
 use clap::{Arg, ArgMatches, Command, Error};
 use std::alloc::{AllocError, Global};

@@ -5,22 +5,23 @@
 //! (`specs/Lines`). [`drive`] reads such a file and writes its text.
 #![tactic(auto)]
 
-pub mod command_line;
-pub mod commands;
-pub mod counted;
-pub mod exchange;
-pub mod fault;
-pub mod lines;
-pub mod numbers;
-pub mod plan;
-pub mod records;
-pub mod setup;
-pub mod streams;
-pub mod tool;
+mod command_line;
+mod commands;
+mod counted;
+mod exchange;
+mod fault;
+mod lines;
+mod numbers;
+mod planned;
+mod records;
+mod setup;
+mod streams;
+mod tool;
 
+pub use command_line::plan;
 pub use counted::Counted;
 pub use fault::{Cause, DriveFault};
-pub use plan::{LineFault, Plan};
+pub use planned::{LineFault, Plan};
 pub use tool::drive;
 
 #[cfg(test)]

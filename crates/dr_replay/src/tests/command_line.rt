@@ -1,7 +1,6 @@
 //! Command lines.
 
-use crate::command_line::plan;
-use crate::{LineFault, Plan};
+use crate::{LineFault, Plan, plan};
 use std::alloc::Global;
 use std::test::Fail;
 
