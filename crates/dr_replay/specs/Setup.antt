@@ -1,11 +1,12 @@
 -- The setup of a file: its records up to `start`, and the exchange that they open.
-use Rattle.std.specs.Prelude.{ℕ, ◌^◌, Bool, not, ◌==◌, ◌&&◌, ◌||◌, nat_le, if◌then◌else◌, List, [], ◌∷◌, length, Option, Some, None, Result, Ok, Err, bytes_eq, codes, option_map}
-use Rattle.std.specs.List.{list_all, list_any, range_with_len}
-use Rattle.dr_core.specs.Machine.{Setup}
-use Rattle.dr_core.specs.Opening.{one_setup}
+use Rattle.std.specs.Prelude.{ℕ, ◌^◌, Bool, not, ◌==◌, ◌&&◌, if◌then◌else◌, List, [], ◌∷◌, length, Option, Some, None, Result, Ok, Err, bytes_eq, codes, option_map}
+use Rattle.std.specs.List.{list_any, range_with_len}
+use Rattle.dr_core.specs.Machine.{Setup, setup_of}
 use Rattle.dr_core.specs.OpenFault.{has_bad_producers, is_bad_limit}
 use Rattle.dr_core.specs.declared.mode.Mode.{Mode}
 use Rattle.dr_core.specs.declared.mode.Mode.TheVariants.{Single, Multi}
+use Rattle.dr_graph.specs.Graph.{Shape}
+use Rattle.dr_graph.specs.Name.{is_good_name}
 use Rattle.dr_replay.specs.declared.setup.Ring.{Ring}
 use Rattle.dr_replay.specs.declared.fault.Cause.{Cause}
 use Rattle.dr_replay.specs.declared.fault.Cause.TheVariants.{NoRing, BadRecord, BadSize, BadProducers, BadLimit, BadName, NoHandlers, NoStart}
@@ -29,14 +30,6 @@ is_size n = list_any (λ exponent. n == 2 ^ exponent) (range_with_len 0 17)
 -- the limit of sequences where no record gives one
 abbrev pub greatest_limit : ℕ
 greatest_limit = 2 ^ 62
-
--- an ASCII letter or digit, `_` or `-`
-abbrev pub is_name_byte : ℕ → Bool
-is_name_byte b = (nat_le 65 b && nat_le b 90) || (nat_le 97 b && nat_le b 122) || (nat_le 48 b && nat_le b 57) || (b == 95) || (b == 45)
-
--- 1 to 32 such bytes
-abbrev pub is_name : Field → Bool
-is_name name = nat_le 1 (length name) && nat_le (length name) 32 && list_all is_name_byte name
 
 -- the mode of `ring,SIZE,single` or `ring,SIZE,multi,P`
 abbrev pub mode_of : Record → Option Mode
@@ -68,13 +61,17 @@ limit_of ring r = if length r == 2 then limit_with ring (number_at r 1) else Err
 
 -- `with,NAME`, once
 abbrev pub with_one : Ring → List Field → Field → Result Prepared Cause
-with_one ring [] name = if is_name name then Ok (Goes (Declared ring (name ∷ []))) else Err BadName
+with_one ring [] name = if is_good_name name then Ok (Goes (Declared ring (name ∷ []))) else Err BadName
 with_one ring (other ∷ others) name = Err BadRecord
 
--- `start`
+-- the graph of one handler, without upstreams
+abbrev pub one_handler : Field → Shape
+one_handler name = record { names = name ∷ []; upstreams = [] ∷ [] }
+
+-- `start`: one handler, without upstreams
 abbrev pub started : Ring → List Field → Result Prepared Cause
 started ring [] = Err NoHandlers
-started ring (name ∷ names) = Ok (Opens (name ∷ names) (one_setup ring.size ring.mode ring.limit))
+started ring (name ∷ names) = Ok (Opens (name ∷ names) (setup_of ([] ∷ []) ring.size ring.mode ring.limit))
 
 -- a record after the ring and its limit
 abbrev pub declared_by : Ring → List Field → Record → Result Prepared Cause

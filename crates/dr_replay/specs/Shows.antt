@@ -1,7 +1,6 @@
 -- Which phase of the drive text the tool's own state shows.
 use Rattle.std.specs.Prelude.{◌≡◌, ℕ, false, List, [], ◌∷◌, Option, Some, None, Result, Ok, Err, Vec}
-use Rattle.dr_core.specs.Machine.{Setup, State, opening}
-use Rattle.dr_core.specs.Opening.{one_setup}
+use Rattle.dr_core.specs.Machine.{Setup, State, opening, setup_of}
 use Rattle.dr_core.specs.OpenFault.{has_bad_producers, is_bad_limit}
 use Rattle.dr_core.specs.Shows.{Shows}
 use Rattle.dr_replay.specs.declared.setup.Ring.{Ring}
@@ -17,8 +16,9 @@ use Rattle.dr_replay.specs.Records.{Field}
 use Rattle.dr_replay.specs.Setup.{Stage, Empty, Ringed, Declared, Prepared, Goes, Opens}
 use Rattle.dr_replay.specs.DriveText.{Running, Taken}
 
-abbrev pub setup_of : Ring → Setup
-setup_of ring = one_setup ring.size ring.mode ring.limit
+-- a ring with one handler
+abbrev pub ring_setup : Ring → Setup
+ring_setup ring = setup_of ([] ∷ []) ring.size ring.mode ring.limit
 
 -- a ring that a core can be opened for
 pub record IsRing (ring : Ring) : Type 0 where

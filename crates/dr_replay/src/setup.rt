@@ -3,7 +3,8 @@
 ghost use Rattle.std.specs.Prelude.{◌≡◌, IfOk, MatchOption, false, true};
 ghost use Rattle.csv.specs.Records.{fields_of};
 ghost use Rattle.dr_core.specs.OpenFault.{has_bad_producers as has_bad_producers_in};
-ghost use Rattle.dr_replay.specs.Setup.{declared_by, is_name as is_name_in, is_name_byte as is_name_byte_in, is_size, limit_of as limit_in, missing as missing_in, mode_of as mode_in, prepared, ring_of as ring_in, started, with_one as with_in};
+ghost use Rattle.dr_graph.specs.Name.{is_good_name, is_name_byte as is_name_byte_in};
+ghost use Rattle.dr_replay.specs.Setup.{declared_by, is_size, limit_of as limit_in, missing as missing_in, mode_of as mode_in, prepared, ring_of as ring_in, started, with_one as with_in};
 ghost use Rattle.dr_replay.specs.Shows.{IsPreparation, IsRing, PreparesAs, names_of, stage_of};
 
 use crate::exchange::Exchange;
@@ -11,6 +12,7 @@ use crate::fault::{Cause, RecordFault};
 use crate::records::{count_of, field, is_named, is_record, number_at};
 use csv::ByteRecord;
 use dr_core::{MAX_LIMIT, MAX_PRODUCERS, Mode};
+use dr_graph::MAX_NAME_LEN;
 use dr_seq::Size;
 use std::alloc::Global;
 
@@ -41,9 +43,6 @@ pub enum Prepared {
     /// The exchange is open, and commands follow.
     Opens(Exchange),
 }
-
-/// The most bytes of a handler's name.
-const LONGEST_NAME: usize = 32;
 
 // A ring's size, if the number is one.
 fn size_of(n: u64) -> Option<Size>
@@ -123,18 +122,14 @@ fn limit_of(ring: Ring, row: &ByteRecord) -> Result<Ring, Cause>
 fn is_name_byte(byte: u8) -> bool
     ensures { result ≡ is_name_byte_in byte }
 {
-    byte.is_ascii_uppercase()
-        || byte.is_ascii_lowercase()
-        || byte.is_ascii_digit()
-        || byte == b'_'
-        || byte == b'-'
+    byte.is_ascii_alphanumeric() || byte == b'_' || byte == b'-'
 }
 
 // Whether a handler may have this name.
 fn is_name(name: &[u8]) -> bool
-    ensures { result ≡ is_name_in name.now }
+    ensures { result ≡ is_good_name name.now }
 {
-    if name.is_empty() || name.len() > LONGEST_NAME {
+    if name.is_empty() || name.len() > MAX_NAME_LEN {
         return false;
     }
     for byte in name {

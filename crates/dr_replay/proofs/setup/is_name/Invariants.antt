@@ -1,6 +1,6 @@
 use Rattle.std.proofs.Common.{◌≡◌, drop}
 use Rattle.std.specs.List.{list_all}
-use Rattle.dr_replay.specs.Setup.{is_name_byte}
+use Rattle.dr_graph.specs.Name.{is_name_byte}
 use Rattle.dr_replay.proofs.setup.is_name.Given as goal
 
 abbrev pub invariant-loop-byte : goal.invariant-loop-byte
