@@ -1,0 +1,75 @@
+//! The program: it reads its command line, opens what that names, and hands it to a tool. Output
+//! goes to standard output, and the line of a fault to standard error.
+#![tactic(auto)]
+
+use dr_replay::{Counted, DriveFault, LineFault, Plan, drive, plan};
+use std::fs::File;
+use std::io::{BufWriter, Write};
+use std::process::ExitCode;
+use std::{env, io};
+use thiserror::Error;
+
+/// Why the program ends early.
+#[derive(Debug, Drop, Error)]
+enum Fault {
+    #[error("{0}")]
+    Line(LineFault),
+    #[error("{0}")]
+    Drive(DriveFault),
+}
+
+impl Fault {
+    fn status(&self) -> u8 {
+        match self {
+            Fault::Line(fault) => fault.status(),
+            Fault::Drive(fault) => fault.status(),
+        }
+    }
+}
+
+fn read_plan(rt: &HostRuntime) -> Result<Plan, LineFault> {
+    let Ok(words) = env::args(rt) else {
+        return Err(LineFault::Memory);
+    };
+    let words: Vec<String> = words.collect(rt.alloc())?;
+    plan(rt.alloc(), words.as_slice())
+}
+
+fn drive_file(rt: &HostRuntime, file: &str) -> Result<(), DriveFault> {
+    let Ok(file) = File::open(rt, file) else {
+        return Err(DriveFault::Read);
+    };
+    let Ok(output) = BufWriter::new(rt.alloc(), io::writer(rt)) else {
+        return Err(DriveFault::Memory);
+    };
+    let mut reader = Counted::new(file);
+    let mut writer = Counted::new(output);
+    let driven = drive(rt.alloc(), &mut reader, &mut writer);
+    let flushed = writer.flush();
+    driven?;
+    if flushed.is_err() {
+        return Err(DriveFault::Write);
+    }
+    Ok(())
+}
+
+fn run(rt: &HostRuntime) -> Result<(), Fault> {
+    match read_plan(rt).map_err(Fault::Line)? {
+        Plan::Help(text) => match rt.print(text) {
+            Ok(()) => Ok(()),
+            Err(_) => Err(Fault::Drive(DriveFault::Write)),
+        },
+        Plan::Drive { file } => drive_file(rt, file.as_str()).map_err(Fault::Drive),
+    }
+}
+
+fn main(rt: HostRuntime) -> ExitCode {
+    match run(&rt) {
+        Ok(()) => ExitCode::SUCCESS,
+        Err(fault) => {
+            // Where even this cannot be written, the status tells it.
+            let _printed = rt.eprintln(&fault);
+            ExitCode::from(fault.status())
+        }
+    }
+}

@@ -1,0 +1,10 @@
+pub mod AllRecords
+pub mod Commanding
+pub mod Digits
+pub mod FieldAt
+pub mod OneHandler
+pub mod Runs
+pub mod SetUps
+pub mod Sizes
+pub mod Whole
+pub mod Writes

@@ -1,0 +1,29 @@
+-- What the records of a setup say of the whole file.
+use Rattle.std.proofs.Common.{◌≡◌, ◌+◌, ℕ, List, [], ◌∷◌, None, Some, Ok, ap, ◌∙◌}
+use Rattle.dr_core.specs.Machine.{Setup, opening}
+use Rattle.dr_replay.specs.Records.{Field, Record}
+use Rattle.dr_replay.specs.Setup.{Empty, Goes, Opens, Stage, missing, prepared}
+use Rattle.dr_replay.specs.DriveText.{DriveText, Preparing, Running, prepares, text_from}
+use Rattle.dr_replay.specs.Shows.{FaultAs}
+use Rattle.dr_replay.specs.Tells.{SetupFaultTells, fault_at}
+use Rattle.dr_replay.specs.declared.fault.RecordFault.{RecordFault}
+use Rattle.dr_replay.specs.declared.fault.RecordFault.TheVariants as fault
+use Rattle.dr_replay.proofs.Runs.{says-end, says-err, says-ok}
+
+pub setup-goes : (whole : DriveText) (k : ℕ) (s s2 : Stage) (row : Record) (rest : List Record) → whole ≡ text_from k (Preparing s) (row ∷ rest)
+    → prepared s row ≡ Ok (Goes s2) → whole ≡ text_from (k + 1) (Preparing s2) rest
+setup-goes whole k s s2 row rest is e = is ∙ says-ok k (Preparing s) (record { phase = Preparing s2; line = None }) row rest (ap prepares e)
+
+pub setup-opens : (whole : DriveText) (k : ℕ) (s : Stage) (names : List Field) (c : Setup) (row : Record) (rest : List Record) → whole ≡ text_from k (Preparing s) (row ∷ rest)
+    → prepared s row ≡ Ok (Opens names c) → whole ≡ text_from (k + 1) (Running names c (opening c)) rest
+setup-opens whole k s names c row rest is e =
+    is ∙ says-ok k (Preparing s) (record { phase = Running names c (opening c); line = None }) row rest (ap prepares e)
+
+pub setup-fails : (f : RecordFault) (rows : List Record) (k : ℕ) (s : Stage) (row : Record) (rest : List Record)
+    → text_from 1 (Preparing Empty) rows ≡ text_from k (Preparing s) (row ∷ rest) → FaultAs f (prepared s row) → SetupFaultTells (fault_at k f) rows
+setup-fails (fault.Cause cause) rows k s row rest is e = is ∙ says-err k (Preparing s) cause row rest (ap prepares e)
+setup-fails fault.Memory rows k s row rest is e = tt
+
+pub setup-ends : (whole : DriveText) (k : ℕ) (s : Stage) (rest : List Record) → whole ≡ text_from k (Preparing s) rest → rest ≡ []
+    → whole ≡ record { lines = []; fault = Some (record { k = k; cause = missing s }) }
+setup-ends whole k s rest is none = is ∙ ap (text_from k (Preparing s)) none ∙ says-end k (Preparing s)

@@ -1,0 +1,11 @@
+pub mod Counting
+pub mod Numbers
+pub mod Records
+pub mod Commands
+pub mod Lines
+pub mod Setup
+pub mod DriveText
+pub mod Shows
+pub mod Outcome
+pub mod Tells
+pub mod Status

@@ -1,0 +1,28 @@
+//! The tools over files.
+//!
+//! Begin with `specs/DriveText`: it says what a file of commands means, line by line, by the setup
+//! (`specs/Setup`), the commands (`specs/Commands`), the machine's own step, and the reply lines
+//! (`specs/Lines`). [`drive`] reads such a file and writes its text.
+#![tactic(auto)]
+
+mod command_line;
+mod commands;
+mod counted;
+mod exchange;
+mod fault;
+mod lines;
+mod numbers;
+mod planned;
+mod records;
+mod setup;
+mod streams;
+mod tool;
+
+pub use command_line::plan;
+pub use counted::Counted;
+pub use fault::{Cause, DriveFault};
+pub use planned::{LineFault, Plan};
+pub use tool::drive;
+
+#[cfg(test)]
+mod tests;

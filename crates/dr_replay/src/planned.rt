@@ -1,0 +1,45 @@
+//! What a command line asks for, or why it is refused.
+
+ghost use Rattle.std.specs.Prelude.{◌≡◌};
+ghost use Rattle.dr_replay.specs.Status.{line_status};
+
+use std::alloc::AllocError;
+use thiserror::Error;
+
+/// What a command line asks for.
+#[derive(Debug, Drop)]
+pub enum Plan {
+    /// Print this text, and nothing else.
+    Help(String),
+    /// Run the commands of a file.
+    Drive { file: String },
+}
+
+/// Why a command line is refused. Its text is the line that a program prints.
+#[derive(Debug, Drop, Error)]
+pub enum LineFault {
+    /// The words are no command line of the program; the text says why.
+    #[error("{0}")]
+    Usage(String),
+    /// There is no memory for reading them.
+    #[error("no-memory")]
+    Memory,
+}
+
+impl LineFault {
+    /// The status with which a program ends that meets this fault.
+    pub fn status(&self) -> u8
+        ensures { result ≡ line_status self.now }
+    {
+        match self {
+            LineFault::Usage(_) => 1,
+            LineFault::Memory => 3,
+        }
+    }
+}
+
+impl From<AllocError> for LineFault {
+    fn from(_error: AllocError) -> LineFault {
+        LineFault::Memory
+    }
+}

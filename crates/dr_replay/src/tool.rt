@@ -1,0 +1,121 @@
+//! The tool `drive`: a file of commands in, a line a reply out.
+
+ghost use Rattle.std.specs.Prelude.{◌≡◌, ◌<◌, ◌+◌, ◌-◌, ◌^◌, IfSome, length, map};
+ghost use Rattle.csv.specs.Records.{fields_of};
+ghost use Rattle.dr_replay.specs.Counting.{faults_of, inner_of};
+ghost use Rattle.dr_replay.specs.DriveText.{Phase, drive_text, taken, text_from};
+ghost use Rattle.dr_replay.specs.Outcome.{CountsFaults, Writes};
+ghost use Rattle.dr_replay.specs.Tells.{CommandTells, SetsUpAs, ShowsPhase, fault_at};
+
+use crate::counted::Counted;
+use crate::exchange::Exchange;
+use crate::fault::{DriveFault, RecordFault};
+use crate::records::records_of;
+use crate::setup::{Preparation, Prepared, missing, prepare};
+use crate::streams::{read_all, write_text};
+use csv::ByteRecord;
+use std::alloc::Global;
+use std::io::{Read, Write};
+
+// An exchange, and how many records it took to open it.
+#[derive(Drop)]
+struct Opened {
+    exchange: Exchange,
+    records: usize,
+}
+
+fn fault_of(k: u64, fault: RecordFault) -> DriveFault
+    ensures { result ≡ fault_at k fault }
+{
+    match fault {
+        RecordFault::Cause(cause) => DriveFault::Input { k, cause },
+        RecordFault::Memory => DriveFault::Memory,
+    }
+}
+
+// Takes the records of the setup.
+fn set_up(alloc: Global, rows: &[ByteRecord]) -> Result<Opened, DriveFault>
+    ensures { SetsUpAs result (map fields_of rows.now) }
+{
+    let mut at = Preparation::Empty;
+    let mut k: u64 = 1;
+    for (i, row) in rows.iter().enumerate() {
+        match prepare(alloc, at, row) {
+            Ok(Prepared::Goes(next)) => at = next,
+            Ok(Prepared::Opens(exchange)) => return Ok(Opened {
+                exchange,
+                records: i + 1,
+            }),
+            Err(fault) => return Err(fault_of(k, fault)),
+        }
+        k += 1;
+    }
+    Err(DriveFault::Input {
+        k,
+        cause: missing(&at),
+    })
+}
+
+// Obeys one record, the k-th, and writes its line.
+fn command<W: Write>(
+    exchange: &mut Exchange,
+    k: u64,
+    row: &ByteRecord,
+    line: &mut String,
+    writer: &mut Counted<W>,
+) -> Result<(), DriveFault>
+    requires { faults_of writer.old < 2 ^ 64 - 1 }
+    ensures bytes { (phase : Phase) → ShowsPhase exchange.old phase → CommandTells result exchange.new k (taken phase (fields_of row.now)) (W.contents (inner_of writer.old)) (W.contents (inner_of writer.new)) }
+    ensures counted { CountsFaults result 0 0 (faults_of writer.old) (faults_of writer.new) }
+{
+    match exchange.obey(row, line) {
+        Ok(()) => write_text(writer, line.as_bytes()),
+        Err(fault) => Err(fault_of(k, fault)),
+    }
+}
+
+// Obeys all records from one on, the first of them being the k-th.
+fn commands<W: Write>(
+    alloc: Global,
+    mut exchange: Exchange,
+    mut k: u64,
+    rows: &[ByteRecord],
+    writer: &mut Counted<W>,
+) -> Result<(), DriveFault>
+    requires faults { faults_of writer.old < 2 ^ 64 - 1 }
+    requires fits { k + length rows.now < 2 ^ 64 }
+    ensures bytes { (phase : Phase) → ShowsPhase exchange phase → Writes result (W.contents (inner_of writer.old)) (W.contents (inner_of writer.new)) (text_from k phase (map fields_of rows.now)) }
+    ensures counted { CountsFaults result 0 0 (faults_of writer.old) (faults_of writer.new) }
+{
+    let mut line = String::new(alloc);
+    for row in rows {
+        command(&mut exchange, k, row, &mut line, writer)?;
+        k += 1;
+    }
+    Ok(())
+}
+
+/// Reads a file of commands to its end, and writes the line of each command as it goes. Records
+/// before `start` write no line. Where the run ends early, the lines of all earlier commands are
+/// written; at a failed write the last of them may be cut.
+pub fn drive<R: Read, W: Write>(
+    alloc: Global,
+    reader: &mut Counted<R>,
+    writer: &mut Counted<W>,
+) -> Result<(), DriveFault>
+    requires reads { faults_of reader.old < 2 ^ 64 - 1 }
+    requires writes { faults_of writer.old < 2 ^ 64 - 1 }
+    // Where the input's bytes are known, what is written is the drive text, up to the fault that is answered.
+    ensures bytes { IfSome (R.remaining (inner_of reader.old)) (λ input.
+        Writes result (W.contents (inner_of writer.old)) (W.contents (inner_of writer.new)) (drive_text input)) }
+    // A failed read or write is answered where one failed, and nowhere else.
+    ensures counted { CountsFaults result (faults_of reader.old) (faults_of reader.new) (faults_of writer.old) (faults_of writer.new) }
+{
+    let text = read_all(alloc, reader)?;
+    let Ok(rows) = records_of(alloc, text.as_slice()) else {
+        return Err(DriveFault::Memory);
+    };
+    let Opened { exchange, records } = set_up(alloc, rows.as_slice())?;
+    let k = records as u64 + 1;
+    commands(alloc, exchange, k, &rows[records..], writer)
+}
