@@ -3,6 +3,8 @@
 
     bench/bench.py drive  [PROGRAM]     10 thousand and a million commands at sizes 64 and 65,536
     bench/bench.py replay [PROGRAM]     a million events at sizes 1, 1024 and 65,536
+    bench/bench.py plain TOOL [PROGRAM] a million records beside the same tool in plain Rust, unverified
+                                        (bench/plain/plain.rs, which rustc -O builds)
 
 PROGRAM is ./disruptor where it is left out. Each line is the median of five runs.
 """
@@ -23,7 +25,7 @@ def commands(size, count):
     first = 0
     for _ in range(0, count, 12):
         last = first + 7
-        yield f"claim,0,8\n"
+        yield "claim,0,8\n"
         for s in range(first, last + 1):
             yield f"write,0,{s},{s}\n"
         yield f"publish,0,{first},{last}\npoll,a,8\ncomplete,a,{last + 1}\n"
@@ -54,11 +56,16 @@ def run_once(words):
     return seconds, usage.ru_maxrss
 
 
-def report(name, count, words):
+def measure(words):
+    """The median of the seconds and the greatest peak of some runs."""
     runs = [run_once(words) for _ in range(RUNS)]
-    seconds = statistics.median(run[0] for run in runs)
-    peak = max(run[1] for run in runs)
+    return statistics.median(run[0] for run in runs), max(run[1] for run in runs)
+
+
+def report(name, count, words):
+    seconds, peak = measure(words)
     print(f"{name:28} {count:9} {seconds:8.3f} s {count / seconds:12.0f} a second {peak / 1024:8.1f} MiB", flush=True)
+    return seconds, peak
 
 
 def write_file(folder, name, lines):
@@ -68,10 +75,30 @@ def write_file(folder, name, lines):
     return path
 
 
+def build_plain(folder):
+    source = os.path.join(os.path.dirname(os.path.abspath(__file__)), "plain", "plain.rs")
+    program = os.path.join(folder, "plain")
+    subprocess.run(["rustc", "--edition", "2021", "-O", "-o", program, source], check=True)
+    return program
+
+
+def beside_plain(folder, tool, program):
+    count = 1_000_000
+    lines = commands(1024, count) if tool == "drive" else events(count)
+    path = write_file(folder, "records.csv", lines)
+    ours = report(f"{tool}, verified", count, [program, tool, path])
+    plain = report(f"{tool}, plain", count, [build_plain(folder), tool, path])
+    print(f"{tool}: {ours[0] / plain[0]:.2f} times the time, {ours[1] / plain[1]:.2f} times the memory")
+
+
 def main():
-    tool = sys.argv[1] if len(sys.argv) > 1 else "drive"
-    program = sys.argv[2] if len(sys.argv) > 2 else "./disruptor"
+    words = sys.argv[1:]
+    tool = words.pop(0) if words else "drive"
     with tempfile.TemporaryDirectory() as folder:
+        if tool == "plain":
+            beside_plain(folder, words.pop(0), words[0] if words else "./disruptor")
+            return
+        program = words[0] if words else "./disruptor"
         if tool == "drive":
             for size in (64, 65536):
                 for count in (10_000, 1_000_000):
