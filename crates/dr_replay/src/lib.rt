@@ -14,6 +14,7 @@ mod lines;
 mod numbers;
 mod planned;
 mod records;
+mod replay;
 mod setup;
 mod streams;
 mod tool;
