@@ -2,7 +2,8 @@
 //! goes to standard output, and the line of a fault to standard error.
 #![tactic(auto)]
 
-use dr_replay::{Counted, DriveFault, LineFault, Plan, drive, plan};
+use dr_replay::{By, Counted, DriveFault, LineFault, Plan, ReplayFault, drive, plan, replay_plain};
+use dr_seq::Size;
 use std::fs::File;
 use std::io::{BufWriter, Write};
 use std::process::ExitCode;
@@ -16,6 +17,8 @@ enum Fault {
     Line(LineFault),
     #[error("{0}")]
     Drive(DriveFault),
+    #[error("{0}")]
+    Replay(ReplayFault),
 }
 
 impl Fault {
@@ -23,6 +26,7 @@ impl Fault {
         match self {
             Fault::Line(fault) => fault.status(),
             Fault::Drive(fault) => fault.status(),
+            Fault::Replay(fault) => fault.status(),
         }
     }
 }
@@ -53,6 +57,26 @@ fn drive_file(rt: &HostRuntime, file: &str) -> Result<(), DriveFault> {
     Ok(())
 }
 
+fn replay_file(rt: &HostRuntime, file: &str, size: Size, by: By) -> Result<(), ReplayFault> {
+    let Ok(file) = File::open(rt, file) else {
+        return Err(ReplayFault::Read);
+    };
+    let Ok(output) = BufWriter::new(rt.alloc(), io::writer(rt)) else {
+        return Err(ReplayFault::Memory);
+    };
+    let mut reader = Counted::new(file);
+    let mut writer = Counted::new(output);
+    let replayed = match by {
+        By::Plain => replay_plain(rt.alloc(), &mut reader, &mut writer, size),
+    };
+    let flushed = writer.flush();
+    replayed?;
+    if flushed.is_err() {
+        return Err(ReplayFault::Write);
+    }
+    Ok(())
+}
+
 fn run(rt: &HostRuntime) -> Result<(), Fault> {
     match read_plan(rt).map_err(Fault::Line)? {
         Plan::Help(text) => match rt.print(text) {
@@ -60,6 +84,9 @@ fn run(rt: &HostRuntime) -> Result<(), Fault> {
             Err(_) => Err(Fault::Drive(DriveFault::Write)),
         },
         Plan::Drive { file } => drive_file(rt, file.as_str()).map_err(Fault::Drive),
+        Plan::Replay { file, size, by } => {
+            replay_file(rt, file.as_str(), size, by).map_err(Fault::Replay)
+        }
     }
 }
 

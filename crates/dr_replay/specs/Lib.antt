@@ -9,3 +9,12 @@ pub mod Shows
 pub mod Outcome
 pub mod Tells
 pub mod Status
+pub mod Operations
+pub mod EventFile
+pub mod Accounts
+pub mod Report
+pub mod Handlers
+pub mod ReplayFaults
+pub mod Passing
+pub mod Turns
+pub mod Replayed

@@ -33,4 +33,5 @@ drive_status fault.Write = 4
 -- 1 where the command line is at fault
 abbrev pub line_status : LineFault → ℕ
 line_status (refused.Usage text) = 1
+line_status refused.BadSize = 1
 line_status refused.Memory = 3

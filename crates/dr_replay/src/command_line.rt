@@ -1,8 +1,9 @@
 //! The command line, read.
 
-use crate::planned::{LineFault, Plan};
+use crate::planned::{By, LineFault, Plan};
 use clap::error::ErrorKind;
-use clap::{Arg, ArgMatches, Command, Error};
+use clap::{Arg, ArgMatches, Command, Error, value_parser};
+use dr_seq::Size;
 use std::alloc::{AllocError, Global};
 
 const ABOUT: &str = "A verified LMAX Disruptor: producers and handlers over one ring of slots";
@@ -37,6 +38,73 @@ It prints:
 It ends with 0 where all is done, 1 where the command line is at fault, 2 where
 the file is at fault, 3 for want of memory and 4 where reading or writing failed.";
 
+const REPLAY: &str = "Replay a file of account movements, and print a report of them";
+
+const EVENTS: &str = "The file of movements, one record a line";
+
+const SIZE: &str = "How many slots the ring has: a power of two from 1 to 65536";
+
+const BY: &str = "By which exchange: plain is one core on one thread";
+
+/// The ways of a replay.
+const WAYS: &[&str] = &["plain"];
+
+/// The ring's size where the command line gives none.
+const USUAL_SIZE: u64 = 1024;
+
+const REPLAY_EXAMPLE: &str = "\
+A record is a producer from 0 to 15, what it does, the account or accounts, and
+the amount:
+
+  0,deposit,1,100     100 is added to account 1
+  0,withdraw,1,40     40 is taken from account 1, where it has that much
+  2,transfer,1,7,30   30 goes from account 1 to account 7, where 1 has that much
+
+Accounts are below 65536, amounts below 4294967296, and those of a transfer below
+281474976710656. The report has three parts. The journal is each movement under
+its sequence, the replica its words, and business has a line for each account:
+its number, its balance, and how many movements it was refused.
+
+  journal 3
+  0,0,deposit,1,100
+  1,0,withdraw,1,40
+  2,2,transfer,1,7,30
+  replica 3
+  0001000100000064
+  0002000100000028
+  0203000100000000000700000000001e
+  business 3
+  1,30,0
+  7,30,0
+
+It ends with 0 where all is done, 1 where the command line is at fault, 2 where
+the file is at fault, 3 for want of memory and 4 where reading or writing failed.";
+
+fn replay_command<'a>(alloc: Global) -> Result<Command<'a>, AllocError> {
+    let size = Arg::new(alloc, "size")
+        .long("size")
+        .value_name("N")
+        .help(SIZE)
+        .value_parser(value_parser!(u64))
+        .default_value("1024");
+    let by = Arg::new(alloc, "by")
+        .long("by")
+        .value_name("WAY")
+        .help(BY)
+        .value_parser(WAYS)
+        .default_value("plain");
+    let file = Arg::new(alloc, "file")
+        .value_name("FILE")
+        .help(EVENTS)
+        .required(true);
+    Command::new(alloc, "replay")
+        .about(REPLAY)
+        .after_help(REPLAY_EXAMPLE)
+        .arg(size)?
+        .arg(by)?
+        .arg(file)
+}
+
 fn command<'a>(alloc: Global) -> Result<Command<'a>, AllocError> {
     let file = Arg::new(alloc, "file")
         .value_name("FILE")
@@ -48,9 +116,12 @@ fn command<'a>(alloc: Global) -> Result<Command<'a>, AllocError> {
         .arg(file)?;
     Command::new(alloc, "disruptor")
         .about(ABOUT)
-        .after_help("`disruptor drive --help` shows a file of commands, and what it prints.")
+        .after_help(
+            "`disruptor drive --help` and `disruptor replay --help` show a file, and what it prints.",
+        )
         .subcommand_required(true)
-        .subcommand(drive)
+        .subcommand(drive)?
+        .subcommand(replay_command(alloc)?)
 }
 
 // The text of a fault, without the line feed at its end.
@@ -67,12 +138,22 @@ fn refused(alloc: Global, error: &Error) -> Result<Plan, LineFault> {
     }
 }
 
-fn drive_plan(alloc: Global, matches: &ArgMatches<'_>) -> Result<Plan, LineFault> {
-    let file = match matches.get_str("file") {
-        Some(file) => String::from_str(alloc, file)?,
-        None => String::new(alloc),
+// The word of FILE, which the command line has to have.
+fn file_of(alloc: Global, matches: &ArgMatches<'_>) -> Result<String, AllocError> {
+    match matches.get_str("file") {
+        Some(file) => String::from_str(alloc, file),
+        None => Ok(String::new(alloc)),
+    }
+}
+
+fn replay_plan(alloc: Global, matches: &ArgMatches<'_>) -> Result<Plan, LineFault> {
+    let slots: Option<u64> = matches.get_one("size");
+    let Ok(size) = Size::new(slots.unwrap_or(USUAL_SIZE)) else {
+        return Err(LineFault::BadSize);
     };
-    Ok(Plan::Drive { file })
+    let file = file_of(alloc, matches)?;
+    let by = By::Plain;
+    Ok(Plan::Replay { file, size, by })
 }
 
 /// Reads a command line, of which the first word is the program's own name.
@@ -81,8 +162,12 @@ pub fn plan(alloc: Global, words: &[String]) -> Result<Plan, LineFault> {
         Ok(matches) => matches,
         Err(error) => return refused(alloc, &error),
     };
-    match matches.subcommand_matches("drive") {
-        Some(matches) => drive_plan(alloc, matches),
-        None => drive_plan(alloc, &matches),
+    if let Some(matches) = matches.subcommand_matches("replay") {
+        return replay_plan(alloc, matches);
     }
+    let file = match matches.subcommand_matches("drive") {
+        Some(matches) => file_of(alloc, matches)?,
+        None => String::new(alloc),
+    };
+    Ok(Plan::Drive { file })
 }

@@ -3,6 +3,10 @@
 //! Begin with `specs/DriveText`: it says what a file of commands means, line by line, by the setup
 //! (`specs/Setup`), the commands (`specs/Commands`), the machine's own step, and the reply lines
 //! (`specs/Lines`). [`drive`] reads such a file and writes its text.
+//!
+//! For the replay begin with `specs/Report`: it says what is reported of a list of events, with the
+//! balances of `specs/Accounts` and the operations of `specs/EventFile`. [`replay_plain`] reads a
+//! file of operations and writes the report of its events.
 #![tactic(auto)]
 
 mod command_line;
@@ -14,6 +18,7 @@ mod lines;
 mod numbers;
 mod planned;
 mod records;
+mod replay;
 mod setup;
 mod streams;
 mod tool;
@@ -21,7 +26,8 @@ mod tool;
 pub use command_line::plan;
 pub use counted::Counted;
 pub use fault::{Cause, DriveFault};
-pub use planned::{LineFault, Plan};
+pub use planned::{By, LineFault, Plan};
+pub use replay::{ReplayFault, replay_plain};
 pub use tool::drive;
 
 #[cfg(test)]

@@ -3,8 +3,16 @@
 ghost use Rattle.std.specs.Prelude.{◌≡◌};
 ghost use Rattle.dr_replay.specs.Status.{line_status};
 
+use dr_seq::Size;
 use std::alloc::AllocError;
 use thiserror::Error;
+
+/// By which exchange a replay goes.
+#[derive(Clone, Copy, Debug, PartialEq, Eq)]
+pub enum By {
+    /// One core on one thread.
+    Plain,
+}
 
 /// What a command line asks for.
 #[derive(Debug, Drop)]
@@ -13,6 +21,8 @@ pub enum Plan {
     Help(String),
     /// Run the commands of a file.
     Drive { file: String },
+    /// Replay the operations of a file, through a ring of this size.
+    Replay { file: String, size: Size, by: By },
 }
 
 /// Why a command line is refused. Its text is the line that a program prints.
@@ -21,6 +31,9 @@ pub enum LineFault {
     /// The words are no command line of the program; the text says why.
     #[error("{0}")]
     Usage(String),
+    /// The number of `--size` is no ring's size.
+    #[error("bad-size")]
+    BadSize,
     /// There is no memory for reading them.
     #[error("no-memory")]
     Memory,
@@ -33,6 +46,7 @@ impl LineFault {
     {
         match self {
             LineFault::Usage(_) => 1,
+            LineFault::BadSize => 1,
             LineFault::Memory => 3,
         }
     }

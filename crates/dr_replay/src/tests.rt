@@ -4,6 +4,8 @@
 mod command_line;
 mod failing;
 mod faults;
+mod replayed;
+mod replayed_failing;
 mod texts;
 mod worked;
 

@@ -1,7 +1,8 @@
 //! Command lines.
 
-use crate::{LineFault, Plan, plan};
+use crate::{By, LineFault, Plan, plan};
 use std::alloc::Global;
+use std::process::Abort;
 use std::test::Fail;
 
 fn planned(alloc: Global, words: &[&str]) -> Result<Result<Plan, LineFault>, Fail> {
@@ -41,7 +42,7 @@ fn no_command(rt: HostRuntime) -> Result<(), Fail> {
     assert!(rt; matches!(&planned(alloc, &["disruptor"])?, Err(LineFault::Usage(_))));
     assert!(rt;
         matches!(
-            &planned(alloc, &["disruptor", "replay", "x"])?,
+            &planned(alloc, &["disruptor", "replay"])?,
             Err(LineFault::Usage(_))
         )
     );
@@ -52,5 +53,59 @@ fn no_command(rt: HostRuntime) -> Result<(), Fail> {
         )
     );
     assert_eq!(rt; LineFault::Memory.status(), 3);
+    Ok(())
+}
+
+fn check_replay(rt: &impl Abort, alloc: Global, words: &[&str], slots: u64) -> Result<(), Fail> {
+    match planned(alloc, words)? {
+        Ok(Plan::Replay { file, size, by }) => {
+            assert_eq!(rt; file.as_str(), "day.csv");
+            assert_eq!(rt; size.get(), slots);
+            assert_eq!(rt; by, By::Plain);
+        }
+        _ => assert!(rt; false),
+    }
+    Ok(())
+}
+
+#[test]
+fn a_file_to_replay(rt: HostRuntime) -> Result<(), Fail> {
+    let alloc = rt.alloc();
+    check_replay(&rt, alloc, &["disruptor", "replay", "day.csv"], 1024)?;
+    let sized = ["disruptor", "replay", "--size", "0016", "day.csv"];
+    check_replay(&rt, alloc, &sized, 16)?;
+    let by = [
+        "disruptor",
+        "replay",
+        "--by",
+        "plain",
+        "--size=1",
+        "day.csv",
+    ];
+    check_replay(&rt, alloc, &by, 1)?;
+    let help = planned(alloc, &["disruptor", "replay", "--help"])?;
+    assert!(rt; matches!(&help, Ok(Plan::Help(text)) if text.as_str().contains("business 3")));
+    Ok(())
+}
+
+#[test]
+fn sizes_of_no_ring(rt: HostRuntime) -> Result<(), Fail> {
+    let alloc = rt.alloc();
+    for size in ["0", "3", "1000", "131072"] {
+        match planned(alloc, &["disruptor", "replay", "--size", size, "day.csv"])? {
+            Err(fault) => {
+                assert_eq!(rt; fault.to_string(alloc)?.as_str(), "bad-size");
+                assert_eq!(rt; fault.status(), 1);
+            }
+            Ok(_) => assert!(rt; false),
+        }
+    }
+    for words in [["--size", "x"], ["--size", "-1"], ["--by", "post"]] {
+        let asked = planned(
+            alloc,
+            &["disruptor", "replay", words[0], words[1], "day.csv"],
+        )?;
+        assert!(rt; matches!(&asked, Err(LineFault::Usage(_))));
+    }
     Ok(())
 }

@@ -8,10 +8,10 @@ use std::process::Abort;
 
 // A reader that fails at its k-th call, and gives at most sixteen bytes a call.
 #[derive(Drop)]
-struct Failing<'a> {
-    left: &'a [u8],
-    calls: u64,
-    fails_at: u64,
+pub struct Failing<'a> {
+    pub left: &'a [u8],
+    pub calls: u64,
+    pub fails_at: u64,
 }
 
 impl<'a> Read for Failing<'a> {
@@ -27,11 +27,11 @@ impl<'a> Read for Failing<'a> {
 
 // A writer that takes one byte a call, and fails or takes nothing at its k-th call.
 #[derive(Drop)]
-struct Slow {
-    taken: Vec<u8>,
-    calls: u64,
-    fails_at: u64,
-    takes_nothing: bool,
+pub struct Slow {
+    pub taken: Vec<u8>,
+    pub calls: u64,
+    pub fails_at: u64,
+    pub takes_nothing: bool,
 }
 
 impl Write for Slow {

@@ -1,0 +1,37 @@
+-- The events of a file, a record at a time.
+use Rattle.std.proofs.Common.{◌≡◌, ◌+◌, ℕ, List, [], ◌∷◌, ◌++◌, Some, None, Result, Ok, Err, refl, sym, ap, ◌∙◌, append_assoc, append-nil}
+use Rattle.dr_seq.specs.declared.event.Event.{Event}
+use Rattle.dr_replay.specs.declared.replay.operation.Operation.{Operation}
+use Rattle.dr_replay.specs.EventFile.{events_from, events_with, operation_in}
+use Rattle.dr_replay.specs.Operations.{event_of}
+use Rattle.dr_replay.specs.Records.{Record}
+
+-- what records say that come after others, which were these events
+abbrev pub preceded : List Event → Result (List Event) ℕ → Result (List Event) ℕ
+preceded done (Ok events) = Ok (done ++ events)
+preceded done (Err k) = Err k
+
+pub preceded-nil : (r : Result (List Event) ℕ) → r ≡ preceded [] r
+preceded-nil (Ok events) = refl
+preceded-nil (Err k) = refl
+
+one_more : (done : List Event) (k : ℕ) (o : Operation) (r : Result (List Event) ℕ) → preceded done (events_with k (Some o) r) ≡ preceded (done ++ event_of o ∷ []) r
+one_more done k o (Ok events) = ap Ok (sym (append_assoc done (event_of o ∷ []) events))
+one_more done k o (Err bad) = refl
+
+pub file-goes : (whole : Result (List Event) ℕ) (done : List Event) (k : ℕ) (o : Operation) (row : Record) (rest : List Record)
+    → whole ≡ preceded done (events_from k (row ∷ rest)) → Some o ≡ operation_in row → whole ≡ preceded (done ++ event_of o ∷ []) (events_from (k + 1) rest)
+unfolding events_from
+file-goes whole done k o row rest p e = p ∙ ap (λ x. preceded done (events_with k x (events_from (k + 1) rest))) (sym e) ∙ one_more done k o (events_from (k + 1) rest)
+
+with_none : (k : ℕ) (r : Result (List Event) ℕ) → events_with k None r ≡ Err k
+with_none k r = refl
+
+pub file-stops : (whole : Result (List Event) ℕ) (done : List Event) (k : ℕ) (row : Record) (rest : List Record)
+    → whole ≡ preceded done (events_from k (row ∷ rest)) → None ≡ operation_in row → whole ≡ Err k
+unfolding events_from
+file-stops whole done k row rest p e = p ∙ ap (λ x. preceded done (events_with k x (events_from (k + 1) rest))) (sym e)
+
+pub file-ends : (whole : Result (List Event) ℕ) (done : List Event) (k : ℕ) → whole ≡ preceded done (events_from k []) → whole ≡ Ok done
+unfolding events_from
+file-ends whole done k p = p ∙ ap Ok (append-nil done)

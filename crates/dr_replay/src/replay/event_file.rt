@@ -1,0 +1,107 @@
+//! The event file: an operation a record.
+
+ghost use Rattle.std.specs.Prelude.{◌≡◌, ◌<◌, IfSome, map};
+ghost use Rattle.csv.specs.Records.{fields_of};
+ghost use Rattle.dr_replay.specs.EventFile.{deposit as deposit_in, is_kind as is_kind_in, number_below as number_in, operation_in, transfer as transfer_in, withdraw as withdraw_in};
+ghost use Rattle.dr_replay.specs.Operations.{IsOperation};
+ghost use Rattle.dr_replay.specs.Replayed.{ReadsAs};
+
+use crate::records::{count_of, field, number_at};
+use crate::replay::fault::ReplayFault;
+use crate::replay::operation::{Movement, Operation};
+use csv::ByteRecord;
+use dr_seq::Event;
+use std::alloc::Global;
+
+/// Producers have numbers below this.
+const PRODUCERS: u64 = 16;
+
+/// Accounts have numbers below this.
+const ACCOUNTS: u64 = 1 << 16;
+
+/// Amounts of deposits and withdrawals are below this.
+const AMOUNTS: u64 = 1 << 32;
+
+/// Amounts of transfers are below this.
+const TRANSFERS: u64 = 1 << 48;
+
+// The number in the field at a place, if one stands there that is below a bound.
+fn number_below(row: &ByteRecord, place: usize, bound: u64) -> Option<u64>
+    ensures value { result ≡ number_in bound (fields_of row.now) place }
+    ensures below { IfSome result (λ n. n < bound) }
+{
+    let number = number_at(row, place)?;
+    if number < bound { Some(number) } else { None }
+}
+
+// Whether a record has this second field and this many fields.
+fn is_kind(row: &ByteRecord, kind: &[u8], count: usize) -> bool
+    ensures { result ≡ is_kind_in kind.now count (fields_of row.now) }
+{
+    count_of(row) == count && field(row, 1) == kind
+}
+
+fn deposit(row: &ByteRecord) -> Option<Operation>
+    ensures value { result ≡ deposit_in (fields_of row.now) }
+    ensures fits { IfSome result IsOperation }
+{
+    let producer = number_below(row, 0, PRODUCERS)? as u8;
+    let account = number_below(row, 2, ACCOUNTS)? as u16;
+    let amount = number_below(row, 3, AMOUNTS)? as u32;
+    let movement = Movement::Deposit { account, amount };
+    Some(Operation { producer, movement })
+}
+
+fn withdraw(row: &ByteRecord) -> Option<Operation>
+    ensures value { result ≡ withdraw_in (fields_of row.now) }
+    ensures fits { IfSome result IsOperation }
+{
+    let producer = number_below(row, 0, PRODUCERS)? as u8;
+    let account = number_below(row, 2, ACCOUNTS)? as u16;
+    let amount = number_below(row, 3, AMOUNTS)? as u32;
+    let movement = Movement::Withdraw { account, amount };
+    Some(Operation { producer, movement })
+}
+
+fn transfer(row: &ByteRecord) -> Option<Operation>
+    ensures value { result ≡ transfer_in (fields_of row.now) }
+    ensures fits { IfSome result IsOperation }
+{
+    let producer = number_below(row, 0, PRODUCERS)? as u8;
+    let from = number_below(row, 2, ACCOUNTS)? as u16;
+    let to = number_below(row, 3, ACCOUNTS)? as u16;
+    let amount = number_below(row, 4, TRANSFERS)?;
+    let movement = Movement::Transfer { from, to, amount };
+    Some(Operation { producer, movement })
+}
+
+/// The operation of a record, if it is one.
+pub fn operation_of(row: &ByteRecord) -> Option<Operation>
+    ensures value { result ≡ operation_in (fields_of row.now) }
+    ensures fits { IfSome result IsOperation }
+{
+    if is_kind(row, b"deposit".as_slice(), 4) {
+        deposit(row)
+    } else if is_kind(row, b"withdraw".as_slice(), 4) {
+        withdraw(row)
+    } else if is_kind(row, b"transfer".as_slice(), 5) {
+        transfer(row)
+    } else {
+        None
+    }
+}
+
+/// The events of the operations of a file, in order. The fault is at the first record that is no
+/// operation, or want of memory before it.
+pub fn events_of(alloc: Global, rows: &[ByteRecord]) -> Result<Vec<Event>, ReplayFault>
+    ensures { ReadsAs result (map fields_of rows.now) }
+{
+    let mut events = Vec::new(alloc);
+    for (i, row) in rows.iter().enumerate() {
+        let Some(operation) = operation_of(row) else {
+            return Err(ReplayFault::Input { k: i as u64 + 1 });
+        };
+        events.push(operation.event())?;
+    }
+    Ok(events)
+}

@@ -1,0 +1,72 @@
+//! Why a replay ends early.
+
+ghost use Rattle.std.specs.Prelude.{◌≡◌, Some};
+ghost use Rattle.dr_replay.specs.ReplayFaults.{replay_line, replay_status};
+
+use std::alloc::{AllocError, AllocFailed};
+use std::error::Error;
+use std::fmt;
+
+/// Why a replay ended early. Its text is the line that a program prints.
+#[derive(Debug, Drop)]
+pub enum ReplayFault {
+    /// The record `k`, counted from 1, is no operation.
+    Input { k: u64 },
+    /// There is no memory for what the replay needs.
+    Memory,
+    /// A read failed.
+    Read,
+    /// A write failed.
+    Write,
+}
+
+impl ReplayFault {
+    /// The status with which a program ends that meets this fault.
+    pub fn status(&self) -> u8
+        ensures { result ≡ replay_status self.now }
+    {
+        match self {
+            ReplayFault::Input { .. } => 2,
+            ReplayFault::Memory => 3,
+            ReplayFault::Read => 4,
+            ReplayFault::Write => 4,
+        }
+    }
+}
+
+impl fmt::Display for ReplayFault {
+    ghost output = { λ fault. Some (replay_line fault) };
+
+    fn fmt<W: fmt::Write>(&self, f: &mut fmt::Formatter<W>) -> fmt::Result {
+        match self {
+            ReplayFault::Input { k } => write!(f, "record {k}: bad record"),
+            ReplayFault::Memory => write!(f, "no-memory"),
+            ReplayFault::Read => write!(f, "cannot read"),
+            ReplayFault::Write => write!(f, "cannot write"),
+        }
+    }
+}
+
+impl Error for ReplayFault {}
+
+impl From<AllocError> for ReplayFault {
+    ghost use Rattle.std.specs.Prelude.{◌≡◌};
+    ghost use Rattle.dr_replay.specs.declared.replay.fault.ReplayFault.TheVariants as fault;
+
+    ghost from_gives = { λ _ e. e ≡ fault.Memory };
+
+    fn from(_error: AllocError) -> ReplayFault {
+        ReplayFault::Memory
+    }
+}
+
+impl<T: Drop> From<AllocFailed<T>> for ReplayFault {
+    ghost use Rattle.std.specs.Prelude.{◌≡◌};
+    ghost use Rattle.dr_replay.specs.declared.replay.fault.ReplayFault.TheVariants as fault;
+
+    ghost from_gives = { λ _ e. e ≡ fault.Memory };
+
+    fn from(_error: AllocFailed<T>) -> ReplayFault {
+        ReplayFault::Memory
+    }
+}

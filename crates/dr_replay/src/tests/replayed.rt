@@ -1,0 +1,296 @@
+//! Replays on one thread: worked files, files at fault, and the same bytes at every size.
+
+use crate::tests::Row;
+use crate::{Counted, ReplayFault, replay_plain};
+use dr_seq::Size;
+use std::alloc::Global;
+use std::process::Abort;
+use std::test::Fail;
+
+// Whole files.
+const WORKED: [Row; 8] = [
+    (
+        "three_events",
+        "0,deposit,1,100\n0,withdraw,1,40\n0,withdraw,1,500\n",
+        "journal 3\n0,0,deposit,1,100\n1,0,withdraw,1,40\n2,0,withdraw,1,500\nreplica 3\n0001000100000064\n0002000100000028\n00020001000001f4\nbusiness 3\n1,60,1\n",
+        "",
+        0,
+    ),
+    ("no_events", "", "journal 0\nreplica 0\nbusiness 0\n", "", 0),
+    (
+        "greatest_word",
+        "15,withdraw,65535,4294967295\n",
+        "journal 1\n0,15,withdraw,65535,4294967295\nreplica 1\n0f02ffffffffffff\nbusiness 1\n65535,0,1\n",
+        "",
+        0,
+    ),
+    (
+        "two producers, accounts by rising number",
+        "1,deposit,7,5\n0,deposit,3,10\n1,withdraw,7,6\n0,withdraw,3,10\n",
+        "journal 4\n0,1,deposit,7,5\n1,0,deposit,3,10\n2,1,withdraw,7,6\n3,0,withdraw,3,10\nreplica 4\n0101000700000005\n000100030000000a\n0102000700000006\n000200030000000a\nbusiness 4\n3,0,0\n7,5,1\n",
+        "",
+        0,
+    ),
+    (
+        "transfers, one of them refused",
+        "0,deposit,1,100\n2,transfer,1,7,30\n2,transfer,1,8,71\n0,withdraw,7,30\n",
+        "journal 4\n0,0,deposit,1,100\n1,2,transfer,1,7,30\n2,2,transfer,1,8,71\n3,0,withdraw,7,30\nreplica 4\n0001000100000064\n0203000100000000000700000000001e\n02030001000000000008000000000047\n000200070000001e\nbusiness 4\n1,70,1\n7,0,0\n8,0,0\n",
+        "",
+        0,
+    ),
+    (
+        "transfers from an account to itself",
+        "0,deposit,5,9\n0,transfer,5,5,9\n0,transfer,5,5,10\n",
+        "journal 3\n0,0,deposit,5,9\n1,0,transfer,5,5,9\n2,0,transfer,5,5,10\nreplica 3\n0001000500000009\n00030005000000000005000000000009\n0003000500000000000500000000000a\nbusiness 3\n5,9,1\n",
+        "",
+        0,
+    ),
+    (
+        "the greatest transfer",
+        "0,transfer,1,2,281474976710655\n",
+        "journal 1\n0,0,transfer,1,2,281474976710655\nreplica 1\n00030001000000000002ffffffffffff\nbusiness 1\n1,0,1\n2,0,0\n",
+        "",
+        0,
+    ),
+    (
+        "quotes, leading zeros, empty lines and no last line end",
+        "\"00\",deposit,\"0001\",007\r\n\r\n\n0,\"withdraw\",1,7",
+        "journal 2\n0,0,deposit,1,7\n1,0,withdraw,1,7\nreplica 2\n0001000100000007\n0002000100000007\nbusiness 2\n1,0,0\n",
+        "",
+        0,
+    ),
+];
+
+// Records that are no operation.
+const AT_FAULT: [Row; 23] = [
+    (
+        "a field too few",
+        "0,deposit,1\n",
+        "",
+        "record 1: bad record",
+        2,
+    ),
+    (
+        "a field too many",
+        "0,deposit,1,1,1\n",
+        "",
+        "record 1: bad record",
+        2,
+    ),
+    (
+        "a transfer of four fields",
+        "0,transfer,1,1\n",
+        "",
+        "record 1: bad record",
+        2,
+    ),
+    (
+        "a transfer of six fields",
+        "0,transfer,1,1,1,1\n",
+        "",
+        "record 1: bad record",
+        2,
+    ),
+    (
+        "an upper-case letter",
+        "0,Deposit,1,1\n",
+        "",
+        "record 1: bad record",
+        2,
+    ),
+    (
+        "an unknown kind",
+        "0,deposits,1,1\n",
+        "",
+        "record 1: bad record",
+        2,
+    ),
+    (
+        "an amount of 2^32",
+        "0,deposit,1,4294967296\n",
+        "",
+        "record 1: bad record",
+        2,
+    ),
+    (
+        "a withdrawal of 2^32",
+        "0,withdraw,1,4294967296\n",
+        "",
+        "record 1: bad record",
+        2,
+    ),
+    (
+        "a transfer of 2^48",
+        "0,transfer,1,2,281474976710656\n",
+        "",
+        "record 1: bad record",
+        2,
+    ),
+    (
+        "account 65536",
+        "0,deposit,65536,1\n",
+        "",
+        "record 1: bad record",
+        2,
+    ),
+    (
+        "a withdrawal from account 65536",
+        "0,withdraw,65536,1\n",
+        "",
+        "record 1: bad record",
+        2,
+    ),
+    (
+        "a transfer from account 65536",
+        "0,transfer,65536,1,1\n",
+        "",
+        "record 1: bad record",
+        2,
+    ),
+    (
+        "a transfer to account 65536",
+        "0,transfer,1,65536,1\n",
+        "",
+        "record 1: bad record",
+        2,
+    ),
+    (
+        "producer 16",
+        "16,deposit,1,1\n",
+        "",
+        "record 1: bad record",
+        2,
+    ),
+    (
+        "producer 16 withdraws",
+        "16,withdraw,1,1\n",
+        "",
+        "record 1: bad record",
+        2,
+    ),
+    (
+        "producer 16 transfers",
+        "16,transfer,1,1,1\n",
+        "",
+        "record 1: bad record",
+        2,
+    ),
+    ("a sign", "0,deposit,+1,1\n", "", "record 1: bad record", 2),
+    (
+        "an empty number",
+        "0,deposit,,1\n",
+        "",
+        "record 1: bad record",
+        2,
+    ),
+    ("a space", "0, deposit,1,1\n", "", "record 1: bad record", 2),
+    (
+        "2^64 + 1",
+        "0,deposit,18446744073709551617,1\n",
+        "",
+        "record 1: bad record",
+        2,
+    ),
+    (
+        "one empty quoted field",
+        "\"\"\n",
+        "",
+        "record 1: bad record",
+        2,
+    ),
+    (
+        "the first of two bad records",
+        "0,deposit,1,1\n\n0,deposit,2,x\n9\n",
+        "",
+        "record 2: bad record",
+        2,
+    ),
+    (
+        "the last record",
+        "0,deposit,1,1\n1,withdraw,1,1\n2,transfer,1,1,1\n3,pay,1,1\n",
+        "",
+        "record 4: bad record",
+        2,
+    ),
+];
+
+fn line_of(alloc: Global, ended: &Result<(), ReplayFault>) -> Result<String, Fail> {
+    match ended {
+        Ok(()) => Ok(String::new(alloc)),
+        Err(fault) => Ok(fault.to_string(alloc)?),
+    }
+}
+
+fn status_of(ended: &Result<(), ReplayFault>) -> u8 {
+    match ended {
+        Ok(()) => 0,
+        Err(fault) => fault.status(),
+    }
+}
+
+fn check(rt: &impl Abort, alloc: Global, rows: &[Row], size: u64) -> Result<(), Fail> {
+    for (name, input, output, fault, status) in rows {
+        let mut reader = Counted::new(input.as_bytes());
+        let mut writer = Counted::new(Vec::new(alloc));
+        let result = replay_plain(alloc, &mut reader, &mut writer, Size::new(size)?);
+        let written = writer.into_inner();
+        let line = line_of(alloc, &result)?;
+        assert_eq!(rt; written.as_slice(), output.as_bytes(), "output of {name}");
+        assert_eq!(rt; line.as_str(), *fault, "fault of {name}");
+        assert_eq!(rt; status_of(&result), *status, "status of {name}");
+    }
+    Ok(())
+}
+
+#[test]
+fn worked_files_at_each_size(rt: HostRuntime) -> Result<(), Fail> {
+    for size in [1, 2, 1024] {
+        check(&rt, rt.alloc(), WORKED.as_slice(), size)?;
+    }
+    Ok(())
+}
+
+#[test]
+fn files_at_fault(rt: HostRuntime) -> Result<(), Fail> {
+    check(&rt, rt.alloc(), AT_FAULT.as_slice(), 2)
+}
+
+// A hundred thousand operations of all kinds over a thousand accounts.
+fn many_operations(alloc: Global) -> Result<String, Fail> {
+    let mut text = String::new(alloc);
+    for k in 0..100_000u64 {
+        let producer = k % 16;
+        let account = k % 1000;
+        let other = 7 * k % 1000;
+        let amount = 1 + k % 97;
+        match k % 3 {
+            0 => writeln!(text, "{producer},deposit,{account},{amount}")?,
+            1 => writeln!(text, "{producer},withdraw,{other},{amount}")?,
+            _ => writeln!(text, "{producer},transfer,{account},{other},{amount}")?,
+        }
+    }
+    Ok(text)
+}
+
+fn report_at(alloc: Global, input: &str, size: u64) -> Result<Vec<u8>, Fail> {
+    let mut reader = Counted::new(input.as_bytes());
+    let mut writer = Counted::new(Vec::new(alloc));
+    replay_plain(alloc, &mut reader, &mut writer, Size::new(size)?)?;
+    Ok(writer.into_inner())
+}
+
+#[test]
+fn every_size_gives_the_same_bytes(rt: HostRuntime) -> Result<(), Fail> {
+    let alloc = rt.alloc();
+    let input = many_operations(alloc)?;
+    let one = report_at(alloc, input.as_str(), 1)?;
+    let two = report_at(alloc, input.as_str(), 2)?;
+    let greatest = report_at(alloc, input.as_str(), 65536)?;
+    assert!(rt;
+        one.as_slice()
+            .starts_with(b"journal 100000\n0,0,deposit,0,1\n".as_slice())
+    );
+    assert!(rt; one.as_slice() == two.as_slice());
+    assert!(rt; one.as_slice() == greatest.as_slice());
+    Ok(())
+}

@@ -1,0 +1,88 @@
+//! Replays whose reader or writer fails at its k-th call.
+
+use crate::tests::failing::{Failing, Slow};
+use crate::{Counted, ReplayFault, replay_plain};
+use dr_seq::Size;
+use std::alloc::Global;
+use std::process::Abort;
+use std::test::Fail;
+
+const INPUT: &str = "0,deposit,1,100\n0,withdraw,1,40\n";
+
+const OUTPUT: &str =
+    "journal 2\n0,0,deposit,1,100\n1,0,withdraw,1,40\nreplica 2\n0001000100000064\n0002000100000028\nbusiness 2\n1,60,0\n";
+
+#[test]
+fn reads_that_fail(rt: HostRuntime) -> Result<(), Fail> {
+    let alloc = rt.alloc();
+    for fails_at in 1..6 {
+        let mut reader = Counted::new(Failing {
+            left: INPUT.as_bytes(),
+            calls: 0,
+            fails_at,
+        });
+        let mut writer = Counted::new(Vec::new(alloc));
+        let result = replay_plain(alloc, &mut reader, &mut writer, Size::new(2)?);
+        let output = writer.into_inner();
+        if fails_at < 4 {
+            assert!(rt; matches!(&result, Err(ReplayFault::Read)));
+            assert!(rt; reader.faults() == 1 && output.is_empty());
+        } else {
+            assert!(rt; result.is_ok() && reader.faults() == 0);
+            assert!(rt; output.as_slice() == OUTPUT.as_bytes());
+        }
+    }
+    Ok(())
+}
+
+fn write_that_fails(
+    rt: &impl Abort,
+    alloc: Global,
+    fails_at: u64,
+    takes_nothing: bool,
+) -> Result<(), Fail> {
+    let mut reader = Counted::new(INPUT.as_bytes());
+    let mut writer = Counted::new(Slow {
+        taken: Vec::new(alloc),
+        calls: 0,
+        fails_at,
+        takes_nothing,
+    });
+    let result = replay_plain(alloc, &mut reader, &mut writer, Size::new(2)?);
+    let faults = writer.faults();
+    let slow = writer.into_inner();
+    let whole = OUTPUT.as_bytes();
+    if fails_at <= whole.len() as u64 {
+        assert!(rt; matches!(&result, Err(ReplayFault::Write)));
+        assert!(rt; faults == 1 && slow.calls == fails_at);
+        assert!(rt; whole.starts_with(slow.taken.as_slice()));
+        assert!(rt; slow.taken.len() as u64 + 1 == fails_at);
+    } else {
+        assert!(rt; result.is_ok() && faults == 0);
+        assert!(rt; slow.taken.as_slice() == whole);
+    }
+    Ok(())
+}
+
+#[test]
+fn writes_that_fail(rt: HostRuntime) -> Result<(), Fail> {
+    for fails_at in 1..113 {
+        write_that_fails(&rt, rt.alloc(), fails_at, false)?;
+        write_that_fails(&rt, rt.alloc(), fails_at, true)?;
+    }
+    Ok(())
+}
+
+// The text and the status of the faults of reading, writing and memory.
+#[test]
+fn lines_of_faults(rt: HostRuntime) -> Result<(), Fail> {
+    let alloc = rt.alloc();
+    let read = ReplayFault::Read;
+    let write = ReplayFault::Write;
+    let memory = ReplayFault::Memory;
+    assert_eq!(rt; read.to_string(alloc)?.as_str(), "cannot read");
+    assert_eq!(rt; write.to_string(alloc)?.as_str(), "cannot write");
+    assert_eq!(rt; memory.to_string(alloc)?.as_str(), "no-memory");
+    assert!(rt; read.status() == 4 && write.status() == 4 && memory.status() == 3);
+    Ok(())
+}
