@@ -1,0 +1,6 @@
+pub mod Shape
+pub mod Words
+pub mod Ends
+pub mod Kept
+pub mod Steps
+pub mod Moments
