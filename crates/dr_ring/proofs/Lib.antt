@@ -4,3 +4,6 @@ pub mod Stores
 pub mod Machine
 pub mod Pictures
 pub mod Opening
+pub mod Seats
+pub mod Allowed
+pub mod Plans
