@@ -7,3 +7,8 @@ pub mod Opening
 pub mod Seats
 pub mod Allowed
 pub mod Plans
+pub mod Rounds
+pub mod Marks
+pub mod Fields
+pub mod Claims
+pub mod Polls

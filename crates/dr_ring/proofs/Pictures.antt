@@ -107,7 +107,7 @@ same_picture : (k : Shape) (w : World) (h : ℕ) (r q : ReceiverRecord) → get_
 same_picture k w h r q at same = ap (λ (t : List ℕ). shown (claimed w.sender) (values_of w.sender.published w.sender.pending) (word_at w.words cursor_word) t (counts_of k w.words) (word_at w.words halt_word == 1)) (same_taken w h r q at same)
 
 -- there is a final handler
-some_final : (k : Shape) → IsGraph k.upstreams → 0 < length (finals k.upstreams)
+pub some_final : (k : Shape) → IsGraph k.upstreams → 0 < length (finals k.upstreams)
 some_final k graph =
     let g : IsGated k.upstreams (λ h. 0) 0 = graph.gate (λ h. 0) (λ h u has. omega arith) 0 graph.some in
     let has : Contains (finals k.upstreams) g.last = g.is_final in let lt = has.1 in omega arith

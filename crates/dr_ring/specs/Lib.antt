@@ -6,3 +6,6 @@ pub mod Kept
 pub mod Steps
 pub mod Moments
 pub mod Seats
+pub mod Calls
+pub mod Fits
+pub mod Parts

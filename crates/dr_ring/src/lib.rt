@@ -7,6 +7,16 @@
 //! steps.
 #![tactic(auto)]
 
+pub mod halter;
 pub mod laws;
+mod parts;
 pub mod plan;
+pub mod receiver;
 pub mod record;
+mod ring;
+pub mod sender;
+
+pub use halter::Halter;
+pub use plan::Plan;
+pub use receiver::Receiver;
+pub use sender::Sender;
