@@ -11,7 +11,7 @@ use Rattle.dr_core.specs.Graph.{finals}
 use Rattle.dr_core.specs.Machine.{Setup, State, Outcome, handlers, next, front, available, least_completed, refusals, accepted, unchanged, step, batch, cursor, opening}
 use Rattle.dr_core.specs.Transcript.{Entry, Transcript, LeadsFrom, LeadsTo, next_of, is_published, front_of, taken_by, completed_by}
 use Rattle.dr_core.specs.Laws.{ReceivedInOrder, AfterUpstreams, HasRoom, NoClaimAfterHalt, DrainedIsComplete, Laws}
-use Rattle.dr_core.proofs.Least.{least_is, least_agree, least_of-le}
+use Rattle.dr_core.proofs.Leasts.{least_is, least_agree, least_of-le}
 use Rattle.dr_core.proofs.Steps.{NoneHold, unless-cases}
 use Rattle.dr_core.proofs.Tells.{Tells, tells_more}
 use Rattle.dr_core.proofs.Sound.{IsSound, entry_of, step_changes, set_count}

@@ -6,11 +6,24 @@
 #![tactic(auto)]
 
 pub mod command;
+pub mod engine;
+pub mod handler;
 pub mod lawful;
+mod least;
 pub mod mode;
+pub mod open_fault;
 pub mod refusal;
+pub mod runs;
+mod slot_state;
 
 pub use command::{Claimed, Command, Polled, Reply};
+pub use engine::{Core, MAX_LIMIT, MAX_PRODUCERS};
+pub use handler::{Handler, processor_turn};
 pub use lawful::every_transcript_is_lawful;
 pub use mode::Mode;
+pub use open_fault::OpenFault;
 pub use refusal::Refusal;
+pub use runs::{Ran, run};
+
+#[cfg(test)]
+mod tests;

@@ -1,10 +1,12 @@
 -- What follows from a number's being a ring's size.
-use Rattle.std.proofs.Common.{◌≡◌, ℕ, ◌-◌, ◌*◌, ◌%◌, ◌^◌, ◌<◌, ◌≤◌, inl, inr, arith, sym, subst, suc, lit<}
+use Rattle.std.proofs.Common.{◌≡◌, ℕ, ◌-◌, ◌*◌, ◌/◌, ◌%◌, ◌^◌, ◌<◌, ◌≤◌, inl, inr, arith, sym, ap, subst, suc, lit<}
 use Rattle.std.specs.Prelude.{bit_and}
 use Rattle.std.proofs.Math.Pow.{pow_mono}
 use Rattle.std.proofs.Math.Nat.{pow-succ', one-mul, mod-eq_of_lt}
 use Rattle.std.proofs.lemmas.Nat.{and_mask}
-use Rattle.std.proofs.lemmas.Bool.{cases_lt}
+use Rattle.std.proofs.lemmas.Nat.Bits.{bit_at-trailing_zeros, bit_at-pow_other}
+use Rattle.std.specs.Int.{trailing_zeros, w64, bit_at}
+use Rattle.std.proofs.lemmas.Bool.{cases_lt, cases_eq}
 use Rattle.dr_seq.specs.Size.{IsSize}
 
 -- a ring has a slot at least
@@ -35,3 +37,26 @@ exponent_small k small = elim (cases_lt 16 k) [
 -- a small power of two, as a shift gives it
 pub shifted : (k : ℕ) → 2 ^ k ≤ 65536 → (1 * 2 ^ k) % 2 ^ 64 ≡ 2 ^ k
 shifted k small = rw (one-mul) (mod-eq_of_lt (let fits : 65536 < 2 ^ 64 = lit< tt in omega arith))
+
+-- the lowest bit of a power of two is its exponent
+trailing_zeros-pow : (k : ℕ) → k ≤ 16 → trailing_zeros w64 (2 ^ k) ≡ k
+trailing_zeros-pow k small =
+    let low : 2 ^ 0 ≤ 2 ^ k = pow_mono {i = 0} {j = k} (omega arith) in
+    let high : 2 ^ k ≤ 2 ^ 16 = pow_mono {i = k} {j = 16} small in
+    let fits : 2 ^ k < 2 ^ 64 = (let far : 2 ^ 16 < 2 ^ 64 = lit< tt in omega arith) in
+    let found = bit_at-trailing_zeros w64 (2 ^ k) (omega arith) fits in
+    elim (cases_eq (trailing_zeros w64 (2 ^ k)) k) [
+      | inl same ↦ same
+      | inr other ↦ absurd (let none : bit_at (2 ^ k) (trailing_zeros w64 (2 ^ k)) ≡ 0 = bit_at-pow_other k (trailing_zeros w64 (2 ^ k)) other in let one : bit_at (2 ^ k) (trailing_zeros w64 (2 ^ k)) ≡ 1 = found.1 in omega arith)
+    ]
+
+-- the shift finds the quotient
+pub shift_is_quotient : (n s : ℕ) → IsSize n → s / 2 ^ trailing_zeros w64 n ≡ s / n
+shift_is_quotient n s is =
+    let P : ℕ → Type 0 = λ m. s / 2 ^ trailing_zeros w64 m ≡ s / m in
+    subst P (sym is.2) (ap (λ k. s / 2 ^ k) (trailing_zeros-pow is.0 is.1))
+
+pub shift_small : (n : ℕ) → IsSize n → trailing_zeros w64 n < 64
+shift_small n is =
+    let P : ℕ → Type 0 = λ m. trailing_zeros w64 m < 64 in
+    subst P (sym is.2) (let same : trailing_zeros w64 (2 ^ is.0) ≡ is.0 = trailing_zeros-pow is.0 is.1 in let small : is.0 ≤ 16 = is.1 in omega arith)

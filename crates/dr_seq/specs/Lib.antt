@@ -1,3 +1,4 @@
 pub mod Event
 pub mod Size
 pub mod Slots
+pub mod Rounds

@@ -1,11 +1,19 @@
 //! What a sequence number means to a ring of slots. [`Size`] is how many slots a ring has and
-//! where a sequence lies in it, [`Slots`] holds an [`Event`] a slot.
+//! where a sequence lies in it, [`Slots`] holds an [`Event`] a slot, [`Rounds`] knows which sequences
+//! are marked, and [`GateCache`] remembers the least count of the handlers that a claim waits for.
 #![tactic(auto)]
 
 pub mod event;
+pub mod gate_cache;
+pub mod rounds;
 pub mod size;
 pub mod slots;
 
 pub use event::Event;
+pub use gate_cache::GateCache;
+pub use rounds::Rounds;
 pub use size::{Size, SizeFault};
 pub use slots::Slots;
+
+#[cfg(test)]
+mod tests;

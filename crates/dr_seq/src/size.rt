@@ -51,6 +51,7 @@ impl Size {
     }
 
     /// How many slots there are.
+    #[inline]
     pub fn get(&self) -> u64
         ensures value { result ≡ self.now }
         ensures size { IsSize result }
@@ -59,17 +60,20 @@ impl Size {
     }
 
     /// The slot of a sequence: its remainder by the size, found by a mask.
+    #[inline]
     pub fn slot(&self, s: u64) -> usize
         ensures { result ≡ s % self.now }
     {
         (s & (self.slots - 1)) as usize
     }
 
-    /// How many times the ring was gone round before a sequence: its quotient by the size.
+    /// How many times the ring was gone round before a sequence: its quotient by the size, found
+    /// by a shift.
+    #[inline]
     pub fn round(&self, s: u64) -> u64
         ensures { result ≡ s / self.now }
     {
-        s / self.slots
+        s >> self.slots.trailing_zeros()
     }
 }
 

@@ -39,13 +39,16 @@ impl Slots {
     }
 
     /// Puts an event into the slot of a sequence, in place of what lay there.
+    #[inline]
     pub fn put(&mut self, s: u64, event: Event)
         ensures { self.new ≡ slice_set self.old (s % length self.old) event }
     {
-        self.events[self.size.slot(s)] = event;
+        let slot = self.size.slot(s);
+        self.events[slot] = event;
     }
 
     /// The event in the slot of a sequence.
+    #[inline]
     pub fn get(&self, s: u64) -> Event
         ensures { result ≡ event_at self.now s }
     {

@@ -1,7 +1,9 @@
 -- Laws of the least number outside a set, and of the least of some numbers.
-use Rattle.std.proofs.Common.{◌≡◌, ℕ, zero, suc, ◌<◌, ◌≤◌, inl, inr, Bool, true, false, ◌&&◌, List, [], ◌∷◌, arith, sym, ◌∙◌}
+use Rattle.std.proofs.Common.{◌≡◌, ℕ, zero, suc, ◌+◌, ◌<◌, ◌≤◌, inl, inr, min, Bool, true, false, ◌&&◌, List, [], ◌∷◌, ◌++◌, arith, refl, ap, sym, ◌∙◌, map, take}
+use Rattle.std.proofs.lemmas.Bool.Decides.{nat_tests}
+use Rattle.std.proofs.lemmas.List.{map_more, length-map, length-take-le, get_or-map}
 use Rattle.std.proofs.lemmas.Bool.{cond_both, and_parts, and_cases, eqb-true, eqb-false, false≢true, cases_order, cases_lt}
-use Rattle.std.specs.Prelude.{◌==◌, get_or, length}
+use Rattle.std.specs.Prelude.{◌==◌, if◌then◌else◌, get_or, length, Contains}
 use Rattle.dr_core.specs.Machine.{least_outside, least_of}
 
 -- what the answer is: all below it are in the set, and it is not, unless it is the bound
@@ -71,3 +73,26 @@ least_of-le (n ∷ []) zero h = omega arith
 least_of-le (n ∷ []) (suc k) h = absurd (omega arith)
 least_of-le (n ∷ m ∷ ms) zero h = omega arith
 least_of-le (n ∷ m ∷ ms) (suc k) h = (let e : least_of (m ∷ ms) ≤ get_or (m ∷ ms) k 0 = least_of-le (m ∷ ms) k (omega arith) in omega arith)
+
+least_of-push_cons : (x : ℕ) (xs : List ℕ) (n : ℕ) → least_of ((x ∷ xs) ++ n ∷ []) ≡ min (least_of (x ∷ xs)) n
+least_of-push_cons x [] n = refl
+least_of-push_cons x (y ∷ ys) n = ap (λ k. min x k) (least_of-push_cons y ys n) ∙ omega arith
+
+-- one more number is the least where it is below the least of the others, or the first
+pub least_of-push : (xs : List ℕ) (n : ℕ) → least_of (xs ++ n ∷ []) ≡ (if length xs == 0 then n else min (least_of xs) n)
+least_of-push [] n = refl
+least_of-push (x ∷ xs) n = cond_both (length (x ∷ xs) == 0) n (min (least_of (x ∷ xs)) n) (λ r. least_of ((x ∷ xs) ++ n ∷ []) ≡ r) (λ y. absurd (grind (arith, nat_tests, y))) (λ f. least_of-push_cons x xs n)
+
+-- the least of the first counts of a list, with one more
+pub least_of-more : (f : ℕ → ℕ) (xs : List ℕ) (i : ℕ) → i < length xs → least_of (map f (take (i + 1) xs)) ≡ (if i == 0 then f (get_or xs i 0) else min (least_of (map f (take i xs))) (f (get_or xs i 0)))
+least_of-more f xs i l =
+    ap least_of (map_more f xs i 0 l) ∙ least_of-push (map f (take i xs)) (f (get_or xs i 0))
+    ∙ ap (λ n. if n == 0 then f (get_or xs i 0) else min (least_of (map f (take i xs))) (f (get_or xs i 0))) (length-map (take i xs) f ∙ length-take-le i xs (omega arith))
+
+-- the least of some handlers' counts is no more than any of theirs
+pub least_of-member : (counts : ℕ → ℕ) (hs : List ℕ) (h : ℕ) → Contains hs h → least_of (map counts hs) ≤ counts h
+least_of-member counts hs h has =
+    let a : least_of (map counts hs) ≤ get_or (map counts hs) has.0 0 = least_of-le (map counts hs) has.0 (rw length-map (has.1)) in
+    let b : get_or (map counts hs) has.0 0 ≡ counts (get_or hs has.0 h) = get_or-map counts hs has.0 h 0 has.1 in
+    let d : get_or hs has.0 h ≡ h = has.2 in
+    rw d at (rw b at a)

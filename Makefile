@@ -1,0 +1,19 @@
+# `make` builds ./disruptor and runs the shipped example; `make test` is the whole gate.
+program := crates/disruptor
+
+.PHONY: all run test clean
+
+all: disruptor run
+
+disruptor: crates.txt $(shell find crates -name '*.rt' -o -name '*.antt' | grep -v /out/)
+	cd $(program) && rt run > /dev/null
+	cp $(program)/out/disruptor $@
+
+run: disruptor
+	./disruptor drive examples/first_event.csv
+
+test:
+	rt ci
+
+clean:
+	rm -rf disruptor crates/*/out

@@ -1,0 +1,175 @@
+-- A call of the core is the machine's step, on each state that the core shows.
+use Rattle.std.proofs.Common.{◌≡◌, ℕ, ◌+◌, ◌-◌, ◌<◌, ◌≤◌, ◌≢◌, ◌⊎◌, inl, inr, Bool, true, false, List, [], ◌∷◌, ◌++◌, arith, refl, ap, ◌∙◌, length, map, min, get_or, replicate, slice_index, slice_set}
+use Rattle.std.proofs.lemmas.Bool.{cond-true, cond-false, or_from, cases_lt, lt-leb, le-ltb, ne_eqb}
+use Rattle.std.proofs.lemmas.List.{length-append, length-replicate, get_or_append_left, get_or-append_right, get_or-replicate}
+use Rattle.std.specs.Prelude.{All, ◌==◌, ◌||◌, nat_lt}
+use Rattle.std.specs.List.{range_with_len}
+use Rattle.std.proofs.lemmas.List.Elements.{All-filter}
+use Rattle.std.proofs.lemmas.List.FromFn.{length-range_with_len, get_or-range_with_len, get_or-map-range_with_len}
+use Rattle.dr_core.specs.declared.command.Command.{Command}
+use Rattle.dr_core.specs.declared.command.Command.TheVariants.{Claim, Complete, Halt}
+use Rattle.dr_core.specs.declared.command.Reply.{Reply}
+use Rattle.dr_core.specs.declared.command.Reply.TheVariants.{Claimed, Completed, Halting, Refused}
+use Rattle.dr_core.specs.declared.refusal.Refusal.{Refusal}
+use Rattle.dr_core.specs.declared.refusal.Refusal.TheVariants.{BadCount}
+use Rattle.dr_seq.specs.declared.event.Event.{Event}
+use Rattle.dr_core.specs.Graph.{is_final, finals, IsGated}
+use Rattle.dr_core.specs.Machine.{State, Outcome, handlers, producers, next, front, least_of, refusals, accepted, unless, unchanged}
+use Rattle.dr_core.specs.CoreView.{Known, Nothing, ClaimedBy, CoreView, recent_of, known_at}
+use Rattle.dr_core.specs.Shows.{Shows, IsStep}
+use Rattle.dr_core.specs.Inside.{IsWhole}
+use Rattle.dr_core.proofs.Leasts.{IsLeast, least_is, least_one, least_of-member}
+use Rattle.dr_core.proofs.Steps.{NoneHold}
+
+unless-none : (tests : List (Bool × Refusal)) (m : State) (o : Outcome) → NoneHold tests → unless tests m o ≡ o
+unless-none [] m o h = refl
+unless-none (test ∷ tests) m o h = cond-false test.0 _ _ h.0 ∙ unless-none tests m o h.1
+
+-- where no test holds, what is to show is of the accepted command
+pub accepted_step : (old new : CoreView) (command : Command) (reply : Reply) (values : List Event) → new.setup ≡ old.setup
+    → ((m : State) → Shows old m → NoneHold (refusals old.setup m command))
+    → ((m : State) → Shows old m → (accepted old.setup m command).reply ≡ reply)
+    → ((m : State) → Shows old m → (accepted old.setup m command).values ≡ values)
+    → ((m : State) → Shows old m → Shows new (accepted old.setup m command).state)
+    → IsStep old command reply values new
+accepted_step old new command reply values same none replies gives shows =
+    let is = λ (m : State) (sh : Shows old m). unless-none (refusals old.setup m command) m (accepted old.setup m command) (none m sh) in
+    record {
+      same_setup = same;
+      replies = λ m sh. ap (λ o. o.reply) (is m sh) ∙ replies m sh;
+      hands_out = λ m sh. ap (λ o. o.values) (is m sh) ∙ gives m sh;
+      shown = λ m sh. rw (is m sh) (shows m sh);
+    }
+
+-- the first test that holds has this refusal
+abbrev pub Refuses : Refusal → List (Bool × Refusal) → Type 0
+Refuses r [] = ⊥
+Refuses r (test ∷ tests) = ((test.0 ≡ true) × (test.1 ≡ r)) ⊎ ((test.0 ≡ false) × Refuses r tests)
+
+unless-refused : (r : Refusal) (tests : List (Bool × Refusal)) (m : State) (o : _) → Refuses r tests → unless tests m o ≡ unchanged (Refused r) m
+unless-refused r [] m o h = absurd h
+unless-refused r (test ∷ tests) m o (inl h) = cond-true test.0 _ _ h.0 ∙ ap (λ x. unchanged (Refused x) m) h.1
+unless-refused r (test ∷ tests) m o (inr h) = cond-false test.0 _ _ h.0 ∙ unless-refused r tests m o h.1
+
+pub refused_step : (v : CoreView) (command : Command) (r : Refusal) → ((m : State) → Shows v m → Refuses r (refusals v.setup m command)) → IsStep v command (Refused r) [] v
+refused_step v command r refuses =
+    let is = λ (m : State) (sh : Shows v m). unless-refused r (refusals v.setup m command) m (accepted v.setup m command) (refuses m sh) in
+    record {
+      same_setup = refl;
+      replies = λ m sh. ap (λ o. o.reply) (is m sh);
+      hands_out = λ m sh. ap (λ o. o.values) (is m sh);
+      shown = λ m sh. rw (is m sh) sh;
+    }
+
+pub halt_step : (v : CoreView) → IsStep v Halt Halting [] (record v { halted = true })
+halt_step v =
+    accepted_step v (record v { halted = true }) Halt Halting [] refl (λ m sh. tt) (λ m sh. refl) (λ m sh. refl)
+    (λ m sh. record { next = sh.next; front = sh.front; taken = sh.taken; completed = sh.completed; halted = refl; recent = sh.recent; unclaimed = sh.unclaimed })
+
+pub complete_step : (v : CoreView) (h upto : ℕ) → h < handlers v.setup → slice_index v.completed h ≤ upto → upto ≤ slice_index v.taken h
+    → IsStep v (Complete h upto) Completed [] (record v { completed = slice_set v.completed h upto })
+complete_step v h upto inside up low =
+    accepted_step v (record v { completed = slice_set v.completed h upto }) (Complete h upto) Completed [] refl
+    (λ m sh. (lt-leb _ _ inside, (rw (sh.completed) (le-ltb _ _ up), (rw (sh.taken) (le-ltb _ _ low), tt))))
+    (λ m sh. refl)
+    (λ m sh. refl)
+    (λ m sh. record { next = sh.next; front = sh.front; taken = sh.taken; completed = ap (λ ns. slice_set ns h upto) sh.completed; halted = sh.halted; recent = sh.recent; unclaimed = sh.unclaimed })
+
+-- the owners after a claim
+owner_before : (owners : List ℕ) (n p s : ℕ) → s < length owners → slice_index (owners ++ replicate n p) s ≡ slice_index owners s
+owner_before owners n p s l = get_or_append_left owners (replicate n p) 0 s l
+
+owner_after : (owners : List ℕ) (n p s : ℕ) → length owners ≤ s → s < length owners + n → slice_index (owners ++ replicate n p) s ≡ p
+owner_after owners n p s l g = get_or-append_right owners (replicate n p) (length owners) s 0 refl l ∙ get_or-replicate n (s - length owners) p 0 (omega arith)
+
+-- a recent sequence is found among the last claimed
+pub known_at-recent : (known : ℕ → Known) (next size s : ℕ) → s < next → next ≤ s + size → get_or (recent_of known next size) (s - (next - size)) Nothing ≡ known s
+known_at-recent known next size s claimed near = get_or-map-range_with_len known (next - size) (min next size) (s - (next - size)) s Nothing (omega arith) (omega arith)
+
+-- what a claim leaves known: the fresh sequences are claimed, and of the others as much as before
+pub record ClaimsKnown (v : CoreView) (p n : ℕ) (known : ℕ → Known) : Type 0 where
+  pub fresh : (s : ℕ) → v.next ≤ s → s < v.next + n → known s ≡ ClaimedBy p
+  pub kept : (s : ℕ) → s < v.next → v.next + n ≤ s + v.setup.size → known s ≡ known_at v s
+
+module _ (v : CoreView) (p n : ℕ) (known : ℕ → Known) (knows : ClaimsKnown v p n known) where
+  claimed_shows : n ≤ v.setup.size → (m : State) → Shows v m → Shows (record v { next = v.next + n; recent = recent_of known (v.next + n) v.setup.size }) (accepted v.setup m (Claim p n)).state
+  claimed_shows fits m sh =
+      let here : length m.owners ≡ v.next = sh.next in
+      let least : IsLeast m.published (length m.owners) (front m) = least_is m.published (length m.owners) in
+      let more : length (m.owners ++ replicate n p) ≡ v.next + n = length-append m.owners (replicate n p) ∙ ap (λ k. length m.owners + k) (length-replicate n p) ∙ ap (λ k. k + n) here in
+      record {
+        next = more;
+        front = least_one m.published (length (m.owners ++ replicate n p)) _ _ (least_is m.published (length (m.owners ++ replicate n p)))
+            (record {
+              within = (let w : front m ≤ length m.owners = least.within in let f : front m ≡ v.front = sh.front in omega arith);
+              below = λ k l. least.below k (let f : front m ≡ v.front = sh.front in omega arith);
+              here = λ l. elim (cases_lt v.front v.next) [
+                | inl lt ↦ (let f : front m ≡ v.front = sh.front in rw f at (least.here (omega arith)))
+                | inr ge ↦ (sh.unclaimed v.front ge).0
+              ];
+            });
+        taken = sh.taken;
+        completed = sh.completed;
+        halted = sh.halted;
+        recent = λ s l r. rw (known_at-recent known (v.next + n) v.setup.size s l r) (elim (cases_lt s v.next) [
+          | inl old ↦ (let owner : slice_index (m.owners ++ replicate n p) s ≡ slice_index m.owners s = owner_before m.owners n p s (omega arith) in rw (knows.kept s old r, owner) (sh.recent s old (omega arith)))
+          | inr fresh ↦ rw (knows.fresh s fresh l) (owner_after m.owners n p s (omega arith) (omega arith), (sh.unclaimed s fresh).0, (sh.unclaimed s fresh).1)
+        ]);
+        unclaimed = λ s g. sh.unclaimed s (omega arith);
+      }
+
+  pub claim_step : p < producers v.setup.mode → n ≢ 0 → n ≤ v.setup.size → v.halted ≡ false → v.next + n ≤ v.setup.limit
+      → v.next + n ≤ v.setup.size + least_of (map (λ h. slice_index v.completed h) (finals v.setup.upstreams))
+      → IsStep v (Claim p n) (Claimed v.next (v.next + n - 1)) [] (record v { next = v.next + n; recent = recent_of known (v.next + n) v.setup.size })
+  claim_step producer some fits going limit room =
+      accepted_step v (record v { next = v.next + n; recent = recent_of known (v.next + n) v.setup.size }) (Claim p n) (Claimed v.next (v.next + n - 1)) [] refl
+      (λ m sh. let here : next m ≡ v.next = sh.next in (
+        lt-leb _ _ producer,
+        (
+          or_from _ _ (ne_eqb n 0 some) (le-ltb _ _ fits),
+          (
+            sh.halted ∙ going,
+            (
+              rw here (le-ltb _ _ limit),
+              (rw (here, sh.completed) (le-ltb _ _ room), tt),
+            ),
+          ),
+        ),
+      ))
+      (λ m sh. let here : next m ≡ v.next = sh.next in rw here)
+      (λ m sh. refl)
+      (claimed_shows fits)
+
+-- the least of the finals' counts is the least of all
+pub finals_least : (v : CoreView) → IsWhole v → (h : ℕ) → h < handlers v.setup → least_of (map (λ f. slice_index v.completed f) (finals v.setup.upstreams)) ≤ slice_index v.completed h
+finals_least v whole h inside =
+    let counts : ℕ → ℕ = λ k. slice_index v.completed k in
+    let gate : IsGated v.setup.upstreams counts h =
+    whole.graph.gate counts (λ k u has. (let a : slice_index v.completed k ≤ slice_index v.taken k = whole.took k in let b : slice_index v.taken k ≤ slice_index v.completed u = whole.after k u has in omega arith)) h inside in
+    let low : least_of (map counts (finals v.setup.upstreams)) ≤ slice_index v.completed gate.last = least_of-member counts (finals v.setup.upstreams) gate.last gate.is_final in
+    let behind : slice_index v.completed gate.last ≤ slice_index v.completed h = gate.behind in
+    omega arith
+
+pub claim_whole : (v : CoreView) (n : ℕ) (recent : List Known) → IsWhole v → v.next + n ≤ v.setup.limit → v.next + n ≤ v.setup.size + least_of (map (λ h. slice_index v.completed h) (finals v.setup.upstreams))
+    → IsWhole (record v { next = v.next + n; recent = recent })
+claim_whole v n recent whole limit room = record {
+  graph = whole.graph;
+  size = whole.size;
+  limit = whole.limit;
+  taken = whole.taken;
+  completed = whole.completed;
+  claimed = limit;
+  front = (let f : v.front ≤ v.next = whole.front in omega arith);
+  in_front = whole.in_front;
+  took = whole.took;
+  after = whole.after;
+  room = λ h inside. (let l : least_of (map (λ f. slice_index v.completed f) (finals v.setup.upstreams)) ≤ slice_index v.completed h = finals_least v whole h inside in omega arith);
+}
+
+-- every final is a handler
+pub finals_within : (upstreams : List (List ℕ)) → All (λ h. h < length upstreams) (finals upstreams)
+finals_within upstreams = All-filter (is_final upstreams) (λ h. h < length upstreams) (range_with_len 0 (length upstreams)) (λ k d l. (let n : length (range_with_len 0 (length upstreams)) ≡ length upstreams = length-range_with_len 0 (length upstreams) in let inside : k < length upstreams = omega arith in rw get_or-range_with_len (omega arith)))
+
+-- a claim of none, or of more than the size
+pub claim_bad_count : (v : CoreView) (p n : ℕ) → p < producers v.setup.mode → (n == 0 || nat_lt v.setup.size n) ≡ true → IsStep v (Claim p n) (Refused BadCount) [] v
+claim_bad_count v p n producer bad = refused_step v (Claim p n) BadCount (λ m sh. inr (lt-leb _ _ producer, inl (bad, refl)))

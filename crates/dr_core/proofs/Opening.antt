@@ -1,0 +1,42 @@
+-- A new core shows the opening.
+use Rattle.std.proofs.Common.{◌≡◌, ℕ, ◌≤◌, ◌^◌, List, arith, refl, ap, sym, ◌∙◌, length, replicate, false}
+use Rattle.std.proofs.lemmas.List.{length-replicate}
+use Rattle.dr_seq.specs.Size.{IsSize}
+use Rattle.dr_core.specs.Machine.{Setup, handlers, opening, least_outside}
+use Rattle.dr_core.specs.Graph.{IsGraph}
+use Rattle.dr_core.specs.CoreView.{Known, CoreView}
+use Rattle.dr_core.specs.Shows.{Shows}
+use Rattle.dr_core.specs.Inside.{IsWhole}
+use Rattle.dr_core.proofs.Keeps.{zeros}
+
+-- a core over a graph, as it is opened
+abbrev pub new_core : Setup → List Known → List ℕ → List ℕ → CoreView
+new_core c recent taken completed = record { setup = c; next = 0; front = 0; taken = taken; completed = completed; halted = false; recent = recent }
+
+module _ (c : Setup) (recent : List Known) (taken completed : List ℕ) (none_taken : taken ≡ replicate (handlers c) 0) (none_completed : completed ≡ replicate (handlers c) 0) where
+  pub opening_shows : Shows (new_core c recent taken completed) (opening c)
+  unfolding least_outside
+  opening_shows = record {
+    next = refl;
+    front = refl;
+    taken = sym none_taken;
+    completed = sym none_completed;
+    halted = refl;
+    recent = λ s l r. absurd (omega arith);
+    unclaimed = λ s l. (refl, refl);
+  }
+
+  pub opening_whole : IsGraph c.upstreams → IsSize c.size → c.limit ≤ 2 ^ 62 → IsWhole (new_core c recent taken completed)
+  opening_whole graph size limit = record {
+    graph = graph;
+    size = size;
+    limit = limit;
+    taken = ap length none_taken ∙ length-replicate _ 0;
+    completed = ap length none_completed ∙ length-replicate _ 0;
+    claimed = omega arith;
+    front = omega arith;
+    in_front = λ h. rw (none_taken, zeros (handlers c) h) (omega arith);
+    took = λ h. rw (none_completed, zeros (handlers c) h) (omega arith);
+    after = λ h u has. rw (none_taken, zeros (handlers c) h) (omega arith);
+    room = λ h inside. omega arith;
+  }

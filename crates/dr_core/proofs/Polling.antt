@@ -1,0 +1,241 @@
+-- A poll of the core is the machine's.
+use Rattle.std.proofs.Common.{◌≡◌, ℕ, zero, suc, ◌+◌, ◌-◌, ◌<◌, ◌≤◌, ◌≢◌, inl, inr, min, Bool, true, false, ◌&&◌, List, [], ◌∷◌, ◌++◌, arith, refl, ap, sym, ◌∙◌, length, map, slice_index, slice_set, get_or, take, drop, Option}
+use Rattle.std.specs.Prelude.{◌==◌, nat_le, nat_lt, unwrap_or, if◌then◌else◌, Contains}
+use Rattle.std.specs.List.{range_with_len}
+use Rattle.std.proofs.lemmas.Bool.{cond_both, cond-true, cond-false, cases_Bool, false≢true, cases_eq, cases_lt, lt-leb, lt-ltb, le-ltb, ne_eqb, eq-eqb, and_from}
+use Rattle.std.proofs.lemmas.List.{length-set}
+use Rattle.dr_core.specs.declared.command.Command.TheVariants.{Poll}
+use Rattle.dr_core.specs.declared.command.Reply.{Reply}
+use Rattle.dr_core.specs.declared.command.Reply.TheVariants.{Batch, Drained, Gating, Idle}
+use Rattle.dr_seq.specs.declared.event.Event.{Event}
+use Rattle.dr_seq.specs.Event.{no_event}
+use Rattle.dr_seq.proofs.Sizes.{size_positive}
+use Rattle.dr_core.specs.Graph.{upstreams_of, IsGraph}
+use Rattle.dr_core.specs.Machine.{State, handlers, is_single, next, available, offered, cursor, batch, unchanged, accepted, step, least_of}
+use Rattle.dr_core.specs.CoreView.{Known, Nothing, ClaimedBy, WrittenBy, PublishedWith, CoreView, known_at}
+use Rattle.dr_core.specs.SlotStates.{is_shown, value_of}
+use Rattle.dr_core.specs.Shows.{Shows, Agrees, IsStep, offered_to, poll_reply, polled}
+use Rattle.dr_core.specs.Runs.{count_in}
+use Rattle.dr_core.specs.declared.refusal.Refusal.{Refusal}
+use Rattle.dr_core.specs.declared.command.Polled.{Polled}
+use Rattle.dr_core.specs.declared.command.Polled.TheVariants as answer
+use Rattle.std.proofs.Common.{Result, Ok, Err}
+use Rattle.std.proofs.lemmas.List.{take-append-le, length-take-le}
+use Rattle.dr_core.specs.Inside.{IsWhole}
+use Rattle.dr_core.proofs.CoreSteps.{accepted_step}
+use Rattle.dr_core.proofs.Leasts.{least_of-le}
+use Rattle.std.proofs.lemmas.Bool.{eqb-true, leb-false}
+use Rattle.dr_core.proofs.Sound.{set_count}
+use Rattle.dr_core.proofs.Writing.{below_front}
+use Rattle.std.proofs.Common.{Vec, Global}
+use Rattle.std.specs.Prelude.{All}
+use Rattle.std.proofs.lemmas.List.Elements.{Contains-get_or}
+use Rattle.std.proofs.lemmas.List.{get_or-map, length-map, get_or_past, get_or_read}
+
+-- what is offered by the core is what the machine offers
+offered_same : (v : CoreView) (m : State) → Shows v m → (ups : List ℕ) → offered m ups ≡ offered_to v ups
+offered_same v m sh [] = sh.front
+offered_same v m sh (u ∷ us) = ap (λ cs. least_of (map (λ h. slice_index cs h) (u ∷ us))) sh.completed
+
+-- no more than is published, and than each upstream completed
+offered_front : (v : CoreView) → IsWhole v → (ups : List ℕ) → offered_to v ups ≤ v.front
+offered_front v whole [] = omega arith
+offered_front v whole (u ∷ us) =
+    let a : least_of (map (λ h. slice_index v.completed h) (u ∷ us)) ≤ slice_index v.completed u = least_of-le (map (λ h. slice_index v.completed h) (u ∷ us)) 0 (omega arith) in
+    let b : slice_index v.completed u ≤ slice_index v.taken u = whole.took u in
+    let d : slice_index v.taken u ≤ v.front = whole.in_front u in
+    omega arith
+
+offered_upstream : (v : CoreView) (ups : List ℕ) (u : ℕ) → Contains ups u → offered_to v ups ≤ slice_index v.completed u
+offered_upstream v [] u has = absurd (let l : has.0 < 0 = has.1 in omega arith)
+offered_upstream v (x ∷ xs) u has =
+    let inside : has.0 < length (x ∷ xs) = has.1 in
+    let a : least_of (map (λ h. slice_index v.completed h) (x ∷ xs)) ≤ get_or (map (λ h. slice_index v.completed h) (x ∷ xs)) has.0 0 = least_of-le (map (λ h. slice_index v.completed h) (x ∷ xs)) has.0 (rw length-map inside) in
+    let b : get_or (map (λ h. slice_index v.completed h) (x ∷ xs)) has.0 0 ≡ slice_index v.completed (get_or (x ∷ xs) has.0 u) = get_or-map (λ h. slice_index v.completed h) (x ∷ xs) has.0 u 0 inside in
+    let d : get_or (x ∷ xs) has.0 u ≡ u = has.2 in
+    rw d at (rw b at a)
+
+-- of a published sequence the event is known
+known_value : (known : Known) (o : ℕ) (b : Bool) (w : Option Event) → b ≡ true → Agrees known o b w → (is_shown known ≡ true) × (value_of known ≡ unwrap_or w no_event)
+known_value Nothing o b w y h = absurd h
+known_value (ClaimedBy q) o b w y h = absurd (false≢true (sym h.1 ∙ y))
+known_value (WrittenBy q event) o b w y h = absurd (false≢true (sym h.1 ∙ y))
+known_value (PublishedWith event) o b w y h = (refl, ap (λ x. unwrap_or x no_event) (sym h.1))
+
+map_same : (f g : ℕ → Event) (a n : ℕ) → ((k : ℕ) → a ≤ k → k < a + n → f k ≡ g k) → map f (range_with_len a n) ≡ map g (range_with_len a n)
+map_same f g a zero h = refl
+map_same f g a (suc n) h = (let e : f a ≡ g a = h a (omega arith) (omega arith) in let r : map f (range_with_len (a + 1) n) ≡ map g (range_with_len (a + 1) n) = map_same f g (a + 1) n (λ k x y. h k (omega arith) (omega arith)) in cc)
+
+cursor_same : (v : CoreView) (m : State) → Shows v m → cursor v.setup m ≡ (if is_single v.setup.mode then v.front else v.next)
+cursor_same v m sh = ap (λ f. if is_single v.setup.mode then f else next m) sh.front ∙ ap (λ n. if is_single v.setup.mode then v.front else n) sh.next
+
+module _ (v : CoreView) (h limit : ℕ) (whole : IsWhole v) (inside : h < handlers v.setup) (some : limit ≢ 0) where
+  none : (m : State) → Shows v m → (nat_le (handlers v.setup) h ≡ false) × (((limit == 0) ≡ false) × Unit {0})
+  none m sh = (lt-leb _ _ inside, (ne_eqb limit 0 some, tt))
+
+  same : (m : State) → Shows v m → available v.setup m h ≡ offered_to v (upstreams_of v.setup.upstreams h)
+  same m sh = offered_same v m sh (upstreams_of v.setup.upstreams h)
+
+  -- the poll in one of its cases
+  pub quiet_step : (r : Reply) → ((m : State) → Shows v m → accepted v.setup m (Poll h limit) ≡ unchanged r m) → IsStep v (Poll h limit) r [] v
+  quiet_step r is =
+      accepted_step v v (Poll h limit) r [] refl none (λ m sh. ap (λ o. o.reply) (is m sh)) (λ m sh. ap (λ o. o.values) (is m sh)) (λ m sh. rw (is m sh) sh)
+
+  module _ (all : offered_to v (upstreams_of v.setup.upstreams h) ≤ slice_index v.taken h) where
+    no_batch : (m : State) → Shows v m → nat_lt (slice_index m.taken h) (available v.setup m h) ≡ false
+    no_batch m sh = (let e : available v.setup m h ≡ offered_to v (upstreams_of v.setup.upstreams h) = same m sh in let t : slice_index m.taken h ≡ slice_index v.taken h = ap (λ ts. slice_index ts h) sh.taken in le-ltb _ _ (omega arith))
+
+    pub drained_step : v.halted ≡ true → slice_index v.taken h ≡ v.next → IsStep v (Poll h limit) Drained [] v
+    drained_step halted last =
+        quiet_step Drained
+        (λ m sh. cond-false _ _ _ (no_batch m sh) ∙ cond-true _ _ _ (and_from _ _ (sh.halted ∙ halted) (eq-eqb _ _ (ap (λ ts. slice_index ts h) sh.taken ∙ last ∙ sym sh.next))))
+
+    stays : (v.halted && (slice_index v.taken h == v.next)) ≡ false → (m : State) → Shows v m → (m.halted && (slice_index m.taken h == next m)) ≡ false
+    stays more m sh = (let e : next m ≡ v.next = sh.next in rw (sh.halted, sh.taken, e) more)
+
+    pub gating_step : (v.halted && (slice_index v.taken h == v.next)) ≡ false → slice_index v.taken h < (if is_single v.setup.mode then v.front else v.next) → IsStep v (Poll h limit) Gating [] v
+    gating_step more l =
+        quiet_step Gating
+        (λ m sh. let ahead : nat_lt (slice_index m.taken h) (cursor v.setup m) ≡ true = (let c : cursor v.setup m ≡ (if is_single v.setup.mode then v.front else v.next) = cursor_same v m sh in rw (c, sh.taken) (lt-ltb _ _ l)) in
+        cond-false _ _ _ (no_batch m sh) ∙ cond-false _ _ _ (stays more m sh) ∙ cond-true _ _ _ ahead)
+
+    pub idle_step : (v.halted && (slice_index v.taken h == v.next)) ≡ false → (if is_single v.setup.mode then v.front else v.next) ≤ slice_index v.taken h → IsStep v (Poll h limit) Idle [] v
+    idle_step more l =
+        quiet_step Idle
+        (λ m sh. let ahead : nat_lt (slice_index m.taken h) (cursor v.setup m) ≡ false = (let c : cursor v.setup m ≡ (if is_single v.setup.mode then v.front else v.next) = cursor_same v m sh in rw (c, sh.taken) (le-ltb _ _ l)) in
+        cond-false _ _ _ (no_batch m sh) ∙ cond-false _ _ _ (stays more m sh) ∙ cond-false _ _ _ ahead)
+
+  module _ (more : slice_index v.taken h < offered_to v (upstreams_of v.setup.upstreams h)) where
+    is_batch : (m : State) → Shows v m → accepted v.setup m (Poll h limit) ≡ batch v.setup m h limit
+    is_batch m sh = (let e : available v.setup m h ≡ offered_to v (upstreams_of v.setup.upstreams h) = same m sh in let t : slice_index m.taken h ≡ slice_index v.taken h = ap (λ ts. slice_index ts h) sh.taken in let l : slice_index m.taken h < available v.setup m h = omega arith in cond-true (nat_lt (slice_index m.taken h) (available v.setup m h)) _ _ (lt-ltb _ _ l))
+
+    pub batch_step : (first count to : ℕ) (event : ℕ → Event) → ((k : ℕ) → k < v.next → v.next ≤ k + v.setup.size → is_shown (known_at v k) ≡ true → event k ≡ value_of (known_at v k)) → first ≡ slice_index v.taken h → to ≡ offered_to v (upstreams_of v.setup.upstreams h) → count ≡ min (to - first) limit
+        → IsStep v (Poll h limit) (Batch first count (first + count == to)) (map event (range_with_len first count)) (record v { taken = slice_set v.taken h (first + count) })
+    batch_step first count to event holds a b d =
+        accepted_step v (record v { taken = slice_set v.taken h (first + count) }) (Poll h limit) (Batch first count (first + count == to)) (map event (range_with_len first count)) refl none
+        (λ m sh. let t : slice_index m.taken h ≡ first = first_is m sh in let e : available v.setup m h ≡ to = same m sh ∙ sym b in ap (λ o. o.reply) (is_batch m sh) ∙ rw (e, t, ← d))
+        (λ m sh. let t : slice_index m.taken h ≡ first = first_is m sh in let e : available v.setup m h ≡ to = same m sh ∙ sym b in ap (λ o. o.values) (is_batch m sh) ∙ rw (e, t, ← d) (values m sh))
+        (λ m sh. let t : slice_index m.taken h ≡ first = first_is m sh in let e : available v.setup m h ≡ to = same m sh ∙ sym b in rw (is_batch m sh) (rw (e, t, ← d)
+        (record { next = sh.next; front = sh.front; taken = ap (λ ns. slice_set ns h (first + count)) sh.taken; completed = sh.completed; halted = sh.halted; recent = sh.recent; unclaimed = sh.unclaimed })))
+      where
+        first_is : (m : State) → Shows v m → slice_index m.taken h ≡ first
+        first_is m sh = ap (λ ts. slice_index ts h) sh.taken ∙ sym a
+
+        values : (m : State) → Shows v m → map (λ s. unwrap_or (m.written s) no_event) (range_with_len first count) ≡ map event (range_with_len first count)
+        values m sh = map_same (λ s. unwrap_or (m.written s) no_event) event first count
+            (λ k x y. let f : offered_to v (upstreams_of v.setup.upstreams h) ≤ v.front = offered_front v whole (upstreams_of v.setup.upstreams h) in
+            let n : v.front ≤ v.next = whole.front in
+            let r : v.next ≤ v.setup.size + slice_index v.completed h = whole.room h inside in
+            let c : slice_index v.completed h ≤ slice_index v.taken h = whole.took h in
+            let there : (is_shown (known_at v k) ≡ true) × (value_of (known_at v k) ≡ unwrap_or (m.written k) no_event) = known_value (known_at v k) _ _ _ (below_front v m sh k (omega arith)) (sh.recent k (omega arith) (omega arith)) in
+            sym (holds k (omega arith) (omega arith) there.0 ∙ there.1))
+
+    pub batch_whole : (count : ℕ) → slice_index v.taken h + count ≤ offered_to v (upstreams_of v.setup.upstreams h) → IsWhole (record v { taken = slice_set v.taken h (slice_index v.taken h + count) })
+    batch_whole count le =
+        let len : h < length v.taken = (let e : length v.taken ≡ handlers v.setup = whole.taken in omega arith) in
+        let f : offered_to v (upstreams_of v.setup.upstreams h) ≤ v.front = offered_front v whole (upstreams_of v.setup.upstreams h) in
+        record {
+          graph = whole.graph;
+          size = whole.size;
+          limit = whole.limit;
+          taken = length-set v.taken h (slice_index v.taken h + count) ∙ whole.taken;
+          completed = whole.completed;
+          claimed = whole.claimed;
+          front = whole.front;
+          in_front = λ k. rw (set_count v.taken h (slice_index v.taken h + count) k len) (cond_both (k == h) (slice_index v.taken h + count) (slice_index v.taken k) (λ n. n ≤ v.front) (λ y. omega arith) (λ n. whole.in_front k));
+          took = λ k. rw (set_count v.taken h (slice_index v.taken h + count) k len) (cond_both (k == h) (slice_index v.taken h + count) (slice_index v.taken k) (λ n. slice_index v.completed k ≤ n)
+              (λ y. (let e : k ≡ h = eqb-true k h y in let o : slice_index v.completed h ≤ slice_index v.taken h = whole.took h in rw e (omega arith))) (λ n. whole.took k));
+          after = λ k u has. rw (set_count v.taken h (slice_index v.taken h + count) k len) (cond_both (k == h) (slice_index v.taken h + count) (slice_index v.taken k) (λ n. n ≤ slice_index v.completed u)
+              (λ y. (let e : k ≡ h = eqb-true k h y in let o : offered_to v (upstreams_of v.setup.upstreams k) ≤ slice_index v.completed u = offered_upstream v (upstreams_of v.setup.upstreams k) u has in
+              let o2 : offered_to v (upstreams_of v.setup.upstreams h) ≤ slice_index v.completed u = rw e at o in omega arith))
+              (λ n. whole.after k u has));
+          room = whole.room;
+        }
+
+-- of some upstreams it is their least count
+pub offered_some : (v : CoreView) (ups : List ℕ) → 0 < length ups → least_of (map (λ h. slice_index v.completed h) ups) ≡ offered_to v ups
+offered_some v [] l = absurd (omega arith)
+offered_some v (u ∷ us) l = refl
+
+-- a list of a list of vectors
+pub ups_is : (xs : List (Vec ℕ Global)) (h : ℕ) (x : Vec ℕ Global) → h < length xs → x ≡ get_or xs h x → x.items ≡ get_or (map (λ ups. ups.items) xs) h []
+ups_is xs h x l is = ap (λ u. u.items) is ∙ sym (get_or-map (λ ups. ups.items) xs h x [] l)
+
+-- every upstream is a handler
+upstream_within : (graph : List (List ℕ)) → IsGraph graph → (h u : ℕ) → Contains (upstreams_of graph h) u → u < length graph
+upstream_within graph is h u has = elim (cases_lt h (length graph)) [
+  | inl inside ↦ (let below : u < h = is.layered h u has in omega arith)
+  | inr outside ↦ absurd (let none : upstreams_of graph h ≡ [] = get_or_past graph h [] outside in let l : has.0 < length (upstreams_of graph h) = has.1 in let z : length (upstreams_of graph h) ≡ 0 = ap length none in omega arith)
+]
+
+pub ups_within : (v : CoreView) → IsWhole v → (h : ℕ) (ups : List ℕ) → ups ≡ upstreams_of v.setup.upstreams h → All (λ u. u < length v.completed) ups
+ups_within v whole h ups is = rw is (λ k d l. let e : length v.completed ≡ handlers v.setup = whole.completed in let w : get_or (upstreams_of v.setup.upstreams h) k d < handlers v.setup = upstream_within v.setup.upstreams whole.graph h (get_or (upstreams_of v.setup.upstreams h) k d) (Contains-get_or (upstreams_of v.setup.upstreams h) k d l) in omega arith)
+
+-- more room than the size gives no more
+step_capped : (v : CoreView) (m : State) (h limit : ℕ) → IsWhole v → Shows v m → step v.setup m (Poll h limit) ≡ step v.setup m (Poll h (min limit v.setup.size))
+step_capped v m h limit whole sh =
+    elim (cases_Bool (nat_le (handlers v.setup) h)) [
+      | inl y ↦ cond-true _ _ _ y ∙ sym (cond-true _ _ _ y)
+      | inr n ↦
+          let inside : h < handlers v.setup = leb-false (handlers v.setup) h n in
+          let pos : 0 < v.setup.size = size_positive v.setup.size whole.size in
+          let room : v.next ≤ v.setup.size + slice_index v.completed h = whole.room h inside in
+          let took : slice_index v.completed h ≤ slice_index v.taken h = whole.took h in
+          let to : available v.setup m h ≡ offered_to v (upstreams_of v.setup.upstreams h) = offered_same v m sh (upstreams_of v.setup.upstreams h) in
+          let front : offered_to v (upstreams_of v.setup.upstreams h) ≤ v.front = offered_front v whole (upstreams_of v.setup.upstreams h) in
+          let claimed : v.front ≤ v.next = whole.front in
+          let first : slice_index m.taken h ≡ slice_index v.taken h = ap (λ ts. slice_index ts h) sh.taken in
+          let count : min (available v.setup m h - slice_index m.taken h) limit ≡ min (available v.setup m h - slice_index m.taken h) (min limit v.setup.size) = omega arith in
+          let zero : (limit == 0) ≡ (min limit v.setup.size == 0) = elim (cases_eq limit 0) [
+            | inl e ↦ eq-eqb _ _ e ∙ sym (eq-eqb _ _ (let z : min limit v.setup.size ≡ 0 = omega arith in z))
+            | inr ne ↦ ne_eqb _ _ ne ∙ sym (ne_eqb _ _ (let z : min limit v.setup.size ≢ 0 = omega arith in z))
+          ] in
+          rw zero (rw count)
+    ]
+
+pub capped_step : (v w : CoreView) (h limit : ℕ) (reply : Reply) (values : List Event) → IsWhole v → IsStep v (Poll h (min limit v.setup.size)) reply values w → IsStep v (Poll h limit) reply values w
+capped_step v w h limit reply values whole is = record {
+  same_setup = is.same_setup;
+  replies = λ m sh. ap (λ o. o.reply) (step_capped v m h limit whole sh) ∙ is.replies m sh;
+  hands_out = λ m sh. ap (λ o. o.values) (step_capped v m h limit whole sh) ∙ is.hands_out m sh;
+  shown = λ m sh. rw (step_capped v m h limit whole sh) (is.shown m sh);
+}
+
+polled-is : (r : Result Polled Refusal) (sub rest : List Event) → count_in (poll_reply r) ≤ length sub → polled r sub ≡ take (count_in (poll_reply r)) (sub ++ rest)
+polled-is (Ok (answer.Batch first count end)) sub rest l = sym (take-append-le count sub rest l)
+polled-is (Ok answer.Drained) sub rest l = refl
+polled-is (Ok answer.Gating) sub rest l = refl
+polled-is (Ok answer.Idle) sub rest l = refl
+polled-is (Err r) sub rest l = refl
+
+-- what a poll into the front of a buffer answers
+pub poll_front : (v w : CoreView) (h limit k : ℕ) (r : Result Polled Refusal) (sub out : List Event) → IsWhole v → k ≡ min limit v.setup.size → min limit v.setup.size ≤ length out → length sub ≡ length (take k out)
+    → count_in (poll_reply r) ≤ length (take k out) → IsStep v (Poll h (length (take k out))) (poll_reply r) (polled r sub) w
+    → IsStep v (Poll h limit) (poll_reply r) (take (count_in (poll_reply r)) (sub ++ drop k out)) w
+poll_front v w h limit k r sub out whole is room same fits step =
+    let len : length (take k out) ≡ min limit v.setup.size = length-take-le k out (omega arith) ∙ is in
+    let values : polled r sub ≡ take (count_in (poll_reply r)) (sub ++ drop k out) = polled-is r sub (drop k out) (omega arith) in
+    capped_step v w h limit (poll_reply r) (take (count_in (poll_reply r)) (sub ++ drop k out)) whole (rw values at (rw len at step))
+
+-- what is ready on each state that the core shows
+pub ready_is : (v : CoreView) (h n to first : ℕ) → n ≡ to - first → to ≡ offered_to v (upstreams_of v.setup.upstreams h) → first ≡ slice_index v.taken h → (m : State) → Shows v m → n ≡ available v.setup m h - slice_index m.taken h
+ready_is v h n to first a b d m sh =
+    let e : available v.setup m h ≡ offered_to v (upstreams_of v.setup.upstreams h) = offered_same v m sh (upstreams_of v.setup.upstreams h) in
+    let t : slice_index m.taken h ≡ slice_index v.taken h = ap (λ ts. slice_index ts h) sh.taken in
+    omega arith
+
+-- what a poll has found before it answers: the handler is there, room is offered, and how much it took and is let through
+pub record PollsAt (v : CoreView) (h limit first to : ℕ) : Type 0 where
+  pub whole : IsWhole v
+  pub inside : h < handlers v.setup
+  pub some : limit ≢ 0
+  pub taken : first ≡ slice_index v.taken h
+  pub offered : to ≡ offered_to v (upstreams_of v.setup.upstreams h)
+
+pub polls_at : (v : CoreView) (upstreams : Vec (Vec ℕ Global) Global) (h limit count first to : ℕ) → IsWhole v → v.setup.upstreams ≡ map (λ ups. ups.items) upstreams.items
+    → count ≡ upstreams.len → h < count → limit ≢ 0 → first ≡ get_or v.taken h first → to ≡ offered_to v (upstreams_of v.setup.upstreams h) → PollsAt v h limit first to
+polls_at v upstreams h limit count first to whole same counted inside some read offered =
+    let many : handlers v.setup ≡ length upstreams.items = ap length same ∙ length-map upstreams.items (λ ups. ups.items) in
+    let items : upstreams.len ≡ length upstreams.items = upstreams.ok.0 in
+    let taken : length v.taken ≡ handlers v.setup = whole.taken in
+    record { whole = whole; inside = omega arith; some = some; taken = get_or_read v.taken h first (omega arith) read 0; offered = offered }

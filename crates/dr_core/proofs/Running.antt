@@ -1,0 +1,82 @@
+-- A run of commands, one step after another.
+use Rattle.std.proofs.Common.{◌≡◌, ℕ, ◌+◌, ◌<◌, ◌≤◌, List, [], ◌∷◌, ◌++◌, arith, refl, ap, sym, ◌∙◌, length, take, drop, get_or, append_assoc}
+use Rattle.std.proofs.lemmas.List.{drop_more, take_more, length-take-le, nil_from_length, take_all, append-nil, take-append-le, drop-append-le, length-append, length-drop}
+use Rattle.dr_core.specs.declared.command.Command.{Command}
+use Rattle.dr_core.specs.declared.command.Command.TheVariants.{Claim, Write, Publish, Poll, Complete, Halt}
+use Rattle.dr_core.specs.declared.command.Reply.{Reply}
+use Rattle.dr_seq.specs.declared.event.Event.{Event}
+use Rattle.dr_core.specs.Machine.{Setup, State, step, opening}
+use Rattle.dr_core.specs.Transcript.{Transcript, LeadsTo}
+use Rattle.dr_core.specs.CoreView.{CoreView}
+use Rattle.dr_core.specs.Shows.{Shows, IsStep}
+use Rattle.dr_core.specs.Runs.{RunsTo, transcript_of, count_in, counts_of, offers, needed}
+use Rattle.dr_core.proofs.FiveLaws.{lawful, leads_append}
+
+-- one more command, reply and values are one more entry
+pub transcript_push : (commands : List Command) (replies : List Reply) (values : List Event) (command : Command) (reply : Reply) (more : List Event)
+    → length replies ≡ length commands → length values ≡ counts_of replies → length more ≡ count_in reply
+    → transcript_of (commands ++ command ∷ []) (replies ++ reply ∷ []) (values ++ more) ≡ transcript_of commands replies values ++ record { command = command; reply = reply; values = more } ∷ []
+transcript_push [] [] values command reply more a b d =
+    let none : values ≡ [] = nil_from_length values b in
+    rw (none) (ap (λ vs. record { command = command; reply = reply; values = vs } ∷ []) (take_all (count_in reply) more (omega arith)))
+transcript_push [] (r ∷ rs) values command reply more a b d = absurd (omega arith)
+transcript_push (c ∷ cs) [] values command reply more a b d = absurd (omega arith)
+transcript_push (c ∷ cs) (r ∷ rs) values command reply more a b d =
+    let le : count_in r ≤ length values = omega arith in
+    let rest : length (drop (count_in r) values) ≡ counts_of rs = length-drop (count_in r) values ∙ omega arith in
+    let same : length rs ≡ length cs = omega arith in
+    let more' : transcript_of (cs ++ command ∷ []) (rs ++ reply ∷ []) (drop (count_in r) values ++ more) ≡ transcript_of cs rs (drop (count_in r) values) ++ record { command = command; reply = reply; values = more } ∷ [] = transcript_push cs rs (drop (count_in r) values) command reply more same rest d in
+    rw (take-append-le (count_in r) values more le, drop-append-le (count_in r) values more le, more')
+
+-- a step of the core leads one entry on
+pub leads_step : (c : Setup) (old new : CoreView) (t : Transcript) (command : Command) (reply : Reply) (values : List Event) → old.setup ≡ c → IsStep old command reply values new
+    → RunsTo c t old → RunsTo c (t ++ record { command = command; reply = reply; values = values } ∷ []) new
+leads_step c old new t command reply values same is at =
+    let r : (step c at.state command).reply ≡ reply = rw same at (is.replies at.state at.shows) in
+    let v : (step c at.state command).values ≡ values = rw same at (is.hands_out at.state at.shows) in
+    let s : Shows new (step c at.state command).state = rw same at (is.shown at.state at.shows) in
+    let l : LeadsTo c (t ++ record { command = command; reply = reply; values = values } ∷ []) (step c at.state command).state = leads_append c t (record { command = command; reply = reply; values = values } ∷ []) (opening c) at.state (step c at.state command).state at.leads (r, v, refl) in
+    record { state = (step c at.state command).state; leads = l; shows = s; lawful = lawful c (t ++ record { command = command; reply = reply; values = values } ∷ []) (step c at.state command).state l }
+
+pub counts-push : (replies : List Reply) (reply : Reply) → counts_of (replies ++ reply ∷ []) ≡ counts_of replies + count_in reply
+counts-push [] reply = omega arith
+counts-push (r ∷ rs) reply = (let e : counts_of (rs ++ reply ∷ []) ≡ counts_of rs + count_in reply = counts-push rs reply in omega arith)
+
+-- the run so far, with one more command
+pub run_step : (c : Setup) (old new : CoreView) (t : Transcript) (commands : List Command) (i : ℕ) (d : Command) (replies : List Reply) (values : List Event) (reply : Reply) (more : List Event)
+    → i < length commands → length replies ≡ i → length values ≡ counts_of replies → length more ≡ count_in reply → old.setup ≡ c → IsStep old (get_or commands i d) reply more new
+    → RunsTo c (t ++ transcript_of (take i commands) replies values) old → RunsTo c (t ++ transcript_of (take (i + 1) commands) (replies ++ reply ∷ []) (values ++ more)) new
+run_step c old new t commands i d replies values reply more l told counted len same is at =
+    let front : take (i + 1) commands ≡ take i commands ++ get_or commands i d ∷ [] = take_more commands i d l in
+    let push : transcript_of (take i commands ++ get_or commands i d ∷ []) (replies ++ reply ∷ []) (values ++ more) ≡ transcript_of (take i commands) replies values ++ record { command = get_or commands i d; reply = reply; values = more } ∷ [] =
+    transcript_push (take i commands) replies values (get_or commands i d) reply more (told ∙ sym (length-take-le i commands (omega arith))) counted len in
+    rw (front, push, ← append_assoc) (leads_step c old new (t ++ transcript_of (take i commands) replies values) (get_or commands i d) reply more same is at)
+
+-- a run of no commands
+pub run_none : (c : Setup) (t : Transcript) (m : State) (v : CoreView) → LeadsTo c t m → Shows v m → RunsTo c (t ++ []) v
+run_none c t m v leads shows = rw append-nil (record { state = m; leads = leads; shows = shows; lawful = lawful c t m leads })
+
+pub offers-le : (command : Command) (size : ℕ) → offers command size ≤ size
+offers-le (Claim p n) size = omega arith
+offers-le (Write p s v) size = omega arith
+offers-le (Publish p lo hi) size = omega arith
+offers-le (Poll h limit) size = omega arith
+offers-le (Complete h upto) size = omega arith
+offers-le Halt size = omega arith
+
+-- the words that are left to hand out, one command on
+pub needed-more : (commands : List Command) (i : ℕ) (d : Command) (size : ℕ) → i < length commands → needed (drop i commands) size ≡ offers (get_or commands i d) size + needed (drop (i + 1) commands) size
+needed-more commands i d size l = ap (λ cs. needed cs size) (drop_more commands i d l)
+
+pub room-first : (values : List Event) (commands : List Command) (room cap size here : ℕ) → values ≡ [] → room ≤ cap → room ≡ needed commands size → size ≡ here → length values + needed commands here ≤ cap
+room-first values commands room cap size here a b d e =
+    let n : room ≡ needed commands here = rw e at d in
+    let z : length values ≡ 0 = ap length a in
+    omega arith
+
+pub room-more : (values more : List Event) (commands : List Command) (i : ℕ) (d : Command) (size here cap cap' k : ℕ) → i < length commands → length values + needed (drop i commands) here ≤ cap → cap ≤ cap' → length more ≡ k → k ≤ offers (get_or commands i d) size → size ≡ here → length (values ++ more) + needed (drop (i + 1) commands) here ≤ cap'
+room-more values more commands i d size here cap cap' k l room grows many fits same =
+    let n : needed (drop i commands) here ≡ offers (get_or commands i d) here + needed (drop (i + 1) commands) here = needed-more commands i d here l in
+    let f : k ≤ offers (get_or commands i d) here = rw same at fits in
+    let s : length (values ++ more) ≡ length values + length more = length-append values more in
+    omega arith

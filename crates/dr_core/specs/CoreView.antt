@@ -1,0 +1,29 @@
+-- What contracts see of a core: what it remembers of the machine's state, however that is kept.
+use Rattle.std.specs.Prelude.{ℕ, ◌-◌, min, Bool, List, map, slice_index_or}
+use Rattle.std.specs.List.{range_with_len}
+use Rattle.dr_seq.specs.declared.event.Event.{Event}
+use Rattle.dr_core.specs.Machine.{Setup}
+
+-- what a core knows of a sequence: nothing, claimed by a producer, written by a producer with an event, published with an event
+pub data Known : Type 0 where
+  Nothing : Known
+  ClaimedBy : ℕ → Known
+  WrittenBy : ℕ → Event → Known
+  PublishedWith : Event → Known
+
+pub record CoreView : Type 0 where
+  pub setup : Setup
+  pub next : ℕ  -- how many sequences are claimed
+  pub front : ℕ  -- the least sequence that is not published
+  pub taken : List ℕ  -- of each handler, how many events it took
+  pub completed : List ℕ  -- of each handler, how many events it completed
+  pub halted : Bool
+  pub recent : List Known  -- of each of the last `size` claimed sequences in order, what is known
+
+-- the last claimed sequences, as many as there are slots, each with what is known of it
+abbrev pub recent_of : (ℕ → Known) → ℕ → ℕ → List Known
+recent_of known next size = map known (range_with_len (next - size) (min next size))
+
+-- what is known of a recent sequence
+abbrev pub known_at : CoreView → ℕ → Known
+known_at v s = slice_index_or v.recent (s - (v.next - v.setup.size)) Nothing

@@ -1,0 +1,175 @@
+//! The core: the exchange on one thread.
+
+ghost use Rattle.std.specs.Prelude.{◌≡◌, ◌↔◌, ◌^◌, ◌<◌, Err, IfOk, IfErr, ◌≤◌, true, false, slice_index};
+ghost use Rattle.dr_core.specs.Graph.{IsGraph, finals as finals_of};
+ghost use Rattle.dr_core.specs.Machine.{opening, handlers};
+ghost use Rattle.dr_core.specs.OpenFault.{has_bad_producers, is_bad_limit};
+ghost use Rattle.dr_core.specs.Opening.{setup_of, one_setup};
+ghost use Rattle.dr_core.specs.Shows.{Shows};
+
+use crate::mode::Mode;
+use crate::open_fault::OpenFault;
+use crate::slot_state::SlotState;
+use dr_seq::{Size, Slots};
+use std::alloc::Global;
+use std::marker::Model;
+
+mod execute;
+mod polling;
+mod publishing;
+
+/// The most producers of an exchange.
+pub const MAX_PRODUCERS: u64 = 16;
+
+/// The greatest limit of sequences, 2^62, so that no count of sequences ever wraps.
+pub const MAX_LIMIT: u64 = 1 << 62;
+
+/// The exchange on one thread: slots that are used again, a graph of handlers, and counts.
+///
+/// Contracts see what it remembers of the machine's state, and say of each call that it is the
+/// machine's step on every state that the core shows.
+#[derive(Drop)]
+pub struct Core {
+    upstreams: Vec<Vec<usize>>,
+    finals: Vec<usize>,
+    size: Size,
+    mode: Mode,
+    limit: u64,
+    states: Vec<SlotState>,
+    events: Slots,
+    next: u64,
+    front: u64,
+    taken: Vec<u64>,
+    completed: Vec<u64>,
+    halted: bool,
+}
+
+impl Model for Core {
+    ghost use Rattle.dr_core.specs.CoreView.{CoreView};
+
+    ghost Value = { CoreView };
+
+    ghost use Rattle.dr_core.specs.Inside.{view_of, IsKept};
+
+    ghost view = { view_of };
+
+    ghost invariant = { IsKept };
+}
+
+impl Core {
+    /// Opens a core over one handler, number 0.
+    pub fn open_one(alloc: Global, size: Size, mode: Mode, limit: u64) -> Result<Core, OpenFault>
+        ensures setup { IfOk result (λ core. core.setup ≡ one_setup size mode limit) }
+        ensures opening { IfOk result (λ core. Shows core (opening (one_setup size mode limit))) }
+        ensures bad_producers { (result ≡ Err OpenFault.BadProducers) ↔ (has_bad_producers mode ≡ true) }
+        ensures bad_limit { (result ≡ Err OpenFault.BadLimit) ↔ (has_bad_producers mode ≡ false) × (is_bad_limit limit ≡ true) }
+    {
+        if is_bad_mode(mode) {
+            return Err(OpenFault::BadProducers);
+        }
+        if limit == 0 || limit > MAX_LIMIT {
+            return Err(OpenFault::BadLimit);
+        }
+        let mut upstreams = Vec::new(alloc);
+        upstreams.push(Vec::new(alloc))?;
+        let mut finals = Vec::new(alloc);
+        finals.push(0)?;
+        Core::over(alloc, upstreams, finals, size, mode, limit)
+    }
+
+    /// A core over a graph, whose finals are listed.
+    fn over(
+        alloc: Global,
+        upstreams: Vec<Vec<usize>>,
+        finals: Vec<usize>,
+        size: Size,
+        mode: Mode,
+        limit: u64,
+    ) -> Result<Core, OpenFault>
+        requires graph { IsGraph (setup_of upstreams size mode limit).upstreams }
+        requires ends { finals.items ≡ finals_of (setup_of upstreams size mode limit).upstreams }
+        requires limit { limit ≤ 2 ^ 62 }
+        ensures setup { IfOk result (λ core. core.setup ≡ setup_of upstreams size mode limit) }
+        ensures opening { IfOk result (λ core. Shows core (opening (setup_of upstreams size mode limit))) }
+        ensures refused { IfErr result (λ fault. fault ≡ OpenFault.NoMemory) }
+    {
+        let states = vec![in alloc; SlotState::Free; size.get() as usize]?;
+        let events = Slots::new(alloc, size)?;
+        let taken = vec![in alloc; 0u64; upstreams.len()]?;
+        let completed = vec![in alloc; 0u64; upstreams.len()]?;
+        Ok(Core {
+            upstreams,
+            finals,
+            size,
+            mode,
+            limit,
+            states,
+            events,
+            next: 0,
+            front: 0,
+            taken,
+            completed,
+            halted: false,
+        })
+    }
+
+    /// How many slots there are.
+    pub fn size(&self) -> Size
+        ensures { result ≡ self.now.setup.size }
+    {
+        self.size
+    }
+
+    /// How many handlers there are.
+    pub fn handlers(&self) -> usize
+        ensures { result ≡ handlers self.now.setup }
+    {
+        self.upstreams.len()
+    }
+
+    /// How many sequences are claimed.
+    pub fn next(&self) -> u64
+        ensures { result ≡ self.now.next }
+    {
+        self.next
+    }
+
+    /// The least sequence that is not published.
+    pub fn front(&self) -> u64
+        ensures { result ≡ self.now.front }
+    {
+        self.front
+    }
+
+    /// How many events a handler took: the next sequence that it would receive.
+    pub fn taken(&self, h: usize) -> u64
+        requires { h < handlers self.now.setup }
+        ensures { result ≡ slice_index self.now.taken h }
+    {
+        self.taken[h]
+    }
+
+    /// How many events a handler completed: LMAX's sequence of the handler, plus 1.
+    pub fn completed(&self, h: usize) -> u64
+        requires { h < handlers self.now.setup }
+        ensures { result ≡ slice_index self.now.completed h }
+    {
+        self.completed[h]
+    }
+
+    /// Whether no more sequences are given.
+    pub fn is_halted(&self) -> bool
+        ensures { result ≡ self.now.halted }
+    {
+        self.halted
+    }
+}
+
+fn is_bad_mode(mode: Mode) -> bool
+    ensures { result ≡ has_bad_producers mode }
+{
+    match mode {
+        Mode::Single => false,
+        Mode::Multi(producers) => producers == 0 || producers > MAX_PRODUCERS,
+    }
+}

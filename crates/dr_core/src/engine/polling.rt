@@ -1,0 +1,123 @@
+//! The handlers' calls: events are taken as their barriers let them through, and completed.
+
+ghost use Rattle.std.specs.Prelude.{◌≡◌, ◌-◌, ◌↔◌, Err, ◌<◌, ◌≤◌, ◌^◌, ◌+◌, ◌++◌, [], length, map, drop, OnErr, IfOk, IfErr, IsOk, slice_index, if◌then◌else◌};
+ghost use Rattle.std.specs.List.{range_with_len};
+ghost use Rattle.dr_seq.specs.Slots.{event_at};
+ghost use Rattle.dr_core.specs.Graph.{upstreams_of};
+ghost use Rattle.dr_core.specs.Machine.{State, available as available_of, handlers, is_single};
+ghost use Rattle.dr_core.specs.Runs.{count_in};
+ghost use Rattle.dr_core.specs.Shows.{Shows, IsStep, Takes, CanComplete, offered_to, unit_reply, poll_reply, polled};
+
+use crate::command::{Command, Polled, Reply};
+use crate::engine::Core;
+use crate::least::least_count;
+use crate::refusal::Refusal;
+use dr_seq::{Event, Slots};
+
+impl Core {
+    /// How many events a handler could take by now: those published, or those that all its
+    /// upstreams completed.
+    fn available(&self, h: usize) -> u64
+        requires { h < handlers self.now.setup }
+        ensures { result ≡ offered_to self.now (upstreams_of self.now.setup.upstreams h) }
+    {
+        let upstreams = &self.upstreams[h];
+        if upstreams.is_empty() {
+            self.front
+        } else {
+            least_count(&self.completed, upstreams)
+        }
+    }
+
+    /// The published sequences with one producer, the claimed ones with several.
+    fn cursor(&self) -> u64
+        ensures { result ≡ (if is_single self.now.setup.mode then self.now.front else self.now.next) }
+    {
+        if self.mode.is_single() {
+            self.front
+        } else {
+            self.next
+        }
+    }
+
+    /// How many events a poll could give a handler now.
+    pub fn ready(&self, h: usize) -> Result<u64, Refusal>
+        ensures stranger { result ≡ Err Refusal.NoHandler ↔ (handlers self.now.setup ≤ h) }
+        ensures count { IfOk result (λ n. (m : State) → Shows self.now m → n ≡ available_of self.now.setup m h - slice_index m.taken h) }
+        ensures refused { IfErr result (λ refusal. refusal ≡ Refusal.NoHandler) }
+    {
+        if h >= self.upstreams.len() {
+            return Err(Refusal::NoHandler);
+        }
+        let available = self.available(h);
+        let taken = self.taken[h];
+        Ok(available.saturating_sub(taken))
+    }
+
+    /// Takes what the barrier of a handler lets through, at most as much as `out` holds, and puts
+    /// it at the front of `out`. `end` is LMAX's end of batch, unless `out` was too small for all.
+    pub fn poll_into(&mut self, h: usize, out: &mut [Event]) -> Result<Polled, Refusal>
+        ensures step { IsStep self.old (Command.Poll h (length out.old)) (poll_reply result) (polled result out.new) self.new }
+        ensures rest { out.new ≡ polled result out.new ++ drop (length (polled result out.new)) out.old }
+        ensures fits { count_in (poll_reply result) ≤ length out.old }
+        ensures takes { Takes h result self.new }
+        ensures refused { OnErr result (self.new ≡ self.old) }
+    {
+        if h >= self.upstreams.len() {
+            return Err(Refusal::NoHandler);
+        }
+        if out.is_empty() {
+            return Err(Refusal::BadCount);
+        }
+        let first = self.taken[h];
+        let available = self.available(h);
+        if first < available {
+            let count = (available - first).min(out.len() as u64);
+            copy_out(&self.events, first, count as usize, out);
+            self.taken[h] = first + count;
+            return Ok(Polled::Batch {
+                first,
+                count,
+                end: first + count == available,
+            });
+        }
+        if self.halted && first == self.next {
+            return Ok(Polled::Drained);
+        }
+        if first < self.cursor() {
+            return Ok(Polled::Gating);
+        }
+        Ok(Polled::Idle)
+    }
+
+    /// A handler has done with its first `upto` events, so that its followers may take them, and
+    /// after a final handler their slots may be claimed again.
+    pub fn complete(&mut self, h: usize, upto: u64) -> Result<(), Refusal>
+        ensures step { IsStep self.old (Command.Complete h upto) (unit_reply Reply.Completed result) [] self.new }
+        ensures accepted { CanComplete self.old h upto → IsOk result }
+        ensures refused { OnErr result (self.new ≡ self.old) }
+    {
+        if h >= self.upstreams.len() {
+            return Err(Refusal::NoHandler);
+        }
+        if upto < self.completed[h] {
+            return Err(Refusal::Behind);
+        }
+        if upto > self.taken[h] {
+            return Err(Refusal::NotTaken);
+        }
+        self.completed[h] = upto;
+        Ok(())
+    }
+}
+
+/// Copies the events of a stretch of sequences to the front of a buffer.
+fn copy_out(events: &Slots, first: u64, count: usize, out: &mut [Event])
+    requires fits { first + count < 2 ^ 63 }
+    requires within { count ≤ length out.old }
+    ensures { out.new ≡ map (λ s. event_at events.now s) (range_with_len first count) ++ drop count out.old }
+{
+    for k in 0..count {
+        out[k] = events.get(first + k as u64);
+    }
+}

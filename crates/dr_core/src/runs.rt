@@ -1,0 +1,77 @@
+//! Whole lists of commands.
+
+ghost use Rattle.std.specs.Prelude.{◌≡◌, ◌++◌, length, OnErr, IfOk, IfSome};
+ghost use Rattle.dr_core.specs.Machine.{State};
+ghost use Rattle.dr_core.specs.Transcript.{Transcript, LeadsTo};
+ghost use Rattle.dr_core.specs.Runs.{RunsTo, transcript_of, count_in, counts_of, needed, offers};
+ghost use Rattle.dr_core.specs.Shows.{Shows};
+
+use crate::command::{Command, Reply};
+use crate::engine::Core;
+use dr_seq::Event;
+use std::alloc::{AllocError, Global};
+
+/// The replies to a list of commands, one a command, and the events of the batches, joined.
+#[derive(Drop)]
+pub struct Ran {
+    pub replies: Vec<Reply>,
+    pub values: Vec<Event>,
+}
+
+/// Runs commands in order, whatever they are answered. All memory is taken before the first.
+pub fn run(alloc: Global, core: &mut Core, commands: &[Command]) -> Result<Ran, AllocError>
+    ensures lawful { IfOk result (λ ran. (t : Transcript) (m : State) → LeadsTo core.old.setup t m → Shows core.old m → RunsTo core.old.setup (t ++ transcript_of commands.now ran.replies.items ran.values.items) core.new) }
+    ensures replies { IfOk result (λ ran. length ran.replies.items ≡ length commands.now) }
+    ensures values { IfOk result (λ ran. length ran.values.items ≡ counts_of ran.replies.items) }
+    ensures setup { core.new.setup ≡ core.old.setup }
+    ensures refused { OnErr result (core.new ≡ core.old) }
+{
+    let size = core.size().get() as usize;
+    let Some(room) = room_for(commands, size) else {
+        return Err(AllocError);
+    };
+    let mut replies = Vec::with_capacity(alloc, commands.len())?;
+    let mut values = Vec::with_capacity(alloc, room)?;
+    let mut buffer = vec![in alloc; Event::NONE; size]?;
+    for command in commands {
+        let reply = core.execute(*command, &mut buffer);
+        replies.push(reply)?;
+        values.extend_from_slice(&buffer[..batch_len(reply)])?;
+    }
+    Ok(Ran { replies, values })
+}
+
+/// The room that some commands need at most, or `None` past the greatest number.
+fn room_for(commands: &[Command], size: usize) -> Option<usize>
+    ensures { IfSome result (λ room. room ≡ needed commands.now size) }
+{
+    let mut room: usize = 0;
+    for command in commands {
+        room = room.checked_add(offered(*command, size))?;
+    }
+    Some(room)
+}
+
+/// The room that a command needs at most.
+fn offered(command: Command, size: usize) -> usize
+    ensures { result ≡ offers command size }
+{
+    match command {
+        Command::Poll { h: _, max } => max.min(size),
+        _ => 0,
+    }
+}
+
+/// How many events come with a reply.
+fn batch_len(reply: Reply) -> usize
+    ensures { result ≡ count_in reply }
+{
+    match reply {
+        Reply::Batch {
+            first: _,
+            count,
+            end: _,
+        } => count as usize,
+        _ => 0,
+    }
+}

@@ -1,0 +1,15 @@
+pub mod Spare
+pub mod Cycles
+pub mod Orders
+pub mod Chosen
+pub mod Naming
+pub mod NewNames
+pub mod Adding
+pub mod Places
+pub mod Strangers
+pub mod Following
+pub mod Grouping
+pub mod Declaring
+pub mod Gating
+pub mod Building
+pub mod Unique

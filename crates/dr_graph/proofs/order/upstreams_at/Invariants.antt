@@ -1,0 +1,5 @@
+use Rattle.dr_graph.specs.Graph.{AreChosen, leads_to}
+use Rattle.dr_graph.proofs.order.upstreams_at.Given as goal
+
+abbrev pub invariant-loop-u : goal.invariant-loop-u
+invariant-loop-u l = AreChosen (leads_to l.edges l.order l.h) l.u l.ups.items

@@ -1,0 +1,152 @@
+//! Declaring handlers by name, in groups, with the edges between them.
+
+ghost use Rattle.std.specs.Prelude.{◌≡◌, ◌⊎◌, ◌↔◌, ◌++◌, None, Some, [], ◌∷◌, length, IfOk, IfErr, IfSome, OnErr, OnOk, IsOk, IsErrOf};
+ghost use Rattle.std.specs.Option.{option_or};
+ghost use Rattle.dr_graph.specs.Name.{given, new_names};
+ghost use Rattle.dr_graph.specs.Order.{HasCycle};
+ghost use Rattle.dr_graph.specs.Declaration.{declaring_fault, stranger_fault, following_fault, grouping_fault, followed_by, connected};
+ghost use Rattle.dr_graph.specs.Graph.{IsGraph, IsGraphOf};
+
+use crate::built::{Graph, build};
+use crate::edge::{Edge, is_upstream, with_followers};
+use crate::fault::GraphFault;
+use crate::group::Group;
+use crate::name::{check_declared, check_group, check_new, declare, place_of, places_of};
+use indexmap::IndexSet;
+use std::alloc::Global;
+use std::marker::Model;
+
+/// Declares handlers and who follows whom, as LMAX's `handleEventsWith`, `then`, `after` and `and` do. Edges between
+/// declared handlers, and so the refusal of cycles, are this project's own.
+///
+/// A call that is refused changes nothing, so that the builder serves on.
+#[derive(Drop)]
+pub struct GraphBuilder {
+    names: IndexSet<String>,
+    edges: Vec<Edge>,
+    alloc: Global,
+}
+
+impl Model for GraphBuilder {
+    ghost use Rattle.dr_graph.specs.Declaration.{Declaration};
+
+    ghost Value = { Declaration };
+
+    ghost use Rattle.dr_graph.specs.KeptBuilder.{declaration_of, IsKeptBuilder};
+
+    ghost view = { declaration_of };
+
+    ghost invariant = { IsKeptBuilder };
+}
+
+impl GraphBuilder {
+    /// A builder with no handlers. It keeps the allocator for the calls that grow it.
+    pub fn new(alloc: Global) -> Self
+        ensures names { result.names ≡ [] }
+        ensures edges { result.edges ≡ [] }
+    {
+        GraphBuilder {
+            names: IndexSet::new(alloc),
+            edges: Vec::new(alloc),
+            alloc,
+        }
+    }
+
+    /// Declares handlers without upstreams: each of them receives every published event.
+    pub fn handle_with(&mut self, names: &[&str]) -> Result<Group, GraphFault>
+        ensures group { IfOk result (λ group. group ≡ given names.now) }
+        ensures declared { OnOk result (self.new ≡ record self.old { names = self.old.names ++ given names.now }) }
+
+        // A fault of the names is always answered; only want of memory is not foreseen.
+        ensures accepted { IsOk result → declaring_fault self.old.names (given names.now) ≡ None }
+        ensures refused { IfSome (declaring_fault self.old.names (given names.now)) (λ fault. result ≡ Err fault) }
+        ensures cause { IfErr result (λ fault. (fault ≡ GraphFault.NoMemory) ⊎ (declaring_fault self.old.names (given names.now) ≡ Some fault)) }
+        ensures unchanged { OnErr result (self.new ≡ self.old) }
+    {
+        check_new(&self.names, names)?;
+        let group = Group::of(self.alloc, names)?;
+        declare(self.alloc, &mut self.names, names)?;
+        Ok(group)
+    }
+
+    /// Declares handlers that follow a whole group: each receives an event once every handler of the group has completed
+    /// it.
+    pub fn then(&mut self, group: &Group, names: &[&str]) -> Result<Group, GraphFault>
+        ensures group { IfOk result (λ followers. followers ≡ given names.now) }
+        ensures declared { OnOk result (self.new ≡ followed_by self.old group.now (given names.now)) }
+
+        // A fault of the group or the names is always answered; only want of memory is not foreseen.
+        ensures accepted { IsOk result → following_fault self.old.names group.now (given names.now) ≡ None }
+        ensures refused { IfSome (following_fault self.old.names group.now (given names.now)) (λ fault. result ≡ Err fault) }
+        ensures cause { IfErr result (λ fault. (fault ≡ GraphFault.NoMemory) ⊎ (following_fault self.old.names group.now (given names.now) ≡ Some fault)) }
+        ensures unchanged { OnErr result (self.new ≡ self.old) }
+    {
+        check_group(&self.names, group.names())?;
+        check_new(&self.names, names)?;
+        let followers = Group::of(self.alloc, names)?;
+        let ups = places_of(self.alloc, &self.names, group.names())?;
+        let first = self.names.len();
+        let edges = with_followers(self.alloc, &self.edges, &ups, first, first + names.len())?;
+        declare(self.alloc, &mut self.names, names)?;
+        self.edges = edges;
+        Ok(followers)
+    }
+
+    /// The group of some declared handlers. A name that stands twice counts once.
+    pub fn after(&self, names: &[&str]) -> Result<Group, GraphFault>
+        ensures group { IfOk result (λ group. group ≡ new_names [] (given names.now)) }
+        ensures accepted { IsOk result → grouping_fault self.now.names (given names.now) ≡ None }
+        ensures refused { IfSome (grouping_fault self.now.names (given names.now)) (λ fault. result ≡ Err fault) }
+        ensures cause { IfErr result (λ fault. (fault ≡ GraphFault.NoMemory) ⊎ (grouping_fault self.now.names (given names.now) ≡ Some fault)) }
+    {
+        if names.is_empty() {
+            return Err(GraphFault::EmptyGroup);
+        }
+        check_declared(&self.names, names)?;
+        Ok(Group::of(self.alloc, names)?)
+    }
+
+    /// Both groups as one: the first's names, then those of the second that the first lacks.
+    pub fn and(&self, first: &Group, second: &Group) -> Result<Group, GraphFault>
+        ensures group { IfOk result (λ group. group ≡ first.now ++ new_names first.now second.now) }
+        ensures accepted { IsOk result → stranger_fault self.now.names (first.now ++ second.now) ≡ None }
+        ensures refused { IfSome (stranger_fault self.now.names (first.now ++ second.now)) (λ fault. result ≡ Err fault) }
+        ensures cause { IfErr result (λ fault. (fault ≡ GraphFault.NoMemory) ⊎ (stranger_fault self.now.names (first.now ++ second.now) ≡ Some fault)) }
+    {
+        check_group(&self.names, first.names())?;
+        check_group(&self.names, second.names())?;
+        Ok(Group::joined(self.alloc, first, second)?)
+    }
+
+    /// Puts one declared handler before another. An edge from a handler to itself is accepted, and is a cycle.
+    pub fn edge(&mut self, up: &str, down: &str) -> Result<(), GraphFault>
+        ensures connected { OnOk result (self.new ≡ connected self.old up.now down.now) }
+        ensures accepted { IsOk result → stranger_fault self.old.names (up.now ∷ down.now ∷ []) ≡ None }
+        ensures refused { IfSome (stranger_fault self.old.names (up.now ∷ down.now ∷ [])) (λ fault. result ≡ Err fault) }
+        ensures cause { IfErr result (λ fault. (fault ≡ GraphFault.NoMemory) ⊎ (stranger_fault self.old.names (up.now ∷ down.now ∷ []) ≡ Some fault)) }
+        ensures unchanged { OnErr result (self.new ≡ self.old) }
+    {
+        check_declared(&self.names, &[up, down])?;
+        let from = place_of(&self.names, up);
+        let to = place_of(&self.names, down);
+        if !is_upstream(&self.edges, from, to) {
+            self.edges.push(Edge { up: from, down: to })?;
+        }
+        Ok(())
+    }
+
+    /// Builds the graph, and spends the builder, at a refusal too.
+    pub fn build(self) -> Result<Graph, GraphFault>
+        ensures built { IfOk result (λ graph. IsGraphOf self graph) }
+        ensures lawful { IfOk result (λ graph. IsGraph graph.upstreams) }
+        ensures acyclic { IsOk result → HasCycle self.edges → ⊥ }
+        ensures no_handlers { IsErrOf result GraphFault.NoHandlers ↔ (self.names ≡ []) }
+        ensures cycle { IsErrOf result GraphFault.Cycle → HasCycle self.edges }
+        ensures refused { IfErr result (λ fault. (fault ≡ GraphFault.NoHandlers) ⊎ ((fault ≡ GraphFault.Cycle) ⊎ (fault ≡ GraphFault.NoMemory))) }
+    {
+        if self.names.is_empty() {
+            return Err(GraphFault::NoHandlers);
+        }
+        build(self.alloc, &self.names, &self.edges)
+    }
+}

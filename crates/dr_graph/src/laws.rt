@@ -1,0 +1,17 @@
+//! What follows from the definitions of `specs/` alone, told of every declaration and every graph.
+
+ghost use Rattle.std.specs.Prelude.{List, ℕ};
+ghost use Rattle.dr_graph.specs.Declaration.{Declaration};
+ghost use Rattle.dr_graph.specs.Graph.{IsGraph, IsLayered, FinalsGate, LeastGates, HasOneGraph};
+
+/// The law that gating rests on: where no edge raises the counts, each handler has a final handler whose count is at
+/// most its own, and so the finals' least count is at most every handler's.
+pub fn finals_gate()
+    ensures each { (graph : List (List ℕ)) → IsLayered graph → FinalsGate graph }
+    ensures least { (graph : List (List ℕ)) → IsGraph graph → LeastGates graph }
+{}
+
+/// A declaration says which graph is built of it.
+pub fn one_graph()
+    ensures { (d : Declaration) → HasOneGraph d }
+{}
