@@ -5,7 +5,7 @@ use mathlib.Core.Option.{some, none}
 use lib.ListN.{get_elem?}
 use lib.Seq.{set-get_or}
 use Rattle.atomic_table.specs.Table.{step, Allows}
-use Rattle.dr_core.specs.Graph.{upstreams_of, finals}
+use Rattle.dr_graph.specs.Graph.{upstreams_of, finals}
 use Rattle.dr_ring.specs.Shape.{Shape, handlers_of}
 use Rattle.dr_ring.specs.Words.{cursor_word, closed_word, halt_word, count_word, payload_word}
 use Rattle.dr_ring.specs.declared.record.HalfWrite.{HalfWrite}

@@ -5,7 +5,7 @@ use Rattle.std.proofs.lemmas.Bool.{cases_lt, ne_eqb}
 use Rattle.std.proofs.lemmas.List.{length-append, length-replicate, append-nil}
 use Rattle.atomic_table.specs.Seated.{TableId}
 use Rattle.dr_seq.specs.declared.event.Event.{Event}
-use Rattle.dr_core.specs.Graph.{finals}
+use Rattle.dr_graph.specs.Graph.{finals}
 use Rattle.dr_ring.specs.Shape.{Shape}
 use Rattle.dr_ring.specs.Words.{halt_word, count_word}
 use Rattle.dr_ring.specs.declared.record.Look.{Look}
@@ -58,8 +58,8 @@ saw_halt r n v me me' counted counted' same looks is none more = subst (λ (q : 
     })
 
 -- an end that has only looked
-pub fits_saw : (at own own' : TableId) (me me' : End) (k : Shape) (n p least looked counted : ℕ) (ms : List ℕ) (xs : List Look) → SenderFits at own me k n p least looked ms → own' ≡ own → LooksAtFinals (sender_of me.0) xs me' counted → SenderFits at own' me' k n p least counted ms
-fits_saw at own own' me me' k n p least looked counted ms xs F same S =
+pub fits_saw : (at own own' : TableId) (me me' : End) (k : Shape) (n p least looked counted : ℕ) (ms : List ℕ) (rm : ℕ) (xs : List Look) → SenderFits at own me k n p least looked ms rm → own' ≡ own → LooksAtFinals (sender_of me.0) xs me' counted → SenderFits at own' me' k n p least counted ms rm
+fits_saw at own own' me me' k n p least looked counted ms rm xs F same S =
     let e : sender_of me'.0 ≡ sender_saw (sender_of me.0) xs = ap (λ (m : End). sender_of m.0) S.is in record {
       table = (same ∙ F.table.0, F.table.1);
       made = F.made;
@@ -74,11 +74,12 @@ fits_saw at own own' me me' k n p least looked counted ms xs F same S =
       seen = λ f has. subst (λ (q : SenderRecord). least ≤ last_look 0 q.looks (count_word f)) (sym e) (let a = F.seen f has in let b = S.rises f in omega arith);
       looks = S.looks ∙ sym (ap (λ (q : SenderRecord). looks_counted q.looks) e);
       marks = subst (λ (q : SenderRecord). Marked k.size q ms) (sym e) (record { slots = F.marks.slots; low = F.marks.low; each = F.marks.each });
+      places = F.places;
     }
 
 -- another number of events that every final completed is remembered
-pub fits_least : (at own : TableId) (me : End) (k : Shape) (n p least least' looked : ℕ) (ms : List ℕ) (r : SenderRecord) (xs : List Look) (counted needed : ℕ) → SenderFits at own me k n p least looked ms → LooksAtFinals r xs me counted → IsEnough k r xs needed least' → SenderFits at own me k n p least' looked ms
-fits_least at own me k n p least least' looked ms r xs counted needed F S E =
+pub fits_least : (at own : TableId) (me : End) (k : Shape) (n p least least' looked : ℕ) (ms : List ℕ) (rm : ℕ) (r : SenderRecord) (xs : List Look) (counted needed : ℕ) → SenderFits at own me k n p least looked ms rm → LooksAtFinals r xs me counted → IsEnough k r xs needed least' → SenderFits at own me k n p least' looked ms rm
+fits_least at own me k n p least least' looked ms rm r xs counted needed F S E =
     let e : sender_of me.0 ≡ sender_saw r xs = ap (λ (m : End). sender_of m.0) S.is in record {
       table = F.table;
       made = F.made;
@@ -93,19 +94,20 @@ fits_least at own me k n p least least' looked ms r xs counted needed F S E =
       seen = subst (λ (q : SenderRecord). IsSeenLeast k q least') (sym e) E.seen;
       looks = F.looks;
       marks = F.marks;
+      places = F.places;
     }
 
 -- what is enough leaves room
-pub enough_room : (at own : TableId) (me : End) (k : Shape) (n p least looked : ℕ) (ms : List ℕ) (q needed : ℕ) → SenderFits at own me k n p least looked ms → n + q ≤ k.limit → needed ≡ n + q - k.size → needed ≤ least → HasRoom k (sender_of me.0) q
-enough_room at own me k n p least looked ms q needed F limit need enough = let next = F.next in record {
+pub enough_room : (at own : TableId) (me : End) (k : Shape) (n p least looked : ℕ) (ms : List ℕ) (rm : ℕ) (q needed : ℕ) → SenderFits at own me k n p least looked ms rm → n + q ≤ k.limit → needed ≡ n + q - k.size → needed ≤ least → HasRoom k (sender_of me.0) q
+enough_room at own me k n p least looked ms rm q needed F limit need enough = let next = F.next in record {
   limit = omega arith;
   completed = λ f has. (let a = F.seen f has in omega arith);
 }
 
 -- the look at halt that claims
-pub fits_claim : (at own own' : TableId) (me me' : End) (k : Shape) (n p least looked counted : ℕ) (ms : List ℕ) (q needed : ℕ) → SenderFits at own me k n p least looked ms → own' ≡ own → me' ≡ as_sender (halt_looked (sender_of me.0) q 0) → counted ≡ min (looked + 1) 18446744073709551615
-    → n + q ≤ k.limit → needed ≡ n + q - k.size → needed ≤ least → SenderFits at own' me' k (n + q) p least counted ms
-fits_claim at own own' me me' k n p least looked counted ms q needed F same is more limit need enough =
+pub fits_claim : (at own own' : TableId) (me me' : End) (k : Shape) (n p least looked counted : ℕ) (ms : List ℕ) (rm : ℕ) (q needed : ℕ) → SenderFits at own me k n p least looked ms rm → own' ≡ own → me' ≡ as_sender (halt_looked (sender_of me.0) q 0) → counted ≡ min (looked + 1) 18446744073709551615
+    → n + q ≤ k.limit → needed ≡ n + q - k.size → needed ≤ least → SenderFits at own' me' k (n + q) p least counted ms rm
+fits_claim at own own' me me' k n p least looked counted ms rm q needed F same is more limit need enough =
     let r = sender_of me.0 in let nothing : Option Event = None in let low = F.least in let next = F.next in
     let e : sender_of me'.0 ≡ more_claimed (sender_saw r (look halt_word 0 ∷ [])) q = ap (λ (m : End). sender_of m.0) is in
     let longer : length (r.pending ++ replicate q nothing) ≡ length r.pending + q = omega (arith, length-append r.pending (replicate q nothing), length-replicate q nothing) in record {
@@ -123,17 +125,18 @@ fits_claim at own own' me me' k n p least looked counted ms q needed F same is m
           (λ f has. (let a = F.seen f has in let b : last_look 0 (r.looks ++ look halt_word 0 ∷ []) (count_word f) ≡ last_look 0 r.looks (count_word f) = last_look_else 0 r.looks halt_word (count_word f) 0 (λ (z : halt_word ≡ count_word f). omega arith) in omega arith));
       looks = subst (λ (s : SenderRecord). counted ≡ looks_counted s.looks) (sym e) (counted_more r.looks [] halt_word 0 looked counted (F.looks ∙ ap looks_counted (sym (append-nil r.looks))) more);
       marks = subst (λ (s : SenderRecord). Marked k.size s ms) (sym e) (marks_claim k.size r ms (look halt_word 0 ∷ []) q F.marks);
+      places = F.places;
     }
 
 -- answers
-pub size_of : (at own : TableId) (me : End) (k : Shape) (n p least looked : ℕ) (ms : List ℕ) (r : SenderRecord) (q : ℕ) → SenderFits at own me k n p least looked ms → sender_of me.0 ≡ r → 0 < q → q ≤ k.size → IsSize r q
-size_of at own me k n p least looked ms r q F same some_one le = (some_one, (let e : r.plan.size ≡ k.size = ap (λ (s : SenderRecord). s.plan.size) (sym same) ∙ ap (λ (x : Shape). x.size) F.plan in omega arith))
+pub size_of : (at own : TableId) (me : End) (k : Shape) (n p least looked : ℕ) (ms : List ℕ) (rm : ℕ) (r : SenderRecord) (q : ℕ) → SenderFits at own me k n p least looked ms rm → sender_of me.0 ≡ r → 0 < q → q ≤ k.size → IsSize r q
+size_of at own me k n p least looked ms rm r q F same some_one le = (some_one, (let e : r.plan.size ≡ k.size = ap (λ (s : SenderRecord). s.plan.size) (sym same) ∙ ap (λ (x : Shape). x.size) F.plan in omega arith))
 
-pub limit_of : (at own : TableId) (me : End) (k : Shape) (n p least looked : ℕ) (ms : List ℕ) (r : SenderRecord) → SenderFits at own me k n p least looked ms → sender_of me.0 ≡ r → r.plan.limit ≡ k.limit
-limit_of at own me k n p least looked ms r F same = ap (λ (s : SenderRecord). s.plan.limit) (sym same) ∙ ap (λ (x : Shape). x.limit) F.plan
+pub limit_of : (at own : TableId) (me : End) (k : Shape) (n p least looked : ℕ) (ms : List ℕ) (rm : ℕ) (r : SenderRecord) → SenderFits at own me k n p least looked ms rm → sender_of me.0 ≡ r → r.plan.limit ≡ k.limit
+limit_of at own me k n p least looked ms rm r F same = ap (λ (s : SenderRecord). s.plan.limit) (sym same) ∙ ap (λ (x : Shape). x.limit) F.plan
 
-pub claimed_of : (at own : TableId) (me : End) (k : Shape) (n p least looked : ℕ) (ms : List ℕ) (r : SenderRecord) → SenderFits at own me k n p least looked ms → sender_of me.0 ≡ r → n ≡ claimed r
-claimed_of at own me k n p least looked ms r F same = F.next ∙ ap claimed same
+pub claimed_of : (at own : TableId) (me : End) (k : Shape) (n p least looked : ℕ) (ms : List ℕ) (rm : ℕ) (r : SenderRecord) → SenderFits at own me k n p least looked ms rm → sender_of me.0 ≡ r → n ≡ claimed r
+claimed_of at own me k n p least looked ms rm r F same = F.next ∙ ap claimed same
 
 -- halt was found 1 at last
 pub answer_halted : (r : SenderRecord) (xs : List Look) (me me' : End) (counted q v : ℕ) → LooksAtFinals r xs me counted → me' ≡ as_sender (halt_looked (sender_of me.0) q v) → v ≢ 0 → v ≤ 1

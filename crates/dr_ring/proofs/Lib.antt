@@ -3,7 +3,7 @@ pub mod Keeps
 pub mod Stores
 pub mod Machine
 pub mod Pictures
-pub mod Opening
+pub mod Beginning
 pub mod Seats
 pub mod Allowed
 pub mod Plans
@@ -12,3 +12,7 @@ pub mod Marks
 pub mod Fields
 pub mod Claims
 pub mod Polls
+pub mod Cuts
+pub mod Making
+pub mod Settling
+pub mod Gathering

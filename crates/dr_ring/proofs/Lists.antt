@@ -6,7 +6,7 @@ use Rattle.std.proofs.lemmas.Bool.{cases_eq, cases_lt, eq-eqb, ne_eqb}
 use mathlib.Core.Option.{some, some-injective, some-ne-none}
 use lib.ListN.{get_elem?}
 use Rattle.atomic_table.proofs.Lists.{at_set, at_snoc, one_turn}
-use Rattle.dr_core.specs.Graph.{finals, is_final}
+use Rattle.dr_graph.specs.Graph.{finals, is_final}
 use Rattle.dr_ring.specs.Shape.{Shape}
 use Rattle.dr_ring.specs.Words.{payload_start, payload_word}
 use Rattle.dr_ring.specs.declared.record.Look.{Look}

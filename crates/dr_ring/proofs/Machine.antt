@@ -10,11 +10,14 @@ use Rattle.dr_seq.specs.Event.{no_event}
 use Rattle.dr_core.specs.declared.command.Command.TheVariants.{Claim, Write, Publish, Poll, Complete}
 use Rattle.dr_core.specs.declared.command.Reply.TheVariants.{Claimed, Written, Published, Batch, Drained, Completed}
 use Rattle.dr_core.specs.declared.refusal.Refusal.{Refusal}
-use Rattle.dr_core.specs.Graph.{finals}
-use Rattle.dr_core.specs.Machine.{State, Outcome, front, offered, available, least_of, least_completed, publish_faults, refusals, accepted, unless, step}
-use Rattle.dr_core.proofs.Least.{least_is, least_one, least_of-le}
-use Rattle.dr_core.proofs.Steps.{NoneHold}
+use Rattle.dr_graph.specs.Graph.{finals}
+use Rattle.dr_core.specs.Machine.{State, Outcome, least_outside, front, offered, available, least_of, least_completed, publish_faults, refusals, accepted, unless, step}
 use Rattle.dr_ring.specs.Shape.{Shape, handlers_of, setup_of}
+
+-- no test holds
+abbrev NoneHold : List (Bool × Refusal) → Type 0
+NoneHold [] = Unit {0}
+NoneHold (test ∷ tests) = (test.0 ≡ false) × NoneHold tests
 
 -- where no test holds, the outcome is the accepted one
 accepts : (tests : List (Bool × Refusal)) (m : State) (o : Outcome) → NoneHold tests → unless tests m o ≡ o
@@ -35,10 +38,23 @@ owners n = replicate n 0
 count_owners : (n : ℕ) → length (owners n) ≡ n
 count_owners n = let z : ℕ = 0 in length-replicate n z
 
+and_false : (b : Bool) → (b && false) ≡ false
+and_false true = refl
+and_false false = refl
+
+-- the least number that is not below f, up to n
+below_all : (f n : ℕ) → least_outside (λ s. nat_lt s f) n ≡ min n f
+unfolding least_outside
+below_all f zero = omega arith
+below_all f (suc b) =
+    let rest = below_all f b in
+    elim (cases_lt b f) [
+      | inl lt ↦ (let here : least_outside (λ s. nat_lt s f) b ≡ b = omega arith in rw (eq-eqb (least_outside (λ s. nat_lt s f) b) b here, lt-ltb b f lt) (omega arith))
+      | inr ge ↦ rw (le-ltb b f ge, and_false (least_outside (λ s. nat_lt s f) b == b)) (omega arith)
+    ]
+
 pub shown_front : (n : ℕ) (vs : List (Option Event)) (f : ℕ) (t d : List ℕ) (b : Bool) → f ≤ n → front (shown n vs f t d b) ≡ f
-shown_front n vs f t d b le =
-    least_one (λ s. nat_lt s f) (length (owners n)) _ _ (least_is (λ s. nat_lt s f) (length (owners n)))
-    (record { within = (let e = count_owners n in omega arith); below = λ k lt. lt-ltb k f lt; here = λ lt. le-ltb f f (omega arith) })
+shown_front n vs f t d b le = let all = below_all f (length (owners n)) in let e = count_owners n in omega arith
 
 more_owners : (n j : ℕ) → owners n ++ owners j ≡ owners (n + j)
 more_owners zero j = ap owners (sym (zero-add j))
@@ -154,11 +170,15 @@ counts_below m hs a b some_one all =
     let e : get_or (map (λ h. get_or m.completed h 0) hs) i 0 ≡ get_or m.completed (get_or hs i 0) 0 = get_or-map (λ h. get_or m.completed h 0) hs i 0 0 inside in
     let l : b ≤ a + get_or m.completed (get_or hs i 0) 0 = all (get_or hs i 0) (contains_at hs i inside) in omega arith))
 
+least_of-le : (n : ℕ) (ns : List ℕ) → least_of (n ∷ ns) ≤ n
+least_of-le n [] = omega arith
+least_of-le n (m ∷ ms) = omega arith
+
 -- what is offered to a handler is at most n, where all that is published and every count are
 pub offered_at_most : (m : State) (ups : List ℕ) (n : ℕ) → front m ≤ n → ((u : ℕ) → Contains ups u → get_or m.completed u 0 ≤ n) → offered m ups ≤ n
 offered_at_most m [] n published counts = published
 offered_at_most m (u ∷ ups) n published counts =
-    let a : least_of (map (λ h. get_or m.completed h 0) (u ∷ ups)) ≤ get_or m.completed u 0 = least_of-le (map (λ h. get_or m.completed h 0) (u ∷ ups)) 0 (omega arith) in
+    let a : least_of (map (λ h. get_or m.completed h 0) (u ∷ ups)) ≤ get_or m.completed u 0 = least_of-le (get_or m.completed u 0) (map (λ h. get_or m.completed h 0) ups) in
     let b : get_or m.completed u 0 ≤ n = counts u (0, omega arith, refl) in omega arith
 
 -- and more than n, where these are

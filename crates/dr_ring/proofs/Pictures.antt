@@ -14,7 +14,7 @@ use Rattle.dr_core.specs.declared.command.Command.{Command}
 use Rattle.dr_core.specs.declared.command.Command.TheVariants.{Claim, Write, Publish, Poll, Complete, Halt}
 use Rattle.dr_core.specs.declared.command.Reply.{Reply}
 use Rattle.dr_core.specs.declared.command.Reply.TheVariants.{Claimed, Written, Published, Batch, Drained, Completed, Halting}
-use Rattle.dr_core.specs.Graph.{upstreams_of, finals, IsGated, IsGraph}
+use Rattle.dr_graph.specs.Graph.{upstreams_of, finals, IsGated, IsGraph}
 use Rattle.dr_core.specs.Machine as machine
 use Rattle.dr_core.specs.Machine.{State, Outcome, front, available, least_completed}
 use Rattle.dr_core.specs.Transcript.{Transcript, LeadsFrom}
@@ -110,7 +110,7 @@ same_picture k w h r q at same = ap (λ (t : List ℕ). shown (claimed w.sender)
 pub some_final : (k : Shape) → IsGraph k.upstreams → 0 < length (finals k.upstreams)
 some_final k graph =
     let g : IsGated k.upstreams (λ h. 0) 0 = graph.gate (λ h. 0) (λ h u has. omega arith) 0 graph.some in
-    let has : Contains (finals k.upstreams) g.last = g.is_final in let lt = has.1 in omega arith
+    let has : Contains (finals k.upstreams) g.last = g.final in let lt = has.1 in omega arith
 
 -- what a claim of the sender has room for, the machine has
 claim_room : (k : Shape) (w : World) (n : ℕ) (t : List ℕ) (m : State) → m.completed ≡ counts_of k w.words → HasRoom k w.sender n → Kept k w → claimed w.sender + n ≤ k.size + least_completed m (finals k.upstreams)
@@ -125,7 +125,7 @@ claim_fits : (k : Shape) (w : World) (n : ℕ) → HasRoom k w.sender n → Kept
 claim_fits k w n room K =
     let some_one = K.graph.some in
     let g : IsGated k.upstreams (λ h. word_at w.words (count_word h)) 0 = K.graph.gate (λ h. word_at w.words (count_word h)) (orderly k w K) 0 some_one in
-    let i = final_inside k.upstreams g.last g.is_final in let a = room.completed g.last g.is_final in
+    let i = final_inside k.upstreams g.last g.final in let a = room.completed g.last g.final in
     let b = last_look_le k w.words 0 w.sender.looks (count_word g.last) (omega arith) K.looks in
     let d : word_at w.words (count_word g.last) ≤ word_at w.words (count_word 0) = g.behind in
     let t = receiver_of_handler k w K 0 some_one in let e = t.2.count in let f = t.2.completed in let h = t.2.taken in omega arith

@@ -1,7 +1,7 @@
 -- What the fields of an end have to do with what it knows.
 use Rattle.std.specs.Prelude.{◌≡◌, ℕ, ◌+◌, ◌%◌, ◌<◌, ◌≤◌, ◌==◌, is_some, List, length, slice_index, slice_index_or, None, Contains}
 use Rattle.atomic_table.specs.Seated.{TableId}
-use Rattle.dr_core.specs.Graph.{finals}
+use Rattle.dr_graph.specs.Graph.{finals}
 use Rattle.dr_ring.specs.Shape.{Shape, handlers_of}
 use Rattle.dr_ring.specs.Plans.{IsPlan}
 use Rattle.dr_ring.specs.Words.{count_word}
@@ -20,8 +20,8 @@ pub record Marked (size : ℕ) (r : SenderRecord) (ms : List ℕ) : Type 0 where
 abbrev pub IsSeenLeast : Shape → SenderRecord → ℕ → Type 0
 IsSeenLeast k r least = (f : ℕ) → Contains (finals k.upstreams) f → least ≤ last_look 0 r.looks (count_word f)
 
--- a sender's table and seat, its numbers of claimed and published sequences, the least count that it remembers, its count of looks and its marks
-pub record SenderFits (at own : TableId) (me : End) (k : Shape) (n p remembered looked : ℕ) (ms : List ℕ) : Type 0 where
+-- a sender's table and seat, its numbers of claimed and published sequences, the least count that it remembers, its count of looks, its marks and its room for the handlers' counts
+pub record SenderFits (at own : TableId) (me : End) (k : Shape) (n p remembered looked : ℕ) (ms : List ℕ) (rooms : ℕ) : Type 0 where
   pub table : IsAtTable own at k
   pub made : IsPlan k
   pub end : IsSender me
@@ -35,6 +35,8 @@ pub record SenderFits (at own : TableId) (me : End) (k : Shape) (n p remembered 
   pub seen : IsSeenLeast k (sender_of me.0) remembered
   pub looks : looked ≡ looks_counted (sender_of me.0).looks
   pub marks : Marked k.size (sender_of me.0) ms
+  -- room for each handler's counts, for the time when the ends come together
+  pub places : rooms ≡ handlers_of k
 
 pub record ReceiverFits (at own : TableId) (me : End) (k : Shape) (h n done looked : ℕ) : Type 0 where
   pub table : IsAtTable own at k

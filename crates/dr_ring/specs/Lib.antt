@@ -9,3 +9,6 @@ pub mod Seats
 pub mod Calls
 pub mod Fits
 pub mod Parts
+pub mod Making
+pub mod Fault
+pub mod Settling

@@ -2,7 +2,7 @@
 use Rattle.std.specs.Prelude.{◌≡◌, ◌≢◌, ℕ, ◌+◌, ◌%◌, ◌<◌, ◌≤◌, ◌==◌, ◌&&◌, ◌||◌, Bool, nat_lt, if◌then◌else◌, true, List, [], ◌++◌, length, slice_index, Option, Some, None, Contains}
 use Rattle.dr_core.specs.declared.command.Polled.{Polled}
 use Rattle.dr_core.specs.declared.command.Polled.TheVariants.{Drained, Gating, Idle}
-use Rattle.dr_core.specs.Graph.{upstreams_of, finals}
+use Rattle.dr_graph.specs.Graph.{upstreams_of, finals}
 use Rattle.dr_ring.specs.Shape.{Shape}
 use Rattle.dr_ring.specs.Words.{cursor_word, count_word}
 use Rattle.dr_ring.specs.declared.record.Look.{Look}

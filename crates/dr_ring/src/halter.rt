@@ -3,8 +3,8 @@
 ghost use Rattle.std.specs.Prelude.{◌≡◌};
 ghost use Rattle.dr_ring.specs.Ends.{halter_halted};
 
+use crate::body::RingBody;
 use crate::laws::{RingSeat, halter as laws};
-use crate::ring::Ring;
 use std::alloc::Global;
 use std::marker::Model;
 use std::sync::Arc;
@@ -12,7 +12,7 @@ use std::sync::Arc;
 /// An end that halts the ring: its sender claims no more from then on.
 #[derive(Drop)]
 pub struct Halter {
-    pub(crate) ring: Arc<Ring, Global>,
+    pub(crate) ring: Arc<RingBody, Global>,
     pub(crate) seat: RingSeat,
 }
 

@@ -7,9 +7,10 @@
 pub mod halter;
 pub mod receiver;
 pub mod sender;
+pub mod settling;
 
 ghost use Rattle.std.specs.Prelude.{List, ◌<◌, ◌≤◌};
-ghost use Rattle.dr_core.specs.Graph.{IsGraph};
+ghost use Rattle.dr_graph.specs.Graph.{IsGraph};
 ghost use Rattle.dr_core.specs.Transcript.{Transcript, LeadsTo};
 ghost use Rattle.dr_core.specs.Laws.{Laws};
 ghost use Rattle.dr_ring.specs.Shape.{Shape, setup_of};

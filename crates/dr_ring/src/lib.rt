@@ -7,16 +7,22 @@
 //! steps.
 #![tactic(auto)]
 
+mod body;
+pub mod fault;
 pub mod halter;
 pub mod laws;
+pub mod opening;
 mod parts;
 pub mod plan;
 pub mod receiver;
 pub mod record;
-mod ring;
 pub mod sender;
+pub mod settled;
 
+pub use fault::RingFault;
 pub use halter::Halter;
+pub use opening::ring;
 pub use plan::Plan;
 pub use receiver::Receiver;
 pub use sender::Sender;
+pub use settled::{HandlerCounts, Settled, settle};

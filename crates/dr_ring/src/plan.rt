@@ -1,12 +1,14 @@
 //! What a ring is made for, and the places of its words.
 
-ghost use Rattle.std.specs.Prelude.{◌≡◌, ◌+◌, ◌<◌, ◌≤◌};
-ghost use Rattle.dr_core.specs.Graph.{upstreams_of, finals as finals_of};
+ghost use Rattle.std.specs.Prelude.{◌≡◌, ◌^◌, ◌<◌, ◌≤◌, map, IfOk};
+ghost use Rattle.dr_graph.specs.Graph.{upstreams_of, finals as finals_of};
 ghost use Rattle.dr_ring.specs.Shape.{handlers_of};
 ghost use Rattle.dr_ring.specs.Words.{cursor_word, closed_word, halt_word, count_word as count_word_of, payload_word as payload_word_of, words_of};
 ghost use Rattle.dr_ring.specs.Plans.{IsPlan};
 
+use dr_graph::Graph;
 use dr_seq::Size;
+use std::alloc::{AllocError, Global};
 use std::marker::Model;
 
 /// The place of the word that counts the published events.
@@ -36,7 +38,7 @@ pub struct Plan {
 
 impl Model for Plan {
     ghost use Rattle.std.specs.Prelude.{◌≡◌, map};
-    ghost use Rattle.dr_core.specs.Graph.{finals as final_handlers};
+    ghost use Rattle.dr_graph.specs.Graph.{finals as final_handlers};
     ghost use Rattle.dr_ring.specs.Shape.{Shape};
     ghost use Rattle.dr_ring.specs.Plans.{IsPlan};
 
@@ -47,7 +49,43 @@ impl Model for Plan {
     ghost invariant = { λ p. IsPlan (record { upstreams = map (λ v. v.items) p.upstreams.items; size = p.size; limit = p.limit }) × (p.finals.items ≡ final_handlers (map (λ v. v.items) p.upstreams.items)) };
 }
 
+// The direct upstreams of each handler of a graph.
+fn copy_upstreams(alloc: Global, graph: &Graph) -> Result<Vec<Vec<usize>>, AllocError>
+    ensures { IfOk result (λ v. map (λ ups. ups.items) v.items ≡ graph.now.upstreams) }
+{
+    let handlers = graph.len();
+    let mut upstreams = Vec::with_capacity(alloc, handlers)?;
+    for handler in 0..handlers {
+        let own = Vec::from_slice(alloc, graph.upstreams(handler))?;
+        upstreams.push(own)?;
+    }
+    Ok(upstreams)
+}
+
 impl Plan {
+    /// The plan of a ring for a graph, which it copies.
+    pub(crate) fn of(
+        alloc: Global,
+        graph: &Graph,
+        size: Size,
+        limit: u64,
+    ) -> Result<Plan, AllocError>
+        requires limit { (0 < limit) × (limit ≤ 2 ^ 62) }
+        ensures made { IfOk result (λ plan. plan ≡ record { upstreams = graph.now.upstreams; size = size; limit = limit }) }
+        ensures plan { IfOk result (λ plan. IsPlan plan) }
+    {
+        let upstreams = copy_upstreams(alloc, graph)?;
+        let finals = Vec::from_slice(alloc, graph.finals())?;
+        let _handlers = graph.len();
+        let _slots = size.get();
+        Ok(Plan {
+            size,
+            limit,
+            upstreams,
+            finals,
+        })
+    }
+
     /// How many slots the ring has.
     pub fn size(&self) -> Size
         ensures { result ≡ self.now.size }

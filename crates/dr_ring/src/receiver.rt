@@ -3,9 +3,9 @@
 ghost use Rattle.std.specs.Prelude.{◌≡◌};
 ghost use Rattle.dr_ring.specs.Calls.{looks_counted, Polls, TriesToComplete};
 
+use crate::body::RingBody;
 use crate::laws::{RingSeat, receiver as laws};
 use crate::parts;
-use crate::ring::Ring;
 use dr_core::{Polled, Refusal};
 use dr_seq::Event;
 use std::alloc::Global;
@@ -16,7 +16,7 @@ use std::sync::Arc;
 /// memory.
 #[derive(Drop)]
 pub struct Receiver {
-    pub(crate) ring: Arc<Ring, Global>,
+    pub(crate) ring: Arc<RingBody, Global>,
     pub(crate) seat: RingSeat,
     pub(crate) number: usize,
     pub(crate) taken: u64,

@@ -3,9 +3,10 @@
 ghost use Rattle.std.specs.Prelude.{◌≡◌};
 ghost use Rattle.dr_ring.specs.Calls.{looks_counted, TriesToClaim, TriesToWrite, TriesToPublish, TriesToClose};
 
+use crate::body::RingBody;
 use crate::laws::{RingSeat, sender as laws};
 use crate::parts;
-use crate::ring::Ring;
+use crate::settled::HandlerCounts;
 use dr_core::{Claimed, Refusal};
 use dr_seq::Event;
 use std::alloc::Global;
@@ -15,7 +16,7 @@ use std::sync::Arc;
 /// The one end that claims, writes and publishes. No call waits or takes memory.
 #[derive(Drop)]
 pub struct Sender {
-    pub(crate) ring: Arc<Ring, Global>,
+    pub(crate) ring: Arc<RingBody, Global>,
     pub(crate) seat: RingSeat,
     pub(crate) claimed: u64,
     pub(crate) published: u64,
@@ -24,9 +25,12 @@ pub struct Sender {
     pub(crate) looks: u64,
     // One more than the sequence that was last written to a slot, so that a claim clears nothing.
     pub(crate) marks: Vec<u64>,
+    // Room for each handler's counts, since the ends come together without taking memory.
+    pub(crate) counts: Vec<HandlerCounts>,
 }
 
 impl Model for Sender {
+    ghost use Rattle.std.specs.Prelude.{length};
     ghost use Rattle.std.specs.Arc.{arc_value};
     ghost use Rattle.dr_ring.specs.Seats.{sender_of};
     ghost use Rattle.dr_ring.specs.Calls.{SenderEnd};
@@ -36,7 +40,7 @@ impl Model for Sender {
 
     ghost view = { λ s. record { ring = s.seat.table_id; knows = sender_of s.seat.me.0 } };
 
-    ghost invariant = { λ s. SenderFits (arc_value s.ring).table.shared.table_id s.seat.table_id s.seat.me (arc_value s.ring).plan s.claimed s.published s.least s.looks s.marks.items };
+    ghost invariant = { λ s. SenderFits (arc_value s.ring).table.shared.table_id s.seat.table_id s.seat.me (arc_value s.ring).plan s.claimed s.published s.least s.looks s.marks.items (length s.counts.items) };
 }
 
 impl Sender {

@@ -1,7 +1,7 @@
 //! A receiver's steps.
 
 ghost use Rattle.std.specs.Prelude.{◌≡◌, ◌<◌, ◌≤◌, true, Some, length, Contains};
-ghost use Rattle.dr_core.specs.Graph.{upstreams_of};
+ghost use Rattle.dr_graph.specs.Graph.{upstreams_of};
 ghost use Rattle.dr_ring.specs.Shape.{handlers_of};
 ghost use Rattle.dr_ring.specs.Words.{closed_word, count_word as count_word_of};
 ghost use Rattle.dr_ring.specs.Ends.{receiver_looked, cursor_looked, half_taken, took, completed_to, IsBelowBarrier};

@@ -1,7 +1,7 @@
 //! The sender's steps.
 
 ghost use Rattle.std.specs.Prelude.{◌≡◌, ◌<◌, ◌≤◌, [], true, None, Some, length, Contains};
-ghost use Rattle.dr_core.specs.Graph.{finals};
+ghost use Rattle.dr_graph.specs.Graph.{finals};
 ghost use Rattle.dr_ring.specs.Words.{count_word as count_word_of};
 ghost use Rattle.dr_ring.specs.Ends.{claimed, last_look, sender_looked, halt_looked, half_written, written, published_to, sender_halted, sender_closed, HasRoom, IsOpen, AreWritten};
 ghost use Rattle.dr_ring.specs.Seats.{IsAtTable, IsSender, sender_of, as_sender};

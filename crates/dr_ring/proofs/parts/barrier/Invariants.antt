@@ -1,5 +1,5 @@
 use Rattle.std.proofs.Common.{◌≡◌}
-use Rattle.dr_core.specs.Graph.{upstreams_of}
+use Rattle.dr_graph.specs.Graph.{upstreams_of}
 use Rattle.dr_ring.specs.Seats.{receiver_of}
 use Rattle.dr_ring.proofs.Rounds.{Round}
 use Rattle.dr_ring.proofs.parts.barrier.Given as goal

@@ -6,7 +6,7 @@ use Rattle.dr_ring.proofs.sender.Sender.write.Goals as goal
 
 pub invariant_of-self : goal.invariant_of-self
 invariant_of-self c =
-    fits_write _ _ _ _ _ _ _ _ _ _ _ _ c.args.sequence c.args.event c.self.invariant
+    fits_write _ _ _ _ _ _ _ _ _ _ _ _ _ c.args.sequence c.args.event c.self.invariant
     (c.store_second.ensures.seat.0 ∙ c.store_first.ensures.seat.0)
     (c.store_second.ensures.end ∙ ap (λ (m : End). as_sender (written (sender_of m.0) c.args.sequence c.args.event)) c.store_first.ensures.end)
     c.if-sequence-self-2.false c.if-sequence-self.false

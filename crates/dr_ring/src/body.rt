@@ -1,11 +1,11 @@
-//! A ring: its words, and what it was made for.
+//! What all ends of a ring share.
 
 use crate::laws::RingTable;
 use crate::plan::Plan;
 
-/// What all ends of a ring share.
+/// The words of a ring, and what it was made for.
 #[derive(Drop)]
-pub(crate) struct Ring {
+pub(crate) struct RingBody {
     pub(crate) table: RingTable,
     pub(crate) plan: Plan,
 }
