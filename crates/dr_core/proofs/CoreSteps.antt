@@ -13,8 +13,8 @@ use Rattle.dr_core.specs.declared.command.Reply.TheVariants.{Claimed, Completed,
 use Rattle.dr_core.specs.declared.refusal.Refusal.{Refusal}
 use Rattle.dr_core.specs.declared.refusal.Refusal.TheVariants.{BadCount}
 use Rattle.dr_seq.specs.declared.event.Event.{Event}
-use Rattle.dr_core.specs.Graph.{is_final, finals, IsGated}
-use Rattle.dr_core.specs.Machine.{State, Outcome, handlers, producers, next, front, least_of, refusals, accepted, unless, unchanged}
+use Rattle.dr_graph.specs.Graph.{is_final, finals, IsGated, least_of}
+use Rattle.dr_core.specs.Machine.{State, Outcome, handlers, producers, next, front, refusals, accepted, unless, unchanged}
 use Rattle.dr_core.specs.CoreView.{Known, Nothing, ClaimedBy, CoreView, recent_of, known_at}
 use Rattle.dr_core.specs.Shows.{Shows, IsStep}
 use Rattle.dr_core.specs.Inside.{IsWhole}
@@ -26,16 +26,17 @@ unless-none [] m o h = refl
 unless-none (test ∷ tests) m o h = cond-false test.0 _ _ h.0 ∙ unless-none tests m o h.1
 
 -- where no test holds, what is to show is of the accepted command
-pub accepted_step : (old new : CoreView) (command : Command) (reply : Reply) (values : List Event) → new.setup ≡ old.setup
+pub accepted_step : (old new : CoreView) (command : Command) (reply : Reply) (values : List Event) → new.setup ≡ old.setup → new.names ≡ old.names
     → ((m : State) → Shows old m → NoneHold (refusals old.setup m command))
     → ((m : State) → Shows old m → (accepted old.setup m command).reply ≡ reply)
     → ((m : State) → Shows old m → (accepted old.setup m command).values ≡ values)
     → ((m : State) → Shows old m → Shows new (accepted old.setup m command).state)
     → IsStep old command reply values new
-accepted_step old new command reply values same none replies gives shows =
+accepted_step old new command reply values same named none replies gives shows =
     let is = λ (m : State) (sh : Shows old m). unless-none (refusals old.setup m command) m (accepted old.setup m command) (none m sh) in
     record {
       same_setup = same;
+      same_names = named;
       replies = λ m sh. ap (λ o. o.reply) (is m sh) ∙ replies m sh;
       hands_out = λ m sh. ap (λ o. o.values) (is m sh) ∙ gives m sh;
       shown = λ m sh. rw (is m sh) (shows m sh);
@@ -56,6 +57,7 @@ refused_step v command r refuses =
     let is = λ (m : State) (sh : Shows v m). unless-refused r (refusals v.setup m command) m (accepted v.setup m command) (refuses m sh) in
     record {
       same_setup = refl;
+      same_names = refl;
       replies = λ m sh. ap (λ o. o.reply) (is m sh);
       hands_out = λ m sh. ap (λ o. o.values) (is m sh);
       shown = λ m sh. rw (is m sh) sh;
@@ -63,13 +65,13 @@ refused_step v command r refuses =
 
 pub halt_step : (v : CoreView) → IsStep v Halt Halting [] (record v { halted = true })
 halt_step v =
-    accepted_step v (record v { halted = true }) Halt Halting [] refl (λ m sh. tt) (λ m sh. refl) (λ m sh. refl)
+    accepted_step v (record v { halted = true }) Halt Halting [] refl refl (λ m sh. tt) (λ m sh. refl) (λ m sh. refl)
     (λ m sh. record { next = sh.next; front = sh.front; taken = sh.taken; completed = sh.completed; halted = refl; recent = sh.recent; unclaimed = sh.unclaimed })
 
 pub complete_step : (v : CoreView) (h upto : ℕ) → h < handlers v.setup → slice_index v.completed h ≤ upto → upto ≤ slice_index v.taken h
     → IsStep v (Complete h upto) Completed [] (record v { completed = slice_set v.completed h upto })
 complete_step v h upto inside up low =
-    accepted_step v (record v { completed = slice_set v.completed h upto }) (Complete h upto) Completed [] refl
+    accepted_step v (record v { completed = slice_set v.completed h upto }) (Complete h upto) Completed [] refl refl
     (λ m sh. (lt-leb _ _ inside, (rw (sh.completed) (le-ltb _ _ up), (rw (sh.taken) (le-ltb _ _ low), tt))))
     (λ m sh. refl)
     (λ m sh. refl)
@@ -122,7 +124,7 @@ module _ (v : CoreView) (p n : ℕ) (known : ℕ → Known) (knows : ClaimsKnown
       → v.next + n ≤ v.setup.size + least_of (map (λ h. slice_index v.completed h) (finals v.setup.upstreams))
       → IsStep v (Claim p n) (Claimed v.next (v.next + n - 1)) [] (record v { next = v.next + n; recent = recent_of known (v.next + n) v.setup.size })
   claim_step producer some fits going limit room =
-      accepted_step v (record v { next = v.next + n; recent = recent_of known (v.next + n) v.setup.size }) (Claim p n) (Claimed v.next (v.next + n - 1)) [] refl
+      accepted_step v (record v { next = v.next + n; recent = recent_of known (v.next + n) v.setup.size }) (Claim p n) (Claimed v.next (v.next + n - 1)) [] refl refl
       (λ m sh. let here : next m ≡ v.next = sh.next in (
         lt-leb _ _ producer,
         (
@@ -146,7 +148,7 @@ finals_least v whole h inside =
     let counts : ℕ → ℕ = λ k. slice_index v.completed k in
     let gate : IsGated v.setup.upstreams counts h =
     whole.graph.gate counts (λ k u has. (let a : slice_index v.completed k ≤ slice_index v.taken k = whole.took k in let b : slice_index v.taken k ≤ slice_index v.completed u = whole.after k u has in omega arith)) h inside in
-    let low : least_of (map counts (finals v.setup.upstreams)) ≤ slice_index v.completed gate.last = least_of-member counts (finals v.setup.upstreams) gate.last gate.is_final in
+    let low : least_of (map counts (finals v.setup.upstreams)) ≤ slice_index v.completed gate.last = least_of-member counts (finals v.setup.upstreams) gate.last gate.final in
     let behind : slice_index v.completed gate.last ≤ slice_index v.completed h = gate.behind in
     omega arith
 

@@ -8,8 +8,8 @@ use Rattle.std.proofs.lemmas.List.{length-append, length-replicate, length-set, 
 use Rattle.dr_core.specs.declared.command.Command.{Command}
 use Rattle.dr_core.specs.declared.command.Command.TheVariants.{Claim, Write, Publish, Poll, Complete, Halt}
 use Rattle.dr_seq.specs.declared.event.Event.{Event}
-use Rattle.dr_core.specs.Graph.{upstreams_of}
-use Rattle.dr_core.specs.Machine.{Setup, State, Outcome, handlers, next, front, available, offered, least_of, least_outside, refusals, accepted, step, batch, publish_faults, cursor, opening}
+use Rattle.dr_graph.specs.Graph.{upstreams_of, least_of}
+use Rattle.dr_core.specs.Machine.{Setup, State, Outcome, handlers, next, front, available, offered, least_outside, refusals, accepted, step, batch, publish_faults, cursor, opening}
 use Rattle.dr_core.proofs.Leasts.{least_grows, least_of-le}
 use Rattle.dr_core.proofs.Steps.{NoneHold, NoneHold-append, unless-cases}
 use Rattle.dr_core.proofs.Sound.{IsSound, set_count, count_of, within, reach}

@@ -4,7 +4,8 @@ use Rattle.std.proofs.lemmas.Bool.Decides.{nat_tests}
 use Rattle.std.proofs.lemmas.List.{map_more, length-map, length-take-le, get_or-map}
 use Rattle.std.proofs.lemmas.Bool.{cond_both, and_parts, and_cases, eqb-true, eqb-false, false≢true, cases_order, cases_lt}
 use Rattle.std.specs.Prelude.{◌==◌, if◌then◌else◌, get_or, length, Contains}
-use Rattle.dr_core.specs.Machine.{least_outside, least_of}
+use Rattle.dr_graph.specs.Graph.{least_of}
+use Rattle.dr_core.specs.Machine.{least_outside}
 
 -- what the answer is: all below it are in the set, and it is not, unless it is the bound
 pub record IsLeast (set : ℕ → Bool) (bound n : ℕ) : Type 0 where

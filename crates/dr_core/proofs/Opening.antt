@@ -2,19 +2,20 @@
 use Rattle.std.proofs.Common.{◌≡◌, ℕ, ◌≤◌, ◌^◌, List, arith, refl, ap, sym, ◌∙◌, length, replicate, false}
 use Rattle.std.proofs.lemmas.List.{length-replicate}
 use Rattle.dr_seq.specs.Size.{IsSize}
+use Rattle.dr_graph.specs.Name.{Name}
 use Rattle.dr_core.specs.Machine.{Setup, handlers, opening, least_outside}
-use Rattle.dr_core.specs.Graph.{IsGraph}
+use Rattle.dr_graph.specs.Graph.{IsGraph}
 use Rattle.dr_core.specs.CoreView.{Known, CoreView}
 use Rattle.dr_core.specs.Shows.{Shows}
 use Rattle.dr_core.specs.Inside.{IsWhole}
 use Rattle.dr_core.proofs.Keeps.{zeros}
 
 -- a core over a graph, as it is opened
-abbrev pub new_core : Setup → List Known → List ℕ → List ℕ → CoreView
-new_core c recent taken completed = record { setup = c; next = 0; front = 0; taken = taken; completed = completed; halted = false; recent = recent }
+abbrev pub new_core : Setup → List Name → List Known → List ℕ → List ℕ → CoreView
+new_core c names recent taken completed = record { setup = c; names = names; next = 0; front = 0; taken = taken; completed = completed; halted = false; recent = recent }
 
-module _ (c : Setup) (recent : List Known) (taken completed : List ℕ) (none_taken : taken ≡ replicate (handlers c) 0) (none_completed : completed ≡ replicate (handlers c) 0) where
-  pub opening_shows : Shows (new_core c recent taken completed) (opening c)
+module _ (c : Setup) (names : List Name) (recent : List Known) (taken completed : List ℕ) (none_taken : taken ≡ replicate (handlers c) 0) (none_completed : completed ≡ replicate (handlers c) 0) where
+  pub opening_shows : Shows (new_core c names recent taken completed) (opening c)
   unfolding least_outside
   opening_shows = record {
     next = refl;
@@ -26,7 +27,7 @@ module _ (c : Setup) (recent : List Known) (taken completed : List ℕ) (none_ta
     unclaimed = λ s l. (refl, refl);
   }
 
-  pub opening_whole : IsGraph c.upstreams → IsSize c.size → c.limit ≤ 2 ^ 62 → IsWhole (new_core c recent taken completed)
+  pub opening_whole : IsGraph c.upstreams → IsSize c.size → c.limit ≤ 2 ^ 62 → IsWhole (new_core c names recent taken completed)
   opening_whole graph size limit = record {
     graph = graph;
     size = size;

@@ -10,8 +10,8 @@ use Rattle.dr_core.specs.declared.command.Reply.TheVariants.{Batch, Drained, Gat
 use Rattle.dr_seq.specs.declared.event.Event.{Event}
 use Rattle.dr_seq.specs.Event.{no_event}
 use Rattle.dr_seq.proofs.Sizes.{size_positive}
-use Rattle.dr_core.specs.Graph.{upstreams_of, IsGraph}
-use Rattle.dr_core.specs.Machine.{State, handlers, is_single, next, available, offered, cursor, batch, unchanged, accepted, step, least_of}
+use Rattle.dr_graph.specs.Graph.{upstreams_of, IsGraph, least_of}
+use Rattle.dr_core.specs.Machine.{State, handlers, is_single, next, available, offered, cursor, batch, unchanged, accepted, step}
 use Rattle.dr_core.specs.CoreView.{Known, Nothing, ClaimedBy, WrittenBy, PublishedWith, CoreView, known_at}
 use Rattle.dr_core.specs.SlotStates.{is_shown, value_of}
 use Rattle.dr_core.specs.Shows.{Shows, Agrees, IsStep, offered_to, poll_reply, polled}
@@ -27,7 +27,6 @@ use Rattle.dr_core.proofs.Leasts.{least_of-le}
 use Rattle.std.proofs.lemmas.Bool.{eqb-true, leb-false}
 use Rattle.dr_core.proofs.Sound.{set_count}
 use Rattle.dr_core.proofs.Writing.{below_front}
-use Rattle.std.proofs.Common.{Vec, Global}
 use Rattle.std.specs.Prelude.{All}
 use Rattle.std.proofs.lemmas.List.Elements.{Contains-get_or}
 use Rattle.std.proofs.lemmas.List.{get_or-map, length-map, get_or_past, get_or_read}
@@ -79,7 +78,7 @@ module _ (v : CoreView) (h limit : ℕ) (whole : IsWhole v) (inside : h < handle
   -- the poll in one of its cases
   pub quiet_step : (r : Reply) → ((m : State) → Shows v m → accepted v.setup m (Poll h limit) ≡ unchanged r m) → IsStep v (Poll h limit) r [] v
   quiet_step r is =
-      accepted_step v v (Poll h limit) r [] refl none (λ m sh. ap (λ o. o.reply) (is m sh)) (λ m sh. ap (λ o. o.values) (is m sh)) (λ m sh. rw (is m sh) sh)
+      accepted_step v v (Poll h limit) r [] refl refl none (λ m sh. ap (λ o. o.reply) (is m sh)) (λ m sh. ap (λ o. o.values) (is m sh)) (λ m sh. rw (is m sh) sh)
 
   module _ (all : offered_to v (upstreams_of v.setup.upstreams h) ≤ slice_index v.taken h) where
     no_batch : (m : State) → Shows v m → nat_lt (slice_index m.taken h) (available v.setup m h) ≡ false
@@ -112,7 +111,7 @@ module _ (v : CoreView) (h limit : ℕ) (whole : IsWhole v) (inside : h < handle
     pub batch_step : (first count to : ℕ) (event : ℕ → Event) → ((k : ℕ) → k < v.next → v.next ≤ k + v.setup.size → is_shown (known_at v k) ≡ true → event k ≡ value_of (known_at v k)) → first ≡ slice_index v.taken h → to ≡ offered_to v (upstreams_of v.setup.upstreams h) → count ≡ min (to - first) limit
         → IsStep v (Poll h limit) (Batch first count (first + count == to)) (map event (range_with_len first count)) (record v { taken = slice_set v.taken h (first + count) })
     batch_step first count to event holds a b d =
-        accepted_step v (record v { taken = slice_set v.taken h (first + count) }) (Poll h limit) (Batch first count (first + count == to)) (map event (range_with_len first count)) refl none
+        accepted_step v (record v { taken = slice_set v.taken h (first + count) }) (Poll h limit) (Batch first count (first + count == to)) (map event (range_with_len first count)) refl refl none
         (λ m sh. let t : slice_index m.taken h ≡ first = first_is m sh in let e : available v.setup m h ≡ to = same m sh ∙ sym b in ap (λ o. o.reply) (is_batch m sh) ∙ rw (e, t, ← d))
         (λ m sh. let t : slice_index m.taken h ≡ first = first_is m sh in let e : available v.setup m h ≡ to = same m sh ∙ sym b in ap (λ o. o.values) (is_batch m sh) ∙ rw (e, t, ← d) (values m sh))
         (λ m sh. let t : slice_index m.taken h ≡ first = first_is m sh in let e : available v.setup m h ≡ to = same m sh ∙ sym b in rw (is_batch m sh) (rw (e, t, ← d)
@@ -157,10 +156,6 @@ pub offered_some : (v : CoreView) (ups : List ℕ) → 0 < length ups → least_
 offered_some v [] l = absurd (omega arith)
 offered_some v (u ∷ us) l = refl
 
--- a list of a list of vectors
-pub ups_is : (xs : List (Vec ℕ Global)) (h : ℕ) (x : Vec ℕ Global) → h < length xs → x ≡ get_or xs h x → x.items ≡ get_or (map (λ ups. ups.items) xs) h []
-ups_is xs h x l is = ap (λ u. u.items) is ∙ sym (get_or-map (λ ups. ups.items) xs h x [] l)
-
 -- every upstream is a handler
 upstream_within : (graph : List (List ℕ)) → IsGraph graph → (h u : ℕ) → Contains (upstreams_of graph h) u → u < length graph
 upstream_within graph is h u has = elim (cases_lt h (length graph)) [
@@ -196,6 +191,7 @@ step_capped v m h limit whole sh =
 pub capped_step : (v w : CoreView) (h limit : ℕ) (reply : Reply) (values : List Event) → IsWhole v → IsStep v (Poll h (min limit v.setup.size)) reply values w → IsStep v (Poll h limit) reply values w
 capped_step v w h limit reply values whole is = record {
   same_setup = is.same_setup;
+  same_names = is.same_names;
   replies = λ m sh. ap (λ o. o.reply) (step_capped v m h limit whole sh) ∙ is.replies m sh;
   hands_out = λ m sh. ap (λ o. o.values) (step_capped v m h limit whole sh) ∙ is.hands_out m sh;
   shown = λ m sh. rw (step_capped v m h limit whole sh) (is.shown m sh);
@@ -232,10 +228,7 @@ pub record PollsAt (v : CoreView) (h limit first to : ℕ) : Type 0 where
   pub taken : first ≡ slice_index v.taken h
   pub offered : to ≡ offered_to v (upstreams_of v.setup.upstreams h)
 
-pub polls_at : (v : CoreView) (upstreams : Vec (Vec ℕ Global) Global) (h limit count first to : ℕ) → IsWhole v → v.setup.upstreams ≡ map (λ ups. ups.items) upstreams.items
-    → count ≡ upstreams.len → h < count → limit ≢ 0 → first ≡ get_or v.taken h first → to ≡ offered_to v (upstreams_of v.setup.upstreams h) → PollsAt v h limit first to
-polls_at v upstreams h limit count first to whole same counted inside some read offered =
-    let many : handlers v.setup ≡ length upstreams.items = ap length same ∙ length-map upstreams.items (λ ups. ups.items) in
-    let items : upstreams.len ≡ length upstreams.items = upstreams.ok.0 in
+pub polls_at : (v : CoreView) (h limit count first to : ℕ) → IsWhole v → count ≡ handlers v.setup → h < count → limit ≢ 0 → first ≡ get_or v.taken h first → to ≡ offered_to v (upstreams_of v.setup.upstreams h) → PollsAt v h limit first to
+polls_at v h limit count first to whole counted inside some read offered =
     let taken : length v.taken ≡ handlers v.setup = whole.taken in
     record { whole = whole; inside = omega arith; some = some; taken = get_or_read v.taken h first (omega arith) read 0; offered = offered }

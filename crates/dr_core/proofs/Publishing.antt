@@ -173,7 +173,7 @@ module _ (v : CoreView) (p lo hi front' : ℕ) (known : ℕ → Known) (knows : 
 
   pub publish_step : (is_single v.setup.mode && not (lo == v.front)) ≡ false → IsStep v (Publish p lo hi) Published [] (record v { recent = recent_of known v.next v.setup.size; front = front' })
   publish_step in_order =
-      accepted_step v (record v { recent = recent_of known v.next v.setup.size; front = front' }) (Publish p lo hi) Published [] refl
+      accepted_step v (record v { recent = recent_of known v.next v.setup.size; front = front' }) (Publish p lo hi) Published [] refl refl
       (λ m sh. (
         lt-leb _ _ producer,
         (

@@ -13,8 +13,8 @@ use Rattle.dr_core.specs.declared.command.Reply.{Reply}
 use Rattle.dr_core.specs.declared.command.Reply.TheVariants.{Drained, Gating, Idle, Refused}
 use Rattle.dr_seq.specs.declared.event.Event.{Event}
 use Rattle.dr_seq.specs.Event.{no_event}
-use Rattle.dr_core.specs.Graph.{upstreams_of}
-use Rattle.dr_core.specs.Machine.{Setup, State, Outcome, handlers, next, front, available, offered, least_of, refusals, accepted, step, batch, cursor}
+use Rattle.dr_graph.specs.Graph.{upstreams_of, least_of}
+use Rattle.dr_core.specs.Machine.{Setup, State, Outcome, handlers, next, front, available, offered, refusals, accepted, step, batch, cursor}
 use Rattle.dr_core.specs.Transcript.{Entry, claimed_below, first_of, wrote, covers, batch_to, completion, halts}
 use Rattle.dr_core.proofs.Leasts.{least_is, least_of-le}
 use Rattle.dr_core.proofs.Pushes.{or-false}

@@ -85,7 +85,7 @@ module _ (v : CoreView) (p s : ℕ) (x : Event) (whole : IsWhole v) (producer : 
   pub write_step : (known : ℕ → Known) → WritesKnown v p s x known → write_fault (known_at v s) p ≡ None → IsStep v (Write p s x) Written [] (record v { recent = recent_of known v.next v.setup.size })
   write_step known knows e =
       let is = λ (m : State) (sh : Shows v m). write_ok (known_at v s) p _ _ _ (there m sh) e in
-      accepted_step v (record v { recent = recent_of known v.next v.setup.size }) (Write p s x) Written [] refl
+      accepted_step v (record v { recent = recent_of known v.next v.setup.size }) (Write p s x) Written [] refl refl
       (λ m sh. (lt-leb _ _ producer, ((let n : next m ≡ v.next = sh.next in rw n (lt-leb _ _ claimed)), ((is m sh).0, (ap not (is m sh).1, tt)))))
       (λ m sh. refl)
       (λ m sh. refl)

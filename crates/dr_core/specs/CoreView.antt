@@ -2,6 +2,7 @@
 use Rattle.std.specs.Prelude.{ℕ, ◌-◌, min, Bool, List, map, slice_index_or}
 use Rattle.std.specs.List.{range_with_len}
 use Rattle.dr_seq.specs.declared.event.Event.{Event}
+use Rattle.dr_graph.specs.Name.{Name}
 use Rattle.dr_core.specs.Machine.{Setup}
 
 -- what a core knows of a sequence: nothing, claimed by a producer, written by a producer with an event, published with an event
@@ -13,6 +14,7 @@ pub data Known : Type 0 where
 
 pub record CoreView : Type 0 where
   pub setup : Setup
+  pub names : List Name  -- of each handler, its name
   pub next : ℕ  -- how many sequences are claimed
   pub front : ℕ  -- the least sequence that is not published
   pub taken : List ℕ  -- of each handler, how many events it took

@@ -1,5 +1,5 @@
 -- What a handler is shown, and a turn of its processor.
-use Rattle.std.specs.Prelude.{◌≡◌, ℕ, ◌+◌, Bool, false, Result, Ok, Err, List, [], ◌∷◌}
+use Rattle.std.specs.Prelude.{◌≡◌, ℕ, ◌+◌, Bool, false, Result, Ok, List, [], ◌∷◌}
 use Rattle.dr_seq.specs.declared.event.Event.{Event}
 use Rattle.dr_core.specs.declared.command.Command.TheVariants.{Poll, Complete}
 use Rattle.dr_core.specs.declared.command.Reply.TheVariants.{Batch, Completed}

@@ -1,15 +1,16 @@
 -- What a core's fields keep.
-use Rattle.std.specs.Prelude.{◌≡◌, ℕ, ◌+◌, ◌^◌, ◌<◌, ◌≤◌, length, map, Contains, slice_index}
+use Rattle.std.specs.Prelude.{◌≡◌, ℕ, ◌+◌, ◌^◌, ◌<◌, ◌≤◌, length, Contains, slice_index}
 use Rattle.dr_seq.specs.Size.{IsSize}
 use Rattle.dr_core.specs.declared.engine.Core.TheInside.{Inside}
-use Rattle.dr_core.specs.Graph.{upstreams_of, finals, IsGraph}
-use Rattle.dr_core.specs.Machine.{handlers}
+use Rattle.dr_graph.specs.Graph.{upstreams_of, IsGraph}
+use Rattle.dr_core.specs.Machine.{handlers, setup_of}
 use Rattle.dr_core.specs.CoreView.{CoreView, recent_of}
 use Rattle.dr_core.specs.SlotStates.{slot_known}
 
 abbrev pub view_of : Inside → CoreView
 view_of a = record {
-  setup = record { upstreams = map (λ ups. ups.items) a.upstreams.items; size = a.size; mode = a.mode; limit = a.limit };
+  setup = setup_of a.graph.upstreams a.size a.mode a.limit;
+  names = a.graph.names;
   next = a.next;
   front = a.front;
   taken = a.taken.items;
@@ -34,6 +35,5 @@ pub record IsWhole (v : CoreView) : Type 0 where
 
 pub record IsKept (a : Inside) : Type 0 where
   pub whole : IsWhole (view_of a)
-  pub finals : a.finals.items ≡ finals (view_of a).setup.upstreams
   pub states : length a.states.items ≡ a.size
   pub events : length a.events ≡ a.size

@@ -2,7 +2,7 @@
 use Rattle.std.specs.Prelude.{◌≡◌, ℕ, ◌+◌, ◌<◌, ◌≤◌, IsTrue, ◌∷◌, ◌++◌, Contains, slice_get}
 use Rattle.dr_core.specs.declared.command.Command.TheVariants.{Poll}
 use Rattle.dr_core.specs.declared.command.Reply.TheVariants.{Claimed, Drained}
-use Rattle.dr_core.specs.Graph.{upstreams_of, finals}
+use Rattle.dr_graph.specs.Graph.{upstreams_of, finals}
 use Rattle.dr_core.specs.Machine.{Setup, handlers}
 use Rattle.dr_core.specs.Transcript.{Entry, Transcript, next_of, is_published, event_of, front_of, received_by, taken_by, completed_by, is_halted}
 

@@ -12,7 +12,7 @@ use Rattle.dr_core.specs.declared.refusal.Refusal.{Refusal}
 use Rattle.dr_core.specs.declared.refusal.Refusal.TheVariants.{NoRoom, Halted, BadCount, Exhausted, NotClaimed, AlreadyPublished, NotWritten, OutOfOrder, NotTaken, Behind, NoProducer, NoHandler}
 use Rattle.dr_core.specs.declared.command.Reply.{Reply}
 use Rattle.dr_core.specs.declared.command.Reply.TheVariants.{Claimed, Written, Published, Batch, Drained, Gating, Idle, Completed, Halting, Refused}
-use Rattle.dr_core.specs.Graph.{upstreams_of, finals}
+use Rattle.dr_graph.specs.Graph.{upstreams_of, finals, least_of}
 
 -- what an exchange is opened with; the graph is given by each handler's direct upstreams
 pub record Setup : Type 0 where
@@ -38,6 +38,10 @@ pub record Outcome : Type 0 where
 abbrev pub handlers : Setup → ℕ
 handlers c = length c.upstreams
 
+-- the setup of a graph, a size, a mode and a limit
+abbrev pub setup_of : List (List ℕ) → ℕ → Mode → ℕ → Setup
+setup_of upstreams size mode limit = record { upstreams = upstreams; size = size; mode = mode; limit = limit }
+
 -- nothing is claimed, written, published, taken or completed
 abbrev pub opening : Setup → State
 opening c =
@@ -50,12 +54,6 @@ is_single (Multi p) = false
 abbrev pub producers : Mode → ℕ
 producers Single = 1
 producers (Multi p) = p
-
--- the least of some numbers, or 0 of none
-abbrev pub least_of : List ℕ → ℕ
-least_of [] = 0
-least_of (n ∷ []) = n
-least_of (n ∷ m ∷ ms) = min n (least_of (m ∷ ms))
 
 -- the least completed count of some handlers
 abbrev pub least_completed : State → List ℕ → ℕ

@@ -8,7 +8,8 @@ use Rattle.dr_core.specs.declared.command.Reply.TheVariants.{Claimed, Batch, Dra
 use Rattle.dr_core.specs.declared.command.Claimed.{Claimed as Stretch}
 use Rattle.dr_core.specs.declared.command.Polled.{Polled}
 use Rattle.dr_core.specs.declared.command.Polled.TheVariants as answer
-use Rattle.dr_core.specs.Machine.{State, handlers, least_of, step, next, front}
+use Rattle.dr_graph.specs.Graph.{least_of}
+use Rattle.dr_core.specs.Machine.{State, handlers, step, next, front}
 use Rattle.dr_core.specs.CoreView.{Known, Nothing, ClaimedBy, WrittenBy, PublishedWith, CoreView, known_at}
 
 -- what is known of a claimed sequence agrees with its owner, its publication mark and what is written to it
@@ -31,6 +32,7 @@ pub record Shows (v : CoreView) (m : State) : Type 0 where
 -- on each state that the core shows the machine gives this reply and these events, and the core then shows the machine's next state
 pub record IsStep (old : CoreView) (command : Command) (reply : Reply) (values : List Event) (new : CoreView) : Type 0 where
   pub same_setup : new.setup ≡ old.setup
+  pub same_names : new.names ≡ old.names
   pub replies : (m : State) → Shows old m → (step old.setup m command).reply ≡ reply
   pub hands_out : (m : State) → Shows old m → (step old.setup m command).values ≡ values
   pub shown : (m : State) → Shows old m → Shows new (step old.setup m command).state

@@ -1,15 +1,14 @@
 //! The core: the exchange on one thread.
 
 ghost use Rattle.std.specs.Prelude.{◌≡◌, ◌↔◌, ◌^◌, ◌<◌, Err, IfOk, IfErr, ◌≤◌, true, false, slice_index};
-ghost use Rattle.dr_core.specs.Graph.{IsGraph, finals as finals_of};
-ghost use Rattle.dr_core.specs.Machine.{opening, handlers};
+ghost use Rattle.dr_core.specs.Machine.{opening, handlers, setup_of};
 ghost use Rattle.dr_core.specs.OpenFault.{has_bad_producers, is_bad_limit};
-ghost use Rattle.dr_core.specs.Opening.{setup_of, one_setup};
 ghost use Rattle.dr_core.specs.Shows.{Shows};
 
 use crate::mode::Mode;
 use crate::open_fault::OpenFault;
 use crate::slot_state::SlotState;
+use dr_graph::Graph;
 use dr_seq::{Size, Slots};
 use std::alloc::Global;
 use std::marker::Model;
@@ -30,8 +29,7 @@ pub const MAX_LIMIT: u64 = 1 << 62;
 /// machine's step on every state that the core shows.
 #[derive(Drop)]
 pub struct Core {
-    upstreams: Vec<Vec<usize>>,
-    finals: Vec<usize>,
+    graph: Graph,
     size: Size,
     mode: Mode,
     limit: u64,
@@ -57,10 +55,18 @@ impl Model for Core {
 }
 
 impl Core {
-    /// Opens a core over one handler, number 0.
-    pub fn open_one(alloc: Global, size: Size, mode: Mode, limit: u64) -> Result<Core, OpenFault>
-        ensures setup { IfOk result (λ core. core.setup ≡ one_setup size mode limit) }
-        ensures opening { IfOk result (λ core. Shows core (opening (one_setup size mode limit))) }
+    /// Opens a core over a graph of handlers, with nothing claimed. It spends the graph, at a
+    /// fault too. The limit is how many sequences there will ever be.
+    pub fn open(
+        alloc: Global,
+        graph: Graph,
+        size: Size,
+        mode: Mode,
+        limit: u64,
+    ) -> Result<Core, OpenFault>
+        ensures setup { IfOk result (λ core. core.setup ≡ setup_of graph.upstreams size mode limit) }
+        ensures names { IfOk result (λ core. core.names ≡ graph.names) }
+        ensures opening { IfOk result (λ core. Shows core (opening (setup_of graph.upstreams size mode limit))) }
         ensures bad_producers { (result ≡ Err OpenFault.BadProducers) ↔ (has_bad_producers mode ≡ true) }
         ensures bad_limit { (result ≡ Err OpenFault.BadLimit) ↔ (has_bad_producers mode ≡ false) × (is_bad_limit limit ≡ true) }
     {
@@ -70,36 +76,13 @@ impl Core {
         if limit == 0 || limit > MAX_LIMIT {
             return Err(OpenFault::BadLimit);
         }
-        let mut upstreams = Vec::new(alloc);
-        upstreams.push(Vec::new(alloc))?;
-        let mut finals = Vec::new(alloc);
-        finals.push(0)?;
-        Core::over(alloc, upstreams, finals, size, mode, limit)
-    }
-
-    /// A core over a graph, whose finals are listed.
-    fn over(
-        alloc: Global,
-        upstreams: Vec<Vec<usize>>,
-        finals: Vec<usize>,
-        size: Size,
-        mode: Mode,
-        limit: u64,
-    ) -> Result<Core, OpenFault>
-        requires graph { IsGraph (setup_of upstreams size mode limit).upstreams }
-        requires ends { finals.items ≡ finals_of (setup_of upstreams size mode limit).upstreams }
-        requires limit { limit ≤ 2 ^ 62 }
-        ensures setup { IfOk result (λ core. core.setup ≡ setup_of upstreams size mode limit) }
-        ensures opening { IfOk result (λ core. Shows core (opening (setup_of upstreams size mode limit))) }
-        ensures refused { IfErr result (λ fault. fault ≡ OpenFault.NoMemory) }
-    {
+        let handlers = graph.len();
         let states = vec![in alloc; SlotState::Free; size.get() as usize]?;
         let events = Slots::new(alloc, size)?;
-        let taken = vec![in alloc; 0u64; upstreams.len()]?;
-        let completed = vec![in alloc; 0u64; upstreams.len()]?;
+        let taken = vec![in alloc; 0u64; handlers]?;
+        let completed = vec![in alloc; 0u64; handlers]?;
         Ok(Core {
-            upstreams,
-            finals,
+            graph,
             size,
             mode,
             limit,
@@ -113,18 +96,19 @@ impl Core {
         })
     }
 
+    /// Who follows whom.
+    pub fn graph(&self) -> &Graph
+        ensures names { result.now.names ≡ self.now.names }
+        ensures upstreams { result.now.upstreams ≡ self.now.setup.upstreams }
+    {
+        &self.graph
+    }
+
     /// How many slots there are.
     pub fn size(&self) -> Size
         ensures { result ≡ self.now.setup.size }
     {
         self.size
-    }
-
-    /// How many handlers there are.
-    pub fn handlers(&self) -> usize
-        ensures { result ≡ handlers self.now.setup }
-    {
-        self.upstreams.len()
     }
 
     /// How many sequences are claimed.

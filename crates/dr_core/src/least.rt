@@ -1,7 +1,7 @@
 //! The least of some handlers' counts.
 
+ghost use Rattle.dr_graph.specs.Graph.{least_of};
 ghost use Rattle.std.specs.Prelude.{◌≡◌, ◌<◌, length, map, slice_index, All};
-ghost use Rattle.dr_core.specs.Machine.{least_of};
 
 /// The least count of some handlers, or 0 of none.
 pub(crate) fn least_count(counts: &[u64], handlers: &[usize]) -> u64

@@ -5,6 +5,7 @@ use crate::{
     Claimed, Command, Core, Handler, Mode, OpenFault, Polled, Ran, Refusal, Reply, processor_turn,
     run,
 };
+use dr_graph::{Graph, GraphBuilder, GraphFault};
 use dr_seq::{Event, Size};
 use std::alloc::Global;
 use std::process::Abort;
@@ -24,8 +25,15 @@ fn write(p: u64, s: u64, first: u64) -> Command {
     }
 }
 
+/// One handler, number 0.
+fn alone(alloc: Global) -> Result<Graph, GraphFault> {
+    let mut builder = GraphBuilder::new(alloc);
+    builder.handle_with(&["a"])?;
+    builder.build()
+}
+
 fn ran(alloc: Global, mode: Mode, size: u64, commands: &[Command]) -> Result<Ran, Fail> {
-    let mut core = Core::open_one(alloc, Size::new(size)?, mode, LIMIT)?;
+    let mut core = Core::open(alloc, alone(alloc)?, Size::new(size)?, mode, LIMIT)?;
     Ok(run(alloc, &mut core, commands)?)
 }
 
@@ -126,7 +134,7 @@ fn halt_and_drain(rt: HostRuntime) -> Result<(), Fail> {
 fn check_counts(rt: &impl Abort, core: &Core, next: u64, front: u64, taken: u64, completed: u64) {
     assert_eq!(rt; core.next(), next);
     assert_eq!(rt; core.front(), front);
-    if core.handlers() > 0 {
+    if core.graph().len() > 0 {
         assert_eq!(rt; core.taken(0), taken);
         assert_eq!(rt; core.completed(0), completed);
     }
@@ -134,7 +142,13 @@ fn check_counts(rt: &impl Abort, core: &Core, next: u64, front: u64, taken: u64,
 
 #[test]
 fn each_call_moves_its_count(rt: HostRuntime) -> Result<(), Fail> {
-    let mut core = Core::open_one(rt.alloc(), Size::new(4)?, Mode::Single, LIMIT)?;
+    let mut core = Core::open(
+        rt.alloc(),
+        alone(rt.alloc())?,
+        Size::new(4)?,
+        Mode::Single,
+        LIMIT,
+    )?;
     check_counts(&rt, &core, 0, 0, 0, 0);
     assert_eq!(rt; core.claim(0, 2), Ok(Claimed { lo: 0, hi: 1 }));
     check_counts(&rt, &core, 2, 0, 0, 0);
@@ -160,7 +174,7 @@ fn each_call_moves_its_count(rt: HostRuntime) -> Result<(), Fail> {
 }
 
 fn fault(alloc: Global, mode: Mode, limit: u64) -> Result<Option<OpenFault>, Fail> {
-    match Core::open_one(alloc, Size::new(4)?, mode, limit) {
+    match Core::open(alloc, alone(alloc)?, Size::new(4)?, mode, limit) {
         Ok(_) => Ok(None),
         Err(fault) => Ok(Some(fault)),
     }
@@ -221,7 +235,7 @@ impl Handler for Sum {
 
 /// A core with the events 4, 5 and 6 published.
 fn with_three_events(alloc: Global) -> Result<Core, Fail> {
-    let mut core = Core::open_one(alloc, Size::new(4)?, Mode::Single, LIMIT)?;
+    let mut core = Core::open(alloc, alone(alloc)?, Size::new(4)?, Mode::Single, LIMIT)?;
     core.claim(0, 3)?;
     for s in 0..3 {
         core.write(0, s, word(4 + s))?;

@@ -3,7 +3,7 @@
 ghost use Rattle.std.specs.Prelude.{◌≡◌, ◌-◌, ◌↔◌, Err, ◌<◌, ◌≤◌, ◌^◌, ◌+◌, ◌++◌, [], length, map, drop, OnErr, IfOk, IfErr, IsOk, slice_index, if◌then◌else◌};
 ghost use Rattle.std.specs.List.{range_with_len};
 ghost use Rattle.dr_seq.specs.Slots.{event_at};
-ghost use Rattle.dr_core.specs.Graph.{upstreams_of};
+ghost use Rattle.dr_graph.specs.Graph.{upstreams_of};
 ghost use Rattle.dr_core.specs.Machine.{State, available as available_of, handlers, is_single};
 ghost use Rattle.dr_core.specs.Runs.{count_in};
 ghost use Rattle.dr_core.specs.Shows.{Shows, IsStep, Takes, CanComplete, offered_to, unit_reply, poll_reply, polled};
@@ -21,7 +21,7 @@ impl Core {
         requires { h < handlers self.now.setup }
         ensures { result ≡ offered_to self.now (upstreams_of self.now.setup.upstreams h) }
     {
-        let upstreams = &self.upstreams[h];
+        let upstreams = self.graph.upstreams(h);
         if upstreams.is_empty() {
             self.front
         } else {
@@ -46,7 +46,7 @@ impl Core {
         ensures count { IfOk result (λ n. (m : State) → Shows self.now m → n ≡ available_of self.now.setup m h - slice_index m.taken h) }
         ensures refused { IfErr result (λ refusal. refusal ≡ Refusal.NoHandler) }
     {
-        if h >= self.upstreams.len() {
+        if h >= self.graph.len() {
             return Err(Refusal::NoHandler);
         }
         let available = self.available(h);
@@ -63,7 +63,7 @@ impl Core {
         ensures takes { Takes h result self.new }
         ensures refused { OnErr result (self.new ≡ self.old) }
     {
-        if h >= self.upstreams.len() {
+        if h >= self.graph.len() {
             return Err(Refusal::NoHandler);
         }
         if out.is_empty() {
@@ -97,7 +97,7 @@ impl Core {
         ensures accepted { CanComplete self.old h upto → IsOk result }
         ensures refused { OnErr result (self.new ≡ self.old) }
     {
-        if h >= self.upstreams.len() {
+        if h >= self.graph.len() {
             return Err(Refusal::NoHandler);
         }
         if upto < self.completed[h] {

@@ -30,7 +30,7 @@ impl Core {
         if self.next + n > self.limit {
             return Err(Refusal::Exhausted);
         }
-        let least = least_count(&self.completed, &self.finals);
+        let least = least_count(&self.completed, self.graph.finals());
         if self.next + n > size + least {
             return Err(Refusal::NoRoom);
         }

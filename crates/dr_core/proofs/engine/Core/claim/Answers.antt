@@ -6,8 +6,8 @@ use Rattle.std.proofs.lemmas.Bool.{or_left, or_right, eq-eqb, lt-ltb}
 use Rattle.dr_seq.proofs.Sizes.{size_positive, size_at_most}
 use Rattle.dr_core.specs.declared.slot_state.SlotState.{SlotState}
 use Rattle.dr_core.specs.declared.slot_state.SlotState.TheVariants.{Claimed}
-use Rattle.dr_core.specs.Graph.{finals}
-use Rattle.dr_core.specs.Machine.{handlers, least_of}
+use Rattle.dr_graph.specs.Graph.{finals, least_of}
+use Rattle.dr_core.specs.Machine.{handlers}
 use Rattle.dr_core.specs.CoreView.{CoreView}
 use Rattle.dr_core.specs.SlotStates.{filled, slot_known}
 use Rattle.dr_core.specs.Inside.{view_of, IsWhole}
@@ -28,11 +28,11 @@ returns-then-n-eq0-clause-step c =
 
 pub least_count-least-requires : goal.least_count-least-requires
 least_count-least-requires c =
-    rw (c.deref-2.ensures.value, c.deref.ensures.value, c.self.invariant.finals, c.self.invariant.whole.completed) (finals_within (view_of c.self.inside).setup.upstreams)
+    rw (c.finals.ensures, c.deref.ensures.value, c.self.invariant.whole.completed) (finals_within (view_of c.self.inside).setup.upstreams)
 
 -- what the scan of the finals found
-least_is : (v : CoreView) (fs counts at : List ℕ) (n : ℕ) → fs ≡ finals v.setup.upstreams → at ≡ fs → counts ≡ v.completed → n ≡ least_of (map (λ h. slice_index counts h) at) → n ≡ least_of (map (λ f. slice_index v.completed f) (finals v.setup.upstreams))
-least_is v fs counts at n a b d e = rw (b, a, d) at e
+least_is : (v : CoreView) (counts at : List ℕ) (n : ℕ) → at ≡ finals v.setup.upstreams → counts ≡ v.completed → n ≡ least_of (map (λ h. slice_index counts h) at) → n ≡ least_of (map (λ f. slice_index v.completed f) (finals v.setup.upstreams))
+least_is v counts at n a b e = rw (a, b) at e
 
 small : (v : CoreView) (size least : ℕ) → IsWhole v → size ≡ v.setup.size → least ≡ least_of (map (λ f. slice_index v.completed f) (finals v.setup.upstreams)) → size + least < 2 ^ 64
 small v size least whole a b =
@@ -49,7 +49,7 @@ small v size least whole a b =
 pub overflow_add-size : goal.overflow_add-size
 overflow_add-size c =
     let v : CoreView = view_of c.self.inside in
-    let sum : c.get-size.result + c.least_count-least.result < 2 ^ 64 = small v c.get-size.result c.least_count-least.result c.self.invariant.whole c.get-size.ensures.value (least_is v _ _ _ _ c.self.invariant.finals c.deref-2.ensures.value c.deref.ensures.value c.least_count-least.ensures) in
+    let sum : c.get-size.result + c.least_count-least.result < 2 ^ 64 = small v c.get-size.result c.least_count-least.result c.self.invariant.whole c.get-size.ensures.value (least_is v _ _ _ c.finals.ensures c.deref.ensures.value c.least_count-least.ensures) in
     omega arith
 
 states_are : (states : Vec SlotState Global) (lent new : List SlotState) (from n p : ℕ) → lent ≡ states.items → new ≡ filled lent from n (Claimed p) → (with_items states new).items ≡ filled states.items from n (Claimed p)
@@ -60,11 +60,10 @@ states_are states lent new from n p a b =
 pub invariant_of-self : goal.invariant_of-self
 invariant_of-self c =
     let v : CoreView = view_of c.self.inside in
-    let same : c.least_count-least.result ≡ least_of (map (λ f. slice_index v.completed f) (finals v.setup.upstreams)) = least_is v _ _ _ _ c.self.invariant.finals c.deref-2.ensures.value c.deref.ensures.value c.least_count-least.ensures in
+    let same : c.least_count-least.result ≡ least_of (map (λ f. slice_index v.completed f) (finals v.setup.upstreams)) = least_is v _ _ _ c.finals.ensures c.deref.ensures.value c.least_count-least.ensures in
     let states : (with_items c.self.inside.states c.fill.new.states).items ≡ filled c.self.inside.states.items v.next c.args.n (Claimed c.args.p) = states_are c.self.inside.states _ _ _ _ _ c.deref_mut.ensures.value c.fill.ensures in
     record {
       whole = claim_whole v c.args.n _ c.self.invariant.whole c.if-self-n.false (rw (same, c.get-size.ensures.value) at c.if-self-n-2.false);
-      finals = c.self.invariant.finals;
       states = ap length states ∙ length-filled c.self.inside.states.items v.next c.args.n (Claimed c.args.p) ∙ c.self.invariant.states;
       events = c.self.invariant.events;
     }
@@ -72,7 +71,7 @@ invariant_of-self c =
 pub returns-clause-step : goal.returns-clause-step
 returns-clause-step c =
     let v : CoreView = view_of c.self.inside in
-    let same : c.least_count-least.result ≡ least_of (map (λ f. slice_index v.completed f) (finals v.setup.upstreams)) = least_is v _ _ _ _ c.self.invariant.finals c.deref-2.ensures.value c.deref.ensures.value c.least_count-least.ensures in
+    let same : c.least_count-least.result ≡ least_of (map (λ f. slice_index v.completed f) (finals v.setup.upstreams)) = least_is v _ _ _ c.finals.ensures c.deref.ensures.value c.least_count-least.ensures in
     let states : (with_items c.self.inside.states c.fill.new.states).items ≡ filled c.self.inside.states.items v.next c.args.n (Claimed c.args.p) = states_are c.self.inside.states _ _ _ _ _ c.deref_mut.ensures.value c.fill.ensures in
     let fits : c.args.n ≤ v.setup.size = rw c.get-size.ensures.value at c.if-n-size.false in
     let knows : ClaimsKnown v c.args.p c.args.n (slot_known (filled c.self.inside.states.items v.next c.args.n (Claimed c.args.p)) c.self.inside.events) =

@@ -1,5 +1,5 @@
 use Rattle.std.proofs.Common.{◌≡◌, ◌<◌, length, get_or, arith}
-use Rattle.std.proofs.lemmas.List.{get_or_read, length-map}
+use Rattle.std.proofs.lemmas.List.{get_or_read}
 use Rattle.dr_core.specs.Machine.{handlers}
 use Rattle.dr_core.specs.Inside.{view_of}
 use Rattle.dr_core.proofs.CoreSteps.{complete_step}
@@ -7,8 +7,7 @@ use Rattle.dr_core.proofs.engine.Core.complete.Goals as goal
 
 pub returns-clause-step : goal.returns-clause-step
 returns-clause-step c =
-    let many : handlers (view_of c.self.inside).setup ≡ length c.self.inside.upstreams.items = length-map c.self.inside.upstreams.items (λ ups. ups.items) in
-    let inside : c.args.h < handlers (view_of c.self.inside).setup = omega (arith, c.len.ensures, c.self.inside.upstreams.ok.0) in
+    let inside : c.args.h < handlers (view_of c.self.inside).setup = omega (arith, c.len.ensures.handlers) in
     let taken : length c.self.inside.taken.items ≡ handlers (view_of c.self.inside).setup = c.self.invariant.whole.taken in
     let completed : length c.self.inside.completed.items ≡ handlers (view_of c.self.inside).setup = c.self.invariant.whole.completed in
     let a : c.index.result.now ≡ get_or c.self.inside.completed.items c.args.h 0 = get_or_read c.self.inside.completed.items c.args.h c.index.result.now (omega arith) c.index.ensures 0 in

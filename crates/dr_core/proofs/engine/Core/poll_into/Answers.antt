@@ -1,4 +1,4 @@
-use Rattle.std.proofs.Common.{◌≡◌, ℕ, ◌-◌, ◌<◌, min, length, map, sym, ap, ◌∙◌, arith, List, take, drop, ◌++◌, slice_index, false, ◌&&◌, refl}
+use Rattle.std.proofs.Common.{◌≡◌, ℕ, ◌-◌, ◌<◌, min, length, map, sym, ap, ◌∙◌, arith, List, take, drop, ◌++◌, slice_index, false, ◌&&◌}
 use Rattle.std.specs.Prelude.{if◌then◌else◌, ◌==◌}
 use Rattle.std.specs.List.{range_with_len}
 use Rattle.std.proofs.lemmas.Bool.{eqb-false, and_left, and_right, ne_eqb}
@@ -6,7 +6,7 @@ use Rattle.std.proofs.lemmas.List.{take_at}
 use Rattle.std.proofs.lemmas.List.FromFn.{length-map-range_with_len}
 use Rattle.dr_seq.specs.declared.event.Event.{Event}
 use Rattle.dr_seq.specs.Slots.{event_at}
-use Rattle.dr_core.specs.Graph.{upstreams_of}
+use Rattle.dr_graph.specs.Graph.{upstreams_of}
 use Rattle.dr_core.specs.Machine.{is_single}
 use Rattle.dr_core.specs.CoreView.{CoreView}
 use Rattle.dr_core.specs.Inside.{view_of}
@@ -25,12 +25,11 @@ pub invariant_of-self : goal.invariant_of-self
 invariant_of-self c =
     let v : CoreView = view_of c.self.inside in
     let at : PollsAt v c.args.h (length c.args.out.now) c.index-first.result.now c.available-available.result =
-    polls_at v c.self.inside.upstreams c.args.h (length c.args.out.now) c.len.result c.index-first.result.now c.available-available.result c.self.invariant.whole refl c.len.ensures c.if-h-len.false (eqb-false _ _ (sym c.if-is_empty.ensures)) c.index-first.ensures (rw (← c.self.view_is) at c.available-available.ensures) in
+    polls_at v c.args.h (length c.args.out.now) c.len.result c.index-first.result.now c.available-available.result c.self.invariant.whole c.len.ensures.handlers c.if-h-len.false (eqb-false _ _ (sym c.if-is_empty.ensures)) c.index-first.ensures (rw (← c.self.view_is) at c.available-available.ensures) in
     let more : slice_index v.taken c.args.h < offered_to v (upstreams_of v.setup.upstreams c.args.h) = rw (at.taken, at.offered) at c.if-first-available.true in
     let count : c.min-count.result ≡ min (c.available-available.result - c.index-first.result.now) (length c.args.out.now) = c.min-count.ensures in
     record {
       whole = rw at.taken (batch_whole v c.args.h (length c.args.out.now) at.whole at.inside at.some more c.min-count.result (let a = at.taken in let b = at.offered in omega arith));
-      finals = c.self.invariant.finals;
       states = c.self.invariant.states;
       events = c.self.invariant.events;
     }
@@ -39,7 +38,7 @@ pub returns-then-first-available-clause-step : goal.returns-then-first-available
 returns-then-first-available-clause-step c =
     let v : CoreView = view_of c.self.inside in
     let at : PollsAt v c.args.h (length c.args.out.now) c.index-first.result.now c.available-available.result =
-    polls_at v c.self.inside.upstreams c.args.h (length c.args.out.now) c.len.result c.index-first.result.now c.available-available.result c.self.invariant.whole refl c.len.ensures c.if-h-len.false (eqb-false _ _ (sym c.if-is_empty.ensures)) c.index-first.ensures (rw (← c.self.view_is) at c.available-available.ensures) in
+    polls_at v c.args.h (length c.args.out.now) c.len.result c.index-first.result.now c.available-available.result c.self.invariant.whole c.len.ensures.handlers c.if-h-len.false (eqb-false _ _ (sym c.if-is_empty.ensures)) c.index-first.ensures (rw (← c.self.view_is) at c.available-available.ensures) in
     let more : slice_index v.taken c.args.h < offered_to v (upstreams_of v.setup.upstreams c.args.h) = rw (at.taken, at.offered) at c.if-first-available.true in
     let values : take c.min-count.result c.copy_out.new.out ≡ map (λ s. event_at c.self.inside.events s) (range_with_len c.index-first.result.now c.min-count.result) = copied c.self.inside.events _ _ _ _ c.copy_out.ensures in
     rw (← c.self.view_is)
@@ -50,14 +49,14 @@ pub returns-then-first-self-clause-step : goal.returns-then-first-self-clause-st
 returns-then-first-self-clause-step c =
     let v : CoreView = view_of c.self.inside in
     let at : PollsAt v c.args.h (length c.args.out.now) c.index-first.result.now c.available-available.result =
-    polls_at v c.self.inside.upstreams c.args.h (length c.args.out.now) c.len.result c.index-first.result.now c.available-available.result c.self.invariant.whole refl c.len.ensures c.if-h-len.false (eqb-false _ _ (sym c.if-is_empty.ensures)) c.index-first.ensures (rw (← c.self.view_is) at c.available-available.ensures) in
+    polls_at v c.args.h (length c.args.out.now) c.len.result c.index-first.result.now c.available-available.result c.self.invariant.whole c.len.ensures.handlers c.if-h-len.false (eqb-false _ _ (sym c.if-is_empty.ensures)) c.index-first.ensures (rw (← c.self.view_is) at c.available-available.ensures) in
     rw (← c.self.view_is) (drained_step v c.args.h (length c.args.out.now) at.whole at.inside at.some (rw (at.taken, at.offered) at c.if-first-available.false) c.if-self.true (sym at.taken ∙ c.if-first-self.true))
 
 pub returns-then-first-cursor-clause-step : goal.returns-then-first-cursor-clause-step
 returns-then-first-cursor-clause-step c =
     let v : CoreView = view_of c.self.inside in
     let at : PollsAt v c.args.h (length c.args.out.now) c.index-first.result.now c.available-available.result =
-    polls_at v c.self.inside.upstreams c.args.h (length c.args.out.now) c.len.result c.index-first.result.now c.available-available.result c.self.invariant.whole refl c.len.ensures c.if-h-len.false (eqb-false _ _ (sym c.if-is_empty.ensures)) c.index-first.ensures (rw (← c.self.view_is) at c.available-available.ensures) in
+    polls_at v c.args.h (length c.args.out.now) c.len.result c.index-first.result.now c.available-available.result c.self.invariant.whole c.len.ensures.handlers c.if-h-len.false (eqb-false _ _ (sym c.if-is_empty.ensures)) c.index-first.ensures (rw (← c.self.view_is) at c.available-available.ensures) in
     let stays : (v.halted && (slice_index v.taken c.args.h == v.next)) ≡ false = elim c.else-self.branch [ else-self-via-then-self+else-first-self w ↦ and_right _ _ (ne_eqb _ _ (λ e. w.if-first-self.false (at.taken ∙ e))) | else-self-via-else-self w ↦ and_left _ _ w.if-self.false ] in
     let cursor : c.cursor.result ≡ (if is_single v.setup.mode then v.front else v.next) = rw (← c.self.view_is) at c.cursor.ensures in
     rw (← c.self.view_is) (gating_step v c.args.h (length c.args.out.now) at.whole at.inside at.some (rw (at.taken, at.offered) at c.if-first-available.false) stays (rw (at.taken, cursor) at c.if-first-cursor.true))
@@ -66,7 +65,7 @@ pub returns-clause-step : goal.returns-clause-step
 returns-clause-step c =
     let v : CoreView = view_of c.self.inside in
     let at : PollsAt v c.args.h (length c.args.out.now) c.index-first.result.now c.available-available.result =
-    polls_at v c.self.inside.upstreams c.args.h (length c.args.out.now) c.len.result c.index-first.result.now c.available-available.result c.self.invariant.whole refl c.len.ensures c.if-h-len.false (eqb-false _ _ (sym c.if-is_empty.ensures)) c.index-first.ensures (rw (← c.self.view_is) at c.available-available.ensures) in
+    polls_at v c.args.h (length c.args.out.now) c.len.result c.index-first.result.now c.available-available.result c.self.invariant.whole c.len.ensures.handlers c.if-h-len.false (eqb-false _ _ (sym c.if-is_empty.ensures)) c.index-first.ensures (rw (← c.self.view_is) at c.available-available.ensures) in
     let stays : (v.halted && (slice_index v.taken c.args.h == v.next)) ≡ false = elim c.else-self.branch [ else-self-via-then-self+else-first-self w ↦ and_right _ _ (ne_eqb _ _ (λ e. w.if-first-self.false (at.taken ∙ e))) | else-self-via-else-self w ↦ and_left _ _ w.if-self.false ] in
     let cursor : c.cursor.result ≡ (if is_single v.setup.mode then v.front else v.next) = rw (← c.self.view_is) at c.cursor.ensures in
     rw (← c.self.view_is) (idle_step v c.args.h (length c.args.out.now) at.whole at.inside at.some (rw (at.taken, at.offered) at c.if-first-available.false) stays (rw (at.taken, cursor) at c.if-first-cursor.false))

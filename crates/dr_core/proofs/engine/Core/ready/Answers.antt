@@ -1,5 +1,5 @@
 use Rattle.std.proofs.Common.{◌≡◌, ◌<◌, length, slice_index, arith}
-use Rattle.std.proofs.lemmas.List.{get_or_read, length-map}
+use Rattle.std.proofs.lemmas.List.{get_or_read}
 use Rattle.dr_core.specs.Machine.{handlers}
 use Rattle.dr_core.specs.CoreView.{CoreView}
 use Rattle.dr_core.specs.Inside.{view_of}
@@ -9,8 +9,7 @@ use Rattle.dr_core.proofs.engine.Core.ready.Goals as goal
 pub returns-clause-count : goal.returns-clause-count
 returns-clause-count c =
     let v : CoreView = view_of c.self.inside in
-    let many : handlers v.setup ≡ length c.self.inside.upstreams.items = length-map c.self.inside.upstreams.items (λ ups. ups.items) in
-    let inside : c.args.h < handlers v.setup = omega (arith, c.len.ensures, c.self.inside.upstreams.ok.0) in
+    let inside : c.args.h < handlers v.setup = omega (arith, c.len.ensures.handlers) in
     let taken : length v.taken ≡ handlers v.setup = c.self.invariant.whole.taken in
     let first : c.index-taken.result.now ≡ slice_index v.taken c.args.h = get_or_read v.taken c.args.h c.index-taken.result.now (omega arith) c.index-taken.ensures 0 in
     rw (← c.self.view_is) (ready_is v c.args.h c.saturating_sub.result c.available-available.result c.index-taken.result.now c.saturating_sub.ensures (rw (← c.self.view_is) at c.available-available.ensures) first)
