@@ -10,8 +10,8 @@ use Rattle.dr_seq.specs.Event.{no_event}
 use Rattle.dr_core.specs.declared.command.Command.TheVariants.{Claim, Write, Publish, Poll, Complete}
 use Rattle.dr_core.specs.declared.command.Reply.TheVariants.{Claimed, Written, Published, Batch, Drained, Completed}
 use Rattle.dr_core.specs.declared.refusal.Refusal.{Refusal}
-use Rattle.dr_graph.specs.Graph.{finals}
-use Rattle.dr_core.specs.Machine.{State, Outcome, least_outside, front, offered, available, least_of, least_completed, publish_faults, refusals, accepted, unless, step}
+use Rattle.dr_graph.specs.Graph.{finals, least_of}
+use Rattle.dr_core.specs.Machine.{State, Outcome, least_outside, front, offered, available, least_completed, publish_faults, refusals, accepted, unless, step}
 use Rattle.dr_ring.specs.Shape.{Shape, handlers_of, setup_of}
 
 -- no test holds

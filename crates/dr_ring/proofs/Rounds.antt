@@ -3,8 +3,7 @@ use Rattle.std.proofs.Common.{◌≡◌, ◌≢◌, ℕ, zero, suc, ◌+◌, ◌
 use Rattle.std.specs.Prelude.{Contains}
 use Rattle.std.proofs.lemmas.Bool.{cases_eq, cases_lt, ne_eqb, lt-ltb, le-ltb}
 use Rattle.std.proofs.lemmas.List.{length-append, append-nil, get_or_append_left}
-use Rattle.dr_graph.specs.Graph.{upstreams_of, finals}
-use Rattle.dr_core.specs.Machine.{least_of}
+use Rattle.dr_graph.specs.Graph.{upstreams_of, finals, least_of}
 use Rattle.dr_ring.specs.Shape.{Shape}
 use Rattle.dr_ring.specs.Plans.{IsPlan}
 use Rattle.dr_ring.specs.Words.{count_word}

@@ -7,8 +7,7 @@ use Rattle.dr_core.specs.declared.refusal.Refusal.TheVariants.{NoRoom, Halted, B
 use Rattle.dr_core.specs.declared.command.Claimed.{Claimed}
 use Rattle.dr_core.specs.declared.command.Polled.{Polled}
 use Rattle.dr_core.specs.declared.command.Polled.TheVariants.{Batch, Drained, Gating, Idle}
-use Rattle.dr_graph.specs.Graph.{upstreams_of, finals}
-use Rattle.dr_core.specs.Machine.{least_of}
+use Rattle.dr_graph.specs.Graph.{upstreams_of, finals, least_of}
 use Rattle.dr_ring.specs.Words.{cursor_word, closed_word, halt_word, count_word}
 use Rattle.dr_ring.specs.declared.record.Look.{Look}
 use Rattle.dr_ring.specs.declared.record.SenderRecord.{SenderRecord}

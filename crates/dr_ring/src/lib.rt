@@ -26,3 +26,6 @@ pub use plan::Plan;
 pub use receiver::Receiver;
 pub use sender::Sender;
 pub use settled::{HandlerCounts, Settled, settle};
+
+#[cfg(test)]
+mod tests;

@@ -44,6 +44,8 @@ impl Receiver {
     /// It is refused with `BadCount`, and changes nothing, where `out` is empty.
     pub fn poll_into(&mut self, out: &mut [Event]) -> Result<Polled, Refusal>
         ensures ring { self.new.ring ≡ self.old.ring }
+        ensures plan { self.new.knows.plan ≡ self.old.knows.plan }
+        ensures number { self.new.knows.number ≡ self.old.knows.number }
         ensures answer { Polls self.old.knows out.old self.new.knows out.new result }
     {
         if out.is_empty() {
@@ -88,6 +90,8 @@ impl Receiver {
     /// Refusals in their order: `Behind` (more are completed), `NotTaken`. They change nothing.
     pub fn complete(&mut self, upto: u64) -> Result<(), Refusal>
         ensures ring { self.new.ring ≡ self.old.ring }
+        ensures plan { self.new.knows.plan ≡ self.old.knows.plan }
+        ensures number { self.new.knows.number ≡ self.old.knows.number }
         ensures answer { TriesToComplete self.old.knows upto self.new.knows result }
     {
         if upto < self.completed {

@@ -52,6 +52,7 @@ impl Sender {
     /// nothing else.
     pub fn try_claim(&mut self, n: u64) -> Result<Claimed, Refusal>
         ensures ring { self.new.ring ≡ self.old.ring }
+        ensures plan { self.new.knows.plan ≡ self.old.knows.plan }
         ensures answer { TriesToClaim self.old.knows n self.new.knows result }
     {
         let words = &self.ring.table.shared;
@@ -98,6 +99,7 @@ impl Sender {
     /// Refusals in their order: `NotClaimed`, `AlreadyPublished`. They change nothing.
     pub fn write(&mut self, sequence: u64, event: Event) -> Result<(), Refusal>
         ensures ring { self.new.ring ≡ self.old.ring }
+        ensures plan { self.new.knows.plan ≡ self.old.knows.plan }
         ensures answer { TriesToWrite self.old.knows sequence event self.new.knows result }
     {
         if sequence >= self.claimed {
@@ -121,6 +123,7 @@ impl Sender {
     /// `NotWritten`, `OutOfOrder`. They change nothing.
     pub fn publish(&mut self, lo: u64, hi: u64) -> Result<(), Refusal>
         ensures ring { self.new.ring ≡ self.old.ring }
+        ensures plan { self.new.knows.plan ≡ self.old.knows.plan }
         ensures answer { TriesToPublish self.old.knows lo hi self.new.knows result }
     {
         if lo > hi {
@@ -150,6 +153,7 @@ impl Sender {
     /// It is refused with `OpenClaim`, and changes nothing, while a claimed sequence is unpublished.
     pub fn close(&mut self) -> Result<(), Refusal>
         ensures ring { self.new.ring ≡ self.old.ring }
+        ensures plan { self.new.knows.plan ≡ self.old.knows.plan }
         ensures answer { TriesToClose self.old.knows self.new.knows result }
     {
         if self.published != self.claimed {
