@@ -7,6 +7,7 @@ ghost use Rattle.dr_ring.specs.Shape.{handlers_of};
 ghost use Rattle.dr_ring.specs.Plans.{IsPlan};
 ghost use Rattle.dr_ring.specs.Moments.{fresh_receivers};
 ghost use Rattle.dr_ring.specs.Seats.{IsAtTable};
+ghost use Rattle.dr_ring.specs.Settling.{AreAllEnds};
 ghost use Rattle.dr_ring.specs.Making.{receivers_known, at_ring, AreFreshEnds, fault_of};
 
 use crate::body::RingBody;
@@ -107,6 +108,7 @@ pub fn ring(
     limit: u64,
 ) -> Result<(Sender, Vec<Receiver>, Halter), RingFault>
     ensures made { IfOk result (λ made. AreFreshEnds (record { upstreams = graph.now.upstreams; size = size; limit = limit }) made.0 made.1.items made.2) }
+    ensures all { IfOk result (λ made. AreAllEnds made.0 made.1.items) }
     ensures fits { IsOk result → is_bad_limit limit ≡ false }
     ensures refused { IfErr result (λ fault. fault ≡ fault_of limit) }
 {

@@ -51,6 +51,13 @@ impl Settled {
         self.published
     }
 
+    /// How many handlers there are.
+    pub fn handlers(&self) -> usize
+        ensures { result ≡ length self.now.handlers.items }
+    {
+        self.handlers.len()
+    }
+
     /// How many events a handler took.
     pub fn taken(&self, handler: usize) -> u64
         requires { handler < length self.now.handlers.items }

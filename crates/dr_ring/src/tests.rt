@@ -1,6 +1,9 @@
 //! What no clause says: that the calls succeed with ample memory, worked runs by their answers,
 //! and that threads hand all events over.
 
+ghost use Rattle.std.specs.Prelude.{IfOk};
+ghost use Rattle.dr_ring.specs.Settling.{AreAllEnds};
+
 use crate::{Halter, Receiver, RingFault, Sender, ring, settle};
 use dr_core::Polled::{Batch, Drained, Gating, Idle};
 use dr_core::{Claimed, Polled, Refusal, Reply};
@@ -64,7 +67,10 @@ fn polled(answer: Result<Polled, Refusal>) -> Reply {
 }
 
 /// A call's answer, as the machine would give it; a close that succeeds is `Halting`.
-fn answer(rt: &impl Abort, ends: &mut Ends, call: Call, out: &mut [Event; 8]) -> Reply {
+fn answer(rt: &impl Abort, ends: &mut Ends, call: Call, out: &mut [Event; 8]) -> Reply
+    requires { AreAllEnds ends.old.sender ends.old.receivers.items }
+    ensures { AreAllEnds ends.new.sender ends.new.receivers.items }
+{
     match call {
         Claim(n) => claimed(ends.sender.try_claim(n)),
         Write(s, event) => done(ends.sender.write(s, event), Reply::Written),
@@ -87,7 +93,10 @@ fn answer(rt: &impl Abort, ends: &mut Ends, call: Call, out: &mut [Event; 8]) ->
 }
 
 /// Makes calls, each with the answer and the first events that are expected.
-fn play(rt: &impl Abort, ends: &mut Ends, rows: &[(Call, Reply, &[Event])]) {
+fn play(rt: &impl Abort, ends: &mut Ends, rows: &[(Call, Reply, &[Event])])
+    requires { AreAllEnds ends.old.sender ends.old.receivers.items }
+    ensures { AreAllEnds ends.new.sender ends.new.receivers.items }
+{
     for (call, reply, events) in rows {
         let mut out = [Event::NONE; 8];
         let given = answer(rt, ends, *call, &mut out);
@@ -97,7 +106,9 @@ fn play(rt: &impl Abort, ends: &mut Ends, rows: &[(Call, Reply, &[Event])]) {
     }
 }
 
-fn open(alloc: Global, graph: &Graph, size: u64) -> Result<Ends, Fail> {
+fn open(alloc: Global, graph: &Graph, size: u64) -> Result<Ends, Fail>
+    ensures { IfOk result (λ ends. AreAllEnds ends.sender ends.receivers.items) }
+{
     let (sender, receivers, halter) = ring(alloc, graph, Size::new(size)?, LIMIT)?;
     Ok(Ends {
         sender,
@@ -164,6 +175,14 @@ fn ring_chain(rt: HostRuntime) -> Result<(), Fail> {
             (Poll(1, 8), Reply::Drained, NONE),
         ],
     );
+    let settled = settle(ends.sender, ends.receivers);
+    assert_eq!(rt; settled.claimed(), 2);
+    assert_eq!(rt; settled.published(), 2);
+    assert!(rt; settled.handlers() == 2);
+    for (h, completed) in [(0, 2), (1, 1)] {
+        assert_eq!(rt; settled.taken(h), 2, "at {h}");
+        assert_eq!(rt; settled.completed(h), completed, "at {h}");
+    }
     Ok(())
 }
 
@@ -248,6 +267,12 @@ fn own_rows_of_pass_two(rt: HostRuntime) -> Result<(), Fail> {
             (Poll(0, 8), Reply::Drained, NONE),
         ],
     );
+    let settled = settle(ends.sender, ends.receivers);
+    assert_eq!(rt; settled.claimed(), 2);
+    assert_eq!(rt; settled.published(), 2);
+    assert!(rt; settled.handlers() == 1);
+    assert_eq!(rt; settled.taken(0), 2);
+    assert_eq!(rt; settled.completed(0), 0);
     Ok(())
 }
 
@@ -259,7 +284,11 @@ fn looks_of_a_poll(rt: HostRuntime) -> Result<(), Fail> {
         assert!(rt; h < receivers.len());
         let mut out = [Event::NONE; 1];
         let before = receivers[h].looks();
-        assert_eq!(rt; polled(receivers[h].poll_into(&mut out)), Reply::Idle, "at {h}");
+        assert_eq!(rt;
+            polled(receivers[h].poll_into(&mut out)),
+            Reply::Idle,
+            "at {h}"
+        );
         assert_eq!(rt; receivers[h].looks(), before.wrapping_add(looks), "at {h}");
     }
     assert_eq!(rt; ends.sender.looks(), 0);
@@ -306,7 +335,10 @@ fn limits_of_sequences(rt: HostRuntime) -> Result<(), Fail> {
         assert_eq!(rt; fault, Some(RingFault::BadLimit), "at {limit}");
     }
     let (mut sender, _receivers, _halter) = ring(rt.alloc(), &graph, size, 3)?;
-    assert_eq!(rt; claimed(sender.try_claim(3)), Reply::Claimed { lo: 0, hi: 2 });
+    assert_eq!(rt;
+        claimed(sender.try_claim(3)),
+        Reply::Claimed { lo: 0, hi: 2 }
+    );
     assert_eq!(rt; claimed(sender.try_claim(1)), refused(Refusal::Exhausted));
     assert_eq!(rt; claimed(sender.try_claim(2)), refused(Refusal::Exhausted));
     assert_eq!(rt; RingFault::BadLimit.number(), 33);
@@ -321,7 +353,8 @@ fn a_new_ring_settles(rt: HostRuntime) -> Result<(), Fail> {
     let settled = settle(sender, receivers);
     assert_eq!(rt; settled.claimed(), 0);
     assert_eq!(rt; settled.published(), 0);
-    for h in 0..3 {
+    assert_eq!(rt; settled.handlers(), 3);
+    for h in 0..settled.handlers() {
         assert_eq!(rt; settled.taken(h), 0, "at {h}");
         assert_eq!(rt; settled.completed(h), 0, "at {h}");
     }
@@ -427,7 +460,13 @@ fn halt_after(mut halter: Halter, mut receiver: Receiver, count: u64) -> Option<
     let mut out = [Event::NONE; 8];
     for _ in 0..u64::MAX {
         match receiver.poll_into(&mut out) {
-            Ok(Batch { first, count: more, .. }) => {
+            Ok(
+                Batch {
+                    first,
+                    count: more,
+                    ..
+                },
+            ) => {
                 next = first.saturating_add(more);
                 let _ = receiver.complete(next);
                 if next >= count {
