@@ -1,0 +1,83 @@
+-- A ring at its opening.
+use Rattle.std.proofs.Common.{◌≡◌, ℕ, zero, suc, ◌+◌, ◌<◌, inl, inr, ◌==◌, List, [], ◌∷◌, length, get_or, map, replicate, None, sym, refl, ap, ◌∙◌, subst, arith}
+use Rattle.std.specs.Prelude.{nat_lt}
+use Rattle.std.specs.List.{range_with_len}
+use Rattle.std.proofs.lemmas.Bool.{cases_lt, le-ltb}
+use Rattle.std.proofs.lemmas.List.{length-replicate, get_or-replicate, get_or_past}
+use mathlib.Core.Option.{some, some-injective, some-ne-none}
+use lib.ListN.{get_elem?}
+use Rattle.dr_graph.specs.Graph.{IsGraph}
+use Rattle.dr_core.specs.Machine as machine
+use Rattle.dr_core.specs.Machine.{State}
+use Rattle.dr_ring.specs.Shape.{Shape, handlers_of, setup_of}
+use Rattle.dr_ring.specs.Words.{cursor_word, closed_word, halt_word, count_word, words_of}
+use Rattle.dr_ring.specs.declared.record.ReceiverRecord.{ReceiverRecord}
+use Rattle.dr_ring.specs.Kept.{Kept, ReceiverKept}
+use Rattle.dr_ring.specs.Moments.{fresh_receiver, fresh_receivers, opening, taken_of, picture_of}
+
+pub fresh_at : (k : Shape) (h n i : ℕ) (r : ReceiverRecord) → get_elem? (fresh_receivers k h n) i ≡ some r → r ≡ fresh_receiver k (h + i)
+fresh_at k h zero i r e = absurd (some-ne-none r (sym e))
+fresh_at k h (suc n) zero r e = sym (some-injective _ r e) ∙ (let z : h ≡ h + 0 = omega arith in ap (fresh_receiver k) z)
+fresh_at k h (suc n) (suc i) r e = fresh_at k (suc h) n i r e ∙ (let s : suc h + i ≡ h + suc i = omega arith in ap (fresh_receiver k) s)
+
+pub fresh_count : (k : Shape) (h n : ℕ) → length (fresh_receivers k h n) ≡ n
+fresh_count k h zero = refl
+fresh_count k h (suc n) = ap suc (fresh_count k (suc h) n)
+
+abbrev zeros : ℕ → List ℕ
+zeros n = replicate n 0
+
+all_zero : (n i : ℕ) → ◌≡◌ {A = ℕ} (get_or (zeros n) i 0) 0
+all_zero n i =
+    let z : ℕ = 0 in
+    elim (cases_lt i n) [
+      | inl lt ↦ get_or-replicate n i z z lt
+      | inr past ↦ get_or_past (zeros n) i 0 (omega (arith, length-replicate n z))
+    ]
+
+pub kept_opening : (k : Shape) → IsGraph k.upstreams → 0 < k.size → Kept k (opening k)
+kept_opening k graph some_slot = let n = words_of k in let ws = zeros n in let halt = all_zero n halt_word in let close = all_zero n closed_word in record {
+  graph = graph;
+  some_slot = some_slot;
+  wide = (let z : ℕ = 0 in length-replicate n z);
+  ends = fresh_count k 0 (handlers_of k);
+  sender_plan = refl;
+  halter_plan = refl;
+  counts = record { cursor = all_zero n cursor_word; limit = omega arith };
+  received = λ h r at. (let e : r ≡ fresh_receiver k h = fresh_at k 0 (handlers_of k) h r at ∙ (let z : 0 + h ≡ h = omega arith in ap (fresh_receiver k) z) in
+      subst (λ (q : ReceiverRecord). ReceiverKept k ws [] h q) (sym e)
+      (record {
+        plan = refl;
+        number = refl;
+        count = all_zero n (count_word h);
+        completed = omega arith;
+        taken = omega arith;
+        after = λ u up. omega arith;
+        beginning = refl;
+        half = λ v y. absurd (cc);
+        told = λ y. absurd (cc);
+        looks = λ i x there. absurd (some-ne-none x (sym there));
+      }));
+  room = λ f final. omega arith;
+  payload = record { events = λ s lt near. absurd (omega arith); writes = λ i v e. absurd (cc); halves = λ x e. absurd (cc) };
+  flags = record { halt = omega arith; close = omega arith; by_sender = λ y. absurd (cc); by_halter = λ y. absurd (cc); closed = λ y. absurd (cc); complete = λ y. absurd (omega arith) };
+  looks = λ i x there. absurd (some-ne-none x (sym there));
+}
+
+none_taken : (k : Shape) (h n : ℕ) → map taken_of (fresh_receivers k h n) ≡ replicate n 0
+none_taken k h zero = refl
+none_taken k h (suc n) = ap (λ (xs : List ℕ). 0 ∷ xs) (none_taken k (suc h) n)
+
+no_counts : (m a n : ℕ) → map (λ h. get_or (zeros m) (count_word h) 0) (range_with_len a n) ≡ replicate n 0
+no_counts m a zero = refl
+no_counts m a (suc n) = λ i. all_zero m (count_word a) i ∷ no_counts m (a + 1) n i
+
+pub opens : (k : Shape) → picture_of k (opening k) ≡ machine.opening (setup_of k)
+opens k = let n = words_of k in λ i. record {
+  owners = [];
+  written = λ s. None;
+  published = λ s. (ap (nat_lt s) (all_zero n cursor_word) ∙ le-ltb s 0 (omega arith)) i;
+  taken = none_taken k 0 (handlers_of k) i;
+  completed = no_counts n 0 (handlers_of k) i;
+  halted = (ap (λ (x : ℕ). x == 1) (all_zero n halt_word)) i;
+}

@@ -1,0 +1,143 @@
+-- How the views of seats are cut and joined, and how a new ring's rule begins.
+use Rattle.std.proofs.Common.{◌≡◌, ◌≢◌, ℕ, zero, suc, ◌+◌, ◌-◌, ◌<◌, ◌⊎◌, inl, inr, ◌==◌, if◌then◌else◌, List, [], ◌∷◌, ◌++◌, map, length, set, take, drop, replicate, sym, refl, ap, ◌∙◌, subst, arith, length-set}
+use Rattle.std.proofs.lemmas.Bool.{eq-eqb, ne_eqb}
+use mathlib.Core.Option.{some, some-injective, some-ne-none}
+use lib.ListN.{get_elem?}
+use Rattle.atomic_table.specs.Table.{opening, Splits, Joins}
+use Rattle.atomic_table.proofs.Lists.{at_set}
+use Rattle.dr_graph.specs.Graph.{IsGraph}
+use Rattle.dr_ring.specs.Shape.{Shape, handlers_of}
+use Rattle.dr_ring.specs.Words.{words_of}
+use Rattle.dr_ring.specs.declared.record.ReceiverRecord.{ReceiverRecord}
+use Rattle.dr_ring.specs.declared.record.EndRecord.{EndRecord}
+use Rattle.dr_ring.specs.declared.record.EndRecord.TheVariants.{Sends, Receives, Halts}
+use Rattle.dr_ring.specs.Kept.{World, Kept}
+use Rattle.dr_ring.specs.Moments.{fresh_sender, fresh_receivers, fresh_halter}
+use Rattle.dr_ring.specs.Seats.{Known, end_number, Stands, world_of, Ruled, all_ends}
+use Rattle.dr_ring.proofs.Beginning.{fresh_at, kept_opening}
+use Rattle.dr_ring.proofs.Seats.{StandsAt}
+
+-- the receivers' records in the first view
+known_at : (rs : List ReceiverRecord) (j : ℕ) (e : EndRecord) → get_elem? (map (λ r. Receives r) rs) j ≡ some e → (r : ReceiverRecord) × (get_elem? rs j ≡ some r) × (e ≡ Receives r)
+known_at [] j e at = absurd (some-ne-none e (sym at))
+known_at (r ∷ rs) zero e at = (r, refl, sym (some-injective _ e at))
+known_at (r ∷ rs) (suc j) e at = known_at rs j e at
+
+abbrev fresh_world : Shape → List ℕ → ℕ → World
+fresh_world k ws n = world_of ws (fresh_sender k) (fresh_receivers k 0 n) (fresh_halter k)
+
+stands_fresh : (k : Shape) (ws : List ℕ) (n j : ℕ) (e : EndRecord) → get_elem? (Sends (fresh_sender k) ∷ Halts (fresh_halter k) ∷ map (λ r. Receives r) (fresh_receivers k 0 n)) j ≡ some e
+    → (end_number e ≡ j) × Stands (fresh_world k ws n) e
+stands_fresh k ws n zero e at = subst (λ (x : EndRecord). (end_number x ≡ 0) × Stands (fresh_world k ws n) x) (some-injective (Sends (fresh_sender k)) e at) (refl, refl)
+stands_fresh k ws n (suc zero) e at = subst (λ (x : EndRecord). (end_number x ≡ 1) × Stands (fresh_world k ws n) x) (some-injective (Halts (fresh_halter k)) e at) (refl, refl)
+stands_fresh k ws n (suc (suc j)) e at = let t = known_at (fresh_receivers k 0 n) j e at in let f = fresh_at k 0 n j t.0 t.1 in
+    let number : t.0.number ≡ j = ap (λ (r : ReceiverRecord). r.number) f ∙ omega arith in
+    subst (λ (x : EndRecord). (end_number x ≡ suc (suc j)) × Stands (fresh_world k ws n) x) (sym t.2)
+    ((let g = number in omega arith), ap (λ (m : ℕ). get_elem? (fresh_receivers k 0 n) m) number ∙ t.1)
+
+one_view : (P : ℕ → Known → Type 0) (first : Known) → P 0 first → (id : ℕ) (v : Known) → get_elem? (first ∷ []) id ≡ some v → P id v
+one_view P first p zero v at = subst (P 0) (some-injective first v at) p
+one_view P first p (suc id) v at = absurd (some-ne-none v (sym at))
+
+pub ruled_fresh : (k : Shape) (ws : List ℕ) → ws ≡ replicate (words_of k) 0 → IsGraph k.upstreams → 0 < k.size → Ruled k (opening ws [] (all_ends k))
+ruled_fresh k ws is graph some_slot = let rs = fresh_receivers k 0 (handlers_of k) in record {
+  sender = fresh_sender k;
+  receivers = rs;
+  halter = fresh_halter k;
+  kept = subst (λ (us : List ℕ). Kept k (world_of us (fresh_sender k) rs (fresh_halter k))) (sym is) (kept_opening k graph some_slot);
+  place = λ e. (0, e);
+  each_end = one_view (λ id v. (j : ℕ) (e : EndRecord) → get_elem? v j ≡ some e → ((0, end_number e) ≡ (id, j)) × Stands (fresh_world k ws (handlers_of k)) e) (all_ends k)
+      (λ j e at. let t = stands_fresh k ws (handlers_of k) j e at in (ap (λ (m : ℕ). let p : ℕ × ℕ = (0, m) in p) t.0, t.1));
+}
+
+-- a list with one more
+last_or : {A : Type 0} (l : List A) (a b : A) (j : ℕ) → get_elem? (l ++ a ∷ []) j ≡ some b → (get_elem? l j ≡ some b) ⊎ ((j ≡ length l) × (a ≡ b))
+last_or [] a b zero e = inr (refl, some-injective a b e)
+last_or [] a b (suc j) e = absurd (some-ne-none b (sym e))
+last_or (x ∷ xs) a b zero e = inl e
+last_or (x ∷ xs) a b (suc j) e = elim (last_or xs a b j e) [ inl y ↦ inl y | inr t ↦ inr (ap suc t.0, t.1) ]
+
+-- where an end stands, once all but the first of the view `id` have gone to the seat `new`
+moved : ℕ → ℕ → ℕ × ℕ → ℕ × ℕ
+moved id new p = if p.0 == id then (if p.1 == 0 then p else (new, p.1 - 1)) else p
+
+moved_first : (id new : ℕ) (p : ℕ × ℕ) → p ≡ (id, 0) → moved id new p ≡ (id, 0)
+unfolding moved
+moved_first id new p e = ap (moved id new) e ∙ rw (eq-eqb id id refl) refl
+
+moved_later : (id new j : ℕ) (p : ℕ × ℕ) → p ≡ (id, suc j) → moved id new p ≡ (new, j)
+unfolding moved
+moved_later id new j p e = ap (moved id new) e ∙ rw (eq-eqb id id refl, ne_eqb (suc j) 0 (λ h. omega arith)) (let s : suc j - 1 ≡ j = omega arith in ap (λ (m : ℕ). let q : ℕ × ℕ = (new, m) in q) s)
+
+moved_other : (id new id' j : ℕ) (p : ℕ × ℕ) → id' ≢ id → p ≡ (id', j) → moved id new p ≡ (id', j)
+unfolding moved
+moved_other id new id' j p ne e = ap (moved id new) e ∙ rw (ne_eqb id' id ne) refl
+
+first_of_view : (v : Known) (j : ℕ) (e : EndRecord) → get_elem? (take 1 v) j ≡ some e → (j ≡ 0) × (get_elem? v 0 ≡ some e)
+first_of_view [] j e at = absurd (some-ne-none e (sym at))
+first_of_view (x ∷ xs) zero e at = (refl, at)
+first_of_view (x ∷ xs) (suc j) e at = absurd (some-ne-none e (sym at))
+
+rest_of_view : (v : Known) (j : ℕ) (e : EndRecord) → get_elem? (drop 1 v) j ≡ some e → get_elem? v (suc j) ≡ some e
+rest_of_view [] j e at = absurd (some-ne-none e (sym at))
+rest_of_view (x ∷ xs) j e at = at
+
+pub cuts : (k : Shape) (id : ℕ) (v : Known) → Splits (Ruled k) id v (take 1 v) (drop 1 v)
+cuts k id v s R mine = let new = length s.views in let place' : ℕ → ℕ × ℕ = λ e. moved id new (R.place e) in let w = world_of s.words R.sender R.receivers R.halter in
+    let P : ℕ → Known → Type 0 = λ id' u. (j : ℕ) (e : EndRecord) → get_elem? u j ≡ some e → StandsAt place' w id' j e in record {
+      sender = R.sender;
+      receivers = R.receivers;
+      halter = R.halter;
+      kept = R.kept;
+      place = place';
+      each_end = λ id' u at. elim (last_or (set s.views id (take 1 v)) (drop 1 v) u id' at) [
+        | inl there ↦ elim (at_set s.views id id' (take 1 v) u there) [
+          | inl x ↦ subst (P id') x.1 (λ j e in_v. (let f = first_of_view v j e in_v in let t = R.each_end id v mine 0 e f.1 in
+              (moved_first id new (R.place (end_number e)) t.0 ∙ (λ i. (sym x.0 i, sym f.0 i)), t.1)))
+          | inr x ↦ λ j e in_u. (let t = R.each_end id' u x.1 j e in_u in (moved_other id new id' j (R.place (end_number e)) x.0 t.0, t.1))
+        ]
+        | inr x ↦ subst (P id') x.1 (λ j e in_v. (let t = R.each_end id v mine (suc j) e (rest_of_view v j e in_v) in
+            (moved_later id new j (R.place (end_number e)) t.0 ∙ ap (λ (m : ℕ). let q : ℕ × ℕ = (m, j) in q) (sym (x.0 ∙ length-set s.views id (take 1 v))), t.1)))
+      ];
+    }
+
+-- where an end stands, once the view of `other` has gone behind that of `id`, which had n records
+joined : ℕ → ℕ → ℕ → ℕ × ℕ → ℕ × ℕ
+joined id n other p = if p.0 == other then (id, n + p.1) else p
+
+joined_other : (id n other j : ℕ) (p : ℕ × ℕ) → p ≡ (other, j) → joined id n other p ≡ (id, n + j)
+unfolding joined
+joined_other id n other j p e = ap (joined id n other) e ∙ rw (eq-eqb other other refl) refl
+
+joined_else : (id n other id' j : ℕ) (p : ℕ × ℕ) → id' ≢ other → p ≡ (id', j) → joined id n other p ≡ (id', j)
+unfolding joined
+joined_else id n other id' j p ne e = ap (joined id n other) e ∙ rw (ne_eqb id' other ne) refl
+
+at_both : (v w : Known) (j : ℕ) (e : EndRecord) → get_elem? (v ++ w) j ≡ some e → (get_elem? v j ≡ some e) ⊎ ((i : ℕ) × (j ≡ length v + i) × (get_elem? w i ≡ some e))
+at_both [] w j e at = inr (j, omega arith, at)
+at_both (x ∷ xs) w zero e at = inl at
+at_both (x ∷ xs) w (suc j) e at = elim (at_both xs w j e at) [ inl y ↦ inl y | inr t ↦ (let f = t.1 in inr (t.0, omega arith, t.2)) ]
+
+pub joins : (k : Shape) (id : ℕ) (v : Known) (other : ℕ) (w : Known) → Joins (Ruled k) id v other w (v ++ w) []
+joins k id v other w s R mine apart theirs =
+    let was : get_elem? s.views other ≡ some w = elim (at_set s.views id other (v ++ w) w theirs) [ inl x ↦ absurd (apart x.0) | inr x ↦ x.1 ] in
+    let n = length v in let place' : ℕ → ℕ × ℕ = λ e. joined id n other (R.place e) in let wd = world_of s.words R.sender R.receivers R.halter in
+    let P : ℕ → Known → Type 0 = λ id' u. (j : ℕ) (e : EndRecord) → get_elem? u j ≡ some e → StandsAt place' wd id' j e in record {
+      sender = R.sender;
+      receivers = R.receivers;
+      halter = R.halter;
+      kept = R.kept;
+      place = place';
+      each_end = λ id' u at. elim (at_set (set s.views id (v ++ w)) other id' [] u at) [
+        | inl x ↦ subst (P id') x.1 (λ j e none. absurd (some-ne-none e (sym none)))
+        | inr x ↦ elim (at_set s.views id id' (v ++ w) u x.1) [
+          | inl y ↦ subst (P id') y.1 (λ j e in_both. elim (at_both v w j e in_both) [
+            | inl in_v ↦ (let t = R.each_end id v mine j e in_v in
+                (joined_else id n other id j (R.place (end_number e)) (λ h. apart (sym h)) t.0 ∙ ap (λ (m : ℕ). let q : ℕ × ℕ = (m, j) in q) (sym y.0), t.1))
+            | inr z ↦ (let t = R.each_end other w was z.0 e z.2 in
+                (joined_other id n other z.0 (R.place (end_number e)) t.0 ∙ (λ i. (sym y.0 i, sym z.1 i)), t.1))
+          ])
+          | inr y ↦ λ j e in_u. (let t = R.each_end id' u y.1 j e in_u in (joined_else id n other id' j (R.place (end_number e)) x.0 t.0, t.1))
+        ]
+      ];
+    }

@@ -1,0 +1,263 @@
+-- Each step keeps the rule.
+use Rattle.std.proofs.Common.{◌≡◌, ◌≢◌, ℕ, ◌+◌, ◌-◌, ◌<◌, ◌≤◌, inl, inr, Bool, ◌==◌, if◌then◌else◌, List, [], ◌∷◌, ◌++◌, length, get_or, set, replicate, Option, Some, None, sym, refl, ap, ◌∙◌, subst, arith, length-set, get_or-set_same, get_or-set_other}
+use Rattle.std.specs.Prelude.{Contains}
+use Rattle.std.proofs.lemmas.Bool.{cases_eq, cases_lt, eq-eqb, ne_eqb}
+use Rattle.std.proofs.lemmas.List.{length-append, length-replicate, get_or_append_left, get_or-append_right, get_or-replicate, get_or_past, append-nil}
+use mathlib.Core.Option.{some}
+use lib.ListN.{get_elem?}
+use Rattle.dr_seq.specs.declared.event.Event.{Event}
+use Rattle.dr_graph.specs.Graph.{upstreams_of, IsOrderly, IsGated, IsGraph}
+use Rattle.dr_ring.specs.Shape.{Shape, handlers_of}
+use Rattle.dr_ring.specs.Words.{cursor_word, closed_word, halt_word, count_word, payload_start, payload_word, words_of}
+use Rattle.dr_ring.specs.declared.record.HalfWrite.{HalfWrite}
+use Rattle.dr_ring.specs.declared.record.SenderRecord.{SenderRecord}
+use Rattle.dr_ring.specs.declared.record.ReceiverRecord.{ReceiverRecord}
+use Rattle.dr_ring.specs.Ends.{claimed, look, sender_looked, halt_looked, half_written, written, HasRoom, IsOpen}
+use Rattle.dr_ring.specs.Kept.{World, Room, first_stored, Payload, HaltAndClose, ArePast, ReceiverKept, Kept}
+use Rattle.dr_ring.specs.Steps.{sender_knows, sender_stores}
+use Rattle.dr_ring.proofs.Lists.{there, at_below, final_inside, contains_none, past_set, past_more, last_look_le, apart}
+
+abbrev pub word_at : List ℕ → ℕ → ℕ
+word_at words i = get_or words i 0
+
+-- what a handler completed, by its word
+pub receiver_of_handler : (k : Shape) (w : World) → Kept k w → (h : ℕ) → h < handlers_of k → (r : ReceiverRecord) × (get_elem? w.receivers h ≡ some r) × ReceiverKept k w.words w.sender.published h r
+receiver_of_handler k w K h lt = let count = K.ends in let t = there w.receivers h (omega arith) in (t.0, t.1, K.received h t.0 t.1)
+
+-- completed counts fall along the graph
+pub orderly : (k : Shape) (w : World) → Kept k w → IsOrderly k.upstreams (λ h. word_at w.words (count_word h))
+orderly k w K h u has =
+    elim (cases_lt h (handlers_of k)) [
+      | inl lt ↦
+          let t : (r : ReceiverRecord) × (get_elem? w.receivers h ≡ some r) × ReceiverKept k w.words w.sender.published h r = receiver_of_handler k w K h lt in
+          let c : word_at w.words (count_word h) ≡ t.0.completed = t.2.count in
+          let d : t.0.completed ≤ length t.0.received = t.2.completed in
+          let a : length t.0.received ≤ word_at w.words (count_word u) = t.2.after u has in omega arith
+      | inr past ↦ absurd (contains_none u (let e : upstreams_of k.upstreams h ≡ [] = get_or_past k.upstreams h [] past in subst (λ (ups : List ℕ). Contains ups u) e has))
+    ]
+
+-- no claim is more than a round ahead of any handler
+pub above : (k : Shape) (w : World) → Kept k w → (h : ℕ) → h < handlers_of k → claimed w.sender ≤ k.size + word_at w.words (count_word h)
+above k w K h lt =
+    let g : IsGated k.upstreams (λ h. word_at w.words (count_word h)) h = K.graph.gate (λ h. word_at w.words (count_word h)) (orderly k w K) h lt in
+    let r : claimed w.sender ≤ k.size + word_at w.words (count_word g.last) = K.room g.last g.final in
+    let b : word_at w.words (count_word g.last) ≤ word_at w.words (count_word h) = g.behind in omega arith
+
+pub near : (k : Shape) (w : World) → Kept k w → claimed w.sender ≤ k.size + length w.sender.published
+near k w K =
+    let some_one = K.graph.some in let a = above k w K 0 some_one in let t = receiver_of_handler k w K 0 some_one in
+    let d = t.2.count in let c = t.2.completed in let b = t.2.taken in omega arith
+
+pub upstream_inside : (k : Shape) → IsGraph k.upstreams → (h u : ℕ) → h < handlers_of k → Contains (upstreams_of k.upstreams h) u → u < handlers_of k
+upstream_inside k graph h u lt has = let l : u < h = graph.layered h u has in omega arith
+
+-- what is written is open
+pub is_open : (l : List (Option Event)) (i : ℕ) (v : Event) → get_or l i None ≡ Some v → i < length l
+is_open l i v e =
+    elim (cases_lt i (length l)) [
+      | inl lt ↦ lt
+      | inr le ↦ absurd (let n : get_or l i None ≡ None = get_or_past l i None le in cc)
+    ]
+
+-- where the words that a part speaks of stay, it stays
+pub room_stays : (k : Shape) (words us : List ℕ) (n : ℕ) → ((h : ℕ) → h < handlers_of k → word_at words (count_word h) ≤ word_at us (count_word h)) → Room k words n → Room k us n
+room_stays k words us n rises room f final = let a = rises f (final_inside k.upstreams f final) in let b = room f final in omega arith
+
+pub payload_stays : (k : Shape) (words us : List ℕ) (published : List Event) (pending : List (Option Event)) (half : Option HalfWrite) → ((i : ℕ) → payload_start k ≤ i → word_at us i ≡ word_at words i) → Payload k words published pending half → Payload k us published pending half
+payload_stays k words us published pending half same P = record {
+  events = λ s lt wide. (let e = P.events s lt wide in (same (payload_word k s 0) (omega arith) ∙ e.0, same (payload_word k s 1) (omega arith) ∙ e.1));
+  writes = λ i v e. (let d = P.writes i v e in (same (payload_word k (length published + i) 0) (omega arith) ∙ d.0, same (payload_word k (length published + i) 1) (omega arith) ∙ d.1));
+  halves = λ x e. (let d = P.halves x e in (d.0, d.1, same (payload_word k x.sequence 0) (omega arith) ∙ d.2));
+}
+
+pub flags_stay : (words us : List ℕ) (n : ℕ) (a b c : Bool) → word_at us halt_word ≡ word_at words halt_word → word_at us closed_word ≡ word_at words closed_word → HaltAndClose words n a b c → HaltAndClose us n a b c
+flags_stay words us n a b c halt close F = record {
+  halt = let f = F.halt in omega arith;
+  close = let f = F.close in omega arith;
+  by_sender = λ y. halt ∙ F.by_sender y;
+  by_halter = λ y. halt ∙ F.by_halter y;
+  closed = λ y. close ∙ F.closed y;
+  complete = λ y. let d = F.complete (sym close ∙ y) in (halt ∙ d.0, d.1);
+}
+
+pub receiver_stays : (k : Shape) (words us : List ℕ) (published : List Event) (h : ℕ) (r : ReceiverRecord) → IsGraph k.upstreams → h < handlers_of k → word_at us (count_word h) ≡ word_at words (count_word h)
+    → ((u : ℕ) → u < handlers_of k → word_at words (count_word u) ≤ word_at us (count_word u)) → (word_at words closed_word ≡ 1 → word_at us closed_word ≡ 1) → ArePast k us r.looks
+    → ReceiverKept k words published h r → ReceiverKept k us published h r
+receiver_stays k words us published h r graph inside same rises closes past was = record {
+  plan = was.plan;
+  number = was.number;
+  count = same ∙ was.count;
+  completed = was.completed;
+  taken = was.taken;
+  after = λ u up. (let a = was.after u up in let b = rises u (upstream_inside k graph h u inside up) in omega arith);
+  beginning = was.beginning;
+  half = was.half;
+  told = λ y. (closes (was.told y).0, (was.told y).1);
+  looks = past;
+}
+
+-- the sender looks
+pub keeps_sender_looks : (k : Shape) (w : World) (i : ℕ) → i < payload_start k → Kept k w → Kept k (sender_knows w (sender_looked w.sender i (word_at w.words i)))
+keeps_sender_looks k w i lt K = record {
+  graph = K.graph;
+  some_slot = K.some_slot;
+  wide = K.wide;
+  ends = K.ends;
+  sender_plan = K.sender_plan;
+  halter_plan = K.halter_plan;
+  counts = K.counts;
+  received = K.received;
+  room = K.room;
+  payload = K.payload;
+  flags = K.flags;
+  looks = past_more k w.words i w.sender.looks lt K.looks;
+}
+
+payload_claims : (k : Shape) (words : List ℕ) (published : List Event) (pending : List (Option Event)) (half : Option HalfWrite) (n : ℕ) → Payload k words published pending half → Payload k words published (pending ++ replicate n None) half
+payload_claims k words published pending half n P =
+    let nothing : Option Event = None in
+    let longer : length (pending ++ replicate n nothing) ≡ length pending + n = omega (arith, length-append pending (replicate n nothing), length-replicate n nothing) in record {
+      events = λ s lt wide. P.events s lt (omega arith);
+      writes = λ i v e. elim (cases_lt i (length pending)) [
+        | inl lt ↦ P.writes i v (sym (get_or_append_left pending (replicate n None) None i lt) ∙ e)
+        | inr past ↦ absurd (
+            let a : i < length (pending ++ replicate n None) = is_open (pending ++ replicate n None) i v e in
+            let c : get_or (pending ++ replicate n None) i None ≡ None = get_or-append_right pending (replicate n None) (length pending) i None refl past ∙ get_or-replicate n (i - length pending) None None (omega arith) in cc)
+      ];
+      halves = λ x e. (let d = P.halves x e in let a = d.1 in (d.0, omega arith, d.2));
+    }
+
+-- the sender looks at halt, finds 0 and claims
+claims_more : (k : Shape) (w : World) (n : ℕ) → HasRoom k w.sender n → word_at w.words halt_word ≡ 0 → Kept k w
+    → Kept k (sender_knows w (record w.sender { pending = w.sender.pending ++ replicate n None; looks = w.sender.looks ++ look halt_word (word_at w.words halt_word) ∷ [] }))
+claims_more k w n room going K =
+    let pending = w.sender.pending in let nothing : Option Event = None in
+    let longer : length (pending ++ replicate n nothing) ≡ length pending + n = omega (arith, length-append pending (replicate n nothing), length-replicate n nothing) in record {
+      graph = K.graph;
+      some_slot = K.some_slot;
+      wide = K.wide;
+      ends = K.ends;
+      sender_plan = K.sender_plan;
+      halter_plan = K.halter_plan;
+      counts = record { cursor = K.counts.cursor; limit = let l = room.limit in omega arith };
+      received = K.received;
+      room = λ f final. (let a = room.completed f final in let i = final_inside k.upstreams f final in let b = last_look_le k w.words 0 w.sender.looks (count_word f) (omega arith) K.looks in omega arith);
+      payload = payload_claims k w.words w.sender.published pending w.sender.half n K.payload;
+      flags = let F = K.flags in record { halt = F.halt; close = F.close; by_sender = F.by_sender; by_halter = F.by_halter; closed = F.closed; complete = λ c. absurd (let h = (F.complete c).0 in omega arith) };
+      looks = past_more k w.words halt_word w.sender.looks (omega arith) K.looks;
+    }
+
+abbrev opens : ℕ → ℕ → List (Option Event)
+opens n found = if found == 0 then replicate n None else []
+
+pub keeps_halt_look : (k : Shape) (w : World) (n : ℕ) → (0 < n → HasRoom k w.sender n) → Kept k w → Kept k (sender_knows w (halt_looked w.sender n (word_at w.words halt_word)))
+keeps_halt_look k w n room K =
+    let found = word_at w.words halt_word in
+    let P : List (Option Event) → Type 0 = λ more. Kept k (sender_knows w (record w.sender { pending = w.sender.pending ++ more; looks = w.sender.looks ++ look halt_word found ∷ [] })) in
+    let nothing : Kept k (sender_knows w (sender_looked w.sender halt_word found)) = keeps_sender_looks k w halt_word (omega arith) K in
+    let none : P [] = subst (λ (xs : List (Option Event)). Kept k (sender_knows w (record w.sender { pending = xs; looks = w.sender.looks ++ look halt_word found ∷ [] }))) (sym (append-nil w.sender.pending)) nothing in
+    elim (cases_eq found 0) [
+      | inl e ↦ elim (cases_lt 0 n) [
+        | inl some_one ↦ (let same : opens n found ≡ replicate n None = rw (eq-eqb found 0 e) refl in subst P (sym same) (claims_more k w n (room some_one) e K))
+        | inr none_asked ↦ (let z : n ≡ 0 = omega arith in let same : opens n found ≡ [] = rw (eq-eqb found 0 e) (ap (λ (m : ℕ). let xs : List (Option Event) = replicate m None in xs) z) in subst P (sym same) none)
+      ]
+      | inr ne ↦ (let same : opens n found ≡ [] = rw (ne_eqb found 0 ne) refl in subst P (sym same) none)
+    ]
+
+-- a payload word is stored: nothing below the payload changes
+payload_kept : (k : Shape) (w : World) (i v : ℕ) (r : SenderRecord) → payload_start k ≤ i → i < words_of k → r.plan ≡ w.sender.plan → r.published ≡ w.sender.published → length r.pending ≡ length w.sender.pending → r.halted ≡ w.sender.halted → r.closed ≡ w.sender.closed → r.looks ≡ w.sender.looks
+    → Payload k (set w.words i v) w.sender.published r.pending r.half → Kept k w
+    → Kept k (sender_stores w i v (record w.sender { pending = r.pending; half = r.half }))
+payload_kept k w i v r low high p1 p2 p3 p4 p5 p6 payload K =
+    let wide = K.wide in let us = set w.words i v in let inside : i < length w.words = omega arith in
+    let stays : (j : ℕ) → j < payload_start k → word_at us j ≡ word_at w.words j = λ j below. get_or-set_other w.words i j v 0 (λ (e : j ≡ i). omega arith) in
+    let halt = stays halt_word (omega arith) in let close = stays closed_word (omega arith) in record {
+      graph = K.graph;
+      some_slot = K.some_slot;
+      wide = length-set w.words i v ∙ K.wide;
+      ends = K.ends;
+      sender_plan = K.sender_plan;
+      halter_plan = K.halter_plan;
+      counts = record { cursor = stays cursor_word (omega arith) ∙ K.counts.cursor; limit = let l = K.counts.limit in omega arith };
+      received = λ h q at. (let inside_h : h < handlers_of k = (let b = at_below w.receivers h q at in let c = K.ends in omega arith) in
+          let was = K.received h q at in
+          receiver_stays k w.words us w.sender.published h q K.graph inside_h (stays (count_word h) (omega arith)) (λ u lt. (let e = stays (count_word u) (omega arith) in omega arith)) (λ c. close ∙ c)
+          (past_set k w.words i v q.looks inside (λ h. absurd (omega arith)) was.looks) was);
+      room = (let same : length w.sender.published + length r.pending ≡ claimed w.sender = omega arith in subst (Room k us) (sym same) (room_stays k w.words us (claimed w.sender) (λ h lt. (let e = stays (count_word h) (omega arith) in omega arith)) K.room));
+      payload = payload;
+      flags = subst (λ (n : ℕ). HaltAndClose us n w.sender.halted w.sender.closed w.halter.halted) (sym p3) (flags_stay w.words us (length w.sender.pending) w.sender.halted w.sender.closed w.halter.halted halt close K.flags);
+      looks = past_set k w.words i v w.sender.looks inside (λ h. absurd (omega arith)) K.looks;
+    }
+
+stored_here : (s v : ℕ) (event : Event) (t : ℕ) → t ≡ s → first_stored (Some record { sequence = s; first = v }) t event ≡ v
+stored_here s v event t e = rw (eq-eqb s t (sym e)) refl
+
+stored_else : (x : HalfWrite) (event : Event) (t : ℕ) → t ≢ x.sequence → first_stored (Some x) t event ≡ event.first
+stored_else x event t ne = rw (ne_eqb x.sequence t (λ (e : x.sequence ≡ t). ne (sym e))) refl
+
+payload_first : (k : Shape) (w : World) (s v : ℕ) → IsOpen w.sender s → w.sender.half ≡ None → Kept k w
+    → Payload k (set w.words (payload_word k s 0) v) w.sender.published w.sender.pending (Some record { sequence = s; first = v })
+payload_first k w s v is free K =
+    let P = K.payload in let wide = K.wide in let some_slot = K.some_slot in let close = near k w K in let le = is.0 in let lt = is.1 in
+    let i = payload_word k s 0 in let us = set w.words i v in let inside : i < length w.words = omega arith in
+    let len = length w.sender.published in
+    let stays : (j : ℕ) → j ≢ i → word_at us j ≡ word_at w.words j = λ j ne. get_or-set_other w.words i j v 0 ne in record {
+      events = λ t below near_by. (let e = P.events t below near_by in (
+        stays (payload_word k t 0) (apart k t s 0 0 some_slot (λ (z : t ≡ s). omega arith) (omega arith) (omega arith) (omega arith) (omega arith)) ∙ e.0,
+        stays (payload_word k t 1) (apart k t s 1 0 some_slot (λ (z : t ≡ s). omega arith) (omega arith) (omega arith) (omega arith) (omega arith)) ∙ e.1,
+      ));
+      writes = λ j event e. (let d = P.writes j event e in let b = is_open w.sender.pending j event e in
+          elim (cases_eq (len + j) s) [
+            | inl here ↦ (
+              subst (λ (t : ℕ). word_at us (payload_word k t 0) ≡ v) (sym here) (get_or-set_same w.words i v 0 inside) ∙ sym (stored_here s v event (len + j) here),
+              stays (payload_word k (len + j) 1) (λ (z : payload_word k (len + j) 1 ≡ i). (let q : payload_word k s 1 ≡ payload_word k s 0 = subst (λ (t : ℕ). payload_word k t 1 ≡ i) here z in omega arith)) ∙ d.1,
+            )
+            | inr ne ↦ (
+              stays (payload_word k (len + j) 0) (apart k (len + j) s 0 0 some_slot ne (omega arith) (omega arith) (omega arith) (omega arith)) ∙ d.0 ∙ ap (λ (h : Option HalfWrite). first_stored h (len + j) event) free ∙ sym (stored_else record { sequence = s; first = v } event (len + j) ne),
+              stays (payload_word k (len + j) 1) (apart k (len + j) s 1 0 some_slot ne (omega arith) (omega arith) (omega arith) (omega arith)) ∙ d.1,
+            )
+          ]);
+      halves = λ x e. (let same : record { sequence = s; first = v } ≡ x = cc in
+          subst (λ (y : HalfWrite). (len ≤ y.sequence) × (y.sequence < len + length w.sender.pending) × (word_at us (payload_word k y.sequence 0) ≡ y.first)) same (le, lt, get_or-set_same w.words i v 0 inside));
+    }
+
+pub keeps_first : (k : Shape) (w : World) (s v : ℕ) → IsOpen w.sender s → w.sender.half ≡ None → Kept k w → Kept k (sender_stores w (payload_word k s 0) v (half_written w.sender s v))
+keeps_first k w s v is free K = let some_slot = K.some_slot in
+    payload_kept k w (payload_word k s 0) v (half_written w.sender s v) (omega arith) (omega arith) refl refl refl refl refl refl (payload_first k w s v is free K) K
+
+payload_second : (k : Shape) (w : World) (x : HalfWrite) (v : ℕ) → w.sender.half ≡ Some x → Kept k w
+    → Payload k (set w.words (payload_word k x.sequence 1) v) w.sender.published (set w.sender.pending (x.sequence - length w.sender.published) (Some record { first = x.first; second = v })) None
+payload_second k w x v has K =
+    let P = K.payload in let wide = K.wide in let some_slot = K.some_slot in let close = near k w K in
+    let s = x.sequence in let event : Event = record { first = x.first; second = v } in let pending = w.sender.pending in
+    let half = P.halves x has in let le = half.0 in let lt = half.1 in
+    let i = payload_word k s 1 in let us = set w.words i v in let inside : i < length w.words = omega arith in
+    let len = length w.sender.published in let at = s - len in
+    let same : length (set pending at (Some event)) ≡ length pending = length-set pending at (Some event) in
+    let stays : (j : ℕ) → j ≢ i → word_at us j ≡ word_at w.words j = λ j ne. get_or-set_other w.words i j v 0 ne in record {
+      events = λ t below near_by. (let e = P.events t below (omega arith) in (
+        stays (payload_word k t 0) (apart k t s 0 1 some_slot (λ (z : t ≡ s). omega arith) (omega arith) (omega arith) (omega arith) (omega arith)) ∙ e.0,
+        stays (payload_word k t 1) (apart k t s 1 1 some_slot (λ (z : t ≡ s). omega arith) (omega arith) (omega arith) (omega arith) (omega arith)) ∙ e.1,
+      ));
+      writes = λ j other e.
+          elim (cases_eq (len + j) s) [
+            | inl here ↦
+                let y : get_or (set pending at (Some event)) j None ≡ Some event = subst (λ (m : ℕ). get_or (set pending at (Some event)) m None ≡ Some event) (let z : at ≡ j = omega arith in z) (get_or-set_same pending at (Some event) None (omega arith)) in
+                let is : event ≡ other = cc in
+                subst (λ (o : Event). (word_at us (payload_word k (len + j) 0) ≡ o.first) × (word_at us (payload_word k (len + j) 1) ≡ o.second)) is (
+                  subst (λ (t : ℕ). word_at us (payload_word k t 0) ≡ x.first) (sym here) (stays (payload_word k s 0) (λ z. omega arith) ∙ half.2),
+                  subst (λ (t : ℕ). word_at us (payload_word k t 1) ≡ v) (sym here) (get_or-set_same w.words i v 0 inside),
+                )
+            | inr ne ↦
+                let f : get_or pending j None ≡ Some other = sym (get_or-set_other pending at j (Some event) None (λ (z : j ≡ at). ne (omega arith))) ∙ e in
+                let b = is_open pending j other f in let d = P.writes j other f in (
+                  stays (payload_word k (len + j) 0) (apart k (len + j) s 0 1 some_slot ne (omega arith) (omega arith) (omega arith) (omega arith)) ∙ d.0 ∙ ap (λ (h : Option HalfWrite). first_stored h (len + j) other) has ∙ stored_else x other (len + j) ne,
+                  stays (payload_word k (len + j) 1) (apart k (len + j) s 1 1 some_slot ne (omega arith) (omega arith) (omega arith) (omega arith)) ∙ d.1,
+                )
+          ];
+      halves = λ y e. absurd (cc);
+    }
+
+pub keeps_second : (k : Shape) (w : World) (x : HalfWrite) (v : ℕ) → w.sender.half ≡ Some x → Kept k w → Kept k (sender_stores w (payload_word k x.sequence 1) v (written w.sender x.sequence record { first = x.first; second = v }))
+keeps_second k w x v has K = let some_slot = K.some_slot in
+    payload_kept k w (payload_word k x.sequence 1) v (written w.sender x.sequence record { first = x.first; second = v }) (omega arith) (omega arith) refl refl (length-set w.sender.pending _ _) refl refl refl (payload_second k w x v has K) K

@@ -1,0 +1,105 @@
+-- Lists, words and looks.
+use Rattle.std.proofs.Common.{◌≡◌, ◌≢◌, ℕ, zero, suc, ◌+◌, ◌%◌, ◌<◌, ◌≤◌, inl, inr, Bool, true, false, cond, List, [], ◌∷◌, ◌++◌, length, get_or, set, filter, sym, refl, subst, arith, get_or-set_same, get_or-set_other, ◌==◌, if◌then◌else◌}
+use Rattle.std.specs.Prelude.{Contains}
+use Rattle.std.specs.List.{range_with_len}
+use Rattle.std.proofs.lemmas.Bool.{cases_eq, cases_lt, eq-eqb, ne_eqb}
+use mathlib.Core.Option.{some, some-injective, some-ne-none}
+use lib.ListN.{get_elem?}
+use Rattle.atomic_table.proofs.Lists.{at_set, at_snoc, one_turn}
+use Rattle.dr_graph.specs.Graph.{finals, is_final}
+use Rattle.dr_ring.specs.Shape.{Shape}
+use Rattle.dr_ring.specs.Words.{payload_start, payload_word}
+use Rattle.dr_ring.specs.declared.record.Look.{Look}
+use Rattle.dr_ring.specs.Ends.{look, last_look}
+use Rattle.dr_ring.specs.Kept.{IsPast, ArePast}
+
+pub there : {A : Type 0} (l : List A) (i : ℕ) → i < length l → (a : A) × (get_elem? l i ≡ some a)
+there [] i h = absurd (omega arith)
+there (x ∷ xs) zero h = (x, refl)
+there (x ∷ xs) (suc i) h = there xs i (omega arith)
+
+pub at_below : {A : Type 0} (l : List A) (i : ℕ) (a : A) → get_elem? l i ≡ some a → i < length l
+at_below [] i a e = absurd (cc)
+at_below (x ∷ xs) zero a e = omega arith
+at_below (x ∷ xs) (suc i) a e = let r = at_below xs i a e in omega arith
+
+pub value_at : {A : Type 0} (l : List A) (i : ℕ) (a d : A) → get_elem? l i ≡ some a → get_or l i d ≡ a
+value_at [] i a d e = absurd (some-ne-none a (sym e))
+value_at (x ∷ xs) zero a d e = some-injective x a e
+value_at (x ∷ xs) (suc i) a d e = value_at xs i a d e
+
+pub each_set : {A : Type 0} (P : ℕ → A → Type 0) (l : List A) (h : ℕ) (r : A) → P h r → ((j : ℕ) (q : A) → j ≢ h → get_elem? l j ≡ some q → P j q) → (j : ℕ) (q : A) → get_elem? (set l h r) j ≡ some q → P j q
+each_set P l h r new old j q at =
+    elim (at_set l h j r q at) [
+      | inl x ↦ subst (λ (m : ℕ). P m q) (sym x.0) (subst (P h) x.1 new)
+      | inr x ↦ old j q x.0 x.1
+    ]
+
+first_or_rest : (xs : List ℕ) (a n i f : ℕ) (b : Bool) → ((i f : ℕ) → i < length xs → get_or xs i f ≡ f → f < n) → a < n → i < length (cond b (a ∷ xs) xs) → get_or (cond b (a ∷ xs) xs) i f ≡ f → f < n
+first_or_rest xs a n zero f true rest here lt e = let same : a ≡ f = e in omega arith
+first_or_rest xs a n (suc i) f true rest here lt e = rest i f (omega arith) e
+first_or_rest xs a n i f false rest here lt e = rest i f lt e
+
+filter_below : (p : ℕ → Bool) (a n m i f : ℕ) → a + n ≡ m → i < length (filter p (range_with_len a n)) → get_or (filter p (range_with_len a n)) i f ≡ f → f < m
+filter_below p a zero m i f e lt at = absurd (omega arith)
+filter_below p a (suc n) m i f e lt at =
+    first_or_rest (filter p (range_with_len (a + 1) n)) a m i f (p a) (λ j g. filter_below p (a + 1) n m j g (omega arith)) (omega arith) lt at
+
+-- a final handler is a handler
+pub final_inside : (graph : List (List ℕ)) (f : ℕ) → Contains (finals graph) f → f < length graph
+final_inside graph f has = filter_below (is_final graph) 0 (length graph) (length graph) has.0 f (omega arith) has.1 has.2
+
+pub contains_none : (u : ℕ) → Contains [] u → ⊥
+contains_none u has = let l : has.0 < 0 = has.1 in omega arith
+
+-- a word that is not the one stored stays, and a word that rises keeps what was seen of it
+pub past_set : (k : Shape) (words : List ℕ) (i n : ℕ) (looks : List Look) → i < length words → (i < payload_start k → get_or words i 0 ≤ n) → ArePast k words looks → ArePast k (set words i n) looks
+past_set k words i n looks lt rises all j x at = let d = all j x at in
+    elim (cases_eq x.word i) [
+      | inl e ↦ record {
+        rises = d.rises;
+        before = subst (λ (m : ℕ). x.value ≤ get_or (set words i n) m 0) (sym e)
+            (rw (get_or-set_same words i n 0 lt)
+            (let b : x.value ≤ get_or words i 0 = subst (λ (m : ℕ). x.value ≤ get_or words m 0) e d.before in
+            let c : i < payload_start k = subst (λ (m : ℕ). m < payload_start k) e d.rises in
+            let r = rises c in omega arith));
+      }
+      | inr ne ↦ record { rises = d.rises; before = rw (get_or-set_other words i x.word n 0 ne) d.before }
+    ]
+
+pub past_more : (k : Shape) (words : List ℕ) (i : ℕ) (looks : List Look) → i < payload_start k → ArePast k words looks → ArePast k words (looks ++ look i (get_or words i 0) ∷ [])
+past_more k words i looks lt all j x at =
+    elim (at_snoc looks (look i (get_or words i 0)) x j at) [
+      | inl old ↦ all j x old
+      | inr new ↦ subst (IsPast k words) new (record { rises = lt; before = omega arith })
+    ]
+
+-- a look is never above its word
+pub last_look_le : (k : Shape) (words : List ℕ) (d : ℕ) (looks : List Look) (word : ℕ) → d ≤ get_or words word 0 → ArePast k words looks → last_look d looks word ≤ get_or words word 0
+last_look_le k words d [] word le all = le
+last_look_le k words d (x ∷ xs) word le all =
+    last_look_le k words (if x.word == word then x.value else d) xs word
+    (elim (cases_eq x.word word) [
+      | inl e ↦ rw (eq-eqb x.word word e) (subst (λ (m : ℕ). x.value ≤ get_or words m 0) e (all 0 x refl).before)
+      | inr ne ↦ rw (ne_eqb x.word word ne) le
+    ])
+    (λ i y at. all (suc i) y at)
+
+pub last_look_more : (d : ℕ) (looks : List Look) (i v : ℕ) → last_look d (looks ++ look i v ∷ []) i ≡ v
+last_look_more d [] i v = rw (eq-eqb i i refl) refl
+last_look_more d (x ∷ xs) i v = last_look_more (if x.word == i then x.value else d) xs i v
+
+pub last_look_else : (d : ℕ) (looks : List Look) (i j v : ℕ) → i ≢ j → last_look d (looks ++ look i v ∷ []) j ≡ last_look d looks j
+last_look_else d [] i j v ne = rw (ne_eqb i j ne) refl
+last_look_else d (x ∷ xs) i j v ne = last_look_else (if x.word == j then x.value else d) xs i j v ne
+
+-- two sequences less than a round apart have payload words of their own
+apart_up : (k : Shape) (a b i j : ℕ) → 0 < k.size → a < b → b < a + k.size → i < 2 → j < 2 → payload_word k a i ≢ payload_word k b j
+apart_up k a b i j pos lt near low high e = let m : a % k.size ≡ b % k.size = omega arith in let same : a ≡ b = one_turn a b k.size (omega arith) near m in omega arith
+
+pub apart : (k : Shape) (a b i j : ℕ) → 0 < k.size → a ≢ b → b < a + k.size → a < b + k.size → i < 2 → j < 2 → payload_word k a i ≢ payload_word k b j
+apart k a b i j pos ne up down low high e =
+    elim (cases_lt a b) [
+      | inl lt ↦ apart_up k a b i j pos lt up low high e
+      | inr ge ↦ apart_up k b a j i pos (omega arith) down high low (sym e)
+    ]

@@ -1,0 +1,132 @@
+-- A new ring's ends.
+use Rattle.std.proofs.Common.{length-set, set, ◌≡◌, ℕ, zero, suc, ◌+◌, ◌-◌, ◌<◌, ◌≤◌, List, [], ◌∷◌, ◌++◌, map, length, get_or, take, drop, replicate, sym, refl, ap, ◌∙◌, subst, arith, append_assoc, inl, inr}
+use Rattle.std.proofs.lemmas.List.{length-map, length-replicate}
+use Rattle.atomic_table.specs.Seated.{TableId}
+use Rattle.dr_ring.specs.Shape.{Shape, handlers_of}
+use Rattle.dr_ring.specs.Words.{words_of}
+use Rattle.dr_ring.specs.Plans.{IsPlan}
+use Rattle.dr_ring.specs.declared.record.SenderRecord.{SenderRecord}
+use Rattle.dr_ring.specs.declared.record.ReceiverRecord.{ReceiverRecord}
+use Rattle.dr_ring.specs.declared.record.EndRecord.TheVariants.{Receives}
+use Rattle.dr_ring.specs.Moments.{fresh_sender, fresh_receiver, fresh_receivers, fresh_halter}
+use Rattle.dr_ring.specs.Seats.{Known, End, IsAtTable, as_sender, as_receiver, as_halter, receiver_of, all_ends}
+use Rattle.dr_ring.specs.Calls.{SenderEnd, ReceiverEnd, HalterEnd}
+use Rattle.dr_ring.specs.Settling.{AreAllEnds}
+use Rattle.dr_ring.proofs.Lists.{there, value_at, each_set}
+use Rattle.std.proofs.lemmas.Bool.{cases_lt}
+use Rattle.dr_ring.proofs.Beginning.{fresh_count}
+use mathlib.Core.Option.{some, some-injective}
+use lib.ListN.{get_elem?}
+use Rattle.dr_ring.specs.Making.{receivers_known, at_ring, AreFreshEnds}
+use Rattle.dr_ring.specs.Fits.{SenderFits, ReceiverFits, HalterFits}
+
+-- the next of the receivers
+fresh_next : (k : Shape) (h n : ℕ) → h < n → fresh_receivers k h (n - h) ≡ fresh_receiver k h ∷ fresh_receivers k (h + 1) (n - (h + 1))
+fresh_next k h n lt = let a : n - h ≡ suc (n - (h + 1)) = omega arith in let b : suc h ≡ h + 1 = omega arith in
+    ap (fresh_receivers k h) a ∙ ap (λ (m : ℕ). fresh_receiver k h ∷ fresh_receivers k m (n - (h + 1))) b
+
+known_next : (k : Shape) (h n : ℕ) → h < n → receivers_known k h (n - h) ≡ Receives (fresh_receiver k h) ∷ receivers_known k (h + 1) (n - (h + 1))
+known_next k h n lt = ap (map (λ (r : ReceiverRecord). Receives r)) (fresh_next k h n lt)
+
+pub cut_own : (k : Shape) (h n : ℕ) (me me' : End) → h < n → me ≡ (receivers_known k h (n - h), []) → me' ≡ (take 1 me.0, me.1) → me' ≡ as_receiver (fresh_receiver k h)
+cut_own k h n me me' lt was is = is ∙ ap (λ (m : End). let e : End = (take 1 m.0, m.1) in e) was ∙ ap (λ (v : Known). let e : End = (take 1 v, []) in e) (known_next k h n lt)
+
+pub cut_rest : (k : Shape) (h n : ℕ) (me me' : End) → h < n → me ≡ (receivers_known k h (n - h), []) → me' ≡ (drop 1 me.0, []) → me' ≡ (receivers_known k (h + 1) (n - (h + 1)), [])
+cut_rest k h n me me' lt was is = is ∙ ap (λ (m : End). let e : End = (drop 1 m.0, []) in e) was ∙ ap (λ (v : Known). let e : End = (drop 1 v, []) in e) (known_next k h n lt)
+
+pub fits_receiver : (at own : TableId) (me : End) (k : Shape) (h : ℕ) → IsAtTable own at k → IsPlan k → h < handlers_of k → me ≡ as_receiver (fresh_receiver k h) → ReceiverFits at own me k h 0 0 0
+fits_receiver at own me k h table made lt is = subst (λ (m : End). ReceiverFits at own m k h 0 0 0) (sym is)
+    (record { table = table; made = made; end = refl; plan = refl; number = (refl, lt); half = refl; taken = refl; completed = refl; looks = refl })
+
+pub fits_halter : (at own : TableId) (me : End) (k : Shape) → IsAtTable own at k → me ≡ as_halter (fresh_halter k) → HalterFits at own me k
+fits_halter at own me k table is = subst (λ (m : End). HalterFits at own m k) (sym is) (record { table = table; end = refl; plan = refl })
+
+abbrev zeros : ℕ → List ℕ
+zeros n = replicate n 0
+
+low_zeros : (n j : ℕ) → get_or (zeros n) j 0 ≤ 0
+low_zeros zero j = omega arith
+low_zeros (suc n) zero = omega arith
+low_zeros (suc n) (suc j) = low_zeros n j
+
+pub fits_sender : (at own : TableId) (me : End) (k : Shape) (ms : List ℕ) (rm : ℕ) → IsAtTable own at k → IsPlan k → me ≡ as_sender (fresh_sender k) → ms ≡ replicate k.size 0 → rm ≡ handlers_of k → SenderFits at own me k 0 0 0 0 ms rm
+fits_sender at own me k ms rm table made is marks places = subst (λ (m : End). SenderFits at own m k 0 0 0 0 ms rm) (sym is) (subst (λ (xs : List ℕ). SenderFits at own (as_sender (fresh_sender k)) k 0 0 0 0 xs rm) (sym marks)
+    (record {
+      table = table;
+      made = made;
+      end = refl;
+      plan = refl;
+      whole = refl;
+      next = refl;
+      front = refl;
+      limit = omega arith;
+      near = omega arith;
+      least = omega arith;
+      seen = λ f has. omega arith;
+      looks = refl;
+      marks = record { slots = (let z : ℕ = 0 in length-replicate k.size z); low = low_zeros k.size; each = λ i below. absurd (omega arith) };
+      places = places;
+    }))
+
+pub listed_next : (t : TableId) (k : Shape) (h n : ℕ) (items new : List ReceiverEnd) (e : ReceiverEnd) (all : List ReceiverEnd) → h < n → items ++ map (at_ring t) (fresh_receivers k h (n - h)) ≡ all → new ≡ items ++ e ∷ [] → e ≡ at_ring t (fresh_receiver k h)
+    → new ++ map (at_ring t) (fresh_receivers k (h + 1) (n - (h + 1))) ≡ all
+listed_next t k h n items new e all lt was is own = ap (λ (xs : List ReceiverEnd). xs ++ map (at_ring t) (fresh_receivers k (h + 1) (n - (h + 1)))) (is ∙ ap (λ (x : ReceiverEnd). items ++ x ∷ []) own)
+    ∙ append_assoc items (at_ring t (fresh_receiver k h) ∷ []) (map (at_ring t) (fresh_receivers k (h + 1) (n - (h + 1))))
+    ∙ ap (λ (rs : List ReceiverRecord). items ++ map (at_ring t) rs) (sym (fresh_next k h n lt)) ∙ was
+
+pub view_fresh : (t own : TableId) (me : End) (k : Shape) (h : ℕ) → own ≡ t → me ≡ as_receiver (fresh_receiver k h) → at_ring own (receiver_of me.0) ≡ at_ring t (fresh_receiver k h)
+view_fresh t own me k h same is = ap (λ (i : TableId). at_ring i (receiver_of me.0)) same ∙ ap (λ (m : End). at_ring t (receiver_of m.0)) is
+
+-- the first two cuts
+pub first_cut : (k : Shape) (me me' : End) → me ≡ (all_ends k, []) → me' ≡ (take 1 me.0, me.1) → me' ≡ as_sender (fresh_sender k)
+first_cut k me me' was is = is ∙ ap (λ (m : End). let e : End = (take 1 m.0, m.1) in e) was
+
+pub second_cut : (k : Shape) (me me' me'' : End) → me ≡ (all_ends k, []) → me' ≡ (drop 1 me.0, []) → me'' ≡ (take 1 me'.0, me'.1) → me'' ≡ as_halter (fresh_halter k)
+second_cut k me me' me'' was is then_is = then_is ∙ ap (λ (m : End). let e : End = (take 1 m.0, m.1) in e) is ∙ ap (λ (m : End). let e : End = (take 1 (drop 1 m.0), []) in e) was
+
+pub third_cut : (k : Shape) (me me' me'' : End) → me ≡ (all_ends k, []) → me' ≡ (drop 1 me.0, []) → me'' ≡ (drop 1 me'.0, []) → me'' ≡ (receivers_known k 0 (handlers_of k), [])
+third_cut k me me' me'' was is then_is = then_is ∙ ap (λ (m : End). let e : End = (drop 1 m.0, []) in e) is ∙ ap (λ (m : End). let e : End = (drop 1 (drop 1 m.0), []) in e) was
+
+-- a ring has words
+pub some_words : (k : Shape) (n : ℕ) (ws : List ℕ) → n ≡ length ws → ws ≡ replicate (words_of k) 0 → 0 < n
+some_words k n ws count is = let z : ℕ = 0 in let same = ap length is in let len = length-replicate (words_of k) z in omega arith
+
+fresh_end : (k : Shape) (t : TableId) (h n i : ℕ) (e : ReceiverEnd) → get_elem? (map (at_ring t) (fresh_receivers k h n)) i ≡ some e → (e.ring ≡ t) × (e.knows.number ≡ h + i)
+fresh_end k t h zero i e at = absurd (cc)
+fresh_end k t h (suc n) zero e at = subst (λ (x : ReceiverEnd). (x.ring ≡ t) × (x.knows.number ≡ h + 0)) (some-injective (at_ring t (fresh_receiver k h)) e at) (refl, omega arith)
+fresh_end k t h (suc n) (suc i) e at = let r = fresh_end k t (suc h) n i e at in let m = r.1 in (r.0, omega arith)
+
+-- the ends of a new ring are all of its ends
+pub all_fresh : (k : Shape) (s : SenderEnd) (rs : List ReceiverEnd) (t : HalterEnd) → AreFreshEnds k s rs t → AreAllEnds s rs
+all_fresh k s rs t F = record {
+  all = ap length F.receivers ∙ length-map (fresh_receivers k 0 (handlers_of k)) (at_ring s.ring) ∙ fresh_count k 0 (handlers_of k) ∙ sym (ap (λ (q : SenderRecord). handlers_of q.plan) F.sender);
+  each = λ h e at. (
+      let x : (e.ring ≡ s.ring) × (e.knows.number ≡ 0 + h) = fresh_end k s.ring 0 (handlers_of k) h e (subst (λ (xs : List ReceiverEnd). get_elem? xs h ≡ some e) F.receivers at) in
+      let m = x.1 in (x.0, omega arith));
+}
+
+-- a call that keeps an end's ring, plan and number keeps the ends together
+pub all_sender : (s s' : SenderEnd) (rs : List ReceiverEnd) → AreAllEnds s rs → s'.ring ≡ s.ring → s'.knows.plan ≡ s.knows.plan → AreAllEnds s' rs
+all_sender s s' rs A ring plan = record {
+  all = A.all ∙ sym (ap handlers_of plan);
+  each = λ h e at. (let t = A.each h e at in (t.0 ∙ sym ring, t.1));
+}
+
+pub all_receiver : (s : SenderEnd) (rs : List ReceiverEnd) (h : ℕ) (e e' : ReceiverEnd) → AreAllEnds s rs → get_elem? rs h ≡ some e → e'.ring ≡ e.ring → e'.knows.number ≡ e.knows.number → AreAllEnds s (set rs h e')
+all_receiver s rs h e e' A here ring number = record {
+  all = length-set rs h e' ∙ A.all;
+  each = each_set (λ j x. (x.ring ≡ s.ring) × (x.knows.number ≡ j)) rs h e' (let t = A.each h e here in (ring ∙ t.0, number ∙ t.1)) (λ j x ne at. A.each j x at);
+}
+
+set_past : (rs : List ReceiverEnd) (h : ℕ) (e : ReceiverEnd) → length rs ≤ h → set rs h e ≡ rs
+set_past [] h e le = refl
+set_past (r ∷ rs) zero e le = absurd (omega arith)
+set_past (r ∷ rs) (suc h) e le = ap (λ (xs : List ReceiverEnd). r ∷ xs) (set_past rs h e (omega arith))
+
+pub all_receiver_at : (s : SenderEnd) (rs : List ReceiverEnd) (h : ℕ) (e e' : ReceiverEnd) → AreAllEnds s rs → e ≡ get_or rs h e → e'.ring ≡ e.ring → e'.knows.number ≡ e.knows.number → AreAllEnds s (set rs h e')
+all_receiver_at s rs h e e' A at ring number =
+    elim (cases_lt h (length rs)) [
+      | inl lt ↦ (let t = there rs h lt in let same : t.0 ≡ e = sym (at ∙ value_at rs h t.0 e t.1) in
+          all_receiver s rs h e e' A (t.1 ∙ ap (λ (x : ReceiverEnd). some x) same) ring number)
+      | inr past ↦ subst (AreAllEnds s) (sym (set_past rs h e' past)) A
+    ]

@@ -1,0 +1,268 @@
+-- What a list of looks comes to.
+use Rattle.std.proofs.Common.{◌≡◌, ◌≢◌, ℕ, zero, suc, ◌+◌, ◌<◌, ◌≤◌, inl, inr, Bool, true, false, ◌==◌, ◌⊎◌, min, List, [], ◌∷◌, ◌++◌, length, get_or, take, sym, refl, ap, ◌∙◌, subst, arith, append_assoc}
+use Rattle.std.specs.Prelude.{Contains}
+use Rattle.std.proofs.lemmas.Bool.{cases_eq, cases_lt, ne_eqb, lt-ltb, le-ltb}
+use Rattle.std.proofs.lemmas.List.{length-append, append-nil, get_or_append_left}
+use Rattle.dr_graph.specs.Graph.{upstreams_of, finals, least_of}
+use Rattle.dr_ring.specs.Shape.{Shape}
+use Rattle.dr_ring.specs.Plans.{IsPlan}
+use Rattle.dr_ring.specs.Words.{count_word}
+use Rattle.dr_ring.specs.declared.record.Look.{Look}
+use Rattle.dr_ring.specs.declared.record.SenderRecord.{SenderRecord}
+use Rattle.dr_ring.specs.declared.record.ReceiverRecord.{ReceiverRecord}
+use Rattle.dr_ring.specs.Ends.{look, last_look, sender_looked, receiver_looked}
+use Rattle.dr_ring.specs.Seats.{End, as_sender, as_receiver, sender_of, receiver_of}
+use Rattle.dr_ring.specs.Calls.{looks_counted, sender_saw, count_looks, offered_by}
+use Rattle.dr_ring.specs.Fits.{IsSeenLeast}
+use Rattle.dr_ring.specs.Parts.{lesser_of, LooksAtFinals, IsEnough, IsShort, receiver_saw, LooksAtUpstreams}
+use Rattle.dr_ring.proofs.Lists.{last_look_more, last_look_else}
+use Rattle.dr_ring.proofs.Pictures.{some_final}
+
+-- the default of a list's element does not matter inside it
+get_any : (xs : List ℕ) (i a b : ℕ) → i < length xs → get_or xs i a ≡ get_or xs i b
+get_any [] i a b lt = absurd (omega arith)
+get_any (x ∷ xs) zero a b lt = refl
+get_any (x ∷ xs) (suc i) a b lt = get_any xs i a b (omega arith)
+
+-- an element of a list that is another
+pub contains_item : (ys xs : List ℕ) (i : ℕ) → ys ≡ xs → i < length ys → Contains xs (get_or ys i 0)
+contains_item ys xs i same lt = subst (λ (zs : List ℕ). Contains zs (get_or ys i 0)) same (i, lt, get_any ys i (get_or ys i 0) 0 lt)
+
+-- one look more
+saw_one : (r : SenderRecord) (xs : List Look) (i v : ℕ) → sender_looked (sender_saw r xs) i v ≡ sender_saw r (xs ++ look i v ∷ [])
+saw_one r xs i v = ap (λ (ys : List Look). record r { looks = ys }) (append_assoc r.looks xs (look i v ∷ []))
+
+pub counted_more : (ys xs : List Look) (i v n m : ℕ) → n ≡ looks_counted (ys ++ xs) → m ≡ min (n + 1) 18446744073709551615 → m ≡ looks_counted (ys ++ (xs ++ look i v ∷ []))
+counted_more ys xs i v n m is more = omega (arith, length-append ys xs, length-append ys (xs ++ look i v ∷ []), length-append xs (look i v ∷ []))
+
+last_rises : (d : ℕ) (xs : List Look) (i v w : ℕ) → last_look d xs i ≤ v → last_look d xs w ≤ last_look d (xs ++ look i v ∷ []) w
+last_rises d xs i v w le =
+    elim (cases_eq i w) [
+      | inl e ↦ (let a : last_look d (xs ++ look i v ∷ []) w ≡ v = ap (λ (j : ℕ). last_look d (xs ++ look i v ∷ []) j) (sym e) ∙ last_look_more d xs i v in let b : last_look d xs w ≡ last_look d xs i = ap (last_look d xs) (sym e) in omega arith)
+      | inr ne ↦ (let a : last_look d (xs ++ look i v ∷ []) w ≡ last_look d xs w = last_look_else d xs i w v ne in omega arith)
+    ]
+
+-- what a look at one word leaves of the last looks at another that it raised to n or more
+last_least : (d : ℕ) (xs : List Look) (i v w n : ℕ) → n ≤ last_look d xs w → n ≤ v → n ≤ last_look d (xs ++ look i v ∷ []) w
+last_least d xs i v w n le high =
+    elim (cases_eq i w) [
+      | inl e ↦ (let a : last_look d (xs ++ look i v ∷ []) w ≡ v = ap (λ (j : ℕ). last_look d (xs ++ look i v ∷ []) j) (sym e) ∙ last_look_more d xs i v in omega arith)
+      | inr ne ↦ (let a : last_look d (xs ++ look i v ∷ []) w ≡ last_look d xs w = last_look_else d xs i w v ne in omega arith)
+    ]
+
+-- the first i finals were looked at
+pub record Scanned (k : Shape) (r : SenderRecord) (needed least i : ℕ) (me : End) (counted : ℕ) : Type 0 where
+  pub xs : List Look
+  pub saw : LooksAtFinals r xs me counted
+  pub high : (j : ℕ) → j < i → least ≤ last_look 0 (r.looks ++ xs) (count_word (get_or (finals k.upstreams) j 0))
+  pub either : (least ≡ length r.published) ⊎ (needed ≤ least)
+  pub some_one : 0 < i → needed ≤ length r.published
+  pub front : least ≤ length r.published
+
+pub scanned_none : (k : Shape) (r : SenderRecord) (needed least : ℕ) (me : End) (counted : ℕ) → me ≡ as_sender r → counted ≡ looks_counted r.looks → least ≡ length r.published → Scanned k r needed least 0 me counted
+scanned_none k r needed least me counted is looks front = record {
+  xs = [];
+  saw = record { is = is ∙ ap (λ (ys : List Look). as_sender (record r { looks = ys })) (sym (append-nil r.looks)); looks = looks ∙ ap looks_counted (sym (append-nil r.looks)); rises = λ g. (let e : last_look 0 (r.looks ++ []) (count_word g) ≡ last_look 0 r.looks (count_word g) = ap (λ (ys : List Look). last_look 0 ys (count_word g)) (append-nil r.looks) in omega arith) };
+  high = λ j lt. absurd (omega arith);
+  either = inl front;
+  some_one = λ lt. absurd (omega arith);
+  front = omega arith;
+}
+
+-- the lesser of two
+lesser : (v least least' : ℕ) → least' ≡ lesser_of false v least → (least' ≤ least) × (least' ≤ v) × ((least' ≡ v) ⊎ (least' ≡ least))
+lesser v least least' new =
+    elim (cases_lt v least) [
+      | inl lt ↦ (let e : least' ≡ v = new ∙ rw (lt-ltb v least lt) refl in (omega arith, omega arith, inl e))
+      | inr ge ↦ (let e : least' ≡ least = new ∙ rw (le-ltb v least ge) refl in (omega arith, omega arith, inr e))
+    ]
+
+saw_more : (r : SenderRecord) (xs : List Look) (i v : ℕ) (me me' : End) (counted counted' : ℕ) → LooksAtFinals r xs me counted → me' ≡ as_sender (sender_looked (sender_of me.0) i v) → last_look 0 (sender_of me.0).looks i ≤ v → counted' ≡ min (counted + 1) 18446744073709551615
+    → LooksAtFinals r (xs ++ look i v ∷ []) me' counted'
+saw_more r xs i v me me' counted counted' S is rise more = record {
+  is = is ∙ ap (λ (m : End). as_sender (sender_looked (sender_of m.0) i v)) S.is ∙ ap as_sender (saw_one r xs i v);
+  looks = counted_more r.looks xs i v counted counted' S.looks more;
+  rises = λ g. (let w = count_word g in let a = S.rises g in let b : last_look 0 (r.looks ++ xs) w ≤ last_look 0 ((r.looks ++ xs) ++ look i v ∷ []) w = last_rises 0 (r.looks ++ xs) i v w (subst (λ (m : End). last_look 0 (sender_of m.0).looks i ≤ v) S.is rise) in
+      let e : last_look 0 ((r.looks ++ xs) ++ look i v ∷ []) w ≡ last_look 0 (r.looks ++ (xs ++ look i v ∷ [])) w = ap (λ (ys : List Look). last_look 0 ys w) (append_assoc r.looks xs (look i v ∷ [])) in omega arith);
+}
+
+pub scanned_more : (k : Shape) (r : SenderRecord) (needed least least' i f v : ℕ) (me me' : End) (counted counted' : ℕ) → Scanned k r needed least i me counted → get_or (finals k.upstreams) i 0 ≡ f → me' ≡ as_sender (sender_looked (sender_of me.0) (count_word f) v) → last_look 0 (sender_of me.0).looks (count_word f) ≤ v
+    → counted' ≡ min (counted + 1) 18446744073709551615 → needed ≤ v → v ≤ length r.published → least' ≡ lesser_of false v least → Scanned k r needed least' (i + 1) me' counted'
+scanned_more k r needed least least' i f v me me' counted counted' S at is rise more high front new =
+    let small : (least' ≤ least) × (least' ≤ v) × ((least' ≡ v) ⊎ (least' ≡ least)) = lesser v least least' new in
+    let saw = saw_more r S.xs (count_word f) v me me' counted counted' S.saw is rise more in record {
+      xs = S.xs ++ look (count_word f) v ∷ [];
+      saw = saw;
+      high = λ j lt. (let e : last_look 0 ((r.looks ++ S.xs) ++ look (count_word f) v ∷ []) (count_word (get_or (finals k.upstreams) j 0)) ≡ last_look 0 (r.looks ++ (S.xs ++ look (count_word f) v ∷ [])) (count_word (get_or (finals k.upstreams) j 0)) = ap (λ (ys : List Look). last_look 0 ys (count_word (get_or (finals k.upstreams) j 0))) (append_assoc r.looks S.xs (look (count_word f) v ∷ [])) in
+          elim (cases_lt j i) [
+            | inl before ↦ (let a = S.high j before in let l = small.0 in let h = small.1 in let b : least' ≤ last_look 0 ((r.looks ++ S.xs) ++ look (count_word f) v ∷ []) (count_word (get_or (finals k.upstreams) j 0)) = last_least 0 (r.looks ++ S.xs) (count_word f) v (count_word (get_or (finals k.upstreams) j 0)) least' (omega arith) h in omega arith)
+            | inr here ↦ (let same : j ≡ i = omega arith in let w : count_word (get_or (finals k.upstreams) j 0) ≡ count_word f = ap (λ (m : ℕ). count_word (get_or (finals k.upstreams) m 0)) same ∙ ap count_word at in
+                let b : last_look 0 ((r.looks ++ S.xs) ++ look (count_word f) v ∷ []) (count_word (get_or (finals k.upstreams) j 0)) ≡ v = ap (λ (m : ℕ). last_look 0 ((r.looks ++ S.xs) ++ look (count_word f) v ∷ []) m) w ∙ last_look_more 0 (r.looks ++ S.xs) (count_word f) v in let h = small.1 in omega arith)
+          ]);
+      either = elim small.2 [
+        | inl this ↦ inr (omega arith)
+        | inr old ↦ elim S.either [ inl all ↦ inl (old ∙ all) | inr enough ↦ inr (omega arith) ]
+      ];
+      some_one = λ _. omega arith;
+      front = let l = small.0 in let b = S.front in omega arith;
+    }
+
+last_at : (xs : List Look) (x d : Look) → get_or (xs ++ x ∷ []) (length xs) d ≡ x
+last_at [] x d = refl
+last_at (y ∷ xs) x d = last_at xs x d
+
+pub scanned_low : (k : Shape) (r : SenderRecord) (needed least i f v : ℕ) (me me' : End) (counted counted' : ℕ) → Scanned k r needed least i me counted → Contains (finals k.upstreams) f → me' ≡ as_sender (sender_looked (sender_of me.0) (count_word f) v) → last_look 0 (sender_of me.0).looks (count_word f) ≤ v
+    → counted' ≡ min (counted + 1) 18446744073709551615 → v < needed → (xs : List Look) × LooksAtFinals r xs me' counted' × IsShort k xs needed
+scanned_low k r needed least i f v me me' counted counted' S has is rise more low = (
+  S.xs ++ look (count_word f) v ∷ [],
+  saw_more r S.xs (count_word f) v me me' counted counted' S.saw is rise more,
+  record { handler = f; is_final = has; count = v; saw = (length S.xs, omega (arith, length-append S.xs (look (count_word f) v ∷ [])), last_at S.xs (look (count_word f) v) (look (count_word f) v)); low = low },
+)
+
+pub scanned_all : (k : Shape) (r : SenderRecord) (needed least i : ℕ) (me : End) (counted : ℕ) → IsPlan k → Scanned k r needed least i me counted → i ≡ length (finals k.upstreams) → (xs : List Look) × LooksAtFinals r xs me counted × IsEnough k r xs needed least
+scanned_all k r needed least i me counted plan S all =
+    let some_one = some_final k plan.graph in let low = S.some_one (omega arith) in (
+      S.xs,
+      S.saw,
+      record {
+        enough = elim S.either [ inl e ↦ omega arith | inr e ↦ e ];
+        front = S.front;
+        seen = λ f has. (let lt = has.1 in let at : get_or (finals k.upstreams) has.0 0 ≡ f = get_any (finals k.upstreams) has.0 0 f has.1 ∙ has.2 in
+            subst (λ (m : ℕ). least ≤ last_look 0 (r.looks ++ S.xs) (count_word m)) at (S.high has.0 (omega arith)));
+      },
+    )
+
+-- what is remembered serves
+pub remembers : (k : Shape) (r : SenderRecord) (needed least front : ℕ) (me : End) (counted : ℕ) → me ≡ as_sender r → counted ≡ looks_counted r.looks → needed ≤ least → least ≤ front → front ≡ length r.published → IsSeenLeast k r least
+    → (xs : List Look) × LooksAtFinals r xs me counted × IsEnough k r xs needed least
+unfolding scanned_none
+remembers k r needed least front me counted is looks enough low at seen =
+    ([], (scanned_none k r needed front me counted is looks at).saw, record { enough = enough; front = omega arith; seen = λ f has. subst (λ (ys : List Look). least ≤ last_look 0 ys (count_word f)) (sym (append-nil r.looks)) (seen f has) })
+
+-- the counts of the first i upstreams were looked at
+least_more : (counts : List ℕ) (v : ℕ) → 0 < length counts → least_of (counts ++ v ∷ []) ≡ min (least_of counts) v
+least_more [] v lt = absurd (omega arith)
+least_more (n ∷ []) v lt = refl
+least_more (n ∷ m ∷ ms) v lt = let e : least_of ((m ∷ ms) ++ v ∷ []) ≡ min (least_of (m ∷ ms)) v = least_more (m ∷ ms) v (omega arith) in omega arith
+
+looks_more : (ups counts : List ℕ) (i v : ℕ) → length counts ≡ i → i < length ups → count_looks (take (i + 1) ups) (counts ++ v ∷ []) ≡ count_looks (take i ups) counts ++ look (count_word (get_or ups i 0)) v ∷ []
+looks_more [] counts i v e lt = absurd (omega arith)
+looks_more (u ∷ ups) [] zero v e lt = refl
+looks_more (u ∷ ups) [] (suc i) v e lt = absurd (omega arith)
+looks_more (u ∷ ups) (n ∷ counts) zero v e lt = absurd (omega arith)
+looks_more (u ∷ ups) (n ∷ counts) (suc i) v e lt =
+    let at : suc i + 1 ≡ suc (i + 1) = omega arith in
+    ap (λ (j : ℕ). count_looks (take j (u ∷ ups)) (n ∷ (counts ++ v ∷ []))) at ∙ ap (λ (xs : List Look). look (count_word u) n ∷ xs) (looks_more ups counts i v (omega arith) (omega arith))
+
+pub record Round (ups : List ℕ) (r : ReceiverRecord) (cursor available i : ℕ) (first : Bool) (me : End) (counted : ℕ) : Type 0 where
+  pub counts : List ℕ
+  pub each : length counts ≡ i
+  pub is : me ≡ as_receiver (receiver_saw r (count_looks (take i ups) counts))
+  pub looks : counted ≡ looks_counted (r.looks ++ count_looks (take i ups) counts)
+  pub offered : available ≡ offered_by cursor counts
+  pub taken : length r.received ≤ available
+  pub found : 0 < i → Contains counts available
+  pub high : (j : ℕ) → j < i → available ≤ last_look 0 (r.looks ++ count_looks (take i ups) counts) (count_word (get_or ups j 0))
+  pub told : r.told ≡ true → 0 < i → available ≤ length r.received
+  pub start : first ≡ (i == 0)
+
+no_looks : (r : ReceiverRecord) (ups : List ℕ) → r.looks ++ count_looks (take 0 ups) [] ≡ r.looks
+no_looks r [] = append-nil r.looks
+no_looks r (u ∷ ups) = append-nil r.looks
+
+pub round_none : (ups : List ℕ) (r : ReceiverRecord) (cursor : ℕ) (me : End) (counted : ℕ) → me ≡ as_receiver r → counted ≡ looks_counted r.looks → length r.received ≤ cursor → Round ups r cursor cursor 0 true me counted
+round_none ups r cursor me counted is looks le = record {
+  counts = [];
+  each = refl;
+  is = is ∙ ap (λ (ys : List Look). as_receiver (record r { looks = ys })) (sym (no_looks r ups));
+  looks = looks ∙ ap looks_counted (sym (no_looks r ups));
+  offered = refl;
+  taken = le;
+  found = λ lt. absurd (omega arith);
+  high = λ j lt. absurd (omega arith);
+  told = λ y lt. absurd (omega arith);
+  start = refl;
+}
+
+-- what a list of counts offers, once one more is seen
+offers_more : (cursor v available available' : ℕ) (counts : List ℕ) (first : Bool) → first ≡ (length counts == 0) → available ≡ offered_by cursor counts → available' ≡ lesser_of first v available
+    → (available' ≡ offered_by cursor (counts ++ v ∷ [])) × (available' ≤ v) × (0 < length counts → available' ≤ available) × ((available' ≡ v) ⊎ ((0 < length counts) × (available' ≡ available)))
+offers_more cursor v available available' [] first start offered new =
+    let e : available' ≡ v = new ∙ rw (start) refl in (e, omega arith, (λ lt. absurd (omega arith)), inl e)
+offers_more cursor v available available' (n ∷ counts) first start offered new =
+    let least : least_of ((n ∷ counts) ++ v ∷ []) ≡ min (least_of (n ∷ counts)) v = least_more (n ∷ counts) v (omega arith) in
+    let first_no : first ≡ false = start ∙ ne_eqb (length (n ∷ counts)) 0 (λ (z : length (n ∷ counts) ≡ 0). omega arith) in
+    elim (cases_lt v available) [
+      | inl lt ↦ (let e : available' ≡ v = new ∙ rw (first_no, lt-ltb v available lt) refl in (omega arith, omega arith, (λ _. omega arith), inl e))
+      | inr ge ↦ (let e : available' ≡ available = new ∙ rw (first_no, le-ltb v available ge) refl in (omega arith, omega arith, (λ _. omega arith), inr (omega arith, e)))
+    ]
+
+contains_more : (xs : List ℕ) (x v : ℕ) → Contains xs x → Contains (xs ++ v ∷ []) x
+contains_more xs x v has = (has.0, (let l = has.1 in omega (arith, length-append xs (v ∷ []))), get_or_append_left xs (v ∷ []) x has.0 has.1 ∙ has.2)
+
+last_number : (xs : List ℕ) (x d : ℕ) → get_or (xs ++ x ∷ []) (length xs) d ≡ x
+last_number [] x d = refl
+last_number (y ∷ xs) x d = last_number xs x d
+
+contains_last : (xs : List ℕ) (x : ℕ) → Contains (xs ++ x ∷ []) x
+contains_last xs x = (length xs, omega (arith, length-append xs (x ∷ [])), last_number xs x x)
+
+pub round_more : (ups : List ℕ) (r : ReceiverRecord) (cursor available available' i u v : ℕ) (first : Bool) (me me' : End) (counted counted' : ℕ) → Round ups r cursor available i first me counted → i < length ups → get_or ups i 0 ≡ u
+    → me' ≡ as_receiver (receiver_looked (receiver_of me.0) (count_word u) v) → length (receiver_of me.0).received ≤ v → ((receiver_of me.0).told ≡ true → v ≤ length (receiver_of me.0).received) → counted' ≡ min (counted + 1) 18446744073709551615
+    → available' ≡ lesser_of first v available → Round ups r cursor available' (i + 1) false me' counted'
+round_more ups r cursor available available' i u v first me me' counted counted' R lt at is le told more new =
+    let xs = count_looks (take i ups) R.counts in let len = R.each in
+    let next : count_looks (take (i + 1) ups) (R.counts ++ v ∷ []) ≡ xs ++ look (count_word u) v ∷ [] = looks_more ups R.counts i v R.each lt ∙ ap (λ (w : ℕ). xs ++ look (count_word w) v ∷ []) at in
+    let offer = offers_more cursor v available available' R.counts first (R.start ∙ ap (λ (m : ℕ). m == 0) (sym len)) R.offered new in
+    let low = offer.1 in let down = offer.2 in
+    let received : length r.received ≤ v = subst (λ (m : End). length (receiver_of m.0).received ≤ v) R.is le in
+    let told_low : r.told ≡ true → v ≤ length r.received = subst (λ (m : End). (receiver_of m.0).told ≡ true → v ≤ length (receiver_of m.0).received) R.is told in
+    let P : List Look → ℕ → Type 0 = λ ys w. available' ≤ last_look 0 ys w in record {
+      counts = R.counts ++ v ∷ [];
+      each = omega (arith, length-append R.counts (v ∷ []));
+      is = is ∙ ap (λ (m : End). as_receiver (receiver_looked (receiver_of m.0) (count_word u) v)) R.is ∙ ap (λ (ys : List Look). as_receiver (record r { looks = ys })) (append_assoc r.looks xs (look (count_word u) v ∷ [])) ∙ ap (λ (ys : List Look). as_receiver (receiver_saw r ys)) (sym next);
+      looks = counted_more r.looks xs (count_word u) v counted counted' R.looks more ∙ ap (λ (ys : List Look). looks_counted (r.looks ++ ys)) (sym next);
+      offered = offer.0;
+      taken = elim offer.3 [ inl this ↦ omega arith | inr old ↦ (let e = old.1 in let t = R.taken in omega arith) ];
+      found = λ _. elim offer.3 [
+        | inl this ↦ subst (λ (m : ℕ). Contains (R.counts ++ v ∷ []) m) (sym this) (contains_last R.counts v)
+        | inr old ↦ subst (λ (m : ℕ). Contains (R.counts ++ v ∷ []) m) (sym old.1) (contains_more R.counts available v (R.found (let z = old.0 in omega arith)))
+      ];
+      high = λ j below. subst (λ (ys : List Look). P (r.looks ++ ys) (count_word (get_or ups j 0))) (sym next)
+          (subst (λ (ys : List Look). P ys (count_word (get_or ups j 0))) (append_assoc r.looks xs (look (count_word u) v ∷ []))
+          (elim (cases_lt j i) [
+            | inl before ↦ (let a = R.high j before in let b = down (omega arith) in last_least 0 (r.looks ++ xs) (count_word u) v (count_word (get_or ups j 0)) available' (omega arith) low)
+            | inr here ↦ (let same : j ≡ i = omega arith in let w : count_word (get_or ups j 0) ≡ count_word u = ap (λ (m : ℕ). count_word (get_or ups m 0)) same ∙ ap count_word at in
+                let b : last_look 0 ((r.looks ++ xs) ++ look (count_word u) v ∷ []) (count_word (get_or ups j 0)) ≡ v = ap (λ (m : ℕ). last_look 0 ((r.looks ++ xs) ++ look (count_word u) v ∷ []) m) w ∙ last_look_more 0 (r.looks ++ xs) (count_word u) v in omega arith)
+          ]));
+      told = λ y _. (let a = told_low y in omega arith);
+      start = sym (ne_eqb (i + 1) 0 (λ (z : i + 1 ≡ 0). omega arith));
+    }
+
+take_whole : (xs : List ℕ) (n : ℕ) → n ≡ length xs → take n xs ≡ xs
+take_whole [] zero e = refl
+take_whole [] (suc n) e = absurd (omega arith)
+take_whole (x ∷ xs) zero e = absurd (omega arith)
+take_whole (x ∷ xs) (suc n) e = ap (λ (ys : List ℕ). x ∷ ys) (take_whole xs n (omega arith))
+
+no_elements : (xs : List ℕ) → length xs ≡ 0 → xs ≡ []
+no_elements [] e = refl
+no_elements (x ∷ xs) e = absurd (omega arith)
+
+pub round_all : (k : Shape) (h : ℕ) (r : ReceiverRecord) (cursor available i : ℕ) (first : Bool) (me : End) (counted : ℕ) → Round (upstreams_of k.upstreams h) r cursor available i first me counted → i ≡ length (upstreams_of k.upstreams h)
+    → LooksAtUpstreams k h r cursor me counted available
+round_all k h r cursor available i first me counted R all =
+    let ups = upstreams_of k.upstreams h in let whole : take i ups ≡ ups = take_whole ups i all in
+    let some_one : ups ≢ [] → 0 < i = λ ne. (elim (cases_lt 0 i) [ inl lt ↦ lt | inr le ↦ absurd (ne (no_elements ups (omega arith))) ]) in record {
+      counts = R.counts;
+      each = R.each ∙ all;
+      is = R.is ∙ ap (λ (xs : List ℕ). as_receiver (receiver_saw r (count_looks xs R.counts))) whole;
+      looks = R.looks ∙ ap (λ (xs : List ℕ). looks_counted (r.looks ++ count_looks xs R.counts)) whole;
+      offered = R.offered;
+      taken = R.taken;
+      found = λ ne. R.found (some_one ne);
+      completed = λ u has. (let lt = has.1 in let at : get_or ups has.0 0 ≡ u = get_any ups has.0 0 u has.1 ∙ has.2 in
+          subst (λ (m : ℕ). available ≤ last_look 0 (r.looks ++ count_looks ups R.counts) (count_word m)) at
+          (subst (λ (xs : List ℕ). available ≤ last_look 0 (r.looks ++ count_looks xs R.counts) (count_word (get_or ups has.0 0))) whole (R.high has.0 (omega arith))));
+      told = λ y ne. R.told y (some_one ne);
+    }

@@ -1,0 +1,72 @@
+-- The ends of a ring come together.
+use Rattle.std.proofs.Common.{◌≡◌, ℕ, zero, suc, ◌+◌, ◌≤◌, inl, inr, List, [], ◌∷◌, length, get_or, set, take, sym, refl, ap, ◌∙◌, subst, arith}
+use Rattle.std.specs.Prelude.{Contains}
+use mathlib.Core.Option.{some, none}
+use lib.ListN.{get_elem?}
+use lib.Seq.{set-get_or}
+use Rattle.atomic_table.specs.Table.{step, keeps, Allows}
+use Rattle.atomic_table.proofs.Lists.{at_set}
+use Rattle.dr_seq.specs.declared.event.Event.{Event}
+use Rattle.dr_graph.specs.Graph.{upstreams_of, finals}
+use Rattle.dr_ring.specs.Shape.{Shape}
+use Rattle.dr_ring.specs.Words.{cursor_word, count_word}
+use Rattle.dr_ring.specs.declared.record.SenderRecord.{SenderRecord}
+use Rattle.dr_ring.specs.declared.record.ReceiverRecord.{ReceiverRecord}
+use Rattle.dr_ring.specs.declared.record.EndRecord.{EndRecord}
+use Rattle.dr_ring.specs.declared.record.EndRecord.TheVariants.{Sends, Receives}
+use Rattle.dr_ring.specs.Ends.{claimed}
+use Rattle.dr_ring.specs.Kept.{World, Kept}
+use Rattle.dr_ring.specs.Seats.{Known, End, world_of, Ruled, sender_of}
+use Rattle.dr_ring.specs.Settling.{Agrees, Follows, LeadsView, Compares}
+use Rattle.dr_ring.proofs.Seats.{StandsAt}
+
+take_whole : (xs : List Event) (n : ℕ) → length xs ≤ n → take n xs ≡ xs
+take_whole [] zero le = refl
+take_whole [] (suc n) le = refl
+take_whole (x ∷ xs) zero le = absurd (omega arith)
+take_whole (x ∷ xs) (suc n) le = ap (λ (ys : List Event). x ∷ ys) (take_whole xs n (omega arith))
+
+agrees : (k : Shape) (w : World) (s : SenderRecord) (r : ReceiverRecord) → w.sender ≡ s → get_elem? w.receivers r.number ≡ some r → Kept k w → Agrees s r
+agrees k w s r same at K = let was = K.received r.number r at in subst (λ (q : SenderRecord). Agrees q r) same (record {
+  beginning = was.beginning;
+  taken = was.taken;
+  drained = λ told. was.beginning ∙ take_whole w.sender.published (length r.received) (was.told told).1;
+  completed = was.completed;
+  room = λ has. (let e : claimed w.sender ≤ k.size + get_or w.words (count_word r.number) 0 = K.room r.number (subst (λ (p : Shape). Contains (finals p.upstreams) r.number) K.sender_plan has) in
+      let size : w.sender.plan.size ≡ k.size = ap (λ (p : Shape). p.size) K.sender_plan in let count = was.count in omega arith);
+})
+
+follows : (k : Shape) (w : World) (r u : ReceiverRecord) → get_elem? w.receivers r.number ≡ some r → get_elem? w.receivers u.number ≡ some u → Kept k w → Follows r u
+follows k w r u at there K has =
+    let was = K.received r.number r at in let other = K.received u.number u there in
+    let le = was.after u.number (subst (λ (p : Shape). Contains (upstreams_of p.upstreams r.number) u.number) was.plan has) in let count = other.count in omega arith
+
+pub compares : (k : Shape) (slots id : ℕ) (me : End) → LeadsView me → Allows (Ruled k) slots id me cursor_word (λ n. n) (Compares (step slots cursor_word 0 0 none) me)
+compares k slots id me led s R _ at _ =
+    let w = world_of s.words R.sender R.receivers R.halter in let us = set s.words cursor_word (get_or s.words cursor_word 0) in
+    let same : us ≡ s.words = set-get_or s.words cursor_word 0 in
+    let here : (j : ℕ) (e : EndRecord) → get_elem? me.0 j ≡ some e → StandsAt R.place w id j e = R.each_end id me.0 at in
+    let mine : w.sender ≡ sender_of me.0 = (here 0 (Sends (sender_of me.0)) led.0).1 in
+    let P : List ℕ → ℕ → Known → Type 0 = λ ws id' u. (j : ℕ) (e : EndRecord) → get_elem? u j ≡ some e → StandsAt R.place (world_of ws R.sender R.receivers R.halter) id' j e in (
+      me.0,
+      keeps,
+      tt,
+      record {
+        sender = R.sender;
+        receivers = R.receivers;
+        halter = R.halter;
+        kept = subst (λ (ws : List ℕ). Kept k (world_of ws R.sender R.receivers R.halter)) (sym same) R.kept;
+        place = R.place;
+        each_end = λ id' u there. subst (λ (ws : List ℕ). P ws id' u) (sym same) (elim (at_set s.views id id' me.0 u there) [
+          | inl x ↦ subst (P s.words id') x.1 (λ j e in_v. (let t = here j e in_v in (t.0 ∙ ap (λ (m : ℕ). let q : ℕ × ℕ = (m, j) in q) (sym x.0), t.1)))
+          | inr x ↦ R.each_end id' u x.1
+        ]);
+      },
+      (
+        refl,
+        record {
+          each = λ r in_view. agrees k w (sender_of me.0) r mine (here in_view.0 (Receives r) in_view.1).1 R.kept;
+          follow = λ r u in_view there. follows k w r u (here in_view.0 (Receives r) in_view.1).1 (here there.0 (Receives u) there.1).1 R.kept;
+        },
+      ),
+    )

@@ -1,0 +1,305 @@
+-- Stores of words that are no payload, and the receivers' steps, keep the rule.
+use Rattle.std.proofs.Common.{◌≡◌, ◌≢◌, ℕ, ◌+◌, ◌-◌, ◌<◌, ◌≤◌, inl, inr, Bool, true, ◌==◌, List, [], ◌∷◌, ◌++◌, length, get_or, set, map, take, drop, Some, None, sym, refl, ap, ◌∙◌, subst, arith, length-set, get_or-set_same, get_or-set_other}
+use Rattle.std.specs.Prelude.{Contains}
+use Rattle.std.proofs.lemmas.Bool.{cases_eq, cases_lt, or_cases, and_parts, eqb-true}
+use Rattle.std.proofs.lemmas.List.{length-append, length-take, length-drop, length-map, length_push, take-append-le, take_more, get_or_append_left, get_or-append_right, get_or-take, get_or-drop, get_or-map}
+use mathlib.Core.Option.{some}
+use lib.ListN.{get_elem?}
+use Rattle.dr_seq.specs.declared.event.Event.{Event}
+use Rattle.dr_seq.specs.Event.{no_event}
+use Rattle.dr_graph.specs.Graph.{upstreams_of}
+use Rattle.dr_ring.specs.Shape.{Shape, handlers_of}
+use Rattle.dr_ring.specs.Words.{cursor_word, closed_word, halt_word, count_word, payload_start, payload_word}
+use Rattle.dr_ring.specs.declared.record.SenderRecord.{SenderRecord}
+use Rattle.dr_ring.specs.declared.record.ReceiverRecord.{ReceiverRecord}
+use Rattle.dr_ring.specs.Ends.{claimed, last_look, event_or_none, published_to, sender_halted, sender_closed, receiver_looked, tells_drained, cursor_looked, half_taken, took, completed_to, halter_halted, AreWritten, IsBelowBarrier}
+use Rattle.dr_ring.specs.Kept.{World, Room, Payload, HaltAndClose, ReceiverKept, Kept}
+use Rattle.dr_ring.specs.Steps.{sender_stores, receiver_knows, receiver_stores}
+use Rattle.dr_ring.proofs.Lists.{at_below, each_set, past_set, past_more, last_look_le}
+use Rattle.dr_ring.proofs.Keeps.{word_at, receiver_of_handler, above, upstream_inside, room_stays, payload_stays, flags_stay, receiver_stays}
+
+payload_publishes : (k : Shape) (words : List ℕ) (r : SenderRecord) (n : ℕ) → length r.published < n → n ≤ claimed r → AreWritten r n → Payload k words r.published r.pending None → Payload k words (published_to r n).published (published_to r n).pending None
+payload_publishes k words r n lt le all P =
+    let old = r.published in let pending = r.pending in let m = n - length old in let new = map event_or_none (take m pending) in
+    let count : length new ≡ m = length-map (take m pending) event_or_none ∙ omega (arith, length-take m pending) in
+    let longer : length (old ++ new) ≡ n = omega (arith, length-append old new) in
+    let rest : length (drop m pending) + m ≡ length pending = omega (arith, length-drop m pending) in record {
+      events = λ s below near_by. elim (cases_lt s (length old)) [
+        | inl early ↦ (let e = P.events s early (omega arith) in let same : get_or (old ++ new) s no_event ≡ get_or old s no_event = get_or_append_left old new no_event s early in
+            (e.0 ∙ ap (λ (o : Event). o.first) (sym same), e.1 ∙ ap (λ (o : Event). o.second) (sym same)))
+        | inr late ↦ (
+            let i = s - length old in let here : length old + i ≡ s = omega arith in let a = all s late (omega arith) in
+            let b : get_or (old ++ new) s no_event ≡ get_or new i no_event = get_or-append_right old new (length old) s no_event refl late in
+            let c : get_or new i no_event ≡ event_or_none (get_or (take m pending) i None) = get_or-map event_or_none (take m pending) i None no_event (omega (arith, length-take m pending)) in
+            let d : get_or (take m pending) i None ≡ Some a.0 = get_or-take m pending i None (omega arith) ∙ a.1 in
+            let same : get_or (old ++ new) s no_event ≡ a.0 = b ∙ c ∙ ap event_or_none d in
+            let e = P.writes i a.0 a.1 in (
+              subst (λ (t : ℕ). word_at words (payload_word k t 0) ≡ a.0.first) here e.0 ∙ ap (λ (o : Event). o.first) (sym same),
+              subst (λ (t : ℕ). word_at words (payload_word k t 1) ≡ a.0.second) here e.1 ∙ ap (λ (o : Event). o.second) (sym same),
+            ))
+      ];
+      writes = λ i event e. (let at : length old + (m + i) ≡ length (old ++ new) + i = omega arith in let d = P.writes (m + i) event (sym (get_or-drop m pending i None) ∙ e) in
+          (subst (λ (t : ℕ). word_at words (payload_word k t 0) ≡ event.first) at d.0, subst (λ (t : ℕ). word_at words (payload_word k t 1) ≡ event.second) at d.1));
+      halves = λ x e. absurd (cc);
+    }
+
+pub keeps_publishes : (k : Shape) (w : World) (n : ℕ) → length w.sender.published < n → n ≤ claimed w.sender → AreWritten w.sender n → w.sender.half ≡ None → Kept k w → Kept k (sender_stores w cursor_word n (published_to w.sender n))
+keeps_publishes k w n lt le all free K =
+    let old = w.sender.published in let pending = w.sender.pending in let m = n - length old in let new = map event_or_none (take m pending) in
+    let count : length new ≡ m = length-map (take m pending) event_or_none ∙ omega (arith, length-take m pending) in
+    let longer : length (old ++ new) ≡ n = omega (arith, length-append old new) in
+    let rest : length (drop m pending) + m ≡ length pending = omega (arith, length-drop m pending) in
+    let wide = K.wide in let cursor = K.counts.cursor in let us = set w.words cursor_word n in
+    let inside : cursor_word < length w.words = omega arith in
+    let rises : cursor_word < payload_start k → word_at w.words cursor_word ≤ n = λ _. omega arith in
+    let stays : (i : ℕ) → 0 < i → word_at us i ≡ word_at w.words i = λ i pos. get_or-set_other w.words cursor_word i n 0 (λ (e : i ≡ 0). omega arith) in
+    let not_closed : word_at w.words closed_word ≢ 1 = λ (c : word_at w.words closed_word ≡ 1). (let e = (K.flags.complete c).1 in omega arith) in
+    let one = stays halt_word (omega arith) in let two = stays closed_word (omega arith) in
+    let F = K.flags in let whole : length (old ++ new) + length (drop m pending) ≡ claimed w.sender = omega arith in record {
+      graph = K.graph;
+      some_slot = K.some_slot;
+      wide = length-set w.words cursor_word n ∙ K.wide;
+      ends = K.ends;
+      sender_plan = K.sender_plan;
+      halter_plan = K.halter_plan;
+      counts = record { cursor = get_or-set_same w.words cursor_word n 0 inside ∙ sym longer; limit = let l = K.counts.limit in omega arith };
+      received = λ h r there. (let was = K.received h r there in record {
+        plan = was.plan;
+        number = was.number;
+        count = stays (count_word h) (omega arith) ∙ was.count;
+        completed = was.completed;
+        taken = let t = was.taken in omega arith;
+        after = λ u up. (let b = was.after u up in let e = stays (count_word u) (omega arith) in omega arith);
+        beginning = was.beginning ∙ sym (take-append-le (length r.received) old new was.taken);
+        half = λ v e. (let d = was.half v e in let below = d.0 in (omega arith, d.1 ∙ ap (λ (o : Event). o.first) (sym (get_or_append_left old new no_event (length r.received) below))));
+        told = λ yes. absurd (not_closed (was.told yes).0);
+        looks = past_set k w.words cursor_word n r.looks inside rises was.looks;
+      });
+      room = subst (Room k us) (sym whole) (room_stays k w.words us (claimed w.sender) (λ h lt'. (let e = stays (count_word h) (omega arith) in omega arith)) K.room);
+      payload = subst (Payload k us (old ++ new) (drop m pending)) (sym free) (payload_publishes k us w.sender n lt le all (payload_stays k w.words us old pending None (λ i big. stays i (omega arith)) (subst (Payload k w.words old pending) free K.payload)));
+      flags = record {
+        halt = let f = F.halt in omega arith;
+        close = let f = F.close in omega arith;
+        by_sender = λ y. one ∙ F.by_sender y;
+        by_halter = λ y. one ∙ F.by_halter y;
+        closed = λ y. two ∙ F.closed y;
+        complete = λ c. absurd (not_closed (sym two ∙ c));
+      };
+      looks = past_set k w.words cursor_word n w.sender.looks inside rises K.looks;
+    }
+
+-- halt or closed becomes 1: what speaks of neither stays
+flagged : (k : Shape) (w : World) (i : ℕ) → 0 < i → i < 32 → word_at w.words i ≤ 1 → (a b c : Bool)
+    → HaltAndClose (set w.words i 1) (length w.sender.pending) a b c → Kept k w
+    → Kept k (record w { words = set w.words i 1; sender = record w.sender { halted = a; closed = b }; halter = record w.halter { halted = c } })
+flagged k w i pos lt flag a b c flags K =
+    let wide = K.wide in let us = set w.words i 1 in let inside : i < length w.words = omega arith in
+    let rises : i < payload_start k → word_at w.words i ≤ 1 = λ _. flag in
+    let here : word_at us i ≡ 1 = get_or-set_same w.words i 1 0 inside in
+    let stays : (j : ℕ) → j ≢ i → word_at us j ≡ word_at w.words j = λ j ne. get_or-set_other w.words i j 1 0 ne in
+    let up : (j : ℕ) → word_at w.words j ≡ 1 → word_at us j ≡ 1 = λ j e. elim (cases_eq j i) [ inl same ↦ ap (λ (m : ℕ). word_at us m) same ∙ here | inr ne ↦ stays j ne ∙ e ] in record {
+      graph = K.graph;
+      some_slot = K.some_slot;
+      wide = length-set w.words i 1 ∙ K.wide;
+      ends = K.ends;
+      sender_plan = K.sender_plan;
+      halter_plan = K.halter_plan;
+      counts = record { cursor = stays cursor_word (λ e. omega arith) ∙ K.counts.cursor; limit = K.counts.limit };
+      received = λ h r there. (let inside_h : h < handlers_of k = (let b = at_below w.receivers h r there in let c = K.ends in omega arith) in let was = K.received h r there in
+          receiver_stays k w.words us w.sender.published h r K.graph inside_h (stays (count_word h) (λ e. omega arith)) (λ u lt'. (let e = stays (count_word u) (λ e. omega arith) in omega arith)) (up closed_word) (past_set k w.words i 1 r.looks inside rises was.looks) was);
+      room = room_stays k w.words us (claimed w.sender) (λ h lt'. (let e = stays (count_word h) (λ e. omega arith) in omega arith)) K.room;
+      payload = payload_stays k w.words us w.sender.published w.sender.pending w.sender.half (λ j big. stays j (λ e. omega arith)) K.payload;
+      flags = flags;
+      looks = past_set k w.words i 1 w.sender.looks inside rises K.looks;
+    }
+
+-- the flags once halt is stored
+halts_flags : (k : Shape) (w : World) (a c : Bool) → Kept k w → HaltAndClose (set w.words halt_word 1) (length w.sender.pending) a w.sender.closed c
+halts_flags k w a c K = let F = K.flags in let wide = K.wide in
+    let here : word_at (set w.words halt_word 1) halt_word ≡ 1 = get_or-set_same w.words halt_word 1 0 (omega arith) in
+    let other : word_at (set w.words halt_word 1) closed_word ≡ word_at w.words closed_word = get_or-set_other w.words halt_word closed_word 1 0 (λ (e : closed_word ≡ halt_word). omega arith) in record {
+      halt = omega arith;
+      close = let f = F.close in omega arith;
+      by_sender = λ y. here;
+      by_halter = λ y. here;
+      closed = λ y. other ∙ F.closed y;
+      complete = λ y. (here, (F.complete (sym other ∙ y)).1);
+    }
+
+pub keeps_sender_halts : (k : Shape) (w : World) → Kept k w → Kept k (sender_stores w halt_word 1 (sender_halted w.sender))
+keeps_sender_halts k w K = flagged k w halt_word (omega arith) (omega arith) K.flags.halt true w.sender.closed w.halter.halted (halts_flags k w true w.halter.halted K) K
+
+pub keeps_halter_halts : (k : Shape) (w : World) → Kept k w → Kept k (record w { words = set w.words halt_word 1; halter = halter_halted w.halter })
+keeps_halter_halts k w K = flagged k w halt_word (omega arith) (omega arith) K.flags.halt w.sender.halted w.sender.closed true (halts_flags k w w.sender.halted true K) K
+
+pub keeps_closes : (k : Shape) (w : World) → w.sender.halted ≡ true → w.sender.pending ≡ [] → Kept k w → Kept k (sender_stores w closed_word 1 (sender_closed w.sender))
+keeps_closes k w halted all K = let F = K.flags in let wide = K.wide in
+    let here : word_at (set w.words closed_word 1) closed_word ≡ 1 = get_or-set_same w.words closed_word 1 0 (omega arith) in
+    let other : word_at (set w.words closed_word 1) halt_word ≡ word_at w.words halt_word = get_or-set_other w.words closed_word halt_word 1 0 (λ (e : halt_word ≡ closed_word). omega arith) in
+    let halt : word_at (set w.words closed_word 1) halt_word ≡ 1 = other ∙ F.by_sender halted in
+    flagged k w closed_word (omega arith) (omega arith) F.close w.sender.halted true w.halter.halted
+    (record { halt = omega arith; close = omega arith; by_sender = λ y. halt; by_halter = λ y. halt; closed = λ y. here; complete = λ y. (halt, ap length all) }) K
+
+-- one receiver's record changes, and no word
+receiver_changes : (k : Shape) (w : World) (h : ℕ) (q : ReceiverRecord) → ReceiverKept k w.words w.sender.published h q → Kept k w → Kept k (receiver_knows w h q)
+receiver_changes k w h q new K = record {
+  graph = K.graph;
+  some_slot = K.some_slot;
+  wide = K.wide;
+  ends = length-set w.receivers h q ∙ K.ends;
+  sender_plan = K.sender_plan;
+  halter_plan = K.halter_plan;
+  counts = K.counts;
+  received = each_set (ReceiverKept k w.words w.sender.published) w.receivers h q new (λ j p _ there. K.received j p there);
+  room = K.room;
+  payload = K.payload;
+  flags = K.flags;
+  looks = K.looks;
+}
+
+pub keeps_receiver_looks : (k : Shape) (w : World) (h i : ℕ) (r : ReceiverRecord) → i < payload_start k → get_elem? w.receivers h ≡ some r → Kept k w → Kept k (receiver_knows w h (receiver_looked r i (word_at w.words i)))
+keeps_receiver_looks k w h i r lt at K = let was = K.received h r at in receiver_changes k w h (receiver_looked r i (word_at w.words i)) (record {
+  plan = was.plan;
+  number = was.number;
+  count = was.count;
+  completed = was.completed;
+  taken = was.taken;
+  after = was.after;
+  beginning = was.beginning;
+  half = was.half;
+  told = was.told;
+  looks = past_more k w.words i r.looks lt was.looks;
+}) K
+
+-- a look that tells a receiver that the ring drained tells the truth
+pub tells_truth : (k : Shape) (w : World) (h : ℕ) (r : ReceiverRecord) → get_elem? w.receivers h ≡ some r → tells_drained r (word_at w.words cursor_word) ≡ true → Kept k w
+    → (word_at w.words closed_word ≡ 1) × (length w.sender.published ≡ length r.received)
+tells_truth k w h r at tells K =
+    let both : ((last_look 0 r.looks closed_word == 1) ≡ true) × ((word_at w.words cursor_word == length r.received) ≡ true) = and_parts _ _ tells in
+    let a : last_look 0 r.looks closed_word ≡ 1 = eqb-true _ _ both.0 in let b : word_at w.words cursor_word ≡ length r.received = eqb-true _ _ both.1 in
+    let seen = last_look_le k w.words 0 r.looks closed_word (omega arith) (K.received h r at).looks in let flag = K.flags.close in let cursor = K.counts.cursor in (omega arith, omega arith)
+
+pub keeps_cursor_look : (k : Shape) (w : World) (h : ℕ) (r : ReceiverRecord) → get_elem? w.receivers h ≡ some r → Kept k w → Kept k (receiver_knows w h (cursor_looked r (word_at w.words cursor_word)))
+keeps_cursor_look k w h r at K = let was = K.received h r at in receiver_changes k w h (cursor_looked r (word_at w.words cursor_word)) (record {
+  plan = was.plan;
+  number = was.number;
+  count = was.count;
+  completed = was.completed;
+  taken = was.taken;
+  after = was.after;
+  beginning = was.beginning;
+  half = was.half;
+  told = λ yes. elim (or_cases r.told (tells_drained r (word_at w.words cursor_word)) yes) [
+    | inl before ↦ was.told before
+    | inr now ↦ (let t = tells_truth k w h r at now K in let e = t.1 in (t.0, omega arith))
+  ];
+  looks = past_more k w.words cursor_word r.looks (omega arith) was.looks;
+}) K
+
+early_by : (k : Shape) (w : World) (h : ℕ) (r : ReceiverRecord) (ups : List ℕ) → get_elem? w.receivers h ≡ some r
+    → ((u : ℕ) → Contains ups u → length r.received < last_look 0 r.looks (count_word u)) → (ups ≡ [] → length r.received < last_look 0 r.looks cursor_word)
+    → ups ≡ upstreams_of k.upstreams h → Kept k w → length r.received < length w.sender.published
+early_by k w h r [] at completed published same K =
+    let was = K.received h r at in let a = published refl in let b = last_look_le k w.words 0 r.looks cursor_word (omega arith) was.looks in let c = K.counts.cursor in omega arith
+early_by k w h r (u ∷ ups) at completed published same K =
+    let was = K.received h r at in let has : Contains (u ∷ ups) u = (0, omega arith, refl) in let a = completed u has in
+    let inside : h < handlers_of k = (let b = at_below w.receivers h r at in let c = K.ends in omega arith) in
+    let b = last_look_le k w.words 0 r.looks (count_word u) (omega arith) was.looks in
+    let t = receiver_of_handler k w K u (upstream_inside k K.graph h u inside (subst (λ (xs : List ℕ). Contains xs u) same has)) in
+    let d = t.2.count in let e = t.2.completed in let f = t.2.taken in omega arith
+
+-- the next event is published
+pub early : (k : Shape) (w : World) (h : ℕ) (r : ReceiverRecord) → get_elem? w.receivers h ≡ some r → IsBelowBarrier k h r → Kept k w → length r.received < length w.sender.published
+early k w h r at low K = early_by k w h r (upstreams_of k.upstreams h) at low.completed low.published refl K
+
+-- the words of the next event lie in its slot
+pub next_event : (k : Shape) (w : World) (h : ℕ) (r : ReceiverRecord) → get_elem? w.receivers h ≡ some r → length r.received < length w.sender.published → Kept k w
+    → (word_at w.words (payload_word k (length r.received) 0) ≡ (get_or w.sender.published (length r.received) no_event).first) × (word_at w.words (payload_word k (length r.received) 1) ≡ (get_or w.sender.published (length r.received) no_event).second)
+next_event k w h r at below K =
+    let inside : h < handlers_of k = (let b = at_below w.receivers h r at in let c = K.ends in omega arith) in let was = K.received h r at in
+    K.payload.events (length r.received) below (let room = above k w K h inside in let d = was.count in let c = was.completed in omega arith)
+
+pub keeps_half_taken : (k : Shape) (w : World) (h : ℕ) (r : ReceiverRecord) → get_elem? w.receivers h ≡ some r → IsBelowBarrier k h r → Kept k w → Kept k (receiver_knows w h (half_taken r (word_at w.words (payload_word k (length r.received) 0))))
+keeps_half_taken k w h r at low K =
+    let was = K.received h r at in let below = early k w h r at low K in let event = next_event k w h r at below K in
+    let first = word_at w.words (payload_word k (length r.received) 0) in
+    receiver_changes k w h (half_taken r first) (record {
+      plan = was.plan;
+      number = was.number;
+      count = was.count;
+      completed = was.completed;
+      taken = was.taken;
+      after = was.after;
+      beginning = was.beginning;
+      half = λ v e. (let same : first ≡ v = cc in (below, sym same ∙ event.0));
+      told = was.told;
+      looks = was.looks;
+    }) K
+
+-- the event that is taken
+pub taken_event : (k : Shape) (w : World) (h first : ℕ) (r : ReceiverRecord) → get_elem? w.receivers h ≡ some r → r.half ≡ Some first → Kept k w
+    → record { first = first; second = word_at w.words (payload_word k (length r.received) 1) } ≡ get_or w.sender.published (length r.received) no_event
+taken_event k w h first r at half K =
+    let was = K.received h r at in let d = was.half first half in let event = next_event k w h r at d.0 K in
+    λ i. record { first = d.1 i; second = event.1 i }
+
+pub keeps_takes : (k : Shape) (w : World) (h first : ℕ) (r : ReceiverRecord) → get_elem? w.receivers h ≡ some r → r.half ≡ Some first → IsBelowBarrier k h r → Kept k w
+    → Kept k (receiver_knows w h (took r record { first = first; second = word_at w.words (payload_word k (length r.received) 1) }))
+keeps_takes k w h first r at half low K =
+    let was = K.received h r at in let n = length r.received in let all = w.sender.published in
+    let found : Event = record { first = first; second = word_at w.words (payload_word k n 1) } in
+    let event : found ≡ get_or all n no_event = taken_event k w h first r at half K in
+    let below = early k w h r at low K in
+    let longer : length (r.received ++ found ∷ []) ≡ n + 1 = length_push r.received found in
+    receiver_changes k w h (took r found) (record {
+      plan = was.plan;
+      number = was.number;
+      count = was.count;
+      completed = let c = was.completed in omega arith;
+      taken = omega arith;
+      after = λ u up. (let a = low.completed u up in let b = last_look_le k w.words 0 r.looks (count_word u) (omega arith) was.looks in omega arith);
+      beginning = ap (λ (xs : List Event). xs ++ found ∷ []) was.beginning ∙ ap (λ (x : Event). take n all ++ x ∷ []) event ∙ sym (take_more all n no_event below) ∙ ap (λ (m : ℕ). take m all) (sym longer);
+      half = λ v e. absurd (cc);
+      told = λ yes. absurd (let t = (was.told yes).1 in omega arith);
+      looks = was.looks;
+    }) K
+
+pub keeps_completes : (k : Shape) (w : World) (h n : ℕ) (r : ReceiverRecord) → get_elem? w.receivers h ≡ some r → r.completed ≤ n → n ≤ length r.received → Kept k w → Kept k (receiver_stores w h (completed_to r n) (count_word h) n)
+keeps_completes k w h n r at rise le K =
+    let was = K.received h r at in let lt : h < handlers_of k = (let b = at_below w.receivers h r at in let c = K.ends in omega arith) in
+    let wide = K.wide in let i = count_word h in let us = set w.words i n in let inside : i < length w.words = omega arith in let done = was.count in
+    let rises : i < payload_start k → word_at w.words i ≤ n = λ _. omega arith in
+    let here : word_at us i ≡ n = get_or-set_same w.words i n 0 inside in
+    let stays : (j : ℕ) → j ≢ i → word_at us j ≡ word_at w.words j = λ j ne. get_or-set_other w.words i j n 0 ne in
+    let up : (j : ℕ) → j < handlers_of k → word_at w.words (count_word j) ≤ word_at us (count_word j) = λ j _. elim (cases_eq j h) [
+      | inl e ↦ (let a : word_at us (count_word j) ≡ n = ap (λ (m : ℕ). word_at us (count_word m)) e ∙ here in let b : word_at w.words (count_word j) ≡ r.completed = ap (λ (m : ℕ). word_at w.words (count_word m)) e ∙ done in omega arith)
+      | inr ne ↦ (let a = stays (count_word j) (λ e. ne (omega arith)) in omega arith)
+    ] in
+    let one = stays halt_word (λ e. omega arith) in let two = stays closed_word (λ e. omega arith) in record {
+      graph = K.graph;
+      some_slot = K.some_slot;
+      wide = length-set w.words i n ∙ K.wide;
+      ends = length-set w.receivers h (completed_to r n) ∙ K.ends;
+      sender_plan = K.sender_plan;
+      halter_plan = K.halter_plan;
+      counts = record { cursor = stays cursor_word (λ e. omega arith) ∙ K.counts.cursor; limit = K.counts.limit };
+      received = each_set (ReceiverKept k us w.sender.published) w.receivers h (completed_to r n)
+          (record {
+            plan = was.plan;
+            number = was.number;
+            count = here;
+            completed = le;
+            taken = was.taken;
+            after = λ u isup. (let a = was.after u isup in let b = up u (upstream_inside k K.graph h u lt isup) in omega arith);
+            beginning = was.beginning;
+            half = was.half;
+            told = λ yes. (two ∙ (was.told yes).0, (was.told yes).1);
+            looks = past_set k w.words i n r.looks inside rises was.looks;
+          })
+          (λ j q ne there. (let old = K.received j q there in let inside_j : j < handlers_of k = (let b = at_below w.receivers j q there in let c = K.ends in omega arith) in
+          receiver_stays k w.words us w.sender.published j q K.graph inside_j (stays (count_word j) (λ e. ne (omega arith))) up (λ c. two ∙ c) (past_set k w.words i n q.looks inside rises old.looks) old));
+      room = room_stays k w.words us (claimed w.sender) up K.room;
+      payload = payload_stays k w.words us w.sender.published w.sender.pending w.sender.half (λ j big. stays j (λ e. omega arith)) K.payload;
+      flags = flags_stay w.words us (length w.sender.pending) w.sender.halted w.sender.closed w.halter.halted one two K.flags;
+      looks = past_set k w.words i n w.sender.looks inside rises K.looks;
+    }

@@ -1,0 +1,26 @@
+use Rattle.std.proofs.Common.{subst}
+use Rattle.dr_core.specs.Machine.{State}
+use Rattle.dr_core.specs.Transcript.{Transcript, LeadsFrom, LeadsTo}
+use Rattle.dr_graph.specs.Graph.{IsGraph}
+use Rattle.std.specs.Prelude.{◌<◌, List}
+use Rattle.dr_ring.specs.Shape.{Shape, setup_of}
+use Rattle.dr_ring.specs.Kept.{World}
+use Rattle.dr_ring.specs.Steps.{Step}
+use Rattle.dr_ring.specs.Moments.{Runs, opening, picture_of}
+use Rattle.dr_ring.proofs.Pictures.{keeps_runs, lead_runs}
+use Rattle.dr_ring.proofs.Beginning.{kept_opening, opens}
+use Rattle.dr_ring.proofs.laws.moments.Goals as goal
+
+leads : (k : Shape) (steps : List Step) (entries : Transcript) (w : World) → IsGraph k.upstreams → 0 < k.size → Runs k steps entries (opening k) w → LeadsTo (setup_of k) entries (picture_of k w)
+leads k steps entries w graph some_slot runs =
+    subst (λ (m : State). LeadsFrom (setup_of k) m entries (picture_of k w)) (opens k) (lead_runs k steps entries (opening k) w runs (kept_opening k graph some_slot))
+
+pub returns-clause-rule : goal.returns-clause-rule
+returns-clause-rule c k steps entries w graph some_slot runs = keeps_runs k steps entries (opening k) w runs (kept_opening k graph some_slot)
+
+pub returns-clause-leads : goal.returns-clause-leads
+returns-clause-leads c = leads
+
+pub returns-clause-laws : goal.returns-clause-laws
+returns-clause-laws c k steps entries w graph some_slot runs =
+    c.every_transcript_is_lawful.ensures (setup_of k) entries (picture_of k w) (leads k steps entries w graph some_slot runs)

@@ -1,0 +1,144 @@
+-- What the ends are to their callers, and what each call answers and leaves of what its end knows.
+use Rattle.std.specs.Prelude.{◌≡◌, ◌↔◌, ℕ, ◌+◌, ◌-◌, ◌<◌, ◌≤◌, ◌⊎◌, ◌==◌, ◌&&◌, ◌||◌, IsTrue, true, min, List, [], ◌∷◌, ◌++◌, length, take, drop, replicate, slice_index_or, Some, None, Result, Ok, Err, Contains}
+use Rattle.atomic_table.specs.Seated.{TableId}
+use Rattle.dr_seq.specs.declared.event.Event.{Event}
+use Rattle.dr_core.specs.declared.refusal.Refusal.{Refusal}
+use Rattle.dr_core.specs.declared.refusal.Refusal.TheVariants.{NoRoom, Halted, BadCount, Exhausted, NotClaimed, AlreadyPublished, NotWritten, OutOfOrder, NotTaken, Behind, OpenClaim}
+use Rattle.dr_core.specs.declared.command.Claimed.{Claimed}
+use Rattle.dr_core.specs.declared.command.Polled.{Polled}
+use Rattle.dr_core.specs.declared.command.Polled.TheVariants.{Batch, Drained, Gating, Idle}
+use Rattle.dr_graph.specs.Graph.{upstreams_of, finals, least_of}
+use Rattle.dr_ring.specs.Words.{cursor_word, closed_word, halt_word, count_word}
+use Rattle.dr_ring.specs.declared.record.Look.{Look}
+use Rattle.dr_ring.specs.declared.record.SenderRecord.{SenderRecord}
+use Rattle.dr_ring.specs.declared.record.ReceiverRecord.{ReceiverRecord}
+use Rattle.dr_ring.specs.declared.record.HalterRecord.{HalterRecord}
+use Rattle.dr_ring.specs.Ends.{claimed, look, written, published_to, sender_halted, sender_closed, completed_to, IsOpen, AreWritten}
+
+-- an end: of which ring it is, and what it knows
+pub record SenderEnd : Type 0 where
+  pub ring : TableId
+  pub knows : SenderRecord
+
+pub record ReceiverEnd : Type 0 where
+  pub ring : TableId
+  pub knows : ReceiverRecord
+
+pub record HalterEnd : Type 0 where
+  pub ring : TableId
+  pub knows : HalterRecord
+
+-- how many looks an end counts
+abbrev pub looks_counted : List Look → ℕ
+looks_counted looks = min (length looks) 18446744073709551615
+
+-- the sender has made these looks more, and claimed n more
+abbrev pub sender_saw : SenderRecord → List Look → SenderRecord
+sender_saw r seen = record r { looks = r.looks ++ seen }
+
+abbrev pub more_claimed : SenderRecord → ℕ → SenderRecord
+more_claimed r n = record r { pending = r.pending ++ replicate n None }
+
+-- a claim of n ends with these looks, of which the first and the last are at halt
+abbrev pub ClaimSaw : SenderRecord → List Look → SenderRecord → Type 0
+ClaimSaw r seen r' = r' ≡ sender_saw r seen
+
+-- some final handler was seen too far behind for n more
+pub record SawNoRoom (r : SenderRecord) (n : ℕ) (seen : List Look) : Type 0 where
+  pub handler : ℕ
+  pub is_final : Contains (finals r.plan.upstreams) handler
+  pub count : ℕ
+  pub saw : Contains seen (look (count_word handler) count)
+  pub behind : r.plan.size + count < claimed r + n
+
+abbrev pub IsSize : SenderRecord → ℕ → Type 0
+IsSize r n = (0 < n) × (n ≤ r.plan.size)
+
+-- a claim first looks at halt, then at the finals' counts where it needs them, and last at halt again: it gives the next n sequences where both looks found 0
+abbrev pub TriesToClaim : SenderRecord → ℕ → SenderRecord → Result Claimed Refusal → Type 0
+TriesToClaim r n r' (Ok c) =
+    IsSize r n × (claimed r + n ≤ r.plan.limit) × (c ≡ record { lo = claimed r; hi = claimed r + n - 1 })
+    × ((counts : List Look) × (r' ≡ more_claimed (sender_saw r (look halt_word 0 ∷ counts ++ look halt_word 0 ∷ [])) n))
+TriesToClaim r n r' (Err BadCount) = ((n ≡ 0) ⊎ (r.plan.size < n)) × (r' ≡ r)
+TriesToClaim r n r' (Err Halted) = IsSize r n × ((seen : List Look) × (r' ≡ sender_saw r (seen ++ look halt_word 1 ∷ [])))
+TriesToClaim r n r' (Err Exhausted) = IsSize r n × (r.plan.limit < claimed r + n) × (r' ≡ sender_saw r (look halt_word 0 ∷ []))
+TriesToClaim r n r' (Err NoRoom) =
+    IsSize r n × (claimed r + n ≤ r.plan.limit) × ((counts : List Look) × (r' ≡ sender_saw r (look halt_word 0 ∷ counts)) × SawNoRoom r n counts)
+TriesToClaim r n r' (Err _) = ⊥
+
+abbrev pub TriesToWrite : SenderRecord → ℕ → Event → SenderRecord → Result (Unit {0}) Refusal → Type 0
+TriesToWrite r s event r' (Ok _) = IsOpen r s × (r' ≡ written r s event)
+TriesToWrite r s event r' (Err NotClaimed) = (claimed r ≤ s) × (r' ≡ r)
+TriesToWrite r s event r' (Err AlreadyPublished) = (s < length r.published) × (r' ≡ r)
+TriesToWrite r s event r' (Err _) = ⊥
+
+-- some sequence of a stretch is claimed and not written
+pub record HasUnwritten (r : SenderRecord) (lo hi : ℕ) : Type 0 where
+  pub sequence : ℕ
+  pub from : lo ≤ sequence
+  pub to : sequence ≤ hi
+  pub nothing : slice_index_or r.pending (sequence - length r.published) None ≡ None
+
+-- the tests in order: an order of the ends, all claimed, none published, all written, and nothing unpublished before
+abbrev pub TriesToPublish : SenderRecord → ℕ → ℕ → SenderRecord → Result (Unit {0}) Refusal → Type 0
+TriesToPublish r lo hi r' (Ok _) = (lo ≡ length r.published) × (lo ≤ hi) × (hi < claimed r) × AreWritten r (hi + 1) × (r' ≡ published_to r (hi + 1))
+TriesToPublish r lo hi r' (Err BadCount) = (hi < lo) × (r' ≡ r)
+TriesToPublish r lo hi r' (Err NotClaimed) = (lo ≤ hi) × (claimed r ≤ hi) × (r' ≡ r)
+TriesToPublish r lo hi r' (Err AlreadyPublished) = (lo ≤ hi) × (hi < claimed r) × (lo < length r.published) × (r' ≡ r)
+TriesToPublish r lo hi r' (Err NotWritten) = (length r.published ≤ lo) × (lo ≤ hi) × (hi < claimed r) × HasUnwritten r lo hi × (r' ≡ r)
+TriesToPublish r lo hi r' (Err OutOfOrder) =
+    (length r.published < lo) × (lo ≤ hi) × (hi < claimed r)
+    × ((s : ℕ) → lo ≤ s → s ≤ hi → (event : Event) × (slice_index_or r.pending (s - length r.published) None ≡ Some event)) × (r' ≡ r)
+TriesToPublish r lo hi r' (Err _) = ⊥
+
+-- a ring is closed once every claimed sequence is published; halt is stored first
+abbrev pub TriesToClose : SenderRecord → SenderRecord → Result (Unit {0}) Refusal → Type 0
+TriesToClose r r' (Ok _) = (r.pending ≡ []) × (r' ≡ sender_closed (sender_halted r))
+TriesToClose r r' (Err OpenClaim) = (0 < length r.pending) × (r' ≡ r)
+TriesToClose r r' (Err _) = ⊥
+
+-- looks at the counts of some upstreams, in their order
+abbrev pub count_looks : List ℕ → List ℕ → List Look
+count_looks [] counts = []
+count_looks (u ∷ ups) [] = []
+count_looks (u ∷ ups) (n ∷ counts) = look (count_word u) n ∷ count_looks ups counts
+
+-- what a receiver knows once it has looked at closed, at the cursor and at each upstream's count
+abbrev pub looked_round : ReceiverRecord → ℕ → ℕ → List ℕ → ReceiverRecord
+looked_round r closed cursor counts = record r {
+  told = r.told || ((closed == 1) && (cursor == length r.received));
+  looks = r.looks ++ look closed_word closed ∷ look cursor_word cursor ∷ count_looks (upstreams_of r.plan.upstreams r.number) counts;
+}
+
+-- what the barrier offered: the least count that was seen or, without upstreams, the cursor
+abbrev pub offered_by : ℕ → List ℕ → ℕ
+offered_by cursor [] = cursor
+offered_by cursor (n ∷ counts) = least_of (n ∷ counts)
+
+-- a receiver has taken these events more
+abbrev pub received_all : ReceiverRecord → List Event → ReceiverRecord
+received_all r events = record r { received = r.received ++ events }
+
+-- what a poll answers, where it saw this
+abbrev pub Answers : ReceiverRecord → List Event → ReceiverRecord → List Event → ℕ → ℕ → List ℕ → Polled → Type 0
+Answers r out r' out' closed cursor counts (Batch first count last) =
+    (first ≡ length r.received) × (first < offered_by cursor counts) × (count ≡ min (offered_by cursor counts - first) (length out)) × (IsTrue last ↔ (first + count ≡ offered_by cursor counts))
+    × (r' ≡ received_all (looked_round r closed cursor counts) (take count out')) × (drop count out' ≡ drop count out)
+Answers r out r' out' closed cursor counts Drained =
+    (closed ≡ 1) × (cursor ≡ length r.received) × (r' ≡ looked_round r closed cursor counts) × (r'.told ≡ true) × (out' ≡ out)
+Answers r out r' out' closed cursor counts Gating =
+    (length r.received < cursor) × Contains counts (length r.received) × (offered_by cursor counts ≡ length r.received) × (r' ≡ looked_round r closed cursor counts) × (out' ≡ out)
+Answers r out r' out' closed cursor counts Idle =
+    (closed ≡ 0) × (cursor ≡ length r.received) × (r' ≡ looked_round r closed cursor counts) × (out' ≡ out)
+
+abbrev pub Polls : ReceiverRecord → List Event → ReceiverRecord → List Event → Result Polled Refusal → Type 0
+Polls r out r' out' (Ok polled) =
+    (0 < length out) × ((closed cursor : ℕ) × (counts : List ℕ) × (length counts ≡ length (upstreams_of r.plan.upstreams r.number)) × Answers r out r' out' closed cursor counts polled)
+Polls r out r' out' (Err BadCount) = (length out ≡ 0) × (r' ≡ r) × (out' ≡ out)
+Polls r out r' out' (Err _) = ⊥
+
+abbrev pub TriesToComplete : ReceiverRecord → ℕ → ReceiverRecord → Result (Unit {0}) Refusal → Type 0
+TriesToComplete r n r' (Ok _) = (r.completed ≤ n) × (n ≤ length r.received) × (r' ≡ completed_to r n)
+TriesToComplete r n r' (Err Behind) = (n < r.completed) × (r' ≡ r)
+TriesToComplete r n r' (Err NotTaken) = (r.completed ≤ n) × (length r.received < n) × (r' ≡ r)
+TriesToComplete r n r' (Err _) = ⊥

@@ -1,0 +1,14 @@
+pub mod Shape
+pub mod Plans
+pub mod Words
+pub mod Ends
+pub mod Kept
+pub mod Steps
+pub mod Moments
+pub mod Seats
+pub mod Calls
+pub mod Fits
+pub mod Parts
+pub mod Making
+pub mod Fault
+pub mod Settling

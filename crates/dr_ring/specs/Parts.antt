@@ -1,0 +1,74 @@
+-- What the loops of the ends' calls come to.
+use Rattle.std.specs.Prelude.{◌≡◌, ◌≢◌, ℕ, ◌+◌, ◌%◌, ◌<◌, ◌≤◌, ◌==◌, ◌&&◌, ◌||◌, Bool, nat_lt, if◌then◌else◌, true, List, [], ◌++◌, length, slice_index, Option, Some, None, Contains}
+use Rattle.dr_core.specs.declared.command.Polled.{Polled}
+use Rattle.dr_core.specs.declared.command.Polled.TheVariants.{Drained, Gating, Idle}
+use Rattle.dr_graph.specs.Graph.{upstreams_of, finals}
+use Rattle.dr_ring.specs.Shape.{Shape}
+use Rattle.dr_ring.specs.Words.{cursor_word, count_word}
+use Rattle.dr_ring.specs.declared.record.Look.{Look}
+use Rattle.dr_ring.specs.declared.record.SenderRecord.{SenderRecord}
+use Rattle.dr_ring.specs.declared.record.ReceiverRecord.{ReceiverRecord}
+use Rattle.dr_ring.specs.Ends.{look, last_look}
+use Rattle.dr_ring.specs.Seats.{End, as_sender, as_receiver}
+use Rattle.dr_ring.specs.Calls.{looks_counted, sender_saw, count_looks, offered_by}
+use Rattle.dr_ring.specs.Fits.{IsSeenLeast}
+
+-- the lesser of a count and those seen before, or the count where it is the first
+abbrev pub lesser_of : Bool → ℕ → ℕ → ℕ
+lesser_of first count seen = if first || nat_lt count seen then count else seen
+
+-- the sender made these looks, in which no count fell
+pub record LooksAtFinals (r : SenderRecord) (xs : List Look) (me : End) (counted : ℕ) : Type 0 where
+  pub is : me ≡ as_sender (sender_saw r xs)
+  pub looks : counted ≡ looks_counted (r.looks ++ xs)
+  pub rises : (f : ℕ) → last_look 0 r.looks (count_word f) ≤ last_look 0 (r.looks ++ xs) (count_word f)
+
+-- every count was at least what was needed
+pub record IsEnough (k : Shape) (r : SenderRecord) (xs : List Look) (needed least : ℕ) : Type 0 where
+  pub enough : needed ≤ least
+  pub front : least ≤ length r.published
+  pub seen : IsSeenLeast k (sender_saw r xs) least
+
+-- the last count was less
+pub record IsShort (k : Shape) (xs : List Look) (needed : ℕ) : Type 0 where
+  pub handler : ℕ
+  pub is_final : Contains (finals k.upstreams) handler
+  pub count : ℕ
+  pub saw : Contains xs (look (count_word handler) count)
+  pub low : count < needed
+
+abbrev pub Scans : Shape → SenderRecord → ℕ → End → ℕ → Option ℕ → Type 0
+Scans k r need me looks (Some least) = (seen : List Look) × LooksAtFinals r seen me looks × IsEnough k r seen need least
+Scans k r need me looks None = (seen : List Look) × LooksAtFinals r seen me looks × IsShort k seen need
+
+-- a receiver has made these looks more
+abbrev pub receiver_saw : ReceiverRecord → List Look → ReceiverRecord
+receiver_saw r seen = record r { looks = r.looks ++ seen }
+
+-- so many events are offered to a handler, as far as it saw
+pub record IsOffered (k : Shape) (h : ℕ) (r : ReceiverRecord) (upto : ℕ) : Type 0 where
+  pub completed : (u : ℕ) → Contains (upstreams_of k.upstreams h) u → upto ≤ last_look 0 r.looks (count_word u)
+  pub published : upstreams_of k.upstreams h ≡ [] → upto ≤ last_look 0 r.looks cursor_word
+
+-- a receiver looked at each upstream's count
+pub record LooksAtUpstreams (k : Shape) (h : ℕ) (r : ReceiverRecord) (cursor : ℕ) (me : End) (counted available : ℕ) : Type 0 where
+  pub counts : List ℕ
+  pub each : length counts ≡ length (upstreams_of k.upstreams h)
+  pub is : me ≡ as_receiver (receiver_saw r (count_looks (upstreams_of k.upstreams h) counts))
+  pub looks : counted ≡ looks_counted (r.looks ++ count_looks (upstreams_of k.upstreams h) counts)
+  pub offered : available ≡ offered_by cursor counts
+  pub taken : length r.received ≤ available
+  pub found : upstreams_of k.upstreams h ≢ [] → Contains counts available
+  pub completed : (u : ℕ) → Contains (upstreams_of k.upstreams h) u → available ≤ last_look 0 (r.looks ++ count_looks (upstreams_of k.upstreams h) counts) (count_word u)
+  pub told : r.told ≡ true → upstreams_of k.upstreams h ≢ [] → available ≤ length r.received
+
+-- what a poll answers where nothing is offered
+abbrev pub nothing_offered : ℕ → ℕ → ℕ → Polled
+nothing_offered closed cursor taken = if (closed == 1) && (cursor == taken) then Drained else if nat_lt taken cursor then Gating else Idle
+
+-- each sequence from lo on and below hi is marked, by one more than it at its slot
+abbrev pub AreMarked : List ℕ → ℕ → ℕ → ℕ → Type 0
+AreMarked marks size lo hi = (s : ℕ) → lo ≤ s → s < hi → slice_index marks (s % size) ≡ s + 1
+
+abbrev pub HasUnmarked : List ℕ → ℕ → ℕ → ℕ → Type 0
+HasUnmarked marks size lo hi = (s : ℕ) × (lo ≤ s) × (s < hi) × (slice_index marks (s % size) ≢ s + 1)

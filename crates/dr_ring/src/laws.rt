@@ -1,0 +1,72 @@
+//! The steps of a ring over its table, and what every list of them comes to.
+//!
+//! Each kind of step is one function of [`sender`], [`receiver`] or [`halter`]: one load or one
+//! store of one word. Its contract gives what the end knows afterwards from what it knew before
+//! and the word loaded or stored, by the same definition as the step has in [`moments`].
+
+pub mod halter;
+pub mod receiver;
+pub mod sender;
+pub mod settling;
+
+ghost use Rattle.std.specs.Prelude.{List, ◌<◌, ◌≤◌};
+ghost use Rattle.dr_graph.specs.Graph.{IsGraph};
+ghost use Rattle.dr_core.specs.Transcript.{Transcript, LeadsTo};
+ghost use Rattle.dr_core.specs.Laws.{Laws};
+ghost use Rattle.dr_ring.specs.Shape.{Shape, setup_of};
+ghost use Rattle.dr_ring.specs.Kept.{World, Kept};
+ghost use Rattle.dr_ring.specs.Steps.{Step};
+ghost use Rattle.dr_ring.specs.Moments.{Runs, opening, picture_of};
+
+use crate::plan::Plan;
+use crate::record::EndRecord;
+use atomic_table::{Seat, Shared, Table, TableRule};
+use dr_core::every_transcript_is_lawful;
+use std::alloc::Global;
+use std::collections::LinkedList;
+use std::marker::Brand;
+
+/// What a seat stands for: the records of one or more ends.
+pub type Known = LinkedList<EndRecord>;
+
+/// The rule that every step keeps.
+pub struct RingRule;
+
+impl TableRule<u64, Known, Plan> for RingRule {
+    ghost use Rattle.dr_ring.specs.Seats.{Ruled, all_ends};
+
+    ghost holds = { Ruled };
+
+    ghost first = { all_ends };
+}
+
+/// The words of a ring, as its ends share them.
+pub type Words = Shared<u64, Known, Plan, RingRule>;
+
+/// The words of a ring with their memory.
+pub type RingTable = Table<u64, Known, Plan, RingRule, Global>;
+
+/// What an end steps with.
+pub type RingSeat = Seat<u64, Known>;
+
+/// A number that a step names, for its proof alone.
+pub trait Names {
+    ghost number: { ℕ };
+
+    ghost use Rattle.std.specs.Prelude.{ℕ};
+}
+
+impl Names for Brand {
+    ghost number = { 0 };
+}
+
+/// Whatever steps fall in whatever order: between any two of them the rule holds, the entries of
+/// their events lead the machine to the ring's picture, and the transcript has the five laws. It
+/// does nothing when it runs: the contract is the theorem.
+pub fn moments()
+    ensures rule { (k : Shape) (steps : List Step) (entries : Transcript) (w : World) → IsGraph k.upstreams → 0 < k.size → Runs k steps entries (opening k) w → Kept k w }
+    ensures leads { (k : Shape) (steps : List Step) (entries : Transcript) (w : World) → IsGraph k.upstreams → 0 < k.size → Runs k steps entries (opening k) w → LeadsTo (setup_of k) entries (picture_of k w) }
+    ensures laws { (k : Shape) (steps : List Step) (entries : Transcript) (w : World) → IsGraph k.upstreams → 0 < k.size → Runs k steps entries (opening k) w → Laws (setup_of k) entries }
+{
+    every_transcript_is_lawful();
+}

@@ -1,0 +1,170 @@
+//! A receiver's steps.
+
+ghost use Rattle.std.specs.Prelude.{◌≡◌, ◌<◌, ◌≤◌, true, Some, length, Contains};
+ghost use Rattle.dr_graph.specs.Graph.{upstreams_of};
+ghost use Rattle.dr_ring.specs.Shape.{handlers_of};
+ghost use Rattle.dr_ring.specs.Words.{closed_word, count_word as count_word_of};
+ghost use Rattle.dr_ring.specs.Ends.{receiver_looked, cursor_looked, half_taken, took, completed_to, IsBelowBarrier};
+ghost use Rattle.dr_ring.specs.Seats.{IsAtTable, IsReceiver, receiver_of, as_receiver};
+
+use super::{Known, RingSeat, Words};
+use crate::plan::{CLOSED_WORD, CURSOR_WORD, Plan, count_word};
+use atomic_table::Play;
+use dr_seq::Event;
+
+struct LooksAtClosed;
+
+impl Play<u64, Known> for LooksAtClosed {
+    ghost use Rattle.dr_ring.specs.Seats.{ReceiverLooksAtClosed};
+
+    ghost then = { ReceiverLooksAtClosed };
+}
+
+struct LooksAtCursor;
+
+impl Play<u64, Known> for LooksAtCursor {
+    ghost use Rattle.dr_ring.specs.Seats.{ReceiverLooksAtCursor};
+
+    ghost then = { ReceiverLooksAtCursor };
+}
+
+struct LooksAtCount;
+
+impl Play<u64, Known> for LooksAtCount {
+    ghost use Rattle.dr_ring.specs.Seats.{ReceiverLooksAtCount};
+
+    ghost then = { ReceiverLooksAtCount };
+}
+
+struct LoadsFirst;
+
+impl Play<u64, Known> for LoadsFirst {
+    ghost use Rattle.dr_ring.specs.Seats.{ReceiverLoadsFirst};
+
+    ghost then = { ReceiverLoadsFirst };
+}
+
+struct LoadsSecond;
+
+impl Play<u64, Known> for LoadsSecond {
+    ghost use Rattle.dr_ring.specs.Seats.{ReceiverLoadsSecond};
+
+    ghost then = { ReceiverLoadsSecond };
+}
+
+struct Completes;
+
+impl Play<u64, Known> for Completes {
+    ghost use Rattle.dr_ring.specs.Seats.{ReceiverCompletes};
+
+    ghost then = { ReceiverCompletes };
+}
+
+/// A receiver looks at closed.
+pub fn look_at_closed(words: &Words, seat: &mut RingSeat, plan: &Plan) -> u64
+    requires table { IsAtTable seat.old.table_id words.now.table_id plan.now }
+    requires end { IsReceiver seat.old.me }
+    ensures seat { (seat.new.table_id ≡ seat.old.table_id) × (seat.new.id ≡ seat.old.id) }
+    ensures end { seat.new.me ≡ as_receiver (receiver_looked (receiver_of seat.old.me.0) closed_word result) }
+    ensures flag { result ≤ 1 }
+{
+    let _plan = plan;
+    words.load::<LooksAtClosed>(seat, CLOSED_WORD)
+}
+
+/// A receiver looks at the cursor, by which it may be told that the ring drained.
+pub fn look_at_cursor(words: &Words, seat: &mut RingSeat, plan: &Plan) -> u64
+    requires table { IsAtTable seat.old.table_id words.now.table_id plan.now }
+    requires end { IsReceiver seat.old.me }
+    ensures seat { (seat.new.table_id ≡ seat.old.table_id) × (seat.new.id ≡ seat.old.id) }
+    ensures end { seat.new.me ≡ as_receiver (cursor_looked (receiver_of seat.old.me.0) result) }
+    ensures taken { length (receiver_of seat.old.me.0).received ≤ result }
+{
+    let _plan = plan;
+    words.load::<LooksAtCursor>(seat, CURSOR_WORD)
+}
+
+/// A receiver looks at the count of one of its upstreams.
+pub fn look_at_count(
+    words: &Words,
+    seat: &mut RingSeat,
+    plan: &Plan,
+    handler: usize,
+    upstream: usize,
+) -> u64
+    requires table { IsAtTable seat.old.table_id words.now.table_id plan.now }
+    requires end { IsReceiver seat.old.me }
+    requires plan { (receiver_of seat.old.me.0).plan ≡ plan.now }
+    requires number { ((receiver_of seat.old.me.0).number ≡ handler) × (handler < handlers_of plan.now) }
+    requires upstream { Contains (upstreams_of plan.now.upstreams handler) upstream }
+    requires below { upstream < handler }
+    ensures seat { (seat.new.table_id ≡ seat.old.table_id) × (seat.new.id ≡ seat.old.id) }
+    ensures end { seat.new.me ≡ as_receiver (receiver_looked (receiver_of seat.old.me.0) (count_word_of upstream) result) }
+    ensures taken { length (receiver_of seat.old.me.0).received ≤ result }
+    ensures told { (receiver_of seat.old.me.0).told ≡ true → result ≤ length (receiver_of seat.old.me.0).received }
+{
+    let _handler = handler;
+    let _handlers = plan.handlers();
+    words.load::<LooksAtCount>(seat, count_word(upstream))
+}
+
+/// A receiver loads the first word of its next event, which is below its barrier.
+pub fn load_first(
+    words: &Words,
+    seat: &mut RingSeat,
+    plan: &Plan,
+    handler: usize,
+    taken: u64,
+) -> u64
+    requires table { IsAtTable seat.old.table_id words.now.table_id plan.now }
+    requires end { IsReceiver seat.old.me }
+    requires plan { (receiver_of seat.old.me.0).plan ≡ plan.now }
+    requires number { (receiver_of seat.old.me.0).number ≡ handler }
+    requires next { taken ≡ length (receiver_of seat.old.me.0).received }
+    requires below { IsBelowBarrier plan.now handler (receiver_of seat.old.me.0) }
+    ensures seat { (seat.new.table_id ≡ seat.old.table_id) × (seat.new.id ≡ seat.old.id) }
+    ensures end { seat.new.me ≡ as_receiver (half_taken (receiver_of seat.old.me.0) result) }
+{
+    let _handler = handler;
+    words.load::<LoadsFirst>(seat, plan.payload_word(taken, 0))
+}
+
+/// A receiver loads the second word of its next event, whose first word it has just loaded, and
+/// has taken that event.
+pub fn load_second(
+    words: &Words,
+    seat: &mut RingSeat,
+    plan: &Plan,
+    handler: usize,
+    taken: u64,
+    first: u64,
+) -> Event
+    requires table { IsAtTable seat.old.table_id words.now.table_id plan.now }
+    requires end { IsReceiver seat.old.me }
+    requires plan { (receiver_of seat.old.me.0).plan ≡ plan.now }
+    requires number { (receiver_of seat.old.me.0).number ≡ handler }
+    requires next { taken ≡ length (receiver_of seat.old.me.0).received }
+    requires half { (receiver_of seat.old.me.0).half ≡ Some first }
+    requires below { IsBelowBarrier plan.now handler (receiver_of seat.old.me.0) }
+    ensures seat { (seat.new.table_id ≡ seat.old.table_id) × (seat.new.id ≡ seat.old.id) }
+    ensures end { seat.new.me ≡ as_receiver (took (receiver_of seat.old.me.0) result) }
+    ensures first { result.first ≡ first }
+{
+    let _handler = handler;
+    let second = words.load::<LoadsSecond>(seat, plan.payload_word(taken, 1));
+    Event { first, second }
+}
+
+/// A receiver stores its count.
+pub fn complete(words: &Words, seat: &mut RingSeat, plan: &Plan, handler: usize, upto: u64)
+    requires table { IsAtTable seat.old.table_id words.now.table_id plan.now }
+    requires end { IsReceiver seat.old.me }
+    requires number { ((receiver_of seat.old.me.0).number ≡ handler) × (handler < handlers_of plan.now) }
+    requires rises { (receiver_of seat.old.me.0).completed ≤ upto }
+    requires taken { upto ≤ length (receiver_of seat.old.me.0).received }
+    ensures seat { (seat.new.table_id ≡ seat.old.table_id) × (seat.new.id ≡ seat.old.id) }
+    ensures end { seat.new.me ≡ as_receiver (completed_to (receiver_of seat.old.me.0) upto) }
+{
+    let _handlers = plan.handlers();
+    words.store::<Completes>(seat, count_word(handler), upto);
+}

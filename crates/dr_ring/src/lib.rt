@@ -1,0 +1,31 @@
+//! The ring over atomic words: one sender hands events to a graph of receivers, each end on a
+//! thread of its own, and no call waits or takes memory.
+//!
+//! Begin with `specs/`: `Words` says where each word lies, `Ends` what each kind of step makes of
+//! what its end knows, `Kept` is the rule that holds between any two steps, and `Steps` lists the
+//! kinds. [`laws`] has one function a kind, and [`laws::moments`] the theorem over all lists of
+//! steps.
+#![tactic(auto)]
+
+mod body;
+pub mod fault;
+pub mod halter;
+pub mod laws;
+pub mod opening;
+mod parts;
+pub mod plan;
+pub mod receiver;
+pub mod record;
+pub mod sender;
+pub mod settled;
+
+pub use fault::RingFault;
+pub use halter::Halter;
+pub use opening::ring;
+pub use plan::Plan;
+pub use receiver::Receiver;
+pub use sender::Sender;
+pub use settled::{HandlerCounts, Settled, settle};
+
+#[cfg(test)]
+mod tests;

@@ -1,0 +1,120 @@
+//! A ring is made with all its ends.
+
+ghost use Rattle.std.specs.Prelude.{◌≡◌, [], map, IfOk, IfErr, IsOk, false};
+ghost use Rattle.std.specs.Arc.{arc_value};
+ghost use Rattle.dr_core.specs.OpenFault.{is_bad_limit};
+ghost use Rattle.dr_ring.specs.Shape.{handlers_of};
+ghost use Rattle.dr_ring.specs.Plans.{IsPlan};
+ghost use Rattle.dr_ring.specs.Moments.{fresh_receivers};
+ghost use Rattle.dr_ring.specs.Seats.{IsAtTable};
+ghost use Rattle.dr_ring.specs.Settling.{AreAllEnds};
+ghost use Rattle.dr_ring.specs.Making.{receivers_known, at_ring, AreFreshEnds, fault_of};
+
+use crate::body::RingBody;
+use crate::fault::RingFault;
+use crate::halter::Halter;
+use crate::laws::{Known, RingSeat, RingTable};
+use crate::plan::Plan;
+use crate::receiver::Receiver;
+use crate::sender::Sender;
+use crate::settled::HandlerCounts;
+use atomic_table::Split;
+use dr_core::MAX_LIMIT;
+use dr_graph::Graph;
+use dr_seq::Size;
+use std::alloc::{AllocError, Global};
+use std::sync::Arc;
+
+// The first record of a view stays with its seat, and the others go to another.
+struct Cut;
+
+impl Split<Known> for Cut {
+    ghost use Rattle.std.specs.Prelude.{take, drop};
+
+    ghost left = { λ v. take 1 v };
+
+    ghost right = { λ v. drop 1 v };
+}
+
+// The receivers, each with its seat. `rest` stands for them all.
+fn receivers(
+    alloc: Global,
+    ring: &Arc<RingBody, Global>,
+    mut rest: RingSeat,
+) -> Result<Vec<Receiver>, AllocError>
+    requires table { IsAtTable rest.table_id (arc_value ring.now).table.shared.table_id (arc_value ring.now).plan }
+    requires made { IsPlan (arc_value ring.now).plan }
+    requires all { rest.me ≡ (receivers_known (arc_value ring.now).plan 0 (handlers_of (arc_value ring.now).plan), []) }
+    ensures { IfOk result (λ v. v.items ≡ map (at_ring rest.table_id) (fresh_receivers (arc_value ring.now).plan 0 (handlers_of (arc_value ring.now).plan))) }
+{
+    let handlers = ring.plan.handlers();
+    let mut receivers = Vec::with_capacity(alloc, handlers)?;
+    for number in 0..handlers {
+        let next = ring.table.shared.split_seat::<Cut>(&mut rest);
+        let own = Arc::try_clone(ring)?;
+        receivers.push(Receiver {
+            ring: own,
+            seat: rest,
+            number,
+            taken: 0,
+            completed: 0,
+            looks: 0,
+        })?;
+        rest = next;
+    }
+    Ok(receivers)
+}
+
+// The ends of a ring for a plan.
+fn ends(alloc: Global, plan: Plan) -> Result<(Sender, Vec<Receiver>, Halter), AllocError>
+    requires { IsPlan plan }
+    ensures { IfOk result (λ made. AreFreshEnds plan made.0 made.1.items made.2) }
+{
+    let words = vec![in alloc; 0; plan.words()]?;
+    let marks = vec![in alloc; 0; plan.size().get() as usize]?;
+    let counts = vec![in alloc; HandlerCounts::NONE; plan.handlers()]?;
+    let (table, mut seat) = RingTable::of_words(alloc, words.as_slice(), &plan)?;
+    let ring = Arc::new(alloc, RingBody { table, plan })?;
+    let mut second = ring.table.shared.split_seat::<Cut>(&mut seat);
+    let others = ring.table.shared.split_seat::<Cut>(&mut second);
+    let receivers = receivers(alloc, &ring, others)?;
+    let halter = Halter {
+        ring: Arc::try_clone(&ring)?,
+        seat: second,
+    };
+    let sender = Sender {
+        ring,
+        seat,
+        claimed: 0,
+        published: 0,
+        least: 0,
+        looks: 0,
+        marks,
+        counts,
+    };
+    Ok((sender, receivers, halter))
+}
+
+/// A ring for a graph of handlers, of a size, in which `limit` sequences may be claimed: its
+/// sender, its receivers in the graph's order, and its halter. Each may be moved to a thread of
+/// its own.
+///
+/// It is refused with `BadLimit` where the limit is 0 or above [`MAX_LIMIT`], and with `NoMemory`
+/// where a growth was refused.
+pub fn ring(
+    alloc: Global,
+    graph: &Graph,
+    size: Size,
+    limit: u64,
+) -> Result<(Sender, Vec<Receiver>, Halter), RingFault>
+    ensures made { IfOk result (λ made. AreFreshEnds (record { upstreams = graph.now.upstreams; size = size; limit = limit }) made.0 made.1.items made.2) }
+    ensures all { IfOk result (λ made. AreAllEnds made.0 made.1.items) }
+    ensures fits { IsOk result → is_bad_limit limit ≡ false }
+    ensures refused { IfErr result (λ fault. fault ≡ fault_of limit) }
+{
+    if limit == 0 || limit > MAX_LIMIT {
+        return Err(RingFault::BadLimit);
+    }
+    let plan = Plan::of(alloc, graph, size, limit)?;
+    Ok(ends(alloc, plan)?)
+}

@@ -1,0 +1,141 @@
+//! What a ring is made for, and the places of its words.
+
+ghost use Rattle.std.specs.Prelude.{◌≡◌, ◌^◌, ◌<◌, ◌≤◌, map, IfOk};
+ghost use Rattle.dr_graph.specs.Graph.{upstreams_of, finals as finals_of};
+ghost use Rattle.dr_ring.specs.Shape.{handlers_of};
+ghost use Rattle.dr_ring.specs.Words.{cursor_word, closed_word, halt_word, count_word as count_word_of, payload_word as payload_word_of, words_of};
+ghost use Rattle.dr_ring.specs.Plans.{IsPlan};
+
+use dr_graph::Graph;
+use dr_seq::Size;
+use std::alloc::{AllocError, Global};
+use std::marker::Model;
+
+/// The place of the word that counts the published events.
+pub const CURSOR_WORD: usize = 0;
+/// The place of the word that is 1 once the sender has closed.
+pub const CLOSED_WORD: usize = 1;
+/// The place of the word that is 1 once the ring is halted.
+pub const HALT_WORD: usize = 16;
+
+/// The place of the word that counts what a handler completed.
+pub fn count_word(handler: usize) -> usize
+    requires { handler < 65536 }
+    ensures { result ≡ count_word_of handler }
+{
+    32 + 16 * handler
+}
+
+/// The graph of a ring's handlers, by each handler's direct upstreams, with its final handlers, the
+/// size and the limit of sequences.
+#[derive(Drop)]
+pub struct Plan {
+    size: Size,
+    limit: u64,
+    upstreams: Vec<Vec<usize>>,
+    finals: Vec<usize>,
+}
+
+impl Model for Plan {
+    ghost use Rattle.std.specs.Prelude.{◌≡◌, map};
+    ghost use Rattle.dr_graph.specs.Graph.{finals as final_handlers};
+    ghost use Rattle.dr_ring.specs.Shape.{Shape};
+    ghost use Rattle.dr_ring.specs.Plans.{IsPlan};
+
+    ghost Value = { Shape };
+
+    ghost view = { λ p. record { upstreams = map (λ v. v.items) p.upstreams.items; size = p.size; limit = p.limit } };
+
+    ghost invariant = { λ p. IsPlan (record { upstreams = map (λ v. v.items) p.upstreams.items; size = p.size; limit = p.limit }) × (p.finals.items ≡ final_handlers (map (λ v. v.items) p.upstreams.items)) };
+}
+
+// The direct upstreams of each handler of a graph.
+fn copy_upstreams(alloc: Global, graph: &Graph) -> Result<Vec<Vec<usize>>, AllocError>
+    ensures { IfOk result (λ v. map (λ ups. ups.items) v.items ≡ graph.now.upstreams) }
+{
+    let handlers = graph.len();
+    let mut upstreams = Vec::with_capacity(alloc, handlers)?;
+    for handler in 0..handlers {
+        let own = Vec::from_slice(alloc, graph.upstreams(handler))?;
+        upstreams.push(own)?;
+    }
+    Ok(upstreams)
+}
+
+impl Plan {
+    /// The plan of a ring for a graph, which it copies.
+    pub(crate) fn of(
+        alloc: Global,
+        graph: &Graph,
+        size: Size,
+        limit: u64,
+    ) -> Result<Plan, AllocError>
+        requires limit { (0 < limit) × (limit ≤ 2 ^ 62) }
+        ensures made { IfOk result (λ plan. plan ≡ record { upstreams = graph.now.upstreams; size = size; limit = limit }) }
+        ensures plan { IfOk result (λ plan. IsPlan plan) }
+    {
+        let upstreams = copy_upstreams(alloc, graph)?;
+        let finals = Vec::from_slice(alloc, graph.finals())?;
+        let _handlers = graph.len();
+        let _slots = size.get();
+        Ok(Plan {
+            size,
+            limit,
+            upstreams,
+            finals,
+        })
+    }
+
+    /// How many slots the ring has.
+    pub fn size(&self) -> Size
+        ensures { result ≡ self.now.size }
+    {
+        self.size
+    }
+
+    /// How many sequences may be claimed in all.
+    pub fn limit(&self) -> u64
+        ensures { result ≡ self.now.limit }
+    {
+        self.limit
+    }
+
+    /// How many handlers there are.
+    pub fn handlers(&self) -> usize
+        ensures count { result ≡ handlers_of self.now }
+        ensures few { result ≤ 16 }
+    {
+        self.upstreams.len()
+    }
+
+    /// The direct upstreams of a handler.
+    pub fn upstreams(&self, handler: usize) -> &[usize]
+        requires { handler < handlers_of self.now }
+        ensures { result.now ≡ upstreams_of self.now.upstreams handler }
+    {
+        self.upstreams[handler].as_slice()
+    }
+
+    /// The final handlers, which gate the sender.
+    pub fn finals(&self) -> &[usize]
+        ensures { result.now ≡ finals_of self.now.upstreams }
+    {
+        self.finals.as_slice()
+    }
+
+    /// The place of the first word (part 0) or the second (part 1) of the event in a sequence's slot.
+    pub fn payload_word(&self, sequence: u64, part: usize) -> usize
+        requires { part < 2 }
+        ensures place { result ≡ payload_word_of self.now sequence part }
+        ensures inside { result < words_of self.now }
+    {
+        32 + 16 * self.upstreams.len() + 2 * self.size.slot(sequence) + part
+    }
+
+    /// How many words the ring has.
+    pub fn words(&self) -> usize
+        ensures { result ≡ words_of self.now }
+    {
+        32 + 16 * self.upstreams.len() + 2 * self.size.get() as usize
+    }
+}

@@ -1,0 +1,121 @@
+//! An end that receives every event.
+
+ghost use Rattle.std.specs.Prelude.{◌≡◌};
+ghost use Rattle.dr_ring.specs.Calls.{looks_counted, Polls, TriesToComplete};
+
+use crate::body::RingBody;
+use crate::laws::{RingSeat, receiver as laws};
+use crate::parts;
+use dr_core::{Polled, Refusal};
+use dr_seq::Event;
+use std::alloc::Global;
+use std::marker::Model;
+use std::sync::Arc;
+
+/// The end of one handler, which receives every event after its upstreams. No call waits or takes
+/// memory.
+#[derive(Drop)]
+pub struct Receiver {
+    pub(crate) ring: Arc<RingBody, Global>,
+    pub(crate) seat: RingSeat,
+    pub(crate) number: usize,
+    pub(crate) taken: u64,
+    pub(crate) completed: u64,
+    pub(crate) looks: u64,
+}
+
+impl Model for Receiver {
+    ghost use Rattle.std.specs.Arc.{arc_value};
+    ghost use Rattle.dr_ring.specs.Seats.{receiver_of};
+    ghost use Rattle.dr_ring.specs.Calls.{ReceiverEnd};
+    ghost use Rattle.dr_ring.specs.Fits.{ReceiverFits};
+
+    ghost Value = { ReceiverEnd };
+
+    ghost view = { λ s. record { ring = s.seat.table_id; knows = receiver_of s.seat.me.0 } };
+
+    ghost invariant = { λ s. ReceiverFits (arc_value s.ring).table.shared.table_id s.seat.table_id s.seat.me (arc_value s.ring).plan s.number s.taken s.completed s.looks };
+}
+
+impl Receiver {
+    /// Takes the next events, as many as the barrier offers and `out` has room for, to the front
+    /// of `out`. It looks at closed, then at the cursor, then at the count of each upstream.
+    ///
+    /// It is refused with `BadCount`, and changes nothing, where `out` is empty.
+    pub fn poll_into(&mut self, out: &mut [Event]) -> Result<Polled, Refusal>
+        ensures ring { self.new.ring ≡ self.old.ring }
+        ensures plan { self.new.knows.plan ≡ self.old.knows.plan }
+        ensures number { self.new.knows.number ≡ self.old.knows.number }
+        ensures answer { Polls self.old.knows out.old self.new.knows out.new result }
+    {
+        if out.is_empty() {
+            return Err(Refusal::BadCount);
+        }
+        let words = &self.ring.table.shared;
+        let plan = &self.ring.plan;
+        let closed = laws::look_at_closed(words, &mut self.seat, plan);
+        let cursor = laws::look_at_cursor(words, &mut self.seat, plan);
+        self.looks = self.looks.saturating_add(2);
+        let available = parts::barrier(
+            words,
+            &mut self.seat,
+            plan,
+            self.number,
+            cursor,
+            &mut self.looks,
+        );
+        let first = self.taken;
+        if available <= first {
+            return Ok(parts::nothing_offered(closed, cursor, first));
+        }
+        let left = available - first;
+        let count = if left < out.len() as u64 {
+            left as usize
+        } else {
+            out.len()
+        };
+        let (front, _) = out.split_at_mut(count);
+        parts::take_all(words, &mut self.seat, plan, self.number, first, front);
+        self.taken = first + count as u64;
+        Ok(Polled::Batch {
+            first,
+            count: count as u64,
+            end: first + count as u64 == available,
+        })
+    }
+
+    /// Completes all events below `upto`: the handlers that follow may take them, and the sender
+    /// may use their slots again once all final handlers have completed them.
+    ///
+    /// Refusals in their order: `Behind` (more are completed), `NotTaken`. They change nothing.
+    pub fn complete(&mut self, upto: u64) -> Result<(), Refusal>
+        ensures ring { self.new.ring ≡ self.old.ring }
+        ensures plan { self.new.knows.plan ≡ self.old.knows.plan }
+        ensures number { self.new.knows.number ≡ self.old.knows.number }
+        ensures answer { TriesToComplete self.old.knows upto self.new.knows result }
+    {
+        if upto < self.completed {
+            return Err(Refusal::Behind);
+        }
+        if upto > self.taken {
+            return Err(Refusal::NotTaken);
+        }
+        laws::complete(
+            &self.ring.table.shared,
+            &mut self.seat,
+            &self.ring.plan,
+            self.number,
+            upto,
+        );
+        self.completed = upto;
+        Ok(())
+    }
+
+    /// How many words the receiver has loaded that other ends store, payload aside, up to the
+    /// greatest `u64`.
+    pub fn looks(&self) -> u64
+        ensures { result ≡ looks_counted self.now.knows.looks }
+    {
+        self.looks
+    }
+}

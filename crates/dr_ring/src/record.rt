@@ -1,0 +1,54 @@
+//! What the ends of a ring know. No value of a record is ever made: they stand in proofs alone.
+
+use crate::plan::Plan;
+use dr_seq::Event;
+use std::collections::LinkedList;
+
+/// A load of a word that another end stores: which word, and what was found.
+pub struct Look {
+    pub word: u64,
+    pub value: u64,
+}
+
+/// A write of which the first word is stored, and the second not yet.
+pub struct HalfWrite {
+    pub sequence: u64,
+    pub first: u64,
+}
+
+/// What the sender knows: the events that it published, and each later sequence that it claimed,
+/// with its event once it is written.
+pub struct SenderRecord {
+    pub plan: Plan,
+    pub published: LinkedList<Event>,
+    pub pending: LinkedList<Option<Event>>,
+    pub half: Option<HalfWrite>,
+    pub halted: bool,
+    pub closed: bool,
+    pub looks: LinkedList<Look>,
+}
+
+/// What a receiver knows: its number, the events that it received, the first word of the next one
+/// if that alone is loaded, how many it completed, and whether it was told that the ring drained.
+pub struct ReceiverRecord {
+    pub plan: Plan,
+    pub number: u64,
+    pub received: LinkedList<Event>,
+    pub half: Option<u64>,
+    pub completed: u64,
+    pub told: bool,
+    pub looks: LinkedList<Look>,
+}
+
+/// What the halter knows: whether it halted the ring.
+pub struct HalterRecord {
+    pub plan: Plan,
+    pub halted: bool,
+}
+
+/// What one of the ends knows.
+pub enum EndRecord {
+    Sends(SenderRecord),
+    Receives(ReceiverRecord),
+    Halts(HalterRecord),
+}

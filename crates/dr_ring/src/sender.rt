@@ -1,0 +1,175 @@
+//! The one end that claims, writes and publishes.
+
+ghost use Rattle.std.specs.Prelude.{◌≡◌};
+ghost use Rattle.dr_ring.specs.Calls.{looks_counted, TriesToClaim, TriesToWrite, TriesToPublish, TriesToClose};
+
+use crate::body::RingBody;
+use crate::laws::{RingSeat, sender as laws};
+use crate::parts;
+use crate::settled::HandlerCounts;
+use dr_core::{Claimed, Refusal};
+use dr_seq::Event;
+use std::alloc::Global;
+use std::marker::Model;
+use std::sync::Arc;
+
+/// The one end that claims, writes and publishes. No call waits or takes memory.
+#[derive(Drop)]
+pub struct Sender {
+    pub(crate) ring: Arc<RingBody, Global>,
+    pub(crate) seat: RingSeat,
+    pub(crate) claimed: u64,
+    pub(crate) published: u64,
+    // What each final handler was seen to have completed at least.
+    pub(crate) least: u64,
+    pub(crate) looks: u64,
+    // One more than the sequence that was last written to a slot, so that a claim clears nothing.
+    pub(crate) marks: Vec<u64>,
+    // Room for each handler's counts, since the ends come together without taking memory.
+    pub(crate) counts: Vec<HandlerCounts>,
+}
+
+impl Model for Sender {
+    ghost use Rattle.std.specs.Prelude.{length};
+    ghost use Rattle.std.specs.Arc.{arc_value};
+    ghost use Rattle.dr_ring.specs.Seats.{sender_of};
+    ghost use Rattle.dr_ring.specs.Calls.{SenderEnd};
+    ghost use Rattle.dr_ring.specs.Fits.{SenderFits};
+
+    ghost Value = { SenderEnd };
+
+    ghost view = { λ s. record { ring = s.seat.table_id; knows = sender_of s.seat.me.0 } };
+
+    ghost invariant = { λ s. SenderFits (arc_value s.ring).table.shared.table_id s.seat.table_id s.seat.me (arc_value s.ring).plan s.claimed s.published s.least s.looks s.marks.items (length s.counts.items) };
+}
+
+impl Sender {
+    /// Claims the next `n` sequences. It looks at halt first, then at the final handlers' counts
+    /// where those that it remembers leave no room, and at halt once more.
+    ///
+    /// The causes of a refusal in their order: `BadCount` (none, or more than the size), `Halted`,
+    /// `Exhausted`, `NoRoom`, and `Halted` once more. A refused claim may have looked, and changes
+    /// nothing else.
+    pub fn try_claim(&mut self, n: u64) -> Result<Claimed, Refusal>
+        ensures ring { self.new.ring ≡ self.old.ring }
+        ensures plan { self.new.knows.plan ≡ self.old.knows.plan }
+        ensures answer { TriesToClaim self.old.knows n self.new.knows result }
+    {
+        let words = &self.ring.table.shared;
+        let plan = &self.ring.plan;
+        let size = plan.size().get();
+        if n == 0 || n > size {
+            return Err(Refusal::BadCount);
+        }
+        self.looks = self.looks.saturating_add(1);
+        if laws::look_at_halt(words, &mut self.seat, plan, 0) != 0 {
+            return Err(Refusal::Halted);
+        }
+        let next = self.claimed;
+        if n > plan.limit() - next {
+            return Err(Refusal::Exhausted);
+        }
+        let need = (next + n).saturating_sub(size);
+        let Some(least) = parts::make_room(
+            words,
+            &mut self.seat,
+            plan,
+            self.published,
+            self.least,
+            need,
+            &mut self.looks,
+        ) else {
+            return Err(Refusal::NoRoom);
+        };
+        self.least = least;
+        self.looks = self.looks.saturating_add(1);
+        if laws::look_at_halt(words, &mut self.seat, plan, n) != 0 {
+            return Err(Refusal::Halted);
+        }
+        self.claimed = next + n;
+        Ok(Claimed {
+            lo: next,
+            hi: next + n - 1,
+        })
+    }
+
+    /// Writes the event of a sequence that is claimed and not published, in place of one that was
+    /// written before.
+    ///
+    /// Refusals in their order: `NotClaimed`, `AlreadyPublished`. They change nothing.
+    pub fn write(&mut self, sequence: u64, event: Event) -> Result<(), Refusal>
+        ensures ring { self.new.ring ≡ self.old.ring }
+        ensures plan { self.new.knows.plan ≡ self.old.knows.plan }
+        ensures answer { TriesToWrite self.old.knows sequence event self.new.knows result }
+    {
+        if sequence >= self.claimed {
+            return Err(Refusal::NotClaimed);
+        }
+        if sequence < self.published {
+            return Err(Refusal::AlreadyPublished);
+        }
+        let words = &self.ring.table.shared;
+        let plan = &self.ring.plan;
+        self.marks[plan.size().slot(sequence)] = sequence + 1;
+        laws::store_first(words, &mut self.seat, plan, sequence, event.first);
+        laws::store_second(words, &mut self.seat, plan, sequence, event);
+        Ok(())
+    }
+
+    /// Publishes the sequences from `lo` to `hi`, both in the stretch: every receiver without
+    /// upstreams may take them from then on. One producer publishes in order.
+    ///
+    /// Refusals in their order: `BadCount` (`lo` above `hi`), `NotClaimed`, `AlreadyPublished`,
+    /// `NotWritten`, `OutOfOrder`. They change nothing.
+    pub fn publish(&mut self, lo: u64, hi: u64) -> Result<(), Refusal>
+        ensures ring { self.new.ring ≡ self.old.ring }
+        ensures plan { self.new.knows.plan ≡ self.old.knows.plan }
+        ensures answer { TriesToPublish self.old.knows lo hi self.new.knows result }
+    {
+        if lo > hi {
+            return Err(Refusal::BadCount);
+        }
+        if hi >= self.claimed {
+            return Err(Refusal::NotClaimed);
+        }
+        if lo < self.published {
+            return Err(Refusal::AlreadyPublished);
+        }
+        let plan = &self.ring.plan;
+        if !parts::all_marked(self.marks.as_slice(), plan.size(), lo, hi + 1) {
+            return Err(Refusal::NotWritten);
+        }
+        if lo > self.published {
+            return Err(Refusal::OutOfOrder);
+        }
+        laws::publish(&self.ring.table.shared, &mut self.seat, plan, hi + 1);
+        self.published = hi + 1;
+        Ok(())
+    }
+
+    /// Closes the ring: it is halted, and no event will come any more, so that a receiver that took
+    /// all of them is told `Drained`. It may be repeated.
+    ///
+    /// It is refused with `OpenClaim`, and changes nothing, while a claimed sequence is unpublished.
+    pub fn close(&mut self) -> Result<(), Refusal>
+        ensures ring { self.new.ring ≡ self.old.ring }
+        ensures plan { self.new.knows.plan ≡ self.old.knows.plan }
+        ensures answer { TriesToClose self.old.knows self.new.knows result }
+    {
+        if self.published != self.claimed {
+            return Err(Refusal::OpenClaim);
+        }
+        let words = &self.ring.table.shared;
+        let plan = &self.ring.plan;
+        laws::halt(words, &mut self.seat, plan);
+        laws::close(words, &mut self.seat, plan);
+        Ok(())
+    }
+
+    /// How many words the sender has loaded that other ends store, up to the greatest `u64`.
+    pub fn looks(&self) -> u64
+        ensures { result ≡ looks_counted self.now.knows.looks }
+    {
+        self.looks
+    }
+}

@@ -1,0 +1,136 @@
+//! All ends of a ring come together.
+
+ghost use Rattle.std.specs.Prelude.{◌≡◌, ◌<◌, length, map};
+ghost use Rattle.std.specs.Arc.{arc_value};
+ghost use Rattle.dr_ring.specs.Seats.{IsAtTable};
+ghost use Rattle.dr_ring.specs.Ends.{claimed as claimed_of};
+ghost use Rattle.dr_ring.specs.Settling.{LeadsView, Settles, AreAllEnds, AreOfRing, Gathers, counts_of, counts_at};
+
+use crate::body::RingBody;
+use crate::laws::{RingSeat, settling};
+use crate::receiver::Receiver;
+use crate::sender::Sender;
+use std::alloc::Global;
+use std::sync::Arc;
+
+/// How many events a handler took and completed.
+#[derive(Clone, Copy, Debug, PartialEq, Eq)]
+pub struct HandlerCounts {
+    pub taken: u64,
+    pub completed: u64,
+}
+
+impl HandlerCounts {
+    /// Before the first event.
+    pub const NONE: HandlerCounts = HandlerCounts {
+        taken: 0,
+        completed: 0,
+    };
+}
+
+/// How far a ring came.
+#[derive(Drop)]
+pub struct Settled {
+    claimed: u64,
+    published: u64,
+    handlers: Vec<HandlerCounts>,
+}
+
+impl Settled {
+    /// How many sequences were claimed.
+    pub fn claimed(&self) -> u64
+        ensures { result ≡ self.now.claimed }
+    {
+        self.claimed
+    }
+
+    /// How many events were published.
+    pub fn published(&self) -> u64
+        ensures { result ≡ self.now.published }
+    {
+        self.published
+    }
+
+    /// How many handlers there are.
+    pub fn handlers(&self) -> usize
+        ensures { result ≡ length self.now.handlers.items }
+    {
+        self.handlers.len()
+    }
+
+    /// How many events a handler took.
+    pub fn taken(&self, handler: usize) -> u64
+        requires { handler < length self.now.handlers.items }
+        ensures { result ≡ (counts_at self.now.handlers.items handler).taken }
+    {
+        self.handlers[handler].taken
+    }
+
+    /// How many events a handler completed.
+    pub fn completed(&self, handler: usize) -> u64
+        requires { handler < length self.now.handlers.items }
+        ensures { result ≡ (counts_at self.now.handlers.items handler).completed }
+    {
+        self.handlers[handler].completed
+    }
+}
+
+// A receiver's seat comes to the sender's, and its counts to their place.
+fn gather(
+    ring: &Arc<RingBody, Global>,
+    seat: &mut RingSeat,
+    mut receivers: Vec<Receiver>,
+    counts: &mut Vec<HandlerCounts>,
+)
+    requires table { IsAtTable seat.old.table_id (arc_value ring.now).table.shared.table_id (arc_value ring.now).plan }
+    requires sender { LeadsView seat.old.me }
+    requires receivers { AreOfRing seat.old.table_id receivers.items }
+    requires places { length counts.old.items ≡ length receivers.items }
+    ensures seat { seat.new.table_id ≡ seat.old.table_id }
+    ensures view { Gathers seat.old.me (map (λ e. e.knows) receivers.items) seat.new.me }
+    ensures counts { counts.new.items ≡ map (λ e. counts_of e.knows) receivers.items }
+{
+    while let Some(receiver) = receivers.pop() {
+        let Receiver {
+            ring: _own,
+            seat: other,
+            number: _,
+            taken,
+            completed,
+            looks: _,
+        } = receiver;
+        counts[receivers.len()] = HandlerCounts { taken, completed };
+        settling::take_in(&ring.table.shared, seat, other);
+    }
+}
+
+/// Brings all ends of a ring together, but for the halter. It takes no memory.
+///
+/// Each receiver has the beginning of what the sender published, all of it where it was told that
+/// the ring drained; no handler took more than its upstreams completed; and no more is claimed
+/// than a round beyond what each final handler completed.
+pub fn settle(sender: Sender, receivers: Vec<Receiver>) -> Settled
+    requires { AreAllEnds sender receivers.items }
+    ensures claimed { result.claimed ≡ claimed_of sender.knows }
+    ensures published { result.published ≡ length sender.knows.published }
+    ensures handlers { result.handlers.items ≡ map (λ e. counts_of e.knows) receivers.items }
+    ensures lists { Settles sender.knows (map (λ e. e.knows) receivers.items) }
+{
+    let Sender {
+        ring,
+        mut seat,
+        claimed,
+        published,
+        least: _,
+        looks: _,
+        marks: _,
+        mut counts,
+    } = sender;
+    gather(&ring, &mut seat, receivers, &mut counts);
+    settling::compare(&ring.table.shared, &mut seat);
+    Settled {
+        claimed,
+        published,
+        handlers: counts,
+    }
+}
