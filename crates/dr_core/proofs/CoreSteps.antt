@@ -2,7 +2,7 @@
 use Rattle.std.proofs.Common.{◌≡◌, ℕ, ◌+◌, ◌-◌, ◌<◌, ◌≤◌, ◌≢◌, ◌⊎◌, inl, inr, Bool, true, false, List, [], ◌∷◌, ◌++◌, arith, refl, ap, ◌∙◌, length, map, min, get_or, replicate, slice_index, slice_set}
 use Rattle.std.proofs.lemmas.Bool.{cond-true, cond-false, lt-ltb, leb-false, or_from, cases_lt, lt-leb, le-ltb, ne_eqb}
 use Rattle.std.proofs.lemmas.List.{length-append, length-replicate, get_or_append_left, get_or-append_right, get_or-replicate}
-use Rattle.std.specs.Prelude.{All, nat_le}
+use Rattle.std.specs.Prelude.{All, ◌==◌, ◌||◌, nat_le, nat_lt}
 use Rattle.std.specs.List.{range_with_len}
 use Rattle.std.proofs.lemmas.List.Elements.{All-filter}
 use Rattle.std.proofs.lemmas.List.FromFn.{length-range_with_len, get_or-range_with_len, get_or-map-range_with_len}
@@ -11,7 +11,7 @@ use Rattle.dr_core.specs.declared.command.Command.TheVariants.{Claim, Complete, 
 use Rattle.dr_core.specs.declared.command.Reply.{Reply}
 use Rattle.dr_core.specs.declared.command.Reply.TheVariants.{Claimed, Completed, Halting, Refused}
 use Rattle.dr_core.specs.declared.refusal.Refusal.{Refusal}
-use Rattle.dr_core.specs.declared.refusal.Refusal.TheVariants.{NoRoom}
+use Rattle.dr_core.specs.declared.refusal.Refusal.TheVariants.{BadCount, NoRoom}
 use Rattle.dr_seq.specs.declared.event.Event.{Event}
 use Rattle.dr_graph.specs.Graph.{is_final, finals, IsGated, least_of}
 use Rattle.dr_core.specs.Machine.{State, Outcome, handlers, producers, next, front, refusals, accepted, unless, unchanged}
@@ -187,6 +187,10 @@ recent_whole v recent whole = record {
 -- every final is a handler
 pub finals_within : (upstreams : List (List ℕ)) → All (λ h. h < length upstreams) (finals upstreams)
 finals_within upstreams = All-filter (is_final upstreams) (λ h. h < length upstreams) (range_with_len 0 (length upstreams)) (λ k d l. (let n : length (range_with_len 0 (length upstreams)) ≡ length upstreams = length-range_with_len 0 (length upstreams) in let inside : k < length upstreams = omega arith in rw get_or-range_with_len (omega arith)))
+
+-- a claim of none, or of more than the size
+pub claim_bad_count : (v : CoreView) (p n : ℕ) → p < producers v.setup.mode → (n == 0 || nat_lt v.setup.size n) ≡ true → IsStep v (Claim p n) (Refused BadCount) [] v
+claim_bad_count v p n producer bad = refused_step v (Claim p n) BadCount (λ m sh. inr (lt-leb _ _ producer, inl (bad, refl)))
 
 -- a claim that does not fit beside what the finals have not completed
 pub claim_no_room : (v : CoreView) (p n : ℕ) → p < producers v.setup.mode → n ≢ 0 → n ≤ v.setup.size → v.halted ≡ false → v.next + n ≤ v.setup.limit

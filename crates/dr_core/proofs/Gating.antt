@@ -1,12 +1,14 @@
 -- The remembered least count of the finals.
-use Rattle.std.proofs.Common.{◌≡◌, ℕ, suc, ◌+◌, ◌<◌, ◌≤◌, ◌^◌, List, [], ◌∷◌, arith, refl, length, map, slice_index}
-use Rattle.std.specs.Prelude.{Contains}
+use Rattle.std.proofs.Common.{◌≡◌, ℕ, suc, ◌+◌, ◌<◌, ◌≤◌, ◌^◌, List, [], ◌∷◌, arith, refl, length, map, slice_index, slice_set}
+use Rattle.std.specs.Prelude.{Contains, ◌==◌}
+use Rattle.std.proofs.lemmas.Bool.{cond_both, eqb-true}
 use Rattle.dr_seq.proofs.Sizes.{size_at_most}
 use Rattle.dr_graph.specs.Graph.{finals, least_of, IsGated}
 use Rattle.dr_core.specs.CoreView.{CoreView}
 use Rattle.dr_core.specs.Inside.{IsWhole}
 use Rattle.dr_core.proofs.CoreSteps.{finals_least}
 use Rattle.dr_core.proofs.Leasts.{least_of-member}
+use Rattle.dr_core.proofs.Sound.{set_count}
 
 -- where no count of some handlers is below a number, their least is not
 least_of-above : (counts : ℕ → ℕ) (k h : ℕ) (hs : List ℕ) → ((f : ℕ) → Contains (h ∷ hs) f → k ≤ counts f) → k ≤ least_of (map counts (h ∷ hs))
@@ -45,3 +47,10 @@ module _ (v : CoreView) (whole : IsWhole v) where
       let limit : v.setup.limit ≤ 2 ^ 62 = whole.limit in
       let bound : v.setup.size ≤ 65536 = size_at_most v.setup.size whole.size in
       omega arith
+
+-- a completion lowers no count, so what is remembered stays
+pub gate_stays : (gate h upto : ℕ) (completed : List ℕ) → h < length completed → slice_index completed h ≤ upto → (f : ℕ) → gate ≤ slice_index completed f → gate ≤ slice_index (slice_set completed h upto) f
+gate_stays gate h upto completed inside up f low =
+    rw (set_count completed h upto f inside) (cond_both (f == h) upto (slice_index completed f) (λ n. gate ≤ n)
+    (λ y. (let same : f ≡ h = eqb-true f h y in let there : gate ≤ slice_index completed h = (rw same at low) in omega arith))
+    (λ n. low))
