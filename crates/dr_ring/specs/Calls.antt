@@ -1,5 +1,5 @@
 -- What the ends are to their callers, and what each call answers and leaves of what its end knows.
-use Rattle.std.specs.Prelude.{◌≡◌, ◌↔◌, ℕ, ◌+◌, ◌-◌, ◌<◌, ◌≤◌, ◌⊎◌, ◌==◌, ◌&&◌, ◌||◌, IsTrue, true, min, List, [], ◌∷◌, ◌++◌, length, take, drop, replicate, slice_index_or, Some, None, Result, Ok, Err, Contains}
+use Rattle.std.specs.Prelude.{◌≡◌, ◌↔◌, ℕ, ◌+◌, ◌-◌, ◌<◌, ◌≤◌, ◌⊎◌, ◌==◌, ◌&&◌, ◌||◌, IsTrue, true, false, min, List, [], ◌∷◌, ◌++◌, length, take, drop, replicate, slice_index_or, Some, None, Result, Ok, Err, Contains}
 use Rattle.atomic_table.specs.Seated.{TableId}
 use Rattle.dr_seq.specs.declared.event.Event.{Event}
 use Rattle.dr_core.specs.declared.refusal.Refusal.{Refusal}
@@ -119,11 +119,11 @@ offered_by cursor (n ∷ counts) = least_of (n ∷ counts)
 abbrev pub received_all : ReceiverRecord → List Event → ReceiverRecord
 received_all r events = record r { received = r.received ++ events }
 
--- what a poll answers, where it saw this
+-- what a poll answers, where it saw this; who was told that the ring drained gets no batch any more
 abbrev pub Answers : ReceiverRecord → List Event → ReceiverRecord → List Event → ℕ → ℕ → List ℕ → Polled → Type 0
 Answers r out r' out' closed cursor counts (Batch first count last) =
     (first ≡ length r.received) × (first < offered_by cursor counts) × (count ≡ min (offered_by cursor counts - first) (length out)) × (IsTrue last ↔ (first + count ≡ offered_by cursor counts))
-    × (r' ≡ received_all (looked_round r closed cursor counts) (take count out')) × (drop count out' ≡ drop count out)
+    × (r' ≡ received_all (looked_round r closed cursor counts) (take count out')) × (r'.told ≡ false) × (drop count out' ≡ drop count out)
 Answers r out r' out' closed cursor counts Drained =
     (closed ≡ 1) × (cursor ≡ length r.received) × (r' ≡ looked_round r closed cursor counts) × (r'.told ≡ true) × (out' ≡ out)
 Answers r out r' out' closed cursor counts Gating =
