@@ -10,7 +10,7 @@ use crate::laws::{RingSeat, sender as laws};
 use crate::parts;
 use crate::settled::HandlerCounts;
 use dr_core::{Claimed, Inlet, Refusal, Trouble};
-use dr_seq::Event;
+use dr_seq::{Event, GateCache};
 use std::alloc::Global;
 use std::marker::Model;
 use std::sync::Arc;
@@ -23,7 +23,7 @@ pub struct Sender {
     pub(crate) claimed: u64,
     pub(crate) published: u64,
     // What each final handler was seen to have completed at least.
-    pub(crate) least: u64,
+    pub(crate) gate: GateCache,
     pub(crate) looks: u64,
     // One more than the sequence that was last written to a slot, so that a claim clears nothing.
     pub(crate) marks: Vec<u64>,
@@ -42,7 +42,7 @@ impl Model for Sender {
 
     ghost view = { λ s. record { ring = s.seat.table_id; knows = sender_of s.seat.me.0 } };
 
-    ghost invariant = { λ s. SenderFits (arc_value s.ring).table.shared.table_id s.seat.table_id s.seat.me (arc_value s.ring).plan s.claimed s.published s.least s.looks s.marks.items (length s.counts.items) };
+    ghost invariant = { λ s. SenderFits (arc_value s.ring).table.shared.table_id s.seat.table_id s.seat.me (arc_value s.ring).plan s.claimed s.published s.gate s.looks s.marks.items (length s.counts.items) };
 }
 
 impl Sender {
@@ -77,13 +77,13 @@ impl Sender {
             &mut self.seat,
             plan,
             self.published,
-            self.least,
+            self.gate.seen(),
             need,
             &mut self.looks,
         ) else {
             return Err(Refusal::NoRoom);
         };
-        self.least = least;
+        self.gate.raise(least);
         self.looks = self.looks.saturating_add(1);
         if laws::look_at_halt(words, &mut self.seat, plan, n) != 0 {
             return Err(Refusal::Halted);

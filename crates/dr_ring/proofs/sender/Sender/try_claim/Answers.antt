@@ -1,4 +1,5 @@
 use Rattle.std.proofs.Common.{◌≡◌, ℕ, arith, refl, ap, sym, subst, ◌∙◌}
+use Rattle.std.specs.Arc.{arc_value}
 use Rattle.dr_ring.specs.Ends.{halt_looked}
 use Rattle.dr_ring.specs.Seats.{as_sender, sender_of}
 use Rattle.dr_ring.specs.Calls.{SenderEnd}
@@ -21,7 +22,8 @@ pub make_room-requires-clause-remembered : goal.make_room-requires-clause-rememb
 make_room-requires-clause-remembered c =
     let fits = fits_saw _ _ _ _ _ _ _ _ _ _ _ _ _ _ c.self.invariant c.look_at_halt.ensures.seat.0
     (saw_halt _ 0 c.look_at_halt.result c.self.inside.seat.me _ _ _ refl c.self.invariant.looks c.look_at_halt.ensures.end (λ z. refl) c.saturating_add-self-inside.ensures) in
-    (fits.least, subst (λ r. IsSeenLeast r.plan (sender_of c.look_at_halt.new.seat.me.0) c.self.inside.least) (sym c.deref-2.ensures) fits.seen)
+    let seen = c.seen.ensures in let least = fits.least in
+    (omega arith, subst (λ r. IsSeenLeast r.plan (sender_of c.look_at_halt.new.seat.me.0) c.seen.result) (sym c.deref-2.ensures) (λ f has. (let low = fits.seen f has in omega arith)))
 
 pub invariant_of-self-in_default : goal.invariant_of-self-in_default
 invariant_of-self-in_default c =
@@ -34,7 +36,8 @@ invariant_of-self-then-look_at_halt-ne0-2 c =
     let first = fits_saw _ _ _ _ _ _ _ _ _ _ _ _ _ _ c.self.invariant c.look_at_halt.ensures.seat.0
     (saw_halt _ 0 c.look_at_halt.result c.self.inside.seat.me _ _ _ refl c.self.invariant.looks c.look_at_halt.ensures.end (λ z. refl) c.saturating_add-self-inside.ensures) in
     let second = fits_saw _ _ _ _ _ _ _ _ _ _ _ _ _ _ first c.in-Some.ensures.seat.0 c.in-Some.ensures.answer.1 in
-    let enough = subst (λ r. IsEnough r.plan (sender_of c.look_at_halt.new.seat.me.0) c.in-Some.ensures.answer.0 c.saturating_sub-need.result c.in-Some.least) c.deref-2.ensures c.in-Some.ensures.answer.2 in
+    let found = subst (λ r. IsEnough r.plan (sender_of c.look_at_halt.new.seat.me.0) c.in-Some.ensures.answer.0 c.saturating_sub-need.result c.in-Some.least) c.deref-2.ensures c.in-Some.ensures.answer.2 in
+    let enough = subst (λ n. IsEnough (arc_value c.self.inside.ring).plan (sender_of c.look_at_halt.new.seat.me.0) c.in-Some.ensures.answer.0 c.saturating_sub-need.result n) (sym c.raise.ensures) found in
     let third = fits_least _ _ _ _ _ _ _ _ _ _ _ _ _ _ _ second c.in-Some.ensures.answer.1 enough in
     fits_saw _ _ _ _ _ _ _ _ _ _ _ _ _ _ third c.look_at_halt-2.ensures.seat.0
     (saw_halt _ c.args.n c.look_at_halt-2.result c.make_room.new.seat.me _ _ _ refl third.looks c.look_at_halt-2.ensures.end (λ z. absurd (c.if-look_at_halt-ne0-2.true z)) c.saturating_add-self-inside-2.ensures)
@@ -51,7 +54,8 @@ invariant_of-self-2 c =
     let first = fits_saw _ _ _ _ _ _ _ _ _ _ _ _ _ _ c.self.invariant c.look_at_halt.ensures.seat.0
     (saw_halt _ 0 c.look_at_halt.result c.self.inside.seat.me _ _ _ refl c.self.invariant.looks c.look_at_halt.ensures.end (λ z. refl) c.saturating_add-self-inside.ensures) in
     let second = fits_saw _ _ _ _ _ _ _ _ _ _ _ _ _ _ first c.in-Some.ensures.seat.0 c.in-Some.ensures.answer.1 in
-    let enough = subst (λ r. IsEnough r.plan (sender_of c.look_at_halt.new.seat.me.0) c.in-Some.ensures.answer.0 c.saturating_sub-need.result c.in-Some.least) c.deref-2.ensures c.in-Some.ensures.answer.2 in
+    let found = subst (λ r. IsEnough r.plan (sender_of c.look_at_halt.new.seat.me.0) c.in-Some.ensures.answer.0 c.saturating_sub-need.result c.in-Some.least) c.deref-2.ensures c.in-Some.ensures.answer.2 in
+    let enough = subst (λ n. IsEnough (arc_value c.self.inside.ring).plan (sender_of c.look_at_halt.new.seat.me.0) c.in-Some.ensures.answer.0 c.saturating_sub-need.result n) (sym c.raise.ensures) found in
     let third = fits_least _ _ _ _ _ _ _ _ _ _ _ _ _ _ _ second c.in-Some.ensures.answer.1 enough in
     let none_found : c.look_at_halt-2.result ≡ 0 = (let found = c.if-look_at_halt-ne0-2.false in omega arith) in
     let size = c.size.ensures ∙ ap (λ r. r.plan.size) c.deref-2.ensures in let limit = c.limit.ensures ∙ ap (λ r. r.plan.limit) c.deref-2.ensures in let value = c.get-size.ensures.value in let fits_limit = c.if-n-limit.false in let need = c.saturating_sub-need.ensures in let within = c.self.invariant.limit in
