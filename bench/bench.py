@@ -6,17 +6,18 @@
     bench/bench.py replay             a million events of all kinds at sizes 1, 1024 and 65,536
 
 `--program PATH` names another program than ./disruptor, and `--runs N` another number of runs than
-five. Both programs run in turns, so that other work on the machine slows both. Seconds are the
-median of the runs, and memory is the greatest peak. Before it is timed, a row's output is compared.
+five. Both programs run in turns. Seconds are processor time, of user and system, since other work on
+the machine then counts for little: the median of the runs. Memory is the greatest peak. Before it is
+timed, a row's output is compared.
 """
 
 import argparse
 import os
+import resource
 import statistics
 import subprocess
 import sys
 import tempfile
-import time
 
 TOP = os.path.dirname(os.path.dirname(os.path.abspath(__file__)))
 PLAIN = os.path.join(TOP, "bench", "plain", "plain.rs")
@@ -61,13 +62,19 @@ def build_plain(folder):
     return program
 
 
+def processor_seconds():
+    """What all children took so far."""
+    usage = resource.getrusage(resource.RUSAGE_CHILDREN)
+    return usage.ru_utime + usage.ru_stime
+
+
 def run_once(words, note):
     """Seconds and peak kilobytes of one run, its output thrown away."""
     # A child of this script begins with the script's own peak, so that `time` starts the program.
     timed = ["/usr/bin/time", "-f", "%M", "-o", note] + words
-    begun = time.monotonic()
+    begun = processor_seconds()
     status = subprocess.run(timed, stdout=subprocess.DEVNULL).returncode
-    seconds = time.monotonic() - begun
+    seconds = processor_seconds() - begun
     if status != 0:
         sys.exit(f"{' '.join(words)} ended with {status}")
     with open(note) as file:

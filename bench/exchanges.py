@@ -5,9 +5,10 @@
     bench/exchanges.py instructions    instructions an event on one thread, by callgrind
 
 `--program PATH` names a program; given twice, the two are measured in turns, as before and after a
-change. `--seconds S` and `--rounds N` are those of `disruptor_bench`, and `--only WORD` leaves only
-topologies whose names begin with it. The program is built by `rt run -- --list` in its crate's
-folder, which leaves it where this script looks for it.
+change. `--seconds S` and `--rounds N` are those of `disruptor_bench`: without them 201 rounds of one
+stretch, each so short that most of them run undisturbed by other work on the machine. `--only WORD`
+leaves only topologies whose names begin with it. The program is built by `rt run -- --list` in its
+crate's folder, which leaves it where this script looks for it.
 """
 
 import argparse
@@ -36,9 +37,15 @@ def rate(program, topology, size, given):
     return int(line.split()[-1])
 
 
-def table(given):
-    heads = [f"{size} ({k + 1})" if len(given.program) > 1 else str(size) for size in SIZES for k in range(len(given.program))]
+def print_head(programs):
+    """A column a size, or one a size and program, by the program's place on the command line."""
+    marks = [""] if len(programs) == 1 else [f" ({k + 1})" for k in range(len(programs))]
+    heads = [f"{size}{mark}" for size in SIZES for mark in marks]
     print(f"| topology | {' | '.join(heads)} |\n|{'---|' * (len(heads) + 1)}", flush=True)
+
+
+def table(given):
+    print_head(given.program)
     for topology in topologies(given.program[0], given.only):
         rates = [rate(program, topology, size, given) for size in SIZES for program in given.program]
         print(f"| {topology} | {' | '.join(f'{r:,}' for r in rates)} |", flush=True)
@@ -58,8 +65,7 @@ def counted(program, topology, size, rounds, folder):
 
 def instructions(given):
     """The difference of two lengths, so that opening the exchange counts for nothing."""
-    heads = [f"{size} ({k + 1})" if len(given.program) > 1 else str(size) for size in SIZES for k in range(len(given.program))]
-    print(f"| topology | {' | '.join(heads)} |\n|{'---|' * (len(heads) + 1)}", flush=True)
+    print_head(given.program)
     with tempfile.TemporaryDirectory() as folder:
         for topology in topologies(given.program[0], given.only):
             print(f"| {topology} |", end="", flush=True)
@@ -74,8 +80,8 @@ def main():
     parser = argparse.ArgumentParser(description=__doc__, formatter_class=argparse.RawTextHelpFormatter)
     parser.add_argument("what", choices=["table", "instructions"])
     parser.add_argument("--program", action="append")
-    parser.add_argument("--seconds", type=float, default=0.5)
-    parser.add_argument("--rounds", type=int, default=5)
+    parser.add_argument("--seconds", type=float, default=0.0)
+    parser.add_argument("--rounds", type=int, default=201)
     parser.add_argument("--only")
     given = parser.parse_args()
     given.program = given.program or [PROGRAM]
