@@ -1,22 +1,27 @@
 #!/usr/bin/env python3
-"""Times the program on files that it makes: commands or events a second, and peak memory.
+"""Times the program beside the same tools in plain Rust (bench/plain/plain.rs), on files that it makes.
 
-    bench/bench.py drive  [PROGRAM]     10 thousand and a million commands at sizes 64 and 65,536
-    bench/bench.py replay [PROGRAM]     a million events at sizes 1, 1024 and 65,536
-    bench/bench.py plain TOOL [PROGRAM] a million records beside the same tool in plain Rust, unverified
-                                        (bench/plain/plain.rs, which rustc -O builds)
+    bench/bench.py                    all rows
+    bench/bench.py drive              10 thousand and a million commands at sizes 64 and 65,536
+    bench/bench.py replay             a million events of all kinds at sizes 1, 1024 and 65,536
 
-PROGRAM is ./disruptor where it is left out. Each line is the median of five runs.
+`--program PATH` names another program than ./disruptor, and `--runs N` another number of runs than
+five. Both programs run in turns. Seconds are processor time, of user and system, since other work on
+the machine then counts for little: the median of the runs. Memory is the greatest peak. Before it is
+timed, a row's output is compared.
 """
 
+import argparse
 import os
+import resource
 import statistics
 import subprocess
 import sys
 import tempfile
-import time
 
-RUNS = 5
+TOP = os.path.dirname(os.path.dirname(os.path.abspath(__file__)))
+PLAIN = os.path.join(TOP, "bench", "plain", "plain.rs")
+HEAD = "| tool | size | records | seconds | records a second | peak MiB | plain seconds | plain records a second | plain peak MiB | times the time | times the memory |"
 
 
 def commands(size, count):
@@ -33,7 +38,7 @@ def commands(size, count):
 
 
 def events(count):
-    """Deposits, withdrawals and transfers over a thousand accounts."""
+    """Deposits, withdrawals and transfers over a thousand accounts, some of them refused."""
     for k in range(count):
         account, other, amount = k % 1000, (7 * k) % 1000, 1 + k % 97
         if k % 3 == 0:
@@ -44,30 +49,6 @@ def events(count):
             yield f"{k % 16},transfer,{account},{other},{amount}\n"
 
 
-def run_once(words):
-    """Seconds and peak kilobytes of one run, its output thrown away."""
-    with open(os.devnull, "wb") as nowhere:
-        begun = time.monotonic()
-        process = subprocess.Popen(words, stdout=nowhere)
-        _, status, usage = os.wait4(process.pid, 0)
-        seconds = time.monotonic() - begun
-    if status != 0:
-        sys.exit(f"{' '.join(words)} ended with {os.waitstatus_to_exitcode(status)}")
-    return seconds, usage.ru_maxrss
-
-
-def measure(words):
-    """The median of the seconds and the greatest peak of some runs."""
-    runs = [run_once(words) for _ in range(RUNS)]
-    return statistics.median(run[0] for run in runs), max(run[1] for run in runs)
-
-
-def report(name, count, words):
-    seconds, peak = measure(words)
-    print(f"{name:28} {count:9} {seconds:8.3f} s {count / seconds:12.0f} a second {peak / 1024:8.1f} MiB", flush=True)
-    return seconds, peak
-
-
 def write_file(folder, name, lines):
     path = os.path.join(folder, name)
     with open(path, "w") as file:
@@ -76,38 +57,84 @@ def write_file(folder, name, lines):
 
 
 def build_plain(folder):
-    source = os.path.join(os.path.dirname(os.path.abspath(__file__)), "plain", "plain.rs")
     program = os.path.join(folder, "plain")
-    subprocess.run(["rustc", "--edition", "2021", "-O", "-o", program, source], check=True)
+    subprocess.run(["rustc", "--edition", "2021", "-O", "-o", program, PLAIN], check=True)
     return program
 
 
-def beside_plain(folder, tool, program):
-    count = 1_000_000
-    lines = commands(1024, count) if tool == "drive" else events(count)
-    path = write_file(folder, "records.csv", lines)
-    ours = report(f"{tool}, verified", count, [program, tool, path])
-    plain = report(f"{tool}, plain", count, [build_plain(folder), tool, path])
-    print(f"{tool}: {ours[0] / plain[0]:.2f} times the time, {ours[1] / plain[1]:.2f} times the memory")
+def processor_seconds():
+    """What all children took so far."""
+    usage = resource.getrusage(resource.RUSAGE_CHILDREN)
+    return usage.ru_utime + usage.ru_stime
+
+
+def run_once(words, note):
+    """Seconds and peak kilobytes of one run, its output thrown away."""
+    # A child of this script begins with the script's own peak, so that `time` starts the program.
+    timed = ["/usr/bin/time", "-f", "%M", "-o", note] + words
+    begun = processor_seconds()
+    status = subprocess.run(timed, stdout=subprocess.DEVNULL).returncode
+    seconds = processor_seconds() - begun
+    if status != 0:
+        sys.exit(f"{' '.join(words)} ended with {status}")
+    with open(note) as file:
+        return seconds, int(file.read().split()[-1])
+
+
+def measure(programs, runs, note):
+    """For each program the median of its seconds and its greatest peak; they run in turns."""
+    taken = [[] for _ in programs]
+    for _ in range(runs):
+        for one, words in zip(taken, programs):
+            one.append(run_once(words, note))
+    return [(statistics.median(s for s, _ in one), max(peak for _, peak in one)) for one in taken]
+
+
+def check_equal(programs):
+    outputs = [subprocess.run(words, stdout=subprocess.PIPE, check=True).stdout for words in programs]
+    if outputs[0] != outputs[1]:
+        sys.exit(f"{' '.join(programs[0])} and {' '.join(programs[1])} differ")
+
+
+def row(name, size, count, programs, runs, note):
+    check_equal(programs)
+    (seconds, peak), (plain_seconds, plain_peak) = measure(programs, runs, note)
+    print(
+        f"| {name} | {size} | {count} | {seconds:.3f} | {count / seconds:.0f} | {peak / 1024:.1f}"
+        f" | {plain_seconds:.3f} | {count / plain_seconds:.0f} | {plain_peak / 1024:.1f}"
+        f" | {seconds / plain_seconds:.2f} | {peak / plain_peak:.2f} |",
+        flush=True,
+    )
+
+
+def drive_rows(folder, program, plain, runs):
+    for size in (64, 65536):
+        for count in (10_000, 1_000_000):
+            path = write_file(folder, "commands.csv", commands(size, count))
+            programs = [[program, "drive", path], [plain, "drive", path]]
+            row("drive", size, count, programs, runs, os.path.join(folder, "peak"))
+
+
+def replay_rows(folder, program, plain, runs):
+    path = write_file(folder, "events.csv", events(1_000_000))
+    for size in (1, 1024, 65536):
+        programs = [[program, "replay", "--size", str(size), path], [plain, "replay", path]]
+        row("replay", size, 1_000_000, programs, runs, os.path.join(folder, "peak"))
 
 
 def main():
-    words = sys.argv[1:]
-    tool = words.pop(0) if words else "drive"
+    parser = argparse.ArgumentParser(description=__doc__, formatter_class=argparse.RawTextHelpFormatter)
+    parser.add_argument("tool", nargs="?", choices=["drive", "replay"])
+    parser.add_argument("--program", default="./disruptor")
+    parser.add_argument("--runs", type=int, default=5)
+    given = parser.parse_args()
+    print(f"{HEAD}\n|{'---|' * (HEAD.count('|') - 1)}", flush=True)
     with tempfile.TemporaryDirectory() as folder:
-        if tool == "plain":
-            beside_plain(folder, words.pop(0), words[0] if words else "./disruptor")
-            return
-        program = words[0] if words else "./disruptor"
-        if tool == "drive":
-            for size in (64, 65536):
-                for count in (10_000, 1_000_000):
-                    path = write_file(folder, "commands.csv", commands(size, count))
-                    report(f"drive size {size}", count, [program, "drive", path])
-        else:
-            path = write_file(folder, "events.csv", events(1_000_000))
-            for size in (1, 1024, 65536):
-                report(f"replay size {size}", 1_000_000, [program, "replay", "--size", str(size), path])
+        plain = build_plain(folder)
+        if given.tool != "replay":
+            drive_rows(folder, given.program, plain, given.runs)
+        if given.tool != "drive":
+            replay_rows(folder, given.program, plain, given.runs)
 
 
 if __name__ == "__main__":

@@ -1,0 +1,96 @@
+#!/usr/bin/env python3
+"""Tables of `disruptor_bench`, which measures the exchanges.
+
+    bench/exchanges.py table           events a second of each topology at sizes 64, 1024 and 65,536
+    bench/exchanges.py instructions    instructions an event on one thread, by callgrind
+
+`--program PATH` names a program; given twice, the two are measured in turns, as before and after a
+change. `--seconds S` and `--rounds N` are those of `disruptor_bench`: without them 201 rounds of one
+stretch, each so short that most of them run undisturbed by other work on the machine. `--only WORD`
+leaves only topologies whose names begin with it. The program is built by `rt run -- --list` in its
+crate's folder, which leaves it where this script looks for it.
+"""
+
+import argparse
+import os
+import re
+import subprocess
+import tempfile
+
+TOP = os.path.dirname(os.path.dirname(os.path.abspath(__file__)))
+PROGRAM = os.path.join(TOP, "crates", "disruptor_bench", "out", "disruptor_bench")
+SIZES = (64, 1024, 65536)
+MORE_ROUNDS = 4
+
+
+def run(words):
+    return subprocess.run(words, stdout=subprocess.PIPE, check=True, text=True).stdout
+
+
+def topologies(program, prefix):
+    return [name for name in run([program, "--list"]).split() if name.startswith(prefix)]
+
+
+def rate(program, topology, size, given):
+    """Events a second of the round in the middle."""
+    line = run([program, topology, str(size), str(given.seconds), str(given.rounds)])
+    return int(line.split()[-1])
+
+
+def print_head(programs):
+    """A column a size, or one a size and program, by the program's place on the command line."""
+    marks = [""] if len(programs) == 1 else [f" ({k + 1})" for k in range(len(programs))]
+    heads = [f"{size}{mark}" for size in SIZES for mark in marks]
+    print(f"| topology | {' | '.join(heads)} |\n|{'---|' * (len(heads) + 1)}", flush=True)
+
+
+def table(given):
+    print_head(given.program)
+    for topology in topologies(given.program[0], given.only):
+        rates = [rate(program, topology, size, given) for size in SIZES for program in given.program]
+        print(f"| {topology} | {' | '.join(f'{r:,}' for r in rates)} |", flush=True)
+
+
+def counted(program, topology, size, rounds, folder):
+    """Events and instructions of so many rounds, each of one stretch of events."""
+    note = os.path.join(folder, "callgrind.out")
+    line = run(
+        ["valgrind", "--quiet", "--tool=callgrind", f"--callgrind-out-file={note}"]
+        + [program, topology, str(size), "0", str(rounds)]
+    )
+    with open(note) as file:
+        total = re.search(r"^(?:summary|totals): (\d+)", file.read(), re.MULTILINE)
+    return int(line.split()[3]) * rounds, int(total.group(1))
+
+
+def instructions(given):
+    """The difference of two lengths, so that opening the exchange counts for nothing."""
+    print_head(given.program)
+    with tempfile.TemporaryDirectory() as folder:
+        for topology in topologies(given.program[0], given.only):
+            print(f"| {topology} |", end="", flush=True)
+            for size, program in ((size, program) for size in SIZES for program in given.program):
+                few = counted(program, topology, size, 1, folder)
+                more = counted(program, topology, size, 1 + MORE_ROUNDS, folder)
+                print(f" {(more[1] - few[1]) / (more[0] - few[0]):.1f} |", end="", flush=True)
+            print(flush=True)
+
+
+def main():
+    parser = argparse.ArgumentParser(description=__doc__, formatter_class=argparse.RawTextHelpFormatter)
+    parser.add_argument("what", choices=["table", "instructions"])
+    parser.add_argument("--program", action="append")
+    parser.add_argument("--seconds", type=float, default=0.0)
+    parser.add_argument("--rounds", type=int, default=201)
+    parser.add_argument("--only")
+    given = parser.parse_args()
+    given.program = given.program or [PROGRAM]
+    given.only = given.only or ("" if given.what == "table" else "core-")
+    if given.what == "table":
+        table(given)
+    else:
+        instructions(given)
+
+
+if __name__ == "__main__":
+    main()

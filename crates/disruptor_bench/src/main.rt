@@ -1,0 +1,118 @@
+//! Measures the exchanges: events a second through a core on one thread, and through a ring with a
+//! thread for each end.
+//!
+//! `disruptor_bench TOPOLOGY SIZE SECONDS ROUNDS` runs a topology over a ring of SIZE slots for about
+//! SECONDS in each of ROUNDS rounds, and prints the round in the middle:
+//! `ours-EXCHANGE TOPOLOGY SIZE EVENTS SECONDS EVENTS_PER_SECOND`. `--list` prints the topologies.
+#![tactic(auto)]
+
+mod arguments;
+mod fault;
+mod measured;
+mod one_thread;
+mod spin;
+mod sum;
+#[cfg(test)]
+mod tests;
+mod threads;
+mod topology;
+
+use arguments::{Order, Request, read_request};
+use fault::Fault;
+use measured::{Measured, Round, median};
+use one_thread::OneThread;
+use std::alloc::Global;
+use std::env;
+use std::process::ExitCode;
+use std::rt::Runtime;
+use std::thread::Threads;
+use topology::{Exchange, Shape, Topology};
+
+/// How many events go through between two looks at the clock, about.
+const STRETCH: u64 = 65536;
+
+/// More turns than any loop that waits for another thread or for the clock takes.
+const MOST_TURNS: u64 = u64::MAX;
+
+fn print_shape(rt: &impl Runtime, exchange: Exchange, shape: Shape) -> Result<(), Fault> {
+    for pace in exchange.paces() {
+        println!(rt;
+            "{}",
+            Topology {
+                exchange,
+                shape,
+                pace
+            }
+        )?;
+    }
+    Ok(())
+}
+
+fn print_exchange(rt: &impl Runtime, exchange: Exchange) -> Result<(), Fault> {
+    for shape in Shape::ALL {
+        print_shape(rt, exchange, shape)?;
+    }
+    Ok(())
+}
+
+fn print_list(rt: &impl Runtime) -> Result<(), Fault> {
+    for exchange in Exchange::ALL {
+        print_exchange(rt, exchange)?;
+    }
+    Ok(())
+}
+
+fn core_rounds(rt: &impl Runtime, alloc: Global, order: &Order) -> Result<Vec<Round>, Fault> {
+    let mut rounds = Vec::new(alloc);
+    let mut all = OneThread::open(alloc, order)?;
+    for _ in 0..order.rounds {
+        rounds.push(all.round(rt)?)?;
+    }
+    all.check()?;
+    Ok(rounds)
+}
+
+fn ring_rounds(
+    rt: &(impl Runtime + Threads),
+    alloc: Global,
+    order: &Order,
+) -> Result<Vec<Round>, Fault> {
+    let mut rounds = Vec::new(alloc);
+    for _ in 0..order.rounds {
+        rounds.push(threads::round(rt, alloc, order)?)?;
+    }
+    Ok(rounds)
+}
+
+fn measure(rt: &(impl Runtime + Threads), alloc: Global, order: Order) -> Result<Measured, Fault> {
+    let mut rounds = match order.topology.exchange {
+        Exchange::Core => core_rounds(rt, alloc, &order)?,
+        Exchange::Ring => ring_rounds(rt, alloc, &order)?,
+    };
+    let median = median(&mut rounds).ok_or(Fault::Usage)?;
+    Ok(Measured { order, median })
+}
+
+fn run(rt: &(impl Runtime + Alloc<A = Global> + Threads)) -> Result<(), Fault> {
+    let alloc = rt.alloc();
+    let words: Vec<String> = env::args(rt)?.skip(1).collect(alloc)?;
+    match read_request(&words) {
+        Some(Request::List) => print_list(rt),
+        Some(Request::Measure(order)) => {
+            let measured = measure(rt, alloc, order)?;
+            Ok(rt.println(measured)?)
+        }
+        None => Err(Fault::Usage),
+    }
+}
+
+fn main(rt: HostRuntime) -> ExitCode {
+    match run(&rt) {
+        Ok(()) => ExitCode::SUCCESS,
+        Err(fault) => {
+            // Where even this cannot be written, the status tells it.
+            let _printed = rt.eprintln(&fault);
+            ExitCode::from(fault.status())
+        }
+    }
+}

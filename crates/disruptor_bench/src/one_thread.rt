@@ -1,0 +1,127 @@
+//! The core's rounds: producer and handlers take turns on one thread.
+
+use crate::arguments::Order;
+use crate::fault::Fault;
+use crate::measured::Round;
+use crate::sum::{Sum, event_at, sum_of_first};
+use crate::topology::Pace;
+use crate::{MOST_TURNS, STRETCH};
+use dr_core::{Core, MAX_LIMIT, Mode, Refusal, processor_turn};
+use dr_seq::{Event, Size};
+use std::alloc::Global;
+use std::rt::Clock;
+use std::time::{Duration, Instant};
+
+/// How events go through: so many claims, and then a turn for each handler.
+#[derive(Clone, Copy, Debug, PartialEq, Eq)]
+struct Lap {
+    claims: u64,
+    claim: u64,
+}
+
+impl Lap {
+    fn of(order: &Order) -> Lap {
+        let claim = order.claim();
+        let claims = match order.topology.pace {
+            Pace::Step => 1,
+            _ => order.size.get().checked_div(claim).unwrap_or(1),
+        };
+        Lap { claims, claim }
+    }
+
+    /// How many laps there are between two looks at the clock.
+    fn in_stretch(self) -> u64 {
+        let events = self.claims.saturating_mul(self.claim);
+        STRETCH.checked_div(events).unwrap_or(1)
+    }
+}
+
+/// A core with its handlers, and the room that their turns take events to.
+#[derive(Drop)]
+pub struct OneThread {
+    core: Core,
+    sums: Vec<Sum>,
+    room: Vec<Event>,
+    lap: Lap,
+    time: Duration,
+}
+
+impl OneThread {
+    pub fn open(alloc: Global, order: &Order) -> Result<OneThread, Fault> {
+        let graph = order.topology.shape.graph(alloc)?;
+        let handlers = graph.len();
+        let core = Core::open(alloc, graph, order.size, Mode::Single, MAX_LIMIT)?;
+        let sums = vec![in alloc; Sum { total: 0 }; handlers]?;
+        let room = vec![in alloc; Event::NONE; slots(order.size)]?;
+        Ok(OneThread {
+            core,
+            sums,
+            room,
+            lap: Lap::of(order),
+            time: order.time,
+        })
+    }
+
+    /// Claims, writes and publishes once.
+    #[inline]
+    fn send(&mut self) -> Result<(), Refusal> {
+        let claimed = self.core.claim(0, self.lap.claim)?;
+        for k in 0..self.lap.claim {
+            let s = claimed.lo.wrapping_add(k);
+            self.core.write(0, s, event_at(s))?;
+        }
+        self.core.publish(0, claimed.lo, claimed.hi)
+    }
+
+    fn send_all(&mut self) -> Result<(), Refusal> {
+        for _ in 0..self.lap.claims {
+            self.send()?;
+        }
+        Ok(())
+    }
+
+    /// Each handler takes all that it is offered.
+    fn take_all(&mut self) -> Result<(), Refusal> {
+        for (h, sum) in self.sums.iter_mut().enumerate() {
+            processor_turn(&mut self.core, h, sum, &mut self.room)?;
+        }
+        Ok(())
+    }
+
+    fn stretch(&mut self) -> Result<(), Refusal> {
+        for _ in 0..self.lap.in_stretch() {
+            self.send_all()?;
+            self.take_all()?;
+        }
+        Ok(())
+    }
+
+    /// Runs for about the round's time, a stretch of events at least.
+    pub fn round(&mut self, clock: &impl Clock) -> Result<Round, Fault> {
+        let before = self.core.next();
+        let begun = Instant::now(clock)?;
+        for _ in 0..MOST_TURNS {
+            self.stretch()?;
+            let time = begun.elapsed(clock)?;
+            if time >= self.time {
+                let events = self.core.next().saturating_sub(before);
+                return Ok(Round { events, time });
+            }
+        }
+        Err(Fault::NoEnd)
+    }
+
+    /// Whether each handler added up all that was ever published.
+    pub fn check(&self) -> Result<(), Fault> {
+        let total = sum_of_first(self.core.next());
+        if self.sums.iter().all(|sum| sum.total == total) {
+            Ok(())
+        } else {
+            Err(Fault::WrongSum)
+        }
+    }
+}
+
+fn slots(size: Size) -> usize {
+    size.get() as usize
+}

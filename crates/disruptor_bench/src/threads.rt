@@ -1,0 +1,136 @@
+//! The ring's rounds: the producer and each handler on a thread of its own.
+
+use crate::arguments::Order;
+use crate::fault::Fault;
+use crate::measured::Round;
+use crate::spin::Spin;
+use crate::sum::{event_at, sum_of_first};
+use crate::{MOST_TURNS, STRETCH};
+use dr_core::{Claimed, MAX_LIMIT, Polled, Refusal};
+use dr_ring::{Receiver, Sender, ring};
+use dr_seq::Event;
+use std::alloc::Global;
+use std::rt::Clock;
+use std::thread::{self, JoinHandle, Threads};
+use std::time::{Duration, Instant};
+
+/// The sum that a handler's thread added up.
+type Handler = JoinHandle<Result<u64, Fault>>;
+
+/// The most events that a handler takes at once.
+const MOST_AT_ONCE: u64 = 1024;
+
+/// Adds up what is received, until the ring is drained.
+fn receive(mut receiver: Receiver, mut room: Vec<Event>) -> Result<u64, Fault> {
+    let mut total = 0u64;
+    let mut spin = Spin::new();
+    for _ in 0..MOST_TURNS {
+        match receiver.poll_into(&mut room)? {
+            Polled::Batch { first, count, .. } => {
+                total = total.wrapping_add(sum_of(&room, count));
+                receiver.complete(first.wrapping_add(count))?;
+                spin.reset();
+            }
+            Polled::Drained => return Ok(total),
+            Polled::Gating | Polled::Idle => spin.wait(),
+        }
+    }
+    Err(Fault::NoEnd)
+}
+
+/// The sum of the first events of a batch, as it wraps.
+fn sum_of(room: &[Event], count: u64) -> u64 {
+    let mut total = 0u64;
+    for event in room.iter().take(count as usize) {
+        total = total.wrapping_add(event.first);
+    }
+    total
+}
+
+/// Claims once there is room.
+fn claim(sender: &mut Sender, n: u64) -> Result<Claimed, Fault> {
+    let mut spin = Spin::new();
+    for _ in 0..MOST_TURNS {
+        match sender.try_claim(n) {
+            Ok(claimed) => return Ok(claimed),
+            Err(Refusal::NoRoom) => spin.wait(),
+            Err(refusal) => return Err(refusal.into()),
+        }
+    }
+    Err(Fault::NoEnd)
+}
+
+/// Claims, writes and publishes once.
+#[inline]
+fn send(sender: &mut Sender, n: u64) -> Result<(), Fault> {
+    let claimed = claim(sender, n)?;
+    for k in 0..n {
+        let s = claimed.lo.wrapping_add(k);
+        sender.write(s, event_at(s))?;
+    }
+    Ok(sender.publish(claimed.lo, claimed.hi)?)
+}
+
+/// Sends a stretch of events, and tells how many there were.
+fn stretch(sender: &mut Sender, n: u64) -> Result<u64, Fault> {
+    let claims = STRETCH.checked_div(n).unwrap_or(1);
+    for _ in 0..claims {
+        send(sender, n)?;
+    }
+    Ok(claims.wrapping_mul(n))
+}
+
+/// Sends for about so long, and tells how many events there were.
+fn send_for(clock: &impl Clock, sender: &mut Sender, n: u64, time: Duration) -> Result<u64, Fault> {
+    let mut events = 0u64;
+    let begun = Instant::now(clock)?;
+    for _ in 0..MOST_TURNS {
+        events = events.wrapping_add(stretch(sender, n)?);
+        if begun.elapsed(clock)? >= time {
+            sender.close()?;
+            return Ok(events);
+        }
+    }
+    Err(Fault::NoEnd)
+}
+
+fn start(
+    rt: &impl Threads,
+    alloc: Global,
+    receivers: Vec<Receiver>,
+    room: usize,
+) -> Result<Vec<Handler>, Fault> {
+    let mut handlers = Vec::new(alloc);
+    for receiver in receivers {
+        let room = vec![in alloc; Event::NONE; room]?;
+        let Ok(handler) = thread::spawn(rt, move || receive(receiver, room)) else {
+            return Err(Fault::Thread);
+        };
+        handlers.push(handler)?;
+    }
+    Ok(handlers)
+}
+
+/// Waits until all handlers are told that the ring drained, and checks what they added up.
+fn finish(rt: &impl Threads, handlers: Vec<Handler>, events: u64) -> Result<(), Fault> {
+    let total = sum_of_first(events);
+    for handler in handlers {
+        if handler.join(rt)? != total {
+            return Err(Fault::WrongSum);
+        }
+    }
+    Ok(())
+}
+
+/// One round over a ring of its own, from the first claim until the last handler has drained it.
+pub fn round(rt: &(impl Clock + Threads), alloc: Global, order: &Order) -> Result<Round, Fault> {
+    let graph = order.topology.shape.graph(alloc)?;
+    let (mut sender, receivers, _halter) = ring(alloc, &graph, order.size, MAX_LIMIT)?;
+    let room = order.size.get().min(MOST_AT_ONCE) as usize;
+    let handlers = start(rt, alloc, receivers, room)?;
+    let begun = Instant::now(rt)?;
+    let events = send_for(rt, &mut sender, order.claim(), order.time)?;
+    finish(rt, handlers, events)?;
+    let time = begun.elapsed(rt)?;
+    Ok(Round { events, time })
+}
