@@ -7,342 +7,266 @@ use std::test::Fail;
 const SETUP: [Row; 38] = [
     (
         "two names",
-        "ring,4,single\nwith,a,b
-",
+        "ring,4,single\nwith,a,b\n",
         "",
         "record 3: no start",
         2,
     ),
     (
         "a name twice, over two records",
-        "ring,4,single\nwith,a
-with,a
-",
+        "ring,4,single\nwith,a\nwith,a\n",
         "",
         "record 3: duplicate",
         2,
     ),
     (
         "a name twice in a record",
-        "ring,4,single\nwith,a,a
-",
+        "ring,4,single\nwith,a,a\n",
         "",
         "record 2: duplicate",
         2,
     ),
     (
         "a name twice, and then a bad one",
-        "ring,4,single\nwith,a,a,b c
-",
+        "ring,4,single\nwith,a,a,b c\n",
         "",
         "record 2: duplicate",
         2,
     ),
     (
         "a bad name, and then one twice",
-        "ring,4,single\nwith,b c,a,a
-",
+        "ring,4,single\nwith,b c,a,a\n",
         "",
         "record 2: bad-name",
         2,
     ),
     (
         "an empty name after a good one",
-        "ring,4,single\nwith,a,
-",
+        "ring,4,single\nwith,a,\n",
         "",
         "record 2: bad-name",
         2,
     ),
     (
         "a name of 32 letters",
-        "ring,4,single\nwith,aaaaaaaaaaaaaaaaaaaaaaaaaaaaaaaa
-",
+        "ring,4,single\nwith,aaaaaaaaaaaaaaaaaaaaaaaaaaaaaaaa\n",
         "",
         "record 3: no start",
         2,
     ),
     (
         "a name of 33 letters",
-        "ring,4,single\nwith,b,aaaaaaaaaaaaaaaaaaaaaaaaaaaaaaaaa
-",
+        "ring,4,single\nwith,b,aaaaaaaaaaaaaaaaaaaaaaaaaaaaaaaaa\n",
         "",
         "record 2: bad-name",
         2,
     ),
     (
         "then,a",
-        "ring,4,single\nthen,a
-",
+        "ring,4,single\nthen,a\n",
         "",
         "record 2: no group",
         2,
     ),
     (
         "no group before a bad name",
-        "ring,4,single\nthen,b c
-",
+        "ring,4,single\nthen,b c\n",
         "",
         "record 2: no group",
         2,
     ),
     (
         "then alone",
-        "ring,4,single\nwith,a
-then
-",
+        "ring,4,single\nwith,a\nthen\n",
         "",
         "record 3: bad record",
         2,
     ),
     (
         "then of a declared name",
-        "ring,4,single\nwith,a
-then,a
-",
+        "ring,4,single\nwith,a\nthen,a\n",
         "",
         "record 3: duplicate",
         2,
     ),
     (
         "then of a bad name",
-        "ring,4,single\nwith,a
-then,b!
-",
+        "ring,4,single\nwith,a\nthen,b!\n",
         "",
         "record 3: bad-name",
         2,
     ),
     (
         "with,a / with,b!",
-        "ring,4,single\nwith,a
-with,b!
-",
+        "ring,4,single\nwith,a\nwith,b!\n",
         "",
         "record 3: bad-name",
         2,
     ),
     (
         "after,x",
-        "ring,4,single\nafter,x
-",
+        "ring,4,single\nafter,x\n",
         "",
         "record 2: stranger",
         2,
     ),
     (
         "after alone",
-        "ring,4,single\nwith,a
-after
-",
+        "ring,4,single\nwith,a\nafter\n",
         "",
         "record 3: bad record",
         2,
     ),
     (
         "after of one stranger",
-        "ring,4,single\nwith,a
-after,a,b
-",
+        "ring,4,single\nwith,a\nafter,a,b\n",
         "",
         "record 3: stranger",
         2,
     ),
     (
         "after of an empty name",
-        "ring,4,single\nwith,a
-after,
-",
+        "ring,4,single\nwith,a\nafter,\n",
         "",
         "record 3: stranger",
         2,
     ),
     (
         "after of a bad name",
-        "ring,4,single\nwith,a
-after,b c
-",
+        "ring,4,single\nwith,a\nafter,b c\n",
         "",
         "record 3: stranger",
         2,
     ),
     (
         "no group of strangers",
-        "ring,4,single\nafter,x
-then,a
-",
+        "ring,4,single\nafter,x\nthen,a\n",
         "",
         "record 2: stranger",
         2,
     ),
     (
         "edge of a stranger",
-        "ring,4,single\nwith,a
-edge,a,b
-",
+        "ring,4,single\nwith,a\nedge,a,b\n",
         "",
         "record 3: stranger",
         2,
     ),
     (
         "edge from a stranger",
-        "ring,4,single\nwith,a
-edge,b,a
-",
+        "ring,4,single\nwith,a\nedge,b,a\n",
         "",
         "record 3: stranger",
         2,
     ),
     (
         "edge of one field",
-        "ring,4,single\nwith,a
-edge,a
-",
+        "ring,4,single\nwith,a\nedge,a\n",
         "",
         "record 3: bad record",
         2,
     ),
     (
         "edge of three fields",
-        "ring,4,single\nwith,a,b
-edge,a,b,a
-",
+        "ring,4,single\nwith,a,b\nedge,a,b,a\n",
         "",
         "record 3: bad record",
         2,
     ),
     (
         "edge makes no group",
-        "ring,4,single\nwith,a,b
-edge,a,b
-then,c
-edge,a,d
-",
+        "ring,4,single\nwith,a,b\nedge,a,b\nthen,c\nedge,a,d\n",
         "",
         "record 5: stranger",
         2,
     ),
     (
         "a cycle is told at start",
-        "ring,4,single\nwith,a
-then,b
-edge,b,a
-start
-",
+        "ring,4,single\nwith,a\nthen,b\nedge,b,a\nstart\n",
         "",
         "record 5: cycle",
         2,
     ),
     (
         "a cycle without start",
-        "ring,4,single\nwith,a
-then,b
-edge,b,a
-",
+        "ring,4,single\nwith,a\nthen,b\nedge,b,a\n",
         "",
         "record 5: no start",
         2,
     ),
     (
         "an edge to itself",
-        "ring,4,single\nwith,a
-edge,a,a
-start
-",
+        "ring,4,single\nwith,a\nedge,a,a\nstart\n",
         "",
         "record 4: cycle",
         2,
     ),
     (
         "a long cycle",
-        "ring,4,single\nwith,a,b,c,d
-edge,a,b
-edge,b,c
-edge,c,d
-edge,d,b
-start
-",
+        "ring,4,single\nwith,a,b,c,d\nedge,a,b\nedge,b,c\nedge,c,d\nedge,d,b\nstart\n",
         "",
         "record 7: cycle",
         2,
     ),
     (
         "no handlers",
-        "ring,4,single\nstart
-",
+        "ring,4,single\nstart\n",
         "",
         "record 2: no-handlers",
         2,
     ),
     (
         "start,now",
-        "ring,4,single\nwith,a
-start,now
-",
+        "ring,4,single\nwith,a\nstart,now\n",
         "",
         "record 3: bad record",
         2,
     ),
     (
         "seventeen in a record",
-        "ring,4,single\nwith,h1,h2,h3,h4,h5,h6,h7,h8,h9,h10,h11,h12,h13,h14,h15,h16,h17
-",
+        "ring,4,single\nwith,h1,h2,h3,h4,h5,h6,h7,h8,h9,h10,h11,h12,h13,h14,h15,h16,h17\n",
         "",
         "record 2: too-many",
         2,
     ),
     (
         "sixteen and one more",
-        "ring,4,single\nwith,h1,h2,h3,h4,h5,h6,h7,h8,h9,h10,h11,h12,h13,h14,h15,h16
-with,h17
-",
+        "ring,4,single\nwith,h1,h2,h3,h4,h5,h6,h7,h8,h9,h10,h11,h12,h13,h14,h15,h16\nwith,h17\n",
         "",
         "record 3: too-many",
         2,
     ),
     (
         "seventeen over several records",
-        "ring,4,single\nwith,h1,h2,h3,h4,h5,h6
-then,h7,h8,h9,h10,h11,h12
-with,h13,h14,h15
-then,h16,h17
-",
+        "ring,4,single\nwith,h1,h2,h3,h4,h5,h6\nthen,h7,h8,h9,h10,h11,h12\nwith,h13,h14,h15\nthen,h16,h17\n",
         "",
         "record 5: too-many",
         2,
     ),
     (
         "a name twice among too many",
-        "ring,4,single\nwith,h1,h2,h3,h4,h5,h6,h7,h8,h9,h10,h11,h12,h13,h14,h15,h16
-with,h1
-",
+        "ring,4,single\nwith,h1,h2,h3,h4,h5,h6,h7,h8,h9,h10,h11,h12,h13,h14,h15,h16\nwith,h1\n",
         "",
         "record 3: duplicate",
         2,
     ),
     (
         "limit after a group",
-        "ring,4,single\nwith,a
-limit,3
-",
+        "ring,4,single\nwith,a\nlimit,3\n",
         "",
         "record 3: bad record",
         2,
     ),
     (
         "ring after a handler",
-        "ring,4,single\nwith,a
-ring,4,single
-",
+        "ring,4,single\nwith,a\nring,4,single\n",
         "",
         "record 3: bad record",
         2,
     ),
     (
         "an unknown record",
-        "ring,4,single\nwith,a
-and,a,b
-",
+        "ring,4,single\nwith,a\nand,a,b\n",
         "",
         "record 3: bad record",
         2,
