@@ -1,5 +1,5 @@
 -- What the builder's calls do is what the drive text says of the records.
-use Rattle.std.proofs.Common.{◌≡◌, inl, inr, Option, None, Some, List, [], ◌∷◌, ◌++◌, Result, Ok, Err, refl, sym, ap, ◌∙◌, map}
+use Rattle.std.proofs.Common.{◌≡◌, inl, inr, Option, None, Some, List, [], ◌∷◌, ◌++◌, Result, Ok, Err, sym, ap, ◌∙◌, map}
 use Rattle.std.proofs.lemmas.List.{length-map}
 use Rattle.std.specs.Prelude.{◌⊎◌, ◌==◌, if◌then◌else◌}
 use Rattle.std.specs.List.{list_all}

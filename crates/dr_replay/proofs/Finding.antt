@@ -1,12 +1,12 @@
 -- Handlers found by their names, and the fields that name them.
-use Rattle.std.proofs.Common.{◌≡◌, ◌<◌, ◌≤◌, ◌+◌, ◌-◌, ℕ, zero, suc, true, false, List, [], ◌∷◌, ◌++◌, Some, None, refl, sym, ap, ◌∙◌, subst, arith, length, take, drop, map, add-one}
+use Rattle.std.proofs.Common.{◌≡◌, ◌<◌, ◌≤◌, ◌+◌, ◌-◌, ℕ, zero, suc, true, false, List, [], ◌∷◌, ◌++◌, Some, None, refl, sym, ap, ◌∙◌, arith, length, take, drop, map, add-one}
 use Rattle.std.proofs.lemmas.List.{map-append, take_all}
 use Rattle.std.proofs.Math.Seq.{take-suc}
-use Rattle.std.specs.Prelude.{bytes_eq, if◌then◌else◌, slice_get, slice_index_or}
+use Rattle.std.specs.Prelude.{bytes_eq, slice_get}
 use Rattle.std.specs.Borrow.{Bor}
 use Rattle.dr_graph.specs.Name.{Name, given}
 use Rattle.dr_replay.specs.Commands.{handler_of}
-use Rattle.dr_replay.specs.Records.{Field, Record, field}
+use Rattle.dr_replay.specs.Records.{Record, field}
 use Rattle.dr_replay.specs.Setup.{names_in}
 use Rattle.dr_replay.specs.Shows.{legible}
 

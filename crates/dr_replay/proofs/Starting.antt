@@ -1,5 +1,5 @@
 -- What the build of a graph answers is what the drive text says of `start`.
-use Rattle.std.proofs.Common.{◌≡◌, ◌==◌, ℕ, zero, suc, false, true, inl, inr, Option, None, Some, List, [], ◌∷◌, Result, Ok, Err, refl, sym, ap, ◌∙◌, length, arith, if◌then◌else◌}
+use Rattle.std.proofs.Common.{◌≡◌, ◌==◌, false, inl, inr, Option, List, [], ◌∷◌, Result, Ok, Err, refl, sym, ap, ◌∙◌, length, arith, if◌then◌else◌}
 use Rattle.std.proofs.lemmas.Bool.{ne_eqb}
 use Rattle.std.specs.Prelude.{◌⊎◌}
 use Rattle.dr_graph.specs.Declaration.{Declaration}

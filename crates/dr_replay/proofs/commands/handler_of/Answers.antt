@@ -1,4 +1,4 @@
-use Rattle.std.proofs.Common.{◌≡◌, ◌∙◌, Some, ap, arith, sym}
+use Rattle.std.proofs.Common.{◌∙◌, Some, ap, arith, sym}
 use Rattle.dr_replay.proofs.Finding.{here, not_here}
 use Rattle.dr_replay.proofs.commands.handler_of.Goals as goal
 
