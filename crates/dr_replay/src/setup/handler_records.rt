@@ -1,6 +1,6 @@
 //! The records that declare handlers, and who follows whom.
 
-ghost use Rattle.std.specs.Prelude.{◌≡◌, List, IfOk, map, None, []};
+ghost use Rattle.std.specs.Prelude.{◌≡◌, List, IfOk, map};
 ghost use Rattle.csv.specs.Records.{fields_of};
 ghost use Rattle.dr_graph.specs.Name.{Name, given};
 ghost use Rattle.dr_replay.specs.Setup.{after_names, declared_by, names_in, no_handlers, then_names, with_edge, with_names};

@@ -95,8 +95,8 @@ const TOPOLOGIES: [Row; 6] = [
     ),
     (
         "sequencer",
-        "ring,8,multi,3\nwith,a\nstart\nclaim,0,8\nwrite,0,0,0\nwrite,0,1,1\nwrite,0,2,2\nwrite,0,3,3\nwrite,0,4,4\nwrite,0,5,5\nwrite,0,6,6\nwrite,0,7,7\npublish,0,0,7\npoll,a,8\ncomplete,a,8\nclaim,0,1\n",
-        "claimed 0 7\nwritten\nwritten\nwritten\nwritten\nwritten\nwritten\nwritten\nwritten\npublished\nbatch 0 end 0 1 2 3 4 5 6 7\ncompleted\nclaimed 8 8\n",
+        "ring,8,multi,3\nwith,a\nstart\nclaim,0,3\nclaim,1,3\nclaim,2,2\nwrite,0,0,0\nwrite,0,1,1\nwrite,0,2,2\nwrite,1,3,3\nwrite,1,4,4\nwrite,1,5,5\nwrite,2,6,6\nwrite,2,7,7\npublish,2,6,7\npoll,a,8\npublish,0,0,2\npublish,1,3,5\nclaim,2,1\npoll,a,8\ncomplete,a,8\nclaim,2,1\n",
+        "claimed 0 2\nclaimed 3 5\nclaimed 6 7\nwritten\nwritten\nwritten\nwritten\nwritten\nwritten\nwritten\nwritten\npublished\ngating\npublished\npublished\nrefused 1 no-room\nbatch 0 end 0 1 2 3 4 5 6 7\ncompleted\nclaimed 8 8\n",
         "",
         0,
     ),
