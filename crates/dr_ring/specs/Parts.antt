@@ -8,7 +8,7 @@ use Rattle.dr_ring.specs.Words.{cursor_word, count_word}
 use Rattle.dr_ring.specs.declared.record.Look.{Look}
 use Rattle.dr_ring.specs.declared.record.SenderRecord.{SenderRecord}
 use Rattle.dr_ring.specs.declared.record.ReceiverRecord.{ReceiverRecord}
-use Rattle.dr_ring.specs.Ends.{look, last_look}
+use Rattle.dr_ring.specs.Ends.{last_look}
 use Rattle.dr_ring.specs.Seats.{End, as_sender, as_receiver}
 use Rattle.dr_ring.specs.Calls.{looks_counted, sender_saw, count_looks, offered_by}
 use Rattle.dr_ring.specs.Fits.{IsSeenLeast}

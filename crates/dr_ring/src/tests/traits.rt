@@ -10,8 +10,8 @@ const fn refused(refusal: Refusal) -> Trouble {
     Trouble::Refused(refusal)
 }
 
-/// Sends one event, and tells what each call answered.
-fn send_one<I: Inlet>(
+/// Claims, writes and publishes one event, and tells what each call answered.
+fn sent<I: Inlet>(
     inlet: &mut I,
     first: u64,
 ) -> (
@@ -27,8 +27,8 @@ fn send_one<I: Inlet>(
     (claimed, inlet.write(s, word(first)), inlet.publish(s, s))
 }
 
-/// Takes one event at most, and completes up to `upto`.
-fn take_one<O: Outlet>(
+/// Polls, completes up to `upto`, and tells what each call answered.
+fn taken<O: Outlet>(
     outlet: &mut O,
     out: &mut [Event],
     upto: u64,
@@ -45,38 +45,38 @@ fn ends_by_their_traits(rt: HostRuntime) -> Result<(), Fail> {
     let mut a = receivers.pop().expect(&rt, "two receivers");
     let mut out = [Event::NONE; 1];
 
-    assert_eq!(rt; take_one(&mut a, &mut out, 0), (Ok(Idle), Ok(())));
+    assert_eq!(rt; taken(&mut a, &mut out, 0), (Ok(Idle), Ok(())));
     assert_eq!(rt;
-        send_one(&mut sender, 7),
+        sent(&mut sender, 7),
         (Ok(Claimed { lo: 0, hi: 0 }), Ok(()), Ok(()))
     );
     let late = Err(refused(Refusal::AlreadyPublished));
     assert_eq!(rt;
-        send_one(&mut sender, 8),
+        sent(&mut sender, 8),
         (Err(refused(Refusal::NoRoom)), late, late)
     );
-    assert_eq!(rt; take_one(&mut b, &mut out, 0), (Ok(Gating), Ok(())));
+    assert_eq!(rt; taken(&mut b, &mut out, 0), (Ok(Gating), Ok(())));
     let one = Ok(Batch {
         first: 0,
         count: 1,
         end: true,
     });
     assert_eq!(rt;
-        take_one(&mut a, &mut out, 2),
+        taken(&mut a, &mut out, 2),
         (one, Err(refused(Refusal::NotTaken)))
     );
     assert_eq!(rt; out, [word(7)]);
     assert_eq!(rt; a.complete(1), Ok(()));
-    assert_eq!(rt; take_one(&mut b, &mut out, 1), (one, Ok(())));
+    assert_eq!(rt; taken(&mut b, &mut out, 1), (one, Ok(())));
     assert_eq!(rt;
-        take_one(&mut b, &mut [], 0),
+        taken(&mut b, &mut [], 0),
         (
             Err(refused(Refusal::BadCount)),
             Err(refused(Refusal::Behind))
         )
     );
     assert_eq!(rt; sender.close(), Ok(()));
-    assert_eq!(rt; take_one(&mut a, &mut out, 1), (Ok(Drained), Ok(())));
+    assert_eq!(rt; taken(&mut a, &mut out, 1), (Ok(Drained), Ok(())));
     assert_eq!(rt;
         Inlet::try_claim(&mut sender, 1),
         Err(refused(Refusal::Halted))
@@ -95,5 +95,52 @@ fn troubles_have_numbers_and_names(rt: HostRuntime) -> Result<(), Fail> {
         assert_eq!(rt; trouble.name(), name);
         assert_eq!(rt; trouble.to_string(rt.alloc())?.as_str(), name);
     }
+    Ok(())
+}
+
+/// Sends one event, once there is room.
+fn send_one<I: Inlet>(inlet: &mut I, event: Event) -> Result<bool, Trouble> {
+    let claimed = match inlet.try_claim(1) {
+        Err(Trouble::Refused(Refusal::NoRoom)) => return Ok(false),
+        answer => answer?,
+    };
+    inlet.write(claimed.lo, event)?;
+    inlet.publish(claimed.lo, claimed.hi)?;
+    Ok(true)
+}
+
+/// Takes what there is into a buffer and completes it, and tells whether more may come.
+fn take_some<O: Outlet>(outlet: &mut O, buffer: &mut [Event]) -> Result<bool, Trouble> {
+    let answer = outlet.poll_into(buffer)?;
+    if let Batch { first, count, .. } = answer {
+        outlet.complete(first + count)?;
+    }
+    Ok(!matches!(&answer, Drained))
+}
+
+#[test]
+fn handed_over_by_traits(rt: HostRuntime) -> Result<(), Fail> {
+    let ends = open(rt.alloc(), &chain(rt.alloc())?, 1)?;
+    let mut sender = ends.sender;
+    let mut receivers = ends.receivers;
+    let mut b = receivers.pop().expect(&rt, "two receivers");
+    let mut a = receivers.pop().expect(&rt, "two receivers");
+    let mut out = [Event::NONE; 2];
+
+    assert_eq!(rt; send_one(&mut sender, word(7)), Ok(true));
+    assert_eq!(rt; send_one(&mut sender, word(8)), Ok(false));
+    assert_eq!(rt; take_some(&mut a, &mut out), Ok(true));
+    assert_eq!(rt; out, [word(7), Event::NONE]);
+    assert_eq!(rt; take_some(&mut b, &mut out), Ok(true));
+    assert_eq!(rt; send_one(&mut sender, word(8)), Ok(true));
+    assert_eq!(rt; sender.close(), Ok(()));
+    assert_eq!(rt;
+        send_one(&mut sender, word(9)),
+        Err(refused(Refusal::Halted))
+    );
+    assert_eq!(rt; take_some(&mut a, &mut out), Ok(true));
+    assert_eq!(rt; out, [word(8), Event::NONE]);
+    assert_eq!(rt; take_some(&mut a, &mut out), Ok(false));
+    assert_eq!(rt; take_some(&mut b, &mut []), Err(refused(Refusal::BadCount)));
     Ok(())
 }
