@@ -188,10 +188,6 @@ recent_whole v recent whole = record {
 pub finals_within : (upstreams : List (List ℕ)) → All (λ h. h < length upstreams) (finals upstreams)
 finals_within upstreams = All-filter (is_final upstreams) (λ h. h < length upstreams) (range_with_len 0 (length upstreams)) (λ k d l. (let n : length (range_with_len 0 (length upstreams)) ≡ length upstreams = length-range_with_len 0 (length upstreams) in let inside : k < length upstreams = omega arith in rw get_or-range_with_len (omega arith)))
 
--- a claim of none, or of more than the size
-pub claim_bad_count : (v : CoreView) (p n : ℕ) → p < producers v.setup.mode → (n == 0 || nat_lt v.setup.size n) ≡ true → IsStep v (Claim p n) (Refused BadCount) [] v
-claim_bad_count v p n producer bad = refused_step v (Claim p n) BadCount (λ m sh. inr (lt-leb _ _ producer, inl (bad, refl)))
-
 -- a claim that does not fit beside what the finals have not completed
 pub claim_no_room : (v : CoreView) (p n : ℕ) → p < producers v.setup.mode → n ≢ 0 → n ≤ v.setup.size → v.halted ≡ false → v.next + n ≤ v.setup.limit
     → nat_le (v.next + n) (v.setup.size + least_of (map (λ h. slice_index v.completed h) (finals v.setup.upstreams))) ≡ false → IsStep v (Claim p n) (Refused NoRoom) [] v

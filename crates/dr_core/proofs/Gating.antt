@@ -47,10 +47,3 @@ module _ (v : CoreView) (whole : IsWhole v) where
       let limit : v.setup.limit ≤ 2 ^ 62 = whole.limit in
       let bound : v.setup.size ≤ 65536 = size_at_most v.setup.size whole.size in
       omega arith
-
--- a completion lowers no count, so what is remembered stays
-pub gate_stays : (gate h upto : ℕ) (completed : List ℕ) → h < length completed → slice_index completed h ≤ upto → (f : ℕ) → gate ≤ slice_index completed f → gate ≤ slice_index (slice_set completed h upto) f
-gate_stays gate h upto completed inside up f low =
-    rw (set_count completed h upto f inside) (cond_both (f == h) upto (slice_index completed f) (λ n. gate ≤ n)
-    (λ y. (let same : f ≡ h = eqb-true f h y in let there : gate ≤ slice_index completed h = (rw same at low) in omega arith))
-    (λ n. low))

@@ -188,18 +188,3 @@ module _ (v : CoreView) (p lo hi front' : ℕ) (known : ℕ → Known) (knows : 
       (λ m sh. refl)
       (λ m sh. refl)
       published_shows
-
-  pub publish_whole : IsWhole (record v { recent = recent_of known v.next v.setup.size; front = front' })
-  publish_whole = record {
-    graph = whole.graph;
-    size = whole.size;
-    limit = whole.limit;
-    taken = whole.taken;
-    completed = whole.completed;
-    claimed = whole.claimed;
-    front = found.high;
-    in_front = λ h. (let a : slice_index v.taken h ≤ v.front = whole.in_front h in let b : v.front ≤ front' = found.low in omega arith);
-    took = whole.took;
-    after = whole.after;
-    room = whole.room;
-  }

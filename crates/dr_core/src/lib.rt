@@ -7,6 +7,7 @@
 
 mod availability;
 pub mod command;
+pub mod ends;
 pub mod engine;
 pub mod handler;
 pub mod lawful;
@@ -17,6 +18,7 @@ pub mod refusal;
 pub mod runs;
 
 pub use command::{Claimed, Command, Polled, Reply};
+pub use ends::{Inlet, Outlet, Trouble};
 pub use engine::{Core, MAX_LIMIT, MAX_PRODUCERS};
 pub use handler::{Handler, processor_turn};
 pub use lawful::every_transcript_is_lawful;

@@ -13,3 +13,4 @@ pub mod Declaring
 pub mod Gating
 pub mod Building
 pub mod Unique
+pub mod Placed

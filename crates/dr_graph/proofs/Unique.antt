@@ -1,7 +1,7 @@
 -- A declaration has one built order, and so one graph.
-use Rattle.std.proofs.Common.{◌≡◌, ℕ, zero, suc, ◌+◌, ◌<◌, ◌≤◌, inl, inr, List, [], ◌∷◌, ◌++◌, true, false, refl, sym, ◌∙◌, ap, subst, arith, length, take, slice_index}
+use Rattle.std.proofs.Common.{◌≡◌, ℕ, zero, suc, ◌<◌, ◌≤◌, inl, inr, List, [], ◌∷◌, ◌++◌, true, refl, sym, ◌∙◌, ap, subst, arith, length, take, slice_index}
 use Rattle.std.proofs.lemmas.Bool.{false≢true, cases_order}
-use Rattle.std.proofs.lemmas.List.{ext_get_or, get_or_past}
+use Rattle.std.proofs.lemmas.List.{ext_get_or}
 use Rattle.std.proofs.lemmas.List.Kept.{AllPairs-from_increasing}
 use Rattle.std.proofs.lemmas.Map.Made.{Contains-tail}
 use Rattle.std.proofs.Math.Seq.{take-suc, take-length}
@@ -10,10 +10,10 @@ use Rattle.dr_graph.specs.declared.edge.Edge.{Edge}
 use Rattle.dr_graph.specs.Name.{Name}
 use Rattle.dr_graph.specs.Order.{IsNext, IsInOrder, IsBuiltOrder}
 use Rattle.dr_graph.specs.Declaration.{Declaration}
-use Rattle.dr_graph.specs.Graph.{Shape, AreChosen, IsGraphOf, HasOneGraph, upstreams_of, leads_to, names_in}
+use Rattle.dr_graph.specs.Graph.{Shape, AreChosen, HasOneGraph, upstreams_of, leads_to, names_in}
 
 -- the first that is ready is one
-next_once : (count : ℕ) (edges : List Edge) (placed : List ℕ) (h k : ℕ) → IsNext count edges placed h → IsNext count edges placed k → h ≡ k
+pub next_once : (count : ℕ) (edges : List Edge) (placed : List ℕ) (h k : ℕ) → IsNext count edges placed h → IsNext count edges placed k → h ≡ k
 next_once count edges placed h k one other =
     elim (cases_order h k) [
       | inl same ↦ same

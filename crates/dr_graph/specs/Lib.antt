@@ -3,6 +3,7 @@ pub mod Name
 pub mod Order
 pub mod Declaration
 pub mod Graph
+pub mod Placing
 pub mod KeptGroup
 pub mod KeptBuilder
 pub mod KeptGraph

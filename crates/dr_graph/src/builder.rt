@@ -6,6 +6,7 @@ ghost use Rattle.dr_graph.specs.Name.{given, new_names};
 ghost use Rattle.dr_graph.specs.Order.{HasCycle};
 ghost use Rattle.dr_graph.specs.Declaration.{declaring_fault, stranger_fault, following_fault, grouping_fault, followed_by, connected};
 ghost use Rattle.dr_graph.specs.Graph.{IsGraph, IsGraphOf};
+ghost use Rattle.dr_graph.specs.KeptBuilder.{IsDeclaration};
 
 use crate::built::{Graph, build};
 use crate::edge::{Edge, is_upstream, with_followers};
@@ -139,6 +140,9 @@ impl GraphBuilder {
     pub fn build(self) -> Result<Graph, GraphFault>
         ensures built { IfOk result (λ graph. IsGraphOf self graph) }
         ensures lawful { IfOk result (λ graph. IsGraph graph.upstreams) }
+
+        // What is so of every declaration is told here.
+        ensures declaration { IsDeclaration self }
         ensures acyclic { IsOk result → HasCycle self.edges → ⊥ }
         ensures no_handlers { IsErrOf result GraphFault.NoHandlers ↔ (self.names ≡ []) }
         ensures cycle { IsErrOf result GraphFault.Cycle → HasCycle self.edges }

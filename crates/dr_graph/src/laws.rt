@@ -3,6 +3,7 @@
 ghost use Rattle.std.specs.Prelude.{List, ℕ};
 ghost use Rattle.dr_graph.specs.Declaration.{Declaration};
 ghost use Rattle.dr_graph.specs.Graph.{IsGraph, IsLayered, FinalsGate, LeastGates, HasOneGraph};
+ghost use Rattle.dr_graph.specs.Placing.{FindsGraph};
 
 /// The law that gating rests on: where no edge raises the counts, each handler has a final handler whose count is at
 /// most its own, and so the finals' least count is at most every handler's.
@@ -14,4 +15,10 @@ pub fn finals_gate()
 /// A declaration says which graph is built of it.
 pub fn one_graph()
     ensures { (d : Declaration) → HasOneGraph d }
+{}
+
+/// The graph of a declaration is found by placing handlers one after another, each time the first declared one that is
+/// ready; where none is ready any more, there is a cycle.
+pub fn placed_graph()
+    ensures { (d : Declaration) → FindsGraph d }
 {}

@@ -1,13 +1,15 @@
 pub mod AllRecords
 pub mod Commanding
+pub mod Declaring
 pub mod Digits
 pub mod Entries
 pub mod EventFiles
 pub mod FieldAt
+pub mod Finding
 pub mod Graphs
 pub mod Hexadecimal
+pub mod Legible
 pub mod Moving
-pub mod OneHandler
 pub mod Passing
 pub mod Reports
 pub mod Rounds
@@ -16,6 +18,7 @@ pub mod Sending
 pub mod SetUps
 pub mod Shown
 pub mod Sizes
+pub mod Starting
 pub mod Turning
 pub mod Whole
 pub mod Writes

@@ -1,5 +1,5 @@
 -- The records of a file: lists of fields, which are lists of bytes.
-use Rattle.std.specs.Prelude.{ℕ, Bool, ◌==◌, ◌&&◌, List, [], Option, length, bytes_eq, slice_index_or}
+use Rattle.std.specs.Prelude.{ℕ, Bool, ◌==◌, ◌&&◌, nat_le, List, [], Option, length, bytes_eq, slice_index_or}
 use Rattle.csv.specs.Reading.{default_config, records, strip_bom}
 use Rattle.dr_replay.specs.Numbers.{number_of}
 
@@ -24,6 +24,10 @@ is_named name r = bytes_eq (field r 0) name
 -- whether a record has this first field and this many fields
 abbrev pub is_record : List ℕ → ℕ → Record → Bool
 is_record name count r = (length r == count) && is_named name r
+
+-- whether a record has this first field and a list of one or more after it
+abbrev pub is_list : List ℕ → Record → Bool
+is_list name r = nat_le 2 (length r) && is_named name r
 
 abbrev pub number_at : Record → ℕ → Option ℕ
 number_at r place = number_of (field r place)

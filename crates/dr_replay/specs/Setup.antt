@@ -1,27 +1,36 @@
 -- The setup of a file: its records up to `start`, and the exchange that they open.
-use Rattle.std.specs.Prelude.{ℕ, ◌^◌, Bool, not, ◌==◌, ◌&&◌, if◌then◌else◌, List, [], ◌∷◌, length, Option, Some, None, Result, Ok, Err, bytes_eq, codes, option_map}
+use Rattle.std.specs.Prelude.{ℕ, ◌^◌, Bool, not, ◌==◌, ◌&&◌, if◌then◌else◌, List, [], ◌∷◌, ◌++◌, length, drop, Option, Some, None, Result, Ok, Err, bytes_eq, codes, option_map}
 use Rattle.std.specs.List.{list_any, range_with_len}
 use Rattle.dr_core.specs.Machine.{Setup, setup_of}
 use Rattle.dr_core.specs.OpenFault.{has_bad_producers, is_bad_limit}
 use Rattle.dr_core.specs.declared.mode.Mode.{Mode}
 use Rattle.dr_core.specs.declared.mode.Mode.TheVariants.{Single, Multi}
+use Rattle.dr_graph.specs.Declaration.{Declaration, connected, declaring_fault, followed_by, following_fault, grouping_fault, stranger_fault}
 use Rattle.dr_graph.specs.Graph.{Shape}
-use Rattle.dr_graph.specs.Name.{is_good_name}
-use Rattle.dr_replay.specs.declared.setup.Ring.{Ring}
+use Rattle.dr_graph.specs.Name.{Name, new_names}
+use Rattle.dr_graph.specs.Placing.{graph_of}
+use Rattle.dr_graph.specs.declared.fault.GraphFault.{GraphFault}
+use Rattle.dr_graph.specs.declared.fault.GraphFault.TheVariants.{Cycle, NoHandlers}
+use Rattle.dr_replay.specs.declared.setup.ring_records.Ring.{Ring}
 use Rattle.dr_replay.specs.declared.fault.Cause.{Cause}
-use Rattle.dr_replay.specs.declared.fault.Cause.TheVariants.{NoRing, BadRecord, BadSize, BadProducers, BadLimit, BadName, NoHandlers, NoStart}
-use Rattle.dr_replay.specs.Records.{Field, Record, field, is_named, is_record, number_at}
+use Rattle.dr_replay.specs.declared.fault.Cause.TheVariants.{NoRing, BadRecord, BadSize, BadProducers, BadLimit, NoGroup, Graph, NoStart}
+use Rattle.dr_replay.specs.Records.{Record, field, is_list, is_named, is_record, number_at}
+
+-- what is declared so far, and the current group, which `then` follows
+pub record Declared : Type 0 where
+  pub declaration : Declaration
+  pub group : Option (List Name)
 
 -- how far a setup has come
 pub data Stage : Type 0 where
   Empty : Stage  -- no record yet
   Ringed : Ring → Stage  -- after `ring`: `limit` may follow
-  Declared : Ring → List Field → Stage  -- after `limit` or a handler: the handlers' names so far
+  Declaring : Ring → Declared → Stage  -- after `limit` or a handler
 
--- what a record of the setup does: the setup goes on, or an exchange opens over handlers of these names
+-- what a record of the setup does: the setup goes on, or an exchange opens over handlers of these names, in their built order
 pub data Prepared : Type 0 where
   Goes : Stage → Prepared
-  Opens : List Field → Setup → Prepared
+  Opens : List Name → Setup → Prepared
 
 -- a power of two, from 1 to 65,536
 unfoldable pub is_size : ℕ → Bool
@@ -59,42 +68,85 @@ limit_with ring (Some limit) = if is_bad_limit limit then Err BadLimit else Ok (
 abbrev pub limit_of : Ring → Record → Result Ring Cause
 limit_of ring r = if length r == 2 then limit_with ring (number_at r 1) else Err BadRecord
 
--- `with,NAME`, once
-abbrev pub with_one : Ring → List Field → Field → Result Prepared Cause
-with_one ring [] name = if is_good_name name then Ok (Goes (Declared ring (name ∷ []))) else Err BadName
-with_one ring (other ∷ others) name = Err BadRecord
+-- before the first handler
+abbrev pub no_handlers : Declared
+no_handlers = record { declaration = record { names = []; edges = [] }; group = None }
 
--- the graph of one handler, without upstreams
-abbrev pub one_handler : Field → Shape
-one_handler name = record { names = name ∷ []; upstreams = [] ∷ [] }
+-- a call of the builder does this, unless it is refused
+abbrev pub unless : Option GraphFault → Declared → Result Declared Cause
+unless None done = Ok done
+unless (Some fault) done = Err (Graph fault)
 
--- `start`: one handler, without upstreams
-abbrev pub started : Ring → List Field → Result Prepared Cause
-started ring [] = Err NoHandlers
-started ring (name ∷ names) = Ok (Opens (name ∷ names) (setup_of ([] ∷ []) ring.size ring.mode ring.limit))
+-- `with,NAME..`: handlers without upstreams, which are the current group then
+abbrev pub with_names : Declared → List Name → Result Declared Cause
+with_names d names =
+    unless (declaring_fault d.declaration.names names) (record {
+      declaration = record d.declaration { names = d.declaration.names ++ names };
+      group = Some names;
+    })
 
--- a record after the ring and its limit
-abbrev pub declared_by : Ring → List Field → Record → Result Prepared Cause
-declared_by ring names r =
-    if is_record (codes "with") 2 r then with_one ring names (field r 1)
-    else if is_record (codes "start") 1 r then started ring names
+-- handlers that follow a group, if there is one
+abbrev pub following : Declaration → Option (List Name) → List Name → Result Declared Cause
+following d None names = Err NoGroup
+following d (Some group) names =
+    unless (following_fault d.names group names) (record { declaration = followed_by d group names; group = Some names })
+
+-- `then,NAME..`: handlers that follow the current group, and are the current group then
+abbrev pub then_names : Declared → List Name → Result Declared Cause
+then_names d names = following d.declaration d.group names
+
+-- `after,NAME..`: declared handlers are the current group, each once
+abbrev pub after_names : Declared → List Name → Result Declared Cause
+after_names d names = unless (grouping_fault d.declaration.names names) (record d { group = Some (new_names [] names) })
+
+-- `edge,UP,DOWN`: the current group stays
+abbrev pub with_edge : Declared → Name → Name → Result Declared Cause
+with_edge d up down =
+    unless (stranger_fault d.declaration.names (up ∷ down ∷ [])) (record d { declaration = connected d.declaration up down })
+
+-- the fields of a record after the first
+abbrev pub names_in : Record → List Name
+names_in r = drop 1 r
+
+-- a record that declares or connects handlers
+abbrev pub declared_by : Declared → Record → Result Declared Cause
+declared_by d r =
+    if is_list (codes "with") r then with_names d (names_in r)
+    else if is_list (codes "then") r then then_names d (names_in r)
+    else if is_list (codes "after") r then after_names d (names_in r)
+    else if is_record (codes "edge") 3 r then with_edge d (field r 1) (field r 2)
     else Err BadRecord
 
--- a setup goes on with a ring, if there is one
-abbrev pub goes_with : (Ring → Stage) → Result Ring Cause → Result Prepared Cause
-goes_with stage (Ok ring) = Ok (Goes (stage ring))
+-- an exchange opens over a graph, if there is one
+abbrev pub opened : Ring → Option Shape → Result Prepared Cause
+opened ring None = Err (Graph Cycle)
+opened ring (Some graph) = Ok (Opens graph.names (setup_of graph.upstreams ring.size ring.mode ring.limit))
+
+-- `start`: the graph of the declaration is built
+abbrev pub started : Ring → Declared → Result Prepared Cause
+started ring d =
+    if length d.declaration.names == 0 then Err (Graph NoHandlers) else opened ring (graph_of d.declaration)
+
+-- a setup goes on, where a record is not at fault
+abbrev pub goes_with : {A : Type 0} → (A → Stage) → Result A Cause → Result Prepared Cause
+goes_with stage (Ok next) = Ok (Goes (stage next))
 goes_with stage (Err cause) = Err cause
+
+-- a record after the ring and its limit
+abbrev pub goes_on_by : Ring → Declared → Record → Result Prepared Cause
+goes_on_by ring d r =
+    if is_record (codes "start") 1 r then started ring d else goes_with (λ next. Declaring ring next) (declared_by d r)
 
 -- what a record does at a stage of the setup, or why it is at fault
 abbrev pub prepared : Stage → Record → Result Prepared Cause
 prepared Empty r = goes_with (λ ring. Ringed ring) (ring_of r)
 prepared (Ringed ring) r =
-    if is_named (codes "limit") r then goes_with (λ limited. Declared limited []) (limit_of ring r)
-    else declared_by ring [] r
-prepared (Declared ring names) r = declared_by ring names r
+    if is_named (codes "limit") r then goes_with (λ limited. Declaring limited no_handlers) (limit_of ring r)
+    else goes_on_by ring no_handlers r
+prepared (Declaring ring d) r = goes_on_by ring d r
 
 -- what a file lacks that ends at a stage of the setup
 abbrev pub missing : Stage → Cause
 missing Empty = NoRing
 missing (Ringed ring) = NoStart
-missing (Declared ring names) = NoStart
+missing (Declaring ring d) = NoStart

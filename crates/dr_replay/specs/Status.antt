@@ -1,7 +1,8 @@
 -- How a program ends: the line of each fault, without its end, and the status.
 use Rattle.std.specs.Prelude.{ℕ, List, ◌++◌, codes, decimal}
+use Rattle.dr_graph.specs.Fault.{fault_name}
 use Rattle.dr_replay.specs.declared.fault.Cause.{Cause}
-use Rattle.dr_replay.specs.declared.fault.Cause.TheVariants.{NoRing, BadRecord, BadSize, BadProducers, BadLimit, BadName, NoHandlers, NoStart}
+use Rattle.dr_replay.specs.declared.fault.Cause.TheVariants.{NoRing, BadRecord, BadSize, BadProducers, BadLimit, NoGroup, Graph, NoStart}
 use Rattle.dr_replay.specs.declared.fault.DriveFault.{DriveFault}
 use Rattle.dr_replay.specs.declared.fault.DriveFault.TheVariants as fault
 use Rattle.dr_replay.specs.declared.planned.LineFault.{LineFault}
@@ -13,8 +14,8 @@ cause_name BadRecord = codes "bad record"
 cause_name BadSize = codes "bad-size"
 cause_name BadProducers = codes "bad-producers"
 cause_name BadLimit = codes "bad-limit"
-cause_name BadName = codes "bad-name"
-cause_name NoHandlers = codes "no-handlers"
+cause_name NoGroup = codes "no group"
+cause_name (Graph fault) = fault_name fault
 cause_name NoStart = codes "no start"
 
 abbrev pub fault_line : DriveFault → List ℕ

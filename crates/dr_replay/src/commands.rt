@@ -1,22 +1,28 @@
 //! The commands of a file, one a record.
 
-ghost use Rattle.std.specs.Prelude.{◌≡◌, [], ◌∷◌};
+ghost use Rattle.std.specs.Prelude.{◌≡◌};
 ghost use Rattle.csv.specs.Records.{fields_of};
 ghost use Rattle.dr_replay.specs.Commands.{claim as claim_in, command_of as command_in, complete as complete_in, handler_of as handler_in, poll as poll_in, publish as publish_in, write_one as write_one_in, write_two as write_two_in};
 
 use crate::records::{field, is_record, number_at};
 use csv::ByteRecord;
 use dr_core::Command;
+use dr_graph::Graph;
 use dr_seq::Event;
 
 /// No batch is longer than the greatest ring, so a greater `MAX` is read as this one.
 const GREATEST_BATCH: u64 = 65536;
 
-// The number of a handler by its name: 1, which no handler has, where it is not the name of the one handler.
-fn handler_of(handler: &[u8], name: &[u8]) -> usize
-    ensures { result ≡ handler_in (handler.now ∷ []) name.now }
+// The number of a handler by its name: the number of handlers, which no handler has, where it is the name of none.
+fn handler_of(graph: &Graph, name: &[u8]) -> usize
+    ensures { result ≡ handler_in graph.now.names name.now }
 {
-    if name == handler { 0 } else { 1 }
+    for h in 0..graph.len() {
+        if name == graph.name(h).as_bytes() {
+            return h;
+        }
+    }
+    graph.len()
 }
 
 fn claim(row: &ByteRecord) -> Option<Command>
@@ -59,25 +65,25 @@ fn publish(row: &ByteRecord) -> Option<Command>
     Some(Command::Publish { p, lo, hi })
 }
 
-fn poll(handler: &[u8], row: &ByteRecord) -> Option<Command>
-    ensures { result ≡ poll_in (handler.now ∷ []) (fields_of row.now) }
+fn poll(graph: &Graph, row: &ByteRecord) -> Option<Command>
+    ensures { result ≡ poll_in graph.now.names (fields_of row.now) }
 {
     let max = number_at(row, 2)?.min(GREATEST_BATCH) as usize;
-    let h = handler_of(handler, field(row, 1));
+    let h = handler_of(graph, field(row, 1));
     Some(Command::Poll { h, max })
 }
 
-fn complete(handler: &[u8], row: &ByteRecord) -> Option<Command>
-    ensures { result ≡ complete_in (handler.now ∷ []) (fields_of row.now) }
+fn complete(graph: &Graph, row: &ByteRecord) -> Option<Command>
+    ensures { result ≡ complete_in graph.now.names (fields_of row.now) }
 {
     let upto = number_at(row, 2)?;
-    let h = handler_of(handler, field(row, 1));
+    let h = handler_of(graph, field(row, 1));
     Some(Command::Complete { h, upto })
 }
 
-/// The command of a record, if it is one, where the one handler has this name.
-pub fn command_of(handler: &[u8], row: &ByteRecord) -> Option<Command>
-    ensures { result ≡ command_in (handler.now ∷ []) (fields_of row.now) }
+/// The command of a record, if it is one, where these are the handlers.
+pub fn command_of(graph: &Graph, row: &ByteRecord) -> Option<Command>
+    ensures { result ≡ command_in graph.now.names (fields_of row.now) }
 {
     if is_record(row, b"claim".as_slice(), 3) {
         claim(row)
@@ -88,9 +94,9 @@ pub fn command_of(handler: &[u8], row: &ByteRecord) -> Option<Command>
     } else if is_record(row, b"publish".as_slice(), 4) {
         publish(row)
     } else if is_record(row, b"poll".as_slice(), 3) {
-        poll(handler, row)
+        poll(graph, row)
     } else if is_record(row, b"complete".as_slice(), 3) {
-        complete(handler, row)
+        complete(graph, row)
     } else if is_record(row, b"halt".as_slice(), 1) {
         Some(Command::Halt)
     } else {

@@ -3,6 +3,7 @@
 ghost use Rattle.std.specs.Prelude.{◌≡◌, Some};
 ghost use Rattle.dr_replay.specs.Status.{cause_name, drive_status, fault_line};
 
+use dr_graph::GraphFault;
 use std::alloc::AllocError;
 use std::error::Error;
 use std::fmt;
@@ -21,10 +22,10 @@ pub enum Cause {
     BadProducers,
     /// The limit of sequences is 0 or above 2^62.
     BadLimit,
-    /// A name that no handler may have.
-    BadName,
-    /// No handler is declared.
-    NoHandlers,
+    /// A `then` without a current group.
+    NoGroup,
+    /// The graph of handlers is refused, at the record whose call refused.
+    Graph(GraphFault),
     /// The file ends before `start`.
     NoStart,
 }
@@ -40,8 +41,8 @@ impl Cause {
             Cause::BadSize => "bad-size",
             Cause::BadProducers => "bad-producers",
             Cause::BadLimit => "bad-limit",
-            Cause::BadName => "bad-name",
-            Cause::NoHandlers => "no-handlers",
+            Cause::NoGroup => "no group",
+            Cause::Graph(fault) => fault.name(),
             Cause::NoStart => "no start",
         }
     }
@@ -82,6 +83,20 @@ impl From<AllocError> for RecordFault {
 
     fn from(_error: AllocError) -> RecordFault {
         RecordFault::Memory
+    }
+}
+
+impl From<GraphFault> for RecordFault {
+    ghost use Rattle.std.specs.Prelude.{◌≡◌};
+    ghost use Rattle.dr_replay.specs.Shows.{refused_by};
+
+    ghost from_gives = { λ refused e. e ≡ refused_by refused };
+
+    fn from(refused: GraphFault) -> RecordFault {
+        match refused {
+            GraphFault::NoMemory => RecordFault::Memory,
+            other => RecordFault::Cause(Cause::Graph(other)),
+        }
     }
 }
 

@@ -3,7 +3,7 @@
 ghost use Rattle.std.specs.Prelude.{◌≡◌, ◌==◌, IfOk, length, map, true};
 ghost use Rattle.csv.specs.Reading.{error_kind, stops_reader};
 ghost use Rattle.csv.specs.Records.{fields_of};
-ghost use Rattle.dr_replay.specs.Records.{field as field_in, is_named as is_named_in, is_record as is_record_in, number_at as number_in, records_of as records_in};
+ghost use Rattle.dr_replay.specs.Records.{field as field_in, is_list as is_list_in, is_named as is_named_in, is_record as is_record_in, number_at as number_in, records_of as records_in};
 
 use crate::numbers::number_of;
 use csv::{ByteRecord, Error, ReaderBuilder};
@@ -65,6 +65,13 @@ pub fn is_record(row: &ByteRecord, name: &[u8], count: usize) -> bool
     ensures { result ≡ is_record_in name.now count (fields_of row.now) }
 {
     count_of(row) == count && is_named(row, name)
+}
+
+/// Whether a record has this first field and a list of one or more after it.
+pub fn is_list(row: &ByteRecord, name: &[u8]) -> bool
+    ensures { result ≡ is_list_in name.now (fields_of row.now) }
+{
+    count_of(row) >= 2 && is_named(row, name)
 }
 
 /// The number in the field at a place, if one stands there.

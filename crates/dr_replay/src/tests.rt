@@ -4,8 +4,11 @@
 mod command_line;
 mod failing;
 mod faults;
+mod graph_faults;
+mod graphs;
 mod replayed;
 mod replayed_failing;
+mod sixteen;
 mod texts;
 mod worked;
 

@@ -125,7 +125,7 @@ pub receiver_looks_at_cursor : (k : Shape) (slots id : ℕ) (me : End) → IsRec
 receiver_looks_at_cursor k slots id me is = along_receiver (λ m. Allows (Ruled k) slots id m cursor_word (λ n. n) (ReceiverLooksAtCursor (step slots cursor_word 0 0 none) m)) me is
     (let r = receiver_of me.0 in by_receiver k slots id r cursor_word (λ n. n) (λ n. cursor_looked r n) (ReceiverLooksAtCursor (step slots cursor_word 0 0 none) (as_receiver r)) (λ n. refl)
     (λ w at K. same_words k w.words cursor_word w.sender (set w.receivers r.number (cursor_looked r (get_or w.words cursor_word 0))) w.halter (keeps_cursor_look k w r.number r at K))
-    (λ w at K. (refl, (let t = (K.received r.number r at).taken in let c = K.counts.cursor in omega arith))))
+    (λ w at K. (let was = K.received r.number r at in let t = was.taken in let c = K.counts.cursor in (refl, omega arith, λ told. (let d = (was.told told).1 in omega arith)))))
 
 -- what a look at an upstream's count tells
 tells_count : (k : Shape) (w : World) (r : ReceiverRecord) (u : ℕ) → get_elem? w.receivers r.number ≡ some r → Contains (upstreams_of k.upstreams r.number) u → Kept k w

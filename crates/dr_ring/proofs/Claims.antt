@@ -1,5 +1,5 @@
 -- What a claim comes to.
-use Rattle.std.proofs.Common.{◌≡◌, ◌≢◌, ℕ, zero, suc, ◌+◌, ◌-◌, ◌<◌, ◌≤◌, inl, inr, ◌==◌, if◌then◌else◌, min, List, [], ◌∷◌, ◌++◌, length, replicate, Option, None, sym, refl, ap, ◌∙◌, subst, arith, append_assoc}
+use Rattle.std.proofs.Common.{◌≡◌, ◌≢◌, ℕ, zero, suc, ◌+◌, ◌-◌, ◌<◌, ◌≤◌, ◌⊎◌, inl, inr, ◌==◌, if◌then◌else◌, min, List, [], ◌∷◌, ◌++◌, length, replicate, Option, None, sym, refl, ap, ◌∙◌, subst, arith, append_assoc}
 use Rattle.std.specs.Prelude.{Contains}
 use Rattle.std.proofs.lemmas.Bool.{cases_lt, ne_eqb}
 use Rattle.std.proofs.lemmas.List.{length-append, length-replicate, append-nil}
@@ -12,7 +12,7 @@ use Rattle.dr_ring.specs.declared.record.Look.{Look}
 use Rattle.dr_ring.specs.declared.record.SenderRecord.{SenderRecord}
 use Rattle.dr_ring.specs.Ends.{claimed, look, last_look, halt_looked, HasRoom}
 use Rattle.dr_ring.specs.Seats.{End, as_sender, sender_of, IsSender}
-use Rattle.dr_ring.specs.Calls.{looks_counted, sender_saw, more_claimed, IsSize, SawNoRoom}
+use Rattle.dr_ring.specs.Calls.{looks_counted, sender_saw, more_claimed, IsSize, count_looks, gate_looks, FoundRoom, FoundNoRoom, HaltedLate}
 use Rattle.dr_ring.specs.Parts.{LooksAtFinals, IsEnough, IsShort}
 use Rattle.dr_ring.specs.Fits.{Marked, IsSeenLeast, SenderFits}
 use Rattle.dr_ring.proofs.Lists.{last_look_else}
@@ -138,36 +138,59 @@ limit_of at own me k n p least looked ms rm r F same = ap (λ (s : SenderRecord)
 pub claimed_of : (at own : TableId) (me : End) (k : Shape) (n p least looked : ℕ) (ms : List ℕ) (rm : ℕ) (r : SenderRecord) → SenderFits at own me k n p least looked ms rm → sender_of me.0 ≡ r → n ≡ claimed r
 claimed_of at own me k n p least looked ms rm r F same = F.next ∙ ap claimed same
 
+-- where there is room, as the sender's own record tells it
+found_room : (k : Shape) (r s : SenderRecord) (xs : List Look) (n q needed least : ℕ) → (E : IsEnough k s xs needed least) → r.plan ≡ k → n ≡ claimed r → needed ≡ n + q - k.size → FoundRoom r q E.counts
+found_room k r s xs n q needed least E plan next need = record {
+  all = subst (λ (p : Shape). (E.counts ≡ []) ⊎ (length E.counts ≡ length (finals p.upstreams))) (sym plan) E.all;
+  room = λ i lt. (let high = E.high i lt in let e : r.plan.size ≡ k.size = ap (λ (p : Shape). p.size) plan in omega arith);
+}
+
+gates : (k : Shape) (r : SenderRecord) (xs : List Look) (counts : List ℕ) → xs ≡ count_looks (finals k.upstreams) counts → r.plan ≡ k → xs ≡ gate_looks r counts
+gates k r xs counts are plan = are ∙ ap (λ (p : Shape). count_looks (finals p.upstreams) counts) (sym plan)
+
+is_one : (v : ℕ) → v ≢ 0 → v ≤ 1 → v ≡ 1
+is_one v ne flag = elim (cases_lt v 1) [ inl lt ↦ absurd (ne (omega arith)) | inr ge ↦ omega arith ]
+
+-- what a last look at halt adds, where it claims nothing
+saw_last : (r : SenderRecord) (xs : List Look) (me me' : End) (counted q v : ℕ) → LooksAtFinals r xs me counted → me' ≡ as_sender (halt_looked (sender_of me.0) q v) → v ≢ 0 → sender_of me'.0 ≡ sender_saw r (xs ++ look halt_word v ∷ [])
+saw_last r xs me me' counted q v S is ne =
+    ap (λ (m : End). sender_of m.0) is ∙ halt_saw (sender_of me.0) q v (λ z. absurd (ne z)) ∙ ap (λ (s : SenderRecord). sender_saw s (look halt_word v ∷ [])) (ap (λ (m : End). sender_of m.0) S.is) ∙ saw_both r xs (look halt_word v ∷ [])
+
 -- halt was found 1 at last
-pub answer_halted : (r : SenderRecord) (xs : List Look) (me me' : End) (counted q v : ℕ) → LooksAtFinals r xs me counted → me' ≡ as_sender (halt_looked (sender_of me.0) q v) → v ≢ 0 → v ≤ 1
-    → (seen : List Look) × (sender_of me'.0 ≡ sender_saw r (seen ++ look halt_word 1 ∷ []))
-answer_halted r xs me me' counted q v S is ne flag =
-    let one : v ≡ 1 = (elim (cases_lt v 1) [ inl lt ↦ absurd (ne (omega arith)) | inr ge ↦ omega arith ]) in (
-      xs,
-      ap (λ (m : End). sender_of m.0) is ∙ halt_saw (sender_of me.0) q v (λ z. absurd (ne z)) ∙ ap (λ (s : SenderRecord). sender_saw s (look halt_word v ∷ [])) (ap (λ (m : End). sender_of m.0) S.is)
-          ∙ saw_both r xs (look halt_word v ∷ []) ∙ ap (λ (x : ℕ). sender_saw r (xs ++ look halt_word x ∷ [])) one,
-    )
+pub answer_halted_late : (k : Shape) (r s : SenderRecord) (first : ℕ) (xs : List Look) (me me' : End) (counted n q v needed least : ℕ) → LooksAtFinals r (look halt_word first ∷ xs) me counted → first ≡ 0 → IsEnough k s xs needed least → r.plan ≡ k → n ≡ claimed r → needed ≡ n + q - k.size → n + q ≤ k.limit
+    → me' ≡ as_sender (halt_looked (sender_of me.0) q v) → v ≢ 0 → v ≤ 1 → HaltedLate r q (sender_of me'.0)
+answer_halted_late k r s first xs me me' counted n q v needed least S start E plan next need limit is ne flag = record {
+  limit = let e : r.plan.limit ≡ k.limit = ap (λ (p : Shape). p.limit) plan in omega arith;
+  counts = E.counts;
+  room = found_room k r s xs n q needed least E plan next need;
+  saw = saw_last r (look halt_word first ∷ xs) me me' counted q v S is ne ∙ ap (λ (x : ℕ). sender_saw r (look halt_word x ∷ (xs ++ look halt_word v ∷ []))) start
+      ∙ ap (λ (x : ℕ). sender_saw r (look halt_word 0 ∷ (xs ++ look halt_word x ∷ []))) (is_one v ne flag) ∙ ap (λ (ys : List Look). sender_saw r (look halt_word 0 ∷ (ys ++ look halt_word 1 ∷ []))) (gates k r xs E.counts E.are plan);
+}
 
 -- a final was found too far behind
 pub answer_no_room : (k : Shape) (r : SenderRecord) (first : ℕ) (xs : List Look) (me : End) (counted n q needed : ℕ) → LooksAtFinals r (look halt_word first ∷ xs) me counted → first ≡ 0 → IsShort k xs needed → r.plan ≡ k → n ≡ claimed r → needed ≡ n + q - k.size
-    → (counts : List Look) × (sender_of me.0 ≡ sender_saw r (look halt_word 0 ∷ counts)) × SawNoRoom r q counts
-answer_no_room k r first xs me counted n q needed S none H plan next need = (
-  xs,
-  ap (λ (m : End). sender_of m.0) S.is ∙ ap (λ (x : ℕ). sender_saw r (look halt_word x ∷ xs)) none,
-  record {
-    handler = H.handler;
-    is_final = subst (λ (p : Shape). Contains (finals p.upstreams) H.handler) (sym plan) H.is_final;
-    count = H.count;
-    saw = H.saw;
-    behind = let l = H.low in let e : r.plan.size ≡ k.size = ap (λ (p : Shape). p.size) plan in omega arith;
-  },
-)
+    → (counts : List ℕ) × FoundNoRoom r q counts × (sender_of me.0 ≡ sender_saw r (look halt_word 0 ∷ gate_looks r counts))
+answer_no_room k r first xs me counted n q needed S none H plan next need =
+    let e : r.plan.size ≡ k.size = ap (λ (p : Shape). p.size) plan in (
+      H.counts,
+      record {
+        before = H.before;
+        last = H.last;
+        among = subst (λ (p : Shape). length H.counts ≤ length (finals p.upstreams)) (sym plan) H.among;
+        room = λ i lt. (let high = H.high i lt in omega arith);
+        behind = let low = H.low in omega arith;
+      },
+      ap (λ (m : End). sender_of m.0) S.is ∙ ap (λ (x : ℕ). sender_saw r (look halt_word x ∷ xs)) none ∙ ap (λ (ys : List Look). sender_saw r (look halt_word 0 ∷ ys)) (gates k r xs H.counts H.are plan),
+    )
 
 -- both looks found 0
-pub answer_claimed : (r : SenderRecord) (first : ℕ) (xs : List Look) (me me' : End) (counted q v : ℕ) → LooksAtFinals r (look halt_word first ∷ xs) me counted → first ≡ 0 → me' ≡ as_sender (halt_looked (sender_of me.0) q v) → v ≡ 0
-    → (counts : List Look) × (sender_of me'.0 ≡ more_claimed (sender_saw r (look halt_word 0 ∷ (counts ++ look halt_word 0 ∷ []))) q)
-answer_claimed r first xs me me' counted q v S start is none = (
-  xs,
+pub answer_claimed : (k : Shape) (r s : SenderRecord) (first : ℕ) (xs : List Look) (me me' : End) (counted n q v needed least : ℕ) → LooksAtFinals r (look halt_word first ∷ xs) me counted → first ≡ 0 → IsEnough k s xs needed least → r.plan ≡ k → n ≡ claimed r → needed ≡ n + q - k.size
+    → me' ≡ as_sender (halt_looked (sender_of me.0) q v) → v ≡ 0
+    → (counts : List ℕ) × FoundRoom r q counts × (sender_of me'.0 ≡ more_claimed (sender_saw r (look halt_word 0 ∷ (gate_looks r counts ++ look halt_word 0 ∷ []))) q)
+answer_claimed k r s first xs me me' counted n q v needed least S start E plan next need is none = (
+  E.counts,
+  found_room k r s xs n q needed least E plan next need,
   ap (λ (m : End). sender_of m.0) is ∙ ap (λ (x : ℕ). halt_looked (sender_of me.0) q x) none ∙ ap (λ (s : SenderRecord). more_claimed (sender_saw s (look halt_word 0 ∷ [])) q) (ap (λ (m : End). sender_of m.0) S.is)
-      ∙ ap (λ (s : SenderRecord). more_claimed s q) (saw_both r (look halt_word first ∷ xs) (look halt_word 0 ∷ [])) ∙ ap (λ (x : ℕ). more_claimed (sender_saw r (look halt_word x ∷ (xs ++ look halt_word 0 ∷ []))) q) start,
+      ∙ ap (λ (s : SenderRecord). more_claimed s q) (saw_both r (look halt_word first ∷ xs) (look halt_word 0 ∷ [])) ∙ ap (λ (x : ℕ). more_claimed (sender_saw r (look halt_word x ∷ (xs ++ look halt_word 0 ∷ []))) q) start
+      ∙ ap (λ (ys : List Look). more_claimed (sender_saw r (look halt_word 0 ∷ (ys ++ look halt_word 0 ∷ []))) q) (gates k r xs E.counts E.are plan),
 )

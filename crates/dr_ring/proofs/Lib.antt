@@ -16,3 +16,4 @@ pub mod Cuts
 pub mod Making
 pub mod Settling
 pub mod Gathering
+pub mod Outlets

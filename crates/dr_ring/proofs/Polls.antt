@@ -1,5 +1,5 @@
 -- What a poll comes to.
-use Rattle.std.proofs.Common.{◌≡◌, ◌≢◌, ℕ, zero, suc, ◌+◌, ◌-◌, ◌<◌, ◌≤◌, inl, inr, Bool, true, false, ◌==◌, ◌&&◌, ◌||◌, min, List, [], ◌∷◌, ◌++◌, length, take, drop, sym, refl, ap, ◌∙◌, subst, arith, append_assoc}
+use Rattle.std.proofs.Common.{◌≡◌, ◌≢◌, ℕ, zero, suc, ◌+◌, ◌-◌, ◌<◌, ◌≤◌, ◌⊎◌, inl, inr, Bool, true, false, ◌==◌, ◌&&◌, ◌||◌, min, List, [], ◌∷◌, ◌++◌, length, take, drop, sym, refl, ap, ◌∙◌, subst, arith, append_assoc}
 use Rattle.std.specs.Prelude.{Contains, IsTrue, ◌↔◌}
 use Rattle.std.proofs.lemmas.Bool.{cases_eq, eqb-true, eq-eqb, ne_eqb, lt-ltb, le-ltb}
 use Rattle.std.proofs.lemmas.List.{length-append, append-nil}
@@ -114,16 +114,53 @@ fits_batch at own own' me me' me'' k h n done looked counted count available clo
       looks = subst (λ (q : ReceiverRecord). counted ≡ looks_counted q.looks) (sym e) L.looks;
     }
 
+-- what a look at the cursor told, by the record from before the poll
+pub told_before : (r : ReceiverRecord) (closed cursor : ℕ) (me me' : End) → me ≡ as_receiver r → me' ≡ as_receiver (receiver_looked (receiver_of me.0) closed_word closed) → ((receiver_of me'.0).told ≡ true → cursor ≤ length (receiver_of me'.0).received) → r.told ≡ true → cursor ≤ length r.received
+told_before r closed cursor me me' is first tells =
+    let same : receiver_of me'.0 ≡ receiver_looked r closed_word closed = ap (λ (m : End). receiver_of m.0) first ∙ ap (λ (m : End). receiver_looked (receiver_of m.0) closed_word closed) is in
+    subst (λ (q : ReceiverRecord). q.told ≡ true → cursor ≤ length q.received) same tells
+
+not_true : (b : Bool) → (b ≡ true → ⊥) → b ≡ false
+not_true true never = absurd (never refl)
+not_true false never = refl
+
+either_true : (a b : Bool) → (a || b) ≡ true → (a ≡ true) ⊎ (b ≡ true)
+either_true true b e = inl refl
+either_true false b e = inr e
+
+second_true : (a b : Bool) → (a && b) ≡ true → b ≡ true
+second_true true b e = e
+second_true false b e = absurd (cc)
+
+some_or_none : (ups : List ℕ) → (ups ≡ []) ⊎ (ups ≢ [])
+some_or_none [] = inl refl
+some_or_none (u ∷ ups) = inr (λ (e : u ∷ ups ≡ []). cc)
+
+-- who is told that the ring drained is offered nothing
+told_nothing : (k : Shape) (h : ℕ) (r : ReceiverRecord) (closed cursor : ℕ) (me : End) (counted available : ℕ) → LooksAtUpstreams k h (looked_twice r closed cursor) cursor me counted available → (r.told ≡ true → cursor ≤ length r.received) → (looked_twice r closed cursor).told ≡ true → available ≤ length r.received
+told_nothing k h r closed cursor me counted available L before told =
+    elim (some_or_none (upstreams_of k.upstreams h)) [
+      | inl none ↦ (
+          let c = only_cursor k h r closed cursor me counted available none L in
+          elim (either_true r.told _ told) [
+            | inl old ↦ (let b = before old in omega arith)
+            | inr new ↦ (let all = eqb-true cursor (length r.received) (second_true _ _ new) in omega arith)
+          ])
+      | inr some ↦ L.told told some
+    ]
+
 -- some events are offered
-pub poll_batch : (k : Shape) (h : ℕ) (r : ReceiverRecord) (out out' : List Event) (closed cursor : ℕ) (me me' : End) (counted available taken count : ℕ) (last : Bool) → r.plan ≡ k → r.number ≡ h → taken ≡ length r.received → (L : LooksAtUpstreams k h (looked_twice r closed cursor) cursor me counted available)
+pub poll_batch : (k : Shape) (h : ℕ) (r : ReceiverRecord) (out out' : List Event) (closed cursor : ℕ) (me me' : End) (counted available taken count : ℕ) (last : Bool) → r.plan ≡ k → r.number ≡ h → taken ≡ length r.received → (L : LooksAtUpstreams k h (looked_twice r closed cursor) cursor me counted available) → (r.told ≡ true → cursor ≤ length r.received)
     → me' ≡ as_receiver (received_all (receiver_of me.0) (take count out')) → drop count out' ≡ drop count out → taken < available → count ≡ min (available - taken) (length out) → (IsTrue last ↔ (taken + count ≡ available))
     → Answers r out (receiver_of me'.0) out' closed cursor L.counts (Batch taken count last)
-poll_batch k h r out out' closed cursor me me' counted available taken count last plan number next L is rest more least end = (
+poll_batch k h r out out' closed cursor me me' counted available taken count last plan number next L before is rest more least end = (
   next,
   subst (λ (n : ℕ). taken < n) L.offered more,
   subst (λ (n : ℕ). count ≡ min (n - taken) (length out)) L.offered least,
   subst (λ (n : ℕ). IsTrue last ↔ (taken + count ≡ n)) L.offered end,
   ap (λ (m : End). receiver_of m.0) is ∙ ap (λ (m : End). received_all (receiver_of m.0) (take count out')) (round_of k h r closed cursor me counted available plan number L),
+  ap (λ (m : End). (receiver_of m.0).told) is ∙ ap (λ (m : End). (receiver_of m.0).told) L.is
+      ∙ not_true (looked_twice r closed cursor).told (λ told. (let b = told_nothing k h r closed cursor me counted available L before told in omega arith)),
   rest,
 )
 

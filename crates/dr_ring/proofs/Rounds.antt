@@ -50,18 +50,55 @@ last_least d xs i v w n le high =
       | inr ne ↦ (let a : last_look d (xs ++ look i v ∷ []) w ≡ last_look d xs w = last_look_else d xs i w v ne in omega arith)
     ]
 
+looks_more : (ups counts : List ℕ) (i v : ℕ) → length counts ≡ i → i < length ups → count_looks (take (i + 1) ups) (counts ++ v ∷ []) ≡ count_looks (take i ups) counts ++ look (count_word (get_or ups i 0)) v ∷ []
+looks_more [] counts i v e lt = absurd (omega arith)
+looks_more (u ∷ ups) [] zero v e lt = refl
+looks_more (u ∷ ups) [] (suc i) v e lt = absurd (omega arith)
+looks_more (u ∷ ups) (n ∷ counts) zero v e lt = absurd (omega arith)
+looks_more (u ∷ ups) (n ∷ counts) (suc i) v e lt =
+    let at : suc i + 1 ≡ suc (i + 1) = omega arith in
+    ap (λ (j : ℕ). count_looks (take j (u ∷ ups)) (n ∷ (counts ++ v ∷ []))) at ∙ ap (λ (xs : List Look). look (count_word u) n ∷ xs) (looks_more ups counts i v (omega arith) (omega arith))
+
+-- counts of fewer handlers
+looks_few : (hs counts : List ℕ) (i : ℕ) → length counts ≡ i → count_looks (take i hs) counts ≡ count_looks hs counts
+looks_few [] counts zero e = refl
+looks_few [] counts (suc i) e = refl
+looks_few (h ∷ hs) [] zero e = refl
+looks_few (h ∷ hs) [] (suc i) e = absurd (omega arith)
+looks_few (h ∷ hs) (n ∷ counts) zero e = absurd (omega arith)
+looks_few (h ∷ hs) (n ∷ counts) (suc i) e = ap (λ (xs : List Look). look (count_word h) n ∷ xs) (looks_few hs counts i (omega arith))
+
+-- one count more
+number_at : (xs : List ℕ) (x i : ℕ) → length xs ≡ i → get_or (xs ++ x ∷ []) i 0 ≡ x
+number_at [] x zero e = refl
+number_at [] x (suc i) e = absurd (omega arith)
+number_at (y ∷ xs) x zero e = absurd (omega arith)
+number_at (y ∷ xs) x (suc i) e = number_at xs x i (omega arith)
+
 -- the first i finals were looked at
 pub record Scanned (k : Shape) (r : SenderRecord) (needed least i : ℕ) (me : End) (counted : ℕ) : Type 0 where
   pub xs : List Look
   pub saw : LooksAtFinals r xs me counted
+  pub counts : List ℕ
+  pub each : length counts ≡ i
+  pub are : xs ≡ count_looks (take i (finals k.upstreams)) counts
+  pub ahead : (j : ℕ) → j < i → needed ≤ get_or counts j 0
   pub high : (j : ℕ) → j < i → least ≤ last_look 0 (r.looks ++ xs) (count_word (get_or (finals k.upstreams) j 0))
   pub either : (least ≡ length r.published) ⊎ (needed ≤ least)
   pub some_one : 0 < i → needed ≤ length r.published
   pub front : least ≤ length r.published
 
+no_counts : (hs : List ℕ) → count_looks (take 0 hs) [] ≡ []
+no_counts [] = refl
+no_counts (h ∷ hs) = refl
+
 pub scanned_none : (k : Shape) (r : SenderRecord) (needed least : ℕ) (me : End) (counted : ℕ) → me ≡ as_sender r → counted ≡ looks_counted r.looks → least ≡ length r.published → Scanned k r needed least 0 me counted
 scanned_none k r needed least me counted is looks front = record {
   xs = [];
+  counts = [];
+  each = refl;
+  are = sym (no_counts (finals k.upstreams));
+  ahead = λ j lt. absurd (omega arith);
   saw = record { is = is ∙ ap (λ (ys : List Look). as_sender (record r { looks = ys })) (sym (append-nil r.looks)); looks = looks ∙ ap looks_counted (sym (append-nil r.looks)); rises = λ g. (let e : last_look 0 (r.looks ++ []) (count_word g) ≡ last_look 0 r.looks (count_word g) = ap (λ (ys : List Look). last_look 0 ys (count_word g)) (append-nil r.looks) in omega arith) };
   high = λ j lt. absurd (omega arith);
   either = inl front;
@@ -86,13 +123,30 @@ saw_more r xs i v me me' counted counted' S is rise more = record {
       let e : last_look 0 ((r.looks ++ xs) ++ look i v ∷ []) w ≡ last_look 0 (r.looks ++ (xs ++ look i v ∷ [])) w = ap (λ (ys : List Look). last_look 0 ys w) (append_assoc r.looks xs (look i v ∷ [])) in omega arith);
 }
 
-pub scanned_more : (k : Shape) (r : SenderRecord) (needed least least' i f v : ℕ) (me me' : End) (counted counted' : ℕ) → Scanned k r needed least i me counted → get_or (finals k.upstreams) i 0 ≡ f → me' ≡ as_sender (sender_looked (sender_of me.0) (count_word f) v) → last_look 0 (sender_of me.0).looks (count_word f) ≤ v
+-- one look more, in the finals' order
+scan_more : (k : Shape) (xs : List Look) (counts : List ℕ) (i f v : ℕ) → length counts ≡ i → i < length (finals k.upstreams) → get_or (finals k.upstreams) i 0 ≡ f → xs ≡ count_looks (take i (finals k.upstreams)) counts
+    → xs ++ look (count_word f) v ∷ [] ≡ count_looks (take (i + 1) (finals k.upstreams)) (counts ++ v ∷ [])
+scan_more k xs counts i f v each inside at are =
+    ap (λ (ys : List Look). ys ++ look (count_word f) v ∷ []) are ∙ ap (λ (g : ℕ). count_looks (take i (finals k.upstreams)) counts ++ look (count_word g) v ∷ []) (sym at) ∙ sym (looks_more (finals k.upstreams) counts i v each inside)
+
+at_end : (counts : List ℕ) (v needed i j : ℕ) → length counts ≡ i → j < i + 1 → ((l : ℕ) → l < i → needed ≤ get_or counts l 0) → needed ≤ v → needed ≤ get_or (counts ++ v ∷ []) j 0
+at_end counts v needed i j each lt ahead high =
+    elim (cases_lt j i) [
+      | inl below ↦ (let a = ahead j below in let e : get_or (counts ++ v ∷ []) j 0 ≡ get_or counts j 0 = get_or_append_left counts (v ∷ []) 0 j (omega arith) in omega arith)
+      | inr here ↦ (let same : length counts ≡ j = omega arith in let e : get_or (counts ++ v ∷ []) j 0 ≡ v = number_at counts v j same in omega arith)
+    ]
+
+pub scanned_more : (k : Shape) (r : SenderRecord) (needed least least' i f v : ℕ) (me me' : End) (counted counted' : ℕ) → Scanned k r needed least i me counted → i < length (finals k.upstreams) → get_or (finals k.upstreams) i 0 ≡ f → me' ≡ as_sender (sender_looked (sender_of me.0) (count_word f) v) → last_look 0 (sender_of me.0).looks (count_word f) ≤ v
     → counted' ≡ min (counted + 1) 18446744073709551615 → needed ≤ v → v ≤ length r.published → least' ≡ lesser_of false v least → Scanned k r needed least' (i + 1) me' counted'
-scanned_more k r needed least least' i f v me me' counted counted' S at is rise more high front new =
+scanned_more k r needed least least' i f v me me' counted counted' S inside at is rise more high front new =
     let small : (least' ≤ least) × (least' ≤ v) × ((least' ≡ v) ⊎ (least' ≡ least)) = lesser v least least' new in
     let saw = saw_more r S.xs (count_word f) v me me' counted counted' S.saw is rise more in record {
       xs = S.xs ++ look (count_word f) v ∷ [];
       saw = saw;
+      counts = S.counts ++ v ∷ [];
+      each = let each = S.each in omega (arith, length-append S.counts (v ∷ []));
+      are = scan_more k S.xs S.counts i f v S.each inside at S.are;
+      ahead = λ j lt. at_end S.counts v needed i j S.each lt S.ahead high;
       high = λ j lt. (let e : last_look 0 ((r.looks ++ S.xs) ++ look (count_word f) v ∷ []) (count_word (get_or (finals k.upstreams) j 0)) ≡ last_look 0 (r.looks ++ (S.xs ++ look (count_word f) v ∷ [])) (count_word (get_or (finals k.upstreams) j 0)) = ap (λ (ys : List Look). last_look 0 ys (count_word (get_or (finals k.upstreams) j 0))) (append_assoc r.looks S.xs (look (count_word f) v ∷ [])) in
           elim (cases_lt j i) [
             | inl before ↦ (let a = S.high j before in let l = small.0 in let h = small.1 in let b : least' ≤ last_look 0 ((r.looks ++ S.xs) ++ look (count_word f) v ∷ []) (count_word (get_or (finals k.upstreams) j 0)) = last_least 0 (r.looks ++ S.xs) (count_word f) v (count_word (get_or (finals k.upstreams) j 0)) least' (omega arith) h in omega arith)
@@ -107,17 +161,22 @@ scanned_more k r needed least least' i f v me me' counted counted' S at is rise 
       front = let l = small.0 in let b = S.front in omega arith;
     }
 
-last_at : (xs : List Look) (x d : Look) → get_or (xs ++ x ∷ []) (length xs) d ≡ x
-last_at [] x d = refl
-last_at (y ∷ xs) x d = last_at xs x d
-
-pub scanned_low : (k : Shape) (r : SenderRecord) (needed least i f v : ℕ) (me me' : End) (counted counted' : ℕ) → Scanned k r needed least i me counted → Contains (finals k.upstreams) f → me' ≡ as_sender (sender_looked (sender_of me.0) (count_word f) v) → last_look 0 (sender_of me.0).looks (count_word f) ≤ v
+pub scanned_low : (k : Shape) (r : SenderRecord) (needed least i f v : ℕ) (me me' : End) (counted counted' : ℕ) → Scanned k r needed least i me counted → i < length (finals k.upstreams) → get_or (finals k.upstreams) i 0 ≡ f → me' ≡ as_sender (sender_looked (sender_of me.0) (count_word f) v) → last_look 0 (sender_of me.0).looks (count_word f) ≤ v
     → counted' ≡ min (counted + 1) 18446744073709551615 → v < needed → (xs : List Look) × LooksAtFinals r xs me' counted' × IsShort k xs needed
-scanned_low k r needed least i f v me me' counted counted' S has is rise more low = (
-  S.xs ++ look (count_word f) v ∷ [],
-  saw_more r S.xs (count_word f) v me me' counted counted' S.saw is rise more,
-  record { handler = f; is_final = has; count = v; saw = (length S.xs, omega (arith, length-append S.xs (look (count_word f) v ∷ [])), last_at S.xs (look (count_word f) v) (look (count_word f) v)); low = low },
-)
+scanned_low k r needed least i f v me me' counted counted' S inside at is rise more low =
+    let each = S.each in let len : length (S.counts ++ v ∷ []) ≡ i + 1 = omega (arith, length-append S.counts (v ∷ [])) in (
+      S.xs ++ look (count_word f) v ∷ [],
+      saw_more r S.xs (count_word f) v me me' counted counted' S.saw is rise more,
+      record {
+        counts = S.counts ++ v ∷ [];
+        are = scan_more k S.xs S.counts i f v S.each inside at S.are ∙ looks_few (finals k.upstreams) (S.counts ++ v ∷ []) (i + 1) len;
+        before = i;
+        last = len;
+        among = omega arith;
+        high = λ j lt. (let a = S.ahead j lt in let e : get_or (S.counts ++ v ∷ []) j 0 ≡ get_or S.counts j 0 = get_or_append_left S.counts (v ∷ []) 0 j (omega arith) in omega arith);
+        low = let e : get_or (S.counts ++ v ∷ []) i 0 ≡ v = number_at S.counts v i S.each in omega arith;
+      },
+    )
 
 pub scanned_all : (k : Shape) (r : SenderRecord) (needed least i : ℕ) (me : End) (counted : ℕ) → IsPlan k → Scanned k r needed least i me counted → i ≡ length (finals k.upstreams) → (xs : List Look) × LooksAtFinals r xs me counted × IsEnough k r xs needed least
 scanned_all k r needed least i me counted plan S all =
@@ -129,30 +188,29 @@ scanned_all k r needed least i me counted plan S all =
         front = S.front;
         seen = λ f has. (let lt = has.1 in let at : get_or (finals k.upstreams) has.0 0 ≡ f = get_any (finals k.upstreams) has.0 0 f has.1 ∙ has.2 in
             subst (λ (m : ℕ). least ≤ last_look 0 (r.looks ++ S.xs) (count_word m)) at (S.high has.0 (omega arith)));
+        counts = S.counts;
+        are = S.are ∙ looks_few (finals k.upstreams) S.counts i S.each;
+        all = inr (S.each ∙ all);
+        high = let each = S.each in λ j lt. S.ahead j (omega arith);
       },
     )
+
+no_looks_at : (hs : List ℕ) → count_looks hs [] ≡ []
+no_looks_at [] = refl
+no_looks_at (h ∷ hs) = refl
 
 -- what is remembered serves
 pub remembers : (k : Shape) (r : SenderRecord) (needed least front : ℕ) (me : End) (counted : ℕ) → me ≡ as_sender r → counted ≡ looks_counted r.looks → needed ≤ least → least ≤ front → front ≡ length r.published → IsSeenLeast k r least
     → (xs : List Look) × LooksAtFinals r xs me counted × IsEnough k r xs needed least
 unfolding scanned_none
 remembers k r needed least front me counted is looks enough low at seen =
-    ([], (scanned_none k r needed front me counted is looks at).saw, record { enough = enough; front = omega arith; seen = λ f has. subst (λ (ys : List Look). least ≤ last_look 0 ys (count_word f)) (sym (append-nil r.looks)) (seen f has) })
+    ([], (scanned_none k r needed front me counted is looks at).saw, record { enough = enough; front = omega arith; seen = λ f has. subst (λ (ys : List Look). least ≤ last_look 0 ys (count_word f)) (sym (append-nil r.looks)) (seen f has); counts = []; are = sym (no_looks_at (finals k.upstreams)); all = inl refl; high = λ i lt. absurd (omega arith) })
 
 -- the counts of the first i upstreams were looked at
 least_more : (counts : List ℕ) (v : ℕ) → 0 < length counts → least_of (counts ++ v ∷ []) ≡ min (least_of counts) v
 least_more [] v lt = absurd (omega arith)
 least_more (n ∷ []) v lt = refl
 least_more (n ∷ m ∷ ms) v lt = let e : least_of ((m ∷ ms) ++ v ∷ []) ≡ min (least_of (m ∷ ms)) v = least_more (m ∷ ms) v (omega arith) in omega arith
-
-looks_more : (ups counts : List ℕ) (i v : ℕ) → length counts ≡ i → i < length ups → count_looks (take (i + 1) ups) (counts ++ v ∷ []) ≡ count_looks (take i ups) counts ++ look (count_word (get_or ups i 0)) v ∷ []
-looks_more [] counts i v e lt = absurd (omega arith)
-looks_more (u ∷ ups) [] zero v e lt = refl
-looks_more (u ∷ ups) [] (suc i) v e lt = absurd (omega arith)
-looks_more (u ∷ ups) (n ∷ counts) zero v e lt = absurd (omega arith)
-looks_more (u ∷ ups) (n ∷ counts) (suc i) v e lt =
-    let at : suc i + 1 ≡ suc (i + 1) = omega arith in
-    ap (λ (j : ℕ). count_looks (take j (u ∷ ups)) (n ∷ (counts ++ v ∷ []))) at ∙ ap (λ (xs : List Look). look (count_word u) n ∷ xs) (looks_more ups counts i v (omega arith) (omega arith))
 
 pub record Round (ups : List ℕ) (r : ReceiverRecord) (cursor available i : ℕ) (first : Bool) (me : End) (counted : ℕ) : Type 0 where
   pub counts : List ℕ

@@ -1,5 +1,5 @@
 -- What the ends are to their callers, and what each call answers and leaves of what its end knows.
-use Rattle.std.specs.Prelude.{◌≡◌, ◌↔◌, ℕ, ◌+◌, ◌-◌, ◌<◌, ◌≤◌, ◌⊎◌, ◌==◌, ◌&&◌, ◌||◌, IsTrue, true, min, List, [], ◌∷◌, ◌++◌, length, take, drop, replicate, slice_index_or, Some, None, Result, Ok, Err, Contains}
+use Rattle.std.specs.Prelude.{◌≡◌, ◌↔◌, ℕ, ◌+◌, ◌-◌, ◌<◌, ◌≤◌, ◌⊎◌, ◌==◌, ◌&&◌, ◌||◌, IsTrue, true, false, min, List, [], ◌∷◌, ◌++◌, length, take, drop, replicate, slice_index, slice_index_or, Some, None, Result, Ok, Err, Contains}
 use Rattle.atomic_table.specs.Seated.{TableId}
 use Rattle.dr_seq.specs.declared.event.Event.{Event}
 use Rattle.dr_core.specs.declared.refusal.Refusal.{Refusal}
@@ -39,31 +39,53 @@ sender_saw r seen = record r { looks = r.looks ++ seen }
 abbrev pub more_claimed : SenderRecord → ℕ → SenderRecord
 more_claimed r n = record r { pending = r.pending ++ replicate n None }
 
--- a claim of n ends with these looks, of which the first and the last are at halt
-abbrev pub ClaimSaw : SenderRecord → List Look → SenderRecord → Type 0
-ClaimSaw r seen r' = r' ≡ sender_saw r seen
+-- looks at the counts of some handlers, in their order, as far as there are counts
+abbrev pub count_looks : List ℕ → List ℕ → List Look
+count_looks [] counts = []
+count_looks (h ∷ hs) [] = []
+count_looks (h ∷ hs) (n ∷ counts) = look (count_word h) n ∷ count_looks hs counts
 
--- some final handler was seen too far behind for n more
-pub record SawNoRoom (r : SenderRecord) (n : ℕ) (seen : List Look) : Type 0 where
-  pub handler : ℕ
-  pub is_final : Contains (finals r.plan.upstreams) handler
-  pub count : ℕ
-  pub saw : Contains seen (look (count_word handler) count)
-  pub behind : r.plan.size + count < claimed r + n
+-- a claim looks at the finals' counts in rising order
+abbrev pub gate_looks : SenderRecord → List ℕ → List Look
+gate_looks r counts = count_looks (finals r.plan.upstreams) counts
+
+-- a count leaves room for n more
+abbrev pub LeavesRoom : SenderRecord → ℕ → ℕ → Type 0
+LeavesRoom r n count = claimed r + n ≤ r.plan.size + count
+
+-- there is room for n more: the sender looked at no final, since what it remembered leaves room, or at each of them, and each leaves room
+pub record FoundRoom (r : SenderRecord) (n : ℕ) (counts : List ℕ) : Type 0 where
+  pub all : (counts ≡ []) ⊎ (length counts ≡ length (finals r.plan.upstreams))
+  pub room : (i : ℕ) → i < length counts → LeavesRoom r n (slice_index counts i)
+
+-- there is none: the last count at which the sender looked is the first that leaves no room
+pub record FoundNoRoom (r : SenderRecord) (n : ℕ) (counts : List ℕ) : Type 0 where
+  pub before : ℕ
+  pub last : length counts ≡ before + 1
+  pub among : length counts ≤ length (finals r.plan.upstreams)
+  pub room : (i : ℕ) → i < before → LeavesRoom r n (slice_index counts i)
+  pub behind : r.plan.size + slice_index counts before < claimed r + n
 
 abbrev pub IsSize : SenderRecord → ℕ → Type 0
 IsSize r n = (0 < n) × (n ≤ r.plan.size)
 
--- a claim first looks at halt, then at the finals' counts where it needs them, and last at halt again: it gives the next n sequences where both looks found 0
+-- the last look found the ring halted, though the first did not, and though there is room
+pub record HaltedLate (r : SenderRecord) (n : ℕ) (r' : SenderRecord) : Type 0 where
+  pub limit : claimed r + n ≤ r.plan.limit
+  pub counts : List ℕ
+  pub room : FoundRoom r n counts
+  pub saw : r' ≡ sender_saw r (look halt_word 0 ∷ gate_looks r counts ++ look halt_word 1 ∷ [])
+
+-- a claim first looks at halt, then at the finals' counts where what it remembers leaves no room, and last at halt again: it gives the next n sequences where both looks found 0
 abbrev pub TriesToClaim : SenderRecord → ℕ → SenderRecord → Result Claimed Refusal → Type 0
 TriesToClaim r n r' (Ok c) =
     IsSize r n × (claimed r + n ≤ r.plan.limit) × (c ≡ record { lo = claimed r; hi = claimed r + n - 1 })
-    × ((counts : List Look) × (r' ≡ more_claimed (sender_saw r (look halt_word 0 ∷ counts ++ look halt_word 0 ∷ [])) n))
+    × ((counts : List ℕ) × FoundRoom r n counts × (r' ≡ more_claimed (sender_saw r (look halt_word 0 ∷ gate_looks r counts ++ look halt_word 0 ∷ [])) n))
 TriesToClaim r n r' (Err BadCount) = ((n ≡ 0) ⊎ (r.plan.size < n)) × (r' ≡ r)
-TriesToClaim r n r' (Err Halted) = IsSize r n × ((seen : List Look) × (r' ≡ sender_saw r (seen ++ look halt_word 1 ∷ [])))
+TriesToClaim r n r' (Err Halted) = IsSize r n × ((r' ≡ sender_saw r (look halt_word 1 ∷ [])) ⊎ HaltedLate r n r')
 TriesToClaim r n r' (Err Exhausted) = IsSize r n × (r.plan.limit < claimed r + n) × (r' ≡ sender_saw r (look halt_word 0 ∷ []))
 TriesToClaim r n r' (Err NoRoom) =
-    IsSize r n × (claimed r + n ≤ r.plan.limit) × ((counts : List Look) × (r' ≡ sender_saw r (look halt_word 0 ∷ counts)) × SawNoRoom r n counts)
+    IsSize r n × (claimed r + n ≤ r.plan.limit) × ((counts : List ℕ) × FoundNoRoom r n counts × (r' ≡ sender_saw r (look halt_word 0 ∷ gate_looks r counts)))
 TriesToClaim r n r' (Err _) = ⊥
 
 abbrev pub TriesToWrite : SenderRecord → ℕ → Event → SenderRecord → Result (Unit {0}) Refusal → Type 0
@@ -97,12 +119,6 @@ TriesToClose r r' (Ok _) = (r.pending ≡ []) × (r' ≡ sender_closed (sender_h
 TriesToClose r r' (Err OpenClaim) = (0 < length r.pending) × (r' ≡ r)
 TriesToClose r r' (Err _) = ⊥
 
--- looks at the counts of some upstreams, in their order
-abbrev pub count_looks : List ℕ → List ℕ → List Look
-count_looks [] counts = []
-count_looks (u ∷ ups) [] = []
-count_looks (u ∷ ups) (n ∷ counts) = look (count_word u) n ∷ count_looks ups counts
-
 -- what a receiver knows once it has looked at closed, at the cursor and at each upstream's count
 abbrev pub looked_round : ReceiverRecord → ℕ → ℕ → List ℕ → ReceiverRecord
 looked_round r closed cursor counts = record r {
@@ -119,11 +135,11 @@ offered_by cursor (n ∷ counts) = least_of (n ∷ counts)
 abbrev pub received_all : ReceiverRecord → List Event → ReceiverRecord
 received_all r events = record r { received = r.received ++ events }
 
--- what a poll answers, where it saw this
+-- what a poll answers, where it saw this; who was told that the ring drained gets no batch any more
 abbrev pub Answers : ReceiverRecord → List Event → ReceiverRecord → List Event → ℕ → ℕ → List ℕ → Polled → Type 0
 Answers r out r' out' closed cursor counts (Batch first count last) =
     (first ≡ length r.received) × (first < offered_by cursor counts) × (count ≡ min (offered_by cursor counts - first) (length out)) × (IsTrue last ↔ (first + count ≡ offered_by cursor counts))
-    × (r' ≡ received_all (looked_round r closed cursor counts) (take count out')) × (drop count out' ≡ drop count out)
+    × (r' ≡ received_all (looked_round r closed cursor counts) (take count out')) × (r'.told ≡ false) × (drop count out' ≡ drop count out)
 Answers r out r' out' closed cursor counts Drained =
     (closed ≡ 1) × (cursor ≡ length r.received) × (r' ≡ looked_round r closed cursor counts) × (r'.told ≡ true) × (out' ≡ out)
 Answers r out r' out' closed cursor counts Gating =

@@ -12,3 +12,4 @@ pub mod Parts
 pub mod Making
 pub mod Fault
 pub mod Settling
+pub mod Shown

@@ -1,5 +1,5 @@
 -- What the loops of the ends' calls come to.
-use Rattle.std.specs.Prelude.{◌≡◌, ◌≢◌, ℕ, ◌+◌, ◌%◌, ◌<◌, ◌≤◌, ◌==◌, ◌&&◌, ◌||◌, Bool, nat_lt, if◌then◌else◌, true, List, [], ◌++◌, length, slice_index, Option, Some, None, Contains}
+use Rattle.std.specs.Prelude.{◌≡◌, ◌≢◌, ℕ, ◌+◌, ◌%◌, ◌<◌, ◌≤◌, ◌==◌, ◌&&◌, ◌||◌, ◌⊎◌, Bool, nat_lt, if◌then◌else◌, true, List, [], ◌++◌, length, slice_index, Option, Some, None, Contains}
 use Rattle.dr_core.specs.declared.command.Polled.{Polled}
 use Rattle.dr_core.specs.declared.command.Polled.TheVariants.{Drained, Gating, Idle}
 use Rattle.dr_graph.specs.Graph.{upstreams_of, finals}
@@ -23,19 +23,25 @@ pub record LooksAtFinals (r : SenderRecord) (xs : List Look) (me : End) (counted
   pub looks : counted ≡ looks_counted (r.looks ++ xs)
   pub rises : (f : ℕ) → last_look 0 r.looks (count_word f) ≤ last_look 0 (r.looks ++ xs) (count_word f)
 
--- every count was at least what was needed
+-- every count was at least what was needed, or what was remembered served
 pub record IsEnough (k : Shape) (r : SenderRecord) (xs : List Look) (needed least : ℕ) : Type 0 where
   pub enough : needed ≤ least
   pub front : least ≤ length r.published
   pub seen : IsSeenLeast k (sender_saw r xs) least
+  pub counts : List ℕ
+  pub are : xs ≡ count_looks (finals k.upstreams) counts
+  pub all : (counts ≡ []) ⊎ (length counts ≡ length (finals k.upstreams))
+  pub high : (i : ℕ) → i < length counts → needed ≤ slice_index counts i
 
--- the last count was less
+-- the last count was the first that was less
 pub record IsShort (k : Shape) (xs : List Look) (needed : ℕ) : Type 0 where
-  pub handler : ℕ
-  pub is_final : Contains (finals k.upstreams) handler
-  pub count : ℕ
-  pub saw : Contains xs (look (count_word handler) count)
-  pub low : count < needed
+  pub counts : List ℕ
+  pub are : xs ≡ count_looks (finals k.upstreams) counts
+  pub before : ℕ
+  pub last : length counts ≡ before + 1
+  pub among : length counts ≤ length (finals k.upstreams)
+  pub high : (i : ℕ) → i < before → needed ≤ slice_index counts i
+  pub low : slice_index counts before < needed
 
 abbrev pub Scans : Shape → SenderRecord → ℕ → End → ℕ → Option ℕ → Type 0
 Scans k r need me looks (Some least) = (seen : List Look) × LooksAtFinals r seen me looks × IsEnough k r seen need least

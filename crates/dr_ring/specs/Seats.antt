@@ -121,9 +121,10 @@ SenderCloses s me n me' = me' ≡ as_sender (sender_closed (sender_of me.0))
 abbrev pub ReceiverLooksAtClosed : Step ℕ → End → ℕ → End → Type 0
 ReceiverLooksAtClosed s me n me' = (me' ≡ as_receiver (receiver_looked (receiver_of me.0) s.word n)) × (n ≤ 1)
 
--- the cursor is no less than what the receiver took
+-- the cursor is no less than what the receiver took, and no more where it was told that the ring drained
 abbrev pub ReceiverLooksAtCursor : Step ℕ → End → ℕ → End → Type 0
-ReceiverLooksAtCursor s me n me' = (me' ≡ as_receiver (cursor_looked (receiver_of me.0) n)) × (length (receiver_of me.0).received ≤ n)
+ReceiverLooksAtCursor s me n me' =
+    (me' ≡ as_receiver (cursor_looked (receiver_of me.0) n)) × (length (receiver_of me.0).received ≤ n) × ((receiver_of me.0).told ≡ true → n ≤ length (receiver_of me.0).received)
 
 -- nor is an upstream's count, and no upstream completed more than a receiver has that was told that the ring drained
 abbrev pub ReceiverLooksAtCount : Step ℕ → End → ℕ → End → Type 0

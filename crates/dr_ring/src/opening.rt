@@ -21,7 +21,7 @@ use crate::settled::HandlerCounts;
 use atomic_table::Split;
 use dr_core::MAX_LIMIT;
 use dr_graph::Graph;
-use dr_seq::Size;
+use dr_seq::{GateCache, Size};
 use std::alloc::{AllocError, Global};
 use std::sync::Arc;
 
@@ -87,7 +87,7 @@ fn ends(alloc: Global, plan: Plan) -> Result<(Sender, Vec<Receiver>, Halter), Al
         seat,
         claimed: 0,
         published: 0,
-        least: 0,
+        gate: GateCache::new(),
         looks: 0,
         marks,
         counts,

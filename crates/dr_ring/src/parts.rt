@@ -1,6 +1,6 @@
 //! The loops of the ends' calls.
 
-ghost use Rattle.std.specs.Prelude.{◌≡◌, ◌+◌, ◌^◌, ◌<◌, ◌≤◌, None, length};
+ghost use Rattle.std.specs.Prelude.{◌≡◌, ◌+◌, ◌^◌, ◌<◌, ◌≤◌, None, length, IfSome};
 ghost use Rattle.std.specs.Bool.{MatchBool};
 ghost use Rattle.dr_ring.specs.Shape.{handlers_of};
 ghost use Rattle.dr_ring.specs.Plans.{IsPlan};
@@ -74,6 +74,7 @@ pub(crate) fn make_room(
     requires looks { looks.old ≡ looks_counted (sender_of seat.old.me.0).looks }
     ensures seat { (seat.new.table_id ≡ seat.old.table_id) × (seat.new.id ≡ seat.old.id) }
     ensures answer { Scans plan.now (sender_of seat.old.me.0) need seat.new.me looks.new result }
+    ensures rises { IfSome result (λ least. remembered ≤ least) }
 {
     if remembered >= need {
         return Some(remembered);

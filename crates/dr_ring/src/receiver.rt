@@ -1,12 +1,14 @@
 //! An end that receives every event.
 
-ghost use Rattle.std.specs.Prelude.{◌≡◌};
+ghost use Rattle.std.specs.Prelude.{◌≡◌, ◌<◌, ◌^◌, ◌||◌, length};
+ghost use Rattle.dr_core.specs.Ends.{Tells, PollAnswers, CompleteAnswers, is_drained, Takes, Completes};
+ghost use Rattle.dr_ring.specs.Shown.{receiver_place, received_of};
 ghost use Rattle.dr_ring.specs.Calls.{looks_counted, Polls, TriesToComplete};
 
 use crate::body::RingBody;
 use crate::laws::{RingSeat, receiver as laws};
 use crate::parts;
-use dr_core::{Polled, Refusal};
+use dr_core::{Outlet, Polled, Refusal, Trouble};
 use dr_seq::Event;
 use std::alloc::Global;
 use std::marker::Model;
@@ -47,7 +49,9 @@ impl Receiver {
         ensures plan { self.new.knows.plan ≡ self.old.knows.plan }
         ensures number { self.new.knows.number ≡ self.old.knows.number }
         ensures answer { Polls self.old.knows out.old self.new.knows out.new result }
+        ensures fits { length self.new.knows.received < 2 ^ 64 }
     {
+        let first = self.taken;
         if out.is_empty() {
             return Err(Refusal::BadCount);
         }
@@ -64,7 +68,6 @@ impl Receiver {
             cursor,
             &mut self.looks,
         );
-        let first = self.taken;
         if available <= first {
             return Ok(parts::nothing_offered(closed, cursor, first));
         }
@@ -117,5 +120,39 @@ impl Receiver {
         ensures { result ≡ looks_counted self.now.knows.looks }
     {
         self.looks
+    }
+}
+
+impl Outlet for Receiver {
+    ghost use Rattle.std.specs.Prelude.{ℕ, Some};
+    ghost use Rattle.atomic_table.specs.Seated.{TableId};
+    ghost use Rattle.dr_ring.specs.Shape.{Shape};
+
+    ghost Kept = { TableId × Shape × ℕ };
+
+    ghost kept = { receiver_place };
+
+    ghost received = { λ e. Some (received_of e.knows) };
+
+    ghost told = { λ e. e.knows.told };
+
+    fn poll_into(&mut self, out: &mut [Event]) -> Result<Polled, Trouble>
+        ensures kept { receiver_place self.new ≡ receiver_place self.old }
+        ensures answer { PollAnswers out.old out.new result }
+        ensures told { self.new.knows.told ≡ (self.old.knows.told || is_drained result) }
+        ensures received { Takes out.new result (received_of self.old.knows) (received_of self.new.knows) }
+        ensures own { Tells (Polls self.old.knows out.old self.new.knows out.new) result }
+    {
+        Ok(Receiver::poll_into(self, out)?)
+    }
+
+    fn complete(&mut self, upto: u64) -> Result<(), Trouble>
+        ensures kept { receiver_place self.new ≡ receiver_place self.old }
+        ensures answer { CompleteAnswers result }
+        ensures told { self.new.knows.told ≡ self.old.knows.told }
+        ensures received { Completes upto result (received_of self.old.knows) (received_of self.new.knows) }
+        ensures own { Tells (TriesToComplete self.old.knows upto self.new.knows) result }
+    {
+        Ok(Receiver::complete(self, upto)?)
     }
 }

@@ -1,14 +1,16 @@
 //! The one end that claims, writes and publishes.
 
 ghost use Rattle.std.specs.Prelude.{◌≡◌};
+ghost use Rattle.dr_core.specs.Ends.{Tells, ClaimAnswers, WriteAnswers, PublishAnswers, Claims, Writes, Publishes};
+ghost use Rattle.dr_ring.specs.Shown.{sender_place, sent_of};
 ghost use Rattle.dr_ring.specs.Calls.{looks_counted, TriesToClaim, TriesToWrite, TriesToPublish, TriesToClose};
 
 use crate::body::RingBody;
 use crate::laws::{RingSeat, sender as laws};
 use crate::parts;
 use crate::settled::HandlerCounts;
-use dr_core::{Claimed, Refusal};
-use dr_seq::Event;
+use dr_core::{Claimed, Inlet, Refusal, Trouble};
+use dr_seq::{Event, GateCache};
 use std::alloc::Global;
 use std::marker::Model;
 use std::sync::Arc;
@@ -21,7 +23,7 @@ pub struct Sender {
     pub(crate) claimed: u64,
     pub(crate) published: u64,
     // What each final handler was seen to have completed at least.
-    pub(crate) least: u64,
+    pub(crate) gate: GateCache,
     pub(crate) looks: u64,
     // One more than the sequence that was last written to a slot, so that a claim clears nothing.
     pub(crate) marks: Vec<u64>,
@@ -40,7 +42,7 @@ impl Model for Sender {
 
     ghost view = { λ s. record { ring = s.seat.table_id; knows = sender_of s.seat.me.0 } };
 
-    ghost invariant = { λ s. SenderFits (arc_value s.ring).table.shared.table_id s.seat.table_id s.seat.me (arc_value s.ring).plan s.claimed s.published s.least s.looks s.marks.items (length s.counts.items) };
+    ghost invariant = { λ s. SenderFits (arc_value s.ring).table.shared.table_id s.seat.table_id s.seat.me (arc_value s.ring).plan s.claimed s.published s.gate s.looks s.marks.items (length s.counts.items) };
 }
 
 impl Sender {
@@ -75,13 +77,13 @@ impl Sender {
             &mut self.seat,
             plan,
             self.published,
-            self.least,
+            self.gate.seen(),
             need,
             &mut self.looks,
         ) else {
             return Err(Refusal::NoRoom);
         };
-        self.least = least;
+        self.gate.raise(least);
         self.looks = self.looks.saturating_add(1);
         if laws::look_at_halt(words, &mut self.seat, plan, n) != 0 {
             return Err(Refusal::Halted);
@@ -171,5 +173,45 @@ impl Sender {
         ensures { result ≡ looks_counted self.now.knows.looks }
     {
         self.looks
+    }
+}
+
+impl Inlet for Sender {
+    ghost use Rattle.std.specs.Prelude.{Some};
+    ghost use Rattle.atomic_table.specs.Seated.{TableId};
+    ghost use Rattle.dr_ring.specs.Shape.{Shape};
+
+    ghost Kept = { TableId × Shape };
+
+    ghost kept = { sender_place };
+
+    ghost sent = { λ e. Some (sent_of e.knows) };
+
+    fn try_claim(&mut self, n: u64) -> Result<Claimed, Trouble>
+        ensures kept { sender_place self.new ≡ sender_place self.old }
+        ensures answer { ClaimAnswers n result }
+        ensures sent { Claims n result (sent_of self.old.knows) (sent_of self.new.knows) }
+        ensures own { Tells (TriesToClaim self.old.knows n self.new.knows) result }
+    {
+        let _limit = self.ring.plan.limit();
+        Ok(Sender::try_claim(self, n)?)
+    }
+
+    fn write(&mut self, s: u64, event: Event) -> Result<(), Trouble>
+        ensures kept { sender_place self.new ≡ sender_place self.old }
+        ensures answer { WriteAnswers result }
+        ensures sent { Writes s event result (sent_of self.old.knows) (sent_of self.new.knows) }
+        ensures own { Tells (TriesToWrite self.old.knows s event self.new.knows) result }
+    {
+        Ok(Sender::write(self, s, event)?)
+    }
+
+    fn publish(&mut self, lo: u64, hi: u64) -> Result<(), Trouble>
+        ensures kept { sender_place self.new ≡ sender_place self.old }
+        ensures answer { PublishAnswers lo hi result }
+        ensures sent { Publishes lo hi result (sent_of self.old.knows) (sent_of self.new.knows) }
+        ensures own { Tells (TriesToPublish self.old.knows lo hi self.new.knows) result }
+    {
+        Ok(Sender::publish(self, lo, hi)?)
     }
 }

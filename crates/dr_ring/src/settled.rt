@@ -121,7 +121,7 @@ pub fn settle(sender: Sender, receivers: Vec<Receiver>) -> Settled
         mut seat,
         claimed,
         published,
-        least: _,
+        gate: _,
         looks: _,
         marks: _,
         mut counts,

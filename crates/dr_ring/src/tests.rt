@@ -1,6 +1,9 @@
 //! What no clause says: that the calls succeed with ample memory, worked runs by their answers,
 //! and that threads hand all events over.
 
+mod threads;
+mod traits;
+
 ghost use Rattle.std.specs.Prelude.{IfOk};
 ghost use Rattle.dr_ring.specs.Settling.{AreAllEnds};
 
@@ -12,7 +15,6 @@ use dr_seq::{Event, Size};
 use std::alloc::Global;
 use std::process::Abort;
 use std::test::Fail;
-use std::thread;
 
 const LIMIT: u64 = 1 << 62;
 
@@ -358,143 +360,5 @@ fn a_new_ring_settles(rt: HostRuntime) -> Result<(), Fail> {
         assert_eq!(rt; settled.taken(h), 0, "at {h}");
         assert_eq!(rt; settled.completed(h), 0, "at {h}");
     }
-    Ok(())
-}
-
-/// Sends events in claims of up to `cut`, until there are so many or the ring is halted, and closes.
-fn send(mut sender: Sender, count: u64, cut: u64) -> u64 {
-    let mut next = 0;
-    for _ in 0..u64::MAX {
-        if next >= count {
-            break;
-        }
-        let left = count - next;
-        match sender.try_claim(if left < cut { left } else { cut }) {
-            Ok(claim) => {
-                for s in claim.lo..claim.hi.saturating_add(1) {
-                    let event = Event {
-                        first: s.wrapping_mul(7),
-                        second: s,
-                    };
-                    let _ = sender.write(s, event);
-                }
-                let _ = sender.publish(claim.lo, claim.hi);
-                next = claim.hi.saturating_add(1);
-            }
-            Err(Refusal::NoRoom) => thread::yield_now(),
-            Err(_) => break,
-        }
-    }
-    let _ = sender.close();
-    next
-}
-
-/// Receives until it is told that the ring drained, and tells how many events came, or nothing
-/// where one came out of order.
-fn receive(mut receiver: Receiver) -> Option<u64> {
-    let mut next = 0u64;
-    let mut out = [Event::NONE; 64];
-    for _ in 0..u64::MAX {
-        match receiver.poll_into(&mut out) {
-            Ok(Batch { first, count, .. }) => {
-                if first != next || count > 64 {
-                    return None;
-                }
-                for event in &out[..count as usize] {
-                    if event.first != next.wrapping_mul(7) || event.second != next {
-                        return None;
-                    }
-                    next = next.wrapping_add(1);
-                }
-                let _ = receiver.complete(next);
-            }
-            Ok(Drained) => return Some(next),
-            _ => thread::yield_now(),
-        }
-    }
-    None
-}
-
-#[test]
-fn three_threads_pass_events_in_order(rt: HostRuntime) -> Result<(), Fail> {
-    let graph = side_by_side(rt.alloc(), &["a", "b"])?;
-    let ends = open(rt.alloc(), &graph, 4)?;
-    let sender = ends.sender;
-    let mut receivers = ends.receivers;
-    let b = receivers.pop().expect(&rt, "two receivers");
-    let a = receivers.pop().expect(&rt, "two receivers");
-    let (sent, (first, second)) = thread::join(
-        &rt,
-        move || send(sender, 1000, 1),
-        || thread::join(&rt, move || receive(a), move || receive(b)),
-    );
-    assert_eq!(rt; sent, 1000);
-    assert_eq!(rt; first, Some(1000));
-    assert_eq!(rt; second, Some(1000));
-    Ok(())
-}
-
-#[test]
-fn a_million_through_a_diamond(rt: HostRuntime) -> Result<(), Fail> {
-    let ends = open(rt.alloc(), &diamond(rt.alloc())?, 1024)?;
-    let sender = ends.sender;
-    let mut receivers = ends.receivers;
-    let b = receivers.pop().expect(&rt, "three receivers");
-    let r = receivers.pop().expect(&rt, "three receivers");
-    let j = receivers.pop().expect(&rt, "three receivers");
-    let ((sent, last), (first, second)) = thread::join(
-        &rt,
-        || thread::join(&rt, move || send(sender, 1_000_000, 64), move || receive(b)),
-        || thread::join(&rt, move || receive(j), move || receive(r)),
-    );
-    assert_eq!(rt; sent, 1_000_000);
-    for received in [first, second, last] {
-        assert_eq!(rt; received, Some(1_000_000));
-    }
-    Ok(())
-}
-
-/// Halts once a receiver has come so far.
-fn halt_after(mut halter: Halter, mut receiver: Receiver, count: u64) -> Option<u64> {
-    let mut next = 0u64;
-    let mut out = [Event::NONE; 8];
-    for _ in 0..u64::MAX {
-        match receiver.poll_into(&mut out) {
-            Ok(
-                Batch {
-                    first,
-                    count: more,
-                    ..
-                },
-            ) => {
-                next = first.saturating_add(more);
-                let _ = receiver.complete(next);
-                if next >= count {
-                    halter.halt();
-                }
-            }
-            Ok(Drained) => return Some(next),
-            _ => thread::yield_now(),
-        }
-    }
-    None
-}
-
-#[test]
-fn halted_in_mid_stream(rt: HostRuntime) -> Result<(), Fail> {
-    let graph = side_by_side(rt.alloc(), &["a", "b"])?;
-    let ends = open(rt.alloc(), &graph, 16)?;
-    let (sender, halter) = (ends.sender, ends.halter);
-    let mut receivers = ends.receivers;
-    let b = receivers.pop().expect(&rt, "two receivers");
-    let a = receivers.pop().expect(&rt, "two receivers");
-    let (sent, (first, second)) = thread::join(
-        &rt,
-        move || send(sender, LIMIT, 4),
-        || thread::join(&rt, move || receive(a), move || halt_after(halter, b, 1000)),
-    );
-    assert!(rt; sent >= 1000);
-    assert_eq!(rt; first, Some(sent));
-    assert_eq!(rt; second, Some(sent));
     Ok(())
 }

@@ -112,7 +112,7 @@ const FIRST: [Row; 20] = [
 ];
 
 // After `ring,4,single`.
-const SETUP: [Row; 22] = [
+const SETUP: [Row; 19] = [
     (
         "start",
         "ring,4,single\nstart\n",
@@ -209,27 +209,6 @@ const SETUP: [Row; 22] = [
         "ring,4,single\nwith,Az09_-\n",
         "",
         "record 3: no start",
-        2,
-    ),
-    (
-        "with,a,b",
-        "ring,4,single\nwith,a,b\n",
-        "",
-        "record 2: bad record",
-        2,
-    ),
-    (
-        "with,a / with,a",
-        "ring,4,single\nwith,a\nwith,a\n",
-        "",
-        "record 3: bad record",
-        2,
-    ),
-    (
-        "then,a",
-        "ring,4,single\nthen,a\n",
-        "",
-        "record 2: bad record",
         2,
     ),
     (

@@ -79,6 +79,7 @@ pub fn look_at_cursor(words: &Words, seat: &mut RingSeat, plan: &Plan) -> u64
     ensures seat { (seat.new.table_id ≡ seat.old.table_id) × (seat.new.id ≡ seat.old.id) }
     ensures end { seat.new.me ≡ as_receiver (cursor_looked (receiver_of seat.old.me.0) result) }
     ensures taken { length (receiver_of seat.old.me.0).received ≤ result }
+    ensures told { (receiver_of seat.old.me.0).told ≡ true → result ≤ length (receiver_of seat.old.me.0).received }
 {
     let _plan = plan;
     words.load::<LooksAtCursor>(seat, CURSOR_WORD)

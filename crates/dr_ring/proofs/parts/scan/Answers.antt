@@ -1,12 +1,13 @@
 use Rattle.std.proofs.Common.{ℕ, List, ◌≤◌, arith, ◌∙◌, sym, ap, subst, length, get_or}
 use Rattle.dr_ring.specs.Seats.{End, sender_of}
-use Rattle.dr_ring.proofs.Rounds.{contains_item, scanned_more, scanned_low, scanned_all}
+use Rattle.dr_ring.proofs.Rounds.{scanned_more, scanned_low, scanned_all}
 use Rattle.dr_ring.proofs.parts.scan.Goals as goal
 
 pub returns-then-count-need-clause-answer : goal.returns-then-count-need-clause-answer
 returns-then-count-need-clause-answer c =
     scanned_low _ _ c.args.need c.loop-handler.least c.loop-handler.handler-index _ c.look_at_count-count.result _ _ _ _ c.loop-handler.invariant.2
-    (contains_item c.finals-handler-items.result.now _ c.loop-handler.handler-index c.finals-handler-items.ensures c.loop-handler-test.true)
+    (let lt = c.loop-handler-test.true in let same = ap length c.finals-handler-items.ensures in omega arith)
+    (ap (λ (xs : List ℕ). get_or xs c.loop-handler.handler-index 0) (sym c.finals-handler-items.ensures))
     c.look_at_count-count.ensures.end c.look_at_count-count.ensures.rises c.saturating_add.ensures c.if-count-need.true
 
 pub loop-handler-preserved : goal.loop-handler-preserved
@@ -14,6 +15,7 @@ loop-handler-preserved c = let inv = c.loop-handler.invariant in let seat = c.lo
   seat.0 ∙ inv.0,
   seat.1 ∙ inv.1,
   scanned_more _ _ c.args.need c.loop-handler.least _ c.loop-handler.handler-index _ c.look_at_count-count.result _ _ _ _ inv.2
+      (let lt = c.loop-handler-test.true in let same = ap length c.finals-handler-items.ensures in omega arith)
       (ap (λ (xs : List ℕ). get_or xs c.loop-handler.handler-index 0) (sym c.finals-handler-items.ensures))
       c.look_at_count-count.ensures.end c.look_at_count-count.ensures.rises c.saturating_add.ensures c.if-count-need.false
       (subst (λ (m : End). c.look_at_count-count.result ≤ length (sender_of m.0).published) inv.2.saw.is c.look_at_count-count.ensures.published) c.lesser-least.ensures,

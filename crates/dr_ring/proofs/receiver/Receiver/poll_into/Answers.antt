@@ -5,7 +5,7 @@ use Rattle.dr_core.specs.declared.command.Polled.{Polled}
 use Rattle.dr_ring.specs.declared.record.ReceiverRecord.{ReceiverRecord}
 use Rattle.dr_ring.specs.Seats.{End, as_receiver, receiver_of}
 use Rattle.dr_ring.specs.Calls.{ReceiverEnd, Answers, received_all}
-use Rattle.dr_ring.proofs.Polls.{some_room, twice, barrier_seen, each_of, poll_nothing, poll_batch, offers, fits_batch, of_count}
+use Rattle.dr_ring.proofs.Polls.{some_room, twice, barrier_seen, each_of, told_before, poll_nothing, poll_batch, offers, fits_batch, of_count}
 use Rattle.dr_ring.proofs.receiver.Receiver.poll_into.Goals as goal
 use Rattle.dr_ring.proofs.receiver.Receiver.poll_into.Goals.{then-left-out, else-left-out}
 
@@ -60,6 +60,7 @@ returns-clause-answer c =
         seen.counts,
         each_of _ c.self.inside.number c.args.self.now.knows _ _ _ _ _ plan number seen,
         poll_batch _ c.self.inside.number c.args.self.now.knows c.args.out.now _ c.look_at_closed-closed.result c.look_at_cursor-cursor.result _ _ _ c.barrier-available.result c.self.inside.taken c.if-left-out.count _ plan number next seen
+            (told_before c.args.self.now.knows c.look_at_closed-closed.result c.look_at_cursor-cursor.result c.self.inside.seat.me _ (c.self.invariant.end ∙ ap as_receiver same) c.look_at_closed-closed.ensures.end c.look_at_cursor-cursor.ensures.told)
             (c.take_all.ensures.end ∙ ap (λ (xs : List Event). as_receiver (received_all (receiver_of c.barrier-available.new.seat.me.0) xs)) (sym (take_at c.take_all.new.out c.split_at_mut-front.result.1.now c.if-left-out.count (c.take_all.ensures.length ∙ c.split_at_mut-front.ensures.front_len))))
             (drop_at c.take_all.new.out c.split_at_mut-front.result.1.now c.if-left-out.count (c.take_all.ensures.length ∙ c.split_at_mut-front.ensures.front_len) ∙ c.split_at_mut-front.ensures.back)
             (let more = c.if-available-first.false in omega arith)

@@ -1,6 +1,6 @@
 use Rattle.std.proofs.Common.{refl}
 use Rattle.dr_replay.proofs.Sizes.{is_size_of, no_size}
-use Rattle.dr_replay.proofs.setup.size_of.Goals as goal
+use Rattle.dr_replay.proofs.setup.ring_records.size_of.Goals as goal
 
 pub returns-in-Ok : goal.returns-in-Ok
 returns-in-Ok c = (c.in-Ok.ensures.ok, is_size_of c.args.n (c.in-Ok.ensures.accepted refl))

@@ -1,0 +1,111 @@
+//! The ends of an exchange, as those use them who need not know which exchange it is.
+
+ghost use Rattle.std.specs.Prelude.{◌≡◌, ◌||◌, ℕ, Bool, Option, None};
+ghost use Rattle.dr_core.specs.Trouble.{number_of, name_of};
+ghost use Rattle.dr_core.specs.Ends.{Sent, Received, ClaimAnswers, WriteAnswers, PublishAnswers, PollAnswers, CompleteAnswers, is_drained, WhereShown, Claims, Writes, Publishes, Takes, Completes};
+ghost use Rattle.dr_core.specs.declared.ends.Trouble.TheVariants.{Refused};
+
+use crate::command::{Claimed, Polled};
+use crate::refusal::Refusal;
+use dr_seq::Event;
+use thiserror::Error;
+
+/// Why a call of an end did nothing.
+#[derive(Clone, Copy, Debug, PartialEq, Eq, Error)]
+pub enum Trouble {
+    /// The exchange refused the call.
+    #[error("{0}")]
+    Refused(Refusal),
+    /// A growth was refused: the call may be made again.
+    #[error("no-memory")]
+    Memory,
+}
+
+impl Trouble {
+    /// The number of the refusal, or of want of memory, which stays the same in every release.
+    pub fn number(self) -> u32
+        ensures { result ≡ number_of self }
+    {
+        match self {
+            Trouble::Refused(refusal) => refusal.number(),
+            Trouble::Memory => 40,
+        }
+    }
+
+    /// The name of the refusal, or of want of memory, as programs print it.
+    pub fn name(self) -> &'static str
+        ensures { result.now ≡ name_of self }
+    {
+        match self {
+            Trouble::Refused(refusal) => refusal.name(),
+            Trouble::Memory => "no-memory",
+        }
+    }
+}
+
+impl From<Refusal> for Trouble {
+    ghost from_gives = { λ refusal trouble. trouble ≡ Refused refusal };
+
+    fn from(refusal: Refusal) -> Trouble {
+        Trouble::Refused(refusal)
+    }
+}
+
+/// A producer's end. Its calls answer as the machine does, and in trouble they change nothing.
+pub trait Inlet {
+    /// What no call changes, as which end it is.
+    ghost Kept: { Type 0 } = { Unit {0} };
+
+    ghost kept: { Self → Self.Kept };
+
+    /// What it sent so far, where the type shows it: one that shows it is the only producer.
+    ghost sent: { Self → Option Sent } = { λ _. None };
+
+    /// Claims the next `n` sequences.
+    fn try_claim(&mut self, n: u64) -> Result<Claimed, Trouble>
+        ensures kept { kept self.new ≡ kept self.old }
+        ensures answer { ClaimAnswers n result }
+        ensures sent { WhereShown (Claims n result) (sent self.old) (sent self.new) };
+
+    /// Writes the event of a sequence that is claimed and not published, in place of one that was
+    /// written before.
+    fn write(&mut self, s: u64, event: Event) -> Result<(), Trouble>
+        ensures kept { kept self.new ≡ kept self.old }
+        ensures answer { WriteAnswers result }
+        ensures sent { WhereShown (Writes s event result) (sent self.old) (sent self.new) };
+
+    /// Publishes the sequences from `lo` to `hi`, both in the stretch.
+    fn publish(&mut self, lo: u64, hi: u64) -> Result<(), Trouble>
+        ensures kept { kept self.new ≡ kept self.old }
+        ensures answer { PublishAnswers lo hi result }
+        ensures sent { WhereShown (Publishes lo hi result) (sent self.old) (sent self.new) };
+}
+
+/// A handler's end. Its calls answer as the machine does, and in trouble they change nothing.
+pub trait Outlet {
+    /// What no call changes, as which end it is.
+    ghost Kept: { Type 0 } = { Unit {0} };
+
+    ghost kept: { Self → Self.Kept };
+
+    /// What it handed out and completed so far, where the type shows it.
+    ghost received: { Self → Option Received } = { λ _. None };
+
+    /// Whether it was told that the exchange drained.
+    ghost told: { Self → Bool };
+
+    /// Takes the next events, as many as the barrier offers and `out` has room for, to the front
+    /// of `out`.
+    fn poll_into(&mut self, out: &mut [Event]) -> Result<Polled, Trouble>
+        ensures kept { kept self.new ≡ kept self.old }
+        ensures answer { PollAnswers out.old out.new result }
+        ensures told { told self.new ≡ (told self.old || is_drained result) }
+        ensures received { WhereShown (Takes out.new result) (received self.old) (received self.new) };
+
+    /// Completes all events below `upto`.
+    fn complete(&mut self, upto: u64) -> Result<(), Trouble>
+        ensures kept { kept self.new ≡ kept self.old }
+        ensures answer { CompleteAnswers result }
+        ensures told { told self.new ≡ told self.old }
+        ensures received { WhereShown (Completes upto result) (received self.old) (received self.new) };
+}

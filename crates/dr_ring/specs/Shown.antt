@@ -1,0 +1,21 @@
+-- What the ends of a ring show to whoever does not know that they are a ring's.
+use Rattle.std.specs.Prelude.{ℕ}
+use Rattle.atomic_table.specs.Seated.{TableId}
+use Rattle.dr_core.specs.Ends.{Sent, Received}
+use Rattle.dr_ring.specs.Shape.{Shape}
+use Rattle.dr_ring.specs.declared.record.SenderRecord.{SenderRecord}
+use Rattle.dr_ring.specs.declared.record.ReceiverRecord.{ReceiverRecord}
+use Rattle.dr_ring.specs.Calls.{SenderEnd, ReceiverEnd}
+
+abbrev pub sent_of : SenderRecord → Sent
+sent_of r = record { published = r.published; pending = r.pending }
+
+abbrev pub received_of : ReceiverRecord → Received
+received_of r = record { events = r.received; completed = r.completed }
+
+-- which end it is: of which ring, made for what, and a receiver's number
+abbrev pub sender_place : SenderEnd → TableId × Shape
+sender_place e = (e.ring, e.knows.plan)
+
+abbrev pub receiver_place : ReceiverEnd → TableId × Shape × ℕ
+receiver_place e = (e.ring, e.knows.plan, e.knows.number)
