@@ -6,7 +6,7 @@ program := crates/disruptor
 all: disruptor run
 
 disruptor: crates.txt $(shell find crates -name '*.rt' -o -name '*.antt' | grep -v /out/)
-	cd $(program) && rt run > /dev/null
+	cd $(program) && rt run -- --help > /dev/null
 	cp $(program)/out/disruptor $@
 
 run: disruptor

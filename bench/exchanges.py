@@ -5,10 +5,11 @@
     bench/exchanges.py instructions    instructions an event on one thread, by callgrind
 
 `--program PATH` names a program; given twice, the two are measured in turns, as before and after a
-change. `--seconds S` and `--rounds N` are those of `disruptor_bench`: without them 201 rounds of one
-stretch, each so short that most of them run undisturbed by other work on the machine. `--only WORD`
-leaves only topologies whose names begin with it. The program is built by `rt run -- --list` in its
-crate's folder, which leaves it where this script looks for it.
+change. `--seconds S` and `--rounds N` are those of `disruptor_bench`: without them 101 rounds of one
+stretch, each so short that most of them run undisturbed by other work on the machine. Each rate is
+the best of `--turns N` such runs, three without it. `--only WORD` leaves only topologies whose names
+begin with it. The program is built by `rt run -- --list` in its crate's folder, which leaves it where
+this script looks for it.
 """
 
 import argparse
@@ -37,6 +38,15 @@ def rate(program, topology, size, given):
     return int(line.split()[-1])
 
 
+def best_rates(topology, size, given):
+    """For each program the best of its runs, which are taken in turns."""
+    best = [0] * len(given.program)
+    for _ in range(given.turns):
+        rates = [rate(program, topology, size, given) for program in given.program]
+        best = [max(pair) for pair in zip(best, rates)]
+    return best
+
+
 def print_head(programs):
     """A column a size, or one a size and program, by the program's place on the command line."""
     marks = [""] if len(programs) == 1 else [f" ({k + 1})" for k in range(len(programs))]
@@ -47,7 +57,7 @@ def print_head(programs):
 def table(given):
     print_head(given.program)
     for topology in topologies(given.program[0], given.only):
-        rates = [rate(program, topology, size, given) for size in SIZES for program in given.program]
+        rates = [best for size in SIZES for best in best_rates(topology, size, given)]
         print(f"| {topology} | {' | '.join(f'{r:,}' for r in rates)} |", flush=True)
 
 
@@ -81,7 +91,8 @@ def main():
     parser.add_argument("what", choices=["table", "instructions"])
     parser.add_argument("--program", action="append")
     parser.add_argument("--seconds", type=float, default=0.0)
-    parser.add_argument("--rounds", type=int, default=201)
+    parser.add_argument("--rounds", type=int, default=101)
+    parser.add_argument("--turns", type=int, default=3)
     parser.add_argument("--only")
     given = parser.parse_args()
     given.program = given.program or [PROGRAM]
