@@ -144,7 +144,7 @@ told_nothing k h r closed cursor me counted available L before told =
           let c = only_cursor k h r closed cursor me counted available none L in
           elim (either_true r.told _ told) [
             | inl old ↦ (let b = before old in omega arith)
-            | inr new ↦ (let all = eqb-true cursor (length r.received) (second_true _ _ new) in omega arith)
+            | inr new ↦ (let all = eqb-true cursor (length r.received) (second_true (last_look 0 (receiver_looked r closed_word closed).looks closed_word == 1) (cursor == length r.received) new) in omega arith)
           ])
       | inr some ↦ L.told told some
     ]
