@@ -206,7 +206,7 @@ fn ring_halt(rt: HostRuntime) -> Result<(), Fail> {
 }
 
 #[test]
-fn own_rows_of_pass_one(rt: HostRuntime) -> Result<(), Fail> {
+fn two_receivers_side_by_side(rt: HostRuntime) -> Result<(), Fail> {
     let mut ends = open(rt.alloc(), &side_by_side(rt.alloc(), &["a", "b"])?, 2)?;
     play(
         &rt,
@@ -246,7 +246,7 @@ fn own_rows_of_pass_one(rt: HostRuntime) -> Result<(), Fail> {
 }
 
 #[test]
-fn own_rows_of_pass_two(rt: HostRuntime) -> Result<(), Fail> {
+fn halts_and_then_closes(rt: HostRuntime) -> Result<(), Fail> {
     let mut ends = open(rt.alloc(), &side_by_side(rt.alloc(), &["a"])?, 4)?;
     play(
         &rt,
