@@ -193,6 +193,7 @@ impl Inlet for Sender {
         ensures sent { Claims n result (sent_of self.old.knows) (sent_of self.new.knows) }
         ensures own { Tells (TriesToClaim self.old.knows n self.new.knows) result }
     {
+        // The plan tells by this call that no sequence reaches 2^62.
         let _limit = self.ring.plan.limit();
         Ok(Sender::try_claim(self, n)?)
     }
