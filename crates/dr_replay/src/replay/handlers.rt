@@ -43,7 +43,8 @@ impl Handlers {
 
     /// Whether one of them found no memory.
     pub fn is_failed(&self) -> bool
-        ensures { result ≡ false → AreWell self.now }
+        ensures well { result ≡ false → AreWell self.now }
+        ensures failed { AreWell self.now → result ≡ false }
     {
         self.journal.is_failed() || self.replica.is_failed() || self.business.is_failed()
     }
