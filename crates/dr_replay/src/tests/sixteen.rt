@@ -18,7 +18,8 @@ struct Script {
 }
 
 // Four events, which fill the ring.
-fn send(script: &mut Script, first: u64) -> Result<(), AllocError> {
+fn send(script: &mut Script, first: u32) -> Result<(), AllocError> {
+    let first = first as u64;
     let last = first + 3;
     writeln!(script.input, "claim,0,4")?;
     writeln!(script.output, "claimed {first} {last}")?;
@@ -31,7 +32,8 @@ fn send(script: &mut Script, first: u64) -> Result<(), AllocError> {
 }
 
 // One handler takes and completes all four.
-fn handle(script: &mut Script, name: &str, first: u64) -> Result<(), AllocError> {
+fn handle(script: &mut Script, name: &str, first: u32) -> Result<(), AllocError> {
+    let first = first as u64;
     writeln!(script.input, "poll,{name},4")?;
     write!(script.output, "batch {first} end")?;
     for s in first..first + 4 {
