@@ -2,7 +2,7 @@
 use Rattle.std.proofs.Common.{◌≡◌, ℕ, ◌+◌, ◌-◌, ◌<◌, ◌≤◌, ◌≢◌, ◌⊎◌, inl, inr, Bool, true, false, List, [], ◌∷◌, ◌++◌, arith, refl, ap, ◌∙◌, length, map, min, get_or, replicate, slice_index, slice_set}
 use Rattle.std.proofs.lemmas.Bool.{cond-true, cond-false, lt-ltb, leb-false, or_from, cases_lt, lt-leb, le-ltb, ne_eqb}
 use Rattle.std.proofs.lemmas.List.{length-append, length-replicate, get_or_append_left, get_or-append_right, get_or-replicate}
-use Rattle.std.specs.Prelude.{All, ◌==◌, ◌||◌, nat_le, nat_lt}
+use Rattle.std.specs.Prelude.{All, nat_le}
 use Rattle.std.specs.List.{range_with_len}
 use Rattle.std.proofs.lemmas.List.Elements.{All-filter}
 use Rattle.std.proofs.lemmas.List.FromFn.{length-range_with_len, get_or-range_with_len, get_or-map-range_with_len}
@@ -11,7 +11,7 @@ use Rattle.dr_core.specs.declared.command.Command.TheVariants.{Claim, Complete, 
 use Rattle.dr_core.specs.declared.command.Reply.{Reply}
 use Rattle.dr_core.specs.declared.command.Reply.TheVariants.{Claimed, Completed, Halting, Refused}
 use Rattle.dr_core.specs.declared.refusal.Refusal.{Refusal}
-use Rattle.dr_core.specs.declared.refusal.Refusal.TheVariants.{BadCount, NoRoom}
+use Rattle.dr_core.specs.declared.refusal.Refusal.TheVariants.{NoRoom}
 use Rattle.dr_seq.specs.declared.event.Event.{Event}
 use Rattle.dr_graph.specs.Graph.{is_final, finals, IsGated, least_of}
 use Rattle.dr_core.specs.Machine.{State, Outcome, handlers, producers, next, front, refusals, accepted, unless, unchanged}

@@ -1,14 +1,12 @@
 -- The remembered least count of the finals.
-use Rattle.std.proofs.Common.{◌≡◌, ℕ, suc, ◌+◌, ◌<◌, ◌≤◌, ◌^◌, List, [], ◌∷◌, arith, refl, length, map, slice_index, slice_set}
-use Rattle.std.specs.Prelude.{Contains, ◌==◌}
-use Rattle.std.proofs.lemmas.Bool.{cond_both, eqb-true}
+use Rattle.std.proofs.Common.{◌≡◌, ℕ, suc, ◌+◌, ◌<◌, ◌≤◌, ◌^◌, List, [], ◌∷◌, arith, refl, length, map, slice_index}
+use Rattle.std.specs.Prelude.{Contains}
 use Rattle.dr_seq.proofs.Sizes.{size_at_most}
 use Rattle.dr_graph.specs.Graph.{finals, least_of, IsGated}
 use Rattle.dr_core.specs.CoreView.{CoreView}
 use Rattle.dr_core.specs.Inside.{IsWhole}
 use Rattle.dr_core.proofs.CoreSteps.{finals_least}
 use Rattle.dr_core.proofs.Leasts.{least_of-member}
-use Rattle.dr_core.proofs.Sound.{set_count}
 
 -- where no count of some handlers is below a number, their least is not
 least_of-above : (counts : ℕ → ℕ) (k h : ℕ) (hs : List ℕ) → ((f : ℕ) → Contains (h ∷ hs) f → k ≤ counts f) → k ≤ least_of (map counts (h ∷ hs))
