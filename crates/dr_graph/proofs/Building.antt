@@ -31,34 +31,47 @@ distinct_names d order old built i j e before lt same =
       ]
     ]
 
-pub graph_lawful : (d : Declaration) (order : List ℕ) (lists : List (List ℕ)) → IsDeclaration d → 0 < length d.names → IsBuiltOrder (length d.names) d.edges order → AreLists d.edges order lists → length lists ≡ length order → IsGraph lists
-graph_lawful d order lists old some built each same =
-    let few : length d.names ≤ MAX_HANDLERS = old.few in
-    let whole : length order ≡ length d.names = built.length in
+-- what was found of a declaration: an order, and by it each handler's name and direct upstreams
+pub record IsFound (d : Declaration) (order : List ℕ) (names : List Name) (lists : List (List ℕ)) : Type 0 where
+  pub declared : IsDeclaration d
+  pub some : 0 < length d.names
+  pub built : IsBuiltOrder (length d.names) d.edges order
+  pub each : AreLists d.edges order lists
+  pub same : length lists ≡ length order
+  pub named : names ≡ names_in d.names order
+
+pub graph_lawful : (d : Declaration) (order : List ℕ) (names : List Name) (lists : List (List ℕ)) → IsFound d order names lists → IsGraph lists
+graph_lawful d order names lists is =
+    let some = is.some in
+    let same = is.same in
+    let few : length d.names ≤ MAX_HANDLERS = is.declared.few in
+    let whole : length order ≡ length d.names = is.built.length in
     record {
       some = omega arith;
       few = omega arith;
-      layered = layered_lists d.edges order lists each;
-      rising = rising_lists d.edges order lists each;
-      gate = finals_gate lists (layered_lists d.edges order lists each);
+      layered = layered_lists d.edges order lists is.each;
+      rising = rising_lists d.edges order lists is.each;
+      gate = finals_gate lists (layered_lists d.edges order lists is.each);
     }
 
-pub shape_of_order : (d : Declaration) (order : List ℕ) (names : List Name) (lists : List (List ℕ)) → IsDeclaration d → 0 < length d.names → IsBuiltOrder (length d.names) d.edges order → AreLists d.edges order lists → length lists ≡ length order → names ≡ names_in d.names order → IsShape (record { names = names; upstreams = lists })
-shape_of_order d order names lists old some built each same named =
-    let count : length names ≡ length order = ap length named ∙ length-map order (λ h. slice_index_or d.names h []) in
+pub shape_of_order : (d : Declaration) (order : List ℕ) (names : List Name) (lists : List (List ℕ)) → IsFound d order names lists → IsShape (record { names = names; upstreams = lists })
+shape_of_order d order names lists is =
+    let same = is.same in
+    let count : length names ≡ length order = ap length is.named ∙ length-map order (λ h. slice_index_or d.names h []) in
     record {
-      lawful = graph_lawful d order lists old some built each same;
+      lawful = graph_lawful d order names lists is;
       named = omega arith;
-      distinct = subst (λ (ns : List Name). AreDistinct ns) (sym named) (distinct_names d order old.distinct built);
+      distinct = subst (λ (ns : List Name). AreDistinct ns) (sym is.named) (distinct_names d order is.declared.distinct is.built);
     }
 
-pub graph_of_order : (d : Declaration) (order : List ℕ) (names : List Name) (lists : List (List ℕ)) → IsBuiltOrder (length d.names) d.edges order → AreLists d.edges order lists → length lists ≡ length order → names ≡ names_in d.names order → IsGraphOf d (record { names = names; upstreams = lists })
-graph_of_order d order names lists built each same named =
-    let whole : length order ≡ length d.names = built.length in
+pub graph_of_order : (d : Declaration) (order : List ℕ) (names : List Name) (lists : List (List ℕ)) → IsFound d order names lists → IsGraphOf d (record { names = names; upstreams = lists })
+graph_of_order d order names lists is =
+    let same = is.same in
+    let whole : length order ≡ length d.names = is.built.length in
     record {
       order = order;
-      built = built;
-      named = named;
+      built = is.built;
+      named = is.named;
       complete = omega arith;
-      upstreams = upstreams_whole (length d.names) d.edges order lists built each same;
+      upstreams = upstreams_whole (length d.names) d.edges order lists is.built is.each same;
     }
