@@ -12,7 +12,7 @@ use Rattle.dr_replay.specs.declared.fault.Cause.{Cause}
 use Rattle.dr_replay.specs.declared.fault.Cause.TheVariants.{Graph}
 use Rattle.dr_replay.specs.Setup.{Declared, after_names, then_names, unless, with_edge, with_names}
 use Rattle.dr_replay.specs.Shows.{AreNames, FaultAs, legible, refused_by}
-use Rattle.dr_replay.proofs.Legible.{accepted_names, known_names, legible_names, more_names, same_declaring, same_stranger}
+use Rattle.dr_replay.proofs.Legible.{accepted_names, known_names, legible_names, more_names, neither, same_declaring, same_stranger}
 
 -- what the builder refuses is the record's fault
 pub refused_as : {T : Type 0} (f : GraphFault) (t : Result T Cause) → (f ≡ refused.NoMemory) ⊎ (t ≡ Err (Graph f)) → FaultAs (refused_by f) t
@@ -49,10 +49,6 @@ same_grouping declared names all =
     ap (λ n. option_or (if n == 0 then Some refused.EmptyGroup else None) (stranger_fault declared (map legible names))) (length-map names legible)
     ∙ ap (λ f. option_or (none_fault names) f) (same_stranger declared names all)
 
-second : {A : Type 0} (a b : Option A) → option_or a b ≡ None → b ≡ None
-second None b e = e
-second (Some x) b e = let clash : Some x ≡ None = e in cc
-
 pub with_does : (old new : Declaration) (group : Option (List Name)) (seen made fields : List Name) → AreNames old.names → seen ≡ map legible fields
     → declaring_fault old.names seen ≡ None → new ≡ record old { names = old.names ++ seen } → made ≡ seen
     → (with_names (at old group) fields ≡ Ok (at new (Some made))) × AreNames new.names
@@ -77,7 +73,7 @@ pub then_does : (old new : Declaration) (group seen made fields : List Name) →
     → (then_names (at old (Some group)) fields ≡ Ok (at new (Some made))) × AreNames new.names
 then_does old new group seen made fields all shown free is group_is =
     let none : following_fault old.names group fields ≡ None = sym (same_following old.names group fields) ∙ ap (following_fault old.names group) (sym shown) ∙ free in
-    let good : AreNames fields = accepted_names old.names fields (second (stranger_fault old.names group) (declaring_fault old.names fields) none) in
+    let good : AreNames fields = accepted_names old.names fields (neither (stranger_fault old.names group) (declaring_fault old.names fields) none).1 in
     let same : seen ≡ fields = shown ∙ legible_names fields good in
     let after : Declaration = followed_by old group fields in
     let new_is : new ≡ after = is ∙ ap (followed_by old group) same in
@@ -96,7 +92,7 @@ pub after_does : (old : Declaration) (group : Option (List Name)) (seen made fie
     → (after_names (at old group) fields ≡ Ok (at old (Some made))) × AreNames old.names
 after_does old group seen made fields all shown free group_is =
     let none : grouping_fault old.names fields ≡ None = sym (same_grouping old.names fields all) ∙ ap (grouping_fault old.names) (sym shown) ∙ free in
-    let good : AreNames fields = known_names old.names fields all (second (none_fault fields) (stranger_fault old.names fields) none) in
+    let good : AreNames fields = known_names old.names fields all (neither (none_fault fields) (stranger_fault old.names fields) none).1 in
     let same : seen ≡ fields = shown ∙ legible_names fields good in
     let made_is : made ≡ new_names [] fields = group_is ∙ ap (new_names []) same in
     (ap (λ f. unless f (at old (Some (new_names [] fields)))) none ∙ ap (λ g. Ok (at old (Some g))) (sym made_is), all)

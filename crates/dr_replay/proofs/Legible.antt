@@ -99,7 +99,8 @@ same_declaring declared names =
     ap (λ n. option_or (if n == 0 then Some EmptyGroup else None) (option_or (name_faults declared (map legible names)) (many_fault (length declared + n)))) len
     ∙ ap (λ f. option_or (none_fault names) (option_or f (many_fault (length declared + length names)))) (same_faults declared names)
 
-neither : {A : Type 0} (a b : Option A) → option_or a b ≡ None → (a ≡ None) × (b ≡ None)
+-- where neither of two is there, both are missing
+pub neither : {A : Type 0} (a b : Option A) → option_or a b ≡ None → (a ≡ None) × (b ≡ None)
 neither None b e = (refl, e)
 neither (Some x) b e = let clash : Some x ≡ None = e in cc
 

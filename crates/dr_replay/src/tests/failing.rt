@@ -52,6 +52,41 @@ impl Write for Slow {
     }
 }
 
+// A reader of a text that fails at its k-th call.
+pub fn failing(input: &str, fails_at: u64) -> Counted<Failing<'_>> {
+    Counted::new(Failing {
+        left: input.as_bytes(),
+        calls: 0,
+        fails_at,
+    })
+}
+
+// A writer that fails at its k-th call, or takes nothing there.
+pub fn slow(alloc: Global, fails_at: u64, takes_nothing: bool) -> Counted<Slow> {
+    Counted::new(Slow {
+        taken: Vec::new(alloc),
+        calls: 0,
+        fails_at,
+        takes_nothing,
+    })
+}
+
+// Whether a run that writes this text meets the writer's failure. If so it took all bytes before
+// that, and was called no more; if not, all.
+pub fn meets_failure(rt: &impl Abort, writer: Counted<Slow>, whole: &[u8]) -> bool {
+    let faults = writer.faults();
+    let slow = writer.into_inner();
+    let meets = slow.fails_at <= whole.len() as u64;
+    if meets {
+        assert!(rt; faults == 1 && slow.calls == slow.fails_at);
+        assert!(rt; whole.starts_with(slow.taken.as_slice()));
+        assert!(rt; slow.taken.len() as u64 + 1 == slow.fails_at);
+    } else {
+        assert!(rt; faults == 0 && slow.taken.as_slice() == whole);
+    }
+    meets
+}
+
 const INPUT: &str = "ring,4,single\nwith,a\nstart\nclaim,0,1\nhalt\n";
 
 const OUTPUT: &str = "claimed 0 0\nhalting\n";
@@ -60,11 +95,7 @@ const OUTPUT: &str = "claimed 0 0\nhalting\n";
 fn reads_that_fail(rt: HostRuntime) {
     let alloc = rt.alloc();
     for fails_at in 1..6 {
-        let mut reader = Counted::new(Failing {
-            left: INPUT.as_bytes(),
-            calls: 0,
-            fails_at,
-        });
+        let mut reader = failing(INPUT, fails_at);
         let mut writer = Counted::new(Vec::new(alloc));
         let result = drive(alloc, &mut reader, &mut writer);
         let output = writer.into_inner();
@@ -80,24 +111,12 @@ fn reads_that_fail(rt: HostRuntime) {
 
 fn write_that_fails(rt: &impl Abort, alloc: Global, fails_at: u64, takes_nothing: bool) {
     let mut reader = Counted::new(INPUT.as_bytes());
-    let mut writer = Counted::new(Slow {
-        taken: Vec::new(alloc),
-        calls: 0,
-        fails_at,
-        takes_nothing,
-    });
+    let mut writer = slow(alloc, fails_at, takes_nothing);
     let result = drive(alloc, &mut reader, &mut writer);
-    let faults = writer.faults();
-    let slow = writer.into_inner();
-    let whole = OUTPUT.as_bytes();
-    if fails_at <= whole.len() as u64 {
+    if meets_failure(rt, writer, OUTPUT.as_bytes()) {
         assert!(rt; matches!(&result, Err(DriveFault::Write)));
-        assert!(rt; faults == 1 && slow.calls == fails_at);
-        assert!(rt; whole.starts_with(slow.taken.as_slice()));
-        assert!(rt; slow.taken.len() as u64 + 1 == fails_at);
     } else {
-        assert!(rt; result.is_ok() && faults == 0);
-        assert!(rt; slow.taken.as_slice() == whole);
+        assert!(rt; result.is_ok());
     }
 }
 
