@@ -53,22 +53,22 @@ impl Write for Slow {
 }
 
 // A reader of a text that fails at its k-th call.
-pub fn failing_at(input: &str, fails_at: u64) -> Counted<Failing<'_>> {
-    Counted::new(Failing {
+pub fn failing_at(input: &str, fails_at: u64) -> Failing<'_> {
+    Failing {
         left: input.as_bytes(),
         calls: 0,
         fails_at,
-    })
+    }
 }
 
 // A writer that fails at its k-th call, or takes nothing there.
-pub fn slow_at(alloc: Global, fails_at: u64, takes_nothing: bool) -> Counted<Slow> {
-    Counted::new(Slow {
+pub fn slow_at(alloc: Global, fails_at: u64, takes_nothing: bool) -> Slow {
+    Slow {
         taken: Vec::new(alloc),
         calls: 0,
         fails_at,
         takes_nothing,
-    })
+    }
 }
 
 // Whether a run that writes this text meets the writer's failure. If so it took all bytes before
@@ -95,7 +95,7 @@ const OUTPUT: &str = "claimed 0 0\nhalting\n";
 fn reads_that_fail(rt: HostRuntime) {
     let alloc = rt.alloc();
     for fails_at in 1..6 {
-        let mut reader = failing_at(INPUT, fails_at);
+        let mut reader = Counted::new(failing_at(INPUT, fails_at));
         let mut writer = Counted::new(Vec::new(alloc));
         let result = drive(alloc, &mut reader, &mut writer);
         let output = writer.into_inner();
@@ -111,7 +111,7 @@ fn reads_that_fail(rt: HostRuntime) {
 
 fn write_that_fails(rt: &impl Abort, alloc: Global, fails_at: u64, takes_nothing: bool) {
     let mut reader = Counted::new(INPUT.as_bytes());
-    let mut writer = slow_at(alloc, fails_at, takes_nothing);
+    let mut writer = Counted::new(slow_at(alloc, fails_at, takes_nothing));
     let result = drive(alloc, &mut reader, &mut writer);
     if meets_failure(rt, writer, OUTPUT.as_bytes()) {
         assert!(rt; matches!(&result, Err(DriveFault::Write)));

@@ -16,7 +16,7 @@ const OUTPUT: &str =
 fn reads_that_fail(rt: HostRuntime) -> Result<(), Fail> {
     let alloc = rt.alloc();
     for fails_at in 1..6 {
-        let mut reader = failing_at(INPUT, fails_at);
+        let mut reader = Counted::new(failing_at(INPUT, fails_at));
         let mut writer = Counted::new(Vec::new(alloc));
         let result = replay_plain(alloc, &mut reader, &mut writer, Size::new(2)?);
         let output = writer.into_inner();
@@ -38,7 +38,7 @@ fn write_that_fails(
     takes_nothing: bool,
 ) -> Result<(), Fail> {
     let mut reader = Counted::new(INPUT.as_bytes());
-    let mut writer = slow_at(alloc, fails_at, takes_nothing);
+    let mut writer = Counted::new(slow_at(alloc, fails_at, takes_nothing));
     let result = replay_plain(alloc, &mut reader, &mut writer, Size::new(2)?);
     if meets_failure(rt, writer, OUTPUT.as_bytes()) {
         assert!(rt; matches!(&result, Err(ReplayFault::Write)));
