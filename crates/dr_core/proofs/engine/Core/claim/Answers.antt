@@ -33,13 +33,15 @@ owners_are (Multi producers) owners lent new from n p a b =
 owned : (c : After-own) → (with_items c.self-2.inside.owners c.own.new.owners).items ≡ owners_after c.self-2.inside.mode c.self-2.inside.owners.items c.self-2.inside.next c.args.n c.args.p
 owned c = owners_are c.self-2.inside.mode c.self-2.inside.owners _ _ _ _ _ c.deref_mut.ensures.value c.own.ensures
 
--- the look for room changes nothing
+-- the search for room changes nothing
 unchanged : (c : After-own) → view_of c.self-2.inside ≡ view_of c.self.inside
 unchanged c = c.self-2.view_is ∙ c.has_room.ensures.same ∙ sym c.self.view_is
 
+-- the claim is within the limit
 limited : (c : After-own) → c.self-2.inside.next + c.args.n ≤ c.self-2.inside.limit
 limited c = rw (ap (λ w. w.next) (unchanged c), ap (λ w. w.setup.limit) (unchanged c)) c.if-self-n.false
 
+-- and it fits beside what the finals have not completed
 fits_beside : (c : After-own) → c.self-2.inside.next + c.args.n ≤ c.self-2.inside.size + least_of (map (λ h. slice_index c.self-2.inside.completed.items h) (finals c.self-2.inside.graph.upstreams))
 fits_beside c = leb-true _ _ (rw (← c.has_room.ensures.same, ← c.self-2.view_is) at (sym c.has_room.ensures.room ∙ c.if-not-has_room.false))
 

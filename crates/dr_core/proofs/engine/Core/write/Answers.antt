@@ -24,6 +24,7 @@ returns-then-is_marked-clause-step c =
     (write_refused v c.args.p c.args.s c.args.event c.self.invariant.whole (rw c.producers.ensures at c.if-p-producers.false) c.if-s-self.false c.if-s-self-2.false _
     (write_fault_is c.self.inside c.args.s c.args.p true _ c.if-s-self.false (near v c.self.invariant.whole c.args.s c.if-s-self-2.false) published refl))
 
+-- past the test of its mark the sequence is not published
 unpublished : (c : After-owner_of) → is_published_at (kept_of c.self.inside) c.args.s ≡ false
 unpublished c = or_from _ _ (le-ltb _ _ c.if-s-self-2.false) (sym c.is_marked.ensures ∙ c.if-is_marked.false)
 
