@@ -152,37 +152,33 @@ finals_least v whole h inside =
     let behind : slice_index v.completed gate.last ≤ slice_index v.completed h = gate.behind in
     omega arith
 
-pub claim_whole : (v : CoreView) (n : ℕ) (recent : List Known) → IsWhole v → v.next + n ≤ v.setup.limit → v.next + n ≤ v.setup.size + least_of (map (λ h. slice_index v.completed h) (finals v.setup.upstreams))
-    → IsWhole (record v { next = v.next + n; recent = recent })
-claim_whole v n recent whole limit room = record {
+-- sequences are claimed within the limit and the room, and published within what is claimed; what is known of the recent ones is no part of it
+counts_whole : (v : CoreView) (next' front' : ℕ) (recent : List Known) → IsWhole v → next' ≤ v.setup.limit → ((h : ℕ) → h < handlers v.setup → next' ≤ v.setup.size + slice_index v.completed h) → v.front ≤ front' → front' ≤ next'
+    → IsWhole (record v { next = next'; front = front'; recent = recent })
+counts_whole v next' front' recent whole limit room up low = record {
   graph = whole.graph;
   size = whole.size;
   limit = whole.limit;
   taken = whole.taken;
   completed = whole.completed;
   claimed = limit;
-  front = (let f : v.front ≤ v.next = whole.front in omega arith);
-  in_front = whole.in_front;
+  front = low;
+  in_front = λ h. (let a : slice_index v.taken h ≤ v.front = whole.in_front h in omega arith);
   took = whole.took;
   after = whole.after;
-  room = λ h inside. (let l : least_of (map (λ f. slice_index v.completed f) (finals v.setup.upstreams)) ≤ slice_index v.completed h = finals_least v whole h inside in omega arith);
+  room = room;
 }
 
--- what is known of the recent sequences is no part of it
-pub recent_whole : (v : CoreView) (recent : List Known) → IsWhole v → IsWhole (record v { recent = recent })
-recent_whole v recent whole = record {
-  graph = whole.graph;
-  size = whole.size;
-  limit = whole.limit;
-  taken = whole.taken;
-  completed = whole.completed;
-  claimed = whole.claimed;
-  front = whole.front;
-  in_front = whole.in_front;
-  took = whole.took;
-  after = whole.after;
-  room = whole.room;
-}
+pub claim_whole : (v : CoreView) (n : ℕ) (recent : List Known) → IsWhole v → v.next + n ≤ v.setup.limit → v.next + n ≤ v.setup.size + least_of (map (λ h. slice_index v.completed h) (finals v.setup.upstreams))
+    → IsWhole (record v { next = v.next + n; recent = recent })
+claim_whole v n recent whole limit room =
+    let front : v.front ≤ v.next = whole.front in
+    counts_whole v (v.next + n) v.front recent whole limit
+    (λ h inside. (let l : least_of (map (λ f. slice_index v.completed f) (finals v.setup.upstreams)) ≤ slice_index v.completed h = finals_least v whole h inside in omega arith))
+    (omega arith) (omega arith)
+
+pub front_whole : (v : CoreView) (front' : ℕ) (recent : List Known) → IsWhole v → v.front ≤ front' → front' ≤ v.next → IsWhole (record v { front = front'; recent = recent })
+front_whole v front' recent whole up low = counts_whole v v.next front' recent whole whole.claimed whole.room up low
 
 -- every final is a handler
 pub finals_within : (upstreams : List (List ℕ)) → All (λ h. h < length upstreams) (finals upstreams)
@@ -195,19 +191,3 @@ claim_no_room v p n producer some fits going limit full =
     refused_step v (Claim p n) NoRoom
     (λ m sh. let here : next m ≡ v.next = sh.next in
     inr (lt-leb _ _ producer, inr (or_from _ _ (ne_eqb n 0 some) (le-ltb _ _ fits), inr (sh.halted ∙ going, inr (rw here (le-ltb _ _ limit), inl (rw (here, sh.completed) (lt-ltb _ _ (leb-false _ _ full)), refl))))))
-
--- the front moves up, and no further than what is claimed
-pub publish_whole_front : (v : CoreView) (front' : ℕ) (recent : List Known) → IsWhole v → v.front ≤ front' → front' ≤ v.next → IsWhole (record v { front = front'; recent = recent })
-publish_whole_front v front' recent whole low high = record {
-  graph = whole.graph;
-  size = whole.size;
-  limit = whole.limit;
-  taken = whole.taken;
-  completed = whole.completed;
-  claimed = whole.claimed;
-  front = high;
-  in_front = λ h. (let a : slice_index v.taken h ≤ v.front = whole.in_front h in omega arith);
-  took = whole.took;
-  after = whole.after;
-  room = whole.room;
-}

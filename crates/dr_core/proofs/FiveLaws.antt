@@ -1,9 +1,9 @@
 -- Every transcript of the machine is lawful.
-use Rattle.std.proofs.Common.{◌≡◌, ℕ, ◌+◌, ◌-◌, ◌<◌, ◌≤◌, ◌≢◌, true, false, ◌&&◌, [], ◌∷◌, ◌++◌, arith, refl, sym, ◌∙◌, length, map, slice_index, append_assoc}
-use Rattle.std.specs.Prelude.{Contains, ◌==◌, nat_lt, get_or}
+use Rattle.std.proofs.Common.{◌≡◌, ℕ, ◌+◌, ◌-◌, ◌<◌, ◌≤◌, ◌≢◌, true, false, ◌&&◌, [], ◌∷◌, ◌++◌, arith, refl, sym, ◌∙◌, length, slice_index, append_assoc}
+use Rattle.std.specs.Prelude.{Contains, ◌==◌, nat_lt}
 use Rattle.std.proofs.lemmas.Bool.{cond_both, and_parts, or_parts, false≢true, eqb-true, eqb-false}
 use Rattle.std.proofs.lemmas.Bool.Decides.{nat_tests}
-use Rattle.std.proofs.lemmas.List.{append-nil, length-map, get_or-map}
+use Rattle.std.proofs.lemmas.List.{append-nil}
 use Rattle.dr_core.specs.declared.command.Command.{Command}
 use Rattle.dr_core.specs.declared.command.Command.TheVariants.{Claim, Write, Publish, Poll, Complete, Halt}
 use Rattle.dr_core.specs.declared.command.Reply.TheVariants.{Claimed, Drained, Gating, Idle}
@@ -11,7 +11,7 @@ use Rattle.dr_graph.specs.Graph.{finals}
 use Rattle.dr_core.specs.Machine.{Setup, State, Outcome, handlers, next, front, available, least_completed, refusals, accepted, unchanged, step, batch, cursor, opening}
 use Rattle.dr_core.specs.Transcript.{Entry, Transcript, LeadsFrom, LeadsTo, next_of, is_published, front_of, taken_by, completed_by}
 use Rattle.dr_core.specs.Laws.{ReceivedInOrder, AfterUpstreams, HasRoom, NoClaimAfterHalt, DrainedIsComplete, Laws}
-use Rattle.dr_core.proofs.Leasts.{least_is, least_agree, least_of-le}
+use Rattle.dr_core.proofs.Leasts.{least_is, least_agree, least_of-member}
 use Rattle.dr_core.proofs.Steps.{NoneHold, unless-cases}
 use Rattle.dr_core.proofs.Tells.{Tells, tells_more}
 use Rattle.dr_core.proofs.Sound.{IsSound, entry_of, step_changes, set_count}
@@ -106,13 +106,6 @@ accepted_rises c m Halt h sound none = omega arith
 step_rises : (c : Setup) (m : State) (command : Command) (h : ℕ) → IsSound c m → Rises m h (step c m command)
 step_rises c m command h sound = unless-cases (Rises m h) (refusals c m command) m (accepted c m command) (λ r. omega arith) (accepted_rises c m command h sound)
 
-least-final : (c : Setup) (m : State) (f : ℕ) → Contains (finals c.upstreams) f → least_completed m (finals c.upstreams) ≤ slice_index m.completed f
-least-final c m f has =
-    let a : least_completed m (finals c.upstreams) ≤ get_or (map (λ h. slice_index m.completed h) (finals c.upstreams)) has.0 0 = least_of-le (map (λ h. slice_index m.completed h) (finals c.upstreams)) has.0 (rw length-map (has.1)) in
-    let b : get_or (map (λ h. slice_index m.completed h) (finals c.upstreams)) has.0 0 ≡ slice_index m.completed (get_or (finals c.upstreams) has.0 f) = get_or-map (λ h. slice_index m.completed h) (finals c.upstreams) has.0 f 0 has.1 in
-    let d : get_or (finals c.upstreams) has.0 f ≡ f = has.2 in
-    rw d at (rw b at a)
-
 -- an accepted claim has room, and comes before a halt
 abbrev ClaimsInRoom : Setup → State → Outcome → Type 0
 ClaimsInRoom c m o = (lo hi : ℕ) → o.reply ≡ Claimed lo hi → (m.halted ≡ false) × ((f : ℕ) → Contains (finals c.upstreams) f → hi + 1 ≤ c.size + slice_index m.completed f)
@@ -125,7 +118,7 @@ accepted_room c m (Claim p n) none lo hi e =
     let ends : hi ≡ next m + n - 1 = claimed_end lo hi (next m) (next m + n - 1) e in
     let ne : n ≢ 0 = eqb-false n 0 (or_parts _ _ none.1.0).0 in
     let room : next m + n ≤ c.size + least_completed m (finals c.upstreams) = grind (arith, nat_tests, none.1.1.1.1.0) in
-    (none.1.1.0, λ f has. (let l : least_completed m (finals c.upstreams) ≤ slice_index m.completed f = least-final c m f has in omega arith))
+    (none.1.1.0, λ f has. (let l : least_completed m (finals c.upstreams) ≤ slice_index m.completed f = least_of-member (λ h. slice_index m.completed h) (finals c.upstreams) f has in omega arith))
 accepted_room c m (Write p s v) none lo hi e = cc
 accepted_room c m (Publish p a b) none lo hi e = cc
 accepted_room c m (Poll at limit) none lo hi e =

@@ -1,16 +1,16 @@
 -- Each command keeps what every state of the machine has.
-use Rattle.std.proofs.Common.{◌≡◌, ℕ, zero, suc, ◌+◌, ◌-◌, ◌<◌, ◌≤◌, inl, inr, true, false, ◌||◌, ◌&&◌, List, [], ◌∷◌, ◌++◌, arith, refl, ◌∙◌, length, map, replicate, Some, slice_index}
-use Rattle.std.specs.Prelude.{Contains, ◌==◌, nat_le, nat_lt, is_none, get_or, flat_map}
+use Rattle.std.proofs.Common.{◌≡◌, ℕ, zero, suc, ◌+◌, ◌-◌, ◌<◌, ◌≤◌, inl, inr, true, false, ◌||◌, ◌&&◌, List, [], ◌∷◌, ◌++◌, arith, refl, ◌∙◌, length, replicate, Some, slice_index}
+use Rattle.std.specs.Prelude.{Contains, ◌==◌, nat_le, nat_lt, is_none, flat_map}
 use Rattle.std.specs.List.{range_with_len}
 use Rattle.std.proofs.lemmas.Bool.{cond_both, or_cases, and_parts, false≢true, cases_eq, eqb-true}
 use Rattle.std.proofs.lemmas.Bool.Decides.{nat_tests}
-use Rattle.std.proofs.lemmas.List.{length-append, length-replicate, length-set, length-map, get_or-map}
+use Rattle.std.proofs.lemmas.List.{length-append, length-replicate, length-set}
 use Rattle.dr_core.specs.declared.command.Command.{Command}
 use Rattle.dr_core.specs.declared.command.Command.TheVariants.{Claim, Write, Publish, Poll, Complete, Halt}
 use Rattle.dr_seq.specs.declared.event.Event.{Event}
-use Rattle.dr_graph.specs.Graph.{upstreams_of, least_of}
+use Rattle.dr_graph.specs.Graph.{upstreams_of}
 use Rattle.dr_core.specs.Machine.{Setup, State, Outcome, handlers, next, front, available, offered, least_outside, refusals, accepted, step, batch, publish_faults, cursor, opening}
-use Rattle.dr_core.proofs.Leasts.{least_grows, least_of-le}
+use Rattle.dr_core.proofs.Leasts.{least_grows, least_of-member}
 use Rattle.dr_core.proofs.Steps.{NoneHold, NoneHold-append, unless-cases}
 use Rattle.dr_core.proofs.Sound.{IsSound, set_count, count_of, within, reach}
 
@@ -85,13 +85,7 @@ complete_sound c m at upto sound none =
 -- a handler with upstreams is offered no more than each completed
 offered_after : (m : State) (ups : List ℕ) (u : ℕ) → Contains ups u → offered m ups ≤ slice_index m.completed u
 offered_after m [] u has = absurd (let l : has.0 < 0 = has.1 in omega arith)
-offered_after m (x ∷ xs) u has =
-    let counts : List ℕ = map (λ h. slice_index m.completed h) (x ∷ xs) in
-    let inside : has.0 < length (x ∷ xs) = has.1 in
-    let a : least_of (map (λ h. slice_index m.completed h) (x ∷ xs)) ≤ get_or (map (λ h. slice_index m.completed h) (x ∷ xs)) has.0 0 = least_of-le (map (λ h. slice_index m.completed h) (x ∷ xs)) has.0 (rw length-map inside) in
-    let b : get_or (map (λ h. slice_index m.completed h) (x ∷ xs)) has.0 0 ≡ slice_index m.completed (get_or (x ∷ xs) has.0 u) = get_or-map (λ h. slice_index m.completed h) (x ∷ xs) has.0 u 0 inside in
-    let d : get_or (x ∷ xs) has.0 u ≡ u = has.2 in
-    rw d at (rw b at a)
+offered_after m (x ∷ xs) u has = least_of-member (λ h. slice_index m.completed h) (x ∷ xs) u has
 
 batch_sound : (c : Setup) (m : State) (at limit : ℕ) → IsSound c m → at < handlers c → slice_index m.taken at < available c m at → IsSound c (batch c m at limit).state
 batch_sound c m at limit sound inside more =

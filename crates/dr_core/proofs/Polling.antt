@@ -23,13 +23,13 @@ use Rattle.std.proofs.Common.{Result, Ok, Err}
 use Rattle.std.proofs.lemmas.List.{take-append-le, length-take-le}
 use Rattle.dr_core.specs.Inside.{IsWhole}
 use Rattle.dr_core.proofs.CoreSteps.{accepted_step}
-use Rattle.dr_core.proofs.Leasts.{least_of-le}
+use Rattle.dr_core.proofs.Leasts.{least_of-le, least_of-member}
 use Rattle.std.proofs.lemmas.Bool.{eqb-true, leb-false}
 use Rattle.dr_core.proofs.Sound.{set_count}
 use Rattle.dr_core.proofs.Writing.{below_front}
 use Rattle.std.specs.Prelude.{All}
 use Rattle.std.proofs.lemmas.List.Elements.{Contains-get_or}
-use Rattle.std.proofs.lemmas.List.{get_or-map, length-map, get_or_past, get_or_read}
+use Rattle.std.proofs.lemmas.List.{get_or_past, get_or_read}
 
 -- what is offered by the core is what the machine offers
 offered_same : (v : CoreView) (m : State) → Shows v m → (ups : List ℕ) → offered m ups ≡ offered_to v ups
@@ -47,12 +47,7 @@ offered_front v whole (u ∷ us) =
 
 offered_upstream : (v : CoreView) (ups : List ℕ) (u : ℕ) → Contains ups u → offered_to v ups ≤ slice_index v.completed u
 offered_upstream v [] u has = absurd (let l : has.0 < 0 = has.1 in omega arith)
-offered_upstream v (x ∷ xs) u has =
-    let inside : has.0 < length (x ∷ xs) = has.1 in
-    let a : least_of (map (λ h. slice_index v.completed h) (x ∷ xs)) ≤ get_or (map (λ h. slice_index v.completed h) (x ∷ xs)) has.0 0 = least_of-le (map (λ h. slice_index v.completed h) (x ∷ xs)) has.0 (rw length-map inside) in
-    let b : get_or (map (λ h. slice_index v.completed h) (x ∷ xs)) has.0 0 ≡ slice_index v.completed (get_or (x ∷ xs) has.0 u) = get_or-map (λ h. slice_index v.completed h) (x ∷ xs) has.0 u 0 inside in
-    let d : get_or (x ∷ xs) has.0 u ≡ u = has.2 in
-    rw d at (rw b at a)
+offered_upstream v (x ∷ xs) u has = least_of-member (λ h. slice_index v.completed h) (x ∷ xs) u has
 
 -- of a published sequence the event is known
 known_value : (known : Known) (o : ℕ) (b : Bool) (w : Option Event) → b ≡ true → Agrees known o b w → (is_shown known ≡ true) × (value_of known ≡ unwrap_or w no_event)

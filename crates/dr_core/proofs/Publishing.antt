@@ -17,7 +17,7 @@ use Rattle.dr_core.specs.Inside.{IsWhole}
 use Rattle.dr_core.proofs.Leasts.{least_is, least_one}
 use Rattle.dr_core.proofs.Steps.{NoneHold}
 use Rattle.dr_core.proofs.CoreSteps.{Refuses, refused_step, accepted_step, known_at-recent}
-use Rattle.dr_core.proofs.Writing.{below_front, near, disowned, owned}
+use Rattle.dr_core.proofs.Writing.{below_front, near, disowned, owned, unwritten_refused}
 
 NoneHold-join : (xs ys : List (Bool × Refusal)) → NoneHold xs → NoneHold ys → NoneHold (xs ++ ys)
 NoneHold-join [] ys a b = b
@@ -38,7 +38,7 @@ tests_of p o b w = (b, AlreadyPublished) ∷ (not (o == p), NotClaimed) ∷ (is_
 
 no_fault : (known : Known) (p o : ℕ) (b : Bool) (w : Option Event) → Agrees known o b w → publish_fault known p ≡ None → NoneHold (tests_of p o b w)
 no_fault Nothing p o b w h e = absurd h
-no_fault (ClaimedBy q) p o b w h e = absurd (elim (cases_Bool (q == p)) [ inl y ↦ (let f : ◌≡◌ {A = Option Refusal} (Some NotWritten) None = rw y at e in cc) | inr n ↦ (let f : ◌≡◌ {A = Option Refusal} (Some NotClaimed) None = rw n at e in cc) ])
+no_fault (ClaimedBy q) p o b w h e = absurd (unwritten_refused (q == p) e)
 no_fault (WrittenBy q event) p o b w h e = (h.1, (ap not (ap (λ k. k == p) h.0 ∙ owned (q == p) NotClaimed e), (ap is_none h.2, tt)))
 no_fault (PublishedWith event) p o b w h e = absurd (let f : ◌≡◌ {A = Option Refusal} (Some AlreadyPublished) None = e in cc)
 
@@ -76,7 +76,7 @@ module _ (v : CoreView) (p lo hi : ℕ) (whole : IsWhole v) (producer : p < prod
       (Refuses-left AlreadyPublished (flat_map (publish_faults m p) (range_with_len lo (hi + 1 - lo))) _ (first_of_stretch m p lo (hi + 1 - lo) 0 AlreadyPublished (omega arith) (λ j l. absurd (omega arith)) (rw add-zero (inl (below_front v m sh lo old, refl))))))
 
   there : v.front ≤ lo → (m : State) → Shows v m → (k : ℕ) → k < hi + 1 - lo → Agrees (known_at v (lo + k)) (slice_index m.owners (lo + k)) (m.published (lo + k)) (m.written (lo + k))
-  there fresh m sh k l = let w : v.next ≤ v.front + v.setup.size = near v whole in sh.recent (lo + k) (omega arith) (omega arith)
+  there fresh m sh k l = sh.recent (lo + k) (omega arith) (near v whole (lo + k) (omega arith))
 
   pub publish_refused : v.front ≤ lo → (r : Refusal) (k : ℕ) → k < hi + 1 - lo → ((j : ℕ) → j < k → publish_fault (known_at v (lo + j)) p ≡ None) → publish_fault (known_at v (lo + k)) p ≡ Some r → IsStep v (Publish p lo hi) (Refused r) [] v
   publish_refused fresh r k l before here =
@@ -98,7 +98,7 @@ module _ (v : CoreView) (p lo hi : ℕ) (whole : IsWhole v) (producer : p < prod
 -- what may be published is known with the event that was written
 fault_written : (known : Known) (p o : ℕ) (b : Bool) (w : Option Event) → Agrees known o b w → publish_fault known p ≡ None → w ≡ Some (value_of known)
 fault_written Nothing p o b w h e = absurd h
-fault_written (ClaimedBy q) p o b w h e = absurd (elim (cases_Bool (q == p)) [ inl y ↦ (let f : ◌≡◌ {A = Option Refusal} (Some NotWritten) None = rw y at e in cc) | inr n ↦ (let f : ◌≡◌ {A = Option Refusal} (Some NotClaimed) None = rw n at e in cc) ])
+fault_written (ClaimedBy q) p o b w h e = absurd (unwritten_refused (q == p) e)
 fault_written (WrittenBy q event) p o b w h e = h.2
 fault_written (PublishedWith event) p o b w h e = h.1
 
@@ -146,7 +146,7 @@ module _ (v : CoreView) (p lo hi front' : ℕ) (known : ℕ → Known) (knows : 
   published_shows : (m : State) → Shows v m → Shows (record v { recent = recent_of known v.next v.setup.size; front = front' }) (accepted v.setup m (Publish p lo hi)).state
   published_shows m sh =
       let here : next m ≡ v.next = sh.next in
-      let w : v.next ≤ v.front + v.setup.size = near v whole in
+      let w : v.next ≤ v.front + v.setup.size = near v whole v.front (omega arith) in
       let low : v.front ≤ front' = found.low in
       let high : front' ≤ v.next = found.high in
       record {

@@ -1,5 +1,5 @@
 -- What is known of the recent sequences, kept by rounds of the ring.
-use Rattle.std.proofs.Common.{◌≡◌, ◌⊎◌, ℕ, ◌+◌, ◌-◌, ◌%◌, ◌<◌, ◌≤◌, ◌≢◌, inl, inr, true, false, Bool, cond, List, arith, refl, ap, sym, ◌∙◌, length, set, Option, None, Some, replicate}
+use Rattle.std.proofs.Common.{◌≡◌, ◌⊎◌, ℕ, ◌+◌, ◌-◌, ◌%◌, ◌<◌, ◌≤◌, ◌≢◌, inl, inr, true, false, Bool, cond, List, arith, refl, ap, sym, ◌∙◌, length, set, None, Some, replicate}
 use Rattle.std.specs.Prelude.{◌==◌, ◌||◌, nat_lt}
 use Rattle.std.proofs.Math.Nat.{mod-lt}
 use Rattle.std.proofs.lemmas.Bool.{ne_eqb, cases_Bool, cases_lt, or_left, or_right, or_from, lt-ltb, le-ltb}
@@ -10,7 +10,6 @@ use Rattle.dr_seq.specs.Rounds.{entry_of, is_marked, IsFront}
 use Rattle.dr_seq.specs.Slots.{event_at}
 use Rattle.dr_core.specs.declared.mode.Mode.{Mode}
 use Rattle.dr_core.specs.declared.mode.Mode.TheVariants.{Single, Multi}
-use Rattle.dr_core.specs.declared.refusal.Refusal.{Refusal}
 use Rattle.dr_core.specs.declared.refusal.Refusal.TheVariants.{NotClaimed, NotWritten, AlreadyPublished}
 use Rattle.dr_core.specs.declared.engine.Core.TheInside.{Inside}
 use Rattle.dr_core.specs.Machine.{producers}
@@ -20,7 +19,7 @@ use Rattle.dr_core.specs.Inside.{kept_of, view_of, IsAvailable}
 use Rattle.dr_core.proofs.Stamped.{length-stamped, stamped-in, stamped-out, mod-ne, marks_none_after, marked-in, marked-out, mark_is}
 use Rattle.dr_core.proofs.Keeps.{zeros}
 use Rattle.dr_core.proofs.CoreSteps.{ClaimsKnown, known_at-recent}
-use Rattle.dr_core.proofs.Writing.{WritesKnown}
+use Rattle.dr_core.proofs.Writing.{WritesKnown, unwritten_refused}
 use Rattle.dr_core.proofs.Publishing.{PublishesKnown}
 
 -- what a core's view says of a recent sequence is what its slot says
@@ -43,10 +42,7 @@ write_fault-known false false owner p event = refl
 value_of-known : (published written : Bool) (owner p : ℕ) (event : Event) → publish_fault (known_of published written owner event) p ≡ None → value_of (known_of published written owner event) ≡ event
 value_of-known true written owner p event e = refl
 value_of-known false true owner p event e = refl
-value_of-known false false owner p event e = absurd (elim (cases_Bool (owner == p)) [
-  | inl y ↦ (let f : ◌≡◌ {A = Option Refusal} (Some NotWritten) None = rw y at e in cc)
-  | inr n ↦ (let f : ◌≡◌ {A = Option Refusal} (Some NotClaimed) None = rw n at e in cc)
-])
+value_of-known false false owner p event e = absurd (unwritten_refused (owner == p) e)
 
 -- what is shown is known with its slot's event
 value_of-shown : (published written : Bool) (owner : ℕ) (event : Event) → is_shown (known_of published written owner event) ≡ true → event ≡ value_of (known_of published written owner event)

@@ -1,5 +1,5 @@
 -- What every state of the machine keeps, and that each command changes it as its entry says.
-use Rattle.std.proofs.Common.{◌≡◌, ℕ, ◌+◌, ◌-◌, ◌<◌, ◌≤◌, ◌≢◌, inl, inr, min, Bool, true, false, cond, ◌||◌, ◌&&◌, List, [], ◌∷◌, arith, refl, ap, sym, ◌∙◌, length, map, replicate, Option, unwrap_or, Some, None, slice_index, slice_set, add-zero}
+use Rattle.std.proofs.Common.{◌≡◌, ℕ, ◌+◌, ◌-◌, ◌<◌, ◌≤◌, ◌≢◌, inl, inr, min, max, Bool, true, false, cond, ◌||◌, ◌&&◌, List, [], ◌∷◌, arith, refl, ap, sym, ◌∙◌, length, map, replicate, Option, unwrap_or, Some, None, slice_index, slice_set, add-zero}
 use Rattle.std.specs.Prelude.{slice_get, Contains, ◌==◌, nat_lt, is_none}
 use Rattle.std.specs.List.{range_with_len}
 use Rattle.std.proofs.lemmas.Bool.{cond_both, cases_Bool, or_parts, false≢true, eqb-true, eqb-false}
@@ -38,34 +38,35 @@ below_front c m sound h k l =
     let w : slice_index m.taken h ≤ front m = sound.in_front h in
     (least_is m.published (next m)).below k (omega arith)
 
--- a reply that changes nothing
-quiet : (c : Setup) (m : State) (command : Command) (r : Reply) → IsSound c m → claimed_below r ≡ 0 → ((s : ℕ) → covers r command s ≡ false) → ((s : ℕ) → wrote r command s ≡ None) → ((h : ℕ) → batch_to h r command [] ≡ []) → ((h : ℕ) → completion h r command ≡ None) → halts r ≡ false → Changes m (record { command = command; reply = r; values = [] }) m
-quiet c m command r sound a b d e f g = record {
-  next = rw a (omega arith);
-  published = λ s. rw (b s) (sym (or-false _));
-  written = λ s. rw (d s);
-  taken = λ h. rw (e h) (sym (add-zero _));
-  completed = λ h. rw (f h);
-  halted = rw g (sym (or-false _));
-  settled = λ s p. d s;
-  fresh = λ s p. d s;
-  batch = λ h k l. absurd (let n : length (batch_to h r command []) ≡ 0 = ap length (e h) in omega arith);
-  in_front = below_front c m sound;
+-- what an entry says that writes nothing and hands nothing out
+unwritten : (c : Setup) (m n : State) (e : Entry) → IsSound c m → ((s : ℕ) → wrote e.reply e.command s ≡ None) → ((h : ℕ) → batch_to h e.reply e.command e.values ≡ []) → n.written ≡ m.written → n.taken ≡ m.taken
+    → next n ≡ max (next m) (claimed_below e.reply)
+    → ((s : ℕ) → n.published s ≡ (m.published s || covers e.reply e.command s))
+    → ((h : ℕ) → slice_index n.completed h ≡ unwrap_or (completion h e.reply e.command) (slice_index m.completed h))
+    → n.halted ≡ (m.halted || halts e.reply)
+    → Changes m e n
+unwritten c m n e sound none no_batch written taken next published completed halted = record {
+  next = next;
+  published = published;
+  written = λ s. rw (none s, written);
+  taken = λ h. rw (no_batch h, taken) (sym (add-zero _));
+  completed = completed;
+  halted = halted;
+  settled = λ s p. none s;
+  fresh = λ s p. none s;
+  batch = λ h k l. absurd (let n : length (batch_to h e.reply e.command e.values) ≡ 0 = ap length (no_batch h) in omega arith);
+  in_front = λ h k l. below_front c m sound h k (rw taken at l);
 }
 
+-- a reply that changes nothing
+quiet : (c : Setup) (m : State) (command : Command) (r : Reply) → IsSound c m → claimed_below r ≡ 0 → ((s : ℕ) → covers r command s ≡ false) → ((s : ℕ) → wrote r command s ≡ None) → ((h : ℕ) → batch_to h r command [] ≡ []) → ((h : ℕ) → completion h r command ≡ None) → halts r ≡ false → Changes m (record { command = command; reply = r; values = [] }) m
+quiet c m command r sound a b d e f g =
+    unwritten c m m (record { command = command; reply = r; values = [] }) sound d e refl refl (rw a (omega arith)) (λ s. rw (b s) (sym (or-false _))) (λ h. rw (f h)) (rw g (sym (or-false _)))
+
 claim_changes : (c : Setup) (m : State) (p n : ℕ) → IsSound c m → NoneHold (refusals c m (Claim p n)) → Changes m (entry_of (Claim p n) (accepted c m (Claim p n))) (accepted c m (Claim p n)).state
-claim_changes c m p n sound none = record {
-  next = (let some : (n == 0) ≡ false = (or_parts _ _ none.1.0).0 in let ne : n ≢ 0 = eqb-false n 0 some in length-append m.owners (replicate n p) ∙ ap (λ k. length m.owners + k) (length-replicate n p) ∙ omega arith);
-  published = λ s. sym (or-false _);
-  written = λ s. refl;
-  taken = λ h. sym (add-zero _);
-  completed = λ h. refl;
-  halted = sym (or-false _);
-  settled = λ s h. refl;
-  fresh = λ s h. refl;
-  batch = λ h k l. absurd (omega arith);
-  in_front = below_front c m sound;
-}
+claim_changes c m p n sound none =
+    let some : n ≢ 0 = eqb-false n 0 (or_parts _ _ none.1.0).0 in
+    unwritten c m _ _ sound (λ s. refl) (λ h. refl) refl refl (length-append m.owners (replicate n p) ∙ ap (λ k. length m.owners + k) (length-replicate n p) ∙ omega arith) (λ s. sym (or-false _)) (λ h. refl) (sym (or-false _))
 
 first_of-if : {A : Type 0} (b : Bool) (v : A) (w : Option A) → cond b (Some v) w ≡ first_of (cond b (Some v) None) w
 first_of-if true v w = refl
@@ -89,18 +90,7 @@ write_changes c m p at v sound none = record {
 }
 
 publish_changes : (c : Setup) (m : State) (p lo hi : ℕ) → IsSound c m → Changes m (entry_of (Publish p lo hi) (accepted c m (Publish p lo hi))) (accepted c m (Publish p lo hi)).state
-publish_changes c m p lo hi sound = record {
-  next = omega arith;
-  published = λ s. refl;
-  written = λ s. refl;
-  taken = λ h. sym (add-zero _);
-  completed = λ h. refl;
-  halted = sym (or-false _);
-  settled = λ s h. refl;
-  fresh = λ s h. refl;
-  batch = λ h k l. absurd (omega arith);
-  in_front = below_front c m sound;
-}
+publish_changes c m p lo hi sound = unwritten c m _ _ sound (λ s. refl) (λ h. refl) refl refl (omega arith) (λ s. refl) (λ h. refl) (sym (or-false _))
 
 unwrap-if : {A : Type 0} (b : Bool) (v w : A) → cond b v w ≡ unwrap_or (cond b (Some v) None) w
 unwrap-if true v w = refl
@@ -114,36 +104,17 @@ set_count ns at n h l =
     (λ no'. get_or-set_other ns at h n 0 (eqb-false h at no'))
 
 complete_changes : (c : Setup) (m : State) (at upto : ℕ) → IsSound c m → NoneHold (refusals c m (Complete at upto)) → Changes m (entry_of (Complete at upto) (accepted c m (Complete at upto))) (accepted c m (Complete at upto)).state
-complete_changes c m at upto sound none = record {
-  next = omega arith;
-  published = λ s. sym (or-false _);
-  written = λ s. refl;
-  taken = λ h. sym (add-zero _);
-  completed = λ h. set_count m.completed at upto h (let l : at < handlers c = grind (arith, nat_tests, none.0) in let e : length m.completed ≡ handlers c = sound.completed_len in omega arith) ∙ unwrap-if (h == at) upto (slice_index m.completed h);
-  halted = sym (or-false _);
-  settled = λ s h. refl;
-  fresh = λ s h. absurd (false≢true h);
-  batch = λ h k l. absurd (omega arith);
-  in_front = below_front c m sound;
-}
+complete_changes c m at upto sound none =
+    let inside : at < handlers c = grind (arith, nat_tests, none.0) in
+    let len : length m.completed ≡ handlers c = sound.completed_len in
+    unwritten c m _ _ sound (λ s. refl) (λ h. refl) refl refl (omega arith) (λ s. sym (or-false _)) (λ h. set_count m.completed at upto h (omega arith) ∙ unwrap-if (h == at) upto (slice_index m.completed h)) (sym (or-false _))
 
 or-true : (b : Bool) → true ≡ (b || true)
 or-true true = refl
 or-true false = refl
 
 halt_changes : (c : Setup) (m : State) → IsSound c m → Changes m (entry_of Halt (accepted c m Halt)) (accepted c m Halt).state
-halt_changes c m sound = record {
-  next = omega arith;
-  published = λ s. sym (or-false _);
-  written = λ s. refl;
-  taken = λ h. sym (add-zero _);
-  completed = λ h. refl;
-  halted = or-true m.halted;
-  settled = λ s h. refl;
-  fresh = λ s h. absurd (false≢true h);
-  batch = λ h k l. absurd (omega arith);
-  in_front = below_front c m sound;
-}
+halt_changes c m sound = unwritten c m _ _ sound (λ s. refl) (λ h. refl) refl refl (omega arith) (λ s. sym (or-false _)) (λ h. refl) (or-true m.halted)
 
 -- no handler is offered more than is published
 pub offered-le : (c : Setup) (m : State) → IsSound c m → (hs : List ℕ) → offered m hs ≤ front m

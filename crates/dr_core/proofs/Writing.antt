@@ -5,7 +5,7 @@ use Rattle.std.proofs.lemmas.Bool.{cond-true, cond-false, cases_Bool, cases_eq, 
 use Rattle.dr_core.specs.declared.command.Command.TheVariants.{Write}
 use Rattle.dr_core.specs.declared.command.Reply.TheVariants.{Written, Refused}
 use Rattle.dr_core.specs.declared.refusal.Refusal.{Refusal}
-use Rattle.dr_core.specs.declared.refusal.Refusal.TheVariants.{NotClaimed, AlreadyPublished}
+use Rattle.dr_core.specs.declared.refusal.Refusal.TheVariants.{NotClaimed, AlreadyPublished, NotWritten}
 use Rattle.dr_seq.specs.declared.event.Event.{Event}
 use Rattle.dr_core.specs.Machine.{State, producers, next, front, accepted}
 use Rattle.dr_core.specs.CoreView.{Known, Nothing, ClaimedBy, WrittenBy, PublishedWith, CoreView, recent_of, known_at}
@@ -15,13 +15,13 @@ use Rattle.dr_core.specs.Inside.{IsWhole}
 use Rattle.dr_core.proofs.Leasts.{least_is}
 use Rattle.dr_core.proofs.CoreSteps.{Refuses, refused_step, accepted_step, known_at-recent}
 
--- all below the front is published, and what follows lies in the slots
+-- all below the front is published
 pub below_front : (v : CoreView) (m : State) → Shows v m → (s : ℕ) → s < v.front → m.published s ≡ true
 below_front v m sh s l = (least_is m.published (next m)).below s (let f : front m ≡ v.front = sh.front in omega arith)
 
 -- what lies at the front or after it is in the slots
-pub near : (v : CoreView) → IsWhole v → v.next ≤ v.front + v.setup.size
-near v whole =
+pub near : (v : CoreView) → IsWhole v → (s : ℕ) → v.front ≤ s → v.next ≤ s + v.setup.size
+near v whole s open' =
     let a : v.next ≤ v.setup.size + slice_index v.completed 0 = whole.room 0 whole.graph.some in
     let b : slice_index v.completed 0 ≤ slice_index v.taken 0 = whole.took 0 in
     let d : slice_index v.taken 0 ≤ v.front = whole.in_front 0 in
@@ -33,6 +33,13 @@ owned own r e = elim (cases_Bool own) [ inl y ↦ y | inr n ↦ absurd (let f : 
 
 pub disowned : (own : Bool) (q r : Refusal) → cond own None (Some q) ≡ Some r → (own ≡ false) × (q ≡ r)
 disowned own q r e = elim (cases_Bool own) [ inl y ↦ absurd (let f : ◌≡◌ {A = Option Refusal} None (Some r) = rw y at e in cc) | inr n ↦ (n, (let f : ◌≡◌ {A = Option Refusal} (Some q) (Some r) = rw n at e in cc)) ]
+
+-- a sequence that is claimed and not written is refused to every producer
+pub unwritten_refused : (own : Bool) → cond own (Some NotWritten) (Some NotClaimed) ≡ None → ⊥
+unwritten_refused own e = elim (cases_Bool own) [
+  | inl y ↦ (let f : ◌≡◌ {A = Option Refusal} (Some NotWritten) None = rw y at e in cc)
+  | inr n ↦ (let f : ◌≡◌ {A = Option Refusal} (Some NotClaimed) None = rw n at e in cc)
+]
 
 -- what refuses a write by what is known, and what the machine tests
 write_ok : (known : Known) (p o : ℕ) (b : Bool) (w : Option Event) → Agrees known o b w → write_fault known p ≡ None → (b ≡ false) × ((o == p) ≡ true)
@@ -59,7 +66,7 @@ pub record WritesKnown (v : CoreView) (p s : ℕ) (x : Event) (known : ℕ → K
 
 module _ (v : CoreView) (p s : ℕ) (x : Event) (whole : IsWhole v) (producer : p < producers v.setup.mode) (claimed : s < v.next) (open' : v.front ≤ s) where
   there : (m : State) → Shows v m → Agrees (known_at v s) (slice_index m.owners s) (m.published s) (m.written s)
-  there m sh = let w : v.next ≤ v.front + v.setup.size = near v whole in sh.recent s claimed (omega arith)
+  there m sh = sh.recent s claimed (near v whole s open')
 
   pub write_refused : (r : Refusal) → write_fault (known_at v s) p ≡ Some r → IsStep v (Write p s x) (Refused r) [] v
   write_refused r e =

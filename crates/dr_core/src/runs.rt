@@ -1,6 +1,6 @@
 //! Whole lists of commands.
 
-ghost use Rattle.std.specs.Prelude.{◌≡◌, ◌++◌, length, OnErr, IfOk, IfSome};
+ghost use Rattle.std.specs.Prelude.{◌≡◌, ◌++◌, ◌^◌, ◌≤◌, length, OnErr, IfOk, MatchOption};
 ghost use Rattle.dr_core.specs.Machine.{State};
 ghost use Rattle.dr_core.specs.Transcript.{Transcript, LeadsTo};
 ghost use Rattle.dr_core.specs.Runs.{RunsTo, transcript_of, count_in, counts_of, needed, offers};
@@ -43,7 +43,7 @@ pub fn run(alloc: Global, core: &mut Core, commands: &[Command]) -> Result<Ran, 
 
 /// The room that some commands need at most, or `None` past the greatest number.
 fn room_for(commands: &[Command], size: usize) -> Option<usize>
-    ensures { IfSome result (λ room. room ≡ needed commands.now size) }
+    ensures { MatchOption result (2 ^ 64 ≤ needed commands.now size) (λ room. room ≡ needed commands.now size) }
 {
     let mut room: usize = 0;
     for command in commands {

@@ -55,8 +55,3 @@ pub shift_is_quotient : (n s : ℕ) → IsSize n → s / 2 ^ trailing_zeros w64 
 shift_is_quotient n s is =
     let P : ℕ → Type 0 = λ m. s / 2 ^ trailing_zeros w64 m ≡ s / m in
     subst P (sym is.2) (ap (λ k. s / 2 ^ k) (trailing_zeros-pow is.0 is.1))
-
-pub shift_small : (n : ℕ) → IsSize n → trailing_zeros w64 n < 64
-shift_small n is =
-    let P : ℕ → Type 0 = λ m. trailing_zeros w64 m < 64 in
-    subst P (sym is.2) (let same : trailing_zeros w64 (2 ^ is.0) ≡ is.0 = trailing_zeros-pow is.0 is.1 in let small : is.0 ≤ 16 = is.1 in omega arith)

@@ -14,6 +14,7 @@ use Rattle.dr_core.proofs.CoreSteps.{claim_step, claim_whole, claim_no_room}
 use Rattle.dr_core.proofs.Recents.{claims_known, claims_available, known_there, one_producer}
 use Rattle.dr_core.proofs.Stamped.{length-stamped}
 use Rattle.dr_core.proofs.engine.Core.claim.Goals as goal
+use Rattle.dr_core.proofs.engine.Core.claim.Goals.{After-own}
 
 pub returns-then-not-has_room-clause-step : goal.returns-then-not-has_room-clause-step
 returns-then-not-has_room-clause-step c =
@@ -29,33 +30,41 @@ owners_are (Multi producers) owners lent new from n p a b =
     let e : new ≡ owners_after (Multi producers) owners.items from n p = b ∙ ap (λ l. owners_after (Multi producers) l from n p) a in
     with_items_is owners new (ap length e ∙ length-stamped (λ s. p) owners.items from n ∙ sym owners.ok.0) ∙ e
 
+owned : (c : After-own) → (with_items c.self-2.inside.owners c.own.new.owners).items ≡ owners_after c.self-2.inside.mode c.self-2.inside.owners.items c.self-2.inside.next c.args.n c.args.p
+owned c = owners_are c.self-2.inside.mode c.self-2.inside.owners _ _ _ _ _ c.deref_mut.ensures.value c.own.ensures
+
+-- the search for room changes nothing
+unchanged : (c : After-own) → view_of c.self-2.inside ≡ view_of c.self.inside
+unchanged c = c.self-2.view_is ∙ c.has_room.ensures.same ∙ sym c.self.view_is
+
+-- the claim is within the limit
+limited : (c : After-own) → c.self-2.inside.next + c.args.n ≤ c.self-2.inside.limit
+limited c = rw (ap (λ w. w.next) (unchanged c), ap (λ w. w.setup.limit) (unchanged c)) c.if-self-n.false
+
+-- and it fits beside what the finals have not completed
+fits_beside : (c : After-own) → c.self-2.inside.next + c.args.n ≤ c.self-2.inside.size + least_of (map (λ h. slice_index c.self-2.inside.completed.items h) (finals c.self-2.inside.graph.upstreams))
+fits_beside c = leb-true _ _ (rw (← c.has_room.ensures.same, ← c.self-2.view_is) at (sym c.has_room.ensures.room ∙ c.if-not-has_room.false))
+
 pub invariant_of-self : goal.invariant_of-self
 invariant_of-self c =
     let v : CoreView = view_of c.self-2.inside in
-    let same : v ≡ view_of c.self.inside = c.self-2.view_is ∙ c.has_room.ensures.same ∙ sym c.self.view_is in
-    let room : v.next + c.args.n ≤ v.setup.size + least_of (map (λ h. slice_index v.completed h) (finals v.setup.upstreams)) =
-    leb-true _ _ (rw (← c.has_room.ensures.same, ← c.self-2.view_is) at (sym c.has_room.ensures.room ∙ c.if-not-has_room.false)) in
-    let limit : v.next + c.args.n ≤ v.setup.limit = rw (ap (λ w. w.next) same, ap (λ w. w.setup.limit) same) c.if-self-n.false in
-    let owners : (with_items c.self-2.inside.owners c.own.new.owners).items ≡ owners_after c.self-2.inside.mode c.self-2.inside.owners.items v.next c.args.n c.args.p = owners_are c.self-2.inside.mode c.self-2.inside.owners _ _ _ _ _ c.deref_mut.ensures.value c.own.ensures in
+    let at : After-own = (goal.at.invariant_of-self c).After-own in
     record {
-      whole = claim_whole v c.args.n _ c.self-2.invariant.whole limit room;
-      available = rw owners (claims_available v (kept_of c.self-2.inside) (known_there c.self-2.inside) c.self-2.invariant.available c.self-2.invariant.whole.front (size_positive v.setup.size c.self-2.invariant.whole.size) c.args.n c.args.p);
+      whole = claim_whole v c.args.n _ c.self-2.invariant.whole (limited at) (fits_beside at);
+      available = rw (owned at) (claims_available v (kept_of c.self-2.inside) (known_there c.self-2.inside) c.self-2.invariant.available c.self-2.invariant.whole.front (size_positive v.setup.size c.self-2.invariant.whole.size) c.args.n c.args.p);
       gate = c.self-2.invariant.gate;
     }
 
 pub returns-clause-step : goal.returns-clause-step
 returns-clause-step c =
     let v : CoreView = view_of c.self-2.inside in
-    let same : v ≡ view_of c.self.inside = c.self-2.view_is ∙ c.has_room.ensures.same ∙ sym c.self.view_is in
-    let room : v.next + c.args.n ≤ v.setup.size + least_of (map (λ h. slice_index v.completed h) (finals v.setup.upstreams)) =
-    leb-true _ _ (rw (← c.has_room.ensures.same, ← c.self-2.view_is) at (sym c.has_room.ensures.room ∙ c.if-not-has_room.false)) in
-    let limit : v.next + c.args.n ≤ v.setup.limit = rw (ap (λ w. w.next) same, ap (λ w. w.setup.limit) same) c.if-self-n.false in
+    let at : After-own = (goal.at.returns-clause-step c).After-own in
+    let same : v ≡ view_of c.self.inside = unchanged at in
     let producer : c.args.p < producers v.setup.mode = rw (ap (λ w. w.setup.mode) same) (rw c.producers.ensures at c.if-p-producers.false) in
     let fits : c.args.n ≤ v.setup.size = rw (ap (λ w. w.setup.size) same) (rw c.get.ensures.value at c.if-n-get.false) in
     let going : v.halted ≡ false = ap (λ w. w.halted) same ∙ c.if-self.false in
-    let owners : (with_items c.self-2.inside.owners c.own.new.owners).items ≡ owners_after c.self-2.inside.mode c.self-2.inside.owners.items v.next c.args.n c.args.p = owners_are c.self-2.inside.mode c.self-2.inside.owners _ _ _ _ _ c.deref_mut.ensures.value c.own.ensures in
     rw (← c.has_room.ensures.same, ← c.self-2.view_is)
-    (rw owners
+    (rw (owned at)
     (claim_step v c.args.p c.args.n _
     (claims_known v (kept_of c.self-2.inside) (known_there c.self-2.inside) c.self-2.invariant.available c.self-2.invariant.whole.front (size_positive v.setup.size c.self-2.invariant.whole.size) c.args.n c.args.p fits (one_producer c.self-2.inside.mode c.args.p producer))
-    producer c.if-n-eq0.false fits going limit room))
+    producer c.if-n-eq0.false fits going (limited at) (fits_beside at)))

@@ -1,9 +1,17 @@
-use Rattle.std.proofs.Common.{◌^◌, ◌≤◌, length, sym, ap, ◌∙◌, arith, replicate}
+use Rattle.std.proofs.Common.{◌≡◌, ◌^◌, ◌≤◌, length, sym, ap, ◌∙◌, arith, replicate}
 use Rattle.std.proofs.lemmas.List.{length-replicate}
 use Rattle.dr_core.specs.Machine.{Setup, setup_of}
 use Rattle.dr_core.proofs.Recents.{none_marked}
 use Rattle.dr_core.proofs.Opening.{opening_shows, opening_whole}
 use Rattle.dr_core.proofs.engine.Core.open.Goals as goal
+use Rattle.dr_core.proofs.engine.Core.open.Goals.{After-new-4}
+
+-- no handler took or completed anything
+none_taken : (c : After-new-4) → c.in_ok-taken.taken.items ≡ replicate (length c.args.graph.upstreams) 0
+none_taken c = c.in_ok-taken.ensures.items_if_clones_equal (λ y e. e) ∙ ap (λ n. replicate n 0) c.len-handlers.ensures.handlers
+
+none_completed : (c : After-new-4) → c.in_ok-completed.completed.items ≡ replicate (length c.args.graph.upstreams) 0
+none_completed c = c.in_ok-completed.ensures.items_if_clones_equal (λ y e. e) ∙ ap (λ n. replicate n 0) c.len-handlers.ensures.handlers
 
 pub invariant_of-result : goal.invariant_of-result
 invariant_of-result c =
@@ -12,8 +20,8 @@ invariant_of-result c =
     let setup : Setup = setup_of c.args.graph.upstreams c.args.size c.args.mode c.args.limit in
     record {
       whole = opening_whole setup c.args.graph.names _ c.in_ok-taken.taken.items c.in_ok-completed.completed.items
-          (c.in_ok-taken.ensures.items_if_clones_equal (λ y e. e) ∙ ap (λ n. replicate n 0) c.len-handlers.ensures.handlers)
-          (c.in_ok-completed.ensures.items_if_clones_equal (λ y e. e) ∙ ap (λ n. replicate n 0) c.len-handlers.ensures.handlers)
+          (none_taken (goal.at.invariant_of-result c).After-new-4)
+          (none_completed (goal.at.invariant_of-result c).After-new-4)
           c.len-handlers.ensures.lawful size (let small : c.args.limit ≤ 2 ^ 62 = omega arith in small);
       available = record {
         published = ap length c.in_ok-published.ensures ∙ length-replicate _ _;
@@ -29,5 +37,5 @@ invariant_of-result c =
 pub returns-clause-opening : goal.returns-clause-opening
 returns-clause-opening c =
     opening_shows (setup_of c.args.graph.upstreams c.args.size c.args.mode c.args.limit) c.args.graph.names _ c.in_ok-taken.taken.items c.in_ok-completed.completed.items
-    (c.in_ok-taken.ensures.items_if_clones_equal (λ y e. e) ∙ ap (λ n. replicate n 0) c.len-handlers.ensures.handlers)
-    (c.in_ok-completed.ensures.items_if_clones_equal (λ y e. e) ∙ ap (λ n. replicate n 0) c.len-handlers.ensures.handlers)
+    (none_taken (goal.at.returns-clause-opening c).After-new-4)
+    (none_completed (goal.at.returns-clause-opening c).After-new-4)

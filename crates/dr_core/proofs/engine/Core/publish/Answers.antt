@@ -7,13 +7,13 @@ use Rattle.dr_core.specs.Machine.{is_single}
 use Rattle.dr_core.specs.CoreView.{CoreView, known_at}
 use Rattle.dr_core.specs.Availability.{stamped, publish_fault}
 use Rattle.dr_core.specs.Inside.{view_of, kept_of}
-use Rattle.dr_core.proofs.CoreSteps.{publish_whole_front}
+use Rattle.dr_core.proofs.CoreSteps.{front_whole}
 use Rattle.dr_core.proofs.Publishing.{publish_front, publish_refused, publish_order, publish_step}
 use Rattle.dr_core.proofs.Recents.{known_there, publishes_known, publishes_available, front_known}
 use Rattle.dr_core.proofs.Stamped.{length-stamped}
 use Rattle.dr_core.proofs.Writing.{near}
 use Rattle.dr_core.proofs.engine.Core.publish.Goals as goal
-use Rattle.dr_core.proofs.engine.Core.publish.Goals.{else-is_single-via-then-is_single+else-lo-self-2, else-is_single-via-else-is_single}
+use Rattle.dr_core.proofs.engine.Core.publish.Goals.{After-front-self-inside, else-is_single-via-then-is_single+else-lo-self-2, else-is_single-via-else-is_single}
 
 pub returns-then-lo-self-clause-step : goal.returns-then-lo-self-clause-step
 returns-then-lo-self-clause-step c =
@@ -37,29 +37,32 @@ returns-then-lo-self-2-clause-step c =
 pub front-self-inside-requires-clause-round : goal.front-self-inside-requires-clause-round
 front-self-inside-requires-clause-round c =
     let v : CoreView = view_of c.self.inside in
-    let round : v.next ≤ v.front + v.setup.size = near v c.self.invariant.whole in
+    let round : v.next ≤ v.front + v.setup.size = near v c.self.invariant.whole v.front (omega arith) in
     let len : length c.mark_all.new.rounds ≡ v.setup.size = ap length c.mark_all.ensures ∙ length-stamped _ c.self.inside.published _ _ ∙ c.self.invariant.available.published in
     omega arith
 
--- the marks before the call and after it
+-- the front that the new marks have
+moved : (c : After-front-self-inside) → IsFront (is_marked (stamped (entry_of (length c.self.inside.published)) c.self.inside.published c.args.lo (c.args.hi + 1 - c.args.lo))) c.self.inside.front c.self.inside.next c.front-self-inside.result
+moved c = rw c.mark_all.ensures at c.front-self-inside.ensures
+
 pub invariant_of-self : goal.invariant_of-self
 invariant_of-self c =
     let v : CoreView = view_of c.self.inside in
-    let round : v.next ≤ v.front + v.setup.size = near v c.self.invariant.whole in
-    let found : IsFront (is_marked (stamped (entry_of (length c.self.inside.published)) c.self.inside.published c.args.lo (c.args.hi + 1 - c.args.lo))) v.front v.next c.front-self-inside.result = rw c.mark_all.ensures at c.front-self-inside.ensures in
+    let at : After-front-self-inside = (goal.at.invariant_of-self c).After-front-self-inside in
+    let recent : v.next ≤ c.args.lo + v.setup.size = near v c.self.invariant.whole c.args.lo c.if-lo-self.false in
     record {
-      whole = publish_whole_front v c.front-self-inside.result _ c.self.invariant.whole found.low found.high;
-      available = rw c.mark_all.ensures (publishes_available v (kept_of c.self.inside) (known_there c.self.inside) c.self.invariant.available c.self.invariant.whole.front (size_positive v.setup.size c.self.invariant.whole.size) c.args.p c.args.lo c.args.hi c.front-self-inside.result c.if-lo-hi.false c.if-hi-self.false (omega arith) refl found);
+      whole = front_whole v c.front-self-inside.result _ c.self.invariant.whole (moved at).low (moved at).high;
+      available = rw c.mark_all.ensures (publishes_available v (kept_of c.self.inside) (known_there c.self.inside) c.self.invariant.available c.self.invariant.whole.front (size_positive v.setup.size c.self.invariant.whole.size) c.args.p c.args.lo c.args.hi c.front-self-inside.result c.if-lo-hi.false c.if-hi-self.false recent refl (moved at));
       gate = c.self.invariant.gate;
     }
 
 pub returns-clause-step : goal.returns-clause-step
 returns-clause-step c =
     let v : CoreView = view_of c.self.inside in
-    let round : v.next ≤ v.front + v.setup.size = near v c.self.invariant.whole in
+    let at : After-front-self-inside = (goal.at.returns-clause-step c).After-front-self-inside in
+    let recent : v.next ≤ c.args.lo + v.setup.size = near v c.self.invariant.whole c.args.lo c.if-lo-self.false in
     let some : 0 < v.setup.size = size_positive v.setup.size c.self.invariant.whole.size in
     let none : (j : ℕ) → j < c.args.hi + 1 - c.args.lo → publish_fault (known_at v (c.args.lo + j)) c.args.p ≡ None = rw (← c.self.view_is) at c.in_default.ensures in
-    let found : IsFront (is_marked (stamped (entry_of (length c.self.inside.published)) c.self.inside.published c.args.lo (c.args.hi + 1 - c.args.lo))) v.front v.next c.front-self-inside.result = rw c.mark_all.ensures at c.front-self-inside.ensures in
     let order : (is_single v.setup.mode && not (c.args.lo == v.front)) ≡ false = elim c.else-is_single.branch [
       | else-is_single-via-then-is_single+else-lo-self-2 w ↦ and_right _ _ (ap not (eq-eqb _ _ w.if-lo-self-2.false))
       | else-is_single-via-else-is_single w ↦ and_left _ _ (sym c.is_single.ensures ∙ w.if-is_single.false)
@@ -67,7 +70,7 @@ returns-clause-step c =
     rw (← c.self.view_is)
     (rw c.mark_all.ensures
     (publish_step v c.args.p c.args.lo c.args.hi c.front-self-inside.result _
-    (publishes_known v (kept_of c.self.inside) (known_there c.self.inside) c.self.invariant.available c.self.invariant.whole.front some c.args.p c.args.lo c.args.hi c.front-self-inside.result c.if-lo-hi.false c.if-hi-self.false (omega arith) refl found none)
+    (publishes_known v (kept_of c.self.inside) (known_there c.self.inside) c.self.invariant.available c.self.invariant.whole.front some c.args.p c.args.lo c.args.hi c.front-self-inside.result c.if-lo-hi.false c.if-hi-self.false recent refl (moved at) none)
     c.self.invariant.whole (rw c.producers.ensures at c.if-p-producers.false) c.if-lo-hi.false c.if-hi-self.false c.if-lo-self.false none
-    (front_known v (kept_of c.self.inside) (known_there c.self.inside) c.self.invariant.available c.self.invariant.whole.front some c.args.p c.args.lo c.args.hi c.front-self-inside.result c.if-lo-hi.false c.if-hi-self.false (omega arith) refl found)
+    (front_known v (kept_of c.self.inside) (known_there c.self.inside) c.self.invariant.available c.self.invariant.whole.front some c.args.p c.args.lo c.args.hi c.front-self-inside.result c.if-lo-hi.false c.if-hi-self.false recent refl (moved at))
     order))

@@ -1,14 +1,16 @@
-use Rattle.std.proofs.Common.{◌≡◌, ◌+◌, ◌≤◌, sym, ◌∙◌, arith, true, false, refl}
+use Rattle.std.proofs.Common.{◌≡◌, ◌+◌, ◌≤◌, sym, ◌∙◌, arith, Bool, true, false, cond, Some, None, refl}
 use Rattle.std.specs.Prelude.{◌==◌, nat_lt}
 use Rattle.std.proofs.lemmas.Bool.{eq-eqb, ne_eqb, le-ltb, or_right, or_from}
 use Rattle.dr_seq.proofs.Sizes.{size_positive}
-use Rattle.dr_core.specs.CoreView.{CoreView}
-use Rattle.dr_core.specs.Availability.{owner_at, is_published_at}
+use Rattle.dr_core.specs.declared.refusal.Refusal.TheVariants.{NotClaimed}
+use Rattle.dr_core.specs.CoreView.{CoreView, known_at}
+use Rattle.dr_core.specs.Availability.{owner_at, is_published_at, write_fault}
 use Rattle.dr_core.specs.Inside.{view_of, kept_of}
-use Rattle.dr_core.proofs.CoreSteps.{recent_whole}
+use Rattle.dr_core.proofs.CoreSteps.{front_whole}
 use Rattle.dr_core.proofs.Recents.{known_there, write_fault_is, writes_known, writes_available}
 use Rattle.dr_core.proofs.Writing.{near, write_front, write_refused, write_step}
 use Rattle.dr_core.proofs.engine.Core.write.Goals as goal
+use Rattle.dr_core.proofs.engine.Core.write.Goals.{After-owner_of}
 
 pub returns-then-s-self-2-clause-step : goal.returns-then-s-self-2-clause-step
 returns-then-s-self-2-clause-step c =
@@ -17,42 +19,47 @@ returns-then-s-self-2-clause-step c =
 pub returns-then-is_marked-clause-step : goal.returns-then-is_marked-clause-step
 returns-then-is_marked-clause-step c =
     let v : CoreView = view_of c.self.inside in
-    let round : v.next ≤ v.front + v.setup.size = near v c.self.invariant.whole in
     let published : is_published_at (kept_of c.self.inside) c.args.s ≡ true = or_right (nat_lt c.args.s c.self.inside.front) _ (sym c.is_marked.ensures ∙ c.if-is_marked.true) in
     rw (← c.self.view_is)
     (write_refused v c.args.p c.args.s c.args.event c.self.invariant.whole (rw c.producers.ensures at c.if-p-producers.false) c.if-s-self.false c.if-s-self-2.false _
-    (write_fault_is c.self.inside c.args.s c.args.p true _ c.if-s-self.false (omega arith) published refl))
+    (write_fault_is c.self.inside c.args.s c.args.p true _ c.if-s-self.false (near v c.self.invariant.whole c.args.s c.if-s-self-2.false) published refl))
+
+-- past the test of its mark the sequence is not published
+unpublished : (c : After-owner_of) → is_published_at (kept_of c.self.inside) c.args.s ≡ false
+unpublished c = or_from _ _ (le-ltb _ _ c.if-s-self-2.false) (sym c.is_marked.ensures ∙ c.if-is_marked.false)
+
+-- an unpublished sequence, by its owner
+unpublished_fault : (c : After-owner_of) (mine : Bool) → (owner_at c.self.inside.mode c.self.inside.owners.items c.args.s == c.args.p) ≡ mine
+    → write_fault (known_at (view_of c.self.inside) c.args.s) c.args.p ≡ cond mine None (Some NotClaimed)
+unpublished_fault c mine owned =
+    write_fault_is c.self.inside c.args.s c.args.p false mine c.if-s-self.false (near (view_of c.self.inside) c.self.invariant.whole c.args.s c.if-s-self-2.false) (unpublished c) owned
 
 pub returns-then-owner_of-p-clause-step : goal.returns-then-owner_of-p-clause-step
 returns-then-owner_of-p-clause-step c =
-    let v : CoreView = view_of c.self.inside in
-    let round : v.next ≤ v.front + v.setup.size = near v c.self.invariant.whole in
-    let unpublished : is_published_at (kept_of c.self.inside) c.args.s ≡ false = or_from _ _ (le-ltb _ _ c.if-s-self-2.false) (sym c.is_marked.ensures ∙ c.if-is_marked.false) in
     let owner = rw c.deref.ensures.value at c.owner_of.ensures in
-    let other : (owner_at c.self.inside.mode c.self.inside.owners.items c.args.s == c.args.p) ≡ false = ne_eqb _ _ (λ e. c.if-owner_of-p.true (owner ∙ e)) in
     rw (← c.self.view_is)
-    (write_refused v c.args.p c.args.s c.args.event c.self.invariant.whole (rw c.producers.ensures at c.if-p-producers.false) c.if-s-self.false c.if-s-self-2.false _
-    (write_fault_is c.self.inside c.args.s c.args.p false false c.if-s-self.false (omega arith) unpublished other))
+    (write_refused (view_of c.self.inside) c.args.p c.args.s c.args.event c.self.invariant.whole (rw c.producers.ensures at c.if-p-producers.false) c.if-s-self.false c.if-s-self-2.false _
+    (unpublished_fault (goal.at.returns-then-owner_of-p-clause-step c).After-owner_of false (ne_eqb _ _ (λ e. c.if-owner_of-p.true (owner ∙ e)))))
 
 pub invariant_of-self : goal.invariant_of-self
 invariant_of-self c =
     let v : CoreView = view_of c.self.inside in
-    let round : v.next ≤ v.front + v.setup.size = near v c.self.invariant.whole in
+    let recent : v.next ≤ c.args.s + v.setup.size = near v c.self.invariant.whole c.args.s c.if-s-self-2.false in
     record {
-      whole = recent_whole v _ c.self.invariant.whole;
-      available = rw (c.mark.ensures, c.put.ensures) (writes_available v (kept_of c.self.inside) (known_there c.self.inside) c.self.invariant.available c.self.invariant.whole.front (size_positive v.setup.size c.self.invariant.whole.size) c.args.p c.args.s c.args.event c.if-s-self.false (omega arith));
+      whole = front_whole v v.front _ c.self.invariant.whole (omega arith) c.self.invariant.whole.front;
+      available = rw (c.mark.ensures, c.put.ensures) (writes_available v (kept_of c.self.inside) (known_there c.self.inside) c.self.invariant.available c.self.invariant.whole.front (size_positive v.setup.size c.self.invariant.whole.size) c.args.p c.args.s c.args.event c.if-s-self.false recent);
       gate = c.self.invariant.gate;
     }
 
 pub returns-clause-step : goal.returns-clause-step
 returns-clause-step c =
     let v : CoreView = view_of c.self.inside in
-    let round : v.next ≤ v.front + v.setup.size = near v c.self.invariant.whole in
-    let unpublished : is_published_at (kept_of c.self.inside) c.args.s ≡ false = or_from _ _ (le-ltb _ _ c.if-s-self-2.false) (sym c.is_marked.ensures ∙ c.if-is_marked.false) in
+    let at : After-owner_of = (goal.at.returns-clause-step c).After-owner_of in
+    let recent : v.next ≤ c.args.s + v.setup.size = near v c.self.invariant.whole c.args.s c.if-s-self-2.false in
     let owner = rw c.deref.ensures.value at c.owner_of.ensures in
     let mine : owner_at c.self.inside.mode c.self.inside.owners.items c.args.s ≡ c.args.p = sym owner ∙ c.if-owner_of-p.false in
     rw (← c.self.view_is)
     (rw (c.mark.ensures, c.put.ensures)
     (write_step v c.args.p c.args.s c.args.event c.self.invariant.whole (rw c.producers.ensures at c.if-p-producers.false) c.if-s-self.false c.if-s-self-2.false _
-    (writes_known v (kept_of c.self.inside) (known_there c.self.inside) c.self.invariant.available c.self.invariant.whole.front (size_positive v.setup.size c.self.invariant.whole.size) c.args.p c.args.s c.args.event c.if-s-self.false (omega arith) unpublished mine)
-    (write_fault_is c.self.inside c.args.s c.args.p false true c.if-s-self.false (omega arith) unpublished (eq-eqb _ _ mine))))
+    (writes_known v (kept_of c.self.inside) (known_there c.self.inside) c.self.invariant.available c.self.invariant.whole.front (size_positive v.setup.size c.self.invariant.whole.size) c.args.p c.args.s c.args.event c.if-s-self.false recent (unpublished at) mine)
+    (unpublished_fault at true (eq-eqb _ _ mine))))
