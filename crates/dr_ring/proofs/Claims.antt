@@ -9,10 +9,10 @@ use Rattle.dr_ring.specs.Shape.{Shape}
 use Rattle.dr_ring.specs.Words.{halt_word, count_word}
 use Rattle.dr_ring.specs.declared.record.Look.{Look}
 use Rattle.dr_ring.specs.declared.record.SenderRecord.{SenderRecord}
-use Rattle.dr_ring.specs.Ends.{claimed, look, last_look, halt_looked, HasRoom}
+use Rattle.dr_ring.specs.Ends.{claimed, look, last_look, halt_looked}
 use Rattle.dr_ring.specs.Seats.{End, as_sender, sender_of, IsSender}
-use Rattle.dr_ring.specs.Calls.{looks_counted, sender_saw, more_claimed, IsSize, count_looks, gate_looks, FoundRoom, FoundNoRoom, HaltedLate}
-use Rattle.dr_ring.specs.Parts.{LooksAtFinals, IsEnough, IsShort}
+use Rattle.dr_ring.specs.Calls.{looks_counted, sender_saw, more_claimed, IsSize, count_looks, gate_looks, FoundRoom, HaltedLate}
+use Rattle.dr_ring.specs.Parts.{LooksAtFinals, IsEnough}
 use Rattle.dr_ring.specs.Fits.{Marked, IsSeenLeast, SenderFits}
 use Rattle.dr_ring.proofs.Lists.{last_look_else}
 use Rattle.dr_ring.proofs.Rounds.{counted_more}
@@ -28,13 +28,6 @@ no_more (suc v) n none = rw (ne_eqb (suc v) 0 (λ (e : suc v ≡ 0). omega arith
 -- a look at halt that claims nothing
 halt_saw : (r : SenderRecord) (n v : ℕ) → (v ≡ 0 → n ≡ 0) → halt_looked r n v ≡ sender_saw r (look halt_word v ∷ [])
 halt_saw r n v none = ap (λ (xs : List (Option Event)). record r { pending = xs; looks = r.looks ++ look halt_word v ∷ [] }) (ap (λ (ys : List (Option Event)). r.pending ++ ys) (no_more v n none) ∙ append-nil r.pending)
-
-pub saw_nothing : (r : SenderRecord) (me : End) (counted : ℕ) → me ≡ as_sender r → counted ≡ looks_counted r.looks → LooksAtFinals r [] me counted
-saw_nothing r me counted is looks = record {
-  is = is ∙ ap (λ (ys : List Look). as_sender (record r { looks = ys })) (sym (append-nil r.looks));
-  looks = looks ∙ ap looks_counted (sym (append-nil r.looks));
-  rises = λ g. (let e : last_look 0 (r.looks ++ []) (count_word g) ≡ last_look 0 r.looks (count_word g) = ap (λ (ys : List Look). last_look 0 ys (count_word g)) (append-nil r.looks) in omega arith);
-}
 
 -- looks after looks
 pub saw_then : (r : SenderRecord) (xs ys : List Look) (me me' : End) (counted counted' : ℕ) → LooksAtFinals r xs me counted → LooksAtFinals (sender_of me.0) ys me' counted' → LooksAtFinals r (xs ++ ys) me' counted'
@@ -96,13 +89,6 @@ fits_least at own me k n p least least' looked ms rm r xs counted needed F S E =
       places = F.places;
     }
 
--- what is enough leaves room
-pub enough_room : (at own : TableId) (me : End) (k : Shape) (n p least looked : ℕ) (ms : List ℕ) (rm : ℕ) (q needed : ℕ) → SenderFits at own me k n p least looked ms rm → n + q ≤ k.limit → needed ≡ n + q - k.size → needed ≤ least → HasRoom k (sender_of me.0) q
-enough_room at own me k n p least looked ms rm q needed F limit need enough = let next = F.next in record {
-  limit = omega arith;
-  completed = λ f has. (let a = F.seen f has in omega arith);
-}
-
 -- the look at halt that claims
 pub fits_claim : (at own own' : TableId) (me me' : End) (k : Shape) (n p least looked counted : ℕ) (ms : List ℕ) (rm : ℕ) (q needed : ℕ) → SenderFits at own me k n p least looked ms rm → own' ≡ own → me' ≡ as_sender (halt_looked (sender_of me.0) q 0) → counted ≡ min (looked + 1) 18446744073709551615
     → n + q ≤ k.limit → needed ≡ n + q - k.size → needed ≤ least → SenderFits at own' me' k (n + q) p least counted ms rm
@@ -130,9 +116,6 @@ fits_claim at own own' me me' k n p least looked counted ms rm q needed F same i
 -- answers
 pub size_of : (at own : TableId) (me : End) (k : Shape) (n p least looked : ℕ) (ms : List ℕ) (rm : ℕ) (r : SenderRecord) (q : ℕ) → SenderFits at own me k n p least looked ms rm → sender_of me.0 ≡ r → 0 < q → q ≤ k.size → IsSize r q
 size_of at own me k n p least looked ms rm r q F same some_one le = (some_one, (let e : r.plan.size ≡ k.size = ap (λ (s : SenderRecord). s.plan.size) (sym same) ∙ ap (λ (x : Shape). x.size) F.plan in omega arith))
-
-pub limit_of : (at own : TableId) (me : End) (k : Shape) (n p least looked : ℕ) (ms : List ℕ) (rm : ℕ) (r : SenderRecord) → SenderFits at own me k n p least looked ms rm → sender_of me.0 ≡ r → r.plan.limit ≡ k.limit
-limit_of at own me k n p least looked ms rm r F same = ap (λ (s : SenderRecord). s.plan.limit) (sym same) ∙ ap (λ (x : Shape). x.limit) F.plan
 
 pub claimed_of : (at own : TableId) (me : End) (k : Shape) (n p least looked : ℕ) (ms : List ℕ) (rm : ℕ) (r : SenderRecord) → SenderFits at own me k n p least looked ms rm → sender_of me.0 ≡ r → n ≡ claimed r
 claimed_of at own me k n p least looked ms rm r F same = F.next ∙ ap claimed same
@@ -165,31 +148,3 @@ answer_halted_late k r s first xs me me' counted n q v needed least S start E pl
   saw = saw_last r (look halt_word first ∷ xs) me me' counted q v S is ne ∙ ap (λ (x : ℕ). sender_saw r (look halt_word x ∷ (xs ++ look halt_word v ∷ []))) start
       ∙ ap (λ (x : ℕ). sender_saw r (look halt_word 0 ∷ (xs ++ look halt_word x ∷ []))) (is_one v ne flag) ∙ ap (λ (ys : List Look). sender_saw r (look halt_word 0 ∷ (ys ++ look halt_word 1 ∷ []))) (gates k r xs E.counts E.are plan);
 }
-
--- a final was found too far behind
-pub answer_no_room : (k : Shape) (r : SenderRecord) (first : ℕ) (xs : List Look) (me : End) (counted n q needed : ℕ) → LooksAtFinals r (look halt_word first ∷ xs) me counted → first ≡ 0 → IsShort k xs needed → r.plan ≡ k → n ≡ claimed r → needed ≡ n + q - k.size
-    → (counts : List ℕ) × FoundNoRoom r q counts × (sender_of me.0 ≡ sender_saw r (look halt_word 0 ∷ gate_looks r counts))
-answer_no_room k r first xs me counted n q needed S none H plan next need =
-    let e : r.plan.size ≡ k.size = ap (λ (p : Shape). p.size) plan in (
-      H.counts,
-      record {
-        before = H.before;
-        last = H.last;
-        among = subst (λ (p : Shape). length H.counts ≤ length (finals p.upstreams)) (sym plan) H.among;
-        room = λ i lt. (let high = H.high i lt in omega arith);
-        behind = let low = H.low in omega arith;
-      },
-      ap (λ (m : End). sender_of m.0) S.is ∙ ap (λ (x : ℕ). sender_saw r (look halt_word x ∷ xs)) none ∙ ap (λ (ys : List Look). sender_saw r (look halt_word 0 ∷ ys)) (gates k r xs H.counts H.are plan),
-    )
-
--- both looks found 0
-pub answer_claimed : (k : Shape) (r s : SenderRecord) (first : ℕ) (xs : List Look) (me me' : End) (counted n q v needed least : ℕ) → LooksAtFinals r (look halt_word first ∷ xs) me counted → first ≡ 0 → IsEnough k s xs needed least → r.plan ≡ k → n ≡ claimed r → needed ≡ n + q - k.size
-    → me' ≡ as_sender (halt_looked (sender_of me.0) q v) → v ≡ 0
-    → (counts : List ℕ) × FoundRoom r q counts × (sender_of me'.0 ≡ more_claimed (sender_saw r (look halt_word 0 ∷ (gate_looks r counts ++ look halt_word 0 ∷ []))) q)
-answer_claimed k r s first xs me me' counted n q v needed least S start E plan next need is none = (
-  E.counts,
-  found_room k r s xs n q needed least E plan next need,
-  ap (λ (m : End). sender_of m.0) is ∙ ap (λ (x : ℕ). halt_looked (sender_of me.0) q x) none ∙ ap (λ (s : SenderRecord). more_claimed (sender_saw s (look halt_word 0 ∷ [])) q) (ap (λ (m : End). sender_of m.0) S.is)
-      ∙ ap (λ (s : SenderRecord). more_claimed s q) (saw_both r (look halt_word first ∷ xs) (look halt_word 0 ∷ [])) ∙ ap (λ (x : ℕ). more_claimed (sender_saw r (look halt_word x ∷ (xs ++ look halt_word 0 ∷ []))) q) start
-      ∙ ap (λ (ys : List Look). more_claimed (sender_saw r (look halt_word 0 ∷ (ys ++ look halt_word 0 ∷ []))) q) (gates k r xs E.counts E.are plan),
-)

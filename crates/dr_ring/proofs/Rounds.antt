@@ -224,24 +224,6 @@ pub record Round (ups : List ℕ) (r : ReceiverRecord) (cursor available i : ℕ
   pub told : r.told ≡ true → 0 < i → available ≤ length r.received
   pub start : first ≡ (i == 0)
 
-no_looks : (r : ReceiverRecord) (ups : List ℕ) → r.looks ++ count_looks (take 0 ups) [] ≡ r.looks
-no_looks r [] = append-nil r.looks
-no_looks r (u ∷ ups) = append-nil r.looks
-
-pub round_none : (ups : List ℕ) (r : ReceiverRecord) (cursor : ℕ) (me : End) (counted : ℕ) → me ≡ as_receiver r → counted ≡ looks_counted r.looks → length r.received ≤ cursor → Round ups r cursor cursor 0 true me counted
-round_none ups r cursor me counted is looks le = record {
-  counts = [];
-  each = refl;
-  is = is ∙ ap (λ (ys : List Look). as_receiver (record r { looks = ys })) (sym (no_looks r ups));
-  looks = looks ∙ ap looks_counted (sym (no_looks r ups));
-  offered = refl;
-  taken = le;
-  found = λ lt. absurd (omega arith);
-  high = λ j lt. absurd (omega arith);
-  told = λ y lt. absurd (omega arith);
-  start = refl;
-}
-
 -- what a list of counts offers, once one more is seen
 offers_more : (cursor v available available' : ℕ) (counts : List ℕ) (first : Bool) → first ≡ (length counts == 0) → available ≡ offered_by cursor counts → available' ≡ lesser_of first v available
     → (available' ≡ offered_by cursor (counts ++ v ∷ [])) × (available' ≤ v) × (0 < length counts → available' ≤ available) × ((available' ≡ v) ⊎ ((0 < length counts) × (available' ≡ available)))
