@@ -1,6 +1,6 @@
 -- What a claim comes to.
-use Rattle.std.proofs.Common.{◌≡◌, ◌≢◌, ℕ, zero, suc, ◌+◌, ◌-◌, ◌<◌, ◌≤◌, ◌⊎◌, inl, inr, ◌==◌, if◌then◌else◌, min, List, [], ◌∷◌, ◌++◌, length, replicate, Option, None, sym, refl, ap, ◌∙◌, subst, arith, append_assoc}
-use Rattle.std.proofs.lemmas.Bool.{cases_lt, ne_eqb}
+use Rattle.std.proofs.Common.{◌≡◌, ℕ, zero, suc, ◌+◌, ◌-◌, ◌<◌, ◌≤◌, ◌==◌, if◌then◌else◌, List, [], ◌∷◌, ◌++◌, length, replicate, Option, None, sym, refl, ap, ◌∙◌, subst, arith, append_assoc}
+use Rattle.std.proofs.lemmas.Bool.{ne_eqb}
 use Rattle.std.proofs.lemmas.List.{length-append, length-replicate, append-nil}
 use Rattle.atomic_table.specs.Seated.{TableId}
 use Rattle.dr_seq.specs.declared.event.Event.{Event}
@@ -9,13 +9,12 @@ use Rattle.dr_ring.specs.Shape.{Shape}
 use Rattle.dr_ring.specs.Words.{halt_word, count_word}
 use Rattle.dr_ring.specs.declared.record.Look.{Look}
 use Rattle.dr_ring.specs.declared.record.SenderRecord.{SenderRecord}
-use Rattle.dr_ring.specs.Ends.{claimed, look, last_look, halt_looked, HasRoom}
+use Rattle.dr_ring.specs.Ends.{claimed, look, last_look, halt_looked}
 use Rattle.dr_ring.specs.Seats.{End, as_sender, sender_of, IsSender}
-use Rattle.dr_ring.specs.Calls.{looks_counted, sender_saw, more_claimed, IsSize, count_looks, gate_looks, FoundRoom, FoundNoRoom, HaltedLate}
+use Rattle.dr_ring.specs.Calls.{looks_counted, sender_saw, more_claimed, IsSize, count_looks, gate_looks, FoundNoRoom}
 use Rattle.dr_ring.specs.Parts.{LooksAtFinals, IsEnough, IsShort}
 use Rattle.dr_ring.specs.Fits.{Marked, IsSeenLeast, SenderFits}
 use Rattle.dr_ring.proofs.Lists.{last_look_else}
-use Rattle.dr_ring.proofs.Rounds.{counted_more}
 use Rattle.dr_ring.proofs.Marks.{marks_claim}
 
 saw_both : (r : SenderRecord) (xs ys : List Look) → sender_saw (sender_saw r xs) ys ≡ sender_saw r (xs ++ ys)
@@ -29,13 +28,6 @@ no_more (suc v) n none = rw (ne_eqb (suc v) 0 (λ (e : suc v ≡ 0). omega arith
 halt_saw : (r : SenderRecord) (n v : ℕ) → (v ≡ 0 → n ≡ 0) → halt_looked r n v ≡ sender_saw r (look halt_word v ∷ [])
 halt_saw r n v none = ap (λ (xs : List (Option Event)). record r { pending = xs; looks = r.looks ++ look halt_word v ∷ [] }) (ap (λ (ys : List (Option Event)). r.pending ++ ys) (no_more v n none) ∙ append-nil r.pending)
 
-pub saw_nothing : (r : SenderRecord) (me : End) (counted : ℕ) → me ≡ as_sender r → counted ≡ looks_counted r.looks → LooksAtFinals r [] me counted
-saw_nothing r me counted is looks = record {
-  is = is ∙ ap (λ (ys : List Look). as_sender (record r { looks = ys })) (sym (append-nil r.looks));
-  looks = looks ∙ ap looks_counted (sym (append-nil r.looks));
-  rises = λ g. (let e : last_look 0 (r.looks ++ []) (count_word g) ≡ last_look 0 r.looks (count_word g) = ap (λ (ys : List Look). last_look 0 ys (count_word g)) (append-nil r.looks) in omega arith);
-}
-
 -- looks after looks
 pub saw_then : (r : SenderRecord) (xs ys : List Look) (me me' : End) (counted counted' : ℕ) → LooksAtFinals r xs me counted → LooksAtFinals (sender_of me.0) ys me' counted' → LooksAtFinals r (xs ++ ys) me' counted'
 saw_then r xs ys me me' counted counted' A B =
@@ -47,12 +39,12 @@ saw_then r xs ys me me' counted counted' A B =
     }
 
 -- a look at halt, as a list of looks
-pub saw_halt : (r : SenderRecord) (n v : ℕ) (me me' : End) (counted counted' : ℕ) → sender_of me.0 ≡ r → counted ≡ looks_counted (sender_of me.0).looks → me' ≡ as_sender (halt_looked (sender_of me.0) n v) → (v ≡ 0 → n ≡ 0) → counted' ≡ min (counted + 1) 18446744073709551615
-    → LooksAtFinals r (look halt_word v ∷ []) me' counted'
-saw_halt r n v me me' counted counted' same looks is none more = subst (λ (q : SenderRecord). LooksAtFinals q (look halt_word v ∷ []) me' counted') same
+pub saw_halt : (r : SenderRecord) (n v : ℕ) (me me' : End) (counted : ℕ) → sender_of me.0 ≡ r → me' ≡ as_sender (halt_looked (sender_of me.0) n v) → (v ≡ 0 → n ≡ 0) → counted ≡ looks_counted (sender_of me'.0).looks
+    → LooksAtFinals r (look halt_word v ∷ []) me' counted
+saw_halt r n v me me' counted same is none looks = subst (λ (q : SenderRecord). LooksAtFinals q (look halt_word v ∷ []) me' counted) same
     (let s = sender_of me.0 in record {
       is = is ∙ ap as_sender (halt_saw s n v none);
-      looks = counted_more s.looks [] halt_word v counted counted' (looks ∙ ap looks_counted (sym (append-nil s.looks))) more;
+      looks = looks ∙ ap (λ (m : End). looks_counted (sender_of m.0).looks) is;
       rises = λ g. (let e : last_look 0 (s.looks ++ look halt_word v ∷ []) (count_word g) ≡ last_look 0 s.looks (count_word g) = last_look_else 0 s.looks halt_word (count_word g) v (λ (z : halt_word ≡ count_word g). omega arith) in omega arith);
     })
 
@@ -76,37 +68,37 @@ fits_saw at own own' me me' k n p least looked counted ms rm xs F same S =
       places = F.places;
     }
 
--- another number of events that every final completed is remembered
-pub fits_least : (at own : TableId) (me : End) (k : Shape) (n p least least' looked : ℕ) (ms : List ℕ) (rm : ℕ) (r : SenderRecord) (xs : List Look) (counted needed : ℕ) → SenderFits at own me k n p least looked ms rm → LooksAtFinals r xs me counted → IsEnough k r xs needed least' → SenderFits at own me k n p least' looked ms rm
-fits_least at own me k n p least least' looked ms rm r xs counted needed F S E =
-    let e : sender_of me.0 ≡ sender_saw r xs = ap (λ (m : End). sender_of m.0) S.is in record {
-      table = F.table;
-      made = F.made;
-      end = F.end;
-      plan = F.plan;
-      whole = F.whole;
-      next = F.next;
-      front = F.front;
-      limit = F.limit;
-      near = F.near;
-      least = let a = E.front in let b = F.front in let c = ap (λ (q : SenderRecord). length q.published) e in omega arith;
-      seen = subst (λ (q : SenderRecord). IsSeenLeast k q least') (sym e) E.seen;
-      looks = F.looks;
-      marks = F.marks;
-      places = F.places;
+-- an end that has looked at halt, and claimed nothing
+pub fits_halt : (at own own' : TableId) (me me' : End) (k : Shape) (n p least looked counted : ℕ) (ms : List ℕ) (rm q v : ℕ) → SenderFits at own me k n p least looked ms rm → own' ≡ own → me' ≡ as_sender (halt_looked (sender_of me.0) q v) → (v ≡ 0 → q ≡ 0)
+    → counted ≡ looks_counted (sender_of me'.0).looks → SenderFits at own' me' k n p least counted ms rm
+fits_halt at own own' me me' k n p least looked counted ms rm q v F same is none looks = fits_saw _ _ _ _ _ _ _ _ _ _ _ _ _ _ F same (saw_halt (sender_of me.0) q v me me' counted refl is none looks)
+
+-- an end that has found room, and remembers how many events every final completed
+pub fits_room : (at own own' : TableId) (me me' : End) (k : Shape) (n p least looked counted : ℕ) (ms : List ℕ) (rm : ℕ) (l : Shape) (xs : List Look) (needed found kept : ℕ) → SenderFits at own me k n p least looked ms rm → own' ≡ own → l ≡ k → LooksAtFinals (sender_of me.0) xs me' counted → IsEnough l (sender_of me.0) xs needed found → kept ≡ found
+    → SenderFits at own' me' k n p kept counted ms rm
+fits_room at own own' me me' k n p least looked counted ms rm l xs needed found kept F same plan S E raised =
+    let e : sender_of me'.0 ≡ sender_saw (sender_of me.0) xs = ap (λ (m : End). sender_of m.0) S.is in
+    let seen = fits_saw _ _ _ _ _ _ _ _ _ _ _ _ _ _ F same S in record {
+      table = seen.table;
+      made = seen.made;
+      end = seen.end;
+      plan = seen.plan;
+      whole = seen.whole;
+      next = seen.next;
+      front = seen.front;
+      limit = seen.limit;
+      near = seen.near;
+      least = let a = E.front in let b = F.front in omega arith;
+      seen = subst (λ (q : SenderRecord). IsSeenLeast k q kept) (sym e) (subst (λ (s : Shape). IsSeenLeast s (sender_saw (sender_of me.0) xs) kept) plan (subst (λ (m : ℕ). IsSeenLeast l (sender_saw (sender_of me.0) xs) m) (sym raised) E.seen));
+      looks = seen.looks;
+      marks = seen.marks;
+      places = seen.places;
     }
 
--- what is enough leaves room
-pub enough_room : (at own : TableId) (me : End) (k : Shape) (n p least looked : ℕ) (ms : List ℕ) (rm : ℕ) (q needed : ℕ) → SenderFits at own me k n p least looked ms rm → n + q ≤ k.limit → needed ≡ n + q - k.size → needed ≤ least → HasRoom k (sender_of me.0) q
-enough_room at own me k n p least looked ms rm q needed F limit need enough = let next = F.next in record {
-  limit = omega arith;
-  completed = λ f has. (let a = F.seen f has in omega arith);
-}
-
 -- the look at halt that claims
-pub fits_claim : (at own own' : TableId) (me me' : End) (k : Shape) (n p least looked counted : ℕ) (ms : List ℕ) (rm : ℕ) (q needed : ℕ) → SenderFits at own me k n p least looked ms rm → own' ≡ own → me' ≡ as_sender (halt_looked (sender_of me.0) q 0) → counted ≡ min (looked + 1) 18446744073709551615
+pub fits_claim : (at own own' : TableId) (me me' : End) (k : Shape) (n p least looked counted : ℕ) (ms : List ℕ) (rm : ℕ) (q needed : ℕ) → SenderFits at own me k n p least looked ms rm → own' ≡ own → me' ≡ as_sender (halt_looked (sender_of me.0) q 0) → counted ≡ looks_counted (sender_of me'.0).looks
     → n + q ≤ k.limit → needed ≡ n + q - k.size → needed ≤ least → SenderFits at own' me' k (n + q) p least counted ms rm
-fits_claim at own own' me me' k n p least looked counted ms rm q needed F same is more limit need enough =
+fits_claim at own own' me me' k n p least looked counted ms rm q needed F same is looks limit need enough =
     let r = sender_of me.0 in let nothing : Option Event = None in let low = F.least in let next = F.next in
     let e : sender_of me'.0 ≡ more_claimed (sender_saw r (look halt_word 0 ∷ [])) q = ap (λ (m : End). sender_of m.0) is in
     let longer : length (r.pending ++ replicate q nothing) ≡ length r.pending + q = omega (arith, length-append r.pending (replicate q nothing), length-replicate q nothing) in record {
@@ -122,7 +114,7 @@ fits_claim at own own' me me' k n p least looked counted ms rm q needed F same i
       least = F.least;
       seen = subst (λ (s : SenderRecord). IsSeenLeast k s least) (sym e)
           (λ f has. (let a = F.seen f has in let b : last_look 0 (r.looks ++ look halt_word 0 ∷ []) (count_word f) ≡ last_look 0 r.looks (count_word f) = last_look_else 0 r.looks halt_word (count_word f) 0 (λ (z : halt_word ≡ count_word f). omega arith) in omega arith));
-      looks = subst (λ (s : SenderRecord). counted ≡ looks_counted s.looks) (sym e) (counted_more r.looks [] halt_word 0 looked counted (F.looks ∙ ap looks_counted (sym (append-nil r.looks))) more);
+      looks = looks;
       marks = subst (λ (s : SenderRecord). Marked k.size s ms) (sym e) (marks_claim k.size r ms (look halt_word 0 ∷ []) q F.marks);
       places = F.places;
     }
@@ -131,45 +123,16 @@ fits_claim at own own' me me' k n p least looked counted ms rm q needed F same i
 pub size_of : (at own : TableId) (me : End) (k : Shape) (n p least looked : ℕ) (ms : List ℕ) (rm : ℕ) (r : SenderRecord) (q : ℕ) → SenderFits at own me k n p least looked ms rm → sender_of me.0 ≡ r → 0 < q → q ≤ k.size → IsSize r q
 size_of at own me k n p least looked ms rm r q F same some_one le = (some_one, (let e : r.plan.size ≡ k.size = ap (λ (s : SenderRecord). s.plan.size) (sym same) ∙ ap (λ (x : Shape). x.size) F.plan in omega arith))
 
-pub limit_of : (at own : TableId) (me : End) (k : Shape) (n p least looked : ℕ) (ms : List ℕ) (rm : ℕ) (r : SenderRecord) → SenderFits at own me k n p least looked ms rm → sender_of me.0 ≡ r → r.plan.limit ≡ k.limit
-limit_of at own me k n p least looked ms rm r F same = ap (λ (s : SenderRecord). s.plan.limit) (sym same) ∙ ap (λ (x : Shape). x.limit) F.plan
-
 pub claimed_of : (at own : TableId) (me : End) (k : Shape) (n p least looked : ℕ) (ms : List ℕ) (rm : ℕ) (r : SenderRecord) → SenderFits at own me k n p least looked ms rm → sender_of me.0 ≡ r → n ≡ claimed r
 claimed_of at own me k n p least looked ms rm r F same = F.next ∙ ap claimed same
-
--- where there is room, as the sender's own record tells it
-found_room : (k : Shape) (r s : SenderRecord) (xs : List Look) (n q needed least : ℕ) → (E : IsEnough k s xs needed least) → r.plan ≡ k → n ≡ claimed r → needed ≡ n + q - k.size → FoundRoom r q E.counts
-found_room k r s xs n q needed least E plan next need = record {
-  all = subst (λ (p : Shape). (E.counts ≡ []) ⊎ (length E.counts ≡ length (finals p.upstreams))) (sym plan) E.all;
-  room = λ i lt. (let high = E.high i lt in let e : r.plan.size ≡ k.size = ap (λ (p : Shape). p.size) plan in omega arith);
-}
 
 gates : (k : Shape) (r : SenderRecord) (xs : List Look) (counts : List ℕ) → xs ≡ count_looks (finals k.upstreams) counts → r.plan ≡ k → xs ≡ gate_looks r counts
 gates k r xs counts are plan = are ∙ ap (λ (p : Shape). count_looks (finals p.upstreams) counts) (sym plan)
 
-is_one : (v : ℕ) → v ≢ 0 → v ≤ 1 → v ≡ 1
-is_one v ne flag = elim (cases_lt v 1) [ inl lt ↦ absurd (ne (omega arith)) | inr ge ↦ omega arith ]
-
--- what a last look at halt adds, where it claims nothing
-saw_last : (r : SenderRecord) (xs : List Look) (me me' : End) (counted q v : ℕ) → LooksAtFinals r xs me counted → me' ≡ as_sender (halt_looked (sender_of me.0) q v) → v ≢ 0 → sender_of me'.0 ≡ sender_saw r (xs ++ look halt_word v ∷ [])
-saw_last r xs me me' counted q v S is ne =
-    ap (λ (m : End). sender_of m.0) is ∙ halt_saw (sender_of me.0) q v (λ z. absurd (ne z)) ∙ ap (λ (s : SenderRecord). sender_saw s (look halt_word v ∷ [])) (ap (λ (m : End). sender_of m.0) S.is) ∙ saw_both r xs (look halt_word v ∷ [])
-
--- halt was found 1 at last
-pub answer_halted_late : (k : Shape) (r s : SenderRecord) (first : ℕ) (xs : List Look) (me me' : End) (counted n q v needed least : ℕ) → LooksAtFinals r (look halt_word first ∷ xs) me counted → first ≡ 0 → IsEnough k s xs needed least → r.plan ≡ k → n ≡ claimed r → needed ≡ n + q - k.size → n + q ≤ k.limit
-    → me' ≡ as_sender (halt_looked (sender_of me.0) q v) → v ≢ 0 → v ≤ 1 → HaltedLate r q (sender_of me'.0)
-answer_halted_late k r s first xs me me' counted n q v needed least S start E plan next need limit is ne flag = record {
-  limit = let e : r.plan.limit ≡ k.limit = ap (λ (p : Shape). p.limit) plan in omega arith;
-  counts = E.counts;
-  room = found_room k r s xs n q needed least E plan next need;
-  saw = saw_last r (look halt_word first ∷ xs) me me' counted q v S is ne ∙ ap (λ (x : ℕ). sender_saw r (look halt_word x ∷ (xs ++ look halt_word v ∷ []))) start
-      ∙ ap (λ (x : ℕ). sender_saw r (look halt_word 0 ∷ (xs ++ look halt_word x ∷ []))) (is_one v ne flag) ∙ ap (λ (ys : List Look). sender_saw r (look halt_word 0 ∷ (ys ++ look halt_word 1 ∷ []))) (gates k r xs E.counts E.are plan);
-}
-
 -- a final was found too far behind
-pub answer_no_room : (k : Shape) (r : SenderRecord) (first : ℕ) (xs : List Look) (me : End) (counted n q needed : ℕ) → LooksAtFinals r (look halt_word first ∷ xs) me counted → first ≡ 0 → IsShort k xs needed → r.plan ≡ k → n ≡ claimed r → needed ≡ n + q - k.size
+pub answer_no_room : (k : Shape) (r : SenderRecord) (xs : List Look) (me : End) (counted n q needed : ℕ) → LooksAtFinals r (look halt_word 0 ∷ xs) me counted → IsShort k xs needed → r.plan ≡ k → n ≡ claimed r → needed ≡ n + q - k.size
     → (counts : List ℕ) × FoundNoRoom r q counts × (sender_of me.0 ≡ sender_saw r (look halt_word 0 ∷ gate_looks r counts))
-answer_no_room k r first xs me counted n q needed S none H plan next need =
+answer_no_room k r xs me counted n q needed S H plan next need =
     let e : r.plan.size ≡ k.size = ap (λ (p : Shape). p.size) plan in (
       H.counts,
       record {
@@ -179,17 +142,5 @@ answer_no_room k r first xs me counted n q needed S none H plan next need =
         room = λ i lt. (let high = H.high i lt in omega arith);
         behind = let low = H.low in omega arith;
       },
-      ap (λ (m : End). sender_of m.0) S.is ∙ ap (λ (x : ℕ). sender_saw r (look halt_word x ∷ xs)) none ∙ ap (λ (ys : List Look). sender_saw r (look halt_word 0 ∷ ys)) (gates k r xs H.counts H.are plan),
+      ap (λ (m : End). sender_of m.0) S.is ∙ ap (λ (ys : List Look). sender_saw r (look halt_word 0 ∷ ys)) (gates k r xs H.counts H.are plan),
     )
-
--- both looks found 0
-pub answer_claimed : (k : Shape) (r s : SenderRecord) (first : ℕ) (xs : List Look) (me me' : End) (counted n q v needed least : ℕ) → LooksAtFinals r (look halt_word first ∷ xs) me counted → first ≡ 0 → IsEnough k s xs needed least → r.plan ≡ k → n ≡ claimed r → needed ≡ n + q - k.size
-    → me' ≡ as_sender (halt_looked (sender_of me.0) q v) → v ≡ 0
-    → (counts : List ℕ) × FoundRoom r q counts × (sender_of me'.0 ≡ more_claimed (sender_saw r (look halt_word 0 ∷ (gate_looks r counts ++ look halt_word 0 ∷ []))) q)
-answer_claimed k r s first xs me me' counted n q v needed least S start E plan next need is none = (
-  E.counts,
-  found_room k r s xs n q needed least E plan next need,
-  ap (λ (m : End). sender_of m.0) is ∙ ap (λ (x : ℕ). halt_looked (sender_of me.0) q x) none ∙ ap (λ (s : SenderRecord). more_claimed (sender_saw s (look halt_word 0 ∷ [])) q) (ap (λ (m : End). sender_of m.0) S.is)
-      ∙ ap (λ (s : SenderRecord). more_claimed s q) (saw_both r (look halt_word first ∷ xs) (look halt_word 0 ∷ [])) ∙ ap (λ (x : ℕ). more_claimed (sender_saw r (look halt_word x ∷ (xs ++ look halt_word 0 ∷ []))) q) start
-      ∙ ap (λ (ys : List Look). more_claimed (sender_saw r (look halt_word 0 ∷ (ys ++ look halt_word 0 ∷ []))) q) (gates k r xs E.counts E.are plan),
-)

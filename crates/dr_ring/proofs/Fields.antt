@@ -1,17 +1,16 @@
 -- The fields of an end fit what it knows, after each call.
-use Rattle.std.proofs.Common.{◌≡◌, ℕ, ◌+◌, ◌-◌, ◌%◌, ◌<◌, ◌≤◌, List, ◌++◌, length, get_or, set, map, take, drop, Some, None, sym, refl, ap, ◌∙◌, subst, arith, length-set}
-use Rattle.std.proofs.lemmas.List.{length-append, length-take, length-drop, length-map}
+use Rattle.std.proofs.Common.{◌≡◌, ℕ, ◌+◌, ◌-◌, ◌%◌, ◌<◌, ◌≤◌, List, length, get_or, set, Some, None, sym, refl, ap, ◌∙◌, subst, arith, length-set}
 use Rattle.atomic_table.specs.Seated.{TableId}
 use Rattle.dr_seq.specs.declared.event.Event.{Event}
 use Rattle.dr_seq.proofs.Sizes.{size_positive}
 use Rattle.dr_ring.specs.Shape.{Shape}
 use Rattle.dr_ring.specs.declared.record.SenderRecord.{SenderRecord}
-use Rattle.dr_ring.specs.Ends.{claimed, event_or_none, written, published_to, AreWritten}
+use Rattle.dr_ring.specs.Ends.{claimed, written, published_to, AreWritten}
 use Rattle.dr_ring.specs.Seats.{End, as_sender, sender_of, IsSender}
-use Rattle.dr_ring.specs.Calls.{looks_counted, HasUnwritten}
-use Rattle.dr_ring.specs.Parts.{AreMarked, HasUnmarked}
+use Rattle.dr_ring.specs.Calls.{looks_counted}
+use Rattle.dr_ring.specs.Parts.{AreMarked}
 use Rattle.dr_ring.specs.Fits.{Marked, IsSeenLeast, SenderFits}
-use Rattle.dr_ring.proofs.Marks.{marked_written, unmarked_open, marks_write, marks_publish}
+use Rattle.dr_ring.proofs.Marks.{marked_written, marks_write}
 
 pub fits_write : (at own own' : TableId) (me me' : End) (k : Shape) (n p least looked : ℕ) (ms ms' : List ℕ) (rm : ℕ) (s : ℕ) (v : Event) → SenderFits at own me k n p least looked ms rm → own' ≡ own → me' ≡ as_sender (written (sender_of me.0) s v) → p ≤ s → s < n → ms' ≡ set ms (s % k.size) (s + 1)
     → SenderFits at own' me' k n p least looked ms' rm
@@ -33,29 +32,6 @@ fits_write at own own' me me' k n p least looked ms ms' rm s v F same is le lt m
       places = F.places;
     }
 
-pub fits_publish : (at own own' : TableId) (me me' : End) (k : Shape) (n p least looked : ℕ) (ms : List ℕ) (rm : ℕ) (q : ℕ) → SenderFits at own me k n p least looked ms rm → own' ≡ own → me' ≡ as_sender (published_to (sender_of me.0) q) → p ≤ q → q ≤ n
-    → SenderFits at own' me' k n q least looked ms rm
-fits_publish at own own' me me' k n p least looked ms rm q F same is le within = let r = sender_of me.0 in let next = F.next in let front = F.front in let near = F.near in let low = F.least in
-    let m = q - length r.published in let new = map event_or_none (take m r.pending) in
-    let count : length new ≡ m = length-map (take m r.pending) event_or_none ∙ omega (arith, length-take m r.pending) in
-    let longer : length (r.published ++ new) ≡ q = omega (arith, length-append r.published new) in
-    let rest : length (drop m r.pending) + m ≡ length r.pending = omega (arith, length-drop m r.pending) in record {
-      table = (same ∙ F.table.0, F.table.1);
-      made = F.made;
-      end = subst IsSender (sym is) refl;
-      plan = ap (λ (m : End). (sender_of m.0).plan) is ∙ F.plan;
-      whole = ap (λ (m : End). (sender_of m.0).half) is ∙ F.whole;
-      next = subst (λ (m : End). n ≡ claimed (sender_of m.0)) (sym is) (omega arith);
-      front = subst (λ (m : End). q ≡ length (sender_of m.0).published) (sym is) (sym longer);
-      limit = F.limit;
-      near = omega arith;
-      least = omega arith;
-      seen = subst (λ (m : End). IsSeenLeast k (sender_of m.0) least) (sym is) F.seen;
-      looks = subst (λ (m : End). looked ≡ looks_counted (sender_of m.0).looks) (sym is) F.looks;
-      marks = subst (λ (m : End). Marked k.size (sender_of m.0) ms) (sym is) (marks_publish k.size r ms q (omega arith) (omega arith) F.marks);
-      places = F.places;
-    }
-
 -- every sequence of the stretch is written
 pub publish_ready : (at own : TableId) (me : End) (k : Shape) (n p least looked : ℕ) (ms xs : List ℕ) (rm : ℕ) (lo hi : ℕ) → SenderFits at own me k n p least looked ms rm → xs ≡ ms → AreMarked xs k.size lo (hi + 1) → p ≤ lo → lo ≤ p → hi < n
     → AreWritten (sender_of me.0) (hi + 1)
@@ -74,9 +50,3 @@ pub publish_late : (at own : TableId) (me : End) (k : Shape) (n p least looked :
 publish_late at own me k n p least looked ms xs rm lo hi r F is same all after order lt = let next = F.next in let front = F.front in
     subst (λ (q : SenderRecord). (length q.published < lo) × (lo ≤ hi) × (hi < claimed q) × ((s : ℕ) → lo ≤ s → s ≤ hi → (v : Event) × (get_or q.pending (s - length q.published) None ≡ Some v)) × (q ≡ q)) is
     (omega arith, order, omega arith, (λ s le below. marked_written k.size (sender_of me.0) ms lo (hi + 1) F.marks (subst (λ (ys : List ℕ). AreMarked ys k.size lo (hi + 1)) same all) (omega arith) (omega arith) s le (omega arith)), refl)
-
-pub publish_unwritten : (at own : TableId) (me : End) (k : Shape) (n p least looked : ℕ) (ms xs : List ℕ) (rm : ℕ) (lo hi : ℕ) (r : SenderRecord) → SenderFits at own me k n p least looked ms rm → sender_of me.0 ≡ r → xs ≡ ms → HasUnmarked xs k.size lo (hi + 1) → p ≤ lo → lo ≤ hi → hi < n
-    → (length r.published ≤ lo) × (lo ≤ hi) × (hi < claimed r) × HasUnwritten r lo hi × (r ≡ r)
-publish_unwritten at own me k n p least looked ms xs rm lo hi r F is same has after order lt = let next = F.next in let front = F.front in
-    subst (λ (q : SenderRecord). (length q.published ≤ lo) × (lo ≤ hi) × (hi < claimed q) × HasUnwritten q lo hi × (q ≡ q)) is
-    (omega arith, order, omega arith, unmarked_open k.size (sender_of me.0) ms lo hi F.marks (subst (λ (ys : List ℕ). HasUnmarked ys k.size lo (hi + 1)) same has) (omega arith) (omega arith), refl)

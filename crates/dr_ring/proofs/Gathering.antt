@@ -36,16 +36,6 @@ drop_all [] (suc n) le = refl
 drop_all (x ∷ xs) zero le = absurd (omega arith)
 drop_all (x ∷ xs) (suc n) le = drop_all xs n (omega arith)
 
-pub gathering_none : (ring : TableId) (me : End) (all : List ReceiverEnd) (counts : List HandlerCounts) → LeadsView me → length counts ≡ length all → Gathering ring me me all [] all counts
-gathering_none ring me all counts leads len = record {
-  split = append_none all;
-  leads = leads;
-  same = refl;
-  in_view = λ h e at. absurd (cc);
-  places = len;
-  filled = drop_all counts (length all) (omega arith);
-}
-
 -- what is set at a place comes before what follows it
 drop_set : (xs : List HandlerCounts) (n : ℕ) (x : HandlerCounts) (ys : List HandlerCounts) → n < length xs → drop (n + 1) xs ≡ ys → drop n (set xs n x) ≡ x ∷ ys
 drop_set [] n x ys lt rest = absurd (omega arith)

@@ -10,6 +10,7 @@ use Rattle.dr_graph.specs.Graph.{upstreams_of, IsOrderly, IsGated, IsGraph}
 use Rattle.dr_ring.specs.Shape.{Shape, handlers_of}
 use Rattle.dr_ring.specs.Words.{cursor_word, closed_word, halt_word, count_word, payload_start, payload_word, words_of}
 use Rattle.dr_ring.specs.declared.record.HalfWrite.{HalfWrite}
+use Rattle.dr_ring.specs.declared.record.Look.{Look}
 use Rattle.dr_ring.specs.declared.record.SenderRecord.{SenderRecord}
 use Rattle.dr_ring.specs.declared.record.ReceiverRecord.{ReceiverRecord}
 use Rattle.dr_ring.specs.Ends.{claimed, look, sender_looked, halt_looked, half_written, written, HasRoom, IsOpen}
@@ -96,22 +97,27 @@ receiver_stays k words us published h r graph inside same rises closes past was 
   looks = past;
 }
 
--- the sender looks
-pub keeps_sender_looks : (k : Shape) (w : World) (i : ℕ) → i < payload_start k → Kept k w → Kept k (sender_knows w (sender_looked w.sender i (word_at w.words i)))
-keeps_sender_looks k w i lt K = record {
+-- the sender claims or looks, and stores no word
+sender_learns : (k : Shape) (w : World) (pending : List (Option Event)) (looks : List Look) → length w.sender.published + length pending ≤ k.limit → Room k w.words (length w.sender.published + length pending)
+    → Payload k w.words w.sender.published pending w.sender.half → HaltAndClose w.words (length pending) w.sender.halted w.sender.closed w.halter.halted → ArePast k w.words looks → Kept k w
+    → Kept k (sender_knows w (record w.sender { pending = pending; looks = looks }))
+sender_learns k w pending looks limit room payload flags past K = record {
   graph = K.graph;
   some_slot = K.some_slot;
   wide = K.wide;
   ends = K.ends;
   sender_plan = K.sender_plan;
   halter_plan = K.halter_plan;
-  counts = K.counts;
+  counts = record { cursor = K.counts.cursor; limit = limit };
   received = K.received;
-  room = K.room;
-  payload = K.payload;
-  flags = K.flags;
-  looks = past_more k w.words i w.sender.looks lt K.looks;
+  room = room;
+  payload = payload;
+  flags = flags;
+  looks = past;
 }
+
+pub keeps_sender_looks : (k : Shape) (w : World) (i : ℕ) → i < payload_start k → Kept k w → Kept k (sender_knows w (sender_looked w.sender i (word_at w.words i)))
+keeps_sender_looks k w i lt K = sender_learns k w w.sender.pending (sender_looked w.sender i (word_at w.words i)).looks K.counts.limit K.room K.payload K.flags (past_more k w.words i w.sender.looks lt K.looks) K
 
 payload_claims : (k : Shape) (words : List ℕ) (published : List Event) (pending : List (Option Event)) (half : Option HalfWrite) (n : ℕ) → Payload k words published pending half → Payload k words published (pending ++ replicate n None) half
 payload_claims k words published pending half n P =
@@ -131,21 +137,13 @@ payload_claims k words published pending half n P =
 claims_more : (k : Shape) (w : World) (n : ℕ) → HasRoom k w.sender n → word_at w.words halt_word ≡ 0 → Kept k w
     → Kept k (sender_knows w (record w.sender { pending = w.sender.pending ++ replicate n None; looks = w.sender.looks ++ look halt_word (word_at w.words halt_word) ∷ [] }))
 claims_more k w n room going K =
-    let pending = w.sender.pending in let nothing : Option Event = None in
-    let longer : length (pending ++ replicate n nothing) ≡ length pending + n = omega (arith, length-append pending (replicate n nothing), length-replicate n nothing) in record {
-      graph = K.graph;
-      some_slot = K.some_slot;
-      wide = K.wide;
-      ends = K.ends;
-      sender_plan = K.sender_plan;
-      halter_plan = K.halter_plan;
-      counts = record { cursor = K.counts.cursor; limit = let l = room.limit in omega arith };
-      received = K.received;
-      room = λ f final. (let a = room.completed f final in let i = final_inside k.upstreams f final in let b = last_look_le k w.words 0 w.sender.looks (count_word f) (omega arith) K.looks in omega arith);
-      payload = payload_claims k w.words w.sender.published pending w.sender.half n K.payload;
-      flags = let F = K.flags in record { halt = F.halt; close = F.close; by_sender = F.by_sender; by_halter = F.by_halter; closed = F.closed; complete = λ c. absurd (let h = (F.complete c).0 in omega arith) };
-      looks = past_more k w.words halt_word w.sender.looks (omega arith) K.looks;
-    }
+    let pending = w.sender.pending in let nothing : Option Event = None in let more = pending ++ replicate n nothing in let F = K.flags in
+    let longer : length more ≡ length pending + n = omega (arith, length-append pending (replicate n nothing), length-replicate n nothing) in
+    sender_learns k w more (w.sender.looks ++ look halt_word (word_at w.words halt_word) ∷ []) (let l = room.limit in omega arith)
+    (λ f final. (let a = room.completed f final in let i = final_inside k.upstreams f final in let b = last_look_le k w.words 0 w.sender.looks (count_word f) (omega arith) K.looks in omega arith))
+    (payload_claims k w.words w.sender.published pending w.sender.half n K.payload)
+    (record { halt = F.halt; close = F.close; by_sender = F.by_sender; by_halter = F.by_halter; closed = F.closed; complete = λ c. absurd (let h = (F.complete c).0 in omega arith) })
+    (past_more k w.words halt_word w.sender.looks (omega arith) K.looks) K
 
 abbrev opens : ℕ → ℕ → List (Option Event)
 opens n found = if found == 0 then replicate n None else []

@@ -1,24 +1,20 @@
 -- The marks show what is written.
-use Rattle.std.proofs.Common.{◌≡◌, ◌≢◌, ℕ, ◌+◌, ◌-◌, ◌%◌, ◌<◌, ◌≤◌, inl, inr, true, false, is_some, ◌==◌, List, ◌++◌, length, get_or, set, map, take, drop, replicate, Option, Some, None, sym, refl, ap, ◌∙◌, subst, arith, length-set, get_or-set_same, get_or-set_other}
+use Rattle.std.proofs.Common.{◌≡◌, ◌≢◌, ℕ, ◌+◌, ◌-◌, ◌%◌, ◌<◌, ◌≤◌, inl, inr, true, is_some, ◌==◌, List, ◌++◌, length, get_or, set, replicate, Option, Some, None, sym, refl, ap, ◌∙◌, subst, arith, length-set, get_or-set_same, get_or-set_other}
 use Rattle.std.proofs.lemmas.Bool.{cases_eq, cases_lt, eq-eqb, ne_eqb}
-use Rattle.std.proofs.lemmas.List.{length-append, length-replicate, length-take, length-drop, length-map, get_or_append_left, get_or-append_right, get_or-drop, get_or-replicate}
+use Rattle.std.proofs.lemmas.List.{length-append, length-replicate, get_or_append_left, get_or-append_right, get_or-replicate}
 use Rattle.std.proofs.Math.Nat.{mod-lt}
 use Rattle.atomic_table.proofs.Lists.{one_turn}
 use Rattle.dr_seq.specs.declared.event.Event.{Event}
 use Rattle.dr_ring.specs.declared.record.Look.{Look}
 use Rattle.dr_ring.specs.declared.record.SenderRecord.{SenderRecord}
-use Rattle.dr_ring.specs.Ends.{claimed, event_or_none, written, published_to}
-use Rattle.dr_ring.specs.Calls.{sender_saw, more_claimed, HasUnwritten}
-use Rattle.dr_ring.specs.Parts.{AreMarked, HasUnmarked}
+use Rattle.dr_ring.specs.Ends.{claimed, written}
+use Rattle.dr_ring.specs.Calls.{sender_saw, more_claimed}
+use Rattle.dr_ring.specs.Parts.{AreMarked}
 use Rattle.dr_ring.specs.Fits.{Marked}
 
 some_of : (o : Option Event) → is_some o ≡ true → (v : Event) × (o ≡ Some v)
 some_of None e = absurd (cc)
 some_of (Some v) e = (v, refl)
-
-none_of : (o : Option Event) → is_some o ≡ false → o ≡ None
-none_of None e = refl
-none_of (Some v) e = absurd (cc)
 
 -- two sequences less than a round apart have slots of their own
 slots_apart_up : (n a b : ℕ) → 0 < n → a < b → b < a + n → a % n ≢ b % n
@@ -36,11 +32,6 @@ pub marked_written : (n : ℕ) (r : SenderRecord) (ms : List ℕ) (lo hi : ℕ) 
 marked_written n r ms lo hi M all after within s le lt = let i = s - length r.published in let here : length r.published + i ≡ s = omega arith in
     let e : (get_or ms (s % n) 0 == s + 1) ≡ is_some (get_or r.pending i None) = subst (λ (t : ℕ). (get_or ms (t % n) 0 == t + 1) ≡ is_some (get_or r.pending i None)) here (M.each i (omega arith)) in
     some_of (get_or r.pending i None) (sym e ∙ eq-eqb _ _ (all s le lt))
-
-pub unmarked_open : (n : ℕ) (r : SenderRecord) (ms : List ℕ) (lo hi : ℕ) → Marked n r ms → HasUnmarked ms n lo (hi + 1) → length r.published ≤ lo → hi < claimed r → HasUnwritten r lo hi
-unmarked_open n r ms lo hi M has after within = let s = has.0 in let i = s - length r.published in let a = has.1 in let b = has.2 in let here : length r.published + i ≡ s = omega arith in
-    let e : (get_or ms (s % n) 0 == s + 1) ≡ is_some (get_or r.pending i None) = subst (λ (t : ℕ). (get_or ms (t % n) 0 == t + 1) ≡ is_some (get_or r.pending i None)) here (M.each i (omega arith)) in
-    record { sequence = s; from = has.1; to = omega arith; nothing = none_of (get_or r.pending i None) (sym e ∙ ne_eqb _ _ has.3) }
 
 pub marks_write : (n : ℕ) (r : SenderRecord) (ms : List ℕ) (s : ℕ) (v : Event) → 0 < n → length r.published ≤ s → s < claimed r → claimed r ≤ n + length r.published → Marked n r ms → Marked n (written r s v) (set ms (s % n) (s + 1))
 marks_write n r ms s v pos le lt near M =
@@ -61,18 +52,6 @@ marks_write n r ms s v pos le lt near M =
             let a : (get_or (set ms slot (s + 1)) ((len + i) % n) 0 == len + i + 1) ≡ (get_or ms ((len + i) % n) 0 == len + i + 1) = ap (λ (t : ℕ). t == len + i + 1) (get_or-set_other ms slot ((len + i) % n) (s + 1) 0 apart) in
             a ∙ M.each i (omega arith) ∙ sym (ap is_some (get_or-set_other r.pending at i (Some v) None ne)))
       ];
-    }
-
-pub marks_publish : (n : ℕ) (r : SenderRecord) (ms : List ℕ) (q : ℕ) → length r.published ≤ q → q ≤ claimed r → Marked n r ms → Marked n (published_to r q) ms
-marks_publish n r ms q le within M =
-    let old = r.published in let m = q - length old in let new = map event_or_none (take m r.pending) in
-    let count : length new ≡ m = length-map (take m r.pending) event_or_none ∙ omega (arith, length-take m r.pending) in
-    let longer : length (old ++ new) ≡ q = omega (arith, length-append old new) in
-    let rest : length (drop m r.pending) + m ≡ length r.pending = omega (arith, length-drop m r.pending) in record {
-      slots = M.slots;
-      low = λ j. let l = M.low j in omega arith;
-      each = λ i below. (let here : length old + (m + i) ≡ length (old ++ new) + i = omega arith in
-          subst (λ (t : ℕ). (get_or ms (t % n) 0 == t + 1) ≡ is_some (get_or r.pending (m + i) None)) here (M.each (m + i) (omega arith)) ∙ sym (ap is_some (get_or-drop m r.pending i None)));
     }
 
 pub marks_claim : (n : ℕ) (r : SenderRecord) (ms : List ℕ) (seen : List Look) (q : ℕ) → Marked n r ms → Marked n (more_claimed (sender_saw r seen) q) ms

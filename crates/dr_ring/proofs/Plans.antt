@@ -4,13 +4,10 @@ use Rattle.std.proofs.Math.Nat.{mod-lt}
 use Rattle.dr_seq.proofs.Sizes.{size_positive, size_at_most}
 use Rattle.dr_ring.specs.Shape.{Shape}
 use Rattle.dr_ring.specs.Plans.{IsPlan}
-use Rattle.dr_ring.specs.Words.{payload_word, words_of}
+use Rattle.dr_ring.specs.Words.{words_of}
 
 pub slot_inside : (k : Shape) (s : ℕ) → IsPlan k → s % k.size < k.size
 slot_inside k s is = mod-lt s (size_positive k.size is.size)
 
 pub few_words : (k : Shape) → IsPlan k → words_of k ≤ 131360
 few_words k is = let few = is.few in let small : k.size ≤ 65536 = size_at_most k.size is.size in omega arith
-
-pub inside_words : (k : Shape) (s part : ℕ) → IsPlan k → part < 2 → payload_word k s part < words_of k
-inside_words k s part is low = let l : s % k.size < k.size = slot_inside k s is in omega arith

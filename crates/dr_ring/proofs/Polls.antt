@@ -23,7 +23,7 @@ use Rattle.dr_ring.proofs.Lists.{last_look_more}
 abbrev pub looked_twice : ReceiverRecord → ℕ → ℕ → ReceiverRecord
 looked_twice r closed cursor = cursor_looked (receiver_looked r closed_word closed) cursor
 
-pub twice : (r : ReceiverRecord) (closed cursor : ℕ) (me me' me'' : End) → me ≡ as_receiver r → me' ≡ as_receiver (receiver_looked (receiver_of me.0) closed_word closed) → me'' ≡ as_receiver (cursor_looked (receiver_of me'.0) cursor) → me'' ≡ as_receiver (looked_twice r closed cursor)
+twice : (r : ReceiverRecord) (closed cursor : ℕ) (me me' me'' : End) → me ≡ as_receiver r → me' ≡ as_receiver (receiver_looked (receiver_of me.0) closed_word closed) → me'' ≡ as_receiver (cursor_looked (receiver_of me'.0) cursor) → me'' ≡ as_receiver (looked_twice r closed cursor)
 twice r closed cursor me me' me'' is first second = second ∙ ap (λ (m : End). as_receiver (cursor_looked (receiver_of m.0) cursor)) first ∙ ap (λ (m : End). as_receiver (looked_twice (receiver_of m.0) closed cursor)) is
 
 -- the three rounds of looks, as one
@@ -164,9 +164,12 @@ poll_batch k h r out out' closed cursor me me' counted available taken count las
   rest,
 )
 
--- the same looks, by other names of the ring and the receiver
-pub barrier_seen : (k k' : Shape) (h : ℕ) (r q : ReceiverRecord) (cursor : ℕ) (me : End) (counted available : ℕ) → k' ≡ k → q ≡ r → LooksAtUpstreams k' h q cursor me counted available → LooksAtUpstreams k h r cursor me counted available
-barrier_seen k k' h r q cursor me counted available same is L = subst (λ (p : Shape). LooksAtUpstreams p h r cursor me counted available) same (subst (λ (s : ReceiverRecord). LooksAtUpstreams k' h s cursor me counted available) is L)
+-- the looks of a poll, by the record from before it
+pub seen_round : (k l : Shape) (h : ℕ) (r : ReceiverRecord) (closed cursor : ℕ) (me me' me'' end : End) (counted available : ℕ) → me ≡ as_receiver r → me' ≡ as_receiver (receiver_looked (receiver_of me.0) closed_word closed) → me'' ≡ as_receiver (cursor_looked (receiver_of me'.0) cursor) → l ≡ k
+    → LooksAtUpstreams l h (receiver_of me''.0) cursor end counted available → LooksAtUpstreams k h (looked_twice r closed cursor) cursor end counted available
+seen_round k l h r closed cursor me me' me'' end counted available is first second plan L =
+    subst (λ (p : Shape). LooksAtUpstreams p h (looked_twice r closed cursor) cursor end counted available) plan
+    (subst (λ (m : End). LooksAtUpstreams l h (receiver_of m.0) cursor end counted available) (twice r closed cursor me me' me'' is first second) L)
 
 pub each_of : (k : Shape) (h : ℕ) (r q : ReceiverRecord) (cursor : ℕ) (me : End) (counted available : ℕ) → r.plan ≡ k → r.number ≡ h → (L : LooksAtUpstreams k h q cursor me counted available) → length L.counts ≡ length (upstreams_of r.plan.upstreams r.number)
 each_of k h r q cursor me counted available plan number L = L.each ∙ (λ i. length (upstreams_of (sym plan i).upstreams (sym number i)))

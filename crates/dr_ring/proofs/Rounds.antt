@@ -68,12 +68,13 @@ looks_few (h ∷ hs) [] (suc i) e = absurd (omega arith)
 looks_few (h ∷ hs) (n ∷ counts) zero e = absurd (omega arith)
 looks_few (h ∷ hs) (n ∷ counts) (suc i) e = ap (λ (xs : List Look). look (count_word h) n ∷ xs) (looks_few hs counts i (omega arith))
 
+last_number : (xs : List ℕ) (x d : ℕ) → get_or (xs ++ x ∷ []) (length xs) d ≡ x
+last_number [] x d = refl
+last_number (y ∷ xs) x d = last_number xs x d
+
 -- one count more
 number_at : (xs : List ℕ) (x i : ℕ) → length xs ≡ i → get_or (xs ++ x ∷ []) i 0 ≡ x
-number_at [] x zero e = refl
-number_at [] x (suc i) e = absurd (omega arith)
-number_at (y ∷ xs) x zero e = absurd (omega arith)
-number_at (y ∷ xs) x (suc i) e = number_at xs x i (omega arith)
+number_at xs x i e = ap (λ (j : ℕ). get_or (xs ++ x ∷ []) j 0) (sym e) ∙ last_number xs x 0
 
 -- the first i finals were looked at
 pub record Scanned (k : Shape) (r : SenderRecord) (needed least i : ℕ) (me : End) (counted : ℕ) : Type 0 where
@@ -88,16 +89,16 @@ pub record Scanned (k : Shape) (r : SenderRecord) (needed least i : ℕ) (me : E
   pub some_one : 0 < i → needed ≤ length r.published
   pub front : least ≤ length r.published
 
-no_counts : (hs : List ℕ) → count_looks (take 0 hs) [] ≡ []
-no_counts [] = refl
-no_counts (h ∷ hs) = refl
+no_looks_at : (hs : List ℕ) → count_looks hs [] ≡ []
+no_looks_at [] = refl
+no_looks_at (h ∷ hs) = refl
 
 pub scanned_none : (k : Shape) (r : SenderRecord) (needed least : ℕ) (me : End) (counted : ℕ) → me ≡ as_sender r → counted ≡ looks_counted r.looks → least ≡ length r.published → Scanned k r needed least 0 me counted
 scanned_none k r needed least me counted is looks front = record {
   xs = [];
   counts = [];
   each = refl;
-  are = sym (no_counts (finals k.upstreams));
+  are = sym (no_looks_at (take 0 (finals k.upstreams)));
   ahead = λ j lt. absurd (omega arith);
   saw = record { is = is ∙ ap (λ (ys : List Look). as_sender (record r { looks = ys })) (sym (append-nil r.looks)); looks = looks ∙ ap looks_counted (sym (append-nil r.looks)); rises = λ g. (let e : last_look 0 (r.looks ++ []) (count_word g) ≡ last_look 0 r.looks (count_word g) = ap (λ (ys : List Look). last_look 0 ys (count_word g)) (append-nil r.looks) in omega arith) };
   high = λ j lt. absurd (omega arith);
@@ -195,10 +196,6 @@ scanned_all k r needed least i me counted plan S all =
       },
     )
 
-no_looks_at : (hs : List ℕ) → count_looks hs [] ≡ []
-no_looks_at [] = refl
-no_looks_at (h ∷ hs) = refl
-
 -- what is remembered serves
 pub remembers : (k : Shape) (r : SenderRecord) (needed least front : ℕ) (me : End) (counted : ℕ) → me ≡ as_sender r → counted ≡ looks_counted r.looks → needed ≤ least → least ≤ front → front ≡ length r.published → IsSeenLeast k r least
     → (xs : List Look) × LooksAtFinals r xs me counted × IsEnough k r xs needed least
@@ -224,24 +221,6 @@ pub record Round (ups : List ℕ) (r : ReceiverRecord) (cursor available i : ℕ
   pub told : r.told ≡ true → 0 < i → available ≤ length r.received
   pub start : first ≡ (i == 0)
 
-no_looks : (r : ReceiverRecord) (ups : List ℕ) → r.looks ++ count_looks (take 0 ups) [] ≡ r.looks
-no_looks r [] = append-nil r.looks
-no_looks r (u ∷ ups) = append-nil r.looks
-
-pub round_none : (ups : List ℕ) (r : ReceiverRecord) (cursor : ℕ) (me : End) (counted : ℕ) → me ≡ as_receiver r → counted ≡ looks_counted r.looks → length r.received ≤ cursor → Round ups r cursor cursor 0 true me counted
-round_none ups r cursor me counted is looks le = record {
-  counts = [];
-  each = refl;
-  is = is ∙ ap (λ (ys : List Look). as_receiver (record r { looks = ys })) (sym (no_looks r ups));
-  looks = looks ∙ ap looks_counted (sym (no_looks r ups));
-  offered = refl;
-  taken = le;
-  found = λ lt. absurd (omega arith);
-  high = λ j lt. absurd (omega arith);
-  told = λ y lt. absurd (omega arith);
-  start = refl;
-}
-
 -- what a list of counts offers, once one more is seen
 offers_more : (cursor v available available' : ℕ) (counts : List ℕ) (first : Bool) → first ≡ (length counts == 0) → available ≡ offered_by cursor counts → available' ≡ lesser_of first v available
     → (available' ≡ offered_by cursor (counts ++ v ∷ [])) × (available' ≤ v) × (0 < length counts → available' ≤ available) × ((available' ≡ v) ⊎ ((0 < length counts) × (available' ≡ available)))
@@ -257,10 +236,6 @@ offers_more cursor v available available' (n ∷ counts) first start offered new
 
 contains_more : (xs : List ℕ) (x v : ℕ) → Contains xs x → Contains (xs ++ v ∷ []) x
 contains_more xs x v has = (has.0, (let l = has.1 in omega (arith, length-append xs (v ∷ []))), get_or_append_left xs (v ∷ []) x has.0 has.1 ∙ has.2)
-
-last_number : (xs : List ℕ) (x d : ℕ) → get_or (xs ++ x ∷ []) (length xs) d ≡ x
-last_number [] x d = refl
-last_number (y ∷ xs) x d = last_number xs x d
 
 contains_last : (xs : List ℕ) (x : ℕ) → Contains (xs ++ x ∷ []) x
 contains_last xs x = (length xs, omega (arith, length-append xs (x ∷ [])), last_number xs x x)

@@ -1,5 +1,5 @@
 -- Stores of words that are no payload, and the receivers' steps, keep the rule.
-use Rattle.std.proofs.Common.{◌≡◌, ◌≢◌, ℕ, ◌+◌, ◌-◌, ◌<◌, ◌≤◌, inl, inr, Bool, true, ◌==◌, List, [], ◌∷◌, ◌++◌, length, get_or, set, map, take, drop, Some, None, sym, refl, ap, ◌∙◌, subst, arith, length-set, get_or-set_same, get_or-set_other}
+use Rattle.std.proofs.Common.{◌≡◌, ◌≢◌, ℕ, ◌+◌, ◌-◌, ◌<◌, ◌≤◌, inl, inr, Bool, true, ◌==◌, List, [], ◌∷◌, ◌++◌, length, get_or, set, map, take, drop, Option, Some, None, sym, refl, ap, ◌∙◌, subst, arith, length-set, get_or-set_same, get_or-set_other}
 use Rattle.std.specs.Prelude.{Contains}
 use Rattle.std.proofs.lemmas.Bool.{cases_eq, cases_lt, or_cases, and_parts, eqb-true}
 use Rattle.std.proofs.lemmas.List.{length-append, length-take, length-drop, length-map, length_push, take-append-le, take_more, get_or_append_left, get_or-append_right, get_or-take, get_or-drop, get_or-map}
@@ -10,10 +10,11 @@ use Rattle.dr_seq.specs.Event.{no_event}
 use Rattle.dr_graph.specs.Graph.{upstreams_of}
 use Rattle.dr_ring.specs.Shape.{Shape, handlers_of}
 use Rattle.dr_ring.specs.Words.{cursor_word, closed_word, halt_word, count_word, payload_start, payload_word}
+use Rattle.dr_ring.specs.declared.record.Look.{Look}
 use Rattle.dr_ring.specs.declared.record.SenderRecord.{SenderRecord}
 use Rattle.dr_ring.specs.declared.record.ReceiverRecord.{ReceiverRecord}
 use Rattle.dr_ring.specs.Ends.{claimed, last_look, event_or_none, published_to, sender_halted, sender_closed, receiver_looked, tells_drained, cursor_looked, half_taken, took, completed_to, halter_halted, AreWritten, IsBelowBarrier}
-use Rattle.dr_ring.specs.Kept.{World, Room, Payload, HaltAndClose, ReceiverKept, Kept}
+use Rattle.dr_ring.specs.Kept.{World, Room, Payload, HaltAndClose, ArePast, ReceiverKept, Kept}
 use Rattle.dr_ring.specs.Steps.{sender_stores, receiver_knows, receiver_stores}
 use Rattle.dr_ring.proofs.Lists.{at_below, each_set, past_set, past_more, last_look_le}
 use Rattle.dr_ring.proofs.Keeps.{word_at, receiver_of_handler, above, upstream_inside, room_stays, payload_stays, flags_stay, receiver_stays}
@@ -157,8 +158,12 @@ receiver_changes k w h q new K = record {
   looks = K.looks;
 }
 
-pub keeps_receiver_looks : (k : Shape) (w : World) (h i : ℕ) (r : ReceiverRecord) → i < payload_start k → get_elem? w.receivers h ≡ some r → Kept k w → Kept k (receiver_knows w h (receiver_looked r i (word_at w.words i)))
-keeps_receiver_looks k w h i r lt at K = let was = K.received h r at in receiver_changes k w h (receiver_looked r i (word_at w.words i)) (record {
+-- a receiver that takes and completes nothing
+receiver_learns : (k : Shape) (w : World) (h : ℕ) (r : ReceiverRecord) (half : Option ℕ) (told : Bool) (looks : List Look) → get_elem? w.receivers h ≡ some r
+    → ((first : ℕ) → half ≡ Some first → (length r.received < length w.sender.published) × (first ≡ (get_or w.sender.published (length r.received) no_event).first))
+    → (told ≡ true → (word_at w.words closed_word ≡ 1) × (length w.sender.published ≤ length r.received)) → ArePast k w.words looks → Kept k w
+    → Kept k (receiver_knows w h (record r { half = half; told = told; looks = looks }))
+receiver_learns k w h r half told looks at next drained past K = let was = K.received h r at in receiver_changes k w h (record r { half = half; told = told; looks = looks }) (record {
   plan = was.plan;
   number = was.number;
   count = was.count;
@@ -166,10 +171,14 @@ keeps_receiver_looks k w h i r lt at K = let was = K.received h r at in receiver
   taken = was.taken;
   after = was.after;
   beginning = was.beginning;
-  half = was.half;
-  told = was.told;
-  looks = past_more k w.words i r.looks lt was.looks;
+  half = next;
+  told = drained;
+  looks = past;
 }) K
+
+pub keeps_receiver_looks : (k : Shape) (w : World) (h i : ℕ) (r : ReceiverRecord) → i < payload_start k → get_elem? w.receivers h ≡ some r → Kept k w → Kept k (receiver_knows w h (receiver_looked r i (word_at w.words i)))
+keeps_receiver_looks k w h i r lt at K = let was = K.received h r at in
+    receiver_learns k w h r r.half r.told (receiver_looked r i (word_at w.words i)).looks at was.half was.told (past_more k w.words i r.looks lt was.looks) K
 
 -- a look that tells a receiver that the ring drained tells the truth
 pub tells_truth : (k : Shape) (w : World) (h : ℕ) (r : ReceiverRecord) → get_elem? w.receivers h ≡ some r → tells_drained r (word_at w.words cursor_word) ≡ true → Kept k w
@@ -180,21 +189,13 @@ tells_truth k w h r at tells K =
     let seen = last_look_le k w.words 0 r.looks closed_word (omega arith) (K.received h r at).looks in let flag = K.flags.close in let cursor = K.counts.cursor in (omega arith, omega arith)
 
 pub keeps_cursor_look : (k : Shape) (w : World) (h : ℕ) (r : ReceiverRecord) → get_elem? w.receivers h ≡ some r → Kept k w → Kept k (receiver_knows w h (cursor_looked r (word_at w.words cursor_word)))
-keeps_cursor_look k w h r at K = let was = K.received h r at in receiver_changes k w h (cursor_looked r (word_at w.words cursor_word)) (record {
-  plan = was.plan;
-  number = was.number;
-  count = was.count;
-  completed = was.completed;
-  taken = was.taken;
-  after = was.after;
-  beginning = was.beginning;
-  half = was.half;
-  told = λ yes. elim (or_cases r.told (tells_drained r (word_at w.words cursor_word)) yes) [
-    | inl before ↦ was.told before
-    | inr now ↦ (let t = tells_truth k w h r at now K in let e = t.1 in (t.0, omega arith))
-  ];
-  looks = past_more k w.words cursor_word r.looks (omega arith) was.looks;
-}) K
+keeps_cursor_look k w h r at K = let was = K.received h r at in let seen = cursor_looked r (word_at w.words cursor_word) in
+    receiver_learns k w h r r.half seen.told seen.looks at was.half
+    (λ yes. elim (or_cases r.told (tells_drained r (word_at w.words cursor_word)) yes) [
+      | inl before ↦ was.told before
+      | inr now ↦ (let t = tells_truth k w h r at now K in let e = t.1 in (t.0, omega arith))
+    ])
+    (past_more k w.words cursor_word r.looks (omega arith) was.looks) K
 
 early_by : (k : Shape) (w : World) (h : ℕ) (r : ReceiverRecord) (ups : List ℕ) → get_elem? w.receivers h ≡ some r
     → ((u : ℕ) → Contains ups u → length r.received < last_look 0 r.looks (count_word u)) → (ups ≡ [] → length r.received < last_look 0 r.looks cursor_word)
@@ -223,18 +224,7 @@ pub keeps_half_taken : (k : Shape) (w : World) (h : ℕ) (r : ReceiverRecord) �
 keeps_half_taken k w h r at low K =
     let was = K.received h r at in let below = early k w h r at low K in let event = next_event k w h r at below K in
     let first = word_at w.words (payload_word k (length r.received) 0) in
-    receiver_changes k w h (half_taken r first) (record {
-      plan = was.plan;
-      number = was.number;
-      count = was.count;
-      completed = was.completed;
-      taken = was.taken;
-      after = was.after;
-      beginning = was.beginning;
-      half = λ v e. (let same : first ≡ v = cc in (below, sym same ∙ event.0));
-      told = was.told;
-      looks = was.looks;
-    }) K
+    receiver_learns k w h r (Some first) r.told r.looks at (λ v e. (let same : first ≡ v = cc in (below, sym same ∙ event.0))) was.told was.looks K
 
 -- the event that is taken
 pub taken_event : (k : Shape) (w : World) (h first : ℕ) (r : ReceiverRecord) → get_elem? w.receivers h ≡ some r → r.half ≡ Some first → Kept k w

@@ -1,13 +1,14 @@
 //! The loops of the ends' calls.
 
-ghost use Rattle.std.specs.Prelude.{◌≡◌, ◌+◌, ◌^◌, ◌<◌, ◌≤◌, None, length, IfSome};
+ghost use Rattle.std.specs.Prelude.{◌≡◌, ◌+◌, ◌^◌, ◌<◌, ◌≤◌, if◌then◌else◌, None, length, IfSome};
 ghost use Rattle.std.specs.Bool.{MatchBool};
 ghost use Rattle.dr_ring.specs.Shape.{handlers_of};
 ghost use Rattle.dr_ring.specs.Plans.{IsPlan};
+ghost use Rattle.dr_ring.specs.Ends.{halt_looked, HasRoom};
 ghost use Rattle.dr_ring.specs.Fits.{IsSeenLeast};
 ghost use Rattle.dr_ring.specs.Calls.{looks_counted, received_all};
 ghost use Rattle.dr_ring.specs.Parts.{lesser_of, Scans, LooksAtUpstreams, IsOffered, AreMarked, HasUnmarked, nothing_offered as answer_of};
-ghost use Rattle.dr_ring.specs.Seats.{IsAtTable, as_receiver, sender_of, receiver_of, IsSender, IsReceiver};
+ghost use Rattle.dr_ring.specs.Seats.{IsAtTable, as_sender, as_receiver, sender_of, receiver_of, IsSender, IsReceiver};
 
 use crate::laws;
 use crate::laws::{RingSeat, Words};
@@ -22,40 +23,31 @@ fn lesser(first: bool, count: u64, seen: u64) -> u64
     if first || count < seen { count } else { seen }
 }
 
-/// Looks at the final handlers' counts, and gives the least of them, or nothing at the first that
-/// is below `need`.
-fn scan(
+/// Looks at halt, and claims `count` more sequences where it finds 0, for which the sender has seen
+/// that there is room.
+pub(crate) fn is_halted(
     words: &Words,
     seat: &mut RingSeat,
     plan: &Plan,
-    published: u64,
-    need: u64,
+    count: u64,
     looks: &mut u64,
-) -> Option<u64>
+) -> bool
     requires table { IsAtTable seat.old.table_id words.now.table_id plan.now }
-    requires made { IsPlan plan.now }
     requires end { IsSender seat.old.me }
     requires plan { (sender_of seat.old.me.0).plan ≡ plan.now }
-    requires front { published ≡ length (sender_of seat.old.me.0).published }
+    requires room { 0 < count → HasRoom plan.now (sender_of seat.old.me.0) count }
     requires looks { looks.old ≡ looks_counted (sender_of seat.old.me.0).looks }
     ensures seat { (seat.new.table_id ≡ seat.old.table_id) × (seat.new.id ≡ seat.old.id) }
-    ensures answer { Scans plan.now (sender_of seat.old.me.0) need seat.new.me looks.new result }
+    ensures end { seat.new.me ≡ as_sender (halt_looked (sender_of seat.old.me.0) count (if result then 1 else 0)) }
+    ensures looks { looks.new ≡ looks_counted (sender_of seat.new.me.0).looks }
 {
-    let mut least = published;
-    for handler in plan.finals() {
-        let count = laws::sender::look_at_count(words, seat, plan, *handler);
-        *looks = looks.saturating_add(1);
-        if count < need {
-            return None;
-        }
-        least = lesser(false, count, least);
-    }
-    Some(least)
+    *looks = looks.saturating_add(1);
+    laws::sender::look_at_halt(words, seat, plan, count) != 0
 }
 
 /// Gives a number of events that every final handler has completed, at least `need`: the one that
 /// is remembered where it serves, else the least of the counts that are there now. It gives
-/// nothing where a count is below `need`.
+/// nothing at the first count that is below `need`.
 pub(crate) fn make_room(
     words: &Words,
     seat: &mut RingSeat,
@@ -79,7 +71,16 @@ pub(crate) fn make_room(
     if remembered >= need {
         return Some(remembered);
     }
-    scan(words, seat, plan, published, need, looks)
+    let mut least = published;
+    for handler in plan.finals() {
+        let count = laws::sender::look_at_count(words, seat, plan, *handler);
+        *looks = looks.saturating_add(1);
+        if count < need {
+            return None;
+        }
+        least = lesser(false, count, least);
+    }
+    Some(least)
 }
 
 /// Looks at the count of each upstream, and gives what the barrier offers: the least of them, or

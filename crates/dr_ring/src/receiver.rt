@@ -71,19 +71,14 @@ impl Receiver {
         if available <= first {
             return Ok(parts::nothing_offered(closed, cursor, first));
         }
-        let left = available - first;
-        let count = if left < out.len() as u64 {
-            left as usize
-        } else {
-            out.len()
-        };
-        let (front, _) = out.split_at_mut(count);
+        let count = (available - first).min(out.len() as u64);
+        let (front, _) = out.split_at_mut(count as usize);
         parts::take_all(words, &mut self.seat, plan, self.number, first, front);
-        self.taken = first + count as u64;
+        self.taken = first + count;
         Ok(Polled::Batch {
             first,
-            count: count as u64,
-            end: first + count as u64 == available,
+            count,
+            end: first + count == available,
         })
     }
 

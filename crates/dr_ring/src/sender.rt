@@ -63,36 +63,31 @@ impl Sender {
         if n == 0 || n > size {
             return Err(Refusal::BadCount);
         }
-        self.looks = self.looks.saturating_add(1);
-        if laws::look_at_halt(words, &mut self.seat, plan, 0) != 0 {
+        if parts::is_halted(words, &mut self.seat, plan, 0, &mut self.looks) {
             return Err(Refusal::Halted);
         }
-        let next = self.claimed;
-        if n > plan.limit() - next {
+        let lo = self.claimed;
+        if n > plan.limit() - lo {
             return Err(Refusal::Exhausted);
         }
-        let need = (next + n).saturating_sub(size);
+        let upto = lo + n;
         let Some(least) = parts::make_room(
             words,
             &mut self.seat,
             plan,
             self.published,
             self.gate.seen(),
-            need,
+            upto.saturating_sub(size),
             &mut self.looks,
         ) else {
             return Err(Refusal::NoRoom);
         };
         self.gate.raise(least);
-        self.looks = self.looks.saturating_add(1);
-        if laws::look_at_halt(words, &mut self.seat, plan, n) != 0 {
+        if parts::is_halted(words, &mut self.seat, plan, n, &mut self.looks) {
             return Err(Refusal::Halted);
         }
-        self.claimed = next + n;
-        Ok(Claimed {
-            lo: next,
-            hi: next + n - 1,
-        })
+        self.claimed = upto;
+        Ok(Claimed { lo, hi: upto - 1 })
     }
 
     /// Writes the event of a sequence that is claimed and not published, in place of one that was

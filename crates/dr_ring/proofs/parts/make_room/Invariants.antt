@@ -1,7 +1,7 @@
 use Rattle.std.proofs.Common.{◌≡◌}
 use Rattle.dr_ring.specs.Seats.{sender_of}
 use Rattle.dr_ring.proofs.Rounds.{Scanned}
-use Rattle.dr_ring.proofs.parts.scan.Given as goal
+use Rattle.dr_ring.proofs.parts.make_room.Given as goal
 
 abbrev pub invariant-loop-handler : goal.invariant-loop-handler
 invariant-loop-handler l = (l.seat.table_id ≡ l.fn.seat.table_id) × (l.seat.id ≡ l.fn.seat.id)
