@@ -1,10 +1,62 @@
--- How a run of commands ends.
-use Rattle.std.proofs.Common.{◌≡◌, ℕ, None, refl}
-use Rattle.dr_replay.specs.DriveText.{Phase, Preparing, Running, end_fault}
+-- A run of commands: how far it has come, and how it ends.
+use Rattle.std.proofs.Common.{◌≡◌, ◌+◌, ◌∷◌, ℕ, List, [], Option, Some, None, Ok, refl, subst, ◌∙◌}
+use Rattle.std.specs.Prelude.{option_to_list}
+use Rattle.std.specs.Io.KnownBytes.{Appends, Keeps}
+use Rattle.dr_replay.specs.Records.{Record}
+use Rattle.dr_replay.specs.DriveText.{Phase, Preparing, Running, Taken, end_fault, joined, taken, text_from}
+use Rattle.dr_replay.specs.Outcome.{CommandFaultTells, FaultWrites}
 use Rattle.dr_replay.specs.Tells.{ShowsPhase}
 use Rattle.dr_replay.specs.declared.exchange.Exchange.{Exchange}
+use Rattle.dr_replay.specs.declared.fault.DriveFault.{DriveFault}
+use Rattle.dr_replay.specs.declared.fault.DriveFault.TheVariants as fault
+use Rattle.dr_replay.proofs.Runs.{Progress, progress-end, progress-fails, progress-memory, progress-step}
+
+-- a run over all records from the k-th on has come to the j-th and those that are left, whichever phase its exchange showed at first
+pub record HasCome (first : Exchange) (k : ℕ) (all : List Record) (exchange : Exchange) (j : ℕ) (left : List Record) (old now : Option (List ℕ)) : Type 0 where
+  pub from : (phase : Phase) → ShowsPhase first phase → (s : Phase) × ShowsPhase exchange s × Progress (text_from k phase all) j s left old now
+
+-- a command did its record
+pub goes-on : {first exchange after : Exchange} {k j : ℕ} {all left rest : List Record} {row : Record} {old now new : Option (List ℕ)}
+    → HasCome first k all exchange j left old now → left ≡ row ∷ rest
+    → ((s : Phase) → ShowsPhase exchange s → (did : Taken) × (taken s row ≡ Ok did) × ShowsPhase after did.phase × Appends now new (joined (option_to_list did.line)))
+    → HasCome first k all after (j + 1) rest old new
+goes-on {k} {j} {all} {rest} {row} {old} {now} {new} come cut obeyed = record {
+  from = λ phase shown.
+      let (s, shows, so_far) = come.from phase shown in
+      let (did, ok, after, wrote) = obeyed s shows in
+      let here = subst (λ (l : List Record). Progress (text_from k phase all) j s l old now) cut so_far in
+      (did.phase, after, progress-step (text_from k phase all) j s did row rest old now new here ok wrote);
+}
+
+-- a command ended the run
+pub fails : {first exchange : Exchange} {k j : ℕ} {all left rest : List Record} {row : Record} {old now : Option (List ℕ)} (f : DriveFault) (new : Option (List ℕ))
+    → HasCome first k all exchange j left old now → left ≡ row ∷ rest → ((s : Phase) → ShowsPhase exchange s → CommandFaultTells f j (taken s row) now new)
+    → (phase : Phase) → ShowsPhase first phase → FaultWrites f old new (text_from k phase all)
+fails {k} {j} {all} {rest} {row} {old} {now} f new come cut told phase shown =
+    let (s, shows, so_far) = come.from phase shown in
+    let here = subst (λ (l : List Record). Progress (text_from k phase all) j s l old now) cut so_far in
+    progress-fails f (text_from k phase all) j s row rest old now new here (told s shows)
+
+same_bytes : (known : Option (List ℕ)) → Keeps known known
+same_bytes None = tt
+same_bytes (Some bytes) = refl
+
+-- there was no memory for the next record
+pub wants : {first exchange : Exchange} {k j : ℕ} {all left : List Record} {old now : Option (List ℕ)} → HasCome first k all exchange j left old now
+    → (phase : Phase) → ShowsPhase first phase → FaultWrites fault.Memory old now (text_from k phase all)
+wants {k} {j} {all} {left} {old} {now} come phase shown =
+    let (s, shows, so_far) = come.from phase shown in progress-memory (text_from k phase all) j s left old now now so_far (same_bytes now)
 
 -- a file that ends after its setup is complete
-pub running-ends : (e : Exchange) (k : ℕ) (s : Phase) → ShowsPhase e s → end_fault k s ≡ None
+running-ends : (e : Exchange) (k : ℕ) (s : Phase) → ShowsPhase e s → end_fault k s ≡ None
 running-ends e k (Preparing stage) h = absurd h
 running-ends e k (Running names c m) h = refl
+
+-- no record was left
+pub ends : {first exchange : Exchange} {k j : ℕ} {all left : List Record} {old now : Option (List ℕ)} → HasCome first k all exchange j left old now → left ≡ []
+    → (phase : Phase) → ShowsPhase first phase → ((text_from k phase all).fault ≡ None) × Appends old now (joined (text_from k phase all).lines)
+ends {exchange} {k} {j} {all} {old} {now} come none phase shown =
+    let (s, shows, so_far) = come.from phase shown in
+    let here = subst (λ (l : List Record). Progress (text_from k phase all) j s l old now) none so_far in
+    let (fault, wrote) = progress-end (text_from k phase all) j s old now here in
+    (fault ∙ running-ends exchange j s shows, wrote)

@@ -19,19 +19,20 @@ one_more : (done : List Event) (k : ℕ) (o : Operation) (r : Result (List Event
 one_more done k o (Ok events) = ap Ok (sym (append_assoc done (event_of o ∷ []) events))
 one_more done k o (Err bad) = refl
 
-pub file-goes : (whole : Result (List Event) ℕ) (done : List Event) (k : ℕ) (o : Operation) (row : Record) (rest : List Record)
-    → whole ≡ preceded done (events_from k (row ∷ rest)) → Some o ≡ operation_in row → whole ≡ preceded (done ++ event_of o ∷ []) (events_from (k + 1) rest)
+pub file-goes : (whole : Result (List Event) ℕ) (done : List Event) (k : ℕ) (o : Operation) (left : List Record) (row : Record) (rest : List Record)
+    → whole ≡ preceded done (events_from k left) → left ≡ row ∷ rest → Some o ≡ operation_in row → whole ≡ preceded (done ++ event_of o ∷ []) (events_from (k + 1) rest)
 unfolding events_from
-file-goes whole done k o row rest p e = p ∙ ap (λ x. preceded done (events_with k x (events_from (k + 1) rest))) (sym e) ∙ one_more done k o (events_from (k + 1) rest)
+file-goes whole done k o left row rest p cut e =
+    p ∙ ap (λ l. preceded done (events_from k l)) cut ∙ ap (λ x. preceded done (events_with k x (events_from (k + 1) rest))) (sym e) ∙ one_more done k o (events_from (k + 1) rest)
 
 with_none : (k : ℕ) (r : Result (List Event) ℕ) → events_with k None r ≡ Err k
 with_none k r = refl
 
-pub file-stops : (whole : Result (List Event) ℕ) (done : List Event) (k : ℕ) (row : Record) (rest : List Record)
-    → whole ≡ preceded done (events_from k (row ∷ rest)) → None ≡ operation_in row → whole ≡ Err k
+pub file-stops : (whole : Result (List Event) ℕ) (done : List Event) (k : ℕ) (left : List Record) (row : Record) (rest : List Record)
+    → whole ≡ preceded done (events_from k left) → left ≡ row ∷ rest → None ≡ operation_in row → whole ≡ Err k
 unfolding events_from
-file-stops whole done k row rest p e = p ∙ ap (λ x. preceded done (events_with k x (events_from (k + 1) rest))) (sym e)
+file-stops whole done k left row rest p cut e = p ∙ ap (λ l. preceded done (events_from k l)) cut ∙ ap (λ x. preceded done (events_with k x (events_from (k + 1) rest))) (sym e)
 
-pub file-ends : (whole : Result (List Event) ℕ) (done : List Event) (k : ℕ) → whole ≡ preceded done (events_from k []) → whole ≡ Ok done
+pub file-ends : (whole : Result (List Event) ℕ) (done : List Event) (k : ℕ) (left : List Record) → whole ≡ preceded done (events_from k left) → left ≡ [] → whole ≡ Ok done
 unfolding events_from
-file-ends whole done k p = p ∙ ap Ok (append-nil done)
+file-ends whole done k left p none = p ∙ ap (λ l. preceded done (events_from k l)) none ∙ ap Ok (append-nil done)

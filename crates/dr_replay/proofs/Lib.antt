@@ -1,4 +1,3 @@
-pub mod AllRecords
 pub mod Commanding
 pub mod Declaring
 pub mod Digits
@@ -13,6 +12,7 @@ pub mod Moving
 pub mod Passing
 pub mod Reports
 pub mod Rounds
+pub mod RowsLeft
 pub mod Runs
 pub mod Sending
 pub mod SetUps

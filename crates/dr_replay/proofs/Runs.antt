@@ -1,10 +1,8 @@
 -- A run over records: what was written so far, and what the records left to take say.
-use Rattle.std.proofs.Common.{◌≡◌, ◌<◌, ◌+◌, ℕ, List, [], ◌∷◌, ◌++◌, length, take, Option, Some, None, Ok, Err, refl, sym, ap, ◌∙◌, append_assoc, append-nil, map, drop, drop-cons, get_or, add-one, suc, ◌≤◌}
+use Rattle.std.proofs.Common.{◌≡◌, ◌+◌, ℕ, List, [], ◌∷◌, ◌++◌, length, take, Option, Some, None, Ok, Err, refl, sym, ap, ◌∙◌, append_assoc, append-nil}
 use Rattle.std.specs.Prelude.{option_to_list}
 use Rattle.std.proofs.KnownBytes.{Appends-nil, Appends-trans}
 use Rattle.std.specs.Io.KnownBytes.{Appends, Keeps}
-use Rattle.std.proofs.lemmas.List.{drop_all}
-use Rattle.csv.specs.Records.{Row, fields_of}
 use Rattle.dr_replay.specs.Records.{Record}
 use Rattle.dr_replay.specs.DriveText.{DriveText, Phase, Taken, end_fault, joined, taken, text_after, text_from}
 use Rattle.dr_replay.specs.Outcome.{AppendsFront, CommandFaultTells, FaultWrites}
@@ -103,11 +101,3 @@ progress-fails (fault.Input j cause) whole k s row rest old now new p (same, err
 progress-fails fault.Memory whole k s row rest old now new p keeps = progress-memory whole k s (row ∷ rest) old now new p keeps
 progress-fails fault.Read whole k s row rest old now new p h = absurd h
 progress-fails fault.Write whole k s row rest old now new p (did, ok, begins) = progress-write whole k s did row rest old now new p ok begins
-
--- the records from a place on
-pub next_row : (rows : List Row) (row : Row) (i : ℕ) → row ≡ get_or rows i row → i < length rows
-    → map fields_of (drop i rows) ≡ fields_of row ∷ map fields_of (drop (i + 1) rows)
-next_row rows row i is lt = ap (map fields_of) (drop-cons rows i row lt ∙ ap (λ r. r ∷ drop (suc i) rows) (sym is)) ∙ ap (λ n. fields_of row ∷ map fields_of (drop n rows)) (sym (add-one i))
-
-pub no_row : (rows : List Row) (i : ℕ) → length rows ≤ i → map fields_of (drop i rows) ≡ []
-no_row rows i end = ap (map fields_of) (drop_all i rows end)

@@ -10,20 +10,22 @@ use Rattle.dr_replay.specs.declared.fault.RecordFault.{RecordFault}
 use Rattle.dr_replay.specs.declared.fault.RecordFault.TheVariants as fault
 use Rattle.dr_replay.proofs.Runs.{says-end, says-err, says-ok}
 
-pub setup-goes : (whole : DriveText) (k : ℕ) (s s2 : Stage) (row : Record) (rest : List Record) → whole ≡ text_from k (Preparing s) (row ∷ rest)
+-- the records that a setup has come to, after which there are others
+pub setup-goes : (whole : DriveText) (k : ℕ) (s s2 : Stage) (left : List Record) (row : Record) (rest : List Record) → whole ≡ text_from k (Preparing s) left → left ≡ row ∷ rest
     → prepared s row ≡ Ok (Goes s2) → whole ≡ text_from (k + 1) (Preparing s2) rest
-setup-goes whole k s s2 row rest is e = is ∙ says-ok k (Preparing s) (record { phase = Preparing s2; line = None }) row rest (ap prepares e)
+setup-goes whole k s s2 left row rest is cut e =
+    is ∙ ap (text_from k (Preparing s)) cut ∙ says-ok k (Preparing s) (record { phase = Preparing s2; line = None }) row rest (ap prepares e)
 
-pub setup-opens : (whole : DriveText) (k : ℕ) (s : Stage) (names : List Field) (c : Setup) (row : Record) (rest : List Record) → whole ≡ text_from k (Preparing s) (row ∷ rest)
-    → prepared s row ≡ Ok (Opens names c) → whole ≡ text_from (k + 1) (Running names c (opening c)) rest
-setup-opens whole k s names c row rest is e =
-    is ∙ says-ok k (Preparing s) (record { phase = Running names c (opening c); line = None }) row rest (ap prepares e)
+pub setup-opens : (whole : DriveText) (k : ℕ) (s : Stage) (names : List Field) (c : Setup) (left : List Record) (row : Record) (rest : List Record)
+    → whole ≡ text_from k (Preparing s) left → left ≡ row ∷ rest → prepared s row ≡ Ok (Opens names c) → whole ≡ text_from (k + 1) (Running names c (opening c)) rest
+setup-opens whole k s names c left row rest is cut e =
+    is ∙ ap (text_from k (Preparing s)) cut ∙ says-ok k (Preparing s) (record { phase = Running names c (opening c); line = None }) row rest (ap prepares e)
 
-pub setup-fails : (f : RecordFault) (rows : List Record) (k : ℕ) (s : Stage) (row : Record) (rest : List Record)
-    → text_from 1 (Preparing Empty) rows ≡ text_from k (Preparing s) (row ∷ rest) → FaultAs f (prepared s row) → SetupFaultTells (fault_at k f) rows
-setup-fails (fault.Cause cause) rows k s row rest is e = is ∙ says-err k (Preparing s) cause row rest (ap prepares e)
-setup-fails fault.Memory rows k s row rest is e = tt
+pub setup-fails : (f : RecordFault) (rows : List Record) (k : ℕ) (s : Stage) (left : List Record) (row : Record) (rest : List Record)
+    → text_from 1 (Preparing Empty) rows ≡ text_from k (Preparing s) left → left ≡ row ∷ rest → FaultAs f (prepared s row) → SetupFaultTells (fault_at k f) rows
+setup-fails (fault.Cause cause) rows k s left row rest is cut e = is ∙ ap (text_from k (Preparing s)) cut ∙ says-err k (Preparing s) cause row rest (ap prepares e)
+setup-fails fault.Memory rows k s left row rest is cut e = tt
 
-pub setup-ends : (whole : DriveText) (k : ℕ) (s : Stage) (rest : List Record) → whole ≡ text_from k (Preparing s) rest → rest ≡ []
+pub setup-ends : (whole : DriveText) (k : ℕ) (s : Stage) (left : List Record) → whole ≡ text_from k (Preparing s) left → left ≡ []
     → whole ≡ record { lines = []; fault = Some (record { k = k; cause = missing s }) }
-setup-ends whole k s rest is none = is ∙ ap (text_from k (Preparing s)) none ∙ says-end k (Preparing s)
+setup-ends whole k s left is none = is ∙ ap (text_from k (Preparing s)) none ∙ says-end k (Preparing s)

@@ -1,6 +1,8 @@
 pub mod Counting
 pub mod Numbers
 pub mod Records
+pub mod TextReader
+pub mod Rows
 pub mod Commands
 pub mod Lines
 pub mod Setup

@@ -1,5 +1,5 @@
 -- What the parts of a run tell of the drive text.
-use Rattle.std.specs.Prelude.{◌≡◌, ◌≤◌, ◌+◌, ℕ, Result, Ok, Err, List, [], drop, length, Option, Some, option_to_list}
+use Rattle.std.specs.Prelude.{◌≡◌, ◌+◌, ℕ, Result, Ok, Err, List, [], length, Option, Some, option_to_list}
 use Rattle.std.specs.Io.KnownBytes.{Appends}
 use Rattle.dr_replay.specs.declared.tool.Opened.{Opened}
 use Rattle.dr_replay.specs.declared.exchange.Exchange.{Exchange}
@@ -24,11 +24,11 @@ abbrev pub ShowsPhase : Exchange → Phase → Type 0
 ShowsPhase e (Preparing stage) = ⊥
 ShowsPhase e (Running names c m) = ExchangeShows e names c m
 
--- the setup's records wrote nothing, and what a file says is what the others say from the opening on
-pub record IsSetUp (o : Opened) (rs : List Record) : Type 0 where
+-- the setup's records wrote nothing, and what a file says is what the records that are left say from the opening on
+pub record IsSetUp (o : Opened) (rs left : List Record) : Type 0 where
   pub phase : Phase
-  pub within : o.records ≤ length rs
-  pub says : text_from 1 (Preparing Empty) rs ≡ text_from (o.records + 1) phase (drop o.records rs)
+  pub counted : o.k + length left ≡ 1 + length rs
+  pub says : text_from 1 (Preparing Empty) rs ≡ text_from o.k phase left
   pub shows : ShowsPhase o.exchange phase
 
 -- a setup that fails is at fault at a record, with nothing written, or wants memory
@@ -38,9 +38,10 @@ SetupFaultTells ends.Memory rs = Unit {0}
 SetupFaultTells ends.Read rs = ⊥
 SetupFaultTells ends.Write rs = ⊥
 
-abbrev pub SetsUpAs : Result Opened DriveFault → List Record → Type 0
-SetsUpAs (Ok o) rs = IsSetUp o rs
-SetsUpAs (Err e) rs = SetupFaultTells e rs
+-- a setup of all these records, and those that it leaves
+abbrev pub SetsUpAs : Result Opened DriveFault → List Record → List Record → Type 0
+SetsUpAs (Ok o) rs left = IsSetUp o rs left
+SetsUpAs (Err e) rs left = SetupFaultTells e rs
 
 -- a command, the one of record k, writes its line
 abbrev pub CommandTells : {A : Type 0} → Result A DriveFault → Exchange → ℕ → Result Taken Cause → Option (List ℕ) → Option (List ℕ) → Type 0

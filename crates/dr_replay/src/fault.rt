@@ -144,3 +144,14 @@ impl fmt::Display for DriveFault {
 }
 
 impl Error for DriveFault {}
+
+impl From<AllocError> for DriveFault {
+    ghost use Rattle.std.specs.Prelude.{◌≡◌};
+    ghost use Rattle.dr_replay.specs.declared.fault.DriveFault.TheVariants as fault;
+
+    ghost from_gives = { λ _ e. e ≡ fault.Memory };
+
+    fn from(_error: AllocError) -> DriveFault {
+        DriveFault::Memory
+    }
+}

@@ -19,6 +19,7 @@ mod numbers;
 mod planned;
 mod records;
 mod replay;
+mod rows;
 mod setup;
 mod streams;
 mod tool;

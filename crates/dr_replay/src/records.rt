@@ -1,40 +1,11 @@
-//! The records of a text, and what stands in their fields.
+//! What stands in the fields of a record.
 
-ghost use Rattle.std.specs.Prelude.{◌≡◌, ◌==◌, IfOk, length, map, true};
-ghost use Rattle.csv.specs.Reading.{error_kind, stops_reader};
+ghost use Rattle.std.specs.Prelude.{◌≡◌, ◌==◌, length};
 ghost use Rattle.csv.specs.Records.{fields_of};
-ghost use Rattle.dr_replay.specs.Records.{field as field_in, is_list as is_list_in, is_named as is_named_in, is_record as is_record_in, number_at as number_in, records_of as records_in};
+ghost use Rattle.dr_replay.specs.Records.{field as field_in, is_list as is_list_in, is_named as is_named_in, is_record as is_record_in, number_at as number_in};
 
 use crate::numbers::number_of;
-use csv::{ByteRecord, Error, ReaderBuilder};
-use std::alloc::{AllocError, Global};
-
-// The one error that a read of records from a slice may give, whatever their lengths are: want of memory.
-fn want_of_memory(error: &Error) -> AllocError
-    requires { stops_reader (error_kind error.now) ≡ true }
-{
-    let _kind = error.kind();
-    AllocError
-}
-
-/// Every record of a text: commas, double quotes, no header row, any number of fields. An error is
-/// want of memory.
-pub fn records_of(alloc: Global, text: &[u8]) -> Result<Vec<ByteRecord>, AllocError>
-    ensures { IfOk result (λ rows. map fields_of rows.items ≡ records_in text.now) }
-{
-    let reader = ReaderBuilder::new()
-        .has_headers(false)
-        .flexible(true)
-        .from_reader(alloc, text);
-    let mut rows = Vec::new(alloc);
-    for row in reader.into_byte_records() {
-        match row {
-            Ok(row) => rows.push(row)?,
-            Err(error) => return Err(want_of_memory(&error)),
-        }
-    }
-    Ok(rows)
-}
+use csv::ByteRecord;
 
 /// How many fields a record has.
 pub fn count_of(row: &ByteRecord) -> usize

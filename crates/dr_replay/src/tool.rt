@@ -1,27 +1,28 @@
 //! The tool `drive`: a file of commands in, a line a reply out.
 
-ghost use Rattle.std.specs.Prelude.{◌≡◌, ◌<◌, ◌+◌, ◌-◌, ◌^◌, IfSome, length, map};
+ghost use Rattle.std.specs.Prelude.{◌≡◌, ◌<◌, ◌+◌, ◌-◌, ◌^◌, IfSome, length};
 ghost use Rattle.csv.specs.Records.{fields_of};
 ghost use Rattle.dr_replay.specs.Counting.{faults_of, inner_of};
 ghost use Rattle.dr_replay.specs.DriveText.{Phase, drive_text, taken, text_from};
 ghost use Rattle.dr_replay.specs.Outcome.{CountsFaults, Writes};
+ghost use Rattle.dr_replay.specs.Rows.{rows_left};
 ghost use Rattle.dr_replay.specs.Tells.{CommandTells, SetsUpAs, ShowsPhase, fault_at};
 
 use crate::counted::Counted;
 use crate::exchange::Exchange;
 use crate::fault::{DriveFault, RecordFault};
-use crate::records::records_of;
+use crate::rows::Rows;
 use crate::setup::{Preparation, Prepared, missing, prepare};
 use crate::streams::{read_all, write_text};
 use csv::ByteRecord;
 use std::alloc::Global;
 use std::io::{Read, Write};
 
-// An exchange, and how many records it took to open it.
+// An exchange, and the number of the record that comes after those that opened it.
 #[derive(Drop)]
 struct Opened {
     exchange: Exchange,
-    records: usize,
+    k: u64,
 }
 
 fn fault_of(k: u64, fault: RecordFault) -> DriveFault
@@ -33,19 +34,17 @@ fn fault_of(k: u64, fault: RecordFault) -> DriveFault
     }
 }
 
-// Takes the records of the setup.
-fn set_up(alloc: Global, rows: &[ByteRecord]) -> Result<Opened, DriveFault>
-    ensures { SetsUpAs result (map fields_of rows.now) }
+// Takes the records of the setup, and leaves those that come after it.
+fn set_up(alloc: Global, rows: &mut Rows<'_>) -> Result<Opened, DriveFault>
+    requires { length (rows_left rows.old) + 1 < 2 ^ 64 }
+    ensures { SetsUpAs result (rows_left rows.old) (rows_left rows.new) }
 {
     let mut at = Preparation::Empty;
     let mut k: u64 = 1;
-    for (i, row) in rows.iter().enumerate() {
+    while let Some(row) = rows.next()? {
         match prepare(alloc, at, row) {
             Ok(Prepared::Goes(next)) => at = next,
-            Ok(Prepared::Opens(exchange)) => return Ok(Opened {
-                exchange,
-                records: i + 1,
-            }),
+            Ok(Prepared::Opens(exchange)) => return Ok(Opened { exchange, k: k + 1 }),
             Err(fault) => return Err(fault_of(k, fault)),
         }
         k += 1;
@@ -74,21 +73,21 @@ fn command<W: Write>(
     }
 }
 
-// Obeys all records from one on, the first of them being the k-th.
+// Obeys all records that are left, the first of them being the k-th.
 fn commands<W: Write>(
     alloc: Global,
     mut exchange: Exchange,
     mut k: u64,
-    rows: &[ByteRecord],
+    rows: &mut Rows<'_>,
     writer: &mut Counted<W>,
 ) -> Result<(), DriveFault>
     requires faults { faults_of writer.old < 2 ^ 64 - 1 }
-    requires fits { k + length rows.now < 2 ^ 64 }
-    ensures bytes { (phase : Phase) → ShowsPhase exchange phase → Writes result (W.contents (inner_of writer.old)) (W.contents (inner_of writer.new)) (text_from k phase (map fields_of rows.now)) }
+    requires fits { k + length (rows_left rows.old) < 2 ^ 64 }
+    ensures bytes { (phase : Phase) → ShowsPhase exchange phase → Writes result (W.contents (inner_of writer.old)) (W.contents (inner_of writer.new)) (text_from k phase (rows_left rows.old)) }
     ensures counted { CountsFaults result 0 0 (faults_of writer.old) (faults_of writer.new) }
 {
     let mut line = String::new(alloc);
-    for row in rows {
+    while let Some(row) = rows.next()? {
         command(&mut exchange, k, row, &mut line, writer)?;
         k += 1;
     }
@@ -112,10 +111,7 @@ pub fn drive<R: Read, W: Write>(
     ensures counted { CountsFaults result (faults_of reader.old) (faults_of reader.new) (faults_of writer.old) (faults_of writer.new) }
 {
     let text = read_all(alloc, reader)?;
-    let Ok(rows) = records_of(alloc, text.as_slice()) else {
-        return Err(DriveFault::Memory);
-    };
-    let Opened { exchange, records } = set_up(alloc, rows.as_slice())?;
-    let k = records as u64 + 1;
-    commands(alloc, exchange, k, &rows[records..], writer)
+    let mut rows = Rows::new(alloc, text.as_slice());
+    let Opened { exchange, k } = set_up(alloc, &mut rows)?;
+    commands(alloc, exchange, k, &mut rows, writer)
 }

@@ -1,14 +1,16 @@
 //! The event file: an operation a record.
 
-ghost use Rattle.std.specs.Prelude.{◌≡◌, ◌<◌, IfSome, map};
+ghost use Rattle.std.specs.Prelude.{◌≡◌, ◌<◌, IfSome};
 ghost use Rattle.csv.specs.Records.{fields_of};
 ghost use Rattle.dr_replay.specs.EventFile.{deposit as deposit_in, is_kind as is_kind_in, number_below as number_in, operation_in, transfer as transfer_in, withdraw as withdraw_in};
 ghost use Rattle.dr_replay.specs.Operations.{IsOperation};
 ghost use Rattle.dr_replay.specs.Replayed.{ReadsAs};
+ghost use Rattle.dr_replay.specs.Rows.{rows_left};
 
 use crate::records::{count_of, field, number_at};
 use crate::replay::fault::ReplayFault;
 use crate::replay::operation::{Movement, Operation};
+use crate::rows::Rows;
 use csv::ByteRecord;
 use dr_seq::Event;
 use std::alloc::Global;
@@ -91,15 +93,16 @@ pub fn operation_of(row: &ByteRecord) -> Option<Operation>
     }
 }
 
-/// The events of the operations of a file, in order. The fault is at the first record that is no
-/// operation, or want of memory before it.
-pub fn events_of(alloc: Global, rows: &[ByteRecord]) -> Result<Vec<Event>, ReplayFault>
-    ensures { ReadsAs result (map fields_of rows.now) }
+/// The events of the operations in a file's records, in order. The fault is at the first record that
+/// is no operation, or want of memory before it.
+pub fn events_of(alloc: Global, rows: &mut Rows<'_>) -> Result<Vec<Event>, ReplayFault>
+    ensures { ReadsAs result (rows_left rows.old) }
 {
     let mut events = Vec::new(alloc);
-    for (i, row) in rows.iter().enumerate() {
+    while let Some(row) = rows.next()? {
         let Some(operation) = operation_of(row) else {
-            return Err(ReplayFault::Input { k: i as u64 + 1 });
+            let k = events.len() as u64 + 1;
+            return Err(ReplayFault::Input { k });
         };
         events.push(operation.event())?;
     }

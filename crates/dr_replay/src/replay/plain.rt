@@ -8,12 +8,12 @@ ghost use Rattle.dr_replay.specs.Report.{report_of};
 
 use crate::counted::Counted;
 use crate::fault::DriveFault;
-use crate::records::records_of;
 use crate::replay::event_file::events_of;
 use crate::replay::fault::ReplayFault;
 use crate::replay::handlers::Handlers;
 use crate::replay::opening::open;
 use crate::replay::passing::pass;
+use crate::rows::Rows;
 use crate::streams::{read_all, write_text};
 use dr_core::MAX_LIMIT;
 use dr_seq::{Event, Size};
@@ -32,8 +32,7 @@ fn read_events<R: Read>(alloc: Global, reader: &mut Counted<R>) -> Result<Vec<Ev
         Err(DriveFault::Read) => return Err(ReplayFault::Read),
         Err(_) => return Err(ReplayFault::Memory),
     };
-    let rows = records_of(alloc, text.as_slice())?;
-    events_of(alloc, rows.as_slice())
+    events_of(alloc, &mut Rows::new(alloc, text.as_slice()))
 }
 
 // The report of events that went through the exchange.

@@ -1,14 +1,14 @@
-use Rattle.std.proofs.Common.{◌≡◌, ◌+◌, drop, map}
-use Rattle.csv.specs.Records.{fields_of}
-use Rattle.dr_replay.specs.DriveText.{Phase, text_from}
-use Rattle.dr_replay.specs.Tells.{ShowsPhase}
-use Rattle.dr_replay.proofs.Runs.{Progress}
+use Rattle.std.proofs.Common.{◌≡◌, ◌+◌, length}
+use Rattle.dr_replay.specs.Rows.{rows_left}
+use Rattle.dr_replay.proofs.Commanding.{HasCome}
 use Rattle.dr_replay.proofs.tool.commands.Given as goal
 
-abbrev pub invariant-loop-row : goal.invariant-loop-row
-invariant-loop-row g l = record {
-  number : l.k ≡ l.fn.k + l.row-index;
+abbrev pub invariant-loop-line : goal.invariant-loop-line
+invariant-loop-line g l = record {
+  counted : l.k + length (rows_left l.rows) ≡ l.fn.k + length (rows_left l.fn.rows);
   none : l.writer.faults ≡ l.initial.writer.faults;
-  so_far : (phase : Phase) → ShowsPhase l.fn.exchange phase → (s : Phase) × ShowsPhase l.exchange s
-      × Progress (text_from l.fn.k phase (map fields_of l.rows)) l.k s (map fields_of (drop l.row-index l.rows)) (g.W.Write.contents l.initial.writer.inner) (g.W.Write.contents l.writer.inner);
+  come : HasCome l.fn.exchange l.fn.k (rows_left l.fn.rows) l.exchange l.k (rows_left l.rows) (g.W.Write.contents l.initial.writer.inner) (g.W.Write.contents l.writer.inner);
 }
+
+abbrev pub decreases-loop-line : goal.decreases-loop-line
+decreases-loop-line g l = length (rows_left l.rows)

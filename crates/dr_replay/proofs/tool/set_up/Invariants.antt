@@ -1,13 +1,16 @@
-use Rattle.std.proofs.Common.{◌≡◌, ◌+◌, drop, map}
-use Rattle.csv.specs.Records.{fields_of}
+use Rattle.std.proofs.Common.{◌≡◌, ◌+◌, length}
 use Rattle.dr_replay.specs.Setup.{Empty}
 use Rattle.dr_replay.specs.DriveText.{Preparing, text_from}
+use Rattle.dr_replay.specs.Rows.{rows_left}
 use Rattle.dr_replay.specs.Shows.{IsPreparation, stage_of}
 use Rattle.dr_replay.proofs.tool.set_up.Given as goal
 
-abbrev pub invariant-loop-i : goal.invariant-loop-i
-invariant-loop-i l = record {
-  number : l.k ≡ l.i + 1;
+abbrev pub invariant-loop-at : goal.invariant-loop-at
+invariant-loop-at l = record {
+  counted : l.k + length (rows_left l.rows) ≡ 1 + length (rows_left l.fn.rows);
   good : IsPreparation l.at;
-  says : text_from 1 (Preparing Empty) (map fields_of l.rows) ≡ text_from l.k (Preparing (stage_of l.at)) (map fields_of (drop l.i l.rows));
+  says : text_from 1 (Preparing Empty) (rows_left l.fn.rows) ≡ text_from l.k (Preparing (stage_of l.at)) (rows_left l.rows);
 }
+
+abbrev pub decreases-loop-at : goal.decreases-loop-at
+decreases-loop-at l = length (rows_left l.rows)

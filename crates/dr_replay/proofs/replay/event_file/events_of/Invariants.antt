@@ -1,8 +1,11 @@
-use Rattle.std.proofs.Common.{◌≡◌, ◌+◌, drop, map}
-use Rattle.csv.specs.Records.{fields_of}
+use Rattle.std.proofs.Common.{◌≡◌, ◌+◌, length, vec_len}
 use Rattle.dr_replay.specs.EventFile.{events_from}
+use Rattle.dr_replay.specs.Rows.{rows_left}
 use Rattle.dr_replay.proofs.EventFiles.{preceded}
 use Rattle.dr_replay.proofs.replay.event_file.events_of.Given as goal
 
-abbrev pub invariant-loop-i : goal.invariant-loop-i
-invariant-loop-i l = events_from 1 (map fields_of l.rows) ≡ preceded l.events.items (events_from (l.i + 1) (map fields_of (drop l.i l.rows)))
+abbrev pub invariant-loop-events : goal.invariant-loop-events
+invariant-loop-events l = events_from 1 (rows_left l.fn.rows) ≡ preceded l.events.items (events_from (vec_len l.events + 1) (rows_left l.rows))
+
+abbrev pub decreases-loop-events : goal.decreases-loop-events
+decreases-loop-events l = length (rows_left l.rows)
