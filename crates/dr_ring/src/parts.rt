@@ -1,4 +1,4 @@
-//! The loops of the ends' calls.
+//! What the ends' calls are made of: loops, a look at halt, and the answer of an empty poll.
 
 ghost use Rattle.std.specs.Prelude.{◌≡◌, ◌+◌, ◌^◌, ◌<◌, ◌≤◌, if◌then◌else◌, None, length, IfSome};
 ghost use Rattle.std.specs.Bool.{MatchBool};

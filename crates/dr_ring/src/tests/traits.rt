@@ -1,13 +1,25 @@
 //! The ends by their traits, whose calls answer as their own do.
 
 use super::{chain, open, word};
+use crate::{Receiver, Sender};
 use dr_core::Polled::{Batch, Drained, Gating, Idle};
 use dr_core::{Claimed, Inlet, Outlet, Polled, Refusal, Trouble};
 use dr_seq::Event;
+use std::alloc::Global;
+use std::process::Abort;
 use std::test::Fail;
 
 const fn refused(refusal: Refusal) -> Trouble {
     Trouble::Refused(refusal)
+}
+
+/// The sender of a ring of one slot, and its receivers, of which the second follows the first.
+fn chained(rt: &impl Abort, alloc: Global) -> Result<(Sender, Receiver, Receiver), Fail> {
+    let ends = open(alloc, &chain(alloc)?, 1)?;
+    let mut receivers = ends.receivers;
+    let b = receivers.pop().expect(rt, "two receivers");
+    let a = receivers.pop().expect(rt, "two receivers");
+    Ok((ends.sender, a, b))
 }
 
 /// Claims, writes and publishes one event, and tells what each call answered.
@@ -38,11 +50,7 @@ fn taken<O: Outlet>(
 
 #[test]
 fn ends_by_their_traits(rt: HostRuntime) -> Result<(), Fail> {
-    let ends = open(rt.alloc(), &chain(rt.alloc())?, 1)?;
-    let mut sender = ends.sender;
-    let mut receivers = ends.receivers;
-    let mut b = receivers.pop().expect(&rt, "two receivers");
-    let mut a = receivers.pop().expect(&rt, "two receivers");
+    let (mut sender, mut a, mut b) = chained(&rt, rt.alloc())?;
     let mut out = [Event::NONE; 1];
 
     assert_eq!(rt; taken(&mut a, &mut out, 0), (Ok(Idle), Ok(())));
@@ -68,19 +76,15 @@ fn ends_by_their_traits(rt: HostRuntime) -> Result<(), Fail> {
     assert_eq!(rt; out, [word(7)]);
     assert_eq!(rt; a.complete(1), Ok(()));
     assert_eq!(rt; taken(&mut b, &mut out, 1), (one, Ok(())));
+    let behind = Err(refused(Refusal::Behind));
     assert_eq!(rt;
         taken(&mut b, &mut [], 0),
-        (
-            Err(refused(Refusal::BadCount)),
-            Err(refused(Refusal::Behind))
-        )
+        (Err(refused(Refusal::BadCount)), behind)
     );
     assert_eq!(rt; sender.close(), Ok(()));
     assert_eq!(rt; taken(&mut a, &mut out, 1), (Ok(Drained), Ok(())));
-    assert_eq!(rt;
-        Inlet::try_claim(&mut sender, 1),
-        Err(refused(Refusal::Halted))
-    );
+    let halted = Err(refused(Refusal::Halted));
+    assert_eq!(rt; Inlet::try_claim(&mut sender, 1), halted);
     Ok(())
 }
 
@@ -120,11 +124,7 @@ fn take_some<O: Outlet>(outlet: &mut O, buffer: &mut [Event]) -> Result<bool, Tr
 
 #[test]
 fn handed_over_by_traits(rt: HostRuntime) -> Result<(), Fail> {
-    let ends = open(rt.alloc(), &chain(rt.alloc())?, 1)?;
-    let mut sender = ends.sender;
-    let mut receivers = ends.receivers;
-    let mut b = receivers.pop().expect(&rt, "two receivers");
-    let mut a = receivers.pop().expect(&rt, "two receivers");
+    let (mut sender, mut a, mut b) = chained(&rt, rt.alloc())?;
     let mut out = [Event::NONE; 2];
 
     assert_eq!(rt; send_one(&mut sender, word(7)), Ok(true));
