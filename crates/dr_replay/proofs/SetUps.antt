@@ -10,7 +10,7 @@ use Rattle.dr_replay.specs.declared.fault.RecordFault.{RecordFault}
 use Rattle.dr_replay.specs.declared.fault.RecordFault.TheVariants as fault
 use Rattle.dr_replay.proofs.Runs.{says-end, says-err, says-ok}
 
--- the records that a setup has come to, after which there are others
+-- the first of the records that are left goes on with the setup, opens an exchange, or is at fault
 pub setup-goes : (whole : DriveText) (k : ℕ) (s s2 : Stage) (left : List Record) (row : Record) (rest : List Record) → whole ≡ text_from k (Preparing s) left → left ≡ row ∷ rest
     → prepared s row ≡ Ok (Goes s2) → whole ≡ text_from (k + 1) (Preparing s2) rest
 setup-goes whole k s s2 left row rest is cut e =
