@@ -20,7 +20,8 @@ pub(crate) fn owner_of(mode: Mode, owners: &[u64], size: Size, s: u64) -> u64
     }
 }
 
-/// Leaves a producer's number in the slots of a stretch of sequences, where there are several producers.
+/// Leaves a producer's number in the slots of a stretch of sequences, where there are several
+/// producers.
 pub(crate) fn own(mode: Mode, owners: &mut [u64], size: Size, from: u64, n: u64, p: u64)
     requires some { 0 < size }
     requires slots { HasOwners mode owners.old size }

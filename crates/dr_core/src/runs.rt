@@ -18,7 +18,8 @@ pub struct Ran {
     pub values: Vec<Event>,
 }
 
-/// Runs commands in order, whatever they are answered. All memory is taken before the first command.
+/// Runs commands in order, whatever they are answered. All memory is taken before the first
+/// command.
 pub fn run(alloc: Global, core: &mut Core, commands: &[Command]) -> Result<Ran, AllocError>
     ensures lawful { IfOk result (λ ran. (t : Transcript) (m : State) → LeadsTo core.old.setup t m → Shows core.old m → RunsTo core.old.setup (t ++ transcript_of commands.now ran.replies.items ran.values.items) core.new) }
     ensures replies { IfOk result (λ ran. length ran.replies.items ≡ length commands.now) }
