@@ -1,8 +1,7 @@
 -- Names that are added at the end.
-use Rattle.std.proofs.Common.{◌≡◌, ℕ, ◌+◌, ◌<◌, ◌≤◌, inl, inr, List, [], ◌∷◌, ◌++◌, true, false, refl, sym, ◌∙◌, ap, subst, map, take, drop, length, get_or, append_assoc, append-nil, drop-cons, add-one, String, Global}
+use Rattle.std.proofs.Common.{◌≡◌, ℕ, ◌+◌, ◌<◌, ◌≤◌, inl, inr, List, [], ◌∷◌, ◌++◌, true, false, sym, ◌∙◌, ap, subst, map, drop, length, get_or, append_assoc, append-nil, drop-cons, add-one, String, Global}
 use Rattle.std.proofs.lemmas.Bool.{cases_Bool, cond-true, cond-false}
 use Rattle.std.proofs.lemmas.List.{map_push, drop_all}
-use Rattle.std.proofs.Math.Seq.{take-append_seam}
 use Rattle.std.specs.List.{list_any}
 use Rattle.std.specs.String.{string_bytes, string_eq}
 use Rattle.indexmap.specs.IndexSet.{insert_key}
@@ -18,9 +17,6 @@ pub record IsAdding (old keys : List (String Global)) (left : List Name) (all : 
   pub extra : List (String Global)
   pub keys_are : keys ≡ old ++ extra
   pub whole : texts keys ++ new_names (texts keys) left ≡ texts old ++ new_names (texts old) all
-
-pub adding_begins : (old : List (String Global)) (all : List Name) → IsAdding old old all all
-adding_begins old all = record { extra = []; keys_are = sym (append-nil old); whole = refl }
 
 known_key : (keys : List (String Global)) (k : String Global) → is_named (texts keys) (string_bytes k) ≡ true → insert_key string_eq keys k ≡ keys
 known_key keys k known = cond-true (list_any (string_eq k) keys) keys (keys ++ k ∷ []) (sym (any_map text keys (string_bytes k)) ∙ known)
@@ -53,9 +49,6 @@ adding_next old keys after name left all k was same e =
                 ∙ was.whole;
           })
     ]
-
-pub adding_kept : (old keys : List (String Global)) (left all : List Name) → IsAdding old keys left all → take (length old) keys ≡ old
-adding_kept old keys left all was = ap (take (length old)) was.keys_are ∙ take-append_seam old was.extra
 
 pub adding_done : (old keys : List (String Global)) (left all : List Name) → IsAdding old keys left all → left ≡ [] → texts keys ≡ texts old ++ new_names (texts old) all
 adding_done old keys left all was none =

@@ -3,7 +3,6 @@ use Rattle.std.proofs.Common.{◌≡◌, ℕ, ◌<◌, ◌≤◌, inl, inr, List
 use Rattle.std.proofs.lemmas.Bool.{cases_order}
 use Rattle.std.proofs.lemmas.List.{get_or-map, length-map}
 use Rattle.std.specs.Prelude.{slice_index_or}
-use Rattle.dr_graph.specs.declared.name.TheConstants.{MAX_HANDLERS}
 use Rattle.dr_graph.specs.Name.{Name, AreDistinct}
 use Rattle.dr_graph.specs.Order.{IsBuiltOrder}
 use Rattle.dr_graph.specs.Declaration.{Declaration}
@@ -44,7 +43,7 @@ pub graph_lawful : (d : Declaration) (order : List ℕ) (names : List Name) (lis
 graph_lawful d order names lists is =
     let some = is.some in
     let same = is.same in
-    let few : length d.names ≤ MAX_HANDLERS = is.declared.few in
+    let few : length d.names ≤ 16 = is.declared.few in
     let whole : length order ≡ length d.names = is.built.length in
     record {
       some = omega arith;

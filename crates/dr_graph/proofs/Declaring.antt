@@ -6,7 +6,6 @@ use Rattle.std.proofs.lemmas.List.Folds.{list_any-append}
 use Rattle.std.specs.Prelude.{◌==◌, ◌&&◌, ◌||◌}
 use Rattle.std.specs.List.{list_all, range_with_len}
 use Rattle.dr_graph.specs.declared.edge.Edge.{Edge}
-use Rattle.dr_graph.specs.declared.name.TheConstants.{MAX_HANDLERS}
 use Rattle.dr_graph.specs.Name.{Name, texts, given, AreDistinct, is_named, number_of}
 use Rattle.dr_graph.specs.Order.{is_upstream, AreWithin}
 use Rattle.dr_graph.specs.Declaration.{Declaration, name_faults, edges_to, edges_between}
@@ -21,7 +20,7 @@ within_more few many edges old le up down edge =
     (omega (arith, ends.0), omega (arith, ends.1))
 
 -- more names without fault, and edges between all of them
-pub declared_more : (d : Declaration) (more names : List Name) (edges : List Edge) → IsDeclaration d → name_faults d.names more ≡ None → length d.names + length more ≤ MAX_HANDLERS → names ≡ d.names ++ more → AreWithin (length d.names + length more) edges → IsDeclaration (record { names = names; edges = edges })
+pub declared_more : (d : Declaration) (more names : List Name) (edges : List Edge) → IsDeclaration d → name_faults d.names more ≡ None → length d.names + length more ≤ 16 → names ≡ d.names ++ more → AreWithin (length d.names + length more) edges → IsDeclaration (record { names = names; edges = edges })
 declared_more d more names edges old free room grown within =
     let count : length names ≡ length d.names + length more = ap length grown ∙ length-append d.names more in
     record {
@@ -76,7 +75,7 @@ within_between declared group count first (suc more) all le room =
     (within_between declared group count (first + 1) more all le (omega arith))
 
 -- the room that was tested for keys, told of their names
-pub room_of : (keys : List (String Global)) (names : List (Bor (List ℕ))) → length keys + length names ≤ MAX_HANDLERS → length (texts keys) + length (given names) ≤ MAX_HANDLERS
+pub room_of : (keys : List (String Global)) (names : List (Bor (List ℕ))) → length keys + length names ≤ 16 → length (texts keys) + length (given names) ≤ 16
 room_of keys names room =
     let a : length (texts keys) ≡ length keys = length-map keys text in
     let b : length (given names) ≡ length names = length-map names (λ (n : Bor (List ℕ)). n.now) in

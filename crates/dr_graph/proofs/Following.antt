@@ -1,5 +1,5 @@
 -- Edges to handlers that follow a group.
-use Rattle.std.proofs.Common.{◌≡◌, ℕ, zero, suc, ◌+◌, ◌-◌, ◌≤◌, List, [], ◌∷◌, ◌++◌, sym, ◌∙◌, ap, arith, append-nil}
+use Rattle.std.proofs.Common.{◌≡◌, ℕ, zero, suc, ◌+◌, ◌-◌, ◌≤◌, List, [], ◌∷◌, ◌++◌, ◌∙◌, ap, arith, append-nil}
 use Rattle.std.proofs.lemmas.Grind.{flat_map-append}
 use Rattle.std.specs.List.{range_with_len}
 use Rattle.dr_graph.specs.declared.edge.Edge.{Edge}
@@ -19,6 +19,3 @@ between_more ups first down le =
     ∙ ap (edges_between ups) (range_more first n)
     ∙ flat_map-append (edges_to ups) (range_with_len first n) ((first + n) ∷ [])
     ∙ ap (λ (es : List Edge). edges_between ups (range_with_len first n) ++ es) (append-nil (edges_to ups (first + n)) ∙ ap (edges_to ups) last)
-
-pub between_none : (ups : List ℕ) (first : ℕ) (edges : List Edge) → edges ≡ edges ++ edges_between ups (range_with_len first (first - first))
-between_none ups first edges = sym (ap (λ (k : ℕ). edges ++ edges_between ups (range_with_len first k)) (let e : first - first ≡ 0 = omega arith in e) ∙ append-nil edges)

@@ -5,7 +5,6 @@ use Rattle.std.specs.Option.{option_or}
 use Rattle.dr_graph.specs.declared.edge.Edge.{Edge}
 use Rattle.dr_graph.specs.declared.fault.GraphFault.{GraphFault}
 use Rattle.dr_graph.specs.declared.fault.GraphFault.TheVariants.{BadName, Duplicate, Stranger, TooMany, EmptyGroup}
-use Rattle.dr_graph.specs.declared.name.TheConstants.{MAX_HANDLERS}
 use Rattle.dr_graph.specs.Name.{Name, is_good_name, is_named, number_of}
 use Rattle.dr_graph.specs.Order.{is_upstream}
 
@@ -28,7 +27,7 @@ abbrev pub none_fault : List Name → Option GraphFault
 none_fault names = if length names == 0 then Some EmptyGroup else None
 
 abbrev pub many_fault : ℕ → Option GraphFault
-many_fault total = if nat_lt MAX_HANDLERS total then Some TooMany else None
+many_fault total = if nat_lt 16 total then Some TooMany else None
 
 -- what refuses to declare names: that there are none, then each name in order, then that there are too many in all
 abbrev pub declaring_fault : List Name → List Name → Option GraphFault

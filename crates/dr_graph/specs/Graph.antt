@@ -3,7 +3,6 @@ use Rattle.std.specs.Prelude.{◌≡◌, ℕ, ◌<◌, ◌≤◌, ◌==◌, Bool
 use Rattle.std.specs.List.{list_any, range_with_len}
 use Rattle.std.specs.List.Sorted.{IsStrictlyIncreasing}
 use Rattle.dr_graph.specs.declared.edge.Edge.{Edge}
-use Rattle.dr_graph.specs.declared.name.TheConstants.{MAX_HANDLERS}
 use Rattle.dr_graph.specs.Name.{Name}
 use Rattle.dr_graph.specs.Order.{is_upstream, IsBuiltOrder}
 use Rattle.dr_graph.specs.Declaration.{Declaration}
@@ -44,7 +43,7 @@ FinalsGate graph = (counts : ℕ → ℕ) → IsOrderly graph counts → (h : �
 -- what is so of every graph
 pub record IsGraph (graph : List (List ℕ)) : Type 0 where
   pub some : 0 < length graph
-  pub few : length graph ≤ MAX_HANDLERS
+  pub few : length graph ≤ 16
   pub layered : IsLayered graph
   pub rising : (h : ℕ) → IsStrictlyIncreasing (upstreams_of graph h)
   pub gate : FinalsGate graph

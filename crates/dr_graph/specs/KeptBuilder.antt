@@ -1,7 +1,6 @@
 -- What a builder keeps, and what contracts see of it.
 use Rattle.std.specs.Prelude.{◌≤◌, length}
 use Rattle.dr_graph.specs.declared.builder.GraphBuilder.TheInside.{Inside}
-use Rattle.dr_graph.specs.declared.name.TheConstants.{MAX_HANDLERS}
 use Rattle.dr_graph.specs.Name.{texts, AreDistinct}
 use Rattle.dr_graph.specs.Order.{AreWithin}
 use Rattle.dr_graph.specs.Declaration.{Declaration}
@@ -11,7 +10,7 @@ declaration_of a = record { names = texts a.names.keys; edges = a.edges.items }
 
 -- names are few and distinct, and both ends of each edge are declared
 pub record IsDeclaration (d : Declaration) : Type 0 where
-  pub few : length d.names ≤ MAX_HANDLERS
+  pub few : length d.names ≤ 16
   pub distinct : AreDistinct d.names
   pub within : AreWithin (length d.names) d.edges
 

@@ -5,7 +5,6 @@ use Rattle.std.specs.Char.{is_ascii_alphanumeric}
 use Rattle.std.specs.Str.{bytes_eq}
 use Rattle.std.specs.Borrow.{Bor}
 use Rattle.std.specs.declared.alloc.Global.{Global}
-use Rattle.dr_graph.specs.declared.name.TheConstants.{MAX_NAME_LEN}
 
 abbrev pub Name : Type 0
 Name = List ℕ
@@ -23,7 +22,7 @@ abbrev pub is_name_byte : ℕ → Bool
 is_name_byte b = is_ascii_alphanumeric b || b == 95 || b == 45
 
 abbrev pub is_good_name : Name → Bool
-is_good_name name = nat_le 1 (length name) && nat_le (length name) MAX_NAME_LEN && list_all is_name_byte name
+is_good_name name = nat_le 1 (length name) && nat_le (length name) 32 && list_all is_name_byte name
 
 abbrev pub is_named : List Name → Name → Bool
 is_named names name = list_any (bytes_eq name) names
