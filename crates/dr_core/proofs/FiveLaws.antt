@@ -10,10 +10,11 @@ use Rattle.dr_core.specs.declared.command.Reply.TheVariants.{Claimed, Drained, G
 use Rattle.dr_graph.specs.Graph.{finals}
 use Rattle.dr_core.specs.Machine.{Setup, State, Outcome, handlers, next, front, available, least_completed, refusals, accepted, unchanged, step, batch, cursor, opening}
 use Rattle.dr_core.specs.Transcript.{Entry, Transcript, LeadsFrom, LeadsTo, next_of, is_published, front_of, taken_by, completed_by}
+use Rattle.dr_core.specs.Tells.{Tells}
 use Rattle.dr_core.specs.Laws.{ReceivedInOrder, AfterUpstreams, HasRoom, NoClaimAfterHalt, DrainedIsComplete, Laws}
 use Rattle.dr_core.proofs.Leasts.{least_is, least_agree, least_of-member}
 use Rattle.dr_core.proofs.Steps.{NoneHold, unless-cases}
-use Rattle.dr_core.proofs.Tells.{Tells, tells_more}
+use Rattle.dr_core.proofs.Tells.{tells_more}
 use Rattle.dr_core.proofs.Sound.{IsSound, entry_of, step_changes, set_count}
 use Rattle.dr_core.proofs.Keeps.{opening_sound, step_sound, zeros}
 
@@ -27,6 +28,7 @@ opening_reached c = record {
   sound = opening_sound c;
   tells = record {
     next = refl;
+    owners = λ s. refl;
     published = λ s. refl;
     written = λ s. refl;
     events = λ s h. refl;

@@ -5,7 +5,7 @@ use Rattle.std.proofs.lemmas.List.{append-nil}
 use Rattle.std.proofs.lemmas.List.Sums.{fold-append}
 use Rattle.std.proofs.lemmas.List.Folds.{list_any-append}
 use Rattle.std.proofs.lemmas.Grind.{flat_map-append}
-use Rattle.dr_core.specs.Transcript.{Entry, Transcript, claimed_below, next_of, first_of, wrote, covers, is_published, before_published, last_written, batch_to, received_by, completion, completed_by, halts, is_halted}
+use Rattle.dr_core.specs.Transcript.{Entry, Transcript, claimed_below, next_of, owner_of, claimant, first_of, wrote, covers, is_published, before_published, last_written, batch_to, received_by, completion, completed_by, halts, is_halted}
 
 pub or-false : (b : Bool) → (b || false) ≡ b
 or-false true = refl
@@ -13,6 +13,9 @@ or-false false = refl
 
 pub next_push : (t : Transcript) (e : Entry) → next_of (t ++ e ∷ []) ≡ max (next_of t) (claimed_below e.reply)
 next_push t e = fold-append _ 0 t (e ∷ [])
+
+pub owner_push : (t : Transcript) (e : Entry) (s : ℕ) → owner_of (t ++ e ∷ []) s ≡ first_of (owner_of t s) (claimant e.reply e.command s)
+owner_push t e s = fold-append _ None t (e ∷ [])
 
 pub published_push : (t : Transcript) (e : Entry) (s : ℕ) → is_published (t ++ e ∷ []) s ≡ (is_published t s || covers e.reply e.command s)
 published_push t e s = list_any-append _ t (e ∷ []) ∙ ap (λ b. is_published t s || b) (or-false _)
@@ -36,12 +39,6 @@ before_kept (x ∷ xs) e s h =
     elim (cases_Bool (covers x.reply x.command s)) [ inl y ↦ rw (y) | inr n ↦ rw (n) (ap (λ r. x ∷ r) (before_kept xs e s (rw n at h))) ]
 
 -- until then they are all entries
-pub before_all : (t : Transcript) (s : ℕ) → is_published t s ≡ false → before_published t s ≡ t
-before_all [] s h = refl
-before_all (x ∷ xs) s h =
-    let parts : (covers x.reply x.command s ≡ false) × (is_published xs s ≡ false) = or_parts _ _ h in
-    rw (parts.0) (ap (λ r. x ∷ r) (before_all xs s parts.1))
-
 pub before_now : (t : Transcript) (e : Entry) (s : ℕ) → is_published t s ≡ false → covers e.reply e.command s ≡ true → before_published (t ++ e ∷ []) s ≡ t
 before_now [] e s h c = rw c
 before_now (x ∷ xs) e s h c =

@@ -1,25 +1,25 @@
 -- What every state of the machine keeps, and that each command changes it as its entry says.
-use Rattle.std.proofs.Common.{◌≡◌, ℕ, ◌+◌, ◌-◌, ◌<◌, ◌≤◌, ◌≢◌, inl, inr, min, max, Bool, true, false, cond, ◌||◌, ◌&&◌, List, [], ◌∷◌, arith, refl, ap, sym, ◌∙◌, length, map, replicate, Option, unwrap_or, Some, None, slice_index, slice_set, add-zero}
+use Rattle.std.proofs.Common.{◌≡◌, ℕ, ◌+◌, ◌-◌, ◌<◌, ◌≤◌, ◌≢◌, inl, inr, min, max, Bool, true, false, cond, ◌||◌, ◌&&◌, List, [], ◌∷◌, ◌++◌, arith, refl, ap, sym, ◌∙◌, length, map, replicate, Option, unwrap_or, Some, None, slice_index, slice_set, add-zero}
 use Rattle.std.specs.Prelude.{slice_get, Contains, ◌==◌, nat_lt, is_none}
 use Rattle.std.specs.List.{range_with_len}
-use Rattle.std.proofs.lemmas.Bool.{cond_both, cases_Bool, or_parts, false≢true, eqb-true, eqb-false}
+use Rattle.std.proofs.lemmas.Bool.{cond_both, cond-true, cond-false, cases_Bool, cases_lt, le-leb, lt-leb, or_parts, false≢true, eqb-true, eqb-false}
 use Rattle.std.proofs.lemmas.Bool.Decides.{nat_tests}
-use Rattle.std.proofs.lemmas.List.{length-append, length-replicate, get_or-set_same, get_or-set_other}
+use Rattle.std.proofs.lemmas.List.{length-append, length-replicate, get_or-replicate, get_or-set_same, get_or-set_other}
 use Rattle.std.proofs.lemmas.List.FromFn.{length-map-range_with_len, get_or-map-range_with_len}
-use Rattle.std.proofs.lemmas.Option.{slice_get-get_or}
+use Rattle.std.proofs.lemmas.Option.{slice_get-get_or, slice_get_past}
 use Rattle.dr_core.specs.declared.command.Command.{Command}
 use Rattle.dr_core.specs.declared.command.Command.TheVariants.{Claim, Write, Publish, Poll, Complete, Halt}
 use Rattle.dr_core.specs.declared.command.Reply.{Reply}
-use Rattle.dr_core.specs.declared.command.Reply.TheVariants.{Drained, Gating, Idle, Refused}
+use Rattle.dr_core.specs.declared.command.Reply.TheVariants.{Claimed, Drained, Gating, Idle, Refused}
 use Rattle.dr_seq.specs.declared.event.Event.{Event}
 use Rattle.dr_seq.specs.Event.{no_event}
 use Rattle.dr_graph.specs.Graph.{upstreams_of, least_of}
 use Rattle.dr_core.specs.Machine.{Setup, State, Outcome, handlers, next, front, available, offered, refusals, accepted, step, batch, cursor}
-use Rattle.dr_core.specs.Transcript.{Entry, claimed_below, first_of, wrote, covers, batch_to, completion, halts}
+use Rattle.dr_core.specs.Transcript.{Entry, claimed_below, claimant, first_of, wrote, covers, batch_to, completion, halts}
 use Rattle.dr_core.proofs.Leasts.{least_is, least_of-le}
 use Rattle.dr_core.proofs.Pushes.{or-false}
 use Rattle.dr_core.proofs.Steps.{NoneHold, unless-cases}
-use Rattle.dr_core.proofs.Tells.{Changes}
+use Rattle.dr_core.proofs.Tells.{Changes, slice_get-append_left, slice_get-append_right}
 
 pub record IsSound (c : Setup) (m : State) : Type 0 where
   pub claimed : (s : ℕ) → m.published s ≡ true → s < next m
@@ -41,12 +41,14 @@ below_front c m sound h k l =
 -- what an entry says that writes nothing and hands nothing out
 unwritten : (c : Setup) (m n : State) (e : Entry) → IsSound c m → ((s : ℕ) → wrote e.reply e.command s ≡ None) → ((h : ℕ) → batch_to h e.reply e.command e.values ≡ []) → n.written ≡ m.written → n.taken ≡ m.taken
     → next n ≡ max (next m) (claimed_below e.reply)
+    → ((s : ℕ) → slice_get n.owners s ≡ first_of (slice_get m.owners s) (claimant e.reply e.command s))
     → ((s : ℕ) → n.published s ≡ (m.published s || covers e.reply e.command s))
     → ((h : ℕ) → slice_index n.completed h ≡ unwrap_or (completion h e.reply e.command) (slice_index m.completed h))
     → n.halted ≡ (m.halted || halts e.reply)
     → Changes m e n
-unwritten c m n e sound none no_batch written taken next published completed halted = record {
+unwritten c m n e sound none no_batch written taken next owners published completed halted = record {
   next = next;
+  owners = owners;
   published = published;
   written = λ s. rw (none s, written);
   taken = λ h. rw (no_batch h, taken) (sym (add-zero _));
@@ -58,15 +60,36 @@ unwritten c m n e sound none no_batch written taken next published completed hal
   in_front = λ h k l. below_front c m sound h k (rw taken at l);
 }
 
+first_of-none : {A : Type 0} (a : Option A) → a ≡ first_of a None
+first_of-none None = refl
+first_of-none (Some x) = refl
+
 -- a reply that changes nothing
-quiet : (c : Setup) (m : State) (command : Command) (r : Reply) → IsSound c m → claimed_below r ≡ 0 → ((s : ℕ) → covers r command s ≡ false) → ((s : ℕ) → wrote r command s ≡ None) → ((h : ℕ) → batch_to h r command [] ≡ []) → ((h : ℕ) → completion h r command ≡ None) → halts r ≡ false → Changes m (record { command = command; reply = r; values = [] }) m
-quiet c m command r sound a b d e f g =
-    unwritten c m m (record { command = command; reply = r; values = [] }) sound d e refl refl (rw a (omega arith)) (λ s. rw (b s) (sym (or-false _))) (λ h. rw (f h)) (rw g (sym (or-false _)))
+quiet : (c : Setup) (m : State) (command : Command) (r : Reply) → IsSound c m → claimed_below r ≡ 0 → ((s : ℕ) → claimant r command s ≡ None) → ((s : ℕ) → covers r command s ≡ false) → ((s : ℕ) → wrote r command s ≡ None) → ((h : ℕ) → batch_to h r command [] ≡ []) → ((h : ℕ) → completion h r command ≡ None) → halts r ≡ false → Changes m (record { command = command; reply = r; values = [] }) m
+quiet c m command r sound a o b d e f g =
+    unwritten c m m (record { command = command; reply = r; values = [] }) sound d e refl refl (rw a (omega arith)) (λ s. rw (o s) (first_of-none _)) (λ s. rw (b s) (sym (or-false _))) (λ h. rw (f h)) (rw g (sym (or-false _)))
+
+-- the owners after a claim
+claim_owners : (owners : List ℕ) (n p s : ℕ) → n ≢ 0 → slice_get (owners ++ replicate n p) s ≡ first_of (slice_get owners s) (claimant (Claimed (length owners) (length owners + n - 1)) (Claim p n) s)
+claim_owners owners n p s some =
+    elim (cases_lt s (length owners)) [
+      | inl old ↦ slice_get-append_left owners (replicate n p) s old ∙ rw (slice_get-get_or owners s 0 old) refl
+      | inr new ↦
+          let at : length owners + (s - length owners) ≡ s = omega arith in
+          let len : length (replicate n p) ≡ n = length-replicate n p in
+          ap (slice_get (owners ++ replicate n p)) (sym at)
+          ∙ slice_get-append_right owners (replicate n p) (s - length owners) (length owners) refl
+          ∙ rw (slice_get_past owners s new, le-leb _ _ new)
+          (elim (cases_lt s (length owners + n)) [
+            | inl within ↦ slice_get-get_or (replicate n p) (s - length owners) 0 (omega arith) ∙ ap Some (get_or-replicate n (s - length owners) p 0 (omega arith)) ∙ sym (cond-true _ _ _ (let l : s ≤ length owners + n - 1 = omega arith in le-leb _ _ l))
+            | inr past ↦ slice_get_past (replicate n p) (s - length owners) (omega arith) ∙ sym (cond-false _ _ _ (let l : length owners + n - 1 < s = omega arith in lt-leb _ _ l))
+          ])
+    ]
 
 claim_changes : (c : Setup) (m : State) (p n : ℕ) → IsSound c m → NoneHold (refusals c m (Claim p n)) → Changes m (entry_of (Claim p n) (accepted c m (Claim p n))) (accepted c m (Claim p n)).state
 claim_changes c m p n sound none =
     let some : n ≢ 0 = eqb-false n 0 (or_parts _ _ none.1.0).0 in
-    unwritten c m _ _ sound (λ s. refl) (λ h. refl) refl refl (length-append m.owners (replicate n p) ∙ ap (λ k. length m.owners + k) (length-replicate n p) ∙ omega arith) (λ s. sym (or-false _)) (λ h. refl) (sym (or-false _))
+    unwritten c m _ _ sound (λ s. refl) (λ h. refl) refl refl (length-append m.owners (replicate n p) ∙ ap (λ k. length m.owners + k) (length-replicate n p) ∙ omega arith) (λ s. claim_owners m.owners n p s some) (λ s. sym (or-false _)) (λ h. refl) (sym (or-false _))
 
 first_of-if : {A : Type 0} (b : Bool) (v : A) (w : Option A) → cond b (Some v) w ≡ first_of (cond b (Some v) None) w
 first_of-if true v w = refl
@@ -75,6 +98,7 @@ first_of-if false v w = refl
 write_changes : (c : Setup) (m : State) (p at : ℕ) (v : Event) → IsSound c m → NoneHold (refusals c m (Write p at v)) → Changes m (entry_of (Write p at v) (accepted c m (Write p at v))) (accepted c m (Write p at v)).state
 write_changes c m p at v sound none = record {
   next = omega arith;
+  owners = λ s. first_of-none _;
   published = λ s. sym (or-false _);
   written = λ s. first_of-if (s == at) v (m.written s);
   taken = λ h. sym (add-zero _);
@@ -90,7 +114,7 @@ write_changes c m p at v sound none = record {
 }
 
 publish_changes : (c : Setup) (m : State) (p lo hi : ℕ) → IsSound c m → Changes m (entry_of (Publish p lo hi) (accepted c m (Publish p lo hi))) (accepted c m (Publish p lo hi)).state
-publish_changes c m p lo hi sound = unwritten c m _ _ sound (λ s. refl) (λ h. refl) refl refl (omega arith) (λ s. refl) (λ h. refl) (sym (or-false _))
+publish_changes c m p lo hi sound = unwritten c m _ _ sound (λ s. refl) (λ h. refl) refl refl (omega arith) (λ s. first_of-none _) (λ s. refl) (λ h. refl) (sym (or-false _))
 
 unwrap-if : {A : Type 0} (b : Bool) (v w : A) → cond b v w ≡ unwrap_or (cond b (Some v) None) w
 unwrap-if true v w = refl
@@ -107,14 +131,14 @@ complete_changes : (c : Setup) (m : State) (at upto : ℕ) → IsSound c m → N
 complete_changes c m at upto sound none =
     let inside : at < handlers c = grind (arith, nat_tests, none.0) in
     let len : length m.completed ≡ handlers c = sound.completed_len in
-    unwritten c m _ _ sound (λ s. refl) (λ h. refl) refl refl (omega arith) (λ s. sym (or-false _)) (λ h. set_count m.completed at upto h (omega arith) ∙ unwrap-if (h == at) upto (slice_index m.completed h)) (sym (or-false _))
+    unwritten c m _ _ sound (λ s. refl) (λ h. refl) refl refl (omega arith) (λ s. first_of-none _) (λ s. sym (or-false _)) (λ h. set_count m.completed at upto h (omega arith) ∙ unwrap-if (h == at) upto (slice_index m.completed h)) (sym (or-false _))
 
 or-true : (b : Bool) → true ≡ (b || true)
 or-true true = refl
 or-true false = refl
 
 halt_changes : (c : Setup) (m : State) → IsSound c m → Changes m (entry_of Halt (accepted c m Halt)) (accepted c m Halt).state
-halt_changes c m sound = unwritten c m _ _ sound (λ s. refl) (λ h. refl) refl refl (omega arith) (λ s. sym (or-false _)) (λ h. refl) (or-true m.halted)
+halt_changes c m sound = unwritten c m _ _ sound (λ s. refl) (λ h. refl) refl refl (omega arith) (λ s. first_of-none _) (λ s. sym (or-false _)) (λ h. refl) (or-true m.halted)
 
 -- no handler is offered more than is published
 pub offered-le : (c : Setup) (m : State) → IsSound c m → (hs : List ℕ) → offered m hs ≤ front m
@@ -159,6 +183,7 @@ module _ (c : Setup) (m : State) (at limit : ℕ) (sound : IsSound c m) (inside 
   batch_changes : slice_index m.taken at < available c m at → Changes m (entry_of (Poll at limit) (batch c m at limit)) (batch c m at limit).state
   batch_changes more = record {
     next = omega arith;
+    owners = λ s. first_of-none _;
     published = λ s. sym (or-false _);
     written = λ s. refl;
     taken = λ h. set_count m.taken at (slice_index m.taken at + count_of c m at limit) h within ∙ cond_both (h == at) (values_of c m at limit) [] (λ vs. cond (h == at) (slice_index m.taken at + count_of c m at limit) (slice_index m.taken h) ≡ slice_index m.taken h + length vs)
@@ -183,10 +208,10 @@ poll_changes c m at limit sound none =
     cond_both (nat_lt (slice_index m.taken at) (available c m at)) _ _ P
     (λ y. batch_changes c m at limit sound (grind (arith, nat_tests, none.0)) (grind (arith, nat_tests, y)))
     (λ n. cond_both (m.halted && (slice_index m.taken at == next m)) _ _ P
-    (λ y. quiet c m (Poll at limit) Drained sound refl (λ s. refl) (λ s. refl) (λ s. refl) (λ s. refl) refl)
+    (λ y. quiet c m (Poll at limit) Drained sound refl (λ s. refl) (λ s. refl) (λ s. refl) (λ s. refl) (λ s. refl) refl)
     (λ n'. cond_both (nat_lt (slice_index m.taken at) (cursor c m)) _ _ P
-    (λ y. quiet c m (Poll at limit) Gating sound refl (λ s. refl) (λ s. refl) (λ s. refl) (λ s. refl) refl)
-    (λ n''. quiet c m (Poll at limit) Idle sound refl (λ s. refl) (λ s. refl) (λ s. refl) (λ s. refl) refl)))
+    (λ y. quiet c m (Poll at limit) Gating sound refl (λ s. refl) (λ s. refl) (λ s. refl) (λ s. refl) (λ s. refl) refl)
+    (λ n''. quiet c m (Poll at limit) Idle sound refl (λ s. refl) (λ s. refl) (λ s. refl) (λ s. refl) (λ s. refl) refl)))
 
 accepted_changes : (c : Setup) (m : State) (command : Command) → IsSound c m → NoneHold (refusals c m command) → Changes m (entry_of command (accepted c m command)) (accepted c m command).state
 accepted_changes c m (Claim p n) sound none = claim_changes c m p n sound none
@@ -200,5 +225,5 @@ accepted_changes c m Halt sound none = halt_changes c m sound
 pub step_changes : (c : Setup) (m : State) (command : Command) → IsSound c m → Changes m (entry_of command (step c m command)) (step c m command).state
 step_changes c m command sound =
     unless-cases (λ o. Changes m (entry_of command o) o.state) (refusals c m command) m (accepted c m command)
-    (λ r. quiet c m command (Refused r) sound refl (λ s. refl) (λ s. refl) (λ s. refl) (λ s. refl) refl)
+    (λ r. quiet c m command (Refused r) sound refl (λ s. refl) (λ s. refl) (λ s. refl) (λ s. refl) (λ s. refl) refl)
     (accepted_changes c m command sound)

@@ -5,22 +5,14 @@ use Rattle.std.proofs.lemmas.Bool.{cases_Bool, or_cases, false≢true, cases_lt}
 use Rattle.std.proofs.lemmas.List.{length-append}
 use Rattle.std.proofs.Math.Nat.{suc-add}
 use Rattle.dr_core.specs.Machine.{State, next}
-use Rattle.dr_core.specs.Transcript.{Entry, Transcript, claimed_below, next_of, first_of, wrote, covers, is_published, last_written, event_of, batch_to, received_by, taken_by, completion, completed_by, halts, is_halted}
-use Rattle.dr_core.proofs.Pushes.{next_push, published_push, halted_push, written_push, received_push, completed_push, before_kept, before_now}
-
-pub record Tells (t : Transcript) (m : State) : Type 0 where
-  pub next : next_of t ≡ next m
-  pub published : (s : ℕ) → is_published t s ≡ m.published s
-  pub written : (s : ℕ) → last_written t s ≡ m.written s
-  pub events : (s : ℕ) → m.published s ≡ true → event_of t s ≡ m.written s
-  pub taken : (h : ℕ) → taken_by t h ≡ slice_index m.taken h
-  pub received : (h k : ℕ) → k < slice_index m.taken h → slice_get (received_by t h) k ≡ m.written k
-  pub completed : (h : ℕ) → completed_by t h ≡ slice_index m.completed h
-  pub halted : is_halted t ≡ m.halted
+use Rattle.dr_core.specs.Tells.{Tells}
+use Rattle.dr_core.specs.Transcript.{Entry, Transcript, claimed_below, next_of, claimant, first_of, wrote, covers, is_published, last_written, event_of, batch_to, received_by, taken_by, completion, completed_by, halts, is_halted}
+use Rattle.dr_core.proofs.Pushes.{next_push, owner_push, published_push, halted_push, written_push, received_push, completed_push, before_kept, before_now}
 
 -- a state that differs by what the entry says
 pub record Changes (m : State) (e : Entry) (n : State) : Type 0 where
   pub next : next n ≡ max (next m) (claimed_below e.reply)
+  pub owners : (s : ℕ) → slice_get n.owners s ≡ first_of (slice_get m.owners s) (claimant e.reply e.command s)
   pub published : (s : ℕ) → n.published s ≡ (m.published s || covers e.reply e.command s)
   pub written : (s : ℕ) → n.written s ≡ first_of (wrote e.reply e.command s) (m.written s)
   pub taken : (h : ℕ) → slice_index n.taken h ≡ slice_index m.taken h + length (batch_to h e.reply e.command e.values)
@@ -31,12 +23,12 @@ pub record Changes (m : State) (e : Entry) (n : State) : Type 0 where
   pub batch : (h k : ℕ) → k < length (batch_to h e.reply e.command e.values) → slice_get (batch_to h e.reply e.command e.values) k ≡ m.written (slice_index m.taken h + k)
   pub in_front : (h k : ℕ) → k < slice_index n.taken h → m.published k ≡ true
 
-slice_get-append_left : {X : Type 0} (xs ys : List X) (k : ℕ) → k < length xs → slice_get (xs ++ ys) k ≡ slice_get xs k
+pub slice_get-append_left : {X : Type 0} (xs ys : List X) (k : ℕ) → k < length xs → slice_get (xs ++ ys) k ≡ slice_get xs k
 slice_get-append_left [] ys k h = absurd (omega arith)
 slice_get-append_left (x ∷ xs) ys zero h = refl
 slice_get-append_left (x ∷ xs) ys (suc k) h = slice_get-append_left xs ys k (omega arith)
 
-slice_get-append_right : {X : Type 0} (xs ys : List X) (k n : ℕ) → length xs ≡ n → slice_get (xs ++ ys) (n + k) ≡ slice_get ys k
+pub slice_get-append_right : {X : Type 0} (xs ys : List X) (k n : ℕ) → length xs ≡ n → slice_get (xs ++ ys) (n + k) ≡ slice_get ys k
 slice_get-append_right [] ys k n e = rw (← e) (rw zero-add)
 slice_get-append_right (x ∷ xs) ys k n e = rw (← e) (rw suc-add (slice_get-append_right xs ys k (length xs) refl))
 
@@ -76,6 +68,7 @@ tells_received t m n e told d h k l =
 pub tells_more : (t : Transcript) (m n : State) (e : Entry) → Tells t m → Changes m e n → Tells (t ++ e ∷ []) n
 tells_more t m n e told d = record {
   next = next_push t e ∙ ap (λ k. max k (claimed_below e.reply)) told.next ∙ sym d.next;
+  owners = λ s. owner_push t e s ∙ ap (λ o. first_of o (claimant e.reply e.command s)) (told.owners s) ∙ sym (d.owners s);
   published = λ s. published_push t e s ∙ ap (λ b. b || covers e.reply e.command s) (told.published s) ∙ sym (d.published s);
   written = λ s. written_push t e s ∙ ap (λ w. first_of (wrote e.reply e.command s) w) (told.written s) ∙ sym (d.written s);
   events = tells_events t m n e told d;

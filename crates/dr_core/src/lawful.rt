@@ -3,9 +3,15 @@
 ghost use Rattle.dr_core.specs.Machine.{Setup, State};
 ghost use Rattle.dr_core.specs.Transcript.{Transcript, LeadsTo};
 ghost use Rattle.dr_core.specs.Laws.{Laws};
+ghost use Rattle.dr_core.specs.Tells.{Tells};
 
 /// Every transcript that leads from the opening to a state of the machine has the five laws, at
 /// each of its beginnings. It does nothing when it runs: the contract is the theorem.
 pub fn every_transcript_is_lawful()
     ensures { (c : Setup) (t : Transcript) (m : State) → LeadsTo c t m → Laws c t }
+{}
+
+/// What a transcript says, by its own entries, is what the state that it leads to has.
+pub fn every_transcript_tells_its_state()
+    ensures { (c : Setup) (t : Transcript) (m : State) → LeadsTo c t m → Tells t m }
 {}

@@ -25,6 +25,7 @@ pub fn run(alloc: Global, core: &mut Core, commands: &[Command]) -> Result<Ran, 
     ensures replies { IfOk result (λ ran. length ran.replies.items ≡ length commands.now) }
     ensures values { IfOk result (λ ran. length ran.values.items ≡ counts_of ran.replies.items) }
     ensures setup { core.new.setup ≡ core.old.setup }
+    ensures names { core.new.names ≡ core.old.names }
     ensures refused { OnErr result (core.new ≡ core.old) }
 {
     let size = core.size().get() as usize;

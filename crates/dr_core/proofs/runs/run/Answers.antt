@@ -12,6 +12,7 @@ use Rattle.dr_core.proofs.runs.run.Goals as goal
 pub loop-command-init : goal.loop-command-init
 loop-command-init c = record {
   same = refl;
+  names = refl;
   room = sym c.in_ok-buffer.buffer.ok.0 ∙ c.in_ok-buffer.ensures.len ∙ (c.get-size.ensures.value ∙ c.size.ensures);
   told = ap length c.in_ok-replies.ensures.items;
   counted = ap length c.in_ok-values.ensures.items ∙ sym (ap counts_of c.in_ok-replies.ensures.items);
@@ -35,6 +36,7 @@ loop-command-preserved c =
     let counted : length c.loop-command.values.items ≡ counts_of c.loop-command.replies.items = c.loop-command.invariant.counted in
     record {
       same = c.execute-reply.ensures.step.same_setup ∙ c.loop-command.invariant.same;
+      names = c.execute-reply.ensures.step.same_names ∙ c.loop-command.invariant.names;
       room = ap length (with_items_is c.loop-command.buffer c.execute-reply.new.out len) ∙ len ∙ c.loop-command.buffer.ok.0 ∙ c.loop-command.invariant.room;
       told = rw (replied, length_push) (ap (λ n. n + 1) told);
       counted = rw (valued, replied, more, length-append, counts-push, many) (ap (λ n. n + count_in c.execute-reply.result) counted);

@@ -8,6 +8,7 @@ use Rattle.dr_core.proofs.runs.run.Given as goal
 abbrev pub invariant-loop-command : goal.invariant-loop-command
 invariant-loop-command l = record {
   same : l.core.setup ≡ l.fn.core.setup;
+  names : l.core.names ≡ l.fn.core.names;
   room : length l.buffer.items ≡ l.fn.core.setup.size;
   told : length l.replies.items ≡ l.command-index;
   counted : length l.values.items ≡ counts_of l.replies.items;
