@@ -1,6 +1,6 @@
 -- The machine: what each call answers and leaves.
 -- Its lists, sets and maps go by sequence and have no bound; it has no slots, and uses nothing again.
-use Rattle.std.specs.Prelude.{ℕ, zero, suc, ◌+◌, ◌-◌, min, Bool, true, false, not, ◌&&◌, ◌||◌, ◌==◌, nat_lt, nat_le, if◌then◌else◌, Option, None, Some, is_none, unwrap_or, List, [], ◌∷◌, ◌++◌, length, map, flat_map, replicate, slice_index, slice_set}
+use Rattle.std.specs.Prelude.{ℕ, zero, suc, ◌+◌, ◌-◌, min, Bool, true, false, not, ◌&&◌, ◌||◌, ◌==◌, nat_lt, nat_le, if◌then◌else◌, Option, None, Some, is_none, unwrap_or, List, [], ◌∷◌, ◌++◌, length, map, replicate, slice_index, slice_set}
 use Rattle.std.specs.List.{range_with_len}
 use Rattle.dr_seq.specs.declared.event.Event.{Event}
 use Rattle.dr_seq.specs.Event.{no_event}
@@ -9,7 +9,7 @@ use Rattle.dr_core.specs.declared.mode.Mode.TheVariants.{Single, Multi}
 use Rattle.dr_core.specs.declared.command.Command.{Command}
 use Rattle.dr_core.specs.declared.command.Command.TheVariants.{Claim, Write, Publish, Poll, Complete, Halt}
 use Rattle.dr_core.specs.declared.refusal.Refusal.{Refusal}
-use Rattle.dr_core.specs.declared.refusal.Refusal.TheVariants.{NoRoom, Halted, BadCount, Exhausted, NotClaimed, AlreadyPublished, NotWritten, OutOfOrder, NotTaken, Behind, NoProducer, NoHandler}
+use Rattle.dr_core.specs.Refusals.{SequenceTests, claim_causes, write_causes, sequence_causes, publish_causes, poll_causes, complete_causes}
 use Rattle.dr_core.specs.declared.command.Reply.{Reply}
 use Rattle.dr_core.specs.declared.command.Reply.TheVariants.{Claimed, Written, Published, Batch, Drained, Gating, Idle, Completed, Halting, Refused}
 use Rattle.dr_graph.specs.Graph.{upstreams_of, finals, least_of}
@@ -84,37 +84,43 @@ available c m h = offered m (upstreams_of c.upstreams h)
 abbrev pub cursor : Setup → State → ℕ
 cursor c m = if is_single c.mode then front m else next m
 
+-- the tests of one sequence of a publication
+abbrev pub sequence_tests : State → ℕ → ℕ → SequenceTests Bool
+sequence_tests m p s =
+    record { published = m.published s; not_owned = not (slice_index m.owners s == p); unwritten = is_none (m.written s) }
+
 -- what refuses to publish one sequence, in order
 abbrev pub publish_faults : State → ℕ → ℕ → List (Bool × Refusal)
-publish_faults m p s =
-    (m.published s, AlreadyPublished) ∷ (not (slice_index m.owners s == p), NotClaimed) ∷ (is_none (m.written s), NotWritten) ∷ []
+publish_faults m p s = sequence_causes (sequence_tests m p s)
 
 -- what refuses a command, in order: the first test that holds is answered
 abbrev pub refusals : Setup → State → Command → List (Bool × Refusal)
-refusals c m (Claim p n) =
-    (nat_le (producers c.mode) p, NoProducer)
-    ∷ (n == 0 || nat_lt c.size n, BadCount)
-    ∷ (m.halted, Halted)
-    ∷ (nat_lt c.limit (next m + n), Exhausted)
-    ∷ (nat_lt (c.size + least_completed m (finals c.upstreams)) (next m + n), NoRoom)
-    ∷ []
-refusals c m (Write p s event) =
-    (nat_le (producers c.mode) p, NoProducer)
-    ∷ (nat_le (next m) s, NotClaimed)
-    ∷ (m.published s, AlreadyPublished)
-    ∷ (not (slice_index m.owners s == p), NotClaimed)
-    ∷ []
-refusals c m (Publish p lo hi) =
-    (nat_le (producers c.mode) p, NoProducer)
-    ∷ (nat_lt hi lo, BadCount)
-    ∷ (nat_le (next m) hi, NotClaimed)
-    ∷ (flat_map (publish_faults m p) (range_with_len lo (hi + 1 - lo)) ++ (is_single c.mode && not (lo == front m), OutOfOrder) ∷ [])
-refusals c m (Poll h max) = (nat_le (handlers c) h, NoHandler) ∷ (max == 0, BadCount) ∷ []
-refusals c m (Complete h upto) =
-    (nat_le (handlers c) h, NoHandler)
-    ∷ (nat_lt upto (slice_index m.completed h), Behind)
-    ∷ (nat_lt (slice_index m.taken h) upto, NotTaken)
-    ∷ []
+refusals c m (Claim p n) = claim_causes (record {
+  no_producer = nat_le (producers c.mode) p;
+  bad_count = n == 0 || nat_lt c.size n;
+  halted = m.halted;
+  exhausted = nat_lt c.limit (next m + n);
+  no_room = nat_lt (c.size + least_completed m (finals c.upstreams)) (next m + n);
+})
+refusals c m (Write p s event) = write_causes (record {
+  no_producer = nat_le (producers c.mode) p;
+  unclaimed = nat_le (next m) s;
+  published = m.published s;
+  not_owned = not (slice_index m.owners s == p);
+})
+refusals c m (Publish p lo hi) = publish_causes lo hi (record {
+  no_producer = nat_le (producers c.mode) p;
+  bad_count = nat_lt hi lo;
+  unclaimed = nat_le (next m) hi;
+  of_sequence = sequence_tests m p;
+  out_of_order = is_single c.mode && not (lo == front m);
+})
+refusals c m (Poll h max) = poll_causes (record { no_handler = nat_le (handlers c) h; bad_count = max == 0 })
+refusals c m (Complete h upto) = complete_causes (record {
+  no_handler = nat_le (handlers c) h;
+  behind = nat_lt upto (slice_index m.completed h);
+  not_taken = nat_lt (slice_index m.taken h) upto;
+})
 refusals c m Halt = []
 
 abbrev pub unchanged : Reply → State → Outcome
