@@ -1,8 +1,9 @@
 -- What contracts see of a core: what it remembers of the machine's state, however that is kept.
-use Rattle.std.specs.Prelude.{ℕ, ◌-◌, min, Bool, List, map, slice_index_or}
+use Rattle.std.specs.Prelude.{ℕ, ◌-◌, min, Bool, List, map, slice_index, slice_index_or}
 use Rattle.std.specs.List.{range_with_len}
 use Rattle.dr_seq.specs.declared.event.Event.{Event}
 use Rattle.dr_graph.specs.Name.{Name}
+use Rattle.dr_graph.specs.Graph.{flagged, least_without}
 use Rattle.dr_core.specs.Machine.{Setup}
 
 -- what a core knows of a sequence: nothing, claimed by a producer, written by a producer with an event, published with an event
@@ -20,7 +21,16 @@ pub record CoreView : Type 0 where
   pub taken : List ℕ  -- of each handler, how many events it took
   pub completed : List ℕ  -- of each handler, how many events it completed
   pub halted : Bool
+  pub retired : List Bool  -- of each handler, whether it is retired
   pub recent : List Known  -- of each of the last `size` claimed sequences in order, what is known
+
+-- which handlers are retired
+abbrev pub retired_in : CoreView → ℕ → Bool
+retired_in v = flagged v.retired
+
+-- the least completed count of the finals that are not retired
+abbrev pub gate_of : CoreView → ℕ
+gate_of v = least_without v.setup.upstreams (retired_in v) (λ h. slice_index v.completed h)
 
 -- the last claimed sequences, as many as there are slots, each with what is known of it
 abbrev pub recent_of : (ℕ → Known) → ℕ → ℕ → List Known

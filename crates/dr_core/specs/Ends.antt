@@ -3,7 +3,7 @@ use Rattle.std.specs.Prelude.{◌≡◌, ℕ, ◌+◌, ◌-◌, ◌^◌, ◌<◌
 use Rattle.dr_seq.specs.declared.event.Event.{Event}
 use Rattle.dr_seq.specs.Event.{no_event}
 use Rattle.dr_core.specs.declared.refusal.Refusal.{Refusal}
-use Rattle.dr_core.specs.declared.refusal.Refusal.TheVariants.{NoRoom, Halted, BadCount, Exhausted, NotClaimed, AlreadyPublished, NotWritten, OutOfOrder, NotTaken, Behind, NoProducer, NoHandler}
+use Rattle.dr_core.specs.declared.refusal.Refusal.TheVariants.{NoRoom, Halted, BadCount, Exhausted, NotClaimed, AlreadyPublished, NotWritten, OutOfOrder, NotTaken, Behind, NoProducer, NoHandler, Retired}
 use Rattle.dr_core.specs.declared.command.Claimed.{Claimed}
 use Rattle.dr_core.specs.declared.command.Polled.{Polled}
 use Rattle.dr_core.specs.declared.command.Polled.TheVariants.{Batch, Drained}
@@ -41,7 +41,7 @@ abbrev pub PollAnswers : List Event → List Event → Result Polled Trouble →
 PollAnswers out out' (Ok (Batch first count end)) = (0 < count) × (count ≤ length out) × (first + count < 2 ^ 64) × (drop count out' ≡ drop count out)
 PollAnswers out out' (Ok other) = (0 < length out) × (out' ≡ out)
 PollAnswers out out' (Err (Refused BadCount)) = (length out ≡ 0) × (out' ≡ out)
-PollAnswers out out' (Err trouble) = IsTroubleOf (NoHandler ∷ []) trouble × (out' ≡ out)
+PollAnswers out out' (Err trouble) = IsTroubleOf (NoHandler ∷ Retired ∷ []) trouble × (out' ≡ out)
 
 abbrev pub is_drained : Result Polled Trouble → Bool
 is_drained (Ok Drained) = true
@@ -49,7 +49,7 @@ is_drained other = false
 
 abbrev pub CompleteAnswers : Result (Unit {0}) Trouble → Type 0
 CompleteAnswers (Ok done) = Unit {0}
-CompleteAnswers (Err trouble) = IsTroubleOf (NoHandler ∷ Behind ∷ NotTaken ∷ []) trouble
+CompleteAnswers (Err trouble) = IsTroubleOf (NoHandler ∷ Behind ∷ NotTaken ∷ Retired ∷ []) trouble
 
 -- What an end shows, and how each call changes it.
 
@@ -133,6 +133,7 @@ Takes out' (Err trouble) old new = new ≡ old
 -- what is completed never falls, and is at most what was received
 abbrev pub Completes : ℕ → Result (Unit {0}) Trouble → Received → Received → Type 0
 Completes upto (Ok done) old new = (old.completed ≤ upto) × (upto ≤ length old.events) × (new ≡ record old { completed = upto })
+Completes upto (Err (Refused Retired)) old new = new ≡ old
 Completes upto (Err (Refused Behind)) old new = (upto < old.completed) × (new ≡ old)
 Completes upto (Err (Refused NotTaken)) old new = (old.completed ≤ upto) × (length old.events < upto) × (new ≡ old)
 Completes upto (Err (Refused other)) old new = ⊥

@@ -3,9 +3,9 @@ use Rattle.std.specs.Prelude.{◌≡◌, ℕ, ◌+◌, ◌^◌, ◌<◌, ◌≤�
 use Rattle.dr_seq.specs.Rounds.{is_marked}
 use Rattle.dr_seq.specs.Size.{IsSize}
 use Rattle.dr_core.specs.declared.engine.Core.TheInside.{Inside}
-use Rattle.dr_graph.specs.Graph.{upstreams_of, finals, IsGraph}
+use Rattle.dr_graph.specs.Graph.{upstreams_of, finals_without, IsGraph}
 use Rattle.dr_core.specs.Machine.{handlers, setup_of}
-use Rattle.dr_core.specs.CoreView.{CoreView, recent_of}
+use Rattle.dr_core.specs.CoreView.{CoreView, retired_in, recent_of}
 use Rattle.dr_core.specs.Availability.{Kept, slot_known, HasOwners}
 
 abbrev pub kept_of : Inside → Kept
@@ -20,6 +20,7 @@ view_of a = record {
   taken = a.taken.items;
   completed = a.completed.items;
   halted = a.halted;
+  retired = a.retired.items;
   recent = recent_of (slot_known (kept_of a)) a.next a.size;
 }
 
@@ -30,12 +31,14 @@ pub record IsWhole (v : CoreView) : Type 0 where
   pub limit : v.setup.limit ≤ 2 ^ 62
   pub taken : length v.taken ≡ handlers v.setup
   pub completed : length v.completed ≡ handlers v.setup
+  pub retired : length v.retired ≡ handlers v.setup
+  pub left : (h : ℕ) × (h < handlers v.setup) × (retired_in v h ≡ false)
   pub claimed : v.next ≤ v.setup.limit
   pub front : v.front ≤ v.next
   pub in_front : (h : ℕ) → slice_index v.taken h ≤ v.front
   pub took : (h : ℕ) → slice_index v.completed h ≤ slice_index v.taken h
   pub after : (h u : ℕ) → Contains (upstreams_of v.setup.upstreams h) u → slice_index v.taken h ≤ slice_index v.completed u
-  pub room : (h : ℕ) → h < handlers v.setup → v.next ≤ v.setup.size + slice_index v.completed h
+  pub room : (h : ℕ) → h < handlers v.setup → retired_in v h ≡ false → v.next ≤ v.setup.size + slice_index v.completed h
 
 -- a slot a sequence in each list, and no mark of a sequence that is not claimed yet
 pub record IsAvailable (a : Kept) (size next : ℕ) : Type 0 where
@@ -46,8 +49,8 @@ pub record IsAvailable (a : Kept) (size next : ℕ) : Type 0 where
   pub unpublished : (s : ℕ) → next ≤ s → is_marked a.published s ≡ false
   pub unwritten : (s : ℕ) → next ≤ s → is_marked a.written s ≡ false
 
--- the two rounds, and a remembered least count that no final is below
+-- the two rounds, and a remembered least count that no final of those that are left is below
 pub record IsKept (a : Inside) : Type 0 where
   pub whole : IsWhole (view_of a)
   pub available : IsAvailable (kept_of a) a.size a.next
-  pub gate : (f : ℕ) → Contains (finals (view_of a).setup.upstreams) f → a.gate ≤ slice_index a.completed.items f
+  pub gate : (f : ℕ) → Contains (finals_without (view_of a).setup.upstreams (retired_in (view_of a))) f → a.gate ≤ slice_index a.completed.items f

@@ -2,9 +2,9 @@
 use Rattle.std.specs.Prelude.{◌≡◌, ℕ, ◌+◌, ◌<◌, ◌≤◌, IsTrue, ◌∷◌, ◌++◌, Contains, slice_get}
 use Rattle.dr_core.specs.declared.command.Command.TheVariants.{Poll}
 use Rattle.dr_core.specs.declared.command.Reply.TheVariants.{Claimed, Drained}
-use Rattle.dr_graph.specs.Graph.{upstreams_of, finals}
+use Rattle.dr_graph.specs.Graph.{upstreams_of, finals_without}
 use Rattle.dr_core.specs.Machine.{Setup, handlers}
-use Rattle.dr_core.specs.Transcript.{Entry, Transcript, next_of, is_published, event_of, front_of, received_by, taken_by, completed_by, is_halted}
+use Rattle.dr_core.specs.Transcript.{Entry, Transcript, next_of, is_published, event_of, front_of, received_by, taken_by, completed_by, is_halted, retired_by}
 
 -- received in order: what a handler received are the first events, each once, in sequence order, and all of them are published
 pub record ReceivedInOrder (t : Transcript) (h : ℕ) : Type 0 where
@@ -17,9 +17,9 @@ pub record AfterUpstreams (c : Setup) (t : Transcript) (h : ℕ) : Type 0 where
   pub took : completed_by t h ≤ taken_by t h
   pub after : (u : ℕ) → Contains (upstreams_of c.upstreams h) u → taken_by t h ≤ completed_by t u
 
--- room: a claim uses no slot again before every final handler completed the event that lay there
+-- room: a claim uses no slot again before every final handler, of those that are not retired by then, completed the event that lay there
 abbrev pub HasRoom : Setup → Transcript → Entry → Type 0
-HasRoom c t e = (lo hi f : ℕ) → e.reply ≡ Claimed lo hi → Contains (finals c.upstreams) f → hi + 1 ≤ c.size + completed_by t f
+HasRoom c t e = (lo hi f : ℕ) → e.reply ≡ Claimed lo hi → Contains (finals_without c.upstreams (retired_by t)) f → hi + 1 ≤ c.size + completed_by t f
 
 -- no claim after a halt
 abbrev pub NoClaimAfterHalt : Transcript → Entry → Type 0

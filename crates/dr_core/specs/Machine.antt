@@ -7,12 +7,12 @@ use Rattle.dr_seq.specs.Event.{no_event}
 use Rattle.dr_core.specs.declared.mode.Mode.{Mode}
 use Rattle.dr_core.specs.declared.mode.Mode.TheVariants.{Single, Multi}
 use Rattle.dr_core.specs.declared.command.Command.{Command}
-use Rattle.dr_core.specs.declared.command.Command.TheVariants.{Claim, Write, Publish, Poll, Complete, Halt}
+use Rattle.dr_core.specs.declared.command.Command.TheVariants.{Claim, Write, Publish, Poll, Complete, Halt, Retire}
 use Rattle.dr_core.specs.declared.refusal.Refusal.{Refusal}
-use Rattle.dr_core.specs.Refusals.{SequenceTests, claim_causes, write_causes, sequence_causes, publish_causes, poll_causes, complete_causes}
+use Rattle.dr_core.specs.Refusals.{SequenceTests, claim_causes, write_causes, sequence_causes, publish_causes, poll_causes, complete_causes, retire_causes}
 use Rattle.dr_core.specs.declared.command.Reply.{Reply}
-use Rattle.dr_core.specs.declared.command.Reply.TheVariants.{Claimed, Written, Published, Batch, Drained, Gating, Idle, Completed, Halting, Refused}
-use Rattle.dr_graph.specs.Graph.{upstreams_of, finals, least_of}
+use Rattle.dr_core.specs.declared.command.Reply.TheVariants.{Claimed, Written, Published, Batch, Drained, Gating, Idle, Completed, Halting, Retired, Refused}
+use Rattle.dr_graph.specs.Graph.{upstreams_of, nobody, is_some_left, is_followed, finals_without, least_of}
 
 -- what an exchange is opened with; the graph is given by each handler's direct upstreams
 pub record Setup : Type 0 where
@@ -28,6 +28,7 @@ pub record State : Type 0 where
   pub taken : List ℕ  -- of each handler, how many events it took
   pub completed : List ℕ  -- of each handler, how many events it completed
   pub halted : Bool
+  pub retired : ℕ → Bool  -- which handlers are retired
 
 -- what a call answers, the events that it hands out, and what it leaves
 pub record Outcome : Type 0 where
@@ -42,10 +43,10 @@ handlers c = length c.upstreams
 abbrev pub setup_of : List (List ℕ) → ℕ → Mode → ℕ → Setup
 setup_of upstreams size mode limit = record { upstreams = upstreams; size = size; mode = mode; limit = limit }
 
--- nothing is claimed, written, published, taken or completed
+-- nothing is claimed, written, published, taken or completed, and nobody is retired
 abbrev pub opening : Setup → State
 opening c =
-    record { owners = []; written = λ s. None; published = λ s. false; taken = replicate (handlers c) 0; completed = replicate (handlers c) 0; halted = false }
+    record { owners = []; written = λ s. None; published = λ s. false; taken = replicate (handlers c) 0; completed = replicate (handlers c) 0; halted = false; retired = nobody }
 
 abbrev pub is_single : Mode → Bool
 is_single Single = true
@@ -55,9 +56,21 @@ abbrev pub producers : Mode → ℕ
 producers Single = 1
 producers (Multi p) = p
 
+-- the handlers that gate a claim: those that are not retired, and upstream of none that is not
+abbrev pub gating : Setup → State → List ℕ
+gating c m = finals_without c.upstreams m.retired
+
+-- the retired handlers with one more
+abbrev pub retired_with : State → ℕ → ℕ → Bool
+retired_with m h k = m.retired k || k == h
+
 -- the least completed count of some handlers
 abbrev pub least_completed : State → List ℕ → ℕ
 least_completed m hs = least_of (map (λ h. slice_index m.completed h) hs)
+
+-- the count that a claim is gated by
+abbrev pub gate : Setup → State → ℕ
+gate c m = least_completed m (gating c m)
 
 -- the least number that is not in a set, or the bound where all below it are
 unfoldable pub least_outside : (ℕ → Bool) → ℕ → ℕ
@@ -100,7 +113,7 @@ refusals c m (Claim p n) = claim_causes (record {
   bad_count = n == 0 || nat_lt c.size n;
   halted = m.halted;
   exhausted = nat_lt c.limit (next m + n);
-  no_room = nat_lt (c.size + least_completed m (finals c.upstreams)) (next m + n);
+  no_room = nat_lt (c.size + gate c m) (next m + n);
 })
 refusals c m (Write p s event) = write_causes (record {
   no_producer = nat_le (producers c.mode) p;
@@ -115,13 +128,20 @@ refusals c m (Publish p lo hi) = publish_causes lo hi (record {
   of_sequence = sequence_tests m p;
   out_of_order = is_single c.mode && not (lo == front m);
 })
-refusals c m (Poll h max) = poll_causes (record { no_handler = nat_le (handlers c) h; bad_count = max == 0 })
+refusals c m (Poll h max) = poll_causes (record { no_handler = nat_le (handlers c) h; retired = m.retired h; bad_count = max == 0 })
 refusals c m (Complete h upto) = complete_causes (record {
   no_handler = nat_le (handlers c) h;
+  retired = m.retired h;
   behind = nat_lt upto (slice_index m.completed h);
   not_taken = nat_lt (slice_index m.taken h) upto;
 })
 refusals c m Halt = []
+refusals c m (Retire h) = retire_causes (record {
+  no_handler = nat_le (handlers c) h;
+  retired = m.retired h;
+  not_final = is_followed c.upstreams m.retired h;
+  last_handler = not (is_some_left (handlers c) (retired_with m h));
+})
 
 abbrev pub unchanged : Reply → State → Outcome
 unchanged r m = record { reply = r; values = []; state = m }
@@ -153,6 +173,7 @@ accepted c m (Poll h max) =
 accepted c m (Complete h upto) =
     record { reply = Completed; values = []; state = record m { completed = slice_set m.completed h upto } }
 accepted c m Halt = record { reply = Halting; values = []; state = record m { halted = true } }
+accepted c m (Retire h) = record { reply = Retired; values = []; state = record m { retired = retired_with m h } }
 
 -- the first test that holds refuses, and changes nothing
 abbrev pub unless : List (Bool × Refusal) → State → Outcome → Outcome

@@ -1,7 +1,7 @@
 -- The numbers and names of refusals, which stay the same in every release.
 use Rattle.std.specs.Prelude.{ℕ, List, codes}
 use Rattle.dr_core.specs.declared.refusal.Refusal.{Refusal}
-use Rattle.dr_core.specs.declared.refusal.Refusal.TheVariants.{NoRoom, Halted, BadCount, Exhausted, NotClaimed, AlreadyPublished, NotWritten, OutOfOrder, NotTaken, Behind, NoProducer, NoHandler, OpenClaim}
+use Rattle.dr_core.specs.declared.refusal.Refusal.TheVariants.{NoRoom, Halted, BadCount, Exhausted, NotClaimed, AlreadyPublished, NotWritten, OutOfOrder, NotTaken, Behind, NoProducer, NoHandler, Retired, NotFinal, LastHandler, OpenClaim}
 
 abbrev pub number_of : Refusal → ℕ
 number_of NoRoom = 1
@@ -16,6 +16,9 @@ number_of NotTaken = 9
 number_of Behind = 10
 number_of NoProducer = 11
 number_of NoHandler = 12
+number_of Retired = 13
+number_of NotFinal = 14
+number_of LastHandler = 15
 number_of OpenClaim = 41
 
 abbrev pub name_of : Refusal → List ℕ
@@ -31,4 +34,7 @@ name_of NotTaken = codes "not-taken"
 name_of Behind = codes "behind"
 name_of NoProducer = codes "no-producer"
 name_of NoHandler = codes "no-handler"
+name_of Retired = codes "retired"
+name_of NotFinal = codes "not-final"
+name_of LastHandler = codes "last-handler"
 name_of OpenClaim = codes "open-claim"

@@ -3,7 +3,8 @@
 use Rattle.std.specs.Prelude.{ℕ, ◌+◌, ◌-◌, List, [], ◌∷◌, ◌++◌, flat_map}
 use Rattle.std.specs.List.{range_with_len}
 use Rattle.dr_core.specs.declared.refusal.Refusal.{Refusal}
-use Rattle.dr_core.specs.declared.refusal.Refusal.TheVariants.{NoRoom, Halted, BadCount, Exhausted, NotClaimed, AlreadyPublished, NotWritten, OutOfOrder, NotTaken, Behind, NoProducer, NoHandler}
+use Rattle.dr_core.specs.declared.refusal.Refusal.TheVariants.{NoRoom, Halted, BadCount, Exhausted, NotClaimed, AlreadyPublished, NotWritten, OutOfOrder, NotTaken, Behind, NoProducer, NoHandler, NotFinal, LastHandler}
+use Rattle.dr_core.specs.declared.refusal.Refusal.TheVariants.{Retired as AlreadyRetired}
 
 pub record ClaimTests (A : Type 0) : Type 0 where
   pub no_producer : A
@@ -65,15 +66,36 @@ publish_causes lo hi tests =
 
 pub record PollTests (A : Type 0) : Type 0 where
   pub no_handler : A
+  pub retired : A
   pub bad_count : A
 
 abbrev pub poll_causes : {A : Type 0} → PollTests A → List (A × Refusal)
-poll_causes tests = (tests.no_handler, NoHandler) ∷ (tests.bad_count, BadCount) ∷ []
+poll_causes tests = (tests.no_handler, NoHandler) ∷ (tests.retired, AlreadyRetired) ∷ (tests.bad_count, BadCount) ∷ []
 
 pub record CompleteTests (A : Type 0) : Type 0 where
   pub no_handler : A
+  pub retired : A
   pub behind : A
   pub not_taken : A
 
 abbrev pub complete_causes : {A : Type 0} → CompleteTests A → List (A × Refusal)
-complete_causes tests = (tests.no_handler, NoHandler) ∷ (tests.behind, Behind) ∷ (tests.not_taken, NotTaken) ∷ []
+complete_causes tests =
+    (tests.no_handler, NoHandler)
+    ∷ (tests.retired, AlreadyRetired)
+    ∷ (tests.behind, Behind)
+    ∷ (tests.not_taken, NotTaken)
+    ∷ []
+
+pub record RetireTests (A : Type 0) : Type 0 where
+  pub no_handler : A
+  pub retired : A
+  pub not_final : A  -- a handler that is not retired has it as a direct upstream
+  pub last_handler : A  -- no other handler is left
+
+abbrev pub retire_causes : {A : Type 0} → RetireTests A → List (A × Refusal)
+retire_causes tests =
+    (tests.no_handler, NoHandler)
+    ∷ (tests.retired, AlreadyRetired)
+    ∷ (tests.not_final, NotFinal)
+    ∷ (tests.last_handler, LastHandler)
+    ∷ []

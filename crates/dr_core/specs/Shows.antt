@@ -10,7 +10,7 @@ use Rattle.dr_core.specs.declared.command.Polled.{Polled}
 use Rattle.dr_core.specs.declared.command.Polled.TheVariants as answer
 use Rattle.dr_graph.specs.Graph.{least_of}
 use Rattle.dr_core.specs.Machine.{State, handlers, step, next, front}
-use Rattle.dr_core.specs.CoreView.{Known, Nothing, ClaimedBy, WrittenBy, PublishedWith, CoreView, known_at}
+use Rattle.dr_core.specs.CoreView.{Known, Nothing, ClaimedBy, WrittenBy, PublishedWith, CoreView, known_at, retired_in}
 
 -- what is known of a claimed sequence agrees with its owner, its publication mark and what is written to it
 abbrev pub Agrees : Known → ℕ → Bool → Option Event → Type 0
@@ -26,6 +26,7 @@ pub record Shows (v : CoreView) (m : State) : Type 0 where
   pub taken : m.taken ≡ v.taken
   pub completed : m.completed ≡ v.completed
   pub halted : m.halted ≡ v.halted
+  pub retired : (h : ℕ) → m.retired h ≡ retired_in v h
   pub recent : (s : ℕ) → s < v.next → v.next ≤ s + v.setup.size → Agrees (known_at v s) (slice_index m.owners s) (m.published s) (m.written s)
   pub unclaimed : (s : ℕ) → v.next ≤ s → (m.published s ≡ false) × (m.written s ≡ None)
 
@@ -64,9 +65,10 @@ abbrev pub offered_to : CoreView → List ℕ → ℕ
 offered_to v [] = v.front
 offered_to v (up ∷ ups) = least_of (map (λ h. slice_index v.completed h) (up ∷ ups))
 
--- what a batch leaves of the counts: the handler took it, has not completed it, and no count wraps
+-- what a batch leaves of the counts: the handler, which is not retired, took it, has not completed it, and no count wraps
 pub record TakesBatch (h first count : ℕ) (new : CoreView) : Type 0 where
   pub handler : h < handlers new.setup
+  pub left : retired_in new h ≡ false
   pub taken : slice_index new.taken h ≡ first + count
   pub completed : slice_index new.completed h ≤ first
   pub small : first + count ≤ 2 ^ 62
@@ -75,8 +77,9 @@ abbrev pub Takes : ℕ → Result Polled Refusal → CoreView → Type 0
 Takes h (Ok (answer.Batch first count end)) new = TakesBatch h first count new
 Takes h other new = Unit {0}
 
--- a handler may complete what it took, and takes no completion back
+-- a handler that is not retired may complete what it took, and takes no completion back
 pub record CanComplete (v : CoreView) (h upto : ℕ) : Type 0 where
   pub handler : h < handlers v.setup
+  pub left : retired_in v h ≡ false
   pub completed : slice_index v.completed h ≤ upto
   pub taken : upto ≤ slice_index v.taken h

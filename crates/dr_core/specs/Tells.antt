@@ -1,7 +1,7 @@
 -- What a transcript tells of the state that it leads to.
 use Rattle.std.specs.Prelude.{◌≡◌, ℕ, ◌<◌, true, slice_get, slice_index}
 use Rattle.dr_core.specs.Machine.{State, next}
-use Rattle.dr_core.specs.Transcript.{Transcript, next_of, owner_of, is_published, last_written, event_of, received_by, taken_by, completed_by, is_halted}
+use Rattle.dr_core.specs.Transcript.{Transcript, next_of, owner_of, is_published, last_written, event_of, received_by, taken_by, completed_by, is_halted, retired_by}
 
 -- each word of transcripts says what the state has; a sequence that is not claimed has no owner
 pub record Tells (t : Transcript) (m : State) : Type 0 where
@@ -14,3 +14,4 @@ pub record Tells (t : Transcript) (m : State) : Type 0 where
   pub received : (h k : ℕ) → k < slice_index m.taken h → slice_get (received_by t h) k ≡ m.written k
   pub completed : (h : ℕ) → completed_by t h ≡ slice_index m.completed h
   pub halted : is_halted t ≡ m.halted
+  pub retired : (h : ℕ) → retired_by t h ≡ m.retired h

@@ -4,9 +4,9 @@ use Rattle.std.specs.Prelude.{◌≡◌, ℕ, ◌+◌, max, Bool, true, false, �
 use Rattle.std.specs.List.{list_any}
 use Rattle.dr_seq.specs.declared.event.Event.{Event}
 use Rattle.dr_core.specs.declared.command.Command.{Command}
-use Rattle.dr_core.specs.declared.command.Command.TheVariants.{Claim, Write, Publish, Poll, Complete}
+use Rattle.dr_core.specs.declared.command.Command.TheVariants.{Claim, Write, Publish, Poll, Complete, Retire}
 use Rattle.dr_core.specs.declared.command.Reply.{Reply}
-use Rattle.dr_core.specs.declared.command.Reply.TheVariants.{Claimed, Written, Published, Batch, Completed, Halting}
+use Rattle.dr_core.specs.declared.command.Reply.TheVariants.{Claimed, Written, Published, Batch, Completed, Halting, Retired}
 use Rattle.dr_core.specs.Machine.{Setup, State, opening, step, least_outside}
 
 -- a command, its reply and the events that came with it
@@ -99,6 +99,15 @@ halts other = false
 
 abbrev pub is_halted : Transcript → Bool
 is_halted t = list_any (λ e. halts e.reply) t
+
+-- an accepted retirement of a handler
+abbrev pub retires : Reply → Command → ℕ → Bool
+retires Retired (Retire at) h = h == at
+retires other command h = false
+
+-- whether a handler is retired
+abbrev pub retired_by : Transcript → ℕ → Bool
+retired_by t h = list_any (λ e. retires e.reply e.command h) t
 
 -- from a state the machine gives these replies and events, and ends in another
 abbrev pub LeadsFrom : Setup → State → Transcript → State → Type 0

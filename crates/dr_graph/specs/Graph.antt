@@ -1,10 +1,10 @@
 -- A built graph: handlers go by their number in the built order, and a graph is each handler's list of upstreams.
-use Rattle.std.specs.Prelude.{◌≡◌, ℕ, ◌<◌, ◌≤◌, ◌==◌, Bool, not, true, List, [], ◌∷◌, length, map, min, filter, Contains, slice_index, slice_index_or}
+use Rattle.std.specs.Prelude.{◌≡◌, ℕ, ◌<◌, ◌≤◌, Bool, not, ◌&&◌, true, false, List, [], ◌∷◌, length, map, min, filter, Contains, slice_index, slice_index_or}
 use Rattle.std.specs.List.{list_any, range_with_len}
 use Rattle.std.specs.List.Sorted.{IsStrictlyIncreasing}
 use Rattle.dr_graph.specs.declared.edge.Edge.{Edge}
 use Rattle.dr_graph.specs.Name.{Name}
-use Rattle.dr_graph.specs.Order.{is_upstream, IsBuiltOrder}
+use Rattle.dr_graph.specs.Order.{is_in, is_upstream, IsBuiltOrder}
 use Rattle.dr_graph.specs.Declaration.{Declaration}
 
 -- what contracts see of a graph: each handler's name, and its upstreams
@@ -15,12 +15,34 @@ pub record Shape : Type 0 where
 abbrev pub upstreams_of : List (List ℕ) → ℕ → List ℕ
 upstreams_of graph h = slice_index_or graph h []
 
+-- a set of handlers is the test of whether one is in it: the empty set, and the set that flags tell
+abbrev pub nobody : ℕ → Bool
+nobody h = false
+
+abbrev pub flagged : List Bool → ℕ → Bool
+flagged flags h = slice_index_or flags h false
+
+-- one of the first handlers is not gone
+abbrev pub is_some_left : ℕ → (ℕ → Bool) → Bool
+is_some_left count gone = list_any (λ h. not (gone h)) (range_with_len 0 count)
+
+-- a handler is a direct upstream of one that is not gone
+abbrev pub is_followed : List (List ℕ) → (ℕ → Bool) → ℕ → Bool
+is_followed graph gone h = list_any (λ k. not (gone k) && is_in (upstreams_of graph k) h) (range_with_len 0 (length graph))
+
+-- where some handlers are gone, a final is one of the others, and upstream of none of them
+abbrev pub is_final_without : List (List ℕ) → (ℕ → Bool) → ℕ → Bool
+is_final_without graph gone h = not (gone h) && not (is_followed graph gone h)
+
+abbrev pub finals_without : List (List ℕ) → (ℕ → Bool) → List ℕ
+finals_without graph gone = filter (is_final_without graph gone) (range_with_len 0 (length graph))
+
 -- a final handler is upstream of none
 abbrev pub is_final : List (List ℕ) → ℕ → Bool
-is_final graph h = not (list_any (λ ups. list_any (λ u. u == h) ups) graph)
+is_final graph h = is_final_without graph nobody h
 
 abbrev pub finals : List (List ℕ) → List ℕ
-finals graph = filter (is_final graph) (range_with_len 0 (length graph))
+finals graph = finals_without graph nobody
 
 -- every upstream's number is below the handler's own
 abbrev pub IsLayered : List (List ℕ) → Type 0
@@ -30,15 +52,15 @@ IsLayered graph = (h u : ℕ) → Contains (upstreams_of graph h) u → u < h
 abbrev pub IsOrderly : List (List ℕ) → (ℕ → ℕ) → Type 0
 IsOrderly graph counts = (h u : ℕ) → Contains (upstreams_of graph h) u → counts h ≤ counts u
 
--- a handler has a final that is no further than it
-pub record IsGated (graph : List (List ℕ)) (counts : ℕ → ℕ) (h : ℕ) : Type 0 where
+-- a handler has a final, of those that are not gone, that is no further than it
+pub record IsGated (graph : List (List ℕ)) (gone : ℕ → Bool) (counts : ℕ → ℕ) (h : ℕ) : Type 0 where
   pub last : ℕ
-  pub final : Contains (finals graph) last
+  pub final : Contains (finals_without graph gone) last
   pub behind : counts last ≤ counts h
 
--- the law that gating rests on: whoever waits for all finals waits for every handler
+-- the law that gating rests on: whoever waits for all finals waits for every handler, also where some are gone
 abbrev pub FinalsGate : List (List ℕ) → Type 0
-FinalsGate graph = (counts : ℕ → ℕ) → IsOrderly graph counts → (h : ℕ) → h < length graph → IsGated graph counts h
+FinalsGate graph = (gone : ℕ → Bool) (counts : ℕ → ℕ) → IsOrderly graph counts → (h : ℕ) → h < length graph → gone h ≡ false → IsGated graph gone counts h
 
 -- what is so of every graph
 pub record IsGraph (graph : List (List ℕ)) : Type 0 where
@@ -54,9 +76,19 @@ least_of [] = 0
 least_of (n ∷ []) = n
 least_of (n ∷ m ∷ ms) = min n (least_of (m ∷ ms))
 
--- the finals' least count is at most every handler's
+-- the least count of the finals
+abbrev pub least_without : List (List ℕ) → (ℕ → Bool) → (ℕ → ℕ) → ℕ
+least_without graph gone counts = least_of (map counts (finals_without graph gone))
+
+-- the finals' least count is at most every handler's that is not gone
 abbrev pub LeastGates : List (List ℕ) → Type 0
-LeastGates graph = (counts : ℕ → ℕ) → IsOrderly graph counts → (h : ℕ) → h < length graph → least_of (map counts (finals graph)) ≤ counts h
+LeastGates graph = (gone : ℕ → Bool) (counts : ℕ → ℕ) → IsOrderly graph counts → (h : ℕ) → h < length graph → gone h ≡ false → least_without graph gone counts ≤ counts h
+
+-- where more handlers go, and one is left, the finals' least count does not fall
+abbrev pub LeastRises : List (List ℕ) → Type 0
+LeastRises graph =
+    (gone more : ℕ → Bool) → ((h : ℕ) → more h ≡ false → gone h ≡ false) → (counts : ℕ → ℕ) → IsOrderly graph counts
+    → (h : ℕ) → h < length graph → more h ≡ false → least_without graph gone counts ≤ least_without graph more counts
 
 -- the chosen numbers below a bound: rising, each once
 pub record AreChosen (choose : ℕ → Bool) (bound : ℕ) (ns : List ℕ) : Type 0 where

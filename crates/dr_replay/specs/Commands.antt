@@ -1,7 +1,7 @@
 -- The commands of a file, one a record.
 use Rattle.std.specs.Prelude.{ℕ, ◌+◌, min, if◌then◌else◌, List, [], ◌∷◌, Option, Some, None, option_and_then, bytes_eq, codes}
 use Rattle.dr_core.specs.declared.command.Command.{Command}
-use Rattle.dr_core.specs.declared.command.Command.TheVariants.{Claim, Write, Publish, Poll, Complete, Halt}
+use Rattle.dr_core.specs.declared.command.Command.TheVariants.{Claim, Write, Publish, Poll, Complete, Halt, Retire}
 use Rattle.dr_replay.specs.Records.{Field, Record, field, is_record, number_at}
 
 infixl 10 ◌>>=◌
@@ -61,6 +61,10 @@ complete names r = do
   upto ← number_at r 2
   Some (Complete (handler_of names (field r 1)) upto)
 
+-- `retire,NAME`
+abbrev pub retire : List Field → Record → Option Command
+retire names r = Some (Retire (handler_of names (field r 1)))
+
 -- the command of a record, where the handlers have these names
 abbrev pub command_of : List Field → Record → Option Command
 command_of names r =
@@ -71,4 +75,5 @@ command_of names r =
     else if is_record (codes "poll") 3 r then poll names r
     else if is_record (codes "complete") 3 r then complete names r
     else if is_record (codes "halt") 1 r then Some Halt
+    else if is_record (codes "retire") 2 r then retire names r
     else None

@@ -2,7 +2,7 @@
 use Rattle.std.specs.Prelude.{ℕ, Bool, ◌==◌, if◌then◌else◌, List, ◌++◌, flat_map, codes, decimal}
 use Rattle.dr_seq.specs.declared.event.Event.{Event}
 use Rattle.dr_core.specs.declared.command.Reply.{Reply}
-use Rattle.dr_core.specs.declared.command.Reply.TheVariants.{Claimed, Written, Published, Batch, Drained, Gating, Idle, Completed, Halting, Refused}
+use Rattle.dr_core.specs.declared.command.Reply.TheVariants.{Claimed, Written, Published, Batch, Drained, Gating, Idle, Completed, Halting, Retired, Refused}
 use Rattle.dr_core.specs.Refusal.{number_of, name_of}
 
 abbrev pub Line : Type 0
@@ -27,6 +27,7 @@ reply_text Gating events = codes "gating"
 reply_text Idle events = codes "idle"
 reply_text Completed events = codes "completed"
 reply_text Halting events = codes "halting"
+reply_text Retired events = codes "retired"
 reply_text (Refused refusal) events = codes "refused " ++ decimal (number_of refusal) ++ codes " " ++ name_of refusal
 
 abbrev pub line_of : Reply → List Event → Line

@@ -2,6 +2,7 @@
 use Rattle.std.specs.Prelude.{ℕ, ◌^◌, false, nat_lt, if◌then◌else◌, List, [], ◌∷◌, replicate, Option, Some, None, slice_index_or}
 use Rattle.dr_seq.specs.declared.event.Event.{Event}
 use Rattle.dr_seq.specs.Event.{no_event}
+use Rattle.dr_graph.specs.Graph.{nobody}
 use Rattle.dr_core.specs.Machine.{Setup, State}
 use Rattle.dr_core.specs.declared.mode.Mode.TheVariants.{Single}
 
@@ -26,6 +27,7 @@ passed events claimed written published taken completed = record {
   taken = taken;
   completed = completed;
   halted = false;
+  retired = nobody;
 }
 
 -- each of the three handlers is done with as many

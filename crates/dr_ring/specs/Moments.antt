@@ -6,6 +6,7 @@ use Rattle.dr_core.specs.declared.command.Command.{Command}
 use Rattle.dr_core.specs.declared.command.Command.TheVariants.{Claim, Write, Publish, Poll, Complete, Halt}
 use Rattle.dr_core.specs.declared.command.Reply.{Reply}
 use Rattle.dr_core.specs.declared.command.Reply.TheVariants.{Claimed, Written, Published, Batch, Drained, Completed, Halting}
+use Rattle.dr_graph.specs.Graph.{nobody}
 use Rattle.dr_core.specs.Machine.{State, available}
 use Rattle.dr_core.specs.Transcript.{Transcript}
 use Rattle.dr_ring.specs.Shape.{Shape, handlers_of, setup_of}
@@ -49,6 +50,7 @@ picture_of k w = record {
   taken = map taken_of w.receivers;
   completed = map (λ h. slice_index w.words (count_word h)) (range_with_len 0 (handlers_of k));
   halted = slice_index w.words halt_word == 1;
+  retired = nobody;
 }
 
 abbrev pub entry : Command → Reply → List Event → Transcript
