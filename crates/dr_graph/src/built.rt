@@ -1,13 +1,13 @@
 //! The built graph: handlers by number, each after its upstreams.
 
-ghost use Rattle.std.specs.Prelude.{◌≡◌, ◌==◌, ◌⊎◌, ℕ, ◌<◌, List, length, map, filter, IfOk, IfErr, IsOk, slice_get, slice_index, slice_index_or, Some, position};
+ghost use Rattle.std.specs.Prelude.{◌≡◌, ◌==◌, ◌⊎◌, ◌&&◌, not, ℕ, ◌<◌, List, length, map, filter, IfOk, IfErr, IsOk, slice_get, slice_index, slice_index_or, Some, position};
 ghost use Rattle.std.specs.List.{list_any};
 ghost use Rattle.std.specs.Str.{bytes_eq};
 ghost use Rattle.std.specs.String.{string_bytes};
 ghost use Rattle.dr_graph.specs.Name.{AreDistinct, texts, is_named, number_of};
-ghost use Rattle.dr_graph.specs.Order.{HasCycle};
+ghost use Rattle.dr_graph.specs.Order.{is_in, HasCycle};
 ghost use Rattle.dr_graph.specs.KeptBuilder.{IsDeclaration};
-ghost use Rattle.dr_graph.specs.Graph.{IsGraph, IsGraphOf, upstreams_of, names_in, is_final as is_final_of, finals as finals_of};
+ghost use Rattle.dr_graph.specs.Graph.{IsGraph, IsGraphOf, upstreams_of, names_in, flagged, is_followed, is_final_without as is_final_without_of, is_final as is_final_of, finals as finals_of};
 
 use crate::edge::Edge;
 use crate::fault::GraphFault;
@@ -79,6 +79,15 @@ impl Graph {
         is_final_in(self.upstreams.as_slice(), h)
     }
 
+    /// Whether a handler is not gone, and upstream of none that is not gone.
+    pub fn is_final_without(&self, h: usize, gone: &[bool]) -> bool
+        requires handler { h < length self.now.upstreams }
+        requires flags { length gone.now ≡ length self.now.upstreams }
+        ensures { result ≡ is_final_without_of self.now.upstreams (flagged gone.now) h }
+    {
+        is_final_in_without(self.upstreams.as_slice(), h, gone)
+    }
+
     /// The final handlers, rising.
     pub fn finals(&self) -> &[usize]
         ensures { result.now ≡ finals_of self.now.upstreams }
@@ -103,6 +112,32 @@ fn is_followed_in(upstreams: &[Vec<usize>], h: usize) -> bool
     ensures { result ≡ list_any (λ ups. list_any (λ u. u == h) ups.items) upstreams.now }
 {
     upstreams.iter().any(|ups| is_upstream_in(ups, h))
+}
+
+fn is_upstream_left(ups: &[usize], gone: bool, h: usize) -> bool
+    ensures { result ≡ (not gone && is_in ups.now h) }
+{
+    !gone && is_upstream_in(ups, h)
+}
+
+fn is_followed_in_without(upstreams: &[Vec<usize>], h: usize, gone: &[bool]) -> bool
+    requires { length gone.now ≡ length upstreams.now }
+    ensures { result ≡ is_followed (map (λ ups. ups.items) upstreams.now) (flagged gone.now) h }
+{
+    for k in 0..upstreams.len() {
+        if is_upstream_left(&upstreams[k], gone[k], h) {
+            return true;
+        }
+    }
+    false
+}
+
+fn is_final_in_without(upstreams: &[Vec<usize>], h: usize, gone: &[bool]) -> bool
+    requires handler { h < length upstreams.now }
+    requires flags { length gone.now ≡ length upstreams.now }
+    ensures { result ≡ is_final_without_of (map (λ ups. ups.items) upstreams.now) (flagged gone.now) h }
+{
+    !gone[h] && !is_followed_in_without(upstreams, h, gone)
 }
 
 fn is_final_in(upstreams: &[Vec<usize>], h: usize) -> bool

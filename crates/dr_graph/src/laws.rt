@@ -2,14 +2,16 @@
 
 ghost use Rattle.std.specs.Prelude.{List, ℕ};
 ghost use Rattle.dr_graph.specs.Declaration.{Declaration};
-ghost use Rattle.dr_graph.specs.Graph.{IsGraph, IsLayered, FinalsGate, LeastGates, HasOneGraph};
+ghost use Rattle.dr_graph.specs.Graph.{IsGraph, IsLayered, FinalsGate, LeastGates, LeastRises, HasOneGraph};
 ghost use Rattle.dr_graph.specs.Placing.{FindsGraph};
 
 /// The law that gating rests on: where no edge raises the counts, each handler has a final handler whose count is at
-/// most its own, and so the finals' least count is at most every handler's.
+/// most its own, and so the finals' least count is at most every handler's. This is so of the handlers that are left,
+/// whichever are gone; and where more go and one is left, the least count does not fall.
 pub fn finals_gate()
     ensures each { (graph : List (List ℕ)) → IsLayered graph → FinalsGate graph }
     ensures least { (graph : List (List ℕ)) → IsGraph graph → LeastGates graph }
+    ensures rises { (graph : List (List ℕ)) → IsGraph graph → LeastRises graph }
 {}
 
 /// A declaration says which graph is built of it.

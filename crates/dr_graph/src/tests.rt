@@ -305,6 +305,27 @@ fn fifteen_before_one(rt: HostRuntime) -> Result<(), Fail> {
     Ok(())
 }
 
+/// Handlers that are final where some are gone.
+fn expect_finals_without(rt: &impl Abort, graph: &Graph, gone: &[bool], finals: &[bool]) {
+    assert_eq!(rt; gone.len(), graph.len());
+    assert_eq!(rt; finals.len(), graph.len());
+    for h in 0..graph.len() {
+        assert_eq!(rt; graph.is_final_without(h, gone), finals[h], "at {h}");
+    }
+}
+
+#[test]
+fn finals_of_the_handlers_that_are_left(rt: HostRuntime) -> Result<(), Fail> {
+    let diamond = built(&rt, rt.alloc(), &["a", "b"], &[(Call::Then(&["c"]), None)])?;
+    let all = [false, false, false];
+    expect_finals_without(&rt, &diamond, &all, &[false, false, true]);
+    let no_c = [false, false, true];
+    expect_finals_without(&rt, &diamond, &no_c, &[true, true, false]);
+    let only_b = [true, false, true];
+    expect_finals_without(&rt, &diamond, &only_b, &[false, true, false]);
+    Ok(())
+}
+
 #[test]
 fn topologies_of_the_technical_paper(rt: HostRuntime) -> Result<(), Fail> {
     // Unicast, and the sequencer, whose three producers are no part of the graph.
