@@ -2,10 +2,8 @@
 use Rattle.std.proofs.Common.{◌≡◌, ℕ, ◌+◌, ◌-◌, ◌<◌, ◌≤◌, ◌≢◌, ◌⊎◌, inl, inr, Bool, true, false, List, [], ◌∷◌, ◌++◌, arith, refl, ap, ◌∙◌, length, map, min, get_or, replicate, slice_index, slice_set}
 use Rattle.std.proofs.lemmas.Bool.{cond-true, cond-false, lt-ltb, leb-false, or_from, cases_lt, lt-leb, le-ltb, ne_eqb}
 use Rattle.std.proofs.lemmas.List.{length-append, length-replicate, get_or_append_left, get_or-append_right, get_or-replicate}
-use Rattle.std.specs.Prelude.{All, nat_le}
-use Rattle.std.specs.List.{range_with_len}
-use Rattle.std.proofs.lemmas.List.Elements.{All-filter}
-use Rattle.std.proofs.lemmas.List.FromFn.{length-range_with_len, get_or-range_with_len, get_or-map-range_with_len}
+use Rattle.std.specs.Prelude.{nat_le}
+use Rattle.std.proofs.lemmas.List.FromFn.{get_or-map-range_with_len}
 use Rattle.dr_core.specs.declared.command.Command.{Command}
 use Rattle.dr_core.specs.declared.command.Command.TheVariants.{Claim, Complete, Halt}
 use Rattle.dr_core.specs.declared.command.Reply.{Reply}
@@ -13,12 +11,13 @@ use Rattle.dr_core.specs.declared.command.Reply.TheVariants.{Claimed, Completed,
 use Rattle.dr_core.specs.declared.refusal.Refusal.{Refusal}
 use Rattle.dr_core.specs.declared.refusal.Refusal.TheVariants.{NoRoom}
 use Rattle.dr_seq.specs.declared.event.Event.{Event}
-use Rattle.dr_graph.specs.Graph.{is_final, finals, IsGated, least_of}
-use Rattle.dr_core.specs.Machine.{State, Outcome, handlers, producers, next, front, refusals, accepted, unless, unchanged}
-use Rattle.dr_core.specs.CoreView.{Known, Nothing, ClaimedBy, CoreView, recent_of, known_at}
+use Rattle.dr_graph.specs.Graph.{IsOrderly, finals_without, least_of}
+use Rattle.dr_graph.proofs.Gating.{finals_agree, least_gates}
+use Rattle.dr_core.specs.Machine.{State, Outcome, handlers, producers, next, front, gating, least_completed, refusals, accepted, unless, unchanged}
+use Rattle.dr_core.specs.CoreView.{Known, Nothing, ClaimedBy, CoreView, recent_of, known_at, retired_in, gate_of}
 use Rattle.dr_core.specs.Shows.{Shows, IsStep}
 use Rattle.dr_core.specs.Inside.{IsWhole}
-use Rattle.dr_core.proofs.Leasts.{IsLeast, least_is, least_one, least_of-member}
+use Rattle.dr_core.proofs.Leasts.{IsLeast, least_is, least_one}
 use Rattle.dr_core.proofs.Steps.{NoneHold}
 
 unless-none : (tests : List (Bool × Refusal)) (m : State) (o : Outcome) → NoneHold tests → unless tests m o ≡ o
@@ -66,16 +65,22 @@ refused_step v command r refuses =
 pub halt_step : (v : CoreView) → IsStep v Halt Halting [] (record v { halted = true })
 halt_step v =
     accepted_step v (record v { halted = true }) Halt Halting [] refl refl (λ m sh. tt) (λ m sh. refl) (λ m sh. refl)
-    (λ m sh. record { next = sh.next; front = sh.front; taken = sh.taken; completed = sh.completed; halted = refl; recent = sh.recent; unclaimed = sh.unclaimed })
+    (λ m sh. record { next = sh.next; front = sh.front; taken = sh.taken; completed = sh.completed; halted = refl; retired = sh.retired; recent = sh.recent; unclaimed = sh.unclaimed })
 
-pub complete_step : (v : CoreView) (h upto : ℕ) → h < handlers v.setup → slice_index v.completed h ≤ upto → upto ≤ slice_index v.taken h
+pub complete_step : (v : CoreView) (h upto : ℕ) → h < handlers v.setup → retired_in v h ≡ false → slice_index v.completed h ≤ upto → upto ≤ slice_index v.taken h
     → IsStep v (Complete h upto) Completed [] (record v { completed = slice_set v.completed h upto })
-complete_step v h upto inside up low =
+complete_step v h upto inside left up low =
     accepted_step v (record v { completed = slice_set v.completed h upto }) (Complete h upto) Completed [] refl refl
-    (λ m sh. (lt-leb _ _ inside, (rw (sh.completed) (le-ltb _ _ up), (rw (sh.taken) (le-ltb _ _ low), tt))))
+    (λ m sh. (lt-leb _ _ inside, (sh.retired h ∙ left, (rw (sh.completed) (le-ltb _ _ up), (rw (sh.taken) (le-ltb _ _ low), tt)))))
     (λ m sh. refl)
     (λ m sh. refl)
-    (λ m sh. record { next = sh.next; front = sh.front; taken = sh.taken; completed = ap (λ ns. slice_set ns h upto) sh.completed; halted = sh.halted; recent = sh.recent; unclaimed = sh.unclaimed })
+    (λ m sh. record { next = sh.next; front = sh.front; taken = sh.taken; completed = ap (λ ns. slice_set ns h upto) sh.completed; halted = sh.halted; retired = sh.retired; recent = sh.recent; unclaimed = sh.unclaimed })
+
+-- the claim's gate is the least completed count that the core finds
+pub gate_same : (v : CoreView) (m : State) → Shows v m → least_completed m (gating v.setup m) ≡ gate_of v
+gate_same v m sh =
+    ap (λ fs. least_of (map (λ h. slice_index m.completed h) fs)) (finals_agree v.setup.upstreams m.retired (retired_in v) sh.retired)
+    ∙ ap (λ cs. least_of (map (λ h. slice_index cs h) (finals_without v.setup.upstreams (retired_in v)))) sh.completed
 
 -- the owners after a claim
 owner_before : (owners : List ℕ) (n p s : ℕ) → s < length owners → slice_index (owners ++ replicate n p) s ≡ slice_index owners s
@@ -113,6 +118,7 @@ module _ (v : CoreView) (p n : ℕ) (known : ℕ → Known) (knows : ClaimsKnown
         taken = sh.taken;
         completed = sh.completed;
         halted = sh.halted;
+        retired = sh.retired;
         recent = λ s l r. rw (known_at-recent known (v.next + n) v.setup.size s l r) (elim (cases_lt s v.next) [
           | inl old ↦ (let owner : slice_index (m.owners ++ replicate n p) s ≡ slice_index m.owners s = owner_before m.owners n p s (omega arith) in rw (knows.kept s old r, owner) (sh.recent s old (omega arith)))
           | inr fresh ↦ rw (knows.fresh s fresh l) (owner_after m.owners n p s (omega arith) (omega arith), (sh.unclaimed s fresh).0, (sh.unclaimed s fresh).1)
@@ -121,7 +127,7 @@ module _ (v : CoreView) (p n : ℕ) (known : ℕ → Known) (knows : ClaimsKnown
       }
 
   pub claim_step : p < producers v.setup.mode → n ≢ 0 → n ≤ v.setup.size → v.halted ≡ false → v.next + n ≤ v.setup.limit
-      → v.next + n ≤ v.setup.size + least_of (map (λ h. slice_index v.completed h) (finals v.setup.upstreams))
+      → v.next + n ≤ v.setup.size + gate_of v
       → IsStep v (Claim p n) (Claimed v.next (v.next + n - 1)) [] (record v { next = v.next + n; recent = recent_of known (v.next + n) v.setup.size })
   claim_step producer some fits going limit room =
       accepted_step v (record v { next = v.next + n; recent = recent_of known (v.next + n) v.setup.size }) (Claim p n) (Claimed v.next (v.next + n - 1)) [] refl refl
@@ -133,7 +139,7 @@ module _ (v : CoreView) (p n : ℕ) (known : ℕ → Known) (knows : ClaimsKnown
             sh.halted ∙ going,
             (
               rw here (le-ltb _ _ limit),
-              (rw (here, sh.completed) (le-ltb _ _ room), tt),
+              (rw (here, gate_same v m sh) (le-ltb _ _ room), tt),
             ),
           ),
         ),
@@ -142,18 +148,16 @@ module _ (v : CoreView) (p n : ℕ) (known : ℕ → Known) (knows : ClaimsKnown
       (λ m sh. refl)
       (claimed_shows fits)
 
--- the least of the finals' counts is the least of all
-pub finals_least : (v : CoreView) → IsWhole v → (h : ℕ) → h < handlers v.setup → least_of (map (λ f. slice_index v.completed f) (finals v.setup.upstreams)) ≤ slice_index v.completed h
-finals_least v whole h inside =
-    let counts : ℕ → ℕ = λ k. slice_index v.completed k in
-    let gate : IsGated v.setup.upstreams counts h =
-    whole.graph.gate counts (λ k u has. (let a : slice_index v.completed k ≤ slice_index v.taken k = whole.took k in let b : slice_index v.taken k ≤ slice_index v.completed u = whole.after k u has in omega arith)) h inside in
-    let low : least_of (map counts (finals v.setup.upstreams)) ≤ slice_index v.completed gate.last = least_of-member counts (finals v.setup.upstreams) gate.last gate.final in
-    let behind : slice_index v.completed gate.last ≤ slice_index v.completed h = gate.behind in
-    omega arith
+-- no handler completed more than an upstream
+pub orderly : (v : CoreView) → IsWhole v → IsOrderly v.setup.upstreams (λ h. slice_index v.completed h)
+orderly v whole h u has = (let a : slice_index v.completed h ≤ slice_index v.taken h = whole.took h in let b : slice_index v.taken h ≤ slice_index v.completed u = whole.after h u has in omega arith)
+
+-- the least of the finals' counts is the least of all that are left
+pub finals_least : (v : CoreView) → IsWhole v → (h : ℕ) → h < handlers v.setup → retired_in v h ≡ false → gate_of v ≤ slice_index v.completed h
+finals_least v whole h inside left = least_gates v.setup.upstreams whole.graph.gate (retired_in v) (λ k. slice_index v.completed k) (orderly v whole) h inside left
 
 -- sequences are claimed within the limit and the room, and published within what is claimed; what is known of the recent ones is no part of it
-counts_whole : (v : CoreView) (next' front' : ℕ) (recent : List Known) → IsWhole v → next' ≤ v.setup.limit → ((h : ℕ) → h < handlers v.setup → next' ≤ v.setup.size + slice_index v.completed h) → v.front ≤ front' → front' ≤ next'
+counts_whole : (v : CoreView) (next' front' : ℕ) (recent : List Known) → IsWhole v → next' ≤ v.setup.limit → ((h : ℕ) → h < handlers v.setup → retired_in v h ≡ false → next' ≤ v.setup.size + slice_index v.completed h) → v.front ≤ front' → front' ≤ next'
     → IsWhole (record v { next = next'; front = front'; recent = recent })
 counts_whole v next' front' recent whole limit room up low = record {
   graph = whole.graph;
@@ -161,6 +165,8 @@ counts_whole v next' front' recent whole limit room up low = record {
   limit = whole.limit;
   taken = whole.taken;
   completed = whole.completed;
+  retired = whole.retired;
+  left = whole.left;
   claimed = limit;
   front = low;
   in_front = λ h. (let a : slice_index v.taken h ≤ v.front = whole.in_front h in omega arith);
@@ -169,25 +175,21 @@ counts_whole v next' front' recent whole limit room up low = record {
   room = room;
 }
 
-pub claim_whole : (v : CoreView) (n : ℕ) (recent : List Known) → IsWhole v → v.next + n ≤ v.setup.limit → v.next + n ≤ v.setup.size + least_of (map (λ h. slice_index v.completed h) (finals v.setup.upstreams))
+pub claim_whole : (v : CoreView) (n : ℕ) (recent : List Known) → IsWhole v → v.next + n ≤ v.setup.limit → v.next + n ≤ v.setup.size + gate_of v
     → IsWhole (record v { next = v.next + n; recent = recent })
 claim_whole v n recent whole limit room =
     let front : v.front ≤ v.next = whole.front in
     counts_whole v (v.next + n) v.front recent whole limit
-    (λ h inside. (let l : least_of (map (λ f. slice_index v.completed f) (finals v.setup.upstreams)) ≤ slice_index v.completed h = finals_least v whole h inside in omega arith))
+    (λ h inside left. (let l : gate_of v ≤ slice_index v.completed h = finals_least v whole h inside left in omega arith))
     (omega arith) (omega arith)
 
 pub front_whole : (v : CoreView) (front' : ℕ) (recent : List Known) → IsWhole v → v.front ≤ front' → front' ≤ v.next → IsWhole (record v { front = front'; recent = recent })
 front_whole v front' recent whole up low = counts_whole v v.next front' recent whole whole.claimed whole.room up low
 
--- every final is a handler
-pub finals_within : (upstreams : List (List ℕ)) → All (λ h. h < length upstreams) (finals upstreams)
-finals_within upstreams = All-filter (is_final upstreams) (λ h. h < length upstreams) (range_with_len 0 (length upstreams)) (λ k d l. (let n : length (range_with_len 0 (length upstreams)) ≡ length upstreams = length-range_with_len 0 (length upstreams) in let inside : k < length upstreams = omega arith in rw get_or-range_with_len (omega arith)))
-
 -- a claim that does not fit beside what the finals have not completed
 pub claim_no_room : (v : CoreView) (p n : ℕ) → p < producers v.setup.mode → n ≢ 0 → n ≤ v.setup.size → v.halted ≡ false → v.next + n ≤ v.setup.limit
-    → nat_le (v.next + n) (v.setup.size + least_of (map (λ h. slice_index v.completed h) (finals v.setup.upstreams))) ≡ false → IsStep v (Claim p n) (Refused NoRoom) [] v
+    → nat_le (v.next + n) (v.setup.size + gate_of v) ≡ false → IsStep v (Claim p n) (Refused NoRoom) [] v
 claim_no_room v p n producer some fits going limit full =
     refused_step v (Claim p n) NoRoom
     (λ m sh. let here : next m ≡ v.next = sh.next in
-    inr (lt-leb _ _ producer, inr (or_from _ _ (ne_eqb n 0 some) (le-ltb _ _ fits), inr (sh.halted ∙ going, inr (rw here (le-ltb _ _ limit), inl (rw (here, sh.completed) (lt-ltb _ _ (leb-false _ _ full)), refl))))))
+    inr (lt-leb _ _ producer, inr (or_from _ _ (ne_eqb n 0 some) (le-ltb _ _ fits), inr (sh.halted ∙ going, inr (rw here (le-ltb _ _ limit), inl (rw (here, gate_same v m sh) (lt-ltb _ _ (leb-false _ _ full)), refl))))))

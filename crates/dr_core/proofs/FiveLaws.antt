@@ -1,15 +1,16 @@
 -- Every transcript of the machine is lawful.
 use Rattle.std.proofs.Common.{◌≡◌, ℕ, ◌+◌, ◌-◌, ◌<◌, ◌≤◌, ◌≢◌, true, false, ◌&&◌, [], ◌∷◌, ◌++◌, arith, refl, sym, ◌∙◌, length, slice_index, append_assoc}
-use Rattle.std.specs.Prelude.{Contains, ◌==◌, nat_lt}
-use Rattle.std.proofs.lemmas.Bool.{cond_both, and_parts, or_parts, false≢true, eqb-true, eqb-false}
+use Rattle.std.specs.Prelude.{Contains, ◌==◌, nat_lt, not}
+use Rattle.std.proofs.lemmas.Bool.{cond_both, and_parts, or_parts, false≢true, eqb-true, eqb-false, not-true, not-false}
 use Rattle.std.proofs.lemmas.Bool.Decides.{nat_tests}
 use Rattle.std.proofs.lemmas.List.{append-nil}
 use Rattle.dr_core.specs.declared.command.Command.{Command}
-use Rattle.dr_core.specs.declared.command.Command.TheVariants.{Claim, Write, Publish, Poll, Complete, Halt}
+use Rattle.dr_core.specs.declared.command.Command.TheVariants.{Claim, Write, Publish, Poll, Complete, Halt, Retire}
 use Rattle.dr_core.specs.declared.command.Reply.TheVariants.{Claimed, Drained, Gating, Idle}
-use Rattle.dr_graph.specs.Graph.{finals}
-use Rattle.dr_core.specs.Machine.{Setup, State, Outcome, handlers, next, front, available, least_completed, refusals, accepted, unchanged, step, batch, cursor, opening}
-use Rattle.dr_core.specs.Transcript.{Entry, Transcript, LeadsFrom, LeadsTo, next_of, is_published, front_of, taken_by, completed_by}
+use Rattle.dr_graph.proofs.Gating.{finals_agree, finals_gate, found_in, least_rises}
+use Rattle.dr_graph.specs.Graph.{IsLayered, IsOrderly}
+use Rattle.dr_core.specs.Machine.{Setup, State, Outcome, handlers, next, front, available, gate, gating, retired_with, least_completed, refusals, accepted, unchanged, step, batch, cursor, opening}
+use Rattle.dr_core.specs.Transcript.{Entry, Transcript, LeadsFrom, LeadsTo, next_of, is_published, front_of, taken_by, completed_by, retired_by}
 use Rattle.dr_core.specs.Tells.{Tells}
 use Rattle.dr_core.specs.Laws.{ReceivedInOrder, AfterUpstreams, HasRoom, NoClaimAfterHalt, DrainedIsComplete, Laws}
 use Rattle.dr_core.proofs.Leasts.{least_is, least_agree, least_of-member}
@@ -36,6 +37,7 @@ opening_reached c = record {
     received = λ h k l. absurd (let z : slice_index (opening c).taken h ≡ 0 = zeros (handlers c) h in omega arith);
     completed = λ h. sym (zeros (handlers c) h);
     halted = refl;
+    retired = λ h. refl;
   };
 }
 
@@ -100,17 +102,18 @@ accepted_rises c m (Publish p lo hi) h sound none = omega arith
 accepted_rises c m (Poll at limit) h sound none = poll_cases c m at limit (Rises m h) (omega arith) (λ a b. omega arith) (omega arith) (omega arith)
 accepted_rises c m (Complete at upto) h sound none =
     let inside : at < handlers c = grind (arith, nat_tests, none.0) in
-    let up : slice_index m.completed at ≤ upto = grind (arith, nat_tests, none.1.0) in
+    let up : slice_index m.completed at ≤ upto = grind (arith, nat_tests, none.1.1.0) in
     let len : at < length m.completed = (let e : length m.completed ≡ handlers c = sound.completed_len in omega arith) in
     rw (set_count m.completed at upto h len) (cond_both (h == at) upto (slice_index m.completed h) (λ n. slice_index m.completed h ≤ n) (λ y. (let e : h ≡ at = eqb-true h at y in rw e up)) (λ n. omega arith))
 accepted_rises c m Halt h sound none = omega arith
+accepted_rises c m (Retire at) h sound none = omega arith
 
 step_rises : (c : Setup) (m : State) (command : Command) (h : ℕ) → IsSound c m → Rises m h (step c m command)
 step_rises c m command h sound = unless-cases (Rises m h) (refusals c m command) m (accepted c m command) (λ r. omega arith) (accepted_rises c m command h sound)
 
 -- an accepted claim has room, and comes before a halt
 abbrev ClaimsInRoom : Setup → State → Outcome → Type 0
-ClaimsInRoom c m o = (lo hi : ℕ) → o.reply ≡ Claimed lo hi → (m.halted ≡ false) × ((f : ℕ) → Contains (finals c.upstreams) f → hi + 1 ≤ c.size + slice_index m.completed f)
+ClaimsInRoom c m o = (lo hi : ℕ) → o.reply ≡ Claimed lo hi → (m.halted ≡ false) × ((f : ℕ) → Contains (gating c m) f → hi + 1 ≤ c.size + slice_index m.completed f)
 
 claimed_end : (lo hi a b : ℕ) → Claimed a b ≡ Claimed lo hi → hi ≡ b
 claimed_end lo hi a b e = cc
@@ -119,15 +122,16 @@ accepted_room : (c : Setup) (m : State) (command : Command) → NoneHold (refusa
 accepted_room c m (Claim p n) none lo hi e =
     let ends : hi ≡ next m + n - 1 = claimed_end lo hi (next m) (next m + n - 1) e in
     let ne : n ≢ 0 = eqb-false n 0 (or_parts _ _ none.1.0).0 in
-    let room : next m + n ≤ c.size + least_completed m (finals c.upstreams) = grind (arith, nat_tests, none.1.1.1.1.0) in
-    (none.1.1.0, λ f has. (let l : least_completed m (finals c.upstreams) ≤ slice_index m.completed f = least_of-member (λ h. slice_index m.completed h) (finals c.upstreams) f has in omega arith))
+    let room : next m + n ≤ c.size + least_completed m (gating c m) = grind (arith, nat_tests, none.1.1.1.1.0) in
+    (none.1.1.0, λ f has. (let l : least_completed m (gating c m) ≤ slice_index m.completed f = least_of-member (λ h. slice_index m.completed h) (gating c m) f has in omega arith))
 accepted_room c m (Write p s v) none lo hi e = cc
 accepted_room c m (Publish p a b) none lo hi e = cc
 accepted_room c m (Poll at limit) none lo hi e =
-    poll_cases c m at limit (λ o. o.reply ≡ Claimed lo hi → (m.halted ≡ false) × ((f : ℕ) → Contains (finals c.upstreams) f → hi + 1 ≤ c.size + slice_index m.completed f))
+    poll_cases c m at limit (λ o. o.reply ≡ Claimed lo hi → (m.halted ≡ false) × ((f : ℕ) → Contains (gating c m) f → hi + 1 ≤ c.size + slice_index m.completed f))
     (λ x. cc) (λ a b x. cc) (λ x. cc) (λ x. cc) e
 accepted_room c m (Complete at upto) none lo hi e = cc
 accepted_room c m Halt none lo hi e = cc
+accepted_room c m (Retire at) none lo hi e = cc
 
 step_room : (c : Setup) (m : State) (command : Command) → ClaimsInRoom c m (step c m command)
 step_room c m command = unless-cases (ClaimsInRoom c m) (refusals c m command) m (accepted c m command) (λ r lo hi e. cc) (accepted_room c m command)
@@ -174,7 +178,7 @@ module _ (c : Setup) (t : Transcript) (m : State) (e : Entry) (at : Reached c t 
   room : HasRoom c t e
   room lo hi f claimed has =
       let a : completed_by t f ≡ slice_index m.completed f = at.tells.completed f in
-      let l : hi + 1 ≤ c.size + slice_index m.completed f = (step_room c m e.command lo hi (r ∙ claimed)).1 f has in
+      let l : hi + 1 ≤ c.size + slice_index m.completed f = (step_room c m e.command lo hi (r ∙ claimed)).1 f (rw (finals_agree c.upstreams (retired_by t) m.retired at.tells.retired) at has) in
       omega arith
 
   unhalted : NoClaimAfterHalt t e
@@ -212,3 +216,16 @@ lawful c t m leads = record {
   no_claim_after_halt = λ start rest e is. (let r : Through c start (e ∷ rest) m = through c t m leads start (e ∷ rest) is in unhalted c start r.0 e (reached c start r.0 r.1) r.2.0);
   drained_is_complete = λ start rest e is. (let r : Through c start (e ∷ rest) m = through c t m leads start (e ∷ rest) is in drains c start r.0 e (reached c start r.0 r.1) r.2.0);
 }
+
+-- no handler of a state completed more than an upstream
+sound_orderly : (c : Setup) (m : State) → IsSound c m → IsOrderly c.upstreams (λ h. slice_index m.completed h)
+sound_orderly c m sound h u has = (let a : slice_index m.completed h ≤ slice_index m.taken h = sound.took h in let b : slice_index m.taken h ≤ slice_index m.completed u = sound.after h u has in omega arith)
+
+-- no retirement lowers the count that a claim is gated by
+pub retirement_keeps : (c : Setup) (t : Transcript) (m : State) (h : ℕ) → IsLayered c.upstreams → LeadsTo c t m → gate c m ≤ gate c (step c m (Retire h)).state
+retirement_keeps c t m h layered leads =
+    let sound : IsSound c m = (reached c t m leads).sound in
+    unless-cases (λ o. gate c m ≤ gate c o.state) (refusals c m (Retire h)) m (accepted c m (Retire h)) (λ r. omega arith)
+    (λ none.
+    let at : (k : ℕ) × (0 ≤ k) × (k < 0 + handlers c) × (not (retired_with m h k) ≡ true) = found_in (λ k. not (retired_with m h k)) 0 (handlers c) (not-false _ none.1.1.1.0) in
+    least_rises c.upstreams (finals_gate c.upstreams layered) m.retired (retired_with m h) (λ k here. (or_parts _ _ here).0) (λ k. slice_index m.completed k) (sound_orderly c m sound) at.0 (omega (arith, at.2)) (not-true _ at.3))

@@ -6,7 +6,7 @@ use Rattle.std.proofs.lemmas.Bool.{cond_both, or_cases, and_parts, false≢true,
 use Rattle.std.proofs.lemmas.Bool.Decides.{nat_tests}
 use Rattle.std.proofs.lemmas.List.{length-append, length-replicate, length-set}
 use Rattle.dr_core.specs.declared.command.Command.{Command}
-use Rattle.dr_core.specs.declared.command.Command.TheVariants.{Claim, Write, Publish, Poll, Complete, Halt}
+use Rattle.dr_core.specs.declared.command.Command.TheVariants.{Claim, Write, Publish, Poll, Complete, Halt, Retire}
 use Rattle.dr_seq.specs.declared.event.Event.{Event}
 use Rattle.dr_graph.specs.Graph.{upstreams_of}
 use Rattle.dr_core.specs.Machine.{Setup, State, Outcome, handlers, next, front, available, offered, least_outside, refusals, accepted, step, batch, publish_faults, cursor, opening}
@@ -68,8 +68,8 @@ complete_sound : (c : Setup) (m : State) (at upto : ℕ) → IsSound c m → Non
 complete_sound c m at upto sound none =
     let inside : at < handlers c = grind (arith, nat_tests, none.0) in
     let len : at < length m.completed = (let e : length m.completed ≡ handlers c = sound.completed_len in omega arith) in
-    let up : slice_index m.completed at ≤ upto = grind (arith, nat_tests, none.1.0) in
-    let low : upto ≤ slice_index m.taken at = grind (arith, nat_tests, none.1.1.0) in
+    let up : slice_index m.completed at ≤ upto = grind (arith, nat_tests, none.1.1.0) in
+    let low : upto ≤ slice_index m.taken at = grind (arith, nat_tests, none.1.1.1.0) in
     record {
       claimed = sound.claimed;
       written = sound.written;
@@ -120,6 +120,7 @@ accepted_sound c m (Publish p lo hi) sound none = publish_sound c m p lo hi soun
 accepted_sound c m (Poll h limit) sound none = poll_sound c m h limit sound none
 accepted_sound c m (Complete h upto) sound none = complete_sound c m h upto sound none
 accepted_sound c m Halt sound none = record { claimed = sound.claimed; written = sound.written; taken_len = sound.taken_len; completed_len = sound.completed_len; in_front = sound.in_front; took = sound.took; after = sound.after }
+accepted_sound c m (Retire h) sound none = record { claimed = sound.claimed; written = sound.written; taken_len = sound.taken_len; completed_len = sound.completed_len; in_front = sound.in_front; took = sound.took; after = sound.after }
 
 pub step_sound : (c : Setup) (m : State) (command : Command) → IsSound c m → IsSound c (step c m command).state
 step_sound c m command sound = unless-cases (λ o. IsSound c o.state) (refusals c m command) m (accepted c m command) (λ r. sound) (accepted_sound c m command sound)

@@ -1,10 +1,12 @@
 -- Laws of the least number outside a set, and of the least of some numbers.
-use Rattle.std.proofs.Common.{◌≡◌, ℕ, zero, suc, ◌+◌, ◌<◌, ◌≤◌, inl, inr, min, Bool, true, false, ◌&&◌, List, [], ◌∷◌, ◌++◌, arith, refl, ap, sym, ◌∙◌, map, take}
+use Rattle.std.proofs.Common.{◌≡◌, ℕ, zero, suc, ◌+◌, ◌<◌, ◌≤◌, inl, inr, min, Bool, true, false, ◌&&◌, List, [], ◌∷◌, ◌++◌, arith, refl, ap, sym, ◌∙◌, map, take, filter, not}
 use Rattle.std.proofs.lemmas.Bool.Decides.{nat_tests}
-use Rattle.std.proofs.lemmas.List.{map_more, length-map, length-take-le, get_or-map}
-use Rattle.std.proofs.lemmas.Bool.{cond_both, and_parts, and_cases, eqb-true, eqb-false, false≢true, cases_order, cases_lt}
+use Rattle.std.proofs.lemmas.List.{map_more, map_push, length_push, length-map, length-take-le, get_or-map}
+use Rattle.std.proofs.lemmas.Bool.{cond_both, and_parts, and_cases, eqb-true, eqb-false, false≢true, cases_order, cases_lt, ne_eqb}
 use Rattle.std.specs.Prelude.{◌==◌, if◌then◌else◌, get_or, length, Contains}
+use Rattle.std.specs.List.{range_with_len}
 use Rattle.dr_graph.specs.Graph.{least_of}
+use Rattle.dr_graph.proofs.Gating.{filter_push, filter_skip}
 use Rattle.dr_core.specs.Machine.{least_outside}
 
 -- what the answer is: all below it are in the set, and it is not, unless it is the bound
@@ -97,3 +99,28 @@ least_of-member counts hs h has =
     let b : get_or (map counts hs) has.0 0 ≡ counts (get_or hs has.0 h) = get_or-map counts hs has.0 h 0 has.1 in
     let d : get_or hs has.0 h ≡ h = has.2 in
     rw d at (rw b at a)
+
+-- the least count of those handlers below a bound that pass a test, and whether there is one
+pub record IsLeastOf (p : ℕ → Bool) (counts : ℕ → ℕ) (bound : ℕ) (found : Bool) (least : ℕ) : Type 0 where
+  pub some : found ≡ not (length (filter p (range_with_len 0 bound)) == 0)
+  pub lowest : least ≡ least_of (map counts (filter p (range_with_len 0 bound)))
+
+not_first : (none : Bool) (a b : ℕ) → (if not none then b else a) ≡ (if none then a else b)
+not_first true a b = refl
+not_first false a b = refl
+
+-- one handler more
+pub least_turn : (p : ℕ → Bool) (counts : ℕ → ℕ) (bound : ℕ) (found : Bool) (least new : ℕ) → IsLeastOf p counts bound found least → p bound ≡ true → new ≡ (if found then min least (counts bound) else counts bound) → IsLeastOf p counts (bound + 1) true new
+least_turn p counts bound found least new old passed is =
+    let fs : List ℕ = filter p (range_with_len 0 bound) in
+    let more : fs ++ bound ∷ [] ≡ filter p (range_with_len 0 (bound + 1)) = filter_push p bound fs (fs ++ bound ∷ []) refl passed refl in
+    let some : true ≡ not (length (fs ++ bound ∷ []) == 0) = sym (ap not (ne_eqb (length (fs ++ bound ∷ [])) 0 (let l : length (fs ++ bound ∷ []) ≡ length fs + 1 = length_push fs bound in omega arith))) in
+    let lower : least_of (map counts (fs ++ bound ∷ [])) ≡ (if length (map counts fs) == 0 then counts bound else min (least_of (map counts fs)) (counts bound)) = ap least_of (map_push counts fs bound) ∙ least_of-push (map counts fs) (counts bound) in
+    let here : new ≡ least_of (map counts (fs ++ bound ∷ [])) = rw (lower, length-map fs counts, is, old.some, old.lowest) (not_first (length fs == 0) (counts bound) (min (least_of (map counts fs)) (counts bound))) in
+    record { some = rw more at some; lowest = rw more at here }
+
+pub least_skip : (p : ℕ → Bool) (counts : ℕ → ℕ) (bound : ℕ) (found : Bool) (least : ℕ) → IsLeastOf p counts bound found least → p bound ≡ false → IsLeastOf p counts (bound + 1) found least
+least_skip p counts bound found least old failed =
+    let fs : List ℕ = filter p (range_with_len 0 bound) in
+    let same : fs ≡ filter p (range_with_len 0 (bound + 1)) = filter_skip p bound fs fs refl failed refl in
+    record { some = rw same at old.some; lowest = rw same at old.lowest }

@@ -16,3 +16,5 @@ pub mod Recents
 pub mod Copying
 pub mod Showings
 pub mod Gating
+pub mod Retiring
+pub mod Completing

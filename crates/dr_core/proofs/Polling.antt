@@ -12,7 +12,7 @@ use Rattle.dr_seq.specs.Event.{no_event}
 use Rattle.dr_seq.proofs.Sizes.{size_positive}
 use Rattle.dr_graph.specs.Graph.{upstreams_of, IsGraph, least_of}
 use Rattle.dr_core.specs.Machine.{State, handlers, is_single, next, available, offered, cursor, batch, unchanged, accepted, step}
-use Rattle.dr_core.specs.CoreView.{Known, Nothing, ClaimedBy, WrittenBy, PublishedWith, CoreView, known_at}
+use Rattle.dr_core.specs.CoreView.{Known, Nothing, ClaimedBy, WrittenBy, PublishedWith, CoreView, known_at, retired_in}
 use Rattle.dr_core.specs.Availability.{is_shown, value_of}
 use Rattle.dr_core.specs.Shows.{Shows, Agrees, IsStep, offered_to, poll_reply, polled}
 use Rattle.dr_core.specs.Runs.{count_in}
@@ -63,9 +63,9 @@ map_same f g a (suc n) h = (let e : f a ≡ g a = h a (omega arith) (omega arith
 cursor_same : (v : CoreView) (m : State) → Shows v m → cursor v.setup m ≡ (if is_single v.setup.mode then v.front else v.next)
 cursor_same v m sh = ap (λ f. if is_single v.setup.mode then f else next m) sh.front ∙ ap (λ n. if is_single v.setup.mode then v.front else n) sh.next
 
-module _ (v : CoreView) (h limit : ℕ) (whole : IsWhole v) (inside : h < handlers v.setup) (some : limit ≢ 0) where
-  none : (m : State) → Shows v m → (nat_le (handlers v.setup) h ≡ false) × (((limit == 0) ≡ false) × Unit {0})
-  none m sh = (lt-leb _ _ inside, (ne_eqb limit 0 some, tt))
+module _ (v : CoreView) (h limit : ℕ) (whole : IsWhole v) (inside : h < handlers v.setup) (left : retired_in v h ≡ false) (some : limit ≢ 0) where
+  none : (m : State) → Shows v m → (nat_le (handlers v.setup) h ≡ false) × ((m.retired h ≡ false) × (((limit == 0) ≡ false) × Unit {0}))
+  none m sh = (lt-leb _ _ inside, (sh.retired h ∙ left, (ne_eqb limit 0 some, tt)))
 
   same : (m : State) → Shows v m → available v.setup m h ≡ offered_to v (upstreams_of v.setup.upstreams h)
   same m sh = offered_same v m sh (upstreams_of v.setup.upstreams h)
@@ -110,7 +110,7 @@ module _ (v : CoreView) (h limit : ℕ) (whole : IsWhole v) (inside : h < handle
         (λ m sh. let t : slice_index m.taken h ≡ first = first_is m sh in let e : available v.setup m h ≡ to = same m sh ∙ sym b in ap (λ o. o.reply) (is_batch m sh) ∙ rw (e, t, ← d))
         (λ m sh. let t : slice_index m.taken h ≡ first = first_is m sh in let e : available v.setup m h ≡ to = same m sh ∙ sym b in ap (λ o. o.values) (is_batch m sh) ∙ rw (e, t, ← d) (values m sh))
         (λ m sh. let t : slice_index m.taken h ≡ first = first_is m sh in let e : available v.setup m h ≡ to = same m sh ∙ sym b in rw (is_batch m sh) (rw (e, t, ← d)
-        (record { next = sh.next; front = sh.front; taken = ap (λ ns. slice_set ns h (first + count)) sh.taken; completed = sh.completed; halted = sh.halted; recent = sh.recent; unclaimed = sh.unclaimed })))
+        (record { next = sh.next; front = sh.front; taken = ap (λ ns. slice_set ns h (first + count)) sh.taken; completed = sh.completed; halted = sh.halted; retired = sh.retired; recent = sh.recent; unclaimed = sh.unclaimed })))
       where
         first_is : (m : State) → Shows v m → slice_index m.taken h ≡ first
         first_is m sh = ap (λ ts. slice_index ts h) sh.taken ∙ sym a
@@ -119,7 +119,7 @@ module _ (v : CoreView) (h limit : ℕ) (whole : IsWhole v) (inside : h < handle
         values m sh = map_same (λ s. unwrap_or (m.written s) no_event) event first count
             (λ k x y. let f : offered_to v (upstreams_of v.setup.upstreams h) ≤ v.front = offered_front v whole (upstreams_of v.setup.upstreams h) in
             let n : v.front ≤ v.next = whole.front in
-            let r : v.next ≤ v.setup.size + slice_index v.completed h = whole.room h inside in
+            let r : v.next ≤ v.setup.size + slice_index v.completed h = whole.room h inside left in
             let c : slice_index v.completed h ≤ slice_index v.taken h = whole.took h in
             let there : (is_shown (known_at v k) ≡ true) × (value_of (known_at v k) ≡ unwrap_or (m.written k) no_event) = known_value (known_at v k) _ _ _ (below_front v m sh k (omega arith)) (sh.recent k (omega arith) (omega arith)) in
             sym (holds k (omega arith) (omega arith) there.0 ∙ there.1))
@@ -134,6 +134,8 @@ module _ (v : CoreView) (h limit : ℕ) (whole : IsWhole v) (inside : h < handle
           limit = whole.limit;
           taken = length-set v.taken h (slice_index v.taken h + count) ∙ whole.taken;
           completed = whole.completed;
+          retired = whole.retired;
+          left = whole.left;
           claimed = whole.claimed;
           front = whole.front;
           in_front = λ k. rw (set_count v.taken h (slice_index v.taken h + count) k len) (cond_both (k == h) (slice_index v.taken h + count) (slice_index v.taken k) (λ n. n ≤ v.front) (λ y. omega arith) (λ n. whole.in_front k));
@@ -166,21 +168,24 @@ step_capped : (v : CoreView) (m : State) (h limit : ℕ) → IsWhole v → Shows
 step_capped v m h limit whole sh =
     elim (cases_Bool (nat_le (handlers v.setup) h)) [
       | inl y ↦ cond-true _ _ _ y ∙ sym (cond-true _ _ _ y)
-      | inr n ↦
-          let inside : h < handlers v.setup = leb-false (handlers v.setup) h n in
-          let pos : 0 < v.setup.size = size_positive v.setup.size whole.size in
-          let room : v.next ≤ v.setup.size + slice_index v.completed h = whole.room h inside in
-          let took : slice_index v.completed h ≤ slice_index v.taken h = whole.took h in
-          let to : available v.setup m h ≡ offered_to v (upstreams_of v.setup.upstreams h) = offered_same v m sh (upstreams_of v.setup.upstreams h) in
-          let front : offered_to v (upstreams_of v.setup.upstreams h) ≤ v.front = offered_front v whole (upstreams_of v.setup.upstreams h) in
-          let claimed : v.front ≤ v.next = whole.front in
-          let first : slice_index m.taken h ≡ slice_index v.taken h = ap (λ ts. slice_index ts h) sh.taken in
-          let count : min (available v.setup m h - slice_index m.taken h) limit ≡ min (available v.setup m h - slice_index m.taken h) (min limit v.setup.size) = omega arith in
-          let zero : (limit == 0) ≡ (min limit v.setup.size == 0) = elim (cases_eq limit 0) [
-            | inl e ↦ eq-eqb _ _ e ∙ sym (eq-eqb _ _ (let z : min limit v.setup.size ≡ 0 = omega arith in z))
-            | inr ne ↦ ne_eqb _ _ ne ∙ sym (ne_eqb _ _ (let z : min limit v.setup.size ≢ 0 = omega arith in z))
-          ] in
-          rw zero (rw count)
+      | inr n ↦ elim (cases_Bool (m.retired h)) [
+        | inl gone ↦ cond-false _ _ _ n ∙ cond-true _ _ _ gone ∙ sym (cond-false _ _ _ n ∙ cond-true _ _ _ gone)
+        | inr here ↦
+            let inside : h < handlers v.setup = leb-false (handlers v.setup) h n in
+            let pos : 0 < v.setup.size = size_positive v.setup.size whole.size in
+            let room : v.next ≤ v.setup.size + slice_index v.completed h = whole.room h inside (sym (sh.retired h) ∙ here) in
+            let took : slice_index v.completed h ≤ slice_index v.taken h = whole.took h in
+            let to : available v.setup m h ≡ offered_to v (upstreams_of v.setup.upstreams h) = offered_same v m sh (upstreams_of v.setup.upstreams h) in
+            let front : offered_to v (upstreams_of v.setup.upstreams h) ≤ v.front = offered_front v whole (upstreams_of v.setup.upstreams h) in
+            let claimed : v.front ≤ v.next = whole.front in
+            let first : slice_index m.taken h ≡ slice_index v.taken h = ap (λ ts. slice_index ts h) sh.taken in
+            let count : min (available v.setup m h - slice_index m.taken h) limit ≡ min (available v.setup m h - slice_index m.taken h) (min limit v.setup.size) = omega arith in
+            let zero : (limit == 0) ≡ (min limit v.setup.size == 0) = elim (cases_eq limit 0) [
+              | inl e ↦ eq-eqb _ _ e ∙ sym (eq-eqb _ _ (let z : min limit v.setup.size ≡ 0 = omega arith in z))
+              | inr ne ↦ ne_eqb _ _ ne ∙ sym (ne_eqb _ _ (let z : min limit v.setup.size ≢ 0 = omega arith in z))
+            ] in
+            rw zero (rw count)
+      ]
     ]
 
 pub capped_step : (v w : CoreView) (h limit : ℕ) (reply : Reply) (values : List Event) → IsWhole v → IsStep v (Poll h (min limit v.setup.size)) reply values w → IsStep v (Poll h limit) reply values w
@@ -219,11 +224,12 @@ ready_is v h n to first a b d m sh =
 pub record PollsAt (v : CoreView) (h limit first to : ℕ) : Type 0 where
   pub whole : IsWhole v
   pub inside : h < handlers v.setup
+  pub left : retired_in v h ≡ false
   pub some : limit ≢ 0
   pub taken : first ≡ slice_index v.taken h
   pub offered : to ≡ offered_to v (upstreams_of v.setup.upstreams h)
 
-pub polls_at : (v : CoreView) (h limit count first to : ℕ) → IsWhole v → count ≡ handlers v.setup → h < count → limit ≢ 0 → first ≡ get_or v.taken h first → to ≡ offered_to v (upstreams_of v.setup.upstreams h) → PollsAt v h limit first to
-polls_at v h limit count first to whole counted inside some read offered =
+pub polls_at : (v : CoreView) (h limit count first to : ℕ) → IsWhole v → count ≡ handlers v.setup → h < count → retired_in v h ≡ false → limit ≢ 0 → first ≡ get_or v.taken h first → to ≡ offered_to v (upstreams_of v.setup.upstreams h) → PollsAt v h limit first to
+polls_at v h limit count first to whole counted inside left some read offered =
     let taken : length v.taken ≡ handlers v.setup = whole.taken in
-    record { whole = whole; inside = omega arith; some = some; taken = get_or_read v.taken h first (omega arith) read 0; offered = offered }
+    record { whole = whole; inside = omega arith; left = left; some = some; taken = get_or_read v.taken h first (omega arith) read 0; offered = offered }

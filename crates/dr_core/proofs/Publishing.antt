@@ -163,6 +163,7 @@ module _ (v : CoreView) (p lo hi front' : ℕ) (known : ℕ → Known) (knows : 
         taken = sh.taken;
         completed = sh.completed;
         halted = sh.halted;
+        retired = sh.retired;
         recent = λ k l r. rw (known_at-recent known v.next v.setup.size k l r) (elim (stretch_cases lo hi k) [
           | inl i ↦ (let off : lo + (k - lo) ≡ k = omega arith in
               let ok : publish_fault (known_at v k) p ≡ None = rw off at (none (k - lo) (omega arith)) in

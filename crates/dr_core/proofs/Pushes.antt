@@ -5,7 +5,7 @@ use Rattle.std.proofs.lemmas.List.{append-nil}
 use Rattle.std.proofs.lemmas.List.Sums.{fold-append}
 use Rattle.std.proofs.lemmas.List.Folds.{list_any-append}
 use Rattle.std.proofs.lemmas.Grind.{flat_map-append}
-use Rattle.dr_core.specs.Transcript.{Entry, Transcript, claimed_below, next_of, owner_of, claimant, first_of, wrote, covers, is_published, before_published, last_written, batch_to, received_by, completion, completed_by, halts, is_halted}
+use Rattle.dr_core.specs.Transcript.{Entry, Transcript, claimed_below, next_of, owner_of, claimant, first_of, wrote, covers, is_published, before_published, last_written, batch_to, received_by, completion, completed_by, halts, is_halted, retires, retired_by}
 
 pub or-false : (b : Bool) → (b || false) ≡ b
 or-false true = refl
@@ -22,6 +22,9 @@ published_push t e s = list_any-append _ t (e ∷ []) ∙ ap (λ b. is_published
 
 pub halted_push : (t : Transcript) (e : Entry) → is_halted (t ++ e ∷ []) ≡ (is_halted t || halts e.reply)
 halted_push t e = list_any-append _ t (e ∷ []) ∙ ap (λ b. is_halted t || b) (or-false _)
+
+pub retired_push : (t : Transcript) (e : Entry) (h : ℕ) → retired_by (t ++ e ∷ []) h ≡ (retired_by t h || retires e.reply e.command h)
+retired_push t e h = list_any-append _ t (e ∷ []) ∙ ap (λ b. retired_by t h || b) (or-false _)
 
 pub written_push : (t : Transcript) (e : Entry) (s : ℕ) → last_written (t ++ e ∷ []) s ≡ first_of (wrote e.reply e.command s) (last_written t s)
 written_push t e s = fold-append _ None t (e ∷ [])

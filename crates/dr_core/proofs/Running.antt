@@ -2,7 +2,7 @@
 use Rattle.std.proofs.Common.{◌≡◌, ℕ, ◌+◌, ◌<◌, ◌≤◌, List, [], ◌∷◌, ◌++◌, arith, refl, ap, sym, ◌∙◌, length, take, drop, get_or, append_assoc}
 use Rattle.std.proofs.lemmas.List.{drop_more, take_more, length-take-le, nil_from_length, take_all, append-nil, take-append-le, drop-append-le, length-append, length-drop}
 use Rattle.dr_core.specs.declared.command.Command.{Command}
-use Rattle.dr_core.specs.declared.command.Command.TheVariants.{Claim, Write, Publish, Poll, Complete, Halt}
+use Rattle.dr_core.specs.declared.command.Command.TheVariants.{Claim, Write, Publish, Poll, Complete, Halt, Retire}
 use Rattle.dr_core.specs.declared.command.Reply.{Reply}
 use Rattle.dr_seq.specs.declared.event.Event.{Event}
 use Rattle.dr_core.specs.Machine.{Setup, State, step, opening}
@@ -63,6 +63,7 @@ offers-le (Publish p lo hi) size = omega arith
 offers-le (Poll h limit) size = omega arith
 offers-le (Complete h upto) size = omega arith
 offers-le Halt size = omega arith
+offers-le (Retire h) size = omega arith
 
 -- the words that are left to hand out, one command on
 pub needed-more : (commands : List Command) (i : ℕ) (d : Command) (size : ℕ) → i < length commands → needed (drop i commands) size ≡ offers (get_or commands i d) size + needed (drop (i + 1) commands) size

@@ -8,14 +8,14 @@ use Rattle.std.proofs.lemmas.List.{length-append, length-replicate, get_or-repli
 use Rattle.std.proofs.lemmas.List.FromFn.{length-map-range_with_len, get_or-map-range_with_len}
 use Rattle.std.proofs.lemmas.Option.{slice_get-get_or, slice_get_past}
 use Rattle.dr_core.specs.declared.command.Command.{Command}
-use Rattle.dr_core.specs.declared.command.Command.TheVariants.{Claim, Write, Publish, Poll, Complete, Halt}
+use Rattle.dr_core.specs.declared.command.Command.TheVariants.{Claim, Write, Publish, Poll, Complete, Halt, Retire}
 use Rattle.dr_core.specs.declared.command.Reply.{Reply}
 use Rattle.dr_core.specs.declared.command.Reply.TheVariants.{Claimed, Drained, Gating, Idle, Refused}
 use Rattle.dr_seq.specs.declared.event.Event.{Event}
 use Rattle.dr_seq.specs.Event.{no_event}
 use Rattle.dr_graph.specs.Graph.{upstreams_of, least_of}
 use Rattle.dr_core.specs.Machine.{Setup, State, Outcome, handlers, next, front, available, offered, refusals, accepted, step, batch, cursor}
-use Rattle.dr_core.specs.Transcript.{Entry, claimed_below, claimant, first_of, wrote, covers, batch_to, completion, halts}
+use Rattle.dr_core.specs.Transcript.{Entry, claimed_below, claimant, first_of, wrote, covers, batch_to, completion, halts, retires}
 use Rattle.dr_core.proofs.Leasts.{least_is, least_of-le}
 use Rattle.dr_core.proofs.Pushes.{or-false}
 use Rattle.dr_core.proofs.Steps.{NoneHold, unless-cases}
@@ -45,8 +45,9 @@ unwritten : (c : Setup) (m n : State) (e : Entry) → IsSound c m → ((s : ℕ)
     → ((s : ℕ) → n.published s ≡ (m.published s || covers e.reply e.command s))
     → ((h : ℕ) → slice_index n.completed h ≡ unwrap_or (completion h e.reply e.command) (slice_index m.completed h))
     → n.halted ≡ (m.halted || halts e.reply)
+    → ((h : ℕ) → n.retired h ≡ (m.retired h || retires e.reply e.command h))
     → Changes m e n
-unwritten c m n e sound none no_batch written taken next owners published completed halted = record {
+unwritten c m n e sound none no_batch written taken next owners published completed halted retired = record {
   next = next;
   owners = owners;
   published = published;
@@ -54,6 +55,7 @@ unwritten c m n e sound none no_batch written taken next owners published comple
   taken = λ h. rw (no_batch h, taken) (sym (add-zero _));
   completed = completed;
   halted = halted;
+  retired = retired;
   settled = λ s p. none s;
   fresh = λ s p. none s;
   batch = λ h k l. absurd (let n : length (batch_to h e.reply e.command e.values) ≡ 0 = ap length (no_batch h) in omega arith);
@@ -65,9 +67,9 @@ first_of-none None = refl
 first_of-none (Some x) = refl
 
 -- a reply that changes nothing
-quiet : (c : Setup) (m : State) (command : Command) (r : Reply) → IsSound c m → claimed_below r ≡ 0 → ((s : ℕ) → claimant r command s ≡ None) → ((s : ℕ) → covers r command s ≡ false) → ((s : ℕ) → wrote r command s ≡ None) → ((h : ℕ) → batch_to h r command [] ≡ []) → ((h : ℕ) → completion h r command ≡ None) → halts r ≡ false → Changes m (record { command = command; reply = r; values = [] }) m
-quiet c m command r sound a o b d e f g =
-    unwritten c m m (record { command = command; reply = r; values = [] }) sound d e refl refl (rw a (omega arith)) (λ s. rw (o s) (first_of-none _)) (λ s. rw (b s) (sym (or-false _))) (λ h. rw (f h)) (rw g (sym (or-false _)))
+quiet : (c : Setup) (m : State) (command : Command) (r : Reply) → IsSound c m → claimed_below r ≡ 0 → ((s : ℕ) → claimant r command s ≡ None) → ((s : ℕ) → covers r command s ≡ false) → ((s : ℕ) → wrote r command s ≡ None) → ((h : ℕ) → batch_to h r command [] ≡ []) → ((h : ℕ) → completion h r command ≡ None) → halts r ≡ false → ((h : ℕ) → retires r command h ≡ false) → Changes m (record { command = command; reply = r; values = [] }) m
+quiet c m command r sound a o b d e f g i =
+    unwritten c m m (record { command = command; reply = r; values = [] }) sound d e refl refl (rw a (omega arith)) (λ s. rw (o s) (first_of-none _)) (λ s. rw (b s) (sym (or-false _))) (λ h. rw (f h)) (rw g (sym (or-false _))) (λ h. rw (i h) (sym (or-false _)))
 
 -- the owners after a claim
 claim_owners : (owners : List ℕ) (n p s : ℕ) → n ≢ 0 → slice_get (owners ++ replicate n p) s ≡ first_of (slice_get owners s) (claimant (Claimed (length owners) (length owners + n - 1)) (Claim p n) s)
@@ -89,7 +91,7 @@ claim_owners owners n p s some =
 claim_changes : (c : Setup) (m : State) (p n : ℕ) → IsSound c m → NoneHold (refusals c m (Claim p n)) → Changes m (entry_of (Claim p n) (accepted c m (Claim p n))) (accepted c m (Claim p n)).state
 claim_changes c m p n sound none =
     let some : n ≢ 0 = eqb-false n 0 (or_parts _ _ none.1.0).0 in
-    unwritten c m _ _ sound (λ s. refl) (λ h. refl) refl refl (length-append m.owners (replicate n p) ∙ ap (λ k. length m.owners + k) (length-replicate n p) ∙ omega arith) (λ s. claim_owners m.owners n p s some) (λ s. sym (or-false _)) (λ h. refl) (sym (or-false _))
+    unwritten c m _ _ sound (λ s. refl) (λ h. refl) refl refl (length-append m.owners (replicate n p) ∙ ap (λ k. length m.owners + k) (length-replicate n p) ∙ omega arith) (λ s. claim_owners m.owners n p s some) (λ s. sym (or-false _)) (λ h. refl) (sym (or-false _)) (λ h. sym (or-false _))
 
 first_of-if : {A : Type 0} (b : Bool) (v : A) (w : Option A) → cond b (Some v) w ≡ first_of (cond b (Some v) None) w
 first_of-if true v w = refl
@@ -104,6 +106,7 @@ write_changes c m p at v sound none = record {
   taken = λ h. sym (add-zero _);
   completed = λ h. refl;
   halted = sym (or-false _);
+  retired = λ h. sym (or-false _);
   settled = λ s h. elim (cases_Bool (s == at)) [
     | inl y ↦ absurd (false≢true (sym none.1.1.0 ∙ ap m.published (sym (eqb-true s at y)) ∙ h))
     | inr n ↦ rw n
@@ -114,7 +117,7 @@ write_changes c m p at v sound none = record {
 }
 
 publish_changes : (c : Setup) (m : State) (p lo hi : ℕ) → IsSound c m → Changes m (entry_of (Publish p lo hi) (accepted c m (Publish p lo hi))) (accepted c m (Publish p lo hi)).state
-publish_changes c m p lo hi sound = unwritten c m _ _ sound (λ s. refl) (λ h. refl) refl refl (omega arith) (λ s. first_of-none _) (λ s. refl) (λ h. refl) (sym (or-false _))
+publish_changes c m p lo hi sound = unwritten c m _ _ sound (λ s. refl) (λ h. refl) refl refl (omega arith) (λ s. first_of-none _) (λ s. refl) (λ h. refl) (sym (or-false _)) (λ h. sym (or-false _))
 
 unwrap-if : {A : Type 0} (b : Bool) (v w : A) → cond b v w ≡ unwrap_or (cond b (Some v) None) w
 unwrap-if true v w = refl
@@ -131,14 +134,17 @@ complete_changes : (c : Setup) (m : State) (at upto : ℕ) → IsSound c m → N
 complete_changes c m at upto sound none =
     let inside : at < handlers c = grind (arith, nat_tests, none.0) in
     let len : length m.completed ≡ handlers c = sound.completed_len in
-    unwritten c m _ _ sound (λ s. refl) (λ h. refl) refl refl (omega arith) (λ s. first_of-none _) (λ s. sym (or-false _)) (λ h. set_count m.completed at upto h (omega arith) ∙ unwrap-if (h == at) upto (slice_index m.completed h)) (sym (or-false _))
+    unwritten c m _ _ sound (λ s. refl) (λ h. refl) refl refl (omega arith) (λ s. first_of-none _) (λ s. sym (or-false _)) (λ h. set_count m.completed at upto h (omega arith) ∙ unwrap-if (h == at) upto (slice_index m.completed h)) (sym (or-false _)) (λ h. sym (or-false _))
 
 or-true : (b : Bool) → true ≡ (b || true)
 or-true true = refl
 or-true false = refl
 
 halt_changes : (c : Setup) (m : State) → IsSound c m → Changes m (entry_of Halt (accepted c m Halt)) (accepted c m Halt).state
-halt_changes c m sound = unwritten c m _ _ sound (λ s. refl) (λ h. refl) refl refl (omega arith) (λ s. first_of-none _) (λ s. sym (or-false _)) (λ h. refl) (or-true m.halted)
+halt_changes c m sound = unwritten c m _ _ sound (λ s. refl) (λ h. refl) refl refl (omega arith) (λ s. first_of-none _) (λ s. sym (or-false _)) (λ h. refl) (or-true m.halted) (λ h. sym (or-false _))
+
+retire_changes : (c : Setup) (m : State) (at : ℕ) → IsSound c m → Changes m (entry_of (Retire at) (accepted c m (Retire at))) (accepted c m (Retire at)).state
+retire_changes c m at sound = unwritten c m _ _ sound (λ s. refl) (λ h. refl) refl refl (omega arith) (λ s. first_of-none _) (λ s. sym (or-false _)) (λ h. refl) (sym (or-false _)) (λ h. refl)
 
 -- no handler is offered more than is published
 pub offered-le : (c : Setup) (m : State) → IsSound c m → (hs : List ℕ) → offered m hs ≤ front m
@@ -191,6 +197,7 @@ module _ (c : Setup) (m : State) (at limit : ℕ) (sound : IsSound c m) (inside 
         (λ n. rw n (sym (add-zero _)));
     completed = λ h. refl;
     halted = sym (or-false _);
+    retired = λ h. sym (or-false _);
     settled = λ s h. refl;
     fresh = λ s h. refl;
     batch = λ h k. cond_both (h == at) (values_of c m at limit) [] (λ vs. k < length vs → slice_get vs k ≡ m.written (slice_index m.taken h + k))
@@ -208,10 +215,10 @@ poll_changes c m at limit sound none =
     cond_both (nat_lt (slice_index m.taken at) (available c m at)) _ _ P
     (λ y. batch_changes c m at limit sound (grind (arith, nat_tests, none.0)) (grind (arith, nat_tests, y)))
     (λ n. cond_both (m.halted && (slice_index m.taken at == next m)) _ _ P
-    (λ y. quiet c m (Poll at limit) Drained sound refl (λ s. refl) (λ s. refl) (λ s. refl) (λ s. refl) (λ s. refl) refl)
+    (λ y. quiet c m (Poll at limit) Drained sound refl (λ s. refl) (λ s. refl) (λ s. refl) (λ s. refl) (λ s. refl) refl (λ h. refl))
     (λ n'. cond_both (nat_lt (slice_index m.taken at) (cursor c m)) _ _ P
-    (λ y. quiet c m (Poll at limit) Gating sound refl (λ s. refl) (λ s. refl) (λ s. refl) (λ s. refl) (λ s. refl) refl)
-    (λ n''. quiet c m (Poll at limit) Idle sound refl (λ s. refl) (λ s. refl) (λ s. refl) (λ s. refl) (λ s. refl) refl)))
+    (λ y. quiet c m (Poll at limit) Gating sound refl (λ s. refl) (λ s. refl) (λ s. refl) (λ s. refl) (λ s. refl) refl (λ h. refl))
+    (λ n''. quiet c m (Poll at limit) Idle sound refl (λ s. refl) (λ s. refl) (λ s. refl) (λ s. refl) (λ s. refl) refl (λ h. refl))))
 
 accepted_changes : (c : Setup) (m : State) (command : Command) → IsSound c m → NoneHold (refusals c m command) → Changes m (entry_of command (accepted c m command)) (accepted c m command).state
 accepted_changes c m (Claim p n) sound none = claim_changes c m p n sound none
@@ -220,10 +227,11 @@ accepted_changes c m (Publish p lo hi) sound none = publish_changes c m p lo hi 
 accepted_changes c m (Poll h limit) sound none = poll_changes c m h limit sound none
 accepted_changes c m (Complete h upto) sound none = complete_changes c m h upto sound none
 accepted_changes c m Halt sound none = halt_changes c m sound
+accepted_changes c m (Retire h) sound none = retire_changes c m h sound
 
 -- each step changes the state as its entry says
 pub step_changes : (c : Setup) (m : State) (command : Command) → IsSound c m → Changes m (entry_of command (step c m command)) (step c m command).state
 step_changes c m command sound =
     unless-cases (λ o. Changes m (entry_of command o) o.state) (refusals c m command) m (accepted c m command)
-    (λ r. quiet c m command (Refused r) sound refl (λ s. refl) (λ s. refl) (λ s. refl) (λ s. refl) (λ s. refl) refl)
+    (λ r. quiet c m command (Refused r) sound refl (λ s. refl) (λ s. refl) (λ s. refl) (λ s. refl) (λ s. refl) refl (λ h. refl))
     (accepted_changes c m command sound)

@@ -6,8 +6,8 @@ use Rattle.std.proofs.lemmas.List.{length-append}
 use Rattle.std.proofs.Math.Nat.{suc-add}
 use Rattle.dr_core.specs.Machine.{State, next}
 use Rattle.dr_core.specs.Tells.{Tells}
-use Rattle.dr_core.specs.Transcript.{Entry, Transcript, claimed_below, next_of, claimant, first_of, wrote, covers, is_published, last_written, event_of, batch_to, received_by, taken_by, completion, completed_by, halts, is_halted}
-use Rattle.dr_core.proofs.Pushes.{next_push, owner_push, published_push, halted_push, written_push, received_push, completed_push, before_kept, before_now}
+use Rattle.dr_core.specs.Transcript.{Entry, Transcript, claimed_below, next_of, claimant, first_of, wrote, covers, is_published, last_written, event_of, batch_to, received_by, taken_by, completion, completed_by, halts, is_halted, retires, retired_by}
+use Rattle.dr_core.proofs.Pushes.{next_push, owner_push, published_push, halted_push, retired_push, written_push, received_push, completed_push, before_kept, before_now}
 
 -- a state that differs by what the entry says
 pub record Changes (m : State) (e : Entry) (n : State) : Type 0 where
@@ -18,6 +18,7 @@ pub record Changes (m : State) (e : Entry) (n : State) : Type 0 where
   pub taken : (h : ℕ) → slice_index n.taken h ≡ slice_index m.taken h + length (batch_to h e.reply e.command e.values)
   pub completed : (h : ℕ) → slice_index n.completed h ≡ unwrap_or (completion h e.reply e.command) (slice_index m.completed h)
   pub halted : n.halted ≡ (m.halted || halts e.reply)
+  pub retired : (h : ℕ) → n.retired h ≡ (m.retired h || retires e.reply e.command h)
   pub settled : (s : ℕ) → m.published s ≡ true → wrote e.reply e.command s ≡ None
   pub fresh : (s : ℕ) → covers e.reply e.command s ≡ true → wrote e.reply e.command s ≡ None
   pub batch : (h k : ℕ) → k < length (batch_to h e.reply e.command e.values) → slice_get (batch_to h e.reply e.command e.values) k ≡ m.written (slice_index m.taken h + k)
@@ -76,4 +77,5 @@ tells_more t m n e told d = record {
   received = tells_received t m n e told d;
   completed = λ h. completed_push t e h ∙ ap (λ k. unwrap_or (completion h e.reply e.command) k) (told.completed h) ∙ sym (d.completed h);
   halted = halted_push t e ∙ ap (λ b. b || halts e.reply) told.halted ∙ sym d.halted;
+  retired = λ h. retired_push t e h ∙ ap (λ b. b || retires e.reply e.command h) (told.retired h) ∙ sym (d.retired h);
 }

@@ -22,9 +22,9 @@ below_front v m sh s l = (least_is m.published (next m)).below s (let f : front 
 -- what lies at the front or after it is in the slots
 pub near : (v : CoreView) → IsWhole v → (s : ℕ) → v.front ≤ s → v.next ≤ s + v.setup.size
 near v whole s open' =
-    let a : v.next ≤ v.setup.size + slice_index v.completed 0 = whole.room 0 whole.graph.some in
-    let b : slice_index v.completed 0 ≤ slice_index v.taken 0 = whole.took 0 in
-    let d : slice_index v.taken 0 ≤ v.front = whole.in_front 0 in
+    let a : v.next ≤ v.setup.size + slice_index v.completed whole.left.0 = whole.room whole.left.0 whole.left.1 whole.left.2 in
+    let b : slice_index v.completed whole.left.0 ≤ slice_index v.taken whole.left.0 = whole.took whole.left.0 in
+    let d : slice_index v.taken whole.left.0 ≤ v.front = whole.in_front whole.left.0 in
     omega arith
 
 -- a refusal of those that do not own a sequence
@@ -80,6 +80,7 @@ module _ (v : CoreView) (p s : ℕ) (x : Event) (whole : IsWhole v) (producer : 
         taken = sh.taken;
         completed = sh.completed;
         halted = sh.halted;
+        retired = sh.retired;
         recent = λ k l r. rw (known_at-recent known v.next v.setup.size k l r) (elim (cases_eq k s) [
           | inl e ↦ (let here : known k ≡ WrittenBy p x = ap known e ∙ knows.here in
               rw here (ap (λ i. slice_index m.owners i) e ∙ mine, ap m.published e ∙ hidden, cond-true (k == s) _ _ (eq-eqb k s e)))

@@ -19,6 +19,8 @@ pub enum Command {
     Complete { h: usize, upto: u64 },
     /// No more claims.
     Halt,
+    /// Handler `h` takes no more events, and claims no longer wait for it.
+    Retire { h: usize },
 }
 
 /// What a call answers.
@@ -33,6 +35,7 @@ pub enum Reply {
     Idle,
     Completed,
     Halting,
+    Retired,
     Refused(Refusal),
 }
 

@@ -2,6 +2,7 @@
 
 ghost use Rattle.std.specs.Prelude.{◌≡◌, ◌↔◌, ◌^◌, ◌<◌, Err, IfOk, IfErr, ◌≤◌, true, false, slice_index};
 ghost use Rattle.dr_core.specs.Availability.{HasOwners};
+ghost use Rattle.dr_core.specs.CoreView.{retired_in};
 ghost use Rattle.dr_core.specs.Machine.{opening, handlers, setup_of};
 ghost use Rattle.dr_core.specs.OpenFault.{has_bad_producers, is_bad_limit};
 ghost use Rattle.dr_core.specs.Shows.{Shows};
@@ -16,6 +17,7 @@ use std::marker::Model;
 mod execute;
 mod polling;
 mod publishing;
+mod retiring;
 
 /// The most producers of an exchange.
 pub const MAX_PRODUCERS: u64 = 16;
@@ -43,6 +45,7 @@ pub struct Core {
     taken: Vec<u64>,
     completed: Vec<u64>,
     halted: bool,
+    retired: Vec<bool>,
 }
 
 impl Model for Core {
@@ -86,6 +89,7 @@ impl Core {
         let events = Slots::new(alloc, size)?;
         let taken = vec![in alloc; 0u64; handlers]?;
         let completed = vec![in alloc; 0u64; handlers]?;
+        let retired = vec![in alloc; false; handlers]?;
         Ok(Core {
             graph,
             size,
@@ -101,6 +105,7 @@ impl Core {
             taken,
             completed,
             halted: false,
+            retired,
         })
     }
 
@@ -154,6 +159,14 @@ impl Core {
         ensures { result ≡ self.now.halted }
     {
         self.halted
+    }
+
+    /// Whether a handler is retired.
+    pub fn is_retired(&self, h: usize) -> bool
+        requires { h < handlers self.now.setup }
+        ensures { result ≡ retired_in self.now h }
+    {
+        self.retired[h]
     }
 }
 

@@ -45,6 +45,15 @@ pub enum Refusal {
     /// There is no such handler.
     #[error("no-handler")]
     NoHandler,
+    /// The handler is retired.
+    #[error("retired")]
+    Retired,
+    /// A handler that is not retired follows this one.
+    #[error("not-final")]
+    NotFinal,
+    /// No other handler is left.
+    #[error("last-handler")]
+    LastHandler,
     /// A ring cannot be closed while a claimed sequence is unpublished.
     #[error("open-claim")]
     OpenClaim,
@@ -68,6 +77,9 @@ impl Refusal {
             Refusal::Behind => 10,
             Refusal::NoProducer => 11,
             Refusal::NoHandler => 12,
+            Refusal::Retired => 13,
+            Refusal::NotFinal => 14,
+            Refusal::LastHandler => 15,
             Refusal::OpenClaim => 41,
         }
     }
@@ -89,6 +101,9 @@ impl Refusal {
             Refusal::Behind => "behind",
             Refusal::NoProducer => "no-producer",
             Refusal::NoHandler => "no-handler",
+            Refusal::Retired => "retired",
+            Refusal::NotFinal => "not-final",
+            Refusal::LastHandler => "last-handler",
             Refusal::OpenClaim => "open-claim",
         }
     }

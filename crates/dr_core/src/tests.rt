@@ -1,6 +1,6 @@
 //! What no clause says: that the calls succeed with ample memory, and worked runs by their replies.
 
-use crate::Command::{Claim, Complete, Halt, Poll, Publish, Write};
+use crate::Command::{Claim, Complete, Halt, Poll, Publish, Retire, Write};
 use crate::{
     Claimed, Command, Core, Handler, Mode, OpenFault, Polled, Ran, Refusal, Reply, processor_turn,
     run,
@@ -131,6 +131,98 @@ fn halt_and_drain(rt: HostRuntime) -> Result<(), Fail> {
     Ok(())
 }
 
+/// Two handlers, 0 and 1: side by side, or one after the other.
+fn two(alloc: Global, in_line: bool) -> Result<Graph, GraphFault> {
+    let mut builder = GraphBuilder::new(alloc);
+    let first = builder.handle_with(&["a"])?;
+    if in_line {
+        builder.then(&first, &["b"])?;
+    } else {
+        builder.handle_with(&["b"])?;
+    }
+    builder.build()
+}
+
+fn ran_by_two(alloc: Global, in_line: bool, size: u64, commands: &[Command]) -> Result<Ran, Fail> {
+    let size = Size::new(size)?;
+    let mut core = Core::open(alloc, two(alloc, in_line)?, size, Mode::Single, LIMIT)?;
+    Ok(run(alloc, &mut core, commands)?)
+}
+
+#[test]
+fn a_chain_retires_from_its_end(rt: HostRuntime) -> Result<(), Fail> {
+    let commands = [
+        Claim { p: 0, n: 2 },
+        write(0, 0, 1),
+        write(0, 1, 2),
+        Publish { p: 0, lo: 0, hi: 1 },
+        Poll { h: 0, max: 8 },
+        Complete { h: 0, upto: 2 },
+        Claim { p: 0, n: 1 },
+        Retire { h: 0 },
+        Retire { h: 1 },
+        Claim { p: 0, n: 2 },
+        Poll { h: 1, max: 8 },
+        Retire { h: 1 },
+        Retire { h: 0 },
+        Retire { h: 2 },
+    ];
+    let replies = [
+        Reply::Claimed { lo: 0, hi: 1 },
+        Reply::Written,
+        Reply::Written,
+        Reply::Published,
+        Reply::Batch {
+            first: 0,
+            count: 2,
+            end: true,
+        },
+        Reply::Completed,
+        Reply::Refused(Refusal::NoRoom),
+        Reply::Refused(Refusal::NotFinal),
+        Reply::Retired,
+        Reply::Claimed { lo: 2, hi: 3 },
+        Reply::Refused(Refusal::Retired),
+        Reply::Refused(Refusal::Retired),
+        Reply::Refused(Refusal::LastHandler),
+        Reply::Refused(Refusal::NoHandler),
+    ];
+    let ran = ran_by_two(rt.alloc(), true, 2, &commands)?;
+    check(&rt, &ran, &replies, &[word(1), word(2)]);
+    Ok(())
+}
+
+#[test]
+fn a_claim_waits_no_longer_for_a_retired_handler(rt: HostRuntime) -> Result<(), Fail> {
+    let commands = [
+        Claim { p: 0, n: 1 },
+        write(0, 0, 9),
+        Publish { p: 0, lo: 0, hi: 0 },
+        Poll { h: 1, max: 1 },
+        Complete { h: 1, upto: 1 },
+        Claim { p: 0, n: 1 },
+        Retire { h: 0 },
+        Claim { p: 0, n: 1 },
+    ];
+    let replies = [
+        Reply::Claimed { lo: 0, hi: 0 },
+        Reply::Written,
+        Reply::Published,
+        Reply::Batch {
+            first: 0,
+            count: 1,
+            end: true,
+        },
+        Reply::Completed,
+        Reply::Refused(Refusal::NoRoom),
+        Reply::Retired,
+        Reply::Claimed { lo: 1, hi: 1 },
+    ];
+    let ran = ran_by_two(rt.alloc(), false, 1, &commands)?;
+    check(&rt, &ran, &replies, &[word(9)]);
+    Ok(())
+}
+
 fn check_counts(rt: &impl Abort, core: &Core, next: u64, front: u64, taken: u64, completed: u64) {
     assert_eq!(rt; core.next(), next);
     assert_eq!(rt; core.front(), front);
@@ -167,6 +259,8 @@ fn each_call_moves_its_count(rt: HostRuntime) -> Result<(), Fail> {
     assert_eq!(rt; out, [word(7), word(2)]);
     assert_eq!(rt; core.complete(0, 1), Ok(()));
     check_counts(&rt, &core, 2, 1, 1, 1);
+    assert_eq!(rt; core.retire(0), Err(Refusal::LastHandler));
+    assert!(rt; !core.is_retired(0));
     core.halt();
     assert!(rt; core.is_halted());
     assert_eq!(rt; core.size().get(), 4);

@@ -1,9 +1,10 @@
 //! The handlers' calls: events are taken as their barriers let them through, and completed.
 
-ghost use Rattle.std.specs.Prelude.{◌≡◌, ◌-◌, ◌↔◌, Err, ◌<◌, ◌≤◌, ◌^◌, ◌+◌, ◌++◌, [], length, map, drop, OnErr, IfOk, IfErr, IsOk, slice_index, if◌then◌else◌};
+ghost use Rattle.std.specs.Prelude.{◌≡◌, ◌-◌, ◌↔◌, ◌⊎◌, true, Err, ◌<◌, ◌≤◌, ◌^◌, ◌+◌, ◌++◌, [], length, map, drop, OnErr, IfOk, IfErr, IsOk, slice_index, if◌then◌else◌};
 ghost use Rattle.std.specs.List.{range_with_len};
 ghost use Rattle.dr_seq.specs.Slots.{event_at};
 ghost use Rattle.dr_graph.specs.Graph.{upstreams_of};
+ghost use Rattle.dr_core.specs.CoreView.{retired_in};
 ghost use Rattle.dr_core.specs.Machine.{State, available as available_of, handlers, is_single};
 ghost use Rattle.dr_core.specs.Runs.{count_in};
 ghost use Rattle.dr_core.specs.Shows.{Shows, IsStep, Takes, CanComplete, offered_to, unit_reply, poll_reply, polled};
@@ -44,10 +45,14 @@ impl Core {
     pub fn ready(&self, h: usize) -> Result<u64, Refusal>
         ensures stranger { result ≡ Err Refusal.NoHandler ↔ (handlers self.now.setup ≤ h) }
         ensures count { IfOk result (λ n. (m : State) → Shows self.now m → n ≡ available_of self.now.setup m h - slice_index m.taken h) }
-        ensures refused { IfErr result (λ refusal. refusal ≡ Refusal.NoHandler) }
+        ensures retired { result ≡ Err Refusal.Retired ↔ (h < handlers self.now.setup) × (retired_in self.now h ≡ true) }
+        ensures refused { IfErr result (λ refusal. (refusal ≡ Refusal.NoHandler) ⊎ (refusal ≡ Refusal.Retired)) }
     {
         if h >= self.graph.len() {
             return Err(Refusal::NoHandler);
+        }
+        if self.retired[h] {
+            return Err(Refusal::Retired);
         }
         let available = self.available(h);
         let taken = self.taken[h];
@@ -65,6 +70,9 @@ impl Core {
     {
         if h >= self.graph.len() {
             return Err(Refusal::NoHandler);
+        }
+        if self.retired[h] {
+            return Err(Refusal::Retired);
         }
         if out.is_empty() {
             return Err(Refusal::BadCount);
@@ -99,6 +107,9 @@ impl Core {
     {
         if h >= self.graph.len() {
             return Err(Refusal::NoHandler);
+        }
+        if self.retired[h] {
+            return Err(Refusal::Retired);
         }
         if upto < self.completed[h] {
             return Err(Refusal::Behind);

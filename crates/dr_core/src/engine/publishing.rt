@@ -1,15 +1,14 @@
 //! The producers' calls: sequences are claimed, written and published.
 
-ghost use Rattle.std.specs.Prelude.{◌≡◌, ℕ, ◌+◌, ◌^◌, ◌<◌, ◌≤◌, nat_le, [], None, Some, map, slice_index, MatchOption, OnErr};
+ghost use Rattle.std.specs.Prelude.{◌≡◌, ℕ, ◌+◌, ◌^◌, ◌<◌, ◌≤◌, nat_le, [], None, Some, MatchOption, OnErr};
 ghost use Rattle.dr_core.specs.Availability.{publish_fault as publish_fault_of};
-ghost use Rattle.dr_core.specs.CoreView.{known_at};
-ghost use Rattle.dr_graph.specs.Graph.{finals, least_of};
+ghost use Rattle.dr_core.specs.CoreView.{known_at, gate_of};
 ghost use Rattle.dr_core.specs.Shows.{IsStep, claim_reply, unit_reply};
 
 use crate::availability::{mark_all, own, owner_of};
 use crate::command::{Claimed, Command, Reply};
 use crate::engine::Core;
-use crate::least::least_count;
+use crate::least::least_left;
 use crate::refusal::Refusal;
 use dr_seq::Event;
 
@@ -18,7 +17,7 @@ impl Core {
     /// count that was last seen is too small, and that there is no room is told only after a scan.
     fn has_room(&mut self, n: u64) -> bool
         requires { self.old.next + n < 2 ^ 63 }
-        ensures room { result ≡ nat_le (self.old.next + n) (self.old.setup.size + least_of (map (λ h. slice_index self.old.completed h) (finals self.old.setup.upstreams))) }
+        ensures room { result ≡ nat_le (self.old.next + n) (self.old.setup.size + gate_of self.old) }
         ensures same { self.new ≡ self.old }
     {
         let wanted = self.next + n;
@@ -26,7 +25,7 @@ impl Core {
         if wanted <= size + self.gate.seen() {
             return true;
         }
-        let least = least_count(&self.completed, self.graph.finals());
+        let least = least_left(&self.completed, &self.graph, &self.retired);
         self.gate.raise(least);
         wanted <= size + least
     }
@@ -65,7 +64,7 @@ impl Core {
     }
 
     /// Gives a producer the next `n` sequences, where the events that lay in their slots are
-    /// completed by every final handler, as LMAX's sequencers do by their gating sequences.
+    /// completed by every final handler that is left, as LMAX's sequencers do by their gating sequences.
     pub fn claim(&mut self, p: u64, n: u64) -> Result<Claimed, Refusal>
         ensures step { IsStep self.old (Command.Claim p n) (claim_reply result) [] self.new }
         ensures refused { OnErr result (self.new ≡ self.old) }

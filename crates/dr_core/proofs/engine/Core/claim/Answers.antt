@@ -1,20 +1,31 @@
-use Rattle.std.proofs.Common.{ℕ, ◌≡◌, ◌+◌, ◌<◌, ◌≤◌, length, map, slice_index, sym, ap, ◌∙◌, List, Vec, Global, false}
+use Rattle.std.proofs.Common.{ℕ, ◌≡◌, ◌+◌, ◌<◌, ◌≤◌, length, sym, ap, ◌∙◌, List, Vec, Global, false, true, inl, inr, refl}
 use Rattle.std.specs.Vec.{with_items}
 use Rattle.std.proofs.lemmas.List.{with_items_is}
-use Rattle.std.proofs.lemmas.Bool.{leb-true}
+use Rattle.std.specs.Prelude.{◌==◌, ◌||◌, nat_lt}
+use Rattle.std.proofs.lemmas.Bool.{leb-true, or_left, or_right, eq-eqb, lt-ltb, lt-leb}
+use Rattle.dr_core.specs.declared.command.Command.TheVariants.{Claim}
+use Rattle.dr_core.specs.declared.refusal.Refusal.TheVariants.{BadCount}
 use Rattle.dr_seq.proofs.Sizes.{size_positive}
-use Rattle.dr_graph.specs.Graph.{finals, least_of}
 use Rattle.dr_core.specs.declared.mode.Mode.{Mode}
 use Rattle.dr_core.specs.declared.mode.Mode.TheVariants.{Single, Multi}
 use Rattle.dr_core.specs.Machine.{producers}
-use Rattle.dr_core.specs.CoreView.{CoreView}
+use Rattle.dr_core.specs.CoreView.{CoreView, gate_of}
 use Rattle.dr_core.specs.Availability.{owners_after}
 use Rattle.dr_core.specs.Inside.{view_of, kept_of}
-use Rattle.dr_core.proofs.CoreSteps.{claim_step, claim_whole, claim_no_room}
+use Rattle.dr_core.proofs.CoreSteps.{refused_step, claim_step, claim_whole, claim_no_room}
 use Rattle.dr_core.proofs.Recents.{claims_known, claims_available, known_there, one_producer}
 use Rattle.dr_core.proofs.Stamped.{length-stamped}
 use Rattle.dr_core.proofs.engine.Core.claim.Goals as goal
-use Rattle.dr_core.proofs.engine.Core.claim.Goals.{After-own}
+use Rattle.dr_core.proofs.engine.Core.claim.Goals.{After-own, then-n-eq0-via-then-n-eq0, then-n-eq0-via-else-n-eq0+then-n-get}
+
+pub returns-then-n-eq0-clause-step : goal.returns-then-n-eq0-clause-step
+returns-then-n-eq0-clause-step c =
+    let v : CoreView = view_of c.self.inside in
+    let bad : (c.args.n == 0 || nat_lt v.setup.size c.args.n) ≡ true = elim c.then-n-eq0.branch [
+      | then-n-eq0-via-then-n-eq0 w ↦ or_left _ _ (eq-eqb _ _ w.if-n-eq0.true)
+      | then-n-eq0-via-else-n-eq0+then-n-get w ↦ or_right (c.args.n == 0) _ (lt-ltb _ _ (rw w.get.ensures.value at w.if-n-get.true))
+    ] in
+    rw (← c.self.view_is) (refused_step v (Claim c.args.p c.args.n) BadCount (λ m sh. inr (lt-leb _ _ (rw c.producers.ensures at c.if-p-producers.false), inl (bad, refl))))
 
 pub returns-then-not-has_room-clause-step : goal.returns-then-not-has_room-clause-step
 returns-then-not-has_room-clause-step c =
@@ -42,7 +53,7 @@ limited : (c : After-own) → c.self-2.inside.next + c.args.n ≤ c.self-2.insid
 limited c = rw (ap (λ w. w.next) (unchanged c), ap (λ w. w.setup.limit) (unchanged c)) c.if-self-n.false
 
 -- and it fits beside what the finals have not completed
-fits_beside : (c : After-own) → c.self-2.inside.next + c.args.n ≤ c.self-2.inside.size + least_of (map (λ h. slice_index c.self-2.inside.completed.items h) (finals c.self-2.inside.graph.upstreams))
+fits_beside : (c : After-own) → c.self-2.inside.next + c.args.n ≤ c.self-2.inside.size + gate_of (view_of c.self-2.inside)
 fits_beside c = leb-true _ _ (rw (← c.has_room.ensures.same, ← c.self-2.view_is) at (sym c.has_room.ensures.room ∙ c.if-not-has_room.false))
 
 pub invariant_of-self : goal.invariant_of-self

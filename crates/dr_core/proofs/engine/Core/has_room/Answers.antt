@@ -1,10 +1,9 @@
-use Rattle.std.proofs.Common.{◌≡◌, ℕ, ◌+◌, ◌<◌, ◌≤◌, ◌^◌, List, map, slice_index, sym, arith}
+use Rattle.std.proofs.Common.{◌≡◌, ℕ, ◌+◌, ◌<◌, ◌≤◌, ◌^◌, Bool, List, slice_index, sym, arith}
 use Rattle.std.proofs.lemmas.Bool.{le-leb}
-use Rattle.dr_graph.specs.Graph.{finals, least_of}
-use Rattle.dr_core.specs.CoreView.{CoreView}
+use Rattle.dr_graph.specs.Graph.{flagged, least_without}
+use Rattle.dr_core.specs.CoreView.{CoreView, gate_of}
 use Rattle.dr_core.specs.Inside.{view_of}
-use Rattle.dr_core.proofs.CoreSteps.{finals_within}
-use Rattle.dr_core.proofs.Gating.{least, seen_below, least_below, room_fits}
+use Rattle.dr_core.proofs.Gating.{seen_below, least_below, room_fits}
 use Rattle.dr_core.proofs.engine.Core.has_room.Goals as goal
 
 pub overflow_add-size : goal.overflow_add-size
@@ -16,28 +15,24 @@ overflow_add-size c =
 pub returns-then-wanted-size-clause-room : goal.returns-then-wanted-size-clause-room
 returns-then-wanted-size-clause-room c =
     let v : CoreView = view_of c.self.inside in
-    let low : c.self.inside.gate ≤ least v c.self.invariant.whole = seen_below v c.self.invariant.whole c.self.inside.gate c.self.invariant.gate in
+    let low : c.self.inside.gate ≤ gate_of v = seen_below v c.self.invariant.whole c.self.inside.gate c.self.invariant.gate in
     let room : v.next + c.args.n ≤ v.setup.size + c.self.inside.gate = rw (c.get-size.ensures.value, c.seen.ensures) at c.if-wanted-size.true in
-    rw (← c.self.view_is) (sym (le-leb _ _ (let fits : v.next + c.args.n ≤ v.setup.size + least v c.self.invariant.whole = omega arith in fits)))
-
-pub least_count-least-requires : goal.least_count-least-requires
-least_count-least-requires c =
-    rw (c.finals.ensures, c.deref.ensures.value, c.self.invariant.whole.completed) (finals_within (view_of c.self.inside).setup.upstreams)
+    rw (← c.self.view_is) (sym (le-leb _ _ (let fits : v.next + c.args.n ≤ v.setup.size + gate_of v = omega arith in fits)))
 
 -- what the scan of the finals found
-least_is : (v : CoreView) (counts at : List ℕ) (n : ℕ) → at ≡ finals v.setup.upstreams → counts ≡ v.completed → n ≡ least_of (map (λ h. slice_index counts h) at) → n ≡ least_of (map (λ f. slice_index v.completed f) (finals v.setup.upstreams))
-least_is v counts at n a b e = rw (a, b) at e
+least_is : (v : CoreView) (counts : List ℕ) (flags : List Bool) (n : ℕ) → counts ≡ v.completed → flags ≡ v.retired → n ≡ least_without v.setup.upstreams (flagged flags) (λ h. slice_index counts h) → n ≡ gate_of v
+least_is v counts flags n a b e = rw (a, b) at e
 
 pub raise-requires : goal.raise-requires
 raise-requires c =
     let v : CoreView = view_of c.self.inside in
-    rw (least_is v _ _ _ c.finals.ensures c.deref.ensures.value c.least_count-least.ensures) (seen_below v c.self.invariant.whole c.self.inside.gate c.self.invariant.gate)
+    rw (least_is v _ _ _ c.deref.ensures.value c.deref-2.ensures.value c.least_left-least.ensures) (seen_below v c.self.invariant.whole c.self.inside.gate c.self.invariant.gate)
 
 pub overflow_add-result : goal.overflow_add-result
 overflow_add-result c =
     let v : CoreView = view_of c.self.inside in
-    let same : c.least_count-least.result ≡ least v c.self.invariant.whole = least_is v _ _ _ c.finals.ensures c.deref.ensures.value c.least_count-least.ensures in
-    let fits : c.get-size.result + c.least_count-least.result < 2 ^ 64 = room_fits v c.self.invariant.whole c.get-size.result c.least_count-least.result c.get-size.ensures.value (omega arith) in
+    let same : c.least_left-least.result ≡ gate_of v = least_is v _ _ _ c.deref.ensures.value c.deref-2.ensures.value c.least_left-least.ensures in
+    let fits : c.get-size.result + c.least_left-least.result < 2 ^ 64 = room_fits v c.self.invariant.whole c.get-size.result c.least_left-least.result c.get-size.ensures.value (omega arith) in
     omega arith
 
 pub invariant_of-self : goal.invariant_of-self
@@ -46,5 +41,5 @@ invariant_of-self c =
     record {
       whole = c.self.invariant.whole;
       available = c.self.invariant.available;
-      gate = rw (c.raise.ensures, least_is v _ _ _ c.finals.ensures c.deref.ensures.value c.least_count-least.ensures) (least_below v c.self.invariant.whole);
+      gate = rw (c.raise.ensures, least_is v _ _ _ c.deref.ensures.value c.deref-2.ensures.value c.least_left-least.ensures) (least_below v c.self.invariant.whole);
     }

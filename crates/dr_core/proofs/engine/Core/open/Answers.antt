@@ -1,4 +1,4 @@
-use Rattle.std.proofs.Common.{◌≡◌, ◌^◌, ◌≤◌, length, sym, ap, ◌∙◌, arith, replicate}
+use Rattle.std.proofs.Common.{◌≡◌, ◌^◌, ◌≤◌, length, sym, ap, ◌∙◌, arith, replicate, false}
 use Rattle.std.proofs.lemmas.List.{length-replicate}
 use Rattle.dr_core.specs.Machine.{Setup, setup_of}
 use Rattle.dr_core.proofs.Recents.{none_marked}
@@ -13,15 +13,19 @@ none_taken c = c.in_ok-taken.ensures.items_if_clones_equal (λ y e. e) ∙ ap (�
 none_completed : (c : After-new-4) → c.in_ok-completed.completed.items ≡ replicate (length c.args.graph.upstreams) 0
 none_completed c = c.in_ok-completed.ensures.items_if_clones_equal (λ y e. e) ∙ ap (λ n. replicate n 0) c.len-handlers.ensures.handlers
 
+none_retired : (c : After-new-4) → c.in_ok-retired.retired.items ≡ replicate (length c.args.graph.upstreams) false
+none_retired c = c.in_ok-retired.ensures.items_if_clones_equal (λ y e. e) ∙ ap (λ n. replicate n false) c.len-handlers.ensures.handlers
+
 pub invariant_of-result : goal.invariant_of-result
 invariant_of-result c =
     let slots = sym c.published.invariant.0 ∙ ap length (c.published.view_is ∙ c.in_ok-published.ensures) ∙ length-replicate _ _ in
     let size = rw slots at c.published.invariant.1 in
     let setup : Setup = setup_of c.args.graph.upstreams c.args.size c.args.mode c.args.limit in
     record {
-      whole = opening_whole setup c.args.graph.names _ c.in_ok-taken.taken.items c.in_ok-completed.completed.items
+      whole = opening_whole setup c.args.graph.names _ c.in_ok-taken.taken.items c.in_ok-completed.completed.items c.in_ok-retired.retired.items
           (none_taken (goal.at.invariant_of-result c).After-new-4)
           (none_completed (goal.at.invariant_of-result c).After-new-4)
+          (none_retired (goal.at.invariant_of-result c).After-new-4)
           c.len-handlers.ensures.lawful size (let small : c.args.limit ≤ 2 ^ 62 = omega arith in small);
       available = record {
         published = ap length c.in_ok-published.ensures ∙ length-replicate _ _;
@@ -36,6 +40,7 @@ invariant_of-result c =
 
 pub returns-clause-opening : goal.returns-clause-opening
 returns-clause-opening c =
-    opening_shows (setup_of c.args.graph.upstreams c.args.size c.args.mode c.args.limit) c.args.graph.names _ c.in_ok-taken.taken.items c.in_ok-completed.completed.items
+    opening_shows (setup_of c.args.graph.upstreams c.args.size c.args.mode c.args.limit) c.args.graph.names _ c.in_ok-taken.taken.items c.in_ok-completed.completed.items c.in_ok-retired.retired.items
     (none_taken (goal.at.returns-clause-opening c).After-new-4)
     (none_completed (goal.at.returns-clause-opening c).After-new-4)
+    (none_retired (goal.at.returns-clause-opening c).After-new-4)

@@ -13,6 +13,7 @@ use Rattle.dr_core.specs.Inside.{view_of}
 use Rattle.dr_core.specs.Shows.{offered_to}
 use Rattle.dr_core.proofs.Polling.{PollsAt, polls_at, batch_step, batch_whole, drained_step, gating_step, idle_step}
 use Rattle.dr_core.proofs.Recents.{shown_event}
+use Rattle.dr_core.proofs.Retiring.{told}
 use Rattle.dr_core.proofs.engine.Core.poll_into.Goals as goal
 use Rattle.dr_core.proofs.engine.Core.poll_into.Goals.{After-available-available, After-cursor, else-self-via-then-self+else-first-self, else-self-via-else-self}
 
@@ -24,7 +25,7 @@ copied events first count out old is =
 -- what the poll has found before it looks further
 found : (c : After-available-available) → PollsAt (view_of c.self.inside) c.args.h (length c.args.out.now) c.index-first.result.now c.available-available.result
 found c =
-    polls_at (view_of c.self.inside) c.args.h (length c.args.out.now) c.len.result c.index-first.result.now c.available-available.result c.self.invariant.whole c.len.ensures.handlers c.if-h-len.false (eqb-false _ _ (sym c.if-is_empty.ensures)) c.index-first.ensures (rw (← c.self.view_is) at c.available-available.ensures)
+    polls_at (view_of c.self.inside) c.args.h (length c.args.out.now) c.len.result c.index-first.result.now c.available-available.result c.self.invariant.whole c.len.ensures.handlers c.if-h-len.false (told (view_of c.self.inside) c.args.h c.index.result.now false c.self.invariant.whole (omega (arith, c.len.ensures.handlers)) c.index.ensures c.if-index.false) (eqb-false _ _ (sym c.if-is_empty.ensures)) c.index-first.ensures (rw (← c.self.view_is) at c.available-available.ensures)
 
 pub invariant_of-self : goal.invariant_of-self
 invariant_of-self c =
@@ -33,7 +34,7 @@ invariant_of-self c =
     let more : slice_index v.taken c.args.h < offered_to v (upstreams_of v.setup.upstreams c.args.h) = rw (at.taken, at.offered) at c.if-first-available.true in
     let count : c.min-count.result ≡ min (c.available-available.result - c.index-first.result.now) (length c.args.out.now) = c.min-count.ensures in
     record {
-      whole = rw at.taken (batch_whole v c.args.h (length c.args.out.now) at.whole at.inside at.some more c.min-count.result (let a = at.taken in let b = at.offered in omega arith));
+      whole = rw at.taken (batch_whole v c.args.h (length c.args.out.now) at.whole at.inside at.left at.some more c.min-count.result (let a = at.taken in let b = at.offered in omega arith));
       available = c.self.invariant.available;
       gate = c.self.invariant.gate;
     }
@@ -44,12 +45,12 @@ returns-then-first-available-clause-step c =
     let values : take c.min-count.result c.copy_out.new.out ≡ map (λ s. event_at c.self.inside.events s) (range_with_len c.index-first.result.now c.min-count.result) = copied c.self.inside.events _ _ _ _ c.copy_out.ensures in
     rw (← c.self.view_is)
     (rw values
-    (batch_step (view_of c.self.inside) c.args.h (length c.args.out.now) at.whole at.inside at.some (rw (at.taken, at.offered) at c.if-first-available.true) c.index-first.result.now c.min-count.result c.available-available.result (λ s. event_at c.self.inside.events s) (shown_event c.self.inside) at.taken at.offered c.min-count.ensures))
+    (batch_step (view_of c.self.inside) c.args.h (length c.args.out.now) at.whole at.inside at.left at.some (rw (at.taken, at.offered) at c.if-first-available.true) c.index-first.result.now c.min-count.result c.available-available.result (λ s. event_at c.self.inside.events s) (shown_event c.self.inside) at.taken at.offered c.min-count.ensures))
 
 pub returns-then-first-self-clause-step : goal.returns-then-first-self-clause-step
 returns-then-first-self-clause-step c =
     let at = found (goal.at.returns-then-first-self-clause-step c).After-available-available in
-    rw (← c.self.view_is) (drained_step (view_of c.self.inside) c.args.h (length c.args.out.now) at.whole at.inside at.some (rw (at.taken, at.offered) at c.if-first-available.false) c.if-self.true (sym at.taken ∙ c.if-first-self.true))
+    rw (← c.self.view_is) (drained_step (view_of c.self.inside) c.args.h (length c.args.out.now) at.whole at.inside at.left at.some (rw (at.taken, at.offered) at c.if-first-available.false) c.if-self.true (sym at.taken ∙ c.if-first-self.true))
 
 -- a handler that is not drained
 undrained : (c : After-cursor) → c.index-first.result.now ≡ slice_index (view_of c.self.inside).taken c.args.h → (c.self.inside.halted && (slice_index (view_of c.self.inside).taken c.args.h == c.self.inside.next)) ≡ false
@@ -64,7 +65,7 @@ returns-then-first-cursor-clause-step c =
     let at = found (goal.at.returns-then-first-cursor-clause-step c).After-available-available in
     let stays = undrained (goal.at.returns-then-first-cursor-clause-step c).After-cursor at.taken in
     let cursor : c.cursor.result ≡ (if is_single v.setup.mode then v.front else v.next) = rw (← c.self.view_is) at c.cursor.ensures in
-    rw (← c.self.view_is) (gating_step v c.args.h (length c.args.out.now) at.whole at.inside at.some (rw (at.taken, at.offered) at c.if-first-available.false) stays (rw (at.taken, cursor) at c.if-first-cursor.true))
+    rw (← c.self.view_is) (gating_step v c.args.h (length c.args.out.now) at.whole at.inside at.left at.some (rw (at.taken, at.offered) at c.if-first-available.false) stays (rw (at.taken, cursor) at c.if-first-cursor.true))
 
 pub returns-clause-step : goal.returns-clause-step
 returns-clause-step c =
@@ -72,4 +73,4 @@ returns-clause-step c =
     let at = found (goal.at.returns-clause-step c).After-available-available in
     let stays = undrained (goal.at.returns-clause-step c).After-cursor at.taken in
     let cursor : c.cursor.result ≡ (if is_single v.setup.mode then v.front else v.next) = rw (← c.self.view_is) at c.cursor.ensures in
-    rw (← c.self.view_is) (idle_step v c.args.h (length c.args.out.now) at.whole at.inside at.some (rw (at.taken, at.offered) at c.if-first-available.false) stays (rw (at.taken, cursor) at c.if-first-cursor.false))
+    rw (← c.self.view_is) (idle_step v c.args.h (length c.args.out.now) at.whole at.inside at.left at.some (rw (at.taken, at.offered) at c.if-first-available.false) stays (rw (at.taken, cursor) at c.if-first-cursor.false))

@@ -1,0 +1,53 @@
+//! A handler retires: it takes no more events, and claims no longer wait for it.
+
+ghost use Rattle.std.specs.Prelude.{◌≡◌, ◌≤◌, ◌==◌, ◌||◌, not, [], length, OnErr};
+ghost use Rattle.dr_graph.specs.Graph.{flagged, is_some_left};
+ghost use Rattle.dr_core.specs.CoreView.{gate_of};
+ghost use Rattle.dr_core.specs.Shows.{IsStep, unit_reply};
+
+use crate::command::{Command, Reply};
+use crate::engine::Core;
+use crate::refusal::Refusal;
+
+impl Core {
+    /// A handler takes no more events, and claims no longer wait for it. All its followers are
+    /// retired before, and some other handler is left. Its counts stay as they are.
+    pub fn retire(&mut self, h: usize) -> Result<(), Refusal>
+        ensures step { IsStep self.old (Command.Retire h) (unit_reply Reply.Retired result) [] self.new }
+        ensures refused { OnErr result (self.new ≡ self.old) }
+        ensures room { gate_of self.old ≤ gate_of self.new }
+    {
+        if h >= self.graph.len() {
+            return Err(Refusal::NoHandler);
+        }
+        if self.retired[h] {
+            return Err(Refusal::Retired);
+        }
+        if !self.graph.is_final_without(h, &self.retired) {
+            return Err(Refusal::NotFinal);
+        }
+        if is_last(&self.retired, h) {
+            return Err(Refusal::LastHandler);
+        }
+        self.retired[h] = true;
+        Ok(())
+    }
+}
+
+/// Whether no other handler is left.
+fn is_last(retired: &[bool], h: usize) -> bool
+    ensures { result ≡ not (is_some_left (length retired.now) (λ k. flagged retired.now k || k == h)) }
+{
+    for k in 0..retired.len() {
+        if is_left_beside(retired[k], k, h) {
+            return false;
+        }
+    }
+    true
+}
+
+fn is_left_beside(retired: bool, k: usize, h: usize) -> bool
+    ensures { result ≡ not (retired || k == h) }
+{
+    !retired && k != h
+}
