@@ -6,7 +6,7 @@ use Rattle.std.proofs.lemmas.Bool.{cases_lt, le-ltb}
 use Rattle.std.proofs.lemmas.List.{length-replicate, get_or-replicate, get_or_past}
 use mathlib.Core.Option.{some, some-injective, some-ne-none}
 use lib.ListN.{get_elem?}
-use Rattle.dr_graph.specs.Graph.{IsGraph}
+use Rattle.dr_graph.specs.Graph.{nobody, IsGraph}
 use Rattle.dr_core.specs.Machine as machine
 use Rattle.dr_core.specs.Machine.{State}
 use Rattle.dr_ring.specs.Shape.{Shape, handlers_of, setup_of}
@@ -80,4 +80,5 @@ opens k = let n = words_of k in λ i. record {
   taken = none_taken k 0 (handlers_of k) i;
   completed = no_counts n 0 (handlers_of k) i;
   halted = (ap (λ (x : ℕ). x == 1) (all_zero n halt_word)) i;
+  retired = nobody;
 }

@@ -6,7 +6,7 @@ use Rattle.std.proofs.lemmas.List.{length-append, length-replicate, get_or_appen
 use mathlib.Core.Option.{some}
 use lib.ListN.{get_elem?}
 use Rattle.dr_seq.specs.declared.event.Event.{Event}
-use Rattle.dr_graph.specs.Graph.{upstreams_of, IsOrderly, IsGated, IsGraph}
+use Rattle.dr_graph.specs.Graph.{nobody, upstreams_of, IsOrderly, IsGated, IsGraph}
 use Rattle.dr_ring.specs.Shape.{Shape, handlers_of}
 use Rattle.dr_ring.specs.Words.{cursor_word, closed_word, halt_word, count_word, payload_start, payload_word, words_of}
 use Rattle.dr_ring.specs.declared.record.HalfWrite.{HalfWrite}
@@ -40,7 +40,7 @@ orderly k w K h u has =
 -- no claim is more than a round ahead of any handler
 pub above : (k : Shape) (w : World) → Kept k w → (h : ℕ) → h < handlers_of k → claimed w.sender ≤ k.size + word_at w.words (count_word h)
 above k w K h lt =
-    let g : IsGated k.upstreams (λ h. word_at w.words (count_word h)) h = K.graph.gate (λ h. word_at w.words (count_word h)) (orderly k w K) h lt in
+    let g : IsGated k.upstreams nobody (λ h. word_at w.words (count_word h)) h = K.graph.gate nobody (λ h. word_at w.words (count_word h)) (orderly k w K) h lt refl in
     let r : claimed w.sender ≤ k.size + word_at w.words (count_word g.last) = K.room g.last g.final in
     let b : word_at w.words (count_word g.last) ≤ word_at w.words (count_word h) = g.behind in omega arith
 

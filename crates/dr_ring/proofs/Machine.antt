@@ -10,7 +10,7 @@ use Rattle.dr_seq.specs.Event.{no_event}
 use Rattle.dr_core.specs.declared.command.Command.TheVariants.{Claim, Write, Publish, Poll, Complete}
 use Rattle.dr_core.specs.declared.command.Reply.TheVariants.{Claimed, Written, Published, Batch, Drained, Completed}
 use Rattle.dr_core.specs.declared.refusal.Refusal.{Refusal}
-use Rattle.dr_graph.specs.Graph.{finals, least_of}
+use Rattle.dr_graph.specs.Graph.{nobody, finals, least_of}
 use Rattle.dr_core.specs.Machine.{State, Outcome, least_outside, front, offered, available, least_completed, publish_faults, refusals, accepted, unless, step}
 use Rattle.dr_ring.specs.Shape.{Shape, handlers_of, setup_of}
 
@@ -30,7 +30,7 @@ both_none (x ∷ xs) ys a b = (a.0, both_none xs ys a.1 b)
 
 -- a state of which n sequences are claimed, with what is written to each, and all below f published
 abbrev pub shown : ℕ → List (Option Event) → ℕ → List ℕ → List ℕ → Bool → State
-shown n vs f t d b = record { owners = replicate n 0; written = λ s. get_or vs s None; published = λ s. nat_lt s f; taken = t; completed = d; halted = b }
+shown n vs f t d b = record { owners = replicate n 0; written = λ s. get_or vs s None; published = λ s. nat_lt s f; taken = t; completed = d; halted = b; retired = nobody }
 
 abbrev owners : ℕ → List ℕ
 owners n = replicate n 0
@@ -78,7 +78,7 @@ claim_step k n j vs f t d some_one fits limit room =
     let m = shown n vs f t d false in let len = count_owners n in
     accepts (refusals (setup_of k) m (Claim 0 j)) m (accepted (setup_of k) m (Claim 0 j))
     (refl, (rw (ne_eqb j 0 (λ (e : j ≡ 0). omega arith)) (le-ltb k.size j fits), (refl, (le-ltb k.limit (length (owners n) + j) (omega arith), (le-ltb (k.size + least_completed m (finals k.upstreams)) (length (owners n) + j) (omega arith), tt)))))
-    ∙ (λ i. record { reply = Claimed (len i) (len i + j - 1); values = []; state = record { owners = more_owners n j i; written = λ s. same_written vs j s i; published = λ s. nat_lt s f; taken = t; completed = d; halted = false } })
+    ∙ (λ i. record { reply = Claimed (len i) (len i + j - 1); values = []; state = record { owners = more_owners n j i; written = λ s. same_written vs j s i; published = λ s. nat_lt s f; taken = t; completed = d; halted = false; retired = nobody } })
 
 set_written : (vs : List (Option Event)) (s : ℕ) (e : Event) → s < length vs → (q : ℕ) → (if q == s then Some e else get_or vs q None) ≡ get_or (set vs s (Some e)) q None
 set_written vs s e lt q =
@@ -97,7 +97,7 @@ write_step k n vs f t d b s e count le lt =
     let m = shown n vs f t d b in let len = count_owners n in
     accepts (refusals (setup_of k) m (Write 0 s e)) m (accepted (setup_of k) m (Write 0 s e))
     (refl, (lt-leb (length (owners n)) s (omega arith), (le-ltb s f le, (ap not (owner_is n s lt), tt))))
-    ∙ (λ i. record { reply = Written; values = []; state = record { owners = owners n; written = λ q. set_written vs s e (omega arith) q i; published = λ q. nat_lt q f; taken = t; completed = d; halted = b } })
+    ∙ (λ i. record { reply = Written; values = []; state = record { owners = owners n; written = λ q. set_written vs s e (omega arith) q i; published = λ q. nat_lt q f; taken = t; completed = d; halted = b; retired = nobody } })
 
 stretch : (n : ℕ) (vs : List (Option Event)) (f : ℕ) (t d : List ℕ) (b : Bool) (lo c : ℕ) → f ≤ lo → lo + c ≤ n → ((s : ℕ) → lo ≤ s → s < lo + c → is_none (get_or vs s None) ≡ false)
     → NoneHold (flat_map (publish_faults (shown n vs f t d b) 0) (range_with_len lo c))
@@ -130,26 +130,26 @@ publish_step k n vs f t d b q lt within all =
         ),
       ),
     )
-    ∙ (λ i. record { reply = Published; values = []; state = record { owners = owners n; written = λ s. get_or vs s None; published = λ s. covers_below f q s lt i; taken = t; completed = d; halted = b } })
+    ∙ (λ i. record { reply = Published; values = []; state = record { owners = owners n; written = λ s. get_or vs s None; published = λ s. covers_below f q s lt i; taken = t; completed = d; halted = b; retired = nobody } })
 
-pub take_step : (k : Shape) (m : State) (h : ℕ) → h < handlers_of k → get_or m.taken h 0 < available (setup_of k) m h
+pub take_step : (k : Shape) (m : State) (h : ℕ) → h < handlers_of k → m.retired h ≡ false → get_or m.taken h 0 < available (setup_of k) m h
     → step (setup_of k) m (Poll h 1) ≡ record { reply = Batch (get_or m.taken h 0) 1 (get_or m.taken h 0 + 1 == available (setup_of k) m h); values = unwrap_or (m.written (get_or m.taken h 0)) no_event ∷ []; state = record m { taken = set m.taken h (get_or m.taken h 0 + 1) } }
-take_step k m h inside more =
+take_step k m h inside here more =
     let at = get_or m.taken h 0 in let to = available (setup_of k) m h in let one : min (to - at) 1 ≡ 1 = omega arith in
-    accepts (refusals (setup_of k) m (Poll h 1)) m (accepted (setup_of k) m (Poll h 1)) (lt-leb (handlers_of k) h inside, (refl, tt))
+    accepts (refusals (setup_of k) m (Poll h 1)) m (accepted (setup_of k) m (Poll h 1)) (lt-leb (handlers_of k) h inside, (here, (refl, tt)))
     ∙ rw (lt-ltb at to more) (λ i. record { reply = Batch at (one i) (at + one i == to); values = map (λ s. unwrap_or (m.written s) no_event) (range_with_len at (one i)); state = record m { taken = set m.taken h (at + one i) } })
 
 pub drained_step : (k : Shape) (n : ℕ) (vs : List (Option Event)) (f : ℕ) (t d : List ℕ) (h : ℕ) → h < handlers_of k → available (setup_of k) (shown n vs f t d true) h ≤ n → get_or t h 0 ≡ n
     → step (setup_of k) (shown n vs f t d true) (Poll h 1) ≡ record { reply = Drained; values = []; state = shown n vs f t d true }
 drained_step k n vs f t d h inside none all =
     let m = shown n vs f t d true in let len = count_owners n in
-    accepts (refusals (setup_of k) m (Poll h 1)) m (accepted (setup_of k) m (Poll h 1)) (lt-leb (handlers_of k) h inside, (refl, tt))
+    accepts (refusals (setup_of k) m (Poll h 1)) m (accepted (setup_of k) m (Poll h 1)) (lt-leb (handlers_of k) h inside, (refl, (refl, tt)))
     ∙ rw (le-ltb (get_or t h 0) (available (setup_of k) m h) (omega arith), eq-eqb (get_or t h 0) (length (owners n)) (omega arith)) refl
 
-pub complete_step : (k : Shape) (m : State) (h n : ℕ) → h < handlers_of k → get_or m.completed h 0 ≤ n → n ≤ get_or m.taken h 0
+pub complete_step : (k : Shape) (m : State) (h n : ℕ) → h < handlers_of k → m.retired h ≡ false → get_or m.completed h 0 ≤ n → n ≤ get_or m.taken h 0
     → step (setup_of k) m (Complete h n) ≡ record { reply = Completed; values = []; state = record m { completed = set m.completed h n } }
-complete_step k m h n inside rise le =
-    accepts (refusals (setup_of k) m (Complete h n)) m (accepted (setup_of k) m (Complete h n)) (lt-leb (handlers_of k) h inside, (le-ltb n (get_or m.completed h 0) rise, (le-ltb (get_or m.taken h 0) n le, tt)))
+complete_step k m h n inside here rise le =
+    accepts (refusals (setup_of k) m (Complete h n)) m (accepted (setup_of k) m (Complete h n)) (lt-leb (handlers_of k) h inside, (here, (le-ltb n (get_or m.completed h 0) rise, (le-ltb (get_or m.taken h 0) n le, tt))))
 
 -- the least of some counts
 pub below_least : (ns : List ℕ) (a b : ℕ) → 0 < length ns → ((i : ℕ) → i < length ns → b ≤ a + get_or ns i 0) → b ≤ a + least_of ns

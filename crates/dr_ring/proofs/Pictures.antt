@@ -14,7 +14,7 @@ use Rattle.dr_core.specs.declared.command.Command.{Command}
 use Rattle.dr_core.specs.declared.command.Command.TheVariants.{Claim, Write, Publish, Poll, Complete, Halt}
 use Rattle.dr_core.specs.declared.command.Reply.{Reply}
 use Rattle.dr_core.specs.declared.command.Reply.TheVariants.{Claimed, Written, Published, Batch, Drained, Completed, Halting}
-use Rattle.dr_graph.specs.Graph.{upstreams_of, finals, IsGated, IsGraph}
+use Rattle.dr_graph.specs.Graph.{nobody, upstreams_of, finals, IsGated, IsGraph}
 use Rattle.dr_core.specs.Machine as machine
 use Rattle.dr_core.specs.Machine.{State, Outcome, front, available, least_completed}
 use Rattle.dr_core.specs.Transcript.{Transcript, LeadsFrom}
@@ -109,7 +109,7 @@ same_picture k w h r q at same = ap (λ (t : List ℕ). shown (claimed w.sender)
 -- there is a final handler
 pub some_final : (k : Shape) → IsGraph k.upstreams → 0 < length (finals k.upstreams)
 some_final k graph =
-    let g : IsGated k.upstreams (λ h. 0) 0 = graph.gate (λ h. 0) (λ h u has. omega arith) 0 graph.some in
+    let g : IsGated k.upstreams nobody (λ h. 0) 0 = graph.gate nobody (λ h. 0) (λ h u has. omega arith) 0 graph.some refl in
     let has : Contains (finals k.upstreams) g.last = g.final in let lt = has.1 in omega arith
 
 -- what a claim of the sender has room for, the machine has
@@ -124,7 +124,7 @@ claim_room k w n t m same room K =
 claim_fits : (k : Shape) (w : World) (n : ℕ) → HasRoom k w.sender n → Kept k w → n ≤ k.size
 claim_fits k w n room K =
     let some_one = K.graph.some in
-    let g : IsGated k.upstreams (λ h. word_at w.words (count_word h)) 0 = K.graph.gate (λ h. word_at w.words (count_word h)) (orderly k w K) 0 some_one in
+    let g : IsGated k.upstreams nobody (λ h. word_at w.words (count_word h)) 0 = K.graph.gate nobody (λ h. word_at w.words (count_word h)) (orderly k w K) 0 some_one refl in
     let i = final_inside k.upstreams g.last g.final in let a = room.completed g.last g.final in
     let b = last_look_le k w.words 0 w.sender.looks (count_word g.last) (omega arith) K.looks in
     let d : word_at w.words (count_word g.last) ≤ word_at w.words (count_word 0) = g.behind in
@@ -275,7 +275,7 @@ lead_take k w h first r rest end at half low K leads =
     (λ u has. (let i = upstream_inside k K.graph h u inside has in let c = count_at k w.words u i in let a = low.completed u has in let b = last_look_le k w.words 0 r.looks (count_word u) (omega arith) was.looks in omega arith)) in
     let value : unwrap_or (m.written n) no_event ≡ found =
     ap event_or_none (get_or_append_left (map (λ event. Some event) s.published) s.pending None n (omega (arith, length-map s.published (λ (event : Event). Some event))) ∙ get_or-map (λ event. Some event) s.published n no_event None below) ∙ sym event in
-    let step = take_step k m h inside (omega arith) in
+    let step = take_step k m h inside refl (omega arith) in
     let set_taken : map taken_of (set w.receivers h (took r found)) ≡ set ts h (n + 1) = map-set taken_of w.receivers h (took r found) ∙ ap (λ (j : ℕ). set ts h j) (length_push r.received found) in
     let going_on : Leads k rest (record m { taken = set ts h (n + 1) }) end = subst (λ (xs : List ℕ). Leads k rest (record m { taken = xs }) end) set_taken leads in
     let exact : machine.step (setup_of k) m (Poll h 1) ≡ record { reply = Batch n 1 (n + 1 == available (setup_of k) m h); values = found ∷ []; state = record m { taken = set ts h (n + 1) } } =
@@ -295,7 +295,7 @@ lead_complete k w h n r rest end at rise le K leads =
     let counts : counts_of k us ≡ set (counts_of k w.words) h n = count_set k w.words h n inside (omega arith) in
     let going_on : Leads k rest (record m { completed = set (counts_of k w.words) h n }) end =
     subst (λ (y : State). Leads k rest y end) (λ i. shown (claimed s) (values_of s.published s.pending) (one i) (same_taken w h r (completed_to r n) at refl i) (counts i) (two i == 1)) leads in
-    leads_one k (Complete h n) Completed [] rest m _ end (complete_step k m h n inside (omega arith) (omega arith)) going_on
+    leads_one k (Complete h n) Completed [] rest m _ end (complete_step k m h n inside refl (omega arith) (omega arith)) going_on
 
 -- halt or closed is stored: nothing else shows
 lead_flag : (k : Shape) (w : World) (i : ℕ) (rest : Transcript) (end : State) (b : Bool) → 0 < i → i < 32 → (word_at (set w.words i 1) halt_word == 1) ≡ b
