@@ -139,7 +139,7 @@ pub polls : (events : List Event) (size c at h room : ℕ) (counts : List ℕ) �
 polls events size c at h room counts handler some taken_is offered less fits within =
     let m = passed events c c c counts counts in
     let nonzero : room ≡ 0 → ⊥ = λ e. absurd (omega arith) in
-    let none : NoneHold (refusals (replay_setup size) m (Poll h room)) = (lt-leb 3 h handler, (ne_eqb room 0 nonzero, tt)) in
+    let none : NoneHold (refusals (replay_setup size) m (Poll h room)) = (lt-leb 3 h handler, (refl, (ne_eqb room 0 nonzero, tt))) in
     let there : nat_lt (slice_index counts h) (available (replay_setup size) m h) ≡ true = rw (taken_is, offered) (lt-ltb at c less) in
     let value = λ (s : ℕ). unwrap_or (written_below events c s) no_event in
     let by_count : ℕ → ℕ → ℕ → Outcome = λ first av count. record { reply = Batch first count (first + count == av); values = map value (range_with_len first count); state = record m { taken = slice_set counts h (first + count) } } in
@@ -165,7 +165,7 @@ completes events size c at h counts handler inside taken_is less =
     let behind : nat_lt c (slice_index counts h) ≡ false = rw taken_is (le-ltb c at low) in
     let same : c ≤ c = omega arith in
     let taken_all : nat_lt (slice_index (slice_set counts h c) h) c ≡ false = rw (get_or-set_same counts h c 0 inside) (le-ltb c c same) in
-    let none : NoneHold (refusals (replay_setup size) m (Complete h c)) = (lt-leb 3 h handler, (behind, (taken_all, tt))) in
+    let none : NoneHold (refusals (replay_setup size) m (Complete h c)) = (lt-leb 3 h handler, (refl, (behind, (taken_all, tt)))) in
     all_pass (refusals (replay_setup size) m (Complete h c)) m (accepted (replay_setup size) m (Complete h c)) none
 
 -- what a core's call answers and leaves, where the machine's step is known

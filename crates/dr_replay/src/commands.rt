@@ -2,7 +2,7 @@
 
 ghost use Rattle.std.specs.Prelude.{◌≡◌};
 ghost use Rattle.csv.specs.Records.{fields_of};
-ghost use Rattle.dr_replay.specs.Commands.{claim as claim_in, command_of as command_in, complete as complete_in, handler_of as handler_in, poll as poll_in, publish as publish_in, write_one as write_one_in, write_two as write_two_in};
+ghost use Rattle.dr_replay.specs.Commands.{claim as claim_in, command_of as command_in, complete as complete_in, handler_of as handler_in, poll as poll_in, publish as publish_in, retire as retire_in, write_one as write_one_in, write_two as write_two_in};
 
 use crate::records::{field, is_record, number_at};
 use csv::ByteRecord;
@@ -81,6 +81,13 @@ fn complete(graph: &Graph, row: &ByteRecord) -> Option<Command>
     Some(Command::Complete { h, upto })
 }
 
+fn retire(graph: &Graph, row: &ByteRecord) -> Option<Command>
+    ensures { result ≡ retire_in graph.now.names (fields_of row.now) }
+{
+    let h = handler_of(graph, field(row, 1));
+    Some(Command::Retire { h })
+}
+
 /// The command of a record, if it is one, where these are the handlers.
 pub fn command_of(graph: &Graph, row: &ByteRecord) -> Option<Command>
     ensures { result ≡ command_in graph.now.names (fields_of row.now) }
@@ -99,6 +106,8 @@ pub fn command_of(graph: &Graph, row: &ByteRecord) -> Option<Command>
         complete(graph, row)
     } else if is_record(row, b"halt".as_slice(), 1) {
         Some(Command::Halt)
+    } else if is_record(row, b"retire".as_slice(), 2) {
+        retire(graph, row)
     } else {
         None
     }

@@ -67,6 +67,7 @@ pub fn put_line(line: &mut String, reply: Reply, events: &[Event]) -> Result<(),
         Reply::Idle => line.push_str("idle\n"),
         Reply::Completed => line.push_str("completed\n"),
         Reply::Halting => line.push_str("halting\n"),
+        Reply::Retired => line.push_str("retired\n"),
         Reply::Refused(refusal) => refused_line(line, refusal),
     }
 }

@@ -78,7 +78,21 @@ const WORKED: [Row; 10] = [
 ];
 
 // One run for each subject.
-const OWN: [Row; 5] = [
+const OWN: [Row; 7] = [
+    (
+        "a chain retires from its end",
+        "ring,2,single\nwith,a\nthen,b\nstart\nclaim,0,2\nwrite,0,0,1\nwrite,0,1,2\npublish,0,0,1\npoll,a,8\ncomplete,a,2\nclaim,0,1\nretire,a\nretire,b\nclaim,0,2\npoll,b,8\nretire,b\nretire,a\nretire,x\n",
+        "claimed 0 1\nwritten\nwritten\npublished\nbatch 0 end 1 2\ncompleted\nrefused 1 no-room\nrefused 14 not-final\nretired\nclaimed 2 3\nrefused 13 retired\nrefused 13 retired\nrefused 15 last-handler\nrefused 12 no-handler\n",
+        "",
+        0,
+    ),
+    (
+        "a claim waits no longer for a retired handler",
+        "ring,1,single\nwith,a,b\nstart\nclaim,0,1\nwrite,0,0,9\npublish,0,0,0\npoll,b,1\ncomplete,b,1\nclaim,0,1\nretire,a\nclaim,0,1\n",
+        "claimed 0 0\nwritten\npublished\nbatch 0 end 9\ncompleted\nrefused 1 no-room\nretired\nclaimed 1 1\n",
+        "",
+        0,
+    ),
     (
         "the first path",
         "ring,4,single\nwith,a\nstart\nclaim,0,2\nclaim,0,1\nwrite,0,0,5\nwrite,0,0,6\npublish,0,0,0\npoll,a,3\npoll,a,3\n",
