@@ -1,5 +1,5 @@
 -- A call of the core is the machine's step, on each state that the core shows.
-use Rattle.std.proofs.Common.{◌≡◌, ℕ, ◌+◌, ◌-◌, ◌<◌, ◌≤◌, ◌≢◌, ◌⊎◌, inl, inr, Bool, true, false, List, [], ◌∷◌, ◌++◌, arith, refl, ap, ◌∙◌, length, map, min, get_or, replicate, slice_index, slice_set}
+use Rattle.std.proofs.Common.{◌≡◌, ℕ, ◌+◌, ◌-◌, ◌<◌, ◌≤◌, ◌≢◌, inl, inr, Bool, true, false, List, [], ◌∷◌, ◌++◌, arith, refl, ap, ◌∙◌, length, map, min, get_or, replicate, slice_index, slice_set}
 use Rattle.std.proofs.lemmas.Bool.{cond-true, cond-false, lt-ltb, leb-false, or_from, cases_lt, lt-leb, le-ltb, ne_eqb}
 use Rattle.std.proofs.lemmas.List.{length-append, length-replicate, get_or_append_left, get_or-append_right, get_or-replicate}
 use Rattle.std.specs.Prelude.{nat_le}
@@ -13,6 +13,7 @@ use Rattle.dr_core.specs.declared.refusal.Refusal.TheVariants.{NoRoom}
 use Rattle.dr_seq.specs.declared.event.Event.{Event}
 use Rattle.dr_graph.specs.Graph.{IsOrderly, finals_without, least_of}
 use Rattle.dr_graph.proofs.Gating.{finals_agree, least_gates}
+use Rattle.dr_core.specs.Refusals.{IsFirst}
 use Rattle.dr_core.specs.Machine.{State, Outcome, handlers, producers, next, front, gating, least_completed, refusals, accepted, unless, unchanged}
 use Rattle.dr_core.specs.CoreView.{Known, Nothing, ClaimedBy, CoreView, recent_of, known_at, retired_in, gate_of}
 use Rattle.dr_core.specs.Shows.{Shows, IsStep}
@@ -43,8 +44,7 @@ accepted_step old new command reply values same named none replies gives shows =
 
 -- the first test that holds has this refusal
 abbrev pub Refuses : Refusal → List (Bool × Refusal) → Type 0
-Refuses r [] = ⊥
-Refuses r (test ∷ tests) = ((test.0 ≡ true) × (test.1 ≡ r)) ⊎ ((test.0 ≡ false) × Refuses r tests)
+Refuses r tests = IsFirst (λ b. b ≡ true) (λ b. b ≡ false) r tests
 
 unless-refused : (r : Refusal) (tests : List (Bool × Refusal)) (m : State) (o : _) → Refuses r tests → unless tests m o ≡ unchanged (Refused r) m
 unless-refused r [] m o h = absurd h

@@ -1,5 +1,6 @@
 pub mod Leasts
 pub mod Pushes
+pub mod Causes
 pub mod Steps
 pub mod Tells
 pub mod Sound

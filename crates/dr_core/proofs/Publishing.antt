@@ -1,5 +1,5 @@
 -- A publication of the core is the machine's.
-use Rattle.std.proofs.Common.{◌≡◌, ◌⊎◌, ℕ, zero, suc, ◌+◌, ◌-◌, ◌<◌, ◌≤◌, ◌≢◌, inl, inr, Bool, true, false, not, ◌||◌, ◌&&◌, List, [], ◌∷◌, ◌++◌, arith, refl, ap, sym, ◌∙◌, slice_index, Option, Some, None, add-zero}
+use Rattle.std.proofs.Common.{◌≡◌, ◌⊎◌, ℕ, ◌+◌, ◌-◌, ◌<◌, ◌≤◌, ◌≢◌, inl, inr, Bool, true, false, not, ◌||◌, ◌&&◌, List, [], ◌∷◌, ◌++◌, arith, refl, ap, sym, ◌∙◌, slice_index, Option, Some, None, add-zero}
 use Rattle.std.specs.Prelude.{◌==◌, nat_le, is_none, flat_map}
 use Rattle.std.specs.List.{range_with_len}
 use Rattle.std.proofs.lemmas.Bool.{cases_Bool, cases_lt, lt-leb, le-leb, le-ltb, ne_eqb, and_left, and_right, and_from, or_right, or_left, or_from}
@@ -15,22 +15,17 @@ use Rattle.dr_core.specs.Availability.{publish_fault, value_of, is_shown}
 use Rattle.dr_core.specs.Shows.{Shows, Agrees, IsStep}
 use Rattle.dr_core.specs.Inside.{IsWhole}
 use Rattle.dr_core.proofs.Leasts.{least_is, least_one}
+use Rattle.dr_core.proofs.Causes.{none_join, first_left, first_right, none_of_stretch, first_of_stretch}
 use Rattle.dr_core.proofs.Steps.{NoneHold}
 use Rattle.dr_core.proofs.CoreSteps.{Refuses, refused_step, accepted_step, known_at-recent}
 use Rattle.dr_core.proofs.Writing.{below_front, near, disowned, owned, unwritten_refused}
 
-NoneHold-join : (xs ys : List (Bool × Refusal)) → NoneHold xs → NoneHold ys → NoneHold (xs ++ ys)
-NoneHold-join [] ys a b = b
-NoneHold-join (x ∷ xs) ys a b = (a.0, NoneHold-join xs ys a.1 b)
+-- the machine knows of each test whether it holds
+abbrev IsHolding : Bool → Type 0
+IsHolding b = b ≡ true
 
-Refuses-left : (r : Refusal) (xs ys : List (Bool × Refusal)) → Refuses r xs → Refuses r (xs ++ ys)
-Refuses-left r [] ys h = absurd h
-Refuses-left r (x ∷ xs) ys (inl h) = inl h
-Refuses-left r (x ∷ xs) ys (inr h) = inr (h.0, Refuses-left r xs ys h.1)
-
-Refuses-right : (r : Refusal) (xs ys : List (Bool × Refusal)) → NoneHold xs → Refuses r ys → Refuses r (xs ++ ys)
-Refuses-right r [] ys a h = h
-Refuses-right r (x ∷ xs) ys a h = inr (a.0, Refuses-right r xs ys a.1 h)
+abbrev IsFailing : Bool → Type 0
+IsFailing b = b ≡ false
 
 -- the tests of one sequence
 abbrev tests_of : ℕ → ℕ → Bool → Option Event → List (Bool × Refusal)
@@ -51,20 +46,6 @@ a_fault (ClaimedBy q) p o b w r h e = elim (cases_Bool (q == p)) [
 a_fault (WrittenBy q event) p o b w r h e = let d : ((q == p) ≡ false) × (NotClaimed ≡ r) = disowned (q == p) NotClaimed r e in inr (h.1, inl (ap not (ap (λ k. k == p) h.0 ∙ d.0), d.1))
 a_fault (PublishedWith event) p o b w r h e = inl (h.0, (let f : ◌≡◌ {A = Option Refusal} (Some AlreadyPublished) (Some r) = e in cc))
 
--- the tests of a stretch
-none_of_stretch : (m : State) (p lo n : ℕ) → ((k : ℕ) → k < n → NoneHold (publish_faults m p (lo + k))) → NoneHold (flat_map (publish_faults m p) (range_with_len lo n))
-none_of_stretch m p lo zero h = tt
-none_of_stretch m p lo (suc n) h =
-    NoneHold-join (publish_faults m p lo) _ (rw add-zero at (h 0 (omega arith)))
-    (none_of_stretch m p (lo + 1) n (λ k l. (let e : (lo + 1) + k ≡ lo + suc k = omega arith in rw e (h (suc k) (omega arith)))))
-
-first_of_stretch : (m : State) (p lo n k : ℕ) (r : Refusal) → k < n → ((j : ℕ) → j < k → NoneHold (publish_faults m p (lo + j))) → Refuses r (publish_faults m p (lo + k)) → Refuses r (flat_map (publish_faults m p) (range_with_len lo n))
-first_of_stretch m p lo zero k r l before here = absurd (omega arith)
-first_of_stretch m p lo (suc n) zero r l before here = Refuses-left r (publish_faults m p lo) _ (rw add-zero at here)
-first_of_stretch m p lo (suc n) (suc k) r l before here =
-    Refuses-right r (publish_faults m p lo) _ (rw add-zero at (before 0 (omega arith)))
-    (first_of_stretch m p (lo + 1) n k r (omega arith) (λ j b. (let e : (lo + 1) + j ≡ lo + suc j = omega arith in rw e (before (suc j) (omega arith)))) (let e : (lo + 1) + k ≡ lo + suc k = omega arith in rw e here))
-
 module _ (v : CoreView) (p lo hi : ℕ) (whole : IsWhole v) (producer : p < producers v.setup.mode) (order : lo ≤ hi) (claimed : hi < v.next) where
   -- the tests before those of the stretch
   past : (m : State) → Shows v m → (r : Refusal) → Refuses r (flat_map (publish_faults m p) (range_with_len lo (hi + 1 - lo)) ++ (is_single v.setup.mode && not (lo == front m), OutOfOrder) ∷ []) → Refuses r (refusals v.setup m (Publish p lo hi))
@@ -73,7 +54,7 @@ module _ (v : CoreView) (p lo hi : ℕ) (whole : IsWhole v) (producer : p < prod
   pub publish_front : lo < v.front → IsStep v (Publish p lo hi) (Refused AlreadyPublished) [] v
   publish_front old =
       refused_step v (Publish p lo hi) AlreadyPublished (λ m sh. past m sh AlreadyPublished
-      (Refuses-left AlreadyPublished (flat_map (publish_faults m p) (range_with_len lo (hi + 1 - lo))) _ (first_of_stretch m p lo (hi + 1 - lo) 0 AlreadyPublished (omega arith) (λ j l. absurd (omega arith)) (rw add-zero (inl (below_front v m sh lo old, refl))))))
+      (first_left IsHolding IsFailing AlreadyPublished (flat_map (publish_faults m p) (range_with_len lo (hi + 1 - lo))) _ (first_of_stretch IsHolding IsFailing (publish_faults m p) lo (hi + 1 - lo) 0 AlreadyPublished (omega arith) (λ j l. absurd (omega arith)) (rw add-zero (inl (below_front v m sh lo old, refl))))))
 
   there : v.front ≤ lo → (m : State) → Shows v m → (k : ℕ) → k < hi + 1 - lo → Agrees (known_at v (lo + k)) (slice_index m.owners (lo + k)) (m.published (lo + k)) (m.written (lo + k))
   there fresh m sh k l = sh.recent (lo + k) (omega arith) (near v whole (lo + k) (omega arith))
@@ -81,18 +62,18 @@ module _ (v : CoreView) (p lo hi : ℕ) (whole : IsWhole v) (producer : p < prod
   pub publish_refused : v.front ≤ lo → (r : Refusal) (k : ℕ) → k < hi + 1 - lo → ((j : ℕ) → j < k → publish_fault (known_at v (lo + j)) p ≡ None) → publish_fault (known_at v (lo + k)) p ≡ Some r → IsStep v (Publish p lo hi) (Refused r) [] v
   publish_refused fresh r k l before here =
       refused_step v (Publish p lo hi) r (λ m sh. past m sh r
-      (Refuses-left r (flat_map (publish_faults m p) (range_with_len lo (hi + 1 - lo))) _
-      (first_of_stretch m p lo (hi + 1 - lo) k r l
+      (first_left IsHolding IsFailing r (flat_map (publish_faults m p) (range_with_len lo (hi + 1 - lo))) _
+      (first_of_stretch IsHolding IsFailing (publish_faults m p) lo (hi + 1 - lo) k r l
       (λ j b. no_fault (known_at v (lo + j)) p _ _ _ (there fresh m sh j (omega arith)) (before j b))
       (a_fault (known_at v (lo + k)) p _ _ _ r (there fresh m sh k l) here))))
 
   none_here : v.front ≤ lo → ((j : ℕ) → j < hi + 1 - lo → publish_fault (known_at v (lo + j)) p ≡ None) → (m : State) → Shows v m → NoneHold (flat_map (publish_faults m p) (range_with_len lo (hi + 1 - lo)))
-  none_here fresh none m sh = none_of_stretch m p lo (hi + 1 - lo) (λ k l. no_fault (known_at v (lo + k)) p _ _ _ (there fresh m sh k l) (none k l))
+  none_here fresh none m sh = none_of_stretch IsHolding IsFailing (publish_faults m p) lo (hi + 1 - lo) (λ k l. no_fault (known_at v (lo + k)) p _ _ _ (there fresh m sh k l) (none k l))
 
   pub publish_order : v.front ≤ lo → ((j : ℕ) → j < hi + 1 - lo → publish_fault (known_at v (lo + j)) p ≡ None) → is_single v.setup.mode ≡ true → lo ≢ v.front → IsStep v (Publish p lo hi) (Refused OutOfOrder) [] v
   publish_order fresh none single late =
       refused_step v (Publish p lo hi) OutOfOrder (λ m sh. past m sh OutOfOrder
-      (Refuses-right OutOfOrder (flat_map (publish_faults m p) (range_with_len lo (hi + 1 - lo))) _ (none_here fresh none m sh)
+      (first_right IsHolding IsFailing OutOfOrder (flat_map (publish_faults m p) (range_with_len lo (hi + 1 - lo))) _ (none_here fresh none m sh)
       (inl (and_from _ _ single (let f : front m ≡ v.front = sh.front in rw f (ap not (ne_eqb lo v.front late))), refl))))
 
 -- what may be published is known with the event that was written
@@ -182,7 +163,7 @@ module _ (v : CoreView) (p lo hi front' : ℕ) (known : ℕ → Known) (knows : 
           le-ltb _ _ order,
           (
             (let n : next m ≡ v.next = sh.next in rw n (lt-leb _ _ claimed)),
-            NoneHold-join (flat_map (publish_faults m p) (range_with_len lo (hi + 1 - lo))) _ (none_here v p lo hi whole producer order claimed fresh none m sh) ((let f : front m ≡ v.front = sh.front in rw f in_order), tt),
+            none_join IsHolding IsFailing (flat_map (publish_faults m p) (range_with_len lo (hi + 1 - lo))) _ (none_here v p lo hi whole producer order claimed fresh none m sh) ((let f : front m ≡ v.front = sh.front in rw f in_order), tt),
           ),
         ),
       ))

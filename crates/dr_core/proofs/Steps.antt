@@ -3,12 +3,12 @@ use Rattle.std.proofs.Common.{◌≡◌, Bool, false, List, [], ◌∷◌, ◌++
 use Rattle.std.proofs.lemmas.Bool.{cond_both}
 use Rattle.dr_core.specs.declared.refusal.Refusal.{Refusal}
 use Rattle.dr_core.specs.declared.command.Reply.TheVariants.{Refused}
+use Rattle.dr_core.specs.Refusals.{NoneHolds}
 use Rattle.dr_core.specs.Machine.{State, Outcome, unless, unchanged}
 
 -- no test holds
 abbrev pub NoneHold : List (Bool × Refusal) → Type 0
-NoneHold [] = Unit {0}
-NoneHold (test ∷ tests) = (test.0 ≡ false) × NoneHold tests
+NoneHold tests = NoneHolds (λ b. b ≡ false) tests
 
 pub NoneHold-append : (xs ys : List (Bool × Refusal)) → NoneHold (xs ++ ys) → NoneHold xs × NoneHold ys
 NoneHold-append [] ys h = (tt, h)

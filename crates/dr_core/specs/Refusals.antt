@@ -1,6 +1,6 @@
 -- The tests of each command, by name, and the causes that they are answered with, in their order.
 -- A test's verdict is a truth value for the machine, which knows its state, and may be unknown for an end.
-use Rattle.std.specs.Prelude.{ℕ, ◌+◌, ◌-◌, List, [], ◌∷◌, ◌++◌, flat_map}
+use Rattle.std.specs.Prelude.{◌≡◌, ◌⊎◌, ℕ, ◌+◌, ◌-◌, List, [], ◌∷◌, ◌++◌, flat_map}
 use Rattle.std.specs.List.{range_with_len}
 use Rattle.dr_core.specs.declared.refusal.Refusal.{Refusal}
 use Rattle.dr_core.specs.declared.refusal.Refusal.TheVariants.{NoRoom, Halted, BadCount, Exhausted, NotClaimed, AlreadyPublished, NotWritten, OutOfOrder, NotTaken, Behind, NoProducer, NoHandler, NotFinal, LastHandler}
@@ -99,3 +99,13 @@ retire_causes tests =
     ∷ (tests.not_final, NotFinal)
     ∷ (tests.last_handler, LastHandler)
     ∷ []
+
+-- no test holds, where `Fails` says of a verdict that its test fails
+abbrev pub NoneHolds : {A : Type 0} → (A → Type 0) → List (A × Refusal) → Type 0
+NoneHolds Fails [] = Unit {0}
+NoneHolds Fails (test ∷ tests) = Fails test.0 × NoneHolds Fails tests
+
+-- the refusal is the first test's that holds
+abbrev pub IsFirst : {A : Type 0} → (A → Type 0) → (A → Type 0) → Refusal → List (A × Refusal) → Type 0
+IsFirst Holds Fails refusal [] = ⊥
+IsFirst Holds Fails refusal (test ∷ tests) = (Holds test.0 × (test.1 ≡ refusal)) ⊎ (Fails test.0 × IsFirst Holds Fails refusal tests)

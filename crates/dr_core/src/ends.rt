@@ -64,20 +64,20 @@ pub trait Inlet {
     /// Claims the next `n` sequences.
     fn try_claim(&mut self, n: u64) -> Result<Claimed, Trouble>
         ensures kept { kept self.new ≡ kept self.old }
-        ensures answer { ClaimAnswers n result }
+        ensures answer { ClaimAnswers (sent self.old) n result }
         ensures sent { WhereShown (Claims n result) (sent self.old) (sent self.new) };
 
     /// Writes the event of a sequence that is claimed and not published, in place of one that was
     /// written before.
     fn write(&mut self, s: u64, event: Event) -> Result<(), Trouble>
         ensures kept { kept self.new ≡ kept self.old }
-        ensures answer { WriteAnswers result }
+        ensures answer { WriteAnswers (sent self.old) s result }
         ensures sent { WhereShown (Writes s event result) (sent self.old) (sent self.new) };
 
     /// Publishes the sequences from `lo` to `hi`, both in the stretch.
     fn publish(&mut self, lo: u64, hi: u64) -> Result<(), Trouble>
         ensures kept { kept self.new ≡ kept self.old }
-        ensures answer { PublishAnswers lo hi result }
+        ensures answer { PublishAnswers (sent self.old) lo hi result }
         ensures sent { WhereShown (Publishes lo hi result) (sent self.old) (sent self.new) };
 }
 
@@ -98,14 +98,14 @@ pub trait Outlet {
     /// of `out`.
     fn poll_into(&mut self, out: &mut [Event]) -> Result<Polled, Trouble>
         ensures kept { kept self.new ≡ kept self.old }
-        ensures answer { PollAnswers out.old out.new result }
+        ensures answer { PollAnswers (received self.old) out.old out.new result }
         ensures told { told self.new ≡ (told self.old || is_drained result) }
         ensures received { WhereShown (Takes out.new result) (received self.old) (received self.new) };
 
     /// Completes all events below `upto`.
     fn complete(&mut self, upto: u64) -> Result<(), Trouble>
         ensures kept { kept self.new ≡ kept self.old }
-        ensures answer { CompleteAnswers result }
+        ensures answer { CompleteAnswers (received self.old) upto result }
         ensures told { told self.new ≡ told self.old }
         ensures received { WhereShown (Completes upto result) (received self.old) (received self.new) };
 }

@@ -16,4 +16,4 @@ pub mod Cuts
 pub mod Making
 pub mod Settling
 pub mod Gathering
-pub mod Outlets
+pub mod Inlets

@@ -1,6 +1,6 @@
 //! An end that receives every event.
 
-ghost use Rattle.std.specs.Prelude.{◌≡◌, ◌<◌, ◌^◌, ◌||◌, length};
+ghost use Rattle.std.specs.Prelude.{◌≡◌, ◌<◌, ◌^◌, ◌||◌, length, Some};
 ghost use Rattle.dr_core.specs.Ends.{Tells, PollAnswers, CompleteAnswers, is_drained, Takes, Completes};
 ghost use Rattle.dr_ring.specs.Shown.{receiver_place, received_of};
 ghost use Rattle.dr_ring.specs.Calls.{looks_counted, Polls, TriesToComplete};
@@ -119,7 +119,7 @@ impl Receiver {
 }
 
 impl Outlet for Receiver {
-    ghost use Rattle.std.specs.Prelude.{ℕ, Some};
+    ghost use Rattle.std.specs.Prelude.{ℕ};
     ghost use Rattle.atomic_table.specs.Seated.{TableId};
     ghost use Rattle.dr_ring.specs.Shape.{Shape};
 
@@ -133,7 +133,7 @@ impl Outlet for Receiver {
 
     fn poll_into(&mut self, out: &mut [Event]) -> Result<Polled, Trouble>
         ensures kept { receiver_place self.new ≡ receiver_place self.old }
-        ensures answer { PollAnswers out.old out.new result }
+        ensures answer { PollAnswers (Some (received_of self.old.knows)) out.old out.new result }
         ensures told { self.new.knows.told ≡ (self.old.knows.told || is_drained result) }
         ensures received { Takes out.new result (received_of self.old.knows) (received_of self.new.knows) }
         ensures own { Tells (Polls self.old.knows out.old self.new.knows out.new) result }
@@ -143,7 +143,7 @@ impl Outlet for Receiver {
 
     fn complete(&mut self, upto: u64) -> Result<(), Trouble>
         ensures kept { receiver_place self.new ≡ receiver_place self.old }
-        ensures answer { CompleteAnswers result }
+        ensures answer { CompleteAnswers (Some (received_of self.old.knows)) upto result }
         ensures told { self.new.knows.told ≡ self.old.knows.told }
         ensures received { Completes upto result (received_of self.old.knows) (received_of self.new.knows) }
         ensures own { Tells (TriesToComplete self.old.knows upto self.new.knows) result }

@@ -1,6 +1,6 @@
 //! The one end that claims, writes and publishes.
 
-ghost use Rattle.std.specs.Prelude.{◌≡◌};
+ghost use Rattle.std.specs.Prelude.{◌≡◌, Some};
 ghost use Rattle.dr_core.specs.Ends.{Tells, ClaimAnswers, WriteAnswers, PublishAnswers, Claims, Writes, Publishes};
 ghost use Rattle.dr_ring.specs.Shown.{sender_place, sent_of};
 ghost use Rattle.dr_ring.specs.Calls.{looks_counted, TriesToClaim, TriesToWrite, TriesToPublish, TriesToClose};
@@ -172,7 +172,6 @@ impl Sender {
 }
 
 impl Inlet for Sender {
-    ghost use Rattle.std.specs.Prelude.{Some};
     ghost use Rattle.atomic_table.specs.Seated.{TableId};
     ghost use Rattle.dr_ring.specs.Shape.{Shape};
 
@@ -184,7 +183,7 @@ impl Inlet for Sender {
 
     fn try_claim(&mut self, n: u64) -> Result<Claimed, Trouble>
         ensures kept { sender_place self.new ≡ sender_place self.old }
-        ensures answer { ClaimAnswers n result }
+        ensures answer { ClaimAnswers (Some (sent_of self.old.knows)) n result }
         ensures sent { Claims n result (sent_of self.old.knows) (sent_of self.new.knows) }
         ensures own { Tells (TriesToClaim self.old.knows n self.new.knows) result }
     {
@@ -195,7 +194,7 @@ impl Inlet for Sender {
 
     fn write(&mut self, s: u64, event: Event) -> Result<(), Trouble>
         ensures kept { sender_place self.new ≡ sender_place self.old }
-        ensures answer { WriteAnswers result }
+        ensures answer { WriteAnswers (Some (sent_of self.old.knows)) s result }
         ensures sent { Writes s event result (sent_of self.old.knows) (sent_of self.new.knows) }
         ensures own { Tells (TriesToWrite self.old.knows s event self.new.knows) result }
     {
@@ -204,7 +203,7 @@ impl Inlet for Sender {
 
     fn publish(&mut self, lo: u64, hi: u64) -> Result<(), Trouble>
         ensures kept { sender_place self.new ≡ sender_place self.old }
-        ensures answer { PublishAnswers lo hi result }
+        ensures answer { PublishAnswers (Some (sent_of self.old.knows)) lo hi result }
         ensures sent { Publishes lo hi result (sent_of self.old.knows) (sent_of self.new.knows) }
         ensures own { Tells (TriesToPublish self.old.knows lo hi self.new.knows) result }
     {
