@@ -1,5 +1,5 @@
 -- A new core shows the opening.
-use Rattle.std.proofs.Common.{◌≡◌, ℕ, ◌≤◌, ◌^◌, List, arith, refl, ap, sym, ◌∙◌, length, replicate, false}
+use Rattle.std.proofs.Common.{◌≡◌, ℕ, ◌≤◌, ◌^◌, List, [], arith, refl, ap, sym, ◌∙◌, length, replicate, false}
 use Rattle.std.proofs.lemmas.List.{length-replicate}
 use Rattle.dr_seq.specs.Size.{IsSize}
 use Rattle.dr_graph.specs.Name.{Name}
@@ -7,8 +7,10 @@ use Rattle.dr_core.specs.Machine.{Setup, handlers, opening, least_outside}
 use Rattle.dr_graph.specs.Graph.{IsGraph}
 use Rattle.dr_core.specs.CoreView.{Known, CoreView}
 use Rattle.dr_core.specs.Shows.{Shows}
+use Rattle.dr_core.specs.Runs.{IsReached}
 use Rattle.dr_core.specs.Inside.{IsWhole}
 use Rattle.dr_core.proofs.Keeps.{zeros}
+use Rattle.dr_core.proofs.Running.{run_none}
 
 -- a core over a graph, as it is opened
 abbrev pub new_core : Setup → List Name → List Known → List ℕ → List ℕ → CoreView
@@ -26,6 +28,9 @@ module _ (c : Setup) (names : List Name) (recent : List Known) (taken completed 
     recent = λ s l r. absurd (omega arith);
     unclaimed = λ s l. (refl, refl);
   }
+
+  pub opening_reached : IsReached (new_core c names recent taken completed)
+  opening_reached = record { transcript = []; runs = run_none c [] (opening c) (new_core c names recent taken completed) refl opening_shows }
 
   pub opening_whole : IsGraph c.upstreams → IsSize c.size → c.limit ≤ 2 ^ 62 → IsWhole (new_core c names recent taken completed)
   opening_whole graph size limit = record {
