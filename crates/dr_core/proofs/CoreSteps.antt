@@ -1,8 +1,8 @@
 -- A call of the core is the machine's step, on each state that the core shows.
-use Rattle.std.proofs.Common.{◌≡◌, ℕ, ◌+◌, ◌-◌, ◌<◌, ◌≤◌, ◌≢◌, inl, inr, Bool, true, false, List, [], ◌∷◌, ◌++◌, arith, refl, ap, ◌∙◌, length, map, min, get_or, replicate, slice_index, slice_set}
-use Rattle.std.proofs.lemmas.Bool.{cond-true, cond-false, lt-ltb, leb-false, or_from, cases_lt, lt-leb, le-ltb, ne_eqb}
-use Rattle.std.proofs.lemmas.List.{length-append, length-replicate, get_or_append_left, get_or-append_right, get_or-replicate}
-use Rattle.std.specs.Prelude.{nat_le}
+use Rattle.std.proofs.Common.{◌≡◌, ℕ, ◌+◌, ◌-◌, ◌<◌, ◌≤◌, ◌≢◌, inl, inr, Bool, true, false, cond, List, [], ◌∷◌, ◌++◌, arith, refl, ap, ◌∙◌, length, map, min, get_or, replicate, slice_index, slice_set}
+use Rattle.std.proofs.lemmas.Bool.{cond_both, cond-true, eqb-true, cond-false, lt-ltb, leb-false, or_from, cases_lt, lt-leb, le-ltb, ne_eqb}
+use Rattle.std.proofs.lemmas.List.{length-append, length-replicate, length-set, get_or_append_left, get_or-append_right, get_or-replicate}
+use Rattle.std.specs.Prelude.{nat_le, ◌==◌}
 use Rattle.std.proofs.lemmas.List.FromFn.{get_or-map-range_with_len}
 use Rattle.dr_core.specs.declared.command.Command.{Command}
 use Rattle.dr_core.specs.declared.command.Command.TheVariants.{Claim, Complete, Halt}
@@ -16,9 +16,10 @@ use Rattle.dr_graph.proofs.Gating.{finals_agree, least_gates}
 use Rattle.dr_core.specs.Refusals.{IsFirst}
 use Rattle.dr_core.specs.Machine.{State, Outcome, handlers, producers, next, front, gating, least_completed, refusals, accepted, unless, unchanged}
 use Rattle.dr_core.specs.CoreView.{Known, Nothing, ClaimedBy, CoreView, recent_of, known_at, retired_in, gate_of}
-use Rattle.dr_core.specs.Shows.{Shows, IsStep}
+use Rattle.dr_core.specs.Shows.{Shows, IsStep, CanComplete}
 use Rattle.dr_core.specs.Inside.{IsWhole}
 use Rattle.dr_core.proofs.Leasts.{IsLeast, least_is, least_one}
+use Rattle.dr_core.proofs.Sound.{set_count}
 use Rattle.dr_core.proofs.Steps.{NoneHold}
 
 unless-none : (tests : List (Bool × Refusal)) (m : State) (o : Outcome) → NoneHold tests → unless tests m o ≡ o
@@ -67,11 +68,27 @@ halt_step v =
     accepted_step v (record v { halted = true }) Halt Halting [] refl refl (λ m sh. tt) (λ m sh. refl) (λ m sh. refl)
     (λ m sh. record { next = sh.next; front = sh.front; taken = sh.taken; completed = sh.completed; halted = refl; retired = sh.retired; recent = sh.recent; unclaimed = sh.unclaimed })
 
-pub complete_step : (v : CoreView) (h upto : ℕ) → h < handlers v.setup → retired_in v h ≡ false → slice_index v.completed h ≤ upto → upto ≤ slice_index v.taken h
-    → IsStep v (Complete h upto) Completed [] (record v { completed = slice_set v.completed h upto })
-complete_step v h upto inside left up low =
+pub halt_whole : (v : CoreView) → IsWhole v → IsWhole (record v { halted = true })
+halt_whole v whole = record {
+  graph = whole.graph;
+  size = whole.size;
+  limit = whole.limit;
+  taken = whole.taken;
+  completed = whole.completed;
+  retired = whole.retired;
+  left = whole.left;
+  claimed = whole.claimed;
+  front = whole.front;
+  in_front = whole.in_front;
+  took = whole.took;
+  after = whole.after;
+  room = whole.room;
+}
+
+pub complete_step : (v : CoreView) (h upto : ℕ) → CanComplete v h upto → IsStep v (Complete h upto) Completed [] (record v { completed = slice_set v.completed h upto })
+complete_step v h upto can =
     accepted_step v (record v { completed = slice_set v.completed h upto }) (Complete h upto) Completed [] refl refl
-    (λ m sh. (lt-leb _ _ inside, (sh.retired h ∙ left, (rw (sh.completed) (le-ltb _ _ up), (rw (sh.taken) (le-ltb _ _ low), tt)))))
+    (λ m sh. (lt-leb _ _ can.handler, (sh.retired h ∙ can.left, (rw (sh.completed) (le-ltb _ _ can.completed), (rw (sh.taken) (le-ltb _ _ can.taken), tt)))))
     (λ m sh. refl)
     (λ m sh. refl)
     (λ m sh. record { next = sh.next; front = sh.front; taken = sh.taken; completed = ap (λ ns. slice_set ns h upto) sh.completed; halted = sh.halted; retired = sh.retired; recent = sh.recent; unclaimed = sh.unclaimed })
@@ -81,6 +98,36 @@ pub gate_same : (v : CoreView) (m : State) → Shows v m → least_completed m (
 gate_same v m sh =
     ap (λ fs. least_of (map (λ h. slice_index m.completed h) fs)) (finals_agree v.setup.upstreams m.retired (retired_in v) sh.retired)
     ∙ ap (λ cs. least_of (map (λ h. slice_index cs h) (finals_without v.setup.upstreams (retired_in v)))) sh.completed
+
+module _ (v : CoreView) (h upto : ℕ) (whole : IsWhole v) (can : CanComplete v h upto) where
+  abbrev counts : List ℕ
+  counts = slice_set v.completed h upto
+
+  count_is : (k : ℕ) → slice_index counts k ≡ cond (k == h) upto (slice_index v.completed k)
+  count_is k = set_count v.completed h upto k (let len : length v.completed ≡ handlers v.setup = whole.completed in let inside : h < handlers v.setup = can.handler in omega arith)
+
+  pub completed_grows : (k : ℕ) → slice_index v.completed k ≤ slice_index counts k
+  completed_grows k =
+      rw (count_is k) (cond_both (k == h) upto (slice_index v.completed k) (λ n. slice_index v.completed k ≤ n)
+      (λ y. (let e : k ≡ h = eqb-true k h y in rw e can.completed)) (λ n. omega arith))
+
+  pub complete_whole : IsWhole (record v { completed = counts })
+  complete_whole = record {
+    graph = whole.graph;
+    size = whole.size;
+    limit = whole.limit;
+    taken = whole.taken;
+    completed = length-set v.completed h upto ∙ whole.completed;
+    retired = whole.retired;
+    left = whole.left;
+    claimed = whole.claimed;
+    front = whole.front;
+    in_front = whole.in_front;
+    took = λ k. rw (count_is k) (cond_both (k == h) upto (slice_index v.completed k) (λ n. n ≤ slice_index v.taken k)
+        (λ y. (let e : k ≡ h = eqb-true k h y in rw e can.taken)) (λ n. whole.took k));
+    after = λ k u has. (let old : slice_index v.taken k ≤ slice_index v.completed u = whole.after k u has in let grown : slice_index v.completed u ≤ slice_index counts u = completed_grows u in omega arith);
+    room = λ k inside left. (let old : v.next ≤ v.setup.size + slice_index v.completed k = whole.room k inside left in let grown : slice_index v.completed k ≤ slice_index counts k = completed_grows k in omega arith);
+  }
 
 -- the owners after a claim
 owner_before : (owners : List ℕ) (n p s : ℕ) → s < length owners → slice_index (owners ++ replicate n p) s ≡ slice_index owners s

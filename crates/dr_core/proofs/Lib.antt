@@ -18,4 +18,3 @@ pub mod Copying
 pub mod Showings
 pub mod Gating
 pub mod Retiring
-pub mod Completing

@@ -1,5 +1,5 @@
 -- A new core shows the opening.
-use Rattle.std.proofs.Common.{◌≡◌, ℕ, zero, suc, Bool, ◌≤◌, ◌^◌, List, arith, refl, ap, sym, ◌∙◌, length, replicate, false}
+use Rattle.std.proofs.Common.{◌≡◌, ℕ, zero, suc, Bool, ◌≤◌, ◌^◌, List, [], arith, refl, ap, sym, ◌∙◌, length, replicate, false}
 use Rattle.std.proofs.lemmas.List.{length-replicate}
 use Rattle.dr_seq.specs.Size.{IsSize}
 use Rattle.dr_graph.specs.Name.{Name}
@@ -7,8 +7,10 @@ use Rattle.dr_core.specs.Machine.{Setup, handlers, opening, least_outside}
 use Rattle.dr_graph.specs.Graph.{IsGraph, flagged}
 use Rattle.dr_core.specs.CoreView.{Known, CoreView}
 use Rattle.dr_core.specs.Shows.{Shows}
+use Rattle.dr_core.specs.Runs.{IsReached}
 use Rattle.dr_core.specs.Inside.{IsWhole}
 use Rattle.dr_core.proofs.Keeps.{zeros}
+use Rattle.dr_core.proofs.Running.{run_none}
 
 -- where no flag is set, nobody is told
 unflagged : (n h : ℕ) → flagged (replicate n false) h ≡ false
@@ -33,6 +35,9 @@ module _ (c : Setup) (names : List Name) (recent : List Known) (taken completed 
     recent = λ s l r. absurd (omega arith);
     unclaimed = λ s l. (refl, refl);
   }
+
+  pub opening_reached : IsReached (new_core c names recent taken completed retired)
+  opening_reached = record { transcript = []; runs = run_none c [] (opening c) (new_core c names recent taken completed retired) refl opening_shows }
 
   pub opening_whole : IsGraph c.upstreams → IsSize c.size → c.limit ≤ 2 ^ 62 → IsWhole (new_core c names recent taken completed retired)
   opening_whole graph size limit = record {

@@ -1,5 +1,5 @@
 -- A run of commands, one step after another.
-use Rattle.std.proofs.Common.{◌≡◌, ℕ, ◌+◌, ◌<◌, ◌≤◌, List, [], ◌∷◌, ◌++◌, arith, refl, ap, sym, ◌∙◌, length, take, drop, get_or, append_assoc}
+use Rattle.std.proofs.Common.{◌≡◌, ℕ, ◌+◌, ◌<◌, ◌≤◌, List, [], ◌∷◌, ◌++◌, arith, refl, ap, sym, subst, ◌∙◌, length, take, drop, get_or, append_assoc}
 use Rattle.std.proofs.lemmas.List.{drop_more, take_more, length-take-le, nil_from_length, take_all, append-nil, take-append-le, drop-append-le, length-append, length-drop}
 use Rattle.dr_core.specs.declared.command.Command.{Command}
 use Rattle.dr_core.specs.declared.command.Command.TheVariants.{Claim, Write, Publish, Poll, Complete, Halt, Retire}
@@ -9,7 +9,7 @@ use Rattle.dr_core.specs.Machine.{Setup, State, step, opening}
 use Rattle.dr_core.specs.Transcript.{Transcript, LeadsTo}
 use Rattle.dr_core.specs.CoreView.{CoreView}
 use Rattle.dr_core.specs.Shows.{Shows, IsStep}
-use Rattle.dr_core.specs.Runs.{RunsTo, transcript_of, count_in, counts_of, offers, needed}
+use Rattle.dr_core.specs.Runs.{RunsTo, IsReached, transcript_of, count_in, counts_of, offers, needed}
 use Rattle.dr_core.proofs.FiveLaws.{lawful, leads_append}
 
 -- one more command, reply and values are one more entry
@@ -37,6 +37,14 @@ leads_step c old new t command reply values same is at =
     let s : Shows new (step c at.state command).state = rw same at (is.shown at.state at.shows) in
     let l : LeadsTo c (t ++ record { command = command; reply = reply; values = values } ∷ []) (step c at.state command).state = leads_append c t (record { command = command; reply = reply; values = values } ∷ []) (opening c) at.state (step c at.state command).state at.leads (r, v, refl) in
     record { state = (step c at.state command).state; leads = l; shows = s; lawful = lawful c (t ++ record { command = command; reply = reply; values = values } ∷ []) (step c at.state command).state l }
+
+-- and what it shows is still reached
+pub step_leads_on : (t : Transcript) (old new : CoreView) (command : Command) (reply : Reply) (values : List Event) → RunsTo old.setup t old → IsStep old command reply values new → RunsTo new.setup (t ++ record { command = command; reply = reply; values = values } ∷ []) new
+step_leads_on t old new command reply values at is =
+    subst (λ c. RunsTo c (t ++ record { command = command; reply = reply; values = values } ∷ []) new) (sym is.same_setup) (leads_step old.setup old new t command reply values refl is at)
+
+pub step_reached : {old new : CoreView} {command : Command} {reply : Reply} {values : List Event} → IsStep old command reply values new → IsReached old → IsReached new
+step_reached is was = record { transcript = _; runs = step_leads_on _ _ _ _ _ _ was.runs is }
 
 pub counts-push : (replies : List Reply) (reply : Reply) → counts_of (replies ++ reply ∷ []) ≡ counts_of replies + count_in reply
 counts-push [] reply = omega arith

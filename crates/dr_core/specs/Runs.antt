@@ -44,3 +44,8 @@ pub record RunsTo (c : Setup) (t : Transcript) (v : CoreView) : Type 0 where
   pub leads : LeadsTo c t state
   pub shows : Shows v state
   pub lawful : Laws c t
+
+-- a core is reached where some transcript leads from its opening to a state that it shows
+pub record IsReached (v : CoreView) : Type 0 where
+  pub transcript : Transcript
+  pub runs : RunsTo v.setup transcript v

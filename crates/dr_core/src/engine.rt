@@ -3,8 +3,9 @@
 ghost use Rattle.std.specs.Prelude.{◌≡◌, ◌↔◌, ◌^◌, ◌<◌, Err, IfOk, IfErr, ◌≤◌, true, false, slice_index};
 ghost use Rattle.dr_core.specs.Availability.{HasOwners};
 ghost use Rattle.dr_core.specs.CoreView.{retired_in};
-ghost use Rattle.dr_core.specs.Machine.{opening, handlers, setup_of};
+ghost use Rattle.dr_core.specs.Machine.{opening, handlers, producers as producers_of, setup_of};
 ghost use Rattle.dr_core.specs.OpenFault.{has_bad_producers, is_bad_limit};
+ghost use Rattle.dr_core.specs.Runs.{IsReached};
 ghost use Rattle.dr_core.specs.Shows.{Shows};
 
 use crate::mode::Mode;
@@ -117,6 +118,13 @@ impl Core {
         &self.graph
     }
 
+    /// How many producers there are, numbered from 0.
+    pub fn producers(&self) -> u64
+        ensures { result ≡ producers_of self.now.setup.mode }
+    {
+        self.mode.producers()
+    }
+
     /// How many slots there are.
     pub fn size(&self) -> Size
         ensures { result ≡ self.now.setup.size }
@@ -126,7 +134,11 @@ impl Core {
 
     /// How many sequences are claimed.
     pub fn next(&self) -> u64
-        ensures { result ≡ self.now.next }
+        ensures value { result ≡ self.now.next }
+        ensures limit { result ≤ self.now.setup.limit }
+
+        // Of every core: it shows a state, to which some transcript leads from its opening.
+        ensures reached { IsReached self.now }
     {
         self.next
     }

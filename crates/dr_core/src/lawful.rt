@@ -1,22 +1,33 @@
-//! The theorem that the exchange stands on.
+//! The theorems that the exchange stands on. They do nothing when they run: the contracts are the theorems.
 
-ghost use Rattle.std.specs.Prelude.{ℕ, ◌≤◌};
+ghost use Rattle.std.specs.Prelude.{ℕ, ◌≤◌, ◌++◌, ◌∷◌, [], List};
 ghost use Rattle.dr_graph.specs.Graph.{IsLayered};
+ghost use Rattle.dr_seq.specs.declared.event.Event.{Event};
+ghost use Rattle.dr_core.specs.declared.command.Command.{Command};
 ghost use Rattle.dr_core.specs.declared.command.Command.TheVariants.{Retire};
+ghost use Rattle.dr_core.specs.declared.command.Reply.{Reply};
+ghost use Rattle.dr_core.specs.CoreView.{CoreView};
 ghost use Rattle.dr_core.specs.Machine.{Setup, State, gate, step};
+ghost use Rattle.dr_core.specs.Runs.{RunsTo};
+ghost use Rattle.dr_core.specs.Shows.{IsStep};
 ghost use Rattle.dr_core.specs.Transcript.{Transcript, LeadsTo};
 ghost use Rattle.dr_core.specs.Laws.{Laws};
 ghost use Rattle.dr_core.specs.Tells.{Tells};
 
 /// Every transcript that leads from the opening to a state of the machine has the five laws, at
-/// each of its beginnings. It does nothing when it runs: the contract is the theorem.
+/// each of its beginnings.
 pub fn every_transcript_is_lawful()
     ensures { (c : Setup) (t : Transcript) (m : State) → LeadsTo c t m → Laws c t }
 {}
 
-/// What a transcript says, by its own entries, is what the state that it leads to has.
+/// What a transcript tells, by its own entries, is what the state that it leads to has.
 pub fn every_transcript_tells_its_state()
     ensures { (c : Setup) (t : Transcript) (m : State) → LeadsTo c t m → Tells t m }
+{}
+
+/// After a transcript that leads to what a core shows, one more step of the core is one more entry.
+pub fn every_step_leads_on()
+    ensures { (t : Transcript) (old new : CoreView) (command : Command) (reply : Reply) (values : List Event) → RunsTo old.setup t old → IsStep old command reply values new → RunsTo new.setup (t ++ record { command = command; reply = reply; values = values } ∷ []) new }
 {}
 
 /// No retirement lowers the least completed count that a claim is gated by, in any state that a transcript leads to.

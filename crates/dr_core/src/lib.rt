@@ -21,7 +21,10 @@ pub use command::{Claimed, Command, Polled, Reply};
 pub use ends::{Inlet, Outlet, Trouble};
 pub use engine::{Core, MAX_LIMIT, MAX_PRODUCERS};
 pub use handler::{Handler, processor_turn};
-pub use lawful::{every_transcript_is_lawful, retirement_keeps_the_gate};
+pub use lawful::{
+    every_step_leads_on, every_transcript_is_lawful, every_transcript_tells_its_state,
+    retirement_keeps_the_gate,
+};
 pub use mode::Mode;
 pub use open_fault::OpenFault;
 pub use refusal::Refusal;

@@ -1,19 +1,22 @@
-use Rattle.std.proofs.Common.{ℕ, ◌≡◌, ◌+◌, ◌<◌, ◌≤◌, length, sym, ap, ◌∙◌, List, Vec, Global, false, true, inl, inr, refl}
+use Rattle.std.proofs.Common.{ℕ, ◌≡◌, ◌+◌, ◌-◌, [], ◌<◌, ◌≤◌, length, sym, ap, ◌∙◌, List, Vec, Global, false, true, inl, inr, refl}
 use Rattle.std.specs.Vec.{with_items}
 use Rattle.std.proofs.lemmas.List.{with_items_is}
 use Rattle.std.specs.Prelude.{◌==◌, ◌||◌, nat_lt}
 use Rattle.std.proofs.lemmas.Bool.{leb-true, or_left, or_right, eq-eqb, lt-ltb, lt-leb}
-use Rattle.dr_core.specs.declared.command.Command.TheVariants.{Claim}
 use Rattle.dr_core.specs.declared.refusal.Refusal.TheVariants.{BadCount}
 use Rattle.dr_seq.proofs.Sizes.{size_positive}
 use Rattle.dr_core.specs.declared.mode.Mode.{Mode}
 use Rattle.dr_core.specs.declared.mode.Mode.TheVariants.{Single, Multi}
+use Rattle.dr_core.specs.declared.command.Command.TheVariants.{Claim}
+use Rattle.dr_core.specs.declared.command.Reply.TheVariants.{Claimed}
 use Rattle.dr_core.specs.Machine.{producers}
+use Rattle.dr_core.specs.Shows.{IsStep}
 use Rattle.dr_core.specs.CoreView.{CoreView, gate_of}
 use Rattle.dr_core.specs.Availability.{owners_after}
 use Rattle.dr_core.specs.Inside.{view_of, kept_of}
 use Rattle.dr_core.proofs.CoreSteps.{refused_step, claim_step, claim_whole, claim_no_room}
 use Rattle.dr_core.proofs.Recents.{claims_known, claims_available, known_there, one_producer}
+use Rattle.dr_core.proofs.Running.{step_reached}
 use Rattle.dr_core.proofs.Stamped.{length-stamped}
 use Rattle.dr_core.proofs.engine.Core.claim.Goals as goal
 use Rattle.dr_core.proofs.engine.Core.claim.Goals.{After-own, then-n-eq0-via-then-n-eq0, then-n-eq0-via-else-n-eq0+then-n-get}
@@ -56,6 +59,20 @@ limited c = rw (ap (λ w. w.next) (unchanged c), ap (λ w. w.setup.limit) (uncha
 fits_beside : (c : After-own) → c.self-2.inside.next + c.args.n ≤ c.self-2.inside.size + gate_of (view_of c.self-2.inside)
 fits_beside c = leb-true _ _ (rw (← c.has_room.ensures.same, ← c.self-2.view_is) at (sym c.has_room.ensures.room ∙ c.if-not-has_room.false))
 
+-- the claim is the machine's
+claimed : (c : After-own) → IsStep (view_of c.self-2.inside) (Claim c.args.p c.args.n) (Claimed c.self-2.inside.next (c.self-2.inside.next + c.args.n - 1)) []
+    (view_of (record c.self-2.inside { owners = with_items c.self-2.inside.owners c.own.new.owners; next = c.self-2.inside.next + c.args.n }))
+claimed c =
+    let v : CoreView = view_of c.self-2.inside in
+    let same : v ≡ view_of c.self.inside = unchanged c in
+    let producer : c.args.p < producers v.setup.mode = rw (ap (λ w. w.setup.mode) same) (rw c.producers.ensures at c.if-p-producers.false) in
+    let fits : c.args.n ≤ v.setup.size = rw (ap (λ w. w.setup.size) same) (rw c.get.ensures.value at c.if-n-get.false) in
+    let going : v.halted ≡ false = ap (λ w. w.halted) same ∙ c.if-self.false in
+    rw (owned c)
+    (claim_step v c.args.p c.args.n _
+    (claims_known v (kept_of c.self-2.inside) (known_there c.self-2.inside) c.self-2.invariant.available c.self-2.invariant.whole.front (size_positive v.setup.size c.self-2.invariant.whole.size) c.args.n c.args.p fits (one_producer c.self-2.inside.mode c.args.p producer))
+    producer c.if-n-eq0.false fits going (limited c) (fits_beside c))
+
 pub invariant_of-self : goal.invariant_of-self
 invariant_of-self c =
     let v : CoreView = view_of c.self-2.inside in
@@ -63,19 +80,9 @@ invariant_of-self c =
     record {
       whole = claim_whole v c.args.n _ c.self-2.invariant.whole (limited at) (fits_beside at);
       available = rw (owned at) (claims_available v (kept_of c.self-2.inside) (known_there c.self-2.inside) c.self-2.invariant.available c.self-2.invariant.whole.front (size_positive v.setup.size c.self-2.invariant.whole.size) c.args.n c.args.p);
+      reached = step_reached (claimed at) c.self-2.invariant.reached;
       gate = c.self-2.invariant.gate;
     }
 
 pub returns-clause-step : goal.returns-clause-step
-returns-clause-step c =
-    let v : CoreView = view_of c.self-2.inside in
-    let at : After-own = (goal.at.returns-clause-step c).After-own in
-    let same : v ≡ view_of c.self.inside = unchanged at in
-    let producer : c.args.p < producers v.setup.mode = rw (ap (λ w. w.setup.mode) same) (rw c.producers.ensures at c.if-p-producers.false) in
-    let fits : c.args.n ≤ v.setup.size = rw (ap (λ w. w.setup.size) same) (rw c.get.ensures.value at c.if-n-get.false) in
-    let going : v.halted ≡ false = ap (λ w. w.halted) same ∙ c.if-self.false in
-    rw (← c.has_room.ensures.same, ← c.self-2.view_is)
-    (rw (owned at)
-    (claim_step v c.args.p c.args.n _
-    (claims_known v (kept_of c.self-2.inside) (known_there c.self-2.inside) c.self-2.invariant.available c.self-2.invariant.whole.front (size_positive v.setup.size c.self-2.invariant.whole.size) c.args.n c.args.p fits (one_producer c.self-2.inside.mode c.args.p producer))
-    producer c.if-n-eq0.false fits going (limited at) (fits_beside at)))
+returns-clause-step c = rw (← c.has_room.ensures.same, ← c.self-2.view_is) (claimed (goal.at.returns-clause-step c).After-own)

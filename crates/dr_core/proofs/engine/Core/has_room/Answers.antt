@@ -41,5 +41,6 @@ invariant_of-self c =
     record {
       whole = c.self.invariant.whole;
       available = c.self.invariant.available;
+      reached = c.self.invariant.reached;
       gate = rw (c.raise.ensures, least_is v _ _ _ c.deref.ensures.value c.deref-2.ensures.value c.least_left-least.ensures) (least_below v c.self.invariant.whole);
     }

@@ -1,4 +1,4 @@
-use Rattle.std.proofs.Common.{◌≡◌, ℕ, ◌-◌, ◌<◌, min, length, map, sym, ap, ◌∙◌, arith, List, take, drop, ◌++◌, slice_index, false, ◌&&◌}
+use Rattle.std.proofs.Common.{◌≡◌, ℕ, ◌+◌, ◌-◌, ◌<◌, min, length, map, sym, ap, ◌∙◌, arith, List, take, drop, ◌++◌, slice_index, false, ◌&&◌}
 use Rattle.std.specs.Prelude.{if◌then◌else◌, ◌==◌}
 use Rattle.std.specs.List.{range_with_len}
 use Rattle.std.proofs.lemmas.Bool.{eqb-false, and_left, and_right, ne_eqb}
@@ -10,12 +10,16 @@ use Rattle.dr_graph.specs.Graph.{upstreams_of}
 use Rattle.dr_core.specs.Machine.{is_single}
 use Rattle.dr_core.specs.CoreView.{CoreView}
 use Rattle.dr_core.specs.Inside.{view_of}
-use Rattle.dr_core.specs.Shows.{offered_to}
+use Rattle.dr_core.specs.Shows.{IsStep, offered_to}
+use Rattle.dr_core.specs.declared.command.Command.TheVariants.{Poll}
+use Rattle.dr_core.specs.declared.command.Reply.TheVariants.{Batch}
+use Rattle.std.specs.Vec.{with_item}
 use Rattle.dr_core.proofs.Polling.{PollsAt, polls_at, batch_step, batch_whole, drained_step, gating_step, idle_step}
 use Rattle.dr_core.proofs.Recents.{shown_event}
 use Rattle.dr_core.proofs.Retiring.{told}
+use Rattle.dr_core.proofs.Running.{step_reached}
 use Rattle.dr_core.proofs.engine.Core.poll_into.Goals as goal
-use Rattle.dr_core.proofs.engine.Core.poll_into.Goals.{After-available-available, After-cursor, else-self-via-then-self+else-first-self, else-self-via-else-self}
+use Rattle.dr_core.proofs.engine.Core.poll_into.Goals.{After-available-available, After-copy_out, After-cursor, else-self-via-then-self+else-first-self, else-self-via-else-self}
 
 -- the events that stand at the front of the buffer
 copied : (events : List Event) (first count : ℕ) (out old : List Event) → out ≡ map (λ s. event_at events s) (range_with_len first count) ++ drop count old → take count out ≡ map (λ s. event_at events s) (range_with_len first count)
@@ -27,6 +31,14 @@ found : (c : After-available-available) → PollsAt (view_of c.self.inside) c.ar
 found c =
     polls_at (view_of c.self.inside) c.args.h (length c.args.out.now) c.len.result c.index-first.result.now c.available-available.result c.self.invariant.whole c.len.ensures.handlers c.if-h-len.false (told (view_of c.self.inside) c.args.h c.index.result.now false c.self.invariant.whole (omega (arith, c.len.ensures.handlers)) c.index.ensures c.if-index.false) (eqb-false _ _ (sym c.if-is_empty.ensures)) c.index-first.ensures (rw (← c.self.view_is) at c.available-available.ensures)
 
+-- the batch is the machine's
+took : (c : After-copy_out) → PollsAt (view_of c.self.inside) c.args.h (length c.args.out.now) c.index-first.result.now c.available-available.result
+    → IsStep (view_of c.self.inside) (Poll c.args.h (length c.args.out.now)) (Batch c.index-first.result.now c.min-count.result (c.index-first.result.now + c.min-count.result == c.available-available.result))
+    (map (λ s. event_at c.self.inside.events s) (range_with_len c.index-first.result.now c.min-count.result))
+    (view_of (record c.self.inside { taken = with_item c.self.inside.taken c.args.h (c.index-first.result.now + c.min-count.result) }))
+took c at =
+    batch_step (view_of c.self.inside) c.args.h (length c.args.out.now) at.whole at.inside at.left at.some (rw (at.taken, at.offered) at c.if-first-available.true) c.index-first.result.now c.min-count.result c.available-available.result (λ s. event_at c.self.inside.events s) (shown_event c.self.inside) at.taken at.offered c.min-count.ensures
+
 pub invariant_of-self : goal.invariant_of-self
 invariant_of-self c =
     let v : CoreView = view_of c.self.inside in
@@ -36,6 +48,7 @@ invariant_of-self c =
     record {
       whole = rw at.taken (batch_whole v c.args.h (length c.args.out.now) at.whole at.inside at.left at.some more c.min-count.result (let a = at.taken in let b = at.offered in omega arith));
       available = c.self.invariant.available;
+      reached = step_reached (took (goal.at.invariant_of-self c).After-copy_out at) c.self.invariant.reached;
       gate = c.self.invariant.gate;
     }
 
@@ -43,9 +56,7 @@ pub returns-then-first-available-clause-step : goal.returns-then-first-available
 returns-then-first-available-clause-step c =
     let at = found (goal.at.returns-then-first-available-clause-step c).After-available-available in
     let values : take c.min-count.result c.copy_out.new.out ≡ map (λ s. event_at c.self.inside.events s) (range_with_len c.index-first.result.now c.min-count.result) = copied c.self.inside.events _ _ _ _ c.copy_out.ensures in
-    rw (← c.self.view_is)
-    (rw values
-    (batch_step (view_of c.self.inside) c.args.h (length c.args.out.now) at.whole at.inside at.left at.some (rw (at.taken, at.offered) at c.if-first-available.true) c.index-first.result.now c.min-count.result c.available-available.result (λ s. event_at c.self.inside.events s) (shown_event c.self.inside) at.taken at.offered c.min-count.ensures))
+    rw (← c.self.view_is) (rw values (took (goal.at.returns-then-first-available-clause-step c).After-copy_out at))
 
 pub returns-then-first-self-clause-step : goal.returns-then-first-self-clause-step
 returns-then-first-self-clause-step c =

@@ -1,16 +1,20 @@
-use Rattle.std.proofs.Common.{◌≡◌, ◌+◌, ◌≤◌, sym, ◌∙◌, arith, Bool, true, false, cond, Some, None, refl}
+use Rattle.std.proofs.Common.{◌≡◌, [], ◌+◌, ◌≤◌, sym, ◌∙◌, arith, Bool, true, false, cond, Some, None, refl}
 use Rattle.std.specs.Prelude.{◌==◌, nat_lt}
 use Rattle.std.proofs.lemmas.Bool.{eq-eqb, ne_eqb, le-ltb, or_right, or_from}
 use Rattle.dr_seq.proofs.Sizes.{size_positive}
 use Rattle.dr_core.specs.declared.refusal.Refusal.TheVariants.{NotClaimed}
+use Rattle.dr_core.specs.declared.command.Command.TheVariants.{Write}
+use Rattle.dr_core.specs.declared.command.Reply.TheVariants.{Written}
+use Rattle.dr_core.specs.Shows.{IsStep}
 use Rattle.dr_core.specs.CoreView.{CoreView, known_at}
 use Rattle.dr_core.specs.Availability.{owner_at, is_published_at, write_fault}
 use Rattle.dr_core.specs.Inside.{view_of, kept_of}
 use Rattle.dr_core.proofs.CoreSteps.{front_whole}
 use Rattle.dr_core.proofs.Recents.{known_there, write_fault_is, writes_known, writes_available}
+use Rattle.dr_core.proofs.Running.{step_reached}
 use Rattle.dr_core.proofs.Writing.{near, write_front, write_refused, write_step}
 use Rattle.dr_core.proofs.engine.Core.write.Goals as goal
-use Rattle.dr_core.proofs.engine.Core.write.Goals.{After-owner_of}
+use Rattle.dr_core.proofs.engine.Core.write.Goals.{After-owner_of, After-put}
 
 pub returns-then-s-self-2-clause-step : goal.returns-then-s-self-2-clause-step
 returns-then-s-self-2-clause-step c =
@@ -41,25 +45,35 @@ returns-then-owner_of-p-clause-step c =
     (write_refused (view_of c.self.inside) c.args.p c.args.s c.args.event c.self.invariant.whole (rw c.producers.ensures at c.if-p-producers.false) c.if-s-self.false c.if-s-self-2.false _
     (unpublished_fault (goal.at.returns-then-owner_of-p-clause-step c).After-owner_of false (ne_eqb _ _ (λ e. c.if-owner_of-p.true (owner ∙ e)))))
 
+-- past the test of its owner the sequence may be written
+mine : (c : After-put) → owner_at c.self.inside.mode c.self.inside.owners.items c.args.s ≡ c.args.p
+mine c = sym (rw c.deref.ensures.value at c.owner_of.ensures) ∙ c.if-owner_of-p.false
+
+-- the write is the machine's
+written : (c : After-put) → is_published_at (kept_of c.self.inside) c.args.s ≡ false → write_fault (known_at (view_of c.self.inside) c.args.s) c.args.p ≡ None
+    → IsStep (view_of c.self.inside) (Write c.args.p c.args.s c.args.event) Written [] (view_of (record c.self.inside { written = c.mark.new.self; events = c.put.new.self }))
+written c unshown free =
+    let v : CoreView = view_of c.self.inside in
+    let recent : v.next ≤ c.args.s + v.setup.size = near v c.self.invariant.whole c.args.s c.if-s-self-2.false in
+    rw (c.mark.ensures, c.put.ensures)
+    (write_step v c.args.p c.args.s c.args.event c.self.invariant.whole (rw c.producers.ensures at c.if-p-producers.false) c.if-s-self.false c.if-s-self-2.false _
+    (writes_known v (kept_of c.self.inside) (known_there c.self.inside) c.self.invariant.available c.self.invariant.whole.front (size_positive v.setup.size c.self.invariant.whole.size) c.args.p c.args.s c.args.event c.if-s-self.false recent unshown (mine c)) free)
+
 pub invariant_of-self : goal.invariant_of-self
 invariant_of-self c =
     let v : CoreView = view_of c.self.inside in
+    let at : After-owner_of = (goal.at.invariant_of-self c).After-owner_of in
+    let put : After-put = (goal.at.invariant_of-self c).After-put in
     let recent : v.next ≤ c.args.s + v.setup.size = near v c.self.invariant.whole c.args.s c.if-s-self-2.false in
     record {
       whole = front_whole v v.front _ c.self.invariant.whole (omega arith) c.self.invariant.whole.front;
       available = rw (c.mark.ensures, c.put.ensures) (writes_available v (kept_of c.self.inside) (known_there c.self.inside) c.self.invariant.available c.self.invariant.whole.front (size_positive v.setup.size c.self.invariant.whole.size) c.args.p c.args.s c.args.event c.if-s-self.false recent);
+      reached = step_reached (written put (unpublished at) (unpublished_fault at true (eq-eqb _ _ (mine put)))) c.self.invariant.reached;
       gate = c.self.invariant.gate;
     }
 
 pub returns-clause-step : goal.returns-clause-step
 returns-clause-step c =
-    let v : CoreView = view_of c.self.inside in
     let at : After-owner_of = (goal.at.returns-clause-step c).After-owner_of in
-    let recent : v.next ≤ c.args.s + v.setup.size = near v c.self.invariant.whole c.args.s c.if-s-self-2.false in
-    let owner = rw c.deref.ensures.value at c.owner_of.ensures in
-    let mine : owner_at c.self.inside.mode c.self.inside.owners.items c.args.s ≡ c.args.p = sym owner ∙ c.if-owner_of-p.false in
-    rw (← c.self.view_is)
-    (rw (c.mark.ensures, c.put.ensures)
-    (write_step v c.args.p c.args.s c.args.event c.self.invariant.whole (rw c.producers.ensures at c.if-p-producers.false) c.if-s-self.false c.if-s-self-2.false _
-    (writes_known v (kept_of c.self.inside) (known_there c.self.inside) c.self.invariant.available c.self.invariant.whole.front (size_positive v.setup.size c.self.invariant.whole.size) c.args.p c.args.s c.args.event c.if-s-self.false recent (unpublished at) mine)
-    (unpublished_fault at true (eq-eqb _ _ mine))))
+    let put : After-put = (goal.at.returns-clause-step c).After-put in
+    rw (← c.self.view_is) (written put (unpublished at) (unpublished_fault at true (eq-eqb _ _ (mine put))))
