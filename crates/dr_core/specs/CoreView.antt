@@ -1,9 +1,9 @@
 -- What contracts see of a core: what it remembers of the machine's state, however that is kept.
-use Rattle.std.specs.Prelude.{ℕ, ◌-◌, min, Bool, List, map, slice_index, slice_index_or}
+use Rattle.std.specs.Prelude.{◌≡◌, ℕ, ◌-◌, ◌<◌, min, Bool, List, length, map, slice_index, slice_index_or}
 use Rattle.std.specs.List.{range_with_len}
 use Rattle.dr_seq.specs.declared.event.Event.{Event}
 use Rattle.dr_graph.specs.Name.{Name}
-use Rattle.dr_graph.specs.Graph.{flagged, least_without}
+use Rattle.dr_graph.specs.Graph.{flagged, is_final_without, least_without}
 use Rattle.dr_core.specs.Machine.{Setup}
 
 -- what a core knows of a sequence: nothing, claimed by a producer, written by a producer with an event, published with an event
@@ -27,6 +27,11 @@ pub record CoreView : Type 0 where
 -- which handlers are retired
 abbrev pub retired_in : CoreView → ℕ → Bool
 retired_in v = flagged v.retired
+
+-- flags, one a handler, of those that gate where some are gone
+pub record AreGating (flags : List Bool) (graph : List (List ℕ)) (gone : ℕ → Bool) : Type 0 where
+  pub complete : length flags ≡ length graph
+  pub each : (h : ℕ) → h < length graph → flagged flags h ≡ is_final_without graph gone h
 
 -- the least completed count of the finals that are not retired
 abbrev pub gate_of : CoreView → ℕ

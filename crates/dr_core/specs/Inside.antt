@@ -5,7 +5,7 @@ use Rattle.dr_seq.specs.Size.{IsSize}
 use Rattle.dr_core.specs.declared.engine.Core.TheInside.{Inside}
 use Rattle.dr_graph.specs.Graph.{upstreams_of, finals_without, IsGraph}
 use Rattle.dr_core.specs.Machine.{handlers, setup_of}
-use Rattle.dr_core.specs.CoreView.{CoreView, retired_in, recent_of}
+use Rattle.dr_core.specs.CoreView.{CoreView, AreGating, retired_in, recent_of}
 use Rattle.dr_core.specs.Runs.{IsReached}
 use Rattle.dr_core.specs.Availability.{Kept, slot_known, HasOwners}
 
@@ -50,9 +50,10 @@ pub record IsAvailable (a : Kept) (size next : ℕ) : Type 0 where
   pub unpublished : (s : ℕ) → next ≤ s → is_marked a.published s ≡ false
   pub unwritten : (s : ℕ) → next ≤ s → is_marked a.written s ≡ false
 
--- the two rounds, and a remembered least count that no final of those that are left is below; every core is reached, so it shows a state
+-- the two rounds, the flags of those that gate, and a remembered least count that no final of those that are left is below; every core is reached, so it shows a state
 pub record IsKept (a : Inside) : Type 0 where
   pub whole : IsWhole (view_of a)
   pub available : IsAvailable (kept_of a) a.size a.next
+  pub gating : AreGating a.gating.items a.graph.upstreams (retired_in (view_of a))
   pub reached : IsReached (view_of a)
   pub gate : (f : ℕ) → Contains (finals_without (view_of a).setup.upstreams (retired_in (view_of a))) f → a.gate ≤ slice_index a.completed.items f

@@ -8,6 +8,7 @@ ghost use Rattle.dr_core.specs.OpenFault.{has_bad_producers, is_bad_limit};
 ghost use Rattle.dr_core.specs.Runs.{IsReached};
 ghost use Rattle.dr_core.specs.Shows.{Shows};
 
+use crate::engine::retiring::flag_gating;
 use crate::mode::Mode;
 use crate::open_fault::OpenFault;
 use dr_graph::Graph;
@@ -47,6 +48,7 @@ pub struct Core {
     completed: Vec<u64>,
     halted: bool,
     retired: Vec<bool>,
+    gating: Vec<bool>,
 }
 
 impl Model for Core {
@@ -91,6 +93,8 @@ impl Core {
         let taken = vec![in alloc; 0u64; handlers]?;
         let completed = vec![in alloc; 0u64; handlers]?;
         let retired = vec![in alloc; false; handlers]?;
+        let mut gating = vec![in alloc; false; handlers]?;
+        flag_gating(&graph, &retired, &mut gating);
         Ok(Core {
             graph,
             size,
@@ -107,6 +111,7 @@ impl Core {
             completed,
             halted: false,
             retired,
+            gating,
         })
     }
 

@@ -1,9 +1,8 @@
 //! The least of some handlers' counts.
 
-ghost use Rattle.dr_graph.specs.Graph.{flagged, least_of, least_without};
-ghost use Rattle.std.specs.Prelude.{◌≡◌, ◌<◌, ℕ, min, if◌then◌else◌, length, map, slice_index, All};
-
-use dr_graph::Graph;
+ghost use Rattle.dr_graph.specs.Graph.{flagged, least_of};
+ghost use Rattle.std.specs.List.{range_with_len};
+ghost use Rattle.std.specs.Prelude.{◌≡◌, ◌<◌, ℕ, min, if◌then◌else◌, length, map, filter, slice_index, All};
 
 /// The least count of some handlers, or 0 of none.
 pub(crate) fn least_count(counts: &[u64], handlers: &[usize]) -> u64
@@ -18,16 +17,15 @@ pub(crate) fn least_count(counts: &[u64], handlers: &[usize]) -> u64
     least
 }
 
-/// The least count of the finals that are left where some handlers are gone, or 0 of none.
-pub(crate) fn least_left(counts: &[u64], graph: &Graph, gone: &[bool]) -> u64
-    requires counts { length counts.now ≡ length graph.now.upstreams }
-    requires flags { length gone.now ≡ length graph.now.upstreams }
-    ensures { result ≡ least_without graph.now.upstreams (flagged gone.now) (λ h. slice_index counts.now h) }
+/// The least count of the handlers that are flagged, or 0 of none.
+pub(crate) fn least_flagged(counts: &[u64], flags: &[bool]) -> u64
+    requires { length counts.now ≡ length flags.now }
+    ensures { result ≡ least_of (map (λ h. slice_index counts.now h) (filter (flagged flags.now) (range_with_len 0 (length flags.now)))) }
 {
     let mut found = false;
     let mut least = 0;
-    for h in 0..graph.len() {
-        if graph.is_final_without(h, gone) {
+    for h in 0..flags.len() {
+        if flags[h] {
             least = lesser(found, least, counts[h]);
             found = true;
         }

@@ -8,13 +8,14 @@ ghost use Rattle.dr_core.specs.Shows.{IsStep, claim_reply, unit_reply};
 use crate::availability::{mark_all, own, owner_of};
 use crate::command::{Claimed, Command, Reply};
 use crate::engine::Core;
-use crate::least::least_left;
+use crate::least::least_flagged;
 use crate::refusal::Refusal;
 use dr_seq::Event;
 
 impl Core {
-    /// Whether `n` more sequences fit in the ring. The finals are scanned only where the least
-    /// count that was last seen is too small, and that there is no room is told only after a scan.
+    /// Whether `n` more sequences fit in the ring. The gating handlers are scanned only where the
+    /// least count that was last seen is too small, and that there is no room is told only after
+    /// a scan.
     fn has_room(&mut self, n: u64) -> bool
         requires { self.old.next + n < 2 ^ 63 }
         ensures room { result ≡ nat_le (self.old.next + n) (self.old.setup.size + gate_of self.old) }
@@ -25,7 +26,7 @@ impl Core {
         if wanted <= size + self.gate.seen() {
             return true;
         }
-        let least = least_left(&self.completed, &self.graph, &self.retired);
+        let least = least_flagged(&self.completed, &self.gating);
         self.gate.raise(least);
         wanted <= size + least
     }

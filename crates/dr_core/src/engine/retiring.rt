@@ -2,12 +2,13 @@
 
 ghost use Rattle.std.specs.Prelude.{◌≡◌, ◌≤◌, ◌==◌, ◌||◌, not, [], length, OnErr};
 ghost use Rattle.dr_graph.specs.Graph.{flagged, is_some_left};
-ghost use Rattle.dr_core.specs.CoreView.{gate_of};
+ghost use Rattle.dr_core.specs.CoreView.{AreGating, gate_of};
 ghost use Rattle.dr_core.specs.Shows.{IsStep, unit_reply};
 
 use crate::command::{Command, Reply};
 use crate::engine::Core;
 use crate::refusal::Refusal;
+use dr_graph::Graph;
 
 impl Core {
     /// A handler takes no more events, and claims no longer wait for it. All its followers are
@@ -30,7 +31,19 @@ impl Core {
             return Err(Refusal::LastHandler);
         }
         self.retired[h] = true;
+        flag_gating(&self.graph, &self.retired, &mut self.gating);
         Ok(())
+    }
+}
+
+/// Flags the handlers that gate claims: those that are not gone, and upstream of none that is not.
+pub(crate) fn flag_gating(graph: &Graph, gone: &[bool], flags: &mut [bool])
+    requires gone { length gone.now ≡ length graph.now.upstreams }
+    requires flags { length flags.old ≡ length graph.now.upstreams }
+    ensures { AreGating flags.new graph.now.upstreams (flagged gone.now) }
+{
+    for h in 0..graph.len() {
+        flags[h] = graph.is_final_without(h, gone);
     }
 }
 

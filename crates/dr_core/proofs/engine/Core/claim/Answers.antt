@@ -81,6 +81,7 @@ invariant_of-self c =
       whole = claim_whole v c.args.n _ c.self-2.invariant.whole (limited at) (fits_beside at);
       available = rw (owned at) (claims_available v (kept_of c.self-2.inside) (known_there c.self-2.inside) c.self-2.invariant.available c.self-2.invariant.whole.front (size_positive v.setup.size c.self-2.invariant.whole.size) c.args.n c.args.p);
       reached = step_reached (claimed at) c.self-2.invariant.reached;
+      gating = c.self-2.invariant.gating;
       gate = c.self-2.invariant.gate;
     }
 

@@ -33,6 +33,7 @@ invariant_of-self c =
       whole = complete_whole v c.args.h c.args.upto c.self.invariant.whole can;
       available = c.self.invariant.available;
       reached = step_reached (complete_step v c.args.h c.args.upto can) c.self.invariant.reached;
+      gating = c.self.invariant.gating;
       gate = λ f has. (let below : c.self.inside.gate ≤ slice_index v.completed f = c.self.invariant.gate f has in
           let grown : slice_index v.completed f ≤ slice_index (slice_set v.completed c.args.h c.args.upto) f = completed_grows v c.args.h c.args.upto c.self.invariant.whole can f in omega arith);
     }

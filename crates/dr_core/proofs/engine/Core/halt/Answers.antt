@@ -8,6 +8,7 @@ invariant_of-self c = record {
   whole = halt_whole (view_of c.self.inside) c.self.invariant.whole;
   available = c.self.invariant.available;
   reached = step_reached (halt_step (view_of c.self.inside)) c.self.invariant.reached;
+  gating = c.self.invariant.gating;
   gate = c.self.invariant.gate;
 }
 

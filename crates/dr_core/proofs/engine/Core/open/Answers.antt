@@ -3,6 +3,7 @@ use Rattle.std.proofs.lemmas.List.{length-replicate}
 use Rattle.dr_core.specs.Machine.{Setup, setup_of}
 use Rattle.dr_core.proofs.Recents.{none_marked}
 use Rattle.dr_core.proofs.Opening.{opening_shows, opening_reached, opening_whole}
+use Rattle.dr_core.proofs.Gating.{written_back}
 use Rattle.dr_core.proofs.engine.Core.open.Goals as goal
 use Rattle.dr_core.proofs.engine.Core.open.Goals.{After-new-4}
 
@@ -35,6 +36,7 @@ invariant_of-result c =
         unpublished = λ s later. rw c.in_ok-published.ensures (none_marked _ s);
         unwritten = λ s later. rw c.in_ok-written.ensures (none_marked _ s);
       };
+      gating = written_back c.in_ok-gating.gating c.flag_gating.new.flags c.deref.result.now _ c.args.graph.upstreams (c.flag_gating.auto.flags ∙ c.deref_mut.ensures.len) c.deref.ensures.value c.flag_gating.ensures;
       reached = opening_reached setup c.args.graph.names _ c.in_ok-taken.taken.items c.in_ok-completed.completed.items c.in_ok-retired.retired.items
           (none_taken (goal.at.invariant_of-result c).After-new-4)
           (none_completed (goal.at.invariant_of-result c).After-new-4)

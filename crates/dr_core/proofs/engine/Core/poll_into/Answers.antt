@@ -49,6 +49,7 @@ invariant_of-self c =
       whole = rw at.taken (batch_whole v c.args.h (length c.args.out.now) at.whole at.inside at.left at.some more c.min-count.result (let a = at.taken in let b = at.offered in omega arith));
       available = c.self.invariant.available;
       reached = step_reached (took (goal.at.invariant_of-self c).After-copy_out at) c.self.invariant.reached;
+      gating = c.self.invariant.gating;
       gate = c.self.invariant.gate;
     }
 

@@ -79,6 +79,7 @@ invariant_of-self c =
       whole = front_whole v c.front-self-inside.result _ c.self.invariant.whole (moved at).low (moved at).high;
       available = rw c.mark_all.ensures (publishes_available v (kept_of c.self.inside) (known_there c.self.inside) c.self.invariant.available c.self.invariant.whole.front (size_positive v.setup.size c.self.invariant.whole.size) c.args.p c.args.lo c.args.hi c.front-self-inside.result c.if-lo-hi.false c.if-hi-self.false recent refl (moved at));
       reached = step_reached (published at) c.self.invariant.reached;
+      gating = c.self.invariant.gating;
       gate = c.self.invariant.gate;
     }
 

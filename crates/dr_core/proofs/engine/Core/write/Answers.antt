@@ -69,6 +69,7 @@ invariant_of-self c =
       whole = front_whole v v.front _ c.self.invariant.whole (omega arith) c.self.invariant.whole.front;
       available = rw (c.mark.ensures, c.put.ensures) (writes_available v (kept_of c.self.inside) (known_there c.self.inside) c.self.invariant.available c.self.invariant.whole.front (size_positive v.setup.size c.self.invariant.whole.size) c.args.p c.args.s c.args.event c.if-s-self.false recent);
       reached = step_reached (written put (unpublished at) (unpublished_fault at true (eq-eqb _ _ (mine put)))) c.self.invariant.reached;
+      gating = c.self.invariant.gating;
       gate = c.self.invariant.gate;
     }
 

@@ -1,0 +1,7 @@
+use Rattle.std.proofs.Common.{slice_index}
+use Rattle.dr_graph.specs.Graph.{flagged}
+use Rattle.dr_core.proofs.Leasts.{IsLeastOf}
+use Rattle.dr_core.proofs.least.least_flagged.Given as goal
+
+abbrev pub invariant-loop-h : goal.invariant-loop-h
+invariant-loop-h l = IsLeastOf (flagged l.flags) (λ h. slice_index l.counts h) l.h l.found l.least

@@ -1,7 +1,0 @@
-use Rattle.std.proofs.Common.{slice_index}
-use Rattle.dr_graph.specs.Graph.{flagged, is_final_without}
-use Rattle.dr_core.proofs.Leasts.{IsLeastOf}
-use Rattle.dr_core.proofs.least.least_left.Given as goal
-
-abbrev pub invariant-loop-h : goal.invariant-loop-h
-invariant-loop-h l = IsLeastOf (is_final_without l.graph.upstreams (flagged l.gone)) (λ h. slice_index l.counts h) l.h l.found l.least
