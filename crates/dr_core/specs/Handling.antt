@@ -9,7 +9,7 @@ use Rattle.dr_core.specs.declared.refusal.Refusal.{Refusal}
 use Rattle.dr_core.specs.CoreView.{CoreView}
 use Rattle.dr_core.specs.Shows.{IsStep, poll_reply}
 
--- one call of a handler: an event, its sequence, and whether it is the last of its batch
+-- one call of a handler: an event, its sequence, and whether it is the last of a batch that gave all that was available
 pub record Showing : Type 0 where
   pub event : Event
   pub sequence : ℕ

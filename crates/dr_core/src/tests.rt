@@ -1,5 +1,7 @@
 //! What no clause says: that the calls succeed with ample memory, and worked runs by their replies.
 
+mod faults;
+
 use crate::Command::{Claim, Complete, Halt, Poll, Publish, Retire, Write};
 use crate::{
     Claimed, Command, Core, Handler, Mode, OpenFault, Polled, Ran, Refusal, Reply, processor_turn,
@@ -282,18 +284,6 @@ fn faults_of_opening(rt: HostRuntime) -> Result<(), Fail> {
     assert!(rt; fault(alloc, Mode::Multi(16), 0)? == Some(OpenFault::BadLimit));
     assert!(rt; fault(alloc, Mode::Single, LIMIT + 1)? == Some(OpenFault::BadLimit));
     assert!(rt; fault(alloc, Mode::Single, LIMIT)?.is_none());
-    Ok(())
-}
-
-#[test]
-fn refusals_print_their_names(rt: HostRuntime) -> Result<(), Fail> {
-    let alloc = rt.alloc();
-    let printed = format!(in alloc; "{} {}", Refusal::NoRoom, OpenFault::BadLimit)?;
-    assert_eq!(rt; printed.as_str(), "no-room bad-limit");
-    assert_eq!(rt; Refusal::OpenClaim.number(), 41);
-    assert_eq!(rt; Refusal::OutOfOrder.name(), "out-of-order");
-    assert_eq!(rt; OpenFault::BadProducers.number(), 32);
-    assert_eq!(rt; OpenFault::NoMemory.name(), "no-memory");
     Ok(())
 }
 

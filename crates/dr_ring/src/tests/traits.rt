@@ -88,20 +88,6 @@ fn ends_by_their_traits(rt: HostRuntime) -> Result<(), Fail> {
     Ok(())
 }
 
-#[test]
-fn troubles_have_numbers_and_names(rt: HostRuntime) -> Result<(), Fail> {
-    for (trouble, number, name) in [
-        (refused(Refusal::NoRoom), 1, "no-room"),
-        (refused(Refusal::OpenClaim), 41, "open-claim"),
-        (Trouble::Memory, 40, "no-memory"),
-    ] {
-        assert_eq!(rt; trouble.number(), number);
-        assert_eq!(rt; trouble.name(), name);
-        assert_eq!(rt; trouble.to_string(rt.alloc())?.as_str(), name);
-    }
-    Ok(())
-}
-
 /// Sends one event, once there is room.
 fn send_one<I: Inlet>(inlet: &mut I, event: Event) -> Result<bool, Trouble> {
     let claimed = match inlet.try_claim(1) {
