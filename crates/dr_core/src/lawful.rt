@@ -1,4 +1,5 @@
-//! The theorems that the exchange stands on. They do nothing when they run: the contracts are the theorems.
+//! The theorems that the exchange stands on. These functions do nothing when they run: their
+//! contracts are the theorems.
 
 ghost use Rattle.std.specs.Prelude.{ℕ, ◌≤◌, ◌++◌, ◌∷◌, [], List};
 ghost use Rattle.dr_graph.specs.Graph.{IsLayered};
@@ -20,12 +21,13 @@ pub fn every_transcript_is_lawful()
     ensures { (c : Setup) (t : Transcript) (m : State) → LeadsTo c t m → Laws c t }
 {}
 
-/// What a transcript tells, by its own entries, is what the state that it leads to has.
+/// What a transcript tells by its own entries is what the state that it leads to has.
 pub fn every_transcript_tells_its_state()
     ensures { (c : Setup) (t : Transcript) (m : State) → LeadsTo c t m → Tells t m }
 {}
 
-/// After a transcript that leads to what a core shows, one more step of the core is one more entry.
+/// Where a transcript leads to a state that a core shows, the transcript with one more entry leads
+/// to a state that the core shows after that step.
 pub fn every_step_leads_on()
     ensures { (t : Transcript) (old new : CoreView) (command : Command) (reply : Reply) (values : List Event) → RunsTo old.setup t old → IsStep old command reply values new → RunsTo new.setup (t ++ record { command = command; reply = reply; values = values } ∷ []) new }
 {}

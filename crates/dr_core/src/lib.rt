@@ -3,6 +3,8 @@
 //! Begin with `specs/`: `Machine` says what each call answers and leaves, `Transcript` what a list
 //! of calls and answers says of each sequence and each handler, and `Laws` what holds of every
 //! transcript. [`every_transcript_is_lawful`] is that theorem, and [`run`] has it for a [`Core`].
+//! [`every_transcript_tells_its_state`] ties what transcripts say to the machine's state, and
+//! [`every_step_leads_on`] the steps of a core to transcripts.
 #![tactic(auto)]
 
 mod availability;
