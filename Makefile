@@ -13,7 +13,7 @@ run: disruptor
 	./disruptor drive examples/first_event.csv
 
 test:
-	rt ci
+	tests/gate.sh
 
 clean:
 	rm -rf disruptor crates/*/out

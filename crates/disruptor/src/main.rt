@@ -32,8 +32,12 @@ impl Fault {
 }
 
 fn read_plan(rt: &HostRuntime) -> Result<Plan, LineFault> {
-    let Ok(words) = env::args(rt) else {
-        return Err(LineFault::Memory);
+    let words = match env::args(rt) {
+        Ok(words) => words,
+        Err(error) if error.kind() == io::ErrorKind::OutOfMemory => {
+            return Err(LineFault::Memory);
+        }
+        Err(_) => return Err(LineFault::NotUtf8),
     };
     let words: Vec<String> = words.collect(rt.alloc())?;
     plan(rt.alloc(), words.as_slice())

@@ -1,12 +1,18 @@
 -- Names that are added at the end.
-use Rattle.std.proofs.Common.{◌≡◌, ℕ, ◌+◌, ◌<◌, ◌≤◌, inl, inr, List, [], ◌∷◌, ◌++◌, true, false, sym, ◌∙◌, ap, subst, map, drop, length, get_or, append_assoc, append-nil, drop-cons, add-one, String, Global}
+use Rattle.std.proofs.Common.{◌≡◌, ℕ, ◌+◌, ◌<◌, ◌≤◌, inl, inr, List, [], ◌∷◌, ◌++◌, true, false, sym, ◌∙◌, ap, subst, map, take, drop, length, get_or, append_assoc, append-nil, drop-cons, add-one, String, Global}
 use Rattle.std.proofs.lemmas.Bool.{cases_Bool, cond-true, cond-false}
-use Rattle.std.proofs.lemmas.List.{map_push, drop_all}
+use Rattle.std.proofs.lemmas.List.{map_push, drop_all, take_more}
+use Rattle.std.proofs.lemmas.List.Folds.{list_any-append}
+use Rattle.std.proofs.Math.Seq.{take-append_seam}
 use Rattle.std.specs.List.{list_any}
+use Rattle.std.specs.Prelude.{Option, is_some}
+use Rattle.std.specs.Str.{bytes_eq}
 use Rattle.std.specs.String.{string_bytes, string_eq}
 use Rattle.indexmap.specs.IndexSet.{insert_key}
-use Rattle.dr_graph.specs.Name.{Name, texts, is_named, new_names}
-use Rattle.dr_graph.proofs.Naming.{any_map}
+use Rattle.dr_graph.specs.Declaration.{name_fault}
+use Rattle.dr_graph.specs.Name.{Name, texts, is_good_name, is_named, new_names}
+use Rattle.dr_graph.specs.declared.fault.GraphFault.{GraphFault}
+use Rattle.dr_graph.proofs.Naming.{any_map, none_fault, nothing, or_none}
 use Rattle.dr_graph.proofs.NewNames.{new_skips, new_grows, new_none}
 
 abbrev pub text : String Global → Name
@@ -65,3 +71,18 @@ left_none f xs i past = ap (map f) (drop_all i xs past)
 pub adding_at : {X : Type 0} (f : X → Name) (xs : List X) (i : ℕ) (d : X) (old keys after : List (String Global)) (all : List Name) (k : String Global) → IsAdding old keys (map f (drop i xs)) all → i < length xs → string_bytes k ≡ f (get_or xs i d) → after ≡ insert_key string_eq keys k → IsAdding old after (map f (drop (i + 1) xs)) all
 adding_at f xs i d old keys after all k was lt same e =
     adding_next old keys after (f (get_or xs i d)) (map f (drop (i + 1) xs)) all k (subst (λ (ns : List Name). IsAdding old keys ns all) (left_next f xs i d lt) was) same e
+
+-- the names of a call that are in a set, one name later: a name without fault is new there
+pub seen_next : {X : Type 0} (f : X → Name) (declared keys after : List (String Global)) (xs : List X) (i : ℕ) (d : X) (k : String Global) (fault : Option GraphFault)
+    → texts keys ≡ map f (take i xs) → i < length xs → fault ≡ name_fault (texts declared ++ texts keys) (f (get_or xs i d)) → is_some fault ≡ false
+    → string_bytes k ≡ f (get_or xs i d) → after ≡ insert_key string_eq keys k → texts after ≡ map f (take (i + 1) xs)
+seen_next f declared keys after xs i d k fault was lt here none same e =
+    let name : Name = f (get_or xs i d) in
+    let known : is_named (texts declared ++ texts keys) name ≡ false = none_fault (is_good_name name) (is_named (texts declared ++ texts keys) name) (sym here ∙ nothing fault none) in
+    let new : is_named (texts keys) name ≡ false = or_none (is_named (texts declared) name) (is_named (texts keys) name) (sym (list_any-append (bytes_eq name) (texts declared) (texts keys)) ∙ known) in
+    ap texts (e ∙ fresh_key keys k (ap (is_named (texts keys)) same ∙ new))
+    ∙ map_push text keys k
+    ∙ ap (λ (n : Name). texts keys ++ n ∷ []) same
+    ∙ ap (λ (ns : List Name). ns ++ name ∷ []) was
+    ∙ sym (map_push f (take i xs) (get_or xs i d))
+    ∙ ap (map f) (sym (take_more xs i d lt))

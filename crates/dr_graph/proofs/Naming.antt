@@ -70,7 +70,26 @@ goes_past f declared xs i d whole fault so_far h here none =
     so_far ∙ faults_at f declared xs i d h ∙ ap (λ (o : Option GraphFault). option_or o rest) (sym here) ∙ fault_later fault rest none
     ∙ ap (λ (n : ℕ). name_faults (declared ++ map f (take n xs)) (map f (drop n xs))) (sym (add-one i))
 
-none_fault : (good known : Bool) → cond (not good) (Some BadName) (cond known (Some Duplicate) None) ≡ None → known ≡ false
+-- the same, where the names before are given as others that they equal
+module _ {X : Type 0} (f : X → Name) (declared before : List Name) (xs : List X) (i : ℕ) (d : X) (whole fault : Option GraphFault) (same : before ≡ map f (take i xs)) (so_far : whole ≡ name_faults (declared ++ map f (take i xs)) (map f (drop i xs))) (h : i < length xs) (here : fault ≡ name_fault (declared ++ before) (f (get_or xs i d))) where
+  after_same : fault ≡ name_fault (declared ++ map f (take i xs)) (f (get_or xs i d))
+  after_same = here ∙ ap (λ (ns : List Name). name_fault (declared ++ ns) (f (get_or xs i d))) same
+
+  pub stops_after : is_some fault ≡ true → fault ≡ whole
+  stops_after some = stops_here f declared xs i d whole fault so_far h after_same some
+
+  pub goes_after : is_some fault ≡ false → whole ≡ name_faults (declared ++ map f (take (i + 1) xs)) (map f (drop (i + 1) xs))
+  goes_after none = goes_past f declared xs i d whole fault so_far h after_same none
+
+pub nothing : (o : Option GraphFault) → is_some o ≡ false → o ≡ None
+nothing None h = refl
+nothing (Some fault) h = absurd (true≢false h)
+
+pub or_none : (a b : Bool) → (a || b) ≡ false → b ≡ false
+or_none true b e = absurd (true≢false e)
+or_none false b e = e
+
+pub none_fault : (good known : Bool) → cond (not good) (Some BadName) (cond known (Some Duplicate) None) ≡ None → known ≡ false
 none_fault true true e = cc
 none_fault false true e = cc
 none_fault good false e = refl

@@ -64,7 +64,7 @@ impl GraphBuilder {
         ensures cause { IfErr result (λ fault. (fault ≡ GraphFault.NoMemory) ⊎ (declaring_fault self.old.names (given names.now) ≡ Some fault)) }
         ensures unchanged { OnErr result (self.new ≡ self.old) }
     {
-        check_new(&self.names, names)?;
+        check_new(self.alloc, &self.names, names)?;
         let group = Group::of(self.alloc, names)?;
         declare(self.alloc, &mut self.names, names)?;
         Ok(group)
@@ -83,7 +83,7 @@ impl GraphBuilder {
         ensures unchanged { OnErr result (self.new ≡ self.old) }
     {
         check_group(&self.names, group.names())?;
-        check_new(&self.names, names)?;
+        check_new(self.alloc, &self.names, names)?;
         let followers = Group::of(self.alloc, names)?;
         let ups = places_of(self.alloc, &self.names, group.names())?;
         let first = self.names.len();

@@ -1,11 +1,11 @@
 //! Names of handlers, and sets of names in the order of their declaration.
 
 ghost use Rattle.indexmap.specs.IndexSet.{spare};
-ghost use Rattle.std.specs.Prelude.{◌≡◌, ◌+◌, ◌<◌, ◌≤◌, ◌++◌, true, None, Some, map, take, length, IfOk, IfErr, IfSome, OnErr, OnOk, IsOk, IsTrue, IsOkUnless};
+ghost use Rattle.std.specs.Prelude.{List, ◌≡◌, ◌+◌, ◌<◌, ◌≤◌, ◌++◌, true, None, Some, map, take, length, IfOk, IfErr, IfSome, OnErr, OnOk, IsOk, IsTrue, IsOkUnless};
 ghost use Rattle.std.specs.List.{list_all, list_any};
 ghost use Rattle.std.specs.Str.{bytes_eq};
 ghost use Rattle.std.specs.String.{string_bytes};
-ghost use Rattle.dr_graph.specs.Name.{texts, given, is_name_byte, is_good_name as is_good_name_of, is_named, number_of, new_names};
+ghost use Rattle.dr_graph.specs.Name.{Name, texts, given, is_name_byte, is_good_name as is_good_name_of, is_named, number_of, new_names};
 ghost use Rattle.dr_graph.specs.Declaration.{name_fault, name_faults, declaring_fault, stranger_fault};
 
 use crate::fault::GraphFault;
@@ -45,25 +45,25 @@ fn is_known(declared: &IndexSet<String>, earlier: &[&str], name: &str) -> bool
     declared.contains(name) || is_among(earlier, name)
 }
 
-/// What refuses to declare a name after others.
-fn fault_of(declared: &IndexSet<String>, earlier: &[&str], name: &str) -> Option<GraphFault>
-    ensures { result ≡ name_fault (texts declared.now.keys ++ given earlier.now) name.now }
+/// What refuses to declare a name, where others are known or not.
+fn fault_of(name: &str, is_known: bool) -> Option<GraphFault>
+    ensures { (names : List Name) → is_known ≡ is_named names name.now → result ≡ name_fault names name.now }
 {
     if !is_good_name(name) {
         Some(GraphFault::BadName)
-    } else if is_known(declared, earlier, name) {
+    } else if is_known {
         Some(GraphFault::Duplicate)
     } else {
         None
     }
 }
 
-/// The first fault of some names that are to be declared.
-fn first_fault(declared: &IndexSet<String>, names: &[&str]) -> Option<GraphFault>
+/// The first fault of some names that are to be declared. It takes no memory, and looks for each name among all before it.
+fn slow_fault(declared: &IndexSet<String>, names: &[&str]) -> Option<GraphFault>
     ensures { result ≡ name_faults (texts declared.now.keys) (given names.now) }
 {
     for (i, name) in names.iter().enumerate() {
-        let fault = fault_of(declared, &names[..i], *name);
+        let fault = fault_of(*name, is_known(declared, &names[..i], *name));
         if fault.is_some() {
             return fault;
         }
@@ -71,8 +71,48 @@ fn first_fault(declared: &IndexSet<String>, names: &[&str]) -> Option<GraphFault
     None
 }
 
+/// Whether a name is declared, or is in a set of others.
+fn is_in_either(declared: &IndexSet<String>, seen: &IndexSet<String>, name: &str) -> bool
+    ensures { result ≡ is_named (texts declared.now.keys ++ texts seen.now.keys) name.now }
+{
+    is_declared(declared, name) || is_declared(seen, name)
+}
+
+/// The first fault of some names that are to be declared, found by a set of the names before each.
+fn quick_fault(
+    alloc: Global,
+    declared: &IndexSet<String>,
+    names: &[&str],
+) -> Result<Option<GraphFault>, AllocError>
+    ensures { IfOk result (λ fault. fault ≡ name_faults (texts declared.now.keys) (given names.now)) }
+{
+    let mut seen = IndexSet::new(alloc);
+    for name in names {
+        let fault = fault_of(*name, is_in_either(declared, &seen, *name));
+        if fault.is_some() {
+            return Ok(fault);
+        }
+        seen.insert(String::from_str(alloc, *name)?)?;
+    }
+    Ok(None)
+}
+
+/// The first fault of some names that are to be declared. Where memory runs out it only takes longer.
+fn first_fault(alloc: Global, declared: &IndexSet<String>, names: &[&str]) -> Option<GraphFault>
+    ensures { result ≡ name_faults (texts declared.now.keys) (given names.now) }
+{
+    match quick_fault(alloc, declared, names) {
+        Ok(fault) => fault,
+        Err(_) => slow_fault(declared, names),
+    }
+}
+
 /// Refuses names that cannot be declared, by the first cause.
-pub(crate) fn check_new(declared: &IndexSet<String>, names: &[&str]) -> Result<(), GraphFault>
+pub(crate) fn check_new(
+    alloc: Global,
+    declared: &IndexSet<String>,
+    names: &[&str],
+) -> Result<(), GraphFault>
     requires { length declared.now.keys ≤ MAX_HANDLERS }
     ensures refused { IfSome (declaring_fault (texts declared.now.keys) (given names.now)) (λ fault. result ≡ Err fault) }
     ensures accepted { IsOk result → declaring_fault (texts declared.now.keys) (given names.now) ≡ None }
@@ -86,7 +126,7 @@ pub(crate) fn check_new(declared: &IndexSet<String>, names: &[&str]) -> Result<(
     if names.is_empty() {
         return Err(GraphFault::EmptyGroup);
     }
-    if let Some(fault) = first_fault(declared, names) {
+    if let Some(fault) = first_fault(alloc, declared, names) {
         return Err(fault);
     }
     if names.len() > MAX_HANDLERS - declared.len() {

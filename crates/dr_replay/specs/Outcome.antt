@@ -22,6 +22,13 @@ FaultWrites fault.Memory old new t = (n : ℕ) × Appends old new (joined (take 
 FaultWrites fault.Read old new t = Keeps old new
 FaultWrites fault.Write old new t = AppendsFront old new (joined t.lines)
 
+-- a fault of reading is answered with nothing written, whatever the reader shows
+abbrev pub ReadFaultKeeps : DriveFault → Option (List ℕ) → Option (List ℕ) → Type 0
+ReadFaultKeeps (fault.Input k cause) old new = Unit {0}
+ReadFaultKeeps fault.Memory old new = Unit {0}
+ReadFaultKeeps fault.Read old new = Keeps old new
+ReadFaultKeeps fault.Write old new = Unit {0}
+
 -- a run that succeeds writes a whole drive text, which has no fault
 abbrev pub Writes : {A : Type 0} → Result A DriveFault → Option (List ℕ) → Option (List ℕ) → DriveText → Type 0
 Writes (Ok done) old new t = (t.fault ≡ None) × Appends old new (joined t.lines)

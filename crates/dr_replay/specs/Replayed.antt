@@ -31,6 +31,13 @@ abbrev pub ReplayWrites : {A : Type 0} → Result A ReplayFault → Option (List
 ReplayWrites (Ok done) old new file = (events : List Event) × (file ≡ Ok events) × Appends old new (report_of events)
 ReplayWrites (Err e) old new file = ReplayFaultWrites e old new file
 
+-- any fault but that of writing is answered with nothing written, whatever the reader shows
+abbrev pub ReplayFaultKeeps : ReplayFault → Option (List ℕ) → Option (List ℕ) → Type 0
+ReplayFaultKeeps (fault.Input k) old new = Keeps old new
+ReplayFaultKeeps fault.Memory old new = Keeps old new
+ReplayFaultKeeps fault.Read old new = Keeps old new
+ReplayFaultKeeps fault.Write old new = Unit {0}
+
 -- a fault of reading is answered where one read failed, a fault of writing where one write failed, and nowhere else
 abbrev pub ReplayFaultCounts : ReplayFault → ℕ → ℕ → ℕ → ℕ → Type 0
 ReplayFaultCounts (fault.Input k) reads reads2 writes writes2 = (reads2 ≡ reads) × (writes2 ≡ writes)

@@ -35,4 +35,5 @@ drive_status fault.Write = 4
 abbrev pub line_status : LineFault → ℕ
 line_status (refused.Usage text) = 1
 line_status refused.BadSize = 1
+line_status refused.NotUtf8 = 1
 line_status refused.Memory = 3

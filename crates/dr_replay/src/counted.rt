@@ -1,15 +1,16 @@
 //! Readers and writers that count their failed calls.
 
-ghost use Rattle.std.specs.Prelude.{◌≡◌};
+ghost use Rattle.std.specs.Prelude.{◌≡◌, ◌<◌, nat_lt};
 ghost use Rattle.std.specs.Io.{ReadsAtMost, WritesAtMost};
 ghost use Rattle.std.specs.Io.KnownBytes.{Keeps, ReadConsumes, WriteAppends};
-ghost use Rattle.dr_replay.specs.Counting.{Counts, CountsWrite, faults_of, inner_of};
+ghost use Rattle.dr_replay.specs.Counting.{Counts, CountsWrite, faults_of, inner_of, one_more};
 
 use std::io;
 use std::io::{Read, Write};
 
 /// A reader or a writer with the number of its calls that failed, so that a tool's contract can
-/// say that a fault of reading or writing is answered only where a call failed.
+/// say that a fault of reading or writing is answered only where a call failed. Once a call failed
+/// the one underneath is left alone: each later call, a flush too, fails at once and counts.
 #[derive(Drop)]
 pub struct Counted<T> {
     inner: T,
@@ -33,6 +34,21 @@ impl<T> Counted<T> {
         self.faults
     }
 
+    fn has_failed(&self) -> bool
+        ensures { result ≡ nat_lt 0 (faults_of self.now) }
+    {
+        self.faults > 0
+    }
+
+    // Counts one failed call more, and is the answer to it.
+    fn fail(&mut self) -> io::Error
+        ensures inner { inner_of self.new ≡ inner_of self.old }
+        ensures counted { faults_of self.new ≡ one_more (faults_of self.old) }
+    {
+        self.faults = self.faults.saturating_add(1);
+        io::Error::from(io::ErrorKind::Other)
+    }
+
     /// The reader or writer underneath.
     pub fn into_inner(self) -> T
         ensures { result ≡ inner_of self }
@@ -48,7 +64,11 @@ impl<R: Read> Read for Counted<R> {
         ensures bound { ReadsAtMost result buf.new }
         ensures bytes { ReadConsumes (R.remaining (inner_of self.old)) (R.remaining (inner_of self.new)) result buf.new }
         ensures counted { Counts result (faults_of self.old) (faults_of self.new) }
+        ensures spent { 0 < faults_of self.old → inner_of self.new ≡ inner_of self.old }
     {
+        if self.has_failed() {
+            return Err(self.fail());
+        }
         match self.inner.read(buf) {
             Ok(count) => Ok(count),
             Err(error) => {
@@ -66,7 +86,11 @@ impl<W: Write> Write for Counted<W> {
         ensures bound { WritesAtMost result buf.now }
         ensures bytes { WriteAppends (W.contents (inner_of self.old)) (W.contents (inner_of self.new)) result buf.now }
         ensures counted { CountsWrite result buf.now (faults_of self.old) (faults_of self.new) }
+        ensures spent { 0 < faults_of self.old → inner_of self.new ≡ inner_of self.old }
     {
+        if self.has_failed() {
+            return Err(self.fail());
+        }
         match self.inner.write(buf) {
             Ok(count) => {
                 if count == 0 && !buf.is_empty() {
@@ -84,7 +108,11 @@ impl<W: Write> Write for Counted<W> {
     fn flush(&mut self) -> io::Result<()>
         ensures bytes { Keeps (W.contents (inner_of self.old)) (W.contents (inner_of self.new)) }
         ensures counted { Counts result (faults_of self.old) (faults_of self.new) }
+        ensures spent { 0 < faults_of self.old → inner_of self.new ≡ inner_of self.old }
     {
+        if self.has_failed() {
+            return Err(self.fail());
+        }
         match self.inner.flush() {
             Ok(()) => Ok(()),
             Err(error) => {

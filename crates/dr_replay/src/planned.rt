@@ -34,6 +34,9 @@ pub enum LineFault {
     /// The number of `--size` is no ring's size.
     #[error("bad-size")]
     BadSize,
+    /// A word is not UTF-8.
+    #[error("error: a word of the command line is not UTF-8")]
+    NotUtf8,
     /// There is no memory for reading them.
     #[error("no-memory")]
     Memory,
@@ -47,6 +50,7 @@ impl LineFault {
         match self {
             LineFault::Usage(_) => 1,
             LineFault::BadSize => 1,
+            LineFault::NotUtf8 => 1,
             LineFault::Memory => 3,
         }
     }

@@ -1,10 +1,10 @@
 //! The tool `drive`: a file of commands in, a line a reply out.
 
-ghost use Rattle.std.specs.Prelude.{◌≡◌, ◌<◌, ◌+◌, ◌-◌, ◌^◌, IfSome, length};
+ghost use Rattle.std.specs.Prelude.{◌≡◌, ◌<◌, ◌+◌, ◌-◌, ◌^◌, IfErr, IfSome, length};
 ghost use Rattle.csv.specs.Records.{fields_of};
 ghost use Rattle.dr_replay.specs.Counting.{faults_of, inner_of};
 ghost use Rattle.dr_replay.specs.DriveText.{Phase, drive_text, taken, text_from};
-ghost use Rattle.dr_replay.specs.Outcome.{CountsFaults, Writes};
+ghost use Rattle.dr_replay.specs.Outcome.{CountsFaults, ReadFaultKeeps, Writes};
 ghost use Rattle.dr_replay.specs.Rows.{rows_left};
 ghost use Rattle.dr_replay.specs.Tells.{CommandTells, SetsUpAs, ShowsPhase, fault_at};
 
@@ -107,6 +107,8 @@ pub fn drive<R: Read, W: Write>(
     // Where the input's bytes are known, what is written is the drive text, up to the fault that is answered.
     ensures bytes { IfSome (R.remaining (inner_of reader.old)) (λ input.
         Writes result (W.contents (inner_of writer.old)) (W.contents (inner_of writer.new)) (drive_text input)) }
+    // A failed read leaves nothing written, whether or not the input's bytes are known.
+    ensures unread { IfErr result (λ e. ReadFaultKeeps e (W.contents (inner_of writer.old)) (W.contents (inner_of writer.new))) }
     // A failed read or write is answered where one failed, and nowhere else.
     ensures counted { CountsFaults result (faults_of reader.old) (faults_of reader.new) (faults_of writer.old) (faults_of writer.new) }
 {

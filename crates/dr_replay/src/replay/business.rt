@@ -1,6 +1,6 @@
 //! The business handler: balances by account.
 
-ghost use Rattle.std.specs.Prelude.{◌≡◌, ◌+◌, ◌++◌, [], IfOk, OnOk, nat_lt, not, string_bytes};
+ghost use Rattle.std.specs.Prelude.{◌≡◌, ◌+◌, ◌++◌, [], false, IfOk, OnOk, nat_lt, not, string_bytes};
 ghost use Rattle.std.specs.BTreeMap.{IsOrdered};
 ghost use Rattle.std.specs.Ordering.{nat_cmp};
 ghost use Rattle.dr_replay.specs.Handlers.{Booked, IsBusinessOf, Moved, Puts, account_lines, added, balance_in, business_text, kept, refused_in, taken};
@@ -32,7 +32,8 @@ pub struct Business {
 impl Business {
     /// A handler that was shown nothing yet.
     pub fn new(alloc: Global) -> Business
-        ensures { IsBusinessOf result [] }
+        ensures empty { IsBusinessOf result [] }
+        ensures well { result.failed ≡ false }
     {
         Business {
             accounts: BTreeMap::new(alloc),

@@ -32,7 +32,8 @@ pub struct Handlers {
 impl Handlers {
     /// Handlers that were shown nothing yet.
     pub fn new(alloc: Global) -> Handlers
-        ensures { AreShown result [] }
+        ensures shown { AreShown result [] }
+        ensures well { AreWell result }
     {
         Handlers {
             journal: Journal::new(alloc),

@@ -1,6 +1,6 @@
 //! The journal: each event's record, under its sequence.
 
-ghost use Rattle.std.specs.Prelude.{◌≡◌, ◌+◌, ◌++◌, [], OnOk, string_bytes};
+ghost use Rattle.std.specs.Prelude.{◌≡◌, ◌+◌, ◌++◌, [], false, OnOk, string_bytes};
 ghost use Rattle.dr_replay.specs.Handlers.{IsJournalOf, journal_text};
 ghost use Rattle.dr_replay.specs.Report.{journal_line};
 
@@ -21,7 +21,8 @@ pub struct Journal {
 impl Journal {
     /// A journal that was shown nothing yet.
     pub fn new(alloc: Global) -> Journal
-        ensures { IsJournalOf result [] }
+        ensures empty { IsJournalOf result [] }
+        ensures well { result.failed ≡ false }
     {
         Journal {
             lines: String::new(alloc),

@@ -3,7 +3,7 @@
 ghost use Rattle.std.specs.Prelude.{◌≡◌, ◌<◌, ◌≤◌, ◌-◌, ◌^◌, IfErr, IfOk, IfSome, OnOk, length, string_bytes};
 ghost use Rattle.dr_replay.specs.Counting.{faults_of, inner_of};
 ghost use Rattle.dr_replay.specs.EventFile.{events_of as events_in};
-ghost use Rattle.dr_replay.specs.Replayed.{FileFaultTells, FileIs, IsMemory, ReplayCounts, ReplayWrites};
+ghost use Rattle.dr_replay.specs.Replayed.{FileFaultTells, FileIs, IsMemory, ReplayCounts, ReplayFaultKeeps, ReplayWrites};
 ghost use Rattle.dr_replay.specs.Report.{report_of};
 
 use crate::counted::Counted;
@@ -70,6 +70,8 @@ pub fn replay_plain<R: Read, W: Write>(
     // Where the input's bytes are known, what is written is the report of its events, and the fault of the file is its first bad record.
     ensures bytes { IfSome (R.remaining (inner_of reader.old)) (λ input.
         ReplayWrites result (W.contents (inner_of writer.old)) (W.contents (inner_of writer.new)) (events_in input)) }
+    // Any fault but a failed write leaves nothing written, whether or not the input's bytes are known.
+    ensures unwritten { IfErr result (λ e. ReplayFaultKeeps e (W.contents (inner_of writer.old)) (W.contents (inner_of writer.new))) }
     // A failed read or write is answered where one failed, and nowhere else.
     ensures counted { ReplayCounts result (faults_of reader.old) (faults_of reader.new) (faults_of writer.old) (faults_of writer.new) }
 {

@@ -1,6 +1,6 @@
 //! The replica: each event's words, as a machine would take them over.
 
-ghost use Rattle.std.specs.Prelude.{◌≡◌, ◌+◌, ◌++◌, [], OnOk, string_bytes};
+ghost use Rattle.std.specs.Prelude.{◌≡◌, ◌+◌, ◌++◌, [], false, OnOk, string_bytes};
 ghost use Rattle.dr_replay.specs.Handlers.{IsReplicaOf, replica_text};
 ghost use Rattle.dr_replay.specs.Report.{hexadecimal, replica_line};
 
@@ -21,7 +21,8 @@ pub struct Replica {
 impl Replica {
     /// A replica that was shown nothing yet.
     pub fn new(alloc: Global) -> Replica
-        ensures { IsReplicaOf result [] }
+        ensures empty { IsReplicaOf result [] }
+        ensures well { result.failed ≡ false }
     {
         Replica {
             lines: String::new(alloc),

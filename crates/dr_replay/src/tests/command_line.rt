@@ -53,6 +53,7 @@ fn no_command(rt: HostRuntime) -> Result<(), Fail> {
         )
     );
     assert_eq!(rt; LineFault::Memory.status(), 3);
+    assert_eq!(rt; LineFault::NotUtf8.status(), 1);
     Ok(())
 }
 

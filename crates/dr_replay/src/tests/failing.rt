@@ -1,4 +1,4 @@
-//! A reader and a writer that fail at their k-th call.
+//! A reader and a writer that fail at their k-th call, and count their calls.
 
 use crate::{Counted, DriveFault, drive};
 use std::alloc::Global;
@@ -25,10 +25,11 @@ impl<'a> Read for Failing<'a> {
     }
 }
 
-// A writer that takes one byte a call, and fails or takes nothing at its k-th call.
+// A writer that takes so many bytes a call, and fails or takes nothing at its k-th call. A flush is a call too.
 #[derive(Drop)]
 pub struct Slow {
     pub taken: Vec<u8>,
+    pub at_once: usize,
     pub calls: u64,
     pub fails_at: u64,
     pub takes_nothing: bool,
@@ -43,11 +44,15 @@ impl Write for Slow {
             }
             return Err(io::Error::from(io::ErrorKind::Other));
         }
-        let end = buf.len().min(1);
+        let end = buf.len().min(self.at_once);
         self.taken.write(&buf[..end])
     }
 
     fn flush(&mut self) -> io::Result<()> {
+        self.calls = self.calls.saturating_add(1);
+        if self.calls == self.fails_at {
+            return Err(io::Error::from(io::ErrorKind::Other));
+        }
         Ok(())
     }
 }
@@ -61,30 +66,62 @@ pub fn failing_at(input: &str, fails_at: u64) -> Failing<'_> {
     }
 }
 
-// A writer that fails at its k-th call, or takes nothing there.
+// A writer that takes a byte a call, and fails at its k-th call, or takes nothing there.
 pub fn slow_at(alloc: Global, fails_at: u64, takes_nothing: bool) -> Slow {
     Slow {
         taken: Vec::new(alloc),
+        at_once: 1,
         calls: 0,
         fails_at,
         takes_nothing,
     }
 }
 
+// A writer that takes whole pieces, and fails at its k-th call.
+pub fn whole_at(alloc: Global, fails_at: u64) -> Slow {
+    Slow {
+        taken: Vec::new(alloc),
+        at_once: usize::MAX,
+        calls: 0,
+        fails_at,
+        takes_nothing: false,
+    }
+}
+
+// Flushes and writes after a failure, of which the writer underneath must hear nothing.
+pub fn call_on(rt: &impl Abort, mut writer: Counted<Slow>) -> Slow {
+    assert!(rt; writer.flush().is_err() && writer.write(b"x".as_slice()).is_err());
+    assert!(rt; writer.write(b"".as_slice()).is_err() && writer.faults() == 4);
+    writer.into_inner()
+}
+
 // Whether a run that writes this text meets the writer's failure. If so it took all bytes before
 // that, and was called no more; if not, all.
 pub fn meets_failure(rt: &impl Abort, writer: Counted<Slow>, whole: &[u8]) -> bool {
     let faults = writer.faults();
-    let slow = writer.into_inner();
-    let meets = slow.fails_at <= whole.len() as u64;
+    let meets = faults > 0;
+    let slow = if meets {
+        assert!(rt; faults == 1);
+        call_on(rt, writer)
+    } else {
+        writer.into_inner()
+    };
+    assert!(rt; meets == (slow.fails_at <= whole.len() as u64));
     if meets {
-        assert!(rt; faults == 1 && slow.calls == slow.fails_at);
+        assert!(rt; slow.calls == slow.fails_at);
         assert!(rt; whole.starts_with(slow.taken.as_slice()));
         assert!(rt; slow.taken.len() as u64 + 1 == slow.fails_at);
     } else {
         assert!(rt; faults == 0 && slow.taken.as_slice() == whole);
     }
     meets
+}
+
+// How often a reader that failed was called, however it is called on.
+pub fn calls_of(rt: &impl Abort, mut reader: Counted<Failing<'_>>) -> u64 {
+    let mut buf = [0u8; 4];
+    assert!(rt; reader.read(&mut buf).is_err() && reader.faults() == 2);
+    reader.into_inner().calls
 }
 
 const INPUT: &str = "ring,4,single\nwith,a\nstart\nclaim,0,1\nhalt\n";
@@ -102,6 +139,7 @@ fn reads_that_fail(rt: HostRuntime) {
         if fails_at < 5 {
             assert!(rt; matches!(&result, Err(DriveFault::Read)));
             assert!(rt; reader.faults() == 1 && output.is_empty());
+            assert!(rt; calls_of(&rt, reader) == fails_at);
         } else {
             assert!(rt; result.is_ok() && reader.faults() == 0);
             assert!(rt; output.as_slice() == OUTPUT.as_bytes());
@@ -125,6 +163,25 @@ fn writes_that_fail(rt: HostRuntime) {
     for fails_at in 1..22 {
         write_that_fails(&rt, rt.alloc(), fails_at, false);
         write_that_fails(&rt, rt.alloc(), fails_at, true);
+    }
+}
+
+// A writer that takes whole pieces is called once a line, and not after it failed.
+#[test]
+fn whole_writes_that_fail(rt: HostRuntime) {
+    let alloc = rt.alloc();
+    for (fails_at, taken) in [(1, ""), (2, "claimed 0 0\n"), (3, OUTPUT)] {
+        let mut reader = Counted::new(INPUT.as_bytes());
+        let mut writer = Counted::new(whole_at(alloc, fails_at));
+        let result = drive(alloc, &mut reader, &mut writer);
+        let is_whole = taken == OUTPUT;
+        assert!(rt; matches!(&result, Err(DriveFault::Write)) == !is_whole);
+        assert!(rt; result.is_ok() == is_whole);
+        // The third call is the flush.
+        assert!(rt; !is_whole || writer.flush().is_err());
+        let whole = call_on(&rt, writer);
+        assert!(rt; whole.calls == fails_at);
+        assert_eq!(rt; whole.taken.as_slice(), taken.as_bytes());
     }
 }
 

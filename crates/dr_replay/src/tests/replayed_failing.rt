@@ -1,9 +1,10 @@
 //! Replays whose reader or writer fails at its k-th call.
 
-use crate::tests::failing::{failing_at, meets_failure, slow_at};
+use crate::tests::failing::{call_on, calls_of, failing_at, meets_failure, slow_at, whole_at};
 use crate::{Counted, ReplayFault, replay_plain};
 use dr_seq::Size;
 use std::alloc::Global;
+use std::io::Write;
 use std::process::Abort;
 use std::test::Fail;
 
@@ -23,6 +24,7 @@ fn reads_that_fail(rt: HostRuntime) -> Result<(), Fail> {
         if fails_at < 4 {
             assert!(rt; matches!(&result, Err(ReplayFault::Read)));
             assert!(rt; reader.faults() == 1 && output.is_empty());
+            assert!(rt; calls_of(&rt, reader) == fails_at);
         } else {
             assert!(rt; result.is_ok() && reader.faults() == 0);
             assert!(rt; output.as_slice() == OUTPUT.as_bytes());
@@ -53,6 +55,26 @@ fn writes_that_fail(rt: HostRuntime) -> Result<(), Fail> {
     for fails_at in 1..113 {
         write_that_fails(&rt, rt.alloc(), fails_at, false)?;
         write_that_fails(&rt, rt.alloc(), fails_at, true)?;
+    }
+    Ok(())
+}
+
+// A writer that takes whole pieces is called once for the report, and not after it failed.
+#[test]
+fn whole_writes_that_fail(rt: HostRuntime) -> Result<(), Fail> {
+    let alloc = rt.alloc();
+    for (fails_at, taken) in [(1, ""), (2, OUTPUT)] {
+        let mut reader = Counted::new(INPUT.as_bytes());
+        let mut writer = Counted::new(whole_at(alloc, fails_at));
+        let result = replay_plain(alloc, &mut reader, &mut writer, Size::new(2)?);
+        let is_whole = taken == OUTPUT;
+        assert!(rt; matches!(&result, Err(ReplayFault::Write)) == !is_whole);
+        assert!(rt; result.is_ok() == is_whole);
+        // The second call is the flush.
+        assert!(rt; !is_whole || writer.flush().is_err());
+        let whole = call_on(&rt, writer);
+        assert!(rt; whole.calls == fails_at);
+        assert_eq!(rt; whole.taken.as_slice(), taken.as_bytes());
     }
     Ok(())
 }

@@ -2,9 +2,9 @@ use Rattle.std.proofs.Common.{refl}
 use Rattle.dr_replay.specs.Accounts.{balances_after, refusals_after}
 use Rattle.dr_replay.proofs.replay.business.Business.new.Goals as goal
 
-pub returns : goal.returns
+pub returns-clause-empty : goal.returns-clause-empty
 unfolding balances_after refusals_after
-returns c = λ _. record {
+returns-clause-empty c = λ _. record {
   balances = λ a. rw c.new.ensures.empty refl;
   refusals = λ a. rw c.new.ensures.empty refl;
   named = λ a. rw c.new.ensures.empty refl;

@@ -2,6 +2,6 @@ use Rattle.std.proofs.Common.{refl}
 use Rattle.dr_replay.specs.Report.{journal_from}
 use Rattle.dr_replay.proofs.replay.journal.Journal.new.Goals as goal
 
-pub returns : goal.returns
+pub returns-clause-empty : goal.returns-clause-empty
 unfolding journal_from
-returns c = λ _. record { lines = c.new.ensures.bytes; count = refl }
+returns-clause-empty c = λ _. record { lines = c.new.ensures.bytes; count = refl }

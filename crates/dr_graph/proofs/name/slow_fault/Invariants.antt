@@ -1,7 +1,7 @@
 use Rattle.std.proofs.Common.{◌≡◌, ◌++◌, map, take, drop}
 use Rattle.std.specs.String.{string_bytes}
 use Rattle.dr_graph.specs.Declaration.{name_faults}
-use Rattle.dr_graph.proofs.name.first_fault.Given as goal
+use Rattle.dr_graph.proofs.name.slow_fault.Given as goal
 
 abbrev pub invariant-loop-i : goal.invariant-loop-i
 invariant-loop-i l =

@@ -1,0 +1,29 @@
+#!/usr/bin/env bash
+# The whole gate: `rt ci`, and then the program, as both compilers built it there, from outside. The last line is that of
+# `rt ci`, in which a build of the program that fails its cases counts as one failure more.
+set -u
+cd "$(dirname "$0")/.." || exit 2
+last=$(mktemp) || exit 2
+trap 'rm -f "$last"' EXIT
+# (the last line waits, and the others go through as they come)
+rt ci | sed -u -n -e "\$w $last" -e '$!p'
+status=${PIPESTATUS[0]}
+
+more=0
+for built in crates/disruptor/out/disruptor crates/disruptor/out/disruptor.by-rattle; do
+    if [ -f "$built" ]; then
+        tests/program.sh "$built" || more=$((more + 1))
+    elif [ "$status" = 0 ] && [ "$built" = crates/disruptor/out/disruptor ]; then
+        echo "FAILED: rt ci left no $built"
+        more=1
+    fi
+done
+if [ "$more" -gt 0 ]; then
+    status=1
+    passed=$(sed -n 's/^\([0-9]*\) passed, [0-9]* failed$/\1/p' "$last")
+    failed=$(sed -n 's/^[0-9]* passed, \([0-9]*\) failed$/\1/p' "$last")
+    echo "${passed:-0} passed, $((${failed:-1} + more)) failed"
+else
+    cat "$last"
+fi
+exit "$status"
