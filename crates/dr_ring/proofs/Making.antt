@@ -41,11 +41,6 @@ fits_receiver at own me k h table made lt is = subst (λ (m : End). ReceiverFits
 abbrev zeros : ℕ → List ℕ
 zeros n = replicate n 0
 
-low_zeros : (n j : ℕ) → get_or (zeros n) j 0 ≤ 0
-low_zeros zero j = omega arith
-low_zeros (suc n) zero = omega arith
-low_zeros (suc n) (suc j) = low_zeros n j
-
 pub listed_next : (t : TableId) (k : Shape) (h n : ℕ) (items new : List ReceiverEnd) (e : ReceiverEnd) (all : List ReceiverEnd) → h < n → items ++ map (at_ring t) (fresh_receivers k h (n - h)) ≡ all → new ≡ items ++ e ∷ [] → e ≡ at_ring t (fresh_receiver k h)
     → new ++ map (at_ring t) (fresh_receivers k (h + 1) (n - (h + 1))) ≡ all
 listed_next t k h n items new e all lt was is own = ap (λ (xs : List ReceiverEnd). xs ++ map (at_ring t) (fresh_receivers k (h + 1) (n - (h + 1)))) (is ∙ ap (λ (x : ReceiverEnd). items ++ x ∷ []) own)

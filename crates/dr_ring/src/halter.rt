@@ -18,15 +18,15 @@ pub struct Halter {
 
 impl Model for Halter {
     ghost use Rattle.std.specs.Arc.{arc_value};
-    ghost use Rattle.dr_ring.specs.Seats.{halter_of};
+    ghost use Rattle.dr_ring.specs.Seats.{end_of, halter_of};
     ghost use Rattle.dr_ring.specs.Calls.{HalterEnd};
     ghost use Rattle.dr_ring.specs.Fits.{HalterFits};
 
     ghost Value = { HalterEnd };
 
-    ghost view = { λ s. record { ring = s.seat.table_id; knows = halter_of s.seat.me.0 } };
+    ghost view = { λ s. record { ring = s.seat.table_id; knows = halter_of s.seat.me.0.ends } };
 
-    ghost invariant = { λ s. HalterFits (arc_value s.ring).table.shared.table_id s.seat.table_id s.seat.me (arc_value s.ring).plan };
+    ghost invariant = { λ s. HalterFits (arc_value s.ring).table.shared.table_id s.seat.table_id (end_of s.seat.me) (arc_value s.ring).plan };
 }
 
 impl Halter {

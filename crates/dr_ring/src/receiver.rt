@@ -28,15 +28,15 @@ pub struct Receiver {
 
 impl Model for Receiver {
     ghost use Rattle.std.specs.Arc.{arc_value};
-    ghost use Rattle.dr_ring.specs.Seats.{receiver_of};
+    ghost use Rattle.dr_ring.specs.Seats.{end_of, receiver_of};
     ghost use Rattle.dr_ring.specs.Calls.{ReceiverEnd};
     ghost use Rattle.dr_ring.specs.Fits.{ReceiverFits};
 
     ghost Value = { ReceiverEnd };
 
-    ghost view = { λ s. record { ring = s.seat.table_id; knows = receiver_of s.seat.me.0 } };
+    ghost view = { λ s. record { ring = s.seat.table_id; knows = receiver_of s.seat.me.0.ends } };
 
-    ghost invariant = { λ s. ReceiverFits (arc_value s.ring).table.shared.table_id s.seat.table_id s.seat.me (arc_value s.ring).plan s.number s.taken s.completed s.looks };
+    ghost invariant = { λ s. ReceiverFits (arc_value s.ring).table.shared.table_id s.seat.table_id (end_of s.seat.me) (arc_value s.ring).plan s.number s.taken s.completed s.looks };
 }
 
 impl Receiver {

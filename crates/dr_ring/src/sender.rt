@@ -34,15 +34,15 @@ pub struct Sender {
 impl Model for Sender {
     ghost use Rattle.std.specs.Prelude.{length};
     ghost use Rattle.std.specs.Arc.{arc_value};
-    ghost use Rattle.dr_ring.specs.Seats.{sender_of};
+    ghost use Rattle.dr_ring.specs.Seats.{end_of, sender_of};
     ghost use Rattle.dr_ring.specs.Calls.{SenderEnd};
     ghost use Rattle.dr_ring.specs.Fits.{SenderFits};
 
     ghost Value = { SenderEnd };
 
-    ghost view = { λ s. record { ring = s.seat.table_id; knows = sender_of s.seat.me.0 } };
+    ghost view = { λ s. record { ring = s.seat.table_id; knows = sender_of s.seat.me.0.ends } };
 
-    ghost invariant = { λ s. SenderFits (arc_value s.ring).table.shared.table_id s.seat.table_id s.seat.me (arc_value s.ring).plan s.claimed s.published s.gate s.looks s.marks.items (length s.counts.items) };
+    ghost invariant = { λ s. SenderFits (arc_value s.ring).table.shared.table_id s.seat.table_id (end_of s.seat.me) (arc_value s.ring).plan s.claimed s.published s.gate s.looks s.marks.items (length s.counts.items) };
 }
 
 impl Sender {
