@@ -44,7 +44,7 @@ one_view P first p zero v at = subst (P 0) (some-injective first v at) p
 one_view P first p (suc id) v at = absurd (some-ne-none v (sym at))
 
 saw_fresh : (k : Shape) (e : EndRecord) → Stands (opening k) e → Saw k [] e []
-saw_fresh k e stands = record { begins = ([], refl); entries = []; world = opening k; runs = (refl, refl); stands = stands }
+saw_fresh k e stands = record { begins = ([], refl); entries = []; world = opening k; runs = (refl, refl); stands = stands; stores = refl }
 
 each_receiver : (P : EndRecord → List Step → Type 0) (rs : List ReceiverRecord)
     → ((j : ℕ) (r : ReceiverRecord) → get_elem? rs j ≡ some r → P (Receives r) []) → EachPast P (map (λ r. Receives r) rs) (map (λ r. []) rs)

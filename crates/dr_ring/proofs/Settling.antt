@@ -86,7 +86,7 @@ compares k slots id me led s R _ at _ =
           graph = subst (λ (p : Shape). IsGraph p.upstreams) (sym plan) R.graph;
           some_slot = subst (λ (p : Shape). 0 < p.size) (sym plan) R.some_slot;
           runs = subst (λ (p : Shape). Runs p R.steps R.entries (opening p) w) (sym plan) R.runs;
-          pasts = each_map (Saw k R.steps) (λ e past. IsBeginning past R.steps) (λ e past S. S.begins) me.0.ends me.0.pasts (R.each_past id me.0 at);
+          pasts = each_map (Saw k R.steps) (λ e past. IsBeginning past R.steps) me.0.ends me.0.pasts (λ j e past in_v S. S.begins) (R.each_past id me.0 at);
           sender = mine;
           receivers = λ r in_view. (here in_view.0 (Receives r) in_view.1).1;
         }),

@@ -1,5 +1,5 @@
 -- The rule of a ring as its table's rule: each end stands in one seat's view, at one place of it.
-use Rattle.std.specs.Prelude.{◌≡◌, ℕ, ◌+◌, ◌<◌, ◌≤◌, true, List, [], ◌∷◌, ◌++◌, length, map, Some}
+use Rattle.std.specs.Prelude.{◌≡◌, ℕ, ◌+◌, ◌<◌, ◌≤◌, ◌==◌, Bool, true, false, List, [], ◌∷◌, ◌++◌, length, map, filter, Some}
 use mathlib.Core.Option.{some}
 use lib.ListN.{get_elem?}
 use Rattle.atomic_table.specs.Table.{State, Me}
@@ -18,6 +18,7 @@ use Rattle.dr_ring.specs.declared.record.EndRecord.TheVariants.{Sends, Receives,
 use Rattle.dr_ring.specs.Ends.{last_look, sender_looked, halt_looked, half_written, written, published_to, sender_halted, sender_closed, receiver_looked, cursor_looked, half_taken, took, completed_to, halter_halted}
 use Rattle.dr_ring.specs.Kept.{World}
 use Rattle.dr_ring.specs.declared.record.Step.{Step}
+use Rattle.dr_ring.specs.declared.record.Step.TheVariants.{SenderStoresFirst, SenderStoresSecond, SenderPublishes, SenderHalts, SenderCloses, ReceiverCompletes, HalterHalts}
 use Rattle.dr_ring.specs.declared.record.View.{View}
 use Rattle.dr_ring.specs.Moments.{fresh_sender, fresh_receiver, fresh_receivers, fresh_halter, opening, Runs}
 
@@ -46,6 +47,21 @@ first_past (past ∷ pasts) = past
 abbrev pub past_of : View → List Step
 past_of v = first_past v.pasts
 
+-- whether a step is a store by the end of a number
+abbrev pub is_store_of : ℕ → Step → Bool
+is_store_of end (SenderStoresFirst s first) = end == 0
+is_store_of end (SenderStoresSecond second) = end == 0
+is_store_of end (SenderPublishes n) = end == 0
+is_store_of end SenderHalts = end == 0
+is_store_of end SenderCloses = end == 0
+is_store_of end HalterHalts = end == 1
+is_store_of end (ReceiverCompletes h n) = end == h + 2
+is_store_of end _ = false
+
+-- what it stored in a run, in order
+abbrev pub stores_of : ℕ → List Step → List Step
+stores_of end steps = filter (is_store_of end) steps
+
 -- a fact of each end of a view and its past
 abbrev pub EachPast : (EndRecord → List Step → Type 0) → List EndRecord → List (List Step) → Type 0
 EachPast P [] [] = Unit {0}
@@ -63,6 +79,14 @@ end_number (Sends r) = 0
 end_number (Halts r) = 1
 end_number (Receives r) = r.number + 2
 
+abbrev pub first_number : List EndRecord → ℕ
+first_number [] = 0
+first_number (e ∷ es) = end_number e
+
+-- what the first end of a view stored since the ring's opening
+abbrev pub stored_of : View → List Step
+stored_of v = stores_of (first_number v.ends) (past_of v)
+
 -- the record is that of the end in the world
 abbrev pub Stands : World → EndRecord → Type 0
 Stands w (Sends r) = w.sender ≡ r
@@ -73,13 +97,14 @@ Stands w (Receives r) = get_elem? w.receivers r.number ≡ some r
 abbrev pub world_of : List ℕ → SenderRecord → List ReceiverRecord → HalterRecord → World
 world_of words sender receivers halter = record { words = words; sender = sender; receivers = receivers; halter = halter }
 
--- what an end saw is the beginning of the run, and came to its record
+-- what an end saw is the beginning of the run, came to its record, and has all that it stored
 pub record Saw (k : Shape) (steps : List Step) (e : EndRecord) (past : List Step) : Type 0 where
   pub begins : IsBeginning past steps
   pub entries : Transcript
   pub world : World
   pub runs : Runs k past entries (opening k) world
   pub stands : Stands world e
+  pub stores : stores_of (end_number e) past ≡ stores_of (end_number e) steps
 
 -- some steps lead from the opening to a world with the table's words, and each record in each view is that of its end, which stands there alone
 pub record Ruled (k : Shape) (s : State ℕ View) : Type 0 where
@@ -144,9 +169,14 @@ IsReceiver me = me ≡ as_receiver (receiver_of me.0)
 abbrev pub IsHalter : End → Type 0
 IsHalter me = me ≡ as_halter (halter_of me.0)
 
--- a step's play: what it tells of the end, and that it comes after all that its end saw
-abbrev pub Told : (TableStep ℕ → End → ℕ → End → Type 0) → TableStep ℕ → Sitting → ℕ → Sitting → Type 0
-Told Tells s me n me' = Tells s (end_of me) n (end_of me') × IsBeginning (past_of me.0) (past_of me'.0)
+-- a load's play: what it tells of the end, and that it comes after all that its end saw and stored
+abbrev pub Loads : (TableStep ℕ → End → ℕ → End → Type 0) → TableStep ℕ → Sitting → ℕ → Sitting → Type 0
+Loads Tells s me n me' = Tells s (end_of me) n (end_of me') × IsBeginning (past_of me.0) (past_of me'.0) × (stored_of me'.0 ≡ stored_of me.0)
+
+-- a store's play: the end has stored one thing more
+abbrev pub Stores : (End → ℕ → Step) → (TableStep ℕ → End → ℕ → End → Type 0) → TableStep ℕ → Sitting → ℕ → Sitting → Type 0
+Stores step Tells s me n me' =
+    Tells s (end_of me) n (end_of me') × IsBeginning (past_of me.0) (past_of me'.0) × (stored_of me'.0 ≡ stored_of me.0 ++ step (end_of me) n ∷ [])
 
 -- What each kind of step tells: of the seat before and the word found or stored, the seat after.
 -- A count that is looked at never falls, and no more is completed than is published.

@@ -6,9 +6,9 @@ ghost use Rattle.dr_core.specs.OpenFault.{is_bad_limit};
 ghost use Rattle.dr_ring.specs.Shape.{handlers_of};
 ghost use Rattle.dr_ring.specs.Plans.{IsPlan};
 ghost use Rattle.dr_ring.specs.Moments.{fresh_receivers};
-ghost use Rattle.dr_ring.specs.Seats.{IsAtTable, end_of};
+ghost use Rattle.dr_ring.specs.Seats.{IsAtTable};
 ghost use Rattle.dr_ring.specs.Settling.{AreAllEnds};
-ghost use Rattle.dr_ring.specs.Making.{receivers_known, at_ring, AreFreshEnds, fault_of};
+ghost use Rattle.dr_ring.specs.Making.{receivers_seat, at_ring, AreFreshEnds, fault_of};
 
 use crate::body::RingBody;
 use crate::fault::RingFault;
@@ -45,7 +45,7 @@ fn receivers(
 ) -> Result<Vec<Receiver>, AllocError>
     requires table { IsAtTable rest.table_id (arc_value ring.now).table.shared.table_id (arc_value ring.now).plan }
     requires made { IsPlan (arc_value ring.now).plan }
-    requires all { end_of rest.me ≡ (receivers_known (arc_value ring.now).plan 0 (handlers_of (arc_value ring.now).plan), []) }
+    requires all { rest.me ≡ receivers_seat (arc_value ring.now).plan 0 (handlers_of (arc_value ring.now).plan) }
     ensures { IfOk result (λ v. v.items ≡ map (at_ring rest.table_id) (fresh_receivers (arc_value ring.now).plan 0 (handlers_of (arc_value ring.now).plan))) }
 {
     let handlers = ring.plan.handlers();

@@ -8,7 +8,7 @@ ghost use Rattle.dr_ring.specs.Ends.{halt_looked, HasRoom};
 ghost use Rattle.dr_ring.specs.Fits.{IsSeenLeast};
 ghost use Rattle.dr_ring.specs.Calls.{looks_counted, received_all};
 ghost use Rattle.dr_ring.specs.Parts.{lesser_of, Scans, LooksAtUpstreams, IsOffered, AreMarked, HasUnmarked, nothing_offered as answer_of};
-ghost use Rattle.dr_ring.specs.Seats.{IsAtTable, end_of, as_sender, as_receiver, sender_of, receiver_of, IsSender, IsReceiver};
+ghost use Rattle.dr_ring.specs.Seats.{IsAtTable, end_of, stored_of, as_sender, as_receiver, sender_of, receiver_of, IsSender, IsReceiver};
 
 use crate::laws;
 use crate::laws::{RingSeat, Words};
@@ -40,6 +40,7 @@ pub(crate) fn is_halted(
     ensures seat { (seat.new.table_id ≡ seat.old.table_id) × (seat.new.id ≡ seat.old.id) }
     ensures end { end_of seat.new.me ≡ as_sender (halt_looked (sender_of seat.old.me.0.ends) count (if result then 1 else 0)) }
     ensures looks { looks.new ≡ looks_counted (sender_of seat.new.me.0.ends).looks }
+    ensures stored { stored_of seat.new.me.0 ≡ stored_of seat.old.me.0 }
 {
     *looks = looks.saturating_add(1);
     laws::sender::look_at_halt(words, seat, plan, count) != 0
@@ -67,6 +68,7 @@ pub(crate) fn make_room(
     ensures seat { (seat.new.table_id ≡ seat.old.table_id) × (seat.new.id ≡ seat.old.id) }
     ensures answer { Scans plan.now (sender_of seat.old.me.0.ends) need (end_of seat.new.me) looks.new result }
     ensures rises { IfSome result (λ least. remembered ≤ least) }
+    ensures stored { stored_of seat.new.me.0 ≡ stored_of seat.old.me.0 }
 {
     if remembered >= need {
         return Some(remembered);
@@ -102,6 +104,7 @@ pub(crate) fn barrier(
     requires looks { looks.old ≡ looks_counted (receiver_of seat.old.me.0.ends).looks }
     ensures seat { (seat.new.table_id ≡ seat.old.table_id) × (seat.new.id ≡ seat.old.id) }
     ensures answer { LooksAtUpstreams plan.now handler (receiver_of seat.old.me.0.ends) cursor (end_of seat.new.me) looks.new result }
+    ensures stored { stored_of seat.new.me.0 ≡ stored_of seat.old.me.0 }
 {
     let mut available = cursor;
     let mut first = true;
@@ -147,6 +150,7 @@ pub(crate) fn take_all(
     ensures seat { (seat.new.table_id ≡ seat.old.table_id) × (seat.new.id ≡ seat.old.id) }
     ensures end { end_of seat.new.me ≡ as_receiver (received_all (receiver_of seat.old.me.0.ends) out.new) }
     ensures length { length out.new ≡ length out.old }
+    ensures stored { stored_of seat.new.me.0 ≡ stored_of seat.old.me.0 }
 {
     let mut sequence = taken;
     for event in out.iter_mut() {

@@ -1,11 +1,12 @@
 //! A receiver's steps.
 
-ghost use Rattle.std.specs.Prelude.{◌≡◌, ◌<◌, ◌≤◌, true, Some, length, Contains};
+ghost use Rattle.std.specs.Prelude.{◌≡◌, ◌<◌, ◌≤◌, [], ◌∷◌, ◌++◌, true, Some, length, Contains};
 ghost use Rattle.dr_graph.specs.Graph.{upstreams_of};
 ghost use Rattle.dr_ring.specs.Shape.{handlers_of};
 ghost use Rattle.dr_ring.specs.Words.{cursor_word, closed_word, count_word as count_word_of};
 ghost use Rattle.dr_ring.specs.Ends.{last_look, receiver_looked, cursor_looked, half_taken, took, completed_to, IsBelowBarrier};
-ghost use Rattle.dr_ring.specs.Seats.{IsAtTable, IsBeginning, end_of, past_of, IsReceiver, receiver_of, as_receiver};
+ghost use Rattle.dr_ring.specs.declared.record.Step.TheVariants.{ReceiverCompletes};
+ghost use Rattle.dr_ring.specs.Seats.{IsAtTable, IsBeginning, end_of, past_of, stored_of, IsReceiver, receiver_of, as_receiver};
 
 use super::{RingSeat, Words};
 use crate::plan::{CLOSED_WORD, CURSOR_WORD, Plan, count_word};
@@ -16,49 +17,50 @@ use dr_seq::Event;
 struct LooksAtClosed;
 
 impl Play<u64, View> for LooksAtClosed {
-    ghost use Rattle.dr_ring.specs.Seats.{Told, ReceiverLookedAtClosed};
+    ghost use Rattle.dr_ring.specs.Seats.{Loads, ReceiverLookedAtClosed};
 
-    ghost then = { Told ReceiverLookedAtClosed };
+    ghost then = { Loads ReceiverLookedAtClosed };
 }
 
 struct LooksAtCursor;
 
 impl Play<u64, View> for LooksAtCursor {
-    ghost use Rattle.dr_ring.specs.Seats.{Told, ReceiverLookedAtCursor};
+    ghost use Rattle.dr_ring.specs.Seats.{Loads, ReceiverLookedAtCursor};
 
-    ghost then = { Told ReceiverLookedAtCursor };
+    ghost then = { Loads ReceiverLookedAtCursor };
 }
 
 struct LooksAtCount;
 
 impl Play<u64, View> for LooksAtCount {
-    ghost use Rattle.dr_ring.specs.Seats.{Told, ReceiverLookedAtCount};
+    ghost use Rattle.dr_ring.specs.Seats.{Loads, ReceiverLookedAtCount};
 
-    ghost then = { Told ReceiverLookedAtCount };
+    ghost then = { Loads ReceiverLookedAtCount };
 }
 
 struct LoadsFirst;
 
 impl Play<u64, View> for LoadsFirst {
-    ghost use Rattle.dr_ring.specs.Seats.{Told, ReceiverLoadedFirst};
+    ghost use Rattle.dr_ring.specs.Seats.{Loads, ReceiverLoadedFirst};
 
-    ghost then = { Told ReceiverLoadedFirst };
+    ghost then = { Loads ReceiverLoadedFirst };
 }
 
 struct LoadsSecond;
 
 impl Play<u64, View> for LoadsSecond {
-    ghost use Rattle.dr_ring.specs.Seats.{Told, ReceiverLoadedSecond};
+    ghost use Rattle.dr_ring.specs.Seats.{Loads, ReceiverLoadedSecond};
 
-    ghost then = { Told ReceiverLoadedSecond };
+    ghost then = { Loads ReceiverLoadedSecond };
 }
 
 struct Completes;
 
 impl Play<u64, View> for Completes {
-    ghost use Rattle.dr_ring.specs.Seats.{Told, ReceiverCompleted};
+    ghost use Rattle.dr_ring.specs.declared.record.Step.TheVariants.{ReceiverCompletes};
+    ghost use Rattle.dr_ring.specs.Seats.{Stores, receiver_of, ReceiverCompleted};
 
-    ghost then = { Told ReceiverCompleted };
+    ghost then = { Stores (λ me n. ReceiverCompletes (receiver_of me.0).number n) ReceiverCompleted };
 }
 
 /// A receiver looks at closed.
@@ -68,6 +70,7 @@ pub fn look_at_closed(words: &Words, seat: &mut RingSeat, plan: &Plan) -> u64
     ensures seat { (seat.new.table_id ≡ seat.old.table_id) × (seat.new.id ≡ seat.old.id) }
     ensures end { end_of seat.new.me ≡ as_receiver (receiver_looked (receiver_of seat.old.me.0.ends) closed_word result) }
     ensures past { IsBeginning (past_of seat.old.me.0) (past_of seat.new.me.0) }
+    ensures stored { stored_of seat.new.me.0 ≡ stored_of seat.old.me.0 }
     ensures rises { last_look 0 (receiver_of seat.old.me.0.ends).looks closed_word ≤ result }
     ensures flag { result ≤ 1 }
     ensures told { (receiver_of seat.old.me.0.ends).told ≡ true → result ≡ 1 }
@@ -83,6 +86,7 @@ pub fn look_at_cursor(words: &Words, seat: &mut RingSeat, plan: &Plan) -> u64
     ensures seat { (seat.new.table_id ≡ seat.old.table_id) × (seat.new.id ≡ seat.old.id) }
     ensures end { end_of seat.new.me ≡ as_receiver (cursor_looked (receiver_of seat.old.me.0.ends) result) }
     ensures past { IsBeginning (past_of seat.old.me.0) (past_of seat.new.me.0) }
+    ensures stored { stored_of seat.new.me.0 ≡ stored_of seat.old.me.0 }
     ensures rises { last_look 0 (receiver_of seat.old.me.0.ends).looks cursor_word ≤ result }
     ensures taken { length (receiver_of seat.old.me.0.ends).received ≤ result }
     ensures told { (receiver_of seat.old.me.0.ends).told ≡ true → result ≤ length (receiver_of seat.old.me.0.ends).received }
@@ -108,6 +112,7 @@ pub fn look_at_count(
     ensures seat { (seat.new.table_id ≡ seat.old.table_id) × (seat.new.id ≡ seat.old.id) }
     ensures end { end_of seat.new.me ≡ as_receiver (receiver_looked (receiver_of seat.old.me.0.ends) (count_word_of upstream) result) }
     ensures past { IsBeginning (past_of seat.old.me.0) (past_of seat.new.me.0) }
+    ensures stored { stored_of seat.new.me.0 ≡ stored_of seat.old.me.0 }
     ensures rises { last_look 0 (receiver_of seat.old.me.0.ends).looks (count_word_of upstream) ≤ result }
     ensures taken { length (receiver_of seat.old.me.0.ends).received ≤ result }
     ensures told { (receiver_of seat.old.me.0.ends).told ≡ true → result ≤ length (receiver_of seat.old.me.0.ends).received }
@@ -134,6 +139,7 @@ pub fn load_first(
     ensures seat { (seat.new.table_id ≡ seat.old.table_id) × (seat.new.id ≡ seat.old.id) }
     ensures end { end_of seat.new.me ≡ as_receiver (half_taken (receiver_of seat.old.me.0.ends) result) }
     ensures past { IsBeginning (past_of seat.old.me.0) (past_of seat.new.me.0) }
+    ensures stored { stored_of seat.new.me.0 ≡ stored_of seat.old.me.0 }
 {
     let _handler = handler;
     words.load::<LoadsFirst>(seat, plan.payload_word(taken, 0))
@@ -159,6 +165,7 @@ pub fn load_second(
     ensures seat { (seat.new.table_id ≡ seat.old.table_id) × (seat.new.id ≡ seat.old.id) }
     ensures end { end_of seat.new.me ≡ as_receiver (took (receiver_of seat.old.me.0.ends) result) }
     ensures past { IsBeginning (past_of seat.old.me.0) (past_of seat.new.me.0) }
+    ensures stored { stored_of seat.new.me.0 ≡ stored_of seat.old.me.0 }
     ensures first { result.first ≡ first }
 {
     let _handler = handler;
@@ -176,6 +183,7 @@ pub fn complete(words: &Words, seat: &mut RingSeat, plan: &Plan, handler: usize,
     ensures seat { (seat.new.table_id ≡ seat.old.table_id) × (seat.new.id ≡ seat.old.id) }
     ensures end { end_of seat.new.me ≡ as_receiver (completed_to (receiver_of seat.old.me.0.ends) upto) }
     ensures past { IsBeginning (past_of seat.old.me.0) (past_of seat.new.me.0) }
+    ensures stored { stored_of seat.new.me.0 ≡ stored_of seat.old.me.0 ++ ReceiverCompletes handler upto ∷ [] }
 {
     let _handlers = plan.handlers();
     words.store::<Completes>(seat, count_word(handler), upto);

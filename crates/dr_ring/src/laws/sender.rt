@@ -1,10 +1,11 @@
 //! The sender's steps.
 
-ghost use Rattle.std.specs.Prelude.{◌≡◌, ◌<◌, ◌≤◌, [], true, None, Some, length, Contains};
+ghost use Rattle.std.specs.Prelude.{◌≡◌, ◌<◌, ◌≤◌, [], ◌∷◌, ◌++◌, true, None, Some, length, Contains};
 ghost use Rattle.dr_graph.specs.Graph.{finals};
 ghost use Rattle.dr_ring.specs.Words.{halt_word, count_word as count_word_of};
 ghost use Rattle.dr_ring.specs.Ends.{claimed, last_look, sender_looked, halt_looked, half_written, written, published_to, sender_halted, sender_closed, HasRoom, IsOpen, AreWritten};
-ghost use Rattle.dr_ring.specs.Seats.{IsAtTable, IsBeginning, end_of, past_of, IsSender, sender_of, as_sender};
+ghost use Rattle.dr_ring.specs.declared.record.Step.TheVariants.{SenderStoresFirst, SenderStoresSecond, SenderPublishes, SenderHalts, SenderCloses};
+ghost use Rattle.dr_ring.specs.Seats.{IsAtTable, IsBeginning, end_of, past_of, stored_of, IsSender, sender_of, as_sender};
 
 use super::{Names, RingSeat, Words};
 use crate::plan::{CLOSED_WORD, CURSOR_WORD, HALT_WORD, Plan, count_word};
@@ -16,9 +17,9 @@ use std::marker::{Brand, PhantomData};
 struct LooksAtCount;
 
 impl Play<u64, View> for LooksAtCount {
-    ghost use Rattle.dr_ring.specs.Seats.{Told, SenderLookedAtCount};
+    ghost use Rattle.dr_ring.specs.Seats.{Loads, SenderLookedAtCount};
 
-    ghost then = { Told SenderLookedAtCount };
+    ghost then = { Loads SenderLookedAtCount };
 }
 
 struct LooksAtHalt<J> {
@@ -26,9 +27,9 @@ struct LooksAtHalt<J> {
 }
 
 impl<J: Names> Play<u64, View> for LooksAtHalt<J> {
-    ghost use Rattle.dr_ring.specs.Seats.{Told, SenderLookedAtHalt};
+    ghost use Rattle.dr_ring.specs.Seats.{Loads, SenderLookedAtHalt};
 
-    ghost then = { Told (SenderLookedAtHalt J.number) };
+    ghost then = { Loads (SenderLookedAtHalt J.number) };
 }
 
 struct StoresFirst<J> {
@@ -36,41 +37,46 @@ struct StoresFirst<J> {
 }
 
 impl<J: Names> Play<u64, View> for StoresFirst<J> {
-    ghost use Rattle.dr_ring.specs.Seats.{Told, SenderStoredFirst};
+    ghost use Rattle.dr_ring.specs.declared.record.Step.TheVariants.{SenderStoresFirst};
+    ghost use Rattle.dr_ring.specs.Seats.{Stores, SenderStoredFirst};
 
-    ghost then = { Told (SenderStoredFirst J.number) };
+    ghost then = { Stores (λ _ n. SenderStoresFirst J.number n) (SenderStoredFirst J.number) };
 }
 
 struct StoresSecond;
 
 impl Play<u64, View> for StoresSecond {
-    ghost use Rattle.dr_ring.specs.Seats.{Told, SenderStoredSecond};
+    ghost use Rattle.dr_ring.specs.declared.record.Step.TheVariants.{SenderStoresSecond};
+    ghost use Rattle.dr_ring.specs.Seats.{Stores, SenderStoredSecond};
 
-    ghost then = { Told SenderStoredSecond };
+    ghost then = { Stores (λ _ n. SenderStoresSecond n) SenderStoredSecond };
 }
 
 struct Publishes;
 
 impl Play<u64, View> for Publishes {
-    ghost use Rattle.dr_ring.specs.Seats.{Told, SenderPublished};
+    ghost use Rattle.dr_ring.specs.declared.record.Step.TheVariants.{SenderPublishes};
+    ghost use Rattle.dr_ring.specs.Seats.{Stores, SenderPublished};
 
-    ghost then = { Told SenderPublished };
+    ghost then = { Stores (λ _ n. SenderPublishes n) SenderPublished };
 }
 
 struct Halts;
 
 impl Play<u64, View> for Halts {
-    ghost use Rattle.dr_ring.specs.Seats.{Told, SenderHalted};
+    ghost use Rattle.dr_ring.specs.declared.record.Step.TheVariants.{SenderHalts};
+    ghost use Rattle.dr_ring.specs.Seats.{Stores, SenderHalted};
 
-    ghost then = { Told SenderHalted };
+    ghost then = { Stores (λ _ _. SenderHalts) SenderHalted };
 }
 
 struct Closes;
 
 impl Play<u64, View> for Closes {
-    ghost use Rattle.dr_ring.specs.Seats.{Told, SenderClosed};
+    ghost use Rattle.dr_ring.specs.declared.record.Step.TheVariants.{SenderCloses};
+    ghost use Rattle.dr_ring.specs.Seats.{Stores, SenderClosed};
 
-    ghost then = { Told SenderClosed };
+    ghost then = { Stores (λ _ _. SenderCloses) SenderClosed };
 }
 
 /// The sender looks at a final handler's count.
@@ -82,6 +88,7 @@ pub fn look_at_count(words: &Words, seat: &mut RingSeat, plan: &Plan, handler: u
     ensures seat { (seat.new.table_id ≡ seat.old.table_id) × (seat.new.id ≡ seat.old.id) }
     ensures end { end_of seat.new.me ≡ as_sender (sender_looked (sender_of seat.old.me.0.ends) (count_word_of handler) result) }
     ensures past { IsBeginning (past_of seat.old.me.0) (past_of seat.new.me.0) }
+    ensures stored { stored_of seat.new.me.0 ≡ stored_of seat.old.me.0 }
     ensures rises { last_look 0 (sender_of seat.old.me.0.ends).looks (count_word_of handler) ≤ result }
     ensures published { result ≤ length (sender_of seat.old.me.0.ends).published }
 {
@@ -98,6 +105,7 @@ fn look_and_claim<J: Names>(words: &Words, seat: &mut RingSeat, plan: &Plan, cou
     ensures seat { (seat.new.table_id ≡ seat.old.table_id) × (seat.new.id ≡ seat.old.id) }
     ensures end { end_of seat.new.me ≡ as_sender (halt_looked (sender_of seat.old.me.0.ends) count result) }
     ensures past { IsBeginning (past_of seat.old.me.0) (past_of seat.new.me.0) }
+    ensures stored { stored_of seat.new.me.0 ≡ stored_of seat.old.me.0 }
     ensures rises { last_look 0 (sender_of seat.old.me.0.ends).looks halt_word ≤ result }
     ensures flag { result ≤ 1 }
     ensures own { (sender_of seat.old.me.0.ends).halted ≡ true → result ≡ 1 }
@@ -117,6 +125,7 @@ pub fn look_at_halt(words: &Words, seat: &mut RingSeat, plan: &Plan, count: u64)
     ensures seat { (seat.new.table_id ≡ seat.old.table_id) × (seat.new.id ≡ seat.old.id) }
     ensures end { end_of seat.new.me ≡ as_sender (halt_looked (sender_of seat.old.me.0.ends) count result) }
     ensures past { IsBeginning (past_of seat.old.me.0) (past_of seat.new.me.0) }
+    ensures stored { stored_of seat.new.me.0 ≡ stored_of seat.old.me.0 }
     ensures rises { last_look 0 (sender_of seat.old.me.0.ends).looks halt_word ≤ result }
     ensures flag { result ≤ 1 }
     ensures own { (sender_of seat.old.me.0.ends).halted ≡ true → result ≡ 1 }
@@ -140,6 +149,7 @@ fn store_first_named<J: Names>(
     ensures seat { (seat.new.table_id ≡ seat.old.table_id) × (seat.new.id ≡ seat.old.id) }
     ensures end { end_of seat.new.me ≡ as_sender (half_written (sender_of seat.old.me.0.ends) sequence first) }
     ensures past { IsBeginning (past_of seat.old.me.0) (past_of seat.new.me.0) }
+    ensures stored { stored_of seat.new.me.0 ≡ stored_of seat.old.me.0 ++ SenderStoresFirst sequence first ∷ [] }
 {
     words.store::<StoresFirst<J>>(seat, plan.payload_word(sequence, 0), first);
 }
@@ -155,6 +165,7 @@ pub fn store_first(words: &Words, seat: &mut RingSeat, plan: &Plan, sequence: u6
     ensures seat { (seat.new.table_id ≡ seat.old.table_id) × (seat.new.id ≡ seat.old.id) }
     ensures end { end_of seat.new.me ≡ as_sender (half_written (sender_of seat.old.me.0.ends) sequence first) }
     ensures past { IsBeginning (past_of seat.old.me.0) (past_of seat.new.me.0) }
+    ensures stored { stored_of seat.new.me.0 ≡ stored_of seat.old.me.0 ++ SenderStoresFirst sequence first ∷ [] }
 {
     store_first_named::<Brand>(words, seat, plan, sequence, first);
 }
@@ -168,6 +179,7 @@ pub fn store_second(words: &Words, seat: &mut RingSeat, plan: &Plan, sequence: u
     ensures seat { (seat.new.table_id ≡ seat.old.table_id) × (seat.new.id ≡ seat.old.id) }
     ensures end { end_of seat.new.me ≡ as_sender (written (sender_of seat.old.me.0.ends) sequence event) }
     ensures past { IsBeginning (past_of seat.old.me.0) (past_of seat.new.me.0) }
+    ensures stored { stored_of seat.new.me.0 ≡ stored_of seat.old.me.0 ++ SenderStoresSecond event.second ∷ [] }
 {
     words.store::<StoresSecond>(seat, plan.payload_word(sequence, 1), event.second);
 }
@@ -184,6 +196,7 @@ pub fn publish(words: &Words, seat: &mut RingSeat, plan: &Plan, upto: u64)
     ensures seat { (seat.new.table_id ≡ seat.old.table_id) × (seat.new.id ≡ seat.old.id) }
     ensures end { end_of seat.new.me ≡ as_sender (published_to (sender_of seat.old.me.0.ends) upto) }
     ensures past { IsBeginning (past_of seat.old.me.0) (past_of seat.new.me.0) }
+    ensures stored { stored_of seat.new.me.0 ≡ stored_of seat.old.me.0 ++ SenderPublishes upto ∷ [] }
 {
     let _plan = plan;
     words.store::<Publishes>(seat, CURSOR_WORD, upto);
@@ -196,6 +209,7 @@ pub fn halt(words: &Words, seat: &mut RingSeat, plan: &Plan)
     ensures seat { (seat.new.table_id ≡ seat.old.table_id) × (seat.new.id ≡ seat.old.id) }
     ensures end { end_of seat.new.me ≡ as_sender (sender_halted (sender_of seat.old.me.0.ends)) }
     ensures past { IsBeginning (past_of seat.old.me.0) (past_of seat.new.me.0) }
+    ensures stored { stored_of seat.new.me.0 ≡ stored_of seat.old.me.0 ++ SenderHalts ∷ [] }
 {
     let _plan = plan;
     words.store::<Halts>(seat, HALT_WORD, 1);
@@ -210,6 +224,7 @@ pub fn close(words: &Words, seat: &mut RingSeat, plan: &Plan)
     ensures seat { (seat.new.table_id ≡ seat.old.table_id) × (seat.new.id ≡ seat.old.id) }
     ensures end { end_of seat.new.me ≡ as_sender (sender_closed (sender_of seat.old.me.0.ends)) }
     ensures past { IsBeginning (past_of seat.old.me.0) (past_of seat.new.me.0) }
+    ensures stored { stored_of seat.new.me.0 ≡ stored_of seat.old.me.0 ++ SenderCloses ∷ [] }
 {
     let _plan = plan;
     words.store::<Closes>(seat, CLOSED_WORD, 1);

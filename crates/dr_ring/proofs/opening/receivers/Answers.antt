@@ -18,14 +18,14 @@ invariant_of-push c =
     let t = c.requires.table in let count = c.handlers-handlers.ensures.count ∙ ap (λ r. handlers_of r.plan) c.deref.ensures in let test = c.loop-number-test.true in
     subst (λ r. ReceiverFits r.table.shared.table_id c.split_seat-next.new.seat.table_id (end_of c.split_seat-next.new.seat.me) r.plan c.loop-number.number 0 0 0) (sym c.in_ok-own.ensures)
     (fits_receiver _ _ _ _ c.loop-number.number (c.split_seat-next.ensures.0 ∙ c.loop-number.invariant.0 ∙ t.0, t.1) c.requires.made (omega arith)
-    (cut_own _ c.loop-number.number _ _ _ (omega arith) c.loop-number.invariant.1 (ap (λ (m : Sitting). end_of m) c.split_seat-next.ensures.2)))
+    (ap (λ (m : Sitting). end_of m) (cut_own _ c.loop-number.number _ _ _ (omega arith) c.loop-number.invariant.1 c.split_seat-next.ensures.2)))
 
 pub loop-number-preserved : goal.loop-number-preserved
 loop-number-preserved c =
     let own = c.split_seat-next.ensures in let inv = c.loop-number.invariant in
     let count = c.handlers-handlers.ensures.count ∙ ap (λ r. handlers_of r.plan) c.deref.ensures in let test = c.loop-number-test.true in (
       own.3 ∙ inv.0,
-      cut_rest _ c.loop-number.number _ _ _ (omega arith) inv.1 (ap (λ (m : Sitting). end_of m) own.4),
+      cut_rest _ c.loop-number.number _ _ _ (omega arith) inv.1 own.4,
       listed_next c.args.rest.table_id _ c.loop-number.number _ c.loop-number.receivers.items _ _ _ (omega arith) inv.2 c.in_ok-push.ensures.items
-          (view_fresh c.args.rest.table_id _ _ _ c.loop-number.number (own.0 ∙ inv.0) (cut_own _ c.loop-number.number _ _ _ (omega arith) inv.1 (ap (λ (m : Sitting). end_of m) own.2))),
+          (view_fresh c.args.rest.table_id _ _ _ c.loop-number.number (own.0 ∙ inv.0) (cut_own _ c.loop-number.number _ _ _ (omega arith) inv.1 own.2)),
     )
