@@ -23,7 +23,8 @@ use Rattle.dr_ring.proofs.Keeps.{receiver_of_handler, upstream_inside}
 use Rattle.dr_ring.proofs.Seats.{adds_nothing, adds_one, by_sender, by_receiver, by_halter}
 
 -- a load stores what was there
-same_words : (k : Shape) (s : Step) (w : World) (i : ℕ) (r : SenderRecord) (rs : List ReceiverRecord) (t : HalterRecord) → Happens k s w (world_of w.words r rs t)
+same_words : (k : Shape) (s : Step) (w : World) (i : ℕ) (r : SenderRecord) (rs : List ReceiverRecord) (t : HalterRecord)
+    → Happens k s w (world_of w.words r rs t)
     → Happens k s w (world_of (set w.words i (get_or w.words i 0)) r rs t)
 same_words k s w i r rs t H = subst (λ (us : List ℕ). Happens k s w (world_of us r rs t)) (sym (set-get_or w.words i 0)) H
 
@@ -134,7 +135,8 @@ sender_halts k slots id me is = along_sender (λ m. Allows (Ruled k) slots id m 
     (λ w e K. refl))
 
 pub sender_closes : (k : Shape) (slots id : ℕ) (me : Sitting) → IsSender (end_of me) → (sender_of me.0.ends).halted ≡ true
-    → (sender_of me.0.ends).pending ≡ [] → Allows (Ruled k) slots id me closed_word (λ _. 1) (λ _. Stores (λ _ _. SenderCloses) SenderClosed (step slots closed_word 1 0 none) me 1)
+    → (sender_of me.0.ends).pending ≡ []
+    → Allows (Ruled k) slots id me closed_word (λ _. 1) (λ _. Stores (λ _ _. SenderCloses) SenderClosed (step slots closed_word 1 0 none) me 1)
 sender_closes k slots id me is halted all = along_sender (λ m. Allows (Ruled k) slots id m closed_word (λ _. 1) (λ _. Stores (λ _ _. SenderCloses) SenderClosed (step slots closed_word 1 0 none) m 1)) me is
     (let r = sender_of me.0.ends in
     by_sender k slots id SenderCloses (λ stores. stores ++ SenderCloses ∷ []) me.0.pasts r closed_word (λ _. 1) (λ _. sender_closed r) (λ _. SenderClosed (step slots closed_word 1 0 none) (as_sender r) 1)

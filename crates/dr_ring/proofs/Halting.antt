@@ -44,7 +44,11 @@ halted_step k (SenderStoresSecond v) w u n H K is =
     subst (HaltedAt n) (sym H.2) (
       other_word w n (payload_word k H.0.sequence 1) v (λ e. omega arith) is.0,
       (let c = is.1 in
-          omega (arith, length-set w.sender.pending (H.0.sequence - length w.sender.published) (let x : Option Event = Some record { first = H.0.first; second = v } in x))),
+          omega (
+            arith,
+            length-set w.sender.pending (H.0.sequence - length w.sender.published) (let x : Option Event = Some record { first = H.0.first; second = v } in
+                x),
+          )),
     )
 halted_step k (SenderPublishes m) w u n H K is = subst (HaltedAt n) (sym H.4) (other_word w n cursor_word m (λ e. omega arith) is.0, still_claimed w.sender m H.0 H.1 ∙ is.1)
 halted_step k SenderHalts w u n H K is = let wide = K.wide in subst (HaltedAt n) (sym H) (get_or-set_same w.words halt_word 1 0 (omega arith), is.1)

@@ -41,7 +41,8 @@ fresh_seat k h = seat_at (as_receiver (fresh_receiver k h)) ([] ∷ [])
 pub cut_own : (k : Shape) (h n : ℕ) (me me' : Sitting) → h < n → me ≡ receivers_seat k h (n - h) → me' ≡ first_cut me → me' ≡ fresh_seat k h
 cut_own k h n me me' lt was is = is ∙ ap first_cut was ∙ ap (λ (rs : List ReceiverRecord). first_cut (seat_for rs)) (fresh_next k h n lt)
 
-pub cut_rest : (k : Shape) (h n : ℕ) (me me' : Sitting) → h < n → me ≡ receivers_seat k h (n - h) → me' ≡ rest_cut me → me' ≡ receivers_seat k (h + 1) (n - (h + 1))
+pub cut_rest : (k : Shape) (h n : ℕ) (me me' : Sitting) → h < n → me ≡ receivers_seat k h (n - h) → me' ≡ rest_cut me
+    → me' ≡ receivers_seat k (h + 1) (n - (h + 1))
 cut_rest k h n me me' lt was is = is ∙ ap rest_cut was ∙ ap (λ (rs : List ReceiverRecord). rest_cut (seat_for rs)) (fresh_next k h n lt)
 
 pub fits_receiver : (at own : TableId) (me : End) (k : Shape) (h : ℕ) → IsAtTable own at k → IsPlan k → h < handlers_of k → me ≡ as_receiver (fresh_receiver k h) → ReceiverFits at own me k h 0 0 0

@@ -1,4 +1,4 @@
-use Rattle.std.proofs.Common.{◌≡◌, ◌-◌, [], ◌++◌, map}
+use Rattle.std.proofs.Common.{◌≡◌, ◌-◌, ◌++◌, map}
 use Rattle.std.specs.Arc.{arc_value}
 use Rattle.dr_ring.specs.Shape.{handlers_of}
 use Rattle.dr_ring.specs.Moments.{fresh_receivers}
