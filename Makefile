@@ -13,6 +13,7 @@ run: disruptor
 	./disruptor drive examples/first_event.csv
 
 test:
+	tests/steps_in_laws.sh
 	tests/gate.sh
 
 clean:

@@ -3,7 +3,8 @@ use Rattle.std.proofs.Common.{◌≡◌, ◌≢◌, ℕ, zero, suc, ◌+◌, ◌
 use Rattle.std.proofs.lemmas.Bool.{eq-eqb, ne_eqb}
 use mathlib.Core.Option.{some, some-injective, some-ne-none}
 use lib.ListN.{get_elem?}
-use Rattle.atomic_table.specs.Table.{opening, Splits, Joins}
+use Rattle.atomic_table.specs.Table.{Splits, Joins}
+use Rattle.atomic_table.specs.Table.{opening as table_opening}
 use Rattle.atomic_table.proofs.Lists.{at_set}
 use Rattle.dr_graph.specs.Graph.{IsGraph}
 use Rattle.dr_ring.specs.Shape.{Shape, handlers_of}
@@ -11,10 +12,13 @@ use Rattle.dr_ring.specs.Words.{words_of}
 use Rattle.dr_ring.specs.declared.record.ReceiverRecord.{ReceiverRecord}
 use Rattle.dr_ring.specs.declared.record.EndRecord.{EndRecord}
 use Rattle.dr_ring.specs.declared.record.EndRecord.TheVariants.{Sends, Receives, Halts}
-use Rattle.dr_ring.specs.Kept.{World, Kept}
-use Rattle.dr_ring.specs.Moments.{fresh_sender, fresh_receivers, fresh_halter}
-use Rattle.dr_ring.specs.Seats.{Known, end_number, Stands, world_of, Ruled, all_ends}
-use Rattle.dr_ring.proofs.Beginning.{fresh_at, kept_opening}
+use Rattle.dr_ring.specs.Kept.{World}
+use Rattle.dr_ring.specs.Moments.{fresh_sender, fresh_receivers, fresh_halter, opening}
+use Rattle.dr_ring.specs.Seats.{Known, EachPast, Saw, end_number, Stands, world_of, Ruled, all_ends}
+use Rattle.dr_ring.specs.Settling.{both_views}
+use Rattle.dr_ring.specs.declared.record.Step.{Step}
+use Rattle.dr_ring.specs.declared.record.View.{View}
+use Rattle.dr_ring.proofs.Beginning.{fresh_at}
 use Rattle.dr_ring.proofs.Seats.{StandsAt}
 
 -- the receivers' records in the first view
@@ -35,19 +39,43 @@ stands_fresh k ws n (suc (suc j)) e at = let t = known_at (fresh_receivers k 0 n
     subst (λ (x : EndRecord). (end_number x ≡ suc (suc j)) × Stands (fresh_world k ws n) x) (sym t.2)
     ((let g = number in omega arith), ap (λ (m : ℕ). get_elem? (fresh_receivers k 0 n) m) number ∙ t.1)
 
-one_view : (P : ℕ → Known → Type 0) (first : Known) → P 0 first → (id : ℕ) (v : Known) → get_elem? (first ∷ []) id ≡ some v → P id v
+one_view : (P : ℕ → View → Type 0) (first : View) → P 0 first → (id : ℕ) (v : View) → get_elem? (first ∷ []) id ≡ some v → P id v
 one_view P first p zero v at = subst (P 0) (some-injective first v at) p
 one_view P first p (suc id) v at = absurd (some-ne-none v (sym at))
 
-pub ruled_fresh : (k : Shape) (ws : List ℕ) → ws ≡ replicate (words_of k) 0 → IsGraph k.upstreams → 0 < k.size → Ruled k (opening ws [] (all_ends k))
+saw_fresh : (k : Shape) (e : EndRecord) → Stands (opening k) e → Saw k [] e []
+saw_fresh k e stands = record { begins = ([], refl); entries = []; world = opening k; runs = (refl, refl); stands = stands; stores = refl }
+
+each_receiver : (P : EndRecord → List Step → Type 0) (rs : List ReceiverRecord)
+    → ((j : ℕ) (r : ReceiverRecord) → get_elem? rs j ≡ some r → P (Receives r) []) → EachPast P (map (λ r. Receives r) rs) (map (λ r. []) rs)
+each_receiver P [] all = tt
+each_receiver P (r ∷ rs) all = (all 0 r refl, each_receiver P rs (λ j q at. all (suc j) q at))
+
+all_fresh_saw : (k : Shape) → EachPast (Saw k []) (all_ends k).ends (all_ends k).pasts
+all_fresh_saw k = let rs = fresh_receivers k 0 (handlers_of k) in (
+  saw_fresh k (Sends (fresh_sender k)) refl,
+  (
+    saw_fresh k (Halts (fresh_halter k)) refl,
+    each_receiver (Saw k []) rs
+        (λ j r at. (let number : r.number ≡ j = ap (λ (q : ReceiverRecord). q.number) (fresh_at k 0 (handlers_of k) j r at) ∙ omega arith in
+        saw_fresh k (Receives r) (ap (λ (m : ℕ). get_elem? rs m) number ∙ at))),
+  ),
+)
+
+pub ruled_fresh : (k : Shape) (ws : List ℕ) → ws ≡ replicate (words_of k) 0 → IsGraph k.upstreams → 0 < k.size → Ruled k (table_opening ws [] (all_ends k))
 ruled_fresh k ws is graph some_slot = let rs = fresh_receivers k 0 (handlers_of k) in record {
   sender = fresh_sender k;
   receivers = rs;
   halter = fresh_halter k;
-  kept = subst (λ (us : List ℕ). Kept k (world_of us (fresh_sender k) rs (fresh_halter k))) (sym is) (kept_opening k graph some_slot);
+  graph = graph;
+  some_slot = some_slot;
+  steps = [];
+  entries = [];
+  runs = (refl, ap (λ (us : List ℕ). world_of us (fresh_sender k) rs (fresh_halter k)) (sym is));
   place = λ e. (0, e);
-  each_end = one_view (λ id v. (j : ℕ) (e : EndRecord) → get_elem? v j ≡ some e → ((0, end_number e) ≡ (id, j)) × Stands (fresh_world k ws (handlers_of k)) e) (all_ends k)
+  each_end = one_view (λ id v. (j : ℕ) (e : EndRecord) → get_elem? v.ends j ≡ some e → ((0, end_number e) ≡ (id, j)) × Stands (fresh_world k ws (handlers_of k)) e) (all_ends k)
       (λ j e at. let t = stands_fresh k ws (handlers_of k) j e at in (ap (λ (m : ℕ). let p : ℕ × ℕ = (0, m) in p) t.0, t.1));
+  each_past = one_view (λ id v. EachPast (Saw k []) v.ends v.pasts) (all_ends k) (all_fresh_saw k);
 }
 
 -- a list with one more
@@ -82,22 +110,54 @@ rest_of_view : (v : Known) (j : ℕ) (e : EndRecord) → get_elem? (drop 1 v) j 
 rest_of_view [] j e at = absurd (some-ne-none e (sym at))
 rest_of_view (x ∷ xs) j e at = at
 
-pub cuts : (k : Shape) (id : ℕ) (v : Known) → Splits (Ruled k) id v (take 1 v) (drop 1 v)
+each_first : (P : EndRecord → List Step → Type 0) (es : List EndRecord) (ps : List (List Step)) → EachPast P es ps → EachPast P (take 1 es) (take 1 ps)
+each_first P [] [] A = tt
+each_first P [] (p ∷ ps) A = absurd A
+each_first P (e ∷ es) [] A = absurd A
+each_first P (e ∷ es) (p ∷ ps) A = (A.0, tt)
+
+each_rest : (P : EndRecord → List Step → Type 0) (es : List EndRecord) (ps : List (List Step)) → EachPast P es ps → EachPast P (drop 1 es) (drop 1 ps)
+each_rest P [] [] A = tt
+each_rest P [] (p ∷ ps) A = absurd A
+each_rest P (e ∷ es) [] A = absurd A
+each_rest P (e ∷ es) (p ∷ ps) A = A.1
+
+each_both : (P : EndRecord → List Step → Type 0) (es fs : List EndRecord) (ps qs : List (List Step)) → EachPast P es ps → EachPast P fs qs
+    → EachPast P (es ++ fs) (ps ++ qs)
+each_both P [] fs [] qs A B = B
+each_both P [] fs (p ∷ ps) qs A B = absurd A
+each_both P (e ∷ es) fs [] qs A B = absurd A
+each_both P (e ∷ es) fs (p ∷ ps) qs A B = (A.0, each_both P es fs ps qs A.1 B)
+
+pub cuts : (k : Shape) (id : ℕ) (v : View)
+    → Splits (Ruled k) id v (record { ends = take 1 v.ends; pasts = take 1 v.pasts }) (record { ends = drop 1 v.ends; pasts = drop 1 v.pasts })
 cuts k id v s R mine = let new = length s.views in let place' : ℕ → ℕ × ℕ = λ e. moved id new (R.place e) in let w = world_of s.words R.sender R.receivers R.halter in
-    let P : ℕ → Known → Type 0 = λ id' u. (j : ℕ) (e : EndRecord) → get_elem? u j ≡ some e → StandsAt place' w id' j e in record {
+    let left : View = record { ends = take 1 v.ends; pasts = take 1 v.pasts } in let right : View = record { ends = drop 1 v.ends; pasts = drop 1 v.pasts } in
+    let P : ℕ → View → Type 0 = λ id' u. (j : ℕ) (e : EndRecord) → get_elem? u.ends j ≡ some e → StandsAt place' w id' j e in record {
       sender = R.sender;
       receivers = R.receivers;
       halter = R.halter;
-      kept = R.kept;
+      graph = R.graph;
+      some_slot = R.some_slot;
+      steps = R.steps;
+      entries = R.entries;
+      runs = R.runs;
       place = place';
-      each_end = λ id' u at. elim (last_or (set s.views id (take 1 v)) (drop 1 v) u id' at) [
-        | inl there ↦ elim (at_set s.views id id' (take 1 v) u there) [
-          | inl x ↦ subst (P id') x.1 (λ j e in_v. (let f = first_of_view v j e in_v in let t = R.each_end id v mine 0 e f.1 in
+      each_end = λ id' u at. elim (last_or (set s.views id left) right u id' at) [
+        | inl there ↦ elim (at_set s.views id id' left u there) [
+          | inl x ↦ subst (P id') x.1 (λ j e in_v. (let f = first_of_view v.ends j e in_v in let t = R.each_end id v mine 0 e f.1 in
               (moved_first id new (R.place (end_number e)) t.0 ∙ (λ i. (sym x.0 i, sym f.0 i)), t.1)))
           | inr x ↦ λ j e in_u. (let t = R.each_end id' u x.1 j e in_u in (moved_other id new id' j (R.place (end_number e)) x.0 t.0, t.1))
         ]
-        | inr x ↦ subst (P id') x.1 (λ j e in_v. (let t = R.each_end id v mine (suc j) e (rest_of_view v j e in_v) in
-            (moved_later id new j (R.place (end_number e)) t.0 ∙ ap (λ (m : ℕ). let q : ℕ × ℕ = (m, j) in q) (sym (x.0 ∙ length-set s.views id (take 1 v))), t.1)))
+        | inr x ↦ subst (P id') x.1 (λ j e in_v. (let t = R.each_end id v mine (suc j) e (rest_of_view v.ends j e in_v) in
+            (moved_later id new j (R.place (end_number e)) t.0 ∙ ap (λ (m : ℕ). let q : ℕ × ℕ = (m, j) in q) (sym (x.0 ∙ length-set s.views id left)), t.1)))
+      ];
+      each_past = λ id' u at. elim (last_or (set s.views id left) right u id' at) [
+        | inl there ↦ elim (at_set s.views id id' left u there) [
+          | inl x ↦ subst (λ (y : View). EachPast (Saw k R.steps) y.ends y.pasts) x.1 (each_first (Saw k R.steps) v.ends v.pasts (R.each_past id v mine))
+          | inr x ↦ R.each_past id' u x.1
+        ]
+        | inr x ↦ subst (λ (y : View). EachPast (Saw k R.steps) y.ends y.pasts) x.1 (each_rest (Saw k R.steps) v.ends v.pasts (R.each_past id v mine))
       ];
     }
 
@@ -118,26 +178,38 @@ at_both [] w j e at = inr (j, omega arith, at)
 at_both (x ∷ xs) w zero e at = inl at
 at_both (x ∷ xs) w (suc j) e at = elim (at_both xs w j e at) [ inl y ↦ inl y | inr t ↦ (let f = t.1 in inr (t.0, omega arith, t.2)) ]
 
-pub joins : (k : Shape) (id : ℕ) (v : Known) (other : ℕ) (w : Known) → Joins (Ruled k) id v other w (v ++ w) []
+pub joins : (k : Shape) (id : ℕ) (v : View) (other : ℕ) (w : View) → Joins (Ruled k) id v other w (both_views v w) (record { ends = []; pasts = [] })
 joins k id v other w s R mine apart theirs =
-    let was : get_elem? s.views other ≡ some w = elim (at_set s.views id other (v ++ w) w theirs) [ inl x ↦ absurd (apart x.0) | inr x ↦ x.1 ] in
-    let n = length v in let place' : ℕ → ℕ × ℕ = λ e. joined id n other (R.place e) in let wd = world_of s.words R.sender R.receivers R.halter in
-    let P : ℕ → Known → Type 0 = λ id' u. (j : ℕ) (e : EndRecord) → get_elem? u j ≡ some e → StandsAt place' wd id' j e in record {
+    let was : get_elem? s.views other ≡ some w = elim (at_set s.views id other (both_views v w) w theirs) [ inl x ↦ absurd (apart x.0) | inr x ↦ x.1 ] in
+    let none : View = record { ends = []; pasts = [] } in let n = length v.ends in let place' : ℕ → ℕ × ℕ = λ e. joined id n other (R.place e) in
+    let wd = world_of s.words R.sender R.receivers R.halter in
+    let P : ℕ → View → Type 0 = λ id' u. (j : ℕ) (e : EndRecord) → get_elem? u.ends j ≡ some e → StandsAt place' wd id' j e in record {
       sender = R.sender;
       receivers = R.receivers;
       halter = R.halter;
-      kept = R.kept;
+      graph = R.graph;
+      some_slot = R.some_slot;
+      steps = R.steps;
+      entries = R.entries;
+      runs = R.runs;
       place = place';
-      each_end = λ id' u at. elim (at_set (set s.views id (v ++ w)) other id' [] u at) [
-        | inl x ↦ subst (P id') x.1 (λ j e none. absurd (some-ne-none e (sym none)))
-        | inr x ↦ elim (at_set s.views id id' (v ++ w) u x.1) [
-          | inl y ↦ subst (P id') y.1 (λ j e in_both. elim (at_both v w j e in_both) [
+      each_end = λ id' u at. elim (at_set (set s.views id (both_views v w)) other id' none u at) [
+        | inl x ↦ subst (P id') x.1 (λ j e no. absurd (some-ne-none e (sym no)))
+        | inr x ↦ elim (at_set s.views id id' (both_views v w) u x.1) [
+          | inl y ↦ subst (P id') y.1 (λ j e in_both. elim (at_both v.ends w.ends j e in_both) [
             | inl in_v ↦ (let t = R.each_end id v mine j e in_v in
                 (joined_else id n other id j (R.place (end_number e)) (λ h. apart (sym h)) t.0 ∙ ap (λ (m : ℕ). let q : ℕ × ℕ = (m, j) in q) (sym y.0), t.1))
             | inr z ↦ (let t = R.each_end other w was z.0 e z.2 in
                 (joined_other id n other z.0 (R.place (end_number e)) t.0 ∙ (λ i. (sym y.0 i, sym z.1 i)), t.1))
           ])
           | inr y ↦ λ j e in_u. (let t = R.each_end id' u y.1 j e in_u in (joined_else id n other id' j (R.place (end_number e)) x.0 t.0, t.1))
+        ]
+      ];
+      each_past = λ id' u at. elim (at_set (set s.views id (both_views v w)) other id' none u at) [
+        | inl x ↦ subst (λ (y : View). EachPast (Saw k R.steps) y.ends y.pasts) x.1 tt
+        | inr x ↦ elim (at_set s.views id id' (both_views v w) u x.1) [
+          | inl y ↦ subst (λ (z : View). EachPast (Saw k R.steps) z.ends z.pasts) y.1 (each_both (Saw k R.steps) v.ends w.ends v.pasts w.pasts (R.each_past id v mine) (R.each_past other w was))
+          | inr y ↦ R.each_past id' u y.1
         ]
       ];
     }

@@ -1,6 +1,6 @@
 -- The receivers' seats come to the sender's one after another, from the last.
-use Rattle.std.proofs.Common.{◌≡◌, ℕ, zero, suc, ◌+◌, ◌<◌, ◌≤◌, List, [], ◌∷◌, ◌++◌, map, length, set, drop, sym, refl, ap, ◌∙◌, subst, arith, append_assoc, length-set}
-use Rattle.std.proofs.lemmas.List.{length-append}
+use Rattle.std.proofs.Common.{◌≡◌, ℕ, zero, suc, ◌+◌, ◌<◌, List, [], ◌∷◌, ◌++◌, map, length, set, drop, sym, refl, ap, ◌∙◌, subst, arith, append_assoc, length-set}
+use Rattle.std.proofs.lemmas.List.{length-append, length-map}
 use mathlib.Core.Option.{some, some-injective}
 use lib.ListN.{get_elem?}
 use Rattle.atomic_table.proofs.Lists.{at_longer, at_last}
@@ -10,9 +10,16 @@ use Rattle.dr_ring.specs.declared.record.SenderRecord.{SenderRecord}
 use Rattle.dr_ring.specs.declared.record.ReceiverRecord.{ReceiverRecord}
 use Rattle.dr_ring.specs.declared.record.EndRecord.{EndRecord}
 use Rattle.dr_ring.specs.declared.record.EndRecord.TheVariants.{Sends, Receives}
-use Rattle.dr_ring.specs.Seats.{Known, End, as_receiver, sender_of}
-use Rattle.dr_ring.specs.Calls.{ReceiverEnd}
-use Rattle.dr_ring.specs.Settling.{Agrees, Settles, LeadsView, IsInView, Gathers, ViewAgrees, AreOfRing, counts_of}
+use Rattle.dr_graph.specs.Graph.{IsGraph}
+use Rattle.dr_core.specs.Transcript.{Transcript, LeadsTo}
+use Rattle.dr_core.specs.Laws.{Laws}
+use Rattle.dr_ring.specs.Shape.{Shape, handlers_of, setup_of}
+use Rattle.dr_ring.specs.declared.record.Step.{Step}
+use Rattle.dr_ring.specs.Kept.{World, Kept}
+use Rattle.dr_ring.specs.Moments.{opening, picture_of, Runs}
+use Rattle.dr_ring.specs.Seats.{Known, End, Sitting, end_of, as_receiver, sender_of}
+use Rattle.dr_ring.specs.Calls.{SenderEnd, ReceiverEnd}
+use Rattle.dr_ring.specs.Settling.{Agrees, Settles, LeadsView, IsInView, Gathers, ViewAgrees, ViewRan, HasRun, AreAllEnds, AreOfRing, counts_of}
 
 abbrev pub knows_of : ReceiverEnd → ReceiverRecord
 knows_of e = e.knows
@@ -25,16 +32,6 @@ pub record Gathering (ring : TableId) (me now : End) (left seen all : List Recei
   pub in_view : (h : ℕ) (e : ReceiverEnd) → get_elem? seen h ≡ some e → IsInView now e.knows
   pub places : length counts ≡ length all
   pub filled : drop (length left) counts ≡ map (λ e. counts_of e.knows) seen
-
-append_none : (xs : List ReceiverEnd) → xs ++ [] ≡ xs
-append_none [] = refl
-append_none (x ∷ xs) = ap (λ (ys : List ReceiverEnd). x ∷ ys) (append_none xs)
-
-drop_all : (xs : List HandlerCounts) (n : ℕ) → length xs ≤ n → drop n xs ≡ []
-drop_all [] zero le = refl
-drop_all [] (suc n) le = refl
-drop_all (x ∷ xs) zero le = absurd (omega arith)
-drop_all (x ∷ xs) (suc n) le = drop_all xs n (omega arith)
 
 -- what is set at a place comes before what follows it
 drop_set : (xs : List HandlerCounts) (n : ℕ) (x : HandlerCounts) (ys : List HandlerCounts) → n < length xs → drop (n + 1) xs ≡ ys → drop n (set xs n x) ≡ x ∷ ys
@@ -102,3 +99,35 @@ settles me now rs s G V same = record {
   each = λ h r at. subst (λ (q : SenderRecord). Agrees q r) (G.same ∙ same) (V.each r (G.in_view h r at));
   follow = λ h j r u at there. V.follow r u (G.in_view h r at) (G.in_view j u there);
 }
+
+same_lists : (xs ys : List ReceiverRecord) → length xs ≡ length ys → ((h : ℕ) (r : ReceiverRecord) → get_elem? ys h ≡ some r → get_elem? xs h ≡ some r)
+    → xs ≡ ys
+same_lists [] [] e all = refl
+same_lists [] (y ∷ ys) e all = absurd (omega arith)
+same_lists (x ∷ xs) [] e all = absurd (omega arith)
+same_lists (x ∷ xs) (y ∷ ys) e all = λ i. some-injective x y (all 0 y refl) i ∷ same_lists xs ys (omega arith) (λ h r at. all (suc h) r at) i
+
+-- the run of the ends that came together
+pub has_run : (me : End) (now : Sitting) (es : List ReceiverEnd) (s : SenderEnd) → Gathers me (map knows_of es) (end_of now) → ViewRan now
+    → sender_of me.0 ≡ s.knows → AreAllEnds s es
+    → ((k : Shape) (steps : List Step) (entries : Transcript) (w : World) → IsGraph k.upstreams → 0 < k.size → Runs k steps entries (opening k) w → Kept k w)
+    → ((k : Shape) (steps : List Step) (entries : Transcript) (w : World) → IsGraph k.upstreams → 0 < k.size → Runs k steps entries (opening k) w → LeadsTo (setup_of k) entries (picture_of k w))
+    → ((k : Shape) (steps : List Step) (entries : Transcript) (w : World) → IsGraph k.upstreams → 0 < k.size → Runs k steps entries (opening k) w → Laws (setup_of k) entries)
+    → HasRun s.knows (map knows_of es)
+has_run me now es s G V same A rule leads laws =
+    let knows : sender_of now.0.ends ≡ s.knows = G.same ∙ same in let k = (sender_of now.0.ends).plan in let rs = map knows_of es in
+    let K = rule k V.steps V.entries V.world V.graph V.some_slot V.runs in
+    let receivers : V.world.receivers ≡ rs = same_lists V.world.receivers rs (K.ends ∙ ap (λ (q : SenderRecord). handlers_of q.plan) knows ∙ sym A.all ∙ sym (length-map es knows_of))
+    (λ h r at. (let known = knows_at es h r at in
+    let number : r.number ≡ h = ap (λ (q : ReceiverRecord). q.number) (sym known.2) ∙ (A.each h known.0 known.1).1 in
+    subst (λ (n : ℕ). get_elem? V.world.receivers n ≡ some r) number (V.receivers r (G.in_view h r at)))) in
+    let run : HasRun (sender_of now.0.ends) rs = record {
+      steps = V.steps;
+      entries = V.entries;
+      world = V.world;
+      runs = V.runs;
+      sender = V.sender;
+      receivers = receivers;
+      leads = leads k V.steps V.entries V.world V.graph V.some_slot V.runs;
+      laws = laws k V.steps V.entries V.world V.graph V.some_slot V.runs;
+    } in subst (λ (q : SenderRecord). HasRun q rs) knows run

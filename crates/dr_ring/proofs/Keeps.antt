@@ -78,6 +78,8 @@ flags_stay words us n a b c halt close F = record {
   by_sender = λ y. halt ∙ F.by_sender y;
   by_halter = λ y. halt ∙ F.by_halter y;
   closed = λ y. close ∙ F.closed y;
+  known_halt = λ y. F.known_halt (sym halt ∙ y);
+  known_close = λ y. F.known_close (sym close ∙ y);
   complete = λ y. let d = F.complete (sym close ∙ y) in (halt ∙ d.0, d.1);
 }
 
@@ -142,7 +144,17 @@ claims_more k w n room going K =
     sender_learns k w more (w.sender.looks ++ look halt_word (word_at w.words halt_word) ∷ []) (let l = room.limit in omega arith)
     (λ f final. (let a = room.completed f final in let i = final_inside k.upstreams f final in let b = last_look_le k w.words 0 w.sender.looks (count_word f) (omega arith) K.looks in omega arith))
     (payload_claims k w.words w.sender.published pending w.sender.half n K.payload)
-    (record { halt = F.halt; close = F.close; by_sender = F.by_sender; by_halter = F.by_halter; closed = F.closed; complete = λ c. absurd (let h = (F.complete c).0 in omega arith) })
+    (record {
+      halt = F.halt;
+      close = F.close;
+      by_sender = F.by_sender;
+      by_halter = F.by_halter;
+      closed = F.closed;
+      known_halt = F.known_halt;
+      known_close = F.known_close;
+      complete = λ c. absurd (let h = (F.complete c).0 in
+          omega arith);
+    })
     (past_more k w.words halt_word w.sender.looks (omega arith) K.looks) K
 
 abbrev opens : ℕ → ℕ → List (Option Event)

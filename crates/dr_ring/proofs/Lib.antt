@@ -17,3 +17,4 @@ pub mod Making
 pub mod Settling
 pub mod Gathering
 pub mod Inlets
+pub mod Halting

@@ -9,7 +9,7 @@ use Rattle.dr_ring.specs.declared.record.SenderRecord.{SenderRecord}
 use Rattle.dr_ring.specs.declared.record.ReceiverRecord.{ReceiverRecord}
 use Rattle.dr_ring.specs.declared.record.EndRecord.TheVariants.{Receives}
 use Rattle.dr_ring.specs.Moments.{fresh_receiver, fresh_receivers}
-use Rattle.dr_ring.specs.Seats.{Known, End, IsAtTable, as_receiver, receiver_of}
+use Rattle.dr_ring.specs.Seats.{End, Sitting, seat_at, stored_of, IsAtTable, as_receiver, receiver_of}
 use Rattle.dr_ring.specs.Calls.{SenderEnd, ReceiverEnd, HalterEnd}
 use Rattle.dr_ring.specs.Settling.{AreAllEnds}
 use Rattle.dr_ring.proofs.Lists.{there, value_at, each_set}
@@ -17,7 +17,7 @@ use Rattle.std.proofs.lemmas.Bool.{cases_lt}
 use Rattle.dr_ring.proofs.Beginning.{fresh_count}
 use mathlib.Core.Option.{some, some-injective}
 use lib.ListN.{get_elem?}
-use Rattle.dr_ring.specs.Making.{receivers_known, at_ring, AreFreshEnds}
+use Rattle.dr_ring.specs.Making.{receivers_seat, at_ring, AreFreshEnds}
 use Rattle.dr_ring.specs.Fits.{ReceiverFits}
 
 -- the next of the receivers
@@ -25,14 +25,25 @@ fresh_next : (k : Shape) (h n : ℕ) → h < n → fresh_receivers k h (n - h) �
 fresh_next k h n lt = let a : n - h ≡ suc (n - (h + 1)) = omega arith in let b : suc h ≡ h + 1 = omega arith in
     ap (fresh_receivers k h) a ∙ ap (λ (m : ℕ). fresh_receiver k h ∷ fresh_receivers k m (n - (h + 1))) b
 
-known_next : (k : Shape) (h n : ℕ) → h < n → receivers_known k h (n - h) ≡ Receives (fresh_receiver k h) ∷ receivers_known k (h + 1) (n - (h + 1))
-known_next k h n lt = ap (map (λ (r : ReceiverRecord). Receives r)) (fresh_next k h n lt)
+abbrev seat_for : List ReceiverRecord → Sitting
+seat_for rs = (record { ends = map (λ r. Receives r) rs; pasts = map (λ r. []) rs }, [])
 
-pub cut_own : (k : Shape) (h n : ℕ) (me me' : End) → h < n → me ≡ (receivers_known k h (n - h), []) → me' ≡ (take 1 me.0, me.1) → me' ≡ as_receiver (fresh_receiver k h)
-cut_own k h n me me' lt was is = is ∙ ap (λ (m : End). let e : End = (take 1 m.0, m.1) in e) was ∙ ap (λ (v : Known). let e : End = (take 1 v, []) in e) (known_next k h n lt)
+abbrev first_cut : Sitting → Sitting
+first_cut m = (record { ends = take 1 m.0.ends; pasts = take 1 m.0.pasts }, m.1)
 
-pub cut_rest : (k : Shape) (h n : ℕ) (me me' : End) → h < n → me ≡ (receivers_known k h (n - h), []) → me' ≡ (drop 1 me.0, []) → me' ≡ (receivers_known k (h + 1) (n - (h + 1)), [])
-cut_rest k h n me me' lt was is = is ∙ ap (λ (m : End). let e : End = (drop 1 m.0, []) in e) was ∙ ap (λ (v : Known). let e : End = (drop 1 v, []) in e) (known_next k h n lt)
+abbrev rest_cut : Sitting → Sitting
+rest_cut m = (record { ends = drop 1 m.0.ends; pasts = drop 1 m.0.pasts }, [])
+
+-- a receiver that has not stepped
+abbrev pub fresh_seat : Shape → ℕ → Sitting
+fresh_seat k h = seat_at (as_receiver (fresh_receiver k h)) ([] ∷ [])
+
+pub cut_own : (k : Shape) (h n : ℕ) (me me' : Sitting) → h < n → me ≡ receivers_seat k h (n - h) → me' ≡ first_cut me → me' ≡ fresh_seat k h
+cut_own k h n me me' lt was is = is ∙ ap first_cut was ∙ ap (λ (rs : List ReceiverRecord). first_cut (seat_for rs)) (fresh_next k h n lt)
+
+pub cut_rest : (k : Shape) (h n : ℕ) (me me' : Sitting) → h < n → me ≡ receivers_seat k h (n - h) → me' ≡ rest_cut me
+    → me' ≡ receivers_seat k (h + 1) (n - (h + 1))
+cut_rest k h n me me' lt was is = is ∙ ap rest_cut was ∙ ap (λ (rs : List ReceiverRecord). rest_cut (seat_for rs)) (fresh_next k h n lt)
 
 pub fits_receiver : (at own : TableId) (me : End) (k : Shape) (h : ℕ) → IsAtTable own at k → IsPlan k → h < handlers_of k → me ≡ as_receiver (fresh_receiver k h) → ReceiverFits at own me k h 0 0 0
 fits_receiver at own me k h table made lt is = subst (λ (m : End). ReceiverFits at own m k h 0 0 0) (sym is)
@@ -41,19 +52,15 @@ fits_receiver at own me k h table made lt is = subst (λ (m : End). ReceiverFits
 abbrev zeros : ℕ → List ℕ
 zeros n = replicate n 0
 
-low_zeros : (n j : ℕ) → get_or (zeros n) j 0 ≤ 0
-low_zeros zero j = omega arith
-low_zeros (suc n) zero = omega arith
-low_zeros (suc n) (suc j) = low_zeros n j
-
 pub listed_next : (t : TableId) (k : Shape) (h n : ℕ) (items new : List ReceiverEnd) (e : ReceiverEnd) (all : List ReceiverEnd) → h < n → items ++ map (at_ring t) (fresh_receivers k h (n - h)) ≡ all → new ≡ items ++ e ∷ [] → e ≡ at_ring t (fresh_receiver k h)
     → new ++ map (at_ring t) (fresh_receivers k (h + 1) (n - (h + 1))) ≡ all
 listed_next t k h n items new e all lt was is own = ap (λ (xs : List ReceiverEnd). xs ++ map (at_ring t) (fresh_receivers k (h + 1) (n - (h + 1)))) (is ∙ ap (λ (x : ReceiverEnd). items ++ x ∷ []) own)
     ∙ append_assoc items (at_ring t (fresh_receiver k h) ∷ []) (map (at_ring t) (fresh_receivers k (h + 1) (n - (h + 1))))
     ∙ ap (λ (rs : List ReceiverRecord). items ++ map (at_ring t) rs) (sym (fresh_next k h n lt)) ∙ was
 
-pub view_fresh : (t own : TableId) (me : End) (k : Shape) (h : ℕ) → own ≡ t → me ≡ as_receiver (fresh_receiver k h) → at_ring own (receiver_of me.0) ≡ at_ring t (fresh_receiver k h)
-view_fresh t own me k h same is = ap (λ (i : TableId). at_ring i (receiver_of me.0)) same ∙ ap (λ (m : End). at_ring t (receiver_of m.0)) is
+pub view_fresh : (t own : TableId) (me : Sitting) (k : Shape) (h : ℕ) → own ≡ t → me ≡ fresh_seat k h
+    → (record { ring = own; knows = receiver_of me.0.ends; stored = stored_of me.0 }) ≡ at_ring t (fresh_receiver k h)
+view_fresh t own me k h same is = λ i. (let e : ReceiverEnd = record { ring = same i; knows = receiver_of (is i).0.ends; stored = stored_of (is i).0 } in e)
 
 -- a ring has words
 pub some_words : (k : Shape) (n : ℕ) (ws : List ℕ) → n ≡ length ws → ws ≡ replicate (words_of k) 0 → 0 < n

@@ -24,7 +24,9 @@ use Rattle.dr_ring.specs.declared.record.HalfWrite.{HalfWrite}
 use Rattle.dr_ring.specs.declared.record.ReceiverRecord.{ReceiverRecord}
 use Rattle.dr_ring.specs.Ends.{claimed, look, event_or_none, halt_looked, half_written, written, published_to, receiver_looked, tells_drained, cursor_looked, half_taken, took, completed_to, HasRoom, AreWritten, IsBelowBarrier}
 use Rattle.dr_ring.specs.Kept.{World, Kept}
-use Rattle.dr_ring.specs.Steps.{Step, Sender_looks_at_count, Sender_looks_at_halt, Sender_stores_first, Sender_stores_second, Sender_publishes, Sender_halts, Sender_closes, Receiver_looks_at_closed, Receiver_looks_at_cursor, Receiver_looks_at_count, Receiver_loads_first, Receiver_loads_second, Receiver_completes, Halter_halts, Happens, sender_knows, sender_stores, receiver_knows, receiver_stores}
+use Rattle.dr_ring.specs.declared.record.Step.{Step}
+use Rattle.dr_ring.specs.declared.record.Step.TheVariants.{SenderLooksAtCount, SenderLooksAtHalt, SenderStoresFirst, SenderStoresSecond, SenderPublishes, SenderHalts, SenderCloses, ReceiverLooksAtClosed, ReceiverLooksAtCursor, ReceiverLooksAtCount, ReceiverLoadsFirst, ReceiverLoadsSecond, ReceiverCompletes, HalterHalts}
+use Rattle.dr_ring.specs.Steps.{Happens, sender_knows, sender_stores, receiver_knows, receiver_stores}
 use Rattle.dr_ring.specs.Moments.{fresh_receiver, taken_of, picture_of, entry, write_of, poll_of, receiver_at, events_of, Runs}
 use Rattle.dr_ring.proofs.Lists.{at_below, value_at, final_inside, last_look_le}
 use Rattle.dr_ring.proofs.Keeps.{word_at, receiver_of_handler, orderly, upstream_inside, keeps_sender_looks, keeps_halt_look, keeps_first, keeps_second}
@@ -32,21 +34,22 @@ use Rattle.dr_ring.proofs.Stores.{keeps_publishes, keeps_sender_halts, keeps_hal
 use Rattle.dr_ring.proofs.Machine.{shown, shown_front, claim_step, write_step, publish_step, take_step, drained_step, complete_step, counts_below, offered_at_most, offered_more}
 
 pub keeps_step : (k : Shape) (s : Step) (w u : World) → Happens k s w u → Kept k w → Kept k u
-keeps_step k (Sender_looks_at_count f) w u H K = let i = final_inside k.upstreams f H.0 in subst (Kept k) (sym H.1) (keeps_sender_looks k w (count_word f) (omega arith) K)
-keeps_step k (Sender_looks_at_halt n) w u H K = subst (Kept k) (sym H.1) (keeps_halt_look k w n H.0 K)
-keeps_step k (Sender_stores_first s v) w u H K = subst (Kept k) (sym H.2) (keeps_first k w s v H.0 H.1 K)
-keeps_step k (Sender_stores_second v) w u H K = subst (Kept k) (sym H.2) (keeps_second k w H.0 v H.1 K)
-keeps_step k (Sender_publishes n) w u H K = subst (Kept k) (sym H.4) (keeps_publishes k w n H.0 H.1 H.2 H.3 K)
-keeps_step k Sender_halts w u H K = subst (Kept k) (sym H) (keeps_sender_halts k w K)
-keeps_step k Sender_closes w u H K = subst (Kept k) (sym H.2) (keeps_closes k w H.0 H.1 K)
-keeps_step k (Receiver_looks_at_closed h) w u H K = subst (Kept k) (sym H.2) (keeps_receiver_looks k w h closed_word H.0 (omega arith) H.1 K)
-keeps_step k (Receiver_looks_at_cursor h) w u H K = subst (Kept k) (sym H.2) (keeps_cursor_look k w h H.0 H.1 K)
-keeps_step k (Receiver_looks_at_count h c) w u H K =
+keeps_step k (SenderLooksAtCount f) w u H K = let i = final_inside k.upstreams f H.0 in
+    subst (Kept k) (sym H.1) (keeps_sender_looks k w (count_word f) (omega arith) K)
+keeps_step k (SenderLooksAtHalt n) w u H K = subst (Kept k) (sym H.1) (keeps_halt_look k w n H.0 K)
+keeps_step k (SenderStoresFirst s v) w u H K = subst (Kept k) (sym H.2) (keeps_first k w s v H.0 H.1 K)
+keeps_step k (SenderStoresSecond v) w u H K = subst (Kept k) (sym H.2) (keeps_second k w H.0 v H.1 K)
+keeps_step k (SenderPublishes n) w u H K = subst (Kept k) (sym H.4) (keeps_publishes k w n H.0 H.1 H.2 H.3 K)
+keeps_step k SenderHalts w u H K = subst (Kept k) (sym H) (keeps_sender_halts k w K)
+keeps_step k SenderCloses w u H K = subst (Kept k) (sym H.2) (keeps_closes k w H.0 H.1 K)
+keeps_step k (ReceiverLooksAtClosed h) w u H K = subst (Kept k) (sym H.2) (keeps_receiver_looks k w h closed_word H.0 (omega arith) H.1 K)
+keeps_step k (ReceiverLooksAtCursor h) w u H K = subst (Kept k) (sym H.2) (keeps_cursor_look k w h H.0 H.1 K)
+keeps_step k (ReceiverLooksAtCount h c) w u H K =
     let inside = upstream_inside k K.graph h c (let b = at_below w.receivers h H.0 H.1 in let e = K.ends in omega arith) H.2.0 in subst (Kept k) (sym H.2.1) (keeps_receiver_looks k w h (count_word c) H.0 (omega arith) H.1 K)
-keeps_step k (Receiver_loads_first h) w u H K = subst (Kept k) (sym H.2.1) (keeps_half_taken k w h H.0 H.1 H.2.0 K)
-keeps_step k (Receiver_loads_second h) w u H K = subst (Kept k) (sym H.2.3) (keeps_takes k w h H.2.0 H.0 H.1 H.2.1 H.2.2 K)
-keeps_step k (Receiver_completes h n) w u H K = subst (Kept k) (sym H.2.2) (keeps_completes k w h n H.0 H.1 H.2.0 H.2.1 K)
-keeps_step k Halter_halts w u H K = subst (Kept k) (sym H) (keeps_halter_halts k w K)
+keeps_step k (ReceiverLoadsFirst h) w u H K = subst (Kept k) (sym H.2.1) (keeps_half_taken k w h H.0 H.1 H.2.0 K)
+keeps_step k (ReceiverLoadsSecond h) w u H K = subst (Kept k) (sym H.2.3) (keeps_takes k w h H.2.0 H.0 H.1 H.2.1 H.2.2 K)
+keeps_step k (ReceiverCompletes h n) w u H K = subst (Kept k) (sym H.2.2) (keeps_completes k w h n H.0 H.1 H.2.0 H.2.1 K)
+keeps_step k HalterHalts w u H K = subst (Kept k) (sym H) (keeps_halter_halts k w K)
 
 pub keeps_runs : (k : Shape) (steps : List Step) (es : Transcript) (w u : World) → Runs k steps es w u → Kept k w → Kept k u
 keeps_runs k [] es w u R K = subst (Kept k) R.1 K
@@ -314,39 +317,39 @@ is_receiver : (k : Shape) (w : World) (h : ℕ) (r : ReceiverRecord) → get_ele
 is_receiver k w h r at = value_at w.receivers h r (fresh_receiver k h) at
 
 lead_step : (k : Shape) (s : Step) (w u : World) (rest : Transcript) (end : State) → Happens k s w u → Kept k w → Leads k rest (picture_of k u) end → Leads k (events_of k s w ++ rest) (picture_of k w) end
-lead_step k (Sender_looks_at_count f) w u rest end H K L = subst (λ (x : World). Leads k rest (picture_of k x) end) H.1 L
-lead_step k (Sender_looks_at_halt n) w u rest end H K L = lead_claim k w n rest end H.0 K (subst (λ (x : World). Leads k rest (picture_of k x) end) H.1 L)
-lead_step k (Sender_stores_first s v) w u rest end H K L =
+lead_step k (SenderLooksAtCount f) w u rest end H K L = subst (λ (x : World). Leads k rest (picture_of k x) end) H.1 L
+lead_step k (SenderLooksAtHalt n) w u rest end H K L = lead_claim k w n rest end H.0 K (subst (λ (x : World). Leads k rest (picture_of k x) end) H.1 L)
+lead_step k (SenderStoresFirst s v) w u rest end H K L =
     let some_slot = K.some_slot in let i = payload_word k s 0 in let us = set w.words i v in
     let now : Leads k rest (picture_of k (sender_stores w i v (half_written w.sender s v))) end = subst (λ (x : World). Leads k rest (picture_of k x) end) H.2 L in
     let one : word_at us cursor_word ≡ word_at w.words cursor_word = get_or-set_other w.words i cursor_word v 0 (λ (e : cursor_word ≡ i). omega arith) in
     let two : word_at us halt_word ≡ word_at w.words halt_word = get_or-set_other w.words i halt_word v 0 (λ (e : halt_word ≡ i). omega arith) in
     let counts : counts_of k us ≡ counts_of k w.words = counts_stay k w.words i v (λ h inside. (λ (e : count_word h ≡ i). omega arith)) in
     subst (λ (y : State). Leads k rest y end) (λ j. shown (claimed w.sender) (values_of w.sender.published w.sender.pending) (one j) (map taken_of w.receivers) (counts j) (two j == 1)) now
-lead_step k (Sender_stores_second v) w u rest end H K L = lead_write k w H.0 v rest end H.1 K (subst (λ (x : World). Leads k rest (picture_of k x) end) H.2 L)
-lead_step k (Sender_publishes n) w u rest end H K L = lead_publish k w n rest end H.0 H.1 H.2 K (subst (λ (x : World). Leads k rest (picture_of k x) end) H.4 L)
-lead_step k Sender_halts w u rest end H K L =
+lead_step k (SenderStoresSecond v) w u rest end H K L = lead_write k w H.0 v rest end H.1 K (subst (λ (x : World). Leads k rest (picture_of k x) end) H.2 L)
+lead_step k (SenderPublishes n) w u rest end H K L = lead_publish k w n rest end H.0 H.1 H.2 K (subst (λ (x : World). Leads k rest (picture_of k x) end) H.4 L)
+lead_step k SenderHalts w u rest end H K L =
     leads_one k Halt Halting [] rest (parts k w) (record (parts k w) { halted = true }) end refl
     (lead_flag k w halt_word rest end true (omega arith) (omega arith) (halt_on k w K) (subst (λ (x : World). Leads k rest (picture_of k x) end) H L))
-lead_step k Sender_closes w u rest end H K L =
+lead_step k SenderCloses w u rest end H K L =
     lead_flag k w closed_word rest end (word_at w.words halt_word == 1) (omega arith) (omega arith)
     (ap (λ (x : ℕ). x == 1) (get_or-set_other w.words closed_word halt_word 1 0 (λ (e : halt_word ≡ closed_word). omega arith)))
     (subst (λ (x : World). Leads k rest (picture_of k x) end) H.2 L)
-lead_step k (Receiver_looks_at_closed h) w u rest end H K L =
+lead_step k (ReceiverLooksAtClosed h) w u rest end H K L =
     subst (λ (x : State). Leads k rest x end) (same_picture k w h H.0 (receiver_looked H.0 closed_word (word_at w.words closed_word)) H.1 refl) (subst (λ (x : World). Leads k rest (picture_of k x) end) H.2 L)
-lead_step k (Receiver_looks_at_cursor h) w u rest end H K L =
+lead_step k (ReceiverLooksAtCursor h) w u rest end H K L =
     subst (λ (r : ReceiverRecord). Leads k ((if tells_drained r (word_at w.words cursor_word) then entry (Poll h 1) Drained [] else []) ++ rest) (parts k w) end) (sym (is_receiver k w h H.0 H.1))
     (lead_cursor_look k w h H.0 rest end H.1 K
     (subst (λ (x : State). Leads k rest x end) (same_picture k w h H.0 (cursor_looked H.0 (word_at w.words cursor_word)) H.1 refl) (subst (λ (x : World). Leads k rest (picture_of k x) end) H.2 L)))
-lead_step k (Receiver_looks_at_count h c) w u rest end H K L =
+lead_step k (ReceiverLooksAtCount h c) w u rest end H K L =
     subst (λ (x : State). Leads k rest x end) (same_picture k w h H.0 (receiver_looked H.0 (count_word c) (word_at w.words (count_word c))) H.1 refl) (subst (λ (x : World). Leads k rest (picture_of k x) end) H.2.1 L)
-lead_step k (Receiver_loads_first h) w u rest end H K L =
+lead_step k (ReceiverLoadsFirst h) w u rest end H K L =
     subst (λ (x : State). Leads k rest x end) (same_picture k w h H.0 (half_taken H.0 (word_at w.words (payload_word k (length H.0.received) 0))) H.1 refl) (subst (λ (x : World). Leads k rest (picture_of k x) end) H.2.1 L)
-lead_step k (Receiver_loads_second h) w u rest end H K L =
+lead_step k (ReceiverLoadsSecond h) w u rest end H K L =
     subst (λ (r : ReceiverRecord). Leads k (poll_of h r.half (word_at w.words (payload_word k (length r.received) 1)) (length r.received) (available (setup_of k) (picture_of k w) h) ++ rest) (parts k w) end) (sym (is_receiver k w h H.0 H.1))
     (lead_take k w h H.2.0 H.0 rest end H.1 H.2.1 H.2.2 K (subst (λ (x : World). Leads k rest (picture_of k x) end) H.2.3 L))
-lead_step k (Receiver_completes h n) w u rest end H K L = lead_complete k w h n H.0 rest end H.1 H.2.0 H.2.1 K (subst (λ (x : World). Leads k rest (picture_of k x) end) H.2.2 L)
-lead_step k Halter_halts w u rest end H K L =
+lead_step k (ReceiverCompletes h n) w u rest end H K L = lead_complete k w h n H.0 rest end H.1 H.2.0 H.2.1 K (subst (λ (x : World). Leads k rest (picture_of k x) end) H.2.2 L)
+lead_step k HalterHalts w u rest end H K L =
     leads_one k Halt Halting [] rest (parts k w) (record (parts k w) { halted = true }) end refl
     (lead_flag k w halt_word rest end true (omega arith) (omega arith) (halt_on k w K) (subst (λ (x : World). Leads k rest (picture_of k x) end) H L))
 

@@ -1,5 +1,5 @@
 -- The ends of a ring come together.
-use Rattle.std.proofs.Common.{◌≡◌, ℕ, zero, suc, ◌+◌, ◌≤◌, inl, inr, List, [], ◌∷◌, length, get_or, set, take, sym, refl, ap, ◌∙◌, subst, arith}
+use Rattle.std.proofs.Common.{◌≡◌, ℕ, zero, suc, ◌+◌, ◌<◌, ◌≤◌, inl, inr, List, [], ◌∷◌, length, get_or, set, take, sym, refl, ap, ◌∙◌, subst, arith}
 use Rattle.std.specs.Prelude.{Contains}
 use mathlib.Core.Option.{some, none}
 use lib.ListN.{get_elem?}
@@ -7,7 +7,7 @@ use lib.Seq.{set-get_or}
 use Rattle.atomic_table.specs.Table.{step, keeps, Allows}
 use Rattle.atomic_table.proofs.Lists.{at_set}
 use Rattle.dr_seq.specs.declared.event.Event.{Event}
-use Rattle.dr_graph.specs.Graph.{upstreams_of, finals}
+use Rattle.dr_graph.specs.Graph.{upstreams_of, finals, IsGraph}
 use Rattle.dr_ring.specs.Shape.{Shape}
 use Rattle.dr_ring.specs.Words.{cursor_word, count_word}
 use Rattle.dr_ring.specs.declared.record.SenderRecord.{SenderRecord}
@@ -16,9 +16,11 @@ use Rattle.dr_ring.specs.declared.record.EndRecord.{EndRecord}
 use Rattle.dr_ring.specs.declared.record.EndRecord.TheVariants.{Sends, Receives}
 use Rattle.dr_ring.specs.Ends.{claimed}
 use Rattle.dr_ring.specs.Kept.{World, Kept}
-use Rattle.dr_ring.specs.Seats.{Known, End, world_of, Ruled, sender_of}
+use Rattle.dr_ring.specs.Seats.{Sitting, end_of, IsBeginning, EachPast, Saw, world_of, Ruled, sender_of}
+use Rattle.dr_ring.specs.declared.record.View.{View}
 use Rattle.dr_ring.specs.Settling.{Agrees, Follows, LeadsView, Compares}
-use Rattle.dr_ring.proofs.Seats.{StandsAt}
+use Rattle.dr_ring.specs.Moments.{Runs, opening}
+use Rattle.dr_ring.proofs.Seats.{StandsAt, kept_of, each_map}
 
 take_whole : (xs : List Event) (n : ℕ) → length xs ≤ n → take n xs ≡ xs
 take_whole [] zero le = refl
@@ -41,13 +43,14 @@ follows k w r u at there K has =
     let was = K.received r.number r at in let other = K.received u.number u there in
     let le = was.after u.number (subst (λ (p : Shape). Contains (upstreams_of p.upstreams r.number) u.number) was.plan has) in let count = other.count in omega arith
 
-pub compares : (k : Shape) (slots id : ℕ) (me : End) → LeadsView me → Allows (Ruled k) slots id me cursor_word (λ n. n) (Compares (step slots cursor_word 0 0 none) me)
+pub compares : (k : Shape) (slots id : ℕ) (me : Sitting) → LeadsView (end_of me)
+    → Allows (Ruled k) slots id me cursor_word (λ n. n) (Compares (step slots cursor_word 0 0 none) me)
 compares k slots id me led s R _ at _ =
     let w = world_of s.words R.sender R.receivers R.halter in let us = set s.words cursor_word (get_or s.words cursor_word 0) in
     let same : us ≡ s.words = set-get_or s.words cursor_word 0 in
-    let here : (j : ℕ) (e : EndRecord) → get_elem? me.0 j ≡ some e → StandsAt R.place w id j e = R.each_end id me.0 at in
-    let mine : w.sender ≡ sender_of me.0 = (here 0 (Sends (sender_of me.0)) led.0).1 in
-    let P : List ℕ → ℕ → Known → Type 0 = λ ws id' u. (j : ℕ) (e : EndRecord) → get_elem? u j ≡ some e → StandsAt R.place (world_of ws R.sender R.receivers R.halter) id' j e in (
+    let here : (j : ℕ) (e : EndRecord) → get_elem? me.0.ends j ≡ some e → StandsAt R.place w id j e = R.each_end id me.0 at in
+    let mine : w.sender ≡ sender_of me.0.ends = (here 0 (Sends (sender_of me.0.ends)) led.0).1 in
+    let P : List ℕ → ℕ → View → Type 0 = λ ws id' u. (j : ℕ) (e : EndRecord) → get_elem? u.ends j ≡ some e → StandsAt R.place (world_of ws R.sender R.receivers R.halter) id' j e in (
       me.0,
       keeps,
       tt,
@@ -55,18 +58,37 @@ compares k slots id me led s R _ at _ =
         sender = R.sender;
         receivers = R.receivers;
         halter = R.halter;
-        kept = subst (λ (ws : List ℕ). Kept k (world_of ws R.sender R.receivers R.halter)) (sym same) R.kept;
+        graph = R.graph;
+        some_slot = R.some_slot;
+        steps = R.steps;
+        entries = R.entries;
+        runs = subst (λ (ws : List ℕ). Runs k R.steps R.entries (opening k) (world_of ws R.sender R.receivers R.halter)) (sym same) R.runs;
         place = R.place;
         each_end = λ id' u there. subst (λ (ws : List ℕ). P ws id' u) (sym same) (elim (at_set s.views id id' me.0 u there) [
           | inl x ↦ subst (P s.words id') x.1 (λ j e in_v. (let t = here j e in_v in (t.0 ∙ ap (λ (m : ℕ). let q : ℕ × ℕ = (m, j) in q) (sym x.0), t.1)))
           | inr x ↦ R.each_end id' u x.1
         ]);
+        each_past = λ id' u there. elim (at_set s.views id id' me.0 u there) [
+          | inl x ↦ subst (λ (v : View). EachPast (Saw k R.steps) v.ends v.pasts) x.1 (R.each_past id me.0 at)
+          | inr x ↦ R.each_past id' u x.1
+        ];
       },
       (
         refl,
         record {
-          each = λ r in_view. agrees k w (sender_of me.0) r mine (here in_view.0 (Receives r) in_view.1).1 R.kept;
-          follow = λ r u in_view there. follows k w r u (here in_view.0 (Receives r) in_view.1).1 (here there.0 (Receives u) there.1).1 R.kept;
+          each = λ r in_view. agrees k w (sender_of me.0.ends) r mine (here in_view.0 (Receives r) in_view.1).1 (kept_of k s R);
+          follow = λ r u in_view there. follows k w r u (here in_view.0 (Receives r) in_view.1).1 (here there.0 (Receives u) there.1).1 (kept_of k s R);
         },
+        (let plan : (sender_of me.0.ends).plan ≡ k = ap (λ (q : SenderRecord). q.plan) (sym mine) ∙ (kept_of k s R).sender_plan in record {
+          steps = R.steps;
+          entries = R.entries;
+          world = w;
+          graph = subst (λ (p : Shape). IsGraph p.upstreams) (sym plan) R.graph;
+          some_slot = subst (λ (p : Shape). 0 < p.size) (sym plan) R.some_slot;
+          runs = subst (λ (p : Shape). Runs p R.steps R.entries (opening p) w) (sym plan) R.runs;
+          pasts = each_map (Saw k R.steps) (λ e past. IsBeginning past R.steps) me.0.ends me.0.pasts (λ j e past in_v S. S.begins) (R.each_past id me.0 at);
+          sender = mine;
+          receivers = λ r in_view. (here in_view.0 (Receives r) in_view.1).1;
+        }),
       ),
     )

@@ -1,5 +1,5 @@
 -- Stores of words that are no payload, and the receivers' steps, keep the rule.
-use Rattle.std.proofs.Common.{◌≡◌, ◌≢◌, ℕ, ◌+◌, ◌-◌, ◌<◌, ◌≤◌, inl, inr, Bool, true, ◌==◌, List, [], ◌∷◌, ◌++◌, length, get_or, set, map, take, drop, Option, Some, None, sym, refl, ap, ◌∙◌, subst, arith, length-set, get_or-set_same, get_or-set_other}
+use Rattle.std.proofs.Common.{◌⊎◌, ◌≡◌, ◌≢◌, ℕ, ◌+◌, ◌-◌, ◌<◌, ◌≤◌, inl, inr, Bool, true, ◌==◌, List, [], ◌∷◌, ◌++◌, length, get_or, set, map, take, drop, Option, Some, None, sym, refl, ap, ◌∙◌, subst, arith, length-set, get_or-set_same, get_or-set_other}
 use Rattle.std.specs.Prelude.{Contains}
 use Rattle.std.proofs.lemmas.Bool.{cases_eq, cases_lt, or_cases, and_parts, eqb-true}
 use Rattle.std.proofs.lemmas.List.{length-append, length-take, length-drop, length-map, length_push, take-append-le, take_more, get_or_append_left, get_or-append_right, get_or-take, get_or-drop, get_or-map}
@@ -84,6 +84,8 @@ keeps_publishes k w n lt le all free K =
         by_sender = λ y. one ∙ F.by_sender y;
         by_halter = λ y. one ∙ F.by_halter y;
         closed = λ y. two ∙ F.closed y;
+        known_halt = λ y. F.known_halt (sym one ∙ y);
+        known_close = λ y. F.known_close (sym two ∙ y);
         complete = λ c. absurd (not_closed (sym two ∙ c));
       };
       looks = past_set k w.words cursor_word n w.sender.looks inside rises K.looks;
@@ -115,8 +117,9 @@ flagged k w i pos lt flag a b c flags K =
     }
 
 -- the flags once halt is stored
-halts_flags : (k : Shape) (w : World) (a c : Bool) → Kept k w → HaltAndClose (set w.words halt_word 1) (length w.sender.pending) a w.sender.closed c
-halts_flags k w a c K = let F = K.flags in let wide = K.wide in
+halts_flags : (k : Shape) (w : World) (a c : Bool) → (a ≡ true) ⊎ (c ≡ true) → Kept k w
+    → HaltAndClose (set w.words halt_word 1) (length w.sender.pending) a w.sender.closed c
+halts_flags k w a c who K = let F = K.flags in let wide = K.wide in
     let here : word_at (set w.words halt_word 1) halt_word ≡ 1 = get_or-set_same w.words halt_word 1 0 (omega arith) in
     let other : word_at (set w.words halt_word 1) closed_word ≡ word_at w.words closed_word = get_or-set_other w.words halt_word closed_word 1 0 (λ (e : closed_word ≡ halt_word). omega arith) in record {
       halt = omega arith;
@@ -124,14 +127,16 @@ halts_flags k w a c K = let F = K.flags in let wide = K.wide in
       by_sender = λ y. here;
       by_halter = λ y. here;
       closed = λ y. other ∙ F.closed y;
+      known_halt = λ y. who;
+      known_close = λ y. F.known_close (sym other ∙ y);
       complete = λ y. (here, (F.complete (sym other ∙ y)).1);
     }
 
 pub keeps_sender_halts : (k : Shape) (w : World) → Kept k w → Kept k (sender_stores w halt_word 1 (sender_halted w.sender))
-keeps_sender_halts k w K = flagged k w halt_word (omega arith) (omega arith) K.flags.halt true w.sender.closed w.halter.halted (halts_flags k w true w.halter.halted K) K
+keeps_sender_halts k w K = flagged k w halt_word (omega arith) (omega arith) K.flags.halt true w.sender.closed w.halter.halted (halts_flags k w true w.halter.halted (inl refl) K) K
 
 pub keeps_halter_halts : (k : Shape) (w : World) → Kept k w → Kept k (record w { words = set w.words halt_word 1; halter = halter_halted w.halter })
-keeps_halter_halts k w K = flagged k w halt_word (omega arith) (omega arith) K.flags.halt w.sender.halted w.sender.closed true (halts_flags k w w.sender.halted true K) K
+keeps_halter_halts k w K = flagged k w halt_word (omega arith) (omega arith) K.flags.halt w.sender.halted w.sender.closed true (halts_flags k w w.sender.halted true (inr refl) K) K
 
 pub keeps_closes : (k : Shape) (w : World) → w.sender.halted ≡ true → w.sender.pending ≡ [] → Kept k w → Kept k (sender_stores w closed_word 1 (sender_closed w.sender))
 keeps_closes k w halted all K = let F = K.flags in let wide = K.wide in
@@ -139,7 +144,7 @@ keeps_closes k w halted all K = let F = K.flags in let wide = K.wide in
     let other : word_at (set w.words closed_word 1) halt_word ≡ word_at w.words halt_word = get_or-set_other w.words closed_word halt_word 1 0 (λ (e : halt_word ≡ closed_word). omega arith) in
     let halt : word_at (set w.words closed_word 1) halt_word ≡ 1 = other ∙ F.by_sender halted in
     flagged k w closed_word (omega arith) (omega arith) F.close w.sender.halted true w.halter.halted
-    (record { halt = omega arith; close = omega arith; by_sender = λ y. halt; by_halter = λ y. halt; closed = λ y. here; complete = λ y. (halt, ap length all) }) K
+    (record { halt = omega arith; close = omega arith; by_sender = λ y. halt; by_halter = λ y. halt; closed = λ y. here; known_halt = λ y. inl halted; known_close = λ y. refl; complete = λ y. (halt, ap length all) }) K
 
 -- one receiver's record changes, and no word
 receiver_changes : (k : Shape) (w : World) (h : ℕ) (q : ReceiverRecord) → ReceiverKept k w.words w.sender.published h q → Kept k w → Kept k (receiver_knows w h q)

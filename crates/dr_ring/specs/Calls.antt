@@ -10,23 +10,32 @@ use Rattle.dr_core.specs.declared.command.Polled.TheVariants.{Batch, Drained, Ga
 use Rattle.dr_graph.specs.Graph.{upstreams_of, finals, least_of}
 use Rattle.dr_ring.specs.Words.{cursor_word, closed_word, halt_word, count_word}
 use Rattle.dr_ring.specs.declared.record.Look.{Look}
+use Rattle.dr_ring.specs.declared.record.Step.{Step}
 use Rattle.dr_ring.specs.declared.record.SenderRecord.{SenderRecord}
 use Rattle.dr_ring.specs.declared.record.ReceiverRecord.{ReceiverRecord}
 use Rattle.dr_ring.specs.declared.record.HalterRecord.{HalterRecord}
 use Rattle.dr_ring.specs.Ends.{claimed, look, written, published_to, sender_halted, sender_closed, completed_to, IsOpen, AreWritten}
 
--- an end: of which ring it is, and what it knows
+-- an end: of which ring it is, what it knows, and what it has stored since the ring's opening
 pub record SenderEnd : Type 0 where
   pub ring : TableId
   pub knows : SenderRecord
+  pub stored : List Step
 
 pub record ReceiverEnd : Type 0 where
   pub ring : TableId
   pub knows : ReceiverRecord
+  pub stored : List Step
 
 pub record HalterEnd : Type 0 where
   pub ring : TableId
   pub knows : HalterRecord
+  pub stored : List Step
+
+-- a call that is not refused stores this and nothing else, and a refused one nothing
+abbrev pub StoresWhereOk : {A : Type 0} → List Step → List Step → List Step → Result A Refusal → Type 0
+StoresWhereOk stored steps stored' (Ok _) = stored' ≡ stored ++ steps
+StoresWhereOk stored steps stored' (Err _) = stored' ≡ stored
 
 -- how many looks an end counts
 abbrev pub looks_counted : List Look → ℕ

@@ -1,5 +1,5 @@
 -- The rule of a ring, which holds between any two steps.
-use Rattle.std.specs.Prelude.{◌≡◌, ℕ, ◌+◌, ◌<◌, ◌≤◌, ◌==◌, if◌then◌else◌, Bool, true, List, length, take, slice_index, slice_index_or, Option, Some, None, Contains}
+use Rattle.std.specs.Prelude.{◌≡◌, ℕ, ◌+◌, ◌<◌, ◌≤◌, ◌⊎◌, ◌==◌, if◌then◌else◌, Bool, true, List, length, take, slice_index, slice_index_or, Option, Some, None, Contains}
 use mathlib.Core.Option.{some}
 use lib.ListN.{get_elem?}
 use Rattle.dr_seq.specs.declared.event.Event.{Event}
@@ -50,6 +50,9 @@ pub record HaltAndClose (words : List ℕ) (pending : ℕ) (sender_halted sender
   pub by_sender : sender_halted ≡ true → slice_index words halt_word ≡ 1
   pub by_halter : halter_halted ≡ true → slice_index words halt_word ≡ 1
   pub closed : sender_closed ≡ true → slice_index words closed_word ≡ 1
+  -- and where it is so, one of them knows it
+  pub known_halt : slice_index words halt_word ≡ 1 → (sender_halted ≡ true) ⊎ (halter_halted ≡ true)
+  pub known_close : slice_index words closed_word ≡ 1 → sender_closed ≡ true
   pub complete : slice_index words closed_word ≡ 1 → (slice_index words halt_word ≡ 1) × (pending ≡ 0)
 
 -- looks: each was at a word that only rises, and found at most what is there now

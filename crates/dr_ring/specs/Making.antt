@@ -1,5 +1,5 @@
 -- How the ends of a new ring begin.
-use Rattle.std.specs.Prelude.{◌≡◌, ℕ, if◌then◌else◌, List, map}
+use Rattle.std.specs.Prelude.{◌≡◌, ℕ, if◌then◌else◌, List, [], map}
 use Rattle.dr_core.specs.OpenFault.{is_bad_limit}
 use Rattle.atomic_table.specs.Seated.{TableId}
 use Rattle.dr_ring.specs.declared.record.ReceiverRecord.{ReceiverRecord}
@@ -8,21 +8,27 @@ use Rattle.dr_ring.specs.declared.fault.RingFault.{RingFault}
 use Rattle.dr_ring.specs.declared.fault.RingFault.TheVariants.{BadLimit, NoMemory}
 use Rattle.dr_ring.specs.Shape.{Shape, handlers_of}
 use Rattle.dr_ring.specs.Moments.{fresh_sender, fresh_receivers, fresh_halter}
-use Rattle.dr_ring.specs.Seats.{Known}
+use Rattle.dr_ring.specs.Seats.{Known, Sitting}
 use Rattle.dr_ring.specs.Calls.{SenderEnd, ReceiverEnd, HalterEnd}
 
 -- the records of n receivers from the number h on
 abbrev pub receivers_known : Shape → ℕ → ℕ → Known
 receivers_known k h n = map (λ r. Receives r) (fresh_receivers k h n)
 
-abbrev pub at_ring : TableId → ReceiverRecord → ReceiverEnd
-at_ring ring r = record { ring = ring; knows = r }
+-- the seat that stands for them all, before any of them steps
+abbrev pub receivers_seat : Shape → ℕ → ℕ → Sitting
+receivers_seat k h n = (record { ends = receivers_known k h n; pasts = map (λ r. []) (fresh_receivers k h n) }, [])
 
--- the ends of a new ring: nothing is claimed, received or halted, and the receivers stand in the graph's order
+-- a receiver of a new ring
+abbrev pub at_ring : TableId → ReceiverRecord → ReceiverEnd
+at_ring ring r = record { ring = ring; knows = r; stored = [] }
+
+-- the ends of a new ring: nothing is claimed, received or halted, and no end has stored anything, and the receivers stand in the graph's order
 pub record AreFreshEnds (k : Shape) (s : SenderEnd) (rs : List ReceiverEnd) (t : HalterEnd) : Type 0 where
   pub sender : s.knows ≡ fresh_sender k
+  pub stored : s.stored ≡ []
   pub receivers : rs ≡ map (at_ring s.ring) (fresh_receivers k 0 (handlers_of k))
-  pub halter : t ≡ record { ring = s.ring; knows = fresh_halter k }
+  pub halter : t ≡ record { ring = s.ring; knows = fresh_halter k; stored = [] }
 
 -- why a ring is refused: its limit, or want of memory
 abbrev pub fault_of : ℕ → RingFault

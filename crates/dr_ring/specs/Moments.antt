@@ -17,7 +17,9 @@ use Rattle.dr_ring.specs.declared.record.ReceiverRecord.{ReceiverRecord}
 use Rattle.dr_ring.specs.declared.record.HalterRecord.{HalterRecord}
 use Rattle.dr_ring.specs.Ends.{claimed, tells_drained}
 use Rattle.dr_ring.specs.Kept.{World}
-use Rattle.dr_ring.specs.Steps.{Step, Sender_looks_at_count, Sender_looks_at_halt, Sender_stores_first, Sender_stores_second, Sender_publishes, Sender_halts, Sender_closes, Receiver_looks_at_closed, Receiver_looks_at_cursor, Receiver_looks_at_count, Receiver_loads_first, Receiver_loads_second, Receiver_completes, Halter_halts, Happens}
+use Rattle.dr_ring.specs.declared.record.Step.{Step}
+use Rattle.dr_ring.specs.declared.record.Step.TheVariants.{SenderLooksAtCount, SenderLooksAtHalt, SenderStoresFirst, SenderStoresSecond, SenderPublishes, SenderHalts, SenderCloses, ReceiverLooksAtClosed, ReceiverLooksAtCursor, ReceiverLooksAtCount, ReceiverLoadsFirst, ReceiverLoadsSecond, ReceiverCompletes, HalterHalts}
+use Rattle.dr_ring.specs.Steps.{Happens}
 
 -- the ends of a new ring
 abbrev pub fresh_sender : Shape → SenderRecord
@@ -72,24 +74,24 @@ receiver_at k w h = slice_index_or w.receivers h (fresh_receiver k h)
 
 -- the events of a step: a claim is decided by the sender's look at halt, a write by the store of its second word, a publication by that of the cursor, an event is taken by the load of its second word, `Drained` is told by a look at the cursor
 abbrev pub events_of : Shape → Step → World → Transcript
-events_of k (Sender_looks_at_count f) w = []
-events_of k (Sender_looks_at_halt n) w =
+events_of k (SenderLooksAtCount f) w = []
+events_of k (SenderLooksAtHalt n) w =
     if not (n == 0) && (slice_index w.words halt_word == 0) then entry (Claim 0 n) (Claimed (claimed w.sender) (claimed w.sender + n - 1)) [] else []
-events_of k (Sender_stores_first s first) w = []
-events_of k (Sender_stores_second second) w = write_of w.sender.half second
-events_of k (Sender_publishes n) w = entry (Publish 0 (slice_index w.words cursor_word) (n - 1)) Published []
-events_of k Sender_halts w = entry Halt Halting []
-events_of k Sender_closes w = []
-events_of k (Receiver_looks_at_closed h) w = []
-events_of k (Receiver_looks_at_cursor h) w =
+events_of k (SenderStoresFirst s first) w = []
+events_of k (SenderStoresSecond second) w = write_of w.sender.half second
+events_of k (SenderPublishes n) w = entry (Publish 0 (slice_index w.words cursor_word) (n - 1)) Published []
+events_of k SenderHalts w = entry Halt Halting []
+events_of k SenderCloses w = []
+events_of k (ReceiverLooksAtClosed h) w = []
+events_of k (ReceiverLooksAtCursor h) w =
     if tells_drained (receiver_at k w h) (slice_index w.words cursor_word) then entry (Poll h 1) Drained [] else []
-events_of k (Receiver_looks_at_count h u) w = []
-events_of k (Receiver_loads_first h) w = []
-events_of k (Receiver_loads_second h) w =
+events_of k (ReceiverLooksAtCount h u) w = []
+events_of k (ReceiverLoadsFirst h) w = []
+events_of k (ReceiverLoadsSecond h) w =
     let r : ReceiverRecord = receiver_at k w h in
     poll_of h r.half (slice_index w.words (payload_word k (length r.received) 1)) (length r.received) (available (setup_of k) (picture_of k w) h)
-events_of k (Receiver_completes h n) w = entry (Complete h n) Completed []
-events_of k Halter_halts w = entry Halt Halting []
+events_of k (ReceiverCompletes h n) w = entry (Complete h n) Completed []
+events_of k HalterHalts w = entry Halt Halting []
 
 -- a list of steps, with the entries of their events
 abbrev pub Runs : Shape → List Step → Transcript → World → World → Type 0

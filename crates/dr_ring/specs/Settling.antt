@@ -1,17 +1,23 @@
 -- What the ends of a ring know of each other, once they come together.
-use Rattle.std.specs.Prelude.{◌≡◌, ℕ, ◌+◌, ◌≤◌, true, List, [], length, take, slice_index_or, Contains}
+use Rattle.std.specs.Prelude.{◌≡◌, ℕ, ◌+◌, ◌<◌, ◌≤◌, true, List, [], ◌++◌, length, take, slice_index_or, Contains}
 use mathlib.Core.Option.{some}
 use lib.ListN.{get_elem?}
-use Rattle.atomic_table.specs.Table.{Step}
+use Rattle.atomic_table.specs.Table.{Step as TableStep}
 use Rattle.atomic_table.specs.Seated.{TableId}
-use Rattle.dr_graph.specs.Graph.{upstreams_of, finals}
+use Rattle.dr_graph.specs.Graph.{upstreams_of, finals, IsGraph}
 use Rattle.dr_ring.specs.declared.record.SenderRecord.{SenderRecord}
 use Rattle.dr_ring.specs.declared.record.ReceiverRecord.{ReceiverRecord}
+use Rattle.dr_ring.specs.declared.record.Step.{Step}
+use Rattle.dr_ring.specs.declared.record.View.{View}
 use Rattle.dr_ring.specs.declared.settled.HandlerCounts.{HandlerCounts}
 use Rattle.dr_ring.specs.declared.record.EndRecord.TheVariants.{Sends, Receives}
-use Rattle.dr_ring.specs.Shape.{handlers_of}
+use Rattle.dr_core.specs.Transcript.{Transcript, LeadsTo}
+use Rattle.dr_core.specs.Laws.{Laws}
+use Rattle.dr_ring.specs.Shape.{handlers_of, setup_of}
+use Rattle.dr_ring.specs.Kept.{World}
+use Rattle.dr_ring.specs.Moments.{opening, picture_of, Runs}
 use Rattle.dr_ring.specs.Ends.{claimed}
-use Rattle.dr_ring.specs.Seats.{End, sender_of}
+use Rattle.dr_ring.specs.Seats.{End, Sitting, IsBeginning, EachPast, end_of, sender_of}
 use Rattle.dr_ring.specs.Calls.{SenderEnd, ReceiverEnd}
 
 -- a receiver has the beginning of what its sender published, all of it where it was told that the ring drained, and a final handler leaves room for all that is claimed
@@ -66,6 +72,33 @@ pub record ViewAgrees (me : End) : Type 0 where
   pub each : (r : ReceiverRecord) → IsInView me r → Agrees (sender_of me.0) r
   pub follow : (r u : ReceiverRecord) → IsInView me r → IsInView me u → Follows r u
 
+-- the run that came to the records of one view, of which each end saw a beginning
+pub record ViewRan (me : Sitting) : Type 0 where
+  pub steps : List Step
+  pub entries : Transcript
+  pub world : World
+  pub graph : IsGraph (sender_of me.0.ends).plan.upstreams
+  pub some_slot : 0 < (sender_of me.0.ends).plan.size
+  pub runs : Runs (sender_of me.0.ends).plan steps entries (opening (sender_of me.0.ends).plan) world
+  pub pasts : EachPast (λ e past. IsBeginning past steps) me.0.ends me.0.pasts
+  pub sender : world.sender ≡ sender_of me.0.ends
+  pub receivers : (r : ReceiverRecord) → IsInView (end_of me) r → get_elem? world.receivers r.number ≡ some r
+
+-- the run of a ring, which came to what its ends know: its transcript leads the machine to the ring's picture, and has the five laws
+pub record HasRun (s : SenderRecord) (rs : List ReceiverRecord) : Type 0 where
+  pub steps : List Step
+  pub entries : Transcript
+  pub world : World
+  pub runs : Runs s.plan steps entries (opening s.plan) world
+  pub sender : world.sender ≡ s
+  pub receivers : world.receivers ≡ rs
+  pub leads : LeadsTo (setup_of s.plan) entries (picture_of s.plan world)
+  pub laws : Laws (setup_of s.plan) entries
+
 -- a load that changes nothing, and tells what the records of its seat's view say of each other
-abbrev pub Compares : Step ℕ → End → ℕ → End → Type 0
-Compares s me n me' = (me' ≡ me) × ViewAgrees me
+abbrev pub Compares : TableStep ℕ → Sitting → ℕ → Sitting → Type 0
+Compares s me n me' = (me' ≡ me) × ViewAgrees (end_of me) × ViewRan me
+
+-- a seat has taken in another
+abbrev pub both_views : View → View → View
+both_views v w = record { ends = v.ends ++ w.ends; pasts = v.pasts ++ w.pasts }

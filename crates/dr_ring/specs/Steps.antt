@@ -6,27 +6,12 @@ use Rattle.dr_graph.specs.Graph.{upstreams_of, finals}
 use Rattle.dr_ring.specs.Shape.{Shape}
 use Rattle.dr_ring.specs.Words.{cursor_word, closed_word, halt_word, count_word, payload_word}
 use Rattle.dr_ring.specs.declared.record.HalfWrite.{HalfWrite}
+use Rattle.dr_ring.specs.declared.record.Step.{Step}
+use Rattle.dr_ring.specs.declared.record.Step.TheVariants.{SenderLooksAtCount, SenderLooksAtHalt, SenderStoresFirst, SenderStoresSecond, SenderPublishes, SenderHalts, SenderCloses, ReceiverLooksAtClosed, ReceiverLooksAtCursor, ReceiverLooksAtCount, ReceiverLoadsFirst, ReceiverLoadsSecond, ReceiverCompletes, HalterHalts}
 use Rattle.dr_ring.specs.declared.record.SenderRecord.{SenderRecord}
 use Rattle.dr_ring.specs.declared.record.ReceiverRecord.{ReceiverRecord}
 use Rattle.dr_ring.specs.Ends.{claimed, sender_looked, halt_looked, half_written, written, published_to, sender_halted, sender_closed, receiver_looked, cursor_looked, half_taken, took, completed_to, halter_halted, HasRoom, IsOpen, AreWritten, IsBelowBarrier}
 use Rattle.dr_ring.specs.Kept.{World}
-
--- the kinds of steps, with what each names
-pub data Step : Type 0 where
-  Sender_looks_at_count : ℕ → Step  -- of a final handler
-  Sender_looks_at_halt : ℕ → Step  -- and claims so many where it finds 0
-  Sender_stores_first : ℕ → ℕ → Step  -- the first word of the event of a sequence
-  Sender_stores_second : ℕ → Step  -- the second word of the same event
-  Sender_publishes : ℕ → Step  -- all below a sequence: it stores the cursor
-  Sender_halts : Step
-  Sender_closes : Step
-  Receiver_looks_at_closed : ℕ → Step
-  Receiver_looks_at_cursor : ℕ → Step
-  Receiver_looks_at_count : ℕ → ℕ → Step  -- of an upstream
-  Receiver_loads_first : ℕ → Step  -- the first word of its next event
-  Receiver_loads_second : ℕ → Step  -- the second word of the same event
-  Receiver_completes : ℕ → ℕ → Step  -- all below a sequence: it stores its count
-  Halter_halts : Step
 
 -- the sender's record changes, and no word
 abbrev pub sender_knows : World → SenderRecord → World
@@ -48,28 +33,28 @@ ByReceiver w h Does = (r : ReceiverRecord) × (get_elem? w.receivers h ≡ some 
 
 -- a step leads from one world to another
 abbrev pub Happens : Shape → Step → World → World → Type 0
-Happens k (Sender_looks_at_count f) w w' =
+Happens k (SenderLooksAtCount f) w w' =
     Contains (finals k.upstreams) f × (w' ≡ sender_knows w (sender_looked w.sender (count_word f) (slice_index w.words (count_word f))))
-Happens k (Sender_looks_at_halt n) w w' =
+Happens k (SenderLooksAtHalt n) w w' =
     (0 < n → HasRoom k w.sender n) × (w' ≡ sender_knows w (halt_looked w.sender n (slice_index w.words halt_word)))
-Happens k (Sender_stores_first s first) w w' =
+Happens k (SenderStoresFirst s first) w w' =
     IsOpen w.sender s × (w.sender.half ≡ None) × (w' ≡ sender_stores w (payload_word k s 0) first (half_written w.sender s first))
-Happens k (Sender_stores_second second) w w' =
+Happens k (SenderStoresSecond second) w w' =
     (x : HalfWrite) × (w.sender.half ≡ Some x) × (w' ≡ sender_stores w (payload_word k x.sequence 1) second (written w.sender x.sequence record { first = x.first; second = second }))
-Happens k (Sender_publishes n) w w' =
+Happens k (SenderPublishes n) w w' =
     (length w.sender.published < n) × (n ≤ claimed w.sender) × AreWritten w.sender n × (w.sender.half ≡ None) × (w' ≡ sender_stores w cursor_word n (published_to w.sender n))
-Happens k Sender_halts w w' = w' ≡ sender_stores w halt_word 1 (sender_halted w.sender)
-Happens k Sender_closes w w' =
+Happens k SenderHalts w w' = w' ≡ sender_stores w halt_word 1 (sender_halted w.sender)
+Happens k SenderCloses w w' =
     (w.sender.halted ≡ true) × (w.sender.pending ≡ []) × (w' ≡ sender_stores w closed_word 1 (sender_closed w.sender))
-Happens k (Receiver_looks_at_closed h) w w' =
+Happens k (ReceiverLooksAtClosed h) w w' =
     ByReceiver w h (λ r. w' ≡ receiver_knows w h (receiver_looked r closed_word (slice_index w.words closed_word)))
-Happens k (Receiver_looks_at_cursor h) w w' = ByReceiver w h (λ r. w' ≡ receiver_knows w h (cursor_looked r (slice_index w.words cursor_word)))
-Happens k (Receiver_looks_at_count h u) w w' =
+Happens k (ReceiverLooksAtCursor h) w w' = ByReceiver w h (λ r. w' ≡ receiver_knows w h (cursor_looked r (slice_index w.words cursor_word)))
+Happens k (ReceiverLooksAtCount h u) w w' =
     ByReceiver w h (λ r. Contains (upstreams_of k.upstreams h) u × (w' ≡ receiver_knows w h (receiver_looked r (count_word u) (slice_index w.words (count_word u)))))
-Happens k (Receiver_loads_first h) w w' =
+Happens k (ReceiverLoadsFirst h) w w' =
     ByReceiver w h (λ r. IsBelowBarrier k h r × (w' ≡ receiver_knows w h (half_taken r (slice_index w.words (payload_word k (length r.received) 0)))))
-Happens k (Receiver_loads_second h) w w' =
+Happens k (ReceiverLoadsSecond h) w w' =
     ByReceiver w h (λ r. (first : ℕ) × (r.half ≡ Some first) × IsBelowBarrier k h r × (w' ≡ receiver_knows w h (took r record { first = first; second = slice_index w.words (payload_word k (length r.received) 1) })))
-Happens k (Receiver_completes h n) w w' =
+Happens k (ReceiverCompletes h n) w w' =
     ByReceiver w h (λ r. (r.completed ≤ n) × (n ≤ length r.received) × (w' ≡ receiver_stores w h (completed_to r n) (count_word h) n))
-Happens k Halter_halts w w' = w' ≡ record w { words = slice_set w.words halt_word 1; halter = halter_halted w.halter }
+Happens k HalterHalts w w' = w' ≡ record w { words = slice_set w.words halt_word 1; halter = halter_halted w.halter }

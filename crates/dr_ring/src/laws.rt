@@ -9,30 +9,28 @@ pub mod receiver;
 pub mod sender;
 pub mod settling;
 
-ghost use Rattle.std.specs.Prelude.{List, ◌<◌, ◌≤◌};
+ghost use Rattle.std.specs.Prelude.{List, ◌≡◌, ◌<◌, ◌≤◌, slice_index};
 ghost use Rattle.dr_graph.specs.Graph.{IsGraph};
 ghost use Rattle.dr_core.specs.Transcript.{Transcript, LeadsTo};
 ghost use Rattle.dr_core.specs.Laws.{Laws};
 ghost use Rattle.dr_ring.specs.Shape.{Shape, setup_of};
+ghost use Rattle.dr_ring.specs.Words.{halt_word};
+ghost use Rattle.dr_ring.specs.Ends.{claimed};
 ghost use Rattle.dr_ring.specs.Kept.{World, Kept};
-ghost use Rattle.dr_ring.specs.Steps.{Step};
+ghost use Rattle.dr_ring.specs.declared.record.Step.{Step};
 ghost use Rattle.dr_ring.specs.Moments.{Runs, opening, picture_of};
 
 use crate::plan::Plan;
-use crate::record::EndRecord;
+use crate::record::View;
 use atomic_table::{Seat, Shared, Table, TableRule};
 use dr_core::every_transcript_is_lawful;
 use std::alloc::Global;
-use std::collections::LinkedList;
 use std::marker::Brand;
-
-/// What a seat stands for: the records of one or more ends.
-pub type Known = LinkedList<EndRecord>;
 
 /// The rule that every step keeps.
 pub struct RingRule;
 
-impl TableRule<u64, Known, Plan> for RingRule {
+impl TableRule<u64, View, Plan> for RingRule {
     ghost use Rattle.dr_ring.specs.Seats.{Ruled, all_ends};
 
     ghost holds = { Ruled };
@@ -41,13 +39,13 @@ impl TableRule<u64, Known, Plan> for RingRule {
 }
 
 /// The words of a ring, as its ends share them.
-pub type Words = Shared<u64, Known, Plan, RingRule>;
+pub type Words = Shared<u64, View, Plan, RingRule>;
 
 /// The words of a ring with their memory.
-pub type RingTable = Table<u64, Known, Plan, RingRule, Global>;
+pub type RingTable = Table<u64, View, Plan, RingRule, Global>;
 
 /// What an end steps with.
-pub type RingSeat = Seat<u64, Known>;
+pub type RingSeat = Seat<u64, View>;
 
 /// A number that a step names, for its proof alone.
 pub trait Names {
@@ -61,12 +59,14 @@ impl Names for Brand {
 }
 
 /// Whatever steps fall in whatever order: between any two of them the rule holds, the entries of
-/// their events lead the machine to the ring's picture, and the transcript has the five laws. It
-/// does nothing when it runs: the contract is the theorem.
+/// their events lead the machine to the ring's picture, and the transcript has the five laws. Once
+/// a ring is halted, nothing more is claimed. It does nothing when it runs: the contract is the
+/// theorem.
 pub fn moments()
     ensures rule { (k : Shape) (steps : List Step) (entries : Transcript) (w : World) → IsGraph k.upstreams → 0 < k.size → Runs k steps entries (opening k) w → Kept k w }
     ensures leads { (k : Shape) (steps : List Step) (entries : Transcript) (w : World) → IsGraph k.upstreams → 0 < k.size → Runs k steps entries (opening k) w → LeadsTo (setup_of k) entries (picture_of k w) }
     ensures laws { (k : Shape) (steps : List Step) (entries : Transcript) (w : World) → IsGraph k.upstreams → 0 < k.size → Runs k steps entries (opening k) w → Laws (setup_of k) entries }
+    ensures halted { (k : Shape) (steps more : List Step) (entries rest : Transcript) (w u : World) → IsGraph k.upstreams → 0 < k.size → Runs k steps entries (opening k) w → Runs k more rest w u → slice_index w.words halt_word ≡ 1 → claimed u.sender ≡ claimed w.sender }
 {
     every_transcript_is_lawful();
 }

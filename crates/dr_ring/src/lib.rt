@@ -2,9 +2,9 @@
 //! thread of its own, and no call waits or takes memory.
 //!
 //! Begin with `specs/`: `Words` says where each word lies, `Ends` what each kind of step makes of
-//! what its end knows, `Kept` is the rule that holds between any two steps, and `Steps` lists the
-//! kinds. [`laws`] has one function a kind, and [`laws::moments`] the theorem over all lists of
-//! steps.
+//! what its end knows, `Kept` is the rule that holds between any two steps, `Steps` lists the
+//! kinds, and `Seats` says of the words that such steps made them. [`laws`] has one function a
+//! kind, and [`laws::moments`] the theorem over all lists of steps.
 #![tactic(auto)]
 
 mod body;

@@ -8,14 +8,15 @@ ghost use Rattle.dr_ring.specs.Plans.{IsPlan};
 ghost use Rattle.dr_ring.specs.Moments.{fresh_receivers};
 ghost use Rattle.dr_ring.specs.Seats.{IsAtTable};
 ghost use Rattle.dr_ring.specs.Settling.{AreAllEnds};
-ghost use Rattle.dr_ring.specs.Making.{receivers_known, at_ring, AreFreshEnds, fault_of};
+ghost use Rattle.dr_ring.specs.Making.{receivers_seat, at_ring, AreFreshEnds, fault_of};
 
 use crate::body::RingBody;
 use crate::fault::RingFault;
 use crate::halter::Halter;
-use crate::laws::{Known, RingSeat, RingTable};
+use crate::laws::{RingSeat, RingTable};
 use crate::plan::Plan;
 use crate::receiver::Receiver;
+use crate::record::View;
 use crate::sender::Sender;
 use crate::settled::HandlerCounts;
 use atomic_table::Split;
@@ -28,12 +29,12 @@ use std::sync::Arc;
 // The first record of a view stays with its seat, and the others go to another.
 struct Cut;
 
-impl Split<Known> for Cut {
+impl Split<View> for Cut {
     ghost use Rattle.std.specs.Prelude.{take, drop};
 
-    ghost left = { λ v. take 1 v };
+    ghost left = { λ v. record { ends = take 1 v.ends; pasts = take 1 v.pasts } };
 
-    ghost right = { λ v. drop 1 v };
+    ghost right = { λ v. record { ends = drop 1 v.ends; pasts = drop 1 v.pasts } };
 }
 
 // The receivers, each with its seat. `rest` stands for them all.
@@ -44,7 +45,7 @@ fn receivers(
 ) -> Result<Vec<Receiver>, AllocError>
     requires table { IsAtTable rest.table_id (arc_value ring.now).table.shared.table_id (arc_value ring.now).plan }
     requires made { IsPlan (arc_value ring.now).plan }
-    requires all { rest.me ≡ (receivers_known (arc_value ring.now).plan 0 (handlers_of (arc_value ring.now).plan), []) }
+    requires all { rest.me ≡ receivers_seat (arc_value ring.now).plan 0 (handlers_of (arc_value ring.now).plan) }
     ensures { IfOk result (λ v. v.items ≡ map (at_ring rest.table_id) (fresh_receivers (arc_value ring.now).plan 0 (handlers_of (arc_value ring.now).plan))) }
 {
     let handlers = ring.plan.handlers();

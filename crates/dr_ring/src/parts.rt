@@ -8,7 +8,7 @@ ghost use Rattle.dr_ring.specs.Ends.{halt_looked, HasRoom};
 ghost use Rattle.dr_ring.specs.Fits.{IsSeenLeast};
 ghost use Rattle.dr_ring.specs.Calls.{looks_counted, received_all};
 ghost use Rattle.dr_ring.specs.Parts.{lesser_of, Scans, LooksAtUpstreams, IsOffered, AreMarked, HasUnmarked, nothing_offered as answer_of};
-ghost use Rattle.dr_ring.specs.Seats.{IsAtTable, as_sender, as_receiver, sender_of, receiver_of, IsSender, IsReceiver};
+ghost use Rattle.dr_ring.specs.Seats.{IsAtTable, end_of, stored_of, as_sender, as_receiver, sender_of, receiver_of, IsSender, IsReceiver};
 
 use crate::laws;
 use crate::laws::{RingSeat, Words};
@@ -33,13 +33,14 @@ pub(crate) fn is_halted(
     looks: &mut u64,
 ) -> bool
     requires table { IsAtTable seat.old.table_id words.now.table_id plan.now }
-    requires end { IsSender seat.old.me }
-    requires plan { (sender_of seat.old.me.0).plan ≡ plan.now }
-    requires room { 0 < count → HasRoom plan.now (sender_of seat.old.me.0) count }
-    requires looks { looks.old ≡ looks_counted (sender_of seat.old.me.0).looks }
+    requires end { IsSender (end_of seat.old.me) }
+    requires plan { (sender_of seat.old.me.0.ends).plan ≡ plan.now }
+    requires room { 0 < count → HasRoom plan.now (sender_of seat.old.me.0.ends) count }
+    requires looks { looks.old ≡ looks_counted (sender_of seat.old.me.0.ends).looks }
     ensures seat { (seat.new.table_id ≡ seat.old.table_id) × (seat.new.id ≡ seat.old.id) }
-    ensures end { seat.new.me ≡ as_sender (halt_looked (sender_of seat.old.me.0) count (if result then 1 else 0)) }
-    ensures looks { looks.new ≡ looks_counted (sender_of seat.new.me.0).looks }
+    ensures end { end_of seat.new.me ≡ as_sender (halt_looked (sender_of seat.old.me.0.ends) count (if result then 1 else 0)) }
+    ensures looks { looks.new ≡ looks_counted (sender_of seat.new.me.0.ends).looks }
+    ensures stored { stored_of seat.new.me.0 ≡ stored_of seat.old.me.0 }
 {
     *looks = looks.saturating_add(1);
     laws::sender::look_at_halt(words, seat, plan, count) != 0
@@ -59,14 +60,15 @@ pub(crate) fn make_room(
 ) -> Option<u64>
     requires table { IsAtTable seat.old.table_id words.now.table_id plan.now }
     requires made { IsPlan plan.now }
-    requires end { IsSender seat.old.me }
-    requires plan { (sender_of seat.old.me.0).plan ≡ plan.now }
-    requires front { published ≡ length (sender_of seat.old.me.0).published }
-    requires remembered { (remembered ≤ published) × IsSeenLeast plan.now (sender_of seat.old.me.0) remembered }
-    requires looks { looks.old ≡ looks_counted (sender_of seat.old.me.0).looks }
+    requires end { IsSender (end_of seat.old.me) }
+    requires plan { (sender_of seat.old.me.0.ends).plan ≡ plan.now }
+    requires front { published ≡ length (sender_of seat.old.me.0.ends).published }
+    requires remembered { (remembered ≤ published) × IsSeenLeast plan.now (sender_of seat.old.me.0.ends) remembered }
+    requires looks { looks.old ≡ looks_counted (sender_of seat.old.me.0.ends).looks }
     ensures seat { (seat.new.table_id ≡ seat.old.table_id) × (seat.new.id ≡ seat.old.id) }
-    ensures answer { Scans plan.now (sender_of seat.old.me.0) need seat.new.me looks.new result }
+    ensures answer { Scans plan.now (sender_of seat.old.me.0.ends) need (end_of seat.new.me) looks.new result }
     ensures rises { IfSome result (λ least. remembered ≤ least) }
+    ensures stored { stored_of seat.new.me.0 ≡ stored_of seat.old.me.0 }
 {
     if remembered >= need {
         return Some(remembered);
@@ -95,13 +97,14 @@ pub(crate) fn barrier(
 ) -> u64
     requires table { IsAtTable seat.old.table_id words.now.table_id plan.now }
     requires made { IsPlan plan.now }
-    requires end { IsReceiver seat.old.me }
-    requires plan { (receiver_of seat.old.me.0).plan ≡ plan.now }
-    requires number { ((receiver_of seat.old.me.0).number ≡ handler) × (handler < handlers_of plan.now) }
-    requires cursor { length (receiver_of seat.old.me.0).received ≤ cursor }
-    requires looks { looks.old ≡ looks_counted (receiver_of seat.old.me.0).looks }
+    requires end { IsReceiver (end_of seat.old.me) }
+    requires plan { (receiver_of seat.old.me.0.ends).plan ≡ plan.now }
+    requires number { ((receiver_of seat.old.me.0.ends).number ≡ handler) × (handler < handlers_of plan.now) }
+    requires cursor { length (receiver_of seat.old.me.0.ends).received ≤ cursor }
+    requires looks { looks.old ≡ looks_counted (receiver_of seat.old.me.0.ends).looks }
     ensures seat { (seat.new.table_id ≡ seat.old.table_id) × (seat.new.id ≡ seat.old.id) }
-    ensures answer { LooksAtUpstreams plan.now handler (receiver_of seat.old.me.0) cursor seat.new.me looks.new result }
+    ensures answer { LooksAtUpstreams plan.now handler (receiver_of seat.old.me.0.ends) cursor (end_of seat.new.me) looks.new result }
+    ensures stored { stored_of seat.new.me.0 ≡ stored_of seat.old.me.0 }
 {
     let mut available = cursor;
     let mut first = true;
@@ -137,16 +140,17 @@ pub(crate) fn take_all(
     out: &mut [Event],
 )
     requires table { IsAtTable seat.old.table_id words.now.table_id plan.now }
-    requires end { IsReceiver seat.old.me }
-    requires plan { (receiver_of seat.old.me.0).plan ≡ plan.now }
-    requires number { (receiver_of seat.old.me.0).number ≡ handler }
-    requires half { (receiver_of seat.old.me.0).half ≡ None }
-    requires next { taken ≡ length (receiver_of seat.old.me.0).received }
-    requires below { IsOffered plan.now handler (receiver_of seat.old.me.0) (taken + length out.old) }
+    requires end { IsReceiver (end_of seat.old.me) }
+    requires plan { (receiver_of seat.old.me.0.ends).plan ≡ plan.now }
+    requires number { (receiver_of seat.old.me.0.ends).number ≡ handler }
+    requires half { (receiver_of seat.old.me.0.ends).half ≡ None }
+    requires next { taken ≡ length (receiver_of seat.old.me.0.ends).received }
+    requires below { IsOffered plan.now handler (receiver_of seat.old.me.0.ends) (taken + length out.old) }
     requires fits { taken + length out.old < 2 ^ 64 }
     ensures seat { (seat.new.table_id ≡ seat.old.table_id) × (seat.new.id ≡ seat.old.id) }
-    ensures end { seat.new.me ≡ as_receiver (received_all (receiver_of seat.old.me.0) out.new) }
+    ensures end { end_of seat.new.me ≡ as_receiver (received_all (receiver_of seat.old.me.0.ends) out.new) }
     ensures length { length out.new ≡ length out.old }
+    ensures stored { stored_of seat.new.me.0 ≡ stored_of seat.old.me.0 }
 {
     let mut sequence = taken;
     for event in out.iter_mut() {

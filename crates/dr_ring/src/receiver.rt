@@ -1,9 +1,10 @@
 //! An end that receives every event.
 
-ghost use Rattle.std.specs.Prelude.{◌≡◌, ◌<◌, ◌^◌, ◌||◌, length, Some};
+ghost use Rattle.std.specs.Prelude.{◌≡◌, ◌<◌, ◌^◌, ◌||◌, [], ◌∷◌, length, Some};
 ghost use Rattle.dr_core.specs.Ends.{Tells, PollAnswers, CompleteAnswers, is_drained, Takes, Completes};
 ghost use Rattle.dr_ring.specs.Shown.{receiver_place, received_of};
-ghost use Rattle.dr_ring.specs.Calls.{looks_counted, Polls, TriesToComplete};
+ghost use Rattle.dr_ring.specs.Calls.{looks_counted, StoresWhereOk, Polls, TriesToComplete};
+ghost use Rattle.dr_ring.specs.declared.record.Step.TheVariants.{ReceiverCompletes};
 
 use crate::body::RingBody;
 use crate::laws::{RingSeat, receiver as laws};
@@ -28,15 +29,15 @@ pub struct Receiver {
 
 impl Model for Receiver {
     ghost use Rattle.std.specs.Arc.{arc_value};
-    ghost use Rattle.dr_ring.specs.Seats.{receiver_of};
+    ghost use Rattle.dr_ring.specs.Seats.{end_of, stored_of, receiver_of};
     ghost use Rattle.dr_ring.specs.Calls.{ReceiverEnd};
     ghost use Rattle.dr_ring.specs.Fits.{ReceiverFits};
 
     ghost Value = { ReceiverEnd };
 
-    ghost view = { λ s. record { ring = s.seat.table_id; knows = receiver_of s.seat.me.0 } };
+    ghost view = { λ s. record { ring = s.seat.table_id; knows = receiver_of s.seat.me.0.ends; stored = stored_of s.seat.me.0 } };
 
-    ghost invariant = { λ s. ReceiverFits (arc_value s.ring).table.shared.table_id s.seat.table_id s.seat.me (arc_value s.ring).plan s.number s.taken s.completed s.looks };
+    ghost invariant = { λ s. ReceiverFits (arc_value s.ring).table.shared.table_id s.seat.table_id (end_of s.seat.me) (arc_value s.ring).plan s.number s.taken s.completed s.looks };
 }
 
 impl Receiver {
@@ -50,6 +51,7 @@ impl Receiver {
         ensures number { self.new.knows.number ≡ self.old.knows.number }
         ensures answer { Polls self.old.knows out.old self.new.knows out.new result }
         ensures fits { length self.new.knows.received < 2 ^ 64 }
+        ensures stored { self.new.stored ≡ self.old.stored }
     {
         let first = self.taken;
         if out.is_empty() {
@@ -91,6 +93,7 @@ impl Receiver {
         ensures plan { self.new.knows.plan ≡ self.old.knows.plan }
         ensures number { self.new.knows.number ≡ self.old.knows.number }
         ensures answer { TriesToComplete self.old.knows upto self.new.knows result }
+        ensures stored { StoresWhereOk self.old.stored (ReceiverCompletes self.old.knows.number upto ∷ []) self.new.stored result }
     {
         if upto < self.completed {
             return Err(Refusal::Behind);

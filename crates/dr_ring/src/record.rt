@@ -52,3 +52,32 @@ pub enum EndRecord {
     Receives(ReceiverRecord),
     Halts(HalterRecord),
 }
+
+/// A step of a ring: one load or one store of one word, with what no record tells of it.
+pub enum Step {
+    /// The sender looks at the count of a final handler.
+    SenderLooksAtCount { handler: u64 },
+    /// The sender looks at halt and, where it finds 0, claims so many sequences more.
+    SenderLooksAtHalt { more: u64 },
+    SenderStoresFirst { sequence: u64, first: u64 },
+    SenderStoresSecond { second: u64 },
+    /// The sender stores the cursor.
+    SenderPublishes { upto: u64 },
+    SenderHalts,
+    SenderCloses,
+    ReceiverLooksAtClosed { handler: u64 },
+    ReceiverLooksAtCursor { handler: u64 },
+    ReceiverLooksAtCount { handler: u64, upstream: u64 },
+    ReceiverLoadsFirst { handler: u64 },
+    ReceiverLoadsSecond { handler: u64 },
+    /// A receiver stores its count.
+    ReceiverCompletes { handler: u64, upto: u64 },
+    HalterHalts,
+}
+
+/// What a seat stands for: the records of one or more ends and, for each, the steps of all ends
+/// from the ring's opening up to the last one by this end.
+pub struct View {
+    pub ends: LinkedList<EndRecord>,
+    pub pasts: LinkedList<LinkedList<Step>>,
+}

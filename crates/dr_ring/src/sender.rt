@@ -1,9 +1,10 @@
 //! The one end that claims, writes and publishes.
 
-ghost use Rattle.std.specs.Prelude.{◌≡◌, Some};
+ghost use Rattle.std.specs.Prelude.{◌≡◌, ◌+◌, [], ◌∷◌, Some};
 ghost use Rattle.dr_core.specs.Ends.{Tells, ClaimAnswers, WriteAnswers, PublishAnswers, Claims, Writes, Publishes};
 ghost use Rattle.dr_ring.specs.Shown.{sender_place, sent_of};
-ghost use Rattle.dr_ring.specs.Calls.{looks_counted, TriesToClaim, TriesToWrite, TriesToPublish, TriesToClose};
+ghost use Rattle.dr_ring.specs.Calls.{looks_counted, StoresWhereOk, TriesToClaim, TriesToWrite, TriesToPublish, TriesToClose};
+ghost use Rattle.dr_ring.specs.declared.record.Step.TheVariants.{SenderStoresFirst, SenderStoresSecond, SenderPublishes, SenderHalts, SenderCloses};
 
 use crate::body::RingBody;
 use crate::laws::{RingSeat, sender as laws};
@@ -34,15 +35,15 @@ pub struct Sender {
 impl Model for Sender {
     ghost use Rattle.std.specs.Prelude.{length};
     ghost use Rattle.std.specs.Arc.{arc_value};
-    ghost use Rattle.dr_ring.specs.Seats.{sender_of};
+    ghost use Rattle.dr_ring.specs.Seats.{end_of, stored_of, sender_of};
     ghost use Rattle.dr_ring.specs.Calls.{SenderEnd};
     ghost use Rattle.dr_ring.specs.Fits.{SenderFits};
 
     ghost Value = { SenderEnd };
 
-    ghost view = { λ s. record { ring = s.seat.table_id; knows = sender_of s.seat.me.0 } };
+    ghost view = { λ s. record { ring = s.seat.table_id; knows = sender_of s.seat.me.0.ends; stored = stored_of s.seat.me.0 } };
 
-    ghost invariant = { λ s. SenderFits (arc_value s.ring).table.shared.table_id s.seat.table_id s.seat.me (arc_value s.ring).plan s.claimed s.published s.gate s.looks s.marks.items (length s.counts.items) };
+    ghost invariant = { λ s. SenderFits (arc_value s.ring).table.shared.table_id s.seat.table_id (end_of s.seat.me) (arc_value s.ring).plan s.claimed s.published s.gate s.looks s.marks.items (length s.counts.items) };
 }
 
 impl Sender {
@@ -56,6 +57,7 @@ impl Sender {
         ensures ring { self.new.ring ≡ self.old.ring }
         ensures plan { self.new.knows.plan ≡ self.old.knows.plan }
         ensures answer { TriesToClaim self.old.knows n self.new.knows result }
+        ensures stored { self.new.stored ≡ self.old.stored }
     {
         let words = &self.ring.table.shared;
         let plan = &self.ring.plan;
@@ -98,6 +100,7 @@ impl Sender {
         ensures ring { self.new.ring ≡ self.old.ring }
         ensures plan { self.new.knows.plan ≡ self.old.knows.plan }
         ensures answer { TriesToWrite self.old.knows sequence event self.new.knows result }
+        ensures stored { StoresWhereOk self.old.stored (SenderStoresFirst sequence event.first ∷ SenderStoresSecond event.second ∷ []) self.new.stored result }
     {
         if sequence >= self.claimed {
             return Err(Refusal::NotClaimed);
@@ -122,6 +125,7 @@ impl Sender {
         ensures ring { self.new.ring ≡ self.old.ring }
         ensures plan { self.new.knows.plan ≡ self.old.knows.plan }
         ensures answer { TriesToPublish self.old.knows lo hi self.new.knows result }
+        ensures stored { StoresWhereOk self.old.stored (SenderPublishes (hi + 1) ∷ []) self.new.stored result }
     {
         if lo > hi {
             return Err(Refusal::BadCount);
@@ -152,6 +156,7 @@ impl Sender {
         ensures ring { self.new.ring ≡ self.old.ring }
         ensures plan { self.new.knows.plan ≡ self.old.knows.plan }
         ensures answer { TriesToClose self.old.knows self.new.knows result }
+        ensures stored { StoresWhereOk self.old.stored (SenderHalts ∷ SenderCloses ∷ []) self.new.stored result }
     {
         if self.published != self.claimed {
             return Err(Refusal::OpenClaim);

@@ -2,12 +2,12 @@
 
 ghost use Rattle.std.specs.Prelude.{◌≡◌, ◌<◌, length, map};
 ghost use Rattle.std.specs.Arc.{arc_value};
-ghost use Rattle.dr_ring.specs.Seats.{IsAtTable};
+ghost use Rattle.dr_ring.specs.Seats.{IsAtTable, end_of};
 ghost use Rattle.dr_ring.specs.Ends.{claimed as claimed_of};
-ghost use Rattle.dr_ring.specs.Settling.{LeadsView, Settles, AreAllEnds, AreOfRing, Gathers, counts_of, counts_at};
+ghost use Rattle.dr_ring.specs.Settling.{LeadsView, Settles, HasRun, AreAllEnds, AreOfRing, Gathers, counts_of, counts_at};
 
 use crate::body::RingBody;
-use crate::laws::{RingSeat, settling};
+use crate::laws::{RingSeat, moments, settling};
 use crate::receiver::Receiver;
 use crate::sender::Sender;
 use std::alloc::Global;
@@ -83,11 +83,11 @@ fn gather(
     counts: &mut Vec<HandlerCounts>,
 )
     requires table { IsAtTable seat.old.table_id (arc_value ring.now).table.shared.table_id (arc_value ring.now).plan }
-    requires sender { LeadsView seat.old.me }
+    requires sender { LeadsView (end_of seat.old.me) }
     requires receivers { AreOfRing seat.old.table_id receivers.items }
     requires places { length counts.old.items ≡ length receivers.items }
     ensures seat { seat.new.table_id ≡ seat.old.table_id }
-    ensures view { Gathers seat.old.me (map (λ e. e.knows) receivers.items) seat.new.me }
+    ensures view { Gathers (end_of seat.old.me) (map (λ e. e.knows) receivers.items) (end_of seat.new.me) }
     ensures counts { counts.new.items ≡ map (λ e. counts_of e.knows) receivers.items }
 {
     while let Some(receiver) = receivers.pop() {
@@ -108,13 +108,15 @@ fn gather(
 ///
 /// Each receiver has the beginning of what the sender published, all of it where it was told that
 /// the ring drained; no handler took more than its upstreams completed; and no more is claimed
-/// than a round beyond what each final handler completed.
+/// than a round beyond what each final handler completed. There is one run of all ends that came
+/// to what they know, and its transcript is lawful.
 pub fn settle(sender: Sender, receivers: Vec<Receiver>) -> Settled
     requires { AreAllEnds sender receivers.items }
     ensures claimed { result.claimed ≡ claimed_of sender.knows }
     ensures published { result.published ≡ length sender.knows.published }
     ensures handlers { result.handlers.items ≡ map (λ e. counts_of e.knows) receivers.items }
     ensures lists { Settles sender.knows (map (λ e. e.knows) receivers.items) }
+    ensures run { HasRun sender.knows (map (λ e. e.knows) receivers.items) }
 {
     let Sender {
         ring,
@@ -128,6 +130,7 @@ pub fn settle(sender: Sender, receivers: Vec<Receiver>) -> Settled
     } = sender;
     gather(&ring, &mut seat, receivers, &mut counts);
     settling::compare(&ring.table.shared, &mut seat);
+    moments();
     Settled {
         claimed,
         published,

@@ -1,25 +1,28 @@
 //! How seats come together, at the end. No step of these changes a word or a record.
 
 ghost use Rattle.std.specs.Prelude.{◌≡◌, ◌++◌, [], ◌<◌};
-ghost use Rattle.dr_ring.specs.Settling.{LeadsView, ViewAgrees};
+ghost use Rattle.dr_ring.specs.Seats.{end_of};
+ghost use Rattle.dr_ring.specs.Settling.{LeadsView, ViewAgrees, ViewRan};
 
-use super::{Known, RingSeat, Words};
+use super::{RingSeat, Words};
 use crate::plan::CURSOR_WORD;
+use crate::record::View;
 use atomic_table::{Join, Play};
 
 struct Together;
 
-impl Join<Known> for Together {
-    ghost use Rattle.std.specs.Prelude.{◌++◌, []};
+impl Join<View> for Together {
+    ghost use Rattle.std.specs.Prelude.{[]};
+    ghost use Rattle.dr_ring.specs.Settling.{both_views};
 
-    ghost both = { λ v w. v ++ w };
+    ghost both = { both_views };
 
-    ghost spent = { [] };
+    ghost spent = { record { ends = []; pasts = [] } };
 }
 
 struct Compares;
 
-impl Play<u64, Known> for Compares {
+impl Play<u64, View> for Compares {
     ghost use Rattle.dr_ring.specs.Settling.{Compares};
 
     ghost then = { Compares };
@@ -30,17 +33,19 @@ pub fn take_in(words: &Words, seat: &mut RingSeat, other: RingSeat)
     requires table { (seat.old.table_id ≡ words.now.table_id) × (other.table_id ≡ words.now.table_id) × (0 < words.now.table_id.words) }
     requires other { other.me.1 ≡ [] }
     ensures seat { (seat.new.table_id ≡ seat.old.table_id) × (seat.new.id ≡ seat.old.id) }
-    ensures ends { seat.new.me ≡ (seat.old.me.0 ++ other.me.0, seat.old.me.1) }
+    ensures ends { end_of seat.new.me ≡ (seat.old.me.0.ends ++ other.me.0.ends, seat.old.me.1) }
 {
     words.join_seat::<Together>(seat, other);
 }
 
-/// What the ends that a seat stands for know agrees. It costs one load, whose value says nothing.
+/// What the ends that a seat stands for know agrees, and the run came to it. It costs one load,
+/// whose value says nothing.
 pub fn compare(words: &Words, seat: &mut RingSeat)
     requires table { (seat.old.table_id ≡ words.now.table_id) × (0 < words.now.table_id.words) }
-    requires sender { LeadsView seat.old.me }
+    requires sender { LeadsView (end_of seat.old.me) }
     ensures seat { (seat.new.table_id ≡ seat.old.table_id) × (seat.new.me ≡ seat.old.me) }
-    ensures agree { ViewAgrees seat.old.me }
+    ensures agree { ViewAgrees (end_of seat.old.me) }
+    ensures ran { ViewRan seat.old.me }
 {
     words.load::<Compares>(seat, CURSOR_WORD);
 }

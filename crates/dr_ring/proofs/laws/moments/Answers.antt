@@ -1,11 +1,13 @@
-use Rattle.std.proofs.Common.{subst}
+use Rattle.std.proofs.Common.{subst, refl}
+use Rattle.dr_ring.specs.Ends.{claimed}
+use Rattle.dr_ring.proofs.Halting.{halted_runs}
 use Rattle.dr_core.specs.Machine.{State}
 use Rattle.dr_core.specs.Transcript.{Transcript, LeadsFrom, LeadsTo}
 use Rattle.dr_graph.specs.Graph.{IsGraph}
 use Rattle.std.specs.Prelude.{◌<◌, List}
 use Rattle.dr_ring.specs.Shape.{Shape, setup_of}
 use Rattle.dr_ring.specs.Kept.{World}
-use Rattle.dr_ring.specs.Steps.{Step}
+use Rattle.dr_ring.specs.declared.record.Step.{Step}
 use Rattle.dr_ring.specs.Moments.{Runs, opening, picture_of}
 use Rattle.dr_ring.proofs.Pictures.{keeps_runs, lead_runs}
 use Rattle.dr_ring.proofs.Beginning.{kept_opening, opens}
@@ -24,3 +26,7 @@ returns-clause-leads c = leads
 pub returns-clause-laws : goal.returns-clause-laws
 returns-clause-laws c k steps entries w graph some_slot runs =
     c.every_transcript_is_lawful.ensures (setup_of k) entries (picture_of k w) (leads k steps entries w graph some_slot runs)
+
+pub returns-clause-halted : goal.returns-clause-halted
+returns-clause-halted c k steps more entries rest w u graph some_slot runs on halted =
+    (halted_runs k more rest w u (claimed w.sender) on (keeps_runs k steps entries (opening k) w runs (kept_opening k graph some_slot)) (halted, refl)).1

@@ -1,5 +1,6 @@
 use Rattle.std.proofs.Common.{◌<◌, arith, ap, sym, subst, ◌∙◌}
 use Rattle.dr_ring.specs.Shape.{handlers_of}
+use Rattle.dr_ring.specs.Seats.{Sitting, end_of}
 use Rattle.dr_ring.specs.Fits.{ReceiverFits}
 use Rattle.dr_ring.proofs.Cuts.{cuts}
 use Rattle.dr_ring.proofs.Making.{cut_own, cut_rest, fits_receiver, listed_next, view_fresh}
@@ -15,9 +16,9 @@ split_seat-next-requires c = let t = c.requires.table in (
 pub invariant_of-push : goal.invariant_of-push
 invariant_of-push c =
     let t = c.requires.table in let count = c.handlers-handlers.ensures.count ∙ ap (λ r. handlers_of r.plan) c.deref.ensures in let test = c.loop-number-test.true in
-    subst (λ r. ReceiverFits r.table.shared.table_id c.split_seat-next.new.seat.table_id c.split_seat-next.new.seat.me r.plan c.loop-number.number 0 0 0) (sym c.in_ok-own.ensures)
+    subst (λ r. ReceiverFits r.table.shared.table_id c.split_seat-next.new.seat.table_id (end_of c.split_seat-next.new.seat.me) r.plan c.loop-number.number 0 0 0) (sym c.in_ok-own.ensures)
     (fits_receiver _ _ _ _ c.loop-number.number (c.split_seat-next.ensures.0 ∙ c.loop-number.invariant.0 ∙ t.0, t.1) c.requires.made (omega arith)
-    (cut_own _ c.loop-number.number _ _ _ (omega arith) c.loop-number.invariant.1 c.split_seat-next.ensures.2))
+    (ap (λ (m : Sitting). end_of m) (cut_own _ c.loop-number.number _ _ _ (omega arith) c.loop-number.invariant.1 c.split_seat-next.ensures.2)))
 
 pub loop-number-preserved : goal.loop-number-preserved
 loop-number-preserved c =

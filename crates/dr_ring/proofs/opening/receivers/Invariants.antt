@@ -1,11 +1,11 @@
-use Rattle.std.proofs.Common.{◌≡◌, ◌-◌, [], ◌++◌, map}
+use Rattle.std.proofs.Common.{◌≡◌, ◌-◌, ◌++◌, map}
 use Rattle.std.specs.Arc.{arc_value}
 use Rattle.dr_ring.specs.Shape.{handlers_of}
 use Rattle.dr_ring.specs.Moments.{fresh_receivers}
-use Rattle.dr_ring.specs.Making.{receivers_known, at_ring}
+use Rattle.dr_ring.specs.Making.{receivers_seat, at_ring}
 use Rattle.dr_ring.proofs.opening.receivers.Given as goal
 
 abbrev pub invariant-loop-number : goal.invariant-loop-number
 invariant-loop-number l = (l.rest.table_id ≡ l.fn.rest.table_id)
-    × (l.rest.me ≡ (receivers_known (arc_value l.ring).plan l.number (handlers_of (arc_value l.ring).plan - l.number), []))
+    × (l.rest.me ≡ receivers_seat (arc_value l.ring).plan l.number (handlers_of (arc_value l.ring).plan - l.number))
     × (l.receivers.items ++ map (at_ring l.fn.rest.table_id) (fresh_receivers (arc_value l.ring).plan l.number (handlers_of (arc_value l.ring).plan - l.number)) ≡ map (at_ring l.fn.rest.table_id) (fresh_receivers (arc_value l.ring).plan 0 (handlers_of (arc_value l.ring).plan)))

@@ -14,6 +14,7 @@ loop-upstream-preserved c = let inv = c.loop-upstream.invariant in let seat = c.
       (let lt = c.loop-upstream-test.true in let same = ap length c.upstreams-upstream-items.ensures in omega arith)
       (ap (λ (xs : List ℕ). get_or xs c.loop-upstream.upstream-index 0) (sym c.upstreams-upstream-items.ensures))
       c.look_at_count-count.ensures.end c.look_at_count-count.ensures.taken c.look_at_count-count.ensures.told c.saturating_add.ensures c.lesser-available.ensures,
+  c.look_at_count-count.ensures.stored ∙ inv.3,
 )
 
 pub returns-clause-answer : goal.returns-clause-answer

@@ -22,6 +22,7 @@ loop-handler-preserved c = let inv = c.loop-handler.invariant in let seat = c.lo
       (ap (λ (xs : List ℕ). get_or xs c.loop-handler.handler-index 0) (sym c.finals-handler-items.ensures))
       c.look_at_count-count.ensures.end c.look_at_count-count.ensures.rises c.saturating_add.ensures c.if-count-need.false
       (subst (λ (m : End). c.look_at_count-count.result ≤ length (sender_of m.0).published) inv.2.saw.is c.look_at_count-count.ensures.published) c.lesser-least.ensures,
+  c.look_at_count-count.ensures.stored ∙ inv.3,
 )
 
 pub returns-clause-answer : goal.returns-clause-answer

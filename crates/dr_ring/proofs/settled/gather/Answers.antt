@@ -1,6 +1,6 @@
 use Rattle.std.proofs.Common.{◌≡◌, ◌<◌, ◌∷◌, length, set, arith, ap, sym, subst, ◌∙◌}
 use Rattle.dr_ring.specs.declared.record.ReceiverRecord.{ReceiverRecord}
-use Rattle.dr_ring.specs.Seats.{as_receiver}
+use Rattle.dr_ring.specs.Seats.{end_of, as_receiver}
 use Rattle.dr_ring.specs.Calls.{ReceiverEnd}
 use Rattle.dr_ring.proofs.Gathering.{last_of_ring, gathering_more, gathering_all}
 use Rattle.dr_ring.proofs.settled.gather.Goals as goal
@@ -23,7 +23,7 @@ loop-receiver-preserved c =
       c.take_in.ensures.seat.0 ∙ inv.0,
       (
         c.in-Some.receiver ∷ inv.1.0,
-        gathering_more _ _ _ _ _ _ _ _ _ _ _ c.receiver.inside.seat.me inv.1.1 c.in-Some.ensures.items (c.receiver.invariant.end ∙ ap as_receiver knows) c.take_in.ensures.ends
+        gathering_more _ _ _ _ _ _ _ _ _ _ _ (end_of c.receiver.inside.seat.me) inv.1.1 c.in-Some.ensures.items (c.receiver.invariant.end ∙ ap as_receiver knows) c.take_in.ensures.ends
             (λ i. set c.loop-receiver.counts.items (place i) record { taken = taken i; completed = completed i }),
       ),
     )

@@ -7,4 +7,4 @@ store-requires c = let t = c.requires.table in let inside = c.payload_word.ensur
     (t.0, omega arith, sender_stores_second _ _ _ _ _ _ c.args.sequence c.args.event.first _ c.payload_word.ensures.place c.requires.end c.requires.plan c.requires.half)
 
 pub returns-clause-end : goal.returns-clause-end
-returns-clause-end c = c.store.ensures.2 _ c.requires.half
+returns-clause-end c = c.store.ensures.2.0 _ c.requires.half

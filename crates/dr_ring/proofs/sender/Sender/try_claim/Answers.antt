@@ -1,7 +1,7 @@
 use Rattle.std.proofs.Common.{arith, refl, ap, sym, subst, ◌∙◌}
 use Rattle.std.specs.Arc.{arc_value}
 use Rattle.dr_ring.specs.declared.record.SenderRecord.{SenderRecord}
-use Rattle.dr_ring.specs.Seats.{sender_of}
+use Rattle.dr_ring.specs.Seats.{end_of, sender_of}
 use Rattle.dr_ring.specs.Calls.{SenderEnd}
 use Rattle.dr_ring.specs.Fits.{IsSeenLeast}
 use Rattle.dr_ring.specs.Parts.{IsShort}
@@ -17,8 +17,11 @@ invariant_of-self-then-n-limit c = fits_halt _ _ _ _ _ _ _ _ _ _ _ _ _ 0 _ c.sel
 pub make_room-requires-clause-remembered : goal.make_room-requires-clause-remembered
 make_room-requires-clause-remembered c =
     let fits = fits_halt _ _ _ _ _ _ _ _ _ _ _ _ _ 0 _ c.self.invariant c.is_halted.ensures.seat.0 c.is_halted.ensures.end (λ z. refl) c.is_halted.ensures.looks in
-    let seen = c.seen.ensures in let least = fits.least in
-    (omega arith, subst (λ r. IsSeenLeast r.plan (sender_of c.is_halted.new.seat.me.0) c.seen.result) (sym c.deref-2.ensures) (λ f has. (let low = fits.seen f has in omega arith)))
+    let seen = c.seen.ensures in let least = fits.least in (
+      omega arith,
+      subst (λ r. IsSeenLeast r.plan (sender_of c.is_halted.new.seat.me.0.ends) c.seen.result) (sym c.deref-2.ensures) (λ f has. (let low = fits.seen f has in
+          omega arith)),
+    )
 
 pub invariant_of-self-in_default : goal.invariant_of-self-in_default
 invariant_of-self-in_default c =
@@ -33,7 +36,7 @@ returns-in_default-clause-answer c =
     let size = c.size.ensures ∙ ap (λ r. r.plan.size) c.deref-2.ensures in let limit = c.limit.ensures ∙ ap (λ r. r.plan.limit) c.deref-2.ensures in let value = c.get-size.ensures.value in
     let some_one = c.if-n-eq0.false in let le = c.if-n-size.false in let fits_limit = c.if-n-limit.false in let need = c.saturating_sub.ensures in let within = c.self.invariant.limit in
     let known = ap (λ p. p.limit) plan in
-    let looked = saw_halt _ 0 0 c.self.inside.seat.me _ _ same c.if-is_halted.ensures.end (λ z. refl) c.if-is_halted.ensures.looks in
+    let looked = saw_halt _ 0 0 (end_of c.self.inside.seat.me) _ _ same c.if-is_halted.ensures.end (λ z. refl) c.if-is_halted.ensures.looks in
     let short = subst (λ r. IsShort r.plan c.in_default.ensures.answer.0 c.saturating_sub.result) c.deref-2.ensures c.in_default.ensures.answer.2 in (
       size_of _ _ _ _ _ _ _ _ _ _ _ c.args.n c.self.invariant same (omega arith) (omega arith),
       omega arith,
