@@ -5,7 +5,7 @@ use std::alloc::Global;
 use std::process::Abort;
 use std::test::Fail;
 
-const REFUSALS: [(Refusal, u32, &str); 13] = [
+const REFUSALS: [(Refusal, u32, &str); 16] = [
     (Refusal::NoRoom, 1, "no-room"),
     (Refusal::Halted, 2, "halted"),
     (Refusal::BadCount, 3, "bad-count"),
@@ -18,6 +18,9 @@ const REFUSALS: [(Refusal, u32, &str); 13] = [
     (Refusal::Behind, 10, "behind"),
     (Refusal::NoProducer, 11, "no-producer"),
     (Refusal::NoHandler, 12, "no-handler"),
+    (Refusal::Retired, 13, "retired"),
+    (Refusal::NotFinal, 14, "not-final"),
+    (Refusal::LastHandler, 15, "last-handler"),
     (Refusal::OpenClaim, 41, "open-claim"),
 ];
 
