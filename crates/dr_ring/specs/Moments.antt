@@ -6,7 +6,7 @@ use Rattle.dr_core.specs.declared.command.Command.{Command}
 use Rattle.dr_core.specs.declared.command.Command.TheVariants.{Claim, Write, Publish, Poll, Complete, Halt}
 use Rattle.dr_core.specs.declared.command.Reply.{Reply}
 use Rattle.dr_core.specs.declared.command.Reply.TheVariants.{Claimed, Written, Published, Batch, Drained, Completed, Halting}
-use Rattle.dr_graph.specs.Graph.{nobody}
+use Rattle.dr_core.specs.Machine as machine
 use Rattle.dr_core.specs.Machine.{State, available}
 use Rattle.dr_core.specs.Transcript.{Transcript}
 use Rattle.dr_ring.specs.Shape.{Shape, handlers_of, setup_of}
@@ -45,14 +45,13 @@ taken_of r = length r.received
 
 -- what the machine is, where the ring is so
 abbrev pub picture_of : Shape → World → State
-picture_of k w = record {
+picture_of k w = record (machine.opening (setup_of k)) {
   owners = replicate (claimed w.sender) 0;
   written = λ s. slice_index_or (map (λ event. Some event) w.sender.published ++ w.sender.pending) s None;
   published = λ s. nat_lt s (slice_index w.words cursor_word);
   taken = map taken_of w.receivers;
   completed = map (λ h. slice_index w.words (count_word h)) (range_with_len 0 (handlers_of k));
   halted = slice_index w.words halt_word == 1;
-  retired = nobody;
 }
 
 abbrev pub entry : Command → Reply → List Event → Transcript
