@@ -13,17 +13,18 @@ const DRIVE: &str = "Run a file of commands, and print one line a command";
 const FILE: &str = "The file of commands, one record a line";
 
 const EXAMPLE: &str = "\
-A file sets up a ring, its limit and its handler, and then gives commands:
+A file sets up a ring, its limit and its handlers, and then gives commands:
 
   ring,4,single       a ring of 4 slots and one producer; ring,4,multi,2 has two
   limit,1000          at most 1000 sequences (may be left out)
-  with,a              a handler with the name a
+  with,a,b            two handlers, with the names a and b
   start
   claim,0,1           producer 0 claims 1 sequence
   write,0,0,42        producer 0 writes 42 to sequence 0
   publish,0,0,0       producer 0 publishes the sequences from 0 to 0
   poll,a,8            handler a takes at most 8 events
   complete,a,1        handler a has done with the first 1 event
+  retire,b            handler b takes no more, and claims do not wait for it
   halt                no more claims
 
 It prints:
@@ -33,6 +34,7 @@ It prints:
   published
   batch 0 end 42
   completed
+  retired
   halting
 
 It ends with 0 where all is done, 1 where the command line is at fault, 2 where
