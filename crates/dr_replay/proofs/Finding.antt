@@ -43,10 +43,6 @@ take_none : {A : Type 0} (n : ℕ) (xs : List A) → xs ≡ [] → take n xs ≡
 take_none zero xs e = sym e
 take_none (suc n) xs e = rw e refl
 
-pub all_names : (r : Record) (place : ℕ) → length r ≤ place → 1 ≤ place → take (place - 1) (names_in r) ≡ names_in r
-all_names [] place le one = take_none (place - 1) [] refl
-all_names (f ∷ r) place le one = take_all (place - 1) r (omega arith)
-
 pub name_added : (r : Record) (place : ℕ) (old new : List (Bor Name)) (x : Bor Name) → 1 ≤ place → place < length r → new ≡ old ++ x ∷ [] → x.now ≡ legible (field r place)
     → given old ≡ map legible (take (place - 1) (names_in r)) → given new ≡ map legible (take (place + 1 - 1) (names_in r))
 name_added r place old new x one less pushed is so_far =

@@ -33,9 +33,6 @@ keep (Some x) None c bs p q = absurd p
 keep (Some x) (Some y) None bs p q = absurd q
 keep (Some x) (Some y) (Some z) bs p q = q ∙ p
 
-pub progress-start : (s : Phase) (k : ℕ) (rows : List Record) (c : Option (List ℕ)) → Progress (text_from k s rows) k s rows c c
-progress-start s k rows c = record { done = []; is = refl; wrote = Appends-nil c }
-
 -- what a file says from a record on that does something
 pub says-ok : (k : ℕ) (s : Phase) (did : Taken) (row : Record) (rest : List Record) → taken s row ≡ Ok did
     → text_from k s (row ∷ rest) ≡ preceded (option_to_list did.line) (text_from (k + 1) did.phase rest)
