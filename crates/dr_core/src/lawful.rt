@@ -32,7 +32,8 @@ pub fn every_step_leads_on()
     ensures { (t : Transcript) (old new : CoreView) (command : Command) (reply : Reply) (values : List Event) → RunsTo old.setup t old → IsStep old command reply values new → RunsTo new.setup (t ++ entry_with command reply values ∷ []) new }
 {}
 
-/// No retirement lowers the least completed count that a claim is gated by, in any state that a transcript leads to.
+/// No retirement lowers the least completed count that a claim is gated by, in any state that a
+/// transcript leads to.
 pub fn retirement_keeps_the_gate()
     ensures { (c : Setup) (t : Transcript) (m : State) (h : ℕ) → IsLayered c.upstreams → LeadsTo c t m → gate c m ≤ gate c (step c m (Retire h)).state }
 {}

@@ -65,7 +65,8 @@ impl Core {
     }
 
     /// Gives a producer the next `n` sequences, where the events that lay in their slots are
-    /// completed by every final handler that is left, as LMAX's sequencers do by their gating sequences.
+    /// completed by every final handler that is left, as LMAX's sequencers do by their gating
+    /// sequences.
     pub fn claim(&mut self, p: u64, n: u64) -> Result<Claimed, Refusal>
         ensures step { IsStep self.old (Command.Claim p n) (claim_reply result) [] self.new }
         ensures refused { OnErr result (self.new ≡ self.old) }

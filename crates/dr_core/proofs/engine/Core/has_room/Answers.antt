@@ -1,4 +1,5 @@
-use Rattle.std.proofs.Common.{◌≡◌, ℕ, ◌+◌, ◌<◌, ◌≤◌, ◌^◌, ◌∙◌, Bool, List, length, map, filter, slice_index, sym, arith}
+use Rattle.std.proofs.Common.{◌≡◌, ℕ, ◌+◌, ◌<◌, ◌≤◌, ◌^◌, ◌∙◌, Bool, List, length, map, filter, slice_index, sym, ap, arith}
+use Rattle.std.specs.Prelude.{nat_le}
 use Rattle.std.specs.List.{range_with_len}
 use Rattle.std.proofs.lemmas.Bool.{le-leb}
 use Rattle.dr_graph.specs.Graph.{flagged, least_of}
@@ -47,3 +48,10 @@ invariant_of-self c =
       gating = c.self.invariant.gating;
       gate = rw (c.raise.ensures, least_is v _ _ _ _ c.self.invariant.gating c.deref.ensures.value c.deref-2.ensures.value c.least_flagged-least.ensures) (least_below v c.self.invariant.whole);
     }
+
+pub returns-clause-room : goal.returns-clause-room
+returns-clause-room c =
+    let v : CoreView = view_of c.self.inside in
+    let least : c.least_flagged-least.result ≡ gate_of v = least_is v _ _ _ _ c.self.invariant.gating c.deref.ensures.value c.deref-2.ensures.value c.least_flagged-least.ensures in
+    let size : c.get-size.result ≡ v.setup.size = c.get-size.ensures.value in
+    rw (← c.self.view_is) (ap (λ n. nat_le (v.next + c.args.n) (n + c.least_flagged-least.result)) size ∙ ap (λ n. nat_le (v.next + c.args.n) (v.setup.size + n)) least)
