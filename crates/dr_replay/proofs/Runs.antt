@@ -1,7 +1,7 @@
 -- A run over records: what was written so far, and what the records left to take say.
 use Rattle.std.proofs.Common.{◌≡◌, ◌+◌, ℕ, List, [], ◌∷◌, ◌++◌, length, take, Option, Some, None, Ok, Err, refl, sym, ap, ◌∙◌, append_assoc, append-nil}
 use Rattle.std.specs.Prelude.{option_to_list}
-use Rattle.std.proofs.KnownBytes.{Appends-nil, Appends-trans}
+use Rattle.std.proofs.KnownBytes.{Appends-trans}
 use Rattle.std.specs.Io.KnownBytes.{Appends, Keeps}
 use Rattle.dr_replay.specs.Records.{Record}
 use Rattle.dr_replay.specs.DriveText.{DriveText, Phase, Taken, end_fault, joined, taken, text_after, text_from}
