@@ -33,7 +33,7 @@ pub record HalterEnd : Type 0 where
   pub stored : List Step
 
 -- a call that is not refused stores this and nothing else, and a refused one nothing
-abbrev pub StoresWhereOk : {A : Type 0} → List Step → List Step → List Step → Result A Refusal → Type 0
+abbrev pub StoresWhereOk : {A E : Type 0} → List Step → List Step → List Step → Result A E → Type 0
 StoresWhereOk stored steps stored' (Ok _) = stored' ≡ stored ++ steps
 StoresWhereOk stored steps stored' (Err _) = stored' ≡ stored
 

@@ -140,6 +140,7 @@ impl Outlet for Receiver {
         ensures told { self.new.knows.told ≡ (self.old.knows.told || is_drained result) }
         ensures received { Takes out.new result (received_of self.old.knows) (received_of self.new.knows) }
         ensures own { Tells (Polls self.old.knows out.old self.new.knows out.new) result }
+        ensures stored { self.new.stored ≡ self.old.stored }
     {
         Ok(Receiver::poll_into(self, out)?)
     }
@@ -150,6 +151,7 @@ impl Outlet for Receiver {
         ensures told { self.new.knows.told ≡ self.old.knows.told }
         ensures received { Completes upto result (received_of self.old.knows) (received_of self.new.knows) }
         ensures own { Tells (TriesToComplete self.old.knows upto self.new.knows) result }
+        ensures stored { StoresWhereOk self.old.stored (ReceiverCompletes self.old.knows.number upto ∷ []) self.new.stored result }
     {
         Ok(Receiver::complete(self, upto)?)
     }

@@ -191,6 +191,7 @@ impl Inlet for Sender {
         ensures answer { ClaimAnswers (Some (sent_of self.old.knows)) n result }
         ensures sent { Claims n result (sent_of self.old.knows) (sent_of self.new.knows) }
         ensures own { Tells (TriesToClaim self.old.knows n self.new.knows) result }
+        ensures stored { self.new.stored ≡ self.old.stored }
     {
         // The plan tells by this call that no sequence reaches 2^62.
         let _limit = self.ring.plan.limit();
@@ -202,6 +203,7 @@ impl Inlet for Sender {
         ensures answer { WriteAnswers (Some (sent_of self.old.knows)) s result }
         ensures sent { Writes s event result (sent_of self.old.knows) (sent_of self.new.knows) }
         ensures own { Tells (TriesToWrite self.old.knows s event self.new.knows) result }
+        ensures stored { StoresWhereOk self.old.stored (SenderStoresFirst s event.first ∷ SenderStoresSecond event.second ∷ []) self.new.stored result }
     {
         Ok(Sender::write(self, s, event)?)
     }
@@ -211,6 +213,7 @@ impl Inlet for Sender {
         ensures answer { PublishAnswers (Some (sent_of self.old.knows)) lo hi result }
         ensures sent { Publishes lo hi result (sent_of self.old.knows) (sent_of self.new.knows) }
         ensures own { Tells (TriesToPublish self.old.knows lo hi self.new.knows) result }
+        ensures stored { StoresWhereOk self.old.stored (SenderPublishes (hi + 1) ∷ []) self.new.stored result }
     {
         Ok(Sender::publish(self, lo, hi)?)
     }
