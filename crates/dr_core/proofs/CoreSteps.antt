@@ -104,7 +104,10 @@ module _ (v : CoreView) (h upto : ℕ) (whole : IsWhole v) (can : CanComplete v 
   counts = slice_set v.completed h upto
 
   count_is : (k : ℕ) → slice_index counts k ≡ cond (k == h) upto (slice_index v.completed k)
-  count_is k = set_count v.completed h upto k (let len : length v.completed ≡ handlers v.setup = whole.completed in let inside : h < handlers v.setup = can.handler in omega arith)
+  count_is k =
+      let len : length v.completed ≡ handlers v.setup = whole.completed in
+      let inside : h < handlers v.setup = can.handler in
+      set_count v.completed h upto k (omega arith)
 
   pub completed_grows : (k : ℕ) → slice_index v.completed k ≤ slice_index counts k
   completed_grows k =
@@ -125,8 +128,8 @@ module _ (v : CoreView) (h upto : ℕ) (whole : IsWhole v) (can : CanComplete v 
     in_front = whole.in_front;
     took = λ k. rw (count_is k) (cond_both (k == h) upto (slice_index v.completed k) (λ n. n ≤ slice_index v.taken k)
         (λ y. (let e : k ≡ h = eqb-true k h y in rw e can.taken)) (λ n. whole.took k));
-    after = λ k u has. (let old : slice_index v.taken k ≤ slice_index v.completed u = whole.after k u has in let grown : slice_index v.completed u ≤ slice_index counts u = completed_grows u in omega arith);
-    room = λ k inside left. (let old : v.next ≤ v.setup.size + slice_index v.completed k = whole.room k inside left in let grown : slice_index v.completed k ≤ slice_index counts k = completed_grows k in omega arith);
+    after = λ k u has. (let old : slice_index v.taken k ≤ slice_index v.completed u = whole.after k u has in omega (arith, completed_grows u));
+    room = λ k inside left. (let old : v.next ≤ v.setup.size + slice_index v.completed k = whole.room k inside left in omega (arith, completed_grows k));
   }
 
 -- the owners after a claim

@@ -6,7 +6,7 @@ use Rattle.dr_core.specs.declared.command.Command.TheVariants.{Claim, Write, Pub
 use Rattle.dr_core.specs.declared.command.Reply.{Reply}
 use Rattle.dr_seq.specs.declared.event.Event.{Event}
 use Rattle.dr_core.specs.Machine.{Setup, State, step, opening}
-use Rattle.dr_core.specs.Transcript.{Transcript, LeadsTo}
+use Rattle.dr_core.specs.Transcript.{Transcript, entry_with, LeadsTo}
 use Rattle.dr_core.specs.CoreView.{CoreView}
 use Rattle.dr_core.specs.Shows.{Shows, IsStep}
 use Rattle.dr_core.specs.Runs.{RunsTo, IsReached, transcript_of, count_in, counts_of, offers, needed}
@@ -30,19 +30,21 @@ transcript_push (c ∷ cs) (r ∷ rs) values command reply more a b d =
 
 -- a step of the core leads one entry on
 pub leads_step : (c : Setup) (old new : CoreView) (t : Transcript) (command : Command) (reply : Reply) (values : List Event) → old.setup ≡ c → IsStep old command reply values new
-    → RunsTo c t old → RunsTo c (t ++ record { command = command; reply = reply; values = values } ∷ []) new
+    → RunsTo c t old → RunsTo c (t ++ entry_with command reply values ∷ []) new
 leads_step c old new t command reply values same is at =
+    let to : State = (step c at.state command).state in
+    let more : Transcript = entry_with command reply values ∷ [] in
     let r : (step c at.state command).reply ≡ reply = rw same at (is.replies at.state at.shows) in
     let v : (step c at.state command).values ≡ values = rw same at (is.hands_out at.state at.shows) in
-    let s : Shows new (step c at.state command).state = rw same at (is.shown at.state at.shows) in
-    let l : LeadsTo c (t ++ record { command = command; reply = reply; values = values } ∷ []) (step c at.state command).state = leads_append c t (record { command = command; reply = reply; values = values } ∷ []) (opening c) at.state (step c at.state command).state at.leads (r, v, refl) in
-    record { state = (step c at.state command).state; leads = l; shows = s; lawful = lawful c (t ++ record { command = command; reply = reply; values = values } ∷ []) (step c at.state command).state l }
+    let l : LeadsTo c (t ++ more) to = leads_append c t more (opening c) at.state to at.leads (r, v, refl) in
+    record { state = to; leads = l; shows = rw same at (is.shown at.state at.shows); lawful = lawful c (t ++ more) to l }
 
--- and what it shows is still reached
-pub step_leads_on : (t : Transcript) (old new : CoreView) (command : Command) (reply : Reply) (values : List Event) → RunsTo old.setup t old → IsStep old command reply values new → RunsTo new.setup (t ++ record { command = command; reply = reply; values = values } ∷ []) new
+pub step_leads_on : (t : Transcript) (old new : CoreView) (command : Command) (reply : Reply) (values : List Event)
+    → RunsTo old.setup t old → IsStep old command reply values new → RunsTo new.setup (t ++ entry_with command reply values ∷ []) new
 step_leads_on t old new command reply values at is =
-    subst (λ c. RunsTo c (t ++ record { command = command; reply = reply; values = values } ∷ []) new) (sym is.same_setup) (leads_step old.setup old new t command reply values refl is at)
+    subst (λ c. RunsTo c (t ++ entry_with command reply values ∷ []) new) (sym is.same_setup) (leads_step old.setup old new t command reply values refl is at)
 
+-- and what it leaves is reached where what it began with was
 pub step_reached : {old new : CoreView} {command : Command} {reply : Reply} {values : List Event} → IsStep old command reply values new → IsReached old → IsReached new
 step_reached is was = record { transcript = _; runs = step_leads_on _ _ _ _ _ _ was.runs is }
 

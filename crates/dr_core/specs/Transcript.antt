@@ -15,6 +15,9 @@ pub record Entry : Type 0 where
   pub reply : Reply
   pub values : List Event
 
+abbrev pub entry_with : Command → Reply → List Event → Entry
+entry_with command reply values = record { command = command; reply = reply; values = values }
+
 abbrev pub Transcript : Type 0
 Transcript = List Entry
 

@@ -11,7 +11,7 @@ ghost use Rattle.dr_core.specs.CoreView.{CoreView};
 ghost use Rattle.dr_core.specs.Machine.{Setup, State, gate, step};
 ghost use Rattle.dr_core.specs.Runs.{RunsTo};
 ghost use Rattle.dr_core.specs.Shows.{IsStep};
-ghost use Rattle.dr_core.specs.Transcript.{Transcript, LeadsTo};
+ghost use Rattle.dr_core.specs.Transcript.{Transcript, entry_with, LeadsTo};
 ghost use Rattle.dr_core.specs.Laws.{Laws};
 ghost use Rattle.dr_core.specs.Tells.{Tells};
 
@@ -29,7 +29,7 @@ pub fn every_transcript_tells_its_state()
 /// Where a transcript leads to a state that a core shows, the transcript with one more entry leads
 /// to a state that the core shows after that step.
 pub fn every_step_leads_on()
-    ensures { (t : Transcript) (old new : CoreView) (command : Command) (reply : Reply) (values : List Event) → RunsTo old.setup t old → IsStep old command reply values new → RunsTo new.setup (t ++ record { command = command; reply = reply; values = values } ∷ []) new }
+    ensures { (t : Transcript) (old new : CoreView) (command : Command) (reply : Reply) (values : List Event) → RunsTo old.setup t old → IsStep old command reply values new → RunsTo new.setup (t ++ entry_with command reply values ∷ []) new }
 {}
 
 /// No retirement lowers the least completed count that a claim is gated by, in any state that a

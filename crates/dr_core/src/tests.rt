@@ -266,6 +266,7 @@ fn each_call_moves_its_count(rt: HostRuntime) -> Result<(), Fail> {
     core.halt();
     assert!(rt; core.is_halted());
     assert_eq!(rt; core.size().get(), 4);
+    assert_eq!(rt; core.producers(), 1);
     Ok(())
 }
 

@@ -1,4 +1,4 @@
-use Rattle.std.proofs.Common.{◌≡◌, ◌<◌, ◌≤◌, slice_index, slice_set, length, get_or, false, arith}
+use Rattle.std.proofs.Common.{◌≡◌, ◌<◌, ◌≤◌, slice_index, length, get_or, false, arith}
 use Rattle.std.proofs.lemmas.List.{get_or_read}
 use Rattle.dr_core.specs.Machine.{handlers}
 use Rattle.dr_core.specs.CoreView.{CoreView}
@@ -35,7 +35,7 @@ invariant_of-self c =
       reached = step_reached (complete_step v c.args.h c.args.upto can) c.self.invariant.reached;
       gating = c.self.invariant.gating;
       gate = λ f has. (let below : c.self.inside.gate ≤ slice_index v.completed f = c.self.invariant.gate f has in
-          let grown : slice_index v.completed f ≤ slice_index (slice_set v.completed c.args.h c.args.upto) f = completed_grows v c.args.h c.args.upto c.self.invariant.whole can f in omega arith);
+          omega (arith, completed_grows v c.args.h c.args.upto c.self.invariant.whole can f));
     }
 
 pub returns-clause-step : goal.returns-clause-step
