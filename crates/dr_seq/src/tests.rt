@@ -12,6 +12,7 @@ fn sizes_are_powers_of_two(rt: HostRuntime) -> Result<(), Fail> {
     for n in [0, 3, 6, 1000, 65537, 131072, u64::MAX] {
         assert!(rt; Size::new(n) == Err(SizeFault));
     }
+    assert_eq!(rt; Size::MAX, 65536);
     Ok(())
 }
 
