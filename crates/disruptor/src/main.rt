@@ -43,11 +43,13 @@ fn read_plan(rt: &HostRuntime) -> Result<Plan, LineFault> {
     plan(rt.alloc(), words.as_slice())
 }
 
+// Standard output is counted below its buffer too, so that the buffer, which writes out what it
+// still holds when it is let go, leaves it alone once it failed.
 fn drive_file(rt: &HostRuntime, file: &str) -> Result<(), DriveFault> {
     let Ok(file) = File::open(rt, file) else {
         return Err(DriveFault::Read);
     };
-    let Ok(output) = BufWriter::new(rt.alloc(), io::writer(rt)) else {
+    let Ok(output) = BufWriter::new(rt.alloc(), Counted::new(io::writer(rt))) else {
         return Err(DriveFault::Memory);
     };
     let mut reader = Counted::new(file);
@@ -65,7 +67,7 @@ fn replay_file(rt: &HostRuntime, file: &str, size: Size, by: By) -> Result<(), R
     let Ok(file) = File::open(rt, file) else {
         return Err(ReplayFault::Read);
     };
-    let Ok(output) = BufWriter::new(rt.alloc(), io::writer(rt)) else {
+    let Ok(output) = BufWriter::new(rt.alloc(), Counted::new(io::writer(rt))) else {
         return Err(ReplayFault::Memory);
     };
     let mut reader = Counted::new(file);

@@ -44,14 +44,6 @@ over field n i inv lt digit large =
     let next : number_from n (get_or field i 0 ∷ drop (suc i) field) ≡ None = rw digit (too_large (n * 10 + (get_or field i 0 - 48)) (drop (suc i) field) large) in
     sym (digits field some ∙ inv ∙ ap (number_from n) cut ∙ next)
 
--- a byte that is no digit
-pub stray : (field : List ℕ) (n i : ℕ) → number_from 0 field ≡ number_from n (drop i field) → i < length field → is_digit (get_or field i 0) ≡ false → None ≡ number_of field
-stray field n i inv lt other =
-    let some : 0 < length field = omega arith in
-    let cut : drop i field ≡ get_or field i 0 ∷ drop (suc i) field = drop-cons field i 0 lt in
-    let next : number_from n (get_or field i 0 ∷ drop (suc i) field) ≡ None = rw other refl in
-    sym (digits field some ∙ inv ∙ ap (number_from n) cut ∙ next)
-
 -- the end of the digits
 pub ended : (field : List ℕ) (n i : ℕ) → number_from 0 field ≡ number_from n (drop i field) → length field ≤ i → 0 < length field → n < 2 ^ 64 → Some n ≡ number_of field
 ended field n i inv end some fits =

@@ -25,9 +25,6 @@ unfolding events_from
 file-goes whole done k o left row rest p cut e =
     p ∙ ap (λ l. preceded done (events_from k l)) cut ∙ ap (λ x. preceded done (events_with k x (events_from (k + 1) rest))) (sym e) ∙ one_more done k o (events_from (k + 1) rest)
 
-with_none : (k : ℕ) (r : Result (List Event) ℕ) → events_with k None r ≡ Err k
-with_none k r = refl
-
 pub file-stops : (whole : Result (List Event) ℕ) (done : List Event) (k : ℕ) (left : List Record) (row : Record) (rest : List Record)
     → whole ≡ preceded done (events_from k left) → left ≡ row ∷ rest → None ≡ operation_in row → whole ≡ Err k
 unfolding events_from

@@ -1,6 +1,6 @@
 -- Handlers found by their names, and the fields that name them.
 use Rattle.std.proofs.Common.{◌≡◌, ◌<◌, ◌≤◌, ◌+◌, ◌-◌, ℕ, zero, suc, true, false, List, [], ◌∷◌, ◌++◌, Some, None, refl, sym, ap, ◌∙◌, arith, length, take, drop, map, add-one}
-use Rattle.std.proofs.lemmas.List.{map-append, take_all}
+use Rattle.std.proofs.lemmas.List.{map-append}
 use Rattle.std.proofs.Math.Seq.{take-suc}
 use Rattle.std.specs.Prelude.{bytes_eq, slice_get}
 use Rattle.std.specs.Borrow.{Bor}
@@ -42,10 +42,6 @@ next_name (f ∷ r) (suc place) one less =
 take_none : {A : Type 0} (n : ℕ) (xs : List A) → xs ≡ [] → take n xs ≡ xs
 take_none zero xs e = sym e
 take_none (suc n) xs e = rw e refl
-
-pub all_names : (r : Record) (place : ℕ) → length r ≤ place → 1 ≤ place → take (place - 1) (names_in r) ≡ names_in r
-all_names [] place le one = take_none (place - 1) [] refl
-all_names (f ∷ r) place le one = take_all (place - 1) r (omega arith)
 
 pub name_added : (r : Record) (place : ℕ) (old new : List (Bor Name)) (x : Bor Name) → 1 ≤ place → place < length r → new ≡ old ++ x ∷ [] → x.now ≡ legible (field r place)
     → given old ≡ map legible (take (place - 1) (names_in r)) → given new ≡ map legible (take (place + 1 - 1) (names_in r))

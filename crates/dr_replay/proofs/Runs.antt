@@ -1,7 +1,7 @@
 -- A run over records: what was written so far, and what the records left to take say.
 use Rattle.std.proofs.Common.{◌≡◌, ◌+◌, ℕ, List, [], ◌∷◌, ◌++◌, length, take, Option, Some, None, Ok, Err, refl, sym, ap, ◌∙◌, append_assoc, append-nil}
 use Rattle.std.specs.Prelude.{option_to_list}
-use Rattle.std.proofs.KnownBytes.{Appends-nil, Appends-trans}
+use Rattle.std.proofs.KnownBytes.{Appends-trans}
 use Rattle.std.specs.Io.KnownBytes.{Appends, Keeps}
 use Rattle.dr_replay.specs.Records.{Record}
 use Rattle.dr_replay.specs.DriveText.{DriveText, Phase, Taken, end_fault, joined, taken, text_after, text_from}
@@ -32,9 +32,6 @@ keep None b c bs p q = tt
 keep (Some x) None c bs p q = absurd p
 keep (Some x) (Some y) None bs p q = absurd q
 keep (Some x) (Some y) (Some z) bs p q = q ∙ p
-
-pub progress-start : (s : Phase) (k : ℕ) (rows : List Record) (c : Option (List ℕ)) → Progress (text_from k s rows) k s rows c c
-progress-start s k rows c = record { done = []; is = refl; wrote = Appends-nil c }
 
 -- what a file says from a record on that does something
 pub says-ok : (k : ℕ) (s : Phase) (did : Taken) (row : Record) (rest : List Record) → taken s row ≡ Ok did

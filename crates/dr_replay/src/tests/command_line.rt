@@ -52,8 +52,9 @@ fn no_command(rt: HostRuntime) -> Result<(), Fail> {
             Err(LineFault::Usage(_))
         )
     );
-    assert_eq!(rt; LineFault::Memory.status(), 3);
-    assert_eq!(rt; LineFault::NotUtf8.status(), 1);
+    let memory = LineFault::Memory;
+    assert_eq!(rt; memory.to_string(alloc)?.as_str(), "no-memory");
+    assert!(rt; memory.status() == 3 && LineFault::NotUtf8.status() == 1);
     Ok(())
 }
 
