@@ -48,7 +48,7 @@ abbrev pub MayFail : Verdict → Type 0
 MayFail (Exactly b) = b ≡ false
 MayFail (AtLeast b) = b ≡ false
 
--- A call is accepted where no test is known to hold, and a refusal is the first test's that may hold. An end that shows what it did has a producer or a handler; of its room, its limit, a halt and a retirement it shows nothing.
+-- A call is accepted where no test is known to hold, and a refusal is the first test's that may hold. An end that shows what it did has a producer or a handler; of its size, its room, its limit, a halt and a retirement it shows nothing.
 abbrev pub IsAnswerOf : {A : Type 0} → List (Verdict × Refusal) → Result A Trouble → Type 0
 IsAnswerOf causes (Ok done) = NoneHolds MayFail causes
 IsAnswerOf causes (Err (Refused refusal)) = IsFirst MayHold MayFail refusal causes
