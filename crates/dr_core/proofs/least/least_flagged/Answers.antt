@@ -1,5 +1,4 @@
-use Rattle.std.proofs.Common.{◌≡◌, ℕ, Bool, true, false, sym, ◌∙◌, slice_index, length, get_or}
-use Rattle.std.proofs.lemmas.List.{get_or_read}
+use Rattle.std.proofs.Common.{ℕ, Bool, slice_index}
 use Rattle.dr_graph.specs.Graph.{flagged}
 use Rattle.dr_core.proofs.Leasts.{least_turn, least_skip}
 use Rattle.dr_core.proofs.least.least_flagged.Goals as goal

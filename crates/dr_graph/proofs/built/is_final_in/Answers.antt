@@ -1,4 +1,4 @@
-use Rattle.std.proofs.Common.{◌∙◌, sym, ap, zero-add, not, refl, length, map, Vec, ℕ, Global}
+use Rattle.std.proofs.Common.{◌∙◌, sym, ap, zero-add, not, refl, map, Vec, ℕ, Global}
 use Rattle.dr_graph.specs.Order.{is_in}
 use Rattle.dr_graph.specs.Graph.{upstreams_of}
 use Rattle.dr_graph.proofs.Naming.{list_any-map}

@@ -1,4 +1,4 @@
-use Rattle.std.proofs.Common.{◌≡◌, ◌<◌, ℕ, Bool, true, false, sym, ap, ◌∙◌, arith, length, map, Vec, Global, [], List}
+use Rattle.std.proofs.Common.{◌≡◌, ◌<◌, ℕ, Bool, sym, ap, ◌∙◌, arith, length, map, Vec, Global, [], List}
 use Rattle.std.specs.Prelude.{not, ◌&&◌, get_or}
 use Rattle.std.proofs.lemmas.List.{get_or-map, length-map}
 use Rattle.dr_graph.specs.Order.{is_in}
