@@ -8,6 +8,9 @@ program=$(realpath "$1") || exit 2
 cd "$(dirname "$0")/../examples" || exit 2
 room=$(mktemp -d) || exit 2
 trap 'rm -rf "$room"' EXIT
+# (usage lines name the file that is run)
+cp "$program" "$room/disruptor" || exit 2
+program=$room/disruptor
 cases=0 failed=0
 
 fail() {
@@ -154,5 +157,5 @@ is=$?
 : > "$room/err"
 judge 'drive no-such-file.csv 2>&-' $is 4 '' ''
 
-echo "$program: $cases cases, $failed failed"
+echo "$1: $cases cases, $failed failed"
 [ "$failed" = 0 ]
