@@ -20,7 +20,7 @@ use Rattle.dr_core.specs.Shows.{KnowsRecents, Shows, IsStep, CanComplete}
 use Rattle.dr_core.specs.Inside.{IsWhole}
 use Rattle.dr_core.proofs.Shown.{same_next, same_front, same_taken, same_completed, same_halted, same_retired}
 use Rattle.dr_core.proofs.Leasts.{IsLeast, least_is, least_one}
-use Rattle.dr_core.proofs.Sound.{set_count}
+use Rattle.dr_core.proofs.Sound.{orderly, set_count}
 use Rattle.dr_core.proofs.Steps.{NoneHold}
 
 unless-none : (tests : List (Bool × Refusal)) (m : State) (o : Outcome) → NoneHold tests → unless tests m o ≡ o
@@ -75,23 +75,6 @@ halt_step v = accepted_step refl refl (λ m sh. record {
   shown = record { counts = sh.counts; flags = λ i. record (sh.flags i) { halted = true }; recents = sh.recents };
 })
 
-pub halt_whole : (v : CoreView) → IsWhole v → IsWhole (record v { halted = true })
-halt_whole v whole = record {
-  graph = whole.graph;
-  size = whole.size;
-  limit = whole.limit;
-  taken = whole.taken;
-  completed = whole.completed;
-  retired = whole.retired;
-  left = whole.left;
-  claimed = whole.claimed;
-  front = whole.front;
-  in_front = whole.in_front;
-  took = whole.took;
-  after = whole.after;
-  room = whole.room;
-}
-
 pub complete_step : (v : CoreView) (h upto : ℕ) → CanComplete v h upto → IsStep v (Complete h upto) Completed [] (record v { completed = slice_set v.completed h upto })
 complete_step v h upto can = accepted_step refl refl (λ m sh. record {
   passes = (lt-leb _ _ can.handler, (same_retired sh h ∙ can.left, (rw (same_completed sh) (le-ltb _ _ can.completed), (rw (same_taken sh) (le-ltb _ _ can.taken), tt))));
@@ -112,7 +95,7 @@ module _ (v : CoreView) (h upto : ℕ) (whole : IsWhole v) (can : CanComplete v 
 
   count_is : (k : ℕ) → slice_index counts k ≡ cond (k == h) upto (slice_index v.completed k)
   count_is k =
-      let len : length v.completed ≡ handlers v.setup = whole.completed in
+      let len : length v.completed ≡ handlers v.setup = whole.completed_len in
       let inside : h < handlers v.setup = can.handler in
       set_count v.completed h upto k (omega arith)
 
@@ -120,24 +103,6 @@ module _ (v : CoreView) (h upto : ℕ) (whole : IsWhole v) (can : CanComplete v 
   completed_grows k =
       rw (count_is k) (cond_both (k == h) upto (slice_index v.completed k) (λ n. slice_index v.completed k ≤ n)
       (λ y. (let e : k ≡ h = eqb-true k h y in rw e can.completed)) (λ n. omega arith))
-
-  pub complete_whole : IsWhole (record v { completed = counts })
-  complete_whole = record {
-    graph = whole.graph;
-    size = whole.size;
-    limit = whole.limit;
-    taken = whole.taken;
-    completed = length-set v.completed h upto ∙ whole.completed;
-    retired = whole.retired;
-    left = whole.left;
-    claimed = whole.claimed;
-    front = whole.front;
-    in_front = whole.in_front;
-    took = λ k. rw (count_is k) (cond_both (k == h) upto (slice_index v.completed k) (λ n. n ≤ slice_index v.taken k)
-        (λ y. (let e : k ≡ h = eqb-true k h y in rw e can.taken)) (λ n. whole.took k));
-    after = λ k u has. (let old : slice_index v.taken k ≤ slice_index v.completed u = whole.after k u has in omega (arith, completed_grows u));
-    room = λ k inside left. (let old : v.next ≤ v.setup.size + slice_index v.completed k = whole.room k inside left in omega (arith, completed_grows k));
-  }
 
 -- the owners after a claim
 owner_before : (owners : List ℕ) (n p s : ℕ) → s < length owners → slice_index (owners ++ replicate n p) s ≡ slice_index owners s
@@ -216,43 +181,9 @@ module _ (v : CoreView) (p n : ℕ) (known : ℕ → Known) (knows : ClaimsKnown
     };
   })
 
--- no handler completed more than an upstream
-pub orderly : (v : CoreView) → IsWhole v → IsOrderly v.setup.upstreams (λ h. slice_index v.completed h)
-orderly v whole h u has = (let a : slice_index v.completed h ≤ slice_index v.taken h = whole.took h in let b : slice_index v.taken h ≤ slice_index v.completed u = whole.after h u has in omega arith)
-
 -- the least of the finals' counts is the least of all that are left
 pub finals_least : (v : CoreView) → IsWhole v → (h : ℕ) → h < handlers v.setup → retired_in v h ≡ false → gate_of v ≤ slice_index v.completed h
-finals_least v whole h inside left = least_gates v.setup.upstreams whole.graph.gate (retired_in v) (λ k. slice_index v.completed k) (orderly v whole) h inside left
-
--- sequences are claimed within the limit and the room, and published within what is claimed; what is known of the recent ones is no part of it
-counts_whole : (v : CoreView) (next' front' : ℕ) (recent : List Known) → IsWhole v → next' ≤ v.setup.limit → ((h : ℕ) → h < handlers v.setup → retired_in v h ≡ false → next' ≤ v.setup.size + slice_index v.completed h) → v.front ≤ front' → front' ≤ next'
-    → IsWhole (record v { next = next'; front = front'; recent = recent })
-counts_whole v next' front' recent whole limit room up low = record {
-  graph = whole.graph;
-  size = whole.size;
-  limit = whole.limit;
-  taken = whole.taken;
-  completed = whole.completed;
-  retired = whole.retired;
-  left = whole.left;
-  claimed = limit;
-  front = low;
-  in_front = λ h. (let a : slice_index v.taken h ≤ v.front = whole.in_front h in omega arith);
-  took = whole.took;
-  after = whole.after;
-  room = room;
-}
-
-pub claim_whole : (v : CoreView) (n : ℕ) (recent : List Known) → IsWhole v → v.next + n ≤ v.setup.limit → v.next + n ≤ v.setup.size + gate_of v
-    → IsWhole (record v { next = v.next + n; recent = recent })
-claim_whole v n recent whole limit room =
-    let front : v.front ≤ v.next = whole.front in
-    counts_whole v (v.next + n) v.front recent whole limit
-    (λ h inside left. (let l : gate_of v ≤ slice_index v.completed h = finals_least v whole h inside left in omega arith))
-    (omega arith) (omega arith)
-
-pub front_whole : (v : CoreView) (front' : ℕ) (recent : List Known) → IsWhole v → v.front ≤ front' → front' ≤ v.next → IsWhole (record v { front = front'; recent = recent })
-front_whole v front' recent whole up low = counts_whole v v.next front' recent whole whole.claimed whole.room up low
+finals_least v whole h inside left = least_gates v.setup.upstreams whole.graph.gate (retired_in v) (λ k. slice_index v.completed k) (orderly whole.order) h inside left
 
 -- a claim that does not fit beside what the finals have not completed
 pub claim_no_room : (v : CoreView) (p n : ℕ) → p < producers v.setup.mode → n ≢ 0 → n ≤ v.setup.size → v.halted ≡ false → v.next + n ≤ v.setup.limit

@@ -8,7 +8,7 @@ use Rattle.dr_core.specs.declared.command.Command.{Command}
 use Rattle.dr_core.specs.declared.command.Command.TheVariants.{Claim, Write, Publish, Poll, Complete, Halt, Retire}
 use Rattle.dr_core.specs.declared.command.Reply.TheVariants.{Claimed, Drained, Gating, Idle}
 use Rattle.dr_graph.proofs.Gating.{finals_agree, finals_gate, found_in, least_rises}
-use Rattle.dr_graph.specs.Graph.{IsLayered, IsOrderly}
+use Rattle.dr_graph.specs.Graph.{IsLayered}
 use Rattle.dr_core.specs.Machine.{Setup, State, Outcome, handlers, next, front, available, gate, gating, retired_with, least_completed, refusals, accepted, unchanged, step, batch, cursor, opening}
 use Rattle.dr_core.specs.Transcript.{Entry, Transcript, LeadsFrom, LeadsTo, next_of, is_published, front_of, taken_by, completed_by, retired_by}
 use Rattle.dr_core.specs.Tells.{Tells}
@@ -16,7 +16,7 @@ use Rattle.dr_core.specs.Laws.{ReceivedInOrder, AfterUpstreams, HasRoom, NoClaim
 use Rattle.dr_core.proofs.Leasts.{least_is, least_agree, least_of-member}
 use Rattle.dr_core.proofs.Steps.{NoneHold, unless-cases}
 use Rattle.dr_core.proofs.Tells.{tells_more}
-use Rattle.dr_core.proofs.Sound.{IsSound, entry_of, step_changes, set_count}
+use Rattle.dr_core.proofs.Sound.{IsSound, orderly, entry_of, step_changes, set_count}
 use Rattle.dr_core.proofs.Keeps.{opening_sound, step_sound, zeros}
 
 -- the machine is in this state after this transcript
@@ -92,10 +92,10 @@ poll_cases c m h limit P b d g i =
     (λ y. let both : (m.halted ≡ true) × ((slice_index m.taken h == next m) ≡ true) = and_parts _ _ y in d both.0 (eqb-true _ _ both.1))
     (λ n'. cond_both (nat_lt (slice_index m.taken h) (cursor c m)) _ _ P (λ y. g) (λ n''. i)))
 
-abbrev Rises : State → ℕ → Outcome → Type 0
+abbrev pub Rises : State → ℕ → Outcome → Type 0
 Rises m h o = slice_index m.completed h ≤ slice_index o.state.completed h
 
-accepted_rises : (c : Setup) (m : State) (command : Command) (h : ℕ) → IsSound c m → NoneHold (refusals c m command) → Rises m h (accepted c m command)
+pub accepted_rises : (c : Setup) (m : State) (command : Command) (h : ℕ) → IsSound c m → NoneHold (refusals c m command) → Rises m h (accepted c m command)
 accepted_rises c m (Claim p n) h sound none = omega arith
 accepted_rises c m (Write p s v) h sound none = omega arith
 accepted_rises c m (Publish p lo hi) h sound none = omega arith
@@ -217,9 +217,11 @@ lawful c t m leads = record {
   drained_is_complete = λ start rest e is. (let r : Through c start (e ∷ rest) m = through c t m leads start (e ∷ rest) is in drains c start r.0 e (reached c start r.0 r.1) r.2.0);
 }
 
--- no handler of a state completed more than an upstream
-sound_orderly : (c : Setup) (m : State) → IsSound c m → IsOrderly c.upstreams (λ h. slice_index m.completed h)
-sound_orderly c m sound h u has = (let a : slice_index m.completed h ≤ slice_index m.taken h = sound.took h in let b : slice_index m.taken h ≤ slice_index m.completed u = sound.after h u has in omega arith)
+-- a handler that may retire leaves another
+pub leaves_another : (c : Setup) (m : State) (h : ℕ) → NoneHold (refusals c m (Retire h)) → (k : ℕ) × (k < handlers c) × (retired_with m h k ≡ false)
+leaves_another c m h none =
+    let at : (k : ℕ) × (0 ≤ k) × (k < 0 + handlers c) × (not (retired_with m h k) ≡ true) = found_in (λ k. not (retired_with m h k)) 0 (handlers c) (not-false _ none.1.1.1.0) in
+    (at.0, omega (arith, at.2), not-true _ at.3)
 
 -- no retirement lowers the count that a claim is gated by
 pub retirement_keeps : (c : Setup) (t : Transcript) (m : State) (h : ℕ) → IsLayered c.upstreams → LeadsTo c t m → gate c m ≤ gate c (step c m (Retire h)).state
@@ -227,5 +229,5 @@ retirement_keeps c t m h layered leads =
     let sound : IsSound c m = (reached c t m leads).sound in
     unless-cases (λ o. gate c m ≤ gate c o.state) (refusals c m (Retire h)) m (accepted c m (Retire h)) (λ r. omega arith)
     (λ none.
-    let at : (k : ℕ) × (0 ≤ k) × (k < 0 + handlers c) × (not (retired_with m h k) ≡ true) = found_in (λ k. not (retired_with m h k)) 0 (handlers c) (not-false _ none.1.1.1.0) in
-    least_rises c.upstreams (finals_gate c.upstreams layered) m.retired (retired_with m h) (λ k here. (or_parts _ _ here).0) (λ k. slice_index m.completed k) (sound_orderly c m sound) at.0 (omega (arith, at.2)) (not-true _ at.3))
+    let other : (k : ℕ) × (k < handlers c) × (retired_with m h k ≡ false) = leaves_another c m h none in
+    least_rises c.upstreams (finals_gate c.upstreams layered) m.retired (retired_with m h) (λ k here. (or_parts _ _ here).0) (λ k. slice_index m.completed k) (orderly sound.order) other.0 other.1 other.2)

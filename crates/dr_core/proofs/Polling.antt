@@ -136,30 +136,6 @@ module _ (v : CoreView) (h limit : ℕ) (whole : IsWhole v) (inside : h < handle
             let there : (is_shown (known_at v k) ≡ true) × (value_of (known_at v k) ≡ unwrap_or (m.written k) no_event) = known_value (known_at v k) _ _ _ (below_front v m sh k (omega arith)) (sh.recent k (omega arith) (omega arith)) in
             sym (holds k (omega arith) (omega arith) there.0 ∙ there.1))
 
-    pub batch_whole : (count : ℕ) → slice_index v.taken h + count ≤ offered_to v (upstreams_of v.setup.upstreams h) → IsWhole (record v { taken = slice_set v.taken h (slice_index v.taken h + count) })
-    batch_whole count le =
-        let len : h < length v.taken = (let e : length v.taken ≡ handlers v.setup = whole.taken in omega arith) in
-        let f : offered_to v (upstreams_of v.setup.upstreams h) ≤ v.front = offered_front v whole (upstreams_of v.setup.upstreams h) in
-        record {
-          graph = whole.graph;
-          size = whole.size;
-          limit = whole.limit;
-          taken = length-set v.taken h (slice_index v.taken h + count) ∙ whole.taken;
-          completed = whole.completed;
-          retired = whole.retired;
-          left = whole.left;
-          claimed = whole.claimed;
-          front = whole.front;
-          in_front = λ k. rw (set_count v.taken h (slice_index v.taken h + count) k len) (cond_both (k == h) (slice_index v.taken h + count) (slice_index v.taken k) (λ n. n ≤ v.front) (λ y. omega arith) (λ n. whole.in_front k));
-          took = λ k. rw (set_count v.taken h (slice_index v.taken h + count) k len) (cond_both (k == h) (slice_index v.taken h + count) (slice_index v.taken k) (λ n. slice_index v.completed k ≤ n)
-              (λ y. (let e : k ≡ h = eqb-true k h y in let o : slice_index v.completed h ≤ slice_index v.taken h = whole.took h in rw e (omega arith))) (λ n. whole.took k));
-          after = λ k u has. rw (set_count v.taken h (slice_index v.taken h + count) k len) (cond_both (k == h) (slice_index v.taken h + count) (slice_index v.taken k) (λ n. n ≤ slice_index v.completed u)
-              (λ y. (let e : k ≡ h = eqb-true k h y in let o : offered_to v (upstreams_of v.setup.upstreams k) ≤ slice_index v.completed u = offered_upstream v (upstreams_of v.setup.upstreams k) u has in
-              let o2 : offered_to v (upstreams_of v.setup.upstreams h) ≤ slice_index v.completed u = rw e at o in omega arith))
-              (λ n. whole.after k u has));
-          room = whole.room;
-        }
-
 -- of some upstreams it is their least count
 pub offered_some : (v : CoreView) (ups : List ℕ) → 0 < length ups → least_of (map (λ h. slice_index v.completed h) ups) ≡ offered_to v ups
 offered_some v [] l = absurd (omega arith)
@@ -173,7 +149,7 @@ upstream_within graph is h u has = elim (cases_lt h (length graph)) [
 ]
 
 pub ups_within : (v : CoreView) → IsWhole v → (h : ℕ) (ups : List ℕ) → ups ≡ upstreams_of v.setup.upstreams h → All (λ u. u < length v.completed) ups
-ups_within v whole h ups is = rw is (λ k d l. let e : length v.completed ≡ handlers v.setup = whole.completed in let w : get_or (upstreams_of v.setup.upstreams h) k d < handlers v.setup = upstream_within v.setup.upstreams whole.graph h (get_or (upstreams_of v.setup.upstreams h) k d) (Contains-get_or (upstreams_of v.setup.upstreams h) k d l) in omega arith)
+ups_within v whole h ups is = rw is (λ k d l. let e : length v.completed ≡ handlers v.setup = whole.completed_len in let w : get_or (upstreams_of v.setup.upstreams h) k d < handlers v.setup = upstream_within v.setup.upstreams whole.graph h (get_or (upstreams_of v.setup.upstreams h) k d) (Contains-get_or (upstreams_of v.setup.upstreams h) k d l) in omega arith)
 
 -- more room than the size gives no more
 step_capped : (v : CoreView) (m : State) (h limit : ℕ) → IsWhole v → Shows v m → step v.setup m (Poll h limit) ≡ step v.setup m (Poll h (min limit v.setup.size))
@@ -243,5 +219,5 @@ pub record PollsAt (v : CoreView) (h limit first to : ℕ) : Type 0 where
 
 pub polls_at : (v : CoreView) (h limit count first to : ℕ) → IsWhole v → count ≡ handlers v.setup → h < count → retired_in v h ≡ false → limit ≢ 0 → first ≡ get_or v.taken h first → to ≡ offered_to v (upstreams_of v.setup.upstreams h) → PollsAt v h limit first to
 polls_at v h limit count first to whole counted inside left some read offered =
-    let taken : length v.taken ≡ handlers v.setup = whole.taken in
+    let taken : length v.taken ≡ handlers v.setup = whole.taken_len in
     record { whole = whole; inside = omega arith; left = left; some = some; taken = get_or_read v.taken h first (omega arith) read 0; offered = offered }

@@ -13,9 +13,10 @@ use Rattle.dr_core.specs.Machine.{State, handlers, retired_with}
 use Rattle.dr_core.specs.CoreView.{CoreView, retired_in, gate_of}
 use Rattle.dr_core.specs.Shows.{Shows, IsStep}
 use Rattle.dr_core.specs.Inside.{IsWhole}
-use Rattle.dr_core.proofs.CoreSteps.{accepted_step, refused_step, orderly, finals_least}
+use Rattle.dr_core.proofs.CoreSteps.{accepted_step, refused_step, finals_least}
 use Rattle.dr_core.proofs.Gating.{seen_below}
 use Rattle.dr_core.proofs.Shown.{same_retired}
+use Rattle.dr_core.proofs.Sound.{orderly}
 use Rattle.dr_core.proofs.Pushes.{or-false}
 
 -- a flag that was read
@@ -82,23 +83,6 @@ module _ (v : CoreView) (h : ℕ) (whole : IsWhole v) (inside : h < handlers v.s
           let at : (k : ℕ) × (0 ≤ k) × (k < 0 + handlers v.setup) × (not (retired_in v k || k == h) ≡ true) = found_in (λ k. not (retired_in v k || k == h)) 0 (handlers v.setup) others in
           (at.0, omega (arith, at.2), flagged_more v.retired h at.0 within ∙ not-true _ at.3)
 
-      pub retire_whole : IsWhole (retired_core v h)
-      retire_whole = record {
-        graph = whole.graph;
-        size = whole.size;
-        limit = whole.limit;
-        taken = whole.taken;
-        completed = whole.completed;
-        retired = length-set v.retired h true ∙ whole.retired;
-        left = other;
-        claimed = whole.claimed;
-        front = whole.front;
-        in_front = whole.in_front;
-        took = whole.took;
-        after = whole.after;
-        room = λ k lt here. whole.room k lt (fewer k here);
-      }
-
       -- no final that is left now is below what was remembered
       pub retire_gate : (gate : ℕ) → ((f : ℕ) → Contains (finals_without v.setup.upstreams (retired_in v)) f → gate ≤ slice_index v.completed f) → (f : ℕ) → Contains (finals_without v.setup.upstreams (retired_in (retired_core v h))) f → gate ≤ slice_index v.completed f
       retire_gate gate below f has =
@@ -110,4 +94,4 @@ module _ (v : CoreView) (h : ℕ) (whole : IsWhole v) (inside : h < handlers v.s
       -- a retirement never lowers the least count of the finals
       pub retire_room : gate_of v ≤ gate_of (retired_core v h)
       retire_room =
-          least_rises v.setup.upstreams whole.graph.gate (retired_in v) (retired_in (retired_core v h)) fewer (λ k. slice_index v.completed k) (orderly v whole) other.0 other.1 other.2
+          least_rises v.setup.upstreams whole.graph.gate (retired_in v) (retired_in (retired_core v h)) fewer (λ k. slice_index v.completed k) (orderly whole.order) other.0 other.1 other.2

@@ -13,9 +13,10 @@ use Rattle.dr_core.specs.declared.command.Reply.{Reply}
 use Rattle.dr_core.specs.declared.command.Reply.TheVariants.{Claimed, Drained, Gating, Idle, Refused}
 use Rattle.dr_seq.specs.declared.event.Event.{Event}
 use Rattle.dr_seq.specs.Event.{no_event}
-use Rattle.dr_graph.specs.Graph.{upstreams_of, least_of}
+use Rattle.dr_graph.specs.Graph.{upstreams_of, least_of, IsOrderly}
 use Rattle.dr_core.specs.Machine.{Setup, State, Outcome, handlers, next, front, available, offered, refusals, accepted, step, batch, cursor}
 use Rattle.dr_core.specs.Transcript.{Entry, claimed_below, claimant, first_of, wrote, covers, batch_to, completion, halts, retires}
+use Rattle.dr_core.specs.Inside.{AreInOrder}
 use Rattle.dr_core.proofs.Leasts.{least_is, least_of-le}
 use Rattle.dr_core.proofs.Pushes.{or-false}
 use Rattle.dr_core.proofs.Steps.{NoneHold, unless-cases}
@@ -26,20 +27,19 @@ pub record AreMarked (claims : ℕ) (marks : ℕ → Bool) (events : ℕ → Opt
   pub claimed : (s : ℕ) → marks s ≡ true → s < claims
   pub written : (s : ℕ) → marks s ≡ true → is_none (events s) ≡ false
 
--- a count a handler; each took no more than lies before the front and than each of its upstreams completed, and completed no more than it took
-pub record AreTaken (c : Setup) (limit : ℕ) (taken completed : List ℕ) : Type 0 where
-  pub taken_len : length taken ≡ handlers c
-  pub completed_len : length completed ≡ handlers c
-  pub in_front : (h : ℕ) → slice_index taken h ≤ limit
-  pub took : (h : ℕ) → slice_index completed h ≤ slice_index taken h
-  pub after : (h u : ℕ) → Contains (upstreams_of c.upstreams h) u → slice_index taken h ≤ slice_index completed u
+-- no handler completed more than an upstream
+pub orderly : {c : Setup} {upto : ℕ} {taken completed : List ℕ} → AreInOrder c upto taken completed → IsOrderly c.upstreams (λ h. slice_index completed h)
+orderly {taken = taken} {completed = completed} order h u has =
+    let a : slice_index completed h ≤ slice_index taken h = order.took h in
+    let b : slice_index taken h ≤ slice_index completed u = order.after h u has in
+    omega arith
 
 -- so of every state of the machine
 pub record IsSound (c : Setup) (m : State) : Type 0 where
   pub marks : AreMarked (next m) m.published m.written
   pub open marks use *
-  pub counts : AreTaken c (front m) m.taken m.completed
-  pub open counts use *
+  pub order : AreInOrder c (front m) m.taken m.completed
+  pub open order use *
 
 abbrev pub entry_of : Command → Outcome → Entry
 entry_of command o = record { command = command; reply = o.reply; values = o.values }

@@ -44,7 +44,6 @@ invariant_of-self c =
     record {
       whole = c.self.invariant.whole;
       available = c.self.invariant.available;
-      reached = c.self.invariant.reached;
       gating = c.self.invariant.gating;
       gate = rw (c.raise.ensures, least_is v _ _ _ _ c.self.invariant.gating c.deref.ensures.value c.deref-2.ensures.value c.least_flagged-least.ensures) (least_below v c.self.invariant.whole);
     }

@@ -2,7 +2,7 @@ use Rattle.std.proofs.Common.{◌≡◌, ◌^◌, ◌≤◌, length, sym, ap, �
 use Rattle.std.proofs.lemmas.List.{length-replicate}
 use Rattle.dr_core.specs.Machine.{Setup, setup_of}
 use Rattle.dr_core.proofs.Recents.{none_marked}
-use Rattle.dr_core.proofs.Opening.{opening_shows, opening_reached, opening_whole}
+use Rattle.dr_core.proofs.Opening.{opening_shows, opening_whole}
 use Rattle.dr_core.proofs.Gating.{written_back}
 use Rattle.dr_core.proofs.engine.Core.open.Goals as goal
 use Rattle.dr_core.proofs.engine.Core.open.Goals.{After-new-4}
@@ -27,7 +27,7 @@ invariant_of-result c =
           (none_taken (goal.at.invariant_of-result c).After-new-4)
           (none_completed (goal.at.invariant_of-result c).After-new-4)
           (none_retired (goal.at.invariant_of-result c).After-new-4)
-          c.len-handlers.ensures.lawful size (let small : c.args.limit ≤ 2 ^ 62 = omega arith in small);
+          (record { graph = c.len-handlers.ensures.lawful; size = size; limit = (let small : c.args.limit ≤ 2 ^ 62 = omega arith in small) });
       available = record {
         published = ap length c.in_ok-published.ensures ∙ length-replicate _ _;
         written = ap length c.in_ok-written.ensures ∙ length-replicate _ _;
@@ -37,10 +37,6 @@ invariant_of-result c =
         unwritten = λ s later. rw c.in_ok-written.ensures (none_marked _ s);
       };
       gating = written_back c.in_ok-gating.gating c.flag_gating.new.flags c.deref.result.now _ c.args.graph.upstreams (c.flag_gating.auto.flags ∙ c.deref_mut.ensures.len) c.deref.ensures.value c.flag_gating.ensures;
-      reached = opening_reached setup c.args.graph.names _ c.in_ok-taken.taken.items c.in_ok-completed.completed.items c.in_ok-retired.retired.items
-          (none_taken (goal.at.invariant_of-result c).After-new-4)
-          (none_completed (goal.at.invariant_of-result c).After-new-4)
-          (none_retired (goal.at.invariant_of-result c).After-new-4);
       gate = λ f has. rw c.new-4.ensures (omega arith);
     }
 

@@ -1,4 +1,4 @@
-use Rattle.std.proofs.Common.{◌≡◌, ℕ, ◌+◌, ◌-◌, ◌<◌, min, length, map, sym, ap, ◌∙◌, arith, List, take, drop, ◌++◌, slice_index, false, ◌&&◌}
+use Rattle.std.proofs.Common.{refl, ◌≡◌, ℕ, ◌+◌, ◌-◌, ◌<◌, min, length, map, sym, ap, ◌∙◌, arith, List, take, drop, ◌++◌, slice_index, false, ◌&&◌}
 use Rattle.std.specs.Prelude.{if◌then◌else◌, ◌==◌}
 use Rattle.std.specs.List.{range_with_len}
 use Rattle.std.proofs.lemmas.Bool.{eqb-false, and_left, and_right, ne_eqb}
@@ -14,10 +14,10 @@ use Rattle.dr_core.specs.Shows.{IsStep, offered_to}
 use Rattle.dr_core.specs.declared.command.Command.TheVariants.{Poll}
 use Rattle.dr_core.specs.declared.command.Reply.TheVariants.{Batch}
 use Rattle.std.specs.Vec.{with_item}
-use Rattle.dr_core.proofs.Polling.{PollsAt, polls_at, batch_step, batch_whole, drained_step, gating_step, idle_step}
+use Rattle.dr_core.proofs.Polling.{PollsAt, polls_at, batch_step, drained_step, gating_step, idle_step}
 use Rattle.dr_core.proofs.Recents.{shown_event}
 use Rattle.dr_core.proofs.Retiring.{told}
-use Rattle.dr_core.proofs.Running.{step_reached}
+use Rattle.dr_core.proofs.Whole.{step_whole}
 use Rattle.dr_core.proofs.engine.Core.poll_into.Goals as goal
 use Rattle.dr_core.proofs.engine.Core.poll_into.Goals.{After-available-available, After-copy_out, After-cursor, else-self-via-then-self+else-first-self, else-self-via-else-self}
 
@@ -46,9 +46,8 @@ invariant_of-self c =
     let more : slice_index v.taken c.args.h < offered_to v (upstreams_of v.setup.upstreams c.args.h) = rw (at.taken, at.offered) at c.if-first-available.true in
     let count : c.min-count.result ≡ min (c.available-available.result - c.index-first.result.now) (length c.args.out.now) = c.min-count.ensures in
     record {
-      whole = rw at.taken (batch_whole v c.args.h (length c.args.out.now) at.whole at.inside at.left at.some more c.min-count.result (let a = at.taken in let b = at.offered in omega arith));
+      whole = step_whole (took (goal.at.invariant_of-self c).After-copy_out at) refl c.self.invariant.whole;
       available = c.self.invariant.available;
-      reached = step_reached (took (goal.at.invariant_of-self c).After-copy_out at) c.self.invariant.reached;
       gating = c.self.invariant.gating;
       gate = c.self.invariant.gate;
     }

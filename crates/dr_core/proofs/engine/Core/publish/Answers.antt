@@ -10,10 +10,9 @@ use Rattle.dr_core.specs.Machine.{is_single}
 use Rattle.dr_core.specs.CoreView.{CoreView, known_at}
 use Rattle.dr_core.specs.Availability.{stamped, publish_fault}
 use Rattle.dr_core.specs.Inside.{view_of, kept_of}
-use Rattle.dr_core.proofs.CoreSteps.{front_whole}
 use Rattle.dr_core.proofs.Publishing.{publish_front, publish_refused, publish_order, publish_step}
 use Rattle.dr_core.proofs.Recents.{known_there, publishes_known, publishes_available, front_known}
-use Rattle.dr_core.proofs.Running.{step_reached}
+use Rattle.dr_core.proofs.Whole.{step_whole}
 use Rattle.dr_core.proofs.Stamped.{length-stamped}
 use Rattle.dr_core.proofs.Writing.{near}
 use Rattle.dr_core.proofs.engine.Core.publish.Goals as goal
@@ -76,9 +75,8 @@ invariant_of-self c =
     let at : After-front-self-inside = (goal.at.invariant_of-self c).After-front-self-inside in
     let recent : v.next ≤ c.args.lo + v.setup.size = near v c.self.invariant.whole c.args.lo c.if-lo-self.false in
     record {
-      whole = front_whole v c.front-self-inside.result _ c.self.invariant.whole (moved at).low (moved at).high;
+      whole = step_whole (published at) refl c.self.invariant.whole;
       available = rw c.mark_all.ensures (publishes_available v (kept_of c.self.inside) (known_there c.self.inside) c.self.invariant.available c.self.invariant.whole.front (size_positive v.setup.size c.self.invariant.whole.size) c.args.p c.args.lo c.args.hi c.front-self-inside.result c.if-lo-hi.false c.if-hi-self.false recent refl (moved at));
-      reached = step_reached (published at) c.self.invariant.reached;
       gating = c.self.invariant.gating;
       gate = c.self.invariant.gate;
     }

@@ -1,13 +1,14 @@
 use Rattle.std.proofs.Common.{◌≡◌, ◌<◌, arith, true, false, ◌||◌, sym, ◌∙◌}
 use Rattle.std.specs.Prelude.{◌==◌}
 use Rattle.std.proofs.lemmas.Bool.{not-true, not-false}
+use Rattle.std.proofs.lemmas.List.{length-set}
 use Rattle.dr_graph.specs.Graph.{is_some_left, is_final_without}
 use Rattle.dr_core.specs.Machine.{handlers}
 use Rattle.dr_core.specs.CoreView.{CoreView, retired_in}
 use Rattle.dr_core.specs.Inside.{view_of}
-use Rattle.dr_core.proofs.Retiring.{told, others_told, not_final_step, last_step, retire_step, retire_whole, retire_gate, retire_room}
+use Rattle.dr_core.proofs.Retiring.{told, others_told, not_final_step, last_step, retire_step, retire_gate, retire_room}
 use Rattle.dr_core.proofs.Gating.{written_back}
-use Rattle.dr_core.proofs.Running.{step_reached}
+use Rattle.dr_core.proofs.Whole.{step_whole}
 use Rattle.dr_core.proofs.engine.Core.retire.Goals as goal
 use Rattle.dr_core.proofs.engine.Core.retire.Goals.{After-is_final_without, After-index_mut}
 
@@ -55,10 +56,9 @@ invariant_of-self c =
     let v : CoreView = view_of c.self.inside in
     let L = last (goal.at.invariant_of-self c).After-index_mut in
     record {
-      whole = retire_whole v c.args.h c.self.invariant.whole L.inside L.left L.final L.others;
+      whole = step_whole (retire_step v c.args.h c.self.invariant.whole L.inside L.left L.final L.others) (length-set c.self.inside.retired.items c.args.h true) c.self.invariant.whole;
       available = c.self.invariant.available;
       gating = written_back c.self.inside.gating c.flag_gating.new.flags c.deref-3.result.now _ c.self.inside.graph.upstreams (c.flag_gating.auto.flags ∙ c.deref_mut.ensures.len) c.deref-3.ensures.value c.flag_gating.ensures;
-      reached = step_reached (retire_step v c.args.h c.self.invariant.whole L.inside L.left L.final L.others) c.self.invariant.reached;
       gate = retire_gate v c.args.h c.self.invariant.whole L.inside L.left L.final L.others c.self.inside.gate c.self.invariant.gate;
     }
 
