@@ -95,7 +95,7 @@ leads_one k command reply values rest m n end is leads =
 
 -- the picture, by its parts
 abbrev parts : Shape → World → State
-parts k w = shown (claimed w.sender) (values_of w.sender.published w.sender.pending) (word_at w.words cursor_word) (map taken_of w.receivers) (counts_of k w.words) (word_at w.words halt_word == 1)
+parts k w = shown k (claimed w.sender) (values_of w.sender.published w.sender.pending) (word_at w.words cursor_word) (map taken_of w.receivers) (counts_of k w.words) (word_at w.words halt_word == 1)
 
 same_taken : (w : World) (h : ℕ) (r q : ReceiverRecord) → get_elem? w.receivers h ≡ some r → taken_of q ≡ taken_of r → map taken_of (set w.receivers h q) ≡ map taken_of w.receivers
 same_taken w h r q at same = map-set_same taken_of w.receivers h q r (same ∙ ap taken_of (sym (value_at w.receivers h r r at)))
@@ -107,7 +107,7 @@ inside_of : (k : Shape) (w : World) (h : ℕ) (r : ReceiverRecord) → Kept k w 
 inside_of k w h r K at = let b = at_below w.receivers h r at in let e = K.ends in omega arith
 
 same_picture : (k : Shape) (w : World) (h : ℕ) (r q : ReceiverRecord) → get_elem? w.receivers h ≡ some r → taken_of q ≡ taken_of r → picture_of k (receiver_knows w h q) ≡ picture_of k w
-same_picture k w h r q at same = ap (λ (t : List ℕ). shown (claimed w.sender) (values_of w.sender.published w.sender.pending) (word_at w.words cursor_word) t (counts_of k w.words) (word_at w.words halt_word == 1)) (same_taken w h r q at same)
+same_picture k w h r q at same = ap (λ (t : List ℕ). shown k (claimed w.sender) (values_of w.sender.published w.sender.pending) (word_at w.words cursor_word) t (counts_of k w.words) (word_at w.words halt_word == 1)) (same_taken w h r q at same)
 
 -- there is a final handler
 pub some_final : (k : Shape) → IsGraph k.upstreams → 0 < length (finals k.upstreams)
@@ -162,16 +162,16 @@ lead_claim k w n rest end room K leads =
             let longer : length s.published + length (s.pending ++ replicate n nothing) ≡ claimed s + n = omega (arith, length-append s.pending (replicate n nothing), length-replicate n nothing) in
             let vs = values_of s.published s.pending in
             let joined : values_of s.published (s.pending ++ replicate n nothing) ≡ vs ++ replicate n nothing = sym (append_assoc (map (λ event. Some event) s.published) s.pending (replicate n nothing)) in
-            let m = shown (claimed s) vs (word_at w.words cursor_word) (map taken_of w.receivers) (counts_of k w.words) false in
+            let m = shown k (claimed s) vs (word_at w.words cursor_word) (map taken_of w.receivers) (counts_of k w.words) false in
             let r = room some_one in
             let halt : (found == 0) ≡ true = eq-eqb found 0 going in
             let off : (found == 1) ≡ false = ne_eqb found 1 (λ (e : found ≡ 1). omega arith) in
-            let going_on : Leads k rest (shown (claimed s + n) (vs ++ replicate n None) (word_at w.words cursor_word) (map taken_of w.receivers) (counts_of k w.words) false) end =
-            subst (λ (x : State). Leads k rest x end) (λ i. shown (longer i) (joined i) (word_at w.words cursor_word) (map taken_of w.receivers) (counts_of k w.words) (off i)) more in
+            let going_on : Leads k rest (shown k (claimed s + n) (vs ++ replicate n None) (word_at w.words cursor_word) (map taken_of w.receivers) (counts_of k w.words) false) end =
+            subst (λ (x : State). Leads k rest x end) (λ i. shown k (longer i) (joined i) (word_at w.words cursor_word) (map taken_of w.receivers) (counts_of k w.words) (off i)) more in
             let one = leads_one k (Claim 0 n) (Claimed (claimed s) (claimed s + n - 1)) [] rest m _ end
             (claim_step k (claimed s) n vs (word_at w.words cursor_word) (map taken_of w.receivers) (counts_of k w.words) some_one (claim_fits k w n r K) r.limit (claim_room k w n (map taken_of w.receivers) m refl r K)) going_on in
             let here : Leads k (entry (Claim 0 n) (Claimed (claimed s) (claimed s + n - 1)) [] ++ rest) (parts k w) end =
-            subst (λ (b : Bool). Leads k (entry (Claim 0 n) (Claimed (claimed s) (claimed s + n - 1)) [] ++ rest) (shown (claimed s) vs (word_at w.words cursor_word) (map taken_of w.receivers) (counts_of k w.words) b) end) (sym off) one in
+            subst (λ (b : Bool). Leads k (entry (Claim 0 n) (Claimed (claimed s) (claimed s + n - 1)) [] ++ rest) (shown k (claimed s) vs (word_at w.words cursor_word) (map taken_of w.receivers) (counts_of k w.words) b) end) (sym off) one in
             let both : (not (n == 0) && (found == 0)) ≡ true = rw (ne_eqb n 0 (λ (e : n ≡ 0). omega arith)) halt in
             subst (λ (b : Bool). Leads k (claim_of w n b ++ rest) (parts k w) end) (sym both) here)
         | inr over ↦ (
@@ -201,8 +201,8 @@ lead_write k w x v rest end has K leads =
     sym (set-append_right (map (λ event. Some event) s.published) s.pending (length s.published) x.sequence (Some event) (length-map s.published (λ event. Some event)) le) in
     let counts : counts_of k us ≡ counts_of k w.words = counts_stay k w.words i v (λ h inside. (λ (e : count_word h ≡ i). omega arith)) in
     let one = stays cursor_word (omega arith) in let two = stays halt_word (omega arith) in
-    let going_on : Leads k rest (shown (claimed s) (set vs x.sequence (Some event)) (word_at w.words cursor_word) (map taken_of w.receivers) (counts_of k w.words) (word_at w.words halt_word == 1)) end =
-    subst (λ (y : State). Leads k rest y end) (λ i. shown (length s.published + same i) (place i) (one i) (map taken_of w.receivers) (counts i) (two i == 1)) leads in
+    let going_on : Leads k rest (shown k (claimed s) (set vs x.sequence (Some event)) (word_at w.words cursor_word) (map taken_of w.receivers) (counts_of k w.words) (word_at w.words halt_word == 1)) end =
+    subst (λ (y : State). Leads k rest y end) (λ i. shown k (length s.published + same i) (place i) (one i) (map taken_of w.receivers) (counts i) (two i == 1)) leads in
     subst (λ (h : Option HalfWrite). Leads k (write_of h v ++ rest) (parts k w) end) (sym has)
     (leads_one k (Write 0 x.sequence event) Written [] rest (parts k w) _ end
     (write_step k (claimed s) vs (word_at w.words cursor_word) (map taken_of w.receivers) (counts_of k w.words) (word_at w.words halt_word == 1) x.sequence event count (omega arith) lt) going_on)
@@ -233,8 +233,8 @@ lead_publish k w n rest end lt le all K leads =
     let stays : (j : ℕ) → 0 < j → word_at us j ≡ word_at w.words j = λ j pos. get_or-set_other w.words cursor_word j n 0 (λ (e : j ≡ 0). omega arith) in
     let counts : counts_of k us ≡ counts_of k w.words = counts_stay k w.words cursor_word n (λ h inside. (λ (e : count_word h ≡ cursor_word). omega arith)) in
     let one : word_at us cursor_word ≡ n = get_or-set_same w.words cursor_word n 0 (omega arith) in let two = stays halt_word (omega arith) in
-    let going_on : Leads k rest (shown (claimed s) vs n (map taken_of w.receivers) (counts_of k w.words) (word_at w.words halt_word == 1)) end =
-    subst (λ (y : State). Leads k rest y end) (λ i. shown (whole i) (same i) (one i) (map taken_of w.receivers) (counts i) (two i == 1)) leads in
+    let going_on : Leads k rest (shown k (claimed s) vs n (map taken_of w.receivers) (counts_of k w.words) (word_at w.words halt_word == 1)) end =
+    subst (λ (y : State). Leads k rest y end) (λ i. shown k (whole i) (same i) (one i) (map taken_of w.receivers) (counts i) (two i == 1)) leads in
     leads_one k (Publish 0 (word_at w.words cursor_word) (n - 1)) Published [] rest (parts k w) _ end
     (publish_step k (claimed s) vs (word_at w.words cursor_word) (map taken_of w.receivers) (counts_of k w.words) (word_at w.words halt_word == 1) n (omega arith) le
     (λ q low high. (let a = all q (omega arith) high in
@@ -247,8 +247,8 @@ lead_drained k w h r rest end at tells K leads =
     let s = w.sender in let vs = values_of s.published s.pending in let d = counts_of k w.words in let ts = map taken_of w.receivers in
     let on : true ≡ (word_at w.words halt_word == 1) = sym (eq-eqb (word_at w.words halt_word) 1 closed.0) in
     let inside = inside_of k w h r K at in
-    let S : Bool → State = λ b. shown (claimed s) vs (word_at w.words cursor_word) ts d b in
-    let seen : front (S true) ≡ word_at w.words cursor_word = shown_front (claimed s) vs (word_at w.words cursor_word) ts d true (omega arith) in
+    let S : Bool → State = λ b. shown k (claimed s) vs (word_at w.words cursor_word) ts d b in
+    let seen : front (S true) ≡ word_at w.words cursor_word = shown_front k (claimed s) vs (word_at w.words cursor_word) ts d true (omega arith) in
     let offer : available (setup_of k) (S true) h ≤ claimed s = offered_at_most (S true) (upstreams_of k.upstreams h) (claimed s) (omega arith)
     (λ u has. (let i = upstream_inside k K.graph h u inside has in let c = count_at k w.words u i in let o = receiver_of_handler k w K u i in let a = o.2.count in let b = o.2.completed in let e = o.2.taken in omega arith)) in
     let step = drained_step k (claimed s) vs (word_at w.words cursor_word) ts d h inside offer (taken_at w h r at ∙ omega arith) in
@@ -273,7 +273,7 @@ lead_take k w h first r rest end at half low K leads =
     let below : n < length s.published = early k w h r at low K in
     let inside = inside_of k w h r K at in let was = K.received h r at in let cursor = K.counts.cursor in
     let is : get_or ts h 0 ≡ n = taken_at w h r at in
-    let seen : front m ≡ word_at w.words cursor_word = shown_front (claimed s) (values_of s.published s.pending) (word_at w.words cursor_word) ts (counts_of k w.words) (word_at w.words halt_word == 1) (omega arith) in
+    let seen : front m ≡ word_at w.words cursor_word = shown_front k (claimed s) (values_of s.published s.pending) (word_at w.words cursor_word) ts (counts_of k w.words) (word_at w.words halt_word == 1) (omega arith) in
     let more : n < available (setup_of k) m h = offered_more m (upstreams_of k.upstreams h) n (λ none. omega arith)
     (λ u has. (let i = upstream_inside k K.graph h u inside has in let c = count_at k w.words u i in let a = low.completed u has in let b = last_look_le k w.words 0 r.looks (count_word u) (omega arith) was.looks in omega arith)) in
     let value : unwrap_or (m.written n) no_event ≡ found =
@@ -297,18 +297,18 @@ lead_complete k w h n r rest end at rise le K leads =
     let one = stays cursor_word (λ e. omega arith) in let two = stays halt_word (λ e. omega arith) in
     let counts : counts_of k us ≡ set (counts_of k w.words) h n = count_set k w.words h n inside (omega arith) in
     let going_on : Leads k rest (record m { completed = set (counts_of k w.words) h n }) end =
-    subst (λ (y : State). Leads k rest y end) (λ i. shown (claimed s) (values_of s.published s.pending) (one i) (same_taken w h r (completed_to r n) at refl i) (counts i) (two i == 1)) leads in
+    subst (λ (y : State). Leads k rest y end) (λ i. shown k (claimed s) (values_of s.published s.pending) (one i) (same_taken w h r (completed_to r n) at refl i) (counts i) (two i == 1)) leads in
     leads_one k (Complete h n) Completed [] rest m _ end (complete_step k m h n inside refl (omega arith) (omega arith)) going_on
 
 -- halt or closed is stored: nothing else shows
 lead_flag : (k : Shape) (w : World) (i : ℕ) (rest : Transcript) (end : State) (b : Bool) → 0 < i → i < 32 → (word_at (set w.words i 1) halt_word == 1) ≡ b
-    → Leads k rest (shown (claimed w.sender) (values_of w.sender.published w.sender.pending) (word_at (set w.words i 1) cursor_word) (map taken_of w.receivers) (counts_of k (set w.words i 1)) (word_at (set w.words i 1) halt_word == 1)) end
+    → Leads k rest (shown k (claimed w.sender) (values_of w.sender.published w.sender.pending) (word_at (set w.words i 1) cursor_word) (map taken_of w.receivers) (counts_of k (set w.words i 1)) (word_at (set w.words i 1) halt_word == 1)) end
     → Leads k rest (record (parts k w) { halted = b }) end
 lead_flag k w i rest end b pos lt halt leads =
     let s = w.sender in let us = set w.words i 1 in
     let one : word_at us cursor_word ≡ word_at w.words cursor_word = get_or-set_other w.words i cursor_word 1 0 (λ (e : cursor_word ≡ i). omega arith) in
     let counts : counts_of k us ≡ counts_of k w.words = counts_stay k w.words i 1 (λ h inside. (λ (e : count_word h ≡ i). omega arith)) in
-    subst (λ (y : State). Leads k rest y end) (λ j. shown (claimed s) (values_of s.published s.pending) (one j) (map taken_of w.receivers) (counts j) (halt j)) leads
+    subst (λ (y : State). Leads k rest y end) (λ j. shown k (claimed s) (values_of s.published s.pending) (one j) (map taken_of w.receivers) (counts j) (halt j)) leads
 
 halt_on : (k : Shape) (w : World) → Kept k w → (word_at (set w.words halt_word 1) halt_word == 1) ≡ true
 halt_on k w K = let wide = K.wide in eq-eqb _ _ (get_or-set_same w.words halt_word 1 0 (omega arith))
@@ -325,7 +325,7 @@ lead_step k (SenderStoresFirst s v) w u rest end H K L =
     let one : word_at us cursor_word ≡ word_at w.words cursor_word = get_or-set_other w.words i cursor_word v 0 (λ (e : cursor_word ≡ i). omega arith) in
     let two : word_at us halt_word ≡ word_at w.words halt_word = get_or-set_other w.words i halt_word v 0 (λ (e : halt_word ≡ i). omega arith) in
     let counts : counts_of k us ≡ counts_of k w.words = counts_stay k w.words i v (λ h inside. (λ (e : count_word h ≡ i). omega arith)) in
-    subst (λ (y : State). Leads k rest y end) (λ j. shown (claimed w.sender) (values_of w.sender.published w.sender.pending) (one j) (map taken_of w.receivers) (counts j) (two j == 1)) now
+    subst (λ (y : State). Leads k rest y end) (λ j. shown k (claimed w.sender) (values_of w.sender.published w.sender.pending) (one j) (map taken_of w.receivers) (counts j) (two j == 1)) now
 lead_step k (SenderStoresSecond v) w u rest end H K L = lead_write k w H.0 v rest end H.1 K (subst (λ (x : World). Leads k rest (picture_of k x) end) H.2 L)
 lead_step k (SenderPublishes n) w u rest end H K L = lead_publish k w n rest end H.0 H.1 H.2 K (subst (λ (x : World). Leads k rest (picture_of k x) end) H.4 L)
 lead_step k SenderHalts w u rest end H K L =
