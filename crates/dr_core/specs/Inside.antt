@@ -3,9 +3,11 @@ use Rattle.std.specs.Prelude.{◌≡◌, ℕ, ◌+◌, ◌^◌, ◌<◌, ◌≤�
 use Rattle.dr_seq.specs.Rounds.{is_marked}
 use Rattle.dr_seq.specs.Size.{IsSize}
 use Rattle.dr_core.specs.declared.engine.Core.TheInside.{Inside}
+use Rattle.dr_graph.specs.Name.{Name}
 use Rattle.dr_graph.specs.Graph.{flagged, upstreams_of, finals_without, IsGraph}
-use Rattle.dr_core.specs.Machine.{Setup, handlers, setup_of}
+use Rattle.dr_core.specs.Machine.{Setup, handlers, opening, setup_of}
 use Rattle.dr_core.specs.CoreView.{CoreView, AreGating, retired_in, recent_of}
+use Rattle.dr_core.specs.Shows.{Shows}
 use Rattle.dr_core.specs.Runs.{IsReached}
 use Rattle.dr_core.specs.Availability.{Kept, slot_known, HasOwners}
 
@@ -72,3 +74,9 @@ pub record IsKept (a : Inside) : Type 0 where
   pub available : IsAvailable (kept_of a) a.size a.next
   pub gating : AreGating a.gating.items a.graph.upstreams (flagged a.retired.items)
   pub gate : (f : ℕ) → Contains (finals_without a.graph.upstreams (flagged a.retired.items)) f → a.gate ≤ slice_index a.completed.items f
+
+-- a core as it is opened
+pub record IsOpened (v : CoreView) (c : Setup) (named : List Name) : Type 0 where
+  pub setup : v.setup ≡ c
+  pub names : v.names ≡ named
+  pub shows : Shows v (opening c)

@@ -1,11 +1,11 @@
-use Rattle.std.proofs.Common.{◌≡◌, ◌^◌, ◌≤◌, length, sym, ap, ◌∙◌, arith, replicate, false}
+use Rattle.std.proofs.Common.{◌≡◌, refl, length, sym, ap, ◌∙◌, arith, replicate, false}
 use Rattle.std.proofs.lemmas.List.{length-replicate}
 use Rattle.dr_core.specs.Machine.{Setup, setup_of}
 use Rattle.dr_core.proofs.Recents.{none_marked}
 use Rattle.dr_core.proofs.Opening.{opening_shows, opening_whole}
 use Rattle.dr_core.proofs.Gating.{written_back}
-use Rattle.dr_core.proofs.engine.Core.open.Goals as goal
-use Rattle.dr_core.proofs.engine.Core.open.Goals.{After-new-4}
+use Rattle.dr_core.proofs.engine.Core.fresh.Goals as goal
+use Rattle.dr_core.proofs.engine.Core.fresh.Goals.{After-new-4}
 
 -- no handler took or completed anything
 none_taken : (c : After-new-4) → c.in_ok-taken.taken.items ≡ replicate (length c.args.graph.upstreams) 0
@@ -27,7 +27,7 @@ invariant_of-result c =
           (none_taken (goal.at.invariant_of-result c).After-new-4)
           (none_completed (goal.at.invariant_of-result c).After-new-4)
           (none_retired (goal.at.invariant_of-result c).After-new-4)
-          (record { graph = c.len-handlers.ensures.lawful; size = size; limit = (let small : c.args.limit ≤ 2 ^ 62 = omega arith in small) });
+          (record { graph = c.len-handlers.ensures.lawful; size = size; limit = c.requires });
       available = record {
         published = ap length c.in_ok-published.ensures ∙ length-replicate _ _;
         written = ap length c.in_ok-written.ensures ∙ length-replicate _ _;
@@ -40,9 +40,12 @@ invariant_of-result c =
       gate = λ f has. rw c.new-4.ensures (omega arith);
     }
 
-pub returns-clause-opening : goal.returns-clause-opening
-returns-clause-opening c =
-    opening_shows (setup_of c.args.graph.upstreams c.args.size c.args.mode c.args.limit) c.args.graph.names _ c.in_ok-taken.taken.items c.in_ok-completed.completed.items c.in_ok-retired.retired.items
-    (none_taken (goal.at.returns-clause-opening c).After-new-4)
-    (none_completed (goal.at.returns-clause-opening c).After-new-4)
-    (none_retired (goal.at.returns-clause-opening c).After-new-4)
+pub returns : goal.returns
+returns c = record {
+  setup = refl;
+  names = refl;
+  shows = opening_shows (setup_of c.args.graph.upstreams c.args.size c.args.mode c.args.limit) c.args.graph.names _ c.in_ok-taken.taken.items c.in_ok-completed.completed.items c.in_ok-retired.retired.items
+      (none_taken (goal.at.returns c).After-new-4)
+      (none_completed (goal.at.returns c).After-new-4)
+      (none_retired (goal.at.returns c).After-new-4);
+}
