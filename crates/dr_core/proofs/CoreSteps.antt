@@ -13,7 +13,6 @@ use Rattle.dr_core.specs.declared.refusal.Refusal.TheVariants.{NoRoom}
 use Rattle.dr_seq.specs.declared.event.Event.{Event}
 use Rattle.dr_graph.specs.Graph.{IsOrderly, finals_without, least_of}
 use Rattle.dr_graph.proofs.Gating.{finals_agree, least_gates}
-use Rattle.dr_core.specs.Refusals.{IsFirst}
 use Rattle.dr_core.specs.Machine.{Setup, State, Outcome, least_outside, handlers, producers, next, front, gating, least_completed, refusals, accepted, unless, unchanged}
 use Rattle.dr_core.specs.CoreView.{Known, Nothing, ClaimedBy, CoreView, recent_of, known_at, retired_in, gate_of}
 use Rattle.dr_core.specs.Shows.{KnowsRecents, Shows, IsStep, CanComplete}
@@ -21,11 +20,7 @@ use Rattle.dr_core.specs.Inside.{IsWhole}
 use Rattle.dr_core.proofs.Shown.{same_next, same_front, same_taken, same_completed, same_halted, same_retired}
 use Rattle.dr_core.proofs.Leasts.{IsLeast, least_is, least_one}
 use Rattle.dr_core.proofs.Sound.{orderly, set_count}
-use Rattle.dr_core.proofs.Steps.{NoneHold}
-
-unless-none : (tests : List (Bool × Refusal)) (m : State) (o : Outcome) → NoneHold tests → unless tests m o ≡ o
-unless-none [] m o h = refl
-unless-none (test ∷ tests) m o h = cond-false test.0 _ _ h.0 ∙ unless-none tests m o h.1
+use Rattle.dr_core.proofs.Steps.{NoneHold, Refuses, unless-none, unless-refused}
 
 -- in a state the machine accepts a command with this reply and these events, and what it leaves is shown
 pub record Accepts (c : Setup) (m : State) (command : Command) (reply : Reply) (values : List Event) (new : CoreView) : Type 0 where
@@ -46,15 +41,6 @@ accepted_step {old = old} {command = command} same named accepts =
       hands_out = λ m sh. ap (λ o. o.values) (is m sh) ∙ (accepts m sh).hands_out;
       shown = λ m sh. rw (is m sh) (accepts m sh).shown;
     }
-
--- the first test that holds has this refusal
-abbrev pub Refuses : Refusal → List (Bool × Refusal) → Type 0
-Refuses r tests = IsFirst (λ b. b ≡ true) (λ b. b ≡ false) r tests
-
-unless-refused : (r : Refusal) (tests : List (Bool × Refusal)) (m : State) (o : _) → Refuses r tests → unless tests m o ≡ unchanged (Refused r) m
-unless-refused r [] m o h = absurd h
-unless-refused r (test ∷ tests) m o (inl h) = cond-true test.0 _ _ h.0 ∙ ap (λ x. unchanged (Refused x) m) h.1
-unless-refused r (test ∷ tests) m o (inr h) = cond-false test.0 _ _ h.0 ∙ unless-refused r tests m o h.1
 
 pub refused_step : (v : CoreView) (command : Command) (r : Refusal) → ((m : State) → Shows v m → Refuses r (refusals v.setup m command)) → IsStep v command (Refused r) [] v
 refused_step v command r refuses =

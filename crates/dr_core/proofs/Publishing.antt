@@ -16,17 +16,10 @@ use Rattle.dr_core.specs.Shows.{KnowsRecents, Shows, Agrees, IsStep}
 use Rattle.dr_core.specs.Inside.{IsWhole}
 use Rattle.dr_core.proofs.Shown.{same_next, same_front}
 use Rattle.dr_core.proofs.Leasts.{least_is, least_one}
-use Rattle.dr_core.proofs.Causes.{none_join, first_left, first_right, none_of_stretch, first_of_stretch}
-use Rattle.dr_core.proofs.Steps.{NoneHold}
-use Rattle.dr_core.proofs.CoreSteps.{Refuses, refused_step, accepted_step, known_at-recent}
+use Rattle.dr_core.proofs.Causes.{first_left, first_right, first_of_stretch}
+use Rattle.dr_core.proofs.Steps.{IsHolding, IsFailing, NoneHold, NoneHold-join, NoneHold-stretch, Refuses}
+use Rattle.dr_core.proofs.CoreSteps.{refused_step, accepted_step, known_at-recent}
 use Rattle.dr_core.proofs.Writing.{below_front, near, disowned, owned, unwritten_refused}
-
--- the machine knows of each test whether it holds
-abbrev IsHolding : Bool → Type 0
-IsHolding b = b ≡ true
-
-abbrev IsFailing : Bool → Type 0
-IsFailing b = b ≡ false
 
 -- the tests of one sequence
 abbrev tests_of : ℕ → ℕ → Bool → Option Event → List (Bool × Refusal)
@@ -69,7 +62,7 @@ module _ (v : CoreView) (p lo hi : ℕ) (whole : IsWhole v) (producer : p < prod
       (a_fault (known_at v (lo + k)) p _ _ _ r (there fresh m sh k l) here))))
 
   none_here : v.front ≤ lo → ((j : ℕ) → j < hi + 1 - lo → publish_fault (known_at v (lo + j)) p ≡ None) → (m : State) → Shows v m → NoneHold (flat_map (publish_faults m p) (range_with_len lo (hi + 1 - lo)))
-  none_here fresh none m sh = none_of_stretch IsHolding IsFailing (publish_faults m p) lo (hi + 1 - lo) (λ k l. no_fault (known_at v (lo + k)) p _ _ _ (there fresh m sh k l) (none k l))
+  none_here fresh none m sh = NoneHold-stretch (publish_faults m p) lo (hi + 1 - lo) (λ k l. no_fault (known_at v (lo + k)) p _ _ _ (there fresh m sh k l) (none k l))
 
   pub publish_order : v.front ≤ lo → ((j : ℕ) → j < hi + 1 - lo → publish_fault (known_at v (lo + j)) p ≡ None) → is_single v.setup.mode ≡ true → lo ≢ v.front → IsStep v (Publish p lo hi) (Refused OutOfOrder) [] v
   publish_order fresh none single late =
@@ -162,7 +155,7 @@ module _ (v : CoreView) (p lo hi front' : ℕ) (known : ℕ → Known) (knows : 
             le-ltb _ _ order,
             (
               rw (same_next sh) (lt-leb _ _ claimed),
-              none_join IsHolding IsFailing (flat_map (publish_faults m p) (range_with_len lo (hi + 1 - lo))) _ (none_here v p lo hi whole producer order claimed fresh none m sh) (rw (same_front sh) in_order, tt),
+              NoneHold-join (flat_map (publish_faults m p) (range_with_len lo (hi + 1 - lo))) _ (none_here v p lo hi whole producer order claimed fresh none m sh) (rw (same_front sh) in_order, tt),
             ),
           ),
         );

@@ -14,7 +14,8 @@ use Rattle.dr_core.specs.Shows.{KnowsRecents, Shows, Agrees, IsStep}
 use Rattle.dr_core.specs.Inside.{IsWhole}
 use Rattle.dr_core.proofs.Shown.{same_next, same_front}
 use Rattle.dr_core.proofs.Leasts.{least_is}
-use Rattle.dr_core.proofs.CoreSteps.{Refuses, refused_step, accepted_step, known_at-recent}
+use Rattle.dr_core.proofs.Steps.{Refuses}
+use Rattle.dr_core.proofs.CoreSteps.{refused_step, accepted_step, known_at-recent}
 
 -- all below the front is published
 pub below_front : (v : CoreView) (m : State) → Shows v m → (s : ℕ) → s < v.front → m.published s ≡ true

@@ -9,24 +9,10 @@ use Rattle.dr_seq.specs.declared.event.Event.{Event}
 use Rattle.dr_seq.specs.Event.{no_event}
 use Rattle.dr_core.specs.declared.command.Command.TheVariants.{Claim, Write, Publish, Poll, Complete}
 use Rattle.dr_core.specs.declared.command.Reply.TheVariants.{Claimed, Written, Published, Batch, Drained, Completed}
-use Rattle.dr_core.specs.declared.refusal.Refusal.{Refusal}
 use Rattle.dr_graph.specs.Graph.{finals, least_of}
-use Rattle.dr_core.specs.Machine.{State, Outcome, opening, least_outside, front, offered, available, least_completed, publish_faults, refusals, accepted, unless, step}
+use Rattle.dr_core.specs.Machine.{State, Outcome, opening, least_outside, front, offered, available, least_completed, publish_faults, refusals, accepted, step}
+use Rattle.dr_core.proofs.Steps.{NoneHold, NoneHold-join, unless-none}
 use Rattle.dr_ring.specs.Shape.{Shape, handlers_of, setup_of}
-
--- no test holds
-abbrev NoneHold : List (Bool × Refusal) → Type 0
-NoneHold [] = Unit {0}
-NoneHold (test ∷ tests) = (test.0 ≡ false) × NoneHold tests
-
--- where no test holds, the outcome is the accepted one
-accepts : (tests : List (Bool × Refusal)) (m : State) (o : Outcome) → NoneHold tests → unless tests m o ≡ o
-accepts [] m o none = refl
-accepts (test ∷ tests) m o none = rw (none.0) (accepts tests m o none.1)
-
-both_none : (xs ys : List (Bool × Refusal)) → NoneHold xs → NoneHold ys → NoneHold (xs ++ ys)
-both_none [] ys a b = b
-both_none (x ∷ xs) ys a b = (a.0, both_none xs ys a.1 b)
 
 -- a state of which n sequences are claimed, with what is written to each, and all below f published; the rest is as at the opening
 abbrev pub shown : Shape → ℕ → List (Option Event) → ℕ → List ℕ → List ℕ → Bool → State
@@ -83,7 +69,7 @@ pub claim_step : (k : Shape) (n j : ℕ) (vs : List (Option Event)) (f : ℕ) (t
     → step (setup_of k) (shown k n vs f t d false) (Claim 0 j) ≡ record { reply = Claimed n (n + j - 1); values = []; state = shown k (n + j) (vs ++ replicate j None) f t d false }
 claim_step k n j vs f t d some_one fits limit room =
     let m = shown k n vs f t d false in let len = count_owners n in
-    accepts (refusals (setup_of k) m (Claim 0 j)) m (accepted (setup_of k) m (Claim 0 j))
+    unless-none (refusals (setup_of k) m (Claim 0 j)) m (accepted (setup_of k) m (Claim 0 j))
     (refl, (rw (ne_eqb j 0 (λ (e : j ≡ 0). omega arith)) (le-ltb k.size j fits), (refl, (le-ltb k.limit (length (owners n) + j) (omega arith), (le-ltb (k.size + least_completed m (finals k.upstreams)) (length (owners n) + j) (omega arith), tt)))))
     ∙ (λ i. record { reply = Claimed (len i) (len i + j - 1); values = []; state = record m { owners = more_owners n j i; written = λ s. same_written vs j s i } })
 
@@ -102,7 +88,7 @@ pub write_step : (k : Shape) (n : ℕ) (vs : List (Option Event)) (f : ℕ) (t d
     → step (setup_of k) (shown k n vs f t d b) (Write 0 s e) ≡ record { reply = Written; values = []; state = shown k n (set vs s (Some e)) f t d b }
 write_step k n vs f t d b s e count le lt =
     let m = shown k n vs f t d b in let len = count_owners n in
-    accepts (refusals (setup_of k) m (Write 0 s e)) m (accepted (setup_of k) m (Write 0 s e))
+    unless-none (refusals (setup_of k) m (Write 0 s e)) m (accepted (setup_of k) m (Write 0 s e))
     (refl, (lt-leb (length (owners n)) s (omega arith), (le-ltb s f le, (ap not (owner_is n s lt), tt))))
     ∙ (λ i. record { reply = Written; values = []; state = record m { written = λ q. set_written vs s e (omega arith) q i } })
 
@@ -127,13 +113,13 @@ pub publish_step : (k : Shape) (n : ℕ) (vs : List (Option Event)) (f : ℕ) (t
 publish_step k n vs f t d b q lt within all =
     let m = shown k n vs f t d b in let len = count_owners n in
     let at : f ≡ front m = sym (shown_front k n vs f t d b (omega arith)) in
-    accepts (refusals (setup_of k) m (Publish 0 f (q - 1))) m (accepted (setup_of k) m (Publish 0 f (q - 1))) (
+    unless-none (refusals (setup_of k) m (Publish 0 f (q - 1))) m (accepted (setup_of k) m (Publish 0 f (q - 1))) (
       refl,
       (
         le-ltb (q - 1) f (omega arith),
         (
           lt-leb (length (owners n)) (q - 1) (omega arith),
-          both_none (flat_map (publish_faults m 0) (range_with_len f (q - 1 + 1 - f))) _ (stretch k n vs f t d b f (q - 1 + 1 - f) (omega arith) (omega arith) (λ s a l. all s a (omega arith))) (ap not (eq-eqb f (front m) at), tt),
+          NoneHold-join (flat_map (publish_faults m 0) (range_with_len f (q - 1 + 1 - f))) _ (stretch k n vs f t d b f (q - 1 + 1 - f) (omega arith) (omega arith) (λ s a l. all s a (omega arith))) (ap not (eq-eqb f (front m) at), tt),
         ),
       ),
     )
@@ -143,20 +129,20 @@ pub take_step : (k : Shape) (m : State) (h : ℕ) → h < handlers_of k → m.re
     → step (setup_of k) m (Poll h 1) ≡ record { reply = Batch (get_or m.taken h 0) 1 (get_or m.taken h 0 + 1 == available (setup_of k) m h); values = unwrap_or (m.written (get_or m.taken h 0)) no_event ∷ []; state = record m { taken = set m.taken h (get_or m.taken h 0 + 1) } }
 take_step k m h inside here more =
     let at = get_or m.taken h 0 in let to = available (setup_of k) m h in let one : min (to - at) 1 ≡ 1 = omega arith in
-    accepts (refusals (setup_of k) m (Poll h 1)) m (accepted (setup_of k) m (Poll h 1)) (lt-leb (handlers_of k) h inside, (here, (refl, tt)))
+    unless-none (refusals (setup_of k) m (Poll h 1)) m (accepted (setup_of k) m (Poll h 1)) (lt-leb (handlers_of k) h inside, (here, (refl, tt)))
     ∙ rw (lt-ltb at to more) (λ i. record { reply = Batch at (one i) (at + one i == to); values = map (λ s. unwrap_or (m.written s) no_event) (range_with_len at (one i)); state = record m { taken = set m.taken h (at + one i) } })
 
 pub drained_step : (k : Shape) (n : ℕ) (vs : List (Option Event)) (f : ℕ) (t d : List ℕ) (h : ℕ) → h < handlers_of k → available (setup_of k) (shown k n vs f t d true) h ≤ n → get_or t h 0 ≡ n
     → step (setup_of k) (shown k n vs f t d true) (Poll h 1) ≡ record { reply = Drained; values = []; state = shown k n vs f t d true }
 drained_step k n vs f t d h inside none all =
     let m = shown k n vs f t d true in let len = count_owners n in
-    accepts (refusals (setup_of k) m (Poll h 1)) m (accepted (setup_of k) m (Poll h 1)) (lt-leb (handlers_of k) h inside, (refl, (refl, tt)))
+    unless-none (refusals (setup_of k) m (Poll h 1)) m (accepted (setup_of k) m (Poll h 1)) (lt-leb (handlers_of k) h inside, (refl, (refl, tt)))
     ∙ rw (le-ltb (get_or t h 0) (available (setup_of k) m h) (omega arith), eq-eqb (get_or t h 0) (length (owners n)) (omega arith)) refl
 
 pub complete_step : (k : Shape) (m : State) (h n : ℕ) → h < handlers_of k → m.retired h ≡ false → get_or m.completed h 0 ≤ n → n ≤ get_or m.taken h 0
     → step (setup_of k) m (Complete h n) ≡ record { reply = Completed; values = []; state = record m { completed = set m.completed h n } }
 complete_step k m h n inside here rise le =
-    accepts (refusals (setup_of k) m (Complete h n)) m (accepted (setup_of k) m (Complete h n)) (lt-leb (handlers_of k) h inside, (here, (le-ltb n (get_or m.completed h 0) rise, (le-ltb (get_or m.taken h 0) n le, tt))))
+    unless-none (refusals (setup_of k) m (Complete h n)) m (accepted (setup_of k) m (Complete h n)) (lt-leb (handlers_of k) h inside, (here, (le-ltb n (get_or m.completed h 0) rise, (le-ltb (get_or m.taken h 0) n le, tt))))
 
 -- the least of some counts
 pub below_least : (ns : List ℕ) (a b : ℕ) → 0 < length ns → ((i : ℕ) → i < length ns → b ≤ a + get_or ns i 0) → b ≤ a + least_of ns
