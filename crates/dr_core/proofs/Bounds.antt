@@ -33,7 +33,8 @@ module _ (c : Setup) (gates : FinalsGate c.upstreams) where
             omega arith);
       }
 
-  complete_bounded : (m : State) (at upto : ℕ) → IsSound c m → NoneHold (refusals c m (Complete at upto)) → IsBounded c m → IsBounded c (accepted c m (Complete at upto)).state
+  complete_bounded : (m : State) (at upto : ℕ) → IsSound c m → NoneHold (refusals c m (Complete at upto)) → IsBounded c m
+      → IsBounded c (accepted c m (Complete at upto)).state
   complete_bounded m at upto sound none bounds = record {
     claimed = bounds.claimed;
     left = bounds.left;

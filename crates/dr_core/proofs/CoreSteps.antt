@@ -42,7 +42,8 @@ accepted_step {old = old} {command = command} same named accepts =
       shown = λ m sh. rw (is m sh) (accepts m sh).shown;
     }
 
-pub refused_step : (v : CoreView) (command : Command) (r : Refusal) → ((m : State) → Shows v m → Refuses r (refusals v.setup m command)) → IsStep v command (Refused r) [] v
+pub refused_step : (v : CoreView) (command : Command) (r : Refusal) → ((m : State) → Shows v m → Refuses r (refusals v.setup m command))
+    → IsStep v command (Refused r) [] v
 refused_step v command r refuses =
     let is = λ (m : State) (sh : Shows v m). unless-refused r (refusals v.setup m command) m (accepted v.setup m command) (refuses m sh) in
     record {
@@ -61,9 +62,11 @@ halt_step v = accepted_step refl refl (λ m sh. record {
   shown = record { counts = sh.counts; flags = λ i. record (sh.flags i) { halted = true }; recents = sh.recents };
 })
 
-pub complete_step : (v : CoreView) (h upto : ℕ) → CanComplete v h upto → IsStep v (Complete h upto) Completed [] (record v { completed = slice_set v.completed h upto })
+pub complete_step : (v : CoreView) (h upto : ℕ) → CanComplete v h upto
+    → IsStep v (Complete h upto) Completed [] (record v { completed = slice_set v.completed h upto })
 complete_step v h upto can = accepted_step refl refl (λ m sh. record {
-  passes = (lt-leb _ _ can.handler, (same_retired sh h ∙ can.left, (rw (same_completed sh) (le-ltb _ _ can.completed), (rw (same_taken sh) (le-ltb _ _ can.taken), tt))));
+  passes =
+      (lt-leb _ _ can.handler, (same_retired sh h ∙ can.left, (rw (same_completed sh) (le-ltb _ _ can.completed), (rw (same_taken sh) (le-ltb _ _ can.taken), tt))));
   replies = refl;
   hands_out = refl;
   shown = record { counts = λ i. record (sh.counts i) { completed = slice_set (sh.counts i).completed h upto }; flags = sh.flags; recents = sh.recents };
@@ -98,8 +101,10 @@ owner_after : (owners : List ℕ) (n p s : ℕ) → length owners ≤ s → s < 
 owner_after owners n p s l g = get_or-append_right owners (replicate n p) (length owners) s 0 refl l ∙ get_or-replicate n (s - length owners) p 0 (omega arith)
 
 -- a recent sequence is found among the last claimed
-pub known_at-recent : (known : ℕ → Known) (next size s : ℕ) → s < next → next ≤ s + size → get_or (recent_of known next size) (s - (next - size)) Nothing ≡ known s
-known_at-recent known next size s claimed near = get_or-map-range_with_len known (next - size) (min next size) (s - (next - size)) s Nothing (omega arith) (omega arith)
+pub known_at-recent : (known : ℕ → Known) (next size s : ℕ) → s < next → next ≤ s + size
+    → get_or (recent_of known next size) (s - (next - size)) Nothing ≡ known s
+known_at-recent known next size s claimed near =
+    get_or-map-range_with_len known (next - size) (min next size) (s - (next - size)) s Nothing (omega arith) (omega arith)
 
 -- what a claim leaves known: the fresh sequences are claimed, and of the others as much as before
 pub record ClaimsKnown (v : CoreView) (p n : ℕ) (known : ℕ → Known) : Type 0 where
@@ -169,7 +174,8 @@ module _ (v : CoreView) (p n : ℕ) (known : ℕ → Known) (knows : ClaimsKnown
 
 -- the least of the finals' counts is the least of all that are left
 pub finals_least : (v : CoreView) → IsWhole v → (h : ℕ) → h < handlers v.setup → retired_in v h ≡ false → gate_of v ≤ slice_index v.completed h
-finals_least v whole h inside left = least_gates v.setup.upstreams whole.graph.gate (retired_in v) (λ k. slice_index v.completed k) (orderly whole.order) h inside left
+finals_least v whole h inside left =
+    least_gates v.setup.upstreams whole.graph.gate (retired_in v) (λ k. slice_index v.completed k) (orderly whole.order) h inside left
 
 -- a claim that does not fit beside what the finals have not completed
 pub claim_no_room : (v : CoreView) (p n : ℕ) → p < producers v.setup.mode → n ≢ 0 → n ≤ v.setup.size → v.halted ≡ false → v.next + n ≤ v.setup.limit

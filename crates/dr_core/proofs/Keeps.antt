@@ -30,7 +30,8 @@ claim_sound c m p n sound =
     let more : next m ≤ length (m.owners ++ replicate n p) = rw length-append (omega arith) in
     record {
       marks = record { claimed = λ s h. (let l : s < next m = sound.claimed s h in omega arith); written = sound.written };
-      order = front_on c (front m) _ m.taken m.completed (least_grows m.published m.published (next m) (length (m.owners ++ replicate n p)) more (λ k y. y)) sound.order;
+      order =
+          front_on c (front m) _ m.taken m.completed (least_grows m.published m.published (next m) (length (m.owners ++ replicate n p)) more (λ k y. y)) sound.order;
     }
 
 write_sound : (c : Setup) (m : State) (p at : ℕ) (v : Event) → IsSound c m → IsSound c (accepted c m (Write p at v)).state
@@ -43,7 +44,8 @@ write_sound c m p at v sound = record {
 }
 
 -- no sequence of the stretch is at fault
-each_written : (m : State) (p lo n : ℕ) → NoneHold (flat_map (publish_faults m p) (range_with_len lo n)) → (s : ℕ) → lo ≤ s → s < lo + n → is_none (m.written s) ≡ false
+each_written : (m : State) (p lo n : ℕ) → NoneHold (flat_map (publish_faults m p) (range_with_len lo n)) → (s : ℕ) → lo ≤ s → s < lo + n
+    → is_none (m.written s) ≡ false
 each_written m p lo zero h s a b = absurd (omega arith)
 each_written m p lo (suc n) h s a b =
     elim (cases_eq s lo) [
@@ -51,7 +53,8 @@ each_written m p lo (suc n) h s a b =
       | inr ne ↦ each_written m p (lo + 1) n h.1.1.1 s (omega arith) (omega arith)
     ]
 
-publish_sound : (c : Setup) (m : State) (p lo hi : ℕ) → IsSound c m → NoneHold (refusals c m (Publish p lo hi)) → IsSound c (accepted c m (Publish p lo hi)).state
+publish_sound : (c : Setup) (m : State) (p lo hi : ℕ) → IsSound c m → NoneHold (refusals c m (Publish p lo hi))
+    → IsSound c (accepted c m (Publish p lo hi)).state
 publish_sound c m p lo hi sound none =
     let in_claimed : hi < next m = grind (arith, nat_tests, none.1.1.0) in
     let order : lo ≤ hi = grind (arith, nat_tests, none.1.0) in
@@ -68,10 +71,12 @@ publish_sound c m p lo hi sound none =
               each_written m p lo (hi + 1 - lo) stretch s (grind (arith, nat_tests, b.0)) (let u : s ≤ hi = grind (arith, nat_tests, b.1) in omega arith))
         ];
       };
-      order = front_on c (front m) _ m.taken m.completed (least_grows m.published (λ k. m.published k || (nat_le lo k && nat_le k hi)) (next m) (next m) (omega arith) (λ k y. rw y)) sound.order;
+      order =
+          front_on c (front m) _ m.taken m.completed (least_grows m.published (λ k. m.published k || (nat_le lo k && nat_le k hi)) (next m) (next m) (omega arith) (λ k y. rw y)) sound.order;
     }
 
-complete_sound : (c : Setup) (m : State) (at upto : ℕ) → IsSound c m → NoneHold (refusals c m (Complete at upto)) → IsSound c (accepted c m (Complete at upto)).state
+complete_sound : (c : Setup) (m : State) (at upto : ℕ) → IsSound c m → NoneHold (refusals c m (Complete at upto))
+    → IsSound c (accepted c m (Complete at upto)).state
 complete_sound c m at upto sound none =
     let inside : at < handlers c = grind (arith, nat_tests, none.0) in
     let len : at < length m.completed = (let e : length m.completed ≡ handlers c = sound.completed_len in omega arith) in
@@ -97,7 +102,8 @@ offered_after : (m : State) (ups : List ℕ) (u : ℕ) → Contains ups u → of
 offered_after m [] u has = absurd (let l : has.0 < 0 = has.1 in omega arith)
 offered_after m (x ∷ xs) u has = least_of-member (λ h. slice_index m.completed h) (x ∷ xs) u has
 
-batch_sound : (c : Setup) (m : State) (at limit : ℕ) → IsSound c m → at < handlers c → slice_index m.taken at < available c m at → IsSound c (batch c m at limit).state
+batch_sound : (c : Setup) (m : State) (at limit : ℕ) → IsSound c m → at < handlers c → slice_index m.taken at < available c m at
+    → IsSound c (batch c m at limit).state
 batch_sound c m at limit sound inside more =
     let len : at < length m.taken = within c m at limit sound inside in
     let to : slice_index m.taken at + count_of c m at limit ≤ front m = reach c m at limit sound inside more in
@@ -107,7 +113,8 @@ batch_sound c m at limit sound inside more =
       order = record {
         taken_len = length-set m.taken at upto ∙ sound.taken_len;
         completed_len = sound.completed_len;
-        in_front = λ h. rw (set_count m.taken at upto h len) (cond_both (h == at) upto (slice_index m.taken h) (λ n. n ≤ front m) (λ y. to) (λ n. sound.in_front h));
+        in_front =
+            λ h. rw (set_count m.taken at upto h len) (cond_both (h == at) upto (slice_index m.taken h) (λ n. n ≤ front m) (λ y. to) (λ n. sound.in_front h));
         took = λ h. rw (set_count m.taken at upto h len)
             (let old : slice_index m.completed h ≤ slice_index m.taken h = sound.took h in
             cond_both (h == at) upto (slice_index m.taken h) (λ n. slice_index m.completed h ≤ n)
@@ -137,7 +144,8 @@ accepted_sound c m Halt sound none = record { marks = sound.marks; order = sound
 accepted_sound c m (Retire h) sound none = record { marks = sound.marks; order = sound.order }
 
 pub step_sound : (c : Setup) (m : State) (command : Command) → IsSound c m → IsSound c (step c m command).state
-step_sound c m command sound = unless-cases (λ o. IsSound c o.state) (refusals c m command) m (accepted c m command) (λ r. sound) (accepted_sound c m command sound)
+step_sound c m command sound =
+    unless-cases (λ o. IsSound c o.state) (refusals c m command) m (accepted c m command) (λ r. sound) (accepted_sound c m command sound)
 
 pub zeros : (n h : ℕ) → slice_index (replicate n 0) h ≡ 0
 zeros zero h = refl

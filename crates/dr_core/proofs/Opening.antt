@@ -23,7 +23,9 @@ unflagged (suc n) (suc h) = unflagged n h
 abbrev pub new_core : Setup → List Name → List Known → List ℕ → List ℕ → List Bool → CoreView
 new_core c names recent taken completed retired = record { setup = c; names = names; next = 0; front = 0; taken = taken; completed = completed; halted = false; retired = retired; recent = recent }
 
-module _ (c : Setup) (names : List Name) (recent : List Known) (taken completed : List ℕ) (retired : List Bool) (none_taken : taken ≡ replicate (handlers c) 0) (none_completed : completed ≡ replicate (handlers c) 0) (none_retired : retired ≡ replicate (handlers c) false) where
+module _ (c : Setup) (names : List Name) (recent : List Known) (taken completed : List ℕ) (retired : List Bool)
+    (none_taken : taken ≡ replicate (handlers c) 0) (none_completed : completed ≡ replicate (handlers c) 0)
+    (none_retired : retired ≡ replicate (handlers c) false) where
   pub opening_shows : Shows (new_core c names recent taken completed retired) (opening c)
   unfolding least_outside
   opening_shows = record {
@@ -36,4 +38,5 @@ module _ (c : Setup) (names : List Name) (recent : List Known) (taken completed 
   opening_reached = record { transcript = []; runs = run_none c [] (opening c) (new_core c names recent taken completed retired) refl opening_shows }
 
   pub opening_whole : IsSetup c → IsWhole (new_core c names recent taken completed retired)
-  opening_whole setup = reached_whole (new_core c names recent taken completed retired) setup (ap length none_retired ∙ length-replicate _ false) opening_reached
+  opening_whole setup =
+      reached_whole (new_core c names recent taken completed retired) setup (ap length none_retired ∙ length-replicate _ false) opening_reached

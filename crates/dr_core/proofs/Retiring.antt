@@ -24,9 +24,14 @@ pub told : (v : CoreView) (h : ℕ) (r b : Bool) → IsWhole v → h < handlers 
 told v h r b whole inside read is = sym (get_or_read v.retired h r (let e : length v.retired ≡ handlers v.setup = whole.retired in omega arith) read false) ∙ is
 
 -- whether another is left, as it was told
-pub others_told : (v : CoreView) (h : ℕ) (flags : List Bool) (r b : Bool) → IsWhole v → flags ≡ v.retired → r ≡ not (is_some_left (length flags) (λ k. flagged flags k || k == h)) → r ≡ b → not (is_some_left (handlers v.setup) (λ k. retired_in v k || k == h)) ≡ b
+pub others_told : (v : CoreView) (h : ℕ) (flags : List Bool) (r b : Bool) → IsWhole v → flags ≡ v.retired
+    → r ≡ not (is_some_left (length flags) (λ k. flagged flags k || k == h)) → r ≡ b
+    → not (is_some_left (handlers v.setup) (λ k. retired_in v k || k == h)) ≡ b
 others_told v h flags r b whole same read is =
-    ap (λ n. not (is_some_left n (λ k. retired_in v k || k == h))) (sym whole.retired) ∙ ap (λ (fs : List Bool). not (is_some_left (length fs) (λ k. flagged fs k || k == h))) (sym same) ∙ sym read ∙ is
+    ap (λ n. not (is_some_left n (λ k. retired_in v k || k == h))) (sym whole.retired)
+    ∙ ap (λ (fs : List Bool). not (is_some_left (length fs) (λ k. flagged fs k || k == h))) (sym same)
+    ∙ sym read
+    ∙ is
 
 -- one flag more
 pub flagged_more : (flags : List Bool) (h k : ℕ) → h < length flags → flagged (slice_set flags h true) k ≡ (flagged flags k || k == h)
@@ -52,7 +57,8 @@ module _ (v : CoreView) (h : ℕ) (whole : IsWhole v) (inside : h < handlers v.s
     unfollowed m sh = followed_agree v.setup.upstreams m.retired (retired_in v) (same_retired sh) h ∙ not-true _ (and_parts _ _ final).1
 
     some_left : (m : State) → Shows v m → is_some_left (handlers v.setup) (retired_with m h) ≡ is_some_left (handlers v.setup) (λ k. retired_in v k || k == h)
-    some_left m sh = any_agree (λ k. not (retired_with m h k)) (λ k. not (retired_in v k || k == h)) (λ k. ap (λ b. not (b || k == h)) (same_retired sh k)) (range_with_len 0 (handlers v.setup))
+    some_left m sh =
+        any_agree (λ k. not (retired_with m h k)) (λ k. not (retired_in v k || k == h)) (λ k. ap (λ b. not (b || k == h)) (same_retired sh k)) (range_with_len 0 (handlers v.setup))
 
     pub last_step : is_some_left (handlers v.setup) (λ k. retired_in v k || k == h) ≡ false → IsStep v (Retire h) (Refused LastHandler) [] v
     last_step none =
@@ -80,11 +86,13 @@ module _ (v : CoreView) (h : ℕ) (whole : IsWhole v) (inside : h < handlers v.s
 
       other : (k : ℕ) × (k < handlers v.setup) × (retired_in (retired_core v h) k ≡ false)
       other =
-          let at : (k : ℕ) × (0 ≤ k) × (k < 0 + handlers v.setup) × (not (retired_in v k || k == h) ≡ true) = found_in (λ k. not (retired_in v k || k == h)) 0 (handlers v.setup) others in
+          let at : (k : ℕ) × (0 ≤ k) × (k < 0 + handlers v.setup) × (not (retired_in v k || k == h) ≡ true) =
+          found_in (λ k. not (retired_in v k || k == h)) 0 (handlers v.setup) others in
           (at.0, omega (arith, at.2), flagged_more v.retired h at.0 within ∙ not-true _ at.3)
 
       -- no final that is left now is below what was remembered
-      pub retire_gate : (gate : ℕ) → ((f : ℕ) → Contains (finals_without v.setup.upstreams (retired_in v)) f → gate ≤ slice_index v.completed f) → (f : ℕ) → Contains (finals_without v.setup.upstreams (retired_in (retired_core v h))) f → gate ≤ slice_index v.completed f
+      pub retire_gate : (gate : ℕ) → ((f : ℕ) → Contains (finals_without v.setup.upstreams (retired_in v)) f → gate ≤ slice_index v.completed f)
+          → (f : ℕ) → Contains (finals_without v.setup.upstreams (retired_in (retired_core v h))) f → gate ≤ slice_index v.completed f
       retire_gate gate below f has =
           let now : (f < handlers v.setup) × (retired_in (retired_core v h) f ≡ false) = final_left v.setup.upstreams (retired_in (retired_core v h)) f has in
           let a : gate ≤ gate_of v = seen_below v whole gate below in

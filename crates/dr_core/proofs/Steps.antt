@@ -32,7 +32,8 @@ pub NoneHold-join : (xs ys : List (Bool × Refusal)) → NoneHold xs → NoneHol
 NoneHold-join xs ys = none_join IsHolding IsFailing xs ys
 
 -- no sequence of a stretch is at fault
-pub NoneHold-stretch : (causes : ℕ → List (Bool × Refusal)) (lo n : ℕ) → ((k : ℕ) → k < n → NoneHold (causes (lo + k))) → NoneHold (flat_map causes (range_with_len lo n))
+pub NoneHold-stretch : (causes : ℕ → List (Bool × Refusal)) (lo n : ℕ) → ((k : ℕ) → k < n → NoneHold (causes (lo + k)))
+    → NoneHold (flat_map causes (range_with_len lo n))
 NoneHold-stretch causes lo n = none_of_stretch IsHolding IsFailing causes lo n
 
 -- where no test holds, the outcome is the accepted one
@@ -47,7 +48,8 @@ unless-refused r (test ∷ tests) m o (inl h) = cond-true test.0 _ _ h.0 ∙ ap 
 unless-refused r (test ∷ tests) m o (inr h) = cond-false test.0 _ _ h.0 ∙ unless-refused r tests m o h.1
 
 -- either a test refuses, or none holds
-pub unless-cases : (P : Outcome → Type 0) (tests : List (Bool × Refusal)) (m : State) (o : Outcome) → ((r : Refusal) → P (unchanged (Refused r) m)) → (NoneHold tests → P o) → P (unless tests m o)
+pub unless-cases : (P : Outcome → Type 0) (tests : List (Bool × Refusal)) (m : State) (o : Outcome) → ((r : Refusal) → P (unchanged (Refused r) m))
+    → (NoneHold tests → P o) → P (unless tests m o)
 unless-cases P [] m o refuses accepts = accepts tt
 unless-cases P (test ∷ tests) m o refuses accepts =
     cond_both test.0 (unchanged (Refused test.1) m) (unless tests m o) P (λ h. refuses test.1) (λ h. unless-cases P tests m o refuses (λ n. accepts (h, n)))

@@ -34,6 +34,7 @@ reached_whole v setup retired is =
     }
 
 -- so each step of a core leaves it whole
-pub step_whole : {old new : CoreView} {command : Command} {reply : Reply} {values : List Event} → IsStep old command reply values new → length new.retired ≡ length old.retired → IsWhole old → IsWhole new
+pub step_whole : {old new : CoreView} {command : Command} {reply : Reply} {values : List Event} → IsStep old command reply values new
+    → length new.retired ≡ length old.retired → IsWhole old → IsWhole new
 step_whole {old = old} {new = new} is same whole =
     reached_whole new (subst IsSetup (sym is.same_setup) whole.setup) (same ∙ whole.retired ∙ ap handlers (sym is.same_setup)) (step_reached is whole.reached)

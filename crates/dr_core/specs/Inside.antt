@@ -33,7 +33,7 @@ pub record IsSetup (c : Setup) : Type 0 where
   pub size : IsSize c.size
   pub limit : c.limit ≤ 2 ^ 62
 
--- the handlers' counts: each took no more than lies before the front and than each of its upstreams completed, and completed no more than it took
+-- the counts of handlers: each took no more than lies before the front and than each of its upstreams completed, and completed no more than it took
 pub record AreInOrder (c : Setup) (upto : ℕ) (taken completed : List ℕ) : Type 0 where
   pub taken_len : length taken ≡ handlers c
   pub completed_len : length completed ≡ handlers c
@@ -47,7 +47,7 @@ pub record AreInBounds (c : Setup) (claims : ℕ) (completed : List ℕ) (gone :
   pub room : (h : ℕ) → h < handlers c → gone h ≡ false → claims ≤ c.size + slice_index completed h
   pub left : (h : ℕ) × (h < handlers c) × (gone h ≡ false)
 
--- what holds of every core, however it keeps the recent sequences; that it is reached, so that it shows a state, has its counts follow from those of the machine's states
+-- what holds of every core, however it keeps the recent sequences; since it is reached, its counts are those of a state of the machine
 pub record IsWhole (v : CoreView) : Type 0 where
   pub setup : IsSetup v.setup
   pub open setup use *

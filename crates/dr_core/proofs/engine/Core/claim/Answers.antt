@@ -38,13 +38,15 @@ returns-then-not-has_room-clause-step c =
     (rw (← c.self.view_is) at (sym c.has_room.ensures.room ∙ c.if-not-has_room.true)))
 
 -- the owners that a claim wrote back
-owners_are : (mode : Mode) (owners : Vec ℕ Global) (lent new : List ℕ) (from n p : ℕ) → lent ≡ owners.items → new ≡ owners_after mode lent from n p → (with_items owners new).items ≡ owners_after mode owners.items from n p
+owners_are : (mode : Mode) (owners : Vec ℕ Global) (lent new : List ℕ) (from n p : ℕ) → lent ≡ owners.items → new ≡ owners_after mode lent from n p
+    → (with_items owners new).items ≡ owners_after mode owners.items from n p
 owners_are Single owners lent new from n p a b = with_items_is owners new (ap length (b ∙ a) ∙ sym owners.ok.0) ∙ b ∙ a
 owners_are (Multi producers) owners lent new from n p a b =
     let e : new ≡ owners_after (Multi producers) owners.items from n p = b ∙ ap (λ l. owners_after (Multi producers) l from n p) a in
     with_items_is owners new (ap length e ∙ length-stamped (λ s. p) owners.items from n ∙ sym owners.ok.0) ∙ e
 
-owned : (c : After-own) → (with_items c.self-2.inside.owners c.own.new.owners).items ≡ owners_after c.self-2.inside.mode c.self-2.inside.owners.items c.self-2.inside.next c.args.n c.args.p
+owned : (c : After-own)
+    → (with_items c.self-2.inside.owners c.own.new.owners).items ≡ owners_after c.self-2.inside.mode c.self-2.inside.owners.items c.self-2.inside.next c.args.n c.args.p
 owned c = owners_are c.self-2.inside.mode c.self-2.inside.owners _ _ _ _ _ c.deref_mut.ensures.value c.own.ensures
 
 -- the search for room changes nothing
@@ -79,7 +81,8 @@ invariant_of-self c =
     let at : After-own = (goal.at.invariant_of-self c).After-own in
     record {
       whole = step_whole (claimed at) refl c.self-2.invariant.whole;
-      available = rw (owned at) (claims_available v (kept_of c.self-2.inside) (known_there c.self-2.inside) c.self-2.invariant.available c.self-2.invariant.whole.front (size_positive v.setup.size c.self-2.invariant.whole.size) c.args.n c.args.p);
+      available =
+          rw (owned at) (claims_available v (kept_of c.self-2.inside) (known_there c.self-2.inside) c.self-2.invariant.available c.self-2.invariant.whole.front (size_positive v.setup.size c.self-2.invariant.whole.size) c.args.n c.args.p);
       gating = c.self-2.invariant.gating;
       gate = c.self-2.invariant.gate;
     }

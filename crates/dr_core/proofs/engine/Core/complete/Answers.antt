@@ -16,8 +16,10 @@ completes c =
     let inside : c.args.h < handlers (view_of c.self.inside).setup = omega (arith, c.len.ensures.handlers) in
     let taken : length c.self.inside.taken.items ≡ handlers (view_of c.self.inside).setup = c.self.invariant.whole.taken_len in
     let completed : length c.self.inside.completed.items ≡ handlers (view_of c.self.inside).setup = c.self.invariant.whole.completed_len in
-    let a : c.index-2.result.now ≡ get_or c.self.inside.completed.items c.args.h 0 = get_or_read c.self.inside.completed.items c.args.h c.index-2.result.now (omega arith) c.index-2.ensures 0 in
-    let b : c.index-3.result.now ≡ get_or c.self.inside.taken.items c.args.h 0 = get_or_read c.self.inside.taken.items c.args.h c.index-3.result.now (omega arith) c.index-3.ensures 0 in
+    let a : c.index-2.result.now ≡ get_or c.self.inside.completed.items c.args.h 0 =
+    get_or_read c.self.inside.completed.items c.args.h c.index-2.result.now (omega arith) c.index-2.ensures 0 in
+    let b : c.index-3.result.now ≡ get_or c.self.inside.taken.items c.args.h 0 =
+    get_or_read c.self.inside.taken.items c.args.h c.index-3.result.now (omega arith) c.index-3.ensures 0 in
     record {
       handler = inside;
       left = told (view_of c.self.inside) c.args.h c.index.result.now false c.self.invariant.whole inside c.index.ensures c.if-index.false;
@@ -38,4 +40,5 @@ invariant_of-self c =
     }
 
 pub returns-clause-step : goal.returns-clause-step
-returns-clause-step c = rw (← c.self.view_is) (complete_step (view_of c.self.inside) c.args.h c.args.upto (completes (goal.at.returns-clause-step c).After-index_mut))
+returns-clause-step c =
+    rw (← c.self.view_is) (complete_step (view_of c.self.inside) c.args.h c.args.upto (completes (goal.at.returns-clause-step c).After-index_mut))

@@ -22,9 +22,12 @@ use Rattle.dr_core.proofs.engine.Core.poll_into.Goals as goal
 use Rattle.dr_core.proofs.engine.Core.poll_into.Goals.{After-available-available, After-copy_out, After-cursor, else-self-via-then-self+else-first-self, else-self-via-else-self}
 
 -- the events that stand at the front of the buffer
-copied : (events : List Event) (first count : ℕ) (out old : List Event) → out ≡ map (λ s. event_at events s) (range_with_len first count) ++ drop count old → take count out ≡ map (λ s. event_at events s) (range_with_len first count)
+copied : (events : List Event) (first count : ℕ) (out old : List Event)
+    → out ≡ map (λ s. event_at events s) (range_with_len first count) ++ drop count old
+    → take count out ≡ map (λ s. event_at events s) (range_with_len first count)
 copied events first count out old is =
-    ap (take count) is ∙ take_at (map (λ s. event_at events s) (range_with_len first count)) (drop count old) count (length-map-range_with_len (λ s. event_at events s) first count)
+    ap (take count) is
+    ∙ take_at (map (λ s. event_at events s) (range_with_len first count)) (drop count old) count (length-map-range_with_len (λ s. event_at events s) first count)
 
 -- what the poll has found before it looks further
 found : (c : After-available-available) → PollsAt (view_of c.self.inside) c.args.h (length c.args.out.now) c.index-first.result.now c.available-available.result
@@ -42,7 +45,8 @@ took c at =
 pub invariant_of-self : goal.invariant_of-self
 invariant_of-self c =
     let v : CoreView = view_of c.self.inside in
-    let at : PollsAt v c.args.h (length c.args.out.now) c.index-first.result.now c.available-available.result = found (goal.at.invariant_of-self c).After-available-available in
+    let at : PollsAt v c.args.h (length c.args.out.now) c.index-first.result.now c.available-available.result =
+    found (goal.at.invariant_of-self c).After-available-available in
     let more : slice_index v.taken c.args.h < offered_to v (upstreams_of v.setup.upstreams c.args.h) = rw (at.taken, at.offered) at c.if-first-available.true in
     let count : c.min-count.result ≡ min (c.available-available.result - c.index-first.result.now) (length c.args.out.now) = c.min-count.ensures in
     record {
@@ -55,7 +59,8 @@ invariant_of-self c =
 pub returns-then-first-available-clause-step : goal.returns-then-first-available-clause-step
 returns-then-first-available-clause-step c =
     let at = found (goal.at.returns-then-first-available-clause-step c).After-available-available in
-    let values : take c.min-count.result c.copy_out.new.out ≡ map (λ s. event_at c.self.inside.events s) (range_with_len c.index-first.result.now c.min-count.result) = copied c.self.inside.events _ _ _ _ c.copy_out.ensures in
+    let values : take c.min-count.result c.copy_out.new.out ≡ map (λ s. event_at c.self.inside.events s) (range_with_len c.index-first.result.now c.min-count.result) =
+    copied c.self.inside.events _ _ _ _ c.copy_out.ensures in
     rw (← c.self.view_is) (rw values (took (goal.at.returns-then-first-available-clause-step c).After-copy_out at))
 
 pub returns-then-first-self-clause-step : goal.returns-then-first-self-clause-step
@@ -64,7 +69,8 @@ returns-then-first-self-clause-step c =
     rw (← c.self.view_is) (drained_step (view_of c.self.inside) c.args.h (length c.args.out.now) at.whole at.inside at.left at.some (rw (at.taken, at.offered) at c.if-first-available.false) c.if-self.true (sym at.taken ∙ c.if-first-self.true))
 
 -- a handler that is not drained
-undrained : (c : After-cursor) → c.index-first.result.now ≡ slice_index (view_of c.self.inside).taken c.args.h → (c.self.inside.halted && (slice_index (view_of c.self.inside).taken c.args.h == c.self.inside.next)) ≡ false
+undrained : (c : After-cursor) → c.index-first.result.now ≡ slice_index (view_of c.self.inside).taken c.args.h
+    → (c.self.inside.halted && (slice_index (view_of c.self.inside).taken c.args.h == c.self.inside.next)) ≡ false
 undrained c taken = elim c.else-self.branch [
   | else-self-via-then-self+else-first-self w ↦ and_right _ _ (ne_eqb _ _ (λ e. w.if-first-self.false (taken ∙ e)))
   | else-self-via-else-self w ↦ and_left _ _ w.if-self.false

@@ -44,20 +44,24 @@ pub front-self-inside-requires-clause-round : goal.front-self-inside-requires-cl
 front-self-inside-requires-clause-round c =
     let v : CoreView = view_of c.self.inside in
     let round : v.next ≤ v.front + v.setup.size = near v c.self.invariant.whole v.front (omega arith) in
-    let len : length c.mark_all.new.rounds ≡ v.setup.size = ap length c.mark_all.ensures ∙ length-stamped _ c.self.inside.published _ _ ∙ c.self.invariant.available.published in
+    let len : length c.mark_all.new.rounds ≡ v.setup.size =
+    ap length c.mark_all.ensures ∙ length-stamped _ c.self.inside.published _ _ ∙ c.self.invariant.available.published in
     omega arith
 
 -- the front that the new marks have
-moved : (c : After-front-self-inside) → IsFront (is_marked (stamped (entry_of (length c.self.inside.published)) c.self.inside.published c.args.lo (c.args.hi + 1 - c.args.lo))) c.self.inside.front c.self.inside.next c.front-self-inside.result
+moved : (c : After-front-self-inside)
+    → IsFront (is_marked (stamped (entry_of (length c.self.inside.published)) c.self.inside.published c.args.lo (c.args.hi + 1 - c.args.lo))) c.self.inside.front c.self.inside.next c.front-self-inside.result
 moved c = rw c.mark_all.ensures at c.front-self-inside.ensures
 
 -- the publication is the machine's
-published : (c : After-front-self-inside) → IsStep (view_of c.self.inside) (Publish c.args.p c.args.lo c.args.hi) Published [] (view_of (record c.self.inside { published = c.mark_all.new.rounds; front = c.front-self-inside.result }))
+published : (c : After-front-self-inside)
+    → IsStep (view_of c.self.inside) (Publish c.args.p c.args.lo c.args.hi) Published [] (view_of (record c.self.inside { published = c.mark_all.new.rounds; front = c.front-self-inside.result }))
 published c =
     let v : CoreView = view_of c.self.inside in
     let recent : v.next ≤ c.args.lo + v.setup.size = near v c.self.invariant.whole c.args.lo c.if-lo-self.false in
     let some : 0 < v.setup.size = size_positive v.setup.size c.self.invariant.whole.size in
-    let none : (j : ℕ) → j < c.args.hi + 1 - c.args.lo → publish_fault (known_at v (c.args.lo + j)) c.args.p ≡ None = rw (← c.self.view_is) at c.in_default.ensures in
+    let none : (j : ℕ) → j < c.args.hi + 1 - c.args.lo → publish_fault (known_at v (c.args.lo + j)) c.args.p ≡ None =
+    rw (← c.self.view_is) at c.in_default.ensures in
     let order : (is_single v.setup.mode && not (c.args.lo == v.front)) ≡ false = elim c.else-is_single.branch [
       | else-is_single-via-then-is_single+else-lo-self-2 w ↦ and_right _ _ (ap not (eq-eqb _ _ w.if-lo-self-2.false))
       | else-is_single-via-else-is_single w ↦ and_left _ _ (sym c.is_single.ensures ∙ w.if-is_single.false)
@@ -76,7 +80,8 @@ invariant_of-self c =
     let recent : v.next ≤ c.args.lo + v.setup.size = near v c.self.invariant.whole c.args.lo c.if-lo-self.false in
     record {
       whole = step_whole (published at) refl c.self.invariant.whole;
-      available = rw c.mark_all.ensures (publishes_available v (kept_of c.self.inside) (known_there c.self.inside) c.self.invariant.available c.self.invariant.whole.front (size_positive v.setup.size c.self.invariant.whole.size) c.args.p c.args.lo c.args.hi c.front-self-inside.result c.if-lo-hi.false c.if-hi-self.false recent refl (moved at));
+      available =
+          rw c.mark_all.ensures (publishes_available v (kept_of c.self.inside) (known_there c.self.inside) c.self.invariant.available c.self.invariant.whole.front (size_positive v.setup.size c.self.invariant.whole.size) c.args.p c.args.lo c.args.hi c.front-self-inside.result c.if-lo-hi.false c.if-hi-self.false recent refl (moved at));
       gating = c.self.invariant.gating;
       gate = c.self.invariant.gate;
     }

@@ -22,7 +22,8 @@ returns-then-s-self-2-clause-step c =
 pub returns-then-is_marked-clause-step : goal.returns-then-is_marked-clause-step
 returns-then-is_marked-clause-step c =
     let v : CoreView = view_of c.self.inside in
-    let published : is_published_at (kept_of c.self.inside) c.args.s ≡ true = or_right (nat_lt c.args.s c.self.inside.front) _ (sym c.is_marked.ensures ∙ c.if-is_marked.true) in
+    let published : is_published_at (kept_of c.self.inside) c.args.s ≡ true =
+    or_right (nat_lt c.args.s c.self.inside.front) _ (sym c.is_marked.ensures ∙ c.if-is_marked.true) in
     rw (← c.self.view_is)
     (write_refused v c.args.p c.args.s c.args.event c.self.invariant.whole (rw c.producers.ensures at c.if-p-producers.false) c.if-s-self.false c.if-s-self-2.false _
     (write_fault_is c.self.inside c.args.s c.args.p true _ c.if-s-self.false (near v c.self.invariant.whole c.args.s c.if-s-self-2.false) published refl))
@@ -66,7 +67,8 @@ invariant_of-self c =
     let recent : v.next ≤ c.args.s + v.setup.size = near v c.self.invariant.whole c.args.s c.if-s-self-2.false in
     record {
       whole = step_whole (written put (unpublished at) (unpublished_fault at true (eq-eqb _ _ (mine put)))) refl c.self.invariant.whole;
-      available = rw (c.mark.ensures, c.put.ensures) (writes_available v (kept_of c.self.inside) (known_there c.self.inside) c.self.invariant.available c.self.invariant.whole.front (size_positive v.setup.size c.self.invariant.whole.size) c.args.p c.args.s c.args.event c.if-s-self.false recent);
+      available =
+          rw (c.mark.ensures, c.put.ensures) (writes_available v (kept_of c.self.inside) (known_there c.self.inside) c.self.invariant.available c.self.invariant.whole.front (size_positive v.setup.size c.self.invariant.whole.size) c.args.p c.args.s c.args.event c.if-s-self.false recent);
       gating = c.self.invariant.gating;
       gate = c.self.invariant.gate;
     }
