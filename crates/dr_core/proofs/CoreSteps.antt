@@ -133,7 +133,8 @@ module _ (v : CoreView) (p n : ℕ) (known : ℕ → Known) (knows : ClaimsKnown
       })
 
   claimed_recents : n ≤ v.setup.size → (m : State) → Shows v m
-      → KnowsRecents v.setup.size (v.next + n) (known_at (record v { next = v.next + n; recent = recent_of known (v.next + n) v.setup.size })) (m.owners ++ replicate n p) m.published m.written
+      → KnowsRecents v.setup.size (v.next + n) (known_at (record v { next = v.next + n; recent = recent_of known (v.next + n) v.setup.size }))
+      (m.owners ++ replicate n p) m.published m.written
   claimed_recents fits m sh =
       let here : length m.owners ≡ v.next = same_next sh in
       record {
@@ -183,4 +184,5 @@ pub claim_no_room : (v : CoreView) (p n : ℕ) → p < producers v.setup.mode �
 claim_no_room v p n producer some fits going limit full =
     refused_step v (Claim p n) NoRoom
     (λ m sh. let here : next m ≡ v.next = same_next sh in
-    inr (lt-leb _ _ producer, inr (or_from _ _ (ne_eqb n 0 some) (le-ltb _ _ fits), inr (same_halted sh ∙ going, inr (rw here (le-ltb _ _ limit), inl (rw (here, gate_same v m sh) (lt-ltb _ _ (leb-false _ _ full)), refl))))))
+    inr (lt-leb _ _ producer, inr (or_from _ _ (ne_eqb n 0 some) (le-ltb _ _ fits), inr (same_halted sh ∙ going,
+    inr (rw here (le-ltb _ _ limit), inl (rw (here, gate_same v m sh) (lt-ltb _ _ (leb-false _ _ full)), refl))))))

@@ -112,7 +112,9 @@ accepted_rises c m (Complete at upto) h sound none =
     let inside : at < handlers c = grind (arith, nat_tests, none.0) in
     let up : slice_index m.completed at ≤ upto = grind (arith, nat_tests, none.1.1.0) in
     let len : at < length m.completed = (let e : length m.completed ≡ handlers c = sound.completed_len in omega arith) in
-    rw (set_count m.completed at upto h len) (cond_both (h == at) upto (slice_index m.completed h) (λ n. slice_index m.completed h ≤ n) (λ y. (let e : h ≡ at = eqb-true h at y in rw e up)) (λ n. omega arith))
+    rw (set_count m.completed at upto h len)
+    (cond_both (h == at) upto (slice_index m.completed h) (λ n. slice_index m.completed h ≤ n) (λ y. (let e : h ≡ at = eqb-true h at y in rw e up))
+    (λ n. omega arith))
 accepted_rises c m Halt h sound none = omega arith
 accepted_rises c m (Retire at) h sound none = omega arith
 
@@ -138,7 +140,8 @@ accepted_room c m (Claim p n) none lo hi e =
 accepted_room c m (Write p s v) none lo hi e = cc
 accepted_room c m (Publish p a b) none lo hi e = cc
 accepted_room c m (Poll at limit) none lo hi e =
-    poll_cases c m at limit (λ o. o.reply ≡ Claimed lo hi → (m.halted ≡ false) × ((f : ℕ) → Contains (gating c m) f → hi + 1 ≤ c.size + slice_index m.completed f))
+    poll_cases c m at limit
+    (λ o. o.reply ≡ Claimed lo hi → (m.halted ≡ false) × ((f : ℕ) → Contains (gating c m) f → hi + 1 ≤ c.size + slice_index m.completed f))
     (λ x. cc) (λ a b x. cc) (λ x. cc) (λ x. cc) e
 accepted_room c m (Complete at upto) none lo hi e = cc
 accepted_room c m Halt none lo hi e = cc
@@ -254,4 +257,5 @@ retirement_keeps c t m h layered leads =
     unless-cases (λ o. gate c m ≤ gate c o.state) (refusals c m (Retire h)) m (accepted c m (Retire h)) (λ r. omega arith)
     (λ none.
     let other : (k : ℕ) × (k < handlers c) × (retired_with m h k ≡ false) = leaves_another c m h none in
-    least_rises c.upstreams (finals_gate c.upstreams layered) m.retired (retired_with m h) (λ k here. (or_parts _ _ here).0) (λ k. slice_index m.completed k) (orderly sound.order) other.0 other.1 other.2)
+    least_rises c.upstreams (finals_gate c.upstreams layered) m.retired (retired_with m h) (λ k here. (or_parts _ _ here).0)
+    (λ k. slice_index m.completed k) (orderly sound.order) other.0 other.1 other.2)

@@ -31,7 +31,8 @@ claim_sound c m p n sound =
     record {
       marks = record { claimed = λ s h. (let l : s < next m = sound.claimed s h in omega arith); written = sound.written };
       order =
-          front_on c (front m) _ m.taken m.completed (least_grows m.published m.published (next m) (length (m.owners ++ replicate n p)) more (λ k y. y)) sound.order;
+          front_on c (front m) _ m.taken m.completed
+          (least_grows m.published m.published (next m) (length (m.owners ++ replicate n p)) more (λ k y. y)) sound.order;
     }
 
 write_sound : (c : Setup) (m : State) (p at : ℕ) (v : Event) → IsSound c m → IsSound c (accepted c m (Write p at v)).state
@@ -72,7 +73,8 @@ publish_sound c m p lo hi sound none =
         ];
       };
       order =
-          front_on c (front m) _ m.taken m.completed (least_grows m.published (λ k. m.published k || (nat_le lo k && nat_le k hi)) (next m) (next m) (omega arith) (λ k y. rw y)) sound.order;
+          front_on c (front m) _ m.taken m.completed
+          (least_grows m.published (λ k. m.published k || (nat_le lo k && nat_le k hi)) (next m) (next m) (omega arith) (λ k y. rw y)) sound.order;
     }
 
 complete_sound : (c : Setup) (m : State) (at upto : ℕ) → IsSound c m → NoneHold (refusals c m (Complete at upto))

@@ -127,7 +127,8 @@ module _ (v : CoreView) (h limit : ℕ) (whole : IsWhole v) (inside : h < handle
     pub batch_step : (first count to : ℕ) (event : ℕ → Event)
         → ((k : ℕ) → k < v.next → v.next ≤ k + v.setup.size → is_shown (known_at v k) ≡ true → event k ≡ value_of (known_at v k))
         → first ≡ slice_index v.taken h → to ≡ offered_to v (upstreams_of v.setup.upstreams h) → count ≡ min (to - first) limit
-        → IsStep v (Poll h limit) (Batch first count (first + count == to)) (map event (range_with_len first count)) (record v { taken = slice_set v.taken h (first + count) })
+        → IsStep v (Poll h limit) (Batch first count (first + count == to)) (map event (range_with_len first count))
+        (record v { taken = slice_set v.taken h (first + count) })
     batch_step first count to event holds a b d =
         accepted_step refl refl (λ m sh.
         let t : slice_index m.taken h ≡ first = first_is m sh in
@@ -169,7 +170,11 @@ upstream_within graph is h u has = elim (cases_lt h (length graph)) [
 
 pub ups_within : (v : CoreView) → IsWhole v → (h : ℕ) (ups : List ℕ) → ups ≡ upstreams_of v.setup.upstreams h → All (λ u. u < length v.completed) ups
 ups_within v whole h ups is =
-    rw is (λ k d l. let e : length v.completed ≡ handlers v.setup = whole.completed_len in let w : get_or (upstreams_of v.setup.upstreams h) k d < handlers v.setup = upstream_within v.setup.upstreams whole.graph h (get_or (upstreams_of v.setup.upstreams h) k d) (Contains-get_or (upstreams_of v.setup.upstreams h) k d l) in omega arith)
+    rw is (λ k d l.
+    let e : length v.completed ≡ handlers v.setup = whole.completed_len in
+    let ups : List ℕ = upstreams_of v.setup.upstreams h in
+    let w : get_or ups k d < handlers v.setup = upstream_within v.setup.upstreams whole.graph h (get_or ups k d) (Contains-get_or ups k d l) in
+    omega arith)
 
 -- more room than the size gives no more
 step_capped : (v : CoreView) (m : State) (h limit : ℕ) → IsWhole v → Shows v m

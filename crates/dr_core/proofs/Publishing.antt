@@ -148,7 +148,8 @@ module _ (v : CoreView) (p lo hi front' : ℕ) (known : ℕ → Known) (knows : 
       })
 
   published_recents : (m : State) → Shows v m
-      → KnowsRecents v.setup.size v.next (known_at (record v { recent = recent_of known v.next v.setup.size; front = front' })) m.owners (λ k. m.published k || in_stretch lo hi k) m.written
+      → KnowsRecents v.setup.size v.next (known_at (record v { recent = recent_of known v.next v.setup.size; front = front' })) m.owners
+      (λ k. m.published k || in_stretch lo hi k) m.written
   published_recents m sh = record {
     recent = λ k l r. rw (known_at-recent known v.next v.setup.size k l r) (elim (stretch_cases lo hi k) [
       | inl i ↦ (let off : lo + (k - lo) ≡ k = omega arith in
@@ -169,7 +170,8 @@ module _ (v : CoreView) (p lo hi front' : ℕ) (known : ℕ → Known) (knows : 
             le-ltb _ _ order,
             (
               rw (same_next sh) (lt-leb _ _ claimed),
-              NoneHold-join (flat_map (publish_faults m p) (range_with_len lo (hi + 1 - lo))) _ (none_here v p lo hi whole producer order claimed fresh none m sh) (rw (same_front sh) in_order, tt),
+              NoneHold-join (flat_map (publish_faults m p) (range_with_len lo (hi + 1 - lo))) _
+              (none_here v p lo hi whole producer order claimed fresh none m sh) (rw (same_front sh) in_order, tt),
             ),
           ),
         );

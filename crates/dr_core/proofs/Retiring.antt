@@ -47,7 +47,10 @@ retired_core v h = record v { retired = slice_set v.retired h true }
 module _ (v : CoreView) (h : ℕ) (whole : IsWhole v) (inside : h < handlers v.setup) (left : retired_in v h ≡ false) where
   pub not_final_step : is_final_without v.setup.upstreams (retired_in v) h ≡ false → IsStep v (Retire h) (Refused NotFinal) [] v
   not_final_step not_final =
-      refused_step v (Retire h) NotFinal (λ m sh. inr (lt-leb _ _ inside, inr (same_retired sh h ∙ left, inl (followed_agree v.setup.upstreams m.retired (retired_in v) (same_retired sh) h ∙ is_followed_then, refl))))
+      refused_step v (Retire h) NotFinal
+      (λ m sh. inr
+      (lt-leb _ _ inside, inr
+      (same_retired sh h ∙ left, inl (followed_agree v.setup.upstreams m.retired (retired_in v) (same_retired sh) h ∙ is_followed_then, refl))))
     where
       is_followed_then : is_followed v.setup.upstreams (retired_in v) h ≡ true
       is_followed_then = not-false _ (rw left at not_final)
@@ -58,11 +61,13 @@ module _ (v : CoreView) (h : ℕ) (whole : IsWhole v) (inside : h < handlers v.s
 
     some_left : (m : State) → Shows v m → is_some_left (handlers v.setup) (retired_with m h) ≡ is_some_left (handlers v.setup) (λ k. retired_in v k || k == h)
     some_left m sh =
-        any_agree (λ k. not (retired_with m h k)) (λ k. not (retired_in v k || k == h)) (λ k. ap (λ b. not (b || k == h)) (same_retired sh k)) (range_with_len 0 (handlers v.setup))
+        any_agree (λ k. not (retired_with m h k)) (λ k. not (retired_in v k || k == h)) (λ k. ap (λ b. not (b || k == h)) (same_retired sh k))
+        (range_with_len 0 (handlers v.setup))
 
     pub last_step : is_some_left (handlers v.setup) (λ k. retired_in v k || k == h) ≡ false → IsStep v (Retire h) (Refused LastHandler) [] v
     last_step none =
-        refused_step v (Retire h) LastHandler (λ m sh. inr (lt-leb _ _ inside, inr (same_retired sh h ∙ left, inr (unfollowed m sh, inl (ap not (some_left m sh ∙ none), refl)))))
+        refused_step v (Retire h) LastHandler
+        (λ m sh. inr (lt-leb _ _ inside, inr (same_retired sh h ∙ left, inr (unfollowed m sh, inl (ap not (some_left m sh ∙ none), refl)))))
 
     module _ (others : is_some_left (handlers v.setup) (λ k. retired_in v k || k == h) ≡ true) where
       within : h < length v.retired
@@ -102,4 +107,5 @@ module _ (v : CoreView) (h : ℕ) (whole : IsWhole v) (inside : h < handlers v.s
       -- a retirement never lowers the least count of the finals
       pub retire_room : gate_of v ≤ gate_of (retired_core v h)
       retire_room =
-          least_rises v.setup.upstreams whole.graph.gate (retired_in v) (retired_in (retired_core v h)) fewer (λ k. slice_index v.completed k) (orderly whole.order) other.0 other.1 other.2
+          least_rises v.setup.upstreams whole.graph.gate (retired_in v) (retired_in (retired_core v h)) fewer (λ k. slice_index v.completed k)
+          (orderly whole.order) other.0 other.1 other.2

@@ -84,7 +84,8 @@ quiet : (c : Setup) (m : State) (command : Command) (r : Reply) → IsSound c m 
     → ((h : ℕ) → completion h r command ≡ None) → halts r ≡ false → ((h : ℕ) → retires r command h ≡ false)
     → Changes m (record { command = command; reply = r; values = [] }) m
 quiet c m command r sound a o b d e f g i =
-    unwritten c m m (record { command = command; reply = r; values = [] }) sound d e refl refl (rw a (omega arith)) (λ s. rw (o s) (first_of-none _)) (λ s. rw (b s) (sym (or-false _))) (λ h. rw (f h)) (rw g (sym (or-false _))) (λ h. rw (i h) (sym (or-false _)))
+    unwritten c m m (record { command = command; reply = r; values = [] }) sound d e refl refl (rw a (omega arith)) (λ s. rw (o s) (first_of-none _))
+    (λ s. rw (b s) (sym (or-false _))) (λ h. rw (f h)) (rw g (sym (or-false _))) (λ h. rw (i h) (sym (or-false _)))
 
 -- the owners after a claim
 claim_owners : (owners : List ℕ) (n p s : ℕ) → n ≢ 0
@@ -111,7 +112,9 @@ claim_changes : (c : Setup) (m : State) (p n : ℕ) → IsSound c m → NoneHold
     → Changes m (entry_of (Claim p n) (accepted c m (Claim p n))) (accepted c m (Claim p n)).state
 claim_changes c m p n sound none =
     let some : n ≢ 0 = eqb-false n 0 (or_parts _ _ none.1.0).0 in
-    unwritten c m _ _ sound (λ s. refl) (λ h. refl) refl refl (length-append m.owners (replicate n p) ∙ ap (λ k. length m.owners + k) (length-replicate n p) ∙ omega arith) (λ s. claim_owners m.owners n p s some) (λ s. sym (or-false _)) (λ h. refl) (sym (or-false _)) (λ h. sym (or-false _))
+    unwritten c m _ _ sound (λ s. refl) (λ h. refl) refl refl
+    (length-append m.owners (replicate n p) ∙ ap (λ k. length m.owners + k) (length-replicate n p) ∙ omega arith)
+    (λ s. claim_owners m.owners n p s some) (λ s. sym (or-false _)) (λ h. refl) (sym (or-false _)) (λ h. sym (or-false _))
 
 first_of-if : {A : Type 0} (b : Bool) (v : A) (w : Option A) → cond b (Some v) w ≡ first_of (cond b (Some v) None) w
 first_of-if true v w = refl
@@ -140,7 +143,8 @@ write_changes c m p at v sound none = record {
 publish_changes : (c : Setup) (m : State) (p lo hi : ℕ) → IsSound c m
     → Changes m (entry_of (Publish p lo hi) (accepted c m (Publish p lo hi))) (accepted c m (Publish p lo hi)).state
 publish_changes c m p lo hi sound =
-    unwritten c m _ _ sound (λ s. refl) (λ h. refl) refl refl (omega arith) (λ s. first_of-none _) (λ s. refl) (λ h. refl) (sym (or-false _)) (λ h. sym (or-false _))
+    unwritten c m _ _ sound (λ s. refl) (λ h. refl) refl refl (omega arith) (λ s. first_of-none _) (λ s. refl) (λ h. refl) (sym (or-false _))
+    (λ h. sym (or-false _))
 
 unwrap-if : {A : Type 0} (b : Bool) (v w : A) → cond b v w ≡ unwrap_or (cond b (Some v) None) w
 unwrap-if true v w = refl
@@ -158,7 +162,9 @@ complete_changes : (c : Setup) (m : State) (at upto : ℕ) → IsSound c m → N
 complete_changes c m at upto sound none =
     let inside : at < handlers c = grind (arith, nat_tests, none.0) in
     let len : length m.completed ≡ handlers c = sound.completed_len in
-    unwritten c m _ _ sound (λ s. refl) (λ h. refl) refl refl (omega arith) (λ s. first_of-none _) (λ s. sym (or-false _)) (λ h. set_count m.completed at upto h (omega arith) ∙ unwrap-if (h == at) upto (slice_index m.completed h)) (sym (or-false _)) (λ h. sym (or-false _))
+    unwritten c m _ _ sound (λ s. refl) (λ h. refl) refl refl (omega arith) (λ s. first_of-none _) (λ s. sym (or-false _))
+    (λ h. set_count m.completed at upto h (omega arith) ∙ unwrap-if (h == at) upto (slice_index m.completed h)) (sym (or-false _))
+    (λ h. sym (or-false _))
 
 or-true : (b : Bool) → true ≡ (b || true)
 or-true true = refl
@@ -166,11 +172,13 @@ or-true false = refl
 
 halt_changes : (c : Setup) (m : State) → IsSound c m → Changes m (entry_of Halt (accepted c m Halt)) (accepted c m Halt).state
 halt_changes c m sound =
-    unwritten c m _ _ sound (λ s. refl) (λ h. refl) refl refl (omega arith) (λ s. first_of-none _) (λ s. sym (or-false _)) (λ h. refl) (or-true m.halted) (λ h. sym (or-false _))
+    unwritten c m _ _ sound (λ s. refl) (λ h. refl) refl refl (omega arith) (λ s. first_of-none _) (λ s. sym (or-false _)) (λ h. refl)
+    (or-true m.halted) (λ h. sym (or-false _))
 
 retire_changes : (c : Setup) (m : State) (at : ℕ) → IsSound c m → Changes m (entry_of (Retire at) (accepted c m (Retire at))) (accepted c m (Retire at)).state
 retire_changes c m at sound =
-    unwritten c m _ _ sound (λ s. refl) (λ h. refl) refl refl (omega arith) (λ s. first_of-none _) (λ s. sym (or-false _)) (λ h. refl) (sym (or-false _)) (λ h. refl)
+    unwritten c m _ _ sound (λ s. refl) (λ h. refl) refl refl (omega arith) (λ s. first_of-none _) (λ s. sym (or-false _)) (λ h. refl)
+    (sym (or-false _)) (λ h. refl)
 
 -- no handler is offered more than is published
 pub offered-le : (c : Setup) (m : State) → IsSound c m → (hs : List ℕ) → offered m hs ≤ front m
@@ -211,7 +219,9 @@ module _ (c : Setup) (m : State) (at limit : ℕ) (sound : IsSound c m) (inside 
       let r : slice_index m.taken at + count_of c m at limit ≤ front m = reach more in
       let n : length (values_of c m at limit) ≡ count_of c m at limit = many in
       slice_get-get_or (values_of c m at limit) k no_event (omega arith)
-      ∙ ap Some (get_or-map-range_with_len (λ s. unwrap_or (m.written s) no_event) (slice_index m.taken at) (count_of c m at limit) k (slice_index m.taken at + k) no_event l refl)
+      ∙ ap Some
+      (get_or-map-range_with_len (λ s. unwrap_or (m.written s) no_event) (slice_index m.taken at) (count_of c m at limit) k
+      (slice_index m.taken at + k) no_event l refl)
       ∙ is_some_value (m.written (slice_index m.taken at + k)) (sound.written _ (published_there (slice_index m.taken at + k) (omega arith)))
 
   batch_changes : slice_index m.taken at < available c m at → Changes m (entry_of (Poll at limit) (batch c m at limit)) (batch c m at limit).state
@@ -222,7 +232,8 @@ module _ (c : Setup) (m : State) (at limit : ℕ) (sound : IsSound c m) (inside 
     written = λ s. refl;
     taken =
         λ h. set_count m.taken at (slice_index m.taken at + count_of c m at limit) h within
-        ∙ cond_both (h == at) (values_of c m at limit) [] (λ vs. cond (h == at) (slice_index m.taken at + count_of c m at limit) (slice_index m.taken h) ≡ slice_index m.taken h + length vs)
+        ∙ cond_both (h == at) (values_of c m at limit) []
+        (λ vs. cond (h == at) (slice_index m.taken at + count_of c m at limit) (slice_index m.taken h) ≡ slice_index m.taken h + length vs)
         (λ y. (let e : h ≡ at = eqb-true h at y in rw y (rw e (ap (λ k. slice_index m.taken at + k) (sym many)))))
         (λ n. rw n (sym (add-zero _)));
     completed = λ h. refl;

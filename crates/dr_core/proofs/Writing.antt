@@ -35,7 +35,10 @@ owned own r e = elim (cases_Bool own) [ inl y ↦ y | inr n ↦ absurd (let f : 
 
 pub disowned : (own : Bool) (q r : Refusal) → cond own None (Some q) ≡ Some r → (own ≡ false) × (q ≡ r)
 disowned own q r e =
-    elim (cases_Bool own) [ inl y ↦ absurd (let f : ◌≡◌ {A = Option Refusal} None (Some r) = rw y at e in cc) | inr n ↦ (n, (let f : ◌≡◌ {A = Option Refusal} (Some q) (Some r) = rw n at e in cc)) ]
+    elim (cases_Bool own) [
+      | inl y ↦ absurd (let f : ◌≡◌ {A = Option Refusal} None (Some r) = rw y at e in cc)
+      | inr n ↦ (n, (let f : ◌≡◌ {A = Option Refusal} (Some q) (Some r) = rw n at e in cc))
+    ]
 
 -- a sequence that is claimed and not written is refused to every producer
 pub unwritten_refused : (own : Bool) → cond own (Some NotWritten) (Some NotClaimed) ≡ None → ⊥
@@ -64,7 +67,8 @@ write_err (PublishedWith event) p o b w r h e = inl (h.0, (let f : ◌≡◌ {A 
 pub write_front : (v : CoreView) (p s : ℕ) (x : Event) → p < producers v.setup.mode → s < v.next → s < v.front
     → IsStep v (Write p s x) (Refused AlreadyPublished) [] v
 write_front v p s x producer claimed old =
-    refused_step v (Write p s x) AlreadyPublished (λ m sh. inr (lt-leb _ _ producer, inr ((let n : next m ≡ v.next = same_next sh in rw n (lt-leb _ _ claimed)), inl (below_front v m sh s old, refl))))
+    refused_step v (Write p s x) AlreadyPublished
+    (λ m sh. inr (lt-leb _ _ producer, inr ((let n : next m ≡ v.next = same_next sh in rw n (lt-leb _ _ claimed)), inl (below_front v m sh s old, refl))))
 
 -- what a write leaves known: the sequence is written, and of the others as much as before
 pub record WritesKnown (v : CoreView) (p s : ℕ) (x : Event) (known : ℕ → Known) : Type 0 where
@@ -77,10 +81,13 @@ module _ (v : CoreView) (p s : ℕ) (x : Event) (whole : IsWhole v) (producer : 
 
   pub write_refused : (r : Refusal) → write_fault (known_at v s) p ≡ Some r → IsStep v (Write p s x) (Refused r) [] v
   write_refused r e =
-      refused_step v (Write p s x) r (λ m sh. inr (lt-leb _ _ producer, inr ((let n : next m ≡ v.next = same_next sh in rw n (lt-leb _ _ claimed)), write_err (known_at v s) p _ _ _ r (there m sh) e)))
+      refused_step v (Write p s x) r
+      (λ m sh. inr
+      (lt-leb _ _ producer, inr ((let n : next m ≡ v.next = same_next sh in rw n (lt-leb _ _ claimed)), write_err (known_at v s) p _ _ _ r (there m sh) e)))
 
   written_recents : (known : ℕ → Known) → WritesKnown v p s x known → (m : State) → Shows v m → m.published s ≡ false → slice_index m.owners s ≡ p
-      → KnowsRecents v.setup.size v.next (known_at (record v { recent = recent_of known v.next v.setup.size })) m.owners m.published (accepted v.setup m (Write p s x)).state.written
+      → KnowsRecents v.setup.size v.next (known_at (record v { recent = recent_of known v.next v.setup.size })) m.owners m.published
+      (accepted v.setup m (Write p s x)).state.written
   written_recents known knows m sh hidden mine =
       record {
         recent = λ k l r. rw (known_at-recent known v.next v.setup.size k l r) (elim (cases_eq k s) [

@@ -25,7 +25,8 @@ pub front_below : (n bound : ℕ) → n ≤ bound → least_outside (λ s. nat_l
 front_below n bound h = least_one (λ s. nat_lt s n) bound _ _ (least_is (λ s. nat_lt s n) bound)
     (record { within = h; below = λ k l. lt-ltb k n l; here = λ l. le-ltb n n (omega arith) })
 
-pub next_is : (events : List Event) (claimed written published : ℕ) (taken completed : List ℕ) → next (passed events claimed written published taken completed) ≡ claimed
+pub next_is : (events : List Event) (claimed written published : ℕ) (taken completed : List ℕ)
+    → next (passed events claimed written published taken completed) ≡ claimed
 next_is events claimed written published taken completed = length-replicate claimed 0
 
 pub claims : (events : List Event) (size at n : ℕ) → 0 < n → n ≤ size → at + n ≤ 2 ^ 62
@@ -44,12 +45,14 @@ claims events size at n some fits limit =
     unless-none (refusals (replay_setup size) m (Claim 0 n)) m (accepted (replay_setup size) m (Claim 0 n)) none
     ∙ ap (λ k. after k (replicate at 0 ++ replicate n 0)) next_at ∙ ap (after at) (replicate-append-replicate at n 0)
 
-written_more : (events : List Event) (w : ℕ) (e : Event) → e ≡ slice_index_or events w no_event → (k : ℕ) → (if k == w then Some e else written_below events w k) ≡ written_below events (w + 1) k
+written_more : (events : List Event) (w : ℕ) (e : Event) → e ≡ slice_index_or events w no_event → (k : ℕ)
+    → (if k == w then Some e else written_below events w k) ≡ written_below events (w + 1) k
 written_more events w e is k = elim (cases_eq k w) [
   | inl here ↦ let below : w < w + 1 = omega arith in rw here (rw (eq-eqb w w refl, lt-ltb w (w + 1) below, is) refl)
   | inr other ↦ elim (cases_lt k w) [
     | inl l ↦ let below : k < w + 1 = omega arith in rw (ne_eqb k w other, lt-ltb k w l, lt-ltb k (w + 1) below) refl
-    | inr g ↦ let above : w + 1 ≤ k = omega arith in let not_below : w ≤ k = omega arith in rw (ne_eqb k w other, le-ltb k w not_below, le-ltb k (w + 1) above) refl
+    | inr g ↦ let above : w + 1 ≤ k =
+        omega arith in let not_below : w ≤ k = omega arith in rw (ne_eqb k w other, le-ltb k w not_below, le-ltb k (w + 1) above) refl
   ]
 ]
 
@@ -72,7 +75,8 @@ shown_more at n k some = elim (cases_lt k at) [
   | inl l ↦ let more : k < at + n = omega arith in rw (lt-ltb k at l, lt-ltb k (at + n) more) refl
   | inr g ↦ let low : at ≤ k = omega arith in elim (cases_lt k (at + n)) [
     | inl l ↦ let high : k ≤ at + n - 1 = omega arith in rw (le-ltb k at low, le-leb at k low, le-leb k (at + n - 1) high, lt-ltb k (at + n) l) refl
-    | inr o ↦ let over : at + n ≤ k = omega arith in let past : at + n - 1 < k = omega arith in rw (le-ltb k at low, le-leb at k low, lt-leb k (at + n - 1) past, le-ltb k (at + n) over) refl
+    | inr o ↦ let over : at + n ≤ k =
+        omega arith in let past : at + n - 1 < k = omega arith in rw (le-ltb k at low, le-leb at k low, lt-leb k (at + n - 1) past, le-ltb k (at + n) over) refl
   ]
 ]
 
@@ -127,8 +131,10 @@ polls events size c at h room counts handler some taken_is offered less fits wit
     let none : NoneHold (refusals (replay_setup size) m (Poll h room)) = (lt-leb 3 h handler, (refl, (ne_eqb room 0 nonzero, tt))) in
     let there : nat_lt (slice_index counts h) (available (replay_setup size) m h) ≡ true = rw (taken_is, offered) (lt-ltb at c less) in
     let value = λ (s : ℕ). unwrap_or (written_below events c s) no_event in
-    let by_count : ℕ → ℕ → ℕ → Outcome = λ first av count. record { reply = Batch first count (first + count == av); values = map value (range_with_len first count); state = record m { taken = slice_set counts h (first + count) } } in
-    let outcome : Bool → List Event → ℕ → Outcome = λ end values upto. record { reply = Batch at (c - at) end; values = values; state = record m { taken = slice_set counts h upto } } in
+    let by_count : ℕ → ℕ → ℕ → Outcome =
+    λ first av count. record { reply = Batch first count (first + count == av); values = map value (range_with_len first count); state = record m { taken = slice_set counts h (first + count) } } in
+    let outcome : Bool → List Event → ℕ → Outcome =
+    λ end values upto. record { reply = Batch at (c - at) end; values = values; state = record m { taken = slice_set counts h upto } } in
     let count_is : min (c - at) room ≡ c - at = omega arith in
     let whole : at + (c - at) ≡ c = omega arith in
     let inside : at + (c - at) ≤ c = omega arith in

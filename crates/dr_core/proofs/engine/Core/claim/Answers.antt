@@ -28,7 +28,8 @@ returns-then-n-eq0-clause-step c =
       | then-n-eq0-via-then-n-eq0 w ↦ or_left _ _ (eq-eqb _ _ w.if-n-eq0.true)
       | then-n-eq0-via-else-n-eq0+then-n-get w ↦ or_right (c.args.n == 0) _ (lt-ltb _ _ (rw w.get.ensures.value at w.if-n-get.true))
     ] in
-    rw (← c.self.view_is) (refused_step v (Claim c.args.p c.args.n) BadCount (λ m sh. inr (lt-leb _ _ (rw c.producers.ensures at c.if-p-producers.false), inl (bad, refl))))
+    rw (← c.self.view_is)
+    (refused_step v (Claim c.args.p c.args.n) BadCount (λ m sh. inr (lt-leb _ _ (rw c.producers.ensures at c.if-p-producers.false), inl (bad, refl))))
 
 pub returns-then-not-has_room-clause-step : goal.returns-then-not-has_room-clause-step
 returns-then-not-has_room-clause-step c =
@@ -82,7 +83,9 @@ invariant_of-self c =
     record {
       whole = step_whole (claimed at) refl c.self-2.invariant.whole;
       available =
-          rw (owned at) (claims_available v (kept_of c.self-2.inside) (known_there c.self-2.inside) c.self-2.invariant.available c.self-2.invariant.whole.front (size_positive v.setup.size c.self-2.invariant.whole.size) c.args.n c.args.p);
+          rw (owned at)
+          (claims_available v (kept_of c.self-2.inside) (known_there c.self-2.inside) c.self-2.invariant.available c.self-2.invariant.whole.front
+          (size_positive v.setup.size c.self-2.invariant.whole.size) c.args.n c.args.p);
       gating = c.self-2.invariant.gating;
       gate = c.self-2.invariant.gate;
     }

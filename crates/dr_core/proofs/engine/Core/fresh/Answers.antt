@@ -37,7 +37,8 @@ invariant_of-result c =
         unwritten = λ s later. rw c.in_ok-written.ensures (none_marked _ s);
       };
       gating =
-          written_back c.in_ok-gating.gating c.flag_gating.new.flags c.deref.result.now _ c.args.graph.upstreams (c.flag_gating.auto.flags ∙ c.deref_mut.ensures.len) c.deref.ensures.value c.flag_gating.ensures;
+          written_back c.in_ok-gating.gating c.flag_gating.new.flags c.deref.result.now _ c.args.graph.upstreams
+          (c.flag_gating.auto.flags ∙ c.deref_mut.ensures.len) c.deref.ensures.value c.flag_gating.ensures;
       gate = λ f has. rw c.new-4.ensures (omega arith);
     }
 
@@ -46,7 +47,8 @@ returns c = record {
   setup = refl;
   names = refl;
   shows =
-      opening_shows (setup_of c.args.graph.upstreams c.args.size c.args.mode c.args.limit) c.args.graph.names _ c.in_ok-taken.taken.items c.in_ok-completed.completed.items c.in_ok-retired.retired.items
+      opening_shows
+      (setup_of c.args.graph.upstreams c.args.size c.args.mode c.args.limit) c.args.graph.names _ c.in_ok-taken.taken.items c.in_ok-completed.completed.items c.in_ok-retired.retired.items
       (none_taken (goal.at.returns c).After-new-4)
       (none_completed (goal.at.returns c).After-new-4)
       (none_retired (goal.at.returns c).After-new-4);

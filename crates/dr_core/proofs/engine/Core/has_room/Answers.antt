@@ -12,7 +12,8 @@ pub overflow_add-size : goal.overflow_add-size
 overflow_add-size c =
     let v : CoreView = view_of c.self.inside in
     let fits : c.get-size.result + c.seen.result < 2 ^ 64 =
-    room_fits v c.self.invariant.whole c.get-size.result c.seen.result c.get-size.ensures.value (rw c.seen.ensures (seen_below v c.self.invariant.whole c.self.inside.gate c.self.invariant.gate)) in
+    room_fits v c.self.invariant.whole c.get-size.result c.seen.result c.get-size.ensures.value
+    (rw c.seen.ensures (seen_below v c.self.invariant.whole c.self.inside.gate c.self.invariant.gate)) in
     omega arith
 
 pub returns-then-wanted-size-clause-room : goal.returns-then-wanted-size-clause-room
@@ -31,7 +32,8 @@ least_is v counts flags kept n gating a b e = (rw (a, b) at e) ∙ flagged_least
 pub raise-requires : goal.raise-requires
 raise-requires c =
     let v : CoreView = view_of c.self.inside in
-    rw (least_is v _ _ _ _ c.self.invariant.gating c.deref.ensures.value c.deref-2.ensures.value c.least_flagged-least.ensures) (seen_below v c.self.invariant.whole c.self.inside.gate c.self.invariant.gate)
+    rw (least_is v _ _ _ _ c.self.invariant.gating c.deref.ensures.value c.deref-2.ensures.value c.least_flagged-least.ensures)
+    (seen_below v c.self.invariant.whole c.self.inside.gate c.self.invariant.gate)
 
 pub overflow_add-result : goal.overflow_add-result
 overflow_add-result c =
@@ -50,7 +52,8 @@ invariant_of-self c =
       available = c.self.invariant.available;
       gating = c.self.invariant.gating;
       gate =
-          rw (c.raise.ensures, least_is v _ _ _ _ c.self.invariant.gating c.deref.ensures.value c.deref-2.ensures.value c.least_flagged-least.ensures) (least_below v c.self.invariant.whole);
+          rw (c.raise.ensures, least_is v _ _ _ _ c.self.invariant.gating c.deref.ensures.value c.deref-2.ensures.value c.least_flagged-least.ensures)
+          (least_below v c.self.invariant.whole);
     }
 
 pub returns-clause-room : goal.returns-clause-room
@@ -59,4 +62,5 @@ returns-clause-room c =
     let least : c.least_flagged-least.result ≡ gate_of v =
     least_is v _ _ _ _ c.self.invariant.gating c.deref.ensures.value c.deref-2.ensures.value c.least_flagged-least.ensures in
     let size : c.get-size.result ≡ v.setup.size = c.get-size.ensures.value in
-    rw (← c.self.view_is) (ap (λ n. nat_le (v.next + c.args.n) (n + c.least_flagged-least.result)) size ∙ ap (λ n. nat_le (v.next + c.args.n) (v.setup.size + n)) least)
+    rw (← c.self.view_is)
+    (ap (λ n. nat_le (v.next + c.args.n) (n + c.least_flagged-least.result)) size ∙ ap (λ n. nat_le (v.next + c.args.n) (v.setup.size + n)) least)

@@ -27,20 +27,28 @@ copied : (events : List Event) (first count : ℕ) (out old : List Event)
     → take count out ≡ map (λ s. event_at events s) (range_with_len first count)
 copied events first count out old is =
     ap (take count) is
-    ∙ take_at (map (λ s. event_at events s) (range_with_len first count)) (drop count old) count (length-map-range_with_len (λ s. event_at events s) first count)
+    ∙ take_at (map (λ s. event_at events s) (range_with_len first count)) (drop count old) count
+    (length-map-range_with_len (λ s. event_at events s) first count)
 
 -- what the poll has found before it looks further
 found : (c : After-available-available) → PollsAt (view_of c.self.inside) c.args.h (length c.args.out.now) c.index-first.result.now c.available-available.result
 found c =
-    polls_at (view_of c.self.inside) c.args.h (length c.args.out.now) c.len.result c.index-first.result.now c.available-available.result c.self.invariant.whole c.len.ensures.handlers c.if-h-len.false (told (view_of c.self.inside) c.args.h c.index.result.now false c.self.invariant.whole (omega (arith, c.len.ensures.handlers)) c.index.ensures c.if-index.false) (eqb-false _ _ (sym c.if-is_empty.ensures)) c.index-first.ensures (rw (← c.self.view_is) at c.available-available.ensures)
+    polls_at (view_of c.self.inside) c.args.h
+    (length c.args.out.now) c.len.result c.index-first.result.now c.available-available.result c.self.invariant.whole c.len.ensures.handlers c.if-h-len.false
+    (told (view_of c.self.inside) c.args.h c.index.result.now false c.self.invariant.whole
+    (omega (arith, c.len.ensures.handlers)) c.index.ensures c.if-index.false)
+    (eqb-false _ _ (sym c.if-is_empty.ensures)) c.index-first.ensures (rw (← c.self.view_is) at c.available-available.ensures)
 
 -- the batch is the machine's
 took : (c : After-copy_out) → PollsAt (view_of c.self.inside) c.args.h (length c.args.out.now) c.index-first.result.now c.available-available.result
-    → IsStep (view_of c.self.inside) (Poll c.args.h (length c.args.out.now)) (Batch c.index-first.result.now c.min-count.result (c.index-first.result.now + c.min-count.result == c.available-available.result))
+    → IsStep (view_of c.self.inside) (Poll c.args.h (length c.args.out.now))
+    (Batch c.index-first.result.now c.min-count.result (c.index-first.result.now + c.min-count.result == c.available-available.result))
     (map (λ s. event_at c.self.inside.events s) (range_with_len c.index-first.result.now c.min-count.result))
     (view_of (record c.self.inside { taken = with_item c.self.inside.taken c.args.h (c.index-first.result.now + c.min-count.result) }))
 took c at =
-    batch_step (view_of c.self.inside) c.args.h (length c.args.out.now) at.whole at.inside at.left at.some (rw (at.taken, at.offered) at c.if-first-available.true) c.index-first.result.now c.min-count.result c.available-available.result (λ s. event_at c.self.inside.events s) (shown_event c.self.inside) at.taken at.offered c.min-count.ensures
+    batch_step (view_of c.self.inside) c.args.h (length c.args.out.now) at.whole at.inside at.left at.some
+    (rw (at.taken, at.offered) at c.if-first-available.true) c.index-first.result.now c.min-count.result c.available-available.result
+    (λ s. event_at c.self.inside.events s) (shown_event c.self.inside) at.taken at.offered c.min-count.ensures
 
 pub invariant_of-self : goal.invariant_of-self
 invariant_of-self c =
@@ -66,7 +74,9 @@ returns-then-first-available-clause-step c =
 pub returns-then-first-self-clause-step : goal.returns-then-first-self-clause-step
 returns-then-first-self-clause-step c =
     let at = found (goal.at.returns-then-first-self-clause-step c).After-available-available in
-    rw (← c.self.view_is) (drained_step (view_of c.self.inside) c.args.h (length c.args.out.now) at.whole at.inside at.left at.some (rw (at.taken, at.offered) at c.if-first-available.false) c.if-self.true (sym at.taken ∙ c.if-first-self.true))
+    rw (← c.self.view_is)
+    (drained_step (view_of c.self.inside) c.args.h (length c.args.out.now) at.whole at.inside at.left at.some
+    (rw (at.taken, at.offered) at c.if-first-available.false) c.if-self.true (sym at.taken ∙ c.if-first-self.true))
 
 -- a handler that is not drained
 undrained : (c : After-cursor) → c.index-first.result.now ≡ slice_index (view_of c.self.inside).taken c.args.h
@@ -82,7 +92,9 @@ returns-then-first-cursor-clause-step c =
     let at = found (goal.at.returns-then-first-cursor-clause-step c).After-available-available in
     let stays = undrained (goal.at.returns-then-first-cursor-clause-step c).After-cursor at.taken in
     let cursor : c.cursor.result ≡ (if is_single v.setup.mode then v.front else v.next) = rw (← c.self.view_is) at c.cursor.ensures in
-    rw (← c.self.view_is) (gating_step v c.args.h (length c.args.out.now) at.whole at.inside at.left at.some (rw (at.taken, at.offered) at c.if-first-available.false) stays (rw (at.taken, cursor) at c.if-first-cursor.true))
+    rw (← c.self.view_is)
+    (gating_step v c.args.h (length c.args.out.now) at.whole at.inside at.left at.some (rw (at.taken, at.offered) at c.if-first-available.false) stays
+    (rw (at.taken, cursor) at c.if-first-cursor.true))
 
 pub returns-clause-step : goal.returns-clause-step
 returns-clause-step c =
@@ -90,4 +102,6 @@ returns-clause-step c =
     let at = found (goal.at.returns-clause-step c).After-available-available in
     let stays = undrained (goal.at.returns-clause-step c).After-cursor at.taken in
     let cursor : c.cursor.result ≡ (if is_single v.setup.mode then v.front else v.next) = rw (← c.self.view_is) at c.cursor.ensures in
-    rw (← c.self.view_is) (idle_step v c.args.h (length c.args.out.now) at.whole at.inside at.left at.some (rw (at.taken, at.offered) at c.if-first-available.false) stays (rw (at.taken, cursor) at c.if-first-cursor.false))
+    rw (← c.self.view_is)
+    (idle_step v c.args.h (length c.args.out.now) at.whole at.inside at.left at.some (rw (at.taken, at.offered) at c.if-first-available.false) stays
+    (rw (at.taken, cursor) at c.if-first-cursor.false))

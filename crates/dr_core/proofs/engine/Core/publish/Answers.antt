@@ -50,12 +50,16 @@ front-self-inside-requires-clause-round c =
 
 -- the front that the new marks have
 moved : (c : After-front-self-inside)
-    → IsFront (is_marked (stamped (entry_of (length c.self.inside.published)) c.self.inside.published c.args.lo (c.args.hi + 1 - c.args.lo))) c.self.inside.front c.self.inside.next c.front-self-inside.result
+    → IsFront
+    (is_marked
+    (stamped (entry_of (length c.self.inside.published)) c.self.inside.published c.args.lo
+    (c.args.hi + 1 - c.args.lo))) c.self.inside.front c.self.inside.next c.front-self-inside.result
 moved c = rw c.mark_all.ensures at c.front-self-inside.ensures
 
 -- the publication is the machine's
 published : (c : After-front-self-inside)
-    → IsStep (view_of c.self.inside) (Publish c.args.p c.args.lo c.args.hi) Published [] (view_of (record c.self.inside { published = c.mark_all.new.rounds; front = c.front-self-inside.result }))
+    → IsStep (view_of c.self.inside) (Publish c.args.p c.args.lo c.args.hi) Published []
+    (view_of (record c.self.inside { published = c.mark_all.new.rounds; front = c.front-self-inside.result }))
 published c =
     let v : CoreView = view_of c.self.inside in
     let recent : v.next ≤ c.args.lo + v.setup.size = near v c.self.invariant.whole c.args.lo c.if-lo-self.false in
@@ -81,7 +85,10 @@ invariant_of-self c =
     record {
       whole = step_whole (published at) refl c.self.invariant.whole;
       available =
-          rw c.mark_all.ensures (publishes_available v (kept_of c.self.inside) (known_there c.self.inside) c.self.invariant.available c.self.invariant.whole.front (size_positive v.setup.size c.self.invariant.whole.size) c.args.p c.args.lo c.args.hi c.front-self-inside.result c.if-lo-hi.false c.if-hi-self.false recent refl (moved at));
+          rw c.mark_all.ensures
+          (publishes_available v (kept_of c.self.inside) (known_there c.self.inside) c.self.invariant.available c.self.invariant.whole.front
+          (size_positive v.setup.size c.self.invariant.whole.size) c.args.p c.args.lo c.args.hi c.front-self-inside.result c.if-lo-hi.false c.if-hi-self.false recent refl
+          (moved at));
       gating = c.self.invariant.gating;
       gate = c.self.invariant.gate;
     }

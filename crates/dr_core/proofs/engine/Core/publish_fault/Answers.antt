@@ -16,17 +16,23 @@ returns-then-is_marked c =
       | then-s-self w ↦ or_left (nat_lt c.args.s c.self.inside.front) _ (lt-ltb _ _ w.if-s-self.true)
       | else-s-self w ↦ or_right (nat_lt c.args.s c.self.inside.front) _ (sym w.is_marked.ensures ∙ sym w.value-is ∙ c.if-is_marked.true)
     ] in
-    sym (rw (← c.self.view_is) (publish_fault_is c.self.inside c.args.s c.args.p true _ _ (rw (← c.self.view_is) at c.requires.claimed) (rw (← c.self.view_is) at c.requires.recent) published refl refl))
+    sym
+    (rw (← c.self.view_is)
+    (publish_fault_is c.self.inside c.args.s c.args.p true _ _ (rw (← c.self.view_is) at c.requires.claimed)
+    (rw (← c.self.view_is) at c.requires.recent) published refl refl))
 
 -- a sequence that is not published, by its owner and its mark as written
-unpublished_fault : (c : After-owner_of) (mine written : Bool) → (owner_at c.self.inside.mode c.self.inside.owners.items c.args.s == c.args.p) ≡ mine → is_marked c.self.inside.written c.args.s ≡ written
+unpublished_fault : (c : After-owner_of) (mine written : Bool) → (owner_at c.self.inside.mode c.self.inside.owners.items c.args.s == c.args.p) ≡ mine
+    → is_marked c.self.inside.written c.args.s ≡ written
     → publish_fault (known_at c.args.self.now c.args.s) c.args.p ≡ cond mine (cond written None (Some NotWritten)) (Some NotClaimed)
 unpublished_fault c mine written owned marked =
     let unpublished : is_published_at (kept_of c.self.inside) c.args.s ≡ false = elim c.if-s-self.branch [
       | then-s-self w ↦ absurd (let e : ◌≡◌ {A = Bool} true false = sym (lt-ltb _ _ w.if-s-self.true) ∙ sym w.value-is ∙ c.if-is_marked.false in cc)
       | else-s-self w ↦ or_from (nat_lt c.args.s c.self.inside.front) (is_marked c.self.inside.published c.args.s) (le-ltb _ _ w.if-s-self.false) (sym w.is_marked.ensures ∙ sym w.value-is ∙ c.if-is_marked.false)
     ] in
-    rw (← c.self.view_is) (publish_fault_is c.self.inside c.args.s c.args.p false mine written (rw (← c.self.view_is) at c.requires.claimed) (rw (← c.self.view_is) at c.requires.recent) unpublished owned marked)
+    rw (← c.self.view_is)
+    (publish_fault_is c.self.inside c.args.s c.args.p false mine written (rw (← c.self.view_is) at c.requires.claimed)
+    (rw (← c.self.view_is) at c.requires.recent) unpublished owned marked)
 
 pub returns-then-owner_of-p : goal.returns-then-owner_of-p
 returns-then-owner_of-p c =
@@ -36,9 +42,13 @@ returns-then-owner_of-p c =
 pub returns-then-is_marked-2 : goal.returns-then-is_marked-2
 returns-then-is_marked-2 c =
     let owner = rw c.deref.ensures.value at c.owner_of.ensures in
-    sym (unpublished_fault (goal.at.returns-then-is_marked-2 c).After-owner_of true true (eq-eqb _ _ (sym owner ∙ c.if-owner_of-p.false)) (sym c.is_marked-else-owner_of-p.ensures ∙ c.if-is_marked-2.true))
+    sym
+    (unpublished_fault (goal.at.returns-then-is_marked-2 c).After-owner_of true true (eq-eqb _ _ (sym owner ∙ c.if-owner_of-p.false))
+    (sym c.is_marked-else-owner_of-p.ensures ∙ c.if-is_marked-2.true))
 
 pub returns-else-is_marked-2 : goal.returns-else-is_marked-2
 returns-else-is_marked-2 c =
     let owner = rw c.deref.ensures.value at c.owner_of.ensures in
-    sym (unpublished_fault (goal.at.returns-else-is_marked-2 c).After-owner_of true false (eq-eqb _ _ (sym owner ∙ c.if-owner_of-p.false)) (sym c.is_marked-else-owner_of-p.ensures ∙ c.if-is_marked-2.false))
+    sym
+    (unpublished_fault (goal.at.returns-else-is_marked-2 c).After-owner_of true false (eq-eqb _ _ (sym owner ∙ c.if-owner_of-p.false))
+    (sym c.is_marked-else-owner_of-p.ensures ∙ c.if-is_marked-2.false))

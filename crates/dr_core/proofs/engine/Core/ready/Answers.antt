@@ -13,4 +13,6 @@ returns-clause-count c =
     let taken : length v.taken ≡ handlers v.setup = c.self.invariant.whole.taken_len in
     let first : c.index-taken.result.now ≡ slice_index v.taken c.args.h =
     get_or_read v.taken c.args.h c.index-taken.result.now (omega arith) c.index-taken.ensures 0 in
-    rw (← c.self.view_is) (ready_is v c.args.h c.saturating_sub.result c.available-available.result c.index-taken.result.now c.saturating_sub.ensures (rw (← c.self.view_is) at c.available-available.ensures) first)
+    rw (← c.self.view_is)
+    (ready_is v c.args.h c.saturating_sub.result c.available-available.result c.index-taken.result.now c.saturating_sub.ensures
+    (rw (← c.self.view_is) at c.available-available.ensures) first)

@@ -25,7 +25,9 @@ left c =
 pub returns-then-not-is_final_without-clause-step : goal.returns-then-not-is_final_without-clause-step
 returns-then-not-is_final_without-clause-step c =
     let L = left (goal.at.returns-then-not-is_final_without-clause-step c).After-is_final_without in
-    rw (← c.self.view_is) (not_final_step (view_of c.self.inside) c.args.h c.self.invariant.whole L.inside L.left (rw c.deref.ensures.value at (sym c.is_final_without.ensures ∙ c.if-not-is_final_without.true)))
+    rw (← c.self.view_is)
+    (not_final_step (view_of c.self.inside) c.args.h c.self.invariant.whole L.inside L.left
+    (rw c.deref.ensures.value at (sym c.is_final_without.ensures ∙ c.if-not-is_final_without.true)))
 
 pub returns-then-is_last-clause-step : goal.returns-then-is_last-clause-step
 returns-then-is_last-clause-step c =
@@ -33,7 +35,10 @@ returns-then-is_last-clause-step c =
     let L = left (goal.at.returns-then-is_last-clause-step c).After-is_final_without in
     let final : is_final_without v.setup.upstreams (retired_in v) c.args.h ≡ true =
     rw c.deref.ensures.value at (sym c.is_final_without.ensures ∙ c.if-not-is_final_without.false) in
-    rw (← c.self.view_is) (last_step v c.args.h c.self.invariant.whole L.inside L.left final (not-true _ (others_told v c.args.h c.deref-2.result.now c.is_last.result true c.self.invariant.whole c.deref-2.ensures.value c.is_last.ensures c.if-is_last.true)))
+    rw (← c.self.view_is)
+    (last_step v c.args.h c.self.invariant.whole L.inside L.left final
+    (not-true _
+    (others_told v c.args.h c.deref-2.result.now c.is_last.result true c.self.invariant.whole c.deref-2.ensures.value c.is_last.ensures c.if-is_last.true)))
 
 -- past all tests the handler is final, and another is left
 pub record Last (c : After-index_mut) : Type 0 where
@@ -50,7 +55,9 @@ last c =
       left = told (view_of c.self.inside) c.args.h c.index.result.now false c.self.invariant.whole inside c.index.ensures c.if-index.false;
       final = rw c.deref.ensures.value at (sym c.is_final_without.ensures ∙ c.if-not-is_final_without.false);
       others =
-          not-false _ (others_told (view_of c.self.inside) c.args.h c.deref-2.result.now c.is_last.result false c.self.invariant.whole c.deref-2.ensures.value c.is_last.ensures c.if-is_last.false);
+          not-false _
+          (others_told
+          (view_of c.self.inside) c.args.h c.deref-2.result.now c.is_last.result false c.self.invariant.whole c.deref-2.ensures.value c.is_last.ensures c.if-is_last.false);
     }
 
 pub invariant_of-self : goal.invariant_of-self
@@ -59,10 +66,12 @@ invariant_of-self c =
     let L = last (goal.at.invariant_of-self c).After-index_mut in
     record {
       whole =
-          step_whole (retire_step v c.args.h c.self.invariant.whole L.inside L.left L.final L.others) (length-set c.self.inside.retired.items c.args.h true) c.self.invariant.whole;
+          step_whole (retire_step v c.args.h c.self.invariant.whole L.inside L.left L.final L.others)
+          (length-set c.self.inside.retired.items c.args.h true) c.self.invariant.whole;
       available = c.self.invariant.available;
       gating =
-          written_back c.self.inside.gating c.flag_gating.new.flags c.deref-3.result.now _ c.self.inside.graph.upstreams (c.flag_gating.auto.flags ∙ c.deref_mut.ensures.len) c.deref-3.ensures.value c.flag_gating.ensures;
+          written_back c.self.inside.gating c.flag_gating.new.flags c.deref-3.result.now _ c.self.inside.graph.upstreams
+          (c.flag_gating.auto.flags ∙ c.deref_mut.ensures.len) c.deref-3.ensures.value c.flag_gating.ensures;
       gate = retire_gate v c.args.h c.self.invariant.whole L.inside L.left L.final L.others c.self.inside.gate c.self.invariant.gate;
     }
 

@@ -17,7 +17,8 @@ use Rattle.dr_core.proofs.engine.Core.write.Goals.{After-owner_of, After-put}
 
 pub returns-then-s-self-2-clause-step : goal.returns-then-s-self-2-clause-step
 returns-then-s-self-2-clause-step c =
-    rw (← c.self.view_is) (write_front (view_of c.self.inside) c.args.p c.args.s c.args.event (rw c.producers.ensures at c.if-p-producers.false) c.if-s-self.false c.if-s-self-2.true)
+    rw (← c.self.view_is)
+    (write_front (view_of c.self.inside) c.args.p c.args.s c.args.event (rw c.producers.ensures at c.if-p-producers.false) c.if-s-self.false c.if-s-self-2.true)
 
 pub returns-then-is_marked-clause-step : goal.returns-then-is_marked-clause-step
 returns-then-is_marked-clause-step c =
@@ -36,7 +37,8 @@ unpublished c = or_from _ _ (le-ltb _ _ c.if-s-self-2.false) (sym c.is_marked.en
 unpublished_fault : (c : After-owner_of) (mine : Bool) → (owner_at c.self.inside.mode c.self.inside.owners.items c.args.s == c.args.p) ≡ mine
     → write_fault (known_at (view_of c.self.inside) c.args.s) c.args.p ≡ cond mine None (Some NotClaimed)
 unpublished_fault c mine owned =
-    write_fault_is c.self.inside c.args.s c.args.p false mine c.if-s-self.false (near (view_of c.self.inside) c.self.invariant.whole c.args.s c.if-s-self-2.false) (unpublished c) owned
+    write_fault_is c.self.inside c.args.s c.args.p false mine c.if-s-self.false
+    (near (view_of c.self.inside) c.self.invariant.whole c.args.s c.if-s-self-2.false) (unpublished c) owned
 
 pub returns-then-owner_of-p-clause-step : goal.returns-then-owner_of-p-clause-step
 returns-then-owner_of-p-clause-step c =
@@ -51,7 +53,8 @@ mine c = sym (rw c.deref.ensures.value at c.owner_of.ensures) ∙ c.if-owner_of-
 
 -- the write is the machine's
 written : (c : After-put) → is_published_at (kept_of c.self.inside) c.args.s ≡ false → write_fault (known_at (view_of c.self.inside) c.args.s) c.args.p ≡ None
-    → IsStep (view_of c.self.inside) (Write c.args.p c.args.s c.args.event) Written [] (view_of (record c.self.inside { written = c.mark.new.self; events = c.put.new.self }))
+    → IsStep (view_of c.self.inside) (Write c.args.p c.args.s c.args.event) Written []
+    (view_of (record c.self.inside { written = c.mark.new.self; events = c.put.new.self }))
 written c unshown free =
     let v : CoreView = view_of c.self.inside in
     let recent : v.next ≤ c.args.s + v.setup.size = near v c.self.invariant.whole c.args.s c.if-s-self-2.false in
@@ -68,7 +71,9 @@ invariant_of-self c =
     record {
       whole = step_whole (written put (unpublished at) (unpublished_fault at true (eq-eqb _ _ (mine put)))) refl c.self.invariant.whole;
       available =
-          rw (c.mark.ensures, c.put.ensures) (writes_available v (kept_of c.self.inside) (known_there c.self.inside) c.self.invariant.available c.self.invariant.whole.front (size_positive v.setup.size c.self.invariant.whole.size) c.args.p c.args.s c.args.event c.if-s-self.false recent);
+          rw (c.mark.ensures, c.put.ensures)
+          (writes_available v (kept_of c.self.inside) (known_there c.self.inside) c.self.invariant.available c.self.invariant.whole.front
+          (size_positive v.setup.size c.self.invariant.whole.size) c.args.p c.args.s c.args.event c.if-s-self.false recent);
       gating = c.self.invariant.gating;
       gate = c.self.invariant.gate;
     }
