@@ -1,5 +1,5 @@
 -- How far the claims of every state go.
-use Rattle.std.proofs.Common.{◌≡◌, ℕ, ◌+◌, ◌<◌, ◌≤◌, Bool, false, List, [], ◌∷◌, ◌++◌, ◌&&◌, ◌==◌, arith, refl, subst, length, replicate, slice_index}
+use Rattle.std.proofs.Common.{◌≡◌, ℕ, ◌+◌, ◌≤◌, [], ◌∷◌, ◌++◌, ◌&&◌, ◌==◌, arith, refl, subst, length, replicate, slice_index}
 use Rattle.std.specs.Prelude.{nat_lt}
 use Rattle.std.proofs.lemmas.Bool.{cond_both, or_parts}
 use Rattle.std.proofs.lemmas.Bool.Decides.{nat_tests}
@@ -8,7 +8,7 @@ use Rattle.dr_core.specs.declared.command.Command.{Command}
 use Rattle.dr_core.specs.declared.command.Command.TheVariants.{Claim, Write, Publish, Poll, Complete, Halt, Retire}
 use Rattle.dr_graph.specs.Graph.{FinalsGate, IsGraph}
 use Rattle.dr_graph.proofs.Gating.{least_gates}
-use Rattle.dr_core.specs.Machine.{Setup, State, Outcome, handlers, next, available, cursor, gate, retired_with, refusals, accepted, step, opening}
+use Rattle.dr_core.specs.Machine.{Setup, State, Outcome, next, available, cursor, gate, refusals, accepted, step, opening}
 use Rattle.dr_core.specs.Transcript.{Transcript, LeadsFrom, LeadsTo}
 use Rattle.dr_core.specs.Inside.{AreInBounds}
 use Rattle.dr_core.proofs.Steps.{NoneHold, unless-cases}

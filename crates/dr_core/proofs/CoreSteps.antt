@@ -1,7 +1,7 @@
 -- A call of the core is the machine's step, on each state that the core shows.
-use Rattle.std.proofs.Common.{◌≡◌, ℕ, ◌+◌, ◌-◌, ◌<◌, ◌≤◌, ◌≢◌, inl, inr, Bool, true, false, cond, List, [], ◌∷◌, ◌++◌, arith, refl, ap, ◌∙◌, length, map, min, get_or, replicate, slice_index, slice_set}
-use Rattle.std.proofs.lemmas.Bool.{cond_both, cond-true, eqb-true, cond-false, lt-ltb, leb-false, or_from, cases_lt, lt-leb, le-ltb, ne_eqb}
-use Rattle.std.proofs.lemmas.List.{length-append, length-replicate, length-set, get_or_append_left, get_or-append_right, get_or-replicate}
+use Rattle.std.proofs.Common.{◌≡◌, ℕ, ◌+◌, ◌-◌, ◌<◌, ◌≤◌, ◌≢◌, inl, inr, true, false, cond, List, [], ◌++◌, arith, refl, ap, ◌∙◌, length, map, min, get_or, replicate, slice_index, slice_set}
+use Rattle.std.proofs.lemmas.Bool.{cond_both, eqb-true, lt-ltb, leb-false, or_from, cases_lt, lt-leb, le-ltb, ne_eqb}
+use Rattle.std.proofs.lemmas.List.{length-append, length-replicate, get_or_append_left, get_or-append_right, get_or-replicate}
 use Rattle.std.specs.Prelude.{nat_le, ◌==◌}
 use Rattle.std.proofs.lemmas.List.FromFn.{get_or-map-range_with_len}
 use Rattle.dr_core.specs.declared.command.Command.{Command}
@@ -11,9 +11,9 @@ use Rattle.dr_core.specs.declared.command.Reply.TheVariants.{Claimed, Completed,
 use Rattle.dr_core.specs.declared.refusal.Refusal.{Refusal}
 use Rattle.dr_core.specs.declared.refusal.Refusal.TheVariants.{NoRoom}
 use Rattle.dr_seq.specs.declared.event.Event.{Event}
-use Rattle.dr_graph.specs.Graph.{IsOrderly, finals_without, least_of}
+use Rattle.dr_graph.specs.Graph.{finals_without, least_of}
 use Rattle.dr_graph.proofs.Gating.{finals_agree, least_gates}
-use Rattle.dr_core.specs.Machine.{Setup, State, Outcome, least_outside, handlers, producers, next, front, gating, least_completed, refusals, accepted, unless, unchanged}
+use Rattle.dr_core.specs.Machine.{Setup, State, least_outside, handlers, producers, next, front, gating, least_completed, refusals, accepted}
 use Rattle.dr_core.specs.CoreView.{Known, Nothing, ClaimedBy, CoreView, recent_of, known_at, retired_in, gate_of}
 use Rattle.dr_core.specs.Shows.{KnowsRecents, Shows, IsStep, CanComplete}
 use Rattle.dr_core.specs.Inside.{IsWhole}
@@ -150,20 +150,19 @@ module _ (v : CoreView) (p n : ℕ) (known : ℕ → Known) (knows : ClaimsKnown
       → v.next + n ≤ v.setup.size + gate_of v
       → IsStep v (Claim p n) (Claimed v.next (v.next + n - 1)) [] (record v { next = v.next + n; recent = recent_of known (v.next + n) v.setup.size })
   claim_step producer some fits going limit room = accepted_step refl refl (λ m sh. let here : next m ≡ v.next = same_next sh in record {
-    passes =
+    passes = (
+      lt-leb _ _ producer,
+      (
+        or_from _ _ (ne_eqb n 0 some) (le-ltb _ _ fits),
         (
-          lt-leb _ _ producer,
+          same_halted sh ∙ going,
           (
-            or_from _ _ (ne_eqb n 0 some) (le-ltb _ _ fits),
-            (
-              same_halted sh ∙ going,
-              (
-                rw here (le-ltb _ _ limit),
-                (rw (here, gate_same v m sh) (le-ltb _ _ room), tt),
-              ),
-            ),
+            rw here (le-ltb _ _ limit),
+            (rw (here, gate_same v m sh) (le-ltb _ _ room), tt),
           ),
-        );
+        ),
+      ),
+    );
     replies = rw here;
     hands_out = refl;
     shown = record {
@@ -184,5 +183,13 @@ pub claim_no_room : (v : CoreView) (p n : ℕ) → p < producers v.setup.mode �
 claim_no_room v p n producer some fits going limit full =
     refused_step v (Claim p n) NoRoom
     (λ m sh. let here : next m ≡ v.next = same_next sh in
-    inr (lt-leb _ _ producer, inr (or_from _ _ (ne_eqb n 0 some) (le-ltb _ _ fits), inr (same_halted sh ∙ going,
-    inr (rw here (le-ltb _ _ limit), inl (rw (here, gate_same v m sh) (lt-ltb _ _ (leb-false _ _ full)), refl))))))
+    inr (
+      lt-leb _ _ producer,
+      inr (
+        or_from _ _ (ne_eqb n 0 some) (le-ltb _ _ fits),
+        inr (
+          same_halted sh ∙ going,
+          inr (rw here (le-ltb _ _ limit), inl (rw (here, gate_same v m sh) (lt-ltb _ _ (leb-false _ _ full)), refl)),
+        ),
+      ),
+    ))

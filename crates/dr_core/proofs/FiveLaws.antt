@@ -134,9 +134,11 @@ accepted_room : (c : Setup) (m : State) (command : Command) → NoneHold (refusa
 accepted_room c m (Claim p n) none lo hi e =
     let ends : hi ≡ next m + n - 1 = claimed_end lo hi (next m) (next m + n - 1) e in
     let ne : n ≢ 0 = eqb-false n 0 (or_parts _ _ none.1.0).0 in
-    let room : next m + n ≤ c.size + least_completed m (gating c m) = grind (arith, nat_tests, none.1.1.1.1.0) in
-    (none.1.1.0, λ f has. (let l : least_completed m (gating c m) ≤ slice_index m.completed f = least_of-member (λ h. slice_index m.completed h) (gating c m) f has in
-        omega arith))
+    let room : next m + n ≤ c.size + least_completed m (gating c m) = grind (arith, nat_tests, none.1.1.1.1.0) in (
+      none.1.1.0,
+      λ f has. (let l : least_completed m (gating c m) ≤ slice_index m.completed f = least_of-member (λ h. slice_index m.completed h) (gating c m) f has in
+          omega arith),
+    )
 accepted_room c m (Write p s v) none lo hi e = cc
 accepted_room c m (Publish p a b) none lo hi e = cc
 accepted_room c m (Poll at limit) none lo hi e =

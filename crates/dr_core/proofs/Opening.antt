@@ -1,14 +1,12 @@
 -- A new core shows the opening.
-use Rattle.std.proofs.Common.{◌≡◌, ℕ, zero, suc, Bool, ◌≤◌, ◌^◌, List, [], arith, refl, ap, sym, ◌∙◌, length, replicate, false}
+use Rattle.std.proofs.Common.{◌≡◌, ℕ, zero, suc, Bool, List, [], arith, refl, ap, sym, ◌∙◌, length, replicate, false}
 use Rattle.std.proofs.lemmas.List.{length-replicate}
-use Rattle.dr_seq.specs.Size.{IsSize}
 use Rattle.dr_graph.specs.Name.{Name}
 use Rattle.dr_core.specs.Machine.{Setup, handlers, opening, least_outside}
-use Rattle.dr_graph.specs.Graph.{IsGraph, flagged}
+use Rattle.dr_graph.specs.Graph.{flagged}
 use Rattle.dr_core.specs.CoreView.{Known, CoreView}
 use Rattle.dr_core.specs.Shows.{Shows}
 use Rattle.dr_core.specs.Runs.{IsReached}
-use Rattle.dr_core.proofs.Keeps.{zeros}
 use Rattle.dr_core.proofs.Running.{run_none}
 use Rattle.dr_core.proofs.Whole.{reached_whole}
 use Rattle.dr_core.specs.Inside.{IsSetup, IsWhole}

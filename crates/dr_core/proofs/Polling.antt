@@ -2,8 +2,7 @@
 use Rattle.std.proofs.Common.{◌≡◌, ℕ, zero, suc, ◌+◌, ◌-◌, ◌<◌, ◌≤◌, ◌≢◌, inl, inr, min, Bool, true, false, ◌&&◌, List, [], ◌∷◌, ◌++◌, arith, refl, ap, sym, ◌∙◌, length, map, slice_index, slice_set, get_or, take, drop, Option}
 use Rattle.std.specs.Prelude.{◌==◌, nat_le, nat_lt, unwrap_or, if◌then◌else◌, Contains}
 use Rattle.std.specs.List.{range_with_len}
-use Rattle.std.proofs.lemmas.Bool.{cond_both, cond-true, cond-false, cases_Bool, false≢true, cases_eq, cases_lt, lt-leb, lt-ltb, le-ltb, ne_eqb, eq-eqb, and_from}
-use Rattle.std.proofs.lemmas.List.{length-set}
+use Rattle.std.proofs.lemmas.Bool.{cond-true, cond-false, cases_Bool, false≢true, cases_eq, cases_lt, lt-leb, lt-ltb, le-ltb, ne_eqb, eq-eqb, and_from}
 use Rattle.dr_core.specs.declared.command.Command.TheVariants.{Poll}
 use Rattle.dr_core.specs.declared.command.Reply.{Reply}
 use Rattle.dr_core.specs.declared.command.Reply.TheVariants.{Batch, Drained, Gating, Idle}
@@ -25,8 +24,7 @@ use Rattle.dr_core.specs.Inside.{IsWhole}
 use Rattle.dr_core.proofs.CoreSteps.{accepted_step}
 use Rattle.dr_core.proofs.Shown.{same_next, same_front, same_taken, same_completed, same_halted, same_retired}
 use Rattle.dr_core.proofs.Leasts.{least_of-le, least_of-member}
-use Rattle.std.proofs.lemmas.Bool.{eqb-true, leb-false}
-use Rattle.dr_core.proofs.Sound.{set_count}
+use Rattle.std.proofs.lemmas.Bool.{leb-false}
 use Rattle.dr_core.proofs.Writing.{below_front}
 use Rattle.std.specs.Prelude.{All}
 use Rattle.std.proofs.lemmas.List.Elements.{Contains-get_or}

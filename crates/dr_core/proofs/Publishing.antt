@@ -127,8 +127,8 @@ module _ (v : CoreView) (p lo hi front' : ℕ) (known : ℕ → Known) (knows : 
   now_published m sh k l r = elim (stretch_cases lo hi k) [
     | inl i ↦ ap is_shown (knows.inside k i.0 i.1) ∙ sym (or_right (m.published k) _ (inside_is lo hi k i.0 i.1))
     | inr o ↦ ap is_shown (knows.outside k l r o)
-    ∙ shown_published (known_at v k) _ _ _ (sh.recent k l r)
-    ∙ sym (or-no (m.published k) _ (outside_is lo hi k o))
+        ∙ shown_published (known_at v k) _ _ _ (sh.recent k l r)
+        ∙ sym (or-no (m.published k) _ (outside_is lo hi k o))
   ]
 
   front_moves : (m : State) → Shows v m → least_outside (λ k. m.published k || in_stretch lo hi k) (next m) ≡ front'
@@ -163,18 +163,17 @@ module _ (v : CoreView) (p lo hi front' : ℕ) (known : ℕ → Known) (knows : 
   pub publish_step : (is_single v.setup.mode && not (lo == v.front)) ≡ false
       → IsStep v (Publish p lo hi) Published [] (record v { recent = recent_of known v.next v.setup.size; front = front' })
   publish_step in_order = accepted_step refl refl (λ m sh. record {
-    passes =
+    passes = (
+      lt-leb _ _ producer,
+      (
+        le-ltb _ _ order,
         (
-          lt-leb _ _ producer,
-          (
-            le-ltb _ _ order,
-            (
-              rw (same_next sh) (lt-leb _ _ claimed),
-              NoneHold-join (flat_map (publish_faults m p) (range_with_len lo (hi + 1 - lo))) _
+          rw (same_next sh) (lt-leb _ _ claimed),
+          NoneHold-join (flat_map (publish_faults m p) (range_with_len lo (hi + 1 - lo))) _
               (none_here v p lo hi whole producer order claimed fresh none m sh) (rw (same_front sh) in_order, tt),
-            ),
-          ),
-        );
+        ),
+      ),
+    );
     replies = refl;
     hands_out = refl;
     shown = record { counts = λ i. record (sh.counts i) { front = front_moves m sh i }; flags = sh.flags; recents = published_recents m sh };

@@ -3,7 +3,7 @@ use Rattle.std.proofs.Common.{◌≡◌, ℕ, ◌+◌, ◌<◌, ◌≤◌, Bool,
 use Rattle.std.specs.Prelude.{Contains, ◌==◌}
 use Rattle.std.specs.List.{range_with_len}
 use Rattle.std.proofs.lemmas.Bool.{cases_eq, eq-eqb, ne_eqb, or_parts, not-true, not-false, lt-leb, and_parts, or_right}
-use Rattle.std.proofs.lemmas.List.{get_or_read, get_or-set_same, get_or-set_other, length-set}
+use Rattle.std.proofs.lemmas.List.{get_or_read, get_or-set_same, get_or-set_other}
 use Rattle.dr_core.specs.declared.command.Command.TheVariants.{Retire}
 use Rattle.dr_core.specs.declared.command.Reply.TheVariants.{Retired, Refused}
 use Rattle.dr_core.specs.declared.refusal.Refusal.TheVariants.{NotFinal, LastHandler}
@@ -48,9 +48,11 @@ module _ (v : CoreView) (h : ℕ) (whole : IsWhole v) (inside : h < handlers v.s
   pub not_final_step : is_final_without v.setup.upstreams (retired_in v) h ≡ false → IsStep v (Retire h) (Refused NotFinal) [] v
   not_final_step not_final =
       refused_step v (Retire h) NotFinal
-      (λ m sh. inr
-      (lt-leb _ _ inside, inr
-      (same_retired sh h ∙ left, inl (followed_agree v.setup.upstreams m.retired (retired_in v) (same_retired sh) h ∙ is_followed_then, refl))))
+      (λ m sh. inr (
+        lt-leb _ _ inside,
+        inr
+            (same_retired sh h ∙ left, inl (followed_agree v.setup.upstreams m.retired (retired_in v) (same_retired sh) h ∙ is_followed_then, refl)),
+      ))
     where
       is_followed_then : is_followed v.setup.upstreams (retired_in v) h ≡ true
       is_followed_then = not-false _ (rw left at not_final)

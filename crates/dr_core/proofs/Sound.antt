@@ -1,6 +1,6 @@
 -- What every state of the machine keeps, and that each command changes it as its entry says.
 use Rattle.std.proofs.Common.{◌≡◌, ℕ, ◌+◌, ◌-◌, ◌<◌, ◌≤◌, ◌≢◌, inl, inr, min, max, Bool, true, false, cond, ◌||◌, ◌&&◌, List, [], ◌∷◌, ◌++◌, arith, refl, ap, sym, ◌∙◌, length, map, replicate, Option, unwrap_or, Some, None, slice_index, slice_set, add-zero}
-use Rattle.std.specs.Prelude.{slice_get, Contains, ◌==◌, nat_lt, is_none}
+use Rattle.std.specs.Prelude.{slice_get, ◌==◌, nat_lt, is_none}
 use Rattle.std.specs.List.{range_with_len}
 use Rattle.std.proofs.lemmas.Bool.{cond_both, cond-true, cond-false, cases_Bool, cases_lt, le-leb, lt-leb, or_parts, false≢true, eqb-true, eqb-false}
 use Rattle.std.proofs.lemmas.Bool.Decides.{nat_tests}
@@ -101,10 +101,10 @@ claim_owners owners n p s some =
           ∙ rw (slice_get_past owners s new, le-leb _ _ new)
           (elim (cases_lt s (length owners + n)) [
             | inl within ↦ slice_get-get_or (replicate n p) (s - length owners) 0 (omega arith)
-            ∙ ap Some (get_or-replicate n (s - length owners) p 0 (omega arith))
-            ∙ sym (cond-true _ _ _ (let l : s ≤ length owners + n - 1 = omega arith in le-leb _ _ l))
+                ∙ ap Some (get_or-replicate n (s - length owners) p 0 (omega arith))
+                ∙ sym (cond-true _ _ _ (let l : s ≤ length owners + n - 1 = omega arith in le-leb _ _ l))
             | inr past ↦ slice_get_past (replicate n p) (s - length owners) (omega arith)
-            ∙ sym (cond-false _ _ _ (let l : length owners + n - 1 < s = omega arith in lt-leb _ _ l))
+                ∙ sym (cond-false _ _ _ (let l : length owners + n - 1 < s = omega arith in lt-leb _ _ l))
           ])
     ]
 
@@ -243,8 +243,8 @@ module _ (c : Setup) (m : State) (at limit : ℕ) (sound : IsSound c m) (inside 
     fresh = λ s h. refl;
     batch = λ h k. cond_both (h == at) (values_of c m at limit) [] (λ vs. k < length vs → slice_get vs k ≡ m.written (slice_index m.taken h + k))
         (λ y l. (let e : h ≡ at = eqb-true h at y in
-            let n : length (values_of c m at limit) ≡ count_of c m at limit = many in
-            rw e (value more k (omega arith))))
+        let n : length (values_of c m at limit) ≡ count_of c m at limit = many in
+        rw e (value more k (omega arith))))
         (λ n l. absurd (omega arith));
     in_front =
         λ h k l. published_there k (cond_both (h == at) (slice_index m.taken at + count_of c m at limit) (slice_index m.taken h) (λ n. k < n → k < front m)
