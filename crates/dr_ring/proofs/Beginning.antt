@@ -1,14 +1,13 @@
 -- A ring at its opening.
-use Rattle.std.proofs.Common.{◌≡◌, ℕ, zero, suc, ◌+◌, ◌<◌, inl, inr, ◌==◌, List, [], ◌∷◌, length, get_or, map, replicate, None, sym, refl, ap, ◌∙◌, subst, arith}
+use Rattle.std.proofs.Common.{◌≡◌, ℕ, zero, suc, ◌+◌, ◌<◌, inl, inr, ◌==◌, List, [], ◌∷◌, length, get_or, map, replicate, sym, refl, ap, ◌∙◌, subst, arith}
 use Rattle.std.specs.Prelude.{nat_lt}
 use Rattle.std.specs.List.{range_with_len}
 use Rattle.std.proofs.lemmas.Bool.{cases_lt, le-ltb}
 use Rattle.std.proofs.lemmas.List.{length-replicate, get_or-replicate, get_or_past}
 use mathlib.Core.Option.{some, some-injective, some-ne-none}
 use lib.ListN.{get_elem?}
-use Rattle.dr_graph.specs.Graph.{nobody, IsGraph}
+use Rattle.dr_graph.specs.Graph.{IsGraph}
 use Rattle.dr_core.specs.Machine as machine
-use Rattle.dr_core.specs.Machine.{State}
 use Rattle.dr_ring.specs.Shape.{Shape, handlers_of, setup_of}
 use Rattle.dr_ring.specs.Words.{cursor_word, closed_word, halt_word, count_word, words_of}
 use Rattle.dr_ring.specs.declared.record.ReceiverRecord.{ReceiverRecord}
