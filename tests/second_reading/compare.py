@@ -8,8 +8,8 @@
 It compares standard output, standard error and the status. `--by` takes another way of a replay: by lock the events may
 come in any order that keeps each producer's, so that there the report is to be that of such an order. `--program PATH`
 names another program than ./disruptor, and `--jobs N` how many files are tried at once. A file is made from its number
-and `--seed`. It prints how often each reply and fault came, and of each difference the smallest file that it finds;
-its status is 1 where there is one.
+and `--seed`. It prints how often each reply and fault came, and of the first differences the smallest files that it
+finds; its status is 1 where there is one.
 """
 
 import argparse
@@ -67,7 +67,7 @@ class Bench:
 
 
 def shrunk(bench, trial):
-    """The same difference in a smaller file: lines go while it stays, more of them at first."""
+    """A smaller file that differs: lines go while there is a difference, more of them at first."""
     lines = trial.text.splitlines(keepends=True)
     step = max(1, len(lines) // 2)
     while True:
@@ -98,14 +98,14 @@ def trial_of(tool, seed, number):
 
 
 def tried(program, by, seed, tool, numbers):
-    """Tries some files: what they are to tell, and the trials at which there is a difference."""
+    """Tries some files: what they are to tell, and the numbers of those at which there is a difference."""
     bench, found, differing = Bench(program, by), Counter(), []
     for number in numbers:
         trial = trial_of(tool, seed, number)
         did, wanted = bench.compared(trial)
         found += told(wanted)
         if did != wanted:
-            differing.append(shrunk(bench, trial))
+            differing.append(number)
     return found, differing
 
 
@@ -134,11 +134,11 @@ def compare(tool, given, numbers):
     found, differing, bench = Counter(), 0, Bench(given.program, given.by)
     with Pool(given.jobs) as pool:
         try_slice = partial(tried, given.program, given.by, given.seed, tool)
-        for tells, trials in pool.imap_unordered(try_slice, slices):
+        for tells, which in pool.imap(try_slice, slices):
             found += tells
-            for trial in trials[: max(0, MOST_SHOWN - differing)]:
-                tell(bench, trial)
-            differing += len(trials)
+            for number in which[: max(0, MOST_SHOWN - differing)]:
+                tell(bench, shrunk(bench, trial_of(tool, given.seed, number)))
+            differing += len(which)
     print(f"{tool}: {found.pop('files', 0)} files, {differing} differences")
     print("  " + ", ".join(f"{word} {count}" for word, count in sorted(found.items())), flush=True)
     return differing
