@@ -159,7 +159,7 @@ def retirements(random, exchange):
 
 
 def halts(random, exchange):
-    if random.random() < 0.1:
+    if random.random() < 0.03:
         yield record("halt")
 
 
