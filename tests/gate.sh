@@ -1,6 +1,6 @@
 #!/usr/bin/env bash
-# The whole gate: `rt ci`, and then the program, as both compilers built it there, from outside. The last line is that of
-# `rt ci`, in which a build of the program that fails its cases counts as one failure more.
+# The whole gate: `rt ci`, and then the program, as both compilers built it there, from outside. The last line is that
+# of `rt ci`, in which each script that fails on a build of the program counts as one failure more.
 set -u
 cd "$(dirname "$0")/.." || exit 2
 last=$(mktemp) || exit 2
@@ -13,6 +13,7 @@ more=0
 for built in crates/disruptor/out/disruptor crates/disruptor/out/disruptor.by-rattle; do
     if [ -f "$built" ]; then
         tests/program.sh "$built" || more=$((more + 1))
+        tests/hostile/run.py "$built" || more=$((more + 1))
     elif [ "$status" = 0 ] && [ "$built" = crates/disruptor/out/disruptor ]; then
         echo "FAILED: rt ci left no $built"
         more=1
