@@ -7,10 +7,10 @@ use Rattle.dr_graph.specs.Graph.{upstreams_of, finals_without, IsGraph}
 use Rattle.dr_core.specs.Machine.{handlers, setup_of}
 use Rattle.dr_core.specs.CoreView.{CoreView, AreGating, retired_in, recent_of}
 use Rattle.dr_core.specs.Runs.{IsReached}
-use Rattle.dr_core.specs.Availability.{Kept, slot_known, HasOwners}
+use Rattle.dr_core.specs.Availability.{Kept, slot_known, HasOwners, is_ahead}
 
 abbrev pub kept_of : Inside → Kept
-kept_of a = record { mode = a.mode; front = a.front; published = a.published; written = a.written; owners = a.owners.items; events = a.events }
+kept_of a = record { mode = a.mode; front = a.front; filled = a.filled; published = a.published; written = a.written; owners = a.owners.items; events = a.events }
 
 abbrev pub view_of : Inside → CoreView
 view_of a = record {
@@ -47,7 +47,8 @@ pub record IsAvailable (a : Kept) (size next : ℕ) : Type 0 where
   pub written : length a.written ≡ size
   pub owners : HasOwners a.mode a.owners size
   pub events : length a.events ≡ size
-  pub unpublished : (s : ℕ) → next ≤ s → is_marked a.published s ≡ false
+  pub filled : a.filled ≤ next
+  pub unpublished : (s : ℕ) → next ≤ s → is_ahead a.mode a.published s ≡ false
   pub unwritten : (s : ℕ) → next ≤ s → is_marked a.written s ≡ false
 
 -- the two rounds, the flags of those that gate, and a remembered least count that no final of those that are left is below; every core is reached, so it shows a state

@@ -44,6 +44,8 @@ pub struct Core {
     gate: GateCache,
     next: u64,
     front: u64,
+    // All sequences from the front up to this one are written.
+    filled: u64,
     taken: Vec<u64>,
     completed: Vec<u64>,
     halted: bool,
@@ -107,6 +109,7 @@ impl Core {
             gate: GateCache::new(),
             next: 0,
             front: 0,
+            filled: 0,
             taken,
             completed,
             halted: false,

@@ -3,9 +3,10 @@
 ghost use Rattle.std.specs.Prelude.{◌≡◌, ℕ, ◌+◌, ◌^◌, ◌<◌, ◌≤◌, nat_le, [], None, Some, MatchOption, OnErr};
 ghost use Rattle.dr_core.specs.Availability.{publish_fault as publish_fault_of};
 ghost use Rattle.dr_core.specs.CoreView.{known_at, gate_of};
+ghost use Rattle.dr_core.specs.Machine.{producers};
 ghost use Rattle.dr_core.specs.Shows.{IsStep, claim_reply, unit_reply};
 
-use crate::availability::{mark_all, own, owner_of};
+use crate::availability::{is_ahead, is_written, note, own, owner_of, show};
 use crate::command::{Claimed, Command, Reply};
 use crate::engine::Core;
 use crate::least::least_flagged;
@@ -37,24 +38,30 @@ impl Core {
         requires recent { self.now.next ≤ s + self.now.setup.size }
         ensures { result ≡ publish_fault_of (known_at self.now s) p }
     {
-        if s < self.front || self.published.is_marked(s) {
+        if s < self.front || is_ahead(self.mode, &self.published, s) {
             Some(Refusal::AlreadyPublished)
         } else if owner_of(self.mode, &self.owners, self.size, s) != p {
             Some(Refusal::NotClaimed)
-        } else if self.written.is_marked(s) {
+        } else if is_written(&self.written, self.filled, s) {
             None
         } else {
             Some(Refusal::NotWritten)
         }
     }
 
-    /// The first refusal to publish a sequence of a stretch.
+    /// The first refusal to publish a sequence of a stretch. One producer that wrote in order has
+    /// none, which is told without a look at each.
     fn first_fault(&self, from: u64, n: u64, p: u64) -> Option<Refusal>
+        requires producer { p < producers self.now.setup.mode }
         requires claimed { from + n ≤ self.now.next }
+        requires unpublished { self.now.front ≤ from }
         requires recent { self.now.next ≤ from + self.now.setup.size }
         requires fits { from + n < 2 ^ 63 }
         ensures { MatchOption result ((k : ℕ) → k < n → publish_fault_of (known_at self.now (from + k)) p ≡ None) (λ r. (k : ℕ) × (k < n) × ((j : ℕ) → j < k → publish_fault_of (known_at self.now (from + j)) p ≡ None) × (publish_fault_of (known_at self.now (from + k)) p ≡ Some r)) }
     {
+        if self.mode.is_single() && from + n <= self.filled {
+            return None;
+        }
         for k in 0..n {
             let fault = self.publish_fault(from + k, p);
             if fault.is_some() {
@@ -106,13 +113,13 @@ impl Core {
         if s < self.front {
             return Err(Refusal::AlreadyPublished);
         }
-        if self.published.is_marked(s) {
+        if is_ahead(self.mode, &self.published, s) {
             return Err(Refusal::AlreadyPublished);
         }
         if owner_of(self.mode, &self.owners, self.size, s) != p {
             return Err(Refusal::NotClaimed);
         }
-        self.written.mark(s);
+        self.filled = note(&mut self.written, self.filled, s);
         self.events.put(s, event);
         Ok(())
     }
@@ -142,8 +149,15 @@ impl Core {
         if self.mode.is_single() && lo != self.front {
             return Err(Refusal::OutOfOrder);
         }
-        mark_all(&mut self.published, lo, n);
-        self.front = self.published.front(self.front, self.next);
+        self.front = show(
+            self.mode,
+            &mut self.published,
+            lo,
+            hi,
+            self.front,
+            self.next,
+        );
+        self.filled = self.filled.max(self.front);
         Ok(())
     }
 }

@@ -1,7 +1,7 @@
 use Rattle.std.proofs.Common.{◌≡◌, ◌^◌, ◌≤◌, length, sym, ap, ◌∙◌, arith, replicate, false}
 use Rattle.std.proofs.lemmas.List.{length-replicate}
 use Rattle.dr_core.specs.Machine.{Setup, setup_of}
-use Rattle.dr_core.proofs.Recents.{none_marked}
+use Rattle.dr_core.proofs.Recents.{none_marked, none_ahead}
 use Rattle.dr_core.proofs.Opening.{opening_shows, opening_reached, opening_whole}
 use Rattle.dr_core.proofs.Gating.{written_back}
 use Rattle.dr_core.proofs.engine.Core.open.Goals as goal
@@ -33,7 +33,8 @@ invariant_of-result c =
         written = ap length c.in_ok-written.ensures ∙ length-replicate _ _;
         owners = c.in_ok-owners.ensures;
         events = ap length c.in_ok-events.ensures ∙ length-replicate _ _;
-        unpublished = λ s later. rw c.in_ok-published.ensures (none_marked _ s);
+        filled = omega arith;
+        unpublished = λ s later. rw c.in_ok-published.ensures (none_ahead c.args.mode _ s);
         unwritten = λ s later. rw c.in_ok-written.ensures (none_marked _ s);
       };
       gating = written_back c.in_ok-gating.gating c.flag_gating.new.flags c.deref.result.now _ c.args.graph.upstreams (c.flag_gating.auto.flags ∙ c.deref_mut.ensures.len) c.deref.ensures.value c.flag_gating.ensures;
