@@ -14,10 +14,11 @@ use Rattle.dr_seq.specs.declared.event.Event.{Event}
 use Rattle.dr_graph.specs.Graph.{IsOrderly, finals_without, least_of}
 use Rattle.dr_graph.proofs.Gating.{finals_agree, least_gates}
 use Rattle.dr_core.specs.Refusals.{IsFirst}
-use Rattle.dr_core.specs.Machine.{State, Outcome, handlers, producers, next, front, gating, least_completed, refusals, accepted, unless, unchanged}
+use Rattle.dr_core.specs.Machine.{Setup, State, Outcome, least_outside, handlers, producers, next, front, gating, least_completed, refusals, accepted, unless, unchanged}
 use Rattle.dr_core.specs.CoreView.{Known, Nothing, ClaimedBy, CoreView, recent_of, known_at, retired_in, gate_of}
-use Rattle.dr_core.specs.Shows.{Shows, IsStep, CanComplete}
+use Rattle.dr_core.specs.Shows.{KnowsRecents, Shows, IsStep, CanComplete}
 use Rattle.dr_core.specs.Inside.{IsWhole}
+use Rattle.dr_core.proofs.Shown.{same_next, same_front, same_taken, same_completed, same_halted, same_retired}
 use Rattle.dr_core.proofs.Leasts.{IsLeast, least_is, least_one}
 use Rattle.dr_core.proofs.Sound.{set_count}
 use Rattle.dr_core.proofs.Steps.{NoneHold}
@@ -26,21 +27,24 @@ unless-none : (tests : List (Bool × Refusal)) (m : State) (o : Outcome) → Non
 unless-none [] m o h = refl
 unless-none (test ∷ tests) m o h = cond-false test.0 _ _ h.0 ∙ unless-none tests m o h.1
 
+-- in a state the machine accepts a command with this reply and these events, and what it leaves is shown
+pub record Accepts (c : Setup) (m : State) (command : Command) (reply : Reply) (values : List Event) (new : CoreView) : Type 0 where
+  pub passes : NoneHold (refusals c m command)
+  pub replies : (accepted c m command).reply ≡ reply
+  pub hands_out : (accepted c m command).values ≡ values
+  pub shown : Shows new (accepted c m command).state
+
 -- where no test holds, what is to show is of the accepted command
-pub accepted_step : (old new : CoreView) (command : Command) (reply : Reply) (values : List Event) → new.setup ≡ old.setup → new.names ≡ old.names
-    → ((m : State) → Shows old m → NoneHold (refusals old.setup m command))
-    → ((m : State) → Shows old m → (accepted old.setup m command).reply ≡ reply)
-    → ((m : State) → Shows old m → (accepted old.setup m command).values ≡ values)
-    → ((m : State) → Shows old m → Shows new (accepted old.setup m command).state)
-    → IsStep old command reply values new
-accepted_step old new command reply values same named none replies gives shows =
-    let is = λ (m : State) (sh : Shows old m). unless-none (refusals old.setup m command) m (accepted old.setup m command) (none m sh) in
+pub accepted_step : {old new : CoreView} {command : Command} {reply : Reply} {values : List Event} → new.setup ≡ old.setup → new.names ≡ old.names
+    → ((m : State) → Shows old m → Accepts old.setup m command reply values new) → IsStep old command reply values new
+accepted_step {old = old} {command = command} same named accepts =
+    let is = λ (m : State) (sh : Shows old m). unless-none (refusals old.setup m command) m (accepted old.setup m command) (accepts m sh).passes in
     record {
       same_setup = same;
       same_names = named;
-      replies = λ m sh. ap (λ o. o.reply) (is m sh) ∙ replies m sh;
-      hands_out = λ m sh. ap (λ o. o.values) (is m sh) ∙ gives m sh;
-      shown = λ m sh. rw (is m sh) (shows m sh);
+      replies = λ m sh. ap (λ o. o.reply) (is m sh) ∙ (accepts m sh).replies;
+      hands_out = λ m sh. ap (λ o. o.values) (is m sh) ∙ (accepts m sh).hands_out;
+      shown = λ m sh. rw (is m sh) (accepts m sh).shown;
     }
 
 -- the first test that holds has this refusal
@@ -64,9 +68,12 @@ refused_step v command r refuses =
     }
 
 pub halt_step : (v : CoreView) → IsStep v Halt Halting [] (record v { halted = true })
-halt_step v =
-    accepted_step v (record v { halted = true }) Halt Halting [] refl refl (λ m sh. tt) (λ m sh. refl) (λ m sh. refl)
-    (λ m sh. record { next = sh.next; front = sh.front; taken = sh.taken; completed = sh.completed; halted = refl; retired = sh.retired; recent = sh.recent; unclaimed = sh.unclaimed })
+halt_step v = accepted_step refl refl (λ m sh. record {
+  passes = tt;
+  replies = refl;
+  hands_out = refl;
+  shown = record { counts = sh.counts; flags = λ i. record (sh.flags i) { halted = true }; recents = sh.recents };
+})
 
 pub halt_whole : (v : CoreView) → IsWhole v → IsWhole (record v { halted = true })
 halt_whole v whole = record {
@@ -86,18 +93,18 @@ halt_whole v whole = record {
 }
 
 pub complete_step : (v : CoreView) (h upto : ℕ) → CanComplete v h upto → IsStep v (Complete h upto) Completed [] (record v { completed = slice_set v.completed h upto })
-complete_step v h upto can =
-    accepted_step v (record v { completed = slice_set v.completed h upto }) (Complete h upto) Completed [] refl refl
-    (λ m sh. (lt-leb _ _ can.handler, (sh.retired h ∙ can.left, (rw (sh.completed) (le-ltb _ _ can.completed), (rw (sh.taken) (le-ltb _ _ can.taken), tt)))))
-    (λ m sh. refl)
-    (λ m sh. refl)
-    (λ m sh. record { next = sh.next; front = sh.front; taken = sh.taken; completed = ap (λ ns. slice_set ns h upto) sh.completed; halted = sh.halted; retired = sh.retired; recent = sh.recent; unclaimed = sh.unclaimed })
+complete_step v h upto can = accepted_step refl refl (λ m sh. record {
+  passes = (lt-leb _ _ can.handler, (same_retired sh h ∙ can.left, (rw (same_completed sh) (le-ltb _ _ can.completed), (rw (same_taken sh) (le-ltb _ _ can.taken), tt))));
+  replies = refl;
+  hands_out = refl;
+  shown = record { counts = λ i. record (sh.counts i) { completed = slice_set (sh.counts i).completed h upto }; flags = sh.flags; recents = sh.recents };
+})
 
 -- the claim's gate is the least completed count that the core finds
 pub gate_same : (v : CoreView) (m : State) → Shows v m → least_completed m (gating v.setup m) ≡ gate_of v
 gate_same v m sh =
-    ap (λ fs. least_of (map (λ h. slice_index m.completed h) fs)) (finals_agree v.setup.upstreams m.retired (retired_in v) sh.retired)
-    ∙ ap (λ cs. least_of (map (λ h. slice_index cs h) (finals_without v.setup.upstreams (retired_in v)))) sh.completed
+    ap (λ fs. least_of (map (λ h. slice_index m.completed h) fs)) (finals_agree v.setup.upstreams m.retired (retired_in v) (same_retired sh))
+    ∙ ap (λ cs. least_of (map (λ h. slice_index cs h) (finals_without v.setup.upstreams (retired_in v)))) (same_completed sh)
 
 module _ (v : CoreView) (h upto : ℕ) (whole : IsWhole v) (can : CanComplete v h upto) where
   abbrev counts : List ℕ
@@ -149,28 +156,34 @@ pub record ClaimsKnown (v : CoreView) (p n : ℕ) (known : ℕ → Known) : Type
   pub kept : (s : ℕ) → s < v.next → v.next + n ≤ s + v.setup.size → known s ≡ known_at v s
 
 module _ (v : CoreView) (p n : ℕ) (known : ℕ → Known) (knows : ClaimsKnown v p n known) where
-  claimed_shows : n ≤ v.setup.size → (m : State) → Shows v m → Shows (record v { next = v.next + n; recent = recent_of known (v.next + n) v.setup.size }) (accepted v.setup m (Claim p n)).state
-  claimed_shows fits m sh =
-      let here : length m.owners ≡ v.next = sh.next in
-      let least : IsLeast m.published (length m.owners) (front m) = least_is m.published (length m.owners) in
-      let more : length (m.owners ++ replicate n p) ≡ v.next + n = length-append m.owners (replicate n p) ∙ ap (λ k. length m.owners + k) (length-replicate n p) ∙ ap (λ k. k + n) here in
+  more_claimed : (m : State) → Shows v m → length (m.owners ++ replicate n p) ≡ v.next + n
+  more_claimed m sh = length-append m.owners (replicate n p) ∙ ap (λ k. length m.owners + k) (length-replicate n p) ∙ ap (λ k. k + n) (same_next sh)
+
+  -- what is claimed is not published yet, so the front stays
+  front_stays : (m : State) → Shows v m → least_outside m.published (length (m.owners ++ replicate n p)) ≡ v.front
+  front_stays m sh =
+      let least : IsLeast m.published (next m) (front m) = least_is m.published (next m) in
+      let here : next m ≡ v.next = same_next sh in
+      let same : front m ≡ v.front = same_front sh in
+      let more : length (m.owners ++ replicate n p) ≡ v.next + n = more_claimed m sh in
+      least_one m.published (length (m.owners ++ replicate n p)) _ _ (least_is m.published (length (m.owners ++ replicate n p)))
+      (record {
+        within = (let w : front m ≤ next m = least.within in omega arith);
+        below = λ k l. least.below k (omega arith);
+        here = λ l. elim (cases_lt v.front v.next) [
+          | inl lt ↦ rw same at (least.here (omega arith))
+          | inr ge ↦ (sh.unclaimed v.front ge).0
+        ];
+      })
+
+  claimed_recents : n ≤ v.setup.size → (m : State) → Shows v m
+      → KnowsRecents v.setup.size (v.next + n) (known_at (record v { next = v.next + n; recent = recent_of known (v.next + n) v.setup.size })) (m.owners ++ replicate n p) m.published m.written
+  claimed_recents fits m sh =
+      let here : length m.owners ≡ v.next = same_next sh in
       record {
-        next = more;
-        front = least_one m.published (length (m.owners ++ replicate n p)) _ _ (least_is m.published (length (m.owners ++ replicate n p)))
-            (record {
-              within = (let w : front m ≤ length m.owners = least.within in let f : front m ≡ v.front = sh.front in omega arith);
-              below = λ k l. least.below k (let f : front m ≡ v.front = sh.front in omega arith);
-              here = λ l. elim (cases_lt v.front v.next) [
-                | inl lt ↦ (let f : front m ≡ v.front = sh.front in rw f at (least.here (omega arith)))
-                | inr ge ↦ (sh.unclaimed v.front ge).0
-              ];
-            });
-        taken = sh.taken;
-        completed = sh.completed;
-        halted = sh.halted;
-        retired = sh.retired;
         recent = λ s l r. rw (known_at-recent known (v.next + n) v.setup.size s l r) (elim (cases_lt s v.next) [
-          | inl old ↦ (let owner : slice_index (m.owners ++ replicate n p) s ≡ slice_index m.owners s = owner_before m.owners n p s (omega arith) in rw (knows.kept s old r, owner) (sh.recent s old (omega arith)))
+          | inl old ↦ (let owner : slice_index (m.owners ++ replicate n p) s ≡ slice_index m.owners s = owner_before m.owners n p s (omega arith) in
+              rw (knows.kept s old r, owner) (sh.recent s old (omega arith)))
           | inr fresh ↦ rw (knows.fresh s fresh l) (owner_after m.owners n p s (omega arith) (omega arith), (sh.unclaimed s fresh).0, (sh.unclaimed s fresh).1)
         ]);
         unclaimed = λ s g. sh.unclaimed s (omega arith);
@@ -179,24 +192,29 @@ module _ (v : CoreView) (p n : ℕ) (known : ℕ → Known) (knows : ClaimsKnown
   pub claim_step : p < producers v.setup.mode → n ≢ 0 → n ≤ v.setup.size → v.halted ≡ false → v.next + n ≤ v.setup.limit
       → v.next + n ≤ v.setup.size + gate_of v
       → IsStep v (Claim p n) (Claimed v.next (v.next + n - 1)) [] (record v { next = v.next + n; recent = recent_of known (v.next + n) v.setup.size })
-  claim_step producer some fits going limit room =
-      accepted_step v (record v { next = v.next + n; recent = recent_of known (v.next + n) v.setup.size }) (Claim p n) (Claimed v.next (v.next + n - 1)) [] refl refl
-      (λ m sh. let here : next m ≡ v.next = sh.next in (
-        lt-leb _ _ producer,
+  claim_step producer some fits going limit room = accepted_step refl refl (λ m sh. let here : next m ≡ v.next = same_next sh in record {
+    passes =
         (
-          or_from _ _ (ne_eqb n 0 some) (le-ltb _ _ fits),
+          lt-leb _ _ producer,
           (
-            sh.halted ∙ going,
+            or_from _ _ (ne_eqb n 0 some) (le-ltb _ _ fits),
             (
-              rw here (le-ltb _ _ limit),
-              (rw (here, gate_same v m sh) (le-ltb _ _ room), tt),
+              same_halted sh ∙ going,
+              (
+                rw here (le-ltb _ _ limit),
+                (rw (here, gate_same v m sh) (le-ltb _ _ room), tt),
+              ),
             ),
           ),
-        ),
-      ))
-      (λ m sh. let here : next m ≡ v.next = sh.next in rw here)
-      (λ m sh. refl)
-      (claimed_shows fits)
+        );
+    replies = rw here;
+    hands_out = refl;
+    shown = record {
+      counts = λ i. record (sh.counts i) { next = more_claimed m sh i; front = front_stays m sh i };
+      flags = sh.flags;
+      recents = claimed_recents fits m sh;
+    };
+  })
 
 -- no handler completed more than an upstream
 pub orderly : (v : CoreView) → IsWhole v → IsOrderly v.setup.upstreams (λ h. slice_index v.completed h)
@@ -241,5 +259,5 @@ pub claim_no_room : (v : CoreView) (p n : ℕ) → p < producers v.setup.mode �
     → nat_le (v.next + n) (v.setup.size + gate_of v) ≡ false → IsStep v (Claim p n) (Refused NoRoom) [] v
 claim_no_room v p n producer some fits going limit full =
     refused_step v (Claim p n) NoRoom
-    (λ m sh. let here : next m ≡ v.next = sh.next in
-    inr (lt-leb _ _ producer, inr (or_from _ _ (ne_eqb n 0 some) (le-ltb _ _ fits), inr (sh.halted ∙ going, inr (rw here (le-ltb _ _ limit), inl (rw (here, gate_same v m sh) (lt-ltb _ _ (leb-false _ _ full)), refl))))))
+    (λ m sh. let here : next m ≡ v.next = same_next sh in
+    inr (lt-leb _ _ producer, inr (or_from _ _ (ne_eqb n 0 some) (le-ltb _ _ fits), inr (same_halted sh ∙ going, inr (rw here (le-ltb _ _ limit), inl (rw (here, gate_same v m sh) (lt-ltb _ _ (leb-false _ _ full)), refl))))))

@@ -12,31 +12,33 @@ use Rattle.dr_graph.specs.Graph.{upstreams_of}
 use Rattle.dr_core.specs.Machine.{Setup, State, Outcome, handlers, next, front, available, offered, least_outside, refusals, accepted, step, batch, publish_faults, cursor, opening}
 use Rattle.dr_core.proofs.Leasts.{least_grows, least_of-member}
 use Rattle.dr_core.proofs.Steps.{NoneHold, NoneHold-append, unless-cases}
-use Rattle.dr_core.proofs.Sound.{IsSound, set_count, count_of, within, reach}
+use Rattle.dr_core.proofs.Sound.{AreTaken, IsSound, set_count, count_of, within, reach}
+
+-- the front moves on
+front_on : (c : Setup) (old new : ℕ) (taken completed : List ℕ) → old ≤ new → AreTaken c old taken completed → AreTaken c new taken completed
+front_on c old new taken completed on counts = record {
+  taken_len = counts.taken_len;
+  completed_len = counts.completed_len;
+  in_front = λ h. (let l : slice_index taken h ≤ old = counts.in_front h in omega arith);
+  took = counts.took;
+  after = counts.after;
+}
 
 claim_sound : (c : Setup) (m : State) (p n : ℕ) → IsSound c m → IsSound c (accepted c m (Claim p n)).state
 claim_sound c m p n sound =
     let more : next m ≤ length (m.owners ++ replicate n p) = rw length-append (omega arith) in
     record {
-      claimed = λ s h. (let l : s < next m = sound.claimed s h in omega arith);
-      written = sound.written;
-      taken_len = sound.taken_len;
-      completed_len = sound.completed_len;
-      in_front = λ h. (let l : slice_index m.taken h ≤ front m = sound.in_front h in
-          let g : front m ≤ least_outside m.published (length (m.owners ++ replicate n p)) = least_grows m.published m.published (next m) (length (m.owners ++ replicate n p)) more (λ k y. y) in omega arith);
-      took = sound.took;
-      after = sound.after;
+      marks = record { claimed = λ s h. (let l : s < next m = sound.claimed s h in omega arith); written = sound.written };
+      counts = front_on c (front m) _ m.taken m.completed (least_grows m.published m.published (next m) (length (m.owners ++ replicate n p)) more (λ k y. y)) sound.counts;
     }
 
 write_sound : (c : Setup) (m : State) (p at : ℕ) (v : Event) → IsSound c m → IsSound c (accepted c m (Write p at v)).state
 write_sound c m p at v sound = record {
-  claimed = sound.claimed;
-  written = λ s h. cond_both (s == at) (Some v) (m.written s) (λ w. is_none w ≡ false) (λ y. refl) (λ n. sound.written s h);
-  taken_len = sound.taken_len;
-  completed_len = sound.completed_len;
-  in_front = sound.in_front;
-  took = sound.took;
-  after = sound.after;
+  marks = record {
+    claimed = sound.claimed;
+    written = λ s h. cond_both (s == at) (Some v) (m.written s) (λ w. is_none w ≡ false) (λ y. refl) (λ n. sound.written s h);
+  };
+  counts = sound.counts;
 }
 
 -- no sequence of the stretch is at fault
@@ -54,14 +56,18 @@ publish_sound c m p lo hi sound none =
     let order : lo ≤ hi = grind (arith, nat_tests, none.1.0) in
     let stretch : NoneHold (flat_map (publish_faults m p) (range_with_len lo (hi + 1 - lo))) = (NoneHold-append _ _ none.1.1.1).0 in
     record {
-      claimed = λ s h. elim (or_cases (m.published s) _ h) [ inl y ↦ sound.claimed s y | inr y ↦ (let b : (nat_le lo s ≡ true) × (nat_le s hi ≡ true) = and_parts _ _ y in grind (arith, nat_tests, b.1)) ];
-      written = λ s h. elim (or_cases (m.published s) _ h) [ inl y ↦ sound.written s y | inr y ↦ (let b : (nat_le lo s ≡ true) × (nat_le s hi ≡ true) = and_parts _ _ y in each_written m p lo (hi + 1 - lo) stretch s (grind (arith, nat_tests, b.0)) (let u : s ≤ hi = grind (arith, nat_tests, b.1) in omega arith)) ];
-      taken_len = sound.taken_len;
-      completed_len = sound.completed_len;
-      in_front = λ h. (let l : slice_index m.taken h ≤ front m = sound.in_front h in
-          let g : front m ≤ least_outside (λ k. m.published k || (nat_le lo k && nat_le k hi)) (next m) = least_grows m.published (λ k. m.published k || (nat_le lo k && nat_le k hi)) (next m) (next m) (omega arith) (λ k y. rw y) in omega arith);
-      took = sound.took;
-      after = sound.after;
+      marks = record {
+        claimed = λ s h. elim (or_cases (m.published s) _ h) [
+          | inl y ↦ sound.claimed s y
+          | inr y ↦ (let b : (nat_le lo s ≡ true) × (nat_le s hi ≡ true) = and_parts _ _ y in grind (arith, nat_tests, b.1))
+        ];
+        written = λ s h. elim (or_cases (m.published s) _ h) [
+          | inl y ↦ sound.written s y
+          | inr y ↦ (let b : (nat_le lo s ≡ true) × (nat_le s hi ≡ true) = and_parts _ _ y in
+              each_written m p lo (hi + 1 - lo) stretch s (grind (arith, nat_tests, b.0)) (let u : s ≤ hi = grind (arith, nat_tests, b.1) in omega arith))
+        ];
+      };
+      counts = front_on c (front m) _ m.taken m.completed (least_grows m.published (λ k. m.published k || (nat_le lo k && nat_le k hi)) (next m) (next m) (omega arith) (λ k y. rw y)) sound.counts;
     }
 
 complete_sound : (c : Setup) (m : State) (at upto : ℕ) → IsSound c m → NoneHold (refusals c m (Complete at upto)) → IsSound c (accepted c m (Complete at upto)).state
@@ -71,15 +77,18 @@ complete_sound c m at upto sound none =
     let up : slice_index m.completed at ≤ upto = grind (arith, nat_tests, none.1.1.0) in
     let low : upto ≤ slice_index m.taken at = grind (arith, nat_tests, none.1.1.1.0) in
     record {
-      claimed = sound.claimed;
-      written = sound.written;
-      taken_len = sound.taken_len;
-      completed_len = length-set m.completed at upto ∙ sound.completed_len;
-      in_front = sound.in_front;
-      took = λ h. rw (set_count m.completed at upto h len) (cond_both (h == at) upto (slice_index m.completed h) (λ n. n ≤ slice_index m.taken h)
-          (λ y. (let e : h ≡ at = eqb-true h at y in rw e low)) (λ n. sound.took h));
-      after = λ h u k. rw (set_count m.completed at upto u len) (let old : slice_index m.taken h ≤ slice_index m.completed u = sound.after h u k in cond_both (u == at) upto (slice_index m.completed u) (λ n. slice_index m.taken h ≤ n)
-          (λ y. (let e : u ≡ at = eqb-true u at y in let o : slice_index m.taken h ≤ slice_index m.completed at = rw e at old in omega arith)) (λ n. old));
+      marks = sound.marks;
+      counts = record {
+        taken_len = sound.taken_len;
+        completed_len = length-set m.completed at upto ∙ sound.completed_len;
+        in_front = sound.in_front;
+        took = λ h. rw (set_count m.completed at upto h len) (cond_both (h == at) upto (slice_index m.completed h) (λ n. n ≤ slice_index m.taken h)
+            (λ y. (let e : h ≡ at = eqb-true h at y in rw e low)) (λ n. sound.took h));
+        after = λ h u k. rw (set_count m.completed at upto u len)
+            (let old : slice_index m.taken h ≤ slice_index m.completed u = sound.after h u k in
+            cond_both (u == at) upto (slice_index m.completed u) (λ n. slice_index m.taken h ≤ n)
+            (λ y. (let e : u ≡ at = eqb-true u at y in let o : slice_index m.taken h ≤ slice_index m.completed at = rw e at old in omega arith)) (λ n. old));
+      };
     }
 
 -- a handler with upstreams is offered no more than each completed
@@ -91,19 +100,23 @@ batch_sound : (c : Setup) (m : State) (at limit : ℕ) → IsSound c m → at < 
 batch_sound c m at limit sound inside more =
     let len : at < length m.taken = within c m at limit sound inside in
     let to : slice_index m.taken at + count_of c m at limit ≤ front m = reach c m at limit sound inside more in
+    let upto : ℕ = slice_index m.taken at + count_of c m at limit in
     record {
-      claimed = sound.claimed;
-      written = sound.written;
-      taken_len = length-set m.taken at (slice_index m.taken at + count_of c m at limit) ∙ sound.taken_len;
-      completed_len = sound.completed_len;
-      in_front = λ h. rw (set_count m.taken at (slice_index m.taken at + count_of c m at limit) h len) (cond_both (h == at) (slice_index m.taken at + count_of c m at limit) (slice_index m.taken h) (λ n. n ≤ front m) (λ y. to) (λ n. sound.in_front h));
-      took = λ h. rw (set_count m.taken at (slice_index m.taken at + count_of c m at limit) h len) (let old : slice_index m.completed h ≤ slice_index m.taken h = sound.took h in cond_both (h == at) (slice_index m.taken at + count_of c m at limit) (slice_index m.taken h) (λ n. slice_index m.completed h ≤ n)
-          (λ y. (let e : h ≡ at = eqb-true h at y in let o : slice_index m.completed h ≤ slice_index m.taken at = (rw (← e) old) in omega arith)) (λ n. old));
-      after = λ h u k. rw (set_count m.taken at (slice_index m.taken at + count_of c m at limit) h len) (cond_both (h == at) (slice_index m.taken at + count_of c m at limit) (slice_index m.taken h) (λ n. n ≤ slice_index m.completed u)
-          (λ y. (let e : h ≡ at = eqb-true h at y in
-          let o : available c m h ≤ slice_index m.completed u = offered_after m (upstreams_of c.upstreams h) u k in
-          let o2 : available c m at ≤ slice_index m.completed u = rw e at o in omega arith))
-          (λ n. sound.after h u k));
+      marks = sound.marks;
+      counts = record {
+        taken_len = length-set m.taken at upto ∙ sound.taken_len;
+        completed_len = sound.completed_len;
+        in_front = λ h. rw (set_count m.taken at upto h len) (cond_both (h == at) upto (slice_index m.taken h) (λ n. n ≤ front m) (λ y. to) (λ n. sound.in_front h));
+        took = λ h. rw (set_count m.taken at upto h len)
+            (let old : slice_index m.completed h ≤ slice_index m.taken h = sound.took h in
+            cond_both (h == at) upto (slice_index m.taken h) (λ n. slice_index m.completed h ≤ n)
+            (λ y. (let e : h ≡ at = eqb-true h at y in let o : slice_index m.completed h ≤ slice_index m.taken at = rw (← e) old in omega arith)) (λ n. old));
+        after = λ h u k. rw (set_count m.taken at upto h len) (cond_both (h == at) upto (slice_index m.taken h) (λ n. n ≤ slice_index m.completed u)
+            (λ y. (let e : h ≡ at = eqb-true h at y in
+            let o : available c m h ≤ slice_index m.completed u = offered_after m (upstreams_of c.upstreams h) u k in
+            let o2 : available c m at ≤ slice_index m.completed u = rw e at o in omega arith))
+            (λ n. sound.after h u k));
+      };
     }
 
 poll_sound : (c : Setup) (m : State) (at limit : ℕ) → IsSound c m → NoneHold (refusals c m (Poll at limit)) → IsSound c (accepted c m (Poll at limit)).state
@@ -119,8 +132,8 @@ accepted_sound c m (Write p s v) sound none = write_sound c m p s v sound
 accepted_sound c m (Publish p lo hi) sound none = publish_sound c m p lo hi sound none
 accepted_sound c m (Poll h limit) sound none = poll_sound c m h limit sound none
 accepted_sound c m (Complete h upto) sound none = complete_sound c m h upto sound none
-accepted_sound c m Halt sound none = record { claimed = sound.claimed; written = sound.written; taken_len = sound.taken_len; completed_len = sound.completed_len; in_front = sound.in_front; took = sound.took; after = sound.after }
-accepted_sound c m (Retire h) sound none = record { claimed = sound.claimed; written = sound.written; taken_len = sound.taken_len; completed_len = sound.completed_len; in_front = sound.in_front; took = sound.took; after = sound.after }
+accepted_sound c m Halt sound none = record { marks = sound.marks; counts = sound.counts }
+accepted_sound c m (Retire h) sound none = record { marks = sound.marks; counts = sound.counts }
 
 pub step_sound : (c : Setup) (m : State) (command : Command) → IsSound c m → IsSound c (step c m command).state
 step_sound c m command sound = unless-cases (λ o. IsSound c o.state) (refusals c m command) m (accepted c m command) (λ r. sound) (accepted_sound c m command sound)
@@ -132,11 +145,12 @@ zeros (suc n) (suc h) = zeros n h
 
 pub opening_sound : (c : Setup) → IsSound c (opening c)
 opening_sound c = record {
-  claimed = λ s h. absurd (false≢true h);
-  written = λ s h. absurd (false≢true h);
-  taken_len = length-replicate _ 0;
-  completed_len = length-replicate _ 0;
-  in_front = λ h. rw (zeros (handlers c) h) (omega arith);
-  took = λ h. rw (zeros (handlers c) h) (omega arith);
-  after = λ h u k. rw (zeros (handlers c) h) (omega arith);
+  marks = record { claimed = λ s h. absurd (false≢true h); written = λ s h. absurd (false≢true h) };
+  counts = record {
+    taken_len = length-replicate _ 0;
+    completed_len = length-replicate _ 0;
+    in_front = λ h. rw (zeros (handlers c) h) (omega arith);
+    took = λ h. rw (zeros (handlers c) h) (omega arith);
+    after = λ h u k. rw (zeros (handlers c) h) (omega arith);
+  };
 }

@@ -7,6 +7,7 @@ pub mod Sound
 pub mod Keeps
 pub mod FiveLaws
 pub mod Stamped
+pub mod Shown
 pub mod CoreSteps
 pub mod Writing
 pub mod Publishing

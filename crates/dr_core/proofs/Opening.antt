@@ -26,14 +26,9 @@ module _ (c : Setup) (names : List Name) (recent : List Known) (taken completed 
   pub opening_shows : Shows (new_core c names recent taken completed retired) (opening c)
   unfolding least_outside
   opening_shows = record {
-    next = refl;
-    front = refl;
-    taken = sym none_taken;
-    completed = sym none_completed;
-    halted = refl;
-    retired = λ h. sym (ap (λ (flags : List Bool). flagged flags h) none_retired ∙ unflagged (handlers c) h);
-    recent = λ s l r. absurd (omega arith);
-    unclaimed = λ s l. (refl, refl);
+    counts = λ i. record { next = 0; front = 0; taken = sym none_taken i; completed = sym none_completed i };
+    flags = λ i. record { halted = false; retired = λ h. sym (ap (λ (flags : List Bool). flagged flags h) none_retired ∙ unflagged (handlers c) h) i };
+    recents = record { recent = λ s l r. absurd (omega arith); unclaimed = λ s l. (refl, refl) };
   }
 
   pub opening_reached : IsReached (new_core c names recent taken completed retired)

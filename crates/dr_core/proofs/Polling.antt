@@ -23,6 +23,7 @@ use Rattle.std.proofs.Common.{Result, Ok, Err}
 use Rattle.std.proofs.lemmas.List.{take-append-le, length-take-le}
 use Rattle.dr_core.specs.Inside.{IsWhole}
 use Rattle.dr_core.proofs.CoreSteps.{accepted_step}
+use Rattle.dr_core.proofs.Shown.{same_next, same_front, same_taken, same_completed, same_halted, same_retired}
 use Rattle.dr_core.proofs.Leasts.{least_of-le, least_of-member}
 use Rattle.std.proofs.lemmas.Bool.{eqb-true, leb-false}
 use Rattle.dr_core.proofs.Sound.{set_count}
@@ -33,8 +34,8 @@ use Rattle.std.proofs.lemmas.List.{get_or_past, get_or_read}
 
 -- what is offered by the core is what the machine offers
 offered_same : (v : CoreView) (m : State) → Shows v m → (ups : List ℕ) → offered m ups ≡ offered_to v ups
-offered_same v m sh [] = sh.front
-offered_same v m sh (u ∷ us) = ap (λ cs. least_of (map (λ h. slice_index cs h) (u ∷ us))) sh.completed
+offered_same v m sh [] = same_front sh
+offered_same v m sh (u ∷ us) = ap (λ cs. least_of (map (λ h. slice_index cs h) (u ∷ us))) (same_completed sh)
 
 -- no more than is published, and than each upstream completed
 offered_front : (v : CoreView) → IsWhole v → (ups : List ℕ) → offered_to v ups ≤ v.front
@@ -61,59 +62,70 @@ map_same f g a zero h = refl
 map_same f g a (suc n) h = (let e : f a ≡ g a = h a (omega arith) (omega arith) in let r : map f (range_with_len (a + 1) n) ≡ map g (range_with_len (a + 1) n) = map_same f g (a + 1) n (λ k x y. h k (omega arith) (omega arith)) in cc)
 
 cursor_same : (v : CoreView) (m : State) → Shows v m → cursor v.setup m ≡ (if is_single v.setup.mode then v.front else v.next)
-cursor_same v m sh = ap (λ f. if is_single v.setup.mode then f else next m) sh.front ∙ ap (λ n. if is_single v.setup.mode then v.front else n) sh.next
+cursor_same v m sh = ap (λ f. if is_single v.setup.mode then f else next m) (same_front sh) ∙ ap (λ n. if is_single v.setup.mode then v.front else n) (same_next sh)
 
 module _ (v : CoreView) (h limit : ℕ) (whole : IsWhole v) (inside : h < handlers v.setup) (left : retired_in v h ≡ false) (some : limit ≢ 0) where
   none : (m : State) → Shows v m → (nat_le (handlers v.setup) h ≡ false) × ((m.retired h ≡ false) × (((limit == 0) ≡ false) × Unit {0}))
-  none m sh = (lt-leb _ _ inside, (sh.retired h ∙ left, (ne_eqb limit 0 some, tt)))
+  none m sh = (lt-leb _ _ inside, (same_retired sh h ∙ left, (ne_eqb limit 0 some, tt)))
 
   same : (m : State) → Shows v m → available v.setup m h ≡ offered_to v (upstreams_of v.setup.upstreams h)
   same m sh = offered_same v m sh (upstreams_of v.setup.upstreams h)
 
   -- the poll in one of its cases
   pub quiet_step : (r : Reply) → ((m : State) → Shows v m → accepted v.setup m (Poll h limit) ≡ unchanged r m) → IsStep v (Poll h limit) r [] v
-  quiet_step r is =
-      accepted_step v v (Poll h limit) r [] refl refl none (λ m sh. ap (λ o. o.reply) (is m sh)) (λ m sh. ap (λ o. o.values) (is m sh)) (λ m sh. rw (is m sh) sh)
+  quiet_step r is = accepted_step refl refl (λ m sh. record {
+    passes = none m sh;
+    replies = ap (λ o. o.reply) (is m sh);
+    hands_out = ap (λ o. o.values) (is m sh);
+    shown = rw (is m sh) sh;
+  })
 
   module _ (all : offered_to v (upstreams_of v.setup.upstreams h) ≤ slice_index v.taken h) where
     no_batch : (m : State) → Shows v m → nat_lt (slice_index m.taken h) (available v.setup m h) ≡ false
-    no_batch m sh = (let e : available v.setup m h ≡ offered_to v (upstreams_of v.setup.upstreams h) = same m sh in let t : slice_index m.taken h ≡ slice_index v.taken h = ap (λ ts. slice_index ts h) sh.taken in le-ltb _ _ (omega arith))
+    no_batch m sh = (let e : available v.setup m h ≡ offered_to v (upstreams_of v.setup.upstreams h) = same m sh in let t : slice_index m.taken h ≡ slice_index v.taken h = ap (λ ts. slice_index ts h) (same_taken sh) in le-ltb _ _ (omega arith))
 
     pub drained_step : v.halted ≡ true → slice_index v.taken h ≡ v.next → IsStep v (Poll h limit) Drained [] v
     drained_step halted last =
         quiet_step Drained
-        (λ m sh. cond-false _ _ _ (no_batch m sh) ∙ cond-true _ _ _ (and_from _ _ (sh.halted ∙ halted) (eq-eqb _ _ (ap (λ ts. slice_index ts h) sh.taken ∙ last ∙ sym sh.next))))
+        (λ m sh. cond-false _ _ _ (no_batch m sh) ∙ cond-true _ _ _ (and_from _ _ (same_halted sh ∙ halted) (eq-eqb _ _ (ap (λ ts. slice_index ts h) (same_taken sh) ∙ last ∙ sym (same_next sh)))))
 
     stays : (v.halted && (slice_index v.taken h == v.next)) ≡ false → (m : State) → Shows v m → (m.halted && (slice_index m.taken h == next m)) ≡ false
-    stays more m sh = (let e : next m ≡ v.next = sh.next in rw (sh.halted, sh.taken, e) more)
+    stays more m sh = (let e : next m ≡ v.next = same_next sh in rw (same_halted sh, same_taken sh, e) more)
 
     pub gating_step : (v.halted && (slice_index v.taken h == v.next)) ≡ false → slice_index v.taken h < (if is_single v.setup.mode then v.front else v.next) → IsStep v (Poll h limit) Gating [] v
     gating_step more l =
         quiet_step Gating
-        (λ m sh. let ahead : nat_lt (slice_index m.taken h) (cursor v.setup m) ≡ true = (let c : cursor v.setup m ≡ (if is_single v.setup.mode then v.front else v.next) = cursor_same v m sh in rw (c, sh.taken) (lt-ltb _ _ l)) in
+        (λ m sh. let ahead : nat_lt (slice_index m.taken h) (cursor v.setup m) ≡ true = (let c : cursor v.setup m ≡ (if is_single v.setup.mode then v.front else v.next) = cursor_same v m sh in rw (c, same_taken sh) (lt-ltb _ _ l)) in
         cond-false _ _ _ (no_batch m sh) ∙ cond-false _ _ _ (stays more m sh) ∙ cond-true _ _ _ ahead)
 
     pub idle_step : (v.halted && (slice_index v.taken h == v.next)) ≡ false → (if is_single v.setup.mode then v.front else v.next) ≤ slice_index v.taken h → IsStep v (Poll h limit) Idle [] v
     idle_step more l =
         quiet_step Idle
-        (λ m sh. let ahead : nat_lt (slice_index m.taken h) (cursor v.setup m) ≡ false = (let c : cursor v.setup m ≡ (if is_single v.setup.mode then v.front else v.next) = cursor_same v m sh in rw (c, sh.taken) (le-ltb _ _ l)) in
+        (λ m sh. let ahead : nat_lt (slice_index m.taken h) (cursor v.setup m) ≡ false = (let c : cursor v.setup m ≡ (if is_single v.setup.mode then v.front else v.next) = cursor_same v m sh in rw (c, same_taken sh) (le-ltb _ _ l)) in
         cond-false _ _ _ (no_batch m sh) ∙ cond-false _ _ _ (stays more m sh) ∙ cond-false _ _ _ ahead)
 
   module _ (more : slice_index v.taken h < offered_to v (upstreams_of v.setup.upstreams h)) where
     is_batch : (m : State) → Shows v m → accepted v.setup m (Poll h limit) ≡ batch v.setup m h limit
-    is_batch m sh = (let e : available v.setup m h ≡ offered_to v (upstreams_of v.setup.upstreams h) = same m sh in let t : slice_index m.taken h ≡ slice_index v.taken h = ap (λ ts. slice_index ts h) sh.taken in let l : slice_index m.taken h < available v.setup m h = omega arith in cond-true (nat_lt (slice_index m.taken h) (available v.setup m h)) _ _ (lt-ltb _ _ l))
+    is_batch m sh = (let e : available v.setup m h ≡ offered_to v (upstreams_of v.setup.upstreams h) = same m sh in let t : slice_index m.taken h ≡ slice_index v.taken h = ap (λ ts. slice_index ts h) (same_taken sh) in let l : slice_index m.taken h < available v.setup m h = omega arith in cond-true (nat_lt (slice_index m.taken h) (available v.setup m h)) _ _ (lt-ltb _ _ l))
+
+    taken_shows : (first count : ℕ) (m : State) → Shows v m → Shows (record v { taken = slice_set v.taken h (first + count) }) (record m { taken = slice_set m.taken h (first + count) })
+    taken_shows first count m sh = record { counts = λ i. record (sh.counts i) { taken = slice_set (sh.counts i).taken h (first + count) }; flags = sh.flags; recents = sh.recents }
 
     pub batch_step : (first count to : ℕ) (event : ℕ → Event) → ((k : ℕ) → k < v.next → v.next ≤ k + v.setup.size → is_shown (known_at v k) ≡ true → event k ≡ value_of (known_at v k)) → first ≡ slice_index v.taken h → to ≡ offered_to v (upstreams_of v.setup.upstreams h) → count ≡ min (to - first) limit
         → IsStep v (Poll h limit) (Batch first count (first + count == to)) (map event (range_with_len first count)) (record v { taken = slice_set v.taken h (first + count) })
     batch_step first count to event holds a b d =
-        accepted_step v (record v { taken = slice_set v.taken h (first + count) }) (Poll h limit) (Batch first count (first + count == to)) (map event (range_with_len first count)) refl refl none
-        (λ m sh. let t : slice_index m.taken h ≡ first = first_is m sh in let e : available v.setup m h ≡ to = same m sh ∙ sym b in ap (λ o. o.reply) (is_batch m sh) ∙ rw (e, t, ← d))
-        (λ m sh. let t : slice_index m.taken h ≡ first = first_is m sh in let e : available v.setup m h ≡ to = same m sh ∙ sym b in ap (λ o. o.values) (is_batch m sh) ∙ rw (e, t, ← d) (values m sh))
-        (λ m sh. let t : slice_index m.taken h ≡ first = first_is m sh in let e : available v.setup m h ≡ to = same m sh ∙ sym b in rw (is_batch m sh) (rw (e, t, ← d)
-        (record { next = sh.next; front = sh.front; taken = ap (λ ns. slice_set ns h (first + count)) sh.taken; completed = sh.completed; halted = sh.halted; retired = sh.retired; recent = sh.recent; unclaimed = sh.unclaimed })))
+        accepted_step refl refl (λ m sh.
+        let t : slice_index m.taken h ≡ first = first_is m sh in
+        let e : available v.setup m h ≡ to = same m sh ∙ sym b in
+        record {
+          passes = none m sh;
+          replies = ap (λ o. o.reply) (is_batch m sh) ∙ rw (e, t, ← d);
+          hands_out = ap (λ o. o.values) (is_batch m sh) ∙ rw (e, t, ← d) (values m sh);
+          shown = rw (is_batch m sh) (rw (e, t, ← d) (taken_shows first count m sh));
+        })
       where
         first_is : (m : State) → Shows v m → slice_index m.taken h ≡ first
-        first_is m sh = ap (λ ts. slice_index ts h) sh.taken ∙ sym a
+        first_is m sh = ap (λ ts. slice_index ts h) (same_taken sh) ∙ sym a
 
         values : (m : State) → Shows v m → map (λ s. unwrap_or (m.written s) no_event) (range_with_len first count) ≡ map event (range_with_len first count)
         values m sh = map_same (λ s. unwrap_or (m.written s) no_event) event first count
@@ -173,12 +185,12 @@ step_capped v m h limit whole sh =
         | inr here ↦
             let inside : h < handlers v.setup = leb-false (handlers v.setup) h n in
             let pos : 0 < v.setup.size = size_positive v.setup.size whole.size in
-            let room : v.next ≤ v.setup.size + slice_index v.completed h = whole.room h inside (sym (sh.retired h) ∙ here) in
+            let room : v.next ≤ v.setup.size + slice_index v.completed h = whole.room h inside (sym (same_retired sh h) ∙ here) in
             let took : slice_index v.completed h ≤ slice_index v.taken h = whole.took h in
             let to : available v.setup m h ≡ offered_to v (upstreams_of v.setup.upstreams h) = offered_same v m sh (upstreams_of v.setup.upstreams h) in
             let front : offered_to v (upstreams_of v.setup.upstreams h) ≤ v.front = offered_front v whole (upstreams_of v.setup.upstreams h) in
             let claimed : v.front ≤ v.next = whole.front in
-            let first : slice_index m.taken h ≡ slice_index v.taken h = ap (λ ts. slice_index ts h) sh.taken in
+            let first : slice_index m.taken h ≡ slice_index v.taken h = ap (λ ts. slice_index ts h) (same_taken sh) in
             let count : min (available v.setup m h - slice_index m.taken h) limit ≡ min (available v.setup m h - slice_index m.taken h) (min limit v.setup.size) = omega arith in
             let zero : (limit == 0) ≡ (min limit v.setup.size == 0) = elim (cases_eq limit 0) [
               | inl e ↦ eq-eqb _ _ e ∙ sym (eq-eqb _ _ (let z : min limit v.setup.size ≡ 0 = omega arith in z))
@@ -217,7 +229,7 @@ poll_front v w h limit k r sub out whole is room same fits step =
 pub ready_is : (v : CoreView) (h n to first : ℕ) → n ≡ to - first → to ≡ offered_to v (upstreams_of v.setup.upstreams h) → first ≡ slice_index v.taken h → (m : State) → Shows v m → n ≡ available v.setup m h - slice_index m.taken h
 ready_is v h n to first a b d m sh =
     let e : available v.setup m h ≡ offered_to v (upstreams_of v.setup.upstreams h) = offered_same v m sh (upstreams_of v.setup.upstreams h) in
-    let t : slice_index m.taken h ≡ slice_index v.taken h = ap (λ ts. slice_index ts h) sh.taken in
+    let t : slice_index m.taken h ≡ slice_index v.taken h = ap (λ ts. slice_index ts h) (same_taken sh) in
     omega arith
 
 -- what a poll has found before it answers: the handler is there, room is offered, and how much it took and is let through

@@ -9,11 +9,12 @@ use Rattle.dr_core.specs.declared.refusal.Refusal.{Refusal}
 use Rattle.dr_core.specs.declared.refusal.Refusal.TheVariants.{NotClaimed, AlreadyPublished, NotWritten, OutOfOrder}
 use Rattle.dr_seq.specs.declared.event.Event.{Event}
 use Rattle.dr_seq.specs.Rounds.{IsFront}
-use Rattle.dr_core.specs.Machine.{State, producers, is_single, next, front, refusals, accepted, publish_faults}
+use Rattle.dr_core.specs.Machine.{State, producers, is_single, next, front, least_outside, refusals, publish_faults}
 use Rattle.dr_core.specs.CoreView.{Known, Nothing, ClaimedBy, WrittenBy, PublishedWith, CoreView, recent_of, known_at}
 use Rattle.dr_core.specs.Availability.{publish_fault, value_of, is_shown}
-use Rattle.dr_core.specs.Shows.{Shows, Agrees, IsStep}
+use Rattle.dr_core.specs.Shows.{KnowsRecents, Shows, Agrees, IsStep}
 use Rattle.dr_core.specs.Inside.{IsWhole}
+use Rattle.dr_core.proofs.Shown.{same_next, same_front}
 use Rattle.dr_core.proofs.Leasts.{least_is, least_one}
 use Rattle.dr_core.proofs.Causes.{none_join, first_left, first_right, none_of_stretch, first_of_stretch}
 use Rattle.dr_core.proofs.Steps.{NoneHold}
@@ -49,7 +50,7 @@ a_fault (PublishedWith event) p o b w r h e = inl (h.0, (let f : ◌≡◌ {A = 
 module _ (v : CoreView) (p lo hi : ℕ) (whole : IsWhole v) (producer : p < producers v.setup.mode) (order : lo ≤ hi) (claimed : hi < v.next) where
   -- the tests before those of the stretch
   past : (m : State) → Shows v m → (r : Refusal) → Refuses r (flat_map (publish_faults m p) (range_with_len lo (hi + 1 - lo)) ++ (is_single v.setup.mode && not (lo == front m), OutOfOrder) ∷ []) → Refuses r (refusals v.setup m (Publish p lo hi))
-  past m sh r h = inr (lt-leb _ _ producer, inr (le-ltb _ _ order, inr ((let n : next m ≡ v.next = sh.next in rw n (lt-leb _ _ claimed)), h)))
+  past m sh r h = inr (lt-leb _ _ producer, inr (le-ltb _ _ order, inr ((let n : next m ≡ v.next = same_next sh in rw n (lt-leb _ _ claimed)), h)))
 
   pub publish_front : lo < v.front → IsStep v (Publish p lo hi) (Refused AlreadyPublished) [] v
   publish_front old =
@@ -74,7 +75,7 @@ module _ (v : CoreView) (p lo hi : ℕ) (whole : IsWhole v) (producer : p < prod
   publish_order fresh none single late =
       refused_step v (Publish p lo hi) OutOfOrder (λ m sh. past m sh OutOfOrder
       (first_right IsHolding IsFailing OutOfOrder (flat_map (publish_faults m p) (range_with_len lo (hi + 1 - lo))) _ (none_here fresh none m sh)
-      (inl (and_from _ _ single (let f : front m ≡ v.front = sh.front in rw f (ap not (ne_eqb lo v.front late))), refl))))
+      (inl (and_from _ _ single (let f : front m ≡ v.front = same_front sh in rw f (ap not (ne_eqb lo v.front late))), refl))))
 
 -- what may be published is known with the event that was written
 fault_written : (known : Known) (p o : ℕ) (b : Bool) (w : Option Event) → Agrees known o b w → publish_fault known p ≡ None → w ≡ Some (value_of known)
@@ -124,49 +125,48 @@ module _ (v : CoreView) (p lo hi front' : ℕ) (known : ℕ → Known) (knows : 
     | inr o ↦ ap is_shown (knows.outside k l r o) ∙ shown_published (known_at v k) _ _ _ (sh.recent k l r) ∙ sym (or-no (m.published k) _ (outside_is lo hi k o))
   ]
 
-  published_shows : (m : State) → Shows v m → Shows (record v { recent = recent_of known v.next v.setup.size; front = front' }) (accepted v.setup m (Publish p lo hi)).state
-  published_shows m sh =
-      let here : next m ≡ v.next = sh.next in
-      let w : v.next ≤ v.front + v.setup.size = near v whole v.front (omega arith) in
+  front_moves : (m : State) → Shows v m → least_outside (λ k. m.published k || in_stretch lo hi k) (next m) ≡ front'
+  front_moves m sh =
+      let here : next m ≡ v.next = same_next sh in
+      let round : v.next ≤ v.front + v.setup.size = near v whole v.front (omega arith) in
       let low : v.front ≤ front' = found.low in
       let high : front' ≤ v.next = found.high in
-      record {
-        next = sh.next;
-        front = least_one (λ k. m.published k || in_stretch lo hi k) (next m) _ _ (least_is (λ k. m.published k || in_stretch lo hi k) (next m))
-            (record {
-              within = omega arith;
-              below = λ k l. elim (cases_lt k v.front) [
-                | inl old ↦ or_left (m.published k) _ (below_front v m sh k old)
-                | inr g ↦ sym (now_published m sh k (omega arith) (omega arith)) ∙ found.below k g l
-              ];
-              here = λ l. sym (now_published m sh front' (omega arith) (omega arith)) ∙ found.here (omega arith);
-            });
-        taken = sh.taken;
-        completed = sh.completed;
-        halted = sh.halted;
-        retired = sh.retired;
-        recent = λ k l r. rw (known_at-recent known v.next v.setup.size k l r) (elim (stretch_cases lo hi k) [
-          | inl i ↦ (let off : lo + (k - lo) ≡ k = omega arith in
-              let ok : publish_fault (known_at v k) p ≡ None = rw off at (none (k - lo) (omega arith)) in
-              rw (knows.inside k i.0 i.1) (or_right (m.published k) _ (inside_is lo hi k i.0 i.1), fault_written (known_at v k) p _ _ _ (sh.recent k l r) ok))
-          | inr o ↦ rw (knows.outside k l r o) (agrees_mark (known_at v k) _ (m.published k) _ _ (sym (or-no (m.published k) _ (outside_is lo hi k o))) (sh.recent k l r))
-        ]);
-        unclaimed = λ k g. (or_from _ _ (sh.unclaimed k g).0 (outside_is lo hi k (inr (omega arith))), (sh.unclaimed k g).1);
-      }
+      least_one (λ k. m.published k || in_stretch lo hi k) (next m) _ _ (least_is (λ k. m.published k || in_stretch lo hi k) (next m))
+      (record {
+        within = omega arith;
+        below = λ k l. elim (cases_lt k v.front) [
+          | inl old ↦ or_left (m.published k) _ (below_front v m sh k old)
+          | inr g ↦ sym (now_published m sh k (omega arith) (omega arith)) ∙ found.below k g l
+        ];
+        here = λ l. sym (now_published m sh front' (omega arith) (omega arith)) ∙ found.here (omega arith);
+      })
+
+  published_recents : (m : State) → Shows v m
+      → KnowsRecents v.setup.size v.next (known_at (record v { recent = recent_of known v.next v.setup.size; front = front' })) m.owners (λ k. m.published k || in_stretch lo hi k) m.written
+  published_recents m sh = record {
+    recent = λ k l r. rw (known_at-recent known v.next v.setup.size k l r) (elim (stretch_cases lo hi k) [
+      | inl i ↦ (let off : lo + (k - lo) ≡ k = omega arith in
+          let ok : publish_fault (known_at v k) p ≡ None = rw off at (none (k - lo) (omega arith)) in
+          rw (knows.inside k i.0 i.1) (or_right (m.published k) _ (inside_is lo hi k i.0 i.1), fault_written (known_at v k) p _ _ _ (sh.recent k l r) ok))
+      | inr o ↦ rw (knows.outside k l r o) (agrees_mark (known_at v k) _ (m.published k) _ _ (sym (or-no (m.published k) _ (outside_is lo hi k o))) (sh.recent k l r))
+    ]);
+    unclaimed = λ k g. (or_from _ _ (sh.unclaimed k g).0 (outside_is lo hi k (inr (omega arith))), (sh.unclaimed k g).1);
+  }
 
   pub publish_step : (is_single v.setup.mode && not (lo == v.front)) ≡ false → IsStep v (Publish p lo hi) Published [] (record v { recent = recent_of known v.next v.setup.size; front = front' })
-  publish_step in_order =
-      accepted_step v (record v { recent = recent_of known v.next v.setup.size; front = front' }) (Publish p lo hi) Published [] refl refl
-      (λ m sh. (
-        lt-leb _ _ producer,
+  publish_step in_order = accepted_step refl refl (λ m sh. record {
+    passes =
         (
-          le-ltb _ _ order,
+          lt-leb _ _ producer,
           (
-            (let n : next m ≡ v.next = sh.next in rw n (lt-leb _ _ claimed)),
-            none_join IsHolding IsFailing (flat_map (publish_faults m p) (range_with_len lo (hi + 1 - lo))) _ (none_here v p lo hi whole producer order claimed fresh none m sh) ((let f : front m ≡ v.front = sh.front in rw f in_order), tt),
+            le-ltb _ _ order,
+            (
+              rw (same_next sh) (lt-leb _ _ claimed),
+              none_join IsHolding IsFailing (flat_map (publish_faults m p) (range_with_len lo (hi + 1 - lo))) _ (none_here v p lo hi whole producer order claimed fresh none m sh) (rw (same_front sh) in_order, tt),
+            ),
           ),
-        ),
-      ))
-      (λ m sh. refl)
-      (λ m sh. refl)
-      published_shows
+        );
+    replies = refl;
+    hands_out = refl;
+    shown = record { counts = λ i. record (sh.counts i) { front = front_moves m sh i }; flags = sh.flags; recents = published_recents m sh };
+  })

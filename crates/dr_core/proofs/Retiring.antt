@@ -15,6 +15,7 @@ use Rattle.dr_core.specs.Shows.{Shows, IsStep}
 use Rattle.dr_core.specs.Inside.{IsWhole}
 use Rattle.dr_core.proofs.CoreSteps.{accepted_step, refused_step, orderly, finals_least}
 use Rattle.dr_core.proofs.Gating.{seen_below}
+use Rattle.dr_core.proofs.Shown.{same_retired}
 use Rattle.dr_core.proofs.Pushes.{or-false}
 
 -- a flag that was read
@@ -40,32 +41,37 @@ retired_core v h = record v { retired = slice_set v.retired h true }
 module _ (v : CoreView) (h : ℕ) (whole : IsWhole v) (inside : h < handlers v.setup) (left : retired_in v h ≡ false) where
   pub not_final_step : is_final_without v.setup.upstreams (retired_in v) h ≡ false → IsStep v (Retire h) (Refused NotFinal) [] v
   not_final_step not_final =
-      refused_step v (Retire h) NotFinal (λ m sh. inr (lt-leb _ _ inside, inr (sh.retired h ∙ left, inl (followed_agree v.setup.upstreams m.retired (retired_in v) sh.retired h ∙ is_followed_then, refl))))
+      refused_step v (Retire h) NotFinal (λ m sh. inr (lt-leb _ _ inside, inr (same_retired sh h ∙ left, inl (followed_agree v.setup.upstreams m.retired (retired_in v) (same_retired sh) h ∙ is_followed_then, refl))))
     where
       is_followed_then : is_followed v.setup.upstreams (retired_in v) h ≡ true
       is_followed_then = not-false _ (rw left at not_final)
 
   module _ (final : is_final_without v.setup.upstreams (retired_in v) h ≡ true) where
     unfollowed : (m : State) → Shows v m → is_followed v.setup.upstreams m.retired h ≡ false
-    unfollowed m sh = followed_agree v.setup.upstreams m.retired (retired_in v) sh.retired h ∙ not-true _ (and_parts _ _ final).1
+    unfollowed m sh = followed_agree v.setup.upstreams m.retired (retired_in v) (same_retired sh) h ∙ not-true _ (and_parts _ _ final).1
 
     some_left : (m : State) → Shows v m → is_some_left (handlers v.setup) (retired_with m h) ≡ is_some_left (handlers v.setup) (λ k. retired_in v k || k == h)
-    some_left m sh = any_agree (λ k. not (retired_with m h k)) (λ k. not (retired_in v k || k == h)) (λ k. ap (λ b. not (b || k == h)) (sh.retired k)) (range_with_len 0 (handlers v.setup))
+    some_left m sh = any_agree (λ k. not (retired_with m h k)) (λ k. not (retired_in v k || k == h)) (λ k. ap (λ b. not (b || k == h)) (same_retired sh k)) (range_with_len 0 (handlers v.setup))
 
     pub last_step : is_some_left (handlers v.setup) (λ k. retired_in v k || k == h) ≡ false → IsStep v (Retire h) (Refused LastHandler) [] v
     last_step none =
-        refused_step v (Retire h) LastHandler (λ m sh. inr (lt-leb _ _ inside, inr (sh.retired h ∙ left, inr (unfollowed m sh, inl (ap not (some_left m sh ∙ none), refl)))))
+        refused_step v (Retire h) LastHandler (λ m sh. inr (lt-leb _ _ inside, inr (same_retired sh h ∙ left, inr (unfollowed m sh, inl (ap not (some_left m sh ∙ none), refl)))))
 
     module _ (others : is_some_left (handlers v.setup) (λ k. retired_in v k || k == h) ≡ true) where
       within : h < length v.retired
       within = let e : length v.retired ≡ handlers v.setup = whole.retired in omega arith
 
       pub retire_step : IsStep v (Retire h) Retired [] (retired_core v h)
-      retire_step =
-          accepted_step v (retired_core v h) (Retire h) Retired [] refl refl
-          (λ m sh. (lt-leb _ _ inside, (sh.retired h ∙ left, (unfollowed m sh, (ap not (some_left m sh ∙ others), tt)))))
-          (λ m sh. refl) (λ m sh. refl)
-          (λ m sh. record { next = sh.next; front = sh.front; taken = sh.taken; completed = sh.completed; halted = sh.halted; retired = λ k. ap (λ b. b || k == h) (sh.retired k) ∙ sym (flagged_more v.retired h k within); recent = sh.recent; unclaimed = sh.unclaimed })
+      retire_step = accepted_step refl refl (λ m sh. record {
+        passes = (lt-leb _ _ inside, (same_retired sh h ∙ left, (unfollowed m sh, (ap not (some_left m sh ∙ others), tt))));
+        replies = refl;
+        hands_out = refl;
+        shown = record {
+          counts = sh.counts;
+          flags = λ i. record (sh.flags i) { retired = λ k. (ap (λ b. b || k == h) (same_retired sh k) ∙ sym (flagged_more v.retired h k within)) i };
+          recents = sh.recents;
+        };
+      })
 
       -- who is left after it was left before
       fewer : (k : ℕ) → retired_in (retired_core v h) k ≡ false → retired_in v k ≡ false

@@ -21,14 +21,25 @@ use Rattle.dr_core.proofs.Pushes.{or-false}
 use Rattle.dr_core.proofs.Steps.{NoneHold, unless-cases}
 use Rattle.dr_core.proofs.Tells.{Changes, slice_get-append_left, slice_get-append_right}
 
+-- what is published is claimed and written
+pub record AreMarked (claims : ℕ) (marks : ℕ → Bool) (events : ℕ → Option Event) : Type 0 where
+  pub claimed : (s : ℕ) → marks s ≡ true → s < claims
+  pub written : (s : ℕ) → marks s ≡ true → is_none (events s) ≡ false
+
+-- a count a handler; each took no more than lies before the front and than each of its upstreams completed, and completed no more than it took
+pub record AreTaken (c : Setup) (limit : ℕ) (taken completed : List ℕ) : Type 0 where
+  pub taken_len : length taken ≡ handlers c
+  pub completed_len : length completed ≡ handlers c
+  pub in_front : (h : ℕ) → slice_index taken h ≤ limit
+  pub took : (h : ℕ) → slice_index completed h ≤ slice_index taken h
+  pub after : (h u : ℕ) → Contains (upstreams_of c.upstreams h) u → slice_index taken h ≤ slice_index completed u
+
+-- so of every state of the machine
 pub record IsSound (c : Setup) (m : State) : Type 0 where
-  pub claimed : (s : ℕ) → m.published s ≡ true → s < next m
-  pub written : (s : ℕ) → m.published s ≡ true → is_none (m.written s) ≡ false
-  pub taken_len : length m.taken ≡ handlers c
-  pub completed_len : length m.completed ≡ handlers c
-  pub in_front : (h : ℕ) → slice_index m.taken h ≤ front m
-  pub took : (h : ℕ) → slice_index m.completed h ≤ slice_index m.taken h
-  pub after : (h u : ℕ) → Contains (upstreams_of c.upstreams h) u → slice_index m.taken h ≤ slice_index m.completed u
+  pub marks : AreMarked (next m) m.published m.written
+  pub open marks use *
+  pub counts : AreTaken c (front m) m.taken m.completed
+  pub open counts use *
 
 abbrev pub entry_of : Command → Outcome → Entry
 entry_of command o = record { command = command; reply = o.reply; values = o.values }

@@ -10,14 +10,15 @@ use Rattle.dr_seq.specs.declared.event.Event.{Event}
 use Rattle.dr_core.specs.Machine.{State, producers, next, front, accepted}
 use Rattle.dr_core.specs.CoreView.{Known, Nothing, ClaimedBy, WrittenBy, PublishedWith, CoreView, recent_of, known_at}
 use Rattle.dr_core.specs.Availability.{write_fault}
-use Rattle.dr_core.specs.Shows.{Shows, Agrees, IsStep}
+use Rattle.dr_core.specs.Shows.{KnowsRecents, Shows, Agrees, IsStep}
 use Rattle.dr_core.specs.Inside.{IsWhole}
+use Rattle.dr_core.proofs.Shown.{same_next, same_front}
 use Rattle.dr_core.proofs.Leasts.{least_is}
 use Rattle.dr_core.proofs.CoreSteps.{Refuses, refused_step, accepted_step, known_at-recent}
 
 -- all below the front is published
 pub below_front : (v : CoreView) (m : State) → Shows v m → (s : ℕ) → s < v.front → m.published s ≡ true
-below_front v m sh s l = (least_is m.published (next m)).below s (let f : front m ≡ v.front = sh.front in omega arith)
+below_front v m sh s l = (least_is m.published (next m)).below s (let f : front m ≡ v.front = same_front sh in omega arith)
 
 -- what lies at the front or after it is in the slots
 pub near : (v : CoreView) → IsWhole v → (s : ℕ) → v.front ≤ s → v.next ≤ s + v.setup.size
@@ -57,7 +58,7 @@ write_err (PublishedWith event) p o b w r h e = inl (h.0, (let f : ◌≡◌ {A 
 -- what lies before the front is published
 pub write_front : (v : CoreView) (p s : ℕ) (x : Event) → p < producers v.setup.mode → s < v.next → s < v.front → IsStep v (Write p s x) (Refused AlreadyPublished) [] v
 write_front v p s x producer claimed old =
-    refused_step v (Write p s x) AlreadyPublished (λ m sh. inr (lt-leb _ _ producer, inr ((let n : next m ≡ v.next = sh.next in rw n (lt-leb _ _ claimed)), inl (below_front v m sh s old, refl))))
+    refused_step v (Write p s x) AlreadyPublished (λ m sh. inr (lt-leb _ _ producer, inr ((let n : next m ≡ v.next = same_next sh in rw n (lt-leb _ _ claimed)), inl (below_front v m sh s old, refl))))
 
 -- what a write leaves known: the sequence is written, and of the others as much as before
 pub record WritesKnown (v : CoreView) (p s : ℕ) (x : Event) (known : ℕ → Known) : Type 0 where
@@ -70,17 +71,12 @@ module _ (v : CoreView) (p s : ℕ) (x : Event) (whole : IsWhole v) (producer : 
 
   pub write_refused : (r : Refusal) → write_fault (known_at v s) p ≡ Some r → IsStep v (Write p s x) (Refused r) [] v
   write_refused r e =
-      refused_step v (Write p s x) r (λ m sh. inr (lt-leb _ _ producer, inr ((let n : next m ≡ v.next = sh.next in rw n (lt-leb _ _ claimed)), write_err (known_at v s) p _ _ _ r (there m sh) e)))
+      refused_step v (Write p s x) r (λ m sh. inr (lt-leb _ _ producer, inr ((let n : next m ≡ v.next = same_next sh in rw n (lt-leb _ _ claimed)), write_err (known_at v s) p _ _ _ r (there m sh) e)))
 
-  written_shows : (known : ℕ → Known) → WritesKnown v p s x known → (m : State) → Shows v m → m.published s ≡ false → slice_index m.owners s ≡ p → Shows (record v { recent = recent_of known v.next v.setup.size }) (accepted v.setup m (Write p s x)).state
-  written_shows known knows m sh hidden mine =
+  written_recents : (known : ℕ → Known) → WritesKnown v p s x known → (m : State) → Shows v m → m.published s ≡ false → slice_index m.owners s ≡ p
+      → KnowsRecents v.setup.size v.next (known_at (record v { recent = recent_of known v.next v.setup.size })) m.owners m.published (accepted v.setup m (Write p s x)).state.written
+  written_recents known knows m sh hidden mine =
       record {
-        next = sh.next;
-        front = sh.front;
-        taken = sh.taken;
-        completed = sh.completed;
-        halted = sh.halted;
-        retired = sh.retired;
         recent = λ k l r. rw (known_at-recent known v.next v.setup.size k l r) (elim (cases_eq k s) [
           | inl e ↦ (let here : known k ≡ WrittenBy p x = ap known e ∙ knows.here in
               rw here (ap (λ i. slice_index m.owners i) e ∙ mine, ap m.published e ∙ hidden, cond-true (k == s) _ _ (eq-eqb k s e)))
@@ -92,9 +88,11 @@ module _ (v : CoreView) (p s : ℕ) (x : Event) (whole : IsWhole v) (producer : 
 
   pub write_step : (known : ℕ → Known) → WritesKnown v p s x known → write_fault (known_at v s) p ≡ None → IsStep v (Write p s x) Written [] (record v { recent = recent_of known v.next v.setup.size })
   write_step known knows e =
-      let is = λ (m : State) (sh : Shows v m). write_ok (known_at v s) p _ _ _ (there m sh) e in
-      accepted_step v (record v { recent = recent_of known v.next v.setup.size }) (Write p s x) Written [] refl refl
-      (λ m sh. (lt-leb _ _ producer, ((let n : next m ≡ v.next = sh.next in rw n (lt-leb _ _ claimed)), ((is m sh).0, (ap not (is m sh).1, tt)))))
-      (λ m sh. refl)
-      (λ m sh. refl)
-      (λ m sh. written_shows known knows m sh (is m sh).0 (eqb-true _ _ (is m sh).1))
+      accepted_step refl refl (λ m sh.
+      let may : (m.published s ≡ false) × ((slice_index m.owners s == p) ≡ true) = write_ok (known_at v s) p _ _ _ (there m sh) e in
+      record {
+        passes = (lt-leb _ _ producer, (rw (same_next sh) (lt-leb _ _ claimed), (may.0, (ap not may.1, tt))));
+        replies = refl;
+        hands_out = refl;
+        shown = record { counts = sh.counts; flags = sh.flags; recents = written_recents known knows m sh may.0 (eqb-true _ _ may.1) };
+      })

@@ -19,16 +19,41 @@ Agrees (ClaimedBy p) owner published written = (owner ≡ p) × (published ≡ f
 Agrees (WrittenBy p event) owner published written = (owner ≡ p) × (published ≡ false) × (written ≡ Some event)
 Agrees (PublishedWith event) owner published written = (published ≡ true) × (written ≡ Some event)
 
--- a core shows a state that has its counts, and of each recent sequence what the core knows
+-- what is counted of an exchange
+pub record Counts : Type 0 where
+  pub next : ℕ  -- how many sequences are claimed
+  pub front : ℕ  -- the least sequence that is not published
+  pub taken : List ℕ  -- of each handler, how many events it took
+  pub completed : List ℕ  -- of each handler, how many events it completed
+
+-- what is so of an exchange once and for all: whether it is halted, and which handlers are retired
+pub record Flags : Type 0 where
+  pub halted : Bool
+  pub retired : ℕ → Bool
+
+abbrev pub machine_counts : State → Counts
+machine_counts m = record { next = next m; front = front m; taken = m.taken; completed = m.completed }
+
+abbrev pub core_counts : CoreView → Counts
+core_counts v = record { next = v.next; front = v.front; taken = v.taken; completed = v.completed }
+
+abbrev pub machine_flags : State → Flags
+machine_flags m = record { halted = m.halted; retired = m.retired }
+
+abbrev pub core_flags : CoreView → Flags
+core_flags v = record { halted = v.halted; retired = retired_in v }
+
+-- what is known of each recent sequence agrees with its owner, its publication mark and what is written to it; those that are not claimed yet are neither published nor written
+pub record KnowsRecents (size claimed : ℕ) (known : ℕ → Known) (owners : List ℕ) (published : ℕ → Bool) (written : ℕ → Option Event) : Type 0 where
+  pub recent : (s : ℕ) → s < claimed → claimed ≤ s + size → Agrees (known s) (slice_index owners s) (published s) (written s)
+  pub unclaimed : (s : ℕ) → claimed ≤ s → (published s ≡ false) × (written s ≡ None)
+
+-- a core shows a state that has its counts and its flags, and of each recent sequence what the core knows
 pub record Shows (v : CoreView) (m : State) : Type 0 where
-  pub next : next m ≡ v.next
-  pub front : front m ≡ v.front
-  pub taken : m.taken ≡ v.taken
-  pub completed : m.completed ≡ v.completed
-  pub halted : m.halted ≡ v.halted
-  pub retired : (h : ℕ) → m.retired h ≡ retired_in v h
-  pub recent : (s : ℕ) → s < v.next → v.next ≤ s + v.setup.size → Agrees (known_at v s) (slice_index m.owners s) (m.published s) (m.written s)
-  pub unclaimed : (s : ℕ) → v.next ≤ s → (m.published s ≡ false) × (m.written s ≡ None)
+  pub counts : machine_counts m ≡ core_counts v
+  pub flags : machine_flags m ≡ core_flags v
+  pub recents : KnowsRecents v.setup.size v.next (known_at v) m.owners m.published m.written
+  pub open recents use *
 
 -- on each state that the core shows the machine gives this reply and these events, and the core then shows the machine's next state
 pub record IsStep (old : CoreView) (command : Command) (reply : Reply) (values : List Event) (new : CoreView) : Type 0 where
