@@ -253,11 +253,3 @@ claim_whole v n recent whole limit room =
 
 pub front_whole : (v : CoreView) (front' : ℕ) (recent : List Known) → IsWhole v → v.front ≤ front' → front' ≤ v.next → IsWhole (record v { front = front'; recent = recent })
 front_whole v front' recent whole up low = counts_whole v v.next front' recent whole whole.claimed whole.room up low
-
--- a claim that does not fit beside what the finals have not completed
-pub claim_no_room : (v : CoreView) (p n : ℕ) → p < producers v.setup.mode → n ≢ 0 → n ≤ v.setup.size → v.halted ≡ false → v.next + n ≤ v.setup.limit
-    → nat_le (v.next + n) (v.setup.size + gate_of v) ≡ false → IsStep v (Claim p n) (Refused NoRoom) [] v
-claim_no_room v p n producer some fits going limit full =
-    refused_step v (Claim p n) NoRoom
-    (λ m sh. let here : next m ≡ v.next = same_next sh in
-    inr (lt-leb _ _ producer, inr (or_from _ _ (ne_eqb n 0 some) (le-ltb _ _ fits), inr (same_halted sh ∙ going, inr (rw here (le-ltb _ _ limit), inl (rw (here, gate_same v m sh) (lt-ltb _ _ (leb-false _ _ full)), refl))))))

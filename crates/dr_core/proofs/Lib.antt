@@ -18,4 +18,5 @@ pub mod Recents
 pub mod Copying
 pub mod Showings
 pub mod Gating
+pub mod InOrder
 pub mod Retiring

@@ -12,9 +12,9 @@ use Rattle.dr_graph.proofs.Gating.{found_in, any_agree, followed_agree, final_le
 use Rattle.dr_core.specs.Machine.{State, handlers, retired_with}
 use Rattle.dr_core.specs.CoreView.{CoreView, retired_in, gate_of}
 use Rattle.dr_core.specs.Shows.{Shows, IsStep}
-use Rattle.dr_core.specs.Inside.{IsWhole}
+use Rattle.dr_core.specs.Inside.{IsWhole, IsClaimable}
 use Rattle.dr_core.proofs.CoreSteps.{accepted_step, refused_step, orderly, finals_least}
-use Rattle.dr_core.proofs.Gating.{seen_below}
+use Rattle.dr_core.proofs.Gating.{claimable_room}
 use Rattle.dr_core.proofs.Shown.{same_retired}
 use Rattle.dr_core.proofs.Pushes.{or-false}
 
@@ -99,13 +99,16 @@ module _ (v : CoreView) (h : ℕ) (whole : IsWhole v) (inside : h < handlers v.s
         room = λ k lt here. whole.room k lt (fewer k here);
       }
 
-      -- no final that is left now is below what was remembered
-      pub retire_gate : (gate : ℕ) → ((f : ℕ) → Contains (finals_without v.setup.upstreams (retired_in v)) f → gate ≤ slice_index v.completed f) → (f : ℕ) → Contains (finals_without v.setup.upstreams (retired_in (retired_core v h))) f → gate ≤ slice_index v.completed f
-      retire_gate gate below f has =
-          let now : (f < handlers v.setup) × (retired_in (retired_core v h) f ≡ false) = final_left v.setup.upstreams (retired_in (retired_core v h)) f has in
-          let a : gate ≤ gate_of v = seen_below v whole gate below in
-          let b : gate_of v ≤ slice_index v.completed f = finals_least v whole f now.0 (fewer f now.1) in
-          omega arith
+      -- what was claimable before is so after
+      pub retire_claimable : (upto : ℕ) → IsClaimable v.setup v.next v.halted (retired_in v) v.completed upto → IsClaimable v.setup v.next v.halted (retired_in (retired_core v h)) v.completed upto
+      retire_claimable upto claimable = record {
+        going = claimable.going;
+        limit = claimable.limit;
+        room = λ f has. (let now : (f < handlers v.setup) × (retired_in (retired_core v h) f ≡ false) = final_left v.setup.upstreams (retired_in (retired_core v h)) f has in
+            let a : upto ≤ v.setup.size + gate_of v = claimable_room v whole upto claimable in
+            let b : gate_of v ≤ slice_index v.completed f = finals_least v whole f now.0 (fewer f now.1) in
+            omega arith);
+      }
 
       -- a retirement never lowers the least count of the finals
       pub retire_room : gate_of v ≤ gate_of (retired_core v h)

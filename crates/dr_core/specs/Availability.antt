@@ -1,5 +1,5 @@
 -- How the core keeps what it knows of the recent sequences: by two rounds of the ring, owners by slot, and events by slot.
-use Rattle.std.specs.Prelude.{◌≡◌, ◌⊎◌, ◌<◌, ℕ, zero, suc, ◌+◌, ◌%◌, Bool, true, false, ◌==◌, ◌||◌, nat_lt, if◌then◌else◌, Option, Some, None, List, length, slice_index, slice_set}
+use Rattle.std.specs.Prelude.{◌≡◌, ◌⊎◌, ◌<◌, ℕ, zero, suc, ◌+◌, ◌%◌, Bool, true, false, ◌==◌, ◌||◌, nat_lt, nat_le, if◌then◌else◌, Option, Some, None, List, length, slice_index, slice_set}
 use Rattle.dr_seq.specs.declared.event.Event.{Event}
 use Rattle.dr_seq.specs.Event.{no_event}
 use Rattle.dr_seq.specs.Rounds.{entry_of, is_marked, IsFront}
@@ -7,8 +7,8 @@ use Rattle.dr_seq.specs.Slots.{event_at}
 use Rattle.dr_core.specs.declared.mode.Mode.{Mode}
 use Rattle.dr_core.specs.declared.mode.Mode.TheVariants.{Single, Multi}
 use Rattle.dr_core.specs.declared.refusal.Refusal.{Refusal}
-use Rattle.dr_core.specs.declared.refusal.Refusal.TheVariants.{NotClaimed, AlreadyPublished, NotWritten}
-use Rattle.dr_core.specs.CoreView.{Known, Nothing, ClaimedBy, WrittenBy, PublishedWith}
+use Rattle.dr_core.specs.declared.refusal.Refusal.TheVariants.{Halted, Exhausted, NoRoom, NotClaimed, AlreadyPublished, NotWritten}
+use Rattle.dr_core.specs.CoreView.{CoreView, gate_of, Known, Nothing, ClaimedBy, WrittenBy, PublishedWith}
 
 -- what is kept by slot, and the front
 pub record Kept : Type 0 where
@@ -77,6 +77,13 @@ owners_after (Multi producers) owners from n p = stamped (λ s. p) owners from n
 abbrev pub HasOwners : Mode → List ℕ → ℕ → Type 0
 HasOwners Single owners size = Unit {0}
 HasOwners (Multi p) owners size = length owners ≡ size
+
+-- what refuses a claim of n sequences, where a claim may be of so many
+abbrev pub claim_fault : CoreView → ℕ → Option Refusal
+claim_fault v n =
+    if v.halted then Some Halted
+    else if nat_lt v.setup.limit (v.next + n) then Some Exhausted
+    else if nat_le (v.next + n) (v.setup.size + gate_of v) then None else Some NoRoom
 
 -- what refuses a producer to write a sequence
 abbrev pub write_fault : Known → ℕ → Option Refusal

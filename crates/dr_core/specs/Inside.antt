@@ -1,10 +1,10 @@
 -- What a core's fields keep.
-use Rattle.std.specs.Prelude.{◌≡◌, ℕ, ◌+◌, ◌^◌, ◌<◌, ◌≤◌, false, length, Contains, slice_index}
+use Rattle.std.specs.Prelude.{◌≡◌, ℕ, ◌+◌, ◌^◌, ◌<◌, ◌≤◌, Bool, true, false, List, length, Contains, slice_index}
 use Rattle.dr_seq.specs.Rounds.{is_marked}
 use Rattle.dr_seq.specs.Size.{IsSize}
 use Rattle.dr_core.specs.declared.engine.Core.TheInside.{Inside}
 use Rattle.dr_graph.specs.Graph.{upstreams_of, finals_without, IsGraph}
-use Rattle.dr_core.specs.Machine.{handlers, setup_of}
+use Rattle.dr_core.specs.Machine.{Setup, handlers, setup_of}
 use Rattle.dr_core.specs.CoreView.{CoreView, AreGating, retired_in, recent_of}
 use Rattle.dr_core.specs.Runs.{IsReached}
 use Rattle.dr_core.specs.Availability.{Kept, slot_known, HasOwners, is_ahead}
@@ -47,14 +47,21 @@ pub record IsAvailable (a : Kept) (size next : ℕ) : Type 0 where
   pub written : length a.written ≡ size
   pub owners : HasOwners a.mode a.owners size
   pub events : length a.events ≡ size
+  pub front : a.front ≤ a.filled
   pub filled : a.filled ≤ next
   pub unpublished : (s : ℕ) → next ≤ s → is_ahead a.mode a.published s ≡ false
   pub unwritten : (s : ℕ) → next ≤ s → is_marked a.written s ≡ false
 
--- the two rounds, the flags of those that gate, and a remembered least count that no final of those that are left is below; every core is reached, so it shows a state
+-- what a claim up to a sequence needs beside its producer and its count: that nothing is halted, that the limit is not passed, and that each final of those that are left completed what lay in the slots
+pub record IsClaimable (c : Setup) (next : ℕ) (halted : Bool) (gone : ℕ → Bool) (completed : List ℕ) (upto : ℕ) : Type 0 where
+  pub going : halted ≡ true → upto ≤ next
+  pub limit : upto ≤ c.limit
+  pub room : (f : ℕ) → Contains (finals_without c.upstreams gone) f → upto ≤ c.size + slice_index completed f
+
+-- the two rounds, the flags of those that gate, and a remembered sequence up to which nothing refuses a claim; every core is reached, so it shows a state
 pub record IsKept (a : Inside) : Type 0 where
   pub whole : IsWhole (view_of a)
   pub available : IsAvailable (kept_of a) a.size a.next
   pub gating : AreGating a.gating.items a.graph.upstreams (retired_in (view_of a))
   pub reached : IsReached (view_of a)
-  pub gate : (f : ℕ) → Contains (finals_without (view_of a).setup.upstreams (retired_in (view_of a))) f → a.gate ≤ slice_index a.completed.items f
+  pub claimable : IsClaimable (view_of a).setup a.next a.halted (retired_in (view_of a)) a.completed.items a.claimable

@@ -1,8 +1,9 @@
 //! What is kept of the recent sequences, a slot a sequence.
 
-ghost use Rattle.std.specs.Prelude.{◌≡◌, ◌+◌, ◌-◌, ◌^◌, ◌<◌, ◌≤◌, ◌||◌, nat_lt, length};
+ghost use Rattle.std.specs.Prelude.{◌≡◌, ◌+◌, ◌-◌, ◌^◌, ◌<◌, ◌≤◌, ◌||◌, ◌&&◌, ◌==◌, nat_lt, nat_le, length};
 ghost use Rattle.dr_seq.specs.Rounds.{entry_of, is_marked};
 ghost use Rattle.dr_core.specs.Availability.{HasOwners, owner_at, owners_after, is_ahead as is_ahead_of, IsNoted, published_after, IsNewFront, stamped};
+ghost use Rattle.dr_core.specs.Machine.{is_single};
 
 use crate::mode::Mode;
 use dr_seq::{Rounds, Size};
@@ -81,6 +82,25 @@ pub(crate) fn note(written: &mut Rounds, filled: u64, s: u64) -> u64
         written.mark(s);
     }
     filled
+}
+
+/// Whether a sequence is below the front. The next one to be written in order is not, which is told
+/// without a look at the front.
+#[inline]
+pub(crate) fn is_below(s: u64, front: u64, filled: u64) -> bool
+    requires { front ≤ filled }
+    ensures { result ≡ nat_lt s front }
+{
+    s != filled && s < front
+}
+
+/// Whether one producer wrote a stretch in order that begins at the front, and is not empty. Then
+/// nothing refuses its publication.
+#[inline]
+pub(crate) fn is_next_written(mode: Mode, lo: u64, hi: u64, front: u64, filled: u64) -> bool
+    ensures { result ≡ (is_single mode && (lo == front && (nat_le lo hi && nat_lt hi filled))) }
+{
+    mode.is_single() && lo == front && lo <= hi && hi < filled
 }
 
 /// Publishes the sequences from `lo` to `hi`, and gives the new front. With one producer they begin

@@ -12,7 +12,7 @@ use crate::engine::retiring::flag_gating;
 use crate::mode::Mode;
 use crate::open_fault::OpenFault;
 use dr_graph::Graph;
-use dr_seq::{GateCache, Rounds, Size, Slots};
+use dr_seq::{Rounds, Size, Slots};
 use std::alloc::{AllocError, Global};
 use std::marker::Model;
 
@@ -41,7 +41,7 @@ pub struct Core {
     written: Rounds,
     owners: Vec<u64>,
     events: Slots,
-    gate: GateCache,
+    claimable: u64,
     next: u64,
     front: u64,
     // All sequences from the front up to this one are written.
@@ -106,7 +106,7 @@ impl Core {
             written,
             owners,
             events,
-            gate: GateCache::new(),
+            claimable: limit.min(size.get()),
             next: 0,
             front: 0,
             filled: 0,

@@ -1,4 +1,4 @@
-use Rattle.std.proofs.Common.{◌≡◌, ◌<◌, ◌≤◌, slice_index, length, get_or, false, arith}
+use Rattle.std.proofs.Common.{◌≡◌, ◌<◌, ◌≤◌, ◌+◌, slice_index, length, get_or, false, arith}
 use Rattle.std.proofs.lemmas.List.{get_or_read}
 use Rattle.dr_core.specs.Machine.{handlers}
 use Rattle.dr_core.specs.CoreView.{CoreView}
@@ -34,8 +34,12 @@ invariant_of-self c =
       available = c.self.invariant.available;
       reached = step_reached (complete_step v c.args.h c.args.upto can) c.self.invariant.reached;
       gating = c.self.invariant.gating;
-      gate = λ f has. (let below : c.self.inside.gate ≤ slice_index v.completed f = c.self.invariant.gate f has in
-          omega (arith, completed_grows v c.args.h c.args.upto c.self.invariant.whole can f));
+      claimable = record {
+        going = c.self.invariant.claimable.going;
+        limit = c.self.invariant.claimable.limit;
+        room = λ f has. (let old : c.self.inside.claimable ≤ v.setup.size + slice_index v.completed f = c.self.invariant.claimable.room f has in
+            omega (arith, completed_grows v c.args.h c.args.upto c.self.invariant.whole can f));
+      };
     }
 
 pub returns-clause-step : goal.returns-clause-step

@@ -50,7 +50,7 @@ invariant_of-self c =
       available = c.self.invariant.available;
       reached = step_reached (took (goal.at.invariant_of-self c).After-copy_out at) c.self.invariant.reached;
       gating = c.self.invariant.gating;
-      gate = c.self.invariant.gate;
+      claimable = c.self.invariant.claimable;
     }
 
 pub returns-then-first-available-clause-step : goal.returns-then-first-available-clause-step

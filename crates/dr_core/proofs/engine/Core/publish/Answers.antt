@@ -1,21 +1,22 @@
 use Rattle.std.proofs.Common.{◌≡◌, [], ℕ, ◌+◌, ◌-◌, ◌<◌, ◌≤◌, length, sym, ap, ◌∙◌, false, true, Bool, not, ◌&&◌, arith, None, refl, max}
 use Rattle.std.specs.Prelude.{◌==◌}
-use Rattle.std.proofs.lemmas.Bool.{and_left, and_right, eq-eqb}
+use Rattle.std.proofs.lemmas.Bool.{and_left, and_right, and_parts, eq-eqb, eqb-true, leb-true, ltb-true}
 use Rattle.dr_seq.proofs.Sizes.{size_positive}
 use Rattle.dr_core.specs.declared.command.Command.TheVariants.{Publish}
 use Rattle.dr_core.specs.declared.command.Reply.TheVariants.{Published}
 use Rattle.dr_core.specs.Shows.{IsStep}
-use Rattle.dr_core.specs.Machine.{is_single}
+use Rattle.dr_core.specs.Machine.{producers, is_single}
 use Rattle.dr_core.specs.CoreView.{CoreView, known_at}
 use Rattle.dr_core.specs.Availability.{published_after, IsNewFront, publish_fault}
 use Rattle.dr_core.specs.Inside.{view_of, kept_of}
 use Rattle.dr_core.proofs.CoreSteps.{front_whole}
 use Rattle.dr_core.proofs.Publishing.{publish_front, publish_refused, publish_order, publish_step}
 use Rattle.dr_core.proofs.Recents.{known_there, publishes_moves, publishes_known, publishes_available, front_known}
+use Rattle.dr_core.proofs.InOrder.{InOrder, claimed, next_step, next_available}
 use Rattle.dr_core.proofs.Running.{step_reached}
 use Rattle.dr_core.proofs.Writing.{near}
 use Rattle.dr_core.proofs.engine.Core.publish.Goals as goal
-use Rattle.dr_core.proofs.engine.Core.publish.Goals.{After-show-self-inside, else-is_single-via-then-is_single+else-lo-self-2, else-is_single-via-else-is_single}
+use Rattle.dr_core.proofs.engine.Core.publish.Goals.{After-show-self-inside, Then-is_next_written, else-is_single-via-then-is_single+else-lo-self-2, else-is_single-via-else-is_single}
 
 pub returns-then-lo-self-clause-step : goal.returns-then-lo-self-clause-step
 returns-then-lo-self-clause-step c =
@@ -76,10 +77,10 @@ published c =
     (front_known v (kept_of c.self.inside) (known_there c.self.inside) c.self.invariant.available c.self.invariant.whole.front some c.args.p c.args.lo c.args.hi c.show-self-inside.result c.if-lo-hi.false c.if-hi-self.false recent round refl c.if-lo-self.false (begins c) (found c))
     order)
 
-pub invariant_of-self : goal.invariant_of-self
-invariant_of-self c =
+pub invariant_of-self-2 : goal.invariant_of-self-2
+invariant_of-self-2 c =
     let v : CoreView = view_of c.self.inside in
-    let at : After-show-self-inside = (goal.at.invariant_of-self c).After-show-self-inside in
+    let at : After-show-self-inside = (goal.at.invariant_of-self-2 c).After-show-self-inside in
     let recent : v.next ≤ c.args.lo + v.setup.size = near v c.self.invariant.whole c.args.lo c.if-lo-self.false in
     let round : v.next ≤ v.front + v.setup.size = near v c.self.invariant.whole v.front (omega arith) in
     let some : 0 < v.setup.size = size_positive v.setup.size c.self.invariant.whole.size in
@@ -89,8 +90,35 @@ invariant_of-self c =
       available = rw (c.max-self-inside.ensures, c.show-self-inside.ensures.marks) (publishes_available v (kept_of c.self.inside) (known_there c.self.inside) c.self.invariant.available c.self.invariant.whole.front some c.args.p c.args.lo c.args.hi c.show-self-inside.result c.if-lo-hi.false c.if-hi-self.false recent round refl c.if-lo-self.false (begins at) (found at));
       reached = rw c.max-self-inside.ensures (step_reached (published at) c.self.invariant.reached);
       gating = c.self.invariant.gating;
-      gate = c.self.invariant.gate;
+      claimable = c.self.invariant.claimable;
     }
 
 pub returns-clause-step : goal.returns-clause-step
 returns-clause-step c = rw (← c.self.view_is) (rw c.max-self-inside.ensures (published (goal.at.returns-clause-step c).After-show-self-inside))
+
+-- what the test of the next stretch told
+in_order : (c : Then-is_next_written) → InOrder c.self.inside c.args.lo c.args.hi
+in_order c =
+    let all = and_parts _ _ (sym c.is_next_written.ensures ∙ c.if-is_next_written.true) in
+    let from = and_parts _ _ all.1 in
+    let upto = and_parts _ _ from.1 in
+    record { single = all.0; begins = eqb-true _ _ from.0; order = leb-true _ _ upto.0; written = ltb-true _ _ upto.1 }
+
+pub returns-then-is_next_written-clause-step : goal.returns-then-is_next_written-clause-step
+returns-then-is_next_written-clause-step c =
+    rw (← c.self.view_is) (next_step c.self.inside c.self.invariant c.args.p c.args.lo c.args.hi (rw c.producers.ensures at c.if-p-producers.false) (in_order (goal.at.returns-then-is_next_written-clause-step c).Then-is_next_written))
+
+pub invariant_of-self : goal.invariant_of-self
+invariant_of-self c =
+    let at : Then-is_next_written = (goal.at.invariant_of-self c).Then-is_next_written in
+    let is : InOrder c.self.inside c.args.lo c.args.hi = in_order at in
+    let producer : c.args.p < producers c.self.inside.mode = rw c.producers.ensures at c.if-p-producers.false in
+    let step = next_step c.self.inside c.self.invariant c.args.p c.args.lo c.args.hi producer is in
+    let upto : c.args.hi < c.self.inside.next = claimed c.self.inside c.self.invariant c.args.p c.args.lo c.args.hi producer is in
+    record {
+      whole = front_whole (view_of c.self.inside) (c.args.hi + 1) _ c.self.invariant.whole (let b = is.begins in let o = is.order in omega arith) (omega arith);
+      available = next_available c.self.inside c.self.invariant c.args.p c.args.lo c.args.hi producer is;
+      reached = step_reached step c.self.invariant.reached;
+      gating = c.self.invariant.gating;
+      claimable = c.self.invariant.claimable;
+    }
