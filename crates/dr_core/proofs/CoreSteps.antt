@@ -1,15 +1,14 @@
 -- A call of the core is the machine's step, on each state that the core shows.
 use Rattle.std.proofs.Common.{◌≡◌, ℕ, ◌+◌, ◌-◌, ◌<◌, ◌≤◌, ◌≢◌, inl, inr, Bool, true, false, cond, List, [], ◌∷◌, ◌++◌, arith, refl, ap, ◌∙◌, length, map, min, get_or, replicate, slice_index, slice_set}
-use Rattle.std.proofs.lemmas.Bool.{cond_both, cond-true, eqb-true, cond-false, lt-ltb, leb-false, or_from, cases_lt, lt-leb, le-ltb, ne_eqb}
+use Rattle.std.proofs.lemmas.Bool.{cond_both, cond-true, eqb-true, cond-false, or_from, cases_lt, lt-leb, le-ltb, ne_eqb}
 use Rattle.std.proofs.lemmas.List.{length-append, length-replicate, length-set, get_or_append_left, get_or-append_right, get_or-replicate}
-use Rattle.std.specs.Prelude.{nat_le, ◌==◌}
+use Rattle.std.specs.Prelude.{◌==◌}
 use Rattle.std.proofs.lemmas.List.FromFn.{get_or-map-range_with_len}
 use Rattle.dr_core.specs.declared.command.Command.{Command}
 use Rattle.dr_core.specs.declared.command.Command.TheVariants.{Claim, Complete, Halt}
 use Rattle.dr_core.specs.declared.command.Reply.{Reply}
 use Rattle.dr_core.specs.declared.command.Reply.TheVariants.{Claimed, Completed, Halting, Refused}
 use Rattle.dr_core.specs.declared.refusal.Refusal.{Refusal}
-use Rattle.dr_core.specs.declared.refusal.Refusal.TheVariants.{NoRoom}
 use Rattle.dr_seq.specs.declared.event.Event.{Event}
 use Rattle.dr_graph.specs.Graph.{IsOrderly, finals_without, least_of}
 use Rattle.dr_graph.proofs.Gating.{finals_agree, least_gates}

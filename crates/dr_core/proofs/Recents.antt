@@ -116,7 +116,6 @@ record Notes (filled : ℕ) (written : List ℕ) (size next s filled' : ℕ) (wr
   pub here : (nat_lt s filled' || is_marked written' s) ≡ true
   pub others : (k : ℕ) → k ≢ s → k < next → next ≤ k + size → (nat_lt k filled' || is_marked written' k) ≡ (nat_lt k filled || is_marked written k)
   pub len : length written' ≡ length written
-  pub rises : filled ≤ filled'
   pub upto : filled' ≤ next
   pub beyond : (k : ℕ) → next ≤ k → is_marked written' k ≡ false
 
@@ -133,7 +132,6 @@ notes_is filled written size next s filled' written' len some claimed near withi
         | inr above ↦ le-ltb k filled' (omega arith) ∙ sym (le-ltb k filled above)
       ]));
       len = ap length same;
-      rises = omega arith;
       upto = omega arith;
       beyond = λ k l. rw same (none k l);
     }
@@ -144,7 +142,6 @@ notes_is filled written size next s filled' written' len some claimed near withi
       here = or_right (nat_lt s filled') _ (rw marked (marked-in written s 1 s (omega arith) (omega arith) (omega arith) (omega arith)));
       others = λ k ne l round. rw (up, marked) (ap (λ b. nat_lt k filled || b) (marked-out written s 1 k (omega arith) (omega arith) (λ j b e. ne (omega arith))));
       len = ap length at.2 ∙ length-set written _ _;
-      rises = omega arith;
       upto = omega arith;
       beyond = λ k l. rw marked (marks_none_after written s 1 k (omega arith) (omega arith) (none k l));
     }
@@ -156,7 +153,6 @@ notes_is filled written size next s filled' written' len some claimed near withi
       here = or_left _ _ (lt-ltb s filled' (omega arith));
       others = λ k ne l round. rw (up, same);
       len = ap length same;
-      rises = omega arith;
       upto = omega arith;
       beyond = λ k l. rw same (none k l);
     }
@@ -229,7 +225,6 @@ module _ (v : CoreView) (a : Kept) (kept : (s : ℕ) → s < v.next → v.next �
     written = available.written;
     owners = owners_fit a.mode a.owners v.setup.size v.next n p available.owners;
     events = available.events;
-    front = available.front;
     filled = (let upto : a.filled ≤ v.next = available.filled in omega arith);
     unpublished = λ s after. available.unpublished s (omega arith);
     unwritten = λ s after. available.unwritten s (omega arith);
@@ -261,7 +256,6 @@ module _ (v : CoreView) (a : Kept) (kept : (s : ℕ) → s < v.next → v.next �
           written = notes.len ∙ available.written;
           owners = available.owners;
           events = length-set a.events _ x ∙ available.events;
-          front = (let old : a.front ≤ a.filled = available.front in let up : a.filled ≤ filled' = notes.rises in omega arith);
           filled = notes.upto;
           unpublished = available.unpublished;
           unwritten = notes.beyond;
@@ -321,7 +315,6 @@ module _ (v : CoreView) (a : Kept) (kept : (s : ℕ) → s < v.next → v.next �
           written = available.written;
           owners = available.owners;
           events = available.events;
-          front = omega arith;
           filled = (let upto : a.filled ≤ v.next = available.filled in let high : front' ≤ v.next = publishes_moves.high in omega arith);
           unpublished = publishes_moves.beyond;
           unwritten = available.unwritten;

@@ -1,13 +1,13 @@
 -- A retirement of the core is the machine's, and no claim waits longer for it.
 use Rattle.std.proofs.Common.{◌≡◌, ℕ, ◌+◌, ◌<◌, ◌≤◌, Bool, true, false, not, ◌||◌, List, [], inl, inr, refl, ap, sym, ◌∙◌, arith, length, get_or, slice_set, slice_index}
-use Rattle.std.specs.Prelude.{Contains, ◌==◌}
+use Rattle.std.specs.Prelude.{◌==◌}
 use Rattle.std.specs.List.{range_with_len}
 use Rattle.std.proofs.lemmas.Bool.{cases_eq, eq-eqb, ne_eqb, or_parts, not-true, not-false, lt-leb, and_parts, or_right}
 use Rattle.std.proofs.lemmas.List.{get_or_read, get_or-set_same, get_or-set_other, length-set}
 use Rattle.dr_core.specs.declared.command.Command.TheVariants.{Retire}
 use Rattle.dr_core.specs.declared.command.Reply.TheVariants.{Retired, Refused}
 use Rattle.dr_core.specs.declared.refusal.Refusal.TheVariants.{NotFinal, LastHandler}
-use Rattle.dr_graph.specs.Graph.{flagged, is_some_left, is_followed, is_final_without, finals_without}
+use Rattle.dr_graph.specs.Graph.{flagged, is_some_left, is_followed, is_final_without}
 use Rattle.dr_graph.proofs.Gating.{found_in, any_agree, followed_agree, final_left, least_rises}
 use Rattle.dr_core.specs.Machine.{State, handlers, retired_with}
 use Rattle.dr_core.specs.CoreView.{CoreView, retired_in, gate_of}

@@ -1,5 +1,5 @@
 -- What a core and a state that it shows have in common.
-use Rattle.std.proofs.Common.{◌≡◌, ℕ, List, Bool, ap}
+use Rattle.std.proofs.Common.{◌≡◌, ℕ, ap}
 use Rattle.dr_core.specs.Machine.{State, next, front}
 use Rattle.dr_core.specs.CoreView.{CoreView, retired_in}
 use Rattle.dr_core.specs.Shows.{Shows}

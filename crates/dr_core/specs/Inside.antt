@@ -47,7 +47,6 @@ pub record IsAvailable (a : Kept) (size next : ℕ) : Type 0 where
   pub written : length a.written ≡ size
   pub owners : HasOwners a.mode a.owners size
   pub events : length a.events ≡ size
-  pub front : a.front ≤ a.filled
   pub filled : a.filled ≤ next
   pub unpublished : (s : ℕ) → next ≤ s → is_ahead a.mode a.published s ≡ false
   pub unwritten : (s : ℕ) → next ≤ s → is_marked a.written s ≡ false

@@ -84,16 +84,6 @@ pub(crate) fn note(written: &mut Rounds, filled: u64, s: u64) -> u64
     filled
 }
 
-/// Whether a sequence is below the front. The next one to be written in order is not, which is told
-/// without a look at the front.
-#[inline]
-pub(crate) fn is_below(s: u64, front: u64, filled: u64) -> bool
-    requires { front ≤ filled }
-    ensures { result ≡ nat_lt s front }
-{
-    s != filled && s < front
-}
-
 /// Whether one producer wrote a stretch in order that begins at the front, and is not empty. Then
 /// nothing refuses its publication.
 #[inline]

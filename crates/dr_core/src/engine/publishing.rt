@@ -5,7 +5,7 @@ ghost use Rattle.dr_core.specs.Availability.{claim_fault as claim_fault_of, publ
 ghost use Rattle.dr_core.specs.CoreView.{known_at, gate_of};
 ghost use Rattle.dr_core.specs.Shows.{IsStep, claim_reply, unit_reply};
 
-use crate::availability::{is_ahead, is_below, is_next_written, is_written, note, own, owner_of, show};
+use crate::availability::{is_ahead, is_next_written, is_written, note, own, owner_of, show};
 use crate::command::{Claimed, Command, Reply};
 use crate::engine::Core;
 use crate::least::least_flagged;
@@ -116,7 +116,7 @@ impl Core {
         if s >= self.next {
             return Err(Refusal::NotClaimed);
         }
-        if is_below(s, self.front, self.filled) {
+        if s < self.front {
             return Err(Refusal::AlreadyPublished);
         }
         if is_ahead(self.mode, &self.published, s) {

@@ -2,7 +2,7 @@ use Rattle.std.proofs.Common.{arith, ℕ, ◌≡◌, ◌+◌, ◌-◌, [], ◌<�
 use Rattle.std.specs.Vec.{with_items}
 use Rattle.std.proofs.lemmas.List.{with_items_is}
 use Rattle.std.specs.Prelude.{◌==◌, ◌||◌, nat_lt}
-use Rattle.std.proofs.lemmas.Bool.{leb-true, or_left, or_right, eq-eqb, lt-ltb, lt-leb}
+use Rattle.std.proofs.lemmas.Bool.{or_left, or_right, eq-eqb, lt-ltb, lt-leb}
 use Rattle.dr_core.specs.declared.refusal.Refusal.TheVariants.{BadCount}
 use Rattle.dr_seq.proofs.Sizes.{size_positive}
 use Rattle.dr_core.specs.declared.mode.Mode.{Mode}

@@ -1,5 +1,5 @@
 use Rattle.dr_core.specs.Inside.{view_of}
-use Rattle.std.proofs.Common.{◌≡◌, ◌≤◌, arith}
+use Rattle.std.proofs.Common.{arith}
 use Rattle.dr_core.proofs.CoreSteps.{halt_step, halt_whole}
 use Rattle.dr_core.proofs.Gating.{final_room}
 use Rattle.dr_core.proofs.Running.{step_reached}

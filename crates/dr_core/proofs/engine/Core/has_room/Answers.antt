@@ -1,5 +1,4 @@
-use Rattle.std.proofs.Common.{◌≡◌, ℕ, ◌+◌, ◌<◌, ◌≤◌, ◌^◌, refl, ◌∙◌, Bool, List, length, map, filter, slice_index, sym, ap, arith}
-use Rattle.std.specs.Prelude.{nat_le}
+use Rattle.std.proofs.Common.{◌≡◌, ℕ, ◌+◌, ◌<◌, ◌^◌, refl, ◌∙◌, Bool, List, length, map, filter, slice_index, arith}
 use Rattle.std.specs.List.{range_with_len}
 use Rattle.dr_graph.specs.Graph.{flagged, least_of}
 use Rattle.dr_core.specs.CoreView.{CoreView, AreGating, retired_in, gate_of}

@@ -33,7 +33,6 @@ invariant_of-result c =
         written = ap length c.in_ok-written.ensures ∙ length-replicate _ _;
         owners = c.in_ok-owners.ensures;
         events = ap length c.in_ok-events.ensures ∙ length-replicate _ _;
-        front = omega arith;
         filled = omega arith;
         unpublished = λ s later. rw c.in_ok-published.ensures (none_ahead c.args.mode _ s);
         unwritten = λ s later. rw c.in_ok-written.ensures (none_marked _ s);
