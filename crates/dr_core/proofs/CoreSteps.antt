@@ -1,7 +1,7 @@
 -- A call of the core is the machine's step, on each state that the core shows.
-use Rattle.std.proofs.Common.{◌≡◌, ℕ, ◌+◌, ◌-◌, ◌<◌, ◌≤◌, ◌≢◌, inl, inr, Bool, true, false, cond, List, [], ◌∷◌, ◌++◌, arith, refl, ap, ◌∙◌, length, map, min, get_or, replicate, slice_index, slice_set}
-use Rattle.std.proofs.lemmas.Bool.{cond_both, cond-true, eqb-true, cond-false, or_from, cases_lt, lt-leb, le-ltb, ne_eqb}
-use Rattle.std.proofs.lemmas.List.{length-append, length-replicate, length-set, get_or_append_left, get_or-append_right, get_or-replicate}
+use Rattle.std.proofs.Common.{◌≡◌, ℕ, ◌+◌, ◌-◌, ◌<◌, ◌≤◌, ◌≢◌, inl, inr, true, false, cond, List, [], ◌++◌, arith, refl, ap, ◌∙◌, length, map, min, get_or, replicate, slice_index, slice_set}
+use Rattle.std.proofs.lemmas.Bool.{cond_both, eqb-true, or_from, cases_lt, lt-leb, le-ltb, ne_eqb}
+use Rattle.std.proofs.lemmas.List.{length-append, length-replicate, get_or_append_left, get_or-append_right, get_or-replicate}
 use Rattle.std.specs.Prelude.{◌==◌}
 use Rattle.std.proofs.lemmas.List.FromFn.{get_or-map-range_with_len}
 use Rattle.dr_core.specs.declared.command.Command.{Command}
@@ -10,21 +10,16 @@ use Rattle.dr_core.specs.declared.command.Reply.{Reply}
 use Rattle.dr_core.specs.declared.command.Reply.TheVariants.{Claimed, Completed, Halting, Refused}
 use Rattle.dr_core.specs.declared.refusal.Refusal.{Refusal}
 use Rattle.dr_seq.specs.declared.event.Event.{Event}
-use Rattle.dr_graph.specs.Graph.{IsOrderly, finals_without, least_of}
+use Rattle.dr_graph.specs.Graph.{finals_without, least_of}
 use Rattle.dr_graph.proofs.Gating.{finals_agree, least_gates}
-use Rattle.dr_core.specs.Refusals.{IsFirst}
-use Rattle.dr_core.specs.Machine.{Setup, State, Outcome, least_outside, handlers, producers, next, front, gating, least_completed, refusals, accepted, unless, unchanged}
+use Rattle.dr_core.specs.Machine.{Setup, State, least_outside, handlers, producers, next, front, gating, least_completed, refusals, accepted}
 use Rattle.dr_core.specs.CoreView.{Known, Nothing, ClaimedBy, CoreView, recent_of, known_at, retired_in, gate_of}
 use Rattle.dr_core.specs.Shows.{KnowsRecents, Shows, IsStep, CanComplete}
 use Rattle.dr_core.specs.Inside.{IsWhole}
 use Rattle.dr_core.proofs.Shown.{same_next, same_front, same_taken, same_completed, same_halted, same_retired}
 use Rattle.dr_core.proofs.Leasts.{IsLeast, least_is, least_one}
-use Rattle.dr_core.proofs.Sound.{set_count}
-use Rattle.dr_core.proofs.Steps.{NoneHold}
-
-unless-none : (tests : List (Bool × Refusal)) (m : State) (o : Outcome) → NoneHold tests → unless tests m o ≡ o
-unless-none [] m o h = refl
-unless-none (test ∷ tests) m o h = cond-false test.0 _ _ h.0 ∙ unless-none tests m o h.1
+use Rattle.dr_core.proofs.Sound.{orderly, set_count}
+use Rattle.dr_core.proofs.Steps.{NoneHold, Refuses, unless-none, unless-refused}
 
 -- in a state the machine accepts a command with this reply and these events, and what it leaves is shown
 pub record Accepts (c : Setup) (m : State) (command : Command) (reply : Reply) (values : List Event) (new : CoreView) : Type 0 where
@@ -46,16 +41,8 @@ accepted_step {old = old} {command = command} same named accepts =
       shown = λ m sh. rw (is m sh) (accepts m sh).shown;
     }
 
--- the first test that holds has this refusal
-abbrev pub Refuses : Refusal → List (Bool × Refusal) → Type 0
-Refuses r tests = IsFirst (λ b. b ≡ true) (λ b. b ≡ false) r tests
-
-unless-refused : (r : Refusal) (tests : List (Bool × Refusal)) (m : State) (o : _) → Refuses r tests → unless tests m o ≡ unchanged (Refused r) m
-unless-refused r [] m o h = absurd h
-unless-refused r (test ∷ tests) m o (inl h) = cond-true test.0 _ _ h.0 ∙ ap (λ x. unchanged (Refused x) m) h.1
-unless-refused r (test ∷ tests) m o (inr h) = cond-false test.0 _ _ h.0 ∙ unless-refused r tests m o h.1
-
-pub refused_step : (v : CoreView) (command : Command) (r : Refusal) → ((m : State) → Shows v m → Refuses r (refusals v.setup m command)) → IsStep v command (Refused r) [] v
+pub refused_step : (v : CoreView) (command : Command) (r : Refusal) → ((m : State) → Shows v m → Refuses r (refusals v.setup m command))
+    → IsStep v command (Refused r) [] v
 refused_step v command r refuses =
     let is = λ (m : State) (sh : Shows v m). unless-refused r (refusals v.setup m command) m (accepted v.setup m command) (refuses m sh) in
     record {
@@ -74,26 +61,11 @@ halt_step v = accepted_step refl refl (λ m sh. record {
   shown = record { counts = sh.counts; flags = λ i. record (sh.flags i) { halted = true }; recents = sh.recents };
 })
 
-pub halt_whole : (v : CoreView) → IsWhole v → IsWhole (record v { halted = true })
-halt_whole v whole = record {
-  graph = whole.graph;
-  size = whole.size;
-  limit = whole.limit;
-  taken = whole.taken;
-  completed = whole.completed;
-  retired = whole.retired;
-  left = whole.left;
-  claimed = whole.claimed;
-  front = whole.front;
-  in_front = whole.in_front;
-  took = whole.took;
-  after = whole.after;
-  room = whole.room;
-}
-
-pub complete_step : (v : CoreView) (h upto : ℕ) → CanComplete v h upto → IsStep v (Complete h upto) Completed [] (record v { completed = slice_set v.completed h upto })
+pub complete_step : (v : CoreView) (h upto : ℕ) → CanComplete v h upto
+    → IsStep v (Complete h upto) Completed [] (record v { completed = slice_set v.completed h upto })
 complete_step v h upto can = accepted_step refl refl (λ m sh. record {
-  passes = (lt-leb _ _ can.handler, (same_retired sh h ∙ can.left, (rw (same_completed sh) (le-ltb _ _ can.completed), (rw (same_taken sh) (le-ltb _ _ can.taken), tt))));
+  passes =
+      (lt-leb _ _ can.handler, (same_retired sh h ∙ can.left, (rw (same_completed sh) (le-ltb _ _ can.completed), (rw (same_taken sh) (le-ltb _ _ can.taken), tt))));
   replies = refl;
   hands_out = refl;
   shown = record { counts = λ i. record (sh.counts i) { completed = slice_set (sh.counts i).completed h upto }; flags = sh.flags; recents = sh.recents };
@@ -111,7 +83,7 @@ module _ (v : CoreView) (h upto : ℕ) (whole : IsWhole v) (can : CanComplete v 
 
   count_is : (k : ℕ) → slice_index counts k ≡ cond (k == h) upto (slice_index v.completed k)
   count_is k =
-      let len : length v.completed ≡ handlers v.setup = whole.completed in
+      let len : length v.completed ≡ handlers v.setup = whole.completed_len in
       let inside : h < handlers v.setup = can.handler in
       set_count v.completed h upto k (omega arith)
 
@@ -119,24 +91,6 @@ module _ (v : CoreView) (h upto : ℕ) (whole : IsWhole v) (can : CanComplete v 
   completed_grows k =
       rw (count_is k) (cond_both (k == h) upto (slice_index v.completed k) (λ n. slice_index v.completed k ≤ n)
       (λ y. (let e : k ≡ h = eqb-true k h y in rw e can.completed)) (λ n. omega arith))
-
-  pub complete_whole : IsWhole (record v { completed = counts })
-  complete_whole = record {
-    graph = whole.graph;
-    size = whole.size;
-    limit = whole.limit;
-    taken = whole.taken;
-    completed = length-set v.completed h upto ∙ whole.completed;
-    retired = whole.retired;
-    left = whole.left;
-    claimed = whole.claimed;
-    front = whole.front;
-    in_front = whole.in_front;
-    took = λ k. rw (count_is k) (cond_both (k == h) upto (slice_index v.completed k) (λ n. n ≤ slice_index v.taken k)
-        (λ y. (let e : k ≡ h = eqb-true k h y in rw e can.taken)) (λ n. whole.took k));
-    after = λ k u has. (let old : slice_index v.taken k ≤ slice_index v.completed u = whole.after k u has in omega (arith, completed_grows u));
-    room = λ k inside left. (let old : v.next ≤ v.setup.size + slice_index v.completed k = whole.room k inside left in omega (arith, completed_grows k));
-  }
 
 -- the owners after a claim
 owner_before : (owners : List ℕ) (n p s : ℕ) → s < length owners → slice_index (owners ++ replicate n p) s ≡ slice_index owners s
@@ -146,8 +100,10 @@ owner_after : (owners : List ℕ) (n p s : ℕ) → length owners ≤ s → s < 
 owner_after owners n p s l g = get_or-append_right owners (replicate n p) (length owners) s 0 refl l ∙ get_or-replicate n (s - length owners) p 0 (omega arith)
 
 -- a recent sequence is found among the last claimed
-pub known_at-recent : (known : ℕ → Known) (next size s : ℕ) → s < next → next ≤ s + size → get_or (recent_of known next size) (s - (next - size)) Nothing ≡ known s
-known_at-recent known next size s claimed near = get_or-map-range_with_len known (next - size) (min next size) (s - (next - size)) s Nothing (omega arith) (omega arith)
+pub known_at-recent : (known : ℕ → Known) (next size s : ℕ) → s < next → next ≤ s + size
+    → get_or (recent_of known next size) (s - (next - size)) Nothing ≡ known s
+known_at-recent known next size s claimed near =
+    get_or-map-range_with_len known (next - size) (min next size) (s - (next - size)) s Nothing (omega arith) (omega arith)
 
 -- what a claim leaves known: the fresh sequences are claimed, and of the others as much as before
 pub record ClaimsKnown (v : CoreView) (p n : ℕ) (known : ℕ → Known) : Type 0 where
@@ -176,7 +132,8 @@ module _ (v : CoreView) (p n : ℕ) (known : ℕ → Known) (knows : ClaimsKnown
       })
 
   claimed_recents : n ≤ v.setup.size → (m : State) → Shows v m
-      → KnowsRecents v.setup.size (v.next + n) (known_at (record v { next = v.next + n; recent = recent_of known (v.next + n) v.setup.size })) (m.owners ++ replicate n p) m.published m.written
+      → KnowsRecents v.setup.size (v.next + n) (known_at (record v { next = v.next + n; recent = recent_of known (v.next + n) v.setup.size }))
+      (m.owners ++ replicate n p) m.published m.written
   claimed_recents fits m sh =
       let here : length m.owners ≡ v.next = same_next sh in
       record {
@@ -192,20 +149,19 @@ module _ (v : CoreView) (p n : ℕ) (known : ℕ → Known) (knows : ClaimsKnown
       → v.next + n ≤ v.setup.size + gate_of v
       → IsStep v (Claim p n) (Claimed v.next (v.next + n - 1)) [] (record v { next = v.next + n; recent = recent_of known (v.next + n) v.setup.size })
   claim_step producer some fits going limit room = accepted_step refl refl (λ m sh. let here : next m ≡ v.next = same_next sh in record {
-    passes =
+    passes = (
+      lt-leb _ _ producer,
+      (
+        or_from _ _ (ne_eqb n 0 some) (le-ltb _ _ fits),
         (
-          lt-leb _ _ producer,
+          same_halted sh ∙ going,
           (
-            or_from _ _ (ne_eqb n 0 some) (le-ltb _ _ fits),
-            (
-              same_halted sh ∙ going,
-              (
-                rw here (le-ltb _ _ limit),
-                (rw (here, gate_same v m sh) (le-ltb _ _ room), tt),
-              ),
-            ),
+            rw here (le-ltb _ _ limit),
+            (rw (here, gate_same v m sh) (le-ltb _ _ room), tt),
           ),
-        );
+        ),
+      ),
+    );
     replies = rw here;
     hands_out = refl;
     shown = record {
@@ -215,40 +171,7 @@ module _ (v : CoreView) (p n : ℕ) (known : ℕ → Known) (knows : ClaimsKnown
     };
   })
 
--- no handler completed more than an upstream
-pub orderly : (v : CoreView) → IsWhole v → IsOrderly v.setup.upstreams (λ h. slice_index v.completed h)
-orderly v whole h u has = (let a : slice_index v.completed h ≤ slice_index v.taken h = whole.took h in let b : slice_index v.taken h ≤ slice_index v.completed u = whole.after h u has in omega arith)
-
 -- the least of the finals' counts is the least of all that are left
 pub finals_least : (v : CoreView) → IsWhole v → (h : ℕ) → h < handlers v.setup → retired_in v h ≡ false → gate_of v ≤ slice_index v.completed h
-finals_least v whole h inside left = least_gates v.setup.upstreams whole.graph.gate (retired_in v) (λ k. slice_index v.completed k) (orderly v whole) h inside left
-
--- sequences are claimed within the limit and the room, and published within what is claimed; what is known of the recent ones is no part of it
-counts_whole : (v : CoreView) (next' front' : ℕ) (recent : List Known) → IsWhole v → next' ≤ v.setup.limit → ((h : ℕ) → h < handlers v.setup → retired_in v h ≡ false → next' ≤ v.setup.size + slice_index v.completed h) → v.front ≤ front' → front' ≤ next'
-    → IsWhole (record v { next = next'; front = front'; recent = recent })
-counts_whole v next' front' recent whole limit room up low = record {
-  graph = whole.graph;
-  size = whole.size;
-  limit = whole.limit;
-  taken = whole.taken;
-  completed = whole.completed;
-  retired = whole.retired;
-  left = whole.left;
-  claimed = limit;
-  front = low;
-  in_front = λ h. (let a : slice_index v.taken h ≤ v.front = whole.in_front h in omega arith);
-  took = whole.took;
-  after = whole.after;
-  room = room;
-}
-
-pub claim_whole : (v : CoreView) (n : ℕ) (recent : List Known) → IsWhole v → v.next + n ≤ v.setup.limit → v.next + n ≤ v.setup.size + gate_of v
-    → IsWhole (record v { next = v.next + n; recent = recent })
-claim_whole v n recent whole limit room =
-    let front : v.front ≤ v.next = whole.front in
-    counts_whole v (v.next + n) v.front recent whole limit
-    (λ h inside left. (let l : gate_of v ≤ slice_index v.completed h = finals_least v whole h inside left in omega arith))
-    (omega arith) (omega arith)
-
-pub front_whole : (v : CoreView) (front' : ℕ) (recent : List Known) → IsWhole v → v.front ≤ front' → front' ≤ v.next → IsWhole (record v { front = front'; recent = recent })
-front_whole v front' recent whole up low = counts_whole v v.next front' recent whole whole.claimed whole.room up low
+finals_least v whole h inside left =
+    least_gates v.setup.upstreams whole.graph.gate (retired_in v) (λ k. slice_index v.completed k) (orderly whole.order) h inside left

@@ -8,7 +8,7 @@ use Rattle.dr_core.specs.declared.command.Command.{Command}
 use Rattle.dr_core.specs.declared.command.Command.TheVariants.{Claim, Write, Publish, Poll, Complete, Halt, Retire}
 use Rattle.dr_core.specs.declared.command.Reply.TheVariants.{Claimed, Drained, Gating, Idle}
 use Rattle.dr_graph.proofs.Gating.{finals_agree, finals_gate, found_in, least_rises}
-use Rattle.dr_graph.specs.Graph.{IsLayered, IsOrderly}
+use Rattle.dr_graph.specs.Graph.{IsLayered}
 use Rattle.dr_core.specs.Machine.{Setup, State, Outcome, handlers, next, front, available, gate, gating, retired_with, least_completed, refusals, accepted, unchanged, step, batch, cursor, opening}
 use Rattle.dr_core.specs.Transcript.{Entry, Transcript, LeadsFrom, LeadsTo, next_of, is_published, front_of, taken_by, completed_by, retired_by}
 use Rattle.dr_core.specs.Tells.{Tells}
@@ -16,7 +16,7 @@ use Rattle.dr_core.specs.Laws.{ReceivedInOrder, AfterUpstreams, HasRoom, NoClaim
 use Rattle.dr_core.proofs.Leasts.{least_is, least_agree, least_of-member}
 use Rattle.dr_core.proofs.Steps.{NoneHold, unless-cases}
 use Rattle.dr_core.proofs.Tells.{tells_more}
-use Rattle.dr_core.proofs.Sound.{IsSound, entry_of, step_changes, set_count}
+use Rattle.dr_core.proofs.Sound.{IsSound, orderly, entry_of, step_changes, set_count}
 use Rattle.dr_core.proofs.Keeps.{opening_sound, step_sound, zeros}
 
 -- the machine is in this state after this transcript
@@ -42,12 +42,15 @@ opening_reached c = record {
 }
 
 -- an entry is the machine's where it has its reply and values
-same_entry : (c : Setup) (m : State) (e : Entry) → (step c m e.command).reply ≡ e.reply → (step c m e.command).values ≡ e.values → entry_of e.command (step c m e.command) ≡ e
+same_entry : (c : Setup) (m : State) (e : Entry) → (step c m e.command).reply ≡ e.reply → (step c m e.command).values ≡ e.values
+    → entry_of e.command (step c m e.command) ≡ e
 same_entry c m e r v = rw (r, v)
 
-reached_more : (c : Setup) (t : Transcript) (m : State) (e : Entry) → Reached c t m → (step c m e.command).reply ≡ e.reply → (step c m e.command).values ≡ e.values → Reached c (t ++ e ∷ []) (step c m e.command).state
+reached_more : (c : Setup) (t : Transcript) (m : State) (e : Entry) → Reached c t m → (step c m e.command).reply ≡ e.reply
+    → (step c m e.command).values ≡ e.values → Reached c (t ++ e ∷ []) (step c m e.command).state
 reached_more c t m e at r v =
-    let told : Tells (t ++ entry_of e.command (step c m e.command) ∷ []) (step c m e.command).state = tells_more t m _ _ at.tells (step_changes c m e.command at.sound) in
+    let told : Tells (t ++ entry_of e.command (step c m e.command) ∷ []) (step c m e.command).state =
+    tells_more t m _ _ at.tells (step_changes c m e.command at.sound) in
     record { sound = step_sound c m e.command at.sound; tells = rw (same_entry c m e r v) at told }
 
 pub reached_from : (c : Setup) (t es : Transcript) (m n : State) → Reached c t m → LeadsFrom c m es n → Reached c (t ++ es) n
@@ -60,13 +63,16 @@ pub reached : (c : Setup) (t : Transcript) (m : State) → LeadsTo c t m → Rea
 reached c t m h = reached_from c [] t (opening c) m (opening_reached c) h
 
 -- a transcript leads through a state at each of its beginnings
-pub leads_through : (c : Setup) (start rest : Transcript) (m n : State) → LeadsFrom c m (start ++ rest) n → (between : State) × LeadsFrom c m start between × LeadsFrom c between rest n
+pub leads_through : (c : Setup) (start rest : Transcript) (m n : State) → LeadsFrom c m (start ++ rest) n
+    → (between : State) × LeadsFrom c m start between × LeadsFrom c between rest n
 leads_through c [] rest m n h = (m, refl, h)
 leads_through c (e ∷ es) rest m n h =
-    let r : (between : State) × LeadsFrom c (step c m e.command).state es between × LeadsFrom c between rest n = leads_through c es rest (step c m e.command).state n h.2 in
+    let r : (between : State) × LeadsFrom c (step c m e.command).state es between × LeadsFrom c between rest n =
+    leads_through c es rest (step c m e.command).state n h.2 in
     (r.0, (h.0, h.1, r.1), r.2)
 
-pub leads_append : (c : Setup) (start rest : Transcript) (m between n : State) → LeadsFrom c m start between → LeadsFrom c between rest n → LeadsFrom c m (start ++ rest) n
+pub leads_append : (c : Setup) (start rest : Transcript) (m between n : State) → LeadsFrom c m start between → LeadsFrom c between rest n
+    → LeadsFrom c m (start ++ rest) n
 leads_append c [] rest m between n a b = rw a b
 leads_append c (e ∷ es) rest m between n a b = (a.0, a.1, leads_append c es rest (step c m e.command).state between n a.2 b)
 
@@ -84,7 +90,9 @@ receives c t m at h =
     }
 
 -- what holds of an accepted poll in each of its four cases
-poll_cases : (c : Setup) (m : State) (h limit : ℕ) (P : Outcome → Type 0) → P (batch c m h limit) → (m.halted ≡ true → slice_index m.taken h ≡ next m → P (unchanged Drained m)) → P (unchanged Gating m) → P (unchanged Idle m) → P (accepted c m (Poll h limit))
+poll_cases : (c : Setup) (m : State) (h limit : ℕ) (P : Outcome → Type 0) → P (batch c m h limit)
+    → (m.halted ≡ true → slice_index m.taken h ≡ next m → P (unchanged Drained m)) → P (unchanged Gating m) → P (unchanged Idle m)
+    → P (accepted c m (Poll h limit))
 poll_cases c m h limit P b d g i =
     cond_both (nat_lt (slice_index m.taken h) (available c m h)) _ _ P
     (λ y. b)
@@ -92,10 +100,10 @@ poll_cases c m h limit P b d g i =
     (λ y. let both : (m.halted ≡ true) × ((slice_index m.taken h == next m) ≡ true) = and_parts _ _ y in d both.0 (eqb-true _ _ both.1))
     (λ n'. cond_both (nat_lt (slice_index m.taken h) (cursor c m)) _ _ P (λ y. g) (λ n''. i)))
 
-abbrev Rises : State → ℕ → Outcome → Type 0
+abbrev pub Rises : State → ℕ → Outcome → Type 0
 Rises m h o = slice_index m.completed h ≤ slice_index o.state.completed h
 
-accepted_rises : (c : Setup) (m : State) (command : Command) (h : ℕ) → IsSound c m → NoneHold (refusals c m command) → Rises m h (accepted c m command)
+pub accepted_rises : (c : Setup) (m : State) (command : Command) (h : ℕ) → IsSound c m → NoneHold (refusals c m command) → Rises m h (accepted c m command)
 accepted_rises c m (Claim p n) h sound none = omega arith
 accepted_rises c m (Write p s v) h sound none = omega arith
 accepted_rises c m (Publish p lo hi) h sound none = omega arith
@@ -104,16 +112,20 @@ accepted_rises c m (Complete at upto) h sound none =
     let inside : at < handlers c = grind (arith, nat_tests, none.0) in
     let up : slice_index m.completed at ≤ upto = grind (arith, nat_tests, none.1.1.0) in
     let len : at < length m.completed = (let e : length m.completed ≡ handlers c = sound.completed_len in omega arith) in
-    rw (set_count m.completed at upto h len) (cond_both (h == at) upto (slice_index m.completed h) (λ n. slice_index m.completed h ≤ n) (λ y. (let e : h ≡ at = eqb-true h at y in rw e up)) (λ n. omega arith))
+    rw (set_count m.completed at upto h len)
+    (cond_both (h == at) upto (slice_index m.completed h) (λ n. slice_index m.completed h ≤ n) (λ y. (let e : h ≡ at = eqb-true h at y in rw e up))
+    (λ n. omega arith))
 accepted_rises c m Halt h sound none = omega arith
 accepted_rises c m (Retire at) h sound none = omega arith
 
 step_rises : (c : Setup) (m : State) (command : Command) (h : ℕ) → IsSound c m → Rises m h (step c m command)
-step_rises c m command h sound = unless-cases (Rises m h) (refusals c m command) m (accepted c m command) (λ r. omega arith) (accepted_rises c m command h sound)
+step_rises c m command h sound =
+    unless-cases (Rises m h) (refusals c m command) m (accepted c m command) (λ r. omega arith) (accepted_rises c m command h sound)
 
 -- an accepted claim has room, and comes before a halt
 abbrev ClaimsInRoom : Setup → State → Outcome → Type 0
-ClaimsInRoom c m o = (lo hi : ℕ) → o.reply ≡ Claimed lo hi → (m.halted ≡ false) × ((f : ℕ) → Contains (gating c m) f → hi + 1 ≤ c.size + slice_index m.completed f)
+ClaimsInRoom c m o =
+    (lo hi : ℕ) → o.reply ≡ Claimed lo hi → (m.halted ≡ false) × ((f : ℕ) → Contains (gating c m) f → hi + 1 ≤ c.size + slice_index m.completed f)
 
 claimed_end : (lo hi a b : ℕ) → Claimed a b ≡ Claimed lo hi → hi ≡ b
 claimed_end lo hi a b e = cc
@@ -122,12 +134,16 @@ accepted_room : (c : Setup) (m : State) (command : Command) → NoneHold (refusa
 accepted_room c m (Claim p n) none lo hi e =
     let ends : hi ≡ next m + n - 1 = claimed_end lo hi (next m) (next m + n - 1) e in
     let ne : n ≢ 0 = eqb-false n 0 (or_parts _ _ none.1.0).0 in
-    let room : next m + n ≤ c.size + least_completed m (gating c m) = grind (arith, nat_tests, none.1.1.1.1.0) in
-    (none.1.1.0, λ f has. (let l : least_completed m (gating c m) ≤ slice_index m.completed f = least_of-member (λ h. slice_index m.completed h) (gating c m) f has in omega arith))
+    let room : next m + n ≤ c.size + least_completed m (gating c m) = grind (arith, nat_tests, none.1.1.1.1.0) in (
+      none.1.1.0,
+      λ f has. (let l : least_completed m (gating c m) ≤ slice_index m.completed f = least_of-member (λ h. slice_index m.completed h) (gating c m) f has in
+          omega arith),
+    )
 accepted_room c m (Write p s v) none lo hi e = cc
 accepted_room c m (Publish p a b) none lo hi e = cc
 accepted_room c m (Poll at limit) none lo hi e =
-    poll_cases c m at limit (λ o. o.reply ≡ Claimed lo hi → (m.halted ≡ false) × ((f : ℕ) → Contains (gating c m) f → hi + 1 ≤ c.size + slice_index m.completed f))
+    poll_cases c m at limit
+    (λ o. o.reply ≡ Claimed lo hi → (m.halted ≡ false) × ((f : ℕ) → Contains (gating c m) f → hi + 1 ≤ c.size + slice_index m.completed f))
     (λ x. cc) (λ a b x. cc) (λ x. cc) (λ x. cc) e
 accepted_room c m (Complete at upto) none lo hi e = cc
 accepted_room c m Halt none lo hi e = cc
@@ -150,13 +166,16 @@ rises_along : (c : Setup) (es : Transcript) (m n : State) (h : ℕ) → IsSound 
 rises_along c [] m n h sound leads = rw leads (omega arith)
 rises_along c (e ∷ es) m n h sound leads =
     let one : slice_index m.completed h ≤ slice_index (step c m e.command).state.completed h = step_rises c m e.command h sound in
-    let others : slice_index (step c m e.command).state.completed h ≤ slice_index n.completed h = rises_along c es (step c m e.command).state n h (step_sound c m e.command sound) leads.2 in
+    let others : slice_index (step c m e.command).state.completed h ≤ slice_index n.completed h =
+    rises_along c es (step c m e.command).state n h (step_sound c m e.command sound) leads.2 in
     omega arith
 
-rises : (c : Setup) (t : Transcript) (m : State) → LeadsTo c t m → (h : ℕ) (earlier since : Transcript) → earlier ++ since ≡ t → completed_by earlier h ≤ completed_by t h
+rises : (c : Setup) (t : Transcript) (m : State) → LeadsTo c t m → (h : ℕ) (earlier since : Transcript) → earlier ++ since ≡ t
+    → completed_by earlier h ≤ completed_by t h
 rises c t m leads h earlier since is =
     let whole : LeadsFrom c (opening c) (earlier ++ since) m = rw is leads in
-    let through : (between : State) × LeadsFrom c (opening c) earlier between × LeadsFrom c between since m = leads_through c earlier since (opening c) m whole in
+    let through : (between : State) × LeadsFrom c (opening c) earlier between × LeadsFrom c between since m =
+    leads_through c earlier since (opening c) m whole in
     let before : Reached c earlier through.0 = reached c earlier through.0 through.1 in
     let after : Reached c t m = reached c t m leads in
     let a : completed_by earlier h ≡ slice_index through.0.completed h = before.tells.completed h in
@@ -170,15 +189,20 @@ follows c t m leads h =
     let took : taken_by t h ≡ slice_index m.taken h = at.tells.taken h in
     record {
       rises = rises c t m leads h;
-      took = (let a : completed_by t h ≡ slice_index m.completed h = at.tells.completed h in let l : slice_index m.completed h ≤ slice_index m.taken h = at.sound.took h in omega arith);
-      after = λ u k. (let a : completed_by t u ≡ slice_index m.completed u = at.tells.completed u in let l : slice_index m.taken h ≤ slice_index m.completed u = at.sound.after h u k in omega arith);
+      took = (let a : completed_by t h ≡ slice_index m.completed h = at.tells.completed h in
+          let l : slice_index m.completed h ≤ slice_index m.taken h = at.sound.took h in
+          omega arith);
+      after = λ u k. (let a : completed_by t u ≡ slice_index m.completed u = at.tells.completed u in
+          let l : slice_index m.taken h ≤ slice_index m.completed u = at.sound.after h u k in
+          omega arith);
     }
 
 module _ (c : Setup) (t : Transcript) (m : State) (e : Entry) (at : Reached c t m) (r : (step c m e.command).reply ≡ e.reply) where
   room : HasRoom c t e
   room lo hi f claimed has =
       let a : completed_by t f ≡ slice_index m.completed f = at.tells.completed f in
-      let l : hi + 1 ≤ c.size + slice_index m.completed f = (step_room c m e.command lo hi (r ∙ claimed)).1 f (rw (finals_agree c.upstreams (retired_by t) m.retired at.tells.retired) at has) in
+      let l : hi + 1 ≤ c.size + slice_index m.completed f =
+      (step_room c m e.command lo hi (r ∙ claimed)).1 f (rw (finals_agree c.upstreams (retired_by t) m.retired at.tells.retired) at has) in
       omega arith
 
   unhalted : NoClaimAfterHalt t e
@@ -210,16 +234,23 @@ through c t m leads start rest is = leads_through c start rest (opening c) m (rw
 -- every transcript that leads to a state from the opening is lawful
 pub lawful : (c : Setup) (t : Transcript) (m : State) → LeadsTo c t m → Laws c t
 lawful c t m leads = record {
-  received_in_order = λ start rest is h inside. (let r : Through c start rest m = through c t m leads start rest is in receives c start r.0 (reached c start r.0 r.1) h);
+  received_in_order = λ start rest is h inside. (let r : Through c start rest m = through c t m leads start rest is in
+      receives c start r.0 (reached c start r.0 r.1) h);
   after_upstreams = λ start rest is h inside. (let r : Through c start rest m = through c t m leads start rest is in follows c start r.0 r.1 h);
-  has_room = λ start rest e is. (let r : Through c start (e ∷ rest) m = through c t m leads start (e ∷ rest) is in room c start r.0 e (reached c start r.0 r.1) r.2.0);
-  no_claim_after_halt = λ start rest e is. (let r : Through c start (e ∷ rest) m = through c t m leads start (e ∷ rest) is in unhalted c start r.0 e (reached c start r.0 r.1) r.2.0);
-  drained_is_complete = λ start rest e is. (let r : Through c start (e ∷ rest) m = through c t m leads start (e ∷ rest) is in drains c start r.0 e (reached c start r.0 r.1) r.2.0);
+  has_room = λ start rest e is. (let r : Through c start (e ∷ rest) m = through c t m leads start (e ∷ rest) is in
+      room c start r.0 e (reached c start r.0 r.1) r.2.0);
+  no_claim_after_halt = λ start rest e is. (let r : Through c start (e ∷ rest) m = through c t m leads start (e ∷ rest) is in
+      unhalted c start r.0 e (reached c start r.0 r.1) r.2.0);
+  drained_is_complete = λ start rest e is. (let r : Through c start (e ∷ rest) m = through c t m leads start (e ∷ rest) is in
+      drains c start r.0 e (reached c start r.0 r.1) r.2.0);
 }
 
--- no handler of a state completed more than an upstream
-sound_orderly : (c : Setup) (m : State) → IsSound c m → IsOrderly c.upstreams (λ h. slice_index m.completed h)
-sound_orderly c m sound h u has = (let a : slice_index m.completed h ≤ slice_index m.taken h = sound.took h in let b : slice_index m.taken h ≤ slice_index m.completed u = sound.after h u has in omega arith)
+-- a handler that may retire leaves another
+pub leaves_another : (c : Setup) (m : State) (h : ℕ) → NoneHold (refusals c m (Retire h)) → (k : ℕ) × (k < handlers c) × (retired_with m h k ≡ false)
+leaves_another c m h none =
+    let at : (k : ℕ) × (0 ≤ k) × (k < 0 + handlers c) × (not (retired_with m h k) ≡ true) =
+    found_in (λ k. not (retired_with m h k)) 0 (handlers c) (not-false _ none.1.1.1.0) in
+    (at.0, omega (arith, at.2), not-true _ at.3)
 
 -- no retirement lowers the count that a claim is gated by
 pub retirement_keeps : (c : Setup) (t : Transcript) (m : State) (h : ℕ) → IsLayered c.upstreams → LeadsTo c t m → gate c m ≤ gate c (step c m (Retire h)).state
@@ -227,5 +258,6 @@ retirement_keeps c t m h layered leads =
     let sound : IsSound c m = (reached c t m leads).sound in
     unless-cases (λ o. gate c m ≤ gate c o.state) (refusals c m (Retire h)) m (accepted c m (Retire h)) (λ r. omega arith)
     (λ none.
-    let at : (k : ℕ) × (0 ≤ k) × (k < 0 + handlers c) × (not (retired_with m h k) ≡ true) = found_in (λ k. not (retired_with m h k)) 0 (handlers c) (not-false _ none.1.1.1.0) in
-    least_rises c.upstreams (finals_gate c.upstreams layered) m.retired (retired_with m h) (λ k here. (or_parts _ _ here).0) (λ k. slice_index m.completed k) (sound_orderly c m sound) at.0 (omega (arith, at.2)) (not-true _ at.3))
+    let other : (k : ℕ) × (k < handlers c) × (retired_with m h k ≡ false) = leaves_another c m h none in
+    least_rises c.upstreams (finals_gate c.upstreams layered) m.retired (retired_with m h) (λ k here. (or_parts _ _ here).0)
+    (λ k. slice_index m.completed k) (orderly sound.order) other.0 other.1 other.2)

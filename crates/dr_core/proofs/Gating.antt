@@ -17,7 +17,8 @@ use Rattle.dr_core.specs.Machine.{State, producers, next, gate, refusals}
 use Rattle.dr_core.specs.Shows.{Shows, IsStep}
 use Rattle.dr_core.specs.Availability.{claim_fault}
 use Rattle.dr_core.specs.Inside.{IsWhole, IsClaimable}
-use Rattle.dr_core.proofs.CoreSteps.{Refuses, refused_step, finals_least, gate_same}
+use Rattle.dr_core.proofs.Steps.{Refuses}
+use Rattle.dr_core.proofs.CoreSteps.{refused_step, finals_least, gate_same}
 use Rattle.dr_core.proofs.Shown.{same_next, same_halted}
 use Rattle.dr_core.proofs.Leasts.{least_of-member}
 

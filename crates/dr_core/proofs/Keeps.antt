@@ -10,18 +10,19 @@ use Rattle.dr_core.specs.declared.command.Command.TheVariants.{Claim, Write, Pub
 use Rattle.dr_seq.specs.declared.event.Event.{Event}
 use Rattle.dr_graph.specs.Graph.{upstreams_of}
 use Rattle.dr_core.specs.Machine.{Setup, State, Outcome, handlers, next, front, available, offered, refusals, accepted, step, batch, publish_faults, cursor, opening}
+use Rattle.dr_core.specs.Inside.{AreInOrder}
 use Rattle.dr_core.proofs.Leasts.{least_grows, least_of-member}
 use Rattle.dr_core.proofs.Steps.{NoneHold, NoneHold-append, unless-cases}
-use Rattle.dr_core.proofs.Sound.{AreTaken, IsSound, set_count, count_of, within, reach}
+use Rattle.dr_core.proofs.Sound.{IsSound, set_count, count_of, within, reach}
 
 -- the front moves on
-front_on : (c : Setup) (old new : ℕ) (taken completed : List ℕ) → old ≤ new → AreTaken c old taken completed → AreTaken c new taken completed
-front_on c old new taken completed on counts = record {
-  taken_len = counts.taken_len;
-  completed_len = counts.completed_len;
-  in_front = λ h. (let l : slice_index taken h ≤ old = counts.in_front h in omega arith);
-  took = counts.took;
-  after = counts.after;
+front_on : (c : Setup) (old new : ℕ) (taken completed : List ℕ) → old ≤ new → AreInOrder c old taken completed → AreInOrder c new taken completed
+front_on c old new taken completed on order = record {
+  taken_len = order.taken_len;
+  completed_len = order.completed_len;
+  in_front = λ h. (let l : slice_index taken h ≤ old = order.in_front h in omega arith);
+  took = order.took;
+  after = order.after;
 }
 
 claim_sound : (c : Setup) (m : State) (p n : ℕ) → IsSound c m → IsSound c (accepted c m (Claim p n)).state
@@ -29,7 +30,9 @@ claim_sound c m p n sound =
     let more : next m ≤ length (m.owners ++ replicate n p) = rw length-append (omega arith) in
     record {
       marks = record { claimed = λ s h. (let l : s < next m = sound.claimed s h in omega arith); written = sound.written };
-      counts = front_on c (front m) _ m.taken m.completed (least_grows m.published m.published (next m) (length (m.owners ++ replicate n p)) more (λ k y. y)) sound.counts;
+      order =
+          front_on c (front m) _ m.taken m.completed
+          (least_grows m.published m.published (next m) (length (m.owners ++ replicate n p)) more (λ k y. y)) sound.order;
     }
 
 write_sound : (c : Setup) (m : State) (p at : ℕ) (v : Event) → IsSound c m → IsSound c (accepted c m (Write p at v)).state
@@ -38,11 +41,12 @@ write_sound c m p at v sound = record {
     claimed = sound.claimed;
     written = λ s h. cond_both (s == at) (Some v) (m.written s) (λ w. is_none w ≡ false) (λ y. refl) (λ n. sound.written s h);
   };
-  counts = sound.counts;
+  order = sound.order;
 }
 
 -- no sequence of the stretch is at fault
-each_written : (m : State) (p lo n : ℕ) → NoneHold (flat_map (publish_faults m p) (range_with_len lo n)) → (s : ℕ) → lo ≤ s → s < lo + n → is_none (m.written s) ≡ false
+each_written : (m : State) (p lo n : ℕ) → NoneHold (flat_map (publish_faults m p) (range_with_len lo n)) → (s : ℕ) → lo ≤ s → s < lo + n
+    → is_none (m.written s) ≡ false
 each_written m p lo zero h s a b = absurd (omega arith)
 each_written m p lo (suc n) h s a b =
     elim (cases_eq s lo) [
@@ -50,7 +54,8 @@ each_written m p lo (suc n) h s a b =
       | inr ne ↦ each_written m p (lo + 1) n h.1.1.1 s (omega arith) (omega arith)
     ]
 
-publish_sound : (c : Setup) (m : State) (p lo hi : ℕ) → IsSound c m → NoneHold (refusals c m (Publish p lo hi)) → IsSound c (accepted c m (Publish p lo hi)).state
+publish_sound : (c : Setup) (m : State) (p lo hi : ℕ) → IsSound c m → NoneHold (refusals c m (Publish p lo hi))
+    → IsSound c (accepted c m (Publish p lo hi)).state
 publish_sound c m p lo hi sound none =
     let in_claimed : hi < next m = grind (arith, nat_tests, none.1.1.0) in
     let order : lo ≤ hi = grind (arith, nat_tests, none.1.0) in
@@ -67,10 +72,13 @@ publish_sound c m p lo hi sound none =
               each_written m p lo (hi + 1 - lo) stretch s (grind (arith, nat_tests, b.0)) (let u : s ≤ hi = grind (arith, nat_tests, b.1) in omega arith))
         ];
       };
-      counts = front_on c (front m) _ m.taken m.completed (least_grows m.published (λ k. m.published k || (nat_le lo k && nat_le k hi)) (next m) (next m) (omega arith) (λ k y. rw y)) sound.counts;
+      order =
+          front_on c (front m) _ m.taken m.completed
+          (least_grows m.published (λ k. m.published k || (nat_le lo k && nat_le k hi)) (next m) (next m) (omega arith) (λ k y. rw y)) sound.order;
     }
 
-complete_sound : (c : Setup) (m : State) (at upto : ℕ) → IsSound c m → NoneHold (refusals c m (Complete at upto)) → IsSound c (accepted c m (Complete at upto)).state
+complete_sound : (c : Setup) (m : State) (at upto : ℕ) → IsSound c m → NoneHold (refusals c m (Complete at upto))
+    → IsSound c (accepted c m (Complete at upto)).state
 complete_sound c m at upto sound none =
     let inside : at < handlers c = grind (arith, nat_tests, none.0) in
     let len : at < length m.completed = (let e : length m.completed ≡ handlers c = sound.completed_len in omega arith) in
@@ -78,7 +86,7 @@ complete_sound c m at upto sound none =
     let low : upto ≤ slice_index m.taken at = grind (arith, nat_tests, none.1.1.1.0) in
     record {
       marks = sound.marks;
-      counts = record {
+      order = record {
         taken_len = sound.taken_len;
         completed_len = length-set m.completed at upto ∙ sound.completed_len;
         in_front = sound.in_front;
@@ -96,17 +104,19 @@ offered_after : (m : State) (ups : List ℕ) (u : ℕ) → Contains ups u → of
 offered_after m [] u has = absurd (let l : has.0 < 0 = has.1 in omega arith)
 offered_after m (x ∷ xs) u has = least_of-member (λ h. slice_index m.completed h) (x ∷ xs) u has
 
-batch_sound : (c : Setup) (m : State) (at limit : ℕ) → IsSound c m → at < handlers c → slice_index m.taken at < available c m at → IsSound c (batch c m at limit).state
+batch_sound : (c : Setup) (m : State) (at limit : ℕ) → IsSound c m → at < handlers c → slice_index m.taken at < available c m at
+    → IsSound c (batch c m at limit).state
 batch_sound c m at limit sound inside more =
     let len : at < length m.taken = within c m at limit sound inside in
     let to : slice_index m.taken at + count_of c m at limit ≤ front m = reach c m at limit sound inside more in
     let upto : ℕ = slice_index m.taken at + count_of c m at limit in
     record {
       marks = sound.marks;
-      counts = record {
+      order = record {
         taken_len = length-set m.taken at upto ∙ sound.taken_len;
         completed_len = sound.completed_len;
-        in_front = λ h. rw (set_count m.taken at upto h len) (cond_both (h == at) upto (slice_index m.taken h) (λ n. n ≤ front m) (λ y. to) (λ n. sound.in_front h));
+        in_front =
+            λ h. rw (set_count m.taken at upto h len) (cond_both (h == at) upto (slice_index m.taken h) (λ n. n ≤ front m) (λ y. to) (λ n. sound.in_front h));
         took = λ h. rw (set_count m.taken at upto h len)
             (let old : slice_index m.completed h ≤ slice_index m.taken h = sound.took h in
             cond_both (h == at) upto (slice_index m.taken h) (λ n. slice_index m.completed h ≤ n)
@@ -132,11 +142,12 @@ accepted_sound c m (Write p s v) sound none = write_sound c m p s v sound
 accepted_sound c m (Publish p lo hi) sound none = publish_sound c m p lo hi sound none
 accepted_sound c m (Poll h limit) sound none = poll_sound c m h limit sound none
 accepted_sound c m (Complete h upto) sound none = complete_sound c m h upto sound none
-accepted_sound c m Halt sound none = record { marks = sound.marks; counts = sound.counts }
-accepted_sound c m (Retire h) sound none = record { marks = sound.marks; counts = sound.counts }
+accepted_sound c m Halt sound none = record { marks = sound.marks; order = sound.order }
+accepted_sound c m (Retire h) sound none = record { marks = sound.marks; order = sound.order }
 
 pub step_sound : (c : Setup) (m : State) (command : Command) → IsSound c m → IsSound c (step c m command).state
-step_sound c m command sound = unless-cases (λ o. IsSound c o.state) (refusals c m command) m (accepted c m command) (λ r. sound) (accepted_sound c m command sound)
+step_sound c m command sound =
+    unless-cases (λ o. IsSound c o.state) (refusals c m command) m (accepted c m command) (λ r. sound) (accepted_sound c m command sound)
 
 pub zeros : (n h : ℕ) → slice_index (replicate n 0) h ≡ 0
 zeros zero h = refl
@@ -146,7 +157,7 @@ zeros (suc n) (suc h) = zeros n h
 pub opening_sound : (c : Setup) → IsSound c (opening c)
 opening_sound c = record {
   marks = record { claimed = λ s h. absurd (false≢true h); written = λ s h. absurd (false≢true h) };
-  counts = record {
+  order = record {
     taken_len = length-replicate _ 0;
     completed_len = length-replicate _ 0;
     in_front = λ h. rw (zeros (handlers c) h) (omega arith);

@@ -7,7 +7,9 @@ pub mod Sound
 pub mod Keeps
 pub mod FiveLaws
 pub mod Stamped
+pub mod Bounds
 pub mod Shown
+pub mod Whole
 pub mod CoreSteps
 pub mod Writing
 pub mod Publishing

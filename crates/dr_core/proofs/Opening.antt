@@ -1,16 +1,15 @@
 -- A new core shows the opening.
-use Rattle.std.proofs.Common.{◌≡◌, ℕ, zero, suc, Bool, ◌≤◌, ◌^◌, List, [], arith, refl, ap, sym, ◌∙◌, length, replicate, false}
+use Rattle.std.proofs.Common.{◌≡◌, ℕ, zero, suc, Bool, List, [], arith, refl, ap, sym, ◌∙◌, length, replicate, false}
 use Rattle.std.proofs.lemmas.List.{length-replicate}
-use Rattle.dr_seq.specs.Size.{IsSize}
 use Rattle.dr_graph.specs.Name.{Name}
 use Rattle.dr_core.specs.Machine.{Setup, handlers, opening, least_outside}
-use Rattle.dr_graph.specs.Graph.{IsGraph, flagged}
+use Rattle.dr_graph.specs.Graph.{flagged}
 use Rattle.dr_core.specs.CoreView.{Known, CoreView}
 use Rattle.dr_core.specs.Shows.{Shows}
 use Rattle.dr_core.specs.Runs.{IsReached}
-use Rattle.dr_core.specs.Inside.{IsWhole}
-use Rattle.dr_core.proofs.Keeps.{zeros}
 use Rattle.dr_core.proofs.Running.{run_none}
+use Rattle.dr_core.proofs.Whole.{reached_whole}
+use Rattle.dr_core.specs.Inside.{IsSetup, IsWhole}
 
 -- where no flag is set, nobody is told
 unflagged : (n h : ℕ) → flagged (replicate n false) h ≡ false
@@ -22,7 +21,9 @@ unflagged (suc n) (suc h) = unflagged n h
 abbrev pub new_core : Setup → List Name → List Known → List ℕ → List ℕ → List Bool → CoreView
 new_core c names recent taken completed retired = record { setup = c; names = names; next = 0; front = 0; taken = taken; completed = completed; halted = false; retired = retired; recent = recent }
 
-module _ (c : Setup) (names : List Name) (recent : List Known) (taken completed : List ℕ) (retired : List Bool) (none_taken : taken ≡ replicate (handlers c) 0) (none_completed : completed ≡ replicate (handlers c) 0) (none_retired : retired ≡ replicate (handlers c) false) where
+module _ (c : Setup) (names : List Name) (recent : List Known) (taken completed : List ℕ) (retired : List Bool)
+    (none_taken : taken ≡ replicate (handlers c) 0) (none_completed : completed ≡ replicate (handlers c) 0)
+    (none_retired : retired ≡ replicate (handlers c) false) where
   pub opening_shows : Shows (new_core c names recent taken completed retired) (opening c)
   unfolding least_outside
   opening_shows = record {
@@ -31,22 +32,9 @@ module _ (c : Setup) (names : List Name) (recent : List Known) (taken completed 
     recents = record { recent = λ s l r. absurd (omega arith); unclaimed = λ s l. (refl, refl) };
   }
 
-  pub opening_reached : IsReached (new_core c names recent taken completed retired)
+  opening_reached : IsReached (new_core c names recent taken completed retired)
   opening_reached = record { transcript = []; runs = run_none c [] (opening c) (new_core c names recent taken completed retired) refl opening_shows }
 
-  pub opening_whole : IsGraph c.upstreams → IsSize c.size → c.limit ≤ 2 ^ 62 → IsWhole (new_core c names recent taken completed retired)
-  opening_whole graph size limit = record {
-    graph = graph;
-    size = size;
-    limit = limit;
-    taken = ap length none_taken ∙ length-replicate _ 0;
-    completed = ap length none_completed ∙ length-replicate _ 0;
-    retired = ap length none_retired ∙ length-replicate _ false;
-    left = (0, graph.some, ap (λ (flags : List Bool). flagged flags 0) none_retired ∙ unflagged (handlers c) 0);
-    claimed = omega arith;
-    front = omega arith;
-    in_front = λ h. rw (none_taken, zeros (handlers c) h) (omega arith);
-    took = λ h. rw (none_completed, zeros (handlers c) h) (omega arith);
-    after = λ h u has. rw (none_taken, zeros (handlers c) h) (omega arith);
-    room = λ h inside left. omega arith;
-  }
+  pub opening_whole : IsSetup c → IsWhole (new_core c names recent taken completed retired)
+  opening_whole setup =
+      reached_whole (new_core c names recent taken completed retired) setup (ap length none_retired ∙ length-replicate _ false) opening_reached

@@ -2,8 +2,7 @@
 use Rattle.std.proofs.Common.{◌≡◌, ℕ, zero, suc, ◌+◌, ◌-◌, ◌<◌, ◌≤◌, ◌≢◌, inl, inr, min, Bool, true, false, ◌&&◌, List, [], ◌∷◌, ◌++◌, arith, refl, ap, sym, ◌∙◌, length, map, slice_index, slice_set, get_or, take, drop, Option}
 use Rattle.std.specs.Prelude.{◌==◌, nat_le, nat_lt, unwrap_or, if◌then◌else◌, Contains}
 use Rattle.std.specs.List.{range_with_len}
-use Rattle.std.proofs.lemmas.Bool.{cond_both, cond-true, cond-false, cases_Bool, false≢true, cases_eq, cases_lt, lt-leb, lt-ltb, le-ltb, ne_eqb, eq-eqb, and_from}
-use Rattle.std.proofs.lemmas.List.{length-set}
+use Rattle.std.proofs.lemmas.Bool.{cond-true, cond-false, cases_Bool, false≢true, cases_eq, cases_lt, lt-leb, lt-ltb, le-ltb, ne_eqb, eq-eqb, and_from}
 use Rattle.dr_core.specs.declared.command.Command.TheVariants.{Poll}
 use Rattle.dr_core.specs.declared.command.Reply.{Reply}
 use Rattle.dr_core.specs.declared.command.Reply.TheVariants.{Batch, Drained, Gating, Idle}
@@ -25,8 +24,7 @@ use Rattle.dr_core.specs.Inside.{IsWhole}
 use Rattle.dr_core.proofs.CoreSteps.{accepted_step}
 use Rattle.dr_core.proofs.Shown.{same_next, same_front, same_taken, same_completed, same_halted, same_retired}
 use Rattle.dr_core.proofs.Leasts.{least_of-le, least_of-member}
-use Rattle.std.proofs.lemmas.Bool.{eqb-true, leb-false}
-use Rattle.dr_core.proofs.Sound.{set_count}
+use Rattle.std.proofs.lemmas.Bool.{leb-false}
 use Rattle.dr_core.proofs.Writing.{below_front}
 use Rattle.std.specs.Prelude.{All}
 use Rattle.std.proofs.lemmas.List.Elements.{Contains-get_or}
@@ -41,7 +39,8 @@ offered_same v m sh (u ∷ us) = ap (λ cs. least_of (map (λ h. slice_index cs 
 offered_front : (v : CoreView) → IsWhole v → (ups : List ℕ) → offered_to v ups ≤ v.front
 offered_front v whole [] = omega arith
 offered_front v whole (u ∷ us) =
-    let a : least_of (map (λ h. slice_index v.completed h) (u ∷ us)) ≤ slice_index v.completed u = least_of-le (map (λ h. slice_index v.completed h) (u ∷ us)) 0 (omega arith) in
+    let a : least_of (map (λ h. slice_index v.completed h) (u ∷ us)) ≤ slice_index v.completed u =
+    least_of-le (map (λ h. slice_index v.completed h) (u ∷ us)) 0 (omega arith) in
     let b : slice_index v.completed u ≤ slice_index v.taken u = whole.took u in
     let d : slice_index v.taken u ≤ v.front = whole.in_front u in
     omega arith
@@ -51,7 +50,8 @@ offered_upstream v [] u has = absurd (let l : has.0 < 0 = has.1 in omega arith)
 offered_upstream v (x ∷ xs) u has = least_of-member (λ h. slice_index v.completed h) (x ∷ xs) u has
 
 -- of a published sequence the event is known
-known_value : (known : Known) (o : ℕ) (b : Bool) (w : Option Event) → b ≡ true → Agrees known o b w → (is_shown known ≡ true) × (value_of known ≡ unwrap_or w no_event)
+known_value : (known : Known) (o : ℕ) (b : Bool) (w : Option Event) → b ≡ true → Agrees known o b w
+    → (is_shown known ≡ true) × (value_of known ≡ unwrap_or w no_event)
 known_value Nothing o b w y h = absurd h
 known_value (ClaimedBy q) o b w y h = absurd (false≢true (sym h.1 ∙ y))
 known_value (WrittenBy q event) o b w y h = absurd (false≢true (sym h.1 ∙ y))
@@ -59,10 +59,13 @@ known_value (PublishedWith event) o b w y h = (refl, ap (λ x. unwrap_or x no_ev
 
 map_same : (f g : ℕ → Event) (a n : ℕ) → ((k : ℕ) → a ≤ k → k < a + n → f k ≡ g k) → map f (range_with_len a n) ≡ map g (range_with_len a n)
 map_same f g a zero h = refl
-map_same f g a (suc n) h = (let e : f a ≡ g a = h a (omega arith) (omega arith) in let r : map f (range_with_len (a + 1) n) ≡ map g (range_with_len (a + 1) n) = map_same f g (a + 1) n (λ k x y. h k (omega arith) (omega arith)) in cc)
+map_same f g a (suc n) h = (let e : f a ≡ g a = h a (omega arith) (omega arith) in
+    let r : map f (range_with_len (a + 1) n) ≡ map g (range_with_len (a + 1) n) = map_same f g (a + 1) n (λ k x y. h k (omega arith) (omega arith)) in
+    cc)
 
 cursor_same : (v : CoreView) (m : State) → Shows v m → cursor v.setup m ≡ (if is_single v.setup.mode then v.front else v.next)
-cursor_same v m sh = ap (λ f. if is_single v.setup.mode then f else next m) (same_front sh) ∙ ap (λ n. if is_single v.setup.mode then v.front else n) (same_next sh)
+cursor_same v m sh =
+    ap (λ f. if is_single v.setup.mode then f else next m) (same_front sh) ∙ ap (λ n. if is_single v.setup.mode then v.front else n) (same_next sh)
 
 module _ (v : CoreView) (h limit : ℕ) (whole : IsWhole v) (inside : h < handlers v.setup) (left : retired_in v h ≡ false) (some : limit ≢ 0) where
   none : (m : State) → Shows v m → (nat_le (handlers v.setup) h ≡ false) × ((m.retired h ≡ false) × (((limit == 0) ≡ false) × Unit {0}))
@@ -82,7 +85,9 @@ module _ (v : CoreView) (h limit : ℕ) (whole : IsWhole v) (inside : h < handle
 
   module _ (all : offered_to v (upstreams_of v.setup.upstreams h) ≤ slice_index v.taken h) where
     no_batch : (m : State) → Shows v m → nat_lt (slice_index m.taken h) (available v.setup m h) ≡ false
-    no_batch m sh = (let e : available v.setup m h ≡ offered_to v (upstreams_of v.setup.upstreams h) = same m sh in let t : slice_index m.taken h ≡ slice_index v.taken h = ap (λ ts. slice_index ts h) (same_taken sh) in le-ltb _ _ (omega arith))
+    no_batch m sh = (let e : available v.setup m h ≡ offered_to v (upstreams_of v.setup.upstreams h) = same m sh in
+        let t : slice_index m.taken h ≡ slice_index v.taken h = ap (λ ts. slice_index ts h) (same_taken sh) in
+        le-ltb _ _ (omega arith))
 
     pub drained_step : v.halted ≡ true → slice_index v.taken h ≡ v.next → IsStep v (Poll h limit) Drained [] v
     drained_step halted last =
@@ -92,13 +97,15 @@ module _ (v : CoreView) (h limit : ℕ) (whole : IsWhole v) (inside : h < handle
     stays : (v.halted && (slice_index v.taken h == v.next)) ≡ false → (m : State) → Shows v m → (m.halted && (slice_index m.taken h == next m)) ≡ false
     stays more m sh = (let e : next m ≡ v.next = same_next sh in rw (same_halted sh, same_taken sh, e) more)
 
-    pub gating_step : (v.halted && (slice_index v.taken h == v.next)) ≡ false → slice_index v.taken h < (if is_single v.setup.mode then v.front else v.next) → IsStep v (Poll h limit) Gating [] v
+    pub gating_step : (v.halted && (slice_index v.taken h == v.next)) ≡ false
+        → slice_index v.taken h < (if is_single v.setup.mode then v.front else v.next) → IsStep v (Poll h limit) Gating [] v
     gating_step more l =
         quiet_step Gating
         (λ m sh. let ahead : nat_lt (slice_index m.taken h) (cursor v.setup m) ≡ true = (let c : cursor v.setup m ≡ (if is_single v.setup.mode then v.front else v.next) = cursor_same v m sh in rw (c, same_taken sh) (lt-ltb _ _ l)) in
         cond-false _ _ _ (no_batch m sh) ∙ cond-false _ _ _ (stays more m sh) ∙ cond-true _ _ _ ahead)
 
-    pub idle_step : (v.halted && (slice_index v.taken h == v.next)) ≡ false → (if is_single v.setup.mode then v.front else v.next) ≤ slice_index v.taken h → IsStep v (Poll h limit) Idle [] v
+    pub idle_step : (v.halted && (slice_index v.taken h == v.next)) ≡ false
+        → (if is_single v.setup.mode then v.front else v.next) ≤ slice_index v.taken h → IsStep v (Poll h limit) Idle [] v
     idle_step more l =
         quiet_step Idle
         (λ m sh. let ahead : nat_lt (slice_index m.taken h) (cursor v.setup m) ≡ false = (let c : cursor v.setup m ≡ (if is_single v.setup.mode then v.front else v.next) = cursor_same v m sh in rw (c, same_taken sh) (le-ltb _ _ l)) in
@@ -106,13 +113,20 @@ module _ (v : CoreView) (h limit : ℕ) (whole : IsWhole v) (inside : h < handle
 
   module _ (more : slice_index v.taken h < offered_to v (upstreams_of v.setup.upstreams h)) where
     is_batch : (m : State) → Shows v m → accepted v.setup m (Poll h limit) ≡ batch v.setup m h limit
-    is_batch m sh = (let e : available v.setup m h ≡ offered_to v (upstreams_of v.setup.upstreams h) = same m sh in let t : slice_index m.taken h ≡ slice_index v.taken h = ap (λ ts. slice_index ts h) (same_taken sh) in let l : slice_index m.taken h < available v.setup m h = omega arith in cond-true (nat_lt (slice_index m.taken h) (available v.setup m h)) _ _ (lt-ltb _ _ l))
+    is_batch m sh = (let e : available v.setup m h ≡ offered_to v (upstreams_of v.setup.upstreams h) = same m sh in
+        let t : slice_index m.taken h ≡ slice_index v.taken h = ap (λ ts. slice_index ts h) (same_taken sh) in
+        let l : slice_index m.taken h < available v.setup m h = omega arith in
+        cond-true (nat_lt (slice_index m.taken h) (available v.setup m h)) _ _ (lt-ltb _ _ l))
 
-    taken_shows : (first count : ℕ) (m : State) → Shows v m → Shows (record v { taken = slice_set v.taken h (first + count) }) (record m { taken = slice_set m.taken h (first + count) })
+    taken_shows : (first count : ℕ) (m : State) → Shows v m
+        → Shows (record v { taken = slice_set v.taken h (first + count) }) (record m { taken = slice_set m.taken h (first + count) })
     taken_shows first count m sh = record { counts = λ i. record (sh.counts i) { taken = slice_set (sh.counts i).taken h (first + count) }; flags = sh.flags; recents = sh.recents }
 
-    pub batch_step : (first count to : ℕ) (event : ℕ → Event) → ((k : ℕ) → k < v.next → v.next ≤ k + v.setup.size → is_shown (known_at v k) ≡ true → event k ≡ value_of (known_at v k)) → first ≡ slice_index v.taken h → to ≡ offered_to v (upstreams_of v.setup.upstreams h) → count ≡ min (to - first) limit
-        → IsStep v (Poll h limit) (Batch first count (first + count == to)) (map event (range_with_len first count)) (record v { taken = slice_set v.taken h (first + count) })
+    pub batch_step : (first count to : ℕ) (event : ℕ → Event)
+        → ((k : ℕ) → k < v.next → v.next ≤ k + v.setup.size → is_shown (known_at v k) ≡ true → event k ≡ value_of (known_at v k))
+        → first ≡ slice_index v.taken h → to ≡ offered_to v (upstreams_of v.setup.upstreams h) → count ≡ min (to - first) limit
+        → IsStep v (Poll h limit) (Batch first count (first + count == to)) (map event (range_with_len first count))
+        (record v { taken = slice_set v.taken h (first + count) })
     batch_step first count to event holds a b d =
         accepted_step refl refl (λ m sh.
         let t : slice_index m.taken h ≡ first = first_is m sh in
@@ -133,32 +147,9 @@ module _ (v : CoreView) (h limit : ℕ) (whole : IsWhole v) (inside : h < handle
             let n : v.front ≤ v.next = whole.front in
             let r : v.next ≤ v.setup.size + slice_index v.completed h = whole.room h inside left in
             let c : slice_index v.completed h ≤ slice_index v.taken h = whole.took h in
-            let there : (is_shown (known_at v k) ≡ true) × (value_of (known_at v k) ≡ unwrap_or (m.written k) no_event) = known_value (known_at v k) _ _ _ (below_front v m sh k (omega arith)) (sh.recent k (omega arith) (omega arith)) in
+            let there : (is_shown (known_at v k) ≡ true) × (value_of (known_at v k) ≡ unwrap_or (m.written k) no_event) =
+            known_value (known_at v k) _ _ _ (below_front v m sh k (omega arith)) (sh.recent k (omega arith) (omega arith)) in
             sym (holds k (omega arith) (omega arith) there.0 ∙ there.1))
-
-    pub batch_whole : (count : ℕ) → slice_index v.taken h + count ≤ offered_to v (upstreams_of v.setup.upstreams h) → IsWhole (record v { taken = slice_set v.taken h (slice_index v.taken h + count) })
-    batch_whole count le =
-        let len : h < length v.taken = (let e : length v.taken ≡ handlers v.setup = whole.taken in omega arith) in
-        let f : offered_to v (upstreams_of v.setup.upstreams h) ≤ v.front = offered_front v whole (upstreams_of v.setup.upstreams h) in
-        record {
-          graph = whole.graph;
-          size = whole.size;
-          limit = whole.limit;
-          taken = length-set v.taken h (slice_index v.taken h + count) ∙ whole.taken;
-          completed = whole.completed;
-          retired = whole.retired;
-          left = whole.left;
-          claimed = whole.claimed;
-          front = whole.front;
-          in_front = λ k. rw (set_count v.taken h (slice_index v.taken h + count) k len) (cond_both (k == h) (slice_index v.taken h + count) (slice_index v.taken k) (λ n. n ≤ v.front) (λ y. omega arith) (λ n. whole.in_front k));
-          took = λ k. rw (set_count v.taken h (slice_index v.taken h + count) k len) (cond_both (k == h) (slice_index v.taken h + count) (slice_index v.taken k) (λ n. slice_index v.completed k ≤ n)
-              (λ y. (let e : k ≡ h = eqb-true k h y in let o : slice_index v.completed h ≤ slice_index v.taken h = whole.took h in rw e (omega arith))) (λ n. whole.took k));
-          after = λ k u has. rw (set_count v.taken h (slice_index v.taken h + count) k len) (cond_both (k == h) (slice_index v.taken h + count) (slice_index v.taken k) (λ n. n ≤ slice_index v.completed u)
-              (λ y. (let e : k ≡ h = eqb-true k h y in let o : offered_to v (upstreams_of v.setup.upstreams k) ≤ slice_index v.completed u = offered_upstream v (upstreams_of v.setup.upstreams k) u has in
-              let o2 : offered_to v (upstreams_of v.setup.upstreams h) ≤ slice_index v.completed u = rw e at o in omega arith))
-              (λ n. whole.after k u has));
-          room = whole.room;
-        }
 
 -- of some upstreams it is their least count
 pub offered_some : (v : CoreView) (ups : List ℕ) → 0 < length ups → least_of (map (λ h. slice_index v.completed h) ups) ≡ offered_to v ups
@@ -169,14 +160,23 @@ offered_some v (u ∷ us) l = refl
 upstream_within : (graph : List (List ℕ)) → IsGraph graph → (h u : ℕ) → Contains (upstreams_of graph h) u → u < length graph
 upstream_within graph is h u has = elim (cases_lt h (length graph)) [
   | inl inside ↦ (let below : u < h = is.layered h u has in omega arith)
-  | inr outside ↦ absurd (let none : upstreams_of graph h ≡ [] = get_or_past graph h [] outside in let l : has.0 < length (upstreams_of graph h) = has.1 in let z : length (upstreams_of graph h) ≡ 0 = ap length none in omega arith)
+  | inr outside ↦ absurd (let none : upstreams_of graph h ≡ [] = get_or_past graph h [] outside in
+      let l : has.0 < length (upstreams_of graph h) = has.1 in
+      let z : length (upstreams_of graph h) ≡ 0 = ap length none in
+      omega arith)
 ]
 
 pub ups_within : (v : CoreView) → IsWhole v → (h : ℕ) (ups : List ℕ) → ups ≡ upstreams_of v.setup.upstreams h → All (λ u. u < length v.completed) ups
-ups_within v whole h ups is = rw is (λ k d l. let e : length v.completed ≡ handlers v.setup = whole.completed in let w : get_or (upstreams_of v.setup.upstreams h) k d < handlers v.setup = upstream_within v.setup.upstreams whole.graph h (get_or (upstreams_of v.setup.upstreams h) k d) (Contains-get_or (upstreams_of v.setup.upstreams h) k d l) in omega arith)
+ups_within v whole h ups is =
+    rw is (λ k d l.
+    let e : length v.completed ≡ handlers v.setup = whole.completed_len in
+    let ups : List ℕ = upstreams_of v.setup.upstreams h in
+    let w : get_or ups k d < handlers v.setup = upstream_within v.setup.upstreams whole.graph h (get_or ups k d) (Contains-get_or ups k d l) in
+    omega arith)
 
 -- more room than the size gives no more
-step_capped : (v : CoreView) (m : State) (h limit : ℕ) → IsWhole v → Shows v m → step v.setup m (Poll h limit) ≡ step v.setup m (Poll h (min limit v.setup.size))
+step_capped : (v : CoreView) (m : State) (h limit : ℕ) → IsWhole v → Shows v m
+    → step v.setup m (Poll h limit) ≡ step v.setup m (Poll h (min limit v.setup.size))
 step_capped v m h limit whole sh =
     elim (cases_Bool (nat_le (handlers v.setup) h)) [
       | inl y ↦ cond-true _ _ _ y ∙ sym (cond-true _ _ _ y)
@@ -191,7 +191,8 @@ step_capped v m h limit whole sh =
             let front : offered_to v (upstreams_of v.setup.upstreams h) ≤ v.front = offered_front v whole (upstreams_of v.setup.upstreams h) in
             let claimed : v.front ≤ v.next = whole.front in
             let first : slice_index m.taken h ≡ slice_index v.taken h = ap (λ ts. slice_index ts h) (same_taken sh) in
-            let count : min (available v.setup m h - slice_index m.taken h) limit ≡ min (available v.setup m h - slice_index m.taken h) (min limit v.setup.size) = omega arith in
+            let count : min (available v.setup m h - slice_index m.taken h) limit ≡ min (available v.setup m h - slice_index m.taken h) (min limit v.setup.size) =
+            omega arith in
             let zero : (limit == 0) ≡ (min limit v.setup.size == 0) = elim (cases_eq limit 0) [
               | inl e ↦ eq-eqb _ _ e ∙ sym (eq-eqb _ _ (let z : min limit v.setup.size ≡ 0 = omega arith in z))
               | inr ne ↦ ne_eqb _ _ ne ∙ sym (ne_eqb _ _ (let z : min limit v.setup.size ≢ 0 = omega arith in z))
@@ -200,7 +201,8 @@ step_capped v m h limit whole sh =
       ]
     ]
 
-pub capped_step : (v w : CoreView) (h limit : ℕ) (reply : Reply) (values : List Event) → IsWhole v → IsStep v (Poll h (min limit v.setup.size)) reply values w → IsStep v (Poll h limit) reply values w
+pub capped_step : (v w : CoreView) (h limit : ℕ) (reply : Reply) (values : List Event) → IsWhole v
+    → IsStep v (Poll h (min limit v.setup.size)) reply values w → IsStep v (Poll h limit) reply values w
 capped_step v w h limit reply values whole is = record {
   same_setup = is.same_setup;
   same_names = is.same_names;
@@ -209,7 +211,8 @@ capped_step v w h limit reply values whole is = record {
   shown = λ m sh. rw (step_capped v m h limit whole sh) (is.shown m sh);
 }
 
-polled-is : (r : Result Polled Refusal) (sub rest : List Event) → count_in (poll_reply r) ≤ length sub → polled r sub ≡ take (count_in (poll_reply r)) (sub ++ rest)
+polled-is : (r : Result Polled Refusal) (sub rest : List Event) → count_in (poll_reply r) ≤ length sub
+    → polled r sub ≡ take (count_in (poll_reply r)) (sub ++ rest)
 polled-is (Ok (answer.Batch first count end)) sub rest l = sym (take-append-le count sub rest l)
 polled-is (Ok answer.Drained) sub rest l = refl
 polled-is (Ok answer.Gating) sub rest l = refl
@@ -217,7 +220,8 @@ polled-is (Ok answer.Idle) sub rest l = refl
 polled-is (Err r) sub rest l = refl
 
 -- what a poll into the front of a buffer answers
-pub poll_front : (v w : CoreView) (h limit k : ℕ) (r : Result Polled Refusal) (sub out : List Event) → IsWhole v → k ≡ min limit v.setup.size → min limit v.setup.size ≤ length out → length sub ≡ length (take k out)
+pub poll_front : (v w : CoreView) (h limit k : ℕ) (r : Result Polled Refusal) (sub out : List Event) → IsWhole v → k ≡ min limit v.setup.size
+    → min limit v.setup.size ≤ length out → length sub ≡ length (take k out)
     → count_in (poll_reply r) ≤ length (take k out) → IsStep v (Poll h (length (take k out))) (poll_reply r) (polled r sub) w
     → IsStep v (Poll h limit) (poll_reply r) (take (count_in (poll_reply r)) (sub ++ drop k out)) w
 poll_front v w h limit k r sub out whole is room same fits step =
@@ -226,7 +230,8 @@ poll_front v w h limit k r sub out whole is room same fits step =
     capped_step v w h limit (poll_reply r) (take (count_in (poll_reply r)) (sub ++ drop k out)) whole (rw values at (rw len at step))
 
 -- what is ready on each state that the core shows
-pub ready_is : (v : CoreView) (h n to first : ℕ) → n ≡ to - first → to ≡ offered_to v (upstreams_of v.setup.upstreams h) → first ≡ slice_index v.taken h → (m : State) → Shows v m → n ≡ available v.setup m h - slice_index m.taken h
+pub ready_is : (v : CoreView) (h n to first : ℕ) → n ≡ to - first → to ≡ offered_to v (upstreams_of v.setup.upstreams h)
+    → first ≡ slice_index v.taken h → (m : State) → Shows v m → n ≡ available v.setup m h - slice_index m.taken h
 ready_is v h n to first a b d m sh =
     let e : available v.setup m h ≡ offered_to v (upstreams_of v.setup.upstreams h) = offered_same v m sh (upstreams_of v.setup.upstreams h) in
     let t : slice_index m.taken h ≡ slice_index v.taken h = ap (λ ts. slice_index ts h) (same_taken sh) in
@@ -241,7 +246,8 @@ pub record PollsAt (v : CoreView) (h limit first to : ℕ) : Type 0 where
   pub taken : first ≡ slice_index v.taken h
   pub offered : to ≡ offered_to v (upstreams_of v.setup.upstreams h)
 
-pub polls_at : (v : CoreView) (h limit count first to : ℕ) → IsWhole v → count ≡ handlers v.setup → h < count → retired_in v h ≡ false → limit ≢ 0 → first ≡ get_or v.taken h first → to ≡ offered_to v (upstreams_of v.setup.upstreams h) → PollsAt v h limit first to
+pub polls_at : (v : CoreView) (h limit count first to : ℕ) → IsWhole v → count ≡ handlers v.setup → h < count → retired_in v h ≡ false → limit ≢ 0
+    → first ≡ get_or v.taken h first → to ≡ offered_to v (upstreams_of v.setup.upstreams h) → PollsAt v h limit first to
 polls_at v h limit count first to whole counted inside left some read offered =
-    let taken : length v.taken ≡ handlers v.setup = whole.taken in
+    let taken : length v.taken ≡ handlers v.setup = whole.taken_len in
     record { whole = whole; inside = omega arith; left = left; some = some; taken = get_or_read v.taken h first (omega arith) read 0; offered = offered }

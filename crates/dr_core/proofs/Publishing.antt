@@ -16,17 +16,10 @@ use Rattle.dr_core.specs.Shows.{KnowsRecents, Shows, Agrees, IsStep}
 use Rattle.dr_core.specs.Inside.{IsWhole}
 use Rattle.dr_core.proofs.Shown.{same_next, same_front}
 use Rattle.dr_core.proofs.Leasts.{least_is, least_one}
-use Rattle.dr_core.proofs.Causes.{none_join, first_left, first_right, none_of_stretch, first_of_stretch}
-use Rattle.dr_core.proofs.Steps.{NoneHold}
-use Rattle.dr_core.proofs.CoreSteps.{Refuses, refused_step, accepted_step, known_at-recent}
+use Rattle.dr_core.proofs.Causes.{first_left, first_right, first_of_stretch}
+use Rattle.dr_core.proofs.Steps.{IsHolding, IsFailing, NoneHold, NoneHold-join, NoneHold-stretch, Refuses}
+use Rattle.dr_core.proofs.CoreSteps.{refused_step, accepted_step, known_at-recent}
 use Rattle.dr_core.proofs.Writing.{below_front, near, disowned, owned, unwritten_refused}
-
--- the machine knows of each test whether it holds
-abbrev IsHolding : Bool → Type 0
-IsHolding b = b ≡ true
-
-abbrev IsFailing : Bool → Type 0
-IsFailing b = b ≡ false
 
 -- the tests of one sequence
 abbrev tests_of : ℕ → ℕ → Bool → Option Event → List (Bool × Refusal)
@@ -38,18 +31,23 @@ no_fault (ClaimedBy q) p o b w h e = absurd (unwritten_refused (q == p) e)
 no_fault (WrittenBy q event) p o b w h e = (h.1, (ap not (ap (λ k. k == p) h.0 ∙ owned (q == p) NotClaimed e), (ap is_none h.2, tt)))
 no_fault (PublishedWith event) p o b w h e = absurd (let f : ◌≡◌ {A = Option Refusal} (Some AlreadyPublished) None = e in cc)
 
-a_fault : (known : Known) (p o : ℕ) (b : Bool) (w : Option Event) (r : Refusal) → Agrees known o b w → publish_fault known p ≡ Some r → Refuses r (tests_of p o b w)
+a_fault : (known : Known) (p o : ℕ) (b : Bool) (w : Option Event) (r : Refusal) → Agrees known o b w → publish_fault known p ≡ Some r
+    → Refuses r (tests_of p o b w)
 a_fault Nothing p o b w r h e = absurd h
 a_fault (ClaimedBy q) p o b w r h e = elim (cases_Bool (q == p)) [
-  | inl y ↦ (let f : ◌≡◌ {A = Option Refusal} (Some NotWritten) (Some r) = rw y at e in inr (h.1, inr (ap not (ap (λ k. k == p) h.0 ∙ y), inl (ap is_none h.2, cc))))
+  | inl y ↦ (let f : ◌≡◌ {A = Option Refusal} (Some NotWritten) (Some r) = rw y at e in
+      inr (h.1, inr (ap not (ap (λ k. k == p) h.0 ∙ y), inl (ap is_none h.2, cc))))
   | inr n ↦ (let f : ◌≡◌ {A = Option Refusal} (Some NotClaimed) (Some r) = rw n at e in inr (h.1, inl (ap not (ap (λ k. k == p) h.0 ∙ n), cc)))
 ]
-a_fault (WrittenBy q event) p o b w r h e = let d : ((q == p) ≡ false) × (NotClaimed ≡ r) = disowned (q == p) NotClaimed r e in inr (h.1, inl (ap not (ap (λ k. k == p) h.0 ∙ d.0), d.1))
+a_fault (WrittenBy q event) p o b w r h e =
+    let d : ((q == p) ≡ false) × (NotClaimed ≡ r) = disowned (q == p) NotClaimed r e in inr (h.1, inl (ap not (ap (λ k. k == p) h.0 ∙ d.0), d.1))
 a_fault (PublishedWith event) p o b w r h e = inl (h.0, (let f : ◌≡◌ {A = Option Refusal} (Some AlreadyPublished) (Some r) = e in cc))
 
 module _ (v : CoreView) (p lo hi : ℕ) (whole : IsWhole v) (producer : p < producers v.setup.mode) (order : lo ≤ hi) (claimed : hi < v.next) where
   -- the tests before those of the stretch
-  past : (m : State) → Shows v m → (r : Refusal) → Refuses r (flat_map (publish_faults m p) (range_with_len lo (hi + 1 - lo)) ++ (is_single v.setup.mode && not (lo == front m), OutOfOrder) ∷ []) → Refuses r (refusals v.setup m (Publish p lo hi))
+  past : (m : State) → Shows v m → (r : Refusal)
+      → Refuses r (flat_map (publish_faults m p) (range_with_len lo (hi + 1 - lo)) ++ (is_single v.setup.mode && not (lo == front m), OutOfOrder) ∷ [])
+      → Refuses r (refusals v.setup m (Publish p lo hi))
   past m sh r h = inr (lt-leb _ _ producer, inr (le-ltb _ _ order, inr ((let n : next m ≡ v.next = same_next sh in rw n (lt-leb _ _ claimed)), h)))
 
   pub publish_front : lo < v.front → IsStep v (Publish p lo hi) (Refused AlreadyPublished) [] v
@@ -57,10 +55,12 @@ module _ (v : CoreView) (p lo hi : ℕ) (whole : IsWhole v) (producer : p < prod
       refused_step v (Publish p lo hi) AlreadyPublished (λ m sh. past m sh AlreadyPublished
       (first_left IsHolding IsFailing AlreadyPublished (flat_map (publish_faults m p) (range_with_len lo (hi + 1 - lo))) _ (first_of_stretch IsHolding IsFailing (publish_faults m p) lo (hi + 1 - lo) 0 AlreadyPublished (omega arith) (λ j l. absurd (omega arith)) (rw add-zero (inl (below_front v m sh lo old, refl))))))
 
-  there : v.front ≤ lo → (m : State) → Shows v m → (k : ℕ) → k < hi + 1 - lo → Agrees (known_at v (lo + k)) (slice_index m.owners (lo + k)) (m.published (lo + k)) (m.written (lo + k))
+  there : v.front ≤ lo → (m : State) → Shows v m → (k : ℕ) → k < hi + 1 - lo
+      → Agrees (known_at v (lo + k)) (slice_index m.owners (lo + k)) (m.published (lo + k)) (m.written (lo + k))
   there fresh m sh k l = sh.recent (lo + k) (omega arith) (near v whole (lo + k) (omega arith))
 
-  pub publish_refused : v.front ≤ lo → (r : Refusal) (k : ℕ) → k < hi + 1 - lo → ((j : ℕ) → j < k → publish_fault (known_at v (lo + j)) p ≡ None) → publish_fault (known_at v (lo + k)) p ≡ Some r → IsStep v (Publish p lo hi) (Refused r) [] v
+  pub publish_refused : v.front ≤ lo → (r : Refusal) (k : ℕ) → k < hi + 1 - lo → ((j : ℕ) → j < k → publish_fault (known_at v (lo + j)) p ≡ None)
+      → publish_fault (known_at v (lo + k)) p ≡ Some r → IsStep v (Publish p lo hi) (Refused r) [] v
   publish_refused fresh r k l before here =
       refused_step v (Publish p lo hi) r (λ m sh. past m sh r
       (first_left IsHolding IsFailing r (flat_map (publish_faults m p) (range_with_len lo (hi + 1 - lo))) _
@@ -68,10 +68,13 @@ module _ (v : CoreView) (p lo hi : ℕ) (whole : IsWhole v) (producer : p < prod
       (λ j b. no_fault (known_at v (lo + j)) p _ _ _ (there fresh m sh j (omega arith)) (before j b))
       (a_fault (known_at v (lo + k)) p _ _ _ r (there fresh m sh k l) here))))
 
-  none_here : v.front ≤ lo → ((j : ℕ) → j < hi + 1 - lo → publish_fault (known_at v (lo + j)) p ≡ None) → (m : State) → Shows v m → NoneHold (flat_map (publish_faults m p) (range_with_len lo (hi + 1 - lo)))
-  none_here fresh none m sh = none_of_stretch IsHolding IsFailing (publish_faults m p) lo (hi + 1 - lo) (λ k l. no_fault (known_at v (lo + k)) p _ _ _ (there fresh m sh k l) (none k l))
+  none_here : v.front ≤ lo → ((j : ℕ) → j < hi + 1 - lo → publish_fault (known_at v (lo + j)) p ≡ None) → (m : State) → Shows v m
+      → NoneHold (flat_map (publish_faults m p) (range_with_len lo (hi + 1 - lo)))
+  none_here fresh none m sh =
+      NoneHold-stretch (publish_faults m p) lo (hi + 1 - lo) (λ k l. no_fault (known_at v (lo + k)) p _ _ _ (there fresh m sh k l) (none k l))
 
-  pub publish_order : v.front ≤ lo → ((j : ℕ) → j < hi + 1 - lo → publish_fault (known_at v (lo + j)) p ≡ None) → is_single v.setup.mode ≡ true → lo ≢ v.front → IsStep v (Publish p lo hi) (Refused OutOfOrder) [] v
+  pub publish_order : v.front ≤ lo → ((j : ℕ) → j < hi + 1 - lo → publish_fault (known_at v (lo + j)) p ≡ None) → is_single v.setup.mode ≡ true
+      → lo ≢ v.front → IsStep v (Publish p lo hi) (Refused OutOfOrder) [] v
   publish_order fresh none single late =
       refused_step v (Publish p lo hi) OutOfOrder (λ m sh. past m sh OutOfOrder
       (first_right IsHolding IsFailing OutOfOrder (flat_map (publish_faults m p) (range_with_len lo (hi + 1 - lo))) _ (none_here fresh none m sh)
@@ -116,13 +119,16 @@ pub record PublishesKnown (v : CoreView) (lo hi : ℕ) (known : ℕ → Known) :
   pub inside : (k : ℕ) → lo ≤ k → k ≤ hi → known k ≡ PublishedWith (value_of (known_at v k))
   pub outside : (k : ℕ) → k < v.next → v.next ≤ k + v.setup.size → (k < lo) ⊎ (hi < k) → known k ≡ known_at v k
 
-module _ (v : CoreView) (p lo hi front' : ℕ) (known : ℕ → Known) (knows : PublishesKnown v lo hi known) (whole : IsWhole v) (producer : p < producers v.setup.mode) (order : lo ≤ hi) (claimed : hi < v.next) (fresh : v.front ≤ lo)
+module _ (v : CoreView) (p lo hi front' : ℕ) (known : ℕ → Known) (knows : PublishesKnown v lo hi known) (whole : IsWhole v)
+    (producer : p < producers v.setup.mode) (order : lo ≤ hi) (claimed : hi < v.next) (fresh : v.front ≤ lo)
     (none : (j : ℕ) → j < hi + 1 - lo → publish_fault (known_at v (lo + j)) p ≡ None)
     (found : IsFront (λ s. is_shown (known s)) v.front v.next front') where
   now_published : (m : State) → Shows v m → (k : ℕ) → k < v.next → v.next ≤ k + v.setup.size → is_shown (known k) ≡ (m.published k || in_stretch lo hi k)
   now_published m sh k l r = elim (stretch_cases lo hi k) [
     | inl i ↦ ap is_shown (knows.inside k i.0 i.1) ∙ sym (or_right (m.published k) _ (inside_is lo hi k i.0 i.1))
-    | inr o ↦ ap is_shown (knows.outside k l r o) ∙ shown_published (known_at v k) _ _ _ (sh.recent k l r) ∙ sym (or-no (m.published k) _ (outside_is lo hi k o))
+    | inr o ↦ ap is_shown (knows.outside k l r o)
+        ∙ shown_published (known_at v k) _ _ _ (sh.recent k l r)
+        ∙ sym (or-no (m.published k) _ (outside_is lo hi k o))
   ]
 
   front_moves : (m : State) → Shows v m → least_outside (λ k. m.published k || in_stretch lo hi k) (next m) ≡ front'
@@ -142,7 +148,8 @@ module _ (v : CoreView) (p lo hi front' : ℕ) (known : ℕ → Known) (knows : 
       })
 
   published_recents : (m : State) → Shows v m
-      → KnowsRecents v.setup.size v.next (known_at (record v { recent = recent_of known v.next v.setup.size; front = front' })) m.owners (λ k. m.published k || in_stretch lo hi k) m.written
+      → KnowsRecents v.setup.size v.next (known_at (record v { recent = recent_of known v.next v.setup.size; front = front' })) m.owners
+      (λ k. m.published k || in_stretch lo hi k) m.written
   published_recents m sh = record {
     recent = λ k l r. rw (known_at-recent known v.next v.setup.size k l r) (elim (stretch_cases lo hi k) [
       | inl i ↦ (let off : lo + (k - lo) ≡ k = omega arith in
@@ -153,19 +160,20 @@ module _ (v : CoreView) (p lo hi front' : ℕ) (known : ℕ → Known) (knows : 
     unclaimed = λ k g. (or_from _ _ (sh.unclaimed k g).0 (outside_is lo hi k (inr (omega arith))), (sh.unclaimed k g).1);
   }
 
-  pub publish_step : (is_single v.setup.mode && not (lo == v.front)) ≡ false → IsStep v (Publish p lo hi) Published [] (record v { recent = recent_of known v.next v.setup.size; front = front' })
+  pub publish_step : (is_single v.setup.mode && not (lo == v.front)) ≡ false
+      → IsStep v (Publish p lo hi) Published [] (record v { recent = recent_of known v.next v.setup.size; front = front' })
   publish_step in_order = accepted_step refl refl (λ m sh. record {
-    passes =
+    passes = (
+      lt-leb _ _ producer,
+      (
+        le-ltb _ _ order,
         (
-          lt-leb _ _ producer,
-          (
-            le-ltb _ _ order,
-            (
-              rw (same_next sh) (lt-leb _ _ claimed),
-              none_join IsHolding IsFailing (flat_map (publish_faults m p) (range_with_len lo (hi + 1 - lo))) _ (none_here v p lo hi whole producer order claimed fresh none m sh) (rw (same_front sh) in_order, tt),
-            ),
-          ),
-        );
+          rw (same_next sh) (lt-leb _ _ claimed),
+          NoneHold-join (flat_map (publish_faults m p) (range_with_len lo (hi + 1 - lo))) _
+              (none_here v p lo hi whole producer order claimed fresh none m sh) (rw (same_front sh) in_order, tt),
+        ),
+      ),
+    );
     replies = refl;
     hands_out = refl;
     shown = record { counts = λ i. record (sh.counts i) { front = front_moves m sh i }; flags = sh.flags; recents = published_recents m sh };

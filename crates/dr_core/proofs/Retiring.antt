@@ -3,7 +3,7 @@ use Rattle.std.proofs.Common.{◌≡◌, ℕ, ◌+◌, ◌<◌, ◌≤◌, Bool,
 use Rattle.std.specs.Prelude.{◌==◌}
 use Rattle.std.specs.List.{range_with_len}
 use Rattle.std.proofs.lemmas.Bool.{cases_eq, eq-eqb, ne_eqb, or_parts, not-true, not-false, lt-leb, and_parts, or_right}
-use Rattle.std.proofs.lemmas.List.{get_or_read, get_or-set_same, get_or-set_other, length-set}
+use Rattle.std.proofs.lemmas.List.{get_or_read, get_or-set_same, get_or-set_other}
 use Rattle.dr_core.specs.declared.command.Command.TheVariants.{Retire}
 use Rattle.dr_core.specs.declared.command.Reply.TheVariants.{Retired, Refused}
 use Rattle.dr_core.specs.declared.refusal.Refusal.TheVariants.{NotFinal, LastHandler}
@@ -13,9 +13,10 @@ use Rattle.dr_core.specs.Machine.{State, handlers, retired_with}
 use Rattle.dr_core.specs.CoreView.{CoreView, retired_in, gate_of}
 use Rattle.dr_core.specs.Shows.{Shows, IsStep}
 use Rattle.dr_core.specs.Inside.{IsWhole, IsClaimable}
-use Rattle.dr_core.proofs.CoreSteps.{accepted_step, refused_step, orderly, finals_least}
+use Rattle.dr_core.proofs.CoreSteps.{accepted_step, refused_step, finals_least}
 use Rattle.dr_core.proofs.Gating.{claimable_room}
 use Rattle.dr_core.proofs.Shown.{same_retired}
+use Rattle.dr_core.proofs.Sound.{orderly}
 use Rattle.dr_core.proofs.Pushes.{or-false}
 
 -- a flag that was read
@@ -23,9 +24,14 @@ pub told : (v : CoreView) (h : ℕ) (r b : Bool) → IsWhole v → h < handlers 
 told v h r b whole inside read is = sym (get_or_read v.retired h r (let e : length v.retired ≡ handlers v.setup = whole.retired in omega arith) read false) ∙ is
 
 -- whether another is left, as it was told
-pub others_told : (v : CoreView) (h : ℕ) (flags : List Bool) (r b : Bool) → IsWhole v → flags ≡ v.retired → r ≡ not (is_some_left (length flags) (λ k. flagged flags k || k == h)) → r ≡ b → not (is_some_left (handlers v.setup) (λ k. retired_in v k || k == h)) ≡ b
+pub others_told : (v : CoreView) (h : ℕ) (flags : List Bool) (r b : Bool) → IsWhole v → flags ≡ v.retired
+    → r ≡ not (is_some_left (length flags) (λ k. flagged flags k || k == h)) → r ≡ b
+    → not (is_some_left (handlers v.setup) (λ k. retired_in v k || k == h)) ≡ b
 others_told v h flags r b whole same read is =
-    ap (λ n. not (is_some_left n (λ k. retired_in v k || k == h))) (sym whole.retired) ∙ ap (λ (fs : List Bool). not (is_some_left (length fs) (λ k. flagged fs k || k == h))) (sym same) ∙ sym read ∙ is
+    ap (λ n. not (is_some_left n (λ k. retired_in v k || k == h))) (sym whole.retired)
+    ∙ ap (λ (fs : List Bool). not (is_some_left (length fs) (λ k. flagged fs k || k == h))) (sym same)
+    ∙ sym read
+    ∙ is
 
 -- one flag more
 pub flagged_more : (flags : List Bool) (h k : ℕ) → h < length flags → flagged (slice_set flags h true) k ≡ (flagged flags k || k == h)
@@ -41,7 +47,12 @@ retired_core v h = record v { retired = slice_set v.retired h true }
 module _ (v : CoreView) (h : ℕ) (whole : IsWhole v) (inside : h < handlers v.setup) (left : retired_in v h ≡ false) where
   pub not_final_step : is_final_without v.setup.upstreams (retired_in v) h ≡ false → IsStep v (Retire h) (Refused NotFinal) [] v
   not_final_step not_final =
-      refused_step v (Retire h) NotFinal (λ m sh. inr (lt-leb _ _ inside, inr (same_retired sh h ∙ left, inl (followed_agree v.setup.upstreams m.retired (retired_in v) (same_retired sh) h ∙ is_followed_then, refl))))
+      refused_step v (Retire h) NotFinal
+      (λ m sh. inr (
+        lt-leb _ _ inside,
+        inr
+            (same_retired sh h ∙ left, inl (followed_agree v.setup.upstreams m.retired (retired_in v) (same_retired sh) h ∙ is_followed_then, refl)),
+      ))
     where
       is_followed_then : is_followed v.setup.upstreams (retired_in v) h ≡ true
       is_followed_then = not-false _ (rw left at not_final)
@@ -51,11 +62,14 @@ module _ (v : CoreView) (h : ℕ) (whole : IsWhole v) (inside : h < handlers v.s
     unfollowed m sh = followed_agree v.setup.upstreams m.retired (retired_in v) (same_retired sh) h ∙ not-true _ (and_parts _ _ final).1
 
     some_left : (m : State) → Shows v m → is_some_left (handlers v.setup) (retired_with m h) ≡ is_some_left (handlers v.setup) (λ k. retired_in v k || k == h)
-    some_left m sh = any_agree (λ k. not (retired_with m h k)) (λ k. not (retired_in v k || k == h)) (λ k. ap (λ b. not (b || k == h)) (same_retired sh k)) (range_with_len 0 (handlers v.setup))
+    some_left m sh =
+        any_agree (λ k. not (retired_with m h k)) (λ k. not (retired_in v k || k == h)) (λ k. ap (λ b. not (b || k == h)) (same_retired sh k))
+        (range_with_len 0 (handlers v.setup))
 
     pub last_step : is_some_left (handlers v.setup) (λ k. retired_in v k || k == h) ≡ false → IsStep v (Retire h) (Refused LastHandler) [] v
     last_step none =
-        refused_step v (Retire h) LastHandler (λ m sh. inr (lt-leb _ _ inside, inr (same_retired sh h ∙ left, inr (unfollowed m sh, inl (ap not (some_left m sh ∙ none), refl)))))
+        refused_step v (Retire h) LastHandler
+        (λ m sh. inr (lt-leb _ _ inside, inr (same_retired sh h ∙ left, inr (unfollowed m sh, inl (ap not (some_left m sh ∙ none), refl)))))
 
     module _ (others : is_some_left (handlers v.setup) (λ k. retired_in v k || k == h) ≡ true) where
       within : h < length v.retired
@@ -79,28 +93,13 @@ module _ (v : CoreView) (h : ℕ) (whole : IsWhole v) (inside : h < handlers v.s
 
       other : (k : ℕ) × (k < handlers v.setup) × (retired_in (retired_core v h) k ≡ false)
       other =
-          let at : (k : ℕ) × (0 ≤ k) × (k < 0 + handlers v.setup) × (not (retired_in v k || k == h) ≡ true) = found_in (λ k. not (retired_in v k || k == h)) 0 (handlers v.setup) others in
+          let at : (k : ℕ) × (0 ≤ k) × (k < 0 + handlers v.setup) × (not (retired_in v k || k == h) ≡ true) =
+          found_in (λ k. not (retired_in v k || k == h)) 0 (handlers v.setup) others in
           (at.0, omega (arith, at.2), flagged_more v.retired h at.0 within ∙ not-true _ at.3)
 
-      pub retire_whole : IsWhole (retired_core v h)
-      retire_whole = record {
-        graph = whole.graph;
-        size = whole.size;
-        limit = whole.limit;
-        taken = whole.taken;
-        completed = whole.completed;
-        retired = length-set v.retired h true ∙ whole.retired;
-        left = other;
-        claimed = whole.claimed;
-        front = whole.front;
-        in_front = whole.in_front;
-        took = whole.took;
-        after = whole.after;
-        room = λ k lt here. whole.room k lt (fewer k here);
-      }
-
       -- what was claimable before is so after
-      pub retire_claimable : (upto : ℕ) → IsClaimable v.setup v.next v.halted (retired_in v) v.completed upto → IsClaimable v.setup v.next v.halted (retired_in (retired_core v h)) v.completed upto
+      pub retire_claimable : (upto : ℕ) → IsClaimable v.setup v.next v.halted (retired_in v) v.completed upto
+          → IsClaimable v.setup v.next v.halted (retired_in (retired_core v h)) v.completed upto
       retire_claimable upto claimable = record {
         going = claimable.going;
         limit = claimable.limit;
@@ -113,4 +112,5 @@ module _ (v : CoreView) (h : ℕ) (whole : IsWhole v) (inside : h < handlers v.s
       -- a retirement never lowers the least count of the finals
       pub retire_room : gate_of v ≤ gate_of (retired_core v h)
       retire_room =
-          least_rises v.setup.upstreams whole.graph.gate (retired_in v) (retired_in (retired_core v h)) fewer (λ k. slice_index v.completed k) (orderly v whole) other.0 other.1 other.2
+          least_rises v.setup.upstreams whole.graph.gate (retired_in v) (retired_in (retired_core v h)) fewer (λ k. slice_index v.completed k)
+          (orderly whole.order) other.0 other.1 other.2

@@ -1,6 +1,6 @@
 -- What every state of the machine keeps, and that each command changes it as its entry says.
 use Rattle.std.proofs.Common.{◌≡◌, ℕ, ◌+◌, ◌-◌, ◌<◌, ◌≤◌, ◌≢◌, inl, inr, min, max, Bool, true, false, cond, ◌||◌, ◌&&◌, List, [], ◌∷◌, ◌++◌, arith, refl, ap, sym, ◌∙◌, length, map, replicate, Option, unwrap_or, Some, None, slice_index, slice_set, add-zero}
-use Rattle.std.specs.Prelude.{slice_get, Contains, ◌==◌, nat_lt, is_none}
+use Rattle.std.specs.Prelude.{slice_get, ◌==◌, nat_lt, is_none}
 use Rattle.std.specs.List.{range_with_len}
 use Rattle.std.proofs.lemmas.Bool.{cond_both, cond-true, cond-false, cases_Bool, cases_lt, le-leb, lt-leb, or_parts, false≢true, eqb-true, eqb-false}
 use Rattle.std.proofs.lemmas.Bool.Decides.{nat_tests}
@@ -13,9 +13,10 @@ use Rattle.dr_core.specs.declared.command.Reply.{Reply}
 use Rattle.dr_core.specs.declared.command.Reply.TheVariants.{Claimed, Drained, Gating, Idle, Refused}
 use Rattle.dr_seq.specs.declared.event.Event.{Event}
 use Rattle.dr_seq.specs.Event.{no_event}
-use Rattle.dr_graph.specs.Graph.{upstreams_of, least_of}
+use Rattle.dr_graph.specs.Graph.{upstreams_of, least_of, IsOrderly}
 use Rattle.dr_core.specs.Machine.{Setup, State, Outcome, handlers, next, front, available, offered, refusals, accepted, step, batch, cursor}
 use Rattle.dr_core.specs.Transcript.{Entry, claimed_below, claimant, first_of, wrote, covers, batch_to, completion, halts, retires}
+use Rattle.dr_core.specs.Inside.{AreInOrder}
 use Rattle.dr_core.proofs.Leasts.{least_is, least_of-le}
 use Rattle.dr_core.proofs.Pushes.{or-false}
 use Rattle.dr_core.proofs.Steps.{NoneHold, unless-cases}
@@ -26,20 +27,19 @@ pub record AreMarked (claims : ℕ) (marks : ℕ → Bool) (events : ℕ → Opt
   pub claimed : (s : ℕ) → marks s ≡ true → s < claims
   pub written : (s : ℕ) → marks s ≡ true → is_none (events s) ≡ false
 
--- a count a handler; each took no more than lies before the front and than each of its upstreams completed, and completed no more than it took
-pub record AreTaken (c : Setup) (limit : ℕ) (taken completed : List ℕ) : Type 0 where
-  pub taken_len : length taken ≡ handlers c
-  pub completed_len : length completed ≡ handlers c
-  pub in_front : (h : ℕ) → slice_index taken h ≤ limit
-  pub took : (h : ℕ) → slice_index completed h ≤ slice_index taken h
-  pub after : (h u : ℕ) → Contains (upstreams_of c.upstreams h) u → slice_index taken h ≤ slice_index completed u
+-- no handler completed more than an upstream
+pub orderly : {c : Setup} {upto : ℕ} {taken completed : List ℕ} → AreInOrder c upto taken completed → IsOrderly c.upstreams (λ h. slice_index completed h)
+orderly {taken = taken} {completed = completed} order h u has =
+    let a : slice_index completed h ≤ slice_index taken h = order.took h in
+    let b : slice_index taken h ≤ slice_index completed u = order.after h u has in
+    omega arith
 
 -- so of every state of the machine
 pub record IsSound (c : Setup) (m : State) : Type 0 where
   pub marks : AreMarked (next m) m.published m.written
   pub open marks use *
-  pub counts : AreTaken c (front m) m.taken m.completed
-  pub open counts use *
+  pub order : AreInOrder c (front m) m.taken m.completed
+  pub open order use *
 
 abbrev pub entry_of : Command → Outcome → Entry
 entry_of command o = record { command = command; reply = o.reply; values = o.values }
@@ -50,7 +50,8 @@ below_front c m sound h k l =
     (least_is m.published (next m)).below k (omega arith)
 
 -- what an entry says that writes nothing and hands nothing out
-unwritten : (c : Setup) (m n : State) (e : Entry) → IsSound c m → ((s : ℕ) → wrote e.reply e.command s ≡ None) → ((h : ℕ) → batch_to h e.reply e.command e.values ≡ []) → n.written ≡ m.written → n.taken ≡ m.taken
+unwritten : (c : Setup) (m n : State) (e : Entry) → IsSound c m → ((s : ℕ) → wrote e.reply e.command s ≡ None)
+    → ((h : ℕ) → batch_to h e.reply e.command e.values ≡ []) → n.written ≡ m.written → n.taken ≡ m.taken
     → next n ≡ max (next m) (claimed_below e.reply)
     → ((s : ℕ) → slice_get n.owners s ≡ first_of (slice_get m.owners s) (claimant e.reply e.command s))
     → ((s : ℕ) → n.published s ≡ (m.published s || covers e.reply e.command s))
@@ -78,12 +79,17 @@ first_of-none None = refl
 first_of-none (Some x) = refl
 
 -- a reply that changes nothing
-quiet : (c : Setup) (m : State) (command : Command) (r : Reply) → IsSound c m → claimed_below r ≡ 0 → ((s : ℕ) → claimant r command s ≡ None) → ((s : ℕ) → covers r command s ≡ false) → ((s : ℕ) → wrote r command s ≡ None) → ((h : ℕ) → batch_to h r command [] ≡ []) → ((h : ℕ) → completion h r command ≡ None) → halts r ≡ false → ((h : ℕ) → retires r command h ≡ false) → Changes m (record { command = command; reply = r; values = [] }) m
+quiet : (c : Setup) (m : State) (command : Command) (r : Reply) → IsSound c m → claimed_below r ≡ 0 → ((s : ℕ) → claimant r command s ≡ None)
+    → ((s : ℕ) → covers r command s ≡ false) → ((s : ℕ) → wrote r command s ≡ None) → ((h : ℕ) → batch_to h r command [] ≡ [])
+    → ((h : ℕ) → completion h r command ≡ None) → halts r ≡ false → ((h : ℕ) → retires r command h ≡ false)
+    → Changes m (record { command = command; reply = r; values = [] }) m
 quiet c m command r sound a o b d e f g i =
-    unwritten c m m (record { command = command; reply = r; values = [] }) sound d e refl refl (rw a (omega arith)) (λ s. rw (o s) (first_of-none _)) (λ s. rw (b s) (sym (or-false _))) (λ h. rw (f h)) (rw g (sym (or-false _))) (λ h. rw (i h) (sym (or-false _)))
+    unwritten c m m (record { command = command; reply = r; values = [] }) sound d e refl refl (rw a (omega arith)) (λ s. rw (o s) (first_of-none _))
+    (λ s. rw (b s) (sym (or-false _))) (λ h. rw (f h)) (rw g (sym (or-false _))) (λ h. rw (i h) (sym (or-false _)))
 
 -- the owners after a claim
-claim_owners : (owners : List ℕ) (n p s : ℕ) → n ≢ 0 → slice_get (owners ++ replicate n p) s ≡ first_of (slice_get owners s) (claimant (Claimed (length owners) (length owners + n - 1)) (Claim p n) s)
+claim_owners : (owners : List ℕ) (n p s : ℕ) → n ≢ 0
+    → slice_get (owners ++ replicate n p) s ≡ first_of (slice_get owners s) (claimant (Claimed (length owners) (length owners + n - 1)) (Claim p n) s)
 claim_owners owners n p s some =
     elim (cases_lt s (length owners)) [
       | inl old ↦ slice_get-append_left owners (replicate n p) s old ∙ rw (slice_get-get_or owners s 0 old) refl
@@ -94,21 +100,28 @@ claim_owners owners n p s some =
           ∙ slice_get-append_right owners (replicate n p) (s - length owners) (length owners) refl
           ∙ rw (slice_get_past owners s new, le-leb _ _ new)
           (elim (cases_lt s (length owners + n)) [
-            | inl within ↦ slice_get-get_or (replicate n p) (s - length owners) 0 (omega arith) ∙ ap Some (get_or-replicate n (s - length owners) p 0 (omega arith)) ∙ sym (cond-true _ _ _ (let l : s ≤ length owners + n - 1 = omega arith in le-leb _ _ l))
-            | inr past ↦ slice_get_past (replicate n p) (s - length owners) (omega arith) ∙ sym (cond-false _ _ _ (let l : length owners + n - 1 < s = omega arith in lt-leb _ _ l))
+            | inl within ↦ slice_get-get_or (replicate n p) (s - length owners) 0 (omega arith)
+                ∙ ap Some (get_or-replicate n (s - length owners) p 0 (omega arith))
+                ∙ sym (cond-true _ _ _ (let l : s ≤ length owners + n - 1 = omega arith in le-leb _ _ l))
+            | inr past ↦ slice_get_past (replicate n p) (s - length owners) (omega arith)
+                ∙ sym (cond-false _ _ _ (let l : length owners + n - 1 < s = omega arith in lt-leb _ _ l))
           ])
     ]
 
-claim_changes : (c : Setup) (m : State) (p n : ℕ) → IsSound c m → NoneHold (refusals c m (Claim p n)) → Changes m (entry_of (Claim p n) (accepted c m (Claim p n))) (accepted c m (Claim p n)).state
+claim_changes : (c : Setup) (m : State) (p n : ℕ) → IsSound c m → NoneHold (refusals c m (Claim p n))
+    → Changes m (entry_of (Claim p n) (accepted c m (Claim p n))) (accepted c m (Claim p n)).state
 claim_changes c m p n sound none =
     let some : n ≢ 0 = eqb-false n 0 (or_parts _ _ none.1.0).0 in
-    unwritten c m _ _ sound (λ s. refl) (λ h. refl) refl refl (length-append m.owners (replicate n p) ∙ ap (λ k. length m.owners + k) (length-replicate n p) ∙ omega arith) (λ s. claim_owners m.owners n p s some) (λ s. sym (or-false _)) (λ h. refl) (sym (or-false _)) (λ h. sym (or-false _))
+    unwritten c m _ _ sound (λ s. refl) (λ h. refl) refl refl
+    (length-append m.owners (replicate n p) ∙ ap (λ k. length m.owners + k) (length-replicate n p) ∙ omega arith)
+    (λ s. claim_owners m.owners n p s some) (λ s. sym (or-false _)) (λ h. refl) (sym (or-false _)) (λ h. sym (or-false _))
 
 first_of-if : {A : Type 0} (b : Bool) (v : A) (w : Option A) → cond b (Some v) w ≡ first_of (cond b (Some v) None) w
 first_of-if true v w = refl
 first_of-if false v w = refl
 
-write_changes : (c : Setup) (m : State) (p at : ℕ) (v : Event) → IsSound c m → NoneHold (refusals c m (Write p at v)) → Changes m (entry_of (Write p at v) (accepted c m (Write p at v))) (accepted c m (Write p at v)).state
+write_changes : (c : Setup) (m : State) (p at : ℕ) (v : Event) → IsSound c m → NoneHold (refusals c m (Write p at v))
+    → Changes m (entry_of (Write p at v) (accepted c m (Write p at v))) (accepted c m (Write p at v)).state
 write_changes c m p at v sound none = record {
   next = omega arith;
   owners = λ s. first_of-none _;
@@ -127,8 +140,11 @@ write_changes c m p at v sound none = record {
   in_front = below_front c m sound;
 }
 
-publish_changes : (c : Setup) (m : State) (p lo hi : ℕ) → IsSound c m → Changes m (entry_of (Publish p lo hi) (accepted c m (Publish p lo hi))) (accepted c m (Publish p lo hi)).state
-publish_changes c m p lo hi sound = unwritten c m _ _ sound (λ s. refl) (λ h. refl) refl refl (omega arith) (λ s. first_of-none _) (λ s. refl) (λ h. refl) (sym (or-false _)) (λ h. sym (or-false _))
+publish_changes : (c : Setup) (m : State) (p lo hi : ℕ) → IsSound c m
+    → Changes m (entry_of (Publish p lo hi) (accepted c m (Publish p lo hi))) (accepted c m (Publish p lo hi)).state
+publish_changes c m p lo hi sound =
+    unwritten c m _ _ sound (λ s. refl) (λ h. refl) refl refl (omega arith) (λ s. first_of-none _) (λ s. refl) (λ h. refl) (sym (or-false _))
+    (λ h. sym (or-false _))
 
 unwrap-if : {A : Type 0} (b : Bool) (v w : A) → cond b v w ≡ unwrap_or (cond b (Some v) None) w
 unwrap-if true v w = refl
@@ -141,27 +157,35 @@ set_count ns at n h l =
     (λ y. (let e : h ≡ at = eqb-true h at y in rw e (get_or-set_same ns at n 0 l)))
     (λ no'. get_or-set_other ns at h n 0 (eqb-false h at no'))
 
-complete_changes : (c : Setup) (m : State) (at upto : ℕ) → IsSound c m → NoneHold (refusals c m (Complete at upto)) → Changes m (entry_of (Complete at upto) (accepted c m (Complete at upto))) (accepted c m (Complete at upto)).state
+complete_changes : (c : Setup) (m : State) (at upto : ℕ) → IsSound c m → NoneHold (refusals c m (Complete at upto))
+    → Changes m (entry_of (Complete at upto) (accepted c m (Complete at upto))) (accepted c m (Complete at upto)).state
 complete_changes c m at upto sound none =
     let inside : at < handlers c = grind (arith, nat_tests, none.0) in
     let len : length m.completed ≡ handlers c = sound.completed_len in
-    unwritten c m _ _ sound (λ s. refl) (λ h. refl) refl refl (omega arith) (λ s. first_of-none _) (λ s. sym (or-false _)) (λ h. set_count m.completed at upto h (omega arith) ∙ unwrap-if (h == at) upto (slice_index m.completed h)) (sym (or-false _)) (λ h. sym (or-false _))
+    unwritten c m _ _ sound (λ s. refl) (λ h. refl) refl refl (omega arith) (λ s. first_of-none _) (λ s. sym (or-false _))
+    (λ h. set_count m.completed at upto h (omega arith) ∙ unwrap-if (h == at) upto (slice_index m.completed h)) (sym (or-false _))
+    (λ h. sym (or-false _))
 
 or-true : (b : Bool) → true ≡ (b || true)
 or-true true = refl
 or-true false = refl
 
 halt_changes : (c : Setup) (m : State) → IsSound c m → Changes m (entry_of Halt (accepted c m Halt)) (accepted c m Halt).state
-halt_changes c m sound = unwritten c m _ _ sound (λ s. refl) (λ h. refl) refl refl (omega arith) (λ s. first_of-none _) (λ s. sym (or-false _)) (λ h. refl) (or-true m.halted) (λ h. sym (or-false _))
+halt_changes c m sound =
+    unwritten c m _ _ sound (λ s. refl) (λ h. refl) refl refl (omega arith) (λ s. first_of-none _) (λ s. sym (or-false _)) (λ h. refl)
+    (or-true m.halted) (λ h. sym (or-false _))
 
 retire_changes : (c : Setup) (m : State) (at : ℕ) → IsSound c m → Changes m (entry_of (Retire at) (accepted c m (Retire at))) (accepted c m (Retire at)).state
-retire_changes c m at sound = unwritten c m _ _ sound (λ s. refl) (λ h. refl) refl refl (omega arith) (λ s. first_of-none _) (λ s. sym (or-false _)) (λ h. refl) (sym (or-false _)) (λ h. refl)
+retire_changes c m at sound =
+    unwritten c m _ _ sound (λ s. refl) (λ h. refl) refl refl (omega arith) (λ s. first_of-none _) (λ s. sym (or-false _)) (λ h. refl)
+    (sym (or-false _)) (λ h. refl)
 
 -- no handler is offered more than is published
 pub offered-le : (c : Setup) (m : State) → IsSound c m → (hs : List ℕ) → offered m hs ≤ front m
 offered-le c m sound [] = omega arith
 offered-le c m sound (u ∷ us) =
-    let a : least_of (map (λ h. slice_index m.completed h) (u ∷ us)) ≤ slice_index m.completed u = least_of-le (map (λ h. slice_index m.completed h) (u ∷ us)) 0 (omega arith) in
+    let a : least_of (map (λ h. slice_index m.completed h) (u ∷ us)) ≤ slice_index m.completed u =
+    least_of-le (map (λ h. slice_index m.completed h) (u ∷ us)) 0 (omega arith) in
     let b : slice_index m.completed u ≤ slice_index m.taken u = sound.took u in
     let d : slice_index m.taken u ≤ front m = sound.in_front u in
     omega arith
@@ -189,12 +213,15 @@ module _ (c : Setup) (m : State) (at limit : ℕ) (sound : IsSound c m) (inside 
   published_there : (k : ℕ) → k < front m → m.published k ≡ true
   published_there k l = (least_is m.published (next m)).below k l
 
-  value : slice_index m.taken at < available c m at → (k : ℕ) → k < count_of c m at limit → slice_get (values_of c m at limit) k ≡ m.written (slice_index m.taken at + k)
+  value : slice_index m.taken at < available c m at → (k : ℕ) → k < count_of c m at limit
+      → slice_get (values_of c m at limit) k ≡ m.written (slice_index m.taken at + k)
   value more k l =
       let r : slice_index m.taken at + count_of c m at limit ≤ front m = reach more in
       let n : length (values_of c m at limit) ≡ count_of c m at limit = many in
       slice_get-get_or (values_of c m at limit) k no_event (omega arith)
-      ∙ ap Some (get_or-map-range_with_len (λ s. unwrap_or (m.written s) no_event) (slice_index m.taken at) (count_of c m at limit) k (slice_index m.taken at + k) no_event l refl)
+      ∙ ap Some
+      (get_or-map-range_with_len (λ s. unwrap_or (m.written s) no_event) (slice_index m.taken at) (count_of c m at limit) k
+      (slice_index m.taken at + k) no_event l refl)
       ∙ is_some_value (m.written (slice_index m.taken at + k)) (sound.written _ (published_there (slice_index m.taken at + k) (omega arith)))
 
   batch_changes : slice_index m.taken at < available c m at → Changes m (entry_of (Poll at limit) (batch c m at limit)) (batch c m at limit).state
@@ -203,7 +230,10 @@ module _ (c : Setup) (m : State) (at limit : ℕ) (sound : IsSound c m) (inside 
     owners = λ s. first_of-none _;
     published = λ s. sym (or-false _);
     written = λ s. refl;
-    taken = λ h. set_count m.taken at (slice_index m.taken at + count_of c m at limit) h within ∙ cond_both (h == at) (values_of c m at limit) [] (λ vs. cond (h == at) (slice_index m.taken at + count_of c m at limit) (slice_index m.taken h) ≡ slice_index m.taken h + length vs)
+    taken =
+        λ h. set_count m.taken at (slice_index m.taken at + count_of c m at limit) h within
+        ∙ cond_both (h == at) (values_of c m at limit) []
+        (λ vs. cond (h == at) (slice_index m.taken at + count_of c m at limit) (slice_index m.taken h) ≡ slice_index m.taken h + length vs)
         (λ y. (let e : h ≡ at = eqb-true h at y in rw y (rw e (ap (λ k. slice_index m.taken at + k) (sym many)))))
         (λ n. rw n (sym (add-zero _)));
     completed = λ h. refl;
@@ -212,15 +242,19 @@ module _ (c : Setup) (m : State) (at limit : ℕ) (sound : IsSound c m) (inside 
     settled = λ s h. refl;
     fresh = λ s h. refl;
     batch = λ h k. cond_both (h == at) (values_of c m at limit) [] (λ vs. k < length vs → slice_get vs k ≡ m.written (slice_index m.taken h + k))
-        (λ y l. (let e : h ≡ at = eqb-true h at y in let n : length (values_of c m at limit) ≡ count_of c m at limit = many in rw e (value more k (omega arith))))
+        (λ y l. (let e : h ≡ at = eqb-true h at y in
+        let n : length (values_of c m at limit) ≡ count_of c m at limit = many in
+        rw e (value more k (omega arith))))
         (λ n l. absurd (omega arith));
-    in_front = λ h k l. published_there k (cond_both (h == at) (slice_index m.taken at + count_of c m at limit) (slice_index m.taken h) (λ n. k < n → k < front m)
+    in_front =
+        λ h k l. published_there k (cond_both (h == at) (slice_index m.taken at + count_of c m at limit) (slice_index m.taken h) (λ n. k < n → k < front m)
         (λ y l. (let r : slice_index m.taken at + count_of c m at limit ≤ front m = reach more in omega arith))
         (λ n l. (let w : slice_index m.taken h ≤ front m = sound.in_front h in omega arith))
         (rw (set_count m.taken at (slice_index m.taken at + count_of c m at limit) h within) at l));
   }
 
-poll_changes : (c : Setup) (m : State) (at limit : ℕ) → IsSound c m → NoneHold (refusals c m (Poll at limit)) → Changes m (entry_of (Poll at limit) (accepted c m (Poll at limit))) (accepted c m (Poll at limit)).state
+poll_changes : (c : Setup) (m : State) (at limit : ℕ) → IsSound c m → NoneHold (refusals c m (Poll at limit))
+    → Changes m (entry_of (Poll at limit) (accepted c m (Poll at limit))) (accepted c m (Poll at limit)).state
 poll_changes c m at limit sound none =
     let P : Outcome → Type 0 = λ o. Changes m (entry_of (Poll at limit) o) o.state in
     cond_both (nat_lt (slice_index m.taken at) (available c m at)) _ _ P
@@ -231,7 +265,8 @@ poll_changes c m at limit sound none =
     (λ y. quiet c m (Poll at limit) Gating sound refl (λ s. refl) (λ s. refl) (λ s. refl) (λ s. refl) (λ s. refl) refl (λ h. refl))
     (λ n''. quiet c m (Poll at limit) Idle sound refl (λ s. refl) (λ s. refl) (λ s. refl) (λ s. refl) (λ s. refl) refl (λ h. refl))))
 
-accepted_changes : (c : Setup) (m : State) (command : Command) → IsSound c m → NoneHold (refusals c m command) → Changes m (entry_of command (accepted c m command)) (accepted c m command).state
+accepted_changes : (c : Setup) (m : State) (command : Command) → IsSound c m → NoneHold (refusals c m command)
+    → Changes m (entry_of command (accepted c m command)) (accepted c m command).state
 accepted_changes c m (Claim p n) sound none = claim_changes c m p n sound none
 accepted_changes c m (Write p s v) sound none = write_changes c m p s v sound none
 accepted_changes c m (Publish p lo hi) sound none = publish_changes c m p lo hi sound

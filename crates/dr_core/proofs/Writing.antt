@@ -14,7 +14,8 @@ use Rattle.dr_core.specs.Shows.{KnowsRecents, Shows, Agrees, IsStep}
 use Rattle.dr_core.specs.Inside.{IsWhole}
 use Rattle.dr_core.proofs.Shown.{same_next, same_front}
 use Rattle.dr_core.proofs.Leasts.{least_is}
-use Rattle.dr_core.proofs.CoreSteps.{Refuses, refused_step, accepted_step, known_at-recent}
+use Rattle.dr_core.proofs.Steps.{Refuses}
+use Rattle.dr_core.proofs.CoreSteps.{refused_step, accepted_step, known_at-recent}
 
 -- all below the front is published
 pub below_front : (v : CoreView) (m : State) → Shows v m → (s : ℕ) → s < v.front → m.published s ≡ true
@@ -33,7 +34,11 @@ pub owned : (own : Bool) (r : Refusal) → cond own None (Some r) ≡ None → o
 owned own r e = elim (cases_Bool own) [ inl y ↦ y | inr n ↦ absurd (let f : ◌≡◌ {A = Option Refusal} (Some r) None = rw n at e in cc) ]
 
 pub disowned : (own : Bool) (q r : Refusal) → cond own None (Some q) ≡ Some r → (own ≡ false) × (q ≡ r)
-disowned own q r e = elim (cases_Bool own) [ inl y ↦ absurd (let f : ◌≡◌ {A = Option Refusal} None (Some r) = rw y at e in cc) | inr n ↦ (n, (let f : ◌≡◌ {A = Option Refusal} (Some q) (Some r) = rw n at e in cc)) ]
+disowned own q r e =
+    elim (cases_Bool own) [
+      | inl y ↦ absurd (let f : ◌≡◌ {A = Option Refusal} None (Some r) = rw y at e in cc)
+      | inr n ↦ (n, (let f : ◌≡◌ {A = Option Refusal} (Some q) (Some r) = rw n at e in cc))
+    ]
 
 -- a sequence that is claimed and not written is refused to every producer
 pub unwritten_refused : (own : Bool) → cond own (Some NotWritten) (Some NotClaimed) ≡ None → ⊥
@@ -49,16 +54,21 @@ write_ok (ClaimedBy q) p o b w h e = (h.1, ap (λ k. k == p) h.0 ∙ owned (q ==
 write_ok (WrittenBy q event) p o b w h e = (h.1, ap (λ k. k == p) h.0 ∙ owned (q == p) NotClaimed e)
 write_ok (PublishedWith event) p o b w h e = absurd (let f : ◌≡◌ {A = Option Refusal} (Some AlreadyPublished) None = e in cc)
 
-write_err : (known : Known) (p o : ℕ) (b : Bool) (w : Option Event) (r : Refusal) → Agrees known o b w → write_fault known p ≡ Some r → Refuses r ((b, AlreadyPublished) ∷ (not (o == p), NotClaimed) ∷ [])
+write_err : (known : Known) (p o : ℕ) (b : Bool) (w : Option Event) (r : Refusal) → Agrees known o b w → write_fault known p ≡ Some r
+    → Refuses r ((b, AlreadyPublished) ∷ (not (o == p), NotClaimed) ∷ [])
 write_err Nothing p o b w r h e = absurd h
-write_err (ClaimedBy q) p o b w r h e = let d : ((q == p) ≡ false) × (NotClaimed ≡ r) = disowned (q == p) NotClaimed r e in inr (h.1, inl (ap not (ap (λ k. k == p) h.0 ∙ d.0), d.1))
-write_err (WrittenBy q event) p o b w r h e = let d : ((q == p) ≡ false) × (NotClaimed ≡ r) = disowned (q == p) NotClaimed r e in inr (h.1, inl (ap not (ap (λ k. k == p) h.0 ∙ d.0), d.1))
+write_err (ClaimedBy q) p o b w r h e =
+    let d : ((q == p) ≡ false) × (NotClaimed ≡ r) = disowned (q == p) NotClaimed r e in inr (h.1, inl (ap not (ap (λ k. k == p) h.0 ∙ d.0), d.1))
+write_err (WrittenBy q event) p o b w r h e =
+    let d : ((q == p) ≡ false) × (NotClaimed ≡ r) = disowned (q == p) NotClaimed r e in inr (h.1, inl (ap not (ap (λ k. k == p) h.0 ∙ d.0), d.1))
 write_err (PublishedWith event) p o b w r h e = inl (h.0, (let f : ◌≡◌ {A = Option Refusal} (Some AlreadyPublished) (Some r) = e in cc))
 
 -- what lies before the front is published
-pub write_front : (v : CoreView) (p s : ℕ) (x : Event) → p < producers v.setup.mode → s < v.next → s < v.front → IsStep v (Write p s x) (Refused AlreadyPublished) [] v
+pub write_front : (v : CoreView) (p s : ℕ) (x : Event) → p < producers v.setup.mode → s < v.next → s < v.front
+    → IsStep v (Write p s x) (Refused AlreadyPublished) [] v
 write_front v p s x producer claimed old =
-    refused_step v (Write p s x) AlreadyPublished (λ m sh. inr (lt-leb _ _ producer, inr ((let n : next m ≡ v.next = same_next sh in rw n (lt-leb _ _ claimed)), inl (below_front v m sh s old, refl))))
+    refused_step v (Write p s x) AlreadyPublished
+    (λ m sh. inr (lt-leb _ _ producer, inr ((let n : next m ≡ v.next = same_next sh in rw n (lt-leb _ _ claimed)), inl (below_front v m sh s old, refl))))
 
 -- what a write leaves known: the sequence is written, and of the others as much as before
 pub record WritesKnown (v : CoreView) (p s : ℕ) (x : Event) (known : ℕ → Known) : Type 0 where
@@ -71,10 +81,13 @@ module _ (v : CoreView) (p s : ℕ) (x : Event) (whole : IsWhole v) (producer : 
 
   pub write_refused : (r : Refusal) → write_fault (known_at v s) p ≡ Some r → IsStep v (Write p s x) (Refused r) [] v
   write_refused r e =
-      refused_step v (Write p s x) r (λ m sh. inr (lt-leb _ _ producer, inr ((let n : next m ≡ v.next = same_next sh in rw n (lt-leb _ _ claimed)), write_err (known_at v s) p _ _ _ r (there m sh) e)))
+      refused_step v (Write p s x) r
+      (λ m sh. inr
+      (lt-leb _ _ producer, inr ((let n : next m ≡ v.next = same_next sh in rw n (lt-leb _ _ claimed)), write_err (known_at v s) p _ _ _ r (there m sh) e)))
 
   written_recents : (known : ℕ → Known) → WritesKnown v p s x known → (m : State) → Shows v m → m.published s ≡ false → slice_index m.owners s ≡ p
-      → KnowsRecents v.setup.size v.next (known_at (record v { recent = recent_of known v.next v.setup.size })) m.owners m.published (accepted v.setup m (Write p s x)).state.written
+      → KnowsRecents v.setup.size v.next (known_at (record v { recent = recent_of known v.next v.setup.size })) m.owners m.published
+      (accepted v.setup m (Write p s x)).state.written
   written_recents known knows m sh hidden mine =
       record {
         recent = λ k l r. rw (known_at-recent known v.next v.setup.size k l r) (elim (cases_eq k s) [
@@ -86,7 +99,8 @@ module _ (v : CoreView) (p s : ℕ) (x : Event) (whole : IsWhole v) (producer : 
         unclaimed = λ k g. ((sh.unclaimed k g).0, cond-false (k == s) _ _ (ne_eqb k s (λ e. absurd (omega arith))) ∙ (sh.unclaimed k g).1);
       }
 
-  pub write_step : (known : ℕ → Known) → WritesKnown v p s x known → write_fault (known_at v s) p ≡ None → IsStep v (Write p s x) Written [] (record v { recent = recent_of known v.next v.setup.size })
+  pub write_step : (known : ℕ → Known) → WritesKnown v p s x known → write_fault (known_at v s) p ≡ None
+      → IsStep v (Write p s x) Written [] (record v { recent = recent_of known v.next v.setup.size })
   write_step known knows e =
       accepted_step refl refl (λ m sh.
       let may : (m.published s ≡ false) × ((slice_index m.owners s == p) ≡ true) = write_ok (known_at v s) p _ _ _ (there m sh) e in

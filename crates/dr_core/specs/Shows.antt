@@ -43,7 +43,8 @@ machine_flags m = record { halted = m.halted; retired = m.retired }
 abbrev pub core_flags : CoreView → Flags
 core_flags v = record { halted = v.halted; retired = retired_in v }
 
--- what is known of each recent sequence agrees with its owner, its publication mark and what is written to it; those that are not claimed yet are neither published nor written
+-- what is known of each recent sequence agrees with its owner, its publication mark and what is written to it;
+-- those that are not claimed yet are neither published nor written
 pub record KnowsRecents (size claimed : ℕ) (known : ℕ → Known) (owners : List ℕ) (published : ℕ → Bool) (written : ℕ → Option Event) : Type 0 where
   pub recent : (s : ℕ) → s < claimed → claimed ≤ s + size → Agrees (known s) (slice_index owners s) (published s) (written s)
   pub unclaimed : (s : ℕ) → claimed ≤ s → (published s ≡ false) × (written s ≡ None)

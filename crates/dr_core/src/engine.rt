@@ -3,6 +3,7 @@
 ghost use Rattle.std.specs.Prelude.{◌≡◌, ◌↔◌, ◌^◌, ◌<◌, Err, IfOk, IfErr, ◌≤◌, true, false, slice_index};
 ghost use Rattle.dr_core.specs.Availability.{HasOwners};
 ghost use Rattle.dr_core.specs.CoreView.{retired_in};
+ghost use Rattle.dr_core.specs.Inside.{IsOpened};
 ghost use Rattle.dr_core.specs.Machine.{opening, handlers, producers as producers_of, setup_of};
 ghost use Rattle.dr_core.specs.OpenFault.{has_bad_producers, is_bad_limit};
 ghost use Rattle.dr_core.specs.Runs.{IsReached};
@@ -87,6 +88,20 @@ impl Core {
         if limit == 0 || limit > MAX_LIMIT {
             return Err(OpenFault::BadLimit);
         }
+        Ok(Core::fresh(alloc, graph, size, mode, limit)?)
+    }
+
+    /// A core with nothing claimed, of a mode and a limit that were found good.
+    fn fresh(
+        alloc: Global,
+        graph: Graph,
+        size: Size,
+        mode: Mode,
+        limit: u64,
+    ) -> Result<Core, AllocError>
+        requires { limit ≤ 2 ^ 62 }
+        ensures { IfOk result (λ core. IsOpened core (setup_of graph.upstreams size mode limit) graph.names) }
+    {
         let handlers = graph.len();
         let published = Rounds::new(alloc, size)?;
         let written = Rounds::new(alloc, size)?;

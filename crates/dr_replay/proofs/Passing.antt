@@ -10,27 +10,23 @@ use Rattle.dr_core.specs.declared.command.Command.TheVariants.{Claim, Write, Pub
 use Rattle.dr_core.specs.declared.command.Command.{Command}
 use Rattle.dr_core.specs.declared.command.Reply.{Reply}
 use Rattle.dr_core.specs.declared.command.Reply.TheVariants.{Claimed, Written, Published, Batch, Completed}
-use Rattle.dr_core.specs.declared.refusal.Refusal.{Refusal}
-use Rattle.dr_core.specs.Machine.{Outcome, Setup, State, accepted, available, front, next, least_outside, publish_faults, refusals, step, unless}
+use Rattle.dr_core.specs.Machine.{Outcome, Setup, State, accepted, available, front, next, least_outside, publish_faults, refusals, step}
 use Rattle.dr_core.specs.CoreView.{CoreView}
 use Rattle.dr_core.specs.Shows.{IsStep, Shows}
 use Rattle.dr_core.proofs.Leasts.{least_is, least_one}
-use Rattle.dr_core.proofs.Steps.{NoneHold}
+use Rattle.dr_core.proofs.Steps.{NoneHold, NoneHold-join, NoneHold-stretch, unless-none}
 use Rattle.dr_replay.specs.Passing.{each, passed, replay_setup, written_below}
 
 pub funext : {A B : Type 0} (f g : A → B) → ((x : A) → f x ≡ g x) → f ≡ g
 funext f g h = λ i. λ x. h x i
-
-pub all_pass : (tests : List (Bool × Refusal)) (m : State) (o : Outcome) → NoneHold tests → unless tests m o ≡ o
-all_pass [] m o h = refl
-all_pass (test ∷ tests) m o h = rw (h.0) (all_pass tests m o h.1)
 
 -- the least number that is not below another
 pub front_below : (n bound : ℕ) → n ≤ bound → least_outside (λ s. nat_lt s n) bound ≡ n
 front_below n bound h = least_one (λ s. nat_lt s n) bound _ _ (least_is (λ s. nat_lt s n) bound)
     (record { within = h; below = λ k l. lt-ltb k n l; here = λ l. le-ltb n n (omega arith) })
 
-pub next_is : (events : List Event) (claimed written published : ℕ) (taken completed : List ℕ) → next (passed events claimed written published taken completed) ≡ claimed
+pub next_is : (events : List Event) (claimed written published : ℕ) (taken completed : List ℕ)
+    → next (passed events claimed written published taken completed) ≡ claimed
 next_is events claimed written published taken completed = length-replicate claimed 0
 
 pub claims : (events : List Event) (size at n : ℕ) → 0 < n → n ≤ size → at + n ≤ 2 ^ 62
@@ -46,15 +42,17 @@ claims events size at n some fits limit =
     let no_room : nat_lt (size + at) (next m + n) ≡ false = rw next_at (le-ltb (size + at) (at + n) room) in
     let none : NoneHold (refusals (replay_setup size) m (Claim 0 n)) = (refl, (bad_count, (refl, (exhausted, (no_room, tt))))) in
     let after : ℕ → List ℕ → Outcome = λ k owners. record { reply = Claimed k (k + n - 1); values = []; state = record m { owners = owners } } in
-    all_pass (refusals (replay_setup size) m (Claim 0 n)) m (accepted (replay_setup size) m (Claim 0 n)) none
+    unless-none (refusals (replay_setup size) m (Claim 0 n)) m (accepted (replay_setup size) m (Claim 0 n)) none
     ∙ ap (λ k. after k (replicate at 0 ++ replicate n 0)) next_at ∙ ap (after at) (replicate-append-replicate at n 0)
 
-written_more : (events : List Event) (w : ℕ) (e : Event) → e ≡ slice_index_or events w no_event → (k : ℕ) → (if k == w then Some e else written_below events w k) ≡ written_below events (w + 1) k
+written_more : (events : List Event) (w : ℕ) (e : Event) → e ≡ slice_index_or events w no_event → (k : ℕ)
+    → (if k == w then Some e else written_below events w k) ≡ written_below events (w + 1) k
 written_more events w e is k = elim (cases_eq k w) [
   | inl here ↦ let below : w < w + 1 = omega arith in rw here (rw (eq-eqb w w refl, lt-ltb w (w + 1) below, is) refl)
   | inr other ↦ elim (cases_lt k w) [
     | inl l ↦ let below : k < w + 1 = omega arith in rw (ne_eqb k w other, lt-ltb k w l, lt-ltb k (w + 1) below) refl
-    | inr g ↦ let above : w + 1 ≤ k = omega arith in let not_below : w ≤ k = omega arith in rw (ne_eqb k w other, le-ltb k w not_below, le-ltb k (w + 1) above) refl
+    | inr g ↦ let above : w + 1 ≤ k =
+        omega arith in let not_below : w ≤ k = omega arith in rw (ne_eqb k w other, le-ltb k w not_below, le-ltb k (w + 1) above) refl
   ]
 ]
 
@@ -69,25 +67,16 @@ writes events size claimed w at taken completed e low high is =
     let other : not (slice_index (replicate claimed 0) w == 0) ≡ false = ap not (eq-eqb _ 0 mine) in
     let none : NoneHold (refusals (replay_setup size) m (Write 0 w e)) = (refl, (unclaimed, (shown, (other, tt)))) in
     let after : (ℕ → Option Event) → Outcome = λ written. record { reply = Written; values = []; state = record m { written = written } } in
-    all_pass (refusals (replay_setup size) m (Write 0 w e)) m (accepted (replay_setup size) m (Write 0 w e)) none
+    unless-none (refusals (replay_setup size) m (Write 0 w e)) m (accepted (replay_setup size) m (Write 0 w e)) none
     ∙ ap after (funext (λ k. if k == w then Some e else written_below events w k) (written_below events (w + 1)) (written_more events w e is))
-
-join : (xs ys : List (Bool × Refusal)) → NoneHold xs → NoneHold ys → NoneHold (xs ++ ys)
-join [] ys a b = b
-join (x ∷ xs) ys a b = (a.0, join xs ys a.1 b)
-
-stretch : (m : State) (p lo n : ℕ) → ((k : ℕ) → k < n → NoneHold (publish_faults m p (lo + k))) → NoneHold (flat_map (publish_faults m p) (range_with_len lo n))
-stretch m p lo zero h = tt
-stretch m p lo (suc n) h =
-    join (publish_faults m p lo) _ (rw add-zero at (h 0 (omega arith)))
-    (stretch m p (lo + 1) n (λ k l. (let e : (lo + 1) + k ≡ lo + suc k = omega arith in rw e (h (suc k) (omega arith)))))
 
 shown_more : (at n k : ℕ) → 0 < n → (nat_lt k at || (nat_le at k && nat_le k (at + n - 1))) ≡ nat_lt k (at + n)
 shown_more at n k some = elim (cases_lt k at) [
   | inl l ↦ let more : k < at + n = omega arith in rw (lt-ltb k at l, lt-ltb k (at + n) more) refl
   | inr g ↦ let low : at ≤ k = omega arith in elim (cases_lt k (at + n)) [
     | inl l ↦ let high : k ≤ at + n - 1 = omega arith in rw (le-ltb k at low, le-leb at k low, le-leb k (at + n - 1) high, lt-ltb k (at + n) l) refl
-    | inr o ↦ let over : at + n ≤ k = omega arith in let past : at + n - 1 < k = omega arith in rw (le-ltb k at low, le-leb at k low, lt-leb k (at + n - 1) past, le-ltb k (at + n) over) refl
+    | inr o ↦ let over : at + n ≤ k =
+        omega arith in let past : at + n - 1 < k = omega arith in rw (le-ltb k at low, le-leb at k low, lt-leb k (at + n - 1) past, le-ltb k (at + n) over) refl
   ]
 ]
 
@@ -113,9 +102,9 @@ publishes events size at n taken completed some =
     let here : front m ≡ at = rw next_at (front_below at (at + n) within) in
     let in_order : not (at == front m) ≡ false = rw here (ap not (eq-eqb at at refl)) in
     let none : NoneHold (refusals (replay_setup size) m (Publish 0 at (at + n - 1))) =
-    (refl, (bad_count, (unclaimed, join (flat_map (publish_faults m 0) (range_with_len at (at + n - 1 + 1 - at))) _ (stretch m 0 at (at + n - 1 + 1 - at) each_fine) (in_order, tt)))) in
+    (refl, (bad_count, (unclaimed, NoneHold-join (flat_map (publish_faults m 0) (range_with_len at (at + n - 1 + 1 - at))) _ (NoneHold-stretch (publish_faults m 0) at (at + n - 1 + 1 - at) each_fine) (in_order, tt)))) in
     let after : (ℕ → Bool) → Outcome = λ published. record { reply = Published; values = []; state = record m { published = published } } in
-    all_pass (refusals (replay_setup size) m (Publish 0 at (at + n - 1))) m (accepted (replay_setup size) m (Publish 0 at (at + n - 1))) none
+    unless-none (refusals (replay_setup size) m (Publish 0 at (at + n - 1))) m (accepted (replay_setup size) m (Publish 0 at (at + n - 1))) none
     ∙ ap after (funext (λ k. nat_lt k at || (nat_le at k && nat_le k (at + n - 1))) (λ k. nat_lt k (at + n)) (λ k. shown_more at n k some))
 
 -- the events of a stretch are those that were written to it
@@ -142,12 +131,14 @@ polls events size c at h room counts handler some taken_is offered less fits wit
     let none : NoneHold (refusals (replay_setup size) m (Poll h room)) = (lt-leb 3 h handler, (refl, (ne_eqb room 0 nonzero, tt))) in
     let there : nat_lt (slice_index counts h) (available (replay_setup size) m h) ≡ true = rw (taken_is, offered) (lt-ltb at c less) in
     let value = λ (s : ℕ). unwrap_or (written_below events c s) no_event in
-    let by_count : ℕ → ℕ → ℕ → Outcome = λ first av count. record { reply = Batch first count (first + count == av); values = map value (range_with_len first count); state = record m { taken = slice_set counts h (first + count) } } in
-    let outcome : Bool → List Event → ℕ → Outcome = λ end values upto. record { reply = Batch at (c - at) end; values = values; state = record m { taken = slice_set counts h upto } } in
+    let by_count : ℕ → ℕ → ℕ → Outcome =
+    λ first av count. record { reply = Batch first count (first + count == av); values = map value (range_with_len first count); state = record m { taken = slice_set counts h (first + count) } } in
+    let outcome : Bool → List Event → ℕ → Outcome =
+    λ end values upto. record { reply = Batch at (c - at) end; values = values; state = record m { taken = slice_set counts h upto } } in
     let count_is : min (c - at) room ≡ c - at = omega arith in
     let whole : at + (c - at) ≡ c = omega arith in
     let inside : at + (c - at) ≤ c = omega arith in
-    all_pass (refusals (replay_setup size) m (Poll h room)) m (accepted (replay_setup size) m (Poll h room)) none
+    unless-none (refusals (replay_setup size) m (Poll h room)) m (accepted (replay_setup size) m (Poll h room)) none
     ∙ cond-true (nat_lt (slice_index counts h) (available (replay_setup size) m h)) _ _ there
     ∙ ap (λ first. by_count first (available (replay_setup size) m h) (min (available (replay_setup size) m h - first) room)) taken_is
     ∙ ap (λ av. by_count at av (min (av - at) room)) offered
@@ -166,7 +157,7 @@ completes events size c at h counts handler inside taken_is less =
     let same : c ≤ c = omega arith in
     let taken_all : nat_lt (slice_index (slice_set counts h c) h) c ≡ false = rw (get_or-set_same counts h c 0 inside) (le-ltb c c same) in
     let none : NoneHold (refusals (replay_setup size) m (Complete h c)) = (lt-leb 3 h handler, (refl, (behind, (taken_all, tt)))) in
-    all_pass (refusals (replay_setup size) m (Complete h c)) m (accepted (replay_setup size) m (Complete h c)) none
+    unless-none (refusals (replay_setup size) m (Complete h c)) m (accepted (replay_setup size) m (Complete h c)) none
 
 -- what a core's call answers and leaves, where the machine's step is known
 pub record Stepped (o : Outcome) (reply : Reply) (values : List Event) (c : Setup) (new : CoreView) : Type 0 where

@@ -73,12 +73,9 @@ no_counts m a zero = refl
 no_counts m a (suc n) = λ i. all_zero m (count_word a) i ∷ no_counts m (a + 1) n i
 
 pub opens : (k : Shape) → picture_of k (opening k) ≡ machine.opening (setup_of k)
-opens k = let n = words_of k in λ i. record {
-  owners = [];
-  written = λ s. None;
+opens k = let n = words_of k in λ i. record (machine.opening (setup_of k)) {
   published = λ s. (ap (nat_lt s) (all_zero n cursor_word) ∙ le-ltb s 0 (omega arith)) i;
   taken = none_taken k 0 (handlers_of k) i;
   completed = no_counts n 0 (handlers_of k) i;
   halted = (ap (λ (x : ℕ). x == 1) (all_zero n halt_word)) i;
-  retired = nobody;
 }

@@ -45,7 +45,8 @@ keeps_step k SenderCloses w u H K = subst (Kept k) (sym H.2) (keeps_closes k w H
 keeps_step k (ReceiverLooksAtClosed h) w u H K = subst (Kept k) (sym H.2) (keeps_receiver_looks k w h closed_word H.0 (omega arith) H.1 K)
 keeps_step k (ReceiverLooksAtCursor h) w u H K = subst (Kept k) (sym H.2) (keeps_cursor_look k w h H.0 H.1 K)
 keeps_step k (ReceiverLooksAtCount h c) w u H K =
-    let inside = upstream_inside k K.graph h c (let b = at_below w.receivers h H.0 H.1 in let e = K.ends in omega arith) H.2.0 in subst (Kept k) (sym H.2.1) (keeps_receiver_looks k w h (count_word c) H.0 (omega arith) H.1 K)
+    let inside = upstream_inside k K.graph h c (let b = at_below w.receivers h H.0 H.1 in let e = K.ends in omega arith) H.2.0 in
+    subst (Kept k) (sym H.2.1) (keeps_receiver_looks k w h (count_word c) H.0 (omega arith) H.1 K)
 keeps_step k (ReceiverLoadsFirst h) w u H K = subst (Kept k) (sym H.2.1) (keeps_half_taken k w h H.0 H.1 H.2.0 K)
 keeps_step k (ReceiverLoadsSecond h) w u H K = subst (Kept k) (sym H.2.3) (keeps_takes k w h H.2.0 H.0 H.1 H.2.1 H.2.2 K)
 keeps_step k (ReceiverCompletes h n) w u H K = subst (Kept k) (sym H.2.2) (keeps_completes k w h n H.0 H.1 H.2.0 H.2.1 K)
@@ -60,12 +61,14 @@ map_same : (f g : ℕ → ℕ) (a n : ℕ) → ((j : ℕ) → a ≤ j → j < a 
 map_same f g a zero same = refl
 map_same f g a (suc n) same = λ i. same a (omega arith) (omega arith) i ∷ map_same f g (a + 1) n (λ j low high. same j (omega arith) (omega arith)) i
 
-map_but : (f g : ℕ → ℕ) (a n i v : ℕ) → i < n → g (a + i) ≡ v → ((j : ℕ) → j ≢ a + i → g j ≡ f j) → map g (range_with_len a n) ≡ set (map f (range_with_len a n)) i v
+map_but : (f g : ℕ → ℕ) (a n i v : ℕ) → i < n → g (a + i) ≡ v → ((j : ℕ) → j ≢ a + i → g j ≡ f j)
+    → map g (range_with_len a n) ≡ set (map f (range_with_len a n)) i v
 map_but f g a zero i v lt here same = absurd (omega arith)
 map_but f g a (suc n) zero v lt here same =
     λ i. (ap g (let z : a ≡ a + 0 = omega arith in z) ∙ here) i ∷ map_same g f (a + 1) n (λ j low high. same j (λ (e : j ≡ a + 0). omega arith)) i
 map_but f g a (suc n) (suc j) v lt here same = let at : a + 1 + j ≡ a + suc j = omega arith in
-    λ i. same a (λ (e : a ≡ a + suc j). omega arith) i ∷ map_but f g (a + 1) n j v (omega arith) (ap g at ∙ here) (λ q ne. same q (λ (e : q ≡ a + suc j). ne (omega arith))) i
+    λ i. same a (λ (e : a ≡ a + suc j). omega arith) i ∷ map_but f g (a + 1) n j v (omega arith) (ap g at ∙ here)
+    (λ q ne. same q (λ (e : q ≡ a + suc j). ne (omega arith))) i
 
 abbrev counts_of : Shape → List ℕ → List ℕ
 counts_of k words = map (λ h. word_at words (count_word h)) (range_with_len 0 (handlers_of k))
@@ -74,10 +77,14 @@ count_at : (k : Shape) (words : List ℕ) (h : ℕ) → h < handlers_of k → ge
 count_at k words h lt = get_or-map-range_with_len (λ h. word_at words (count_word h)) 0 (handlers_of k) h h 0 lt (omega arith)
 
 counts_stay : (k : Shape) (words : List ℕ) (i v : ℕ) → ((h : ℕ) → h < handlers_of k → count_word h ≢ i) → counts_of k (set words i v) ≡ counts_of k words
-counts_stay k words i v ne = map_same (λ h. word_at (set words i v) (count_word h)) (λ h. word_at words (count_word h)) 0 (handlers_of k) (λ j low high. get_or-set_other words i (count_word j) v 0 (ne j (omega arith)))
+counts_stay k words i v ne =
+    map_same (λ h. word_at (set words i v) (count_word h)) (λ h. word_at words (count_word h)) 0 (handlers_of k)
+    (λ j low high. get_or-set_other words i (count_word j) v 0 (ne j (omega arith)))
 
-count_set : (k : Shape) (words : List ℕ) (h v : ℕ) → h < handlers_of k → count_word h < length words → counts_of k (set words (count_word h) v) ≡ set (counts_of k words) h v
-count_set k words h v lt inside = map_but (λ h. word_at words (count_word h)) (λ j. word_at (set words (count_word h) v) (count_word j)) 0 (handlers_of k) h v lt
+count_set : (k : Shape) (words : List ℕ) (h v : ℕ) → h < handlers_of k → count_word h < length words
+    → counts_of k (set words (count_word h) v) ≡ set (counts_of k words) h v
+count_set k words h v lt inside =
+    map_but (λ h. word_at words (count_word h)) (λ j. word_at (set words (count_word h) v) (count_word j)) 0 (handlers_of k) h v lt
     (let z : 0 + h ≡ h = omega arith in ap (λ (j : ℕ). word_at (set words (count_word h) v) (count_word j)) z ∙ get_or-set_same words (count_word h) v 0 inside)
     (λ j ne. get_or-set_other words (count_word h) (count_word j) v 0 (λ (e : count_word j ≡ count_word h). ne (omega arith)))
 
@@ -86,18 +93,23 @@ abbrev values_of : List Event → List (Option Event) → List (Option Event)
 values_of published pending = map (λ event. Some event) published ++ pending
 
 values_count : (published : List Event) (pending : List (Option Event)) → length (values_of published pending) ≡ length published + length pending
-values_count published pending = length-append (map (λ event. Some event) published) pending ∙ ap (λ (n : ℕ). n + length pending) (length-map published (λ event. Some event))
+values_count published pending =
+    length-append (map (λ event. Some event) published) pending ∙ ap (λ (n : ℕ). n + length pending) (length-map published (λ event. Some event))
 
 leads_one : (k : Shape) (command : Command) (reply : Reply) (values : List Event) (rest : Transcript) (m n end : State)
-    → machine.step (setup_of k) m command ≡ record { reply = reply; values = values; state = n } → LeadsFrom (setup_of k) n rest end → LeadsFrom (setup_of k) m (entry command reply values ++ rest) end
+    → machine.step (setup_of k) m command ≡ record { reply = reply; values = values; state = n } → LeadsFrom (setup_of k) n rest end
+    → LeadsFrom (setup_of k) m (entry command reply values ++ rest) end
 leads_one k command reply values rest m n end is leads =
     (ap (λ (o : Outcome). o.reply) is, ap (λ (o : Outcome). o.values) is, subst (λ (x : State). LeadsFrom (setup_of k) x rest end) (sym (ap (λ (o : Outcome). o.state) is)) leads)
 
 -- the picture, by its parts
 abbrev parts : Shape → World → State
-parts k w = shown (claimed w.sender) (values_of w.sender.published w.sender.pending) (word_at w.words cursor_word) (map taken_of w.receivers) (counts_of k w.words) (word_at w.words halt_word == 1)
+parts k w =
+    shown k (claimed w.sender) (values_of w.sender.published w.sender.pending) (word_at w.words cursor_word) (map taken_of w.receivers)
+    (counts_of k w.words) (word_at w.words halt_word == 1)
 
-same_taken : (w : World) (h : ℕ) (r q : ReceiverRecord) → get_elem? w.receivers h ≡ some r → taken_of q ≡ taken_of r → map taken_of (set w.receivers h q) ≡ map taken_of w.receivers
+same_taken : (w : World) (h : ℕ) (r q : ReceiverRecord) → get_elem? w.receivers h ≡ some r → taken_of q ≡ taken_of r
+    → map taken_of (set w.receivers h q) ≡ map taken_of w.receivers
 same_taken w h r q at same = map-set_same taken_of w.receivers h q r (same ∙ ap taken_of (sym (value_at w.receivers h r r at)))
 
 taken_at : (w : World) (h : ℕ) (r : ReceiverRecord) → get_elem? w.receivers h ≡ some r → get_or (map taken_of w.receivers) h 0 ≡ length r.received
@@ -106,8 +118,10 @@ taken_at w h r at = get_or-map taken_of w.receivers h r 0 (at_below w.receivers 
 inside_of : (k : Shape) (w : World) (h : ℕ) (r : ReceiverRecord) → Kept k w → get_elem? w.receivers h ≡ some r → h < handlers_of k
 inside_of k w h r K at = let b = at_below w.receivers h r at in let e = K.ends in omega arith
 
-same_picture : (k : Shape) (w : World) (h : ℕ) (r q : ReceiverRecord) → get_elem? w.receivers h ≡ some r → taken_of q ≡ taken_of r → picture_of k (receiver_knows w h q) ≡ picture_of k w
-same_picture k w h r q at same = ap (λ (t : List ℕ). shown (claimed w.sender) (values_of w.sender.published w.sender.pending) (word_at w.words cursor_word) t (counts_of k w.words) (word_at w.words halt_word == 1)) (same_taken w h r q at same)
+same_picture : (k : Shape) (w : World) (h : ℕ) (r q : ReceiverRecord) → get_elem? w.receivers h ≡ some r → taken_of q ≡ taken_of r
+    → picture_of k (receiver_knows w h q) ≡ picture_of k w
+same_picture k w h r q at same =
+    ap (λ (t : List ℕ). shown k (claimed w.sender) (values_of w.sender.published w.sender.pending) (word_at w.words cursor_word) t (counts_of k w.words) (word_at w.words halt_word == 1)) (same_taken w h r q at same)
 
 -- there is a final handler
 pub some_final : (k : Shape) → IsGraph k.upstreams → 0 < length (finals k.upstreams)
@@ -116,7 +130,8 @@ some_final k graph =
     let has : Contains (finals k.upstreams) g.last = g.final in let lt = has.1 in omega arith
 
 -- what a claim of the sender has room for, the machine has
-claim_room : (k : Shape) (w : World) (n : ℕ) (t : List ℕ) (m : State) → m.completed ≡ counts_of k w.words → HasRoom k w.sender n → Kept k w → claimed w.sender + n ≤ k.size + least_completed m (finals k.upstreams)
+claim_room : (k : Shape) (w : World) (n : ℕ) (t : List ℕ) (m : State) → m.completed ≡ counts_of k w.words → HasRoom k w.sender n → Kept k w
+    → claimed w.sender + n ≤ k.size + least_completed m (finals k.upstreams)
 claim_room k w n t m same room K =
     counts_below m (finals k.upstreams) k.size (claimed w.sender + n) (some_final k K.graph)
     (λ f has. (let i = final_inside k.upstreams f has in let a = room.completed f has in
@@ -127,7 +142,8 @@ claim_room k w n t m same room K =
 claim_fits : (k : Shape) (w : World) (n : ℕ) → HasRoom k w.sender n → Kept k w → n ≤ k.size
 claim_fits k w n room K =
     let some_one = K.graph.some in
-    let g : IsGated k.upstreams nobody (λ h. word_at w.words (count_word h)) 0 = K.graph.gate nobody (λ h. word_at w.words (count_word h)) (orderly k w K) 0 some_one refl in
+    let g : IsGated k.upstreams nobody (λ h. word_at w.words (count_word h)) 0 =
+    K.graph.gate nobody (λ h. word_at w.words (count_word h)) (orderly k w K) 0 some_one refl in
     let i = final_inside k.upstreams g.last g.final in let a = room.completed g.last g.final in
     let b = last_look_le k w.words 0 w.sender.looks (count_word g.last) (omega arith) K.looks in
     let d : word_at w.words (count_word g.last) ≤ word_at w.words (count_word 0) = g.behind in
@@ -149,29 +165,35 @@ abbrev claim_of : World → ℕ → Bool → Transcript
 claim_of w n b = if b then entry (Claim 0 n) (Claimed (claimed w.sender) (claimed w.sender + n - 1)) [] else []
 
 lead_claim : (k : Shape) (w : World) (n : ℕ) (rest : Transcript) (end : State) → (0 < n → HasRoom k w.sender n) → Kept k w
-    → Leads k rest (picture_of k (sender_knows w (halt_looked w.sender n (word_at w.words halt_word)))) end → Leads k (claim_of w n (not (n == 0) && (word_at w.words halt_word == 0)) ++ rest) (parts k w) end
+    → Leads k rest (picture_of k (sender_knows w (halt_looked w.sender n (word_at w.words halt_word)))) end
+    → Leads k (claim_of w n (not (n == 0) && (word_at w.words halt_word == 0)) ++ rest) (parts k w) end
 lead_claim k w n rest end room K leads =
     let found = word_at w.words halt_word in let s = w.sender in
-    let P : List (Option Event) → Type 0 = λ more. Leads k rest (picture_of k (sender_knows w (record s { pending = s.pending ++ more; looks = s.looks ++ look halt_word found ∷ [] }))) end in
-    let P' : List (Option Event) → Type 0 = λ xs. Leads k rest (picture_of k (sender_knows w (record s { pending = xs; looks = s.looks ++ look halt_word found ∷ [] }))) end in
+    let P : List (Option Event) → Type 0 =
+    λ more. Leads k rest (picture_of k (sender_knows w (record s { pending = s.pending ++ more; looks = s.looks ++ look halt_word found ∷ [] }))) end in
+    let P' : List (Option Event) → Type 0 =
+    λ xs. Leads k rest (picture_of k (sender_knows w (record s { pending = xs; looks = s.looks ++ look halt_word found ∷ [] }))) end in
     elim (cases_lt 0 n) [
       | inl some_one ↦ elim (cases_eq found 0) [
         | inl going ↦ (
             let more : P (replicate n None) = subst P (let e : opens n found ≡ replicate n None = rw (eq-eqb found 0 going) refl in e) leads in
             let nothing : Option Event = None in
-            let longer : length s.published + length (s.pending ++ replicate n nothing) ≡ claimed s + n = omega (arith, length-append s.pending (replicate n nothing), length-replicate n nothing) in
+            let longer : length s.published + length (s.pending ++ replicate n nothing) ≡ claimed s + n =
+            omega (arith, length-append s.pending (replicate n nothing), length-replicate n nothing) in
             let vs = values_of s.published s.pending in
-            let joined : values_of s.published (s.pending ++ replicate n nothing) ≡ vs ++ replicate n nothing = sym (append_assoc (map (λ event. Some event) s.published) s.pending (replicate n nothing)) in
-            let m = shown (claimed s) vs (word_at w.words cursor_word) (map taken_of w.receivers) (counts_of k w.words) false in
+            let joined : values_of s.published (s.pending ++ replicate n nothing) ≡ vs ++ replicate n nothing =
+            sym (append_assoc (map (λ event. Some event) s.published) s.pending (replicate n nothing)) in
+            let m = shown k (claimed s) vs (word_at w.words cursor_word) (map taken_of w.receivers) (counts_of k w.words) false in
             let r = room some_one in
             let halt : (found == 0) ≡ true = eq-eqb found 0 going in
             let off : (found == 1) ≡ false = ne_eqb found 1 (λ (e : found ≡ 1). omega arith) in
-            let going_on : Leads k rest (shown (claimed s + n) (vs ++ replicate n None) (word_at w.words cursor_word) (map taken_of w.receivers) (counts_of k w.words) false) end =
-            subst (λ (x : State). Leads k rest x end) (λ i. shown (longer i) (joined i) (word_at w.words cursor_word) (map taken_of w.receivers) (counts_of k w.words) (off i)) more in
+            let going_on : Leads k rest (shown k (claimed s + n) (vs ++ replicate n None) (word_at w.words cursor_word) (map taken_of w.receivers) (counts_of k w.words) false) end =
+            subst (λ (x : State). Leads k rest x end)
+            (λ i. shown k (longer i) (joined i) (word_at w.words cursor_word) (map taken_of w.receivers) (counts_of k w.words) (off i)) more in
             let one = leads_one k (Claim 0 n) (Claimed (claimed s) (claimed s + n - 1)) [] rest m _ end
             (claim_step k (claimed s) n vs (word_at w.words cursor_word) (map taken_of w.receivers) (counts_of k w.words) some_one (claim_fits k w n r K) r.limit (claim_room k w n (map taken_of w.receivers) m refl r K)) going_on in
             let here : Leads k (entry (Claim 0 n) (Claimed (claimed s) (claimed s + n - 1)) [] ++ rest) (parts k w) end =
-            subst (λ (b : Bool). Leads k (entry (Claim 0 n) (Claimed (claimed s) (claimed s + n - 1)) [] ++ rest) (shown (claimed s) vs (word_at w.words cursor_word) (map taken_of w.receivers) (counts_of k w.words) b) end) (sym off) one in
+            subst (λ (b : Bool). Leads k (entry (Claim 0 n) (Claimed (claimed s) (claimed s + n - 1)) [] ++ rest) (shown k (claimed s) vs (word_at w.words cursor_word) (map taken_of w.receivers) (counts_of k w.words) b) end) (sym off) one in
             let both : (not (n == 0) && (found == 0)) ≡ true = rw (ne_eqb n 0 (λ (e : n ≡ 0). omega arith)) halt in
             subst (λ (b : Bool). Leads k (claim_of w n b ++ rest) (parts k w) end) (sym both) here)
         | inr over ↦ (
@@ -190,25 +212,29 @@ lead_claim k w n rest end room K leads =
     ]
 
 lead_write : (k : Shape) (w : World) (x : HalfWrite) (v : ℕ) (rest : Transcript) (end : State) → w.sender.half ≡ Some x → Kept k w
-    → Leads k rest (picture_of k (sender_stores w (payload_word k x.sequence 1) v (written w.sender x.sequence record { first = x.first; second = v }))) end → Leads k (write_of w.sender.half v ++ rest) (parts k w) end
+    → Leads k rest (picture_of k (sender_stores w (payload_word k x.sequence 1) v (written w.sender x.sequence record { first = x.first; second = v }))) end
+    → Leads k (write_of w.sender.half v ++ rest) (parts k w) end
 lead_write k w x v rest end has K leads =
     let s = w.sender in let event : Event = record { first = x.first; second = v } in let half = K.payload.halves x has in let le = half.0 in let lt = half.1 in
     let vs = values_of s.published s.pending in let i = payload_word k x.sequence 1 in let us = set w.words i v in
     let count = values_count s.published s.pending in let cursor = K.counts.cursor in
     let stays : (j : ℕ) → j < payload_start k → word_at us j ≡ word_at w.words j = λ j below. get_or-set_other w.words i j v 0 (λ (e : j ≡ i). omega arith) in
-    let same : length (set s.pending (x.sequence - length s.published) (Some event)) ≡ length s.pending = length-set s.pending (x.sequence - length s.published) (Some event) in
+    let same : length (set s.pending (x.sequence - length s.published) (Some event)) ≡ length s.pending =
+    length-set s.pending (x.sequence - length s.published) (Some event) in
     let place : values_of s.published (set s.pending (x.sequence - length s.published) (Some event)) ≡ set vs x.sequence (Some event) =
     sym (set-append_right (map (λ event. Some event) s.published) s.pending (length s.published) x.sequence (Some event) (length-map s.published (λ event. Some event)) le) in
     let counts : counts_of k us ≡ counts_of k w.words = counts_stay k w.words i v (λ h inside. (λ (e : count_word h ≡ i). omega arith)) in
     let one = stays cursor_word (omega arith) in let two = stays halt_word (omega arith) in
-    let going_on : Leads k rest (shown (claimed s) (set vs x.sequence (Some event)) (word_at w.words cursor_word) (map taken_of w.receivers) (counts_of k w.words) (word_at w.words halt_word == 1)) end =
-    subst (λ (y : State). Leads k rest y end) (λ i. shown (length s.published + same i) (place i) (one i) (map taken_of w.receivers) (counts i) (two i == 1)) leads in
+    let going_on : Leads k rest (shown k (claimed s) (set vs x.sequence (Some event)) (word_at w.words cursor_word) (map taken_of w.receivers) (counts_of k w.words) (word_at w.words halt_word == 1)) end =
+    subst (λ (y : State). Leads k rest y end)
+    (λ i. shown k (length s.published + same i) (place i) (one i) (map taken_of w.receivers) (counts i) (two i == 1)) leads in
     subst (λ (h : Option HalfWrite). Leads k (write_of h v ++ rest) (parts k w) end) (sym has)
     (leads_one k (Write 0 x.sequence event) Written [] rest (parts k w) _ end
     (write_step k (claimed s) vs (word_at w.words cursor_word) (map taken_of w.receivers) (counts_of k w.words) (word_at w.words halt_word == 1) x.sequence event count (omega arith) lt) going_on)
 
 -- what is written stays when it is published
-published_same : (vs : List (Option Event)) (m : ℕ) → ((i : ℕ) → i < m → (v : Event) × (get_or vs i None ≡ Some v)) → m ≤ length vs → map (λ event. Some event) (map event_or_none (take m vs)) ++ drop m vs ≡ vs
+published_same : (vs : List (Option Event)) (m : ℕ) → ((i : ℕ) → i < m → (v : Event) × (get_or vs i None ≡ Some v)) → m ≤ length vs
+    → map (λ event. Some event) (map event_or_none (take m vs)) ++ drop m vs ≡ vs
 published_same [] zero all le = refl
 published_same [] (suc m) all le = absurd (omega arith)
 published_same (x ∷ xs) zero all le = refl
@@ -216,8 +242,10 @@ published_same (x ∷ xs) (suc m) all le =
     let h = all 0 (omega arith) in let e : Some (event_or_none x) ≡ x = ap (λ (o : Option Event). Some (event_or_none o)) h.1 ∙ sym h.1 in
     λ i. e i ∷ published_same xs m (λ j lt. all (suc j) (omega arith)) (omega arith) i
 
-lead_publish : (k : Shape) (w : World) (n : ℕ) (rest : Transcript) (end : State) → length w.sender.published < n → n ≤ claimed w.sender → AreWritten w.sender n → Kept k w
-    → Leads k rest (picture_of k (sender_stores w cursor_word n (published_to w.sender n))) end → Leads k (entry (Publish 0 (word_at w.words cursor_word) (n - 1)) Published [] ++ rest) (parts k w) end
+lead_publish : (k : Shape) (w : World) (n : ℕ) (rest : Transcript) (end : State) → length w.sender.published < n → n ≤ claimed w.sender
+    → AreWritten w.sender n → Kept k w
+    → Leads k rest (picture_of k (sender_stores w cursor_word n (published_to w.sender n))) end
+    → Leads k (entry (Publish 0 (word_at w.words cursor_word) (n - 1)) Published [] ++ rest) (parts k w) end
 lead_publish k w n rest end lt le all K leads =
     let s = w.sender in let old = s.published in let pending = s.pending in let m = n - length old in let new = map event_or_none (take m pending) in
     let vs = values_of old pending in let us = set w.words cursor_word n in let cursor = K.counts.cursor in let wide = K.wide in
@@ -225,7 +253,8 @@ lead_publish k w n rest end lt le all K leads =
     let longer : length (old ++ new) ≡ n = omega (arith, length-append old new) in
     let left : length (drop m pending) + m ≡ length pending = omega (arith, length-drop m pending) in
     let whole : length (old ++ new) + length (drop m pending) ≡ claimed s = omega arith in
-    let ready : (i : ℕ) → i < m → (v : Event) × (get_or pending i None ≡ Some v) = λ i below. (let a = all (length old + i) (omega arith) (omega arith) in let z : length old + i - length old ≡ i = omega arith in (a.0, ap (λ (j : ℕ). get_or pending j None) (sym z) ∙ a.1)) in
+    let ready : (i : ℕ) → i < m → (v : Event) × (get_or pending i None ≡ Some v) =
+    λ i below. (let a = all (length old + i) (omega arith) (omega arith) in let z : length old + i - length old ≡ i = omega arith in (a.0, ap (λ (j : ℕ). get_or pending j None) (sym z) ∙ a.1)) in
     let same : values_of (old ++ new) (drop m pending) ≡ vs =
     ap (λ (xs : List (Option Event)). xs ++ drop m pending) (map-append (λ event. Some event) old new)
     ∙ append_assoc (map (λ event. Some event) old) (map (λ event. Some event) new) (drop m pending)
@@ -233,22 +262,25 @@ lead_publish k w n rest end lt le all K leads =
     let stays : (j : ℕ) → 0 < j → word_at us j ≡ word_at w.words j = λ j pos. get_or-set_other w.words cursor_word j n 0 (λ (e : j ≡ 0). omega arith) in
     let counts : counts_of k us ≡ counts_of k w.words = counts_stay k w.words cursor_word n (λ h inside. (λ (e : count_word h ≡ cursor_word). omega arith)) in
     let one : word_at us cursor_word ≡ n = get_or-set_same w.words cursor_word n 0 (omega arith) in let two = stays halt_word (omega arith) in
-    let going_on : Leads k rest (shown (claimed s) vs n (map taken_of w.receivers) (counts_of k w.words) (word_at w.words halt_word == 1)) end =
-    subst (λ (y : State). Leads k rest y end) (λ i. shown (whole i) (same i) (one i) (map taken_of w.receivers) (counts i) (two i == 1)) leads in
+    let going_on : Leads k rest (shown k (claimed s) vs n (map taken_of w.receivers) (counts_of k w.words) (word_at w.words halt_word == 1)) end =
+    subst (λ (y : State). Leads k rest y end) (λ i. shown k (whole i) (same i) (one i) (map taken_of w.receivers) (counts i) (two i == 1)) leads in
     leads_one k (Publish 0 (word_at w.words cursor_word) (n - 1)) Published [] rest (parts k w) _ end
     (publish_step k (claimed s) vs (word_at w.words cursor_word) (map taken_of w.receivers) (counts_of k w.words) (word_at w.words halt_word == 1) n (omega arith) le
     (λ q low high. (let a = all q (omega arith) high in
-    let e : get_or vs q None ≡ Some a.0 = get_or-append_right (map (λ event. Some event) old) pending (length old) q None (length-map old (λ event. Some event)) (omega arith) ∙ a.1 in ap is_none e))) going_on
+    let e : get_or vs q None ≡ Some a.0 =
+    get_or-append_right (map (λ event. Some event) old) pending (length old) q None (length-map old (λ event. Some event)) (omega arith) ∙ a.1 in
+    ap is_none e))) going_on
 
-lead_drained : (k : Shape) (w : World) (h : ℕ) (r : ReceiverRecord) (rest : Transcript) (end : State) → get_elem? w.receivers h ≡ some r → tells_drained r (word_at w.words cursor_word) ≡ true → Kept k w
+lead_drained : (k : Shape) (w : World) (h : ℕ) (r : ReceiverRecord) (rest : Transcript) (end : State) → get_elem? w.receivers h ≡ some r
+    → tells_drained r (word_at w.words cursor_word) ≡ true → Kept k w
     → Leads k rest (parts k w) end → Leads k (entry (Poll h 1) Drained [] ++ rest) (parts k w) end
 lead_drained k w h r rest end at tells K leads =
     let t = tells_truth k w h r at tells K in let closed = K.flags.complete t.0 in let none = closed.1 in let all = t.1 in let cursor = K.counts.cursor in
     let s = w.sender in let vs = values_of s.published s.pending in let d = counts_of k w.words in let ts = map taken_of w.receivers in
     let on : true ≡ (word_at w.words halt_word == 1) = sym (eq-eqb (word_at w.words halt_word) 1 closed.0) in
     let inside = inside_of k w h r K at in
-    let S : Bool → State = λ b. shown (claimed s) vs (word_at w.words cursor_word) ts d b in
-    let seen : front (S true) ≡ word_at w.words cursor_word = shown_front (claimed s) vs (word_at w.words cursor_word) ts d true (omega arith) in
+    let S : Bool → State = λ b. shown k (claimed s) vs (word_at w.words cursor_word) ts d b in
+    let seen : front (S true) ≡ word_at w.words cursor_word = shown_front k (claimed s) vs (word_at w.words cursor_word) ts d true (omega arith) in
     let offer : available (setup_of k) (S true) h ≤ claimed s = offered_at_most (S true) (upstreams_of k.upstreams h) (claimed s) (omega arith)
     (λ u has. (let i = upstream_inside k K.graph h u inside has in let c = count_at k w.words u i in let o = receiver_of_handler k w K u i in let a = o.2.count in let b = o.2.completed in let e = o.2.taken in omega arith)) in
     let step = drained_step k (claimed s) vs (word_at w.words cursor_word) ts d h inside offer (taken_at w h r at ∙ omega arith) in
@@ -256,14 +288,16 @@ lead_drained k w h r rest end at tells K leads =
     (leads_one k (Poll h 1) Drained [] rest (S true) (S true) end step (subst (λ (b : Bool). Leads k rest (S b) end) (sym on) leads))
 
 lead_cursor_look : (k : Shape) (w : World) (h : ℕ) (r : ReceiverRecord) (rest : Transcript) (end : State) → get_elem? w.receivers h ≡ some r → Kept k w
-    → Leads k rest (parts k w) end → Leads k ((if tells_drained r (word_at w.words cursor_word) then entry (Poll h 1) Drained [] else []) ++ rest) (parts k w) end
+    → Leads k rest (parts k w) end
+    → Leads k ((if tells_drained r (word_at w.words cursor_word) then entry (Poll h 1) Drained [] else []) ++ rest) (parts k w) end
 lead_cursor_look k w h r rest end at K leads =
     elim (cases_Bool (tells_drained r (word_at w.words cursor_word))) [
       | inl told ↦ subst (λ (b : Bool). Leads k ((if b then entry (Poll h 1) Drained [] else []) ++ rest) (parts k w) end) (sym told) (lead_drained k w h r rest end at told K leads)
       | inr quiet ↦ subst (λ (b : Bool). Leads k ((if b then entry (Poll h 1) Drained [] else []) ++ rest) (parts k w) end) (sym quiet) leads
     ]
 
-lead_take : (k : Shape) (w : World) (h first : ℕ) (r : ReceiverRecord) (rest : Transcript) (end : State) → get_elem? w.receivers h ≡ some r → r.half ≡ Some first → IsBelowBarrier k h r → Kept k w
+lead_take : (k : Shape) (w : World) (h first : ℕ) (r : ReceiverRecord) (rest : Transcript) (end : State) → get_elem? w.receivers h ≡ some r
+    → r.half ≡ Some first → IsBelowBarrier k h r → Kept k w
     → Leads k rest (picture_of k (receiver_knows w h (took r record { first = first; second = word_at w.words (payload_word k (length r.received) 1) }))) end
     → Leads k (poll_of h r.half (word_at w.words (payload_word k (length r.received) 1)) (length r.received) (available (setup_of k) (picture_of k w) h) ++ rest) (parts k w) end
 lead_take k w h first r rest end at half low K leads =
@@ -273,22 +307,30 @@ lead_take k w h first r rest end at half low K leads =
     let below : n < length s.published = early k w h r at low K in
     let inside = inside_of k w h r K at in let was = K.received h r at in let cursor = K.counts.cursor in
     let is : get_or ts h 0 ≡ n = taken_at w h r at in
-    let seen : front m ≡ word_at w.words cursor_word = shown_front (claimed s) (values_of s.published s.pending) (word_at w.words cursor_word) ts (counts_of k w.words) (word_at w.words halt_word == 1) (omega arith) in
+    let seen : front m ≡ word_at w.words cursor_word =
+    shown_front k (claimed s) (values_of s.published s.pending) (word_at w.words cursor_word) ts (counts_of k w.words)
+    (word_at w.words halt_word == 1) (omega arith) in
     let more : n < available (setup_of k) m h = offered_more m (upstreams_of k.upstreams h) n (λ none. omega arith)
     (λ u has. (let i = upstream_inside k K.graph h u inside has in let c = count_at k w.words u i in let a = low.completed u has in let b = last_look_le k w.words 0 r.looks (count_word u) (omega arith) was.looks in omega arith)) in
     let value : unwrap_or (m.written n) no_event ≡ found =
-    ap event_or_none (get_or_append_left (map (λ event. Some event) s.published) s.pending None n (omega (arith, length-map s.published (λ (event : Event). Some event))) ∙ get_or-map (λ event. Some event) s.published n no_event None below) ∙ sym event in
+    ap event_or_none (get_or_append_left (map (λ event. Some event) s.published) s.pending None n (omega (arith, length-map s.published (λ (event : Event). Some event))) ∙ get_or-map (λ event. Some event) s.published n no_event None below)
+    ∙ sym event in
     let step = take_step k m h inside refl (omega arith) in
-    let set_taken : map taken_of (set w.receivers h (took r found)) ≡ set ts h (n + 1) = map-set taken_of w.receivers h (took r found) ∙ ap (λ (j : ℕ). set ts h j) (length_push r.received found) in
-    let going_on : Leads k rest (record m { taken = set ts h (n + 1) }) end = subst (λ (xs : List ℕ). Leads k rest (record m { taken = xs }) end) set_taken leads in
+    let set_taken : map taken_of (set w.receivers h (took r found)) ≡ set ts h (n + 1) =
+    map-set taken_of w.receivers h (took r found) ∙ ap (λ (j : ℕ). set ts h j) (length_push r.received found) in
+    let going_on : Leads k rest (record m { taken = set ts h (n + 1) }) end =
+    subst (λ (xs : List ℕ). Leads k rest (record m { taken = xs }) end) set_taken leads in
     let exact : machine.step (setup_of k) m (Poll h 1) ≡ record { reply = Batch n 1 (n + 1 == available (setup_of k) m h); values = found ∷ []; state = record m { taken = set ts h (n + 1) } } =
-    step ∙ ap (λ (j : ℕ). let o : Outcome = record { reply = Batch j 1 (j + 1 == available (setup_of k) m h); values = unwrap_or (m.written j) no_event ∷ []; state = record m { taken = set ts h (j + 1) } } in o) is
+    step
+    ∙ ap (λ (j : ℕ). let o : Outcome = record { reply = Batch j 1 (j + 1 == available (setup_of k) m h); values = unwrap_or (m.written j) no_event ∷ []; state = record m { taken = set ts h (j + 1) } } in o) is
     ∙ ap (λ (e : Event). let o : Outcome = record { reply = Batch n 1 (n + 1 == available (setup_of k) m h); values = e ∷ []; state = record m { taken = set ts h (n + 1) } } in o) value in
     subst (λ (o : Option ℕ). Leads k (poll_of h o (word_at w.words (payload_word k n 1)) n (available (setup_of k) m h) ++ rest) m end) (sym half)
     (leads_one k (Poll h 1) (Batch n 1 (n + 1 == available (setup_of k) m h)) (found ∷ []) rest m _ end exact going_on)
 
-lead_complete : (k : Shape) (w : World) (h n : ℕ) (r : ReceiverRecord) (rest : Transcript) (end : State) → get_elem? w.receivers h ≡ some r → r.completed ≤ n → n ≤ length r.received → Kept k w
-    → Leads k rest (picture_of k (receiver_stores w h (completed_to r n) (count_word h) n)) end → Leads k (entry (Complete h n) Completed [] ++ rest) (parts k w) end
+lead_complete : (k : Shape) (w : World) (h n : ℕ) (r : ReceiverRecord) (rest : Transcript) (end : State) → get_elem? w.receivers h ≡ some r
+    → r.completed ≤ n → n ≤ length r.received → Kept k w
+    → Leads k rest (picture_of k (receiver_stores w h (completed_to r n) (count_word h) n)) end
+    → Leads k (entry (Complete h n) Completed [] ++ rest) (parts k w) end
 lead_complete k w h n r rest end at rise le K leads =
     let s = w.sender in let m = parts k w in let inside = inside_of k w h r K at in let was = K.received h r at in let wide = K.wide in
     let i = count_word h in let us = set w.words i n in
@@ -297,18 +339,20 @@ lead_complete k w h n r rest end at rise le K leads =
     let one = stays cursor_word (λ e. omega arith) in let two = stays halt_word (λ e. omega arith) in
     let counts : counts_of k us ≡ set (counts_of k w.words) h n = count_set k w.words h n inside (omega arith) in
     let going_on : Leads k rest (record m { completed = set (counts_of k w.words) h n }) end =
-    subst (λ (y : State). Leads k rest y end) (λ i. shown (claimed s) (values_of s.published s.pending) (one i) (same_taken w h r (completed_to r n) at refl i) (counts i) (two i == 1)) leads in
+    subst (λ (y : State). Leads k rest y end)
+    (λ i. shown k (claimed s) (values_of s.published s.pending) (one i) (same_taken w h r (completed_to r n) at refl i) (counts i) (two i == 1)) leads in
     leads_one k (Complete h n) Completed [] rest m _ end (complete_step k m h n inside refl (omega arith) (omega arith)) going_on
 
 -- halt or closed is stored: nothing else shows
 lead_flag : (k : Shape) (w : World) (i : ℕ) (rest : Transcript) (end : State) (b : Bool) → 0 < i → i < 32 → (word_at (set w.words i 1) halt_word == 1) ≡ b
-    → Leads k rest (shown (claimed w.sender) (values_of w.sender.published w.sender.pending) (word_at (set w.words i 1) cursor_word) (map taken_of w.receivers) (counts_of k (set w.words i 1)) (word_at (set w.words i 1) halt_word == 1)) end
+    → Leads k rest (shown k (claimed w.sender) (values_of w.sender.published w.sender.pending) (word_at (set w.words i 1) cursor_word) (map taken_of w.receivers) (counts_of k (set w.words i 1)) (word_at (set w.words i 1) halt_word == 1)) end
     → Leads k rest (record (parts k w) { halted = b }) end
 lead_flag k w i rest end b pos lt halt leads =
     let s = w.sender in let us = set w.words i 1 in
     let one : word_at us cursor_word ≡ word_at w.words cursor_word = get_or-set_other w.words i cursor_word 1 0 (λ (e : cursor_word ≡ i). omega arith) in
     let counts : counts_of k us ≡ counts_of k w.words = counts_stay k w.words i 1 (λ h inside. (λ (e : count_word h ≡ i). omega arith)) in
-    subst (λ (y : State). Leads k rest y end) (λ j. shown (claimed s) (values_of s.published s.pending) (one j) (map taken_of w.receivers) (counts j) (halt j)) leads
+    subst (λ (y : State). Leads k rest y end)
+    (λ j. shown k (claimed s) (values_of s.published s.pending) (one j) (map taken_of w.receivers) (counts j) (halt j)) leads
 
 halt_on : (k : Shape) (w : World) → Kept k w → (word_at (set w.words halt_word 1) halt_word == 1) ≡ true
 halt_on k w K = let wide = K.wide in eq-eqb _ _ (get_or-set_same w.words halt_word 1 0 (omega arith))
@@ -316,16 +360,19 @@ halt_on k w K = let wide = K.wide in eq-eqb _ _ (get_or-set_same w.words halt_wo
 is_receiver : (k : Shape) (w : World) (h : ℕ) (r : ReceiverRecord) → get_elem? w.receivers h ≡ some r → receiver_at k w h ≡ r
 is_receiver k w h r at = value_at w.receivers h r (fresh_receiver k h) at
 
-lead_step : (k : Shape) (s : Step) (w u : World) (rest : Transcript) (end : State) → Happens k s w u → Kept k w → Leads k rest (picture_of k u) end → Leads k (events_of k s w ++ rest) (picture_of k w) end
+lead_step : (k : Shape) (s : Step) (w u : World) (rest : Transcript) (end : State) → Happens k s w u → Kept k w → Leads k rest (picture_of k u) end
+    → Leads k (events_of k s w ++ rest) (picture_of k w) end
 lead_step k (SenderLooksAtCount f) w u rest end H K L = subst (λ (x : World). Leads k rest (picture_of k x) end) H.1 L
 lead_step k (SenderLooksAtHalt n) w u rest end H K L = lead_claim k w n rest end H.0 K (subst (λ (x : World). Leads k rest (picture_of k x) end) H.1 L)
 lead_step k (SenderStoresFirst s v) w u rest end H K L =
     let some_slot = K.some_slot in let i = payload_word k s 0 in let us = set w.words i v in
-    let now : Leads k rest (picture_of k (sender_stores w i v (half_written w.sender s v))) end = subst (λ (x : World). Leads k rest (picture_of k x) end) H.2 L in
+    let now : Leads k rest (picture_of k (sender_stores w i v (half_written w.sender s v))) end =
+    subst (λ (x : World). Leads k rest (picture_of k x) end) H.2 L in
     let one : word_at us cursor_word ≡ word_at w.words cursor_word = get_or-set_other w.words i cursor_word v 0 (λ (e : cursor_word ≡ i). omega arith) in
     let two : word_at us halt_word ≡ word_at w.words halt_word = get_or-set_other w.words i halt_word v 0 (λ (e : halt_word ≡ i). omega arith) in
     let counts : counts_of k us ≡ counts_of k w.words = counts_stay k w.words i v (λ h inside. (λ (e : count_word h ≡ i). omega arith)) in
-    subst (λ (y : State). Leads k rest y end) (λ j. shown (claimed w.sender) (values_of w.sender.published w.sender.pending) (one j) (map taken_of w.receivers) (counts j) (two j == 1)) now
+    subst (λ (y : State). Leads k rest y end)
+    (λ j. shown k (claimed w.sender) (values_of w.sender.published w.sender.pending) (one j) (map taken_of w.receivers) (counts j) (two j == 1)) now
 lead_step k (SenderStoresSecond v) w u rest end H K L = lead_write k w H.0 v rest end H.1 K (subst (λ (x : World). Leads k rest (picture_of k x) end) H.2 L)
 lead_step k (SenderPublishes n) w u rest end H K L = lead_publish k w n rest end H.0 H.1 H.2 K (subst (λ (x : World). Leads k rest (picture_of k x) end) H.4 L)
 lead_step k SenderHalts w u rest end H K L =
@@ -336,19 +383,26 @@ lead_step k SenderCloses w u rest end H K L =
     (ap (λ (x : ℕ). x == 1) (get_or-set_other w.words closed_word halt_word 1 0 (λ (e : halt_word ≡ closed_word). omega arith)))
     (subst (λ (x : World). Leads k rest (picture_of k x) end) H.2 L)
 lead_step k (ReceiverLooksAtClosed h) w u rest end H K L =
-    subst (λ (x : State). Leads k rest x end) (same_picture k w h H.0 (receiver_looked H.0 closed_word (word_at w.words closed_word)) H.1 refl) (subst (λ (x : World). Leads k rest (picture_of k x) end) H.2 L)
+    subst (λ (x : State). Leads k rest x end) (same_picture k w h H.0 (receiver_looked H.0 closed_word (word_at w.words closed_word)) H.1 refl)
+    (subst (λ (x : World). Leads k rest (picture_of k x) end) H.2 L)
 lead_step k (ReceiverLooksAtCursor h) w u rest end H K L =
-    subst (λ (r : ReceiverRecord). Leads k ((if tells_drained r (word_at w.words cursor_word) then entry (Poll h 1) Drained [] else []) ++ rest) (parts k w) end) (sym (is_receiver k w h H.0 H.1))
+    subst
+    (λ (r : ReceiverRecord). Leads k ((if tells_drained r (word_at w.words cursor_word) then entry (Poll h 1) Drained [] else []) ++ rest) (parts k w) end)
+    (sym (is_receiver k w h H.0 H.1))
     (lead_cursor_look k w h H.0 rest end H.1 K
     (subst (λ (x : State). Leads k rest x end) (same_picture k w h H.0 (cursor_looked H.0 (word_at w.words cursor_word)) H.1 refl) (subst (λ (x : World). Leads k rest (picture_of k x) end) H.2 L)))
 lead_step k (ReceiverLooksAtCount h c) w u rest end H K L =
-    subst (λ (x : State). Leads k rest x end) (same_picture k w h H.0 (receiver_looked H.0 (count_word c) (word_at w.words (count_word c))) H.1 refl) (subst (λ (x : World). Leads k rest (picture_of k x) end) H.2.1 L)
+    subst (λ (x : State). Leads k rest x end) (same_picture k w h H.0 (receiver_looked H.0 (count_word c) (word_at w.words (count_word c))) H.1 refl)
+    (subst (λ (x : World). Leads k rest (picture_of k x) end) H.2.1 L)
 lead_step k (ReceiverLoadsFirst h) w u rest end H K L =
-    subst (λ (x : State). Leads k rest x end) (same_picture k w h H.0 (half_taken H.0 (word_at w.words (payload_word k (length H.0.received) 0))) H.1 refl) (subst (λ (x : World). Leads k rest (picture_of k x) end) H.2.1 L)
+    subst (λ (x : State). Leads k rest x end)
+    (same_picture k w h H.0 (half_taken H.0 (word_at w.words (payload_word k (length H.0.received) 0))) H.1 refl)
+    (subst (λ (x : World). Leads k rest (picture_of k x) end) H.2.1 L)
 lead_step k (ReceiverLoadsSecond h) w u rest end H K L =
     subst (λ (r : ReceiverRecord). Leads k (poll_of h r.half (word_at w.words (payload_word k (length r.received) 1)) (length r.received) (available (setup_of k) (picture_of k w) h) ++ rest) (parts k w) end) (sym (is_receiver k w h H.0 H.1))
     (lead_take k w h H.2.0 H.0 rest end H.1 H.2.1 H.2.2 K (subst (λ (x : World). Leads k rest (picture_of k x) end) H.2.3 L))
-lead_step k (ReceiverCompletes h n) w u rest end H K L = lead_complete k w h n H.0 rest end H.1 H.2.0 H.2.1 K (subst (λ (x : World). Leads k rest (picture_of k x) end) H.2.2 L)
+lead_step k (ReceiverCompletes h n) w u rest end H K L =
+    lead_complete k w h n H.0 rest end H.1 H.2.0 H.2.1 K (subst (λ (x : World). Leads k rest (picture_of k x) end) H.2.2 L)
 lead_step k HalterHalts w u rest end H K L =
     leads_one k Halt Halting [] rest (parts k w) (record (parts k w) { halted = true }) end refl
     (lead_flag k w halt_word rest end true (omega arith) (omega arith) (halt_on k w K) (subst (λ (x : World). Leads k rest (picture_of k x) end) H L))

@@ -12,7 +12,8 @@ least_count-requires c =
     rw c.deref.ensures.value (ups_within (view_of c.self.inside) c.self.invariant.whole c.args.h c.upstreams-upstreams.result.now c.upstreams-upstreams.ensures)
 
 -- what the scan of the upstreams found
-found : (v : CoreView) (ups counts : List ℕ) (n h : ℕ) → ups ≡ upstreams_of v.setup.upstreams h → counts ≡ v.completed → 0 < length ups → n ≡ least_of (map (λ k. slice_index counts k) ups) → n ≡ offered_to v (upstreams_of v.setup.upstreams h)
+found : (v : CoreView) (ups counts : List ℕ) (n h : ℕ) → ups ≡ upstreams_of v.setup.upstreams h → counts ≡ v.completed → 0 < length ups
+    → n ≡ least_of (map (λ k. slice_index counts k) ups) → n ≡ offered_to v (upstreams_of v.setup.upstreams h)
 found v ups counts n h a b some e =
     let r : n ≡ least_of (map (λ k. slice_index v.completed k) ups) = rw b at e in
     r ∙ offered_some v ups some ∙ ap (offered_to v) a

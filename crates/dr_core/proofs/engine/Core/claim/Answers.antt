@@ -14,10 +14,10 @@ use Rattle.dr_core.specs.Shows.{IsStep}
 use Rattle.dr_core.specs.CoreView.{CoreView, gate_of}
 use Rattle.dr_core.specs.Availability.{owners_after, claim_fault}
 use Rattle.dr_core.specs.Inside.{view_of, kept_of}
-use Rattle.dr_core.proofs.CoreSteps.{refused_step, claim_step, claim_whole}
+use Rattle.dr_core.proofs.CoreSteps.{refused_step, claim_step}
 use Rattle.dr_core.proofs.Gating.{claim_refused, claim_accepted}
 use Rattle.dr_core.proofs.Recents.{claims_known, claims_available, known_there, one_producer}
-use Rattle.dr_core.proofs.Running.{step_reached}
+use Rattle.dr_core.proofs.Whole.{step_whole}
 use Rattle.dr_core.proofs.Stamped.{length-stamped}
 use Rattle.dr_core.proofs.engine.Core.claim.Goals as goal
 use Rattle.dr_core.proofs.engine.Core.claim.Goals.{After-own, then-n-eq0-via-then-n-eq0, then-n-eq0-via-else-n-eq0+then-n-get}
@@ -74,9 +74,8 @@ invariant_of-self c =
     let v : CoreView = view_of c.self-2.inside in
     let at : After-own = (goal.at.invariant_of-self c).After-own in
     record {
-      whole = claim_whole v c.args.n _ c.self-2.invariant.whole (free at).1 (free at).2;
+      whole = step_whole (claimed at) refl c.self-2.invariant.whole;
       available = rw (owned at) (claims_available v (kept_of c.self-2.inside) (known_there c.self-2.inside) c.self-2.invariant.available c.self-2.invariant.whole.front (size_positive v.setup.size c.self-2.invariant.whole.size) c.args.n c.args.p);
-      reached = step_reached (claimed at) c.self-2.invariant.reached;
       gating = c.self-2.invariant.gating;
       claimable = record {
         going = λ e. (let old : c.self-2.inside.claimable ≤ c.self-2.inside.next = c.self-2.invariant.claimable.going e in omega arith);

@@ -1,12 +1,12 @@
-use Rattle.std.proofs.Common.{◌≡◌, ◌<◌, ◌≤◌, ◌+◌, slice_index, length, get_or, false, arith}
+use Rattle.std.proofs.Common.{refl, ◌≡◌, ◌<◌, ◌≤◌, ◌+◌, slice_index, length, get_or, false, arith}
 use Rattle.std.proofs.lemmas.List.{get_or_read}
 use Rattle.dr_core.specs.Machine.{handlers}
 use Rattle.dr_core.specs.CoreView.{CoreView}
 use Rattle.dr_core.specs.Shows.{CanComplete}
 use Rattle.dr_core.specs.Inside.{view_of}
-use Rattle.dr_core.proofs.CoreSteps.{complete_step, complete_whole, completed_grows}
+use Rattle.dr_core.proofs.CoreSteps.{complete_step, completed_grows}
 use Rattle.dr_core.proofs.Retiring.{told}
-use Rattle.dr_core.proofs.Running.{step_reached}
+use Rattle.dr_core.proofs.Whole.{step_whole}
 use Rattle.dr_core.proofs.engine.Core.complete.Goals as goal
 use Rattle.dr_core.proofs.engine.Core.complete.Goals.{After-index_mut}
 
@@ -14,10 +14,12 @@ use Rattle.dr_core.proofs.engine.Core.complete.Goals.{After-index_mut}
 completes : (c : After-index_mut) → CanComplete (view_of c.self.inside) c.args.h c.args.upto
 completes c =
     let inside : c.args.h < handlers (view_of c.self.inside).setup = omega (arith, c.len.ensures.handlers) in
-    let taken : length c.self.inside.taken.items ≡ handlers (view_of c.self.inside).setup = c.self.invariant.whole.taken in
-    let completed : length c.self.inside.completed.items ≡ handlers (view_of c.self.inside).setup = c.self.invariant.whole.completed in
-    let a : c.index-2.result.now ≡ get_or c.self.inside.completed.items c.args.h 0 = get_or_read c.self.inside.completed.items c.args.h c.index-2.result.now (omega arith) c.index-2.ensures 0 in
-    let b : c.index-3.result.now ≡ get_or c.self.inside.taken.items c.args.h 0 = get_or_read c.self.inside.taken.items c.args.h c.index-3.result.now (omega arith) c.index-3.ensures 0 in
+    let taken : length c.self.inside.taken.items ≡ handlers (view_of c.self.inside).setup = c.self.invariant.whole.taken_len in
+    let completed : length c.self.inside.completed.items ≡ handlers (view_of c.self.inside).setup = c.self.invariant.whole.completed_len in
+    let a : c.index-2.result.now ≡ get_or c.self.inside.completed.items c.args.h 0 =
+    get_or_read c.self.inside.completed.items c.args.h c.index-2.result.now (omega arith) c.index-2.ensures 0 in
+    let b : c.index-3.result.now ≡ get_or c.self.inside.taken.items c.args.h 0 =
+    get_or_read c.self.inside.taken.items c.args.h c.index-3.result.now (omega arith) c.index-3.ensures 0 in
     record {
       handler = inside;
       left = told (view_of c.self.inside) c.args.h c.index.result.now false c.self.invariant.whole inside c.index.ensures c.if-index.false;
@@ -30,9 +32,8 @@ invariant_of-self c =
     let v : CoreView = view_of c.self.inside in
     let can : CanComplete v c.args.h c.args.upto = completes (goal.at.invariant_of-self c).After-index_mut in
     record {
-      whole = complete_whole v c.args.h c.args.upto c.self.invariant.whole can;
+      whole = step_whole (complete_step v c.args.h c.args.upto can) refl c.self.invariant.whole;
       available = c.self.invariant.available;
-      reached = step_reached (complete_step v c.args.h c.args.upto can) c.self.invariant.reached;
       gating = c.self.invariant.gating;
       claimable = record {
         going = c.self.invariant.claimable.going;
@@ -43,4 +44,5 @@ invariant_of-self c =
     }
 
 pub returns-clause-step : goal.returns-clause-step
-returns-clause-step c = rw (← c.self.view_is) (complete_step (view_of c.self.inside) c.args.h c.args.upto (completes (goal.at.returns-clause-step c).After-index_mut))
+returns-clause-step c =
+    rw (← c.self.view_is) (complete_step (view_of c.self.inside) c.args.h c.args.upto (completes (goal.at.returns-clause-step c).After-index_mut))

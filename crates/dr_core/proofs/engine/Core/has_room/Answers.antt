@@ -30,7 +30,6 @@ invariant_of-self c =
       whole = c.self.invariant.whole;
       available = c.self.invariant.available;
       gating = c.self.invariant.gating;
-      reached = c.self.invariant.reached;
       claimable = rw (c.min-self-inside.ensures, scanned (goal.at.invariant_of-self c).After-least_flagged, c.get.ensures.value) (claimable_now v c.self.invariant.whole (rw (← c.self.view_is) at c.requires).going);
     }
 

@@ -9,11 +9,10 @@ use Rattle.dr_core.specs.Machine.{producers, is_single}
 use Rattle.dr_core.specs.CoreView.{CoreView, known_at}
 use Rattle.dr_core.specs.Availability.{published_after, IsNewFront, publish_fault}
 use Rattle.dr_core.specs.Inside.{view_of, kept_of}
-use Rattle.dr_core.proofs.CoreSteps.{front_whole}
 use Rattle.dr_core.proofs.Publishing.{publish_front, publish_refused, publish_order, publish_step}
-use Rattle.dr_core.proofs.Recents.{known_there, publishes_moves, publishes_known, publishes_available, front_known}
-use Rattle.dr_core.proofs.InOrder.{InOrder, claimed, next_step, next_available}
-use Rattle.dr_core.proofs.Running.{step_reached}
+use Rattle.dr_core.proofs.Recents.{known_there, publishes_known, publishes_available, front_known}
+use Rattle.dr_core.proofs.InOrder.{InOrder, next_step, next_available}
+use Rattle.dr_core.proofs.Whole.{step_whole}
 use Rattle.dr_core.proofs.Writing.{near}
 use Rattle.dr_core.proofs.engine.Core.publish.Goals as goal
 use Rattle.dr_core.proofs.engine.Core.publish.Goals.{After-show-self-inside, Then-is_next_written, else-is_single-via-then-is_single+else-lo-self-2, else-is_single-via-else-is_single}
@@ -84,11 +83,9 @@ invariant_of-self-2 c =
     let recent : v.next ≤ c.args.lo + v.setup.size = near v c.self.invariant.whole c.args.lo c.if-lo-self.false in
     let round : v.next ≤ v.front + v.setup.size = near v c.self.invariant.whole v.front (omega arith) in
     let some : 0 < v.setup.size = size_positive v.setup.size c.self.invariant.whole.size in
-    let moved = publishes_moves v (kept_of c.self.inside) (known_there c.self.inside) c.self.invariant.available c.self.invariant.whole.front some c.args.p c.args.lo c.args.hi c.show-self-inside.result c.if-lo-hi.false c.if-hi-self.false recent round refl c.if-lo-self.false (begins at) (found at) in
     record {
-      whole = front_whole v c.show-self-inside.result _ c.self.invariant.whole moved.low moved.high;
+      whole = rw c.max-self-inside.ensures (step_whole (published at) refl c.self.invariant.whole);
       available = rw (c.max-self-inside.ensures, c.show-self-inside.ensures.marks) (publishes_available v (kept_of c.self.inside) (known_there c.self.inside) c.self.invariant.available c.self.invariant.whole.front some c.args.p c.args.lo c.args.hi c.show-self-inside.result c.if-lo-hi.false c.if-hi-self.false recent round refl c.if-lo-self.false (begins at) (found at));
-      reached = rw c.max-self-inside.ensures (step_reached (published at) c.self.invariant.reached);
       gating = c.self.invariant.gating;
       claimable = c.self.invariant.claimable;
     }
@@ -114,11 +111,9 @@ invariant_of-self c =
     let is : InOrder c.self.inside c.args.lo c.args.hi = in_order at in
     let producer : c.args.p < producers c.self.inside.mode = rw c.producers.ensures at c.if-p-producers.false in
     let step = next_step c.self.inside c.self.invariant c.args.p c.args.lo c.args.hi producer is in
-    let upto : c.args.hi < c.self.inside.next = claimed c.self.inside c.self.invariant c.args.p c.args.lo c.args.hi producer is in
     record {
-      whole = front_whole (view_of c.self.inside) (c.args.hi + 1) _ c.self.invariant.whole (let b = is.begins in let o = is.order in omega arith) (omega arith);
+      whole = step_whole step refl c.self.invariant.whole;
       available = next_available c.self.inside c.self.invariant c.args.p c.args.lo c.args.hi producer is;
-      reached = step_reached step c.self.invariant.reached;
       gating = c.self.invariant.gating;
       claimable = c.self.invariant.claimable;
     }

@@ -1,13 +1,14 @@
 use Rattle.std.proofs.Common.{◌≡◌, ◌<◌, arith, true, false, ◌||◌, sym, ◌∙◌}
 use Rattle.std.specs.Prelude.{◌==◌}
 use Rattle.std.proofs.lemmas.Bool.{not-true, not-false}
+use Rattle.std.proofs.lemmas.List.{length-set}
 use Rattle.dr_graph.specs.Graph.{is_some_left, is_final_without}
 use Rattle.dr_core.specs.Machine.{handlers}
 use Rattle.dr_core.specs.CoreView.{CoreView, retired_in}
 use Rattle.dr_core.specs.Inside.{view_of}
-use Rattle.dr_core.proofs.Retiring.{told, others_told, not_final_step, last_step, retire_step, retire_whole, retire_claimable, retire_room}
+use Rattle.dr_core.proofs.Retiring.{told, others_told, not_final_step, last_step, retire_step, retire_claimable, retire_room}
 use Rattle.dr_core.proofs.Gating.{written_back}
-use Rattle.dr_core.proofs.Running.{step_reached}
+use Rattle.dr_core.proofs.Whole.{step_whole}
 use Rattle.dr_core.proofs.engine.Core.retire.Goals as goal
 use Rattle.dr_core.proofs.engine.Core.retire.Goals.{After-is_final_without, After-index_mut}
 
@@ -24,14 +25,20 @@ left c =
 pub returns-then-not-is_final_without-clause-step : goal.returns-then-not-is_final_without-clause-step
 returns-then-not-is_final_without-clause-step c =
     let L = left (goal.at.returns-then-not-is_final_without-clause-step c).After-is_final_without in
-    rw (← c.self.view_is) (not_final_step (view_of c.self.inside) c.args.h c.self.invariant.whole L.inside L.left (rw c.deref.ensures.value at (sym c.is_final_without.ensures ∙ c.if-not-is_final_without.true)))
+    rw (← c.self.view_is)
+    (not_final_step (view_of c.self.inside) c.args.h c.self.invariant.whole L.inside L.left
+    (rw c.deref.ensures.value at (sym c.is_final_without.ensures ∙ c.if-not-is_final_without.true)))
 
 pub returns-then-is_last-clause-step : goal.returns-then-is_last-clause-step
 returns-then-is_last-clause-step c =
     let v : CoreView = view_of c.self.inside in
     let L = left (goal.at.returns-then-is_last-clause-step c).After-is_final_without in
-    let final : is_final_without v.setup.upstreams (retired_in v) c.args.h ≡ true = rw c.deref.ensures.value at (sym c.is_final_without.ensures ∙ c.if-not-is_final_without.false) in
-    rw (← c.self.view_is) (last_step v c.args.h c.self.invariant.whole L.inside L.left final (not-true _ (others_told v c.args.h c.deref-2.result.now c.is_last.result true c.self.invariant.whole c.deref-2.ensures.value c.is_last.ensures c.if-is_last.true)))
+    let final : is_final_without v.setup.upstreams (retired_in v) c.args.h ≡ true =
+    rw c.deref.ensures.value at (sym c.is_final_without.ensures ∙ c.if-not-is_final_without.false) in
+    rw (← c.self.view_is)
+    (last_step v c.args.h c.self.invariant.whole L.inside L.left final
+    (not-true _
+    (others_told v c.args.h c.deref-2.result.now c.is_last.result true c.self.invariant.whole c.deref-2.ensures.value c.is_last.ensures c.if-is_last.true)))
 
 -- past all tests the handler is final, and another is left
 pub record Last (c : After-index_mut) : Type 0 where
@@ -47,7 +54,10 @@ last c =
       inside = inside;
       left = told (view_of c.self.inside) c.args.h c.index.result.now false c.self.invariant.whole inside c.index.ensures c.if-index.false;
       final = rw c.deref.ensures.value at (sym c.is_final_without.ensures ∙ c.if-not-is_final_without.false);
-      others = not-false _ (others_told (view_of c.self.inside) c.args.h c.deref-2.result.now c.is_last.result false c.self.invariant.whole c.deref-2.ensures.value c.is_last.ensures c.if-is_last.false);
+      others =
+          not-false _
+          (others_told
+          (view_of c.self.inside) c.args.h c.deref-2.result.now c.is_last.result false c.self.invariant.whole c.deref-2.ensures.value c.is_last.ensures c.if-is_last.false);
     }
 
 pub invariant_of-self : goal.invariant_of-self
@@ -55,10 +65,13 @@ invariant_of-self c =
     let v : CoreView = view_of c.self.inside in
     let L = last (goal.at.invariant_of-self c).After-index_mut in
     record {
-      whole = retire_whole v c.args.h c.self.invariant.whole L.inside L.left L.final L.others;
+      whole =
+          step_whole (retire_step v c.args.h c.self.invariant.whole L.inside L.left L.final L.others)
+          (length-set c.self.inside.retired.items c.args.h true) c.self.invariant.whole;
       available = c.self.invariant.available;
-      gating = written_back c.self.inside.gating c.flag_gating.new.flags c.deref-3.result.now _ c.self.inside.graph.upstreams (c.flag_gating.auto.flags ∙ c.deref_mut.ensures.len) c.deref-3.ensures.value c.flag_gating.ensures;
-      reached = step_reached (retire_step v c.args.h c.self.invariant.whole L.inside L.left L.final L.others) c.self.invariant.reached;
+      gating =
+          written_back c.self.inside.gating c.flag_gating.new.flags c.deref-3.result.now _ c.self.inside.graph.upstreams
+          (c.flag_gating.auto.flags ∙ c.deref_mut.ensures.len) c.deref-3.ensures.value c.flag_gating.ensures;
       claimable = retire_claimable v c.args.h c.self.invariant.whole L.inside L.left L.final L.others c.self.inside.claimable c.self.invariant.claimable;
     }
 

@@ -1,4 +1,4 @@
-use Rattle.std.proofs.Common.{◌≡◌, [], ◌+◌, ◌≤◌, sym, ◌∙◌, arith, Bool, true, false, cond, Some, None, refl}
+use Rattle.std.proofs.Common.{◌≡◌, [], ◌+◌, ◌≤◌, sym, ◌∙◌, Bool, true, false, cond, Some, None, refl}
 use Rattle.std.specs.Prelude.{◌==◌, nat_lt}
 use Rattle.std.proofs.lemmas.Bool.{eq-eqb, ne_eqb, le-ltb, or_right, or_from}
 use Rattle.dr_seq.proofs.Sizes.{size_positive}
@@ -9,9 +9,8 @@ use Rattle.dr_core.specs.Shows.{IsStep}
 use Rattle.dr_core.specs.CoreView.{CoreView, known_at}
 use Rattle.dr_core.specs.Availability.{owner_at, is_published_at, write_fault}
 use Rattle.dr_core.specs.Inside.{view_of, kept_of}
-use Rattle.dr_core.proofs.CoreSteps.{front_whole}
 use Rattle.dr_core.proofs.Recents.{known_there, write_fault_is, writes_known, writes_available}
-use Rattle.dr_core.proofs.Running.{step_reached}
+use Rattle.dr_core.proofs.Whole.{step_whole}
 use Rattle.dr_core.proofs.Writing.{near, write_front, write_refused, write_step}
 use Rattle.dr_core.proofs.engine.Core.write.Goals as goal
 use Rattle.dr_core.proofs.engine.Core.write.Goals.{After-owner_of, After-put}
@@ -66,9 +65,8 @@ invariant_of-self c =
     let put : After-put = (goal.at.invariant_of-self c).After-put in
     let recent : v.next ≤ c.args.s + v.setup.size = near v c.self.invariant.whole c.args.s c.if-s-self-2.false in
     record {
-      whole = front_whole v v.front _ c.self.invariant.whole (omega arith) c.self.invariant.whole.front;
+      whole = step_whole (written put (unpublished at) (unpublished_fault at true (eq-eqb _ _ (mine put)))) refl c.self.invariant.whole;
       available = rw c.put.ensures (writes_available v (kept_of c.self.inside) (known_there c.self.inside) c.self.invariant.available c.self.invariant.whole.front (size_positive v.setup.size c.self.invariant.whole.size) c.args.p c.args.s c.args.event c.note-self-inside.result _ c.if-s-self.false recent c.note-self-inside.ensures);
-      reached = step_reached (written put (unpublished at) (unpublished_fault at true (eq-eqb _ _ (mine put)))) c.self.invariant.reached;
       gating = c.self.invariant.gating;
       claimable = c.self.invariant.claimable;
     }

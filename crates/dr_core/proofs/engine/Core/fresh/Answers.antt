@@ -1,11 +1,11 @@
-use Rattle.std.proofs.Common.{◌≡◌, ◌^◌, ◌≤◌, length, sym, ap, ◌∙◌, arith, replicate, false}
+use Rattle.std.proofs.Common.{◌≡◌, refl, length, sym, ap, ◌∙◌, arith, replicate, false}
 use Rattle.std.proofs.lemmas.List.{length-replicate}
 use Rattle.dr_core.specs.Machine.{Setup, setup_of}
 use Rattle.dr_core.proofs.Recents.{none_marked, none_ahead}
-use Rattle.dr_core.proofs.Opening.{opening_shows, opening_reached, opening_whole}
+use Rattle.dr_core.proofs.Opening.{opening_shows, opening_whole}
 use Rattle.dr_core.proofs.Gating.{written_back}
-use Rattle.dr_core.proofs.engine.Core.open.Goals as goal
-use Rattle.dr_core.proofs.engine.Core.open.Goals.{After-flag_gating}
+use Rattle.dr_core.proofs.engine.Core.fresh.Goals as goal
+use Rattle.dr_core.proofs.engine.Core.fresh.Goals.{After-flag_gating}
 
 -- no handler took or completed anything
 none_taken : (c : After-flag_gating) → c.in_ok-taken.taken.items ≡ replicate (length c.args.graph.upstreams) 0
@@ -27,7 +27,7 @@ invariant_of-result c =
           (none_taken (goal.at.invariant_of-result c).After-flag_gating)
           (none_completed (goal.at.invariant_of-result c).After-flag_gating)
           (none_retired (goal.at.invariant_of-result c).After-flag_gating)
-          c.len-handlers.ensures.lawful size (let small : c.args.limit ≤ 2 ^ 62 = omega arith in small);
+          (record { graph = c.len-handlers.ensures.lawful; size = size; limit = c.requires });
       available = record {
         published = ap length c.in_ok-published.ensures ∙ length-replicate _ _;
         written = ap length c.in_ok-written.ensures ∙ length-replicate _ _;
@@ -37,17 +37,20 @@ invariant_of-result c =
         unpublished = λ s later. rw c.in_ok-published.ensures (none_ahead c.args.mode _ s);
         unwritten = λ s later. rw c.in_ok-written.ensures (none_marked _ s);
       };
-      gating = written_back c.in_ok-gating.gating c.flag_gating.new.flags c.deref.result.now _ c.args.graph.upstreams (c.flag_gating.auto.flags ∙ c.deref_mut.ensures.len) c.deref.ensures.value c.flag_gating.ensures;
-      reached = opening_reached setup c.args.graph.names _ c.in_ok-taken.taken.items c.in_ok-completed.completed.items c.in_ok-retired.retired.items
-          (none_taken (goal.at.invariant_of-result c).After-flag_gating)
-          (none_completed (goal.at.invariant_of-result c).After-flag_gating)
-          (none_retired (goal.at.invariant_of-result c).After-flag_gating);
+      gating =
+          written_back c.in_ok-gating.gating c.flag_gating.new.flags c.deref.result.now _ c.args.graph.upstreams
+          (c.flag_gating.auto.flags ∙ c.deref_mut.ensures.len) c.deref.ensures.value c.flag_gating.ensures;
       claimable = record { going = λ e. absurd (cc); limit = omega arith; room = λ f has. omega arith };
     }
 
-pub returns-clause-opening : goal.returns-clause-opening
-returns-clause-opening c =
-    opening_shows (setup_of c.args.graph.upstreams c.args.size c.args.mode c.args.limit) c.args.graph.names _ c.in_ok-taken.taken.items c.in_ok-completed.completed.items c.in_ok-retired.retired.items
-    (none_taken (goal.at.returns-clause-opening c).After-flag_gating)
-    (none_completed (goal.at.returns-clause-opening c).After-flag_gating)
-    (none_retired (goal.at.returns-clause-opening c).After-flag_gating)
+pub returns : goal.returns
+returns c = record {
+  setup = refl;
+  names = refl;
+  shows =
+      opening_shows
+      (setup_of c.args.graph.upstreams c.args.size c.args.mode c.args.limit) c.args.graph.names _ c.in_ok-taken.taken.items c.in_ok-completed.completed.items c.in_ok-retired.retired.items
+      (none_taken (goal.at.returns c).After-flag_gating)
+      (none_completed (goal.at.returns c).After-flag_gating)
+      (none_retired (goal.at.returns c).After-flag_gating);
+}
