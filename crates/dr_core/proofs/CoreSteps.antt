@@ -1,15 +1,14 @@
 -- A call of the core is the machine's step, on each state that the core shows.
 use Rattle.std.proofs.Common.{◌≡◌, ℕ, ◌+◌, ◌-◌, ◌<◌, ◌≤◌, ◌≢◌, inl, inr, true, false, cond, List, [], ◌++◌, arith, refl, ap, ◌∙◌, length, map, min, get_or, replicate, slice_index, slice_set}
-use Rattle.std.proofs.lemmas.Bool.{cond_both, eqb-true, lt-ltb, leb-false, or_from, cases_lt, lt-leb, le-ltb, ne_eqb}
+use Rattle.std.proofs.lemmas.Bool.{cond_both, eqb-true, or_from, cases_lt, lt-leb, le-ltb, ne_eqb}
 use Rattle.std.proofs.lemmas.List.{length-append, length-replicate, get_or_append_left, get_or-append_right, get_or-replicate}
-use Rattle.std.specs.Prelude.{nat_le, ◌==◌}
+use Rattle.std.specs.Prelude.{◌==◌}
 use Rattle.std.proofs.lemmas.List.FromFn.{get_or-map-range_with_len}
 use Rattle.dr_core.specs.declared.command.Command.{Command}
 use Rattle.dr_core.specs.declared.command.Command.TheVariants.{Claim, Complete, Halt}
 use Rattle.dr_core.specs.declared.command.Reply.{Reply}
 use Rattle.dr_core.specs.declared.command.Reply.TheVariants.{Claimed, Completed, Halting, Refused}
 use Rattle.dr_core.specs.declared.refusal.Refusal.{Refusal}
-use Rattle.dr_core.specs.declared.refusal.Refusal.TheVariants.{NoRoom}
 use Rattle.dr_seq.specs.declared.event.Event.{Event}
 use Rattle.dr_graph.specs.Graph.{finals_without, least_of}
 use Rattle.dr_graph.proofs.Gating.{finals_agree, least_gates}
@@ -176,20 +175,3 @@ module _ (v : CoreView) (p n : ℕ) (known : ℕ → Known) (knows : ClaimsKnown
 pub finals_least : (v : CoreView) → IsWhole v → (h : ℕ) → h < handlers v.setup → retired_in v h ≡ false → gate_of v ≤ slice_index v.completed h
 finals_least v whole h inside left =
     least_gates v.setup.upstreams whole.graph.gate (retired_in v) (λ k. slice_index v.completed k) (orderly whole.order) h inside left
-
--- a claim that does not fit beside what the finals have not completed
-pub claim_no_room : (v : CoreView) (p n : ℕ) → p < producers v.setup.mode → n ≢ 0 → n ≤ v.setup.size → v.halted ≡ false → v.next + n ≤ v.setup.limit
-    → nat_le (v.next + n) (v.setup.size + gate_of v) ≡ false → IsStep v (Claim p n) (Refused NoRoom) [] v
-claim_no_room v p n producer some fits going limit full =
-    refused_step v (Claim p n) NoRoom
-    (λ m sh. let here : next m ≡ v.next = same_next sh in
-    inr (
-      lt-leb _ _ producer,
-      inr (
-        or_from _ _ (ne_eqb n 0 some) (le-ltb _ _ fits),
-        inr (
-          same_halted sh ∙ going,
-          inr (rw here (le-ltb _ _ limit), inl (rw (here, gate_same v m sh) (lt-ltb _ _ (leb-false _ _ full)), refl)),
-        ),
-      ),
-    ))

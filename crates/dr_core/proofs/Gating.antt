@@ -1,15 +1,25 @@
--- The remembered least count of the finals.
-use Rattle.std.proofs.Common.{◌≡◌, ℕ, zero, suc, ◌+◌, ◌<◌, ◌≤◌, ◌^◌, Bool, List, arith, refl, ap, sym, ◌∙◌, length, map, filter, slice_index, Vec, Global}
+-- The least count of the finals, and what of it is remembered.
+use Rattle.std.proofs.Common.{◌≡◌, ℕ, zero, suc, ◌+◌, ◌-◌, ◌<◌, ◌≤◌, ◌≢◌, ◌^◌, inl, inr, Bool, true, false, List, [], ◌∷◌, arith, refl, ap, sym, ◌∙◌, length, map, filter, min, slice_index, Option, Some, None, Vec, Global}
 use Rattle.std.specs.Vec.{with_items}
 use Rattle.std.proofs.lemmas.List.{with_items_is}
 use Rattle.std.specs.List.{range_with_len}
-use Rattle.std.specs.Prelude.{Contains}
+use Rattle.std.specs.Prelude.{Contains, nat_le, nat_lt}
+use Rattle.std.proofs.lemmas.Bool.{cases_Bool, lt-leb, le-leb, le-ltb, lt-ltb, leb-true, leb-false, ltb-false, ne_eqb, or_from}
 use Rattle.dr_seq.proofs.Sizes.{size_at_most}
 use Rattle.dr_graph.specs.Graph.{flagged, is_final_without, finals_without, least_of, least_without, IsGated}
-use Rattle.dr_graph.proofs.Gating.{filter_more, least_above_some}
+use Rattle.dr_graph.proofs.Gating.{filter_more, final_left, least_above_some}
 use Rattle.dr_core.specs.CoreView.{CoreView, AreGating, retired_in, gate_of}
-use Rattle.dr_core.specs.Inside.{IsWhole}
-use Rattle.dr_core.proofs.CoreSteps.{finals_least}
+use Rattle.dr_core.specs.declared.command.Command.TheVariants.{Claim}
+use Rattle.dr_core.specs.declared.command.Reply.TheVariants.{Refused}
+use Rattle.dr_core.specs.declared.refusal.Refusal.{Refusal}
+use Rattle.dr_core.specs.declared.refusal.Refusal.TheVariants.{Halted, Exhausted, NoRoom}
+use Rattle.dr_core.specs.Machine.{State, producers, next, gate, refusals}
+use Rattle.dr_core.specs.Shows.{Shows, IsStep}
+use Rattle.dr_core.specs.Availability.{claim_fault}
+use Rattle.dr_core.specs.Inside.{IsWhole, IsClaimable}
+use Rattle.dr_core.proofs.Steps.{Refuses}
+use Rattle.dr_core.proofs.CoreSteps.{refused_step, finals_least, gate_same}
+use Rattle.dr_core.proofs.Shown.{same_next, same_halted}
 use Rattle.dr_core.proofs.Leasts.{least_of-member}
 
 -- two tests that agree on the handlers keep the same ones
@@ -31,19 +41,35 @@ pub written_back : (kept : Vec Bool Global) (flags read gone : List Bool) (graph
 written_back kept flags read gone graph len same gating = rw (with_items_is kept flags len) (rw same at gating)
 
 module _ (v : CoreView) (whole : IsWhole v) where
-  -- what is remembered is no more than the least count
-  pub seen_below : (gate : ℕ) → ((f : ℕ) → Contains (finals_without v.setup.upstreams (retired_in v)) f → gate ≤ slice_index v.completed f) → gate ≤ gate_of v
-  seen_below gate all =
+  -- a count that no final is below is no more than the least one
+  seen_below : (count : ℕ) → ((f : ℕ) → Contains (finals_without v.setup.upstreams (retired_in v)) f → count ≤ slice_index v.completed f) → count ≤ gate_of v
+  seen_below count all =
       let one : IsGated v.setup.upstreams (retired_in v) (λ h. 0) whole.left.0 = whole.graph.gate (retired_in v) (λ h. 0) (λ h u has. omega arith) whole.left.0 whole.left.1 whole.left.2 in
-      least_above_some (λ h. slice_index v.completed h) gate one.last (finals_without v.setup.upstreams (retired_in v)) one.final all
+      least_above_some (λ h. slice_index v.completed h) count one.last (finals_without v.setup.upstreams (retired_in v)) one.final all
 
-  -- a scan may be remembered
-  pub least_below : (f : ℕ) → Contains (finals_without v.setup.upstreams (retired_in v)) f → gate_of v ≤ slice_index v.completed f
-  least_below f has = least_of-member (λ h. slice_index v.completed h) (finals_without v.setup.upstreams (retired_in v)) f has
+  -- up to a claimable sequence there is room
+  pub claimable_room : (upto : ℕ) → IsClaimable v.setup v.next v.halted (retired_in v) v.completed upto → upto ≤ v.setup.size + gate_of v
+  claimable_room upto claimable =
+      let least : upto - v.setup.size ≤ gate_of v = seen_below (upto - v.setup.size) (λ f has. let room : upto ≤ v.setup.size + slice_index v.completed f = claimable.room f has in omega arith) in
+      omega arith
+
+  -- what is claimed had room
+  pub final_room : (f : ℕ) → Contains (finals_without v.setup.upstreams (retired_in v)) f → v.next ≤ v.setup.size + slice_index v.completed f
+  final_room f has =
+      let left : (f < length v.setup.upstreams) × (retired_in v f ≡ false) = final_left v.setup.upstreams (retired_in v) f has in
+      whole.room f left.0 left.1
+
+  -- what a scan finds may be remembered
+  pub claimable_now : v.halted ≡ false → IsClaimable v.setup v.next v.halted (retired_in v) v.completed (min v.setup.limit (v.setup.size + gate_of v))
+  claimable_now going = record {
+    going = λ e. absurd (let no : ◌≡◌ {A = Bool} true false = sym e ∙ going in cc);
+    limit = omega arith;
+    room = λ f has. (let least : gate_of v ≤ slice_index v.completed f = least_of-member (λ h. slice_index v.completed h) (finals_without v.setup.upstreams (retired_in v)) f has in omega arith);
+  }
 
   -- the least count is a count of sequences, so no sum with a size wraps
-  pub room_fits : (size count : ℕ) → size ≡ v.setup.size → count ≤ gate_of v → size + count < 2 ^ 64
-  room_fits size count a b =
+  pub room_fits : v.setup.size + gate_of v < 2 ^ 63
+  room_fits =
       let low : gate_of v ≤ slice_index v.completed whole.left.0 = finals_least v whole whole.left.0 whole.left.1 whole.left.2 in
       let took : slice_index v.completed whole.left.0 ≤ slice_index v.taken whole.left.0 = whole.took whole.left.0 in
       let front : slice_index v.taken whole.left.0 ≤ v.front = whole.in_front whole.left.0 in
@@ -52,3 +78,39 @@ module _ (v : CoreView) (whole : IsWhole v) where
       let limit : v.setup.limit ≤ 2 ^ 62 = whole.limit in
       let bound : v.setup.size ≤ 65536 = size_at_most v.setup.size whole.size in
       omega arith
+
+-- what refuses a claim, where its producer and its count are good
+module _ (v : CoreView) (p n : ℕ) (producer : p < producers v.setup.mode) (some : n ≢ 0) (fits : n ≤ v.setup.size) where
+  -- the tests before those of the state
+  past : (m : State) → Shows v m → (r : Refusal) → Refuses r ((m.halted, Halted) ∷ (nat_lt v.setup.limit (next m + n), Exhausted) ∷ (nat_lt (v.setup.size + gate v.setup m) (next m + n), NoRoom) ∷ []) → Refuses r (refusals v.setup m (Claim p n))
+  past m sh r h = inr (lt-leb _ _ producer, inr (or_from _ _ (ne_eqb n 0 some) (le-ltb _ _ fits), h))
+
+  pub claim_refused : (r : Refusal) → claim_fault v n ≡ Some r → IsStep v (Claim p n) (Refused r) [] v
+  claim_refused r e =
+      refused_step v (Claim p n) r (λ m sh. let here : next m ≡ v.next = same_next sh in past m sh r (elim (cases_Bool v.halted) [
+        | inl halted ↦ inl (same_halted sh ∙ halted, (let is : ◌≡◌ {A = Option Refusal} (Some Halted) (Some r) = rw halted at e in cc))
+        | inr going ↦ inr (same_halted sh ∙ going, elim (cases_Bool (nat_lt v.setup.limit (v.next + n))) [
+          | inl past_limit ↦ inl (rw here past_limit, (let is : ◌≡◌ {A = Option Refusal} (Some Exhausted) (Some r) = rw (going, past_limit) at e in cc))
+          | inr within ↦ inr (rw here within, elim (cases_Bool (nat_le (v.next + n) (v.setup.size + gate_of v))) [
+            | inl fitting ↦ absurd (let is : ◌≡◌ {A = Option Refusal} None (Some r) = rw (going, within, fitting) at e in cc)
+            | inr full ↦ inl (rw (here, gate_same v m sh) (lt-ltb _ _ (leb-false _ _ full)), (let is : ◌≡◌ {A = Option Refusal} (Some NoRoom) (Some r) = rw (going, within, full) at e in cc))
+          ])
+        ])
+      ]))
+
+-- a claim that nothing refuses
+pub claim_accepted : (v : CoreView) (n : ℕ) → claim_fault v n ≡ None → (v.halted ≡ false) × (v.next + n ≤ v.setup.limit) × (v.next + n ≤ v.setup.size + gate_of v)
+claim_accepted v n e = elim (cases_Bool v.halted) [
+  | inl halted ↦ absurd (let is : ◌≡◌ {A = Option Refusal} (Some Halted) None = rw halted at e in cc)
+  | inr going ↦ elim (cases_Bool (nat_lt v.setup.limit (v.next + n))) [
+    | inl past_limit ↦ absurd (let is : ◌≡◌ {A = Option Refusal} (Some Exhausted) None = rw (going, past_limit) at e in cc)
+    | inr within ↦ elim (cases_Bool (nat_le (v.next + n) (v.setup.size + gate_of v))) [
+      | inl fitting ↦ (going, ltb-false _ _ within, leb-true _ _ fitting)
+      | inr full ↦ absurd (let is : ◌≡◌ {A = Option Refusal} (Some NoRoom) None = rw (going, within, full) at e in cc)
+    ]
+  ]
+]
+
+-- where none of the tests refuses it
+pub claim_fault-none : (v : CoreView) (n : ℕ) → v.halted ≡ false → v.next + n ≤ v.setup.limit → v.next + n ≤ v.setup.size + gate_of v → claim_fault v n ≡ None
+claim_fault-none v n going limit room = rw (going, le-ltb _ _ limit, le-leb _ _ room)

@@ -20,4 +20,5 @@ pub mod Recents
 pub mod Copying
 pub mod Showings
 pub mod Gating
+pub mod InOrder
 pub mod Retiring

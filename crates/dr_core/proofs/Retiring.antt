@@ -1,20 +1,20 @@
 -- A retirement of the core is the machine's, and no claim waits longer for it.
 use Rattle.std.proofs.Common.{◌≡◌, ℕ, ◌+◌, ◌<◌, ◌≤◌, Bool, true, false, not, ◌||◌, List, [], inl, inr, refl, ap, sym, ◌∙◌, arith, length, get_or, slice_set, slice_index}
-use Rattle.std.specs.Prelude.{Contains, ◌==◌}
+use Rattle.std.specs.Prelude.{◌==◌}
 use Rattle.std.specs.List.{range_with_len}
 use Rattle.std.proofs.lemmas.Bool.{cases_eq, eq-eqb, ne_eqb, or_parts, not-true, not-false, lt-leb, and_parts, or_right}
 use Rattle.std.proofs.lemmas.List.{get_or_read, get_or-set_same, get_or-set_other}
 use Rattle.dr_core.specs.declared.command.Command.TheVariants.{Retire}
 use Rattle.dr_core.specs.declared.command.Reply.TheVariants.{Retired, Refused}
 use Rattle.dr_core.specs.declared.refusal.Refusal.TheVariants.{NotFinal, LastHandler}
-use Rattle.dr_graph.specs.Graph.{flagged, is_some_left, is_followed, is_final_without, finals_without}
+use Rattle.dr_graph.specs.Graph.{flagged, is_some_left, is_followed, is_final_without}
 use Rattle.dr_graph.proofs.Gating.{found_in, any_agree, followed_agree, final_left, least_rises}
 use Rattle.dr_core.specs.Machine.{State, handlers, retired_with}
 use Rattle.dr_core.specs.CoreView.{CoreView, retired_in, gate_of}
 use Rattle.dr_core.specs.Shows.{Shows, IsStep}
-use Rattle.dr_core.specs.Inside.{IsWhole}
+use Rattle.dr_core.specs.Inside.{IsWhole, IsClaimable}
 use Rattle.dr_core.proofs.CoreSteps.{accepted_step, refused_step, finals_least}
-use Rattle.dr_core.proofs.Gating.{seen_below}
+use Rattle.dr_core.proofs.Gating.{claimable_room}
 use Rattle.dr_core.proofs.Shown.{same_retired}
 use Rattle.dr_core.proofs.Sound.{orderly}
 use Rattle.dr_core.proofs.Pushes.{or-false}
@@ -97,14 +97,17 @@ module _ (v : CoreView) (h : ℕ) (whole : IsWhole v) (inside : h < handlers v.s
           found_in (λ k. not (retired_in v k || k == h)) 0 (handlers v.setup) others in
           (at.0, omega (arith, at.2), flagged_more v.retired h at.0 within ∙ not-true _ at.3)
 
-      -- no final that is left now is below what was remembered
-      pub retire_gate : (gate : ℕ) → ((f : ℕ) → Contains (finals_without v.setup.upstreams (retired_in v)) f → gate ≤ slice_index v.completed f)
-          → (f : ℕ) → Contains (finals_without v.setup.upstreams (retired_in (retired_core v h))) f → gate ≤ slice_index v.completed f
-      retire_gate gate below f has =
-          let now : (f < handlers v.setup) × (retired_in (retired_core v h) f ≡ false) = final_left v.setup.upstreams (retired_in (retired_core v h)) f has in
-          let a : gate ≤ gate_of v = seen_below v whole gate below in
-          let b : gate_of v ≤ slice_index v.completed f = finals_least v whole f now.0 (fewer f now.1) in
-          omega arith
+      -- what was claimable before is so after
+      pub retire_claimable : (upto : ℕ) → IsClaimable v.setup v.next v.halted (retired_in v) v.completed upto
+          → IsClaimable v.setup v.next v.halted (retired_in (retired_core v h)) v.completed upto
+      retire_claimable upto claimable = record {
+        going = claimable.going;
+        limit = claimable.limit;
+        room = λ f has. (let now : (f < handlers v.setup) × (retired_in (retired_core v h) f ≡ false) = final_left v.setup.upstreams (retired_in (retired_core v h)) f has in
+            let a : upto ≤ v.setup.size + gate_of v = claimable_room v whole upto claimable in
+            let b : gate_of v ≤ slice_index v.completed f = finals_least v whole f now.0 (fewer f now.1) in
+            omega arith);
+      }
 
       -- a retirement never lowers the least count of the finals
       pub retire_room : gate_of v ≤ gate_of (retired_core v h)

@@ -1,5 +1,5 @@
 -- What a core's fields keep.
-use Rattle.std.specs.Prelude.{◌≡◌, ℕ, ◌+◌, ◌^◌, ◌<◌, ◌≤◌, Bool, false, List, length, Contains, slice_index}
+use Rattle.std.specs.Prelude.{◌≡◌, ℕ, ◌+◌, ◌^◌, ◌<◌, ◌≤◌, Bool, true, false, List, length, Contains, slice_index}
 use Rattle.dr_seq.specs.Rounds.{is_marked}
 use Rattle.dr_seq.specs.Size.{IsSize}
 use Rattle.dr_core.specs.declared.engine.Core.TheInside.{Inside}
@@ -9,10 +9,10 @@ use Rattle.dr_core.specs.Machine.{Setup, handlers, opening, setup_of}
 use Rattle.dr_core.specs.CoreView.{CoreView, AreGating, retired_in, recent_of}
 use Rattle.dr_core.specs.Shows.{Shows}
 use Rattle.dr_core.specs.Runs.{IsReached}
-use Rattle.dr_core.specs.Availability.{Kept, slot_known, HasOwners}
+use Rattle.dr_core.specs.Availability.{Kept, slot_known, HasOwners, is_ahead}
 
 abbrev pub kept_of : Inside → Kept
-kept_of a = record { mode = a.mode; front = a.front; published = a.published; written = a.written; owners = a.owners.items; events = a.events }
+kept_of a = record { mode = a.mode; front = a.front; filled = a.filled; published = a.published; written = a.written; owners = a.owners.items; events = a.events }
 
 abbrev pub view_of : Inside → CoreView
 view_of a = record {
@@ -65,15 +65,22 @@ pub record IsAvailable (a : Kept) (size next : ℕ) : Type 0 where
   pub written : length a.written ≡ size
   pub owners : HasOwners a.mode a.owners size
   pub events : length a.events ≡ size
-  pub unpublished : (s : ℕ) → next ≤ s → is_marked a.published s ≡ false
+  pub filled : a.filled ≤ next
+  pub unpublished : (s : ℕ) → next ≤ s → is_ahead a.mode a.published s ≡ false
   pub unwritten : (s : ℕ) → next ≤ s → is_marked a.written s ≡ false
 
--- the two rounds, the flags of those that gate, and a remembered least count that no final of those that are left is below
+-- what a claim up to a sequence needs beside its producer and its count: that nothing is halted, that the limit is not passed, and that each final of those that are left completed what lay in the slots
+pub record IsClaimable (c : Setup) (next : ℕ) (halted : Bool) (gone : ℕ → Bool) (completed : List ℕ) (upto : ℕ) : Type 0 where
+  pub going : halted ≡ true → upto ≤ next
+  pub limit : upto ≤ c.limit
+  pub room : (f : ℕ) → Contains (finals_without c.upstreams gone) f → upto ≤ c.size + slice_index completed f
+
+-- the two rounds, the flags of those that gate, and a remembered sequence up to which nothing refuses a claim
 pub record IsKept (a : Inside) : Type 0 where
   pub whole : IsWhole (view_of a)
   pub available : IsAvailable (kept_of a) a.size a.next
   pub gating : AreGating a.gating.items a.graph.upstreams (flagged a.retired.items)
-  pub gate : (f : ℕ) → Contains (finals_without a.graph.upstreams (flagged a.retired.items)) f → a.gate ≤ slice_index a.completed.items f
+  pub claimable : IsClaimable (view_of a).setup a.next a.halted (flagged a.retired.items) a.completed.items a.claimable
 
 -- a core as it is opened
 pub record IsOpened (v : CoreView) (c : Setup) (named : List Name) : Type 0 where

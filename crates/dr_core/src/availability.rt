@@ -1,8 +1,9 @@
 //! What is kept of the recent sequences, a slot a sequence.
 
-ghost use Rattle.std.specs.Prelude.{◌≡◌, ◌+◌, ◌^◌, ◌<◌, ◌≤◌, length};
-ghost use Rattle.dr_seq.specs.Rounds.{entry_of};
-ghost use Rattle.dr_core.specs.Availability.{HasOwners, owner_at, owners_after, stamped};
+ghost use Rattle.std.specs.Prelude.{◌≡◌, ◌+◌, ◌-◌, ◌^◌, ◌<◌, ◌≤◌, ◌||◌, ◌&&◌, ◌==◌, nat_lt, nat_le, length};
+ghost use Rattle.dr_seq.specs.Rounds.{entry_of, is_marked};
+ghost use Rattle.dr_core.specs.Availability.{HasOwners, owner_at, owners_after, is_ahead as is_ahead_of, IsNoted, published_after, IsNewFront, stamped};
+ghost use Rattle.dr_core.specs.Machine.{is_single};
 
 use crate::mode::Mode;
 use dr_seq::{Rounds, Size};
@@ -43,6 +44,80 @@ fn stamp(owners: &mut [u64], size: Size, from: u64, n: u64, p: u64)
 {
     for k in 0..n {
         owners[size.slot(from + k)] = p;
+    }
+}
+
+/// Whether a sequence past the front is published: with one producer none is.
+#[inline]
+pub(crate) fn is_ahead(mode: Mode, published: &Rounds, s: u64) -> bool
+    requires { s < 2 ^ 62 }
+    ensures { result ≡ is_ahead_of mode published.now s }
+{
+    match mode {
+        Mode::Single => false,
+        Mode::Multi(_) => published.is_marked(s),
+    }
+}
+
+/// Whether a sequence is written: in order, or marked.
+#[inline]
+pub(crate) fn is_written(written: &Rounds, filled: u64, s: u64) -> bool
+    requires { s < 2 ^ 62 }
+    ensures { result ≡ (nat_lt s filled || is_marked written.now s) }
+{
+    s < filled || written.is_marked(s)
+}
+
+/// Notes that a sequence is written, and gives the first that is not written in order. Only what
+/// lies past that is marked.
+#[inline]
+pub(crate) fn note(written: &mut Rounds, filled: u64, s: u64) -> u64
+    requires { s < 2 ^ 62 }
+    ensures { IsNoted filled written.old s result written.new }
+{
+    if s == filled {
+        return s + 1;
+    }
+    if s > filled {
+        written.mark(s);
+    }
+    filled
+}
+
+/// Whether one producer wrote a stretch in order that begins at the front, and is not empty. Then
+/// nothing refuses its publication.
+#[inline]
+pub(crate) fn is_next_written(mode: Mode, lo: u64, hi: u64, front: u64, filled: u64) -> bool
+    ensures { result ≡ (is_single mode && (lo == front && (nat_le lo hi && nat_lt hi filled))) }
+{
+    mode.is_single() && lo == front && lo <= hi && hi < filled
+}
+
+/// Publishes the sequences from `lo` to `hi`, and gives the new front. With one producer they begin
+/// at the front, and no mark is left.
+#[inline]
+pub(crate) fn show(
+    mode: Mode,
+    published: &mut Rounds,
+    lo: u64,
+    hi: u64,
+    front: u64,
+    next: u64,
+) -> u64
+    requires order { lo ≤ hi }
+    requires claimed { hi < next }
+    requires front { front ≤ next }
+    requires round { next ≤ front + length published.old }
+    requires small { next ≤ 2 ^ 62 }
+    ensures marks { published.new ≡ published_after mode published.old lo (hi + 1 - lo) }
+    ensures front { IsNewFront mode published.new front next hi result }
+{
+    match mode {
+        Mode::Single => hi + 1,
+        Mode::Multi(_) => {
+            mark_all(published, lo, hi + 1 - lo);
+            published.front(front, next)
+        }
     }
 }
 

@@ -13,7 +13,7 @@ use crate::engine::retiring::flag_gating;
 use crate::mode::Mode;
 use crate::open_fault::OpenFault;
 use dr_graph::Graph;
-use dr_seq::{GateCache, Rounds, Size, Slots};
+use dr_seq::{Rounds, Size, Slots};
 use std::alloc::{AllocError, Global};
 use std::marker::Model;
 
@@ -42,9 +42,11 @@ pub struct Core {
     written: Rounds,
     owners: Vec<u64>,
     events: Slots,
-    gate: GateCache,
+    claimable: u64,
     next: u64,
     front: u64,
+    // All sequences from the front up to this one are written.
+    filled: u64,
     taken: Vec<u64>,
     completed: Vec<u64>,
     halted: bool,
@@ -119,9 +121,10 @@ impl Core {
             written,
             owners,
             events,
-            gate: GateCache::new(),
+            claimable: limit.min(size.get()),
             next: 0,
             front: 0,
+            filled: 0,
             taken,
             completed,
             halted: false,

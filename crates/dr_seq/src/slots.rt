@@ -1,6 +1,7 @@
 //! The slots of a ring.
 
-ghost use Rattle.std.specs.Prelude.{◌≡◌, ◌%◌, IfOk, length, replicate, slice_get, slice_set, Some};
+ghost use Rattle.std.specs.Prelude.{◌≡◌, ◌%◌, ◌≤◌, IfOk, length, map, replicate, slice_get, slice_set, Some};
+ghost use Rattle.std.specs.List.{range_with_len};
 ghost use Rattle.dr_seq.specs.Size.{IsSize};
 ghost use Rattle.dr_seq.specs.Event.{no_event};
 ghost use Rattle.dr_seq.specs.Slots.{event_at};
@@ -45,6 +46,20 @@ impl Slots {
     {
         let slot = self.size.slot(s);
         self.events[slot] = event;
+    }
+
+    /// Copies the events of the sequences from one on, as many as `out` holds: what lies before the
+    /// ring's end in one piece, and the rest from its beginning on.
+    pub fn copy_to(&self, first: u64, out: &mut [Event])
+        requires { length out.old ≤ length self.now }
+        ensures { out.new ≡ map (λ s. event_at self.now s) (range_with_len first (length out.old)) }
+    {
+        let slots = self.events.as_slice();
+        let at = self.size.slot(first);
+        let head = out.len().min(slots.len() - at);
+        let (front, back) = out.split_at_mut(head);
+        front.copy_from_slice(&slots[at..at + head]);
+        back.copy_from_slice(&slots[..back.len()]);
     }
 
     /// The event in the slot of a sequence.

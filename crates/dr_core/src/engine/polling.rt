@@ -122,8 +122,28 @@ impl Core {
     }
 }
 
+/// So many events are copied in pieces, and fewer one by one.
+const MANY_EVENTS: usize = 16;
+
 /// Copies the events of a stretch of sequences to the front of a buffer.
+#[inline]
 fn copy_out(events: &Slots, first: u64, count: usize, out: &mut [Event])
+    requires fits { first + count < 2 ^ 63 }
+    requires round { count ≤ length events.now }
+    requires within { count ≤ length out.old }
+    ensures { out.new ≡ map (λ s. event_at events.now s) (range_with_len first count) ++ drop count out.old }
+{
+    if count < MANY_EVENTS {
+        copy_few(events, first, count, out);
+    } else {
+        let (front, _) = out.split_at_mut(count);
+        events.copy_to(first, front);
+    }
+}
+
+/// The same, one by one.
+#[inline]
+fn copy_few(events: &Slots, first: u64, count: usize, out: &mut [Event])
     requires fits { first + count < 2 ^ 63 }
     requires within { count ≤ length out.old }
     ensures { out.new ≡ map (λ s. event_at events.now s) (range_with_len first count) ++ drop count out.old }

@@ -1,11 +1,11 @@
 //! The producers' calls: sequences are claimed, written and published.
 
-ghost use Rattle.std.specs.Prelude.{◌≡◌, ℕ, ◌+◌, ◌^◌, ◌<◌, ◌≤◌, nat_le, [], None, Some, MatchOption, OnErr};
-ghost use Rattle.dr_core.specs.Availability.{publish_fault as publish_fault_of};
+ghost use Rattle.std.specs.Prelude.{◌≡◌, ℕ, ◌+◌, ◌^◌, ◌<◌, ◌≤◌, ◌≢◌, nat_le, false, [], None, Some, MatchOption, OnErr};
+ghost use Rattle.dr_core.specs.Availability.{claim_fault as claim_fault_of, publish_fault as publish_fault_of};
 ghost use Rattle.dr_core.specs.CoreView.{known_at, gate_of};
 ghost use Rattle.dr_core.specs.Shows.{IsStep, claim_reply, unit_reply};
 
-use crate::availability::{mark_all, own, owner_of};
+use crate::availability::{is_ahead, is_next_written, is_written, note, own, owner_of, show};
 use crate::command::{Claimed, Command, Reply};
 use crate::engine::Core;
 use crate::least::least_flagged;
@@ -13,22 +13,41 @@ use crate::refusal::Refusal;
 use dr_seq::Event;
 
 impl Core {
-    /// Whether `n` more sequences fit in the ring. The gating handlers are scanned only where the
-    /// least count that was last seen is too small, and that there is no room is told only after
-    /// a scan.
-    fn has_room(&mut self, n: u64) -> bool
-        requires { self.old.next + n < 2 ^ 63 }
-        ensures room { result ≡ nat_le (self.old.next + n) (self.old.setup.size + gate_of self.old) }
+    /// Whether a claim up to `wanted` has room, after a scan of the gating handlers. What it finds
+    /// is remembered for the claims to come.
+    fn has_room(&mut self, wanted: u64) -> bool
+        requires going { self.old.halted ≡ false }
+        ensures room { result ≡ nat_le wanted (self.old.setup.size + gate_of self.old) }
+        ensures same { self.new ≡ self.old }
+    {
+        let room = self.size.get() + least_flagged(&self.completed, &self.gating);
+        self.claimable = self.limit.min(room);
+        wanted <= room
+    }
+
+    /// What refuses a claim of `n` sequences, where a claim may be of so many. Up to the sequence
+    /// that was last found to be claimable nothing does, which is told without a further look; and
+    /// that there is no room is told only after a scan.
+    fn claim_fault(&mut self, n: u64) -> Option<Refusal>
+        requires some { n ≢ 0 }
+        requires fits { n ≤ self.old.setup.size }
+        ensures fault { result ≡ claim_fault_of self.old n }
         ensures same { self.new ≡ self.old }
     {
         let wanted = self.next + n;
-        let size = self.size.get();
-        if wanted <= size + self.gate.seen() {
-            return true;
+        if wanted <= self.claimable {
+            return None;
         }
-        let least = least_flagged(&self.completed, &self.gating);
-        self.gate.raise(least);
-        wanted <= size + least
+        if self.halted {
+            return Some(Refusal::Halted);
+        }
+        if wanted > self.limit {
+            return Some(Refusal::Exhausted);
+        }
+        if !self.has_room(wanted) {
+            return Some(Refusal::NoRoom);
+        }
+        None
     }
 
     /// What refuses a producer to publish a recent sequence.
@@ -37,11 +56,11 @@ impl Core {
         requires recent { self.now.next ≤ s + self.now.setup.size }
         ensures { result ≡ publish_fault_of (known_at self.now s) p }
     {
-        if s < self.front || self.published.is_marked(s) {
+        if s < self.front || is_ahead(self.mode, &self.published, s) {
             Some(Refusal::AlreadyPublished)
         } else if owner_of(self.mode, &self.owners, self.size, s) != p {
             Some(Refusal::NotClaimed)
-        } else if self.written.is_marked(s) {
+        } else if is_written(&self.written, self.filled, s) {
             None
         } else {
             Some(Refusal::NotWritten)
@@ -77,14 +96,8 @@ impl Core {
         if n == 0 || n > self.size.get() {
             return Err(Refusal::BadCount);
         }
-        if self.halted {
-            return Err(Refusal::Halted);
-        }
-        if self.next + n > self.limit {
-            return Err(Refusal::Exhausted);
-        }
-        if !self.has_room(n) {
-            return Err(Refusal::NoRoom);
+        if let Some(refusal) = self.claim_fault(n) {
+            return Err(refusal);
         }
         let lo = self.next;
         own(self.mode, &mut self.owners, self.size, lo, n, p);
@@ -106,13 +119,13 @@ impl Core {
         if s < self.front {
             return Err(Refusal::AlreadyPublished);
         }
-        if self.published.is_marked(s) {
+        if is_ahead(self.mode, &self.published, s) {
             return Err(Refusal::AlreadyPublished);
         }
         if owner_of(self.mode, &self.owners, self.size, s) != p {
             return Err(Refusal::NotClaimed);
         }
-        self.written.mark(s);
+        self.filled = note(&mut self.written, self.filled, s);
         self.events.put(s, event);
         Ok(())
     }
@@ -125,6 +138,10 @@ impl Core {
     {
         if p >= self.mode.producers() {
             return Err(Refusal::NoProducer);
+        }
+        if is_next_written(self.mode, lo, hi, self.front, self.filled) {
+            self.front = hi + 1;
+            return Ok(());
         }
         if lo > hi {
             return Err(Refusal::BadCount);
@@ -142,8 +159,15 @@ impl Core {
         if self.mode.is_single() && lo != self.front {
             return Err(Refusal::OutOfOrder);
         }
-        mark_all(&mut self.published, lo, n);
-        self.front = self.published.front(self.front, self.next);
+        self.front = show(
+            self.mode,
+            &mut self.published,
+            lo,
+            hi,
+            self.front,
+            self.next,
+        );
+        self.filled = self.filled.max(self.front);
         Ok(())
     }
 }

@@ -1,8 +1,8 @@
-use Rattle.std.proofs.Common.{ℕ, ◌≡◌, ◌+◌, ◌-◌, [], ◌<◌, ◌≤◌, length, sym, ap, ◌∙◌, List, Vec, Global, false, true, inl, inr, refl}
+use Rattle.std.proofs.Common.{arith, ℕ, ◌≡◌, ◌+◌, ◌-◌, [], ◌<◌, ◌≤◌, length, sym, ap, ◌∙◌, List, Vec, Global, false, true, inl, inr, refl}
 use Rattle.std.specs.Vec.{with_items}
 use Rattle.std.proofs.lemmas.List.{with_items_is}
 use Rattle.std.specs.Prelude.{◌==◌, ◌||◌, nat_lt}
-use Rattle.std.proofs.lemmas.Bool.{leb-true, or_left, or_right, eq-eqb, lt-ltb, lt-leb}
+use Rattle.std.proofs.lemmas.Bool.{or_left, or_right, eq-eqb, lt-ltb, lt-leb}
 use Rattle.dr_core.specs.declared.refusal.Refusal.TheVariants.{BadCount}
 use Rattle.dr_seq.proofs.Sizes.{size_positive}
 use Rattle.dr_core.specs.declared.mode.Mode.{Mode}
@@ -12,9 +12,10 @@ use Rattle.dr_core.specs.declared.command.Reply.TheVariants.{Claimed}
 use Rattle.dr_core.specs.Machine.{producers}
 use Rattle.dr_core.specs.Shows.{IsStep}
 use Rattle.dr_core.specs.CoreView.{CoreView, gate_of}
-use Rattle.dr_core.specs.Availability.{owners_after}
+use Rattle.dr_core.specs.Availability.{owners_after, claim_fault}
 use Rattle.dr_core.specs.Inside.{view_of, kept_of}
-use Rattle.dr_core.proofs.CoreSteps.{refused_step, claim_step, claim_no_room}
+use Rattle.dr_core.proofs.CoreSteps.{refused_step, claim_step}
+use Rattle.dr_core.proofs.Gating.{claim_refused, claim_accepted}
 use Rattle.dr_core.proofs.Recents.{claims_known, claims_available, known_there, one_producer}
 use Rattle.dr_core.proofs.Whole.{step_whole}
 use Rattle.dr_core.proofs.Stamped.{length-stamped}
@@ -28,39 +29,32 @@ returns-then-n-eq0-clause-step c =
       | then-n-eq0-via-then-n-eq0 w ↦ or_left _ _ (eq-eqb _ _ w.if-n-eq0.true)
       | then-n-eq0-via-else-n-eq0+then-n-get w ↦ or_right (c.args.n == 0) _ (lt-ltb _ _ (rw w.get.ensures.value at w.if-n-get.true))
     ] in
-    rw (← c.self.view_is)
-    (refused_step v (Claim c.args.p c.args.n) BadCount (λ m sh. inr (lt-leb _ _ (rw c.producers.ensures at c.if-p-producers.false), inl (bad, refl))))
+    rw (← c.self.view_is) (refused_step v (Claim c.args.p c.args.n) BadCount (λ m sh. inr (lt-leb _ _ (rw c.producers.ensures at c.if-p-producers.false), inl (bad, refl))))
 
-pub returns-then-not-has_room-clause-step : goal.returns-then-not-has_room-clause-step
-returns-then-not-has_room-clause-step c =
+pub returns-in-Some-clause-step : goal.returns-in-Some-clause-step
+returns-in-Some-clause-step c =
     let v : CoreView = view_of c.self.inside in
-    rw (c.has_room.ensures.same, ← c.self.view_is)
-    (claim_no_room v c.args.p c.args.n (rw c.producers.ensures at c.if-p-producers.false) c.if-n-eq0.false (rw c.get.ensures.value at c.if-n-get.false) c.if-self.false c.if-self-n.false
-    (rw (← c.self.view_is) at (sym c.has_room.ensures.room ∙ c.if-not-has_room.true)))
+    rw (c.claim_fault.ensures.same, ← c.self.view_is)
+    (claim_refused v c.args.p c.args.n (rw c.producers.ensures at c.if-p-producers.false) c.if-n-eq0.false (rw c.get.ensures.value at c.if-n-get.false) c.in-Some.refusal
+    (rw (← c.self.view_is) at (sym c.claim_fault.ensures.fault ∙ c.in-Some.is)))
 
 -- the owners that a claim wrote back
-owners_are : (mode : Mode) (owners : Vec ℕ Global) (lent new : List ℕ) (from n p : ℕ) → lent ≡ owners.items → new ≡ owners_after mode lent from n p
-    → (with_items owners new).items ≡ owners_after mode owners.items from n p
+owners_are : (mode : Mode) (owners : Vec ℕ Global) (lent new : List ℕ) (from n p : ℕ) → lent ≡ owners.items → new ≡ owners_after mode lent from n p → (with_items owners new).items ≡ owners_after mode owners.items from n p
 owners_are Single owners lent new from n p a b = with_items_is owners new (ap length (b ∙ a) ∙ sym owners.ok.0) ∙ b ∙ a
 owners_are (Multi producers) owners lent new from n p a b =
     let e : new ≡ owners_after (Multi producers) owners.items from n p = b ∙ ap (λ l. owners_after (Multi producers) l from n p) a in
     with_items_is owners new (ap length e ∙ length-stamped (λ s. p) owners.items from n ∙ sym owners.ok.0) ∙ e
 
-owned : (c : After-own)
-    → (with_items c.self-2.inside.owners c.own.new.owners).items ≡ owners_after c.self-2.inside.mode c.self-2.inside.owners.items c.self-2.inside.next c.args.n c.args.p
+owned : (c : After-own) → (with_items c.self-2.inside.owners c.own.new.owners).items ≡ owners_after c.self-2.inside.mode c.self-2.inside.owners.items c.self-2.inside.next c.args.n c.args.p
 owned c = owners_are c.self-2.inside.mode c.self-2.inside.owners _ _ _ _ _ c.deref_mut.ensures.value c.own.ensures
 
--- the search for room changes nothing
+-- the look for what refuses it changes nothing
 unchanged : (c : After-own) → view_of c.self-2.inside ≡ view_of c.self.inside
-unchanged c = c.self-2.view_is ∙ c.has_room.ensures.same ∙ sym c.self.view_is
+unchanged c = c.self-2.view_is ∙ c.claim_fault.ensures.same ∙ sym c.self.view_is
 
--- the claim is within the limit
-limited : (c : After-own) → c.self-2.inside.next + c.args.n ≤ c.self-2.inside.limit
-limited c = rw (ap (λ w. w.next) (unchanged c), ap (λ w. w.setup.limit) (unchanged c)) c.if-self-n.false
-
--- and it fits beside what the finals have not completed
-fits_beside : (c : After-own) → c.self-2.inside.next + c.args.n ≤ c.self-2.inside.size + gate_of (view_of c.self-2.inside)
-fits_beside c = leb-true _ _ (rw (← c.has_room.ensures.same, ← c.self-2.view_is) at (sym c.has_room.ensures.room ∙ c.if-not-has_room.false))
+-- and nothing does
+free : (c : After-own) → ((view_of c.self-2.inside).halted ≡ false) × (c.self-2.inside.next + c.args.n ≤ c.self-2.inside.limit) × (c.self-2.inside.next + c.args.n ≤ c.self-2.inside.size + gate_of (view_of c.self-2.inside))
+free c = claim_accepted (view_of c.self-2.inside) c.args.n (ap (λ w. claim_fault w c.args.n) (unchanged c ∙ c.self.view_is) ∙ sym c.claim_fault.ensures.fault ∙ c.in_default.is)
 
 -- the claim is the machine's
 claimed : (c : After-own) → IsStep (view_of c.self-2.inside) (Claim c.args.p c.args.n) (Claimed c.self-2.inside.next (c.self-2.inside.next + c.args.n - 1)) []
@@ -70,11 +64,10 @@ claimed c =
     let same : v ≡ view_of c.self.inside = unchanged c in
     let producer : c.args.p < producers v.setup.mode = rw (ap (λ w. w.setup.mode) same) (rw c.producers.ensures at c.if-p-producers.false) in
     let fits : c.args.n ≤ v.setup.size = rw (ap (λ w. w.setup.size) same) (rw c.get.ensures.value at c.if-n-get.false) in
-    let going : v.halted ≡ false = ap (λ w. w.halted) same ∙ c.if-self.false in
     rw (owned c)
     (claim_step v c.args.p c.args.n _
     (claims_known v (kept_of c.self-2.inside) (known_there c.self-2.inside) c.self-2.invariant.available c.self-2.invariant.whole.front (size_positive v.setup.size c.self-2.invariant.whole.size) c.args.n c.args.p fits (one_producer c.self-2.inside.mode c.args.p producer))
-    producer c.if-n-eq0.false fits going (limited c) (fits_beside c))
+    producer c.if-n-eq0.false fits (free c).0 (free c).1 (free c).2)
 
 pub invariant_of-self : goal.invariant_of-self
 invariant_of-self c =
@@ -82,13 +75,14 @@ invariant_of-self c =
     let at : After-own = (goal.at.invariant_of-self c).After-own in
     record {
       whole = step_whole (claimed at) refl c.self-2.invariant.whole;
-      available =
-          rw (owned at)
-          (claims_available v (kept_of c.self-2.inside) (known_there c.self-2.inside) c.self-2.invariant.available c.self-2.invariant.whole.front
-          (size_positive v.setup.size c.self-2.invariant.whole.size) c.args.n c.args.p);
+      available = rw (owned at) (claims_available v (kept_of c.self-2.inside) (known_there c.self-2.inside) c.self-2.invariant.available c.self-2.invariant.whole.front (size_positive v.setup.size c.self-2.invariant.whole.size) c.args.n c.args.p);
       gating = c.self-2.invariant.gating;
-      gate = c.self-2.invariant.gate;
+      claimable = record {
+        going = λ e. (let old : c.self-2.inside.claimable ≤ c.self-2.inside.next = c.self-2.invariant.claimable.going e in omega arith);
+        limit = c.self-2.invariant.claimable.limit;
+        room = c.self-2.invariant.claimable.room;
+      };
     }
 
 pub returns-clause-step : goal.returns-clause-step
-returns-clause-step c = rw (← c.has_room.ensures.same, ← c.self-2.view_is) (claimed (goal.at.returns-clause-step c).After-own)
+returns-clause-step c = rw (← c.claim_fault.ensures.same, ← c.self-2.view_is) (claimed (goal.at.returns-clause-step c).After-own)

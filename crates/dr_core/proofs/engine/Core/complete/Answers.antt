@@ -1,4 +1,4 @@
-use Rattle.std.proofs.Common.{refl, ◌≡◌, ◌<◌, ◌≤◌, slice_index, length, get_or, false, arith}
+use Rattle.std.proofs.Common.{refl, ◌≡◌, ◌<◌, ◌≤◌, ◌+◌, slice_index, length, get_or, false, arith}
 use Rattle.std.proofs.lemmas.List.{get_or_read}
 use Rattle.dr_core.specs.Machine.{handlers}
 use Rattle.dr_core.specs.CoreView.{CoreView}
@@ -35,8 +35,12 @@ invariant_of-self c =
       whole = step_whole (complete_step v c.args.h c.args.upto can) refl c.self.invariant.whole;
       available = c.self.invariant.available;
       gating = c.self.invariant.gating;
-      gate = λ f has. (let below : c.self.inside.gate ≤ slice_index v.completed f = c.self.invariant.gate f has in
-          omega (arith, completed_grows v c.args.h c.args.upto c.self.invariant.whole can f));
+      claimable = record {
+        going = c.self.invariant.claimable.going;
+        limit = c.self.invariant.claimable.limit;
+        room = λ f has. (let old : c.self.inside.claimable ≤ v.setup.size + slice_index v.completed f = c.self.invariant.claimable.room f has in
+            omega (arith, completed_grows v c.args.h c.args.upto c.self.invariant.whole can f));
+      };
     }
 
 pub returns-clause-step : goal.returns-clause-step

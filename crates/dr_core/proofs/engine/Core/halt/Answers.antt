@@ -1,6 +1,7 @@
-use Rattle.std.proofs.Common.{refl}
+use Rattle.std.proofs.Common.{refl, arith}
 use Rattle.dr_core.specs.Inside.{view_of}
 use Rattle.dr_core.proofs.CoreSteps.{halt_step}
+use Rattle.dr_core.proofs.Gating.{final_room}
 use Rattle.dr_core.proofs.Whole.{step_whole}
 use Rattle.dr_core.proofs.engine.Core.halt.Goals as goal
 
@@ -9,7 +10,7 @@ invariant_of-self c = record {
   whole = step_whole (halt_step (view_of c.self.inside)) refl c.self.invariant.whole;
   available = c.self.invariant.available;
   gating = c.self.invariant.gating;
-  gate = c.self.invariant.gate;
+  claimable = record { going = λ e. omega arith; limit = c.self.invariant.whole.claimed; room = λ f has. final_room (view_of c.self.inside) c.self.invariant.whole f has };
 }
 
 pub returns : goal.returns

@@ -61,7 +61,7 @@ invariant_of-self c =
       whole = step_whole (took (goal.at.invariant_of-self c).After-copy_out at) refl c.self.invariant.whole;
       available = c.self.invariant.available;
       gating = c.self.invariant.gating;
-      gate = c.self.invariant.gate;
+      claimable = c.self.invariant.claimable;
     }
 
 pub returns-then-first-available-clause-step : goal.returns-then-first-available-clause-step

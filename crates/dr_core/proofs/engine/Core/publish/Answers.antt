@@ -1,22 +1,21 @@
-use Rattle.std.proofs.Common.{◌≡◌, [], ℕ, ◌+◌, ◌-◌, ◌<◌, ◌≤◌, length, sym, ap, ◌∙◌, false, not, ◌&&◌, arith, None, refl}
+use Rattle.std.proofs.Common.{◌≡◌, [], ℕ, ◌+◌, ◌-◌, ◌<◌, ◌≤◌, length, sym, ap, ◌∙◌, false, true, Bool, not, ◌&&◌, arith, None, refl, max}
 use Rattle.std.specs.Prelude.{◌==◌}
-use Rattle.std.proofs.lemmas.Bool.{and_left, and_right, eq-eqb}
-use Rattle.dr_seq.specs.Rounds.{entry_of, is_marked, IsFront}
+use Rattle.std.proofs.lemmas.Bool.{and_left, and_right, and_parts, eq-eqb, eqb-true, leb-true, ltb-true}
 use Rattle.dr_seq.proofs.Sizes.{size_positive}
 use Rattle.dr_core.specs.declared.command.Command.TheVariants.{Publish}
 use Rattle.dr_core.specs.declared.command.Reply.TheVariants.{Published}
 use Rattle.dr_core.specs.Shows.{IsStep}
-use Rattle.dr_core.specs.Machine.{is_single}
+use Rattle.dr_core.specs.Machine.{producers, is_single}
 use Rattle.dr_core.specs.CoreView.{CoreView, known_at}
-use Rattle.dr_core.specs.Availability.{stamped, publish_fault}
+use Rattle.dr_core.specs.Availability.{published_after, IsNewFront, publish_fault}
 use Rattle.dr_core.specs.Inside.{view_of, kept_of}
 use Rattle.dr_core.proofs.Publishing.{publish_front, publish_refused, publish_order, publish_step}
 use Rattle.dr_core.proofs.Recents.{known_there, publishes_known, publishes_available, front_known}
+use Rattle.dr_core.proofs.InOrder.{InOrder, next_step, next_available}
 use Rattle.dr_core.proofs.Whole.{step_whole}
-use Rattle.dr_core.proofs.Stamped.{length-stamped}
 use Rattle.dr_core.proofs.Writing.{near}
 use Rattle.dr_core.proofs.engine.Core.publish.Goals as goal
-use Rattle.dr_core.proofs.engine.Core.publish.Goals.{After-front-self-inside, else-is_single-via-then-is_single+else-lo-self-2, else-is_single-via-else-is_single}
+use Rattle.dr_core.proofs.engine.Core.publish.Goals.{After-show-self-inside, Then-is_next_written, else-is_single-via-then-is_single+else-lo-self-2, else-is_single-via-else-is_single}
 
 pub returns-then-lo-self-clause-step : goal.returns-then-lo-self-clause-step
 returns-then-lo-self-clause-step c =
@@ -40,58 +39,81 @@ returns-then-lo-self-2-clause-step c =
 pub first_fault-requires-clause-recent : goal.first_fault-requires-clause-recent
 first_fault-requires-clause-recent c = rw (← c.self.view_is) (near (view_of c.self.inside) c.self.invariant.whole c.args.lo c.if-lo-self.false)
 
-pub front-self-inside-requires-clause-round : goal.front-self-inside-requires-clause-round
-front-self-inside-requires-clause-round c =
+pub show-self-inside-requires-clause-round : goal.show-self-inside-requires-clause-round
+show-self-inside-requires-clause-round c =
     let v : CoreView = view_of c.self.inside in
     let round : v.next ≤ v.front + v.setup.size = near v c.self.invariant.whole v.front (omega arith) in
-    let len : length c.mark_all.new.rounds ≡ v.setup.size =
-    ap length c.mark_all.ensures ∙ length-stamped _ c.self.inside.published _ _ ∙ c.self.invariant.available.published in
+    let len : length c.self.inside.published ≡ v.setup.size = c.self.invariant.available.published in
     omega arith
 
+-- what one producer publishes begins at the front
+begins : (c : After-show-self-inside) → is_single c.self.inside.mode ≡ true → c.args.lo ≡ c.self.inside.front
+begins c single = elim c.else-is_single.branch [
+  | else-is_single-via-then-is_single+else-lo-self-2 w ↦ w.if-lo-self-2.false
+  | else-is_single-via-else-is_single w ↦ absurd (let e : ◌≡◌ {A = Bool} true false = sym single ∙ sym c.is_single.ensures ∙ w.if-is_single.false in cc)
+]
+
 -- the front that the new marks have
-moved : (c : After-front-self-inside)
-    → IsFront
-    (is_marked
-    (stamped (entry_of (length c.self.inside.published)) c.self.inside.published c.args.lo
-    (c.args.hi + 1 - c.args.lo))) c.self.inside.front c.self.inside.next c.front-self-inside.result
-moved c = rw c.mark_all.ensures at c.front-self-inside.ensures
+found : (c : After-show-self-inside) → IsNewFront c.self.inside.mode (published_after c.self.inside.mode c.self.inside.published c.args.lo (c.args.hi + 1 - c.args.lo)) c.self.inside.front c.self.inside.next c.args.hi c.show-self-inside.result
+found c = rw c.show-self-inside.ensures.marks at c.show-self-inside.ensures.front
 
 -- the publication is the machine's
-published : (c : After-front-self-inside)
-    → IsStep (view_of c.self.inside) (Publish c.args.p c.args.lo c.args.hi) Published []
-    (view_of (record c.self.inside { published = c.mark_all.new.rounds; front = c.front-self-inside.result }))
+published : (c : After-show-self-inside) → IsStep (view_of c.self.inside) (Publish c.args.p c.args.lo c.args.hi) Published [] (view_of (record c.self.inside { published = c.show-self-inside.new.published; front = c.show-self-inside.result; filled = max c.self.inside.filled c.show-self-inside.result }))
 published c =
     let v : CoreView = view_of c.self.inside in
     let recent : v.next ≤ c.args.lo + v.setup.size = near v c.self.invariant.whole c.args.lo c.if-lo-self.false in
+    let round : v.next ≤ v.front + v.setup.size = near v c.self.invariant.whole v.front (omega arith) in
     let some : 0 < v.setup.size = size_positive v.setup.size c.self.invariant.whole.size in
-    let none : (j : ℕ) → j < c.args.hi + 1 - c.args.lo → publish_fault (known_at v (c.args.lo + j)) c.args.p ≡ None =
-    rw (← c.self.view_is) at c.in_default.ensures in
+    let none : (j : ℕ) → j < c.args.hi + 1 - c.args.lo → publish_fault (known_at v (c.args.lo + j)) c.args.p ≡ None = rw (← c.self.view_is) at c.in_default.ensures in
     let order : (is_single v.setup.mode && not (c.args.lo == v.front)) ≡ false = elim c.else-is_single.branch [
       | else-is_single-via-then-is_single+else-lo-self-2 w ↦ and_right _ _ (ap not (eq-eqb _ _ w.if-lo-self-2.false))
       | else-is_single-via-else-is_single w ↦ and_left _ _ (sym c.is_single.ensures ∙ w.if-is_single.false)
     ] in
-    rw c.mark_all.ensures
-    (publish_step v c.args.p c.args.lo c.args.hi c.front-self-inside.result _
-    (publishes_known v (kept_of c.self.inside) (known_there c.self.inside) c.self.invariant.available c.self.invariant.whole.front some c.args.p c.args.lo c.args.hi c.front-self-inside.result c.if-lo-hi.false c.if-hi-self.false recent refl (moved c) none)
+    rw c.show-self-inside.ensures.marks
+    (publish_step v c.args.p c.args.lo c.args.hi c.show-self-inside.result _
+    (publishes_known v (kept_of c.self.inside) (known_there c.self.inside) c.self.invariant.available c.self.invariant.whole.front some c.args.p c.args.lo c.args.hi c.show-self-inside.result c.if-lo-hi.false c.if-hi-self.false recent round refl c.if-lo-self.false (begins c) (found c) none)
     c.self.invariant.whole (rw c.producers.ensures at c.if-p-producers.false) c.if-lo-hi.false c.if-hi-self.false c.if-lo-self.false none
-    (front_known v (kept_of c.self.inside) (known_there c.self.inside) c.self.invariant.available c.self.invariant.whole.front some c.args.p c.args.lo c.args.hi c.front-self-inside.result c.if-lo-hi.false c.if-hi-self.false recent refl (moved c))
+    (front_known v (kept_of c.self.inside) (known_there c.self.inside) c.self.invariant.available c.self.invariant.whole.front some c.args.p c.args.lo c.args.hi c.show-self-inside.result c.if-lo-hi.false c.if-hi-self.false recent round refl c.if-lo-self.false (begins c) (found c))
     order)
 
-pub invariant_of-self : goal.invariant_of-self
-invariant_of-self c =
+pub invariant_of-self-2 : goal.invariant_of-self-2
+invariant_of-self-2 c =
     let v : CoreView = view_of c.self.inside in
-    let at : After-front-self-inside = (goal.at.invariant_of-self c).After-front-self-inside in
+    let at : After-show-self-inside = (goal.at.invariant_of-self-2 c).After-show-self-inside in
     let recent : v.next ≤ c.args.lo + v.setup.size = near v c.self.invariant.whole c.args.lo c.if-lo-self.false in
+    let round : v.next ≤ v.front + v.setup.size = near v c.self.invariant.whole v.front (omega arith) in
+    let some : 0 < v.setup.size = size_positive v.setup.size c.self.invariant.whole.size in
     record {
-      whole = step_whole (published at) refl c.self.invariant.whole;
-      available =
-          rw c.mark_all.ensures
-          (publishes_available v (kept_of c.self.inside) (known_there c.self.inside) c.self.invariant.available c.self.invariant.whole.front
-          (size_positive v.setup.size c.self.invariant.whole.size) c.args.p c.args.lo c.args.hi c.front-self-inside.result c.if-lo-hi.false c.if-hi-self.false recent refl
-          (moved at));
+      whole = rw c.max-self-inside.ensures (step_whole (published at) refl c.self.invariant.whole);
+      available = rw (c.max-self-inside.ensures, c.show-self-inside.ensures.marks) (publishes_available v (kept_of c.self.inside) (known_there c.self.inside) c.self.invariant.available c.self.invariant.whole.front some c.args.p c.args.lo c.args.hi c.show-self-inside.result c.if-lo-hi.false c.if-hi-self.false recent round refl c.if-lo-self.false (begins at) (found at));
       gating = c.self.invariant.gating;
-      gate = c.self.invariant.gate;
+      claimable = c.self.invariant.claimable;
     }
 
 pub returns-clause-step : goal.returns-clause-step
-returns-clause-step c = rw (← c.self.view_is) (published (goal.at.returns-clause-step c).After-front-self-inside)
+returns-clause-step c = rw (← c.self.view_is) (rw c.max-self-inside.ensures (published (goal.at.returns-clause-step c).After-show-self-inside))
+
+-- what the test of the next stretch told
+in_order : (c : Then-is_next_written) → InOrder c.self.inside c.args.lo c.args.hi
+in_order c =
+    let all = and_parts _ _ (sym c.is_next_written.ensures ∙ c.if-is_next_written.true) in
+    let from = and_parts _ _ all.1 in
+    let upto = and_parts _ _ from.1 in
+    record { single = all.0; begins = eqb-true _ _ from.0; order = leb-true _ _ upto.0; written = ltb-true _ _ upto.1 }
+
+pub returns-then-is_next_written-clause-step : goal.returns-then-is_next_written-clause-step
+returns-then-is_next_written-clause-step c =
+    rw (← c.self.view_is) (next_step c.self.inside c.self.invariant c.args.p c.args.lo c.args.hi (rw c.producers.ensures at c.if-p-producers.false) (in_order (goal.at.returns-then-is_next_written-clause-step c).Then-is_next_written))
+
+pub invariant_of-self : goal.invariant_of-self
+invariant_of-self c =
+    let at : Then-is_next_written = (goal.at.invariant_of-self c).Then-is_next_written in
+    let is : InOrder c.self.inside c.args.lo c.args.hi = in_order at in
+    let producer : c.args.p < producers c.self.inside.mode = rw c.producers.ensures at c.if-p-producers.false in
+    let step = next_step c.self.inside c.self.invariant c.args.p c.args.lo c.args.hi producer is in
+    record {
+      whole = step_whole step refl c.self.invariant.whole;
+      available = next_available c.self.inside c.self.invariant c.args.p c.args.lo c.args.hi producer is;
+      gating = c.self.invariant.gating;
+      claimable = c.self.invariant.claimable;
+    }

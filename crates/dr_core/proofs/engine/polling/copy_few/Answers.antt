@@ -1,7 +1,7 @@
 use Rattle.std.proofs.Common.{arith}
 use Rattle.dr_seq.specs.Slots.{event_at}
 use Rattle.dr_core.proofs.Copying.{copy-more}
-use Rattle.dr_core.proofs.engine.polling.copy_out.Goals as goal
+use Rattle.dr_core.proofs.engine.polling.copy_few.Goals as goal
 
 pub loop-k-preserved : goal.loop-k-preserved
 loop-k-preserved c =
