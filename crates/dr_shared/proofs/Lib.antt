@@ -1,0 +1,9 @@
+pub mod Counts
+pub mod Recording
+pub mod Reached
+pub mod Following
+pub mod Picks
+pub mod Audited
+pub mod Findings
+pub mod Replies
+pub mod Sent
