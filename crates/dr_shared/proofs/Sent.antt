@@ -1,4 +1,5 @@
 -- A share of a ledger may be shared, since it names no thread's key.
+use Prim.Native.Nat.{ℕ}
 use denote.RattleType.{RattleType}
 use Rattle.std.proofs.Crossing as std
 use Rattle.std.proofs.MapsCrossing as maps
@@ -24,6 +25,10 @@ use Rattle.dr_shared.specs.contracts.entry.Entry as Entry
 use Rattle.std.specs.contracts.sync.Mutex as Mutex
 use Rattle.std.proofs.sync.Mutex.TheSendSync.{the_sync as the_mutex_sync}
 use Rattle.dr_shared.specs.contracts.shared.End as End
+
+-- what is required of a closure's type parameter is so of the type
+pub of_param : (i : ℕ) (R : RattleType) → IsSync (param i R) → IsSync R
+of_param i R s = record { shared = s.shared }
 
 pub share_sync : (L : RattleType) (g : Ghosts L.Denot) → IsSync (Share.the_row L g)
 share_sync L g = record { shared = λ d b o κ q. part_keyless (Share.the_row L g) (the_send L g) q d b o }
