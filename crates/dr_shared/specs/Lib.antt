@@ -1,0 +1,4 @@
+-- Workers.
+pub mod Work
+pub mod Fault
+pub mod Waits
