@@ -1,4 +1,5 @@
 -- Workers.
 pub mod Work
 pub mod Fault
+pub mod FirstFault
 pub mod Waits

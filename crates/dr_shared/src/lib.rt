@@ -8,6 +8,7 @@
 
 // Workers.
 mod consumer;
+mod ended;
 pub mod fault;
 pub mod gate;
 mod producer;
@@ -16,6 +17,7 @@ mod turns;
 mod waiting;
 
 pub use consumer::consume;
+pub use ended::{Ended, WorkerFault, first_fault};
 pub use fault::WorkFault;
 pub use gate::{Gate, GateAnswer, OpenGate};
 pub use producer::{Produced, produce};
