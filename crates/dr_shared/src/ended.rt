@@ -1,6 +1,6 @@
 //! Which fault is answered for several workers, once all are joined.
 
-ghost use Rattle.std.specs.Prelude.{◌≡◌, ◌++◌, option_to_list};
+ghost use Rattle.std.specs.Prelude.{◌≡◌, ◌++◌, All, IfNone, None, option_to_list};
 ghost use Rattle.dr_shared.specs.FirstFault.{fault_with, faults_with, first_fault as first_of, least};
 
 use crate::fault::WorkFault;
@@ -56,7 +56,8 @@ fn least_with(ended: &[Ended], number: u32) -> Option<WorkerFault>
 /// a stop before a refusal; of several of one kind, that of the worker with the least number. The
 /// order is this project's own.
 pub fn first_fault(ended: &[Ended]) -> Option<WorkerFault>
-    ensures { result ≡ first_of ended.now }
+    ensures first { result ≡ first_of ended.now }
+    ensures none { IfNone result (All (λ e. e.fault ≡ None) ended.now) }
 {
     if let Some(memory) = least_with(ended, 40) {
         return Some(memory);
