@@ -1,8 +1,10 @@
 //! The worker of a handler.
 
-ghost use Rattle.std.specs.Prelude.{◌≡◌, true, IfNone, IfOk, OnOk};
+ghost use Rattle.std.specs.Prelude.{◌≡◌, true, IfNone, IfOk, OnOk, Some};
 ghost use Rattle.dr_core.specs.Ends.{WhereShown};
 ghost use Rattle.dr_shared.specs.declared.consumer.Progress.TheVariants.{Drained};
+ghost use Rattle.dr_shared.specs.declared.fault.WorkFault.TheVariants.{Stopped};
+ghost use Rattle.dr_shared.specs.Stops.{Passes};
 ghost use Rattle.dr_shared.specs.Work.{IsDone, Works};
 
 use crate::fault::WorkFault;
@@ -32,11 +34,12 @@ fn turn<R: Wait, O: Outlet, G: Gate, H: Handler>(
     turns: &mut Turns,
     handler: &mut H,
     buf: &mut [Event],
-) -> Result<Progress, WorkFault>
+) -> Result<Progress, Trouble>
     ensures kept { O.kept outlet.new ≡ O.kept outlet.old }
     ensures works { Works H.goes handler.old handler.new (O.received outlet.old) (O.received outlet.new) }
     ensures done { OnOk result (WhereShown IsDone (O.received outlet.old) (O.received outlet.new)) }
     ensures drained { IfOk result (λ progress. progress ≡ Drained → O.told outlet.new ≡ true) }
+    ensures passes { Passes (G.may_stop gate.now) turns.old turns.new }
 {
     match outlet.poll_into(buf) {
         Ok(Polled::Batch { first, count, end }) => {
@@ -47,7 +50,7 @@ fn turn<R: Wait, O: Outlet, G: Gate, H: Handler>(
         }
         Ok(Polled::Drained) => Ok(Progress::Drained),
         Ok(Polled::Gating | Polled::Idle) | Err(Trouble::Memory) => Ok(Progress::Nothing),
-        Err(Trouble::Refused(refusal)) => Err(WorkFault::Refused(refusal)),
+        Err(refused) => Err(refused),
     }
 }
 
@@ -68,6 +71,7 @@ pub fn consume<R: Wait, O: Outlet, G: Gate, H: Handler>(
     ensures works { Works H.goes handler.old handler.new (O.received outlet.old) (O.received outlet.new) }
     ensures done { IfNone result (WhereShown IsDone (O.received outlet.old) (O.received outlet.new)) }
     ensures drained { IfNone result (O.told outlet.new ≡ true) }
+    ensures stopped { result ≡ Some Stopped → G.may_stop gate.now who }
 {
     let mut turns = Turns::new(who);
     let mut waiting = Waiting::new();
@@ -76,7 +80,7 @@ pub fn consume<R: Wait, O: Outlet, G: Gate, H: Handler>(
             Ok(Progress::Batch) => waiting.restart(),
             Ok(Progress::Nothing) => waiting.wait(),
             Ok(Progress::Drained) => return turns.at_end(),
-            Err(fault) => return Some(turns.at_fault(fault)),
+            Err(trouble) => return Some(turns.in_trouble(trouble)),
         }
     }
     unreachable!()

@@ -1,14 +1,16 @@
 //! The worker of a producer.
 
-ghost use Rattle.std.specs.Prelude.{◌≡◌, ◌+◌, ◌^◌, ◌<◌, ◌≤◌, [], length, take, IfNone, OnErr, OnOk};
+ghost use Rattle.std.specs.Prelude.{◌≡◌, ◌+◌, ◌^◌, ◌<◌, ◌≤◌, [], length, take, IfNone, OnErr, OnOk, Some};
 ghost use Rattle.dr_core.specs.Ends.{WhereShown};
+ghost use Rattle.dr_shared.specs.declared.fault.WorkFault.TheVariants.{Stopped};
+ghost use Rattle.dr_shared.specs.Stops.{Passes};
 ghost use Rattle.dr_shared.specs.Work.{Adds, Writing};
 
 use crate::fault::WorkFault;
 use crate::gate::Gate;
 use crate::turns::Turns;
 use crate::retries::{claim, publish, write};
-use dr_core::{Claimed, Inlet};
+use dr_core::{Claimed, Inlet, Trouble};
 use dr_seq::Event;
 use std::sync::Wait;
 
@@ -26,7 +28,7 @@ fn write_all<R: Wait, I: Inlet>(
     inlet: &mut I,
     lo: u64,
     events: &[Event],
-) -> Result<(), WorkFault>
+) -> Result<(), Trouble>
     requires limit { lo + length events.now ≤ 2 ^ 62 }
     ensures kept { I.kept inlet.new ≡ I.kept inlet.old }
     ensures written { OnOk result (WhereShown (Writing lo events.now (length events.now)) (I.sent inlet.old) (I.sent inlet.new)) }
@@ -45,10 +47,11 @@ fn send<R: Wait, I: Inlet, G: Gate>(
     gate: &G,
     turns: &mut Turns,
     events: &[Event],
-) -> Result<(), WorkFault>
+) -> Result<(), Trouble>
     ensures kept { I.kept inlet.new ≡ I.kept inlet.old }
     ensures sent { OnOk result (WhereShown (Adds events.now) (I.sent inlet.old) (I.sent inlet.new)) }
     ensures fault { OnErr result (WhereShown (Adds []) (I.sent inlet.old) (I.sent inlet.new)) }
+    ensures passes { Passes (G.may_stop gate.now) turns.old turns.new }
 {
     let Claimed { lo, hi } = claim(rt, inlet, events.len() as u64)?;
     turns.pass(gate);
@@ -72,6 +75,7 @@ pub fn produce<R: Wait, I: Inlet, G: Gate>(
     ensures sent { WhereShown (Adds (take result.sent script.now)) (I.sent inlet.old) (I.sent inlet.new) }
     ensures within { result.sent ≤ length script.now }
     ensures all { IfNone result.fault (result.sent ≡ length script.now) }
+    ensures stopped { result.fault ≡ Some Stopped → G.may_stop gate.now who }
 {
     let mut turns = Turns::new(who);
     let mut sent = 0;
@@ -80,8 +84,8 @@ pub fn produce<R: Wait, I: Inlet, G: Gate>(
         let part = &script[sent..sent + n];
         match send(rt, inlet, gate, &mut turns, part) {
             Ok(()) => sent += n,
-            Err(fault) => {
-                let fault = Some(turns.at_fault(fault));
+            Err(trouble) => {
+                let fault = Some(turns.in_trouble(trouble));
                 return Produced {
                     sent: sent as u64,
                     fault,

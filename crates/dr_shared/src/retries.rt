@@ -3,14 +3,13 @@
 ghost use Rattle.std.specs.Prelude.{◌≡◌, Ok, IfOk, OnErr, OnOk};
 ghost use Rattle.dr_core.specs.Ends.{Claims, Completes, GivesStretch, PublishAnswers, Publishes, WhereShown, Writes};
 
-use crate::fault::WorkFault;
 use crate::waiting::Waiting;
 use dr_core::{Claimed, Inlet, Outlet, Refusal, Trouble};
 use dr_seq::Event;
 use std::sync::Wait;
 
 /// Claims the next `n` sequences, once there is room.
-pub(crate) fn claim<R: Wait, I: Inlet>(rt: &R, inlet: &mut I, n: u64) -> Result<Claimed, WorkFault>
+pub(crate) fn claim<R: Wait, I: Inlet>(rt: &R, inlet: &mut I, n: u64) -> Result<Claimed, Trouble>
     ensures kept { I.kept inlet.new ≡ I.kept inlet.old }
     ensures stretch { IfOk result (λ c. GivesStretch n (Ok c)) }
     ensures claimed { IfOk result (λ c. WhereShown (Claims n (Ok c)) (I.sent inlet.old) (I.sent inlet.new)) }
@@ -19,10 +18,8 @@ pub(crate) fn claim<R: Wait, I: Inlet>(rt: &R, inlet: &mut I, n: u64) -> Result<
     let mut waiting = Waiting::new();
     for _ in rt.forever() {
         match inlet.try_claim(n) {
-            Ok(claimed) => return Ok(claimed),
             Err(Trouble::Refused(Refusal::NoRoom)) => waiting.wait(),
-            Err(Trouble::Refused(refusal)) => return Err(WorkFault::Refused(refusal)),
-            Err(Trouble::Memory) => return Err(WorkFault::Memory),
+            answer => return answer,
         }
     }
     unreachable!()
@@ -34,7 +31,7 @@ pub(crate) fn write<R: Wait, I: Inlet>(
     inlet: &mut I,
     s: u64,
     event: Event,
-) -> Result<(), WorkFault>
+) -> Result<(), Trouble>
     ensures kept { I.kept inlet.new ≡ I.kept inlet.old }
     ensures written { OnOk result (WhereShown (Writes s event (Ok tt)) (I.sent inlet.old) (I.sent inlet.new)) }
     ensures fault { OnErr result (I.sent inlet.new ≡ I.sent inlet.old) }
@@ -42,9 +39,8 @@ pub(crate) fn write<R: Wait, I: Inlet>(
     let mut waiting = Waiting::new();
     for _ in rt.forever() {
         match inlet.write(s, event) {
-            Ok(()) => return Ok(()),
-            Err(Trouble::Refused(refusal)) => return Err(WorkFault::Refused(refusal)),
             Err(Trouble::Memory) => waiting.wait(),
+            answer => return answer,
         }
     }
     unreachable!()
@@ -56,7 +52,7 @@ pub(crate) fn publish<R: Wait, I: Inlet>(
     inlet: &mut I,
     lo: u64,
     hi: u64,
-) -> Result<(), WorkFault>
+) -> Result<(), Trouble>
     ensures kept { I.kept inlet.new ≡ I.kept inlet.old }
     ensures answer { OnOk result (PublishAnswers (I.sent inlet.old) lo hi (Ok tt)) }
     ensures published { OnOk result (WhereShown (Publishes lo hi (Ok tt)) (I.sent inlet.old) (I.sent inlet.new)) }
@@ -65,9 +61,8 @@ pub(crate) fn publish<R: Wait, I: Inlet>(
     let mut waiting = Waiting::new();
     for _ in rt.forever() {
         match inlet.publish(lo, hi) {
-            Ok(()) => return Ok(()),
-            Err(Trouble::Refused(refusal)) => return Err(WorkFault::Refused(refusal)),
             Err(Trouble::Memory) => waiting.wait(),
+            answer => return answer,
         }
     }
     unreachable!()
@@ -78,7 +73,7 @@ pub(crate) fn complete<R: Wait, O: Outlet>(
     rt: &R,
     outlet: &mut O,
     upto: u64,
-) -> Result<(), WorkFault>
+) -> Result<(), Trouble>
     ensures kept { O.kept outlet.new ≡ O.kept outlet.old }
     ensures told { O.told outlet.new ≡ O.told outlet.old }
     ensures completed { OnOk result (WhereShown (Completes upto (Ok tt)) (O.received outlet.old) (O.received outlet.new)) }
@@ -87,9 +82,8 @@ pub(crate) fn complete<R: Wait, O: Outlet>(
     let mut waiting = Waiting::new();
     for _ in rt.forever() {
         match outlet.complete(upto) {
-            Ok(()) => return Ok(()),
-            Err(Trouble::Refused(refusal)) => return Err(WorkFault::Refused(refusal)),
             Err(Trouble::Memory) => waiting.wait(),
+            answer => return answer,
         }
     }
     unreachable!()
