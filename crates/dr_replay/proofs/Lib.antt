@@ -1,6 +1,7 @@
 pub mod Commanding
 pub mod Declaring
 pub mod Digits
+pub mod Endings
 pub mod Entries
 pub mod EventFiles
 pub mod FieldAt
