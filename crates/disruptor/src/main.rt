@@ -2,11 +2,16 @@
 //! goes to standard output, and the line of a fault to standard error.
 #![tactic(auto)]
 
-use dr_replay::{By, Counted, DriveFault, LineFault, Plan, ReplayFault, drive, plan, replay_plain};
+use dr_replay::{
+    By, Counted, DriveFault, LineFault, Plan, ReplayFault, drive, plan, replay_plain, replay_ring,
+};
 use dr_seq::Size;
+use dr_shared::OpenGate;
 use std::fs::File;
 use std::io::{BufWriter, Write};
 use std::process::ExitCode;
+use std::sync::Wait;
+use std::thread::Threads;
 use std::{env, io};
 use thiserror::Error;
 
@@ -63,17 +68,26 @@ fn drive_file(rt: &HostRuntime, file: &str) -> Result<(), DriveFault> {
     Ok(())
 }
 
-fn replay_file(rt: &HostRuntime, file: &str, size: Size, by: By) -> Result<(), ReplayFault> {
+// `workers` starts and joins the threads.
+fn replay_file<T: Threads + Wait + Sync>(
+    rt: &HostRuntime,
+    workers: &T,
+    file: &str,
+    size: Size,
+    by: By,
+) -> Result<(), ReplayFault> {
     let Ok(file) = File::open(rt, file) else {
         return Err(ReplayFault::Read);
     };
     let Ok(output) = BufWriter::new(rt.alloc(), Counted::new(io::writer(rt))) else {
         return Err(ReplayFault::Memory);
     };
+    let alloc = rt.alloc();
     let mut reader = Counted::new(file);
     let mut writer = Counted::new(output);
     let replayed = match by {
-        By::Plain => replay_plain(rt.alloc(), &mut reader, &mut writer, size),
+        By::Plain => replay_plain(alloc, &mut reader, &mut writer, size),
+        By::Ring => replay_ring(workers, alloc, &mut reader, &mut writer, size, &OpenGate),
     };
     let flushed = writer.flush();
     replayed?;
@@ -83,7 +97,7 @@ fn replay_file(rt: &HostRuntime, file: &str, size: Size, by: By) -> Result<(), R
     Ok(())
 }
 
-fn run(rt: &HostRuntime) -> Result<(), Fault> {
+fn run<T: Threads + Wait + Sync>(rt: &HostRuntime, workers: &T) -> Result<(), Fault> {
     match read_plan(rt).map_err(Fault::Line)? {
         Plan::Help(text) => match rt.print(text) {
             Ok(()) => Ok(()),
@@ -91,13 +105,13 @@ fn run(rt: &HostRuntime) -> Result<(), Fault> {
         },
         Plan::Drive { file } => drive_file(rt, file.as_str()).map_err(Fault::Drive),
         Plan::Replay { file, size, by } => {
-            replay_file(rt, file.as_str(), size, by).map_err(Fault::Replay)
+            replay_file(rt, workers, file.as_str(), size, by).map_err(Fault::Replay)
         }
     }
 }
 
 fn main(rt: HostRuntime) -> ExitCode {
-    match run(&rt) {
+    match run(&rt, &rt) {
         Ok(()) => ExitCode::SUCCESS,
         Err(fault) => {
             // Where even this cannot be written, the status tells it.

@@ -22,7 +22,7 @@ pub mod runs;
 pub use command::{Claimed, Command, Polled, Reply};
 pub use ends::{Inlet, Outlet, Trouble};
 pub use engine::{Core, MAX_LIMIT, MAX_PRODUCERS};
-pub use handler::{Handler, processor_turn};
+pub use handler::{Handler, processor_turn, show};
 pub use lawful::{
     every_step_leads_on, every_transcript_is_lawful, every_transcript_tells_its_state,
     retirement_keeps_the_gate,

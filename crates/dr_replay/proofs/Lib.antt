@@ -1,6 +1,7 @@
 pub mod Commanding
 pub mod Declaring
 pub mod Digits
+pub mod Endings
 pub mod Entries
 pub mod EventFiles
 pub mod FieldAt
@@ -9,6 +10,7 @@ pub mod Graphs
 pub mod Hexadecimal
 pub mod Legible
 pub mod Moving
+pub mod Parts
 pub mod Passing
 pub mod Reports
 pub mod Rounds
@@ -16,6 +18,7 @@ pub mod RowsLeft
 pub mod Runs
 pub mod Sending
 pub mod SetUps
+pub mod Settled
 pub mod Shown
 pub mod Sizes
 pub mod Starting

@@ -15,6 +15,7 @@ ReadFails (fault.Input k) rs = events_from 1 rs ≡ Err k
 ReadFails fault.Memory rs = Unit {0}
 ReadFails fault.Read rs = ⊥
 ReadFails fault.Write rs = ⊥
+ReadFails (fault.Worker who f) rs = ⊥
 
 abbrev pub ReadsAs : {Z : Type 0} → Result (Vec Event Z) ReplayFault → List Record → Type 0
 ReadsAs (Ok events) rs = events_from 1 rs ≡ Ok events.items
@@ -26,6 +27,7 @@ ReplayFaultWrites (fault.Input k) old new file = (file ≡ Err k) × Keeps old n
 ReplayFaultWrites fault.Memory old new file = Keeps old new
 ReplayFaultWrites fault.Read old new file = Keeps old new
 ReplayFaultWrites fault.Write old new file = (events : List Event) × (file ≡ Ok events) × AppendsFront old new (report_of events)
+ReplayFaultWrites (fault.Worker who f) old new file = (events : List Event) × (file ≡ Ok events) × Keeps old new
 
 abbrev pub ReplayWrites : {A : Type 0} → Result A ReplayFault → Option (List ℕ) → Option (List ℕ) → Result (List Event) ℕ → Type 0
 ReplayWrites (Ok done) old new file = (events : List Event) × (file ≡ Ok events) × Appends old new (report_of events)
@@ -37,6 +39,7 @@ ReplayFaultKeeps (fault.Input k) old new = Keeps old new
 ReplayFaultKeeps fault.Memory old new = Keeps old new
 ReplayFaultKeeps fault.Read old new = Keeps old new
 ReplayFaultKeeps fault.Write old new = Unit {0}
+ReplayFaultKeeps (fault.Worker who f) old new = Keeps old new
 
 -- a fault of reading is answered where one read failed, a fault of writing where one write failed, and nowhere else
 abbrev pub ReplayFaultCounts : ReplayFault → ℕ → ℕ → ℕ → ℕ → Type 0
@@ -44,6 +47,7 @@ ReplayFaultCounts (fault.Input k) reads reads2 writes writes2 = (reads2 ≡ read
 ReplayFaultCounts fault.Memory reads reads2 writes writes2 = (reads2 ≡ reads) × (writes2 ≡ writes)
 ReplayFaultCounts fault.Read reads reads2 writes writes2 = (reads2 ≡ reads + 1) × (writes2 ≡ writes)
 ReplayFaultCounts fault.Write reads reads2 writes writes2 = (reads2 ≡ reads) × (writes2 ≡ writes + 1)
+ReplayFaultCounts (fault.Worker who f) reads reads2 writes writes2 = (reads2 ≡ reads) × (writes2 ≡ writes)
 
 abbrev pub ReplayCounts : {A : Type 0} → Result A ReplayFault → ℕ → ℕ → ℕ → ℕ → Type 0
 ReplayCounts (Ok done) reads reads2 writes writes2 = (reads2 ≡ reads) × (writes2 ≡ writes)
@@ -55,12 +59,14 @@ FileFaultTells (fault.Input k) reads reads2 = reads2 ≡ reads
 FileFaultTells fault.Memory reads reads2 = reads2 ≡ reads
 FileFaultTells fault.Read reads reads2 = reads2 ≡ reads + 1
 FileFaultTells fault.Write reads reads2 = ⊥
+FileFaultTells (fault.Worker who f) reads reads2 = ⊥
 
 abbrev pub FileFaultIs : ReplayFault → Result (List Event) ℕ → Type 0
 FileFaultIs (fault.Input k) file = file ≡ Err k
 FileFaultIs fault.Memory file = Unit {0}
 FileFaultIs fault.Read file = Unit {0}
 FileFaultIs fault.Write file = ⊥
+FileFaultIs (fault.Worker who f) file = ⊥
 
 abbrev pub FileIs : {Z : Type 0} → Result (Vec Event Z) ReplayFault → Result (List Event) ℕ → Type 0
 FileIs (Ok events) file = file ≡ Ok events.items
@@ -69,3 +75,8 @@ FileIs (Err e) file = FileFaultIs e file
 -- the report of some events, or want of memory
 abbrev pub IsMemory : ReplayFault → Type 0
 IsMemory e = e ≡ fault.Memory
+
+-- no worker's, as on one thread
+abbrev pub IsNoWorkers : ReplayFault → Type 0
+IsNoWorkers (fault.Worker who f) = ⊥
+IsNoWorkers other = Unit {0}

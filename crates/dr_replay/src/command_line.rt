@@ -46,10 +46,10 @@ const EVENTS: &str = "The file of movements, one record a line";
 
 const SIZE: &str = "How many slots the ring has: a power of two from 1 to 65536";
 
-const BY: &str = "By which exchange: plain is one core on one thread";
+const BY: &str = "By which exchange: plain is one core on one thread, ring has a thread for each handler";
 
 /// The ways of a replay.
-const WAYS: &[&str] = &["plain"];
+const WAYS: &[&str] = &["plain", "ring"];
 
 /// The ring's size where the command line gives none.
 const USUAL_SIZE: u64 = 1024;
@@ -154,7 +154,10 @@ fn replay_plan(alloc: Global, matches: &ArgMatches<'_>) -> Result<Plan, LineFaul
         return Err(LineFault::BadSize);
     };
     let file = file_of(alloc, matches)?;
-    let by = By::Plain;
+    let by = match matches.get_str("by") {
+        Some("ring") => By::Ring,
+        _ => By::Plain,
+    };
     Ok(Plan::Replay { file, size, by })
 }
 

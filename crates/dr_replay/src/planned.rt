@@ -12,6 +12,8 @@ use thiserror::Error;
 pub enum By {
     /// One core on one thread.
     Plain,
+    /// The ring, with a thread for each handler.
+    Ring,
 }
 
 /// What a command line asks for.

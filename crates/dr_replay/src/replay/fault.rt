@@ -3,6 +3,7 @@
 ghost use Rattle.std.specs.Prelude.{◌≡◌, Some};
 ghost use Rattle.dr_replay.specs.ReplayFaults.{replay_line, replay_status};
 
+use dr_shared::WorkFault;
 use std::alloc::{AllocError, AllocFailed};
 use std::error::Error;
 use std::fmt;
@@ -18,6 +19,8 @@ pub enum ReplayFault {
     Read,
     /// A write failed.
     Write,
+    /// A worker was refused a call, or was stopped at its gate. Workers are numbered as for gates.
+    Worker { who: usize, fault: WorkFault },
 }
 
 impl ReplayFault {
@@ -30,6 +33,7 @@ impl ReplayFault {
             ReplayFault::Memory => 3,
             ReplayFault::Read => 4,
             ReplayFault::Write => 4,
+            ReplayFault::Worker { .. } => 5,
         }
     }
 }
@@ -43,6 +47,7 @@ impl fmt::Display for ReplayFault {
             ReplayFault::Memory => write!(f, "no-memory"),
             ReplayFault::Read => write!(f, "cannot read"),
             ReplayFault::Write => write!(f, "cannot write"),
+            ReplayFault::Worker { who, fault } => write!(f, "{} {who}", fault.name()),
         }
     }
 }

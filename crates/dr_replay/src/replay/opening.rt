@@ -11,8 +11,9 @@ use dr_graph::{Graph, GraphBuilder};
 use dr_seq::Size;
 use std::alloc::{AllocError, Global};
 
-// The only fault that can come is want of memory: the names are good and differ, and there is no cycle.
-fn graph(alloc: Global) -> Result<Graph, AllocError>
+/// The graph of the replay's handlers. An error is want of memory: the names are good and differ,
+/// and there is no cycle.
+pub fn graph(alloc: Global) -> Result<Graph, AllocError>
     ensures { IfOk result (λ graph. graph.upstreams ≡ replay_graph) }
 {
     one_graph();

@@ -3,7 +3,7 @@
 ghost use Rattle.std.specs.Prelude.{◌≡◌, ◌<◌, ◌≤◌, ◌-◌, ◌^◌, IfErr, IfOk, IfSome, OnOk, length, string_bytes};
 ghost use Rattle.dr_replay.specs.Counting.{faults_of, inner_of};
 ghost use Rattle.dr_replay.specs.EventFile.{events_of as events_in};
-ghost use Rattle.dr_replay.specs.Replayed.{FileFaultTells, FileIs, IsMemory, ReplayCounts, ReplayFaultKeeps, ReplayWrites};
+ghost use Rattle.dr_replay.specs.Replayed.{FileFaultTells, FileIs, IsMemory, IsNoWorkers, ReplayCounts, ReplayFaultKeeps, ReplayWrites};
 ghost use Rattle.dr_replay.specs.Report.{report_of};
 
 use crate::counted::Counted;
@@ -20,8 +20,11 @@ use dr_seq::{Event, Size};
 use std::alloc::Global;
 use std::io::{Read, Write};
 
-// The events of a file.
-fn read_events<R: Read>(alloc: Global, reader: &mut Counted<R>) -> Result<Vec<Event>, ReplayFault>
+/// The events of a file.
+pub fn read_events<R: Read>(
+    alloc: Global,
+    reader: &mut Counted<R>,
+) -> Result<Vec<Event>, ReplayFault>
     requires { faults_of reader.old < 2 ^ 64 - 1 }
     ensures file { IfSome (R.remaining (inner_of reader.old)) (λ input. FileIs result (events_in input)) }
     ensures none { OnOk result (faults_of reader.new ≡ faults_of reader.old) }
@@ -74,6 +77,8 @@ pub fn replay_plain<R: Read, W: Write>(
     ensures unwritten { IfErr result (λ e. ReplayFaultKeeps e (W.contents (inner_of writer.old)) (W.contents (inner_of writer.new))) }
     // A failed read or write is answered where one failed, and nowhere else.
     ensures counted { ReplayCounts result (faults_of reader.old) (faults_of reader.new) (faults_of writer.old) (faults_of writer.new) }
+    // There are no workers.
+    ensures alone { IfErr result IsNoWorkers }
 {
     let events = read_events(alloc, reader)?;
     let text = report(alloc, events.as_slice(), size)?;

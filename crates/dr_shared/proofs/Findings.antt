@@ -1,0 +1,83 @@
+-- What an audit finds, from its two halves.
+use Rattle.std.proofs.Common.{◌≡◌, ℕ, ◌<◌, ◌≤◌, List, [], false, sym, ap, ◌∙◌, length, slice_index, take}
+use Rattle.dr_seq.specs.declared.event.Event.{Event}
+use Rattle.dr_core.specs.CoreView.{retired_in}
+use Rattle.dr_core.specs.Machine.{Setup, State, handlers, producers, opening}
+use Rattle.dr_core.specs.Transcript.{Transcript, LeadsTo, taken_by, retired_by}
+use Rattle.dr_core.specs.Tells.{Tells}
+use Rattle.dr_shared.specs.declared.audit_fault.AuditFault.{AuditFault}
+use Rattle.dr_shared.specs.declared.audit_fault.AuditFault.TheVariants.{ScriptDiffers, NotDrained, NoMemory}
+use Rattle.dr_shared.specs.declared.entry.Entry.{Entry}
+use Rattle.dr_shared.specs.declared.sequences.Sequence.{Sequence}
+use Rattle.dr_shared.specs.Audit.{Faults, FirstLacks, IsAudited, SentScript, TookAll, published_by, published_by_all, script_of}
+use Rattle.dr_shared.specs.Auditing.{Differs, SentIn, TookIn, Undrained}
+use Rattle.dr_shared.specs.History.{History, IsRecorded, transcript}
+use Rattle.dr_shared.specs.Sequences.{Follows, Lists, published_of, sent_of}
+use Rattle.dr_shared.proofs.Reached.{IsHeld, held, taken_shown, retired_shown}
+use Rattle.dr_shared.proofs.Audited.{published_is, sent_is, received_all, received_some, merged, all_sent}
+use Rattle.dr_shared.proofs.Following.{follows_of}
+
+-- the core's law, as its public function states it
+abbrev pub AllTell : Type 0
+AllTell = (c : Setup) (t : Transcript) (m : State) → LeadsTo c t m → Tells t m
+
+pub followed : (k : History) (r : IsRecorded k) (entries : List Entry) → entries ≡ k.entries
+    → Follows k.core.setup (opening k.core.setup) entries r.runs.state
+followed k r entries is = rw is (follows_of k.core.setup (opening k.core.setup) k.entries k.values r.runs.state r.kept r.runs.leads)
+
+first_same : (P Q : ℕ → Type 0) (n : ℕ) → ((k : ℕ) → P k → Q k) → ((k : ℕ) → Q k → P k) → FirstLacks P n → FirstLacks Q n
+first_same P Q n there back d = (λ q. d.0 (back n q), λ k l. there k (d.1 k l))
+
+module _ (all_tell : AllTell) (k : History) (r : IsRecorded k) where
+  told : Tells (transcript k) r.runs.state
+  told = all_tell k.core.setup (transcript k) r.runs.state r.runs.leads
+
+  is_held : IsHeld k.core.setup r.runs.state
+  is_held = held k.core.setup (transcript k) r.runs.state r.runs.leads
+
+  -- what the core counts and remembers is what the transcript tells
+  taken_is : (h : ℕ) → taken_by (transcript k) h ≡ slice_index k.core.taken h
+  taken_is h = told.taken h ∙ taken_shown k.core r.runs.state h r.runs.shows
+
+  retired_is : (h : ℕ) → retired_by (transcript k) h ≡ retired_in k.core h
+  retired_is h = told.retired h ∙ retired_shown k.core r.runs.state h r.runs.shows
+
+  module _ (list : List Sequence) (lists : Lists list r.runs.state) (scripts : List (List Event)) where
+    sent_as : (q : ℕ) → sent_of list q ≡ published_by (transcript k) q
+    sent_as = sent_is k.core.setup (transcript k) r.runs.state told is_held list lists
+
+    pub scripts_fault : (fault : AuditFault) → Differs list scripts fault
+        → Faults (transcript k) (handlers k.core.setup) scripts fault
+    scripts_fault (ScriptDiffers p) d = first_same (SentIn list scripts) (SentScript (transcript k) scripts) p (λ q e. sym (sent_as q) ∙ e) (λ q e. sent_as q ∙ e) d
+    scripts_fault (NotDrained h) d = absurd d
+    scripts_fault NoMemory d = tt
+
+    -- each producer below a bound sent its script, and these are the published events
+    module _ (bound : ℕ) (few : producers k.core.setup.mode ≤ bound) (short : length scripts ≤ bound) (same : (p : ℕ) → p < bound → SentIn list scripts p) (all : List Event) (is : all ≡ published_of list) where
+      published : all ≡ published_by_all (transcript k)
+      published = is ∙ published_is k.core.setup (transcript k) r.runs.state told is_held list lists
+
+      sent : (p : ℕ) → SentScript (transcript k) scripts p
+      sent = all_sent k.core.setup (transcript k) r.runs.state told is_held list lists scripts bound few short same
+
+      took_all : (h : ℕ) → TookIn k.core (length all) h → TookAll (transcript k) h
+      took_all h took left = taken_is h ∙ took (sym (retired_is h) ∙ left) ∙ ap length published
+
+      took_in : (h : ℕ) → TookAll (transcript k) h → TookIn k.core (length all) h
+      took_in h took left = sym (taken_is h) ∙ took (retired_is h ∙ left) ∙ sym (ap length published)
+
+      pub drained_fault : (count : ℕ) → count ≡ length all → (fault : AuditFault) → Undrained k.core count fault
+          → Faults (transcript k) (handlers k.core.setup) scripts fault
+      drained_fault count len (ScriptDiffers p) d = absurd d
+      drained_fault count len (NotDrained h) d = (sent, d.0, first_same (TookIn k.core (length all)) (TookAll (transcript k)) h took_all took_in (rw len at d.1))
+      drained_fault count len NoMemory d = absurd d
+
+      pub audited : (count : ℕ) → count ≡ length all → ((h : ℕ) → h < handlers k.core.setup → TookIn k.core count h)
+          → IsAudited (transcript k) (handlers k.core.setup) scripts all
+      audited count len drained = record {
+        sent = sent;
+        received = λ h l left. received_all k.core.setup (transcript k) r.runs.state told is_held r.runs.lawful h l (took_all h (rw len at (drained h l)) left) ∙ sym published;
+        left = λ h l gone. rw published (received_some k.core.setup (transcript k) r.runs.state told is_held r.runs.lawful h l);
+        all = published;
+        merged = rw published (merged k.core.setup (transcript k) r.runs.state told is_held scripts sent);
+      }

@@ -1,0 +1,202 @@
+-- What the machine answers to a call, as an end tells it that shows nothing of what it did.
+use Rattle.std.proofs.Common.{◌≡◌, ◌≢◌, ◌<◌, ◌≤◌, ◌+◌, ◌-◌, ◌^◌, ℕ, zero, suc, Bool, true, false, ◌||◌, ◌&&◌, inl, inr, min, List, [], ◌∷◌, ◌++◌, Ok, Err, None, refl, sym, ◌∙◌, subst, arith, length, slice_index}
+use Rattle.std.specs.Prelude.{nat_lt, nat_le, ◌==◌, flat_map}
+use Rattle.std.specs.List.{range_with_len}
+use Rattle.std.proofs.lemmas.Bool.{cond_both, cases_Bool, or_parts, eqb-false, false≢true}
+use Rattle.std.proofs.lemmas.Bool.Decides.{nat_tests}
+use Rattle.dr_seq.specs.declared.event.Event.{Event}
+use Rattle.dr_core.specs.declared.command.Command.{Command}
+use Rattle.dr_core.specs.declared.command.Command.TheVariants.{Claim, Write, Publish, Poll, Complete}
+use Rattle.dr_core.specs.declared.command.Reply.{Reply}
+use Rattle.dr_core.specs.declared.command.Reply.TheVariants.{Claimed, Written, Published, Batch, Drained, Gating, Idle, Completed, Refused as RefusedReply}
+use Rattle.dr_core.specs.declared.ends.Trouble.TheVariants.{Refused}
+use Rattle.dr_core.specs.declared.refusal.Refusal.{Refusal}
+use Rattle.dr_core.specs.Refusals.{NoneHolds, IsFirst, claim_causes, write_causes, sequence_causes, publish_causes, poll_causes, complete_causes}
+use Rattle.dr_core.specs.Ends.{Verdict, Exactly, AtLeast, MayHold, MayFail, claim_tests, write_tests, publish_tests, sequence_tests, poll_tests, complete_tests, ClaimAnswers, WriteAnswers, PublishAnswers, CompleteAnswers}
+use Rattle.dr_core.specs.Machine.{Setup, State, Outcome, next, available, cursor, refusals, publish_faults, accepted, unless, unchanged, step}
+use Rattle.dr_core.specs.Transcript.{Transcript, LeadsTo}
+use Rattle.dr_core.proofs.Steps.{NoneHold}
+use Rattle.dr_shared.specs.Lock.{IsAnswer}
+use Rattle.dr_shared.proofs.Reached.{held, available_claimed}
+
+-- Verdicts of the machine's tests.
+
+-- a verdict is right of a test
+abbrev pub IsRight : Bool → Verdict → Type 0
+IsRight b (Exactly v) = b ≡ v
+IsRight b (AtLeast v) = v ≡ true → b ≡ true
+
+-- the same causes, with verdicts that are right of their tests
+abbrev pub AreRight : List (Bool × Refusal) → List (Verdict × Refusal) → Type 0
+AreRight [] [] = Unit {0}
+AreRight [] (y ∷ ys) = ⊥
+AreRight (x ∷ xs) [] = ⊥
+AreRight (x ∷ xs) (y ∷ ys) = IsRight x.0 y.0 × (x.1 ≡ y.1) × AreRight xs ys
+
+unsaid : (b : Bool) → IsRight b (AtLeast false)
+unsaid b e = absurd (false≢true e)
+
+may_hold : (b : Bool) (v : Verdict) → IsRight b v → b ≡ true → MayHold v
+may_hold b (Exactly v) is y = sym is ∙ y
+may_hold b (AtLeast v) is y = tt
+
+may_fail : (b : Bool) (v : Verdict) → IsRight b v → b ≡ false → MayFail v
+may_fail b (Exactly v) is n = sym is ∙ n
+may_fail b (AtLeast v) is n = elim (cases_Bool v) [ inl y ↦ absurd (false≢true (sym n ∙ is y)) | inr n' ↦ n' ]
+
+none_right : (xs : List (Bool × Refusal)) (ys : List (Verdict × Refusal)) → AreRight xs ys → NoneHold xs → NoneHolds MayFail ys
+none_right [] [] is none = tt
+none_right [] (y ∷ ys) is none = absurd is
+none_right (x ∷ xs) [] is none = absurd is
+none_right (x ∷ xs) (y ∷ ys) is none = (may_fail x.0 y.0 is.0 none.0, none_right xs ys is.2 none.1)
+
+-- the refusal is the first test's that holds
+abbrev FirstOf : Refusal → List (Bool × Refusal) → Type 0
+FirstOf r tests = IsFirst (λ b. b ≡ true) (λ b. b ≡ false) r tests
+
+first_right : (r : Refusal) (xs : List (Bool × Refusal)) (ys : List (Verdict × Refusal)) → AreRight xs ys
+    → FirstOf r xs → IsFirst MayHold MayFail r ys
+first_right r [] ys is h = absurd h
+first_right r (x ∷ xs) [] is h = absurd is
+first_right r (x ∷ xs) (y ∷ ys) is (inl h) = inl (may_hold x.0 y.0 is.0 h.0, sym is.1 ∙ h.1)
+first_right r (x ∷ xs) (y ∷ ys) is (inr h) = inr (may_fail x.0 y.0 is.0 h.0, first_right r xs ys is.2 h.1)
+
+right_join : (xs xs' : List (Bool × Refusal)) (ys ys' : List (Verdict × Refusal)) → AreRight xs ys → AreRight xs' ys'
+    → AreRight (xs ++ xs') (ys ++ ys')
+right_join [] xs' [] ys' is is' = is'
+right_join [] xs' (y ∷ ys) ys' is is' = absurd is
+right_join (x ∷ xs) xs' [] ys' is is' = absurd is
+right_join (x ∷ xs) xs' (y ∷ ys) ys' is is' = (is.0, is.1, right_join xs xs' ys ys' is.2 is')
+
+right_stretch : (tests : ℕ → List (Bool × Refusal)) (told : ℕ → List (Verdict × Refusal))
+    → ((s : ℕ) → AreRight (tests s) (told s)) → (lo n : ℕ)
+    → AreRight (flat_map tests (range_with_len lo n)) (flat_map told (range_with_len lo n))
+right_stretch tests told are lo zero = tt
+right_stretch tests told are lo (suc n) = right_join (tests lo) _ (told lo) _ (are lo) (right_stretch tests told are (lo + 1) n)
+
+-- either a test refuses, or none holds
+answers : (P : Outcome → Type 0) (tests : List (Bool × Refusal)) (m : State) (o : Outcome)
+    → ((r : Refusal) → FirstOf r tests → P (unchanged (RefusedReply r) m)) → (NoneHold tests → P o) → P (unless tests m o)
+answers P [] m o refuses accepts = accepts tt
+answers P (test ∷ tests) m o refuses accepts =
+    cond_both test.0 (unchanged (RefusedReply test.1) m) (unless tests m o) P (λ h. refuses test.1 (inl (h, refl)))
+    (λ h. answers P tests m o (λ r f. refuses r (inr (h, f))) (λ n. accepts (h, n)))
+
+tells : (P : Reply → Type 0) (tests : List (Bool × Refusal)) (told : List (Verdict × Refusal)) (m : State) (o : Outcome)
+    → AreRight tests told
+    → ((r : Refusal) → IsFirst MayHold MayFail r told → P (RefusedReply r)) → (NoneHold tests → NoneHolds MayFail told → P o.reply)
+    → P (unless tests m o).reply
+tells P tests told m o right refuses accepts =
+    answers (λ (x : Outcome). P x.reply) tests m o (λ r f. refuses r (first_right r tests told right f)) (λ none. accepts none (none_right tests told right none))
+
+-- What each command's reply tells.
+
+abbrev pub ClaimTells : ℕ → Reply → Type 0
+ClaimTells n (Claimed lo hi) = ClaimAnswers None n (Ok (record { lo = lo; hi = hi }))
+ClaimTells n (RefusedReply r) = ClaimAnswers None n (Err (Refused r))
+ClaimTells n other = ⊥
+
+abbrev pub WriteTells : ℕ → Reply → Type 0
+WriteTells s Written = WriteAnswers None s (Ok tt)
+WriteTells s (RefusedReply r) = WriteAnswers None s (Err (Refused r))
+WriteTells s other = ⊥
+
+abbrev pub PublishTells : ℕ → ℕ → Reply → Type 0
+PublishTells lo hi Published = PublishAnswers None lo hi (Ok tt)
+PublishTells lo hi (RefusedReply r) = PublishAnswers None lo hi (Err (Refused r))
+PublishTells lo hi other = ⊥
+
+abbrev pub CompleteTells : ℕ → Reply → Type 0
+CompleteTells upto Completed = CompleteAnswers None upto (Ok tt)
+CompleteTells upto (RefusedReply r) = CompleteAnswers None upto (Err (Refused r))
+CompleteTells upto other = ⊥
+
+abbrev poll_verdicts : ℕ → List (Verdict × Refusal)
+poll_verdicts max = poll_causes (poll_tests None max)
+
+abbrev pub PollTells : ℕ → Reply → Type 0
+PollTells max (Batch first count end) = NoneHolds MayFail (poll_verdicts max) × (0 < count) × (count ≤ max) × (first + count < 2 ^ 64)
+PollTells max Drained = NoneHolds MayFail (poll_verdicts max)
+PollTells max Gating = NoneHolds MayFail (poll_verdicts max)
+PollTells max Idle = NoneHolds MayFail (poll_verdicts max)
+PollTells max (RefusedReply r) = IsFirst MayHold MayFail r (poll_verdicts max)
+PollTells max other = ⊥
+
+some_or : (a b : Bool) → a ≡ true → (a || b) ≡ true
+some_or a b e = rw e refl
+
+claim_right : (c : Setup) (m : State) (p n : ℕ) → c.limit ≤ 2 ^ 62
+    → AreRight (refusals c m (Claim p n)) (claim_causes (claim_tests None n))
+claim_right c m p n small =
+    (unsaid _, refl, (some_or (n == 0) (nat_lt c.size n), refl, (unsaid _, refl, ((λ past. grind (arith, nat_tests, past, small)), refl, (unsaid _, refl, tt)))))
+
+claim_step : (c : Setup) (m : State) (p n : ℕ) → c.limit ≤ 2 ^ 62 → ClaimTells n (step c m (Claim p n)).reply
+claim_step c m p n small =
+    tells (ClaimTells n) (refusals c m (Claim p n)) (claim_causes (claim_tests None n)) m (accepted c m (Claim p n)) (claim_right c m p n small)
+    (λ r first. (first, tt))
+    (λ none known.
+    let some : 0 < n = (let ne : n ≢ 0 = eqb-false n 0 (or_parts _ _ none.1.0).0 in omega arith) in
+    let within : next m + n ≤ c.limit = grind (arith, nat_tests, none.1.1.1.0) in
+    (known, (omega arith, omega arith, omega arith)))
+
+write_step : (c : Setup) (m : State) (p s : ℕ) (e : Event) → WriteTells s (step c m (Write p s e)).reply
+write_step c m p s e =
+    tells (WriteTells s) (refusals c m (Write p s e)) (write_causes (write_tests None s)) m (accepted c m (Write p s e))
+    (unsaid _, refl, (unsaid _, refl, (unsaid _, refl, (unsaid _, refl, tt)))) (λ r first. first) (λ none known. known)
+
+publish_right : (c : Setup) (m : State) (p lo hi : ℕ)
+    → AreRight (refusals c m (Publish p lo hi)) (publish_causes lo hi (publish_tests None lo hi))
+publish_right c m p lo hi =
+    let stretch = right_stretch (publish_faults m p) (λ s. sequence_causes (sequence_tests None s)) (λ s. (unsaid _, refl, (unsaid _, refl, (unsaid _, refl, tt)))) lo (hi + 1 - lo) in
+    let order = right_join (flat_map (publish_faults m p) (range_with_len lo (hi + 1 - lo))) _ _ _ stretch (unsaid _, refl, tt) in
+    (unsaid _, refl, (refl, refl, (unsaid _, refl, order)))
+
+publish_step : (c : Setup) (m : State) (p lo hi : ℕ) → PublishTells lo hi (step c m (Publish p lo hi)).reply
+publish_step c m p lo hi =
+    tells (PublishTells lo hi) (refusals c m (Publish p lo hi)) (publish_causes lo hi (publish_tests None lo hi)) m (accepted c m (Publish p lo hi))
+    (publish_right c m p lo hi) (λ r first. first) (λ none known. known)
+
+complete_step : (c : Setup) (m : State) (h upto : ℕ) → CompleteTells upto (step c m (Complete h upto)).reply
+complete_step c m h upto =
+    tells (CompleteTells upto) (refusals c m (Complete h upto)) (complete_causes (complete_tests None upto)) m (accepted c m (Complete h upto))
+    (unsaid _, refl, (unsaid _, refl, (unsaid _, refl, (unsaid _, refl, tt)))) (λ r first. first) (λ none known. known)
+
+poll_accepted : (c : Setup) (m : State) (h max : ℕ) → 0 < max → available c m h ≤ 2 ^ 62 → NoneHolds MayFail (poll_verdicts max)
+    → PollTells max (accepted c m (Poll h max)).reply
+poll_accepted c m h max some small known =
+    let P : Outcome → Type 0 = λ o. PollTells max o.reply in
+    cond_both (nat_lt (slice_index m.taken h) (available c m h)) _ _ P
+    (λ y. let less : slice_index m.taken h < available c m h = grind (arith, nat_tests, y) in (known, omega arith, omega arith, omega arith))
+    (λ n. cond_both (m.halted && (slice_index m.taken h == next m)) _ _ P (λ y. known)
+    (λ n'. cond_both (nat_lt (slice_index m.taken h) (cursor c m)) _ _ P (λ y. known) (λ n''. known)))
+
+poll_step : (c : Setup) (t : Transcript) (m : State) (h max : ℕ) → c.limit ≤ 2 ^ 62 → LeadsTo c t m
+    → PollTells max (step c m (Poll h max)).reply
+poll_step c t m h max small leads =
+    tells (PollTells max) (refusals c m (Poll h max)) (poll_verdicts max) m (accepted c m (Poll h max))
+    (unsaid _, refl, (unsaid _, refl, (refl, refl, tt))) (λ r first. first)
+    (λ none known.
+    let some : 0 < max = (let ne : max ≢ 0 = eqb-false max 0 none.1.1.0 in omega arith) in
+    let claimed : available c m h ≤ next m = available_claimed c t m h leads in
+    let within : next m ≤ c.limit = (held c t m leads).within in
+    poll_accepted c m h max some (omega arith) known)
+
+-- What an answer tells.
+
+pub claim_tells : (p n : ℕ) (reply : Reply) (values : List Event) → IsAnswer (Claim p n) reply values → ClaimTells n reply
+claim_tells p n reply values is = subst (ClaimTells n) is.replies (claim_step is.core.setup is.runs.state p n is.small)
+
+pub write_tells : (p s : ℕ) (e : Event) (reply : Reply) (values : List Event) → IsAnswer (Write p s e) reply values
+    → WriteTells s reply
+write_tells p s e reply values is = subst (WriteTells s) is.replies (write_step is.core.setup is.runs.state p s e)
+
+pub publish_tells : (p lo hi : ℕ) (reply : Reply) (values : List Event) → IsAnswer (Publish p lo hi) reply values
+    → PublishTells lo hi reply
+publish_tells p lo hi reply values is = subst (PublishTells lo hi) is.replies (publish_step is.core.setup is.runs.state p lo hi)
+
+pub complete_tells : (h upto : ℕ) (reply : Reply) (values : List Event) → IsAnswer (Complete h upto) reply values
+    → CompleteTells upto reply
+complete_tells h upto reply values is = subst (CompleteTells upto) is.replies (complete_step is.core.setup is.runs.state h upto)
+
+pub poll_tells : (h max : ℕ) (reply : Reply) (values : List Event) → IsAnswer (Poll h max) reply values → PollTells max reply
+poll_tells h max reply values is = subst (PollTells max) is.replies (poll_step is.core.setup is.before is.runs.state h max is.small is.runs.leads)

@@ -1,0 +1,112 @@
+-- A handler's work, batch after batch.
+use Rattle.std.proofs.Common.{◌≡◌, ◌<◌, ◌≤◌, ◌+◌, ℕ, Bool, List, [], ◌∷◌, ◌++◌, length, take, Option, None, Some, Result, Ok, Err, inl, inr, ⊎_elim, refl, sym, ap, ◌∙◌, arith, append_assoc, length-append}
+use Rattle.std.proofs.lemmas.List.{append-nil, length-take-le}
+use Rattle.dr_seq.specs.declared.event.Event.{Event}
+use Rattle.dr_core.specs.declared.command.Polled.TheVariants.{Batch}
+use Rattle.dr_core.specs.Ends.{Received, WhereShown, Takes, Completes}
+use Rattle.dr_core.specs.Handling.{GoesThrough, Relation, Showing, showings}
+use Rattle.dr_shared.specs.Work.{Dealt, FollowFrom, HandsOut, IsDone, Works, events_of, shown_of}
+use Rattle.dr_shared.proofs.Showing.{shown_as, shown_none, shown_through}
+
+shown_of-append : (bs cs : List Dealt) → shown_of (bs ++ cs) ≡ shown_of bs ++ shown_of cs
+shown_of-append [] cs = refl
+shown_of-append (b ∷ bs) cs = ap (λ l. showings b.events b.first b.end ++ l) (shown_of-append bs cs) ∙ sym (append_assoc (showings b.events b.first b.end) (shown_of bs) (shown_of cs))
+
+events_of-append : (bs cs : List Dealt) → events_of (bs ++ cs) ≡ events_of bs ++ events_of cs
+events_of-append [] cs = refl
+events_of-append (b ∷ bs) cs = ap (λ l. b.events ++ l) (events_of-append bs cs) ∙ sym (append_assoc b.events (events_of bs) (events_of cs))
+
+FollowFrom-append : (s t : ℕ) (bs cs : List Dealt) → t ≡ s + length (events_of bs) → FollowFrom s bs → FollowFrom t cs → FollowFrom s (bs ++ cs)
+FollowFrom-append s t [] cs is h k = (let same : t ≡ s = omega arith in rw same at k)
+FollowFrom-append s t (b ∷ bs) cs is h k =
+    let all : length (b.events ++ events_of bs) ≡ length b.events + length (events_of bs) = length-append b.events (events_of bs) in
+    (h.0, h.1, FollowFrom-append (s + length b.events) t bs cs (omega arith) h.2 k)
+
+GoesThrough-append : {A : Type 0} (goes : Relation A) (before : A) (xs ys : List Showing) (between after : A) → GoesThrough goes before xs between → GoesThrough goes between ys after → GoesThrough goes before (xs ++ ys) after
+GoesThrough-append goes before [] ys between after h k = rw h k
+GoesThrough-append goes before (x ∷ xs) ys between after h k = (h.0, h.1, GoesThrough-append goes h.0 xs ys between after h.2 k)
+
+hands_more : (bs cs : List Dealt) (old mid new : Received) → HandsOut bs old mid → HandsOut cs mid new → HandsOut (bs ++ cs) old new
+hands_more bs cs old mid new h k =
+    let events : new.events ≡ old.events ++ events_of (bs ++ cs) = k.0 ∙ ap (λ l. l ++ events_of cs) h.0 ∙ append_assoc old.events (events_of bs) (events_of cs) ∙ ap (λ l. old.events ++ l) (sym (events_of-append bs cs)) in
+    let at : length mid.events ≡ length old.events + length (events_of bs) = ap length h.0 ∙ length-append old.events (events_of bs) in
+    (events, FollowFrom-append (length old.events) (length mid.events) bs cs at h.1 k.1)
+
+hands_none : (a : Received) → HandsOut [] a a
+hands_none a = (sym (append-nil a.events), tt)
+
+-- nothing was done
+pub works_none : {A : Type 0} (goes : Relation A) (before : A) (old : Option Received) → Works goes before before old old
+works_none goes before old = record { batches = []; through = refl; handed = shown_none (HandsOut []) hands_none old }
+
+-- some work after other work
+pub works_more : {A : Type 0} (goes : Relation A) (before between after : A) (old mid new : Option Received) → Works goes before between old mid → Works goes between after mid new → Works goes before after old new
+works_more goes before between after old mid new h k = record {
+  batches = h.batches ++ k.batches;
+  through = rw shown_of-append (GoesThrough-append goes before (shown_of h.batches) (shown_of k.batches) between after h.through k.through);
+  handed = shown_through (HandsOut h.batches) (HandsOut k.batches) (HandsOut (h.batches ++ k.batches)) (hands_more h.batches k.batches) old mid new h.handed k.handed;
+}
+
+-- what an end does that hands a batch out and has it completed
+abbrev pub TakesBatch : List Event → ℕ → ℕ → Bool → Received → Received → Type 0
+TakesBatch out first count end old new = Takes out (Ok (Batch first count end)) old new
+
+abbrev pub IsCompleted : ℕ → Received → Received → Type 0
+IsCompleted upto old new = Completes upto (Ok tt) old new
+
+abbrev one : List Event → ℕ → ℕ → Bool → Dealt
+one out first count end = record { first = first; events = take count out; end = end }
+
+taken_one : (out : List Event) (first count : ℕ) (end : Bool) → 0 < count → count ≤ length out → (a b : Received) → TakesBatch out first count end a b → HandsOut (one out first count end ∷ []) a b
+taken_one out first count end some within a b h =
+    let many : length (take count out) ≡ count = length-take-le count out within in
+    (ap (λ r. r.events) h.1 ∙ ap (λ l. a.events ++ l) (sym (append-nil (take count out))), (h.0, (let is = many in omega arith), tt))
+
+completed_one : (upto : ℕ) (bs : List Dealt) (a b c : Received) → HandsOut bs a b → IsCompleted upto b c → HandsOut bs a c
+completed_one upto bs a b c h k = (ap (λ r. r.events) k ∙ h.0, h.1)
+
+-- a batch was handed out, shown and then completed
+pub works_batch : {A : Type 0} (goes : Relation A) (before after : A) (out : List Event) (first count upto : ℕ) (end : Bool) (old mid new : Option Received) → 0 < count → count ≤ length out
+    → GoesThrough goes before (showings (take count out) first end) after → WhereShown (TakesBatch out first count end) old mid → WhereShown (IsCompleted upto) mid new → Works goes before after old new
+works_batch goes before after out first count upto end old mid new some within through taken done = record {
+  batches = one out first count end ∷ [];
+  through = rw (append-nil (showings (take count out) first end)) through;
+  handed = shown_through (TakesBatch out first count end) (IsCompleted upto) (HandsOut (one out first count end ∷ [])) (λ a b c h k. completed_one upto (one out first count end ∷ []) a b c (taken_one out first count end some within a b h) k) old mid new taken done;
+}
+
+-- a batch was handed out and shown
+pub works_shown : {A : Type 0} (goes : Relation A) (before after : A) (out : List Event) (first count : ℕ) (end : Bool) (old mid new : Option Received) → 0 < count → count ≤ length out
+    → GoesThrough goes before (showings (take count out) first end) after → WhereShown (TakesBatch out first count end) old mid → new ≡ mid → Works goes before after old new
+works_shown goes before after out first count end old mid new some within through taken same = record {
+  batches = one out first count end ∷ [];
+  through = rw (append-nil (showings (take count out) first end)) through;
+  handed = rw same (shown_through (TakesBatch out first count end) (λ b c. c ≡ b) (HandsOut (one out first count end ∷ [])) (λ a b c h k. rw k (taken_one out first count end some within a b h)) old mid mid taken (shown_none (λ (b c : Received). c ≡ b) (λ b. refl) mid));
+}
+
+-- what is completed
+
+done_after : (a b c : Received) → IsDone a b → IsDone b c → IsDone a c
+done_after a b c h k = ⊎_elim (λ all. inl all) (λ same. rw same h) k
+
+done_one : (out : List Event) (first count : ℕ) (end : Bool) → 0 < count → count ≤ length out → (a b c : Received) → TakesBatch out first count end a b → IsCompleted (first + count) b c → IsDone a c
+done_one out first count end some within a b c h k =
+    let many : length (take count out) ≡ count = length-take-le count out within in
+    let long : length b.events ≡ length a.events + length (take count out) = ap (λ r. length r.events) h.1 ∙ length-append a.events (take count out) in
+    let at : first ≡ length a.events = h.0 in
+    let whole : first + count ≡ length b.events = omega arith in
+    inl (ap (λ r. r.completed) k ∙ whole ∙ sym (ap (λ r. length r.events) k))
+
+-- some work after other work
+pub done_more : (o p q : Option Received) → WhereShown IsDone o p → WhereShown IsDone p q → WhereShown IsDone o q
+done_more o p q h k = shown_through IsDone IsDone IsDone done_after o p q h k
+
+-- a batch was handed out and then completed
+pub done_batch : (out : List Event) (first count : ℕ) (end : Bool) → 0 < count → count ≤ length out → (o p q : Option Received) → WhereShown (TakesBatch out first count end) o p → WhereShown (IsCompleted (first + count)) p q → WhereShown IsDone o q
+done_batch out first count end some within o p q h k = shown_through (TakesBatch out first count end) (IsCompleted (first + count)) IsDone (done_one out first count end some within) o p q h k
+
+-- nothing came
+pub done_none : (o p : Option Received) → WhereShown (λ (a b : Received). b ≡ a) o p → WhereShown IsDone o p
+done_none o p h = shown_as (λ (a b : Received). b ≡ a) IsDone (λ a b same. inr same) o p h
+
+pub done_first : (o : Option Received) → WhereShown IsDone o o
+done_first o = shown_none IsDone (λ a. inr refl) o

@@ -1,0 +1,149 @@
+-- A script's events, written and published.
+use Rattle.std.proofs.Common.{◌≡◌, ◌<◌, ◌≤◌, ◌+◌, ◌-◌, ◌^◌, ℕ, zero, suc, List, [], ◌∷◌, ◌++◌, length, take, drop, map, get_or, set, replicate, Option, None, Some, Ok, refl, sym, ap, ◌∙◌, arith, append_assoc, length-append}
+use Rattle.std.specs.Prelude.{◌==◌, false, flat_map, not, unwrap_or}
+use Rattle.std.specs.List.{range_with_len}
+use Rattle.std.proofs.lemmas.Bool.{eqb-true, not-false}
+use Rattle.std.proofs.lemmas.List.{append-nil, length-take-le, map-append, take_more, take_all, take-append-drop, take-take, drop-take}
+use Rattle.std.proofs.Math.Seq.{set-append_seam}
+use Rattle.dr_seq.specs.declared.event.Event.{Event}
+use Rattle.dr_seq.specs.Event.{no_event}
+use Rattle.dr_core.specs.declared.command.Claimed.{Claimed}
+use Rattle.dr_core.specs.declared.refusal.Refusal.{Refusal}
+use Rattle.dr_core.specs.declared.refusal.Refusal.TheVariants.{BadCount, NoProducer, NotClaimed, OutOfOrder}
+use Rattle.dr_core.specs.Refusals.{NoneHolds, sequence_causes}
+use Rattle.dr_core.specs.Ends.{Sent, Verdict, WhereShown, Claims, MayFail, PublishAnswers, Writes, Publishes, claimed_by, publish_tests, published_through}
+use Rattle.dr_shared.specs.Work.{Adds, Writing}
+use Rattle.dr_shared.proofs.Showing.{shown_as, shown_none, shown_through}
+
+abbrev some : Event → Option Event
+some e = Some e
+
+abbrev pub Opens : ℕ → Claimed → Sent → Sent → Type 0
+Opens n c old new = Claims n (Ok c) old new
+
+abbrev pub Puts : ℕ → Event → Sent → Sent → Type 0
+Puts s e old new = Writes s e (Ok tt) old new
+
+abbrev pub Shows : ℕ → ℕ → Sent → Sent → Type 0
+Shows lo hi old new = Publishes lo hi (Ok tt) old new
+
+length-map : (xs : List Event) → length (map some xs) ≡ length xs
+length-map [] = refl
+length-map (x ∷ xs) = ap suc (length-map xs)
+
+-- one more of the events stands where nothing stood
+next_put : (events : List Event) (k i : ℕ) (e : Event) → k < length events → i ≡ k → get_or events k no_event ≡ e
+    → set (map some (take k events) ++ replicate (length events - k) None) i (Some e) ≡ map some (take (k + 1) events) ++ replicate (length events - (k + 1)) None
+next_put events k i e less at is =
+    let many : length (map some (take k events)) ≡ k = length-map (take k events) ∙ length-take-le k events (omega arith) in
+    let place : i ≡ length (map some (take k events)) = at ∙ sym many in
+    let left : length events - k ≡ suc (length events - (k + 1)) = omega arith in
+    let front : map some (take (k + 1) events) ≡ map some (take k events) ++ Some e ∷ [] = ap (map some) (take_more events k no_event less) ∙ map-append some (take k events) (get_or events k no_event ∷ []) ∙ ap (λ x. map some (take k events) ++ Some x ∷ []) is in
+    rw (place, left, front)
+    (set-append_seam (map some (take k events)) None (replicate (length events - (k + 1)) None) (Some e)
+    ∙ sym (append_assoc (map some (take k events)) (Some e ∷ []) (replicate (length events - (k + 1)) None)))
+
+writing_more : (lo : ℕ) (events : List Event) (k s : ℕ) (e : Event) → k < length events → s ≡ lo + k → get_or events k no_event ≡ e
+    → (a b c : Sent) → Writing lo events k a b → Puts s e b c → Writing lo events (k + 1) a c
+writing_more lo events k s e less at is a b c h put = record {
+  published = ap (λ x. x.published) put ∙ h.published;
+  pending = λ front nothing.
+      let here : s - length b.published ≡ k = (let same = ap length h.published in omega arith) in
+      ap (λ x. x.pending) put ∙ ap (λ l. set l (s - length b.published) (Some e)) (h.pending front nothing) ∙ next_put events k (s - length b.published) e less here is;
+}
+
+writing_none : (lo : ℕ) (events : List Event) (a : Sent) → Writing lo events 0 a a
+writing_none lo events a = record { published = refl; pending = λ front nothing. (let over : length events - 0 ≡ length events = omega arith in rw over nothing) }
+
+-- before the first write
+pub begins : (lo : ℕ) (events : List Event) (o : Option Sent) → WhereShown (Writing lo events 0) o o
+begins lo events o = shown_none (Writing lo events 0) (writing_none lo events) o
+
+-- one write more
+pub writes_more : (lo : ℕ) (events : List Event) (k s : ℕ) (e : Event) → k < length events → s ≡ lo + k → get_or events k no_event ≡ e
+    → (o p q : Option Sent) → WhereShown (Writing lo events k) o p → WhereShown (Puts s e) p q → WhereShown (Writing lo events (k + 1)) o q
+writes_more lo events k s e less at is o p q h put = shown_through (Writing lo events k) (Puts s e) (Writing lo events (k + 1)) (writing_more lo events k s e less at is) o p q h put
+
+same_published : (lo : ℕ) (events : List Event) (k : ℕ) (a b : Sent) → Writing lo events k a b → Adds [] a b
+same_published lo events k a b h = h.published ∙ sym (append-nil a.published)
+
+-- what was written is not published yet
+pub adds_nothing : (lo : ℕ) (events : List Event) (k : ℕ) (o p q : Option Sent) → WhereShown (Writing lo events k) o p → q ≡ p → WhereShown (Adds []) o q
+adds_nothing lo events k o p q h same = rw same (shown_as (Writing lo events k) (Adds []) (same_published lo events k) o p h)
+
+nothing_added : (a : Sent) → Adds [] a a
+nothing_added a = sym (append-nil a.published)
+
+pub added_none : (o p : Option Sent) → p ≡ o → WhereShown (Adds []) o p
+added_none o p same = rw same (shown_none (Adds []) nothing_added o)
+
+claimed_adds : (n : ℕ) (c : Claimed) (a b d : Sent) → Opens n c a b → Adds [] b d → Adds [] a d
+claimed_adds n c a b d h k = k ∙ ap (λ x. x.published ++ []) h.1
+
+-- a claim after which nothing was published
+pub claim_adds : (n : ℕ) (c : Claimed) (o p q : Option Sent) → WhereShown (Opens n c) o p → WhereShown (Adds []) p q → WhereShown (Adds []) o q
+claim_adds n c o p q h k = shown_through (Opens n c) (Adds []) (Adds []) (claimed_adds n c) o p q h k
+
+take_over : (xs : List (Option Event)) (n : ℕ) → n ≡ length xs → take n xs ≡ xs
+take_over xs n is = take_all n xs (omega arith)
+
+unwrapped : (xs : List Event) → map (λ o. unwrap_or o no_event) (map some xs) ≡ xs
+unwrapped [] = refl
+unwrapped (x ∷ xs) = ap (λ l. x ∷ l) (unwrapped xs)
+
+nothing_left : (xs : List (Option Event)) → length xs ≡ 0 → xs ≡ []
+nothing_left [] h = refl
+nothing_left (x ∷ xs) h = absurd (omega arith)
+
+-- what was claimed, written and then published
+sent_all : (events : List Event) (c : Claimed) → c.hi + 1 ≡ c.lo + length events → (a b d e : Sent) → Opens (length events) c a b → Writing c.lo events (length events) b d → c.lo ≡ length d.published → Shows c.lo c.hi d e → Adds events a e
+sent_all events c is a b d e claim write first_next shows =
+    let same : d.published ≡ a.published = write.published ∙ ap (λ x. x.published) claim.1 in
+    let at : c.lo ≡ length a.published = first_next ∙ ap length same in
+    let before : b.published ≡ a.published = ap (λ x. x.published) claim.1 in
+    let first : c.lo ≡ length b.published = at ∙ ap length (sym before) in
+    let none : length a.pending ≡ 0 = (let lo = claim.0 in omega arith) in
+    let pending : b.pending ≡ replicate (length events) None = ap (λ x. x.pending) claim.1 ∙ ap (λ l. l ++ replicate (length events) None) (nothing_left a.pending none) in
+    let all : take (length events) events ≡ events = take_all (length events) events (omega arith) in
+    let over : length events - length events ≡ 0 = omega arith in
+    let written : d.pending ≡ map some events = write.pending first pending ∙ ap (λ n. map some (take (length events) events) ++ replicate n None) over ∙ append-nil (map some (take (length events) events)) ∙ ap (map some) all in
+    let many : c.hi + 1 - length d.published ≡ length d.pending = (let long = ap length written ∙ length-map events in let lo = first_next in omega arith) in
+    ap (λ x. x.published) shows
+    ∙ ap (λ l. d.published ++ map (λ o. unwrap_or o no_event) l) (take_over d.pending (c.hi + 1 - length d.published) many ∙ written)
+    ∙ ap (λ l. d.published ++ l) (unwrapped events) ∙ ap (λ l. l ++ events) same
+
+-- the last of the tests fails too
+last_fails : (tests : List (Verdict × Refusal)) (test : Verdict × Refusal) → NoneHolds MayFail (tests ++ test ∷ []) → MayFail test.0
+last_fails [] test h = h.0
+last_fails (t ∷ tests) test h = last_fails tests test h.1
+
+-- an only producer's publication begins where the published ones end
+in_order : (lo hi : ℕ) (d : Sent) → PublishAnswers (Some d) lo hi (Ok tt) → lo ≡ length d.published
+in_order lo hi d h =
+    let tests = publish_tests (Some d) lo hi in
+    let last : not (lo == length d.published) ≡ false = last_fails ((tests.no_producer, NoProducer) ∷ (tests.bad_count, BadCount) ∷ (tests.unclaimed, NotClaimed) ∷ flat_map (λ s. sequence_causes (tests.of_sequence s)) (range_with_len lo (hi + 1 - lo))) (tests.out_of_order, OutOfOrder) h in
+    eqb-true lo (length d.published) (not-false (lo == length d.published) last)
+
+pub sends : (events : List Event) (c : Claimed) → c.hi + 1 ≡ c.lo + length events → (o p q r : Option Sent) → WhereShown (Opens (length events) c) o p → WhereShown (Writing c.lo events (length events)) p q
+    → PublishAnswers q c.lo c.hi (Ok tt) → WhereShown (Shows c.lo c.hi) q r → WhereShown (Adds events) o r
+sends events c is None None None None h k answer l = tt
+sends events c is None None None (Some e) h k answer l = absurd l
+sends events c is None None (Some d) r h k answer l = absurd k
+sends events c is None (Some b) q r h k answer l = absurd h
+sends events c is (Some a) None q r h k answer l = absurd h
+sends events c is (Some a) (Some b) None r h k answer l = absurd k
+sends events c is (Some a) (Some b) (Some d) None h k answer l = absurd l
+sends events c is (Some a) (Some b) (Some d) (Some e) h k answer l = sent_all events c is a b d e h k (in_order c.lo c.hi d answer) l
+
+-- one part of a script after another
+added_more : (xs ys zs : List Event) → zs ≡ xs ++ ys → (a b c : Sent) → Adds xs a b → Adds ys b c → Adds zs a c
+added_more xs ys zs is a b c h k = k ∙ ap (λ l. l ++ ys) h ∙ append_assoc a.published xs ys ∙ ap (λ l. a.published ++ l) (sym is)
+
+pub adds_more : (xs ys zs : List Event) → zs ≡ xs ++ ys → (o p q : Option Sent) → WhereShown (Adds xs) o p → WhereShown (Adds ys) p q → WhereShown (Adds zs) o q
+adds_more xs ys zs is o p q h k = shown_through (Adds xs) (Adds ys) (Adds zs) (added_more xs ys zs is) o p q h k
+
+-- the first of a script, and then the next
+pub first_and_next : (xs : List Event) (n m : ℕ) → take (n + m) xs ≡ take n xs ++ take m (drop n xs)
+first_and_next xs n m =
+    let less : n ≤ n + m = omega arith in
+    sym (take-append-drop n (take (n + m) xs)) ∙ ap (λ l. l ++ drop n (take (n + m) xs)) (take-take n (n + m) xs less) ∙ ap (λ l. take n xs ++ l) (drop-take n m xs)

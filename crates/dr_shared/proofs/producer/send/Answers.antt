@@ -1,0 +1,18 @@
+use Rattle.std.proofs.Common.{◌≡◌, ◌+◌, ℕ, Result, Ok, Err, Option, OnOk, List, length}
+use Rattle.dr_seq.specs.declared.event.Event.{Event}
+use Rattle.dr_core.specs.declared.command.Claimed.{Claimed}
+use Rattle.dr_core.specs.Ends.{Sent, WhereShown, PublishAnswers, Publishes}
+use Rattle.dr_core.specs.declared.ends.Trouble.{Trouble}
+use Rattle.dr_shared.specs.Work.{Adds, Writing}
+use Rattle.dr_shared.proofs.Writings.{Opens, sends}
+use Rattle.dr_shared.proofs.producer.send.Goals as goal
+
+-- where the publication succeeds
+sent : (r : Result (Unit {0}) Trouble) (events : List Event) (c : Claimed) → c.hi + 1 ≡ c.lo + length events → (o p q s : Option Sent) → WhereShown (Opens (length events) c) o p → WhereShown (Writing c.lo events (length events)) p q
+    → OnOk r (PublishAnswers q c.lo c.hi (Ok tt)) → OnOk r (WhereShown (Publishes c.lo c.hi (Ok tt)) q s) → OnOk r (WhereShown (Adds events) o s)
+sent (Ok done) events c is o p q s h k answer l = sends events c is o p q s h k answer l
+sent (Err fault) events c is o p q s h k answer l = l
+
+pub returns-clause-sent : goal.returns-clause-sent
+returns-clause-sent g c =
+    sent c.publish.result c.args.events.now c.in_ok-lo.field-0 c.in_ok-lo.ensures.stretch.1 _ _ _ _ c.in_ok-lo.ensures.claimed c.in_ok-write_all.ensures.written c.publish.ensures.answer c.publish.ensures.published

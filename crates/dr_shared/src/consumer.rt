@@ -1,0 +1,87 @@
+//! The worker of a handler.
+
+ghost use Rattle.std.specs.Prelude.{◌≡◌, true, IfNone, IfOk, OnOk, Some};
+ghost use Rattle.dr_core.specs.Ends.{WhereShown};
+ghost use Rattle.dr_shared.specs.declared.consumer.Progress.TheVariants.{Drained};
+ghost use Rattle.dr_shared.specs.declared.fault.WorkFault.TheVariants.{Stopped};
+ghost use Rattle.dr_shared.specs.Stops.{Passes};
+ghost use Rattle.dr_shared.specs.Work.{IsDone, Works};
+
+use crate::fault::WorkFault;
+use crate::gate::Gate;
+use crate::retries::complete;
+use crate::turns::Turns;
+use crate::waiting::Waiting;
+use dr_core::{Handler, Outlet, Polled, Trouble, show};
+use dr_seq::Event;
+use std::sync::Wait;
+
+// What a turn of a worker came to.
+enum Progress {
+    /// A batch was shown and completed.
+    Batch,
+    /// Nothing came.
+    Nothing,
+    /// The end was told that the exchange drained.
+    Drained,
+}
+
+// A poll and, for a batch, the handler's calls, the gate and the completion.
+fn turn<R: Wait, O: Outlet, G: Gate, H: Handler>(
+    rt: &R,
+    outlet: &mut O,
+    gate: &G,
+    turns: &mut Turns,
+    handler: &mut H,
+    buf: &mut [Event],
+) -> Result<Progress, Trouble>
+    ensures kept { O.kept outlet.new ≡ O.kept outlet.old }
+    ensures works { Works H.goes handler.old handler.new (O.received outlet.old) (O.received outlet.new) }
+    ensures done { OnOk result (WhereShown IsDone (O.received outlet.old) (O.received outlet.new)) }
+    ensures drained { IfOk result (λ progress. progress ≡ Drained → O.told outlet.new ≡ true) }
+    ensures passes { Passes (G.may_stop gate.now) turns.old turns.new }
+{
+    match outlet.poll_into(buf) {
+        Ok(Polled::Batch { first, count, end }) => {
+            show(handler, &buf[..count as usize], first, end);
+            turns.pass(gate);
+            complete(rt, outlet, first + count)?;
+            Ok(Progress::Batch)
+        }
+        Ok(Polled::Drained) => Ok(Progress::Drained),
+        Ok(Polled::Gating | Polled::Idle) | Err(Trouble::Memory) => Ok(Progress::Nothing),
+        Err(refused) => Err(refused),
+    }
+}
+
+/// Takes a handler through the events that its end hands out, until that is told that the exchange
+/// drained: each batch goes to the handler, then the worker passes its gate, then it completes the
+/// batch. A refusal ends the work. A worker that the gate stops goes on without it, and answers
+/// `Stopped` at its end.
+pub fn consume<R: Wait, O: Outlet, G: Gate, H: Handler>(
+    rt: &R,
+    outlet: &mut O,
+    gate: &G,
+    who: usize,
+    handler: &mut H,
+    buf: &mut [Event],
+) -> Option<WorkFault>
+    ensures kept { O.kept outlet.new ≡ O.kept outlet.old }
+    // The handler was shown all events that the end handed out, in order, batch by batch.
+    ensures works { Works H.goes handler.old handler.new (O.received outlet.old) (O.received outlet.new) }
+    ensures done { IfNone result (WhereShown IsDone (O.received outlet.old) (O.received outlet.new)) }
+    ensures drained { IfNone result (O.told outlet.new ≡ true) }
+    ensures stopped { result ≡ Some Stopped → G.may_stop gate.now who }
+{
+    let mut turns = Turns::new(who);
+    let mut waiting = Waiting::new();
+    for _ in rt.forever() {
+        match turn(rt, outlet, gate, &mut turns, handler, buf) {
+            Ok(Progress::Batch) => waiting.restart(),
+            Ok(Progress::Nothing) => waiting.wait(),
+            Ok(Progress::Drained) => return turns.at_end(),
+            Err(trouble) => return Some(turns.in_trouble(trouble)),
+        }
+    }
+    unreachable!()
+}

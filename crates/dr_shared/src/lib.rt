@@ -1,0 +1,48 @@
+//! An exchange between threads.
+//!
+//! [`Recorded`] is the core of one thread with its history: the calls that changed something, and
+//! the events of their batches. [`Shared`] puts it behind one lock, and each thread calls through an
+//! [`End`] of its own, which counts; [`LockedInlet`] and [`LockedOutlet`] make that a producer's and
+//! a handler's end. [`audit`] compares a history with what its producers were to send. Begin with
+//! `specs/History`, then `specs/Audit`.
+//!
+//! Workers serve the ends of an exchange, whichever it is: [`produce`] sends a script through a
+//! producer's end, and [`consume`] takes a handler through all that its end hands out. Both wait for
+//! the other workers ([`Waiting`]), and pass a [`Gate`]. Begin with `specs/Work`: it says what they
+//! do to an end that shows what it sent or received.
+#![tactic(auto)]
+
+// The core behind a lock.
+pub mod audit_fault;
+pub mod auditing;
+pub mod entry;
+pub mod locked;
+pub mod recorded;
+mod sequences;
+pub mod shared;
+
+// Workers.
+mod consumer;
+mod ended;
+pub mod fault;
+pub mod gate;
+mod producer;
+mod retries;
+mod turns;
+mod waiting;
+
+pub use audit_fault::AuditFault;
+pub use auditing::audit;
+pub use consumer::consume;
+pub use ended::{Ended, WorkerFault, first_fault};
+pub use entry::Entry;
+pub use fault::WorkFault;
+pub use gate::{Gate, GateAnswer, OpenGate};
+pub use locked::{LockedInlet, LockedOutlet};
+pub use producer::{Produced, produce};
+pub use recorded::Recorded;
+pub use shared::{End, MAX_ENDS, Shared, Unfinished, finish};
+pub use waiting::Waiting;
+
+#[cfg(test)]
+mod tests;

@@ -1,0 +1,100 @@
+//! The worker of a producer.
+
+ghost use Rattle.std.specs.Prelude.{◌≡◌, ◌+◌, ◌^◌, ◌<◌, ◌≤◌, [], length, take, IfNone, OnErr, OnOk, Some};
+ghost use Rattle.dr_core.specs.Ends.{WhereShown};
+ghost use Rattle.dr_shared.specs.declared.fault.WorkFault.TheVariants.{Stopped};
+ghost use Rattle.dr_shared.specs.Stops.{Passes};
+ghost use Rattle.dr_shared.specs.Work.{Adds, Writing};
+
+use crate::fault::WorkFault;
+use crate::gate::Gate;
+use crate::retries::{claim, publish, write};
+use crate::turns::Turns;
+use dr_core::{Claimed, Inlet, Trouble};
+use dr_seq::Event;
+use std::sync::Wait;
+
+/// How much of its script a worker sent, and why not all of it or what stopped it.
+#[derive(Clone, Copy, Debug, PartialEq, Eq)]
+pub struct Produced {
+    /// How many events were published.
+    pub sent: u64,
+    pub fault: Option<WorkFault>,
+}
+
+// Writes events to the sequences from `lo` on.
+fn write_all<R: Wait, I: Inlet>(
+    rt: &R,
+    inlet: &mut I,
+    lo: u64,
+    events: &[Event],
+) -> Result<(), Trouble>
+    requires limit { lo + length events.now ≤ 2 ^ 62 }
+    ensures kept { I.kept inlet.new ≡ I.kept inlet.old }
+    ensures written { OnOk result (WhereShown (Writing lo events.now (length events.now)) (I.sent inlet.old) (I.sent inlet.new)) }
+    ensures fault { OnErr result (WhereShown (Adds []) (I.sent inlet.old) (I.sent inlet.new)) }
+{
+    for (k, event) in events.iter().enumerate() {
+        write(rt, inlet, lo + k as u64, *event)?;
+    }
+    Ok(())
+}
+
+// Claims, passes the gate, writes and publishes some events.
+fn send<R: Wait, I: Inlet, G: Gate>(
+    rt: &R,
+    inlet: &mut I,
+    gate: &G,
+    turns: &mut Turns,
+    events: &[Event],
+) -> Result<(), Trouble>
+    ensures kept { I.kept inlet.new ≡ I.kept inlet.old }
+    ensures sent { OnOk result (WhereShown (Adds events.now) (I.sent inlet.old) (I.sent inlet.new)) }
+    ensures fault { OnErr result (WhereShown (Adds []) (I.sent inlet.old) (I.sent inlet.new)) }
+    ensures passes { Passes (G.may_stop gate.now) turns.old turns.new }
+{
+    let Claimed { lo, hi } = claim(rt, inlet, events.len() as u64)?;
+    turns.pass(gate);
+    write_all(rt, inlet, lo, events)?;
+    publish(rt, inlet, lo, hi)
+}
+
+/// Sends a script in claims of up to `cut` events, each once there is room: a claim, the worker's
+/// gate, the writes, and the publication. A refusal ends the work, and so does want of memory for a
+/// claim. A worker that the gate stops goes on without it, and answers `Stopped` at its end.
+pub fn produce<R: Wait, I: Inlet, G: Gate>(
+    rt: &R,
+    inlet: &mut I,
+    gate: &G,
+    who: usize,
+    script: &[Event],
+    cut: u64,
+) -> Produced
+    requires cut { 0 < cut }
+    ensures kept { I.kept inlet.new ≡ I.kept inlet.old }
+    ensures sent { WhereShown (Adds (take result.sent script.now)) (I.sent inlet.old) (I.sent inlet.new) }
+    ensures within { result.sent ≤ length script.now }
+    ensures all { IfNone result.fault (result.sent ≡ length script.now) }
+    ensures stopped { result.fault ≡ Some Stopped → G.may_stop gate.now who }
+{
+    let mut turns = Turns::new(who);
+    let mut sent = 0;
+    while sent < script.len() {
+        let n = ((script.len() - sent) as u64).min(cut) as usize;
+        let part = &script[sent..sent + n];
+        match send(rt, inlet, gate, &mut turns, part) {
+            Ok(()) => sent += n,
+            Err(trouble) => {
+                let fault = Some(turns.in_trouble(trouble));
+                return Produced {
+                    sent: sent as u64,
+                    fault,
+                };
+            }
+        }
+    }
+    Produced {
+        sent: sent as u64,
+        fault: turns.at_end(),
+    }
+}

@@ -1,0 +1,86 @@
+//! Calls of ends that are tried again while they have to wait.
+
+ghost use Rattle.std.specs.Prelude.{◌≡◌, Ok, IfOk, OnErr, OnOk};
+ghost use Rattle.dr_core.specs.Ends.{Claims, Completes, GivesStretch, PublishAnswers, Publishes, WhereShown, Writes};
+
+use crate::waiting::Waiting;
+use dr_core::{Claimed, Inlet, Outlet, Refusal, Trouble};
+use dr_seq::Event;
+use std::sync::Wait;
+
+/// Claims the next `n` sequences, once there is room.
+pub(crate) fn claim<R: Wait, I: Inlet>(rt: &R, inlet: &mut I, n: u64) -> Result<Claimed, Trouble>
+    ensures kept { I.kept inlet.new ≡ I.kept inlet.old }
+    ensures stretch { IfOk result (λ c. GivesStretch n (Ok c)) }
+    ensures claimed { IfOk result (λ c. WhereShown (Claims n (Ok c)) (I.sent inlet.old) (I.sent inlet.new)) }
+    ensures fault { OnErr result (I.sent inlet.new ≡ I.sent inlet.old) }
+{
+    let mut waiting = Waiting::new();
+    for _ in rt.forever() {
+        match inlet.try_claim(n) {
+            Err(Trouble::Refused(Refusal::NoRoom)) => waiting.wait(),
+            answer => return answer,
+        }
+    }
+    unreachable!()
+}
+
+/// Writes the event of a claimed sequence, once there is memory for the call.
+pub(crate) fn write<R: Wait, I: Inlet>(
+    rt: &R,
+    inlet: &mut I,
+    s: u64,
+    event: Event,
+) -> Result<(), Trouble>
+    ensures kept { I.kept inlet.new ≡ I.kept inlet.old }
+    ensures written { OnOk result (WhereShown (Writes s event (Ok tt)) (I.sent inlet.old) (I.sent inlet.new)) }
+    ensures fault { OnErr result (I.sent inlet.new ≡ I.sent inlet.old) }
+{
+    let mut waiting = Waiting::new();
+    for _ in rt.forever() {
+        match inlet.write(s, event) {
+            Err(Trouble::Memory) => waiting.wait(),
+            answer => return answer,
+        }
+    }
+    unreachable!()
+}
+
+/// Publishes a claimed stretch, once there is memory for the call.
+pub(crate) fn publish<R: Wait, I: Inlet>(
+    rt: &R,
+    inlet: &mut I,
+    lo: u64,
+    hi: u64,
+) -> Result<(), Trouble>
+    ensures kept { I.kept inlet.new ≡ I.kept inlet.old }
+    ensures answer { OnOk result (PublishAnswers (I.sent inlet.old) lo hi (Ok tt)) }
+    ensures published { OnOk result (WhereShown (Publishes lo hi (Ok tt)) (I.sent inlet.old) (I.sent inlet.new)) }
+    ensures fault { OnErr result (I.sent inlet.new ≡ I.sent inlet.old) }
+{
+    let mut waiting = Waiting::new();
+    for _ in rt.forever() {
+        match inlet.publish(lo, hi) {
+            Err(Trouble::Memory) => waiting.wait(),
+            answer => return answer,
+        }
+    }
+    unreachable!()
+}
+
+/// Completes all events below `upto`, once there is memory for the call.
+pub(crate) fn complete<R: Wait, O: Outlet>(rt: &R, outlet: &mut O, upto: u64) -> Result<(), Trouble>
+    ensures kept { O.kept outlet.new ≡ O.kept outlet.old }
+    ensures told { O.told outlet.new ≡ O.told outlet.old }
+    ensures completed { OnOk result (WhereShown (Completes upto (Ok tt)) (O.received outlet.old) (O.received outlet.new)) }
+    ensures fault { OnErr result (O.received outlet.new ≡ O.received outlet.old) }
+{
+    let mut waiting = Waiting::new();
+    for _ in rt.forever() {
+        match outlet.complete(upto) {
+            Err(Trouble::Memory) => waiting.wait(),
+            answer => return answer,
+        }
+    }
+    unreachable!()
+}

@@ -1,0 +1,224 @@
+//! The exchange behind one lock.
+
+ghost use Rattle.std.specs.Prelude.{◌≡◌, ◌↔◌, ◌+◌, ◌<◌, ◌≤◌, IfOk, IfErr, OnErr, IsErr, MatchOption, if◌then◌else◌, drop, length, sum, take, vec_len};
+ghost use Rattle.dr_core.specs.Runs.{count_in};
+ghost use Rattle.dr_shared.specs.History.{asked, is_kept as is_kept_of};
+ghost use Rattle.dr_shared.specs.Lock.{IsAnswer};
+
+use crate::entry::is_kept;
+use crate::recorded::Recorded;
+use dr_core::{Command, Reply};
+use dr_seq::Event;
+use std::alloc::AllocError;
+use std::marker::{Model, PhantomData};
+use std::sync::ledger::{Blank, Book, Ledger, Share};
+use std::sync::{Mutex, Wait};
+
+/// How many ends a lock gives out at most.
+pub const MAX_ENDS: usize = 64;
+
+/// What lies under the lock: a history that is as long as the ledger says.
+#[derive(Drop)]
+struct Locked<L: Ledger> {
+    recorded: Recorded,
+    calls: Book<L>,
+    ghost counted: { length recorded.history.entries ≡ calls.total },
+}
+
+/// The parts of the ledger that no end has. Their amount is the number of entries that the history
+/// began with.
+#[derive(Drop)]
+struct Rest<L: Ledger> {
+    share: Share<L>,
+}
+
+/// A share may be sent, and through a `&Rest` nobody reaches it. The proof is `rest_sync`, in
+/// `proofs/Sent`: each start of a thread with a `&Shared` rests on it.
+unsafe impl<L: Ledger> Sync for Rest<L> {}
+
+/// That the ledger has a part for each end and one that stays.
+#[derive(Drop)]
+struct Whole<L: Ledger> {
+    of: PhantomData<L>,
+    ghost parts: { L.parts ≡ 65 },
+}
+
+/// A history behind one lock, which threads share by reference. Each calls through an end of its
+/// own.
+#[derive(Drop)]
+pub struct Shared<L: Ledger> {
+    locked: Mutex<Locked<L>>,
+    rest: Rest<L>,
+    whole: Whole<L>,
+    begun: usize,
+    given: usize,
+}
+
+impl<L: Ledger> Model for Shared<L> {
+    ghost use Rattle.std.specs.Prelude.{◌≡◌, ◌+◌, ◌≤◌};
+    ghost use Rattle.dr_shared.specs.Lock.{SharedView};
+
+    ghost Value = { SharedView };
+
+    ghost view = { λ a. record { begun = a.begun; given = a.given } };
+
+    ghost invariant = { λ a. (a.rest.share.parts + a.given ≡ 65) × (a.rest.share.amount ≡ a.begun) × (a.given ≤ 64) };
+}
+
+/// One thread's end of a shared history; the ledger ties it to that history alone. Contracts see it
+/// as the number of its calls that were kept.
+#[derive(Drop)]
+pub struct End<L: Ledger> {
+    share: Share<L>,
+    calls: u64,
+}
+
+impl<L: Ledger> Model for End<L> {
+    ghost use Rattle.std.specs.Prelude.{◌≡◌, ℕ};
+
+    ghost Value = { ℕ };
+
+    ghost view = { λ a. a.calls };
+
+    ghost invariant = { λ a. (a.share.parts ≡ 1) × (a.share.amount ≡ a.calls) };
+}
+
+/// What is handed back where an end is missing.
+#[derive(Drop)]
+pub struct Unfinished<L: Ledger> {
+    pub shared: Shared<L>,
+    pub ends: Vec<End<L>>,
+}
+
+impl<L: Ledger> End<L> {
+    /// How many of its calls were kept.
+    pub fn calls(&self) -> u64
+        ensures { result ≡ self.now }
+    {
+        self.calls
+    }
+}
+
+impl<L: Ledger> Locked<L> {
+    /// The history's call, which the end counts where it is kept.
+    fn call(
+        &mut self,
+        end: &mut End<L>,
+        command: Command,
+        out: &mut [Event],
+    ) -> Result<Reply, AllocError>
+        requires { asked command ≤ length out.old }
+        ensures answer { IfOk result (λ reply. IsAnswer command reply (take (count_in reply) out.new)) }
+        ensures rest { IfOk result (λ reply. drop (count_in reply) out.new ≡ drop (count_in reply) out.old) }
+        ensures counts { IfOk result (λ reply. end.new ≡ (if is_kept_of reply then end.old + 1 else end.old)) }
+        ensures unchanged { OnErr result ((end.new ≡ end.old) × (out.new ≡ out.old)) }
+    {
+        let Locked { recorded, calls } = self;
+        calls.audit(&mut end.share);
+        let reply = recorded.call(command, out)?;
+        if is_kept(reply) {
+            calls.add(&mut end.share, 1);
+            end.calls += 1;
+        }
+        Ok(reply)
+    }
+}
+
+impl<L: Ledger> Shared<L> {
+    /// Puts a history behind a lock. The ledger has a part for each end and one that stays.
+    pub fn new(recorded: Recorded, blank: Blank) -> Shared<L>
+        requires name { blank.name ≡ L.name }
+        requires parts { blank.parts ≡ L.parts }
+        requires ends { blank.parts ≡ 65 }
+        ensures begun { result.begun ≡ length recorded.history.entries }
+        ensures given { result.given ≡ 0 }
+    {
+        let begun = recorded.history().len();
+        let (mut calls, mut share) = blank.open::<L>();
+        calls.add(&mut share, begun as u64);
+        Shared {
+            locked: Mutex::new(Locked { recorded, calls }),
+            rest: Rest { share },
+            whole: Whole { of: PhantomData },
+            begun,
+            given: 0,
+        }
+    }
+
+    /// How many entries the history had when it came behind the lock.
+    pub fn begun(&self) -> usize
+        ensures { result ≡ self.now.begun }
+    {
+        self.begun
+    }
+
+    /// How many ends were given out.
+    pub fn given(&self) -> usize
+        ensures { result ≡ self.now.given }
+    {
+        self.given
+    }
+
+    /// An end for one thread, or `None` after [`MAX_ENDS`].
+    pub fn end(&mut self) -> Option<End<L>>
+        ensures end { MatchOption result ((self.old.given ≡ 64) × (self.new ≡ self.old)) (λ end. (end ≡ 0) × (self.new ≡ record self.old { given = self.old.given + 1 })) }
+    {
+        if self.given == MAX_ENDS {
+            return None;
+        }
+        let share = self.rest.share.split_off(1, 0);
+        self.given += 1;
+        Some(End { share, calls: 0 })
+    }
+
+    /// One call of the history, while the lock is held: it may wait for the lock. What it answers is
+    /// what the machine answers in some state that a core shows, and the end counts it where it is
+    /// kept. For a poll `out` holds as many events as it asks for; a batch stands at its front.
+    /// Where an allocation fails the call may be made again.
+    pub fn call(
+        &self,
+        rt: &impl Wait,
+        end: &mut End<L>,
+        command: Command,
+        out: &mut [Event],
+    ) -> Result<Reply, AllocError>
+        requires { asked command ≤ length out.old }
+        ensures answer { IfOk result (λ reply. IsAnswer command reply (take (count_in reply) out.new)) }
+        ensures rest { IfOk result (λ reply. drop (count_in reply) out.new ≡ drop (count_in reply) out.old) }
+        ensures counts { IfOk result (λ reply. end.new ≡ (if is_kept_of reply then end.old + 1 else end.old)) }
+        ensures unchanged { OnErr result ((end.new ≡ end.old) × (out.new ≡ out.old)) }
+    {
+        self.locked.lock(rt).call(end, command, out)
+    }
+}
+
+/// Takes the history from behind its lock, once all ends are back: it has as many entries as it
+/// began with and as the ends counted. Where an end is missing, all is handed back.
+pub fn finish<L: Ledger>(shared: Shared<L>, ends: Vec<End<L>>) -> Result<Recorded, Unfinished<L>>
+    ensures missing { IsErr result ↔ (vec_len ends < shared.given) }
+    ensures entries { IfOk result (λ recorded. length recorded.history.entries ≡ shared.begun + sum ends.items) }
+    ensures back { IfErr result (λ unfinished. (unfinished.shared ≡ shared) × (unfinished.ends ≡ ends)) }
+{
+    if ends.len() < shared.given {
+        return Err(Unfinished { shared, ends });
+    }
+    let Shared {
+        locked,
+        rest,
+        whole: _,
+        begun: _,
+        given: _,
+    } = shared;
+    let Rest { share: mut all } = rest;
+    let mut ends = ends;
+    while let Some(end) = ends.pop() {
+        let End { share, calls: _ } = end;
+        all.merge(share);
+    }
+    let Locked {
+        recorded,
+        mut calls,
+    } = locked.into_inner();
+    calls.audit(&mut all);
+    Ok(recorded)
+}
