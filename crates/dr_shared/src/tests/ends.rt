@@ -65,10 +65,10 @@ fn give_out<L: Ledger, R: Abort>(rt: &R, alloc: Global, blank: Blank) -> Result<
     recorded.call(Command::Halt, &mut [])?;
     let mut shared = Shared::<L>::new(recorded, blank);
     let mut ends = Vec::new(alloc);
-    while let Some(end) = shared.end() {
-        ends.push(end)?;
+    for _ in 0..MAX_ENDS {
+        ends.push(shared.end().ok_or("an end")?)?;
     }
-    assert_eq!(rt; ends.len(), MAX_ENDS);
+    assert!(rt; shared.end().is_none());
     assert_eq!(rt; (shared.begun(), shared.given()), (1, MAX_ENDS));
     let Ok(recorded) = finish(shared, ends) else {
         return Err("all ends are back".into());
