@@ -16,14 +16,15 @@ abbrev Gives : ℕ → Outcome → Type 0
 Gives n o = length o.values ≡ n
 
 -- a poll gives what is available, and at most what it asks for
-poll_accepted : (c : Setup) (m : State) (h max : ℕ) → Gives (min (available c m h - slice_index m.taken h) max) (accepted c m (Poll h max))
+poll_accepted : (c : Setup) (m : State) (h max : ℕ)
+    → Gives (min (available c m h - slice_index m.taken h) max) (accepted c m (Poll h max))
 poll_accepted c m h max =
     let n : ℕ = min (available c m h - slice_index m.taken h) max in
     cond_both (nat_lt (slice_index m.taken h) (available c m h)) _ _ (Gives n)
     (λ y. length-map-range_with_len (λ s. unwrap_or (m.written s) no_event) (slice_index m.taken h) n)
     (λ none. let z : available c m h ≤ slice_index m.taken h = grind (arith, nat_tests, none) in
-        cond_both (m.halted && (slice_index m.taken h == next m)) _ _ (Gives n) (λ y. omega arith)
-        (λ n'. cond_both (nat_lt (slice_index m.taken h) (cursor c m)) _ _ (Gives n) (λ y. omega arith) (λ n''. omega arith)))
+    cond_both (m.halted && (slice_index m.taken h == next m)) _ _ (Gives n) (λ y. omega arith)
+    (λ n'. cond_both (nat_lt (slice_index m.taken h) (cursor c m)) _ _ (Gives n) (λ y. omega arith) (λ n''. omega arith)))
 
 pub poll_gives : (c : Setup) (m : State) (h max : ℕ) → h < handlers c → m.retired h ≡ false
     → length (step c m (Poll h max)).values ≡ min (available c m h - slice_index m.taken h) max
@@ -44,7 +45,8 @@ retired_gives c m h max gone =
     (λ n. cond_both (m.retired h) _ _ (Gives 0) (λ y. refl) (λ n'. absurd (false≢true (sym n' ∙ gone))))
 
 -- no other command gives events
-pub other_gives : (c : Setup) (m : State) (command : Command) → ((h max : ℕ) → command ≡ Poll h max → ⊥) → length (step c m command).values ≡ 0
+pub other_gives : (c : Setup) (m : State) (command : Command) → ((h max : ℕ) → command ≡ Poll h max → ⊥)
+    → length (step c m command).values ≡ 0
 other_gives c m (Claim p n) not = unless-cases (Gives 0) (refusals c m (Claim p n)) m (accepted c m (Claim p n)) (λ r. refl) (λ none. refl)
 other_gives c m (Write p s event) not = unless-cases (Gives 0) (refusals c m (Write p s event)) m (accepted c m (Write p s event)) (λ r. refl) (λ none. refl)
 other_gives c m (Publish p lo hi) not = unless-cases (Gives 0) (refusals c m (Publish p lo hi)) m (accepted c m (Publish p lo hi)) (λ r. refl) (λ none. refl)

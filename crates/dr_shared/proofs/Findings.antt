@@ -21,7 +21,8 @@ use Rattle.dr_shared.proofs.Following.{follows_of}
 abbrev pub AllTell : Type 0
 AllTell = (c : Setup) (t : Transcript) (m : State) → LeadsTo c t m → Tells t m
 
-pub followed : (k : History) (r : IsRecorded k) (entries : List Entry) → entries ≡ k.entries → Follows k.core.setup (opening k.core.setup) entries r.runs.state
+pub followed : (k : History) (r : IsRecorded k) (entries : List Entry) → entries ≡ k.entries
+    → Follows k.core.setup (opening k.core.setup) entries r.runs.state
 followed k r entries is = rw is (follows_of k.core.setup (opening k.core.setup) k.entries k.values r.runs.state r.kept r.runs.leads)
 
 first_same : (P Q : ℕ → Type 0) (n : ℕ) → ((k : ℕ) → P k → Q k) → ((k : ℕ) → Q k → P k) → FirstLacks P n → FirstLacks Q n
@@ -45,7 +46,8 @@ module _ (all_tell : AllTell) (k : History) (r : IsRecorded k) where
     sent_as : (q : ℕ) → sent_of list q ≡ published_by (transcript k) q
     sent_as = sent_is k.core.setup (transcript k) r.runs.state told is_held list lists
 
-    pub scripts_fault : (fault : AuditFault) → Differs list scripts fault → Faults (transcript k) (handlers k.core.setup) scripts fault
+    pub scripts_fault : (fault : AuditFault) → Differs list scripts fault
+        → Faults (transcript k) (handlers k.core.setup) scripts fault
     scripts_fault (ScriptDiffers p) d = first_same (SentIn list scripts) (SentScript (transcript k) scripts) p (λ q e. sym (sent_as q) ∙ e) (λ q e. sent_as q ∙ e) d
     scripts_fault (NotDrained h) d = absurd d
     scripts_fault NoMemory d = tt
@@ -64,12 +66,14 @@ module _ (all_tell : AllTell) (k : History) (r : IsRecorded k) where
       took_in : (h : ℕ) → TookAll (transcript k) h → TookIn k.core (length all) h
       took_in h took left = sym (taken_is h) ∙ took (retired_is h ∙ left) ∙ sym (ap length published)
 
-      pub drained_fault : (count : ℕ) → count ≡ length all → (fault : AuditFault) → Undrained k.core count fault → Faults (transcript k) (handlers k.core.setup) scripts fault
+      pub drained_fault : (count : ℕ) → count ≡ length all → (fault : AuditFault) → Undrained k.core count fault
+          → Faults (transcript k) (handlers k.core.setup) scripts fault
       drained_fault count len (ScriptDiffers p) d = absurd d
       drained_fault count len (NotDrained h) d = (sent, d.0, first_same (TookIn k.core (length all)) (TookAll (transcript k)) h took_all took_in (rw len at d.1))
       drained_fault count len NoMemory d = absurd d
 
-      pub audited : (count : ℕ) → count ≡ length all → ((h : ℕ) → h < handlers k.core.setup → TookIn k.core count h) → IsAudited (transcript k) (handlers k.core.setup) scripts all
+      pub audited : (count : ℕ) → count ≡ length all → ((h : ℕ) → h < handlers k.core.setup → TookIn k.core count h)
+          → IsAudited (transcript k) (handlers k.core.setup) scripts all
       audited count len drained = record {
         sent = sent;
         received = λ h l left. received_all k.core.setup (transcript k) r.runs.state told is_held r.runs.lawful h l (took_all h (rw len at (drained h l)) left) ∙ sym published;

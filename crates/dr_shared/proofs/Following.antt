@@ -19,7 +19,8 @@ use Rattle.dr_shared.specs.Sequences.{claimed_by, nothing, Lists, Takes, Speaks,
 use Rattle.dr_shared.proofs.Reached.{IsHeld, opening_held, step_held}
 
 -- what the list says after an accepted command
-claim_lists : (c : Setup) (m : State) (p n : ℕ) (list new : List Sequence) → IsHeld c m → Lists list m → new ≡ list ++ replicate n (claimed_by p) → Lists new (accepted c m (Claim p n)).state
+claim_lists : (c : Setup) (m : State) (p n : ℕ) (list new : List Sequence) → IsHeld c m → Lists list m
+    → new ≡ list ++ replicate n (claimed_by p) → Lists new (accepted c m (Claim p n)).state
 claim_lists c m p n list new held lists is =
     let len : length (list ++ replicate n (claimed_by p)) ≡ length list + length (replicate n (claimed_by p)) = length-append list (replicate n (claimed_by p)) in
     let many : length (replicate n (claimed_by p)) ≡ n = length-replicate n (claimed_by p) in
@@ -44,11 +45,13 @@ claim_lists c m p n list new held lists is =
       ];
     })
 
-chosen : (b : Bool) (event : Event) (w : Option Event) → unwrap_or (cond b (Some event) None) (unwrap_or w no_event) ≡ unwrap_or (cond b (Some event) w) no_event
+chosen : (b : Bool) (event : Event) (w : Option Event)
+    → unwrap_or (cond b (Some event) None) (unwrap_or w no_event) ≡ unwrap_or (cond b (Some event) w) no_event
 chosen true event w = refl
 chosen false event w = refl
 
-write_lists : (c : Setup) (m : State) (p at : ℕ) (event : Event) (list new : List Sequence) → Lists list m → Takes (Write p at event) list new → Lists new (accepted c m (Write p at event)).state
+write_lists : (c : Setup) (m : State) (p at : ℕ) (event : Event) (list new : List Sequence) → Lists list m
+    → Takes (Write p at event) list new → Lists new (accepted c m (Write p at event)).state
 write_lists c m p at event list new lists takes =
     let same : length list ≡ next m = lists.length in
     record {
@@ -56,24 +59,28 @@ write_lists c m p at event list new lists takes =
       at = λ s l. takes.1 s (omega (arith, same)) ∙ rw (lists.at s l) (ap (λ v. record { owner = slice_index m.owners s; event = v; is_published = m.published s }) (chosen (s == at) event (m.written s)));
     }
 
-publish_lists : (c : Setup) (m : State) (p lo hi : ℕ) (list new : List Sequence) → Lists list m → Takes (Publish p lo hi) list new → Lists new (accepted c m (Publish p lo hi)).state
+publish_lists : (c : Setup) (m : State) (p lo hi : ℕ) (list new : List Sequence) → Lists list m
+    → Takes (Publish p lo hi) list new → Lists new (accepted c m (Publish p lo hi)).state
 publish_lists c m p lo hi list new lists takes =
     let same : length list ≡ next m = lists.length in
     record { length = takes.0 ∙ same; at = λ s l. takes.1 s (omega (arith, same)) ∙ rw (lists.at s l) refl }
 
 -- nothing that a list tells is changed
-stays_lists : (m n : State) (list new : List Sequence) → Lists list m → new ≡ list → n.owners ≡ m.owners → n.written ≡ m.written → n.published ≡ m.published → Lists new n
+stays_lists : (m n : State) (list new : List Sequence) → Lists list m → new ≡ list → n.owners ≡ m.owners
+    → n.written ≡ m.written → n.published ≡ m.published → Lists new n
 stays_lists m n list new lists is owners written published =
     rw is (record { length = lists.length ∙ ap length (sym owners); at = λ s l. rw (owners, written, published) (lists.at s (rw owners at l)) })
 
-poll_lists : (c : Setup) (m : State) (h max : ℕ) (list new : List Sequence) → Lists list m → new ≡ list → Lists new (accepted c m (Poll h max)).state
+poll_lists : (c : Setup) (m : State) (h max : ℕ) (list new : List Sequence) → Lists list m → new ≡ list
+    → Lists new (accepted c m (Poll h max)).state
 poll_lists c m h max list new lists is =
     let P : Outcome → Type 0 = λ o. Lists new o.state in
     let same : Lists new m = stays_lists m m list new lists is refl refl refl in
     cond_both (nat_lt (slice_index m.taken h) (available c m h)) _ _ P (λ y. stays_lists m _ list new lists is refl refl refl)
     (λ n. cond_both (m.halted && (slice_index m.taken h == next m)) _ _ P (λ y. same) (λ n'. cond_both (nat_lt (slice_index m.taken h) (cursor c m)) _ _ P (λ y. same) (λ n''. same)))
 
-accepted_lists : (c : Setup) (m : State) (command : Command) (list new : List Sequence) → IsHeld c m → Lists list m → Takes command list new → Lists new (accepted c m command).state
+accepted_lists : (c : Setup) (m : State) (command : Command) (list new : List Sequence) → IsHeld c m → Lists list m
+    → Takes command list new → Lists new (accepted c m command).state
 accepted_lists c m (Claim p n) list new held lists takes = claim_lists c m p n list new held lists takes
 accepted_lists c m (Write p s event) list new held lists takes = write_lists c m p s event list new lists takes
 accepted_lists c m (Publish p lo hi) list new held lists takes = publish_lists c m p lo hi list new lists takes
@@ -82,7 +89,8 @@ accepted_lists c m (Complete h upto) list new held lists takes = stays_lists m _
 accepted_lists c m Halt list new held lists takes = stays_lists m _ list new lists takes refl refl refl
 accepted_lists c m (Retire h) list new held lists takes = stays_lists m _ list new lists takes refl refl refl
 
-step_lists : (c : Setup) (m : State) (command : Command) (list new : List Sequence) → IsHeld c m → Lists list m → Takes command list new → is_kept (step c m command).reply ≡ true → Lists new (step c m command).state
+step_lists : (c : Setup) (m : State) (command : Command) (list new : List Sequence) → IsHeld c m → Lists list m
+    → Takes command list new → is_kept (step c m command).reply ≡ true → Lists new (step c m command).state
 step_lists c m command list new held lists takes keeps =
     unless-cases (λ (o : Outcome). is_kept o.reply ≡ true → Lists new o.state) (refusals c m command) m (accepted c m command) (λ r e. absurd (cc)) (λ none e. accepted_lists c m command list new held lists takes) keeps
 
@@ -106,11 +114,13 @@ pub record Passed (c : Setup) (list : List Sequence) (rest : List Entry) (end : 
   pub lists : Lists list state
   pub follows : Follows c state rest end
 
-pub passed_none : (c : Setup) (list : List Sequence) (entries : List Entry) (end : State) → list ≡ [] → Follows c (opening c) entries end → Passed c list entries end
+pub passed_none : (c : Setup) (list : List Sequence) (entries : List Entry) (end : State) → list ≡ []
+    → Follows c (opening c) entries end → Passed c list entries end
 passed_none c list entries end is follows =
     rw is (record { state = opening c; held = opening_held c; lists = record { length = refl; at = λ s l. absurd (omega arith) }; follows = follows })
 
-pub passed_more : (c : Setup) (list new : List Sequence) (e : Entry) (rest : List Entry) (end : State) → Passed c list (e ∷ rest) end → Takes e.command list new → Passed c new rest end
+pub passed_more : (c : Setup) (list new : List Sequence) (e : Entry) (rest : List Entry) (end : State)
+    → Passed c list (e ∷ rest) end → Takes e.command list new → Passed c new rest end
 passed_more c list new e rest end at takes = record {
   state = (step c at.state e.command).state;
   held = step_held c at.state e.command at.held;
@@ -118,7 +128,8 @@ passed_more c list new e rest end at takes = record {
   follows = at.follows.2;
 }
 
-pub passed_speaks : (c : Setup) (list : List Sequence) (e : Entry) (rest : List Entry) (end : State) → Passed c list (e ∷ rest) end → Speaks e.command (length list)
+pub passed_speaks : (c : Setup) (list : List Sequence) (e : Entry) (rest : List Entry) (end : State)
+    → Passed c list (e ∷ rest) end → Speaks e.command (length list)
 passed_speaks c list e rest end at =
     let speaks : Speaks e.command (next at.state) = step_speaks c at.state e.command (ap is_kept at.follows.0 ∙ at.follows.1) in
     rw (at.lists.length) speaks
@@ -127,13 +138,17 @@ pub passed_all : (c : Setup) (list : List Sequence) (end : State) → Passed c l
 passed_all c list end at = rw (← at.follows) at.lists
 
 -- a transcript of kept entries is followed
-pub follows_of : (c : Setup) (m : State) (entries : List Entry) (values : List Event) (end : State) → AreKept entries → LeadsFrom c m (transcript_of_entries entries values) end → Follows c m entries end
+pub follows_of : (c : Setup) (m : State) (entries : List Entry) (values : List Event) (end : State) → AreKept entries
+    → LeadsFrom c m (transcript_of_entries entries values) end → Follows c m entries end
 follows_of c m [] values end all leads = leads
 follows_of c m (e ∷ es) values end all leads = (leads.0, all.0, follows_of c (step c m e.command).state es (drop (count_in e.reply) values) end all.1 leads.2)
 
 -- the same at one iteration of a loop over the entries
-pub speaks_at : (c : Setup) (list : List Sequence) (entries : List Entry) (i : ℕ) (d : Entry) (end : State) → i < length entries → Passed c list (drop i entries) end → Speaks (get_or entries i d).command (length list)
+pub speaks_at : (c : Setup) (list : List Sequence) (entries : List Entry) (i : ℕ) (d : Entry) (end : State)
+    → i < length entries → Passed c list (drop i entries) end → Speaks (get_or entries i d).command (length list)
 speaks_at c list entries i d end l at = passed_speaks c list (get_or entries i d) (drop (i + 1) entries) end (rw (drop_more entries i d l) at at)
 
-pub passed_at : (c : Setup) (list new : List Sequence) (entries : List Entry) (i : ℕ) (d : Entry) (end : State) → i < length entries → Passed c list (drop i entries) end → Takes (get_or entries i d).command list new → Passed c new (drop (i + 1) entries) end
+pub passed_at : (c : Setup) (list new : List Sequence) (entries : List Entry) (i : ℕ) (d : Entry) (end : State)
+    → i < length entries → Passed c list (drop i entries) end → Takes (get_or entries i d).command list new
+    → Passed c new (drop (i + 1) entries) end
 passed_at c list new entries i d end l at takes = passed_more c list new (get_or entries i d) (drop (i + 1) entries) end (rw (drop_more entries i d l) at at) takes

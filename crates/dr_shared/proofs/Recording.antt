@@ -64,7 +64,8 @@ step_stays : (c : Setup) (m : State) (command : Command) → Stays m (step c m c
 step_stays c m command = unless-cases (Stays m) (refusals c m command) m (accepted c m command) (λ r e. refl) (λ none. accepted_stays c m command)
 
 -- a call that is not kept
-pub recorded_same : (old new : CoreView) (entries : List Entry) (values more : List Event) (command : Command) (reply : Reply) → is_kept reply ≡ false → IsStep old command reply more new
+pub recorded_same : (old new : CoreView) (entries : List Entry) (values more : List Event) (command : Command) (reply : Reply)
+    → is_kept reply ≡ false → IsStep old command reply more new
     → IsRecorded (record { core = old; entries = entries; values = values }) → IsRecorded (record { core = new; entries = entries; values = values })
 recorded_same old new entries values more command reply e is r =
     let m : State = r.runs.state in
@@ -77,7 +78,8 @@ kept_push [] e all keeps = (keeps, tt)
 kept_push (x ∷ xs) e all keeps = (all.0, kept_push xs e all.1 keeps)
 
 -- a call that is kept
-pub recorded_more : AllLeadOn → (old new : CoreView) (entries : List Entry) (values more : List Event) (command : Command) (reply : Reply)
+pub recorded_more : AllLeadOn
+    → (old new : CoreView) (entries : List Entry) (values more : List Event) (command : Command) (reply : Reply)
     → is_kept reply ≡ true → length more ≡ count_in reply → IsStep old command reply more new
     → IsRecorded (record { core = old; entries = entries; values = values })
     → IsRecorded (record { core = new; entries = entries ++ record { command = command; reply = reply } ∷ []; values = values ++ more })
@@ -85,8 +87,8 @@ recorded_more on old new entries values more command reply keeps len is r =
     let e : Entry = record { command = command; reply = reply } in
     let same : length (map (λ e. e.reply) entries) ≡ length (map (λ e. e.command) entries) = length-map entries (λ e. e.reply) ∙ sym (length-map entries (λ e. e.command)) in
     let push : transcript_of_entries (entries ++ e ∷ []) (values ++ more) ≡ transcript_of_entries entries values ++ entry_with command reply more ∷ [] =
-        rw (map_push (λ e. e.command) entries e, map_push (λ e. e.reply) entries e)
-        (transcript_push (map (λ e. e.command) entries) (map (λ e. e.reply) entries) values command reply more same r.counted len) in
+    rw (map_push (λ e. e.command) entries e, map_push (λ e. e.reply) entries e)
+    (transcript_push (map (λ e. e.command) entries) (map (λ e. e.reply) entries) values command reply more same r.counted len) in
     record {
       small = rw is.same_setup r.small;
       kept = kept_push entries e r.kept keeps;

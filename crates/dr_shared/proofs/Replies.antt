@@ -54,19 +54,22 @@ none_right (x ∷ xs) (y ∷ ys) is none = (may_fail x.0 y.0 is.0 none.0, none_r
 abbrev FirstOf : Refusal → List (Bool × Refusal) → Type 0
 FirstOf r tests = IsFirst (λ b. b ≡ true) (λ b. b ≡ false) r tests
 
-first_right : (r : Refusal) (xs : List (Bool × Refusal)) (ys : List (Verdict × Refusal)) → AreRight xs ys → FirstOf r xs → IsFirst MayHold MayFail r ys
+first_right : (r : Refusal) (xs : List (Bool × Refusal)) (ys : List (Verdict × Refusal)) → AreRight xs ys
+    → FirstOf r xs → IsFirst MayHold MayFail r ys
 first_right r [] ys is h = absurd h
 first_right r (x ∷ xs) [] is h = absurd is
 first_right r (x ∷ xs) (y ∷ ys) is (inl h) = inl (may_hold x.0 y.0 is.0 h.0, sym is.1 ∙ h.1)
 first_right r (x ∷ xs) (y ∷ ys) is (inr h) = inr (may_fail x.0 y.0 is.0 h.0, first_right r xs ys is.2 h.1)
 
-right_join : (xs xs' : List (Bool × Refusal)) (ys ys' : List (Verdict × Refusal)) → AreRight xs ys → AreRight xs' ys' → AreRight (xs ++ xs') (ys ++ ys')
+right_join : (xs xs' : List (Bool × Refusal)) (ys ys' : List (Verdict × Refusal)) → AreRight xs ys → AreRight xs' ys'
+    → AreRight (xs ++ xs') (ys ++ ys')
 right_join [] xs' [] ys' is is' = is'
 right_join [] xs' (y ∷ ys) ys' is is' = absurd is
 right_join (x ∷ xs) xs' [] ys' is is' = absurd is
 right_join (x ∷ xs) xs' (y ∷ ys) ys' is is' = (is.0, is.1, right_join xs xs' ys ys' is.2 is')
 
-right_stretch : (tests : ℕ → List (Bool × Refusal)) (told : ℕ → List (Verdict × Refusal)) → ((s : ℕ) → AreRight (tests s) (told s)) → (lo n : ℕ)
+right_stretch : (tests : ℕ → List (Bool × Refusal)) (told : ℕ → List (Verdict × Refusal))
+    → ((s : ℕ) → AreRight (tests s) (told s)) → (lo n : ℕ)
     → AreRight (flat_map tests (range_with_len lo n)) (flat_map told (range_with_len lo n))
 right_stretch tests told are lo zero = tt
 right_stretch tests told are lo (suc n) = right_join (tests lo) _ (told lo) _ (are lo) (right_stretch tests told are (lo + 1) n)
@@ -79,7 +82,8 @@ answers P (test ∷ tests) m o refuses accepts =
     cond_both test.0 (unchanged (RefusedReply test.1) m) (unless tests m o) P (λ h. refuses test.1 (inl (h, refl)))
     (λ h. answers P tests m o (λ r f. refuses r (inr (h, f))) (λ n. accepts (h, n)))
 
-tells : (P : Reply → Type 0) (tests : List (Bool × Refusal)) (told : List (Verdict × Refusal)) (m : State) (o : Outcome) → AreRight tests told
+tells : (P : Reply → Type 0) (tests : List (Bool × Refusal)) (told : List (Verdict × Refusal)) (m : State) (o : Outcome)
+    → AreRight tests told
     → ((r : Refusal) → IsFirst MayHold MayFail r told → P (RefusedReply r)) → (NoneHold tests → NoneHolds MayFail told → P o.reply)
     → P (unless tests m o).reply
 tells P tests told m o right refuses accepts =
@@ -121,7 +125,8 @@ PollTells max other = ⊥
 some_or : (a b : Bool) → a ≡ true → (a || b) ≡ true
 some_or a b e = rw e refl
 
-claim_right : (c : Setup) (m : State) (p n : ℕ) → c.limit ≤ 2 ^ 62 → AreRight (refusals c m (Claim p n)) (claim_causes (claim_tests None n))
+claim_right : (c : Setup) (m : State) (p n : ℕ) → c.limit ≤ 2 ^ 62
+    → AreRight (refusals c m (Claim p n)) (claim_causes (claim_tests None n))
 claim_right c m p n small =
     (unsaid _, refl, (some_or (n == 0) (nat_lt c.size n), refl, (unsaid _, refl, ((λ past. grind (arith, nat_tests, past, small)), refl, (unsaid _, refl, tt)))))
 
@@ -139,7 +144,8 @@ write_step c m p s e =
     tells (WriteTells s) (refusals c m (Write p s e)) (write_causes (write_tests None s)) m (accepted c m (Write p s e))
     (unsaid _, refl, (unsaid _, refl, (unsaid _, refl, (unsaid _, refl, tt)))) (λ r first. first) (λ none known. known)
 
-publish_right : (c : Setup) (m : State) (p lo hi : ℕ) → AreRight (refusals c m (Publish p lo hi)) (publish_causes lo hi (publish_tests None lo hi))
+publish_right : (c : Setup) (m : State) (p lo hi : ℕ)
+    → AreRight (refusals c m (Publish p lo hi)) (publish_causes lo hi (publish_tests None lo hi))
 publish_right c m p lo hi =
     let stretch = right_stretch (publish_faults m p) (λ s. sequence_causes (sequence_tests None s)) (λ s. (unsaid _, refl, (unsaid _, refl, (unsaid _, refl, tt)))) lo (hi + 1 - lo) in
     let order = right_join (flat_map (publish_faults m p) (range_with_len lo (hi + 1 - lo))) _ _ _ stretch (unsaid _, refl, tt) in
@@ -164,7 +170,8 @@ poll_accepted c m h max some small known =
     (λ n. cond_both (m.halted && (slice_index m.taken h == next m)) _ _ P (λ y. known)
     (λ n'. cond_both (nat_lt (slice_index m.taken h) (cursor c m)) _ _ P (λ y. known) (λ n''. known)))
 
-poll_step : (c : Setup) (t : Transcript) (m : State) (h max : ℕ) → c.limit ≤ 2 ^ 62 → LeadsTo c t m → PollTells max (step c m (Poll h max)).reply
+poll_step : (c : Setup) (t : Transcript) (m : State) (h max : ℕ) → c.limit ≤ 2 ^ 62 → LeadsTo c t m
+    → PollTells max (step c m (Poll h max)).reply
 poll_step c t m h max small leads =
     tells (PollTells max) (refusals c m (Poll h max)) (poll_verdicts max) m (accepted c m (Poll h max))
     (unsaid _, refl, (unsaid _, refl, (refl, refl, tt))) (λ r first. first)
@@ -179,13 +186,16 @@ poll_step c t m h max small leads =
 pub claim_tells : (p n : ℕ) (reply : Reply) (values : List Event) → IsAnswer (Claim p n) reply values → ClaimTells n reply
 claim_tells p n reply values is = subst (ClaimTells n) is.replies (claim_step is.core.setup is.runs.state p n is.small)
 
-pub write_tells : (p s : ℕ) (e : Event) (reply : Reply) (values : List Event) → IsAnswer (Write p s e) reply values → WriteTells s reply
+pub write_tells : (p s : ℕ) (e : Event) (reply : Reply) (values : List Event) → IsAnswer (Write p s e) reply values
+    → WriteTells s reply
 write_tells p s e reply values is = subst (WriteTells s) is.replies (write_step is.core.setup is.runs.state p s e)
 
-pub publish_tells : (p lo hi : ℕ) (reply : Reply) (values : List Event) → IsAnswer (Publish p lo hi) reply values → PublishTells lo hi reply
+pub publish_tells : (p lo hi : ℕ) (reply : Reply) (values : List Event) → IsAnswer (Publish p lo hi) reply values
+    → PublishTells lo hi reply
 publish_tells p lo hi reply values is = subst (PublishTells lo hi) is.replies (publish_step is.core.setup is.runs.state p lo hi)
 
-pub complete_tells : (h upto : ℕ) (reply : Reply) (values : List Event) → IsAnswer (Complete h upto) reply values → CompleteTells upto reply
+pub complete_tells : (h upto : ℕ) (reply : Reply) (values : List Event) → IsAnswer (Complete h upto) reply values
+    → CompleteTells upto reply
 complete_tells h upto reply values is = subst (CompleteTells upto) is.replies (complete_step is.core.setup is.runs.state h upto)
 
 pub poll_tells : (h max : ℕ) (reply : Reply) (values : List Event) → IsAnswer (Poll h max) reply values → PollTells max reply

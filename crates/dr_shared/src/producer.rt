@@ -8,8 +8,8 @@ ghost use Rattle.dr_shared.specs.Work.{Adds, Writing};
 
 use crate::fault::WorkFault;
 use crate::gate::Gate;
-use crate::turns::Turns;
 use crate::retries::{claim, publish, write};
+use crate::turns::Turns;
 use dr_core::{Claimed, Inlet, Trouble};
 use dr_seq::Event;
 use std::sync::Wait;

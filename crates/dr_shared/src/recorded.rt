@@ -10,7 +10,9 @@ ghost use Rattle.dr_shared.specs.History.{IsRecorded, asked, entries_after};
 ghost use Rattle.dr_shared.specs.Lock.{IsAnswer};
 
 use crate::entry::{Entry, batch_len, is_kept};
-use dr_core::{Command, Core, Mode, OpenFault, Reply, every_step_leads_on, every_transcript_is_lawful};
+use dr_core::{
+    Command, Core, Mode, OpenFault, Reply, every_step_leads_on, every_transcript_is_lawful,
+};
 use dr_graph::Graph;
 use dr_seq::{Event, Size};
 use std::alloc::{AllocError, Global};

@@ -69,11 +69,7 @@ pub(crate) fn publish<R: Wait, I: Inlet>(
 }
 
 /// Completes all events below `upto`, once there is memory for the call.
-pub(crate) fn complete<R: Wait, O: Outlet>(
-    rt: &R,
-    outlet: &mut O,
-    upto: u64,
-) -> Result<(), Trouble>
+pub(crate) fn complete<R: Wait, O: Outlet>(rt: &R, outlet: &mut O, upto: u64) -> Result<(), Trouble>
     ensures kept { O.kept outlet.new ≡ O.kept outlet.old }
     ensures told { O.told outlet.new ≡ O.told outlet.old }
     ensures completed { OnOk result (WhereShown (Completes upto (Ok tt)) (O.received outlet.old) (O.received outlet.new)) }

@@ -194,10 +194,7 @@ impl<L: Ledger> Shared<L> {
 
 /// Takes the history from behind its lock, once all ends are back: it has as many entries as it
 /// began with and as the ends counted. Where an end is missing, all is handed back.
-pub fn finish<L: Ledger>(
-    shared: Shared<L>,
-    ends: Vec<End<L>>,
-) -> Result<Recorded, Unfinished<L>>
+pub fn finish<L: Ledger>(shared: Shared<L>, ends: Vec<End<L>>) -> Result<Recorded, Unfinished<L>>
     ensures missing { IsErr result ↔ (vec_len ends < shared.given) }
     ensures entries { IfOk result (λ recorded. length recorded.history.entries ≡ shared.begun + sum ends.items) }
     ensures back { IfErr result (λ unfinished. (unfinished.shared ≡ shared) × (unfinished.ends ≡ ends)) }

@@ -12,11 +12,7 @@ fn two_ends(rt: HostRuntime) -> Result<(), Fail> {
 }
 
 /// One end sends an event, the other receives it, and both come back.
-fn by_two_ends<L: Ledger, R: Wait + Abort>(
-    rt: &R,
-    alloc: Global,
-    blank: Blank,
-) -> Result<(), Fail>
+fn by_two_ends<L: Ledger, R: Wait + Abort>(rt: &R, alloc: Global, blank: Blank) -> Result<(), Fail>
     requires name { blank.name ≡ L.name }
     requires parts { blank.parts ≡ L.parts }
     requires ends { blank.parts ≡ 65 }
@@ -27,7 +23,12 @@ fn by_two_ends<L: Ledger, R: Wait + Abort>(
     let mut out = [Event::NONE; 8];
     shared.call(rt, &mut one, Command::Claim { p: 0, n: 1 }, &mut out)?;
     shared.call(rt, &mut one, write(0, 0, 5), &mut out)?;
-    shared.call(rt, &mut one, Command::Publish { p: 0, lo: 0, hi: 0 }, &mut out)?;
+    shared.call(
+        rt,
+        &mut one,
+        Command::Publish { p: 0, lo: 0, hi: 0 },
+        &mut out,
+    )?;
     shared.call(rt, &mut two, Command::Poll { h: 0, max: 8 }, &mut out)?;
     assert_eq!(rt; out[0], word(5));
     shared.call(rt, &mut two, Command::Complete { h: 0, upto: 1 }, &mut out)?;
@@ -100,7 +101,10 @@ fn by_inlet_and_outlet<L: Ledger, R: Wait + Abort>(
     let mut outlet = LockedOutlet::new(rt, &shared, two, 0);
     let mut out = [Event::NONE; 2];
     assert_eq!(rt; inlet.try_claim(1), Ok(Claimed { lo: 0, hi: 0 }));
-    assert_eq!(rt; inlet.publish(0, 0), Err(Trouble::Refused(Refusal::NotWritten)));
+    assert_eq!(rt;
+        inlet.publish(0, 0),
+        Err(Trouble::Refused(Refusal::NotWritten))
+    );
     assert_eq!(rt; inlet.write(0, word(5)), Ok(()));
     assert_eq!(rt; outlet.poll_into(&mut out), Ok(Polled::Gating));
     assert_eq!(rt; inlet.publish(0, 0), Ok(()));
@@ -112,7 +116,10 @@ fn by_inlet_and_outlet<L: Ledger, R: Wait + Abort>(
     assert_eq!(rt; outlet.poll_into(&mut out), Ok(batch));
     assert_eq!(rt; out, [word(5), Event::NONE]);
     assert_eq!(rt; outlet.poll_into(&mut out), Ok(Polled::Idle));
-    assert_eq!(rt; outlet.complete(2), Err(Trouble::Refused(Refusal::NotTaken)));
+    assert_eq!(rt;
+        outlet.complete(2),
+        Err(Trouble::Refused(Refusal::NotTaken))
+    );
     assert_eq!(rt; outlet.complete(1), Ok(()));
     shared.call(rt, &mut halter, Command::Halt, &mut [])?;
     assert_eq!(rt; inlet.try_claim(1), Err(Trouble::Refused(Refusal::Halted)));

@@ -74,13 +74,7 @@ fn one(alloc: Global, mode: Mode) -> Result<Recorded, Fail> {
     opened(alloc, side_by_side(alloc, &["a"])?, mode)
 }
 
-fn sized(
-    alloc: Global,
-    graph: Graph,
-    size: u64,
-    mode: Mode,
-    limit: u64,
-) -> Result<Recorded, Fail> {
+fn sized(alloc: Global, graph: Graph, size: u64, mode: Mode, limit: u64) -> Result<Recorded, Fail> {
     let size = Size::new(size)?;
     Ok(Recorded::open(alloc, graph, size, mode, limit, 0, 0)?)
 }
@@ -129,7 +123,13 @@ fn gap_between_producers(rt: HostRuntime) -> Result<(), Fail> {
         (Poll { h: 0, max: 8 }, batch(0, 3, true)),
     ];
     let recorded = one(rt.alloc(), Mode::Multi(2))?;
-    play(&rt, rt.alloc(), recorded, &run, &[word(4), word(5), word(6)])
+    play(
+        &rt,
+        rt.alloc(),
+        recorded,
+        &run,
+        &[word(4), word(5), word(6)],
+    )
 }
 
 /// Two handlers in line, numbers 0 and 1.

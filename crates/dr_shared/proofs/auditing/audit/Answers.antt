@@ -24,7 +24,7 @@ returns-in_err-check_scripts-clause-fault c =
     let lists : Lists list r.runs.state = c.in_ok-list.ensures k.core.setup r.runs.state (followed k r _ c.history.ensures.entries) in
     let d : Differs list scripts c.in_err-check_scripts.field-0.0 = rw (c.deref.ensures.value) at c.in_err-check_scripts.ensures.fault in
     let f : Faults (transcript k) (handlers k.core.setup) scripts c.in_err-check_scripts.field-0.0 =
-        scripts_fault c.every_transcript_tells_its_state.ensures k r list lists scripts c.in_err-check_scripts.field-0.0 d in
+    scripts_fault c.every_transcript_tells_its_state.ensures k r list lists scripts c.in_err-check_scripts.field-0.0 d in
     let p = err_from_is_err_and c.from_residual-in_err-check_scripts.result c.from_residual-in_err-check_scripts.ensures.1 in
     rw (p.1, p.2) f
 
@@ -41,9 +41,9 @@ returns-in_err-check_drained-clause-fault c =
     let few : producers k.core.setup.mode ≤ bound = omega (arith, c.max-producers.ensures, c.producers.ensures) in
     let short : length scripts ≤ bound = omega (arith, c.max-producers.ensures, long) in
     let f : Faults (transcript k) (handlers k.core.setup) scripts c.in_err-check_drained.field-0.0 =
-        drained_fault c.every_transcript_tells_its_state.ensures k r list lists scripts bound few short same c.in_ok-all.all.items
-        (c.in_ok-all.ensures ∙ ap published_of c.deref-2.ensures.value) c.len.result (c.len.ensures ∙ c.in_ok-all.all.ok.0)
-        c.in_err-check_drained.field-0.0 c.in_err-check_drained.ensures.fault in
+    drained_fault c.every_transcript_tells_its_state.ensures k r list lists scripts bound few short same c.in_ok-all.all.items
+    (c.in_ok-all.ensures ∙ ap published_of c.deref-2.ensures.value) c.len.result (c.len.ensures ∙ c.in_ok-all.all.ok.0)
+    c.in_err-check_drained.field-0.0 c.in_err-check_drained.ensures.fault in
     let p = err_from_is_err_and c.from_residual-in_err-check_drained.result c.from_residual-in_err-check_drained.ensures.1 in
     rw (p.1, p.2) f
 
