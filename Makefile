@@ -11,6 +11,7 @@ disruptor: crates.txt $(shell find crates -name '*.rt' -o -name '*.antt' | grep 
 
 run: disruptor
 	./disruptor drive examples/first_event.csv
+	./disruptor replay --by ring examples/accounts.csv
 
 test:
 	tests/steps_in_laws.sh

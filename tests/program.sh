@@ -60,9 +60,10 @@ run_closed() { # STATUS ERR WORD..
 }
 
 # A case whose file has this text.
-run_text() { # TOOL TEXT STATUS OUT ERR
+run_text() { # WORDS TEXT STATUS OUT ERR
     printf '%s' "$2" > "$room/text.csv"
-    "$program" "$1" "$room/text.csv" > "$room/out" 2> "$room/err" < /dev/null
+    # shellcheck disable=SC2086 # the words are apart
+    "$program" $1 "$room/text.csv" > "$room/out" 2> "$room/err" < /dev/null
     judge "$1 of ${2@Q}" $? "$3" "$4" "$5"
 }
 
@@ -80,6 +81,16 @@ accounts="$(printf '%s\n' 'journal 6' 0,0,deposit,1,1000 1,1,deposit,2,500 2,0,t
 run 0 "$accounts" '' replay accounts.csv
 run 0 "$accounts" '' replay --size 1 accounts.csv
 run 0 "$accounts" '' replay --size=65536 --by plain accounts.csv
+for size in 1 2 4 1024; do
+    run 0 "$accounts" '' replay --by ring --size $size accounts.csv
+done
+for way in ring lock; do
+    run 0 "$(printf '%s\n' 'journal 3' 0,0,deposit,1,100 1,0,withdraw,1,40 2,0,withdraw,1,500 \
+        'replica 3' 0001000100000064 0002000100000028 00020001000001f4 'business 3' 1,60,1)"$'\n' '' replay --by $way three_events.csv
+    run_text "replay --by $way" $'0,deposit,1,100\n0,deposit,1\n' 2 '' $'record 2: bad record\n'
+    run 4 '' $'cannot read\n' replay --by $way no-such-file.csv
+    run_full 4 $'cannot write\n' replay --by $way accounts.csv
+done
 run 0 "$(printf '%s\n' 'journal 3' 0,0,deposit,1,100 1,0,withdraw,1,40 2,0,withdraw,1,500 \
     'replica 3' 0001000100000064 0002000100000028 00020001000001f4 'business 3' 1,60,1)"$'\n' '' replay three_events.csv
 
