@@ -13,7 +13,8 @@ use Rattle.dr_shared.specs.Audit.{Faults, FirstLacks, IsAudited, SentScript, Too
 use Rattle.dr_shared.specs.Auditing.{Differs, SentIn, TookIn, Undrained}
 use Rattle.dr_shared.specs.History.{History, IsRecorded, transcript}
 use Rattle.dr_shared.specs.Sequences.{Follows, Lists, published_of, sent_of}
-use Rattle.dr_shared.proofs.Reached.{IsHeld, held, taken_shown, retired_shown}
+use Rattle.dr_core.proofs.Shown.{same_taken, same_retired}
+use Rattle.dr_shared.proofs.Reached.{IsHeld, held}
 use Rattle.dr_shared.proofs.Audited.{published_is, sent_is, received_all, received_some, merged, all_sent}
 use Rattle.dr_shared.proofs.Following.{follows_of}
 
@@ -37,10 +38,10 @@ module _ (all_tell : AllTell) (k : History) (r : IsRecorded k) where
 
   -- what the core counts and remembers is what the transcript tells
   taken_is : (h : ℕ) → taken_by (transcript k) h ≡ slice_index k.core.taken h
-  taken_is h = told.taken h ∙ taken_shown k.core r.runs.state h r.runs.shows
+  taken_is h = told.taken h ∙ ap (λ ns. slice_index ns h) (same_taken r.runs.shows)
 
   retired_is : (h : ℕ) → retired_by (transcript k) h ≡ retired_in k.core h
-  retired_is h = told.retired h ∙ retired_shown k.core r.runs.state h r.runs.shows
+  retired_is h = told.retired h ∙ same_retired r.runs.shows h
 
   module _ (list : List Sequence) (lists : Lists list r.runs.state) (scripts : List (List Event)) where
     sent_as : (q : ℕ) → sent_of list q ≡ published_by (transcript k) q

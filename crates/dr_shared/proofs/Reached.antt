@@ -9,8 +9,6 @@ use Rattle.dr_core.specs.declared.command.Command.{Command}
 use Rattle.dr_core.specs.declared.command.Command.TheVariants.{Claim, Write, Publish, Poll, Complete, Halt, Retire}
 use Rattle.dr_core.specs.Machine.{Setup, State, Outcome, next, front, producers, available, cursor, refusals, accepted, step, opening}
 use Rattle.dr_core.specs.Transcript.{Transcript, LeadsFrom, LeadsTo}
-use Rattle.dr_core.specs.CoreView.{CoreView, retired_in}
-use Rattle.dr_core.specs.Shows.{Shows}
 use Rattle.dr_core.proofs.Steps.{NoneHold, unless-cases}
 use Rattle.dr_core.proofs.FiveLaws.{reached}
 use Rattle.dr_core.proofs.Sound.{offered-le}
@@ -107,10 +105,3 @@ available_claimed c t m h leads =
     let offers : available c m h ≤ front m = offered-le c m (reached c t m leads).sound _ in
     let ahead : front m ≤ next m = (least_is m.published (next m)).within in
     omega arith
-
--- what a core counts and remembers of a handler is so in the states that it shows
-pub taken_shown : (v : CoreView) (m : State) (h : ℕ) → Shows v m → slice_index m.taken h ≡ slice_index v.taken h
-taken_shown v m h shows = rw (shows.taken) refl
-
-pub retired_shown : (v : CoreView) (m : State) (h : ℕ) → Shows v m → m.retired h ≡ retired_in v h
-retired_shown v m h shows = shows.retired h

@@ -3,8 +3,8 @@ use Rattle.std.proofs.lemmas.Bool.{cases_Bool, cases_lt}
 use Rattle.dr_core.specs.declared.command.Command.TheVariants.{Poll}
 use Rattle.dr_core.specs.CoreView.{retired_in}
 use Rattle.dr_core.specs.Machine.{handlers, available, step}
+use Rattle.dr_core.proofs.Shown.{same_retired}
 use Rattle.dr_shared.proofs.Counts.{poll_gives, stranger_gives, retired_gives, other_gives}
-use Rattle.dr_shared.proofs.Reached.{retired_shown}
 use Rattle.dr_shared.proofs.recorded.Recorded.batch_len_of.Goals as goal
 
 pub returns-in-Ok : goal.returns-in-Ok
@@ -16,7 +16,7 @@ returns-in-Ok c =
     let inside : h < handlers setup = elim (cases_lt h (handlers setup)) [ inl l ↦ l | inr g ↦ absurd (cc (c.in-Ok.ensures.stranger.1 g)) ] in
     let left : retired_in core h ≡ false = elim (cases_Bool (retired_in core h)) [ inl y ↦ absurd (cc (c.in-Ok.ensures.retired.1 (inside, y))) | inr n ↦ n ] in
     let ready : c.in-Ok.ready ≡ available setup m h - slice_index m.taken h = c.in-Ok.ensures.count m shows in
-    let gives : length (step setup m (Poll h c.in-Poll.max)).values ≡ min (available setup m h - slice_index m.taken h) c.in-Poll.max = poll_gives setup m h c.in-Poll.max inside (retired_shown core m h shows ∙ left) in
+    let gives : length (step setup m (Poll h c.in-Poll.max)).values ≡ min (available setup m h - slice_index m.taken h) c.in-Poll.max = poll_gives setup m h c.in-Poll.max inside (same_retired shows h ∙ left) in
     omega (arith, c.min.ensures))
 
 pub returns-in-Err : goal.returns-in-Err
@@ -26,7 +26,7 @@ returns-in-Err c =
     let h = c.in-Poll.h in
     elim c.in-Err.ensures.refused [
       | inl stranger ↦ sym (stranger_gives core.setup m h c.in-Poll.max (c.in-Err.ensures.stranger.0 (ap Err stranger)))
-      | inr gone ↦ sym (retired_gives core.setup m h c.in-Poll.max (retired_shown core m h shows ∙ (c.in-Err.ensures.retired.0 (ap Err gone)).1))
+      | inr gone ↦ sym (retired_gives core.setup m h c.in-Poll.max (same_retired shows h ∙ (c.in-Err.ensures.retired.0 (ap Err gone)).1))
     ])
 
 pub returns-in_default : goal.returns-in_default
