@@ -1,4 +1,4 @@
--- How the core keeps what it knows of the recent sequences: by two rounds of the ring, owners by slot, and events by slot.
+-- How the core keeps what it knows of the recent sequences: by two rounds of the ring, a count of those written in order, owners by slot, and events by slot.
 use Rattle.std.specs.Prelude.{◌≡◌, ◌⊎◌, ◌<◌, ℕ, zero, suc, ◌+◌, ◌%◌, Bool, true, false, ◌==◌, ◌||◌, nat_lt, nat_le, if◌then◌else◌, Option, Some, None, List, length, slice_index, slice_set}
 use Rattle.dr_seq.specs.declared.event.Event.{Event}
 use Rattle.dr_seq.specs.Event.{no_event}
