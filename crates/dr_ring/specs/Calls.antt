@@ -1,6 +1,5 @@
 -- What the ends are to their callers, and what each call answers and leaves of what its end knows.
 use Rattle.std.specs.Prelude.{◌≡◌, ◌↔◌, ℕ, ◌+◌, ◌-◌, ◌<◌, ◌≤◌, ◌⊎◌, ◌==◌, ◌&&◌, ◌||◌, IsTrue, true, false, min, List, [], ◌∷◌, ◌++◌, length, take, drop, replicate, slice_index, slice_index_or, Some, None, Result, Ok, Err, Contains}
-use Rattle.atomic_table.specs.Seated.{TableId}
 use Rattle.dr_seq.specs.declared.event.Event.{Event}
 use Rattle.dr_core.specs.declared.refusal.Refusal.{Refusal}
 use Rattle.dr_core.specs.declared.refusal.Refusal.TheVariants.{NoRoom, Halted, BadCount, Exhausted, NotClaimed, AlreadyPublished, NotWritten, OutOfOrder, NotTaken, Behind, OpenClaim}
@@ -13,33 +12,12 @@ use Rattle.dr_ring.specs.declared.record.Look.{Look}
 use Rattle.dr_ring.specs.declared.record.Step.{Step}
 use Rattle.dr_ring.specs.declared.record.SenderRecord.{SenderRecord}
 use Rattle.dr_ring.specs.declared.record.ReceiverRecord.{ReceiverRecord}
-use Rattle.dr_ring.specs.declared.record.HalterRecord.{HalterRecord}
 use Rattle.dr_ring.specs.Ends.{claimed, look, written, published_to, sender_halted, sender_closed, completed_to, IsOpen, AreWritten}
-
--- an end: of which ring it is, what it knows, and what it has stored since the ring's opening
-pub record SenderEnd : Type 0 where
-  pub ring : TableId
-  pub knows : SenderRecord
-  pub stored : List Step
-
-pub record ReceiverEnd : Type 0 where
-  pub ring : TableId
-  pub knows : ReceiverRecord
-  pub stored : List Step
-
-pub record HalterEnd : Type 0 where
-  pub ring : TableId
-  pub knows : HalterRecord
-  pub stored : List Step
 
 -- a call that is not refused stores this and nothing else, and a refused one nothing
 abbrev pub StoresWhereOk : {A E : Type 0} → List Step → List Step → List Step → Result A E → Type 0
 StoresWhereOk stored steps stored' (Ok _) = stored' ≡ stored ++ steps
 StoresWhereOk stored steps stored' (Err _) = stored' ≡ stored
-
--- how many looks an end counts
-abbrev pub looks_counted : List Look → ℕ
-looks_counted looks = min (length looks) 18446744073709551615
 
 -- the sender has made these looks more, and claimed n more
 abbrev pub sender_saw : SenderRecord → List Look → SenderRecord

@@ -6,6 +6,7 @@ pub mod Kept
 pub mod Steps
 pub mod Moments
 pub mod Seats
+pub mod Stations
 pub mod Calls
 pub mod Fits
 pub mod Parts

@@ -5,7 +5,7 @@ use Rattle.dr_core.specs.Ends.{Sent, Received}
 use Rattle.dr_ring.specs.Shape.{Shape}
 use Rattle.dr_ring.specs.declared.record.SenderRecord.{SenderRecord}
 use Rattle.dr_ring.specs.declared.record.ReceiverRecord.{ReceiverRecord}
-use Rattle.dr_ring.specs.Calls.{SenderEnd, ReceiverEnd}
+use Rattle.dr_ring.specs.Stations.{SenderEnd, ReceiverEnd}
 
 abbrev pub sent_of : SenderRecord → Sent
 sent_of r = record { published = r.published; pending = r.pending }

@@ -1,8 +1,9 @@
 //! The steps of a ring over its table, and what every list of them comes to.
 //!
-//! Each kind of step is one function of [`sender`], [`receiver`] or [`halter`]: one load or one
-//! store of one word. Its contract gives what the end knows afterwards from what it knew before
-//! and the word loaded or stored, by the same definition as the step has in [`moments`].
+//! Each end has a station, which is what its steps need, and each kind of step is one function of
+//! a station: one load or one store of one word. Its contract gives what the end knows afterwards
+//! from what it knew before and the word loaded or stored, by the same definition as the step has
+//! in [`moments`].
 
 pub mod halter;
 pub mod receiver;
@@ -22,7 +23,7 @@ ghost use Rattle.dr_ring.specs.Moments.{Runs, opening, picture_of};
 
 use crate::plan::Plan;
 use crate::record::View;
-use atomic_table::{Seat, Shared, Table, TableRule};
+use atomic_table::{Play, Seat, Shared, Table, TableRule};
 use dr_core::every_transcript_is_lawful;
 use std::alloc::Global;
 use std::marker::Brand;
@@ -46,6 +47,11 @@ pub type RingTable = Table<u64, View, Plan, RingRule, Global>;
 
 /// What an end steps with.
 pub type RingSeat = Seat<u64, View>;
+
+// The proof of each step says at the call what the step tells; by itself it tells nothing.
+impl Play<u64, View> for Brand {
+    ghost then = { λ s me n me'. me' ≡ me };
+}
 
 /// A number that a step names, for its proof alone.
 pub trait Names {

@@ -8,12 +8,13 @@
 #![tactic(auto)]
 
 mod body;
+mod claiming;
 pub mod fault;
 pub mod halter;
 pub mod laws;
 pub mod opening;
-mod parts;
 pub mod plan;
+mod polling;
 pub mod receiver;
 pub mod record;
 pub mod sender;

@@ -13,6 +13,9 @@ ghost use Rattle.dr_ring.specs.Making.{receivers_seat, at_ring, AreFreshEnds, fa
 use crate::body::RingBody;
 use crate::fault::RingFault;
 use crate::halter::Halter;
+use crate::laws::halter::HalterStation;
+use crate::laws::receiver::ReceiverStation;
+use crate::laws::sender::SenderStation;
 use crate::laws::{RingSeat, RingTable};
 use crate::plan::Plan;
 use crate::receiver::Receiver;
@@ -53,13 +56,16 @@ fn receivers(
     for number in 0..handlers {
         let next = ring.table.shared.split_seat::<Cut>(&mut rest);
         let own = Arc::try_clone(ring)?;
-        receivers.push(Receiver {
+        let station = ReceiverStation {
             ring: own,
             seat: rest,
             number,
+            looks: 0,
+        };
+        receivers.push(Receiver {
+            station,
             taken: 0,
             completed: 0,
-            looks: 0,
         })?;
         rest = next;
     }
@@ -79,17 +85,21 @@ fn ends(alloc: Global, plan: Plan) -> Result<(Sender, Vec<Receiver>, Halter), Al
     let mut second = ring.table.shared.split_seat::<Cut>(&mut seat);
     let others = ring.table.shared.split_seat::<Cut>(&mut second);
     let receivers = receivers(alloc, &ring, others)?;
-    let halter = Halter {
+    let station = HalterStation {
         ring: Arc::try_clone(&ring)?,
         seat: second,
     };
-    let sender = Sender {
+    let halter = Halter { station };
+    let station = SenderStation {
         ring,
         seat,
+        looks: 0,
+    };
+    let sender = Sender {
+        station,
         claimed: 0,
         published: 0,
         gate: GateCache::new(),
-        looks: 0,
         marks,
         counts,
     };

@@ -3,41 +3,34 @@
 ghost use Rattle.std.specs.Prelude.{◌≡◌, ◌<◌, ◌^◌, ◌||◌, [], ◌∷◌, length, Some};
 ghost use Rattle.dr_core.specs.Ends.{Tells, PollAnswers, CompleteAnswers, is_drained, Takes, Completes};
 ghost use Rattle.dr_ring.specs.Shown.{receiver_place, received_of};
-ghost use Rattle.dr_ring.specs.Calls.{looks_counted, StoresWhereOk, Polls, TriesToComplete};
+ghost use Rattle.dr_ring.specs.Stations.{looks_counted};
+ghost use Rattle.dr_ring.specs.Calls.{StoresWhereOk, Polls, TriesToComplete};
 ghost use Rattle.dr_ring.specs.declared.record.Step.TheVariants.{ReceiverCompletes};
 
-use crate::body::RingBody;
-use crate::laws::{RingSeat, receiver as laws};
-use crate::parts;
+use crate::laws::receiver::ReceiverStation;
+use crate::polling::nothing_offered;
 use dr_core::{Outlet, Polled, Refusal, Trouble};
 use dr_seq::Event;
-use std::alloc::Global;
 use std::marker::Model;
-use std::sync::Arc;
 
 /// The end of one handler, which receives every event after its upstreams. No call waits or takes
 /// memory.
 #[derive(Drop)]
 pub struct Receiver {
-    pub(crate) ring: Arc<RingBody, Global>,
-    pub(crate) seat: RingSeat,
-    pub(crate) number: usize,
+    pub(crate) station: ReceiverStation,
     pub(crate) taken: u64,
     pub(crate) completed: u64,
-    pub(crate) looks: u64,
 }
 
 impl Model for Receiver {
-    ghost use Rattle.std.specs.Arc.{arc_value};
-    ghost use Rattle.dr_ring.specs.Seats.{end_of, stored_of, receiver_of};
-    ghost use Rattle.dr_ring.specs.Calls.{ReceiverEnd};
+    ghost use Rattle.dr_ring.specs.Stations.{ReceiverEnd};
     ghost use Rattle.dr_ring.specs.Fits.{ReceiverFits};
 
     ghost Value = { ReceiverEnd };
 
-    ghost view = { λ s. record { ring = s.seat.table_id; knows = receiver_of s.seat.me.0.ends; stored = stored_of s.seat.me.0 } };
+    ghost view = { λ s. s.station };
 
-    ghost invariant = { λ s. ReceiverFits (arc_value s.ring).table.shared.table_id s.seat.table_id (end_of s.seat.me) (arc_value s.ring).plan s.number s.taken s.completed s.looks };
+    ghost invariant = { λ s. ReceiverFits s.station.knows s.taken s.completed };
 }
 
 impl Receiver {
@@ -46,9 +39,7 @@ impl Receiver {
     ///
     /// It is refused with `BadCount`, and changes nothing, where `out` is empty.
     pub fn poll_into(&mut self, out: &mut [Event]) -> Result<Polled, Refusal>
-        ensures ring { self.new.ring ≡ self.old.ring }
-        ensures plan { self.new.knows.plan ≡ self.old.knows.plan }
-        ensures number { self.new.knows.number ≡ self.old.knows.number }
+        ensures place { receiver_place self.new ≡ receiver_place self.old }
         ensures answer { Polls self.old.knows out.old self.new.knows out.new result }
         ensures fits { length self.new.knows.received < 2 ^ 64 }
         ensures stored { self.new.stored ≡ self.old.stored }
@@ -57,25 +48,15 @@ impl Receiver {
         if out.is_empty() {
             return Err(Refusal::BadCount);
         }
-        let words = &self.ring.table.shared;
-        let plan = &self.ring.plan;
-        let closed = laws::look_at_closed(words, &mut self.seat, plan);
-        let cursor = laws::look_at_cursor(words, &mut self.seat, plan);
-        self.looks = self.looks.saturating_add(2);
-        let available = parts::barrier(
-            words,
-            &mut self.seat,
-            plan,
-            self.number,
-            cursor,
-            &mut self.looks,
-        );
+        let closed = self.station.look_at_closed();
+        let cursor = self.station.look_at_cursor();
+        let available = self.station.barrier(cursor);
         if available <= first {
-            return Ok(parts::nothing_offered(closed, cursor, first));
+            return Ok(nothing_offered(closed, cursor, first));
         }
         let count = (available - first).min(out.len() as u64);
         let (front, _) = out.split_at_mut(count as usize);
-        parts::take_all(words, &mut self.seat, plan, self.number, first, front);
+        self.station.take_all(first, front);
         self.taken = first + count;
         Ok(Polled::Batch {
             first,
@@ -89,9 +70,7 @@ impl Receiver {
     ///
     /// Refusals in their order: `Behind` (more are completed), `NotTaken`. They change nothing.
     pub fn complete(&mut self, upto: u64) -> Result<(), Refusal>
-        ensures ring { self.new.ring ≡ self.old.ring }
-        ensures plan { self.new.knows.plan ≡ self.old.knows.plan }
-        ensures number { self.new.knows.number ≡ self.old.knows.number }
+        ensures place { receiver_place self.new ≡ receiver_place self.old }
         ensures answer { TriesToComplete self.old.knows upto self.new.knows result }
         ensures stored { StoresWhereOk self.old.stored (ReceiverCompletes self.old.knows.number upto ∷ []) self.new.stored result }
     {
@@ -101,13 +80,7 @@ impl Receiver {
         if upto > self.taken {
             return Err(Refusal::NotTaken);
         }
-        laws::complete(
-            &self.ring.table.shared,
-            &mut self.seat,
-            &self.ring.plan,
-            self.number,
-            upto,
-        );
+        self.station.complete(upto);
         self.completed = upto;
         Ok(())
     }
@@ -117,7 +90,7 @@ impl Receiver {
     pub fn looks(&self) -> u64
         ensures { result ≡ looks_counted self.now.knows.looks }
     {
-        self.looks
+        self.station.looks()
     }
 }
 

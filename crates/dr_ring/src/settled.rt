@@ -7,6 +7,7 @@ ghost use Rattle.dr_ring.specs.Ends.{claimed as claimed_of};
 ghost use Rattle.dr_ring.specs.Settling.{LeadsView, Settles, HasRun, AreAllEnds, AreOfRing, Gathers, counts_of, counts_at};
 
 use crate::body::RingBody;
+use crate::laws::sender::SenderStation;
 use crate::laws::{RingSeat, moments, settling};
 use crate::receiver::Receiver;
 use crate::sender::Sender;
@@ -92,15 +93,12 @@ fn gather(
 {
     while let Some(receiver) = receivers.pop() {
         let Receiver {
-            ring: _own,
-            seat: other,
-            number: _,
+            station,
             taken,
             completed,
-            looks: _,
         } = receiver;
         counts[receivers.len()] = HandlerCounts { taken, completed };
-        settling::take_in(&ring.table.shared, seat, other);
+        settling::take_in(&ring.table.shared, seat, station.into_seat());
     }
 }
 
@@ -119,15 +117,18 @@ pub fn settle(sender: Sender, receivers: Vec<Receiver>) -> Settled
     ensures run { HasRun sender.knows (map (λ e. e.knows) receivers.items) }
 {
     let Sender {
-        ring,
-        mut seat,
+        station,
         claimed,
         published,
         gate: _,
-        looks: _,
         marks: _,
         mut counts,
     } = sender;
+    let SenderStation {
+        ring,
+        mut seat,
+        looks: _,
+    } = station;
     gather(&ring, &mut seat, receivers, &mut counts);
     settling::compare(&ring.table.shared, &mut seat);
     moments();
