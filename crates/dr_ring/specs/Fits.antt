@@ -4,6 +4,7 @@ use Rattle.dr_graph.specs.Graph.{finals}
 use Rattle.dr_ring.specs.Shape.{handlers_of}
 use Rattle.dr_ring.specs.Plans.{IsPlan}
 use Rattle.dr_ring.specs.Words.{count_word}
+use Rattle.dr_ring.specs.declared.settled.HandlerCounts.{HandlerCounts}
 use Rattle.dr_ring.specs.declared.record.SenderRecord.{SenderRecord}
 use Rattle.dr_ring.specs.declared.record.ReceiverRecord.{ReceiverRecord}
 use Rattle.dr_ring.specs.Ends.{claimed, last_look}
@@ -19,7 +20,7 @@ abbrev pub IsSeenLeast : SenderRecord → ℕ → Type 0
 IsSeenLeast r least = (f : ℕ) → Contains (finals r.plan.upstreams) f → least ≤ last_look 0 r.looks (count_word f)
 
 -- a sender's numbers of claimed and published sequences, the least count that it remembers, its marks and its room for the handlers' counts
-pub record SenderFits (r : SenderRecord) (n p remembered : ℕ) (ms : List ℕ) (rooms : ℕ) : Type 0 where
+pub record SenderFits (r : SenderRecord) (n p remembered : ℕ) (ms : List ℕ) (rooms : List HandlerCounts) : Type 0 where
   pub made : IsPlan r.plan
   pub whole : r.half ≡ None
   pub next : n ≡ claimed r
@@ -30,7 +31,7 @@ pub record SenderFits (r : SenderRecord) (n p remembered : ℕ) (ms : List ℕ) 
   pub seen : IsSeenLeast r remembered
   pub marks : Marked r.plan.size r ms
   -- room for each handler's counts, for the time when the ends come together
-  pub places : rooms ≡ handlers_of r.plan
+  pub places : length rooms ≡ handlers_of r.plan
 
 pub record ReceiverFits (r : ReceiverRecord) (n done : ℕ) : Type 0 where
   pub half : r.half ≡ None

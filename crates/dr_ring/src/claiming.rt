@@ -8,15 +8,16 @@ ghost use Rattle.dr_ring.specs.Fits.{IsSeenLeast};
 ghost use Rattle.dr_ring.specs.Stations.{HasLoaded};
 ghost use Rattle.dr_ring.specs.Parts.{Scans, AreMarked, HasUnmarked};
 
-use crate::laws::sender::SenderStation;
+use crate::laws::SenderStation;
 use dr_seq::Size;
+use std::marker::Brand;
 
 impl SenderStation {
     /// Looks at halt, and claims nothing.
     pub(crate) fn finds_halt(&mut self) -> bool
         ensures { HasLoaded self.old (halt_looked self.old.knows 0 (if result then 1 else 0)) self.new }
     {
-        self.look_at_halt(0) != 0
+        self.look_at_halt::<Brand>(0) != 0
     }
 
     /// Looks at halt and, where it finds 0, claims so many more, for which there is room.
@@ -24,7 +25,7 @@ impl SenderStation {
         requires { HasRoom self.old.knows.plan self.old.knows more }
         ensures { HasLoaded self.old (halt_looked self.old.knows more (if result then 0 else 1)) self.new }
     {
-        self.look_at_halt(more) == 0
+        self.look_at_halt::<Brand>(more) == 0
     }
 
     /// Gives a number of events that every final handler has completed, at least `need`: the one

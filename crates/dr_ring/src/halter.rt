@@ -1,24 +1,32 @@
-//! An end that halts a ring from any thread.
+//! An end that halts a ring from any thread. Its one call is its one step.
 
 ghost use Rattle.dr_ring.specs.Ends.{halter_halted};
 ghost use Rattle.dr_ring.specs.declared.record.Step.TheVariants.{HalterHalts};
 ghost use Rattle.dr_ring.specs.Stations.{HasStored};
 
-use crate::laws::halter::HalterStation;
-use std::marker::Model;
+use crate::laws::{RingBody, RingSeat};
+use crate::plan::HALT_WORD;
+use std::alloc::Global;
+use std::marker::{Brand, Model};
+use std::sync::Arc;
 
 /// An end that halts the ring: its sender claims no more from then on.
 #[derive(Drop)]
 pub struct Halter {
-    pub(crate) station: HalterStation,
+    pub(crate) ring: Arc<RingBody, Global>,
+    pub(crate) seat: RingSeat,
 }
 
 impl Model for Halter {
-    ghost use Rattle.dr_ring.specs.Stations.{HalterEnd};
+    ghost use Rattle.std.specs.Arc.{arc_value};
+    ghost use Rattle.dr_ring.specs.Seats.{end_of};
+    ghost use Rattle.dr_ring.specs.Stations.{HalterEnd, halter_end, HalterSits};
 
     ghost Value = { HalterEnd };
 
-    ghost view = { λ s. s.station };
+    ghost view = { λ s. halter_end s.seat.table_id s.seat.me };
+
+    ghost invariant = { λ s. HalterSits (arc_value s.ring).table.shared.table_id s.seat.table_id (arc_value s.ring).plan (end_of s.seat.me) };
 }
 
 impl Halter {
@@ -27,6 +35,7 @@ impl Halter {
     pub fn halt(&mut self)
         ensures { HasStored self.old HalterHalts (halter_halted self.old.knows) self.new }
     {
-        self.station.halt();
+        let words = &self.ring.table.shared;
+        words.store::<Brand>(&mut self.seat, HALT_WORD, 1);
     }
 }

@@ -1,14 +1,16 @@
 //! The steps of a ring over its table, and what every list of them comes to.
 //!
 //! Each end has a station, which is what its steps need, and each kind of step is one function of
-//! a station: one load or one store of one word. Its contract gives what the end knows afterwards
-//! from what it knew before and the word loaded or stored, by the same definition as the step has
-//! in [`moments`].
+//! a station (the halter's is [`halt`](crate::Halter::halt)): one load or one store of one word. Its
+//! contract gives what the end knows afterwards from what it knew before and the word loaded or
+//! stored, by the same definition as the step has in [`moments`].
 
-pub mod halter;
-pub mod receiver;
-pub mod sender;
+mod receiver;
+mod sender;
 pub mod settling;
+
+pub(crate) use receiver::ReceiverStation;
+pub(crate) use sender::SenderStation;
 
 ghost use Rattle.std.specs.Prelude.{List, ◌≡◌, ◌<◌, ◌≤◌, slice_index};
 ghost use Rattle.dr_graph.specs.Graph.{IsGraph};
@@ -47,6 +49,13 @@ pub type RingTable = Table<u64, View, Plan, RingRule, Global>;
 
 /// What an end steps with.
 pub type RingSeat = Seat<u64, View>;
+
+/// What all ends of a ring share: its words, and what it was made for.
+#[derive(Drop)]
+pub(crate) struct RingBody {
+    pub(crate) table: RingTable,
+    pub(crate) plan: Plan,
+}
 
 // The proof of each step says at the call what the step tells; by itself it tells nothing.
 impl Play<u64, View> for Brand {

@@ -7,7 +7,6 @@
 //! kind, and [`laws::moments`] the theorem over all lists of steps.
 #![tactic(auto)]
 
-mod body;
 mod claiming;
 pub mod fault;
 pub mod halter;

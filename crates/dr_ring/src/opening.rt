@@ -10,13 +10,9 @@ ghost use Rattle.dr_ring.specs.Seats.{IsAtTable};
 ghost use Rattle.dr_ring.specs.Settling.{AreAllEnds};
 ghost use Rattle.dr_ring.specs.Making.{receivers_seat, at_ring, AreFreshEnds, fault_of};
 
-use crate::body::RingBody;
 use crate::fault::RingFault;
 use crate::halter::Halter;
-use crate::laws::halter::HalterStation;
-use crate::laws::receiver::ReceiverStation;
-use crate::laws::sender::SenderStation;
-use crate::laws::{RingSeat, RingTable};
+use crate::laws::{ReceiverStation, RingBody, RingSeat, RingTable, SenderStation};
 use crate::plan::Plan;
 use crate::receiver::Receiver;
 use crate::record::View;
@@ -85,11 +81,10 @@ fn ends(alloc: Global, plan: Plan) -> Result<(Sender, Vec<Receiver>, Halter), Al
     let mut second = ring.table.shared.split_seat::<Cut>(&mut seat);
     let others = ring.table.shared.split_seat::<Cut>(&mut second);
     let receivers = receivers(alloc, &ring, others)?;
-    let station = HalterStation {
+    let halter = Halter {
         ring: Arc::try_clone(&ring)?,
         seat: second,
     };
-    let halter = Halter { station };
     let station = SenderStation {
         ring,
         seat,

@@ -5,7 +5,7 @@ ghost use Rattle.dr_ring.specs.Calls.{received_all};
 ghost use Rattle.dr_ring.specs.Stations.{HasLoaded};
 ghost use Rattle.dr_ring.specs.Parts.{lesser_of, LooksAtUpstreams, IsOffered, nothing_offered as answer_of};
 
-use crate::laws::receiver::ReceiverStation;
+use crate::laws::ReceiverStation;
 use dr_core::Polled;
 use dr_seq::Event;
 

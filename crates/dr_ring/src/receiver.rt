@@ -4,10 +4,9 @@ ghost use Rattle.std.specs.Prelude.{◌≡◌, ◌<◌, ◌^◌, ◌||◌, [], �
 ghost use Rattle.dr_core.specs.Ends.{Tells, PollAnswers, CompleteAnswers, is_drained, Takes, Completes};
 ghost use Rattle.dr_ring.specs.Shown.{receiver_place, received_of};
 ghost use Rattle.dr_ring.specs.Stations.{looks_counted};
-ghost use Rattle.dr_ring.specs.Calls.{StoresWhereOk, Polls, TriesToComplete};
-ghost use Rattle.dr_ring.specs.declared.record.Step.TheVariants.{ReceiverCompletes};
+ghost use Rattle.dr_ring.specs.Calls.{PollCall, CompleteCall};
 
-use crate::laws::receiver::ReceiverStation;
+use crate::laws::ReceiverStation;
 use crate::polling::nothing_offered;
 use dr_core::{Outlet, Polled, Refusal, Trouble};
 use dr_seq::Event;
@@ -39,10 +38,8 @@ impl Receiver {
     ///
     /// It is refused with `BadCount`, and changes nothing, where `out` is empty.
     pub fn poll_into(&mut self, out: &mut [Event]) -> Result<Polled, Refusal>
-        ensures place { receiver_place self.new ≡ receiver_place self.old }
-        ensures answer { Polls self.old.knows out.old self.new.knows out.new result }
+        ensures call { PollCall self.old out.old self.new out.new result }
         ensures fits { length self.new.knows.received < 2 ^ 64 }
-        ensures stored { self.new.stored ≡ self.old.stored }
     {
         let first = self.taken;
         if out.is_empty() {
@@ -70,9 +67,7 @@ impl Receiver {
     ///
     /// Refusals in their order: `Behind` (more are completed), `NotTaken`. They change nothing.
     pub fn complete(&mut self, upto: u64) -> Result<(), Refusal>
-        ensures place { receiver_place self.new ≡ receiver_place self.old }
-        ensures answer { TriesToComplete self.old.knows upto self.new.knows result }
-        ensures stored { StoresWhereOk self.old.stored (ReceiverCompletes self.old.knows.number upto ∷ []) self.new.stored result }
+        ensures { CompleteCall self.old upto self.new result }
     {
         if upto < self.completed {
             return Err(Refusal::Behind);
@@ -90,16 +85,14 @@ impl Receiver {
     pub fn looks(&self) -> u64
         ensures { result ≡ looks_counted self.now.knows.looks }
     {
-        self.station.looks()
+        self.station.looks
     }
 }
 
 impl Outlet for Receiver {
-    ghost use Rattle.std.specs.Prelude.{ℕ};
-    ghost use Rattle.atomic_table.specs.Seated.{TableId};
-    ghost use Rattle.dr_ring.specs.Shape.{Shape};
+    ghost use Rattle.dr_ring.specs.Shown.{ReceiverPlace};
 
-    ghost Kept = { TableId × Shape × ℕ };
+    ghost Kept = { ReceiverPlace };
 
     ghost kept = { receiver_place };
 
@@ -112,8 +105,7 @@ impl Outlet for Receiver {
         ensures answer { PollAnswers (Some (received_of self.old.knows)) out.old out.new result }
         ensures told { self.new.knows.told ≡ (self.old.knows.told || is_drained result) }
         ensures received { Takes out.new result (received_of self.old.knows) (received_of self.new.knows) }
-        ensures own { Tells (Polls self.old.knows out.old self.new.knows out.new) result }
-        ensures stored { self.new.stored ≡ self.old.stored }
+        ensures own { Tells (PollCall self.old out.old self.new out.new) result }
     {
         Ok(Receiver::poll_into(self, out)?)
     }
@@ -123,8 +115,7 @@ impl Outlet for Receiver {
         ensures answer { CompleteAnswers (Some (received_of self.old.knows)) upto result }
         ensures told { self.new.knows.told ≡ self.old.knows.told }
         ensures received { Completes upto result (received_of self.old.knows) (received_of self.new.knows) }
-        ensures own { Tells (TriesToComplete self.old.knows upto self.new.knows) result }
-        ensures stored { StoresWhereOk self.old.stored (ReceiverCompletes self.old.knows.number upto ∷ []) self.new.stored result }
+        ensures own { Tells (CompleteCall self.old upto self.new) result }
     {
         Ok(Receiver::complete(self, upto)?)
     }

@@ -1,18 +1,17 @@
 //! The one end that claims, writes and publishes.
 
-ghost use Rattle.std.specs.Prelude.{◌≡◌, ◌+◌, [], ◌∷◌, Some};
+ghost use Rattle.std.specs.Prelude.{◌≡◌, Some};
 ghost use Rattle.dr_core.specs.Ends.{Tells, ClaimAnswers, WriteAnswers, PublishAnswers, Claims, Writes, Publishes};
 ghost use Rattle.dr_ring.specs.Shown.{sender_place, sent_of};
 ghost use Rattle.dr_ring.specs.Stations.{looks_counted};
-ghost use Rattle.dr_ring.specs.Calls.{StoresWhereOk, TriesToClaim, TriesToWrite, TriesToPublish, TriesToClose};
-ghost use Rattle.dr_ring.specs.declared.record.Step.TheVariants.{SenderStoresFirst, SenderStoresSecond, SenderPublishes, SenderHalts, SenderCloses};
+ghost use Rattle.dr_ring.specs.Calls.{ClaimCall, WriteCall, PublishCall, CloseCall};
 
 use crate::claiming::all_marked;
-use crate::laws::sender::SenderStation;
+use crate::laws::SenderStation;
 use crate::settled::HandlerCounts;
 use dr_core::{Claimed, Inlet, Refusal, Trouble};
 use dr_seq::{Event, GateCache};
-use std::marker::Model;
+use std::marker::{Brand, Model};
 
 /// The one end that claims, writes and publishes. No call waits or takes memory.
 #[derive(Drop)]
@@ -29,7 +28,6 @@ pub struct Sender {
 }
 
 impl Model for Sender {
-    ghost use Rattle.std.specs.Prelude.{length};
     ghost use Rattle.dr_ring.specs.Stations.{SenderEnd};
     ghost use Rattle.dr_ring.specs.Fits.{SenderFits};
 
@@ -37,7 +35,7 @@ impl Model for Sender {
 
     ghost view = { λ s. s.station };
 
-    ghost invariant = { λ s. SenderFits s.station.knows s.claimed s.published s.gate s.marks.items (length s.counts.items) };
+    ghost invariant = { λ s. SenderFits s.station.knows s.claimed s.published s.gate s.marks.items s.counts.items };
 }
 
 impl Sender {
@@ -48,9 +46,7 @@ impl Sender {
     /// `Exhausted`, `NoRoom`, and `Halted` once more. A refused claim may have looked, and changes
     /// nothing else.
     pub fn try_claim(&mut self, n: u64) -> Result<Claimed, Refusal>
-        ensures place { sender_place self.new ≡ sender_place self.old }
-        ensures answer { TriesToClaim self.old.knows n self.new.knows result }
-        ensures stored { self.new.stored ≡ self.old.stored }
+        ensures { ClaimCall self.old n self.new result }
     {
         let size = self.station.plan().size().get();
         let limit = self.station.plan().limit();
@@ -83,9 +79,7 @@ impl Sender {
     ///
     /// Refusals in their order: `NotClaimed`, `AlreadyPublished`. They change nothing.
     pub fn write(&mut self, sequence: u64, event: Event) -> Result<(), Refusal>
-        ensures place { sender_place self.new ≡ sender_place self.old }
-        ensures answer { TriesToWrite self.old.knows sequence event self.new.knows result }
-        ensures stored { StoresWhereOk self.old.stored (SenderStoresFirst sequence event.first ∷ SenderStoresSecond event.second ∷ []) self.new.stored result }
+        ensures { WriteCall self.old sequence event self.new result }
     {
         if sequence >= self.claimed {
             return Err(Refusal::NotClaimed);
@@ -95,7 +89,7 @@ impl Sender {
         }
         let slot = self.station.plan().size().slot(sequence);
         self.marks[slot] = sequence + 1;
-        self.station.store_first(sequence, event.first);
+        self.station.store_first::<Brand>(sequence, event.first);
         self.station.store_second(sequence, event);
         Ok(())
     }
@@ -106,9 +100,7 @@ impl Sender {
     /// Refusals in their order: `BadCount` (`lo` above `hi`), `NotClaimed`, `AlreadyPublished`,
     /// `NotWritten`, `OutOfOrder`. They change nothing.
     pub fn publish(&mut self, lo: u64, hi: u64) -> Result<(), Refusal>
-        ensures place { sender_place self.new ≡ sender_place self.old }
-        ensures answer { TriesToPublish self.old.knows lo hi self.new.knows result }
-        ensures stored { StoresWhereOk self.old.stored (SenderPublishes (hi + 1) ∷ []) self.new.stored result }
+        ensures { PublishCall self.old lo hi self.new result }
     {
         if lo > hi {
             return Err(Refusal::BadCount);
@@ -136,9 +128,7 @@ impl Sender {
     ///
     /// It is refused with `OpenClaim`, and changes nothing, while a claimed sequence is unpublished.
     pub fn close(&mut self) -> Result<(), Refusal>
-        ensures place { sender_place self.new ≡ sender_place self.old }
-        ensures answer { TriesToClose self.old.knows self.new.knows result }
-        ensures stored { StoresWhereOk self.old.stored (SenderHalts ∷ SenderCloses ∷ []) self.new.stored result }
+        ensures { CloseCall self.old self.new result }
     {
         if self.published != self.claimed {
             return Err(Refusal::OpenClaim);
@@ -152,15 +142,14 @@ impl Sender {
     pub fn looks(&self) -> u64
         ensures { result ≡ looks_counted self.now.knows.looks }
     {
-        self.station.looks()
+        self.station.looks
     }
 }
 
 impl Inlet for Sender {
-    ghost use Rattle.atomic_table.specs.Seated.{TableId};
-    ghost use Rattle.dr_ring.specs.Shape.{Shape};
+    ghost use Rattle.dr_ring.specs.Shown.{SenderPlace};
 
-    ghost Kept = { TableId × Shape };
+    ghost Kept = { SenderPlace };
 
     ghost kept = { sender_place };
 
@@ -170,8 +159,7 @@ impl Inlet for Sender {
         ensures kept { sender_place self.new ≡ sender_place self.old }
         ensures answer { ClaimAnswers (Some (sent_of self.old.knows)) n result }
         ensures sent { Claims n result (sent_of self.old.knows) (sent_of self.new.knows) }
-        ensures own { Tells (TriesToClaim self.old.knows n self.new.knows) result }
-        ensures stored { self.new.stored ≡ self.old.stored }
+        ensures own { Tells (ClaimCall self.old n self.new) result }
     {
         // The plan tells by this call that no sequence reaches 2^62.
         let _limit = self.station.plan().limit();
@@ -182,8 +170,7 @@ impl Inlet for Sender {
         ensures kept { sender_place self.new ≡ sender_place self.old }
         ensures answer { WriteAnswers (Some (sent_of self.old.knows)) s result }
         ensures sent { Writes s event result (sent_of self.old.knows) (sent_of self.new.knows) }
-        ensures own { Tells (TriesToWrite self.old.knows s event self.new.knows) result }
-        ensures stored { StoresWhereOk self.old.stored (SenderStoresFirst s event.first ∷ SenderStoresSecond event.second ∷ []) self.new.stored result }
+        ensures own { Tells (WriteCall self.old s event self.new) result }
     {
         Ok(Sender::write(self, s, event)?)
     }
@@ -192,8 +179,7 @@ impl Inlet for Sender {
         ensures kept { sender_place self.new ≡ sender_place self.old }
         ensures answer { PublishAnswers (Some (sent_of self.old.knows)) lo hi result }
         ensures sent { Publishes lo hi result (sent_of self.old.knows) (sent_of self.new.knows) }
-        ensures own { Tells (TriesToPublish self.old.knows lo hi self.new.knows) result }
-        ensures stored { StoresWhereOk self.old.stored (SenderPublishes (hi + 1) ∷ []) self.new.stored result }
+        ensures own { Tells (PublishCall self.old lo hi self.new) result }
     {
         Ok(Sender::publish(self, lo, hi)?)
     }

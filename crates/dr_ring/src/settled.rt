@@ -6,9 +6,7 @@ ghost use Rattle.dr_ring.specs.Seats.{IsAtTable, end_of};
 ghost use Rattle.dr_ring.specs.Ends.{claimed as claimed_of};
 ghost use Rattle.dr_ring.specs.Settling.{LeadsView, Settles, HasRun, AreAllEnds, AreOfRing, Gathers, counts_of, counts_at};
 
-use crate::body::RingBody;
-use crate::laws::sender::SenderStation;
-use crate::laws::{RingSeat, moments, settling};
+use crate::laws::{ReceiverStation, RingBody, RingSeat, SenderStation, moments, settling};
 use crate::receiver::Receiver;
 use crate::sender::Sender;
 use std::alloc::Global;
@@ -97,8 +95,14 @@ fn gather(
             taken,
             completed,
         } = receiver;
+        let ReceiverStation {
+            ring: _own,
+            seat: other,
+            number: _,
+            looks: _,
+        } = station;
         counts[receivers.len()] = HandlerCounts { taken, completed };
-        settling::take_in(&ring.table.shared, seat, station.into_seat());
+        settling::take_in(&ring.table.shared, seat, other);
     }
 }
 

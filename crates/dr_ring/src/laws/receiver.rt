@@ -3,14 +3,13 @@
 ghost use Rattle.std.specs.Prelude.{◌≡◌, ◌<◌, ◌≤◌, true, None, Some, length, Contains};
 ghost use Rattle.dr_graph.specs.Graph.{upstreams_of};
 ghost use Rattle.dr_ring.specs.Words.{cursor_word, closed_word, count_word as count_word_of};
-ghost use Rattle.dr_ring.specs.Ends.{last_look, receiver_looked, cursor_looked, half_taken, took, completed_to, IsBelowBarrier};
+ghost use Rattle.dr_ring.specs.Ends.{receiver_looked, cursor_looked, half_taken, took, completed_to, IsBelowBarrier};
 ghost use Rattle.dr_ring.specs.declared.record.Step.TheVariants.{ReceiverCompletes};
-ghost use Rattle.dr_ring.specs.Seats.{end_of, IsReceiver};
-ghost use Rattle.dr_ring.specs.Stations.{looks_counted, receiver_end, HasLoaded, HasStored};
+ghost use Rattle.dr_ring.specs.Seats.{FindsClosed, FindsEvents};
+ghost use Rattle.dr_ring.specs.Stations.{HasLoaded, HasStored};
 
-use super::RingSeat;
-use crate::body::RingBody;
-use crate::plan::{CLOSED_WORD, CURSOR_WORD, Plan, count_word};
+use super::{RingBody, RingSeat};
+use crate::plan::{CLOSED_WORD, CURSOR_WORD, count_word};
 use dr_seq::Event;
 use std::alloc::Global;
 use std::marker::{Brand, Model};
@@ -28,7 +27,8 @@ pub(crate) struct ReceiverStation {
 impl Model for ReceiverStation {
     ghost use Rattle.std.specs.Arc.{arc_value};
     ghost use Rattle.dr_ring.specs.Seats.{end_of};
-    ghost use Rattle.dr_ring.specs.Stations.{ReceiverEnd, receiver_end, ReceiverSits};
+    ghost use Rattle.dr_ring.specs.Seats.{FindsClosed, FindsEvents};
+ghost use Rattle.dr_ring.specs.Stations.{ReceiverEnd, receiver_end, ReceiverSits};
 
     ghost Value = { ReceiverEnd };
 
@@ -38,20 +38,6 @@ impl Model for ReceiverStation {
 }
 
 impl ReceiverStation {
-    /// The receiver's seat, once it steps no more.
-    pub(crate) fn into_seat(self) -> RingSeat
-        ensures seat { receiver_end result.table_id result.me ≡ self }
-        ensures end { IsReceiver (end_of result.me) }
-    {
-        let ReceiverStation {
-            ring: _,
-            seat,
-            number: _,
-            looks: _,
-        } = self;
-        seat
-    }
-
     /// The direct upstreams of the handler.
     pub(crate) fn upstreams(&self) -> &[usize]
         ensures { result.now ≡ upstreams_of self.now.knows.plan.upstreams self.now.knows.number }
@@ -59,19 +45,10 @@ impl ReceiverStation {
         self.ring.plan.upstreams(self.number)
     }
 
-    /// How many words the receiver has looked at, payload aside, up to the greatest `u64`.
-    pub(crate) fn looks(&self) -> u64
-        ensures { result ≡ looks_counted self.now.knows.looks }
-    {
-        self.looks
-    }
-
     /// A receiver looks at closed.
     pub(crate) fn look_at_closed(&mut self) -> u64
         ensures step { HasLoaded self.old (receiver_looked self.old.knows closed_word result) self.new }
-        ensures rises { last_look 0 self.old.knows.looks closed_word ≤ result }
-        ensures flag { result ≤ 1 }
-        ensures told { self.old.knows.told ≡ true → result ≡ 1 }
+        ensures finds { FindsClosed self.old.knows closed_word result }
     {
         self.looks = self.looks.saturating_add(1);
         let words = &self.ring.table.shared;
@@ -81,9 +58,7 @@ impl ReceiverStation {
     /// A receiver looks at the cursor, by which it may be told that the ring drained.
     pub(crate) fn look_at_cursor(&mut self) -> u64
         ensures step { HasLoaded self.old (cursor_looked self.old.knows result) self.new }
-        ensures rises { last_look 0 self.old.knows.looks cursor_word ≤ result }
-        ensures taken { length self.old.knows.received ≤ result }
-        ensures told { self.old.knows.told ≡ true → result ≤ length self.old.knows.received }
+        ensures finds { FindsEvents self.old.knows cursor_word result }
     {
         self.looks = self.looks.saturating_add(1);
         let words = &self.ring.table.shared;
@@ -94,9 +69,7 @@ impl ReceiverStation {
     pub(crate) fn look_at_count(&mut self, upstream: usize) -> u64
         requires { Contains (upstreams_of self.old.knows.plan.upstreams self.old.knows.number) upstream }
         ensures step { HasLoaded self.old (receiver_looked self.old.knows (count_word_of upstream) result) self.new }
-        ensures rises { last_look 0 self.old.knows.looks (count_word_of upstream) ≤ result }
-        ensures taken { length self.old.knows.received ≤ result }
-        ensures told { self.old.knows.told ≡ true → result ≤ length self.old.knows.received }
+        ensures finds { FindsEvents self.old.knows (count_word_of upstream) result }
     {
         self.looks = self.looks.saturating_add(1);
         let words = &self.ring.table.shared;
@@ -110,9 +83,8 @@ impl ReceiverStation {
         requires below { IsBelowBarrier self.old.knows.plan self.old.knows.number self.old.knows }
         ensures { HasLoaded self.old (half_taken self.old.knows result) self.new }
     {
-        let word = self.ring.plan.payload_word(taken, 0);
         let words = &self.ring.table.shared;
-        words.load::<Brand>(&mut self.seat, word)
+        words.load::<Brand>(&mut self.seat, self.ring.plan.payload_word(taken, 0))
     }
 
     /// A receiver loads the second word of its next event, whose first word it has just loaded, and
@@ -124,9 +96,8 @@ impl ReceiverStation {
         ensures step { HasLoaded self.old (took self.old.knows result) self.new }
         ensures first { result.first ≡ first }
     {
-        let word = self.ring.plan.payload_word(taken, 1);
         let words = &self.ring.table.shared;
-        let second = words.load::<Brand>(&mut self.seat, word);
+        let second = words.load::<Brand>(&mut self.seat, self.ring.plan.payload_word(taken, 1));
         Event { first, second }
     }
 

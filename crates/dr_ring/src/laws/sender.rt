@@ -3,13 +3,13 @@
 ghost use Rattle.std.specs.Prelude.{◌≡◌, ◌<◌, ◌≤◌, [], true, None, Some, length, Contains};
 ghost use Rattle.dr_graph.specs.Graph.{finals};
 ghost use Rattle.dr_ring.specs.Plans.{IsPlan};
-ghost use Rattle.dr_ring.specs.Words.{halt_word, count_word as count_word_of};
-ghost use Rattle.dr_ring.specs.Ends.{claimed, last_look, sender_looked, halt_looked, half_written, written, published_to, sender_halted, sender_closed, HasRoom, IsOpen, AreWritten};
+ghost use Rattle.dr_ring.specs.Words.{count_word as count_word_of};
+ghost use Rattle.dr_ring.specs.Ends.{claimed, sender_looked, halt_looked, half_written, written, published_to, sender_halted, sender_closed, HasRoom, IsOpen, AreWritten};
 ghost use Rattle.dr_ring.specs.declared.record.Step.TheVariants.{SenderStoresFirst, SenderStoresSecond, SenderPublishes, SenderHalts, SenderCloses};
-ghost use Rattle.dr_ring.specs.Stations.{looks_counted, HasLoaded, HasStored};
+ghost use Rattle.dr_ring.specs.Seats.{FindsCompleted, FindsHalt};
+ghost use Rattle.dr_ring.specs.Stations.{HasLoaded, HasStored};
 
-use super::{Names, RingSeat};
-use crate::body::RingBody;
+use super::{Names, RingBody, RingSeat};
 use crate::plan::{CLOSED_WORD, CURSOR_WORD, HALT_WORD, Plan, count_word};
 use dr_seq::Event;
 use std::alloc::Global;
@@ -27,7 +27,8 @@ pub(crate) struct SenderStation {
 impl Model for SenderStation {
     ghost use Rattle.std.specs.Arc.{arc_value};
     ghost use Rattle.dr_ring.specs.Seats.{end_of};
-    ghost use Rattle.dr_ring.specs.Stations.{SenderEnd, sender_end, SenderSits};
+    ghost use Rattle.dr_ring.specs.Seats.{FindsCompleted, FindsHalt};
+ghost use Rattle.dr_ring.specs.Stations.{SenderEnd, sender_end, SenderSits};
 
     ghost Value = { SenderEnd };
 
@@ -45,32 +46,24 @@ impl SenderStation {
         &self.ring.plan
     }
 
-    /// How many words the sender has looked at, up to the greatest `u64`.
-    pub(crate) fn looks(&self) -> u64
-        ensures { result ≡ looks_counted self.now.knows.looks }
-    {
-        self.looks
-    }
-
     /// The sender looks at a final handler's count.
     pub(crate) fn look_at_count(&mut self, handler: usize) -> u64
         requires { Contains (finals self.old.knows.plan.upstreams) handler }
         ensures step { HasLoaded self.old (sender_looked self.old.knows (count_word_of handler) result) self.new }
-        ensures rises { last_look 0 self.old.knows.looks (count_word_of handler) ≤ result }
-        ensures published { result ≤ length self.old.knows.published }
+        ensures finds { FindsCompleted self.old.knows (count_word_of handler) result }
     {
         self.looks = self.looks.saturating_add(1);
         let words = &self.ring.table.shared;
         words.load::<Brand>(&mut self.seat, count_word(handler))
     }
 
-    fn look_and_claim<J: Names>(&mut self, more: u64) -> u64
+    /// The sender looks at halt and, where it finds 0, claims `more` sequences, for which it has
+    /// seen that there is room.
+    pub(crate) fn look_at_halt<J: Names>(&mut self, more: u64) -> u64
         requires named { more ≡ J.number }
         requires room { 0 < more → HasRoom self.old.knows.plan self.old.knows more }
         ensures step { HasLoaded self.old (halt_looked self.old.knows more result) self.new }
-        ensures rises { last_look 0 self.old.knows.looks halt_word ≤ result }
-        ensures flag { result ≤ 1 }
-        ensures own { self.old.knows.halted ≡ true → result ≡ 1 }
+        ensures finds { FindsHalt self.old.knows result }
     {
         let _more = more;
         self.looks = self.looks.saturating_add(1);
@@ -78,37 +71,16 @@ impl SenderStation {
         words.load::<Brand>(&mut self.seat, HALT_WORD)
     }
 
-    /// The sender looks at halt and, where it finds 0, claims `more` sequences, for which it has
-    /// seen that there is room.
-    pub(crate) fn look_at_halt(&mut self, more: u64) -> u64
-        requires { 0 < more → HasRoom self.old.knows.plan self.old.knows more }
-        ensures step { HasLoaded self.old (halt_looked self.old.knows more result) self.new }
-        ensures rises { last_look 0 self.old.knows.looks halt_word ≤ result }
-        ensures flag { result ≤ 1 }
-        ensures own { self.old.knows.halted ≡ true → result ≡ 1 }
-    {
-        self.look_and_claim::<Brand>(more)
-    }
-
-    fn store_first_named<J: Names>(&mut self, sequence: u64, first: u64)
+    /// The sender stores the first word of the event of a sequence that it has claimed and not
+    /// published.
+    pub(crate) fn store_first<J: Names>(&mut self, sequence: u64, first: u64)
         requires named { sequence ≡ J.number }
         requires own { IsOpen self.old.knows sequence }
         requires whole { self.old.knows.half ≡ None }
         ensures { HasStored self.old (SenderStoresFirst sequence first) (half_written self.old.knows sequence first) self.new }
     {
-        let word = self.ring.plan.payload_word(sequence, 0);
         let words = &self.ring.table.shared;
-        words.store::<Brand>(&mut self.seat, word, first);
-    }
-
-    /// The sender stores the first word of the event of a sequence that it has claimed and not
-    /// published.
-    pub(crate) fn store_first(&mut self, sequence: u64, first: u64)
-        requires own { IsOpen self.old.knows sequence }
-        requires whole { self.old.knows.half ≡ None }
-        ensures { HasStored self.old (SenderStoresFirst sequence first) (half_written self.old.knows sequence first) self.new }
-    {
-        self.store_first_named::<Brand>(sequence, first);
+        words.store::<Brand>(&mut self.seat, self.ring.plan.payload_word(sequence, 0), first);
     }
 
     /// The sender stores the second word of an event whose first word it has just stored.

@@ -19,12 +19,12 @@ pub invariant_of-self-in_default : goal.invariant_of-self-in_default
 invariant_of-self-in_default c =
     fits_saw _ _ _ _ _ _ _ _ (fits_halt _ _ _ _ _ _ _ 0 _ c.self.invariant c.finds_halt.ensures.1 (λ z. refl)) c.in_default.ensures.answer.1
 
-pub returns-in_default-clause-answer : goal.returns-in_default-clause-answer
-returns-in_default-clause-answer c =
+pub returns-in_default : goal.returns-in_default
+returns-in_default c =
     let size = c.get-size.ensures.value ∙ c.size.ensures ∙ ap (λ (k : Shape). k.size) c.plan.ensures.plan in let need = c.saturating_sub-need.ensures in (
       search rules,
+      (search rules, search rules, answer_no_room _ _ _ _ _ c.self.inside.claimed c.args.n _ (ap (λ (e : SenderEnd). e.knows) c.self.view_is) c.if-finds_halt.ensures.1 c.in_default.ensures.answer.1 c.self.invariant.next (omega arith) c.in_default.ensures.answer.2),
       search rules,
-      answer_no_room _ _ _ _ _ c.self.inside.claimed c.args.n _ (ap (λ (e : SenderEnd). e.knows) c.self.view_is) c.if-finds_halt.ensures.1 c.in_default.ensures.answer.1 c.self.invariant.next (omega arith) c.in_default.ensures.answer.2,
     )
 
 pub invariant_of-self-then-not-claims : goal.invariant_of-self-then-not-claims
@@ -33,12 +33,13 @@ invariant_of-self-then-not-claims c =
     let room = fits_room _ _ _ _ _ _ _ _ _ _ _ first c.in-Some.ensures.answer.1 c.in-Some.ensures.answer.2 c.raise.ensures in
     fits_halt _ _ _ _ _ _ _ c.args.n 1 room c.if-not-claims.ensures.1 (λ z. absurd (omega arith))
 
-pub returns-then-not-claims-clause-answer : goal.returns-then-not-claims-clause-answer
-returns-then-not-claims-clause-answer c =
+pub returns-then-not-claims : goal.returns-then-not-claims
+returns-then-not-claims c =
     let size = c.get-size.ensures.value ∙ c.size.ensures ∙ ap (λ (k : Shape). k.size) c.plan.ensures.plan in let limit = c.limit-limit.ensures ∙ ap (λ (k : Shape). k.limit) c.plan-2.ensures.plan in
     let need = c.saturating_sub-need.ensures in let within = c.self.invariant.limit in let fits_limit = c.if-n-limit.false in (
       search rules,
-      inr (answer_halted_late _ _ _ _ _ c.self.inside.claimed c.args.n _ (ap (λ (e : SenderEnd). e.knows) c.self.view_is) c.if-finds_halt.ensures.1 c.in-Some.ensures.answer.1 c.self.invariant.next (omega arith) _ _ c.in-Some.ensures.answer.2 c.if-not-claims.ensures.1 (omega arith)),
+      (search rules, inr (answer_halted_late _ _ _ _ _ c.self.inside.claimed c.args.n _ (ap (λ (e : SenderEnd). e.knows) c.self.view_is) c.if-finds_halt.ensures.1 c.in-Some.ensures.answer.1 c.self.invariant.next (omega arith) _ _ c.in-Some.ensures.answer.2 c.if-not-claims.ensures.1 (omega arith))),
+      search rules,
     )
 
 pub invariant_of-self-2 : goal.invariant_of-self-2

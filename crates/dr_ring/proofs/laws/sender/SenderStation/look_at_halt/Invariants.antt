@@ -1,4 +1,5 @@
+use Rattle.dr_ring.specs.Seats.{Loads, SenderLookedAtHalt}
 use Rattle.dr_ring.proofs.laws.sender.SenderStation.look_at_halt.Given as goal
 
-abbrev pub ghosts-look_and_claim : goal.ghosts-look_and_claim
-ghosts-look_and_claim a = record { number = a.more }
+abbrev pub ghosts-load : goal.ghosts-load
+ghosts-load g a = record { then = Loads (SenderLookedAtHalt g.J.Names.number) }

@@ -2,7 +2,7 @@ use Rattle.std.proofs.Common.{rules, refl, sym, subst, ◌<◌}
 use Rattle.dr_ring.specs.Ends.{HasRoom}
 use Rattle.dr_ring.specs.Stations.{SenderEnd}
 use Rattle.dr_ring.proofs.Allowed.{sender_looks_at_halt}
-use Rattle.dr_ring.proofs.laws.sender.SenderStation.look_and_claim.Goals as goal
+use Rattle.dr_ring.proofs.laws.sender.SenderStation.look_at_halt.Goals as goal
 
 pub load-requires : goal.load-requires
 load-requires g c =

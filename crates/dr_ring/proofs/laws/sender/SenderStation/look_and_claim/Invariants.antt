@@ -1,5 +1,0 @@
-use Rattle.dr_ring.specs.Seats.{Loads, SenderLookedAtHalt}
-use Rattle.dr_ring.proofs.laws.sender.SenderStation.look_and_claim.Given as goal
-
-abbrev pub ghosts-load : goal.ghosts-load
-ghosts-load g a = record { then = Loads (SenderLookedAtHalt g.J.Names.number) }
