@@ -145,6 +145,6 @@ module _ (r s t e : SenderRecord) (xs : List Look) (n q needed : ℕ) (same : r 
         E.counts,
         room least E,
         last ∙ ap (λ (x : SenderRecord). halt_looked x q 0) scanned.is
-        ∙ ap (λ (ys : List Look). more_claimed (record r { looks = ys }) q) (append_assoc r.looks (look halt_word 0 ∷ xs) (look halt_word 0 ∷ []))
-        ∙ ap (λ (ys : List Look). more_claimed (sender_saw r (look halt_word 0 ∷ ys ++ look halt_word 0 ∷ [])) q) (gated least E),
+            ∙ ap (λ (ys : List Look). more_claimed (record r { looks = ys }) q) (append_assoc r.looks (look halt_word 0 ∷ xs) (look halt_word 0 ∷ []))
+            ∙ ap (λ (ys : List Look). more_claimed (sender_saw r (look halt_word 0 ∷ ys ++ look halt_word 0 ∷ [])) q) (gated least E),
       )

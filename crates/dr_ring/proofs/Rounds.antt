@@ -169,15 +169,19 @@ scanned_all r s needed least i plan S all =
 
 -- what is remembered serves
 pub remembers : (r : SenderRecord) (needed least front : ℕ) → needed ≤ least → least ≤ front → front ≡ length r.published → IsSeenLeast r least → (xs : List Look) × LooksAtFinals r xs r × IsEnough r xs needed least
-remembers r needed least front enough low at seen = ([], saw_nothing r, record {
-  enough = enough;
-  front = omega arith;
-  seen = λ f has. subst (λ (ys : List Look). least ≤ last_look 0 ys (count_word f)) (sym (append-nil r.looks)) (seen f has);
-  counts = [];
-  are = sym (no_looks_at (finals r.plan.upstreams));
-  all = inl refl;
-  high = λ i lt. absurd (omega arith);
-})
+remembers r needed least front enough low at seen = (
+  [],
+  saw_nothing r,
+  record {
+    enough = enough;
+    front = omega arith;
+    seen = λ f has. subst (λ (ys : List Look). least ≤ last_look 0 ys (count_word f)) (sym (append-nil r.looks)) (seen f has);
+    counts = [];
+    are = sym (no_looks_at (finals r.plan.upstreams));
+    all = inl refl;
+    high = λ i lt. absurd (omega arith);
+  },
+)
 
 -- the counts of the first i upstreams were looked at
 least_more : (counts : List ℕ) (v : ℕ) → 0 < length counts → least_of (counts ++ v ∷ []) ≡ min (least_of counts) v

@@ -5,12 +5,10 @@
 //! contract gives what the end knows afterwards from what it knew before and the word loaded or
 //! stored, by the same definition as the step has in [`moments`].
 
+mod halter;
 mod receiver;
 mod sender;
 pub mod settling;
-
-pub(crate) use receiver::ReceiverStation;
-pub(crate) use sender::SenderStation;
 
 ghost use Rattle.std.specs.Prelude.{List, ◌≡◌, ◌<◌, ◌≤◌, slice_index};
 ghost use Rattle.dr_graph.specs.Graph.{IsGraph};
@@ -27,6 +25,9 @@ use crate::plan::Plan;
 use crate::record::View;
 use atomic_table::{Play, Seat, Shared, Table, TableRule};
 use dr_core::every_transcript_is_lawful;
+pub use halter::Halter;
+pub(crate) use receiver::ReceiverStation;
+pub(crate) use sender::SenderStation;
 use std::alloc::Global;
 use std::marker::Brand;
 

@@ -9,7 +9,6 @@
 
 mod claiming;
 pub mod fault;
-pub mod halter;
 pub mod laws;
 pub mod opening;
 pub mod plan;
@@ -20,7 +19,7 @@ pub mod sender;
 pub mod settled;
 
 pub use fault::RingFault;
-pub use halter::Halter;
+pub use laws::Halter;
 pub use opening::ring;
 pub use plan::Plan;
 pub use receiver::Receiver;

@@ -11,8 +11,7 @@ ghost use Rattle.dr_ring.specs.Settling.{AreAllEnds};
 ghost use Rattle.dr_ring.specs.Making.{receivers_seat, at_ring, AreFreshEnds, fault_of};
 
 use crate::fault::RingFault;
-use crate::halter::Halter;
-use crate::laws::{ReceiverStation, RingBody, RingSeat, RingTable, SenderStation};
+use crate::laws::{Halter, ReceiverStation, RingBody, RingSeat, RingTable, SenderStation};
 use crate::plan::Plan;
 use crate::receiver::Receiver;
 use crate::record::View;

@@ -27,8 +27,7 @@ pub(crate) struct ReceiverStation {
 impl Model for ReceiverStation {
     ghost use Rattle.std.specs.Arc.{arc_value};
     ghost use Rattle.dr_ring.specs.Seats.{end_of};
-    ghost use Rattle.dr_ring.specs.Seats.{FindsClosed, FindsEvents};
-ghost use Rattle.dr_ring.specs.Stations.{ReceiverEnd, receiver_end, ReceiverSits};
+    ghost use Rattle.dr_ring.specs.Stations.{ReceiverEnd, receiver_end, ReceiverSits};
 
     ghost Value = { ReceiverEnd };
 

@@ -27,8 +27,7 @@ pub(crate) struct SenderStation {
 impl Model for SenderStation {
     ghost use Rattle.std.specs.Arc.{arc_value};
     ghost use Rattle.dr_ring.specs.Seats.{end_of};
-    ghost use Rattle.dr_ring.specs.Seats.{FindsCompleted, FindsHalt};
-ghost use Rattle.dr_ring.specs.Stations.{SenderEnd, sender_end, SenderSits};
+    ghost use Rattle.dr_ring.specs.Stations.{SenderEnd, sender_end, SenderSits};
 
     ghost Value = { SenderEnd };
 
@@ -79,8 +78,9 @@ impl SenderStation {
         requires whole { self.old.knows.half ≡ None }
         ensures { HasStored self.old (SenderStoresFirst sequence first) (half_written self.old.knows sequence first) self.new }
     {
+        let word = self.ring.plan.payload_word(sequence, 0);
         let words = &self.ring.table.shared;
-        words.store::<Brand>(&mut self.seat, self.ring.plan.payload_word(sequence, 0), first);
+        words.store::<Brand>(&mut self.seat, word, first);
     }
 
     /// The sender stores the second word of an event whose first word it has just stored.

@@ -18,12 +18,14 @@ returns-then-available-first-clause-call c =
       search rules,
       (
         some_room (length c.args.out.now) (sym c.if-is_empty.ensures),
-        (closed,
-        cursor,
-        seen.counts,
-        seen.each,
-        subst (λ (p : Polled). Answers c.args.self.now.knows c.args.out.now c.barrier-available.new.self.knows c.args.out.now closed cursor seen.counts p) (sym c.nothing_offered.ensures)
-            (poll_nothing _ _ c.args.out.now closed cursor c.barrier-available.result c.self.inside.taken next seen c.look_at_closed-closed.ensures.finds.1 (search rules) c.if-available-first.true)),
+        (
+          closed,
+          cursor,
+          seen.counts,
+          seen.each,
+          subst (λ (p : Polled). Answers c.args.self.now.knows c.args.out.now c.barrier-available.new.self.knows c.args.out.now closed cursor seen.counts p) (sym c.nothing_offered.ensures)
+              (poll_nothing _ _ c.args.out.now closed cursor c.barrier-available.result c.self.inside.taken next seen c.look_at_closed-closed.ensures.finds.1 (search rules) c.if-available-first.true),
+        ),
       ),
       search rules,
     )
@@ -43,14 +45,16 @@ returns-clause-call c =
       search rules,
       (
         some_room (length c.args.out.now) (sym c.if-is_empty.ensures),
-        (closed,
-        cursor,
-        seen.counts,
-        seen.each,
-        poll_batch _ _ _ c.args.out.now _ closed cursor c.barrier-available.result c.self.inside.taken c.min-count.result _ next seen (search rules)
-            (c.take_all.ensures.only.1 ∙ ap (λ (xs : List Event). received_all c.barrier-available.new.self.knows xs) (sym (take_at c.take_all.new.out c.split_at_mut-front.result.1.now c.min-count.result many)))
-            (drop_at c.take_all.new.out c.split_at_mut-front.result.1.now c.min-count.result many ∙ c.split_at_mut-front.ensures.back)
-            (let more = c.if-available-first.false in omega arith) c.min-count.ensures (of_count _ _ _ refl)),
+        (
+          closed,
+          cursor,
+          seen.counts,
+          seen.each,
+          poll_batch _ _ _ c.args.out.now _ closed cursor c.barrier-available.result c.self.inside.taken c.min-count.result _ next seen (search rules)
+              (c.take_all.ensures.only.1 ∙ ap (λ (xs : List Event). received_all c.barrier-available.new.self.knows xs) (sym (take_at c.take_all.new.out c.split_at_mut-front.result.1.now c.min-count.result many)))
+              (drop_at c.take_all.new.out c.split_at_mut-front.result.1.now c.min-count.result many ∙ c.split_at_mut-front.ensures.back)
+              (let more = c.if-available-first.false in omega arith) c.min-count.ensures (of_count _ _ _ refl),
+        ),
       ),
       search rules,
     )

@@ -17,6 +17,9 @@ publish-requires-clause-written c =
 
 pub returns : goal.returns
 returns c =
-    let all = subst (λ (n : ℕ). AreMarked c.as_slice.result.now n c.args.lo (c.args.hi + 1)) (c.size-size.ensures ∙ ap (λ (k : Shape). k.size) c.plan.ensures.plan) c.if-not-all_marked.ensures in
-    (search rules, publish_done _ _ _ _ _ _ _ _ _ _ (ap (λ (e : SenderEnd). e.knows) c.self.view_is) c.self.invariant (subst (λ (xs : List ℕ). AreMarked xs c.self.inside.station.knows.plan.size c.args.lo (c.args.hi + 1)) c.as_slice.ensures.value all)
-    c.if-lo-self.false c.if-lo-self-2.false c.if-lo-hi.false c.if-hi-self.false c.publish.ensures.1, search rules)
+    let all = subst (λ (n : ℕ). AreMarked c.as_slice.result.now n c.args.lo (c.args.hi + 1)) (c.size-size.ensures ∙ ap (λ (k : Shape). k.size) c.plan.ensures.plan) c.if-not-all_marked.ensures in (
+      search rules,
+      publish_done _ _ _ _ _ _ _ _ _ _ (ap (λ (e : SenderEnd). e.knows) c.self.view_is) c.self.invariant (subst (λ (xs : List ℕ). AreMarked xs c.self.inside.station.knows.plan.size c.args.lo (c.args.hi + 1)) c.as_slice.ensures.value all)
+          c.if-lo-self.false c.if-lo-self-2.false c.if-lo-hi.false c.if-hi-self.false c.publish.ensures.1,
+      search rules,
+    )

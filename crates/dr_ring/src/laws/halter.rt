@@ -4,7 +4,7 @@ ghost use Rattle.dr_ring.specs.Ends.{halter_halted};
 ghost use Rattle.dr_ring.specs.declared.record.Step.TheVariants.{HalterHalts};
 ghost use Rattle.dr_ring.specs.Stations.{HasStored};
 
-use crate::laws::{RingBody, RingSeat};
+use super::{RingBody, RingSeat};
 use crate::plan::HALT_WORD;
 use std::alloc::Global;
 use std::marker::{Brand, Model};
