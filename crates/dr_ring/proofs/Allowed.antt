@@ -17,7 +17,7 @@ use Rattle.dr_ring.specs.Kept.{World, Kept}
 use Rattle.dr_ring.specs.declared.record.Step.{Step}
 use Rattle.dr_ring.specs.declared.record.Step.TheVariants.{SenderLooksAtCount, SenderLooksAtHalt, SenderStoresFirst, SenderStoresSecond, SenderPublishes, SenderHalts, SenderCloses, ReceiverLooksAtClosed, ReceiverLooksAtCursor, ReceiverLooksAtCount, ReceiverLoadsFirst, ReceiverLoadsSecond, ReceiverCompletes, HalterHalts}
 use Rattle.dr_ring.specs.Steps.{Happens}
-use Rattle.dr_ring.specs.Seats.{End, Sitting, end_of, seat_at, Loads, Stores, world_of, Ruled, as_sender, as_receiver, as_halter, sender_of, receiver_of, halter_of, IsSender, IsReceiver, IsHalter, SenderLookedAtCount, SenderLookedAtHalt, SenderStoredFirst, SenderStoredSecond, SenderPublished, SenderHalted, SenderClosed, ReceiverLookedAtClosed, ReceiverLookedAtCursor, ReceiverLookedAtCount, ReceiverLoadedFirst, ReceiverLoadedSecond, ReceiverCompleted, HalterHalted}
+use Rattle.dr_ring.specs.Seats.{End, Sitting, end_of, seat_at, Loads, Stores, world_of, Ruled, as_sender, as_receiver, as_halter, sender_of, receiver_of, halter_of, IsSender, IsReceiver, IsHalter, FindsHalt, SenderLookedAtCount, SenderLookedAtHalt, SenderStoredFirst, SenderStoredSecond, SenderPublished, SenderHalted, SenderClosed, ReceiverLookedAtClosed, ReceiverLookedAtCursor, ReceiverLookedAtCount, ReceiverLoadedFirst, ReceiverLoadedSecond, ReceiverCompleted, HalterHalted}
 use Rattle.dr_ring.proofs.Lists.{at_below, final_inside, last_look_le}
 use Rattle.dr_ring.proofs.Keeps.{receiver_of_handler, upstream_inside}
 use Rattle.dr_ring.proofs.Seats.{adds_nothing, adds_one, by_sender, by_receiver, by_halter}
@@ -65,7 +65,7 @@ sender_looks_at_count k sh slots id me i f here is plan has =
     by_sender k slots id (SenderLooksAtCount f) (λ stores. stores) me.0.pasts r i (λ n. n) (λ n. sender_looked r i n) (SenderLookedAtCount (step slots i 0 0 none) (as_sender r))
     (adds_nothing 0 (SenderLooksAtCount f) (λ n. refl))
     (λ w e K. same_words k (SenderLooksAtCount f) w i (sender_looked r i (get_or w.words i 0)) w.receivers w.halter (look_at_final k w r f e (subst (λ (p : Shape). Contains (finals p.upstreams) f) (sender_plan k sh w r e plan K) has) K).0)
-    (λ w e K. (let t = look_at_final k w r f e (subst (λ (p : Shape). Contains (finals p.upstreams) f) (sender_plan k sh w r e plan K) has) K in (refl, t.1, t.2)))))
+    (λ w e K. (let t = look_at_final k w r f e (subst (λ (p : Shape). Contains (finals p.upstreams) f) (sender_plan k sh w r e plan K) has) K in (refl, (t.1, t.2))))))
 
 pub sender_looks_at_halt : (k sh : Shape) (slots id : ℕ) (me : Sitting) (n m : ℕ) → n ≡ m → IsSender (end_of me) → (sender_of me.0.ends).plan ≡ sh
     → (0 < n → HasRoom sh (sender_of me.0.ends) n)
@@ -79,8 +79,8 @@ sender_looks_at_halt k sh slots id me n m named is plan room =
     (λ w e K. (let found = get_or w.words halt_word 0 in same_words k (SenderLooksAtHalt n) w halt_word (halt_looked r n found) w.receivers w.halter
     (subst (λ (q : SenderRecord). (0 < n → HasRoom k q n) → Happens k (SenderLooksAtHalt n) w (world_of w.words (halt_looked q n found) w.receivers w.halter)) e
     (λ room. (room, refl)) (subst (λ (p : Shape). 0 < n → HasRoom p r n) (sender_plan k sh w r e plan K) room))))
-    (λ w e K. subst (λ (q : SenderRecord). (as_sender (halt_looked r n (get_or w.words halt_word 0)) ≡ as_sender (halt_looked r n (get_or w.words halt_word 0))) × (last_look 0 q.looks halt_word ≤ get_or w.words halt_word 0) × (get_or w.words halt_word 0 ≤ 1) × (q.halted ≡ true → get_or w.words halt_word 0 ≡ 1)) e
-    (refl, last_look_le k w.words 0 w.sender.looks halt_word (omega arith) K.looks, K.flags.halt, K.flags.by_sender))))
+    (λ w e K. subst (λ (q : SenderRecord). (as_sender (halt_looked r n (get_or w.words halt_word 0)) ≡ as_sender (halt_looked r n (get_or w.words halt_word 0))) × FindsHalt q (get_or w.words halt_word 0)) e
+    (refl, (last_look_le k w.words 0 w.sender.looks halt_word (omega arith) K.looks, K.flags.halt, K.flags.by_sender)))))
 
 pub sender_stores_first : (k sh : Shape) (slots id : ℕ) (me : Sitting) (i s m v : ℕ) → s ≡ m → i ≡ payload_word sh s 0 → IsSender (end_of me)
     → (sender_of me.0.ends).plan ≡ sh → IsOpen (sender_of me.0.ends) s → (sender_of me.0.ends).half ≡ None
@@ -151,7 +151,7 @@ receiver_looks_at_closed k slots id me is = along_receiver (λ m. Allows (Ruled 
     by_receiver k slots id (ReceiverLooksAtClosed r.number) (λ stores. stores) me.0.pasts r closed_word (λ n. n) (λ n. receiver_looked r closed_word n) (ReceiverLookedAtClosed (step slots closed_word 0 0 none) (as_receiver r)) (λ n. refl) (adds_nothing (r.number + 2) (ReceiverLooksAtClosed r.number) (λ n. refl))
     (λ w at K. same_words k (ReceiverLooksAtClosed r.number) w closed_word w.sender (set w.receivers r.number (receiver_looked r closed_word (get_or w.words closed_word 0))) w.halter (r, at, refl))
     (λ w at K. (let was = K.received r.number r at in
-    (refl, last_look_le k w.words 0 r.looks closed_word (omega arith) was.looks, K.flags.close, λ told. (was.told told).0))))
+    (refl, (last_look_le k w.words 0 r.looks closed_word (omega arith) was.looks, K.flags.close, λ told. (was.told told).0)))))
 
 pub receiver_looks_at_cursor : (k : Shape) (slots id : ℕ) (me : Sitting) → IsReceiver (end_of me)
     → Allows (Ruled k) slots id me cursor_word (λ n. n) (Loads ReceiverLookedAtCursor (step slots cursor_word 0 0 none) me)
@@ -160,7 +160,7 @@ receiver_looks_at_cursor k slots id me is = along_receiver (λ m. Allows (Ruled 
     by_receiver k slots id (ReceiverLooksAtCursor r.number) (λ stores. stores) me.0.pasts r cursor_word (λ n. n) (λ n. cursor_looked r n) (ReceiverLookedAtCursor (step slots cursor_word 0 0 none) (as_receiver r)) (λ n. refl) (adds_nothing (r.number + 2) (ReceiverLooksAtCursor r.number) (λ n. refl))
     (λ w at K. same_words k (ReceiverLooksAtCursor r.number) w cursor_word w.sender (set w.receivers r.number (cursor_looked r (get_or w.words cursor_word 0))) w.halter (r, at, refl))
     (λ w at K. (let was = K.received r.number r at in let t = was.taken in let c = K.counts.cursor in
-    (refl, last_look_le k w.words 0 r.looks cursor_word (omega arith) was.looks, omega arith, λ told. (let d = (was.told told).1 in omega arith)))))
+    (refl, (last_look_le k w.words 0 r.looks cursor_word (omega arith) was.looks, omega arith, λ told. (let d = (was.told told).1 in omega arith))))))
 
 -- what a look at an upstream's count tells
 tells_count : (k : Shape) (w : World) (r : ReceiverRecord) (u : ℕ) → get_elem? w.receivers r.number ≡ some r → Contains (upstreams_of k.upstreams r.number) u → Kept k w
@@ -182,7 +182,7 @@ receiver_looks_at_count k sh slots id me i h u here is plan number has =
     (λ w at K. same_words k (ReceiverLooksAtCount r.number u) w i w.sender (set w.receivers r.number (receiver_looked r i (get_or w.words i 0))) w.halter
     (r, at, (subst (λ (p : Shape). Contains (upstreams_of p.upstreams r.number) u) (receiver_plan k sh w r.number r at plan K) mine, refl)))
     (λ w at K. (let t = tells_count k w r u at (subst (λ (p : Shape). Contains (upstreams_of p.upstreams r.number) u) (receiver_plan k sh w r.number r at plan K) mine) K in
-    let inside = t.0 in (refl, last_look_le k w.words 0 r.looks i (omega arith) (K.received r.number r at).looks, t.1, t.2)))))
+    let inside = t.0 in (refl, (last_look_le k w.words 0 r.looks i (omega arith) (K.received r.number r at).looks, t.1, t.2))))))
 
 pub receiver_loads_first : (k sh : Shape) (slots id : ℕ) (me : Sitting) (i h n : ℕ) → i ≡ payload_word sh n 0 → IsReceiver (end_of me)
     → (receiver_of me.0.ends).plan ≡ sh → (receiver_of me.0.ends).number ≡ h → n ≡ length (receiver_of me.0.ends).received

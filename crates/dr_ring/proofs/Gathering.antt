@@ -18,7 +18,7 @@ use Rattle.dr_ring.specs.declared.record.Step.{Step}
 use Rattle.dr_ring.specs.Kept.{World, Kept}
 use Rattle.dr_ring.specs.Moments.{opening, picture_of, Runs}
 use Rattle.dr_ring.specs.Seats.{Known, End, Sitting, end_of, as_receiver, sender_of}
-use Rattle.dr_ring.specs.Calls.{SenderEnd, ReceiverEnd}
+use Rattle.dr_ring.specs.Stations.{SenderEnd, ReceiverEnd}
 use Rattle.dr_ring.specs.Settling.{Agrees, Settles, LeadsView, IsInView, Gathers, ViewAgrees, ViewRan, HasRun, AreAllEnds, AreOfRing, counts_of}
 
 abbrev pub knows_of : ReceiverEnd → ReceiverRecord

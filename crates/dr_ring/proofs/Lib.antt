@@ -7,6 +7,7 @@ pub mod Beginning
 pub mod Seats
 pub mod Allowed
 pub mod Plans
+pub mod Stations
 pub mod Rounds
 pub mod Marks
 pub mod Fields

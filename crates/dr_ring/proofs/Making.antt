@@ -9,8 +9,8 @@ use Rattle.dr_ring.specs.declared.record.SenderRecord.{SenderRecord}
 use Rattle.dr_ring.specs.declared.record.ReceiverRecord.{ReceiverRecord}
 use Rattle.dr_ring.specs.declared.record.EndRecord.TheVariants.{Receives}
 use Rattle.dr_ring.specs.Moments.{fresh_receiver, fresh_receivers}
-use Rattle.dr_ring.specs.Seats.{End, Sitting, seat_at, stored_of, IsAtTable, as_receiver, receiver_of}
-use Rattle.dr_ring.specs.Calls.{SenderEnd, ReceiverEnd, HalterEnd}
+use Rattle.dr_ring.specs.Seats.{End, Sitting, seat_at, IsAtTable, as_receiver}
+use Rattle.dr_ring.specs.Stations.{SenderEnd, ReceiverEnd, HalterEnd, receiver_end, ReceiverSits}
 use Rattle.dr_ring.specs.Settling.{AreAllEnds}
 use Rattle.dr_ring.proofs.Lists.{there, value_at, each_set}
 use Rattle.std.proofs.lemmas.Bool.{cases_lt}
@@ -18,7 +18,6 @@ use Rattle.dr_ring.proofs.Beginning.{fresh_count}
 use mathlib.Core.Option.{some, some-injective}
 use lib.ListN.{get_elem?}
 use Rattle.dr_ring.specs.Making.{receivers_seat, at_ring, AreFreshEnds}
-use Rattle.dr_ring.specs.Fits.{ReceiverFits}
 
 -- the next of the receivers
 fresh_next : (k : Shape) (h n : ℕ) → h < n → fresh_receivers k h (n - h) ≡ fresh_receiver k h ∷ fresh_receivers k (h + 1) (n - (h + 1))
@@ -45,9 +44,8 @@ pub cut_rest : (k : Shape) (h n : ℕ) (me me' : Sitting) → h < n → me ≡ r
     → me' ≡ receivers_seat k (h + 1) (n - (h + 1))
 cut_rest k h n me me' lt was is = is ∙ ap rest_cut was ∙ ap (λ (rs : List ReceiverRecord). rest_cut (seat_for rs)) (fresh_next k h n lt)
 
-pub fits_receiver : (at own : TableId) (me : End) (k : Shape) (h : ℕ) → IsAtTable own at k → IsPlan k → h < handlers_of k → me ≡ as_receiver (fresh_receiver k h) → ReceiverFits at own me k h 0 0 0
-fits_receiver at own me k h table made lt is = subst (λ (m : End). ReceiverFits at own m k h 0 0 0) (sym is)
-    (record { table = table; made = made; end = refl; plan = refl; number = (refl, lt); half = refl; taken = refl; completed = refl; looks = refl })
+pub sits_fresh : (at own : TableId) (me : End) (k : Shape) (h : ℕ) → IsAtTable own at k → IsPlan k → h < handlers_of k → me ≡ as_receiver (fresh_receiver k h) → ReceiverSits at own k me h 0
+sits_fresh at own me k h table made lt is = subst (λ (m : End). ReceiverSits at own k m h 0) (sym is) (record { table = table; made = made; end = refl; plan = refl; own = refl; handler = lt; looks = refl })
 
 abbrev zeros : ℕ → List ℕ
 zeros n = replicate n 0
@@ -58,11 +56,9 @@ listed_next t k h n items new e all lt was is own = ap (λ (xs : List ReceiverEn
     ∙ append_assoc items (at_ring t (fresh_receiver k h) ∷ []) (map (at_ring t) (fresh_receivers k (h + 1) (n - (h + 1))))
     ∙ ap (λ (rs : List ReceiverRecord). items ++ map (at_ring t) rs) (sym (fresh_next k h n lt)) ∙ was
 
-pub view_fresh : (t own : TableId) (me : Sitting) (k : Shape) (h : ℕ) → own ≡ t → me ≡ fresh_seat k h
-    → (record { ring = own; knows = receiver_of me.0.ends; stored = stored_of me.0 }) ≡ at_ring t (fresh_receiver k h)
-view_fresh t own me k h same is = λ i. (let e : ReceiverEnd = record { ring = same i; knows = receiver_of (is i).0.ends; stored = stored_of (is i).0 } in e)
+pub view_fresh : (t own : TableId) (me : Sitting) (k : Shape) (h : ℕ) → own ≡ t → me ≡ fresh_seat k h → receiver_end own me ≡ at_ring t (fresh_receiver k h)
+view_fresh t own me k h same is = λ i. receiver_end (same i) (is i)
 
--- a ring has words
 pub some_words : (k : Shape) (n : ℕ) (ws : List ℕ) → n ≡ length ws → ws ≡ replicate (words_of k) 0 → 0 < n
 some_words k n ws count is = let z : ℕ = 0 in let same = ap length is in let len = length-replicate (words_of k) z in omega arith
 

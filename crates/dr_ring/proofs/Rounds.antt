@@ -3,7 +3,7 @@ use Rattle.std.proofs.Common.{◌≡◌, ◌≢◌, ℕ, zero, suc, ◌+◌, ◌
 use Rattle.std.specs.Prelude.{Contains}
 use Rattle.std.proofs.lemmas.Bool.{cases_eq, cases_lt, ne_eqb, lt-ltb, le-ltb}
 use Rattle.std.proofs.lemmas.List.{length-append, append-nil, get_or_append_left}
-use Rattle.dr_graph.specs.Graph.{upstreams_of, finals, least_of}
+use Rattle.dr_graph.specs.Graph.{finals, least_of}
 use Rattle.dr_ring.specs.Shape.{Shape}
 use Rattle.dr_ring.specs.Plans.{IsPlan}
 use Rattle.dr_ring.specs.Words.{count_word}
@@ -11,10 +11,9 @@ use Rattle.dr_ring.specs.declared.record.Look.{Look}
 use Rattle.dr_ring.specs.declared.record.SenderRecord.{SenderRecord}
 use Rattle.dr_ring.specs.declared.record.ReceiverRecord.{ReceiverRecord}
 use Rattle.dr_ring.specs.Ends.{look, last_look, sender_looked, receiver_looked}
-use Rattle.dr_ring.specs.Seats.{End, as_sender, as_receiver, sender_of, receiver_of}
-use Rattle.dr_ring.specs.Calls.{looks_counted, sender_saw, count_looks, offered_by}
+use Rattle.dr_ring.specs.Calls.{sender_saw, count_looks, offered_by}
 use Rattle.dr_ring.specs.Fits.{IsSeenLeast}
-use Rattle.dr_ring.specs.Parts.{lesser_of, LooksAtFinals, IsEnough, IsShort, receiver_saw, LooksAtUpstreams}
+use Rattle.dr_ring.specs.Parts.{lesser_of, LooksAtFinals, IsEnough, IsShort, receiver_saw, ups_of, LooksAtUpstreams}
 use Rattle.dr_ring.proofs.Lists.{last_look_more, last_look_else}
 use Rattle.dr_ring.proofs.Pictures.{some_final}
 
@@ -24,16 +23,9 @@ get_any [] i a b lt = absurd (omega arith)
 get_any (x ∷ xs) zero a b lt = refl
 get_any (x ∷ xs) (suc i) a b lt = get_any xs i a b (omega arith)
 
--- an element of a list that is another
-pub contains_item : (ys xs : List ℕ) (i : ℕ) → ys ≡ xs → i < length ys → Contains xs (get_or ys i 0)
-contains_item ys xs i same lt = subst (λ (zs : List ℕ). Contains zs (get_or ys i 0)) same (i, lt, get_any ys i (get_or ys i 0) 0 lt)
-
 -- one look more
 saw_one : (r : SenderRecord) (xs : List Look) (i v : ℕ) → sender_looked (sender_saw r xs) i v ≡ sender_saw r (xs ++ look i v ∷ [])
 saw_one r xs i v = ap (λ (ys : List Look). record r { looks = ys }) (append_assoc r.looks xs (look i v ∷ []))
-
-pub counted_more : (ys xs : List Look) (i v n m : ℕ) → n ≡ looks_counted (ys ++ xs) → m ≡ min (n + 1) 18446744073709551615 → m ≡ looks_counted (ys ++ (xs ++ look i v ∷ []))
-counted_more ys xs i v n m is more = omega (arith, length-append ys xs, length-append ys (xs ++ look i v ∷ []), length-append xs (look i v ∷ []))
 
 last_rises : (d : ℕ) (xs : List Look) (i v w : ℕ) → last_look d xs i ≤ v → last_look d xs w ≤ last_look d (xs ++ look i v ∷ []) w
 last_rises d xs i v w le =
@@ -77,14 +69,14 @@ number_at : (xs : List ℕ) (x i : ℕ) → length xs ≡ i → get_or (xs ++ x 
 number_at xs x i e = ap (λ (j : ℕ). get_or (xs ++ x ∷ []) j 0) (sym e) ∙ last_number xs x 0
 
 -- the first i finals were looked at
-pub record Scanned (k : Shape) (r : SenderRecord) (needed least i : ℕ) (me : End) (counted : ℕ) : Type 0 where
+pub record Scanned (r : SenderRecord) (needed least i : ℕ) (s : SenderRecord) : Type 0 where
   pub xs : List Look
-  pub saw : LooksAtFinals r xs me counted
+  pub saw : LooksAtFinals r xs s
   pub counts : List ℕ
   pub each : length counts ≡ i
-  pub are : xs ≡ count_looks (take i (finals k.upstreams)) counts
+  pub are : xs ≡ count_looks (take i (finals r.plan.upstreams)) counts
   pub ahead : (j : ℕ) → j < i → needed ≤ get_or counts j 0
-  pub high : (j : ℕ) → j < i → least ≤ last_look 0 (r.looks ++ xs) (count_word (get_or (finals k.upstreams) j 0))
+  pub high : (j : ℕ) → j < i → least ≤ last_look 0 (r.looks ++ xs) (count_word (get_or (finals r.plan.upstreams) j 0))
   pub either : (least ≡ length r.published) ⊎ (needed ≤ least)
   pub some_one : 0 < i → needed ≤ length r.published
   pub front : least ≤ length r.published
@@ -93,34 +85,16 @@ no_looks_at : (hs : List ℕ) → count_looks hs [] ≡ []
 no_looks_at [] = refl
 no_looks_at (h ∷ hs) = refl
 
-pub scanned_none : (k : Shape) (r : SenderRecord) (needed least : ℕ) (me : End) (counted : ℕ) → me ≡ as_sender r → counted ≡ looks_counted r.looks → least ≡ length r.published → Scanned k r needed least 0 me counted
-scanned_none k r needed least me counted is looks front = record {
-  xs = [];
-  counts = [];
-  each = refl;
-  are = sym (no_looks_at (take 0 (finals k.upstreams)));
-  ahead = λ j lt. absurd (omega arith);
-  saw = record { is = is ∙ ap (λ (ys : List Look). as_sender (record r { looks = ys })) (sym (append-nil r.looks)); looks = looks ∙ ap looks_counted (sym (append-nil r.looks)); rises = λ g. (let e : last_look 0 (r.looks ++ []) (count_word g) ≡ last_look 0 r.looks (count_word g) = ap (λ (ys : List Look). last_look 0 ys (count_word g)) (append-nil r.looks) in omega arith) };
-  high = λ j lt. absurd (omega arith);
-  either = inl front;
-  some_one = λ lt. absurd (omega arith);
-  front = omega arith;
+saw_nothing : (r : SenderRecord) → LooksAtFinals r [] r
+saw_nothing r = record {
+  is = ap (λ (ys : List Look). record r { looks = ys }) (sym (append-nil r.looks));
+  rises = λ g. (let e : last_look 0 (r.looks ++ []) (count_word g) ≡ last_look 0 r.looks (count_word g) = ap (λ (ys : List Look). last_look 0 ys (count_word g)) (append-nil r.looks) in omega arith);
 }
 
--- the lesser of two
-lesser : (v least least' : ℕ) → least' ≡ lesser_of false v least → (least' ≤ least) × (least' ≤ v) × ((least' ≡ v) ⊎ (least' ≡ least))
-lesser v least least' new =
-    elim (cases_lt v least) [
-      | inl lt ↦ (let e : least' ≡ v = new ∙ rw (lt-ltb v least lt) refl in (omega arith, omega arith, inl e))
-      | inr ge ↦ (let e : least' ≡ least = new ∙ rw (le-ltb v least ge) refl in (omega arith, omega arith, inr e))
-    ]
-
-saw_more : (r : SenderRecord) (xs : List Look) (i v : ℕ) (me me' : End) (counted counted' : ℕ) → LooksAtFinals r xs me counted → me' ≡ as_sender (sender_looked (sender_of me.0) i v) → last_look 0 (sender_of me.0).looks i ≤ v → counted' ≡ min (counted + 1) 18446744073709551615
-    → LooksAtFinals r (xs ++ look i v ∷ []) me' counted'
-saw_more r xs i v me me' counted counted' S is rise more = record {
-  is = is ∙ ap (λ (m : End). as_sender (sender_looked (sender_of m.0) i v)) S.is ∙ ap as_sender (saw_one r xs i v);
-  looks = counted_more r.looks xs i v counted counted' S.looks more;
-  rises = λ g. (let w = count_word g in let a = S.rises g in let b : last_look 0 (r.looks ++ xs) w ≤ last_look 0 ((r.looks ++ xs) ++ look i v ∷ []) w = last_rises 0 (r.looks ++ xs) i v w (subst (λ (m : End). last_look 0 (sender_of m.0).looks i ≤ v) S.is rise) in
+saw_more : (r s s' : SenderRecord) (xs : List Look) (i v : ℕ) → LooksAtFinals r xs s → s' ≡ sender_looked s i v → last_look 0 s.looks i ≤ v → LooksAtFinals r (xs ++ look i v ∷ []) s'
+saw_more r s s' xs i v S is rise = record {
+  is = is ∙ ap (λ (q : SenderRecord). sender_looked q i v) S.is ∙ saw_one r xs i v;
+  rises = λ g. (let w = count_word g in let a = S.rises g in let b : last_look 0 (r.looks ++ xs) w ≤ last_look 0 ((r.looks ++ xs) ++ look i v ∷ []) w = last_rises 0 (r.looks ++ xs) i v w (subst (λ (q : SenderRecord). last_look 0 q.looks i ≤ v) S.is rise) in
       let e : last_look 0 ((r.looks ++ xs) ++ look i v ∷ []) w ≡ last_look 0 (r.looks ++ (xs ++ look i v ∷ [])) w = ap (λ (ys : List Look). last_look 0 ys w) (append_assoc r.looks xs (look i v ∷ [])) in omega arith);
 }
 
@@ -137,40 +111,37 @@ at_end counts v needed i j each lt ahead high =
       | inr here ↦ (let same : length counts ≡ j = omega arith in let e : get_or (counts ++ v ∷ []) j 0 ≡ v = number_at counts v j same in omega arith)
     ]
 
-pub scanned_more : (k : Shape) (r : SenderRecord) (needed least least' i f v : ℕ) (me me' : End) (counted counted' : ℕ) → Scanned k r needed least i me counted → i < length (finals k.upstreams) → get_or (finals k.upstreams) i 0 ≡ f → me' ≡ as_sender (sender_looked (sender_of me.0) (count_word f) v) → last_look 0 (sender_of me.0).looks (count_word f) ≤ v
-    → counted' ≡ min (counted + 1) 18446744073709551615 → needed ≤ v → v ≤ length r.published → least' ≡ lesser_of false v least → Scanned k r needed least' (i + 1) me' counted'
-scanned_more k r needed least least' i f v me me' counted counted' S inside at is rise more high front new =
-    let small : (least' ≤ least) × (least' ≤ v) × ((least' ≡ v) ⊎ (least' ≡ least)) = lesser v least least' new in
-    let saw = saw_more r S.xs (count_word f) v me me' counted counted' S.saw is rise more in record {
+pub scanned_more : (r s s' : SenderRecord) (needed least least' i f v : ℕ) → Scanned r needed least i s → i < length (finals r.plan.upstreams) → get_or (finals r.plan.upstreams) i 0 ≡ f → s' ≡ sender_looked s (count_word f) v → last_look 0 s.looks (count_word f) ≤ v
+    → needed ≤ v → v ≤ length s.published → least' ≡ min least v → Scanned r needed least' (i + 1) s'
+scanned_more r s s' needed least least' i f v S inside at is rise high below new =
+    let front : v ≤ length r.published = subst (λ (q : SenderRecord). v ≤ length q.published) S.saw.is below in
+    let saw = saw_more r s s' S.xs (count_word f) v S.saw is rise in record {
       xs = S.xs ++ look (count_word f) v ∷ [];
       saw = saw;
       counts = S.counts ++ v ∷ [];
       each = let each = S.each in omega (arith, length-append S.counts (v ∷ []));
-      are = scan_more k S.xs S.counts i f v S.each inside at S.are;
+      are = scan_more r.plan S.xs S.counts i f v S.each inside at S.are;
       ahead = λ j lt. at_end S.counts v needed i j S.each lt S.ahead high;
-      high = λ j lt. (let e : last_look 0 ((r.looks ++ S.xs) ++ look (count_word f) v ∷ []) (count_word (get_or (finals k.upstreams) j 0)) ≡ last_look 0 (r.looks ++ (S.xs ++ look (count_word f) v ∷ [])) (count_word (get_or (finals k.upstreams) j 0)) = ap (λ (ys : List Look). last_look 0 ys (count_word (get_or (finals k.upstreams) j 0))) (append_assoc r.looks S.xs (look (count_word f) v ∷ [])) in
+      high = λ j lt. (let e : last_look 0 ((r.looks ++ S.xs) ++ look (count_word f) v ∷ []) (count_word (get_or (finals r.plan.upstreams) j 0)) ≡ last_look 0 (r.looks ++ (S.xs ++ look (count_word f) v ∷ [])) (count_word (get_or (finals r.plan.upstreams) j 0)) = ap (λ (ys : List Look). last_look 0 ys (count_word (get_or (finals r.plan.upstreams) j 0))) (append_assoc r.looks S.xs (look (count_word f) v ∷ [])) in
           elim (cases_lt j i) [
-            | inl before ↦ (let a = S.high j before in let l = small.0 in let h = small.1 in let b : least' ≤ last_look 0 ((r.looks ++ S.xs) ++ look (count_word f) v ∷ []) (count_word (get_or (finals k.upstreams) j 0)) = last_least 0 (r.looks ++ S.xs) (count_word f) v (count_word (get_or (finals k.upstreams) j 0)) least' (omega arith) h in omega arith)
-            | inr here ↦ (let same : j ≡ i = omega arith in let w : count_word (get_or (finals k.upstreams) j 0) ≡ count_word f = ap (λ (m : ℕ). count_word (get_or (finals k.upstreams) m 0)) same ∙ ap count_word at in
-                let b : last_look 0 ((r.looks ++ S.xs) ++ look (count_word f) v ∷ []) (count_word (get_or (finals k.upstreams) j 0)) ≡ v = ap (λ (m : ℕ). last_look 0 ((r.looks ++ S.xs) ++ look (count_word f) v ∷ []) m) w ∙ last_look_more 0 (r.looks ++ S.xs) (count_word f) v in let h = small.1 in omega arith)
+            | inl before ↦ (let a = S.high j before in let b : least' ≤ last_look 0 ((r.looks ++ S.xs) ++ look (count_word f) v ∷ []) (count_word (get_or (finals r.plan.upstreams) j 0)) = last_least 0 (r.looks ++ S.xs) (count_word f) v (count_word (get_or (finals r.plan.upstreams) j 0)) least' (omega arith) (omega arith) in omega arith)
+            | inr here ↦ (let same : j ≡ i = omega arith in let w : count_word (get_or (finals r.plan.upstreams) j 0) ≡ count_word f = ap (λ (m : ℕ). count_word (get_or (finals r.plan.upstreams) m 0)) same ∙ ap count_word at in
+                let b : last_look 0 ((r.looks ++ S.xs) ++ look (count_word f) v ∷ []) (count_word (get_or (finals r.plan.upstreams) j 0)) ≡ v = ap (λ (m : ℕ). last_look 0 ((r.looks ++ S.xs) ++ look (count_word f) v ∷ []) m) w ∙ last_look_more 0 (r.looks ++ S.xs) (count_word f) v in omega arith)
           ]);
-      either = elim small.2 [
-        | inl this ↦ inr (omega arith)
-        | inr old ↦ elim S.either [ inl all ↦ inl (old ∙ all) | inr enough ↦ inr (omega arith) ]
-      ];
+      either = elim S.either [ inl all ↦ elim (cases_lt v least) [ inl lt ↦ inr (omega arith) | inr ge ↦ inl (omega arith) ] | inr enough ↦ inr (omega arith) ];
       some_one = λ _. omega arith;
-      front = let l = small.0 in let b = S.front in omega arith;
+      front = let b = S.front in omega arith;
     }
 
-pub scanned_low : (k : Shape) (r : SenderRecord) (needed least i f v : ℕ) (me me' : End) (counted counted' : ℕ) → Scanned k r needed least i me counted → i < length (finals k.upstreams) → get_or (finals k.upstreams) i 0 ≡ f → me' ≡ as_sender (sender_looked (sender_of me.0) (count_word f) v) → last_look 0 (sender_of me.0).looks (count_word f) ≤ v
-    → counted' ≡ min (counted + 1) 18446744073709551615 → v < needed → (xs : List Look) × LooksAtFinals r xs me' counted' × IsShort k xs needed
-scanned_low k r needed least i f v me me' counted counted' S inside at is rise more low =
+pub scanned_low : (r s s' : SenderRecord) (needed least i f v : ℕ) → Scanned r needed least i s → i < length (finals r.plan.upstreams) → get_or (finals r.plan.upstreams) i 0 ≡ f → s' ≡ sender_looked s (count_word f) v → last_look 0 s.looks (count_word f) ≤ v
+    → v < needed → (xs : List Look) × LooksAtFinals r xs s' × IsShort r.plan xs needed
+scanned_low r s s' needed least i f v S inside at is rise low =
     let each = S.each in let len : length (S.counts ++ v ∷ []) ≡ i + 1 = omega (arith, length-append S.counts (v ∷ [])) in (
       S.xs ++ look (count_word f) v ∷ [],
-      saw_more r S.xs (count_word f) v me me' counted counted' S.saw is rise more,
+      saw_more r s s' S.xs (count_word f) v S.saw is rise,
       record {
         counts = S.counts ++ v ∷ [];
-        are = scan_more k S.xs S.counts i f v S.each inside at S.are ∙ looks_few (finals k.upstreams) (S.counts ++ v ∷ []) (i + 1) len;
+        are = scan_more r.plan S.xs S.counts i f v S.each inside at S.are ∙ looks_few (finals r.plan.upstreams) (S.counts ++ v ∷ []) (i + 1) len;
         before = i;
         last = len;
         among = omega arith;
@@ -179,29 +150,38 @@ scanned_low k r needed least i f v me me' counted counted' S inside at is rise m
       },
     )
 
-pub scanned_all : (k : Shape) (r : SenderRecord) (needed least i : ℕ) (me : End) (counted : ℕ) → IsPlan k → Scanned k r needed least i me counted → i ≡ length (finals k.upstreams) → (xs : List Look) × LooksAtFinals r xs me counted × IsEnough k r xs needed least
-scanned_all k r needed least i me counted plan S all =
-    let some_one = some_final k plan.graph in let low = S.some_one (omega arith) in (
+pub scanned_all : (r s : SenderRecord) (needed least i : ℕ) → IsPlan r.plan → Scanned r needed least i s → i ≡ length (finals r.plan.upstreams) → (xs : List Look) × LooksAtFinals r xs s × IsEnough r xs needed least
+scanned_all r s needed least i plan S all =
+    let some_one = some_final r.plan plan.graph in let low = S.some_one (omega arith) in (
       S.xs,
       S.saw,
       record {
         enough = elim S.either [ inl e ↦ omega arith | inr e ↦ e ];
         front = S.front;
-        seen = λ f has. (let lt = has.1 in let at : get_or (finals k.upstreams) has.0 0 ≡ f = get_any (finals k.upstreams) has.0 0 f has.1 ∙ has.2 in
+        seen = λ f has. (let lt = has.1 in let at : get_or (finals r.plan.upstreams) has.0 0 ≡ f = get_any (finals r.plan.upstreams) has.0 0 f has.1 ∙ has.2 in
             subst (λ (m : ℕ). least ≤ last_look 0 (r.looks ++ S.xs) (count_word m)) at (S.high has.0 (omega arith)));
         counts = S.counts;
-        are = S.are ∙ looks_few (finals k.upstreams) S.counts i S.each;
+        are = S.are ∙ looks_few (finals r.plan.upstreams) S.counts i S.each;
         all = inr (S.each ∙ all);
         high = let each = S.each in λ j lt. S.ahead j (omega arith);
       },
     )
 
 -- what is remembered serves
-pub remembers : (k : Shape) (r : SenderRecord) (needed least front : ℕ) (me : End) (counted : ℕ) → me ≡ as_sender r → counted ≡ looks_counted r.looks → needed ≤ least → least ≤ front → front ≡ length r.published → IsSeenLeast k r least
-    → (xs : List Look) × LooksAtFinals r xs me counted × IsEnough k r xs needed least
-unfolding scanned_none
-remembers k r needed least front me counted is looks enough low at seen =
-    ([], (scanned_none k r needed front me counted is looks at).saw, record { enough = enough; front = omega arith; seen = λ f has. subst (λ (ys : List Look). least ≤ last_look 0 ys (count_word f)) (sym (append-nil r.looks)) (seen f has); counts = []; are = sym (no_looks_at (finals k.upstreams)); all = inl refl; high = λ i lt. absurd (omega arith) })
+pub remembers : (r : SenderRecord) (needed least front : ℕ) → needed ≤ least → least ≤ front → front ≡ length r.published → IsSeenLeast r least → (xs : List Look) × LooksAtFinals r xs r × IsEnough r xs needed least
+remembers r needed least front enough low at seen = (
+  [],
+  saw_nothing r,
+  record {
+    enough = enough;
+    front = omega arith;
+    seen = λ f has. subst (λ (ys : List Look). least ≤ last_look 0 ys (count_word f)) (sym (append-nil r.looks)) (seen f has);
+    counts = [];
+    are = sym (no_looks_at (finals r.plan.upstreams));
+    all = inl refl;
+    high = λ i lt. absurd (omega arith);
+  },
+)
 
 -- the counts of the first i upstreams were looked at
 least_more : (counts : List ℕ) (v : ℕ) → 0 < length counts → least_of (counts ++ v ∷ []) ≡ min (least_of counts) v
@@ -209,17 +189,15 @@ least_more [] v lt = absurd (omega arith)
 least_more (n ∷ []) v lt = refl
 least_more (n ∷ m ∷ ms) v lt = let e : least_of ((m ∷ ms) ++ v ∷ []) ≡ min (least_of (m ∷ ms)) v = least_more (m ∷ ms) v (omega arith) in omega arith
 
-pub record Round (ups : List ℕ) (r : ReceiverRecord) (cursor available i : ℕ) (first : Bool) (me : End) (counted : ℕ) : Type 0 where
+pub record Round (ups : List ℕ) (r : ReceiverRecord) (cursor available i : ℕ) (s : ReceiverRecord) : Type 0 where
   pub counts : List ℕ
   pub each : length counts ≡ i
-  pub is : me ≡ as_receiver (receiver_saw r (count_looks (take i ups) counts))
-  pub looks : counted ≡ looks_counted (r.looks ++ count_looks (take i ups) counts)
+  pub is : s ≡ receiver_saw r (count_looks (take i ups) counts)
   pub offered : available ≡ offered_by cursor counts
   pub taken : length r.received ≤ available
   pub found : 0 < i → Contains counts available
   pub high : (j : ℕ) → j < i → available ≤ last_look 0 (r.looks ++ count_looks (take i ups) counts) (count_word (get_or ups j 0))
   pub told : r.told ≡ true → 0 < i → available ≤ length r.received
-  pub start : first ≡ (i == 0)
 
 -- what a list of counts offers, once one more is seen
 offers_more : (cursor v available available' : ℕ) (counts : List ℕ) (first : Bool) → first ≡ (length counts == 0) → available ≡ offered_by cursor counts → available' ≡ lesser_of first v available
@@ -240,21 +218,19 @@ contains_more xs x v has = (has.0, (let l = has.1 in omega (arith, length-append
 contains_last : (xs : List ℕ) (x : ℕ) → Contains (xs ++ x ∷ []) x
 contains_last xs x = (length xs, omega (arith, length-append xs (x ∷ [])), last_number xs x x)
 
-pub round_more : (ups : List ℕ) (r : ReceiverRecord) (cursor available available' i u v : ℕ) (first : Bool) (me me' : End) (counted counted' : ℕ) → Round ups r cursor available i first me counted → i < length ups → get_or ups i 0 ≡ u
-    → me' ≡ as_receiver (receiver_looked (receiver_of me.0) (count_word u) v) → length (receiver_of me.0).received ≤ v → ((receiver_of me.0).told ≡ true → v ≤ length (receiver_of me.0).received) → counted' ≡ min (counted + 1) 18446744073709551615
-    → available' ≡ lesser_of first v available → Round ups r cursor available' (i + 1) false me' counted'
-round_more ups r cursor available available' i u v first me me' counted counted' R lt at is le told more new =
+pub round_more : (ups : List ℕ) (r s s' : ReceiverRecord) (cursor available available' i u v : ℕ) → Round ups r cursor available i s → i < length ups → get_or ups i 0 ≡ u → s' ≡ receiver_looked s (count_word u) v → length s.received ≤ v → (s.told ≡ true → v ≤ length s.received)
+    → available' ≡ lesser_of (i == 0) v available → Round ups r cursor available' (i + 1) s'
+round_more ups r s s' cursor available available' i u v R lt at is le told new =
     let xs = count_looks (take i ups) R.counts in let len = R.each in
     let next : count_looks (take (i + 1) ups) (R.counts ++ v ∷ []) ≡ xs ++ look (count_word u) v ∷ [] = looks_more ups R.counts i v R.each lt ∙ ap (λ (w : ℕ). xs ++ look (count_word w) v ∷ []) at in
-    let offer = offers_more cursor v available available' R.counts first (R.start ∙ ap (λ (m : ℕ). m == 0) (sym len)) R.offered new in
+    let offer = offers_more cursor v available available' R.counts (i == 0) (ap (λ (m : ℕ). m == 0) (sym len)) R.offered new in
     let low = offer.1 in let down = offer.2 in
-    let received : length r.received ≤ v = subst (λ (m : End). length (receiver_of m.0).received ≤ v) R.is le in
-    let told_low : r.told ≡ true → v ≤ length r.received = subst (λ (m : End). (receiver_of m.0).told ≡ true → v ≤ length (receiver_of m.0).received) R.is told in
+    let received : length r.received ≤ v = subst (λ (q : ReceiverRecord). length q.received ≤ v) R.is le in
+    let told_low : r.told ≡ true → v ≤ length r.received = subst (λ (q : ReceiverRecord). q.told ≡ true → v ≤ length q.received) R.is told in
     let P : List Look → ℕ → Type 0 = λ ys w. available' ≤ last_look 0 ys w in record {
       counts = R.counts ++ v ∷ [];
       each = omega (arith, length-append R.counts (v ∷ []));
-      is = is ∙ ap (λ (m : End). as_receiver (receiver_looked (receiver_of m.0) (count_word u) v)) R.is ∙ ap (λ (ys : List Look). as_receiver (record r { looks = ys })) (append_assoc r.looks xs (look (count_word u) v ∷ [])) ∙ ap (λ (ys : List Look). as_receiver (receiver_saw r ys)) (sym next);
-      looks = counted_more r.looks xs (count_word u) v counted counted' R.looks more ∙ ap (λ (ys : List Look). looks_counted (r.looks ++ ys)) (sym next);
+      is = is ∙ ap (λ (q : ReceiverRecord). receiver_looked q (count_word u) v) R.is ∙ ap (λ (ys : List Look). record r { looks = ys }) (append_assoc r.looks xs (look (count_word u) v ∷ [])) ∙ ap (receiver_saw r) (sym next);
       offered = offer.0;
       taken = elim offer.3 [ inl this ↦ omega arith | inr old ↦ (let e = old.1 in let t = R.taken in omega arith) ];
       found = λ _. elim offer.3 [
@@ -269,7 +245,6 @@ round_more ups r cursor available available' i u v first me me' counted counted'
                 let b : last_look 0 ((r.looks ++ xs) ++ look (count_word u) v ∷ []) (count_word (get_or ups j 0)) ≡ v = ap (λ (m : ℕ). last_look 0 ((r.looks ++ xs) ++ look (count_word u) v ∷ []) m) w ∙ last_look_more 0 (r.looks ++ xs) (count_word u) v in omega arith)
           ]));
       told = λ y _. (let a = told_low y in omega arith);
-      start = sym (ne_eqb (i + 1) 0 (λ (z : i + 1 ≡ 0). omega arith));
     }
 
 take_whole : (xs : List ℕ) (n : ℕ) → n ≡ length xs → take n xs ≡ xs
@@ -282,15 +257,13 @@ no_elements : (xs : List ℕ) → length xs ≡ 0 → xs ≡ []
 no_elements [] e = refl
 no_elements (x ∷ xs) e = absurd (omega arith)
 
-pub round_all : (k : Shape) (h : ℕ) (r : ReceiverRecord) (cursor available i : ℕ) (first : Bool) (me : End) (counted : ℕ) → Round (upstreams_of k.upstreams h) r cursor available i first me counted → i ≡ length (upstreams_of k.upstreams h)
-    → LooksAtUpstreams k h r cursor me counted available
-round_all k h r cursor available i first me counted R all =
-    let ups = upstreams_of k.upstreams h in let whole : take i ups ≡ ups = take_whole ups i all in
+pub round_all : (r s : ReceiverRecord) (cursor available i : ℕ) → Round (ups_of r) r cursor available i s → i ≡ length (ups_of r) → LooksAtUpstreams r cursor s available
+round_all r s cursor available i R all =
+    let ups = ups_of r in let whole : take i ups ≡ ups = take_whole ups i all in
     let some_one : ups ≢ [] → 0 < i = λ ne. (elim (cases_lt 0 i) [ inl lt ↦ lt | inr le ↦ absurd (ne (no_elements ups (omega arith))) ]) in record {
       counts = R.counts;
       each = R.each ∙ all;
-      is = R.is ∙ ap (λ (xs : List ℕ). as_receiver (receiver_saw r (count_looks xs R.counts))) whole;
-      looks = R.looks ∙ ap (λ (xs : List ℕ). looks_counted (r.looks ++ count_looks xs R.counts)) whole;
+      is = R.is ∙ ap (λ (xs : List ℕ). receiver_saw r (count_looks xs R.counts)) whole;
       offered = R.offered;
       taken = R.taken;
       found = λ ne. R.found (some_one ne);

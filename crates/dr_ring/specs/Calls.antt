@@ -1,6 +1,5 @@
 -- What the ends are to their callers, and what each call answers and leaves of what its end knows.
 use Rattle.std.specs.Prelude.{◌≡◌, ◌↔◌, ℕ, ◌+◌, ◌-◌, ◌<◌, ◌≤◌, ◌⊎◌, ◌==◌, ◌&&◌, ◌||◌, IsTrue, true, false, min, List, [], ◌∷◌, ◌++◌, length, take, drop, replicate, slice_index, slice_index_or, Some, None, Result, Ok, Err, Contains}
-use Rattle.atomic_table.specs.Seated.{TableId}
 use Rattle.dr_seq.specs.declared.event.Event.{Event}
 use Rattle.dr_core.specs.declared.refusal.Refusal.{Refusal}
 use Rattle.dr_core.specs.declared.refusal.Refusal.TheVariants.{NoRoom, Halted, BadCount, Exhausted, NotClaimed, AlreadyPublished, NotWritten, OutOfOrder, NotTaken, Behind, OpenClaim}
@@ -13,33 +12,15 @@ use Rattle.dr_ring.specs.declared.record.Look.{Look}
 use Rattle.dr_ring.specs.declared.record.Step.{Step}
 use Rattle.dr_ring.specs.declared.record.SenderRecord.{SenderRecord}
 use Rattle.dr_ring.specs.declared.record.ReceiverRecord.{ReceiverRecord}
-use Rattle.dr_ring.specs.declared.record.HalterRecord.{HalterRecord}
+use Rattle.dr_ring.specs.declared.record.Step.TheVariants.{SenderStoresFirst, SenderStoresSecond, SenderPublishes, SenderHalts, SenderCloses, ReceiverCompletes}
+use Rattle.dr_ring.specs.Stations.{SenderEnd, ReceiverEnd}
+use Rattle.dr_ring.specs.Shown.{sender_place, receiver_place}
 use Rattle.dr_ring.specs.Ends.{claimed, look, written, published_to, sender_halted, sender_closed, completed_to, IsOpen, AreWritten}
-
--- an end: of which ring it is, what it knows, and what it has stored since the ring's opening
-pub record SenderEnd : Type 0 where
-  pub ring : TableId
-  pub knows : SenderRecord
-  pub stored : List Step
-
-pub record ReceiverEnd : Type 0 where
-  pub ring : TableId
-  pub knows : ReceiverRecord
-  pub stored : List Step
-
-pub record HalterEnd : Type 0 where
-  pub ring : TableId
-  pub knows : HalterRecord
-  pub stored : List Step
 
 -- a call that is not refused stores this and nothing else, and a refused one nothing
 abbrev pub StoresWhereOk : {A E : Type 0} → List Step → List Step → List Step → Result A E → Type 0
 StoresWhereOk stored steps stored' (Ok _) = stored' ≡ stored ++ steps
 StoresWhereOk stored steps stored' (Err _) = stored' ≡ stored
-
--- how many looks an end counts
-abbrev pub looks_counted : List Look → ℕ
-looks_counted looks = min (length looks) 18446744073709551615
 
 -- the sender has made these looks more, and claimed n more
 abbrev pub sender_saw : SenderRecord → List Look → SenderRecord
@@ -167,3 +148,23 @@ TriesToComplete r n r' (Ok _) = (r.completed ≤ n) × (n ≤ length r.received)
 TriesToComplete r n r' (Err Behind) = (n < r.completed) × (r' ≡ r)
 TriesToComplete r n r' (Err NotTaken) = (r.completed ≤ n) × (length r.received < n) × (r' ≡ r)
 TriesToComplete r n r' (Err _) = ⊥
+
+-- Each call whole: the end stays where it is, answers by what it knows, and stores this where it is not refused and nothing else.
+abbrev pub ClaimCall : SenderEnd → ℕ → SenderEnd → Result Claimed Refusal → Type 0
+ClaimCall e n e' result = (sender_place e' ≡ sender_place e) × TriesToClaim e.knows n e'.knows result × (e'.stored ≡ e.stored)
+
+abbrev pub WriteCall : SenderEnd → ℕ → Event → SenderEnd → Result (Unit {0}) Refusal → Type 0
+WriteCall e s event e' result =
+    (sender_place e' ≡ sender_place e) × TriesToWrite e.knows s event e'.knows result × StoresWhereOk e.stored (SenderStoresFirst s event.first ∷ SenderStoresSecond event.second ∷ []) e'.stored result
+
+abbrev pub PublishCall : SenderEnd → ℕ → ℕ → SenderEnd → Result (Unit {0}) Refusal → Type 0
+PublishCall e lo hi e' result = (sender_place e' ≡ sender_place e) × TriesToPublish e.knows lo hi e'.knows result × StoresWhereOk e.stored (SenderPublishes (hi + 1) ∷ []) e'.stored result
+
+abbrev pub CloseCall : SenderEnd → SenderEnd → Result (Unit {0}) Refusal → Type 0
+CloseCall e e' result = (sender_place e' ≡ sender_place e) × TriesToClose e.knows e'.knows result × StoresWhereOk e.stored (SenderHalts ∷ SenderCloses ∷ []) e'.stored result
+
+abbrev pub PollCall : ReceiverEnd → List Event → ReceiverEnd → List Event → Result Polled Refusal → Type 0
+PollCall e out e' out' result = (receiver_place e' ≡ receiver_place e) × Polls e.knows out e'.knows out' result × (e'.stored ≡ e.stored)
+
+abbrev pub CompleteCall : ReceiverEnd → ℕ → ReceiverEnd → Result (Unit {0}) Refusal → Type 0
+CompleteCall e n e' result = (receiver_place e' ≡ receiver_place e) × TriesToComplete e.knows n e'.knows result × StoresWhereOk e.stored (ReceiverCompletes e.knows.number n ∷ []) e'.stored result

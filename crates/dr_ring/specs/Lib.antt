@@ -6,10 +6,11 @@ pub mod Kept
 pub mod Steps
 pub mod Moments
 pub mod Seats
+pub mod Stations
+pub mod Shown
 pub mod Calls
 pub mod Fits
 pub mod Parts
 pub mod Making
 pub mod Fault
 pub mod Settling
-pub mod Shown

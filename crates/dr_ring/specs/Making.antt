@@ -9,7 +9,7 @@ use Rattle.dr_ring.specs.declared.fault.RingFault.TheVariants.{BadLimit, NoMemor
 use Rattle.dr_ring.specs.Shape.{Shape, handlers_of}
 use Rattle.dr_ring.specs.Moments.{fresh_sender, fresh_receivers, fresh_halter}
 use Rattle.dr_ring.specs.Seats.{Known, Sitting}
-use Rattle.dr_ring.specs.Calls.{SenderEnd, ReceiverEnd, HalterEnd}
+use Rattle.dr_ring.specs.Stations.{SenderEnd, ReceiverEnd, HalterEnd}
 
 -- the records of n receivers from the number h on
 abbrev pub receivers_known : Shape → ℕ → ℕ → Known
@@ -21,14 +21,15 @@ receivers_seat k h n = (record { ends = receivers_known k h n; pasts = map (λ r
 
 -- a receiver of a new ring
 abbrev pub at_ring : TableId → ReceiverRecord → ReceiverEnd
-at_ring ring r = record { ring = ring; knows = r; stored = [] }
+at_ring ring r = record { ring = ring; knows = r; past = []; stored = [] }
 
 -- the ends of a new ring: nothing is claimed, received or halted, and no end has stored anything, and the receivers stand in the graph's order
 pub record AreFreshEnds (k : Shape) (s : SenderEnd) (rs : List ReceiverEnd) (t : HalterEnd) : Type 0 where
   pub sender : s.knows ≡ fresh_sender k
+  pub past : s.past ≡ []
   pub stored : s.stored ≡ []
   pub receivers : rs ≡ map (at_ring s.ring) (fresh_receivers k 0 (handlers_of k))
-  pub halter : t ≡ record { ring = s.ring; knows = fresh_halter k; stored = [] }
+  pub halter : t ≡ record { ring = s.ring; knows = fresh_halter k; past = []; stored = [] }
 
 -- why a ring is refused: its limit, or want of memory
 abbrev pub fault_of : ℕ → RingFault

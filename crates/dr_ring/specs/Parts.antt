@@ -9,8 +9,7 @@ use Rattle.dr_ring.specs.declared.record.Look.{Look}
 use Rattle.dr_ring.specs.declared.record.SenderRecord.{SenderRecord}
 use Rattle.dr_ring.specs.declared.record.ReceiverRecord.{ReceiverRecord}
 use Rattle.dr_ring.specs.Ends.{last_look}
-use Rattle.dr_ring.specs.Seats.{End, as_sender, as_receiver}
-use Rattle.dr_ring.specs.Calls.{looks_counted, sender_saw, count_looks, offered_by}
+use Rattle.dr_ring.specs.Calls.{sender_saw, count_looks, offered_by}
 use Rattle.dr_ring.specs.Fits.{IsSeenLeast}
 
 -- the lesser of a count and those seen before, or the count where it is the first
@@ -18,19 +17,18 @@ abbrev pub lesser_of : Bool → ℕ → ℕ → ℕ
 lesser_of first count seen = if first || nat_lt count seen then count else seen
 
 -- the sender made these looks, in which no count fell
-pub record LooksAtFinals (r : SenderRecord) (xs : List Look) (me : End) (counted : ℕ) : Type 0 where
-  pub is : me ≡ as_sender (sender_saw r xs)
-  pub looks : counted ≡ looks_counted (r.looks ++ xs)
+pub record LooksAtFinals (r : SenderRecord) (xs : List Look) (r' : SenderRecord) : Type 0 where
+  pub is : r' ≡ sender_saw r xs
   pub rises : (f : ℕ) → last_look 0 r.looks (count_word f) ≤ last_look 0 (r.looks ++ xs) (count_word f)
 
 -- every count was at least what was needed, or what was remembered served
-pub record IsEnough (k : Shape) (r : SenderRecord) (xs : List Look) (needed least : ℕ) : Type 0 where
+pub record IsEnough (r : SenderRecord) (xs : List Look) (needed least : ℕ) : Type 0 where
   pub enough : needed ≤ least
   pub front : least ≤ length r.published
-  pub seen : IsSeenLeast k (sender_saw r xs) least
+  pub seen : IsSeenLeast (sender_saw r xs) least
   pub counts : List ℕ
-  pub are : xs ≡ count_looks (finals k.upstreams) counts
-  pub all : (counts ≡ []) ⊎ (length counts ≡ length (finals k.upstreams))
+  pub are : xs ≡ count_looks (finals r.plan.upstreams) counts
+  pub all : (counts ≡ []) ⊎ (length counts ≡ length (finals r.plan.upstreams))
   pub high : (i : ℕ) → i < length counts → needed ≤ slice_index counts i
 
 -- the last count was the first that was less
@@ -43,30 +41,32 @@ pub record IsShort (k : Shape) (xs : List Look) (needed : ℕ) : Type 0 where
   pub high : (i : ℕ) → i < before → needed ≤ slice_index counts i
   pub low : slice_index counts before < needed
 
-abbrev pub Scans : Shape → SenderRecord → ℕ → End → ℕ → Option ℕ → Type 0
-Scans k r need me looks (Some least) = (seen : List Look) × LooksAtFinals r seen me looks × IsEnough k r seen need least
-Scans k r need me looks None = (seen : List Look) × LooksAtFinals r seen me looks × IsShort k seen need
+abbrev pub Scans : SenderRecord → ℕ → SenderRecord → Option ℕ → Type 0
+Scans r need r' (Some least) = (seen : List Look) × LooksAtFinals r seen r' × IsEnough r seen need least
+Scans r need r' None = (seen : List Look) × LooksAtFinals r seen r' × IsShort r.plan seen need
 
 -- a receiver has made these looks more
 abbrev pub receiver_saw : ReceiverRecord → List Look → ReceiverRecord
 receiver_saw r seen = record r { looks = r.looks ++ seen }
 
--- so many events are offered to a handler, as far as it saw
-pub record IsOffered (k : Shape) (h : ℕ) (r : ReceiverRecord) (upto : ℕ) : Type 0 where
-  pub completed : (u : ℕ) → Contains (upstreams_of k.upstreams h) u → upto ≤ last_look 0 r.looks (count_word u)
-  pub published : upstreams_of k.upstreams h ≡ [] → upto ≤ last_look 0 r.looks cursor_word
+abbrev pub ups_of : ReceiverRecord → List ℕ
+ups_of r = upstreams_of r.plan.upstreams r.number
+
+-- so many events are offered to a receiver, as far as it saw
+pub record IsOffered (r : ReceiverRecord) (upto : ℕ) : Type 0 where
+  pub completed : (u : ℕ) → Contains (ups_of r) u → upto ≤ last_look 0 r.looks (count_word u)
+  pub published : ups_of r ≡ [] → upto ≤ last_look 0 r.looks cursor_word
 
 -- a receiver looked at each upstream's count
-pub record LooksAtUpstreams (k : Shape) (h : ℕ) (r : ReceiverRecord) (cursor : ℕ) (me : End) (counted available : ℕ) : Type 0 where
+pub record LooksAtUpstreams (r : ReceiverRecord) (cursor : ℕ) (r' : ReceiverRecord) (available : ℕ) : Type 0 where
   pub counts : List ℕ
-  pub each : length counts ≡ length (upstreams_of k.upstreams h)
-  pub is : me ≡ as_receiver (receiver_saw r (count_looks (upstreams_of k.upstreams h) counts))
-  pub looks : counted ≡ looks_counted (r.looks ++ count_looks (upstreams_of k.upstreams h) counts)
+  pub each : length counts ≡ length (ups_of r)
+  pub is : r' ≡ receiver_saw r (count_looks (ups_of r) counts)
   pub offered : available ≡ offered_by cursor counts
   pub taken : length r.received ≤ available
-  pub found : upstreams_of k.upstreams h ≢ [] → Contains counts available
-  pub completed : (u : ℕ) → Contains (upstreams_of k.upstreams h) u → available ≤ last_look 0 (r.looks ++ count_looks (upstreams_of k.upstreams h) counts) (count_word u)
-  pub told : r.told ≡ true → upstreams_of k.upstreams h ≢ [] → available ≤ length r.received
+  pub found : ups_of r ≢ [] → Contains counts available
+  pub completed : (u : ℕ) → Contains (ups_of r) u → available ≤ last_look 0 (r.looks ++ count_looks (ups_of r) counts) (count_word u)
+  pub told : r.told ≡ true → ups_of r ≢ [] → available ≤ length r.received
 
 -- what a poll answers where nothing is offered
 abbrev pub nothing_offered : ℕ → ℕ → ℕ → Polled

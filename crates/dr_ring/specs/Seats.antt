@@ -178,16 +178,28 @@ abbrev pub Stores : (End → ℕ → Step) → (TableStep ℕ → End → ℕ �
 Stores step Tells s me n me' =
     Tells s (end_of me) n (end_of me') × IsBeginning (past_of me.0) (past_of me'.0) × (stored_of me'.0 ≡ stored_of me.0 ++ step (end_of me) n ∷ [])
 
+-- What a look may find: no word that is looked at falls.
+
+-- no more is completed than is published
+abbrev pub FindsCompleted : SenderRecord → ℕ → ℕ → Type 0
+FindsCompleted r word n = (last_look 0 r.looks word ≤ n) × (n ≤ length r.published)
+
+abbrev pub FindsHalt : SenderRecord → ℕ → Type 0
+FindsHalt r n = (last_look 0 r.looks halt_word ≤ n) × (n ≤ 1) × (r.halted ≡ true → n ≡ 1)
+
+abbrev pub FindsClosed : ReceiverRecord → ℕ → ℕ → Type 0
+FindsClosed r word n = (last_look 0 r.looks word ≤ n) × (n ≤ 1) × (r.told ≡ true → n ≡ 1)
+
+-- neither the cursor nor an upstream's count is less than what a receiver took, nor more where it was told that the ring drained
+abbrev pub FindsEvents : ReceiverRecord → ℕ → ℕ → Type 0
+FindsEvents r word n = (last_look 0 r.looks word ≤ n) × (length r.received ≤ n) × (r.told ≡ true → n ≤ length r.received)
+
 -- What each kind of step tells: of the seat before and the word found or stored, the seat after.
--- A count that is looked at never falls, and no more is completed than is published.
 abbrev pub SenderLookedAtCount : TableStep ℕ → End → ℕ → End → Type 0
-SenderLookedAtCount s me n me' =
-    (me' ≡ as_sender (sender_looked (sender_of me.0) s.word n)) × (last_look 0 (sender_of me.0).looks s.word ≤ n) × (n ≤ length (sender_of me.0).published)
+SenderLookedAtCount s me n me' = (me' ≡ as_sender (sender_looked (sender_of me.0) s.word n)) × FindsCompleted (sender_of me.0) s.word n
 
 abbrev pub SenderLookedAtHalt : ℕ → TableStep ℕ → End → ℕ → End → Type 0
-SenderLookedAtHalt more s me n me' =
-    (me' ≡ as_sender (halt_looked (sender_of me.0) more n))
-    × (last_look 0 (sender_of me.0).looks halt_word ≤ n) × (n ≤ 1) × ((sender_of me.0).halted ≡ true → n ≡ 1)
+SenderLookedAtHalt more s me n me' = (me' ≡ as_sender (halt_looked (sender_of me.0) more n)) × FindsHalt (sender_of me.0) n
 
 abbrev pub SenderStoredFirst : ℕ → TableStep ℕ → End → ℕ → End → Type 0
 SenderStoredFirst sequence s me n me' = me' ≡ as_sender (half_written (sender_of me.0) sequence n)
@@ -206,21 +218,13 @@ abbrev pub SenderClosed : TableStep ℕ → End → ℕ → End → Type 0
 SenderClosed s me n me' = me' ≡ as_sender (sender_closed (sender_of me.0))
 
 abbrev pub ReceiverLookedAtClosed : TableStep ℕ → End → ℕ → End → Type 0
-ReceiverLookedAtClosed s me n me' =
-    (me' ≡ as_receiver (receiver_looked (receiver_of me.0) s.word n))
-    × (last_look 0 (receiver_of me.0).looks s.word ≤ n) × (n ≤ 1) × ((receiver_of me.0).told ≡ true → n ≡ 1)
+ReceiverLookedAtClosed s me n me' = (me' ≡ as_receiver (receiver_looked (receiver_of me.0) s.word n)) × FindsClosed (receiver_of me.0) s.word n
 
--- the cursor is no less than what the receiver took, and no more where it was told that the ring drained
 abbrev pub ReceiverLookedAtCursor : TableStep ℕ → End → ℕ → End → Type 0
-ReceiverLookedAtCursor s me n me' =
-    (me' ≡ as_receiver (cursor_looked (receiver_of me.0) n)) × (last_look 0 (receiver_of me.0).looks s.word ≤ n)
-    × (length (receiver_of me.0).received ≤ n) × ((receiver_of me.0).told ≡ true → n ≤ length (receiver_of me.0).received)
+ReceiverLookedAtCursor s me n me' = (me' ≡ as_receiver (cursor_looked (receiver_of me.0) n)) × FindsEvents (receiver_of me.0) s.word n
 
--- nor is an upstream's count, and no upstream completed more than a receiver has that was told that the ring drained
 abbrev pub ReceiverLookedAtCount : TableStep ℕ → End → ℕ → End → Type 0
-ReceiverLookedAtCount s me n me' =
-    (me' ≡ as_receiver (receiver_looked (receiver_of me.0) s.word n)) × (last_look 0 (receiver_of me.0).looks s.word ≤ n)
-    × (length (receiver_of me.0).received ≤ n) × ((receiver_of me.0).told ≡ true → n ≤ length (receiver_of me.0).received)
+ReceiverLookedAtCount s me n me' = (me' ≡ as_receiver (receiver_looked (receiver_of me.0) s.word n)) × FindsEvents (receiver_of me.0) s.word n
 
 abbrev pub ReceiverLoadedFirst : TableStep ℕ → End → ℕ → End → Type 0
 ReceiverLoadedFirst s me n me' = me' ≡ as_receiver (half_taken (receiver_of me.0) n)

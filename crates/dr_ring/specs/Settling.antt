@@ -18,7 +18,7 @@ use Rattle.dr_ring.specs.Kept.{World}
 use Rattle.dr_ring.specs.Moments.{opening, picture_of, Runs}
 use Rattle.dr_ring.specs.Ends.{claimed}
 use Rattle.dr_ring.specs.Seats.{End, Sitting, IsBeginning, EachPast, end_of, sender_of}
-use Rattle.dr_ring.specs.Calls.{SenderEnd, ReceiverEnd}
+use Rattle.dr_ring.specs.Stations.{SenderEnd, ReceiverEnd}
 
 -- a receiver has the beginning of what its sender published, all of it where it was told that the ring drained, and a final handler leaves room for all that is claimed
 pub record Agrees (s : SenderRecord) (r : ReceiverRecord) : Type 0 where

@@ -5,7 +5,7 @@ use Rattle.dr_core.specs.Ends.{Sent, Received}
 use Rattle.dr_ring.specs.Shape.{Shape}
 use Rattle.dr_ring.specs.declared.record.SenderRecord.{SenderRecord}
 use Rattle.dr_ring.specs.declared.record.ReceiverRecord.{ReceiverRecord}
-use Rattle.dr_ring.specs.Calls.{SenderEnd, ReceiverEnd}
+use Rattle.dr_ring.specs.Stations.{SenderEnd, ReceiverEnd}
 
 abbrev pub sent_of : SenderRecord → Sent
 sent_of r = record { published = r.published; pending = r.pending }
@@ -14,8 +14,14 @@ abbrev pub received_of : ReceiverRecord → Received
 received_of r = record { events = r.received; completed = r.completed }
 
 -- which end it is: of which ring, made for what, and a receiver's number
-abbrev pub sender_place : SenderEnd → TableId × Shape
+abbrev pub SenderPlace : Type 0
+SenderPlace = TableId × Shape
+
+abbrev pub sender_place : SenderEnd → SenderPlace
 sender_place e = (e.ring, e.knows.plan)
 
-abbrev pub receiver_place : ReceiverEnd → TableId × Shape × ℕ
+abbrev pub ReceiverPlace : Type 0
+ReceiverPlace = TableId × Shape × ℕ
+
+abbrev pub receiver_place : ReceiverEnd → ReceiverPlace
 receiver_place e = (e.ring, e.knows.plan, e.knows.number)

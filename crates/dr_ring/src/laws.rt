@@ -1,12 +1,13 @@
 //! The steps of a ring over its table, and what every list of them comes to.
 //!
-//! Each kind of step is one function of [`sender`], [`receiver`] or [`halter`]: one load or one
-//! store of one word. Its contract gives what the end knows afterwards from what it knew before
-//! and the word loaded or stored, by the same definition as the step has in [`moments`].
+//! Each end has a station, which is what its steps need, and each kind of step is one function of
+//! a station (the halter's is [`halt`](crate::Halter::halt)): one load or one store of one word. Its
+//! contract gives what the end knows afterwards from what it knew before and the word loaded or
+//! stored, by the same definition as the step has in [`moments`].
 
-pub mod halter;
-pub mod receiver;
-pub mod sender;
+mod halter;
+mod receiver;
+mod sender;
 pub mod settling;
 
 ghost use Rattle.std.specs.Prelude.{List, ◌≡◌, ◌<◌, ◌≤◌, slice_index};
@@ -22,8 +23,11 @@ ghost use Rattle.dr_ring.specs.Moments.{Runs, opening, picture_of};
 
 use crate::plan::Plan;
 use crate::record::View;
-use atomic_table::{Seat, Shared, Table, TableRule};
+use atomic_table::{Play, Seat, Shared, Table, TableRule};
 use dr_core::every_transcript_is_lawful;
+pub use halter::Halter;
+pub(crate) use receiver::ReceiverStation;
+pub(crate) use sender::SenderStation;
 use std::alloc::Global;
 use std::marker::Brand;
 
@@ -46,6 +50,18 @@ pub type RingTable = Table<u64, View, Plan, RingRule, Global>;
 
 /// What an end steps with.
 pub type RingSeat = Seat<u64, View>;
+
+/// What all ends of a ring share: its words, and what it was made for.
+#[derive(Drop)]
+pub(crate) struct RingBody {
+    pub(crate) table: RingTable,
+    pub(crate) plan: Plan,
+}
+
+// The proof of each step says at the call what the step tells; by itself it tells nothing.
+impl Play<u64, View> for Brand {
+    ghost then = { λ s me n me'. me' ≡ me };
+}
 
 /// A number that a step names, for its proof alone.
 pub trait Names {

@@ -7,20 +7,19 @@
 //! kind, and [`laws::moments`] the theorem over all lists of steps.
 #![tactic(auto)]
 
-mod body;
+mod claiming;
 pub mod fault;
-pub mod halter;
 pub mod laws;
 pub mod opening;
-mod parts;
 pub mod plan;
+mod polling;
 pub mod receiver;
 pub mod record;
 pub mod sender;
 pub mod settled;
 
 pub use fault::RingFault;
-pub use halter::Halter;
+pub use laws::Halter;
 pub use opening::ring;
 pub use plan::Plan;
 pub use receiver::Receiver;

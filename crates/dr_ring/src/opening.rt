@@ -10,10 +10,8 @@ ghost use Rattle.dr_ring.specs.Seats.{IsAtTable};
 ghost use Rattle.dr_ring.specs.Settling.{AreAllEnds};
 ghost use Rattle.dr_ring.specs.Making.{receivers_seat, at_ring, AreFreshEnds, fault_of};
 
-use crate::body::RingBody;
 use crate::fault::RingFault;
-use crate::halter::Halter;
-use crate::laws::{RingSeat, RingTable};
+use crate::laws::{Halter, ReceiverStation, RingBody, RingSeat, RingTable, SenderStation};
 use crate::plan::Plan;
 use crate::receiver::Receiver;
 use crate::record::View;
@@ -53,13 +51,16 @@ fn receivers(
     for number in 0..handlers {
         let next = ring.table.shared.split_seat::<Cut>(&mut rest);
         let own = Arc::try_clone(ring)?;
-        receivers.push(Receiver {
+        let station = ReceiverStation {
             ring: own,
             seat: rest,
             number,
+            looks: 0,
+        };
+        receivers.push(Receiver {
+            station,
             taken: 0,
             completed: 0,
-            looks: 0,
         })?;
         rest = next;
     }
@@ -83,13 +84,16 @@ fn ends(alloc: Global, plan: Plan) -> Result<(Sender, Vec<Receiver>, Halter), Al
         ring: Arc::try_clone(&ring)?,
         seat: second,
     };
-    let sender = Sender {
+    let station = SenderStation {
         ring,
         seat,
+        looks: 0,
+    };
+    let sender = Sender {
+        station,
         claimed: 0,
         published: 0,
         gate: GateCache::new(),
-        looks: 0,
         marks,
         counts,
     };

@@ -3,41 +3,33 @@
 ghost use Rattle.std.specs.Prelude.{◌≡◌, ◌<◌, ◌^◌, ◌||◌, [], ◌∷◌, length, Some};
 ghost use Rattle.dr_core.specs.Ends.{Tells, PollAnswers, CompleteAnswers, is_drained, Takes, Completes};
 ghost use Rattle.dr_ring.specs.Shown.{receiver_place, received_of};
-ghost use Rattle.dr_ring.specs.Calls.{looks_counted, StoresWhereOk, Polls, TriesToComplete};
-ghost use Rattle.dr_ring.specs.declared.record.Step.TheVariants.{ReceiverCompletes};
+ghost use Rattle.dr_ring.specs.Stations.{looks_counted};
+ghost use Rattle.dr_ring.specs.Calls.{PollCall, CompleteCall};
 
-use crate::body::RingBody;
-use crate::laws::{RingSeat, receiver as laws};
-use crate::parts;
+use crate::laws::ReceiverStation;
+use crate::polling::nothing_offered;
 use dr_core::{Outlet, Polled, Refusal, Trouble};
 use dr_seq::Event;
-use std::alloc::Global;
 use std::marker::Model;
-use std::sync::Arc;
 
 /// The end of one handler, which receives every event after its upstreams. No call waits or takes
 /// memory.
 #[derive(Drop)]
 pub struct Receiver {
-    pub(crate) ring: Arc<RingBody, Global>,
-    pub(crate) seat: RingSeat,
-    pub(crate) number: usize,
+    pub(crate) station: ReceiverStation,
     pub(crate) taken: u64,
     pub(crate) completed: u64,
-    pub(crate) looks: u64,
 }
 
 impl Model for Receiver {
-    ghost use Rattle.std.specs.Arc.{arc_value};
-    ghost use Rattle.dr_ring.specs.Seats.{end_of, stored_of, receiver_of};
-    ghost use Rattle.dr_ring.specs.Calls.{ReceiverEnd};
+    ghost use Rattle.dr_ring.specs.Stations.{ReceiverEnd};
     ghost use Rattle.dr_ring.specs.Fits.{ReceiverFits};
 
     ghost Value = { ReceiverEnd };
 
-    ghost view = { λ s. record { ring = s.seat.table_id; knows = receiver_of s.seat.me.0.ends; stored = stored_of s.seat.me.0 } };
+    ghost view = { λ s. s.station };
 
-    ghost invariant = { λ s. ReceiverFits (arc_value s.ring).table.shared.table_id s.seat.table_id (end_of s.seat.me) (arc_value s.ring).plan s.number s.taken s.completed s.looks };
+    ghost invariant = { λ s. ReceiverFits s.station.knows s.taken s.completed };
 }
 
 impl Receiver {
@@ -46,36 +38,22 @@ impl Receiver {
     ///
     /// It is refused with `BadCount`, and changes nothing, where `out` is empty.
     pub fn poll_into(&mut self, out: &mut [Event]) -> Result<Polled, Refusal>
-        ensures ring { self.new.ring ≡ self.old.ring }
-        ensures plan { self.new.knows.plan ≡ self.old.knows.plan }
-        ensures number { self.new.knows.number ≡ self.old.knows.number }
-        ensures answer { Polls self.old.knows out.old self.new.knows out.new result }
+        ensures call { PollCall self.old out.old self.new out.new result }
         ensures fits { length self.new.knows.received < 2 ^ 64 }
-        ensures stored { self.new.stored ≡ self.old.stored }
     {
         let first = self.taken;
         if out.is_empty() {
             return Err(Refusal::BadCount);
         }
-        let words = &self.ring.table.shared;
-        let plan = &self.ring.plan;
-        let closed = laws::look_at_closed(words, &mut self.seat, plan);
-        let cursor = laws::look_at_cursor(words, &mut self.seat, plan);
-        self.looks = self.looks.saturating_add(2);
-        let available = parts::barrier(
-            words,
-            &mut self.seat,
-            plan,
-            self.number,
-            cursor,
-            &mut self.looks,
-        );
+        let closed = self.station.look_at_closed();
+        let cursor = self.station.look_at_cursor();
+        let available = self.station.barrier(cursor);
         if available <= first {
-            return Ok(parts::nothing_offered(closed, cursor, first));
+            return Ok(nothing_offered(closed, cursor, first));
         }
         let count = (available - first).min(out.len() as u64);
         let (front, _) = out.split_at_mut(count as usize);
-        parts::take_all(words, &mut self.seat, plan, self.number, first, front);
+        self.station.take_all(first, front);
         self.taken = first + count;
         Ok(Polled::Batch {
             first,
@@ -89,11 +67,7 @@ impl Receiver {
     ///
     /// Refusals in their order: `Behind` (more are completed), `NotTaken`. They change nothing.
     pub fn complete(&mut self, upto: u64) -> Result<(), Refusal>
-        ensures ring { self.new.ring ≡ self.old.ring }
-        ensures plan { self.new.knows.plan ≡ self.old.knows.plan }
-        ensures number { self.new.knows.number ≡ self.old.knows.number }
-        ensures answer { TriesToComplete self.old.knows upto self.new.knows result }
-        ensures stored { StoresWhereOk self.old.stored (ReceiverCompletes self.old.knows.number upto ∷ []) self.new.stored result }
+        ensures { CompleteCall self.old upto self.new result }
     {
         if upto < self.completed {
             return Err(Refusal::Behind);
@@ -101,13 +75,7 @@ impl Receiver {
         if upto > self.taken {
             return Err(Refusal::NotTaken);
         }
-        laws::complete(
-            &self.ring.table.shared,
-            &mut self.seat,
-            &self.ring.plan,
-            self.number,
-            upto,
-        );
+        self.station.complete(upto);
         self.completed = upto;
         Ok(())
     }
@@ -117,16 +85,14 @@ impl Receiver {
     pub fn looks(&self) -> u64
         ensures { result ≡ looks_counted self.now.knows.looks }
     {
-        self.looks
+        self.station.looks
     }
 }
 
 impl Outlet for Receiver {
-    ghost use Rattle.std.specs.Prelude.{ℕ};
-    ghost use Rattle.atomic_table.specs.Seated.{TableId};
-    ghost use Rattle.dr_ring.specs.Shape.{Shape};
+    ghost use Rattle.dr_ring.specs.Shown.{ReceiverPlace};
 
-    ghost Kept = { TableId × Shape × ℕ };
+    ghost Kept = { ReceiverPlace };
 
     ghost kept = { receiver_place };
 
@@ -139,8 +105,7 @@ impl Outlet for Receiver {
         ensures answer { PollAnswers (Some (received_of self.old.knows)) out.old out.new result }
         ensures told { self.new.knows.told ≡ (self.old.knows.told || is_drained result) }
         ensures received { Takes out.new result (received_of self.old.knows) (received_of self.new.knows) }
-        ensures own { Tells (Polls self.old.knows out.old self.new.knows out.new) result }
-        ensures stored { self.new.stored ≡ self.old.stored }
+        ensures own { Tells (PollCall self.old out.old self.new out.new) result }
     {
         Ok(Receiver::poll_into(self, out)?)
     }
@@ -150,8 +115,7 @@ impl Outlet for Receiver {
         ensures answer { CompleteAnswers (Some (received_of self.old.knows)) upto result }
         ensures told { self.new.knows.told ≡ self.old.knows.told }
         ensures received { Completes upto result (received_of self.old.knows) (received_of self.new.knows) }
-        ensures own { Tells (TriesToComplete self.old.knows upto self.new.knows) result }
-        ensures stored { StoresWhereOk self.old.stored (ReceiverCompletes self.old.knows.number upto ∷ []) self.new.stored result }
+        ensures own { Tells (CompleteCall self.old upto self.new) result }
     {
         Ok(Receiver::complete(self, upto)?)
     }

@@ -1,31 +1,26 @@
 //! The one end that claims, writes and publishes.
 
-ghost use Rattle.std.specs.Prelude.{◌≡◌, ◌+◌, [], ◌∷◌, Some};
+ghost use Rattle.std.specs.Prelude.{◌≡◌, Some};
 ghost use Rattle.dr_core.specs.Ends.{Tells, ClaimAnswers, WriteAnswers, PublishAnswers, Claims, Writes, Publishes};
 ghost use Rattle.dr_ring.specs.Shown.{sender_place, sent_of};
-ghost use Rattle.dr_ring.specs.Calls.{looks_counted, StoresWhereOk, TriesToClaim, TriesToWrite, TriesToPublish, TriesToClose};
-ghost use Rattle.dr_ring.specs.declared.record.Step.TheVariants.{SenderStoresFirst, SenderStoresSecond, SenderPublishes, SenderHalts, SenderCloses};
+ghost use Rattle.dr_ring.specs.Stations.{looks_counted};
+ghost use Rattle.dr_ring.specs.Calls.{ClaimCall, WriteCall, PublishCall, CloseCall};
 
-use crate::body::RingBody;
-use crate::laws::{RingSeat, sender as laws};
-use crate::parts;
+use crate::claiming::all_marked;
+use crate::laws::SenderStation;
 use crate::settled::HandlerCounts;
 use dr_core::{Claimed, Inlet, Refusal, Trouble};
 use dr_seq::{Event, GateCache};
-use std::alloc::Global;
-use std::marker::Model;
-use std::sync::Arc;
+use std::marker::{Brand, Model};
 
 /// The one end that claims, writes and publishes. No call waits or takes memory.
 #[derive(Drop)]
 pub struct Sender {
-    pub(crate) ring: Arc<RingBody, Global>,
-    pub(crate) seat: RingSeat,
+    pub(crate) station: SenderStation,
     pub(crate) claimed: u64,
     pub(crate) published: u64,
     // What each final handler was seen to have completed at least.
     pub(crate) gate: GateCache,
-    pub(crate) looks: u64,
     // One more than the sequence that was last written to a slot, so that a claim clears nothing.
     pub(crate) marks: Vec<u64>,
     // Room for each handler's counts, since the ends come together without taking memory.
@@ -33,17 +28,14 @@ pub struct Sender {
 }
 
 impl Model for Sender {
-    ghost use Rattle.std.specs.Prelude.{length};
-    ghost use Rattle.std.specs.Arc.{arc_value};
-    ghost use Rattle.dr_ring.specs.Seats.{end_of, stored_of, sender_of};
-    ghost use Rattle.dr_ring.specs.Calls.{SenderEnd};
+    ghost use Rattle.dr_ring.specs.Stations.{SenderEnd};
     ghost use Rattle.dr_ring.specs.Fits.{SenderFits};
 
     ghost Value = { SenderEnd };
 
-    ghost view = { λ s. record { ring = s.seat.table_id; knows = sender_of s.seat.me.0.ends; stored = stored_of s.seat.me.0 } };
+    ghost view = { λ s. s.station };
 
-    ghost invariant = { λ s. SenderFits (arc_value s.ring).table.shared.table_id s.seat.table_id (end_of s.seat.me) (arc_value s.ring).plan s.claimed s.published s.gate s.looks s.marks.items (length s.counts.items) };
+    ghost invariant = { λ s. SenderFits s.station.knows s.claimed s.published s.gate s.marks.items s.counts.items };
 }
 
 impl Sender {
@@ -54,38 +46,28 @@ impl Sender {
     /// `Exhausted`, `NoRoom`, and `Halted` once more. A refused claim may have looked, and changes
     /// nothing else.
     pub fn try_claim(&mut self, n: u64) -> Result<Claimed, Refusal>
-        ensures ring { self.new.ring ≡ self.old.ring }
-        ensures plan { self.new.knows.plan ≡ self.old.knows.plan }
-        ensures answer { TriesToClaim self.old.knows n self.new.knows result }
-        ensures stored { self.new.stored ≡ self.old.stored }
+        ensures { ClaimCall self.old n self.new result }
     {
-        let words = &self.ring.table.shared;
-        let plan = &self.ring.plan;
-        let size = plan.size().get();
+        let size = self.station.plan().size().get();
+        let limit = self.station.plan().limit();
         if n == 0 || n > size {
             return Err(Refusal::BadCount);
         }
-        if parts::is_halted(words, &mut self.seat, plan, 0, &mut self.looks) {
+        if self.station.finds_halt() {
             return Err(Refusal::Halted);
         }
         let lo = self.claimed;
-        if n > plan.limit() - lo {
+        if n > limit - lo {
             return Err(Refusal::Exhausted);
         }
         let upto = lo + n;
-        let Some(least) = parts::make_room(
-            words,
-            &mut self.seat,
-            plan,
-            self.published,
-            self.gate.seen(),
-            upto.saturating_sub(size),
-            &mut self.looks,
-        ) else {
+        let need = upto.saturating_sub(size);
+        let seen = self.gate.seen();
+        let Some(least) = self.station.make_room(self.published, seen, need) else {
             return Err(Refusal::NoRoom);
         };
         self.gate.raise(least);
-        if parts::is_halted(words, &mut self.seat, plan, n, &mut self.looks) {
+        if !self.station.claims(n) {
             return Err(Refusal::Halted);
         }
         self.claimed = upto;
@@ -97,10 +79,7 @@ impl Sender {
     ///
     /// Refusals in their order: `NotClaimed`, `AlreadyPublished`. They change nothing.
     pub fn write(&mut self, sequence: u64, event: Event) -> Result<(), Refusal>
-        ensures ring { self.new.ring ≡ self.old.ring }
-        ensures plan { self.new.knows.plan ≡ self.old.knows.plan }
-        ensures answer { TriesToWrite self.old.knows sequence event self.new.knows result }
-        ensures stored { StoresWhereOk self.old.stored (SenderStoresFirst sequence event.first ∷ SenderStoresSecond event.second ∷ []) self.new.stored result }
+        ensures { WriteCall self.old sequence event self.new result }
     {
         if sequence >= self.claimed {
             return Err(Refusal::NotClaimed);
@@ -108,11 +87,10 @@ impl Sender {
         if sequence < self.published {
             return Err(Refusal::AlreadyPublished);
         }
-        let words = &self.ring.table.shared;
-        let plan = &self.ring.plan;
-        self.marks[plan.size().slot(sequence)] = sequence + 1;
-        laws::store_first(words, &mut self.seat, plan, sequence, event.first);
-        laws::store_second(words, &mut self.seat, plan, sequence, event);
+        let slot = self.station.plan().size().slot(sequence);
+        self.marks[slot] = sequence + 1;
+        self.station.store_first::<Brand>(sequence, event.first);
+        self.station.store_second(sequence, event);
         Ok(())
     }
 
@@ -122,10 +100,7 @@ impl Sender {
     /// Refusals in their order: `BadCount` (`lo` above `hi`), `NotClaimed`, `AlreadyPublished`,
     /// `NotWritten`, `OutOfOrder`. They change nothing.
     pub fn publish(&mut self, lo: u64, hi: u64) -> Result<(), Refusal>
-        ensures ring { self.new.ring ≡ self.old.ring }
-        ensures plan { self.new.knows.plan ≡ self.old.knows.plan }
-        ensures answer { TriesToPublish self.old.knows lo hi self.new.knows result }
-        ensures stored { StoresWhereOk self.old.stored (SenderPublishes (hi + 1) ∷ []) self.new.stored result }
+        ensures { PublishCall self.old lo hi self.new result }
     {
         if lo > hi {
             return Err(Refusal::BadCount);
@@ -136,14 +111,14 @@ impl Sender {
         if lo < self.published {
             return Err(Refusal::AlreadyPublished);
         }
-        let plan = &self.ring.plan;
-        if !parts::all_marked(self.marks.as_slice(), plan.size(), lo, hi + 1) {
+        let size = self.station.plan().size();
+        if !all_marked(self.marks.as_slice(), size, lo, hi + 1) {
             return Err(Refusal::NotWritten);
         }
         if lo > self.published {
             return Err(Refusal::OutOfOrder);
         }
-        laws::publish(&self.ring.table.shared, &mut self.seat, plan, hi + 1);
+        self.station.publish(hi + 1);
         self.published = hi + 1;
         Ok(())
     }
@@ -153,18 +128,13 @@ impl Sender {
     ///
     /// It is refused with `OpenClaim`, and changes nothing, while a claimed sequence is unpublished.
     pub fn close(&mut self) -> Result<(), Refusal>
-        ensures ring { self.new.ring ≡ self.old.ring }
-        ensures plan { self.new.knows.plan ≡ self.old.knows.plan }
-        ensures answer { TriesToClose self.old.knows self.new.knows result }
-        ensures stored { StoresWhereOk self.old.stored (SenderHalts ∷ SenderCloses ∷ []) self.new.stored result }
+        ensures { CloseCall self.old self.new result }
     {
         if self.published != self.claimed {
             return Err(Refusal::OpenClaim);
         }
-        let words = &self.ring.table.shared;
-        let plan = &self.ring.plan;
-        laws::halt(words, &mut self.seat, plan);
-        laws::close(words, &mut self.seat, plan);
+        self.station.halt();
+        self.station.close();
         Ok(())
     }
 
@@ -172,15 +142,14 @@ impl Sender {
     pub fn looks(&self) -> u64
         ensures { result ≡ looks_counted self.now.knows.looks }
     {
-        self.looks
+        self.station.looks
     }
 }
 
 impl Inlet for Sender {
-    ghost use Rattle.atomic_table.specs.Seated.{TableId};
-    ghost use Rattle.dr_ring.specs.Shape.{Shape};
+    ghost use Rattle.dr_ring.specs.Shown.{SenderPlace};
 
-    ghost Kept = { TableId × Shape };
+    ghost Kept = { SenderPlace };
 
     ghost kept = { sender_place };
 
@@ -190,11 +159,10 @@ impl Inlet for Sender {
         ensures kept { sender_place self.new ≡ sender_place self.old }
         ensures answer { ClaimAnswers (Some (sent_of self.old.knows)) n result }
         ensures sent { Claims n result (sent_of self.old.knows) (sent_of self.new.knows) }
-        ensures own { Tells (TriesToClaim self.old.knows n self.new.knows) result }
-        ensures stored { self.new.stored ≡ self.old.stored }
+        ensures own { Tells (ClaimCall self.old n self.new) result }
     {
         // The plan tells by this call that no sequence reaches 2^62.
-        let _limit = self.ring.plan.limit();
+        let _limit = self.station.plan().limit();
         Ok(Sender::try_claim(self, n)?)
     }
 
@@ -202,8 +170,7 @@ impl Inlet for Sender {
         ensures kept { sender_place self.new ≡ sender_place self.old }
         ensures answer { WriteAnswers (Some (sent_of self.old.knows)) s result }
         ensures sent { Writes s event result (sent_of self.old.knows) (sent_of self.new.knows) }
-        ensures own { Tells (TriesToWrite self.old.knows s event self.new.knows) result }
-        ensures stored { StoresWhereOk self.old.stored (SenderStoresFirst s event.first ∷ SenderStoresSecond event.second ∷ []) self.new.stored result }
+        ensures own { Tells (WriteCall self.old s event self.new) result }
     {
         Ok(Sender::write(self, s, event)?)
     }
@@ -212,8 +179,7 @@ impl Inlet for Sender {
         ensures kept { sender_place self.new ≡ sender_place self.old }
         ensures answer { PublishAnswers (Some (sent_of self.old.knows)) lo hi result }
         ensures sent { Publishes lo hi result (sent_of self.old.knows) (sent_of self.new.knows) }
-        ensures own { Tells (TriesToPublish self.old.knows lo hi self.new.knows) result }
-        ensures stored { StoresWhereOk self.old.stored (SenderPublishes (hi + 1) ∷ []) self.new.stored result }
+        ensures own { Tells (PublishCall self.old lo hi self.new) result }
     {
         Ok(Sender::publish(self, lo, hi)?)
     }

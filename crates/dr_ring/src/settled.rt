@@ -6,8 +6,7 @@ ghost use Rattle.dr_ring.specs.Seats.{IsAtTable, end_of};
 ghost use Rattle.dr_ring.specs.Ends.{claimed as claimed_of};
 ghost use Rattle.dr_ring.specs.Settling.{LeadsView, Settles, HasRun, AreAllEnds, AreOfRing, Gathers, counts_of, counts_at};
 
-use crate::body::RingBody;
-use crate::laws::{RingSeat, moments, settling};
+use crate::laws::{ReceiverStation, RingBody, RingSeat, SenderStation, moments, settling};
 use crate::receiver::Receiver;
 use crate::sender::Sender;
 use std::alloc::Global;
@@ -92,13 +91,16 @@ fn gather(
 {
     while let Some(receiver) = receivers.pop() {
         let Receiver {
+            station,
+            taken,
+            completed,
+        } = receiver;
+        let ReceiverStation {
             ring: _own,
             seat: other,
             number: _,
-            taken,
-            completed,
             looks: _,
-        } = receiver;
+        } = station;
         counts[receivers.len()] = HandlerCounts { taken, completed };
         settling::take_in(&ring.table.shared, seat, other);
     }
@@ -119,15 +121,18 @@ pub fn settle(sender: Sender, receivers: Vec<Receiver>) -> Settled
     ensures run { HasRun sender.knows (map (λ e. e.knows) receivers.items) }
 {
     let Sender {
-        ring,
-        mut seat,
+        station,
         claimed,
         published,
         gate: _,
-        looks: _,
         marks: _,
         mut counts,
     } = sender;
+    let SenderStation {
+        ring,
+        mut seat,
+        looks: _,
+    } = station;
     gather(&ring, &mut seat, receivers, &mut counts);
     settling::compare(&ring.table.shared, &mut seat);
     moments();

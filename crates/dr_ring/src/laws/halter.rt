@@ -1,33 +1,41 @@
-//! The halter's step.
+//! An end that halts a ring from any thread. Its one call is its one step.
 
-ghost use Rattle.std.specs.Prelude.{◌≡◌, [], ◌∷◌, ◌++◌};
 ghost use Rattle.dr_ring.specs.Ends.{halter_halted};
 ghost use Rattle.dr_ring.specs.declared.record.Step.TheVariants.{HalterHalts};
-ghost use Rattle.dr_ring.specs.Seats.{IsAtTable, IsBeginning, end_of, past_of, stored_of, IsHalter, halter_of, as_halter};
+ghost use Rattle.dr_ring.specs.Stations.{HasStored};
 
-use super::{RingSeat, Words};
-use crate::plan::{HALT_WORD, Plan};
-use crate::record::View;
-use atomic_table::Play;
+use super::{RingBody, RingSeat};
+use crate::plan::HALT_WORD;
+use std::alloc::Global;
+use std::marker::{Brand, Model};
+use std::sync::Arc;
 
-struct Halts;
-
-impl Play<u64, View> for Halts {
-    ghost use Rattle.dr_ring.specs.declared.record.Step.TheVariants.{HalterHalts};
-    ghost use Rattle.dr_ring.specs.Seats.{Stores, HalterHalted};
-
-    ghost then = { Stores (λ _ _. HalterHalts) HalterHalted };
+/// An end that halts the ring: its sender claims no more from then on.
+#[derive(Drop)]
+pub struct Halter {
+    pub(crate) ring: Arc<RingBody, Global>,
+    pub(crate) seat: RingSeat,
 }
 
-/// The halter stores halt.
-pub fn halt(words: &Words, seat: &mut RingSeat, plan: &Plan)
-    requires table { IsAtTable seat.old.table_id words.now.table_id plan.now }
-    requires end { IsHalter (end_of seat.old.me) }
-    ensures seat { (seat.new.table_id ≡ seat.old.table_id) × (seat.new.id ≡ seat.old.id) }
-    ensures end { end_of seat.new.me ≡ as_halter (halter_halted (halter_of seat.old.me.0.ends)) }
-    ensures past { IsBeginning (past_of seat.old.me.0) (past_of seat.new.me.0) }
-    ensures stored { stored_of seat.new.me.0 ≡ stored_of seat.old.me.0 ++ HalterHalts ∷ [] }
-{
-    let _plan = plan;
-    words.store::<Halts>(seat, HALT_WORD, 1);
+impl Model for Halter {
+    ghost use Rattle.std.specs.Arc.{arc_value};
+    ghost use Rattle.dr_ring.specs.Seats.{end_of};
+    ghost use Rattle.dr_ring.specs.Stations.{HalterEnd, halter_end, HalterSits};
+
+    ghost Value = { HalterEnd };
+
+    ghost view = { λ s. halter_end s.seat.table_id s.seat.me };
+
+    ghost invariant = { λ s. HalterSits (arc_value s.ring).table.shared.table_id s.seat.table_id (arc_value s.ring).plan (end_of s.seat.me) };
+}
+
+impl Halter {
+    /// Halts the ring. It always succeeds, and may be repeated. Receivers are told `Drained` only
+    /// once the sender has closed.
+    pub fn halt(&mut self)
+        ensures { HasStored self.old HalterHalts (halter_halted self.old.knows) self.new }
+    {
+        let words = &self.ring.table.shared;
+        words.store::<Brand>(&mut self.seat, HALT_WORD, 1);
+    }
 }

@@ -1,190 +1,112 @@
 //! A receiver's steps.
 
-ghost use Rattle.std.specs.Prelude.{◌≡◌, ◌<◌, ◌≤◌, [], ◌∷◌, ◌++◌, true, Some, length, Contains};
+ghost use Rattle.std.specs.Prelude.{◌≡◌, ◌<◌, ◌≤◌, true, None, Some, length, Contains};
 ghost use Rattle.dr_graph.specs.Graph.{upstreams_of};
-ghost use Rattle.dr_ring.specs.Shape.{handlers_of};
 ghost use Rattle.dr_ring.specs.Words.{cursor_word, closed_word, count_word as count_word_of};
-ghost use Rattle.dr_ring.specs.Ends.{last_look, receiver_looked, cursor_looked, half_taken, took, completed_to, IsBelowBarrier};
+ghost use Rattle.dr_ring.specs.Ends.{receiver_looked, cursor_looked, half_taken, took, completed_to, IsBelowBarrier};
 ghost use Rattle.dr_ring.specs.declared.record.Step.TheVariants.{ReceiverCompletes};
-ghost use Rattle.dr_ring.specs.Seats.{IsAtTable, IsBeginning, end_of, past_of, stored_of, IsReceiver, receiver_of, as_receiver};
+ghost use Rattle.dr_ring.specs.Seats.{FindsClosed, FindsEvents};
+ghost use Rattle.dr_ring.specs.Stations.{HasLoaded, HasStored};
 
-use super::{RingSeat, Words};
-use crate::plan::{CLOSED_WORD, CURSOR_WORD, Plan, count_word};
-use crate::record::View;
-use atomic_table::Play;
+use super::{RingBody, RingSeat};
+use crate::plan::{CLOSED_WORD, CURSOR_WORD, count_word};
 use dr_seq::Event;
+use std::alloc::Global;
+use std::marker::{Brand, Model};
+use std::sync::Arc;
 
-struct LooksAtClosed;
-
-impl Play<u64, View> for LooksAtClosed {
-    ghost use Rattle.dr_ring.specs.Seats.{Loads, ReceiverLookedAtClosed};
-
-    ghost then = { Loads ReceiverLookedAtClosed };
+/// What each step of a receiver needs, and how many words it looked at.
+#[derive(Drop)]
+pub(crate) struct ReceiverStation {
+    pub(crate) ring: Arc<RingBody, Global>,
+    pub(crate) seat: RingSeat,
+    pub(crate) number: usize,
+    pub(crate) looks: u64,
 }
 
-struct LooksAtCursor;
+impl Model for ReceiverStation {
+    ghost use Rattle.std.specs.Arc.{arc_value};
+    ghost use Rattle.dr_ring.specs.Seats.{end_of};
+    ghost use Rattle.dr_ring.specs.Stations.{ReceiverEnd, receiver_end, ReceiverSits};
 
-impl Play<u64, View> for LooksAtCursor {
-    ghost use Rattle.dr_ring.specs.Seats.{Loads, ReceiverLookedAtCursor};
+    ghost Value = { ReceiverEnd };
 
-    ghost then = { Loads ReceiverLookedAtCursor };
+    ghost view = { λ s. receiver_end s.seat.table_id s.seat.me };
+
+    ghost invariant = { λ s. ReceiverSits (arc_value s.ring).table.shared.table_id s.seat.table_id (arc_value s.ring).plan (end_of s.seat.me) s.number s.looks };
 }
 
-struct LooksAtCount;
+impl ReceiverStation {
+    /// The direct upstreams of the handler.
+    pub(crate) fn upstreams(&self) -> &[usize]
+        ensures { result.now ≡ upstreams_of self.now.knows.plan.upstreams self.now.knows.number }
+    {
+        self.ring.plan.upstreams(self.number)
+    }
 
-impl Play<u64, View> for LooksAtCount {
-    ghost use Rattle.dr_ring.specs.Seats.{Loads, ReceiverLookedAtCount};
+    /// A receiver looks at closed.
+    pub(crate) fn look_at_closed(&mut self) -> u64
+        ensures step { HasLoaded self.old (receiver_looked self.old.knows closed_word result) self.new }
+        ensures finds { FindsClosed self.old.knows closed_word result }
+    {
+        self.looks = self.looks.saturating_add(1);
+        let words = &self.ring.table.shared;
+        words.load::<Brand>(&mut self.seat, CLOSED_WORD)
+    }
 
-    ghost then = { Loads ReceiverLookedAtCount };
-}
+    /// A receiver looks at the cursor, by which it may be told that the ring drained.
+    pub(crate) fn look_at_cursor(&mut self) -> u64
+        ensures step { HasLoaded self.old (cursor_looked self.old.knows result) self.new }
+        ensures finds { FindsEvents self.old.knows cursor_word result }
+    {
+        self.looks = self.looks.saturating_add(1);
+        let words = &self.ring.table.shared;
+        words.load::<Brand>(&mut self.seat, CURSOR_WORD)
+    }
 
-struct LoadsFirst;
+    /// A receiver looks at the count of one of its upstreams.
+    pub(crate) fn look_at_count(&mut self, upstream: usize) -> u64
+        requires { Contains (upstreams_of self.old.knows.plan.upstreams self.old.knows.number) upstream }
+        ensures step { HasLoaded self.old (receiver_looked self.old.knows (count_word_of upstream) result) self.new }
+        ensures finds { FindsEvents self.old.knows (count_word_of upstream) result }
+    {
+        self.looks = self.looks.saturating_add(1);
+        let words = &self.ring.table.shared;
+        words.load::<Brand>(&mut self.seat, count_word(upstream))
+    }
 
-impl Play<u64, View> for LoadsFirst {
-    ghost use Rattle.dr_ring.specs.Seats.{Loads, ReceiverLoadedFirst};
+    /// A receiver loads the first word of its next event, which is below its barrier.
+    pub(crate) fn load_first(&mut self, taken: u64) -> u64
+        requires next { taken ≡ length self.old.knows.received }
+        requires whole { self.old.knows.half ≡ None }
+        requires below { IsBelowBarrier self.old.knows.plan self.old.knows.number self.old.knows }
+        ensures { HasLoaded self.old (half_taken self.old.knows result) self.new }
+    {
+        let words = &self.ring.table.shared;
+        words.load::<Brand>(&mut self.seat, self.ring.plan.payload_word(taken, 0))
+    }
 
-    ghost then = { Loads ReceiverLoadedFirst };
-}
+    /// A receiver loads the second word of its next event, whose first word it has just loaded, and
+    /// has taken that event.
+    pub(crate) fn load_second(&mut self, taken: u64, first: u64) -> Event
+        requires next { taken ≡ length self.old.knows.received }
+        requires half { self.old.knows.half ≡ Some first }
+        requires below { IsBelowBarrier self.old.knows.plan self.old.knows.number self.old.knows }
+        ensures step { HasLoaded self.old (took self.old.knows result) self.new }
+        ensures first { result.first ≡ first }
+    {
+        let words = &self.ring.table.shared;
+        let second = words.load::<Brand>(&mut self.seat, self.ring.plan.payload_word(taken, 1));
+        Event { first, second }
+    }
 
-struct LoadsSecond;
-
-impl Play<u64, View> for LoadsSecond {
-    ghost use Rattle.dr_ring.specs.Seats.{Loads, ReceiverLoadedSecond};
-
-    ghost then = { Loads ReceiverLoadedSecond };
-}
-
-struct Completes;
-
-impl Play<u64, View> for Completes {
-    ghost use Rattle.dr_ring.specs.declared.record.Step.TheVariants.{ReceiverCompletes};
-    ghost use Rattle.dr_ring.specs.Seats.{Stores, receiver_of, ReceiverCompleted};
-
-    ghost then = { Stores (λ me n. ReceiverCompletes (receiver_of me.0).number n) ReceiverCompleted };
-}
-
-/// A receiver looks at closed.
-pub fn look_at_closed(words: &Words, seat: &mut RingSeat, plan: &Plan) -> u64
-    requires table { IsAtTable seat.old.table_id words.now.table_id plan.now }
-    requires end { IsReceiver (end_of seat.old.me) }
-    ensures seat { (seat.new.table_id ≡ seat.old.table_id) × (seat.new.id ≡ seat.old.id) }
-    ensures end { end_of seat.new.me ≡ as_receiver (receiver_looked (receiver_of seat.old.me.0.ends) closed_word result) }
-    ensures past { IsBeginning (past_of seat.old.me.0) (past_of seat.new.me.0) }
-    ensures stored { stored_of seat.new.me.0 ≡ stored_of seat.old.me.0 }
-    ensures rises { last_look 0 (receiver_of seat.old.me.0.ends).looks closed_word ≤ result }
-    ensures flag { result ≤ 1 }
-    ensures told { (receiver_of seat.old.me.0.ends).told ≡ true → result ≡ 1 }
-{
-    let _plan = plan;
-    words.load::<LooksAtClosed>(seat, CLOSED_WORD)
-}
-
-/// A receiver looks at the cursor, by which it may be told that the ring drained.
-pub fn look_at_cursor(words: &Words, seat: &mut RingSeat, plan: &Plan) -> u64
-    requires table { IsAtTable seat.old.table_id words.now.table_id plan.now }
-    requires end { IsReceiver (end_of seat.old.me) }
-    ensures seat { (seat.new.table_id ≡ seat.old.table_id) × (seat.new.id ≡ seat.old.id) }
-    ensures end { end_of seat.new.me ≡ as_receiver (cursor_looked (receiver_of seat.old.me.0.ends) result) }
-    ensures past { IsBeginning (past_of seat.old.me.0) (past_of seat.new.me.0) }
-    ensures stored { stored_of seat.new.me.0 ≡ stored_of seat.old.me.0 }
-    ensures rises { last_look 0 (receiver_of seat.old.me.0.ends).looks cursor_word ≤ result }
-    ensures taken { length (receiver_of seat.old.me.0.ends).received ≤ result }
-    ensures told { (receiver_of seat.old.me.0.ends).told ≡ true → result ≤ length (receiver_of seat.old.me.0.ends).received }
-{
-    let _plan = plan;
-    words.load::<LooksAtCursor>(seat, CURSOR_WORD)
-}
-
-/// A receiver looks at the count of one of its upstreams.
-pub fn look_at_count(
-    words: &Words,
-    seat: &mut RingSeat,
-    plan: &Plan,
-    handler: usize,
-    upstream: usize,
-) -> u64
-    requires table { IsAtTable seat.old.table_id words.now.table_id plan.now }
-    requires end { IsReceiver (end_of seat.old.me) }
-    requires plan { (receiver_of seat.old.me.0.ends).plan ≡ plan.now }
-    requires number { ((receiver_of seat.old.me.0.ends).number ≡ handler) × (handler < handlers_of plan.now) }
-    requires upstream { Contains (upstreams_of plan.now.upstreams handler) upstream }
-    requires below { upstream < handler }
-    ensures seat { (seat.new.table_id ≡ seat.old.table_id) × (seat.new.id ≡ seat.old.id) }
-    ensures end { end_of seat.new.me ≡ as_receiver (receiver_looked (receiver_of seat.old.me.0.ends) (count_word_of upstream) result) }
-    ensures past { IsBeginning (past_of seat.old.me.0) (past_of seat.new.me.0) }
-    ensures stored { stored_of seat.new.me.0 ≡ stored_of seat.old.me.0 }
-    ensures rises { last_look 0 (receiver_of seat.old.me.0.ends).looks (count_word_of upstream) ≤ result }
-    ensures taken { length (receiver_of seat.old.me.0.ends).received ≤ result }
-    ensures told { (receiver_of seat.old.me.0.ends).told ≡ true → result ≤ length (receiver_of seat.old.me.0.ends).received }
-{
-    let _handler = handler;
-    let _handlers = plan.handlers();
-    words.load::<LooksAtCount>(seat, count_word(upstream))
-}
-
-/// A receiver loads the first word of its next event, which is below its barrier.
-pub fn load_first(
-    words: &Words,
-    seat: &mut RingSeat,
-    plan: &Plan,
-    handler: usize,
-    taken: u64,
-) -> u64
-    requires table { IsAtTable seat.old.table_id words.now.table_id plan.now }
-    requires end { IsReceiver (end_of seat.old.me) }
-    requires plan { (receiver_of seat.old.me.0.ends).plan ≡ plan.now }
-    requires number { (receiver_of seat.old.me.0.ends).number ≡ handler }
-    requires next { taken ≡ length (receiver_of seat.old.me.0.ends).received }
-    requires below { IsBelowBarrier plan.now handler (receiver_of seat.old.me.0.ends) }
-    ensures seat { (seat.new.table_id ≡ seat.old.table_id) × (seat.new.id ≡ seat.old.id) }
-    ensures end { end_of seat.new.me ≡ as_receiver (half_taken (receiver_of seat.old.me.0.ends) result) }
-    ensures past { IsBeginning (past_of seat.old.me.0) (past_of seat.new.me.0) }
-    ensures stored { stored_of seat.new.me.0 ≡ stored_of seat.old.me.0 }
-{
-    let _handler = handler;
-    words.load::<LoadsFirst>(seat, plan.payload_word(taken, 0))
-}
-
-/// A receiver loads the second word of its next event, whose first word it has just loaded, and
-/// has taken that event.
-pub fn load_second(
-    words: &Words,
-    seat: &mut RingSeat,
-    plan: &Plan,
-    handler: usize,
-    taken: u64,
-    first: u64,
-) -> Event
-    requires table { IsAtTable seat.old.table_id words.now.table_id plan.now }
-    requires end { IsReceiver (end_of seat.old.me) }
-    requires plan { (receiver_of seat.old.me.0.ends).plan ≡ plan.now }
-    requires number { (receiver_of seat.old.me.0.ends).number ≡ handler }
-    requires next { taken ≡ length (receiver_of seat.old.me.0.ends).received }
-    requires half { (receiver_of seat.old.me.0.ends).half ≡ Some first }
-    requires below { IsBelowBarrier plan.now handler (receiver_of seat.old.me.0.ends) }
-    ensures seat { (seat.new.table_id ≡ seat.old.table_id) × (seat.new.id ≡ seat.old.id) }
-    ensures end { end_of seat.new.me ≡ as_receiver (took (receiver_of seat.old.me.0.ends) result) }
-    ensures past { IsBeginning (past_of seat.old.me.0) (past_of seat.new.me.0) }
-    ensures stored { stored_of seat.new.me.0 ≡ stored_of seat.old.me.0 }
-    ensures first { result.first ≡ first }
-{
-    let _handler = handler;
-    let second = words.load::<LoadsSecond>(seat, plan.payload_word(taken, 1));
-    Event { first, second }
-}
-
-/// A receiver stores its count.
-pub fn complete(words: &Words, seat: &mut RingSeat, plan: &Plan, handler: usize, upto: u64)
-    requires table { IsAtTable seat.old.table_id words.now.table_id plan.now }
-    requires end { IsReceiver (end_of seat.old.me) }
-    requires number { ((receiver_of seat.old.me.0.ends).number ≡ handler) × (handler < handlers_of plan.now) }
-    requires rises { (receiver_of seat.old.me.0.ends).completed ≤ upto }
-    requires taken { upto ≤ length (receiver_of seat.old.me.0.ends).received }
-    ensures seat { (seat.new.table_id ≡ seat.old.table_id) × (seat.new.id ≡ seat.old.id) }
-    ensures end { end_of seat.new.me ≡ as_receiver (completed_to (receiver_of seat.old.me.0.ends) upto) }
-    ensures past { IsBeginning (past_of seat.old.me.0) (past_of seat.new.me.0) }
-    ensures stored { stored_of seat.new.me.0 ≡ stored_of seat.old.me.0 ++ ReceiverCompletes handler upto ∷ [] }
-{
-    let _handlers = plan.handlers();
-    words.store::<Completes>(seat, count_word(handler), upto);
+    /// A receiver stores its count.
+    pub(crate) fn complete(&mut self, upto: u64)
+        requires rises { self.old.knows.completed ≤ upto }
+        requires taken { upto ≤ length self.old.knows.received }
+        ensures { HasStored self.old (ReceiverCompletes self.old.knows.number upto) (completed_to self.old.knows upto) self.new }
+    {
+        let words = &self.ring.table.shared;
+        words.store::<Brand>(&mut self.seat, count_word(self.number), upto);
+    }
 }

@@ -7,7 +7,8 @@ ghost use Rattle.dr_ring.specs.Settling.{LeadsView, ViewAgrees, ViewRan};
 use super::{RingSeat, Words};
 use crate::plan::CURSOR_WORD;
 use crate::record::View;
-use atomic_table::{Join, Play};
+use atomic_table::Join;
+use std::marker::Brand;
 
 struct Together;
 
@@ -18,14 +19,6 @@ impl Join<View> for Together {
     ghost both = { both_views };
 
     ghost spent = { record { ends = []; pasts = [] } };
-}
-
-struct Compares;
-
-impl Play<u64, View> for Compares {
-    ghost use Rattle.dr_ring.specs.Settling.{Compares};
-
-    ghost then = { Compares };
 }
 
 /// A seat takes in what another stands for.
@@ -47,5 +40,5 @@ pub fn compare(words: &Words, seat: &mut RingSeat)
     ensures agree { ViewAgrees (end_of seat.old.me) }
     ensures ran { ViewRan seat.old.me }
 {
-    words.load::<Compares>(seat, CURSOR_WORD);
+    words.load::<Brand>(seat, CURSOR_WORD);
 }

@@ -1,9 +1,10 @@
-use Rattle.std.proofs.Common.{◌<◌, arith, ap, sym, subst, ◌∙◌}
+use Rattle.std.proofs.Common.{◌<◌, arith, refl, ap, sym, subst, ◌∙◌}
 use Rattle.dr_ring.specs.Shape.{handlers_of}
-use Rattle.dr_ring.specs.Seats.{Sitting, end_of}
+use Rattle.dr_ring.specs.Seats.{Sitting, end_of, receiver_of}
 use Rattle.dr_ring.specs.Fits.{ReceiverFits}
+use Rattle.dr_ring.specs.Stations.{ReceiverSits}
 use Rattle.dr_ring.proofs.Cuts.{cuts}
-use Rattle.dr_ring.proofs.Making.{cut_own, cut_rest, fits_receiver, listed_next, view_fresh}
+use Rattle.dr_ring.proofs.Making.{cut_own, cut_rest, sits_fresh, listed_next, view_fresh}
 use Rattle.dr_ring.proofs.opening.receivers.Goals as goal
 
 pub split_seat-next-requires : goal.split_seat-next-requires
@@ -13,12 +14,18 @@ split_seat-next-requires c = let t = c.requires.table in (
   cuts _ _ _,
 )
 
+pub invariant_of-station : goal.invariant_of-station
+invariant_of-station c =
+    let t = c.requires.table in let count = c.handlers-handlers.ensures.count ∙ ap (λ r. handlers_of r.plan) c.deref.ensures in let test = c.loop-number-test.true in
+    subst (λ r. ReceiverSits r.table.shared.table_id c.split_seat-next.new.seat.table_id r.plan (end_of c.split_seat-next.new.seat.me) c.loop-number.number 0) (sym c.in_ok-own.ensures)
+    (sits_fresh _ _ _ _ c.loop-number.number (c.split_seat-next.ensures.0 ∙ c.loop-number.invariant.0 ∙ t.0, t.1) c.requires.made (omega arith)
+    (ap (λ (m : Sitting). end_of m) (cut_own _ c.loop-number.number _ _ _ (omega arith) c.loop-number.invariant.1 c.split_seat-next.ensures.2)))
+
 pub invariant_of-push : goal.invariant_of-push
 invariant_of-push c =
-    let t = c.requires.table in let count = c.handlers-handlers.ensures.count ∙ ap (λ r. handlers_of r.plan) c.deref.ensures in let test = c.loop-number-test.true in
-    subst (λ r. ReceiverFits r.table.shared.table_id c.split_seat-next.new.seat.table_id (end_of c.split_seat-next.new.seat.me) r.plan c.loop-number.number 0 0 0) (sym c.in_ok-own.ensures)
-    (fits_receiver _ _ _ _ c.loop-number.number (c.split_seat-next.ensures.0 ∙ c.loop-number.invariant.0 ∙ t.0, t.1) c.requires.made (omega arith)
-    (ap (λ (m : Sitting). end_of m) (cut_own _ c.loop-number.number _ _ _ (omega arith) c.loop-number.invariant.1 c.split_seat-next.ensures.2)))
+    let count = c.handlers-handlers.ensures.count ∙ ap (λ r. handlers_of r.plan) c.deref.ensures in let test = c.loop-number-test.true in
+    let own = cut_own _ c.loop-number.number _ _ _ (omega arith) c.loop-number.invariant.1 c.split_seat-next.ensures.2 in
+    subst (λ (m : Sitting). ReceiverFits (receiver_of m.0.ends) 0 0) (sym own) (record { half = refl; taken = refl; completed = refl })
 
 pub loop-number-preserved : goal.loop-number-preserved
 loop-number-preserved c =

@@ -1,7 +1,7 @@
 use Rattle.std.proofs.Common.{◌≡◌, ◌<◌, ◌∷◌, length, set, arith, ap, sym, subst, ◌∙◌}
 use Rattle.dr_ring.specs.declared.record.ReceiverRecord.{ReceiverRecord}
 use Rattle.dr_ring.specs.Seats.{end_of, as_receiver}
-use Rattle.dr_ring.specs.Calls.{ReceiverEnd}
+use Rattle.dr_ring.specs.Stations.{ReceiverEnd}
 use Rattle.dr_ring.proofs.Gathering.{last_of_ring, gathering_more, gathering_all}
 use Rattle.dr_ring.proofs.settled.gather.Goals as goal
 
@@ -9,7 +9,7 @@ pub take_in-requires-clause-table : goal.take_in-requires-clause-table
 take_in-requires-clause-table c =
     let t = c.requires.table in let inv = c.loop-receiver.invariant in let at = t.0 ∙ ap (λ r. r.table.shared.table_id) (sym c.deref.ensures) in (
       inv.0 ∙ at,
-      ap (λ (e : ReceiverEnd). e.ring) c.receiver.view_is ∙ last_of_ring _ _ _ _ _ _ c.requires.receivers inv.1.1.split c.in-Some.ensures.items ∙ at,
+      ap (λ (e : ReceiverEnd). e.ring) (c.station.view_is ∙ c.receiver.view_is) ∙ last_of_ring _ _ _ _ _ _ c.requires.receivers inv.1.1.split c.in-Some.ensures.items ∙ at,
       subst (λ r. 0 < r.table.shared.table_id.words) (sym c.deref.ensures) (omega arith),
     )
 
@@ -23,7 +23,7 @@ loop-receiver-preserved c =
       c.take_in.ensures.seat.0 ∙ inv.0,
       (
         c.in-Some.receiver ∷ inv.1.0,
-        gathering_more _ _ _ _ _ _ _ _ _ _ _ (end_of c.receiver.inside.seat.me) inv.1.1 c.in-Some.ensures.items (c.receiver.invariant.end ∙ ap as_receiver knows) c.take_in.ensures.ends
+        gathering_more _ _ _ _ _ _ _ _ _ _ _ (end_of c.station.inside.seat.me) inv.1.1 c.in-Some.ensures.items (c.station.invariant.end ∙ ap (λ (e : ReceiverEnd). as_receiver e.knows) (c.station.view_is ∙ c.receiver.view_is)) c.take_in.ensures.ends
             (λ i. set c.loop-receiver.counts.items (place i) record { taken = taken i; completed = completed i }),
       ),
     )

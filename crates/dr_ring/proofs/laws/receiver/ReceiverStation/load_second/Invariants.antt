@@ -1,0 +1,5 @@
+use Rattle.dr_ring.specs.Seats.{Loads, ReceiverLoadedSecond}
+use Rattle.dr_ring.proofs.laws.receiver.ReceiverStation.load_second.Given as goal
+
+abbrev pub ghosts-load : goal.ghosts-load
+ghosts-load a = record { then = Loads ReceiverLoadedSecond }

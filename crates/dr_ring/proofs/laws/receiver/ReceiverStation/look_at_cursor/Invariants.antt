@@ -1,0 +1,5 @@
+use Rattle.dr_ring.specs.Seats.{Loads, ReceiverLookedAtCursor}
+use Rattle.dr_ring.proofs.laws.receiver.ReceiverStation.look_at_cursor.Given as goal
+
+abbrev pub ghosts-load : goal.ghosts-load
+ghosts-load a = record { then = Loads ReceiverLookedAtCursor }

@@ -1,0 +1,5 @@
+use Rattle.dr_ring.specs.Seats.{Loads, SenderLookedAtCount}
+use Rattle.dr_ring.proofs.laws.sender.SenderStation.look_at_count.Given as goal
+
+abbrev pub ghosts-load : goal.ghosts-load
+ghosts-load a = record { then = Loads SenderLookedAtCount }

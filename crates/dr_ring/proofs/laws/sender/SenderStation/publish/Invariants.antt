@@ -1,0 +1,6 @@
+use Rattle.dr_ring.specs.declared.record.Step.TheVariants.{SenderPublishes}
+use Rattle.dr_ring.specs.Seats.{Stores, SenderPublished}
+use Rattle.dr_ring.proofs.laws.sender.SenderStation.publish.Given as goal
+
+abbrev pub ghosts-store : goal.ghosts-store
+ghosts-store a = record { then = Stores (λ _ n. SenderPublishes n) SenderPublished }
