@@ -5,6 +5,9 @@ set -u
 cd "$(dirname "$0")/.." || exit 2
 last=$(mktemp) || exit 2
 trap 'rm -f "$last"' EXIT
+# A check takes up to 4 GB; `rt ci` by itself reckons with more, and leaves processors idle.
+fits=$(awk '/^MemAvailable:/ { print int($2 / 4000000) }' /proc/meminfo)
+export RT_JOBS=${RT_JOBS:-$(printf '%s\n' "$(nproc)" "$((fits > 0 ? fits : 1))" | sort -n | head -n 1)}
 # (the last line waits, and the others go through as they come)
 rt ci | sed -u -n -e "\$w $last" -e '$!p'
 status=${PIPESTATUS[0]}
