@@ -1,5 +1,5 @@
 -- The least count of the finals, and what of it is remembered.
-use Rattle.std.proofs.Common.{◌≡◌, ℕ, zero, suc, ◌+◌, ◌-◌, ◌<◌, ◌≤◌, ◌≢◌, ◌^◌, inl, inr, Bool, true, false, List, [], ◌∷◌, arith, refl, ap, sym, ◌∙◌, length, map, filter, min, slice_index, Option, Some, None, Vec, Global}
+use Rattle.std.proofs.Common.{◌≡◌, ℕ, zero, suc, ◌+◌, ◌-◌, ◌<◌, ◌≤◌, ◌≢◌, ◌^◌, inl, inr, Bool, true, false, List, [], ◌∷◌, arith, refl, ap, sym, ◌∙◌, length, map, filter, slice_index, Option, Some, None, Vec, Global}
 use Rattle.std.specs.Vec.{with_items}
 use Rattle.std.proofs.lemmas.List.{with_items_is}
 use Rattle.std.specs.List.{range_with_len}
@@ -60,10 +60,11 @@ module _ (v : CoreView) (whole : IsWhole v) where
       whole.room f left.0 left.1
 
   -- what a scan finds may be remembered
-  pub claimable_now : v.halted ≡ false → IsClaimable v.setup v.next v.halted (retired_in v) v.completed (min v.setup.limit (v.setup.size + gate_of v))
-  claimable_now going = record {
+  pub claimable_now : v.halted ≡ false → (upto : ℕ) → upto ≤ v.setup.limit → upto ≤ v.setup.size + gate_of v
+      → IsClaimable v.setup v.next v.halted (retired_in v) v.completed upto
+  claimable_now going upto limit room = record {
     going = λ e. absurd (let no : ◌≡◌ {A = Bool} true false = sym e ∙ going in cc);
-    limit = omega arith;
+    limit = limit;
     room = λ f has. (let least : gate_of v ≤ slice_index v.completed f = least_of-member (λ h. slice_index v.completed h) (finals_without v.setup.upstreams (retired_in v)) f has in omega arith);
   }
 
@@ -89,13 +90,19 @@ module _ (v : CoreView) (p n : ℕ) (producer : p < producers v.setup.mode) (som
   claim_refused r e =
       refused_step v (Claim p n) r (λ m sh. let here : next m ≡ v.next = same_next sh in past m sh r (elim (cases_Bool v.halted) [
         | inl halted ↦ inl (same_halted sh ∙ halted, (let is : ◌≡◌ {A = Option Refusal} (Some Halted) (Some r) = rw halted at e in cc))
-        | inr going ↦ inr (same_halted sh ∙ going, elim (cases_Bool (nat_lt v.setup.limit (v.next + n))) [
-          | inl past_limit ↦ inl (rw here past_limit, (let is : ◌≡◌ {A = Option Refusal} (Some Exhausted) (Some r) = rw (going, past_limit) at e in cc))
-          | inr within ↦ inr (rw here within, elim (cases_Bool (nat_le (v.next + n) (v.setup.size + gate_of v))) [
-            | inl fitting ↦ absurd (let is : ◌≡◌ {A = Option Refusal} None (Some r) = rw (going, within, fitting) at e in cc)
-            | inr full ↦ inl (rw (here, gate_same v m sh) (lt-ltb _ _ (leb-false _ _ full)), (let is : ◌≡◌ {A = Option Refusal} (Some NoRoom) (Some r) = rw (going, within, full) at e in cc))
-          ])
-        ])
+        | inr going ↦ inr (
+          same_halted sh ∙ going,
+          elim (cases_Bool (nat_lt v.setup.limit (v.next + n))) [
+            | inl past_limit ↦ inl (rw here past_limit, (let is : ◌≡◌ {A = Option Refusal} (Some Exhausted) (Some r) = rw (going, past_limit) at e in cc))
+            | inr within ↦ inr (
+              rw here within,
+              elim (cases_Bool (nat_le (v.next + n) (v.setup.size + gate_of v))) [
+                | inl fitting ↦ absurd (let is : ◌≡◌ {A = Option Refusal} None (Some r) = rw (going, within, fitting) at e in cc)
+                | inr full ↦ inl (rw (here, gate_same v m sh) (lt-ltb _ _ (leb-false _ _ full)), (let is : ◌≡◌ {A = Option Refusal} (Some NoRoom) (Some r) = rw (going, within, full) at e in cc))
+              ],
+            )
+          ],
+        )
       ]))
 
 -- a claim that nothing refuses

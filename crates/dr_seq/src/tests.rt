@@ -60,6 +60,17 @@ fn a_slot_is_used_again_a_round_later(rt: HostRuntime) -> Result<(), Fail> {
 }
 
 #[test]
+fn a_stretch_is_copied_round_the_end(rt: HostRuntime) -> Result<(), Fail> {
+    let mut slots = Slots::new(rt.alloc(), Size::new(4)?)?;
+    slots.put(3, event(3));
+    slots.put(4, event(4));
+    let mut out = [Event::NONE; 3];
+    slots.copy_to(3, &mut out);
+    assert_eq!(rt; out, [event(3), event(4), Event::NONE]);
+    Ok(())
+}
+
+#[test]
 fn a_mark_counts_in_its_own_round(rt: HostRuntime) -> Result<(), Fail> {
     let mut rounds = Rounds::new(rt.alloc(), Size::new(4)?)?;
     assert_eq!(rt; rounds.front(0, 4), 0);

@@ -26,11 +26,13 @@ overflow_add-room c =
 pub invariant_of-self : goal.invariant_of-self
 invariant_of-self c =
     let v : CoreView = view_of c.self.inside in
+    let least : c.least_flagged.result ≡ gate_of v = scanned (goal.at.invariant_of-self c).After-least_flagged in
+    let size : c.get.result ≡ v.setup.size = c.get.ensures.value in
     record {
       whole = c.self.invariant.whole;
       available = c.self.invariant.available;
       gating = c.self.invariant.gating;
-      claimable = rw (c.min-self-inside.ensures, scanned (goal.at.invariant_of-self c).After-least_flagged, c.get.ensures.value) (claimable_now v c.self.invariant.whole (rw (← c.self.view_is) at c.requires).going);
+      claimable = claimable_now v c.self.invariant.whole (rw (← c.self.view_is) at c.requires).going c.min-self-inside.result (omega arith) (omega arith);
     }
 
 pub returns-clause-room : goal.returns-clause-room
