@@ -163,7 +163,8 @@ receiver_looks_at_cursor k slots id me is = along_receiver (λ m. Allows (Ruled 
     (refl, (last_look_le k w.words 0 r.looks cursor_word (omega arith) was.looks, omega arith, λ told. (let d = (was.told told).1 in omega arith))))))
 
 -- what a look at an upstream's count tells
-tells_count : (k : Shape) (w : World) (r : ReceiverRecord) (u : ℕ) → get_elem? w.receivers r.number ≡ some r → Contains (upstreams_of k.upstreams r.number) u → Kept k w
+tells_count : (k : Shape) (w : World) (r : ReceiverRecord) (u : ℕ) → get_elem? w.receivers r.number ≡ some r
+    → Contains (upstreams_of k.upstreams r.number) u → Kept k w
     → (u < handlers_of k) × (length r.received ≤ get_or w.words (count_word u) 0) × (r.told ≡ true → get_or w.words (count_word u) 0 ≤ length r.received)
 tells_count k w r u at has K =
     let was = K.received r.number r at in let inside = upstream_inside k K.graph r.number u (inside_of k w r.number r at K) has in

@@ -72,7 +72,8 @@ same_written vs j s = let nothing : Option Event = None in
       | inr past ↦ get_or_past vs s None past ∙ sym (get_or-append_right vs (replicate j nothing) (length vs) s None refl past ∙ no_more j (s - length vs))
     ]
 
-pub claim_step : (k : Shape) (n j : ℕ) (vs : List (Option Event)) (f : ℕ) (t d : List ℕ) → 0 < j → j ≤ k.size → n + j ≤ k.limit → n + j ≤ k.size + least_completed (shown n vs f t d false) (finals k.upstreams)
+pub claim_step : (k : Shape) (n j : ℕ) (vs : List (Option Event)) (f : ℕ) (t d : List ℕ) → 0 < j → j ≤ k.size → n + j ≤ k.limit
+    → n + j ≤ k.size + least_completed (shown n vs f t d false) (finals k.upstreams)
     → step (setup_of k) (shown n vs f t d false) (Claim 0 j) ≡ record { reply = Claimed n (n + j - 1); values = []; state = shown (n + j) (vs ++ replicate j None) f t d false }
 claim_step k n j vs f t d some_one fits limit room =
     let m = shown n vs f t d false in let len = count_owners n in
@@ -80,7 +81,8 @@ claim_step k n j vs f t d some_one fits limit room =
     (refl, (rw (ne_eqb j 0 (λ (e : j ≡ 0). omega arith)) (le-ltb k.size j fits), (refl, (le-ltb k.limit (length (owners n) + j) (omega arith), (le-ltb (k.size + least_completed m (finals k.upstreams)) (length (owners n) + j) (omega arith), tt)))))
     ∙ (λ i. record { reply = Claimed (len i) (len i + j - 1); values = []; state = record { owners = more_owners n j i; written = λ s. same_written vs j s i; published = λ s. nat_lt s f; taken = t; completed = d; halted = false; retired = nobody } })
 
-set_written : (vs : List (Option Event)) (s : ℕ) (e : Event) → s < length vs → (q : ℕ) → (if q == s then Some e else get_or vs q None) ≡ get_or (set vs s (Some e)) q None
+set_written : (vs : List (Option Event)) (s : ℕ) (e : Event) → s < length vs → (q : ℕ)
+    → (if q == s then Some e else get_or vs q None) ≡ get_or (set vs s (Some e)) q None
 set_written vs s e lt q =
     elim (cases_eq q s) [
       | inl same ↦ rw (eq-eqb q s same) (sym (ap (λ (x : ℕ). get_or (set vs s (Some e)) x None) same ∙ get_or-set_same vs s (Some e) None lt))
@@ -99,7 +101,8 @@ write_step k n vs f t d b s e count le lt =
     (refl, (lt-leb (length (owners n)) s (omega arith), (le-ltb s f le, (ap not (owner_is n s lt), tt))))
     ∙ (λ i. record { reply = Written; values = []; state = record { owners = owners n; written = λ q. set_written vs s e (omega arith) q i; published = λ q. nat_lt q f; taken = t; completed = d; halted = b; retired = nobody } })
 
-stretch : (n : ℕ) (vs : List (Option Event)) (f : ℕ) (t d : List ℕ) (b : Bool) (lo c : ℕ) → f ≤ lo → lo + c ≤ n → ((s : ℕ) → lo ≤ s → s < lo + c → is_none (get_or vs s None) ≡ false)
+stretch : (n : ℕ) (vs : List (Option Event)) (f : ℕ) (t d : List ℕ) (b : Bool) (lo c : ℕ) → f ≤ lo → lo + c ≤ n
+    → ((s : ℕ) → lo ≤ s → s < lo + c → is_none (get_or vs s None) ≡ false)
     → NoneHold (flat_map (publish_faults (shown n vs f t d b) 0) (range_with_len lo c))
 stretch n vs f t d b lo zero le within all = tt
 stretch n vs f t d b lo (suc c) le within all =
@@ -115,7 +118,8 @@ covers_below f q s lt =
       ])
     ]
 
-pub publish_step : (k : Shape) (n : ℕ) (vs : List (Option Event)) (f : ℕ) (t d : List ℕ) (b : Bool) (q : ℕ) → f < q → q ≤ n → ((s : ℕ) → f ≤ s → s < q → is_none (get_or vs s None) ≡ false)
+pub publish_step : (k : Shape) (n : ℕ) (vs : List (Option Event)) (f : ℕ) (t d : List ℕ) (b : Bool) (q : ℕ) → f < q → q ≤ n
+    → ((s : ℕ) → f ≤ s → s < q → is_none (get_or vs s None) ≡ false)
     → step (setup_of k) (shown n vs f t d b) (Publish 0 f (q - 1)) ≡ record { reply = Published; values = []; state = shown n vs q t d b }
 publish_step k n vs f t d b q lt within all =
     let m = shown n vs f t d b in let len = count_owners n in
@@ -139,7 +143,8 @@ take_step k m h inside here more =
     accepts (refusals (setup_of k) m (Poll h 1)) m (accepted (setup_of k) m (Poll h 1)) (lt-leb (handlers_of k) h inside, (here, (refl, tt)))
     ∙ rw (lt-ltb at to more) (λ i. record { reply = Batch at (one i) (at + one i == to); values = map (λ s. unwrap_or (m.written s) no_event) (range_with_len at (one i)); state = record m { taken = set m.taken h (at + one i) } })
 
-pub drained_step : (k : Shape) (n : ℕ) (vs : List (Option Event)) (f : ℕ) (t d : List ℕ) (h : ℕ) → h < handlers_of k → available (setup_of k) (shown n vs f t d true) h ≤ n → get_or t h 0 ≡ n
+pub drained_step : (k : Shape) (n : ℕ) (vs : List (Option Event)) (f : ℕ) (t d : List ℕ) (h : ℕ) → h < handlers_of k
+    → available (setup_of k) (shown n vs f t d true) h ≤ n → get_or t h 0 ≡ n
     → step (setup_of k) (shown n vs f t d true) (Poll h 1) ≡ record { reply = Drained; values = []; state = shown n vs f t d true }
 drained_step k n vs f t d h inside none all =
     let m = shown n vs f t d true in let len = count_owners n in
@@ -163,7 +168,8 @@ contains_at [] i lt = absurd (omega arith)
 contains_at (h ∷ hs) zero lt = (0, omega arith, refl)
 contains_at (h ∷ hs) (suc i) lt = let r : Contains hs (get_or hs i 0) = contains_at hs i (omega arith) in (suc r.0, (let l = r.1 in omega arith), r.2)
 
-pub counts_below : (m : State) (hs : List ℕ) (a b : ℕ) → 0 < length hs → ((h : ℕ) → Contains hs h → b ≤ a + get_or m.completed h 0) → b ≤ a + least_completed m hs
+pub counts_below : (m : State) (hs : List ℕ) (a b : ℕ) → 0 < length hs → ((h : ℕ) → Contains hs h → b ≤ a + get_or m.completed h 0)
+    → b ≤ a + least_completed m hs
 counts_below m hs a b some_one all =
     below_least (map (λ h. get_or m.completed h 0) hs) a b (rw length-map some_one)
     (λ i lt. (let inside : i < length hs = rw length-map at lt in

@@ -60,7 +60,8 @@ map_same : (f g : ℕ → ℕ) (a n : ℕ) → ((j : ℕ) → a ≤ j → j < a 
 map_same f g a zero same = refl
 map_same f g a (suc n) same = λ i. same a (omega arith) (omega arith) i ∷ map_same f g (a + 1) n (λ j low high. same j (omega arith) (omega arith)) i
 
-map_but : (f g : ℕ → ℕ) (a n i v : ℕ) → i < n → g (a + i) ≡ v → ((j : ℕ) → j ≢ a + i → g j ≡ f j) → map g (range_with_len a n) ≡ set (map f (range_with_len a n)) i v
+map_but : (f g : ℕ → ℕ) (a n i v : ℕ) → i < n → g (a + i) ≡ v → ((j : ℕ) → j ≢ a + i → g j ≡ f j)
+    → map g (range_with_len a n) ≡ set (map f (range_with_len a n)) i v
 map_but f g a zero i v lt here same = absurd (omega arith)
 map_but f g a (suc n) zero v lt here same =
     λ i. (ap g (let z : a ≡ a + 0 = omega arith in z) ∙ here) i ∷ map_same g f (a + 1) n (λ j low high. same j (λ (e : j ≡ a + 0). omega arith)) i
@@ -76,7 +77,8 @@ count_at k words h lt = get_or-map-range_with_len (λ h. word_at words (count_wo
 counts_stay : (k : Shape) (words : List ℕ) (i v : ℕ) → ((h : ℕ) → h < handlers_of k → count_word h ≢ i) → counts_of k (set words i v) ≡ counts_of k words
 counts_stay k words i v ne = map_same (λ h. word_at (set words i v) (count_word h)) (λ h. word_at words (count_word h)) 0 (handlers_of k) (λ j low high. get_or-set_other words i (count_word j) v 0 (ne j (omega arith)))
 
-count_set : (k : Shape) (words : List ℕ) (h v : ℕ) → h < handlers_of k → count_word h < length words → counts_of k (set words (count_word h) v) ≡ set (counts_of k words) h v
+count_set : (k : Shape) (words : List ℕ) (h v : ℕ) → h < handlers_of k → count_word h < length words
+    → counts_of k (set words (count_word h) v) ≡ set (counts_of k words) h v
 count_set k words h v lt inside = map_but (λ h. word_at words (count_word h)) (λ j. word_at (set words (count_word h) v) (count_word j)) 0 (handlers_of k) h v lt
     (let z : 0 + h ≡ h = omega arith in ap (λ (j : ℕ). word_at (set words (count_word h) v) (count_word j)) z ∙ get_or-set_same words (count_word h) v 0 inside)
     (λ j ne. get_or-set_other words (count_word h) (count_word j) v 0 (λ (e : count_word j ≡ count_word h). ne (omega arith)))
@@ -89,7 +91,8 @@ values_count : (published : List Event) (pending : List (Option Event)) → leng
 values_count published pending = length-append (map (λ event. Some event) published) pending ∙ ap (λ (n : ℕ). n + length pending) (length-map published (λ event. Some event))
 
 leads_one : (k : Shape) (command : Command) (reply : Reply) (values : List Event) (rest : Transcript) (m n end : State)
-    → machine.step (setup_of k) m command ≡ record { reply = reply; values = values; state = n } → LeadsFrom (setup_of k) n rest end → LeadsFrom (setup_of k) m (entry command reply values ++ rest) end
+    → machine.step (setup_of k) m command ≡ record { reply = reply; values = values; state = n } → LeadsFrom (setup_of k) n rest end
+    → LeadsFrom (setup_of k) m (entry command reply values ++ rest) end
 leads_one k command reply values rest m n end is leads =
     (ap (λ (o : Outcome). o.reply) is, ap (λ (o : Outcome). o.values) is, subst (λ (x : State). LeadsFrom (setup_of k) x rest end) (sym (ap (λ (o : Outcome). o.state) is)) leads)
 
@@ -97,7 +100,8 @@ leads_one k command reply values rest m n end is leads =
 abbrev parts : Shape → World → State
 parts k w = shown (claimed w.sender) (values_of w.sender.published w.sender.pending) (word_at w.words cursor_word) (map taken_of w.receivers) (counts_of k w.words) (word_at w.words halt_word == 1)
 
-same_taken : (w : World) (h : ℕ) (r q : ReceiverRecord) → get_elem? w.receivers h ≡ some r → taken_of q ≡ taken_of r → map taken_of (set w.receivers h q) ≡ map taken_of w.receivers
+same_taken : (w : World) (h : ℕ) (r q : ReceiverRecord) → get_elem? w.receivers h ≡ some r → taken_of q ≡ taken_of r
+    → map taken_of (set w.receivers h q) ≡ map taken_of w.receivers
 same_taken w h r q at same = map-set_same taken_of w.receivers h q r (same ∙ ap taken_of (sym (value_at w.receivers h r r at)))
 
 taken_at : (w : World) (h : ℕ) (r : ReceiverRecord) → get_elem? w.receivers h ≡ some r → get_or (map taken_of w.receivers) h 0 ≡ length r.received
@@ -106,7 +110,8 @@ taken_at w h r at = get_or-map taken_of w.receivers h r 0 (at_below w.receivers 
 inside_of : (k : Shape) (w : World) (h : ℕ) (r : ReceiverRecord) → Kept k w → get_elem? w.receivers h ≡ some r → h < handlers_of k
 inside_of k w h r K at = let b = at_below w.receivers h r at in let e = K.ends in omega arith
 
-same_picture : (k : Shape) (w : World) (h : ℕ) (r q : ReceiverRecord) → get_elem? w.receivers h ≡ some r → taken_of q ≡ taken_of r → picture_of k (receiver_knows w h q) ≡ picture_of k w
+same_picture : (k : Shape) (w : World) (h : ℕ) (r q : ReceiverRecord) → get_elem? w.receivers h ≡ some r → taken_of q ≡ taken_of r
+    → picture_of k (receiver_knows w h q) ≡ picture_of k w
 same_picture k w h r q at same = ap (λ (t : List ℕ). shown (claimed w.sender) (values_of w.sender.published w.sender.pending) (word_at w.words cursor_word) t (counts_of k w.words) (word_at w.words halt_word == 1)) (same_taken w h r q at same)
 
 -- there is a final handler
@@ -116,7 +121,8 @@ some_final k graph =
     let has : Contains (finals k.upstreams) g.last = g.final in let lt = has.1 in omega arith
 
 -- what a claim of the sender has room for, the machine has
-claim_room : (k : Shape) (w : World) (n : ℕ) (t : List ℕ) (m : State) → m.completed ≡ counts_of k w.words → HasRoom k w.sender n → Kept k w → claimed w.sender + n ≤ k.size + least_completed m (finals k.upstreams)
+claim_room : (k : Shape) (w : World) (n : ℕ) (t : List ℕ) (m : State) → m.completed ≡ counts_of k w.words → HasRoom k w.sender n → Kept k w
+    → claimed w.sender + n ≤ k.size + least_completed m (finals k.upstreams)
 claim_room k w n t m same room K =
     counts_below m (finals k.upstreams) k.size (claimed w.sender + n) (some_final k K.graph)
     (λ f has. (let i = final_inside k.upstreams f has in let a = room.completed f has in
@@ -149,7 +155,8 @@ abbrev claim_of : World → ℕ → Bool → Transcript
 claim_of w n b = if b then entry (Claim 0 n) (Claimed (claimed w.sender) (claimed w.sender + n - 1)) [] else []
 
 lead_claim : (k : Shape) (w : World) (n : ℕ) (rest : Transcript) (end : State) → (0 < n → HasRoom k w.sender n) → Kept k w
-    → Leads k rest (picture_of k (sender_knows w (halt_looked w.sender n (word_at w.words halt_word)))) end → Leads k (claim_of w n (not (n == 0) && (word_at w.words halt_word == 0)) ++ rest) (parts k w) end
+    → Leads k rest (picture_of k (sender_knows w (halt_looked w.sender n (word_at w.words halt_word)))) end
+    → Leads k (claim_of w n (not (n == 0) && (word_at w.words halt_word == 0)) ++ rest) (parts k w) end
 lead_claim k w n rest end room K leads =
     let found = word_at w.words halt_word in let s = w.sender in
     let P : List (Option Event) → Type 0 = λ more. Leads k rest (picture_of k (sender_knows w (record s { pending = s.pending ++ more; looks = s.looks ++ look halt_word found ∷ [] }))) end in
@@ -190,7 +197,8 @@ lead_claim k w n rest end room K leads =
     ]
 
 lead_write : (k : Shape) (w : World) (x : HalfWrite) (v : ℕ) (rest : Transcript) (end : State) → w.sender.half ≡ Some x → Kept k w
-    → Leads k rest (picture_of k (sender_stores w (payload_word k x.sequence 1) v (written w.sender x.sequence record { first = x.first; second = v }))) end → Leads k (write_of w.sender.half v ++ rest) (parts k w) end
+    → Leads k rest (picture_of k (sender_stores w (payload_word k x.sequence 1) v (written w.sender x.sequence record { first = x.first; second = v }))) end
+    → Leads k (write_of w.sender.half v ++ rest) (parts k w) end
 lead_write k w x v rest end has K leads =
     let s = w.sender in let event : Event = record { first = x.first; second = v } in let half = K.payload.halves x has in let le = half.0 in let lt = half.1 in
     let vs = values_of s.published s.pending in let i = payload_word k x.sequence 1 in let us = set w.words i v in
@@ -208,7 +216,8 @@ lead_write k w x v rest end has K leads =
     (write_step k (claimed s) vs (word_at w.words cursor_word) (map taken_of w.receivers) (counts_of k w.words) (word_at w.words halt_word == 1) x.sequence event count (omega arith) lt) going_on)
 
 -- what is written stays when it is published
-published_same : (vs : List (Option Event)) (m : ℕ) → ((i : ℕ) → i < m → (v : Event) × (get_or vs i None ≡ Some v)) → m ≤ length vs → map (λ event. Some event) (map event_or_none (take m vs)) ++ drop m vs ≡ vs
+published_same : (vs : List (Option Event)) (m : ℕ) → ((i : ℕ) → i < m → (v : Event) × (get_or vs i None ≡ Some v)) → m ≤ length vs
+    → map (λ event. Some event) (map event_or_none (take m vs)) ++ drop m vs ≡ vs
 published_same [] zero all le = refl
 published_same [] (suc m) all le = absurd (omega arith)
 published_same (x ∷ xs) zero all le = refl
@@ -216,8 +225,10 @@ published_same (x ∷ xs) (suc m) all le =
     let h = all 0 (omega arith) in let e : Some (event_or_none x) ≡ x = ap (λ (o : Option Event). Some (event_or_none o)) h.1 ∙ sym h.1 in
     λ i. e i ∷ published_same xs m (λ j lt. all (suc j) (omega arith)) (omega arith) i
 
-lead_publish : (k : Shape) (w : World) (n : ℕ) (rest : Transcript) (end : State) → length w.sender.published < n → n ≤ claimed w.sender → AreWritten w.sender n → Kept k w
-    → Leads k rest (picture_of k (sender_stores w cursor_word n (published_to w.sender n))) end → Leads k (entry (Publish 0 (word_at w.words cursor_word) (n - 1)) Published [] ++ rest) (parts k w) end
+lead_publish : (k : Shape) (w : World) (n : ℕ) (rest : Transcript) (end : State) → length w.sender.published < n → n ≤ claimed w.sender
+    → AreWritten w.sender n → Kept k w
+    → Leads k rest (picture_of k (sender_stores w cursor_word n (published_to w.sender n))) end
+    → Leads k (entry (Publish 0 (word_at w.words cursor_word) (n - 1)) Published [] ++ rest) (parts k w) end
 lead_publish k w n rest end lt le all K leads =
     let s = w.sender in let old = s.published in let pending = s.pending in let m = n - length old in let new = map event_or_none (take m pending) in
     let vs = values_of old pending in let us = set w.words cursor_word n in let cursor = K.counts.cursor in let wide = K.wide in
@@ -240,7 +251,8 @@ lead_publish k w n rest end lt le all K leads =
     (λ q low high. (let a = all q (omega arith) high in
     let e : get_or vs q None ≡ Some a.0 = get_or-append_right (map (λ event. Some event) old) pending (length old) q None (length-map old (λ event. Some event)) (omega arith) ∙ a.1 in ap is_none e))) going_on
 
-lead_drained : (k : Shape) (w : World) (h : ℕ) (r : ReceiverRecord) (rest : Transcript) (end : State) → get_elem? w.receivers h ≡ some r → tells_drained r (word_at w.words cursor_word) ≡ true → Kept k w
+lead_drained : (k : Shape) (w : World) (h : ℕ) (r : ReceiverRecord) (rest : Transcript) (end : State) → get_elem? w.receivers h ≡ some r
+    → tells_drained r (word_at w.words cursor_word) ≡ true → Kept k w
     → Leads k rest (parts k w) end → Leads k (entry (Poll h 1) Drained [] ++ rest) (parts k w) end
 lead_drained k w h r rest end at tells K leads =
     let t = tells_truth k w h r at tells K in let closed = K.flags.complete t.0 in let none = closed.1 in let all = t.1 in let cursor = K.counts.cursor in
@@ -256,14 +268,16 @@ lead_drained k w h r rest end at tells K leads =
     (leads_one k (Poll h 1) Drained [] rest (S true) (S true) end step (subst (λ (b : Bool). Leads k rest (S b) end) (sym on) leads))
 
 lead_cursor_look : (k : Shape) (w : World) (h : ℕ) (r : ReceiverRecord) (rest : Transcript) (end : State) → get_elem? w.receivers h ≡ some r → Kept k w
-    → Leads k rest (parts k w) end → Leads k ((if tells_drained r (word_at w.words cursor_word) then entry (Poll h 1) Drained [] else []) ++ rest) (parts k w) end
+    → Leads k rest (parts k w) end
+    → Leads k ((if tells_drained r (word_at w.words cursor_word) then entry (Poll h 1) Drained [] else []) ++ rest) (parts k w) end
 lead_cursor_look k w h r rest end at K leads =
     elim (cases_Bool (tells_drained r (word_at w.words cursor_word))) [
       | inl told ↦ subst (λ (b : Bool). Leads k ((if b then entry (Poll h 1) Drained [] else []) ++ rest) (parts k w) end) (sym told) (lead_drained k w h r rest end at told K leads)
       | inr quiet ↦ subst (λ (b : Bool). Leads k ((if b then entry (Poll h 1) Drained [] else []) ++ rest) (parts k w) end) (sym quiet) leads
     ]
 
-lead_take : (k : Shape) (w : World) (h first : ℕ) (r : ReceiverRecord) (rest : Transcript) (end : State) → get_elem? w.receivers h ≡ some r → r.half ≡ Some first → IsBelowBarrier k h r → Kept k w
+lead_take : (k : Shape) (w : World) (h first : ℕ) (r : ReceiverRecord) (rest : Transcript) (end : State) → get_elem? w.receivers h ≡ some r
+    → r.half ≡ Some first → IsBelowBarrier k h r → Kept k w
     → Leads k rest (picture_of k (receiver_knows w h (took r record { first = first; second = word_at w.words (payload_word k (length r.received) 1) }))) end
     → Leads k (poll_of h r.half (word_at w.words (payload_word k (length r.received) 1)) (length r.received) (available (setup_of k) (picture_of k w) h) ++ rest) (parts k w) end
 lead_take k w h first r rest end at half low K leads =
@@ -287,8 +301,10 @@ lead_take k w h first r rest end at half low K leads =
     subst (λ (o : Option ℕ). Leads k (poll_of h o (word_at w.words (payload_word k n 1)) n (available (setup_of k) m h) ++ rest) m end) (sym half)
     (leads_one k (Poll h 1) (Batch n 1 (n + 1 == available (setup_of k) m h)) (found ∷ []) rest m _ end exact going_on)
 
-lead_complete : (k : Shape) (w : World) (h n : ℕ) (r : ReceiverRecord) (rest : Transcript) (end : State) → get_elem? w.receivers h ≡ some r → r.completed ≤ n → n ≤ length r.received → Kept k w
-    → Leads k rest (picture_of k (receiver_stores w h (completed_to r n) (count_word h) n)) end → Leads k (entry (Complete h n) Completed [] ++ rest) (parts k w) end
+lead_complete : (k : Shape) (w : World) (h n : ℕ) (r : ReceiverRecord) (rest : Transcript) (end : State) → get_elem? w.receivers h ≡ some r
+    → r.completed ≤ n → n ≤ length r.received → Kept k w
+    → Leads k rest (picture_of k (receiver_stores w h (completed_to r n) (count_word h) n)) end
+    → Leads k (entry (Complete h n) Completed [] ++ rest) (parts k w) end
 lead_complete k w h n r rest end at rise le K leads =
     let s = w.sender in let m = parts k w in let inside = inside_of k w h r K at in let was = K.received h r at in let wide = K.wide in
     let i = count_word h in let us = set w.words i n in
@@ -316,7 +332,8 @@ halt_on k w K = let wide = K.wide in eq-eqb _ _ (get_or-set_same w.words halt_wo
 is_receiver : (k : Shape) (w : World) (h : ℕ) (r : ReceiverRecord) → get_elem? w.receivers h ≡ some r → receiver_at k w h ≡ r
 is_receiver k w h r at = value_at w.receivers h r (fresh_receiver k h) at
 
-lead_step : (k : Shape) (s : Step) (w u : World) (rest : Transcript) (end : State) → Happens k s w u → Kept k w → Leads k rest (picture_of k u) end → Leads k (events_of k s w ++ rest) (picture_of k w) end
+lead_step : (k : Shape) (s : Step) (w u : World) (rest : Transcript) (end : State) → Happens k s w u → Kept k w → Leads k rest (picture_of k u) end
+    → Leads k (events_of k s w ++ rest) (picture_of k w) end
 lead_step k (SenderLooksAtCount f) w u rest end H K L = subst (λ (x : World). Leads k rest (picture_of k x) end) H.1 L
 lead_step k (SenderLooksAtHalt n) w u rest end H K L = lead_claim k w n rest end H.0 K (subst (λ (x : World). Leads k rest (picture_of k x) end) H.1 L)
 lead_step k (SenderStoresFirst s v) w u rest end H K L =
