@@ -42,7 +42,8 @@ follows : (k : Shape) (w : World) (r u : ReceiverRecord) → get_elem? w.receive
     → Kept k w → Follows r u
 follows k w r u at there K has =
     let was = K.received r.number r at in let other = K.received u.number u there in
-    let le = was.after u.number (subst (λ (p : Shape). Contains (upstreams_of p.upstreams r.number) u.number) was.plan has) in let count = other.count in omega arith
+    let le = was.after u.number (subst (λ (p : Shape). Contains (upstreams_of p.upstreams r.number) u.number) was.plan has) in
+    let count = other.count in omega arith
 
 pub compares : (k : Shape) (slots id : ℕ) (me : Sitting) → LeadsView (end_of me)
     → Allows (Ruled k) slots id me cursor_word (λ n. n) (Compares (step slots cursor_word 0 0 none) me)

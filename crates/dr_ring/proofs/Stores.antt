@@ -197,7 +197,8 @@ pub tells_truth : (k : Shape) (w : World) (h : ℕ) (r : ReceiverRecord) → get
 tells_truth k w h r at tells K =
     let both : ((last_look 0 r.looks closed_word == 1) ≡ true) × ((word_at w.words cursor_word == length r.received) ≡ true) = and_parts _ _ tells in
     let a : last_look 0 r.looks closed_word ≡ 1 = eqb-true _ _ both.0 in let b : word_at w.words cursor_word ≡ length r.received = eqb-true _ _ both.1 in
-    let seen = last_look_le k w.words 0 r.looks closed_word (omega arith) (K.received h r at).looks in let flag = K.flags.close in let cursor = K.counts.cursor in (omega arith, omega arith)
+    let seen = last_look_le k w.words 0 r.looks closed_word (omega arith) (K.received h r at).looks in let flag = K.flags.close in
+    let cursor = K.counts.cursor in (omega arith, omega arith)
 
 pub keeps_cursor_look : (k : Shape) (w : World) (h : ℕ) (r : ReceiverRecord) → get_elem? w.receivers h ≡ some r → Kept k w
     → Kept k (receiver_knows w h (cursor_looked r (word_at w.words cursor_word)))
@@ -213,7 +214,8 @@ early_by : (k : Shape) (w : World) (h : ℕ) (r : ReceiverRecord) (ups : List �
     → ((u : ℕ) → Contains ups u → length r.received < last_look 0 r.looks (count_word u)) → (ups ≡ [] → length r.received < last_look 0 r.looks cursor_word)
     → ups ≡ upstreams_of k.upstreams h → Kept k w → length r.received < length w.sender.published
 early_by k w h r [] at completed published same K =
-    let was = K.received h r at in let a = published refl in let b = last_look_le k w.words 0 r.looks cursor_word (omega arith) was.looks in let c = K.counts.cursor in omega arith
+    let was = K.received h r at in let a = published refl in let b = last_look_le k w.words 0 r.looks cursor_word (omega arith) was.looks in
+    let c = K.counts.cursor in omega arith
 early_by k w h r (u ∷ ups) at completed published same K =
     let was = K.received h r at in let has : Contains (u ∷ ups) u = (0, omega arith, refl) in let a = completed u has in
     let inside : h < handlers_of k = (let b = at_below w.receivers h r at in let c = K.ends in omega arith) in
