@@ -51,7 +51,8 @@ inside_of k w h r at K = let b = at_below w.receivers h r at in let e = K.ends i
 look_at_final : (k : Shape) (w : World) (r : SenderRecord) (f : ℕ) → w.sender ≡ r → Contains (finals k.upstreams) f → Kept k w
     → Happens k (SenderLooksAtCount f) w (world_of w.words (sender_looked r (count_word f) (get_or w.words (count_word f) 0)) w.receivers w.halter) × (last_look 0 r.looks (count_word f) ≤ get_or w.words (count_word f) 0) × (get_or w.words (count_word f) 0 ≤ length r.published)
 look_at_final k w r f e has K =
-    let i = count_word f in let n = get_or w.words i 0 in let inside = final_inside k.upstreams f has in let t = receiver_of_handler k w K f inside in let a = t.2.count in let b = t.2.completed in let c = t.2.taken in
+    let i = count_word f in let n = get_or w.words i 0 in let inside = final_inside k.upstreams f has in let t = receiver_of_handler k w K f inside in
+    let a = t.2.count in let b = t.2.completed in let c = t.2.taken in
     subst (λ (q : SenderRecord). Happens k (SenderLooksAtCount f) w (world_of w.words (sender_looked q i n) w.receivers w.halter) × (last_look 0 q.looks i ≤ n) × (n ≤ length q.published)) e
     ((has, refl), last_look_le k w.words 0 w.sender.looks i (omega arith) K.looks, omega arith)
 
@@ -163,7 +164,8 @@ receiver_looks_at_cursor k slots id me is = along_receiver (λ m. Allows (Ruled 
     (refl, (last_look_le k w.words 0 r.looks cursor_word (omega arith) was.looks, omega arith, λ told. (let d = (was.told told).1 in omega arith))))))
 
 -- what a look at an upstream's count tells
-tells_count : (k : Shape) (w : World) (r : ReceiverRecord) (u : ℕ) → get_elem? w.receivers r.number ≡ some r → Contains (upstreams_of k.upstreams r.number) u → Kept k w
+tells_count : (k : Shape) (w : World) (r : ReceiverRecord) (u : ℕ) → get_elem? w.receivers r.number ≡ some r
+    → Contains (upstreams_of k.upstreams r.number) u → Kept k w
     → (u < handlers_of k) × (length r.received ≤ get_or w.words (count_word u) 0) × (r.told ≡ true → get_or w.words (count_word u) 0 ≤ length r.received)
 tells_count k w r u at has K =
     let was = K.received r.number r at in let inside = upstream_inside k K.graph r.number u (inside_of k w r.number r at K) has in

@@ -44,7 +44,8 @@ saw_halt r s n v is none = record {
 }
 
 -- a sender that has only looked
-pub fits_saw : (r s : SenderRecord) (n p least : ℕ) (ms : List ℕ) (rm : List HandlerCounts) (xs : List Look) → SenderFits r n p least ms rm → LooksAtFinals r xs s → SenderFits s n p least ms rm
+pub fits_saw : (r s : SenderRecord) (n p least : ℕ) (ms : List ℕ) (rm : List HandlerCounts) (xs : List Look) → SenderFits r n p least ms rm
+    → LooksAtFinals r xs s → SenderFits s n p least ms rm
 fits_saw r s n p least ms rm xs F S = subst (λ (q : SenderRecord). SenderFits q n p least ms rm) (sym S.is) (record {
   made = F.made;
   whole = F.whole;
@@ -59,11 +60,13 @@ fits_saw r s n p least ms rm xs F S = subst (λ (q : SenderRecord). SenderFits q
 })
 
 -- a sender that has looked at halt, and claimed nothing
-pub fits_halt : (r s : SenderRecord) (n p least : ℕ) (ms : List ℕ) (rm : List HandlerCounts) (q v : ℕ) → SenderFits r n p least ms rm → s ≡ halt_looked r q v → (v ≡ 0 → q ≡ 0) → SenderFits s n p least ms rm
+pub fits_halt : (r s : SenderRecord) (n p least : ℕ) (ms : List ℕ) (rm : List HandlerCounts) (q v : ℕ) → SenderFits r n p least ms rm
+    → s ≡ halt_looked r q v → (v ≡ 0 → q ≡ 0) → SenderFits s n p least ms rm
 fits_halt r s n p least ms rm q v F is none = fits_saw r s n p least ms rm _ F (saw_halt r s q v is none)
 
 -- a sender that has found room, and remembers how many events every final completed
-pub fits_room : (r s : SenderRecord) (n p least : ℕ) (ms : List ℕ) (rm : List HandlerCounts) (xs : List Look) (needed found kept : ℕ) → SenderFits r n p least ms rm → LooksAtFinals r xs s → IsEnough r xs needed found → kept ≡ found → SenderFits s n p kept ms rm
+pub fits_room : (r s : SenderRecord) (n p least : ℕ) (ms : List ℕ) (rm : List HandlerCounts) (xs : List Look) (needed found kept : ℕ)
+    → SenderFits r n p least ms rm → LooksAtFinals r xs s → IsEnough r xs needed found → kept ≡ found → SenderFits s n p kept ms rm
 fits_room r s n p least ms rm xs needed found kept F S E raised = let seen = fits_saw r s n p least ms rm xs F S in record {
   made = seen.made;
   whole = seen.whole;
@@ -78,7 +81,8 @@ fits_room r s n p least ms rm xs needed found kept F S E raised = let seen = fit
 }
 
 -- the look at halt that claims
-pub fits_claim : (r s : SenderRecord) (n p least : ℕ) (ms : List ℕ) (rm : List HandlerCounts) (q needed : ℕ) → SenderFits r n p least ms rm → s ≡ halt_looked r q 0 → n + q ≤ r.plan.limit → needed ≡ n + q - r.plan.size → needed ≤ least → SenderFits s (n + q) p least ms rm
+pub fits_claim : (r s : SenderRecord) (n p least : ℕ) (ms : List ℕ) (rm : List HandlerCounts) (q needed : ℕ) → SenderFits r n p least ms rm
+    → s ≡ halt_looked r q 0 → n + q ≤ r.plan.limit → needed ≡ n + q - r.plan.size → needed ≤ least → SenderFits s (n + q) p least ms rm
 fits_claim r s n p least ms rm q needed F is limit need enough =
     let nothing : Option Event = None in let low = F.least in let next = F.next in
     let longer : length (r.pending ++ replicate q nothing) ≡ length r.pending + q = omega (arith, length-append r.pending (replicate q nothing), length-replicate q nothing) in

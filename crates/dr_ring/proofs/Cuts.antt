@@ -22,7 +22,8 @@ use Rattle.dr_ring.proofs.Beginning.{fresh_at}
 use Rattle.dr_ring.proofs.Seats.{StandsAt}
 
 -- the receivers' records in the first view
-known_at : (rs : List ReceiverRecord) (j : ℕ) (e : EndRecord) → get_elem? (map (λ r. Receives r) rs) j ≡ some e → (r : ReceiverRecord) × (get_elem? rs j ≡ some r) × (e ≡ Receives r)
+known_at : (rs : List ReceiverRecord) (j : ℕ) (e : EndRecord) → get_elem? (map (λ r. Receives r) rs) j ≡ some e
+    → (r : ReceiverRecord) × (get_elem? rs j ≡ some r) × (e ≡ Receives r)
 known_at [] j e at = absurd (some-ne-none e (sym at))
 known_at (r ∷ rs) zero e at = (r, refl, sym (some-injective _ e at))
 known_at (r ∷ rs) (suc j) e at = known_at rs j e at
@@ -30,7 +31,8 @@ known_at (r ∷ rs) (suc j) e at = known_at rs j e at
 abbrev fresh_world : Shape → List ℕ → ℕ → World
 fresh_world k ws n = world_of ws (fresh_sender k) (fresh_receivers k 0 n) (fresh_halter k)
 
-stands_fresh : (k : Shape) (ws : List ℕ) (n j : ℕ) (e : EndRecord) → get_elem? (Sends (fresh_sender k) ∷ Halts (fresh_halter k) ∷ map (λ r. Receives r) (fresh_receivers k 0 n)) j ≡ some e
+stands_fresh : (k : Shape) (ws : List ℕ) (n j : ℕ) (e : EndRecord)
+    → get_elem? (Sends (fresh_sender k) ∷ Halts (fresh_halter k) ∷ map (λ r. Receives r) (fresh_receivers k 0 n)) j ≡ some e
     → (end_number e ≡ j) × Stands (fresh_world k ws n) e
 stands_fresh k ws n zero e at = subst (λ (x : EndRecord). (end_number x ≡ 0) × Stands (fresh_world k ws n) x) (some-injective (Sends (fresh_sender k)) e at) (refl, refl)
 stands_fresh k ws n (suc zero) e at = subst (λ (x : EndRecord). (end_number x ≡ 1) × Stands (fresh_world k ws n) x) (some-injective (Halts (fresh_halter k)) e at) (refl, refl)
@@ -173,7 +175,8 @@ joined_else : (id n other id' j : ℕ) (p : ℕ × ℕ) → id' ≢ other → p 
 unfolding joined
 joined_else id n other id' j p ne e = ap (joined id n other) e ∙ rw (ne_eqb id' other ne) refl
 
-at_both : (v w : Known) (j : ℕ) (e : EndRecord) → get_elem? (v ++ w) j ≡ some e → (get_elem? v j ≡ some e) ⊎ ((i : ℕ) × (j ≡ length v + i) × (get_elem? w i ≡ some e))
+at_both : (v w : Known) (j : ℕ) (e : EndRecord) → get_elem? (v ++ w) j ≡ some e
+    → (get_elem? v j ≡ some e) ⊎ ((i : ℕ) × (j ≡ length v + i) × (get_elem? w i ≡ some e))
 at_both [] w j e at = inr (j, omega arith, at)
 at_both (x ∷ xs) w zero e at = inl at
 at_both (x ∷ xs) w (suc j) e at = elim (at_both xs w j e at) [ inl y ↦ inl y | inr t ↦ (let f = t.1 in inr (t.0, omega arith, t.2)) ]

@@ -40,7 +40,8 @@ drop_set (y ∷ xs) zero x ys lt rest = ap (λ (zs : List HandlerCounts). x ∷ 
 drop_set (y ∷ xs) (suc n) x ys lt rest = drop_set xs n x ys (omega arith) (let e : suc (n + 1) ≡ suc n + 1 = omega arith in ap (λ (m : ℕ). drop m (y ∷ xs)) e ∙ rest)
 
 -- the last of those that are left is of the ring
-pub last_of_ring : (ring : TableId) (old new seen all : List ReceiverEnd) (e : ReceiverEnd) → AreOfRing ring all → old ++ seen ≡ all → old ≡ new ++ e ∷ [] → e.ring ≡ ring
+pub last_of_ring : (ring : TableId) (old new seen all : List ReceiverEnd) (e : ReceiverEnd) → AreOfRing ring all → old ++ seen ≡ all
+    → old ≡ new ++ e ∷ [] → e.ring ≡ ring
 last_of_ring ring old new seen all e of is popped = of (length new) e
     (subst (λ (xs : List ReceiverEnd). get_elem? xs (length new) ≡ some e) is (at_longer old seen (length new) e (subst (λ (xs : List ReceiverEnd). get_elem? xs (length new) ≡ some e) (sym popped) (at_last new e (length new) refl))))
 
@@ -48,12 +49,16 @@ led : (v : Known) (q : SenderRecord) → get_elem? v 0 ≡ some (Sends q) → se
 led [] q at = absurd (cc)
 led (x ∷ xs) q at = ap (λ (e : EndRecord). sender_of (e ∷ xs)) (some-injective x (Sends q) at)
 
-seen_more : (v : Known) (held : List (ℕ × ℕ)) (seen : List ReceiverEnd) (e : ReceiverEnd) → ((h : ℕ) (x : ReceiverEnd) → get_elem? seen h ≡ some x → IsInView (v, held) x.knows) → (h : ℕ) (x : ReceiverEnd) → get_elem? (e ∷ seen) h ≡ some x → IsInView (v ++ Receives e.knows ∷ [], held) x.knows
+seen_more : (v : Known) (held : List (ℕ × ℕ)) (seen : List ReceiverEnd) (e : ReceiverEnd)
+    → ((h : ℕ) (x : ReceiverEnd) → get_elem? seen h ≡ some x → IsInView (v, held) x.knows) → (h : ℕ) (x : ReceiverEnd)
+    → get_elem? (e ∷ seen) h ≡ some x → IsInView (v ++ Receives e.knows ∷ [], held) x.knows
 seen_more v held seen e before zero x at = subst (λ (y : ReceiverEnd). IsInView (v ++ Receives e.knows ∷ [], held) y.knows) (some-injective e x at) (length v, at_last v (Receives e.knows) (length v) refl)
 seen_more v held seen e before (suc h) x at = let b = before h x at in (b.0, at_longer v (Receives e.knows ∷ []) b.0 (Receives x.knows) b.1)
 
-pub gathering_more : (ring : TableId) (me now next : End) (left left' seen all : List ReceiverEnd) (e : ReceiverEnd) (counts counts' : List HandlerCounts) (other : End) → Gathering ring me now left seen all counts → left ≡ left' ++ e ∷ []
-    → other ≡ as_receiver e.knows → next ≡ (now.0 ++ other.0, now.1) → counts' ≡ set counts (length left') (counts_of e.knows) → Gathering ring me next left' (e ∷ seen) all counts'
+pub gathering_more : (ring : TableId) (me now next : End) (left left' seen all : List ReceiverEnd) (e : ReceiverEnd) (counts counts' : List HandlerCounts) (other : End)
+    → Gathering ring me now left seen all counts → left ≡ left' ++ e ∷ []
+    → other ≡ as_receiver e.knows → next ≡ (now.0 ++ other.0, now.1) → counts' ≡ set counts (length left') (counts_of e.knows)
+    → Gathering ring me next left' (e ∷ seen) all counts'
 gathering_more ring me now next left left' seen all e counts counts' other G popped of is new =
     let P : End → Type 0 = λ m. LeadsView m × (sender_of m.0 ≡ sender_of me.0) in
     let joined : next ≡ (now.0 ++ Receives e.knows ∷ [], now.1) = is ∙ ap (λ (m : End). let x : End = (now.0 ++ m.0, now.1) in x) of in
@@ -76,13 +81,15 @@ no_elements : (xs : List ReceiverEnd) → length xs ≡ 0 → xs ≡ []
 no_elements [] e = refl
 no_elements (x ∷ xs) e = absurd (omega arith)
 
-knows_at : (rs : List ReceiverEnd) (h : ℕ) (r : ReceiverRecord) → get_elem? (map knows_of rs) h ≡ some r → (e : ReceiverEnd) × (get_elem? rs h ≡ some e) × (e.knows ≡ r)
+knows_at : (rs : List ReceiverEnd) (h : ℕ) (r : ReceiverRecord) → get_elem? (map knows_of rs) h ≡ some r
+    → (e : ReceiverEnd) × (get_elem? rs h ≡ some e) × (e.knows ≡ r)
 knows_at [] h r at = absurd (cc)
 knows_at (e ∷ rs) zero r at = (e, refl, some-injective e.knows r at)
 knows_at (e ∷ rs) (suc h) r at = knows_at rs h r at
 
 -- all have come
-pub gathering_all : (ring : TableId) (me now : End) (left seen all : List ReceiverEnd) (counts : List HandlerCounts) → Gathering ring me now left seen all counts → length left ≡ 0 → Gathers me (map knows_of all) now × (counts ≡ map (λ e. counts_of e.knows) all)
+pub gathering_all : (ring : TableId) (me now : End) (left seen all : List ReceiverEnd) (counts : List HandlerCounts)
+    → Gathering ring me now left seen all counts → length left ≡ 0 → Gathers me (map knows_of all) now × (counts ≡ map (λ e. counts_of e.knows) all)
 gathering_all ring me now left seen all counts G none =
     let same : seen ≡ all = ap (λ (xs : List ReceiverEnd). xs ++ seen) (sym (no_elements left none)) ∙ G.split in (
       record {

@@ -22,7 +22,8 @@ abbrev pub word_at : List ℕ → ℕ → ℕ
 word_at words i = get_or words i 0
 
 -- what a handler completed, by its word
-pub receiver_of_handler : (k : Shape) (w : World) → Kept k w → (h : ℕ) → h < handlers_of k → (r : ReceiverRecord) × (get_elem? w.receivers h ≡ some r) × ReceiverKept k w.words w.sender.published h r
+pub receiver_of_handler : (k : Shape) (w : World) → Kept k w → (h : ℕ) → h < handlers_of k
+    → (r : ReceiverRecord) × (get_elem? w.receivers h ≡ some r) × ReceiverKept k w.words w.sender.published h r
 receiver_of_handler k w K h lt = let count = K.ends in let t = there w.receivers h (omega arith) in (t.0, t.1, K.received h t.0 t.1)
 
 -- completed counts fall along the graph
@@ -61,17 +62,20 @@ is_open l i v e =
     ]
 
 -- where the words that a part speaks of stay, it stays
-pub room_stays : (k : Shape) (words us : List ℕ) (n : ℕ) → ((h : ℕ) → h < handlers_of k → word_at words (count_word h) ≤ word_at us (count_word h)) → Room k words n → Room k us n
+pub room_stays : (k : Shape) (words us : List ℕ) (n : ℕ) → ((h : ℕ) → h < handlers_of k → word_at words (count_word h) ≤ word_at us (count_word h))
+    → Room k words n → Room k us n
 room_stays k words us n rises room f final = let a = rises f (final_inside k.upstreams f final) in let b = room f final in omega arith
 
-pub payload_stays : (k : Shape) (words us : List ℕ) (published : List Event) (pending : List (Option Event)) (half : Option HalfWrite) → ((i : ℕ) → payload_start k ≤ i → word_at us i ≡ word_at words i) → Payload k words published pending half → Payload k us published pending half
+pub payload_stays : (k : Shape) (words us : List ℕ) (published : List Event) (pending : List (Option Event)) (half : Option HalfWrite)
+    → ((i : ℕ) → payload_start k ≤ i → word_at us i ≡ word_at words i) → Payload k words published pending half → Payload k us published pending half
 payload_stays k words us published pending half same P = record {
   events = λ s lt wide. (let e = P.events s lt wide in (same (payload_word k s 0) (omega arith) ∙ e.0, same (payload_word k s 1) (omega arith) ∙ e.1));
   writes = λ i v e. (let d = P.writes i v e in (same (payload_word k (length published + i) 0) (omega arith) ∙ d.0, same (payload_word k (length published + i) 1) (omega arith) ∙ d.1));
   halves = λ x e. (let d = P.halves x e in (d.0, d.1, same (payload_word k x.sequence 0) (omega arith) ∙ d.2));
 }
 
-pub flags_stay : (words us : List ℕ) (n : ℕ) (a b c : Bool) → word_at us halt_word ≡ word_at words halt_word → word_at us closed_word ≡ word_at words closed_word → HaltAndClose words n a b c → HaltAndClose us n a b c
+pub flags_stay : (words us : List ℕ) (n : ℕ) (a b c : Bool) → word_at us halt_word ≡ word_at words halt_word
+    → word_at us closed_word ≡ word_at words closed_word → HaltAndClose words n a b c → HaltAndClose us n a b c
 flags_stay words us n a b c halt close F = record {
   halt = let f = F.halt in omega arith;
   close = let f = F.close in omega arith;
@@ -83,8 +87,10 @@ flags_stay words us n a b c halt close F = record {
   complete = λ y. let d = F.complete (sym close ∙ y) in (halt ∙ d.0, d.1);
 }
 
-pub receiver_stays : (k : Shape) (words us : List ℕ) (published : List Event) (h : ℕ) (r : ReceiverRecord) → IsGraph k.upstreams → h < handlers_of k → word_at us (count_word h) ≡ word_at words (count_word h)
-    → ((u : ℕ) → u < handlers_of k → word_at words (count_word u) ≤ word_at us (count_word u)) → (word_at words closed_word ≡ 1 → word_at us closed_word ≡ 1) → ArePast k us r.looks
+pub receiver_stays : (k : Shape) (words us : List ℕ) (published : List Event) (h : ℕ) (r : ReceiverRecord) → IsGraph k.upstreams → h < handlers_of k
+    → word_at us (count_word h) ≡ word_at words (count_word h)
+    → ((u : ℕ) → u < handlers_of k → word_at words (count_word u) ≤ word_at us (count_word u))
+    → (word_at words closed_word ≡ 1 → word_at us closed_word ≡ 1) → ArePast k us r.looks
     → ReceiverKept k words published h r → ReceiverKept k us published h r
 receiver_stays k words us published h r graph inside same rises closes past was = record {
   plan = was.plan;
@@ -100,8 +106,10 @@ receiver_stays k words us published h r graph inside same rises closes past was 
 }
 
 -- the sender claims or looks, and stores no word
-sender_learns : (k : Shape) (w : World) (pending : List (Option Event)) (looks : List Look) → length w.sender.published + length pending ≤ k.limit → Room k w.words (length w.sender.published + length pending)
-    → Payload k w.words w.sender.published pending w.sender.half → HaltAndClose w.words (length pending) w.sender.halted w.sender.closed w.halter.halted → ArePast k w.words looks → Kept k w
+sender_learns : (k : Shape) (w : World) (pending : List (Option Event)) (looks : List Look) → length w.sender.published + length pending ≤ k.limit
+    → Room k w.words (length w.sender.published + length pending)
+    → Payload k w.words w.sender.published pending w.sender.half → HaltAndClose w.words (length pending) w.sender.halted w.sender.closed w.halter.halted
+    → ArePast k w.words looks → Kept k w
     → Kept k (sender_knows w (record w.sender { pending = pending; looks = looks }))
 sender_learns k w pending looks limit room payload flags past K = record {
   graph = K.graph;
@@ -118,10 +126,12 @@ sender_learns k w pending looks limit room payload flags past K = record {
   looks = past;
 }
 
-pub keeps_sender_looks : (k : Shape) (w : World) (i : ℕ) → i < payload_start k → Kept k w → Kept k (sender_knows w (sender_looked w.sender i (word_at w.words i)))
+pub keeps_sender_looks : (k : Shape) (w : World) (i : ℕ) → i < payload_start k → Kept k w
+    → Kept k (sender_knows w (sender_looked w.sender i (word_at w.words i)))
 keeps_sender_looks k w i lt K = sender_learns k w w.sender.pending (sender_looked w.sender i (word_at w.words i)).looks K.counts.limit K.room K.payload K.flags (past_more k w.words i w.sender.looks lt K.looks) K
 
-payload_claims : (k : Shape) (words : List ℕ) (published : List Event) (pending : List (Option Event)) (half : Option HalfWrite) (n : ℕ) → Payload k words published pending half → Payload k words published (pending ++ replicate n None) half
+payload_claims : (k : Shape) (words : List ℕ) (published : List Event) (pending : List (Option Event)) (half : Option HalfWrite) (n : ℕ)
+    → Payload k words published pending half → Payload k words published (pending ++ replicate n None) half
 payload_claims k words published pending half n P =
     let nothing : Option Event = None in
     let longer : length (pending ++ replicate n nothing) ≡ length pending + n = omega (arith, length-append pending (replicate n nothing), length-replicate n nothing) in record {
@@ -160,7 +170,8 @@ claims_more k w n room going K =
 abbrev opens : ℕ → ℕ → List (Option Event)
 opens n found = if found == 0 then replicate n None else []
 
-pub keeps_halt_look : (k : Shape) (w : World) (n : ℕ) → (0 < n → HasRoom k w.sender n) → Kept k w → Kept k (sender_knows w (halt_looked w.sender n (word_at w.words halt_word)))
+pub keeps_halt_look : (k : Shape) (w : World) (n : ℕ) → (0 < n → HasRoom k w.sender n) → Kept k w
+    → Kept k (sender_knows w (halt_looked w.sender n (word_at w.words halt_word)))
 keeps_halt_look k w n room K =
     let found = word_at w.words halt_word in
     let P : List (Option Event) → Type 0 = λ more. Kept k (sender_knows w (record w.sender { pending = w.sender.pending ++ more; looks = w.sender.looks ++ look halt_word found ∷ [] })) in
@@ -175,7 +186,9 @@ keeps_halt_look k w n room K =
     ]
 
 -- a payload word is stored: nothing below the payload changes
-payload_kept : (k : Shape) (w : World) (i v : ℕ) (r : SenderRecord) → payload_start k ≤ i → i < words_of k → r.plan ≡ w.sender.plan → r.published ≡ w.sender.published → length r.pending ≡ length w.sender.pending → r.halted ≡ w.sender.halted → r.closed ≡ w.sender.closed → r.looks ≡ w.sender.looks
+payload_kept : (k : Shape) (w : World) (i v : ℕ) (r : SenderRecord) → payload_start k ≤ i → i < words_of k → r.plan ≡ w.sender.plan
+    → r.published ≡ w.sender.published → length r.pending ≡ length w.sender.pending → r.halted ≡ w.sender.halted → r.closed ≡ w.sender.closed
+    → r.looks ≡ w.sender.looks
     → Payload k (set w.words i v) w.sender.published r.pending r.half → Kept k w
     → Kept k (sender_stores w i v (record w.sender { pending = r.pending; half = r.half }))
 payload_kept k w i v r low high p1 p2 p3 p4 p5 p6 payload K =
@@ -231,7 +244,8 @@ payload_first k w s v is free K =
           subst (λ (y : HalfWrite). (len ≤ y.sequence) × (y.sequence < len + length w.sender.pending) × (word_at us (payload_word k y.sequence 0) ≡ y.first)) same (le, lt, get_or-set_same w.words i v 0 inside));
     }
 
-pub keeps_first : (k : Shape) (w : World) (s v : ℕ) → IsOpen w.sender s → w.sender.half ≡ None → Kept k w → Kept k (sender_stores w (payload_word k s 0) v (half_written w.sender s v))
+pub keeps_first : (k : Shape) (w : World) (s v : ℕ) → IsOpen w.sender s → w.sender.half ≡ None → Kept k w
+    → Kept k (sender_stores w (payload_word k s 0) v (half_written w.sender s v))
 keeps_first k w s v is free K = let some_slot = K.some_slot in
     payload_kept k w (payload_word k s 0) v (half_written w.sender s v) (omega arith) (omega arith) refl refl refl refl refl refl (payload_first k w s v is free K) K
 
@@ -268,6 +282,7 @@ payload_second k w x v has K =
       halves = λ y e. absurd (cc);
     }
 
-pub keeps_second : (k : Shape) (w : World) (x : HalfWrite) (v : ℕ) → w.sender.half ≡ Some x → Kept k w → Kept k (sender_stores w (payload_word k x.sequence 1) v (written w.sender x.sequence record { first = x.first; second = v }))
+pub keeps_second : (k : Shape) (w : World) (x : HalfWrite) (v : ℕ) → w.sender.half ≡ Some x → Kept k w
+    → Kept k (sender_stores w (payload_word k x.sequence 1) v (written w.sender x.sequence record { first = x.first; second = v }))
 keeps_second k w x v has K = let some_slot = K.some_slot in
     payload_kept k w (payload_word k x.sequence 1) v (written w.sender x.sequence record { first = x.first; second = v }) (omega arith) (omega arith) refl refl (length-set w.sender.pending _ _) refl refl refl (payload_second k w x v has K) K

@@ -28,14 +28,16 @@ value_at [] i a d e = absurd (some-ne-none a (sym e))
 value_at (x ∷ xs) zero a d e = some-injective x a e
 value_at (x ∷ xs) (suc i) a d e = value_at xs i a d e
 
-pub each_set : {A : Type 0} (P : ℕ → A → Type 0) (l : List A) (h : ℕ) (r : A) → P h r → ((j : ℕ) (q : A) → j ≢ h → get_elem? l j ≡ some q → P j q) → (j : ℕ) (q : A) → get_elem? (set l h r) j ≡ some q → P j q
+pub each_set : {A : Type 0} (P : ℕ → A → Type 0) (l : List A) (h : ℕ) (r : A) → P h r → ((j : ℕ) (q : A) → j ≢ h → get_elem? l j ≡ some q → P j q)
+    → (j : ℕ) (q : A) → get_elem? (set l h r) j ≡ some q → P j q
 each_set P l h r new old j q at =
     elim (at_set l h j r q at) [
       | inl x ↦ subst (λ (m : ℕ). P m q) (sym x.0) (subst (P h) x.1 new)
       | inr x ↦ old j q x.0 x.1
     ]
 
-first_or_rest : (xs : List ℕ) (a n i f : ℕ) (b : Bool) → ((i f : ℕ) → i < length xs → get_or xs i f ≡ f → f < n) → a < n → i < length (cond b (a ∷ xs) xs) → get_or (cond b (a ∷ xs) xs) i f ≡ f → f < n
+first_or_rest : (xs : List ℕ) (a n i f : ℕ) (b : Bool) → ((i f : ℕ) → i < length xs → get_or xs i f ≡ f → f < n) → a < n
+    → i < length (cond b (a ∷ xs) xs) → get_or (cond b (a ∷ xs) xs) i f ≡ f → f < n
 first_or_rest xs a n zero f true rest here lt e = let same : a ≡ f = e in omega arith
 first_or_rest xs a n (suc i) f true rest here lt e = rest i f (omega arith) e
 first_or_rest xs a n i f false rest here lt e = rest i f lt e
@@ -53,7 +55,8 @@ pub contains_none : (u : ℕ) → Contains [] u → ⊥
 contains_none u has = let l : has.0 < 0 = has.1 in omega arith
 
 -- a word that is not the one stored stays, and a word that rises keeps what was seen of it
-pub past_set : (k : Shape) (words : List ℕ) (i n : ℕ) (looks : List Look) → i < length words → (i < payload_start k → get_or words i 0 ≤ n) → ArePast k words looks → ArePast k (set words i n) looks
+pub past_set : (k : Shape) (words : List ℕ) (i n : ℕ) (looks : List Look) → i < length words → (i < payload_start k → get_or words i 0 ≤ n)
+    → ArePast k words looks → ArePast k (set words i n) looks
 past_set k words i n looks lt rises all j x at = let d = all j x at in
     elim (cases_eq x.word i) [
       | inl e ↦ record {
@@ -67,7 +70,8 @@ past_set k words i n looks lt rises all j x at = let d = all j x at in
       | inr ne ↦ record { rises = d.rises; before = rw (get_or-set_other words i x.word n 0 ne) d.before }
     ]
 
-pub past_more : (k : Shape) (words : List ℕ) (i : ℕ) (looks : List Look) → i < payload_start k → ArePast k words looks → ArePast k words (looks ++ look i (get_or words i 0) ∷ [])
+pub past_more : (k : Shape) (words : List ℕ) (i : ℕ) (looks : List Look) → i < payload_start k → ArePast k words looks
+    → ArePast k words (looks ++ look i (get_or words i 0) ∷ [])
 past_more k words i looks lt all j x at =
     elim (at_snoc looks (look i (get_or words i 0)) x j at) [
       | inl old ↦ all j x old
@@ -75,7 +79,8 @@ past_more k words i looks lt all j x at =
     ]
 
 -- a look is never above its word
-pub last_look_le : (k : Shape) (words : List ℕ) (d : ℕ) (looks : List Look) (word : ℕ) → d ≤ get_or words word 0 → ArePast k words looks → last_look d looks word ≤ get_or words word 0
+pub last_look_le : (k : Shape) (words : List ℕ) (d : ℕ) (looks : List Look) (word : ℕ) → d ≤ get_or words word 0 → ArePast k words looks
+    → last_look d looks word ≤ get_or words word 0
 last_look_le k words d [] word le all = le
 last_look_le k words d (x ∷ xs) word le all =
     last_look_le k words (if x.word == word then x.value else d) xs word

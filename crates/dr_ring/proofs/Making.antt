@@ -44,13 +44,15 @@ pub cut_rest : (k : Shape) (h n : ℕ) (me me' : Sitting) → h < n → me ≡ r
     → me' ≡ receivers_seat k (h + 1) (n - (h + 1))
 cut_rest k h n me me' lt was is = is ∙ ap rest_cut was ∙ ap (λ (rs : List ReceiverRecord). rest_cut (seat_for rs)) (fresh_next k h n lt)
 
-pub sits_fresh : (at own : TableId) (me : End) (k : Shape) (h : ℕ) → IsAtTable own at k → IsPlan k → h < handlers_of k → me ≡ as_receiver (fresh_receiver k h) → ReceiverSits at own k me h 0
+pub sits_fresh : (at own : TableId) (me : End) (k : Shape) (h : ℕ) → IsAtTable own at k → IsPlan k → h < handlers_of k
+    → me ≡ as_receiver (fresh_receiver k h) → ReceiverSits at own k me h 0
 sits_fresh at own me k h table made lt is = subst (λ (m : End). ReceiverSits at own k m h 0) (sym is) (record { table = table; made = made; end = refl; plan = refl; own = refl; handler = lt; looks = refl })
 
 abbrev zeros : ℕ → List ℕ
 zeros n = replicate n 0
 
-pub listed_next : (t : TableId) (k : Shape) (h n : ℕ) (items new : List ReceiverEnd) (e : ReceiverEnd) (all : List ReceiverEnd) → h < n → items ++ map (at_ring t) (fresh_receivers k h (n - h)) ≡ all → new ≡ items ++ e ∷ [] → e ≡ at_ring t (fresh_receiver k h)
+pub listed_next : (t : TableId) (k : Shape) (h n : ℕ) (items new : List ReceiverEnd) (e : ReceiverEnd) (all : List ReceiverEnd) → h < n
+    → items ++ map (at_ring t) (fresh_receivers k h (n - h)) ≡ all → new ≡ items ++ e ∷ [] → e ≡ at_ring t (fresh_receiver k h)
     → new ++ map (at_ring t) (fresh_receivers k (h + 1) (n - (h + 1))) ≡ all
 listed_next t k h n items new e all lt was is own = ap (λ (xs : List ReceiverEnd). xs ++ map (at_ring t) (fresh_receivers k (h + 1) (n - (h + 1)))) (is ∙ ap (λ (x : ReceiverEnd). items ++ x ∷ []) own)
     ∙ append_assoc items (at_ring t (fresh_receiver k h) ∷ []) (map (at_ring t) (fresh_receivers k (h + 1) (n - (h + 1))))
@@ -62,7 +64,8 @@ view_fresh t own me k h same is = λ i. receiver_end (same i) (is i)
 pub some_words : (k : Shape) (n : ℕ) (ws : List ℕ) → n ≡ length ws → ws ≡ replicate (words_of k) 0 → 0 < n
 some_words k n ws count is = let z : ℕ = 0 in let same = ap length is in let len = length-replicate (words_of k) z in omega arith
 
-fresh_end : (k : Shape) (t : TableId) (h n i : ℕ) (e : ReceiverEnd) → get_elem? (map (at_ring t) (fresh_receivers k h n)) i ≡ some e → (e.ring ≡ t) × (e.knows.number ≡ h + i)
+fresh_end : (k : Shape) (t : TableId) (h n i : ℕ) (e : ReceiverEnd) → get_elem? (map (at_ring t) (fresh_receivers k h n)) i ≡ some e
+    → (e.ring ≡ t) × (e.knows.number ≡ h + i)
 fresh_end k t h zero i e at = absurd (cc)
 fresh_end k t h (suc n) zero e at = subst (λ (x : ReceiverEnd). (x.ring ≡ t) × (x.knows.number ≡ h + 0)) (some-injective (at_ring t (fresh_receiver k h)) e at) (refl, omega arith)
 fresh_end k t h (suc n) (suc i) e at = let r = fresh_end k t (suc h) n i e at in let m = r.1 in (r.0, omega arith)
@@ -76,7 +79,8 @@ all_fresh k s rs t F = record {
       let m = x.1 in (x.0, omega arith));
 }
 
-pub all_receiver : (s : SenderEnd) (rs : List ReceiverEnd) (h : ℕ) (e e' : ReceiverEnd) → AreAllEnds s rs → get_elem? rs h ≡ some e → e'.ring ≡ e.ring → e'.knows.number ≡ e.knows.number → AreAllEnds s (set rs h e')
+pub all_receiver : (s : SenderEnd) (rs : List ReceiverEnd) (h : ℕ) (e e' : ReceiverEnd) → AreAllEnds s rs → get_elem? rs h ≡ some e → e'.ring ≡ e.ring
+    → e'.knows.number ≡ e.knows.number → AreAllEnds s (set rs h e')
 all_receiver s rs h e e' A here ring number = record {
   all = length-set rs h e' ∙ A.all;
   each = each_set (λ j x. (x.ring ≡ s.ring) × (x.knows.number ≡ j)) rs h e' (let t = A.each h e here in (ring ∙ t.0, number ∙ t.1)) (λ j x ne at. A.each j x at);
@@ -87,7 +91,8 @@ set_past [] h e le = refl
 set_past (r ∷ rs) zero e le = absurd (omega arith)
 set_past (r ∷ rs) (suc h) e le = ap (λ (xs : List ReceiverEnd). r ∷ xs) (set_past rs h e (omega arith))
 
-pub all_receiver_at : (s : SenderEnd) (rs : List ReceiverEnd) (h : ℕ) (e e' : ReceiverEnd) → AreAllEnds s rs → e ≡ get_or rs h e → e'.ring ≡ e.ring → e'.knows.number ≡ e.knows.number → AreAllEnds s (set rs h e')
+pub all_receiver_at : (s : SenderEnd) (rs : List ReceiverEnd) (h : ℕ) (e e' : ReceiverEnd) → AreAllEnds s rs → e ≡ get_or rs h e → e'.ring ≡ e.ring
+    → e'.knows.number ≡ e.knows.number → AreAllEnds s (set rs h e')
 all_receiver_at s rs h e e' A at ring number =
     elim (cases_lt h (length rs)) [
       | inl lt ↦ (let t = there rs h lt in let same : t.0 ≡ e = sym (at ∙ value_at rs h t.0 e t.1) in

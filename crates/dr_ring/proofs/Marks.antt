@@ -33,7 +33,8 @@ marked_written n r ms lo hi M all after within s le lt = let i = s - length r.pu
     let e : (get_or ms (s % n) 0 == s + 1) ≡ is_some (get_or r.pending i None) = subst (λ (t : ℕ). (get_or ms (t % n) 0 == t + 1) ≡ is_some (get_or r.pending i None)) here (M.each i (omega arith)) in
     some_of (get_or r.pending i None) (sym e ∙ eq-eqb _ _ (all s le lt))
 
-pub marks_write : (n : ℕ) (r : SenderRecord) (ms : List ℕ) (s : ℕ) (v : Event) → 0 < n → length r.published ≤ s → s < claimed r → claimed r ≤ n + length r.published → Marked n r ms → Marked n (written r s v) (set ms (s % n) (s + 1))
+pub marks_write : (n : ℕ) (r : SenderRecord) (ms : List ℕ) (s : ℕ) (v : Event) → 0 < n → length r.published ≤ s → s < claimed r
+    → claimed r ≤ n + length r.published → Marked n r ms → Marked n (written r s v) (set ms (s % n) (s + 1))
 marks_write n r ms s v pos le lt near M =
     let len = length r.published in let at = s - len in let slot = s % n in let count = M.slots in
     let low : s % n < n = mod-lt s pos in let inside : slot < length ms = omega arith in

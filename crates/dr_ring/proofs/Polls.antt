@@ -20,13 +20,15 @@ abbrev pub looked_twice : ReceiverRecord → ℕ → ℕ → ReceiverRecord
 looked_twice r closed cursor = cursor_looked (receiver_looked r closed_word closed) cursor
 
 -- the three rounds of looks, as one
-round_is : (r : ReceiverRecord) (closed cursor : ℕ) (xs : List Look) → receiver_saw (looked_twice r closed cursor) xs ≡ record r { told = r.told || ((closed == 1) && (cursor == length r.received)); looks = r.looks ++ look closed_word closed ∷ look cursor_word cursor ∷ xs }
+round_is : (r : ReceiverRecord) (closed cursor : ℕ) (xs : List Look)
+    → receiver_saw (looked_twice r closed cursor) xs ≡ record r { told = r.told || ((closed == 1) && (cursor == length r.received)); looks = r.looks ++ look closed_word closed ∷ look cursor_word cursor ∷ xs }
 round_is r closed cursor xs = λ i. record r {
   told = r.told || ((last_look_more 0 r.looks closed_word closed i == 1) && (cursor == length r.received));
   looks = (ap (λ (ys : List Look). ys ++ xs) (append_assoc r.looks (look closed_word closed ∷ []) (look cursor_word cursor ∷ [])) ∙ append_assoc r.looks (look closed_word closed ∷ look cursor_word cursor ∷ []) xs) i;
 }
 
-pub round_of : (r s : ReceiverRecord) (closed cursor available : ℕ) → (L : LooksAtUpstreams (looked_twice r closed cursor) cursor s available) → s ≡ looked_round r closed cursor L.counts
+pub round_of : (r s : ReceiverRecord) (closed cursor available : ℕ) → (L : LooksAtUpstreams (looked_twice r closed cursor) cursor s available)
+    → s ≡ looked_round r closed cursor L.counts
 round_of r s closed cursor available L = L.is ∙ round_is r closed cursor (count_looks (ups_of r) L.counts)
 
 no_counts : (counts : List ℕ) → length counts ≡ 0 → counts ≡ []
@@ -55,11 +57,13 @@ or_true : (b : Bool) → (b || true) ≡ true
 or_true true = refl
 or_true false = refl
 
-is_told : (r : ReceiverRecord) (closed cursor : ℕ) → closed ≡ 1 → cursor ≡ length r.received → (r.told || ((closed == 1) && (cursor == length r.received))) ≡ true
+is_told : (r : ReceiverRecord) (closed cursor : ℕ) → closed ≡ 1 → cursor ≡ length r.received
+    → (r.told || ((closed == 1) && (cursor == length r.received))) ≡ true
 is_told r closed cursor one all = rw (eq-eqb closed 1 one, eq-eqb cursor (length r.received) all) (or_true r.told)
 
 -- nothing is offered
-pub poll_nothing : (r s : ReceiverRecord) (out : List Event) (closed cursor available taken : ℕ) → taken ≡ length r.received → (L : LooksAtUpstreams (looked_twice r closed cursor) cursor s available)
+pub poll_nothing : (r s : ReceiverRecord) (out : List Event) (closed cursor available taken : ℕ) → taken ≡ length r.received
+    → (L : LooksAtUpstreams (looked_twice r closed cursor) cursor s available)
     → closed ≤ 1 → taken ≤ cursor → available ≤ taken → Answers r out s out closed cursor L.counts (nothing_offered closed cursor taken)
 poll_nothing r s out closed cursor available taken next L flag ahead none =
     let round = round_of r s closed cursor available L in
@@ -77,7 +81,8 @@ poll_nothing r s out closed cursor available taken next L flag ahead none =
     ]
 
 -- what is offered is offered as far as the receiver saw
-pub offers : (r s : ReceiverRecord) (closed cursor available upto : ℕ) → LooksAtUpstreams (looked_twice r closed cursor) cursor s available → upto ≤ available → IsOffered s upto
+pub offers : (r s : ReceiverRecord) (closed cursor available upto : ℕ) → LooksAtUpstreams (looked_twice r closed cursor) cursor s available
+    → upto ≤ available → IsOffered s upto
 offers r s closed cursor available upto L le = let q = looked_twice r closed cursor in
     subst (λ (t : ReceiverRecord). IsOffered t upto) (sym L.is)
     (record {
@@ -89,7 +94,8 @@ offers r s closed cursor available upto L le = let q = looked_twice r closed cur
     })
 
 -- the fields after a batch
-pub fits_batch : (r s t : ReceiverRecord) (n done count closed cursor available : ℕ) (xs : List Event) → ReceiverFits r n done → LooksAtUpstreams (looked_twice r closed cursor) cursor s available → t ≡ received_all s xs → length xs ≡ count → ReceiverFits t (n + count) done
+pub fits_batch : (r s t : ReceiverRecord) (n done count closed cursor available : ℕ) (xs : List Event) → ReceiverFits r n done
+    → LooksAtUpstreams (looked_twice r closed cursor) cursor s available → t ≡ received_all s xs → length xs ≡ count → ReceiverFits t (n + count) done
 fits_batch r s t n done count closed cursor available xs F L is many =
     subst (λ (q : ReceiverRecord). ReceiverFits q (n + count) done) (sym (is ∙ ap (λ (q : ReceiverRecord). received_all q xs) L.is))
     (record { half = F.half; taken = (let e = F.taken in omega (arith, length-append r.received xs)); completed = F.completed })
@@ -111,7 +117,8 @@ some_or_none [] = inl refl
 some_or_none (u ∷ ups) = inr (λ (e : u ∷ ups ≡ []). cc)
 
 -- who is told that the ring drained is offered nothing
-told_nothing : (r s : ReceiverRecord) (closed cursor available : ℕ) → LooksAtUpstreams (looked_twice r closed cursor) cursor s available → (r.told ≡ true → cursor ≤ length r.received) → (looked_twice r closed cursor).told ≡ true → available ≤ length r.received
+told_nothing : (r s : ReceiverRecord) (closed cursor available : ℕ) → LooksAtUpstreams (looked_twice r closed cursor) cursor s available
+    → (r.told ≡ true → cursor ≤ length r.received) → (looked_twice r closed cursor).told ≡ true → available ≤ length r.received
 told_nothing r s closed cursor available L before told =
     elim (some_or_none (ups_of r)) [
       | inl none ↦ (
@@ -124,8 +131,10 @@ told_nothing r s closed cursor available L before told =
     ]
 
 -- some events are offered
-pub poll_batch : (r s t : ReceiverRecord) (out out' : List Event) (closed cursor available taken count : ℕ) (last : Bool) → taken ≡ length r.received → (L : LooksAtUpstreams (looked_twice r closed cursor) cursor s available) → (r.told ≡ true → cursor ≤ length r.received)
-    → t ≡ received_all s (take count out') → drop count out' ≡ drop count out → taken < available → count ≡ min (available - taken) (length out) → (IsTrue last ↔ (taken + count ≡ available))
+pub poll_batch : (r s t : ReceiverRecord) (out out' : List Event) (closed cursor available taken count : ℕ) (last : Bool) → taken ≡ length r.received
+    → (L : LooksAtUpstreams (looked_twice r closed cursor) cursor s available) → (r.told ≡ true → cursor ≤ length r.received)
+    → t ≡ received_all s (take count out') → drop count out' ≡ drop count out → taken < available → count ≡ min (available - taken) (length out)
+    → (IsTrue last ↔ (taken + count ≡ available))
     → Answers r out t out' closed cursor L.counts (Batch taken count last)
 poll_batch r s t out out' closed cursor available taken count last next L before is rest more least end = (
   next,
@@ -139,7 +148,8 @@ poll_batch r s t out out' closed cursor available taken count last next L before
 )
 
 -- the looks of a poll, by the record from before it
-pub seen_round : (r q s t : ReceiverRecord) (closed cursor available : ℕ) → q ≡ receiver_looked r closed_word closed → s ≡ cursor_looked q cursor → LooksAtUpstreams s cursor t available → LooksAtUpstreams (looked_twice r closed cursor) cursor t available
+pub seen_round : (r q s t : ReceiverRecord) (closed cursor available : ℕ) → q ≡ receiver_looked r closed_word closed → s ≡ cursor_looked q cursor
+    → LooksAtUpstreams s cursor t available → LooksAtUpstreams (looked_twice r closed cursor) cursor t available
 seen_round r q s t closed cursor available first second L = subst (λ (x : ReceiverRecord). LooksAtUpstreams x cursor t available) (second ∙ ap (λ (x : ReceiverRecord). cursor_looked x cursor) first) L
 
 pub of_count : (n m : ℕ) (b : Bool) → b ≡ (n == m) → IsTrue b ↔ (n ≡ m)

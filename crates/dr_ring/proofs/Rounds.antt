@@ -42,7 +42,8 @@ last_least d xs i v w n le high =
       | inr ne ↦ (let a : last_look d (xs ++ look i v ∷ []) w ≡ last_look d xs w = last_look_else d xs i w v ne in omega arith)
     ]
 
-looks_more : (ups counts : List ℕ) (i v : ℕ) → length counts ≡ i → i < length ups → count_looks (take (i + 1) ups) (counts ++ v ∷ []) ≡ count_looks (take i ups) counts ++ look (count_word (get_or ups i 0)) v ∷ []
+looks_more : (ups counts : List ℕ) (i v : ℕ) → length counts ≡ i → i < length ups
+    → count_looks (take (i + 1) ups) (counts ++ v ∷ []) ≡ count_looks (take i ups) counts ++ look (count_word (get_or ups i 0)) v ∷ []
 looks_more [] counts i v e lt = absurd (omega arith)
 looks_more (u ∷ ups) [] zero v e lt = refl
 looks_more (u ∷ ups) [] (suc i) v e lt = absurd (omega arith)
@@ -91,7 +92,8 @@ saw_nothing r = record {
   rises = λ g. (let e : last_look 0 (r.looks ++ []) (count_word g) ≡ last_look 0 r.looks (count_word g) = ap (λ (ys : List Look). last_look 0 ys (count_word g)) (append-nil r.looks) in omega arith);
 }
 
-saw_more : (r s s' : SenderRecord) (xs : List Look) (i v : ℕ) → LooksAtFinals r xs s → s' ≡ sender_looked s i v → last_look 0 s.looks i ≤ v → LooksAtFinals r (xs ++ look i v ∷ []) s'
+saw_more : (r s s' : SenderRecord) (xs : List Look) (i v : ℕ) → LooksAtFinals r xs s → s' ≡ sender_looked s i v → last_look 0 s.looks i ≤ v
+    → LooksAtFinals r (xs ++ look i v ∷ []) s'
 saw_more r s s' xs i v S is rise = record {
   is = is ∙ ap (λ (q : SenderRecord). sender_looked q i v) S.is ∙ saw_one r xs i v;
   rises = λ g. (let w = count_word g in let a = S.rises g in let b : last_look 0 (r.looks ++ xs) w ≤ last_look 0 ((r.looks ++ xs) ++ look i v ∷ []) w = last_rises 0 (r.looks ++ xs) i v w (subst (λ (q : SenderRecord). last_look 0 q.looks i ≤ v) S.is rise) in
@@ -99,19 +101,22 @@ saw_more r s s' xs i v S is rise = record {
 }
 
 -- one look more, in the finals' order
-scan_more : (k : Shape) (xs : List Look) (counts : List ℕ) (i f v : ℕ) → length counts ≡ i → i < length (finals k.upstreams) → get_or (finals k.upstreams) i 0 ≡ f → xs ≡ count_looks (take i (finals k.upstreams)) counts
+scan_more : (k : Shape) (xs : List Look) (counts : List ℕ) (i f v : ℕ) → length counts ≡ i → i < length (finals k.upstreams)
+    → get_or (finals k.upstreams) i 0 ≡ f → xs ≡ count_looks (take i (finals k.upstreams)) counts
     → xs ++ look (count_word f) v ∷ [] ≡ count_looks (take (i + 1) (finals k.upstreams)) (counts ++ v ∷ [])
 scan_more k xs counts i f v each inside at are =
     ap (λ (ys : List Look). ys ++ look (count_word f) v ∷ []) are ∙ ap (λ (g : ℕ). count_looks (take i (finals k.upstreams)) counts ++ look (count_word g) v ∷ []) (sym at) ∙ sym (looks_more (finals k.upstreams) counts i v each inside)
 
-at_end : (counts : List ℕ) (v needed i j : ℕ) → length counts ≡ i → j < i + 1 → ((l : ℕ) → l < i → needed ≤ get_or counts l 0) → needed ≤ v → needed ≤ get_or (counts ++ v ∷ []) j 0
+at_end : (counts : List ℕ) (v needed i j : ℕ) → length counts ≡ i → j < i + 1 → ((l : ℕ) → l < i → needed ≤ get_or counts l 0) → needed ≤ v
+    → needed ≤ get_or (counts ++ v ∷ []) j 0
 at_end counts v needed i j each lt ahead high =
     elim (cases_lt j i) [
       | inl below ↦ (let a = ahead j below in let e : get_or (counts ++ v ∷ []) j 0 ≡ get_or counts j 0 = get_or_append_left counts (v ∷ []) 0 j (omega arith) in omega arith)
       | inr here ↦ (let same : length counts ≡ j = omega arith in let e : get_or (counts ++ v ∷ []) j 0 ≡ v = number_at counts v j same in omega arith)
     ]
 
-pub scanned_more : (r s s' : SenderRecord) (needed least least' i f v : ℕ) → Scanned r needed least i s → i < length (finals r.plan.upstreams) → get_or (finals r.plan.upstreams) i 0 ≡ f → s' ≡ sender_looked s (count_word f) v → last_look 0 s.looks (count_word f) ≤ v
+pub scanned_more : (r s s' : SenderRecord) (needed least least' i f v : ℕ) → Scanned r needed least i s → i < length (finals r.plan.upstreams)
+    → get_or (finals r.plan.upstreams) i 0 ≡ f → s' ≡ sender_looked s (count_word f) v → last_look 0 s.looks (count_word f) ≤ v
     → needed ≤ v → v ≤ length s.published → least' ≡ min least v → Scanned r needed least' (i + 1) s'
 scanned_more r s s' needed least least' i f v S inside at is rise high below new =
     let front : v ≤ length r.published = subst (λ (q : SenderRecord). v ≤ length q.published) S.saw.is below in
@@ -133,7 +138,8 @@ scanned_more r s s' needed least least' i f v S inside at is rise high below new
       front = let b = S.front in omega arith;
     }
 
-pub scanned_low : (r s s' : SenderRecord) (needed least i f v : ℕ) → Scanned r needed least i s → i < length (finals r.plan.upstreams) → get_or (finals r.plan.upstreams) i 0 ≡ f → s' ≡ sender_looked s (count_word f) v → last_look 0 s.looks (count_word f) ≤ v
+pub scanned_low : (r s s' : SenderRecord) (needed least i f v : ℕ) → Scanned r needed least i s → i < length (finals r.plan.upstreams)
+    → get_or (finals r.plan.upstreams) i 0 ≡ f → s' ≡ sender_looked s (count_word f) v → last_look 0 s.looks (count_word f) ≤ v
     → v < needed → (xs : List Look) × LooksAtFinals r xs s' × IsShort r.plan xs needed
 scanned_low r s s' needed least i f v S inside at is rise low =
     let each = S.each in let len : length (S.counts ++ v ∷ []) ≡ i + 1 = omega (arith, length-append S.counts (v ∷ [])) in (
@@ -150,7 +156,8 @@ scanned_low r s s' needed least i f v S inside at is rise low =
       },
     )
 
-pub scanned_all : (r s : SenderRecord) (needed least i : ℕ) → IsPlan r.plan → Scanned r needed least i s → i ≡ length (finals r.plan.upstreams) → (xs : List Look) × LooksAtFinals r xs s × IsEnough r xs needed least
+pub scanned_all : (r s : SenderRecord) (needed least i : ℕ) → IsPlan r.plan → Scanned r needed least i s → i ≡ length (finals r.plan.upstreams)
+    → (xs : List Look) × LooksAtFinals r xs s × IsEnough r xs needed least
 scanned_all r s needed least i plan S all =
     let some_one = some_final r.plan plan.graph in let low = S.some_one (omega arith) in (
       S.xs,
@@ -168,7 +175,8 @@ scanned_all r s needed least i plan S all =
     )
 
 -- what is remembered serves
-pub remembers : (r : SenderRecord) (needed least front : ℕ) → needed ≤ least → least ≤ front → front ≡ length r.published → IsSeenLeast r least → (xs : List Look) × LooksAtFinals r xs r × IsEnough r xs needed least
+pub remembers : (r : SenderRecord) (needed least front : ℕ) → needed ≤ least → least ≤ front → front ≡ length r.published → IsSeenLeast r least
+    → (xs : List Look) × LooksAtFinals r xs r × IsEnough r xs needed least
 remembers r needed least front enough low at seen = (
   [],
   saw_nothing r,
@@ -200,7 +208,8 @@ pub record Round (ups : List ℕ) (r : ReceiverRecord) (cursor available i : ℕ
   pub told : r.told ≡ true → 0 < i → available ≤ length r.received
 
 -- what a list of counts offers, once one more is seen
-offers_more : (cursor v available available' : ℕ) (counts : List ℕ) (first : Bool) → first ≡ (length counts == 0) → available ≡ offered_by cursor counts → available' ≡ lesser_of first v available
+offers_more : (cursor v available available' : ℕ) (counts : List ℕ) (first : Bool) → first ≡ (length counts == 0)
+    → available ≡ offered_by cursor counts → available' ≡ lesser_of first v available
     → (available' ≡ offered_by cursor (counts ++ v ∷ [])) × (available' ≤ v) × (0 < length counts → available' ≤ available) × ((available' ≡ v) ⊎ ((0 < length counts) × (available' ≡ available)))
 offers_more cursor v available available' [] first start offered new =
     let e : available' ≡ v = new ∙ rw (start) refl in (e, omega arith, (λ lt. absurd (omega arith)), inl e)
@@ -218,7 +227,8 @@ contains_more xs x v has = (has.0, (let l = has.1 in omega (arith, length-append
 contains_last : (xs : List ℕ) (x : ℕ) → Contains (xs ++ x ∷ []) x
 contains_last xs x = (length xs, omega (arith, length-append xs (x ∷ [])), last_number xs x x)
 
-pub round_more : (ups : List ℕ) (r s s' : ReceiverRecord) (cursor available available' i u v : ℕ) → Round ups r cursor available i s → i < length ups → get_or ups i 0 ≡ u → s' ≡ receiver_looked s (count_word u) v → length s.received ≤ v → (s.told ≡ true → v ≤ length s.received)
+pub round_more : (ups : List ℕ) (r s s' : ReceiverRecord) (cursor available available' i u v : ℕ) → Round ups r cursor available i s → i < length ups
+    → get_or ups i 0 ≡ u → s' ≡ receiver_looked s (count_word u) v → length s.received ≤ v → (s.told ≡ true → v ≤ length s.received)
     → available' ≡ lesser_of (i == 0) v available → Round ups r cursor available' (i + 1) s'
 round_more ups r s s' cursor available available' i u v R lt at is le told new =
     let xs = count_looks (take i ups) R.counts in let len = R.each in
@@ -257,7 +267,8 @@ no_elements : (xs : List ℕ) → length xs ≡ 0 → xs ≡ []
 no_elements [] e = refl
 no_elements (x ∷ xs) e = absurd (omega arith)
 
-pub round_all : (r s : ReceiverRecord) (cursor available i : ℕ) → Round (ups_of r) r cursor available i s → i ≡ length (ups_of r) → LooksAtUpstreams r cursor s available
+pub round_all : (r s : ReceiverRecord) (cursor available i : ℕ) → Round (ups_of r) r cursor available i s → i ≡ length (ups_of r)
+    → LooksAtUpstreams r cursor s available
 round_all r s cursor available i R all =
     let ups = ups_of r in let whole : take i ups ≡ ups = take_whole ups i all in
     let some_one : ups ≢ [] → 0 < i = λ ne. (elim (cases_lt 0 i) [ inl lt ↦ lt | inr le ↦ absurd (ne (no_elements ups (omega arith))) ]) in record {

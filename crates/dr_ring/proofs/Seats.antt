@@ -29,19 +29,22 @@ abbrev pub StandsAt : (ℕ → ℕ × ℕ) → World → ℕ → ℕ → EndReco
 StandsAt place w id j e = (place (end_number e) ≡ (id, j)) × Stands w e
 
 -- an end that stands elsewhere still stands when another's record changes
-pub not_sender : (place : ℕ → ℕ × ℕ) (ws us : List ℕ) (r r' : SenderRecord) (rs : List ReceiverRecord) (t : HalterRecord) (id id' j : ℕ) (e : EndRecord) → place 0 ≡ (id, 0) → id' ≢ id
+pub not_sender : (place : ℕ → ℕ × ℕ) (ws us : List ℕ) (r r' : SenderRecord) (rs : List ReceiverRecord) (t : HalterRecord) (id id' j : ℕ) (e : EndRecord)
+    → place 0 ≡ (id, 0) → id' ≢ id
     → StandsAt place (world_of ws r rs t) id' j e → StandsAt place (world_of us r' rs t) id' j e
 not_sender place ws us r r' rs t id id' j (Sends q) here ne h = absurd (ne (ap (λ (p : ℕ × ℕ). p.0) (sym h.0 ∙ here)))
 not_sender place ws us r r' rs t id id' j (Halts q) here ne h = (h.0, h.1)
 not_sender place ws us r r' rs t id id' j (Receives q) here ne h = (h.0, h.1)
 
-pub not_halter : (place : ℕ → ℕ × ℕ) (ws us : List ℕ) (r : SenderRecord) (rs : List ReceiverRecord) (t t' : HalterRecord) (id id' j : ℕ) (e : EndRecord) → place 1 ≡ (id, 0) → id' ≢ id
+pub not_halter : (place : ℕ → ℕ × ℕ) (ws us : List ℕ) (r : SenderRecord) (rs : List ReceiverRecord) (t t' : HalterRecord) (id id' j : ℕ) (e : EndRecord)
+    → place 1 ≡ (id, 0) → id' ≢ id
     → StandsAt place (world_of ws r rs t) id' j e → StandsAt place (world_of us r rs t') id' j e
 not_halter place ws us r rs t t' id id' j (Sends q) here ne h = (h.0, h.1)
 not_halter place ws us r rs t t' id id' j (Halts q) here ne h = absurd (ne (ap (λ (p : ℕ × ℕ). p.0) (sym h.0 ∙ here)))
 not_halter place ws us r rs t t' id id' j (Receives q) here ne h = (h.0, h.1)
 
-pub not_receiver : (place : ℕ → ℕ × ℕ) (ws us : List ℕ) (s : SenderRecord) (r' : ReceiverRecord) (rs : List ReceiverRecord) (t : HalterRecord) (n id id' j : ℕ) (e : EndRecord) → place (n + 2) ≡ (id, 0) → id' ≢ id
+pub not_receiver : (place : ℕ → ℕ × ℕ) (ws us : List ℕ) (s : SenderRecord) (r' : ReceiverRecord) (rs : List ReceiverRecord) (t : HalterRecord) (n id id' j : ℕ) (e : EndRecord)
+    → place (n + 2) ≡ (id, 0) → id' ≢ id
     → StandsAt place (world_of ws s rs t) id' j e → StandsAt place (world_of us s (set rs n r') t) id' j e
 not_receiver place ws us s r' rs t n id id' j (Sends q) here ne h = (h.0, h.1)
 not_receiver place ws us s r' rs t n id id' j (Halts q) here ne h = (h.0, h.1)

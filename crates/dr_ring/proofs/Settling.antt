@@ -38,10 +38,12 @@ agrees k w s r same at K = let was = K.received r.number r at in subst (λ (q : 
       let size : w.sender.plan.size ≡ k.size = ap (λ (p : Shape). p.size) K.sender_plan in let count = was.count in omega arith);
 })
 
-follows : (k : Shape) (w : World) (r u : ReceiverRecord) → get_elem? w.receivers r.number ≡ some r → get_elem? w.receivers u.number ≡ some u → Kept k w → Follows r u
+follows : (k : Shape) (w : World) (r u : ReceiverRecord) → get_elem? w.receivers r.number ≡ some r → get_elem? w.receivers u.number ≡ some u
+    → Kept k w → Follows r u
 follows k w r u at there K has =
     let was = K.received r.number r at in let other = K.received u.number u there in
-    let le = was.after u.number (subst (λ (p : Shape). Contains (upstreams_of p.upstreams r.number) u.number) was.plan has) in let count = other.count in omega arith
+    let le = was.after u.number (subst (λ (p : Shape). Contains (upstreams_of p.upstreams r.number) u.number) was.plan has) in
+    let count = other.count in omega arith
 
 pub compares : (k : Shape) (slots id : ℕ) (me : Sitting) → LeadsView (end_of me)
     → Allows (Ruled k) slots id me cursor_word (λ n. n) (Compares (step slots cursor_word 0 0 none) me)

@@ -19,7 +19,8 @@ use Rattle.dr_ring.specs.Steps.{sender_stores, receiver_knows, receiver_stores}
 use Rattle.dr_ring.proofs.Lists.{at_below, each_set, past_set, past_more, last_look_le}
 use Rattle.dr_ring.proofs.Keeps.{word_at, receiver_of_handler, above, upstream_inside, room_stays, payload_stays, flags_stay, receiver_stays}
 
-payload_publishes : (k : Shape) (words : List ℕ) (r : SenderRecord) (n : ℕ) → length r.published < n → n ≤ claimed r → AreWritten r n → Payload k words r.published r.pending None → Payload k words (published_to r n).published (published_to r n).pending None
+payload_publishes : (k : Shape) (words : List ℕ) (r : SenderRecord) (n : ℕ) → length r.published < n → n ≤ claimed r → AreWritten r n
+    → Payload k words r.published r.pending None → Payload k words (published_to r n).published (published_to r n).pending None
 payload_publishes k words r n lt le all P =
     let old = r.published in let pending = r.pending in let m = n - length old in let new = map event_or_none (take m pending) in
     let count : length new ≡ m = length-map (take m pending) event_or_none ∙ omega (arith, length-take m pending) in
@@ -44,7 +45,8 @@ payload_publishes k words r n lt le all P =
       halves = λ x e. absurd (cc);
     }
 
-pub keeps_publishes : (k : Shape) (w : World) (n : ℕ) → length w.sender.published < n → n ≤ claimed w.sender → AreWritten w.sender n → w.sender.half ≡ None → Kept k w → Kept k (sender_stores w cursor_word n (published_to w.sender n))
+pub keeps_publishes : (k : Shape) (w : World) (n : ℕ) → length w.sender.published < n → n ≤ claimed w.sender → AreWritten w.sender n
+    → w.sender.half ≡ None → Kept k w → Kept k (sender_stores w cursor_word n (published_to w.sender n))
 keeps_publishes k w n lt le all free K =
     let old = w.sender.published in let pending = w.sender.pending in let m = n - length old in let new = map event_or_none (take m pending) in
     let count : length new ≡ m = length-map (take m pending) event_or_none ∙ omega (arith, length-take m pending) in
@@ -138,7 +140,8 @@ keeps_sender_halts k w K = flagged k w halt_word (omega arith) (omega arith) K.f
 pub keeps_halter_halts : (k : Shape) (w : World) → Kept k w → Kept k (record w { words = set w.words halt_word 1; halter = halter_halted w.halter })
 keeps_halter_halts k w K = flagged k w halt_word (omega arith) (omega arith) K.flags.halt w.sender.halted w.sender.closed true (halts_flags k w w.sender.halted true (inr refl) K) K
 
-pub keeps_closes : (k : Shape) (w : World) → w.sender.halted ≡ true → w.sender.pending ≡ [] → Kept k w → Kept k (sender_stores w closed_word 1 (sender_closed w.sender))
+pub keeps_closes : (k : Shape) (w : World) → w.sender.halted ≡ true → w.sender.pending ≡ [] → Kept k w
+    → Kept k (sender_stores w closed_word 1 (sender_closed w.sender))
 keeps_closes k w halted all K = let F = K.flags in let wide = K.wide in
     let here : word_at (set w.words closed_word 1) closed_word ≡ 1 = get_or-set_same w.words closed_word 1 0 (omega arith) in
     let other : word_at (set w.words closed_word 1) halt_word ≡ word_at w.words halt_word = get_or-set_other w.words closed_word halt_word 1 0 (λ (e : halt_word ≡ closed_word). omega arith) in
@@ -147,7 +150,8 @@ keeps_closes k w halted all K = let F = K.flags in let wide = K.wide in
     (record { halt = omega arith; close = omega arith; by_sender = λ y. halt; by_halter = λ y. halt; closed = λ y. here; known_halt = λ y. inl halted; known_close = λ y. refl; complete = λ y. (halt, ap length all) }) K
 
 -- one receiver's record changes, and no word
-receiver_changes : (k : Shape) (w : World) (h : ℕ) (q : ReceiverRecord) → ReceiverKept k w.words w.sender.published h q → Kept k w → Kept k (receiver_knows w h q)
+receiver_changes : (k : Shape) (w : World) (h : ℕ) (q : ReceiverRecord) → ReceiverKept k w.words w.sender.published h q → Kept k w
+    → Kept k (receiver_knows w h q)
 receiver_changes k w h q new K = record {
   graph = K.graph;
   some_slot = K.some_slot;
@@ -181,19 +185,23 @@ receiver_learns k w h r half told looks at next drained past K = let was = K.rec
   looks = past;
 }) K
 
-pub keeps_receiver_looks : (k : Shape) (w : World) (h i : ℕ) (r : ReceiverRecord) → i < payload_start k → get_elem? w.receivers h ≡ some r → Kept k w → Kept k (receiver_knows w h (receiver_looked r i (word_at w.words i)))
+pub keeps_receiver_looks : (k : Shape) (w : World) (h i : ℕ) (r : ReceiverRecord) → i < payload_start k → get_elem? w.receivers h ≡ some r → Kept k w
+    → Kept k (receiver_knows w h (receiver_looked r i (word_at w.words i)))
 keeps_receiver_looks k w h i r lt at K = let was = K.received h r at in
     receiver_learns k w h r r.half r.told (receiver_looked r i (word_at w.words i)).looks at was.half was.told (past_more k w.words i r.looks lt was.looks) K
 
 -- a look that tells a receiver that the ring drained tells the truth
-pub tells_truth : (k : Shape) (w : World) (h : ℕ) (r : ReceiverRecord) → get_elem? w.receivers h ≡ some r → tells_drained r (word_at w.words cursor_word) ≡ true → Kept k w
+pub tells_truth : (k : Shape) (w : World) (h : ℕ) (r : ReceiverRecord) → get_elem? w.receivers h ≡ some r
+    → tells_drained r (word_at w.words cursor_word) ≡ true → Kept k w
     → (word_at w.words closed_word ≡ 1) × (length w.sender.published ≡ length r.received)
 tells_truth k w h r at tells K =
     let both : ((last_look 0 r.looks closed_word == 1) ≡ true) × ((word_at w.words cursor_word == length r.received) ≡ true) = and_parts _ _ tells in
     let a : last_look 0 r.looks closed_word ≡ 1 = eqb-true _ _ both.0 in let b : word_at w.words cursor_word ≡ length r.received = eqb-true _ _ both.1 in
-    let seen = last_look_le k w.words 0 r.looks closed_word (omega arith) (K.received h r at).looks in let flag = K.flags.close in let cursor = K.counts.cursor in (omega arith, omega arith)
+    let seen = last_look_le k w.words 0 r.looks closed_word (omega arith) (K.received h r at).looks in let flag = K.flags.close in
+    let cursor = K.counts.cursor in (omega arith, omega arith)
 
-pub keeps_cursor_look : (k : Shape) (w : World) (h : ℕ) (r : ReceiverRecord) → get_elem? w.receivers h ≡ some r → Kept k w → Kept k (receiver_knows w h (cursor_looked r (word_at w.words cursor_word)))
+pub keeps_cursor_look : (k : Shape) (w : World) (h : ℕ) (r : ReceiverRecord) → get_elem? w.receivers h ≡ some r → Kept k w
+    → Kept k (receiver_knows w h (cursor_looked r (word_at w.words cursor_word)))
 keeps_cursor_look k w h r at K = let was = K.received h r at in let seen = cursor_looked r (word_at w.words cursor_word) in
     receiver_learns k w h r r.half seen.told seen.looks at was.half
     (λ yes. elim (or_cases r.told (tells_drained r (word_at w.words cursor_word)) yes) [
@@ -206,7 +214,8 @@ early_by : (k : Shape) (w : World) (h : ℕ) (r : ReceiverRecord) (ups : List �
     → ((u : ℕ) → Contains ups u → length r.received < last_look 0 r.looks (count_word u)) → (ups ≡ [] → length r.received < last_look 0 r.looks cursor_word)
     → ups ≡ upstreams_of k.upstreams h → Kept k w → length r.received < length w.sender.published
 early_by k w h r [] at completed published same K =
-    let was = K.received h r at in let a = published refl in let b = last_look_le k w.words 0 r.looks cursor_word (omega arith) was.looks in let c = K.counts.cursor in omega arith
+    let was = K.received h r at in let a = published refl in let b = last_look_le k w.words 0 r.looks cursor_word (omega arith) was.looks in
+    let c = K.counts.cursor in omega arith
 early_by k w h r (u ∷ ups) at completed published same K =
     let was = K.received h r at in let has : Contains (u ∷ ups) u = (0, omega arith, refl) in let a = completed u has in
     let inside : h < handlers_of k = (let b = at_below w.receivers h r at in let c = K.ends in omega arith) in
@@ -215,17 +224,20 @@ early_by k w h r (u ∷ ups) at completed published same K =
     let d = t.2.count in let e = t.2.completed in let f = t.2.taken in omega arith
 
 -- the next event is published
-pub early : (k : Shape) (w : World) (h : ℕ) (r : ReceiverRecord) → get_elem? w.receivers h ≡ some r → IsBelowBarrier k h r → Kept k w → length r.received < length w.sender.published
+pub early : (k : Shape) (w : World) (h : ℕ) (r : ReceiverRecord) → get_elem? w.receivers h ≡ some r → IsBelowBarrier k h r → Kept k w
+    → length r.received < length w.sender.published
 early k w h r at low K = early_by k w h r (upstreams_of k.upstreams h) at low.completed low.published refl K
 
 -- the words of the next event lie in its slot
-pub next_event : (k : Shape) (w : World) (h : ℕ) (r : ReceiverRecord) → get_elem? w.receivers h ≡ some r → length r.received < length w.sender.published → Kept k w
+pub next_event : (k : Shape) (w : World) (h : ℕ) (r : ReceiverRecord) → get_elem? w.receivers h ≡ some r
+    → length r.received < length w.sender.published → Kept k w
     → (word_at w.words (payload_word k (length r.received) 0) ≡ (get_or w.sender.published (length r.received) no_event).first) × (word_at w.words (payload_word k (length r.received) 1) ≡ (get_or w.sender.published (length r.received) no_event).second)
 next_event k w h r at below K =
     let inside : h < handlers_of k = (let b = at_below w.receivers h r at in let c = K.ends in omega arith) in let was = K.received h r at in
     K.payload.events (length r.received) below (let room = above k w K h inside in let d = was.count in let c = was.completed in omega arith)
 
-pub keeps_half_taken : (k : Shape) (w : World) (h : ℕ) (r : ReceiverRecord) → get_elem? w.receivers h ≡ some r → IsBelowBarrier k h r → Kept k w → Kept k (receiver_knows w h (half_taken r (word_at w.words (payload_word k (length r.received) 0))))
+pub keeps_half_taken : (k : Shape) (w : World) (h : ℕ) (r : ReceiverRecord) → get_elem? w.receivers h ≡ some r → IsBelowBarrier k h r → Kept k w
+    → Kept k (receiver_knows w h (half_taken r (word_at w.words (payload_word k (length r.received) 0))))
 keeps_half_taken k w h r at low K =
     let was = K.received h r at in let below = early k w h r at low K in let event = next_event k w h r at below K in
     let first = word_at w.words (payload_word k (length r.received) 0) in
@@ -238,7 +250,8 @@ taken_event k w h first r at half K =
     let was = K.received h r at in let d = was.half first half in let event = next_event k w h r at d.0 K in
     λ i. record { first = d.1 i; second = event.1 i }
 
-pub keeps_takes : (k : Shape) (w : World) (h first : ℕ) (r : ReceiverRecord) → get_elem? w.receivers h ≡ some r → r.half ≡ Some first → IsBelowBarrier k h r → Kept k w
+pub keeps_takes : (k : Shape) (w : World) (h first : ℕ) (r : ReceiverRecord) → get_elem? w.receivers h ≡ some r → r.half ≡ Some first
+    → IsBelowBarrier k h r → Kept k w
     → Kept k (receiver_knows w h (took r record { first = first; second = word_at w.words (payload_word k (length r.received) 1) }))
 keeps_takes k w h first r at half low K =
     let was = K.received h r at in let n = length r.received in let all = w.sender.published in
@@ -259,7 +272,8 @@ keeps_takes k w h first r at half low K =
       looks = was.looks;
     }) K
 
-pub keeps_completes : (k : Shape) (w : World) (h n : ℕ) (r : ReceiverRecord) → get_elem? w.receivers h ≡ some r → r.completed ≤ n → n ≤ length r.received → Kept k w → Kept k (receiver_stores w h (completed_to r n) (count_word h) n)
+pub keeps_completes : (k : Shape) (w : World) (h n : ℕ) (r : ReceiverRecord) → get_elem? w.receivers h ≡ some r → r.completed ≤ n
+    → n ≤ length r.received → Kept k w → Kept k (receiver_stores w h (completed_to r n) (count_word h) n)
 keeps_completes k w h n r at rise le K =
     let was = K.received h r at in let lt : h < handlers_of k = (let b = at_below w.receivers h r at in let c = K.ends in omega arith) in
     let wide = K.wide in let i = count_word h in let us = set w.words i n in let inside : i < length w.words = omega arith in let done = was.count in

@@ -35,7 +35,8 @@ invariant_of-self-then-not-claims c =
 
 pub returns-then-not-claims : goal.returns-then-not-claims
 returns-then-not-claims c =
-    let size = c.get-size.ensures.value ∙ c.size.ensures ∙ ap (λ (k : Shape). k.size) c.plan.ensures.plan in let limit = c.limit-limit.ensures ∙ ap (λ (k : Shape). k.limit) c.plan-2.ensures.plan in
+    let size = c.get-size.ensures.value ∙ c.size.ensures ∙ ap (λ (k : Shape). k.size) c.plan.ensures.plan in
+    let limit = c.limit-limit.ensures ∙ ap (λ (k : Shape). k.limit) c.plan-2.ensures.plan in
     let need = c.saturating_sub-need.ensures in let within = c.self.invariant.limit in let fits_limit = c.if-n-limit.false in (
       search rules,
       (search rules, inr (answer_halted_late _ _ _ _ _ c.self.inside.claimed c.args.n _ (ap (λ (e : SenderEnd). e.knows) c.self.view_is) c.if-finds_halt.ensures.1 c.in-Some.ensures.answer.1 c.self.invariant.next (omega arith) _ _ c.in-Some.ensures.answer.2 c.if-not-claims.ensures.1 (omega arith))),
@@ -46,6 +47,8 @@ pub invariant_of-self-2 : goal.invariant_of-self-2
 invariant_of-self-2 c =
     let first = fits_halt _ _ _ _ _ _ _ 0 _ c.self.invariant c.finds_halt.ensures.1 (λ z. refl) in
     let room = fits_room _ _ _ _ _ _ _ _ _ _ _ first c.in-Some.ensures.answer.1 c.in-Some.ensures.answer.2 c.raise.ensures in
-    let limit = c.limit-limit.ensures ∙ ap (λ (k : Shape). k.limit) c.plan-2.ensures.plan in let size = c.get-size.ensures.value ∙ c.size.ensures ∙ ap (λ (k : Shape). k.size) c.plan.ensures.plan in
-    let need = c.saturating_sub-need.ensures in let within = c.self.invariant.limit in let fits_limit = c.if-n-limit.false in let raised = c.raise.ensures in let enough = c.in-Some.ensures.answer.2.enough in
+    let limit = c.limit-limit.ensures ∙ ap (λ (k : Shape). k.limit) c.plan-2.ensures.plan in
+    let size = c.get-size.ensures.value ∙ c.size.ensures ∙ ap (λ (k : Shape). k.size) c.plan.ensures.plan in
+    let need = c.saturating_sub-need.ensures in let within = c.self.invariant.limit in let fits_limit = c.if-n-limit.false in
+    let raised = c.raise.ensures in let enough = c.in-Some.ensures.answer.2.enough in
     fits_claim _ _ _ _ _ _ _ c.args.n c.saturating_sub-need.result room c.if-not-claims.ensures.1 (search rules) (search rules) (omega arith)
