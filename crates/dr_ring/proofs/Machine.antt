@@ -67,14 +67,9 @@ same_written vs j s = let nothing : Option Event = None in
     ]
 
 pub claim_step : (k : Shape) (n j : ℕ) (vs : List (Option Event)) (f : ℕ) (t d : List ℕ) → 0 < j → j ≤ k.size → n + j ≤ k.limit
-<<<<<<< HEAD
     → n + j ≤ k.size + least_completed (shown k n vs f t d false) (finals k.upstreams)
     → step (setup_of k) (shown k n vs f t d false)
     (Claim 0 j) ≡ record { reply = Claimed n (n + j - 1); values = []; state = shown k (n + j) (vs ++ replicate j None) f t d false }
-=======
-    → n + j ≤ k.size + least_completed (shown n vs f t d false) (finals k.upstreams)
-    → step (setup_of k) (shown n vs f t d false) (Claim 0 j) ≡ record { reply = Claimed n (n + j - 1); values = []; state = shown (n + j) (vs ++ replicate j None) f t d false }
->>>>>>> 770bc80cf2ed2dc34dd5cf7e89c85d0e67439225
 claim_step k n j vs f t d some_one fits limit room =
     let m = shown k n vs f t d false in let len = count_owners n in
     unless-none (refusals (setup_of k) m (Claim 0 j)) m (accepted (setup_of k) m (Claim 0 j))
@@ -102,21 +97,12 @@ write_step k n vs f t d b s e count le lt =
     (refl, (lt-leb (length (owners n)) s (omega arith), (le-ltb s f le, (ap not (owner_is n s lt), tt))))
     ∙ (λ i. record { reply = Written; values = []; state = record m { written = λ q. set_written vs s e (omega arith) q i } })
 
-<<<<<<< HEAD
 stretch : (k : Shape) (n : ℕ) (vs : List (Option Event)) (f : ℕ) (t d : List ℕ) (b : Bool) (lo c : ℕ) → f ≤ lo → lo + c ≤ n
     → ((s : ℕ) → lo ≤ s → s < lo + c → is_none (get_or vs s None) ≡ false)
     → NoneHold (flat_map (publish_faults (shown k n vs f t d b) 0) (range_with_len lo c))
 stretch k n vs f t d b lo zero le within all = tt
 stretch k n vs f t d b lo (suc c) le within all =
     (le-ltb lo f le, (ap not (owner_is n lo (omega arith)), (all lo (omega arith) (omega arith), stretch k n vs f t d b (lo + 1) c (omega arith) (omega arith) (λ s a l. all s (omega arith) (omega arith)))))
-=======
-stretch : (n : ℕ) (vs : List (Option Event)) (f : ℕ) (t d : List ℕ) (b : Bool) (lo c : ℕ) → f ≤ lo → lo + c ≤ n
-    → ((s : ℕ) → lo ≤ s → s < lo + c → is_none (get_or vs s None) ≡ false)
-    → NoneHold (flat_map (publish_faults (shown n vs f t d b) 0) (range_with_len lo c))
-stretch n vs f t d b lo zero le within all = tt
-stretch n vs f t d b lo (suc c) le within all =
-    (le-ltb lo f le, (ap not (owner_is n lo (omega arith)), (all lo (omega arith) (omega arith), stretch n vs f t d b (lo + 1) c (omega arith) (omega arith) (λ s a l. all s (omega arith) (omega arith)))))
->>>>>>> 770bc80cf2ed2dc34dd5cf7e89c85d0e67439225
 
 covers_below : (f q s : ℕ) → f < q → (nat_lt s f || (nat_le f s && nat_le s (q - 1))) ≡ nat_lt s q
 covers_below f q s lt =
@@ -130,11 +116,7 @@ covers_below f q s lt =
 
 pub publish_step : (k : Shape) (n : ℕ) (vs : List (Option Event)) (f : ℕ) (t d : List ℕ) (b : Bool) (q : ℕ) → f < q → q ≤ n
     → ((s : ℕ) → f ≤ s → s < q → is_none (get_or vs s None) ≡ false)
-<<<<<<< HEAD
     → step (setup_of k) (shown k n vs f t d b) (Publish 0 f (q - 1)) ≡ record { reply = Published; values = []; state = shown k n vs q t d b }
-=======
-    → step (setup_of k) (shown n vs f t d b) (Publish 0 f (q - 1)) ≡ record { reply = Published; values = []; state = shown n vs q t d b }
->>>>>>> 770bc80cf2ed2dc34dd5cf7e89c85d0e67439225
 publish_step k n vs f t d b q lt within all =
     let m = shown k n vs f t d b in let len = count_owners n in
     let at : f ≡ front m = sym (shown_front k n vs f t d b (omega arith)) in
@@ -145,8 +127,8 @@ publish_step k n vs f t d b q lt within all =
         (
           lt-leb (length (owners n)) (q - 1) (omega arith),
           NoneHold-join (flat_map (publish_faults m 0) (range_with_len f (q - 1 + 1 - f))) _
-          (stretch k n vs f t d b f (q - 1 + 1 - f) (omega arith) (omega arith) (λ s a l. all s a (omega arith)))
-          (ap not (eq-eqb f (front m) at), tt),
+              (stretch k n vs f t d b f (q - 1 + 1 - f) (omega arith) (omega arith) (λ s a l. all s a (omega arith)))
+              (ap not (eq-eqb f (front m) at), tt),
         ),
       ),
     )
@@ -154,8 +136,12 @@ publish_step k n vs f t d b q lt within all =
 
 pub take_step : (k : Shape) (m : State) (h : ℕ) → h < handlers_of k → m.retired h ≡ false → get_or m.taken h 0 < available (setup_of k) m h
     → step (setup_of k) m
-    (Poll h 1) ≡ record { reply = Batch (get_or m.taken h 0) 1 (get_or m.taken h 0 + 1 == available (setup_of k) m h); values = unwrap_or
-    (m.written (get_or m.taken h 0)) no_event ∷ []; state = record m { taken = set m.taken h (get_or m.taken h 0 + 1) } }
+    (Poll h 1) ≡ record {
+      reply = Batch (get_or m.taken h 0) 1 (get_or m.taken h 0 + 1 == available (setup_of k) m h);
+      values = unwrap_or
+          (m.written (get_or m.taken h 0)) no_event ∷ [];
+      state = record m { taken = set m.taken h (get_or m.taken h 0 + 1) };
+    }
 take_step k m h inside here more =
     let at = get_or m.taken h 0 in let to = available (setup_of k) m h in let one : min (to - at) 1 ≡ 1 = omega arith in
     unless-none (refusals (setup_of k) m (Poll h 1)) m (accepted (setup_of k) m (Poll h 1)) (lt-leb (handlers_of k) h inside, (here, (refl, tt)))
@@ -163,13 +149,8 @@ take_step k m h inside here more =
     (λ i. record { reply = Batch at (one i) (at + one i == to); values = map (λ s. unwrap_or (m.written s) no_event) (range_with_len at (one i)); state = record m { taken = set m.taken h (at + one i) } })
 
 pub drained_step : (k : Shape) (n : ℕ) (vs : List (Option Event)) (f : ℕ) (t d : List ℕ) (h : ℕ) → h < handlers_of k
-<<<<<<< HEAD
     → available (setup_of k) (shown k n vs f t d true) h ≤ n → get_or t h 0 ≡ n
     → step (setup_of k) (shown k n vs f t d true) (Poll h 1) ≡ record { reply = Drained; values = []; state = shown k n vs f t d true }
-=======
-    → available (setup_of k) (shown n vs f t d true) h ≤ n → get_or t h 0 ≡ n
-    → step (setup_of k) (shown n vs f t d true) (Poll h 1) ≡ record { reply = Drained; values = []; state = shown n vs f t d true }
->>>>>>> 770bc80cf2ed2dc34dd5cf7e89c85d0e67439225
 drained_step k n vs f t d h inside none all =
     let m = shown k n vs f t d true in let len = count_owners n in
     unless-none (refusals (setup_of k) m (Poll h 1)) m (accepted (setup_of k) m (Poll h 1)) (lt-leb (handlers_of k) h inside, (refl, (refl, tt)))

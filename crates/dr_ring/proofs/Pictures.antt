@@ -83,12 +83,8 @@ counts_stay k words i v ne =
 
 count_set : (k : Shape) (words : List ℕ) (h v : ℕ) → h < handlers_of k → count_word h < length words
     → counts_of k (set words (count_word h) v) ≡ set (counts_of k words) h v
-<<<<<<< HEAD
 count_set k words h v lt inside =
     map_but (λ h. word_at words (count_word h)) (λ j. word_at (set words (count_word h) v) (count_word j)) 0 (handlers_of k) h v lt
-=======
-count_set k words h v lt inside = map_but (λ h. word_at words (count_word h)) (λ j. word_at (set words (count_word h) v) (count_word j)) 0 (handlers_of k) h v lt
->>>>>>> 770bc80cf2ed2dc34dd5cf7e89c85d0e67439225
     (let z : 0 + h ≡ h = omega arith in ap (λ (j : ℕ). word_at (set words (count_word h) v) (count_word j)) z ∙ get_or-set_same words (count_word h) v 0 inside)
     (λ j ne. get_or-set_other words (count_word h) (count_word j) v 0 (λ (e : count_word j ≡ count_word h). ne (omega arith)))
 
@@ -124,12 +120,8 @@ inside_of k w h r K at = let b = at_below w.receivers h r at in let e = K.ends i
 
 same_picture : (k : Shape) (w : World) (h : ℕ) (r q : ReceiverRecord) → get_elem? w.receivers h ≡ some r → taken_of q ≡ taken_of r
     → picture_of k (receiver_knows w h q) ≡ picture_of k w
-<<<<<<< HEAD
 same_picture k w h r q at same =
     ap (λ (t : List ℕ). shown k (claimed w.sender) (values_of w.sender.published w.sender.pending) (word_at w.words cursor_word) t (counts_of k w.words) (word_at w.words halt_word == 1)) (same_taken w h r q at same)
-=======
-same_picture k w h r q at same = ap (λ (t : List ℕ). shown (claimed w.sender) (values_of w.sender.published w.sender.pending) (word_at w.words cursor_word) t (counts_of k w.words) (word_at w.words halt_word == 1)) (same_taken w h r q at same)
->>>>>>> 770bc80cf2ed2dc34dd5cf7e89c85d0e67439225
 
 -- there is a final handler
 pub some_final : (k : Shape) → IsGraph k.upstreams → 0 < length (finals k.upstreams)
