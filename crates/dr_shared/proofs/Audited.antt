@@ -1,5 +1,5 @@
 -- What a list of sequences says of the transcript that it was made of.
-use Rattle.std.proofs.Common.{◌≡◌, ℕ, ◌+◌, ◌<◌, ◌≤◌, inl, inr, Bool, true, false, ◌&&◌, List, [], ◌++◌, arith, refl, ap, sym, ◌∙◌, length, map, take, get_or, Option, Some, unwrap_or, slice_index, eq-eqb}
+use Rattle.std.proofs.Common.{◌≡◌, ℕ, ◌<◌, ◌≤◌, inl, inr, Bool, true, false, ◌&&◌, List, [], ◌++◌, arith, refl, ap, sym, ◌∙◌, length, map, take, get_or, Option, Some, unwrap_or, slice_index, eq-eqb}
 use Rattle.std.proofs.Math.ListN.{get_or-eq_default}
 use Rattle.std.specs.Prelude.{◌==◌, filter}
 use Rattle.std.specs.List.{range_with_len}
@@ -17,7 +17,7 @@ use Rattle.dr_core.specs.Tells.{Tells}
 use Rattle.dr_shared.specs.declared.sequences.Sequence.{Sequence}
 use Rattle.dr_shared.specs.Sequences.{Lists, nothing, known, known_in, published_of, sent_of}
 use Rattle.dr_shared.specs.Merge.{IsMerge}
-use Rattle.dr_shared.specs.Audit.{SentScript, is_owner, event_at, published_by_all, published_by, script_of}
+use Rattle.dr_shared.specs.Audit.{is_owner, event_at, published_by_all, published_by, script_of}
 use Rattle.dr_shared.proofs.Reached.{IsHeld}
 use Rattle.dr_shared.proofs.Picks.{picks, picks_none, picks_first, picks_map, picks_both, picked_passes, none_passes, list_is}
 

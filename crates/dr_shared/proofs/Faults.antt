@@ -3,7 +3,7 @@ use Rattle.std.proofs.Common.{◌≡◌, ◌<◌, ◌+◌, ℕ, zero, suc, IfNon
 use Rattle.std.specs.Prelude.{All, filter_map, option_to_list}
 use Rattle.std.specs.List.{cons_option}
 use Rattle.std.proofs.lemmas.Option.{none-some}
-use Rattle.std.proofs.lemmas.List.{append-nil, take_more}
+use Rattle.std.proofs.lemmas.List.{take_more}
 use Rattle.std.proofs.lemmas.List.Elements.{filter_map-append}
 use Rattle.dr_shared.specs.declared.ended.Ended.{Ended}
 use Rattle.dr_shared.specs.declared.ended.WorkerFault.{WorkerFault}

@@ -1,5 +1,5 @@
 -- What an audit finds, from its two halves.
-use Rattle.std.proofs.Common.{◌≡◌, ℕ, ◌<◌, ◌≤◌, List, [], false, sym, ap, ◌∙◌, length, slice_index, take}
+use Rattle.std.proofs.Common.{◌≡◌, ℕ, ◌<◌, ◌≤◌, List, sym, ap, ◌∙◌, length, slice_index}
 use Rattle.dr_seq.specs.declared.event.Event.{Event}
 use Rattle.dr_core.specs.CoreView.{retired_in}
 use Rattle.dr_core.specs.Machine.{Setup, State, handlers, producers, opening}
@@ -9,7 +9,7 @@ use Rattle.dr_shared.specs.declared.audit_fault.AuditFault.{AuditFault}
 use Rattle.dr_shared.specs.declared.audit_fault.AuditFault.TheVariants.{ScriptDiffers, NotDrained, NoMemory}
 use Rattle.dr_shared.specs.declared.entry.Entry.{Entry}
 use Rattle.dr_shared.specs.declared.sequences.Sequence.{Sequence}
-use Rattle.dr_shared.specs.Audit.{Faults, FirstLacks, IsAudited, SentScript, TookAll, published_by, published_by_all, script_of}
+use Rattle.dr_shared.specs.Audit.{Faults, FirstLacks, IsAudited, SentScript, TookAll, published_by, published_by_all}
 use Rattle.dr_shared.specs.Auditing.{Differs, SentIn, TookIn, Undrained}
 use Rattle.dr_shared.specs.History.{History, IsRecorded, transcript}
 use Rattle.dr_shared.specs.Sequences.{Follows, Lists, published_of, sent_of}

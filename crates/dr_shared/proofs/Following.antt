@@ -1,15 +1,15 @@
 -- The commands of a history, followed on the machine with a list of what is known of each sequence.
-use Rattle.std.proofs.Common.{◌≡◌, ℕ, ◌+◌, ◌-◌, ◌<◌, ◌≤◌, inl, inr, Bool, true, false, cond, ◌&&◌, List, [], ◌∷◌, ◌++◌, arith, refl, ap, sym, ◌∙◌, length, replicate, Option, unwrap_or, Some, None, slice_index, get_or, drop}
+use Rattle.std.proofs.Common.{◌≡◌, ℕ, ◌+◌, ◌-◌, ◌<◌, inl, inr, Bool, true, false, cond, ◌&&◌, List, [], ◌∷◌, ◌++◌, arith, refl, ap, sym, ◌∙◌, length, replicate, Option, unwrap_or, Some, None, slice_index, get_or, drop}
 use Rattle.std.specs.Prelude.{◌==◌, nat_lt}
-use Rattle.std.proofs.lemmas.Bool.{cond_both, eqb-true, cases_lt, cases_Bool}
+use Rattle.std.proofs.lemmas.Bool.{cond_both, cases_lt}
 use Rattle.std.proofs.lemmas.Bool.Decides.{nat_tests}
 use Rattle.std.proofs.lemmas.List.{drop_more, length-append, length-replicate, get_or_append_left, get_or-append_right, get_or-replicate}
 use Rattle.dr_seq.specs.declared.event.Event.{Event}
 use Rattle.dr_seq.specs.Event.{no_event}
 use Rattle.dr_core.specs.declared.command.Command.{Command}
 use Rattle.dr_core.specs.declared.command.Command.TheVariants.{Claim, Write, Publish, Poll, Complete, Halt, Retire}
-use Rattle.dr_core.specs.Machine.{Setup, State, Outcome, next, producers, available, cursor, refusals, accepted, step, opening}
-use Rattle.dr_core.specs.Transcript.{Transcript, LeadsFrom, LeadsTo}
+use Rattle.dr_core.specs.Machine.{Setup, State, Outcome, next, available, cursor, refusals, accepted, step, opening}
+use Rattle.dr_core.specs.Transcript.{LeadsFrom}
 use Rattle.dr_core.specs.Runs.{count_in}
 use Rattle.dr_core.proofs.Steps.{NoneHold, unless-cases}
 use Rattle.dr_shared.specs.declared.entry.Entry.{Entry}

@@ -1,11 +1,11 @@
 -- A worker that is stopped, turn by turn.
-use Rattle.std.proofs.Common.{◌≡◌, ◌∙◌, ℕ, Bool, true, false, Option, None, Some, ⊎_elim, inl, refl, sym, ap}
+use Rattle.std.proofs.Common.{◌≡◌, ℕ, Bool, true, false, Some, ⊎_elim, inl, refl, sym, ap}
 use Rattle.std.proofs.lemmas.Bool.{false≢true}
 use Rattle.std.proofs.lemmas.Option.{none-some}
 use Rattle.dr_core.specs.declared.ends.Trouble.{Trouble}
 use Rattle.dr_core.specs.declared.ends.Trouble.TheVariants as trouble
 use Rattle.dr_shared.specs.declared.fault.WorkFault.{WorkFault}
-use Rattle.dr_shared.specs.declared.fault.WorkFault.TheVariants.{Memory, Refused, Stopped}
+use Rattle.dr_shared.specs.declared.fault.WorkFault.TheVariants.{Stopped}
 use Rattle.dr_shared.specs.declared.turns.Turns.{Turns}
 use Rattle.dr_shared.specs.Stops.{Passes, fault_at_end, fault_in_trouble}
 

@@ -1,5 +1,5 @@
 -- A script's events, written and published.
-use Rattle.std.proofs.Common.{◌≡◌, ◌<◌, ◌≤◌, ◌+◌, ◌-◌, ◌^◌, ℕ, zero, suc, List, [], ◌∷◌, ◌++◌, length, take, drop, map, get_or, set, replicate, Option, None, Some, Ok, refl, sym, ap, ◌∙◌, arith, append_assoc, length-append}
+use Rattle.std.proofs.Common.{◌≡◌, ◌<◌, ◌≤◌, ◌+◌, ◌-◌, ℕ, suc, List, [], ◌∷◌, ◌++◌, length, take, drop, map, get_or, set, replicate, Option, None, Some, Ok, refl, sym, ap, ◌∙◌, arith, append_assoc}
 use Rattle.std.specs.Prelude.{◌==◌, false, flat_map, not, unwrap_or}
 use Rattle.std.specs.List.{range_with_len}
 use Rattle.std.proofs.lemmas.Bool.{eqb-true, not-false}
@@ -11,7 +11,7 @@ use Rattle.dr_core.specs.declared.command.Claimed.{Claimed}
 use Rattle.dr_core.specs.declared.refusal.Refusal.{Refusal}
 use Rattle.dr_core.specs.declared.refusal.Refusal.TheVariants.{BadCount, NoProducer, NotClaimed, OutOfOrder}
 use Rattle.dr_core.specs.Refusals.{NoneHolds, sequence_causes}
-use Rattle.dr_core.specs.Ends.{Sent, Verdict, WhereShown, Claims, MayFail, PublishAnswers, Writes, Publishes, claimed_by, publish_tests, published_through}
+use Rattle.dr_core.specs.Ends.{Sent, Verdict, WhereShown, Claims, MayFail, PublishAnswers, Writes, Publishes, publish_tests}
 use Rattle.dr_shared.specs.Work.{Adds, Writing}
 use Rattle.dr_shared.proofs.Showing.{shown_as, shown_none, shown_through}
 

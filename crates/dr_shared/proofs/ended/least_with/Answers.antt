@@ -1,4 +1,4 @@
-use Rattle.std.proofs.Common.{◌≡◌, ◌++◌, ◌∙◌, ap, sym, take, arith}
+use Rattle.std.proofs.Common.{◌++◌, ◌∙◌, ap, sym, take}
 use Rattle.std.specs.Prelude.{option_to_list}
 use Rattle.std.proofs.lemmas.List.{take_all}
 use Rattle.dr_shared.specs.FirstFault.{faults_with, least}

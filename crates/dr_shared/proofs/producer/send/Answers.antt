@@ -1,4 +1,4 @@
-use Rattle.std.proofs.Common.{◌≡◌, ◌+◌, ℕ, Result, Ok, Err, Option, OnOk, List, length}
+use Rattle.std.proofs.Common.{◌≡◌, ◌+◌, Result, Ok, Err, Option, OnOk, List, length}
 use Rattle.dr_seq.specs.declared.event.Event.{Event}
 use Rattle.dr_core.specs.declared.command.Claimed.{Claimed}
 use Rattle.dr_core.specs.Ends.{Sent, WhereShown, PublishAnswers, Publishes}

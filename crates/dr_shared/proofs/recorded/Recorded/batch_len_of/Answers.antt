@@ -1,4 +1,4 @@
-use Rattle.std.proofs.Common.{◌≡◌, ◌-◌, ◌<◌, Err, true, false, min, ap, sym, ◌∙◌, inl, inr, length, slice_index, arith}
+use Rattle.std.proofs.Common.{◌≡◌, ◌-◌, ◌<◌, Err, false, min, ap, sym, ◌∙◌, inl, inr, length, slice_index, arith}
 use Rattle.std.proofs.lemmas.Bool.{cases_Bool, cases_lt}
 use Rattle.dr_core.specs.declared.command.Command.TheVariants.{Poll}
 use Rattle.dr_core.specs.CoreView.{retired_in}
