@@ -11,6 +11,7 @@ pub mod Hexadecimal
 pub mod Legible
 pub mod Listing
 pub mod Moving
+pub mod Numbered
 pub mod Parts
 pub mod Passing
 pub mod Reports

@@ -170,7 +170,9 @@ fn exchange<L: Ledger + Send + Sync, R: Threads + Wait + Sync, G: Gate + Sync>(
         thread::scope_env(),
         rt,
         move |scope| -> Result<Joined<L>, AllocError>
-            requires { IsSync L.row }
+            requires shared { IsSync L.row }
+            requires workers { IsSync R.row }
+            requires gates { IsSync G.row }
         {
             let Ends {
                 mut halter,
