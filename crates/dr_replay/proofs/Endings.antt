@@ -2,13 +2,12 @@
 use Rattle.std.proofs.Common.{◌≡◌, List, ◌∷◌, Option, Some, Result, Ok, Err, IfErr, ⊎_elim, refl, sym, ap, ◌∙◌}
 use Rattle.std.proofs.lemmas.Bool.{false≢true}
 use Rattle.std.specs.Prelude.{Bool, ℕ, true, false}
-use Rattle.dr_shared.specs.declared.ended.Ended.{Ended}
 use Rattle.dr_shared.specs.declared.fault.WorkFault.{WorkFault}
 use Rattle.dr_shared.specs.declared.fault.WorkFault.TheVariants as work
 use Rattle.dr_replay.specs.declared.replay.fault.ReplayFault.{ReplayFault}
 use Rattle.dr_replay.specs.declared.replay.fault.ReplayFault.TheVariants as fault
 use Rattle.dr_replay.specs.declared.replay.ring.Ran.{Ran}
-use Rattle.dr_replay.specs.Workers.{IsFirstOf, IsOfLock, IsOfWorkers, endings_of, lock_endings, replay_fault, ring_workers}
+use Rattle.dr_replay.specs.Workers.{IsFirstOf, IsOfWorkers, endings_of, replay_fault, ring_workers}
 
 -- whether a fault may be answered for workers
 abbrev is_of_workers : ReplayFault → Bool
@@ -21,8 +20,8 @@ told who work.Memory = refl
 told who work.Stopped = refl
 told who (work.Refused refusal) = refl
 
-no_other : (endings : List Ended) (e : ReplayFault) → is_of_workers e ≡ false → IsFirstOf endings e → ⊥
-no_other endings e not is = ⊎_elim
+no_other : (ran : Ran) (e : ReplayFault) → is_of_workers e ≡ false → IsFirstOf (endings_of ran) e → ⊥
+no_other ran e not is = ⊎_elim
     (λ memory. false≢true (sym not ∙ ap is_of_workers memory))
     (λ first. false≢true (sym not ∙ ap is_of_workers first.2 ∙ told first.0.who first.0.fault))
     is
@@ -30,25 +29,10 @@ no_other endings e not is = ⊎_elim
 of_workers : (ran : Ran) (e : ReplayFault) → IsFirstOf (endings_of ran) e → IsOfWorkers ring_workers e
 of_workers ran fault.Memory is = tt
 of_workers ran (fault.Worker who f) is = (endings_of ran, refl, is)
-of_workers ran (fault.Input k) is = no_other (endings_of ran) (fault.Input k) refl is
-of_workers ran (fault.Audit f) is = no_other (endings_of ran) (fault.Audit f) refl is
-of_workers ran fault.Read is = no_other (endings_of ran) fault.Read refl is
-of_workers ran fault.Write is = no_other (endings_of ran) fault.Write refl is
+of_workers ran (fault.Input k) is = no_other ran (fault.Input k) refl is
+of_workers ran fault.Read is = no_other ran fault.Read refl is
+of_workers ran fault.Write is = no_other ran fault.Write refl is
 
 pub ends_of_workers : {A : Type 0} (ran : Ran) (r : Result A ReplayFault) → IfErr r (IsFirstOf (endings_of ran)) → IfErr r (IsOfWorkers ring_workers)
 ends_of_workers ran (Ok x) is = tt
 ends_of_workers ran (Err e) is = of_workers ran e is
-
--- behind a lock
-
-of_lock : (journal replica business : Option WorkFault) (producers : List (Option WorkFault)) (e : ReplayFault) → IsFirstOf (lock_endings journal replica business producers) e → IsOfLock e
-of_lock journal replica business producers fault.Memory is = tt
-of_lock journal replica business producers (fault.Worker who f) is = (journal, replica, business, producers, is)
-of_lock journal replica business producers (fault.Audit f) is = absurd (no_other (lock_endings journal replica business producers) (fault.Audit f) refl is)
-of_lock journal replica business producers (fault.Input k) is = no_other (lock_endings journal replica business producers) (fault.Input k) refl is
-of_lock journal replica business producers fault.Read is = no_other (lock_endings journal replica business producers) fault.Read refl is
-of_lock journal replica business producers fault.Write is = no_other (lock_endings journal replica business producers) fault.Write refl is
-
-pub ends_of_lock : {A : Type 0} (journal replica business : Option WorkFault) (producers : List (Option WorkFault)) (r : Result A ReplayFault) → IfErr r (IsFirstOf (lock_endings journal replica business producers)) → IfErr r IsOfLock
-ends_of_lock journal replica business producers (Ok x) is = tt
-ends_of_lock journal replica business producers (Err e) is = of_lock journal replica business producers e is
