@@ -9,7 +9,6 @@ pub mod Finding
 pub mod Graphs
 pub mod Hexadecimal
 pub mod Legible
-pub mod Listing
 pub mod Moving
 pub mod Parts
 pub mod Passing
@@ -17,7 +16,6 @@ pub mod Reports
 pub mod Rounds
 pub mod RowsLeft
 pub mod Runs
-pub mod Scripting
 pub mod Sending
 pub mod SetUps
 pub mod Settled
