@@ -16,13 +16,13 @@ pub enum Trouble {
     /// The exchange refused the call.
     #[error("{0}")]
     Refused(Refusal),
-    /// A growth was refused: the call may be made again.
+    /// An allocation failed: the call may be made again.
     #[error("no-memory")]
     Memory,
 }
 
 impl Trouble {
-    /// The number of the refusal, or of want of memory, which stays the same in every release.
+    /// The number of the refusal, or of a lack of memory, which stays the same in every release.
     pub fn number(self) -> u32
         ensures { result ≡ number_of self }
     {
@@ -32,7 +32,7 @@ impl Trouble {
         }
     }
 
-    /// The name of the refusal, or of want of memory, as programs print it.
+    /// The name of the refusal, or of a lack of memory, as programs print it.
     pub fn name(self) -> &'static str
         ensures { result.now ≡ name_of self }
     {

@@ -42,6 +42,7 @@ pub struct Core {
     written: Rounds,
     owners: Vec<u64>,
     events: Slots,
+    // A claim of sequences that all lie below this one is granted without a further look.
     claimable: u64,
     next: u64,
     front: u64,

@@ -16,7 +16,7 @@ pub enum OpenFault {
     /// The limit of sequences is 1 to [`MAX_LIMIT`](crate::MAX_LIMIT).
     #[error("bad-limit")]
     BadLimit,
-    /// A growth was refused.
+    /// An allocation failed.
     #[error("no-memory")]
     NoMemory,
 }

@@ -58,7 +58,7 @@ impl GraphBuilder {
         ensures group { IfOk result (λ group. group ≡ given names.now) }
         ensures declared { OnOk result (self.new ≡ record self.old { names = self.old.names ++ given names.now }) }
 
-        // A fault of the names is always answered; only want of memory is not foreseen.
+        // A fault of the names is always answered; only a lack of memory is not foreseen.
         ensures accepted { IsOk result → declaring_fault self.old.names (given names.now) ≡ None }
         ensures refused { IfSome (declaring_fault self.old.names (given names.now)) (λ fault. result ≡ Err fault) }
         ensures cause { IfErr result (λ fault. (fault ≡ GraphFault.NoMemory) ⊎ (declaring_fault self.old.names (given names.now) ≡ Some fault)) }
@@ -76,7 +76,7 @@ impl GraphBuilder {
         ensures group { IfOk result (λ followers. followers ≡ given names.now) }
         ensures declared { OnOk result (self.new ≡ followed_by self.old group.now (given names.now)) }
 
-        // A fault of the group or the names is always answered; only want of memory is not foreseen.
+        // A fault of the group or the names is always answered; only a lack of memory is not foreseen.
         ensures accepted { IsOk result → following_fault self.old.names group.now (given names.now) ≡ None }
         ensures refused { IfSome (following_fault self.old.names group.now (given names.now)) (λ fault. result ≡ Err fault) }
         ensures cause { IfErr result (λ fault. (fault ≡ GraphFault.NoMemory) ⊎ (following_fault self.old.names group.now (given names.now) ≡ Some fault)) }

@@ -14,7 +14,7 @@ Begins front text = (rest : List ℕ) × (text ≡ front ++ rest)
 abbrev pub AppendsFront : Option (List ℕ) → Option (List ℕ) → List ℕ → Type 0
 AppendsFront old new text = (front : List ℕ) × Begins front text × Appends old new front
 
--- where a drive text ends: at a fault of the input the lines before it are written, for want of memory the lines of the first commands,
+-- where a drive text ends: at a fault of the input the lines before it are written, where memory ran out those of the first commands,
 -- at a failed read nothing, at a failed write a beginning of the text
 abbrev pub FaultWrites : DriveFault → Option (List ℕ) → Option (List ℕ) → DriveText → Type 0
 FaultWrites (fault.Input k cause) old new t = (t.fault ≡ Some (record { k = k; cause = cause })) × Appends old new (joined t.lines)
@@ -56,14 +56,14 @@ abbrev pub WriteTells : {A : Type 0} → Result A DriveFault → Option (List �
 WriteTells (Ok done) old new text writes writes2 = Appends old new text × (writes2 ≡ writes)
 WriteTells (Err e) old new text writes writes2 = WriteFaultTells e old new text writes writes2
 
--- a read of all bytes fails by a read or for want of memory
+-- a read of all bytes fails by a read, or since memory ran out
 abbrev pub ReadFaultTells : DriveFault → ℕ → ℕ → Type 0
 ReadFaultTells (fault.Input k cause) reads reads2 = ⊥
 ReadFaultTells fault.Memory reads reads2 = reads2 ≡ reads
 ReadFaultTells fault.Read reads reads2 = reads2 ≡ reads + 1
 ReadFaultTells fault.Write reads reads2 = ⊥
 
--- a command, the one of record k, fails by its record, for want of memory, or by the write of its line
+-- a command, the one of record k, fails by its record, since memory ran out, or by the write of its line
 abbrev pub CommandFaultTells : DriveFault → ℕ → Result Taken Cause → Option (List ℕ) → Option (List ℕ) → Type 0
 CommandFaultTells (fault.Input j cause) k t old new = (j ≡ k) × (t ≡ Err cause) × Keeps old new
 CommandFaultTells fault.Memory k t old new = Keeps old new

@@ -72,7 +72,7 @@ abbrev pub FileIs : {Z : Type 0} → Result (Vec Event Z) ReplayFault → Result
 FileIs (Ok events) file = file ≡ Ok events.items
 FileIs (Err e) file = FileFaultIs e file
 
--- the report of some events, or want of memory
+-- the report of some events, or a lack of memory
 abbrev pub IsMemory : ReplayFault → Type 0
 IsMemory e = e ≡ fault.Memory
 

@@ -12,7 +12,7 @@ use Rattle.dr_replay.specs.contracts.rows.Rows.{the_row}
 abbrev pub rows_left : Rows → List Record
 rows_left rows = left_in rows.reader
 
--- the record that was read was the first of those that were left, or none was left; after want of memory none is left
+-- the record that was read was the first of those that were left, or none was left; after memory ran out none is left
 abbrev pub Advances : {E : Type 0} → Rows → Rows → Result Bool E → Type 0
 Advances old new (Ok found) = TakesFirst old.reader new.reader new.row found
 Advances old new (Err e) = rows_left new ≡ []

@@ -62,12 +62,12 @@ pub record ExchangeShows (e : Exchange) (names : List Field) (c : Setup) (m : St
   pub setup_is : e.core.setup ≡ c
   pub shows : Shows e.core m
 
--- why a record is not taken: at fault, or for want of memory, of which nothing is said
+-- why a record is not taken: at fault, or because memory ran out, of which nothing is said
 abbrev pub FaultAs : {T : Type 0} → RecordFault → Result T Cause → Type 0
 FaultAs (fault.Cause cause) t = t ≡ Err cause
 FaultAs fault.Memory t = Unit {0}
 
--- what the builder refuses is the record's fault, but for want of memory
+-- what the builder refuses is the record's fault, unless memory ran out
 abbrev pub refused_by : GraphFault → RecordFault
 refused_by refused.NoMemory = fault.Memory
 refused_by other = fault.Cause (Graph other)

@@ -46,7 +46,8 @@ const EVENTS: &str = "The file of movements, one record a line";
 
 const SIZE: &str = "How many slots the ring has: a power of two from 1 to 65536";
 
-const BY: &str = "By which exchange: plain is one core on one thread, ring has a thread for each handler";
+const BY: &str =
+    "By which exchange: plain is one core on one thread, ring has a thread for each handler";
 
 /// The ways of a replay.
 const WAYS: &[&str] = &["plain", "ring"];

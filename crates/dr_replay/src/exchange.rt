@@ -40,7 +40,7 @@ impl Exchange {
     ghost use Rattle.dr_replay.specs.DriveText.{obeys};
     ghost use Rattle.dr_replay.specs.Shows.{ExchangeShows, IsRing, ObeysAs, ring_setup};
 
-    /// Opens a core over a graph of handlers. An error is want of memory.
+    /// Opens a core over a graph of handlers. An error is that memory ran out.
     pub fn open(alloc: Global, ring: Ring, graph: Graph) -> Result<Exchange, AllocError>
         requires { IsRing ring }
         ensures { IfOk result (λ e. ExchangeShows e graph.names (ring_setup ring graph) (opening (ring_setup ring graph))) }

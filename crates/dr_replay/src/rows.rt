@@ -9,7 +9,7 @@ ghost use Rattle.dr_replay.specs.TextReader.{IsTextReader};
 use csv::{ByteRecord, Error, Reader, ReaderBuilder};
 use std::alloc::{AllocError, Global};
 
-// The one error that a read of a record from a slice may give, whatever its length is: want of memory.
+// The one error that a read of a record from a slice may give, whatever its length is: a lack of memory.
 fn want_of_memory(error: &Error) -> AllocError
     requires { stops_reader (error_kind error.now) ≡ true }
 {
@@ -53,7 +53,7 @@ impl<'a> Rows<'a> {
         }
     }
 
-    /// The next record, if one is left. An error is want of memory, and leaves none.
+    /// The next record, if one is left. An error is that memory ran out, and leaves none.
     pub fn next(&mut self) -> Result<Option<&ByteRecord>, AllocError>
         ensures* gives { sem 𝓛 (Lends self.entry result) }
     {

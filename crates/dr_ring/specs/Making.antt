@@ -31,6 +31,6 @@ pub record AreFreshEnds (k : Shape) (s : SenderEnd) (rs : List ReceiverEnd) (t :
   pub receivers : rs ≡ map (at_ring s.ring) (fresh_receivers k 0 (handlers_of k))
   pub halter : t ≡ record { ring = s.ring; knows = fresh_halter k; past = []; stored = [] }
 
--- why a ring is refused: its limit, or want of memory
+-- why a ring is refused: its limit, or that memory ran out
 abbrev pub fault_of : ℕ → RingFault
 fault_of limit = if is_bad_limit limit then BadLimit else NoMemory

@@ -13,7 +13,7 @@ pub enum RingFault {
     /// The limit of sequences is 1 to [`MAX_LIMIT`](dr_core::MAX_LIMIT).
     #[error("bad-limit")]
     BadLimit,
-    /// A growth was refused.
+    /// An allocation failed.
     #[error("no-memory")]
     NoMemory,
 }

@@ -105,7 +105,7 @@ fn ends(alloc: Global, plan: Plan) -> Result<(Sender, Vec<Receiver>, Halter), Al
 /// its own.
 ///
 /// It is refused with `BadLimit` where the limit is 0 or above [`MAX_LIMIT`], and with `NoMemory`
-/// where a growth was refused.
+/// where an allocation failed.
 pub fn ring(
     alloc: Global,
     graph: &Graph,

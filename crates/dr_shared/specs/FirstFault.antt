@@ -26,6 +26,6 @@ abbrev pub or_else : Option WorkerFault → Option WorkerFault → Option Worker
 or_else (Some a) other = Some a
 or_else None other = other
 
--- want of memory (40) comes before a stop (54), and a stop before a refusal (53); of several of one number, that of the worker with the least number comes first
+-- out of memory (40) comes before a stop (54), and a stop before a refusal (53); of several of one number, that of the worker with the least number comes first
 abbrev pub first_fault : List Ended → Option WorkerFault
 first_fault ended = or_else (least (faults_with 40 ended)) (or_else (least (faults_with 54 ended)) (least (faults_with 53 ended)))

@@ -11,7 +11,7 @@ abbrev pub fault_at_end : Bool → Option WorkFault
 fault_at_end true = Some Stopped
 fault_at_end false = None
 
--- what a worker answers that ends in trouble: a stop goes before a refusal, and want of memory before a stop
+-- what a worker answers that ends in trouble: a stop goes before a refusal, and out of memory before a stop
 abbrev pub fault_in_trouble : Bool → Trouble → WorkFault
 fault_in_trouble stopped trouble.Memory = Memory
 fault_in_trouble true (trouble.Refused refusal) = Stopped

@@ -52,7 +52,7 @@ fn least_with(ended: &[Ended], number: u32) -> Option<WorkerFault>
     first
 }
 
-/// The fault that is answered for several workers, if one has any: want of memory before a stop, and
+/// The fault that is answered for several workers, if one has any: out of memory before a stop, and
 /// a stop before a refusal; of several of one kind, that of the worker with the least number. The
 /// order is this project's own.
 pub fn first_fault(ended: &[Ended]) -> Option<WorkerFault>

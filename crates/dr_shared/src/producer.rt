@@ -60,7 +60,7 @@ fn send<R: Wait, I: Inlet, G: Gate>(
 }
 
 /// Sends a script in claims of up to `cut` events, each once there is room: a claim, the worker's
-/// gate, the writes, and the publication. A refusal ends the work, and so does want of memory for a
+/// gate, the writes, and the publication. A refusal ends the work, and so does running out of memory for a
 /// claim. A worker that the gate stops goes on without it, and answers `Stopped` at its end.
 pub fn produce<R: Wait, I: Inlet, G: Gate>(
     rt: &R,

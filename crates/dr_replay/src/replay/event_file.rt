@@ -94,7 +94,7 @@ pub fn operation_of(row: &ByteRecord) -> Option<Operation>
 }
 
 /// The events of the operations in a file's records, in order. The fault is at the first record that
-/// is no operation, or want of memory before it.
+/// is no operation, or that memory ran out before it.
 pub fn events_of(alloc: Global, rows: &mut Rows<'_>) -> Result<Vec<Event>, ReplayFault>
     ensures { ReadsAs result (rows_left rows.old) }
 {

@@ -11,7 +11,7 @@ use dr_graph::{Graph, GraphBuilder};
 use dr_seq::Size;
 use std::alloc::{AllocError, Global};
 
-/// The graph of the replay's handlers. An error is want of memory: the names are good and differ,
+/// The graph of the replay's handlers. An error is that memory ran out: the names are good and differ,
 /// and there is no cycle.
 pub fn graph(alloc: Global) -> Result<Graph, AllocError>
     ensures { IfOk result (λ graph. graph.upstreams ≡ replay_graph) }
