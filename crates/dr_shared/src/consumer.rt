@@ -1,9 +1,9 @@
 //! The worker of a handler.
 
-ghost use Rattle.std.specs.Prelude.{◌≡◌, true, IfNone, IfOk, OnOk, Some};
+ghost use Rattle.std.specs.Prelude.{◌≡◌, ◌≢◌, true, Err, IfNone, IfOk, OnOk, Some};
 ghost use Rattle.dr_core.specs.Ends.{WhereShown};
 ghost use Rattle.dr_shared.specs.declared.consumer.Progress.TheVariants.{Drained};
-ghost use Rattle.dr_shared.specs.declared.fault.WorkFault.TheVariants.{Stopped};
+ghost use Rattle.dr_shared.specs.declared.fault.WorkFault.TheVariants.{Memory, Stopped};
 ghost use Rattle.dr_shared.specs.Stops.{Passes};
 ghost use Rattle.dr_shared.specs.Work.{IsDone, Works};
 
@@ -38,6 +38,7 @@ fn turn<R: Wait, O: Outlet, G: Gate, H: Handler>(
     ensures kept { O.kept outlet.new ≡ O.kept outlet.old }
     ensures works { Works H.goes handler.old handler.new (O.received outlet.old) (O.received outlet.new) }
     ensures done { OnOk result (WhereShown IsDone (O.received outlet.old) (O.received outlet.new)) }
+    ensures waits { result ≢ Err Trouble.Memory }
     ensures drained { IfOk result (λ progress. progress ≡ Drained → O.told outlet.new ≡ true) }
     ensures passes { Passes (G.may_stop gate.now) turns.old turns.new }
 {
@@ -71,6 +72,7 @@ pub fn consume<R: Wait, O: Outlet, G: Gate, H: Handler>(
     ensures works { Works H.goes handler.old handler.new (O.received outlet.old) (O.received outlet.new) }
     ensures done { IfNone result (WhereShown IsDone (O.received outlet.old) (O.received outlet.new)) }
     ensures drained { IfNone result (O.told outlet.new ≡ true) }
+    ensures waits { result ≢ Some Memory }
     ensures stopped { result ≡ Some Stopped → G.may_stop gate.now who }
 {
     let mut turns = Turns::new(who);

@@ -159,14 +159,8 @@ impl Core {
         if self.mode.is_single() && lo != self.front {
             return Err(Refusal::OutOfOrder);
         }
-        self.front = show(
-            self.mode,
-            &mut self.published,
-            lo,
-            hi,
-            self.front,
-            self.next,
-        );
+        let (front, next) = (self.front, self.next);
+        self.front = show(self.mode, &mut self.published, lo, hi, front, next);
         self.filled = self.filled.max(self.front);
         Ok(())
     }

@@ -2,10 +2,10 @@ use Rattle.std.proofs.Common.{◌≡◌, refl, length, sym, ap, ◌∙◌, arith
 use Rattle.std.proofs.lemmas.List.{length-replicate}
 use Rattle.dr_core.specs.Machine.{Setup, setup_of}
 use Rattle.dr_core.proofs.Recents.{none_marked, none_ahead}
-use Rattle.dr_core.proofs.Opening.{opening_shows, opening_whole}
+use Rattle.dr_core.proofs.Opening.{limit_fits, opening_shows, opening_whole}
 use Rattle.dr_core.proofs.Gating.{written_back}
-use Rattle.dr_core.proofs.engine.Core.fresh.Goals as goal
-use Rattle.dr_core.proofs.engine.Core.fresh.Goals.{After-flag_gating}
+use Rattle.dr_core.proofs.engine.Core.open_valid.Goals as goal
+use Rattle.dr_core.proofs.engine.Core.open_valid.Goals.{After-flag_gating}
 
 -- no handler took or completed anything
 none_taken : (c : After-flag_gating) → c.in_ok-taken.taken.items ≡ replicate (length c.args.graph.upstreams) 0
@@ -27,7 +27,7 @@ invariant_of-result c =
           (none_taken (goal.at.invariant_of-result c).After-flag_gating)
           (none_completed (goal.at.invariant_of-result c).After-flag_gating)
           (none_retired (goal.at.invariant_of-result c).After-flag_gating)
-          (record { graph = c.len-handlers.ensures.lawful; size = size; limit = c.requires });
+          (record { graph = c.len-handlers.ensures.lawful; size = size; limit = limit_fits c.args.limit c.requires.limit });
       available = record {
         published = ap length c.in_ok-published.ensures ∙ length-replicate _ _;
         written = ap length c.in_ok-written.ensures ∙ length-replicate _ _;
