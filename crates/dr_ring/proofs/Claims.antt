@@ -25,7 +25,7 @@ no_more (suc v) n none = rw (ne_eqb (suc v) 0 (λ (e : suc v ≡ 0). omega arith
 
 -- a look at halt that claims nothing
 halt_saw : (r : SenderRecord) (n v : ℕ) → (v ≡ 0 → n ≡ 0) → halt_looked r n v ≡ sender_saw r (look halt_word v ∷ [])
-halt_saw r n v none = ap (λ (xs : List (Option Event)). record r { pending = xs; looks = r.looks ++ look halt_word v ∷ [] }) (ap (λ (ys : List (Option Event)). r.pending ++ ys) (no_more v n none) ∙ append-nil r.pending)
+halt_saw r n v none = ap (λ (xs : List (Option Event)). record r { sent = record r.sent { pending = xs }; looks = r.looks ++ look halt_word v ∷ [] }) (ap (λ (ys : List (Option Event)). r.sent.pending ++ ys) (no_more v n none) ∙ append-nil r.sent.pending)
 
 -- looks after looks
 pub saw_then : (r s s' : SenderRecord) (xs ys : List Look) → LooksAtFinals r xs s → LooksAtFinals s ys s' → LooksAtFinals r (xs ++ ys) s'
@@ -85,7 +85,7 @@ pub fits_claim : (r s : SenderRecord) (n p least : ℕ) (ms : List ℕ) (rm : Li
     → s ≡ halt_looked r q 0 → n + q ≤ r.plan.limit → needed ≡ n + q - r.plan.size → needed ≤ least → SenderFits s (n + q) p least ms rm
 fits_claim r s n p least ms rm q needed F is limit need enough =
     let nothing : Option Event = None in let low = F.least in let next = F.next in
-    let longer : length (r.pending ++ replicate q nothing) ≡ length r.pending + q = omega (arith, length-append r.pending (replicate q nothing), length-replicate q nothing) in
+    let longer : length (r.sent.pending ++ replicate q nothing) ≡ length r.sent.pending + q = omega (arith, length-append r.sent.pending (replicate q nothing), length-replicate q nothing) in
     subst (λ (t : SenderRecord). SenderFits t (n + q) p least ms rm) (sym is) (record {
       made = F.made;
       whole = F.whole;

@@ -13,7 +13,7 @@ pub fits_write : (r q : SenderRecord) (n p least : ℕ) (ms ms' : List ℕ) (rm 
     → q ≡ written r s v → p ≤ s → s < n → ms' ≡ set ms (s % r.plan.size) (s + 1) → SenderFits q n p least ms' rm
 fits_write r q n p least ms ms' rm s v F is le lt marks =
     let next = F.next in let front = F.front in let near = F.near in
-    let count : length (set r.pending (s - length r.published) (Some v)) ≡ length r.pending = length-set r.pending (s - length r.published) (Some v) in
+    let count : length (set r.sent.pending (s - length r.sent.published) (Some v)) ≡ length r.sent.pending = length-set r.sent.pending (s - length r.sent.published) (Some v) in
     subst (λ (t : SenderRecord). SenderFits t n p least ms' rm) (sym is) (record {
       made = F.made;
       whole = refl;
@@ -30,7 +30,7 @@ fits_write r q n p least ms ms' rm s v F is le lt marks =
 -- every sequence of a stretch that is all marked is written
 pub stretch_ready : (r : SenderRecord) (n p least : ℕ) (ms : List ℕ) (rm : List HandlerCounts) (lo hi : ℕ) → SenderFits r n p least ms rm
     → AreMarked ms r.plan.size lo (hi + 1) → p ≤ lo → hi < n
-    → (s : ℕ) → lo ≤ s → s ≤ hi → (v : Event) × (get_or r.pending (s - length r.published) None ≡ Some v)
+    → (s : ℕ) → lo ≤ s → s ≤ hi → (v : Event) × (get_or r.sent.pending (s - length r.sent.published) None ≡ Some v)
 stretch_ready r n p least ms rm lo hi F all le lt s after below = let next = F.next in let front = F.front in
     marked_written r.plan.size r ms lo (hi + 1) F.marks all (omega arith) (omega arith) s after (omega arith)
 
@@ -40,14 +40,14 @@ publish_ready r n p least ms rm lo hi F all le ge lt s after below = let front =
 
 pub publish_late : (r e : SenderRecord) (n p least : ℕ) (ms : List ℕ) (rm : List HandlerCounts) (lo hi : ℕ) → r ≡ e → SenderFits r n p least ms rm
     → AreMarked ms r.plan.size lo (hi + 1) → p < lo → lo ≤ hi → hi < n
-    → (length e.published < lo) × (lo ≤ hi) × (hi < claimed e) × ((s : ℕ) → lo ≤ s → s ≤ hi → (v : Event) × (get_or e.pending (s - length e.published) None ≡ Some v)) × (e ≡ e)
+    → (length e.sent.published < lo) × (lo ≤ hi) × (hi < claimed e) × ((s : ℕ) → lo ≤ s → s ≤ hi → (v : Event) × (get_or e.sent.pending (s - length e.sent.published) None ≡ Some v)) × (e ≡ e)
 publish_late r e n p least ms rm lo hi same F all after order lt = let next = F.next in let front = F.front in
-    subst (λ (x : SenderRecord). (length x.published < lo) × (lo ≤ hi) × (hi < claimed x) × ((s : ℕ) → lo ≤ s → s ≤ hi → (v : Event) × (get_or x.pending (s - length x.published) None ≡ Some v)) × (x ≡ x)) same
+    subst (λ (x : SenderRecord). (length x.sent.published < lo) × (lo ≤ hi) × (hi < claimed x) × ((s : ℕ) → lo ≤ s → s ≤ hi → (v : Event) × (get_or x.sent.pending (s - length x.sent.published) None ≡ Some v)) × (x ≡ x)) same
     (omega arith, order, omega arith, stretch_ready r n p least ms rm lo hi F all (omega arith) lt, refl)
 
 pub publish_done : (r e q : SenderRecord) (n p least : ℕ) (ms : List ℕ) (rm : List HandlerCounts) (lo hi : ℕ) → r ≡ e → SenderFits r n p least ms rm
     → AreMarked ms r.plan.size lo (hi + 1) → p ≤ lo → lo ≤ p → lo ≤ hi → hi < n → q ≡ published_to r (hi + 1)
-    → (lo ≡ length e.published) × (lo ≤ hi) × (hi < claimed e) × AreWritten e (hi + 1) × (q ≡ published_to e (hi + 1))
+    → (lo ≡ length e.sent.published) × (lo ≤ hi) × (hi < claimed e) × AreWritten e (hi + 1) × (q ≡ published_to e (hi + 1))
 publish_done r e q n p least ms rm lo hi same F all le ge order lt new = let next = F.next in let front = F.front in
-    subst (λ (x : SenderRecord). (lo ≡ length x.published) × (lo ≤ hi) × (hi < claimed x) × AreWritten x (hi + 1) × (q ≡ published_to x (hi + 1))) same
+    subst (λ (x : SenderRecord). (lo ≡ length x.sent.published) × (lo ≤ hi) × (hi < claimed x) × AreWritten x (hi + 1) × (q ≡ published_to x (hi + 1))) same
     (omega arith, order, omega arith, publish_ready r n p least ms rm lo hi F all le ge lt, new)

@@ -12,36 +12,35 @@ use Rattle.dr_core.specs.Ends.{Verdict, Exactly, MayHold, MayFail, sequence_test
 use Rattle.dr_core.proofs.Causes.{none_join, first_left, first_right, none_of_stretch, first_of_stretch}
 use Rattle.dr_ring.specs.declared.record.SenderRecord.{SenderRecord}
 use Rattle.dr_ring.specs.Ends.{claimed}
-use Rattle.dr_ring.specs.Shown.{sent_of}
 use Rattle.dr_ring.specs.Calls.{TriesToPublish}
 
 -- the event of an open sequence, once it is written
 abbrev open_at : SenderRecord → ℕ → Option Event
-open_at r s = slice_index_or r.pending (s - length r.published) None
+open_at r s = slice_index_or r.sent.pending (s - length r.sent.published) None
 
 module _ (r : SenderRecord) where
   -- what may refuse to publish one sequence
   abbrev causes_of : ℕ → List (Verdict × Refusal)
-  causes_of s = sequence_causes (sequence_tests (Some (sent_of r)) s)
+  causes_of s = sequence_causes (sequence_tests (Some r.sent) s)
 
-  stretch_written : (lo n : ℕ) → length r.published ≤ lo → ((s : ℕ) → lo ≤ s → s < lo + n → (event : Event) × (open_at r s ≡ Some event)) → NoneHolds MayFail (flat_map causes_of (range_with_len lo n))
+  stretch_written : (lo n : ℕ) → length r.sent.published ≤ lo → ((s : ℕ) → lo ≤ s → s < lo + n → (event : Event) × (open_at r s ≡ Some event)) → NoneHolds MayFail (flat_map causes_of (range_with_len lo n))
   stretch_written lo n fresh each = none_of_stretch MayHold MayFail causes_of lo n (λ k l.
-      (le-ltb (lo + k) (length r.published) (omega arith), (refl, (ap is_none (each (lo + k) (omega arith) (omega arith)).1, tt))))
+      (le-ltb (lo + k) (length r.sent.published) (omega arith), (refl, (ap is_none (each (lo + k) (omega arith) (omega arith)).1, tt))))
 
   -- where some sequence is not written, the first such one refuses
-  stretch_unwritten : (lo n k : ℕ) → length r.published ≤ lo → k < n → open_at r (lo + k) ≡ None → IsFirst MayHold MayFail NotWritten (flat_map causes_of (range_with_len lo n))
+  stretch_unwritten : (lo n k : ℕ) → length r.sent.published ≤ lo → k < n → open_at r (lo + k) ≡ None → IsFirst MayHold MayFail NotWritten (flat_map causes_of (range_with_len lo n))
   stretch_unwritten lo zero k fresh l nothing = absurd (omega arith)
   stretch_unwritten lo (suc n) zero fresh l nothing =
-      first_left MayHold MayFail NotWritten (causes_of lo) _ (inr (le-ltb lo (length r.published) fresh, inr (refl, inl (ap is_none (rw add-zero at nothing), refl))))
+      first_left MayHold MayFail NotWritten (causes_of lo) _ (inr (le-ltb lo (length r.sent.published) fresh, inr (refl, inl (ap is_none (rw add-zero at nothing), refl))))
   stretch_unwritten lo (suc n) (suc k) fresh l nothing =
-      let new = le-ltb lo (length r.published) fresh in
+      let new = le-ltb lo (length r.sent.published) fresh in
       elim (cases_Bool (is_none (open_at r lo))) [
         | inl none ↦ first_left MayHold MayFail NotWritten (causes_of lo) _ (inr (new, inr (refl, inl (none, refl))))
         | inr some ↦ first_right MayHold MayFail NotWritten (causes_of lo) _ (new, (refl, (some, tt)))
             (stretch_unwritten (lo + 1) n k (omega arith) (omega arith) (let e : (lo + 1) + k ≡ lo + suc k = omega arith in rw e nothing))
       ]
 
-  pub publish_accepted : (lo hi : ℕ) (r' : SenderRecord) (done : Unit {0}) → TriesToPublish r lo hi r' (Ok done) → PublishAnswers (Some (sent_of r)) lo hi (Ok done)
+  pub publish_accepted : (lo hi : ℕ) (r' : SenderRecord) (done : Unit {0}) → TriesToPublish r lo hi r' (Ok done) → PublishAnswers (Some r.sent) lo hi (Ok done)
   publish_accepted lo hi r' done t = (
     refl,
     (
@@ -50,23 +49,23 @@ module _ (r : SenderRecord) where
         lt-leb (claimed r) hi t.2,
         none_join MayHold MayFail (flat_map causes_of (range_with_len lo (hi + 1 - lo))) _
             (stretch_written lo (hi + 1 - lo) (let e = t.0 in omega arith) (λ s low high. t.3 s (let e = t.0 in omega arith) (let o = t.1 in omega arith)))
-            (ap not (eq-eqb lo (length r.published) t.0), tt),
+            (ap not (eq-eqb lo (length r.sent.published) t.0), tt),
       ),
     ),
   )
 
   -- the tests before those of the stretch
   past : (lo hi : ℕ) (refusal : Refusal) → lo ≤ hi → hi < claimed r
-      → IsFirst MayHold MayFail refusal (flat_map causes_of (range_with_len lo (hi + 1 - lo)) ++ (Exactly (not (lo == length r.published)), OutOfOrder) ∷ [])
-      → PublishAnswers (Some (sent_of r)) lo hi (Err (Refused refusal))
+      → IsFirst MayHold MayFail refusal (flat_map causes_of (range_with_len lo (hi + 1 - lo)) ++ (Exactly (not (lo == length r.sent.published)), OutOfOrder) ∷ [])
+      → PublishAnswers (Some r.sent) lo hi (Err (Refused refusal))
   past lo hi refusal order within h = inr (refl, inr (le-ltb hi lo order, inr (lt-leb (claimed r) hi within, h)))
 
-  pub publish_refused : (lo hi : ℕ) (r' : SenderRecord) (refusal : Refusal) → TriesToPublish r lo hi r' (Err refusal) → PublishAnswers (Some (sent_of r)) lo hi (Err (Refused refusal))
+  pub publish_refused : (lo hi : ℕ) (r' : SenderRecord) (refusal : Refusal) → TriesToPublish r lo hi r' (Err refusal) → PublishAnswers (Some r.sent) lo hi (Err (Refused refusal))
   publish_refused lo hi r' BadCount t = inr (refl, inl (lt-ltb hi lo t.0, refl))
   publish_refused lo hi r' NotClaimed t = inr (refl, inr (le-ltb hi lo t.0, inl (le-leb (claimed r) hi t.1, refl)))
   publish_refused lo hi r' AlreadyPublished t =
       past lo hi AlreadyPublished t.0 t.1 (first_left MayHold MayFail AlreadyPublished (flat_map causes_of (range_with_len lo (hi + 1 - lo))) _
-      (first_of_stretch MayHold MayFail causes_of lo (hi + 1 - lo) 0 AlreadyPublished (let o = t.0 in omega arith) (λ j l. absurd (omega arith)) (rw add-zero (inl (lt-ltb lo (length r.published) t.2, refl)))))
+      (first_of_stretch MayHold MayFail causes_of lo (hi + 1 - lo) 0 AlreadyPublished (let o = t.0 in omega arith) (λ j l. absurd (omega arith)) (rw add-zero (inl (lt-ltb lo (length r.sent.published) t.2, refl)))))
   publish_refused lo hi r' NotWritten t =
       let has = t.3 in
       past lo hi NotWritten t.1 t.2 (first_left MayHold MayFail NotWritten (flat_map causes_of (range_with_len lo (hi + 1 - lo))) _
@@ -75,5 +74,5 @@ module _ (r : SenderRecord) where
   publish_refused lo hi r' OutOfOrder t =
       past lo hi OutOfOrder t.1 t.2 (first_right MayHold MayFail OutOfOrder (flat_map causes_of (range_with_len lo (hi + 1 - lo))) _
       (let late = t.0 in let o = t.1 in stretch_written lo (hi + 1 - lo) (omega arith) (λ s low high. t.3 s low (omega arith)))
-      (inl (ap not (ne_eqb lo (length r.published) (λ e. let late = t.0 in absurd (omega arith))), refl)))
+      (inl (ap not (ne_eqb lo (length r.sent.published) (λ e. let late = t.0 in absurd (omega arith))), refl)))
   publish_refused lo hi r' other t = absurd t

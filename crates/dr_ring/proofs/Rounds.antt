@@ -78,9 +78,9 @@ pub record Scanned (r : SenderRecord) (needed least i : ℕ) (s : SenderRecord) 
   pub are : xs ≡ count_looks (take i (finals r.plan.upstreams)) counts
   pub ahead : (j : ℕ) → j < i → needed ≤ get_or counts j 0
   pub high : (j : ℕ) → j < i → least ≤ last_look 0 (r.looks ++ xs) (count_word (get_or (finals r.plan.upstreams) j 0))
-  pub either : (least ≡ length r.published) ⊎ (needed ≤ least)
-  pub some_one : 0 < i → needed ≤ length r.published
-  pub front : least ≤ length r.published
+  pub either : (least ≡ length r.sent.published) ⊎ (needed ≤ least)
+  pub some_one : 0 < i → needed ≤ length r.sent.published
+  pub front : least ≤ length r.sent.published
 
 no_looks_at : (hs : List ℕ) → count_looks hs [] ≡ []
 no_looks_at [] = refl
@@ -117,9 +117,9 @@ at_end counts v needed i j each lt ahead high =
 
 pub scanned_more : (r s s' : SenderRecord) (needed least least' i f v : ℕ) → Scanned r needed least i s → i < length (finals r.plan.upstreams)
     → get_or (finals r.plan.upstreams) i 0 ≡ f → s' ≡ sender_looked s (count_word f) v → last_look 0 s.looks (count_word f) ≤ v
-    → needed ≤ v → v ≤ length s.published → least' ≡ min least v → Scanned r needed least' (i + 1) s'
+    → needed ≤ v → v ≤ length s.sent.published → least' ≡ min least v → Scanned r needed least' (i + 1) s'
 scanned_more r s s' needed least least' i f v S inside at is rise high below new =
-    let front : v ≤ length r.published = subst (λ (q : SenderRecord). v ≤ length q.published) S.saw.is below in
+    let front : v ≤ length r.sent.published = subst (λ (q : SenderRecord). v ≤ length q.sent.published) S.saw.is below in
     let saw = saw_more r s s' S.xs (count_word f) v S.saw is rise in record {
       xs = S.xs ++ look (count_word f) v ∷ [];
       saw = saw;
@@ -175,7 +175,7 @@ scanned_all r s needed least i plan S all =
     )
 
 -- what is remembered serves
-pub remembers : (r : SenderRecord) (needed least front : ℕ) → needed ≤ least → least ≤ front → front ≡ length r.published → IsSeenLeast r least
+pub remembers : (r : SenderRecord) (needed least front : ℕ) → needed ≤ least → least ≤ front → front ≡ length r.sent.published → IsSeenLeast r least
     → (xs : List Look) × LooksAtFinals r xs r × IsEnough r xs needed least
 remembers r needed least front enough low at seen = (
   [],

@@ -32,7 +32,7 @@ agrees : (k : Shape) (w : World) (s : SenderRecord) (r : ReceiverRecord) → w.s
 agrees k w s r same at K = let was = K.received r.number r at in subst (λ (q : SenderRecord). Agrees q r) same (record {
   beginning = was.beginning;
   taken = was.taken;
-  drained = λ told. was.beginning ∙ take_whole w.sender.published (length r.received) (was.told told).1;
+  drained = λ told. was.beginning ∙ take_whole w.sender.sent.published (length r.received) (was.told told).1;
   completed = was.completed;
   room = λ has. (let e : claimed w.sender ≤ k.size + get_or w.words (count_word r.number) 0 = K.room r.number (subst (λ (p : Shape). Contains (finals p.upstreams) r.number) K.sender_plan has) in
       let size : w.sender.plan.size ≡ k.size = ap (λ (p : Shape). p.size) K.sender_plan in let count = was.count in omega arith);

@@ -6,6 +6,7 @@ use Rattle.dr_core.specs.declared.refusal.Refusal.TheVariants.{NoRoom, Halted, B
 use Rattle.dr_core.specs.declared.command.Claimed.{Claimed}
 use Rattle.dr_core.specs.declared.command.Polled.{Polled}
 use Rattle.dr_core.specs.declared.command.Polled.TheVariants.{Batch, Drained, Gating, Idle}
+use Rattle.dr_core.specs.Ends.{with_claimed}
 use Rattle.dr_graph.specs.Graph.{upstreams_of, finals, least_of}
 use Rattle.dr_ring.specs.Words.{cursor_word, closed_word, halt_word, count_word}
 use Rattle.dr_ring.specs.declared.record.Look.{Look}
@@ -27,7 +28,7 @@ abbrev pub sender_saw : SenderRecord → List Look → SenderRecord
 sender_saw r seen = record r { looks = r.looks ++ seen }
 
 abbrev pub more_claimed : SenderRecord → ℕ → SenderRecord
-more_claimed r n = record r { pending = r.pending ++ replicate n None }
+more_claimed r n = record r { sent = with_claimed r.sent n }
 
 -- looks at the counts of some handlers, in their order, as far as there are counts
 abbrev pub count_looks : List ℕ → List ℕ → List Look
@@ -81,7 +82,7 @@ TriesToClaim r n r' (Err _) = ⊥
 abbrev pub TriesToWrite : SenderRecord → ℕ → Event → SenderRecord → Result (Unit {0}) Refusal → Type 0
 TriesToWrite r s event r' (Ok _) = IsOpen r s × (r' ≡ written r s event)
 TriesToWrite r s event r' (Err NotClaimed) = (claimed r ≤ s) × (r' ≡ r)
-TriesToWrite r s event r' (Err AlreadyPublished) = (s < length r.published) × (r' ≡ r)
+TriesToWrite r s event r' (Err AlreadyPublished) = (s < length r.sent.published) × (r' ≡ r)
 TriesToWrite r s event r' (Err _) = ⊥
 
 -- some sequence of a stretch is claimed and not written
@@ -89,24 +90,24 @@ pub record HasUnwritten (r : SenderRecord) (lo hi : ℕ) : Type 0 where
   pub sequence : ℕ
   pub from : lo ≤ sequence
   pub to : sequence ≤ hi
-  pub nothing : slice_index_or r.pending (sequence - length r.published) None ≡ None
+  pub nothing : slice_index_or r.sent.pending (sequence - length r.sent.published) None ≡ None
 
 -- the tests in order: an order of the ends, all claimed, none published, all written, and nothing unpublished before
 abbrev pub TriesToPublish : SenderRecord → ℕ → ℕ → SenderRecord → Result (Unit {0}) Refusal → Type 0
-TriesToPublish r lo hi r' (Ok _) = (lo ≡ length r.published) × (lo ≤ hi) × (hi < claimed r) × AreWritten r (hi + 1) × (r' ≡ published_to r (hi + 1))
+TriesToPublish r lo hi r' (Ok _) = (lo ≡ length r.sent.published) × (lo ≤ hi) × (hi < claimed r) × AreWritten r (hi + 1) × (r' ≡ published_to r (hi + 1))
 TriesToPublish r lo hi r' (Err BadCount) = (hi < lo) × (r' ≡ r)
 TriesToPublish r lo hi r' (Err NotClaimed) = (lo ≤ hi) × (claimed r ≤ hi) × (r' ≡ r)
-TriesToPublish r lo hi r' (Err AlreadyPublished) = (lo ≤ hi) × (hi < claimed r) × (lo < length r.published) × (r' ≡ r)
-TriesToPublish r lo hi r' (Err NotWritten) = (length r.published ≤ lo) × (lo ≤ hi) × (hi < claimed r) × HasUnwritten r lo hi × (r' ≡ r)
+TriesToPublish r lo hi r' (Err AlreadyPublished) = (lo ≤ hi) × (hi < claimed r) × (lo < length r.sent.published) × (r' ≡ r)
+TriesToPublish r lo hi r' (Err NotWritten) = (length r.sent.published ≤ lo) × (lo ≤ hi) × (hi < claimed r) × HasUnwritten r lo hi × (r' ≡ r)
 TriesToPublish r lo hi r' (Err OutOfOrder) =
-    (length r.published < lo) × (lo ≤ hi) × (hi < claimed r)
-    × ((s : ℕ) → lo ≤ s → s ≤ hi → (event : Event) × (slice_index_or r.pending (s - length r.published) None ≡ Some event)) × (r' ≡ r)
+    (length r.sent.published < lo) × (lo ≤ hi) × (hi < claimed r)
+    × ((s : ℕ) → lo ≤ s → s ≤ hi → (event : Event) × (slice_index_or r.sent.pending (s - length r.sent.published) None ≡ Some event)) × (r' ≡ r)
 TriesToPublish r lo hi r' (Err _) = ⊥
 
 -- a ring is closed once every claimed sequence is published; halt is stored first
 abbrev pub TriesToClose : SenderRecord → SenderRecord → Result (Unit {0}) Refusal → Type 0
-TriesToClose r r' (Ok _) = (r.pending ≡ []) × (r' ≡ sender_closed (sender_halted r))
-TriesToClose r r' (Err OpenClaim) = (0 < length r.pending) × (r' ≡ r)
+TriesToClose r r' (Ok _) = (r.sent.pending ≡ []) × (r' ≡ sender_closed (sender_halted r))
+TriesToClose r r' (Err OpenClaim) = (0 < length r.sent.pending) × (r' ≡ r)
 TriesToClose r r' (Err _) = ⊥
 
 -- what a receiver knows once it has looked at closed, at the cursor and at each upstream's count

@@ -13,7 +13,7 @@ use Rattle.dr_ring.specs.Ends.{claimed, last_look}
 pub record Marked (size : ℕ) (r : SenderRecord) (ms : List ℕ) : Type 0 where
   pub slots : length ms ≡ size
   pub low : (j : ℕ) → slice_index ms j ≤ claimed r
-  pub each : (i : ℕ) → i < length r.pending → (slice_index ms ((length r.published + i) % size) == length r.published + i + 1) ≡ is_some (slice_index_or r.pending i None)
+  pub each : (i : ℕ) → i < length r.sent.pending → (slice_index ms ((length r.sent.published + i) % size) == length r.sent.published + i + 1) ≡ is_some (slice_index_or r.sent.pending i None)
 
 -- each final handler was seen to have completed so many
 abbrev pub IsSeenLeast : SenderRecord → ℕ → Type 0
@@ -24,7 +24,7 @@ pub record SenderFits (r : SenderRecord) (n p remembered : ℕ) (ms : List ℕ) 
   pub made : IsPlan r.plan
   pub whole : r.half ≡ None
   pub next : n ≡ claimed r
-  pub front : p ≡ length r.published
+  pub front : p ≡ length r.sent.published
   pub limit : n ≤ r.plan.limit
   pub near : n ≤ r.plan.size + p
   pub least : remembered ≤ p

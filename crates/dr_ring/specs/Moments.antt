@@ -23,7 +23,7 @@ use Rattle.dr_ring.specs.Steps.{Happens}
 
 -- the ends of a new ring
 abbrev pub fresh_sender : Shape → SenderRecord
-fresh_sender k = record { plan = k; published = []; pending = []; half = None; halted = false; closed = false; looks = [] }
+fresh_sender k = record { plan = k; sent = record { published = []; pending = [] }; half = None; halted = false; closed = false; looks = [] }
 
 abbrev pub fresh_receiver : Shape → ℕ → ReceiverRecord
 fresh_receiver k h = record { plan = k; number = h; received = []; half = None; completed = 0; told = false; looks = [] }
@@ -47,7 +47,7 @@ taken_of r = length r.received
 abbrev pub picture_of : Shape → World → State
 picture_of k w = record (machine.opening (setup_of k)) {
   owners = replicate (claimed w.sender) 0;
-  written = λ s. slice_index_or (map (λ event. Some event) w.sender.published ++ w.sender.pending) s None;
+  written = λ s. slice_index_or (map (λ event. Some event) w.sender.sent.published ++ w.sender.sent.pending) s None;
   published = λ s. nat_lt s (slice_index w.words cursor_word);
   taken = map taken_of w.receivers;
   completed = map (λ h. slice_index w.words (count_word h)) (range_with_len 0 (handlers_of k));

@@ -24,7 +24,7 @@ pub record LooksAtFinals (r : SenderRecord) (xs : List Look) (r' : SenderRecord)
 -- every count was at least what was needed, or what was remembered served
 pub record IsEnough (r : SenderRecord) (xs : List Look) (needed least : ℕ) : Type 0 where
   pub enough : needed ≤ least
-  pub front : least ≤ length r.published
+  pub front : least ≤ length r.sent.published
   pub seen : IsSeenLeast (sender_saw r xs) least
   pub counts : List ℕ
   pub are : xs ≡ count_looks (finals r.plan.upstreams) counts

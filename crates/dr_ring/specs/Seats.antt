@@ -182,7 +182,7 @@ Stores step Tells s me n me' =
 
 -- no more is completed than is published
 abbrev pub FindsCompleted : SenderRecord → ℕ → ℕ → Type 0
-FindsCompleted r word n = (last_look 0 r.looks word ≤ n) × (n ≤ length r.published)
+FindsCompleted r word n = (last_look 0 r.looks word ≤ n) × (n ≤ length r.sent.published)
 
 abbrev pub FindsHalt : SenderRecord → ℕ → Type 0
 FindsHalt r n = (last_look 0 r.looks halt_word ≤ n) × (n ≤ 1) × (r.halted ≡ true → n ≡ 1)

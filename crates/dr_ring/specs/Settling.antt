@@ -22,9 +22,9 @@ use Rattle.dr_ring.specs.Stations.{SenderEnd, ReceiverEnd}
 
 -- a receiver has the beginning of what its sender published, all of it where it was told that the ring drained, and a final handler leaves room for all that is claimed
 pub record Agrees (s : SenderRecord) (r : ReceiverRecord) : Type 0 where
-  pub beginning : r.received ≡ take (length r.received) s.published
-  pub taken : length r.received ≤ length s.published
-  pub drained : r.told ≡ true → r.received ≡ s.published
+  pub beginning : r.received ≡ take (length r.received) s.sent.published
+  pub taken : length r.received ≤ length s.sent.published
+  pub drained : r.told ≡ true → r.received ≡ s.sent.published
   pub completed : r.completed ≤ length r.received
   pub room : Contains (finals s.plan.upstreams) r.number → claimed s ≤ s.plan.size + r.completed
 

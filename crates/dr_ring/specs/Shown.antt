@@ -1,14 +1,10 @@
 -- What the ends of a ring show to whoever does not know that they are a ring's.
 use Rattle.std.specs.Prelude.{ℕ}
 use Rattle.atomic_table.specs.Seated.{TableId}
-use Rattle.dr_core.specs.Ends.{Sent, Received}
+use Rattle.dr_core.specs.Ends.{Received}
 use Rattle.dr_ring.specs.Shape.{Shape}
-use Rattle.dr_ring.specs.declared.record.SenderRecord.{SenderRecord}
 use Rattle.dr_ring.specs.declared.record.ReceiverRecord.{ReceiverRecord}
 use Rattle.dr_ring.specs.Stations.{SenderEnd, ReceiverEnd}
-
-abbrev pub sent_of : SenderRecord → Sent
-sent_of r = record { published = r.published; pending = r.pending }
 
 abbrev pub received_of : ReceiverRecord → Received
 received_of r = record { events = r.received; completed = r.completed }

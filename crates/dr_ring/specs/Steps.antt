@@ -42,10 +42,10 @@ Happens k (SenderStoresFirst s first) w w' =
 Happens k (SenderStoresSecond second) w w' =
     (x : HalfWrite) × (w.sender.half ≡ Some x) × (w' ≡ sender_stores w (payload_word k x.sequence 1) second (written w.sender x.sequence record { first = x.first; second = second }))
 Happens k (SenderPublishes n) w w' =
-    (length w.sender.published < n) × (n ≤ claimed w.sender) × AreWritten w.sender n × (w.sender.half ≡ None) × (w' ≡ sender_stores w cursor_word n (published_to w.sender n))
+    (length w.sender.sent.published < n) × (n ≤ claimed w.sender) × AreWritten w.sender n × (w.sender.half ≡ None) × (w' ≡ sender_stores w cursor_word n (published_to w.sender n))
 Happens k SenderHalts w w' = w' ≡ sender_stores w halt_word 1 (sender_halted w.sender)
 Happens k SenderCloses w w' =
-    (w.sender.halted ≡ true) × (w.sender.pending ≡ []) × (w' ≡ sender_stores w closed_word 1 (sender_closed w.sender))
+    (w.sender.halted ≡ true) × (w.sender.sent.pending ≡ []) × (w' ≡ sender_stores w closed_word 1 (sender_closed w.sender))
 Happens k (ReceiverLooksAtClosed h) w w' =
     ByReceiver w h (λ r. w' ≡ receiver_knows w h (receiver_looked r closed_word (slice_index w.words closed_word)))
 Happens k (ReceiverLooksAtCursor h) w w' = ByReceiver w h (λ r. w' ≡ receiver_knows w h (cursor_looked r (slice_index w.words cursor_word)))

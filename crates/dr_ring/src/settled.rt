@@ -115,7 +115,7 @@ fn gather(
 pub fn settle(sender: Sender, receivers: Vec<Receiver>) -> Settled
     requires { AreAllEnds sender receivers.items }
     ensures claimed { result.claimed ≡ claimed_of sender.knows }
-    ensures published { result.published ≡ length sender.knows.published }
+    ensures published { result.published ≡ length sender.knows.sent.published }
     ensures handlers { result.handlers.items ≡ map (λ e. counts_of e.knows) receivers.items }
     ensures lists { Settles sender.knows (map (λ e. e.knows) receivers.items) }
     ensures run { HasRun sender.knows (map (λ e. e.knows) receivers.items) }

@@ -95,7 +95,7 @@ impl SenderStation {
 
     /// The sender stores the cursor: each sequence below `upto` is written, and is published by it.
     pub(crate) fn publish(&mut self, upto: u64)
-        requires more { length self.old.knows.published < upto }
+        requires more { length self.old.knows.sent.published < upto }
         requires within { upto ≤ claimed self.old.knows }
         requires written { AreWritten self.old.knows upto }
         requires whole { self.old.knows.half ≡ None }
@@ -116,7 +116,7 @@ impl SenderStation {
     /// The sender stores closed, once it has stored halt and all that it claimed is published.
     pub(crate) fn close(&mut self)
         requires halted { self.old.knows.halted ≡ true }
-        requires published { self.old.knows.pending ≡ [] }
+        requires published { self.old.knows.sent.pending ≡ [] }
         ensures { HasStored self.old SenderCloses (sender_closed self.old.knows) self.new }
     {
         let words = &self.ring.table.shared;
