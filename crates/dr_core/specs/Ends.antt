@@ -195,6 +195,11 @@ abbrev pub Completes : ℕ → Result (Unit {0}) Trouble → Received → Receiv
 Completes upto (Ok done) old new = new ≡ record old { completed = upto }
 Completes upto (Err trouble) old new = new ≡ old
 
+-- the answer of an exchange's own call as an end gives it: its refusal is trouble
+abbrev pub as_end : {A : Type 0} → Result A Refusal → Result A Trouble
+as_end (Ok x) = Ok x
+as_end (Err refusal) = Err (Refused refusal)
+
 -- An answer of an exchange's own call, told as an end's: its refusal is trouble, and memory is never wanting.
 abbrev pub Tells : {A : Type 0} → (Result A Refusal → Type 0) → Result A Trouble → Type 0
 Tells Answers (Ok x) = Answers (Ok x)

@@ -1,5 +1,5 @@
 -- The marks show what is written.
-use Rattle.std.proofs.Common.{◌≡◌, ◌≢◌, ℕ, ◌+◌, ◌-◌, ◌%◌, ◌<◌, ◌≤◌, inl, inr, true, is_some, ◌==◌, List, ◌++◌, length, get_or, set, replicate, Option, Some, None, sym, refl, ap, ◌∙◌, subst, arith, length-set, get_or-set_same, get_or-set_other}
+use Rattle.std.proofs.Common.{◌≡◌, ◌≢◌, ℕ, ◌+◌, ◌-◌, ◌%◌, ◌<◌, ◌≤◌, inl, inr, true, false, is_some, ◌==◌, List, ◌++◌, length, get_or, set, replicate, Option, Some, None, sym, refl, ap, ◌∙◌, subst, arith, length-set, get_or-set_same, get_or-set_other}
 use Rattle.std.proofs.lemmas.Bool.{cases_eq, cases_lt, eq-eqb, ne_eqb}
 use Rattle.std.proofs.lemmas.List.{length-append, length-replicate, get_or_append_left, get_or-append_right, get_or-replicate}
 use Rattle.std.proofs.Math.Nat.{mod-lt}
@@ -8,8 +8,7 @@ use Rattle.dr_seq.specs.declared.event.Event.{Event}
 use Rattle.dr_ring.specs.declared.record.Look.{Look}
 use Rattle.dr_ring.specs.declared.record.SenderRecord.{SenderRecord}
 use Rattle.dr_ring.specs.Ends.{claimed, written}
-use Rattle.dr_ring.specs.Calls.{sender_saw, more_claimed}
-use Rattle.dr_ring.specs.Parts.{AreMarked}
+use Rattle.dr_ring.specs.Parts.{sender_saw, more_claimed, AreMarked}
 use Rattle.dr_ring.specs.Fits.{Marked}
 
 some_of : (o : Option Event) → is_some o ≡ true → (v : Event) × (o ≡ Some v)
@@ -32,6 +31,17 @@ pub marked_written : (n : ℕ) (r : SenderRecord) (ms : List ℕ) (lo hi : ℕ) 
 marked_written n r ms lo hi M all after within s le lt = let i = s - length r.sent.published in let here : length r.sent.published + i ≡ s = omega arith in
     let e : (get_or ms (s % n) 0 == s + 1) ≡ is_some (get_or r.sent.pending i None) = subst (λ (t : ℕ). (get_or ms (t % n) 0 == t + 1) ≡ is_some (get_or r.sent.pending i None)) here (M.each i (omega arith)) in
     some_of (get_or r.sent.pending i None) (sym e ∙ eq-eqb _ _ (all s le lt))
+
+none_of : (o : Option Event) → is_some o ≡ false → o ≡ None
+none_of None e = refl
+none_of (Some v) e = absurd (cc)
+
+pub unmarked_open : (n : ℕ) (r : SenderRecord) (ms : List ℕ) (s : ℕ) → Marked n r ms → get_or ms (s % n) 0 ≢ s + 1 → length r.sent.published ≤ s → s < claimed r
+    → get_or r.sent.pending (s - length r.sent.published) None ≡ None
+unmarked_open n r ms s M other after within = let i = s - length r.sent.published in let here : length r.sent.published + i ≡ s = omega arith in
+    let e : (get_or ms (s % n) 0 == s + 1) ≡ is_some (get_or r.sent.pending i None) =
+        subst (λ (t : ℕ). (get_or ms (t % n) 0 == t + 1) ≡ is_some (get_or r.sent.pending i None)) here (M.each i (omega arith)) in
+    none_of (get_or r.sent.pending i None) (sym e ∙ ne_eqb _ _ other)
 
 pub marks_write : (n : ℕ) (r : SenderRecord) (ms : List ℕ) (s : ℕ) (v : Event) → 0 < n → length r.sent.published ≤ s → s < claimed r
     → claimed r ≤ n + length r.sent.published → Marked n r ms → Marked n (written r s v) (set ms (s % n) (s + 1))

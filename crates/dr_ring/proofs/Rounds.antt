@@ -11,9 +11,9 @@ use Rattle.dr_ring.specs.declared.record.Look.{Look}
 use Rattle.dr_ring.specs.declared.record.SenderRecord.{SenderRecord}
 use Rattle.dr_ring.specs.declared.record.ReceiverRecord.{ReceiverRecord}
 use Rattle.dr_ring.specs.Ends.{look, last_look, sender_looked, receiver_looked}
-use Rattle.dr_ring.specs.Calls.{sender_saw, count_looks, offered_by}
+use Rattle.dr_ring.specs.Calls.{count_looks, offered_by}
 use Rattle.dr_ring.specs.Fits.{IsSeenLeast}
-use Rattle.dr_ring.specs.Parts.{lesser_of, LooksAtFinals, IsEnough, IsShort, receiver_saw, ups_of, LooksAtUpstreams}
+use Rattle.dr_ring.specs.Parts.{sender_saw, lesser_of, LooksAtFinals, IsEnough, IsShort, receiver_saw, ups_of, LooksAtUpstreams}
 use Rattle.dr_ring.proofs.Lists.{last_look_more, last_look_else}
 use Rattle.dr_ring.proofs.Pictures.{some_final}
 

@@ -1,7 +1,6 @@
 -- What each kind of step makes of the record of its end.
-use Rattle.std.specs.Prelude.{◌≡◌, ℕ, ◌+◌, ◌-◌, ◌<◌, ◌≤◌, ◌==◌, ◌&&◌, ◌||◌, if◌then◌else◌, Bool, true, List, [], ◌∷◌, ◌++◌, map, length, take, drop, slice_index_or, slice_set, replicate, Option, Some, None, unwrap_or, Contains}
+use Rattle.std.specs.Prelude.{◌≡◌, ℕ, ◌+◌, ◌-◌, ◌<◌, ◌≤◌, ◌==◌, ◌&&◌, ◌||◌, if◌then◌else◌, Bool, true, List, [], ◌∷◌, ◌++◌, length, slice_index_or, replicate, Some, None, Contains}
 use Rattle.dr_seq.specs.declared.event.Event.{Event}
-use Rattle.dr_seq.specs.Event.{no_event}
 use Rattle.dr_core.specs.Ends.{claimed_by, with_event, published_below}
 use Rattle.dr_graph.specs.Graph.{upstreams_of, finals}
 use Rattle.dr_ring.specs.Shape.{Shape}

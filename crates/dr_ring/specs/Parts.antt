@@ -9,8 +9,17 @@ use Rattle.dr_ring.specs.declared.record.Look.{Look}
 use Rattle.dr_ring.specs.declared.record.SenderRecord.{SenderRecord}
 use Rattle.dr_ring.specs.declared.record.ReceiverRecord.{ReceiverRecord}
 use Rattle.dr_ring.specs.Ends.{last_look}
-use Rattle.dr_ring.specs.Calls.{sender_saw, count_looks, offered_by}
+use Rattle.dr_core.specs.Ends.{with_claimed}
+use Rattle.dr_ring.specs.Calls.{count_looks, offered_by}
 use Rattle.dr_ring.specs.Fits.{IsSeenLeast}
+
+-- the sender has made these looks more
+abbrev pub sender_saw : SenderRecord → List Look → SenderRecord
+sender_saw r seen = record r { looks = r.looks ++ seen }
+
+-- and claimed n more
+abbrev pub more_claimed : SenderRecord → ℕ → SenderRecord
+more_claimed r n = record r { sent = with_claimed r.sent n }
 
 -- the lesser of a count and those seen before, or the count where it is the first
 abbrev pub lesser_of : Bool → ℕ → ℕ → ℕ

@@ -161,8 +161,6 @@ impl Inlet for Sender {
         ensures sent { Claims n result self.old.knows.sent self.new.knows.sent }
         ensures own { Tells (ClaimCall self.old n self.new) result }
     {
-        // The plan tells by this call that no sequence reaches 2^62.
-        let _limit = self.station.plan().limit();
         Ok(Sender::try_claim(self, n)?)
     }
 
