@@ -10,15 +10,16 @@ use Rattle.dr_core.specs.declared.refusal.Refusal.{Refusal}
 use Rattle.dr_core.specs.Refusals.{claim_causes, IsFirst}
 use Rattle.dr_core.specs.Ends.{Sent, MayHold, MayFail, claim_tests, with_claimed}
 use Rattle.dr_graph.specs.Graph.{finals}
-use Rattle.dr_ring.specs.Shape.{Shape}
-use Rattle.dr_ring.specs.Words.{halt_word, count_word}
+use Rattle.dr_ring.specs.Meaning.Shape.{Shape}
+use Rattle.dr_ring.specs.Meaning.Words.{halt_word, count_word}
 use Rattle.dr_ring.specs.declared.record.Look.{Look}
 use Rattle.dr_ring.specs.declared.settled.HandlerCounts.{HandlerCounts}
 use Rattle.dr_ring.specs.declared.record.SenderRecord.{SenderRecord}
-use Rattle.dr_ring.specs.Ends.{claimed, look, last_look, halt_looked}
-use Rattle.dr_ring.specs.Calls.{count_looks, gate_looks, tests_of_claim, FoundRoom, TriesToClaim}
-use Rattle.dr_ring.specs.Parts.{sender_saw, more_claimed, LooksAtFinals, IsEnough, IsShort}
-use Rattle.dr_ring.specs.Fits.{IsSeenLeast, SenderFits}
+use Rattle.dr_ring.specs.Meaning.Records.{claimed, look, last_look, halt_looked}
+use Rattle.dr_ring.specs.Calls.Ends.{count_looks}
+use Rattle.dr_ring.specs.Calls.Sending.{gate_looks, tests_of_claim, FoundRoom, TriesToClaim}
+use Rattle.dr_ring.specs.Inside.Parts.{sender_saw, more_claimed, LooksAtFinals, IsEnough, IsShort}
+use Rattle.dr_ring.specs.Inside.Fits.{IsSeenLeast, SenderFits}
 use Rattle.dr_ring.proofs.Lists.{last_look_else}
 use Rattle.dr_ring.proofs.Marks.{marks_claim}
 
@@ -161,8 +162,8 @@ module _ (r s t e : SenderRecord) (xs : List Look) (n q needed : ℕ) (same : r 
   claim_halted_late u least E last =
       let seen = look halt_word 0 ∷ gate_looks r E.counts ++ look halt_word 1 ∷ [] in
       let only : u ≡ sender_saw r seen =
-          (saw_then r t u (look halt_word 0 ∷ xs) (look halt_word 1 ∷ []) scanned (saw_halt t u q 1 last (λ z. absurd (omega arith)))).is
-          ∙ ap (λ (ys : List Look). sender_saw r (look halt_word 0 ∷ ys ++ look halt_word 1 ∷ [])) (gated least E) in
+      (saw_then r t u (look halt_word 0 ∷ xs) (look halt_word 1 ∷ []) scanned (saw_halt t u q 1 last (λ z. absurd (omega arith)))).is
+      ∙ ap (λ (ys : List Look). sender_saw r (look halt_word 0 ∷ ys ++ look halt_word 1 ∷ [])) (gated least E) in
       let sent : u.sent ≡ r.sent = ap (λ (x : SenderRecord). x.sent) only in
       subst (λ (x : SenderRecord). TriesToClaim x q u (Err Halted)) same (record {
         answer = inr (refl, inr (bad_count_fails q r.plan.size size, inl (tt, refl)));
@@ -182,9 +183,9 @@ module _ (r s t e : SenderRecord) (xs : List Look) (n q needed : ℕ) (same : r 
       let hi : c.hi ≡ n + q - 1 = ap (λ (x : Claimed). x.hi) gives in
       let some = size.0 in
       let only : u ≡ more_claimed (sender_saw r seen) q =
-          last ∙ ap (λ (x : SenderRecord). halt_looked x q 0) scanned.is
-          ∙ ap (λ (ys : List Look). more_claimed (record r { looks = ys }) q) (append_assoc r.looks (look halt_word 0 ∷ xs) (look halt_word 0 ∷ []))
-          ∙ ap (λ (ys : List Look). more_claimed (sender_saw r (look halt_word 0 ∷ ys ++ look halt_word 0 ∷ [])) q) (gated least E) in
+      last ∙ ap (λ (x : SenderRecord). halt_looked x q 0) scanned.is
+      ∙ ap (λ (ys : List Look). more_claimed (record r { looks = ys }) q) (append_assoc r.looks (look halt_word 0 ∷ xs) (look halt_word 0 ∷ []))
+      ∙ ap (λ (ys : List Look). more_claimed (sender_saw r (look halt_word 0 ∷ ys ++ look halt_word 0 ∷ [])) q) (gated least E) in
       let sent : u.sent ≡ with_claimed r.sent q = ap (λ (x : SenderRecord). x.sent) only in
       subst (λ (x : SenderRecord). TriesToClaim x q u (Ok c)) same (record {
         answer = (refl, (bad_count_fails q r.plan.size size, (refl, (within, (refl, tt)))));

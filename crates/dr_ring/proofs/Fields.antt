@@ -7,10 +7,10 @@ use Rattle.dr_seq.specs.declared.event.Event.{Event}
 use Rattle.dr_seq.proofs.Sizes.{size_positive}
 use Rattle.dr_ring.specs.declared.settled.HandlerCounts.{HandlerCounts}
 use Rattle.dr_ring.specs.declared.record.SenderRecord.{SenderRecord}
-use Rattle.dr_ring.specs.Ends.{written, published_to, AreWritten}
-use Rattle.dr_ring.specs.Calls.{TriesToPublish}
-use Rattle.dr_ring.specs.Parts.{AreMarked, HasUnmarked}
-use Rattle.dr_ring.specs.Fits.{Marked, SenderFits}
+use Rattle.dr_ring.specs.Meaning.Records.{written, published_to, AreWritten}
+use Rattle.dr_ring.specs.Calls.Sending.{TriesToPublish}
+use Rattle.dr_ring.specs.Inside.Parts.{AreMarked, HasUnmarked}
+use Rattle.dr_ring.specs.Inside.Fits.{Marked, SenderFits}
 use Rattle.dr_ring.proofs.Publications.{accepted, unwritten, out_of_order}
 use Rattle.dr_ring.proofs.Marks.{marked_written, unmarked_open, marks_write}
 

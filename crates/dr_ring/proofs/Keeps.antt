@@ -8,15 +8,15 @@ use lib.ListN.{get_elem?}
 use Rattle.dr_seq.specs.declared.event.Event.{Event}
 use Rattle.dr_graph.specs.Graph.{nobody, upstreams_of, IsOrderly, IsGated, IsGraph}
 use Rattle.dr_core.specs.Ends.{with_claimed}
-use Rattle.dr_ring.specs.Shape.{Shape, handlers_of}
-use Rattle.dr_ring.specs.Words.{cursor_word, closed_word, halt_word, count_word, payload_start, payload_word, words_of}
+use Rattle.dr_ring.specs.Meaning.Shape.{Shape, handlers_of}
+use Rattle.dr_ring.specs.Meaning.Words.{cursor_word, closed_word, halt_word, count_word, payload_start, payload_word, words_of}
 use Rattle.dr_ring.specs.declared.record.HalfWrite.{HalfWrite}
 use Rattle.dr_ring.specs.declared.record.Look.{Look}
 use Rattle.dr_ring.specs.declared.record.SenderRecord.{SenderRecord}
 use Rattle.dr_ring.specs.declared.record.ReceiverRecord.{ReceiverRecord}
-use Rattle.dr_ring.specs.Ends.{claimed, look, sender_looked, halt_looked, half_written, written, HasRoom, IsOpen}
-use Rattle.dr_ring.specs.Kept.{World, Room, first_stored, Payload, HaltAndClose, ArePast, ReceiverKept, Kept}
-use Rattle.dr_ring.specs.Steps.{sender_knows, sender_stores}
+use Rattle.dr_ring.specs.Meaning.Records.{claimed, look, sender_looked, halt_looked, half_written, written, HasRoom, IsOpen}
+use Rattle.dr_ring.specs.Meaning.Kept.{World, Room, first_stored, Payload, HaltAndClose, ArePast, ReceiverKept, Kept}
+use Rattle.dr_ring.specs.Meaning.Steps.{sender_knows, sender_stores}
 use Rattle.dr_ring.proofs.Lists.{there, at_below, final_inside, contains_none, past_set, past_more, last_look_le, apart}
 
 abbrev pub word_at : List ℕ → ℕ → ℕ

@@ -7,9 +7,9 @@ use Rattle.atomic_table.proofs.Lists.{one_turn}
 use Rattle.dr_seq.specs.declared.event.Event.{Event}
 use Rattle.dr_ring.specs.declared.record.Look.{Look}
 use Rattle.dr_ring.specs.declared.record.SenderRecord.{SenderRecord}
-use Rattle.dr_ring.specs.Ends.{claimed, written}
-use Rattle.dr_ring.specs.Parts.{sender_saw, more_claimed, AreMarked}
-use Rattle.dr_ring.specs.Fits.{Marked}
+use Rattle.dr_ring.specs.Meaning.Records.{claimed, written}
+use Rattle.dr_ring.specs.Inside.Parts.{sender_saw, more_claimed, AreMarked}
+use Rattle.dr_ring.specs.Inside.Fits.{Marked}
 
 some_of : (o : Option Event) → is_some o ≡ true → (v : Event) × (o ≡ Some v)
 some_of None e = absurd (cc)
@@ -40,7 +40,7 @@ pub unmarked_open : (n : ℕ) (r : SenderRecord) (ms : List ℕ) (s : ℕ) → M
     → get_or r.sent.pending (s - length r.sent.published) None ≡ None
 unmarked_open n r ms s M other after within = let i = s - length r.sent.published in let here : length r.sent.published + i ≡ s = omega arith in
     let e : (get_or ms (s % n) 0 == s + 1) ≡ is_some (get_or r.sent.pending i None) =
-        subst (λ (t : ℕ). (get_or ms (t % n) 0 == t + 1) ≡ is_some (get_or r.sent.pending i None)) here (M.each i (omega arith)) in
+    subst (λ (t : ℕ). (get_or ms (t % n) 0 == t + 1) ≡ is_some (get_or r.sent.pending i None)) here (M.each i (omega arith)) in
     none_of (get_or r.sent.pending i None) (sym e ∙ ne_eqb _ _ other)
 
 pub marks_write : (n : ℕ) (r : SenderRecord) (ms : List ℕ) (s : ℕ) (v : Event) → 0 < n → length r.sent.published ≤ s → s < claimed r

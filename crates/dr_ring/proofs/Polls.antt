@@ -6,13 +6,14 @@ use Rattle.std.proofs.lemmas.List.{length-append, append-nil}
 use Rattle.dr_seq.specs.declared.event.Event.{Event}
 use Rattle.dr_core.specs.declared.command.Polled.{Polled}
 use Rattle.dr_core.specs.declared.command.Polled.TheVariants.{Batch, Drained, Gating, Idle}
-use Rattle.dr_ring.specs.Words.{cursor_word, closed_word}
+use Rattle.dr_ring.specs.Meaning.Words.{cursor_word, closed_word}
 use Rattle.dr_ring.specs.declared.record.Look.{Look}
 use Rattle.dr_ring.specs.declared.record.ReceiverRecord.{ReceiverRecord}
-use Rattle.dr_ring.specs.Ends.{look, last_look, receiver_looked, cursor_looked}
-use Rattle.dr_ring.specs.Calls.{PollLooks, count_looks, looked_round, offered_by, received_all, Answers}
-use Rattle.dr_ring.specs.Parts.{receiver_saw, ups_of, IsOffered, LooksAtUpstreams, nothing_offered}
-use Rattle.dr_ring.specs.Fits.{ReceiverFits}
+use Rattle.dr_ring.specs.Meaning.Records.{look, last_look, receiver_looked, cursor_looked}
+use Rattle.dr_ring.specs.Calls.Receiving.{PollLooks, looked_round, offered_by, received_all, Answers}
+use Rattle.dr_ring.specs.Calls.Ends.{count_looks}
+use Rattle.dr_ring.specs.Inside.Parts.{receiver_saw, ups_of, IsOffered, LooksAtUpstreams, nothing_offered}
+use Rattle.dr_ring.specs.Inside.Fits.{ReceiverFits}
 use Rattle.dr_ring.proofs.Lists.{last_look_more}
 
 -- a receiver that has looked at closed and at the cursor

@@ -11,7 +11,7 @@ use Rattle.dr_core.specs.declared.ends.Trouble.TheVariants.{Refused}
 use Rattle.dr_core.specs.Ends.{Verdict, Exactly, MayHold, MayFail, sequence_tests, PublishAnswers}
 use Rattle.dr_core.proofs.Causes.{none_join, first_left, first_right, none_of_stretch, first_of_stretch}
 use Rattle.dr_ring.specs.declared.record.SenderRecord.{SenderRecord}
-use Rattle.dr_ring.specs.Ends.{claimed}
+use Rattle.dr_ring.specs.Meaning.Records.{claimed}
 
 -- the event of an open sequence, once it is written
 abbrev open_at : SenderRecord → ℕ → Option Event
@@ -46,8 +46,14 @@ module _ (r : SenderRecord) where
   pub accepted : (lo hi : ℕ) → lo ≡ length r.sent.published → lo ≤ hi → hi < claimed r → AllWritten lo hi → PublishAnswers (Some r.sent) lo hi (Ok tt)
   accepted lo hi front order within all = (
     refl,
-    (le-ltb hi lo order, (lt-leb (claimed r) hi within, none_join MayHold MayFail (flat_map causes_of (range_with_len lo (hi + 1 - lo))) _ (stretch_written lo (hi + 1 - lo) (omega arith) (λ s low high. all s low (omega arith)))
-        (ap not (eq-eqb lo (length r.sent.published) front), tt))),
+    (
+      le-ltb hi lo order,
+      (
+        lt-leb (claimed r) hi within,
+        none_join MayHold MayFail (flat_map causes_of (range_with_len lo (hi + 1 - lo))) _ (stretch_written lo (hi + 1 - lo) (omega arith) (λ s low high. all s low (omega arith)))
+            (ap not (eq-eqb lo (length r.sent.published) front), tt),
+      ),
+    ),
   )
 
   -- the tests before those of the stretch

@@ -4,16 +4,17 @@ use Rattle.std.specs.Prelude.{Contains}
 use Rattle.std.proofs.lemmas.Bool.{cases_eq, cases_lt, ne_eqb, lt-ltb, le-ltb}
 use Rattle.std.proofs.lemmas.List.{length-append, append-nil, get_or_append_left}
 use Rattle.dr_graph.specs.Graph.{finals, least_of}
-use Rattle.dr_ring.specs.Shape.{Shape}
-use Rattle.dr_ring.specs.Plans.{IsPlan}
-use Rattle.dr_ring.specs.Words.{count_word}
+use Rattle.dr_ring.specs.Meaning.Shape.{Shape}
+use Rattle.dr_ring.specs.Calls.Plans.{IsPlan}
+use Rattle.dr_ring.specs.Meaning.Words.{count_word}
 use Rattle.dr_ring.specs.declared.record.Look.{Look}
 use Rattle.dr_ring.specs.declared.record.SenderRecord.{SenderRecord}
 use Rattle.dr_ring.specs.declared.record.ReceiverRecord.{ReceiverRecord}
-use Rattle.dr_ring.specs.Ends.{look, last_look, sender_looked, receiver_looked}
-use Rattle.dr_ring.specs.Calls.{count_looks, offered_by}
-use Rattle.dr_ring.specs.Fits.{IsSeenLeast}
-use Rattle.dr_ring.specs.Parts.{sender_saw, lesser_of, LooksAtFinals, IsEnough, IsShort, receiver_saw, ups_of, LooksAtUpstreams}
+use Rattle.dr_ring.specs.Meaning.Records.{look, last_look, sender_looked, receiver_looked}
+use Rattle.dr_ring.specs.Calls.Ends.{count_looks}
+use Rattle.dr_ring.specs.Calls.Receiving.{offered_by}
+use Rattle.dr_ring.specs.Inside.Fits.{IsSeenLeast}
+use Rattle.dr_ring.specs.Inside.Parts.{sender_saw, lesser_of, LooksAtFinals, IsEnough, IsShort, receiver_saw, ups_of, LooksAtUpstreams}
 use Rattle.dr_ring.proofs.Lists.{last_look_more, last_look_else}
 use Rattle.dr_ring.proofs.Pictures.{some_final}
 

@@ -3,10 +3,10 @@
 
 ghost use Rattle.std.specs.Prelude.{◌≡◌, ◌+◌, ◌^◌, ◌<◌, ◌≤◌, if◌then◌else◌, length, IfSome};
 ghost use Rattle.std.specs.Bool.{MatchBool};
-ghost use Rattle.dr_ring.specs.Ends.{halt_looked, HasRoom};
-ghost use Rattle.dr_ring.specs.Fits.{IsSeenLeast};
-ghost use Rattle.dr_ring.specs.Stations.{HasLoaded};
-ghost use Rattle.dr_ring.specs.Parts.{Scans, AreMarked, HasUnmarked};
+ghost use Rattle.dr_ring.specs.Meaning.Records.{halt_looked, HasRoom};
+ghost use Rattle.dr_ring.specs.Inside.Fits.{IsSeenLeast};
+ghost use Rattle.dr_ring.specs.Calls.Ends.{HasLoaded};
+ghost use Rattle.dr_ring.specs.Inside.Parts.{Scans, AreMarked, HasUnmarked};
 
 use crate::laws::SenderStation;
 use dr_seq::Size;

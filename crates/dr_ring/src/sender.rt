@@ -2,9 +2,8 @@
 
 ghost use Rattle.std.specs.Prelude.{◌≡◌, Some};
 ghost use Rattle.dr_core.specs.Ends.{Tells, ClaimAnswers, WriteAnswers, PublishAnswers, Claims, Writes, Publishes};
-ghost use Rattle.dr_ring.specs.Shown.{sender_place};
-ghost use Rattle.dr_ring.specs.Stations.{looks_counted};
-ghost use Rattle.dr_ring.specs.Calls.{ClaimCall, WriteCall, PublishCall, CloseCall};
+ghost use Rattle.dr_ring.specs.Calls.Ends.{sender_place, looks_counted};
+ghost use Rattle.dr_ring.specs.Calls.Sending.{ClaimCall, WriteCall, PublishCall, CloseCall};
 
 use crate::claiming::all_marked;
 use crate::laws::SenderStation;
@@ -28,8 +27,8 @@ pub struct Sender {
 }
 
 impl Model for Sender {
-    ghost use Rattle.dr_ring.specs.Stations.{SenderEnd};
-    ghost use Rattle.dr_ring.specs.Fits.{SenderFits};
+    ghost use Rattle.dr_ring.specs.Calls.Ends.{SenderEnd};
+    ghost use Rattle.dr_ring.specs.Inside.Fits.{SenderFits};
 
     ghost Value = { SenderEnd };
 
@@ -147,7 +146,7 @@ impl Sender {
 }
 
 impl Inlet for Sender {
-    ghost use Rattle.dr_ring.specs.Shown.{SenderPlace};
+    ghost use Rattle.dr_ring.specs.Calls.Ends.{SenderPlace};
 
     ghost Kept = { SenderPlace };
 

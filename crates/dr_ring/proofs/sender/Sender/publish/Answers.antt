@@ -1,7 +1,7 @@
 use Rattle.std.proofs.Common.{rules, ℕ, List, ◌+◌, refl, ap, subst, ◌∙◌}
-use Rattle.dr_ring.specs.Shape.{Shape}
-use Rattle.dr_ring.specs.Stations.{SenderEnd}
-use Rattle.dr_ring.specs.Parts.{AreMarked, HasUnmarked}
+use Rattle.dr_ring.specs.Meaning.Shape.{Shape}
+use Rattle.dr_ring.specs.Calls.Ends.{SenderEnd}
+use Rattle.dr_ring.specs.Inside.Parts.{AreMarked, HasUnmarked}
 use Rattle.dr_ring.proofs.Fields.{publish_ready, publish_unwritten, publish_done, publish_late}
 use Rattle.dr_ring.proofs.sender.Sender.publish.Goals as goal
 

@@ -1,6 +1,6 @@
 use Rattle.std.proofs.Common.{rules, arith, refl, ap, ◌∙◌}
-use Rattle.dr_ring.specs.Shape.{Shape}
-use Rattle.dr_ring.specs.Stations.{SenderEnd}
+use Rattle.dr_ring.specs.Meaning.Shape.{Shape}
+use Rattle.dr_ring.specs.Calls.Ends.{SenderEnd}
 use Rattle.dr_ring.proofs.Claims.{fits_saw, fits_halt, fits_room, fits_claim, claim_no_room, claim_halted_late, claim_accepted}
 use Rattle.dr_ring.proofs.sender.Sender.try_claim.Goals as goal
 

@@ -1,5 +1,5 @@
 use Rattle.std.proofs.Common.{rules, sym, subst, ◌≡◌, true, []}
-use Rattle.dr_ring.specs.Stations.{SenderEnd}
+use Rattle.dr_ring.specs.Calls.Ends.{SenderEnd}
 use Rattle.dr_ring.proofs.Allowed.{sender_closes}
 use Rattle.dr_ring.proofs.laws.sender.SenderStation.close.Goals as goal
 

@@ -1,6 +1,6 @@
 use Rattle.std.proofs.Common.{rules, sym, subst, ◌≡◌, ◌<◌, ◌≤◌, None, length}
-use Rattle.dr_ring.specs.Ends.{claimed, AreWritten}
-use Rattle.dr_ring.specs.Stations.{SenderEnd}
+use Rattle.dr_ring.specs.Meaning.Records.{claimed, AreWritten}
+use Rattle.dr_ring.specs.Calls.Ends.{SenderEnd}
 use Rattle.dr_ring.proofs.Allowed.{sender_publishes}
 use Rattle.dr_ring.proofs.laws.sender.SenderStation.publish.Goals as goal
 

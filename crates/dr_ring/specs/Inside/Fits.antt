@@ -1,13 +1,13 @@
 -- What the fields of an end have to do with what it knows.
 use Rattle.std.specs.Prelude.{◌≡◌, ℕ, ◌+◌, ◌%◌, ◌<◌, ◌≤◌, ◌==◌, is_some, List, length, slice_index, slice_index_or, None, Contains}
 use Rattle.dr_graph.specs.Graph.{finals}
-use Rattle.dr_ring.specs.Shape.{handlers_of}
-use Rattle.dr_ring.specs.Plans.{IsPlan}
-use Rattle.dr_ring.specs.Words.{count_word}
+use Rattle.dr_ring.specs.Meaning.Shape.{handlers_of}
+use Rattle.dr_ring.specs.Calls.Plans.{IsPlan}
+use Rattle.dr_ring.specs.Meaning.Words.{count_word}
 use Rattle.dr_ring.specs.declared.settled.HandlerCounts.{HandlerCounts}
 use Rattle.dr_ring.specs.declared.record.SenderRecord.{SenderRecord}
 use Rattle.dr_ring.specs.declared.record.ReceiverRecord.{ReceiverRecord}
-use Rattle.dr_ring.specs.Ends.{claimed, last_look}
+use Rattle.dr_ring.specs.Meaning.Records.{claimed, last_look}
 
 -- the marks show what is written: one more than an open sequence stands at its slot exactly where it is written
 pub record Marked (size : ℕ) (r : SenderRecord) (ms : List ℕ) : Type 0 where

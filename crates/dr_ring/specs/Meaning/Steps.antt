@@ -3,15 +3,15 @@ use Rattle.std.specs.Prelude.{◌≡◌, ℕ, ◌<◌, ◌≤◌, true, [], leng
 use mathlib.Core.Option.{some}
 use lib.ListN.{get_elem?}
 use Rattle.dr_graph.specs.Graph.{upstreams_of, finals}
-use Rattle.dr_ring.specs.Shape.{Shape}
-use Rattle.dr_ring.specs.Words.{cursor_word, closed_word, halt_word, count_word, payload_word}
+use Rattle.dr_ring.specs.Meaning.Shape.{Shape}
+use Rattle.dr_ring.specs.Meaning.Words.{cursor_word, closed_word, halt_word, count_word, payload_word}
 use Rattle.dr_ring.specs.declared.record.HalfWrite.{HalfWrite}
 use Rattle.dr_ring.specs.declared.record.Step.{Step}
 use Rattle.dr_ring.specs.declared.record.Step.TheVariants.{SenderLooksAtCount, SenderLooksAtHalt, SenderStoresFirst, SenderStoresSecond, SenderPublishes, SenderHalts, SenderCloses, ReceiverLooksAtClosed, ReceiverLooksAtCursor, ReceiverLooksAtCount, ReceiverLoadsFirst, ReceiverLoadsSecond, ReceiverCompletes, HalterHalts}
 use Rattle.dr_ring.specs.declared.record.SenderRecord.{SenderRecord}
 use Rattle.dr_ring.specs.declared.record.ReceiverRecord.{ReceiverRecord}
-use Rattle.dr_ring.specs.Ends.{claimed, sender_looked, halt_looked, half_written, written, published_to, sender_halted, sender_closed, receiver_looked, cursor_looked, half_taken, took, completed_to, halter_halted, HasRoom, IsOpen, AreWritten, IsBelowBarrier}
-use Rattle.dr_ring.specs.Kept.{World}
+use Rattle.dr_ring.specs.Meaning.Records.{claimed, sender_looked, halt_looked, half_written, written, published_to, sender_halted, sender_closed, receiver_looked, cursor_looked, half_taken, took, completed_to, halter_halted, HasRoom, IsOpen, AreWritten, IsBelowBarrier}
+use Rattle.dr_ring.specs.Meaning.Kept.{World}
 
 -- the sender's record changes, and no word
 abbrev pub sender_knows : World → SenderRecord → World
