@@ -6,18 +6,18 @@ use lib.ListN.{get_elem?}
 use lib.Seq.{set-get_or}
 use Rattle.atomic_table.specs.Table.{step, Allows}
 use Rattle.dr_graph.specs.Graph.{upstreams_of, finals}
-use Rattle.dr_ring.specs.Shape.{Shape, handlers_of}
-use Rattle.dr_ring.specs.Words.{cursor_word, closed_word, halt_word, count_word, payload_word}
+use Rattle.dr_ring.specs.Meaning.Shape.{Shape, handlers_of}
+use Rattle.dr_ring.specs.Meaning.Words.{cursor_word, closed_word, halt_word, count_word, payload_word}
 use Rattle.dr_ring.specs.declared.record.HalfWrite.{HalfWrite}
 use Rattle.dr_ring.specs.declared.record.SenderRecord.{SenderRecord}
 use Rattle.dr_ring.specs.declared.record.ReceiverRecord.{ReceiverRecord}
 use Rattle.dr_ring.specs.declared.record.HalterRecord.{HalterRecord}
-use Rattle.dr_ring.specs.Ends.{claimed, last_look, sender_looked, halt_looked, half_written, written, published_to, sender_halted, sender_closed, receiver_looked, cursor_looked, half_taken, took, completed_to, halter_halted, HasRoom, IsOpen, AreWritten, IsBelowBarrier}
-use Rattle.dr_ring.specs.Kept.{World, Kept}
+use Rattle.dr_ring.specs.Meaning.Records.{claimed, last_look, sender_looked, halt_looked, half_written, written, published_to, sender_halted, sender_closed, receiver_looked, cursor_looked, half_taken, took, completed_to, halter_halted, HasRoom, IsOpen, AreWritten, IsBelowBarrier}
+use Rattle.dr_ring.specs.Meaning.Kept.{World, Kept}
 use Rattle.dr_ring.specs.declared.record.Step.{Step}
 use Rattle.dr_ring.specs.declared.record.Step.TheVariants.{SenderLooksAtCount, SenderLooksAtHalt, SenderStoresFirst, SenderStoresSecond, SenderPublishes, SenderHalts, SenderCloses, ReceiverLooksAtClosed, ReceiverLooksAtCursor, ReceiverLooksAtCount, ReceiverLoadsFirst, ReceiverLoadsSecond, ReceiverCompletes, HalterHalts}
-use Rattle.dr_ring.specs.Steps.{Happens}
-use Rattle.dr_ring.specs.Seats.{End, Sitting, end_of, seat_at, Loads, Stores, world_of, Ruled, as_sender, as_receiver, as_halter, sender_of, receiver_of, halter_of, IsSender, IsReceiver, IsHalter, FindsHalt, SenderLookedAtCount, SenderLookedAtHalt, SenderStoredFirst, SenderStoredSecond, SenderPublished, SenderHalted, SenderClosed, ReceiverLookedAtClosed, ReceiverLookedAtCursor, ReceiverLookedAtCount, ReceiverLoadedFirst, ReceiverLoadedSecond, ReceiverCompleted, HalterHalted}
+use Rattle.dr_ring.specs.Meaning.Steps.{Happens}
+use Rattle.dr_ring.specs.Inside.Seats.{End, Sitting, end_of, seat_at, Loads, Stores, world_of, Ruled, as_sender, as_receiver, as_halter, sender_of, receiver_of, halter_of, IsSender, IsReceiver, IsHalter, FindsHalt, SenderLookedAtCount, SenderLookedAtHalt, SenderStoredFirst, SenderStoredSecond, SenderPublished, SenderHalted, SenderClosed, ReceiverLookedAtClosed, ReceiverLookedAtCursor, ReceiverLookedAtCount, ReceiverLoadedFirst, ReceiverLoadedSecond, ReceiverCompleted, HalterHalted}
 use Rattle.dr_ring.proofs.Lists.{at_below, final_inside, last_look_le}
 use Rattle.dr_ring.proofs.Keeps.{receiver_of_handler, upstream_inside}
 use Rattle.dr_ring.proofs.Seats.{adds_nothing, adds_one, by_sender, by_receiver, by_halter}
@@ -49,11 +49,11 @@ inside_of : (k : Shape) (w : World) (h : ℕ) (r : ReceiverRecord) → get_elem?
 inside_of k w h r at K = let b = at_below w.receivers h r at in let e = K.ends in omega arith
 
 look_at_final : (k : Shape) (w : World) (r : SenderRecord) (f : ℕ) → w.sender ≡ r → Contains (finals k.upstreams) f → Kept k w
-    → Happens k (SenderLooksAtCount f) w (world_of w.words (sender_looked r (count_word f) (get_or w.words (count_word f) 0)) w.receivers w.halter) × (last_look 0 r.looks (count_word f) ≤ get_or w.words (count_word f) 0) × (get_or w.words (count_word f) 0 ≤ length r.published)
+    → Happens k (SenderLooksAtCount f) w (world_of w.words (sender_looked r (count_word f) (get_or w.words (count_word f) 0)) w.receivers w.halter) × (last_look 0 r.looks (count_word f) ≤ get_or w.words (count_word f) 0) × (get_or w.words (count_word f) 0 ≤ length r.sent.published)
 look_at_final k w r f e has K =
     let i = count_word f in let n = get_or w.words i 0 in let inside = final_inside k.upstreams f has in let t = receiver_of_handler k w K f inside in
     let a = t.2.count in let b = t.2.completed in let c = t.2.taken in
-    subst (λ (q : SenderRecord). Happens k (SenderLooksAtCount f) w (world_of w.words (sender_looked q i n) w.receivers w.halter) × (last_look 0 q.looks i ≤ n) × (n ≤ length q.published)) e
+    subst (λ (q : SenderRecord). Happens k (SenderLooksAtCount f) w (world_of w.words (sender_looked q i n) w.receivers w.halter) × (last_look 0 q.looks i ≤ n) × (n ≤ length q.sent.published)) e
     ((has, refl), last_look_le k w.words 0 w.sender.looks i (omega arith) K.looks, omega arith)
 
 pub sender_looks_at_count : (k sh : Shape) (slots id : ℕ) (me : Sitting) (i f : ℕ) → i ≡ count_word f → IsSender (end_of me)
@@ -115,14 +115,14 @@ sender_stores_second k sh slots id me i s first v here is plan half =
     (subst (λ (q : SenderRecord). q.half ≡ Some x → Happens k (SenderStoresSecond v) w (world_of (set w.words (payload_word k s 1) v) (written q s record { first = first; second = v }) w.receivers w.halter)) e (λ has. (x, has, refl)) half))
     (λ w e K y other. (let same : x ≡ y = same_half x y (sym half ∙ other) in ap (λ (z : HalfWrite). as_sender (written r z.sequence record { first = z.first; second = v })) same))))
 
-pub sender_publishes : (k : Shape) (slots id : ℕ) (me : Sitting) (n : ℕ) → IsSender (end_of me) → length (sender_of me.0.ends).published < n
+pub sender_publishes : (k : Shape) (slots id : ℕ) (me : Sitting) (n : ℕ) → IsSender (end_of me) → length (sender_of me.0.ends).sent.published < n
     → n ≤ claimed (sender_of me.0.ends) → AreWritten (sender_of me.0.ends) n → (sender_of me.0.ends).half ≡ None
     → Allows (Ruled k) slots id me cursor_word (λ _. n) (λ _. Stores (λ _ n. SenderPublishes n) SenderPublished (step slots cursor_word n 0 none) me n)
 sender_publishes k slots id me n is lt le all free = along_sender (λ m. Allows (Ruled k) slots id m cursor_word (λ _. n) (λ _. Stores (λ _ n. SenderPublishes n) SenderPublished (step slots cursor_word n 0 none) m n)) me is
     (let r = sender_of me.0.ends in
     by_sender k slots id (SenderPublishes n) (λ stores. stores ++ SenderPublishes n ∷ []) me.0.pasts r cursor_word (λ _. n) (λ _. published_to r n) (λ _. SenderPublished (step slots cursor_word n 0 none) (as_sender r) n)
     (adds_one 0 (SenderPublishes n) (λ n. refl))
-    (λ w e K. subst (λ (q : SenderRecord). length q.published < n → n ≤ claimed q → AreWritten q n → q.half ≡ None → Happens k (SenderPublishes n) w (world_of (set w.words cursor_word n) (published_to q n) w.receivers w.halter)) e
+    (λ w e K. subst (λ (q : SenderRecord). length q.sent.published < n → n ≤ claimed q → AreWritten q n → q.half ≡ None → Happens k (SenderPublishes n) w (world_of (set w.words cursor_word n) (published_to q n) w.receivers w.halter)) e
     (λ lt le all free. (lt, le, all, free, refl)) lt le all free)
     (λ w e K. refl))
 
@@ -136,13 +136,13 @@ sender_halts k slots id me is = along_sender (λ m. Allows (Ruled k) slots id m 
     (λ w e K. refl))
 
 pub sender_closes : (k : Shape) (slots id : ℕ) (me : Sitting) → IsSender (end_of me) → (sender_of me.0.ends).halted ≡ true
-    → (sender_of me.0.ends).pending ≡ []
+    → (sender_of me.0.ends).sent.pending ≡ []
     → Allows (Ruled k) slots id me closed_word (λ _. 1) (λ _. Stores (λ _ _. SenderCloses) SenderClosed (step slots closed_word 1 0 none) me 1)
 sender_closes k slots id me is halted all = along_sender (λ m. Allows (Ruled k) slots id m closed_word (λ _. 1) (λ _. Stores (λ _ _. SenderCloses) SenderClosed (step slots closed_word 1 0 none) m 1)) me is
     (let r = sender_of me.0.ends in
     by_sender k slots id SenderCloses (λ stores. stores ++ SenderCloses ∷ []) me.0.pasts r closed_word (λ _. 1) (λ _. sender_closed r) (λ _. SenderClosed (step slots closed_word 1 0 none) (as_sender r) 1)
     (adds_one 0 SenderCloses (λ n. refl))
-    (λ w e K. subst (λ (q : SenderRecord). q.halted ≡ true → q.pending ≡ [] → Happens k SenderCloses w (world_of (set w.words closed_word 1) (sender_closed q) w.receivers w.halter)) e (λ halted all. (halted, all, refl)) halted all)
+    (λ w e K. subst (λ (q : SenderRecord). q.halted ≡ true → q.sent.pending ≡ [] → Happens k SenderCloses w (world_of (set w.words closed_word 1) (sender_closed q) w.receivers w.halter)) e (λ halted all. (halted, all, refl)) halted all)
     (λ w e K. refl))
 
 pub receiver_looks_at_closed : (k : Shape) (slots id : ℕ) (me : Sitting) → IsReceiver (end_of me)

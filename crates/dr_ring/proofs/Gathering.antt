@@ -13,13 +13,15 @@ use Rattle.dr_ring.specs.declared.record.EndRecord.TheVariants.{Sends, Receives}
 use Rattle.dr_graph.specs.Graph.{IsGraph}
 use Rattle.dr_core.specs.Transcript.{Transcript, LeadsTo}
 use Rattle.dr_core.specs.Laws.{Laws}
-use Rattle.dr_ring.specs.Shape.{Shape, handlers_of, setup_of}
+use Rattle.dr_ring.specs.Meaning.Shape.{Shape, handlers_of, setup_of}
 use Rattle.dr_ring.specs.declared.record.Step.{Step}
-use Rattle.dr_ring.specs.Kept.{World, Kept}
-use Rattle.dr_ring.specs.Moments.{opening, picture_of, Runs}
-use Rattle.dr_ring.specs.Seats.{Known, End, Sitting, end_of, as_receiver, sender_of}
-use Rattle.dr_ring.specs.Stations.{SenderEnd, ReceiverEnd}
-use Rattle.dr_ring.specs.Settling.{Agrees, Settles, LeadsView, IsInView, Gathers, ViewAgrees, ViewRan, HasRun, AreAllEnds, AreOfRing, counts_of}
+use Rattle.dr_ring.specs.Meaning.Kept.{World, Kept}
+use Rattle.dr_ring.specs.Meaning.Moments.{opening, picture_of, Runs}
+use Rattle.dr_ring.specs.Inside.Seats.{Known, End, Sitting, end_of, as_receiver, sender_of}
+use Rattle.dr_ring.specs.Calls.Ends.{SenderEnd, ReceiverEnd}
+use Rattle.dr_ring.specs.Meaning.Settling.{Agrees, Settles, HasRun}
+use Rattle.dr_ring.specs.Inside.Gathering.{LeadsView, IsInView, Gathers, ViewAgrees, ViewRan, AreOfRing}
+use Rattle.dr_ring.specs.Calls.Settling.{AreAllEnds, counts_of}
 
 abbrev pub knows_of : ReceiverEnd → ReceiverRecord
 knows_of e = e.knows

@@ -17,5 +17,5 @@ pub mod Cuts
 pub mod Making
 pub mod Settling
 pub mod Gathering
-pub mod Inlets
+pub mod Publications
 pub mod Halting

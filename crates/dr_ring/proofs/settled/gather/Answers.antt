@@ -1,7 +1,7 @@
 use Rattle.std.proofs.Common.{◌≡◌, ◌<◌, ◌∷◌, length, set, arith, ap, sym, subst, ◌∙◌}
 use Rattle.dr_ring.specs.declared.record.ReceiverRecord.{ReceiverRecord}
-use Rattle.dr_ring.specs.Seats.{end_of, as_receiver}
-use Rattle.dr_ring.specs.Stations.{ReceiverEnd}
+use Rattle.dr_ring.specs.Inside.Seats.{end_of, as_receiver}
+use Rattle.dr_ring.specs.Calls.Ends.{ReceiverEnd}
 use Rattle.dr_ring.proofs.Gathering.{last_of_ring, gathering_more, gathering_all}
 use Rattle.dr_ring.proofs.settled.gather.Goals as goal
 

@@ -1,9 +1,18 @@
 use Rattle.std.proofs.Common.{rules, ℕ, List, ◌+◌, refl, ap, subst, ◌∙◌}
-use Rattle.dr_ring.specs.Shape.{Shape}
-use Rattle.dr_ring.specs.Stations.{SenderEnd}
-use Rattle.dr_ring.specs.Parts.{AreMarked}
-use Rattle.dr_ring.proofs.Fields.{publish_ready, publish_done, publish_late}
+use Rattle.dr_ring.specs.Meaning.Shape.{Shape}
+use Rattle.dr_ring.specs.Calls.Ends.{SenderEnd}
+use Rattle.dr_ring.specs.Inside.Parts.{AreMarked, HasUnmarked}
+use Rattle.dr_ring.proofs.Fields.{publish_ready, publish_unwritten, publish_done, publish_late}
 use Rattle.dr_ring.proofs.sender.Sender.publish.Goals as goal
+
+pub returns-then-not-all_marked : goal.returns-then-not-all_marked
+returns-then-not-all_marked c =
+    let some = subst (λ (n : ℕ). HasUnmarked c.as_slice.result.now n c.args.lo (c.args.hi + 1)) (c.size-size.ensures ∙ ap (λ (k : Shape). k.size) c.plan.ensures.plan) c.if-not-all_marked.ensures in (
+      refl,
+      publish_unwritten _ _ _ _ _ _ _ _ _ (ap (λ (e : SenderEnd). e.knows) c.self.view_is) c.self.invariant
+          (subst (λ (xs : List ℕ). HasUnmarked xs c.self.inside.station.knows.plan.size c.args.lo (c.args.hi + 1)) c.as_slice.ensures.value some) c.if-lo-self.false c.if-hi-self.false,
+      refl,
+    )
 
 pub returns-then-lo-self-2 : goal.returns-then-lo-self-2
 returns-then-lo-self-2 c =

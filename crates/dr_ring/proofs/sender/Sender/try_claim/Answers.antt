@@ -1,7 +1,7 @@
-use Rattle.std.proofs.Common.{rules, arith, inr, refl, ap, ◌∙◌}
-use Rattle.dr_ring.specs.Shape.{Shape}
-use Rattle.dr_ring.specs.Stations.{SenderEnd}
-use Rattle.dr_ring.proofs.Claims.{fits_saw, fits_halt, fits_room, fits_claim, answer_no_room, answer_halted_late}
+use Rattle.std.proofs.Common.{rules, arith, refl, ap, ◌∙◌}
+use Rattle.dr_ring.specs.Meaning.Shape.{Shape}
+use Rattle.dr_ring.specs.Calls.Ends.{SenderEnd}
+use Rattle.dr_ring.proofs.Claims.{fits_saw, fits_halt, fits_room, fits_claim, claim_no_room, claim_halted_late, claim_accepted}
 use Rattle.dr_ring.proofs.sender.Sender.try_claim.Goals as goal
 
 pub invariant_of-self : goal.invariant_of-self
@@ -21,9 +21,12 @@ invariant_of-self-in_default c =
 
 pub returns-in_default : goal.returns-in_default
 returns-in_default c =
-    let size = c.get-size.ensures.value ∙ c.size.ensures ∙ ap (λ (k : Shape). k.size) c.plan.ensures.plan in let need = c.saturating_sub-need.ensures in (
+    let size = c.get-size.ensures.value ∙ c.size.ensures ∙ ap (λ (k : Shape). k.size) c.plan.ensures.plan in
+    let limit = c.limit-limit.ensures ∙ ap (λ (k : Shape). k.limit) c.plan-2.ensures.plan in
+    let need = c.saturating_sub-need.ensures in let within = c.self.invariant.limit in let fits_limit = c.if-n-limit.false in (
       search rules,
-      (search rules, search rules, answer_no_room _ _ _ _ _ c.self.inside.claimed c.args.n _ (ap (λ (e : SenderEnd). e.knows) c.self.view_is) c.if-finds_halt.ensures.1 c.in_default.ensures.answer.1 c.self.invariant.next (omega arith) c.in_default.ensures.answer.2),
+      claim_no_room _ _ _ _ _ c.self.inside.claimed c.args.n _ (ap (λ (e : SenderEnd). e.knows) c.self.view_is) c.if-finds_halt.ensures.1 c.in_default.ensures.answer.1 c.self.invariant.next
+          (omega arith) (search rules) (omega arith) (search rules) c.in_default.ensures.answer.2,
       search rules,
     )
 
@@ -39,7 +42,8 @@ returns-then-not-claims c =
     let limit = c.limit-limit.ensures ∙ ap (λ (k : Shape). k.limit) c.plan-2.ensures.plan in
     let need = c.saturating_sub-need.ensures in let within = c.self.invariant.limit in let fits_limit = c.if-n-limit.false in (
       search rules,
-      (search rules, inr (answer_halted_late _ _ _ _ _ c.self.inside.claimed c.args.n _ (ap (λ (e : SenderEnd). e.knows) c.self.view_is) c.if-finds_halt.ensures.1 c.in-Some.ensures.answer.1 c.self.invariant.next (omega arith) _ _ c.in-Some.ensures.answer.2 c.if-not-claims.ensures.1 (omega arith))),
+      claim_halted_late _ _ _ _ _ c.self.inside.claimed c.args.n _ (ap (λ (e : SenderEnd). e.knows) c.self.view_is) c.if-finds_halt.ensures.1 c.in-Some.ensures.answer.1 c.self.invariant.next
+          (omega arith) (search rules) (omega arith) (search rules) _ _ c.in-Some.ensures.answer.2 c.if-not-claims.ensures.1,
       search rules,
     )
 
@@ -52,3 +56,14 @@ invariant_of-self-2 c =
     let need = c.saturating_sub-need.ensures in let within = c.self.invariant.limit in let fits_limit = c.if-n-limit.false in
     let raised = c.raise.ensures in let enough = c.in-Some.ensures.answer.2.enough in
     fits_claim _ _ _ _ _ _ _ c.args.n c.saturating_sub-need.result room c.if-not-claims.ensures.1 (search rules) (search rules) (omega arith)
+
+pub returns : goal.returns
+returns c =
+    let size = c.get-size.ensures.value ∙ c.size.ensures ∙ ap (λ (k : Shape). k.size) c.plan.ensures.plan in
+    let limit = c.limit-limit.ensures ∙ ap (λ (k : Shape). k.limit) c.plan-2.ensures.plan in
+    let need = c.saturating_sub-need.ensures in let within = c.self.invariant.limit in let fits_limit = c.if-n-limit.false in (
+      search rules,
+      claim_accepted _ _ _ _ _ c.self.inside.claimed c.args.n _ (ap (λ (e : SenderEnd). e.knows) c.self.view_is) c.if-finds_halt.ensures.1 c.in-Some.ensures.answer.1 c.self.invariant.next
+          (omega arith) (search rules) (omega arith) (search rules) _ _ _ c.in-Some.ensures.answer.2 c.if-not-claims.ensures.1 refl,
+      search rules,
+    )

@@ -1,7 +1,7 @@
 use Rattle.std.proofs.Common.{ℕ, ◌+◌, ◌%◌, set, ap, ◌∙◌}
-use Rattle.dr_ring.specs.Shape.{Shape}
+use Rattle.dr_ring.specs.Meaning.Shape.{Shape}
 use Rattle.dr_ring.specs.declared.record.SenderRecord.{SenderRecord}
-use Rattle.dr_ring.specs.Ends.{written}
+use Rattle.dr_ring.specs.Meaning.Records.{written}
 use Rattle.dr_ring.proofs.Fields.{fits_write}
 use Rattle.dr_ring.proofs.sender.Sender.write.Goals as goal
 

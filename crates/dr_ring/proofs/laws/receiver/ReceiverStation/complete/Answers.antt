@@ -1,5 +1,5 @@
 use Rattle.std.proofs.Common.{rules, sym, subst, ◌≤◌, length}
-use Rattle.dr_ring.specs.Stations.{ReceiverEnd}
+use Rattle.dr_ring.specs.Calls.Ends.{ReceiverEnd}
 use Rattle.dr_ring.proofs.Allowed.{receiver_completes}
 use Rattle.dr_ring.proofs.laws.receiver.ReceiverStation.complete.Goals as goal
 

@@ -1,9 +1,9 @@
 use Rattle.std.proofs.Common.{rules, refl, sym, subst, ap, ◌∙◌, ◌≡◌, Some}
-use Rattle.dr_ring.specs.Ends.{IsBelowBarrier}
-use Rattle.dr_ring.specs.Words.{payload_word}
-use Rattle.dr_ring.specs.Shape.{Shape}
-use Rattle.dr_ring.specs.Seats.{receiver_of}
-use Rattle.dr_ring.specs.Stations.{ReceiverEnd}
+use Rattle.dr_ring.specs.Meaning.Records.{IsBelowBarrier}
+use Rattle.dr_ring.specs.Meaning.Words.{payload_word}
+use Rattle.dr_ring.specs.Meaning.Shape.{Shape}
+use Rattle.dr_ring.specs.Inside.Seats.{receiver_of}
+use Rattle.dr_ring.specs.Calls.Ends.{ReceiverEnd}
 use Rattle.dr_ring.proofs.Allowed.{receiver_loads_second}
 use Rattle.dr_ring.proofs.laws.receiver.ReceiverStation.load_second.Goals as goal
 

@@ -1,6 +1,6 @@
 use Rattle.std.proofs.Common.{rules, refl, sym, subst, ◌<◌}
-use Rattle.dr_ring.specs.Ends.{HasRoom}
-use Rattle.dr_ring.specs.Stations.{SenderEnd}
+use Rattle.dr_ring.specs.Meaning.Records.{HasRoom}
+use Rattle.dr_ring.specs.Calls.Ends.{SenderEnd}
 use Rattle.dr_ring.proofs.Allowed.{sender_looks_at_halt}
 use Rattle.dr_ring.proofs.laws.sender.SenderStation.look_at_halt.Goals as goal
 

@@ -1,7 +1,7 @@
 use Rattle.std.proofs.Common.{rules, sym, subst, ap, ◌∙◌, ◌≡◌, None}
-use Rattle.dr_ring.specs.Ends.{IsOpen}
-use Rattle.dr_ring.specs.Words.{payload_word}
-use Rattle.dr_ring.specs.Stations.{SenderEnd}
+use Rattle.dr_ring.specs.Meaning.Records.{IsOpen}
+use Rattle.dr_ring.specs.Meaning.Words.{payload_word}
+use Rattle.dr_ring.specs.Calls.Ends.{SenderEnd}
 use Rattle.dr_ring.proofs.Allowed.{sender_stores_first}
 use Rattle.dr_ring.proofs.laws.sender.SenderStation.store_first.Goals as goal
 

@@ -1,6 +1,6 @@
 use Rattle.std.proofs.Common.{rules, sym, subst, ap, ◌∙◌, ◌≡◌, Some}
-use Rattle.dr_ring.specs.Words.{payload_word}
-use Rattle.dr_ring.specs.Stations.{SenderEnd}
+use Rattle.dr_ring.specs.Meaning.Words.{payload_word}
+use Rattle.dr_ring.specs.Calls.Ends.{SenderEnd}
 use Rattle.dr_ring.proofs.Allowed.{sender_stores_second}
 use Rattle.dr_ring.proofs.laws.sender.SenderStation.store_second.Goals as goal
 

@@ -1,26 +1,25 @@
--- The rule of a ring as its table's rule: each end stands in one seat's view, at one place of it.
-use Rattle.std.specs.Prelude.{◌≡◌, ℕ, ◌+◌, ◌<◌, ◌≤◌, ◌==◌, Bool, true, false, List, [], ◌∷◌, ◌++◌, length, map, filter, Some}
+-- How the ends of a new ring begin.
+use Rattle.std.specs.Prelude.{◌≡◌, ℕ, List, [], map, ◌+◌, ◌<◌, ◌≤◌, ◌==◌, Bool, true, false, ◌∷◌, ◌++◌, length, filter, Some}
+use Rattle.atomic_table.specs.Seated.{TableId}
+use Rattle.dr_ring.specs.declared.record.ReceiverRecord.{ReceiverRecord}
+use Rattle.dr_ring.specs.declared.record.EndRecord.TheVariants.{Receives, Sends, Halts}
+use Rattle.dr_ring.specs.Meaning.Shape.{Shape, handlers_of}
+use Rattle.dr_ring.specs.Meaning.Moments.{fresh_sender, fresh_receivers, fresh_halter, fresh_receiver, opening, Runs, IsBeginning}
 use mathlib.Core.Option.{some}
 use lib.ListN.{get_elem?}
-use Rattle.atomic_table.specs.Table.{State, Me}
-use Rattle.atomic_table.specs.Table.{Step as TableStep}
-use Rattle.atomic_table.specs.Seated.{TableId}
+use Rattle.atomic_table.specs.Table.{State, Me, Step as TableStep}
 use Rattle.dr_graph.specs.Graph.{IsGraph}
 use Rattle.dr_core.specs.Transcript.{Transcript}
-use Rattle.dr_ring.specs.Shape.{Shape, handlers_of}
-use Rattle.dr_ring.specs.Words.{halt_word, words_of}
+use Rattle.dr_ring.specs.Meaning.Words.{halt_word, words_of}
 use Rattle.dr_ring.specs.declared.record.HalfWrite.{HalfWrite}
 use Rattle.dr_ring.specs.declared.record.SenderRecord.{SenderRecord}
-use Rattle.dr_ring.specs.declared.record.ReceiverRecord.{ReceiverRecord}
 use Rattle.dr_ring.specs.declared.record.HalterRecord.{HalterRecord}
 use Rattle.dr_ring.specs.declared.record.EndRecord.{EndRecord}
-use Rattle.dr_ring.specs.declared.record.EndRecord.TheVariants.{Sends, Receives, Halts}
-use Rattle.dr_ring.specs.Ends.{last_look, sender_looked, halt_looked, half_written, written, published_to, sender_halted, sender_closed, receiver_looked, cursor_looked, half_taken, took, completed_to, halter_halted}
-use Rattle.dr_ring.specs.Kept.{World}
+use Rattle.dr_ring.specs.Meaning.Records.{last_look, sender_looked, halt_looked, half_written, written, published_to, sender_halted, sender_closed, receiver_looked, cursor_looked, half_taken, took, completed_to, halter_halted}
+use Rattle.dr_ring.specs.Meaning.Kept.{World}
 use Rattle.dr_ring.specs.declared.record.Step.{Step}
 use Rattle.dr_ring.specs.declared.record.Step.TheVariants.{SenderStoresFirst, SenderStoresSecond, SenderPublishes, SenderHalts, SenderCloses, ReceiverCompletes, HalterHalts}
 use Rattle.dr_ring.specs.declared.record.View.{View}
-use Rattle.dr_ring.specs.Moments.{fresh_sender, fresh_receiver, fresh_receivers, fresh_halter, opening, Runs}
 
 -- the records of the ends that a seat stands for
 abbrev pub Known : Type 0
@@ -68,10 +67,6 @@ EachPast P [] [] = Unit {0}
 EachPast P [] (past ∷ pasts) = ⊥
 EachPast P (e ∷ es) [] = ⊥
 EachPast P (e ∷ es) (past ∷ pasts) = P e past × EachPast P es pasts
-
--- some steps are the beginning of others
-abbrev pub IsBeginning : List Step → List Step → Type 0
-IsBeginning past steps = (rest : List Step) × (steps ≡ past ++ rest)
 
 -- the sender is end 0, the halter end 1, and the receivers follow
 abbrev pub end_number : EndRecord → ℕ
@@ -130,6 +125,14 @@ all_ends k = record {
   pasts = [] ∷ [] ∷ map (λ r. []) (fresh_receivers k 0 (handlers_of k));
 }
 
+-- the records of n receivers from the number h on
+abbrev pub receivers_known : Shape → ℕ → ℕ → Known
+receivers_known k h n = map (λ r. Receives r) (fresh_receivers k h n)
+
+-- the seat that stands for them all, before any of them steps
+abbrev pub receivers_seat : Shape → ℕ → ℕ → Sitting
+receivers_seat k h n = (record { ends = receivers_known k h n; pasts = map (λ r. []) (fresh_receivers k h n) }, [])
+
 -- a seat at a table with the words of a ring
 abbrev pub IsAtTable : TableId → TableId → Shape → Type 0
 IsAtTable seat table k = (seat ≡ table) × (table.words ≡ words_of k)
@@ -182,7 +185,7 @@ Stores step Tells s me n me' =
 
 -- no more is completed than is published
 abbrev pub FindsCompleted : SenderRecord → ℕ → ℕ → Type 0
-FindsCompleted r word n = (last_look 0 r.looks word ≤ n) × (n ≤ length r.published)
+FindsCompleted r word n = (last_look 0 r.looks word ≤ n) × (n ≤ length r.sent.published)
 
 abbrev pub FindsHalt : SenderRecord → ℕ → Type 0
 FindsHalt r n = (last_look 0 r.looks halt_word ≤ n) × (n ≤ 1) × (r.halted ≡ true → n ≡ 1)

@@ -9,21 +9,21 @@ use Rattle.dr_core.specs.declared.command.Reply.TheVariants.{Claimed, Written, P
 use Rattle.dr_core.specs.Machine as machine
 use Rattle.dr_core.specs.Machine.{State, available}
 use Rattle.dr_core.specs.Transcript.{Transcript}
-use Rattle.dr_ring.specs.Shape.{Shape, handlers_of, setup_of}
-use Rattle.dr_ring.specs.Words.{cursor_word, halt_word, count_word, payload_word, words_of}
+use Rattle.dr_ring.specs.Meaning.Shape.{Shape, handlers_of, setup_of}
+use Rattle.dr_ring.specs.Meaning.Words.{cursor_word, halt_word, count_word, payload_word, words_of}
 use Rattle.dr_ring.specs.declared.record.HalfWrite.{HalfWrite}
 use Rattle.dr_ring.specs.declared.record.SenderRecord.{SenderRecord}
 use Rattle.dr_ring.specs.declared.record.ReceiverRecord.{ReceiverRecord}
 use Rattle.dr_ring.specs.declared.record.HalterRecord.{HalterRecord}
-use Rattle.dr_ring.specs.Ends.{claimed, tells_drained}
-use Rattle.dr_ring.specs.Kept.{World}
+use Rattle.dr_ring.specs.Meaning.Records.{claimed, tells_drained}
+use Rattle.dr_ring.specs.Meaning.Kept.{World}
 use Rattle.dr_ring.specs.declared.record.Step.{Step}
 use Rattle.dr_ring.specs.declared.record.Step.TheVariants.{SenderLooksAtCount, SenderLooksAtHalt, SenderStoresFirst, SenderStoresSecond, SenderPublishes, SenderHalts, SenderCloses, ReceiverLooksAtClosed, ReceiverLooksAtCursor, ReceiverLooksAtCount, ReceiverLoadsFirst, ReceiverLoadsSecond, ReceiverCompletes, HalterHalts}
-use Rattle.dr_ring.specs.Steps.{Happens}
+use Rattle.dr_ring.specs.Meaning.Steps.{Happens}
 
 -- the ends of a new ring
 abbrev pub fresh_sender : Shape → SenderRecord
-fresh_sender k = record { plan = k; published = []; pending = []; half = None; halted = false; closed = false; looks = [] }
+fresh_sender k = record { plan = k; sent = record { published = []; pending = [] }; half = None; halted = false; closed = false; looks = [] }
 
 abbrev pub fresh_receiver : Shape → ℕ → ReceiverRecord
 fresh_receiver k h = record { plan = k; number = h; received = []; half = None; completed = 0; told = false; looks = [] }
@@ -47,7 +47,7 @@ taken_of r = length r.received
 abbrev pub picture_of : Shape → World → State
 picture_of k w = record (machine.opening (setup_of k)) {
   owners = replicate (claimed w.sender) 0;
-  written = λ s. slice_index_or (map (λ event. Some event) w.sender.published ++ w.sender.pending) s None;
+  written = λ s. slice_index_or (map (λ event. Some event) w.sender.sent.published ++ w.sender.sent.pending) s None;
   published = λ s. nat_lt s (slice_index w.words cursor_word);
   taken = map taken_of w.receivers;
   completed = map (λ h. slice_index w.words (count_word h)) (range_with_len 0 (handlers_of k));
@@ -97,3 +97,7 @@ abbrev pub Runs : Shape → List Step → Transcript → World → World → Typ
 Runs k [] entries w w' = (entries ≡ []) × (w ≡ w')
 Runs k (step ∷ steps) entries w w' =
     (between : World) × (rest : Transcript) × Happens k step w between × (entries ≡ events_of k step w ++ rest) × Runs k steps rest between w'
+
+-- some steps are the beginning of others
+abbrev pub IsBeginning : List Step → List Step → Type 0
+IsBeginning past steps = (rest : List Step) × (steps ≡ past ++ rest)

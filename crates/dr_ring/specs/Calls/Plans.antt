@@ -2,7 +2,7 @@
 use Rattle.std.specs.Prelude.{◌^◌, ◌<◌, ◌≤◌}
 use Rattle.dr_seq.specs.Size.{IsSize}
 use Rattle.dr_graph.specs.Graph.{IsGraph}
-use Rattle.dr_ring.specs.Shape.{Shape, handlers_of}
+use Rattle.dr_ring.specs.Meaning.Shape.{Shape, handlers_of}
 
 -- a graph of 16 handlers at most, a size, and a limit of at most 2^62 sequences
 pub record IsPlan (k : Shape) : Type 0 where

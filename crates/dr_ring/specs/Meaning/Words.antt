@@ -1,6 +1,6 @@
 -- Where each word of a ring lies. Words that different ends store are 16 words or more apart, so that no two ends write to one cache line; the words between are never touched.
 use Rattle.std.specs.Prelude.{ℕ, ◌+◌, ◌*◌, ◌%◌}
-use Rattle.dr_ring.specs.Shape.{Shape, handlers_of}
+use Rattle.dr_ring.specs.Meaning.Shape.{Shape, handlers_of}
 
 -- how many events are published; the sender stores it
 abbrev pub cursor_word : ℕ

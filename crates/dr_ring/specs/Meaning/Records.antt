@@ -1,10 +1,10 @@
 -- What each kind of step makes of the record of its end.
-use Rattle.std.specs.Prelude.{◌≡◌, ℕ, ◌+◌, ◌-◌, ◌<◌, ◌≤◌, ◌==◌, ◌&&◌, ◌||◌, if◌then◌else◌, Bool, true, List, [], ◌∷◌, ◌++◌, map, length, take, drop, slice_index_or, slice_set, replicate, Option, Some, None, unwrap_or, Contains}
+use Rattle.std.specs.Prelude.{◌≡◌, ℕ, ◌+◌, ◌-◌, ◌<◌, ◌≤◌, ◌==◌, ◌&&◌, ◌||◌, if◌then◌else◌, Bool, true, List, [], ◌∷◌, ◌++◌, length, slice_index_or, replicate, Some, None, Contains}
 use Rattle.dr_seq.specs.declared.event.Event.{Event}
-use Rattle.dr_seq.specs.Event.{no_event}
+use Rattle.dr_core.specs.Ends.{claimed_by, with_event, published_below}
 use Rattle.dr_graph.specs.Graph.{upstreams_of, finals}
-use Rattle.dr_ring.specs.Shape.{Shape}
-use Rattle.dr_ring.specs.Words.{cursor_word, closed_word, halt_word, count_word}
+use Rattle.dr_ring.specs.Meaning.Shape.{Shape}
+use Rattle.dr_ring.specs.Meaning.Words.{cursor_word, closed_word, halt_word, count_word}
 use Rattle.dr_ring.specs.declared.record.Look.{Look}
 use Rattle.dr_ring.specs.declared.record.SenderRecord.{SenderRecord}
 use Rattle.dr_ring.specs.declared.record.ReceiverRecord.{ReceiverRecord}
@@ -12,7 +12,7 @@ use Rattle.dr_ring.specs.declared.record.HalterRecord.{HalterRecord}
 
 -- how many sequences the sender claimed
 abbrev pub claimed : SenderRecord → ℕ
-claimed r = length r.published + length r.pending
+claimed r = claimed_by r.sent
 
 abbrev pub look : ℕ → ℕ → Look
 look word value = record { word = word; value = value }
@@ -22,9 +22,6 @@ abbrev pub last_look : ℕ → List Look → ℕ → ℕ
 last_look d [] word = d
 last_look d (x ∷ xs) word = last_look (if x.word == word then x.value else d) xs word
 
-abbrev pub event_or_none : Option Event → Event
-event_or_none o = unwrap_or o no_event
-
 -- the sender has looked at a word
 abbrev pub sender_looked : SenderRecord → ℕ → ℕ → SenderRecord
 sender_looked r word found = record r { looks = r.looks ++ look word found ∷ [] }
@@ -32,7 +29,7 @@ sender_looked r word found = record r { looks = r.looks ++ look word found ∷ [
 -- it has looked at halt, and claims n more where it found 0
 abbrev pub halt_looked : SenderRecord → ℕ → ℕ → SenderRecord
 halt_looked r n found = record r {
-  pending = r.pending ++ (if found == 0 then replicate n None else []);
+  sent = record r.sent { pending = r.sent.pending ++ (if found == 0 then replicate n None else []) };
   looks = r.looks ++ look halt_word found ∷ [];
 }
 
@@ -42,14 +39,11 @@ half_written r s first = record r { half = Some record { sequence = s; first = f
 
 -- it has stored both words of an event
 abbrev pub written : SenderRecord → ℕ → Event → SenderRecord
-written r s event = record r { pending = slice_set r.pending (s - length r.published) (Some event); half = None }
+written r s event = record r { sent = with_event r.sent s event; half = None }
 
 -- it has published every sequence below n
 abbrev pub published_to : SenderRecord → ℕ → SenderRecord
-published_to r n = record r {
-  published = r.published ++ map event_or_none (take (n - length r.published) r.pending);
-  pending = drop (n - length r.published) r.pending;
-}
+published_to r n = record r { sent = published_below r.sent n }
 
 abbrev pub sender_halted : SenderRecord → SenderRecord
 sender_halted r = record r { halted = true }
@@ -90,11 +84,11 @@ pub record HasRoom (k : Shape) (r : SenderRecord) (n : ℕ) : Type 0 where
 
 -- a sequence is claimed, and not yet published
 abbrev pub IsOpen : SenderRecord → ℕ → Type 0
-IsOpen r s = (length r.published ≤ s) × (s < claimed r)
+IsOpen r s = (length r.sent.published ≤ s) × (s < claimed r)
 
 -- every open sequence below n is written
 abbrev pub AreWritten : SenderRecord → ℕ → Type 0
-AreWritten r n = (s : ℕ) → length r.published ≤ s → s < n → (event : Event) × (slice_index_or r.pending (s - length r.published) None ≡ Some event)
+AreWritten r n = (s : ℕ) → length r.sent.published ≤ s → s < n → (event : Event) × (slice_index_or r.sent.pending (s - length r.sent.published) None ≡ Some event)
 
 -- the next event of a receiver is below its barrier, as far as it saw: each upstream completed it or, where there is none, it is published
 pub record IsBelowBarrier (k : Shape) (h : ℕ) (r : ReceiverRecord) : Type 0 where

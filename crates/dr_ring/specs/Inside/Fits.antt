@@ -1,19 +1,19 @@
 -- What the fields of an end have to do with what it knows.
 use Rattle.std.specs.Prelude.{◌≡◌, ℕ, ◌+◌, ◌%◌, ◌<◌, ◌≤◌, ◌==◌, is_some, List, length, slice_index, slice_index_or, None, Contains}
 use Rattle.dr_graph.specs.Graph.{finals}
-use Rattle.dr_ring.specs.Shape.{handlers_of}
-use Rattle.dr_ring.specs.Plans.{IsPlan}
-use Rattle.dr_ring.specs.Words.{count_word}
+use Rattle.dr_ring.specs.Meaning.Shape.{handlers_of}
+use Rattle.dr_ring.specs.Calls.Plans.{IsPlan}
+use Rattle.dr_ring.specs.Meaning.Words.{count_word}
 use Rattle.dr_ring.specs.declared.settled.HandlerCounts.{HandlerCounts}
 use Rattle.dr_ring.specs.declared.record.SenderRecord.{SenderRecord}
 use Rattle.dr_ring.specs.declared.record.ReceiverRecord.{ReceiverRecord}
-use Rattle.dr_ring.specs.Ends.{claimed, last_look}
+use Rattle.dr_ring.specs.Meaning.Records.{claimed, last_look}
 
 -- the marks show what is written: one more than an open sequence stands at its slot exactly where it is written
 pub record Marked (size : ℕ) (r : SenderRecord) (ms : List ℕ) : Type 0 where
   pub slots : length ms ≡ size
   pub low : (j : ℕ) → slice_index ms j ≤ claimed r
-  pub each : (i : ℕ) → i < length r.pending → (slice_index ms ((length r.published + i) % size) == length r.published + i + 1) ≡ is_some (slice_index_or r.pending i None)
+  pub each : (i : ℕ) → i < length r.sent.pending → (slice_index ms ((length r.sent.published + i) % size) == length r.sent.published + i + 1) ≡ is_some (slice_index_or r.sent.pending i None)
 
 -- each final handler was seen to have completed so many
 abbrev pub IsSeenLeast : SenderRecord → ℕ → Type 0
@@ -24,7 +24,7 @@ pub record SenderFits (r : SenderRecord) (n p remembered : ℕ) (ms : List ℕ) 
   pub made : IsPlan r.plan
   pub whole : r.half ≡ None
   pub next : n ≡ claimed r
-  pub front : p ≡ length r.published
+  pub front : p ≡ length r.sent.published
   pub limit : n ≤ r.plan.limit
   pub near : n ≤ r.plan.size + p
   pub least : remembered ≤ p

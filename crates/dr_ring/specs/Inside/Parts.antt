@@ -3,14 +3,24 @@ use Rattle.std.specs.Prelude.{◌≡◌, ◌≢◌, ℕ, ◌+◌, ◌%◌, ◌<�
 use Rattle.dr_core.specs.declared.command.Polled.{Polled}
 use Rattle.dr_core.specs.declared.command.Polled.TheVariants.{Drained, Gating, Idle}
 use Rattle.dr_graph.specs.Graph.{upstreams_of, finals}
-use Rattle.dr_ring.specs.Shape.{Shape}
-use Rattle.dr_ring.specs.Words.{cursor_word, count_word}
+use Rattle.dr_ring.specs.Meaning.Shape.{Shape}
+use Rattle.dr_ring.specs.Meaning.Words.{cursor_word, count_word}
 use Rattle.dr_ring.specs.declared.record.Look.{Look}
 use Rattle.dr_ring.specs.declared.record.SenderRecord.{SenderRecord}
 use Rattle.dr_ring.specs.declared.record.ReceiverRecord.{ReceiverRecord}
-use Rattle.dr_ring.specs.Ends.{last_look}
-use Rattle.dr_ring.specs.Calls.{sender_saw, count_looks, offered_by}
-use Rattle.dr_ring.specs.Fits.{IsSeenLeast}
+use Rattle.dr_ring.specs.Meaning.Records.{last_look}
+use Rattle.dr_core.specs.Ends.{with_claimed}
+use Rattle.dr_ring.specs.Calls.Ends.{count_looks}
+use Rattle.dr_ring.specs.Calls.Receiving.{offered_by}
+use Rattle.dr_ring.specs.Inside.Fits.{IsSeenLeast}
+
+-- the sender has made these looks more
+abbrev pub sender_saw : SenderRecord → List Look → SenderRecord
+sender_saw r seen = record r { looks = r.looks ++ seen }
+
+-- and claimed n more
+abbrev pub more_claimed : SenderRecord → ℕ → SenderRecord
+more_claimed r n = record r { sent = with_claimed r.sent n }
 
 -- the lesser of a count and those seen before, or the count where it is the first
 abbrev pub lesser_of : Bool → ℕ → ℕ → ℕ
@@ -24,7 +34,7 @@ pub record LooksAtFinals (r : SenderRecord) (xs : List Look) (r' : SenderRecord)
 -- every count was at least what was needed, or what was remembered served
 pub record IsEnough (r : SenderRecord) (xs : List Look) (needed least : ℕ) : Type 0 where
   pub enough : needed ≤ least
-  pub front : least ≤ length r.published
+  pub front : least ≤ length r.sent.published
   pub seen : IsSeenLeast (sender_saw r xs) least
   pub counts : List ℕ
   pub are : xs ≡ count_looks (finals r.plan.upstreams) counts

@@ -5,9 +5,9 @@ use lib.ListN.{get_elem?}
 use Rattle.dr_seq.specs.declared.event.Event.{Event}
 use Rattle.dr_seq.specs.Event.{no_event}
 use Rattle.dr_graph.specs.Graph.{upstreams_of, finals, IsGraph}
-use Rattle.dr_ring.specs.Shape.{Shape, handlers_of}
-use Rattle.dr_ring.specs.Words.{cursor_word, closed_word, halt_word, count_word, payload_start, payload_word, words_of}
-use Rattle.dr_ring.specs.Ends.{claimed}
+use Rattle.dr_ring.specs.Meaning.Shape.{Shape, handlers_of}
+use Rattle.dr_ring.specs.Meaning.Words.{cursor_word, closed_word, halt_word, count_word, payload_start, payload_word, words_of}
+use Rattle.dr_ring.specs.Meaning.Records.{claimed}
 use Rattle.dr_ring.specs.declared.record.Look.{Look}
 use Rattle.dr_ring.specs.declared.record.HalfWrite.{HalfWrite}
 use Rattle.dr_ring.specs.declared.record.SenderRecord.{SenderRecord}
@@ -85,9 +85,9 @@ pub record Kept (k : Shape) (w : World) : Type 0 where
   pub ends : length w.receivers ≡ handlers_of k
   pub sender_plan : w.sender.plan ≡ k
   pub halter_plan : w.halter.plan ≡ k
-  pub counts : Counts k w.words (length w.sender.published) (claimed w.sender)
-  pub received : (h : ℕ) (r : ReceiverRecord) → get_elem? w.receivers h ≡ some r → ReceiverKept k w.words w.sender.published h r
+  pub counts : Counts k w.words (length w.sender.sent.published) (claimed w.sender)
+  pub received : (h : ℕ) (r : ReceiverRecord) → get_elem? w.receivers h ≡ some r → ReceiverKept k w.words w.sender.sent.published h r
   pub room : Room k w.words (claimed w.sender)
-  pub payload : Payload k w.words w.sender.published w.sender.pending w.sender.half
-  pub flags : HaltAndClose w.words (length w.sender.pending) w.sender.halted w.sender.closed w.halter.halted
+  pub payload : Payload k w.words w.sender.sent.published w.sender.sent.pending w.sender.half
+  pub flags : HaltAndClose w.words (length w.sender.sent.pending) w.sender.halted w.sender.closed w.halter.halted
   pub looks : ArePast k w.words w.sender.looks

@@ -3,21 +3,11 @@ use Rattle.std.specs.Prelude.{◌≡◌, ℕ, if◌then◌else◌, List, [], map
 use Rattle.dr_core.specs.OpenFault.{is_bad_limit}
 use Rattle.atomic_table.specs.Seated.{TableId}
 use Rattle.dr_ring.specs.declared.record.ReceiverRecord.{ReceiverRecord}
-use Rattle.dr_ring.specs.declared.record.EndRecord.TheVariants.{Receives}
 use Rattle.dr_ring.specs.declared.fault.RingFault.{RingFault}
 use Rattle.dr_ring.specs.declared.fault.RingFault.TheVariants.{BadLimit, NoMemory}
-use Rattle.dr_ring.specs.Shape.{Shape, handlers_of}
-use Rattle.dr_ring.specs.Moments.{fresh_sender, fresh_receivers, fresh_halter}
-use Rattle.dr_ring.specs.Seats.{Known, Sitting}
-use Rattle.dr_ring.specs.Stations.{SenderEnd, ReceiverEnd, HalterEnd}
-
--- the records of n receivers from the number h on
-abbrev pub receivers_known : Shape → ℕ → ℕ → Known
-receivers_known k h n = map (λ r. Receives r) (fresh_receivers k h n)
-
--- the seat that stands for them all, before any of them steps
-abbrev pub receivers_seat : Shape → ℕ → ℕ → Sitting
-receivers_seat k h n = (record { ends = receivers_known k h n; pasts = map (λ r. []) (fresh_receivers k h n) }, [])
+use Rattle.dr_ring.specs.Meaning.Shape.{Shape, handlers_of}
+use Rattle.dr_ring.specs.Meaning.Moments.{fresh_sender, fresh_receivers, fresh_halter}
+use Rattle.dr_ring.specs.Calls.Ends.{SenderEnd, ReceiverEnd, HalterEnd}
 
 -- a receiver of a new ring
 abbrev pub at_ring : TableId → ReceiverRecord → ReceiverEnd

@@ -3,15 +3,15 @@ use Rattle.std.specs.Prelude.{◌≡◌, ℕ, ◌<◌, ◌≤◌, true, [], leng
 use mathlib.Core.Option.{some}
 use lib.ListN.{get_elem?}
 use Rattle.dr_graph.specs.Graph.{upstreams_of, finals}
-use Rattle.dr_ring.specs.Shape.{Shape}
-use Rattle.dr_ring.specs.Words.{cursor_word, closed_word, halt_word, count_word, payload_word}
+use Rattle.dr_ring.specs.Meaning.Shape.{Shape}
+use Rattle.dr_ring.specs.Meaning.Words.{cursor_word, closed_word, halt_word, count_word, payload_word}
 use Rattle.dr_ring.specs.declared.record.HalfWrite.{HalfWrite}
 use Rattle.dr_ring.specs.declared.record.Step.{Step}
 use Rattle.dr_ring.specs.declared.record.Step.TheVariants.{SenderLooksAtCount, SenderLooksAtHalt, SenderStoresFirst, SenderStoresSecond, SenderPublishes, SenderHalts, SenderCloses, ReceiverLooksAtClosed, ReceiverLooksAtCursor, ReceiverLooksAtCount, ReceiverLoadsFirst, ReceiverLoadsSecond, ReceiverCompletes, HalterHalts}
 use Rattle.dr_ring.specs.declared.record.SenderRecord.{SenderRecord}
 use Rattle.dr_ring.specs.declared.record.ReceiverRecord.{ReceiverRecord}
-use Rattle.dr_ring.specs.Ends.{claimed, sender_looked, halt_looked, half_written, written, published_to, sender_halted, sender_closed, receiver_looked, cursor_looked, half_taken, took, completed_to, halter_halted, HasRoom, IsOpen, AreWritten, IsBelowBarrier}
-use Rattle.dr_ring.specs.Kept.{World}
+use Rattle.dr_ring.specs.Meaning.Records.{claimed, sender_looked, halt_looked, half_written, written, published_to, sender_halted, sender_closed, receiver_looked, cursor_looked, half_taken, took, completed_to, halter_halted, HasRoom, IsOpen, AreWritten, IsBelowBarrier}
+use Rattle.dr_ring.specs.Meaning.Kept.{World}
 
 -- the sender's record changes, and no word
 abbrev pub sender_knows : World → SenderRecord → World
@@ -42,10 +42,10 @@ Happens k (SenderStoresFirst s first) w w' =
 Happens k (SenderStoresSecond second) w w' =
     (x : HalfWrite) × (w.sender.half ≡ Some x) × (w' ≡ sender_stores w (payload_word k x.sequence 1) second (written w.sender x.sequence record { first = x.first; second = second }))
 Happens k (SenderPublishes n) w w' =
-    (length w.sender.published < n) × (n ≤ claimed w.sender) × AreWritten w.sender n × (w.sender.half ≡ None) × (w' ≡ sender_stores w cursor_word n (published_to w.sender n))
+    (length w.sender.sent.published < n) × (n ≤ claimed w.sender) × AreWritten w.sender n × (w.sender.half ≡ None) × (w' ≡ sender_stores w cursor_word n (published_to w.sender n))
 Happens k SenderHalts w w' = w' ≡ sender_stores w halt_word 1 (sender_halted w.sender)
 Happens k SenderCloses w w' =
-    (w.sender.halted ≡ true) × (w.sender.pending ≡ []) × (w' ≡ sender_stores w closed_word 1 (sender_closed w.sender))
+    (w.sender.halted ≡ true) × (w.sender.sent.pending ≡ []) × (w' ≡ sender_stores w closed_word 1 (sender_closed w.sender))
 Happens k (ReceiverLooksAtClosed h) w w' =
     ByReceiver w h (λ r. w' ≡ receiver_knows w h (receiver_looked r closed_word (slice_index w.words closed_word)))
 Happens k (ReceiverLooksAtCursor h) w w' = ByReceiver w h (λ r. w' ≡ receiver_knows w h (cursor_looked r (slice_index w.words cursor_word)))
