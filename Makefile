@@ -26,7 +26,7 @@ test:
 	tests/gate.sh
 
 check:
-	@test -d "crates/$(CRATE)/src" || { echo 'name a crate, as in: make check CRATE=dr_core'; exit 1; }
+	$(if $(wildcard crates/$(or $(CRATE),none)/src),,$(error name a crate, as in: make check CRATE=dr_core))
 	cd crates/$(CRATE) && rt check
 
 bench:
