@@ -9,15 +9,15 @@
 #![tactic(auto)]
 
 mod claiming;
-pub mod fault;
+mod fault;
 pub mod laws;
-pub mod opening;
-pub mod plan;
+mod opening;
+mod plan;
 mod polling;
-pub mod receiver;
+mod receiver;
 pub mod record;
-pub mod sender;
-pub mod settled;
+mod sender;
+mod settled;
 
 pub use fault::RingFault;
 pub use laws::Halter;

@@ -34,7 +34,7 @@ impl Model for Sender {
 
     ghost view = { λ s. s.station };
 
-    ghost invariant = { λ s. SenderFits s.station.knows s.claimed s.published s.gate s.marks.items s.counts.items };
+    ghost invariant = { λ s. SenderFits s.station.knows (record { claimed = s.claimed; published = s.published; remembered = s.gate; marks = s.marks.items; rooms = s.counts.items }) };
 }
 
 impl Sender {

@@ -19,19 +19,25 @@ pub record Marked (size : ℕ) (r : SenderRecord) (ms : List ℕ) : Type 0 where
 abbrev pub IsSeenLeast : SenderRecord → ℕ → Type 0
 IsSeenLeast r least = (f : ℕ) → Contains (finals r.plan.upstreams) f → least ≤ last_look 0 r.looks (count_word f)
 
--- a sender's numbers of claimed and published sequences, the least count that it remembers, its marks and its room for the handlers' counts
-pub record SenderFits (r : SenderRecord) (n p remembered : ℕ) (ms : List ℕ) (rooms : List HandlerCounts) : Type 0 where
+-- a sender's numbers of claimed and published sequences, the least count that it remembers, its marks, and its room for the handlers' counts for the time when the ends come together
+pub record SenderFields : Type 0 where
+  pub claimed : ℕ
+  pub published : ℕ
+  pub remembered : ℕ
+  pub marks : List ℕ
+  pub rooms : List HandlerCounts
+
+pub record SenderFits (r : SenderRecord) (f : SenderFields) : Type 0 where
   pub made : IsPlan r.plan
   pub whole : r.half ≡ None
-  pub next : n ≡ claimed r
-  pub front : p ≡ length r.sent.published
-  pub limit : n ≤ r.plan.limit
-  pub near : n ≤ r.plan.size + p
-  pub least : remembered ≤ p
-  pub seen : IsSeenLeast r remembered
-  pub marks : Marked r.plan.size r ms
-  -- room for each handler's counts, for the time when the ends come together
-  pub places : length rooms ≡ handlers_of r.plan
+  pub next : f.claimed ≡ claimed r
+  pub front : f.published ≡ length r.sent.published
+  pub limit : f.claimed ≤ r.plan.limit
+  pub near : f.claimed ≤ r.plan.size + f.published
+  pub least : f.remembered ≤ f.published
+  pub seen : IsSeenLeast r f.remembered
+  pub marks : Marked r.plan.size r f.marks
+  pub places : length f.rooms ≡ handlers_of r.plan
 
 pub record ReceiverFits (r : ReceiverRecord) (n done : ℕ) : Type 0 where
   pub half : r.half ≡ None

@@ -65,7 +65,6 @@ impl SenderStation {
         ensures step { HasLoaded self.old (halt_looked self.old.knows more result) self.new }
         ensures finds { FindsHalt self.old.knows result }
     {
-        let _more = more;
         self.looks = self.looks.saturating_add(1);
         let words = &self.ring.table.shared;
         words.load::<Brand>(&mut self.seat, HALT_WORD)

@@ -14,4 +14,4 @@ pub load-requires : goal.load-requires
 load-requires c =
     let has = subst (λ (e : ReceiverEnd). Contains (upstreams_of e.knows.plan.upstreams e.knows.number) c.args.upstream) (sym c.self.view_is) c.requires in
     let below = c.self.invariant.made.graph.layered _ _ has in
-    (search rules, search rules, receiver_looks_at_count _ _ _ _ _ _ _ _ c.count_word.ensures c.self.invariant.end refl refl has)
+    (search rules, search rules, receiver_looks_at_count _ _ _ _ _ _ c.count_word.ensures c.self.invariant.end refl refl has)

@@ -20,5 +20,5 @@ load-requires c =
     let handlers = ap (λ (k : Shape). handlers_of k) c.self.invariant.plan in let at = c.self.invariant.table.1 in let word = c.count_word.ensures in (
       search rules,
       subst (λ r. c.count_word.result < r.table.shared.table_id.words) (sym c.deref.ensures) (omega arith),
-      sender_looks_at_count _ _ _ _ _ _ c.args.handler c.count_word.ensures c.self.invariant.end refl has,
+      sender_looks_at_count _ _ _ _ c.args.handler c.count_word.ensures c.self.invariant.end refl has,
     )

@@ -10,4 +10,4 @@ store-requires g c =
     let own = subst (λ (e : SenderEnd). IsOpen e.knows c.args.sequence) (sym c.self.view_is) c.requires.own in
     let whole = subst (λ (e : SenderEnd). e.knows.half ≡ None) (sym c.self.view_is) c.requires.whole in
     let place = c.payload_word-word.ensures.place ∙ ap (λ r. payload_word r.plan c.args.sequence 0) c.deref.ensures in
-    (search rules, search rules, sender_stores_first _ _ _ _ _ _ c.args.sequence _ _ c.requires.named place c.self.invariant.end c.self.invariant.plan own whole)
+    (search rules, search rules, sender_stores_first _ _ _ _ c.args.sequence _ _ c.requires.named place c.self.invariant.end c.self.invariant.plan own whole)

@@ -8,7 +8,7 @@ pub store-requires : goal.store-requires
 store-requires c =
     let half = subst (λ (e : SenderEnd). e.knows.half ≡ Some record { sequence = c.args.sequence; first = c.args.event.first }) (sym c.self.view_is) c.requires in
     let place = c.payload_word-word.ensures.place ∙ ap (λ r. payload_word r.plan c.args.sequence 1) c.deref.ensures in
-    (search rules, search rules, sender_stores_second _ _ _ _ _ _ c.args.sequence c.args.event.first _ place c.self.invariant.end c.self.invariant.plan half)
+    (search rules, search rules, sender_stores_second _ _ _ _ c.args.sequence c.args.event.first _ place c.self.invariant.end c.self.invariant.plan half)
 
 pub invariant_of-self : goal.invariant_of-self
 invariant_of-self c =

@@ -1,5 +1,5 @@
--- What a publication answers, by the tests of its stretch.
-use Rattle.std.proofs.Common.{◌≡◌, ℕ, zero, suc, ◌+◌, ◌-◌, ◌<◌, ◌≤◌, inl, inr, not, List, [], ◌∷◌, ◌++◌, Option, Some, None, length, arith, refl, ap, add-zero}
+-- What a publication answers, by the tests of its stretch, and when its sequences are ready.
+use Rattle.std.proofs.Common.{◌≡◌, ℕ, zero, suc, ◌+◌, ◌-◌, ◌<◌, ◌≤◌, inl, inr, not, List, [], ◌∷◌, ◌++◌, Option, Some, None, length, arith, refl, ap, add-zero, get_or, sym, subst, ◌∙◌}
 use Rattle.std.specs.Prelude.{◌==◌, is_none, flat_map, slice_index_or, Ok, Err}
 use Rattle.std.specs.List.{range_with_len}
 use Rattle.std.proofs.lemmas.Bool.{cases_Bool, lt-ltb, le-ltb, lt-leb, eq-eqb, ne_eqb}
@@ -8,10 +8,14 @@ use Rattle.dr_core.specs.declared.refusal.Refusal.{Refusal}
 use Rattle.dr_core.specs.declared.refusal.Refusal.TheVariants.{AlreadyPublished, NotWritten, OutOfOrder}
 use Rattle.dr_core.specs.Refusals.{sequence_causes, NoneHolds, IsFirst}
 use Rattle.dr_core.specs.declared.ends.Trouble.TheVariants.{Refused}
-use Rattle.dr_core.specs.Ends.{Verdict, Exactly, MayHold, MayFail, sequence_tests, PublishAnswers}
+use Rattle.dr_core.specs.Ends.{Verdict, Exactly, MayHold, MayFail, sequence_tests, PublishAnswers, Sent, published_below}
 use Rattle.dr_core.proofs.Causes.{none_join, first_left, first_right, none_of_stretch, first_of_stretch}
 use Rattle.dr_ring.specs.declared.record.SenderRecord.{SenderRecord}
-use Rattle.dr_ring.specs.Meaning.Records.{claimed}
+use Rattle.dr_ring.specs.Meaning.Records.{claimed, published_to, AreWritten}
+use Rattle.dr_ring.specs.Calls.Sending.{TriesToPublish}
+use Rattle.dr_ring.specs.Inside.Parts.{AreMarked, HasUnmarked}
+use Rattle.dr_ring.specs.Inside.Fits.{SenderFields, SenderFits}
+use Rattle.dr_ring.proofs.Marks.{marked_written, unmarked_open}
 
 -- the event of an open sequence, once it is written
 abbrev open_at : SenderRecord → ℕ → Option Event
@@ -78,3 +82,30 @@ module _ (r : SenderRecord) where
       past lo hi OutOfOrder order within (first_right MayHold MayFail OutOfOrder (flat_map causes_of (range_with_len lo (hi + 1 - lo))) _
       (stretch_written lo (hi + 1 - lo) (omega arith) (λ s low high. all s low (omega arith)))
       (inl (ap not (ne_eqb lo (length r.sent.published) (λ e. absurd (omega arith))), refl)))
+
+-- A sender that publishes from lo to hi: what is said of the sender is said of its end.
+module _ {r e : SenderRecord} {f : SenderFields} {lo hi : ℕ} (same : r ≡ e) (fits : SenderFits r f) (order : lo ≤ hi) (within : hi < f.claimed) (fresh : f.published ≤ lo) where
+  -- every sequence of a stretch that is all marked is written
+  ready : AreMarked f.marks r.plan.size lo (hi + 1) → (s : ℕ) → lo ≤ s → s ≤ hi → (v : Event) × (get_or r.sent.pending (s - length r.sent.published) None ≡ Some v)
+  ready all s after below = let next = fits.next in let front = fits.front in
+      marked_written r.plan.size r f.marks lo (hi + 1) fits.marks all (omega arith) (omega arith) s after (omega arith)
+
+  pub publish_ready : AreMarked f.marks r.plan.size lo (hi + 1) → lo ≤ f.published → AreWritten r (hi + 1)
+  publish_ready all ge s after below = let front = fits.front in ready all s (omega arith) (omega arith)
+
+  pub publish_unwritten : HasUnmarked f.marks r.plan.size lo (hi + 1) → TriesToPublish e lo hi e (Err NotWritten)
+  publish_unwritten has =
+      let next = fits.next in let front = fits.front in let from = has.1 in let to = has.2 in
+      let nothing = unmarked_open r.plan.size r f.marks has.0 fits.marks has.3 (omega arith) (omega arith) in
+      subst (λ (x : SenderRecord). TriesToPublish x lo hi x (Err NotWritten)) same (unwritten r lo hi has.0 (omega arith) (omega arith) from (omega arith) nothing, refl, refl)
+
+  pub publish_late : AreMarked f.marks r.plan.size lo (hi + 1) → f.published < lo → TriesToPublish e lo hi e (Err OutOfOrder)
+  publish_late all after = let next = fits.next in let front = fits.front in
+      subst (λ (x : SenderRecord). TriesToPublish x lo hi x (Err OutOfOrder)) same (out_of_order r lo hi order (omega arith) (omega arith) (ready all), refl, refl)
+
+  pub publish_done : (q : SenderRecord) → AreMarked f.marks r.plan.size lo (hi + 1) → lo ≤ f.published → q ≡ published_to r (hi + 1) → TriesToPublish e lo hi q (Ok tt)
+  publish_done q all ge new =
+      let next = fits.next in let front = fits.front in
+      let sent : q.sent ≡ published_below r.sent (hi + 1) = ap (λ (x : SenderRecord). x.sent) new in
+      subst (λ (x : SenderRecord). TriesToPublish x lo hi q (Ok tt)) same
+      (accepted r lo hi (omega arith) order (omega arith) (ready all), sent, new ∙ ap (λ (x : Sent). record r { sent = x }) (sym sent))
