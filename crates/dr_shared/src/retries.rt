@@ -15,7 +15,7 @@ pub(crate) fn claim<R: Wait, I: Inlet>(rt: &R, inlet: &mut I, n: u64) -> Result<
     ensures claimed { IfOk result (λ c. WhereShown (Claims n (Ok c)) (I.sent inlet.old) (I.sent inlet.new)) }
     ensures fault { OnErr result (I.sent inlet.new ≡ I.sent inlet.old) }
 {
-    let mut waiting = Waiting::new();
+    let mut waiting = Waiting::new(n);
     for _ in rt.forever() {
         match inlet.try_claim(n) {
             Err(Trouble::Refused(Refusal::NoRoom)) => waiting.wait(),
@@ -36,7 +36,7 @@ pub(crate) fn write<R: Wait, I: Inlet>(
     ensures written { OnOk result (WhereShown (Writes s event (Ok tt)) (I.sent inlet.old) (I.sent inlet.new)) }
     ensures fault { OnErr result (I.sent inlet.new ≡ I.sent inlet.old) }
 {
-    let mut waiting = Waiting::new();
+    let mut waiting = Waiting::new(1);
     for _ in rt.forever() {
         match inlet.write(s, event) {
             Err(Trouble::Memory) => waiting.wait(),
@@ -58,7 +58,7 @@ pub(crate) fn publish<R: Wait, I: Inlet>(
     ensures published { OnOk result (WhereShown (Publishes lo hi (Ok tt)) (I.sent inlet.old) (I.sent inlet.new)) }
     ensures fault { OnErr result (I.sent inlet.new ≡ I.sent inlet.old) }
 {
-    let mut waiting = Waiting::new();
+    let mut waiting = Waiting::new(1);
     for _ in rt.forever() {
         match inlet.publish(lo, hi) {
             Err(Trouble::Memory) => waiting.wait(),
@@ -75,7 +75,7 @@ pub(crate) fn complete<R: Wait, O: Outlet>(rt: &R, outlet: &mut O, upto: u64) ->
     ensures completed { OnOk result (WhereShown (Completes upto (Ok tt)) (O.received outlet.old) (O.received outlet.new)) }
     ensures fault { OnErr result (O.received outlet.new ≡ O.received outlet.old) }
 {
-    let mut waiting = Waiting::new();
+    let mut waiting = Waiting::new(1);
     for _ in rt.forever() {
         match outlet.complete(upto) {
             Err(Trouble::Memory) => waiting.wait(),
