@@ -5,6 +5,7 @@ use crate::{
 };
 use dr_core::{Claimed, Handler, Inlet, Outlet, Polled, Refusal, Trouble};
 use dr_seq::Event;
+use std::process::Abort;
 use std::sync::atomic::{AtomicU64, Ordering};
 use std::test::Fail;
 
