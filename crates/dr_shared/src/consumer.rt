@@ -18,8 +18,8 @@ use std::sync::Wait;
 
 // What a turn of a worker came to.
 enum Progress {
-    /// A batch was shown and completed.
-    Batch,
+    /// A batch of so many events was shown and completed.
+    Batch(u64),
     /// Nothing came.
     Nothing,
     /// The end was told that the exchange drained.
@@ -47,7 +47,7 @@ fn turn<R: Wait, O: Outlet, G: Gate, H: Handler>(
             show(handler, &buf[..count as usize], first, end);
             turns.pass(gate);
             complete(rt, outlet, first + count)?;
-            Ok(Progress::Batch)
+            Ok(Progress::Batch(count))
         }
         Ok(Polled::Drained) => Ok(Progress::Drained),
         Ok(Polled::Gating | Polled::Idle) | Err(Trouble::Memory) => Ok(Progress::Nothing),
@@ -76,10 +76,10 @@ pub fn consume<R: Wait, O: Outlet, G: Gate, H: Handler>(
     ensures stopped { result ≡ Some Stopped → G.may_stop gate.now who }
 {
     let mut turns = Turns::new(who);
-    let mut waiting = Waiting::new();
+    let mut waiting = Waiting::new(buf.len() as u64);
     for _ in rt.forever() {
         match turn(rt, outlet, gate, &mut turns, handler, buf) {
-            Ok(Progress::Batch) => waiting.restart(),
+            Ok(Progress::Batch(count)) => waiting.found(count),
             Ok(Progress::Nothing) => waiting.wait(),
             Ok(Progress::Drained) => return turns.at_end(),
             Err(trouble) => return Some(turns.in_trouble(trouble)),

@@ -16,7 +16,7 @@ pub(crate) fn claim<R: Wait, I: Inlet>(rt: &R, inlet: &mut I, n: u64) -> Result<
     ensures fault { OnErr result (I.sent inlet.new ≡ I.sent inlet.old) }
     ensures waits { result ≢ Err (Trouble.Refused Refusal.NoRoom) }
 {
-    let mut waiting = Waiting::new();
+    let mut waiting = Waiting::new(n);
     for _ in rt.forever() {
         match inlet.try_claim(n) {
             Err(Trouble::Refused(Refusal::NoRoom)) => waiting.wait(),
@@ -38,7 +38,7 @@ pub(crate) fn write<R: Wait, I: Inlet>(
     ensures fault { OnErr result (I.sent inlet.new ≡ I.sent inlet.old) }
     ensures waits { result ≢ Err Trouble.Memory }
 {
-    let mut waiting = Waiting::new();
+    let mut waiting = Waiting::new(1);
     for _ in rt.forever() {
         match inlet.write(s, event) {
             Err(Trouble::Memory) => waiting.wait(),
@@ -61,7 +61,7 @@ pub(crate) fn publish<R: Wait, I: Inlet>(
     ensures fault { OnErr result (I.sent inlet.new ≡ I.sent inlet.old) }
     ensures waits { result ≢ Err Trouble.Memory }
 {
-    let mut waiting = Waiting::new();
+    let mut waiting = Waiting::new(1);
     for _ in rt.forever() {
         match inlet.publish(lo, hi) {
             Err(Trouble::Memory) => waiting.wait(),
@@ -79,7 +79,7 @@ pub(crate) fn complete<R: Wait, O: Outlet>(rt: &R, outlet: &mut O, upto: u64) ->
     ensures fault { OnErr result (O.received outlet.new ≡ O.received outlet.old) }
     ensures waits { result ≢ Err Trouble.Memory }
 {
-    let mut waiting = Waiting::new();
+    let mut waiting = Waiting::new(1);
     for _ in rt.forever() {
         match outlet.complete(upto) {
             Err(Trouble::Memory) => waiting.wait(),
