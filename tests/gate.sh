@@ -17,6 +17,7 @@ for built in crates/disruptor/out/disruptor crates/disruptor/out/disruptor.by-ra
     if [ -f "$built" ]; then
         tests/program.sh "$built" || more=$((more + 1))
         tests/hostile/run.py "$built" || more=$((more + 1))
+        tests/hostile/refused.py "$built" || more=$((more + 1))
     elif [ "$status" = 0 ] && [ "$built" = crates/disruptor/out/disruptor ]; then
         echo "FAILED: rt ci left no $built"
         more=1
