@@ -5,7 +5,7 @@ use Rattle.dr_seq.specs.declared.event.Event.{Event}
 use Rattle.dr_replay.specs.EventFile.{events_from}
 use Rattle.dr_replay.specs.Outcome.{AppendsFront}
 use Rattle.dr_replay.specs.Records.{Record}
-use Rattle.dr_replay.specs.Report.{report_of}
+use Rattle.dr_accounts.specs.Report.{report_of}
 use Rattle.dr_replay.specs.declared.replay.fault.ReplayFault.{ReplayFault}
 use Rattle.dr_replay.specs.declared.replay.fault.ReplayFault.TheVariants as fault
 
@@ -71,10 +71,6 @@ FileFaultIs (fault.Worker who f) file = ⊥
 abbrev pub FileIs : {Z : Type 0} → Result (Vec Event Z) ReplayFault → Result (List Event) ℕ → Type 0
 FileIs (Ok events) file = file ≡ Ok events.items
 FileIs (Err e) file = FileFaultIs e file
-
--- the report of some events, or a lack of memory
-abbrev pub IsMemory : ReplayFault → Type 0
-IsMemory e = e ≡ fault.Memory
 
 -- no worker's, as on one thread
 abbrev pub IsNoWorkers : ReplayFault → Type 0

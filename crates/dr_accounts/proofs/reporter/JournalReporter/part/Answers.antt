@@ -1,0 +1,11 @@
+use Rattle.std.proofs.Common.{◌++◌, ◌∙◌, ap, sym}
+use Rattle.dr_shared.specs.Work.{events_of}
+use Rattle.dr_accounts.specs.Handlers.{journal_text}
+use Rattle.dr_accounts.proofs.Parts.{journal_shown}
+use Rattle.dr_accounts.proofs.Reports.{journal_says}
+use Rattle.dr_accounts.proofs.reporter.JournalReporter.part.Goals as goal
+
+pub returns : goal.returns
+returns c = λ first batches new through.
+    let it = c.args.self.now in
+    c.in_ok-append_to.ensures ∙ ap (λ l. l ++ journal_text it) c.new-text.ensures.bytes ∙ journal_says it (events_of batches) (journal_shown first it batches new through (sym c.is_failed.ensures ∙ c.if-is_failed.false))
