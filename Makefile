@@ -46,7 +46,7 @@ help:
 	@echo '                            a quarter of an hour from nothing, then seconds to minutes'
 	@echo '  make check CRATE=dr_core  proves one crate over what is kept: seconds, 1 to 5 minutes from nothing'
 	@echo '  make test                 the whole gate, from nothing: 65 to 90 minutes'
-	@echo '  make bench                events a second of core and ring: about 5 minutes'
+	@echo '  make bench                events a second of core and ring: some minutes, and many where other work runs'
 	@echo '  make hello DIR=../hello   starts a repository of your own in that folder, with a program over the'
 	@echo '                            ring, which is proved, built and run: some minutes'
 	@echo '  make clean                removes what was built, and what proofs are kept'

@@ -87,7 +87,8 @@ done
 run 0 "$(printf '%s\n' 'journal 3' 0,0,deposit,1,100 1,0,withdraw,1,40 2,0,withdraw,1,500 \
     'replica 3' 0001000100000064 0002000100000028 00020001000001f4 'business 3' 1,60,1)"$'\n' '' replay three_events.csv
 
-# Help.
+# Help, and the version, which names the kit that proved the program.
+run 0 "disruptor 0.1.0, proved with $(rt version)"$'\n' '' --version
 run 0 $'A verified LMAX Disruptor: producers and handlers over one ring of slots\n\nUsage: disruptor <COMMAND>\n*' '' --help
 run 0 $'Run a file of commands, and print one line a command\n\nUsage: disruptor drive <FILE>\n*' '' drive --help
 run 0 $'Replay a file of account movements, and print a report of them\n\nUsage: disruptor replay [OPTIONS] <FILE>\n*' '' replay --help
