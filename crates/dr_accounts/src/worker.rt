@@ -3,7 +3,7 @@
 ghost use Rattle.std.specs.Prelude.{◌≡◌};
 ghost use Rattle.dr_accounts.specs.Keeping.{Keeps, error_of};
 
-use crate::reporter::Reporter;
+use crate::reporter::{Reporter, part};
 use dr_ring::Receiver;
 use dr_seq::Event;
 use dr_shared::{Gate, WorkFault, consume};
@@ -76,7 +76,7 @@ pub fn work<R: Wait, G: Gate, P: Reporter>(
     let mut handler = P::begin(alloc);
     let mut buf = [Event::NONE; BATCH];
     let fault = consume(rt, &mut receiver, gate, who, &mut handler, &mut buf);
-    let part = match (handler.part(alloc), fault) {
+    let part = match (part(&handler, alloc), fault) {
         (Err(_), _) => Err(WorkFault::Memory),
         (Ok(_), Some(fault)) => Err(fault),
         (Ok(text), None) => Ok(text),
