@@ -3,9 +3,9 @@ program := crates/disruptor
 log := make.log
 sources = $(shell find crates \( -name '*.rt' -o -name '*.antt' \) -not -path '*/out/*')
 
-.PHONY: all run test check bench hello clean help
+.PHONY: all run test check bench bench-plots hello clean help
 
-ifneq ($(filter-out help clean,$(or $(MAKECMDGOALS),all)),)
+ifneq ($(filter-out help clean bench-plots,$(or $(MAKECMDGOALS),all)),)
 ifeq ($(shell command -v rt),)
 $(error rt is not on the path: install the Rattle kit of README.md, and put its folder bin on the path)
 endif
@@ -33,6 +33,9 @@ bench:
 	@tools/prove.sh $(log) disruptor_bench --list
 	bench/exchanges.py table
 
+bench-plots:
+	bench/plots.py
+
 hello:
 	examples/hello.sh $(DIR)
 
@@ -47,6 +50,7 @@ help:
 	@echo '  make check CRATE=dr_core  proves one crate over what is kept: seconds, 1 to 5 minutes from nothing'
 	@echo '  make test                 the whole gate, from nothing: 65 to 90 minutes'
 	@echo '  make bench                events a second of core and ring: some minutes, and many where other work runs'
+	@echo '  make bench-plots          draws what bench/measured holds, as docs/pictures: seconds'
 	@echo '  make hello DIR=../hello   starts a repository of your own in that folder, with a program over the'
 	@echo '                            ring, which is proved, built and run: some minutes'
 	@echo '  make clean                removes what was built, and what proofs are kept'

@@ -4,11 +4,13 @@
     bench/bench.py                    all rows
     bench/bench.py drive              10 thousand and a million commands at sizes 64 and 65,536
     bench/bench.py replay             a million events of all kinds at sizes 1, 1024 and 65,536
+    bench/bench.py lengths            both tools on files of a thousand to a million records, at size 1024
 
 `--program PATH` names another program than ./disruptor, and `--runs N` another number of runs than
 five. Both programs run in turns. Seconds are processor time, of user and system, since other work on
 the machine then counts for little: the median of the runs. Memory is the greatest peak. Before it is
-timed, a row's output is compared.
+timed, a row's output is compared. `--record FILE` also writes the seconds to a file, as those of
+bench/measured, which bench/plots.py draws.
 """
 
 import argparse
@@ -18,6 +20,8 @@ import statistics
 import subprocess
 import sys
 import tempfile
+
+from records import SECONDS, Records
 
 TOP = os.path.dirname(os.path.dirname(os.path.abspath(__file__)))
 PLAIN = os.path.join(TOP, "bench", "plain", "plain.rs")
@@ -96,45 +100,66 @@ def check_equal(programs):
         sys.exit(f"{' '.join(programs[0])} and {' '.join(programs[1])} differ")
 
 
-def row(name, size, count, programs, runs, note):
-    check_equal(programs)
-    (seconds, peak), (plain_seconds, plain_peak) = measure(programs, runs, note)
-    print(
-        f"| {name} | {size} | {count} | {seconds:.3f} | {count / seconds:.0f} | {peak / 1024:.1f}"
-        f" | {plain_seconds:.3f} | {count / plain_seconds:.0f} | {plain_peak / 1024:.1f}"
-        f" | {seconds / plain_seconds:.2f} | {peak / plain_peak:.2f} |",
-        flush=True,
-    )
+class Bench:
+    """The two programs, and what both are given."""
+
+    def __init__(self, given, folder):
+        self.folder = folder
+        self.program = given.program
+        self.plain = build_plain(folder)
+        self.runs = given.runs
+        self.records = Records(given.record, SECONDS, f"processor time, the median of {given.runs} runs")
+
+    def row(self, tool, size, count, path):
+        sized = ["--size", str(size)] if tool == "replay" else []
+        programs = [[self.program, tool] + sized + [path], [self.plain, tool, path]]
+        check_equal(programs)
+        taken = measure(programs, self.runs, os.path.join(self.folder, "peak"))
+        (seconds, peak), (plain_seconds, plain_peak) = taken
+        print(
+            f"| {tool} | {size} | {count} | {seconds:.3f} | {count / seconds:.0f} | {peak / 1024:.1f}"
+            f" | {plain_seconds:.3f} | {count / plain_seconds:.0f} | {plain_peak / 1024:.1f}"
+            f" | {seconds / plain_seconds:.2f} | {peak / plain_peak:.2f} |",
+            flush=True,
+        )
+        self.records.add(tool, size, count, "ours", f"{seconds:.4f}")
+        self.records.add(tool, size, count, "plain", f"{plain_seconds:.4f}")
 
 
-def drive_rows(folder, program, plain, runs):
+def drive_rows(bench):
     for size in (64, 65536):
         for count in (10_000, 1_000_000):
-            path = write_file(folder, "commands.csv", commands(size, count))
-            programs = [[program, "drive", path], [plain, "drive", path]]
-            row("drive", size, count, programs, runs, os.path.join(folder, "peak"))
+            bench.row("drive", size, count, write_file(bench.folder, "commands.csv", commands(size, count)))
 
 
-def replay_rows(folder, program, plain, runs):
-    path = write_file(folder, "events.csv", events(1_000_000))
+def replay_rows(bench):
+    path = write_file(bench.folder, "events.csv", events(1_000_000))
     for size in (1, 1024, 65536):
-        programs = [[program, "replay", "--size", str(size), path], [plain, "replay", path]]
-        row("replay", size, 1_000_000, programs, runs, os.path.join(folder, "peak"))
+        bench.row("replay", size, 1_000_000, path)
+
+
+def length_rows(bench):
+    for count in (1_000, 10_000, 100_000, 1_000_000):
+        bench.row("drive", 1024, count, write_file(bench.folder, "commands.csv", commands(1024, count)))
+        bench.row("replay", 1024, count, write_file(bench.folder, "events.csv", events(count)))
+
+
+ROWS = {"drive": drive_rows, "replay": replay_rows, "lengths": length_rows}
 
 
 def main():
     parser = argparse.ArgumentParser(description=__doc__, formatter_class=argparse.RawTextHelpFormatter)
-    parser.add_argument("tool", nargs="?", choices=["drive", "replay"])
+    parser.add_argument("rows", nargs="?", choices=ROWS)
     parser.add_argument("--program", default="./disruptor")
     parser.add_argument("--runs", type=int, default=5)
+    parser.add_argument("--record", metavar="FILE")
     given = parser.parse_args()
     print(f"{HEAD}\n|{'---|' * (HEAD.count('|') - 1)}", flush=True)
     with tempfile.TemporaryDirectory() as folder:
-        plain = build_plain(folder)
-        if given.tool != "replay":
-            drive_rows(folder, given.program, plain, given.runs)
-        if given.tool != "drive":
-            replay_rows(folder, given.program, plain, given.runs)
+        bench = Bench(given, folder)
+        for name in [given.rows] if given.rows else ROWS:
+            ROWS[name](bench)
+        bench.records.save()
 
 
 if __name__ == "__main__":

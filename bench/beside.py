@@ -11,6 +11,7 @@ the library are there (Debian's package libdisruptor-java; `--lmax JAR` names an
 turns, `--turns N` times (three without it), each for `--rounds N` rounds of one short stretch, of which the
 one in the middle counts; the best of a program's turns is taken. `--under WORDS` starts each run by these
 words, as 'chrt -r 10' (other work on the machine then counts for less) or 'taskset -c 0,1'.
+`--record FILE` also writes the rates to a file, as those of bench/measured, which bench/plots.py draws.
 """
 
 import argparse
@@ -21,6 +22,7 @@ import sys
 import tempfile
 
 from exchanges import PROGRAM, TOP
+from records import RATES, Records
 
 PLAIN = os.path.join(TOP, "bench", "plain", "exchanges", "main.rs")
 LMAX = os.path.join(TOP, "bench", "lmax", "Lmax.java")
@@ -35,6 +37,8 @@ class Programs:
 
     def __init__(self, given, folder):
         self.given = given
+        manner = f"{given.under}, {given.rounds} rounds, the best of {given.turns} turns".removeprefix(", ")
+        self.records = Records(given.record, RATES, manner)
         self.words = {"ours": [given.program]}
         plain = os.path.join(folder, "exchanges")
         subprocess.run(["rustc", "--edition", "2021", "-O", "-o", plain, PLAIN], check=True)
@@ -66,7 +70,10 @@ class Programs:
             for kind in kinds:
                 rate = self.rate(kind, topology, size)
                 best[kind] = max(filter(None, (rate, best[kind])), default=None)
-        return [best[kind] for kind in kinds]
+        for kind, rate in best.items():
+            if rate is not None:
+                self.records.add(topology, size, kind, f"{rate:.2f}")
+        return list(best.values())
 
 
 def shown(rate):
@@ -117,6 +124,7 @@ def main():
     parser.add_argument("--rounds", type=int, default=101)
     parser.add_argument("--turns", type=int, default=3)
     parser.add_argument("--patience", type=float, default=60, help="seconds that a run has")
+    parser.add_argument("--record", metavar="FILE")
     given = parser.parse_args()
     with tempfile.TemporaryDirectory() as folder:
         programs = Programs(given, folder)
@@ -124,6 +132,7 @@ def main():
             table(programs)
         else:
             grow(programs, given.what, steps(given.what))
+        programs.records.save()
 
 
 if __name__ == "__main__":

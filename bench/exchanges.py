@@ -8,8 +8,9 @@
 change. `--seconds S` and `--rounds N` are those of `disruptor_bench`: without them 101 rounds of one
 stretch, each so short that most of them run undisturbed by other work on the machine. Each rate is
 the best of `--turns N` such runs, three without it. `--only WORD` leaves only topologies whose names
-begin with it. The program is built by `rt run -- --list` in its crate's folder, which leaves it where
-this script looks for it.
+begin with it. `--record FILE` also writes a table of one program to a file, as those of bench/measured,
+which bench/plots.py draws. The program is built by `rt run -- --list` in its crate's folder, which leaves
+it where this script looks for it.
 """
 
 import argparse
@@ -17,6 +18,8 @@ import os
 import re
 import subprocess
 import tempfile
+
+from records import RATES, Records
 
 TOP = os.path.dirname(os.path.dirname(os.path.abspath(__file__)))
 PROGRAM = os.path.join(TOP, "crates", "disruptor_bench", "out", "disruptor_bench")
@@ -56,9 +59,13 @@ def print_head(programs):
 
 def table(given):
     print_head(given.program)
+    records = Records(given.record, RATES, f"{given.rounds} rounds, the best of {given.turns} turns")
     for topology in topologies(given.program[0], given.only):
-        rates = [best for size in SIZES for best in best_rates(topology, size, given)]
-        print(f"| {topology} | {' | '.join(f'{r:,}' for r in rates)} |", flush=True)
+        rates = [best_rates(topology, size, given) for size in SIZES]
+        print(f"| {topology} | {' | '.join(f'{r:,}' for best in rates for r in best)} |", flush=True)
+        for size, best in zip(SIZES, rates):
+            records.add(topology, size, "ours", f"{best[0] / 1e6:.2f}")
+    records.save()
 
 
 def counted(program, topology, size, rounds, folder):
@@ -94,8 +101,11 @@ def main():
     parser.add_argument("--rounds", type=int, default=101)
     parser.add_argument("--turns", type=int, default=3)
     parser.add_argument("--only")
+    parser.add_argument("--record", metavar="FILE")
     given = parser.parse_args()
     given.program = given.program or [PROGRAM]
+    if given.record and (given.what != "table" or len(given.program) > 1):
+        parser.error("--record goes with the table of one program")
     given.only = given.only or ("" if given.what == "table" else "core-")
     if given.what == "table":
         table(given)

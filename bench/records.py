@@ -1,0 +1,56 @@
+"""Files of what was measured: the other scripts here write them, and `bench/plots.py` draws them.
+
+Such a file begins with lines `# key: value`, which say on what machine, on what date, at what load and in
+what manner it was measured. The columns' names follow, and then a record a line.
+"""
+
+import csv
+import datetime
+import os
+import platform
+
+RATES = ("topology", "size", "program", "million_events_a_second")
+SECONDS = ("tool", "size", "records", "program", "seconds")
+
+
+def machine():
+    """How many processors there are, and what they call themselves."""
+    try:
+        with open("/proc/cpuinfo") as file:
+            names = [line.partition(":")[2].strip() for line in file if line.startswith("model name")]
+    except OSError:
+        names = []
+    return f"{os.cpu_count()} processors, {names[0] if names else platform.machine()}"
+
+
+class Records:
+    """What is measured, kept until the run is over. Without a path nothing is written."""
+
+    def __init__(self, path, columns, manner):
+        self.path = path
+        self.head = {
+            "machine": machine(),
+            "date": datetime.date.today().isoformat(),
+            "load": f"{os.getloadavg()[0]:.0f}",
+            "manner": manner,
+        }
+        self.rows = [columns]
+
+    def add(self, *values):
+        self.rows.append(values)
+
+    def save(self):
+        if self.path is None:
+            return
+        with open(self.path, "w", newline="") as file:
+            file.writelines(f"# {key}: {value}\n" for key, value in self.head.items())
+            csv.writer(file, lineterminator="\n").writerows(self.rows)
+
+
+def read(path):
+    """The head of a file, and its records by the columns' names."""
+    with open(path, newline="") as file:
+        lines = file.readlines()
+    heads = [line[1:].partition(":") for line in lines if line.startswith("#")]
+    head = {key.strip(): value.strip() for key, _, value in heads}
+    return head, list(csv.DictReader(line for line in lines if not line.startswith("#")))
