@@ -1,4 +1,5 @@
 pub mod Commanding
+pub mod Crossing
 pub mod Declaring
 pub mod Digits
 pub mod Endings
@@ -9,13 +10,16 @@ pub mod Finding
 pub mod Graphs
 pub mod Hexadecimal
 pub mod Legible
+pub mod Listing
 pub mod Moving
+pub mod Numbered
 pub mod Parts
 pub mod Passing
 pub mod Reports
 pub mod Rounds
 pub mod RowsLeft
 pub mod Runs
+pub mod Scripting
 pub mod Sending
 pub mod SetUps
 pub mod Settled
