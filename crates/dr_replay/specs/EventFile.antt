@@ -1,10 +1,10 @@
 -- The event file: an operation a record.
 use Rattle.std.specs.Prelude.{ℕ, ◌+◌, ◌^◌, Bool, ◌==◌, ◌&&◌, nat_lt, if◌then◌else◌, List, [], ◌∷◌, length, Option, Some, None, Result, Ok, Err, bytes_eq, codes}
 use Rattle.dr_seq.specs.declared.event.Event.{Event}
-use Rattle.dr_replay.specs.declared.replay.operation.Operation.{Operation}
-use Rattle.dr_replay.specs.declared.replay.operation.Movement.TheVariants.{Deposit, Withdraw, Transfer}
+use Rattle.dr_accounts.specs.declared.operation.Operation.{Operation}
+use Rattle.dr_accounts.specs.declared.operation.Movement.TheVariants.{Deposit, Withdraw, Transfer}
 use Rattle.dr_replay.specs.Commands.{◌>>=◌}
-use Rattle.dr_replay.specs.Operations.{event_of}
+use Rattle.dr_accounts.specs.Operations.{event_of}
 use Rattle.dr_replay.specs.Records.{Record, field, number_at, records_of}
 
 abbrev pub below : ℕ → Option ℕ → Option ℕ

@@ -6,7 +6,7 @@ use Rattle.dr_shared.specs.Merge.{IsMerge}
 use Rattle.dr_replay.specs.EventFile.{events_from}
 use Rattle.dr_replay.specs.Outcome.{AppendsFront}
 use Rattle.dr_replay.specs.Records.{Record}
-use Rattle.dr_replay.specs.Report.{report_of}
+use Rattle.dr_accounts.specs.Report.{report_of}
 use Rattle.dr_replay.specs.Scripts.{scripts_in}
 use Rattle.dr_replay.specs.Workers.{AuditFinds}
 use Rattle.dr_replay.specs.declared.replay.fault.ReplayFault.{ReplayFault}
@@ -80,10 +80,6 @@ FileFaultIs (fault.Audit f) file = ⊥
 abbrev pub FileIs : {Z : Type 0} → Result (Vec Event Z) ReplayFault → Result (List Event) ℕ → Type 0
 FileIs (Ok events) file = file ≡ Ok events.items
 FileIs (Err e) file = FileFaultIs e file
-
--- the report of some events, or a lack of memory
-abbrev pub IsMemory : ReplayFault → Type 0
-IsMemory e = e ≡ fault.Memory
 
 -- no worker's and no audit's, as on one thread
 abbrev pub IsNoWorkers : ReplayFault → Type 0

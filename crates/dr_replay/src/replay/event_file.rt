@@ -3,15 +3,15 @@
 ghost use Rattle.std.specs.Prelude.{◌≡◌, ◌<◌, IfSome};
 ghost use Rattle.csv.specs.Records.{fields_of};
 ghost use Rattle.dr_replay.specs.EventFile.{deposit as deposit_in, is_kind as is_kind_in, number_below as number_in, operation_in, transfer as transfer_in, withdraw as withdraw_in};
-ghost use Rattle.dr_replay.specs.Operations.{IsOperation};
+ghost use Rattle.dr_accounts.specs.Operations.{IsOperation};
 ghost use Rattle.dr_replay.specs.Replayed.{ReadsAs};
 ghost use Rattle.dr_replay.specs.Rows.{rows_left};
 
 use crate::records::{count_of, field, number_at};
 use crate::replay::fault::ReplayFault;
-use crate::replay::operation::{Movement, Operation};
 use crate::rows::Rows;
 use csv::ByteRecord;
+use dr_accounts::{Movement, Operation};
 use dr_seq::Event;
 use std::alloc::Global;
 

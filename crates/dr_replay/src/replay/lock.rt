@@ -10,17 +10,14 @@ ghost use Rattle.dr_replay.specs.Workers.{IsFirstOf, IsFirstOfLock, IsOfAudit, I
 ghost use Rattle.dr_replay.specs.Scripts.{scripts_in};
 
 use crate::counted::Counted;
-use crate::replay::business::Business;
 use crate::replay::fault::ReplayFault;
-use crate::replay::journal::Journal;
 use crate::replay::lock_workers::{Around, Joined, Sent, exchange, make_ends};
-use crate::replay::opening::graph;
 use crate::replay::outcome::{BUSINESS, JOURNAL, PRODUCER, REPLICA, ended, joined, replay_fault};
 use crate::replay::part::Part;
 use crate::replay::plain::read_events;
-use crate::replay::replica::Replica;
 use crate::replay::scripts::{scripts, views};
 use crate::streams::write_text;
+use dr_accounts::{Business, Journal, Replica, graph};
 use dr_core::{MAX_LIMIT, Mode};
 use dr_seq::{Event, Size};
 use dr_shared::{

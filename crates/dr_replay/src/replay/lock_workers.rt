@@ -3,12 +3,9 @@
 ghost use Rattle.std.specs.Prelude.{◌≡◌, ◌+◌, IfOk, length};
 ghost use denote.Param.Send.{IsSync};
 
-use crate::replay::business::Business;
-use crate::replay::journal::Journal;
 use crate::replay::outcome::{BUSINESS, JOURNAL, PRODUCER, REPLICA};
 use crate::replay::part::{Listing, Part};
-use crate::replay::replica::Replica;
-use crate::replay::reporter::Reporter;
+use dr_accounts::{Business, Journal, Replica, Reporter};
 use dr_core::Command;
 use dr_seq::{Event, Size};
 use dr_shared::{
@@ -90,7 +87,7 @@ pub fn make_ends<L: Ledger>(
     let replica = shared.end().ok_or(AllocError)?;
     let business = shared.end().ok_or(AllocError)?;
     let mut list = Vec::with_capacity(alloc, producers)?;
-    for _ in 0..producers {
+    for _p in 0..producers {
         list.push(shared.end().ok_or(AllocError)?)?;
     }
     Ok(Ends {

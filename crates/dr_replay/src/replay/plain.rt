@@ -1,21 +1,17 @@
 //! The replay on one thread.
 
-ghost use Rattle.std.specs.Prelude.{◌≡◌, ◌<◌, ◌≤◌, ◌-◌, ◌^◌, IfErr, IfOk, IfSome, OnOk, length, string_bytes};
+ghost use Rattle.std.specs.Prelude.{◌≡◌, ◌<◌, ◌-◌, ◌^◌, IfErr, IfSome, OnOk};
 ghost use Rattle.dr_replay.specs.Counting.{faults_of, inner_of};
 ghost use Rattle.dr_replay.specs.EventFile.{events_of as events_in};
-ghost use Rattle.dr_replay.specs.Replayed.{FileFaultTells, FileIs, IsMemory, IsNoWorkers, ReplayCounts, ReplayFaultKeeps, ReplayWrites};
-ghost use Rattle.dr_replay.specs.Report.{report_of};
+ghost use Rattle.dr_replay.specs.Replayed.{FileFaultTells, FileIs, IsNoWorkers, ReplayCounts, ReplayFaultKeeps, ReplayWrites};
 
 use crate::counted::Counted;
 use crate::fault::DriveFault;
 use crate::replay::event_file::events_of;
 use crate::replay::fault::ReplayFault;
-use crate::replay::handlers::Handlers;
-use crate::replay::opening::open;
-use crate::replay::passing::pass;
 use crate::rows::Rows;
 use crate::streams::{read_all, write_text};
-use dr_core::MAX_LIMIT;
+use dr_accounts::report_by_core;
 use dr_seq::{Event, Size};
 use std::alloc::Global;
 use std::io::{Read, Write};
@@ -36,27 +32,6 @@ pub fn read_events<R: Read>(
         Err(_) => return Err(ReplayFault::Memory),
     };
     events_of(alloc, &mut Rows::new(alloc, text.as_slice()))
-}
-
-// The report of events that went through the exchange.
-fn report(alloc: Global, events: &[Event], size: Size) -> Result<String, ReplayFault>
-    ensures text { IfOk result (λ text. string_bytes text ≡ report_of events.now) }
-    ensures fault { IfErr result IsMemory }
-{
-    if events.len() as u64 > MAX_LIMIT {
-        return Err(ReplayFault::Memory);
-    }
-    let mut core = open(alloc, size)?;
-    let mut buf = vec![in alloc; Event::NONE; size.get() as usize]?;
-    let mut handlers = Handlers::new(alloc);
-    // None of these calls is refused.
-    let Ok(()) = pass(&mut core, &mut handlers, events, buf.as_mut_slice()) else {
-        unreachable!();
-    };
-    if handlers.is_failed() {
-        return Err(ReplayFault::Memory);
-    }
-    Ok(handlers.report(alloc)?)
 }
 
 /// Reads a file of operations to its end, sends their events in file order through an exchange of
@@ -81,7 +56,7 @@ pub fn replay_plain<R: Read, W: Write>(
     ensures alone { IfErr result IsNoWorkers }
 {
     let events = read_events(alloc, reader)?;
-    let text = report(alloc, events.as_slice(), size)?;
+    let text = report_by_core(alloc, events.as_slice(), size)?;
     match write_text(writer, text.as_bytes()) {
         Ok(()) => Ok(()),
         Err(_) => Err(ReplayFault::Write),

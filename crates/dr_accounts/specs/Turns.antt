@@ -1,0 +1,52 @@
+-- What the calls of the replay do to its exchange and its handlers.
+use Rattle.std.specs.Prelude.{◌≡◌, ◌<◌, ◌≤◌, ◌+◌, ℕ, false, List, take, length, Result, Ok, Err}
+use Rattle.dr_seq.specs.declared.event.Event.{Event}
+use Rattle.dr_core.specs.CoreView.{CoreView}
+use Rattle.dr_core.specs.Shows.{Shows}
+use Rattle.dr_core.specs.declared.refusal.Refusal.{Refusal}
+use Rattle.dr_accounts.specs.declared.handlers.Handlers.{Handlers}
+use Rattle.dr_accounts.specs.Handlers.{IsBusinessOf, IsJournalOf, IsReplicaOf}
+use Rattle.dr_accounts.specs.Passing.{each, passed, replay_setup}
+
+-- the first events of a list went into an exchange, and each handler is done with as many of them as it took
+pub record Rests (size : ℕ) (events : List Event) (sent : ℕ) (counts : List ℕ) (v : CoreView) : Type 0 where
+  pub setup : v.setup ≡ replay_setup size
+  pub shows : Shows v (passed events sent sent sent counts counts)
+
+-- no call is refused, and the next events are in the exchange
+abbrev pub Sends : {A : Type 0} → Result A Refusal → ℕ → List Event → ℕ → ℕ → CoreView → Type 0
+Sends (Ok done) size events at n v = Rests size events (at + n) (each at) v
+Sends (Err refusal) size events at n v = ⊥
+
+-- the three handlers were shown these events
+pub record AreShown (h : Handlers) (events : List Event) : Type 0 where
+  pub journal : IsJournalOf h.journal events
+  pub replica : IsReplicaOf h.replica events
+  pub business : IsBusinessOf h.business events
+
+-- none of them has failed
+pub record AreWell (h : Handlers) : Type 0 where
+  pub journal : h.journal.failed ≡ false
+  pub replica : h.replica.failed ≡ false
+  pub business : h.business.failed ≡ false
+
+-- some events are in an exchange that no handler took, and there is room for them
+pub record IsOffered (size : ℕ) (events : List Event) (at sent room : ℕ) (v : CoreView) : Type 0 where
+  pub rests : Rests size events sent (each at) v
+  pub some : at < sent
+  pub fits : sent ≤ at + room
+  pub within : sent ≤ length events
+
+-- no turn is refused, and each handler is done with all that was sent
+pub record Turned (size : ℕ) (events : List Event) (sent : ℕ) (v : CoreView) (h : Handlers) : Type 0 where
+  pub rests : Rests size events sent (each sent) v
+  pub shown : AreShown h (take sent events)
+
+abbrev pub Turns : {A : Type 0} → Result A Refusal → ℕ → List Event → ℕ → CoreView → Handlers → Type 0
+Turns (Ok done) size events sent v h = Turned size events sent v h
+Turns (Err refusal) size events sent v h = ⊥
+
+-- no call is refused, and each handler was shown all events
+abbrev pub Passes : {A : Type 0} → Result A Refusal → List Event → Handlers → Type 0
+Passes (Ok done) events h = AreShown h events
+Passes (Err refusal) events h = ⊥

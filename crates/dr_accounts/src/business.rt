@@ -1,0 +1,187 @@
+//! The business handler: balances by account.
+
+ghost use Rattle.std.specs.Prelude.{◌≡◌, ◌+◌, ◌++◌, [], false, IfOk, OnOk, nat_lt, not, string_bytes};
+ghost use Rattle.std.specs.BTreeMap.{IsOrdered};
+ghost use Rattle.std.specs.Ordering.{nat_cmp};
+ghost use Rattle.dr_accounts.specs.Handlers.{Booked, IsBusinessOf, Moved, Puts, account_lines, added, balance_in, business_text, kept, refused_in, taken};
+ghost use Rattle.dr_accounts.specs.Report.{account_line};
+
+use crate::operation::{Movement, Operation};
+use dr_core::Handler;
+use dr_seq::Event;
+use std::alloc::{AllocError, Global};
+use std::collections::BTreeMap;
+
+/// What is kept of an account.
+#[derive(Clone, Copy, Debug, PartialEq, Eq)]
+pub struct Account {
+    pub balance: u128,
+    /// How many movements asked for more than the balance.
+    pub refused: u64,
+}
+
+/// A handler that keeps the balance of each account that an event names. Once it finds no memory it
+/// has failed, and takes no more.
+#[derive(Drop)]
+pub struct Business {
+    accounts: BTreeMap<u16, Account>,
+    count: u64,
+    failed: bool,
+}
+
+impl Business {
+    /// A handler that was shown nothing yet.
+    pub fn new(alloc: Global) -> Business
+        ensures empty { IsBusinessOf result [] }
+        ensures well { result.failed ≡ false }
+    {
+        Business {
+            accounts: BTreeMap::new(alloc),
+            count: 0,
+            failed: false,
+        }
+    }
+
+    /// Whether it found no memory.
+    pub fn is_failed(&self) -> bool
+        ensures { result ≡ self.now.failed }
+    {
+        self.failed
+    }
+
+    // The account with a number: one of nothing, where no event named it yet.
+    fn account(&self, number: u16) -> Account
+        ensures balance { result.balance ≡ balance_in (kept self.now number) }
+        ensures refused { result.refused ≡ refused_in (kept self.now number) }
+    {
+        match self.accounts.get(&number) {
+            Some(account) => *account,
+            None => Account {
+                balance: 0,
+                refused: 0,
+            },
+        }
+    }
+
+    fn put(&mut self, number: u16, account: Account) -> Result<(), AllocError>
+        ensures put { OnOk result (Puts number account self.old self.new) }
+        ensures count { self.new.count ≡ self.old.count }
+        ensures failed { self.new.failed ≡ self.old.failed }
+    {
+        self.accounts.insert(number, account)?;
+        Ok(())
+    }
+
+    // Adds an amount to an account, which is thereby named.
+    fn add(&mut self, number: u16, amount: u64) -> Result<(), AllocError>
+        ensures put { OnOk result (Puts number (added (kept self.old number) amount) self.old self.new) }
+        ensures count { self.new.count ≡ self.old.count }
+        ensures failed { self.new.failed ≡ self.old.failed }
+    {
+        let Account { balance, refused } = self.account(number);
+        let balance = balance.checked_add(amount as u128).ok_or(AllocError)?;
+        self.put(number, Account { balance, refused })
+    }
+
+    // Takes an amount from an account, where that has so much; else counts a refusal. Says whether
+    // it was taken.
+    fn take(&mut self, number: u16, amount: u64) -> Result<bool, AllocError>
+        ensures had { IfOk result (λ had. had ≡ not (nat_lt (balance_in (kept self.old number)) amount)) }
+        ensures put { OnOk result (Puts number (taken (kept self.old number) amount) self.old self.new) }
+        ensures count { self.new.count ≡ self.old.count }
+        ensures failed { self.new.failed ≡ self.old.failed }
+    {
+        let Account { balance, refused } = self.account(number);
+        if balance < amount as u128 {
+            let refused = refused.checked_add(1).ok_or(AllocError)?;
+            self.put(number, Account { balance, refused })?;
+            return Ok(false);
+        }
+        let balance = balance - amount as u128;
+        self.put(number, Account { balance, refused })?;
+        Ok(true)
+    }
+
+    fn withdraw(&mut self, number: u16, amount: u64) -> Result<(), AllocError>
+        ensures put { OnOk result (Puts number (taken (kept self.old number) amount) self.old self.new) }
+        ensures count { self.new.count ≡ self.old.count }
+        ensures failed { self.new.failed ≡ self.old.failed }
+    {
+        self.take(number, amount)?;
+        Ok(())
+    }
+
+    // A refused transfer names its second account too.
+    fn transfer(&mut self, from: u16, to: u16, amount: u64) -> Result<(), AllocError>
+        ensures moved { OnOk result (Moved (Movement.Transfer from to amount) self.old self.new) }
+        ensures count { self.new.count ≡ self.old.count }
+        ensures failed { self.new.failed ≡ self.old.failed }
+    {
+        let moved = if self.take(from, amount)? { amount } else { 0 };
+        self.add(to, moved)
+    }
+
+    // Takes a movement through the accounts.
+    fn apply(&mut self, movement: Movement) -> Result<(), AllocError>
+        ensures moved { OnOk result (Moved movement self.old self.new) }
+        ensures count { self.new.count ≡ self.old.count }
+        ensures failed { self.new.failed ≡ self.old.failed }
+    {
+        match movement {
+            Movement::Deposit { account, amount } => self.add(account, amount as u64),
+            Movement::Withdraw { account, amount } => self.withdraw(account, amount as u64),
+            Movement::Transfer { from, to, amount } => self.transfer(from, to, amount),
+        }
+    }
+
+    fn book(&mut self, event: Event) -> Result<(), AllocError>
+        ensures booked { OnOk result (Booked event self.old self.new) }
+        ensures failed { self.new.failed ≡ self.old.failed }
+    {
+        self.apply(Operation::of(event).movement)?;
+        self.count = self.count.checked_add(1).ok_or(AllocError)?;
+        Ok(())
+    }
+
+    /// Appends the part of the business handler to a report.
+    pub fn append_to(&self, report: &mut String) -> Result<(), AllocError>
+        ensures text { OnOk result (string_bytes report.new ≡ string_bytes report.old ++ business_text self.now) }
+        ensures ordered { OnOk result (IsOrdered nat_cmp self.now.accounts) }
+    {
+        let count = self.count;
+        writeln!(report, "business {count}")?;
+        push_accounts(report, &self.accounts)
+    }
+}
+
+fn push_account(report: &mut String, number: u16, account: Account) -> Result<(), AllocError>
+    ensures { OnOk result (string_bytes report.new ≡ string_bytes report.old ++ account_line number account.balance account.refused) }
+{
+    let Account { balance, refused } = account;
+    writeln!(report, "{number},{balance},{refused}")
+}
+
+fn push_accounts(report: &mut String, accounts: &BTreeMap<u16, Account>) -> Result<(), AllocError>
+    ensures lines { OnOk result (string_bytes report.new ≡ string_bytes report.old ++ account_lines accounts.now.entries) }
+    ensures ordered { IsOrdered nat_cmp accounts.now }
+{
+    for (number, account) in accounts {
+        push_account(report, *number, *account)?;
+    }
+    Ok(())
+}
+
+impl Handler for Business {
+    ghost use Rattle.dr_accounts.specs.Handlers.{Books};
+
+    ghost goes = { λ old event s end new. Books old event new };
+
+    fn on_event(&mut self, event: Event, _s: u64, _end: bool) {
+        if self.failed {
+            return;
+        }
+        if self.book(event).is_err() {
+            self.failed = true;
+        }
+    }
+}

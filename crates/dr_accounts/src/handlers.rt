@@ -1,0 +1,74 @@
+//! The three handlers together.
+
+ghost use Rattle.std.specs.Prelude.{◌≡◌, ℕ, [], IfOk, List, false, length, string_bytes, take};
+ghost use Rattle.dr_seq.specs.declared.event.Event.{Event};
+ghost use Rattle.dr_accounts.specs.Report.{report_of};
+ghost use Rattle.dr_accounts.specs.Turns.{AreShown, AreWell, IsOffered, Turns};
+
+use crate::business::Business;
+use crate::journal::Journal;
+use crate::replica::Replica;
+use dr_core::{Core, Refusal, processor_turn};
+use dr_seq::Event;
+use std::alloc::{AllocError, Global};
+
+/// The number of the journal in the exchange's graph.
+const JOURNAL: usize = 0;
+
+/// The number of the replica.
+const REPLICA: usize = 1;
+
+/// The number of the business handler, which follows both others.
+const BUSINESS: usize = 2;
+
+/// Journal and replica, and the business handler that follows them.
+#[derive(Drop)]
+pub struct Handlers {
+    journal: Journal,
+    replica: Replica,
+    business: Business,
+}
+
+impl Handlers {
+    /// Handlers that were shown nothing yet.
+    pub fn new(alloc: Global) -> Handlers
+        ensures shown { AreShown result [] }
+        ensures well { AreWell result }
+    {
+        Handlers {
+            journal: Journal::new(alloc),
+            replica: Replica::new(alloc),
+            business: Business::new(alloc),
+        }
+    }
+
+    /// Whether one of them found no memory.
+    pub fn is_failed(&self) -> bool
+        ensures well { result ≡ false → AreWell self.now }
+        ensures failed { AreWell self.now → result ≡ false }
+    {
+        self.journal.is_failed() || self.replica.is_failed() || self.business.is_failed()
+    }
+
+    /// One turn of each. Where the room of `buf` is that of the ring, each takes all that there is.
+    pub fn turn(&mut self, core: &mut Core, buf: &mut [Event]) -> Result<(), Refusal>
+        ensures { (size : ℕ) (events : List Event) (at sent : ℕ) → IsOffered size events at sent (length buf.old) core.old → AreShown self.old (take at events) → Turns result size events sent core.new self.new }
+    {
+        processor_turn(core, JOURNAL, &mut self.journal, buf)?;
+        processor_turn(core, REPLICA, &mut self.replica, buf)?;
+        processor_turn(core, BUSINESS, &mut self.business, buf)?;
+        Ok(())
+    }
+
+    /// The report of the events that they were shown.
+    pub fn report(&self, alloc: Global) -> Result<String, AllocError>
+        requires { AreWell self.now }
+        ensures { (events : List Event) → AreShown self.now events → IfOk result (λ text. string_bytes text ≡ report_of events) }
+    {
+        let mut text = String::new(alloc);
+        self.journal.append_to(&mut text)?;
+        self.replica.append_to(&mut text)?;
+        self.business.append_to(&mut text)?;
+        Ok(text)
+    }
+}

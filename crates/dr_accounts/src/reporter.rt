@@ -1,0 +1,121 @@
+//! Handlers that have a part in the report.
+
+ghost use Rattle.std.specs.Prelude.{◌≡◌, ◌++◌, ℕ, [], Bool, false, List, IfOk, OnOk, string_bytes};
+ghost use Rattle.dr_seq.specs.declared.event.Event.{Event};
+ghost use Rattle.dr_core.specs.Handling.{GoesThrough};
+ghost use Rattle.dr_shared.specs.Work.{Dealt, events_of, shown_of};
+
+use crate::business::Business;
+use crate::journal::Journal;
+use crate::replica::Replica;
+use dr_core::Handler;
+use std::alloc::{AllocError, Global};
+
+/// A handler that has a part in the report of the events that it was shown.
+pub trait Reporter: Handler + Drop {
+    /// The part of a list of events.
+    ghost part_of: { List Event → List ℕ };
+
+    /// It was shown nothing yet.
+    ghost is_new: { Self → Type 0 };
+
+    /// It found no memory for an event.
+    ghost failed: { Self → Bool };
+
+    /// One that was shown nothing yet.
+    fn begin(alloc: Global) -> Self
+        ensures { is_new result };
+
+    /// Whether it found no memory for an event.
+    fn has_failed(&self) -> bool
+        ensures { result ≡ failed self.now };
+
+    /// Appends its part to a report. An error is that memory ran out.
+    fn push_part(&self, report: &mut String) -> Result<(), AllocError>
+        requires { failed self.now ≡ false }
+        ensures { (first : Self) (batches : List Dealt) → is_new first → GoesThrough Self.goes first (shown_of batches) self.now → OnOk result (string_bytes report.new ≡ string_bytes report.old ++ part_of (events_of batches)) };
+}
+
+/// The part of a handler alone. An error is that memory ran out, here or when an event was handled.
+pub fn part<H: Reporter>(handler: &H, alloc: Global) -> Result<String, AllocError>
+    ensures { (first : H) (batches : List Dealt) → H.is_new first → GoesThrough H.goes first (shown_of batches) handler.now → IfOk result (λ text. string_bytes text ≡ H.part_of (events_of batches)) }
+{
+    if handler.has_failed() {
+        return Err(AllocError);
+    }
+    let mut text = String::new(alloc);
+    handler.push_part(&mut text)?;
+    Ok(text)
+}
+
+impl Reporter for Journal {
+    ghost use Rattle.dr_accounts.specs.Handlers.{IsJournalOf};
+    ghost use Rattle.dr_accounts.specs.Report.{journal_part};
+
+    ghost part_of = { journal_part };
+
+    ghost is_new = { λ j. IsJournalOf j [] };
+
+    ghost failed = { λ j. j.failed };
+
+    fn begin(alloc: Global) -> Journal {
+        Journal::new(alloc)
+    }
+
+    fn has_failed(&self) -> bool {
+        self.is_failed()
+    }
+
+    fn push_part(&self, report: &mut String) -> Result<(), AllocError> {
+        self.append_to(report)?;
+        Ok(())
+    }
+}
+
+impl Reporter for Replica {
+    ghost use Rattle.dr_accounts.specs.Handlers.{IsReplicaOf};
+    ghost use Rattle.dr_accounts.specs.Report.{replica_part};
+
+    ghost part_of = { replica_part };
+
+    ghost is_new = { λ r. IsReplicaOf r [] };
+
+    ghost failed = { λ r. r.failed };
+
+    fn begin(alloc: Global) -> Replica {
+        Replica::new(alloc)
+    }
+
+    fn has_failed(&self) -> bool {
+        self.is_failed()
+    }
+
+    fn push_part(&self, report: &mut String) -> Result<(), AllocError> {
+        self.append_to(report)?;
+        Ok(())
+    }
+}
+
+impl Reporter for Business {
+    ghost use Rattle.dr_accounts.specs.Handlers.{IsBusinessOf};
+    ghost use Rattle.dr_accounts.specs.Report.{business_part};
+
+    ghost part_of = { business_part };
+
+    ghost is_new = { λ b. IsBusinessOf b [] };
+
+    ghost failed = { λ b. b.failed };
+
+    fn begin(alloc: Global) -> Business {
+        Business::new(alloc)
+    }
+
+    fn has_failed(&self) -> bool {
+        self.is_failed()
+    }
+
+    fn push_part(&self, report: &mut String) -> Result<(), AllocError> {
+        self.append_to(report)?;
+        Ok(())
+    }
+}

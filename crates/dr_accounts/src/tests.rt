@@ -1,0 +1,65 @@
+//! What no clause says: that a report over memory succeeds, and its text, by the rules of the format.
+
+use crate::{Movement, Operation, report_by_core};
+use dr_seq::Size;
+use std::process::Abort;
+use std::test::Fail;
+
+const OPERATIONS: [Operation; 3] = [
+    Operation {
+        producer: 0,
+        movement: Movement::Deposit {
+            account: 1,
+            amount: 100,
+        },
+    },
+    Operation {
+        producer: 2,
+        movement: Movement::Transfer {
+            from: 1,
+            to: 7,
+            amount: 30,
+        },
+    },
+    Operation {
+        producer: 0,
+        movement: Movement::Withdraw {
+            account: 7,
+            amount: 31,
+        },
+    },
+];
+
+const REPORT: [&str; 11] = [
+    "journal 3\n",
+    "0,0,deposit,1,100\n",
+    "1,2,transfer,1,7,30\n",
+    "2,0,withdraw,7,31\n",
+    "replica 3\n",
+    "0001000100000064\n",
+    "0203000100000000000700000000001e\n",
+    "000200070000001f\n",
+    "business 3\n",
+    "1,70,0\n",
+    "7,30,1\n",
+];
+
+#[test]
+fn three_operations(rt: HostRuntime) -> Result<(), Fail> {
+    let alloc = rt.alloc();
+    let mut events = Vec::new(alloc);
+    for operation in OPERATIONS {
+        let event = operation.event();
+        assert!(rt; Operation::of(event) == operation);
+        events.push(event)?;
+    }
+    let mut report = String::new(alloc);
+    for line in REPORT {
+        report.push_str(line)?;
+    }
+    for slots in [1, 2, 65536] {
+        let text = report_by_core(alloc, events.as_slice(), Size::new(slots)?)?;
+        assert_eq!(rt; text, report, "a ring of {slots} slots");
+    }
+    Ok(())
+}

@@ -1,0 +1,75 @@
+//! Events through a core, on one thread.
+
+ghost use Rattle.std.specs.Prelude.{◌≡◌, ◌<◌, ◌≤◌, ◌+◌, ◌^◌, [], IfOk, length, string_bytes};
+ghost use Rattle.dr_accounts.specs.Passing.{each};
+ghost use Rattle.dr_accounts.specs.Report.{report_of};
+ghost use Rattle.dr_accounts.specs.Turns.{AreShown, Passes, Rests, Sends};
+
+use crate::handlers::Handlers;
+use crate::topology::open;
+use dr_core::{Claimed, Core, MAX_LIMIT, Refusal};
+use dr_seq::{Event, Size};
+use std::alloc::{AllocError, Global};
+
+// Puts the next `n` events into the exchange, from the place `at` on: the event at a place goes to
+// the sequence of that number.
+fn send(core: &mut Core, events: &[Event], at: usize, n: usize) -> Result<(), Refusal>
+    requires rests { Rests core.old.setup.size events.now at (each at) core.old }
+    requires some { 0 < n }
+    requires fits { n ≤ core.old.setup.size }
+    requires within { at + n ≤ length events.now }
+    requires limit { at + n ≤ 2 ^ 62 }
+    ensures { Sends result core.old.setup.size events.now at n core.new }
+{
+    let Claimed { lo, hi } = core.claim(0, n as u64)?;
+    for s in at..at + n {
+        core.write(0, s as u64, events[s])?;
+    }
+    core.publish(0, lo, hi)
+}
+
+// Sends all events, as many at a time as the ring has slots, and gives each handler its turn after
+// each time.
+fn pass(
+    core: &mut Core,
+    handlers: &mut Handlers,
+    events: &[Event],
+    buf: &mut [Event],
+) -> Result<(), Refusal>
+    requires rests { Rests core.old.setup.size events.now 0 (each 0) core.old }
+    requires shown { AreShown handlers.old [] }
+    requires room { core.old.setup.size ≤ length buf.old }
+    requires limit { length events.now ≤ 2 ^ 62 }
+    ensures { Passes result events.now handlers.new }
+{
+    let size = core.size().get() as usize;
+    let mut at = 0;
+    while at < events.len() {
+        let n = size.min(events.len() - at);
+        send(core, events, at, n)?;
+        handlers.turn(core, buf)?;
+        at += n;
+    }
+    Ok(())
+}
+
+/// The report of events that went through a core of this size, on one thread. An error is that memory
+/// ran out, which more events than there are sequences are answered with too.
+pub fn report_by_core(alloc: Global, events: &[Event], size: Size) -> Result<String, AllocError>
+    ensures { IfOk result (λ text. string_bytes text ≡ report_of events.now) }
+{
+    if events.len() as u64 > MAX_LIMIT {
+        return Err(AllocError);
+    }
+    let mut core = open(alloc, size)?;
+    let mut buf = vec![in alloc; Event::NONE; size.get() as usize]?;
+    let mut handlers = Handlers::new(alloc);
+    // None of these calls is refused.
+    let Ok(()) = pass(&mut core, &mut handlers, events, buf.as_mut_slice()) else {
+        unreachable!();
+    };
+    if handlers.is_failed() {
+        return Err(AllocError);
+    }
+    handlers.report(alloc)
+}

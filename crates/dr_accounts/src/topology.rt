@@ -1,0 +1,46 @@
+//! The exchange of the replay: journal and replica, and business after both.
+
+ghost use Rattle.std.specs.Prelude.{◌≡◌, IfOk};
+ghost use Rattle.dr_core.specs.Machine.{opening};
+ghost use Rattle.dr_core.specs.Shows.{Shows};
+ghost use Rattle.dr_accounts.specs.Passing.{replay_graph, replay_setup};
+
+use dr_core::{Core, MAX_LIMIT, Mode, OpenFault};
+use dr_graph::laws::one_graph;
+use dr_graph::{Graph, GraphBuilder};
+use dr_seq::Size;
+use std::alloc::{AllocError, Global};
+
+/// The graph of the replay's handlers. An error is that memory ran out: the names are good and differ,
+/// and there is no cycle.
+pub fn graph(alloc: Global) -> Result<Graph, AllocError>
+    ensures { IfOk result (λ graph. graph.upstreams ≡ replay_graph) }
+{
+    one_graph();
+    let mut builder = GraphBuilder::new(alloc);
+    let Ok(first) = builder.handle_with(["journal", "replica"].as_slice()) else {
+        return Err(AllocError);
+    };
+    let Ok(_) = builder.then(&first, ["business"].as_slice()) else {
+        return Err(AllocError);
+    };
+    match builder.build() {
+        Ok(graph) => Ok(graph),
+        Err(_) => Err(AllocError),
+    }
+}
+
+/// Opens the exchange with one producer and as many sequences as there may be. An error is want of
+/// memory.
+pub fn open(alloc: Global, size: Size) -> Result<Core, AllocError>
+    ensures setup { IfOk result (λ core. core.setup ≡ replay_setup size) }
+    ensures opening { IfOk result (λ core. Shows core (opening (replay_setup size))) }
+{
+    let graph = graph(alloc)?;
+    match Core::open(alloc, graph, size, Mode::Single, MAX_LIMIT) {
+        Ok(core) => Ok(core),
+        Err(OpenFault::NoMemory) => Err(AllocError),
+        Err(OpenFault::BadProducers) => unreachable!(),
+        Err(OpenFault::BadLimit) => unreachable!(),
+    }
+}

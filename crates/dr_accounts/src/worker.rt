@@ -1,0 +1,85 @@
+//! The worker of a handler of a replay over the ring.
+
+ghost use Rattle.std.specs.Prelude.{◌≡◌};
+ghost use Rattle.dr_accounts.specs.Keeping.{Keeps, error_of};
+
+use crate::reporter::{Reporter, part};
+use dr_ring::Receiver;
+use dr_seq::Event;
+use dr_shared::{Gate, WorkFault, consume};
+use std::alloc::Global;
+use std::marker::PhantomData;
+use std::snapshot::Snapshot;
+use std::sync::Wait;
+use std::thread::Promise;
+
+/// How many events a worker takes at once, at most.
+const BATCH: usize = 256;
+
+/// What a worker gives back: its end, and its handler's part of the report.
+#[derive(Drop)]
+pub struct Worked {
+    pub receiver: Receiver,
+    pub part: Result<String, WorkFault>,
+}
+
+impl Worked {
+    /// Its fault, if it has one.
+    pub fn fault(&self) -> Option<WorkFault>
+        ensures { result ≡ error_of self.now.part }
+    {
+        match self.part {
+            Ok(_) => None,
+            Err(fault) => Some(fault),
+        }
+    }
+}
+
+/// The promise of the worker that is given an end, and whose handler is a `P`.
+pub struct PartOf<P> {
+    end: Snapshot<Receiver>,
+    of: PhantomData<P>,
+}
+
+impl<P> PartOf<P> {
+    pub fn of(end: &Receiver) -> PartOf<P>
+        ensures { result.end.value ≡ end.now }
+    {
+        PartOf {
+            end: Snapshot::of(end),
+            of: PhantomData,
+        }
+    }
+}
+
+impl<P> Drop for PartOf<P> {
+    fn drop(self) {
+        let PartOf { end: _, of: _ } = self;
+    }
+}
+
+impl<P: Reporter> Promise<Worked> for PartOf<P> {
+    ghost kept_by = { λ p r. Keeps P.part_of p.end.value r };
+}
+
+/// Takes a new handler through all events of an end. A handler that finds no memory holds up no
+/// other worker: it goes on without taking any more.
+pub fn work<R: Wait, G: Gate, P: Reporter>(
+    rt: &R,
+    gate: &G,
+    who: usize,
+    mut receiver: Receiver,
+    alloc: Global,
+) -> Worked
+    ensures { Keeps P.part_of receiver result }
+{
+    let mut handler = P::begin(alloc);
+    let mut buf = [Event::NONE; BATCH];
+    let fault = consume(rt, &mut receiver, gate, who, &mut handler, &mut buf);
+    let part = match (part(&handler, alloc), fault) {
+        (Err(_), _) => Err(WorkFault::Memory),
+        (Ok(_), Some(fault)) => Err(fault),
+        (Ok(text), None) => Ok(text),
+    };
+    Worked { receiver, part }
+}
