@@ -90,7 +90,7 @@ pub fn make_ends<L: Ledger>(
     let replica = shared.end().ok_or(AllocError)?;
     let business = shared.end().ok_or(AllocError)?;
     let mut list = Vec::with_capacity(alloc, producers)?;
-    for _ in 0..producers {
+    for _p in 0..producers {
         list.push(shared.end().ok_or(AllocError)?)?;
     }
     Ok(Ends {
