@@ -1,13 +1,21 @@
-# `make` builds ./disruptor and runs the shipped example; `make test` is the whole gate.
+# `make` builds ./disruptor and runs the shipped example; `make test` is the whole gate; `make help` lists the rest.
 program := crates/disruptor
+log := make.log
+sources = $(shell find crates \( -name '*.rt' -o -name '*.antt' \) -not -path '*/out/*')
 
-.PHONY: all run test clean
+.PHONY: all run test check bench hello clean help
+
+ifneq ($(filter-out help clean,$(or $(MAKECMDGOALS),all)),)
+ifeq ($(shell command -v rt),)
+$(error rt is not on the path: install the Rattle kit of README.md, and put its folder bin on the path)
+endif
+endif
 
 all: disruptor run
 
-disruptor: crates.txt $(shell find crates -name '*.rt' -o -name '*.antt' | grep -v /out/)
-	cd $(program) && rt run -- --help > /dev/null
-	cp $(program)/out/disruptor $@
+disruptor: crates.txt $(sources)
+	@tools/prove.sh $(log) disruptor --help
+	@cp $(program)/out/disruptor $@
 
 run: disruptor
 	./disruptor drive examples/first_event.csv
@@ -17,5 +25,30 @@ test:
 	tests/steps_in_laws.sh
 	tests/gate.sh
 
+check:
+	$(if $(wildcard crates/$(or $(CRATE),none)/src),,$(error name a crate, as in: make check CRATE=dr_core))
+	cd crates/$(CRATE) && rt check
+
+bench:
+	@tools/prove.sh $(log) disruptor_bench --list
+	bench/exchanges.py table
+
+hello:
+	examples/hello.sh $(DIR)
+
 clean:
-	rm -rf disruptor crates/*/out
+	rm -rf disruptor $(log) crates/*/out
+
+help:
+	@echo 'On a machine of four processors:'
+	@echo
+	@echo '  make                      proves and builds ./disruptor and runs the shipped example:'
+	@echo '                            a quarter of an hour from nothing, then seconds to minutes'
+	@echo '  make check CRATE=dr_core  proves one crate over what is kept: seconds, 1 to 5 minutes from nothing'
+	@echo '  make test                 the whole gate, from nothing: 65 to 90 minutes'
+	@echo '  make bench                events a second of core and ring: some minutes, and many where other work runs'
+	@echo '  make hello DIR=../hello   starts a repository of your own in that folder, with a program over the'
+	@echo '                            ring, which is proved, built and run: some minutes'
+	@echo '  make clean                removes what was built, and what proofs are kept'
+	@echo
+	@echo 'What is printed of proofs goes to $(log).'

@@ -16,7 +16,9 @@ more=0
 for built in crates/disruptor/out/disruptor crates/disruptor/out/disruptor.by-rattle; do
     if [ -f "$built" ]; then
         tests/program.sh "$built" || more=$((more + 1))
+        tests/examples.py "$built" || more=$((more + 1))
         tests/hostile/run.py "$built" || more=$((more + 1))
+        tests/hostile/refused.py "$built" || more=$((more + 1))
     elif [ "$status" = 0 ] && [ "$built" = crates/disruptor/out/disruptor ]; then
         echo "FAILED: rt ci left no $built"
         more=1

@@ -67,14 +67,7 @@ run_text() { # WORDS TEXT STATUS OUT ERR
     judge "$1 of ${2@Q}" $? "$3" "$4" "$5"
 }
 
-# The shipped examples.
-run 0 $'claimed 0 0\nwritten\npublished\nbatch 0 end 42\ncompleted\n' '' drive first_event.csv
-run 0 $'claimed 0 0\nclaimed 1 2\nwritten\nwritten\npublished\ngating\nwritten\npublished\nbatch 0 end 4 5 6\n' '' drive two_producers.csv
-run 0 $'claimed 0 0\nhalting\nrefused 2 halted\ngating\nwritten\npublished\nbatch 0 end 5\ndrained\n' '' drive halt.csv
-run 0 "$(printf '%s\n' 'claimed 0 1' written written published gating 'batch 0 end 10 11' 'batch 0 end 10 11' completed completed \
-    'batch 0 end 10 11' 'refused 1 no-room' completed 'claimed 2 2')"$'\n' '' drive diamond.csv
-run 0 "$(printf '%s\n' 'claimed 0 1' written written published 'batch 0 end 1 2' completed 'refused 1 no-room' 'refused 14 not-final' retired \
-    'claimed 2 3' 'refused 13 retired' 'refused 13 retired' 'refused 15 last-handler' 'refused 12 no-handler')"$'\n' '' drive retire.csv
+# The shipped operations, at several sizes and by each way (tests/examples.py runs every example once).
 accounts="$(printf '%s\n' 'journal 6' 0,0,deposit,1,1000 1,1,deposit,2,500 2,0,transfer,1,2,250 3,1,withdraw,2,700 4,1,withdraw,2,100 \
     5,0,transfer,3,1,5 'replica 6' 00010001000003e8 01010002000001f4 000300010000000000020000000000fa 01020002000002bc \
     0102000200000064 00030003000000000001000000000005 'business 6' 1,750,0 2,50,1 3,0,1)"$'\n'
@@ -94,7 +87,8 @@ done
 run 0 "$(printf '%s\n' 'journal 3' 0,0,deposit,1,100 1,0,withdraw,1,40 2,0,withdraw,1,500 \
     'replica 3' 0001000100000064 0002000100000028 00020001000001f4 'business 3' 1,60,1)"$'\n' '' replay three_events.csv
 
-# Help.
+# Help, and the version, which names the kit that proved the program.
+run 0 "disruptor 0.1.0, proved with $(rt version)"$'\n' '' --version
 run 0 $'A verified LMAX Disruptor: producers and handlers over one ring of slots\n\nUsage: disruptor <COMMAND>\n*' '' --help
 run 0 $'Run a file of commands, and print one line a command\n\nUsage: disruptor drive <FILE>\n*' '' drive --help
 run 0 $'Replay a file of account movements, and print a report of them\n\nUsage: disruptor replay [OPTIONS] <FILE>\n*' '' replay --help

@@ -21,6 +21,9 @@ ESCAPE = re.compile(rb"\\(?:x([0-9a-f]{2})|([0rnt\\]))")
 ESCAPED = {b"0": b"\0", b"r": b"\r", b"n": b"\n", b"t": b"\t", b"\\": b"\\"}
 REPEATED = re.compile(rb"\{(\d+)\*([^}]*)\}")
 
+# The ways of a replay.
+WAYS = ("plain", "ring")
+
 Case = namedtuple("Case", "name text wanted")
 Ran = namedtuple("Ran", "status out err")
 
@@ -80,9 +83,10 @@ class Bench:
 
 
 def run_tables(bench):
-    for tool in ("drive", "replay"):
-        for case in cases_of(f"{tool}.txt"):
-            ran = bench.run(tool, bench.file("hostile.csv", case.text))
+    for tool in ("drive", *(f"replay --by={way}" for way in WAYS)):
+        words = tool.split()
+        for case in cases_of(f"{words[0]}.txt"):
+            ran = bench.run(*words, bench.file("hostile.csv", case.text))
             bench.judge(f"{tool} of {case.name}", ran, case.wanted)
 
 

@@ -10,7 +10,6 @@ mod arguments;
 mod fault;
 mod measured;
 mod one_thread;
-mod spin;
 mod sum;
 #[cfg(test)]
 mod tests;

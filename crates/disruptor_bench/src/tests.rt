@@ -63,7 +63,11 @@ fn every_name_is_read_back(rt: HostRuntime) -> Result<(), Fail> {
         "core",
         "core-",
         "unicast-step",
-        "core-unicast-b100",
+        "core-unicast-b0",
+        "core-unicast-b1001",
+        "chain",
+        "chain17",
+        "side0",
         "diamond-",
         "Diamond",
     ] {
@@ -78,7 +82,7 @@ fn a_command_line_is_four_words(rt: HostRuntime) -> Result<(), Fail> {
     let wanted = Order {
         time: Duration::from_millis(250),
         rounds: 5,
-        ..order(Exchange::Core, Shape::Unicast, Pace::Tens)?
+        ..order(Exchange::Core, Shape::Unicast, Pace::Claims(10))?
     };
     let words = ["core-unicast-b10", "64", "0.25", "5"];
     assert_eq!(rt; asked(alloc, &words)?, Some(Request::Measure(wanted)));
@@ -109,6 +113,16 @@ fn a_line_has_the_round_in_the_middle(rt: HostRuntime) -> Result<(), Fail> {
 }
 
 #[test]
+fn chains_and_rows_are_listed_nowhere(rt: HostRuntime) -> Result<(), Fail> {
+    for name in ["core-chain1", "core-side16", "chain16-b1000", "side2-b7"] {
+        let topology = Topology::named(name).ok_or(Fault::Usage)?;
+        assert_eq!(rt; topology.to_string(rt.alloc())?.as_str(), name);
+        let _graph = topology.shape.graph(rt.alloc())?;
+    }
+    Ok(())
+}
+
+#[test]
 fn sums_of_the_first_sequences(rt: HostRuntime) {
     let mut sum = 0u64;
     for count in 0..100 {
@@ -133,7 +147,7 @@ fn each_graph_sums_all_on_one_thread(rt: HostRuntime) -> Result<(), Fail> {
 #[test]
 fn each_graph_sums_all_on_threads(rt: HostRuntime) -> Result<(), Fail> {
     for shape in Shape::ALL {
-        let order = order(Exchange::Ring, shape, Pace::Tens)?;
+        let order = order(Exchange::Ring, shape, Pace::Claims(10))?;
         let round = threads::round(&rt, rt.alloc(), &order)?;
         assert_eq!(rt; round.events, 65_530);
     }

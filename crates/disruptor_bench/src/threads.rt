@@ -3,12 +3,12 @@
 use crate::arguments::Order;
 use crate::fault::Fault;
 use crate::measured::Round;
-use crate::spin::Spin;
 use crate::sum::{event_at, sum_of_first};
 use crate::{MOST_TURNS, STRETCH};
 use dr_core::{Claimed, MAX_LIMIT, Polled, Refusal};
 use dr_ring::{Receiver, Sender, ring};
 use dr_seq::Event;
+use dr_shared::Waiting;
 use std::alloc::Global;
 use std::rt::Clock;
 use std::thread::{self, JoinHandle, Threads};
@@ -23,16 +23,16 @@ const MOST_AT_ONCE: u64 = 1024;
 /// Adds up what is received, until the ring is drained.
 fn receive(mut receiver: Receiver, mut room: Vec<Event>) -> Result<u64, Fault> {
     let mut total = 0u64;
-    let mut spin = Spin::new();
+    let mut waiting = Waiting::new(room.len() as u64);
     for _ in 0..MOST_TURNS {
         match receiver.poll_into(&mut room)? {
             Polled::Batch { first, count, .. } => {
                 total = total.wrapping_add(sum_of(&room, count));
                 receiver.complete(first.wrapping_add(count))?;
-                spin.reset();
+                waiting.found(count);
             }
             Polled::Drained => return Ok(total),
-            Polled::Gating | Polled::Idle => spin.wait(),
+            Polled::Gating | Polled::Idle => waiting.wait(),
         }
     }
     Err(Fault::NoEnd)
@@ -49,11 +49,11 @@ fn sum_of(room: &[Event], count: u64) -> u64 {
 
 /// Claims once there is room.
 fn claim(sender: &mut Sender, n: u64) -> Result<Claimed, Fault> {
-    let mut spin = Spin::new();
+    let mut waiting = Waiting::new(n);
     for _ in 0..MOST_TURNS {
         match sender.try_claim(n) {
             Ok(claimed) => return Ok(claimed),
-            Err(Refusal::NoRoom) => spin.wait(),
+            Err(Refusal::NoRoom) => waiting.wait(),
             Err(refusal) => return Err(refusal.into()),
         }
     }

@@ -13,7 +13,15 @@ pub enum Exchange {
     Ring,
 }
 
-/// The graphs of the LMAX paper's measurements.
+/// The most handlers that a chain has, or that stand side by side.
+const MOST_HANDLERS: usize = 16;
+
+/// Their names.
+const NAMES: [&str; MOST_HANDLERS] = [
+    "a", "b", "c", "d", "e", "f", "g", "h", "i", "j", "k", "l", "m", "n", "o", "p",
+];
+
+/// The graphs of the LMAX paper's measurements, and two that grow.
 #[derive(Clone, Copy, Debug, PartialEq, Eq)]
 pub enum Shape {
     /// One handler.
@@ -24,6 +32,10 @@ pub enum Shape {
     Multicast,
     /// Two handlers side by side, and one after both.
     Diamond,
+    /// So many handlers, one after another.
+    Chain(usize),
+    /// So many handlers side by side.
+    Side(usize),
 }
 
 /// How the producer sends.
@@ -33,10 +45,8 @@ pub enum Pace {
     Ones,
     /// One event through the whole graph, and then the next.
     Step,
-    /// Claims of ten.
-    Tens,
-    /// Claims of a hundred.
-    Hundreds,
+    /// Claims of so many.
+    Claims(u64),
 }
 
 /// What is measured. Its text is its name on the command line.
@@ -58,12 +68,17 @@ impl Exchange {
         }
     }
 
-    /// How a producer can send to it: threads need no steps, and one thread no greater claims.
+    /// How a producer sends to it in the measurements that are listed.
     pub fn paces(self) -> [Pace; 3] {
         match self {
-            Exchange::Core => [Pace::Ones, Pace::Step, Pace::Tens],
-            Exchange::Ring => [Pace::Ones, Pace::Tens, Pace::Hundreds],
+            Exchange::Core => [Pace::Ones, Pace::Step, Pace::Claims(10)],
+            Exchange::Ring => [Pace::Ones, Pace::Claims(10), Pace::Claims(100)],
         }
+    }
+
+    /// Whether a producer can send to it so: threads have no steps.
+    fn has(self, pace: Pace) -> bool {
+        self == Exchange::Core || pace != Pace::Step
     }
 }
 
@@ -76,7 +91,36 @@ impl fmt::Display for Exchange {
     }
 }
 
+/// A count of at least 1 and at most so many, in digits.
+fn count_of(word: &str, most: u64) -> Option<u64> {
+    let count: u64 = word.parse().ok()?;
+    if count == 0 || count > most {
+        return None;
+    }
+    Some(count)
+}
+
+fn handlers_of(word: &str) -> Option<usize> {
+    Some(count_of(word, MOST_HANDLERS as u64)? as usize)
+}
+
+fn chain(builder: &mut GraphBuilder, handlers: usize) -> Result<(), GraphFault> {
+    let mut last = builder.handle_with(&["a"])?;
+    for name in NAMES.iter().take(handlers).skip(1) {
+        last = builder.then(&last, &[*name])?;
+    }
+    Ok(())
+}
+
+fn side(builder: &mut GraphBuilder, handlers: usize) -> Result<(), GraphFault> {
+    for name in NAMES.iter().take(handlers) {
+        builder.handle_with(&[*name])?;
+    }
+    Ok(())
+}
+
 impl Shape {
+    /// The shapes of the measurements that are listed.
     pub const ALL: [Shape; 4] = [
         Shape::Unicast,
         Shape::Pipeline,
@@ -90,7 +134,14 @@ impl Shape {
             "pipeline" => Some(Shape::Pipeline),
             "multicast" => Some(Shape::Multicast),
             "diamond" => Some(Shape::Diamond),
-            _ => None,
+            _ => Shape::that_grows(name),
+        }
+    }
+
+    fn that_grows(name: &str) -> Option<Shape> {
+        match name.strip_prefix("chain") {
+            Some(handlers) => Some(Shape::Chain(handlers_of(handlers)?)),
+            None => Some(Shape::Side(handlers_of(name.strip_prefix("side")?)?)),
         }
     }
 
@@ -98,21 +149,15 @@ impl Shape {
     pub fn graph(self, alloc: Global) -> Result<Graph, GraphFault> {
         let mut builder = GraphBuilder::new(alloc);
         match self {
-            Shape::Unicast => {
-                builder.handle_with(&["a"])?;
-            }
-            Shape::Pipeline => {
-                let first = builder.handle_with(&["a"])?;
-                let second = builder.then(&first, &["b"])?;
-                builder.then(&second, &["c"])?;
-            }
-            Shape::Multicast => {
-                builder.handle_with(&["a", "b", "c"])?;
-            }
+            Shape::Unicast => side(&mut builder, 1)?,
+            Shape::Pipeline => chain(&mut builder, 3)?,
+            Shape::Multicast => side(&mut builder, 3)?,
             Shape::Diamond => {
                 let both = builder.handle_with(&["a", "b"])?;
                 builder.then(&both, &["c"])?;
             }
+            Shape::Chain(handlers) => chain(&mut builder, handlers)?,
+            Shape::Side(handlers) => side(&mut builder, handlers)?,
         }
         builder.build()
     }
@@ -120,43 +165,44 @@ impl Shape {
 
 impl fmt::Display for Shape {
     fn fmt<W: fmt::Write>(&self, f: &mut fmt::Formatter<W>) -> fmt::Result {
-        f.write_str(match self {
-            Shape::Unicast => "unicast",
-            Shape::Pipeline => "pipeline",
-            Shape::Multicast => "multicast",
-            Shape::Diamond => "diamond",
-        })
+        match self {
+            Shape::Unicast => f.write_str("unicast"),
+            Shape::Pipeline => f.write_str("pipeline"),
+            Shape::Multicast => f.write_str("multicast"),
+            Shape::Diamond => f.write_str("diamond"),
+            Shape::Chain(handlers) => write!(f, "chain{handlers}"),
+            Shape::Side(handlers) => write!(f, "side{handlers}"),
+        }
     }
 }
 
+/// The most events of a claim.
+const MOST_CLAIMED: u64 = 1000;
+
 impl Pace {
     fn named(name: &str) -> Option<Pace> {
-        match name {
-            "step" => Some(Pace::Step),
-            "b10" => Some(Pace::Tens),
-            "b100" => Some(Pace::Hundreds),
-            _ => None,
+        if name == "step" {
+            return Some(Pace::Step);
         }
+        Some(Pace::Claims(count_of(name.strip_prefix("b")?, MOST_CLAIMED)?))
     }
 
     /// How many events a claim asks for, where the ring has so many slots.
     pub fn claim(self) -> u64 {
         match self {
             Pace::Ones | Pace::Step => 1,
-            Pace::Tens => 10,
-            Pace::Hundreds => 100,
+            Pace::Claims(events) => events,
         }
     }
 }
 
 impl fmt::Display for Pace {
     fn fmt<W: fmt::Write>(&self, f: &mut fmt::Formatter<W>) -> fmt::Result {
-        f.write_str(match self {
-            Pace::Ones => "",
-            Pace::Step => "-step",
-            Pace::Tens => "-b10",
-            Pace::Hundreds => "-b100",
-        })
+        match self {
+            Pace::Ones => Ok(()),
+            Pace::Step => f.write_str("-step"),
+            Pace::Claims(events) => write!(f, "-b{events}"),
+        }
     }
 }
 
@@ -171,7 +217,7 @@ impl Topology {
             Some((shape, pace)) => (Shape::named(shape)?, Pace::named(pace)?),
             None => (Shape::named(rest)?, Pace::Ones),
         };
-        if !exchange.paces().contains(&pace) {
+        if !exchange.has(pace) {
             return None;
         }
         Some(Topology {

@@ -1,8 +1,7 @@
 -- What the worker of a handler gives back.
 use Rattle.std.specs.Prelude.{◌≡◌, ℕ, true, List, [], Option, None, Some, Result, Ok, Err, IfOk, string_bytes}
 use Rattle.dr_seq.specs.declared.event.Event.{Event}
-use Rattle.dr_ring.specs.Stations.{ReceiverEnd}
-use Rattle.dr_ring.specs.Shown.{receiver_place}
+use Rattle.dr_ring.specs.Calls.Ends.{ReceiverEnd, receiver_place}
 use Rattle.dr_accounts.specs.declared.worker.Worked.{Worked}
 
 -- a worker gives back the end that it was given, and what it says is the part of the report of what that end received, which was told that the ring drained

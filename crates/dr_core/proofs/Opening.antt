@@ -1,15 +1,21 @@
 -- A new core shows the opening.
-use Rattle.std.proofs.Common.{◌≡◌, ℕ, zero, suc, Bool, List, [], arith, refl, ap, sym, ◌∙◌, length, replicate, false}
+use Rattle.std.proofs.Common.{◌≡◌, ℕ, zero, suc, ◌≤◌, ◌^◌, Bool, List, [], arith, refl, ap, sym, ◌∙◌, length, replicate, false}
+use Rattle.std.proofs.lemmas.Bool.{or_parts, ltb-false}
 use Rattle.std.proofs.lemmas.List.{length-replicate}
 use Rattle.dr_graph.specs.Name.{Name}
 use Rattle.dr_core.specs.Machine.{Setup, handlers, opening, least_outside}
 use Rattle.dr_graph.specs.Graph.{flagged}
 use Rattle.dr_core.specs.CoreView.{Known, CoreView}
 use Rattle.dr_core.specs.Shows.{Shows}
+use Rattle.dr_core.specs.OpenFault.{is_bad_limit}
 use Rattle.dr_core.specs.Runs.{IsReached}
 use Rattle.dr_core.proofs.Running.{run_none}
 use Rattle.dr_core.proofs.Whole.{reached_whole}
 use Rattle.dr_core.specs.Inside.{IsSetup, IsWhole}
+
+-- a valid limit lets no sum of counts wrap
+pub limit_fits : (limit : ℕ) → is_bad_limit limit ≡ false → limit ≤ 2 ^ 62
+limit_fits limit good = ltb-false _ _ (or_parts _ _ good).1
 
 -- where no flag is set, nobody is told
 unflagged : (n h : ℕ) → flagged (replicate n false) h ≡ false

@@ -8,6 +8,7 @@ use Rattle.dr_seq.specs.declared.event.Event.{Event}
 use Rattle.dr_seq.specs.Event.{no_event}
 use Rattle.dr_seq.specs.Rounds.{entry_of, is_marked, IsFront}
 use Rattle.dr_seq.specs.Slots.{event_at}
+use Rattle.dr_seq.proofs.Apart.{slots_differ}
 use Rattle.dr_core.specs.declared.mode.Mode.{Mode}
 use Rattle.dr_core.specs.declared.mode.Mode.TheVariants.{Single, Multi}
 use Rattle.dr_core.specs.declared.refusal.Refusal.TheVariants.{NotClaimed, NotWritten, AlreadyPublished}
@@ -16,7 +17,7 @@ use Rattle.dr_core.specs.Machine.{producers, is_single}
 use Rattle.dr_core.specs.CoreView.{CoreView, known_at}
 use Rattle.dr_core.specs.Availability.{Kept, owner_at, is_published_at, is_written_at, is_ahead, IsNoted, published_after, IsNewFront, known_of, slot_known, stamped, owners_after, HasOwners, write_fault, publish_fault, is_shown, value_of}
 use Rattle.dr_core.specs.Inside.{kept_of, view_of, IsAvailable}
-use Rattle.dr_core.proofs.Stamped.{length-stamped, stamped-in, stamped-out, mod-ne, marks_none_after, marked-in, marked-out, mark_is}
+use Rattle.dr_core.proofs.Stamped.{length-stamped, stamped-in, stamped-out, marks_none_after, marked-in, marked-out, mark_is}
 use Rattle.dr_core.proofs.Keeps.{zeros}
 use Rattle.dr_core.proofs.CoreSteps.{ClaimsKnown, known_at-recent}
 use Rattle.dr_core.proofs.Writing.{WritesKnown, unwritten_refused}
@@ -244,7 +245,7 @@ module _ (v : CoreView) (a : Kept) (kept : (s : ℕ) → s < v.next → v.next �
         record {
           here = (let event : event_at after.events s ≡ x = rw length-set (get_or-set_same a.events (s % length a.events) x no_event (mod-lt s (omega arith))) in
               rw (unpublished, notes.here, event, mine));
-          kept = λ k ne l round. (let apart : k % length a.events ≢ s % length a.events = mod-ne k s (length a.events) ne (omega arith) (omega arith) in
+          kept = λ k ne l round. (let apart : k % length a.events ≢ s % length a.events = slots_differ (length a.events) k s ne (omega arith) (omega arith) in
               let event : event_at after.events k ≡ event_at a.events k = rw length-set (get_or-set_other a.events (s % length a.events) (k % length a.events) x no_event apart) in
               rw (notes.others k ne l round, event) (sym (kept k l round)));
         }

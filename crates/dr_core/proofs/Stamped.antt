@@ -1,10 +1,11 @@
 -- What is read from slots that were set for a stretch of sequences.
 use Rattle.std.proofs.Common.{◌≡◌, ℕ, zero, suc, ◌+◌, ◌*◌, ◌/◌, ◌%◌, ◌<◌, ◌≤◌, ◌≢◌, inl, inr, true, false, List, arith, refl, sym, ◌∙◌, length, get_or, set, add-one, add-zero}
-use Rattle.std.proofs.lemmas.Bool.{cases_eq, cases_lt, eq-eqb, ne_eqb}
+use Rattle.std.proofs.lemmas.Bool.{cases_eq, eq-eqb, ne_eqb}
 use Rattle.std.proofs.lemmas.List.{length-set, get_or-set_same, get_or-set_other}
-use Rattle.std.proofs.Math.Nat.{mod-lt, mul-le-mul_right}
+use Rattle.std.proofs.Math.Nat.{mod-lt}
 use Rattle.std.proofs.lemmas.Nat.{div-add-mod'}
 use Rattle.dr_seq.specs.Rounds.{entry_of, is_marked}
+use Rattle.dr_seq.proofs.Apart.{slots_differ}
 use Rattle.dr_core.specs.Availability.{stamped}
 
 pub length-stamped : (f : ℕ → ℕ) (xs : List ℕ) (from n : ℕ) → length (stamped f xs from n) ≡ length xs
@@ -20,22 +21,6 @@ pub stamped-more : (f : ℕ → ℕ) (xs : List ℕ) (from n : ℕ) → stamped 
 unfolding stamped
 stamped-more f xs from n = rw add-one
 
--- two sequences less than a round apart have two slots
-mod-ne_above : (a b n : ℕ) → a < b → b < a + n → a % n ≢ b % n
-mod-ne_above a b n l g same =
-    let x : a / n * n + a % n ≡ a = div-add-mod' a n in
-    let y : b / n * n + b % n ≡ b = div-add-mod' b n in
-    elim (cases_lt (a / n) (b / n)) [
-      | inl lt ↦ (let p : (a / n + 1) * n ≤ b / n * n = mul-le-mul_right n (let q : a / n + 1 ≤ b / n = omega arith in q) in omega (arith, p))
-      | inr ge ↦ (let p : b / n * n ≤ a / n * n = mul-le-mul_right n ge in omega (arith, p))
-    ]
-
-pub mod-ne : (a b n : ℕ) → a ≢ b → a < b + n → b < a + n → a % n ≢ b % n
-mod-ne a b n ne near far = elim (cases_lt a b) [
-  | inl below ↦ mod-ne_above a b n below far
-  | inr above ↦ (let back : b % n ≢ a % n = mod-ne_above b a n (omega arith) near in λ e. back (sym e))
-]
-
 -- a slot of the stretch is set
 pub stamped-in : (f : ℕ → ℕ) (xs : List ℕ) (from n d s : ℕ) → 0 < length xs → n ≤ length xs → from ≤ s → s < from + n → get_or (stamped f xs from n) (s % length xs) d ≡ f s
 unfolding stamped
@@ -45,7 +30,7 @@ stamped-in f xs from (suc n) d s pos le a b =
     elim (cases_eq s (from + n)) [
       | inl e ↦ rw e (get_or-set_same (stamped f xs from n) ((from + n) % length xs) (f (from + n)) d inside)
       | inr ne ↦
-          let apart : s % length xs ≢ (from + n) % length xs = mod-ne s (from + n) (length xs) ne (omega arith) (omega arith) in
+          let apart : s % length xs ≢ (from + n) % length xs = slots_differ (length xs) s (from + n) ne (omega arith) (omega arith) in
           get_or-set_other (stamped f xs from n) ((from + n) % length xs) (s % length xs) (f (from + n)) d apart ∙ stamped-in f xs from n d s pos (omega arith) a (omega arith)
     ]
 
@@ -54,7 +39,7 @@ pub stamped-out : (f : ℕ → ℕ) (xs : List ℕ) (from n d s : ℕ) → from 
 unfolding stamped
 stamped-out f xs from zero d s near far out = refl
 stamped-out f xs from (suc n) d s near far out =
-    let apart : s % length xs ≢ (from + n) % length xs = mod-ne s (from + n) (length xs) (out n (omega arith)) (omega arith) (omega arith) in
+    let apart : s % length xs ≢ (from + n) % length xs = slots_differ (length xs) s (from + n) (out n (omega arith)) (omega arith) (omega arith) in
     get_or-set_other (stamped f xs from n) ((from + n) % length xs) (s % length xs) (f (from + n)) d apart
     ∙ stamped-out f xs from n d s (omega arith) far (λ k l. out k (omega arith))
 

@@ -153,25 +153,35 @@ WhereShown Changes None (Some new) = ⊥
 WhereShown Changes (Some old) None = ⊥
 WhereShown Changes (Some old) (Some new) = Changes old new
 
+abbrev pub with_claimed : Sent → ℕ → Sent
+with_claimed e n = record e { pending = e.pending ++ replicate n None }
+
 -- the next n sequences are claimed
 abbrev pub Claims : ℕ → Result Claimed Trouble → Sent → Sent → Type 0
-Claims n (Ok c) old new = (c.lo ≡ claimed_by old) × (new ≡ record old { pending = old.pending ++ replicate n None })
+Claims n (Ok c) old new = (c.lo ≡ claimed_by old) × (new ≡ with_claimed old n)
 Claims n (Err trouble) old new = new ≡ old
+
+abbrev pub with_event : Sent → ℕ → Event → Sent
+with_event e s event = record e { pending = slice_set e.pending (s - length e.published) (Some event) }
 
 -- an open sequence has the event
 abbrev pub Writes : ℕ → Event → Result (Unit {0}) Trouble → Sent → Sent → Type 0
-Writes s event (Ok done) old new = new ≡ record old { pending = slice_set old.pending (s - length old.published) (Some event) }
+Writes s event (Ok done) old new = new ≡ with_event old s event
 Writes s event (Err trouble) old new = new ≡ old
 
--- the open sequences up to hi are published
-abbrev pub published_through : Sent → ℕ → Sent
-published_through e hi = record {
-  published = e.published ++ map (λ o. unwrap_or o no_event) (take (hi + 1 - length e.published) e.pending);
-  pending = drop (hi + 1 - length e.published) e.pending;
+abbrev pub event_or_none : Option Event → Event
+event_or_none o = unwrap_or o no_event
+
+-- the open sequences below n are published
+abbrev pub published_below : Sent → ℕ → Sent
+published_below e n = record {
+  published = e.published ++ map event_or_none (take (n - length e.published) e.pending);
+  pending = drop (n - length e.published) e.pending;
 }
 
+-- the open sequences up to hi are published
 abbrev pub Publishes : ℕ → ℕ → Result (Unit {0}) Trouble → Sent → Sent → Type 0
-Publishes lo hi (Ok done) old new = new ≡ published_through old hi
+Publishes lo hi (Ok done) old new = new ≡ published_below old (hi + 1)
 Publishes lo hi (Err trouble) old new = new ≡ old
 
 -- a batch has the next events; any other answer takes none
@@ -184,6 +194,11 @@ Takes out' (Err trouble) old new = new ≡ old
 abbrev pub Completes : ℕ → Result (Unit {0}) Trouble → Received → Received → Type 0
 Completes upto (Ok done) old new = new ≡ record old { completed = upto }
 Completes upto (Err trouble) old new = new ≡ old
+
+-- the answer of an exchange's own call as an end gives it: its refusal is trouble
+abbrev pub as_end : {A : Type 0} → Result A Refusal → Result A Trouble
+as_end (Ok x) = Ok x
+as_end (Err refusal) = Err (Refused refusal)
 
 -- An answer of an exchange's own call, told as an end's: its refusal is trouble, and memory is never wanting.
 abbrev pub Tells : {A : Type 0} → (Result A Refusal → Type 0) → Result A Trouble → Type 0

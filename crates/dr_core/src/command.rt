@@ -1,5 +1,8 @@
 //! What is asked of an exchange, and what it answers.
 
+ghost use Rattle.std.specs.Prelude.{◌≡◌};
+ghost use Rattle.dr_core.specs.Runs.{count_in};
+
 use crate::refusal::Refusal;
 use dr_seq::Event;
 
@@ -37,6 +40,18 @@ pub enum Reply {
     Halting,
     Retired,
     Refused(Refusal),
+}
+
+impl Reply {
+    /// How many events come with it: none but with a batch.
+    pub fn count(self) -> usize
+        ensures { result ≡ count_in self }
+    {
+        match self {
+            Reply::Batch { count, .. } => count as usize,
+            _ => 0,
+        }
+    }
 }
 
 /// A stretch of claimed sequences, both ends in it.

@@ -1,6 +1,6 @@
 //! The core: the exchange on one thread.
 
-ghost use Rattle.std.specs.Prelude.{◌≡◌, ◌↔◌, ◌^◌, ◌<◌, Err, IfOk, IfErr, ◌≤◌, true, false, slice_index};
+ghost use Rattle.std.specs.Prelude.{◌≡◌, ◌↔◌, ◌^◌, ◌<◌, Err, IfOk, IfErr, ◌≤◌, true, false, not, slice_index};
 ghost use Rattle.dr_core.specs.Availability.{HasOwners};
 ghost use Rattle.dr_core.specs.CoreView.{retired_in};
 ghost use Rattle.dr_core.specs.Inside.{IsOpened};
@@ -22,11 +22,15 @@ mod polling;
 mod publishing;
 mod retiring;
 
-/// The most producers of an exchange.
-pub const MAX_PRODUCERS: u64 = 16;
-
 /// The greatest limit of sequences, 2^62, so that no count of sequences ever wraps.
 pub const MAX_LIMIT: u64 = 1 << 62;
+
+/// Whether so many sequences can be a limit: 1 to [`MAX_LIMIT`].
+pub fn is_valid_limit(limit: u64) -> bool
+    ensures { result ≡ not (is_bad_limit limit) }
+{
+    0 < limit && limit <= MAX_LIMIT
+}
 
 /// The exchange on one thread: slots that are used again, a graph of handlers, and counts.
 ///
@@ -83,24 +87,26 @@ impl Core {
         ensures bad_producers { (result ≡ Err OpenFault.BadProducers) ↔ (has_bad_producers mode ≡ true) }
         ensures bad_limit { (result ≡ Err OpenFault.BadLimit) ↔ (has_bad_producers mode ≡ false) × (is_bad_limit limit ≡ true) }
     {
-        if is_bad_mode(mode) {
+        if !mode.is_valid() {
             return Err(OpenFault::BadProducers);
         }
-        if limit == 0 || limit > MAX_LIMIT {
+        if !is_valid_limit(limit) {
             return Err(OpenFault::BadLimit);
         }
-        Ok(Core::fresh(alloc, graph, size, mode, limit)?)
+        Ok(Core::open_valid(alloc, graph, size, mode, limit)?)
     }
 
-    /// A core with nothing claimed, of a mode and a limit that were found good.
-    fn fresh(
+    /// Opens a core as [`Core::open`] does, where the mode and the limit are known to be valid. So
+    /// an error is that memory ran out.
+    pub fn open_valid(
         alloc: Global,
         graph: Graph,
         size: Size,
         mode: Mode,
         limit: u64,
     ) -> Result<Core, AllocError>
-        requires { limit ≤ 2 ^ 62 }
+        requires mode { has_bad_producers mode ≡ false }
+        requires limit { is_bad_limit limit ≡ false }
         ensures { IfOk result (λ core. IsOpened core (setup_of graph.upstreams size mode limit) graph.names) }
     {
         let handlers = graph.len();
@@ -203,15 +209,6 @@ impl Core {
         ensures { result ≡ retired_in self.now h }
     {
         self.retired[h]
-    }
-}
-
-fn is_bad_mode(mode: Mode) -> bool
-    ensures { result ≡ has_bad_producers mode }
-{
-    match mode {
-        Mode::Single => false,
-        Mode::Multi(producers) => producers == 0 || producers > MAX_PRODUCERS,
     }
 }
 

@@ -21,7 +21,7 @@ pub fn every_transcript_is_lawful()
     ensures { (c : Setup) (t : Transcript) (m : State) → LeadsTo c t m → Laws c t }
 {}
 
-/// What a transcript tells by its own entries is what the state that it leads to has.
+/// What a transcript says by its own entries is what the state that it leads to has.
 pub fn every_transcript_tells_its_state()
     ensures { (c : Setup) (t : Transcript) (m : State) → LeadsTo c t m → Tells t m }
 {}

@@ -21,13 +21,13 @@ pub mod runs;
 
 pub use command::{Claimed, Command, Polled, Reply};
 pub use ends::{Inlet, Outlet, Trouble};
-pub use engine::{Core, MAX_LIMIT, MAX_PRODUCERS};
+pub use engine::{Core, MAX_LIMIT, is_valid_limit};
 pub use handler::{Handler, processor_turn, show};
 pub use lawful::{
     every_step_leads_on, every_transcript_is_lawful, every_transcript_tells_its_state,
     retirement_keeps_the_gate,
 };
-pub use mode::Mode;
+pub use mode::{MAX_PRODUCERS, Mode};
 pub use open_fault::OpenFault;
 pub use refusal::Refusal;
 pub use runs::{Ran, run};

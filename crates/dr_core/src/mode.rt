@@ -1,7 +1,11 @@
 //! Who may claim.
 
-ghost use Rattle.std.specs.Prelude.{◌≡◌};
+ghost use Rattle.std.specs.Prelude.{◌≡◌, not};
 ghost use Rattle.dr_core.specs.Machine.{is_single as is_single_of, producers as producers_of};
+ghost use Rattle.dr_core.specs.OpenFault.{has_bad_producers};
+
+/// The most producers of an exchange.
+pub const MAX_PRODUCERS: u64 = 16;
 
 /// How many producers claim, and in what order they publish.
 #[derive(Clone, Copy, Debug, PartialEq, Eq)]
@@ -14,6 +18,13 @@ pub enum Mode {
 }
 
 impl Mode {
+    /// Whether an exchange can have so many producers: several are 1 to [`MAX_PRODUCERS`].
+    pub fn is_valid(self) -> bool
+        ensures { result ≡ not (has_bad_producers self) }
+    {
+        0 < self.producers() && self.producers() <= MAX_PRODUCERS
+    }
+
     /// How many producers there are.
     pub fn producers(self) -> u64
         ensures { result ≡ producers_of self }

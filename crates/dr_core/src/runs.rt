@@ -3,7 +3,7 @@
 ghost use Rattle.std.specs.Prelude.{◌≡◌, ◌++◌, ◌^◌, ◌≤◌, length, OnErr, IfOk, MatchOption};
 ghost use Rattle.dr_core.specs.Machine.{State};
 ghost use Rattle.dr_core.specs.Transcript.{Transcript, LeadsTo};
-ghost use Rattle.dr_core.specs.Runs.{RunsTo, transcript_of, count_in, counts_of, needed, offers};
+ghost use Rattle.dr_core.specs.Runs.{RunsTo, transcript_of, counts_of, needed, offers};
 ghost use Rattle.dr_core.specs.Shows.{Shows};
 
 use crate::command::{Command, Reply};
@@ -38,7 +38,7 @@ pub fn run(alloc: Global, core: &mut Core, commands: &[Command]) -> Result<Ran, 
     for command in commands {
         let reply = core.execute(*command, &mut buffer);
         replies.push(reply)?;
-        values.extend_from_slice(&buffer[..batch_len(reply)])?;
+        values.extend_from_slice(&buffer[..reply.count()])?;
     }
     Ok(Ran { replies, values })
 }
@@ -60,20 +60,6 @@ fn offered(command: Command, size: usize) -> usize
 {
     match command {
         Command::Poll { h: _, max } => max.min(size),
-        _ => 0,
-    }
-}
-
-/// How many events come with a reply.
-fn batch_len(reply: Reply) -> usize
-    ensures { result ≡ count_in reply }
-{
-    match reply {
-        Reply::Batch {
-            first: _,
-            count,
-            end: _,
-        } => count as usize,
         _ => 0,
     }
 }

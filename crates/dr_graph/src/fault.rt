@@ -25,7 +25,7 @@ pub enum GraphFault {
     NoHandlers,
     /// A call was passed no name.
     EmptyGroup,
-    /// Memory was refused.
+    /// An allocation failed.
     NoMemory,
 }
 

@@ -1,4 +1,4 @@
-//! What follows from the definitions of `specs/` alone, told of every declaration and every graph.
+//! What follows from the definitions of `specs/` alone, said of every declaration and every graph.
 
 ghost use Rattle.std.specs.Prelude.{List, ℕ};
 ghost use Rattle.dr_graph.specs.Declaration.{Declaration};

@@ -30,7 +30,7 @@ fn both(builder: &GraphBuilder, first: &Group, names: &[&str]) -> Result<Group, 
     builder.and(first, &second)
 }
 
-/// Makes a call, and tells its refusal.
+/// Makes a call, and gives its refusal.
 fn refusal(builder: &mut GraphBuilder, current: &mut Group, call: &Call) -> Option<GraphFault> {
     let made = match call {
         Call::With(names) => builder.handle_with(*names),

@@ -8,6 +8,9 @@ use std::alloc::{AllocError, Global};
 
 const ABOUT: &str = "A verified LMAX Disruptor: producers and handlers over one ring of slots";
 
+/// The program's version, and the kit that it is proved with, as `rt version` prints it.
+const VERSION: &str = "0.1.0, proved with rattle-kit-13b logic dac8208d650f15bf";
+
 const DRIVE: &str = "Run a file of commands, and print one line a command";
 
 const FILE: &str = "The file of commands, one record a line";
@@ -120,6 +123,7 @@ fn command<'a>(alloc: Global) -> Result<Command<'a>, AllocError> {
         .arg(file)?;
     Command::new(alloc, "disruptor")
         .about(ABOUT)
+        .version(VERSION)
         .after_help(
             "`disruptor drive --help` and `disruptor replay --help` show a file, and what it prints.",
         )
@@ -137,7 +141,9 @@ fn usage(alloc: Global, error: &Error) -> Result<String, AllocError> {
 fn refused(alloc: Global, error: &Error) -> Result<Plan, LineFault> {
     match error.kind() {
         ErrorKind::OutOfMemory => Err(LineFault::Memory),
-        ErrorKind::DisplayHelp => Ok(Plan::Help(error.to_string(alloc)?)),
+        ErrorKind::DisplayHelp | ErrorKind::DisplayVersion => Ok(Plan::Help(error.to_string(
+            alloc,
+        )?)),
         _ => Err(LineFault::Usage(usage(alloc, error)?)),
     }
 }

@@ -8,11 +8,11 @@ use mathlib.Core.Option.{some, some-injective, some-ne-none}
 use lib.ListN.{get_elem?}
 use Rattle.dr_graph.specs.Graph.{IsGraph}
 use Rattle.dr_core.specs.Machine as machine
-use Rattle.dr_ring.specs.Shape.{Shape, handlers_of, setup_of}
-use Rattle.dr_ring.specs.Words.{cursor_word, closed_word, halt_word, count_word, words_of}
+use Rattle.dr_ring.specs.Meaning.Shape.{Shape, handlers_of, setup_of}
+use Rattle.dr_ring.specs.Meaning.Words.{cursor_word, closed_word, halt_word, count_word, words_of}
 use Rattle.dr_ring.specs.declared.record.ReceiverRecord.{ReceiverRecord}
-use Rattle.dr_ring.specs.Kept.{Kept, ReceiverKept}
-use Rattle.dr_ring.specs.Moments.{fresh_receiver, fresh_receivers, opening, taken_of, picture_of}
+use Rattle.dr_ring.specs.Meaning.Kept.{Kept, ReceiverKept}
+use Rattle.dr_ring.specs.Meaning.Moments.{fresh_receiver, fresh_receivers, opening, taken_of, picture_of}
 
 pub fresh_at : (k : Shape) (h n i : ℕ) (r : ReceiverRecord) → get_elem? (fresh_receivers k h n) i ≡ some r → r ≡ fresh_receiver k (h + i)
 fresh_at k h zero i r e = absurd (some-ne-none r (sym e))

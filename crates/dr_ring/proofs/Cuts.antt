@@ -3,19 +3,18 @@ use Rattle.std.proofs.Common.{◌≡◌, ◌≢◌, ℕ, zero, suc, ◌+◌, ◌
 use Rattle.std.proofs.lemmas.Bool.{eq-eqb, ne_eqb}
 use mathlib.Core.Option.{some, some-injective, some-ne-none}
 use lib.ListN.{get_elem?}
-use Rattle.atomic_table.specs.Table.{Splits, Joins}
-use Rattle.atomic_table.specs.Table.{opening as table_opening}
+use Rattle.atomic_table.specs.Table.{Splits, Joins, opening as table_opening}
 use Rattle.atomic_table.proofs.Lists.{at_set}
 use Rattle.dr_graph.specs.Graph.{IsGraph}
-use Rattle.dr_ring.specs.Shape.{Shape, handlers_of}
-use Rattle.dr_ring.specs.Words.{words_of}
+use Rattle.dr_ring.specs.Meaning.Shape.{Shape, handlers_of}
+use Rattle.dr_ring.specs.Meaning.Words.{words_of}
 use Rattle.dr_ring.specs.declared.record.ReceiverRecord.{ReceiverRecord}
 use Rattle.dr_ring.specs.declared.record.EndRecord.{EndRecord}
 use Rattle.dr_ring.specs.declared.record.EndRecord.TheVariants.{Sends, Receives, Halts}
-use Rattle.dr_ring.specs.Kept.{World}
-use Rattle.dr_ring.specs.Moments.{fresh_sender, fresh_receivers, fresh_halter, opening}
-use Rattle.dr_ring.specs.Seats.{Known, EachPast, Saw, end_number, Stands, world_of, Ruled, all_ends}
-use Rattle.dr_ring.specs.Settling.{both_views}
+use Rattle.dr_ring.specs.Meaning.Kept.{World}
+use Rattle.dr_ring.specs.Meaning.Moments.{fresh_sender, fresh_receivers, fresh_halter, opening}
+use Rattle.dr_ring.specs.Inside.Seats.{Known, EachPast, Saw, end_number, Stands, world_of, Ruled, all_ends}
+use Rattle.dr_ring.specs.Inside.Gathering.{both_views}
 use Rattle.dr_ring.specs.declared.record.Step.{Step}
 use Rattle.dr_ring.specs.declared.record.View.{View}
 use Rattle.dr_ring.proofs.Beginning.{fresh_at}

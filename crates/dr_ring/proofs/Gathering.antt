@@ -13,13 +13,15 @@ use Rattle.dr_ring.specs.declared.record.EndRecord.TheVariants.{Sends, Receives}
 use Rattle.dr_graph.specs.Graph.{IsGraph}
 use Rattle.dr_core.specs.Transcript.{Transcript, LeadsTo}
 use Rattle.dr_core.specs.Laws.{Laws}
-use Rattle.dr_ring.specs.Shape.{Shape, handlers_of, setup_of}
+use Rattle.dr_ring.specs.Meaning.Shape.{Shape, handlers_of, setup_of}
 use Rattle.dr_ring.specs.declared.record.Step.{Step}
-use Rattle.dr_ring.specs.Kept.{World, Kept}
-use Rattle.dr_ring.specs.Moments.{opening, picture_of, Runs}
-use Rattle.dr_ring.specs.Seats.{Known, End, Sitting, end_of, as_receiver, sender_of}
-use Rattle.dr_ring.specs.Stations.{SenderEnd, ReceiverEnd}
-use Rattle.dr_ring.specs.Settling.{Agrees, Settles, LeadsView, IsInView, Gathers, ViewAgrees, ViewRan, HasRun, AreAllEnds, AreOfRing, counts_of}
+use Rattle.dr_ring.specs.Meaning.Kept.{World, Kept}
+use Rattle.dr_ring.specs.Meaning.Moments.{opening, picture_of, Runs}
+use Rattle.dr_ring.specs.Inside.Seats.{Known, End, Sitting, end_of, as_receiver, sender_of}
+use Rattle.dr_ring.specs.Calls.Ends.{SenderEnd, ReceiverEnd}
+use Rattle.dr_ring.specs.Meaning.Settling.{Agrees, Settles, HasRun}
+use Rattle.dr_ring.specs.Inside.Gathering.{LeadsView, IsInView, Gathers, ViewAgrees, ViewRan, AreOfRing}
+use Rattle.dr_ring.specs.Calls.Settling.{AreAllEnds, counts_of}
 
 abbrev pub knows_of : ReceiverEnd → ReceiverRecord
 knows_of e = e.knows
@@ -55,11 +57,11 @@ seen_more : (v : Known) (held : List (ℕ × ℕ)) (seen : List ReceiverEnd) (e 
 seen_more v held seen e before zero x at = subst (λ (y : ReceiverEnd). IsInView (v ++ Receives e.knows ∷ [], held) y.knows) (some-injective e x at) (length v, at_last v (Receives e.knows) (length v) refl)
 seen_more v held seen e before (suc h) x at = let b = before h x at in (b.0, at_longer v (Receives e.knows ∷ []) b.0 (Receives x.knows) b.1)
 
-pub gathering_more : (ring : TableId) (me now next : End) (left left' seen all : List ReceiverEnd) (e : ReceiverEnd) (counts counts' : List HandlerCounts) (other : End)
+pub gathering_more : {ring : TableId} {me now next : End} {left left' seen all : List ReceiverEnd} {e : ReceiverEnd} {counts counts' : List HandlerCounts} (other : End)
     → Gathering ring me now left seen all counts → left ≡ left' ++ e ∷ []
     → other ≡ as_receiver e.knows → next ≡ (now.0 ++ other.0, now.1) → counts' ≡ set counts (length left') (counts_of e.knows)
     → Gathering ring me next left' (e ∷ seen) all counts'
-gathering_more ring me now next left left' seen all e counts counts' other G popped of is new =
+gathering_more {me = me} {now = now} {next = next} {left = left} {left' = left'} {seen = seen} {all = all} {e = e} {counts = counts} {counts' = counts'} other G popped of is new =
     let P : End → Type 0 = λ m. LeadsView m × (sender_of m.0 ≡ sender_of me.0) in
     let joined : next ≡ (now.0 ++ Receives e.knows ∷ [], now.1) = is ∙ ap (λ (m : End). let x : End = (now.0 ++ m.0, now.1) in x) of in
     let first : get_elem? (now.0 ++ Receives e.knows ∷ []) 0 ≡ some (Sends (sender_of now.0)) = at_longer now.0 (Receives e.knows ∷ []) 0 (Sends (sender_of now.0)) G.leads.0 in
@@ -88,9 +90,9 @@ knows_at (e ∷ rs) zero r at = (e, refl, some-injective e.knows r at)
 knows_at (e ∷ rs) (suc h) r at = knows_at rs h r at
 
 -- all have come
-pub gathering_all : (ring : TableId) (me now : End) (left seen all : List ReceiverEnd) (counts : List HandlerCounts)
+pub gathering_all : {ring : TableId} {me now : End} {left seen all : List ReceiverEnd} {counts : List HandlerCounts}
     → Gathering ring me now left seen all counts → length left ≡ 0 → Gathers me (map knows_of all) now × (counts ≡ map (λ e. counts_of e.knows) all)
-gathering_all ring me now left seen all counts G none =
+gathering_all {now = now} {left = left} {seen = seen} {all = all} {counts = counts} G none =
     let same : seen ≡ all = ap (λ (xs : List ReceiverEnd). xs ++ seen) (sym (no_elements left none)) ∙ G.split in (
       record {
         leads = G.leads;

@@ -4,15 +4,16 @@ use Rattle.std.proofs.lemmas.Bool.{ne_eqb}
 use Rattle.std.proofs.lemmas.List.{length-append, length-take, length-drop, length-map, append-nil}
 use Rattle.dr_seq.specs.declared.event.Event.{Event}
 use Rattle.dr_core.specs.Transcript.{Transcript}
-use Rattle.dr_ring.specs.Shape.{Shape}
-use Rattle.dr_ring.specs.Words.{cursor_word, closed_word, halt_word, count_word, payload_word}
+use Rattle.dr_core.specs.Ends.{event_or_none}
+use Rattle.dr_ring.specs.Meaning.Shape.{Shape}
+use Rattle.dr_ring.specs.Meaning.Words.{cursor_word, closed_word, halt_word, count_word, payload_word}
 use Rattle.dr_ring.specs.declared.record.Step.{Step}
 use Rattle.dr_ring.specs.declared.record.Step.TheVariants.{SenderLooksAtCount, SenderLooksAtHalt, SenderStoresFirst, SenderStoresSecond, SenderPublishes, SenderHalts, SenderCloses, ReceiverLooksAtClosed, ReceiverLooksAtCursor, ReceiverLooksAtCount, ReceiverLoadsFirst, ReceiverLoadsSecond, ReceiverCompletes, HalterHalts}
 use Rattle.dr_ring.specs.declared.record.SenderRecord.{SenderRecord}
-use Rattle.dr_ring.specs.Ends.{claimed, event_or_none, halt_looked, published_to}
-use Rattle.dr_ring.specs.Kept.{World, Kept}
-use Rattle.dr_ring.specs.Steps.{Happens}
-use Rattle.dr_ring.specs.Moments.{Runs}
+use Rattle.dr_ring.specs.Meaning.Records.{claimed, halt_looked, published_to}
+use Rattle.dr_ring.specs.Meaning.Kept.{World, Kept}
+use Rattle.dr_ring.specs.Meaning.Steps.{Happens}
+use Rattle.dr_ring.specs.Meaning.Moments.{Runs}
 use Rattle.dr_ring.proofs.Keeps.{word_at}
 use Rattle.dr_ring.proofs.Pictures.{keeps_step}
 
@@ -27,12 +28,12 @@ no_claim : (w : World) (n m : ℕ) → HaltedAt n w → claimed (halt_looked w.s
 no_claim w n m H =
     let found = word_at w.words halt_word in let more : List (Option Event) = if found == 0 then replicate m None else [] in
     let none : more ≡ [] = rw (ne_eqb found 0 (λ (e : found ≡ 0). (let h = H.0 in omega arith))) refl in
-    let len : length (w.sender.pending ++ more) ≡ length w.sender.pending = ap (λ (xs : List (Option Event)). length (w.sender.pending ++ xs)) none ∙ ap length (append-nil w.sender.pending) in
+    let len : length (w.sender.sent.pending ++ more) ≡ length w.sender.sent.pending = ap (λ (xs : List (Option Event)). length (w.sender.sent.pending ++ xs)) none ∙ ap length (append-nil w.sender.sent.pending) in
     let c = H.1 in omega arith
 
-pub still_claimed : (r : SenderRecord) (m : ℕ) → length r.published < m → m ≤ claimed r → claimed (published_to r m) ≡ claimed r
+pub still_claimed : (r : SenderRecord) (m : ℕ) → length r.sent.published < m → m ≤ claimed r → claimed (published_to r m) ≡ claimed r
 still_claimed r m lt le =
-    let old = r.published in let pending = r.pending in let new = map event_or_none (take (m - length old) pending) in
+    let old = r.sent.published in let pending = r.sent.pending in let new = map event_or_none (take (m - length old) pending) in
     let count : length new ≡ m - length old = length-map (take (m - length old) pending) event_or_none ∙ omega (arith, length-take (m - length old) pending) in
     omega (arith, length-append old new, length-drop (m - length old) pending)
 
@@ -46,7 +47,7 @@ halted_step k (SenderStoresSecond v) w u n H K is =
       (let c = is.1 in
           omega (
             arith,
-            length-set w.sender.pending (H.0.sequence - length w.sender.published) (let x : Option Event = Some record { first = H.0.first; second = v } in
+            length-set w.sender.sent.pending (H.0.sequence - length w.sender.sent.published) (let x : Option Event = Some record { first = H.0.first; second = v } in
                 x),
           )),
     )

@@ -7,15 +7,16 @@ use mathlib.Core.Option.{some}
 use lib.ListN.{get_elem?}
 use Rattle.dr_seq.specs.declared.event.Event.{Event}
 use Rattle.dr_graph.specs.Graph.{nobody, upstreams_of, IsOrderly, IsGated, IsGraph}
-use Rattle.dr_ring.specs.Shape.{Shape, handlers_of}
-use Rattle.dr_ring.specs.Words.{cursor_word, closed_word, halt_word, count_word, payload_start, payload_word, words_of}
+use Rattle.dr_core.specs.Ends.{with_claimed}
+use Rattle.dr_ring.specs.Meaning.Shape.{Shape, handlers_of}
+use Rattle.dr_ring.specs.Meaning.Words.{cursor_word, closed_word, halt_word, count_word, payload_start, payload_word, words_of}
 use Rattle.dr_ring.specs.declared.record.HalfWrite.{HalfWrite}
 use Rattle.dr_ring.specs.declared.record.Look.{Look}
 use Rattle.dr_ring.specs.declared.record.SenderRecord.{SenderRecord}
 use Rattle.dr_ring.specs.declared.record.ReceiverRecord.{ReceiverRecord}
-use Rattle.dr_ring.specs.Ends.{claimed, look, sender_looked, halt_looked, half_written, written, HasRoom, IsOpen}
-use Rattle.dr_ring.specs.Kept.{World, Room, first_stored, Payload, HaltAndClose, ArePast, ReceiverKept, Kept}
-use Rattle.dr_ring.specs.Steps.{sender_knows, sender_stores}
+use Rattle.dr_ring.specs.Meaning.Records.{claimed, look, sender_looked, halt_looked, half_written, written, HasRoom, IsOpen}
+use Rattle.dr_ring.specs.Meaning.Kept.{World, Room, first_stored, Payload, HaltAndClose, ArePast, ReceiverKept, Kept}
+use Rattle.dr_ring.specs.Meaning.Steps.{sender_knows, sender_stores}
 use Rattle.dr_ring.proofs.Lists.{there, at_below, final_inside, contains_none, past_set, past_more, last_look_le, apart}
 
 abbrev pub word_at : List ℕ → ℕ → ℕ
@@ -23,7 +24,7 @@ word_at words i = get_or words i 0
 
 -- what a handler completed, by its word
 pub receiver_of_handler : (k : Shape) (w : World) → Kept k w → (h : ℕ) → h < handlers_of k
-    → (r : ReceiverRecord) × (get_elem? w.receivers h ≡ some r) × ReceiverKept k w.words w.sender.published h r
+    → (r : ReceiverRecord) × (get_elem? w.receivers h ≡ some r) × ReceiverKept k w.words w.sender.sent.published h r
 receiver_of_handler k w K h lt = let count = K.ends in let t = there w.receivers h (omega arith) in (t.0, t.1, K.received h t.0 t.1)
 
 -- completed counts fall along the graph
@@ -31,7 +32,7 @@ pub orderly : (k : Shape) (w : World) → Kept k w → IsOrderly k.upstreams (λ
 orderly k w K h u has =
     elim (cases_lt h (handlers_of k)) [
       | inl lt ↦
-          let t : (r : ReceiverRecord) × (get_elem? w.receivers h ≡ some r) × ReceiverKept k w.words w.sender.published h r = receiver_of_handler k w K h lt in
+          let t : (r : ReceiverRecord) × (get_elem? w.receivers h ≡ some r) × ReceiverKept k w.words w.sender.sent.published h r = receiver_of_handler k w K h lt in
           let c : word_at w.words (count_word h) ≡ t.0.completed = t.2.count in
           let d : t.0.completed ≤ length t.0.received = t.2.completed in
           let a : length t.0.received ≤ word_at w.words (count_word u) = t.2.after u has in omega arith
@@ -45,7 +46,7 @@ above k w K h lt =
     let r : claimed w.sender ≤ k.size + word_at w.words (count_word g.last) = K.room g.last g.final in
     let b : word_at w.words (count_word g.last) ≤ word_at w.words (count_word h) = g.behind in omega arith
 
-pub near : (k : Shape) (w : World) → Kept k w → claimed w.sender ≤ k.size + length w.sender.published
+pub near : (k : Shape) (w : World) → Kept k w → claimed w.sender ≤ k.size + length w.sender.sent.published
 near k w K =
     let some_one = K.graph.some in let a = above k w K 0 some_one in let t = receiver_of_handler k w K 0 some_one in
     let d = t.2.count in let c = t.2.completed in let b = t.2.taken in omega arith
@@ -106,11 +107,11 @@ receiver_stays k words us published h r graph inside same rises closes past was 
 }
 
 -- the sender claims or looks, and stores no word
-sender_learns : (k : Shape) (w : World) (pending : List (Option Event)) (looks : List Look) → length w.sender.published + length pending ≤ k.limit
-    → Room k w.words (length w.sender.published + length pending)
-    → Payload k w.words w.sender.published pending w.sender.half → HaltAndClose w.words (length pending) w.sender.halted w.sender.closed w.halter.halted
+sender_learns : (k : Shape) (w : World) (pending : List (Option Event)) (looks : List Look) → length w.sender.sent.published + length pending ≤ k.limit
+    → Room k w.words (length w.sender.sent.published + length pending)
+    → Payload k w.words w.sender.sent.published pending w.sender.half → HaltAndClose w.words (length pending) w.sender.halted w.sender.closed w.halter.halted
     → ArePast k w.words looks → Kept k w
-    → Kept k (sender_knows w (record w.sender { pending = pending; looks = looks }))
+    → Kept k (sender_knows w (record w.sender { sent = record w.sender.sent { pending = pending }; looks = looks }))
 sender_learns k w pending looks limit room payload flags past K = record {
   graph = K.graph;
   some_slot = K.some_slot;
@@ -128,7 +129,7 @@ sender_learns k w pending looks limit room payload flags past K = record {
 
 pub keeps_sender_looks : (k : Shape) (w : World) (i : ℕ) → i < payload_start k → Kept k w
     → Kept k (sender_knows w (sender_looked w.sender i (word_at w.words i)))
-keeps_sender_looks k w i lt K = sender_learns k w w.sender.pending (sender_looked w.sender i (word_at w.words i)).looks K.counts.limit K.room K.payload K.flags (past_more k w.words i w.sender.looks lt K.looks) K
+keeps_sender_looks k w i lt K = sender_learns k w w.sender.sent.pending (sender_looked w.sender i (word_at w.words i)).looks K.counts.limit K.room K.payload K.flags (past_more k w.words i w.sender.looks lt K.looks) K
 
 payload_claims : (k : Shape) (words : List ℕ) (published : List Event) (pending : List (Option Event)) (half : Option HalfWrite) (n : ℕ)
     → Payload k words published pending half → Payload k words published (pending ++ replicate n None) half
@@ -147,13 +148,13 @@ payload_claims k words published pending half n P =
 
 -- the sender looks at halt, finds 0 and claims
 claims_more : (k : Shape) (w : World) (n : ℕ) → HasRoom k w.sender n → word_at w.words halt_word ≡ 0 → Kept k w
-    → Kept k (sender_knows w (record w.sender { pending = w.sender.pending ++ replicate n None; looks = w.sender.looks ++ look halt_word (word_at w.words halt_word) ∷ [] }))
+    → Kept k (sender_knows w (record w.sender { sent = with_claimed w.sender.sent n; looks = w.sender.looks ++ look halt_word (word_at w.words halt_word) ∷ [] }))
 claims_more k w n room going K =
-    let pending = w.sender.pending in let nothing : Option Event = None in let more = pending ++ replicate n nothing in let F = K.flags in
+    let pending = w.sender.sent.pending in let nothing : Option Event = None in let more = pending ++ replicate n nothing in let F = K.flags in
     let longer : length more ≡ length pending + n = omega (arith, length-append pending (replicate n nothing), length-replicate n nothing) in
     sender_learns k w more (w.sender.looks ++ look halt_word (word_at w.words halt_word) ∷ []) (let l = room.limit in omega arith)
     (λ f final. (let a = room.completed f final in let i = final_inside k.upstreams f final in let b = last_look_le k w.words 0 w.sender.looks (count_word f) (omega arith) K.looks in omega arith))
-    (payload_claims k w.words w.sender.published pending w.sender.half n K.payload)
+    (payload_claims k w.words w.sender.sent.published pending w.sender.half n K.payload)
     (record {
       halt = F.halt;
       close = F.close;
@@ -174,9 +175,9 @@ pub keeps_halt_look : (k : Shape) (w : World) (n : ℕ) → (0 < n → HasRoom k
     → Kept k (sender_knows w (halt_looked w.sender n (word_at w.words halt_word)))
 keeps_halt_look k w n room K =
     let found = word_at w.words halt_word in
-    let P : List (Option Event) → Type 0 = λ more. Kept k (sender_knows w (record w.sender { pending = w.sender.pending ++ more; looks = w.sender.looks ++ look halt_word found ∷ [] })) in
+    let P : List (Option Event) → Type 0 = λ more. Kept k (sender_knows w (record w.sender { sent = record w.sender.sent { pending = w.sender.sent.pending ++ more }; looks = w.sender.looks ++ look halt_word found ∷ [] })) in
     let nothing : Kept k (sender_knows w (sender_looked w.sender halt_word found)) = keeps_sender_looks k w halt_word (omega arith) K in
-    let none : P [] = subst (λ (xs : List (Option Event)). Kept k (sender_knows w (record w.sender { pending = xs; looks = w.sender.looks ++ look halt_word found ∷ [] }))) (sym (append-nil w.sender.pending)) nothing in
+    let none : P [] = subst (λ (xs : List (Option Event)). Kept k (sender_knows w (record w.sender { sent = record w.sender.sent { pending = xs }; looks = w.sender.looks ++ look halt_word found ∷ [] }))) (sym (append-nil w.sender.sent.pending)) nothing in
     elim (cases_eq found 0) [
       | inl e ↦ elim (cases_lt 0 n) [
         | inl some_one ↦ (let same : opens n found ≡ replicate n None = rw (eq-eqb found 0 e) refl in subst P (sym same) (claims_more k w n (room some_one) e K))
@@ -187,10 +188,10 @@ keeps_halt_look k w n room K =
 
 -- a payload word is stored: nothing below the payload changes
 payload_kept : (k : Shape) (w : World) (i v : ℕ) (r : SenderRecord) → payload_start k ≤ i → i < words_of k → r.plan ≡ w.sender.plan
-    → r.published ≡ w.sender.published → length r.pending ≡ length w.sender.pending → r.halted ≡ w.sender.halted → r.closed ≡ w.sender.closed
+    → r.sent.published ≡ w.sender.sent.published → length r.sent.pending ≡ length w.sender.sent.pending → r.halted ≡ w.sender.halted → r.closed ≡ w.sender.closed
     → r.looks ≡ w.sender.looks
-    → Payload k (set w.words i v) w.sender.published r.pending r.half → Kept k w
-    → Kept k (sender_stores w i v (record w.sender { pending = r.pending; half = r.half }))
+    → Payload k (set w.words i v) w.sender.sent.published r.sent.pending r.half → Kept k w
+    → Kept k (sender_stores w i v (record w.sender { sent = record w.sender.sent { pending = r.sent.pending }; half = r.half }))
 payload_kept k w i v r low high p1 p2 p3 p4 p5 p6 payload K =
     let wide = K.wide in let us = set w.words i v in let inside : i < length w.words = omega arith in
     let stays : (j : ℕ) → j < payload_start k → word_at us j ≡ word_at w.words j = λ j below. get_or-set_other w.words i j v 0 (λ (e : j ≡ i). omega arith) in
@@ -204,11 +205,11 @@ payload_kept k w i v r low high p1 p2 p3 p4 p5 p6 payload K =
       counts = record { cursor = stays cursor_word (omega arith) ∙ K.counts.cursor; limit = let l = K.counts.limit in omega arith };
       received = λ h q at. (let inside_h : h < handlers_of k = (let b = at_below w.receivers h q at in let c = K.ends in omega arith) in
           let was = K.received h q at in
-          receiver_stays k w.words us w.sender.published h q K.graph inside_h (stays (count_word h) (omega arith)) (λ u lt. (let e = stays (count_word u) (omega arith) in omega arith)) (λ c. close ∙ c)
+          receiver_stays k w.words us w.sender.sent.published h q K.graph inside_h (stays (count_word h) (omega arith)) (λ u lt. (let e = stays (count_word u) (omega arith) in omega arith)) (λ c. close ∙ c)
           (past_set k w.words i v q.looks inside (λ h. absurd (omega arith)) was.looks) was);
-      room = (let same : length w.sender.published + length r.pending ≡ claimed w.sender = omega arith in subst (Room k us) (sym same) (room_stays k w.words us (claimed w.sender) (λ h lt. (let e = stays (count_word h) (omega arith) in omega arith)) K.room));
+      room = (let same : length w.sender.sent.published + length r.sent.pending ≡ claimed w.sender = omega arith in subst (Room k us) (sym same) (room_stays k w.words us (claimed w.sender) (λ h lt. (let e = stays (count_word h) (omega arith) in omega arith)) K.room));
       payload = payload;
-      flags = subst (λ (n : ℕ). HaltAndClose us n w.sender.halted w.sender.closed w.halter.halted) (sym p3) (flags_stay w.words us (length w.sender.pending) w.sender.halted w.sender.closed w.halter.halted halt close K.flags);
+      flags = subst (λ (n : ℕ). HaltAndClose us n w.sender.halted w.sender.closed w.halter.halted) (sym p3) (flags_stay w.words us (length w.sender.sent.pending) w.sender.halted w.sender.closed w.halter.halted halt close K.flags);
       looks = past_set k w.words i v w.sender.looks inside (λ h. absurd (omega arith)) K.looks;
     }
 
@@ -219,17 +220,17 @@ stored_else : (x : HalfWrite) (event : Event) (t : ℕ) → t ≢ x.sequence →
 stored_else x event t ne = rw (ne_eqb x.sequence t (λ (e : x.sequence ≡ t). ne (sym e))) refl
 
 payload_first : (k : Shape) (w : World) (s v : ℕ) → IsOpen w.sender s → w.sender.half ≡ None → Kept k w
-    → Payload k (set w.words (payload_word k s 0) v) w.sender.published w.sender.pending (Some record { sequence = s; first = v })
+    → Payload k (set w.words (payload_word k s 0) v) w.sender.sent.published w.sender.sent.pending (Some record { sequence = s; first = v })
 payload_first k w s v is free K =
     let P = K.payload in let wide = K.wide in let some_slot = K.some_slot in let close = near k w K in let le = is.0 in let lt = is.1 in
     let i = payload_word k s 0 in let us = set w.words i v in let inside : i < length w.words = omega arith in
-    let len = length w.sender.published in
+    let len = length w.sender.sent.published in
     let stays : (j : ℕ) → j ≢ i → word_at us j ≡ word_at w.words j = λ j ne. get_or-set_other w.words i j v 0 ne in record {
       events = λ t below near_by. (let e = P.events t below near_by in (
         stays (payload_word k t 0) (apart k t s 0 0 some_slot (λ (z : t ≡ s). omega arith) (omega arith) (omega arith) (omega arith) (omega arith)) ∙ e.0,
         stays (payload_word k t 1) (apart k t s 1 0 some_slot (λ (z : t ≡ s). omega arith) (omega arith) (omega arith) (omega arith) (omega arith)) ∙ e.1,
       ));
-      writes = λ j event e. (let d = P.writes j event e in let b = is_open w.sender.pending j event e in
+      writes = λ j event e. (let d = P.writes j event e in let b = is_open w.sender.sent.pending j event e in
           elim (cases_eq (len + j) s) [
             | inl here ↦ (
               subst (λ (t : ℕ). word_at us (payload_word k t 0) ≡ v) (sym here) (get_or-set_same w.words i v 0 inside) ∙ sym (stored_here s v event (len + j) here),
@@ -241,7 +242,7 @@ payload_first k w s v is free K =
             )
           ]);
       halves = λ x e. (let same : record { sequence = s; first = v } ≡ x = cc in
-          subst (λ (y : HalfWrite). (len ≤ y.sequence) × (y.sequence < len + length w.sender.pending) × (word_at us (payload_word k y.sequence 0) ≡ y.first)) same (le, lt, get_or-set_same w.words i v 0 inside));
+          subst (λ (y : HalfWrite). (len ≤ y.sequence) × (y.sequence < len + length w.sender.sent.pending) × (word_at us (payload_word k y.sequence 0) ≡ y.first)) same (le, lt, get_or-set_same w.words i v 0 inside));
     }
 
 pub keeps_first : (k : Shape) (w : World) (s v : ℕ) → IsOpen w.sender s → w.sender.half ≡ None → Kept k w
@@ -250,13 +251,13 @@ keeps_first k w s v is free K = let some_slot = K.some_slot in
     payload_kept k w (payload_word k s 0) v (half_written w.sender s v) (omega arith) (omega arith) refl refl refl refl refl refl (payload_first k w s v is free K) K
 
 payload_second : (k : Shape) (w : World) (x : HalfWrite) (v : ℕ) → w.sender.half ≡ Some x → Kept k w
-    → Payload k (set w.words (payload_word k x.sequence 1) v) w.sender.published (set w.sender.pending (x.sequence - length w.sender.published) (Some record { first = x.first; second = v })) None
+    → Payload k (set w.words (payload_word k x.sequence 1) v) w.sender.sent.published (set w.sender.sent.pending (x.sequence - length w.sender.sent.published) (Some record { first = x.first; second = v })) None
 payload_second k w x v has K =
     let P = K.payload in let wide = K.wide in let some_slot = K.some_slot in let close = near k w K in
-    let s = x.sequence in let event : Event = record { first = x.first; second = v } in let pending = w.sender.pending in
+    let s = x.sequence in let event : Event = record { first = x.first; second = v } in let pending = w.sender.sent.pending in
     let half = P.halves x has in let le = half.0 in let lt = half.1 in
     let i = payload_word k s 1 in let us = set w.words i v in let inside : i < length w.words = omega arith in
-    let len = length w.sender.published in let at = s - len in
+    let len = length w.sender.sent.published in let at = s - len in
     let same : length (set pending at (Some event)) ≡ length pending = length-set pending at (Some event) in
     let stays : (j : ℕ) → j ≢ i → word_at us j ≡ word_at w.words j = λ j ne. get_or-set_other w.words i j v 0 ne in record {
       events = λ t below near_by. (let e = P.events t below (omega arith) in (
@@ -285,4 +286,4 @@ payload_second k w x v has K =
 pub keeps_second : (k : Shape) (w : World) (x : HalfWrite) (v : ℕ) → w.sender.half ≡ Some x → Kept k w
     → Kept k (sender_stores w (payload_word k x.sequence 1) v (written w.sender x.sequence record { first = x.first; second = v }))
 keeps_second k w x v has K = let some_slot = K.some_slot in
-    payload_kept k w (payload_word k x.sequence 1) v (written w.sender x.sequence record { first = x.first; second = v }) (omega arith) (omega arith) refl refl (length-set w.sender.pending _ _) refl refl refl (payload_second k w x v has K) K
+    payload_kept k w (payload_word k x.sequence 1) v (written w.sender x.sequence record { first = x.first; second = v }) (omega arith) (omega arith) refl refl (length-set w.sender.sent.pending _ _) refl refl refl (payload_second k w x v has K) K

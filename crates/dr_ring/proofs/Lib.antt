@@ -10,12 +10,12 @@ pub mod Plans
 pub mod Stations
 pub mod Rounds
 pub mod Marks
-pub mod Fields
+pub mod Writing
 pub mod Claims
 pub mod Polls
 pub mod Cuts
 pub mod Making
 pub mod Settling
 pub mod Gathering
-pub mod Inlets
+pub mod Publishing
 pub mod Halting

@@ -7,11 +7,11 @@ use mathlib.Core.Option.{some, some-injective, some-ne-none}
 use lib.ListN.{get_elem?}
 use Rattle.atomic_table.proofs.Lists.{at_set, at_snoc, one_turn}
 use Rattle.dr_graph.specs.Graph.{finals, is_final}
-use Rattle.dr_ring.specs.Shape.{Shape}
-use Rattle.dr_ring.specs.Words.{payload_start, payload_word}
+use Rattle.dr_ring.specs.Meaning.Shape.{Shape}
+use Rattle.dr_ring.specs.Meaning.Words.{payload_start, payload_word}
 use Rattle.dr_ring.specs.declared.record.Look.{Look}
-use Rattle.dr_ring.specs.Ends.{look, last_look}
-use Rattle.dr_ring.specs.Kept.{IsPast, ArePast}
+use Rattle.dr_ring.specs.Meaning.Records.{look, last_look}
+use Rattle.dr_ring.specs.Meaning.Kept.{IsPast, ArePast}
 
 pub there : {A : Type 0} (l : List A) (i : ℕ) → i < length l → (a : A) × (get_elem? l i ≡ some a)
 there [] i h = absurd (omega arith)

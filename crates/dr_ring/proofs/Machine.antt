@@ -12,7 +12,7 @@ use Rattle.dr_core.specs.declared.command.Reply.TheVariants.{Claimed, Written, P
 use Rattle.dr_graph.specs.Graph.{finals, least_of}
 use Rattle.dr_core.specs.Machine.{State, opening, least_outside, front, offered, available, least_completed, publish_faults, refusals, accepted, step}
 use Rattle.dr_core.proofs.Steps.{NoneHold, NoneHold-join, unless-none}
-use Rattle.dr_ring.specs.Shape.{Shape, handlers_of, setup_of}
+use Rattle.dr_ring.specs.Meaning.Shape.{Shape, handlers_of, setup_of}
 
 -- a state of which n sequences are claimed, with what is written to each, and all below f published; the rest is as at the opening
 abbrev pub shown : Shape → ℕ → List (Option Event) → ℕ → List ℕ → List ℕ → Bool → State

@@ -2,22 +2,23 @@
 use Rattle.std.proofs.Common.{length-set, set, ◌≡◌, ℕ, zero, suc, ◌+◌, ◌-◌, ◌<◌, ◌≤◌, List, [], ◌∷◌, ◌++◌, map, length, get_or, take, drop, replicate, sym, refl, ap, ◌∙◌, subst, arith, append_assoc, inl, inr}
 use Rattle.std.proofs.lemmas.List.{length-map, length-replicate}
 use Rattle.atomic_table.specs.Seated.{TableId}
-use Rattle.dr_ring.specs.Shape.{Shape, handlers_of}
-use Rattle.dr_ring.specs.Words.{words_of}
-use Rattle.dr_ring.specs.Plans.{IsPlan}
+use Rattle.dr_ring.specs.Meaning.Shape.{Shape, handlers_of}
+use Rattle.dr_ring.specs.Meaning.Words.{words_of}
+use Rattle.dr_ring.specs.Calls.Plans.{IsPlan}
 use Rattle.dr_ring.specs.declared.record.SenderRecord.{SenderRecord}
 use Rattle.dr_ring.specs.declared.record.ReceiverRecord.{ReceiverRecord}
 use Rattle.dr_ring.specs.declared.record.EndRecord.TheVariants.{Receives}
-use Rattle.dr_ring.specs.Moments.{fresh_receiver, fresh_receivers}
-use Rattle.dr_ring.specs.Seats.{End, Sitting, seat_at, IsAtTable, as_receiver}
-use Rattle.dr_ring.specs.Stations.{SenderEnd, ReceiverEnd, HalterEnd, receiver_end, ReceiverSits}
-use Rattle.dr_ring.specs.Settling.{AreAllEnds}
+use Rattle.dr_ring.specs.Meaning.Moments.{fresh_receiver, fresh_receivers}
+use Rattle.dr_ring.specs.Inside.Seats.{End, Sitting, seat_at, IsAtTable, as_receiver, receivers_seat}
+use Rattle.dr_ring.specs.Calls.Ends.{SenderEnd, ReceiverEnd, HalterEnd}
+use Rattle.dr_ring.specs.Inside.Stations.{receiver_end, ReceiverSits}
+use Rattle.dr_ring.specs.Calls.Settling.{AreAllEnds}
 use Rattle.dr_ring.proofs.Lists.{there, value_at, each_set}
 use Rattle.std.proofs.lemmas.Bool.{cases_lt}
 use Rattle.dr_ring.proofs.Beginning.{fresh_count}
 use mathlib.Core.Option.{some, some-injective}
 use lib.ListN.{get_elem?}
-use Rattle.dr_ring.specs.Making.{receivers_seat, at_ring, AreFreshEnds}
+use Rattle.dr_ring.specs.Calls.Making.{at_ring, AreFreshEnds}
 
 -- the next of the receivers
 fresh_next : (k : Shape) (h n : ℕ) → h < n → fresh_receivers k h (n - h) ≡ fresh_receiver k h ∷ fresh_receivers k (h + 1) (n - (h + 1))

@@ -18,16 +18,17 @@ use Rattle.dr_graph.specs.Graph.{nobody, upstreams_of, finals, IsGated, IsGraph}
 use Rattle.dr_core.specs.Machine as machine
 use Rattle.dr_core.specs.Machine.{State, Outcome, front, available, least_completed}
 use Rattle.dr_core.specs.Transcript.{Transcript, LeadsFrom}
-use Rattle.dr_ring.specs.Shape.{Shape, handlers_of, setup_of}
-use Rattle.dr_ring.specs.Words.{cursor_word, closed_word, halt_word, count_word, payload_start, payload_word}
+use Rattle.dr_core.specs.Ends.{event_or_none}
+use Rattle.dr_ring.specs.Meaning.Shape.{Shape, handlers_of, setup_of}
+use Rattle.dr_ring.specs.Meaning.Words.{cursor_word, closed_word, halt_word, count_word, payload_start, payload_word}
 use Rattle.dr_ring.specs.declared.record.HalfWrite.{HalfWrite}
 use Rattle.dr_ring.specs.declared.record.ReceiverRecord.{ReceiverRecord}
-use Rattle.dr_ring.specs.Ends.{claimed, look, event_or_none, halt_looked, half_written, written, published_to, receiver_looked, tells_drained, cursor_looked, half_taken, took, completed_to, HasRoom, AreWritten, IsBelowBarrier}
-use Rattle.dr_ring.specs.Kept.{World, Kept}
+use Rattle.dr_ring.specs.Meaning.Records.{claimed, look, halt_looked, half_written, written, published_to, receiver_looked, tells_drained, cursor_looked, half_taken, took, completed_to, HasRoom, AreWritten, IsBelowBarrier}
+use Rattle.dr_ring.specs.Meaning.Kept.{World, Kept}
 use Rattle.dr_ring.specs.declared.record.Step.{Step}
 use Rattle.dr_ring.specs.declared.record.Step.TheVariants.{SenderLooksAtCount, SenderLooksAtHalt, SenderStoresFirst, SenderStoresSecond, SenderPublishes, SenderHalts, SenderCloses, ReceiverLooksAtClosed, ReceiverLooksAtCursor, ReceiverLooksAtCount, ReceiverLoadsFirst, ReceiverLoadsSecond, ReceiverCompletes, HalterHalts}
-use Rattle.dr_ring.specs.Steps.{Happens, sender_knows, sender_stores, receiver_knows, receiver_stores}
-use Rattle.dr_ring.specs.Moments.{fresh_receiver, taken_of, picture_of, entry, write_of, poll_of, receiver_at, events_of, Runs}
+use Rattle.dr_ring.specs.Meaning.Steps.{Happens, sender_knows, sender_stores, receiver_knows, receiver_stores}
+use Rattle.dr_ring.specs.Meaning.Moments.{fresh_receiver, taken_of, picture_of, entry, write_of, poll_of, receiver_at, events_of, Runs}
 use Rattle.dr_ring.proofs.Lists.{at_below, value_at, final_inside, last_look_le}
 use Rattle.dr_ring.proofs.Keeps.{word_at, receiver_of_handler, orderly, upstream_inside, keeps_sender_looks, keeps_halt_look, keeps_first, keeps_second}
 use Rattle.dr_ring.proofs.Stores.{keeps_publishes, keeps_sender_halts, keeps_halter_halts, keeps_closes, keeps_receiver_looks, tells_truth, keeps_cursor_look, early, keeps_half_taken, taken_event, keeps_takes, keeps_completes}
@@ -105,7 +106,7 @@ leads_one k command reply values rest m n end is leads =
 -- the picture, by its parts
 abbrev parts : Shape → World → State
 parts k w =
-    shown k (claimed w.sender) (values_of w.sender.published w.sender.pending) (word_at w.words cursor_word) (map taken_of w.receivers)
+    shown k (claimed w.sender) (values_of w.sender.sent.published w.sender.sent.pending) (word_at w.words cursor_word) (map taken_of w.receivers)
     (counts_of k w.words) (word_at w.words halt_word == 1)
 
 same_taken : (w : World) (h : ℕ) (r q : ReceiverRecord) → get_elem? w.receivers h ≡ some r → taken_of q ≡ taken_of r
@@ -121,7 +122,7 @@ inside_of k w h r K at = let b = at_below w.receivers h r at in let e = K.ends i
 same_picture : (k : Shape) (w : World) (h : ℕ) (r q : ReceiverRecord) → get_elem? w.receivers h ≡ some r → taken_of q ≡ taken_of r
     → picture_of k (receiver_knows w h q) ≡ picture_of k w
 same_picture k w h r q at same =
-    ap (λ (t : List ℕ). shown k (claimed w.sender) (values_of w.sender.published w.sender.pending) (word_at w.words cursor_word) t (counts_of k w.words) (word_at w.words halt_word == 1)) (same_taken w h r q at same)
+    ap (λ (t : List ℕ). shown k (claimed w.sender) (values_of w.sender.sent.published w.sender.sent.pending) (word_at w.words cursor_word) t (counts_of k w.words) (word_at w.words halt_word == 1)) (same_taken w h r q at same)
 
 -- there is a final handler
 pub some_final : (k : Shape) → IsGraph k.upstreams → 0 < length (finals k.upstreams)
@@ -170,19 +171,19 @@ lead_claim : (k : Shape) (w : World) (n : ℕ) (rest : Transcript) (end : State)
 lead_claim k w n rest end room K leads =
     let found = word_at w.words halt_word in let s = w.sender in
     let P : List (Option Event) → Type 0 =
-    λ more. Leads k rest (picture_of k (sender_knows w (record s { pending = s.pending ++ more; looks = s.looks ++ look halt_word found ∷ [] }))) end in
+    λ more. Leads k rest (picture_of k (sender_knows w (record s { sent = record s.sent { pending = s.sent.pending ++ more }; looks = s.looks ++ look halt_word found ∷ [] }))) end in
     let P' : List (Option Event) → Type 0 =
-    λ xs. Leads k rest (picture_of k (sender_knows w (record s { pending = xs; looks = s.looks ++ look halt_word found ∷ [] }))) end in
+    λ xs. Leads k rest (picture_of k (sender_knows w (record s { sent = record s.sent { pending = xs }; looks = s.looks ++ look halt_word found ∷ [] }))) end in
     elim (cases_lt 0 n) [
       | inl some_one ↦ elim (cases_eq found 0) [
         | inl going ↦ (
             let more : P (replicate n None) = subst P (let e : opens n found ≡ replicate n None = rw (eq-eqb found 0 going) refl in e) leads in
             let nothing : Option Event = None in
-            let longer : length s.published + length (s.pending ++ replicate n nothing) ≡ claimed s + n =
-            omega (arith, length-append s.pending (replicate n nothing), length-replicate n nothing) in
-            let vs = values_of s.published s.pending in
-            let joined : values_of s.published (s.pending ++ replicate n nothing) ≡ vs ++ replicate n nothing =
-            sym (append_assoc (map (λ event. Some event) s.published) s.pending (replicate n nothing)) in
+            let longer : length s.sent.published + length (s.sent.pending ++ replicate n nothing) ≡ claimed s + n =
+            omega (arith, length-append s.sent.pending (replicate n nothing), length-replicate n nothing) in
+            let vs = values_of s.sent.published s.sent.pending in
+            let joined : values_of s.sent.published (s.sent.pending ++ replicate n nothing) ≡ vs ++ replicate n nothing =
+            sym (append_assoc (map (λ event. Some event) s.sent.published) s.sent.pending (replicate n nothing)) in
             let m = shown k (claimed s) vs (word_at w.words cursor_word) (map taken_of w.receivers) (counts_of k w.words) false in
             let r = room some_one in
             let halt : (found == 0) ≡ true = eq-eqb found 0 going in
@@ -199,14 +200,14 @@ lead_claim k w n rest end room K leads =
         | inr over ↦ (
             let off : (found == 0) ≡ false = ne_eqb found 0 over in
             let none : P [] = subst P (let e : opens n found ≡ [] = rw off refl in e) leads in
-            let same : P' s.pending = subst P' (append-nil s.pending) none in
+            let same : P' s.sent.pending = subst P' (append-nil s.sent.pending) none in
             let both : (not (n == 0) && (found == 0)) ≡ false = rw (ne_eqb n 0 (λ (e : n ≡ 0). omega arith)) off in
             subst (λ (b : Bool). Leads k (claim_of w n b ++ rest) (parts k w) end) (sym both) same)
       ]
       | inr none_asked ↦ (
           let z : n ≡ 0 = omega arith in
           let none : P [] = subst P (opens_none found n z) leads in
-          let same : P' s.pending = subst P' (append-nil s.pending) none in
+          let same : P' s.sent.pending = subst P' (append-nil s.sent.pending) none in
           let both : (not (n == 0) && (found == 0)) ≡ false = rw (eq-eqb n 0 z) refl in
           subst (λ (b : Bool). Leads k (claim_of w n b ++ rest) (parts k w) end) (sym both) same)
     ]
@@ -216,18 +217,18 @@ lead_write : (k : Shape) (w : World) (x : HalfWrite) (v : ℕ) (rest : Transcrip
     → Leads k (write_of w.sender.half v ++ rest) (parts k w) end
 lead_write k w x v rest end has K leads =
     let s = w.sender in let event : Event = record { first = x.first; second = v } in let half = K.payload.halves x has in let le = half.0 in let lt = half.1 in
-    let vs = values_of s.published s.pending in let i = payload_word k x.sequence 1 in let us = set w.words i v in
-    let count = values_count s.published s.pending in let cursor = K.counts.cursor in
+    let vs = values_of s.sent.published s.sent.pending in let i = payload_word k x.sequence 1 in let us = set w.words i v in
+    let count = values_count s.sent.published s.sent.pending in let cursor = K.counts.cursor in
     let stays : (j : ℕ) → j < payload_start k → word_at us j ≡ word_at w.words j = λ j below. get_or-set_other w.words i j v 0 (λ (e : j ≡ i). omega arith) in
-    let same : length (set s.pending (x.sequence - length s.published) (Some event)) ≡ length s.pending =
-    length-set s.pending (x.sequence - length s.published) (Some event) in
-    let place : values_of s.published (set s.pending (x.sequence - length s.published) (Some event)) ≡ set vs x.sequence (Some event) =
-    sym (set-append_right (map (λ event. Some event) s.published) s.pending (length s.published) x.sequence (Some event) (length-map s.published (λ event. Some event)) le) in
+    let same : length (set s.sent.pending (x.sequence - length s.sent.published) (Some event)) ≡ length s.sent.pending =
+    length-set s.sent.pending (x.sequence - length s.sent.published) (Some event) in
+    let place : values_of s.sent.published (set s.sent.pending (x.sequence - length s.sent.published) (Some event)) ≡ set vs x.sequence (Some event) =
+    sym (set-append_right (map (λ event. Some event) s.sent.published) s.sent.pending (length s.sent.published) x.sequence (Some event) (length-map s.sent.published (λ event. Some event)) le) in
     let counts : counts_of k us ≡ counts_of k w.words = counts_stay k w.words i v (λ h inside. (λ (e : count_word h ≡ i). omega arith)) in
     let one = stays cursor_word (omega arith) in let two = stays halt_word (omega arith) in
     let going_on : Leads k rest (shown k (claimed s) (set vs x.sequence (Some event)) (word_at w.words cursor_word) (map taken_of w.receivers) (counts_of k w.words) (word_at w.words halt_word == 1)) end =
     subst (λ (y : State). Leads k rest y end)
-    (λ i. shown k (length s.published + same i) (place i) (one i) (map taken_of w.receivers) (counts i) (two i == 1)) leads in
+    (λ i. shown k (length s.sent.published + same i) (place i) (one i) (map taken_of w.receivers) (counts i) (two i == 1)) leads in
     subst (λ (h : Option HalfWrite). Leads k (write_of h v ++ rest) (parts k w) end) (sym has)
     (leads_one k (Write 0 x.sequence event) Written [] rest (parts k w) _ end
     (write_step k (claimed s) vs (word_at w.words cursor_word) (map taken_of w.receivers) (counts_of k w.words) (word_at w.words halt_word == 1) x.sequence event count (omega arith) lt) going_on)
@@ -242,12 +243,12 @@ published_same (x ∷ xs) (suc m) all le =
     let h = all 0 (omega arith) in let e : Some (event_or_none x) ≡ x = ap (λ (o : Option Event). Some (event_or_none o)) h.1 ∙ sym h.1 in
     λ i. e i ∷ published_same xs m (λ j lt. all (suc j) (omega arith)) (omega arith) i
 
-lead_publish : (k : Shape) (w : World) (n : ℕ) (rest : Transcript) (end : State) → length w.sender.published < n → n ≤ claimed w.sender
+lead_publish : (k : Shape) (w : World) (n : ℕ) (rest : Transcript) (end : State) → length w.sender.sent.published < n → n ≤ claimed w.sender
     → AreWritten w.sender n → Kept k w
     → Leads k rest (picture_of k (sender_stores w cursor_word n (published_to w.sender n))) end
     → Leads k (entry (Publish 0 (word_at w.words cursor_word) (n - 1)) Published [] ++ rest) (parts k w) end
 lead_publish k w n rest end lt le all K leads =
-    let s = w.sender in let old = s.published in let pending = s.pending in let m = n - length old in let new = map event_or_none (take m pending) in
+    let s = w.sender in let old = s.sent.published in let pending = s.sent.pending in let m = n - length old in let new = map event_or_none (take m pending) in
     let vs = values_of old pending in let us = set w.words cursor_word n in let cursor = K.counts.cursor in let wide = K.wide in
     let count : length new ≡ m = length-map (take m pending) event_or_none ∙ omega (arith, length-take m pending) in
     let longer : length (old ++ new) ≡ n = omega (arith, length-append old new) in
@@ -276,7 +277,7 @@ lead_drained : (k : Shape) (w : World) (h : ℕ) (r : ReceiverRecord) (rest : Tr
     → Leads k rest (parts k w) end → Leads k (entry (Poll h 1) Drained [] ++ rest) (parts k w) end
 lead_drained k w h r rest end at tells K leads =
     let t = tells_truth k w h r at tells K in let closed = K.flags.complete t.0 in let none = closed.1 in let all = t.1 in let cursor = K.counts.cursor in
-    let s = w.sender in let vs = values_of s.published s.pending in let d = counts_of k w.words in let ts = map taken_of w.receivers in
+    let s = w.sender in let vs = values_of s.sent.published s.sent.pending in let d = counts_of k w.words in let ts = map taken_of w.receivers in
     let on : true ≡ (word_at w.words halt_word == 1) = sym (eq-eqb (word_at w.words halt_word) 1 closed.0) in
     let inside = inside_of k w h r K at in
     let S : Bool → State = λ b. shown k (claimed s) vs (word_at w.words cursor_word) ts d b in
@@ -303,17 +304,17 @@ lead_take : (k : Shape) (w : World) (h first : ℕ) (r : ReceiverRecord) (rest :
 lead_take k w h first r rest end at half low K leads =
     let s = w.sender in let n = length r.received in let ts = map taken_of w.receivers in let m = parts k w in
     let found : Event = record { first = first; second = word_at w.words (payload_word k n 1) } in
-    let event : found ≡ get_or s.published n no_event = taken_event k w h first r at half K in
-    let below : n < length s.published = early k w h r at low K in
+    let event : found ≡ get_or s.sent.published n no_event = taken_event k w h first r at half K in
+    let below : n < length s.sent.published = early k w h r at low K in
     let inside = inside_of k w h r K at in let was = K.received h r at in let cursor = K.counts.cursor in
     let is : get_or ts h 0 ≡ n = taken_at w h r at in
     let seen : front m ≡ word_at w.words cursor_word =
-    shown_front k (claimed s) (values_of s.published s.pending) (word_at w.words cursor_word) ts (counts_of k w.words)
+    shown_front k (claimed s) (values_of s.sent.published s.sent.pending) (word_at w.words cursor_word) ts (counts_of k w.words)
     (word_at w.words halt_word == 1) (omega arith) in
     let more : n < available (setup_of k) m h = offered_more m (upstreams_of k.upstreams h) n (λ none. omega arith)
     (λ u has. (let i = upstream_inside k K.graph h u inside has in let c = count_at k w.words u i in let a = low.completed u has in let b = last_look_le k w.words 0 r.looks (count_word u) (omega arith) was.looks in omega arith)) in
     let value : unwrap_or (m.written n) no_event ≡ found =
-    ap event_or_none (get_or_append_left (map (λ event. Some event) s.published) s.pending None n (omega (arith, length-map s.published (λ (event : Event). Some event))) ∙ get_or-map (λ event. Some event) s.published n no_event None below)
+    ap event_or_none (get_or_append_left (map (λ event. Some event) s.sent.published) s.sent.pending None n (omega (arith, length-map s.sent.published (λ (event : Event). Some event))) ∙ get_or-map (λ event. Some event) s.sent.published n no_event None below)
     ∙ sym event in
     let step = take_step k m h inside refl (omega arith) in
     let set_taken : map taken_of (set w.receivers h (took r found)) ≡ set ts h (n + 1) =
@@ -340,19 +341,19 @@ lead_complete k w h n r rest end at rise le K leads =
     let counts : counts_of k us ≡ set (counts_of k w.words) h n = count_set k w.words h n inside (omega arith) in
     let going_on : Leads k rest (record m { completed = set (counts_of k w.words) h n }) end =
     subst (λ (y : State). Leads k rest y end)
-    (λ i. shown k (claimed s) (values_of s.published s.pending) (one i) (same_taken w h r (completed_to r n) at refl i) (counts i) (two i == 1)) leads in
+    (λ i. shown k (claimed s) (values_of s.sent.published s.sent.pending) (one i) (same_taken w h r (completed_to r n) at refl i) (counts i) (two i == 1)) leads in
     leads_one k (Complete h n) Completed [] rest m _ end (complete_step k m h n inside refl (omega arith) (omega arith)) going_on
 
 -- halt or closed is stored: nothing else shows
 lead_flag : (k : Shape) (w : World) (i : ℕ) (rest : Transcript) (end : State) (b : Bool) → 0 < i → i < 32 → (word_at (set w.words i 1) halt_word == 1) ≡ b
-    → Leads k rest (shown k (claimed w.sender) (values_of w.sender.published w.sender.pending) (word_at (set w.words i 1) cursor_word) (map taken_of w.receivers) (counts_of k (set w.words i 1)) (word_at (set w.words i 1) halt_word == 1)) end
+    → Leads k rest (shown k (claimed w.sender) (values_of w.sender.sent.published w.sender.sent.pending) (word_at (set w.words i 1) cursor_word) (map taken_of w.receivers) (counts_of k (set w.words i 1)) (word_at (set w.words i 1) halt_word == 1)) end
     → Leads k rest (record (parts k w) { halted = b }) end
 lead_flag k w i rest end b pos lt halt leads =
     let s = w.sender in let us = set w.words i 1 in
     let one : word_at us cursor_word ≡ word_at w.words cursor_word = get_or-set_other w.words i cursor_word 1 0 (λ (e : cursor_word ≡ i). omega arith) in
     let counts : counts_of k us ≡ counts_of k w.words = counts_stay k w.words i 1 (λ h inside. (λ (e : count_word h ≡ i). omega arith)) in
     subst (λ (y : State). Leads k rest y end)
-    (λ j. shown k (claimed s) (values_of s.published s.pending) (one j) (map taken_of w.receivers) (counts j) (halt j)) leads
+    (λ j. shown k (claimed s) (values_of s.sent.published s.sent.pending) (one j) (map taken_of w.receivers) (counts j) (halt j)) leads
 
 halt_on : (k : Shape) (w : World) → Kept k w → (word_at (set w.words halt_word 1) halt_word == 1) ≡ true
 halt_on k w K = let wide = K.wide in eq-eqb _ _ (get_or-set_same w.words halt_word 1 0 (omega arith))
@@ -372,7 +373,7 @@ lead_step k (SenderStoresFirst s v) w u rest end H K L =
     let two : word_at us halt_word ≡ word_at w.words halt_word = get_or-set_other w.words i halt_word v 0 (λ (e : halt_word ≡ i). omega arith) in
     let counts : counts_of k us ≡ counts_of k w.words = counts_stay k w.words i v (λ h inside. (λ (e : count_word h ≡ i). omega arith)) in
     subst (λ (y : State). Leads k rest y end)
-    (λ j. shown k (claimed w.sender) (values_of w.sender.published w.sender.pending) (one j) (map taken_of w.receivers) (counts j) (two j == 1)) now
+    (λ j. shown k (claimed w.sender) (values_of w.sender.sent.published w.sender.sent.pending) (one j) (map taken_of w.receivers) (counts j) (two j == 1)) now
 lead_step k (SenderStoresSecond v) w u rest end H K L = lead_write k w H.0 v rest end H.1 K (subst (λ (x : World). Leads k rest (picture_of k x) end) H.2 L)
 lead_step k (SenderPublishes n) w u rest end H K L = lead_publish k w n rest end H.0 H.1 H.2 K (subst (λ (x : World). Leads k rest (picture_of k x) end) H.4 L)
 lead_step k SenderHalts w u rest end H K L =

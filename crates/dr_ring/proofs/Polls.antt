@@ -1,23 +1,27 @@
 -- What a poll comes to.
-use Rattle.std.proofs.Common.{◌≡◌, ◌≢◌, ℕ, zero, suc, ◌+◌, ◌-◌, ◌<◌, ◌≤◌, ◌⊎◌, inl, inr, Bool, true, false, ◌==◌, ◌&&◌, ◌||◌, min, List, [], ◌∷◌, ◌++◌, length, take, drop, sym, refl, ap, ◌∙◌, subst, arith, append_assoc}
+use Rattle.std.proofs.Common.{◌≡◌, ◌≢◌, ℕ, ◌+◌, ◌-◌, ◌<◌, ◌≤◌, ◌⊎◌, inl, inr, Bool, true, false, ◌==◌, ◌&&◌, ◌||◌, min, List, [], ◌∷◌, ◌++◌, length, take, drop, sym, refl, ap, ◌∙◌, subst, arith, append_assoc}
 use Rattle.std.specs.Prelude.{Contains, IsTrue, ◌↔◌}
 use Rattle.std.proofs.lemmas.Bool.{cases_eq, eqb-true, eq-eqb, ne_eqb, lt-ltb, le-ltb}
 use Rattle.std.proofs.lemmas.List.{length-append, append-nil}
 use Rattle.dr_seq.specs.declared.event.Event.{Event}
 use Rattle.dr_core.specs.declared.command.Polled.{Polled}
 use Rattle.dr_core.specs.declared.command.Polled.TheVariants.{Batch, Drained, Gating, Idle}
-use Rattle.dr_ring.specs.Words.{cursor_word, closed_word}
+use Rattle.dr_ring.specs.Meaning.Words.{cursor_word, closed_word}
 use Rattle.dr_ring.specs.declared.record.Look.{Look}
 use Rattle.dr_ring.specs.declared.record.ReceiverRecord.{ReceiverRecord}
-use Rattle.dr_ring.specs.Ends.{look, last_look, receiver_looked, cursor_looked}
-use Rattle.dr_ring.specs.Calls.{count_looks, looked_round, offered_by, received_all, Answers}
-use Rattle.dr_ring.specs.Parts.{receiver_saw, ups_of, IsOffered, LooksAtUpstreams, nothing_offered}
-use Rattle.dr_ring.specs.Fits.{ReceiverFits}
+use Rattle.dr_ring.specs.Meaning.Records.{look, last_look, receiver_looked, cursor_looked}
+use Rattle.dr_ring.specs.Calls.Receiving.{PollLooks, looked_round, offered_by, received_all, Answers}
+use Rattle.dr_ring.specs.Calls.Ends.{count_looks}
+use Rattle.dr_ring.specs.Inside.Parts.{receiver_saw, ups_of, IsOffered, LooksAtUpstreams, nothing_offered}
+use Rattle.dr_ring.specs.Inside.Fits.{ReceiverFits}
 use Rattle.dr_ring.proofs.Lists.{last_look_more}
 
 -- a receiver that has looked at closed and at the cursor
 abbrev pub looked_twice : ReceiverRecord → ℕ → ℕ → ReceiverRecord
 looked_twice r closed cursor = cursor_looked (receiver_looked r closed_word closed) cursor
+
+abbrev pub saw : ℕ → ℕ → List ℕ → PollLooks
+saw closed cursor counts = record { closed = closed; cursor = cursor; counts = counts }
 
 -- the three rounds of looks, as one
 round_is : (r : ReceiverRecord) (closed cursor : ℕ) (xs : List Look)
@@ -28,7 +32,7 @@ round_is r closed cursor xs = λ i. record r {
 }
 
 pub round_of : (r s : ReceiverRecord) (closed cursor available : ℕ) → (L : LooksAtUpstreams (looked_twice r closed cursor) cursor s available)
-    → s ≡ looked_round r closed cursor L.counts
+    → s ≡ looked_round r (saw closed cursor L.counts)
 round_of r s closed cursor available L = L.is ∙ round_is r closed cursor (count_looks (ups_of r) L.counts)
 
 no_counts : (counts : List ℕ) → length counts ≡ 0 → counts ≡ []
@@ -64,10 +68,10 @@ is_told r closed cursor one all = rw (eq-eqb closed 1 one, eq-eqb cursor (length
 -- nothing is offered
 pub poll_nothing : (r s : ReceiverRecord) (out : List Event) (closed cursor available taken : ℕ) → taken ≡ length r.received
     → (L : LooksAtUpstreams (looked_twice r closed cursor) cursor s available)
-    → closed ≤ 1 → taken ≤ cursor → available ≤ taken → Answers r out s out closed cursor L.counts (nothing_offered closed cursor taken)
+    → closed ≤ 1 → taken ≤ cursor → available ≤ taken → Answers r out s out (saw closed cursor L.counts) (nothing_offered closed cursor taken)
 poll_nothing r s out closed cursor available taken next L flag ahead none =
     let round = round_of r s closed cursor available L in
-    let P : Polled → Type 0 = λ p. Answers r out s out closed cursor L.counts p in
+    let P : Polled → Type 0 = λ p. Answers r out s out (saw closed cursor L.counts) p in
     elim (cases_eq cursor taken) [
       | inl all ↦ elim (cases_eq closed 1) [
         | inl one ↦ subst P (sym (drains closed cursor taken one all)) (one, omega arith, round, ap (λ (q : ReceiverRecord). q.told) round ∙ is_told r closed cursor one (omega arith), refl)
@@ -135,7 +139,7 @@ pub poll_batch : (r s t : ReceiverRecord) (out out' : List Event) (closed cursor
     → (L : LooksAtUpstreams (looked_twice r closed cursor) cursor s available) → (r.told ≡ true → cursor ≤ length r.received)
     → t ≡ received_all s (take count out') → drop count out' ≡ drop count out → taken < available → count ≡ min (available - taken) (length out)
     → (IsTrue last ↔ (taken + count ≡ available))
-    → Answers r out t out' closed cursor L.counts (Batch taken count last)
+    → Answers r out t out' (saw closed cursor L.counts) (Batch taken count last)
 poll_batch r s t out out' closed cursor available taken count last next L before is rest more least end = (
   next,
   subst (λ (n : ℕ). taken < n) L.offered more,
@@ -154,7 +158,3 @@ seen_round r q s t closed cursor available first second L = subst (λ (x : Recei
 
 pub of_count : (n m : ℕ) (b : Bool) → b ≡ (n == m) → IsTrue b ↔ (n ≡ m)
 of_count n m b e = ((λ y. eqb-true n m (sym e ∙ y)), (λ y. e ∙ eq-eqb n m y))
-
-pub some_room : (n : ℕ) → (n == 0) ≡ false → 0 < n
-some_room zero e = absurd (cc)
-some_room (suc n) e = omega arith

@@ -4,16 +4,17 @@ use Rattle.std.specs.Prelude.{Contains}
 use Rattle.std.proofs.lemmas.Bool.{cases_eq, cases_lt, ne_eqb, lt-ltb, le-ltb}
 use Rattle.std.proofs.lemmas.List.{length-append, append-nil, get_or_append_left}
 use Rattle.dr_graph.specs.Graph.{finals, least_of}
-use Rattle.dr_ring.specs.Shape.{Shape}
-use Rattle.dr_ring.specs.Plans.{IsPlan}
-use Rattle.dr_ring.specs.Words.{count_word}
+use Rattle.dr_ring.specs.Meaning.Shape.{Shape}
+use Rattle.dr_ring.specs.Calls.Plans.{IsPlan}
+use Rattle.dr_ring.specs.Meaning.Words.{count_word}
 use Rattle.dr_ring.specs.declared.record.Look.{Look}
 use Rattle.dr_ring.specs.declared.record.SenderRecord.{SenderRecord}
 use Rattle.dr_ring.specs.declared.record.ReceiverRecord.{ReceiverRecord}
-use Rattle.dr_ring.specs.Ends.{look, last_look, sender_looked, receiver_looked}
-use Rattle.dr_ring.specs.Calls.{sender_saw, count_looks, offered_by}
-use Rattle.dr_ring.specs.Fits.{IsSeenLeast}
-use Rattle.dr_ring.specs.Parts.{lesser_of, LooksAtFinals, IsEnough, IsShort, receiver_saw, ups_of, LooksAtUpstreams}
+use Rattle.dr_ring.specs.Meaning.Records.{look, last_look, sender_looked, receiver_looked}
+use Rattle.dr_ring.specs.Calls.Ends.{count_looks}
+use Rattle.dr_ring.specs.Calls.Receiving.{offered_by}
+use Rattle.dr_ring.specs.Inside.Fits.{IsSeenLeast}
+use Rattle.dr_ring.specs.Inside.Parts.{sender_saw, lesser_of, LooksAtFinals, IsEnough, IsShort, receiver_saw, ups_of, LooksAtUpstreams}
 use Rattle.dr_ring.proofs.Lists.{last_look_more, last_look_else}
 use Rattle.dr_ring.proofs.Pictures.{some_final}
 
@@ -78,9 +79,9 @@ pub record Scanned (r : SenderRecord) (needed least i : ℕ) (s : SenderRecord) 
   pub are : xs ≡ count_looks (take i (finals r.plan.upstreams)) counts
   pub ahead : (j : ℕ) → j < i → needed ≤ get_or counts j 0
   pub high : (j : ℕ) → j < i → least ≤ last_look 0 (r.looks ++ xs) (count_word (get_or (finals r.plan.upstreams) j 0))
-  pub either : (least ≡ length r.published) ⊎ (needed ≤ least)
-  pub some_one : 0 < i → needed ≤ length r.published
-  pub front : least ≤ length r.published
+  pub either : (least ≡ length r.sent.published) ⊎ (needed ≤ least)
+  pub some_one : 0 < i → needed ≤ length r.sent.published
+  pub front : least ≤ length r.sent.published
 
 no_looks_at : (hs : List ℕ) → count_looks hs [] ≡ []
 no_looks_at [] = refl
@@ -117,9 +118,9 @@ at_end counts v needed i j each lt ahead high =
 
 pub scanned_more : (r s s' : SenderRecord) (needed least least' i f v : ℕ) → Scanned r needed least i s → i < length (finals r.plan.upstreams)
     → get_or (finals r.plan.upstreams) i 0 ≡ f → s' ≡ sender_looked s (count_word f) v → last_look 0 s.looks (count_word f) ≤ v
-    → needed ≤ v → v ≤ length s.published → least' ≡ min least v → Scanned r needed least' (i + 1) s'
+    → needed ≤ v → v ≤ length s.sent.published → least' ≡ min least v → Scanned r needed least' (i + 1) s'
 scanned_more r s s' needed least least' i f v S inside at is rise high below new =
-    let front : v ≤ length r.published = subst (λ (q : SenderRecord). v ≤ length q.published) S.saw.is below in
+    let front : v ≤ length r.sent.published = subst (λ (q : SenderRecord). v ≤ length q.sent.published) S.saw.is below in
     let saw = saw_more r s s' S.xs (count_word f) v S.saw is rise in record {
       xs = S.xs ++ look (count_word f) v ∷ [];
       saw = saw;
@@ -175,7 +176,7 @@ scanned_all r s needed least i plan S all =
     )
 
 -- what is remembered serves
-pub remembers : (r : SenderRecord) (needed least front : ℕ) → needed ≤ least → least ≤ front → front ≡ length r.published → IsSeenLeast r least
+pub remembers : (r : SenderRecord) (needed least front : ℕ) → needed ≤ least → least ≤ front → front ≡ length r.sent.published → IsSeenLeast r least
     → (xs : List Look) × LooksAtFinals r xs r × IsEnough r xs needed least
 remembers r needed least front enough low at seen = (
   [],

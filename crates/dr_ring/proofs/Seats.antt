@@ -7,21 +7,21 @@ use mathlib.Core.Option.{some, some-injective, some-ne-none}
 use lib.ListN.{get_elem?}
 use Rattle.atomic_table.specs.Table.{State, keeps, Allows}
 use Rattle.atomic_table.proofs.Lists.{at_set, set_here, set_else}
-use Rattle.dr_ring.specs.Shape.{Shape}
+use Rattle.dr_ring.specs.Meaning.Shape.{Shape}
 use Rattle.dr_ring.specs.declared.record.SenderRecord.{SenderRecord}
 use Rattle.dr_ring.specs.declared.record.ReceiverRecord.{ReceiverRecord}
 use Rattle.dr_ring.specs.declared.record.HalterRecord.{HalterRecord}
 use Rattle.dr_ring.specs.declared.record.EndRecord.{EndRecord}
 use Rattle.dr_ring.specs.declared.record.EndRecord.TheVariants.{Sends, Receives, Halts}
 use Rattle.dr_core.specs.Transcript.{Transcript}
-use Rattle.dr_ring.specs.Kept.{World, Kept}
+use Rattle.dr_ring.specs.Meaning.Kept.{World, Kept}
 use Rattle.dr_ring.specs.declared.record.Step.{Step}
 use Rattle.dr_ring.specs.declared.record.View.{View}
-use Rattle.dr_ring.specs.Steps.{Happens}
-use Rattle.dr_ring.specs.Moments.{Runs, opening, events_of}
+use Rattle.dr_ring.specs.Meaning.Steps.{Happens}
+use Rattle.dr_ring.specs.Meaning.Moments.{Runs, opening, events_of, IsBeginning}
 use Rattle.dr_ring.proofs.Pictures.{keeps_runs}
 use Rattle.dr_ring.proofs.Beginning.{kept_opening}
-use Rattle.dr_ring.specs.Seats.{End, end_of, seat_at, first_past, past_of, is_store_of, stores_of, stored_of, EachPast, Saw, IsBeginning, end_number, Stands, world_of, Ruled, as_sender, as_receiver, as_halter}
+use Rattle.dr_ring.specs.Inside.Seats.{End, end_of, seat_at, first_past, past_of, is_store_of, stores_of, stored_of, EachPast, Saw, end_number, Stands, world_of, Ruled, as_sender, as_receiver, as_halter}
 use Rattle.dr_ring.proofs.Lists.{at_below}
 
 -- the place of an end, with what it stands for

@@ -8,18 +8,19 @@ use Rattle.atomic_table.specs.Table.{step, keeps, Allows}
 use Rattle.atomic_table.proofs.Lists.{at_set}
 use Rattle.dr_seq.specs.declared.event.Event.{Event}
 use Rattle.dr_graph.specs.Graph.{upstreams_of, finals, IsGraph}
-use Rattle.dr_ring.specs.Shape.{Shape}
-use Rattle.dr_ring.specs.Words.{cursor_word, count_word}
+use Rattle.dr_ring.specs.Meaning.Shape.{Shape}
+use Rattle.dr_ring.specs.Meaning.Words.{cursor_word, count_word}
 use Rattle.dr_ring.specs.declared.record.SenderRecord.{SenderRecord}
 use Rattle.dr_ring.specs.declared.record.ReceiverRecord.{ReceiverRecord}
 use Rattle.dr_ring.specs.declared.record.EndRecord.{EndRecord}
 use Rattle.dr_ring.specs.declared.record.EndRecord.TheVariants.{Sends, Receives}
-use Rattle.dr_ring.specs.Ends.{claimed}
-use Rattle.dr_ring.specs.Kept.{World, Kept}
-use Rattle.dr_ring.specs.Seats.{Sitting, end_of, IsBeginning, EachPast, Saw, world_of, Ruled, sender_of}
+use Rattle.dr_ring.specs.Meaning.Records.{claimed}
+use Rattle.dr_ring.specs.Meaning.Kept.{World, Kept}
+use Rattle.dr_ring.specs.Inside.Seats.{Sitting, end_of, EachPast, Saw, world_of, Ruled, sender_of}
+use Rattle.dr_ring.specs.Meaning.Moments.{IsBeginning, Runs, opening}
 use Rattle.dr_ring.specs.declared.record.View.{View}
-use Rattle.dr_ring.specs.Settling.{Agrees, Follows, LeadsView, Compares}
-use Rattle.dr_ring.specs.Moments.{Runs, opening}
+use Rattle.dr_ring.specs.Meaning.Settling.{Agrees, Follows}
+use Rattle.dr_ring.specs.Inside.Gathering.{LeadsView, Compares}
 use Rattle.dr_ring.proofs.Seats.{StandsAt, kept_of, each_map}
 
 take_whole : (xs : List Event) (n : ℕ) → length xs ≤ n → take n xs ≡ xs
@@ -32,7 +33,7 @@ agrees : (k : Shape) (w : World) (s : SenderRecord) (r : ReceiverRecord) → w.s
 agrees k w s r same at K = let was = K.received r.number r at in subst (λ (q : SenderRecord). Agrees q r) same (record {
   beginning = was.beginning;
   taken = was.taken;
-  drained = λ told. was.beginning ∙ take_whole w.sender.published (length r.received) (was.told told).1;
+  drained = λ told. was.beginning ∙ take_whole w.sender.sent.published (length r.received) (was.told told).1;
   completed = was.completed;
   room = λ has. (let e : claimed w.sender ≤ k.size + get_or w.words (count_word r.number) 0 = K.room r.number (subst (λ (p : Shape). Contains (finals p.upstreams) r.number) K.sender_plan has) in
       let size : w.sender.plan.size ≡ k.size = ap (λ (p : Shape). p.size) K.sender_plan in let count = was.count in omega arith);

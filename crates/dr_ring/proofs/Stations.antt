@@ -1,7 +1,7 @@
 -- What an end that only loads words knows in the end.
 use Rattle.std.proofs.Common.{List, ◌++◌, refl, ap, ◌∙◌, append_assoc}
 use Rattle.dr_ring.specs.declared.record.Step.{Step}
-use Rattle.dr_ring.specs.Stations.{EndOf, HasLoaded}
+use Rattle.dr_ring.specs.Calls.Ends.{EndOf, HasLoaded}
 
 pub loaded_more : {K : Type 0} (e s s' : EndOf K) (knows : K) → HasLoaded e s.knows s → HasLoaded s knows s' → HasLoaded e s'.knows s'
 loaded_more e s s' knows A B =

@@ -8,21 +8,22 @@ use lib.ListN.{get_elem?}
 use Rattle.dr_seq.specs.declared.event.Event.{Event}
 use Rattle.dr_seq.specs.Event.{no_event}
 use Rattle.dr_graph.specs.Graph.{upstreams_of}
-use Rattle.dr_ring.specs.Shape.{Shape, handlers_of}
-use Rattle.dr_ring.specs.Words.{cursor_word, closed_word, halt_word, count_word, payload_start, payload_word}
+use Rattle.dr_core.specs.Ends.{event_or_none}
+use Rattle.dr_ring.specs.Meaning.Shape.{Shape, handlers_of}
+use Rattle.dr_ring.specs.Meaning.Words.{cursor_word, closed_word, halt_word, count_word, payload_start, payload_word}
 use Rattle.dr_ring.specs.declared.record.Look.{Look}
 use Rattle.dr_ring.specs.declared.record.SenderRecord.{SenderRecord}
 use Rattle.dr_ring.specs.declared.record.ReceiverRecord.{ReceiverRecord}
-use Rattle.dr_ring.specs.Ends.{claimed, last_look, event_or_none, published_to, sender_halted, sender_closed, receiver_looked, tells_drained, cursor_looked, half_taken, took, completed_to, halter_halted, AreWritten, IsBelowBarrier}
-use Rattle.dr_ring.specs.Kept.{World, Room, Payload, HaltAndClose, ArePast, ReceiverKept, Kept}
-use Rattle.dr_ring.specs.Steps.{sender_stores, receiver_knows, receiver_stores}
+use Rattle.dr_ring.specs.Meaning.Records.{claimed, last_look, published_to, sender_halted, sender_closed, receiver_looked, tells_drained, cursor_looked, half_taken, took, completed_to, halter_halted, AreWritten, IsBelowBarrier}
+use Rattle.dr_ring.specs.Meaning.Kept.{World, Room, Payload, HaltAndClose, ArePast, ReceiverKept, Kept}
+use Rattle.dr_ring.specs.Meaning.Steps.{sender_stores, receiver_knows, receiver_stores}
 use Rattle.dr_ring.proofs.Lists.{at_below, each_set, past_set, past_more, last_look_le}
 use Rattle.dr_ring.proofs.Keeps.{word_at, receiver_of_handler, above, upstream_inside, room_stays, payload_stays, flags_stay, receiver_stays}
 
-payload_publishes : (k : Shape) (words : List ℕ) (r : SenderRecord) (n : ℕ) → length r.published < n → n ≤ claimed r → AreWritten r n
-    → Payload k words r.published r.pending None → Payload k words (published_to r n).published (published_to r n).pending None
+payload_publishes : (k : Shape) (words : List ℕ) (r : SenderRecord) (n : ℕ) → length r.sent.published < n → n ≤ claimed r → AreWritten r n
+    → Payload k words r.sent.published r.sent.pending None → Payload k words (published_to r n).sent.published (published_to r n).sent.pending None
 payload_publishes k words r n lt le all P =
-    let old = r.published in let pending = r.pending in let m = n - length old in let new = map event_or_none (take m pending) in
+    let old = r.sent.published in let pending = r.sent.pending in let m = n - length old in let new = map event_or_none (take m pending) in
     let count : length new ≡ m = length-map (take m pending) event_or_none ∙ omega (arith, length-take m pending) in
     let longer : length (old ++ new) ≡ n = omega (arith, length-append old new) in
     let rest : length (drop m pending) + m ≡ length pending = omega (arith, length-drop m pending) in record {
@@ -45,10 +46,10 @@ payload_publishes k words r n lt le all P =
       halves = λ x e. absurd (cc);
     }
 
-pub keeps_publishes : (k : Shape) (w : World) (n : ℕ) → length w.sender.published < n → n ≤ claimed w.sender → AreWritten w.sender n
+pub keeps_publishes : (k : Shape) (w : World) (n : ℕ) → length w.sender.sent.published < n → n ≤ claimed w.sender → AreWritten w.sender n
     → w.sender.half ≡ None → Kept k w → Kept k (sender_stores w cursor_word n (published_to w.sender n))
 keeps_publishes k w n lt le all free K =
-    let old = w.sender.published in let pending = w.sender.pending in let m = n - length old in let new = map event_or_none (take m pending) in
+    let old = w.sender.sent.published in let pending = w.sender.sent.pending in let m = n - length old in let new = map event_or_none (take m pending) in
     let count : length new ≡ m = length-map (take m pending) event_or_none ∙ omega (arith, length-take m pending) in
     let longer : length (old ++ new) ≡ n = omega (arith, length-append old new) in
     let rest : length (drop m pending) + m ≡ length pending = omega (arith, length-drop m pending) in
@@ -95,7 +96,7 @@ keeps_publishes k w n lt le all free K =
 
 -- halt or closed becomes 1: what speaks of neither stays
 flagged : (k : Shape) (w : World) (i : ℕ) → 0 < i → i < 32 → word_at w.words i ≤ 1 → (a b c : Bool)
-    → HaltAndClose (set w.words i 1) (length w.sender.pending) a b c → Kept k w
+    → HaltAndClose (set w.words i 1) (length w.sender.sent.pending) a b c → Kept k w
     → Kept k (record w { words = set w.words i 1; sender = record w.sender { halted = a; closed = b }; halter = record w.halter { halted = c } })
 flagged k w i pos lt flag a b c flags K =
     let wide = K.wide in let us = set w.words i 1 in let inside : i < length w.words = omega arith in
@@ -111,16 +112,16 @@ flagged k w i pos lt flag a b c flags K =
       halter_plan = K.halter_plan;
       counts = record { cursor = stays cursor_word (λ e. omega arith) ∙ K.counts.cursor; limit = K.counts.limit };
       received = λ h r there. (let inside_h : h < handlers_of k = (let b = at_below w.receivers h r there in let c = K.ends in omega arith) in let was = K.received h r there in
-          receiver_stays k w.words us w.sender.published h r K.graph inside_h (stays (count_word h) (λ e. omega arith)) (λ u lt'. (let e = stays (count_word u) (λ e. omega arith) in omega arith)) (up closed_word) (past_set k w.words i 1 r.looks inside rises was.looks) was);
+          receiver_stays k w.words us w.sender.sent.published h r K.graph inside_h (stays (count_word h) (λ e. omega arith)) (λ u lt'. (let e = stays (count_word u) (λ e. omega arith) in omega arith)) (up closed_word) (past_set k w.words i 1 r.looks inside rises was.looks) was);
       room = room_stays k w.words us (claimed w.sender) (λ h lt'. (let e = stays (count_word h) (λ e. omega arith) in omega arith)) K.room;
-      payload = payload_stays k w.words us w.sender.published w.sender.pending w.sender.half (λ j big. stays j (λ e. omega arith)) K.payload;
+      payload = payload_stays k w.words us w.sender.sent.published w.sender.sent.pending w.sender.half (λ j big. stays j (λ e. omega arith)) K.payload;
       flags = flags;
       looks = past_set k w.words i 1 w.sender.looks inside rises K.looks;
     }
 
 -- the flags once halt is stored
 halts_flags : (k : Shape) (w : World) (a c : Bool) → (a ≡ true) ⊎ (c ≡ true) → Kept k w
-    → HaltAndClose (set w.words halt_word 1) (length w.sender.pending) a w.sender.closed c
+    → HaltAndClose (set w.words halt_word 1) (length w.sender.sent.pending) a w.sender.closed c
 halts_flags k w a c who K = let F = K.flags in let wide = K.wide in
     let here : word_at (set w.words halt_word 1) halt_word ≡ 1 = get_or-set_same w.words halt_word 1 0 (omega arith) in
     let other : word_at (set w.words halt_word 1) closed_word ≡ word_at w.words closed_word = get_or-set_other w.words halt_word closed_word 1 0 (λ (e : closed_word ≡ halt_word). omega arith) in record {
@@ -140,7 +141,7 @@ keeps_sender_halts k w K = flagged k w halt_word (omega arith) (omega arith) K.f
 pub keeps_halter_halts : (k : Shape) (w : World) → Kept k w → Kept k (record w { words = set w.words halt_word 1; halter = halter_halted w.halter })
 keeps_halter_halts k w K = flagged k w halt_word (omega arith) (omega arith) K.flags.halt w.sender.halted w.sender.closed true (halts_flags k w w.sender.halted true (inr refl) K) K
 
-pub keeps_closes : (k : Shape) (w : World) → w.sender.halted ≡ true → w.sender.pending ≡ [] → Kept k w
+pub keeps_closes : (k : Shape) (w : World) → w.sender.halted ≡ true → w.sender.sent.pending ≡ [] → Kept k w
     → Kept k (sender_stores w closed_word 1 (sender_closed w.sender))
 keeps_closes k w halted all K = let F = K.flags in let wide = K.wide in
     let here : word_at (set w.words closed_word 1) closed_word ≡ 1 = get_or-set_same w.words closed_word 1 0 (omega arith) in
@@ -150,7 +151,7 @@ keeps_closes k w halted all K = let F = K.flags in let wide = K.wide in
     (record { halt = omega arith; close = omega arith; by_sender = λ y. halt; by_halter = λ y. halt; closed = λ y. here; known_halt = λ y. inl halted; known_close = λ y. refl; complete = λ y. (halt, ap length all) }) K
 
 -- one receiver's record changes, and no word
-receiver_changes : (k : Shape) (w : World) (h : ℕ) (q : ReceiverRecord) → ReceiverKept k w.words w.sender.published h q → Kept k w
+receiver_changes : (k : Shape) (w : World) (h : ℕ) (q : ReceiverRecord) → ReceiverKept k w.words w.sender.sent.published h q → Kept k w
     → Kept k (receiver_knows w h q)
 receiver_changes k w h q new K = record {
   graph = K.graph;
@@ -160,7 +161,7 @@ receiver_changes k w h q new K = record {
   sender_plan = K.sender_plan;
   halter_plan = K.halter_plan;
   counts = K.counts;
-  received = each_set (ReceiverKept k w.words w.sender.published) w.receivers h q new (λ j p _ there. K.received j p there);
+  received = each_set (ReceiverKept k w.words w.sender.sent.published) w.receivers h q new (λ j p _ there. K.received j p there);
   room = K.room;
   payload = K.payload;
   flags = K.flags;
@@ -169,8 +170,8 @@ receiver_changes k w h q new K = record {
 
 -- a receiver that takes and completes nothing
 receiver_learns : (k : Shape) (w : World) (h : ℕ) (r : ReceiverRecord) (half : Option ℕ) (told : Bool) (looks : List Look) → get_elem? w.receivers h ≡ some r
-    → ((first : ℕ) → half ≡ Some first → (length r.received < length w.sender.published) × (first ≡ (get_or w.sender.published (length r.received) no_event).first))
-    → (told ≡ true → (word_at w.words closed_word ≡ 1) × (length w.sender.published ≤ length r.received)) → ArePast k w.words looks → Kept k w
+    → ((first : ℕ) → half ≡ Some first → (length r.received < length w.sender.sent.published) × (first ≡ (get_or w.sender.sent.published (length r.received) no_event).first))
+    → (told ≡ true → (word_at w.words closed_word ≡ 1) × (length w.sender.sent.published ≤ length r.received)) → ArePast k w.words looks → Kept k w
     → Kept k (receiver_knows w h (record r { half = half; told = told; looks = looks }))
 receiver_learns k w h r half told looks at next drained past K = let was = K.received h r at in receiver_changes k w h (record r { half = half; told = told; looks = looks }) (record {
   plan = was.plan;
@@ -193,7 +194,7 @@ keeps_receiver_looks k w h i r lt at K = let was = K.received h r at in
 -- a look that tells a receiver that the ring drained tells the truth
 pub tells_truth : (k : Shape) (w : World) (h : ℕ) (r : ReceiverRecord) → get_elem? w.receivers h ≡ some r
     → tells_drained r (word_at w.words cursor_word) ≡ true → Kept k w
-    → (word_at w.words closed_word ≡ 1) × (length w.sender.published ≡ length r.received)
+    → (word_at w.words closed_word ≡ 1) × (length w.sender.sent.published ≡ length r.received)
 tells_truth k w h r at tells K =
     let both : ((last_look 0 r.looks closed_word == 1) ≡ true) × ((word_at w.words cursor_word == length r.received) ≡ true) = and_parts _ _ tells in
     let a : last_look 0 r.looks closed_word ≡ 1 = eqb-true _ _ both.0 in let b : word_at w.words cursor_word ≡ length r.received = eqb-true _ _ both.1 in
@@ -212,7 +213,7 @@ keeps_cursor_look k w h r at K = let was = K.received h r at in let seen = curso
 
 early_by : (k : Shape) (w : World) (h : ℕ) (r : ReceiverRecord) (ups : List ℕ) → get_elem? w.receivers h ≡ some r
     → ((u : ℕ) → Contains ups u → length r.received < last_look 0 r.looks (count_word u)) → (ups ≡ [] → length r.received < last_look 0 r.looks cursor_word)
-    → ups ≡ upstreams_of k.upstreams h → Kept k w → length r.received < length w.sender.published
+    → ups ≡ upstreams_of k.upstreams h → Kept k w → length r.received < length w.sender.sent.published
 early_by k w h r [] at completed published same K =
     let was = K.received h r at in let a = published refl in let b = last_look_le k w.words 0 r.looks cursor_word (omega arith) was.looks in
     let c = K.counts.cursor in omega arith
@@ -225,13 +226,13 @@ early_by k w h r (u ∷ ups) at completed published same K =
 
 -- the next event is published
 pub early : (k : Shape) (w : World) (h : ℕ) (r : ReceiverRecord) → get_elem? w.receivers h ≡ some r → IsBelowBarrier k h r → Kept k w
-    → length r.received < length w.sender.published
+    → length r.received < length w.sender.sent.published
 early k w h r at low K = early_by k w h r (upstreams_of k.upstreams h) at low.completed low.published refl K
 
 -- the words of the next event lie in its slot
 pub next_event : (k : Shape) (w : World) (h : ℕ) (r : ReceiverRecord) → get_elem? w.receivers h ≡ some r
-    → length r.received < length w.sender.published → Kept k w
-    → (word_at w.words (payload_word k (length r.received) 0) ≡ (get_or w.sender.published (length r.received) no_event).first) × (word_at w.words (payload_word k (length r.received) 1) ≡ (get_or w.sender.published (length r.received) no_event).second)
+    → length r.received < length w.sender.sent.published → Kept k w
+    → (word_at w.words (payload_word k (length r.received) 0) ≡ (get_or w.sender.sent.published (length r.received) no_event).first) × (word_at w.words (payload_word k (length r.received) 1) ≡ (get_or w.sender.sent.published (length r.received) no_event).second)
 next_event k w h r at below K =
     let inside : h < handlers_of k = (let b = at_below w.receivers h r at in let c = K.ends in omega arith) in let was = K.received h r at in
     K.payload.events (length r.received) below (let room = above k w K h inside in let d = was.count in let c = was.completed in omega arith)
@@ -245,7 +246,7 @@ keeps_half_taken k w h r at low K =
 
 -- the event that is taken
 pub taken_event : (k : Shape) (w : World) (h first : ℕ) (r : ReceiverRecord) → get_elem? w.receivers h ≡ some r → r.half ≡ Some first → Kept k w
-    → record { first = first; second = word_at w.words (payload_word k (length r.received) 1) } ≡ get_or w.sender.published (length r.received) no_event
+    → record { first = first; second = word_at w.words (payload_word k (length r.received) 1) } ≡ get_or w.sender.sent.published (length r.received) no_event
 taken_event k w h first r at half K =
     let was = K.received h r at in let d = was.half first half in let event = next_event k w h r at d.0 K in
     λ i. record { first = d.1 i; second = event.1 i }
@@ -254,7 +255,7 @@ pub keeps_takes : (k : Shape) (w : World) (h first : ℕ) (r : ReceiverRecord) �
     → IsBelowBarrier k h r → Kept k w
     → Kept k (receiver_knows w h (took r record { first = first; second = word_at w.words (payload_word k (length r.received) 1) }))
 keeps_takes k w h first r at half low K =
-    let was = K.received h r at in let n = length r.received in let all = w.sender.published in
+    let was = K.received h r at in let n = length r.received in let all = w.sender.sent.published in
     let found : Event = record { first = first; second = word_at w.words (payload_word k n 1) } in
     let event : found ≡ get_or all n no_event = taken_event k w h first r at half K in
     let below = early k w h r at low K in
@@ -292,7 +293,7 @@ keeps_completes k w h n r at rise le K =
       sender_plan = K.sender_plan;
       halter_plan = K.halter_plan;
       counts = record { cursor = stays cursor_word (λ e. omega arith) ∙ K.counts.cursor; limit = K.counts.limit };
-      received = each_set (ReceiverKept k us w.sender.published) w.receivers h (completed_to r n)
+      received = each_set (ReceiverKept k us w.sender.sent.published) w.receivers h (completed_to r n)
           (record {
             plan = was.plan;
             number = was.number;
@@ -306,9 +307,9 @@ keeps_completes k w h n r at rise le K =
             looks = past_set k w.words i n r.looks inside rises was.looks;
           })
           (λ j q ne there. (let old = K.received j q there in let inside_j : j < handlers_of k = (let b = at_below w.receivers j q there in let c = K.ends in omega arith) in
-          receiver_stays k w.words us w.sender.published j q K.graph inside_j (stays (count_word j) (λ e. ne (omega arith))) up (λ c. two ∙ c) (past_set k w.words i n q.looks inside rises old.looks) old));
+          receiver_stays k w.words us w.sender.sent.published j q K.graph inside_j (stays (count_word j) (λ e. ne (omega arith))) up (λ c. two ∙ c) (past_set k w.words i n q.looks inside rises old.looks) old));
       room = room_stays k w.words us (claimed w.sender) up K.room;
-      payload = payload_stays k w.words us w.sender.published w.sender.pending w.sender.half (λ j big. stays j (λ e. omega arith)) K.payload;
-      flags = flags_stay w.words us (length w.sender.pending) w.sender.halted w.sender.closed w.halter.halted one two K.flags;
+      payload = payload_stays k w.words us w.sender.sent.published w.sender.sent.pending w.sender.half (λ j big. stays j (λ e. omega arith)) K.payload;
+      flags = flags_stay w.words us (length w.sender.sent.pending) w.sender.halted w.sender.closed w.halter.halted one two K.flags;
       looks = past_set k w.words i n w.sender.looks inside rises K.looks;
     }

@@ -3,10 +3,10 @@
 
 ghost use Rattle.std.specs.Prelude.{◌≡◌, ◌+◌, ◌^◌, ◌<◌, ◌≤◌, if◌then◌else◌, length, IfSome};
 ghost use Rattle.std.specs.Bool.{MatchBool};
-ghost use Rattle.dr_ring.specs.Ends.{halt_looked, HasRoom};
-ghost use Rattle.dr_ring.specs.Fits.{IsSeenLeast};
-ghost use Rattle.dr_ring.specs.Stations.{HasLoaded};
-ghost use Rattle.dr_ring.specs.Parts.{Scans, AreMarked, HasUnmarked};
+ghost use Rattle.dr_ring.specs.Meaning.Records.{halt_looked, HasRoom};
+ghost use Rattle.dr_ring.specs.Inside.Fits.{IsSeenLeast};
+ghost use Rattle.dr_ring.specs.Calls.Ends.{HasLoaded};
+ghost use Rattle.dr_ring.specs.Inside.Parts.{Scans, AreMarked, HasUnmarked};
 
 use crate::laws::SenderStation;
 use dr_seq::Size;
@@ -32,7 +32,7 @@ impl SenderStation {
     /// that is remembered where it serves, else the least of the counts that are there now. It
     /// gives nothing at the first count that is below `need`.
     pub(crate) fn make_room(&mut self, published: u64, remembered: u64, need: u64) -> Option<u64>
-        requires front { published ≡ length self.old.knows.published }
+        requires front { published ≡ length self.old.knows.sent.published }
         requires remembered { (remembered ≤ published) × IsSeenLeast self.old.knows remembered }
         ensures only { HasLoaded self.old self.new.knows self.new }
         ensures answer { Scans self.old.knows need self.new.knows result }

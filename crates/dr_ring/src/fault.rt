@@ -1,7 +1,7 @@
 //! Why a ring is not made.
 
 ghost use Rattle.std.specs.Prelude.{◌≡◌};
-ghost use Rattle.dr_ring.specs.Fault.{number_of, name_of};
+ghost use Rattle.dr_ring.specs.Calls.Fault.{number_of, name_of};
 ghost use Rattle.dr_ring.specs.declared.fault.RingFault.TheVariants.{NoMemory};
 
 use std::alloc::{AllocError, AllocFailed};

@@ -14,12 +14,12 @@ ghost use Rattle.std.specs.Prelude.{List, ◌≡◌, ◌<◌, ◌≤◌, slice_i
 ghost use Rattle.dr_graph.specs.Graph.{IsGraph};
 ghost use Rattle.dr_core.specs.Transcript.{Transcript, LeadsTo};
 ghost use Rattle.dr_core.specs.Laws.{Laws};
-ghost use Rattle.dr_ring.specs.Shape.{Shape, setup_of};
-ghost use Rattle.dr_ring.specs.Words.{halt_word};
-ghost use Rattle.dr_ring.specs.Ends.{claimed};
-ghost use Rattle.dr_ring.specs.Kept.{World, Kept};
+ghost use Rattle.dr_ring.specs.Meaning.Shape.{Shape, setup_of};
+ghost use Rattle.dr_ring.specs.Meaning.Words.{halt_word};
+ghost use Rattle.dr_ring.specs.Meaning.Records.{claimed};
+ghost use Rattle.dr_ring.specs.Meaning.Kept.{World, Kept};
 ghost use Rattle.dr_ring.specs.declared.record.Step.{Step};
-ghost use Rattle.dr_ring.specs.Moments.{Runs, opening, picture_of};
+ghost use Rattle.dr_ring.specs.Meaning.Moments.{Runs, opening, picture_of};
 
 use crate::plan::Plan;
 use crate::record::View;
@@ -35,7 +35,7 @@ use std::marker::Brand;
 pub struct RingRule;
 
 impl TableRule<u64, View, Plan> for RingRule {
-    ghost use Rattle.dr_ring.specs.Seats.{Ruled, all_ends};
+    ghost use Rattle.dr_ring.specs.Inside.Seats.{Ruled, all_ends};
 
     ghost holds = { Ruled };
 

@@ -1,22 +1,23 @@
 //! The ring over atomic words: one sender hands events to a graph of receivers, each end on a
 //! thread of its own, and no call waits or takes memory.
 //!
-//! Begin with `specs/`: `Words` says where each word lies, `Ends` what each kind of step makes of
-//! what its end knows, `Kept` is the rule that holds between any two steps, `Steps` lists the
-//! kinds, and `Seats` says of the words that such steps made them. [`laws`] has one function a
-//! kind, and [`laws::moments`] the theorem over all lists of steps.
+//! Begin with `specs/Meaning`: `Words` says where each word lies, `Records` what each kind of step
+//! makes of what its end knows, `Kept` is the rule that holds between any two steps, and `Steps`
+//! lists the kinds. `specs/Calls` has what public contracts cite, and `specs/Inside` the rest, of
+//! which `Seats` says of the words that such steps made them. [`laws`] has one function a kind, and
+//! [`laws::moments`] the theorem over all lists of steps.
 #![tactic(auto)]
 
 mod claiming;
-pub mod fault;
+mod fault;
 pub mod laws;
-pub mod opening;
-pub mod plan;
+mod opening;
+mod plan;
 mod polling;
-pub mod receiver;
+mod receiver;
 pub mod record;
-pub mod sender;
-pub mod settled;
+mod sender;
+mod settled;
 
 pub use fault::RingFault;
 pub use laws::Halter;

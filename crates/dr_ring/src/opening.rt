@@ -3,12 +3,12 @@
 ghost use Rattle.std.specs.Prelude.{◌≡◌, [], map, IfOk, IfErr, IsOk, false};
 ghost use Rattle.std.specs.Arc.{arc_value};
 ghost use Rattle.dr_core.specs.OpenFault.{is_bad_limit};
-ghost use Rattle.dr_ring.specs.Shape.{handlers_of};
-ghost use Rattle.dr_ring.specs.Plans.{IsPlan};
-ghost use Rattle.dr_ring.specs.Moments.{fresh_receivers};
-ghost use Rattle.dr_ring.specs.Seats.{IsAtTable};
-ghost use Rattle.dr_ring.specs.Settling.{AreAllEnds};
-ghost use Rattle.dr_ring.specs.Making.{receivers_seat, at_ring, AreFreshEnds, fault_of};
+ghost use Rattle.dr_ring.specs.Meaning.Shape.{handlers_of};
+ghost use Rattle.dr_ring.specs.Calls.Plans.{IsPlan};
+ghost use Rattle.dr_ring.specs.Meaning.Moments.{fresh_receivers};
+ghost use Rattle.dr_ring.specs.Inside.Seats.{IsAtTable, receivers_seat};
+ghost use Rattle.dr_ring.specs.Calls.Settling.{AreAllEnds};
+ghost use Rattle.dr_ring.specs.Calls.Making.{at_ring, AreFreshEnds, fault_of};
 
 use crate::fault::RingFault;
 use crate::laws::{Halter, ReceiverStation, RingBody, RingSeat, RingTable, SenderStation};

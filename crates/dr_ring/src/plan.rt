@@ -2,9 +2,9 @@
 
 ghost use Rattle.std.specs.Prelude.{◌≡◌, ◌^◌, ◌<◌, ◌≤◌, map, IfOk};
 ghost use Rattle.dr_graph.specs.Graph.{upstreams_of, finals as finals_of};
-ghost use Rattle.dr_ring.specs.Shape.{handlers_of};
-ghost use Rattle.dr_ring.specs.Words.{cursor_word, closed_word, halt_word, count_word as count_word_of, payload_word as payload_word_of, words_of};
-ghost use Rattle.dr_ring.specs.Plans.{IsPlan};
+ghost use Rattle.dr_ring.specs.Meaning.Shape.{handlers_of};
+ghost use Rattle.dr_ring.specs.Meaning.Words.{cursor_word, closed_word, halt_word, count_word as count_word_of, payload_word as payload_word_of, words_of};
+ghost use Rattle.dr_ring.specs.Calls.Plans.{IsPlan};
 
 use dr_graph::Graph;
 use dr_seq::Size;
@@ -39,8 +39,8 @@ pub struct Plan {
 impl Model for Plan {
     ghost use Rattle.std.specs.Prelude.{◌≡◌, map};
     ghost use Rattle.dr_graph.specs.Graph.{finals as final_handlers};
-    ghost use Rattle.dr_ring.specs.Shape.{Shape};
-    ghost use Rattle.dr_ring.specs.Plans.{IsPlan};
+    ghost use Rattle.dr_ring.specs.Meaning.Shape.{Shape};
+    ghost use Rattle.dr_ring.specs.Calls.Plans.{IsPlan};
 
     ghost Value = { Shape };
 

@@ -2,9 +2,8 @@
 
 ghost use Rattle.std.specs.Prelude.{◌≡◌, ◌<◌, ◌^◌, ◌||◌, [], ◌∷◌, length, Some};
 ghost use Rattle.dr_core.specs.Ends.{Tells, PollAnswers, CompleteAnswers, is_drained, Takes, Completes};
-ghost use Rattle.dr_ring.specs.Shown.{receiver_place, received_of};
-ghost use Rattle.dr_ring.specs.Stations.{looks_counted};
-ghost use Rattle.dr_ring.specs.Calls.{PollCall, CompleteCall};
+ghost use Rattle.dr_ring.specs.Calls.Ends.{receiver_place, received_of, looks_counted};
+ghost use Rattle.dr_ring.specs.Calls.Receiving.{PollCall, CompleteCall};
 
 use crate::laws::ReceiverStation;
 use crate::polling::nothing_offered;
@@ -22,8 +21,8 @@ pub struct Receiver {
 }
 
 impl Model for Receiver {
-    ghost use Rattle.dr_ring.specs.Stations.{ReceiverEnd};
-    ghost use Rattle.dr_ring.specs.Fits.{ReceiverFits};
+    ghost use Rattle.dr_ring.specs.Calls.Ends.{ReceiverEnd};
+    ghost use Rattle.dr_ring.specs.Inside.Fits.{ReceiverFits};
 
     ghost Value = { ReceiverEnd };
 
@@ -90,7 +89,7 @@ impl Receiver {
 }
 
 impl Outlet for Receiver {
-    ghost use Rattle.dr_ring.specs.Shown.{ReceiverPlace};
+    ghost use Rattle.dr_ring.specs.Calls.Ends.{ReceiverPlace};
 
     ghost Kept = { ReceiverPlace };
 

@@ -3,6 +3,7 @@
 use crate::plan::Plan;
 use dr_seq::Event;
 use std::collections::LinkedList;
+use std::marker::Model;
 
 /// A load of a word that another end stores: which word, and what was found.
 pub struct Look {
@@ -16,12 +17,26 @@ pub struct HalfWrite {
     pub first: u64,
 }
 
-/// What the sender knows: the events that it published, and each later sequence that it claimed,
-/// with its event once it is written.
-pub struct SenderRecord {
-    pub plan: Plan,
+/// The events that the sender published, and each later sequence that it claimed, with its event
+/// once it is written. It is what an inlet shows as sent.
+pub struct SentEvents {
     pub published: LinkedList<Event>,
     pub pending: LinkedList<Option<Event>>,
+}
+
+impl Model for SentEvents {
+    ghost use Rattle.dr_core.specs.Ends.{Sent};
+
+    ghost Value = { Sent };
+
+    ghost view = { λ e. record { published = e.published; pending = e.pending } };
+}
+
+/// What the sender knows: what it sent, the write of which it has stored the first word alone,
+/// whether it halted or closed the ring, and what it saw.
+pub struct SenderRecord {
+    pub plan: Plan,
+    pub sent: SentEvents,
     pub half: Option<HalfWrite>,
     pub halted: bool,
     pub closed: bool,

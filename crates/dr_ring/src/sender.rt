@@ -2,9 +2,8 @@
 
 ghost use Rattle.std.specs.Prelude.{◌≡◌, Some};
 ghost use Rattle.dr_core.specs.Ends.{Tells, ClaimAnswers, WriteAnswers, PublishAnswers, Claims, Writes, Publishes};
-ghost use Rattle.dr_ring.specs.Shown.{sender_place, sent_of};
-ghost use Rattle.dr_ring.specs.Stations.{looks_counted};
-ghost use Rattle.dr_ring.specs.Calls.{ClaimCall, WriteCall, PublishCall, CloseCall};
+ghost use Rattle.dr_ring.specs.Calls.Ends.{sender_place, looks_counted};
+ghost use Rattle.dr_ring.specs.Calls.Sending.{ClaimCall, WriteCall, PublishCall, CloseCall};
 
 use crate::claiming::all_marked;
 use crate::laws::SenderStation;
@@ -28,14 +27,14 @@ pub struct Sender {
 }
 
 impl Model for Sender {
-    ghost use Rattle.dr_ring.specs.Stations.{SenderEnd};
-    ghost use Rattle.dr_ring.specs.Fits.{SenderFits};
+    ghost use Rattle.dr_ring.specs.Calls.Ends.{SenderEnd};
+    ghost use Rattle.dr_ring.specs.Inside.Fits.{SenderFits};
 
     ghost Value = { SenderEnd };
 
     ghost view = { λ s. s.station };
 
-    ghost invariant = { λ s. SenderFits s.station.knows s.claimed s.published s.gate s.marks.items s.counts.items };
+    ghost invariant = { λ s. SenderFits s.station.knows (record { claimed = s.claimed; published = s.published; remembered = s.gate; marks = s.marks.items; rooms = s.counts.items }) };
 }
 
 impl Sender {
@@ -147,29 +146,27 @@ impl Sender {
 }
 
 impl Inlet for Sender {
-    ghost use Rattle.dr_ring.specs.Shown.{SenderPlace};
+    ghost use Rattle.dr_ring.specs.Calls.Ends.{SenderPlace};
 
     ghost Kept = { SenderPlace };
 
     ghost kept = { sender_place };
 
-    ghost sent = { λ e. Some (sent_of e.knows) };
+    ghost sent = { λ e. Some e.knows.sent };
 
     fn try_claim(&mut self, n: u64) -> Result<Claimed, Trouble>
         ensures kept { sender_place self.new ≡ sender_place self.old }
-        ensures answer { ClaimAnswers (Some (sent_of self.old.knows)) n result }
-        ensures sent { Claims n result (sent_of self.old.knows) (sent_of self.new.knows) }
+        ensures answer { ClaimAnswers (Some self.old.knows.sent) n result }
+        ensures sent { Claims n result self.old.knows.sent self.new.knows.sent }
         ensures own { Tells (ClaimCall self.old n self.new) result }
     {
-        // The plan tells by this call that no sequence reaches 2^62.
-        let _limit = self.station.plan().limit();
         Ok(Sender::try_claim(self, n)?)
     }
 
     fn write(&mut self, s: u64, event: Event) -> Result<(), Trouble>
         ensures kept { sender_place self.new ≡ sender_place self.old }
-        ensures answer { WriteAnswers (Some (sent_of self.old.knows)) s result }
-        ensures sent { Writes s event result (sent_of self.old.knows) (sent_of self.new.knows) }
+        ensures answer { WriteAnswers (Some self.old.knows.sent) s result }
+        ensures sent { Writes s event result self.old.knows.sent self.new.knows.sent }
         ensures own { Tells (WriteCall self.old s event self.new) result }
     {
         Ok(Sender::write(self, s, event)?)
@@ -177,8 +174,8 @@ impl Inlet for Sender {
 
     fn publish(&mut self, lo: u64, hi: u64) -> Result<(), Trouble>
         ensures kept { sender_place self.new ≡ sender_place self.old }
-        ensures answer { PublishAnswers (Some (sent_of self.old.knows)) lo hi result }
-        ensures sent { Publishes lo hi result (sent_of self.old.knows) (sent_of self.new.knows) }
+        ensures answer { PublishAnswers (Some self.old.knows.sent) lo hi result }
+        ensures sent { Publishes lo hi result self.old.knows.sent self.new.knows.sent }
         ensures own { Tells (PublishCall self.old lo hi self.new) result }
     {
         Ok(Sender::publish(self, lo, hi)?)

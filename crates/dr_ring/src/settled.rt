@@ -2,9 +2,11 @@
 
 ghost use Rattle.std.specs.Prelude.{◌≡◌, ◌<◌, length, map};
 ghost use Rattle.std.specs.Arc.{arc_value};
-ghost use Rattle.dr_ring.specs.Seats.{IsAtTable, end_of};
-ghost use Rattle.dr_ring.specs.Ends.{claimed as claimed_of};
-ghost use Rattle.dr_ring.specs.Settling.{LeadsView, Settles, HasRun, AreAllEnds, AreOfRing, Gathers, counts_of, counts_at};
+ghost use Rattle.dr_ring.specs.Inside.Seats.{IsAtTable, end_of};
+ghost use Rattle.dr_ring.specs.Meaning.Records.{claimed as claimed_of};
+ghost use Rattle.dr_ring.specs.Inside.Gathering.{LeadsView, AreOfRing, Gathers};
+ghost use Rattle.dr_ring.specs.Meaning.Settling.{Settles, HasRun};
+ghost use Rattle.dr_ring.specs.Calls.Settling.{AreAllEnds, counts_of, counts_at};
 
 use crate::laws::{ReceiverStation, RingBody, RingSeat, SenderStation, moments, settling};
 use crate::receiver::Receiver;
@@ -115,7 +117,7 @@ fn gather(
 pub fn settle(sender: Sender, receivers: Vec<Receiver>) -> Settled
     requires { AreAllEnds sender receivers.items }
     ensures claimed { result.claimed ≡ claimed_of sender.knows }
-    ensures published { result.published ≡ length sender.knows.published }
+    ensures published { result.published ≡ length sender.knows.sent.published }
     ensures handlers { result.handlers.items ≡ map (λ e. counts_of e.knows) receivers.items }
     ensures lists { Settles sender.knows (map (λ e. e.knows) receivers.items) }
     ensures run { HasRun sender.knows (map (λ e. e.knows) receivers.items) }

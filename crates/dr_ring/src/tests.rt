@@ -6,7 +6,7 @@ mod threads;
 mod traits;
 
 ghost use Rattle.std.specs.Prelude.{IfOk};
-ghost use Rattle.dr_ring.specs.Settling.{AreAllEnds};
+ghost use Rattle.dr_ring.specs.Calls.Settling.{AreAllEnds};
 
 use crate::{Halter, Receiver, RingFault, Sender, ring, settle};
 use dr_core::Polled::{Batch, Drained, Gating, Idle};

@@ -26,6 +26,21 @@ pub followed : (k : History) (r : IsRecorded k) (entries : List Entry) → entri
     → Follows k.core.setup (opening k.core.setup) entries r.runs.state
 followed k r entries is = rw is (follows_of k.core.setup (opening k.core.setup) k.entries k.values r.runs.state r.kept r.runs.leads)
 
+-- the list that was made of a history's entries
+pub lists_of : (k : History) (r : IsRecorded k) (entries : List Entry) → entries ≡ k.entries → (list : List Sequence)
+    → ((c : Setup) (end : State) → Follows c (opening c) entries end → Lists list end) → Lists list r.runs.state
+lists_of k r entries is list made = made k.core.setup r.runs.state (followed k r entries is)
+
+-- a list of sequences in which each producer below a bound sent its script, and the published events
+pub record IsChecked (k : History) (r : IsRecorded k) (scripts : List (List Event)) (all : List Event) : Type 0 where
+  pub list : List Sequence
+  pub lists : Lists list r.runs.state
+  pub bound : ℕ
+  pub few : producers k.core.setup.mode ≤ bound
+  pub short : length scripts ≤ bound
+  pub same : (p : ℕ) → p < bound → SentIn list scripts p
+  pub published : all ≡ published_of list
+
 first_same : (P Q : ℕ → Type 0) (n : ℕ) → ((k : ℕ) → P k → Q k) → ((k : ℕ) → Q k → P k) → FirstLacks P n → FirstLacks Q n
 first_same P Q n there back d = (λ q. d.0 (back n q), λ k l. there k (d.1 k l))
 
@@ -53,32 +68,31 @@ module _ (all_tell : AllTell) (k : History) (r : IsRecorded k) where
     scripts_fault (NotDrained h) d = absurd d
     scripts_fault NoMemory d = tt
 
-    -- each producer below a bound sent its script, and these are the published events
-    module _ (bound : ℕ) (few : producers k.core.setup.mode ≤ bound) (short : length scripts ≤ bound) (same : (p : ℕ) → p < bound → SentIn list scripts p) (all : List Event) (is : all ≡ published_of list) where
-      published : all ≡ published_by_all (transcript k)
-      published = is ∙ published_is k.core.setup (transcript k) r.runs.state told is_held list lists
+  module _ (scripts : List (List Event)) (all : List Event) (checked : IsChecked k r scripts all) where
+    published : all ≡ published_by_all (transcript k)
+    published = checked.published ∙ published_is k.core.setup (transcript k) r.runs.state told is_held checked.list checked.lists
 
-      sent : (p : ℕ) → SentScript (transcript k) scripts p
-      sent = all_sent k.core.setup (transcript k) r.runs.state told is_held list lists scripts bound few short same
+    sent : (p : ℕ) → SentScript (transcript k) scripts p
+    sent = all_sent k.core.setup (transcript k) r.runs.state told is_held checked.list checked.lists scripts checked.bound checked.few checked.short checked.same
 
-      took_all : (h : ℕ) → TookIn k.core (length all) h → TookAll (transcript k) h
-      took_all h took left = taken_is h ∙ took (sym (retired_is h) ∙ left) ∙ ap length published
+    took_all : (h : ℕ) → TookIn k.core (length all) h → TookAll (transcript k) h
+    took_all h took left = taken_is h ∙ took (sym (retired_is h) ∙ left) ∙ ap length published
 
-      took_in : (h : ℕ) → TookAll (transcript k) h → TookIn k.core (length all) h
-      took_in h took left = sym (taken_is h) ∙ took (retired_is h ∙ left) ∙ sym (ap length published)
+    took_in : (h : ℕ) → TookAll (transcript k) h → TookIn k.core (length all) h
+    took_in h took left = sym (taken_is h) ∙ took (retired_is h ∙ left) ∙ sym (ap length published)
 
-      pub drained_fault : (count : ℕ) → count ≡ length all → (fault : AuditFault) → Undrained k.core count fault
-          → Faults (transcript k) (handlers k.core.setup) scripts fault
-      drained_fault count len (ScriptDiffers p) d = absurd d
-      drained_fault count len (NotDrained h) d = (sent, d.0, first_same (TookIn k.core (length all)) (TookAll (transcript k)) h took_all took_in (rw len at d.1))
-      drained_fault count len NoMemory d = absurd d
+    pub drained_fault : (count : ℕ) → count ≡ length all → (fault : AuditFault) → Undrained k.core count fault
+        → Faults (transcript k) (handlers k.core.setup) scripts fault
+    drained_fault count len (ScriptDiffers p) d = absurd d
+    drained_fault count len (NotDrained h) d = (sent, d.0, first_same (TookIn k.core (length all)) (TookAll (transcript k)) h took_all took_in (rw len at d.1))
+    drained_fault count len NoMemory d = absurd d
 
-      pub audited : (count : ℕ) → count ≡ length all → ((h : ℕ) → h < handlers k.core.setup → TookIn k.core count h)
-          → IsAudited (transcript k) (handlers k.core.setup) scripts all
-      audited count len drained = record {
-        sent = sent;
-        received = λ h l left. received_all k.core.setup (transcript k) r.runs.state told is_held r.runs.lawful h l (took_all h (rw len at (drained h l)) left) ∙ sym published;
-        left = λ h l gone. rw published (received_some k.core.setup (transcript k) r.runs.state told is_held r.runs.lawful h l);
-        all = published;
-        merged = rw published (merged k.core.setup (transcript k) r.runs.state told is_held scripts sent);
-      }
+    pub audited : (count : ℕ) → count ≡ length all → ((h : ℕ) → h < handlers k.core.setup → TookIn k.core count h)
+        → IsAudited (transcript k) (handlers k.core.setup) scripts all
+    audited count len drained = record {
+      sent = sent;
+      received = λ h l left. received_all k.core.setup (transcript k) r.runs.state told is_held r.runs.lawful h l (took_all h (rw len at (drained h l)) left) ∙ sym published;
+      left = λ h l gone. rw published (received_some k.core.setup (transcript k) r.runs.state told is_held r.runs.lawful h l);
+      all = published;
+      merged = rw published (merged k.core.setup (transcript k) r.runs.state told is_held scripts sent);
+    }

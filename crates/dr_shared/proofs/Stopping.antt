@@ -1,11 +1,11 @@
 -- A worker that is stopped, turn by turn.
-use Rattle.std.proofs.Common.{◌≡◌, ℕ, Bool, true, false, Some, ⊎_elim, inl, refl, sym, ap}
+use Rattle.std.proofs.Common.{◌≡◌, ◌≢◌, ℕ, Bool, true, false, Option, Some, ⊎_elim, inl, refl, sym, ap}
 use Rattle.std.proofs.lemmas.Bool.{false≢true}
 use Rattle.std.proofs.lemmas.Option.{none-some}
 use Rattle.dr_core.specs.declared.ends.Trouble.{Trouble}
 use Rattle.dr_core.specs.declared.ends.Trouble.TheVariants as trouble
 use Rattle.dr_shared.specs.declared.fault.WorkFault.{WorkFault}
-use Rattle.dr_shared.specs.declared.fault.WorkFault.TheVariants.{Stopped}
+use Rattle.dr_shared.specs.declared.fault.WorkFault.TheVariants.{Memory, Stopped}
 use Rattle.dr_shared.specs.declared.turns.Turns.{Turns}
 use Rattle.dr_shared.specs.Stops.{Passes, fault_at_end, fault_in_trouble}
 
@@ -30,3 +30,17 @@ pub was_stopped_in : (stopped : Bool) (t : Trouble) → fault_in_trouble stopped
 was_stopped_in true t is = refl
 was_stopped_in false trouble.Memory is = absurd (false≢true (ap is_stop is))
 was_stopped_in false (trouble.Refused refusal) is = absurd (false≢true (ap is_stop is))
+
+abbrev is_memory : Option WorkFault → Bool
+is_memory (Some Memory) = true
+is_memory other = false
+
+-- who comes to its end, or ends in other trouble, did not run out of memory
+pub waited : (stopped : Bool) → fault_at_end stopped ≢ Some Memory
+waited true is = absurd (false≢true (ap is_memory is))
+waited false is = absurd (false≢true (ap is_memory is))
+
+pub waited_in : (stopped : Bool) (t : Trouble) → t ≢ trouble.Memory → Some (fault_in_trouble stopped t) ≢ Some Memory
+waited_in stopped trouble.Memory other is = other refl
+waited_in true (trouble.Refused refusal) other is = absurd (false≢true (ap is_memory is))
+waited_in false (trouble.Refused refusal) other is = absurd (false≢true (ap is_memory is))

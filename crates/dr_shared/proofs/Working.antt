@@ -2,8 +2,9 @@
 use Rattle.std.proofs.Common.{◌≡◌, ◌<◌, ◌≤◌, ◌+◌, ℕ, Bool, List, [], ◌∷◌, ◌++◌, length, take, Option, Ok, inl, inr, ⊎_elim, refl, sym, ap, ◌∙◌, arith, append_assoc, length-append}
 use Rattle.std.proofs.lemmas.List.{append-nil, length-take-le}
 use Rattle.dr_seq.specs.declared.event.Event.{Event}
+use Rattle.dr_core.specs.declared.command.Polled.{Polled}
 use Rattle.dr_core.specs.declared.command.Polled.TheVariants.{Batch}
-use Rattle.dr_core.specs.Ends.{Received, WhereShown, Takes, Completes}
+use Rattle.dr_core.specs.Ends.{FillsFront, Received, WhereShown, Takes, Completes}
 use Rattle.dr_core.specs.Handling.{GoesThrough, Relation, Showing, showings}
 use Rattle.dr_shared.specs.Work.{Dealt, FollowFrom, HandsOut, IsDone, Works, events_of, shown_of}
 use Rattle.dr_shared.proofs.Showing.{shown_as, shown_none, shown_through}
@@ -65,22 +66,34 @@ taken_one out first count end some within a b h =
 completed_one : (upto : ℕ) (bs : List Dealt) (a b c : Received) → HandsOut bs a b → IsCompleted upto b c → HandsOut bs a c
 completed_one upto bs a b c h k = (ap (λ r. r.events) k ∙ h.0, h.1)
 
+-- an end handed a batch out, to the front of a buffer
+pub record IsDealt (out : List Event) (first count : ℕ) (end : Bool) (old new : Option Received) : Type 0 where
+  pub some : 0 < count
+  pub within : count ≤ length out
+  pub taken : WhereShown (TakesBatch out first count end) old new
+
+pub dealt : (before out : List Event) (answer : Polled) (first count : ℕ) (end : Bool) (old new : Option Received) → answer ≡ Batch first count end
+    → FillsFront before out (Ok answer) → length out ≡ length before → WhereShown (Takes out (Ok answer)) old new → IsDealt out first count end old new
+dealt before out answer first count end old new is fills whole taken =
+    let f : FillsFront before out (Ok (Batch first count end)) = rw is at fills in
+    record { some = f.0; within = (let room : count ≤ length before = f.1 in omega arith); taken = rw is at taken }
+
 -- a batch was handed out, shown and then completed
-pub works_batch : {A : Type 0} (goes : Relation A) (before after : A) (out : List Event) (first count upto : ℕ) (end : Bool) (old mid new : Option Received) → 0 < count → count ≤ length out
-    → GoesThrough goes before (showings (take count out) first end) after → WhereShown (TakesBatch out first count end) old mid → WhereShown (IsCompleted upto) mid new → Works goes before after old new
-works_batch goes before after out first count upto end old mid new some within through taken done = record {
+pub works_batch : {A : Type 0} (goes : Relation A) (before after : A) (out : List Event) (first count upto : ℕ) (end : Bool) (old mid new : Option Received) → IsDealt out first count end old mid
+    → GoesThrough goes before (showings (take count out) first end) after → WhereShown (IsCompleted upto) mid new → Works goes before after old new
+works_batch goes before after out first count upto end old mid new deal through done = record {
   batches = one out first count end ∷ [];
   through = rw (append-nil (showings (take count out) first end)) through;
-  handed = shown_through (TakesBatch out first count end) (IsCompleted upto) (HandsOut (one out first count end ∷ [])) (λ a b c h k. completed_one upto (one out first count end ∷ []) a b c (taken_one out first count end some within a b h) k) old mid new taken done;
+  handed = shown_through (TakesBatch out first count end) (IsCompleted upto) (HandsOut (one out first count end ∷ [])) (λ a b c h k. completed_one upto (one out first count end ∷ []) a b c (taken_one out first count end deal.some deal.within a b h) k) old mid new deal.taken done;
 }
 
 -- a batch was handed out and shown
-pub works_shown : {A : Type 0} (goes : Relation A) (before after : A) (out : List Event) (first count : ℕ) (end : Bool) (old mid new : Option Received) → 0 < count → count ≤ length out
-    → GoesThrough goes before (showings (take count out) first end) after → WhereShown (TakesBatch out first count end) old mid → new ≡ mid → Works goes before after old new
-works_shown goes before after out first count end old mid new some within through taken same = record {
+pub works_shown : {A : Type 0} (goes : Relation A) (before after : A) (out : List Event) (first count : ℕ) (end : Bool) (old mid new : Option Received) → IsDealt out first count end old mid
+    → GoesThrough goes before (showings (take count out) first end) after → new ≡ mid → Works goes before after old new
+works_shown goes before after out first count end old mid new deal through same = record {
   batches = one out first count end ∷ [];
   through = rw (append-nil (showings (take count out) first end)) through;
-  handed = rw same (shown_through (TakesBatch out first count end) (λ b c. c ≡ b) (HandsOut (one out first count end ∷ [])) (λ a b c h k. rw k (taken_one out first count end some within a b h)) old mid mid taken (shown_none (λ (b c : Received). c ≡ b) (λ b. refl) mid));
+  handed = rw same (shown_through (TakesBatch out first count end) (λ b c. c ≡ b) (HandsOut (one out first count end ∷ [])) (λ a b c h k. rw k (taken_one out first count end deal.some deal.within a b h)) old mid mid deal.taken (shown_none (λ (b c : Received). c ≡ b) (λ b. refl) mid));
 }
 
 -- what is completed
@@ -101,8 +114,8 @@ pub done_more : (o p q : Option Received) → WhereShown IsDone o p → WhereSho
 done_more o p q h k = shown_through IsDone IsDone IsDone done_after o p q h k
 
 -- a batch was handed out and then completed
-pub done_batch : (out : List Event) (first count : ℕ) (end : Bool) → 0 < count → count ≤ length out → (o p q : Option Received) → WhereShown (TakesBatch out first count end) o p → WhereShown (IsCompleted (first + count)) p q → WhereShown IsDone o q
-done_batch out first count end some within o p q h k = shown_through (TakesBatch out first count end) (IsCompleted (first + count)) IsDone (done_one out first count end some within) o p q h k
+pub done_batch : (out : List Event) (first count : ℕ) (end : Bool) (o p q : Option Received) → IsDealt out first count end o p → WhereShown (IsCompleted (first + count)) p q → WhereShown IsDone o q
+done_batch out first count end o p q deal k = shown_through (TakesBatch out first count end) (IsCompleted (first + count)) IsDone (done_one out first count end deal.some deal.within) o p q deal.taken k
 
 -- nothing came
 pub done_none : (o p : Option Received) → WhereShown (λ (a b : Received). b ≡ a) o p → WhereShown IsDone o p

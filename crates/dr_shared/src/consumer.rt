@@ -1,9 +1,9 @@
 //! The worker of a handler.
 
-ghost use Rattle.std.specs.Prelude.{◌≡◌, true, IfNone, IfOk, OnOk, Some};
+ghost use Rattle.std.specs.Prelude.{◌≡◌, ◌≢◌, true, Err, IfNone, IfOk, OnOk, Some};
 ghost use Rattle.dr_core.specs.Ends.{WhereShown};
 ghost use Rattle.dr_shared.specs.declared.consumer.Progress.TheVariants.{Drained};
-ghost use Rattle.dr_shared.specs.declared.fault.WorkFault.TheVariants.{Stopped};
+ghost use Rattle.dr_shared.specs.declared.fault.WorkFault.TheVariants.{Memory, Stopped};
 ghost use Rattle.dr_shared.specs.Stops.{Passes};
 ghost use Rattle.dr_shared.specs.Work.{IsDone, Works};
 
@@ -18,8 +18,8 @@ use std::sync::Wait;
 
 // What a turn of a worker came to.
 enum Progress {
-    /// A batch was shown and completed.
-    Batch,
+    /// A batch of so many events was shown and completed.
+    Batch(u64),
     /// Nothing came.
     Nothing,
     /// The end was told that the exchange drained.
@@ -38,6 +38,7 @@ fn turn<R: Wait, O: Outlet, G: Gate, H: Handler>(
     ensures kept { O.kept outlet.new ≡ O.kept outlet.old }
     ensures works { Works H.goes handler.old handler.new (O.received outlet.old) (O.received outlet.new) }
     ensures done { OnOk result (WhereShown IsDone (O.received outlet.old) (O.received outlet.new)) }
+    ensures waits { result ≢ Err Trouble.Memory }
     ensures drained { IfOk result (λ progress. progress ≡ Drained → O.told outlet.new ≡ true) }
     ensures passes { Passes (G.may_stop gate.now) turns.old turns.new }
 {
@@ -46,7 +47,7 @@ fn turn<R: Wait, O: Outlet, G: Gate, H: Handler>(
             show(handler, &buf[..count as usize], first, end);
             turns.pass(gate);
             complete(rt, outlet, first + count)?;
-            Ok(Progress::Batch)
+            Ok(Progress::Batch(count))
         }
         Ok(Polled::Drained) => Ok(Progress::Drained),
         Ok(Polled::Gating | Polled::Idle) | Err(Trouble::Memory) => Ok(Progress::Nothing),
@@ -71,13 +72,14 @@ pub fn consume<R: Wait, O: Outlet, G: Gate, H: Handler>(
     ensures works { Works H.goes handler.old handler.new (O.received outlet.old) (O.received outlet.new) }
     ensures done { IfNone result (WhereShown IsDone (O.received outlet.old) (O.received outlet.new)) }
     ensures drained { IfNone result (O.told outlet.new ≡ true) }
+    ensures waits { result ≢ Some Memory }
     ensures stopped { result ≡ Some Stopped → G.may_stop gate.now who }
 {
     let mut turns = Turns::new(who);
-    let mut waiting = Waiting::new();
+    let mut waiting = Waiting::new(buf.len() as u64);
     for _ in rt.forever() {
         match turn(rt, outlet, gate, &mut turns, handler, buf) {
-            Ok(Progress::Batch) => waiting.restart(),
+            Ok(Progress::Batch(count)) => waiting.found(count),
             Ok(Progress::Nothing) => waiting.wait(),
             Ok(Progress::Drained) => return turns.at_end(),
             Err(trouble) => return Some(turns.in_trouble(trouble)),

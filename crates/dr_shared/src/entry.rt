@@ -1,7 +1,6 @@
 //! What a history keeps of a call.
 
 ghost use Rattle.std.specs.Prelude.{◌≡◌};
-ghost use Rattle.dr_core.specs.Runs.{count_in};
 ghost use Rattle.dr_shared.specs.History.{is_kept as is_kept_of};
 
 use dr_core::{Command, Reply};
@@ -18,18 +17,4 @@ pub(crate) fn is_kept(reply: Reply) -> bool
     ensures { result ≡ is_kept_of reply }
 {
     !matches!(reply, Reply::Refused(_) | Reply::Gating | Reply::Idle)
-}
-
-/// How many events come with a reply.
-pub(crate) fn batch_len(reply: Reply) -> usize
-    ensures { result ≡ count_in reply }
-{
-    match reply {
-        Reply::Batch {
-            first: _,
-            count,
-            end: _,
-        } => count as usize,
-        _ => 0,
-    }
 }

@@ -9,7 +9,7 @@ ghost use Rattle.dr_core.specs.Shows.{Shows, IsStep};
 ghost use Rattle.dr_shared.specs.History.{IsRecorded, asked, entries_after};
 ghost use Rattle.dr_shared.specs.Lock.{IsAnswer};
 
-use crate::entry::{Entry, batch_len, is_kept};
+use crate::entry::{Entry, is_kept};
 use dr_core::{
     Command, Core, Mode, OpenFault, Reply, every_step_leads_on, every_transcript_is_lawful,
 };
@@ -142,7 +142,7 @@ impl Recorded {
         let reply = self.core.execute(command, out);
         if is_kept(reply) {
             self.entries.push_reserved(Entry { command, reply });
-            self.values.extend_from_slice(&out[..batch_len(reply)])?;
+            self.values.extend_from_slice(&out[..reply.count()])?;
         }
         Ok(reply)
     }

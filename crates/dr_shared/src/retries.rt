@@ -1,6 +1,6 @@
 //! Calls of ends that are tried again while they have to wait.
 
-ghost use Rattle.std.specs.Prelude.{◌≡◌, Ok, IfOk, OnErr, OnOk};
+ghost use Rattle.std.specs.Prelude.{◌≡◌, ◌≢◌, Err, Ok, IfOk, OnErr, OnOk};
 ghost use Rattle.dr_core.specs.Ends.{Claims, Completes, GivesStretch, PublishAnswers, Publishes, WhereShown, Writes};
 
 use crate::waiting::Waiting;
@@ -14,8 +14,9 @@ pub(crate) fn claim<R: Wait, I: Inlet>(rt: &R, inlet: &mut I, n: u64) -> Result<
     ensures stretch { IfOk result (λ c. GivesStretch n (Ok c)) }
     ensures claimed { IfOk result (λ c. WhereShown (Claims n (Ok c)) (I.sent inlet.old) (I.sent inlet.new)) }
     ensures fault { OnErr result (I.sent inlet.new ≡ I.sent inlet.old) }
+    ensures waits { result ≢ Err (Trouble.Refused Refusal.NoRoom) }
 {
-    let mut waiting = Waiting::new();
+    let mut waiting = Waiting::new(n);
     for _ in rt.forever() {
         match inlet.try_claim(n) {
             Err(Trouble::Refused(Refusal::NoRoom)) => waiting.wait(),
@@ -35,8 +36,9 @@ pub(crate) fn write<R: Wait, I: Inlet>(
     ensures kept { I.kept inlet.new ≡ I.kept inlet.old }
     ensures written { OnOk result (WhereShown (Writes s event (Ok tt)) (I.sent inlet.old) (I.sent inlet.new)) }
     ensures fault { OnErr result (I.sent inlet.new ≡ I.sent inlet.old) }
+    ensures waits { result ≢ Err Trouble.Memory }
 {
-    let mut waiting = Waiting::new();
+    let mut waiting = Waiting::new(1);
     for _ in rt.forever() {
         match inlet.write(s, event) {
             Err(Trouble::Memory) => waiting.wait(),
@@ -57,8 +59,9 @@ pub(crate) fn publish<R: Wait, I: Inlet>(
     ensures answer { OnOk result (PublishAnswers (I.sent inlet.old) lo hi (Ok tt)) }
     ensures published { OnOk result (WhereShown (Publishes lo hi (Ok tt)) (I.sent inlet.old) (I.sent inlet.new)) }
     ensures fault { OnErr result (I.sent inlet.new ≡ I.sent inlet.old) }
+    ensures waits { result ≢ Err Trouble.Memory }
 {
-    let mut waiting = Waiting::new();
+    let mut waiting = Waiting::new(1);
     for _ in rt.forever() {
         match inlet.publish(lo, hi) {
             Err(Trouble::Memory) => waiting.wait(),
@@ -74,8 +77,9 @@ pub(crate) fn complete<R: Wait, O: Outlet>(rt: &R, outlet: &mut O, upto: u64) ->
     ensures told { O.told outlet.new ≡ O.told outlet.old }
     ensures completed { OnOk result (WhereShown (Completes upto (Ok tt)) (O.received outlet.old) (O.received outlet.new)) }
     ensures fault { OnErr result (O.received outlet.new ≡ O.received outlet.old) }
+    ensures waits { result ≢ Err Trouble.Memory }
 {
-    let mut waiting = Waiting::new();
+    let mut waiting = Waiting::new(1);
     for _ in rt.forever() {
         match outlet.complete(upto) {
             Err(Trouble::Memory) => waiting.wait(),

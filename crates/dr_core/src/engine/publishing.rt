@@ -26,8 +26,8 @@ impl Core {
     }
 
     /// What refuses a claim of `n` sequences, where a claim may be of so many. Up to the sequence
-    /// that was last found to be claimable nothing does, which is told without a further look; and
-    /// that there is no room is told only after a scan.
+    /// that was last found to be claimable nothing does, which is known without a further look; and
+    /// that there is no room is answered only after a scan.
     fn claim_fault(&mut self, n: u64) -> Option<Refusal>
         requires some { n ≢ 0 }
         requires fits { n ≤ self.old.setup.size }
@@ -159,14 +159,8 @@ impl Core {
         if self.mode.is_single() && lo != self.front {
             return Err(Refusal::OutOfOrder);
         }
-        self.front = show(
-            self.mode,
-            &mut self.published,
-            lo,
-            hi,
-            self.front,
-            self.next,
-        );
+        let (front, next) = (self.front, self.next);
+        self.front = show(self.mode, &mut self.published, lo, hi, front, next);
         self.filled = self.filled.max(self.front);
         Ok(())
     }

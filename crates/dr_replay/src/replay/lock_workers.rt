@@ -142,7 +142,7 @@ fn send<L: Ledger, R: Wait, G: Gate>(around: &Around<'_, L, R, G>, task: Task<'_
 
 // Halts the core, once there is memory for the call.
 fn halt<L: Ledger, R: Wait>(rt: &R, shared: &Shared<L>, end: &mut End<L>) {
-    let mut waiting = Waiting::new();
+    let mut waiting = Waiting::new(1);
     for _ in rt.forever() {
         match shared.call(rt, end, Command::Halt, &mut []) {
             Ok(_) => return,

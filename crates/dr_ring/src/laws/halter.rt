@@ -1,8 +1,8 @@
 //! An end that halts a ring from any thread. Its one call is its one step.
 
-ghost use Rattle.dr_ring.specs.Ends.{halter_halted};
+ghost use Rattle.dr_ring.specs.Meaning.Records.{halter_halted};
 ghost use Rattle.dr_ring.specs.declared.record.Step.TheVariants.{HalterHalts};
-ghost use Rattle.dr_ring.specs.Stations.{HasStored};
+ghost use Rattle.dr_ring.specs.Calls.Ends.{HasStored};
 
 use super::{RingBody, RingSeat};
 use crate::plan::HALT_WORD;
@@ -19,8 +19,9 @@ pub struct Halter {
 
 impl Model for Halter {
     ghost use Rattle.std.specs.Arc.{arc_value};
-    ghost use Rattle.dr_ring.specs.Seats.{end_of};
-    ghost use Rattle.dr_ring.specs.Stations.{HalterEnd, halter_end, HalterSits};
+    ghost use Rattle.dr_ring.specs.Inside.Seats.{end_of};
+    ghost use Rattle.dr_ring.specs.Calls.Ends.{HalterEnd};
+    ghost use Rattle.dr_ring.specs.Inside.Stations.{halter_end, HalterSits};
 
     ghost Value = { HalterEnd };
 

@@ -2,11 +2,11 @@
 
 ghost use Rattle.std.specs.Prelude.{◌≡◌, ◌<◌, ◌≤◌, true, None, Some, length, Contains};
 ghost use Rattle.dr_graph.specs.Graph.{upstreams_of};
-ghost use Rattle.dr_ring.specs.Words.{cursor_word, closed_word, count_word as count_word_of};
-ghost use Rattle.dr_ring.specs.Ends.{receiver_looked, cursor_looked, half_taken, took, completed_to, IsBelowBarrier};
+ghost use Rattle.dr_ring.specs.Meaning.Words.{cursor_word, closed_word, count_word as count_word_of};
+ghost use Rattle.dr_ring.specs.Meaning.Records.{receiver_looked, cursor_looked, half_taken, took, completed_to, IsBelowBarrier};
 ghost use Rattle.dr_ring.specs.declared.record.Step.TheVariants.{ReceiverCompletes};
-ghost use Rattle.dr_ring.specs.Seats.{FindsClosed, FindsEvents};
-ghost use Rattle.dr_ring.specs.Stations.{HasLoaded, HasStored};
+ghost use Rattle.dr_ring.specs.Inside.Seats.{FindsClosed, FindsEvents};
+ghost use Rattle.dr_ring.specs.Calls.Ends.{HasLoaded, HasStored};
 
 use super::{RingBody, RingSeat};
 use crate::plan::{CLOSED_WORD, CURSOR_WORD, count_word};
@@ -26,8 +26,9 @@ pub(crate) struct ReceiverStation {
 
 impl Model for ReceiverStation {
     ghost use Rattle.std.specs.Arc.{arc_value};
-    ghost use Rattle.dr_ring.specs.Seats.{end_of};
-    ghost use Rattle.dr_ring.specs.Stations.{ReceiverEnd, receiver_end, ReceiverSits};
+    ghost use Rattle.dr_ring.specs.Inside.Seats.{end_of};
+    ghost use Rattle.dr_ring.specs.Calls.Ends.{ReceiverEnd};
+    ghost use Rattle.dr_ring.specs.Inside.Stations.{receiver_end, ReceiverSits};
 
     ghost Value = { ReceiverEnd };
 

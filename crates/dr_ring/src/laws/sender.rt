@@ -2,12 +2,12 @@
 
 ghost use Rattle.std.specs.Prelude.{◌≡◌, ◌<◌, ◌≤◌, [], true, None, Some, length, Contains};
 ghost use Rattle.dr_graph.specs.Graph.{finals};
-ghost use Rattle.dr_ring.specs.Plans.{IsPlan};
-ghost use Rattle.dr_ring.specs.Words.{count_word as count_word_of};
-ghost use Rattle.dr_ring.specs.Ends.{claimed, sender_looked, halt_looked, half_written, written, published_to, sender_halted, sender_closed, HasRoom, IsOpen, AreWritten};
+ghost use Rattle.dr_ring.specs.Calls.Plans.{IsPlan};
+ghost use Rattle.dr_ring.specs.Meaning.Words.{count_word as count_word_of};
+ghost use Rattle.dr_ring.specs.Meaning.Records.{claimed, sender_looked, halt_looked, half_written, written, published_to, sender_halted, sender_closed, HasRoom, IsOpen, AreWritten};
 ghost use Rattle.dr_ring.specs.declared.record.Step.TheVariants.{SenderStoresFirst, SenderStoresSecond, SenderPublishes, SenderHalts, SenderCloses};
-ghost use Rattle.dr_ring.specs.Seats.{FindsCompleted, FindsHalt};
-ghost use Rattle.dr_ring.specs.Stations.{HasLoaded, HasStored};
+ghost use Rattle.dr_ring.specs.Inside.Seats.{FindsCompleted, FindsHalt};
+ghost use Rattle.dr_ring.specs.Calls.Ends.{HasLoaded, HasStored};
 
 use super::{Names, RingBody, RingSeat};
 use crate::plan::{CLOSED_WORD, CURSOR_WORD, HALT_WORD, Plan, count_word};
@@ -26,8 +26,9 @@ pub(crate) struct SenderStation {
 
 impl Model for SenderStation {
     ghost use Rattle.std.specs.Arc.{arc_value};
-    ghost use Rattle.dr_ring.specs.Seats.{end_of};
-    ghost use Rattle.dr_ring.specs.Stations.{SenderEnd, sender_end, SenderSits};
+    ghost use Rattle.dr_ring.specs.Inside.Seats.{end_of};
+    ghost use Rattle.dr_ring.specs.Calls.Ends.{SenderEnd};
+    ghost use Rattle.dr_ring.specs.Inside.Stations.{sender_end, SenderSits};
 
     ghost Value = { SenderEnd };
 
@@ -64,7 +65,6 @@ impl SenderStation {
         ensures step { HasLoaded self.old (halt_looked self.old.knows more result) self.new }
         ensures finds { FindsHalt self.old.knows result }
     {
-        let _more = more;
         self.looks = self.looks.saturating_add(1);
         let words = &self.ring.table.shared;
         words.load::<Brand>(&mut self.seat, HALT_WORD)
@@ -95,7 +95,7 @@ impl SenderStation {
 
     /// The sender stores the cursor: each sequence below `upto` is written, and is published by it.
     pub(crate) fn publish(&mut self, upto: u64)
-        requires more { length self.old.knows.published < upto }
+        requires more { length self.old.knows.sent.published < upto }
         requires within { upto ≤ claimed self.old.knows }
         requires written { AreWritten self.old.knows upto }
         requires whole { self.old.knows.half ≡ None }
@@ -116,7 +116,7 @@ impl SenderStation {
     /// The sender stores closed, once it has stored halt and all that it claimed is published.
     pub(crate) fn close(&mut self)
         requires halted { self.old.knows.halted ≡ true }
-        requires published { self.old.knows.pending ≡ [] }
+        requires published { self.old.knows.sent.pending ≡ [] }
         ensures { HasStored self.old SenderCloses (sender_closed self.old.knows) self.new }
     {
         let words = &self.ring.table.shared;

@@ -1,8 +1,8 @@
 //! How seats come together, at the end. No step of these changes a word or a record.
 
 ghost use Rattle.std.specs.Prelude.{◌≡◌, ◌++◌, [], ◌<◌};
-ghost use Rattle.dr_ring.specs.Seats.{end_of};
-ghost use Rattle.dr_ring.specs.Settling.{LeadsView, ViewAgrees, ViewRan};
+ghost use Rattle.dr_ring.specs.Inside.Seats.{end_of};
+ghost use Rattle.dr_ring.specs.Inside.Gathering.{LeadsView, ViewAgrees, ViewRan};
 
 use super::{RingSeat, Words};
 use crate::plan::CURSOR_WORD;
@@ -14,7 +14,7 @@ struct Together;
 
 impl Join<View> for Together {
     ghost use Rattle.std.specs.Prelude.{[]};
-    ghost use Rattle.dr_ring.specs.Settling.{both_views};
+    ghost use Rattle.dr_ring.specs.Inside.Gathering.{both_views};
 
     ghost both = { both_views };
 

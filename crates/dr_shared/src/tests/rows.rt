@@ -269,6 +269,22 @@ fn halt_and_drain(rt: HostRuntime) -> Result<(), Fail> {
 }
 
 #[test]
+fn drained_by_one_producer(rt: HostRuntime) -> Result<(), Fail> {
+    let run = [
+        (Claim { p: 0, n: 1 }, Claimed { lo: 0, hi: 0 }),
+        (Halt, Halting),
+        (Claim { p: 0, n: 1 }, Refused(Refusal::Halted)),
+        (Poll { h: 0, max: 1 }, Idle),
+        (write(0, 0, 3), Written),
+        (Publish { p: 0, lo: 0, hi: 0 }, Published),
+        (Poll { h: 0, max: 1 }, batch(0, 1, true)),
+        (Poll { h: 0, max: 1 }, Drained),
+    ];
+    let recorded = one(rt.alloc(), Mode::Single)?;
+    play(&rt, rt.alloc(), recorded, &run, &[word(3)])
+}
+
+#[test]
 fn older_round(rt: HostRuntime) -> Result<(), Fail> {
     let run = [
         (Claim { p: 0, n: 2 }, Claimed { lo: 0, hi: 1 }),
@@ -321,4 +337,61 @@ fn a_chain_retires_from_its_end(rt: HostRuntime) -> Result<(), Fail> {
     let alloc = rt.alloc();
     let recorded = sized(alloc, chain(alloc)?, 2, Mode::Single, MAX_LIMIT)?;
     play(&rt, alloc, recorded, &run, &[word(1), word(2)])
+}
+
+#[test]
+fn a_claim_waits_no_longer_for_a_retired_handler(rt: HostRuntime) -> Result<(), Fail> {
+    let run = [
+        (Claim { p: 0, n: 1 }, Claimed { lo: 0, hi: 0 }),
+        (write(0, 0, 9), Written),
+        (Publish { p: 0, lo: 0, hi: 0 }, Published),
+        (Poll { h: 1, max: 1 }, batch(0, 1, true)),
+        (Complete { h: 1, upto: 1 }, Completed),
+        (Claim { p: 0, n: 1 }, Refused(Refusal::NoRoom)),
+        (Retire { h: 0 }, Retired),
+        (Claim { p: 0, n: 1 }, Claimed { lo: 1, hi: 1 }),
+    ];
+    let graph = side_by_side(rt.alloc(), &["a", "b"])?;
+    let recorded = sized(rt.alloc(), graph, 1, Mode::Single, MAX_LIMIT)?;
+    play(&rt, rt.alloc(), recorded, &run, &[word(9)])
+}
+
+#[test]
+fn counts_and_the_last_handler(rt: HostRuntime) -> Result<(), Fail> {
+    let run = [
+        (Claim { p: 0, n: 2 }, Claimed { lo: 0, hi: 1 }),
+        (write(0, 0, 7), Written),
+        (Publish { p: 0, lo: 0, hi: 1 }, Refused(Refusal::NotWritten)),
+        (Publish { p: 0, lo: 0, hi: 0 }, Published),
+        (Poll { h: 0, max: 2 }, batch(0, 1, true)),
+        (Complete { h: 0, upto: 1 }, Completed),
+        (Retire { h: 0 }, Refused(Refusal::LastHandler)),
+        (Halt, Halting),
+    ];
+    let recorded = one(rt.alloc(), Mode::Single)?;
+    play(&rt, rt.alloc(), recorded, &run, &[word(7)])
+}
+
+#[test]
+fn batches_of_a_processor(rt: HostRuntime) -> Result<(), Fail> {
+    let run = [
+        (Claim { p: 0, n: 3 }, Claimed { lo: 0, hi: 2 }),
+        (write(0, 0, 4), Written),
+        (write(0, 1, 5), Written),
+        (write(0, 2, 6), Written),
+        (Publish { p: 0, lo: 0, hi: 2 }, Published),
+        (Poll { h: 0, max: 2 }, batch(0, 2, false)),
+        (Complete { h: 0, upto: 2 }, Completed),
+        (Poll { h: 0, max: 2 }, batch(2, 1, true)),
+        (Complete { h: 0, upto: 3 }, Completed),
+        (Poll { h: 0, max: 2 }, Idle),
+    ];
+    let recorded = one(rt.alloc(), Mode::Single)?;
+    play(
+        &rt,
+        rt.alloc(),
+        recorded,
+        &run,
+        &[word(4), word(5), word(6)],
+    )
 }

@@ -5,6 +5,7 @@ use crate::{
 };
 use dr_core::{Claimed, Handler, Inlet, Outlet, Polled, Refusal, Trouble};
 use dr_seq::Event;
+use std::process::Abort;
 use std::sync::atomic::{AtomicU64, Ordering};
 use std::test::Fail;
 
@@ -306,14 +307,26 @@ fn first_of_several_faults(rt: HostRuntime) -> Result<(), Fail> {
     Ok(())
 }
 
-#[test]
-fn waits_grow_and_then_yield(rt: HostRuntime) -> Result<(), Fail> {
-    let mut waiting = Waiting::new();
-    for pauses in [64, 80, 96, 112, 128, 144, 160, 176, 0, 0] {
-        assert_eq!(rt; waiting.pauses(), pauses);
+// The pauses of the waits that follow, where the thread has room for 64 events and each wait lets so
+// many come.
+fn pauses_where(rt: &impl Abort, waiting: &mut Waiting, come: u64, wanted: &[u32]) {
+    for pauses in wanted {
+        assert_eq!(rt; waiting.pauses(), *pauses);
         waiting.wait();
+        assert_eq!(rt; waiting.pauses(), 0);
+        waiting.wait();
+        waiting.found(come);
     }
-    waiting.restart();
-    assert_eq!(rt; waiting.pauses(), 64);
-    Ok(())
+}
+
+#[test]
+fn waits_become_longer_and_shorter(rt: HostRuntime) {
+    let mut waiting = Waiting::new(64);
+    pauses_where(&rt, &mut waiting, 15, &[1, 2, 4, 8]);
+    pauses_where(&rt, &mut waiting, 16, &[16, 16]);
+    pauses_where(&rt, &mut waiting, 32, &[16, 16]);
+    pauses_where(&rt, &mut waiting, 33, &[16, 8, 4, 2, 1, 1]);
+    pauses_where(&rt, &mut waiting, 1, &[1, 2, 4, 8, 16, 32, 64, 64]);
+    pauses_where(&rt, &mut waiting, 15, &[64, 128, 256, 512, 512]);
+    pauses_where(&rt, &mut waiting, 7, &[512, 256, 256]);
 }

@@ -30,7 +30,7 @@ loop-command-preserved c =
     let replied = c.in_ok-push.ensures.items in
     let valued = c.in_ok-extend_from_slice.ensures.items in
     let len : length c.execute-reply.new.out ≡ c.loop-command.buffer.len = c.execute-reply.auto.out ∙ c.deref_mut.ensures.len in
-    let more : take c.batch_len.result c.deref.result.now ≡ take (count_in c.execute-reply.result) c.execute-reply.new.out = added c.loop-command.buffer c.execute-reply.new.out _ _ _ len c.deref.ensures.value c.batch_len.ensures in
+    let more : take c.count.result c.deref.result.now ≡ take (count_in c.execute-reply.result) c.execute-reply.new.out = added c.loop-command.buffer c.execute-reply.new.out _ _ _ len c.deref.ensures.value c.count.ensures in
     let many : length (take (count_in c.execute-reply.result) c.execute-reply.new.out) ≡ count_in c.execute-reply.result = length-take-le _ _ (let n : length c.execute-reply.new.out ≡ c.args.core.now.setup.size = len ∙ c.loop-command.buffer.ok.0 ∙ c.loop-command.invariant.room in let size : c.loop-command.core.setup.size ≡ c.args.core.now.setup.size = ap (λ s. s.size) c.loop-command.invariant.same in let o : offers (get_or c.args.commands.now c.loop-command.command-index (Claim 0 0)) c.loop-command.core.setup.size ≤ c.loop-command.core.setup.size = offers-le _ c.loop-command.core.setup.size in let f : count_in c.execute-reply.result ≤ offers (get_or c.args.commands.now c.loop-command.command-index (Claim 0 0)) c.loop-command.core.setup.size = c.execute-reply.ensures.fits in omega arith) in
     let told : length c.loop-command.replies.items ≡ c.loop-command.command-index = c.loop-command.invariant.told in
     let counted : length c.loop-command.values.items ≡ counts_of c.loop-command.replies.items = c.loop-command.invariant.counted in

@@ -1,14 +1,14 @@
 use Rattle.std.proofs.Common.{subst, refl}
-use Rattle.dr_ring.specs.Ends.{claimed}
+use Rattle.dr_ring.specs.Meaning.Records.{claimed}
 use Rattle.dr_ring.proofs.Halting.{halted_runs}
 use Rattle.dr_core.specs.Machine.{State}
 use Rattle.dr_core.specs.Transcript.{Transcript, LeadsFrom, LeadsTo}
 use Rattle.dr_graph.specs.Graph.{IsGraph}
 use Rattle.std.specs.Prelude.{◌<◌, List}
-use Rattle.dr_ring.specs.Shape.{Shape, setup_of}
-use Rattle.dr_ring.specs.Kept.{World}
+use Rattle.dr_ring.specs.Meaning.Shape.{Shape, setup_of}
+use Rattle.dr_ring.specs.Meaning.Kept.{World}
 use Rattle.dr_ring.specs.declared.record.Step.{Step}
-use Rattle.dr_ring.specs.Moments.{Runs, opening, picture_of}
+use Rattle.dr_ring.specs.Meaning.Moments.{Runs, opening, picture_of}
 use Rattle.dr_ring.proofs.Pictures.{keeps_runs, lead_runs}
 use Rattle.dr_ring.proofs.Beginning.{kept_opening, opens}
 use Rattle.dr_ring.proofs.laws.moments.Goals as goal

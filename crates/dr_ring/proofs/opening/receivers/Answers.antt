@@ -1,8 +1,8 @@
 use Rattle.std.proofs.Common.{◌<◌, arith, refl, ap, sym, subst, ◌∙◌}
-use Rattle.dr_ring.specs.Shape.{handlers_of}
-use Rattle.dr_ring.specs.Seats.{Sitting, end_of, receiver_of}
-use Rattle.dr_ring.specs.Fits.{ReceiverFits}
-use Rattle.dr_ring.specs.Stations.{ReceiverSits}
+use Rattle.dr_ring.specs.Meaning.Shape.{handlers_of}
+use Rattle.dr_ring.specs.Inside.Seats.{Sitting, end_of, receiver_of}
+use Rattle.dr_ring.specs.Inside.Fits.{ReceiverFits}
+use Rattle.dr_ring.specs.Inside.Stations.{ReceiverSits}
 use Rattle.dr_ring.proofs.Cuts.{cuts}
 use Rattle.dr_ring.proofs.Making.{cut_own, cut_rest, sits_fresh, listed_next, view_fresh}
 use Rattle.dr_ring.proofs.opening.receivers.Goals as goal

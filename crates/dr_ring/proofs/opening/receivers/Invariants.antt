@@ -1,8 +1,9 @@
 use Rattle.std.proofs.Common.{◌≡◌, ◌-◌, ◌++◌, map}
 use Rattle.std.specs.Arc.{arc_value}
-use Rattle.dr_ring.specs.Shape.{handlers_of}
-use Rattle.dr_ring.specs.Moments.{fresh_receivers}
-use Rattle.dr_ring.specs.Making.{receivers_seat, at_ring}
+use Rattle.dr_ring.specs.Meaning.Shape.{handlers_of}
+use Rattle.dr_ring.specs.Meaning.Moments.{fresh_receivers}
+use Rattle.dr_ring.specs.Inside.Seats.{receivers_seat}
+use Rattle.dr_ring.specs.Calls.Making.{at_ring}
 use Rattle.dr_ring.proofs.opening.receivers.Given as goal
 
 abbrev pub invariant-loop-number : goal.invariant-loop-number

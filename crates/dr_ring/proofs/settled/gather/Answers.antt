@@ -1,7 +1,7 @@
 use Rattle.std.proofs.Common.{◌≡◌, ◌<◌, ◌∷◌, length, set, arith, ap, sym, subst, ◌∙◌}
 use Rattle.dr_ring.specs.declared.record.ReceiverRecord.{ReceiverRecord}
-use Rattle.dr_ring.specs.Seats.{end_of, as_receiver}
-use Rattle.dr_ring.specs.Stations.{ReceiverEnd}
+use Rattle.dr_ring.specs.Inside.Seats.{end_of, as_receiver}
+use Rattle.dr_ring.specs.Calls.Ends.{ReceiverEnd}
 use Rattle.dr_ring.proofs.Gathering.{last_of_ring, gathering_more, gathering_all}
 use Rattle.dr_ring.proofs.settled.gather.Goals as goal
 
@@ -23,15 +23,16 @@ loop-receiver-preserved c =
       c.take_in.ensures.seat.0 ∙ inv.0,
       (
         c.in-Some.receiver ∷ inv.1.0,
-        gathering_more _ _ _ _ _ _ _ _ _ _ _ (end_of c.station.inside.seat.me) inv.1.1 c.in-Some.ensures.items (c.station.invariant.end ∙ ap (λ (e : ReceiverEnd). as_receiver e.knows) (c.station.view_is ∙ c.receiver.view_is)) c.take_in.ensures.ends
+        gathering_more (end_of c.station.inside.seat.me) inv.1.1 c.in-Some.ensures.items
+            (c.station.invariant.end ∙ ap (λ (e : ReceiverEnd). as_receiver e.knows) (c.station.view_is ∙ c.receiver.view_is)) c.take_in.ensures.ends
             (λ i. set c.loop-receiver.counts.items (place i) record { taken = taken i; completed = completed i }),
       ),
     )
 
 pub returns-clause-view : goal.returns-clause-view
 returns-clause-view c = let inv = c.loop-receiver.invariant in
-    (gathering_all _ _ _ _ _ _ _ inv.1.1 (let ok = c.loop-receiver.receivers.ok in let none = c.in_default.ensures.cases.0 in omega arith)).0
+    (gathering_all inv.1.1 (let ok = c.loop-receiver.receivers.ok in let none = c.in_default.ensures.cases.0 in omega arith)).0
 
 pub returns-clause-counts : goal.returns-clause-counts
 returns-clause-counts c = let inv = c.loop-receiver.invariant in
-    (gathering_all _ _ _ _ _ _ _ inv.1.1 (let ok = c.loop-receiver.receivers.ok in let none = c.in_default.ensures.cases.0 in omega arith)).1
+    (gathering_all inv.1.1 (let ok = c.loop-receiver.receivers.ok in let none = c.in_default.ensures.cases.0 in omega arith)).1

@@ -1,6 +1,6 @@
 use Rattle.std.proofs.Common.{◌≡◌, List}
-use Rattle.dr_ring.specs.Seats.{end_of}
-use Rattle.dr_ring.specs.Stations.{ReceiverEnd}
+use Rattle.dr_ring.specs.Inside.Seats.{end_of}
+use Rattle.dr_ring.specs.Calls.Ends.{ReceiverEnd}
 use Rattle.dr_ring.proofs.Gathering.{Gathering}
 use Rattle.dr_ring.proofs.settled.gather.Given as goal
 

@@ -1,4 +1,4 @@
-use Rattle.dr_ring.specs.Settling.{AreAllEnds}
+use Rattle.dr_ring.specs.Calls.Settling.{AreAllEnds}
 use Rattle.dr_ring.proofs.tests.play.Given as goal
 
 abbrev pub invariant-loop-call : goal.invariant-loop-call

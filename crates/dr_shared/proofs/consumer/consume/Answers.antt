@@ -1,6 +1,6 @@
-use Rattle.std.proofs.Common.{◌∙◌, Option, None, Some, IfNone, refl, sym}
+use Rattle.std.proofs.Common.{◌∙◌, ap, Err, Option, None, Some, IfNone, refl, sym}
 use Rattle.std.proofs.lemmas.Bool.{false≢true}
-use Rattle.dr_shared.proofs.Stopping.{stopped_more}
+use Rattle.dr_shared.proofs.Stopping.{stopped_more, waited, waited_in}
 use Rattle.dr_shared.specs.declared.fault.WorkFault.{WorkFault}
 use Rattle.dr_shared.proofs.Working.{done_first, done_more, works_more, works_none}
 use Rattle.dr_shared.proofs.consumer.consume.Goals as goal
@@ -42,3 +42,9 @@ loop-preserved g c = (
 
 pub returns-in-Err-clause-works : goal.returns-in-Err-clause-works
 returns-in-Err-clause-works g c = works_more g.H.Handler.goes _ _ _ _ _ _ c.loop.invariant.5 c.turn.ensures.works
+
+pub returns-in-Ok-Drained-clause-waits : goal.returns-in-Ok-Drained-clause-waits
+returns-in-Ok-Drained-clause-waits g c is = waited _ (sym c.at_end.ensures ∙ is)
+
+pub returns-in-Err-clause-waits : goal.returns-in-Err-clause-waits
+returns-in-Err-clause-waits g c is = waited_in _ _ (λ out. c.in-Err.ensures.waits (ap Err out)) (ap Some (sym c.in_trouble.ensures) ∙ is)

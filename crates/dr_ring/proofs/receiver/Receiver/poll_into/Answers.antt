@@ -3,11 +3,11 @@ use Rattle.std.proofs.lemmas.List.{take_at, drop_at}
 use Rattle.dr_seq.specs.declared.event.Event.{Event}
 use Rattle.dr_core.specs.declared.command.Polled.{Polled}
 use Rattle.dr_ring.specs.declared.record.ReceiverRecord.{ReceiverRecord}
-use Rattle.dr_ring.specs.Words.{closed_word}
-use Rattle.dr_ring.specs.Ends.{receiver_looked}
-use Rattle.dr_ring.specs.Stations.{ReceiverEnd}
-use Rattle.dr_ring.specs.Calls.{Answers, received_all}
-use Rattle.dr_ring.proofs.Polls.{some_room, seen_round, poll_nothing, poll_batch, offers, of_count}
+use Rattle.dr_ring.specs.Meaning.Words.{closed_word}
+use Rattle.dr_ring.specs.Meaning.Records.{receiver_looked}
+use Rattle.dr_ring.specs.Calls.Ends.{ReceiverEnd}
+use Rattle.dr_ring.specs.Calls.Receiving.{Answers, received_all}
+use Rattle.dr_ring.proofs.Polls.{saw, seen_round, poll_nothing, poll_batch, offers, of_count}
 use Rattle.dr_ring.proofs.receiver.Receiver.poll_into.Goals as goal
 
 pub returns-then-available-first-clause-call : goal.returns-then-available-first-clause-call
@@ -17,13 +17,11 @@ returns-then-available-first-clause-call c =
     let next = c.self.invariant.taken ∙ ap (λ (q : ReceiverRecord). length q.received) same in (
       search rules,
       (
-        some_room (length c.args.out.now) (sym c.if-is_empty.ensures),
+        (refl, (refl, (sym c.if-is_empty.ensures, tt))),
         (
-          closed,
-          cursor,
-          seen.counts,
+          saw closed cursor seen.counts,
           seen.each,
-          subst (λ (p : Polled). Answers c.args.self.now.knows c.args.out.now c.barrier-available.new.self.knows c.args.out.now closed cursor seen.counts p) (sym c.nothing_offered.ensures)
+          subst (λ (p : Polled). Answers c.args.self.now.knows c.args.out.now c.barrier-available.new.self.knows c.args.out.now (saw closed cursor seen.counts) p) (sym c.nothing_offered.ensures)
               (poll_nothing _ _ c.args.out.now closed cursor c.barrier-available.result c.self.inside.taken next seen c.look_at_closed-closed.ensures.finds.1 (search rules) c.if-available-first.true),
         ),
       ),
@@ -44,11 +42,9 @@ returns-clause-call c =
     let many = c.take_all.ensures.length ∙ c.split_at_mut-front.ensures.front_len in (
       search rules,
       (
-        some_room (length c.args.out.now) (sym c.if-is_empty.ensures),
+        (refl, (refl, (sym c.if-is_empty.ensures, tt))),
         (
-          closed,
-          cursor,
-          seen.counts,
+          saw closed cursor seen.counts,
           seen.each,
           poll_batch _ _ _ c.args.out.now _ closed cursor c.barrier-available.result c.self.inside.taken c.min-count.result _ next seen (search rules)
               (c.take_all.ensures.only.1 ∙ ap (λ (xs : List Event). received_all c.barrier-available.new.self.knows xs) (sym (take_at c.take_all.new.out c.split_at_mut-front.result.1.now c.min-count.result many)))

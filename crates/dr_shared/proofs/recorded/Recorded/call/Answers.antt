@@ -17,7 +17,7 @@ pub invariant_of-self-in-Continue-branch-3 : goal.invariant_of-self-in-Continue-
 invariant_of-self-in-Continue-branch-3 c =
     let fits : count_in c.execute-reply.result ≤ length c.execute-reply.new.out = fits_within _ _ _ c.args.out.now c.execute-reply.new.out 0 c.execute-reply.ensures.fits (offers_le_asked c.args.command c.self.inside.core.setup.size) c.requires c.execute-reply.auto.out in
     let many : length (take (count_in c.execute-reply.result) c.execute-reply.new.out) ≡ count_in c.execute-reply.result = length-take-le _ _ fits in
-    rw (c.in_ok-extend_from_slice.ensures.items, c.push_reserved.ensures.items, c.reserve.ensures.items, c.reserve-2.ensures.items, c.batch_len.ensures)
+    rw (c.in_ok-extend_from_slice.ensures.items, c.push_reserved.ensures.items, c.reserve.ensures.items, c.reserve-2.ensures.items, c.count.ensures)
     (recorded_more c.every_step_leads_on.ensures _ _ _ _ _ _ _ (sym c.is_kept.ensures ∙ c.if-is_kept.true) many c.execute-reply.ensures.step c.self.invariant)
 
 pub returns-else-is_kept-clause-answer : goal.returns-else-is_kept-clause-answer

@@ -3,4 +3,4 @@ use Rattle.dr_ring.proofs.Allowed.{halter_halts}
 use Rattle.dr_ring.proofs.laws.halter.Halter.halt.Goals as goal
 
 pub store-requires : goal.store-requires
-store-requires c = (search rules, search rules, halter_halts _ _ _ _ c.self.invariant.end)
+store-requires c = (search rules, search rules, halter_halts _ _ _ c.self.invariant.end)

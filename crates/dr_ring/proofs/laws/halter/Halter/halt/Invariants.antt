@@ -1,5 +1,5 @@
 use Rattle.dr_ring.specs.declared.record.Step.TheVariants.{HalterHalts}
-use Rattle.dr_ring.specs.Seats.{Stores, HalterHalted}
+use Rattle.dr_ring.specs.Inside.Seats.{Stores, HalterHalted}
 use Rattle.dr_ring.proofs.laws.halter.Halter.halt.Given as goal
 
 abbrev pub ghosts-store : goal.ghosts-store

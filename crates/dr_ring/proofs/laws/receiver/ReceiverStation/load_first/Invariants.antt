@@ -1,4 +1,4 @@
-use Rattle.dr_ring.specs.Seats.{Loads, ReceiverLoadedFirst}
+use Rattle.dr_ring.specs.Inside.Seats.{Loads, ReceiverLoadedFirst}
 use Rattle.dr_ring.proofs.laws.receiver.ReceiverStation.load_first.Given as goal
 
 abbrev pub ghosts-load : goal.ghosts-load

@@ -1,4 +1,4 @@
-use Rattle.dr_ring.specs.Seats.{Loads, ReceiverLoadedSecond}
+use Rattle.dr_ring.specs.Inside.Seats.{Loads, ReceiverLoadedSecond}
 use Rattle.dr_ring.proofs.laws.receiver.ReceiverStation.load_second.Given as goal
 
 abbrev pub ghosts-load : goal.ghosts-load

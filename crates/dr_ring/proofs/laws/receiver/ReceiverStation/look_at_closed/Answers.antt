@@ -3,4 +3,4 @@ use Rattle.dr_ring.proofs.Allowed.{receiver_looks_at_closed}
 use Rattle.dr_ring.proofs.laws.receiver.ReceiverStation.look_at_closed.Goals as goal
 
 pub load-requires : goal.load-requires
-load-requires c = (search rules, search rules, receiver_looks_at_closed _ _ _ _ c.self.invariant.end)
+load-requires c = (search rules, search rules, receiver_looks_at_closed _ _ _ c.self.invariant.end)

@@ -1,7 +1,7 @@
 use Rattle.std.proofs.Common.{rules, refl, sym, subst}
 use Rattle.std.specs.Prelude.{Contains}
 use Rattle.dr_graph.specs.Graph.{upstreams_of}
-use Rattle.dr_ring.specs.Stations.{ReceiverEnd}
+use Rattle.dr_ring.specs.Calls.Ends.{ReceiverEnd}
 use Rattle.dr_ring.proofs.Allowed.{receiver_looks_at_count}
 use Rattle.dr_ring.proofs.laws.receiver.ReceiverStation.look_at_count.Goals as goal
 
@@ -14,4 +14,4 @@ pub load-requires : goal.load-requires
 load-requires c =
     let has = subst (λ (e : ReceiverEnd). Contains (upstreams_of e.knows.plan.upstreams e.knows.number) c.args.upstream) (sym c.self.view_is) c.requires in
     let below = c.self.invariant.made.graph.layered _ _ has in
-    (search rules, search rules, receiver_looks_at_count _ _ _ _ _ _ _ _ c.count_word.ensures c.self.invariant.end refl refl has)
+    (search rules, search rules, receiver_looks_at_count _ _ _ _ _ _ c.count_word.ensures c.self.invariant.end refl refl has)

@@ -1,4 +1,4 @@
-use Rattle.dr_ring.specs.Seats.{Loads, ReceiverLookedAtCount}
+use Rattle.dr_ring.specs.Inside.Seats.{Loads, ReceiverLookedAtCount}
 use Rattle.dr_ring.proofs.laws.receiver.ReceiverStation.look_at_count.Given as goal
 
 abbrev pub ghosts-load : goal.ghosts-load

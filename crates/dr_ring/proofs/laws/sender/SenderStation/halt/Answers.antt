@@ -3,4 +3,4 @@ use Rattle.dr_ring.proofs.Allowed.{sender_halts}
 use Rattle.dr_ring.proofs.laws.sender.SenderStation.halt.Goals as goal
 
 pub store-requires : goal.store-requires
-store-requires c = (search rules, search rules, sender_halts _ _ _ _ c.self.invariant.end)
+store-requires c = (search rules, search rules, sender_halts _ _ _ c.self.invariant.end)

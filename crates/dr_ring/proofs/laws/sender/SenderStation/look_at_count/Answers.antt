@@ -1,9 +1,9 @@
 use Rattle.std.proofs.Common.{rules, arith, refl, sym, subst, ap, ◌<◌}
 use Rattle.std.specs.Prelude.{Contains}
 use Rattle.dr_graph.specs.Graph.{finals}
-use Rattle.dr_ring.specs.Shape.{Shape, handlers_of}
-use Rattle.dr_ring.specs.Stations.{SenderEnd}
-use Rattle.dr_ring.specs.Seats.{sender_of}
+use Rattle.dr_ring.specs.Meaning.Shape.{Shape, handlers_of}
+use Rattle.dr_ring.specs.Calls.Ends.{SenderEnd}
+use Rattle.dr_ring.specs.Inside.Seats.{sender_of}
 use Rattle.dr_ring.proofs.Lists.{final_inside}
 use Rattle.dr_ring.proofs.Allowed.{sender_looks_at_count}
 use Rattle.dr_ring.proofs.laws.sender.SenderStation.look_at_count.Goals as goal
@@ -20,5 +20,5 @@ load-requires c =
     let handlers = ap (λ (k : Shape). handlers_of k) c.self.invariant.plan in let at = c.self.invariant.table.1 in let word = c.count_word.ensures in (
       search rules,
       subst (λ r. c.count_word.result < r.table.shared.table_id.words) (sym c.deref.ensures) (omega arith),
-      sender_looks_at_count _ _ _ _ _ _ c.args.handler c.count_word.ensures c.self.invariant.end refl has,
+      sender_looks_at_count _ _ _ _ c.args.handler c.count_word.ensures c.self.invariant.end refl has,
     )

@@ -1,4 +1,4 @@
-use Rattle.dr_ring.specs.Seats.{Loads, SenderLookedAtCount}
+use Rattle.dr_ring.specs.Inside.Seats.{Loads, SenderLookedAtCount}
 use Rattle.dr_ring.proofs.laws.sender.SenderStation.look_at_count.Given as goal
 
 abbrev pub ghosts-load : goal.ghosts-load

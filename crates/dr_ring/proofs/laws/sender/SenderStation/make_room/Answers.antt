@@ -1,7 +1,7 @@
 use Rattle.std.proofs.Common.{rules, ℕ, List, arith, ◌∙◌, sym, ap, subst, length, get_or}
 use Rattle.dr_graph.specs.Graph.{finals}
-use Rattle.dr_ring.specs.Shape.{Shape}
-use Rattle.dr_ring.specs.Plans.{IsPlan}
+use Rattle.dr_ring.specs.Meaning.Shape.{Shape}
+use Rattle.dr_ring.specs.Calls.Plans.{IsPlan}
 use Rattle.dr_ring.proofs.Stations.{loaded_more}
 use Rattle.dr_ring.proofs.Rounds.{scanned_more, scanned_low, scanned_all, remembers}
 use Rattle.dr_ring.proofs.laws.sender.SenderStation.make_room.Goals as goal

@@ -1,7 +1,7 @@
 use Rattle.std.proofs.Common.{rules, sym, subst, ap, ◌∙◌, ◌≡◌, None}
-use Rattle.dr_ring.specs.Ends.{IsOpen}
-use Rattle.dr_ring.specs.Words.{payload_word}
-use Rattle.dr_ring.specs.Stations.{SenderEnd}
+use Rattle.dr_ring.specs.Meaning.Records.{IsOpen}
+use Rattle.dr_ring.specs.Meaning.Words.{payload_word}
+use Rattle.dr_ring.specs.Calls.Ends.{SenderEnd}
 use Rattle.dr_ring.proofs.Allowed.{sender_stores_first}
 use Rattle.dr_ring.proofs.laws.sender.SenderStation.store_first.Goals as goal
 
@@ -10,4 +10,4 @@ store-requires g c =
     let own = subst (λ (e : SenderEnd). IsOpen e.knows c.args.sequence) (sym c.self.view_is) c.requires.own in
     let whole = subst (λ (e : SenderEnd). e.knows.half ≡ None) (sym c.self.view_is) c.requires.whole in
     let place = c.payload_word-word.ensures.place ∙ ap (λ r. payload_word r.plan c.args.sequence 0) c.deref.ensures in
-    (search rules, search rules, sender_stores_first _ _ _ _ _ _ c.args.sequence _ _ c.requires.named place c.self.invariant.end c.self.invariant.plan own whole)
+    (search rules, search rules, sender_stores_first _ _ _ _ c.args.sequence _ _ c.requires.named place c.self.invariant.end c.self.invariant.plan own whole)

@@ -1,5 +1,5 @@
 use Rattle.dr_ring.specs.declared.record.Step.TheVariants.{SenderStoresFirst}
-use Rattle.dr_ring.specs.Seats.{Stores, SenderStoredFirst}
+use Rattle.dr_ring.specs.Inside.Seats.{Stores, SenderStoredFirst}
 use Rattle.dr_ring.proofs.laws.sender.SenderStation.store_first.Given as goal
 
 abbrev pub ghosts-store : goal.ghosts-store

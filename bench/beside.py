@@ -1,0 +1,130 @@
+#!/usr/bin/env python3
+"""Tables of the exchanges beside rings of others, and as the work grows; events a second, in millions.
+
+    bench/beside.py table              each topology at sizes 64, 1024 and 65,536: ours, then the others
+    bench/beside.py sizes              ring sizes from 1 to 65,536
+    bench/beside.py handlers           1 to 16 handlers, in a chain and side by side
+    bench/beside.py claims             claims of 1 to 1000 events
+
+The others are the rings of bench/plain/exchanges, which `rustc` builds, and LMAX's own, where `javac` and
+the library are there (Debian's package libdisruptor-java; `--lmax JAR` names another place). All run in
+turns, `--turns N` times (three without it), each for `--rounds N` rounds of one short stretch, of which the
+one in the middle counts; the best of a program's turns is taken. `--under WORDS` starts each run by these
+words, as 'chrt -r 10' (other work on the machine then counts for less) or 'taskset -c 0,1'.
+"""
+
+import argparse
+import os
+import shutil
+import subprocess
+import sys
+import tempfile
+
+from exchanges import PROGRAM, TOP
+
+PLAIN = os.path.join(TOP, "bench", "plain", "exchanges", "main.rs")
+LMAX = os.path.join(TOP, "bench", "lmax", "Lmax.java")
+SHAPES = ("unicast", "pipeline", "multicast", "diamond")
+SIZES = (64, 1024, 65536)
+ONE_THREAD = ("ours", "ring", "deque", "lmax")
+THREADS = ("ours", "words", "mutex", "lmax")
+
+
+class Programs:
+    """How each program is started."""
+
+    def __init__(self, given, folder):
+        self.given = given
+        self.words = {"ours": [given.program]}
+        plain = os.path.join(folder, "exchanges")
+        subprocess.run(["rustc", "--edition", "2021", "-O", "-o", plain, PLAIN], check=True)
+        for kind in ("ring", "deque", "words", "mutex"):
+            self.words[kind] = [plain, kind]
+        if shutil.which("javac") and os.path.exists(given.lmax):
+            subprocess.run(["javac", "-cp", given.lmax, "-d", folder, LMAX], check=True)
+            self.words["lmax"] = ["java", "-cp", f"{given.lmax}{os.pathsep}{folder}", "Lmax"]
+
+    def of(self, kinds):
+        return [kind for kind in kinds if kind in self.words]
+
+    def rate(self, kind, topology, size):
+        """Millions of events a second, or None where it takes too long."""
+        words = self.given.under.split() + self.words[kind]
+        words += [topology, str(size), "0", str(self.given.rounds)]
+        try:
+            ran = subprocess.run(words, stdout=subprocess.PIPE, text=True, timeout=self.given.patience)
+        except subprocess.TimeoutExpired:
+            return None
+        if ran.returncode != 0:
+            sys.exit(f"{' '.join(words)} ended with {ran.returncode}")
+        return int(ran.stdout.split()[-1]) / 1e6
+
+    def rates(self, kinds, topology, size):
+        """The best of the turns of each program, which are taken one after another."""
+        best = {kind: None for kind in kinds}
+        for _ in range(self.given.turns):
+            for kind in kinds:
+                rate = self.rate(kind, topology, size)
+                best[kind] = max(filter(None, (rate, best[kind])), default=None)
+        return [best[kind] for kind in kinds]
+
+
+def shown(rate):
+    return "more time than it had" if rate is None else f"{rate:.2f}"
+
+
+def print_head(words):
+    print(f"| {' | '.join(words)} |\n|{'---|' * len(words)}", flush=True)
+
+
+def print_row(name, programs, kinds, topology, size):
+    rates = programs.rates(kinds, topology, size)
+    print(f"| {name} | {' | '.join(shown(rate) for rate in rates)} |", flush=True)
+
+
+def table(programs):
+    for prefix, kinds in (("core-", ONE_THREAD), ("", THREADS)):
+        kinds = programs.of(kinds)
+        print_head(["topology", "size"] + kinds)
+        for topology in (f"{prefix}{shape}{pace}" for shape in SHAPES for pace in ("", "-b10")):
+            for size in SIZES:
+                print_row(f"{topology} | {size}", programs, kinds, topology, size)
+
+
+def grow(programs, word, steps):
+    """A row a step, which is what it is called, a topology and a size."""
+    for prefix, kinds in (("core-", ONE_THREAD), ("", THREADS)):
+        kinds = [kind for kind in programs.of(kinds) if kind != "lmax"]
+        print_head([word] + kinds)
+        for name, topology, size in steps:
+            print_row(name, programs, kinds, prefix + topology, size)
+
+
+def steps(what):
+    if what == "sizes":
+        return [(f"{shape}, {4**k}", shape, 4**k) for shape in ("unicast", "diamond") for k in range(9)]
+    if what == "handlers":
+        return [(f"{n} {way}", f"{way}{n}", 1024) for way in ("chain", "side") for n in (1, 2, 4, 8, 16)]
+    return [(f"{n}", f"unicast-b{n}", 1024) for n in (1, 2, 5, 10, 20, 50, 100, 200, 500, 1000)]
+
+
+def main():
+    parser = argparse.ArgumentParser(description=__doc__, formatter_class=argparse.RawDescriptionHelpFormatter)
+    parser.add_argument("what", choices=["table", "sizes", "handlers", "claims"])
+    parser.add_argument("--program", default=PROGRAM)
+    parser.add_argument("--lmax", default="/usr/share/java/disruptor.jar")
+    parser.add_argument("--under", default="")
+    parser.add_argument("--rounds", type=int, default=101)
+    parser.add_argument("--turns", type=int, default=3)
+    parser.add_argument("--patience", type=float, default=60, help="seconds that a run has")
+    given = parser.parse_args()
+    with tempfile.TemporaryDirectory() as folder:
+        programs = Programs(given, folder)
+        if given.what == "table":
+            table(programs)
+        else:
+            grow(programs, given.what, steps(given.what))
+
+
+if __name__ == "__main__":
+    main()

@@ -1,0 +1,215 @@
+import com.lmax.disruptor.BatchEventProcessor;
+import com.lmax.disruptor.EventHandler;
+import com.lmax.disruptor.EventPoller;
+import com.lmax.disruptor.RingBuffer;
+import com.lmax.disruptor.Sequence;
+import com.lmax.disruptor.SequenceBarrier;
+import com.lmax.disruptor.YieldingWaitStrategy;
+import java.util.ArrayList;
+import java.util.Arrays;
+import java.util.Comparator;
+import java.util.List;
+
+/**
+ * LMAX's own ring, to measure the exchanges against: {@code Lmax TOPOLOGY SIZE SECONDS ROUNDS} prints a
+ * line as {@code disruptor_bench} does. On one thread (topologies that begin with {@code core-}) the
+ * handlers are pollers; else each is a batch processor on a thread of its own that waits by yielding.
+ */
+public final class Lmax {
+    /** How many events go through between two looks at the clock, about. */
+    private static final long STRETCH = 65_536;
+
+    static final class Event {
+        long first;
+        long second;
+    }
+
+    /** The handlers add up what they are shown. */
+    static final class Sum implements EventHandler<Event> {
+        long total;
+
+        @Override
+        public void onEvent(Event event, long sequence, boolean endOfBatch) {
+            total += event.first;
+        }
+    }
+
+    /** The same by a poller, which goes on as long as there is more. */
+    static final class PolledSum implements EventPoller.Handler<Event> {
+        final Sum sum = new Sum();
+
+        @Override
+        public boolean onEvent(Event event, long sequence, boolean endOfBatch) {
+            sum.total += event.first;
+            return true;
+        }
+    }
+
+    private record Round(long events, long nanos) {
+        double perSecond() {
+            return events * 1e9 / Math.max(1, nanos);
+        }
+    }
+
+    private final int[][] upstreams;
+    private final long claim;
+    private final boolean step;
+    private final int size;
+    private final long nanos;
+
+    private Lmax(String shape, String pace, int size, double seconds) {
+        this.upstreams = upstreams(shape);
+        this.step = pace.equals("step");
+        this.claim = pace.startsWith("b") ? Math.min(size, Long.parseLong(pace.substring(1))) : 1;
+        this.size = size;
+        this.nanos = (long) (seconds * 1e9);
+    }
+
+    private static int[][] upstreams(String shape) {
+        switch (shape) {
+            case "unicast":
+                return new int[][] {{}};
+            case "pipeline":
+                return new int[][] {{}, {0}, {1}};
+            case "multicast":
+                return new int[][] {{}, {}, {}};
+            case "diamond":
+                return new int[][] {{}, {}, {0, 1}};
+            default:
+                throw new IllegalArgumentException(shape);
+        }
+    }
+
+    private boolean isFinal(int handler) {
+        return Arrays.stream(upstreams).allMatch(ups -> Arrays.stream(ups).noneMatch(up -> up == handler));
+    }
+
+    private static Sequence[] chosen(int[] handlers, Sequence[] sequences) {
+        return Arrays.stream(handlers).mapToObj(h -> sequences[h]).toArray(Sequence[]::new);
+    }
+
+    private void send(RingBuffer<Event> ring) {
+        if (claim == 1) {
+            long s = ring.next();
+            Event event = ring.get(s);
+            event.first = s;
+            event.second = 0;
+            ring.publish(s);
+            return;
+        }
+        long hi = ring.next((int) claim);
+        long lo = hi - claim + 1;
+        for (long s = lo; s <= hi; s++) {
+            Event event = ring.get(s);
+            event.first = s;
+            event.second = 0;
+        }
+        ring.publish(lo, hi);
+    }
+
+    private static void check(Sum sum, long events) {
+        if (sum.total != events * (events - 1) / 2) {
+            throw new IllegalStateException("wrong sum");
+        }
+    }
+
+    /** Rounds of laps: claims until the ring is full, or one, and then a turn for each poller. */
+    private List<Round> oneThread(int rounds) throws Exception {
+        RingBuffer<Event> ring = RingBuffer.createSingleProducer(Event::new, size, new YieldingWaitStrategy());
+        int handlers = upstreams.length;
+        PolledSum[] sums = new PolledSum[handlers];
+        Sequence[] sequences = new Sequence[handlers];
+        List<EventPoller<Event>> pollers = new ArrayList<>();
+        for (int h = 0; h < handlers; h++) {
+            EventPoller<Event> poller = ring.newPoller(chosen(upstreams[h], sequences));
+            pollers.add(poller);
+            sequences[h] = poller.getSequence();
+            sums[h] = new PolledSum();
+            if (isFinal(h)) {
+                ring.addGatingSequences(sequences[h]);
+            }
+        }
+        long claims = step ? 1 : size / claim;
+        long all = 0;
+        List<Round> done = new ArrayList<>();
+        for (int round = 0; round < rounds; round++) {
+            long before = all;
+            long begun = System.nanoTime();
+            do {
+                for (long lap = 0; lap < STRETCH / (claims * claim); lap++) {
+                    for (long k = 0; k < claims; k++) {
+                        send(ring);
+                    }
+                    for (int h = 0; h < handlers; h++) {
+                        pollers.get(h).poll(sums[h]);
+                    }
+                    all += claims * claim;
+                }
+            } while (System.nanoTime() - begun < nanos);
+            done.add(new Round(all - before, System.nanoTime() - begun));
+        }
+        for (PolledSum polled : sums) {
+            check(polled.sum, all);
+        }
+        return done;
+    }
+
+    /** One round over a ring of its own, from the first claim until the last handler has taken all. */
+    private Round threads() throws Exception {
+        RingBuffer<Event> ring = RingBuffer.createSingleProducer(Event::new, size, new YieldingWaitStrategy());
+        int handlers = upstreams.length;
+        Sum[] sums = new Sum[handlers];
+        Sequence[] sequences = new Sequence[handlers];
+        List<BatchEventProcessor<Event>> processors = new ArrayList<>();
+        List<Thread> threads = new ArrayList<>();
+        for (int h = 0; h < handlers; h++) {
+            SequenceBarrier barrier = ring.newBarrier(chosen(upstreams[h], sequences));
+            sums[h] = new Sum();
+            processors.add(new BatchEventProcessor<>(ring, barrier, sums[h]));
+            sequences[h] = processors.get(h).getSequence();
+            if (isFinal(h)) {
+                ring.addGatingSequences(sequences[h]);
+            }
+            threads.add(new Thread(processors.get(h)));
+        }
+        threads.forEach(Thread::start);
+        long begun = System.nanoTime();
+        do {
+            for (long k = 0; k < STRETCH / claim; k++) {
+                send(ring);
+            }
+        } while (System.nanoTime() - begun < nanos);
+        long last = ring.getCursor();
+        while (Arrays.stream(sequences).anyMatch(sequence -> sequence.get() < last)) {
+            Thread.yield();
+        }
+        long time = System.nanoTime() - begun;
+        processors.forEach(BatchEventProcessor::halt);
+        for (Thread thread : threads) {
+            thread.join();
+        }
+        for (Sum sum : sums) {
+            check(sum, last + 1);
+        }
+        return new Round(last + 1, time);
+    }
+
+    public static void main(String[] words) throws Exception {
+        boolean oneThread = words[0].startsWith("core-");
+        String[] parts = (oneThread ? words[0].substring(5) : words[0]).split("-");
+        int rounds = Integer.parseInt(words[3]);
+        String pace = parts.length > 1 ? parts[1] : "";
+        Lmax lmax = new Lmax(parts[0], pace, Integer.parseInt(words[1]), Double.parseDouble(words[2]));
+        List<Round> done = new ArrayList<>();
+        if (oneThread) {
+            done.addAll(lmax.oneThread(rounds));
+        } else {
+            for (int round = 0; round < rounds; round++) {
+                done.add(lmax.threads());
+            }
+        }
+        done.sort(Comparator.comparingDouble(Round::perSecond));
+        Round median = done.get(done.size() / 2);
+        System.out.printf("lmax %s %s %d %.6f %.0f%n", words[0], words[1], median.events, median.nanos / 1e9, median.perSecond());
+    }
+}

@@ -1,0 +1,6 @@
+-- How it is kept: seats at a table, fields, and what private functions promise.
+pub mod Gathering
+pub mod Seats
+pub mod Stations
+pub mod Fits
+pub mod Parts

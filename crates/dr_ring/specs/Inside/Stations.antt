@@ -1,0 +1,39 @@
+-- The ends of a ring, each at its station, with the seat that stands for it.
+use Rattle.std.specs.Prelude.{◌≡◌, ℕ, ◌<◌}
+use Rattle.atomic_table.specs.Seated.{TableId}
+use Rattle.dr_ring.specs.Meaning.Shape.{Shape, handlers_of}
+use Rattle.dr_ring.specs.Calls.Plans.{IsPlan}
+use Rattle.dr_ring.specs.Inside.Seats.{End, Sitting, IsAtTable, past_of, stored_of, sender_of, receiver_of, halter_of, IsSender, IsReceiver, IsHalter}
+use Rattle.dr_ring.specs.Calls.Ends.{SenderEnd, ReceiverEnd, HalterEnd, looks_counted}
+
+-- the end that a seat at a table stands for
+abbrev pub sender_end : TableId → Sitting → SenderEnd
+sender_end ring me = record { ring = ring; knows = sender_of me.0.ends; past = past_of me.0; stored = stored_of me.0 }
+
+abbrev pub receiver_end : TableId → Sitting → ReceiverEnd
+receiver_end ring me = record { ring = ring; knows = receiver_of me.0.ends; past = past_of me.0; stored = stored_of me.0 }
+
+abbrev pub halter_end : TableId → Sitting → HalterEnd
+halter_end ring me = record { ring = ring; knows = halter_of me.0.ends; past = past_of me.0; stored = stored_of me.0 }
+
+-- an end's seat is at the table of its ring and stands for that end alone, which knows the ring's plan and counts its looks
+pub record SenderSits (at seat : TableId) (k : Shape) (me : End) (looked : ℕ) : Type 0 where
+  pub table : IsAtTable seat at k
+  pub made : IsPlan (sender_of me.0).plan
+  pub end : IsSender me
+  pub plan : (sender_of me.0).plan ≡ k
+  pub looks : looked ≡ looks_counted (sender_of me.0).looks
+
+pub record ReceiverSits (at seat : TableId) (k : Shape) (me : End) (number looked : ℕ) : Type 0 where
+  pub table : IsAtTable seat at k
+  pub made : IsPlan (receiver_of me.0).plan
+  pub end : IsReceiver me
+  pub plan : (receiver_of me.0).plan ≡ k
+  pub own : (receiver_of me.0).number ≡ number
+  pub handler : number < handlers_of k
+  pub looks : looked ≡ looks_counted (receiver_of me.0).looks
+
+pub record HalterSits (at seat : TableId) (k : Shape) (me : End) : Type 0 where
+  pub table : IsAtTable seat at k
+  pub end : IsHalter me
+  pub plan : (halter_of me.0).plan ≡ k

@@ -1,0 +1,8 @@
+-- What a ring does, in its own words: read this first.
+pub mod Shape
+pub mod Words
+pub mod Records
+pub mod Kept
+pub mod Steps
+pub mod Moments
+pub mod Settling

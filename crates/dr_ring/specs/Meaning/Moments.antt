@@ -1,0 +1,103 @@
+-- What each list of steps comes to, from a ring's opening.
+use Rattle.std.specs.Prelude.{◌≡◌, ℕ, zero, suc, ◌+◌, ◌-◌, ◌==◌, ◌&&◌, not, nat_lt, if◌then◌else◌, false, List, [], ◌∷◌, ◌++◌, map, length, replicate, slice_index, slice_index_or, Option, Some, None}
+use Rattle.std.specs.List.{range_with_len}
+use Rattle.dr_seq.specs.declared.event.Event.{Event}
+use Rattle.dr_core.specs.declared.command.Command.{Command}
+use Rattle.dr_core.specs.declared.command.Command.TheVariants.{Claim, Write, Publish, Poll, Complete, Halt}
+use Rattle.dr_core.specs.declared.command.Reply.{Reply}
+use Rattle.dr_core.specs.declared.command.Reply.TheVariants.{Claimed, Written, Published, Batch, Drained, Completed, Halting}
+use Rattle.dr_core.specs.Machine as machine
+use Rattle.dr_core.specs.Machine.{State, available}
+use Rattle.dr_core.specs.Transcript.{Transcript}
+use Rattle.dr_ring.specs.Meaning.Shape.{Shape, handlers_of, setup_of}
+use Rattle.dr_ring.specs.Meaning.Words.{cursor_word, halt_word, count_word, payload_word, words_of}
+use Rattle.dr_ring.specs.declared.record.HalfWrite.{HalfWrite}
+use Rattle.dr_ring.specs.declared.record.SenderRecord.{SenderRecord}
+use Rattle.dr_ring.specs.declared.record.ReceiverRecord.{ReceiverRecord}
+use Rattle.dr_ring.specs.declared.record.HalterRecord.{HalterRecord}
+use Rattle.dr_ring.specs.Meaning.Records.{claimed, tells_drained}
+use Rattle.dr_ring.specs.Meaning.Kept.{World}
+use Rattle.dr_ring.specs.declared.record.Step.{Step}
+use Rattle.dr_ring.specs.declared.record.Step.TheVariants.{SenderLooksAtCount, SenderLooksAtHalt, SenderStoresFirst, SenderStoresSecond, SenderPublishes, SenderHalts, SenderCloses, ReceiverLooksAtClosed, ReceiverLooksAtCursor, ReceiverLooksAtCount, ReceiverLoadsFirst, ReceiverLoadsSecond, ReceiverCompletes, HalterHalts}
+use Rattle.dr_ring.specs.Meaning.Steps.{Happens}
+
+-- the ends of a new ring
+abbrev pub fresh_sender : Shape → SenderRecord
+fresh_sender k = record { plan = k; sent = record { published = []; pending = [] }; half = None; halted = false; closed = false; looks = [] }
+
+abbrev pub fresh_receiver : Shape → ℕ → ReceiverRecord
+fresh_receiver k h = record { plan = k; number = h; received = []; half = None; completed = 0; told = false; looks = [] }
+
+-- n receivers, from the number h on
+abbrev pub fresh_receivers : Shape → ℕ → ℕ → List ReceiverRecord
+fresh_receivers k h zero = []
+fresh_receivers k h (suc n) = fresh_receiver k h ∷ fresh_receivers k (suc h) n
+
+abbrev pub fresh_halter : Shape → HalterRecord
+fresh_halter k = record { plan = k; halted = false }
+
+-- a new ring: each word is 0
+abbrev pub opening : Shape → World
+opening k = record { words = replicate (words_of k) 0; sender = fresh_sender k; receivers = fresh_receivers k 0 (handlers_of k); halter = fresh_halter k }
+
+abbrev pub taken_of : ReceiverRecord → ℕ
+taken_of r = length r.received
+
+-- what the machine is, where the ring is so
+abbrev pub picture_of : Shape → World → State
+picture_of k w = record (machine.opening (setup_of k)) {
+  owners = replicate (claimed w.sender) 0;
+  written = λ s. slice_index_or (map (λ event. Some event) w.sender.sent.published ++ w.sender.sent.pending) s None;
+  published = λ s. nat_lt s (slice_index w.words cursor_word);
+  taken = map taken_of w.receivers;
+  completed = map (λ h. slice_index w.words (count_word h)) (range_with_len 0 (handlers_of k));
+  halted = slice_index w.words halt_word == 1;
+}
+
+abbrev pub entry : Command → Reply → List Event → Transcript
+entry command reply values = record { command = command; reply = reply; values = values } ∷ []
+
+-- the write that a half stored one comes to
+abbrev pub write_of : Option HalfWrite → ℕ → Transcript
+write_of None second = []
+write_of (Some x) second = entry (Write 0 x.sequence record { first = x.first; second = second }) Written []
+
+-- the poll that a half loaded event comes to
+abbrev pub poll_of : ℕ → Option ℕ → ℕ → ℕ → ℕ → Transcript
+poll_of h None second taken available = []
+poll_of h (Some first) second taken available =
+    entry (Poll h 1) (Batch taken 1 (taken + 1 == available)) (record { first = first; second = second } ∷ [])
+
+abbrev pub receiver_at : Shape → World → ℕ → ReceiverRecord
+receiver_at k w h = slice_index_or w.receivers h (fresh_receiver k h)
+
+-- the events of a step: a claim is decided by the sender's look at halt, a write by the store of its second word, a publication by that of the cursor, an event is taken by the load of its second word, `Drained` is told by a look at the cursor
+abbrev pub events_of : Shape → Step → World → Transcript
+events_of k (SenderLooksAtCount f) w = []
+events_of k (SenderLooksAtHalt n) w =
+    if not (n == 0) && (slice_index w.words halt_word == 0) then entry (Claim 0 n) (Claimed (claimed w.sender) (claimed w.sender + n - 1)) [] else []
+events_of k (SenderStoresFirst s first) w = []
+events_of k (SenderStoresSecond second) w = write_of w.sender.half second
+events_of k (SenderPublishes n) w = entry (Publish 0 (slice_index w.words cursor_word) (n - 1)) Published []
+events_of k SenderHalts w = entry Halt Halting []
+events_of k SenderCloses w = []
+events_of k (ReceiverLooksAtClosed h) w = []
+events_of k (ReceiverLooksAtCursor h) w =
+    if tells_drained (receiver_at k w h) (slice_index w.words cursor_word) then entry (Poll h 1) Drained [] else []
+events_of k (ReceiverLooksAtCount h u) w = []
+events_of k (ReceiverLoadsFirst h) w = []
+events_of k (ReceiverLoadsSecond h) w =
+    let r : ReceiverRecord = receiver_at k w h in
+    poll_of h r.half (slice_index w.words (payload_word k (length r.received) 1)) (length r.received) (available (setup_of k) (picture_of k w) h)
+events_of k (ReceiverCompletes h n) w = entry (Complete h n) Completed []
+events_of k HalterHalts w = entry Halt Halting []
+
+-- a list of steps, with the entries of their events
+abbrev pub Runs : Shape → List Step → Transcript → World → World → Type 0
+Runs k [] entries w w' = (entries ≡ []) × (w ≡ w')
+Runs k (step ∷ steps) entries w w' =
+    (between : World) × (rest : Transcript) × Happens k step w between × (entries ≡ events_of k step w ++ rest) × Runs k steps rest between w'
+
+-- some steps are the beginning of others
+abbrev pub IsBeginning : List Step → List Step → Type 0
+IsBeginning past steps = (rest : List Step) × (steps ≡ past ++ rest)

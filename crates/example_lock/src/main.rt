@@ -1,0 +1,165 @@
+//! Several producers behind one lock: two producers and a handler, each on a thread of its own, with an audit of the history
+//! at the end.
+#![tactic(auto)]
+
+ghost use Rattle.std.specs.Prelude.{◌≡◌};
+ghost use denote.Param.Send.{IsSync};
+
+use dr_core::{Command, Handler, MAX_LIMIT, Mode};
+use dr_graph::{Graph, GraphBuilder, GraphFault};
+use dr_seq::{Event, Size};
+use dr_shared::{
+    End, LockedInlet, LockedOutlet, OpenGate, Recorded, Shared, audit, consume, finish, produce,
+};
+use std::alloc::Global;
+use std::marker::Brand;
+use std::process::ExitCode;
+use std::sync::Wait;
+use std::sync::ledger::{Blank, Ledger};
+use std::thread::{self, Threads};
+
+/// What one producer is to send: ten events with its number.
+fn script(p: u64) -> [Event; 10] {
+    [Event {
+        first: p,
+        second: 0,
+    }; 10]
+}
+
+/// An end for each worker, and one that halts.
+#[derive(Drop)]
+struct Ends<L: Ledger> {
+    first: End<L>,
+    second: End<L>,
+    handler: End<L>,
+    halter: End<L>,
+}
+
+/// Counts what it is shown.
+#[derive(Drop)]
+struct Counter {
+    seen: u64,
+}
+
+impl Handler for Counter {
+    ghost use Rattle.std.specs.Prelude.{◌≡◌, ◌+◌, ◌%◌, ◌^◌};
+
+    ghost goes = { λ old event s end new. new.seen ≡ (old.seen + 1) % 2 ^ 64 };
+
+    fn on_event(&mut self, _event: Event, _s: u64, _end: bool) {
+        self.seen = self.seen.wrapping_add(1);
+    }
+}
+
+/// A producer's work. Its end is handed back, since the history is had only once all ends are.
+fn send<L: Ledger, R: Wait>(rt: &R, shared: &Shared<L>, end: End<L>, p: u64) -> End<L> {
+    let mut inlet = LockedInlet::new(rt, shared, end, p);
+    let script = script(p);
+    let _sent = produce(rt, &mut inlet, &OpenGate, 0, script.as_slice(), 4);
+    inlet.into_end()
+}
+
+/// A handler's work: it ends once the exchange is halted and the handler has everything.
+fn receive<L: Ledger, R: Wait>(rt: &R, shared: &Shared<L>, end: End<L>, h: usize) -> End<L> {
+    let mut outlet = LockedOutlet::new(rt, shared, end, h);
+    let mut buffer = [Event::NONE; 4];
+    let mut counter = Counter { seen: 0 };
+    let _fault = consume(rt, &mut outlet, &OpenGate, 0, &mut counter, &mut buffer);
+    outlet.into_end()
+}
+
+/// Halts the exchange, once there is memory for the entry.
+fn halt<L: Ledger, R: Wait>(rt: &R, shared: &Shared<L>, end: &mut End<L>) {
+    for _ in rt.forever() {
+        if shared.call(rt, end, Command::Halt, &mut []).is_ok() {
+            return;
+        }
+    }
+}
+
+/// Starts a thread a worker, halts once the producers are joined, and gives back every end.
+fn exchange<L: Ledger + Send + Sync, R: Threads + Wait + Sync>(
+    rt: &R,
+    shared: &Shared<L>,
+    ends: Ends<L>,
+) -> Option<Ends<L>> {
+    thread::scope(
+        thread::scope_env(),
+        rt,
+        move |scope| -> Option<Ends<L>>
+            requires { IsSync L.row }
+        {
+            let Ends {
+                first,
+                second,
+                handler,
+                mut halter,
+            } = ends;
+            let handler = scope.spawn(move || receive(rt, shared, handler, 0));
+            if handler.is_err() {
+                // Nobody would make room for the producers.
+                halt(rt, shared, &mut halter);
+            }
+            let first = scope.spawn(move || send(rt, shared, first, 0));
+            let second = scope.spawn(move || send(rt, shared, second, 1));
+            let first = first.ok().map(|worker| worker.join(rt));
+            let second = second.ok().map(|worker| worker.join(rt));
+            halt(rt, shared, &mut halter);
+            let handler = handler.ok().map(|worker| worker.join(rt));
+            Some(Ends {
+                first: first?,
+                second: second?,
+                handler: handler?,
+                halter,
+            })
+        },
+    )
+}
+
+fn graph(alloc: Global) -> Result<Graph, GraphFault> {
+    let mut builder = GraphBuilder::new(alloc);
+    let _all = builder.handle_with(&["counter"])?;
+    builder.build()
+}
+
+/// How many events the one list has that every handler received, by the audit of the history.
+fn run<L: Ledger + Send + Sync, R: Threads + Wait + Sync>(
+    rt: &R,
+    alloc: Global,
+    blank: Blank,
+) -> Option<usize>
+    requires name { blank.name ≡ L.name }
+    requires parts { blank.parts ≡ L.parts }
+    requires ends { blank.parts ≡ 65 }
+{
+    let size = Size::new(8).ok()?;
+    let graph = graph(alloc).ok()?;
+    let recorded = Recorded::open(alloc, graph, size, Mode::Multi(2), MAX_LIMIT, 200, 40).ok()?;
+    let mut shared = Shared::<L>::new(recorded, blank);
+    let ends = Ends {
+        first: shared.end()?,
+        second: shared.end()?,
+        handler: shared.end()?,
+        halter: shared.end()?,
+    };
+    let ends = exchange(rt, &shared, ends)?;
+    let mut back = Vec::new(alloc);
+    back.push(ends.first).ok()?;
+    back.push(ends.second).ok()?;
+    back.push(ends.handler).ok()?;
+    back.push(ends.halter).ok()?;
+    let recorded = finish(shared, back).ok()?;
+    let (one, two) = (script(0), script(1));
+    let list = audit(alloc, &recorded, &[one.as_slice(), two.as_slice()]).ok()?;
+    Some(list.len())
+}
+
+fn main(rt: HostRuntime) -> ExitCode {
+    match run::<Brand, _>(&rt, rt.alloc(), Blank::new(65)) {
+        Some(count) => {
+            let _printed = rt.println(&count);
+            ExitCode::SUCCESS
+        }
+        None => ExitCode::FAILURE,
+    }
+}

@@ -1,0 +1,41 @@
+#!/usr/bin/env bash
+# Starts a repository of your own: copies of the library's crates, with what is proved of them here, and the program of
+# crates/example_ring as its crate `hello`. It proves, builds and runs that, and compares what it prints.
+#
+#   examples/hello.sh [FOLDER]      without FOLDER in a new folder, whose path is printed
+set -u
+top=$(cd "$(dirname "$0")/.." && pwd) || exit 2
+own=${1:-$(mktemp -d)/hello}
+if [ -e "$own" ]; then
+    echo "$own is there already: name a new folder"
+    exit 1
+fi
+mkdir -p "$own/crates/hello" && own=$(cd "$own" && pwd) || exit 2
+case $own/ in
+    "$top"/*) echo "$own lies within this repository, whose gate would then refuse it: name a folder elsewhere"; rm -r "$own"; exit 1 ;;
+esac
+
+for crate in dr_seq dr_graph dr_core dr_shared dr_ring; do
+    mkdir -p "$own/crates/$crate/out"
+    cp -r "$top/crates/$crate/src" "$top/crates/$crate/specs" "$own/crates/$crate/" || exit 2
+    [ -d "$top/crates/$crate/proofs" ] && cp -r "$top/crates/$crate/proofs" "$own/crates/$crate/"
+    # (what was proved here is not proved again)
+    [ -d "$top/crates/$crate/out/rlib" ] && cp -r "$top/crates/$crate/out/rlib" "$own/crates/$crate/out/"
+    grep "^$crate:" "$top/crates.txt" >> "$own/crates.txt" || exit 2
+done
+cp -r "$top/crates/example_ring/src" "$top/crates/example_ring/stdout" "$own/crates/hello/" || exit 2
+sed -n 's/^example_ring:/hello:/p' "$top/crates.txt" >> "$own/crates.txt"
+cp "$top/HANDLES" "$own/"
+
+echo "proving and building $own/crates/hello; what rt says goes to $own/hello.log"
+cd "$own/crates/hello" || exit 2
+if ! rt run > "$own/printed" 2> "$own/hello.log"; then
+    echo "it failed; the end of $own/hello.log:"
+    tail -n 20 "$own/hello.log"
+    exit 1
+fi
+cat "$own/printed"
+if ! cmp -s "$own/printed" stdout; then
+    echo "FAILED: it was to print what stands in $own/crates/hello/stdout"
+    exit 1
+fi

@@ -1,0 +1,192 @@
+#!/usr/bin/env python3
+"""Refuses each request for memory in turn.
+
+    tests/hostile/refused.py PROGRAM
+
+Each case runs once with its first request refused, once with its
+second, and so on, until a run meets no refusal. refusing.c is what refuses; it stands before the C library's allocator.
+The script prints a line for each failure, and then a count; its status is 0 where none failed.
+"""
+
+import itertools
+import os
+import shutil
+import struct
+import subprocess
+import sys
+import tempfile
+from collections import Counter, namedtuple
+
+from run import HERE, NO_MEMORY, WAYS, Ran
+
+sys.path.append(os.path.join(os.path.dirname(HERE), "second_reading"))
+from merging import merged_like  # noqa: E402
+
+
+DIAMOND = """ring,2,single
+with,journal,replica
+then,business
+start
+claim,0,2
+write,0,0,10
+write,0,1,11
+publish,0,0,1
+poll,business,8
+poll,journal,8
+poll,replica,8
+complete,journal,2
+complete,replica,2
+poll,business,8
+claim,0,1
+complete,business,1
+claim,0,1
+"""
+EVERY_RECORD = """ring,4,multi,2
+limit,1000
+with,a,b
+after,a
+then,c
+edge,b,c
+start
+claim,0,1
+claim,1,2
+write,1,1,5
+write,1,2,6,7
+publish,1,1,2
+poll,a,8
+write,0,0,4
+publish,0,0,0
+poll,a,2
+poll,a,8
+complete,a,3
+poll,nobody,8
+retire,c
+retire,b
+halt
+claim,0,1
+poll,a,8
+"""
+OPERATIONS = """0,deposit,1,100
+2,transfer,1,7,30
+2,transfer,1,8,71
+0,withdraw,7,30
+"""
+
+Met = namedtuple("Met", "ran requests refused")
+
+
+def compiler():
+    """A C compiler: the machine's, or else the kit's."""
+    for name in ("cc", "clang"):
+        if shutil.which(name):
+            return [name]
+    kit = os.path.dirname(os.path.dirname(os.path.realpath(shutil.which("rt"))))
+    return [os.path.join(kit, "toolchain", "bin", "clang"), "-fuse-ld=lld"]
+
+
+class Refusing:
+    """Runs programs with requests refused, and counts what was to hold and did not."""
+
+    def __init__(self, folder):
+        self.folder, self.cases, self.failed = folder, 0, 0
+        self.library, self.counts = self.path("refusing.so"), self.path("counts")
+        options = ["-shared", "-fPIC", "-O1", "-fno-builtin", "-nostdlib", "-o", self.library]
+        subprocess.run([*compiler(), *options, os.path.join(HERE, "refusing.c")], check=True)
+
+    def path(self, name):
+        return os.path.join(self.folder, name)
+
+    def file(self, name, text):
+        with open(self.path(name), "w") as file:
+            file.write(text)
+        return self.path(name)
+
+    def run(self, words, **refusing):
+        """Runs a program, and tells how many requests it made, and how many of them were refused."""
+        with open(self.counts, "wb") as file:
+            file.write(bytes(16))
+        settings = {f"REFUSING_{name.upper()}": str(value) for name, value in refusing.items()}
+        settings |= {"LD_PRELOAD": self.library, "REFUSING_COUNTS": self.counts}
+        how = {"stdin": subprocess.DEVNULL, "capture_output": True, "timeout": 60}
+        try:
+            ran = subprocess.run(words, env=os.environ | settings, **how)
+            ran = Ran(ran.returncode, ran.stdout, ran.stderr)
+        except subprocess.TimeoutExpired:
+            ran = Ran("no end", b"", b"")
+        with open(self.counts, "rb") as file:
+            return Met(ran, *struct.unpack("<QQ", file.read()))
+
+    def judge(self, name, holds, found=None):
+        self.cases += 1
+        if not holds:
+            self.failed += 1
+            print(f"FAILED: {name}: {str(found)[:400]}")
+
+    def refuse_each(self, name, words, kind_of):
+        """Refuses each request in turn. `kind_of` names what a run is, beside a run in which nothing is refused: `whole`,
+        another word, or nothing where it is wrong. It returns how many runs there were of each kind."""
+        whole, kinds = self.run(words).ran, Counter()
+        for at in itertools.count(1):
+            met = self.run(words, at=at)
+            kind = kind_of(met.ran, whole)
+            if not kind or met.refused > 1 or (not met.refused and kind != "whole"):
+                self.judge(f"{name}, request {at} refused", False, (met, whole))
+                return kinds
+            if not met.refused:
+                break
+            kinds[kind] += 1
+        done = whole.status == 0 and at > 1 and 0 < met.requests < at
+        self.judge(f"{name}, each request refused", done, (at, met, whole))
+        return kinds
+
+
+def is_beginning(ran, whole):
+    """Whether memory ran out, after whole lines."""
+    lines = ran.out == b"" or ran.out.endswith(b"\n")
+    return ran._replace(out=b"") == NO_MEMORY and lines and whole.out.startswith(ran.out)
+
+
+def kind_of_drive(ran, whole):
+    if ran == whole:
+        return "whole"
+    return is_beginning(ran, whole) and ("after lines" if ran.out else "before lines")
+
+
+def kind_of_replay(ran, whole):
+    return "whole" if ran == whole else ran == NO_MEMORY and "no-memory"
+
+
+def kind_by_lock(ran, _whole):
+    """By lock the report is that of some order of the events that keeps each producer's."""
+    return "whole" if ran == merged_like(ran, OPERATIONS.encode()) else ran == NO_MEMORY and "no-memory"
+
+
+def refuse_in_drive(refusing, program):
+    for name, text in (("the diamond", DIAMOND), ("every record", EVERY_RECORD)):
+        words = [program, "drive", refusing.file("drive.csv", text)]
+        kinds = refusing.refuse_each(f"drive of {name}", words, kind_of_drive)
+        both = kinds["before lines"] and kinds["after lines"]
+        refusing.judge(f"drive of {name}, out of memory before lines and after some", both, kinds)
+
+
+def refuse_in_replays(refusing, program):
+    file = refusing.file("replay.csv", OPERATIONS)
+    for way, size in itertools.product(WAYS, (1, 1024)):
+        words = [program, "replay", "--by", way, "--size", str(size), file]
+        kind_of = kind_by_lock if way == "lock" else kind_of_replay
+        kinds = refusing.refuse_each(f"replay by {way} at size {size}", words, kind_of)
+        refusing.judge(f"replay by {way} at size {size}, out of memory", kinds["no-memory"], kinds)
+
+
+def main():
+    program = os.path.abspath(sys.argv[1])
+    with tempfile.TemporaryDirectory(prefix="refused-") as folder:
+        refusing = Refusing(folder)
+        refuse_in_drive(refusing, program)
+        refuse_in_replays(refusing, program)
+    print(f"{program}: {refusing.cases} cases with memory refused, {refusing.failed} failed")
+    return 1 if refusing.failed else 0
+
+
+if __name__ == "__main__":
+    sys.exit(main())

@@ -1,0 +1,80 @@
+/* Stands before the C library's allocator, and refuses requests for memory. It is loaded by LD_PRELOAD.
+
+     REFUSING_COUNTS=FILE    a file of two words of 64 bits: how many requests were met, and how many refused
+     REFUSING_AT=K           refuses the K-th request
+     REFUSING_ONCE_TOLD=1    refuses every request from the first write to standard output on, and counts no other
+
+   It includes nothing, so that the kit's own clang, which has no headers, builds it. */
+
+typedef unsigned long size_t;
+
+extern void *__libc_malloc(size_t size);
+extern void *__libc_calloc(size_t count, size_t size);
+extern void *__libc_realloc(void *old, size_t size);
+extern void *__libc_memalign(size_t alignment, size_t size);
+extern char *getenv(const char *name);
+extern int *__errno_location(void);
+extern int open(const char *path, int flags, ...);
+extern int close(int file);
+extern void *mmap(void *at, size_t length, int protection, int flags, int file, long offset);
+extern unsigned long strtoul(const char *text, char **end, int base);
+extern void abort(void);
+extern long syscall(long number, ...);
+
+enum { OUT_OF_MEMORY = 12, SYSTEM_WRITE = 1, READ_WRITE = 2, READABLE_WRITABLE = 3, SHARED = 1 };
+
+static struct counts {
+    unsigned long met, refused;
+} *counts;
+static unsigned long refused_at;
+static int refuses_once_told, was_told;
+
+__attribute__((constructor)) static void begin(void) {
+    const char *path = getenv("REFUSING_COUNTS"), *at = getenv("REFUSING_AT");
+    if (!path)
+        return;
+    refused_at = at ? strtoul(at, 0, 10) : 0;
+    refuses_once_told = getenv("REFUSING_ONCE_TOLD") != 0;
+    int file = open(path, READ_WRITE);
+    void *shared = mmap(0, sizeof *counts, READABLE_WRITABLE, SHARED, file, 0);
+    if (file < 0 || shared == (void *)-1)
+        abort();
+    close(file);
+    counts = shared;
+}
+
+/* Counts a request, and says whether it is refused. */
+static int is_refused(void) {
+    if (!counts || (refuses_once_told && !__atomic_load_n(&was_told, __ATOMIC_SEQ_CST)))
+        return 0;
+    unsigned long number = __atomic_add_fetch(&counts->met, 1, __ATOMIC_SEQ_CST);
+    if (!refuses_once_told && number != refused_at)
+        return 0;
+    __atomic_add_fetch(&counts->refused, 1, __ATOMIC_SEQ_CST);
+    *__errno_location() = OUT_OF_MEMORY;
+    return 1;
+}
+
+void *malloc(size_t size) { return is_refused() ? 0 : __libc_malloc(size); }
+
+void *calloc(size_t count, size_t size) { return is_refused() ? 0 : __libc_calloc(count, size); }
+
+void *realloc(void *old, size_t size) { return is_refused() ? 0 : __libc_realloc(old, size); }
+
+void *memalign(size_t alignment, size_t size) { return is_refused() ? 0 : __libc_memalign(alignment, size); }
+
+void *aligned_alloc(size_t alignment, size_t size) { return memalign(alignment, size); }
+
+int posix_memalign(void **place, size_t alignment, size_t size) {
+    void *given = memalign(alignment, size);
+    if (!given)
+        return OUT_OF_MEMORY;
+    *place = given;
+    return 0;
+}
+
+long write(int file, const void *bytes, size_t length) {
+    if (file == 1)
+        __atomic_store_n(&was_told, 1, __ATOMIC_SEQ_CST);
+    return syscall(SYSTEM_WRITE, file, bytes, length);
+}
