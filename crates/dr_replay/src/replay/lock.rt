@@ -4,15 +4,18 @@ ghost use Rattle.std.specs.Prelude.{◌≡◌, ◌+◌, ◌-◌, ◌^◌, ◌<�
 ghost use Rattle.dr_seq.specs.declared.event.Event.{Event};
 ghost use Rattle.dr_replay.specs.Counting.{faults_of, inner_of};
 ghost use Rattle.dr_replay.specs.EventFile.{events_of as events_in};
+ghost use Rattle.dr_accounts.specs.Keeping.{error_of};
 ghost use Rattle.dr_shared.specs.FirstFault.{first_fault as first_of};
 ghost use Rattle.dr_replay.specs.Replayed.{IsReportOfMerge, LockWrites, ReplayCounts, ReplayFaultKeeps};
-ghost use Rattle.dr_replay.specs.Workers.{IsFirstOf, IsFirstOfLock, IsOfAudit, IsOfLock, IsOfMerge, error_of, lock_endings};
+ghost use Rattle.dr_replay.specs.Workers.{IsFirstOf, IsFirstOfLock, IsOfAudit, IsOfLock, IsOfMerge, lock_endings};
 ghost use Rattle.dr_replay.specs.Scripts.{scripts_in};
 
 use crate::counted::Counted;
 use crate::replay::fault::ReplayFault;
 use crate::replay::lock_workers::{Around, Joined, Sent, exchange, make_ends};
-use crate::replay::outcome::{BUSINESS, JOURNAL, PRODUCER, REPLICA, ended, joined, replay_fault};
+use crate::replay::outcome::{
+    BUSINESS, JOURNAL, PRODUCER, REPLICA, audit_fault, ended, joined, replay_fault,
+};
 use crate::replay::part::Part;
 use crate::replay::plain::read_events;
 use crate::replay::scripts::{scripts, views};
@@ -20,9 +23,7 @@ use crate::streams::write_text;
 use dr_accounts::{Business, Journal, Replica, graph};
 use dr_core::{MAX_LIMIT, Mode};
 use dr_seq::{Event, Size};
-use dr_shared::{
-    AuditFault, End, Ended, Gate, Recorded, Shared, WorkFault, audit, finish, first_fault,
-};
+use dr_shared::{End, Ended, Gate, Recorded, Shared, WorkFault, audit, finish, first_fault};
 use std::alloc::{AllocError, Global};
 use std::io::{Read, Write};
 use std::marker::Brand;
@@ -61,6 +62,7 @@ fn check(
 ) -> Result<(), ReplayFault>
     requires { length producers.now ≤ 2 ^ 62 }
     ensures fine { OnOk result (first_of (lock_endings journal replica business producers.now) ≡ None) }
+    ensures handlers { OnOk result ((journal ≡ None) × (replica ≡ None) × (business ≡ None)) }
     ensures first { IfErr result (IsFirstOf (lock_endings journal replica business producers.now)) }
 {
     let endings = endings(alloc, journal, replica, business, producers)?;
@@ -86,8 +88,7 @@ fn audited(
     let _history = recorded.history();
     let list = match audit(alloc, recorded, views.as_slice()) {
         Ok(list) => list,
-        Err(AuditFault::NoMemory) => return Err(ReplayFault::Memory),
-        Err(fault) => return Err(ReplayFault::Audit(fault)),
+        Err(found) => return Err(audit_fault(found)),
     };
     let journal = journal.of_list(alloc, list.as_slice())?;
     let replica = replica.of_list(alloc, list.as_slice())?;

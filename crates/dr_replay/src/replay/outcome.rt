@@ -1,10 +1,10 @@
 //! How a replay's workers are numbered, and what comes of how they ended.
 
 ghost use Rattle.std.specs.Prelude.{◌≡◌, ◌++◌, IfOk, string_bytes};
-ghost use Rattle.dr_replay.specs.Workers.{replay_fault as fault_of};
+ghost use Rattle.dr_replay.specs.Workers.{audit_fault as audit_fault_of, replay_fault as fault_of};
 
 use crate::replay::fault::ReplayFault;
-use dr_shared::{Ended, WorkFault, WorkerFault};
+use dr_shared::{AuditFault, Ended, WorkFault, WorkerFault};
 use std::alloc::AllocError;
 
 /// The number of the journal's worker.
@@ -34,6 +34,16 @@ pub fn replay_fault(first: WorkerFault) -> ReplayFault
     match fault {
         WorkFault::Memory => ReplayFault::Memory,
         _ => ReplayFault::Worker { who, fault },
+    }
+}
+
+/// What an audit finds, as the replay answers it.
+pub fn audit_fault(found: AuditFault) -> ReplayFault
+    ensures { result ≡ audit_fault_of found }
+{
+    match found {
+        AuditFault::NoMemory => ReplayFault::Memory,
+        _ => ReplayFault::Audit(found),
     }
 }
 
