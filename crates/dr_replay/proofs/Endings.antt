@@ -1,5 +1,5 @@
 -- How the workers of an exchange ended, and what a replay answers of it.
-use Rattle.std.proofs.Common.{◌≡◌, List, ◌∷◌, Option, Some, Result, Ok, Err, IfErr, ⊎_elim, refl, sym, ap, ◌∙◌}
+use Rattle.std.proofs.Common.{◌≡◌, List, Option, Result, Ok, Err, IfErr, ⊎_elim, refl, sym, ap, ◌∙◌}
 use Rattle.std.proofs.lemmas.Bool.{false≢true}
 use Rattle.std.specs.Prelude.{Bool, ℕ, None, true, false}
 use Rattle.dr_seq.specs.declared.event.Event.{Event}

@@ -1,4 +1,4 @@
-use Rattle.std.proofs.Common.{◌≡◌, ◌∙◌, sym}
+use Rattle.std.proofs.Common.{◌∙◌}
 use Rattle.std.proofs.lemmas.Result.{err_from_is_err_and}
 use Rattle.dr_replay.proofs.Endings.{first_of_parts}
 use Rattle.dr_replay.proofs.replay.lock.settled.Goals as goal
