@@ -81,8 +81,7 @@ fn audited(
     replica: Part<Replica>,
     business: Part<Business>,
 ) -> Result<String, ReplayFault>
-    ensures text { (events : List Event) → map (λ v. v.items) scripts.now ≡ scripts_in events → IfOk result (λ text.
-        IsReportOfMerge events (string_bytes text)) }
+    ensures text { (sent : List Event) → map (λ v. v.items) scripts.now ≡ scripts_in sent → IfOk result (λ t. IsReportOfMerge sent (string_bytes t)) }
     ensures fault { IfErr result (IsOfAudit (map (λ v. v.items) scripts.now)) }
 {
     let views = views(alloc, scripts)?;
@@ -137,10 +136,8 @@ fn settled<L: Ledger>(
 ) -> Result<String, ReplayFault>
     requires given { shared.given ≡ 4 + length ran.producers.items }
     requires few { length ran.producers.items ≤ 2 ^ 62 }
-    ensures text { (events : List Event) → map (λ v. v.items) scripts.now ≡ scripts_in events → IfOk result (λ text.
-        IsReportOfMerge events (string_bytes text)) }
-    ensures fine { OnOk result (first_of (lock_endings (error_of ran.journal.part) (error_of ran.replica.part) (error_of ran.business.part)
-        (map (λ s. s.fault) ran.producers.items)) ≡ None) }
+    ensures text { (sent : List Event) → map (λ v. v.items) scripts.now ≡ scripts_in sent → IfOk result (λ t. IsReportOfMerge sent (string_bytes t)) }
+    ensures fine { OnOk result (first_of (lock_endings (error_of ran.journal.part) (error_of ran.replica.part) (error_of ran.business.part) (map (λ s. s.fault) ran.producers.items)) ≡ None) }
     ensures first { IfErr result (IsOfLock (lock_endings (error_of ran.journal.part) (error_of ran.replica.part) (error_of ran.business.part)
         (map (λ s. s.fault) ran.producers.items)) (map (λ v. v.items) scripts.now)) }
 {
