@@ -1,11 +1,10 @@
 -- How the workers of an exchange ended, and what a replay answers of it.
 use Rattle.std.proofs.Common.{◌≡◌, List, Option, Result, Ok, Err, IfErr, ⊎_elim, refl, sym, ap, ◌∙◌}
 use Rattle.std.proofs.lemmas.Bool.{false≢true}
-use Rattle.std.specs.Prelude.{Bool, ℕ, None, true, false}
+use Rattle.std.specs.Prelude.{Bool, ℕ, true, false}
 use Rattle.dr_seq.specs.declared.event.Event.{Event}
 use Rattle.dr_core.specs.Machine.{handlers}
 use Rattle.dr_shared.specs.Audit.{Faults}
-use Rattle.dr_shared.specs.FirstFault.{first_fault}
 use Rattle.dr_shared.specs.History.{History, IsRecorded, transcript}
 use Rattle.dr_shared.specs.declared.audit_fault.AuditFault.{AuditFault}
 use Rattle.dr_shared.specs.declared.audit_fault.AuditFault.TheVariants as audit
@@ -16,8 +15,7 @@ use Rattle.dr_replay.specs.declared.replay.fault.ReplayFault.{ReplayFault}
 use Rattle.dr_replay.specs.declared.replay.fault.ReplayFault.TheVariants as fault
 use Rattle.dr_replay.specs.declared.replay.ring.Ran.{Ran}
 use Rattle.dr_replay.specs.Scripts.{scripts_in}
-use Rattle.dr_replay.specs.Workers.{IsFirstOf, IsFirstOfLock, IsOfAudit, IsOfLock, IsOfMerge, IsOfWorkers}
-use Rattle.dr_replay.specs.Workers.{audit_fault, endings_of, lock_endings, replay_fault, ring_workers}
+use Rattle.dr_replay.specs.Workers.{IsFirstOf, IsOfAudit, IsOfLock, IsOfMerge, IsOfWorkers, audit_fault, endings_of, lock_endings, replay_fault, ring_workers}
 
 -- whether a fault may be answered for workers
 abbrev is_of_workers : ReplayFault → Bool
@@ -75,25 +73,6 @@ pub first_of_parts : {j j2 r r2 b b2 : Option WorkFault} {p p2 : List (Option Wo
 first_of_parts {j2 = j2} {r2 = r2} {b2 = b2} {p2 = p2} scripts e journal replica business producers is =
     after_workers (lock_endings j2 r2 b2 p2) scripts e (rw (journal, replica, business, producers) at is)
 
-pub ends_at_workers : {A : Type 0} (endings : List Ended) (scripts : List (List Event)) (r : Result A ReplayFault)
-    → IfErr r (IsFirstOf endings) → IfErr r (IsOfLock endings scripts)
-ends_at_workers endings scripts (Ok x) is = tt
-ends_at_workers endings scripts (Err e) is = after_workers endings scripts e is
-
-after_audit : (endings : List Ended) (scripts : List (List Event)) (e : ReplayFault) → first_fault endings ≡ None → IsOfAudit scripts e
-    → IsOfLock endings scripts e
-after_audit endings scripts fault.Memory none is = tt
-after_audit endings scripts (fault.Audit f) none is = (none, is)
-after_audit endings scripts (fault.Worker who f) none is = absurd is
-after_audit endings scripts (fault.Input k) none is = is
-after_audit endings scripts fault.Read none is = is
-after_audit endings scripts fault.Write none is = is
-
-pub ends_at_audit : {A : Type 0} (endings : List Ended) (scripts : List (List Event)) (r : Result A ReplayFault) → first_fault endings ≡ None
-    → IfErr r (IsOfAudit scripts) → IfErr r (IsOfLock endings scripts)
-ends_at_audit endings scripts (Ok x) none is = tt
-ends_at_audit endings scripts (Err e) none is = after_audit endings scripts e none is
-
 of_merge : (events : List Event) (journal replica business : Option WorkFault) (producers : List (Option WorkFault)) (e : ReplayFault)
     → IsOfLock (lock_endings journal replica business producers) (scripts_in events) e → IsOfMerge events e
 of_merge events journal replica business producers fault.Memory is = tt
@@ -108,15 +87,3 @@ pub ends_of_merge : {A : Type 0} (events : List Event) (scripts : List (List Eve
     → IfErr r (IsOfLock (lock_endings journal replica business producers) scripts) → IfErr r (IsOfMerge events)
 ends_of_merge events scripts journal replica business producers (Ok x) same is = tt
 ends_of_merge events scripts journal replica business producers (Err e) same is = of_merge events journal replica business producers e (rw same at is)
-
-first_of_lock : (events : List Event) (e : ReplayFault) → IsOfMerge events e → IsFirstOfLock e
-first_of_lock events fault.Memory is = tt
-first_of_lock events (fault.Worker who f) is = is
-first_of_lock events (fault.Audit f) is = (events, is)
-first_of_lock events (fault.Input k) is = tt
-first_of_lock events fault.Read is = tt
-first_of_lock events fault.Write is = tt
-
-pub is_first_of_lock : {A : Type 0} (events : List Event) (r : Result A ReplayFault) → IfErr r (IsOfMerge events) → IfErr r IsFirstOfLock
-is_first_of_lock events (Ok x) is = tt
-is_first_of_lock events (Err e) is = first_of_lock events e is
