@@ -198,6 +198,55 @@ fn send_all<L: Ledger + Send + Sync, R: Threads + Wait + Sync, G: Gate + Sync>(
     )
 }
 
+// The threads of the handlers, those that could be started.
+#[derive(Drop)]
+struct Handlers<L: Ledger> {
+    journal: Option<JoinHandle<Handled<L, Journal>>>,
+    replica: Option<JoinHandle<Handled<L, Replica>>>,
+    business: Option<JoinHandle<Handled<L, Business>>>,
+}
+
+// What a thread gives back, if it could be started.
+fn join<T: Drop, R: Threads>(rt: &R, started: Option<JoinHandle<T>>) -> Result<T, AllocError> {
+    let worker = started.ok_or(AllocError)?;
+    Ok(worker.join(rt))
+}
+
+// Sends all scripts, unless a handler's thread is missing; then halts the core, and joins the handlers.
+fn served<L: Ledger + Send + Sync, R: Threads + Wait + Sync, G: Gate + Sync>(
+    around: &Around<'_, L, R, G>,
+    scripts: &[Vec<Event>],
+    mut halter: End<L>,
+    producers: Vec<End<L>>,
+    handlers: Handlers<L>,
+) -> Result<Joined<L>, AllocError>
+    requires { length producers.items ≡ length scripts.now }
+    ensures { IfOk result (λ joined. length joined.producers.items ≡ length scripts.now) }
+{
+    let rt = around.rt;
+    let Handlers {
+        journal,
+        replica,
+        business,
+    } = handlers;
+    let sent = if journal.is_some() && replica.is_some() && business.is_some() {
+        send_all(around, scripts, producers)
+    } else {
+        Err(AllocError)
+    };
+    halt(rt, around.shared, &mut halter);
+    let journal = join(rt, journal);
+    let replica = join(rt, replica);
+    let business = join(rt, business);
+    Ok(Joined {
+        halter,
+        journal: journal?,
+        replica: replica?,
+        business: business?,
+        producers: sent?,
+    })
+}
+
 /// Starts a thread for each handler, then one for each producer; joins the producers, halts the core,
 /// and joins the handlers. An error is that memory ran out or that a thread could not be started:
 /// where it was a handler's, nothing is sent.
@@ -220,33 +269,23 @@ pub fn exchange<L: Ledger + Send + Sync, R: Threads + Wait + Sync, G: Gate + Syn
             ensures { IfOk result (λ joined. length joined.producers.items ≡ length scripts.entry.now) }
         {
             let Ends {
-                mut halter,
+                halter,
                 journal,
                 replica,
                 business,
                 producers,
             } = ends;
-            let rt = around.rt;
             let journal = scope.spawn(move || handle::<L, R, G, Journal>(around, JOURNAL, journal));
             let replica = scope.spawn(move || handle::<L, R, G, Replica>(around, REPLICA, replica));
             let business = scope.spawn(move || handle::<L, R, G, Business>(
                 around, BUSINESS, business,
             ));
-            let is_started = journal.is_ok() && replica.is_ok() && business.is_ok();
-            let sent = if is_started {
-                send_all(around, scripts, producers)
-            } else {
-                Err(AllocError)
+            let handlers = Handlers {
+                journal: journal.ok(),
+                replica: replica.ok(),
+                business: business.ok(),
             };
-            halt(rt, around.shared, &mut halter);
-            let (journal, replica, business) = (journal?, replica?, business?);
-            Ok(Joined {
-                halter,
-                journal: journal.join(rt),
-                replica: replica.join(rt),
-                business: business.join(rt),
-                producers: sent?,
-            })
+            served(around, scripts, halter, producers, handlers)
         },
     )
 }
