@@ -3,7 +3,8 @@
 #![tactic(auto)]
 
 use dr_replay::{
-    By, Counted, DriveFault, LineFault, Plan, ReplayFault, drive, plan, replay_plain, replay_ring,
+    By, Counted, DriveFault, LineFault, Plan, ReplayFault, drive, plan, replay_lock,
+    replay_plain, replay_ring,
 };
 use dr_seq::Size;
 use dr_shared::OpenGate;
@@ -87,6 +88,7 @@ fn replay_file<T: Threads + Wait + Sync>(
     let mut writer = Counted::new(output);
     let replayed = match by {
         By::Plain => replay_plain(alloc, &mut reader, &mut writer, size),
+        By::Lock => replay_lock(workers, alloc, &mut reader, &mut writer, size, &OpenGate),
         By::Ring => replay_ring(workers, alloc, &mut reader, &mut writer, size, &OpenGate),
     };
     let flushed = writer.flush();

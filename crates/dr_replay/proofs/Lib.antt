@@ -1,4 +1,5 @@
 pub mod Commanding
+pub mod Crossing
 pub mod Declaring
 pub mod Digits
 pub mod Endings
@@ -6,8 +7,11 @@ pub mod EventFiles
 pub mod FieldAt
 pub mod Finding
 pub mod Legible
+pub mod Listing
+pub mod Numbered
 pub mod RowsLeft
 pub mod Runs
+pub mod Scripting
 pub mod SetUps
 pub mod Settled
 pub mod Sizes

@@ -41,7 +41,7 @@ It prints:
   halting
 
 It ends with 0 where all is done, 1 where the command line is at fault, 2 where
-the file is at fault, 3 for want of memory and 4 where reading or writing failed.";
+the file is at fault, 3 where memory runs out and 4 where reading or writing failed.";
 
 const REPLAY: &str = "Replay a file of account movements, and print a report of them";
 
@@ -50,10 +50,10 @@ const EVENTS: &str = "The file of movements, one record a line";
 const SIZE: &str = "How many slots the ring has: a power of two from 1 to 65536";
 
 const BY: &str =
-    "By which exchange: plain is one core on one thread, ring has a thread for each handler";
+    "By which exchange: plain is one core on one thread, lock has a thread for each producer and each handler, ring has one for each handler";
 
 /// The ways of a replay.
-const WAYS: &[&str] = &["plain", "ring"];
+const WAYS: &[&str] = &["plain", "lock", "ring"];
 
 /// The ring's size where the command line gives none.
 const USUAL_SIZE: u64 = 1024;
@@ -84,8 +84,8 @@ its number, its balance, and how many movements it was refused.
   7,30,0
 
 It ends with 0 where all is done, 1 where the command line is at fault, 2 where
-the file is at fault, 3 for want of memory, 4 where reading or writing failed and
-5 where a worker was refused or stopped.";
+the file is at fault, 3 where memory runs out, 4 where reading or writing failed and
+5 where a worker was refused or stopped, or an audit found the history amiss.";
 
 fn replay_command<'a>(alloc: Global) -> Result<Command<'a>, AllocError> {
     let size = Arg::new(alloc, "size")
@@ -163,6 +163,7 @@ fn replay_plan(alloc: Global, matches: &ArgMatches<'_>) -> Result<Plan, LineFaul
     };
     let file = file_of(alloc, matches)?;
     let by = match matches.get_str("by") {
+        Some("lock") => By::Lock,
         Some("ring") => By::Ring,
         _ => By::Plain,
     };

@@ -7,7 +7,7 @@
 //! For the replay begin with `specs/Report`: it says what is reported of a list of events, with the
 //! balances of `specs/Accounts` and the operations of `specs/EventFile`. [`replay_plain`] reads a
 //! file of operations and writes the report of its events, and so does [`replay_ring`], with a
-//! thread for each handler.
+//! thread for each handler; [`replay_lock`] has a thread for each producer too, and reports a merge.
 #![tactic(auto)]
 
 mod command_line;
@@ -29,7 +29,7 @@ pub use command_line::plan;
 pub use counted::Counted;
 pub use fault::{Cause, DriveFault};
 pub use planned::{By, LineFault, Plan};
-pub use replay::{ReplayFault, replay_plain, replay_ring};
+pub use replay::{ReplayFault, replay_lock, replay_plain, replay_ring};
 pub use tool::drive;
 
 #[cfg(test)]

@@ -12,6 +12,8 @@ use thiserror::Error;
 pub enum By {
     /// One core on one thread.
     Plain,
+    /// A core behind a lock, with a thread for each producer and each handler.
+    Lock,
     /// The ring, with a thread for each handler.
     Ring,
 }

@@ -3,7 +3,7 @@
 ghost use Rattle.std.specs.Prelude.{◌≡◌, Some};
 ghost use Rattle.dr_replay.specs.ReplayFaults.{replay_line, replay_status};
 
-use dr_shared::WorkFault;
+use dr_shared::{AuditFault, WorkFault};
 use std::alloc::{AllocError, AllocFailed};
 use std::error::Error;
 use std::fmt;
@@ -21,6 +21,8 @@ pub enum ReplayFault {
     Write,
     /// A worker was refused a call, or was stopped at its gate. Workers are numbered as for gates.
     Worker { who: usize, fault: WorkFault },
+    /// A history is not what the producers were to send, or a handler did not take all of it.
+    Audit(AuditFault),
 }
 
 impl ReplayFault {
@@ -34,6 +36,8 @@ impl ReplayFault {
             ReplayFault::Read => 4,
             ReplayFault::Write => 4,
             ReplayFault::Worker { .. } => 5,
+            ReplayFault::Audit(AuditFault::NoMemory) => 3,
+            ReplayFault::Audit(_) => 5,
         }
     }
 }
@@ -48,6 +52,9 @@ impl fmt::Display for ReplayFault {
             ReplayFault::Read => write!(f, "cannot read"),
             ReplayFault::Write => write!(f, "cannot write"),
             ReplayFault::Worker { who, fault } => write!(f, "{} {who}", fault.name()),
+            ReplayFault::Audit(AuditFault::ScriptDiffers(p)) => write!(f, "script-differs {p}"),
+            ReplayFault::Audit(AuditFault::NotDrained(h)) => write!(f, "not-drained {h}"),
+            ReplayFault::Audit(AuditFault::NoMemory) => write!(f, "no-memory"),
         }
     }
 }
