@@ -2,13 +2,14 @@
 use Rattle.std.proofs.Common.{◌≡◌, ◌+◌, ◌∷◌, ℕ, List, [], Option, Some, None, Ok, refl, subst, ◌∙◌}
 use Rattle.std.specs.Prelude.{option_to_list}
 use Rattle.std.specs.Io.KnownBytes.{Appends, Keeps}
-use Rattle.dr_replay.specs.Records.{Record}
-use Rattle.dr_replay.specs.DriveText.{Phase, Preparing, Running, Taken, end_fault, joined, taken, text_from}
-use Rattle.dr_replay.specs.Outcome.{CommandFaultTells, FaultWrites}
-use Rattle.dr_replay.specs.Tells.{ShowsPhase}
+use Rattle.dr_replay.specs.Meaning.Records.{Record}
+use Rattle.dr_replay.specs.Meaning.DriveText.{Phase, Preparing, Running, Taken, end_fault, taken, text_from}
+use Rattle.dr_files.specs.Lines.{joined}
+use Rattle.dr_files.specs.Outcome.{FaultWrites}
+use Rattle.dr_replay.specs.Inside.Tells.{CommandFaultTells, ShowsPhase}
 use Rattle.dr_replay.specs.declared.exchange.Exchange.{Exchange}
-use Rattle.dr_replay.specs.declared.fault.DriveFault.{DriveFault}
-use Rattle.dr_replay.specs.declared.fault.DriveFault.TheVariants as fault
+use Rattle.dr_files.specs.declared.fault.FileFault.{FileFault}
+use Rattle.dr_files.specs.declared.fault.FileFault.TheVariants as fault
 use Rattle.dr_replay.proofs.Runs.{Progress, progress-end, progress-fails, progress-memory, progress-step}
 
 -- a run over all records from the k-th on has come to the j-th and those that are left, whichever phase its exchange showed at first
@@ -29,7 +30,7 @@ goes-on {k} {j} {all} {rest} {row} {old} {now} {new} come cut obeyed = record {
 }
 
 -- a command ended the run
-pub fails : {first exchange : Exchange} {k j : ℕ} {all left rest : List Record} {row : Record} {old now : Option (List ℕ)} (f : DriveFault) (new : Option (List ℕ))
+pub fails : {first exchange : Exchange} {k j : ℕ} {all left rest : List Record} {row : Record} {old now : Option (List ℕ)} (f : FileFault) (new : Option (List ℕ))
     → HasCome first k all exchange j left old now → left ≡ row ∷ rest → ((s : Phase) → ShowsPhase exchange s → CommandFaultTells f j (taken s row) now new)
     → (phase : Phase) → ShowsPhase first phase → FaultWrites f old new (text_from k phase all)
 fails {k} {j} {all} {rest} {row} {old} {now} f new come cut told phase shown =

@@ -4,14 +4,15 @@ use Rattle.std.proofs.lemmas.Bool.{false≢true}
 use Rattle.std.specs.Prelude.{Bool, ℕ, true, false}
 use Rattle.dr_shared.specs.declared.fault.WorkFault.{WorkFault}
 use Rattle.dr_shared.specs.declared.fault.WorkFault.TheVariants as work
+use Rattle.dr_files.specs.declared.fault.FileFault.TheVariants as file
 use Rattle.dr_replay.specs.declared.replay.fault.ReplayFault.{ReplayFault}
 use Rattle.dr_replay.specs.declared.replay.fault.ReplayFault.TheVariants as fault
 use Rattle.dr_replay.specs.declared.replay.ring.Ran.{Ran}
-use Rattle.dr_replay.specs.Workers.{IsFirstOf, IsOfWorkers, endings_of, replay_fault, ring_workers}
+use Rattle.dr_replay.specs.Calls.Workers.{IsFirstOf, IsOfWorkers, endings_of, replay_fault, ring_workers}
 
 -- whether a fault may be answered for workers
 abbrev is_of_workers : ReplayFault → Bool
-is_of_workers fault.Memory = true
+is_of_workers (fault.File file.Memory) = true
 is_of_workers (fault.Worker who f) = true
 is_of_workers other = false
 
@@ -27,11 +28,11 @@ no_other ran e not is = ⊎_elim
     is
 
 of_workers : (ran : Ran) (e : ReplayFault) → IsFirstOf (endings_of ran) e → IsOfWorkers ring_workers e
-of_workers ran fault.Memory is = tt
+of_workers ran (fault.File file.Memory) is = refl
+of_workers ran (fault.File (file.Input k cause)) is = absurd (no_other ran (fault.File (file.Input k cause)) refl is)
+of_workers ran (fault.File file.Read) is = absurd (no_other ran (fault.File file.Read) refl is)
+of_workers ran (fault.File file.Write) is = absurd (no_other ran (fault.File file.Write) refl is)
 of_workers ran (fault.Worker who f) is = (endings_of ran, refl, is)
-of_workers ran (fault.Input k) is = no_other ran (fault.Input k) refl is
-of_workers ran fault.Read is = no_other ran fault.Read refl is
-of_workers ran fault.Write is = no_other ran fault.Write refl is
 
 pub ends_of_workers : {A : Type 0} (ran : Ran) (r : Result A ReplayFault) → IfErr r (IsFirstOf (endings_of ran)) → IfErr r (IsOfWorkers ring_workers)
 ends_of_workers ran (Ok x) is = tt

@@ -1,6 +1,5 @@
 pub mod Commanding
 pub mod Declaring
-pub mod Digits
 pub mod Endings
 pub mod EventFiles
 pub mod FieldAt
@@ -13,4 +12,3 @@ pub mod Settled
 pub mod Sizes
 pub mod Starting
 pub mod Whole
-pub mod Writes

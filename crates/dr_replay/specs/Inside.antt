@@ -1,0 +1,5 @@
+-- What the functions inside promise one another.
+pub mod TextReader
+pub mod Rows
+pub mod Shows
+pub mod Tells
