@@ -12,15 +12,17 @@ use Rattle.dr_shared.specs.declared.audit_fault.AuditFault.TheVariants as audit
 use Rattle.dr_shared.specs.declared.ended.Ended.{Ended}
 use Rattle.dr_shared.specs.declared.fault.WorkFault.{WorkFault}
 use Rattle.dr_shared.specs.declared.fault.WorkFault.TheVariants as work
+use Rattle.dr_files.specs.declared.fault.FileFault.{FileFault}
+use Rattle.dr_files.specs.declared.fault.FileFault.TheVariants as file
 use Rattle.dr_replay.specs.declared.replay.fault.ReplayFault.{ReplayFault}
 use Rattle.dr_replay.specs.declared.replay.fault.ReplayFault.TheVariants as fault
 use Rattle.dr_replay.specs.declared.replay.ring.Ran.{Ran}
-use Rattle.dr_replay.specs.Scripts.{scripts_in}
-use Rattle.dr_replay.specs.Workers.{IsFirstOf, IsFirstOfLock, IsOfAudit, IsOfLock, IsOfMerge, IsOfWorkers, audit_fault, endings_of, lock_endings, replay_fault, ring_workers}
+use Rattle.dr_replay.specs.Meaning.Scripts.{scripts_in}
+use Rattle.dr_replay.specs.Calls.Workers.{IsFirstOf, IsFirstOfLock, IsMemory, IsOfAudit, IsOfLock, IsOfMerge, IsOfWorkers, audit_fault, endings_of, lock_endings, replay_fault, ring_workers}
 
 -- whether a fault may be answered for workers
 abbrev is_of_workers : ReplayFault → Bool
-is_of_workers fault.Memory = true
+is_of_workers (fault.File file.Memory) = true
 is_of_workers (fault.Worker who f) = true
 is_of_workers other = false
 
@@ -35,13 +37,17 @@ no_other endings e not is = ⊎_elim
     (λ first. false≢true (sym not ∙ ap is_of_workers first.2 ∙ told first.0.who first.0.fault))
     is
 
+-- of the faults of a file it can only be a lack of memory
+only_memory : (endings : List Ended) (f : FileFault) → IsFirstOf endings (fault.File f) → IsMemory f
+only_memory endings file.Memory is = tt
+only_memory endings (file.Input k cause) is = no_other endings (fault.File (file.Input k cause)) refl is
+only_memory endings file.Read is = no_other endings (fault.File file.Read) refl is
+only_memory endings file.Write is = no_other endings (fault.File file.Write) refl is
+
 of_workers : (ran : Ran) (e : ReplayFault) → IsFirstOf (endings_of ran) e → IsOfWorkers ring_workers e
-of_workers ran fault.Memory is = tt
+of_workers ran (fault.File f) is = only_memory (endings_of ran) f is
 of_workers ran (fault.Worker who f) is = (endings_of ran, refl, is)
-of_workers ran (fault.Input k) is = no_other (endings_of ran) (fault.Input k) refl is
 of_workers ran (fault.Audit f) is = no_other (endings_of ran) (fault.Audit f) refl is
-of_workers ran fault.Read is = no_other (endings_of ran) fault.Read refl is
-of_workers ran fault.Write is = no_other (endings_of ran) fault.Write refl is
 
 pub ends_of_workers : {A : Type 0} (ran : Ran) (r : Result A ReplayFault) → IfErr r (IsFirstOf (endings_of ran)) → IfErr r (IsOfWorkers ring_workers)
 ends_of_workers ran (Ok x) is = tt
@@ -59,12 +65,9 @@ pub audit_finds : (h : History) (given scripts : List (List Event)) (f : AuditFa
 audit_finds h given scripts f same recorded is = finds h scripts f recorded (rw same at is)
 
 after_workers : (endings : List Ended) (scripts : List (List Event)) (e : ReplayFault) → IsFirstOf endings e → IsOfLock endings scripts e
-after_workers endings scripts fault.Memory is = tt
+after_workers endings scripts (fault.File f) is = only_memory endings f is
 after_workers endings scripts (fault.Worker who f) is = is
 after_workers endings scripts (fault.Audit f) is = absurd (no_other endings (fault.Audit f) refl is)
-after_workers endings scripts (fault.Input k) is = no_other endings (fault.Input k) refl is
-after_workers endings scripts fault.Read is = no_other endings fault.Read refl is
-after_workers endings scripts fault.Write is = no_other endings fault.Write refl is
 
 -- the endings that a check was given are those of the parts
 pub first_of_parts : {j j2 r r2 b b2 : Option WorkFault} {p p2 : List (Option WorkFault)} (scripts : List (List Event)) (e : ReplayFault) → j ≡ j2 → r ≡ r2 → b ≡ b2 → p ≡ p2 → IsFirstOf (lock_endings j r b p) e → IsOfLock (lock_endings j2 r2 b2 p2) scripts e
@@ -75,36 +78,27 @@ ends_at_workers endings scripts (Ok x) is = tt
 ends_at_workers endings scripts (Err e) is = after_workers endings scripts e is
 
 after_audit : (endings : List Ended) (scripts : List (List Event)) (e : ReplayFault) → first_fault endings ≡ None → IsOfAudit scripts e → IsOfLock endings scripts e
-after_audit endings scripts fault.Memory none is = tt
-after_audit endings scripts (fault.Audit f) none is = (none, is)
+after_audit endings scripts (fault.File f) none is = is
 after_audit endings scripts (fault.Worker who f) none is = absurd is
-after_audit endings scripts (fault.Input k) none is = is
-after_audit endings scripts fault.Read none is = is
-after_audit endings scripts fault.Write none is = is
+after_audit endings scripts (fault.Audit f) none is = (none, is)
 
 pub ends_at_audit : {A : Type 0} (endings : List Ended) (scripts : List (List Event)) (r : Result A ReplayFault) → first_fault endings ≡ None → IfErr r (IsOfAudit scripts) → IfErr r (IsOfLock endings scripts)
 ends_at_audit endings scripts (Ok x) none is = tt
 ends_at_audit endings scripts (Err e) none is = after_audit endings scripts e none is
 
 of_merge : (events : List Event) (journal replica business : Option WorkFault) (producers : List (Option WorkFault)) (e : ReplayFault) → IsOfLock (lock_endings journal replica business producers) (scripts_in events) e → IsOfMerge events e
-of_merge events journal replica business producers fault.Memory is = tt
+of_merge events journal replica business producers (fault.File f) is = is
 of_merge events journal replica business producers (fault.Worker who f) is = (journal, replica, business, producers, is)
 of_merge events journal replica business producers (fault.Audit f) is = is.1
-of_merge events journal replica business producers (fault.Input k) is = is
-of_merge events journal replica business producers fault.Read is = is
-of_merge events journal replica business producers fault.Write is = is
 
 pub ends_of_merge : {A : Type 0} (events : List Event) (scripts : List (List Event)) (journal replica business : Option WorkFault) (producers : List (Option WorkFault)) (r : Result A ReplayFault) → scripts ≡ scripts_in events → IfErr r (IsOfLock (lock_endings journal replica business producers) scripts) → IfErr r (IsOfMerge events)
 ends_of_merge events scripts journal replica business producers (Ok x) same is = tt
 ends_of_merge events scripts journal replica business producers (Err e) same is = of_merge events journal replica business producers e (rw same at is)
 
 first_of_lock : (events : List Event) (e : ReplayFault) → IsOfMerge events e → IsFirstOfLock e
-first_of_lock events fault.Memory is = tt
+first_of_lock events (fault.File f) is = tt
 first_of_lock events (fault.Worker who f) is = is
 first_of_lock events (fault.Audit f) is = (events, is)
-first_of_lock events (fault.Input k) is = tt
-first_of_lock events fault.Read is = tt
-first_of_lock events fault.Write is = tt
 
 pub is_first_of_lock : {A : Type 0} (events : List Event) (r : Result A ReplayFault) → IfErr r (IsOfMerge events) → IfErr r IsFirstOfLock
 is_first_of_lock events (Ok x) is = tt

@@ -1,7 +1,6 @@
 pub mod Commanding
 pub mod Crossing
 pub mod Declaring
-pub mod Digits
 pub mod Endings
 pub mod EventFiles
 pub mod FieldAt
@@ -9,6 +8,7 @@ pub mod Finding
 pub mod Legible
 pub mod Listing
 pub mod Numbered
+pub mod Reporting
 pub mod RowsLeft
 pub mod Runs
 pub mod Scripting
@@ -17,4 +17,3 @@ pub mod Settled
 pub mod Sizes
 pub mod Starting
 pub mod Whole
-pub mod Writes

@@ -3,7 +3,7 @@ use Rattle.std.proofs.Common.{◌≡◌, ◌<◌, ◌+◌, ℕ, suc, List, [], �
 use Rattle.std.proofs.lemmas.List.{length-take-le, take_more}
 use Rattle.dr_shared.specs.declared.ended.Ended.{Ended}
 use Rattle.dr_shared.specs.declared.fault.WorkFault.{WorkFault}
-use Rattle.dr_replay.specs.Workers.{lock_endings, numbered}
+use Rattle.dr_replay.specs.Calls.Workers.{lock_endings, numbered}
 
 abbrev end : ℕ → Option WorkFault → Ended
 end who fault = record { who = who; fault = fault }

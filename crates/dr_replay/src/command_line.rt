@@ -1,6 +1,6 @@
 //! The command line, read.
 
-use crate::planned::{By, LineFault, Plan};
+use crate::plans::{By, LineFault, Plan};
 use clap::error::ErrorKind;
 use clap::{Arg, ArgMatches, Command, Error, value_parser};
 use dr_seq::Size;
@@ -21,13 +21,17 @@ A file sets up a ring, its limit and its handlers, and then gives commands:
   ring,4,single       a ring of 4 slots and one producer; ring,4,multi,2 has two
   limit,1000          at most 1000 sequences (may be left out)
   with,a,b            two handlers, with the names a and b
+  then,c              a handler c, which follows both of them
+  after,a             the next handlers follow a alone
+  then,d              so d follows a
+  edge,d,c            and c follows d too
   start
   claim,0,1           producer 0 claims 1 sequence
   write,0,0,42        producer 0 writes 42 to sequence 0
   publish,0,0,0       producer 0 publishes the sequences from 0 to 0
   poll,a,8            handler a takes at most 8 events
   complete,a,1        handler a has done with the first 1 event
-  retire,b            handler b takes no more, and claims do not wait for it
+  retire,c            handler c takes no more, and claims do not wait for it
   halt                no more claims
 
 It prints:
@@ -41,7 +45,7 @@ It prints:
   halting
 
 It ends with 0 where all is done, 1 where the command line is at fault, 2 where
-the file is at fault, 3 where memory runs out and 4 where reading or writing failed.";
+the file is at fault, 3 if memory runs out and 4 where reading or writing failed.";
 
 const REPLAY: &str = "Replay a file of account movements, and print a report of them";
 
@@ -84,7 +88,7 @@ its number, its balance, and how many movements it was refused.
   7,30,0
 
 It ends with 0 where all is done, 1 where the command line is at fault, 2 where
-the file is at fault, 3 where memory runs out, 4 where reading or writing failed and
+the file is at fault, 3 if memory runs out, 4 where reading or writing failed and
 5 where a worker was refused or stopped, or an audit found the history amiss.";
 
 fn replay_command<'a>(alloc: Global) -> Result<Command<'a>, AllocError> {

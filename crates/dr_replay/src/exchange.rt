@@ -4,11 +4,10 @@ ghost use Rattle.std.specs.Prelude.{◌≡◌, ◌≤◌, length, IfOk};
 ghost use Rattle.dr_core.specs.Runs.{count_in as events_in};
 
 use crate::commands::command_of;
-use crate::fault::{Cause, RecordFault};
-use crate::lines::put_line;
 use crate::setup::ring_records::Ring;
 use csv::ByteRecord;
 use dr_core::{Core, OpenFault, Reply};
+use dr_files::{Cause, RecordFault, put_line};
 use dr_graph::Graph;
 use dr_seq::Event;
 use std::alloc::{AllocError, Global};
@@ -35,10 +34,10 @@ impl Exchange {
     ghost use Rattle.std.specs.Prelude.{List, string_bytes};
     ghost use Rattle.csv.specs.Records.{fields_of};
     ghost use Rattle.dr_core.specs.Machine.{Setup, State, opening};
-    ghost use Rattle.dr_replay.specs.Records.{Field};
-    ghost use Rattle.dr_replay.specs.Commands.{command_of as command_in};
-    ghost use Rattle.dr_replay.specs.DriveText.{obeys};
-    ghost use Rattle.dr_replay.specs.Shows.{ExchangeShows, IsRing, ObeysAs, ring_setup};
+    ghost use Rattle.dr_replay.specs.Meaning.Records.{Field};
+    ghost use Rattle.dr_replay.specs.Meaning.Commands.{command_of as command_in};
+    ghost use Rattle.dr_replay.specs.Meaning.DriveText.{obeys};
+    ghost use Rattle.dr_replay.specs.Inside.Shows.{ExchangeShows, IsRing, ObeysAs, ring_setup};
 
     /// Opens a core over a graph of handlers. An error is that memory ran out.
     pub fn open(alloc: Global, ring: Ring, graph: Graph) -> Result<Exchange, AllocError>

@@ -2,26 +2,25 @@
 
 ghost use Rattle.std.specs.Prelude.{◌≡◌, ◌+◌, ◌-◌, ◌^◌, ◌<◌, ◌≤◌, IfErr, IfOk, IfSome, List, None, OnOk, length, map, string_bytes};
 ghost use Rattle.dr_seq.specs.declared.event.Event.{Event};
-ghost use Rattle.dr_replay.specs.Counting.{faults_of, inner_of};
-ghost use Rattle.dr_replay.specs.EventFile.{events_of as events_in};
+ghost use Rattle.dr_files.specs.Counting.{faults_of, inner_of};
+ghost use Rattle.dr_replay.specs.Meaning.EventFile.{events_of as events_in};
 ghost use Rattle.dr_accounts.specs.Keeping.{error_of};
 ghost use Rattle.dr_shared.specs.FirstFault.{first_fault as first_of};
-ghost use Rattle.dr_replay.specs.Replayed.{IsReportOfMerge, LockWrites, ReplayCounts, ReplayFaultKeeps};
-ghost use Rattle.dr_replay.specs.Workers.{IsFirstOf, IsFirstOfLock, IsOfAudit, IsOfLock, IsOfMerge, lock_endings};
-ghost use Rattle.dr_replay.specs.Scripts.{scripts_in};
+ghost use Rattle.dr_replay.specs.Calls.Replayed.{IsReportOfMerge, LockWrites, ReplayCounts, ReplayFaultKeeps};
+ghost use Rattle.dr_replay.specs.Calls.Workers.{IsFirstOf, IsFirstOfLock, IsOfAudit, IsOfLock, IsOfMerge, lock_endings};
+ghost use Rattle.dr_replay.specs.Meaning.Scripts.{scripts_in};
 
-use crate::counted::Counted;
+use crate::replay::event_file::read_events;
 use crate::replay::fault::ReplayFault;
 use crate::replay::lock_workers::{Around, Joined, Sent, exchange, make_ends};
 use crate::replay::outcome::{
     BUSINESS, JOURNAL, PRODUCER, REPLICA, audit_fault, ended, joined, replay_fault,
 };
 use crate::replay::part::Part;
-use crate::replay::plain::read_events;
 use crate::replay::scripts::{scripts, views};
-use crate::streams::write_text;
 use dr_accounts::{Business, Journal, Replica, graph};
 use dr_core::{MAX_LIMIT, Mode};
+use dr_files::{Counted, FileFault, write_text};
 use dr_seq::{Event, Size};
 use dr_shared::{End, Ended, Gate, Recorded, Shared, WorkFault, audit, finish, first_fault};
 use std::alloc::{AllocError, Global};
@@ -191,7 +190,7 @@ fn report<L: Ledger + Send + Sync, R: Threads + Wait + Sync, G: Gate + Sync>(
     let entries = entries.checked_add(4).ok_or(AllocError)?;
     let words = events.len().checked_mul(3).ok_or(AllocError)?;
     let Ok(recorded) = Recorded::open(alloc, graph, size, mode, MAX_LIMIT, entries, words) else {
-        return Err(ReplayFault::Memory);
+        return Err(ReplayFault::File(FileFault::Memory));
     };
     let mut shared = Shared::<L>::new(recorded, blank);
     let ends = make_ends(alloc, &mut shared, scripts.len())?;
@@ -234,8 +233,5 @@ pub fn replay_lock<S: Threads + Wait + Sync, R: Read, W: Write, G: Gate + Sync>(
 {
     let events = read_events(alloc, reader)?;
     let text = report::<Brand, S, G>(rt, alloc, Blank::new(65), events.as_slice(), size, gate)?;
-    match write_text(writer, text.as_bytes()) {
-        Ok(()) => Ok(()),
-        Err(_) => Err(ReplayFault::Write),
-    }
+    Ok(write_text(writer, text.as_bytes())?)
 }

@@ -1,9 +1,10 @@
 //! How a replay's workers are numbered, and what comes of how they ended.
 
 ghost use Rattle.std.specs.Prelude.{◌≡◌, ◌++◌, IfOk, string_bytes};
-ghost use Rattle.dr_replay.specs.Workers.{audit_fault as audit_fault_of, replay_fault as fault_of};
+ghost use Rattle.dr_replay.specs.Calls.Workers.{audit_fault as audit_fault_of, replay_fault as fault_of};
 
 use crate::replay::fault::ReplayFault;
+use dr_files::FileFault;
 use dr_shared::{AuditFault, Ended, WorkFault, WorkerFault};
 use std::alloc::AllocError;
 
@@ -32,7 +33,7 @@ pub fn replay_fault(first: WorkerFault) -> ReplayFault
 {
     let WorkerFault { who, fault } = first;
     match fault {
-        WorkFault::Memory => ReplayFault::Memory,
+        WorkFault::Memory => ReplayFault::File(FileFault::Memory),
         _ => ReplayFault::Worker { who, fault },
     }
 }
@@ -42,7 +43,7 @@ pub fn audit_fault(found: AuditFault) -> ReplayFault
     ensures { result ≡ audit_fault_of found }
 {
     match found {
-        AuditFault::NoMemory => ReplayFault::Memory,
+        AuditFault::NoMemory => ReplayFault::File(FileFault::Memory),
         _ => ReplayFault::Audit(found),
     }
 }

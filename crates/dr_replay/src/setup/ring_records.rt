@@ -3,13 +3,13 @@
 ghost use Rattle.std.specs.Prelude.{◌≡◌, IfOk, MatchOption, false, true};
 ghost use Rattle.csv.specs.Records.{fields_of};
 ghost use Rattle.dr_core.specs.OpenFault.{has_bad_producers as has_bad_producers_in};
-ghost use Rattle.dr_replay.specs.Setup.{is_size, limit_of as limit_in, mode_of as mode_in, ring_of as ring_in};
-ghost use Rattle.dr_replay.specs.Shows.{IsRing};
+ghost use Rattle.dr_replay.specs.Meaning.Setup.{is_size, limit_of as limit_in, mode_of as mode_in, ring_of as ring_in};
+ghost use Rattle.dr_replay.specs.Inside.Shows.{IsRing};
 
-use crate::fault::Cause;
 use crate::records::{count_of, field, is_named, number_at};
 use csv::ByteRecord;
 use dr_core::{MAX_LIMIT, MAX_PRODUCERS, Mode};
+use dr_files::Cause;
 use dr_seq::Size;
 
 /// What the first records say of the ring.

@@ -1,10 +1,10 @@
 use Rattle.std.proofs.Common.{ap, length, arith}
 use Rattle.csv.specs.Records.{fields_of}
 use Rattle.dr_core.specs.Machine.{opening}
-use Rattle.dr_replay.specs.Setup.{Empty}
-use Rattle.dr_replay.specs.DriveText.{Preparing, Running, text_from}
-use Rattle.dr_replay.specs.Rows.{rows_left}
-use Rattle.dr_replay.specs.Shows.{stage_of}
+use Rattle.dr_replay.specs.Meaning.Setup.{Empty}
+use Rattle.dr_replay.specs.Meaning.DriveText.{Preparing, Running, text_from}
+use Rattle.dr_replay.specs.Inside.Rows.{rows_left}
+use Rattle.dr_replay.specs.Inside.Shows.{stage_of}
 use Rattle.dr_replay.proofs.SetUps.{setup-ends, setup-fails, setup-goes, setup-opens}
 use Rattle.dr_replay.proofs.tool.set_up.Goals as goal
 

@@ -1,7 +1,7 @@
 use Rattle.std.proofs.Common.{◌+◌, vec_len}
 use Rattle.csv.specs.Records.{fields_of}
-use Rattle.dr_replay.specs.EventFile.{events_from}
-use Rattle.dr_replay.specs.Rows.{rows_left}
+use Rattle.dr_replay.specs.Meaning.EventFile.{events_from}
+use Rattle.dr_replay.specs.Inside.Rows.{rows_left}
 use Rattle.dr_replay.proofs.EventFiles.{file-ends, file-goes, file-stops, preceded-nil}
 use Rattle.dr_replay.proofs.replay.event_file.events_of.Goals as goal
 

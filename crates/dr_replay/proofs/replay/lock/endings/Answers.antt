@@ -1,6 +1,6 @@
 use Rattle.std.proofs.Common.{◌++◌, ◌∷◌, [], ◌∙◌, ap, sym, take}
 use Rattle.std.proofs.lemmas.List.{take_all}
-use Rattle.dr_replay.specs.Workers.{lock_endings}
+use Rattle.dr_replay.specs.Calls.Workers.{lock_endings}
 use Rattle.dr_replay.proofs.Numbered.{lock_more}
 use Rattle.dr_replay.proofs.replay.lock.endings.Goals as goal
 

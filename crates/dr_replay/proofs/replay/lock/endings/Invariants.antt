@@ -1,5 +1,5 @@
 use Rattle.std.proofs.Common.{◌≡◌, take}
-use Rattle.dr_replay.specs.Workers.{lock_endings}
+use Rattle.dr_replay.specs.Calls.Workers.{lock_endings}
 use Rattle.dr_replay.proofs.replay.lock.endings.Given as goal
 
 abbrev pub invariant-loop-p : goal.invariant-loop-p

@@ -1,7 +1,7 @@
 use Rattle.std.proofs.Common.{◌≡◌, ◌∙◌, List, Vec, Global, map, ap}
 use Rattle.dr_accounts.specs.Keeping.{error_of}
 use Rattle.dr_seq.specs.declared.event.Event.{Event}
-use Rattle.dr_replay.specs.Scripts.{scripts_in}
+use Rattle.dr_replay.specs.Meaning.Scripts.{scripts_in}
 use Rattle.dr_replay.proofs.Endings.{ends_of_merge}
 use Rattle.dr_replay.proofs.replay.lock.report.Goals as goal
 
