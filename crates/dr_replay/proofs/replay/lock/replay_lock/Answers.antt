@@ -1,4 +1,4 @@
-use Rattle.std.proofs.Common.{List, ℕ, IfSome, Result, string_bytes, subst, sym}
+use Rattle.std.proofs.Common.{◌≡◌, List, ℕ, IfSome, subst, sym}
 use Rattle.dr_seq.specs.declared.event.Event.{Event}
 use Rattle.dr_files.specs.Counting.{inner_of}
 use Rattle.dr_files.specs.declared.fault.FileFault.TheVariants as file

@@ -1,4 +1,4 @@
-use Rattle.std.proofs.Common.{List, ℕ, IfSome, Result, ap, ◌∙◌}
+use Rattle.std.proofs.Common.{IfSome, ap, ◌∙◌}
 use Rattle.dr_accounts.specs.Report.{report_of}
 use Rattle.dr_files.specs.Counting.{inner_of}
 use Rattle.dr_files.specs.declared.fault.FileFault.TheVariants as file
