@@ -25,7 +25,7 @@ pub record IsSetUp (o : Opened) (rs left : List Record) : Type 0 where
   pub says : text_from 1 (Preparing Empty) rs ≡ text_from o.k phase left
   pub shows : ShowsPhase o.exchange phase
 
--- a setup that fails is at fault at a record, with nothing written, or wants memory
+-- a setup that fails is at fault at a record, with nothing written, or memory ran out
 abbrev pub SetupFaultTells : FileFault → List Record → Type 0
 SetupFaultTells (fault.Input k cause) rs = text_from 1 (Preparing Empty) rs ≡ record { lines = []; fault = Some (record { k = k; cause = cause }) }
 SetupFaultTells fault.Memory rs = Unit {0}
