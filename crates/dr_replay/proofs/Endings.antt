@@ -55,13 +55,15 @@ ends_of_workers ran (Err e) is = of_workers ran e is
 
 -- behind a lock
 
-finds : (h : History) (scripts : List (List Event)) (f : AuditFault) → IsRecorded h → Faults (transcript h) (handlers h.core.setup) scripts f → IsOfAudit scripts (audit_fault f)
+finds : (h : History) (scripts : List (List Event)) (f : AuditFault) → IsRecorded h → Faults (transcript h) (handlers h.core.setup) scripts f
+    → IsOfAudit scripts (audit_fault f)
 finds h scripts audit.NoMemory recorded is = tt
 finds h scripts (audit.ScriptDiffers p) recorded is = (h, recorded, is)
 finds h scripts (audit.NotDrained k) recorded is = (h, recorded, is)
 
 -- an audit's fault of a recorded history
-pub audit_finds : (h : History) (given scripts : List (List Event)) (f : AuditFault) → given ≡ scripts → IsRecorded h → Faults (transcript h) (handlers h.core.setup) given f → IsOfAudit scripts (audit_fault f)
+pub audit_finds : (h : History) (given scripts : List (List Event)) (f : AuditFault) → given ≡ scripts → IsRecorded h
+    → Faults (transcript h) (handlers h.core.setup) given f → IsOfAudit scripts (audit_fault f)
 audit_finds h given scripts f same recorded is = finds h scripts f recorded (rw same at is)
 
 after_workers : (endings : List Ended) (scripts : List (List Event)) (e : ReplayFault) → IsFirstOf endings e → IsOfLock endings scripts e
@@ -70,28 +72,35 @@ after_workers endings scripts (fault.Worker who f) is = is
 after_workers endings scripts (fault.Audit f) is = absurd (no_other endings (fault.Audit f) refl is)
 
 -- the endings that a check was given are those of the parts
-pub first_of_parts : {j j2 r r2 b b2 : Option WorkFault} {p p2 : List (Option WorkFault)} (scripts : List (List Event)) (e : ReplayFault) → j ≡ j2 → r ≡ r2 → b ≡ b2 → p ≡ p2 → IsFirstOf (lock_endings j r b p) e → IsOfLock (lock_endings j2 r2 b2 p2) scripts e
-first_of_parts {j2 = j2} {r2 = r2} {b2 = b2} {p2 = p2} scripts e journal replica business producers is = after_workers (lock_endings j2 r2 b2 p2) scripts e (rw (journal, replica, business, producers) at is)
+pub first_of_parts : {j j2 r r2 b b2 : Option WorkFault} {p p2 : List (Option WorkFault)} (scripts : List (List Event)) (e : ReplayFault) → j ≡ j2
+    → r ≡ r2 → b ≡ b2 → p ≡ p2 → IsFirstOf (lock_endings j r b p) e → IsOfLock (lock_endings j2 r2 b2 p2) scripts e
+first_of_parts {j2 = j2} {r2 = r2} {b2 = b2} {p2 = p2} scripts e journal replica business producers is =
+    after_workers (lock_endings j2 r2 b2 p2) scripts e (rw (journal, replica, business, producers) at is)
 
-pub ends_at_workers : {A : Type 0} (endings : List Ended) (scripts : List (List Event)) (r : Result A ReplayFault) → IfErr r (IsFirstOf endings) → IfErr r (IsOfLock endings scripts)
+pub ends_at_workers : {A : Type 0} (endings : List Ended) (scripts : List (List Event)) (r : Result A ReplayFault) → IfErr r (IsFirstOf endings)
+    → IfErr r (IsOfLock endings scripts)
 ends_at_workers endings scripts (Ok x) is = tt
 ends_at_workers endings scripts (Err e) is = after_workers endings scripts e is
 
-after_audit : (endings : List Ended) (scripts : List (List Event)) (e : ReplayFault) → first_fault endings ≡ None → IsOfAudit scripts e → IsOfLock endings scripts e
+after_audit : (endings : List Ended) (scripts : List (List Event)) (e : ReplayFault) → first_fault endings ≡ None → IsOfAudit scripts e
+    → IsOfLock endings scripts e
 after_audit endings scripts (fault.File f) none is = is
 after_audit endings scripts (fault.Worker who f) none is = absurd is
 after_audit endings scripts (fault.Audit f) none is = (none, is)
 
-pub ends_at_audit : {A : Type 0} (endings : List Ended) (scripts : List (List Event)) (r : Result A ReplayFault) → first_fault endings ≡ None → IfErr r (IsOfAudit scripts) → IfErr r (IsOfLock endings scripts)
+pub ends_at_audit : {A : Type 0} (endings : List Ended) (scripts : List (List Event)) (r : Result A ReplayFault) → first_fault endings ≡ None
+    → IfErr r (IsOfAudit scripts) → IfErr r (IsOfLock endings scripts)
 ends_at_audit endings scripts (Ok x) none is = tt
 ends_at_audit endings scripts (Err e) none is = after_audit endings scripts e none is
 
-of_merge : (events : List Event) (journal replica business : Option WorkFault) (producers : List (Option WorkFault)) (e : ReplayFault) → IsOfLock (lock_endings journal replica business producers) (scripts_in events) e → IsOfMerge events e
+of_merge : (events : List Event) (journal replica business : Option WorkFault) (producers : List (Option WorkFault)) (e : ReplayFault)
+    → IsOfLock (lock_endings journal replica business producers) (scripts_in events) e → IsOfMerge events e
 of_merge events journal replica business producers (fault.File f) is = is
 of_merge events journal replica business producers (fault.Worker who f) is = (journal, replica, business, producers, is)
 of_merge events journal replica business producers (fault.Audit f) is = is.1
 
-pub ends_of_merge : {A : Type 0} (events : List Event) (scripts : List (List Event)) (journal replica business : Option WorkFault) (producers : List (Option WorkFault)) (r : Result A ReplayFault) → scripts ≡ scripts_in events → IfErr r (IsOfLock (lock_endings journal replica business producers) scripts) → IfErr r (IsOfMerge events)
+pub ends_of_merge : {A : Type 0} (events : List Event) (scripts : List (List Event)) (journal replica business : Option WorkFault) (producers : List (Option WorkFault)) (r : Result A ReplayFault)
+    → scripts ≡ scripts_in events → IfErr r (IsOfLock (lock_endings journal replica business producers) scripts) → IfErr r (IsOfMerge events)
 ends_of_merge events scripts journal replica business producers (Ok x) same is = tt
 ends_of_merge events scripts journal replica business producers (Err e) same is = of_merge events journal replica business producers e (rw same at is)
 

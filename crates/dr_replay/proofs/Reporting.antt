@@ -40,7 +40,8 @@ no_events file.Memory events known is = (0, Appends-nil known)
 no_events file.Read events known is = Keeps-refl known
 no_events file.Write events known is = absurd is
 
-pub unread : (e : FileFault) (input known : Option (List ℕ)) → IfSome input (λ bytes. FileFaultIs e (events_of bytes)) → IfSome input (λ bytes. FaultWrites e known known (replay_text bytes))
+pub unread : (e : FileFault) (input known : Option (List ℕ)) → IfSome input (λ bytes. FileFaultIs e (events_of bytes))
+    → IfSome input (λ bytes. FaultWrites e known known (replay_text bytes))
 unread e None known is = tt
 unread e (Some bytes) known is = no_events e (events_of bytes) known is
 
@@ -50,7 +51,8 @@ no_merge file.Memory events known is = no_events file.Memory events known is
 no_merge file.Read events known is = no_events file.Read events known is
 no_merge file.Write events known is = absurd is
 
-pub unmerged : (e : FileFault) (input known : Option (List ℕ)) → IfSome input (λ bytes. FileFaultIs e (events_of bytes)) → IfSome input (λ bytes. LockFaultWrites (fault.File e) known known (events_of bytes))
+pub unmerged : (e : FileFault) (input known : Option (List ℕ)) → IfSome input (λ bytes. FileFaultIs e (events_of bytes))
+    → IfSome input (λ bytes. LockFaultWrites (fault.File e) known known (events_of bytes))
 unmerged e None known is = tt
 unmerged e (Some bytes) known is = no_merge e (events_of bytes) known is
 
@@ -60,23 +62,27 @@ pub no_memory : (input known : Option (List ℕ)) → IfSome input (λ bytes. Fa
 no_memory None known = tt
 no_memory (Some bytes) known = (0, Appends-nil known)
 
-pub by_ring : (input known : Option (List ℕ)) (events : List Event) (e : ReplayFault) → IsOfWorkers ring_workers e → IfSome input (λ bytes. events_of bytes ≡ Ok events)
+pub by_ring : (input known : Option (List ℕ)) (events : List Event) (e : ReplayFault) → IsOfWorkers ring_workers e
+    → IfSome input (λ bytes. events_of bytes ≡ Ok events)
     → IfSome input (λ bytes. ReplayFaultWrites e known known (replay_text bytes))
 by_ring None known events e of_workers is = tt
-by_ring (Some bytes) known events (fault.File f) of_workers is = at_memory f (λ x. FaultWrites x known known (replay_text bytes)) of_workers (0, Appends-nil known)
+by_ring (Some bytes) known events (fault.File f) of_workers is =
+    at_memory f (λ x. FaultWrites x known known (replay_text bytes)) of_workers (0, Appends-nil known)
 by_ring (Some bytes) known events (fault.Worker who f) of_workers is = (ap (λ r. (reported r).fault) is, Keeps-refl known)
 by_ring (Some bytes) known events (fault.Audit f) of_workers is = absurd of_workers
 
 pub by_lock : (input known : Option (List ℕ)) (events : List Event) (e : ReplayFault) → IsOfMerge events e → IfSome input (λ bytes. events_of bytes ≡ Ok events)
     → IfSome input (λ bytes. LockFaultWrites e known known (events_of bytes))
 by_lock None known events e of_merge is = tt
-by_lock (Some bytes) known events (fault.File f) of_merge is = at_memory f (λ x. LockFaultWrites (fault.File x) known known (events_of bytes)) of_merge (0, Appends-nil known)
+by_lock (Some bytes) known events (fault.File f) of_merge is =
+    at_memory f (λ x. LockFaultWrites (fault.File x) known known (events_of bytes)) of_merge (0, Appends-nil known)
 by_lock (Some bytes) known events (fault.Worker who f) of_merge is = (ap (λ r. (reported r).fault) is, Keeps-refl known)
 by_lock (Some bytes) known events (fault.Audit f) of_merge is = (events, is, of_merge, Keeps-refl known)
 
 -- the report was written, or a beginning of it
 
-pub wrote_report : {old new : Option (List ℕ)} (input : Option (List ℕ)) (events : List Event) (text : List ℕ) → IfSome input (λ bytes. events_of bytes ≡ Ok events) → text ≡ report_of events → Appends old new text
+pub wrote_report : {old new : Option (List ℕ)} (input : Option (List ℕ)) (events : List Event) (text : List ℕ)
+    → IfSome input (λ bytes. events_of bytes ≡ Ok events) → text ≡ report_of events → Appends old new text
     → IfSome input (λ bytes. ((replay_text bytes).fault ≡ None) × Appends old new (joined (replay_text bytes).lines))
 wrote_report None events text is same wrote = tt
 wrote_report {old} {new} (Some bytes) events text is same wrote =
@@ -85,7 +91,8 @@ wrote_report {old} {new} (Some bytes) events text is same wrote =
     let whole : P (Ok events) = (refl, line) in
     subst P (sym is) whole
 
-pub cut_report : {old new : Option (List ℕ)} (input : Option (List ℕ)) (events : List Event) (text : List ℕ) → IfSome input (λ bytes. events_of bytes ≡ Ok events) → text ≡ report_of events → AppendsFront old new text
+pub cut_report : {old new : Option (List ℕ)} (input : Option (List ℕ)) (events : List Event) (text : List ℕ)
+    → IfSome input (λ bytes. events_of bytes ≡ Ok events) → text ≡ report_of events → AppendsFront old new text
     → IfSome input (λ bytes. AreCut old new (replay_text bytes).lines)
 cut_report None events text is same wrote = tt
 cut_report {old} {new} (Some bytes) events text is same (start, begins, wrote) =
@@ -101,12 +108,14 @@ cut_report {old} {new} (Some bytes) events text is same (start, begins, wrote) =
     } in
     subst P (sym is) here
 
-pub wrote_merge : {old new : Option (List ℕ)} (input : Option (List ℕ)) (events : List Event) (text : List ℕ) → IfSome input (λ bytes. events_of bytes ≡ Ok events) → IsReportOfMerge events text → Appends old new text
+pub wrote_merge : {old new : Option (List ℕ)} (input : Option (List ℕ)) (events : List Event) (text : List ℕ)
+    → IfSome input (λ bytes. events_of bytes ≡ Ok events) → IsReportOfMerge events text → Appends old new text
     → IfSome input (λ bytes. (found : List Event) × (said : List ℕ) × (events_of bytes ≡ Ok found) × IsReportOfMerge found said × Appends old new said)
 wrote_merge None events text is of_merge wrote = tt
 wrote_merge (Some bytes) events text is of_merge wrote = (events, text, is, of_merge, wrote)
 
-pub cut_merge : {old new : Option (List ℕ)} (input : Option (List ℕ)) (events : List Event) (text : List ℕ) → IfSome input (λ bytes. events_of bytes ≡ Ok events) → IsReportOfMerge events text → AppendsFront old new text
+pub cut_merge : {old new : Option (List ℕ)} (input : Option (List ℕ)) (events : List Event) (text : List ℕ)
+    → IfSome input (λ bytes. events_of bytes ≡ Ok events) → IsReportOfMerge events text → AppendsFront old new text
     → IfSome input (λ bytes. (found : List Event) × (said : List ℕ) × (events_of bytes ≡ Ok found) × IsReportOfMerge found said × AppendsFront old new said)
 cut_merge None events text is of_merge wrote = tt
 cut_merge (Some bytes) events text is of_merge wrote = (events, text, is, of_merge, wrote)

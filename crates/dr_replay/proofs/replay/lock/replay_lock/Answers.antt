@@ -16,7 +16,9 @@ pub returns-in_err-events-clause-bytes : goal.returns-in_err-events-clause-bytes
 returns-in_err-events-clause-bytes g c =
     let input = g.R.Read.remaining (inner_of c.args.reader.now) in
     let known = g.W.Write.contents (inner_of c.args.writer.now) in
-    at_exit c.from_residual.result (fault.File c.in_err-events.field-0.0) (λ r. IfSome input (λ bytes. LockWrites r known known (events_of bytes))) c.from_residual.ensures.1
+    at_exit c.from_residual.result (fault.File c.in_err-events.field-0.0)
+    (λ r. IfSome input (λ bytes. LockWrites r known known (events_of bytes)))
+    c.from_residual.ensures.1
     (unmerged c.in_err-events.field-0.0 input known c.in_err-events.ensures.file)
 
 pub returns-in_err-text-clause-bytes : goal.returns-in_err-text-clause-bytes
@@ -24,7 +26,9 @@ returns-in_err-text-clause-bytes g c =
     let input = g.R.Read.remaining (inner_of c.args.reader.now) in
     let known = g.W.Write.contents (inner_of c.args.writer.now) in
     let told = rw c.as_slice.ensures.value at c.in_err-text.ensures.first in
-    at_exit c.from_residual-in_err-text.result c.in_err-text.field-0.0 (λ r. IfSome input (λ bytes. LockWrites r known known (events_of bytes))) c.from_residual-in_err-text.ensures.1
+    at_exit c.from_residual-in_err-text.result c.in_err-text.field-0.0
+    (λ r. IfSome input (λ bytes. LockWrites r known known (events_of bytes)))
+    c.from_residual-in_err-text.ensures.1
     (by_lock input known c.in_ok-events.events.items c.in_err-text.field-0.0 told c.in_ok-events.ensures.file)
 
 pub returns-in_err-write_text-clause-bytes : goal.returns-in_err-write_text-clause-bytes
@@ -33,7 +37,9 @@ returns-in_err-write_text-clause-bytes g c =
     let old = g.W.Write.contents (inner_of c.args.writer.now) in
     let new = g.W.Write.contents (inner_of c.write_text.new.writer) in
     let said = is_of_merge c.as_slice.ensures.value c.as_bytes.ensures.value c.in_ok-text.ensures.text in
-    at_exit c.from_residual-in_err-write_text.result (fault.File file.Write) (λ r. IfSome input (λ bytes. LockWrites r old new (events_of bytes))) c.from_residual-in_err-write_text.ensures.1
+    at_exit c.from_residual-in_err-write_text.result (fault.File file.Write)
+    (λ r. IfSome input (λ bytes. LockWrites r old new (events_of bytes)))
+    c.from_residual-in_err-write_text.ensures.1
     (cut_merge input c.in_ok-events.events.items c.as_bytes.result.now c.in_ok-events.ensures.file said c.in_err-write_text.ensures.0)
 
 pub returns-clause-bytes : goal.returns-clause-bytes

@@ -18,7 +18,9 @@ pub returns-in_err-text-clause-bytes : goal.returns-in_err-text-clause-bytes
 returns-in_err-text-clause-bytes g c =
     let input = g.R.Read.remaining (inner_of c.args.reader.now) in
     let known = g.W.Write.contents (inner_of c.args.writer.now) in
-    at_exit c.from_residual-in_err-text.result file.Memory (λ r. IfSome input (λ bytes. Writes r known known (replay_text bytes))) c.from_residual-in_err-text.ensures.1 (no_memory input known)
+    at_exit c.from_residual-in_err-text.result file.Memory
+    (λ r. IfSome input (λ bytes. Writes r known known (replay_text bytes)))
+    c.from_residual-in_err-text.ensures.1 (no_memory input known)
 
 pub returns-in_err-write_text-clause-bytes : goal.returns-in_err-write_text-clause-bytes
 returns-in_err-write_text-clause-bytes g c =
@@ -26,7 +28,9 @@ returns-in_err-write_text-clause-bytes g c =
     let old = g.W.Write.contents (inner_of c.args.writer.now) in
     let new = g.W.Write.contents (inner_of c.write_text.new.writer) in
     let same = c.as_bytes.ensures.value ∙ c.in_ok-text.ensures ∙ ap report_of c.as_slice.ensures.value in
-    at_exit c.from_residual-in_err-write_text.result file.Write (λ r. IfSome input (λ bytes. Writes r old new (replay_text bytes))) c.from_residual-in_err-write_text.ensures.1
+    at_exit c.from_residual-in_err-write_text.result file.Write
+    (λ r. IfSome input (λ bytes. Writes r old new (replay_text bytes)))
+    c.from_residual-in_err-write_text.ensures.1
     (cut_report input c.in_ok-events.events.items c.as_bytes.result.now c.in_ok-events.ensures.file same c.in_err-write_text.ensures.0)
 
 pub returns-clause-bytes : goal.returns-clause-bytes
