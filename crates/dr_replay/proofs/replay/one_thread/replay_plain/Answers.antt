@@ -4,23 +4,8 @@ use Rattle.dr_files.specs.Counting.{inner_of}
 use Rattle.dr_files.specs.Outcome.{Writes}
 use Rattle.dr_files.specs.declared.fault.FileFault.TheVariants as file
 use Rattle.dr_replay.specs.Calls.Replayed.{replay_text}
-use Rattle.dr_replay.proofs.Reporting.{at_exit, cut_report, no_memory, unread, wrote_report}
+use Rattle.dr_replay.proofs.Reporting.{at_exit, cut_report}
 use Rattle.dr_replay.proofs.replay.one_thread.replay_plain.Goals as goal
-
-pub returns-in_err-events-clause-bytes : goal.returns-in_err-events-clause-bytes
-returns-in_err-events-clause-bytes g c =
-    let input = g.R.Read.remaining (inner_of c.args.reader.now) in
-    let known = g.W.Write.contents (inner_of c.args.writer.now) in
-    at_exit c.from_residual.result c.in_err-events.field-0.0 (λ r. IfSome input (λ bytes. Writes r known known (replay_text bytes))) c.from_residual.ensures.1
-    (unread c.in_err-events.field-0.0 input known c.in_err-events.ensures.file)
-
-pub returns-in_err-text-clause-bytes : goal.returns-in_err-text-clause-bytes
-returns-in_err-text-clause-bytes g c =
-    let input = g.R.Read.remaining (inner_of c.args.reader.now) in
-    let known = g.W.Write.contents (inner_of c.args.writer.now) in
-    at_exit c.from_residual-in_err-text.result file.Memory
-    (λ r. IfSome input (λ bytes. Writes r known known (replay_text bytes)))
-    c.from_residual-in_err-text.ensures.1 (no_memory input known)
 
 pub returns-in_err-write_text-clause-bytes : goal.returns-in_err-write_text-clause-bytes
 returns-in_err-write_text-clause-bytes g c =
@@ -32,9 +17,3 @@ returns-in_err-write_text-clause-bytes g c =
     (λ r. IfSome input (λ bytes. Writes r old new (replay_text bytes)))
     c.from_residual-in_err-write_text.ensures.1
     (cut_report input c.in_ok-events.events.items c.as_bytes.result.now c.in_ok-events.ensures.file same c.in_err-write_text.ensures.0)
-
-pub returns-clause-bytes : goal.returns-clause-bytes
-returns-clause-bytes g c =
-    let input = g.R.Read.remaining (inner_of c.args.reader.now) in
-    let same = c.as_bytes.ensures.value ∙ c.in_ok-text.ensures ∙ ap report_of c.as_slice.ensures.value in
-    wrote_report input c.in_ok-events.events.items c.as_bytes.result.now c.in_ok-events.ensures.file same c.in_ok-write_text.ensures.0
