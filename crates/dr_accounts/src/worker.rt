@@ -77,14 +77,7 @@ pub fn work<R: Wait, G: Gate, P: Reporter>(
     let mut handler = P::begin(alloc);
     let mut buf = [Event::NONE; BATCH];
     let room = room.min(BATCH);
-    let fault = consume(
-        rt,
-        &mut receiver,
-        gate,
-        who,
-        &mut handler,
-        &mut buf[..room],
-    );
+    let fault = consume(rt, &mut receiver, gate, who, &mut handler, &mut buf[..room]);
     let part = match (part(&handler, alloc), fault) {
         (Err(_), _) => Err(WorkFault::Memory),
         (Ok(_), Some(fault)) => Err(fault),
