@@ -20,12 +20,12 @@ pub record HasCome (first : Exchange) (k : ℕ) (all : List Record) (exchange : 
   pub from : (phase : Phase) → ShowsPhase first phase → (s : Phase) × ShowsPhase exchange s × Progress (text_from k phase all) j s left old now
 
 -- an exchange obeyed a record, and the line of it was written
-pub written : {first exchange : Exchange} {row : Record} {line bytes : List ℕ} {old new : Option (List ℕ)}
+pub written : {first exchange : Exchange} {line bytes : List ℕ} (row : Record) (old new : Option (List ℕ))
     → ((names : List Field) (c : Setup) (m : State) → ExchangeShows first names c m → IsObeyed exchange line (obeys names c m (command_of names row)))
     → bytes ≡ line → Appends old new bytes
     → (phase : Phase) → ShowsPhase first phase → (did : Taken) × (taken phase row ≡ Ok did) × ShowsPhase exchange did.phase × Appends old new (joined (option_to_list did.line))
-written obeyed same wrote (Preparing stage) shown = absurd shown
-written {line} {old} {new} obeyed same wrote (Running names c m) shown =
+written row old new obeyed same wrote (Preparing stage) shown = absurd shown
+written {line} row old new obeyed same wrote (Running names c m) shown =
     let did = obeyed names c m shown in
     (record { phase = Running did.names did.setup did.state; line = Some line }, did.is, did.shows, subst (Appends old new) (same ∙ sym (append-nil line)) wrote)
 

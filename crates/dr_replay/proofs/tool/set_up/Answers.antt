@@ -12,7 +12,7 @@ pub returns-in-Err : goal.returns-in-Err
 returns-in-Err c =
     let at = c.loop-at in
     let first = rw (c.in_ok-row.was, c.in-Some.is) at c.next.follows.holds-at-none in
-    rw c.fault_of.ensures (setup-fails c.in-Err.fault (rows_left c.args.rows.now) at.k (stage_of at.at) (rows_left at.rows) (fields_of c.in-Some.row.now) _ at.invariant.says first c.in-Err.ensures)
+    rw c.at.ensures (setup-fails c.in-Err.fault (rows_left c.args.rows.now) at.k (stage_of at.at) (rows_left at.rows) (fields_of c.in-Some.row.now) _ at.invariant.says first c.in-Err.ensures)
 
 pub loop-at-preserved : goal.loop-at-preserved
 loop-at-preserved c =

@@ -16,4 +16,4 @@ returns-in_err-write_text-clause-bytes g c =
     at_exit c.from_residual-in_err-write_text.result (fault.File file.Write)
     (λ r. IfSome input (λ bytes. ReplayWrites r old new (replay_text bytes)))
     c.from_residual-in_err-write_text.ensures.1
-    (cut_report input c.in_ok-events.events.items c.as_bytes.result.now c.in_ok-events.ensures.file same c.in_err-write_text.ensures.0)
+    (cut_report old new input c.in_ok-events.events.items c.as_bytes.result.now c.in_ok-events.ensures.file same c.in_err-write_text.ensures.0)
