@@ -53,6 +53,7 @@ fn read_plan(rt: &HostRuntime) -> Result<Plan, LineFault> {
 }
 
 /// What is run over a file.
+#[derive(Drop)]
 enum Tool {
     Drive,
     Replay { size: Size, by: By },
