@@ -1,9 +1,9 @@
 #!/usr/bin/env python3
-"""Refuses each request for memory in turn.
+"""Refuses each request for memory in turn, in the program and in calls of the library.
 
-    tests/hostile/refused.py PROGRAM
+    tests/hostile/refused.py PROGRAM CALLS
 
-Each case runs once with its first request refused, once with its
+PROGRAM is `disruptor`, and CALLS `disruptor_hostile`. Each case runs once with its first request refused, once with its
 second, and so on, until a run meets no refusal. refusing.c is what refuses; it stands before the C library's allocator.
 The script prints a line for each failure, and then a count; its status is 0 where none failed.
 """
@@ -22,6 +22,9 @@ from run import HERE, NO_MEMORY, WAYS, Ran
 sys.path.append(os.path.join(os.path.dirname(HERE), "second_reading"))
 from merging import merged_like  # noqa: E402
 
+# The calls of the library, and those of them that take no memory once something is open.
+CALLS = ("builder", "build", "open", "record", "ring", "run", "call", "audit")
+TAKING_NONE = ("core", "ends", "kept")
 
 DIAMOND = """ring,2,single
 with,journal,replica
@@ -161,6 +164,17 @@ def kind_by_lock(ran, _whole):
     return "whole" if ran == merged_like(ran, OPERATIONS.encode()) else ran == NO_MEMORY and "no-memory"
 
 
+def kind_of_calls(ran, whole):
+    """A call that was told to have run out of memory is made again, and then gives what it would have given at first."""
+    if ran == whole:
+        return "whole"
+    told = ran.out.splitlines(keepends=True)
+    if told.count(b"no-memory\n") == 1:
+        told.remove(b"no-memory\n")
+        return ran._replace(out=b"".join(told)) == whole and "made again"
+    return is_beginning(ran, whole) and "no-memory"
+
+
 def refuse_in_drive(refusing, program):
     for name, text in (("the diamond", DIAMOND), ("every record", EVERY_RECORD)):
         words = [program, "drive", refusing.file("drive.csv", text)]
@@ -178,12 +192,30 @@ def refuse_in_replays(refusing, program):
         refusing.judge(f"replay by {way} at size {size}, out of memory", kinds["no-memory"], kinds)
 
 
+def refuse_in_calls(refusing, calls):
+    for case in CALLS:
+        kinds = refusing.refuse_each(f"calls of case {case}", [calls, case], kind_of_calls)
+        refusing.judge(f"calls of case {case}, made again", kinds["made again"], kinds)
+
+
+def refuse_all_once_open(refusing, calls):
+    """The one request that a case makes once it has said that it is open is its last line's."""
+    for case in TAKING_NONE:
+        whole, met = refusing.run([calls, case]).ran, refusing.run([calls, case], once_told=1)
+        refused = whole._replace(out=whole.out.removesuffix(b"\nmemory\n") + b"\nno-memory\n")
+        opens = whole.status == 0 and whole.out.startswith(b"open\n") and whole.out.endswith(b"\nmemory\n")
+        holds = opens and met.ran == refused and met.requests == met.refused == 1
+        refusing.judge(f"calls of case {case}, all memory refused once it is open", holds, (met, whole))
+
+
 def main():
-    program = os.path.abspath(sys.argv[1])
+    program, calls = map(os.path.abspath, sys.argv[1:3])
     with tempfile.TemporaryDirectory(prefix="refused-") as folder:
         refusing = Refusing(folder)
         refuse_in_drive(refusing, program)
         refuse_in_replays(refusing, program)
+        refuse_in_calls(refusing, calls)
+        refuse_all_once_open(refusing, calls)
     print(f"{program}: {refusing.cases} cases with memory refused, {refusing.failed} failed")
     return 1 if refusing.failed else 0
 
