@@ -77,7 +77,7 @@ run 0 "$accounts" '' replay --size=65536 --by plain accounts.csv
 for size in 1 2 4 1024; do
     run 0 "$accounts" '' replay --by ring --size $size accounts.csv
 done
-for way in ring; do
+for way in ring lock; do
     run 0 "$(printf '%s\n' 'journal 3' 0,0,deposit,1,100 1,0,withdraw,1,40 2,0,withdraw,1,500 \
         'replica 3' 0001000100000064 0002000100000028 00020001000001f4 'business 3' 1,60,1)"$'\n' '' replay --by $way three_events.csv
     run_text "replay --by $way" $'0,deposit,1,100\n0,deposit,1\n' 2 '' $'record 2: bad record\n'

@@ -1,11 +1,11 @@
 #!/usr/bin/env python3
-"""Refuses each request for memory in turn.
+"""Refuses each request for memory in turn, and each start of a thread.
 
     tests/hostile/refused.py PROGRAM
 
-Each case runs once with its first request refused, once with its
-second, and so on, until a run meets no refusal. refusing.c is what refuses; it stands before the C library's allocator.
-The script prints a line for each failure, and then a count; its status is 0 where none failed.
+Each case runs once with its first request refused, once with its second, and so on, until a run meets no refusal.
+refusing.c is what refuses; it stands before the C library. The script prints a line for each failure, and then a
+count; its status is 0 where none failed.
 """
 
 import itertools
@@ -17,11 +17,7 @@ import sys
 import tempfile
 from collections import Counter, namedtuple
 
-from run import HERE, NO_MEMORY, WAYS, Ran
-
-sys.path.append(os.path.join(os.path.dirname(HERE), "second_reading"))
-from merging import merged_like  # noqa: E402
-
+from run import HERE, NO_MEMORY, WAYS, Ran, merged_like
 
 DIAMOND = """ring,2,single
 with,journal,replica
@@ -71,6 +67,11 @@ OPERATIONS = """0,deposit,1,100
 2,transfer,1,8,71
 0,withdraw,7,30
 """
+# The same of one producer, so that by lock too there is one order.
+OF_ONE = OPERATIONS.replace("2,transfer", "0,transfer")
+# How many threads a replay of OPERATIONS starts: one for each of three handlers, and by lock one for each of the
+# producers 0, 1 and 2.
+THREADS = {"ring": 3, "lock": 6}
 
 Met = namedtuple("Met", "ran requests refused")
 
@@ -122,12 +123,12 @@ class Refusing:
             self.failed += 1
             print(f"FAILED: {name}: {str(found)[:400]}")
 
-    def refuse_each(self, name, words, kind_of):
+    def refuse_each(self, name, words, kind_of, **refusing):
         """Refuses each request in turn. `kind_of` names what a run is, beside a run in which nothing is refused: `whole`,
         another word, or nothing where it is wrong. It returns how many runs there were of each kind."""
-        whole, kinds = self.run(words).ran, Counter()
+        whole, kinds = self.run(words, **refusing).ran, Counter()
         for at in itertools.count(1):
-            met = self.run(words, at=at)
+            met = self.run(words, at=at, **refusing)
             kind = kind_of(met.ran, whole)
             if not kind or met.refused > 1 or (not met.refused and kind != "whole"):
                 self.judge(f"{name}, request {at} refused", False, (met, whole))
@@ -158,7 +159,7 @@ def kind_of_replay(ran, whole):
 
 def kind_by_lock(ran, _whole):
     """By lock the report is that of some order of the events that keeps each producer's."""
-    return "whole" if ran == merged_like(ran, OPERATIONS.encode()) else ran == NO_MEMORY and "no-memory"
+    return kind_of_replay(ran, merged_like(ran, OPERATIONS.encode()))
 
 
 def refuse_in_drive(refusing, program):
@@ -178,13 +179,34 @@ def refuse_in_replays(refusing, program):
         refusing.judge(f"replay by {way} at size {size}, out of memory", kinds["no-memory"], kinds)
 
 
+def refuse_in_replay_of_one(refusing, program):
+    """By lock too the events of one producer give the report that plain writes."""
+    file = refusing.file("one.csv", OF_ONE)
+    plain = refusing.run([program, "replay", file]).ran
+    words = [program, "replay", "--by", "lock", "--size", "1", file]
+    kinds = refusing.refuse_each("replay of one producer by lock", words, lambda ran, _whole: kind_of_replay(ran, plain))
+    refusing.judge("replay of one producer by lock, out of memory", plain.status == 0 and kinds["no-memory"], kinds)
+
+
+def refuse_threads(refusing, program):
+    """Where a thread cannot be started, the program says so as where memory runs out, and ends."""
+    file = refusing.file("threads.csv", OPERATIONS)
+    for way, threads in THREADS.items():
+        words = [program, "replay", "--by", way, "--size", "1", file]
+        kind_of = kind_by_lock if way == "lock" else kind_of_replay
+        kinds = refusing.refuse_each(f"replay by {way}, a thread", words, kind_of, threads=1)
+        refusing.judge(f"replay by {way}, how many threads", kinds == {"no-memory": threads}, kinds)
+
+
 def main():
     program = os.path.abspath(sys.argv[1])
     with tempfile.TemporaryDirectory(prefix="refused-") as folder:
         refusing = Refusing(folder)
         refuse_in_drive(refusing, program)
         refuse_in_replays(refusing, program)
-    print(f"{program}: {refusing.cases} cases with memory refused, {refusing.failed} failed")
+        refuse_in_replay_of_one(refusing, program)
+        refuse_threads(refusing, program)
+    print(f"{program}: {refusing.cases} cases with memory or threads refused, {refusing.failed} failed")
     return 1 if refusing.failed else 0
 
 

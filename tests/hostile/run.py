@@ -17,12 +17,15 @@ from collections import namedtuple
 from contextlib import suppress
 
 HERE = os.path.dirname(os.path.abspath(__file__))
+sys.path.append(os.path.join(os.path.dirname(HERE), "second_reading"))
+from merging import merged_like  # noqa: E402
+
 ESCAPE = re.compile(rb"\\(?:x([0-9a-f]{2})|([0rnt\\]))")
 ESCAPED = {b"0": b"\0", b"r": b"\r", b"n": b"\n", b"t": b"\t", b"\\": b"\\"}
 REPEATED = re.compile(rb"\{(\d+)\*([^}]*)\}")
 
 # The ways of a replay.
-WAYS = ("plain", "ring")
+WAYS = ("plain", "ring", "lock")
 
 Case = namedtuple("Case", "name text wanted")
 Ran = namedtuple("Ran", "status out err")
@@ -82,12 +85,22 @@ class Bench:
 # Files.
 
 
+def wanted_by_lock(ran, wanted):
+    """By lock the events of several producers come in some order that keeps each producer's."""
+    journal = wanted.out.partition(b"\nreplica ")[0].splitlines()[1:]
+    records = [line.partition(b",")[2] for line in journal]
+    if len({record.partition(b",")[0] for record in records}) < 2:
+        return wanted
+    return merged_like(ran, b"\n".join(records))
+
+
 def run_tables(bench):
     for tool in ("drive", *(f"replay --by={way}" for way in WAYS)):
         words = tool.split()
         for case in cases_of(f"{words[0]}.txt"):
             ran = bench.run(*words, bench.file("hostile.csv", case.text))
-            bench.judge(f"{tool} of {case.name}", ran, case.wanted)
+            wanted = wanted_by_lock(ran, case.wanted) if "lock" in tool else case.wanted
+            bench.judge(f"{tool} of {case.name}", ran, wanted)
 
 
 # Little memory.

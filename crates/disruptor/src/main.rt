@@ -3,7 +3,8 @@
 #![tactic(auto)]
 
 use dr_replay::{
-    By, Counted, DriveFault, LineFault, Plan, ReplayFault, drive, plan, replay_plain, replay_ring,
+    By, Counted, FileFault, LineFault, Plan, ReplayFault, drive, plan, replay_lock, replay_plain,
+    replay_ring,
 };
 use dr_seq::Size;
 use dr_shared::OpenGate;
@@ -18,20 +19,23 @@ use thiserror::Error;
 /// Why the program ends early.
 #[derive(Debug, Drop, Error)]
 enum Fault {
+    /// The command line is refused.
     #[error("{0}")]
     Line(LineFault),
+    /// The help could not be printed.
+    #[error("cannot write")]
+    Help,
+    /// A file, or a worker that took part in its run.
     #[error("{0}")]
-    Drive(DriveFault),
-    #[error("{0}")]
-    Replay(ReplayFault),
+    File(ReplayFault),
 }
 
 impl Fault {
     fn status(&self) -> u8 {
         match self {
             Fault::Line(fault) => fault.status(),
-            Fault::Drive(fault) => fault.status(),
-            Fault::Replay(fault) => fault.status(),
+            Fault::Help => 4,
+            Fault::File(fault) => fault.status(),
         }
     }
 }
@@ -48,66 +52,61 @@ fn read_plan(rt: &HostRuntime) -> Result<Plan, LineFault> {
     plan(rt.alloc(), words.as_slice())
 }
 
-// Standard output is counted below its buffer too, so that the buffer, which writes out what it
-// still holds when it is let go, leaves it alone once it failed.
-fn drive_file(rt: &HostRuntime, file: &str) -> Result<(), DriveFault> {
-    let Ok(file) = File::open(rt, file) else {
-        return Err(DriveFault::Read);
-    };
-    let Ok(output) = BufWriter::new(rt.alloc(), Counted::new(io::writer(rt))) else {
-        return Err(DriveFault::Memory);
-    };
-    let mut reader = Counted::new(file);
-    let mut writer = Counted::new(output);
-    let driven = drive(rt.alloc(), &mut reader, &mut writer);
-    let flushed = writer.flush();
-    driven?;
-    if flushed.is_err() {
-        return Err(DriveFault::Write);
-    }
-    Ok(())
+/// What is run over a file.
+#[derive(Drop)]
+enum Tool {
+    Drive,
+    Replay { size: Size, by: By },
 }
 
-// `workers` starts and joins the threads.
-fn replay_file<T: Threads + Wait + Sync>(
+// Runs a tool over a file; `workers` starts and joins the threads. Standard output is counted below
+// its buffer too, so that the buffer, which writes out what it still holds when it is let go, leaves
+// it alone once it failed.
+fn run_file<T: Threads + Wait + Sync>(
     rt: &HostRuntime,
     workers: &T,
     file: &str,
-    size: Size,
-    by: By,
+    tool: Tool,
 ) -> Result<(), ReplayFault> {
-    let Ok(file) = File::open(rt, file) else {
-        return Err(ReplayFault::Read);
-    };
-    let Ok(output) = BufWriter::new(rt.alloc(), Counted::new(io::writer(rt))) else {
-        return Err(ReplayFault::Memory);
-    };
     let alloc = rt.alloc();
+    let Ok(file) = File::open(rt, file) else {
+        return Err(ReplayFault::File(FileFault::Read));
+    };
+    let Ok(output) = BufWriter::new(alloc, Counted::new(io::writer(rt))) else {
+        return Err(ReplayFault::File(FileFault::Memory));
+    };
     let mut reader = Counted::new(file);
     let mut writer = Counted::new(output);
-    let replayed = match by {
-        By::Plain => replay_plain(alloc, &mut reader, &mut writer, size),
-        By::Ring => replay_ring(workers, alloc, &mut reader, &mut writer, size, &OpenGate),
+    let ran = match tool {
+        Tool::Drive => drive(alloc, &mut reader, &mut writer).map_err(ReplayFault::File),
+        Tool::Replay { size, by } => match by {
+            By::Plain => {
+                replay_plain(alloc, &mut reader, &mut writer, size).map_err(ReplayFault::File)
+            }
+            By::Lock => replay_lock(workers, alloc, &mut reader, &mut writer, size, &OpenGate),
+            By::Ring => replay_ring(workers, alloc, &mut reader, &mut writer, size, &OpenGate),
+        },
     };
     let flushed = writer.flush();
-    replayed?;
+    ran?;
     if flushed.is_err() {
-        return Err(ReplayFault::Write);
+        return Err(ReplayFault::File(FileFault::Write));
     }
     Ok(())
 }
 
 fn run<T: Threads + Wait + Sync>(rt: &HostRuntime, workers: &T) -> Result<(), Fault> {
-    match read_plan(rt).map_err(Fault::Line)? {
-        Plan::Help(text) => match rt.print(text) {
-            Ok(()) => Ok(()),
-            Err(_) => Err(Fault::Drive(DriveFault::Write)),
-        },
-        Plan::Drive { file } => drive_file(rt, file.as_str()).map_err(Fault::Drive),
-        Plan::Replay { file, size, by } => {
-            replay_file(rt, workers, file.as_str(), size, by).map_err(Fault::Replay)
+    let (file, tool) = match read_plan(rt).map_err(Fault::Line)? {
+        Plan::Help(text) => {
+            return match rt.print(text) {
+                Ok(()) => Ok(()),
+                Err(_) => Err(Fault::Help),
+            };
         }
-    }
+        Plan::Drive { file } => (file, Tool::Drive),
+        Plan::Replay { file, size, by } => (file, Tool::Replay { size, by }),
+    };
+    run_file(rt, workers, file.as_str(), tool).map_err(Fault::File)
 }
 
 fn main(rt: HostRuntime) -> ExitCode {

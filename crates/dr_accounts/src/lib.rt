@@ -21,7 +21,7 @@ pub use business::Business;
 pub use journal::Journal;
 pub use operation::{Movement, Operation};
 pub use replica::Replica;
-pub use reporter::Reporter;
+pub use reporter::{Reporter, part};
 pub use through_core::report_by_core;
 pub use topology::graph;
 pub use worker::{PartOf, Worked, work};

@@ -5,7 +5,7 @@ ghost use Rattle.dr_core.specs.Machine.{opening};
 ghost use Rattle.dr_core.specs.Shows.{Shows};
 ghost use Rattle.dr_accounts.specs.Passing.{replay_graph, replay_setup};
 
-use dr_core::{Core, MAX_LIMIT, Mode, OpenFault};
+use dr_core::{Core, MAX_LIMIT, Mode};
 use dr_graph::laws::one_graph;
 use dr_graph::{Graph, GraphBuilder};
 use dr_seq::Size;
@@ -30,17 +30,12 @@ pub fn graph(alloc: Global) -> Result<Graph, AllocError>
     }
 }
 
-/// Opens the exchange with one producer and as many sequences as there may be. An error is want of
-/// memory.
+/// Opens the exchange with one producer and as many sequences as there may be. An error is that
+/// memory ran out.
 pub fn open(alloc: Global, size: Size) -> Result<Core, AllocError>
     ensures setup { IfOk result (λ core. core.setup ≡ replay_setup size) }
     ensures opening { IfOk result (λ core. Shows core (opening (replay_setup size))) }
 {
     let graph = graph(alloc)?;
-    match Core::open(alloc, graph, size, Mode::Single, MAX_LIMIT) {
-        Ok(core) => Ok(core),
-        Err(OpenFault::NoMemory) => Err(AllocError),
-        Err(OpenFault::BadProducers) => unreachable!(),
-        Err(OpenFault::BadLimit) => unreachable!(),
-    }
+    Core::open_valid(alloc, graph, size, Mode::Single, MAX_LIMIT)
 }

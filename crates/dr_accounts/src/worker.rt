@@ -62,20 +62,22 @@ impl<P: Reporter> Promise<Worked> for PartOf<P> {
     ghost kept_by = { λ p r. Keeps P.part_of p.end.value r };
 }
 
-/// Takes a new handler through all events of an end. A handler that finds no memory holds up no
-/// other worker: it goes on without taking any more.
+/// Takes a new handler through all events of an end, at most `room` of them and 256 at once. A
+/// handler that finds no memory holds up no other worker: it goes on without taking any more.
 pub fn work<R: Wait, G: Gate, P: Reporter>(
     rt: &R,
     gate: &G,
     who: usize,
     mut receiver: Receiver,
+    room: usize,
     alloc: Global,
 ) -> Worked
     ensures { Keeps P.part_of receiver result }
 {
     let mut handler = P::begin(alloc);
     let mut buf = [Event::NONE; BATCH];
-    let fault = consume(rt, &mut receiver, gate, who, &mut handler, &mut buf);
+    let room = room.min(BATCH);
+    let fault = consume(rt, &mut receiver, gate, who, &mut handler, &mut buf[..room]);
     let part = match (part(&handler, alloc), fault) {
         (Err(_), _) => Err(WorkFault::Memory),
         (Ok(_), Some(fault)) => Err(fault),

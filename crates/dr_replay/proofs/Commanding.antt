@@ -1,19 +1,33 @@
 -- A run of commands: how far it has come, and how it ends.
-use Rattle.std.proofs.Common.{◌≡◌, ◌+◌, ◌∷◌, ℕ, List, [], Option, Some, None, Ok, refl, subst, ◌∙◌}
+use Rattle.std.proofs.Common.{◌≡◌, ◌+◌, ◌∷◌, ℕ, List, [], Option, Some, None, Ok, refl, sym, subst, append-nil, ◌∙◌}
 use Rattle.std.specs.Prelude.{option_to_list}
 use Rattle.std.specs.Io.KnownBytes.{Appends, Keeps}
-use Rattle.dr_replay.specs.Records.{Record}
-use Rattle.dr_replay.specs.DriveText.{Phase, Preparing, Running, Taken, end_fault, joined, taken, text_from}
-use Rattle.dr_replay.specs.Outcome.{CommandFaultTells, FaultWrites}
-use Rattle.dr_replay.specs.Tells.{ShowsPhase}
+use Rattle.dr_core.specs.Machine.{Setup, State}
+use Rattle.dr_replay.specs.Meaning.Records.{Field, Record}
+use Rattle.dr_replay.specs.Meaning.Commands.{command_of}
+use Rattle.dr_replay.specs.Meaning.DriveText.{Phase, Preparing, Running, Taken, end_fault, obeys, taken, text_from}
+use Rattle.dr_files.specs.Lines.{joined}
+use Rattle.dr_files.specs.Outcome.{FaultWrites}
+use Rattle.dr_replay.specs.Inside.Shows.{ExchangeShows, IsObeyed}
+use Rattle.dr_replay.specs.Inside.Tells.{CommandFaultTells, ShowsPhase}
 use Rattle.dr_replay.specs.declared.exchange.Exchange.{Exchange}
-use Rattle.dr_replay.specs.declared.fault.DriveFault.{DriveFault}
-use Rattle.dr_replay.specs.declared.fault.DriveFault.TheVariants as fault
+use Rattle.dr_files.specs.declared.fault.FileFault.{FileFault}
+use Rattle.dr_files.specs.declared.fault.FileFault.TheVariants as fault
 use Rattle.dr_replay.proofs.Runs.{Progress, progress-end, progress-fails, progress-memory, progress-step}
 
 -- a run over all records from the k-th on has come to the j-th and those that are left, whichever phase its exchange showed at first
 pub record HasCome (first : Exchange) (k : ℕ) (all : List Record) (exchange : Exchange) (j : ℕ) (left : List Record) (old now : Option (List ℕ)) : Type 0 where
   pub from : (phase : Phase) → ShowsPhase first phase → (s : Phase) × ShowsPhase exchange s × Progress (text_from k phase all) j s left old now
+
+-- an exchange obeyed a record, and the line of it was written
+pub written : {first exchange : Exchange} {line bytes : List ℕ} (row : Record) (old new : Option (List ℕ))
+    → ((names : List Field) (c : Setup) (m : State) → ExchangeShows first names c m → IsObeyed exchange line (obeys names c m (command_of names row)))
+    → bytes ≡ line → Appends old new bytes
+    → (phase : Phase) → ShowsPhase first phase → (did : Taken) × (taken phase row ≡ Ok did) × ShowsPhase exchange did.phase × Appends old new (joined (option_to_list did.line))
+written row old new obeyed same wrote (Preparing stage) shown = absurd shown
+written {line} row old new obeyed same wrote (Running names c m) shown =
+    let did = obeyed names c m shown in
+    (record { phase = Running did.names did.setup did.state; line = Some line }, did.is, did.shows, subst (Appends old new) (same ∙ sym (append-nil line)) wrote)
 
 -- a command did its record
 pub goes-on : {first exchange after : Exchange} {k j : ℕ} {all left rest : List Record} {row : Record} {old now new : Option (List ℕ)}
@@ -29,7 +43,7 @@ goes-on {k} {j} {all} {rest} {row} {old} {now} {new} come cut obeyed = record {
 }
 
 -- a command ended the run
-pub fails : {first exchange : Exchange} {k j : ℕ} {all left rest : List Record} {row : Record} {old now : Option (List ℕ)} (f : DriveFault) (new : Option (List ℕ))
+pub fails : {first exchange : Exchange} {k j : ℕ} {all left rest : List Record} {row : Record} {old now : Option (List ℕ)} (f : FileFault) (new : Option (List ℕ))
     → HasCome first k all exchange j left old now → left ≡ row ∷ rest → ((s : Phase) → ShowsPhase exchange s → CommandFaultTells f j (taken s row) now new)
     → (phase : Phase) → ShowsPhase first phase → FaultWrites f old new (text_from k phase all)
 fails {k} {j} {all} {rest} {row} {old} {now} f new come cut told phase shown =

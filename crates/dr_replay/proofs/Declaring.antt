@@ -8,10 +8,11 @@ use Rattle.dr_graph.specs.Declaration.{Declaration, connected, declaring_fault, 
 use Rattle.dr_graph.specs.Name.{Name, is_good_name, new_names}
 use Rattle.dr_graph.specs.declared.fault.GraphFault.{GraphFault}
 use Rattle.dr_graph.specs.declared.fault.GraphFault.TheVariants as refused
-use Rattle.dr_replay.specs.declared.fault.Cause.{Cause}
-use Rattle.dr_replay.specs.declared.fault.Cause.TheVariants.{Graph}
-use Rattle.dr_replay.specs.Setup.{Declared, after_names, then_names, unless, with_edge, with_names}
-use Rattle.dr_replay.specs.Shows.{AreNames, FaultAs, legible, refused_by}
+use Rattle.dr_files.specs.declared.fault.Cause.{Cause}
+use Rattle.dr_files.specs.Faults.{refused_by}
+use Rattle.dr_files.specs.declared.fault.Cause.TheVariants.{Graph}
+use Rattle.dr_replay.specs.Meaning.Setup.{Declared, after_names, then_names, unless, with_edge, with_names}
+use Rattle.dr_replay.specs.Inside.Shows.{AreNames, FaultAs, legible}
 use Rattle.dr_replay.proofs.Legible.{accepted_names, known_names, legible_names, more_names, neither, same_declaring, same_stranger}
 
 -- what the builder refuses is the record's fault

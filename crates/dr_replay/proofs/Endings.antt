@@ -1,17 +1,27 @@
 -- How the workers of an exchange ended, and what a replay answers of it.
-use Rattle.std.proofs.Common.{◌≡◌, Result, Ok, Err, IfErr, ⊎_elim, refl, sym, ap, ◌∙◌}
+use Rattle.std.proofs.Common.{◌≡◌, List, Option, Result, Ok, Err, IfErr, ⊎_elim, refl, sym, ap, ◌∙◌}
 use Rattle.std.proofs.lemmas.Bool.{false≢true}
 use Rattle.std.specs.Prelude.{Bool, ℕ, true, false}
+use Rattle.dr_seq.specs.declared.event.Event.{Event}
+use Rattle.dr_core.specs.Machine.{handlers}
+use Rattle.dr_shared.specs.Audit.{Faults}
+use Rattle.dr_shared.specs.History.{History, IsRecorded, transcript}
+use Rattle.dr_shared.specs.declared.audit_fault.AuditFault.{AuditFault}
+use Rattle.dr_shared.specs.declared.audit_fault.AuditFault.TheVariants as audit
+use Rattle.dr_shared.specs.declared.ended.Ended.{Ended}
 use Rattle.dr_shared.specs.declared.fault.WorkFault.{WorkFault}
 use Rattle.dr_shared.specs.declared.fault.WorkFault.TheVariants as work
+use Rattle.dr_files.specs.declared.fault.FileFault.{FileFault}
+use Rattle.dr_files.specs.declared.fault.FileFault.TheVariants as file
 use Rattle.dr_replay.specs.declared.replay.fault.ReplayFault.{ReplayFault}
 use Rattle.dr_replay.specs.declared.replay.fault.ReplayFault.TheVariants as fault
 use Rattle.dr_replay.specs.declared.replay.ring.Ran.{Ran}
-use Rattle.dr_replay.specs.Workers.{IsFirstOf, IsOfWorkers, endings_of, replay_fault, ring_workers}
+use Rattle.dr_replay.specs.Meaning.Scripts.{scripts_in}
+use Rattle.dr_replay.specs.Calls.Workers.{IsFirstOf, IsMemory, IsOfAudit, IsOfLock, IsOfMerge, IsOfWorkers, audit_fault, endings_of, lock_endings, replay_fault, ring_workers}
 
 -- whether a fault may be answered for workers
 abbrev is_of_workers : ReplayFault → Bool
-is_of_workers fault.Memory = true
+is_of_workers (fault.File file.Memory) = true
 is_of_workers (fault.Worker who f) = true
 is_of_workers other = false
 
@@ -20,19 +30,60 @@ told who work.Memory = refl
 told who work.Stopped = refl
 told who (work.Refused refusal) = refl
 
-no_other : (ran : Ran) (e : ReplayFault) → is_of_workers e ≡ false → IsFirstOf (endings_of ran) e → ⊥
-no_other ran e not is = ⊎_elim
+no_other : (endings : List Ended) (e : ReplayFault) → is_of_workers e ≡ false → IsFirstOf endings e → ⊥
+no_other endings e not is = ⊎_elim
     (λ memory. false≢true (sym not ∙ ap is_of_workers memory))
     (λ first. false≢true (sym not ∙ ap is_of_workers first.2 ∙ told first.0.who first.0.fault))
     is
 
+-- of the faults of a file it can only be a lack of memory
+only_memory : (endings : List Ended) (f : FileFault) → IsFirstOf endings (fault.File f) → IsMemory f
+only_memory endings file.Memory is = tt
+only_memory endings (file.Input k cause) is = no_other endings (fault.File (file.Input k cause)) refl is
+only_memory endings file.Read is = no_other endings (fault.File file.Read) refl is
+only_memory endings file.Write is = no_other endings (fault.File file.Write) refl is
+
 of_workers : (ran : Ran) (e : ReplayFault) → IsFirstOf (endings_of ran) e → IsOfWorkers ring_workers e
-of_workers ran fault.Memory is = tt
+of_workers ran (fault.File f) is = only_memory (endings_of ran) f is
 of_workers ran (fault.Worker who f) is = (endings_of ran, refl, is)
-of_workers ran (fault.Input k) is = no_other ran (fault.Input k) refl is
-of_workers ran fault.Read is = no_other ran fault.Read refl is
-of_workers ran fault.Write is = no_other ran fault.Write refl is
+of_workers ran (fault.Audit f) is = no_other (endings_of ran) (fault.Audit f) refl is
 
 pub ends_of_workers : {A : Type 0} (ran : Ran) (r : Result A ReplayFault) → IfErr r (IsFirstOf (endings_of ran)) → IfErr r (IsOfWorkers ring_workers)
 ends_of_workers ran (Ok x) is = tt
 ends_of_workers ran (Err e) is = of_workers ran e is
+
+-- behind a lock
+
+finds : (h : History) (scripts : List (List Event)) (f : AuditFault) → IsRecorded h → Faults (transcript h) (handlers h.core.setup) scripts f
+    → IsOfAudit scripts (audit_fault f)
+finds h scripts audit.NoMemory recorded is = tt
+finds h scripts (audit.ScriptDiffers p) recorded is = (h, recorded, is)
+finds h scripts (audit.NotDrained k) recorded is = (h, recorded, is)
+
+-- an audit's fault of a recorded history
+pub audit_finds : (h : History) (given scripts : List (List Event)) (f : AuditFault) → given ≡ scripts → IsRecorded h
+    → Faults (transcript h) (handlers h.core.setup) given f → IsOfAudit scripts (audit_fault f)
+audit_finds h given scripts f same recorded is = finds h scripts f recorded (rw same at is)
+
+after_workers : (endings : List Ended) (scripts : List (List Event)) (e : ReplayFault) → IsFirstOf endings e → IsOfLock endings scripts e
+after_workers endings scripts (fault.File f) is = only_memory endings f is
+after_workers endings scripts (fault.Worker who f) is = is
+after_workers endings scripts (fault.Audit f) is = absurd (no_other endings (fault.Audit f) refl is)
+
+-- the endings that a check was given are those of the parts
+pub first_of_parts : {j j2 r r2 b b2 : Option WorkFault} {p p2 : List (Option WorkFault)} (scripts : List (List Event)) (e : ReplayFault)
+    → j ≡ j2 → r ≡ r2 → b ≡ b2 → p ≡ p2 → IsFirstOf (lock_endings j r b p) e → IsOfLock (lock_endings j2 r2 b2 p2) scripts e
+first_of_parts {j2 = j2} {r2 = r2} {b2 = b2} {p2 = p2} scripts e journal replica business producers is =
+    after_workers (lock_endings j2 r2 b2 p2) scripts e (rw (journal, replica, business, producers) at is)
+
+of_merge : (events : List Event) (journal replica business : Option WorkFault) (producers : List (Option WorkFault)) (e : ReplayFault)
+    → IsOfLock (lock_endings journal replica business producers) (scripts_in events) e → IsOfMerge events e
+of_merge events journal replica business producers (fault.File f) is = is
+of_merge events journal replica business producers (fault.Worker who f) is = (journal, replica, business, producers, is)
+of_merge events journal replica business producers (fault.Audit f) is = is.1
+
+pub ends_of_merge : {A : Type 0} (events : List Event) (scripts : List (List Event)) (journal replica business : Option WorkFault)
+    (producers : List (Option WorkFault)) (r : Result A ReplayFault) → scripts ≡ scripts_in events
+    → IfErr r (IsOfLock (lock_endings journal replica business producers) scripts) → IfErr r (IsOfMerge events)
+ends_of_merge events scripts journal replica business producers (Ok x) same is = tt
+ends_of_merge events scripts journal replica business producers (Err e) same is = of_merge events journal replica business producers e (rw same at is)

@@ -2,9 +2,9 @@
 use Rattle.std.proofs.Common.{◌≡◌, ◌+◌, ℕ, List, [], ◌∷◌, ◌++◌, Some, None, Result, Ok, Err, refl, sym, ap, ◌∙◌, append_assoc, append-nil}
 use Rattle.dr_seq.specs.declared.event.Event.{Event}
 use Rattle.dr_accounts.specs.declared.operation.Operation.{Operation}
-use Rattle.dr_replay.specs.EventFile.{events_from, events_with, operation_in}
+use Rattle.dr_replay.specs.Meaning.EventFile.{events_from, events_with, operation_in}
 use Rattle.dr_accounts.specs.Operations.{event_of}
-use Rattle.dr_replay.specs.Records.{Record}
+use Rattle.dr_replay.specs.Meaning.Records.{Record}
 
 -- what records say that come after others, which were these events
 abbrev pub preceded : List Event → Result (List Event) ℕ → Result (List Event) ℕ

@@ -5,10 +5,10 @@ use Rattle.std.proofs.Math.Seq.{take-suc}
 use Rattle.std.specs.Prelude.{bytes_eq, slice_get}
 use Rattle.std.specs.Borrow.{Bor}
 use Rattle.dr_graph.specs.Name.{Name, given}
-use Rattle.dr_replay.specs.Commands.{handler_of}
-use Rattle.dr_replay.specs.Records.{Record, field}
-use Rattle.dr_replay.specs.Setup.{names_in}
-use Rattle.dr_replay.specs.Shows.{legible}
+use Rattle.dr_replay.specs.Meaning.Commands.{handler_of}
+use Rattle.dr_replay.specs.Meaning.Records.{Record, field}
+use Rattle.dr_replay.specs.Meaning.Setup.{names_in}
+use Rattle.dr_replay.specs.Inside.Shows.{legible}
 
 same_some : {A : Type 0} (x y : A) → Some x ≡ Some y → x ≡ y
 same_some x y e = cc

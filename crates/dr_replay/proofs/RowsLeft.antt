@@ -9,8 +9,8 @@ use Rattle.csv.specs.declared.parser.Config.{Config}
 use Rattle.csv.specs.declared.reader.Reader.{Reader}
 use Rattle.csv.specs.declared.parser.State.{State}
 use Rattle.csv.specs.declared.parser.State.TheVariants as st
-use Rattle.dr_replay.specs.TextReader.{IsTextReader, ReadsRecords, TakesFirst, records_from_state}
-use Rattle.dr_replay.specs.Records.{Record, records_of}
+use Rattle.dr_replay.specs.Inside.TextReader.{IsTextReader, ReadsRecords, TakesFirst, records_from_state}
+use Rattle.dr_replay.specs.Meaning.Records.{Record, records_of}
 
 -- a record leaves no more bytes than there were
 leaves : (cfg : Config) (s : State) (fields : List (List ℕ)) (field xs : List ℕ) (p : Read) → next_record cfg s fields field xs ≡ Some p → length p.2 ≤ length xs

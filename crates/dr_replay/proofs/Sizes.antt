@@ -5,7 +5,7 @@ use Rattle.std.proofs.lemmas.Bool.{cases_Bool, eqb-true}
 use Rattle.std.proofs.lemmas.List.Folds.{list_any_at}
 use Rattle.std.proofs.lemmas.List.FromFn.{get_or-range_with_len, length-range_with_len}
 use Rattle.dr_seq.specs.Size.{IsSize}
-use Rattle.dr_replay.specs.Setup.{is_size}
+use Rattle.dr_replay.specs.Meaning.Setup.{is_size}
 
 found : (n a k : ℕ) → list_any (λ e. n == 2 ^ e) (range_with_len a k) ≡ true → (e : ℕ) × (e < a + k) × (n ≡ 2 ^ e)
 found n a zero h = let clash : false ≡ true = h in cc

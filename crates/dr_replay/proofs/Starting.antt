@@ -10,10 +10,11 @@ use Rattle.dr_graph.specs.Order.{HasCycle}
 use Rattle.dr_graph.specs.Placing.{FindsGraph, graph_of}
 use Rattle.dr_graph.specs.declared.fault.GraphFault.{GraphFault}
 use Rattle.dr_graph.specs.declared.fault.GraphFault.TheVariants.{Cycle, NoHandlers, NoMemory}
-use Rattle.dr_replay.specs.declared.fault.Cause.TheVariants.{Graph}
+use Rattle.dr_files.specs.Faults.{refused_by}
+use Rattle.dr_files.specs.declared.fault.Cause.TheVariants.{Graph}
 use Rattle.dr_replay.specs.declared.setup.ring_records.Ring.{Ring}
-use Rattle.dr_replay.specs.Setup.{Opens, opened, started}
-use Rattle.dr_replay.specs.Shows.{FaultAs, refused_by, ring_setup}
+use Rattle.dr_replay.specs.Meaning.Setup.{Opens, opened, started}
+use Rattle.dr_replay.specs.Inside.Shows.{FaultAs, ring_setup}
 use Rattle.dr_replay.proofs.Declaring.{at, refused_as}
 
 -- with handlers, the graph decides

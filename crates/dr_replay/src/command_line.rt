@@ -1,6 +1,6 @@
 //! The command line, read.
 
-use crate::planned::{By, LineFault, Plan};
+use crate::plans::{By, LineFault, Plan};
 use clap::error::ErrorKind;
 use clap::{Arg, ArgMatches, Command, Error, value_parser};
 use dr_seq::Size;
@@ -21,13 +21,17 @@ A file sets up a ring, its limit and its handlers, and then gives commands:
   ring,4,single       a ring of 4 slots and one producer; ring,4,multi,2 has two
   limit,1000          at most 1000 sequences (may be left out)
   with,a,b            two handlers, with the names a and b
+  then,c              a handler c, which follows both of them
+  after,a             the next handlers follow a alone
+  then,d              so d follows a
+  edge,d,c            and c follows d too
   start
   claim,0,1           producer 0 claims 1 sequence
   write,0,0,42        producer 0 writes 42 to sequence 0
   publish,0,0,0       producer 0 publishes the sequences from 0 to 0
   poll,a,8            handler a takes at most 8 events
   complete,a,1        handler a has done with the first 1 event
-  retire,b            handler b takes no more, and claims do not wait for it
+  retire,c            handler c takes no more, and claims do not wait for it
   halt                no more claims
 
 It prints:
@@ -41,7 +45,7 @@ It prints:
   halting
 
 It ends with 0 where all is done, 1 where the command line is at fault, 2 where
-the file is at fault, 3 for want of memory and 4 where reading or writing failed.";
+the file is at fault, 3 if memory runs out and 4 where reading or writing failed.";
 
 const REPLAY: &str = "Replay a file of account movements, and print a report of them";
 
@@ -50,10 +54,10 @@ const EVENTS: &str = "The file of movements, one record a line";
 const SIZE: &str = "How many slots the ring has: a power of two from 1 to 65536";
 
 const BY: &str =
-    "By which exchange: plain is one core on one thread, ring has a thread for each handler";
+    "By which exchange: plain is one core on one thread, lock has a thread for each producer and each handler, ring has one for each handler";
 
 /// The ways of a replay.
-const WAYS: &[&str] = &["plain", "ring"];
+const WAYS: &[&str] = &["plain", "lock", "ring"];
 
 /// The ring's size where the command line gives none.
 const USUAL_SIZE: u64 = 1024;
@@ -84,8 +88,8 @@ its number, its balance, and how many movements it was refused.
   7,30,0
 
 It ends with 0 where all is done, 1 where the command line is at fault, 2 where
-the file is at fault, 3 for want of memory, 4 where reading or writing failed and
-5 where a worker was refused or stopped.";
+the file is at fault, 3 if memory runs out, 4 where reading or writing failed and
+5 where a worker was refused or stopped, or an audit found the history amiss.";
 
 fn replay_command<'a>(alloc: Global) -> Result<Command<'a>, AllocError> {
     let size = Arg::new(alloc, "size")
@@ -163,6 +167,7 @@ fn replay_plan(alloc: Global, matches: &ArgMatches<'_>) -> Result<Plan, LineFaul
     };
     let file = file_of(alloc, matches)?;
     let by = match matches.get_str("by") {
+        Some("lock") => By::Lock,
         Some("ring") => By::Ring,
         _ => By::Plain,
     };

@@ -2,7 +2,7 @@
 
 ghost use Rattle.std.specs.Prelude.{◌≡◌};
 ghost use Rattle.csv.specs.Records.{fields_of};
-ghost use Rattle.dr_replay.specs.Commands.{claim as claim_in, command_of as command_in, complete as complete_in, handler_of as handler_in, poll as poll_in, publish as publish_in, retire as retire_in, write_one as write_one_in, write_two as write_two_in};
+ghost use Rattle.dr_replay.specs.Meaning.Commands.{claim as claim_in, command_of as command_in, complete as complete_in, handler_of as handler_in, poll as poll_in, publish as publish_in, retire as retire_in, write_one as write_one_in, write_two as write_two_in};
 
 use crate::records::{field, is_record, number_at};
 use csv::ByteRecord;

@@ -1,14 +1,12 @@
 //! A core that obeys the records of a file.
 
-ghost use Rattle.std.specs.Prelude.{◌≡◌, ◌≤◌, length, IfOk};
-ghost use Rattle.dr_core.specs.Runs.{count_in as events_in};
+ghost use Rattle.std.specs.Prelude.{◌≤◌, length, IfOk};
 
 use crate::commands::command_of;
-use crate::fault::{Cause, RecordFault};
-use crate::lines::put_line;
 use crate::setup::ring_records::Ring;
 use csv::ByteRecord;
-use dr_core::{Core, OpenFault, Reply};
+use dr_core::Core;
+use dr_files::{Cause, RecordFault, put_line};
 use dr_graph::Graph;
 use dr_seq::Event;
 use std::alloc::{AllocError, Global};
@@ -21,24 +19,14 @@ pub struct Exchange {
     ghost room: { core.setup.size ≤ length batch.items },
 }
 
-// How many events come with a reply.
-fn count_in(reply: Reply) -> usize
-    ensures { result ≡ events_in reply }
-{
-    match reply {
-        Reply::Batch { count, .. } => count as usize,
-        _ => 0,
-    }
-}
-
 impl Exchange {
     ghost use Rattle.std.specs.Prelude.{List, string_bytes};
     ghost use Rattle.csv.specs.Records.{fields_of};
     ghost use Rattle.dr_core.specs.Machine.{Setup, State, opening};
-    ghost use Rattle.dr_replay.specs.Records.{Field};
-    ghost use Rattle.dr_replay.specs.Commands.{command_of as command_in};
-    ghost use Rattle.dr_replay.specs.DriveText.{obeys};
-    ghost use Rattle.dr_replay.specs.Shows.{ExchangeShows, IsRing, ObeysAs, ring_setup};
+    ghost use Rattle.dr_replay.specs.Meaning.Records.{Field};
+    ghost use Rattle.dr_replay.specs.Meaning.Commands.{command_of as command_in};
+    ghost use Rattle.dr_replay.specs.Meaning.DriveText.{obeys};
+    ghost use Rattle.dr_replay.specs.Inside.Shows.{ExchangeShows, IsRing, ObeysAs, ring_setup};
 
     /// Opens a core over a graph of handlers. An error is that memory ran out.
     pub fn open(alloc: Global, ring: Ring, graph: Graph) -> Result<Exchange, AllocError>
@@ -46,12 +34,8 @@ impl Exchange {
         ensures { IfOk result (λ e. ExchangeShows e graph.names (ring_setup ring graph) (opening (ring_setup ring graph))) }
     {
         let batch = vec![in alloc; Event::NONE; ring.size.get() as usize]?;
-        match Core::open(alloc, graph, ring.size, ring.mode, ring.limit) {
-            Ok(core) => Ok(Exchange { core, batch }),
-            Err(OpenFault::NoMemory) => Err(AllocError),
-            Err(OpenFault::BadProducers) => unreachable!(),
-            Err(OpenFault::BadLimit) => unreachable!(),
-        }
+        let core = Core::open_valid(alloc, graph, ring.size, ring.mode, ring.limit)?;
+        Ok(Exchange { core, batch })
     }
 
     /// Runs the command of a record, and puts its line in the place of another. Where the record is
@@ -63,7 +47,7 @@ impl Exchange {
             return Err(RecordFault::Cause(Cause::BadRecord));
         };
         let reply = self.core.execute(command, self.batch.as_mut_slice());
-        put_line(line, reply, &self.batch[..count_in(reply)])?;
+        put_line(line, reply, &self.batch[..reply.count()])?;
         Ok(())
     }
 }

@@ -2,10 +2,10 @@
 
 ghost use Rattle.std.specs.Prelude.{◌≡◌, ◌==◌, length};
 ghost use Rattle.csv.specs.Records.{fields_of};
-ghost use Rattle.dr_replay.specs.Records.{field as field_in, is_list as is_list_in, is_named as is_named_in, is_record as is_record_in, number_at as number_in};
+ghost use Rattle.dr_replay.specs.Meaning.Records.{field as field_in, is_list as is_list_in, is_named as is_named_in, is_record as is_record_in, number_at as number_in};
 
-use crate::numbers::number_of;
 use csv::ByteRecord;
+use dr_files::number_of;
 
 /// How many fields a record has.
 pub fn count_of(row: &ByteRecord) -> usize

@@ -3,14 +3,14 @@
 ghost use Rattle.std.specs.Prelude.{◌≡◌, true};
 ghost use Rattle.std.specs.Borrow.{sem};
 ghost use Rattle.csv.specs.Reading.{error_kind, stops_reader};
-ghost use Rattle.dr_replay.specs.Records.{records_of};
-ghost use Rattle.dr_replay.specs.TextReader.{IsTextReader};
+ghost use Rattle.dr_replay.specs.Meaning.Records.{records_of};
+ghost use Rattle.dr_replay.specs.Inside.TextReader.{IsTextReader};
 
 use csv::{ByteRecord, Error, Reader, ReaderBuilder};
 use std::alloc::{AllocError, Global};
 
-// The one error that a read of a record from a slice may give, whatever its length is: a lack of memory.
-fn want_of_memory(error: &Error) -> AllocError
+// The one error that a read of a record from a slice may give, whatever its length is: that memory ran out.
+fn out_of_memory(error: &Error) -> AllocError
     requires { stops_reader (error_kind error.now) ≡ true }
 {
     let _kind = error.kind();
@@ -28,7 +28,7 @@ pub struct Rows<'a> {
 }
 
 impl<'a> Rows<'a> {
-    ghost use Rattle.dr_replay.specs.Rows.{Advances, Lends, rows_left};
+    ghost use Rattle.dr_replay.specs.Inside.Rows.{Advances, Lends, rows_left};
 
     /// All records of a text.
     pub fn new(alloc: Global, text: &'a [u8]) -> Rows<'a>
@@ -49,7 +49,7 @@ impl<'a> Rows<'a> {
     {
         match self.reader.read_byte_record(&mut self.row) {
             Ok(found) => Ok(found),
-            Err(error) => Err(want_of_memory(&error)),
+            Err(error) => Err(out_of_memory(&error)),
         }
     }
 

@@ -5,15 +5,15 @@ pub mod ring_records;
 
 ghost use Rattle.std.specs.Prelude.{◌≡◌};
 ghost use Rattle.csv.specs.Records.{fields_of};
-ghost use Rattle.dr_replay.specs.Setup.{goes_on_by, missing as missing_in, prepared, started};
-ghost use Rattle.dr_replay.specs.Shows.{AreNames, IsPreparation, IsRing, PreparesAs, declared_of, stage_of};
+ghost use Rattle.dr_replay.specs.Meaning.Setup.{goes_on_by, missing as missing_in, prepared, started};
+ghost use Rattle.dr_replay.specs.Inside.Shows.{AreNames, IsPreparation, IsRing, PreparesAs, declared_of, stage_of};
 
 use crate::exchange::Exchange;
-use crate::fault::{Cause, RecordFault};
 use crate::records::{is_named, is_record};
 use crate::setup::handler_records::{Declaring, declare};
 use crate::setup::ring_records::{Ring, limit_of, ring_of};
 use csv::ByteRecord;
+use dr_files::{Cause, RecordFault};
 use dr_graph::laws::placed_graph;
 use std::alloc::Global;
 

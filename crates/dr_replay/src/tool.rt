@@ -1,20 +1,18 @@
 //! The tool `drive`: a file of commands in, a line a reply out.
 
-ghost use Rattle.std.specs.Prelude.{◌≡◌, ◌<◌, ◌+◌, ◌-◌, ◌^◌, IfErr, IfSome, length};
+ghost use Rattle.std.specs.Prelude.{◌<◌, ◌+◌, ◌-◌, ◌^◌, IfErr, IfSome, length};
 ghost use Rattle.csv.specs.Records.{fields_of};
-ghost use Rattle.dr_replay.specs.Counting.{faults_of, inner_of};
-ghost use Rattle.dr_replay.specs.DriveText.{Phase, drive_text, taken, text_from};
-ghost use Rattle.dr_replay.specs.Outcome.{CountsFaults, ReadFaultKeeps, Writes};
-ghost use Rattle.dr_replay.specs.Rows.{rows_left};
-ghost use Rattle.dr_replay.specs.Tells.{CommandTells, SetsUpAs, ShowsPhase, fault_at};
+ghost use Rattle.dr_files.specs.Counting.{faults_of, inner_of};
+ghost use Rattle.dr_replay.specs.Meaning.DriveText.{Phase, drive_text, taken, text_from};
+ghost use Rattle.dr_files.specs.Outcome.{CountsFaults, ReadFaultKeeps, Writes};
+ghost use Rattle.dr_replay.specs.Inside.Rows.{rows_left};
+ghost use Rattle.dr_replay.specs.Inside.Tells.{CommandTells, SetsUpAs, ShowsPhase};
 
-use crate::counted::Counted;
 use crate::exchange::Exchange;
-use crate::fault::{DriveFault, RecordFault};
 use crate::rows::Rows;
 use crate::setup::{Preparation, Prepared, missing, prepare};
-use crate::streams::{read_all, write_text};
 use csv::ByteRecord;
+use dr_files::{Counted, FileFault, read_all, write_text};
 use std::alloc::Global;
 use std::io::{Read, Write};
 
@@ -25,17 +23,8 @@ struct Opened {
     k: u64,
 }
 
-fn fault_of(k: u64, fault: RecordFault) -> DriveFault
-    ensures { result ≡ fault_at k fault }
-{
-    match fault {
-        RecordFault::Cause(cause) => DriveFault::Input { k, cause },
-        RecordFault::Memory => DriveFault::Memory,
-    }
-}
-
 // Takes the records of the setup, and leaves those that come after it.
-fn set_up(alloc: Global, rows: &mut Rows<'_>) -> Result<Opened, DriveFault>
+fn set_up(alloc: Global, rows: &mut Rows<'_>) -> Result<Opened, FileFault>
     requires { length (rows_left rows.old) + 1 < 2 ^ 64 }
     ensures { SetsUpAs result (rows_left rows.old) (rows_left rows.new) }
 {
@@ -45,11 +34,11 @@ fn set_up(alloc: Global, rows: &mut Rows<'_>) -> Result<Opened, DriveFault>
         match prepare(alloc, at, row) {
             Ok(Prepared::Goes(next)) => at = next,
             Ok(Prepared::Opens(exchange)) => return Ok(Opened { exchange, k: k + 1 }),
-            Err(fault) => return Err(fault_of(k, fault)),
+            Err(fault) => return Err(fault.at(k)),
         }
         k += 1;
     }
-    Err(DriveFault::Input {
+    Err(FileFault::Input {
         k,
         cause: missing(&at),
     })
@@ -62,14 +51,14 @@ fn command<W: Write>(
     row: &ByteRecord,
     line: &mut String,
     writer: &mut Counted<W>,
-) -> Result<(), DriveFault>
+) -> Result<(), FileFault>
     requires { faults_of writer.old < 2 ^ 64 - 1 }
     ensures bytes { (phase : Phase) → ShowsPhase exchange.old phase → CommandTells result exchange.new k (taken phase (fields_of row.now)) (W.contents (inner_of writer.old)) (W.contents (inner_of writer.new)) }
     ensures counted { CountsFaults result 0 0 (faults_of writer.old) (faults_of writer.new) }
 {
     match exchange.obey(row, line) {
-        Ok(()) => write_text(writer, line.as_bytes()),
-        Err(fault) => Err(fault_of(k, fault)),
+        Ok(()) => Ok(write_text(writer, line.as_bytes())?),
+        Err(fault) => Err(fault.at(k)),
     }
 }
 
@@ -80,7 +69,7 @@ fn commands<W: Write>(
     mut k: u64,
     rows: &mut Rows<'_>,
     writer: &mut Counted<W>,
-) -> Result<(), DriveFault>
+) -> Result<(), FileFault>
     requires faults { faults_of writer.old < 2 ^ 64 - 1 }
     requires fits { k + length (rows_left rows.old) < 2 ^ 64 }
     ensures bytes { (phase : Phase) → ShowsPhase exchange phase → Writes result (W.contents (inner_of writer.old)) (W.contents (inner_of writer.new)) (text_from k phase (rows_left rows.old)) }
@@ -101,7 +90,7 @@ pub fn drive<R: Read, W: Write>(
     alloc: Global,
     reader: &mut Counted<R>,
     writer: &mut Counted<W>,
-) -> Result<(), DriveFault>
+) -> Result<(), FileFault>
     requires reads { faults_of reader.old < 2 ^ 64 - 1 }
     requires writes { faults_of writer.old < 2 ^ 64 - 1 }
     // Where the input's bytes are known, what is written is the drive text, up to the fault that is answered.

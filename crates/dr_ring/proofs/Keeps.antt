@@ -227,8 +227,8 @@ payload_first k w s v is free K =
     let len = length w.sender.sent.published in
     let stays : (j : ℕ) → j ≢ i → word_at us j ≡ word_at w.words j = λ j ne. get_or-set_other w.words i j v 0 ne in record {
       events = λ t below near_by. (let e = P.events t below near_by in (
-        stays (payload_word k t 0) (apart k t s 0 0 some_slot (λ (z : t ≡ s). omega arith) (omega arith) (omega arith) (omega arith) (omega arith)) ∙ e.0,
-        stays (payload_word k t 1) (apart k t s 1 0 some_slot (λ (z : t ≡ s). omega arith) (omega arith) (omega arith) (omega arith) (omega arith)) ∙ e.1,
+        stays (payload_word k t 0) (apart k t s 0 0 (λ (z : t ≡ s). omega arith) (omega arith) (omega arith) (omega arith) (omega arith)) ∙ e.0,
+        stays (payload_word k t 1) (apart k t s 1 0 (λ (z : t ≡ s). omega arith) (omega arith) (omega arith) (omega arith) (omega arith)) ∙ e.1,
       ));
       writes = λ j event e. (let d = P.writes j event e in let b = is_open w.sender.sent.pending j event e in
           elim (cases_eq (len + j) s) [
@@ -237,8 +237,8 @@ payload_first k w s v is free K =
               stays (payload_word k (len + j) 1) (λ (z : payload_word k (len + j) 1 ≡ i). (let q : payload_word k s 1 ≡ payload_word k s 0 = subst (λ (t : ℕ). payload_word k t 1 ≡ i) here z in omega arith)) ∙ d.1,
             )
             | inr ne ↦ (
-              stays (payload_word k (len + j) 0) (apart k (len + j) s 0 0 some_slot ne (omega arith) (omega arith) (omega arith) (omega arith)) ∙ d.0 ∙ ap (λ (h : Option HalfWrite). first_stored h (len + j) event) free ∙ sym (stored_else record { sequence = s; first = v } event (len + j) ne),
-              stays (payload_word k (len + j) 1) (apart k (len + j) s 1 0 some_slot ne (omega arith) (omega arith) (omega arith) (omega arith)) ∙ d.1,
+              stays (payload_word k (len + j) 0) (apart k (len + j) s 0 0 ne (omega arith) (omega arith) (omega arith) (omega arith)) ∙ d.0 ∙ ap (λ (h : Option HalfWrite). first_stored h (len + j) event) free ∙ sym (stored_else record { sequence = s; first = v } event (len + j) ne),
+              stays (payload_word k (len + j) 1) (apart k (len + j) s 1 0 ne (omega arith) (omega arith) (omega arith) (omega arith)) ∙ d.1,
             )
           ]);
       halves = λ x e. (let same : record { sequence = s; first = v } ≡ x = cc in
@@ -261,8 +261,8 @@ payload_second k w x v has K =
     let same : length (set pending at (Some event)) ≡ length pending = length-set pending at (Some event) in
     let stays : (j : ℕ) → j ≢ i → word_at us j ≡ word_at w.words j = λ j ne. get_or-set_other w.words i j v 0 ne in record {
       events = λ t below near_by. (let e = P.events t below (omega arith) in (
-        stays (payload_word k t 0) (apart k t s 0 1 some_slot (λ (z : t ≡ s). omega arith) (omega arith) (omega arith) (omega arith) (omega arith)) ∙ e.0,
-        stays (payload_word k t 1) (apart k t s 1 1 some_slot (λ (z : t ≡ s). omega arith) (omega arith) (omega arith) (omega arith) (omega arith)) ∙ e.1,
+        stays (payload_word k t 0) (apart k t s 0 1 (λ (z : t ≡ s). omega arith) (omega arith) (omega arith) (omega arith) (omega arith)) ∙ e.0,
+        stays (payload_word k t 1) (apart k t s 1 1 (λ (z : t ≡ s). omega arith) (omega arith) (omega arith) (omega arith) (omega arith)) ∙ e.1,
       ));
       writes = λ j other e.
           elim (cases_eq (len + j) s) [
@@ -276,8 +276,8 @@ payload_second k w x v has K =
             | inr ne ↦
                 let f : get_or pending j None ≡ Some other = sym (get_or-set_other pending at j (Some event) None (λ (z : j ≡ at). ne (omega arith))) ∙ e in
                 let b = is_open pending j other f in let d = P.writes j other f in (
-                  stays (payload_word k (len + j) 0) (apart k (len + j) s 0 1 some_slot ne (omega arith) (omega arith) (omega arith) (omega arith)) ∙ d.0 ∙ ap (λ (h : Option HalfWrite). first_stored h (len + j) other) has ∙ stored_else x other (len + j) ne,
-                  stays (payload_word k (len + j) 1) (apart k (len + j) s 1 1 some_slot ne (omega arith) (omega arith) (omega arith) (omega arith)) ∙ d.1,
+                  stays (payload_word k (len + j) 0) (apart k (len + j) s 0 1 ne (omega arith) (omega arith) (omega arith) (omega arith)) ∙ d.0 ∙ ap (λ (h : Option HalfWrite). first_stored h (len + j) other) has ∙ stored_else x other (len + j) ne,
+                  stays (payload_word k (len + j) 1) (apart k (len + j) s 1 1 ne (omega arith) (omega arith) (omega arith) (omega arith)) ∙ d.1,
                 )
           ];
       halves = λ y e. absurd (cc);

@@ -1,12 +1,13 @@
 -- Lists, words and looks.
-use Rattle.std.proofs.Common.{◌≡◌, ◌≢◌, ℕ, zero, suc, ◌+◌, ◌%◌, ◌<◌, ◌≤◌, inl, inr, Bool, true, false, cond, List, [], ◌∷◌, ◌++◌, length, get_or, set, filter, sym, refl, subst, arith, get_or-set_same, get_or-set_other, ◌==◌, if◌then◌else◌}
+use Rattle.std.proofs.Common.{◌≡◌, ◌≢◌, ℕ, zero, suc, ◌+◌, ◌%◌, ◌<◌, ◌≤◌, inl, inr, List, [], ◌∷◌, ◌++◌, length, get_or, set, sym, refl, subst, arith, get_or-set_same, get_or-set_other, ◌==◌, if◌then◌else◌}
 use Rattle.std.specs.Prelude.{Contains}
-use Rattle.std.specs.List.{range_with_len}
-use Rattle.std.proofs.lemmas.Bool.{cases_eq, cases_lt, eq-eqb, ne_eqb}
+use Rattle.std.proofs.lemmas.Bool.{cases_eq, eq-eqb, ne_eqb}
 use mathlib.Core.Option.{some, some-injective, some-ne-none}
 use lib.ListN.{get_elem?}
-use Rattle.atomic_table.proofs.Lists.{at_set, at_snoc, one_turn}
-use Rattle.dr_graph.specs.Graph.{finals, is_final}
+use Rattle.atomic_table.proofs.Lists.{at_set, at_snoc}
+use Rattle.dr_seq.proofs.Apart.{slots_differ}
+use Rattle.dr_graph.specs.Graph.{finals, nobody}
+use Rattle.dr_graph.proofs.Gating.{final_left}
 use Rattle.dr_ring.specs.Meaning.Shape.{Shape}
 use Rattle.dr_ring.specs.Meaning.Words.{payload_start, payload_word}
 use Rattle.dr_ring.specs.declared.record.Look.{Look}
@@ -36,20 +37,9 @@ each_set P l h r new old j q at =
       | inr x ↦ old j q x.0 x.1
     ]
 
-first_or_rest : (xs : List ℕ) (a n i f : ℕ) (b : Bool) → ((i f : ℕ) → i < length xs → get_or xs i f ≡ f → f < n) → a < n
-    → i < length (cond b (a ∷ xs) xs) → get_or (cond b (a ∷ xs) xs) i f ≡ f → f < n
-first_or_rest xs a n zero f true rest here lt e = let same : a ≡ f = e in omega arith
-first_or_rest xs a n (suc i) f true rest here lt e = rest i f (omega arith) e
-first_or_rest xs a n i f false rest here lt e = rest i f lt e
-
-filter_below : (p : ℕ → Bool) (a n m i f : ℕ) → a + n ≡ m → i < length (filter p (range_with_len a n)) → get_or (filter p (range_with_len a n)) i f ≡ f → f < m
-filter_below p a zero m i f e lt at = absurd (omega arith)
-filter_below p a (suc n) m i f e lt at =
-    first_or_rest (filter p (range_with_len (a + 1) n)) a m i f (p a) (λ j g. filter_below p (a + 1) n m j g (omega arith)) (omega arith) lt at
-
 -- a final handler is a handler
 pub final_inside : (graph : List (List ℕ)) (f : ℕ) → Contains (finals graph) f → f < length graph
-final_inside graph f has = filter_below (is_final graph) 0 (length graph) (length graph) has.0 f (omega arith) has.1 has.2
+final_inside graph f has = (final_left graph nobody f has).0
 
 pub contains_none : (u : ℕ) → Contains [] u → ⊥
 contains_none u has = let l : has.0 < 0 = has.1 in omega arith
@@ -99,12 +89,5 @@ last_look_else d [] i j v ne = rw (ne_eqb i j ne) refl
 last_look_else d (x ∷ xs) i j v ne = last_look_else (if x.word == j then x.value else d) xs i j v ne
 
 -- two sequences less than a round apart have payload words of their own
-apart_up : (k : Shape) (a b i j : ℕ) → 0 < k.size → a < b → b < a + k.size → i < 2 → j < 2 → payload_word k a i ≢ payload_word k b j
-apart_up k a b i j pos lt near low high e = let m : a % k.size ≡ b % k.size = omega arith in let same : a ≡ b = one_turn a b k.size (omega arith) near m in omega arith
-
-pub apart : (k : Shape) (a b i j : ℕ) → 0 < k.size → a ≢ b → b < a + k.size → a < b + k.size → i < 2 → j < 2 → payload_word k a i ≢ payload_word k b j
-apart k a b i j pos ne up down low high e =
-    elim (cases_lt a b) [
-      | inl lt ↦ apart_up k a b i j pos lt up low high e
-      | inr ge ↦ apart_up k b a j i pos (omega arith) down high low (sym e)
-    ]
+pub apart : (k : Shape) (a b i j : ℕ) → a ≢ b → b < a + k.size → a < b + k.size → i < 2 → j < 2 → payload_word k a i ≢ payload_word k b j
+apart k a b i j ne up down low high e = let same : a % k.size ≡ b % k.size = omega arith in slots_differ k.size a b ne down up same

@@ -3,7 +3,7 @@ use Rattle.std.proofs.Common.{◌≡◌, ◌≢◌, ℕ, ◌+◌, ◌-◌, ◌%�
 use Rattle.std.proofs.lemmas.Bool.{cases_eq, cases_lt, eq-eqb, ne_eqb}
 use Rattle.std.proofs.lemmas.List.{length-append, length-replicate, get_or_append_left, get_or-append_right, get_or-replicate}
 use Rattle.std.proofs.Math.Nat.{mod-lt}
-use Rattle.atomic_table.proofs.Lists.{one_turn}
+use Rattle.dr_seq.proofs.Apart.{slots_differ}
 use Rattle.dr_seq.specs.declared.event.Event.{Event}
 use Rattle.dr_ring.specs.declared.record.Look.{Look}
 use Rattle.dr_ring.specs.declared.record.SenderRecord.{SenderRecord}
@@ -14,17 +14,6 @@ use Rattle.dr_ring.specs.Inside.Fits.{Marked}
 some_of : (o : Option Event) → is_some o ≡ true → (v : Event) × (o ≡ Some v)
 some_of None e = absurd (cc)
 some_of (Some v) e = (v, refl)
-
--- two sequences less than a round apart have slots of their own
-slots_apart_up : (n a b : ℕ) → 0 < n → a < b → b < a + n → a % n ≢ b % n
-slots_apart_up n a b pos lt near e = let same : a ≡ b = one_turn a b n (omega arith) near e in omega arith
-
-slots_apart : (n a b : ℕ) → 0 < n → a ≢ b → b < a + n → a < b + n → a % n ≢ b % n
-slots_apart n a b pos ne up down e =
-    elim (cases_lt a b) [
-      | inl lt ↦ slots_apart_up n a b pos lt up e
-      | inr ge ↦ slots_apart_up n b a pos (omega arith) down (sym e)
-    ]
 
 pub marked_written : (n : ℕ) (r : SenderRecord) (ms : List ℕ) (lo hi : ℕ) → Marked n r ms → AreMarked ms n lo hi → length r.sent.published ≤ lo → hi ≤ claimed r
     → (s : ℕ) → lo ≤ s → s < hi → (v : Event) × (get_or r.sent.pending (s - length r.sent.published) None ≡ Some v)
@@ -59,7 +48,7 @@ marks_write n r ms s v pos le lt near M =
             let a : (get_or (set ms slot (s + 1)) ((len + i) % n) 0 == len + i + 1) ≡ true = subst (λ (t : ℕ). (get_or (set ms slot (s + 1)) (t % n) 0 == t + 1) ≡ true) (sym here) (eq-eqb _ _ (get_or-set_same ms slot (s + 1) 0 inside)) in
             let b : is_some (get_or (set r.sent.pending at (Some v)) i None) ≡ true = subst (λ (t : ℕ). is_some (get_or (set r.sent.pending at (Some v)) t None) ≡ true) (sym e) (ap is_some (get_or-set_same r.sent.pending at (Some v) None (omega arith))) in
             a ∙ sym b)
-        | inr ne ↦ (let apart : (len + i) % n ≢ slot = slots_apart n (len + i) s pos (λ (g : len + i ≡ s). ne (omega arith)) (omega arith) (omega arith) in
+        | inr ne ↦ (let apart : (len + i) % n ≢ slot = slots_differ n (len + i) s (λ (g : len + i ≡ s). ne (omega arith)) (omega arith) (omega arith) in
             let a : (get_or (set ms slot (s + 1)) ((len + i) % n) 0 == len + i + 1) ≡ (get_or ms ((len + i) % n) 0 == len + i + 1) = ap (λ (t : ℕ). t == len + i + 1) (get_or-set_other ms slot ((len + i) % n) (s + 1) 0 apart) in
             a ∙ M.each i (omega arith) ∙ sym (ap is_some (get_or-set_other r.sent.pending at i (Some v) None ne)))
       ];

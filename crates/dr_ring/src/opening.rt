@@ -18,7 +18,7 @@ use crate::record::View;
 use crate::sender::Sender;
 use crate::settled::HandlerCounts;
 use atomic_table::Split;
-use dr_core::MAX_LIMIT;
+use dr_core::is_valid_limit;
 use dr_graph::Graph;
 use dr_seq::{GateCache, Size};
 use std::alloc::{AllocError, Global};
@@ -104,8 +104,8 @@ fn ends(alloc: Global, plan: Plan) -> Result<(Sender, Vec<Receiver>, Halter), Al
 /// sender, its receivers in the graph's order, and its halter. Each may be moved to a thread of
 /// its own.
 ///
-/// It is refused with `BadLimit` where the limit is 0 or above [`MAX_LIMIT`], and with `NoMemory`
-/// where an allocation failed.
+/// It is refused with `BadLimit` where the limit is 0 or above [`dr_core::MAX_LIMIT`], and with
+/// `NoMemory` where an allocation failed.
 pub fn ring(
     alloc: Global,
     graph: &Graph,
@@ -117,7 +117,7 @@ pub fn ring(
     ensures fits { IsOk result → is_bad_limit limit ≡ false }
     ensures refused { IfErr result (λ fault. fault ≡ fault_of limit) }
 {
-    if limit == 0 || limit > MAX_LIMIT {
+    if !is_valid_limit(limit) {
         return Err(RingFault::BadLimit);
     }
     let plan = Plan::of(alloc, graph, size, limit)?;

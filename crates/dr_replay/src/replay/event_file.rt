@@ -1,19 +1,22 @@
 //! The event file: an operation a record.
 
-ghost use Rattle.std.specs.Prelude.{◌≡◌, ◌<◌, IfSome};
+ghost use Rattle.std.specs.Prelude.{◌≡◌, ◌<◌, ◌-◌, ◌^◌, IfSome};
 ghost use Rattle.csv.specs.Records.{fields_of};
-ghost use Rattle.dr_replay.specs.EventFile.{deposit as deposit_in, is_kind as is_kind_in, number_below as number_in, operation_in, transfer as transfer_in, withdraw as withdraw_in};
+ghost use Rattle.dr_files.specs.Counting.{faults_of, inner_of};
+ghost use Rattle.dr_files.specs.Outcome.{CountsFaults};
+ghost use Rattle.dr_replay.specs.Meaning.EventFile.{deposit as deposit_in, events_of as events_in, is_kind as is_kind_in, number_below as number_in, operation_in, transfer as transfer_in, withdraw as withdraw_in};
 ghost use Rattle.dr_accounts.specs.Operations.{IsOperation};
-ghost use Rattle.dr_replay.specs.Replayed.{ReadsAs};
-ghost use Rattle.dr_replay.specs.Rows.{rows_left};
+ghost use Rattle.dr_replay.specs.Calls.Replayed.{FileIs, ReadsAs};
+ghost use Rattle.dr_replay.specs.Inside.Rows.{rows_left};
 
 use crate::records::{count_of, field, number_at};
-use crate::replay::fault::ReplayFault;
 use crate::rows::Rows;
 use csv::ByteRecord;
 use dr_accounts::{Movement, Operation};
+use dr_files::{Cause, Counted, FileFault, read_all};
 use dr_seq::Event;
 use std::alloc::Global;
+use std::io::Read;
 
 /// Producers have numbers below this.
 const PRODUCERS: u64 = 16;
@@ -77,8 +80,8 @@ fn transfer(row: &ByteRecord) -> Option<Operation>
     Some(Operation { producer, movement })
 }
 
-/// The operation of a record, if it is one.
-pub fn operation_of(row: &ByteRecord) -> Option<Operation>
+// The operation of a record, if it is one.
+fn operation_of(row: &ByteRecord) -> Option<Operation>
     ensures value { result ≡ operation_in (fields_of row.now) }
     ensures fits { IfSome result IsOperation }
 {
@@ -93,18 +96,29 @@ pub fn operation_of(row: &ByteRecord) -> Option<Operation>
     }
 }
 
-/// The events of the operations in a file's records, in order. The fault is at the first record that
-/// is no operation, or that memory ran out before it.
-pub fn events_of(alloc: Global, rows: &mut Rows<'_>) -> Result<Vec<Event>, ReplayFault>
+// The events of the operations in a file's records, in order. The fault is at the first record that
+// is no operation, or that memory ran out before it.
+fn events_of(alloc: Global, rows: &mut Rows<'_>) -> Result<Vec<Event>, FileFault>
     ensures { ReadsAs result (rows_left rows.old) }
 {
     let mut events = Vec::new(alloc);
     while let Some(row) = rows.next()? {
         let Some(operation) = operation_of(row) else {
             let k = events.len() as u64 + 1;
-            return Err(ReplayFault::Input { k });
+            let cause = Cause::BadRecord;
+            return Err(FileFault::Input { k, cause });
         };
         events.push(operation.event())?;
     }
     Ok(events)
+}
+
+/// Reads a file of operations to its end, and makes an event of each, in file order.
+pub fn read_events<R: Read>(alloc: Global, reader: &mut Counted<R>) -> Result<Vec<Event>, FileFault>
+    requires { faults_of reader.old < 2 ^ 64 - 1 }
+    ensures file { IfSome (R.remaining (inner_of reader.old)) (λ input. FileIs result (events_in input)) }
+    ensures counted { CountsFaults result (faults_of reader.old) (faults_of reader.new) 0 0 }
+{
+    let text = read_all(alloc, reader)?;
+    events_of(alloc, &mut Rows::new(alloc, text.as_slice()))
 }

@@ -3,12 +3,12 @@
 ghost use Rattle.std.specs.Prelude.{◌≡◌, List, IfOk, map};
 ghost use Rattle.csv.specs.Records.{fields_of};
 ghost use Rattle.dr_graph.specs.Name.{Name, given};
-ghost use Rattle.dr_replay.specs.Setup.{after_names, declared_by, names_in, no_handlers, then_names, with_edge, with_names};
-ghost use Rattle.dr_replay.specs.Shows.{AreNames, DeclaresAs, declared_of, legible};
+ghost use Rattle.dr_replay.specs.Meaning.Setup.{after_names, declared_by, names_in, no_handlers, then_names, with_edge, with_names};
+ghost use Rattle.dr_replay.specs.Inside.Shows.{AreNames, DeclaresAs, declared_of, legible};
 
-use crate::fault::{Cause, RecordFault};
 use crate::records::{count_of, field, is_list, is_record};
 use csv::ByteRecord;
+use dr_files::{Cause, RecordFault};
 use dr_graph::{GraphBuilder, Group};
 use std::alloc::{AllocError, Global};
 use std::str;

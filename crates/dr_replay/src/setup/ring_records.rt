@@ -2,14 +2,13 @@
 
 ghost use Rattle.std.specs.Prelude.{◌≡◌, IfOk, MatchOption, false, true};
 ghost use Rattle.csv.specs.Records.{fields_of};
-ghost use Rattle.dr_core.specs.OpenFault.{has_bad_producers as has_bad_producers_in};
-ghost use Rattle.dr_replay.specs.Setup.{is_size, limit_of as limit_in, mode_of as mode_in, ring_of as ring_in};
-ghost use Rattle.dr_replay.specs.Shows.{IsRing};
+ghost use Rattle.dr_replay.specs.Meaning.Setup.{is_size, limit_of as limit_in, mode_of as mode_in, ring_of as ring_in};
+ghost use Rattle.dr_replay.specs.Inside.Shows.{IsRing};
 
-use crate::fault::Cause;
 use crate::records::{count_of, field, is_named, number_at};
 use csv::ByteRecord;
-use dr_core::{MAX_LIMIT, MAX_PRODUCERS, Mode};
+use dr_core::{MAX_LIMIT, Mode, is_valid_limit};
+use dr_files::Cause;
 use dr_seq::Size;
 
 /// What the first records say of the ring.
@@ -27,15 +26,6 @@ fn size_of(n: u64) -> Option<Size>
     match Size::new(n) {
         Ok(size) => Some(size),
         Err(_) => None,
-    }
-}
-
-fn has_bad_producers(mode: Mode) -> bool
-    ensures { result ≡ has_bad_producers_in mode }
-{
-    match mode {
-        Mode::Single => false,
-        Mode::Multi(producers) => producers == 0 || producers > MAX_PRODUCERS,
     }
 }
 
@@ -68,7 +58,7 @@ pub fn ring_of(row: &ByteRecord) -> Result<Ring, Cause>
     let Some(size) = size_of(size) else {
         return Err(Cause::BadSize);
     };
-    if has_bad_producers(mode) {
+    if !mode.is_valid() {
         return Err(Cause::BadProducers);
     }
     Ok(Ring {
@@ -90,7 +80,7 @@ pub fn limit_of(ring: Ring, row: &ByteRecord) -> Result<Ring, Cause>
     let Some(limit) = number_at(row, 1) else {
         return Err(Cause::BadRecord);
     };
-    if limit == 0 || limit > MAX_LIMIT {
+    if !is_valid_limit(limit) {
         return Err(Cause::BadLimit);
     }
     Ok(Ring { limit, ..ring })

@@ -1,6 +1,6 @@
 //! A reader and a writer that fail at their k-th call, and count their calls.
 
-use crate::{Counted, DriveFault, drive};
+use crate::{Counted, FileFault, drive};
 use std::alloc::Global;
 use std::io;
 use std::io::{Read, Write};
@@ -137,7 +137,7 @@ fn reads_that_fail(rt: HostRuntime) {
         let result = drive(alloc, &mut reader, &mut writer);
         let output = writer.into_inner();
         if fails_at < 5 {
-            assert!(rt; matches!(&result, Err(DriveFault::Read)));
+            assert!(rt; matches!(&result, Err(FileFault::Read)));
             assert!(rt; reader.faults() == 1 && output.is_empty());
             assert!(rt; calls_of(&rt, reader) == fails_at);
         } else {
@@ -152,7 +152,7 @@ fn write_that_fails(rt: &impl Abort, alloc: Global, fails_at: u64, takes_nothing
     let mut writer = Counted::new(slow_at(alloc, fails_at, takes_nothing));
     let result = drive(alloc, &mut reader, &mut writer);
     if meets_failure(rt, writer, OUTPUT.as_bytes()) {
-        assert!(rt; matches!(&result, Err(DriveFault::Write)));
+        assert!(rt; matches!(&result, Err(FileFault::Write)));
     } else {
         assert!(rt; result.is_ok());
     }
@@ -175,7 +175,7 @@ fn whole_writes_that_fail(rt: HostRuntime) {
         let mut writer = Counted::new(whole_at(alloc, fails_at));
         let result = drive(alloc, &mut reader, &mut writer);
         let is_whole = taken == OUTPUT;
-        assert!(rt; matches!(&result, Err(DriveFault::Write)) == !is_whole);
+        assert!(rt; matches!(&result, Err(FileFault::Write)) == !is_whole);
         assert!(rt; result.is_ok() == is_whole);
         // The third call is the flush.
         assert!(rt; !is_whole || writer.flush().is_err());
@@ -183,18 +183,4 @@ fn whole_writes_that_fail(rt: HostRuntime) {
         assert!(rt; whole.calls == fails_at);
         assert_eq!(rt; whole.taken.as_slice(), taken.as_bytes());
     }
-}
-
-// The text and the status of the faults of reading, writing and memory.
-#[test]
-fn lines_of_faults(rt: HostRuntime) -> Result<(), std::test::Fail> {
-    let alloc = rt.alloc();
-    let read = DriveFault::Read;
-    let write = DriveFault::Write;
-    let memory = DriveFault::Memory;
-    assert_eq!(rt; read.to_string(alloc)?.as_str(), "cannot read");
-    assert_eq!(rt; write.to_string(alloc)?.as_str(), "cannot write");
-    assert_eq!(rt; memory.to_string(alloc)?.as_str(), "no-memory");
-    assert!(rt; read.status() == 4 && write.status() == 4 && memory.status() == 3);
-    Ok(())
 }

@@ -1,7 +1,7 @@
 //! Replays on one thread: worked files, files at fault, and the same bytes at every size.
 
-use crate::tests::Row;
-use crate::{Counted, ReplayFault, replay_plain};
+use crate::tests::{Row, fault_line, status_of};
+use crate::{Counted, replay_plain};
 use dr_seq::Size;
 use std::alloc::Global;
 use std::process::Abort;
@@ -214,27 +214,13 @@ const AT_FAULT: [Row; 23] = [
     ),
 ];
 
-fn line_of(alloc: Global, ended: &Result<(), ReplayFault>) -> Result<String, Fail> {
-    match ended {
-        Ok(()) => Ok(String::new(alloc)),
-        Err(fault) => Ok(fault.to_string(alloc)?),
-    }
-}
-
-fn status_of(ended: &Result<(), ReplayFault>) -> u8 {
-    match ended {
-        Ok(()) => 0,
-        Err(fault) => fault.status(),
-    }
-}
-
 fn check(rt: &impl Abort, alloc: Global, rows: &[Row], size: u64) -> Result<(), Fail> {
     for (name, input, output, fault, status) in rows {
         let mut reader = Counted::new(input.as_bytes());
         let mut writer = Counted::new(Vec::new(alloc));
         let result = replay_plain(alloc, &mut reader, &mut writer, Size::new(size)?);
         let written = writer.into_inner();
-        let line = line_of(alloc, &result)?;
+        let line = fault_line(alloc, &result)?;
         assert_eq!(rt; written.as_slice(), output.as_bytes(), "output of {name}");
         assert_eq!(rt; line.as_str(), *fault, "fault of {name}");
         assert_eq!(rt; status_of(&result), *status, "status of {name}");

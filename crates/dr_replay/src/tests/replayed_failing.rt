@@ -1,7 +1,7 @@
 //! Replays whose reader or writer fails at its k-th call.
 
 use crate::tests::failing::{call_on, calls_of, failing_at, meets_failure, slow_at, whole_at};
-use crate::{Counted, ReplayFault, replay_plain};
+use crate::{Counted, FileFault, replay_plain};
 use dr_seq::Size;
 use std::alloc::Global;
 use std::io::Write;
@@ -22,7 +22,7 @@ fn reads_that_fail(rt: HostRuntime) -> Result<(), Fail> {
         let result = replay_plain(alloc, &mut reader, &mut writer, Size::new(2)?);
         let output = writer.into_inner();
         if fails_at < 4 {
-            assert!(rt; matches!(&result, Err(ReplayFault::Read)));
+            assert!(rt; matches!(&result, Err(FileFault::Read)));
             assert!(rt; reader.faults() == 1 && output.is_empty());
             assert!(rt; calls_of(&rt, reader) == fails_at);
         } else {
@@ -43,7 +43,7 @@ fn write_that_fails(
     let mut writer = Counted::new(slow_at(alloc, fails_at, takes_nothing));
     let result = replay_plain(alloc, &mut reader, &mut writer, Size::new(2)?);
     if meets_failure(rt, writer, OUTPUT.as_bytes()) {
-        assert!(rt; matches!(&result, Err(ReplayFault::Write)));
+        assert!(rt; matches!(&result, Err(FileFault::Write)));
     } else {
         assert!(rt; result.is_ok());
     }
@@ -68,7 +68,7 @@ fn whole_writes_that_fail(rt: HostRuntime) -> Result<(), Fail> {
         let mut writer = Counted::new(whole_at(alloc, fails_at));
         let result = replay_plain(alloc, &mut reader, &mut writer, Size::new(2)?);
         let is_whole = taken == OUTPUT;
-        assert!(rt; matches!(&result, Err(ReplayFault::Write)) == !is_whole);
+        assert!(rt; matches!(&result, Err(FileFault::Write)) == !is_whole);
         assert!(rt; result.is_ok() == is_whole);
         // The second call is the flush.
         assert!(rt; !is_whole || writer.flush().is_err());
@@ -76,19 +76,5 @@ fn whole_writes_that_fail(rt: HostRuntime) -> Result<(), Fail> {
         assert!(rt; whole.calls == fails_at);
         assert_eq!(rt; whole.taken.as_slice(), taken.as_bytes());
     }
-    Ok(())
-}
-
-// The text and the status of the faults of reading, writing and memory.
-#[test]
-fn lines_of_faults(rt: HostRuntime) -> Result<(), Fail> {
-    let alloc = rt.alloc();
-    let read = ReplayFault::Read;
-    let write = ReplayFault::Write;
-    let memory = ReplayFault::Memory;
-    assert_eq!(rt; read.to_string(alloc)?.as_str(), "cannot read");
-    assert_eq!(rt; write.to_string(alloc)?.as_str(), "cannot write");
-    assert_eq!(rt; memory.to_string(alloc)?.as_str(), "no-memory");
-    assert!(rt; read.status() == 4 && write.status() == 4 && memory.status() == 3);
     Ok(())
 }

@@ -1,5 +1,5 @@
 use Rattle.std.proofs.Common.{◌≡◌, ◌+◌, drop}
-use Rattle.dr_replay.specs.Commands.{handler_of}
+use Rattle.dr_replay.specs.Meaning.Commands.{handler_of}
 use Rattle.dr_replay.proofs.commands.handler_of.Given as goal
 
 abbrev pub invariant-loop-h : goal.invariant-loop-h

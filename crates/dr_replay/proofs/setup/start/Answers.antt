@@ -1,6 +1,6 @@
 use Rattle.std.proofs.Common.{ap, Err}
 use Rattle.std.proofs.lemmas.Result.{err_from_is_err_and}
-use Rattle.dr_replay.specs.Shows.{ring_setup}
+use Rattle.dr_replay.specs.Inside.Shows.{ring_setup}
 use Rattle.dr_replay.proofs.Starting.{same_fault, start_opens, start_refused, unlike}
 use Rattle.dr_replay.proofs.setup.start.Goals as goal
 

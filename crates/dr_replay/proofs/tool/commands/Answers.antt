@@ -1,5 +1,6 @@
 use Rattle.std.proofs.Common.{◌∙◌, ap, length, arith}
 use Rattle.std.proofs.lemmas.Result.{err_from_is_err_and}
+use Rattle.dr_files.specs.Counting.{inner_of}
 use Rattle.dr_replay.proofs.Commanding.{ends, fails, goes-on, wants}
 use Rattle.dr_replay.proofs.tool.commands.Goals as goal
 
@@ -12,7 +13,7 @@ pub returns-in_err-command-clause-bytes : goal.returns-in_err-command-clause-byt
 returns-in_err-command-clause-bytes g c = λ phase shown.
     let first = rw (c.in_ok-row.was, c.in-Some.is) at c.next.follows.holds-at-none in
     let p = err_from_is_err_and c.from_residual-in_err-command.result c.from_residual-in_err-command.ensures.1 in
-    rw (p.1, p.2) (fails c.in_err-command.field-0.0 (g.W.Write.contents c.command.new.writer.inner) c.loop-line.invariant.come first c.in_err-command.ensures.bytes phase shown)
+    rw (p.1, p.2) (fails c.in_err-command.field-0.0 (g.W.Write.contents (inner_of c.command.new.writer)) c.loop-line.invariant.come first c.in_err-command.ensures.bytes phase shown)
 
 pub loop-line-preserved : goal.loop-line-preserved
 loop-line-preserved g c =

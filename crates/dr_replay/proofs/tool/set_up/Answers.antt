@@ -1,10 +1,10 @@
 use Rattle.std.proofs.Common.{ap, length, arith}
 use Rattle.csv.specs.Records.{fields_of}
 use Rattle.dr_core.specs.Machine.{opening}
-use Rattle.dr_replay.specs.Setup.{Empty}
-use Rattle.dr_replay.specs.DriveText.{Preparing, Running, text_from}
-use Rattle.dr_replay.specs.Rows.{rows_left}
-use Rattle.dr_replay.specs.Shows.{stage_of}
+use Rattle.dr_replay.specs.Meaning.Setup.{Empty}
+use Rattle.dr_replay.specs.Meaning.DriveText.{Preparing, Running, text_from}
+use Rattle.dr_replay.specs.Inside.Rows.{rows_left}
+use Rattle.dr_replay.specs.Inside.Shows.{stage_of}
 use Rattle.dr_replay.proofs.SetUps.{setup-ends, setup-fails, setup-goes, setup-opens}
 use Rattle.dr_replay.proofs.tool.set_up.Goals as goal
 
@@ -12,7 +12,7 @@ pub returns-in-Err : goal.returns-in-Err
 returns-in-Err c =
     let at = c.loop-at in
     let first = rw (c.in_ok-row.was, c.in-Some.is) at c.next.follows.holds-at-none in
-    rw c.fault_of.ensures (setup-fails c.in-Err.fault (rows_left c.args.rows.now) at.k (stage_of at.at) (rows_left at.rows) (fields_of c.in-Some.row.now) _ at.invariant.says first c.in-Err.ensures)
+    rw c.at.ensures (setup-fails c.in-Err.fault (rows_left c.args.rows.now) at.k (stage_of at.at) (rows_left at.rows) (fields_of c.in-Some.row.now) _ at.invariant.says first c.in-Err.ensures)
 
 pub loop-at-preserved : goal.loop-at-preserved
 loop-at-preserved c =

@@ -1,8 +1,8 @@
 use Rattle.std.proofs.Common.{◌≡◌, ◌+◌, length}
-use Rattle.dr_replay.specs.Setup.{Empty}
-use Rattle.dr_replay.specs.DriveText.{Preparing, text_from}
-use Rattle.dr_replay.specs.Rows.{rows_left}
-use Rattle.dr_replay.specs.Shows.{IsPreparation, stage_of}
+use Rattle.dr_replay.specs.Meaning.Setup.{Empty}
+use Rattle.dr_replay.specs.Meaning.DriveText.{Preparing, text_from}
+use Rattle.dr_replay.specs.Inside.Rows.{rows_left}
+use Rattle.dr_replay.specs.Inside.Shows.{IsPreparation, stage_of}
 use Rattle.dr_replay.proofs.tool.set_up.Given as goal
 
 abbrev pub invariant-loop-at : goal.invariant-loop-at

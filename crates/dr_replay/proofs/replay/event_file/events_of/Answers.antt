@@ -1,7 +1,7 @@
-use Rattle.std.proofs.Common.{◌+◌, vec_len}
+use Rattle.std.proofs.Common.{◌+◌, refl, vec_len}
 use Rattle.csv.specs.Records.{fields_of}
-use Rattle.dr_replay.specs.EventFile.{events_from}
-use Rattle.dr_replay.specs.Rows.{rows_left}
+use Rattle.dr_replay.specs.Meaning.EventFile.{events_from}
+use Rattle.dr_replay.specs.Inside.Rows.{rows_left}
 use Rattle.dr_replay.proofs.EventFiles.{file-ends, file-goes, file-stops, preceded-nil}
 use Rattle.dr_replay.proofs.replay.event_file.events_of.Goals as goal
 
@@ -12,7 +12,8 @@ pub returns-in_default-operation_of : goal.returns-in_default-operation_of
 returns-in_default-operation_of c =
     let done = c.loop-events.events.items in
     let first = rw (c.in_ok-row.was, c.in-Some.is) at c.next.follows.holds-at-none in
-    rw c.len.ensures (file-stops (events_from 1 (rows_left c.args.rows.now)) done (vec_len c.loop-events.events + 1) (rows_left c.loop-events.rows) (fields_of c.in-Some.row.now) _ c.loop-events.invariant first c.in_default-operation_of.ensures.value)
+    rw c.len.ensures
+    (file-stops (events_from 1 (rows_left c.args.rows.now)) done (vec_len c.loop-events.events + 1) (rows_left c.loop-events.rows) (fields_of c.in-Some.row.now) _ c.loop-events.invariant first c.in_default-operation_of.ensures.value, refl)
 
 pub loop-events-preserved : goal.loop-events-preserved
 loop-events-preserved c =

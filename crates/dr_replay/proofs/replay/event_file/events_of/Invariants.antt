@@ -1,6 +1,6 @@
 use Rattle.std.proofs.Common.{◌≡◌, ◌+◌, length, vec_len}
-use Rattle.dr_replay.specs.EventFile.{events_from}
-use Rattle.dr_replay.specs.Rows.{rows_left}
+use Rattle.dr_replay.specs.Meaning.EventFile.{events_from}
+use Rattle.dr_replay.specs.Inside.Rows.{rows_left}
 use Rattle.dr_replay.proofs.EventFiles.{preceded}
 use Rattle.dr_replay.proofs.replay.event_file.events_of.Given as goal
 

@@ -1,0 +1,65 @@
+//! Whole texts, read and written by loops over single calls. No call follows one that failed.
+
+ghost use Rattle.std.specs.Prelude.{◌≡◌, ◌<◌, ◌-◌, ◌^◌, IfErr, IfOk, IfSome, OnOk};
+ghost use Rattle.dr_files.specs.Counting.{faults_of, inner_of};
+ghost use Rattle.dr_files.specs.Outcome.{ReadFaultTells, WriteTells};
+
+use crate::counted::Counted;
+use std::alloc::Global;
+use std::io::{Read, Write};
+use thiserror::Error;
+
+/// Why a text is not read whole.
+#[derive(Clone, Copy, Debug, PartialEq, Eq, Error)]
+pub enum ReadFault {
+    /// There is no memory for it.
+    #[error("no-memory")]
+    Memory,
+    /// A read failed.
+    #[error("cannot read")]
+    Read,
+}
+
+/// A write failed.
+#[derive(Clone, Copy, Debug, PartialEq, Eq, Error)]
+#[error("cannot write")]
+pub struct WriteFault;
+
+/// All bytes that a reader has left, read to its end.
+pub fn read_all<R: Read>(alloc: Global, reader: &mut Counted<R>) -> Result<Vec<u8>, ReadFault>
+    requires { faults_of reader.old < 2 ^ 64 - 1 }
+    ensures whole { IfOk result (λ text. IfSome (R.remaining (inner_of reader.old)) (λ input. text.items ≡ input)) }
+    ensures none { OnOk result (faults_of reader.new ≡ faults_of reader.old) }
+    ensures failed { IfErr result (λ e. ReadFaultTells e (faults_of reader.old) (faults_of reader.new)) }
+{
+    let mut text = Vec::new(alloc);
+    let mut piece = [0u8; 16384];
+    for _ in 0..u64::MAX {
+        match reader.read(&mut piece) {
+            Ok(0) => return Ok(text),
+            Ok(count) => {
+                if text.extend_from_slice(&piece[..count]).is_err() {
+                    return Err(ReadFault::Memory);
+                }
+            }
+            Err(_) => return Err(ReadFault::Read),
+        }
+    }
+    Err(ReadFault::Memory)
+}
+
+/// Writes a text. After an error a beginning of it is written.
+pub fn write_text<W: Write>(writer: &mut Counted<W>, text: &[u8]) -> Result<(), WriteFault>
+    requires { faults_of writer.old < 2 ^ 64 - 1 }
+    ensures { WriteTells result (W.contents (inner_of writer.old)) (W.contents (inner_of writer.new)) text.now (faults_of writer.old) (faults_of writer.new) }
+{
+    let mut at = 0;
+    while at < text.len() {
+        match writer.write(&text[at..]) {
+            Ok(0) => return Err(WriteFault),
+            Ok(count) => at += count,
+            Err(_) => return Err(WriteFault),
+        }
+    }
+    Ok(())
+}

@@ -1,0 +1,79 @@
+//! What no clause says: that the calls over memory succeed, and the printed texts.
+
+use crate::{Cause, Counted, FileFault, number_of, put_line, read_all, write_text};
+use dr_core::Reply;
+use dr_graph::GraphFault;
+use dr_seq::Event;
+use std::process::Abort;
+use std::test::Fail;
+
+#[test]
+fn numbers(rt: HostRuntime) {
+    let rows: [(&str, Option<u64>); 6] = [
+        ("0", Some(0)),
+        ("007", Some(7)),
+        ("18446744073709551615", Some(u64::MAX)),
+        ("18446744073709551616", None),
+        ("", None),
+        ("+7", None),
+    ];
+    for (field, number) in rows {
+        assert_eq!(rt; number_of(field.as_bytes()), number, "{field}");
+    }
+}
+
+#[test]
+fn a_text_is_copied(rt: HostRuntime) -> Result<(), Fail> {
+    let alloc = rt.alloc();
+    let mut reader = Counted::new(b"some\nlines\n".as_slice());
+    let mut writer = Counted::new(Vec::new(alloc));
+    let text = read_all(alloc, &mut reader)?;
+    write_text(&mut writer, text.as_slice())?;
+    assert_eq!(rt; writer.into_inner().as_slice(), b"some\nlines\n".as_slice());
+    Ok(())
+}
+
+#[test]
+fn lines(rt: HostRuntime) -> Result<(), Fail> {
+    let mut line = String::from_str(rt.alloc(), "what stood there")?;
+    let reply = Reply::Batch {
+        first: 3,
+        count: 2,
+        end: true,
+    };
+    let events = [
+        Event {
+            first: 5,
+            second: 0,
+        },
+        Event {
+            first: 6,
+            second: 1,
+        },
+    ];
+    put_line(&mut line, reply, events.as_slice())?;
+    assert_eq!(rt; line.as_str(), "batch 3 end 5 6:1\n");
+    Ok(())
+}
+
+#[test]
+fn faults(rt: HostRuntime) -> Result<(), Fail> {
+    let rows = [
+        (
+            FileFault::Input {
+                k: 3,
+                cause: Cause::Graph(GraphFault::Cycle),
+            },
+            "record 3: cycle",
+            2,
+        ),
+        (FileFault::Memory, "no-memory", 3),
+        (FileFault::Read, "cannot read", 4),
+        (FileFault::Write, "cannot write", 4),
+    ];
+    for (fault, line, status) in &rows {
+        assert_eq!(rt; fault.to_string(rt.alloc())?.as_str(), *line);
+        assert_eq!(rt; fault.status(), *status, "{line}");
+    }
+    Ok(())
+}

@@ -1,0 +1,29 @@
+-- What the workers of an exchange behind a lock share may be shared by threads, and what they are given may be sent.
+use denote.RattleType.{RattleType}
+use denote.Ref.{NamedLft}
+use denote.Param.Send.{IsSend, IsSync, sendable}
+use Rattle.std.proofs.Crossing as std
+use Rattle.std.specs.declared.sync.ledger.Ledger.{Ghosts}
+use Rattle.dr_seq.specs.contracts.event.Event as Event
+use Rattle.dr_seq.specs.contracts.size.Size as Size
+use Rattle.dr_shared.proofs.Sent.{end_send, shared_sync}
+use Rattle.dr_replay.specs.contracts.replay.lock_workers.Around as Around
+use Rattle.dr_replay.specs.contracts.replay.lock_workers.Task as Task
+
+pub size_sync : IsSync Size.the_row
+size_sync = search sendable depth 30
+
+pub event_sync : IsSync Event.the_row
+event_sync = search sendable depth 30
+
+pub ruleset shares = (sendable, std.sync, size_sync, shared_sync)
+
+pub around_sync : (a : NamedLft) (L R G : RattleType) (g : Ghosts L.Denot) → IsSync L → IsSync R → IsSync G → IsSync (Around.the_row a L R G g)
+around_sync a L R G g ledger workers gates = search shares depth 60 fits 20000
+
+pub ruleset sends = (sendable, event_sync, end_send)
+
+pub task_send : (a : NamedLft) (L : RattleType) (g : Ghosts L.Denot) → IsSend (Task.the_row a L g)
+task_send a L g = search sends depth 60 fits 20000
+
+pub ruleset crosses = (sendable, end_send, task_send, around_sync)

@@ -1,0 +1,24 @@
+-- How producers' workers ended, one more of them.
+use Rattle.std.proofs.Common.{◌≡◌, ◌<◌, ◌+◌, ℕ, suc, List, [], ◌∷◌, ◌++◌, length, take, get_or, Option, ap, ◌∙◌, arith}
+use Rattle.std.proofs.lemmas.List.{length-take-le, take_more}
+use Rattle.dr_shared.specs.declared.ended.Ended.{Ended}
+use Rattle.dr_shared.specs.declared.fault.WorkFault.{WorkFault}
+use Rattle.dr_replay.specs.Calls.Workers.{lock_endings, numbered}
+
+abbrev end : ℕ → Option WorkFault → Ended
+end who fault = record { who = who; fault = fault }
+
+numbered_more : (who : ℕ) (faults : List (Option WorkFault)) (f : Option WorkFault) → numbered who (faults ++ f ∷ []) ≡ numbered who faults ++ end (who + length faults) f ∷ []
+numbered_more who [] f = let same : who ≡ who + 0 = omega arith in ap (λ n. end n f ∷ []) same
+numbered_more who (g ∷ faults) f =
+    let same : who + 1 + length faults ≡ who + suc (length faults) = omega arith in
+    ap (λ l. end who g ∷ l) (numbered_more (who + 1) faults f ∙ ap (λ n. numbered (who + 1) faults ++ end n f ∷ []) same)
+
+pub lock_more : (journal replica business : Option WorkFault) (producers : List (Option WorkFault)) (p : ℕ) (d : Option WorkFault) → p < length producers
+    → lock_endings journal replica business (take (p + 1) producers) ≡ lock_endings journal replica business (take p producers) ++ end (16 + p) (get_or producers p d) ∷ []
+lock_more journal replica business producers p d less =
+    let many : length (take p producers) ≡ p = length-take-le p producers (omega arith) in
+    ap (λ l. end 0 journal ∷ end 1 replica ∷ end 2 business ∷ l)
+    (ap (numbered 16) (take_more producers p d less)
+    ∙ numbered_more 16 (take p producers) (get_or producers p d)
+    ∙ ap (λ n. numbered 16 (take p producers) ++ end (16 + n) (get_or producers p d) ∷ []) many)

@@ -1,0 +1,5 @@
+-- What the contracts of the public calls cite, beside the meaning.
+pub mod Replayed
+pub mod ReplayFaults
+pub mod Workers
+pub mod Plans

@@ -1,0 +1,86 @@
+-- What a replay writes, and what it answers.
+use Rattle.std.specs.Prelude.{◌≡◌, ℕ, Result, Ok, Err, List, [], ◌∷◌, Option, None, Some, Vec}
+use Rattle.std.specs.Io.KnownBytes.{Appends, Keeps}
+use Rattle.dr_seq.specs.declared.event.Event.{Event}
+use Rattle.dr_shared.specs.Merge.{IsMerge}
+use Rattle.dr_accounts.specs.Report.{report_of}
+use Rattle.dr_files.specs.Lines.{joined}
+use Rattle.dr_files.specs.Outcome.{AppendsFront, FaultCounts, FaultKeeps, FaultWrites, Said}
+use Rattle.dr_files.specs.declared.fault.Cause.TheVariants.{BadRecord}
+use Rattle.dr_files.specs.declared.fault.FileFault.{FileFault}
+use Rattle.dr_files.specs.declared.fault.FileFault.TheVariants as file
+use Rattle.dr_replay.specs.Meaning.EventFile.{events_from, events_of}
+use Rattle.dr_replay.specs.Meaning.Records.{Record}
+use Rattle.dr_replay.specs.Meaning.Scripts.{scripts_in}
+use Rattle.dr_replay.specs.Calls.Workers.{AuditFinds}
+use Rattle.dr_replay.specs.declared.replay.fault.ReplayFault.{ReplayFault}
+use Rattle.dr_replay.specs.declared.replay.fault.ReplayFault.TheVariants as fault
+
+-- a file of operations says the report of its events, as one line of text, or is at fault at its first bad record
+abbrev pub reported : Result (List Event) ℕ → Said
+reported (Ok events) = record { lines = report_of events ∷ []; fault = None }
+reported (Err k) = record { lines = []; fault = Some (record { k = k; cause = BadRecord }) }
+
+abbrev pub replay_text : List ℕ → Said
+replay_text input = reported (events_of input)
+
+-- records that have events, or a first bad one; of memory nothing is said
+abbrev pub ReadFails : FileFault → List Record → Type 0
+ReadFails (file.Input k cause) rs = (events_from 1 rs ≡ Err k) × (cause ≡ BadRecord)
+ReadFails file.Memory rs = Unit {0}
+ReadFails other rs = ⊥
+
+abbrev pub ReadsAs : {Z : Type 0} → Result (Vec Event Z) FileFault → List Record → Type 0
+ReadsAs (Ok events) rs = events_from 1 rs ≡ Ok events.items
+ReadsAs (Err e) rs = ReadFails e rs
+
+-- the events of a file, or its first bad record; of memory and of a failed read nothing is said
+abbrev pub FileFaultIs : FileFault → Result (List Event) ℕ → Type 0
+FileFaultIs (file.Input k cause) events = (events ≡ Err k) × (cause ≡ BadRecord)
+FileFaultIs file.Write events = ⊥
+FileFaultIs other events = Unit {0}
+
+abbrev pub FileIs : {Z : Type 0} → Result (Vec Event Z) FileFault → Result (List Event) ℕ → Type 0
+FileIs (Ok found) events = events ≡ Ok found.items
+FileIs (Err e) events = FileFaultIs e events
+
+-- What a replay by workers does: as any run over a file, and at a fault of a worker or of an audit nothing is written, of a file without a fault.
+
+abbrev pub ReplayFaultWrites : ReplayFault → Option (List ℕ) → Option (List ℕ) → Said → Type 0
+ReplayFaultWrites (fault.File f) old new said = FaultWrites f old new said
+ReplayFaultWrites (fault.Worker who f) old new said = (said.fault ≡ None) × Keeps old new
+ReplayFaultWrites (fault.Audit f) old new said = (said.fault ≡ None) × Keeps old new
+
+abbrev pub ReplayWrites : {A : Type 0} → Result A ReplayFault → Option (List ℕ) → Option (List ℕ) → Said → Type 0
+ReplayWrites (Ok done) old new said = (said.fault ≡ None) × Appends old new (joined said.lines)
+ReplayWrites (Err e) old new said = ReplayFaultWrites e old new said
+
+abbrev pub ReplayFaultKeeps : ReplayFault → Option (List ℕ) → Option (List ℕ) → Type 0
+ReplayFaultKeeps (fault.File f) old new = FaultKeeps f old new
+ReplayFaultKeeps (fault.Worker who f) old new = Keeps old new
+ReplayFaultKeeps (fault.Audit f) old new = Keeps old new
+
+abbrev pub ReplayFaultCounts : ReplayFault → ℕ → ℕ → ℕ → ℕ → Type 0
+ReplayFaultCounts (fault.File f) reads reads2 writes writes2 = FaultCounts f reads reads2 writes writes2
+ReplayFaultCounts (fault.Worker who f) reads reads2 writes writes2 = (reads2 ≡ reads) × (writes2 ≡ writes)
+ReplayFaultCounts (fault.Audit f) reads reads2 writes writes2 = (reads2 ≡ reads) × (writes2 ≡ writes)
+
+abbrev pub ReplayCounts : {A : Type 0} → Result A ReplayFault → ℕ → ℕ → ℕ → ℕ → Type 0
+ReplayCounts (Ok done) reads reads2 writes writes2 = (reads2 ≡ reads) × (writes2 ≡ writes)
+ReplayCounts (Err e) reads reads2 writes writes2 = ReplayFaultCounts e reads reads2 writes writes2
+
+-- Behind a lock: the same, but that the report is of a merge.
+
+-- a report of a list that is a merge of what the producers were to send
+abbrev pub IsReportOfMerge : List Event → List ℕ → Type 0
+IsReportOfMerge events text = (list : List Event) × IsMerge (scripts_in events) list × (text ≡ report_of list)
+
+-- at a failed write a beginning of such a report is written; an audit's fault is one of these producers and their events
+abbrev pub LockFaultWrites : ReplayFault → Option (List ℕ) → Option (List ℕ) → Result (List Event) ℕ → Type 0
+LockFaultWrites (fault.File file.Write) old new events = (found : List Event) × (text : List ℕ) × (events ≡ Ok found) × IsReportOfMerge found text × AppendsFront old new text
+LockFaultWrites (fault.Audit f) old new events = (found : List Event) × (events ≡ Ok found) × AuditFinds (scripts_in found) f × Keeps old new
+LockFaultWrites other old new events = ReplayFaultWrites other old new (reported events)
+
+abbrev pub LockWrites : {A : Type 0} → Result A ReplayFault → Option (List ℕ) → Option (List ℕ) → Result (List Event) ℕ → Type 0
+LockWrites (Ok done) old new events = (found : List Event) × (text : List ℕ) × (events ≡ Ok found) × IsReportOfMerge found text × Appends old new text
+LockWrites (Err e) old new events = LockFaultWrites e old new events

@@ -1,0 +1,136 @@
+-- What the workers of a replay give back, and what they promise.
+use Rattle.std.specs.Prelude.{◌≡◌, ◌⊎◌, ℕ, ◌+◌, ◌++◌, true, List, [], ◌∷◌, length, map, take, Option, None, Some, IfOk, string_bytes}
+use Rattle.dr_seq.specs.declared.event.Event.{Event}
+use Rattle.dr_ring.specs.Calls.Ends.{SenderEnd, ReceiverEnd, sender_place}
+use Rattle.dr_shared.specs.declared.fault.WorkFault.{WorkFault}
+use Rattle.dr_shared.specs.declared.fault.WorkFault.TheVariants as work
+use Rattle.dr_shared.specs.declared.ended.Ended.{Ended}
+use Rattle.dr_shared.specs.declared.ended.WorkerFault.{WorkerFault}
+use Rattle.dr_shared.specs.FirstFault.{first_fault}
+use Rattle.dr_shared.specs.declared.audit_fault.AuditFault.{AuditFault}
+use Rattle.dr_shared.specs.declared.audit_fault.AuditFault.TheVariants as audit
+use Rattle.dr_shared.specs.Audit.{Faults}
+use Rattle.dr_shared.specs.History.{History, IsRecorded, transcript}
+use Rattle.dr_core.specs.Machine.{handlers}
+use Rattle.dr_files.specs.declared.fault.FileFault.{FileFault}
+use Rattle.dr_files.specs.declared.fault.FileFault.TheVariants as file
+use Rattle.dr_replay.specs.Meaning.Scripts.{scripts_in}
+use Rattle.dr_replay.specs.declared.replay.fault.ReplayFault.{ReplayFault}
+use Rattle.dr_replay.specs.declared.replay.fault.ReplayFault.TheVariants as fault
+use Rattle.dr_accounts.specs.Keeping.{Keeps, error_of}
+use Rattle.dr_replay.specs.declared.replay.ring.Ran.{Ran}
+use Rattle.dr_accounts.specs.Report.{journal_part, replica_part, business_part}
+
+-- what came of an exchange: the sender published the first of the events, all of them where it has no fault, and each worker keeps its promise
+pub record IsRun (events : List Event) (s : SenderEnd) (j r b : ReceiverEnd) (ran : Ran) : Type 0 where
+  pub place : sender_place ran.sender ≡ sender_place s
+  pub published : ran.sender.knows.sent.published ≡ s.knows.sent.published ++ take ran.produced.sent events
+  pub all : ran.produced.fault ≡ None → ran.produced.sent ≡ length events
+  pub journal : Keeps journal_part j ran.journal
+  pub replica : Keeps replica_part r ran.replica
+  pub business : Keeps business_part b ran.business
+
+-- what is told of some events, unless a worker has a fault
+pub record Says (events : List Event) (ran : Ran) : Type 0 where
+  pub all : ran.produced.fault ≡ None → ran.sender.knows.sent.published ≡ events
+  pub journal : IfOk ran.journal.part (λ text. (ran.journal.receiver.knows.told ≡ true) × (string_bytes text ≡ journal_part ran.journal.receiver.knows.received))
+  pub replica : IfOk ran.replica.part (λ text. (ran.replica.receiver.knows.told ≡ true) × (string_bytes text ≡ replica_part ran.replica.receiver.knows.received))
+  pub business : IfOk ran.business.part (λ text. (ran.business.receiver.knows.told ≡ true) × (string_bytes text ≡ business_part ran.business.receiver.knows.received))
+
+-- the receivers of an exchange, in the graph's order
+abbrev pub ends_of : Ran → List ReceiverEnd
+ends_of ran = ran.journal.receiver ∷ ran.replica.receiver ∷ ran.business.receiver ∷ []
+
+-- whether a sender closed or not, it published what it did
+pub record StaysAt (old new : SenderEnd) : Type 0 where
+  pub place : sender_place new ≡ sender_place old
+  pub published : new.knows.sent.published ≡ old.knows.sent.published
+
+-- Which fault of the workers a replay answers.
+
+-- the numbers of the workers of a replay over the ring: the journal's, the replica's, the business handler's, and the sender's
+abbrev pub ring_workers : List ℕ
+ring_workers = 0 ∷ 1 ∷ 2 ∷ 16 ∷ []
+
+-- how the workers of an exchange ended
+abbrev pub endings_of : Ran → List Ended
+endings_of ran =
+    record { who = 0; fault = error_of ran.journal.part }
+    ∷ record { who = 1; fault = error_of ran.replica.part }
+    ∷ record { who = 2; fault = error_of ran.business.part }
+    ∷ record { who = 16; fault = ran.produced.fault }
+    ∷ []
+
+-- a worker that ran out of memory makes the replay answer so, and any other fault names the worker
+abbrev pub replay_fault : ℕ → WorkFault → ReplayFault
+replay_fault who work.Memory = fault.File file.Memory
+replay_fault who other = fault.Worker who other
+
+-- the fault that is the first of the workers', or a lack of memory after they ended
+abbrev pub IsFirstOf : List Ended → ReplayFault → Type 0
+IsFirstOf endings e = (e ≡ fault.File file.Memory) ⊎ ((first : WorkerFault) × (first_fault endings ≡ Some first) × (e ≡ replay_fault first.who first.fault))
+
+-- of the faults of a file, a lack of memory alone
+abbrev pub IsMemory : FileFault → Type 0
+IsMemory file.Memory = Unit {0}
+IsMemory other = ⊥
+
+-- a lack of memory, or the first fault of those that workers with these numbers ended with
+abbrev pub IsOfWorkers : List ℕ → ReplayFault → Type 0
+IsOfWorkers whos (fault.File f) = IsMemory f
+IsOfWorkers whos (fault.Worker who f) = (endings : List Ended) × (map (λ (e : Ended). e.who) endings ≡ whos) × IsFirstOf endings (fault.Worker who f)
+IsOfWorkers whos (fault.Audit f) = ⊥
+
+-- where a worker's fault is answered, it is the first of theirs; there is no audit
+abbrev pub IsFirstOfSome : List ℕ → ReplayFault → Type 0
+IsFirstOfSome whos (fault.Worker who f) = IsOfWorkers whos (fault.Worker who f)
+IsFirstOfSome whos (fault.Audit f) = ⊥
+IsFirstOfSome whos (fault.File f) = Unit {0}
+
+-- Behind a lock.
+
+-- how producers' workers ended, whose numbers rise from a first one
+abbrev pub numbered : ℕ → List (Option WorkFault) → List Ended
+numbered who [] = []
+numbered who (f ∷ faults) = record { who = who; fault = f } ∷ numbered (who + 1) faults
+
+-- how the workers ended: the three handlers', and the producers' from 16 on
+abbrev pub lock_endings : Option WorkFault → Option WorkFault → Option WorkFault → List (Option WorkFault) → List Ended
+lock_endings journal replica business producers =
+    record { who = 0; fault = journal } ∷ record { who = 1; fault = replica } ∷ record { who = 2; fault = business } ∷ numbered 16 producers
+
+-- what an audit answers of a history that a core went through: the least producer that did not send its script, and where each did, the least handler that lacks events
+abbrev pub AuditFinds : List (List Event) → AuditFault → Type 0
+AuditFinds scripts audit.NoMemory = ⊥
+AuditFinds scripts f = (h : History) × IsRecorded h × Faults (transcript h) (handlers h.core.setup) scripts f
+
+-- an audit that ran out of memory makes the replay answer so, and any other fault is told as it is
+abbrev pub audit_fault : AuditFault → ReplayFault
+audit_fault audit.NoMemory = fault.File file.Memory
+audit_fault other = fault.Audit other
+
+-- after workers that had no fault: a lack of memory, or what an audit finds
+abbrev pub IsOfAudit : List (List Event) → ReplayFault → Type 0
+IsOfAudit scripts (fault.File f) = IsMemory f
+IsOfAudit scripts (fault.Worker who f) = ⊥
+IsOfAudit scripts (fault.Audit f) = AuditFinds scripts f
+
+-- after the join: a lack of memory, or the workers' first fault, and where none has a fault, what an audit finds
+abbrev pub IsOfLock : List Ended → List (List Event) → ReplayFault → Type 0
+IsOfLock endings scripts (fault.File f) = IsMemory f
+IsOfLock endings scripts (fault.Worker who f) = IsFirstOf endings (fault.Worker who f)
+IsOfLock endings scripts (fault.Audit f) = (first_fault endings ≡ None) × AuditFinds scripts f
+
+-- a lack of memory, or the first fault of some such workers, or what an audit finds of each producer's events
+abbrev pub IsOfMerge : List Event → ReplayFault → Type 0
+IsOfMerge events (fault.File f) = IsMemory f
+IsOfMerge events (fault.Worker who f) =
+    (journal : Option WorkFault) × (replica : Option WorkFault) × (business : Option WorkFault) × (producers : List (Option WorkFault))
+    × IsFirstOf (lock_endings journal replica business producers) (fault.Worker who f)
+IsOfMerge events (fault.Audit f) = AuditFinds (scripts_in events) f
+
+-- where a fault of the workers or of an audit is answered, it is one that comes first
+abbrev pub IsFirstOfLock : ReplayFault → Type 0
+IsFirstOfLock (fault.File f) = Unit {0}
+IsFirstOfLock (fault.Worker who f) = IsOfMerge [] (fault.Worker who f)
+IsFirstOfLock (fault.Audit f) = (events : List Event) × IsOfMerge events (fault.Audit f)
