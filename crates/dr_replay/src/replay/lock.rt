@@ -136,7 +136,8 @@ fn settled<L: Ledger>(
     requires given { shared.given ≡ 4 + length ran.producers.items }
     requires few { length ran.producers.items ≤ 2 ^ 62 }
     ensures text { (sent : List Event) → map (λ v. v.items) scripts.now ≡ scripts_in sent → IfOk result (λ t. IsReportOfMerge sent (string_bytes t)) }
-    ensures fine { OnOk result (first_of (lock_endings (error_of ran.journal.part) (error_of ran.replica.part) (error_of ran.business.part) (map (λ s. s.fault) ran.producers.items)) ≡ None) }
+    ensures fine { OnOk result (first_of (lock_endings (error_of ran.journal.part) (error_of ran.replica.part) (error_of ran.business.part)
+        (map (λ s. s.fault) ran.producers.items)) ≡ None) }
     ensures first { IfErr result (IsOfLock (lock_endings (error_of ran.journal.part) (error_of ran.replica.part) (error_of ran.business.part)
         (map (λ s. s.fault) ran.producers.items)) (map (λ v. v.items) scripts.now)) }
 {
