@@ -125,7 +125,7 @@ fn open(alloc: Global) -> Option<Recorded> {
     Recorded::open(alloc, graph, size, Mode::Multi(2), MAX_LIMIT, 200, 40).ok()
 }
 
-fn ends<L: Ledger>(shared: &mut Shared<L>) -> Option<Ends<L>> {
+fn make_ends<L: Ledger>(shared: &mut Shared<L>) -> Option<Ends<L>> {
     Some(Ends {
         first: shared.end()?,
         second: shared.end()?,
@@ -152,7 +152,7 @@ fn run<L: Ledger + Send + Sync, R: Threads + Wait + Sync>(
     requires ends { blank.parts ≡ 65 }
 {
     let mut shared = Shared::<L>::new(open(alloc)?, blank);
-    let ends = ends(&mut shared)?;
+    let ends = make_ends(&mut shared)?;
     let Ends {
         first,
         second,
