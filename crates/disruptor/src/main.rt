@@ -113,7 +113,7 @@ fn main(rt: HostRuntime) -> ExitCode {
     match run(&rt, &rt) {
         Ok(()) => ExitCode::SUCCESS,
         Err(fault) => {
-            // Where even this cannot be written, the status tells it.
+            // Where even this cannot be written, the exit status alone says what went wrong.
             let _printed = rt.eprintln(&fault);
             ExitCode::from(fault.status())
         }

@@ -71,7 +71,7 @@ fn send(sender: &mut Sender, n: u64) -> Result<(), Fault> {
     Ok(sender.publish(claimed.lo, claimed.hi)?)
 }
 
-/// Sends a stretch of events, and tells how many there were.
+/// Sends a stretch of events, and answers how many there were.
 fn stretch(sender: &mut Sender, n: u64) -> Result<u64, Fault> {
     let claims = STRETCH.checked_div(n).unwrap_or(1);
     for _ in 0..claims {
@@ -80,7 +80,7 @@ fn stretch(sender: &mut Sender, n: u64) -> Result<u64, Fault> {
     Ok(claims.wrapping_mul(n))
 }
 
-/// Sends for about so long, and tells how many events there were.
+/// Sends for about so long, and answers how many events there were.
 fn send_for(clock: &impl Clock, sender: &mut Sender, n: u64, time: Duration) -> Result<u64, Fault> {
     let mut events = 0u64;
     let begun = Instant::now(clock)?;

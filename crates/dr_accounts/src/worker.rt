@@ -16,7 +16,7 @@ use std::thread::Promise;
 /// How many events a worker takes at once, at most.
 const BATCH: usize = 256;
 
-/// What a worker gives back: its end, and its handler's part of the report.
+/// What a worker gives back: its end, and its handler's part of the report or why there is none.
 #[derive(Drop)]
 pub struct Worked {
     pub receiver: Receiver,

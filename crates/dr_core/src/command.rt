@@ -29,16 +29,27 @@ pub enum Command {
 /// What a call answers.
 #[derive(Clone, Copy, Debug, PartialEq, Eq)]
 pub enum Reply {
+    /// The producer has claimed the sequences from `lo` to `hi`, both in the stretch.
     Claimed { lo: u64, hi: u64 },
+    /// The event is written, and is not published yet.
     Written,
+    /// The stretch is published.
     Published,
+    /// A poll's batch, as [`Polled::Batch`].
     Batch { first: u64, count: u64, end: bool },
+    /// A poll's answer, as [`Polled::Drained`].
     Drained,
+    /// A poll's answer, as [`Polled::Gating`].
     Gating,
+    /// A poll's answer, as [`Polled::Idle`].
     Idle,
+    /// The events are completed.
     Completed,
+    /// No more claims succeed.
     Halting,
+    /// The handler is retired.
     Retired,
+    /// The call was refused, and changed nothing.
     Refused(Refusal),
 }
 

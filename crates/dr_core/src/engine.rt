@@ -96,8 +96,8 @@ impl Core {
         Ok(Core::open_valid(alloc, graph, size, mode, limit)?)
     }
 
-    /// Opens a core as [`Core::open`] does, where the mode and the limit are known to be valid. So
-    /// an error is that memory ran out.
+    /// Opens a core as [`Core::open`] does, where the mode and the limit are known to be valid: an
+    /// error is that memory ran out.
     pub fn open_valid(
         alloc: Global,
         graph: Graph,

@@ -10,10 +10,10 @@ use thiserror::Error;
 /// Why a core is not opened. Its graph is spent all the same.
 #[derive(Clone, Copy, Debug, PartialEq, Eq, Error)]
 pub enum OpenFault {
-    /// Several producers are 1 to [`MAX_PRODUCERS`](crate::MAX_PRODUCERS).
+    /// There are no producers, or more than [`MAX_PRODUCERS`](crate::MAX_PRODUCERS).
     #[error("bad-producers")]
     BadProducers,
-    /// The limit of sequences is 1 to [`MAX_LIMIT`](crate::MAX_LIMIT).
+    /// The limit of sequences is 0, or above [`MAX_LIMIT`](crate::MAX_LIMIT).
     #[error("bad-limit")]
     BadLimit,
     /// An allocation failed.

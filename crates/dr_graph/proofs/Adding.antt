@@ -1,9 +1,11 @@
 -- Names that are added at the end.
-use Rattle.std.proofs.Common.{◌≡◌, ℕ, ◌+◌, ◌<◌, ◌≤◌, inl, inr, List, [], ◌∷◌, ◌++◌, true, false, sym, ◌∙◌, ap, subst, map, take, drop, length, get_or, append_assoc, append-nil, drop-cons, add-one, String, Global}
+use Rattle.std.proofs.Common.{
+    ◌≡◌, ℕ, ◌+◌, ◌<◌, ◌≤◌, inl, inr, List, [], ◌∷◌, ◌++◌, true, false, sym, ◌∙◌, ap, subst, map, take, drop, length,
+    get_or, append_assoc, append-nil, drop-cons, add-one, String, Global
+}
 use Rattle.std.proofs.lemmas.Bool.{cases_Bool, cond-true, cond-false}
 use Rattle.std.proofs.lemmas.List.{map_push, drop_all, take_more}
 use Rattle.std.proofs.lemmas.List.Folds.{list_any-append}
-use Rattle.std.proofs.Math.Seq.{take-append_seam}
 use Rattle.std.specs.List.{list_any}
 use Rattle.std.specs.Prelude.{Option, is_some}
 use Rattle.std.specs.Str.{bytes_eq}
@@ -31,7 +33,8 @@ fresh_key : (keys : List (String Global)) (k : String Global) → is_named (text
 fresh_key keys k new = cond-false (list_any (string_eq k) keys) keys (keys ++ k ∷ []) (sym (any_map text keys (string_bytes k)) ∙ new)
 
 -- one name more
-pub adding_next : (old keys after : List (String Global)) (name : Name) (left all : List Name) (k : String Global) → IsAdding old keys (name ∷ left) all → string_bytes k ≡ name → after ≡ insert_key string_eq keys k → IsAdding old after left all
+pub adding_next : (old keys after : List (String Global)) (name : Name) (left all : List Name) (k : String Global)
+    → IsAdding old keys (name ∷ left) all → string_bytes k ≡ name → after ≡ insert_key string_eq keys k → IsAdding old after left all
 adding_next old keys after name left all k was same e =
     elim (cases_Bool (is_named (texts keys) name)) [
       | inl known ↦ (
@@ -56,7 +59,8 @@ adding_next old keys after name left all k was same e =
           })
     ]
 
-pub adding_done : (old keys : List (String Global)) (left all : List Name) → IsAdding old keys left all → left ≡ [] → texts keys ≡ texts old ++ new_names (texts old) all
+pub adding_done : (old keys : List (String Global)) (left all : List Name) → IsAdding old keys left all → left ≡ []
+    → texts keys ≡ texts old ++ new_names (texts old) all
 adding_done old keys left all was none =
     sym (append-nil (texts keys)) ∙ ap (λ (ns : List Name). texts keys ++ ns) (sym (new_none (texts keys)) ∙ ap (new_names (texts keys)) (sym none)) ∙ was.whole
 
@@ -78,8 +82,10 @@ pub seen_next : {X : Type 0} (f : X → Name) (declared keys after : List (Strin
     → string_bytes k ≡ f (get_or xs i d) → after ≡ insert_key string_eq keys k → texts after ≡ map f (take (i + 1) xs)
 seen_next f declared keys after xs i d k fault was lt here none same e =
     let name : Name = f (get_or xs i d) in
-    let known : is_named (texts declared ++ texts keys) name ≡ false = none_fault (is_good_name name) (is_named (texts declared ++ texts keys) name) (sym here ∙ nothing fault none) in
-    let new : is_named (texts keys) name ≡ false = or_none (is_named (texts declared) name) (is_named (texts keys) name) (sym (list_any-append (bytes_eq name) (texts declared) (texts keys)) ∙ known) in
+    let known : is_named (texts declared ++ texts keys) name ≡ false =
+        none_fault (is_good_name name) (is_named (texts declared ++ texts keys) name) (sym here ∙ nothing fault none) in
+    let new : is_named (texts keys) name ≡ false =
+        or_none (is_named (texts declared) name) (is_named (texts keys) name) (sym (list_any-append (bytes_eq name) (texts declared) (texts keys)) ∙ known) in
     ap texts (e ∙ fresh_key keys k (ap (is_named (texts keys)) same ∙ new))
     ∙ map_push text keys k
     ∙ ap (λ (n : Name). texts keys ++ n ∷ []) same

@@ -19,8 +19,10 @@ distinct_names d order old built i j e before lt same =
     let many : length (names_in d.names order) ≡ length order = length-map order (λ h. slice_index_or d.names h []) in
     let lj : j < length order = omega arith in
     let li : i < length order = omega arith in
-    let at_i : slice_index_or (names_in d.names order) i e ≡ slice_index_or d.names (slice_index order i) [] = get_or-map (λ (h : ℕ). slice_index_or d.names h []) order i 0 e li in
-    let at_j : slice_index_or (names_in d.names order) j e ≡ slice_index_or d.names (slice_index order j) [] = get_or-map (λ (h : ℕ). slice_index_or d.names h []) order j 0 e lj in
+    let at_i : slice_index_or (names_in d.names order) i e ≡ slice_index_or d.names (slice_index order i) [] =
+        get_or-map (λ (h : ℕ). slice_index_or d.names h []) order i 0 e li in
+    let at_j : slice_index_or (names_in d.names order) j e ≡ slice_index_or d.names (slice_index order j) [] =
+        get_or-map (λ (h : ℕ). slice_index_or d.names h []) order j 0 e lj in
     let names : slice_index_or d.names (slice_index order i) [] ≡ slice_index_or d.names (slice_index order j) [] = sym at_i ∙ same ∙ at_j in
     elim (cases_order (slice_index order i) (slice_index order j)) [
       | inl equal ↦ (let twice : i ≡ j = once (length d.names) d.edges order built.each i j li lj equal in omega arith)
@@ -53,7 +55,8 @@ graph_lawful d order names lists is =
       gate = finals_gate lists (layered_lists d.edges order lists is.each);
     }
 
-pub shape_of_order : (d : Declaration) (order : List ℕ) (names : List Name) (lists : List (List ℕ)) → IsFound d order names lists → IsShape (record { names = names; upstreams = lists })
+pub shape_of_order : (d : Declaration) (order : List ℕ) (names : List Name) (lists : List (List ℕ)) → IsFound d order names lists
+    → IsShape (record { names = names; upstreams = lists })
 shape_of_order d order names lists is =
     let same = is.same in
     let count : length names ≡ length order = ap length is.named ∙ length-map order (λ h. slice_index_or d.names h []) in
@@ -63,7 +66,8 @@ shape_of_order d order names lists is =
       distinct = subst (λ (ns : List Name). AreDistinct ns) (sym is.named) (distinct_names d order is.declared.distinct is.built);
     }
 
-pub graph_of_order : (d : Declaration) (order : List ℕ) (names : List Name) (lists : List (List ℕ)) → IsFound d order names lists → IsGraphOf d (record { names = names; upstreams = lists })
+pub graph_of_order : (d : Declaration) (order : List ℕ) (names : List Name) (lists : List (List ℕ)) → IsFound d order names lists
+    → IsGraphOf d (record { names = names; upstreams = lists })
 graph_of_order d order names lists is =
     let same = is.same in
     let whole : length order ≡ length d.names = is.built.length in

@@ -41,7 +41,8 @@ rising_push ns n old below k lt =
           omega arith)
     ]
 
-pub chosen_push : (choose : ℕ → Bool) (n : ℕ) (ns longer : List ℕ) → AreChosen choose n ns → choose n ≡ true → longer ≡ ns ++ n ∷ [] → AreChosen choose (n + 1) longer
+pub chosen_push : (choose : ℕ → Bool) (n : ℕ) (ns longer : List ℕ) → AreChosen choose n ns → choose n ≡ true → longer ≡ ns ++ n ∷ []
+    → AreChosen choose (n + 1) longer
 chosen_push choose n ns longer old good e =
     subst (λ (xs : List ℕ). AreChosen choose (n + 1) xs) (sym e)
     (record {
@@ -56,7 +57,8 @@ chosen_push choose n ns longer old good e =
       rising = rising_push ns n old.rising (λ m c. (old.chosen m c).0);
     })
 
-pub lists_push : (edges : List Edge) (order : List ℕ) (lists : List (List ℕ)) (ups : List ℕ) → AreLists edges order lists → AreChosen (leads_to edges order (length lists)) (length lists) ups → AreLists edges order (lists ++ ups ∷ [])
+pub lists_push : (edges : List Edge) (order : List ℕ) (lists : List (List ℕ)) (ups : List ℕ) → AreLists edges order lists
+    → AreChosen (leads_to edges order (length lists)) (length lists) ups → AreLists edges order (lists ++ ups ∷ [])
 lists_push edges order lists ups old new h lt =
     elim (cases_lt h (length lists)) [
       | inl inside ↦ (
@@ -75,7 +77,8 @@ beyond (ups ∷ lists) zero u c = omega arith
 beyond (ups ∷ lists) (suc h) u c = (let l : h < length lists = beyond lists h u c in omega arith)
 
 -- in a whole built order each list has all upstreams
-pub upstreams_whole : (count : ℕ) (edges : List Edge) (order : List ℕ) (lists : List (List ℕ)) → IsBuiltOrder count edges order → AreLists edges order lists → length lists ≡ length order → (h : ℕ) → h < count → AreChosen (leads_to edges order h) count (upstreams_of lists h)
+pub upstreams_whole : (count : ℕ) (edges : List Edge) (order : List ℕ) (lists : List (List ℕ)) → IsBuiltOrder count edges order
+    → AreLists edges order lists → length lists ≡ length order → (h : ℕ) → h < count → AreChosen (leads_to edges order h) count (upstreams_of lists h)
 upstreams_whole count edges order lists built each same h lt =
     let whole : length order ≡ count = built.length in
     let l : h < length lists = omega arith in
@@ -89,7 +92,8 @@ upstreams_whole count edges order lists built each same h lt =
 pub layered_lists : (edges : List Edge) (order : List ℕ) (lists : List (List ℕ)) → AreLists edges order lists → IsLayered lists
 layered_lists edges order lists each h u c = ((each h (beyond lists h u c)).chosen u c).0
 
-pub rising_lists : (edges : List Edge) (order : List ℕ) (lists : List (List ℕ)) → AreLists edges order lists → (h : ℕ) → IsStrictlyIncreasing (upstreams_of lists h)
+pub rising_lists : (edges : List Edge) (order : List ℕ) (lists : List (List ℕ)) → AreLists edges order lists → (h : ℕ)
+    → IsStrictlyIncreasing (upstreams_of lists h)
 rising_lists edges order lists each h =
     elim (cases_lt h (length lists)) [
       | inl inside ↦ (each h inside).rising

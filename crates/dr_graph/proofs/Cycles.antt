@@ -7,7 +7,8 @@ use Rattle.dr_graph.specs.Order.{is_in, is_upstream, IsPath, HasCycle}
 use Rattle.dr_graph.proofs.Spare.{spare, spare_falls}
 
 -- a path that comes by a handler has a beginning that ends there
-closes : (edges : List Edge) (from : ℕ) (hs : List ℕ) (h : ℕ) → IsPath edges from hs → is_in (from ∷ hs) h ≡ true → (between : List ℕ) × ((up : ℕ) → is_upstream edges up from ≡ true → IsPath edges up (between ++ h ∷ []))
+closes : (edges : List Edge) (from : ℕ) (hs : List ℕ) (h : ℕ) → IsPath edges from hs → is_in (from ∷ hs) h ≡ true
+    → (between : List ℕ) × ((up : ℕ) → is_upstream edges up from ≡ true → IsPath edges up (between ++ h ∷ []))
 closes edges from [] h path there =
     elim (or_cases (from == h) false there) [
       | inl here ↦ (let e : from ≡ h = eqb-true from h here in ([], λ up edge. (rw (← e) edge, tt)))
@@ -17,7 +18,8 @@ closes edges from (next ∷ hs) h path there =
     elim (or_cases (from == h) (is_in (next ∷ hs) h) there) [
       | inl here ↦ (let e : from ≡ h = eqb-true from h here in ([], λ up edge. (rw (← e) edge, tt)))
       | inr later ↦ (
-          let rest : (between : List ℕ) × ((up : ℕ) → is_upstream edges up next ≡ true → IsPath edges up (between ++ h ∷ [])) = closes edges next hs h path.1 later in
+          let rest : (between : List ℕ) × ((up : ℕ) → is_upstream edges up next ≡ true → IsPath edges up (between ++ h ∷ [])) =
+              closes edges next hs h path.1 later in
           (from ∷ rest.0, λ up edge. (edge, rest.1 from path.0)))
     ]
 
@@ -35,7 +37,8 @@ one_step edges count left up from hs here path =
     let next : (u : ℕ) × (u < count) × left u × (is_upstream edges u from ≡ true) = up from here in
     elim (cases_Bool (is_in (from ∷ hs) next.0)) [
       | inl met ↦ (
-          let circle : (between : List ℕ) × ((w : ℕ) → is_upstream edges w from ≡ true → IsPath edges w (between ++ next.0 ∷ [])) = closes edges from hs next.0 path met in
+          let circle : (between : List ℕ) × ((w : ℕ) → is_upstream edges w from ≡ true → IsPath edges w (between ++ next.0 ∷ [])) =
+              closes edges from hs next.0 path met in
           inl (record { handler = next.0; between = circle.0; path = circle.1 next.0 next.3 }))
       | inr new ↦ (
           let fewer : spare (is_in (next.0 ∷ from ∷ hs)) count + 1 ≡ spare (is_in (from ∷ hs)) count =

@@ -1,5 +1,8 @@
 -- Declarations with more names and more edges.
-use Rattle.std.proofs.Common.{◌≡◌, ℕ, zero, suc, ◌+◌, ◌-◌, ◌<◌, ◌≤◌, inl, inr, true, List, [], ◌∷◌, ◌++◌, sym, ◌∙◌, ap, subst, arith, length, length-append, map, None, Bor, String, Global}
+use Rattle.std.proofs.Common.{
+    ◌≡◌, ℕ, zero, suc, ◌+◌, ◌-◌, ◌<◌, ◌≤◌, inl, inr, true, List, [], ◌∷◌, ◌++◌, sym, ◌∙◌, ap, subst, arith, length,
+    length-append, map, None, Bor, String, Global
+}
 use Rattle.std.proofs.lemmas.List.{length-map}
 use Rattle.std.proofs.lemmas.Bool.{false≢true, or_cases, and_parts, eqb-true}
 use Rattle.std.proofs.lemmas.List.Folds.{list_any-append}
@@ -20,7 +23,9 @@ within_more few many edges old le up down edge =
     (omega (arith, ends.0), omega (arith, ends.1))
 
 -- more names without fault, and edges between all of them
-pub declared_more : (d : Declaration) (more names : List Name) (edges : List Edge) → IsDeclaration d → name_faults d.names more ≡ None → length d.names + length more ≤ 16 → names ≡ d.names ++ more → AreWithin (length d.names + length more) edges → IsDeclaration (record { names = names; edges = edges })
+pub declared_more : (d : Declaration) (more names : List Name) (edges : List Edge) → IsDeclaration d → name_faults d.names more ≡ None
+    → length d.names + length more ≤ 16 → names ≡ d.names ++ more → AreWithin (length d.names + length more) edges
+    → IsDeclaration (record { names = names; edges = edges })
 declared_more d more names edges old free room grown within =
     let count : length names ≡ length d.names + length more = ap length grown ∙ length-append d.names more in
     record {
@@ -60,14 +65,17 @@ pub within_push : (count : ℕ) (edges : List Edge) (e : Edge) → AreWithin cou
 within_push count edges e old up down = within_append count edges (e ∷ []) old (within_cons count e [] up down (within_none count))
 
 -- the places of declared names lie within
-within_to : (declared group : List Name) (count down : ℕ) → list_all (is_named declared) group ≡ true → length declared ≤ count → down < count → AreWithin count (edges_to (map (number_of declared) group) down)
+within_to : (declared group : List Name) (count down : ℕ) → list_all (is_named declared) group ≡ true → length declared ≤ count → down < count
+    → AreWithin count (edges_to (map (number_of declared) group) down)
 within_to declared [] count down all le lt = within_none count
 within_to declared (n ∷ group) count down all le lt =
-    let parts : (is_named declared n ≡ true) × (list_all (is_named declared) group ≡ true) = and_parts (is_named declared n) (list_all (is_named declared) group) all in
+    let parts : (is_named declared n ≡ true) × (list_all (is_named declared) group ≡ true) =
+        and_parts (is_named declared n) (list_all (is_named declared) group) all in
     let place : number_of declared n < length declared = place_named declared n parts.0 in
     within_cons count (record { up = number_of declared n; down = down }) (edges_to (map (number_of declared) group) down) (omega arith) lt (within_to declared group count down parts.1 le lt)
 
-pub within_between : (declared group : List Name) (count first more : ℕ) → list_all (is_named declared) group ≡ true → length declared ≤ count → first + more ≤ count → AreWithin count (edges_between (map (number_of declared) group) (range_with_len first more))
+pub within_between : (declared group : List Name) (count first more : ℕ) → list_all (is_named declared) group ≡ true → length declared ≤ count
+    → first + more ≤ count → AreWithin count (edges_between (map (number_of declared) group) (range_with_len first more))
 within_between declared group count first zero all le room = within_none count
 within_between declared group count first (suc more) all le room =
     within_append count (edges_to (map (number_of declared) group) first) (edges_between (map (number_of declared) group) (range_with_len (first + 1) more))
@@ -82,7 +90,10 @@ room_of keys names room =
     omega arith
 
 -- the edges of a declaration that a group's followers join
-pub followed_within : (d : Declaration) (group more : List Name) (all shown : List Edge) (places ups : List ℕ) (first end : ℕ) → IsDeclaration d → list_all (is_named d.names) group ≡ true → first ≡ length d.names → end ≡ first + length more → shown ≡ d.edges → ups ≡ places → places ≡ map (number_of d.names) group → all ≡ shown ++ edges_between ups (range_with_len first (end - first)) → AreWithin (length d.names + length more) all
+pub followed_within : (d : Declaration) (group more : List Name) (all shown : List Edge) (places ups : List ℕ) (first end : ℕ) → IsDeclaration d
+    → list_all (is_named d.names) group ≡ true → first ≡ length d.names → end ≡ first + length more → shown ≡ d.edges → ups ≡ places
+    → places ≡ map (number_of d.names) group → all ≡ shown ++ edges_between ups (range_with_len first (end - first))
+    → AreWithin (length d.names + length more) all
 followed_within d group more all shown places ups first end old known begins ends same_edges same_places numbered whole =
     let count : ℕ = length d.names + length more in
     let numbers : ups ≡ map (number_of d.names) group = same_places ∙ numbered in

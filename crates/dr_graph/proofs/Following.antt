@@ -7,10 +7,12 @@ use Rattle.dr_graph.specs.Declaration.{edges_to, edges_between}
 
 pub range_more : (a n : ℕ) → range_with_len a (suc n) ≡ range_with_len a n ++ (a + n) ∷ []
 range_more a zero = ap (λ (k : ℕ). k ∷ []) (let e : a ≡ a + 0 = omega arith in e)
-range_more a (suc n) = ap (λ (ks : List ℕ). a ∷ ks) (range_more (a + 1) n ∙ ap (λ (k : ℕ). range_with_len (a + 1) n ++ k ∷ []) (let e : a + 1 + n ≡ a + suc n = omega arith in e))
+range_more a (suc n) =
+    ap (λ (ks : List ℕ). a ∷ ks) (range_more (a + 1) n ∙ ap (λ (k : ℕ). range_with_len (a + 1) n ++ k ∷ []) (let e : a + 1 + n ≡ a + suc n = omega arith in e))
 
 -- one handler more that follows
-pub between_more : (ups : List ℕ) (first down : ℕ) → first ≤ down → edges_between ups (range_with_len first (down + 1 - first)) ≡ edges_between ups (range_with_len first (down - first)) ++ edges_to ups down
+pub between_more : (ups : List ℕ) (first down : ℕ) → first ≤ down
+    → edges_between ups (range_with_len first (down + 1 - first)) ≡ edges_between ups (range_with_len first (down - first)) ++ edges_to ups down
 between_more ups first down le =
     let n : ℕ = down - first in
     let count : down + 1 - first ≡ suc n = omega arith in

@@ -1,5 +1,8 @@
 -- Each handler has a final that is no further than it.
-use Rattle.std.proofs.Common.{zero-add, ◌≡◌, ℕ, zero, suc, ◌+◌, ◌<◌, ◌≤◌, inl, inr, Bool, true, false, List, [], ◌∷◌, ◌++◌, sym, ◌∙◌, ap, subst, arith, refl, length, map, filter, slice_index, append-nil, add-one}
+use Rattle.std.proofs.Common.{
+    zero-add, ◌≡◌, ℕ, zero, suc, ◌+◌, ◌<◌, ◌≤◌, inl, inr, Bool, true, false, List, [], ◌∷◌, ◌++◌, sym, ◌∙◌, ap, subst,
+    arith, refl, length, map, filter, slice_index, append-nil, add-one
+}
 use Rattle.std.proofs.lemmas.Bool.{false≢true, cases_eq, cases_Bool, cond_both, or_cases, and_parts, or_from, eqb-true, not-true}
 use Rattle.std.proofs.lemmas.List.Folds.{list_any-append, list_any_at}
 use Rattle.std.proofs.lemmas.List.FromFn.{length-range_with_len, get_or-range_with_len}
@@ -7,7 +10,10 @@ use Rattle.std.proofs.lemmas.List.{get_or-map, length-map}
 use Rattle.std.proofs.lemmas.List.Elements.{filter-append, filter_agree, Contains-append_left, Contains-push}
 use Rattle.std.specs.Prelude.{Contains, ◌==◌, ◌&&◌, not, cond, get_or, ◌⊎◌}
 use Rattle.std.specs.List.{list_any, range_with_len}
-use Rattle.dr_graph.specs.Graph.{upstreams_of, is_followed, is_final_without, finals_without, least_of, IsLayered, IsOrderly, IsGated, FinalsGate, LeastGates, LeastRises}
+use Rattle.dr_graph.specs.Graph.{
+    upstreams_of, is_followed, is_final_without, finals_without, least_of, IsLayered, IsOrderly, IsGated, FinalsGate,
+    LeastGates, LeastRises
+}
 use Rattle.dr_graph.specs.Order.{is_in}
 use Rattle.dr_graph.proofs.Following.{range_more}
 
@@ -30,9 +36,11 @@ found_in p a (suc n) found =
     ]
 
 -- a handler that is no final has one after it that is not gone
-followed : (graph : List (List ℕ)) (gone : ℕ → Bool) (h : ℕ) → is_followed graph gone h ≡ true → (k : ℕ) × (k < length graph) × (gone k ≡ false) × Contains (upstreams_of graph k) h
+followed : (graph : List (List ℕ)) (gone : ℕ → Bool) (h : ℕ) → is_followed graph gone h ≡ true
+    → (k : ℕ) × (k < length graph) × (gone k ≡ false) × Contains (upstreams_of graph k) h
 followed graph gone h found =
-    let at : (k : ℕ) × (0 ≤ k) × (k < 0 + length graph) × ((not (gone k) && is_in (upstreams_of graph k) h) ≡ true) = found_in (λ k. not (gone k) && is_in (upstreams_of graph k) h) 0 (length graph) found in
+    let at : (k : ℕ) × (0 ≤ k) × (k < 0 + length graph) × ((not (gone k) && is_in (upstreams_of graph k) h) ≡ true) =
+        found_in (λ k. not (gone k) && is_in (upstreams_of graph k) h) 0 (length graph) found in
     let both : (not (gone at.0) ≡ true) × (is_in (upstreams_of graph at.0) h ≡ true) = and_parts _ _ at.3 in
     (at.0, omega (arith, at.2), not-true (gone at.0) both.0, any_contains h (upstreams_of graph at.0) both.1)
 
@@ -42,7 +50,8 @@ any_agree p q same [] = refl
 any_agree p q same (k ∷ ks) = rw (same k, any_agree p q same ks) refl
 
 -- a test of the lists in order is a test of their numbers
-pub any_numbered : (p : ℕ → Bool) (q : List ℕ → Bool) (graph : List (List ℕ)) (a : ℕ) → ((k : ℕ) → k < length graph → p (a + k) ≡ q (upstreams_of graph k)) → list_any p (range_with_len a (length graph)) ≡ list_any q graph
+pub any_numbered : (p : ℕ → Bool) (q : List ℕ → Bool) (graph : List (List ℕ)) (a : ℕ)
+    → ((k : ℕ) → k < length graph → p (a + k) ≡ q (upstreams_of graph k)) → list_any p (range_with_len a (length graph)) ≡ list_any q graph
 any_numbered p q [] a same = refl
 any_numbered p q (ups ∷ graph) a same =
     let first : p a ≡ q ups = ap p (let e : a ≡ a + 0 = omega arith in e) ∙ same 0 (omega arith) in
@@ -67,13 +76,15 @@ filter_more p n =
     ∙ ap (λ (k : ℕ). filter p (range_with_len 0 n) ++ cond (p k) (k ∷ []) []) (let e : 0 + n ≡ n = omega arith in e)
 
 -- the turn of one number in a loop over them
-pub filter_push : (p : ℕ → Bool) (n : ℕ) (so_far longer : List ℕ) → so_far ≡ filter p (range_with_len 0 n) → p n ≡ true → longer ≡ so_far ++ n ∷ [] → longer ≡ filter p (range_with_len 0 (n + 1))
+pub filter_push : (p : ℕ → Bool) (n : ℕ) (so_far longer : List ℕ) → so_far ≡ filter p (range_with_len 0 n) → p n ≡ true → longer ≡ so_far ++ n ∷ []
+    → longer ≡ filter p (range_with_len 0 (n + 1))
 filter_push p n so_far longer was passed grown =
     grown ∙ ap (λ (xs : List ℕ). xs ++ n ∷ []) was
     ∙ ap (λ (b : Bool). filter p (range_with_len 0 n) ++ cond b (n ∷ []) []) (sym passed)
     ∙ sym (filter_more p n) ∙ ap (λ (k : ℕ). filter p (range_with_len 0 k)) (sym (add-one n))
 
-pub filter_skip : (p : ℕ → Bool) (n : ℕ) (so_far same : List ℕ) → so_far ≡ filter p (range_with_len 0 n) → p n ≡ false → same ≡ so_far → same ≡ filter p (range_with_len 0 (n + 1))
+pub filter_skip : (p : ℕ → Bool) (n : ℕ) (so_far same : List ℕ) → so_far ≡ filter p (range_with_len 0 n) → p n ≡ false → same ≡ so_far
+    → same ≡ filter p (range_with_len 0 (n + 1))
 filter_skip p n so_far same was failed stays =
     stays ∙ was ∙ sym (append-nil (filter p (range_with_len 0 n)))
     ∙ ap (λ (b : Bool). filter p (range_with_len 0 n) ++ cond b (n ∷ []) []) (sym failed)
@@ -91,7 +102,8 @@ passes p (suc n) h lt yields =
     ])
 
 -- going down the edges, the numbers that are left grow fewer
-down : (graph : List (List ℕ)) → IsLayered graph → (gone : ℕ → Bool) (counts : ℕ → ℕ) → IsOrderly graph counts → (fuel h : ℕ) → h < length graph → gone h ≡ false → length graph ≤ h + fuel → IsGated graph gone counts h
+down : (graph : List (List ℕ)) → IsLayered graph → (gone : ℕ → Bool) (counts : ℕ → ℕ) → IsOrderly graph counts → (fuel h : ℕ) → h < length graph
+    → gone h ≡ false → length graph ≤ h + fuel → IsGated graph gone counts h
 down graph layered gone counts orderly zero h lt here enough = absurd (omega arith)
 down graph layered gone counts orderly (suc fuel) h lt here enough =
     elim (cases_Bool (is_followed graph gone h)) [
@@ -135,7 +147,8 @@ pub least_above : (counts : ℕ → ℕ) (k h : ℕ) (hs : List ℕ) → ((f : �
 least_above counts k h [] all = all h (0, omega arith, refl)
 least_above counts k h (x ∷ xs) all =
     let here : k ≤ counts h = all h (0, omega arith, refl) in
-    let rest : k ≤ least_of (map counts (x ∷ xs)) = least_above counts k x xs (λ f has. all f (suc has.0, (let l : has.0 < length (x ∷ xs) = has.1 in omega arith), has.2)) in
+    let rest : k ≤ least_of (map counts (x ∷ xs)) =
+        least_above counts k x xs (λ f has. all f (suc has.0, (let l : has.0 < length (x ∷ xs) = has.1 in omega arith), has.2)) in
     omega arith
 
 pub least_above_some : (counts : ℕ → ℕ) (k f : ℕ) (hs : List ℕ) → Contains hs f → ((f : ℕ) → Contains hs f → k ≤ counts f) → k ≤ least_of (map counts hs)
@@ -150,7 +163,8 @@ first_or_later x xs f (suc i) lt at = inr (i, omega arith, at)
 chosen_in : (p : ℕ → Bool) (a n f : ℕ) → Contains (filter p (range_with_len a n)) f → (f < a + n) × (p f ≡ true)
 chosen_in p a zero f has = absurd (let l : has.0 < 0 = has.1 in omega arith)
 chosen_in p a (suc n) f has =
-    let later : Contains (filter p (range_with_len (a + 1) n)) f → (f < a + suc n) × (p f ≡ true) = λ more. (let r : (f < a + 1 + n) × (p f ≡ true) = chosen_in p (a + 1) n f more in (omega (arith, r.0), r.1)) in
+    let later : Contains (filter p (range_with_len (a + 1) n)) f → (f < a + suc n) × (p f ≡ true) =
+        λ more. (let r : (f < a + 1 + n) × (p f ≡ true) = chosen_in p (a + 1) n f more in (omega (arith, r.0), r.1)) in
     cond_both (p a) (a ∷ filter p (range_with_len (a + 1) n)) (filter p (range_with_len (a + 1) n)) (λ xs. Contains xs f → (f < a + suc n) × (p f ≡ true))
     (λ yes kept. elim (first_or_later a (filter p (range_with_len (a + 1) n)) f kept.0 kept.1 kept.2) [
       | inl e ↦ (omega (arith, e), ap p (sym e) ∙ yes)
@@ -172,7 +186,8 @@ least_rises graph gates gone more fewer counts orderly h lt here =
     least_above_some counts (least_of (map counts (finals_without graph gone))) some.last (finals_without graph more) some.final
     (λ f has. let left : (f < length graph) × (more f ≡ false) = final_left graph more f has in least_gates graph gates gone counts orderly f left.0 (fewer f left.1))
 
-pub followed_agree : (graph : List (List ℕ)) (gone other : ℕ → Bool) → ((k : ℕ) → gone k ≡ other k) → (h : ℕ) → is_followed graph gone h ≡ is_followed graph other h
+pub followed_agree : (graph : List (List ℕ)) (gone other : ℕ → Bool) → ((k : ℕ) → gone k ≡ other k) → (h : ℕ)
+    → is_followed graph gone h ≡ is_followed graph other h
 followed_agree graph gone other same h =
     any_agree (λ k. not (gone k) && is_in (upstreams_of graph k) h) (λ k. not (other k) && is_in (upstreams_of graph k) h) (λ k. rw (same k) refl) (range_with_len 0 (length graph))
 

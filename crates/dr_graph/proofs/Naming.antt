@@ -1,5 +1,8 @@
 -- Faults of names, one after another.
-use Rattle.std.proofs.Common.{◌≡◌, ℕ, zero, suc, ◌+◌, ◌<◌, ◌≤◌, List, [], ◌∷◌, ◌++◌, Bool, true, false, refl, sym, ◌∙◌, ap, arith, map, take, drop, length, get_or, append_assoc, append-nil, add-one, None, Some, Option}
+use Rattle.std.proofs.Common.{
+    ◌≡◌, ℕ, zero, suc, ◌+◌, ◌<◌, ◌≤◌, List, [], ◌∷◌, ◌++◌, Bool, true, false, refl, sym, ◌∙◌, ap, arith, map, take,
+    drop, length, get_or, append_assoc, append-nil, add-one, None, Some, Option
+}
 use Rattle.std.proofs.lemmas.Bool.{false≢true, true≢false}
 use Rattle.std.proofs.lemmas.List.Folds.{list_any-append}
 use Rattle.std.specs.Prelude.{◌||◌, is_some, cond, not}
@@ -19,27 +22,32 @@ list_any-map p h (z ∷ zs) = ap (λ b. p (h z) || b) (list_any-map p h zs)
 pub any_map : {Z : Type 0} (h : Z → Name) (zs : List Z) (m : Name) → list_any (bytes_eq m) (map h zs) ≡ list_any (λ z. bytes_eq m (h z)) zs
 any_map h zs m = list_any-map (bytes_eq m) h zs
 
-pub named_split : {X Y : Type 0} (f : X → Name) (g : Y → Name) (xs : List X) (ys : List Y) (n : Name) → is_named (map f xs ++ map g ys) n ≡ (list_any (λ x. bytes_eq n (f x)) xs || list_any (λ y. bytes_eq n (g y)) ys)
+pub named_split : {X Y : Type 0} (f : X → Name) (g : Y → Name) (xs : List X) (ys : List Y) (n : Name)
+    → is_named (map f xs ++ map g ys) n ≡ (list_any (λ x. bytes_eq n (f x)) xs || list_any (λ y. bytes_eq n (g y)) ys)
 named_split f g xs ys n =
     list_any-append (bytes_eq n) (map f xs) (map g ys)
     ∙ ap (λ b. b || is_named (map g ys) n) (any_map f xs n)
     ∙ ap (λ b. list_any (λ x. bytes_eq n (f x)) xs || b) (any_map g ys n)
 
 -- one name more
-pub faults_at : {X : Type 0} (f : X → Name) (declared : List Name) (xs : List X) (i : ℕ) (d : X) → i < length xs → name_faults (declared ++ map f (take i xs)) (map f (drop i xs)) ≡ option_or (name_fault (declared ++ map f (take i xs)) (f (get_or xs i d))) (name_faults (declared ++ map f (take (suc i) xs)) (map f (drop (suc i) xs)))
+pub faults_at : {X : Type 0} (f : X → Name) (declared : List Name) (xs : List X) (i : ℕ) (d : X) → i < length xs
+    → name_faults (declared ++ map f (take i xs)) (map f (drop i xs)) ≡ option_or (name_fault (declared ++ map f (take i xs)) (f (get_or xs i d))) (name_faults (declared ++ map f (take (suc i) xs)) (map f (drop (suc i) xs)))
 unfolding name_faults
 faults_at f declared [] i d h = absurd (omega arith)
-faults_at f declared (x ∷ xs) zero d h = ap (λ (ns : List Name). option_or (name_fault (declared ++ []) (f x)) (name_faults ns (map f xs))) (append_assoc declared [] (f x ∷ []))
+faults_at f declared (x ∷ xs) zero d h =
+    ap (λ (ns : List Name). option_or (name_fault (declared ++ []) (f x)) (name_faults ns (map f xs))) (append_assoc declared [] (f x ∷ []))
 faults_at f declared (x ∷ xs) (suc i) d h =
     let before : (declared ++ f x ∷ []) ++ map f (take i xs) ≡ declared ++ f x ∷ map f (take i xs) = append_assoc declared (f x ∷ []) (map f (take i xs)) in
-    let after : (declared ++ f x ∷ []) ++ map f (take (suc i) xs) ≡ declared ++ f x ∷ map f (take (suc i) xs) = append_assoc declared (f x ∷ []) (map f (take (suc i) xs)) in
+    let after : (declared ++ f x ∷ []) ++ map f (take (suc i) xs) ≡ declared ++ f x ∷ map f (take (suc i) xs) =
+        append_assoc declared (f x ∷ []) (map f (take (suc i) xs)) in
     let shorter : name_faults ((declared ++ f x ∷ []) ++ map f (take i xs)) (map f (drop i xs)) ≡ option_or (name_fault ((declared ++ f x ∷ []) ++ map f (take i xs)) (f (get_or xs i d))) (name_faults ((declared ++ f x ∷ []) ++ map f (take (suc i) xs)) (map f (drop (suc i) xs))) = faults_at f (declared ++ f x ∷ []) xs i d (omega arith) in
     ap (λ (ns : List Name). name_faults ns (map f (drop i xs))) (sym before)
     ∙ shorter
     ∙ ap (λ (ns : List Name). option_or (name_fault ns (f (get_or xs i d))) (name_faults ((declared ++ f x ∷ []) ++ map f (take (suc i) xs)) (map f (drop (suc i) xs)))) before
     ∙ ap (λ (ns : List Name). option_or (name_fault (declared ++ f x ∷ map f (take i xs)) (f (get_or xs i d))) (name_faults ns (map f (drop (suc i) xs)))) after
 
-pub faults_begin : {X : Type 0} (f : X → Name) (declared : List Name) (xs : List X) → name_faults declared (map f xs) ≡ name_faults (declared ++ map f (take 0 xs)) (map f (drop 0 xs))
+pub faults_begin : {X : Type 0} (f : X → Name) (declared : List Name) (xs : List X)
+    → name_faults declared (map f xs) ≡ name_faults (declared ++ map f (take 0 xs)) (map f (drop 0 xs))
 faults_begin f declared xs = ap (λ (ns : List Name). name_faults ns (map f xs)) (sym (append-nil declared))
 
 pub faults_end : {X : Type 0} (f : X → Name) (declared : List Name) (xs : List X) (i : ℕ) → length xs ≤ i → name_faults declared (map f (drop i xs)) ≡ None
@@ -59,12 +67,17 @@ fault_later None p h = refl
 fault_later (Some fault) p h = absurd (true≢false h)
 
 -- the turn of one name in a loop over names
-pub stops_here : {X : Type 0} (f : X → Name) (declared : List Name) (xs : List X) (i : ℕ) (d : X) (whole fault : Option GraphFault) → whole ≡ name_faults (declared ++ map f (take i xs)) (map f (drop i xs)) → i < length xs → fault ≡ name_fault (declared ++ map f (take i xs)) (f (get_or xs i d)) → is_some fault ≡ true → fault ≡ whole
+pub stops_here : {X : Type 0} (f : X → Name) (declared : List Name) (xs : List X) (i : ℕ) (d : X) (whole fault : Option GraphFault)
+    → whole ≡ name_faults (declared ++ map f (take i xs)) (map f (drop i xs)) → i < length xs
+    → fault ≡ name_fault (declared ++ map f (take i xs)) (f (get_or xs i d)) → is_some fault ≡ true → fault ≡ whole
 stops_here f declared xs i d whole fault so_far h here some =
     let rest : Option GraphFault = name_faults (declared ++ map f (take (suc i) xs)) (map f (drop (suc i) xs)) in
     sym (so_far ∙ faults_at f declared xs i d h ∙ ap (λ (o : Option GraphFault). option_or o rest) (sym here) ∙ fault_here fault rest some)
 
-pub goes_past : {X : Type 0} (f : X → Name) (declared : List Name) (xs : List X) (i : ℕ) (d : X) (whole fault : Option GraphFault) → whole ≡ name_faults (declared ++ map f (take i xs)) (map f (drop i xs)) → i < length xs → fault ≡ name_fault (declared ++ map f (take i xs)) (f (get_or xs i d)) → is_some fault ≡ false → whole ≡ name_faults (declared ++ map f (take (i + 1) xs)) (map f (drop (i + 1) xs))
+pub goes_past : {X : Type 0} (f : X → Name) (declared : List Name) (xs : List X) (i : ℕ) (d : X) (whole fault : Option GraphFault)
+    → whole ≡ name_faults (declared ++ map f (take i xs)) (map f (drop i xs)) → i < length xs
+    → fault ≡ name_fault (declared ++ map f (take i xs)) (f (get_or xs i d)) → is_some fault ≡ false
+    → whole ≡ name_faults (declared ++ map f (take (i + 1) xs)) (map f (drop (i + 1) xs))
 goes_past f declared xs i d whole fault so_far h here none =
     let rest : Option GraphFault = name_faults (declared ++ map f (take (suc i) xs)) (map f (drop (suc i) xs)) in
     so_far ∙ faults_at f declared xs i d h ∙ ap (λ (o : Option GraphFault). option_or o rest) (sym here) ∙ fault_later fault rest none
@@ -99,8 +112,10 @@ none_or None p e = (refl, e)
 none_or (Some x) p e = cc
 
 -- names without fault are new, one after another
-pub free_next : (declared : List Name) (name : Name) (names : List Name) → name_faults declared (name ∷ names) ≡ None → (is_named declared name ≡ false) × (name_faults (declared ++ name ∷ []) names ≡ None)
+pub free_next : (declared : List Name) (name : Name) (names : List Name) → name_faults declared (name ∷ names) ≡ None
+    → (is_named declared name ≡ false) × (name_faults (declared ++ name ∷ []) names ≡ None)
 unfolding name_faults
 free_next declared name names e =
-    let both : (name_fault declared name ≡ None) × (name_faults (declared ++ name ∷ []) names ≡ None) = none_or (name_fault declared name) (name_faults (declared ++ name ∷ []) names) e in
+    let both : (name_fault declared name ≡ None) × (name_faults (declared ++ name ∷ []) names ≡ None) =
+        none_or (name_fault declared name) (name_faults (declared ++ name ∷ []) names) e in
     (none_fault (is_good_name name) (is_named declared name) both.0, both.1)

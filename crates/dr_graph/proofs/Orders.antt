@@ -1,6 +1,12 @@
 -- Placing handlers one after another: what an order keeps, why being stuck means a cycle, and why an order of all means none.
-use Rattle.std.proofs.Common.{◌≡◌, ℕ, zero, suc, ◌+◌, ◌<◌, ◌≤◌, inl, inr, Bool, true, false, List, [], ◌∷◌, ◌++◌, arith, refl, sym, ◌∙◌, ap, take, length, slice_index, subst}
-use Rattle.std.proofs.lemmas.Bool.{false≢true, true≢false, eqb-true, eq-eqb, ne_eqb, or_cases, or_parts, or_left, or_right, and_parts, and_cases, and_from, not-true, not-false, cases_lt, cases_order}
+use Rattle.std.proofs.Common.{
+    ◌≡◌, ℕ, zero, suc, ◌+◌, ◌<◌, ◌≤◌, inl, inr, Bool, true, false, List, [], ◌∷◌, ◌++◌, arith, refl, sym, ◌∙◌, ap,
+    take, length, slice_index, subst
+}
+use Rattle.std.proofs.lemmas.Bool.{
+    false≢true, true≢false, eqb-true, eq-eqb, ne_eqb, or_cases, or_parts, or_left, or_right, and_parts, and_cases,
+    and_from, not-true, not-false, cases_lt, cases_order
+}
 use Rattle.std.proofs.lemmas.List.{take-append-le, get_or_append_left, get_or_push, length_push}
 use Rattle.std.proofs.Math.Seq.{take-append_seam}
 use Rattle.std.proofs.lemmas.List.Folds.{list_any-append}
@@ -55,10 +61,12 @@ in_more xs j k h le there =
 pub ready_unplaced : (edges : List Edge) (placed : List ℕ) (h : ℕ) → is_ready edges placed h ≡ true → is_in placed h ≡ false
 ready_unplaced edges placed h ready = not-true (is_in placed h) (and_parts (not (is_in placed h)) _ ready).0
 
-upstream_placed : (edges : List Edge) (placed : List ℕ) (u h : ℕ) → list_all (λ e. not (e.down == h) || is_in placed e.up) edges ≡ true → is_upstream edges u h ≡ true → is_in placed u ≡ true
+upstream_placed : (edges : List Edge) (placed : List ℕ) (u h : ℕ) → list_all (λ e. not (e.down == h) || is_in placed e.up) edges ≡ true
+    → is_upstream edges u h ≡ true → is_in placed u ≡ true
 upstream_placed [] placed u h all edge = absurd (false≢true edge)
 upstream_placed (e ∷ es) placed u h all edge =
-    let parts : ((not (e.down == h) || is_in placed e.up) ≡ true) × (list_all (λ f. not (f.down == h) || is_in placed f.up) es ≡ true) = and_parts (not (e.down == h) || is_in placed e.up) _ all in
+    let parts : ((not (e.down == h) || is_in placed e.up) ≡ true) × (list_all (λ f. not (f.down == h) || is_in placed f.up) es ≡ true) =
+        and_parts (not (e.down == h) || is_in placed e.up) _ all in
     elim (or_cases ((e.up == u) && (e.down == h)) (is_upstream es u h) edge) [
       | inl here ↦ (
           let ends : ((e.up == u) ≡ true) × ((e.down == h) ≡ true) = and_parts (e.up == u) (e.down == h) here in
@@ -73,7 +81,8 @@ upstream_placed (e ∷ es) placed u h all edge =
 pub ready_upstream : (edges : List Edge) (placed : List ℕ) (u h : ℕ) → is_ready edges placed h ≡ true → is_upstream edges u h ≡ true → is_in placed u ≡ true
 ready_upstream edges placed u h ready edge = upstream_placed edges placed u h (and_parts (not (is_in placed h)) _ ready).1 edge
 
-missing : (edges : List Edge) (placed : List ℕ) (h : ℕ) → list_all (λ e. not (e.down == h) || is_in placed e.up) edges ≡ false → (u : ℕ) × (is_in placed u ≡ false) × (is_upstream edges u h ≡ true)
+missing : (edges : List Edge) (placed : List ℕ) (h : ℕ) → list_all (λ e. not (e.down == h) || is_in placed e.up) edges ≡ false
+    → (u : ℕ) × (is_in placed u ≡ false) × (is_upstream edges u h ≡ true)
 missing [] placed h some = absurd (true≢false some)
 missing (e ∷ es) placed h some =
     elim (and_cases (not (e.down == h) || is_in placed e.up) _ some) [
@@ -85,7 +94,8 @@ missing (e ∷ es) placed h some =
           (rest.0, rest.1, or_right ((e.up == rest.0) && (e.down == h)) (is_upstream es rest.0 h) rest.2))
     ]
 
-pub unready_upstream : (edges : List Edge) (placed : List ℕ) (h : ℕ) → is_in placed h ≡ false → is_ready edges placed h ≡ false → (u : ℕ) × (is_in placed u ≡ false) × (is_upstream edges u h ≡ true)
+pub unready_upstream : (edges : List Edge) (placed : List ℕ) (h : ℕ) → is_in placed h ≡ false → is_ready edges placed h ≡ false
+    → (u : ℕ) × (is_in placed u ≡ false) × (is_upstream edges u h ≡ true)
 unready_upstream edges placed h unplaced unready =
     elim (and_cases (not (is_in placed h)) _ unready) [
       | inl is_placed ↦ absurd (false≢true (sym unplaced ∙ not-false (is_in placed h) is_placed))
@@ -93,7 +103,8 @@ unready_upstream edges placed h unplaced unready =
     ]
 
 -- stuck with handlers left: there is a cycle
-pub stuck : (count : ℕ) (edges : List Edge) (placed : List ℕ) → AreWithin count edges → 0 < spare (is_in placed) count → ((j : ℕ) → j < count → is_ready edges placed j ≡ false) → HasCycle edges
+pub stuck : (count : ℕ) (edges : List Edge) (placed : List ℕ) → AreWithin count edges → 0 < spare (is_in placed) count
+    → ((j : ℕ) → j < count → is_ready edges placed j ≡ false) → HasCycle edges
 stuck count edges placed within some unready =
     let start : (h : ℕ) × (h < count) × (is_in placed h ≡ false) = spare_some (is_in placed) count some in
     walk edges count (λ h. (h < count) × (is_in placed h ≡ false))
@@ -103,7 +114,8 @@ stuck count edges placed within some unready =
     (spare (is_in (start.0 ∷ [])) count) start.0 [] (start.1, start.2) tt (omega arith)
 
 -- one more in order
-pub in_order_push : (count : ℕ) (edges : List Edge) (order : List ℕ) (h : ℕ) → IsInOrder count edges order → IsNext count edges order h → IsInOrder count edges (order ++ h ∷ [])
+pub in_order_push : (count : ℕ) (edges : List Edge) (order : List ℕ) (h : ℕ) → IsInOrder count edges order → IsNext count edges order h
+    → IsInOrder count edges (order ++ h ∷ [])
 in_order_push count edges order h old next k lt =
     elim (cases_lt k (length order)) [
       | inl below ↦ (
@@ -138,14 +150,18 @@ leaves edges from (d ∷ hs) h path = (d, path.0)
 pub no_cycle : (count : ℕ) (edges : List Edge) (order : List ℕ) → AreWithin count edges → IsBuiltOrder count edges order → HasCycle edges → ⊥
 no_cycle count edges order within built cycle =
     let out : (d : ℕ) × (is_upstream edges cycle.handler d ≡ true) = leaves edges cycle.handler cycle.between cycle.handler cycle.path in
-    let place : (k : ℕ) × (k < length order) × (slice_index order k ≡ cycle.handler) = in_at order cycle.handler (built.all cycle.handler (within cycle.handler out.0 out.1).0) in
-    let path : IsPath edges cycle.handler (cycle.between ++ slice_index order place.0 ∷ []) = subst (λ (x : ℕ). IsPath edges cycle.handler (cycle.between ++ x ∷ [])) (sym place.2) cycle.path in
+    let place : (k : ℕ) × (k < length order) × (slice_index order k ≡ cycle.handler) =
+        in_at order cycle.handler (built.all cycle.handler (within cycle.handler out.0 out.1).0) in
+    let path : IsPath edges cycle.handler (cycle.between ++ slice_index order place.0 ∷ []) =
+        subst (λ (x : ℕ). IsPath edges cycle.handler (cycle.between ++ x ∷ [])) (sym place.2) cycle.path in
     let before : is_in (take place.0 order) cycle.handler ≡ true = earlier count edges order built.each place.0 place.1 cycle.handler cycle.between path in
-    let unplaced : is_in (take place.0 order) (slice_index order place.0) ≡ false = ready_unplaced edges (take place.0 order) (slice_index order place.0) (built.each place.0 place.1).ready in
+    let unplaced : is_in (take place.0 order) (slice_index order place.0) ≡ false =
+        ready_unplaced edges (take place.0 order) (slice_index order place.0) (built.each place.0 place.1).ready in
     false≢true (sym unplaced ∙ ap (is_in (take place.0 order)) place.2 ∙ before)
 
 -- no entry stands twice
-pub once : (count : ℕ) (edges : List Edge) (order : List ℕ) → IsInOrder count edges order → (i j : ℕ) → i < length order → j < length order → slice_index order i ≡ slice_index order j → i ≡ j
+pub once : (count : ℕ) (edges : List Edge) (order : List ℕ) → IsInOrder count edges order → (i j : ℕ) → i < length order → j < length order
+    → slice_index order i ≡ slice_index order j → i ≡ j
 once count edges order each i j li lj same =
     elim (cases_order i j) [
       | inl e ↦ e
@@ -156,9 +172,11 @@ once count edges order each i j li lj same =
     ]
 
 -- an upstream stands earlier
-pub upstream_earlier : (count : ℕ) (edges : List Edge) (order : List ℕ) → IsInOrder count edges order → (u h : ℕ) → u < length order → h < length order → is_upstream edges (slice_index order u) (slice_index order h) ≡ true → u < h
+pub upstream_earlier : (count : ℕ) (edges : List Edge) (order : List ℕ) → IsInOrder count edges order → (u h : ℕ) → u < length order
+    → h < length order → is_upstream edges (slice_index order u) (slice_index order h) ≡ true → u < h
 upstream_earlier count edges order each u h lu lh edge =
-    let before : is_in (take h order) (slice_index order u) ≡ true = ready_upstream edges (take h order) (slice_index order u) (slice_index order h) (each h lh).ready edge in
+    let before : is_in (take h order) (slice_index order u) ≡ true =
+        ready_upstream edges (take h order) (slice_index order u) (slice_index order h) (each h lh).ready edge in
     let place : (j : ℕ) × (j < h) × (j < length order) × (slice_index order j ≡ slice_index order u) = in_take order h (slice_index order u) before in
     let same : place.0 ≡ u = once count edges order each place.0 u place.2 lu place.3 in
     omega arith
@@ -173,7 +191,8 @@ starts count edges placed none =
     subst (λ (xs : List ℕ). IsPlacing count edges xs) (sym none)
     (record { each = λ k lt. absurd (omega (arith, lt)); left = (let all : spare (is_in []) count ≡ count = spare_full (is_in []) count (λ k. refl) in omega arith) })
 
-pub goes_on : (count : ℕ) (edges : List Edge) (placed : List ℕ) (h : ℕ) (longer : List ℕ) → IsPlacing count edges placed → IsNext count edges placed h → longer ≡ placed ++ h ∷ [] → IsPlacing count edges longer
+pub goes_on : (count : ℕ) (edges : List Edge) (placed : List ℕ) (h : ℕ) (longer : List ℕ) → IsPlacing count edges placed → IsNext count edges placed h
+    → longer ≡ placed ++ h ∷ [] → IsPlacing count edges longer
 goes_on count edges placed h longer old next e =
     subst (λ (xs : List ℕ). IsPlacing count edges xs) (sym e)
     (record {
@@ -186,8 +205,10 @@ goes_on count edges placed h longer old next e =
           omega arith);
     })
 
-pub halts_stuck : (count : ℕ) (edges : List Edge) (placed : List ℕ) → AreWithin count edges → IsPlacing count edges placed → length placed < count → ((j : ℕ) → j < count → is_ready edges placed j ≡ false) → HasCycle edges
-halts_stuck count edges placed within old some unready = stuck count edges placed within (let was : spare (is_in placed) count + length placed ≡ count = old.left in omega arith) unready
+pub halts_stuck : (count : ℕ) (edges : List Edge) (placed : List ℕ) → AreWithin count edges → IsPlacing count edges placed → length placed < count
+    → ((j : ℕ) → j < count → is_ready edges placed j ≡ false) → HasCycle edges
+halts_stuck count edges placed within old some unready =
+    stuck count edges placed within (let was : spare (is_in placed) count + length placed ≡ count = old.left in omega arith) unready
 
 pub halts_whole : (count : ℕ) (edges : List Edge) (placed : List ℕ) → IsPlacing count edges placed → count ≤ length placed → IsBuiltOrder count edges placed
 halts_whole count edges placed old none =

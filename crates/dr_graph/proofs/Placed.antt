@@ -1,5 +1,8 @@
 -- The graph that is found by placing handlers one after another is the graph of the declaration.
-use Rattle.std.proofs.Common.{◌≡◌, ℕ, zero, suc, ◌+◌, ◌<◌, ◌≤◌, inl, inr, Bool, true, false, None, Some, List, [], ◌∷◌, ◌++◌, refl, sym, ◌∙◌, ap, subst, arith, length, map, take, slice_index, append-nil, add-one}
+use Rattle.std.proofs.Common.{
+    ◌≡◌, ℕ, zero, suc, ◌+◌, ◌<◌, ◌≤◌, inl, inr, Bool, true, false, None, Some, List, [], ◌∷◌, ◌++◌, refl, sym, ◌∙◌, ap,
+    subst, arith, length, map, take, slice_index, append-nil, add-one
+}
 use Rattle.std.proofs.lemmas.Bool.{false≢true, cases_Bool, cases_eq, eq-eqb, ne_eqb}
 use Rattle.std.proofs.lemmas.List.{length_push}
 use Rattle.std.proofs.lemmas.List.FromFn.{length-map-range_with_len, get_or-map-range_with_len}
@@ -91,10 +94,12 @@ placed_more : (count : ℕ) (edges : List Edge) (n : ℕ) → placed count edges
 unfolding placed
 placed_more count edges n = refl
 
-stays : (count : ℕ) (edges : List Edge) (n : ℕ) (order longer : List ℕ) → PlacesAll count edges n order → longer ≡ order → IsStuck count edges order → PlacesAll count edges (suc n) longer
+stays : (count : ℕ) (edges : List Edge) (n : ℕ) (order longer : List ℕ) → PlacesAll count edges n order → longer ≡ order → IsStuck count edges order
+    → PlacesAll count edges (suc n) longer
 stays count edges n order longer old same stuck = rw same (record { placing = old.placing; few = (let few = old.few in omega arith); far = inr stuck })
 
-grows : (count : ℕ) (edges : List Edge) (n h : ℕ) (order longer : List ℕ) → PlacesAll count edges n order → IsNext count edges order h → longer ≡ order ++ h ∷ [] → PlacesAll count edges (suc n) longer
+grows : (count : ℕ) (edges : List Edge) (n h : ℕ) (order longer : List ℕ) → PlacesAll count edges n order → IsNext count edges order h
+    → longer ≡ order ++ h ∷ [] → PlacesAll count edges (suc n) longer
 grows count edges n h order longer old next is =
     let one : length longer ≡ length order + 1 = ap length is ∙ length_push order h in
     record {
@@ -151,7 +156,8 @@ graph_in d order built =
       named = refl;
       complete = length-map-range_with_len (upstreams_in d.edges order) 0 (length order) ∙ whole;
       upstreams = λ h lt.
-          let here : upstreams_of lists h ≡ upstreams_in d.edges order h = get_or-map-range_with_len (upstreams_in d.edges order) 0 (length order) h h [] (omega arith) (omega arith) in
+          let here : upstreams_of lists h ≡ upstreams_in d.edges order h =
+              get_or-map-range_with_len (upstreams_in d.edges order) 0 (length order) h h [] (omega arith) (omega arith) in
           subst (λ (ns : List ℕ). AreChosen (leads_to d.edges order h) (length d.names) ns) (sym here)
           (subst (λ (n : ℕ). AreChosen (leads_to d.edges order h) n (upstreams_in d.edges order h)) whole (chosen_of (leads_to d.edges order h) (length order)));
     }
@@ -168,10 +174,12 @@ some_once x y e = cc
 clash_none : {A : Type 0} (x : A) → Some x ≡ None → ⊥
 clash_none x e = cc
 
-built_of : (d : Declaration) (order : List ℕ) → PlacesAll (length d.names) d.edges (length d.names) order → length order ≡ length d.names → IsBuiltOrder (length d.names) d.edges order
+built_of : (d : Declaration) (order : List ℕ) → PlacesAll (length d.names) d.edges (length d.names) order → length order ≡ length d.names
+    → IsBuiltOrder (length d.names) d.edges order
 built_of d order all whole = halts_whole (length d.names) d.edges order all.placing (omega arith)
 
-sound_in : (d : Declaration) (order : List ℕ) (graph : Shape) → PlacesAll (length d.names) d.edges (length d.names) order → shape_of_whole d order ≡ Some graph → IsGraphOf d graph
+sound_in : (d : Declaration) (order : List ℕ) (graph : Shape) → PlacesAll (length d.names) d.edges (length d.names) order
+    → shape_of_whole d order ≡ Some graph → IsGraphOf d graph
 sound_in d order graph all is = elim (cases_eq (length order) (length d.names)) [
   | inl whole ↦ subst (λ (g : Shape). IsGraphOf d g) (some_once (shape_in d order) graph (sym (found_whole d order whole) ∙ is)) (graph_in d order (built_of d order all whole))
   | inr short ↦ absurd (clash_none graph (sym is ∙ found_none d order short))
@@ -181,10 +189,12 @@ whole_in : (d : Declaration) (graph : Shape) → IsGraphOf d graph → graph_of 
 whole_in d graph is =
     let count = length d.names in
     let len : length is.order ≡ count = is.built.length in
-    let same : placed count d.edges count ≡ is.order = agrees count d.edges is.order is.built.each count (omega arith) ∙ ap (λ n. take n is.order) (sym len) ∙ take-length is.order in
+    let same : placed count d.edges count ≡ is.order = agrees count d.edges is.order is.built.each count (omega arith)
+        ∙ ap (λ n. take n is.order) (sym len) ∙ take-length is.order in
     ap (shape_of_whole d) same ∙ found_whole d is.order len ∙ ap Some (one_graph d (shape_in d is.order) graph (graph_in d is.order is.built) is)
 
-cyclic_in : (d : Declaration) (order : List ℕ) → PlacesAll (length d.names) d.edges (length d.names) order → AreWithin (length d.names) d.edges → shape_of_whole d order ≡ None → HasCycle d.edges
+cyclic_in : (d : Declaration) (order : List ℕ) → PlacesAll (length d.names) d.edges (length d.names) order → AreWithin (length d.names) d.edges
+    → shape_of_whole d order ≡ None → HasCycle d.edges
 cyclic_in d order all within none = elim (cases_eq (length order) (length d.names)) [
   | inl whole ↦ absurd (clash_none (shape_in d order) (sym (found_whole d order whole) ∙ none))
   | inr short ↦ elim all.far [
@@ -193,7 +203,8 @@ cyclic_in d order all within none = elim (cases_eq (length order) (length d.name
   ]
 ]
 
-acyclic_in : (d : Declaration) (order : List ℕ) → PlacesAll (length d.names) d.edges (length d.names) order → AreWithin (length d.names) d.edges → HasCycle d.edges → shape_of_whole d order ≡ None
+acyclic_in : (d : Declaration) (order : List ℕ) → PlacesAll (length d.names) d.edges (length d.names) order → AreWithin (length d.names) d.edges
+    → HasCycle d.edges → shape_of_whole d order ≡ None
 acyclic_in d order all within cycle = elim (cases_eq (length order) (length d.names)) [
   | inl whole ↦ absurd (no_cycle (length d.names) d.edges order within (built_of d order all whole) cycle)
   | inr short ↦ found_none d order short

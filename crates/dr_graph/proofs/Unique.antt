@@ -23,7 +23,8 @@ next_once count edges placed h k one other =
       ]
     ]
 
-orders_agree : (count : ℕ) (edges : List Edge) (xs ys : List ℕ) → IsInOrder count edges xs → IsInOrder count edges ys → (k : ℕ) → k ≤ length xs → k ≤ length ys → take k xs ≡ take k ys
+orders_agree : (count : ℕ) (edges : List Edge) (xs ys : List ℕ) → IsInOrder count edges xs → IsInOrder count edges ys → (k : ℕ) → k ≤ length xs
+    → k ≤ length ys → take k xs ≡ take k ys
 orders_agree count edges xs ys first second zero lx ly = refl
 orders_agree count edges xs ys first second (suc k) lx ly =
     let before : take k xs ≡ take k ys = orders_agree count edges xs ys first second k (omega arith) (omega arith) in
@@ -39,7 +40,8 @@ one_order count edges xs ys first second =
     let lx : length xs ≡ count = first.length in
     let ly : length ys ≡ count = second.length in
     let same : length xs ≡ length ys = omega arith in
-    sym (take-length xs) ∙ orders_agree count edges xs ys first.each second.each (length xs) (omega arith) (omega arith) ∙ ap (λ (k : ℕ). take k ys) same ∙ take-length ys
+    sym (take-length xs) ∙ orders_agree count edges xs ys first.each second.each (length xs) (omega arith) (omega arith)
+        ∙ ap (λ (k : ℕ). take k ys) same ∙ take-length ys
 
 Rises : List ℕ → Type 0
 Rises xs = AllPairs (λ x y. x < y) xs
@@ -50,7 +52,8 @@ rises_tail x xs old i j d lt le = old (suc i) (suc j) d (omega arith) (omega ari
 
 above_head : (x : ℕ) (xs : List ℕ) (n : ℕ) → Rises (x ∷ xs) → Contains xs n → x < n
 unfolding Rises
-above_head x xs n old c = (let less : x < slice_index_or xs c.0 n = old 0 (suc c.0) n (omega arith) (omega (arith, c.1)) in let e : slice_index_or xs c.0 n ≡ n = c.2 in omega arith)
+above_head x xs n old c =
+    (let less : x < slice_index_or xs c.0 n = old 0 (suc c.0) n (omega arith) (omega (arith, c.1)) in let e : slice_index_or xs c.0 n ≡ n = c.2 in omega arith)
 
 head_least : (x : ℕ) (xs : List ℕ) (n : ℕ) → Rises (x ∷ xs) → Contains (x ∷ xs) n → x ≤ n
 head_least x xs n old (zero, lt, e) = (let same : x ≡ n = e in omega arith)
@@ -81,8 +84,10 @@ chosen_once choose bound xs ys first second =
     (λ n c. (let is : (n < bound) × (choose n ≡ true) = first.chosen n c in second.all n is.0 is.1))
     (λ n c. (let is : (n < bound) × (choose n ≡ true) = second.chosen n c in first.all n is.0 is.1))
 
-shape_same : (names more : List Name) (lists others : List (List ℕ)) → names ≡ more → lists ≡ others → ◌≡◌ {A = Shape} (record { names = names; upstreams = lists }) (record { names = more; upstreams = others })
-shape_same names more lists others n l = ap (λ (ns : List Name). record { names = ns; upstreams = lists }) n ∙ ap (λ (ls : List (List ℕ)). record { names = more; upstreams = ls }) l
+shape_same : (names more : List Name) (lists others : List (List ℕ)) → names ≡ more → lists ≡ others
+    → ◌≡◌ {A = Shape} (record { names = names; upstreams = lists }) (record { names = more; upstreams = others })
+shape_same names more lists others n l =
+    ap (λ (ns : List Name). record { names = ns; upstreams = lists }) n ∙ ap (λ (ls : List (List ℕ)). record { names = more; upstreams = ls }) l
 
 pub one_graph : (d : Declaration) → HasOneGraph d
 one_graph d graph other first second =

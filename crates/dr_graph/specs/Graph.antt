@@ -82,7 +82,8 @@ least_without graph gone counts = least_of (map counts (finals_without graph gon
 
 -- the finals' least count is at most every handler's that is not gone
 abbrev pub LeastGates : List (List ℕ) → Type 0
-LeastGates graph = (gone : ℕ → Bool) (counts : ℕ → ℕ) → IsOrderly graph counts → (h : ℕ) → h < length graph → gone h ≡ false → least_without graph gone counts ≤ counts h
+LeastGates graph =
+    (gone : ℕ → Bool) (counts : ℕ → ℕ) → IsOrderly graph counts → (h : ℕ) → h < length graph → gone h ≡ false → least_without graph gone counts ≤ counts h
 
 -- where more handlers go, and one is left, the finals' least count does not fall
 abbrev pub LeastRises : List (List ℕ) → Type 0

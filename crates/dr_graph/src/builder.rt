@@ -136,12 +136,12 @@ impl GraphBuilder {
         Ok(())
     }
 
-    /// Builds the graph, and spends the builder, at a refusal too.
+    /// Builds the graph, which numbers the handlers in their built order. The builder is spent, at a refusal too.
     pub fn build(self) -> Result<Graph, GraphFault>
         ensures built { IfOk result (λ graph. IsGraphOf self graph) }
         ensures lawful { IfOk result (λ graph. IsGraph graph.upstreams) }
 
-        // What is so of every declaration is told here.
+        // What holds of every declaration is said here.
         ensures declaration { IsDeclaration self }
         ensures acyclic { IsOk result → HasCycle self.edges → ⊥ }
         ensures no_handlers { IsErrOf result GraphFault.NoHandlers ↔ (self.names ≡ []) }

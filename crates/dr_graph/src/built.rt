@@ -38,7 +38,7 @@ impl Model for Graph {
 }
 
 impl Graph {
-    /// How many handlers there are. What is so of every graph is said here.
+    /// How many handlers there are. The contract also says what holds of every graph.
     pub fn len(&self) -> usize
         ensures handlers { result ≡ length self.now.upstreams }
         ensures names { result ≡ length self.now.names }

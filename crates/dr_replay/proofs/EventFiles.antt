@@ -1,10 +1,43 @@
--- The events of a file, a record at a time.
-use Rattle.std.proofs.Common.{◌≡◌, ◌+◌, ℕ, List, [], ◌∷◌, ◌++◌, Some, None, Result, Ok, Err, refl, sym, ap, ◌∙◌, append_assoc, append-nil}
+-- The events of a file, a record at a time, as they are read.
+use Rattle.std.proofs.Common.{◌≡◌, ◌+◌, ℕ, Bool, true, false, not, cond, ◌&&◌, List, [], ◌∷◌, ◌++◌, map, Option, Some, None, Result, Ok, Err, refl, sym, ap, arith, ◌∙◌, append_assoc, append-nil}
+use Rattle.std.specs.Option.{is_some}
+use Rattle.std.specs.List.{cons_option, filter_map, list_all, position_or_len}
 use Rattle.dr_seq.specs.declared.event.Event.{Event}
 use Rattle.dr_accounts.specs.declared.operation.Operation.{Operation}
-use Rattle.dr_replay.specs.Meaning.EventFile.{events_from, events_with, operation_in}
+use Rattle.dr_replay.specs.Meaning.EventFile.{events_in, is_operation, operation_in}
 use Rattle.dr_accounts.specs.Operations.{event_of}
 use Rattle.dr_replay.specs.Meaning.Records.{Record}
+
+-- a file whose first record, the k-th, was an operation or none, before others
+abbrev pub events_with : ℕ → Option Operation → Result (List Event) ℕ → Result (List Event) ℕ
+events_with k None rest = Err k
+events_with k (Some o) (Ok events) = Ok (event_of o ∷ events)
+events_with k (Some o) (Err bad) = Err bad
+
+-- the events of records, the first of them being the k-th, read one after another
+unfoldable pub events_from : ℕ → List Record → Result (List Event) ℕ
+events_from k [] = Ok []
+events_from k (r ∷ rs) = events_with k (operation_in r) (events_from (k + 1) rs)
+
+step : (k : ℕ) (o : Option Operation) (fine : Bool) (more : List Operation) (place : ℕ)
+    → events_with k o (cond fine (Ok (map event_of more)) (Err (place + (k + 1))))
+    ≡ cond (is_some o && fine) (Ok (map event_of (cons_option o more))) (Err (cond (not (not (is_some o))) (1 + place) 0 + k))
+step k None fine more place = ap Err (omega arith)
+step k (Some o) true more place = refl
+step k (Some o) false more place = ap Err (omega arith)
+
+all_from : (k : ℕ) (rs : List Record)
+    → events_from k rs ≡ cond (list_all is_operation rs) (Ok (map event_of (filter_map operation_in rs))) (Err (position_or_len (λ r. not (is_operation r)) rs + k))
+unfolding events_from
+all_from k [] = refl
+all_from k (r ∷ rs) =
+    ap (events_with k (operation_in r)) (all_from (k + 1) rs)
+    ∙ step k (operation_in r) (list_all is_operation rs) (filter_map operation_in rs) (position_or_len (λ r. not (is_operation r)) rs)
+
+-- reading them one after another gives the events of all, or the first bad record
+pub read_whole : (rs : List Record) → events_in rs ≡ events_from 1 rs
+unfolding events_in
+read_whole rs = sym (all_from 1 rs)
 
 -- what records say that come after others, which were these events
 abbrev pub preceded : List Event → Result (List Event) ℕ → Result (List Event) ℕ

@@ -22,14 +22,14 @@ impl Model for GateCache {
 }
 
 impl GateCache {
-    /// Before any scan nothing is completed.
+    /// A cache before any scan: its count is 0, since nothing is completed yet.
     pub fn new() -> Self
         ensures { result ≡ 0 }
     {
         GateCache { least: 0 }
     }
 
-    /// The least count that was seen.
+    /// The least completed count of the latest scan, or 0 before any.
     #[inline]
     pub fn seen(&self) -> u64
         ensures { result ≡ self.now }
@@ -37,7 +37,7 @@ impl GateCache {
         self.least
     }
 
-    /// Remembers what a scan found.
+    /// Remembers the least completed count that a scan found.
     #[inline]
     pub fn raise(&mut self, n: u64)
         requires { self.old ≤ n }

@@ -30,7 +30,7 @@ impl Model for Rounds {
 }
 
 impl Rounds {
-    /// The rounds of a ring of a size, with nothing marked.
+    /// The rounds of a ring of a size, with nothing marked. An error is that memory ran out.
     pub fn new(alloc: Global, size: Size) -> Result<Rounds, AllocError>
         ensures { IfOk result (λ rounds. rounds ≡ replicate size 0) }
     {

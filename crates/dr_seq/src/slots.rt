@@ -31,7 +31,7 @@ impl Model for Slots {
 }
 
 impl Slots {
-    /// The slots of a ring of a size, each of two words 0.
+    /// The slots of a ring of a size, each of two words 0. An error is that memory ran out.
     pub fn new(alloc: Global, size: Size) -> Result<Slots, AllocError>
         ensures { IfOk result (λ slots. slots ≡ replicate size no_event) }
     {

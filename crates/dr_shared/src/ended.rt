@@ -8,11 +8,13 @@ use crate::fault::WorkFault;
 /// How a worker ended.
 #[derive(Clone, Copy, Debug, PartialEq, Eq)]
 pub struct Ended {
+    /// The number of the worker.
     pub who: usize,
+    /// Its fault, or `None` where it did all of its work.
     pub fault: Option<WorkFault>,
 }
 
-/// The fault of a worker.
+/// The fault of the worker with the number `who`.
 #[derive(Clone, Copy, Debug, PartialEq, Eq)]
 pub struct WorkerFault {
     pub who: usize,

@@ -19,6 +19,7 @@ use std::sync::Wait;
 pub struct Produced {
     /// How many events were published.
     pub sent: u64,
+    /// Why not all of the script was sent, or that the gate stopped the worker.
     pub fault: Option<WorkFault>,
 }
 

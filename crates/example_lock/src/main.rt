@@ -6,7 +6,7 @@ ghost use Rattle.std.specs.Prelude.{◌≡◌};
 ghost use denote.Param.Send.{IsSync};
 
 use dr_core::{Command, Handler, MAX_LIMIT, Mode};
-use dr_graph::{Graph, GraphBuilder, GraphFault};
+use dr_graph::GraphBuilder;
 use dr_seq::{Event, Size};
 use dr_shared::{
     End, LockedInlet, LockedOutlet, OpenGate, Recorded, Shared, audit, consume, finish, produce,
@@ -116,13 +116,32 @@ fn exchange<L: Ledger + Send + Sync, R: Threads + Wait + Sync>(
     )
 }
 
-fn graph(alloc: Global) -> Result<Graph, GraphFault> {
+/// The core of a ring of eight slots with two producers and one handler, and room for its history.
+fn open(alloc: Global) -> Option<Recorded> {
     let mut builder = GraphBuilder::new(alloc);
-    let _all = builder.handle_with(&["counter"])?;
-    builder.build()
+    let _all = builder.handle_with(&["counter"]).ok()?;
+    let graph = builder.build().ok()?;
+    let size = Size::new(8).ok()?;
+    Recorded::open(alloc, graph, size, Mode::Multi(2), MAX_LIMIT, 200, 40).ok()
+}
+
+fn make_ends<L: Ledger>(shared: &mut Shared<L>) -> Option<Ends<L>> {
+    Some(Ends {
+        first: shared.end()?,
+        second: shared.end()?,
+        handler: shared.end()?,
+        halter: shared.end()?,
+    })
 }
 
 /// How many events the one list has that every handler received, by the audit of the history.
+fn audited(alloc: Global, recorded: &Recorded) -> Option<usize> {
+    let (one, two) = (script(0), script(1));
+    let list = audit(alloc, recorded, &[one.as_slice(), two.as_slice()]).ok()?;
+    Some(list.len())
+}
+
+/// Opens an exchange, lets the workers have it, and audits its history once all ends are back.
 fn run<L: Ledger + Send + Sync, R: Threads + Wait + Sync>(
     rt: &R,
     alloc: Global,
@@ -132,26 +151,17 @@ fn run<L: Ledger + Send + Sync, R: Threads + Wait + Sync>(
     requires parts { blank.parts ≡ L.parts }
     requires ends { blank.parts ≡ 65 }
 {
-    let size = Size::new(8).ok()?;
-    let graph = graph(alloc).ok()?;
-    let recorded = Recorded::open(alloc, graph, size, Mode::Multi(2), MAX_LIMIT, 200, 40).ok()?;
-    let mut shared = Shared::<L>::new(recorded, blank);
-    let ends = Ends {
-        first: shared.end()?,
-        second: shared.end()?,
-        handler: shared.end()?,
-        halter: shared.end()?,
-    };
-    let ends = exchange(rt, &shared, ends)?;
-    let mut back = Vec::new(alloc);
-    back.push(ends.first).ok()?;
-    back.push(ends.second).ok()?;
-    back.push(ends.handler).ok()?;
-    back.push(ends.halter).ok()?;
+    let mut shared = Shared::<L>::new(open(alloc)?, blank);
+    let ends = make_ends(&mut shared)?;
+    let Ends {
+        first,
+        second,
+        handler,
+        halter,
+    } = exchange(rt, &shared, ends)?;
+    let back = Vec::from_array(alloc, [first, second, handler, halter]).ok()?;
     let recorded = finish(shared, back).ok()?;
-    let (one, two) = (script(0), script(1));
-    let list = audit(alloc, &recorded, &[one.as_slice(), two.as_slice()]).ok()?;
-    Some(list.len())
+    audited(alloc, &recorded)
 }
 
 fn main(rt: HostRuntime) -> ExitCode {

@@ -9,7 +9,7 @@ use Rattle.dr_files.specs.Outcome.{AppendsFront, FaultCounts, FaultKeeps, FaultW
 use Rattle.dr_files.specs.declared.fault.Cause.TheVariants.{BadRecord}
 use Rattle.dr_files.specs.declared.fault.FileFault.{FileFault}
 use Rattle.dr_files.specs.declared.fault.FileFault.TheVariants as file
-use Rattle.dr_replay.specs.Meaning.EventFile.{events_from, events_of}
+use Rattle.dr_replay.specs.Meaning.EventFile.{events_in, events_of}
 use Rattle.dr_replay.specs.Meaning.Records.{Record}
 use Rattle.dr_replay.specs.Meaning.Scripts.{scripts_in}
 use Rattle.dr_replay.specs.Calls.Workers.{AuditFinds}
@@ -26,12 +26,12 @@ replay_text input = reported (events_of input)
 
 -- records that have events, or a first bad one; of memory nothing is said
 abbrev pub ReadFails : FileFault → List Record → Type 0
-ReadFails (file.Input k cause) rs = (events_from 1 rs ≡ Err k) × (cause ≡ BadRecord)
+ReadFails (file.Input k cause) rs = (events_in rs ≡ Err k) × (cause ≡ BadRecord)
 ReadFails file.Memory rs = Unit {0}
 ReadFails other rs = ⊥
 
 abbrev pub ReadsAs : {Z : Type 0} → Result (Vec Event Z) FileFault → List Record → Type 0
-ReadsAs (Ok events) rs = events_from 1 rs ≡ Ok events.items
+ReadsAs (Ok events) rs = events_in rs ≡ Ok events.items
 ReadsAs (Err e) rs = ReadFails e rs
 
 -- the events of a file, or its first bad record; of memory and of a failed read nothing is said

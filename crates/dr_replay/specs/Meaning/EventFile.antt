@@ -1,7 +1,10 @@
 -- The event file: an operation a record.
-use Rattle.std.specs.Prelude.{ℕ, ◌+◌, ◌^◌, Bool, ◌==◌, ◌&&◌, nat_lt, if◌then◌else◌, List, [], ◌∷◌, length, Option, Some, None, Result, Ok, Err, bytes_eq, codes}
+use Rattle.std.specs.Prelude.{ℕ, ◌+◌, ◌^◌, Bool, ◌==◌, ◌&&◌, not, nat_lt, if◌then◌else◌, List, length, map, Option, Some, None, Result, Ok, Err, bytes_eq, codes}
+use Rattle.std.specs.Option.{is_some}
+use Rattle.std.specs.List.{filter_map, list_all, position_or_len}
 use Rattle.dr_seq.specs.declared.event.Event.{Event}
 use Rattle.dr_accounts.specs.declared.operation.Operation.{Operation}
+use Rattle.dr_accounts.specs.declared.operation.Movement.{Movement}
 use Rattle.dr_accounts.specs.declared.operation.Movement.TheVariants.{Deposit, Withdraw, Transfer}
 use Rattle.dr_replay.specs.Meaning.Commands.{◌>>=◌}
 use Rattle.dr_accounts.specs.Operations.{event_of}
@@ -19,21 +22,19 @@ number_below bound r place = below bound (number_at r place)
 abbrev pub is_kind : List ℕ → ℕ → Record → Bool
 is_kind kind count r = (length r == count) && bytes_eq (field r 1) kind
 
--- `PRODUCER,deposit,ACCOUNT,AMOUNT`
-abbrev pub deposit : Record → Option Operation
-deposit r = do
+-- `PRODUCER,KIND,ACCOUNT,AMOUNT`: a movement on one account
+abbrev pub on_account : (ℕ → ℕ → Movement) → Record → Option Operation
+on_account movement r = do
   producer ← number_below 16 r 0
   account ← number_below (2 ^ 16) r 2
   amount ← number_below (2 ^ 32) r 3
-  Some (record { producer = producer; movement = Deposit account amount })
+  Some (record { producer = producer; movement = movement account amount })
 
--- `PRODUCER,withdraw,ACCOUNT,AMOUNT`
+abbrev pub deposit : Record → Option Operation
+deposit r = on_account (λ account amount. Deposit account amount) r
+
 abbrev pub withdraw : Record → Option Operation
-withdraw r = do
-  producer ← number_below 16 r 0
-  account ← number_below (2 ^ 16) r 2
-  amount ← number_below (2 ^ 32) r 3
-  Some (record { producer = producer; movement = Withdraw account amount })
+withdraw r = on_account (λ account amount. Withdraw account amount) r
 
 -- `PRODUCER,transfer,FROM,TO,AMOUNT`
 abbrev pub transfer : Record → Option Operation
@@ -52,17 +53,15 @@ operation_in r =
     else if is_kind (codes "transfer") 5 r then transfer r
     else None
 
--- a file whose first record, the k-th, was an operation or none, before others
-abbrev pub events_with : ℕ → Option Operation → Result (List Event) ℕ → Result (List Event) ℕ
-events_with k None rest = Err k
-events_with k (Some o) (Ok events) = Ok (event_of o ∷ events)
-events_with k (Some o) (Err bad) = Err bad
+abbrev pub is_operation : Record → Bool
+is_operation r = is_some (operation_in r)
 
--- the events of records, the first of them being the k-th, in their order; or the number of the first record that is no operation
-unfoldable pub events_from : ℕ → List Record → Result (List Event) ℕ
-events_from k [] = Ok []
-events_from k (r ∷ rs) = events_with k (operation_in r) (events_from (k + 1) rs)
+-- the events of the records' operations, in their order; or, where a record is no operation, the number of the first such one, counted from 1
+unfoldable pub events_in : List Record → Result (List Event) ℕ
+events_in records =
+    if list_all is_operation records then Ok (map event_of (filter_map operation_in records))
+    else Err (position_or_len (λ r. not (is_operation r)) records + 1)
 
--- the events of a file's bytes, or the number of its first bad record, counted from 1
+-- the events of a file's bytes, or the number of its first bad record
 abbrev pub events_of : List ℕ → Result (List Event) ℕ
-events_of input = events_from 1 (records_of input)
+events_of input = events_in (records_of input)

@@ -85,7 +85,7 @@ impl Declaring {
     }
 }
 
-// The text of a field. One that is not UTF-8 is told as the empty text, which is no handler's name either.
+// The text of a field. One that is not UTF-8 is read as the empty text, which is no handler's name either.
 fn text_of(field: &[u8]) -> &str
     ensures { result.now ≡ legible field.now }
 {

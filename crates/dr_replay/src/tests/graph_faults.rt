@@ -181,7 +181,7 @@ const SETUP: [Row; 38] = [
         2,
     ),
     (
-        "a cycle is told at start",
+        "a cycle is found at start",
         "ring,4,single\nwith,a\nthen,b\nedge,b,a\nstart\n",
         "",
         "record 5: cycle",

@@ -36,7 +36,8 @@ found c =
       built = subst (λ (k : ℕ). IsBuiltOrder k d.edges (order_of c)) (c.len.ensures.len ∙ sym count) c.in_ok-order.ensures.built;
       each = subst (λ (xs : List ℕ). AreLists d.edges xs (lists_of c)) c.deref.ensures.value c.in_ok-upstreams.ensures.each;
       same = length-map c.in_ok-upstreams.upstreams.items (λ (ups : Vec ℕ Global). ups.items) ∙ c.in_ok-upstreams.ensures.len ∙ ap length c.deref.ensures.value;
-      named = c.in_ok-names.ensures ∙ ap (λ ks. names_in (texts ks) c.deref-2.result.now) c.as_slice.ensures.keys ∙ ap (names_in d.names) c.deref-2.ensures.value;
+      named = c.in_ok-names.ensures ∙ ap (λ ks. names_in (texts ks) c.deref-2.result.now) c.as_slice.ensures.keys
+          ∙ ap (names_in d.names) c.deref-2.ensures.value;
     }
 
 pub invariant_of-result : goal.invariant_of-result

@@ -7,7 +7,8 @@ use Rattle.dr_graph.proofs.Gating.{any_more, any_here}
 use Rattle.dr_graph.proofs.built.is_followed_in_without.Goals as goal
 
 -- the test of one handler, as it was made
-tested : (lists : List (Vec ℕ Global)) (gone : List Bool) (h k : ℕ) (at : Vec ℕ Global) (ups : List ℕ) (r : Bool) → k < length lists → at ≡ get_or lists k at → ups ≡ at.items → r ≡ (not (flagged gone k) && is_in ups h)
+tested : (lists : List (Vec ℕ Global)) (gone : List Bool) (h k : ℕ) (at : Vec ℕ Global) (ups : List ℕ) (r : Bool) → k < length lists
+    → at ≡ get_or lists k at → ups ≡ at.items → r ≡ (not (flagged gone k) && is_in ups h)
     → (not (flagged gone k) && is_in (upstreams_of (map (λ (v : Vec ℕ Global). v.items) lists) k) h) ≡ r
 tested lists gone h k at ups r lt is same told =
     ap (λ (us : List ℕ). not (flagged gone k) && is_in us h) (get_or-map (λ (v : Vec ℕ Global). v.items) lists k at [] lt ∙ ap (λ (v : Vec ℕ Global). v.items) (sym is) ∙ sym same) ∙ sym told

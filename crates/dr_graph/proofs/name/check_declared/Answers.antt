@@ -10,7 +10,9 @@ returns-then-are_all_declared-clause-refused c =
     rw (stranger_none declared (given c.args.names.now) (list_all-map (is_named declared) (λ (n : Bor (List ℕ)). n.now) c.args.names.now ∙ sym c.are_all_declared.ensures ∙ c.if-are_all_declared.true)) tt
 
 pub returns-then-are_all_declared-clause-accepted : goal.returns-then-are_all_declared-clause-accepted
-returns-then-are_all_declared-clause-accepted c = λ ok. list_all-map (is_named (texts c.args.declared.now.keys)) (λ (n : Bor (List ℕ)). n.now) c.args.names.now ∙ sym c.are_all_declared.ensures ∙ c.if-are_all_declared.true
+returns-then-are_all_declared-clause-accepted c =
+    λ ok. list_all-map (is_named (texts c.args.declared.now.keys)) (λ (n : Bor (List ℕ)). n.now) c.args.names.now ∙ sym c.are_all_declared.ensures
+        ∙ c.if-are_all_declared.true
 
 pub returns-else-are_all_declared-clause-cause : goal.returns-else-are_all_declared-clause-cause
 returns-else-are_all_declared-clause-cause c =

@@ -11,7 +11,8 @@ returns-then-is_group_declared-clause-refused c =
     rw (stranger_none declared (texts c.args.group.now) (list_all-map (is_named declared) text c.args.group.now ∙ sym c.is_group_declared.ensures ∙ c.if-is_group_declared.true)) tt
 
 pub returns-then-is_group_declared-clause-accepted : goal.returns-then-is_group_declared-clause-accepted
-returns-then-is_group_declared-clause-accepted c = λ ok. list_all-map (is_named (texts c.args.declared.now.keys)) text c.args.group.now ∙ sym c.is_group_declared.ensures ∙ c.if-is_group_declared.true
+returns-then-is_group_declared-clause-accepted c =
+    λ ok. list_all-map (is_named (texts c.args.declared.now.keys)) text c.args.group.now ∙ sym c.is_group_declared.ensures ∙ c.if-is_group_declared.true
 
 pub returns-else-is_group_declared-clause-cause : goal.returns-else-is_group_declared-clause-cause
 returns-else-is_group_declared-clause-cause c =

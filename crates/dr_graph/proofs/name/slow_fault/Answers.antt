@@ -17,4 +17,5 @@ loop-i-preserved c =
     c.loop-i.invariant c.loop-i-test.true (c.fault_of-fault.ensures _ c.is_known.ensures) (sym c.is_some.ensures ∙ c.if-is_some.false)
 
 pub returns : goal.returns
-returns c = sym (c.loop-i.invariant ∙ faults_end (λ (n : Bor (List ℕ)). n.now) (map (λ (n : String Global). string_bytes n) c.args.declared.now.keys ++ map (λ (n : Bor (List ℕ)). n.now) (take c.loop-i.i c.args.names.now)) c.args.names.now c.loop-i.i (omega arith))
+returns c =
+    sym (c.loop-i.invariant ∙ faults_end (λ (n : Bor (List ℕ)). n.now) (map (λ (n : String Global). string_bytes n) c.args.declared.now.keys ++ map (λ (n : Bor (List ℕ)). n.now) (take c.loop-i.i c.args.names.now)) c.args.names.now c.loop-i.i (omega arith))

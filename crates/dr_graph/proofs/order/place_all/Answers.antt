@@ -13,10 +13,12 @@ loop-placed-preserved c =
     goes_on c.args.count c.args.edges.now c.loop-placed.placed.items c.in-Some.h c.push.new.self.items c.loop-placed.invariant (subst (λ (xs : List ℕ). IsNext c.args.count c.args.edges.now xs c.in-Some.h) c.deref.ensures.value c.in-Some.ensures) longer
 
 pub returns-in-None-clause-cycle : goal.returns-in-None-clause-cycle
-returns-in-None-clause-cycle c = λ same. halts_stuck c.args.count c.args.edges.now c.loop-placed.placed.items c.requires c.loop-placed.invariant (omega arith) (subst (λ (xs : List ℕ). (j : ℕ) → j < c.args.count → is_ready c.args.edges.now xs j ≡ false) c.deref.ensures.value c.in-None.ensures)
+returns-in-None-clause-cycle c =
+    λ same. halts_stuck c.args.count c.args.edges.now c.loop-placed.placed.items c.requires c.loop-placed.invariant (omega arith) (subst (λ (xs : List ℕ). (j : ℕ) → j < c.args.count → is_ready c.args.edges.now xs j ≡ false) c.deref.ensures.value c.in-None.ensures)
 
 pub returns-clause-built : goal.returns-clause-built
 returns-clause-built c = halts_whole c.args.count c.args.edges.now c.loop-placed.placed.items c.loop-placed.invariant (omega arith)
 
 pub returns-clause-acyclic : goal.returns-clause-acyclic
-returns-clause-acyclic c = λ ok. no_cycle c.args.count c.args.edges.now c.loop-placed.placed.items c.requires (halts_whole c.args.count c.args.edges.now c.loop-placed.placed.items c.loop-placed.invariant (omega arith))
+returns-clause-acyclic c =
+    λ ok. no_cycle c.args.count c.args.edges.now c.loop-placed.placed.items c.requires (halts_whole c.args.count c.args.edges.now c.loop-placed.placed.items c.loop-placed.invariant (omega arith))

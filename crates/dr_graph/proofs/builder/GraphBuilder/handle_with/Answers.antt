@@ -14,4 +14,5 @@ invariant_of-self-2 c =
     (within_more (length old.names) (length old.names + length more) c.self.inside.edges.items c.self.invariant.within (omega arith))
 
 pub returns-clause-group : goal.returns-clause-group
-returns-clause-group c = c.in_ok-group.ensures ∙ new_all (texts c.self.inside.names.keys) [] (given c.args.names.now) (λ n new. refl) (c.in_ok-check_new.ensures.free refl)
+returns-clause-group c =
+    c.in_ok-group.ensures ∙ new_all (texts c.self.inside.names.keys) [] (given c.args.names.now) (λ n new. refl) (c.in_ok-check_new.ensures.free refl)

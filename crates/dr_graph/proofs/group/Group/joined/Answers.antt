@@ -5,9 +5,12 @@ use Rattle.dr_graph.proofs.Grouping.{group_joined, group_again}
 use Rattle.dr_graph.proofs.group.Group.joined.Goals as goal
 
 -- the names after both loops
-names_are : (first second : List Name) (none once twice firsts seconds : List (String Global)) → IsGroup first → none ≡ [] → texts firsts ≡ first → texts seconds ≡ second → texts once ≡ texts none ++ new_names (texts none) (texts firsts) → texts twice ≡ texts once ++ new_names (texts once) (texts seconds) → texts twice ≡ first ++ new_names first second
+names_are : (first second : List Name) (none once twice firsts seconds : List (String Global)) → IsGroup first → none ≡ [] → texts firsts ≡ first
+    → texts seconds ≡ second → texts once ≡ texts none ++ new_names (texts none) (texts firsts)
+    → texts twice ≡ texts once ++ new_names (texts once) (texts seconds) → texts twice ≡ first ++ new_names first second
 names_are first second none once twice firsts seconds group empty f s one two =
-    let again : texts once ≡ first = one ∙ ap (λ (ks : List (String Global)). texts ks ++ new_names (texts ks) (texts firsts)) empty ∙ ap (new_names []) f ∙ group_again first group in
+    let again : texts once ≡ first = one ∙ ap (λ (ks : List (String Global)). texts ks ++ new_names (texts ks) (texts firsts)) empty
+        ∙ ap (new_names []) f ∙ group_again first group in
     two ∙ ap (λ (ns : List Name). ns ++ new_names ns (texts seconds)) again ∙ ap (λ (ns : List Name). first ++ new_names first ns) s
 
 pub invariant_of-result : goal.invariant_of-result

@@ -1,31 +1,27 @@
+use denote.RattleType.{RattleType}
+use denote.Ref.{NamedLft}
 use denote.Param.Send.{IsSend, IsSync, sendable}
-use Rattle.dr_shared.specs.contracts.shared.End as End
-use Rattle.dr_shared.specs.contracts.shared.Shared as Shared
-use Rattle.dr_shared.proofs.Sent.{end_send, of_param, passes, shared_sync}
+use Rattle.std.specs.declared.sync.ledger.Ledger.{Ghosts}
+use Rattle.dr_shared.specs.contracts.tests.threads.Around as Around
+use Rattle.dr_shared.specs.contracts.tests.threads.Task as Task
+use Rattle.dr_shared.proofs.Sent.{end_send, of_param, shared_sync}
 use Rattle.dr_shared.proofs.tests.threads.fn.exchange.scope.Goals as goal
 
--- a worker's closure may go to another thread: it has a reference to the shared history, and an end
+ruleset shares = (sendable, shared_sync)
 
-pub spawn-left-requires-send-F : goal.spawn-left-requires-send-F
-spawn-left-requires-send-F g c κs within =
-    let shared : IsSync (Shared.the_row g.row.L g.L.Ledger) = shared_sync g.row.L g.L.Ledger (of_param _ g.row.L c.requires) in
-    let end : IsSend (End.the_row g.row.L g.L.Ledger) = end_send g.row.L g.L.Ledger in
-    search passes depth 30 fits 20000
+around_sync : (a : NamedLft) (L R : RattleType) (g : Ghosts L.Denot) → IsSync L → IsSync R → IsSync (Around.the_row a L R g)
+around_sync a L R g ledger workers = search shares depth 60 fits 20000
 
-pub spawn-right-requires-send-F : goal.spawn-right-requires-send-F
-spawn-right-requires-send-F g c κs within =
-    let shared : IsSync (Shared.the_row g.row.L g.L.Ledger) = shared_sync g.row.L g.L.Ledger (of_param _ g.row.L c.requires) in
-    let end : IsSend (End.the_row g.row.L g.L.Ledger) = end_send g.row.L g.L.Ledger in
-    search passes depth 30 fits 20000
+ruleset sends = (sendable, end_send)
 
-pub spawn-first-requires-send-F : goal.spawn-first-requires-send-F
-spawn-first-requires-send-F g c κs within =
-    let shared : IsSync (Shared.the_row g.row.L g.L.Ledger) = shared_sync g.row.L g.L.Ledger (of_param _ g.row.L c.requires) in
-    let end : IsSend (End.the_row g.row.L g.L.Ledger) = end_send g.row.L g.L.Ledger in
-    search passes depth 30 fits 20000
+task_send : (L : RattleType) (g : Ghosts L.Denot) → IsSend (Task.the_row L g)
+task_send L g = search sends depth 60 fits 20000
 
-pub spawn-second-requires-send-F : goal.spawn-second-requires-send-F
-spawn-second-requires-send-F g c κs within =
-    let shared : IsSync (Shared.the_row g.row.L g.L.Ledger) = shared_sync g.row.L g.L.Ledger (of_param _ g.row.L c.requires) in
-    let end : IsSend (End.the_row g.row.L g.L.Ledger) = end_send g.row.L g.L.Ledger in
-    search passes depth 30 fits 20000
+ruleset crosses = (sendable, task_send, around_sync)
+
+-- a worker's closure may go to another thread: it has a reference to what all share, and its task
+pub spawn-requires-send-F : goal.spawn-requires-send-F
+spawn-requires-send-F g c κs within =
+    let ledger : IsSync g.row.L = of_param _ g.row.L c.requires.ledger in
+    let workers : IsSync g.row.R = of_param _ g.row.R c.requires.workers in
+    search crosses depth 40 fits 20000
