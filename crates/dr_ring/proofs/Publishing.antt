@@ -13,9 +13,9 @@ use Rattle.dr_core.proofs.Causes.{none_join, first_left, first_right, none_of_st
 use Rattle.dr_ring.specs.declared.record.SenderRecord.{SenderRecord}
 use Rattle.dr_ring.specs.Meaning.Records.{claimed, published_to, AreWritten}
 use Rattle.dr_ring.specs.Calls.Sending.{TriesToPublish}
-use Rattle.dr_ring.specs.Inside.Parts.{AreMarked, HasUnmarked}
+use Rattle.dr_ring.specs.Inside.Noted.{AreNoted, HasUnnoted}
 use Rattle.dr_ring.specs.Inside.Fits.{SenderFields, SenderFits}
-use Rattle.dr_ring.proofs.Marks.{marked_written, unmarked_open}
+use Rattle.dr_ring.proofs.Noting.{noted_written, unnoted_open}
 
 -- the event of an open sequence, once it is written
 abbrev open_at : SenderRecord → ℕ → Option Event
@@ -85,25 +85,25 @@ module _ (r : SenderRecord) where
 
 -- A sender that publishes from lo to hi: what is said of the sender is said of its end.
 module _ {r e : SenderRecord} {f : SenderFields} {lo hi : ℕ} (same : r ≡ e) (fits : SenderFits r f) (order : lo ≤ hi) (within : hi < f.claimed) (fresh : f.published ≤ lo) where
-  -- every sequence of a stretch that is all marked is written
-  ready : AreMarked f.marks r.plan.size lo (hi + 1) → (s : ℕ) → lo ≤ s → s ≤ hi → (v : Event) × (get_or r.sent.pending (s - length r.sent.published) None ≡ Some v)
+  -- every sequence of a stretch that is all noted is written
+  ready : AreNoted f.written lo hi → (s : ℕ) → lo ≤ s → s ≤ hi → (v : Event) × (get_or r.sent.pending (s - length r.sent.published) None ≡ Some v)
   ready all s after below = let next = fits.next in let front = fits.front in
-      marked_written r.plan.size r f.marks lo (hi + 1) fits.marks all (omega arith) (omega arith) s after (omega arith)
+      noted_written r f.written lo hi fits.written all (omega arith) (omega arith) s after below
 
-  pub publish_ready : AreMarked f.marks r.plan.size lo (hi + 1) → lo ≤ f.published → AreWritten r (hi + 1)
+  pub publish_ready : AreNoted f.written lo hi → lo ≤ f.published → AreWritten r (hi + 1)
   publish_ready all ge s after below = let front = fits.front in ready all s (omega arith) (omega arith)
 
-  pub publish_unwritten : HasUnmarked f.marks r.plan.size lo (hi + 1) → TriesToPublish e lo hi e (Err NotWritten)
+  pub publish_unwritten : HasUnnoted f.written lo hi → TriesToPublish e lo hi e (Err NotWritten)
   publish_unwritten has =
       let next = fits.next in let front = fits.front in let from = has.1 in let to = has.2 in
-      let nothing = unmarked_open r.plan.size r f.marks has.0 fits.marks has.3 (omega arith) (omega arith) in
+      let nothing = unnoted_open r f.written has.0 fits.written has.3 (omega arith) (omega arith) in
       subst (λ (x : SenderRecord). TriesToPublish x lo hi x (Err NotWritten)) same (unwritten r lo hi has.0 (omega arith) (omega arith) from (omega arith) nothing, refl, refl)
 
-  pub publish_late : AreMarked f.marks r.plan.size lo (hi + 1) → f.published < lo → TriesToPublish e lo hi e (Err OutOfOrder)
+  pub publish_late : AreNoted f.written lo hi → f.published < lo → TriesToPublish e lo hi e (Err OutOfOrder)
   publish_late all after = let next = fits.next in let front = fits.front in
       subst (λ (x : SenderRecord). TriesToPublish x lo hi x (Err OutOfOrder)) same (out_of_order r lo hi order (omega arith) (omega arith) (ready all), refl, refl)
 
-  pub publish_done : (q : SenderRecord) → AreMarked f.marks r.plan.size lo (hi + 1) → lo ≤ f.published → q ≡ published_to r (hi + 1) → TriesToPublish e lo hi q (Ok tt)
+  pub publish_done : (q : SenderRecord) → AreNoted f.written lo hi → lo ≤ f.published → q ≡ published_to r (hi + 1) → TriesToPublish e lo hi q (Ok tt)
   publish_done q all ge new =
       let next = fits.next in let front = fits.front in
       let sent : q.sent ≡ published_below r.sent (hi + 1) = ap (λ (x : SenderRecord). x.sent) new in

@@ -2,5 +2,6 @@
 pub mod Gathering
 pub mod Seats
 pub mod Stations
+pub mod Noted
 pub mod Fits
 pub mod Parts

@@ -127,7 +127,7 @@ pub fn settle(sender: Sender, receivers: Vec<Receiver>) -> Settled
         claimed,
         published,
         gate: _,
-        marks: _,
+        written: _,
         mut counts,
     } = sender;
     let SenderStation {
