@@ -116,7 +116,7 @@ impl Sender {
         }
         self.station.publish(hi + 1);
         self.published = hi + 1;
-        self.written.raise(hi + 1);
+        self.written.upto = self.written.upto.max(hi + 1);
         Ok(())
     }
 
