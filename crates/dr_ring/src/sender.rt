@@ -86,8 +86,10 @@ impl Sender {
             return Err(Refusal::AlreadyPublished);
         }
         self.written.note(sequence);
-        self.station.store_first::<Brand>(sequence, event.first);
-        self.station.store_second(sequence, event);
+        let station = &mut self.station;
+        let word = station.plan().payload_word(sequence, 0);
+        station.store_first::<Brand>(sequence, word, event.first);
+        station.store_second(sequence, word + 1, event);
         Ok(())
     }
 

@@ -18,8 +18,7 @@ publish-requires-clause-written c = publish_ready refl c.self.invariant c.if-lo-
 
 pub returns : goal.returns
 returns c =
-    let same = ap (λ (e : SenderEnd). e.knows) c.self.view_is in
-    (
+    let same = ap (λ (e : SenderEnd). e.knows) c.self.view_is in (
       search rules,
       publish_done same c.self.invariant c.if-lo-hi.false c.if-hi-self.false c.if-lo-self.false _ c.if-not-has_all.ensures c.if-lo-self-2.false c.publish.ensures.1,
       search rules,
