@@ -31,7 +31,8 @@ no_more (suc v) n none = rw (ne_eqb (suc v) 0 (λ (e : suc v ≡ 0). omega arith
 
 -- a look at halt that claims nothing
 halt_saw : (r : SenderRecord) (n v : ℕ) → (v ≡ 0 → n ≡ 0) → halt_looked r n v ≡ sender_saw r (look halt_word v ∷ [])
-halt_saw r n v none = ap (λ (xs : List (Option Event)). record r { sent = record r.sent { pending = xs }; looks = r.looks ++ look halt_word v ∷ [] }) (ap (λ (ys : List (Option Event)). r.sent.pending ++ ys) (no_more v n none) ∙ append-nil r.sent.pending)
+halt_saw r n v none = ap (λ (xs : List (Option Event)). record r { sent = record r.sent { pending = xs }; looks = r.looks ++ look halt_word v ∷ [] })
+    (ap (λ (ys : List (Option Event)). r.sent.pending ++ ys) (no_more v n none) ∙ append-nil r.sent.pending)
 
 -- looks after looks
 pub saw_then : (r s s' : SenderRecord) (xs ys : List Look) → LooksAtFinals r xs s → LooksAtFinals s ys s' → LooksAtFinals r (xs ++ ys) s'
@@ -69,8 +70,8 @@ pub fits_halt : {r s : SenderRecord} {f : SenderFields} (q v : ℕ) → SenderFi
 fits_halt {r = r} {s = s} q v F is none = fits_saw (look halt_word v ∷ []) F (saw_halt r s q v is none)
 
 -- a sender that has found room, and remembers how many events every final completed
-pub fits_room : {r s : SenderRecord} {f : SenderFields} {xs : List Look} {needed found : ℕ} (kept : ℕ) → SenderFits r f → LooksAtFinals r xs s → IsEnough r xs needed found → kept ≡ found
-    → SenderFits s (record f { remembered = kept })
+pub fits_room : {r s : SenderRecord} {f : SenderFields} {xs : List Look} {needed found : ℕ} (kept : ℕ) → SenderFits r f → LooksAtFinals r xs s → IsEnough r xs needed found
+    → kept ≡ found → SenderFits s (record f { remembered = kept })
 fits_room {s = s} {xs = xs} {found = found} kept F S E raised = let seen = fits_saw xs F S in record {
   made = seen.made;
   whole = seen.whole;

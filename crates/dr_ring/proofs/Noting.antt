@@ -1,5 +1,5 @@
 -- What is noted as written, and what a write, a claim and a publication leave of that.
-use Rattle.std.proofs.Common.{◌≡◌, ◌≢◌, ℕ, ◌+◌, ◌-◌, ◌%◌, ◌<◌, ◌≤◌, inl, inr, true, false, is_some, List, ◌++◌, length, get_or, set, replicate, Option, Some, None, sym, refl, ap, ◌∙◌, subst, arith, length-set, get_or-set_same, get_or-set_other, max}
+use Rattle.std.proofs.Common.{◌≡◌, ◌≢◌, ℕ, ◌+◌, ◌-◌, ◌%◌, ◌<◌, ◌≤◌, inl, inr, true, false, is_some, List, ◌++◌, length, get_or, set, replicate, Option, Some, None, sym, refl, ap, ◌∙◌, subst, arith, length-set, get_or-set_same, get_or-set_other}
 use Rattle.std.specs.Prelude.{◌||◌, nat_lt}
 use Rattle.std.proofs.lemmas.Bool.{cases_eq, cases_lt, lt-ltb, le-ltb, or_left, or_right, or_from}
 use Rattle.std.proofs.lemmas.List.{length-append, length-replicate, get_or_append_left, get_or-append_right, get_or-replicate}
@@ -27,7 +27,8 @@ noted_at : (r : SenderRecord) (w : Written) (s : ℕ) → Noted r w → length r
     → is_noted w s ≡ is_some (get_or r.sent.pending (s - length r.sent.published) None)
 noted_at r w s N after within =
     let here : length r.sent.published + (s - length r.sent.published) ≡ s = omega arith in
-    subst (λ (t : ℕ). is_noted w t ≡ is_some (get_or r.sent.pending (s - length r.sent.published) None)) here (N.each (s - length r.sent.published) (omega arith))
+    subst (λ (t : ℕ). is_noted w t ≡ is_some (get_or r.sent.pending (s - length r.sent.published) None)) here
+    (N.each (s - length r.sent.published) (omega arith))
 
 pub noted_written : (r : SenderRecord) (w : Written) (lo hi : ℕ) → Noted r w → AreNoted w lo hi → length r.sent.published ≤ lo → hi < claimed r
     → (s : ℕ) → lo ≤ s → s ≤ hi → (v : Event) × (get_or r.sent.pending (s - length r.sent.published) None ≡ Some v)
@@ -60,7 +61,8 @@ notes_next size next w s slots claimed fresh at = record {
 }
 
 -- one past it
-notes_ahead : (size next : ℕ) (w : Written) (s : ℕ) → length w.ahead ≡ size → 0 < size → s < next → next ≤ s + size → w.upto ≤ next → ((k : ℕ) → next ≤ k → is_marked w.ahead k ≡ false)
+notes_ahead : (size next : ℕ) (w : Written) (s : ℕ) → length w.ahead ≡ size → 0 < size → s < next → next ≤ s + size → w.upto ≤ next
+    → ((k : ℕ) → next ≤ k → is_marked w.ahead k ≡ false)
     → NotesOne size next w s (record w { ahead = set w.ahead (s % length w.ahead) (entry_of (length w.ahead) s) })
 notes_ahead size next w s slots some claimed near within fresh =
     let marked : set w.ahead (s % length w.ahead) (entry_of (length w.ahead) s) ≡ stamped (entry_of (length w.ahead)) w.ahead s 1 = mark_is w.ahead s in
@@ -101,21 +103,25 @@ noted_write r w w' s v some after within near N notes =
       each = λ i below. elim (cases_eq i at) [
         | inl e ↦ (let here : s ≡ len + i = omega arith in
             subst (λ (t : ℕ). is_noted w' t ≡ true) here one.here
-            ∙ sym (subst (λ (t : ℕ). is_some (get_or (set r.sent.pending at (Some v)) t None) ≡ true) (sym e) (ap is_some (get_or-set_same r.sent.pending at (Some v) None (omega arith)))))
-        | inr ne ↦ one.others (len + i) (λ g. ne (omega arith)) (omega arith) (omega arith) ∙ N.each i (omega arith) ∙ sym (ap is_some (get_or-set_other r.sent.pending at i (Some v) None ne))
+            ∙ sym (subst (λ (t : ℕ). is_some (get_or (set r.sent.pending at (Some v)) t None) ≡ true) (sym e)
+              (ap is_some (get_or-set_same r.sent.pending at (Some v) None (omega arith)))))
+        | inr ne ↦ one.others (len + i) (λ g. ne (omega arith)) (omega arith) (omega arith) ∙ N.each i (omega arith)
+            ∙ sym (ap is_some (get_or-set_other r.sent.pending at i (Some v) None ne))
       ];
     }
 
 pub noted_claim : (r : SenderRecord) (w : Written) (seen : List Look) (q : ℕ) → Noted r w → Noted (more_claimed (sender_saw r seen) q) w
 noted_claim r w seen q N =
     let nothing : Option Event = None in let len = length r.sent.published in let upto = N.upto in
-    let longer : length (r.sent.pending ++ replicate q nothing) ≡ length r.sent.pending + q = omega (arith, length-append r.sent.pending (replicate q nothing), length-replicate q nothing) in record {
+    let longer : length (r.sent.pending ++ replicate q nothing) ≡ length r.sent.pending + q =
+    omega (arith, length-append r.sent.pending (replicate q nothing), length-replicate q nothing) in record {
       slots = N.slots;
       upto = omega arith;
       fresh = λ s l. N.fresh s (omega arith);
       each = λ i below. elim (cases_lt i (length r.sent.pending)) [
         | inl lt ↦ N.each i lt ∙ sym (ap is_some (get_or_append_left r.sent.pending (replicate q nothing) None i lt))
         | inr past ↦ or_from _ _ (le-ltb (len + i) w.upto (omega arith)) (N.fresh (len + i) (omega arith))
-            ∙ sym (ap is_some (get_or-append_right r.sent.pending (replicate q nothing) (length r.sent.pending) i None refl past ∙ get_or-replicate q (i - length r.sent.pending) nothing None (omega arith)))
+            ∙ sym (ap is_some (get_or-append_right r.sent.pending (replicate q nothing) (length r.sent.pending) i None refl past
+                ∙ get_or-replicate q (i - length r.sent.pending) nothing None (omega arith)))
       ];
     }

@@ -1,5 +1,5 @@
 -- What a write leaves of the sender's fields.
-use Rattle.std.proofs.Common.{◌≡◌, ℕ, ◌+◌, ◌-◌, ◌<◌, ◌≤◌, length, set, Some, sym, refl, arith, subst, length-set}
+use Rattle.std.proofs.Common.{◌≡◌, ℕ, ◌-◌, ◌<◌, ◌≤◌, length, set, Some, sym, refl, arith, subst, length-set}
 use Rattle.dr_seq.specs.declared.event.Event.{Event}
 use Rattle.dr_seq.proofs.Sizes.{size_positive}
 use Rattle.dr_ring.specs.declared.written.Written.{Written}
