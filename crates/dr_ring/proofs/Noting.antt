@@ -104,7 +104,7 @@ noted_write r w w' s v some after within near N notes =
         | inl e ↦ (let here : s ≡ len + i = omega arith in
             subst (λ (t : ℕ). is_noted w' t ≡ true) here one.here
             ∙ sym (subst (λ (t : ℕ). is_some (get_or (set r.sent.pending at (Some v)) t None) ≡ true) (sym e)
-              (ap is_some (get_or-set_same r.sent.pending at (Some v) None (omega arith)))))
+            (ap is_some (get_or-set_same r.sent.pending at (Some v) None (omega arith)))))
         | inr ne ↦ one.others (len + i) (λ g. ne (omega arith)) (omega arith) (omega arith) ∙ N.each i (omega arith)
             ∙ sym (ap is_some (get_or-set_other r.sent.pending at i (Some v) None ne))
       ];
@@ -122,6 +122,6 @@ noted_claim r w seen q N =
         | inl lt ↦ N.each i lt ∙ sym (ap is_some (get_or_append_left r.sent.pending (replicate q nothing) None i lt))
         | inr past ↦ or_from _ _ (le-ltb (len + i) w.upto (omega arith)) (N.fresh (len + i) (omega arith))
             ∙ sym (ap is_some (get_or-append_right r.sent.pending (replicate q nothing) (length r.sent.pending) i None refl past
-                ∙ get_or-replicate q (i - length r.sent.pending) nothing None (omega arith)))
+            ∙ get_or-replicate q (i - length r.sent.pending) nothing None (omega arith)))
       ];
     }

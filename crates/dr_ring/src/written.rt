@@ -1,6 +1,6 @@
 //! Which of the sender's open sequences are written.
 
-ghost use Rattle.std.specs.Prelude.{◌≡◌, ◌≢◌, ◌^◌, ◌<◌, replicate, IfOk};
+ghost use Rattle.std.specs.Prelude.{◌≡◌, ◌^◌, ◌<◌, replicate, IfOk};
 ghost use Rattle.std.specs.Bool.{MatchBool};
 ghost use Rattle.dr_ring.specs.Inside.Noted.{Notes, AreNoted, HasUnnoted};
 
@@ -34,19 +34,7 @@ impl Written {
     {
         if sequence == self.upto {
             self.upto += 1;
-        } else {
-            self.note_apart(sequence);
-        }
-    }
-
-    // One that is not the next in order.
-    #[cold]
-    fn note_apart(&mut self, sequence: u64)
-        requires apart { sequence ≢ self.old.upto }
-        requires fits { sequence < 2 ^ 62 }
-        ensures { Notes self.old sequence self.new }
-    {
-        if sequence > self.upto {
+        } else if sequence > self.upto {
             self.ahead.mark(sequence);
         }
     }
@@ -54,15 +42,6 @@ impl Written {
     /// Whether each sequence from `lo` to `hi` is written.
     #[inline]
     pub(crate) fn has_all(&self, lo: u64, hi: u64) -> bool
-        requires { hi < 2 ^ 62 }
-        ensures { MatchBool result (AreNoted self.now lo hi) (HasUnnoted self.now lo hi) }
-    {
-        hi < self.upto || self.has_marked(lo, hi)
-    }
-
-    // The same, by the marks of those that are past the count.
-    #[cold]
-    fn has_marked(&self, lo: u64, hi: u64) -> bool
         requires { hi < 2 ^ 62 }
         ensures { MatchBool result (AreNoted self.now lo hi) (HasUnnoted self.now lo hi) }
     {

@@ -42,12 +42,11 @@ tried c scan =
     }
 
 pub returns-in_default : goal.returns-in_default
-returns-in_default c =
-    (
-      search rules,
-      claim_no_room (tried (goal.at.returns-in_default c).After-saturating_sub-need c.in_default.ensures.answer.1) c.in_default.ensures.answer.2,
-      search rules,
-    )
+returns-in_default c = (
+  search rules,
+  claim_no_room (tried (goal.at.returns-in_default c).After-saturating_sub-need c.in_default.ensures.answer.1) c.in_default.ensures.answer.2,
+  search rules,
+)
 
 pub invariant_of-self-then-not-claims : goal.invariant_of-self-then-not-claims
 invariant_of-self-then-not-claims c =
@@ -56,12 +55,11 @@ invariant_of-self-then-not-claims c =
     fits_halt c.args.n 1 room c.if-not-claims.ensures.1 (λ z. absurd (omega arith))
 
 pub returns-then-not-claims : goal.returns-then-not-claims
-returns-then-not-claims c =
-    (
-      search rules,
-      claim_halted_late (tried (goal.at.returns-then-not-claims c).After-saturating_sub-need c.in-Some.ensures.answer.1) _ _ c.in-Some.ensures.answer.2 c.if-not-claims.ensures.1,
-      search rules,
-    )
+returns-then-not-claims c = (
+  search rules,
+  claim_halted_late (tried (goal.at.returns-then-not-claims c).After-saturating_sub-need c.in-Some.ensures.answer.1) _ _ c.in-Some.ensures.answer.2 c.if-not-claims.ensures.1,
+  search rules,
+)
 
 pub invariant_of-self-2 : goal.invariant_of-self-2
 invariant_of-self-2 c =
@@ -74,9 +72,8 @@ invariant_of-self-2 c =
     fits_claim c.args.n c.saturating_sub-need.result room c.if-not-claims.ensures.1 (search rules) (search rules) (omega arith)
 
 pub returns : goal.returns
-returns c =
-    (
-      search rules,
-      claim_accepted (tried (goal.at.returns c).After-saturating_sub-need c.in-Some.ensures.answer.1) _ _ _ c.in-Some.ensures.answer.2 c.if-not-claims.ensures.1 refl,
-      search rules,
-    )
+returns c = (
+  search rules,
+  claim_accepted (tried (goal.at.returns c).After-saturating_sub-need c.in-Some.ensures.answer.1) _ _ _ c.in-Some.ensures.answer.2 c.if-not-claims.ensures.1 refl,
+  search rules,
+)
