@@ -20,7 +20,7 @@ use Rattle.dr_ring.specs.Calls.Sending.{gate_looks, tests_of_claim, FoundRoom, T
 use Rattle.dr_ring.specs.Inside.Parts.{sender_saw, more_claimed, LooksAtFinals, IsEnough, IsShort}
 use Rattle.dr_ring.specs.Inside.Fits.{IsSeenLeast, SenderFields, SenderFits}
 use Rattle.dr_ring.proofs.Lists.{last_look_else}
-use Rattle.dr_ring.proofs.Marks.{marks_claim}
+use Rattle.dr_ring.proofs.Noting.{noted_claim}
 
 saw_both : (r : SenderRecord) (xs ys : List Look) → sender_saw (sender_saw r xs) ys ≡ sender_saw r (xs ++ ys)
 saw_both r xs ys = ap (λ (zs : List Look). record r { looks = zs }) (append_assoc r.looks xs ys)
@@ -31,7 +31,8 @@ no_more (suc v) n none = rw (ne_eqb (suc v) 0 (λ (e : suc v ≡ 0). omega arith
 
 -- a look at halt that claims nothing
 halt_saw : (r : SenderRecord) (n v : ℕ) → (v ≡ 0 → n ≡ 0) → halt_looked r n v ≡ sender_saw r (look halt_word v ∷ [])
-halt_saw r n v none = ap (λ (xs : List (Option Event)). record r { sent = record r.sent { pending = xs }; looks = r.looks ++ look halt_word v ∷ [] }) (ap (λ (ys : List (Option Event)). r.sent.pending ++ ys) (no_more v n none) ∙ append-nil r.sent.pending)
+halt_saw r n v none = ap (λ (xs : List (Option Event)). record r { sent = record r.sent { pending = xs }; looks = r.looks ++ look halt_word v ∷ [] })
+    (ap (λ (ys : List (Option Event)). r.sent.pending ++ ys) (no_more v n none) ∙ append-nil r.sent.pending)
 
 -- looks after looks
 pub saw_then : (r s s' : SenderRecord) (xs ys : List Look) → LooksAtFinals r xs s → LooksAtFinals s ys s' → LooksAtFinals r (xs ++ ys) s'
@@ -60,7 +61,7 @@ fits_saw {f = f} xs F S = subst (λ (q : SenderRecord). SenderFits q f) (sym S.i
   near = F.near;
   least = F.least;
   seen = λ h has. (let a = F.seen h has in let b = S.rises h in omega arith);
-  marks = record { slots = F.marks.slots; low = F.marks.low; each = F.marks.each };
+  written = record { slots = F.written.slots; upto = F.written.upto; fresh = F.written.fresh; each = F.written.each };
   places = F.places;
 })
 
@@ -69,8 +70,8 @@ pub fits_halt : {r s : SenderRecord} {f : SenderFields} (q v : ℕ) → SenderFi
 fits_halt {r = r} {s = s} q v F is none = fits_saw (look halt_word v ∷ []) F (saw_halt r s q v is none)
 
 -- a sender that has found room, and remembers how many events every final completed
-pub fits_room : {r s : SenderRecord} {f : SenderFields} {xs : List Look} {needed found : ℕ} (kept : ℕ) → SenderFits r f → LooksAtFinals r xs s → IsEnough r xs needed found → kept ≡ found
-    → SenderFits s (record f { remembered = kept })
+pub fits_room : {r s : SenderRecord} {f : SenderFields} {xs : List Look} {needed found : ℕ} (kept : ℕ) → SenderFits r f → LooksAtFinals r xs s → IsEnough r xs needed found
+    → kept ≡ found → SenderFits s (record f { remembered = kept })
 fits_room {s = s} {xs = xs} {found = found} kept F S E raised = let seen = fits_saw xs F S in record {
   made = seen.made;
   whole = seen.whole;
@@ -80,7 +81,7 @@ fits_room {s = s} {xs = xs} {found = found} kept F S E raised = let seen = fits_
   near = seen.near;
   least = let a = E.front in let b = F.front in omega arith;
   seen = subst (λ (m : ℕ). IsSeenLeast s m) (sym raised) (subst (λ (q : SenderRecord). IsSeenLeast q found) (sym S.is) E.seen);
-  marks = seen.marks;
+  written = seen.written;
   places = seen.places;
 }
 
@@ -103,7 +104,7 @@ fits_claim {r = r} {f = f} q needed F is limit need enough =
           let a = F.seen h has in
           let b : last_look 0 (r.looks ++ look halt_word 0 ∷ []) (count_word h) ≡ last_look 0 r.looks (count_word h) =
           last_look_else 0 r.looks halt_word (count_word h) 0 (λ (z : halt_word ≡ count_word h). omega arith) in omega arith);
-      marks = marks_claim r.plan.size r f.marks (look halt_word 0 ∷ []) q F.marks;
+      written = noted_claim r f.written (look halt_word 0 ∷ []) q F.written;
       places = F.places;
     })
 

@@ -9,7 +9,7 @@ pub mod Allowed
 pub mod Plans
 pub mod Stations
 pub mod Rounds
-pub mod Marks
+pub mod Noting
 pub mod Writing
 pub mod Claims
 pub mod Polls

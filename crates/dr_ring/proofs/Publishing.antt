@@ -13,9 +13,9 @@ use Rattle.dr_core.proofs.Causes.{none_join, first_left, first_right, none_of_st
 use Rattle.dr_ring.specs.declared.record.SenderRecord.{SenderRecord}
 use Rattle.dr_ring.specs.Meaning.Records.{claimed, published_to, AreWritten}
 use Rattle.dr_ring.specs.Calls.Sending.{TriesToPublish}
-use Rattle.dr_ring.specs.Inside.Parts.{AreMarked, HasUnmarked}
+use Rattle.dr_ring.specs.Inside.Noted.{AreNoted, HasUnnoted}
 use Rattle.dr_ring.specs.Inside.Fits.{SenderFields, SenderFits}
-use Rattle.dr_ring.proofs.Marks.{marked_written, unmarked_open}
+use Rattle.dr_ring.proofs.Noting.{noted_written, unnoted_open}
 
 -- the event of an open sequence, once it is written
 abbrev open_at : SenderRecord → ℕ → Option Event
@@ -26,12 +26,14 @@ module _ (r : SenderRecord) where
   abbrev causes_of : ℕ → List (Verdict × Refusal)
   causes_of s = sequence_causes (sequence_tests (Some r.sent) s)
 
-  stretch_written : (lo n : ℕ) → length r.sent.published ≤ lo → ((s : ℕ) → lo ≤ s → s < lo + n → (event : Event) × (open_at r s ≡ Some event)) → NoneHolds MayFail (flat_map causes_of (range_with_len lo n))
+  stretch_written : (lo n : ℕ) → length r.sent.published ≤ lo → ((s : ℕ) → lo ≤ s → s < lo + n → (event : Event) × (open_at r s ≡ Some event))
+      → NoneHolds MayFail (flat_map causes_of (range_with_len lo n))
   stretch_written lo n fresh each = none_of_stretch MayHold MayFail causes_of lo n (λ k l.
       (le-ltb (lo + k) (length r.sent.published) (omega arith), (refl, (ap is_none (each (lo + k) (omega arith) (omega arith)).1, tt))))
 
   -- where some sequence is not written, the first such one refuses
-  stretch_unwritten : (lo n k : ℕ) → length r.sent.published ≤ lo → k < n → open_at r (lo + k) ≡ None → IsFirst MayHold MayFail NotWritten (flat_map causes_of (range_with_len lo n))
+  stretch_unwritten : (lo n k : ℕ) → length r.sent.published ≤ lo → k < n → open_at r (lo + k) ≡ None
+      → IsFirst MayHold MayFail NotWritten (flat_map causes_of (range_with_len lo n))
   stretch_unwritten lo zero k fresh l nothing = absurd (omega arith)
   stretch_unwritten lo (suc n) zero fresh l nothing =
       first_left MayHold MayFail NotWritten (causes_of lo) _ (inr (le-ltb lo (length r.sent.published) fresh, inr (refl, inl (ap is_none (rw add-zero at nothing), refl))))
@@ -54,7 +56,8 @@ module _ (r : SenderRecord) where
       le-ltb hi lo order,
       (
         lt-leb (claimed r) hi within,
-        none_join MayHold MayFail (flat_map causes_of (range_with_len lo (hi + 1 - lo))) _ (stretch_written lo (hi + 1 - lo) (omega arith) (λ s low high. all s low (omega arith)))
+        none_join MayHold MayFail (flat_map causes_of (range_with_len lo (hi + 1 - lo))) _
+            (stretch_written lo (hi + 1 - lo) (omega arith) (λ s low high. all s low (omega arith)))
             (ap not (eq-eqb lo (length r.sent.published) front), tt),
       ),
     ),
@@ -66,18 +69,21 @@ module _ (r : SenderRecord) where
       → PublishAnswers (Some r.sent) lo hi (Err (Refused refusal))
   past lo hi refusal order within h = inr (refl, inr (le-ltb hi lo order, inr (lt-leb (claimed r) hi within, h)))
 
-  pub published_before : (lo hi : ℕ) → lo ≤ hi → hi < claimed r → lo < length r.sent.published → PublishAnswers (Some r.sent) lo hi (Err (Refused AlreadyPublished))
+  pub published_before : (lo hi : ℕ) → lo ≤ hi → hi < claimed r → lo < length r.sent.published
+      → PublishAnswers (Some r.sent) lo hi (Err (Refused AlreadyPublished))
   published_before lo hi order within early =
       past lo hi AlreadyPublished order within (first_left MayHold MayFail AlreadyPublished (flat_map causes_of (range_with_len lo (hi + 1 - lo))) _
       (first_of_stretch MayHold MayFail causes_of lo (hi + 1 - lo) 0 AlreadyPublished (omega arith) (λ j l. absurd (omega arith)) (rw add-zero (inl (lt-ltb lo (length r.sent.published) early, refl)))))
 
-  pub unwritten : (lo hi s : ℕ) → hi < claimed r → length r.sent.published ≤ lo → lo ≤ s → s ≤ hi → open_at r s ≡ None → PublishAnswers (Some r.sent) lo hi (Err (Refused NotWritten))
+  pub unwritten : (lo hi s : ℕ) → hi < claimed r → length r.sent.published ≤ lo → lo ≤ s → s ≤ hi → open_at r s ≡ None
+      → PublishAnswers (Some r.sent) lo hi (Err (Refused NotWritten))
   unwritten lo hi s within fresh low high nothing =
       let at : lo + (s - lo) ≡ s = omega arith in
       past lo hi NotWritten (omega arith) within (first_left MayHold MayFail NotWritten (flat_map causes_of (range_with_len lo (hi + 1 - lo))) _
       (stretch_unwritten lo (hi + 1 - lo) (s - lo) fresh (omega arith) (rw at nothing)))
 
-  pub out_of_order : (lo hi : ℕ) → lo ≤ hi → hi < claimed r → length r.sent.published < lo → AllWritten lo hi → PublishAnswers (Some r.sent) lo hi (Err (Refused OutOfOrder))
+  pub out_of_order : (lo hi : ℕ) → lo ≤ hi → hi < claimed r → length r.sent.published < lo → AllWritten lo hi
+      → PublishAnswers (Some r.sent) lo hi (Err (Refused OutOfOrder))
   out_of_order lo hi order within late all =
       past lo hi OutOfOrder order within (first_right MayHold MayFail OutOfOrder (flat_map causes_of (range_with_len lo (hi + 1 - lo))) _
       (stretch_written lo (hi + 1 - lo) (omega arith) (λ s low high. all s low (omega arith)))
@@ -85,25 +91,27 @@ module _ (r : SenderRecord) where
 
 -- A sender that publishes from lo to hi: what is said of the sender is said of its end.
 module _ {r e : SenderRecord} {f : SenderFields} {lo hi : ℕ} (same : r ≡ e) (fits : SenderFits r f) (order : lo ≤ hi) (within : hi < f.claimed) (fresh : f.published ≤ lo) where
-  -- every sequence of a stretch that is all marked is written
-  ready : AreMarked f.marks r.plan.size lo (hi + 1) → (s : ℕ) → lo ≤ s → s ≤ hi → (v : Event) × (get_or r.sent.pending (s - length r.sent.published) None ≡ Some v)
+  -- every sequence of a stretch that is all noted is written
+  ready : AreNoted f.written lo hi → (s : ℕ) → lo ≤ s → s ≤ hi → (v : Event) × (get_or r.sent.pending (s - length r.sent.published) None ≡ Some v)
   ready all s after below = let next = fits.next in let front = fits.front in
-      marked_written r.plan.size r f.marks lo (hi + 1) fits.marks all (omega arith) (omega arith) s after (omega arith)
+      noted_written r f.written lo hi fits.written all (omega arith) (omega arith) s after below
 
-  pub publish_ready : AreMarked f.marks r.plan.size lo (hi + 1) → lo ≤ f.published → AreWritten r (hi + 1)
+  pub publish_ready : AreNoted f.written lo hi → lo ≤ f.published → AreWritten r (hi + 1)
   publish_ready all ge s after below = let front = fits.front in ready all s (omega arith) (omega arith)
 
-  pub publish_unwritten : HasUnmarked f.marks r.plan.size lo (hi + 1) → TriesToPublish e lo hi e (Err NotWritten)
+  pub publish_unwritten : HasUnnoted f.written lo hi → TriesToPublish e lo hi e (Err NotWritten)
   publish_unwritten has =
       let next = fits.next in let front = fits.front in let from = has.1 in let to = has.2 in
-      let nothing = unmarked_open r.plan.size r f.marks has.0 fits.marks has.3 (omega arith) (omega arith) in
-      subst (λ (x : SenderRecord). TriesToPublish x lo hi x (Err NotWritten)) same (unwritten r lo hi has.0 (omega arith) (omega arith) from (omega arith) nothing, refl, refl)
+      let nothing = unnoted_open r f.written has.0 fits.written has.3 (omega arith) (omega arith) in
+      subst (λ (x : SenderRecord). TriesToPublish x lo hi x (Err NotWritten)) same
+      (unwritten r lo hi has.0 (omega arith) (omega arith) from (omega arith) nothing, refl, refl)
 
-  pub publish_late : AreMarked f.marks r.plan.size lo (hi + 1) → f.published < lo → TriesToPublish e lo hi e (Err OutOfOrder)
+  pub publish_late : AreNoted f.written lo hi → f.published < lo → TriesToPublish e lo hi e (Err OutOfOrder)
   publish_late all after = let next = fits.next in let front = fits.front in
-      subst (λ (x : SenderRecord). TriesToPublish x lo hi x (Err OutOfOrder)) same (out_of_order r lo hi order (omega arith) (omega arith) (ready all), refl, refl)
+      subst (λ (x : SenderRecord). TriesToPublish x lo hi x (Err OutOfOrder)) same
+      (out_of_order r lo hi order (omega arith) (omega arith) (ready all), refl, refl)
 
-  pub publish_done : (q : SenderRecord) → AreMarked f.marks r.plan.size lo (hi + 1) → lo ≤ f.published → q ≡ published_to r (hi + 1) → TriesToPublish e lo hi q (Ok tt)
+  pub publish_done : (q : SenderRecord) → AreNoted f.written lo hi → lo ≤ f.published → q ≡ published_to r (hi + 1) → TriesToPublish e lo hi q (Ok tt)
   publish_done q all ge new =
       let next = fits.next in let front = fits.front in
       let sent : q.sent ≡ published_below r.sent (hi + 1) = ap (λ (x : SenderRecord). x.sent) new in

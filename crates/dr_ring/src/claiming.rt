@@ -1,15 +1,12 @@
-//! What the sender's calls are made of: looks at halt and at the final handlers' counts, and the
-//! marks of what is written.
+//! What a claim is made of: looks at halt and at the final handlers' counts.
 
-ghost use Rattle.std.specs.Prelude.{◌≡◌, ◌+◌, ◌^◌, ◌<◌, ◌≤◌, if◌then◌else◌, length, IfSome};
-ghost use Rattle.std.specs.Bool.{MatchBool};
+ghost use Rattle.std.specs.Prelude.{◌≡◌, ◌≤◌, if◌then◌else◌, length, IfSome};
 ghost use Rattle.dr_ring.specs.Meaning.Records.{halt_looked, HasRoom};
 ghost use Rattle.dr_ring.specs.Inside.Fits.{IsSeenLeast};
 ghost use Rattle.dr_ring.specs.Calls.Ends.{HasLoaded};
-ghost use Rattle.dr_ring.specs.Inside.Parts.{Scans, AreMarked, HasUnmarked};
+ghost use Rattle.dr_ring.specs.Inside.Parts.{Scans};
 
 use crate::laws::SenderStation;
-use dr_seq::Size;
 use std::marker::Brand;
 
 impl SenderStation {
@@ -52,18 +49,4 @@ impl SenderStation {
         }
         Some(least)
     }
-}
-
-/// Whether each of these sequences is marked: one more than it stands at its slot.
-pub(crate) fn all_marked(marks: &[u64], size: Size, from: u64, to: u64) -> bool
-    requires slots { length marks.now ≡ size }
-    requires to { to < 2 ^ 63 }
-    ensures { MatchBool result (AreMarked marks.now size from to) (HasUnmarked marks.now size from to) }
-{
-    for sequence in from..to {
-        if marks[size.slot(sequence)] != sequence + 1 {
-            return false;
-        }
-    }
-    true
 }

@@ -18,6 +18,7 @@ mod receiver;
 pub mod record;
 mod sender;
 mod settled;
+mod written;
 
 pub use fault::RingFault;
 pub use laws::Halter;

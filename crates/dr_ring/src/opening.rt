@@ -17,6 +17,7 @@ use crate::receiver::Receiver;
 use crate::record::View;
 use crate::sender::Sender;
 use crate::settled::HandlerCounts;
+use crate::written::Written;
 use atomic_table::Split;
 use dr_core::is_valid_limit;
 use dr_graph::Graph;
@@ -73,7 +74,7 @@ fn ends(alloc: Global, plan: Plan) -> Result<(Sender, Vec<Receiver>, Halter), Al
     ensures { IfOk result (λ made. AreFreshEnds plan made.0 made.1.items made.2) }
 {
     let words = vec![in alloc; 0; plan.words()]?;
-    let marks = vec![in alloc; 0; plan.size().get() as usize]?;
+    let written = Written::new(alloc, plan.size())?;
     let counts = vec![in alloc; HandlerCounts::NONE; plan.handlers()]?;
     let (table, mut seat) = RingTable::of_words(alloc, words.as_slice(), &plan)?;
     let ring = Arc::new(alloc, RingBody { table, plan })?;
@@ -94,7 +95,7 @@ fn ends(alloc: Global, plan: Plan) -> Result<(Sender, Vec<Receiver>, Halter), Al
         claimed: 0,
         published: 0,
         gate: GateCache::new(),
-        marks,
+        written,
         counts,
     };
     Ok((sender, receivers, halter))

@@ -27,26 +27,26 @@ pub fn count_word(handler: usize) -> usize
 }
 
 /// The graph of a ring's handlers, by each handler's direct upstreams, with its final handlers, the
-/// size and the limit of sequences.
+/// size, the limit of sequences and the number of words.
 #[derive(Drop)]
 pub struct Plan {
     size: Size,
     limit: u64,
+    words: usize,
     upstreams: Vec<Vec<usize>>,
     finals: Vec<usize>,
 }
 
 impl Model for Plan {
-    ghost use Rattle.std.specs.Prelude.{◌≡◌, map};
-    ghost use Rattle.dr_graph.specs.Graph.{finals as final_handlers};
+    ghost use Rattle.std.specs.Prelude.{map};
     ghost use Rattle.dr_ring.specs.Meaning.Shape.{Shape};
-    ghost use Rattle.dr_ring.specs.Calls.Plans.{IsPlan};
+    ghost use Rattle.dr_ring.specs.Inside.Plans.{PlanFits};
 
     ghost Value = { Shape };
 
     ghost view = { λ p. record { upstreams = map (λ v. v.items) p.upstreams.items; size = p.size; limit = p.limit } };
 
-    ghost invariant = { λ p. IsPlan (record { upstreams = map (λ v. v.items) p.upstreams.items; size = p.size; limit = p.limit }) × (p.finals.items ≡ final_handlers (map (λ v. v.items) p.upstreams.items)) };
+    ghost invariant = { λ p. PlanFits (record { upstreams = map (λ v. v.items) p.upstreams.items; size = p.size; limit = p.limit }) p.finals.items p.words };
 }
 
 // The direct upstreams of each handler of a graph.
@@ -76,11 +76,11 @@ impl Plan {
     {
         let upstreams = copy_upstreams(alloc, graph)?;
         let finals = Vec::from_slice(alloc, graph.finals())?;
-        let _handlers = graph.len();
-        let _slots = size.get();
+        let words = 32 + 16 * graph.len() + 2 * size.get() as usize;
         Ok(Plan {
             size,
             limit,
+            words,
             upstreams,
             finals,
         })
@@ -136,6 +136,6 @@ impl Plan {
     pub fn words(&self) -> usize
         ensures { result ≡ words_of self.now }
     {
-        32 + 16 * self.upstreams.len() + 2 * self.size.get() as usize
+        self.words
     }
 }

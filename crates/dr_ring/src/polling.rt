@@ -42,10 +42,13 @@ impl ReceiverStation {
         ensures only { HasLoaded self.old (received_all self.old.knows out.new) self.new }
         ensures length { length out.new ≡ length out.old }
     {
+        let plan = &self.ring.plan;
+        let (start, size) = (plan.payload_word(0, 0), plan.size());
         let mut sequence = taken;
         for event in out.iter_mut() {
-            let first = self.load_first(sequence);
-            *event = self.load_second(sequence, first);
+            let word = start + 2 * size.slot(sequence);
+            let first = self.load_first(word);
+            *event = self.load_second(word + 1, first);
             sequence += 1;
         }
     }

@@ -5,9 +5,9 @@ ghost use Rattle.dr_core.specs.Ends.{Tells, ClaimAnswers, WriteAnswers, PublishA
 ghost use Rattle.dr_ring.specs.Calls.Ends.{sender_place, looks_counted};
 ghost use Rattle.dr_ring.specs.Calls.Sending.{ClaimCall, WriteCall, PublishCall, CloseCall};
 
-use crate::claiming::all_marked;
 use crate::laws::SenderStation;
 use crate::settled::HandlerCounts;
+use crate::written::Written;
 use dr_core::{Claimed, Inlet, Refusal, Trouble};
 use dr_seq::{Event, GateCache};
 use std::marker::{Brand, Model};
@@ -20,8 +20,7 @@ pub struct Sender {
     pub(crate) published: u64,
     // What each final handler was seen to have completed at least.
     pub(crate) gate: GateCache,
-    // One more than the sequence that was last written to a slot, so that a claim clears nothing.
-    pub(crate) marks: Vec<u64>,
+    pub(crate) written: Written,
     // Room for each handler's counts, since the ends come together without taking memory.
     pub(crate) counts: Vec<HandlerCounts>,
 }
@@ -34,7 +33,7 @@ impl Model for Sender {
 
     ghost view = { λ s. s.station };
 
-    ghost invariant = { λ s. SenderFits s.station.knows (record { claimed = s.claimed; published = s.published; remembered = s.gate; marks = s.marks.items; rooms = s.counts.items }) };
+    ghost invariant = { λ s. SenderFits s.station.knows (record { claimed = s.claimed; published = s.published; remembered = s.gate; written = s.written; rooms = s.counts.items }) };
 }
 
 impl Sender {
@@ -86,10 +85,11 @@ impl Sender {
         if sequence < self.published {
             return Err(Refusal::AlreadyPublished);
         }
-        let slot = self.station.plan().size().slot(sequence);
-        self.marks[slot] = sequence + 1;
-        self.station.store_first::<Brand>(sequence, event.first);
-        self.station.store_second(sequence, event);
+        self.written.note(sequence);
+        let station = &mut self.station;
+        let word = station.plan().payload_word(sequence, 0);
+        station.store_first::<Brand>(sequence, word, event.first);
+        station.store_second(sequence, word + 1, event);
         Ok(())
     }
 
@@ -110,8 +110,7 @@ impl Sender {
         if lo < self.published {
             return Err(Refusal::AlreadyPublished);
         }
-        let size = self.station.plan().size();
-        if !all_marked(self.marks.as_slice(), size, lo, hi + 1) {
+        if !self.written.has_all(lo, hi) {
             return Err(Refusal::NotWritten);
         }
         if lo > self.published {
@@ -119,6 +118,7 @@ impl Sender {
         }
         self.station.publish(hi + 1);
         self.published = hi + 1;
+        self.written.upto = self.written.upto.max(hi + 1);
         Ok(())
     }
 

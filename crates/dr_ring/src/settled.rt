@@ -8,7 +8,7 @@ ghost use Rattle.dr_ring.specs.Inside.Gathering.{LeadsView, AreOfRing, Gathers};
 ghost use Rattle.dr_ring.specs.Meaning.Settling.{Settles, HasRun};
 ghost use Rattle.dr_ring.specs.Calls.Settling.{AreAllEnds, counts_of, counts_at};
 
-use crate::laws::{ReceiverStation, RingBody, RingSeat, SenderStation, moments, settling};
+use crate::laws::{RingBody, RingSeat, moments, settling};
 use crate::receiver::Receiver;
 use crate::sender::Sender;
 use std::alloc::Global;
@@ -92,19 +92,12 @@ fn gather(
     ensures counts { counts.new.items ≡ map (λ e. counts_of e.knows) receivers.items }
 {
     while let Some(receiver) = receivers.pop() {
-        let Receiver {
-            station,
-            taken,
-            completed,
-        } = receiver;
-        let ReceiverStation {
-            ring: _own,
-            seat: other,
-            number: _,
-            looks: _,
-        } = station;
-        counts[receivers.len()] = HandlerCounts { taken, completed };
-        settling::take_in(&ring.table.shared, seat, other);
+        counts[receivers.len()] = HandlerCounts {
+            taken: receiver.taken,
+            completed: receiver.completed,
+        };
+        let station = receiver.station;
+        settling::take_in(&ring.table.shared, seat, station.seat);
     }
 }
 
@@ -122,25 +115,15 @@ pub fn settle(sender: Sender, receivers: Vec<Receiver>) -> Settled
     ensures lists { Settles sender.knows (map (λ e. e.knows) receivers.items) }
     ensures run { HasRun sender.knows (map (λ e. e.knows) receivers.items) }
 {
-    let Sender {
-        station,
-        claimed,
-        published,
-        gate: _,
-        marks: _,
-        mut counts,
-    } = sender;
-    let SenderStation {
-        ring,
-        mut seat,
-        looks: _,
-    } = station;
-    gather(&ring, &mut seat, receivers, &mut counts);
-    settling::compare(&ring.table.shared, &mut seat);
+    let station = sender.station;
+    let mut seat = station.seat;
+    let mut counts = sender.counts;
+    gather(&station.ring, &mut seat, receivers, &mut counts);
+    settling::compare(&station.ring.table.shared, &mut seat);
     moments();
     Settled {
-        claimed,
-        published,
+        claimed: sender.claimed,
+        published: sender.published,
         handlers: counts,
     }
 }

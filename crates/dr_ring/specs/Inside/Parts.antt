@@ -1,5 +1,5 @@
 -- What the loops of the ends' calls come to.
-use Rattle.std.specs.Prelude.{◌≡◌, ◌≢◌, ℕ, ◌+◌, ◌%◌, ◌<◌, ◌≤◌, ◌==◌, ◌&&◌, ◌||◌, ◌⊎◌, Bool, nat_lt, if◌then◌else◌, true, List, [], ◌++◌, length, slice_index, Option, Some, None, Contains}
+use Rattle.std.specs.Prelude.{◌≡◌, ◌≢◌, ℕ, ◌+◌, ◌<◌, ◌≤◌, ◌==◌, ◌&&◌, ◌||◌, ◌⊎◌, Bool, nat_lt, if◌then◌else◌, true, List, [], ◌++◌, length, slice_index, Option, Some, None, Contains}
 use Rattle.dr_core.specs.declared.command.Polled.{Polled}
 use Rattle.dr_core.specs.declared.command.Polled.TheVariants.{Drained, Gating, Idle}
 use Rattle.dr_graph.specs.Graph.{upstreams_of, finals}
@@ -81,10 +81,3 @@ pub record LooksAtUpstreams (r : ReceiverRecord) (cursor : ℕ) (r' : ReceiverRe
 -- what a poll answers where nothing is offered
 abbrev pub nothing_offered : ℕ → ℕ → ℕ → Polled
 nothing_offered closed cursor taken = if (closed == 1) && (cursor == taken) then Drained else if nat_lt taken cursor then Gating else Idle
-
--- each sequence from lo on and below hi is marked, by one more than it at its slot
-abbrev pub AreMarked : List ℕ → ℕ → ℕ → ℕ → Type 0
-AreMarked marks size lo hi = (s : ℕ) → lo ≤ s → s < hi → slice_index marks (s % size) ≡ s + 1
-
-abbrev pub HasUnmarked : List ℕ → ℕ → ℕ → ℕ → Type 0
-HasUnmarked marks size lo hi = (s : ℕ) × (lo ≤ s) × (s < hi) × (slice_index marks (s % size) ≢ s + 1)

@@ -2,7 +2,7 @@
 
 ghost use Rattle.std.specs.Prelude.{◌≡◌, ◌<◌, ◌≤◌, true, None, Some, length, Contains};
 ghost use Rattle.dr_graph.specs.Graph.{upstreams_of};
-ghost use Rattle.dr_ring.specs.Meaning.Words.{cursor_word, closed_word, count_word as count_word_of};
+ghost use Rattle.dr_ring.specs.Meaning.Words.{cursor_word, closed_word, count_word as count_word_of, payload_word};
 ghost use Rattle.dr_ring.specs.Meaning.Records.{receiver_looked, cursor_looked, half_taken, took, completed_to, IsBelowBarrier};
 ghost use Rattle.dr_ring.specs.declared.record.Step.TheVariants.{ReceiverCompletes};
 ghost use Rattle.dr_ring.specs.Inside.Seats.{FindsClosed, FindsEvents};
@@ -77,27 +77,27 @@ impl ReceiverStation {
     }
 
     /// A receiver loads the first word of its next event, which is below its barrier.
-    pub(crate) fn load_first(&mut self, taken: u64) -> u64
-        requires next { taken ≡ length self.old.knows.received }
+    pub(crate) fn load_first(&mut self, word: usize) -> u64
+        requires place { word ≡ payload_word self.old.knows.plan (length self.old.knows.received) 0 }
         requires whole { self.old.knows.half ≡ None }
         requires below { IsBelowBarrier self.old.knows.plan self.old.knows.number self.old.knows }
         ensures { HasLoaded self.old (half_taken self.old.knows result) self.new }
     {
         let words = &self.ring.table.shared;
-        words.load::<Brand>(&mut self.seat, self.ring.plan.payload_word(taken, 0))
+        words.load::<Brand>(&mut self.seat, word)
     }
 
     /// A receiver loads the second word of its next event, whose first word it has just loaded, and
     /// has taken that event.
-    pub(crate) fn load_second(&mut self, taken: u64, first: u64) -> Event
-        requires next { taken ≡ length self.old.knows.received }
+    pub(crate) fn load_second(&mut self, word: usize, first: u64) -> Event
+        requires place { word ≡ payload_word self.old.knows.plan (length self.old.knows.received) 1 }
         requires half { self.old.knows.half ≡ Some first }
         requires below { IsBelowBarrier self.old.knows.plan self.old.knows.number self.old.knows }
         ensures step { HasLoaded self.old (took self.old.knows result) self.new }
         ensures first { result.first ≡ first }
     {
         let words = &self.ring.table.shared;
-        let second = words.load::<Brand>(&mut self.seat, self.ring.plan.payload_word(taken, 1));
+        let second = words.load::<Brand>(&mut self.seat, word);
         Event { first, second }
     }
 

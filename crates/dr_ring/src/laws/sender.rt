@@ -3,7 +3,7 @@
 ghost use Rattle.std.specs.Prelude.{◌≡◌, ◌<◌, ◌≤◌, [], true, None, Some, length, Contains};
 ghost use Rattle.dr_graph.specs.Graph.{finals};
 ghost use Rattle.dr_ring.specs.Calls.Plans.{IsPlan};
-ghost use Rattle.dr_ring.specs.Meaning.Words.{count_word as count_word_of};
+ghost use Rattle.dr_ring.specs.Meaning.Words.{count_word as count_word_of, payload_word};
 ghost use Rattle.dr_ring.specs.Meaning.Records.{claimed, sender_looked, halt_looked, half_written, written, published_to, sender_halted, sender_closed, HasRoom, IsOpen, AreWritten};
 ghost use Rattle.dr_ring.specs.declared.record.Step.TheVariants.{SenderStoresFirst, SenderStoresSecond, SenderPublishes, SenderHalts, SenderCloses};
 ghost use Rattle.dr_ring.specs.Inside.Seats.{FindsCompleted, FindsHalt};
@@ -71,24 +71,24 @@ impl SenderStation {
     }
 
     /// The sender stores the first word of the event of a sequence that it has claimed and not
-    /// published.
-    pub(crate) fn store_first<J: Names>(&mut self, sequence: u64, first: u64)
+    /// published, at the word's place.
+    pub(crate) fn store_first<J: Names>(&mut self, sequence: u64, word: usize, first: u64)
         requires named { sequence ≡ J.number }
+        requires place { word ≡ payload_word self.old.knows.plan sequence 0 }
         requires own { IsOpen self.old.knows sequence }
         requires whole { self.old.knows.half ≡ None }
         ensures { HasStored self.old (SenderStoresFirst sequence first) (half_written self.old.knows sequence first) self.new }
     {
-        let word = self.ring.plan.payload_word(sequence, 0);
         let words = &self.ring.table.shared;
         words.store::<Brand>(&mut self.seat, word, first);
     }
 
     /// The sender stores the second word of an event whose first word it has just stored.
-    pub(crate) fn store_second(&mut self, sequence: u64, event: Event)
-        requires { self.old.knows.half ≡ Some record { sequence = sequence; first = event.first } }
+    pub(crate) fn store_second(&mut self, sequence: u64, word: usize, event: Event)
+        requires place { word ≡ payload_word self.old.knows.plan sequence 1 }
+        requires half { self.old.knows.half ≡ Some record { sequence = sequence; first = event.first } }
         ensures { HasStored self.old (SenderStoresSecond event.second) (written self.old.knows sequence event) self.new }
     {
-        let word = self.ring.plan.payload_word(sequence, 1);
         let words = &self.ring.table.shared;
         words.store::<Brand>(&mut self.seat, word, event.second);
     }

@@ -13,7 +13,8 @@ use Rattle.dr_ring.proofs.receiver.Receiver.poll_into.Goals as goal
 pub returns-then-available-first-clause-call : goal.returns-then-available-first-clause-call
 returns-then-available-first-clause-call c =
     let same = ap (λ (e : ReceiverEnd). e.knows) c.self.view_is in let closed = c.look_at_closed-closed.result in let cursor = c.look_at_cursor-cursor.result in
-    let seen = seen_round c.args.self.now.knows _ _ _ closed cursor _ (c.look_at_closed-closed.ensures.step.1 ∙ ap (λ (q : ReceiverRecord). receiver_looked q closed_word closed) same) c.look_at_cursor-cursor.ensures.step.1 c.barrier-available.ensures.answer in
+    let seen = seen_round c.args.self.now.knows _ _ _ closed cursor _ (c.look_at_closed-closed.ensures.step.1 ∙ ap (λ (q : ReceiverRecord). receiver_looked q closed_word closed) same)
+    c.look_at_cursor-cursor.ensures.step.1 c.barrier-available.ensures.answer in
     let next = c.self.invariant.taken ∙ ap (λ (q : ReceiverRecord). length q.received) same in (
       search rules,
       (
@@ -31,13 +32,16 @@ returns-then-available-first-clause-call c =
 pub take_all-requires-clause-below : goal.take_all-requires-clause-below
 take_all-requires-clause-below c =
     let closed = c.look_at_closed-closed.result in let cursor = c.look_at_cursor-cursor.result in
-    let seen = seen_round c.self.inside.station.knows _ _ _ closed cursor _ c.look_at_closed-closed.ensures.step.1 c.look_at_cursor-cursor.ensures.step.1 c.barrier-available.ensures.answer in
-    offers _ _ closed cursor c.barrier-available.result _ seen (let len = c.split_at_mut-front.ensures.front_len in let more = c.if-available-first.false in let count = c.min-count.ensures in omega arith)
+    let seen = seen_round c.self.inside.station.knows _ _ _ closed cursor _ c.look_at_closed-closed.ensures.step.1 c.look_at_cursor-cursor.ensures.step.1
+    c.barrier-available.ensures.answer in
+    offers _ _ closed cursor c.barrier-available.result _ seen
+    (let len = c.split_at_mut-front.ensures.front_len in let more = c.if-available-first.false in let count = c.min-count.ensures in omega arith)
 
 pub returns-clause-call : goal.returns-clause-call
 returns-clause-call c =
     let same = ap (λ (e : ReceiverEnd). e.knows) c.self.view_is in let closed = c.look_at_closed-closed.result in let cursor = c.look_at_cursor-cursor.result in
-    let seen = seen_round c.args.self.now.knows _ _ _ closed cursor _ (c.look_at_closed-closed.ensures.step.1 ∙ ap (λ (q : ReceiverRecord). receiver_looked q closed_word closed) same) c.look_at_cursor-cursor.ensures.step.1 c.barrier-available.ensures.answer in
+    let seen = seen_round c.args.self.now.knows _ _ _ closed cursor _ (c.look_at_closed-closed.ensures.step.1 ∙ ap (λ (q : ReceiverRecord). receiver_looked q closed_word closed) same)
+    c.look_at_cursor-cursor.ensures.step.1 c.barrier-available.ensures.answer in
     let next = c.self.invariant.taken ∙ ap (λ (q : ReceiverRecord). length q.received) same in
     let many = c.take_all.ensures.length ∙ c.split_at_mut-front.ensures.front_len in (
       search rules,

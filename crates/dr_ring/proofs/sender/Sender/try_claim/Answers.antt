@@ -1,8 +1,12 @@
-use Rattle.std.proofs.Common.{rules, arith, refl, ap, ◌∙◌}
+use Rattle.std.proofs.Common.{rules, List, arith, refl, ap, ◌∙◌}
 use Rattle.dr_ring.specs.Meaning.Shape.{Shape}
+use Rattle.dr_ring.specs.declared.record.Look.{Look}
+use Rattle.dr_ring.specs.declared.record.SenderRecord.{SenderRecord}
 use Rattle.dr_ring.specs.Calls.Ends.{SenderEnd}
-use Rattle.dr_ring.proofs.Claims.{fits_saw, fits_halt, fits_room, fits_claim, claim_no_room, claim_halted_late, claim_accepted}
+use Rattle.dr_ring.specs.Inside.Parts.{LooksAtFinals}
+use Rattle.dr_ring.proofs.Claims.{Scanned, fits_saw, fits_halt, fits_room, fits_claim, claim_no_room, claim_halted_late, claim_accepted}
 use Rattle.dr_ring.proofs.sender.Sender.try_claim.Goals as goal
+use Rattle.dr_ring.proofs.sender.Sender.try_claim.Goals.{After-saturating_sub-need}
 
 pub invariant_of-self : goal.invariant_of-self
 invariant_of-self c = fits_halt 0 _ c.self.invariant c.finds_halt.ensures.1 (λ z. refl)
@@ -19,24 +23,30 @@ pub invariant_of-self-in_default : goal.invariant_of-self-in_default
 invariant_of-self-in_default c =
     fits_saw _ (fits_halt 0 _ c.self.invariant c.finds_halt.ensures.1 (λ z. refl)) c.in_default.ensures.answer.1
 
-pub returns-in_default : goal.returns-in_default
-returns-in_default c =
+-- what a claim has found once it finds no halt, with the looks that follow
+tried : (c : After-saturating_sub-need) {t : SenderRecord} {xs : List Look} → LooksAtFinals c.finds_halt.new.self.knows xs t
+    → Scanned c.self.inside.station.knows c.finds_halt.new.self.knows t c.args.self.now.knows xs c.self.inside.claimed c.args.n c.saturating_sub-need.result
+tried c scan =
     let size = c.get-size.ensures.value ∙ c.size.ensures ∙ ap (λ (k : Shape). k.size) c.plan.ensures.plan in
     let limit = c.limit-limit.ensures ∙ ap (λ (k : Shape). k.limit) c.plan-2.ensures.plan in
-    let need = c.saturating_sub-need.ensures in let within = c.self.invariant.limit in let fits_limit = c.if-n-limit.false in (
-      search rules,
-      claim_no_room (record {
-        same = ap (λ (e : SenderEnd). e.knows) c.self.view_is;
-        first = c.if-finds_halt.ensures.1;
-        scan = c.in_default.ensures.answer.1;
-        next = c.self.invariant.next;
-        need = omega arith;
-        size = search rules;
-        limit = omega arith;
-        few = search rules;
-      }) c.in_default.ensures.answer.2,
-      search rules,
-    )
+    let need = c.saturating_sub-need.ensures in let within = c.self.invariant.limit in let fits_limit = c.if-n-limit.false in
+    record {
+      same = ap (λ (e : SenderEnd). e.knows) c.self.view_is;
+      first = c.if-finds_halt.ensures.1;
+      scan = scan;
+      next = c.self.invariant.next;
+      need = omega arith;
+      size = search rules;
+      limit = omega arith;
+      few = search rules;
+    }
+
+pub returns-in_default : goal.returns-in_default
+returns-in_default c = (
+  search rules,
+  claim_no_room (tried (goal.at.returns-in_default c).After-saturating_sub-need c.in_default.ensures.answer.1) c.in_default.ensures.answer.2,
+  search rules,
+)
 
 pub invariant_of-self-then-not-claims : goal.invariant_of-self-then-not-claims
 invariant_of-self-then-not-claims c =
@@ -45,23 +55,11 @@ invariant_of-self-then-not-claims c =
     fits_halt c.args.n 1 room c.if-not-claims.ensures.1 (λ z. absurd (omega arith))
 
 pub returns-then-not-claims : goal.returns-then-not-claims
-returns-then-not-claims c =
-    let size = c.get-size.ensures.value ∙ c.size.ensures ∙ ap (λ (k : Shape). k.size) c.plan.ensures.plan in
-    let limit = c.limit-limit.ensures ∙ ap (λ (k : Shape). k.limit) c.plan-2.ensures.plan in
-    let need = c.saturating_sub-need.ensures in let within = c.self.invariant.limit in let fits_limit = c.if-n-limit.false in (
-      search rules,
-      claim_halted_late (record {
-        same = ap (λ (e : SenderEnd). e.knows) c.self.view_is;
-        first = c.if-finds_halt.ensures.1;
-        scan = c.in-Some.ensures.answer.1;
-        next = c.self.invariant.next;
-        need = omega arith;
-        size = search rules;
-        limit = omega arith;
-        few = search rules;
-      }) _ _ c.in-Some.ensures.answer.2 c.if-not-claims.ensures.1,
-      search rules,
-    )
+returns-then-not-claims c = (
+  search rules,
+  claim_halted_late (tried (goal.at.returns-then-not-claims c).After-saturating_sub-need c.in-Some.ensures.answer.1) _ _ c.in-Some.ensures.answer.2 c.if-not-claims.ensures.1,
+  search rules,
+)
 
 pub invariant_of-self-2 : goal.invariant_of-self-2
 invariant_of-self-2 c =
@@ -74,20 +72,8 @@ invariant_of-self-2 c =
     fits_claim c.args.n c.saturating_sub-need.result room c.if-not-claims.ensures.1 (search rules) (search rules) (omega arith)
 
 pub returns : goal.returns
-returns c =
-    let size = c.get-size.ensures.value ∙ c.size.ensures ∙ ap (λ (k : Shape). k.size) c.plan.ensures.plan in
-    let limit = c.limit-limit.ensures ∙ ap (λ (k : Shape). k.limit) c.plan-2.ensures.plan in
-    let need = c.saturating_sub-need.ensures in let within = c.self.invariant.limit in let fits_limit = c.if-n-limit.false in (
-      search rules,
-      claim_accepted (record {
-        same = ap (λ (e : SenderEnd). e.knows) c.self.view_is;
-        first = c.if-finds_halt.ensures.1;
-        scan = c.in-Some.ensures.answer.1;
-        next = c.self.invariant.next;
-        need = omega arith;
-        size = search rules;
-        limit = omega arith;
-        few = search rules;
-      }) _ _ _ c.in-Some.ensures.answer.2 c.if-not-claims.ensures.1 refl,
-      search rules,
-    )
+returns c = (
+  search rules,
+  claim_accepted (tried (goal.at.returns c).After-saturating_sub-need c.in-Some.ensures.answer.1) _ _ _ c.in-Some.ensures.answer.2 c.if-not-claims.ensures.1 refl,
+  search rules,
+)

@@ -1,5 +1,4 @@
-use Rattle.std.proofs.Common.{ℕ, ◌+◌, ◌%◌, set, ap, ◌∙◌}
-use Rattle.dr_ring.specs.Meaning.Shape.{Shape}
+use Rattle.std.proofs.Common.{ap, ◌∙◌}
 use Rattle.dr_ring.specs.declared.record.SenderRecord.{SenderRecord}
 use Rattle.dr_ring.specs.Meaning.Records.{written}
 use Rattle.dr_ring.proofs.Writing.{fits_write}
@@ -9,4 +8,4 @@ pub invariant_of-self : goal.invariant_of-self
 invariant_of-self c =
     fits_write c.args.sequence c.args.event c.self.invariant
     (c.store_second.ensures.1 ∙ ap (λ (r : SenderRecord). written r c.args.sequence c.args.event) c.store_first.ensures.1) c.if-sequence-self-2.false c.if-sequence-self.false
-    (ap (λ (i : ℕ). set c.self.inside.marks.items i (c.args.sequence + 1)) (c.slot-slot.ensures ∙ ap (λ (n : ℕ). c.args.sequence % n) (c.size.ensures ∙ ap (λ (k : Shape). k.size) c.plan.ensures.plan)))
+    c.note.ensures

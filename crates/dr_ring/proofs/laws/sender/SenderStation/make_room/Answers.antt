@@ -7,7 +7,8 @@ use Rattle.dr_ring.proofs.Rounds.{scanned_more, scanned_low, scanned_all, rememb
 use Rattle.dr_ring.proofs.laws.sender.SenderStation.make_room.Goals as goal
 
 pub returns-then-remembered-need-clause-answer : goal.returns-then-remembered-need-clause-answer
-returns-then-remembered-need-clause-answer c = remembers _ c.args.need c.args.remembered c.args.published c.if-remembered-need.true c.requires.remembered.0 c.requires.front c.requires.remembered.1
+returns-then-remembered-need-clause-answer c =
+    remembers _ c.args.need c.args.remembered c.args.published c.if-remembered-need.true c.requires.remembered.0 c.requires.front c.requires.remembered.1
 
 pub returns-then-count-need-clause-answer : goal.returns-then-count-need-clause-answer
 returns-then-count-need-clause-answer c =

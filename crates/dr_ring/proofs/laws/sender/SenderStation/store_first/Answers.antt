@@ -1,4 +1,4 @@
-use Rattle.std.proofs.Common.{rules, sym, subst, ap, ◌∙◌, ◌≡◌, None}
+use Rattle.std.proofs.Common.{rules, refl, sym, subst, ◌≡◌, None}
 use Rattle.dr_ring.specs.Meaning.Records.{IsOpen}
 use Rattle.dr_ring.specs.Meaning.Words.{payload_word}
 use Rattle.dr_ring.specs.Calls.Ends.{SenderEnd}
@@ -9,5 +9,5 @@ pub store-requires : goal.store-requires
 store-requires g c =
     let own = subst (λ (e : SenderEnd). IsOpen e.knows c.args.sequence) (sym c.self.view_is) c.requires.own in
     let whole = subst (λ (e : SenderEnd). e.knows.half ≡ None) (sym c.self.view_is) c.requires.whole in
-    let place = c.payload_word-word.ensures.place ∙ ap (λ r. payload_word r.plan c.args.sequence 0) c.deref.ensures in
-    (search rules, search rules, sender_stores_first _ _ _ _ c.args.sequence _ _ c.requires.named place c.self.invariant.end c.self.invariant.plan own whole)
+    let place = subst (λ (e : SenderEnd). c.args.word ≡ payload_word e.knows.plan c.args.sequence 0) (sym c.self.view_is) c.requires.place in
+    (search rules, search rules, sender_stores_first _ _ _ _ c.args.sequence _ _ c.requires.named place c.self.invariant.end refl own whole)
