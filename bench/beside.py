@@ -5,6 +5,7 @@
     bench/beside.py sizes              ring sizes from 1 to 65,536
     bench/beside.py handlers           1 to 16 handlers, in a chain and side by side
     bench/beside.py claims             claims of 1 to 1000 events
+    bench/beside.py producers          1 to 16 producers behind a lock
 
 The others are the rings of bench/plain/exchanges, which `rustc` builds, and LMAX's own, where `javac` and
 the library are there (Debian's package libdisruptor-java; `--lmax JAR` names another place). All run in
@@ -107,6 +108,14 @@ def grow(programs, word, steps):
             print_row(name, programs, kinds, prefix + topology, size)
 
 
+def producers(programs):
+    """The exchange by lock beside the ring behind a mutex."""
+    print_head(["producers", "events a claim", "ours", "mutex"])
+    for count in (1, 2, 4, 8, 16):
+        for claim in (1, 10, 100):
+            print_row(f"{count} | {claim}", programs, ("ours", "mutex"), f"lock{count}-unicast-b{claim}", 1024)
+
+
 def steps(what):
     if what == "sizes":
         return [(f"{shape}, {4**k}", shape, 4**k) for shape in ("unicast", "diamond") for k in range(9)]
@@ -117,7 +126,7 @@ def steps(what):
 
 def main():
     parser = argparse.ArgumentParser(description=__doc__, formatter_class=argparse.RawDescriptionHelpFormatter)
-    parser.add_argument("what", choices=["table", "sizes", "handlers", "claims"])
+    parser.add_argument("what", choices=["table", "sizes", "handlers", "claims", "producers"])
     parser.add_argument("--program", default=PROGRAM)
     parser.add_argument("--lmax", default="/usr/share/java/disruptor.jar")
     parser.add_argument("--under", default="")
@@ -130,6 +139,8 @@ def main():
         programs = Programs(given, folder)
         if given.what == "table":
             table(programs)
+        elif given.what == "producers":
+            producers(programs)
         else:
             grow(programs, given.what, steps(given.what))
         programs.records.save()

@@ -26,6 +26,9 @@ pub enum Fault {
     Ring(RingFault),
     #[error("{0}")]
     Refused(Refusal),
+    /// An end behind the lock was not given out, or not given back.
+    #[error("ends")]
+    Ends,
     /// A handler did not add up all that was published.
     #[error("wrong sum")]
     WrongSum,
@@ -41,7 +44,7 @@ impl Fault {
             Fault::Usage => 1,
             Fault::Memory | Fault::Graph(_) | Fault::Core(_) | Fault::Ring(_) => 3,
             Fault::Outside | Fault::Thread => 4,
-            Fault::Refused(_) | Fault::WrongSum | Fault::NoEnd => 5,
+            Fault::Refused(_) | Fault::Ends | Fault::WrongSum | Fault::NoEnd => 5,
         }
     }
 }

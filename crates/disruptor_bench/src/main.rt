@@ -1,5 +1,5 @@
-//! Measures the exchanges: events a second through a core on one thread, and through a ring with a
-//! thread for each end.
+//! Measures the exchanges: events a second through a core on one thread, through a ring with a thread
+//! for each end, and through a core behind a lock with a thread for each producer and each handler.
 //!
 //! `disruptor_bench TOPOLOGY SIZE SECONDS ROUNDS` runs a topology over a ring of SIZE slots for about
 //! SECONDS in each of ROUNDS rounds, and prints the round in the middle:
@@ -7,6 +7,7 @@
 #![tactic(auto)]
 
 mod arguments;
+mod behind_lock;
 mod fault;
 mod measured;
 mod one_thread;
@@ -24,6 +25,7 @@ use std::alloc::Global;
 use std::env;
 use std::process::ExitCode;
 use std::rt::Runtime;
+use std::sync::Wait;
 use std::thread::Threads;
 use topology::{Exchange, Shape, Topology};
 
@@ -83,16 +85,34 @@ fn ring_rounds(
     Ok(rounds)
 }
 
-fn measure(rt: &(impl Runtime + Threads), alloc: Global, order: Order) -> Result<Measured, Fault> {
+fn lock_rounds(
+    rt: &(impl Runtime + Threads + Wait + Sync),
+    alloc: Global,
+    order: &Order,
+    producers: u64,
+) -> Result<Vec<Round>, Fault> {
+    let mut rounds = Vec::new(alloc);
+    for _ in 0..order.rounds {
+        rounds.push(behind_lock::round(rt, alloc, order, producers)?)?;
+    }
+    Ok(rounds)
+}
+
+fn measure(
+    rt: &(impl Runtime + Threads + Wait + Sync),
+    alloc: Global,
+    order: Order,
+) -> Result<Measured, Fault> {
     let mut rounds = match order.topology.exchange {
         Exchange::Core => core_rounds(rt, alloc, &order)?,
         Exchange::Ring => ring_rounds(rt, alloc, &order)?,
+        Exchange::Lock(producers) => lock_rounds(rt, alloc, &order, producers)?,
     };
     let median = median(&mut rounds).ok_or(Fault::Usage)?;
     Ok(Measured { order, median })
 }
 
-fn run(rt: &(impl Runtime + Alloc<A = Global> + Threads)) -> Result<(), Fault> {
+fn run(rt: &(impl Runtime + Alloc<A = Global> + Threads + Wait + Sync)) -> Result<(), Fault> {
     let alloc = rt.alloc();
     let words: Vec<String> = env::args(rt)?.skip(1).collect(alloc)?;
     match read_request(&words) {

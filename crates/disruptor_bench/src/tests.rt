@@ -5,8 +5,8 @@ use crate::fault::Fault;
 use crate::measured::{Measured, Round, median};
 use crate::one_thread::OneThread;
 use crate::sum::sum_of_first;
-use crate::threads;
 use crate::topology::{Exchange, Pace, Shape, Topology};
+use crate::{behind_lock, threads};
 use dr_seq::Size;
 use std::alloc::{AllocError, Global};
 use std::process::Abort;
@@ -57,6 +57,7 @@ fn every_name_is_read_back(rt: HostRuntime) -> Result<(), Fail> {
     for shape in Shape::ALL {
         check_names(&rt, rt.alloc(), Exchange::Core, shape)?;
         check_names(&rt, rt.alloc(), Exchange::Ring, shape)?;
+        check_names(&rt, rt.alloc(), Exchange::Lock(16), shape)?;
     }
     for name in [
         "",
@@ -69,6 +70,10 @@ fn every_name_is_read_back(rt: HostRuntime) -> Result<(), Fail> {
         "chain17",
         "side0",
         "diamond-",
+        "lock0-unicast",
+        "lock17-unicast",
+        "lock2-unicast-step",
+        "lock2",
         "Diamond",
     ] {
         assert_eq!(rt; Topology::named(name), None, "at {name}");
@@ -150,6 +155,18 @@ fn each_graph_sums_all_on_threads(rt: HostRuntime) -> Result<(), Fail> {
         let order = order(Exchange::Ring, shape, Pace::Claims(10))?;
         let round = threads::round(&rt, rt.alloc(), &order)?;
         assert_eq!(rt; round.events, 65_530);
+    }
+    Ok(())
+}
+
+#[test]
+fn each_graph_sums_all_behind_the_lock(rt: HostRuntime) -> Result<(), Fail> {
+    for shape in Shape::ALL {
+        for producers in [1, 3] {
+            let order = order(Exchange::Lock(producers), shape, Pace::Claims(10))?;
+            let round = behind_lock::round(&rt, rt.alloc(), &order, producers)?;
+            assert_eq!(rt; round.events, 65_536 / producers * producers);
+        }
     }
     Ok(())
 }

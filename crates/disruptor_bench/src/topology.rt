@@ -11,6 +11,8 @@ pub enum Exchange {
     Core,
     /// The ring over atomic words, with a thread for each end.
     Ring,
+    /// The core behind a lock, with so many producers, and a thread for each of them and for each handler.
+    Lock(u64),
 }
 
 /// The most handlers that a chain has, or that stand side by side.
@@ -57,14 +59,24 @@ pub struct Topology {
     pub pace: Pace,
 }
 
+/// The most producers behind the lock.
+const MOST_PRODUCERS: u64 = 16;
+
 impl Exchange {
+    /// The exchanges of the measurements that are listed.
     pub const ALL: [Exchange; 2] = [Exchange::Core, Exchange::Ring];
 
-    /// The beginning of the names of its topologies.
-    pub fn prefix(self) -> &'static str {
-        match self {
-            Exchange::Core => "core-",
-            Exchange::Ring => "",
+    /// Reads the beginning of a topology's name, and gives the rest with it.
+    fn before(name: &str) -> Option<(Exchange, &str)> {
+        if let Some(rest) = name.strip_prefix("core-") {
+            return Some((Exchange::Core, rest));
+        }
+        match name.strip_prefix("lock") {
+            Some(rest) => {
+                let (producers, rest) = rest.split_once('-')?;
+                Some((Exchange::Lock(count_of(producers, MOST_PRODUCERS)?), rest))
+            }
+            None => Some((Exchange::Ring, name)),
         }
     }
 
@@ -72,7 +84,7 @@ impl Exchange {
     pub fn paces(self) -> [Pace; 3] {
         match self {
             Exchange::Core => [Pace::Ones, Pace::Step, Pace::Claims(10)],
-            Exchange::Ring => [Pace::Ones, Pace::Claims(10), Pace::Claims(100)],
+            Exchange::Ring | Exchange::Lock(_) => [Pace::Ones, Pace::Claims(10), Pace::Claims(100)],
         }
     }
 
@@ -87,6 +99,7 @@ impl fmt::Display for Exchange {
         f.write_str(match self {
             Exchange::Core => "core",
             Exchange::Ring => "ring",
+            Exchange::Lock(_) => "lock",
         })
     }
 }
@@ -209,10 +222,7 @@ impl fmt::Display for Pace {
 impl Topology {
     /// The topology of a name, where there is one.
     pub fn named(name: &str) -> Option<Topology> {
-        let (exchange, rest) = match name.strip_prefix("core-") {
-            Some(rest) => (Exchange::Core, rest),
-            None => (Exchange::Ring, name),
-        };
+        let (exchange, rest) = Exchange::before(name)?;
         let (shape, pace) = match rest.split_once('-') {
             Some((shape, pace)) => (Shape::named(shape)?, Pace::named(pace)?),
             None => (Shape::named(rest)?, Pace::Ones),
@@ -230,9 +240,13 @@ impl Topology {
 
 impl fmt::Display for Topology {
     fn fmt<W: fmt::Write>(&self, f: &mut fmt::Formatter<W>) -> fmt::Result {
-        let prefix = self.exchange.prefix();
+        match self.exchange {
+            Exchange::Core => f.write_str("core-")?,
+            Exchange::Ring => {}
+            Exchange::Lock(producers) => write!(f, "lock{producers}-")?,
+        }
         let shape = self.shape;
         let pace = self.pace;
-        write!(f, "{prefix}{shape}{pace}")
+        write!(f, "{shape}{pace}")
     }
 }

@@ -1,0 +1,25 @@
+-- What the threads of a round behind the lock share may be shared, and what they are given may be sent.
+use denote.RattleType.{RattleType}
+use denote.Ref.{NamedLft}
+use denote.Param.Send.{IsSend, IsSync, sendable}
+use Rattle.std.proofs.Crossing as std
+use Rattle.std.specs.declared.sync.ledger.Ledger.{Ghosts}
+use Rattle.dr_seq.specs.contracts.event.Event as Event
+use Rattle.dr_shared.proofs.Sent.{end_send, shared_sync}
+use Rattle.disruptor_bench.specs.contracts.behind_lock.workers.Around as Around
+use Rattle.disruptor_bench.specs.contracts.behind_lock.workers.Task as Task
+
+pub event_sync : IsSync Event.the_row
+event_sync = search sendable depth 30
+
+pub ruleset shares = (sendable, std.sync, event_sync, shared_sync)
+
+pub around_sync : (a : NamedLft) (L R : RattleType) (g : Ghosts L.Denot) → IsSync L → IsSync R → IsSync (Around.the_row a L R g)
+around_sync a L R g ledger workers = search shares depth 60 fits 20000
+
+pub ruleset sends = (sendable, end_send)
+
+pub task_send : (L : RattleType) (g : Ghosts L.Denot) → IsSend (Task.the_row L g)
+task_send L g = search sends depth 60 fits 20000
+
+pub ruleset crosses = (sendable, task_send, around_sync)

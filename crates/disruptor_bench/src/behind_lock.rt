@@ -1,0 +1,131 @@
+//! The rounds behind the lock: each producer and each handler on a thread of its own, by the library's workers.
+
+ghost use Rattle.std.specs.Prelude.{◌≡◌, ◌<◌};
+
+mod workers;
+
+use crate::STRETCH;
+use crate::arguments::Order;
+use crate::fault::Fault;
+use crate::measured::Round;
+use crate::sum::{event_at, sum_of_first};
+use dr_core::{MAX_LIMIT, Mode};
+use dr_seq::Event;
+use dr_shared::{End, Recorded, Shared, finish};
+use std::alloc::Global;
+use std::marker::Brand;
+use std::rt::Clock;
+use std::sync::Wait;
+use std::sync::ledger::{Blank, Ledger};
+use std::thread::Threads;
+use std::time::Instant;
+use workers::{Around, Joined, Parties, exchange};
+
+/// What each producer sends: as many events as all together make a stretch.
+fn script(alloc: Global, producers: u64) -> Result<Vec<Event>, Fault> {
+    let mut events = Vec::new(alloc);
+    for k in 0..STRETCH.checked_div(producers).unwrap_or(0) {
+        events.push(event_at(k))?;
+    }
+    Ok(events)
+}
+
+fn ends<L: Ledger>(
+    alloc: Global,
+    shared: &mut Shared<L>,
+    count: usize,
+) -> Result<Vec<End<L>>, Fault> {
+    let mut ends = Vec::with_capacity(alloc, count)?;
+    for _end in 0..count {
+        ends.push(shared.end().ok_or(Fault::Ends)?)?;
+    }
+    Ok(ends)
+}
+
+/// A history with room for all of the round, so that no locked call needs memory: a claim, a write and a
+/// publication for each event, and for each handler a batch and a completion; then the halt, and that each handler
+/// is told `Drained`.
+fn open(alloc: Global, order: &Order, producers: u64, events: usize) -> Result<Recorded, Fault> {
+    let graph = order.topology.shape.graph(alloc)?;
+    let handlers = graph.len();
+    let taken = events.saturating_mul(handlers);
+    let entries = taken
+        .saturating_mul(2)
+        .saturating_add(events.saturating_mul(3));
+    let entries = entries.saturating_add(handlers).saturating_add(1);
+    let mode = Mode::Multi(producers);
+    Ok(Recorded::open(alloc, graph, order.size, mode, MAX_LIMIT, entries, taken)?)
+}
+
+/// Checks that all ends are back and what the handlers added up.
+fn check<L: Ledger>(
+    alloc: Global,
+    shared: Shared<L>,
+    joined: Joined<L>,
+    total: u64,
+) -> Result<(), Fault> {
+    let mut ends = Vec::new(alloc);
+    ends.push(joined.halter)?;
+    for sent in joined.sent {
+        ends.push(sent.end)?;
+    }
+    for handled in joined.handled {
+        ends.push(handled.end)?;
+        if handled.total != total {
+            return Err(Fault::WrongSum);
+        }
+    }
+    match finish(shared, ends) {
+        Ok(_) => Ok(()),
+        Err(_) => Err(Fault::Ends),
+    }
+}
+
+fn measured<L: Ledger + Send + Sync, R: Clock + Threads + Wait + Sync>(
+    rt: &R,
+    alloc: Global,
+    blank: Blank,
+    order: &Order,
+    producers: u64,
+) -> Result<Round, Fault>
+    requires name { blank.name ≡ L.name }
+    requires parts { blank.parts ≡ L.parts }
+    requires ends { blank.parts ≡ 65 }
+{
+    let script = script(alloc, producers)?;
+    let count = script.len() as u64;
+    let events = count.saturating_mul(producers);
+    let recorded = open(alloc, order, producers, events as usize)?;
+    let handlers = recorded.graph().len();
+    let mut shared = Shared::<L>::new(recorded, blank);
+    let parties = Parties {
+        halter: shared.end().ok_or(Fault::Ends)?,
+        producers: ends(alloc, &mut shared, producers as usize)?,
+        handlers: ends(alloc, &mut shared, handlers)?,
+    };
+    let around = Around {
+        rt,
+        alloc,
+        shared: &shared,
+        script: script.as_slice(),
+        cut: order.claim().max(1),
+        slots: order.size.get() as usize,
+    };
+    let begun = Instant::now(rt)?;
+    let joined = exchange(&around, parties)?;
+    let time = begun.elapsed(rt)?;
+    let total = sum_of_first(count).wrapping_mul(producers);
+    check(alloc, shared, joined, total)?;
+    Ok(Round { events, time })
+}
+
+/// One round of a stretch of events over a history of its own, from the first thread's start until the last handler
+/// is told `Drained`.
+pub fn round<R: Clock + Threads + Wait + Sync>(
+    rt: &R,
+    alloc: Global,
+    order: &Order,
+    producers: u64,
+) -> Result<Round, Fault> {
+    measured::<Brand, R>(rt, alloc, Blank::new(65), order, producers)
+}

@@ -1,0 +1,192 @@
+//! The threads of a round behind the lock.
+
+ghost use Rattle.std.specs.Prelude.{◌<◌};
+ghost use denote.Param.Send.{IsSync};
+
+use crate::fault::Fault;
+use crate::sum::Sum;
+use dr_core::Command;
+use dr_seq::Event;
+use dr_shared::{End, LockedInlet, LockedOutlet, OpenGate, Shared, Waiting, consume, produce};
+use std::alloc::{AllocError, Global};
+use std::sync::Wait;
+use std::sync::ledger::Ledger;
+use std::thread::{self, JoinHandle, Threads};
+
+/// The most events that a handler takes at once.
+const MOST_AT_ONCE: usize = 1024;
+
+/// What all threads of a round share.
+#[derive(Drop)]
+pub struct Around<'a, L: Ledger, R> {
+    pub rt: &'a R,
+    pub alloc: Global,
+    pub shared: &'a Shared<L>,
+    /// What each producer sends.
+    pub script: &'a [Event],
+    /// The most events of a claim.
+    pub cut: u64,
+    /// The slots of the ring.
+    pub slots: usize,
+}
+
+/// The ends of a round.
+#[derive(Drop)]
+pub struct Parties<L: Ledger> {
+    pub halter: End<L>,
+    pub producers: Vec<End<L>>,
+    pub handlers: Vec<End<L>>,
+}
+
+/// A worker's number among those of its kind, and its end.
+#[derive(Drop)]
+struct Task<L: Ledger> {
+    k: usize,
+    end: End<L>,
+}
+
+/// What a producer gives back. That it sent all is seen by what the handlers added up.
+#[derive(Drop)]
+pub struct Sent<L: Ledger> {
+    pub end: End<L>,
+}
+
+/// What a handler gives back.
+#[derive(Drop)]
+pub struct Handled<L: Ledger> {
+    pub end: End<L>,
+    pub total: u64,
+}
+
+/// What all threads gave back.
+#[derive(Drop)]
+pub struct Joined<L: Ledger> {
+    pub halter: End<L>,
+    pub sent: Vec<Sent<L>>,
+    pub handled: Vec<Handled<L>>,
+}
+
+fn send<L: Ledger, R: Wait>(around: &Around<'_, L, R>, task: Task<L>) -> Sent<L> {
+    let Task { k, end } = task;
+    let mut inlet = LockedInlet::new(around.rt, around.shared, end, k as u64);
+    let cut = around.cut.max(1);
+    let _sent = produce(around.rt, &mut inlet, &OpenGate, k, around.script, cut);
+    let end = inlet.into_end();
+    Sent { end }
+}
+
+fn handle<L: Ledger, R: Wait>(around: &Around<'_, L, R>, task: Task<L>) -> Handled<L> {
+    let Task { k, end } = task;
+    let mut outlet = LockedOutlet::new(around.rt, around.shared, end, k);
+    let mut buffer = [Event::NONE; MOST_AT_ONCE];
+    let room = around.slots.min(MOST_AT_ONCE);
+    let mut sum = Sum { total: 0 };
+    let _fault = consume(
+        around.rt,
+        &mut outlet,
+        &OpenGate,
+        k,
+        &mut sum,
+        &mut buffer[..room],
+    );
+    let end = outlet.into_end();
+    Handled {
+        end,
+        total: sum.total,
+    }
+}
+
+/// Halts the exchange, once there is memory for the call.
+fn halt<L: Ledger, R: Wait>(around: &Around<'_, L, R>, end: &mut End<L>) {
+    let mut waiting = Waiting::new(1);
+    for _ in around.rt.forever() {
+        match around.shared.call(around.rt, end, Command::Halt, &mut []) {
+            Ok(_) => return,
+            Err(_) => waiting.wait(),
+        }
+    }
+}
+
+/// What threads give back, where so many could be started.
+fn join_all<T: Drop, R: Threads>(
+    rt: &R,
+    alloc: Global,
+    started: Vec<JoinHandle<T>>,
+    count: usize,
+) -> Result<Vec<T>, Fault> {
+    let mut all = Vec::with_capacity(alloc, started.len())?;
+    for worker in started {
+        all.push(worker.join(rt))?;
+    }
+    if all.len() < count {
+        return Err(Fault::Thread);
+    }
+    Ok(all)
+}
+
+/// Starts a thread for each producer, and joins them.
+fn send_all<L: Ledger + Send + Sync, R: Threads + Wait + Sync>(
+    around: &Around<'_, L, R>,
+    ends: Vec<End<L>>,
+) -> Result<Vec<Sent<L>>, Fault> {
+    thread::scope(
+        thread::scope_env(),
+        around.rt,
+        move |scope| -> Result<Vec<Sent<L>>, Fault>
+            requires shared { IsSync L.row }
+            requires workers { IsSync R.row }
+        {
+            let count = ends.len();
+            let mut started = Vec::with_capacity(around.alloc, count)?;
+            for (k, end) in ends.into_iter().enumerate() {
+                let task = Task { k, end };
+                if let Ok(worker) = scope.spawn(move || send(around, task)) {
+                    started.push(worker)?;
+                }
+            }
+            join_all(around.rt, around.alloc, started, count)
+        },
+    )
+}
+
+/// Starts a thread for each handler, then one for each producer; joins the producers, halts, and joins the handlers.
+pub fn exchange<L: Ledger + Send + Sync, R: Threads + Wait + Sync>(
+    around: &Around<'_, L, R>,
+    parties: Parties<L>,
+) -> Result<Joined<L>, Fault> {
+    thread::scope(
+        thread::scope_env(),
+        around.rt,
+        move |scope| -> Result<Joined<L>, Fault>
+            requires shared { IsSync L.row }
+            requires workers { IsSync R.row }
+        {
+            let Parties {
+                mut halter,
+                producers,
+                handlers,
+            } = parties;
+            let count = handlers.len();
+            let mut started = Vec::with_capacity(around.alloc, count)?;
+            for (k, end) in handlers.into_iter().enumerate() {
+                let task = Task { k, end };
+                if let Ok(worker) = scope.spawn(move || handle(around, task)) {
+                    started.push(worker)?;
+                }
+            }
+            // Without one of the handlers nobody would make room for the producers.
+            let sent = if started.len() == count {
+                send_all(around, producers)
+            } else {
+                Err(Fault::Thread)
+            };
+            halt(around, &mut halter);
+            let handled = join_all(around.rt, around.alloc, started, count)?;
+            Ok(Joined {
+                halter,
+                sent: sent?,
+                handled,
+            })
+        },
+    )
+}
