@@ -1,9 +1,10 @@
 //! Why a round fails, or is not run.
 
-use dr_core::Refusal;
+use dr_core::{OpenFault, Refusal, Trouble};
 use dr_graph::GraphFault;
 use dr_ring::RingFault;
 use dr_seq::SizeFault;
+use dr_shared::AuditFault;
 use std::alloc::{AllocError, AllocFailed};
 use std::io;
 use thiserror::Error;
@@ -23,17 +24,28 @@ pub enum Fault {
     Graph(GraphFault),
     #[error("{0}")]
     Ring(RingFault),
+    #[error("{0}")]
+    Open(OpenFault),
+    /// An end is missing.
+    #[error("no end of the exchange")]
+    Ends,
+    /// The history is not what the producers sent, or a handler that is not retired lacks some of it.
+    #[error("{0}")]
+    Audit(AuditFault),
     /// A call was refused that was to succeed.
     #[error("{0}")]
     Refused(Refusal),
+    /// A call had a reply that it never has.
+    #[error("wrong reply")]
+    WrongReply,
     /// A handler received an event that was not published at its sequence, or out of order.
     #[error("wrong event")]
     WrongEvent,
-    /// A handler received more than was published, or was told `Drained` with less.
+    /// A handler was told `Drained` with less than was published.
     #[error("wrong count")]
     WrongCount,
     /// A loop had more turns than there are.
-    #[error("no end")]
+    #[error("a loop with no end")]
     NoEnd,
 }
 
@@ -42,9 +54,9 @@ impl Fault {
     pub fn status(&self) -> u8 {
         match self {
             Fault::Usage => 1,
-            Fault::Memory | Fault::Graph(_) | Fault::Ring(_) => 3,
+            Fault::Memory | Fault::Graph(_) | Fault::Ring(_) | Fault::Open(_) => 3,
             Fault::Outside | Fault::Thread => 4,
-            Fault::Refused(_) | Fault::WrongEvent | Fault::WrongCount | Fault::NoEnd => 5,
+            _ => 5,
         }
     }
 }
@@ -76,6 +88,27 @@ impl From<GraphFault> for Fault {
 impl From<RingFault> for Fault {
     fn from(fault: RingFault) -> Fault {
         Fault::Ring(fault)
+    }
+}
+
+impl From<OpenFault> for Fault {
+    fn from(fault: OpenFault) -> Fault {
+        Fault::Open(fault)
+    }
+}
+
+impl From<AuditFault> for Fault {
+    fn from(fault: AuditFault) -> Fault {
+        Fault::Audit(fault)
+    }
+}
+
+impl From<Trouble> for Fault {
+    fn from(trouble: Trouble) -> Fault {
+        match trouble {
+            Trouble::Refused(refusal) => Fault::Refused(refusal),
+            Trouble::Memory => Fault::Memory,
+        }
     }
 }
 

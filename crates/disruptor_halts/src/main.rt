@@ -1,34 +1,64 @@
-//! Runs in which claims, polls, completions and a halt fall at random times, each end on a thread of its own.
+//! Exchanges whose claims, polls, completions, retirements and halt fall at random times, with a thread for each
+//! end: over the ring, and behind the lock.
 //!
-//! `disruptor_halts SEED ROUNDS` runs so many rings, each with a graph, a size and turns of its ends that
-//! the seed gives. Each event that a handler receives is compared with the one that was published. At last
-//! it prints how many rounds there were, and on standard error how many events, which hangs on the threads.
+//! `disruptor_halts SEED ROUNDS` runs so many of each, with graphs, sizes and turns of their ends that the seed
+//! gives. What each handler received is compared with what was published, behind the lock by the audit. At last it
+//! prints how many rounds there were, and on standard error how many events, which hangs on the threads.
 #![tactic(auto)]
 
+ghost use Rattle.std.specs.Prelude.{◌≡◌};
+
+mod by_lock;
+mod by_ring;
 mod fault;
+mod graphs;
 mod random;
 mod receiving;
-mod round;
 mod sending;
 mod signs;
+mod stretch;
+mod told;
 
 use fault::Fault;
 use random::Random;
-use round::{Told, round};
 use std::alloc::Global;
 use std::env;
+use std::marker::Brand;
 use std::process::ExitCode;
 use std::rt::Runtime;
+use std::sync::Wait;
+use std::sync::ledger::Blank;
 use std::thread::Threads;
+use told::Told;
 
 /// More turns than any loop takes that waits for another thread.
 const MOST_TURNS: u64 = u64::MAX;
 
-fn rounds(rt: &impl Threads, alloc: Global, seed: u64, count: u64) -> Result<Told, Fault> {
+fn rings<R: Threads + Wait + Sync>(
+    rt: &R,
+    alloc: Global,
+    seed: u64,
+    count: u64,
+) -> Result<Told, Fault> {
     let mut random = Random::new(seed);
     let mut all = Told::NONE;
     for _ in 0..count {
-        all = all.with(round(rt, alloc, &mut random)?);
+        all = all.with(by_ring::round(rt, alloc, &mut random)?);
+    }
+    Ok(all)
+}
+
+fn locks<R: Threads + Wait + Sync>(
+    rt: &R,
+    alloc: Global,
+    seed: u64,
+    count: u64,
+) -> Result<Told, Fault> {
+    let mut random = Random::new(seed);
+    let mut all = Told::NONE;
+    for _ in 0..count {
+        let told = by_lock::round::<Brand, R>(rt, alloc, Blank::new(65), &mut random)?;
+        all = all.with(told);
     }
     Ok(all)
 }
@@ -37,18 +67,19 @@ fn number(word: &str) -> Result<u64, Fault> {
     word.parse().map_err(|_| Fault::Usage)
 }
 
-fn run(rt: &(impl Runtime + Alloc<A = Global> + Threads)) -> Result<(), Fault> {
+fn run<R: Runtime + Alloc<A = Global> + Threads + Wait + Sync>(rt: &R) -> Result<(), Fault> {
     let alloc = rt.alloc();
     let words: Vec<String> = env::args(rt)?.skip(1).collect(alloc)?;
-    match words.as_slice() {
-        [seed, count] => {
-            let count = number(count.as_str())?;
-            let told = rounds(rt, alloc, number(seed.as_str())?, count)?;
-            println!(rt; "{count} rounds")?;
-            Ok(rt.eprintln(&told)?)
-        }
-        _ => Err(Fault::Usage),
-    }
+    let [seed, count] = words.as_slice() else {
+        return Err(Fault::Usage);
+    };
+    let seed = number(seed.as_str())?;
+    let count = number(count.as_str())?;
+    let by_ring = rings(rt, alloc, seed, count)?;
+    let by_lock = locks(rt, alloc, seed, count)?;
+    println!(rt; "{count} rounds")?;
+    eprintln!(rt; "by ring {by_ring}\nby lock {by_lock}")?;
+    Ok(())
 }
 
 fn main(rt: HostRuntime) -> ExitCode {

@@ -1,134 +1,113 @@
-//! A handler's thread.
+//! A handler's turns, at the end of any exchange.
 
-use crate::MOST_TURNS;
 use crate::fault::Fault;
 use crate::random::Random;
-use crate::sending::event_at;
 use crate::signs::Signs;
-use dr_core::Polled;
-use dr_ring::Receiver;
+use crate::stretch::{Stretch, TURNS};
+use dr_core::{Outlet, Polled};
 use dr_seq::Event;
-use std::alloc::Global;
-use std::sync::Arc;
+use std::alloc::{AllocError, Global};
 
-/// How a handler ends.
-#[derive(Clone, Copy, Debug, PartialEq, Eq)]
+/// What a handler received, and whether it was told that the exchange drained.
+#[derive(Drop)]
 pub struct Received {
-    /// How many events it took, each the one that was published.
-    pub taken: u64,
-    /// Whether it was told that the ring drained.
+    pub events: Vec<Event>,
     pub drained: bool,
 }
 
-/// In one of how many turns a handler that leaves early does so.
-const MOST_TURNS_BEFORE_LEAVING: u64 = 5000;
-
 /// A handler with what it did so far.
 #[derive(Drop)]
-pub struct Handler {
-    pub receiver: Receiver,
-    pub random: Random,
-    pub signs: Arc<Signs, Global>,
-    pub room: Vec<Event>,
-    pub key: u64,
-    /// Whether it takes no more at some time, whatever there is.
-    pub leaves: bool,
-    pub taken: u64,
-    pub completed: u64,
+pub struct Receiving {
+    random: Random,
+    room: Vec<Event>,
+    taken: Vec<Event>,
+    completed: u64,
 }
 
-impl Handler {
-    /// Whether a batch holds what was published from a sequence on.
-    fn is_published(&self, first: u64, count: u64) -> bool {
-        let mut sequence = first;
-        for event in self.room.iter().take(count as usize) {
-            if *event != event_at(self.key, sequence) {
-                return false;
-            }
-            sequence = sequence.wrapping_add(1);
+impl Receiving {
+    /// A handler that takes up to 64 events at once.
+    pub fn new(alloc: Global, random: &mut Random) -> Result<Receiving, AllocError> {
+        let most = random.below(64).saturating_add(1);
+        Ok(Receiving {
+            random: random.split(),
+            room: vec![in alloc; Event::NONE; most as usize]?,
+            taken: Vec::new(alloc),
+            completed: 0,
+        })
+    }
+
+    /// What it received, at its end.
+    pub fn into_received(self, drained: bool) -> Received {
+        Received {
+            events: self.taken,
+            drained,
         }
-        true
     }
 
     /// Completes a part of what it took, or all of it.
-    fn complete(&mut self, all: bool) -> Result<(), Fault> {
-        let open = self.taken.wrapping_sub(self.completed);
+    fn complete<O: Outlet>(&mut self, outlet: &mut O, all: bool) -> Result<(), Fault> {
+        let open = (self.taken.len() as u64).wrapping_sub(self.completed);
         let part = if all || self.random.below(2) == 0 {
             open
         } else {
             self.random.below(open)
         };
         self.completed = self.completed.wrapping_add(part);
-        Ok(self.receiver.complete(self.completed)?)
+        Ok(outlet.complete(self.completed)?)
     }
 
-    fn take(&mut self, first: u64, count: u64) -> Result<(), Fault> {
-        if first != self.taken || !self.is_published(first, count) {
+    /// Keeps a batch, which is to follow what was taken before.
+    fn keep(&mut self, first: u64, count: u64) -> Result<(), Fault> {
+        if first != self.taken.len() as u64 || count > self.room.len() as u64 {
             return Err(Fault::WrongEvent);
         }
-        self.taken = self.taken.wrapping_add(count);
-        self.random.pause();
-        self.complete(false)
+        for event in self.room.iter().take(count as usize) {
+            self.taken.push(*event)?;
+        }
+        Ok(())
     }
 
     /// A poll with some room, and at least one event's.
-    fn poll(&mut self) -> Result<Polled, Fault> {
+    fn poll<O: Outlet>(&mut self, outlet: &mut O) -> Result<Polled, Fault> {
         let most = self.room.len();
-        let offered = self
-            .random
-            .below(most as u64)
-            .saturating_add(1)
-            .min(most as u64);
-        Ok(self.receiver.poll_into(&mut self.room[..offered as usize])?)
+        let offered = self.random.below(most as u64).saturating_add(1);
+        let offered = most.min(offered as usize);
+        Ok(outlet.poll_into(&mut self.room[..offered])?)
     }
 
-    /// One turn, and whether it was told that the ring drained.
-    fn turn(&mut self) -> Result<Option<Received>, Fault> {
-        self.random.pause();
-        match self.poll()? {
+    fn turn<O: Outlet>(&mut self, outlet: &mut O, signs: &Signs) -> Result<Stretch, Fault> {
+        match self.poll(outlet)? {
             Polled::Batch { first, count, .. } => {
-                self.take(first, count)?;
-                Ok(None)
+                self.keep(first, count)?;
+                self.random.pause();
+                self.complete(outlet, false)?;
+                Ok(Stretch::Goes)
             }
             Polled::Drained => {
-                self.complete(true)?;
-                Ok(Some(self.ended(true)))
+                self.complete(outlet, true)?;
+                Ok(Stretch::Drained)
             }
             Polled::Gating | Polled::Idle => {
-                let are_over = self.signs.are_over();
-                self.complete(true)?;
-                Ok(are_over.then(|| self.ended(false)))
+                let are_over = signs.are_over();
+                self.complete(outlet, true)?;
+                Ok(if are_over {
+                    Stretch::Left
+                } else {
+                    Stretch::Goes
+                })
             }
         }
     }
 
-    fn ended(&self, drained: bool) -> Received {
-        Received {
-            taken: self.taken,
-            drained,
-        }
-    }
-
-    fn receive_all(&mut self) -> Result<Received, Fault> {
-        for _ in 0..MOST_TURNS {
-            if self.leaves && self.random.below(MOST_TURNS_BEFORE_LEAVING) == 0 {
-                self.signs.leave();
-                return Ok(self.ended(false));
-            }
-            if let Some(received) = self.turn()? {
-                return Ok(received);
+    /// Polls and completes for a stretch of turns, or until there is no more to take.
+    pub fn receive<O: Outlet>(&mut self, outlet: &mut O, signs: &Signs) -> Result<Stretch, Fault> {
+        for _ in 0..TURNS {
+            self.random.pause();
+            let stretch = self.turn(outlet, signs)?;
+            if stretch != Stretch::Goes {
+                return Ok(stretch);
             }
         }
-        Err(Fault::NoEnd)
-    }
-
-    /// Takes and completes events, until the ring drained, until it leaves, or until it may wait for
-    /// another that left.
-    pub fn receive(mut self) -> Result<Received, Fault> {
-        let received = self.receive_all();
-        if received.is_err() {
-            self.signs.leave();
-        }
-        received
+        Ok(Stretch::Goes)
     }
 }

@@ -17,12 +17,12 @@ impl Signs {
         }
     }
 
-    /// The sender sends no more.
+    /// The producers send no more.
     pub fn close(&self) {
         self.closed.store(true, Ordering::SeqCst);
     }
 
-    /// A handler takes no more, so that those after it may wait for ever.
+    /// A thread takes or sends no more, or is not there, so that others may wait for ever.
     pub fn leave(&self) {
         self.left.store(true, Ordering::SeqCst);
     }
