@@ -1,15 +1,16 @@
 #!/usr/bin/env python3
-"""Long runs over the ring, with a thread for each end.
+"""Long runs over exchanges, with a thread for each end.
 
     tests/long_runs.py                         some minutes
-    tests/long_runs.py --events 1000000000     as many events as asked, through all topologies together
-    tests/long_runs.py --rounds 100000         as many rings that are halted at a random time
-    tests/long_runs.py --seed 7                other rings
+    tests/long_runs.py --events 1000000000     as many events as asked, through all topologies of the ring together
+    tests/long_runs.py --rounds 100000         as many exchanges of each kind that are halted at a random time
+    tests/long_runs.py --seed 7                other exchanges
 
 First `disruptor_bench` passes events through each topology at three sizes; each handler adds up what it is shown, and a
-wrong sum fails. Then `disruptor_halts` runs rings whose claims, polls, completions and halt fall at random times, and
-compares what each handler received with the beginning of what was published. The script prints a line for each run, and
-its status is 1 where one failed. Both programs are built by `rt run` in their crates' folders.
+wrong sum fails. Then `disruptor_halts` runs exchanges over the ring and behind the lock, whose claims, polls,
+completions and halt fall at random times, and compares what each handler received with the beginning of what was
+published. The script prints a line for each run, and its status is 1 where one failed. Both programs are built by
+`rt run` in their crates' folders.
 """
 
 import argparse
@@ -56,16 +57,19 @@ def pass_events(wanted):
     print(f"{total} events through the ring, all sums right", flush=True)
 
 
-def halt_rings(seed, rounds):
-    done, totals = 0, [0, 0, 0, 0]
+def halt_exchanges(seed, rounds):
+    """Adds up what the runs print, a line for each kind of exchange: `by KIND`, and the numbers."""
+    done, totals = 0, {}
     while done < rounds:
         some = min(ROUNDS_AT_ONCE, rounds - done)
-        told = run([HALTS, seed + done, some]).stderr
-        totals = [a + b for a, b in zip(totals, (int(word) for word in told.split() if word.isdigit()))]
+        for line in run([HALTS, seed + done, some]).stderr.splitlines():
+            _, kind, *words = line.split()
+            numbers = [int(word) for word in words if word.isdigit()]
+            totals[kind] = [a + b for a, b in zip(totals.get(kind, [0] * len(numbers)), numbers)]
         done += some
-    published, received, handlers, drained = totals
-    print(f"{done} rings halted at random times: {published} events published, {received} received")
-    print(f"{handlers} handlers, each with a beginning of what was published, {drained} of them with all of it", flush=True)
+    for kind, (published, received, handlers, drained) in totals.items():
+        print(f"{done} exchanges by {kind}, halted at random times: {published} events published, {received} received")
+        print(f"{handlers} handlers, each with a beginning of what was published, {drained} with all of it", flush=True)
 
 
 def main():
@@ -78,7 +82,7 @@ def main():
         if not os.path.exists(program):
             sys.exit(f"{program} is not built: run `rt run` in {os.path.dirname(os.path.dirname(program))}")
     pass_events(given.events)
-    halt_rings(given.seed, given.rounds)
+    halt_exchanges(given.seed, given.rounds)
 
 
 if __name__ == "__main__":
