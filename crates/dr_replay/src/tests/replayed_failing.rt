@@ -79,12 +79,17 @@ fn meets_failed_write(
     takes_nothing: bool,
 ) -> Result<bool, Fail> {
     let output = slow_at(alloc, fails_at, takes_nothing);
-    let Streamed { writer, result, .. } =
-        replay_streams(rt, alloc, by, INPUT.as_bytes(), output, 2, &OpenGate)?;
+    let Streamed { writer, result, .. } = replay_streams(
+        rt,
+        alloc,
+        by,
+        INPUT.as_bytes(),
+        output,
+        2,
+        &OpenGate,
+    )?;
     let meets = meets_failure(rt, writer, OUTPUT.as_bytes());
-    assert!(rt;
-        matches!(&result, Err(ReplayFault::File(FileFault::Write))) == meets
-    );
+    assert!(rt; matches!(&result, Err(ReplayFault::File(FileFault::Write))) == meets);
     assert!(rt; result.is_ok() == !meets);
     Ok(meets)
 }
@@ -122,12 +127,12 @@ fn check_whole_writes(
     for (fails_at, taken) in [(1, ""), (2, OUTPUT)] {
         let output = whole_at(alloc, fails_at);
         let Streamed {
-            mut writer, result, ..
+            mut writer,
+            result,
+            ..
         } = replay_streams(rt, alloc, by, INPUT.as_bytes(), output, 2, &OpenGate)?;
         let is_whole = taken == OUTPUT;
-        assert!(rt;
-            matches!(&result, Err(ReplayFault::File(FileFault::Write))) == !is_whole
-        );
+        assert!(rt; matches!(&result, Err(ReplayFault::File(FileFault::Write))) == !is_whole);
         assert!(rt; result.is_ok() == is_whole);
         // The second call is the flush.
         assert!(rt; !is_whole || writer.flush().is_err());

@@ -11,6 +11,7 @@ use std::thread::Threads;
 
 // Every way, and those with threads.
 pub const ALL: [By; 3] = [By::Plain, By::Lock, By::Ring];
+
 pub const WITH_THREADS: [By; 2] = [By::Lock, By::Ring];
 
 // What a replay left of its reader and its writer, and how it ended.
@@ -22,7 +23,7 @@ pub struct Streamed<I, O> {
 }
 
 // Replays from a reader to a writer. On one thread there is no gate to pass.
-pub fn replay_streams<R: Threads + Wait + Sync, I: Read, O: Write, G: Gate + Sync>(
+pub fn replay_streams<R: Threads + Wait + Sync, I: Read + Drop, O: Write + Drop, G: Gate + Sync>(
     rt: &R,
     alloc: Global,
     by: By,
@@ -64,8 +65,15 @@ pub fn replay_by<R: Threads + Wait + Sync, G: Gate + Sync>(
     gate: &G,
 ) -> Result<Replayed, Fail> {
     let output = Vec::new(alloc);
-    let Streamed { writer, result, .. } =
-        replay_streams(rt, alloc, by, input.as_bytes(), output, size, gate)?;
+    let Streamed { writer, result, .. } = replay_streams(
+        rt,
+        alloc,
+        by,
+        input.as_bytes(),
+        output,
+        size,
+        gate,
+    )?;
     let output = writer.into_inner();
     Ok(Replayed { output, result })
 }
