@@ -4,25 +4,30 @@ use crate::random::Random;
 use dr_graph::{Graph, GraphBuilder, GraphFault};
 use std::alloc::Global;
 
-/// One handler, some one after another, some side by side, or two and one after both.
+/// Handlers, and which comes after which.
+#[derive(Clone, Copy, Debug)]
+struct Shape {
+    names: &'static [&'static str],
+    edges: &'static [(&'static str, &'static str)],
+}
+
+/// One handler, three side by side, one after another, or one after both others.
+fn shape(random: &mut Random) -> Shape {
+    let (names, edges): (&[&str], &[(&str, &str)]) = match random.below(4) {
+        0 => (&["a"], &[]),
+        1 => (&["a", "b", "c"], &[]),
+        2 => (&["a", "b", "c"], &[("a", "b"), ("b", "c")]),
+        _ => (&["a", "b", "c"], &[("a", "c"), ("b", "c")]),
+    };
+    Shape { names, edges }
+}
+
 pub fn graph(alloc: Global, random: &mut Random) -> Result<Graph, GraphFault> {
+    let Shape { names, edges } = shape(random);
     let mut builder = GraphBuilder::new(alloc);
-    match random.below(4) {
-        0 => {
-            builder.handle_with(&["a"])?;
-        }
-        1 => {
-            let first = builder.handle_with(&["a"])?;
-            let second = builder.then(&first, &["b"])?;
-            builder.then(&second, &["c"])?;
-        }
-        2 => {
-            builder.handle_with(&["a", "b", "c"])?;
-        }
-        _ => {
-            let both = builder.handle_with(&["a", "b"])?;
-            builder.then(&both, &["c"])?;
-        }
+    builder.handle_with(names)?;
+    for (up, down) in edges {
+        builder.edge(up, down)?;
     }
     builder.build()
 }
