@@ -12,7 +12,7 @@ struct Shape {
 }
 
 /// One handler, three side by side, one after another, or one after both others.
-fn shape(random: &mut Random) -> Shape {
+fn any_shape(random: &mut Random) -> Shape {
     let (names, edges): (&[&str], &[(&str, &str)]) = match random.below(4) {
         0 => (&["a"], &[]),
         1 => (&["a", "b", "c"], &[]),
@@ -23,7 +23,7 @@ fn shape(random: &mut Random) -> Shape {
 }
 
 pub fn graph(alloc: Global, random: &mut Random) -> Result<Graph, GraphFault> {
-    let Shape { names, edges } = shape(random);
+    let Shape { names, edges } = any_shape(random);
     let mut builder = GraphBuilder::new(alloc);
     builder.handle_with(names)?;
     for (up, down) in edges {
