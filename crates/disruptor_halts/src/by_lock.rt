@@ -109,8 +109,8 @@ fn audited<L: Ledger>(alloc: Global, shared: Shared<L>, joined: Joined<L>) -> Re
     Told::of(list.as_slice(), gathered.received.as_slice())
 }
 
-/// Runs an exchange with threads of their own for each producer and each handler, any of which may halt it, and
-/// compares what each handler received with the list of the audit.
+/// Runs an exchange with threads of their own for each producer and each handler, any of which may
+/// halt it, and compares what each handler received with the list of the audit.
 pub fn round<L: Ledger + Send + Sync, R: Threads + Wait + Sync>(
     rt: &R,
     alloc: Global,

@@ -166,7 +166,8 @@ fn publish<R: Threads + Wait + Sync>(
     )
 }
 
-/// Runs a ring with threads of its own for the producer and for each handler, and halts it from this one.
+/// Runs a ring with threads of its own for the producer and for each handler, and halts it from
+/// this one.
 fn exchange<R: Threads + Wait + Sync>(
     around: &Around<'_, R>,
     parties: Parties,

@@ -1,9 +1,10 @@
-//! Exchanges whose claims, polls, completions, retirements and halt fall at random times, with a thread for each
-//! end: over the ring, and behind the lock.
+//! Exchanges over the ring and behind the lock, with a thread for each end, whose claims, polls,
+//! completions, retirements and halt fall at random times.
 //!
-//! `disruptor_halts SEED ROUNDS` runs so many of each, with graphs, sizes and turns of their ends that the seed
-//! gives. What each handler received is compared with what was published, behind the lock by the audit. At last it
-//! prints how many rounds there were, and on standard error how many events, which hangs on the threads.
+//! `disruptor_halts SEED ROUNDS` runs so many of each, with graphs, sizes and turns of their ends that
+//! the seed gives. What each handler received is compared with what was published, which behind the
+//! lock is the list of the audit. At last it prints how many rounds there were, and on standard error
+//! how many events, which depends on how the threads ran.
 #![tactic(auto)]
 
 ghost use Rattle.std.specs.Prelude.{◌≡◌};

@@ -79,8 +79,8 @@ impl Sending {
         self.publish_parts(inlet, low, high)
     }
 
-    /// Claims, writes and publishes for a stretch of turns, or until a claim is refused because the exchange is
-    /// halted. Some claims ask for nothing, or for more than there are slots.
+    /// Claims, writes and publishes for a stretch of turns, or until a claim is refused because the
+    /// exchange is halted. Some claims ask for nothing, or for more than there are slots.
     pub fn send<I: Inlet>(&mut self, inlet: &mut I) -> Result<Stretch, Fault> {
         for _ in 0..TURNS {
             self.random.pause();

@@ -42,8 +42,8 @@ impl Told {
         }
     }
 
-    /// What an exchange came to, if each handler received a beginning of what was published, and all of it where
-    /// it drained.
+    /// What an exchange came to, if each handler received a beginning of what was published, and all
+    /// of it where it drained.
     pub fn of(published: &[Event], received: &[Received]) -> Result<Told, Fault> {
         let mut told = Told {
             published: published.len() as u64,

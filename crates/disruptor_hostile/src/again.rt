@@ -2,7 +2,7 @@
 
 use crate::fault::Fault;
 
-/// Makes a call. Where it answers that memory ran out, that is told, and the call is made again.
+/// Makes a call. Where it answers that memory ran out, a line says so, and the call is made again.
 pub fn again<T, R: Print, F: FnMut() -> Result<T, Fault>>(rt: &R, mut call: F) -> Result<T, Fault>
     requires { F.IsAlwaysCallable call }
 {

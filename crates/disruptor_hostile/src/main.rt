@@ -1,7 +1,7 @@
-//! Calls of the library, each told in a line, for runs in which requests for memory are refused.
+//! Calls of the library, each answer a line, for runs in which requests for memory are refused.
 //!
 //! `disruptor_hostile CASE` makes the calls of a case, and `disruptor_hostile all` those of every case.
-//! A call that answers that memory ran out is told by a line `no-memory`, and is made again.
+//! Where a call answers that memory ran out, a line `no-memory` says so, and it is made again.
 #![tactic(auto)]
 
 mod again;
