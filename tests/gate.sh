@@ -13,14 +13,15 @@ rt ci | sed -u -n -e "\$w $last" -e '$!p'
 status=${PIPESTATUS[0]}
 
 more=0
-for built in crates/disruptor/out/disruptor crates/disruptor/out/disruptor.by-rattle; do
-    if [ -f "$built" ]; then
+for build in '' .by-rattle; do
+    built=crates/disruptor/out/disruptor$build calls=crates/disruptor_hostile/out/disruptor_hostile$build
+    if [ -f "$built" ] && [ -f "$calls" ]; then
         tests/program.sh "$built" || more=$((more + 1))
         tests/examples.py "$built" || more=$((more + 1))
         tests/hostile/run.py "$built" || more=$((more + 1))
-        tests/hostile/refused.py "$built" || more=$((more + 1))
-    elif [ "$status" = 0 ] && [ "$built" = crates/disruptor/out/disruptor ]; then
-        echo "FAILED: rt ci left no $built"
+        tests/hostile/refused.py "$built" "$calls" || more=$((more + 1))
+    elif [ "$status" = 0 ] && [ -z "$build" ]; then
+        echo "FAILED: rt ci left no $built or no $calls"
         more=1
     fi
 done

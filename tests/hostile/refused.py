@@ -1,11 +1,11 @@
 #!/usr/bin/env python3
-"""Refuses each request for memory in turn, and each start of a thread.
+"""Refuses each request for memory in turn, in the program and in calls of the library, and each start of a thread.
 
-    tests/hostile/refused.py PROGRAM
+    tests/hostile/refused.py PROGRAM CALLS
 
-Each case runs once with its first request refused, once with its second, and so on, until a run meets no refusal.
-refusing.c is what refuses; it stands before the C library. The script prints a line for each failure, and then a
-count; its status is 0 where none failed.
+PROGRAM is `disruptor`, and CALLS `disruptor_hostile`. Each case runs once with its first request refused, once with its
+second, and so on, until a run meets no refusal. refusing.c is what refuses; it stands before the C library. The script
+prints a line for each failure, and then a count; its status is 0 where none failed.
 """
 
 import itertools
@@ -18,6 +18,10 @@ import tempfile
 from collections import Counter, namedtuple
 
 from run import HERE, NO_MEMORY, WAYS, Ran, merged_like
+
+# The calls of the library, and those of them that take no memory once something is open.
+CALLS = ("builder", "build", "open", "record", "ring", "run", "call", "audit")
+TAKING_NONE = ("core", "ends", "kept")
 
 DIAMOND = """ring,2,single
 with,journal,replica
@@ -162,6 +166,17 @@ def kind_by_lock(ran, _whole):
     return kind_of_replay(ran, merged_like(ran, OPERATIONS.encode()))
 
 
+def kind_of_calls(ran, whole):
+    """A call that was told to have run out of memory is made again, and then gives what it would have given at first."""
+    if ran == whole:
+        return "whole"
+    told = ran.out.splitlines(keepends=True)
+    if told.count(b"no-memory\n") == 1:
+        told.remove(b"no-memory\n")
+        return ran._replace(out=b"".join(told)) == whole and "made again"
+    return is_beginning(ran, whole) and "no-memory"
+
+
 def refuse_in_drive(refusing, program):
     for name, text in (("the diamond", DIAMOND), ("every record", EVERY_RECORD)):
         words = [program, "drive", refusing.file("drive.csv", text)]
@@ -198,14 +213,32 @@ def refuse_threads(refusing, program):
         refusing.judge(f"replay by {way}, how many threads", kinds == {"no-memory": threads}, kinds)
 
 
+def refuse_in_calls(refusing, calls):
+    for case in CALLS:
+        kinds = refusing.refuse_each(f"calls of case {case}", [calls, case], kind_of_calls)
+        refusing.judge(f"calls of case {case}, made again", kinds["made again"], kinds)
+
+
+def refuse_all_once_open(refusing, calls):
+    """The one request that a case makes once it has said that it is open is its last line's."""
+    for case in TAKING_NONE:
+        whole, met = refusing.run([calls, case]).ran, refusing.run([calls, case], once_told=1)
+        refused = whole._replace(out=whole.out.removesuffix(b"\nmemory\n") + b"\nno-memory\n")
+        opens = whole.status == 0 and whole.out.startswith(b"open\n") and whole.out.endswith(b"\nmemory\n")
+        holds = opens and met.ran == refused and met.requests == met.refused == 1
+        refusing.judge(f"calls of case {case}, all memory refused once it is open", holds, (met, whole))
+
+
 def main():
-    program = os.path.abspath(sys.argv[1])
+    program, calls = map(os.path.abspath, sys.argv[1:3])
     with tempfile.TemporaryDirectory(prefix="refused-") as folder:
         refusing = Refusing(folder)
         refuse_in_drive(refusing, program)
         refuse_in_replays(refusing, program)
         refuse_in_replay_of_one(refusing, program)
         refuse_threads(refusing, program)
+        refuse_in_calls(refusing, calls)
+        refuse_all_once_open(refusing, calls)
     print(f"{program}: {refusing.cases} cases with memory or threads refused, {refusing.failed} failed")
     return 1 if refusing.failed else 0
 

@@ -1,7 +1,8 @@
 //! Reports of merges, behind the lock.
 
 use crate::By;
-use crate::tests::by_threads::{WORKED, by_plain, replay_by};
+use crate::tests::by_threads::WORKED;
+use crate::tests::ways::{by_plain, replay_by};
 use dr_shared::OpenGate;
 use std::alloc::Global;
 use std::process::Abort;

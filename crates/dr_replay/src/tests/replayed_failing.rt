@@ -1,80 +1,152 @@
-//! Replays whose reader or writer fails at its k-th call.
+//! Replays, by each way, whose reader or writer fails at its k-th call, for every k until a replay meets no
+//! failure.
 
 use crate::tests::failing::{call_on, calls_of, failing_at, meets_failure, slow_at, whole_at};
-use crate::{Counted, FileFault, replay_plain};
-use dr_seq::Size;
+use crate::tests::ways::{ALL, Streamed, replay_streams};
+use crate::{By, FileFault, ReplayFault};
+use dr_shared::OpenGate;
 use std::alloc::Global;
 use std::io::Write;
 use std::process::Abort;
+use std::sync::Wait;
 use std::test::Fail;
+use std::thread::Threads;
 
+// Both of one producer, so that there is one report by every way.
 const INPUT: &str = "0,deposit,1,100\n0,withdraw,1,40\n";
 
 const OUTPUT: &str =
     "journal 2\n0,0,deposit,1,100\n1,0,withdraw,1,40\nreplica 2\n0001000100000064\n0002000100000028\nbusiness 2\n1,60,0\n";
 
+// More calls than a replay makes of its reader or its writer.
+const MOST_CALLS: u64 = 1000;
+
+// Whether a replay meets a reader that fails at its k-th call. If so nothing is written, and the reader
+// is called no more.
+fn meets_failed_read(
+    rt: &(impl Abort + Threads + Wait + Sync),
+    alloc: Global,
+    by: By,
+    fails_at: u64,
+) -> Result<bool, Fail> {
+    let input = failing_at(INPUT, fails_at);
+    let Streamed {
+        reader,
+        writer,
+        result,
+    } = replay_streams(rt, alloc, by, input, Vec::new(alloc), 2, &OpenGate)?;
+    let output = writer.into_inner();
+    if result.is_ok() {
+        assert!(rt; reader.faults() == 0 && output.as_slice() == OUTPUT.as_bytes());
+        return Ok(false);
+    }
+    assert!(rt; matches!(&result, Err(ReplayFault::File(FileFault::Read))));
+    assert!(rt; reader.faults() == 1 && output.is_empty());
+    assert!(rt; calls_of(rt, reader) == fails_at);
+    Ok(true)
+}
+
+fn check_reads(
+    rt: &(impl Abort + Threads + Wait + Sync),
+    alloc: Global,
+    by: By,
+) -> Result<(), Fail> {
+    for fails_at in 1..MOST_CALLS {
+        if !meets_failed_read(rt, alloc, by, fails_at)? {
+            // One call for each record, and one that finds the end.
+            assert_eq!(rt; fails_at, 4);
+            return Ok(());
+        }
+    }
+    Err("a replay that meets no failure".into())
+}
+
 #[test]
 fn reads_that_fail(rt: HostRuntime) -> Result<(), Fail> {
-    let alloc = rt.alloc();
-    for fails_at in 1..6 {
-        let mut reader = Counted::new(failing_at(INPUT, fails_at));
-        let mut writer = Counted::new(Vec::new(alloc));
-        let result = replay_plain(alloc, &mut reader, &mut writer, Size::new(2)?);
-        let output = writer.into_inner();
-        if fails_at < 4 {
-            assert!(rt; matches!(&result, Err(FileFault::Read)));
-            assert!(rt; reader.faults() == 1 && output.is_empty());
-            assert!(rt; calls_of(&rt, reader) == fails_at);
-        } else {
-            assert!(rt; result.is_ok() && reader.faults() == 0);
-            assert!(rt; output.as_slice() == OUTPUT.as_bytes());
-        }
+    for by in ALL {
+        check_reads(&rt, rt.alloc(), by)?;
     }
     Ok(())
 }
 
-fn write_that_fails(
-    rt: &impl Abort,
+// Whether a replay meets a writer that takes a byte a call, and fails at its k-th call, or takes nothing
+// there.
+fn meets_failed_write(
+    rt: &(impl Abort + Threads + Wait + Sync),
     alloc: Global,
+    by: By,
     fails_at: u64,
     takes_nothing: bool,
+) -> Result<bool, Fail> {
+    let output = slow_at(alloc, fails_at, takes_nothing);
+    let Streamed { writer, result, .. } = replay_streams(
+        rt,
+        alloc,
+        by,
+        INPUT.as_bytes(),
+        output,
+        2,
+        &OpenGate,
+    )?;
+    let meets = meets_failure(rt, writer, OUTPUT.as_bytes());
+    assert!(rt; matches!(&result, Err(ReplayFault::File(FileFault::Write))) == meets);
+    assert!(rt; result.is_ok() == !meets);
+    Ok(meets)
+}
+
+fn check_writes(
+    rt: &(impl Abort + Threads + Wait + Sync),
+    alloc: Global,
+    by: By,
 ) -> Result<(), Fail> {
-    let mut reader = Counted::new(INPUT.as_bytes());
-    let mut writer = Counted::new(slow_at(alloc, fails_at, takes_nothing));
-    let result = replay_plain(alloc, &mut reader, &mut writer, Size::new(2)?);
-    if meets_failure(rt, writer, OUTPUT.as_bytes()) {
-        assert!(rt; matches!(&result, Err(FileFault::Write)));
-    } else {
-        assert!(rt; result.is_ok());
+    for fails_at in 1..MOST_CALLS {
+        let fails = meets_failed_write(rt, alloc, by, fails_at, false)?;
+        let takes_nothing = meets_failed_write(rt, alloc, by, fails_at, true)?;
+        assert!(rt; fails == takes_nothing);
+        if !fails {
+            return Ok(());
+        }
     }
-    Ok(())
+    Err("a replay that meets no failure".into())
 }
 
 #[test]
 fn writes_that_fail(rt: HostRuntime) -> Result<(), Fail> {
-    for fails_at in 1..113 {
-        write_that_fails(&rt, rt.alloc(), fails_at, false)?;
-        write_that_fails(&rt, rt.alloc(), fails_at, true)?;
+    for by in ALL {
+        check_writes(&rt, rt.alloc(), by)?;
     }
     Ok(())
 }
 
 // A writer that takes whole pieces is called once for the report, and not after it failed.
-#[test]
-fn whole_writes_that_fail(rt: HostRuntime) -> Result<(), Fail> {
-    let alloc = rt.alloc();
+fn check_whole_writes(
+    rt: &(impl Abort + Threads + Wait + Sync),
+    alloc: Global,
+    by: By,
+) -> Result<(), Fail> {
     for (fails_at, taken) in [(1, ""), (2, OUTPUT)] {
-        let mut reader = Counted::new(INPUT.as_bytes());
-        let mut writer = Counted::new(whole_at(alloc, fails_at));
-        let result = replay_plain(alloc, &mut reader, &mut writer, Size::new(2)?);
+        let output = whole_at(alloc, fails_at);
+        let Streamed {
+            mut writer,
+            result,
+            ..
+        } = replay_streams(rt, alloc, by, INPUT.as_bytes(), output, 2, &OpenGate)?;
         let is_whole = taken == OUTPUT;
-        assert!(rt; matches!(&result, Err(FileFault::Write)) == !is_whole);
+        assert!(rt; matches!(&result, Err(ReplayFault::File(FileFault::Write))) == !is_whole);
         assert!(rt; result.is_ok() == is_whole);
         // The second call is the flush.
         assert!(rt; !is_whole || writer.flush().is_err());
-        let whole = call_on(&rt, writer);
+        let whole = call_on(rt, writer);
         assert!(rt; whole.calls == fails_at);
         assert_eq!(rt; whole.taken.as_slice(), taken.as_bytes());
+    }
+    Ok(())
+}
+
+#[test]
+fn whole_writes_that_fail(rt: HostRuntime) -> Result<(), Fail> {
+    for by in ALL {
+        check_whole_writes(&rt, rt.alloc(), by)?;
     }
     Ok(())
 }

@@ -1,0 +1,33 @@
+//! The graphs that exchanges are opened for.
+
+use crate::random::Random;
+use dr_graph::{Graph, GraphBuilder, GraphFault};
+use std::alloc::Global;
+
+/// Handlers, and which comes after which.
+#[derive(Clone, Copy, Debug)]
+struct Shape {
+    names: &'static [&'static str],
+    edges: &'static [(&'static str, &'static str)],
+}
+
+/// One handler, three side by side, one after another, or one after both others.
+fn any_shape(random: &mut Random) -> Shape {
+    let (names, edges): (&[&str], &[(&str, &str)]) = match random.below(4) {
+        0 => (&["a"], &[]),
+        1 => (&["a", "b", "c"], &[]),
+        2 => (&["a", "b", "c"], &[("a", "b"), ("b", "c")]),
+        _ => (&["a", "b", "c"], &[("a", "c"), ("b", "c")]),
+    };
+    Shape { names, edges }
+}
+
+pub fn graph(alloc: Global, random: &mut Random) -> Result<Graph, GraphFault> {
+    let Shape { names, edges } = any_shape(random);
+    let mut builder = GraphBuilder::new(alloc);
+    builder.handle_with(names)?;
+    for (up, down) in edges {
+        builder.edge(up, down)?;
+    }
+    builder.build()
+}

@@ -1,0 +1,95 @@
+//! Exchanges over the ring and behind the lock, with a thread for each end, whose claims, polls,
+//! completions, retirements and halt fall at random times.
+//!
+//! `disruptor_halts SEED ROUNDS` runs so many of each, with graphs, sizes and turns of their ends that
+//! the seed gives. What each handler received is compared with what was published, which behind the
+//! lock is the list of the audit. At last it prints how many rounds there were, and on standard error
+//! how many events, which depends on how the threads ran.
+#![tactic(auto)]
+
+ghost use Rattle.std.specs.Prelude.{◌≡◌};
+
+mod by_lock;
+mod by_ring;
+mod fault;
+mod graphs;
+mod random;
+mod receiving;
+mod sending;
+mod signs;
+mod stretch;
+mod told;
+
+use fault::Fault;
+use random::Random;
+use std::alloc::Global;
+use std::env;
+use std::marker::Brand;
+use std::process::ExitCode;
+use std::rt::Runtime;
+use std::sync::Wait;
+use std::sync::ledger::Blank;
+use std::thread::Threads;
+use told::Told;
+
+/// More turns than any loop takes that waits for another thread.
+const MOST_TURNS: u64 = u64::MAX;
+
+fn rings<R: Threads + Wait + Sync>(
+    rt: &R,
+    alloc: Global,
+    seed: u64,
+    count: u64,
+) -> Result<Told, Fault> {
+    let mut random = Random::new(seed);
+    let mut all = Told::NONE;
+    for _ in 0..count {
+        all = all.with(by_ring::round(rt, alloc, &mut random)?);
+    }
+    Ok(all)
+}
+
+fn locks<R: Threads + Wait + Sync>(
+    rt: &R,
+    alloc: Global,
+    seed: u64,
+    count: u64,
+) -> Result<Told, Fault> {
+    let mut random = Random::new(seed);
+    let mut all = Told::NONE;
+    for _ in 0..count {
+        let told = by_lock::round::<Brand, R>(rt, alloc, Blank::new(65), &mut random)?;
+        all = all.with(told);
+    }
+    Ok(all)
+}
+
+fn number(word: &str) -> Result<u64, Fault> {
+    word.parse().map_err(|_| Fault::Usage)
+}
+
+fn run<R: Runtime + Alloc<A = Global> + Threads + Wait + Sync>(rt: &R) -> Result<(), Fault> {
+    let alloc = rt.alloc();
+    let words: Vec<String> = env::args(rt)?.skip(1).collect(alloc)?;
+    let [seed, count] = words.as_slice() else {
+        return Err(Fault::Usage);
+    };
+    let seed = number(seed.as_str())?;
+    let count = number(count.as_str())?;
+    let by_ring = rings(rt, alloc, seed, count)?;
+    let by_lock = locks(rt, alloc, seed, count)?;
+    println!(rt; "{count} rounds")?;
+    eprintln!(rt; "by ring {by_ring}\nby lock {by_lock}")?;
+    Ok(())
+}
+
+fn main(rt: HostRuntime) -> ExitCode {
+    match run(&rt) {
+        Ok(()) => ExitCode::SUCCESS,
+        Err(fault) => {
+            // Where even this cannot be written, the status tells it.
+            let _printed = rt.eprintln(&fault);
+            ExitCode::from(fault.status())
+        }
+    }
+}

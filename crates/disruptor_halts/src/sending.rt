@@ -1,0 +1,102 @@
+//! A producer's turns, at the end of any exchange.
+
+use crate::fault::Fault;
+use crate::random::Random;
+use crate::stretch::{Stretch, TURNS};
+use dr_core::{Claimed, Inlet, Refusal, Trouble};
+use dr_seq::Event;
+use std::alloc::Global;
+
+/// A producer with what it sent so far. Its events have its number, and 0, 1, 2 and so on.
+#[derive(Drop)]
+pub struct Sending {
+    number: u64,
+    size: u64,
+    /// Whether publications are to come in the order of their sequences.
+    in_order: bool,
+    random: Random,
+    script: Vec<Event>,
+}
+
+impl Sending {
+    /// A producer that claims from an exchange of so many slots.
+    pub fn new(alloc: Global, number: u64, size: u64, in_order: bool, random: Random) -> Sending {
+        Sending {
+            number,
+            size,
+            in_order,
+            random,
+            script: Vec::new(alloc),
+        }
+    }
+
+    /// What it sent, in the order of its claims.
+    pub fn into_script(self) -> Vec<Event> {
+        self.script
+    }
+
+    fn write<I: Inlet>(&mut self, inlet: &mut I, s: u64) -> Result<(), Fault> {
+        let event = Event {
+            first: self.number,
+            second: self.script.len() as u64,
+        };
+        inlet.write(s, event)?;
+        Ok(self.script.push(event)?)
+    }
+
+    fn write_all<I: Inlet>(&mut self, inlet: &mut I, claimed: Claimed) -> Result<(), Fault> {
+        for s in claimed.lo..claimed.hi {
+            self.write(inlet, s)?;
+        }
+        self.write(inlet, claimed.hi)
+    }
+
+    /// Publishes a claim in two parts, of which either may come first where no order is asked for.
+    fn publish_parts<I: Inlet>(
+        &mut self,
+        inlet: &mut I,
+        low: Claimed,
+        high: Claimed,
+    ) -> Result<(), Fault> {
+        let turned = !self.in_order && self.random.below(2) == 0;
+        let (first, second) = if turned { (high, low) } else { (low, high) };
+        inlet.publish(first.lo, first.hi)?;
+        self.random.pause();
+        Ok(inlet.publish(second.lo, second.hi)?)
+    }
+
+    fn publish<I: Inlet>(&mut self, inlet: &mut I, claimed: Claimed) -> Result<(), Fault> {
+        let Claimed { lo, hi } = claimed;
+        if lo == hi || self.random.below(2) == 0 {
+            return Ok(inlet.publish(lo, hi)?);
+        }
+        let last = lo.wrapping_add(self.random.below(hi.wrapping_sub(lo)));
+        let low = Claimed { lo, hi: last };
+        let high = Claimed {
+            lo: last.wrapping_add(1),
+            hi,
+        };
+        self.publish_parts(inlet, low, high)
+    }
+
+    /// Claims, writes and publishes for a stretch of turns, or until a claim is refused because the
+    /// exchange is halted. Some claims ask for nothing, or for more than there are slots.
+    pub fn send<I: Inlet>(&mut self, inlet: &mut I) -> Result<Stretch, Fault> {
+        for _ in 0..TURNS {
+            self.random.pause();
+            let count = self.random.below(self.size.saturating_add(2));
+            match inlet.try_claim(count) {
+                Ok(claimed) => {
+                    self.write_all(inlet, claimed)?;
+                    self.random.pause();
+                    self.publish(inlet, claimed)?;
+                }
+                Err(Trouble::Refused(Refusal::BadCount)) if count == 0 || count > self.size => {}
+                Err(Trouble::Refused(Refusal::NoRoom)) => {}
+                Err(Trouble::Refused(Refusal::Halted)) => return Ok(Stretch::Left),
+                Err(trouble) => return Err(trouble.into()),
+            }
+        }
+        Ok(Stretch::Goes)
+    }
+}

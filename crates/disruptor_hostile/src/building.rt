@@ -1,0 +1,90 @@
+//! The calls of a builder of graphs.
+
+use crate::again::again;
+use crate::fault::Fault;
+use crate::graphs::tell_graph;
+use dr_graph::{Graph, GraphBuilder, GraphFault, Group};
+use std::alloc::Global;
+
+/// A call of a builder. There is a current group, which each call but `Edge` makes anew.
+#[derive(Clone, Copy, Debug)]
+enum Call<'a> {
+    With(&'a [&'a str]),
+    Then(&'a [&'a str]),
+    After(&'a [&'a str]),
+    /// The current group, and then the group of these names.
+    And(&'a [&'a str]),
+    Edge(&'a str, &'a str),
+}
+
+fn make(builder: &mut GraphBuilder, current: &mut Group, call: &Call) -> Result<(), GraphFault> {
+    let group = match call {
+        Call::With(names) => builder.handle_with(*names)?,
+        Call::Then(names) => builder.then(&*current, *names)?,
+        Call::After(names) => builder.after(*names)?,
+        Call::And(names) => {
+            let second = builder.after(*names)?;
+            builder.and(&*current, &second)?
+        }
+        Call::Edge(up, down) => return builder.edge(*up, *down),
+    };
+    *current = group;
+    Ok(())
+}
+
+fn tell_call<R: Print>(
+    rt: &R,
+    builder: &mut GraphBuilder,
+    current: &mut Group,
+    call: &Call,
+) -> Result<(), Fault> {
+    match again(rt, || Ok(make(builder, current, call)?)) {
+        Ok(()) => println!(rt; "done {call:?}")?,
+        Err(Fault::Graph(fault)) => println!(rt; "{fault} {call:?}")?,
+        Err(fault) => return Err(fault),
+    }
+    Ok(())
+}
+
+/// Makes each call of a builder, and refused ones between them, which change nothing.
+pub fn tell_builder<R: Print>(rt: &R, alloc: Global) -> Result<(), Fault> {
+    let calls = [
+        Call::Then(&["c"]),
+        Call::With(&["d", "a"]),
+        Call::With(&["d", "e f"]),
+        Call::With(&[]),
+        Call::After(&["a", "a"]),
+        Call::Then(&["d"]),
+        Call::After(&["z"]),
+        Call::After(&["c"]),
+        Call::And(&["d"]),
+        Call::Then(&["e"]),
+        Call::Edge("a", "z"),
+        Call::Edge("b", "d"),
+        Call::Edge("b", "d"),
+        Call::With(&["f", "g", "h", "i", "j", "k", "l", "m", "n", "o", "p"]),
+        Call::With(&["q"]),
+    ];
+    let mut builder = GraphBuilder::new(alloc);
+    let mut current = again(rt, || Ok(builder.handle_with(&["a", "b"])?))?;
+    for call in &calls {
+        tell_call(rt, &mut builder, &mut current, call)?;
+    }
+    tell_graph(rt, &builder.build()?)
+}
+
+/// Declares some handlers with edges between them, and builds.
+fn built(alloc: Global) -> Result<Graph, Fault> {
+    let mut builder = GraphBuilder::new(alloc);
+    let all = builder.handle_with(&["a", "b", "c", "d"])?;
+    builder.then(&all, &["e"])?;
+    builder.edge("d", "a")?;
+    builder.edge("c", "b")?;
+    Ok(builder.build()?)
+}
+
+/// Builds, with a builder of its own each time.
+pub fn tell_built<R: Print>(rt: &R, alloc: Global) -> Result<(), Fault> {
+    let graph = again(rt, || built(alloc))?;
+    tell_graph(rt, &graph)
+}

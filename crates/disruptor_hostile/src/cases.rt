@@ -1,0 +1,94 @@
+//! The cases, by their names.
+
+use crate::auditing::tell_audits;
+use crate::building::{tell_builder, tell_built};
+use crate::core_calls::{tell_opened, tell_run};
+use crate::fault::Fault;
+use crate::recording::{tell_calls, tell_recorded};
+use crate::ring_calls::tell_ring;
+use crate::taking_none::{tell_core, tell_ends, tell_kept};
+use std::alloc::Global;
+use std::fmt;
+
+/// What is called.
+#[derive(Clone, Copy, Debug, PartialEq, Eq)]
+pub enum Case {
+    /// Each call of a builder, refused ones among them.
+    Builder,
+    /// `build`, which spends its builder.
+    Build,
+    Open,
+    Record,
+    Ring,
+    /// `run`, at a gap between two producers.
+    Run,
+    Call,
+    Audit,
+    /// Every call of a core that is open.
+    Core,
+    /// Every call of a ring's ends.
+    Ends,
+    /// `Recorded::call`, with room for what it keeps.
+    Kept,
+}
+
+impl Case {
+    pub const ALL: [Case; 11] = [
+        Case::Builder,
+        Case::Build,
+        Case::Open,
+        Case::Record,
+        Case::Ring,
+        Case::Run,
+        Case::Call,
+        Case::Audit,
+        Case::Core,
+        Case::Ends,
+        Case::Kept,
+    ];
+
+    /// Its name on the command line.
+    pub fn name(self) -> &'static str {
+        match self {
+            Case::Builder => "builder",
+            Case::Build => "build",
+            Case::Open => "open",
+            Case::Record => "record",
+            Case::Ring => "ring",
+            Case::Run => "run",
+            Case::Call => "call",
+            Case::Audit => "audit",
+            Case::Core => "core",
+            Case::Ends => "ends",
+            Case::Kept => "kept",
+        }
+    }
+
+    /// The case of a name, where there is one.
+    pub fn named(name: &str) -> Option<Case> {
+        Case::ALL.into_iter().find(|case| case.name() == name)
+    }
+}
+
+impl fmt::Display for Case {
+    fn fmt<W: fmt::Write>(&self, f: &mut fmt::Formatter<W>) -> fmt::Result {
+        f.write_str(self.name())
+    }
+}
+
+/// Makes the calls of a case.
+pub fn tell<R: Print>(rt: &R, alloc: Global, case: Case) -> Result<(), Fault> {
+    match case {
+        Case::Builder => tell_builder(rt, alloc),
+        Case::Build => tell_built(rt, alloc),
+        Case::Open => tell_opened(rt, alloc),
+        Case::Record => tell_recorded(rt, alloc),
+        Case::Ring => tell_ring(rt, alloc),
+        Case::Run => tell_run(rt, alloc),
+        Case::Call => tell_calls(rt, alloc),
+        Case::Audit => tell_audits(rt, alloc),
+        Case::Core => tell_core(rt, alloc),
+        Case::Ends => tell_ends(rt, alloc),
+        Case::Kept => tell_kept(rt, alloc),
+    }
+}

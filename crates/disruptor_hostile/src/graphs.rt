@@ -1,0 +1,32 @@
+//! The graphs that the cases open exchanges for.
+
+use crate::fault::Fault;
+use dr_graph::{Graph, GraphBuilder};
+use std::alloc::Global;
+
+/// Handlers side by side.
+pub fn side_by_side(alloc: Global, names: &[&str]) -> Result<Graph, Fault> {
+    let mut builder = GraphBuilder::new(alloc);
+    builder.handle_with(names)?;
+    Ok(builder.build()?)
+}
+
+/// Two handlers, and one after both.
+pub fn diamond(alloc: Global) -> Result<Graph, Fault> {
+    let mut builder = GraphBuilder::new(alloc);
+    let both = builder.handle_with(&["a", "b"])?;
+    builder.then(&both, &["c"])?;
+    Ok(builder.build()?)
+}
+
+/// Tells each handler of a graph, with its upstreams.
+pub fn tell_graph<R: Print>(rt: &R, graph: &Graph) -> Result<(), Fault> {
+    for h in 0..graph.len() {
+        let name = graph.name(h);
+        let upstreams = graph.upstreams(h);
+        println!(rt; "{name} after {upstreams:?}")?;
+    }
+    let finals = graph.finals();
+    println!(rt; "finals {finals:?}")?;
+    Ok(())
+}

@@ -1,0 +1,55 @@
+//! Calls of the library, each answer a line, for runs in which requests for memory are refused.
+//!
+//! `disruptor_hostile CASE` makes the calls of a case, and `disruptor_hostile all` those of every case.
+//! Where a call answers that memory ran out, a line `no-memory` says so, and it is made again.
+#![tactic(auto)]
+
+mod again;
+mod auditing;
+mod building;
+mod cases;
+mod core_calls;
+mod fault;
+mod graphs;
+mod recording;
+mod ring_calls;
+mod taking_none;
+
+use cases::{Case, tell};
+use fault::Fault;
+use std::alloc::Global;
+use std::env;
+use std::process::ExitCode;
+use std::rt::Runtime;
+
+fn tell_all<R: Print>(rt: &R, alloc: Global) -> Result<(), Fault> {
+    for case in Case::ALL {
+        println!(rt; "case {case}")?;
+        tell(rt, alloc, case)?;
+    }
+    Ok(())
+}
+
+fn run(rt: &(impl Runtime + Alloc<A = Global>)) -> Result<(), Fault> {
+    let alloc = rt.alloc();
+    let words: Vec<String> = env::args(rt)?.skip(1).collect(alloc)?;
+    match words.as_slice() {
+        [all] if all.as_str() == "all" => tell_all(rt, alloc),
+        [name] => match Case::named(name.as_str()) {
+            Some(case) => tell(rt, alloc, case),
+            None => Err(Fault::Usage),
+        },
+        _ => Err(Fault::Usage),
+    }
+}
+
+fn main(rt: HostRuntime) -> ExitCode {
+    match run(&rt) {
+        Ok(()) => ExitCode::SUCCESS,
+        Err(fault) => {
+            // Where even this cannot be written, the status tells it.
+            let _printed = rt.eprintln(&fault);
+            ExitCode::from(fault.status())
+        }
+    }
+}

@@ -1,0 +1,103 @@
+//! A history, and the calls that it keeps.
+
+ghost use Rattle.std.specs.Prelude.{◌≡◌};
+ghost use Rattle.dr_shared.specs.History.{asked};
+
+use crate::again::again;
+use crate::core_calls::write;
+use crate::fault::Fault;
+use crate::graphs::side_by_side;
+use dr_core::Command::{Claim, Complete, Halt, Poll, Publish, Retire};
+use dr_core::{Command, MAX_LIMIT, Mode, Reply};
+use dr_seq::{Event, Size};
+use dr_shared::Recorded;
+use std::alloc::Global;
+
+/// The room that a command asks for.
+fn room(command: Command) -> usize
+    ensures { result ≡ asked command }
+{
+    match command {
+        Poll { h: _, max } => max,
+        _ => 0,
+    }
+}
+
+/// Two handlers and two producers, over four slots, with room for so many entries and events.
+pub fn recorded(alloc: Global, entries: usize, events: usize) -> Result<Recorded, Fault> {
+    let graph = side_by_side(alloc, &["a", "b"])?;
+    let size = Size::new(4)?;
+    let mode = Mode::Multi(2);
+    Ok(Recorded::open(alloc, graph, size, mode, MAX_LIMIT, entries, events)?)
+}
+
+/// Makes a call that offers room for up to eight events.
+pub fn call(
+    recorded: &mut Recorded,
+    command: Command,
+    out: &mut [Event; 8],
+) -> Result<Reply, Fault> {
+    if room(command) > 8 {
+        return Err(Fault::Room);
+    }
+    Ok(recorded.call(command, out)?)
+}
+
+/// What two producers send, and two handlers receive: each kind of command, each kind of reply that
+/// is kept, and some that are not.
+pub fn commands() -> [Command; 17] {
+    [
+        Claim { p: 0, n: 1 },
+        Claim { p: 1, n: 2 },
+        write(1, 1, 5),
+        write(1, 2, 6),
+        Publish { p: 1, lo: 1, hi: 2 },
+        Poll { h: 0, max: 8 },
+        write(0, 0, 4),
+        write(0, 3, 4),
+        Publish { p: 0, lo: 0, hi: 0 },
+        Poll { h: 0, max: 2 },
+        Poll { h: 0, max: 8 },
+        Poll { h: 1, max: 8 },
+        Complete { h: 0, upto: 3 },
+        Retire { h: 1 },
+        Halt,
+        Poll { h: 0, max: 8 },
+        Poll { h: 1, max: 8 },
+    ]
+}
+
+/// Opens a history, whose graph is spent each time, and tells how it begins.
+pub fn tell_recorded<R: Print>(rt: &R, alloc: Global) -> Result<(), Fault> {
+    let mut recorded = again(rt, || recorded(alloc, 4, 2))?;
+    let entries = recorded.history().len();
+    let producers = recorded.producers();
+    let handlers = recorded.graph().len();
+    println!(rt; "{entries} entries, {producers} producers, {handlers} handlers")?;
+    let mut out = [Event::NONE; 8];
+    let reply = call(&mut recorded, Claim { p: 1, n: 4 }, &mut out)?;
+    println!(rt; "{reply:?}")?;
+    Ok(())
+}
+
+fn tell_call<R: Print>(rt: &R, recorded: &mut Recorded, command: Command) -> Result<(), Fault> {
+    let mut out = [Event::NONE; 8];
+    let reply = again(rt, || call(recorded, command, &mut out))?;
+    let kept = recorded.history().len();
+    println!(rt; "{reply:?} {kept}")?;
+    Ok(())
+}
+
+/// Makes calls of a history that has no room to begin with, and tells what it kept.
+pub fn tell_calls<R: Print>(rt: &R, alloc: Global) -> Result<(), Fault> {
+    let mut recorded = again(rt, || recorded(alloc, 0, 0))?;
+    for command in commands() {
+        tell_call(rt, &mut recorded, command)?;
+    }
+    for entry in recorded.history() {
+        println!(rt; "{entry:?}")?;
+    }
+    let values = recorded.values();
+    println!(rt; "{values:?}")?;
+    Ok(())
+}

@@ -1,0 +1,48 @@
+//! Making a ring.
+
+use crate::again::again;
+use crate::core_calls::word;
+use crate::fault::Fault;
+use crate::graphs::{diamond, tell_graph};
+use dr_core::MAX_LIMIT;
+use dr_ring::{Receiver, Sender, ring};
+use dr_seq::{Event, Size};
+use std::alloc::Global;
+
+fn send<R: Print>(rt: &R, sender: &mut Sender) -> Result<(), Fault> {
+    let claimed = sender.try_claim(2)?;
+    println!(rt; "{claimed:?}")?;
+    sender.write(0, word(4))?;
+    sender.write(1, word(5))?;
+    sender.publish(0, 1)?;
+    Ok(())
+}
+
+fn receive<R: Print>(rt: &R, receiver: &mut Receiver) -> Result<(), Fault> {
+    let mut out = [Event::NONE; 4];
+    let polled = receiver.poll_into(&mut out)?;
+    println!(rt; "{polled:?} {out:?}")?;
+    receiver.complete(2)?;
+    Ok(())
+}
+
+/// Makes a ring, sends two events through it, and closes.
+pub fn tell_ring<R: Print>(rt: &R, alloc: Global) -> Result<(), Fault> {
+    let graph = again(rt, || diamond(alloc))?;
+    let size = Size::new(4)?;
+    let (mut sender, mut receivers, mut halter) = again(
+        rt,
+        || Ok(ring(alloc, &graph, size, MAX_LIMIT)?),
+    )?;
+    send(rt, &mut sender)?;
+    for receiver in receivers.iter_mut() {
+        receive(rt, receiver)?;
+    }
+    halter.halt();
+    println!(rt; "{:?}", sender.try_claim(1))?;
+    sender.close()?;
+    for receiver in receivers.iter_mut() {
+        println!(rt; "{:?}", receiver.poll_into(&mut [Event::NONE]))?;
+    }
+    tell_graph(rt, &graph)
+}

@@ -1,0 +1,164 @@
+//! Calls that never take memory. Each case says `open`, makes every call of what it opened, and then
+//! asks for memory once, and tells whether it was given any.
+
+use crate::core_calls::{opened, word};
+use crate::fault::Fault;
+use crate::graphs::diamond;
+use crate::recording::{call, commands, recorded};
+use dr_core::{Command, Core, Handler, MAX_LIMIT, Mode, processor_turn};
+use dr_ring::{Halter, Receiver, Sender, ring};
+use dr_seq::{Event, Size};
+use std::alloc::Global;
+
+/// Counts the events that it is shown.
+#[derive(Clone, Copy, Debug, PartialEq, Eq)]
+struct Count {
+    shown: u64,
+}
+
+impl Handler for Count {
+    ghost use Rattle.std.specs.Prelude.{◌≡◌, ◌+◌, ◌%◌, ◌^◌};
+
+    ghost goes = { λ old event s end new. new.shown ≡ (old.shown + 1) % 2 ^ 64 };
+
+    fn on_event(&mut self, _event: Event, _s: u64, _end: bool) {
+        self.shown = self.shown.wrapping_add(1);
+    }
+}
+
+/// Asks for memory, and tells whether there was any.
+fn tell_memory<R: Print>(rt: &R, alloc: Global) -> Result<(), Fault> {
+    match Vec::<u64>::with_capacity(alloc, 1) {
+        Ok(_) => println!(rt; "memory")?,
+        Err(_) => println!(rt; "no-memory")?,
+    }
+    Ok(())
+}
+
+fn tell_sending<R: Print>(rt: &R, core: &mut Core) -> Result<(), Fault> {
+    println!(rt; "{:?}", core.claim(0, 2))?;
+    println!(rt; "{:?}", core.claim(1, 3))?;
+    println!(rt; "{:?}", core.claim(2, 1))?;
+    println!(rt; "{:?}", core.write(0, 0, word(4)))?;
+    println!(rt; "{:?}", core.write(1, 1, word(5)))?;
+    println!(rt; "{:?}", core.write(0, 1, word(5)))?;
+    println!(rt; "{:?}", core.publish(0, 0, 1))?;
+    println!(rt; "{:?}", core.publish(0, 0, 1))?;
+    Ok(())
+}
+
+fn tell_receiving<R: Print>(rt: &R, core: &mut Core) -> Result<(), Fault> {
+    let mut out = [Event::NONE; 4];
+    println!(rt; "{:?}", core.ready(0))?;
+    println!(rt; "{:?}", core.poll_into(0, &mut out))?;
+    println!(rt; "{:?}", core.poll_into(2, &mut out))?;
+    println!(rt; "{:?}", core.complete(0, 2))?;
+    println!(rt; "{:?}", core.complete(0, 3))?;
+    let mut count = Count { shown: 0 };
+    println!(rt; "{:?}", processor_turn(core, 1, &mut count, &mut out))?;
+    println!(rt; "{count:?}")?;
+    println!(rt;
+        "{:?}",
+        core.execute(Command::Poll { h: 2, max: 4 }, &mut out)
+    )?;
+    println!(rt; "{out:?}")?;
+    println!(rt; "{:?}", core.retire(0))?;
+    println!(rt; "{:?}", core.retire(2))?;
+    core.halt();
+    println!(rt; "{:?}", core.claim(0, 1))?;
+    println!(rt; "{:?}", core.poll_into(1, &mut out))?;
+    Ok(())
+}
+
+fn tell_counts<R: Print>(rt: &R, core: &Core) -> Result<(), Fault> {
+    println!(rt; "{} of {} claimed", core.next(), core.size().get())?;
+    println!(rt; "{} in front of {}", core.front(), core.producers())?;
+    println!(rt; "{}", core.is_halted())?;
+    for h in 0..core.graph().len() {
+        println!(rt;
+            "{} {} {}",
+            core.taken(h),
+            core.completed(h),
+            core.is_retired(h)
+        )?;
+    }
+    println!(rt; "{:?}", core.graph().position("c"))?;
+    Ok(())
+}
+
+/// Every call of a core.
+pub fn tell_core<R: Print>(rt: &R, alloc: Global) -> Result<(), Fault> {
+    let mut core = opened(alloc, Mode::Multi(2))?;
+    println!(rt; "open")?;
+    tell_sending(rt, &mut core)?;
+    tell_receiving(rt, &mut core)?;
+    tell_counts(rt, &core)?;
+    tell_memory(rt, alloc)
+}
+
+fn tell_sender<R: Print>(rt: &R, sender: &mut Sender) -> Result<(), Fault> {
+    println!(rt; "{:?}", sender.try_claim(2))?;
+    println!(rt; "{:?}", sender.try_claim(3))?;
+    println!(rt; "{:?}", sender.close())?;
+    println!(rt; "{:?}", sender.write(0, word(4)))?;
+    println!(rt; "{:?}", sender.write(1, word(5)))?;
+    println!(rt; "{:?}", sender.write(2, word(6)))?;
+    println!(rt; "{:?}", sender.publish(1, 1))?;
+    println!(rt; "{:?}", sender.publish(0, 1))?;
+    println!(rt; "looked {}", sender.looks() > 0)?;
+    Ok(())
+}
+
+fn tell_receiver<R: Print>(rt: &R, receiver: &mut Receiver) -> Result<(), Fault> {
+    let mut out = [Event::NONE; 4];
+    println!(rt; "{:?}", receiver.poll_into(&mut []))?;
+    println!(rt; "{:?}", receiver.poll_into(&mut out[..1]))?;
+    println!(rt; "{:?}", receiver.poll_into(&mut out))?;
+    println!(rt; "{:?}", receiver.complete(3))?;
+    println!(rt; "{:?}", receiver.complete(2))?;
+    println!(rt; "{:?}", receiver.poll_into(&mut out))?;
+    println!(rt; "{out:?} looked {}", receiver.looks() > 0)?;
+    Ok(())
+}
+
+fn tell_end<R: Print>(
+    rt: &R,
+    sender: &mut Sender,
+    receivers: &mut [Receiver],
+    halter: &mut Halter,
+) -> Result<(), Fault> {
+    halter.halt();
+    println!(rt; "{:?}", sender.try_claim(1))?;
+    println!(rt; "{:?}", sender.close())?;
+    for receiver in receivers.iter_mut() {
+        println!(rt; "{:?}", receiver.poll_into(&mut [Event::NONE]))?;
+    }
+    Ok(())
+}
+
+/// Every call of a ring's ends.
+pub fn tell_ends<R: Print>(rt: &R, alloc: Global) -> Result<(), Fault> {
+    let graph = diamond(alloc)?;
+    let (mut sender, mut receivers, mut halter) = ring(alloc, &graph, Size::new(4)?, MAX_LIMIT)?;
+    println!(rt; "open")?;
+    tell_sender(rt, &mut sender)?;
+    for receiver in receivers.iter_mut() {
+        tell_receiver(rt, receiver)?;
+    }
+    tell_end(rt, &mut sender, receivers.as_mut_slice(), &mut halter)?;
+    tell_memory(rt, alloc)
+}
+
+/// The calls of a history that has room for all that it is to keep.
+pub fn tell_kept<R: Print>(rt: &R, alloc: Global) -> Result<(), Fault> {
+    let mut recorded = recorded(alloc, 17, 8)?;
+    println!(rt; "open")?;
+    for command in commands() {
+        let mut out = [Event::NONE; 8];
+        let reply = call(&mut recorded, command, &mut out)?;
+        println!(rt; "{reply:?}")?;
+    }
+    let kept = recorded.history().len();
+    println!(rt; "{kept} {:?}", recorded.values())?;
+    tell_memory(rt, alloc)
+}

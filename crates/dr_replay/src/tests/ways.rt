@@ -1,0 +1,86 @@
+//! A replay by each of its ways.
+
+use crate::{By, Counted, ReplayFault, replay_lock, replay_plain, replay_ring};
+use dr_seq::Size;
+use dr_shared::Gate;
+use std::alloc::Global;
+use std::io::{Read, Write};
+use std::sync::Wait;
+use std::test::Fail;
+use std::thread::Threads;
+
+// Every way, and those with threads.
+pub const ALL: [By; 3] = [By::Plain, By::Lock, By::Ring];
+
+pub const WITH_THREADS: [By; 2] = [By::Lock, By::Ring];
+
+// What a replay left of its reader and its writer, and how it ended.
+#[derive(Drop)]
+pub struct Streamed<I, O> {
+    pub reader: Counted<I>,
+    pub writer: Counted<O>,
+    pub result: Result<(), ReplayFault>,
+}
+
+// Replays from a reader to a writer. On one thread there is no gate to pass.
+pub fn replay_streams<R: Threads + Wait + Sync, I: Read + Drop, O: Write + Drop, G: Gate + Sync>(
+    rt: &R,
+    alloc: Global,
+    by: By,
+    input: I,
+    output: O,
+    size: u64,
+    gate: &G,
+) -> Result<Streamed<I, O>, Fail> {
+    let mut reader = Counted::new(input);
+    let mut writer = Counted::new(output);
+    let size = Size::new(size)?;
+    let result = match by {
+        By::Plain => {
+            replay_plain(alloc, &mut reader, &mut writer, size).map_err(ReplayFault::File)
+        }
+        By::Lock => replay_lock(rt, alloc, &mut reader, &mut writer, size, gate),
+        By::Ring => replay_ring(rt, alloc, &mut reader, &mut writer, size, gate),
+    };
+    Ok(Streamed {
+        reader,
+        writer,
+        result,
+    })
+}
+
+// What a replay wrote, and how it ended.
+#[derive(Drop)]
+pub struct Replayed {
+    pub output: Vec<u8>,
+    pub result: Result<(), ReplayFault>,
+}
+
+pub fn replay_by<R: Threads + Wait + Sync, G: Gate + Sync>(
+    rt: &R,
+    alloc: Global,
+    by: By,
+    input: &str,
+    size: u64,
+    gate: &G,
+) -> Result<Replayed, Fail> {
+    let output = Vec::new(alloc);
+    let Streamed { writer, result, .. } = replay_streams(
+        rt,
+        alloc,
+        by,
+        input.as_bytes(),
+        output,
+        size,
+        gate,
+    )?;
+    let output = writer.into_inner();
+    Ok(Replayed { output, result })
+}
+
+pub fn by_plain(alloc: Global, input: &str, size: u64) -> Result<Vec<u8>, Fail> {
+    let mut reader = Counted::new(input.as_bytes());
+    let mut writer = Counted::new(Vec::new(alloc));
+    replay_plain(alloc, &mut reader, &mut writer, Size::new(size)?)?;
+    Ok(writer.into_inner())
+}
