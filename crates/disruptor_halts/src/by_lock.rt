@@ -15,6 +15,7 @@ use dr_core::{MAX_LIMIT, Mode};
 use dr_seq::{Event, Size};
 use dr_shared::{End, Recorded, Shared, audit, finish};
 use std::alloc::{AllocError, Global};
+use std::marker::Brand;
 use std::sync::Wait;
 use std::sync::ledger::{Blank, Ledger};
 use std::thread::Threads;
@@ -109,9 +110,8 @@ fn audited<L: Ledger>(alloc: Global, shared: Shared<L>, joined: Joined<L>) -> Re
     Told::of(list.as_slice(), gathered.received.as_slice())
 }
 
-/// Runs an exchange with threads of their own for each producer and each handler, any of which may
-/// halt it, and compares what each handler received with the list of the audit.
-pub fn round<L: Ledger + Send + Sync, R: Threads + Wait + Sync>(
+/// Runs an exchange over a ledger, and compares what each handler received with the list of the audit.
+fn round_over<L: Ledger + Send + Sync, R: Threads + Wait + Sync>(
     rt: &R,
     alloc: Global,
     blank: Blank,
@@ -146,4 +146,14 @@ pub fn round<L: Ledger + Send + Sync, R: Threads + Wait + Sync>(
     };
     let joined = exchange(&around, parties)?;
     audited(alloc, shared, joined)
+}
+
+/// Runs an exchange with threads of their own for each producer and each handler, any of which may
+/// halt it, and compares what each handler received with the list of the audit.
+pub fn round<R: Threads + Wait + Sync>(
+    rt: &R,
+    alloc: Global,
+    random: &mut Random,
+) -> Result<Told, Fault> {
+    round_over::<Brand, R>(rt, alloc, Blank::new(65), random)
 }

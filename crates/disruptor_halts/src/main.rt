@@ -24,11 +24,9 @@ use fault::Fault;
 use random::Random;
 use std::alloc::Global;
 use std::env;
-use std::marker::Brand;
 use std::process::ExitCode;
 use std::rt::Runtime;
 use std::sync::Wait;
-use std::sync::ledger::Blank;
 use std::thread::Threads;
 use told::Told;
 
@@ -58,7 +56,7 @@ fn locks<R: Threads + Wait + Sync>(
     let mut random = Random::new(seed);
     let mut all = Told::NONE;
     for _ in 0..count {
-        let told = by_lock::round::<Brand, R>(rt, alloc, Blank::new(65), &mut random)?;
+        let told = by_lock::round(rt, alloc, &mut random)?;
         all = all.with(told);
     }
     Ok(all)

@@ -1,5 +1,7 @@
 //! Numbers that a seed gives.
 
+ghost use Rattle.std.specs.Prelude.{◌<◌};
+
 use std::hint::spin_loop;
 use std::thread::yield_now;
 
@@ -23,7 +25,9 @@ impl Random {
     }
 
     /// A number below another, or 0.
-    pub fn below(&mut self, end: u64) -> u64 {
+    pub fn below(&mut self, end: u64) -> u64
+        ensures { 0 < end → result < end }
+    {
         self.next().checked_rem(end).unwrap_or(0)
     }
 

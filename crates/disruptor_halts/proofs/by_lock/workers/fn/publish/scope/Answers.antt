@@ -1,0 +1,11 @@
+use denote.Param.Send.{IsSync}
+use Rattle.dr_shared.proofs.Sent.{of_param}
+use Rattle.disruptor_halts.proofs.Crossing.{crosses}
+use Rattle.disruptor_halts.proofs.by_lock.workers.fn.publish.scope.Goals as goal
+
+-- a worker's closure may go to another thread: it has a reference to what all share, and what it is given
+pub spawn-requires-send-F : goal.spawn-requires-send-F
+spawn-requires-send-F g c κs within =
+    let ledger : IsSync g.row.L = of_param _ g.row.L c.requires.shared in
+    let workers : IsSync g.row.R = of_param _ g.row.R c.requires.workers in
+    search crosses depth 40 fits 20000
