@@ -1,7 +1,33 @@
 -- Names that are added at the end.
 use Rattle.std.proofs.Common.{
-    ◌≡◌, ℕ, ◌+◌, ◌<◌, ◌≤◌, inl, inr, List, [], ◌∷◌, ◌++◌, true, false, sym, ◌∙◌, ap, subst, map, take, drop, length,
-    get_or, append_assoc, append-nil, drop-cons, add-one, String, Global
+  ◌≡◌,
+  ℕ,
+  ◌+◌,
+  ◌<◌,
+  ◌≤◌,
+  inl,
+  inr,
+  List,
+  [],
+  ◌∷◌,
+  ◌++◌,
+  true,
+  false,
+  sym,
+  ◌∙◌,
+  ap,
+  subst,
+  map,
+  take,
+  drop,
+  length,
+  get_or,
+  append_assoc,
+  append-nil,
+  drop-cons,
+  add-one,
+  String,
+  Global,
 }
 use Rattle.std.proofs.lemmas.Bool.{cases_Bool, cond-true, cond-false}
 use Rattle.std.proofs.lemmas.List.{map_push, drop_all, take_more}
@@ -83,9 +109,9 @@ pub seen_next : {X : Type 0} (f : X → Name) (declared keys after : List (Strin
 seen_next f declared keys after xs i d k fault was lt here none same e =
     let name : Name = f (get_or xs i d) in
     let known : is_named (texts declared ++ texts keys) name ≡ false =
-        none_fault (is_good_name name) (is_named (texts declared ++ texts keys) name) (sym here ∙ nothing fault none) in
+    none_fault (is_good_name name) (is_named (texts declared ++ texts keys) name) (sym here ∙ nothing fault none) in
     let new : is_named (texts keys) name ≡ false =
-        or_none (is_named (texts declared) name) (is_named (texts keys) name) (sym (list_any-append (bytes_eq name) (texts declared) (texts keys)) ∙ known) in
+    or_none (is_named (texts declared) name) (is_named (texts keys) name) (sym (list_any-append (bytes_eq name) (texts declared) (texts keys)) ∙ known) in
     ap texts (e ∙ fresh_key keys k (ap (is_named (texts keys)) same ∙ new))
     ∙ map_push text keys k
     ∙ ap (λ (n : Name). texts keys ++ n ∷ []) same

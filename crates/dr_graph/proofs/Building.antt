@@ -20,9 +20,9 @@ distinct_names d order old built i j e before lt same =
     let lj : j < length order = omega arith in
     let li : i < length order = omega arith in
     let at_i : slice_index_or (names_in d.names order) i e ≡ slice_index_or d.names (slice_index order i) [] =
-        get_or-map (λ (h : ℕ). slice_index_or d.names h []) order i 0 e li in
+    get_or-map (λ (h : ℕ). slice_index_or d.names h []) order i 0 e li in
     let at_j : slice_index_or (names_in d.names order) j e ≡ slice_index_or d.names (slice_index order j) [] =
-        get_or-map (λ (h : ℕ). slice_index_or d.names h []) order j 0 e lj in
+    get_or-map (λ (h : ℕ). slice_index_or d.names h []) order j 0 e lj in
     let names : slice_index_or d.names (slice_index order i) [] ≡ slice_index_or d.names (slice_index order j) [] = sym at_i ∙ same ∙ at_j in
     elim (cases_order (slice_index order i) (slice_index order j)) [
       | inl equal ↦ (let twice : i ≡ j = once (length d.names) d.edges order built.each i j li lj equal in omega arith)

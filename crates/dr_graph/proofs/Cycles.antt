@@ -19,7 +19,7 @@ closes edges from (next ∷ hs) h path there =
       | inl here ↦ (let e : from ≡ h = eqb-true from h here in ([], λ up edge. (rw (← e) edge, tt)))
       | inr later ↦ (
           let rest : (between : List ℕ) × ((up : ℕ) → is_upstream edges up next ≡ true → IsPath edges up (between ++ h ∷ [])) =
-              closes edges next hs h path.1 later in
+          closes edges next hs h path.1 later in
           (from ∷ rest.0, λ up edge. (edge, rest.1 from path.0)))
     ]
 
@@ -38,7 +38,7 @@ one_step edges count left up from hs here path =
     elim (cases_Bool (is_in (from ∷ hs) next.0)) [
       | inl met ↦ (
           let circle : (between : List ℕ) × ((w : ℕ) → is_upstream edges w from ≡ true → IsPath edges w (between ++ next.0 ∷ [])) =
-              closes edges from hs next.0 path met in
+          closes edges from hs next.0 path met in
           inl (record { handler = next.0; between = circle.0; path = circle.1 next.0 next.3 }))
       | inr new ↦ (
           let fewer : spare (is_in (next.0 ∷ from ∷ hs)) count + 1 ≡ spare (is_in (from ∷ hs)) count =

@@ -1,7 +1,32 @@
 -- Declarations with more names and more edges.
 use Rattle.std.proofs.Common.{
-    ◌≡◌, ℕ, zero, suc, ◌+◌, ◌-◌, ◌<◌, ◌≤◌, inl, inr, true, List, [], ◌∷◌, ◌++◌, sym, ◌∙◌, ap, subst, arith, length,
-    length-append, map, None, Bor, String, Global
+  ◌≡◌,
+  ℕ,
+  zero,
+  suc,
+  ◌+◌,
+  ◌-◌,
+  ◌<◌,
+  ◌≤◌,
+  inl,
+  inr,
+  true,
+  List,
+  [],
+  ◌∷◌,
+  ◌++◌,
+  sym,
+  ◌∙◌,
+  ap,
+  subst,
+  arith,
+  length,
+  length-append,
+  map,
+  None,
+  Bor,
+  String,
+  Global,
 }
 use Rattle.std.proofs.lemmas.List.{length-map}
 use Rattle.std.proofs.lemmas.Bool.{false≢true, or_cases, and_parts, eqb-true}
@@ -70,7 +95,7 @@ within_to : (declared group : List Name) (count down : ℕ) → list_all (is_nam
 within_to declared [] count down all le lt = within_none count
 within_to declared (n ∷ group) count down all le lt =
     let parts : (is_named declared n ≡ true) × (list_all (is_named declared) group ≡ true) =
-        and_parts (is_named declared n) (list_all (is_named declared) group) all in
+    and_parts (is_named declared n) (list_all (is_named declared) group) all in
     let place : number_of declared n < length declared = place_named declared n parts.0 in
     within_cons count (record { up = number_of declared n; down = down }) (edges_to (map (number_of declared) group) down) (omega arith) lt (within_to declared group count down parts.1 le lt)
 

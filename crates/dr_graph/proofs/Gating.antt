@@ -1,7 +1,34 @@
 -- Each handler has a final that is no further than it.
 use Rattle.std.proofs.Common.{
-    zero-add, ◌≡◌, ℕ, zero, suc, ◌+◌, ◌<◌, ◌≤◌, inl, inr, Bool, true, false, List, [], ◌∷◌, ◌++◌, sym, ◌∙◌, ap, subst,
-    arith, refl, length, map, filter, slice_index, append-nil, add-one
+  zero-add,
+  ◌≡◌,
+  ℕ,
+  zero,
+  suc,
+  ◌+◌,
+  ◌<◌,
+  ◌≤◌,
+  inl,
+  inr,
+  Bool,
+  true,
+  false,
+  List,
+  [],
+  ◌∷◌,
+  ◌++◌,
+  sym,
+  ◌∙◌,
+  ap,
+  subst,
+  arith,
+  refl,
+  length,
+  map,
+  filter,
+  slice_index,
+  append-nil,
+  add-one,
 }
 use Rattle.std.proofs.lemmas.Bool.{false≢true, cases_eq, cases_Bool, cond_both, or_cases, and_parts, or_from, eqb-true, not-true}
 use Rattle.std.proofs.lemmas.List.Folds.{list_any-append, list_any_at}
@@ -11,8 +38,17 @@ use Rattle.std.proofs.lemmas.List.Elements.{filter-append, filter_agree, Contain
 use Rattle.std.specs.Prelude.{Contains, ◌==◌, ◌&&◌, not, cond, get_or, ◌⊎◌}
 use Rattle.std.specs.List.{list_any, range_with_len}
 use Rattle.dr_graph.specs.Graph.{
-    upstreams_of, is_followed, is_final_without, finals_without, least_of, IsLayered, IsOrderly, IsGated, FinalsGate,
-    LeastGates, LeastRises
+  upstreams_of,
+  is_followed,
+  is_final_without,
+  finals_without,
+  least_of,
+  IsLayered,
+  IsOrderly,
+  IsGated,
+  FinalsGate,
+  LeastGates,
+  LeastRises,
 }
 use Rattle.dr_graph.specs.Order.{is_in}
 use Rattle.dr_graph.proofs.Following.{range_more}
@@ -40,7 +76,7 @@ followed : (graph : List (List ℕ)) (gone : ℕ → Bool) (h : ℕ) → is_foll
     → (k : ℕ) × (k < length graph) × (gone k ≡ false) × Contains (upstreams_of graph k) h
 followed graph gone h found =
     let at : (k : ℕ) × (0 ≤ k) × (k < 0 + length graph) × ((not (gone k) && is_in (upstreams_of graph k) h) ≡ true) =
-        found_in (λ k. not (gone k) && is_in (upstreams_of graph k) h) 0 (length graph) found in
+    found_in (λ k. not (gone k) && is_in (upstreams_of graph k) h) 0 (length graph) found in
     let both : (not (gone at.0) ≡ true) × (is_in (upstreams_of graph at.0) h ≡ true) = and_parts _ _ at.3 in
     (at.0, omega (arith, at.2), not-true (gone at.0) both.0, any_contains h (upstreams_of graph at.0) both.1)
 
@@ -148,7 +184,7 @@ least_above counts k h [] all = all h (0, omega arith, refl)
 least_above counts k h (x ∷ xs) all =
     let here : k ≤ counts h = all h (0, omega arith, refl) in
     let rest : k ≤ least_of (map counts (x ∷ xs)) =
-        least_above counts k x xs (λ f has. all f (suc has.0, (let l : has.0 < length (x ∷ xs) = has.1 in omega arith), has.2)) in
+    least_above counts k x xs (λ f has. all f (suc has.0, (let l : has.0 < length (x ∷ xs) = has.1 in omega arith), has.2)) in
     omega arith
 
 pub least_above_some : (counts : ℕ → ℕ) (k f : ℕ) (hs : List ℕ) → Contains hs f → ((f : ℕ) → Contains hs f → k ≤ counts f) → k ≤ least_of (map counts hs)
@@ -164,7 +200,7 @@ chosen_in : (p : ℕ → Bool) (a n f : ℕ) → Contains (filter p (range_with_
 chosen_in p a zero f has = absurd (let l : has.0 < 0 = has.1 in omega arith)
 chosen_in p a (suc n) f has =
     let later : Contains (filter p (range_with_len (a + 1) n)) f → (f < a + suc n) × (p f ≡ true) =
-        λ more. (let r : (f < a + 1 + n) × (p f ≡ true) = chosen_in p (a + 1) n f more in (omega (arith, r.0), r.1)) in
+    λ more. (let r : (f < a + 1 + n) × (p f ≡ true) = chosen_in p (a + 1) n f more in (omega (arith, r.0), r.1)) in
     cond_both (p a) (a ∷ filter p (range_with_len (a + 1) n)) (filter p (range_with_len (a + 1) n)) (λ xs. Contains xs f → (f < a + suc n) × (p f ≡ true))
     (λ yes kept. elim (first_or_later a (filter p (range_with_len (a + 1) n)) f kept.0 kept.1 kept.2) [
       | inl e ↦ (omega (arith, e), ap p (sym e) ∙ yes)

@@ -1,7 +1,35 @@
 -- Faults of names, one after another.
 use Rattle.std.proofs.Common.{
-    ◌≡◌, ℕ, zero, suc, ◌+◌, ◌<◌, ◌≤◌, List, [], ◌∷◌, ◌++◌, Bool, true, false, refl, sym, ◌∙◌, ap, arith, map, take,
-    drop, length, get_or, append_assoc, append-nil, add-one, None, Some, Option
+  ◌≡◌,
+  ℕ,
+  zero,
+  suc,
+  ◌+◌,
+  ◌<◌,
+  ◌≤◌,
+  List,
+  [],
+  ◌∷◌,
+  ◌++◌,
+  Bool,
+  true,
+  false,
+  refl,
+  sym,
+  ◌∙◌,
+  ap,
+  arith,
+  map,
+  take,
+  drop,
+  length,
+  get_or,
+  append_assoc,
+  append-nil,
+  add-one,
+  None,
+  Some,
+  Option,
 }
 use Rattle.std.proofs.lemmas.Bool.{false≢true, true≢false}
 use Rattle.std.proofs.lemmas.List.Folds.{list_any-append}
@@ -39,7 +67,7 @@ faults_at f declared (x ∷ xs) zero d h =
 faults_at f declared (x ∷ xs) (suc i) d h =
     let before : (declared ++ f x ∷ []) ++ map f (take i xs) ≡ declared ++ f x ∷ map f (take i xs) = append_assoc declared (f x ∷ []) (map f (take i xs)) in
     let after : (declared ++ f x ∷ []) ++ map f (take (suc i) xs) ≡ declared ++ f x ∷ map f (take (suc i) xs) =
-        append_assoc declared (f x ∷ []) (map f (take (suc i) xs)) in
+    append_assoc declared (f x ∷ []) (map f (take (suc i) xs)) in
     let shorter : name_faults ((declared ++ f x ∷ []) ++ map f (take i xs)) (map f (drop i xs)) ≡ option_or (name_fault ((declared ++ f x ∷ []) ++ map f (take i xs)) (f (get_or xs i d))) (name_faults ((declared ++ f x ∷ []) ++ map f (take (suc i) xs)) (map f (drop (suc i) xs))) = faults_at f (declared ++ f x ∷ []) xs i d (omega arith) in
     ap (λ (ns : List Name). name_faults ns (map f (drop i xs))) (sym before)
     ∙ shorter
@@ -117,5 +145,5 @@ pub free_next : (declared : List Name) (name : Name) (names : List Name) → nam
 unfolding name_faults
 free_next declared name names e =
     let both : (name_fault declared name ≡ None) × (name_faults (declared ++ name ∷ []) names ≡ None) =
-        none_or (name_fault declared name) (name_faults (declared ++ name ∷ []) names) e in
+    none_or (name_fault declared name) (name_faults (declared ++ name ∷ []) names) e in
     (none_fault (is_good_name name) (is_named declared name) both.0, both.1)

@@ -1,7 +1,29 @@
 -- Names that a list does not have yet.
 use Rattle.std.proofs.Common.{
-    ◌≡◌, ℕ, suc, ◌-◌, ◌<◌, inl, inr, List, [], ◌∷◌, ◌++◌, true, false, refl, sym, ◌∙◌, ap, subst, arith, length,
-    append_assoc, append-nil, length-append, None
+  ◌≡◌,
+  ℕ,
+  suc,
+  ◌-◌,
+  ◌<◌,
+  inl,
+  inr,
+  List,
+  [],
+  ◌∷◌,
+  ◌++◌,
+  true,
+  false,
+  refl,
+  sym,
+  ◌∙◌,
+  ap,
+  subst,
+  arith,
+  length,
+  append_assoc,
+  append-nil,
+  length-append,
+  None,
 }
 use Rattle.std.proofs.lemmas.Bool.{false≢true, cases_Bool, cond-true, cond-false, or_parts, or_cases}
 use Rattle.std.proofs.lemmas.List.{get_or_append_left, get_or-append_right}
@@ -66,7 +88,7 @@ new_all declared names (m ∷ more) fewer free =
     new_grows names m more (fewer m next.0)
     ∙ ap (λ (ns : List Name). m ∷ ns) (new_all (declared ++ m ∷ []) (names ++ m ∷ []) more (λ n none. (
     let parts : (is_named declared n ≡ false) × ((bytes_eq n m || false) ≡ false) =
-        or_parts (is_named declared n) (bytes_eq n m || false) (sym (named_push declared m n) ∙ none) in
+    or_parts (is_named declared n) (bytes_eq n m || false) (sym (named_push declared m n) ∙ none) in
     named_push names m n ∙ ap (λ b. b || (bytes_eq n m || false)) (fewer n parts.0) ∙ parts.1)) next.1)
 
 -- distinct names are all new
@@ -78,8 +100,8 @@ new_distinct names (m ∷ more) old =
           let at : (i : ℕ) × (i < length names) × ((d : Name) → slice_index_or names i d ≡ m) = named_at names m known in
           let left : slice_index_or (names ++ m ∷ more) at.0 [] ≡ m = get_or_append_left names (m ∷ more) [] at.0 at.1 ∙ at.2 [] in
           let right : slice_index_or (names ++ m ∷ more) (length names) [] ≡ m =
-              get_or-append_right names (m ∷ more) (length names) (length names) [] refl (omega arith)
-                  ∙ ap (λ (k : ℕ). slice_index_or (m ∷ more) k []) (let none : length names - length names ≡ 0 = omega arith in none) in
+          get_or-append_right names (m ∷ more) (length names) (length names) [] refl (omega arith)
+          ∙ ap (λ (k : ℕ). slice_index_or (m ∷ more) k []) (let none : length names - length names ≡ 0 = omega arith in none) in
           absurd (old at.0 (length names) [] at.1 (omega (arith, length-append names (m ∷ more))) (left ∙ sym right)))
       | inr new ↦ new_grows names m more new
           ∙ ap (λ (ns : List Name). m ∷ ns) (new_distinct (names ++ m ∷ []) more (subst (λ (ns : List Name). AreDistinct ns) (sym (append_assoc names (m ∷ []) more)) old))

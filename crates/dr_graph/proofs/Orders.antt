@@ -1,11 +1,48 @@
 -- Placing handlers one after another: what an order keeps, why being stuck means a cycle, and why an order of all means none.
 use Rattle.std.proofs.Common.{
-    ◌≡◌, ℕ, zero, suc, ◌+◌, ◌<◌, ◌≤◌, inl, inr, Bool, true, false, List, [], ◌∷◌, ◌++◌, arith, refl, sym, ◌∙◌, ap,
-    take, length, slice_index, subst
+  ◌≡◌,
+  ℕ,
+  zero,
+  suc,
+  ◌+◌,
+  ◌<◌,
+  ◌≤◌,
+  inl,
+  inr,
+  Bool,
+  true,
+  false,
+  List,
+  [],
+  ◌∷◌,
+  ◌++◌,
+  arith,
+  refl,
+  sym,
+  ◌∙◌,
+  ap,
+  take,
+  length,
+  slice_index,
+  subst,
 }
 use Rattle.std.proofs.lemmas.Bool.{
-    false≢true, true≢false, eqb-true, eq-eqb, ne_eqb, or_cases, or_parts, or_left, or_right, and_parts, and_cases,
-    and_from, not-true, not-false, cases_lt, cases_order
+  false≢true,
+  true≢false,
+  eqb-true,
+  eq-eqb,
+  ne_eqb,
+  or_cases,
+  or_parts,
+  or_left,
+  or_right,
+  and_parts,
+  and_cases,
+  and_from,
+  not-true,
+  not-false,
+  cases_lt,
+  cases_order,
 }
 use Rattle.std.proofs.lemmas.List.{take-append-le, get_or_append_left, get_or_push, length_push}
 use Rattle.std.proofs.Math.Seq.{take-append_seam}
@@ -66,7 +103,7 @@ upstream_placed : (edges : List Edge) (placed : List ℕ) (u h : ℕ) → list_a
 upstream_placed [] placed u h all edge = absurd (false≢true edge)
 upstream_placed (e ∷ es) placed u h all edge =
     let parts : ((not (e.down == h) || is_in placed e.up) ≡ true) × (list_all (λ f. not (f.down == h) || is_in placed f.up) es ≡ true) =
-        and_parts (not (e.down == h) || is_in placed e.up) _ all in
+    and_parts (not (e.down == h) || is_in placed e.up) _ all in
     elim (or_cases ((e.up == u) && (e.down == h)) (is_upstream es u h) edge) [
       | inl here ↦ (
           let ends : ((e.up == u) ≡ true) × ((e.down == h) ≡ true) = and_parts (e.up == u) (e.down == h) here in
@@ -151,12 +188,12 @@ pub no_cycle : (count : ℕ) (edges : List Edge) (order : List ℕ) → AreWithi
 no_cycle count edges order within built cycle =
     let out : (d : ℕ) × (is_upstream edges cycle.handler d ≡ true) = leaves edges cycle.handler cycle.between cycle.handler cycle.path in
     let place : (k : ℕ) × (k < length order) × (slice_index order k ≡ cycle.handler) =
-        in_at order cycle.handler (built.all cycle.handler (within cycle.handler out.0 out.1).0) in
+    in_at order cycle.handler (built.all cycle.handler (within cycle.handler out.0 out.1).0) in
     let path : IsPath edges cycle.handler (cycle.between ++ slice_index order place.0 ∷ []) =
-        subst (λ (x : ℕ). IsPath edges cycle.handler (cycle.between ++ x ∷ [])) (sym place.2) cycle.path in
+    subst (λ (x : ℕ). IsPath edges cycle.handler (cycle.between ++ x ∷ [])) (sym place.2) cycle.path in
     let before : is_in (take place.0 order) cycle.handler ≡ true = earlier count edges order built.each place.0 place.1 cycle.handler cycle.between path in
     let unplaced : is_in (take place.0 order) (slice_index order place.0) ≡ false =
-        ready_unplaced edges (take place.0 order) (slice_index order place.0) (built.each place.0 place.1).ready in
+    ready_unplaced edges (take place.0 order) (slice_index order place.0) (built.each place.0 place.1).ready in
     false≢true (sym unplaced ∙ ap (is_in (take place.0 order)) place.2 ∙ before)
 
 -- no entry stands twice
@@ -176,7 +213,7 @@ pub upstream_earlier : (count : ℕ) (edges : List Edge) (order : List ℕ) → 
     → h < length order → is_upstream edges (slice_index order u) (slice_index order h) ≡ true → u < h
 upstream_earlier count edges order each u h lu lh edge =
     let before : is_in (take h order) (slice_index order u) ≡ true =
-        ready_upstream edges (take h order) (slice_index order u) (slice_index order h) (each h lh).ready edge in
+    ready_upstream edges (take h order) (slice_index order u) (slice_index order h) (each h lh).ready edge in
     let place : (j : ℕ) × (j < h) × (j < length order) × (slice_index order j ≡ slice_index order u) = in_take order h (slice_index order u) before in
     let same : place.0 ≡ u = once count edges order each place.0 u place.2 lu place.3 in
     omega arith

@@ -1,7 +1,35 @@
 -- The graph that is found by placing handlers one after another is the graph of the declaration.
 use Rattle.std.proofs.Common.{
-    ◌≡◌, ℕ, zero, suc, ◌+◌, ◌<◌, ◌≤◌, inl, inr, Bool, true, false, None, Some, List, [], ◌∷◌, ◌++◌, refl, sym, ◌∙◌, ap,
-    subst, arith, length, map, take, slice_index, append-nil, add-one
+  ◌≡◌,
+  ℕ,
+  zero,
+  suc,
+  ◌+◌,
+  ◌<◌,
+  ◌≤◌,
+  inl,
+  inr,
+  Bool,
+  true,
+  false,
+  None,
+  Some,
+  List,
+  [],
+  ◌∷◌,
+  ◌++◌,
+  refl,
+  sym,
+  ◌∙◌,
+  ap,
+  subst,
+  arith,
+  length,
+  map,
+  take,
+  slice_index,
+  append-nil,
+  add-one,
 }
 use Rattle.std.proofs.lemmas.Bool.{false≢true, cases_Bool, cases_eq, eq-eqb, ne_eqb}
 use Rattle.std.proofs.lemmas.List.{length_push}
@@ -157,7 +185,7 @@ graph_in d order built =
       complete = length-map-range_with_len (upstreams_in d.edges order) 0 (length order) ∙ whole;
       upstreams = λ h lt.
           let here : upstreams_of lists h ≡ upstreams_in d.edges order h =
-              get_or-map-range_with_len (upstreams_in d.edges order) 0 (length order) h h [] (omega arith) (omega arith) in
+          get_or-map-range_with_len (upstreams_in d.edges order) 0 (length order) h h [] (omega arith) (omega arith) in
           subst (λ (ns : List ℕ). AreChosen (leads_to d.edges order h) (length d.names) ns) (sym here)
           (subst (λ (n : ℕ). AreChosen (leads_to d.edges order h) n (upstreams_in d.edges order h)) whole (chosen_of (leads_to d.edges order h) (length order)));
     }
@@ -190,7 +218,7 @@ whole_in d graph is =
     let count = length d.names in
     let len : length is.order ≡ count = is.built.length in
     let same : placed count d.edges count ≡ is.order = agrees count d.edges is.order is.built.each count (omega arith)
-        ∙ ap (λ n. take n is.order) (sym len) ∙ take-length is.order in
+    ∙ ap (λ n. take n is.order) (sym len) ∙ take-length is.order in
     ap (shape_of_whole d) same ∙ found_whole d is.order len ∙ ap Some (one_graph d (shape_in d is.order) graph (graph_in d is.order is.built) is)
 
 cyclic_in : (d : Declaration) (order : List ℕ) → PlacesAll (length d.names) d.edges (length d.names) order → AreWithin (length d.names) d.edges

@@ -29,7 +29,7 @@ place_found f n xs =
       | inl inside ↦ ap (λ b. unwrap_or (cond b (Some k) None) (length xs)) inside ∙ sym (place_map f n xs)
       | inr past ↦ (
           let at : length xs ≡ k =
-              (let a : length xs ≤ k = ltb-false k (length xs) past in let b : k ≤ length xs = place_within (λ x. bytes_eq n (f x)) xs in omega arith) in
+          (let a : length xs ≤ k = ltb-false k (length xs) past in let b : k ≤ length xs = place_within (λ x. bytes_eq n (f x)) xs in omega arith) in
           ap (λ b. unwrap_or (cond b (Some k) None) (length xs)) past ∙ at ∙ sym (place_map f n xs))
     ]
 
@@ -41,7 +41,7 @@ place_named (m ∷ names) n known =
       | inl here ↦ (let zero : number_of (m ∷ names) n ≡ 0 = ap (λ b. cond (not b) (1 + number_of names n) 0) here in omega arith)
       | inr later ↦ (
           let rest : number_of names n < length names =
-              place_named names n (elim (or_cases (bytes_eq n m) (is_named names n) known) [ inl first ↦ absurd (false≢true (sym later ∙ first)) | inr there ↦ there ]) in
+          place_named names n (elim (or_cases (bytes_eq n m) (is_named names n) known) [ inl first ↦ absurd (false≢true (sym later ∙ first)) | inr there ↦ there ]) in
           let more : number_of (m ∷ names) n ≡ 1 + number_of names n = ap (λ b. cond (not b) (1 + number_of names n) 0) later in
           omega arith)
     ]

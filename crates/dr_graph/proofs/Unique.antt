@@ -41,7 +41,7 @@ one_order count edges xs ys first second =
     let ly : length ys ≡ count = second.length in
     let same : length xs ≡ length ys = omega arith in
     sym (take-length xs) ∙ orders_agree count edges xs ys first.each second.each (length xs) (omega arith) (omega arith)
-        ∙ ap (λ (k : ℕ). take k ys) same ∙ take-length ys
+    ∙ ap (λ (k : ℕ). take k ys) same ∙ take-length ys
 
 Rises : List ℕ → Type 0
 Rises xs = AllPairs (λ x y. x < y) xs

@@ -12,7 +12,7 @@ returns-then-are_all_declared-clause-refused c =
 pub returns-then-are_all_declared-clause-accepted : goal.returns-then-are_all_declared-clause-accepted
 returns-then-are_all_declared-clause-accepted c =
     λ ok. list_all-map (is_named (texts c.args.declared.now.keys)) (λ (n : Bor (List ℕ)). n.now) c.args.names.now ∙ sym c.are_all_declared.ensures
-        ∙ c.if-are_all_declared.true
+    ∙ c.if-are_all_declared.true
 
 pub returns-else-are_all_declared-clause-cause : goal.returns-else-are_all_declared-clause-cause
 returns-else-are_all_declared-clause-cause c =

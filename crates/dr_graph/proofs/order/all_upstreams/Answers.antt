@@ -10,7 +10,7 @@ loop-h-preserved c =
     let old = c.loop-h.lists.items in
     let longer : c.push.new.self.items ≡ old ++ c.in_ok-upstreams_at.field-0 ∷ [] = c.in_ok-push.ensures.items in
     let lists : map f c.push.new.self.items ≡ map f old ++ c.in_ok-upstreams_at.field-0.items ∷ [] = ap (map f) longer
-        ∙ map_push f old c.in_ok-upstreams_at.field-0 in
+    ∙ map_push f old c.in_ok-upstreams_at.field-0 in
     let at : c.loop-h.h ≡ length (map f old) = sym (length-map old f ∙ c.loop-h.invariant.len) in
     record {
       len = (let more : length (old ++ c.in_ok-upstreams_at.field-0 ∷ []) ≡ length old + 1 = length_push old c.in_ok-upstreams_at.field-0 in let was : length old ≡ c.loop-h.h = c.loop-h.invariant.len in let same : length c.push.new.self.items ≡ length (old ++ c.in_ok-upstreams_at.field-0 ∷ []) = ap length longer in omega arith);

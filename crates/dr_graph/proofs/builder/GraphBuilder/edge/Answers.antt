@@ -13,11 +13,11 @@ invariant_of-self c =
     let names = texts c.self.inside.names.keys in
     let both : list_all (is_named names) (c.args.up.now ∷ c.args.down.now ∷ []) ≡ true = c.in_ok-check_declared.ensures.accepted refl in
     let parts : (is_named names c.args.up.now ≡ true) × (list_all (is_named names) (c.args.down.now ∷ []) ≡ true) =
-        and_parts (is_named names c.args.up.now) (list_all (is_named names) (c.args.down.now ∷ [])) both in
+    and_parts (is_named names c.args.up.now) (list_all (is_named names) (c.args.down.now ∷ [])) both in
     let rest : (is_named names c.args.down.now ≡ true) × (list_all (is_named names) [] ≡ true) =
-        and_parts (is_named names c.args.down.now) (list_all (is_named names) []) parts.1 in
+    and_parts (is_named names c.args.down.now) (list_all (is_named names) []) parts.1 in
     let from : c.place_of-from.result < length names =
-        subst (λ (k : ℕ). k < length names) (sym c.place_of-from.ensures) (place_named names c.args.up.now parts.0) in
+    subst (λ (k : ℕ). k < length names) (sym c.place_of-from.ensures) (place_named names c.args.up.now parts.0) in
     let to : c.place_of-to.result < length names = subst (λ (k : ℕ). k < length names) (sym c.place_of-to.ensures) (place_named names c.args.down.now rest.0) in
     record {
       few = c.self.invariant.few;

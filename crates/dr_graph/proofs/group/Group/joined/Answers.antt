@@ -10,7 +10,7 @@ names_are : (first second : List Name) (none once twice firsts seconds : List (S
     → texts twice ≡ texts once ++ new_names (texts once) (texts seconds) → texts twice ≡ first ++ new_names first second
 names_are first second none once twice firsts seconds group empty f s one two =
     let again : texts once ≡ first = one ∙ ap (λ (ks : List (String Global)). texts ks ++ new_names (texts ks) (texts firsts)) empty
-        ∙ ap (new_names []) f ∙ group_again first group in
+    ∙ ap (new_names []) f ∙ group_again first group in
     two ∙ ap (λ (ns : List Name). ns ++ new_names ns (texts seconds)) again ∙ ap (λ (ns : List Name). first ++ new_names first ns) s
 
 pub invariant_of-result : goal.invariant_of-result
