@@ -2,8 +2,8 @@
 
 ghost use Rattle.std.specs.Prelude.{◌≡◌, ◌++◌, ℕ, [], Bool, false, List, IfOk, OnOk, string_bytes};
 ghost use Rattle.dr_seq.specs.declared.event.Event.{Event};
-ghost use Rattle.dr_core.specs.Handling.{GoesThrough};
-ghost use Rattle.dr_shared.specs.Work.{Dealt, events_of, shown_of};
+ghost use Rattle.dr_core.specs.Calls.Handling.{GoesThrough};
+ghost use Rattle.dr_shared.specs.Meaning.Work.{Dealt, events_of, shown_of};
 
 use crate::business::Business;
 use crate::journal::Journal;

@@ -9,18 +9,18 @@ use Rattle.dr_core.specs.declared.command.Reply.TheVariants.{Batch, Drained, Gat
 use Rattle.dr_seq.specs.declared.event.Event.{Event}
 use Rattle.dr_seq.specs.Event.{no_event}
 use Rattle.dr_seq.proofs.Sizes.{size_positive}
-use Rattle.dr_graph.specs.Graph.{upstreams_of, IsGraph, least_of}
-use Rattle.dr_core.specs.Machine.{State, handlers, is_single, next, available, offered, cursor, batch, unchanged, accepted, step}
-use Rattle.dr_core.specs.CoreView.{Known, Nothing, ClaimedBy, WrittenBy, PublishedWith, CoreView, known_at, retired_in}
-use Rattle.dr_core.specs.Availability.{is_shown, value_of}
-use Rattle.dr_core.specs.Shows.{Shows, Agrees, IsStep, offered_to, poll_reply, polled}
-use Rattle.dr_core.specs.Runs.{count_in}
+use Rattle.dr_graph.specs.Meaning.Graph.{upstreams_of, IsGraph, least_of}
+use Rattle.dr_core.specs.Meaning.Machine.{State, handlers, is_single, next, available, offered, cursor, batch, unchanged, accepted, step}
+use Rattle.dr_core.specs.Calls.CoreView.{Known, Nothing, ClaimedBy, WrittenBy, PublishedWith, CoreView, known_at, retired_in}
+use Rattle.dr_core.specs.Inside.Availability.{is_shown, value_of}
+use Rattle.dr_core.specs.Calls.Shows.{Shows, Agrees, IsStep, offered_to, poll_reply, polled}
+use Rattle.dr_core.specs.Meaning.Runs.{count_in}
 use Rattle.dr_core.specs.declared.refusal.Refusal.{Refusal}
 use Rattle.dr_core.specs.declared.command.Polled.{Polled}
 use Rattle.dr_core.specs.declared.command.Polled.TheVariants as answer
 use Rattle.std.proofs.Common.{Result, Ok, Err}
 use Rattle.std.proofs.lemmas.List.{take-append-le, length-take-le}
-use Rattle.dr_core.specs.Inside.{IsWhole}
+use Rattle.dr_core.specs.Inside.Fields.{IsWhole}
 use Rattle.dr_core.proofs.CoreSteps.{accepted_step}
 use Rattle.dr_core.proofs.Shown.{same_next, same_front, same_taken, same_completed, same_halted, same_retired}
 use Rattle.dr_core.proofs.Leasts.{least_of-le, least_of-member}

@@ -9,11 +9,11 @@ use Rattle.dr_core.specs.declared.refusal.Refusal.{Refusal}
 use Rattle.dr_core.specs.declared.refusal.Refusal.TheVariants.{NotClaimed, AlreadyPublished, NotWritten, OutOfOrder}
 use Rattle.dr_seq.specs.declared.event.Event.{Event}
 use Rattle.dr_seq.specs.Rounds.{IsFront}
-use Rattle.dr_core.specs.Machine.{State, producers, is_single, next, front, least_outside, refusals, publish_faults}
-use Rattle.dr_core.specs.CoreView.{Known, Nothing, ClaimedBy, WrittenBy, PublishedWith, CoreView, recent_of, known_at}
-use Rattle.dr_core.specs.Availability.{publish_fault, value_of, is_shown}
-use Rattle.dr_core.specs.Shows.{KnowsRecents, Shows, Agrees, IsStep}
-use Rattle.dr_core.specs.Inside.{IsWhole}
+use Rattle.dr_core.specs.Meaning.Machine.{State, producers, is_single, next, front, least_outside, refusals, publish_faults}
+use Rattle.dr_core.specs.Calls.CoreView.{Known, Nothing, ClaimedBy, WrittenBy, PublishedWith, CoreView, recent_of, known_at}
+use Rattle.dr_core.specs.Inside.Availability.{publish_fault, value_of, is_shown}
+use Rattle.dr_core.specs.Calls.Shows.{KnowsRecents, Shows, Agrees, IsStep}
+use Rattle.dr_core.specs.Inside.Fields.{IsWhole}
 use Rattle.dr_core.proofs.Shown.{same_next, same_front}
 use Rattle.dr_core.proofs.Leasts.{least_is, least_one}
 use Rattle.dr_core.proofs.Causes.{first_left, first_right, first_of_stretch}

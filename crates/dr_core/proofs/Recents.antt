@@ -13,10 +13,10 @@ use Rattle.dr_core.specs.declared.mode.Mode.{Mode}
 use Rattle.dr_core.specs.declared.mode.Mode.TheVariants.{Single, Multi}
 use Rattle.dr_core.specs.declared.refusal.Refusal.TheVariants.{NotClaimed, NotWritten, AlreadyPublished}
 use Rattle.dr_core.specs.declared.engine.Core.TheInside.{Inside}
-use Rattle.dr_core.specs.Machine.{producers, is_single}
-use Rattle.dr_core.specs.CoreView.{CoreView, known_at}
-use Rattle.dr_core.specs.Availability.{Kept, owner_at, is_published_at, is_written_at, is_ahead, IsNoted, published_after, IsNewFront, known_of, slot_known, stamped, owners_after, HasOwners, write_fault, publish_fault, is_shown, value_of}
-use Rattle.dr_core.specs.Inside.{kept_of, view_of, IsAvailable}
+use Rattle.dr_core.specs.Meaning.Machine.{producers, is_single}
+use Rattle.dr_core.specs.Calls.CoreView.{CoreView, known_at}
+use Rattle.dr_core.specs.Inside.Availability.{Kept, owner_at, is_published_at, is_written_at, is_ahead, IsNoted, published_after, IsNewFront, known_of, slot_known, stamped, owners_after, HasOwners, write_fault, publish_fault, is_shown, value_of}
+use Rattle.dr_core.specs.Inside.Fields.{kept_of, view_of, IsAvailable}
 use Rattle.dr_core.proofs.Stamped.{length-stamped, stamped-in, stamped-out, marks_none_after, marked-in, marked-out, mark_is}
 use Rattle.dr_core.proofs.Keeps.{zeros}
 use Rattle.dr_core.proofs.CoreSteps.{ClaimsKnown, known_at-recent}

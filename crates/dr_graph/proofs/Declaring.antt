@@ -34,10 +34,10 @@ use Rattle.std.proofs.lemmas.List.Folds.{list_any-append}
 use Rattle.std.specs.Prelude.{◌==◌, ◌&&◌, ◌||◌}
 use Rattle.std.specs.List.{list_all, range_with_len}
 use Rattle.dr_graph.specs.declared.edge.Edge.{Edge}
-use Rattle.dr_graph.specs.Name.{Name, texts, given, AreDistinct, is_named, number_of}
-use Rattle.dr_graph.specs.Order.{is_upstream, AreWithin}
-use Rattle.dr_graph.specs.Declaration.{Declaration, name_faults, edges_to, edges_between}
-use Rattle.dr_graph.specs.KeptBuilder.{IsDeclaration}
+use Rattle.dr_graph.specs.Meaning.Name.{Name, texts, given, AreDistinct, is_named, number_of}
+use Rattle.dr_graph.specs.Meaning.Order.{is_upstream, AreWithin}
+use Rattle.dr_graph.specs.Meaning.Declaration.{Declaration, name_faults, edges_to, edges_between}
+use Rattle.dr_graph.specs.Inside.KeptBuilder.{IsDeclaration}
 use Rattle.dr_graph.proofs.Adding.{text}
 use Rattle.dr_graph.proofs.NewNames.{distinct_new, new_all}
 use Rattle.dr_graph.proofs.Places.{place_named}

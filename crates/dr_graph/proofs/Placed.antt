@@ -38,10 +38,10 @@ use Rattle.std.proofs.Math.Seq.{take-suc, take-length}
 use Rattle.std.specs.Prelude.{◌⊎◌, filter}
 use Rattle.std.specs.List.{range_with_len}
 use Rattle.dr_graph.specs.declared.edge.Edge.{Edge}
-use Rattle.dr_graph.specs.Order.{AreWithin, HasCycle, IsBuiltOrder, IsInOrder, IsNext, is_ready}
-use Rattle.dr_graph.specs.Declaration.{Declaration}
-use Rattle.dr_graph.specs.Graph.{AreChosen, IsGraphOf, Shape, leads_to, upstreams_of}
-use Rattle.dr_graph.specs.Placing.{FindsGraph, first_ready, graph_of, placed, shape_in, shape_of_whole, upstreams_in}
+use Rattle.dr_graph.specs.Meaning.Order.{AreWithin, HasCycle, IsBuiltOrder, IsInOrder, IsNext, is_ready}
+use Rattle.dr_graph.specs.Meaning.Declaration.{Declaration}
+use Rattle.dr_graph.specs.Meaning.Graph.{AreChosen, IsGraphOf, Shape, leads_to, upstreams_of}
+use Rattle.dr_graph.specs.Meaning.Placing.{FindsGraph, first_ready, graph_of, placed, shape_in, shape_of_whole, upstreams_in}
 use Rattle.dr_graph.proofs.Chosen.{chosen_none, chosen_push, chosen_skip}
 use Rattle.dr_graph.proofs.Gating.{filter_push, filter_skip}
 use Rattle.dr_graph.proofs.Orders.{IsPlacing, goes_on, halts_stuck, halts_whole, no_cycle, starts}

@@ -5,7 +5,7 @@ use Rattle.std.proofs.lemmas.List.{length-map}
 use Rattle.std.specs.Prelude.{position, nat_lt, not, cond, unwrap_or}
 use Rattle.std.specs.List.{position_or_len}
 use Rattle.std.specs.Str.{bytes_eq}
-use Rattle.dr_graph.specs.Name.{Name, is_named, number_of}
+use Rattle.dr_graph.specs.Meaning.Name.{Name, is_named, number_of}
 
 -- a place stays where the names are those of other values
 place_map : {X : Type 0} (f : X → Name) (n : Name) (xs : List X) → number_of (map f xs) n ≡ position_or_len (λ x. bytes_eq n (f x)) xs

@@ -5,8 +5,8 @@ ghost use Rattle.std.specs.Prelude.{List, ◌≡◌, ◌+◌, ◌<◌, ◌≤◌
 ghost use Rattle.std.specs.List.{list_all, list_any};
 ghost use Rattle.std.specs.Str.{bytes_eq};
 ghost use Rattle.std.specs.String.{string_bytes};
-ghost use Rattle.dr_graph.specs.Name.{Name, texts, given, is_name_byte, is_good_name as is_good_name_of, is_named, number_of, new_names};
-ghost use Rattle.dr_graph.specs.Declaration.{name_fault, name_faults, declaring_fault, stranger_fault};
+ghost use Rattle.dr_graph.specs.Meaning.Name.{Name, texts, given, is_name_byte, is_good_name as is_good_name_of, is_named, number_of, new_names};
+ghost use Rattle.dr_graph.specs.Meaning.Declaration.{name_fault, name_faults, declaring_fault, stranger_fault};
 
 use crate::fault::GraphFault;
 use indexmap::IndexSet;

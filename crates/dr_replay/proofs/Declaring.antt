@@ -4,8 +4,8 @@ use Rattle.std.proofs.lemmas.List.{length-map}
 use Rattle.std.specs.Prelude.{◌⊎◌, ◌==◌, if◌then◌else◌}
 use Rattle.std.specs.List.{list_all}
 use Rattle.std.specs.Option.{option_or}
-use Rattle.dr_graph.specs.Declaration.{Declaration, connected, declaring_fault, followed_by, following_fault, grouping_fault, none_fault, stranger_fault}
-use Rattle.dr_graph.specs.Name.{Name, is_good_name, new_names}
+use Rattle.dr_graph.specs.Meaning.Declaration.{Declaration, connected, declaring_fault, followed_by, following_fault, grouping_fault, none_fault, stranger_fault}
+use Rattle.dr_graph.specs.Meaning.Name.{Name, is_good_name, new_names}
 use Rattle.dr_graph.specs.declared.fault.GraphFault.{GraphFault}
 use Rattle.dr_graph.specs.declared.fault.GraphFault.TheVariants as refused
 use Rattle.dr_files.specs.declared.fault.Cause.{Cause}

@@ -4,7 +4,7 @@ use Rattle.std.proofs.lemmas.List.{map-append}
 use Rattle.std.proofs.Math.Seq.{take-suc}
 use Rattle.std.specs.Prelude.{bytes_eq, slice_get}
 use Rattle.std.specs.Borrow.{Bor}
-use Rattle.dr_graph.specs.Name.{Name, given}
+use Rattle.dr_graph.specs.Meaning.Name.{Name, given}
 use Rattle.dr_replay.specs.Meaning.Commands.{handler_of}
 use Rattle.dr_replay.specs.Meaning.Records.{Record, field}
 use Rattle.dr_replay.specs.Meaning.Setup.{names_in}

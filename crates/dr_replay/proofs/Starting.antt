@@ -2,12 +2,12 @@
 use Rattle.std.proofs.Common.{◌≡◌, ◌==◌, false, inl, inr, Option, List, [], ◌∷◌, Result, Ok, Err, refl, sym, ap, ◌∙◌, length, arith, if◌then◌else◌}
 use Rattle.std.proofs.lemmas.Bool.{ne_eqb}
 use Rattle.std.specs.Prelude.{◌⊎◌}
-use Rattle.dr_graph.specs.Declaration.{Declaration}
-use Rattle.dr_graph.specs.Graph.{IsGraphOf, Shape}
-use Rattle.dr_graph.specs.KeptBuilder.{IsDeclaration}
-use Rattle.dr_graph.specs.Name.{Name}
-use Rattle.dr_graph.specs.Order.{HasCycle}
-use Rattle.dr_graph.specs.Placing.{FindsGraph, graph_of}
+use Rattle.dr_graph.specs.Meaning.Declaration.{Declaration}
+use Rattle.dr_graph.specs.Meaning.Graph.{IsGraphOf, Shape}
+use Rattle.dr_graph.specs.Inside.KeptBuilder.{IsDeclaration}
+use Rattle.dr_graph.specs.Meaning.Name.{Name}
+use Rattle.dr_graph.specs.Meaning.Order.{HasCycle}
+use Rattle.dr_graph.specs.Meaning.Placing.{FindsGraph, graph_of}
 use Rattle.dr_graph.specs.declared.fault.GraphFault.{GraphFault}
 use Rattle.dr_graph.specs.declared.fault.GraphFault.TheVariants.{Cycle, NoHandlers, NoMemory}
 use Rattle.dr_files.specs.Faults.{refused_by}

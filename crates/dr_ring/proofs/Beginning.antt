@@ -6,8 +6,8 @@ use Rattle.std.proofs.lemmas.Bool.{cases_lt, le-ltb}
 use Rattle.std.proofs.lemmas.List.{length-replicate, get_or-replicate, get_or_past}
 use mathlib.Core.Option.{some, some-injective, some-ne-none}
 use lib.ListN.{get_elem?}
-use Rattle.dr_graph.specs.Graph.{IsGraph}
-use Rattle.dr_core.specs.Machine as machine
+use Rattle.dr_graph.specs.Meaning.Graph.{IsGraph}
+use Rattle.dr_core.specs.Meaning.Machine as machine
 use Rattle.dr_ring.specs.Meaning.Shape.{Shape, handlers_of, setup_of}
 use Rattle.dr_ring.specs.Meaning.Words.{cursor_word, closed_word, halt_word, count_word, words_of}
 use Rattle.dr_ring.specs.declared.record.ReceiverRecord.{ReceiverRecord}

@@ -5,7 +5,7 @@ use mathlib.Core.Option.{some, some-injective, some-ne-none}
 use lib.ListN.{get_elem?}
 use Rattle.atomic_table.specs.Table.{Splits, Joins, opening as table_opening}
 use Rattle.atomic_table.proofs.Lists.{at_set}
-use Rattle.dr_graph.specs.Graph.{IsGraph}
+use Rattle.dr_graph.specs.Meaning.Graph.{IsGraph}
 use Rattle.dr_ring.specs.Meaning.Shape.{Shape, handlers_of}
 use Rattle.dr_ring.specs.Meaning.Words.{words_of}
 use Rattle.dr_ring.specs.declared.record.ReceiverRecord.{ReceiverRecord}

@@ -10,9 +10,9 @@ use Rattle.dr_ring.specs.declared.record.SenderRecord.{SenderRecord}
 use Rattle.dr_ring.specs.declared.record.ReceiverRecord.{ReceiverRecord}
 use Rattle.dr_ring.specs.declared.record.EndRecord.{EndRecord}
 use Rattle.dr_ring.specs.declared.record.EndRecord.TheVariants.{Sends, Receives}
-use Rattle.dr_graph.specs.Graph.{IsGraph}
-use Rattle.dr_core.specs.Transcript.{Transcript, LeadsTo}
-use Rattle.dr_core.specs.Laws.{Laws}
+use Rattle.dr_graph.specs.Meaning.Graph.{IsGraph}
+use Rattle.dr_core.specs.Meaning.Transcript.{Transcript, LeadsTo}
+use Rattle.dr_core.specs.Meaning.Laws.{Laws}
 use Rattle.dr_ring.specs.Meaning.Shape.{Shape, handlers_of, setup_of}
 use Rattle.dr_ring.specs.declared.record.Step.{Step}
 use Rattle.dr_ring.specs.Meaning.Kept.{World, Kept}

@@ -3,8 +3,8 @@ use Rattle.std.proofs.Common.{◌≡◌, ◌≢◌, ℕ, ◌-◌, ◌<◌, ◌�
 use Rattle.std.proofs.lemmas.Bool.{ne_eqb}
 use Rattle.std.proofs.lemmas.List.{length-append, length-take, length-drop, length-map, append-nil}
 use Rattle.dr_seq.specs.declared.event.Event.{Event}
-use Rattle.dr_core.specs.Transcript.{Transcript}
-use Rattle.dr_core.specs.Ends.{event_or_none}
+use Rattle.dr_core.specs.Meaning.Transcript.{Transcript}
+use Rattle.dr_core.specs.Calls.Ends.{event_or_none}
 use Rattle.dr_ring.specs.Meaning.Shape.{Shape}
 use Rattle.dr_ring.specs.Meaning.Words.{cursor_word, closed_word, halt_word, count_word, payload_word}
 use Rattle.dr_ring.specs.declared.record.Step.{Step}

@@ -6,7 +6,7 @@ use mathlib.Core.Option.{some, some-injective, some-ne-none}
 use lib.ListN.{get_elem?}
 use Rattle.atomic_table.proofs.Lists.{at_set, at_snoc}
 use Rattle.dr_seq.proofs.Apart.{slots_differ}
-use Rattle.dr_graph.specs.Graph.{finals, nobody}
+use Rattle.dr_graph.specs.Meaning.Graph.{finals, nobody}
 use Rattle.dr_graph.proofs.Gating.{final_left}
 use Rattle.dr_ring.specs.Meaning.Shape.{Shape}
 use Rattle.dr_ring.specs.Meaning.Words.{payload_start, payload_word}

@@ -9,8 +9,8 @@ use Rattle.dr_seq.specs.declared.event.Event.{Event}
 use Rattle.dr_seq.specs.Event.{no_event}
 use Rattle.dr_core.specs.declared.command.Command.TheVariants.{Claim, Write, Publish, Poll, Complete}
 use Rattle.dr_core.specs.declared.command.Reply.TheVariants.{Claimed, Written, Published, Batch, Drained, Completed}
-use Rattle.dr_graph.specs.Graph.{finals, least_of}
-use Rattle.dr_core.specs.Machine.{State, opening, least_outside, front, offered, available, least_completed, publish_faults, refusals, accepted, step}
+use Rattle.dr_graph.specs.Meaning.Graph.{finals, least_of}
+use Rattle.dr_core.specs.Meaning.Machine.{State, opening, least_outside, front, offered, available, least_completed, publish_faults, refusals, accepted, step}
 use Rattle.dr_core.proofs.Steps.{NoneHold, NoneHold-join, unless-none}
 use Rattle.dr_ring.specs.Meaning.Shape.{Shape, handlers_of, setup_of}
 

@@ -14,11 +14,11 @@ use Rattle.dr_core.specs.declared.command.Command.{Command}
 use Rattle.dr_core.specs.declared.command.Command.TheVariants.{Claim, Write, Publish, Poll, Complete, Halt}
 use Rattle.dr_core.specs.declared.command.Reply.{Reply}
 use Rattle.dr_core.specs.declared.command.Reply.TheVariants.{Claimed, Written, Published, Batch, Drained, Completed, Halting}
-use Rattle.dr_graph.specs.Graph.{nobody, upstreams_of, finals, IsGated, IsGraph}
-use Rattle.dr_core.specs.Machine as machine
-use Rattle.dr_core.specs.Machine.{State, Outcome, front, available, least_completed}
-use Rattle.dr_core.specs.Transcript.{Transcript, LeadsFrom}
-use Rattle.dr_core.specs.Ends.{event_or_none}
+use Rattle.dr_graph.specs.Meaning.Graph.{nobody, upstreams_of, finals, IsGated, IsGraph}
+use Rattle.dr_core.specs.Meaning.Machine as machine
+use Rattle.dr_core.specs.Meaning.Machine.{State, Outcome, front, available, least_completed}
+use Rattle.dr_core.specs.Meaning.Transcript.{Transcript, LeadsFrom}
+use Rattle.dr_core.specs.Calls.Ends.{event_or_none}
 use Rattle.dr_ring.specs.Meaning.Shape.{Shape, handlers_of, setup_of}
 use Rattle.dr_ring.specs.Meaning.Words.{cursor_word, closed_word, halt_word, count_word, payload_start, payload_word}
 use Rattle.dr_ring.specs.declared.record.HalfWrite.{HalfWrite}

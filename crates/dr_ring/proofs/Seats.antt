@@ -13,7 +13,7 @@ use Rattle.dr_ring.specs.declared.record.ReceiverRecord.{ReceiverRecord}
 use Rattle.dr_ring.specs.declared.record.HalterRecord.{HalterRecord}
 use Rattle.dr_ring.specs.declared.record.EndRecord.{EndRecord}
 use Rattle.dr_ring.specs.declared.record.EndRecord.TheVariants.{Sends, Receives, Halts}
-use Rattle.dr_core.specs.Transcript.{Transcript}
+use Rattle.dr_core.specs.Meaning.Transcript.{Transcript}
 use Rattle.dr_ring.specs.Meaning.Kept.{World, Kept}
 use Rattle.dr_ring.specs.declared.record.Step.{Step}
 use Rattle.dr_ring.specs.declared.record.View.{View}

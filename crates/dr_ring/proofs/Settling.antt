@@ -7,7 +7,7 @@ use lib.Seq.{set-get_or}
 use Rattle.atomic_table.specs.Table.{step, keeps, Allows}
 use Rattle.atomic_table.proofs.Lists.{at_set}
 use Rattle.dr_seq.specs.declared.event.Event.{Event}
-use Rattle.dr_graph.specs.Graph.{upstreams_of, finals, IsGraph}
+use Rattle.dr_graph.specs.Meaning.Graph.{upstreams_of, finals, IsGraph}
 use Rattle.dr_ring.specs.Meaning.Shape.{Shape}
 use Rattle.dr_ring.specs.Meaning.Words.{cursor_word, count_word}
 use Rattle.dr_ring.specs.declared.record.SenderRecord.{SenderRecord}

@@ -7,8 +7,8 @@ use mathlib.Core.Option.{some}
 use lib.ListN.{get_elem?}
 use Rattle.dr_seq.specs.declared.event.Event.{Event}
 use Rattle.dr_seq.specs.Event.{no_event}
-use Rattle.dr_graph.specs.Graph.{upstreams_of}
-use Rattle.dr_core.specs.Ends.{event_or_none}
+use Rattle.dr_graph.specs.Meaning.Graph.{upstreams_of}
+use Rattle.dr_core.specs.Calls.Ends.{event_or_none}
 use Rattle.dr_ring.specs.Meaning.Shape.{Shape, handlers_of}
 use Rattle.dr_ring.specs.Meaning.Words.{cursor_word, closed_word, halt_word, count_word, payload_start, payload_word}
 use Rattle.dr_ring.specs.declared.record.Look.{Look}

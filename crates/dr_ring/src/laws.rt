@@ -11,9 +11,9 @@ mod sender;
 pub mod settling;
 
 ghost use Rattle.std.specs.Prelude.{List, ◌≡◌, ◌<◌, ◌≤◌, slice_index};
-ghost use Rattle.dr_graph.specs.Graph.{IsGraph};
-ghost use Rattle.dr_core.specs.Transcript.{Transcript, LeadsTo};
-ghost use Rattle.dr_core.specs.Laws.{Laws};
+ghost use Rattle.dr_graph.specs.Meaning.Graph.{IsGraph};
+ghost use Rattle.dr_core.specs.Meaning.Transcript.{Transcript, LeadsTo};
+ghost use Rattle.dr_core.specs.Meaning.Laws.{Laws};
 ghost use Rattle.dr_ring.specs.Meaning.Shape.{Shape, setup_of};
 ghost use Rattle.dr_ring.specs.Meaning.Words.{halt_word};
 ghost use Rattle.dr_ring.specs.Meaning.Records.{claimed};

@@ -1,7 +1,7 @@
 //! An end that receives every event.
 
 ghost use Rattle.std.specs.Prelude.{◌≡◌, ◌<◌, ◌^◌, ◌||◌, [], ◌∷◌, length, Some};
-ghost use Rattle.dr_core.specs.Ends.{Tells, PollAnswers, CompleteAnswers, is_drained, Takes, Completes};
+ghost use Rattle.dr_core.specs.Calls.Ends.{Tells, PollAnswers, CompleteAnswers, is_drained, Takes, Completes};
 ghost use Rattle.dr_ring.specs.Calls.Ends.{receiver_place, received_of, looks_counted};
 ghost use Rattle.dr_ring.specs.Calls.Receiving.{PollCall, CompleteCall};
 

@@ -9,15 +9,15 @@ use Rattle.std.proofs.lemmas.List.FromFn.{length-map-range_with_len, get_or-map-
 use Rattle.std.proofs.lemmas.Option.{slice_get-get_or}
 use Rattle.dr_seq.specs.declared.event.Event.{Event}
 use Rattle.dr_seq.specs.Event.{no_event}
-use Rattle.dr_core.specs.Machine.{Setup, State, next, producers, handlers}
-use Rattle.dr_core.specs.Transcript.{Transcript, next_of, owner_of, is_published, front_of, received_by, taken_by}
-use Rattle.dr_core.specs.Laws.{Laws, ReceivedInOrder}
+use Rattle.dr_core.specs.Meaning.Machine.{Setup, State, next, producers, handlers}
+use Rattle.dr_core.specs.Meaning.Transcript.{Transcript, next_of, owner_of, is_published, front_of, received_by, taken_by}
+use Rattle.dr_core.specs.Meaning.Laws.{Laws, ReceivedInOrder}
 use Rattle.dr_core.proofs.Leasts.{least_is, IsLeast}
-use Rattle.dr_core.specs.Tells.{Tells}
+use Rattle.dr_core.specs.Meaning.Tells.{Tells}
 use Rattle.dr_shared.specs.declared.sequences.Sequence.{Sequence}
-use Rattle.dr_shared.specs.Sequences.{Lists, nothing, known, known_in, published_of, sent_of}
-use Rattle.dr_shared.specs.Merge.{IsMerge}
-use Rattle.dr_shared.specs.Audit.{is_owner, event_at, published_by_all, published_by, script_of}
+use Rattle.dr_shared.specs.Inside.Sequences.{Lists, nothing, known, known_in, published_of, sent_of}
+use Rattle.dr_shared.specs.Meaning.Merge.{IsMerge}
+use Rattle.dr_shared.specs.Meaning.Audit.{is_owner, event_at, published_by_all, published_by, script_of}
 use Rattle.dr_shared.proofs.Reached.{IsHeld}
 use Rattle.dr_shared.proofs.Picks.{picks, picks_none, picks_first, picks_map, picks_both, picked_passes, none_passes, list_is}
 

@@ -8,14 +8,14 @@ use Rattle.dr_seq.specs.declared.event.Event.{Event}
 use Rattle.dr_seq.specs.Event.{no_event}
 use Rattle.dr_core.specs.declared.command.Command.{Command}
 use Rattle.dr_core.specs.declared.command.Command.TheVariants.{Claim, Write, Publish, Poll, Complete, Halt, Retire}
-use Rattle.dr_core.specs.Machine.{Setup, State, Outcome, next, available, cursor, refusals, accepted, step, opening}
-use Rattle.dr_core.specs.Transcript.{LeadsFrom}
-use Rattle.dr_core.specs.Runs.{count_in}
+use Rattle.dr_core.specs.Meaning.Machine.{Setup, State, Outcome, next, available, cursor, refusals, accepted, step, opening}
+use Rattle.dr_core.specs.Meaning.Transcript.{LeadsFrom}
+use Rattle.dr_core.specs.Meaning.Runs.{count_in}
 use Rattle.dr_core.proofs.Steps.{NoneHold, unless-cases}
 use Rattle.dr_shared.specs.declared.entry.Entry.{Entry}
 use Rattle.dr_shared.specs.declared.sequences.Sequence.{Sequence}
-use Rattle.dr_shared.specs.History.{is_kept, AreKept, transcript_of_entries}
-use Rattle.dr_shared.specs.Sequences.{claimed_by, nothing, Lists, Takes, Speaks, Follows}
+use Rattle.dr_shared.specs.Meaning.History.{is_kept, AreKept, transcript_of_entries}
+use Rattle.dr_shared.specs.Inside.Sequences.{claimed_by, nothing, Lists, Takes, Speaks, Follows}
 use Rattle.dr_shared.proofs.Reached.{IsHeld, opening_held, step_held}
 
 -- what the list says after an accepted command

@@ -10,12 +10,12 @@ use Rattle.dr_core.specs.declared.command.Reply.{Reply}
 use Rattle.dr_core.specs.declared.command.Reply.TheVariants.{Claimed, Written, Published, Batch, Drained, Gating, Idle, Completed, Refused as RefusedReply}
 use Rattle.dr_core.specs.declared.ends.Trouble.TheVariants.{Refused}
 use Rattle.dr_core.specs.declared.refusal.Refusal.{Refusal}
-use Rattle.dr_core.specs.Refusals.{NoneHolds, IsFirst, claim_causes, write_causes, sequence_causes, publish_causes, poll_causes, complete_causes}
-use Rattle.dr_core.specs.Ends.{Verdict, Exactly, AtLeast, MayHold, MayFail, claim_tests, write_tests, publish_tests, sequence_tests, poll_tests, complete_tests, ClaimAnswers, WriteAnswers, PublishAnswers, CompleteAnswers}
-use Rattle.dr_core.specs.Machine.{Setup, State, Outcome, next, available, cursor, refusals, publish_faults, accepted, unless, unchanged, step}
-use Rattle.dr_core.specs.Transcript.{Transcript, LeadsTo}
+use Rattle.dr_core.specs.Meaning.Refusals.{NoneHolds, IsFirst, claim_causes, write_causes, sequence_causes, publish_causes, poll_causes, complete_causes}
+use Rattle.dr_core.specs.Calls.Ends.{Verdict, Exactly, AtLeast, MayHold, MayFail, claim_tests, write_tests, publish_tests, sequence_tests, poll_tests, complete_tests, ClaimAnswers, WriteAnswers, PublishAnswers, CompleteAnswers}
+use Rattle.dr_core.specs.Meaning.Machine.{Setup, State, Outcome, next, available, cursor, refusals, publish_faults, accepted, unless, unchanged, step}
+use Rattle.dr_core.specs.Meaning.Transcript.{Transcript, LeadsTo}
 use Rattle.dr_core.proofs.Steps.{NoneHold}
-use Rattle.dr_shared.specs.Lock.{IsAnswer}
+use Rattle.dr_shared.specs.Calls.Lock.{IsAnswer}
 use Rattle.dr_shared.proofs.Reached.{held, available_claimed}
 
 -- Verdicts of the machine's tests.

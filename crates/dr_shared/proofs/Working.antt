@@ -4,9 +4,9 @@ use Rattle.std.proofs.lemmas.List.{append-nil, length-take-le}
 use Rattle.dr_seq.specs.declared.event.Event.{Event}
 use Rattle.dr_core.specs.declared.command.Polled.{Polled}
 use Rattle.dr_core.specs.declared.command.Polled.TheVariants.{Batch}
-use Rattle.dr_core.specs.Ends.{FillsFront, Received, WhereShown, Takes, Completes}
-use Rattle.dr_core.specs.Handling.{GoesThrough, Relation, Showing, showings}
-use Rattle.dr_shared.specs.Work.{Dealt, FollowFrom, HandsOut, IsDone, Works, events_of, shown_of}
+use Rattle.dr_core.specs.Calls.Ends.{FillsFront, Received, WhereShown, Takes, Completes}
+use Rattle.dr_core.specs.Calls.Handling.{GoesThrough, Relation, Showing, showings}
+use Rattle.dr_shared.specs.Meaning.Work.{Dealt, FollowFrom, HandsOut, IsDone, Works, events_of, shown_of}
 use Rattle.dr_shared.proofs.Showing.{shown_as, shown_none, shown_through}
 
 shown_of-append : (bs cs : List Dealt) → shown_of (bs ++ cs) ≡ shown_of bs ++ shown_of cs

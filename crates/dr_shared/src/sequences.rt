@@ -1,8 +1,8 @@
 //! What the entries of a history say of each claimed sequence.
 
 ghost use Rattle.std.specs.Prelude.{◌≡◌, ℕ, ◌<◌, ◌≤◌, ◌++◌, IfOk, OnOk, length, replicate, vec_len};
-ghost use Rattle.dr_core.specs.Machine.{Setup, State, opening};
-ghost use Rattle.dr_shared.specs.Sequences.{Follows, Lists, Speaks, Takes, claimed_by, known, published_in, published_of, sent_of};
+ghost use Rattle.dr_core.specs.Meaning.Machine.{Setup, State, opening};
+ghost use Rattle.dr_shared.specs.Inside.Sequences.{Follows, Lists, Speaks, Takes, claimed_by, known, published_in, published_of, sent_of};
 
 use crate::entry::Entry;
 use dr_core::Command;

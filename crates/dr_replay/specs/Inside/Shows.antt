@@ -2,11 +2,11 @@
 use Rattle.std.specs.Prelude.{◌≡◌, ℕ, false, true, if◌then◌else◌, List, [], Some, Result, Ok, Err}
 use Rattle.std.specs.List.{list_all}
 use Rattle.std.specs.Str.{is_utf8}
-use Rattle.dr_core.specs.Machine.{Setup, State, opening, setup_of}
-use Rattle.dr_core.specs.OpenFault.{has_bad_producers, is_bad_limit}
-use Rattle.dr_core.specs.Shows.{Shows}
-use Rattle.dr_graph.specs.Graph.{Shape}
-use Rattle.dr_graph.specs.Name.{Name, is_good_name}
+use Rattle.dr_core.specs.Meaning.Machine.{Setup, State, opening, setup_of}
+use Rattle.dr_core.specs.Calls.OpenFault.{has_bad_producers, is_bad_limit}
+use Rattle.dr_core.specs.Calls.Shows.{Shows}
+use Rattle.dr_graph.specs.Meaning.Graph.{Shape}
+use Rattle.dr_graph.specs.Meaning.Name.{Name, is_good_name}
 use Rattle.dr_replay.specs.declared.setup.ring_records.Ring.{Ring}
 use Rattle.dr_replay.specs.declared.setup.handler_records.Declaring.{Declaring as Kept}
 use Rattle.dr_replay.specs.declared.setup.Preparation.{Preparation}

@@ -2,7 +2,7 @@
 
 ghost use Rattle.std.specs.Prelude.{◌≡◌, List, IfOk, map};
 ghost use Rattle.csv.specs.Records.{fields_of};
-ghost use Rattle.dr_graph.specs.Name.{Name, given};
+ghost use Rattle.dr_graph.specs.Meaning.Name.{Name, given};
 ghost use Rattle.dr_replay.specs.Meaning.Setup.{after_names, declared_by, names_in, no_handlers, then_names, with_edge, with_names};
 ghost use Rattle.dr_replay.specs.Inside.Shows.{AreNames, DeclaresAs, declared_of, legible};
 

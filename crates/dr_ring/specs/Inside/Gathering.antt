@@ -4,12 +4,12 @@ use mathlib.Core.Option.{some}
 use lib.ListN.{get_elem?}
 use Rattle.atomic_table.specs.Table.{Step as TableStep}
 use Rattle.atomic_table.specs.Seated.{TableId}
-use Rattle.dr_graph.specs.Graph.{IsGraph}
+use Rattle.dr_graph.specs.Meaning.Graph.{IsGraph}
 use Rattle.dr_ring.specs.declared.record.ReceiverRecord.{ReceiverRecord}
 use Rattle.dr_ring.specs.declared.record.Step.{Step}
 use Rattle.dr_ring.specs.declared.record.View.{View}
 use Rattle.dr_ring.specs.declared.record.EndRecord.TheVariants.{Sends, Receives}
-use Rattle.dr_core.specs.Transcript.{Transcript}
+use Rattle.dr_core.specs.Meaning.Transcript.{Transcript}
 use Rattle.dr_ring.specs.Meaning.Kept.{World}
 use Rattle.dr_ring.specs.Meaning.Moments.{opening, Runs, IsBeginning}
 use Rattle.dr_ring.specs.Inside.Seats.{End, Sitting, EachPast, end_of, sender_of}

@@ -8,8 +8,8 @@ use Rattle.dr_ring.specs.Meaning.Moments.{fresh_sender, fresh_receivers, fresh_h
 use mathlib.Core.Option.{some}
 use lib.ListN.{get_elem?}
 use Rattle.atomic_table.specs.Table.{State, Me, Step as TableStep}
-use Rattle.dr_graph.specs.Graph.{IsGraph}
-use Rattle.dr_core.specs.Transcript.{Transcript}
+use Rattle.dr_graph.specs.Meaning.Graph.{IsGraph}
+use Rattle.dr_core.specs.Meaning.Transcript.{Transcript}
 use Rattle.dr_ring.specs.Meaning.Words.{halt_word, words_of}
 use Rattle.dr_ring.specs.declared.record.HalfWrite.{HalfWrite}
 use Rattle.dr_ring.specs.declared.record.SenderRecord.{SenderRecord}

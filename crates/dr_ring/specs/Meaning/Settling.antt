@@ -2,12 +2,12 @@
 use Rattle.std.specs.Prelude.{◌≡◌, ℕ, ◌+◌, ◌≤◌, true, List, length, take, Contains}
 use mathlib.Core.Option.{some}
 use lib.ListN.{get_elem?}
-use Rattle.dr_graph.specs.Graph.{upstreams_of, finals}
+use Rattle.dr_graph.specs.Meaning.Graph.{upstreams_of, finals}
 use Rattle.dr_ring.specs.declared.record.SenderRecord.{SenderRecord}
 use Rattle.dr_ring.specs.declared.record.ReceiverRecord.{ReceiverRecord}
 use Rattle.dr_ring.specs.declared.record.Step.{Step}
-use Rattle.dr_core.specs.Transcript.{Transcript, LeadsTo}
-use Rattle.dr_core.specs.Laws.{Laws}
+use Rattle.dr_core.specs.Meaning.Transcript.{Transcript, LeadsTo}
+use Rattle.dr_core.specs.Meaning.Laws.{Laws}
 use Rattle.dr_ring.specs.Meaning.Shape.{setup_of}
 use Rattle.dr_ring.specs.Meaning.Kept.{World}
 use Rattle.dr_ring.specs.Meaning.Moments.{opening, picture_of, Runs}

@@ -1,7 +1,7 @@
 //! The sender's steps.
 
 ghost use Rattle.std.specs.Prelude.{◌≡◌, ◌<◌, ◌≤◌, [], true, None, Some, length, Contains};
-ghost use Rattle.dr_graph.specs.Graph.{finals};
+ghost use Rattle.dr_graph.specs.Meaning.Graph.{finals};
 ghost use Rattle.dr_ring.specs.Calls.Plans.{IsPlan};
 ghost use Rattle.dr_ring.specs.Meaning.Words.{count_word as count_word_of, payload_word};
 ghost use Rattle.dr_ring.specs.Meaning.Records.{claimed, sender_looked, halt_looked, half_written, written, published_to, sender_halted, sender_closed, HasRoom, IsOpen, AreWritten};

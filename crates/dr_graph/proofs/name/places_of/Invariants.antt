@@ -1,5 +1,5 @@
 use Rattle.std.proofs.Common.{◌≡◌, map, take}
-use Rattle.dr_graph.specs.Name.{texts, number_of}
+use Rattle.dr_graph.specs.Meaning.Name.{texts, number_of}
 use Rattle.dr_graph.proofs.name.places_of.Given as goal
 
 abbrev pub invariant-loop-name : goal.invariant-loop-name

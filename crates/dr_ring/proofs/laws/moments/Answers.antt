@@ -1,9 +1,9 @@
 use Rattle.std.proofs.Common.{subst, refl}
 use Rattle.dr_ring.specs.Meaning.Records.{claimed}
 use Rattle.dr_ring.proofs.Halting.{halted_runs}
-use Rattle.dr_core.specs.Machine.{State}
-use Rattle.dr_core.specs.Transcript.{Transcript, LeadsFrom, LeadsTo}
-use Rattle.dr_graph.specs.Graph.{IsGraph}
+use Rattle.dr_core.specs.Meaning.Machine.{State}
+use Rattle.dr_core.specs.Meaning.Transcript.{Transcript, LeadsFrom, LeadsTo}
+use Rattle.dr_graph.specs.Meaning.Graph.{IsGraph}
 use Rattle.std.specs.Prelude.{◌<◌, List}
 use Rattle.dr_ring.specs.Meaning.Shape.{Shape, setup_of}
 use Rattle.dr_ring.specs.Meaning.Kept.{World}

@@ -1,8 +1,8 @@
 use Rattle.std.proofs.Common.{◌≡◌, ◌+◌, ℕ, Bor, List, [], true, refl, sym, ◌∙◌, ap, subst, length, map}
 use Rattle.std.proofs.lemmas.List.{length-map}
 use Rattle.std.specs.List.{list_all}
-use Rattle.dr_graph.specs.Name.{Name, texts, given, is_named, number_of}
-use Rattle.dr_graph.specs.KeptBuilder.{declaration_of}
+use Rattle.dr_graph.specs.Meaning.Name.{Name, texts, given, is_named, number_of}
+use Rattle.dr_graph.specs.Inside.KeptBuilder.{declaration_of}
 use Rattle.dr_graph.proofs.Adding.{text}
 use Rattle.dr_graph.proofs.NewNames.{new_all}
 use Rattle.dr_graph.proofs.Declaring.{declared_more, followed_within, room_of}

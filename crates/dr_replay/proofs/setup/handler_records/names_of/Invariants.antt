@@ -1,6 +1,6 @@
 use Rattle.std.proofs.Common.{◌≡◌, ◌-◌, ◌≤◌, map, take}
 use Rattle.csv.specs.Records.{fields_of}
-use Rattle.dr_graph.specs.Name.{given}
+use Rattle.dr_graph.specs.Meaning.Name.{given}
 use Rattle.dr_replay.specs.Meaning.Setup.{names_in}
 use Rattle.dr_replay.specs.Inside.Shows.{legible}
 use Rattle.dr_replay.proofs.setup.handler_records.names_of.Given as goal

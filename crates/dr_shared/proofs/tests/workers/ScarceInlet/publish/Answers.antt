@@ -2,8 +2,8 @@ use Rattle.std.proofs.Common.{◌≡◌, ℕ, ◌+◌, ◌-◌, false, None, Ok,
 use Rattle.std.specs.Prelude.{nat_lt, flat_map}
 use Rattle.std.specs.List.{range_with_len}
 use Rattle.std.proofs.lemmas.Bool.Decides.{nat_tests}
-use Rattle.dr_core.specs.Refusals.{sequence_causes}
-use Rattle.dr_core.specs.Ends.{MayHold, MayFail, PublishAnswers, sequence_tests}
+use Rattle.dr_core.specs.Meaning.Refusals.{sequence_causes}
+use Rattle.dr_core.specs.Calls.Ends.{MayHold, MayFail, PublishAnswers, sequence_tests}
 use Rattle.dr_core.proofs.Causes.{none_join, none_of_stretch}
 use Rattle.dr_shared.proofs.tests.workers.ScarceInlet.publish.Goals as goal
 
