@@ -18,8 +18,8 @@ pub record Sent : Type 0 where
   pub pending : List (Option Event)
 
 -- how many sequences are claimed
-abbrev pub claimed_by : Sent → ℕ
-claimed_by e = length e.published + length e.pending
+abbrev pub claimed_in : Sent → ℕ
+claimed_in e = length e.published + length e.pending
 
 -- the event of a sequence that is claimed and not published, once it is written
 abbrev pub open_event : Sent → ℕ → Option Event
@@ -61,7 +61,7 @@ claim_tests (Some e) n = record {
   no_producer = Exactly false;
   bad_count = AtLeast (n == 0);
   halted = unknown;
-  exhausted = AtLeast (nat_lt (2 ^ 62) (claimed_by e + n));
+  exhausted = AtLeast (nat_lt (2 ^ 62) (claimed_in e + n));
   no_room = unknown;
 }
 
@@ -69,14 +69,14 @@ abbrev pub write_tests : Option Sent → ℕ → WriteTests Verdict
 write_tests None s = record { no_producer = unknown; unclaimed = unknown; published = unknown; not_owned = unknown }
 write_tests (Some e) s = record {
   no_producer = Exactly false;
-  unclaimed = Exactly (nat_le (claimed_by e) s);
+  unclaimed = Exactly (nat_le (claimed_in e) s);
   published = Exactly (nat_lt s (length e.published));
   not_owned = Exactly false;
 }
 
-abbrev pub sequence_tests : Option Sent → ℕ → SequenceTests Verdict
-sequence_tests None s = record { published = unknown; not_owned = unknown; unwritten = unknown }
-sequence_tests (Some e) s = record {
+abbrev pub end_sequence_tests : Option Sent → ℕ → SequenceTests Verdict
+end_sequence_tests None s = record { published = unknown; not_owned = unknown; unwritten = unknown }
+end_sequence_tests (Some e) s = record {
   published = Exactly (nat_lt s (length e.published));
   not_owned = Exactly false;
   unwritten = Exactly (is_none (open_event e s));
@@ -87,14 +87,14 @@ publish_tests None lo hi = record {
   no_producer = unknown;
   bad_count = Exactly (nat_lt hi lo);
   unclaimed = unknown;
-  of_sequence = sequence_tests None;
+  of_sequence = end_sequence_tests None;
   out_of_order = unknown;
 }
 publish_tests (Some e) lo hi = record {
   no_producer = Exactly false;
   bad_count = Exactly (nat_lt hi lo);
-  unclaimed = Exactly (nat_le (claimed_by e) hi);
-  of_sequence = sequence_tests (Some e);
+  unclaimed = Exactly (nat_le (claimed_in e) hi);
+  of_sequence = end_sequence_tests (Some e);
   out_of_order = Exactly (not (lo == length e.published));
 }
 
@@ -158,7 +158,7 @@ with_claimed e n = record e { pending = e.pending ++ replicate n None }
 
 -- the next n sequences are claimed
 abbrev pub Claims : ℕ → Result Claimed Trouble → Sent → Sent → Type 0
-Claims n (Ok c) old new = (c.lo ≡ claimed_by old) × (new ≡ with_claimed old n)
+Claims n (Ok c) old new = (c.lo ≡ claimed_in old) × (new ≡ with_claimed old n)
 Claims n (Err trouble) old new = new ≡ old
 
 abbrev pub with_event : Sent → ℕ → Event → Sent
@@ -201,7 +201,7 @@ as_end (Ok x) = Ok x
 as_end (Err refusal) = Err (Refused refusal)
 
 -- An answer of an exchange's own call, told as an end's: its refusal is trouble, and memory is never wanting.
-abbrev pub Tells : {A : Type 0} → (Result A Refusal → Type 0) → Result A Trouble → Type 0
-Tells Answers (Ok x) = Answers (Ok x)
-Tells Answers (Err (Refused refusal)) = Answers (Err refusal)
-Tells Answers (Err Memory) = ⊥
+abbrev pub IsEndsAnswer : {A : Type 0} → (Result A Refusal → Type 0) → Result A Trouble → Type 0
+IsEndsAnswer Answers (Ok x) = Answers (Ok x)
+IsEndsAnswer Answers (Err (Refused refusal)) = Answers (Err refusal)
+IsEndsAnswer Answers (Err Memory) = ⊥

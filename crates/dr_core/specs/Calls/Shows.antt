@@ -99,9 +99,9 @@ pub record TakesBatch (h first count : ℕ) (new : CoreView) : Type 0 where
   pub completed : slice_index new.completed h ≤ first
   pub small : first + count ≤ 2 ^ 62
 
-abbrev pub Takes : ℕ → Result Polled Refusal → CoreView → Type 0
-Takes h (Ok (answer.Batch first count end)) new = TakesBatch h first count new
-Takes h other new = Unit {0}
+abbrev pub TakesIfBatch : ℕ → Result Polled Refusal → CoreView → Type 0
+TakesIfBatch h (Ok (answer.Batch first count end)) new = TakesBatch h first count new
+TakesIfBatch h other new = Unit {0}
 
 -- a handler that is not retired may complete what it took, and takes no completion back
 pub record CanComplete (v : CoreView) (h upto : ℕ) : Type 0 where

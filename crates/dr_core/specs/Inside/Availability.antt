@@ -11,7 +11,7 @@ use Rattle.dr_core.specs.declared.refusal.Refusal.TheVariants.{Halted, Exhausted
 use Rattle.dr_core.specs.Calls.CoreView.{CoreView, gate_of, Known, Nothing, ClaimedBy, WrittenBy, PublishedWith}
 
 -- what is kept by slot, and the front
-pub record Kept : Type 0 where
+pub record KeptBySlot : Type 0 where
   pub mode : Mode
   pub front : ℕ
   pub filled : ℕ  -- all sequences from the front up to it are written
@@ -46,11 +46,11 @@ IsNewFront Single published front next hi new = new ≡ hi + 1
 IsNewFront (Multi p) published front next hi new = IsFront (is_marked published) front next new
 
 -- a claimed sequence is published where it is below the front, or ahead of it
-abbrev pub is_published_at : Kept → ℕ → Bool
+abbrev pub is_published_at : KeptBySlot → ℕ → Bool
 is_published_at a s = nat_lt s a.front || is_ahead a.mode a.published s
 
 -- a claimed sequence is written where all up to it are, or marked in its round
-abbrev pub is_written_at : Kept → ℕ → Bool
+abbrev pub is_written_at : KeptBySlot → ℕ → Bool
 is_written_at a s = nat_lt s a.filled || is_marked a.written s
 
 -- a write in order moves the count of those that are written, and one past it is marked
@@ -65,7 +65,7 @@ abbrev pub known_of : Bool → Bool → ℕ → Event → Known
 known_of published written owner event =
     if published then PublishedWith event else if written then WrittenBy owner event else ClaimedBy owner
 
-abbrev pub slot_known : Kept → ℕ → Known
+abbrev pub slot_known : KeptBySlot → ℕ → Known
 slot_known a s = known_of (is_published_at a s) (is_written_at a s) (owner_at a.mode a.owners s) (event_at a.events s)
 
 -- the owners after a claim of n sequences
@@ -106,8 +106,8 @@ is_shown (WrittenBy p event) = false
 is_shown (PublishedWith event) = true
 
 -- the event that is known of a sequence
-abbrev pub value_of : Known → Event
-value_of Nothing = no_event
-value_of (ClaimedBy p) = no_event
-value_of (WrittenBy p event) = event
-value_of (PublishedWith event) = event
+abbrev pub event_known : Known → Event
+event_known Nothing = no_event
+event_known (ClaimedBy p) = no_event
+event_known (WrittenBy p event) = event
+event_known (PublishedWith event) = event

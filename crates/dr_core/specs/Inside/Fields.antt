@@ -9,9 +9,9 @@ use Rattle.dr_core.specs.Meaning.Machine.{Setup, handlers, opening, setup_of}
 use Rattle.dr_core.specs.Calls.CoreView.{CoreView, AreGating, retired_in, recent_of}
 use Rattle.dr_core.specs.Calls.Shows.{Shows}
 use Rattle.dr_core.specs.Meaning.Runs.{IsReached}
-use Rattle.dr_core.specs.Inside.Availability.{Kept, slot_known, HasOwners, is_ahead}
+use Rattle.dr_core.specs.Inside.Availability.{KeptBySlot, slot_known, HasOwners, is_ahead}
 
-abbrev pub kept_of : Inside → Kept
+abbrev pub kept_of : Inside → KeptBySlot
 kept_of a = record { mode = a.mode; front = a.front; filled = a.filled; published = a.published; written = a.written; owners = a.owners.items; events = a.events }
 
 abbrev pub view_of : Inside → CoreView
@@ -60,7 +60,7 @@ pub record IsWhole (v : CoreView) : Type 0 where
   pub open bounds use *
 
 -- a slot a sequence in each list, and no mark of a sequence that is not claimed yet
-pub record IsAvailable (a : Kept) (size next : ℕ) : Type 0 where
+pub record IsAvailable (a : KeptBySlot) (size next : ℕ) : Type 0 where
   pub published : length a.published ≡ size
   pub written : length a.written ≡ size
   pub owners : HasOwners a.mode a.owners size

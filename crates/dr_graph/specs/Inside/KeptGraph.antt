@@ -2,13 +2,13 @@
 use Rattle.std.specs.Prelude.{◌≡◌, length, map}
 use Rattle.dr_graph.specs.declared.built.Graph.TheInside.{Inside}
 use Rattle.dr_graph.specs.Meaning.Name.{texts, AreDistinct}
-use Rattle.dr_graph.specs.Meaning.Graph.{Shape, IsGraph, finals}
+use Rattle.dr_graph.specs.Meaning.Graph.{GraphView, IsGraph, finals}
 
-abbrev pub shape_of : Inside → Shape
+abbrev pub shape_of : Inside → GraphView
 shape_of a = record { names = texts a.names.items; upstreams = map (λ ups. ups.items) a.upstreams.items }
 
 -- each handler has a name, and no two the same
-pub record IsShape (shape : Shape) : Type 0 where
+pub record IsShape (shape : GraphView) : Type 0 where
   pub lawful : IsGraph shape.upstreams
   pub named : length shape.names ≡ length shape.upstreams
   pub distinct : AreDistinct shape.names

@@ -5,7 +5,7 @@ use Rattle.std.specs.Option.{option_or}
 use Rattle.dr_graph.specs.declared.edge.Edge.{Edge}
 use Rattle.dr_graph.specs.declared.fault.GraphFault.{GraphFault}
 use Rattle.dr_graph.specs.declared.fault.GraphFault.TheVariants.{BadName, Duplicate, Stranger, TooMany, EmptyGroup}
-use Rattle.dr_graph.specs.Meaning.Name.{Name, is_good_name, is_named, number_of}
+use Rattle.dr_graph.specs.Meaning.Name.{Name, is_good_name, is_named, index_of}
 use Rattle.dr_graph.specs.Meaning.Order.{is_upstream}
 
 -- names in the order of their declaration, and edges between their places in it
@@ -58,7 +58,7 @@ edges_between ups downs = flat_map (edges_to ups) downs
 abbrev pub followed_by : Declaration → List Name → List Name → Declaration
 followed_by d group names = record {
   names = d.names ++ names;
-  edges = d.edges ++ edges_between (map (number_of d.names) group) (range_with_len (length d.names) (length names));
+  edges = d.edges ++ edges_between (map (index_of d.names) group) (range_with_len (length d.names) (length names));
 }
 
 -- an edge that is there changes nothing
@@ -67,4 +67,4 @@ with_edge edges up down = if is_upstream edges up down then edges else edges ++ 
 
 -- an edge between two declared names
 abbrev pub connected : Declaration → Name → Name → Declaration
-connected d up down = record d { edges = with_edge d.edges (number_of d.names up) (number_of d.names down) }
+connected d up down = record d { edges = with_edge d.edges (index_of d.names up) (index_of d.names down) }

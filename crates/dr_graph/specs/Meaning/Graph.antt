@@ -8,7 +8,7 @@ use Rattle.dr_graph.specs.Meaning.Order.{is_in, is_upstream, IsBuiltOrder}
 use Rattle.dr_graph.specs.Meaning.Declaration.{Declaration}
 
 -- what contracts see of a graph: each handler's name, and its upstreams
-pub record Shape : Type 0 where
+pub record GraphView : Type 0 where
   pub names : List Name
   pub upstreams : List (List ℕ)
 
@@ -110,7 +110,7 @@ abbrev pub names_in : List Name → List ℕ → List Name
 names_in declared order = map (λ h. slice_index_or declared h []) order
 
 -- the graph of a declaration: its handlers in the built order, each with its name and exactly its direct upstreams
-pub record IsGraphOf (d : Declaration) (graph : Shape) : Type 0 where
+pub record IsGraphOf (d : Declaration) (graph : GraphView) : Type 0 where
   pub order : List ℕ
   pub built : IsBuiltOrder (length d.names) d.edges order
   pub named : graph.names ≡ names_in d.names order
@@ -119,4 +119,4 @@ pub record IsGraphOf (d : Declaration) (graph : Shape) : Type 0 where
 
 -- a declaration has one graph at most
 abbrev pub HasOneGraph : Declaration → Type 0
-HasOneGraph d = (graph other : Shape) → IsGraphOf d graph → IsGraphOf d other → graph ≡ other
+HasOneGraph d = (graph other : GraphView) → IsGraphOf d graph → IsGraphOf d other → graph ≡ other

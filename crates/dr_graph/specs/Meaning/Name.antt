@@ -28,8 +28,8 @@ abbrev pub is_named : List Name → Name → Bool
 is_named names name = list_any (bytes_eq name) names
 
 -- the place of a name, or the number of names where it is none of them
-abbrev pub number_of : List Name → Name → ℕ
-number_of names name = position_or_len (bytes_eq name) names
+abbrev pub index_of : List Name → Name → ℕ
+index_of names name = position_or_len (bytes_eq name) names
 
 -- no name stands twice
 abbrev pub AreDistinct : List Name → Type 0

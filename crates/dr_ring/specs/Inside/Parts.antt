@@ -63,7 +63,7 @@ abbrev pub ups_of : ReceiverRecord → List ℕ
 ups_of r = upstreams_of r.plan.upstreams r.number
 
 -- so many events are offered to a receiver, as far as it saw
-pub record IsOffered (r : ReceiverRecord) (upto : ℕ) : Type 0 where
+pub record IsOfferedUpTo (r : ReceiverRecord) (upto : ℕ) : Type 0 where
   pub completed : (u : ℕ) → Contains (ups_of r) u → upto ≤ last_look 0 r.looks (count_word u)
   pub published : ups_of r ≡ [] → upto ≤ last_look 0 r.looks cursor_word
 

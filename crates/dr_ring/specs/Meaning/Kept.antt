@@ -22,7 +22,7 @@ pub record World : Type 0 where
   pub halter : HalterRecord
 
 -- counts: the cursor is the number of published events, and what is claimed is within the limit
-pub record Counts (k : Shape) (words : List ℕ) (published claimed : ℕ) : Type 0 where
+pub record CountsFit (k : Shape) (words : List ℕ) (published claimed : ℕ) : Type 0 where
   pub cursor : slice_index words cursor_word ≡ published
   pub limit : claimed ≤ k.limit
 
@@ -78,14 +78,14 @@ pub record ReceiverKept (k : Shape) (words : List ℕ) (published : List Event) 
   pub told : r.told ≡ true → (slice_index words closed_word ≡ 1) × (length published ≤ length r.received)
   pub looks : ArePast k words r.looks
 
-pub record Kept (k : Shape) (w : World) : Type 0 where
+pub record KeepsRule (k : Shape) (w : World) : Type 0 where
   pub graph : IsGraph k.upstreams
   pub some_slot : 0 < k.size
   pub wide : length w.words ≡ words_of k
   pub ends : length w.receivers ≡ handlers_of k
   pub sender_plan : w.sender.plan ≡ k
   pub halter_plan : w.halter.plan ≡ k
-  pub counts : Counts k w.words (length w.sender.sent.published) (claimed w.sender)
+  pub counts : CountsFit k w.words (length w.sender.sent.published) (claimed w.sender)
   pub received : (h : ℕ) (r : ReceiverRecord) → get_elem? w.receivers h ≡ some r → ReceiverKept k w.words w.sender.sent.published h r
   pub room : Room k w.words (claimed w.sender)
   pub payload : Payload k w.words w.sender.sent.published w.sender.sent.pending w.sender.half

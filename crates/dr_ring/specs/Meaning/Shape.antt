@@ -13,5 +13,5 @@ abbrev pub handlers_of : Shape → ℕ
 handlers_of k = length k.upstreams
 
 -- the machine that a ring does the work of: it has one producer
-abbrev pub setup_of : Shape → Setup
-setup_of k = record { upstreams = k.upstreams; size = k.size; mode = Single; limit = k.limit }
+abbrev pub ring_setup : Shape → Setup
+ring_setup k = record { upstreams = k.upstreams; size = k.size; mode = Single; limit = k.limit }

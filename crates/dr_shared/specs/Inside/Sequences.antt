@@ -10,12 +10,12 @@ use Rattle.dr_shared.specs.declared.sequences.Sequence.{Sequence}
 use Rattle.dr_shared.specs.Meaning.History.{is_kept}
 
 -- a sequence that was just claimed
-abbrev pub claimed_by : ℕ → Sequence
-claimed_by p = record { owner = p; event = no_event; is_published = false }
+abbrev pub just_claimed : ℕ → Sequence
+just_claimed p = record { owner = p; event = no_event; is_published = false }
 
 -- what stands where no sequence is
 abbrev pub nothing : Sequence
-nothing = claimed_by 0
+nothing = just_claimed 0
 
 -- what a list knows of a sequence
 abbrev pub known : List Sequence → ℕ → Sequence
@@ -40,11 +40,11 @@ written_in at event s x =
     record { owner = x.owner; event = unwrap_or (if s == at then Some event else None) x.event; is_published = x.is_published }
 
 -- what an accepted command makes of a list
-abbrev pub Takes : Command → List Sequence → List Sequence → Type 0
-Takes (Claim p n) old new = new ≡ old ++ replicate n (claimed_by p)
-Takes (Write p s event) old new = (length new ≡ length old) × ((k : ℕ) → k < length old → known new k ≡ written_in s event k (known old k))
-Takes (Publish p lo hi) old new = (length new ≡ length old) × ((k : ℕ) → k < length old → known new k ≡ published_in lo hi k (known old k))
-Takes other old new = new ≡ old
+abbrev pub Changes : Command → List Sequence → List Sequence → Type 0
+Changes (Claim p n) old new = new ≡ old ++ replicate n (just_claimed p)
+Changes (Write p s event) old new = (length new ≡ length old) × ((k : ℕ) → k < length old → known new k ≡ written_in s event k (known old k))
+Changes (Publish p lo hi) old new = (length new ≡ length old) × ((k : ℕ) → k < length old → known new k ≡ published_in lo hi k (known old k))
+Changes other old new = new ≡ old
 
 -- an accepted command speaks of claimed sequences
 abbrev pub Speaks : Command → ℕ → Type 0

@@ -11,12 +11,12 @@ use Rattle.dr_shared.specs.Meaning.Merge.{IsMerge}
 
 -- What producers sent.
 
-abbrev pub event_at : Transcript → ℕ → Event
-event_at t s = unwrap_or (event_of t s) no_event
+abbrev pub event_in : Transcript → ℕ → Event
+event_in t s = unwrap_or (event_of t s) no_event
 
 -- the events of the claimed sequences that pass a test, in rising sequence
 abbrev pub events_where : Transcript → (ℕ → Bool) → List Event
-events_where t test = map (event_at t) (filter test (range_with_len 0 (next_of t)))
+events_where t test = map (event_in t) (filter test (range_with_len 0 (next_of t)))
 
 -- the published events
 abbrev pub published_by_all : Transcript → List Event

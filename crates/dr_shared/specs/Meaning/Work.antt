@@ -18,9 +18,9 @@ shown_of [] = []
 shown_of (b ∷ batches) = showings b.events b.first b.end ++ shown_of batches
 
 -- the events of batches, joined
-abbrev pub events_of : List Dealt → List Event
-events_of [] = []
-events_of (b ∷ batches) = b.events ++ events_of batches
+abbrev pub dealt_events : List Dealt → List Event
+dealt_events [] = []
+dealt_events (b ∷ batches) = b.events ++ dealt_events batches
 
 -- batches that are not empty, each of which begins where the one before ended
 abbrev pub FollowFrom : ℕ → List Dealt → Type 0
@@ -29,7 +29,7 @@ FollowFrom s (b ∷ batches) = (b.first ≡ s) × (0 < length b.events) × Follo
 
 -- an end handed out these batches
 abbrev pub HandsOut : List Dealt → Received → Received → Type 0
-HandsOut batches old new = (new.events ≡ old.events ++ events_of batches) × FollowFrom (length old.events) batches
+HandsOut batches old new = (new.events ≡ old.events ++ dealt_events batches) × FollowFrom (length old.events) batches
 
 -- a handler was shown some batches, which are those that its end handed out, where that shows it
 pub record Works {A : Type 0} (goes : Relation A) (before after : A) (old new : Option Received) : Type 0 where
