@@ -11,7 +11,7 @@ use Rattle.dr_core.specs.Meaning.Machine as machine
 use Rattle.dr_ring.specs.Meaning.Shape.{Shape, handlers_of, ring_setup}
 use Rattle.dr_ring.specs.Meaning.Words.{cursor_word, closed_word, halt_word, count_word, words_of}
 use Rattle.dr_ring.specs.declared.record.ReceiverRecord.{ReceiverRecord}
-use Rattle.dr_ring.specs.Meaning.Kept.{KeepsRule, ReceiverKept}
+use Rattle.dr_ring.specs.Meaning.Rule.{KeepsRule, ReceiverKept}
 use Rattle.dr_ring.specs.Meaning.Moments.{fresh_receiver, fresh_receivers, new_world, taken_of, picture_of}
 
 pub fresh_at : (k : Shape) (h n i : ℕ) (r : ReceiverRecord) → get_elem? (fresh_receivers k h n) i ≡ some r → r ≡ fresh_receiver k (h + i)

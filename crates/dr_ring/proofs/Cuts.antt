@@ -11,7 +11,7 @@ use Rattle.dr_ring.specs.Meaning.Words.{words_of}
 use Rattle.dr_ring.specs.declared.record.ReceiverRecord.{ReceiverRecord}
 use Rattle.dr_ring.specs.declared.record.EndRecord.{EndRecord}
 use Rattle.dr_ring.specs.declared.record.EndRecord.TheVariants.{Sends, Receives, Halts}
-use Rattle.dr_ring.specs.Meaning.Kept.{World}
+use Rattle.dr_ring.specs.Meaning.Rule.{World}
 use Rattle.dr_ring.specs.Meaning.Moments.{fresh_sender, fresh_receivers, fresh_halter, new_world}
 use Rattle.dr_ring.specs.Inside.Seats.{KnownEnds, EachPast, Saw, end_number, Stands, world_of, Ruled, all_ends}
 use Rattle.dr_ring.specs.Inside.Gathering.{both_views}

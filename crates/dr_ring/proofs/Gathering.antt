@@ -15,7 +15,7 @@ use Rattle.dr_core.specs.Meaning.Transcript.{Transcript, LeadsTo}
 use Rattle.dr_core.specs.Meaning.Laws.{Laws}
 use Rattle.dr_ring.specs.Meaning.Shape.{Shape, handlers_of, ring_setup}
 use Rattle.dr_ring.specs.declared.record.Step.{Step}
-use Rattle.dr_ring.specs.Meaning.Kept.{World, KeepsRule}
+use Rattle.dr_ring.specs.Meaning.Rule.{World, KeepsRule}
 use Rattle.dr_ring.specs.Meaning.Moments.{new_world, picture_of, Runs}
 use Rattle.dr_ring.specs.Inside.Seats.{KnownEnds, End, Sitting, end_of, as_receiver, sender_of}
 use Rattle.dr_ring.specs.Calls.Ends.{SenderEnd, ReceiverEnd}

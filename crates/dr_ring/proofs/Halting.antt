@@ -11,7 +11,7 @@ use Rattle.dr_ring.specs.declared.record.Step.{Step}
 use Rattle.dr_ring.specs.declared.record.Step.TheVariants.{SenderLooksAtCount, SenderLooksAtHalt, SenderStoresFirst, SenderStoresSecond, SenderPublishes, SenderHalts, SenderCloses, ReceiverLooksAtClosed, ReceiverLooksAtCursor, ReceiverLooksAtCount, ReceiverLoadsFirst, ReceiverLoadsSecond, ReceiverCompletes, HalterHalts}
 use Rattle.dr_ring.specs.declared.record.SenderRecord.{SenderRecord}
 use Rattle.dr_ring.specs.Meaning.Records.{claimed, halt_looked, published_to}
-use Rattle.dr_ring.specs.Meaning.Kept.{World, KeepsRule}
+use Rattle.dr_ring.specs.Meaning.Rule.{World, KeepsRule}
 use Rattle.dr_ring.specs.Meaning.Steps.{Happens}
 use Rattle.dr_ring.specs.Meaning.Moments.{Runs}
 use Rattle.dr_ring.proofs.Keeps.{word_at}

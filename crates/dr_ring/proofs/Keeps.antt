@@ -15,7 +15,7 @@ use Rattle.dr_ring.specs.declared.record.Look.{Look}
 use Rattle.dr_ring.specs.declared.record.SenderRecord.{SenderRecord}
 use Rattle.dr_ring.specs.declared.record.ReceiverRecord.{ReceiverRecord}
 use Rattle.dr_ring.specs.Meaning.Records.{claimed, look, sender_looked, halt_looked, half_written, written, SeesRoom, IsOpen}
-use Rattle.dr_ring.specs.Meaning.Kept.{World, Room, first_stored, Payload, HaltAndClose, ArePast, ReceiverKept, KeepsRule}
+use Rattle.dr_ring.specs.Meaning.Rule.{World, Room, first_stored, Payload, HaltAndClose, ArePast, ReceiverKept, KeepsRule}
 use Rattle.dr_ring.specs.Meaning.Steps.{sender_knows, sender_stores}
 use Rattle.dr_ring.proofs.Lists.{there, at_below, final_inside, contains_none, past_set, past_more, last_look_le, apart}
 

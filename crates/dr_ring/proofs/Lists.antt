@@ -12,7 +12,7 @@ use Rattle.dr_ring.specs.Meaning.Shape.{Shape}
 use Rattle.dr_ring.specs.Meaning.Words.{payload_start, payload_word}
 use Rattle.dr_ring.specs.declared.record.Look.{Look}
 use Rattle.dr_ring.specs.Meaning.Records.{look, last_look}
-use Rattle.dr_ring.specs.Meaning.Kept.{IsPast, ArePast}
+use Rattle.dr_ring.specs.Meaning.Rule.{IsPast, ArePast}
 
 pub there : {A : Type 0} (l : List A) (i : ℕ) → i < length l → (a : A) × (get_elem? l i ≡ some a)
 there [] i h = absurd (omega arith)

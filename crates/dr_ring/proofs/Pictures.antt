@@ -24,7 +24,7 @@ use Rattle.dr_ring.specs.Meaning.Words.{cursor_word, closed_word, halt_word, cou
 use Rattle.dr_ring.specs.declared.record.HalfWrite.{HalfWrite}
 use Rattle.dr_ring.specs.declared.record.ReceiverRecord.{ReceiverRecord}
 use Rattle.dr_ring.specs.Meaning.Records.{claimed, look, halt_looked, half_written, written, published_to, receiver_looked, tells_drained, cursor_looked, half_taken, took, completed_to, SeesRoom, AreWritten, IsBelowBarrier}
-use Rattle.dr_ring.specs.Meaning.Kept.{World, KeepsRule}
+use Rattle.dr_ring.specs.Meaning.Rule.{World, KeepsRule}
 use Rattle.dr_ring.specs.declared.record.Step.{Step}
 use Rattle.dr_ring.specs.declared.record.Step.TheVariants.{SenderLooksAtCount, SenderLooksAtHalt, SenderStoresFirst, SenderStoresSecond, SenderPublishes, SenderHalts, SenderCloses, ReceiverLooksAtClosed, ReceiverLooksAtCursor, ReceiverLooksAtCount, ReceiverLoadsFirst, ReceiverLoadsSecond, ReceiverCompletes, HalterHalts}
 use Rattle.dr_ring.specs.Meaning.Steps.{Happens, sender_knows, sender_stores, receiver_knows, receiver_stores}

@@ -14,7 +14,7 @@ use Rattle.dr_ring.specs.declared.record.HalterRecord.{HalterRecord}
 use Rattle.dr_ring.specs.declared.record.EndRecord.{EndRecord}
 use Rattle.dr_ring.specs.declared.record.EndRecord.TheVariants.{Sends, Receives, Halts}
 use Rattle.dr_core.specs.Meaning.Transcript.{Transcript}
-use Rattle.dr_ring.specs.Meaning.Kept.{World, KeepsRule}
+use Rattle.dr_ring.specs.Meaning.Rule.{World, KeepsRule}
 use Rattle.dr_ring.specs.declared.record.Step.{Step}
 use Rattle.dr_ring.specs.declared.record.View.{View}
 use Rattle.dr_ring.specs.Meaning.Steps.{Happens}

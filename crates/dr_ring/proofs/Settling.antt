@@ -15,7 +15,7 @@ use Rattle.dr_ring.specs.declared.record.ReceiverRecord.{ReceiverRecord}
 use Rattle.dr_ring.specs.declared.record.EndRecord.{EndRecord}
 use Rattle.dr_ring.specs.declared.record.EndRecord.TheVariants.{Sends, Receives}
 use Rattle.dr_ring.specs.Meaning.Records.{claimed}
-use Rattle.dr_ring.specs.Meaning.Kept.{World, KeepsRule}
+use Rattle.dr_ring.specs.Meaning.Rule.{World, KeepsRule}
 use Rattle.dr_ring.specs.Inside.Seats.{Sitting, end_of, EachPast, Saw, world_of, Ruled, sender_of}
 use Rattle.dr_ring.specs.Meaning.Moments.{IsBeginning, Runs, new_world}
 use Rattle.dr_ring.specs.declared.record.View.{View}

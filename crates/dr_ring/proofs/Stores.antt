@@ -15,7 +15,7 @@ use Rattle.dr_ring.specs.declared.record.Look.{Look}
 use Rattle.dr_ring.specs.declared.record.SenderRecord.{SenderRecord}
 use Rattle.dr_ring.specs.declared.record.ReceiverRecord.{ReceiverRecord}
 use Rattle.dr_ring.specs.Meaning.Records.{claimed, last_look, published_to, sender_halted, sender_closed, receiver_looked, tells_drained, cursor_looked, half_taken, took, completed_to, halter_halted, AreWritten, IsBelowBarrier}
-use Rattle.dr_ring.specs.Meaning.Kept.{World, Room, Payload, HaltAndClose, ArePast, ReceiverKept, KeepsRule}
+use Rattle.dr_ring.specs.Meaning.Rule.{World, Room, Payload, HaltAndClose, ArePast, ReceiverKept, KeepsRule}
 use Rattle.dr_ring.specs.Meaning.Steps.{sender_stores, receiver_knows, receiver_stores}
 use Rattle.dr_ring.proofs.Lists.{at_below, each_set, past_set, past_more, last_look_le}
 use Rattle.dr_ring.proofs.Keeps.{word_at, receiver_of_handler, above, upstream_inside, room_stays, payload_stays, flags_stay, receiver_stays}

@@ -17,7 +17,7 @@ ghost use Rattle.dr_core.specs.Meaning.Laws.{Laws};
 ghost use Rattle.dr_ring.specs.Meaning.Shape.{Shape, ring_setup};
 ghost use Rattle.dr_ring.specs.Meaning.Words.{halt_word};
 ghost use Rattle.dr_ring.specs.Meaning.Records.{claimed};
-ghost use Rattle.dr_ring.specs.Meaning.Kept.{World, KeepsRule};
+ghost use Rattle.dr_ring.specs.Meaning.Rule.{World, KeepsRule};
 ghost use Rattle.dr_ring.specs.declared.record.Step.{Step};
 ghost use Rattle.dr_ring.specs.Meaning.Moments.{Runs, new_world, picture_of};
 

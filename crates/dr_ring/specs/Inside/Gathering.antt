@@ -10,7 +10,7 @@ use Rattle.dr_ring.specs.declared.record.Step.{Step}
 use Rattle.dr_ring.specs.declared.record.View.{View}
 use Rattle.dr_ring.specs.declared.record.EndRecord.TheVariants.{Sends, Receives}
 use Rattle.dr_core.specs.Meaning.Transcript.{Transcript}
-use Rattle.dr_ring.specs.Meaning.Kept.{World}
+use Rattle.dr_ring.specs.Meaning.Rule.{World}
 use Rattle.dr_ring.specs.Meaning.Moments.{new_world, Runs, IsBeginning}
 use Rattle.dr_ring.specs.Inside.Seats.{End, Sitting, EachPast, end_of, sender_of}
 use Rattle.dr_ring.specs.Calls.Ends.{ReceiverEnd}

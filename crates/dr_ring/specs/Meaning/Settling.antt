@@ -9,7 +9,7 @@ use Rattle.dr_ring.specs.declared.record.Step.{Step}
 use Rattle.dr_core.specs.Meaning.Transcript.{Transcript, LeadsTo}
 use Rattle.dr_core.specs.Meaning.Laws.{Laws}
 use Rattle.dr_ring.specs.Meaning.Shape.{ring_setup}
-use Rattle.dr_ring.specs.Meaning.Kept.{World}
+use Rattle.dr_ring.specs.Meaning.Rule.{World}
 use Rattle.dr_ring.specs.Meaning.Moments.{new_world, picture_of, Runs}
 use Rattle.dr_ring.specs.Meaning.Records.{claimed}
 

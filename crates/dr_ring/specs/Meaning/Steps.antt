@@ -11,7 +11,7 @@ use Rattle.dr_ring.specs.declared.record.Step.TheVariants.{SenderLooksAtCount, S
 use Rattle.dr_ring.specs.declared.record.SenderRecord.{SenderRecord}
 use Rattle.dr_ring.specs.declared.record.ReceiverRecord.{ReceiverRecord}
 use Rattle.dr_ring.specs.Meaning.Records.{claimed, sender_looked, halt_looked, half_written, written, published_to, sender_halted, sender_closed, receiver_looked, cursor_looked, half_taken, took, completed_to, halter_halted, SeesRoom, IsOpen, AreWritten, IsBelowBarrier}
-use Rattle.dr_ring.specs.Meaning.Kept.{World}
+use Rattle.dr_ring.specs.Meaning.Rule.{World}
 
 -- the sender's record changes, and no word
 abbrev pub sender_knows : World → SenderRecord → World

@@ -6,7 +6,7 @@ use Rattle.dr_core.specs.Meaning.Transcript.{Transcript, LeadsFrom, LeadsTo}
 use Rattle.dr_graph.specs.Meaning.Graph.{IsGraph}
 use Rattle.std.specs.Prelude.{◌<◌, List}
 use Rattle.dr_ring.specs.Meaning.Shape.{Shape, ring_setup}
-use Rattle.dr_ring.specs.Meaning.Kept.{World}
+use Rattle.dr_ring.specs.Meaning.Rule.{World}
 use Rattle.dr_ring.specs.declared.record.Step.{Step}
 use Rattle.dr_ring.specs.Meaning.Moments.{Runs, new_world, picture_of}
 use Rattle.dr_ring.proofs.Pictures.{keeps_runs, lead_runs}
