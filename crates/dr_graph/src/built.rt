@@ -26,9 +26,9 @@ pub struct Graph {
 }
 
 impl Model for Graph {
-    ghost use Rattle.dr_graph.specs.Meaning.Graph.{Shape};
+    ghost use Rattle.dr_graph.specs.Meaning.Graph.{GraphView};
 
-    ghost Value = { Shape };
+    ghost Value = { GraphView };
 
     ghost use Rattle.dr_graph.specs.Inside.KeptGraph.{shape_of, IsKeptGraph};
 
