@@ -1,7 +1,7 @@
 //! A history, and the calls that it keeps.
 
 ghost use Rattle.std.specs.Prelude.{◌≡◌};
-ghost use Rattle.dr_shared.specs.History.{asked};
+ghost use Rattle.dr_shared.specs.Meaning.History.{asked};
 
 use crate::again::again;
 use crate::core_calls::write;

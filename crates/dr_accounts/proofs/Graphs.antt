@@ -2,10 +2,10 @@
 use Rattle.std.proofs.Common.{◌≡◌, ◌<◌, ◌+◌, ℕ, zero, suc, true, false, List, [], ◌∷◌, ◌++◌, take, get_or, subst, refl, sym, ap, ◌∙◌, arith}
 use Rattle.std.specs.Prelude.{Contains, codes}
 use Rattle.dr_graph.specs.declared.edge.Edge.{Edge}
-use Rattle.dr_graph.specs.Declaration.{Declaration, followed_by}
-use Rattle.dr_graph.specs.Graph.{AreChosen, IsGraphOf, Shape, leads_to, upstreams_of}
-use Rattle.dr_graph.specs.Name.{Name}
-use Rattle.dr_graph.specs.Order.{IsNext, is_in, is_ready}
+use Rattle.dr_graph.specs.Meaning.Declaration.{Declaration, followed_by}
+use Rattle.dr_graph.specs.Meaning.Graph.{AreChosen, IsGraphOf, GraphView, leads_to, upstreams_of}
+use Rattle.dr_graph.specs.Meaning.Name.{Name}
+use Rattle.dr_graph.specs.Meaning.Order.{IsNext, is_in, is_ready}
 use Rattle.dr_accounts.specs.Passing.{replay_graph}
 
 abbrev pub replay_names : List Name
@@ -96,7 +96,7 @@ each_chosen (suc zero) l = no_upstream 1 no_second
 each_chosen (suc (suc zero)) l = last_chosen
 each_chosen (suc (suc (suc h))) l = absurd (omega arith)
 
-abbrev pub replay_shape : Shape
+abbrev pub replay_shape : GraphView
 replay_shape = record { names = replay_names; upstreams = replay_graph }
 
 pub is_its_graph : IsGraphOf declared replay_shape

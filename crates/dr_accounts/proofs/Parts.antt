@@ -1,8 +1,8 @@
 -- A handler's part of the report, after all batches that it was shown.
 use Rattle.std.proofs.Common.{ℕ, Bool, List, [], ◌∷◌, ◌++◌, refl, subst, append-nil, append_assoc}
 use Rattle.dr_seq.specs.declared.event.Event.{Event}
-use Rattle.dr_core.specs.Handling.{GoesThrough, Relation, Showing, showings}
-use Rattle.dr_shared.specs.Work.{Dealt, events_of, shown_of}
+use Rattle.dr_core.specs.Calls.Handling.{GoesThrough, Relation, Showing, showings}
+use Rattle.dr_shared.specs.Meaning.Work.{Dealt, dealt_events, shown_of}
 use Rattle.dr_accounts.specs.declared.business.Business.{Business}
 use Rattle.dr_accounts.specs.declared.journal.Journal.{Journal}
 use Rattle.dr_accounts.specs.declared.replica.Replica.{Replica}
@@ -16,11 +16,11 @@ parted goes a (x ∷ xs) ys b is = let rest = parted goes is.0 xs ys b is.2 in (
 -- what one call keeps, all batches keep
 along_batches : {A : Type 0} (goes : Relation A) (Has : A → List Event → Type 0)
     → ((a b : A) (es : List Event) (e : Event) (s : ℕ) (end : Bool) → Has a es → goes a e s end b → Has b (es ++ e ∷ []))
-    → (a b : A) (es : List Event) (batches : List Dealt) → Has a es → GoesThrough goes a (shown_of batches) b → Has b (es ++ events_of batches)
+    → (a b : A) (es : List Event) (batches : List Dealt) → Has a es → GoesThrough goes a (shown_of batches) b → Has b (es ++ dealt_events batches)
 along_batches goes Has one a b es [] has is = rw append-nil (subst (λ x. Has x es) is has)
 along_batches goes Has one a b es (d ∷ batches) has is =
     let parts = parted goes a (showings d.events d.first d.end) (shown_of batches) b is in
-    subst (λ l. Has b l) (append_assoc es d.events (events_of batches))
+    subst (λ l. Has b l) (append_assoc es d.events (dealt_events batches))
     (along_batches goes Has one parts.0 b (es ++ d.events) batches (along goes Has one a parts.0 es d.events d.first d.end has parts.1) parts.2)
 
 abbrev journals : Relation Journal
@@ -32,11 +32,11 @@ copies old event s end new = Copies old event new
 abbrev books : Relation Business
 books old event s end new = Books old event new
 
-pub journal_shown : (first last : Journal) (batches : List Dealt) → IsJournalOf first [] → GoesThrough journals first (shown_of batches) last → IsJournalOf last (events_of batches)
+pub journal_shown : (first last : Journal) (batches : List Dealt) → IsJournalOf first [] → GoesThrough journals first (shown_of batches) last → IsJournalOf last (dealt_events batches)
 journal_shown first last batches new through = along_batches journals IsJournalOf journal_goes first last [] batches new through
 
-pub replica_shown : (first last : Replica) (batches : List Dealt) → IsReplicaOf first [] → GoesThrough copies first (shown_of batches) last → IsReplicaOf last (events_of batches)
+pub replica_shown : (first last : Replica) (batches : List Dealt) → IsReplicaOf first [] → GoesThrough copies first (shown_of batches) last → IsReplicaOf last (dealt_events batches)
 replica_shown first last batches new through = along_batches copies IsReplicaOf replica_goes first last [] batches new through
 
-pub business_shown : (first last : Business) (batches : List Dealt) → IsBusinessOf first [] → GoesThrough books first (shown_of batches) last → IsBusinessOf last (events_of batches)
+pub business_shown : (first last : Business) (batches : List Dealt) → IsBusinessOf first [] → GoesThrough books first (shown_of batches) last → IsBusinessOf last (dealt_events batches)
 business_shown first last batches new through = along_batches books IsBusinessOf business_goes first last [] batches new through

@@ -10,9 +10,9 @@ use Rattle.dr_core.specs.declared.command.Command.TheVariants.{Claim, Write, Pub
 use Rattle.dr_core.specs.declared.command.Command.{Command}
 use Rattle.dr_core.specs.declared.command.Reply.{Reply}
 use Rattle.dr_core.specs.declared.command.Reply.TheVariants.{Claimed, Written, Published, Batch, Completed}
-use Rattle.dr_core.specs.Machine.{Outcome, Setup, State, accepted, available, front, next, least_outside, publish_faults, refusals, step}
-use Rattle.dr_core.specs.CoreView.{CoreView}
-use Rattle.dr_core.specs.Shows.{IsStep, Shows}
+use Rattle.dr_core.specs.Meaning.Machine.{Outcome, Setup, State, accepted, available, front, next, least_outside, publish_faults, refusals, step}
+use Rattle.dr_core.specs.Calls.CoreView.{CoreView}
+use Rattle.dr_core.specs.Calls.Shows.{IsStep, Shows}
 use Rattle.dr_core.proofs.Leasts.{least_is, least_one}
 use Rattle.dr_core.proofs.Steps.{NoneHold, NoneHold-join, NoneHold-stretch, unless-none}
 use Rattle.dr_accounts.specs.Passing.{each, passed, replay_setup, written_below}

@@ -15,7 +15,7 @@ use Rattle.dr_accounts.specs.declared.business.Account.{Account}
 use Rattle.dr_accounts.specs.declared.business.Business.{Business}
 use Rattle.dr_accounts.specs.declared.journal.Journal.{Journal}
 use Rattle.dr_accounts.specs.declared.replica.Replica.{Replica}
-use Rattle.dr_accounts.specs.Accounts.{account_bound, accounts, balance_of, is_named, names, refusals_of}
+use Rattle.dr_accounts.specs.Accounts.{account_bound, accounts, balance_of, is_account, names, refusals_of}
 use Rattle.dr_accounts.specs.Handlers.{HasBusiness, HasJournal, HasReplica, account_lines, balance_in, business_text, journal_text, refused_in, replica_text}
 use Rattle.dr_accounts.specs.Operations.{account_of, code_of, movement_of}
 use Rattle.dr_accounts.specs.Report.{account_line, business_part, heading, journal_part, replica_part}
@@ -166,9 +166,9 @@ names_small e a h =
       ]
     ]
 
-named_small : (events : List Event) (a : ℕ) → is_named events a ≡ true → a < 2 ^ 16
+named_small : (events : List Event) (a : ℕ) → is_account events a ≡ true → a < 2 ^ 16
 named_small [] a h = let clash : false ≡ true = h in cc
-named_small (e ∷ es) a h = ⊎_elim (λ l. names_small e a l) (λ r. named_small es a r) (either (names (movement_of e) a) (is_named es a) h)
+named_small (e ∷ es) a h = ⊎_elim (λ l. names_small e a l) (λ r. named_small es a r) (either (names (movement_of e) a) (is_account es a) h)
 
 within_bound : (a : ℕ) → a < 2 ^ 16 → a < 0 + account_bound
 unfolding account_bound
@@ -183,11 +183,11 @@ business_says b events has sorted =
     let entries = b.accounts.entries in
     let rise = rises 0 entries (any_above entries) sorted in
     let below : (a : ℕ) → is_some (found entries a) ≡ true → a < 0 + account_bound = λ a there. within_bound a (named_small events a (sym (has.named a) ∙ there)) in
-    let one = λ (a : ℕ). if is_named events a then account_line a (balance_of events a) (refusals_of events a) else [] in
-    let lines : account_lines entries ≡ flat_map (λ a. account_line a (balance_of events a) (refusals_of events a)) (filter (is_named events) accounts) =
+    let one = λ (a : ℕ). if is_account events a then account_line a (balance_of events a) (refusals_of events a) else [] in
+    let lines : account_lines entries ≡ flat_map (λ a. account_line a (balance_of events a) (refusals_of events a)) (filter (is_account events) accounts) =
     lines_of_range entries 0 account_bound rise below
-    ∙ lines_agree (λ a. line_at a (found entries a)) one accounts (λ a. line_is a (found entries a) (balance_of events a) (refusals_of events a) (is_named events a) (has.balances a) (has.refusals a) (has.named a))
-    ∙ sym (flat_filter (λ a. account_line a (balance_of events a) (refusals_of events a)) (is_named events) accounts) in
+    ∙ lines_agree (λ a. line_at a (found entries a)) one accounts (λ a. line_is a (found entries a) (balance_of events a) (refusals_of events a) (is_account events a) (has.balances a) (has.refusals a) (has.named a))
+    ∙ sym (flat_filter (λ a. account_line a (balance_of events a) (refusals_of events a)) (is_account events) accounts) in
     ap (λ n. heading (codes "business") n ++ account_lines entries) has.count ∙ ap (λ l. heading (codes "business") (length events) ++ l) lines
 
 pub journal_says : (j : Journal) (events : List Event) → HasJournal j events → journal_text j ≡ journal_part events

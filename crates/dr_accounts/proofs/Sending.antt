@@ -7,8 +7,8 @@ use Rattle.dr_core.specs.declared.command.Command.TheVariants.{Claim, Write, Pub
 use Rattle.dr_core.specs.declared.command.Reply.{Reply}
 use Rattle.dr_core.specs.declared.command.Reply.TheVariants.{Claimed, Published, Refused, Written}
 use Rattle.dr_core.specs.declared.refusal.Refusal.{Refusal}
-use Rattle.dr_core.specs.CoreView.{CoreView}
-use Rattle.dr_core.specs.Shows.{IsStep, Shows, unit_reply}
+use Rattle.dr_core.specs.Calls.CoreView.{CoreView}
+use Rattle.dr_core.specs.Calls.Shows.{IsStep, Shows, unit_reply}
 use Rattle.dr_accounts.specs.Passing.{each, passed, replay_setup}
 use Rattle.dr_accounts.specs.Turns.{Rests, Sends}
 use Rattle.dr_accounts.proofs.Passing.{claims, publishes, stepped, writes}

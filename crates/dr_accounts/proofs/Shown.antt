@@ -7,11 +7,11 @@ use Rattle.std.proofs.lemmas.List.Folds.{list_any-append}
 use Rattle.std.proofs.Math.Seq.{get_or-append_seam}
 use Rattle.dr_seq.specs.declared.event.Event.{Event}
 use Rattle.dr_seq.specs.Event.{no_event}
-use Rattle.dr_core.specs.Handling.{GoesThrough, Relation, showings}
+use Rattle.dr_core.specs.Calls.Handling.{GoesThrough, Relation, showings}
 use Rattle.dr_accounts.specs.declared.business.Business.{Business}
 use Rattle.dr_accounts.specs.declared.journal.Journal.{Journal}
 use Rattle.dr_accounts.specs.declared.replica.Replica.{Replica}
-use Rattle.dr_accounts.specs.Accounts.{balance_by, balance_of, balances_after, is_named, movement_at, names, refusal_by, refusals_after, refusals_of}
+use Rattle.dr_accounts.specs.Accounts.{balance_by, balance_of, balances_after, is_account, movement_at, names, refusal_by, refusals_after, refusals_of}
 use Rattle.dr_accounts.specs.Handlers.{Books, Copies, Goes, IsBusinessOf, IsJournalOf, IsReplicaOf, Journals, balance_in, kept}
 use Rattle.dr_accounts.specs.Operations.{movement_of}
 use Rattle.dr_accounts.specs.Report.{journal_from, journal_line, replica_line}
@@ -112,8 +112,8 @@ or_none : (b : Bool) → (b || false) ≡ b
 or_none true = refl
 or_none false = refl
 
-pub is_named-push : (es : List Event) (e : Event) (a : ℕ) → is_named (es ++ e ∷ []) a ≡ (is_named es a || names (movement_of e) a)
-is_named-push es e a = list_any-append (λ x. names (movement_of x) a) es (e ∷ []) ∙ ap (λ b. is_named es a || b) (or_none (names (movement_of e) a))
+pub is_account-push : (es : List Event) (e : Event) (a : ℕ) → is_account (es ++ e ∷ []) a ≡ (is_account es a || names (movement_of e) a)
+is_account-push es e a = list_any-append (λ x. names (movement_of x) a) es (e ∷ []) ∙ ap (λ b. is_account es a || b) (or_none (names (movement_of e) a))
 
 pub business_goes : (a b : Business) (es : List Event) (e : Event) (s : ℕ) (end : Bool) → IsBusinessOf a es → Books a e b → IsBusinessOf b (es ++ e ∷ [])
 business_goes a b es e s end has goes = λ fine.
@@ -124,6 +124,6 @@ business_goes a b es e s end has goes = λ fine.
       balances = λ x. (t.1.moved x).balance ∙ ap (λ f. balance_by (movement_of e) f x) before ∙ ap (λ f. f x) (sym (balance_of-push es e));
       refusals = λ x. (t.1.moved x).refused ∙ ap (λ n. n + refusal_by (movement_of e) (λ y. balance_in (kept a y)) x) (h.refusals x)
           ∙ ap (λ f. refusals_of es x + refusal_by (movement_of e) f x) before ∙ sym (refusals_of-push es e x);
-      named = λ x. (t.1.moved x).named ∙ ap (λ b. b || names (movement_of e) x) (h.named x) ∙ sym (is_named-push es e x);
+      named = λ x. (t.1.moved x).named ∙ ap (λ b. b || names (movement_of e) x) (h.named x) ∙ sym (is_account-push es e x);
       count = t.1.count ∙ ap (λ n. n + 1) h.count ∙ sym (one_longer es e);
     }

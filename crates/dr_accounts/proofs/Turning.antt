@@ -8,10 +8,10 @@ use Rattle.dr_core.specs.declared.command.Reply.TheVariants.{Batch, Completed, D
 use Rattle.dr_core.specs.declared.command.Polled.{Polled}
 use Rattle.dr_core.specs.declared.command.Polled.TheVariants as answer
 use Rattle.dr_core.specs.declared.refusal.Refusal.{Refusal}
-use Rattle.dr_core.specs.CoreView.{CoreView}
-use Rattle.dr_core.specs.Handling.{GoesThrough, Relation, TakesTurn, showings}
-use Rattle.dr_core.specs.Machine.{available}
-use Rattle.dr_core.specs.Shows.{IsStep}
+use Rattle.dr_core.specs.Calls.CoreView.{CoreView}
+use Rattle.dr_core.specs.Calls.Handling.{GoesThrough, Relation, TakesTurn, showings}
+use Rattle.dr_core.specs.Meaning.Machine.{available}
+use Rattle.dr_core.specs.Calls.Shows.{IsStep}
 use Rattle.dr_accounts.specs.Passing.{passed, replay_setup}
 use Rattle.dr_accounts.specs.Turns.{Rests}
 use Rattle.dr_accounts.proofs.Passing.{completes, front_below, next_is, polls, stepped}

@@ -70,8 +70,8 @@ abbrev pub refusals_of : List Event → Numbers
 refusals_of events = refusals_after events (length events)
 
 -- whether an event of a list names an account
-abbrev pub is_named : List Event → ℕ → Bool
-is_named events a = list_any (λ e. names (movement_of e) a) events
+abbrev pub is_account : List Event → ℕ → Bool
+is_account events a = list_any (λ e. names (movement_of e) a) events
 
 -- how many accounts there may be
 unfoldable pub account_bound : ℕ

@@ -8,7 +8,7 @@ use Rattle.dr_accounts.specs.declared.replica.Replica.{Replica}
 use Rattle.dr_accounts.specs.declared.business.Account.{Account}
 use Rattle.dr_accounts.specs.declared.business.Business.{Business}
 use Rattle.dr_accounts.specs.declared.operation.Movement.{Movement}
-use Rattle.dr_accounts.specs.Accounts.{balance_by, balance_of, is_named, names, refusal_by, refusals_of}
+use Rattle.dr_accounts.specs.Accounts.{balance_by, balance_of, is_account, names, refusal_by, refusals_of}
 use Rattle.dr_accounts.specs.Operations.{movement_of}
 use Rattle.dr_accounts.specs.Report.{account_line, heading, journal_from, journal_line, replica_line}
 
@@ -75,7 +75,7 @@ refused_in (Some account) = account.refused
 pub record HasBusiness (b : Business) (events : List Event) : Type 0 where
   pub balances : (a : ℕ) → balance_in (kept b a) ≡ balance_of events a
   pub refusals : (a : ℕ) → refused_in (kept b a) ≡ refusals_of events a
-  pub named : (a : ℕ) → is_some (kept b a) ≡ is_named events a
+  pub named : (a : ℕ) → is_some (kept b a) ≡ is_account events a
   pub count : b.count ≡ length events
 
 abbrev pub IsBusinessOf : Business → List Event → Type 0

@@ -15,8 +15,8 @@ moves producer (Deposit account amount) = record { first = first_word producer 1
 moves producer (Withdraw account amount) = record { first = first_word producer 2 account amount; second = 0 }
 moves producer (Transfer from to amount) = record { first = first_word producer 3 from 0; second = to * 2 ^ 48 + amount }
 
-abbrev pub event_of : Operation → Event
-event_of o = moves o.producer o.movement
+abbrev pub event_for : Operation → Event
+event_for o = moves o.producer o.movement
 
 -- an amount of a transfer is below 2^48, so that it has its place in the second word
 abbrev pub HasPlace : Movement → Type 0

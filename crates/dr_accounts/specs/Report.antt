@@ -2,7 +2,7 @@
 use Rattle.std.specs.Prelude.{ℕ, ◌+◌, ◌-◌, ◌==◌, if◌then◌else◌, List, [], ◌∷◌, ◌++◌, length, filter, flat_map, replicate, codes, decimal, false}
 use Rattle.std.specs.Fmt.{digits}
 use Rattle.dr_seq.specs.declared.event.Event.{Event}
-use Rattle.dr_accounts.specs.Accounts.{accounts, balance_of, is_named, refusals_of}
+use Rattle.dr_accounts.specs.Accounts.{accounts, balance_of, is_account, refusals_of}
 use Rattle.dr_accounts.specs.Operations.{code_of, operation_of, operation_text}
 
 abbrev pub Line : Type 0
@@ -43,7 +43,7 @@ account_line account balance refused = decimal account ++ codes "," ++ decimal b
 abbrev pub business_part : List Event → List ℕ
 business_part events =
     heading (codes "business") (length events)
-    ++ flat_map (λ a. account_line a (balance_of events a) (refusals_of events a)) (filter (is_named events) accounts)
+    ++ flat_map (λ a. account_line a (balance_of events a) (refusals_of events a)) (filter (is_account events) accounts)
 
 abbrev pub report_of : List Event → List ℕ
 report_of events = journal_part events ++ replica_part events ++ business_part events

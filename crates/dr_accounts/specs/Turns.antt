@@ -1,8 +1,8 @@
 -- What the calls of the replay do to its exchange and its handlers.
 use Rattle.std.specs.Prelude.{◌≡◌, ◌<◌, ◌≤◌, ◌+◌, ℕ, false, List, take, length, Result, Ok, Err}
 use Rattle.dr_seq.specs.declared.event.Event.{Event}
-use Rattle.dr_core.specs.CoreView.{CoreView}
-use Rattle.dr_core.specs.Shows.{Shows}
+use Rattle.dr_core.specs.Calls.CoreView.{CoreView}
+use Rattle.dr_core.specs.Calls.Shows.{Shows}
 use Rattle.dr_core.specs.declared.refusal.Refusal.{Refusal}
 use Rattle.dr_accounts.specs.declared.handlers.Handlers.{Handlers}
 use Rattle.dr_accounts.specs.Handlers.{IsBusinessOf, IsJournalOf, IsReplicaOf}
@@ -31,7 +31,7 @@ pub record AreWell (h : Handlers) : Type 0 where
   pub business : h.business.failed ≡ false
 
 -- some events are in an exchange that no handler took, and there is room for them
-pub record IsOffered (size : ℕ) (events : List Event) (at sent room : ℕ) (v : CoreView) : Type 0 where
+pub record AreOffered (size : ℕ) (events : List Event) (at sent room : ℕ) (v : CoreView) : Type 0 where
   pub rests : Rests size events sent (each at) v
   pub some : at < sent
   pub fits : sent ≤ at + room
@@ -47,6 +47,6 @@ Turns (Ok done) size events sent v h = Turned size events sent v h
 Turns (Err refusal) size events sent v h = ⊥
 
 -- no call is refused, and each handler was shown all events
-abbrev pub Passes : {A : Type 0} → Result A Refusal → List Event → Handlers → Type 0
-Passes (Ok done) events h = AreShown h events
-Passes (Err refusal) events h = ⊥
+abbrev pub ShowsAll : {A : Type 0} → Result A Refusal → List Event → Handlers → Type 0
+ShowsAll (Ok done) events h = AreShown h events
+ShowsAll (Err refusal) events h = ⊥

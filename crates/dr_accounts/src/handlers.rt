@@ -3,7 +3,7 @@
 ghost use Rattle.std.specs.Prelude.{◌≡◌, ℕ, [], IfOk, List, false, length, string_bytes, take};
 ghost use Rattle.dr_seq.specs.declared.event.Event.{Event};
 ghost use Rattle.dr_accounts.specs.Report.{report_of};
-ghost use Rattle.dr_accounts.specs.Turns.{AreShown, AreWell, IsOffered, Turns};
+ghost use Rattle.dr_accounts.specs.Turns.{AreShown, AreWell, AreOffered, Turns};
 
 use crate::business::Business;
 use crate::journal::Journal;
@@ -52,7 +52,7 @@ impl Handlers {
 
     /// One turn of each. Where the room of `buf` is that of the ring, each takes all that there is.
     pub fn turn(&mut self, core: &mut Core, buf: &mut [Event]) -> Result<(), Refusal>
-        ensures { (size : ℕ) (events : List Event) (at sent : ℕ) → IsOffered size events at sent (length buf.old) core.old → AreShown self.old (take at events) → Turns result size events sent core.new self.new }
+        ensures { (size : ℕ) (events : List Event) (at sent : ℕ) → AreOffered size events at sent (length buf.old) core.old → AreShown self.old (take at events) → Turns result size events sent core.new self.new }
     {
         processor_turn(core, JOURNAL, &mut self.journal, buf)?;
         processor_turn(core, REPLICA, &mut self.replica, buf)?;

@@ -1,7 +1,7 @@
 //! What an event of the replay says: a producer moves an amount between accounts.
 
 ghost use Rattle.std.specs.Prelude.{◌≡◌};
-ghost use Rattle.dr_accounts.specs.Operations.{IsOperation, event_of as event_in, operation_of as operation_in};
+ghost use Rattle.dr_accounts.specs.Operations.{IsOperation, event_for as event_in, operation_of as operation_in};
 
 use dr_seq::Event;
 use std::fmt;

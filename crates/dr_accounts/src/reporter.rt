@@ -2,8 +2,8 @@
 
 ghost use Rattle.std.specs.Prelude.{◌≡◌, ◌++◌, ℕ, [], Bool, false, List, IfOk, OnOk, string_bytes};
 ghost use Rattle.dr_seq.specs.declared.event.Event.{Event};
-ghost use Rattle.dr_core.specs.Handling.{GoesThrough};
-ghost use Rattle.dr_shared.specs.Work.{Dealt, events_of, shown_of};
+ghost use Rattle.dr_core.specs.Calls.Handling.{GoesThrough};
+ghost use Rattle.dr_shared.specs.Meaning.Work.{Dealt, dealt_events, shown_of};
 
 use crate::business::Business;
 use crate::journal::Journal;
@@ -33,12 +33,12 @@ pub trait Reporter: Handler + Drop {
     /// Appends its part to a report. An error is that memory ran out.
     fn push_part(&self, report: &mut String) -> Result<(), AllocError>
         requires { failed self.now ≡ false }
-        ensures { (first : Self) (batches : List Dealt) → is_new first → GoesThrough Self.goes first (shown_of batches) self.now → OnOk result (string_bytes report.new ≡ string_bytes report.old ++ part_of (events_of batches)) };
+        ensures { (first : Self) (batches : List Dealt) → is_new first → GoesThrough Self.goes first (shown_of batches) self.now → OnOk result (string_bytes report.new ≡ string_bytes report.old ++ part_of (dealt_events batches)) };
 }
 
 /// The part of a handler alone. An error is that memory ran out, here or when an event was handled.
 pub fn part<H: Reporter>(handler: &H, alloc: Global) -> Result<String, AllocError>
-    ensures { (first : H) (batches : List Dealt) → H.is_new first → GoesThrough H.goes first (shown_of batches) handler.now → IfOk result (λ text. string_bytes text ≡ H.part_of (events_of batches)) }
+    ensures { (first : H) (batches : List Dealt) → H.is_new first → GoesThrough H.goes first (shown_of batches) handler.now → IfOk result (λ text. string_bytes text ≡ H.part_of (dealt_events batches)) }
 {
     if handler.has_failed() {
         return Err(AllocError);

@@ -3,7 +3,7 @@
 ghost use Rattle.std.specs.Prelude.{◌≡◌, ◌<◌, ◌≤◌, ◌+◌, ◌^◌, [], IfOk, length, string_bytes};
 ghost use Rattle.dr_accounts.specs.Passing.{each};
 ghost use Rattle.dr_accounts.specs.Report.{report_of};
-ghost use Rattle.dr_accounts.specs.Turns.{AreShown, Passes, Rests, Sends};
+ghost use Rattle.dr_accounts.specs.Turns.{AreShown, ShowsAll, Rests, Sends};
 
 use crate::handlers::Handlers;
 use crate::topology::open;
@@ -40,7 +40,7 @@ fn pass(
     requires shown { AreShown handlers.old [] }
     requires room { core.old.setup.size ≤ length buf.old }
     requires limit { length events.now ≤ 2 ^ 62 }
-    ensures { Passes result events.now handlers.new }
+    ensures { ShowsAll result events.now handlers.new }
 {
     let size = core.size().get() as usize;
     let mut at = 0;

@@ -1,8 +1,8 @@
 //! The exchange of the replay: journal and replica, and business after both.
 
 ghost use Rattle.std.specs.Prelude.{◌≡◌, IfOk};
-ghost use Rattle.dr_core.specs.Machine.{opening};
-ghost use Rattle.dr_core.specs.Shows.{Shows};
+ghost use Rattle.dr_core.specs.Meaning.Machine.{opening};
+ghost use Rattle.dr_core.specs.Calls.Shows.{Shows};
 ghost use Rattle.dr_accounts.specs.Passing.{replay_graph, replay_setup};
 
 use dr_core::{Core, MAX_LIMIT, Mode};

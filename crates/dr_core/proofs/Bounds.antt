@@ -6,11 +6,11 @@ use Rattle.std.proofs.lemmas.Bool.Decides.{nat_tests}
 use Rattle.std.proofs.lemmas.List.{length-append, length-replicate}
 use Rattle.dr_core.specs.declared.command.Command.{Command}
 use Rattle.dr_core.specs.declared.command.Command.TheVariants.{Claim, Write, Publish, Poll, Complete, Halt, Retire}
-use Rattle.dr_graph.specs.Graph.{FinalsGate, IsGraph}
+use Rattle.dr_graph.specs.Meaning.Graph.{FinalsGate, IsGraph}
 use Rattle.dr_graph.proofs.Gating.{least_gates}
-use Rattle.dr_core.specs.Machine.{Setup, State, Outcome, next, available, cursor, gate, refusals, accepted, step, opening}
-use Rattle.dr_core.specs.Transcript.{Transcript, LeadsFrom, LeadsTo}
-use Rattle.dr_core.specs.Inside.{AreInBounds}
+use Rattle.dr_core.specs.Meaning.Machine.{Setup, State, Outcome, next, available, cursor, gate, refusals, accepted, step, opening}
+use Rattle.dr_core.specs.Meaning.Transcript.{Transcript, LeadsFrom, LeadsTo}
+use Rattle.dr_core.specs.Inside.Fields.{AreInBounds}
 use Rattle.dr_core.proofs.Steps.{NoneHold, unless-cases}
 use Rattle.dr_core.proofs.Sound.{IsSound, orderly}
 use Rattle.dr_core.proofs.Keeps.{opening_sound, step_sound}

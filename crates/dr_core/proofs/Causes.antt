@@ -3,7 +3,7 @@ use Rattle.std.proofs.Common.{◌≡◌, ℕ, zero, suc, ◌+◌, ◌<◌, inl, 
 use Rattle.std.specs.Prelude.{flat_map}
 use Rattle.std.specs.List.{range_with_len}
 use Rattle.dr_core.specs.declared.refusal.Refusal.{Refusal}
-use Rattle.dr_core.specs.Refusals.{NoneHolds, IsFirst}
+use Rattle.dr_core.specs.Meaning.Refusals.{NoneHolds, IsFirst}
 
 module _ {A : Type 0} (Holds Fails : A → Type 0) where
   pub none_join : (xs ys : List (A × Refusal)) → NoneHolds Fails xs → NoneHolds Fails ys → NoneHolds Fails (xs ++ ys)

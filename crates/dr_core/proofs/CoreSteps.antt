@@ -10,12 +10,12 @@ use Rattle.dr_core.specs.declared.command.Reply.{Reply}
 use Rattle.dr_core.specs.declared.command.Reply.TheVariants.{Claimed, Completed, Halting, Refused}
 use Rattle.dr_core.specs.declared.refusal.Refusal.{Refusal}
 use Rattle.dr_seq.specs.declared.event.Event.{Event}
-use Rattle.dr_graph.specs.Graph.{finals_without, least_of}
+use Rattle.dr_graph.specs.Meaning.Graph.{finals_without, least_of}
 use Rattle.dr_graph.proofs.Gating.{finals_agree, least_gates}
-use Rattle.dr_core.specs.Machine.{Setup, State, least_outside, handlers, producers, next, front, gating, least_completed, refusals, accepted}
-use Rattle.dr_core.specs.CoreView.{Known, Nothing, ClaimedBy, CoreView, recent_of, known_at, retired_in, gate_of}
-use Rattle.dr_core.specs.Shows.{KnowsRecents, Shows, IsStep, CanComplete}
-use Rattle.dr_core.specs.Inside.{IsWhole}
+use Rattle.dr_core.specs.Meaning.Machine.{Setup, State, least_outside, handlers, producers, next, front, gating, least_completed, refusals, accepted}
+use Rattle.dr_core.specs.Calls.CoreView.{Known, Nothing, ClaimedBy, CoreView, recent_of, known_at, retired_in, gate_of}
+use Rattle.dr_core.specs.Calls.Shows.{KnowsRecents, Shows, IsStep, CanComplete}
+use Rattle.dr_core.specs.Inside.Fields.{IsWhole}
 use Rattle.dr_core.proofs.Shown.{same_next, same_front, same_taken, same_completed, same_halted, same_retired}
 use Rattle.dr_core.proofs.Leasts.{IsLeast, least_is, least_one}
 use Rattle.dr_core.proofs.Sound.{orderly, set_count}

@@ -6,17 +6,17 @@ use Rattle.std.specs.List.{range_with_len}
 use Rattle.std.specs.Prelude.{Contains, nat_le, nat_lt}
 use Rattle.std.proofs.lemmas.Bool.{cases_Bool, lt-leb, le-leb, le-ltb, lt-ltb, leb-true, leb-false, ltb-false, ne_eqb, or_from}
 use Rattle.dr_seq.proofs.Sizes.{size_at_most}
-use Rattle.dr_graph.specs.Graph.{flagged, is_final_without, finals_without, least_of, least_without, IsGated}
+use Rattle.dr_graph.specs.Meaning.Graph.{flagged, is_final_without, finals_without, least_of, least_without, IsGated}
 use Rattle.dr_graph.proofs.Gating.{filter_more, final_left, least_above_some}
-use Rattle.dr_core.specs.CoreView.{CoreView, AreGating, retired_in, gate_of}
+use Rattle.dr_core.specs.Calls.CoreView.{CoreView, AreGating, retired_in, gate_of}
 use Rattle.dr_core.specs.declared.command.Command.TheVariants.{Claim}
 use Rattle.dr_core.specs.declared.command.Reply.TheVariants.{Refused}
 use Rattle.dr_core.specs.declared.refusal.Refusal.{Refusal}
 use Rattle.dr_core.specs.declared.refusal.Refusal.TheVariants.{Halted, Exhausted, NoRoom}
-use Rattle.dr_core.specs.Machine.{State, producers, next, gate, refusals}
-use Rattle.dr_core.specs.Shows.{Shows, IsStep}
-use Rattle.dr_core.specs.Availability.{claim_fault}
-use Rattle.dr_core.specs.Inside.{IsWhole, IsClaimable}
+use Rattle.dr_core.specs.Meaning.Machine.{State, producers, next, gate, refusals}
+use Rattle.dr_core.specs.Calls.Shows.{Shows, IsStep}
+use Rattle.dr_core.specs.Inside.Availability.{claim_fault}
+use Rattle.dr_core.specs.Inside.Fields.{IsWhole, IsClaimable}
 use Rattle.dr_core.proofs.Steps.{Refuses}
 use Rattle.dr_core.proofs.CoreSteps.{refused_step, finals_least, gate_same}
 use Rattle.dr_core.proofs.Shown.{same_next, same_halted}

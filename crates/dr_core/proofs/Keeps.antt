@@ -8,9 +8,9 @@ use Rattle.std.proofs.lemmas.List.{length-append, length-replicate, length-set}
 use Rattle.dr_core.specs.declared.command.Command.{Command}
 use Rattle.dr_core.specs.declared.command.Command.TheVariants.{Claim, Write, Publish, Poll, Complete, Halt, Retire}
 use Rattle.dr_seq.specs.declared.event.Event.{Event}
-use Rattle.dr_graph.specs.Graph.{upstreams_of}
-use Rattle.dr_core.specs.Machine.{Setup, State, Outcome, handlers, next, front, available, offered, refusals, accepted, step, batch, publish_faults, cursor, opening}
-use Rattle.dr_core.specs.Inside.{AreInOrder}
+use Rattle.dr_graph.specs.Meaning.Graph.{upstreams_of}
+use Rattle.dr_core.specs.Meaning.Machine.{Setup, State, Outcome, handlers, next, front, available, offered, refusals, accepted, step, batch, publish_faults, cursor, opening}
+use Rattle.dr_core.specs.Inside.Fields.{AreInOrder}
 use Rattle.dr_core.proofs.Leasts.{least_grows, least_of-member}
 use Rattle.dr_core.proofs.Steps.{NoneHold, NoneHold-append, unless-cases}
 use Rattle.dr_core.proofs.Sound.{IsSound, set_count, count_of, within, reach}

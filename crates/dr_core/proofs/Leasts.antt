@@ -5,9 +5,9 @@ use Rattle.std.proofs.lemmas.List.{map_more, map_push, length_push, length-map, 
 use Rattle.std.proofs.lemmas.Bool.{cond_both, and_parts, and_cases, eqb-true, eqb-false, false≢true, cases_order, cases_lt, ne_eqb}
 use Rattle.std.specs.Prelude.{◌==◌, if◌then◌else◌, get_or, length, Contains}
 use Rattle.std.specs.List.{range_with_len}
-use Rattle.dr_graph.specs.Graph.{least_of}
+use Rattle.dr_graph.specs.Meaning.Graph.{least_of}
 use Rattle.dr_graph.proofs.Gating.{filter_push, filter_skip}
-use Rattle.dr_core.specs.Machine.{least_outside}
+use Rattle.dr_core.specs.Meaning.Machine.{least_outside}
 
 -- what the answer is: all below it are in the set, and it is not, unless it is the bound
 pub record IsLeast (set : ℕ → Bool) (bound n : ℕ) : Type 0 where

@@ -2,16 +2,16 @@
 use Rattle.std.proofs.Common.{◌≡◌, ℕ, zero, suc, ◌≤◌, ◌^◌, Bool, List, [], arith, refl, ap, sym, ◌∙◌, length, replicate, false}
 use Rattle.std.proofs.lemmas.Bool.{or_parts, ltb-false}
 use Rattle.std.proofs.lemmas.List.{length-replicate}
-use Rattle.dr_graph.specs.Name.{Name}
-use Rattle.dr_core.specs.Machine.{Setup, handlers, opening, least_outside}
-use Rattle.dr_graph.specs.Graph.{flagged}
-use Rattle.dr_core.specs.CoreView.{Known, CoreView}
-use Rattle.dr_core.specs.Shows.{Shows}
-use Rattle.dr_core.specs.OpenFault.{is_bad_limit}
-use Rattle.dr_core.specs.Runs.{IsReached}
+use Rattle.dr_graph.specs.Meaning.Name.{Name}
+use Rattle.dr_core.specs.Meaning.Machine.{Setup, handlers, opening, least_outside}
+use Rattle.dr_graph.specs.Meaning.Graph.{flagged}
+use Rattle.dr_core.specs.Calls.CoreView.{Known, CoreView}
+use Rattle.dr_core.specs.Calls.Shows.{Shows}
+use Rattle.dr_core.specs.Calls.OpenFault.{is_bad_limit}
+use Rattle.dr_core.specs.Meaning.Runs.{IsReached}
 use Rattle.dr_core.proofs.Running.{run_none}
 use Rattle.dr_core.proofs.Whole.{reached_whole}
-use Rattle.dr_core.specs.Inside.{IsSetup, IsWhole}
+use Rattle.dr_core.specs.Inside.Fields.{IsSetup, IsWhole}
 
 -- a valid limit lets no sum of counts wrap
 pub limit_fits : (limit : ℕ) → is_bad_limit limit ≡ false → limit ≤ 2 ^ 62

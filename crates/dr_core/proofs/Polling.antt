@@ -9,18 +9,18 @@ use Rattle.dr_core.specs.declared.command.Reply.TheVariants.{Batch, Drained, Gat
 use Rattle.dr_seq.specs.declared.event.Event.{Event}
 use Rattle.dr_seq.specs.Event.{no_event}
 use Rattle.dr_seq.proofs.Sizes.{size_positive}
-use Rattle.dr_graph.specs.Graph.{upstreams_of, IsGraph, least_of}
-use Rattle.dr_core.specs.Machine.{State, handlers, is_single, next, available, offered, cursor, batch, unchanged, accepted, step}
-use Rattle.dr_core.specs.CoreView.{Known, Nothing, ClaimedBy, WrittenBy, PublishedWith, CoreView, known_at, retired_in}
-use Rattle.dr_core.specs.Availability.{is_shown, value_of}
-use Rattle.dr_core.specs.Shows.{Shows, Agrees, IsStep, offered_to, poll_reply, polled}
-use Rattle.dr_core.specs.Runs.{count_in}
+use Rattle.dr_graph.specs.Meaning.Graph.{upstreams_of, IsGraph, least_of}
+use Rattle.dr_core.specs.Meaning.Machine.{State, handlers, is_single, next, available, offered, cursor, batch, unchanged, accepted, step}
+use Rattle.dr_core.specs.Calls.CoreView.{Known, Nothing, ClaimedBy, WrittenBy, PublishedWith, CoreView, known_at, retired_in}
+use Rattle.dr_core.specs.Inside.Availability.{is_shown, event_known}
+use Rattle.dr_core.specs.Calls.Shows.{Shows, Agrees, IsStep, offered_to, poll_reply, polled}
+use Rattle.dr_core.specs.Meaning.Runs.{count_in}
 use Rattle.dr_core.specs.declared.refusal.Refusal.{Refusal}
 use Rattle.dr_core.specs.declared.command.Polled.{Polled}
 use Rattle.dr_core.specs.declared.command.Polled.TheVariants as answer
 use Rattle.std.proofs.Common.{Result, Ok, Err}
 use Rattle.std.proofs.lemmas.List.{take-append-le, length-take-le}
-use Rattle.dr_core.specs.Inside.{IsWhole}
+use Rattle.dr_core.specs.Inside.Fields.{IsWhole}
 use Rattle.dr_core.proofs.CoreSteps.{accepted_step}
 use Rattle.dr_core.proofs.Shown.{same_next, same_front, same_taken, same_completed, same_halted, same_retired}
 use Rattle.dr_core.proofs.Leasts.{least_of-le, least_of-member}
@@ -51,7 +51,7 @@ offered_upstream v (x ∷ xs) u has = least_of-member (λ h. slice_index v.compl
 
 -- of a published sequence the event is known
 known_value : (known : Known) (o : ℕ) (b : Bool) (w : Option Event) → b ≡ true → Agrees known o b w
-    → (is_shown known ≡ true) × (value_of known ≡ unwrap_or w no_event)
+    → (is_shown known ≡ true) × (event_known known ≡ unwrap_or w no_event)
 known_value Nothing o b w y h = absurd h
 known_value (ClaimedBy q) o b w y h = absurd (false≢true (sym h.1 ∙ y))
 known_value (WrittenBy q event) o b w y h = absurd (false≢true (sym h.1 ∙ y))
@@ -123,7 +123,7 @@ module _ (v : CoreView) (h limit : ℕ) (whole : IsWhole v) (inside : h < handle
     taken_shows first count m sh = record { counts = λ i. record (sh.counts i) { taken = slice_set (sh.counts i).taken h (first + count) }; flags = sh.flags; recents = sh.recents }
 
     pub batch_step : (first count to : ℕ) (event : ℕ → Event)
-        → ((k : ℕ) → k < v.next → v.next ≤ k + v.setup.size → is_shown (known_at v k) ≡ true → event k ≡ value_of (known_at v k))
+        → ((k : ℕ) → k < v.next → v.next ≤ k + v.setup.size → is_shown (known_at v k) ≡ true → event k ≡ event_known (known_at v k))
         → first ≡ slice_index v.taken h → to ≡ offered_to v (upstreams_of v.setup.upstreams h) → count ≡ min (to - first) limit
         → IsStep v (Poll h limit) (Batch first count (first + count == to)) (map event (range_with_len first count))
         (record v { taken = slice_set v.taken h (first + count) })
@@ -147,7 +147,7 @@ module _ (v : CoreView) (h limit : ℕ) (whole : IsWhole v) (inside : h < handle
             let n : v.front ≤ v.next = whole.front in
             let r : v.next ≤ v.setup.size + slice_index v.completed h = whole.room h inside left in
             let c : slice_index v.completed h ≤ slice_index v.taken h = whole.took h in
-            let there : (is_shown (known_at v k) ≡ true) × (value_of (known_at v k) ≡ unwrap_or (m.written k) no_event) =
+            let there : (is_shown (known_at v k) ≡ true) × (event_known (known_at v k) ≡ unwrap_or (m.written k) no_event) =
             known_value (known_at v k) _ _ _ (below_front v m sh k (omega arith)) (sh.recent k (omega arith) (omega arith)) in
             sym (holds k (omega arith) (omega arith) there.0 ∙ there.1))
 

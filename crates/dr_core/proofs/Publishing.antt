@@ -9,11 +9,11 @@ use Rattle.dr_core.specs.declared.refusal.Refusal.{Refusal}
 use Rattle.dr_core.specs.declared.refusal.Refusal.TheVariants.{NotClaimed, AlreadyPublished, NotWritten, OutOfOrder}
 use Rattle.dr_seq.specs.declared.event.Event.{Event}
 use Rattle.dr_seq.specs.Rounds.{IsFront}
-use Rattle.dr_core.specs.Machine.{State, producers, is_single, next, front, least_outside, refusals, publish_faults}
-use Rattle.dr_core.specs.CoreView.{Known, Nothing, ClaimedBy, WrittenBy, PublishedWith, CoreView, recent_of, known_at}
-use Rattle.dr_core.specs.Availability.{publish_fault, value_of, is_shown}
-use Rattle.dr_core.specs.Shows.{KnowsRecents, Shows, Agrees, IsStep}
-use Rattle.dr_core.specs.Inside.{IsWhole}
+use Rattle.dr_core.specs.Meaning.Machine.{State, producers, is_single, next, front, least_outside, refusals, publish_faults}
+use Rattle.dr_core.specs.Calls.CoreView.{Known, Nothing, ClaimedBy, WrittenBy, PublishedWith, CoreView, recent_of, known_at}
+use Rattle.dr_core.specs.Inside.Availability.{publish_fault, event_known, is_shown}
+use Rattle.dr_core.specs.Calls.Shows.{KnowsRecents, Shows, Agrees, IsStep}
+use Rattle.dr_core.specs.Inside.Fields.{IsWhole}
 use Rattle.dr_core.proofs.Shown.{same_next, same_front}
 use Rattle.dr_core.proofs.Leasts.{least_is, least_one}
 use Rattle.dr_core.proofs.Causes.{first_left, first_right, first_of_stretch}
@@ -81,7 +81,7 @@ module _ (v : CoreView) (p lo hi : ℕ) (whole : IsWhole v) (producer : p < prod
       (inl (and_from _ _ single (let f : front m ≡ v.front = same_front sh in rw f (ap not (ne_eqb lo v.front late))), refl))))
 
 -- what may be published is known with the event that was written
-fault_written : (known : Known) (p o : ℕ) (b : Bool) (w : Option Event) → Agrees known o b w → publish_fault known p ≡ None → w ≡ Some (value_of known)
+fault_written : (known : Known) (p o : ℕ) (b : Bool) (w : Option Event) → Agrees known o b w → publish_fault known p ≡ None → w ≡ Some (event_known known)
 fault_written Nothing p o b w h e = absurd h
 fault_written (ClaimedBy q) p o b w h e = absurd (unwritten_refused (q == p) e)
 fault_written (WrittenBy q event) p o b w h e = h.2
@@ -116,7 +116,7 @@ or-no false c h = h
 
 -- what a publication leaves known: the stretch is published with what was written, and of the others as much as before
 pub record PublishesKnown (v : CoreView) (lo hi : ℕ) (known : ℕ → Known) : Type 0 where
-  pub inside : (k : ℕ) → lo ≤ k → k ≤ hi → known k ≡ PublishedWith (value_of (known_at v k))
+  pub inside : (k : ℕ) → lo ≤ k → k ≤ hi → known k ≡ PublishedWith (event_known (known_at v k))
   pub outside : (k : ℕ) → k < v.next → v.next ≤ k + v.setup.size → (k < lo) ⊎ (hi < k) → known k ≡ known_at v k
 
 module _ (v : CoreView) (p lo hi front' : ℕ) (known : ℕ → Known) (knows : PublishesKnown v lo hi known) (whole : IsWhole v)

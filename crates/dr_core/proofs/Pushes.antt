@@ -5,7 +5,7 @@ use Rattle.std.proofs.lemmas.List.{append-nil}
 use Rattle.std.proofs.lemmas.List.Sums.{fold-append}
 use Rattle.std.proofs.lemmas.List.Folds.{list_any-append}
 use Rattle.std.proofs.lemmas.Grind.{flat_map-append}
-use Rattle.dr_core.specs.Transcript.{Entry, Transcript, claimed_below, next_of, owner_of, claimant, first_of, wrote, covers, is_published, before_published, last_written, batch_to, received_by, completion, completed_by, halts, is_halted, retires, retired_by}
+use Rattle.dr_core.specs.Meaning.Transcript.{Entry, Transcript, claimed_below, next_of, owner_of, claimant, first_of, wrote, covers, is_published, before_published, last_written, batch_to, received_by, completion, completed_by, halts, is_halted, retires, retired_by}
 
 pub or-false : (b : Bool) → (b || false) ≡ b
 or-false true = refl

@@ -13,10 +13,10 @@ use Rattle.dr_core.specs.declared.mode.Mode.{Mode}
 use Rattle.dr_core.specs.declared.mode.Mode.TheVariants.{Single, Multi}
 use Rattle.dr_core.specs.declared.refusal.Refusal.TheVariants.{NotClaimed, NotWritten, AlreadyPublished}
 use Rattle.dr_core.specs.declared.engine.Core.TheInside.{Inside}
-use Rattle.dr_core.specs.Machine.{producers, is_single}
-use Rattle.dr_core.specs.CoreView.{CoreView, known_at}
-use Rattle.dr_core.specs.Availability.{Kept, owner_at, is_published_at, is_written_at, is_ahead, IsNoted, published_after, IsNewFront, known_of, slot_known, stamped, owners_after, HasOwners, write_fault, publish_fault, is_shown, value_of}
-use Rattle.dr_core.specs.Inside.{kept_of, view_of, IsAvailable}
+use Rattle.dr_core.specs.Meaning.Machine.{producers, is_single}
+use Rattle.dr_core.specs.Calls.CoreView.{CoreView, known_at}
+use Rattle.dr_core.specs.Inside.Availability.{KeptBySlot, owner_at, is_published_at, is_written_at, is_ahead, IsNoted, published_after, IsNewFront, known_of, slot_known, stamped, owners_after, HasOwners, write_fault, publish_fault, is_shown, event_known}
+use Rattle.dr_core.specs.Inside.Fields.{kept_of, view_of, IsAvailable}
 use Rattle.dr_core.proofs.Stamped.{length-stamped, stamped-in, stamped-out, marks_none_after, marked-in, marked-out, mark_is}
 use Rattle.dr_core.proofs.Keeps.{zeros}
 use Rattle.dr_core.proofs.CoreSteps.{ClaimsKnown, known_at-recent}
@@ -40,26 +40,26 @@ write_fault-known false true owner p event = refl
 write_fault-known false false owner p event = refl
 
 -- what may be published is known with its slot's event
-value_of-known : (published written : Bool) (owner p : ℕ) (event : Event) → publish_fault (known_of published written owner event) p ≡ None → value_of (known_of published written owner event) ≡ event
-value_of-known true written owner p event e = refl
-value_of-known false true owner p event e = refl
-value_of-known false false owner p event e = absurd (unwritten_refused (owner == p) e)
+event_known-known : (published written : Bool) (owner p : ℕ) (event : Event) → publish_fault (known_of published written owner event) p ≡ None → event_known (known_of published written owner event) ≡ event
+event_known-known true written owner p event e = refl
+event_known-known false true owner p event e = refl
+event_known-known false false owner p event e = absurd (unwritten_refused (owner == p) e)
 
 -- what is shown is known with its slot's event
-value_of-shown : (published written : Bool) (owner : ℕ) (event : Event) → is_shown (known_of published written owner event) ≡ true → event ≡ value_of (known_of published written owner event)
-value_of-shown true written owner event e = refl
-value_of-shown false true owner event e = cc
-value_of-shown false false owner event e = cc
+event_known-shown : (published written : Bool) (owner : ℕ) (event : Event) → is_shown (known_of published written owner event) ≡ true → event ≡ event_known (known_of published written owner event)
+event_known-shown true written owner event e = refl
+event_known-shown false true owner event e = cc
+event_known-shown false false owner event e = cc
 
 is_shown-known : (published written : Bool) (owner : ℕ) (event : Event) → is_shown (known_of published written owner event) ≡ published
 is_shown-known true written owner event = refl
 is_shown-known false true owner event = refl
 is_shown-known false false owner event = refl
 
-pub shown_event : (a : Inside) (s : ℕ) → s < a.next → a.next ≤ s + a.size → is_shown (known_at (view_of a) s) ≡ true → event_at a.events s ≡ value_of (known_at (view_of a) s)
+pub shown_event : (a : Inside) (s : ℕ) → s < a.next → a.next ≤ s + a.size → is_shown (known_at (view_of a) s) ≡ true → event_at a.events s ≡ event_known (known_at (view_of a) s)
 shown_event a s claimed near shown =
     let there : known_at (view_of a) s ≡ slot_known (kept_of a) s = known_there a s claimed near in
-    rw there (value_of-shown (is_published_at (kept_of a) s) (is_written_at (kept_of a) s) (owner_at a.mode a.owners.items s) (event_at a.events s) (rw there at shown))
+    rw there (event_known-shown (is_published_at (kept_of a) s) (is_written_at (kept_of a) s) (owner_at a.mode a.owners.items s) (event_at a.events s) (rw there at shown))
 
 -- the owners after a claim
 owner-in : (mode : Mode) (owners : List ℕ) (size from n p s : ℕ) → HasOwners mode owners size → 0 < size → n ≤ size → from ≤ s → s < from + n → (mode ≡ Single → p ≡ 0) → owner_at mode (owners_after mode owners from n p) s ≡ p
@@ -207,7 +207,7 @@ moves (Multi producers) published size front next lo hi front' len some order cl
       beyond = λ k beyond. marks_none_after published lo (hi + 1 - lo) k (omega arith) (omega arith) (none k beyond);
     }
 
-module _ (v : CoreView) (a : Kept) (kept : (s : ℕ) → s < v.next → v.next ≤ s + v.setup.size → known_at v s ≡ slot_known a s) (available : IsAvailable a v.setup.size v.next) (fronts : a.front ≤ v.next) (some : 0 < v.setup.size) where
+module _ (v : CoreView) (a : KeptBySlot) (kept : (s : ℕ) → s < v.next → v.next ≤ s + v.setup.size → known_at v s ≡ slot_known a s) (available : IsAvailable a v.setup.size v.next) (fronts : a.front ≤ v.next) (some : 0 < v.setup.size) where
   -- a claim touches the owners alone
   pub claims_known : (n p : ℕ) → n ≤ v.setup.size → (a.mode ≡ Single → p ≡ 0) → ClaimsKnown v p n (slot_known (record a { owners = owners_after a.mode a.owners v.next n p }))
   claims_known n p fits one = record {
@@ -233,7 +233,7 @@ module _ (v : CoreView) (a : Kept) (kept : (s : ℕ) → s < v.next → v.next �
 
   -- a write notes its sequence as written
   module _ (p s : ℕ) (x : Event) (filled' : ℕ) (written' : List ℕ) (claimed : s < v.next) (near : v.next ≤ s + v.setup.size) (noted : IsNoted a.filled a.written s filled' written') where
-    abbrev after : Kept
+    abbrev after : KeptBySlot
     after = record a { filled = filled'; written = written'; events = set a.events (s % length a.events) x }
 
     notes : Notes a.filled a.written v.setup.size v.next s filled' written'
@@ -269,7 +269,7 @@ module _ (v : CoreView) (a : Kept) (kept : (s : ℕ) → s < v.next → v.next �
     abbrev marked : List ℕ
     marked = published_after a.mode a.published lo (hi + 1 - lo)
 
-    abbrev shown : Kept
+    abbrev shown : KeptBySlot
     shown = record a { published = marked; front = front'; filled = max a.filled front' }
 
     pub publishes_moves : Moves a.mode a.published marked v.setup.size v.front v.next lo hi front'
@@ -294,7 +294,7 @@ module _ (v : CoreView) (a : Kept) (kept : (s : ℕ) → s < v.next → v.next �
       inside = λ k low high. (let off : lo + (k - lo) ≡ k = omega arith in
           let fine : publish_fault (known_at v k) p ≡ None = rw off at (none (k - lo) (omega arith)) in
           let there : known_at v k ≡ slot_known a k = kept k (omega arith) (omega arith) in
-          let value : value_of (known_at v k) ≡ event_at a.events k = ap value_of there ∙ value_of-known (is_published_at a k) (is_written_at a k) (owner_at a.mode a.owners k) p (event_at a.events k) (rw there at fine) in
+          let value : event_known (known_at v k) ≡ event_at a.events k = ap event_known there ∙ event_known-known (is_published_at a k) (is_written_at a k) (owner_at a.mode a.owners k) p (event_at a.events k) (rw there at fine) in
           let published : is_published_at shown k ≡ true = publishes_moves.inside k low high in
           rw (published, value));
       outside = λ k l round out. same_slot k l round out ∙ sym (kept k l round);

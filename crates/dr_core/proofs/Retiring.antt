@@ -7,12 +7,12 @@ use Rattle.std.proofs.lemmas.List.{get_or_read, get_or-set_same, get_or-set_othe
 use Rattle.dr_core.specs.declared.command.Command.TheVariants.{Retire}
 use Rattle.dr_core.specs.declared.command.Reply.TheVariants.{Retired, Refused}
 use Rattle.dr_core.specs.declared.refusal.Refusal.TheVariants.{NotFinal, LastHandler}
-use Rattle.dr_graph.specs.Graph.{flagged, is_some_left, is_followed, is_final_without}
+use Rattle.dr_graph.specs.Meaning.Graph.{flagged, is_some_left, is_followed, is_final_without}
 use Rattle.dr_graph.proofs.Gating.{found_in, any_agree, followed_agree, final_left, least_rises}
-use Rattle.dr_core.specs.Machine.{State, handlers, retired_with}
-use Rattle.dr_core.specs.CoreView.{CoreView, retired_in, gate_of}
-use Rattle.dr_core.specs.Shows.{Shows, IsStep}
-use Rattle.dr_core.specs.Inside.{IsWhole, IsClaimable}
+use Rattle.dr_core.specs.Meaning.Machine.{State, handlers, retired_with}
+use Rattle.dr_core.specs.Calls.CoreView.{CoreView, retired_in, gate_of}
+use Rattle.dr_core.specs.Calls.Shows.{Shows, IsStep}
+use Rattle.dr_core.specs.Inside.Fields.{IsWhole, IsClaimable}
 use Rattle.dr_core.proofs.CoreSteps.{accepted_step, refused_step, finals_least}
 use Rattle.dr_core.proofs.Gating.{claimable_room}
 use Rattle.dr_core.proofs.Shown.{same_retired}

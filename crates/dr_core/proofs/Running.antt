@@ -5,11 +5,11 @@ use Rattle.dr_core.specs.declared.command.Command.{Command}
 use Rattle.dr_core.specs.declared.command.Command.TheVariants.{Claim, Write, Publish, Poll, Complete, Halt, Retire}
 use Rattle.dr_core.specs.declared.command.Reply.{Reply}
 use Rattle.dr_seq.specs.declared.event.Event.{Event}
-use Rattle.dr_core.specs.Machine.{Setup, State, step, opening}
-use Rattle.dr_core.specs.Transcript.{Transcript, entry_with, LeadsTo}
-use Rattle.dr_core.specs.CoreView.{CoreView}
-use Rattle.dr_core.specs.Shows.{Shows, IsStep}
-use Rattle.dr_core.specs.Runs.{RunsTo, IsReached, transcript_of, count_in, counts_of, offers, needed}
+use Rattle.dr_core.specs.Meaning.Machine.{Setup, State, step, opening}
+use Rattle.dr_core.specs.Meaning.Transcript.{Transcript, entry_with, LeadsTo}
+use Rattle.dr_core.specs.Calls.CoreView.{CoreView}
+use Rattle.dr_core.specs.Calls.Shows.{Shows, IsStep}
+use Rattle.dr_core.specs.Meaning.Runs.{RunsTo, IsReached, transcript_of, count_in, counts_of, offers, needed}
 use Rattle.dr_core.proofs.FiveLaws.{lawful, leads_append}
 
 -- one more command, reply and values are one more entry

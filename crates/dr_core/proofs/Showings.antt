@@ -5,7 +5,7 @@ use Rattle.std.proofs.lemmas.Bool.{and_right, ne_eqb, eq-eqb, cases_eq}
 use Rattle.std.proofs.lemmas.List.{take_more}
 use Rattle.dr_seq.specs.declared.event.Event.{Event}
 use Rattle.dr_seq.specs.Event.{no_event}
-use Rattle.dr_core.specs.Handling.{Showing, showings, Relation, GoesThrough}
+use Rattle.dr_core.specs.Calls.Handling.{Showing, showings, Relation, GoesThrough}
 
 -- one more call
 pub GoesThrough-push : {A : Type 0} (goes : Relation A) (before : A) (shown : List Showing) (between : A) (s : Showing) (after : A) → GoesThrough goes before shown between → goes between s.event s.sequence s.end after → GoesThrough goes before (shown ++ s ∷ []) after

@@ -1,8 +1,8 @@
 -- What a core and a state that it shows have in common.
 use Rattle.std.proofs.Common.{◌≡◌, ℕ, ap}
-use Rattle.dr_core.specs.Machine.{State, next, front}
-use Rattle.dr_core.specs.CoreView.{CoreView, retired_in}
-use Rattle.dr_core.specs.Shows.{Shows}
+use Rattle.dr_core.specs.Meaning.Machine.{State, next, front}
+use Rattle.dr_core.specs.Calls.CoreView.{CoreView, retired_in}
+use Rattle.dr_core.specs.Calls.Shows.{Shows}
 
 module _ {v : CoreView} {m : State} (sh : Shows v m) where
   pub same_next : next m ≡ v.next

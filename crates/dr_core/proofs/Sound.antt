@@ -13,10 +13,10 @@ use Rattle.dr_core.specs.declared.command.Reply.{Reply}
 use Rattle.dr_core.specs.declared.command.Reply.TheVariants.{Claimed, Drained, Gating, Idle, Refused}
 use Rattle.dr_seq.specs.declared.event.Event.{Event}
 use Rattle.dr_seq.specs.Event.{no_event}
-use Rattle.dr_graph.specs.Graph.{upstreams_of, least_of, IsOrderly}
-use Rattle.dr_core.specs.Machine.{Setup, State, Outcome, handlers, next, front, available, offered, refusals, accepted, step, batch, cursor}
-use Rattle.dr_core.specs.Transcript.{Entry, claimed_below, claimant, first_of, wrote, covers, batch_to, completion, halts, retires}
-use Rattle.dr_core.specs.Inside.{AreInOrder}
+use Rattle.dr_graph.specs.Meaning.Graph.{upstreams_of, least_of, IsOrderly}
+use Rattle.dr_core.specs.Meaning.Machine.{Setup, State, Outcome, handlers, next, front, available, offered, refusals, accepted, step, batch, cursor}
+use Rattle.dr_core.specs.Meaning.Transcript.{Entry, claimed_below, claimant, first_of, wrote, covers, batch_to, completion, halts, retires}
+use Rattle.dr_core.specs.Inside.Fields.{AreInOrder}
 use Rattle.dr_core.proofs.Leasts.{least_is, least_of-le}
 use Rattle.dr_core.proofs.Pushes.{or-false}
 use Rattle.dr_core.proofs.Steps.{NoneHold, unless-cases}

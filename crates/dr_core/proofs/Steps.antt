@@ -5,8 +5,8 @@ use Rattle.std.specs.List.{range_with_len}
 use Rattle.std.proofs.lemmas.Bool.{cond_both, cond-true, cond-false}
 use Rattle.dr_core.specs.declared.refusal.Refusal.{Refusal}
 use Rattle.dr_core.specs.declared.command.Reply.TheVariants.{Refused}
-use Rattle.dr_core.specs.Refusals.{NoneHolds, IsFirst}
-use Rattle.dr_core.specs.Machine.{State, Outcome, unless, unchanged}
+use Rattle.dr_core.specs.Meaning.Refusals.{NoneHolds, IsFirst}
+use Rattle.dr_core.specs.Meaning.Machine.{State, Outcome, unless, unchanged}
 use Rattle.dr_core.proofs.Causes.{none_join, none_of_stretch}
 
 -- the machine knows of each test whether it holds

@@ -4,9 +4,9 @@ use Rattle.std.specs.Prelude.{slice_get}
 use Rattle.std.proofs.lemmas.Bool.{cases_Bool, or_cases, false≢true, cases_lt}
 use Rattle.std.proofs.lemmas.List.{length-append}
 use Rattle.std.proofs.Math.Nat.{suc-add}
-use Rattle.dr_core.specs.Machine.{State, next}
-use Rattle.dr_core.specs.Tells.{Tells}
-use Rattle.dr_core.specs.Transcript.{Entry, Transcript, claimed_below, claimant, first_of, wrote, covers, last_written, event_of, batch_to, received_by, completion, halts, retires}
+use Rattle.dr_core.specs.Meaning.Machine.{State, next}
+use Rattle.dr_core.specs.Meaning.Tells.{Tells}
+use Rattle.dr_core.specs.Meaning.Transcript.{Entry, Transcript, claimed_below, claimant, first_of, wrote, covers, last_written, event_of, batch_to, received_by, completion, halts, retires}
 use Rattle.dr_core.proofs.Pushes.{next_push, owner_push, published_push, halted_push, retired_push, written_push, received_push, completed_push, before_kept, before_now}
 
 -- a state that differs by what the entry says

@@ -3,11 +3,11 @@ use Rattle.std.proofs.Common.{◌≡◌, ◌≤◌, ◌∙◌, List, ap, sym, su
 use Rattle.dr_seq.specs.declared.event.Event.{Event}
 use Rattle.dr_core.specs.declared.command.Command.{Command}
 use Rattle.dr_core.specs.declared.command.Reply.{Reply}
-use Rattle.dr_core.specs.Machine.{State, handlers, next, front}
-use Rattle.dr_core.specs.CoreView.{CoreView}
-use Rattle.dr_core.specs.Shows.{Counts, Flags, Shows, IsStep}
-use Rattle.dr_core.specs.Runs.{RunsTo, IsReached}
-use Rattle.dr_core.specs.Inside.{IsSetup, AreInOrder, AreInBounds, IsWhole}
+use Rattle.dr_core.specs.Meaning.Machine.{State, handlers, next, front}
+use Rattle.dr_core.specs.Calls.CoreView.{CoreView}
+use Rattle.dr_core.specs.Calls.Shows.{Counts, Flags, Shows, IsStep}
+use Rattle.dr_core.specs.Meaning.Runs.{RunsTo, IsReached}
+use Rattle.dr_core.specs.Inside.Fields.{IsSetup, AreInOrder, AreInBounds, IsWhole}
 use Rattle.dr_core.proofs.Leasts.{least_is}
 use Rattle.dr_core.proofs.Sound.{IsSound}
 use Rattle.dr_core.proofs.FiveLaws.{reached}

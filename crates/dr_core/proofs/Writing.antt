@@ -7,11 +7,11 @@ use Rattle.dr_core.specs.declared.command.Reply.TheVariants.{Written, Refused}
 use Rattle.dr_core.specs.declared.refusal.Refusal.{Refusal}
 use Rattle.dr_core.specs.declared.refusal.Refusal.TheVariants.{NotClaimed, AlreadyPublished, NotWritten}
 use Rattle.dr_seq.specs.declared.event.Event.{Event}
-use Rattle.dr_core.specs.Machine.{State, producers, next, front, accepted}
-use Rattle.dr_core.specs.CoreView.{Known, Nothing, ClaimedBy, WrittenBy, PublishedWith, CoreView, recent_of, known_at}
-use Rattle.dr_core.specs.Availability.{write_fault}
-use Rattle.dr_core.specs.Shows.{KnowsRecents, Shows, Agrees, IsStep}
-use Rattle.dr_core.specs.Inside.{IsWhole}
+use Rattle.dr_core.specs.Meaning.Machine.{State, producers, next, front, accepted}
+use Rattle.dr_core.specs.Calls.CoreView.{Known, Nothing, ClaimedBy, WrittenBy, PublishedWith, CoreView, recent_of, known_at}
+use Rattle.dr_core.specs.Inside.Availability.{write_fault}
+use Rattle.dr_core.specs.Calls.Shows.{KnowsRecents, Shows, Agrees, IsStep}
+use Rattle.dr_core.specs.Inside.Fields.{IsWhole}
 use Rattle.dr_core.proofs.Shown.{same_next, same_front}
 use Rattle.dr_core.proofs.Leasts.{least_is}
 use Rattle.dr_core.proofs.Steps.{Refuses}

@@ -1,7 +1,7 @@
 //! What is asked of an exchange, and what it answers.
 
 ghost use Rattle.std.specs.Prelude.{◌≡◌};
-ghost use Rattle.dr_core.specs.Runs.{count_in};
+ghost use Rattle.dr_core.specs.Meaning.Runs.{count_in};
 
 use crate::refusal::Refusal;
 use dr_seq::Event;

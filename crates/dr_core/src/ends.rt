@@ -1,8 +1,8 @@
 //! The ends of an exchange, as those use them who need not know which exchange it is.
 
 ghost use Rattle.std.specs.Prelude.{◌≡◌, ◌||◌, ℕ, Bool, Option, None};
-ghost use Rattle.dr_core.specs.Trouble.{number_of, name_of};
-ghost use Rattle.dr_core.specs.Ends.{Sent, Received, ClaimAnswers, WriteAnswers, PublishAnswers, PollAnswers, CompleteAnswers, is_drained, WhereShown, Claims, Writes, Publishes, Takes, Completes};
+ghost use Rattle.dr_core.specs.Calls.Trouble.{number_of, name_of};
+ghost use Rattle.dr_core.specs.Calls.Ends.{Sent, Received, ClaimAnswers, WriteAnswers, PublishAnswers, PollAnswers, CompleteAnswers, is_drained, WhereShown, Claims, Writes, Publishes, Takes, Completes};
 ghost use Rattle.dr_core.specs.declared.ends.Trouble.TheVariants.{Refused};
 
 use crate::command::{Claimed, Polled};

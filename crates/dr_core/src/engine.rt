@@ -1,13 +1,13 @@
 //! The core: the exchange on one thread.
 
 ghost use Rattle.std.specs.Prelude.{◌≡◌, ◌↔◌, ◌^◌, ◌<◌, Err, IfOk, IfErr, ◌≤◌, true, false, not, slice_index};
-ghost use Rattle.dr_core.specs.Availability.{HasOwners};
-ghost use Rattle.dr_core.specs.CoreView.{retired_in};
-ghost use Rattle.dr_core.specs.Inside.{IsOpened};
-ghost use Rattle.dr_core.specs.Machine.{opening, handlers, producers as producers_of, setup_of};
-ghost use Rattle.dr_core.specs.OpenFault.{has_bad_producers, is_bad_limit};
-ghost use Rattle.dr_core.specs.Runs.{IsReached};
-ghost use Rattle.dr_core.specs.Shows.{Shows};
+ghost use Rattle.dr_core.specs.Inside.Availability.{HasOwners};
+ghost use Rattle.dr_core.specs.Calls.CoreView.{retired_in};
+ghost use Rattle.dr_core.specs.Inside.Fields.{IsOpened};
+ghost use Rattle.dr_core.specs.Meaning.Machine.{opening, handlers, producers as producers_of, setup_of};
+ghost use Rattle.dr_core.specs.Calls.OpenFault.{has_bad_producers, is_bad_limit};
+ghost use Rattle.dr_core.specs.Meaning.Runs.{IsReached};
+ghost use Rattle.dr_core.specs.Calls.Shows.{Shows};
 
 use crate::engine::retiring::flag_gating;
 use crate::mode::Mode;
@@ -60,11 +60,11 @@ pub struct Core {
 }
 
 impl Model for Core {
-    ghost use Rattle.dr_core.specs.CoreView.{CoreView};
+    ghost use Rattle.dr_core.specs.Calls.CoreView.{CoreView};
 
     ghost Value = { CoreView };
 
-    ghost use Rattle.dr_core.specs.Inside.{view_of, IsKept};
+    ghost use Rattle.dr_core.specs.Inside.Fields.{view_of, IsKept};
 
     ghost view = { view_of };
 

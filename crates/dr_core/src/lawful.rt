@@ -2,18 +2,18 @@
 //! contracts are the theorems.
 
 ghost use Rattle.std.specs.Prelude.{ℕ, ◌≤◌, ◌++◌, ◌∷◌, [], List};
-ghost use Rattle.dr_graph.specs.Graph.{IsLayered};
+ghost use Rattle.dr_graph.specs.Meaning.Graph.{IsLayered};
 ghost use Rattle.dr_seq.specs.declared.event.Event.{Event};
 ghost use Rattle.dr_core.specs.declared.command.Command.{Command};
 ghost use Rattle.dr_core.specs.declared.command.Command.TheVariants.{Retire};
 ghost use Rattle.dr_core.specs.declared.command.Reply.{Reply};
-ghost use Rattle.dr_core.specs.CoreView.{CoreView};
-ghost use Rattle.dr_core.specs.Machine.{Setup, State, gate, step};
-ghost use Rattle.dr_core.specs.Runs.{RunsTo};
-ghost use Rattle.dr_core.specs.Shows.{IsStep};
-ghost use Rattle.dr_core.specs.Transcript.{Transcript, entry_with, LeadsTo};
-ghost use Rattle.dr_core.specs.Laws.{Laws};
-ghost use Rattle.dr_core.specs.Tells.{Tells};
+ghost use Rattle.dr_core.specs.Calls.CoreView.{CoreView};
+ghost use Rattle.dr_core.specs.Meaning.Machine.{Setup, State, gate, step};
+ghost use Rattle.dr_core.specs.Meaning.Runs.{RunsTo};
+ghost use Rattle.dr_core.specs.Calls.Shows.{IsStep};
+ghost use Rattle.dr_core.specs.Meaning.Transcript.{Transcript, entry_with, LeadsTo};
+ghost use Rattle.dr_core.specs.Meaning.Laws.{Laws};
+ghost use Rattle.dr_core.specs.Meaning.Tells.{Tells};
 
 /// Every transcript that leads from the opening to a state of the machine has the five laws, at
 /// each of its beginnings.

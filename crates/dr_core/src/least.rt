@@ -1,6 +1,6 @@
 //! The least of some handlers' counts.
 
-ghost use Rattle.dr_graph.specs.Graph.{flagged, least_of};
+ghost use Rattle.dr_graph.specs.Meaning.Graph.{flagged, least_of};
 ghost use Rattle.std.specs.List.{range_with_len};
 ghost use Rattle.std.specs.Prelude.{◌≡◌, ◌<◌, ℕ, min, if◌then◌else◌, length, map, filter, slice_index, All};
 

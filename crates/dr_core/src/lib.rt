@@ -1,6 +1,6 @@
 //! The exchange of events: what it means, and the core that does it on one thread.
 //!
-//! Begin with `specs/`: `Machine` says what each call answers and leaves, `Transcript` what a list
+//! Begin with the room `specs/Meaning`: `Machine` says what each call answers and leaves, `Transcript` what a list
 //! of calls and answers says of each sequence and each handler, and `Laws` what holds of every
 //! transcript. [`every_transcript_is_lawful`] is that theorem, and [`run`] has it for a [`Core`].
 //! [`every_transcript_tells_its_state`] ties what transcripts say to the machine's state, and

@@ -1,8 +1,8 @@
 //! Who may claim.
 
 ghost use Rattle.std.specs.Prelude.{◌≡◌, not};
-ghost use Rattle.dr_core.specs.Machine.{is_single as is_single_of, producers as producers_of};
-ghost use Rattle.dr_core.specs.OpenFault.{has_bad_producers};
+ghost use Rattle.dr_core.specs.Meaning.Machine.{is_single as is_single_of, producers as producers_of};
+ghost use Rattle.dr_core.specs.Calls.OpenFault.{has_bad_producers};
 
 /// The most producers of an exchange.
 pub const MAX_PRODUCERS: u64 = 16;

@@ -1,7 +1,7 @@
 //! Why an exchange is not opened.
 
 ghost use Rattle.std.specs.Prelude.{◌≡◌};
-ghost use Rattle.dr_core.specs.OpenFault.{number_of, name_of};
+ghost use Rattle.dr_core.specs.Calls.OpenFault.{number_of, name_of};
 ghost use Rattle.dr_core.specs.declared.open_fault.OpenFault.TheVariants.{NoMemory};
 
 use std::alloc::{AllocError, AllocFailed};

@@ -1,7 +1,7 @@
 //! Why a call is refused.
 
 ghost use Rattle.std.specs.Prelude.{◌≡◌};
-ghost use Rattle.dr_core.specs.Refusal.{number_of, name_of};
+ghost use Rattle.dr_core.specs.Calls.Refusal.{number_of, name_of};
 
 use thiserror::Error;
 

@@ -1,10 +1,10 @@
 //! Whole lists of commands.
 
 ghost use Rattle.std.specs.Prelude.{◌≡◌, ◌++◌, ◌^◌, ◌≤◌, length, OnErr, IfOk, MatchOption};
-ghost use Rattle.dr_core.specs.Machine.{State};
-ghost use Rattle.dr_core.specs.Transcript.{Transcript, LeadsTo};
-ghost use Rattle.dr_core.specs.Runs.{RunsTo, transcript_of, counts_of, needed, offers};
-ghost use Rattle.dr_core.specs.Shows.{Shows};
+ghost use Rattle.dr_core.specs.Meaning.Machine.{State};
+ghost use Rattle.dr_core.specs.Meaning.Transcript.{Transcript, LeadsTo};
+ghost use Rattle.dr_core.specs.Meaning.Runs.{RunsTo, transcript_of, counts_of, needed, offers};
+ghost use Rattle.dr_core.specs.Calls.Shows.{Shows};
 
 use crate::command::{Command, Reply};
 use crate::engine::Core;

@@ -4,7 +4,7 @@ use Rattle.std.specs.List.{list_all}
 use Rattle.std.proofs.lemmas.Bool.{cases_Bool, le-ltb, lt-ltb}
 use Rattle.std.proofs.lemmas.List.{drop_all}
 use Rattle.std.specs.Prelude.{cond}
-use Rattle.dr_files.specs.Numbers.{is_digit, number_of}
+use Rattle.dr_files.specs.Numbers.{is_digit, number_in}
 
 -- the number that bytes say after digits of value n
 abbrev pub number_from : ℕ → List ℕ → Option ℕ
@@ -31,13 +31,13 @@ whole n (b ∷ bs) = elim (cases_Bool (is_digit b)) [
   | inr other ↦ rw other refl
 ]
 
-digits : (bs : List ℕ) → 0 < length bs → number_of bs ≡ number_from 0 bs
+digits : (bs : List ℕ) → 0 < length bs → number_in bs ≡ number_from 0 bs
 digits [] h = absurd (omega arith)
 digits (b ∷ bs) h = sym (whole 0 (b ∷ bs))
 
 -- a digit that passes the bound
 pub over : (field : List ℕ) (n i : ℕ) → number_from 0 field ≡ number_from n (drop i field) → i < length field → is_digit (get_or field i 0) ≡ true
-    → 2 ^ 64 ≤ n * 10 + (get_or field i 0 - 48) → None ≡ number_of field
+    → 2 ^ 64 ≤ n * 10 + (get_or field i 0 - 48) → None ≡ number_in field
 over field n i inv lt digit large =
     let some : 0 < length field = omega arith in
     let cut : drop i field ≡ get_or field i 0 ∷ drop (suc i) field = drop-cons field i 0 lt in
@@ -45,7 +45,7 @@ over field n i inv lt digit large =
     sym (digits field some ∙ inv ∙ ap (number_from n) cut ∙ next)
 
 -- the end of the digits
-pub ended : (field : List ℕ) (n i : ℕ) → number_from 0 field ≡ number_from n (drop i field) → length field ≤ i → 0 < length field → n < 2 ^ 64 → Some n ≡ number_of field
+pub ended : (field : List ℕ) (n i : ℕ) → number_from 0 field ≡ number_from n (drop i field) → length field ≤ i → 0 < length field → n < 2 ^ 64 → Some n ≡ number_in field
 ended field n i inv end some fits =
     let cut : drop i field ≡ [] = drop_all i field end in
     let last : number_from n [] ≡ Some n = rw (lt-ltb n (2 ^ 64) fits) refl in

@@ -15,9 +15,9 @@ abbrev pub one_more : ℕ → ℕ
 one_more n = if nat_lt n (2 ^ 64 - 1) then n + 1 else n
 
 -- a call that failed counts
-abbrev pub Counts : {A E : Type 0} → Result A E → ℕ → ℕ → Type 0
-Counts (Ok x) old new = new ≡ old
-Counts (Err e) old new = new ≡ one_more old
+abbrev pub CountsCall : {A E : Type 0} → Result A E → ℕ → ℕ → Type 0
+CountsCall (Ok x) old new = new ≡ old
+CountsCall (Err e) old new = new ≡ one_more old
 
 -- a write that failed counts, and so does one that took nothing of a piece
 abbrev pub CountsWrite : {E : Type 0} → Result ℕ E → List ℕ → ℕ → ℕ → Type 0

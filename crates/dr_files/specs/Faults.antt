@@ -1,6 +1,6 @@
 -- How a run over a file ends early: the line of each fault, without its end, and the status.
 use Rattle.std.specs.Prelude.{ℕ, List, ◌++◌, codes, decimal}
-use Rattle.dr_graph.specs.Fault.{fault_name}
+use Rattle.dr_graph.specs.Calls.Fault.{fault_name}
 use Rattle.dr_files.specs.declared.fault.Cause.{Cause}
 use Rattle.dr_files.specs.declared.fault.Cause.TheVariants.{NoRing, BadRecord, BadSize, BadProducers, BadLimit, NoGroup, Graph, NoStart}
 use Rattle.dr_files.specs.declared.fault.FileFault.{FileFault}

@@ -11,6 +11,6 @@ abbrev pub value_of : List ℕ → ℕ
 value_of digits = fold (λ n digit. n * 10 + (digit - 48)) 0 digits
 
 -- the number of a field, if it is one
-abbrev pub number_of : List ℕ → Option ℕ
-number_of [] = None
-number_of (byte ∷ bytes) = if list_all is_digit (byte ∷ bytes) && nat_lt (value_of (byte ∷ bytes)) (2 ^ 64) then Some (value_of (byte ∷ bytes)) else None
+abbrev pub number_in : List ℕ → Option ℕ
+number_in [] = None
+number_in (byte ∷ bytes) = if list_all is_digit (byte ∷ bytes) && nat_lt (value_of (byte ∷ bytes)) (2 ^ 64) then Some (value_of (byte ∷ bytes)) else None

@@ -44,9 +44,9 @@ FaultWrites fault.Read old new said = Keeps old new
 FaultWrites fault.Write old new said = AreCut old new said.lines
 
 -- a run that succeeds writes all lines of a file without a fault
-abbrev pub Writes : {A : Type 0} → Result A FileFault → Option (List ℕ) → Option (List ℕ) → Said → Type 0
-Writes (Ok done) old new said = (said.fault ≡ None) × Appends old new (joined said.lines)
-Writes (Err e) old new said = FaultWrites e old new said
+abbrev pub RunWrites : {A : Type 0} → Result A FileFault → Option (List ℕ) → Option (List ℕ) → Said → Type 0
+RunWrites (Ok done) old new said = (said.fault ≡ None) × Appends old new (joined said.lines)
+RunWrites (Err e) old new said = FaultWrites e old new said
 
 -- a fault of reading is answered with nothing written, whatever the reader shows
 abbrev pub ReadFaultKeeps : FileFault → Option (List ℕ) → Option (List ℕ) → Type 0

@@ -3,7 +3,7 @@
 ghost use Rattle.std.specs.Prelude.{◌≡◌, ◌<◌, nat_lt};
 ghost use Rattle.std.specs.Io.{ReadsAtMost, WritesAtMost};
 ghost use Rattle.std.specs.Io.KnownBytes.{Keeps, ReadConsumes, WriteAppends};
-ghost use Rattle.dr_files.specs.Counting.{Counts, CountsWrite, faults_of, inner_of, one_more};
+ghost use Rattle.dr_files.specs.Counting.{CountsCall, CountsWrite, faults_of, inner_of, one_more};
 
 use std::io;
 use std::io::{Read, Write};
@@ -63,7 +63,7 @@ impl<R: Read> Read for Counted<R> {
     fn read(&mut self, buf: &mut [u8]) -> io::Result<usize>
         ensures bound { ReadsAtMost result buf.new }
         ensures bytes { ReadConsumes (R.remaining (inner_of self.old)) (R.remaining (inner_of self.new)) result buf.new }
-        ensures counted { Counts result (faults_of self.old) (faults_of self.new) }
+        ensures counted { CountsCall result (faults_of self.old) (faults_of self.new) }
         ensures spent { 0 < faults_of self.old → inner_of self.new ≡ inner_of self.old }
     {
         if self.has_failed() {
@@ -107,7 +107,7 @@ impl<W: Write> Write for Counted<W> {
 
     fn flush(&mut self) -> io::Result<()>
         ensures bytes { Keeps (W.contents (inner_of self.old)) (W.contents (inner_of self.new)) }
-        ensures counted { Counts result (faults_of self.old) (faults_of self.new) }
+        ensures counted { CountsCall result (faults_of self.old) (faults_of self.new) }
         ensures spent { 0 < faults_of self.old → inner_of self.new ≡ inner_of self.old }
     {
         if self.has_failed() {

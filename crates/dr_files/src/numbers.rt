@@ -1,7 +1,7 @@
 //! Numbers, read from bytes.
 
 ghost use Rattle.std.specs.Prelude.{◌≡◌};
-ghost use Rattle.dr_files.specs.Numbers.{number_of as number_in};
+ghost use Rattle.dr_files.specs.Numbers.{number_in};
 
 /// The number of a field: one or more decimal digits, of a value below 2^64. Leading zeros are
 /// allowed, a sign is not. The rule is this project's own.

@@ -37,8 +37,8 @@ use Rattle.std.specs.Prelude.{Option, is_some}
 use Rattle.std.specs.Str.{bytes_eq}
 use Rattle.std.specs.String.{string_bytes, string_eq}
 use Rattle.indexmap.specs.IndexSet.{insert_key}
-use Rattle.dr_graph.specs.Declaration.{name_fault}
-use Rattle.dr_graph.specs.Name.{Name, texts, is_good_name, is_named, new_names}
+use Rattle.dr_graph.specs.Meaning.Declaration.{name_fault}
+use Rattle.dr_graph.specs.Meaning.Name.{Name, texts, is_good_name, is_named, new_names}
 use Rattle.dr_graph.specs.declared.fault.GraphFault.{GraphFault}
 use Rattle.dr_graph.proofs.Naming.{any_map, none_fault, nothing, or_none}
 use Rattle.dr_graph.proofs.NewNames.{new_skips, new_grows, new_none}

@@ -7,8 +7,8 @@ use Rattle.std.proofs.lemmas.Grind.{common_steps}
 use Rattle.std.specs.Prelude.{Contains, slice_index_or}
 use Rattle.std.specs.List.Sorted.{IsStrictlyIncreasing}
 use Rattle.dr_graph.specs.declared.edge.Edge.{Edge}
-use Rattle.dr_graph.specs.Order.{IsBuiltOrder}
-use Rattle.dr_graph.specs.Graph.{AreChosen, AreLists, IsLayered, leads_to, upstreams_of}
+use Rattle.dr_graph.specs.Meaning.Order.{IsBuiltOrder}
+use Rattle.dr_graph.specs.Meaning.Graph.{AreChosen, AreLists, IsLayered, leads_to, upstreams_of}
 use Rattle.dr_graph.proofs.Orders.{upstream_earlier}
 
 pub chosen_none : (choose : ℕ → Bool) → AreChosen choose 0 []

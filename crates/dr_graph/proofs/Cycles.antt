@@ -3,7 +3,7 @@ use Rattle.std.proofs.Common.{◌≡◌, ◌⊎◌, ℕ, zero, suc, ◌+◌, ◌
 use Rattle.std.proofs.lemmas.Bool.{false≢true, eqb-true, eq-eqb, ne_eqb, cases_Bool, or_cases, or_left}
 use Rattle.std.specs.Prelude.{◌==◌, ◌||◌}
 use Rattle.dr_graph.specs.declared.edge.Edge.{Edge}
-use Rattle.dr_graph.specs.Order.{is_in, is_upstream, IsPath, HasCycle}
+use Rattle.dr_graph.specs.Meaning.Order.{is_in, is_upstream, IsPath, HasCycle}
 use Rattle.dr_graph.proofs.Spare.{spare, spare_falls}
 
 -- a path that comes by a handler has a beginning that ends there

@@ -34,10 +34,10 @@ use Rattle.std.proofs.lemmas.List.Folds.{list_any-append}
 use Rattle.std.specs.Prelude.{◌==◌, ◌&&◌, ◌||◌}
 use Rattle.std.specs.List.{list_all, range_with_len}
 use Rattle.dr_graph.specs.declared.edge.Edge.{Edge}
-use Rattle.dr_graph.specs.Name.{Name, texts, given, AreDistinct, is_named, number_of}
-use Rattle.dr_graph.specs.Order.{is_upstream, AreWithin}
-use Rattle.dr_graph.specs.Declaration.{Declaration, name_faults, edges_to, edges_between}
-use Rattle.dr_graph.specs.KeptBuilder.{IsDeclaration}
+use Rattle.dr_graph.specs.Meaning.Name.{Name, texts, given, AreDistinct, is_named, index_of}
+use Rattle.dr_graph.specs.Meaning.Order.{is_upstream, AreWithin}
+use Rattle.dr_graph.specs.Meaning.Declaration.{Declaration, name_faults, edges_to, edges_between}
+use Rattle.dr_graph.specs.Inside.KeptBuilder.{IsDeclaration}
 use Rattle.dr_graph.proofs.Adding.{text}
 use Rattle.dr_graph.proofs.NewNames.{distinct_new, new_all}
 use Rattle.dr_graph.proofs.Places.{place_named}
@@ -91,19 +91,19 @@ within_push count edges e old up down = within_append count edges (e ∷ []) old
 
 -- the places of declared names lie within
 within_to : (declared group : List Name) (count down : ℕ) → list_all (is_named declared) group ≡ true → length declared ≤ count → down < count
-    → AreWithin count (edges_to (map (number_of declared) group) down)
+    → AreWithin count (edges_to (map (index_of declared) group) down)
 within_to declared [] count down all le lt = within_none count
 within_to declared (n ∷ group) count down all le lt =
     let parts : (is_named declared n ≡ true) × (list_all (is_named declared) group ≡ true) =
     and_parts (is_named declared n) (list_all (is_named declared) group) all in
-    let place : number_of declared n < length declared = place_named declared n parts.0 in
-    within_cons count (record { up = number_of declared n; down = down }) (edges_to (map (number_of declared) group) down) (omega arith) lt (within_to declared group count down parts.1 le lt)
+    let place : index_of declared n < length declared = place_named declared n parts.0 in
+    within_cons count (record { up = index_of declared n; down = down }) (edges_to (map (index_of declared) group) down) (omega arith) lt (within_to declared group count down parts.1 le lt)
 
 pub within_between : (declared group : List Name) (count first more : ℕ) → list_all (is_named declared) group ≡ true → length declared ≤ count
-    → first + more ≤ count → AreWithin count (edges_between (map (number_of declared) group) (range_with_len first more))
+    → first + more ≤ count → AreWithin count (edges_between (map (index_of declared) group) (range_with_len first more))
 within_between declared group count first zero all le room = within_none count
 within_between declared group count first (suc more) all le room =
-    within_append count (edges_to (map (number_of declared) group) first) (edges_between (map (number_of declared) group) (range_with_len (first + 1) more))
+    within_append count (edges_to (map (index_of declared) group) first) (edges_between (map (index_of declared) group) (range_with_len (first + 1) more))
     (within_to declared group count first all le (omega arith))
     (within_between declared group count (first + 1) more all le (omega arith))
 
@@ -117,11 +117,11 @@ room_of keys names room =
 -- the edges of a declaration that a group's followers join
 pub followed_within : (d : Declaration) (group more : List Name) (all shown : List Edge) (places ups : List ℕ) (first end : ℕ) → IsDeclaration d
     → list_all (is_named d.names) group ≡ true → first ≡ length d.names → end ≡ first + length more → shown ≡ d.edges → ups ≡ places
-    → places ≡ map (number_of d.names) group → all ≡ shown ++ edges_between ups (range_with_len first (end - first))
+    → places ≡ map (index_of d.names) group → all ≡ shown ++ edges_between ups (range_with_len first (end - first))
     → AreWithin (length d.names + length more) all
 followed_within d group more all shown places ups first end old known begins ends same_edges same_places numbered whole =
     let count : ℕ = length d.names + length more in
-    let numbers : ups ≡ map (number_of d.names) group = same_places ∙ numbered in
+    let numbers : ups ≡ map (index_of d.names) group = same_places ∙ numbered in
     subst (λ (es : List Edge). AreWithin count es) (sym (whole ∙ ap (λ (es : List Edge). es ++ edges_between ups (range_with_len first (end - first))) same_edges))
     (within_append count d.edges (edges_between ups (range_with_len first (end - first)))
     (within_more (length d.names) count d.edges old.within (omega arith))

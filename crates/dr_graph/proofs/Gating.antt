@@ -37,7 +37,7 @@ use Rattle.std.proofs.lemmas.List.{get_or-map, length-map}
 use Rattle.std.proofs.lemmas.List.Elements.{filter-append, filter_agree, Contains-append_left, Contains-push}
 use Rattle.std.specs.Prelude.{Contains, ◌==◌, ◌&&◌, not, cond, get_or, ◌⊎◌}
 use Rattle.std.specs.List.{list_any, range_with_len}
-use Rattle.dr_graph.specs.Graph.{
+use Rattle.dr_graph.specs.Meaning.Graph.{
   upstreams_of,
   is_followed,
   is_final_without,
@@ -50,7 +50,7 @@ use Rattle.dr_graph.specs.Graph.{
   LeastGates,
   LeastRises,
 }
-use Rattle.dr_graph.specs.Order.{is_in}
+use Rattle.dr_graph.specs.Meaning.Order.{is_in}
 use Rattle.dr_graph.proofs.Following.{range_more}
 
 -- a number that a test finds stands in the list

@@ -1,7 +1,7 @@
 -- Groups that are made of names.
 use Rattle.std.proofs.Common.{◌≡◌, ◌<◌, List, [], ◌∷◌, ◌++◌, length, arith}
-use Rattle.dr_graph.specs.Name.{Name, AreDistinct, new_names}
-use Rattle.dr_graph.specs.KeptGroup.{IsGroup}
+use Rattle.dr_graph.specs.Meaning.Name.{Name, AreDistinct, new_names}
+use Rattle.dr_graph.specs.Inside.KeptGroup.{IsGroup}
 use Rattle.dr_graph.proofs.NewNames.{distinct_new, new_some, new_distinct}
 
 none_distinct : AreDistinct []

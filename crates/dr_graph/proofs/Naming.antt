@@ -39,8 +39,8 @@ use Rattle.std.specs.List.{list_any}
 use Rattle.std.specs.Str.{bytes_eq}
 use Rattle.dr_graph.specs.declared.fault.GraphFault.{GraphFault}
 use Rattle.dr_graph.specs.declared.fault.GraphFault.TheVariants.{BadName, Duplicate}
-use Rattle.dr_graph.specs.Name.{Name, is_named, is_good_name}
-use Rattle.dr_graph.specs.Declaration.{name_fault, name_faults}
+use Rattle.dr_graph.specs.Meaning.Name.{Name, is_named, is_good_name}
+use Rattle.dr_graph.specs.Meaning.Declaration.{name_fault, name_faults}
 
 -- a test of what is made of each value
 pub list_any-map : {X Z : Type 0} (p : X → Bool) (h : Z → X) (zs : List Z) → list_any p (map h zs) ≡ list_any (λ z. p (h z)) zs

@@ -32,8 +32,8 @@ use Rattle.std.proofs.lemmas.List.Quantifiers.{all_pairs_push}
 use Rattle.std.proofs.lemmas.Slice.Eq.{bytes_eq-Decides}
 use Rattle.std.specs.Prelude.{◌≢◌, ◌||◌, slice_index_or}
 use Rattle.std.specs.Str.{bytes_eq}
-use Rattle.dr_graph.specs.Name.{Name, is_named, AreDistinct, new_names}
-use Rattle.dr_graph.specs.Declaration.{name_faults}
+use Rattle.dr_graph.specs.Meaning.Name.{Name, is_named, AreDistinct, new_names}
+use Rattle.dr_graph.specs.Meaning.Declaration.{name_faults}
 use Rattle.dr_graph.proofs.Naming.{free_next}
 
 same_name : (m n : Name) → bytes_eq m n ≡ true → m ≡ n

@@ -50,7 +50,7 @@ use Rattle.std.proofs.lemmas.List.Folds.{list_any-append}
 use Rattle.std.specs.Prelude.{◌==◌, ◌||◌, ◌&&◌, not}
 use Rattle.std.specs.List.{list_all}
 use Rattle.dr_graph.specs.declared.edge.Edge.{Edge}
-use Rattle.dr_graph.specs.Order.{is_in, is_upstream, is_ready, IsPath, HasCycle, AreWithin, IsNext, IsInOrder, IsBuiltOrder}
+use Rattle.dr_graph.specs.Meaning.Order.{is_in, is_upstream, is_ready, IsPath, HasCycle, AreWithin, IsNext, IsInOrder, IsBuiltOrder}
 use Rattle.dr_graph.proofs.Spare.{spare, spare_some, spare_falls, spare_full, spare_none}
 use Rattle.dr_graph.proofs.Cycles.{walk}
 

@@ -38,10 +38,10 @@ use Rattle.std.proofs.Math.Seq.{take-suc, take-length}
 use Rattle.std.specs.Prelude.{◌⊎◌, filter}
 use Rattle.std.specs.List.{range_with_len}
 use Rattle.dr_graph.specs.declared.edge.Edge.{Edge}
-use Rattle.dr_graph.specs.Order.{AreWithin, HasCycle, IsBuiltOrder, IsInOrder, IsNext, is_ready}
-use Rattle.dr_graph.specs.Declaration.{Declaration}
-use Rattle.dr_graph.specs.Graph.{AreChosen, IsGraphOf, Shape, leads_to, upstreams_of}
-use Rattle.dr_graph.specs.Placing.{FindsGraph, first_ready, graph_of, placed, shape_in, shape_of_whole, upstreams_in}
+use Rattle.dr_graph.specs.Meaning.Order.{AreWithin, HasCycle, IsBuiltOrder, IsInOrder, IsNext, is_ready}
+use Rattle.dr_graph.specs.Meaning.Declaration.{Declaration}
+use Rattle.dr_graph.specs.Meaning.Graph.{AreChosen, IsGraphOf, GraphView, leads_to, upstreams_of}
+use Rattle.dr_graph.specs.Meaning.Placing.{FindsGraph, first_ready, graph_of, placed, shape_in, shape_of_whole, upstreams_in}
 use Rattle.dr_graph.proofs.Chosen.{chosen_none, chosen_push, chosen_skip}
 use Rattle.dr_graph.proofs.Gating.{filter_push, filter_skip}
 use Rattle.dr_graph.proofs.Orders.{IsPlacing, goes_on, halts_stuck, halts_whole, no_cycle, starts}
@@ -206,14 +206,14 @@ built_of : (d : Declaration) (order : List ℕ) → PlacesAll (length d.names) d
     → IsBuiltOrder (length d.names) d.edges order
 built_of d order all whole = halts_whole (length d.names) d.edges order all.placing (omega arith)
 
-sound_in : (d : Declaration) (order : List ℕ) (graph : Shape) → PlacesAll (length d.names) d.edges (length d.names) order
+sound_in : (d : Declaration) (order : List ℕ) (graph : GraphView) → PlacesAll (length d.names) d.edges (length d.names) order
     → shape_of_whole d order ≡ Some graph → IsGraphOf d graph
 sound_in d order graph all is = elim (cases_eq (length order) (length d.names)) [
-  | inl whole ↦ subst (λ (g : Shape). IsGraphOf d g) (some_once (shape_in d order) graph (sym (found_whole d order whole) ∙ is)) (graph_in d order (built_of d order all whole))
+  | inl whole ↦ subst (λ (g : GraphView). IsGraphOf d g) (some_once (shape_in d order) graph (sym (found_whole d order whole) ∙ is)) (graph_in d order (built_of d order all whole))
   | inr short ↦ absurd (clash_none graph (sym is ∙ found_none d order short))
 ]
 
-whole_in : (d : Declaration) (graph : Shape) → IsGraphOf d graph → graph_of d ≡ Some graph
+whole_in : (d : Declaration) (graph : GraphView) → IsGraphOf d graph → graph_of d ≡ Some graph
 whole_in d graph is =
     let count = length d.names in
     let len : length is.order ≡ count = is.built.length in

@@ -5,10 +5,10 @@ use Rattle.std.proofs.lemmas.List.{length-map}
 use Rattle.std.specs.Prelude.{position, nat_lt, not, cond, unwrap_or}
 use Rattle.std.specs.List.{position_or_len}
 use Rattle.std.specs.Str.{bytes_eq}
-use Rattle.dr_graph.specs.Name.{Name, is_named, number_of}
+use Rattle.dr_graph.specs.Meaning.Name.{Name, is_named, index_of}
 
 -- a place stays where the names are those of other values
-place_map : {X : Type 0} (f : X → Name) (n : Name) (xs : List X) → number_of (map f xs) n ≡ position_or_len (λ x. bytes_eq n (f x)) xs
+place_map : {X : Type 0} (f : X → Name) (n : Name) (xs : List X) → index_of (map f xs) n ≡ position_or_len (λ x. bytes_eq n (f x)) xs
 place_map f n [] = refl
 place_map f n (x ∷ xs) = ap (λ (k : ℕ). cond (not (bytes_eq n (f x))) (1 + k) 0) (place_map f n xs)
 
@@ -22,7 +22,7 @@ place_within p (x ∷ xs) =
     ]
 
 -- what a look-up finds, or else the length, is the place
-pub place_found : {X : Type 0} (f : X → Name) (n : Name) (xs : List X) → unwrap_or (position (λ x. bytes_eq n (f x)) xs) (length xs) ≡ number_of (map f xs) n
+pub place_found : {X : Type 0} (f : X → Name) (n : Name) (xs : List X) → unwrap_or (position (λ x. bytes_eq n (f x)) xs) (length xs) ≡ index_of (map f xs) n
 place_found f n xs =
     let k : ℕ = position_or_len (λ x. bytes_eq n (f x)) xs in
     elim (cases_Bool (nat_lt k (length xs))) [
@@ -34,15 +34,15 @@ place_found f n xs =
     ]
 
 -- a name that is named has a place
-pub place_named : (names : List Name) (n : Name) → is_named names n ≡ true → number_of names n < length names
+pub place_named : (names : List Name) (n : Name) → is_named names n ≡ true → index_of names n < length names
 place_named [] n known = absurd (false≢true known)
 place_named (m ∷ names) n known =
     elim (cases_Bool (bytes_eq n m)) [
-      | inl here ↦ (let zero : number_of (m ∷ names) n ≡ 0 = ap (λ b. cond (not b) (1 + number_of names n) 0) here in omega arith)
+      | inl here ↦ (let zero : index_of (m ∷ names) n ≡ 0 = ap (λ b. cond (not b) (1 + index_of names n) 0) here in omega arith)
       | inr later ↦ (
-          let rest : number_of names n < length names =
+          let rest : index_of names n < length names =
           place_named names n (elim (or_cases (bytes_eq n m) (is_named names n) known) [ inl first ↦ absurd (false≢true (sym later ∙ first)) | inr there ↦ there ]) in
-          let more : number_of (m ∷ names) n ≡ 1 + number_of names n = ap (λ b. cond (not b) (1 + number_of names n) 0) later in
+          let more : index_of (m ∷ names) n ≡ 1 + index_of names n = ap (λ b. cond (not b) (1 + index_of names n) 0) later in
           omega arith)
     ]
 

@@ -3,8 +3,8 @@ use Rattle.std.proofs.Common.{◌≡◌, List, true, false, None, Some}
 use Rattle.std.proofs.lemmas.Bool.{cond-true, cond-false}
 use Rattle.std.specs.List.{list_all}
 use Rattle.dr_graph.specs.declared.fault.GraphFault.TheVariants.{Stranger}
-use Rattle.dr_graph.specs.Name.{Name, is_named}
-use Rattle.dr_graph.specs.Declaration.{stranger_fault}
+use Rattle.dr_graph.specs.Meaning.Name.{Name, is_named}
+use Rattle.dr_graph.specs.Meaning.Declaration.{stranger_fault}
 
 pub stranger_none : (declared names : List Name) → list_all (is_named declared) names ≡ true → stranger_fault declared names ≡ None
 stranger_none declared names all = cond-true (list_all (is_named declared) names) None (Some Stranger) all

@@ -7,10 +7,10 @@ use Rattle.std.proofs.lemmas.Map.Made.{Contains-tail}
 use Rattle.std.proofs.Math.Seq.{take-suc, take-length}
 use Rattle.std.specs.Prelude.{AllPairs, Bool, Contains, slice_index_or}
 use Rattle.dr_graph.specs.declared.edge.Edge.{Edge}
-use Rattle.dr_graph.specs.Name.{Name}
-use Rattle.dr_graph.specs.Order.{IsNext, IsInOrder, IsBuiltOrder}
-use Rattle.dr_graph.specs.Declaration.{Declaration}
-use Rattle.dr_graph.specs.Graph.{Shape, AreChosen, HasOneGraph, upstreams_of, leads_to, names_in}
+use Rattle.dr_graph.specs.Meaning.Name.{Name}
+use Rattle.dr_graph.specs.Meaning.Order.{IsNext, IsInOrder, IsBuiltOrder}
+use Rattle.dr_graph.specs.Meaning.Declaration.{Declaration}
+use Rattle.dr_graph.specs.Meaning.Graph.{GraphView, AreChosen, HasOneGraph, upstreams_of, leads_to, names_in}
 
 -- the first that is ready is one
 pub next_once : (count : ℕ) (edges : List Edge) (placed : List ℕ) (h k : ℕ) → IsNext count edges placed h → IsNext count edges placed k → h ≡ k
@@ -85,7 +85,7 @@ chosen_once choose bound xs ys first second =
     (λ n c. (let is : (n < bound) × (choose n ≡ true) = second.chosen n c in first.all n is.0 is.1))
 
 shape_same : (names more : List Name) (lists others : List (List ℕ)) → names ≡ more → lists ≡ others
-    → ◌≡◌ {A = Shape} (record { names = names; upstreams = lists }) (record { names = more; upstreams = others })
+    → ◌≡◌ {A = GraphView} (record { names = names; upstreams = lists }) (record { names = more; upstreams = others })
 shape_same names more lists others n l =
     ap (λ (ns : List Name). record { names = ns; upstreams = lists }) n ∙ ap (λ (ls : List (List ℕ)). record { names = more; upstreams = ls }) l
 

@@ -1,9 +1,3 @@
-pub mod Fault
-pub mod Name
-pub mod Order
-pub mod Declaration
-pub mod Graph
-pub mod Placing
-pub mod KeptGroup
-pub mod KeptBuilder
-pub mod KeptGraph
+pub mod Meaning
+pub mod Calls
+pub mod Inside

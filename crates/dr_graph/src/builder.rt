@@ -2,11 +2,11 @@
 
 ghost use Rattle.std.specs.Prelude.{◌≡◌, ◌⊎◌, ◌↔◌, ◌++◌, None, Some, [], ◌∷◌, length, IfOk, IfErr, IfSome, OnErr, OnOk, IsOk, IsErrOf};
 ghost use Rattle.std.specs.Option.{option_or};
-ghost use Rattle.dr_graph.specs.Name.{given, new_names};
-ghost use Rattle.dr_graph.specs.Order.{HasCycle};
-ghost use Rattle.dr_graph.specs.Declaration.{declaring_fault, stranger_fault, following_fault, grouping_fault, followed_by, connected};
-ghost use Rattle.dr_graph.specs.Graph.{IsGraph, IsGraphOf};
-ghost use Rattle.dr_graph.specs.KeptBuilder.{IsDeclaration};
+ghost use Rattle.dr_graph.specs.Meaning.Name.{given, new_names};
+ghost use Rattle.dr_graph.specs.Meaning.Order.{HasCycle};
+ghost use Rattle.dr_graph.specs.Meaning.Declaration.{declaring_fault, stranger_fault, following_fault, grouping_fault, followed_by, connected};
+ghost use Rattle.dr_graph.specs.Meaning.Graph.{IsGraph, IsGraphOf};
+ghost use Rattle.dr_graph.specs.Inside.KeptBuilder.{IsDeclaration};
 
 use crate::built::{Graph, build};
 use crate::edge::{Edge, is_upstream, with_followers};
@@ -29,11 +29,11 @@ pub struct GraphBuilder {
 }
 
 impl Model for GraphBuilder {
-    ghost use Rattle.dr_graph.specs.Declaration.{Declaration};
+    ghost use Rattle.dr_graph.specs.Meaning.Declaration.{Declaration};
 
     ghost Value = { Declaration };
 
-    ghost use Rattle.dr_graph.specs.KeptBuilder.{declaration_of, IsKeptBuilder};
+    ghost use Rattle.dr_graph.specs.Inside.KeptBuilder.{declaration_of, IsKeptBuilder};
 
     ghost view = { declaration_of };
 

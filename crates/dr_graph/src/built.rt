@@ -4,10 +4,10 @@ ghost use Rattle.std.specs.Prelude.{◌≡◌, ◌==◌, ◌⊎◌, ◌&&◌, no
 ghost use Rattle.std.specs.List.{list_any};
 ghost use Rattle.std.specs.Str.{bytes_eq};
 ghost use Rattle.std.specs.String.{string_bytes};
-ghost use Rattle.dr_graph.specs.Name.{AreDistinct, texts, is_named, number_of};
-ghost use Rattle.dr_graph.specs.Order.{is_in, HasCycle};
-ghost use Rattle.dr_graph.specs.KeptBuilder.{IsDeclaration};
-ghost use Rattle.dr_graph.specs.Graph.{IsGraph, IsGraphOf, upstreams_of, names_in, flagged, is_followed, is_final_without as is_final_without_of, is_final as is_final_of, finals as finals_of};
+ghost use Rattle.dr_graph.specs.Meaning.Name.{AreDistinct, texts, is_named, index_of};
+ghost use Rattle.dr_graph.specs.Meaning.Order.{is_in, HasCycle};
+ghost use Rattle.dr_graph.specs.Inside.KeptBuilder.{IsDeclaration};
+ghost use Rattle.dr_graph.specs.Meaning.Graph.{IsGraph, IsGraphOf, upstreams_of, names_in, flagged, is_followed, is_final_without as is_final_without_of, is_final as is_final_of, finals as finals_of};
 
 use crate::edge::Edge;
 use crate::fault::GraphFault;
@@ -26,11 +26,11 @@ pub struct Graph {
 }
 
 impl Model for Graph {
-    ghost use Rattle.dr_graph.specs.Graph.{Shape};
+    ghost use Rattle.dr_graph.specs.Meaning.Graph.{GraphView};
 
-    ghost Value = { Shape };
+    ghost Value = { GraphView };
 
-    ghost use Rattle.dr_graph.specs.KeptGraph.{shape_of, IsKeptGraph};
+    ghost use Rattle.dr_graph.specs.Inside.KeptGraph.{shape_of, IsKeptGraph};
 
     ghost view = { shape_of };
 

@@ -2,8 +2,8 @@
 
 ghost use Rattle.std.specs.Prelude.{◌≡◌, ◌≤◌, ◌-◌, ◌++◌, IfOk, OnOk};
 ghost use Rattle.std.specs.List.{range_with_len};
-ghost use Rattle.dr_graph.specs.Order.{is_upstream as is_upstream_of};
-ghost use Rattle.dr_graph.specs.Declaration.{edges_to, edges_between};
+ghost use Rattle.dr_graph.specs.Meaning.Order.{is_upstream as is_upstream_of};
+ghost use Rattle.dr_graph.specs.Meaning.Declaration.{edges_to, edges_between};
 
 use std::alloc::{AllocError, Global};
 

@@ -1,7 +1,7 @@
 //! Why handlers are not declared, or a graph is not built.
 
 ghost use Rattle.std.specs.Prelude.{◌≡◌};
-ghost use Rattle.dr_graph.specs.Fault.{fault_number, fault_name};
+ghost use Rattle.dr_graph.specs.Calls.Fault.{fault_number, fault_name};
 ghost use Rattle.dr_graph.specs.declared.fault.GraphFault.TheVariants.{NoMemory};
 
 use std::alloc::{AllocError, AllocFailed};
@@ -30,7 +30,7 @@ pub enum GraphFault {
 }
 
 impl GraphFault {
-    ghost use Rattle.dr_graph.specs.Fault.{fault_number, fault_name};
+    ghost use Rattle.dr_graph.specs.Calls.Fault.{fault_number, fault_name};
 
     /// The number by which files and logs know the fault.
     pub fn number(self) -> u32

@@ -1,7 +1,7 @@
 //! Groups of handlers: what a call of a builder declared or named.
 
 ghost use Rattle.std.specs.Prelude.{◌≡◌, ◌<◌, ◌++◌, [], length, IfOk};
-ghost use Rattle.dr_graph.specs.Name.{texts, given, new_names};
+ghost use Rattle.dr_graph.specs.Meaning.Name.{texts, given, new_names};
 
 use crate::name::{add_group, add_names};
 use indexmap::IndexSet;
@@ -16,11 +16,11 @@ pub struct Group {
 
 impl Model for Group {
     ghost use Rattle.std.specs.Prelude.{List};
-    ghost use Rattle.dr_graph.specs.Name.{Name};
+    ghost use Rattle.dr_graph.specs.Meaning.Name.{Name};
 
     ghost Value = { List Name };
 
-    ghost use Rattle.dr_graph.specs.KeptGroup.{group_of, IsKeptGroup};
+    ghost use Rattle.dr_graph.specs.Inside.KeptGroup.{group_of, IsKeptGroup};
 
     ghost view = { group_of };
 
@@ -28,7 +28,7 @@ impl Model for Group {
 }
 
 impl Group {
-    ghost use Rattle.dr_graph.specs.KeptGroup.{IsGroup};
+    ghost use Rattle.dr_graph.specs.Inside.KeptGroup.{IsGroup};
 
     /// The group of some names, each once.
     pub(crate) fn of(alloc: Global, names: &[&str]) -> Result<Group, AllocError>

@@ -1,9 +1,9 @@
 //! What follows from the definitions of `specs/` alone, said of every declaration and every graph.
 
 ghost use Rattle.std.specs.Prelude.{List, ℕ};
-ghost use Rattle.dr_graph.specs.Declaration.{Declaration};
-ghost use Rattle.dr_graph.specs.Graph.{IsGraph, IsLayered, FinalsGate, LeastGates, LeastRises, HasOneGraph};
-ghost use Rattle.dr_graph.specs.Placing.{FindsGraph};
+ghost use Rattle.dr_graph.specs.Meaning.Declaration.{Declaration};
+ghost use Rattle.dr_graph.specs.Meaning.Graph.{IsGraph, IsLayered, FinalsGate, LeastGates, LeastRises, HasOneGraph};
+ghost use Rattle.dr_graph.specs.Meaning.Placing.{FindsGraph};
 
 /// The law that gating rests on: where no edge raises the counts, each handler has a final handler whose count is at
 /// most its own, and so the finals' least count is at most every handler's. This is so of the handlers that are left,

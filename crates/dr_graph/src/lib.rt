@@ -1,7 +1,7 @@
 //! Who follows whom: handlers are declared by name with the edges between them, and built into a graph.
 //!
 //! Begin at [`builder`]: a `GraphBuilder` declares handlers in groups, and its `build` numbers them so that each comes
-//! after its upstreams, or finds a cycle. What a [`built::Graph`] keeps is in `specs/Graph.antt`, with the law that
+//! after its upstreams, or finds a cycle. What a [`built::Graph`] keeps is in `specs/Meaning/Graph.antt`, with the law that
 //! gating rests on: whoever waits for all final handlers waits for every handler.
 #![tactic(auto)]
 

@@ -5,8 +5,8 @@ ghost use Rattle.std.specs.Prelude.{List, ◌≡◌, ◌+◌, ◌<◌, ◌≤◌
 ghost use Rattle.std.specs.List.{list_all, list_any};
 ghost use Rattle.std.specs.Str.{bytes_eq};
 ghost use Rattle.std.specs.String.{string_bytes};
-ghost use Rattle.dr_graph.specs.Name.{Name, texts, given, is_name_byte, is_good_name as is_good_name_of, is_named, number_of, new_names};
-ghost use Rattle.dr_graph.specs.Declaration.{name_fault, name_faults, declaring_fault, stranger_fault};
+ghost use Rattle.dr_graph.specs.Meaning.Name.{Name, texts, given, is_name_byte, is_good_name as is_good_name_of, is_named, index_of, new_names};
+ghost use Rattle.dr_graph.specs.Meaning.Declaration.{name_fault, name_faults, declaring_fault, stranger_fault};
 
 use crate::fault::GraphFault;
 use indexmap::IndexSet;
@@ -183,7 +183,7 @@ pub(crate) fn check_group(declared: &IndexSet<String>, group: &[String]) -> Resu
 
 /// The place of a declared name.
 pub(crate) fn place_of(declared: &IndexSet<String>, name: &str) -> usize
-    ensures { result ≡ number_of (texts declared.now.keys) name.now }
+    ensures { result ≡ index_of (texts declared.now.keys) name.now }
 {
     declared.get_index_of(name).unwrap_or(declared.len())
 }
@@ -194,7 +194,7 @@ pub(crate) fn places_of(
     declared: &IndexSet<String>,
     group: &[String],
 ) -> Result<Vec<usize>, AllocError>
-    ensures { IfOk result (λ places. places.items ≡ map (number_of (texts declared.now.keys)) (texts group.now)) }
+    ensures { IfOk result (λ places. places.items ≡ map (index_of (texts declared.now.keys)) (texts group.now)) }
 {
     let mut places = Vec::new(alloc);
     for name in group {

@@ -2,8 +2,8 @@
 
 ghost use Rattle.std.specs.Prelude.{◌≡◌, ◌==◌, ◌||◌, not, ℕ, ◌<◌, true, false, List, length, map, MatchOption, IfOk, IfErr, IsOk, ◌⊎◌};
 ghost use Rattle.std.specs.List.{list_all};
-ghost use Rattle.dr_graph.specs.Order.{is_in, is_ready as is_ready_of, IsNext, AreWithin, IsBuiltOrder, HasCycle};
-ghost use Rattle.dr_graph.specs.Graph.{AreLists, AreChosen, leads_to};
+ghost use Rattle.dr_graph.specs.Meaning.Order.{is_in, is_ready as is_ready_of, IsNext, AreWithin, IsBuiltOrder, HasCycle};
+ghost use Rattle.dr_graph.specs.Meaning.Graph.{AreLists, AreChosen, leads_to};
 
 use crate::edge::{Edge, is_upstream};
 use crate::fault::GraphFault;

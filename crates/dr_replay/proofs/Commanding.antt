@@ -2,7 +2,7 @@
 use Rattle.std.proofs.Common.{◌≡◌, ◌+◌, ◌∷◌, ℕ, List, [], Option, Some, None, Ok, refl, sym, subst, append-nil, ◌∙◌}
 use Rattle.std.specs.Prelude.{option_to_list}
 use Rattle.std.specs.Io.KnownBytes.{Appends, Keeps}
-use Rattle.dr_core.specs.Machine.{Setup, State}
+use Rattle.dr_core.specs.Meaning.Machine.{Setup, State}
 use Rattle.dr_replay.specs.Meaning.Records.{Field, Record}
 use Rattle.dr_replay.specs.Meaning.Commands.{command_of}
 use Rattle.dr_replay.specs.Meaning.DriveText.{Phase, Preparing, Running, Taken, end_fault, obeys, taken, text_from}

@@ -4,14 +4,14 @@ use Rattle.std.proofs.lemmas.List.{length-map}
 use Rattle.std.specs.Prelude.{◌⊎◌, ◌==◌, if◌then◌else◌}
 use Rattle.std.specs.List.{list_all}
 use Rattle.std.specs.Option.{option_or}
-use Rattle.dr_graph.specs.Declaration.{Declaration, connected, declaring_fault, followed_by, following_fault, grouping_fault, none_fault, stranger_fault}
-use Rattle.dr_graph.specs.Name.{Name, is_good_name, new_names}
+use Rattle.dr_graph.specs.Meaning.Declaration.{Declaration, connected, declaring_fault, followed_by, following_fault, grouping_fault, none_fault, stranger_fault}
+use Rattle.dr_graph.specs.Meaning.Name.{Name, is_good_name, new_names}
 use Rattle.dr_graph.specs.declared.fault.GraphFault.{GraphFault}
 use Rattle.dr_graph.specs.declared.fault.GraphFault.TheVariants as refused
 use Rattle.dr_files.specs.declared.fault.Cause.{Cause}
 use Rattle.dr_files.specs.Faults.{refused_by}
 use Rattle.dr_files.specs.declared.fault.Cause.TheVariants.{Graph}
-use Rattle.dr_replay.specs.Meaning.Setup.{Declared, after_names, then_names, unless, with_edge, with_names}
+use Rattle.dr_replay.specs.Meaning.Setup.{Declared, after_names, then_names, done_unless, edge_between, with_names}
 use Rattle.dr_replay.specs.Inside.Shows.{AreNames, FaultAs, legible}
 use Rattle.dr_replay.proofs.Legible.{accepted_names, known_names, legible_names, more_names, neither, same_declaring, same_stranger}
 
@@ -33,10 +33,10 @@ refused_as refused.NoHandlers t (inr e) = e
 refused_as refused.EmptyGroup t (inl e) = cc
 refused_as refused.EmptyGroup t (inr e) = e
 
-unless_refused : (fault seen : Option GraphFault) (f : GraphFault) (done : Declared) → seen ≡ fault → (f ≡ refused.NoMemory) ⊎ (seen ≡ Some f) → FaultAs (refused_by f) (unless fault done)
-unless_refused fault seen f done same why = refused_as f (unless fault done) (elim why [
+unless_refused : (fault seen : Option GraphFault) (f : GraphFault) (done : Declared) → seen ≡ fault → (f ≡ refused.NoMemory) ⊎ (seen ≡ Some f) → FaultAs (refused_by f) (done_unless fault done)
+unless_refused fault seen f done same why = refused_as f (done_unless fault done) (elim why [
   | inl memory ↦ inl memory
-  | inr is ↦ inr (ap (λ x. unless x done) (sym same ∙ is))
+  | inr is ↦ inr (ap (λ x. done_unless x done) (sym same ∙ is))
 ])
 
 abbrev pub at : Declaration → Option (List Name) → Declared
@@ -60,7 +60,7 @@ with_does old new group seen made fields all shown free is group_is =
     let after : Declaration = record old { names = old.names ++ fields } in
     let new_is : new ≡ after = is ∙ ap (λ ns. record old { names = old.names ++ ns }) same in
     let made_is : made ≡ fields = group_is ∙ same in (
-      ap (λ f. unless f (at after (Some fields))) none ∙ ap (λ d. Ok (at d (Some fields))) (sym new_is) ∙ ap (λ g. Ok (at new (Some g))) (sym made_is),
+      ap (λ f. done_unless f (at after (Some fields))) none ∙ ap (λ d. Ok (at d (Some fields))) (sym new_is) ∙ ap (λ g. Ok (at new (Some g))) (sym made_is),
       ap (λ d. list_all is_good_name d.names) new_is ∙ more_names old.names fields all good,
     )
 
@@ -79,7 +79,7 @@ then_does old new group seen made fields all shown free is group_is =
     let after : Declaration = followed_by old group fields in
     let new_is : new ≡ after = is ∙ ap (followed_by old group) same in
     let made_is : made ≡ fields = group_is ∙ same in (
-      ap (λ f. unless f (at after (Some fields))) none ∙ ap (λ d. Ok (at d (Some fields))) (sym new_is) ∙ ap (λ g. Ok (at new (Some g))) (sym made_is),
+      ap (λ f. done_unless f (at after (Some fields))) none ∙ ap (λ d. Ok (at d (Some fields))) (sym new_is) ∙ ap (λ g. Ok (at new (Some g))) (sym made_is),
       ap (λ d. list_all is_good_name d.names) new_is ∙ more_names old.names fields all good,
     )
 
@@ -96,7 +96,7 @@ after_does old group seen made fields all shown free group_is =
     let good : AreNames fields = known_names old.names fields all (neither (none_fault fields) (stranger_fault old.names fields) none).1 in
     let same : seen ≡ fields = shown ∙ legible_names fields good in
     let made_is : made ≡ new_names [] fields = group_is ∙ ap (new_names []) same in
-    (ap (λ f. unless f (at old (Some (new_names [] fields)))) none ∙ ap (λ g. Ok (at old (Some g))) (sym made_is), all)
+    (ap (λ f. done_unless f (at old (Some (new_names [] fields)))) none ∙ ap (λ g. Ok (at old (Some g))) (sym made_is), all)
 
 pub after_refused : (old : Declaration) (group : Option (List Name)) (seen fields : List Name) (f : GraphFault) → AreNames old.names → seen ≡ map legible fields
     → (f ≡ refused.NoMemory) ⊎ (grouping_fault old.names seen ≡ Some f) → FaultAs (refused_by f) (after_names (at old group) fields)
@@ -111,7 +111,7 @@ tail_same x y xs ys e = cc
 
 pub edge_does : (old new : Declaration) (group : Option (List Name)) (up down first second_name : Name) → AreNames old.names → up ≡ legible first → down ≡ legible second_name
     → stranger_fault old.names (up ∷ down ∷ []) ≡ None → new ≡ connected old up down
-    → (with_edge (at old group) first second_name ≡ Ok (at new group)) × AreNames new.names
+    → (edge_between (at old group) first second_name ≡ Ok (at new group)) × AreNames new.names
 edge_does old new group up down first second_name all up_is down_is free is =
     let fields : List Name = first ∷ second_name ∷ [] in
     let shown : up ∷ down ∷ [] ≡ map legible fields = ap (λ n. n ∷ down ∷ []) up_is ∙ ap (λ n. legible first ∷ n ∷ []) down_is in
@@ -121,12 +121,12 @@ edge_does old new group up down first second_name all up_is down_is free is =
     let up_same : up ≡ first = head_same up first (down ∷ []) (second_name ∷ []) same in
     let down_same : down ≡ second_name = head_same down second_name [] [] (tail_same up first (down ∷ []) (second_name ∷ []) same) in
     let new_is : new ≡ connected old first second_name = is ∙ ap (λ n. connected old n down) up_same ∙ ap (connected old first) down_same in (
-      ap (λ f. unless f (at (connected old first second_name) group)) none ∙ ap (λ d. Ok (at d group)) (sym new_is),
+      ap (λ f. done_unless f (at (connected old first second_name) group)) none ∙ ap (λ d. Ok (at d group)) (sym new_is),
       ap (λ d. list_all is_good_name d.names) new_is ∙ all,
     )
 
 pub edge_refused : (old : Declaration) (group : Option (List Name)) (up down first second_name : Name) (f : GraphFault) → AreNames old.names → up ≡ legible first → down ≡ legible second_name
-    → (f ≡ refused.NoMemory) ⊎ (stranger_fault old.names (up ∷ down ∷ []) ≡ Some f) → FaultAs (refused_by f) (with_edge (at old group) first second_name)
+    → (f ≡ refused.NoMemory) ⊎ (stranger_fault old.names (up ∷ down ∷ []) ≡ Some f) → FaultAs (refused_by f) (edge_between (at old group) first second_name)
 edge_refused old group up down first second_name f all up_is down_is why =
     let fields : List Name = first ∷ second_name ∷ [] in
     let shown : up ∷ down ∷ [] ≡ map legible fields = ap (λ n. n ∷ down ∷ []) up_is ∙ ap (λ n. legible first ∷ n ∷ []) down_is in

@@ -3,9 +3,9 @@ use Rattle.std.proofs.Common.{◌≡◌, List, Option, Result, Ok, Err, IfErr, �
 use Rattle.std.proofs.lemmas.Bool.{false≢true}
 use Rattle.std.specs.Prelude.{Bool, ℕ, true, false}
 use Rattle.dr_seq.specs.declared.event.Event.{Event}
-use Rattle.dr_core.specs.Machine.{handlers}
-use Rattle.dr_shared.specs.Audit.{Faults}
-use Rattle.dr_shared.specs.History.{History, IsRecorded, transcript}
+use Rattle.dr_core.specs.Meaning.Machine.{handlers}
+use Rattle.dr_shared.specs.Meaning.Audit.{Faults}
+use Rattle.dr_shared.specs.Meaning.History.{History, IsRecorded, transcript}
 use Rattle.dr_shared.specs.declared.audit_fault.AuditFault.{AuditFault}
 use Rattle.dr_shared.specs.declared.audit_fault.AuditFault.TheVariants as audit
 use Rattle.dr_shared.specs.declared.ended.Ended.{Ended}

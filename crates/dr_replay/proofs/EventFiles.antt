@@ -5,13 +5,13 @@ use Rattle.std.specs.List.{cons_option, filter_map, list_all, position_or_len}
 use Rattle.dr_seq.specs.declared.event.Event.{Event}
 use Rattle.dr_accounts.specs.declared.operation.Operation.{Operation}
 use Rattle.dr_replay.specs.Meaning.EventFile.{events_in, is_operation, operation_in}
-use Rattle.dr_accounts.specs.Operations.{event_of}
+use Rattle.dr_accounts.specs.Operations.{event_for}
 use Rattle.dr_replay.specs.Meaning.Records.{Record}
 
 -- a file whose first record, the k-th, was an operation or none, before others
 abbrev pub events_with : ℕ → Option Operation → Result (List Event) ℕ → Result (List Event) ℕ
 events_with k None rest = Err k
-events_with k (Some o) (Ok events) = Ok (event_of o ∷ events)
+events_with k (Some o) (Ok events) = Ok (event_for o ∷ events)
 events_with k (Some o) (Err bad) = Err bad
 
 -- the events of records, the first of them being the k-th, read one after another
@@ -20,14 +20,14 @@ events_from k [] = Ok []
 events_from k (r ∷ rs) = events_with k (operation_in r) (events_from (k + 1) rs)
 
 step : (k : ℕ) (o : Option Operation) (fine : Bool) (more : List Operation) (place : ℕ)
-    → events_with k o (cond fine (Ok (map event_of more)) (Err (place + (k + 1))))
-    ≡ cond (is_some o && fine) (Ok (map event_of (cons_option o more))) (Err (cond (not (not (is_some o))) (1 + place) 0 + k))
+    → events_with k o (cond fine (Ok (map event_for more)) (Err (place + (k + 1))))
+    ≡ cond (is_some o && fine) (Ok (map event_for (cons_option o more))) (Err (cond (not (not (is_some o))) (1 + place) 0 + k))
 step k None fine more place = ap Err (omega arith)
 step k (Some o) true more place = refl
 step k (Some o) false more place = ap Err (omega arith)
 
 all_from : (k : ℕ) (rs : List Record)
-    → events_from k rs ≡ cond (list_all is_operation rs) (Ok (map event_of (filter_map operation_in rs))) (Err (position_or_len (λ r. not (is_operation r)) rs + k))
+    → events_from k rs ≡ cond (list_all is_operation rs) (Ok (map event_for (filter_map operation_in rs))) (Err (position_or_len (λ r. not (is_operation r)) rs + k))
 unfolding events_from
 all_from k [] = refl
 all_from k (r ∷ rs) =
@@ -48,12 +48,12 @@ pub preceded-nil : (r : Result (List Event) ℕ) → r ≡ preceded [] r
 preceded-nil (Ok events) = refl
 preceded-nil (Err k) = refl
 
-one_more : (done : List Event) (k : ℕ) (o : Operation) (r : Result (List Event) ℕ) → preceded done (events_with k (Some o) r) ≡ preceded (done ++ event_of o ∷ []) r
-one_more done k o (Ok events) = ap Ok (sym (append_assoc done (event_of o ∷ []) events))
+one_more : (done : List Event) (k : ℕ) (o : Operation) (r : Result (List Event) ℕ) → preceded done (events_with k (Some o) r) ≡ preceded (done ++ event_for o ∷ []) r
+one_more done k o (Ok events) = ap Ok (sym (append_assoc done (event_for o ∷ []) events))
 one_more done k o (Err bad) = refl
 
 pub file-goes : (whole : Result (List Event) ℕ) (done : List Event) (k : ℕ) (o : Operation) (left : List Record) (row : Record) (rest : List Record)
-    → whole ≡ preceded done (events_from k left) → left ≡ row ∷ rest → Some o ≡ operation_in row → whole ≡ preceded (done ++ event_of o ∷ []) (events_from (k + 1) rest)
+    → whole ≡ preceded done (events_from k left) → left ≡ row ∷ rest → Some o ≡ operation_in row → whole ≡ preceded (done ++ event_for o ∷ []) (events_from (k + 1) rest)
 unfolding events_from
 file-goes whole done k o left row rest p cut e =
     p ∙ ap (λ l. preceded done (events_from k l)) cut ∙ ap (λ x. preceded done (events_with k x (events_from (k + 1) rest))) (sym e) ∙ one_more done k o (events_from (k + 1) rest)

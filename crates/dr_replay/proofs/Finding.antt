@@ -4,10 +4,10 @@ use Rattle.std.proofs.lemmas.List.{map-append}
 use Rattle.std.proofs.Math.Seq.{take-suc}
 use Rattle.std.specs.Prelude.{bytes_eq, slice_get}
 use Rattle.std.specs.Borrow.{Bor}
-use Rattle.dr_graph.specs.Name.{Name, given}
+use Rattle.dr_graph.specs.Meaning.Name.{Name, given}
 use Rattle.dr_replay.specs.Meaning.Commands.{handler_of}
 use Rattle.dr_replay.specs.Meaning.Records.{Record, field}
-use Rattle.dr_replay.specs.Meaning.Setup.{names_in}
+use Rattle.dr_replay.specs.Meaning.Setup.{names_after}
 use Rattle.dr_replay.specs.Inside.Shows.{legible}
 
 same_some : {A : Type 0} (x y : A) → Some x ≡ Some y → x ≡ y
@@ -32,7 +32,7 @@ nowhere (n ∷ names) name zero le = absurd (omega arith)
 nowhere (n ∷ names) name (suc h) le = nowhere names name h (omega arith)
 
 -- the fields after the first, one more
-pub next_name : (r : Record) (place : ℕ) → 1 ≤ place → place < length r → take place (names_in r) ≡ take (place - 1) (names_in r) ++ field r place ∷ []
+pub next_name : (r : Record) (place : ℕ) → 1 ≤ place → place < length r → take place (names_after r) ≡ take (place - 1) (names_after r) ++ field r place ∷ []
 next_name [] place one less = absurd (omega arith)
 next_name (f ∷ r) zero one less = absurd (omega arith)
 next_name (f ∷ r) (suc place) one less =
@@ -44,10 +44,10 @@ take_none zero xs e = sym e
 take_none (suc n) xs e = rw e refl
 
 pub name_added : (r : Record) (place : ℕ) (old new : List (Bor Name)) (x : Bor Name) → 1 ≤ place → place < length r → new ≡ old ++ x ∷ [] → x.now ≡ legible (field r place)
-    → given old ≡ map legible (take (place - 1) (names_in r)) → given new ≡ map legible (take (place + 1 - 1) (names_in r))
+    → given old ≡ map legible (take (place - 1) (names_after r)) → given new ≡ map legible (take (place + 1 - 1) (names_after r))
 name_added r place old new x one less pushed is so_far =
-    let front = take (place - 1) (names_in r) in
+    let front = take (place - 1) (names_after r) in
     let same : place + 1 - 1 ≡ place = omega arith in
-    let whole : take (place + 1 - 1) (names_in r) ≡ front ++ field r place ∷ [] = ap (λ n. take n (names_in r)) same ∙ next_name r place one less in
+    let whole : take (place + 1 - 1) (names_after r) ≡ front ++ field r place ∷ [] = ap (λ n. take n (names_after r)) same ∙ next_name r place one less in
     ap given pushed ∙ map-append (λ n. n.now) old (x ∷ []) ∙ ap (λ l. l ++ x.now ∷ []) so_far ∙ ap (λ n. map legible front ++ n ∷ []) is
     ∙ sym (map-append legible front (field r place ∷ [])) ∙ ap (map legible) (sym whole)

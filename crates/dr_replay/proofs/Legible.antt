@@ -11,10 +11,10 @@ use Rattle.std.specs.Int.{is_in_range}
 use Rattle.std.specs.List.{list_all}
 use Rattle.std.specs.Option.{option_or}
 use Rattle.std.specs.Str.{IsAscii, IsUtf8, is_utf8}
-use Rattle.dr_graph.specs.Declaration.{declaring_fault, many_fault, name_fault, name_faults, none_fault, stranger_fault}
+use Rattle.dr_graph.specs.Meaning.Declaration.{declaring_fault, many_fault, name_fault, name_faults, none_fault, stranger_fault}
 use Rattle.dr_graph.specs.declared.fault.GraphFault.TheVariants.{BadName, EmptyGroup, Stranger}
 use Rattle.dr_graph.specs.declared.name.TheConstants.{MAX_NAME_LEN}
-use Rattle.dr_graph.specs.Name.{Name, is_good_name, is_name_byte, is_named}
+use Rattle.dr_graph.specs.Meaning.Name.{Name, is_good_name, is_name_byte, is_named}
 use Rattle.dr_replay.specs.Inside.Shows.{AreNames, legible}
 
 in_range : (lo hi c : ℕ) → hi < 128 → is_in_range lo hi c ≡ true → c < 128

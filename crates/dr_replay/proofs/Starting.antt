@@ -2,12 +2,12 @@
 use Rattle.std.proofs.Common.{◌≡◌, ◌==◌, false, inl, inr, Option, List, [], ◌∷◌, Result, Ok, Err, refl, sym, ap, ◌∙◌, length, arith, if◌then◌else◌}
 use Rattle.std.proofs.lemmas.Bool.{ne_eqb}
 use Rattle.std.specs.Prelude.{◌⊎◌}
-use Rattle.dr_graph.specs.Declaration.{Declaration}
-use Rattle.dr_graph.specs.Graph.{IsGraphOf, Shape}
-use Rattle.dr_graph.specs.KeptBuilder.{IsDeclaration}
-use Rattle.dr_graph.specs.Name.{Name}
-use Rattle.dr_graph.specs.Order.{HasCycle}
-use Rattle.dr_graph.specs.Placing.{FindsGraph, graph_of}
+use Rattle.dr_graph.specs.Meaning.Declaration.{Declaration}
+use Rattle.dr_graph.specs.Meaning.Graph.{IsGraphOf, GraphView}
+use Rattle.dr_graph.specs.Inside.KeptBuilder.{IsDeclaration}
+use Rattle.dr_graph.specs.Meaning.Name.{Name}
+use Rattle.dr_graph.specs.Meaning.Order.{HasCycle}
+use Rattle.dr_graph.specs.Meaning.Placing.{FindsGraph, graph_of}
 use Rattle.dr_graph.specs.declared.fault.GraphFault.{GraphFault}
 use Rattle.dr_graph.specs.declared.fault.GraphFault.TheVariants.{Cycle, NoHandlers, NoMemory}
 use Rattle.dr_files.specs.Faults.{refused_by}
@@ -25,7 +25,7 @@ decided ring (n ∷ names) d group is some =
     let not_none : (length d.names == 0) ≡ false = ne_eqb (length d.names) 0 (λ e. omega arith) in
     ap (λ b. if b then Err (Graph NoHandlers) else opened ring (graph_of d)) not_none
 
-pub start_opens : (ring : Ring) (d : Declaration) (group : Option (List Name)) (graph : Shape) → FindsGraph d → (d.names ≡ [] → ⊥) → IsGraphOf d graph
+pub start_opens : (ring : Ring) (d : Declaration) (group : Option (List Name)) (graph : GraphView) → FindsGraph d → (d.names ≡ [] → ⊥) → IsGraphOf d graph
     → started ring (at d group) ≡ Ok (Opens graph.names (ring_setup ring graph))
 start_opens ring d group graph finds some is = decided ring d.names d group refl some ∙ ap (opened ring) (finds.whole graph is)
 

@@ -4,7 +4,7 @@ use Rattle.std.proofs.KnownBytes.{Appends-nil}
 use Rattle.dr_replay.specs.Meaning.Records.{Record, records_of}
 use Rattle.dr_replay.specs.Meaning.Setup.{Empty}
 use Rattle.dr_replay.specs.Meaning.DriveText.{Phase, Preparing, drive_text, text_from}
-use Rattle.dr_files.specs.Outcome.{FaultWrites, Said, Writes}
+use Rattle.dr_files.specs.Outcome.{FaultWrites, Said, RunWrites}
 use Rattle.dr_replay.specs.Inside.Tells.{IsSetUp, SetupFaultTells, ShowsPhase}
 use Rattle.dr_replay.specs.declared.tool.Opened.{Opened}
 use Rattle.dr_files.specs.declared.fault.FileFault.{FileFault}
@@ -16,9 +16,9 @@ at_input None text P is p = tt
 at_input (Some input) text P is p = subst P is p
 
 pub after_setup : {A : Type 0} (r : Result A FileFault) (o : Opened) (all left : List Record) (text : List ℕ) (old new : Option (List ℕ)) → all ≡ records_of text → IsSetUp o all left
-    → ((phase : Phase) → ShowsPhase o.exchange phase → Writes r old new (text_from o.k phase left)) → Writes r old new (drive_text text)
+    → ((phase : Phase) → ShowsPhase o.exchange phase → RunWrites r old new (text_from o.k phase left)) → RunWrites r old new (drive_text text)
 after_setup r o all left text old new are s ran =
-    let P : Said → Type 0 = λ t. Writes r old new t in
+    let P : Said → Type 0 = λ t. RunWrites r old new t in
     subst P (sym s.says ∙ ap (text_from 1 (Preparing Empty)) are) (ran s.phase s.shows)
 
 pub failed_setup : (f : FileFault) (all : List Record) (text : List ℕ) (known : Option (List ℕ)) → all ≡ records_of text → SetupFaultTells f all → FaultWrites f known known (drive_text text)

@@ -22,7 +22,7 @@ pub struct Exchange {
 impl Exchange {
     ghost use Rattle.std.specs.Prelude.{List, string_bytes};
     ghost use Rattle.csv.specs.Records.{fields_of};
-    ghost use Rattle.dr_core.specs.Machine.{Setup, State, opening};
+    ghost use Rattle.dr_core.specs.Meaning.Machine.{Setup, State, opening};
     ghost use Rattle.dr_replay.specs.Meaning.Records.{Field};
     ghost use Rattle.dr_replay.specs.Meaning.Commands.{command_of as command_in};
     ghost use Rattle.dr_replay.specs.Meaning.DriveText.{obeys};

@@ -2,7 +2,7 @@
 
 ghost use Rattle.std.specs.Prelude.{◌≡◌, ◌==◌, length};
 ghost use Rattle.csv.specs.Records.{fields_of};
-ghost use Rattle.dr_replay.specs.Meaning.Records.{field as field_in, is_list as is_list_in, is_named as is_named_in, is_record as is_record_in, number_at as number_in};
+ghost use Rattle.dr_replay.specs.Meaning.Records.{field as field_in, is_list as is_list_in, begins_with as is_named_in, is_record as is_record_in, number_at as number_in};
 
 use csv::ByteRecord;
 use dr_files::number_of;

@@ -4,7 +4,7 @@ ghost use Rattle.std.specs.Prelude.{◌<◌, ◌+◌, ◌-◌, ◌^◌, IfErr, I
 ghost use Rattle.csv.specs.Records.{fields_of};
 ghost use Rattle.dr_files.specs.Counting.{faults_of, inner_of};
 ghost use Rattle.dr_replay.specs.Meaning.DriveText.{Phase, drive_text, taken, text_from};
-ghost use Rattle.dr_files.specs.Outcome.{CountsFaults, ReadFaultKeeps, Writes};
+ghost use Rattle.dr_files.specs.Outcome.{CountsFaults, ReadFaultKeeps, RunWrites};
 ghost use Rattle.dr_replay.specs.Inside.Rows.{rows_left};
 ghost use Rattle.dr_replay.specs.Inside.Tells.{CommandTells, SetsUpAs, ShowsPhase};
 
@@ -72,7 +72,7 @@ fn commands<W: Write>(
 ) -> Result<(), FileFault>
     requires faults { faults_of writer.old < 2 ^ 64 - 1 }
     requires fits { k + length (rows_left rows.old) < 2 ^ 64 }
-    ensures bytes { (phase : Phase) → ShowsPhase exchange phase → Writes result (W.contents (inner_of writer.old)) (W.contents (inner_of writer.new)) (text_from k phase (rows_left rows.old)) }
+    ensures bytes { (phase : Phase) → ShowsPhase exchange phase → RunWrites result (W.contents (inner_of writer.old)) (W.contents (inner_of writer.new)) (text_from k phase (rows_left rows.old)) }
     ensures counted { CountsFaults result 0 0 (faults_of writer.old) (faults_of writer.new) }
 {
     let mut line = String::new(alloc);
@@ -95,7 +95,7 @@ pub fn drive<R: Read, W: Write>(
     requires writes { faults_of writer.old < 2 ^ 64 - 1 }
     // Where the input's bytes are known, what is written is the drive text, up to the fault that is answered.
     ensures bytes { IfSome (R.remaining (inner_of reader.old)) (λ input.
-        Writes result (W.contents (inner_of writer.old)) (W.contents (inner_of writer.new)) (drive_text input)) }
+        RunWrites result (W.contents (inner_of writer.old)) (W.contents (inner_of writer.new)) (drive_text input)) }
     // A failed read leaves nothing written, whether or not the input's bytes are known.
     ensures unread { IfErr result (λ e. ReadFaultKeeps e (W.contents (inner_of writer.old)) (W.contents (inner_of writer.new))) }
     // A failed read or write is answered where one failed, and nowhere else.

@@ -6,15 +6,15 @@ use lib.ListN.{get_elem?}
 use lib.Seq.{set-get_or}
 use Rattle.atomic_table.specs.Table.{step, Allows}
 use Rattle.atomic_table.specs.Table.{Step as TableStep}
-use Rattle.dr_graph.specs.Graph.{upstreams_of, finals}
+use Rattle.dr_graph.specs.Meaning.Graph.{upstreams_of, finals}
 use Rattle.dr_ring.specs.Meaning.Shape.{Shape, handlers_of}
 use Rattle.dr_ring.specs.Meaning.Words.{cursor_word, closed_word, halt_word, count_word, payload_word}
 use Rattle.dr_ring.specs.declared.record.HalfWrite.{HalfWrite}
 use Rattle.dr_ring.specs.declared.record.SenderRecord.{SenderRecord}
 use Rattle.dr_ring.specs.declared.record.ReceiverRecord.{ReceiverRecord}
 use Rattle.dr_ring.specs.declared.record.HalterRecord.{HalterRecord}
-use Rattle.dr_ring.specs.Meaning.Records.{claimed, last_look, sender_looked, halt_looked, half_written, written, published_to, sender_halted, sender_closed, receiver_looked, cursor_looked, half_taken, took, completed_to, halter_halted, HasRoom, IsOpen, AreWritten, IsBelowBarrier}
-use Rattle.dr_ring.specs.Meaning.Kept.{World, Kept}
+use Rattle.dr_ring.specs.Meaning.Records.{claimed, last_look, sender_looked, halt_looked, half_written, written, published_to, sender_halted, sender_closed, receiver_looked, cursor_looked, half_taken, took, completed_to, halter_halted, SeesRoom, IsOpen, AreWritten, IsBelowBarrier}
+use Rattle.dr_ring.specs.Meaning.Rule.{World, KeepsRule}
 use Rattle.dr_ring.specs.declared.record.Step.{Step}
 use Rattle.dr_ring.specs.declared.record.Step.TheVariants.{SenderLooksAtCount, SenderLooksAtHalt, SenderStoresFirst, SenderStoresSecond, SenderPublishes, SenderHalts, SenderCloses, ReceiverLooksAtClosed, ReceiverLooksAtCursor, ReceiverLooksAtCount, ReceiverLoadsFirst, ReceiverLoadsSecond, ReceiverCompletes, HalterHalts}
 use Rattle.dr_ring.specs.Meaning.Steps.{Happens}
@@ -48,16 +48,16 @@ along_halter : (P : Sitting → Type 0) (me : Sitting) → IsHalter (end_of me) 
 along_halter P me is p = subst (λ (e : End). P (seat_at e me.0.pasts)) (sym is) p
 
 -- the ring's plan is that of each end
-sender_plan : (k sh : Shape) (w : World) (r : SenderRecord) → w.sender ≡ r → r.plan ≡ sh → Kept k w → sh ≡ k
+sender_plan : (k sh : Shape) (w : World) (r : SenderRecord) → w.sender ≡ r → r.plan ≡ sh → KeepsRule k w → sh ≡ k
 sender_plan k sh w r e plan K = sym plan ∙ ap (λ (q : SenderRecord). q.plan) (sym e) ∙ K.sender_plan
 
-receiver_plan : (k sh : Shape) (w : World) (h : ℕ) (r : ReceiverRecord) → get_elem? w.receivers h ≡ some r → r.plan ≡ sh → Kept k w → sh ≡ k
+receiver_plan : (k sh : Shape) (w : World) (h : ℕ) (r : ReceiverRecord) → get_elem? w.receivers h ≡ some r → r.plan ≡ sh → KeepsRule k w → sh ≡ k
 receiver_plan k sh w h r at plan K = sym plan ∙ (K.received h r at).plan
 
-inside_of : (k : Shape) (w : World) (h : ℕ) (r : ReceiverRecord) → get_elem? w.receivers h ≡ some r → Kept k w → h < handlers_of k
+inside_of : (k : Shape) (w : World) (h : ℕ) (r : ReceiverRecord) → get_elem? w.receivers h ≡ some r → KeepsRule k w → h < handlers_of k
 inside_of k w h r at K = let b = at_below w.receivers h r at in let e = K.ends in omega arith
 
-look_at_final : (k : Shape) (w : World) (r : SenderRecord) (f : ℕ) → w.sender ≡ r → Contains (finals k.upstreams) f → Kept k w
+look_at_final : (k : Shape) (w : World) (r : SenderRecord) (f : ℕ) → w.sender ≡ r → Contains (finals k.upstreams) f → KeepsRule k w
     → Happens k (SenderLooksAtCount f) w (world_of w.words (sender_looked r (count_word f) (get_or w.words (count_word f) 0)) w.receivers w.halter) × (last_look 0 r.looks (count_word f) ≤ get_or w.words (count_word f) 0) × (get_or w.words (count_word f) 0 ≤ length r.sent.published)
 look_at_final k w r f e has K =
     let i = count_word f in let n = get_or w.words i 0 in let inside = final_inside k.upstreams f has in let t = receiver_of_handler k w K f inside in
@@ -78,7 +78,7 @@ sender_looks_at_count k {sh = sh} {slots = slots} id me i f here is plan has =
     (λ w e K. (let t = look_at_final k w r f e (subst (λ (p : Shape). Contains (finals p.upstreams) f) (sender_plan k sh w r e plan K) has) K in (refl, (t.1, t.2))))))
 
 pub sender_looks_at_halt : (k : Shape) {sh : Shape} {slots : ℕ} (id : ℕ) (me : Sitting) (n m : ℕ) → n ≡ m → IsSender (end_of me) → (sender_of me.0.ends).plan ≡ sh
-    → (0 < n → HasRoom sh (sender_of me.0.ends) n)
+    → (0 < n → SeesRoom sh (sender_of me.0.ends) n)
     → MayLoad k slots id me halt_word (SenderLookedAtHalt m)
 sender_looks_at_halt k {sh = sh} {slots = slots} id me n m named is plan room =
     subst (λ (m : ℕ). MayLoad k slots id me halt_word (SenderLookedAtHalt m)) named
@@ -87,8 +87,8 @@ sender_looks_at_halt k {sh = sh} {slots = slots} id me n m named is plan room =
     by_sender k slots id (SenderLooksAtHalt n) (λ stores. stores) me.0.pasts r halt_word (λ n. n) (λ found. halt_looked r n found) (SenderLookedAtHalt n (step slots halt_word 0 0 none) (as_sender r))
     (adds_nothing 0 (SenderLooksAtHalt n) (λ n. refl))
     (λ w e K. (let found = get_or w.words halt_word 0 in same_words k (SenderLooksAtHalt n) w halt_word (halt_looked r n found) w.receivers w.halter
-    (subst (λ (q : SenderRecord). (0 < n → HasRoom k q n) → Happens k (SenderLooksAtHalt n) w (world_of w.words (halt_looked q n found) w.receivers w.halter)) e
-    (λ room. (room, refl)) (subst (λ (p : Shape). 0 < n → HasRoom p r n) (sender_plan k sh w r e plan K) room))))
+    (subst (λ (q : SenderRecord). (0 < n → SeesRoom k q n) → Happens k (SenderLooksAtHalt n) w (world_of w.words (halt_looked q n found) w.receivers w.halter)) e
+    (λ room. (room, refl)) (subst (λ (p : Shape). 0 < n → SeesRoom p r n) (sender_plan k sh w r e plan K) room))))
     (λ w e K. subst (λ (q : SenderRecord). (as_sender (halt_looked r n (get_or w.words halt_word 0)) ≡ as_sender (halt_looked r n (get_or w.words halt_word 0))) × FindsHalt q (get_or w.words halt_word 0)) e
     (refl, (last_look_le k w.words 0 w.sender.looks halt_word (omega arith) K.looks, K.flags.halt, K.flags.by_sender)))))
 
@@ -174,7 +174,7 @@ receiver_looks_at_cursor k {slots = slots} id me is = along_receiver (λ m. MayL
 
 -- what a look at an upstream's count tells
 tells_count : (k : Shape) (w : World) (r : ReceiverRecord) (u : ℕ) → get_elem? w.receivers r.number ≡ some r
-    → Contains (upstreams_of k.upstreams r.number) u → Kept k w
+    → Contains (upstreams_of k.upstreams r.number) u → KeepsRule k w
     → (u < handlers_of k) × (length r.received ≤ get_or w.words (count_word u) 0) × (r.told ≡ true → get_or w.words (count_word u) 0 ≤ length r.received)
 tells_count k w r u at has K =
     let was = K.received r.number r at in let inside = upstream_inside k K.graph r.number u (inside_of k w r.number r at K) has in

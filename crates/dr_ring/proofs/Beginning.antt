@@ -6,13 +6,13 @@ use Rattle.std.proofs.lemmas.Bool.{cases_lt, le-ltb}
 use Rattle.std.proofs.lemmas.List.{length-replicate, get_or-replicate, get_or_past}
 use mathlib.Core.Option.{some, some-injective, some-ne-none}
 use lib.ListN.{get_elem?}
-use Rattle.dr_graph.specs.Graph.{IsGraph}
-use Rattle.dr_core.specs.Machine as machine
-use Rattle.dr_ring.specs.Meaning.Shape.{Shape, handlers_of, setup_of}
+use Rattle.dr_graph.specs.Meaning.Graph.{IsGraph}
+use Rattle.dr_core.specs.Meaning.Machine as machine
+use Rattle.dr_ring.specs.Meaning.Shape.{Shape, handlers_of, ring_setup}
 use Rattle.dr_ring.specs.Meaning.Words.{cursor_word, closed_word, halt_word, count_word, words_of}
 use Rattle.dr_ring.specs.declared.record.ReceiverRecord.{ReceiverRecord}
-use Rattle.dr_ring.specs.Meaning.Kept.{Kept, ReceiverKept}
-use Rattle.dr_ring.specs.Meaning.Moments.{fresh_receiver, fresh_receivers, opening, taken_of, picture_of}
+use Rattle.dr_ring.specs.Meaning.Rule.{KeepsRule, ReceiverKept}
+use Rattle.dr_ring.specs.Meaning.Moments.{fresh_receiver, fresh_receivers, new_world, taken_of, picture_of}
 
 pub fresh_at : (k : Shape) (h n i : ℕ) (r : ReceiverRecord) → get_elem? (fresh_receivers k h n) i ≡ some r → r ≡ fresh_receiver k (h + i)
 fresh_at k h zero i r e = absurd (some-ne-none r (sym e))
@@ -34,7 +34,7 @@ all_zero n i =
       | inr past ↦ get_or_past (zeros n) i 0 (omega (arith, length-replicate n z))
     ]
 
-pub kept_opening : (k : Shape) → IsGraph k.upstreams → 0 < k.size → Kept k (opening k)
+pub kept_opening : (k : Shape) → IsGraph k.upstreams → 0 < k.size → KeepsRule k (new_world k)
 kept_opening k graph some_slot = let n = words_of k in let ws = zeros n in let halt = all_zero n halt_word in let close = all_zero n closed_word in record {
   graph = graph;
   some_slot = some_slot;
@@ -71,8 +71,8 @@ no_counts : (m a n : ℕ) → map (λ h. get_or (zeros m) (count_word h) 0) (ran
 no_counts m a zero = refl
 no_counts m a (suc n) = λ i. all_zero m (count_word a) i ∷ no_counts m (a + 1) n i
 
-pub opens : (k : Shape) → picture_of k (opening k) ≡ machine.opening (setup_of k)
-opens k = let n = words_of k in λ i. record (machine.opening (setup_of k)) {
+pub opens : (k : Shape) → picture_of k (new_world k) ≡ machine.opening (ring_setup k)
+opens k = let n = words_of k in λ i. record (machine.opening (ring_setup k)) {
   published = λ s. (ap (nat_lt s) (all_zero n cursor_word) ∙ le-ltb s 0 (omega arith)) i;
   taken = none_taken k 0 (handlers_of k) i;
   completed = no_counts n 0 (handlers_of k) i;

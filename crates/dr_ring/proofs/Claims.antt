@@ -7,9 +7,9 @@ use Rattle.dr_seq.specs.declared.event.Event.{Event}
 use Rattle.dr_core.specs.declared.refusal.Refusal.TheVariants.{NoRoom, Halted}
 use Rattle.dr_core.specs.declared.command.Claimed.{Claimed}
 use Rattle.dr_core.specs.declared.refusal.Refusal.{Refusal}
-use Rattle.dr_core.specs.Refusals.{claim_causes, IsFirst}
-use Rattle.dr_core.specs.Ends.{Sent, MayHold, MayFail, claim_tests, with_claimed}
-use Rattle.dr_graph.specs.Graph.{finals}
+use Rattle.dr_core.specs.Meaning.Refusals.{claim_causes, IsFirst}
+use Rattle.dr_core.specs.Calls.Ends.{Sent, MayHold, MayFail, claim_tests, with_claimed}
+use Rattle.dr_graph.specs.Meaning.Graph.{finals}
 use Rattle.dr_ring.specs.Meaning.Shape.{Shape}
 use Rattle.dr_ring.specs.Meaning.Words.{halt_word, count_word}
 use Rattle.dr_ring.specs.declared.record.Look.{Look}

@@ -5,15 +5,15 @@ use mathlib.Core.Option.{some, some-injective, some-ne-none}
 use lib.ListN.{get_elem?}
 use Rattle.atomic_table.specs.Table.{Splits, Joins, opening as table_opening}
 use Rattle.atomic_table.proofs.Lists.{at_set}
-use Rattle.dr_graph.specs.Graph.{IsGraph}
+use Rattle.dr_graph.specs.Meaning.Graph.{IsGraph}
 use Rattle.dr_ring.specs.Meaning.Shape.{Shape, handlers_of}
 use Rattle.dr_ring.specs.Meaning.Words.{words_of}
 use Rattle.dr_ring.specs.declared.record.ReceiverRecord.{ReceiverRecord}
 use Rattle.dr_ring.specs.declared.record.EndRecord.{EndRecord}
 use Rattle.dr_ring.specs.declared.record.EndRecord.TheVariants.{Sends, Receives, Halts}
-use Rattle.dr_ring.specs.Meaning.Kept.{World}
-use Rattle.dr_ring.specs.Meaning.Moments.{fresh_sender, fresh_receivers, fresh_halter, opening}
-use Rattle.dr_ring.specs.Inside.Seats.{Known, EachPast, Saw, end_number, Stands, world_of, Ruled, all_ends}
+use Rattle.dr_ring.specs.Meaning.Rule.{World}
+use Rattle.dr_ring.specs.Meaning.Moments.{fresh_sender, fresh_receivers, fresh_halter, new_world}
+use Rattle.dr_ring.specs.Inside.Seats.{KnownEnds, EachPast, Saw, end_number, Stands, world_of, Ruled, all_ends}
 use Rattle.dr_ring.specs.Inside.Gathering.{both_views}
 use Rattle.dr_ring.specs.declared.record.Step.{Step}
 use Rattle.dr_ring.specs.declared.record.View.{View}
@@ -44,8 +44,8 @@ one_view : (P : ℕ → View → Type 0) (first : View) → P 0 first → (id : 
 one_view P first p zero v at = subst (P 0) (some-injective first v at) p
 one_view P first p (suc id) v at = absurd (some-ne-none v (sym at))
 
-saw_fresh : (k : Shape) (e : EndRecord) → Stands (opening k) e → Saw k [] e []
-saw_fresh k e stands = record { begins = ([], refl); entries = []; world = opening k; runs = (refl, refl); stands = stands; stores = refl }
+saw_fresh : (k : Shape) (e : EndRecord) → Stands (new_world k) e → Saw k [] e []
+saw_fresh k e stands = record { begins = ([], refl); entries = []; world = new_world k; runs = (refl, refl); stands = stands; stores = refl }
 
 each_receiver : (P : EndRecord → List Step → Type 0) (rs : List ReceiverRecord)
     → ((j : ℕ) (r : ReceiverRecord) → get_elem? rs j ≡ some r → P (Receives r) []) → EachPast P (map (λ r. Receives r) rs) (map (λ r. []) rs)
@@ -102,12 +102,12 @@ moved_other : (id new id' j : ℕ) (p : ℕ × ℕ) → id' ≢ id → p ≡ (id
 unfolding moved
 moved_other id new id' j p ne e = ap (moved id new) e ∙ rw (ne_eqb id' id ne) refl
 
-first_of_view : (v : Known) (j : ℕ) (e : EndRecord) → get_elem? (take 1 v) j ≡ some e → (j ≡ 0) × (get_elem? v 0 ≡ some e)
+first_of_view : (v : KnownEnds) (j : ℕ) (e : EndRecord) → get_elem? (take 1 v) j ≡ some e → (j ≡ 0) × (get_elem? v 0 ≡ some e)
 first_of_view [] j e at = absurd (some-ne-none e (sym at))
 first_of_view (x ∷ xs) zero e at = (refl, at)
 first_of_view (x ∷ xs) (suc j) e at = absurd (some-ne-none e (sym at))
 
-rest_of_view : (v : Known) (j : ℕ) (e : EndRecord) → get_elem? (drop 1 v) j ≡ some e → get_elem? v (suc j) ≡ some e
+rest_of_view : (v : KnownEnds) (j : ℕ) (e : EndRecord) → get_elem? (drop 1 v) j ≡ some e → get_elem? v (suc j) ≡ some e
 rest_of_view [] j e at = absurd (some-ne-none e (sym at))
 rest_of_view (x ∷ xs) j e at = at
 
@@ -174,7 +174,7 @@ joined_else : (id n other id' j : ℕ) (p : ℕ × ℕ) → id' ≢ other → p 
 unfolding joined
 joined_else id n other id' j p ne e = ap (joined id n other) e ∙ rw (ne_eqb id' other ne) refl
 
-at_both : (v w : Known) (j : ℕ) (e : EndRecord) → get_elem? (v ++ w) j ≡ some e
+at_both : (v w : KnownEnds) (j : ℕ) (e : EndRecord) → get_elem? (v ++ w) j ≡ some e
     → (get_elem? v j ≡ some e) ⊎ ((i : ℕ) × (j ≡ length v + i) × (get_elem? w i ≡ some e))
 at_both [] w j e at = inr (j, omega arith, at)
 at_both (x ∷ xs) w zero e at = inl at

@@ -3,15 +3,15 @@ use Rattle.std.proofs.Common.{◌≡◌, ◌≢◌, ℕ, ◌-◌, ◌<◌, ◌�
 use Rattle.std.proofs.lemmas.Bool.{ne_eqb}
 use Rattle.std.proofs.lemmas.List.{length-append, length-take, length-drop, length-map, append-nil}
 use Rattle.dr_seq.specs.declared.event.Event.{Event}
-use Rattle.dr_core.specs.Transcript.{Transcript}
-use Rattle.dr_core.specs.Ends.{event_or_none}
+use Rattle.dr_core.specs.Meaning.Transcript.{Transcript}
+use Rattle.dr_core.specs.Calls.Ends.{event_or_none}
 use Rattle.dr_ring.specs.Meaning.Shape.{Shape}
 use Rattle.dr_ring.specs.Meaning.Words.{cursor_word, closed_word, halt_word, count_word, payload_word}
 use Rattle.dr_ring.specs.declared.record.Step.{Step}
 use Rattle.dr_ring.specs.declared.record.Step.TheVariants.{SenderLooksAtCount, SenderLooksAtHalt, SenderStoresFirst, SenderStoresSecond, SenderPublishes, SenderHalts, SenderCloses, ReceiverLooksAtClosed, ReceiverLooksAtCursor, ReceiverLooksAtCount, ReceiverLoadsFirst, ReceiverLoadsSecond, ReceiverCompletes, HalterHalts}
 use Rattle.dr_ring.specs.declared.record.SenderRecord.{SenderRecord}
 use Rattle.dr_ring.specs.Meaning.Records.{claimed, halt_looked, published_to}
-use Rattle.dr_ring.specs.Meaning.Kept.{World, Kept}
+use Rattle.dr_ring.specs.Meaning.Rule.{World, KeepsRule}
 use Rattle.dr_ring.specs.Meaning.Steps.{Happens}
 use Rattle.dr_ring.specs.Meaning.Moments.{Runs}
 use Rattle.dr_ring.proofs.Keeps.{word_at}
@@ -37,7 +37,7 @@ still_claimed r m lt le =
     let count : length new ≡ m - length old = length-map (take (m - length old) pending) event_or_none ∙ omega (arith, length-take (m - length old) pending) in
     omega (arith, length-append old new, length-drop (m - length old) pending)
 
-pub halted_step : (k : Shape) (s : Step) (w u : World) (n : ℕ) → Happens k s w u → Kept k w → HaltedAt n w → HaltedAt n u
+pub halted_step : (k : Shape) (s : Step) (w u : World) (n : ℕ) → Happens k s w u → KeepsRule k w → HaltedAt n w → HaltedAt n u
 halted_step k (SenderLooksAtCount f) w u n H K is = subst (HaltedAt n) (sym H.1) is
 halted_step k (SenderLooksAtHalt m) w u n H K is = subst (HaltedAt n) (sym H.1) (is.0, no_claim w n m is)
 halted_step k (SenderStoresFirst s v) w u n H K is = subst (HaltedAt n) (sym H.2) (other_word w n (payload_word k s 0) v (λ e. omega arith) is.0, is.1)
@@ -62,6 +62,6 @@ halted_step k (ReceiverLoadsSecond h) w u n H K is = subst (HaltedAt n) (sym H.2
 halted_step k (ReceiverCompletes h m) w u n H K is = subst (HaltedAt n) (sym H.2.2) (other_word w n (count_word h) m (λ e. omega arith) is.0, is.1)
 halted_step k HalterHalts w u n H K is = let wide = K.wide in subst (HaltedAt n) (sym H) (get_or-set_same w.words halt_word 1 0 (omega arith), is.1)
 
-pub halted_runs : (k : Shape) (steps : List Step) (es : Transcript) (w u : World) (n : ℕ) → Runs k steps es w u → Kept k w → HaltedAt n w → HaltedAt n u
+pub halted_runs : (k : Shape) (steps : List Step) (es : Transcript) (w u : World) (n : ℕ) → Runs k steps es w u → KeepsRule k w → HaltedAt n w → HaltedAt n u
 halted_runs k [] es w u n R K is = subst (HaltedAt n) R.1 is
 halted_runs k (s ∷ steps) es w u n R K is = halted_runs k steps R.1 R.0 u n R.4 (keeps_step k s w R.0 R.2 K) (halted_step k s w R.0 n R.2 K is)

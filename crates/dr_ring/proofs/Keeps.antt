@@ -6,16 +6,16 @@ use Rattle.std.proofs.lemmas.List.{length-append, length-replicate, get_or_appen
 use mathlib.Core.Option.{some}
 use lib.ListN.{get_elem?}
 use Rattle.dr_seq.specs.declared.event.Event.{Event}
-use Rattle.dr_graph.specs.Graph.{nobody, upstreams_of, IsOrderly, IsGated, IsGraph}
-use Rattle.dr_core.specs.Ends.{with_claimed}
+use Rattle.dr_graph.specs.Meaning.Graph.{nobody, upstreams_of, IsOrderly, IsGated, IsGraph}
+use Rattle.dr_core.specs.Calls.Ends.{with_claimed}
 use Rattle.dr_ring.specs.Meaning.Shape.{Shape, handlers_of}
 use Rattle.dr_ring.specs.Meaning.Words.{cursor_word, closed_word, halt_word, count_word, payload_start, payload_word, words_of}
 use Rattle.dr_ring.specs.declared.record.HalfWrite.{HalfWrite}
 use Rattle.dr_ring.specs.declared.record.Look.{Look}
 use Rattle.dr_ring.specs.declared.record.SenderRecord.{SenderRecord}
 use Rattle.dr_ring.specs.declared.record.ReceiverRecord.{ReceiverRecord}
-use Rattle.dr_ring.specs.Meaning.Records.{claimed, look, sender_looked, halt_looked, half_written, written, HasRoom, IsOpen}
-use Rattle.dr_ring.specs.Meaning.Kept.{World, Room, first_stored, Payload, HaltAndClose, ArePast, ReceiverKept, Kept}
+use Rattle.dr_ring.specs.Meaning.Records.{claimed, look, sender_looked, halt_looked, half_written, written, SeesRoom, IsOpen}
+use Rattle.dr_ring.specs.Meaning.Rule.{World, Room, first_stored, Payload, HaltAndClose, ArePast, ReceiverKept, KeepsRule}
 use Rattle.dr_ring.specs.Meaning.Steps.{sender_knows, sender_stores}
 use Rattle.dr_ring.proofs.Lists.{there, at_below, final_inside, contains_none, past_set, past_more, last_look_le, apart}
 
@@ -23,12 +23,12 @@ abbrev pub word_at : List ℕ → ℕ → ℕ
 word_at words i = get_or words i 0
 
 -- what a handler completed, by its word
-pub receiver_of_handler : (k : Shape) (w : World) → Kept k w → (h : ℕ) → h < handlers_of k
+pub receiver_of_handler : (k : Shape) (w : World) → KeepsRule k w → (h : ℕ) → h < handlers_of k
     → (r : ReceiverRecord) × (get_elem? w.receivers h ≡ some r) × ReceiverKept k w.words w.sender.sent.published h r
 receiver_of_handler k w K h lt = let count = K.ends in let t = there w.receivers h (omega arith) in (t.0, t.1, K.received h t.0 t.1)
 
 -- completed counts fall along the graph
-pub orderly : (k : Shape) (w : World) → Kept k w → IsOrderly k.upstreams (λ h. word_at w.words (count_word h))
+pub orderly : (k : Shape) (w : World) → KeepsRule k w → IsOrderly k.upstreams (λ h. word_at w.words (count_word h))
 orderly k w K h u has =
     elim (cases_lt h (handlers_of k)) [
       | inl lt ↦
@@ -40,13 +40,13 @@ orderly k w K h u has =
     ]
 
 -- no claim is more than a round ahead of any handler
-pub above : (k : Shape) (w : World) → Kept k w → (h : ℕ) → h < handlers_of k → claimed w.sender ≤ k.size + word_at w.words (count_word h)
+pub above : (k : Shape) (w : World) → KeepsRule k w → (h : ℕ) → h < handlers_of k → claimed w.sender ≤ k.size + word_at w.words (count_word h)
 above k w K h lt =
     let g : IsGated k.upstreams nobody (λ h. word_at w.words (count_word h)) h = K.graph.gate nobody (λ h. word_at w.words (count_word h)) (orderly k w K) h lt refl in
     let r : claimed w.sender ≤ k.size + word_at w.words (count_word g.last) = K.room g.last g.final in
     let b : word_at w.words (count_word g.last) ≤ word_at w.words (count_word h) = g.behind in omega arith
 
-pub near : (k : Shape) (w : World) → Kept k w → claimed w.sender ≤ k.size + length w.sender.sent.published
+pub near : (k : Shape) (w : World) → KeepsRule k w → claimed w.sender ≤ k.size + length w.sender.sent.published
 near k w K =
     let some_one = K.graph.some in let a = above k w K 0 some_one in let t = receiver_of_handler k w K 0 some_one in
     let d = t.2.count in let c = t.2.completed in let b = t.2.taken in omega arith
@@ -110,8 +110,8 @@ receiver_stays k words us published h r graph inside same rises closes past was 
 sender_learns : (k : Shape) (w : World) (pending : List (Option Event)) (looks : List Look) → length w.sender.sent.published + length pending ≤ k.limit
     → Room k w.words (length w.sender.sent.published + length pending)
     → Payload k w.words w.sender.sent.published pending w.sender.half → HaltAndClose w.words (length pending) w.sender.halted w.sender.closed w.halter.halted
-    → ArePast k w.words looks → Kept k w
-    → Kept k (sender_knows w (record w.sender { sent = record w.sender.sent { pending = pending }; looks = looks }))
+    → ArePast k w.words looks → KeepsRule k w
+    → KeepsRule k (sender_knows w (record w.sender { sent = record w.sender.sent { pending = pending }; looks = looks }))
 sender_learns k w pending looks limit room payload flags past K = record {
   graph = K.graph;
   some_slot = K.some_slot;
@@ -127,8 +127,8 @@ sender_learns k w pending looks limit room payload flags past K = record {
   looks = past;
 }
 
-pub keeps_sender_looks : (k : Shape) (w : World) (i : ℕ) → i < payload_start k → Kept k w
-    → Kept k (sender_knows w (sender_looked w.sender i (word_at w.words i)))
+pub keeps_sender_looks : (k : Shape) (w : World) (i : ℕ) → i < payload_start k → KeepsRule k w
+    → KeepsRule k (sender_knows w (sender_looked w.sender i (word_at w.words i)))
 keeps_sender_looks k w i lt K = sender_learns k w w.sender.sent.pending (sender_looked w.sender i (word_at w.words i)).looks K.counts.limit K.room K.payload K.flags (past_more k w.words i w.sender.looks lt K.looks) K
 
 payload_claims : (k : Shape) (words : List ℕ) (published : List Event) (pending : List (Option Event)) (half : Option HalfWrite) (n : ℕ)
@@ -147,8 +147,8 @@ payload_claims k words published pending half n P =
     }
 
 -- the sender looks at halt, finds 0 and claims
-claims_more : (k : Shape) (w : World) (n : ℕ) → HasRoom k w.sender n → word_at w.words halt_word ≡ 0 → Kept k w
-    → Kept k (sender_knows w (record w.sender { sent = with_claimed w.sender.sent n; looks = w.sender.looks ++ look halt_word (word_at w.words halt_word) ∷ [] }))
+claims_more : (k : Shape) (w : World) (n : ℕ) → SeesRoom k w.sender n → word_at w.words halt_word ≡ 0 → KeepsRule k w
+    → KeepsRule k (sender_knows w (record w.sender { sent = with_claimed w.sender.sent n; looks = w.sender.looks ++ look halt_word (word_at w.words halt_word) ∷ [] }))
 claims_more k w n room going K =
     let pending = w.sender.sent.pending in let nothing : Option Event = None in let more = pending ++ replicate n nothing in let F = K.flags in
     let longer : length more ≡ length pending + n = omega (arith, length-append pending (replicate n nothing), length-replicate n nothing) in
@@ -171,13 +171,13 @@ claims_more k w n room going K =
 abbrev opens : ℕ → ℕ → List (Option Event)
 opens n found = if found == 0 then replicate n None else []
 
-pub keeps_halt_look : (k : Shape) (w : World) (n : ℕ) → (0 < n → HasRoom k w.sender n) → Kept k w
-    → Kept k (sender_knows w (halt_looked w.sender n (word_at w.words halt_word)))
+pub keeps_halt_look : (k : Shape) (w : World) (n : ℕ) → (0 < n → SeesRoom k w.sender n) → KeepsRule k w
+    → KeepsRule k (sender_knows w (halt_looked w.sender n (word_at w.words halt_word)))
 keeps_halt_look k w n room K =
     let found = word_at w.words halt_word in
-    let P : List (Option Event) → Type 0 = λ more. Kept k (sender_knows w (record w.sender { sent = record w.sender.sent { pending = w.sender.sent.pending ++ more }; looks = w.sender.looks ++ look halt_word found ∷ [] })) in
-    let nothing : Kept k (sender_knows w (sender_looked w.sender halt_word found)) = keeps_sender_looks k w halt_word (omega arith) K in
-    let none : P [] = subst (λ (xs : List (Option Event)). Kept k (sender_knows w (record w.sender { sent = record w.sender.sent { pending = xs }; looks = w.sender.looks ++ look halt_word found ∷ [] }))) (sym (append-nil w.sender.sent.pending)) nothing in
+    let P : List (Option Event) → Type 0 = λ more. KeepsRule k (sender_knows w (record w.sender { sent = record w.sender.sent { pending = w.sender.sent.pending ++ more }; looks = w.sender.looks ++ look halt_word found ∷ [] })) in
+    let nothing : KeepsRule k (sender_knows w (sender_looked w.sender halt_word found)) = keeps_sender_looks k w halt_word (omega arith) K in
+    let none : P [] = subst (λ (xs : List (Option Event)). KeepsRule k (sender_knows w (record w.sender { sent = record w.sender.sent { pending = xs }; looks = w.sender.looks ++ look halt_word found ∷ [] }))) (sym (append-nil w.sender.sent.pending)) nothing in
     elim (cases_eq found 0) [
       | inl e ↦ elim (cases_lt 0 n) [
         | inl some_one ↦ (let same : opens n found ≡ replicate n None = rw (eq-eqb found 0 e) refl in subst P (sym same) (claims_more k w n (room some_one) e K))
@@ -190,8 +190,8 @@ keeps_halt_look k w n room K =
 payload_kept : (k : Shape) (w : World) (i v : ℕ) (r : SenderRecord) → payload_start k ≤ i → i < words_of k → r.plan ≡ w.sender.plan
     → r.sent.published ≡ w.sender.sent.published → length r.sent.pending ≡ length w.sender.sent.pending → r.halted ≡ w.sender.halted → r.closed ≡ w.sender.closed
     → r.looks ≡ w.sender.looks
-    → Payload k (set w.words i v) w.sender.sent.published r.sent.pending r.half → Kept k w
-    → Kept k (sender_stores w i v (record w.sender { sent = record w.sender.sent { pending = r.sent.pending }; half = r.half }))
+    → Payload k (set w.words i v) w.sender.sent.published r.sent.pending r.half → KeepsRule k w
+    → KeepsRule k (sender_stores w i v (record w.sender { sent = record w.sender.sent { pending = r.sent.pending }; half = r.half }))
 payload_kept k w i v r low high p1 p2 p3 p4 p5 p6 payload K =
     let wide = K.wide in let us = set w.words i v in let inside : i < length w.words = omega arith in
     let stays : (j : ℕ) → j < payload_start k → word_at us j ≡ word_at w.words j = λ j below. get_or-set_other w.words i j v 0 (λ (e : j ≡ i). omega arith) in
@@ -219,7 +219,7 @@ stored_here s v event t e = rw (eq-eqb s t (sym e)) refl
 stored_else : (x : HalfWrite) (event : Event) (t : ℕ) → t ≢ x.sequence → first_stored (Some x) t event ≡ event.first
 stored_else x event t ne = rw (ne_eqb x.sequence t (λ (e : x.sequence ≡ t). ne (sym e))) refl
 
-payload_first : (k : Shape) (w : World) (s v : ℕ) → IsOpen w.sender s → w.sender.half ≡ None → Kept k w
+payload_first : (k : Shape) (w : World) (s v : ℕ) → IsOpen w.sender s → w.sender.half ≡ None → KeepsRule k w
     → Payload k (set w.words (payload_word k s 0) v) w.sender.sent.published w.sender.sent.pending (Some record { sequence = s; first = v })
 payload_first k w s v is free K =
     let P = K.payload in let wide = K.wide in let some_slot = K.some_slot in let close = near k w K in let le = is.0 in let lt = is.1 in
@@ -245,12 +245,12 @@ payload_first k w s v is free K =
           subst (λ (y : HalfWrite). (len ≤ y.sequence) × (y.sequence < len + length w.sender.sent.pending) × (word_at us (payload_word k y.sequence 0) ≡ y.first)) same (le, lt, get_or-set_same w.words i v 0 inside));
     }
 
-pub keeps_first : (k : Shape) (w : World) (s v : ℕ) → IsOpen w.sender s → w.sender.half ≡ None → Kept k w
-    → Kept k (sender_stores w (payload_word k s 0) v (half_written w.sender s v))
+pub keeps_first : (k : Shape) (w : World) (s v : ℕ) → IsOpen w.sender s → w.sender.half ≡ None → KeepsRule k w
+    → KeepsRule k (sender_stores w (payload_word k s 0) v (half_written w.sender s v))
 keeps_first k w s v is free K = let some_slot = K.some_slot in
     payload_kept k w (payload_word k s 0) v (half_written w.sender s v) (omega arith) (omega arith) refl refl refl refl refl refl (payload_first k w s v is free K) K
 
-payload_second : (k : Shape) (w : World) (x : HalfWrite) (v : ℕ) → w.sender.half ≡ Some x → Kept k w
+payload_second : (k : Shape) (w : World) (x : HalfWrite) (v : ℕ) → w.sender.half ≡ Some x → KeepsRule k w
     → Payload k (set w.words (payload_word k x.sequence 1) v) w.sender.sent.published (set w.sender.sent.pending (x.sequence - length w.sender.sent.published) (Some record { first = x.first; second = v })) None
 payload_second k w x v has K =
     let P = K.payload in let wide = K.wide in let some_slot = K.some_slot in let close = near k w K in
@@ -283,7 +283,7 @@ payload_second k w x v has K =
       halves = λ y e. absurd (cc);
     }
 
-pub keeps_second : (k : Shape) (w : World) (x : HalfWrite) (v : ℕ) → w.sender.half ≡ Some x → Kept k w
-    → Kept k (sender_stores w (payload_word k x.sequence 1) v (written w.sender x.sequence record { first = x.first; second = v }))
+pub keeps_second : (k : Shape) (w : World) (x : HalfWrite) (v : ℕ) → w.sender.half ≡ Some x → KeepsRule k w
+    → KeepsRule k (sender_stores w (payload_word k x.sequence 1) v (written w.sender x.sequence record { first = x.first; second = v }))
 keeps_second k w x v has K = let some_slot = K.some_slot in
     payload_kept k w (payload_word k x.sequence 1) v (written w.sender x.sequence record { first = x.first; second = v }) (omega arith) (omega arith) refl refl (length-set w.sender.sent.pending _ _) refl refl refl (payload_second k w x v has K) K

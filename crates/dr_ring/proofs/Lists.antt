@@ -6,13 +6,13 @@ use mathlib.Core.Option.{some, some-injective, some-ne-none}
 use lib.ListN.{get_elem?}
 use Rattle.atomic_table.proofs.Lists.{at_set, at_snoc}
 use Rattle.dr_seq.proofs.Apart.{slots_differ}
-use Rattle.dr_graph.specs.Graph.{finals, nobody}
+use Rattle.dr_graph.specs.Meaning.Graph.{finals, nobody}
 use Rattle.dr_graph.proofs.Gating.{final_left}
 use Rattle.dr_ring.specs.Meaning.Shape.{Shape}
 use Rattle.dr_ring.specs.Meaning.Words.{payload_start, payload_word}
 use Rattle.dr_ring.specs.declared.record.Look.{Look}
 use Rattle.dr_ring.specs.Meaning.Records.{look, last_look}
-use Rattle.dr_ring.specs.Meaning.Kept.{IsPast, ArePast}
+use Rattle.dr_ring.specs.Meaning.Rule.{IsPast, ArePast}
 
 pub there : {A : Type 0} (l : List A) (i : ℕ) → i < length l → (a : A) × (get_elem? l i ≡ some a)
 there [] i h = absurd (omega arith)

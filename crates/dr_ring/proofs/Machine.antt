@@ -9,14 +9,14 @@ use Rattle.dr_seq.specs.declared.event.Event.{Event}
 use Rattle.dr_seq.specs.Event.{no_event}
 use Rattle.dr_core.specs.declared.command.Command.TheVariants.{Claim, Write, Publish, Poll, Complete}
 use Rattle.dr_core.specs.declared.command.Reply.TheVariants.{Claimed, Written, Published, Batch, Drained, Completed}
-use Rattle.dr_graph.specs.Graph.{finals, least_of}
-use Rattle.dr_core.specs.Machine.{State, opening, least_outside, front, offered, available, least_completed, publish_faults, refusals, accepted, step}
+use Rattle.dr_graph.specs.Meaning.Graph.{finals, least_of}
+use Rattle.dr_core.specs.Meaning.Machine.{State, opening, least_outside, front, offered, available, least_completed, publish_faults, refusals, accepted, step}
 use Rattle.dr_core.proofs.Steps.{NoneHold, NoneHold-join, unless-none}
-use Rattle.dr_ring.specs.Meaning.Shape.{Shape, handlers_of, setup_of}
+use Rattle.dr_ring.specs.Meaning.Shape.{Shape, handlers_of, ring_setup}
 
 -- a state of which n sequences are claimed, with what is written to each, and all below f published; the rest is as at the opening
 abbrev pub shown : Shape → ℕ → List (Option Event) → ℕ → List ℕ → List ℕ → Bool → State
-shown k n vs f t d b = record (opening (setup_of k)) {
+shown k n vs f t d b = record (opening (ring_setup k)) {
   owners = replicate n 0;
   written = λ s. get_or vs s None;
   published = λ s. nat_lt s f;
@@ -68,11 +68,11 @@ same_written vs j s = let nothing : Option Event = None in
 
 pub claim_step : (k : Shape) (n j : ℕ) (vs : List (Option Event)) (f : ℕ) (t d : List ℕ) → 0 < j → j ≤ k.size → n + j ≤ k.limit
     → n + j ≤ k.size + least_completed (shown k n vs f t d false) (finals k.upstreams)
-    → step (setup_of k) (shown k n vs f t d false)
+    → step (ring_setup k) (shown k n vs f t d false)
     (Claim 0 j) ≡ record { reply = Claimed n (n + j - 1); values = []; state = shown k (n + j) (vs ++ replicate j None) f t d false }
 claim_step k n j vs f t d some_one fits limit room =
     let m = shown k n vs f t d false in let len = count_owners n in
-    unless-none (refusals (setup_of k) m (Claim 0 j)) m (accepted (setup_of k) m (Claim 0 j))
+    unless-none (refusals (ring_setup k) m (Claim 0 j)) m (accepted (ring_setup k) m (Claim 0 j))
     (refl, (rw (ne_eqb j 0 (λ (e : j ≡ 0). omega arith)) (le-ltb k.size j fits), (refl, (le-ltb k.limit (length (owners n) + j) (omega arith), (le-ltb (k.size + least_completed m (finals k.upstreams)) (length (owners n) + j) (omega arith), tt)))))
     ∙
     (λ i. record { reply = Claimed (len i) (len i + j - 1); values = []; state = record m { owners = more_owners n j i; written = λ s. same_written vs j s i } })
@@ -90,10 +90,10 @@ owner_is : (n s : ℕ) → s < n → (get_or (owners n) s 0 == 0) ≡ true
 owner_is n s lt = let z : ℕ = 0 in eq-eqb (get_or (owners n) s 0) 0 (get_or-replicate n s z z lt)
 
 pub write_step : (k : Shape) (n : ℕ) (vs : List (Option Event)) (f : ℕ) (t d : List ℕ) (b : Bool) (s : ℕ) (e : Event) → length vs ≡ n → f ≤ s → s < n
-    → step (setup_of k) (shown k n vs f t d b) (Write 0 s e) ≡ record { reply = Written; values = []; state = shown k n (set vs s (Some e)) f t d b }
+    → step (ring_setup k) (shown k n vs f t d b) (Write 0 s e) ≡ record { reply = Written; values = []; state = shown k n (set vs s (Some e)) f t d b }
 write_step k n vs f t d b s e count le lt =
     let m = shown k n vs f t d b in let len = count_owners n in
-    unless-none (refusals (setup_of k) m (Write 0 s e)) m (accepted (setup_of k) m (Write 0 s e))
+    unless-none (refusals (ring_setup k) m (Write 0 s e)) m (accepted (ring_setup k) m (Write 0 s e))
     (refl, (lt-leb (length (owners n)) s (omega arith), (le-ltb s f le, (ap not (owner_is n s lt), tt))))
     ∙ (λ i. record { reply = Written; values = []; state = record m { written = λ q. set_written vs s e (omega arith) q i } })
 
@@ -116,11 +116,11 @@ covers_below f q s lt =
 
 pub publish_step : (k : Shape) (n : ℕ) (vs : List (Option Event)) (f : ℕ) (t d : List ℕ) (b : Bool) (q : ℕ) → f < q → q ≤ n
     → ((s : ℕ) → f ≤ s → s < q → is_none (get_or vs s None) ≡ false)
-    → step (setup_of k) (shown k n vs f t d b) (Publish 0 f (q - 1)) ≡ record { reply = Published; values = []; state = shown k n vs q t d b }
+    → step (ring_setup k) (shown k n vs f t d b) (Publish 0 f (q - 1)) ≡ record { reply = Published; values = []; state = shown k n vs q t d b }
 publish_step k n vs f t d b q lt within all =
     let m = shown k n vs f t d b in let len = count_owners n in
     let at : f ≡ front m = sym (shown_front k n vs f t d b (omega arith)) in
-    unless-none (refusals (setup_of k) m (Publish 0 f (q - 1))) m (accepted (setup_of k) m (Publish 0 f (q - 1))) (
+    unless-none (refusals (ring_setup k) m (Publish 0 f (q - 1))) m (accepted (ring_setup k) m (Publish 0 f (q - 1))) (
       refl,
       (
         le-ltb (q - 1) f (omega arith),
@@ -134,32 +134,32 @@ publish_step k n vs f t d b q lt within all =
     )
     ∙ (λ i. record { reply = Published; values = []; state = record m { published = λ s. covers_below f q s lt i } })
 
-pub take_step : (k : Shape) (m : State) (h : ℕ) → h < handlers_of k → m.retired h ≡ false → get_or m.taken h 0 < available (setup_of k) m h
-    → step (setup_of k) m
+pub take_step : (k : Shape) (m : State) (h : ℕ) → h < handlers_of k → m.retired h ≡ false → get_or m.taken h 0 < available (ring_setup k) m h
+    → step (ring_setup k) m
     (Poll h 1) ≡ record {
-      reply = Batch (get_or m.taken h 0) 1 (get_or m.taken h 0 + 1 == available (setup_of k) m h);
+      reply = Batch (get_or m.taken h 0) 1 (get_or m.taken h 0 + 1 == available (ring_setup k) m h);
       values = unwrap_or
           (m.written (get_or m.taken h 0)) no_event ∷ [];
       state = record m { taken = set m.taken h (get_or m.taken h 0 + 1) };
     }
 take_step k m h inside here more =
-    let at = get_or m.taken h 0 in let to = available (setup_of k) m h in let one : min (to - at) 1 ≡ 1 = omega arith in
-    unless-none (refusals (setup_of k) m (Poll h 1)) m (accepted (setup_of k) m (Poll h 1)) (lt-leb (handlers_of k) h inside, (here, (refl, tt)))
+    let at = get_or m.taken h 0 in let to = available (ring_setup k) m h in let one : min (to - at) 1 ≡ 1 = omega arith in
+    unless-none (refusals (ring_setup k) m (Poll h 1)) m (accepted (ring_setup k) m (Poll h 1)) (lt-leb (handlers_of k) h inside, (here, (refl, tt)))
     ∙ rw (lt-ltb at to more)
     (λ i. record { reply = Batch at (one i) (at + one i == to); values = map (λ s. unwrap_or (m.written s) no_event) (range_with_len at (one i)); state = record m { taken = set m.taken h (at + one i) } })
 
 pub drained_step : (k : Shape) (n : ℕ) (vs : List (Option Event)) (f : ℕ) (t d : List ℕ) (h : ℕ) → h < handlers_of k
-    → available (setup_of k) (shown k n vs f t d true) h ≤ n → get_or t h 0 ≡ n
-    → step (setup_of k) (shown k n vs f t d true) (Poll h 1) ≡ record { reply = Drained; values = []; state = shown k n vs f t d true }
+    → available (ring_setup k) (shown k n vs f t d true) h ≤ n → get_or t h 0 ≡ n
+    → step (ring_setup k) (shown k n vs f t d true) (Poll h 1) ≡ record { reply = Drained; values = []; state = shown k n vs f t d true }
 drained_step k n vs f t d h inside none all =
     let m = shown k n vs f t d true in let len = count_owners n in
-    unless-none (refusals (setup_of k) m (Poll h 1)) m (accepted (setup_of k) m (Poll h 1)) (lt-leb (handlers_of k) h inside, (refl, (refl, tt)))
-    ∙ rw (le-ltb (get_or t h 0) (available (setup_of k) m h) (omega arith), eq-eqb (get_or t h 0) (length (owners n)) (omega arith)) refl
+    unless-none (refusals (ring_setup k) m (Poll h 1)) m (accepted (ring_setup k) m (Poll h 1)) (lt-leb (handlers_of k) h inside, (refl, (refl, tt)))
+    ∙ rw (le-ltb (get_or t h 0) (available (ring_setup k) m h) (omega arith), eq-eqb (get_or t h 0) (length (owners n)) (omega arith)) refl
 
 pub complete_step : (k : Shape) (m : State) (h n : ℕ) → h < handlers_of k → m.retired h ≡ false → get_or m.completed h 0 ≤ n → n ≤ get_or m.taken h 0
-    → step (setup_of k) m (Complete h n) ≡ record { reply = Completed; values = []; state = record m { completed = set m.completed h n } }
+    → step (ring_setup k) m (Complete h n) ≡ record { reply = Completed; values = []; state = record m { completed = set m.completed h n } }
 complete_step k m h n inside here rise le =
-    unless-none (refusals (setup_of k) m (Complete h n)) m (accepted (setup_of k) m (Complete h n))
+    unless-none (refusals (ring_setup k) m (Complete h n)) m (accepted (ring_setup k) m (Complete h n))
     (lt-leb (handlers_of k) h inside, (here, (le-ltb n (get_or m.completed h 0) rise, (le-ltb (get_or m.taken h 0) n le, tt))))
 
 -- the least of some counts

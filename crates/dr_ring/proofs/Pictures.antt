@@ -14,47 +14,47 @@ use Rattle.dr_core.specs.declared.command.Command.{Command}
 use Rattle.dr_core.specs.declared.command.Command.TheVariants.{Claim, Write, Publish, Poll, Complete, Halt}
 use Rattle.dr_core.specs.declared.command.Reply.{Reply}
 use Rattle.dr_core.specs.declared.command.Reply.TheVariants.{Claimed, Written, Published, Batch, Drained, Completed, Halting}
-use Rattle.dr_graph.specs.Graph.{nobody, upstreams_of, finals, IsGated, IsGraph}
-use Rattle.dr_core.specs.Machine as machine
-use Rattle.dr_core.specs.Machine.{State, Outcome, front, available, least_completed}
-use Rattle.dr_core.specs.Transcript.{Transcript, LeadsFrom}
-use Rattle.dr_core.specs.Ends.{event_or_none}
-use Rattle.dr_ring.specs.Meaning.Shape.{Shape, handlers_of, setup_of}
+use Rattle.dr_graph.specs.Meaning.Graph.{nobody, upstreams_of, finals, IsGated, IsGraph}
+use Rattle.dr_core.specs.Meaning.Machine as machine
+use Rattle.dr_core.specs.Meaning.Machine.{State, Outcome, front, available, least_completed}
+use Rattle.dr_core.specs.Meaning.Transcript.{Transcript, LeadsFrom}
+use Rattle.dr_core.specs.Calls.Ends.{event_or_none}
+use Rattle.dr_ring.specs.Meaning.Shape.{Shape, handlers_of, ring_setup}
 use Rattle.dr_ring.specs.Meaning.Words.{cursor_word, closed_word, halt_word, count_word, payload_start, payload_word}
 use Rattle.dr_ring.specs.declared.record.HalfWrite.{HalfWrite}
 use Rattle.dr_ring.specs.declared.record.ReceiverRecord.{ReceiverRecord}
-use Rattle.dr_ring.specs.Meaning.Records.{claimed, look, halt_looked, half_written, written, published_to, receiver_looked, tells_drained, cursor_looked, half_taken, took, completed_to, HasRoom, AreWritten, IsBelowBarrier}
-use Rattle.dr_ring.specs.Meaning.Kept.{World, Kept}
+use Rattle.dr_ring.specs.Meaning.Records.{claimed, look, halt_looked, half_written, written, published_to, receiver_looked, tells_drained, cursor_looked, half_taken, took, completed_to, SeesRoom, AreWritten, IsBelowBarrier}
+use Rattle.dr_ring.specs.Meaning.Rule.{World, KeepsRule}
 use Rattle.dr_ring.specs.declared.record.Step.{Step}
 use Rattle.dr_ring.specs.declared.record.Step.TheVariants.{SenderLooksAtCount, SenderLooksAtHalt, SenderStoresFirst, SenderStoresSecond, SenderPublishes, SenderHalts, SenderCloses, ReceiverLooksAtClosed, ReceiverLooksAtCursor, ReceiverLooksAtCount, ReceiverLoadsFirst, ReceiverLoadsSecond, ReceiverCompletes, HalterHalts}
 use Rattle.dr_ring.specs.Meaning.Steps.{Happens, sender_knows, sender_stores, receiver_knows, receiver_stores}
-use Rattle.dr_ring.specs.Meaning.Moments.{fresh_receiver, taken_of, picture_of, entry, write_of, poll_of, receiver_at, events_of, Runs}
+use Rattle.dr_ring.specs.Meaning.Moments.{fresh_receiver, taken_of, picture_of, entry, write_of, poll_of, receiver_at, entries_of, Runs}
 use Rattle.dr_ring.proofs.Lists.{at_below, value_at, final_inside, last_look_le}
 use Rattle.dr_ring.proofs.Keeps.{word_at, receiver_of_handler, orderly, upstream_inside, keeps_sender_looks, keeps_halt_look, keeps_first, keeps_second}
 use Rattle.dr_ring.proofs.Stores.{keeps_publishes, keeps_sender_halts, keeps_halter_halts, keeps_closes, keeps_receiver_looks, tells_truth, keeps_cursor_look, early, keeps_half_taken, taken_event, keeps_takes, keeps_completes}
 use Rattle.dr_ring.proofs.Machine.{shown, shown_front, claim_step, write_step, publish_step, take_step, drained_step, complete_step, counts_below, offered_at_most, offered_more}
 
-pub keeps_step : (k : Shape) (s : Step) (w u : World) → Happens k s w u → Kept k w → Kept k u
+pub keeps_step : (k : Shape) (s : Step) (w u : World) → Happens k s w u → KeepsRule k w → KeepsRule k u
 keeps_step k (SenderLooksAtCount f) w u H K = let i = final_inside k.upstreams f H.0 in
-    subst (Kept k) (sym H.1) (keeps_sender_looks k w (count_word f) (omega arith) K)
-keeps_step k (SenderLooksAtHalt n) w u H K = subst (Kept k) (sym H.1) (keeps_halt_look k w n H.0 K)
-keeps_step k (SenderStoresFirst s v) w u H K = subst (Kept k) (sym H.2) (keeps_first k w s v H.0 H.1 K)
-keeps_step k (SenderStoresSecond v) w u H K = subst (Kept k) (sym H.2) (keeps_second k w H.0 v H.1 K)
-keeps_step k (SenderPublishes n) w u H K = subst (Kept k) (sym H.4) (keeps_publishes k w n H.0 H.1 H.2 H.3 K)
-keeps_step k SenderHalts w u H K = subst (Kept k) (sym H) (keeps_sender_halts k w K)
-keeps_step k SenderCloses w u H K = subst (Kept k) (sym H.2) (keeps_closes k w H.0 H.1 K)
-keeps_step k (ReceiverLooksAtClosed h) w u H K = subst (Kept k) (sym H.2) (keeps_receiver_looks k w h closed_word H.0 (omega arith) H.1 K)
-keeps_step k (ReceiverLooksAtCursor h) w u H K = subst (Kept k) (sym H.2) (keeps_cursor_look k w h H.0 H.1 K)
+    subst (KeepsRule k) (sym H.1) (keeps_sender_looks k w (count_word f) (omega arith) K)
+keeps_step k (SenderLooksAtHalt n) w u H K = subst (KeepsRule k) (sym H.1) (keeps_halt_look k w n H.0 K)
+keeps_step k (SenderStoresFirst s v) w u H K = subst (KeepsRule k) (sym H.2) (keeps_first k w s v H.0 H.1 K)
+keeps_step k (SenderStoresSecond v) w u H K = subst (KeepsRule k) (sym H.2) (keeps_second k w H.0 v H.1 K)
+keeps_step k (SenderPublishes n) w u H K = subst (KeepsRule k) (sym H.4) (keeps_publishes k w n H.0 H.1 H.2 H.3 K)
+keeps_step k SenderHalts w u H K = subst (KeepsRule k) (sym H) (keeps_sender_halts k w K)
+keeps_step k SenderCloses w u H K = subst (KeepsRule k) (sym H.2) (keeps_closes k w H.0 H.1 K)
+keeps_step k (ReceiverLooksAtClosed h) w u H K = subst (KeepsRule k) (sym H.2) (keeps_receiver_looks k w h closed_word H.0 (omega arith) H.1 K)
+keeps_step k (ReceiverLooksAtCursor h) w u H K = subst (KeepsRule k) (sym H.2) (keeps_cursor_look k w h H.0 H.1 K)
 keeps_step k (ReceiverLooksAtCount h c) w u H K =
     let inside = upstream_inside k K.graph h c (let b = at_below w.receivers h H.0 H.1 in let e = K.ends in omega arith) H.2.0 in
-    subst (Kept k) (sym H.2.1) (keeps_receiver_looks k w h (count_word c) H.0 (omega arith) H.1 K)
-keeps_step k (ReceiverLoadsFirst h) w u H K = subst (Kept k) (sym H.2.1) (keeps_half_taken k w h H.0 H.1 H.2.0 K)
-keeps_step k (ReceiverLoadsSecond h) w u H K = subst (Kept k) (sym H.2.3) (keeps_takes k w h H.2.0 H.0 H.1 H.2.1 H.2.2 K)
-keeps_step k (ReceiverCompletes h n) w u H K = subst (Kept k) (sym H.2.2) (keeps_completes k w h n H.0 H.1 H.2.0 H.2.1 K)
-keeps_step k HalterHalts w u H K = subst (Kept k) (sym H) (keeps_halter_halts k w K)
+    subst (KeepsRule k) (sym H.2.1) (keeps_receiver_looks k w h (count_word c) H.0 (omega arith) H.1 K)
+keeps_step k (ReceiverLoadsFirst h) w u H K = subst (KeepsRule k) (sym H.2.1) (keeps_half_taken k w h H.0 H.1 H.2.0 K)
+keeps_step k (ReceiverLoadsSecond h) w u H K = subst (KeepsRule k) (sym H.2.3) (keeps_takes k w h H.2.0 H.0 H.1 H.2.1 H.2.2 K)
+keeps_step k (ReceiverCompletes h n) w u H K = subst (KeepsRule k) (sym H.2.2) (keeps_completes k w h n H.0 H.1 H.2.0 H.2.1 K)
+keeps_step k HalterHalts w u H K = subst (KeepsRule k) (sym H) (keeps_halter_halts k w K)
 
-pub keeps_runs : (k : Shape) (steps : List Step) (es : Transcript) (w u : World) → Runs k steps es w u → Kept k w → Kept k u
-keeps_runs k [] es w u R K = subst (Kept k) R.1 K
+pub keeps_runs : (k : Shape) (steps : List Step) (es : Transcript) (w u : World) → Runs k steps es w u → KeepsRule k w → KeepsRule k u
+keeps_runs k [] es w u R K = subst (KeepsRule k) R.1 K
 keeps_runs k (s ∷ steps) es w u R K = keeps_runs k steps R.1 R.0 u R.4 (keeps_step k s w R.0 R.2 K)
 
 -- counts by their words
@@ -98,10 +98,10 @@ values_count published pending =
     length-append (map (λ event. Some event) published) pending ∙ ap (λ (n : ℕ). n + length pending) (length-map published (λ event. Some event))
 
 leads_one : (k : Shape) (command : Command) (reply : Reply) (values : List Event) (rest : Transcript) (m n end : State)
-    → machine.step (setup_of k) m command ≡ record { reply = reply; values = values; state = n } → LeadsFrom (setup_of k) n rest end
-    → LeadsFrom (setup_of k) m (entry command reply values ++ rest) end
+    → machine.step (ring_setup k) m command ≡ record { reply = reply; values = values; state = n } → LeadsFrom (ring_setup k) n rest end
+    → LeadsFrom (ring_setup k) m (entry command reply values ++ rest) end
 leads_one k command reply values rest m n end is leads =
-    (ap (λ (o : Outcome). o.reply) is, ap (λ (o : Outcome). o.values) is, subst (λ (x : State). LeadsFrom (setup_of k) x rest end) (sym (ap (λ (o : Outcome). o.state) is)) leads)
+    (ap (λ (o : Outcome). o.reply) is, ap (λ (o : Outcome). o.values) is, subst (λ (x : State). LeadsFrom (ring_setup k) x rest end) (sym (ap (λ (o : Outcome). o.state) is)) leads)
 
 -- the picture, by its parts
 abbrev parts : Shape → World → State
@@ -116,7 +116,7 @@ same_taken w h r q at same = map-set_same taken_of w.receivers h q r (same ∙ a
 taken_at : (w : World) (h : ℕ) (r : ReceiverRecord) → get_elem? w.receivers h ≡ some r → get_or (map taken_of w.receivers) h 0 ≡ length r.received
 taken_at w h r at = get_or-map taken_of w.receivers h r 0 (at_below w.receivers h r at) ∙ ap taken_of (value_at w.receivers h r r at)
 
-inside_of : (k : Shape) (w : World) (h : ℕ) (r : ReceiverRecord) → Kept k w → get_elem? w.receivers h ≡ some r → h < handlers_of k
+inside_of : (k : Shape) (w : World) (h : ℕ) (r : ReceiverRecord) → KeepsRule k w → get_elem? w.receivers h ≡ some r → h < handlers_of k
 inside_of k w h r K at = let b = at_below w.receivers h r at in let e = K.ends in omega arith
 
 same_picture : (k : Shape) (w : World) (h : ℕ) (r q : ReceiverRecord) → get_elem? w.receivers h ≡ some r → taken_of q ≡ taken_of r
@@ -131,7 +131,7 @@ some_final k graph =
     let has : Contains (finals k.upstreams) g.last = g.final in let lt = has.1 in omega arith
 
 -- what a claim of the sender has room for, the machine has
-claim_room : (k : Shape) (w : World) (n : ℕ) (t : List ℕ) (m : State) → m.completed ≡ counts_of k w.words → HasRoom k w.sender n → Kept k w
+claim_room : (k : Shape) (w : World) (n : ℕ) (t : List ℕ) (m : State) → m.completed ≡ counts_of k w.words → SeesRoom k w.sender n → KeepsRule k w
     → claimed w.sender + n ≤ k.size + least_completed m (finals k.upstreams)
 claim_room k w n t m same room K =
     counts_below m (finals k.upstreams) k.size (claimed w.sender + n) (some_final k K.graph)
@@ -140,7 +140,7 @@ claim_room k w n t m same room K =
     let c : get_or m.completed f 0 ≡ word_at w.words (count_word f) = ap (λ (d : List ℕ). get_or d f 0) same ∙ count_at k w.words f i in omega arith))
 
 -- a claim is of the size at most
-claim_fits : (k : Shape) (w : World) (n : ℕ) → HasRoom k w.sender n → Kept k w → n ≤ k.size
+claim_fits : (k : Shape) (w : World) (n : ℕ) → SeesRoom k w.sender n → KeepsRule k w → n ≤ k.size
 claim_fits k w n room K =
     let some_one = K.graph.some in
     let g : IsGated k.upstreams nobody (λ h. word_at w.words (count_word h)) 0 =
@@ -151,7 +151,7 @@ claim_fits k w n room K =
     let t = receiver_of_handler k w K 0 some_one in let e = t.2.count in let f = t.2.completed in let h = t.2.taken in omega arith
 
 abbrev Leads : Shape → Transcript → State → State → Type 0
-Leads k es m n = LeadsFrom (setup_of k) m es n
+Leads k es m n = LeadsFrom (ring_setup k) m es n
 
 abbrev opens : ℕ → ℕ → List (Option Event)
 opens n found = if found == 0 then replicate n None else []
@@ -165,7 +165,7 @@ opens_none found n z = elim (cases_eq found 0) [
 abbrev claim_of : World → ℕ → Bool → Transcript
 claim_of w n b = if b then entry (Claim 0 n) (Claimed (claimed w.sender) (claimed w.sender + n - 1)) [] else []
 
-lead_claim : (k : Shape) (w : World) (n : ℕ) (rest : Transcript) (end : State) → (0 < n → HasRoom k w.sender n) → Kept k w
+lead_claim : (k : Shape) (w : World) (n : ℕ) (rest : Transcript) (end : State) → (0 < n → SeesRoom k w.sender n) → KeepsRule k w
     → Leads k rest (picture_of k (sender_knows w (halt_looked w.sender n (word_at w.words halt_word)))) end
     → Leads k (claim_of w n (not (n == 0) && (word_at w.words halt_word == 0)) ++ rest) (parts k w) end
 lead_claim k w n rest end room K leads =
@@ -212,7 +212,7 @@ lead_claim k w n rest end room K leads =
           subst (λ (b : Bool). Leads k (claim_of w n b ++ rest) (parts k w) end) (sym both) same)
     ]
 
-lead_write : (k : Shape) (w : World) (x : HalfWrite) (v : ℕ) (rest : Transcript) (end : State) → w.sender.half ≡ Some x → Kept k w
+lead_write : (k : Shape) (w : World) (x : HalfWrite) (v : ℕ) (rest : Transcript) (end : State) → w.sender.half ≡ Some x → KeepsRule k w
     → Leads k rest (picture_of k (sender_stores w (payload_word k x.sequence 1) v (written w.sender x.sequence record { first = x.first; second = v }))) end
     → Leads k (write_of w.sender.half v ++ rest) (parts k w) end
 lead_write k w x v rest end has K leads =
@@ -244,7 +244,7 @@ published_same (x ∷ xs) (suc m) all le =
     λ i. e i ∷ published_same xs m (λ j lt. all (suc j) (omega arith)) (omega arith) i
 
 lead_publish : (k : Shape) (w : World) (n : ℕ) (rest : Transcript) (end : State) → length w.sender.sent.published < n → n ≤ claimed w.sender
-    → AreWritten w.sender n → Kept k w
+    → AreWritten w.sender n → KeepsRule k w
     → Leads k rest (picture_of k (sender_stores w cursor_word n (published_to w.sender n))) end
     → Leads k (entry (Publish 0 (word_at w.words cursor_word) (n - 1)) Published [] ++ rest) (parts k w) end
 lead_publish k w n rest end lt le all K leads =
@@ -273,7 +273,7 @@ lead_publish k w n rest end lt le all K leads =
     ap is_none e))) going_on
 
 lead_drained : (k : Shape) (w : World) (h : ℕ) (r : ReceiverRecord) (rest : Transcript) (end : State) → get_elem? w.receivers h ≡ some r
-    → tells_drained r (word_at w.words cursor_word) ≡ true → Kept k w
+    → tells_drained r (word_at w.words cursor_word) ≡ true → KeepsRule k w
     → Leads k rest (parts k w) end → Leads k (entry (Poll h 1) Drained [] ++ rest) (parts k w) end
 lead_drained k w h r rest end at tells K leads =
     let t = tells_truth k w h r at tells K in let closed = K.flags.complete t.0 in let none = closed.1 in let all = t.1 in let cursor = K.counts.cursor in
@@ -282,13 +282,13 @@ lead_drained k w h r rest end at tells K leads =
     let inside = inside_of k w h r K at in
     let S : Bool → State = λ b. shown k (claimed s) vs (word_at w.words cursor_word) ts d b in
     let seen : front (S true) ≡ word_at w.words cursor_word = shown_front k (claimed s) vs (word_at w.words cursor_word) ts d true (omega arith) in
-    let offer : available (setup_of k) (S true) h ≤ claimed s = offered_at_most (S true) (upstreams_of k.upstreams h) (claimed s) (omega arith)
+    let offer : available (ring_setup k) (S true) h ≤ claimed s = offered_at_most (S true) (upstreams_of k.upstreams h) (claimed s) (omega arith)
     (λ u has. (let i = upstream_inside k K.graph h u inside has in let c = count_at k w.words u i in let o = receiver_of_handler k w K u i in let a = o.2.count in let b = o.2.completed in let e = o.2.taken in omega arith)) in
     let step = drained_step k (claimed s) vs (word_at w.words cursor_word) ts d h inside offer (taken_at w h r at ∙ omega arith) in
     subst (λ (b : Bool). Leads k (entry (Poll h 1) Drained [] ++ rest) (S b) end) on
     (leads_one k (Poll h 1) Drained [] rest (S true) (S true) end step (subst (λ (b : Bool). Leads k rest (S b) end) (sym on) leads))
 
-lead_cursor_look : (k : Shape) (w : World) (h : ℕ) (r : ReceiverRecord) (rest : Transcript) (end : State) → get_elem? w.receivers h ≡ some r → Kept k w
+lead_cursor_look : (k : Shape) (w : World) (h : ℕ) (r : ReceiverRecord) (rest : Transcript) (end : State) → get_elem? w.receivers h ≡ some r → KeepsRule k w
     → Leads k rest (parts k w) end
     → Leads k ((if tells_drained r (word_at w.words cursor_word) then entry (Poll h 1) Drained [] else []) ++ rest) (parts k w) end
 lead_cursor_look k w h r rest end at K leads =
@@ -298,9 +298,9 @@ lead_cursor_look k w h r rest end at K leads =
     ]
 
 lead_take : (k : Shape) (w : World) (h first : ℕ) (r : ReceiverRecord) (rest : Transcript) (end : State) → get_elem? w.receivers h ≡ some r
-    → r.half ≡ Some first → IsBelowBarrier k h r → Kept k w
+    → r.half ≡ Some first → IsBelowBarrier k h r → KeepsRule k w
     → Leads k rest (picture_of k (receiver_knows w h (took r record { first = first; second = word_at w.words (payload_word k (length r.received) 1) }))) end
-    → Leads k (poll_of h r.half (word_at w.words (payload_word k (length r.received) 1)) (length r.received) (available (setup_of k) (picture_of k w) h) ++ rest) (parts k w) end
+    → Leads k (poll_of h r.half (word_at w.words (payload_word k (length r.received) 1)) (length r.received) (available (ring_setup k) (picture_of k w) h) ++ rest) (parts k w) end
 lead_take k w h first r rest end at half low K leads =
     let s = w.sender in let n = length r.received in let ts = map taken_of w.receivers in let m = parts k w in
     let found : Event = record { first = first; second = word_at w.words (payload_word k n 1) } in
@@ -311,7 +311,7 @@ lead_take k w h first r rest end at half low K leads =
     let seen : front m ≡ word_at w.words cursor_word =
     shown_front k (claimed s) (values_of s.sent.published s.sent.pending) (word_at w.words cursor_word) ts (counts_of k w.words)
     (word_at w.words halt_word == 1) (omega arith) in
-    let more : n < available (setup_of k) m h = offered_more m (upstreams_of k.upstreams h) n (λ none. omega arith)
+    let more : n < available (ring_setup k) m h = offered_more m (upstreams_of k.upstreams h) n (λ none. omega arith)
     (λ u has. (let i = upstream_inside k K.graph h u inside has in let c = count_at k w.words u i in let a = low.completed u has in let b = last_look_le k w.words 0 r.looks (count_word u) (omega arith) was.looks in omega arith)) in
     let value : unwrap_or (m.written n) no_event ≡ found =
     ap event_or_none (get_or_append_left (map (λ event. Some event) s.sent.published) s.sent.pending None n (omega (arith, length-map s.sent.published (λ (event : Event). Some event))) ∙ get_or-map (λ event. Some event) s.sent.published n no_event None below)
@@ -321,15 +321,15 @@ lead_take k w h first r rest end at half low K leads =
     map-set taken_of w.receivers h (took r found) ∙ ap (λ (j : ℕ). set ts h j) (length_push r.received found) in
     let going_on : Leads k rest (record m { taken = set ts h (n + 1) }) end =
     subst (λ (xs : List ℕ). Leads k rest (record m { taken = xs }) end) set_taken leads in
-    let exact : machine.step (setup_of k) m (Poll h 1) ≡ record { reply = Batch n 1 (n + 1 == available (setup_of k) m h); values = found ∷ []; state = record m { taken = set ts h (n + 1) } } =
+    let exact : machine.step (ring_setup k) m (Poll h 1) ≡ record { reply = Batch n 1 (n + 1 == available (ring_setup k) m h); values = found ∷ []; state = record m { taken = set ts h (n + 1) } } =
     step
-    ∙ ap (λ (j : ℕ). let o : Outcome = record { reply = Batch j 1 (j + 1 == available (setup_of k) m h); values = unwrap_or (m.written j) no_event ∷ []; state = record m { taken = set ts h (j + 1) } } in o) is
-    ∙ ap (λ (e : Event). let o : Outcome = record { reply = Batch n 1 (n + 1 == available (setup_of k) m h); values = e ∷ []; state = record m { taken = set ts h (n + 1) } } in o) value in
-    subst (λ (o : Option ℕ). Leads k (poll_of h o (word_at w.words (payload_word k n 1)) n (available (setup_of k) m h) ++ rest) m end) (sym half)
-    (leads_one k (Poll h 1) (Batch n 1 (n + 1 == available (setup_of k) m h)) (found ∷ []) rest m _ end exact going_on)
+    ∙ ap (λ (j : ℕ). let o : Outcome = record { reply = Batch j 1 (j + 1 == available (ring_setup k) m h); values = unwrap_or (m.written j) no_event ∷ []; state = record m { taken = set ts h (j + 1) } } in o) is
+    ∙ ap (λ (e : Event). let o : Outcome = record { reply = Batch n 1 (n + 1 == available (ring_setup k) m h); values = e ∷ []; state = record m { taken = set ts h (n + 1) } } in o) value in
+    subst (λ (o : Option ℕ). Leads k (poll_of h o (word_at w.words (payload_word k n 1)) n (available (ring_setup k) m h) ++ rest) m end) (sym half)
+    (leads_one k (Poll h 1) (Batch n 1 (n + 1 == available (ring_setup k) m h)) (found ∷ []) rest m _ end exact going_on)
 
 lead_complete : (k : Shape) (w : World) (h n : ℕ) (r : ReceiverRecord) (rest : Transcript) (end : State) → get_elem? w.receivers h ≡ some r
-    → r.completed ≤ n → n ≤ length r.received → Kept k w
+    → r.completed ≤ n → n ≤ length r.received → KeepsRule k w
     → Leads k rest (picture_of k (receiver_stores w h (completed_to r n) (count_word h) n)) end
     → Leads k (entry (Complete h n) Completed [] ++ rest) (parts k w) end
 lead_complete k w h n r rest end at rise le K leads =
@@ -355,14 +355,14 @@ lead_flag k w i rest end b pos lt halt leads =
     subst (λ (y : State). Leads k rest y end)
     (λ j. shown k (claimed s) (values_of s.sent.published s.sent.pending) (one j) (map taken_of w.receivers) (counts j) (halt j)) leads
 
-halt_on : (k : Shape) (w : World) → Kept k w → (word_at (set w.words halt_word 1) halt_word == 1) ≡ true
+halt_on : (k : Shape) (w : World) → KeepsRule k w → (word_at (set w.words halt_word 1) halt_word == 1) ≡ true
 halt_on k w K = let wide = K.wide in eq-eqb _ _ (get_or-set_same w.words halt_word 1 0 (omega arith))
 
 is_receiver : (k : Shape) (w : World) (h : ℕ) (r : ReceiverRecord) → get_elem? w.receivers h ≡ some r → receiver_at k w h ≡ r
 is_receiver k w h r at = value_at w.receivers h r (fresh_receiver k h) at
 
-lead_step : (k : Shape) (s : Step) (w u : World) (rest : Transcript) (end : State) → Happens k s w u → Kept k w → Leads k rest (picture_of k u) end
-    → Leads k (events_of k s w ++ rest) (picture_of k w) end
+lead_step : (k : Shape) (s : Step) (w u : World) (rest : Transcript) (end : State) → Happens k s w u → KeepsRule k w → Leads k rest (picture_of k u) end
+    → Leads k (entries_of k s w ++ rest) (picture_of k w) end
 lead_step k (SenderLooksAtCount f) w u rest end H K L = subst (λ (x : World). Leads k rest (picture_of k x) end) H.1 L
 lead_step k (SenderLooksAtHalt n) w u rest end H K L = lead_claim k w n rest end H.0 K (subst (λ (x : World). Leads k rest (picture_of k x) end) H.1 L)
 lead_step k (SenderStoresFirst s v) w u rest end H K L =
@@ -400,7 +400,7 @@ lead_step k (ReceiverLoadsFirst h) w u rest end H K L =
     (same_picture k w h H.0 (half_taken H.0 (word_at w.words (payload_word k (length H.0.received) 0))) H.1 refl)
     (subst (λ (x : World). Leads k rest (picture_of k x) end) H.2.1 L)
 lead_step k (ReceiverLoadsSecond h) w u rest end H K L =
-    subst (λ (r : ReceiverRecord). Leads k (poll_of h r.half (word_at w.words (payload_word k (length r.received) 1)) (length r.received) (available (setup_of k) (picture_of k w) h) ++ rest) (parts k w) end) (sym (is_receiver k w h H.0 H.1))
+    subst (λ (r : ReceiverRecord). Leads k (poll_of h r.half (word_at w.words (payload_word k (length r.received) 1)) (length r.received) (available (ring_setup k) (picture_of k w) h) ++ rest) (parts k w) end) (sym (is_receiver k w h H.0 H.1))
     (lead_take k w h H.2.0 H.0 rest end H.1 H.2.1 H.2.2 K (subst (λ (x : World). Leads k rest (picture_of k x) end) H.2.3 L))
 lead_step k (ReceiverCompletes h n) w u rest end H K L =
     lead_complete k w h n H.0 rest end H.1 H.2.0 H.2.1 K (subst (λ (x : World). Leads k rest (picture_of k x) end) H.2.2 L)
@@ -408,7 +408,7 @@ lead_step k HalterHalts w u rest end H K L =
     leads_one k Halt Halting [] rest (parts k w) (record (parts k w) { halted = true }) end refl
     (lead_flag k w halt_word rest end true (omega arith) (omega arith) (halt_on k w K) (subst (λ (x : World). Leads k rest (picture_of k x) end) H L))
 
-pub lead_runs : (k : Shape) (steps : List Step) (es : Transcript) (w u : World) → Runs k steps es w u → Kept k w → Leads k es (picture_of k w) (picture_of k u)
+pub lead_runs : (k : Shape) (steps : List Step) (es : Transcript) (w u : World) → Runs k steps es w u → KeepsRule k w → Leads k es (picture_of k w) (picture_of k u)
 lead_runs k [] es w u R K = subst (λ (xs : Transcript). Leads k xs (picture_of k w) (picture_of k u)) (sym R.0) (ap (picture_of k) R.1)
 lead_runs k (s ∷ steps) es w u R K = subst (λ (xs : Transcript). Leads k xs (picture_of k w) (picture_of k u)) (sym R.3)
     (lead_step k s w R.0 R.1 (picture_of k u) R.2 K (lead_runs k steps R.1 R.0 u R.4 (keeps_step k s w R.0 R.2 K)))

@@ -12,7 +12,7 @@ use Rattle.dr_ring.specs.declared.record.ReceiverRecord.{ReceiverRecord}
 use Rattle.dr_ring.specs.Meaning.Records.{look, last_look, receiver_looked, cursor_looked}
 use Rattle.dr_ring.specs.Calls.Receiving.{PollLooks, looked_round, offered_by, received_all, Answers}
 use Rattle.dr_ring.specs.Calls.Ends.{count_looks}
-use Rattle.dr_ring.specs.Inside.Parts.{receiver_saw, ups_of, IsOffered, LooksAtUpstreams, nothing_offered}
+use Rattle.dr_ring.specs.Inside.Parts.{receiver_saw, ups_of, IsOfferedUpTo, LooksAtUpstreams, nothing_offered}
 use Rattle.dr_ring.specs.Inside.Fits.{ReceiverFits}
 use Rattle.dr_ring.proofs.Lists.{last_look_more}
 
@@ -86,9 +86,9 @@ poll_nothing r s out closed cursor available taken next L flag ahead none =
 
 -- what is offered is offered as far as the receiver saw
 pub offers : (r s : ReceiverRecord) (closed cursor available upto : ℕ) → LooksAtUpstreams (looked_twice r closed cursor) cursor s available
-    → upto ≤ available → IsOffered s upto
+    → upto ≤ available → IsOfferedUpTo s upto
 offers r s closed cursor available upto L le = let q = looked_twice r closed cursor in
-    subst (λ (t : ReceiverRecord). IsOffered t upto) (sym L.is)
+    subst (λ (t : ReceiverRecord). IsOfferedUpTo t upto) (sym L.is)
     (record {
       completed = λ u has. (let a = L.completed u has in omega arith);
       published = λ e. (

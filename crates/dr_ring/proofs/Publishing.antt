@@ -6,9 +6,9 @@ use Rattle.std.proofs.lemmas.Bool.{cases_Bool, lt-ltb, le-ltb, lt-leb, eq-eqb, n
 use Rattle.dr_seq.specs.declared.event.Event.{Event}
 use Rattle.dr_core.specs.declared.refusal.Refusal.{Refusal}
 use Rattle.dr_core.specs.declared.refusal.Refusal.TheVariants.{AlreadyPublished, NotWritten, OutOfOrder}
-use Rattle.dr_core.specs.Refusals.{sequence_causes, NoneHolds, IsFirst}
+use Rattle.dr_core.specs.Meaning.Refusals.{sequence_causes, NoneHolds, IsFirst}
 use Rattle.dr_core.specs.declared.ends.Trouble.TheVariants.{Refused}
-use Rattle.dr_core.specs.Ends.{Verdict, Exactly, MayHold, MayFail, sequence_tests, PublishAnswers, Sent, published_below}
+use Rattle.dr_core.specs.Calls.Ends.{Verdict, Exactly, MayHold, MayFail, end_sequence_tests, PublishAnswers, Sent, published_below}
 use Rattle.dr_core.proofs.Causes.{none_join, first_left, first_right, none_of_stretch, first_of_stretch}
 use Rattle.dr_ring.specs.declared.record.SenderRecord.{SenderRecord}
 use Rattle.dr_ring.specs.Meaning.Records.{claimed, published_to, AreWritten}
@@ -24,7 +24,7 @@ open_at r s = slice_index_or r.sent.pending (s - length r.sent.published) None
 module _ (r : SenderRecord) where
   -- what may refuse to publish one sequence
   abbrev causes_of : ℕ → List (Verdict × Refusal)
-  causes_of s = sequence_causes (sequence_tests (Some r.sent) s)
+  causes_of s = sequence_causes (end_sequence_tests (Some r.sent) s)
 
   stretch_written : (lo n : ℕ) → length r.sent.published ≤ lo → ((s : ℕ) → lo ≤ s → s < lo + n → (event : Event) × (open_at r s ≡ Some event))
       → NoneHolds MayFail (flat_map causes_of (range_with_len lo n))

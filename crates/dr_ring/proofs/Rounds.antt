@@ -3,7 +3,7 @@ use Rattle.std.proofs.Common.{◌≡◌, ◌≢◌, ℕ, zero, suc, ◌+◌, ◌
 use Rattle.std.specs.Prelude.{Contains}
 use Rattle.std.proofs.lemmas.Bool.{cases_eq, cases_lt, ne_eqb, lt-ltb, le-ltb}
 use Rattle.std.proofs.lemmas.List.{length-append, append-nil, get_or_append_left}
-use Rattle.dr_graph.specs.Graph.{finals, least_of}
+use Rattle.dr_graph.specs.Meaning.Graph.{finals, least_of}
 use Rattle.dr_ring.specs.Meaning.Shape.{Shape}
 use Rattle.dr_ring.specs.Calls.Plans.{IsPlan}
 use Rattle.dr_ring.specs.Meaning.Words.{count_word}

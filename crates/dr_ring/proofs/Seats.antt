@@ -13,12 +13,12 @@ use Rattle.dr_ring.specs.declared.record.ReceiverRecord.{ReceiverRecord}
 use Rattle.dr_ring.specs.declared.record.HalterRecord.{HalterRecord}
 use Rattle.dr_ring.specs.declared.record.EndRecord.{EndRecord}
 use Rattle.dr_ring.specs.declared.record.EndRecord.TheVariants.{Sends, Receives, Halts}
-use Rattle.dr_core.specs.Transcript.{Transcript}
-use Rattle.dr_ring.specs.Meaning.Kept.{World, Kept}
+use Rattle.dr_core.specs.Meaning.Transcript.{Transcript}
+use Rattle.dr_ring.specs.Meaning.Rule.{World, KeepsRule}
 use Rattle.dr_ring.specs.declared.record.Step.{Step}
 use Rattle.dr_ring.specs.declared.record.View.{View}
 use Rattle.dr_ring.specs.Meaning.Steps.{Happens}
-use Rattle.dr_ring.specs.Meaning.Moments.{Runs, opening, events_of, IsBeginning}
+use Rattle.dr_ring.specs.Meaning.Moments.{Runs, new_world, entries_of, IsBeginning}
 use Rattle.dr_ring.proofs.Pictures.{keeps_runs}
 use Rattle.dr_ring.proofs.Beginning.{kept_opening}
 use Rattle.dr_ring.specs.Inside.Seats.{End, end_of, seat_at, first_past, past_of, is_store_of, stores_of, stored_of, EachPast, Saw, end_number, Stands, world_of, Ruled, as_sender, as_receiver, as_halter}
@@ -125,7 +125,7 @@ apart views place w id end here each id' v ne there j x at = λ (e : end_number 
 
 -- and the end whose step it is has seen it, and the others what they saw
 pasts_change : (k : Shape) (views : List View) (steps : List Step) (step : Step) (id end : ℕ) (e : EndRecord) (es : Transcript) (u : World)
-    → Runs k (steps ++ step ∷ []) es (opening k) u → Stands u e
+    → Runs k (steps ++ step ∷ []) es (new_world k) u → Stands u e
     → ((n : ℕ) → n ≢ end → (steps : List Step) → stores_of n (steps ++ step ∷ []) ≡ stores_of n steps)
     → ((id' : ℕ) (v : View) → id' ≢ id → get_elem? views id' ≡ some v → (j : ℕ) (x : EndRecord) → get_elem? v.ends j ≡ some x → end_number x ≢ end)
     → ((id' : ℕ) (v : View) → get_elem? views id' ≡ some v → EachPast (Saw k steps) v.ends v.pasts)
@@ -140,31 +140,31 @@ pasts_change k views steps step id end e es u runs stands nothing others each id
     ]
 
 pub runs_more : (k : Shape) (steps : List Step) (es : Transcript) (w u v : World) (step : Step) → Runs k steps es w u → Happens k step u v
-    → Runs k (steps ++ step ∷ []) (es ++ events_of k step u) w v
+    → Runs k (steps ++ step ∷ []) (es ++ entries_of k step u) w v
 runs_more k [] es w u v step R H = (
   v,
   [],
   subst (λ (x : World). Happens k step x v) (sym R.1) H,
-  ap (λ (xs : Transcript). xs ++ events_of k step u) R.0 ∙ ap (events_of k step) (sym R.1) ∙ sym (append-nil (events_of k step w)),
+  ap (λ (xs : Transcript). xs ++ entries_of k step u) R.0 ∙ ap (entries_of k step) (sym R.1) ∙ sym (append-nil (entries_of k step w)),
   (refl, refl),
 )
 runs_more k (s ∷ steps) es w u v step R H = (
   R.0,
-  R.1 ++ events_of k step u,
+  R.1 ++ entries_of k step u,
   R.2,
-  ap (λ (xs : Transcript). xs ++ events_of k step u) R.3 ∙ append_assoc (events_of k s w) R.1 (events_of k step u),
+  ap (λ (xs : Transcript). xs ++ entries_of k step u) R.3 ∙ append_assoc (entries_of k s w) R.1 (entries_of k step u),
   runs_more k steps R.1 R.0 u v step R.4 H,
 )
 
 -- what the rule comes to
-pub kept_of : (k : Shape) (s : State ℕ View) (R : Ruled k s) → Kept k (world_of s.words R.sender R.receivers R.halter)
-kept_of k s R = keeps_runs k R.steps R.entries (opening k) (world_of s.words R.sender R.receivers R.halter) R.runs (kept_opening k R.graph R.some_slot)
+pub kept_of : (k : Shape) (s : State ℕ View) (R : Ruled k s) → KeepsRule k (world_of s.words R.sender R.receivers R.halter)
+kept_of k s R = keeps_runs k R.steps R.entries (new_world k) (world_of s.words R.sender R.receivers R.halter) R.runs (kept_opening k R.graph R.some_slot)
 
 -- a step of the sender
 pub by_sender : (k : Shape) (slots id : ℕ) (step : Step) (grow : List Step → List Step) (pasts : List (List Step)) (r : SenderRecord) (i : ℕ) (f : ℕ → ℕ) (g : ℕ → SenderRecord) (told : ℕ → End → Type 0)
     → Adds 0 step grow
-    → ((w : World) → w.sender ≡ r → Kept k w → Happens k step w (world_of (set w.words i (f (get_or w.words i 0))) (g (get_or w.words i 0)) w.receivers w.halter))
-    → ((w : World) → w.sender ≡ r → Kept k w → told (get_or w.words i 0) (as_sender (g (get_or w.words i 0))))
+    → ((w : World) → w.sender ≡ r → KeepsRule k w → Happens k step w (world_of (set w.words i (f (get_or w.words i 0))) (g (get_or w.words i 0)) w.receivers w.halter))
+    → ((w : World) → w.sender ≡ r → KeepsRule k w → told (get_or w.words i 0) (as_sender (g (get_or w.words i 0))))
     → Allows (Ruled k) slots id (seat_at (as_sender r) pasts) i f (λ n me'. told n (end_of me') × IsBeginning (first_past pasts) (past_of me'.0) × (stored_of me'.0 ≡ grow (stores_of 0 (first_past pasts))))
 by_sender k slots id step grow pasts r i f g told adds does tells s R _ at _ =
     let n = get_or s.words i 0 in let us = set s.words i (f n) in let w = world_of s.words R.sender R.receivers R.halter in let K = kept_of k s R in
@@ -180,12 +180,12 @@ by_sender k slots id step grow pasts r i f g told adds does tells s R _ at _ =
         graph = R.graph;
         some_slot = R.some_slot;
         steps = R.steps ++ step ∷ [];
-        entries = R.entries ++ events_of k step w;
-        runs = runs_more k R.steps R.entries (opening k) w _ step R.runs (does w mine.1 K);
+        entries = R.entries ++ entries_of k step w;
+        runs = runs_more k R.steps R.entries (new_world k) w _ step R.runs (does w mine.1 K);
         place = R.place;
         each_end = views_change s.views R.place w (world_of us (g n) R.receivers R.halter) id (Sends (g n)) (R.steps ++ step ∷ []) mine.0 refl
             (λ id' j x ne h. not_sender R.place s.words us R.sender (g n) R.receivers R.halter id id' j x mine.0 ne h) R.each_end;
-        each_past = pasts_change k s.views R.steps step id 0 (Sends (g n)) _ _ (runs_more k R.steps R.entries (opening k) w _ step R.runs (does w mine.1 K))
+        each_past = pasts_change k s.views R.steps step id 0 (Sends (g n)) _ _ (runs_more k R.steps R.entries (new_world k) w _ step R.runs (does w mine.1 K))
             refl adds.other (apart s.views R.place w id 0 mine.0 R.each_end) R.each_past;
       },
       (tells w mine.1 K, begins_more (first_past pasts) R.steps step saw.begins, adds.own R.steps ∙ ap grow (sym saw.stores)),
@@ -194,8 +194,8 @@ by_sender k slots id step grow pasts r i f g told adds does tells s R _ at _ =
 -- a step of the halter
 pub by_halter : (k : Shape) (slots id : ℕ) (step : Step) (grow : List Step → List Step) (pasts : List (List Step)) (r : HalterRecord) (i : ℕ) (f : ℕ → ℕ) (g : ℕ → HalterRecord) (told : ℕ → End → Type 0)
     → Adds 1 step grow
-    → ((w : World) → w.halter ≡ r → Kept k w → Happens k step w (world_of (set w.words i (f (get_or w.words i 0))) w.sender w.receivers (g (get_or w.words i 0))))
-    → ((w : World) → w.halter ≡ r → Kept k w → told (get_or w.words i 0) (as_halter (g (get_or w.words i 0))))
+    → ((w : World) → w.halter ≡ r → KeepsRule k w → Happens k step w (world_of (set w.words i (f (get_or w.words i 0))) w.sender w.receivers (g (get_or w.words i 0))))
+    → ((w : World) → w.halter ≡ r → KeepsRule k w → told (get_or w.words i 0) (as_halter (g (get_or w.words i 0))))
     → Allows (Ruled k) slots id (seat_at (as_halter r) pasts) i f (λ n me'. told n (end_of me') × IsBeginning (first_past pasts) (past_of me'.0) × (stored_of me'.0 ≡ grow (stores_of 1 (first_past pasts))))
 by_halter k slots id step grow pasts r i f g told adds does tells s R _ at _ =
     let n = get_or s.words i 0 in let us = set s.words i (f n) in let w = world_of s.words R.sender R.receivers R.halter in let K = kept_of k s R in
@@ -211,12 +211,12 @@ by_halter k slots id step grow pasts r i f g told adds does tells s R _ at _ =
         graph = R.graph;
         some_slot = R.some_slot;
         steps = R.steps ++ step ∷ [];
-        entries = R.entries ++ events_of k step w;
-        runs = runs_more k R.steps R.entries (opening k) w _ step R.runs (does w mine.1 K);
+        entries = R.entries ++ entries_of k step w;
+        runs = runs_more k R.steps R.entries (new_world k) w _ step R.runs (does w mine.1 K);
         place = R.place;
         each_end = views_change s.views R.place w (world_of us R.sender R.receivers (g n)) id (Halts (g n)) (R.steps ++ step ∷ []) mine.0 refl
             (λ id' j x ne h. not_halter R.place s.words us R.sender R.receivers R.halter (g n) id id' j x mine.0 ne h) R.each_end;
-        each_past = pasts_change k s.views R.steps step id 1 (Halts (g n)) _ _ (runs_more k R.steps R.entries (opening k) w _ step R.runs (does w mine.1 K))
+        each_past = pasts_change k s.views R.steps step id 1 (Halts (g n)) _ _ (runs_more k R.steps R.entries (new_world k) w _ step R.runs (does w mine.1 K))
             refl adds.other (apart s.views R.place w id 1 mine.0 R.each_end) R.each_past;
       },
       (tells w mine.1 K, begins_more (first_past pasts) R.steps step saw.begins, adds.own R.steps ∙ ap grow (sym saw.stores)),
@@ -226,8 +226,8 @@ by_halter k slots id step grow pasts r i f g told adds does tells s R _ at _ =
 pub by_receiver : (k : Shape) (slots id : ℕ) (step : Step) (grow : List Step → List Step) (pasts : List (List Step)) (r : ReceiverRecord) (i : ℕ) (f : ℕ → ℕ) (g : ℕ → ReceiverRecord) (told : ℕ → End → Type 0)
     → ((n : ℕ) → (g n).number ≡ r.number)
     → Adds (r.number + 2) step grow
-    → ((w : World) → get_elem? w.receivers r.number ≡ some r → Kept k w → Happens k step w (world_of (set w.words i (f (get_or w.words i 0))) w.sender (set w.receivers r.number (g (get_or w.words i 0))) w.halter))
-    → ((w : World) → get_elem? w.receivers r.number ≡ some r → Kept k w → told (get_or w.words i 0) (as_receiver (g (get_or w.words i 0))))
+    → ((w : World) → get_elem? w.receivers r.number ≡ some r → KeepsRule k w → Happens k step w (world_of (set w.words i (f (get_or w.words i 0))) w.sender (set w.receivers r.number (g (get_or w.words i 0))) w.halter))
+    → ((w : World) → get_elem? w.receivers r.number ≡ some r → KeepsRule k w → told (get_or w.words i 0) (as_receiver (g (get_or w.words i 0))))
     → Allows (Ruled k) slots id (seat_at (as_receiver r) pasts) i f (λ n me'. told n (end_of me') × IsBeginning (first_past pasts) (past_of me'.0) × (stored_of me'.0 ≡ grow (stores_of (r.number + 2) (first_past pasts))))
 by_receiver k slots id step grow pasts r i f g told same adds does tells s R _ at _ =
     let n = get_or s.words i 0 in let us = set s.words i (f n) in let w = world_of s.words R.sender R.receivers R.halter in let K = kept_of k s R in
@@ -244,14 +244,14 @@ by_receiver k slots id step grow pasts r i f g told same adds does tells s R _ a
         graph = R.graph;
         some_slot = R.some_slot;
         steps = R.steps ++ step ∷ [];
-        entries = R.entries ++ events_of k step w;
-        runs = runs_more k R.steps R.entries (opening k) w _ step R.runs (does w mine.1 K);
+        entries = R.entries ++ entries_of k step w;
+        runs = runs_more k R.steps R.entries (new_world k) w _ step R.runs (does w mine.1 K);
         place = R.place;
         each_end = views_change s.views R.place w (world_of us R.sender rs R.halter) id (Receives (g n)) (R.steps ++ step ∷ [])
             (ap (λ (m : ℕ). R.place (m + 2)) (same n) ∙ mine.0)
             (ap (λ (m : ℕ). get_elem? rs m) (same n) ∙ set_here R.receivers h (g n) (at_below R.receivers h r mine.1))
             (λ id' j x ne q. not_receiver R.place s.words us R.sender (g n) R.receivers R.halter h id id' j x mine.0 ne q) R.each_end;
-        each_past = pasts_change k s.views R.steps step id (r.number + 2) (Receives (g n)) _ _ (runs_more k R.steps R.entries (opening k) w _ step R.runs (does w mine.1 K))
+        each_past = pasts_change k s.views R.steps step id (r.number + 2) (Receives (g n)) _ _ (runs_more k R.steps R.entries (new_world k) w _ step R.runs (does w mine.1 K))
             (ap (λ (m : ℕ). get_elem? rs m) (same n) ∙ set_here R.receivers h (g n) (at_below R.receivers h r mine.1)) adds.other (apart s.views R.place w id (r.number + 2) mine.0 R.each_end) R.each_past;
       },
       (tells w mine.1 K, begins_more (first_past pasts) R.steps step saw.begins, ap (λ (m : ℕ). stores_of (m + 2) (R.steps ++ step ∷ [])) (same n) ∙ adds.own R.steps ∙ ap grow (sym saw.stores)),

@@ -7,7 +7,7 @@ use lib.Seq.{set-get_or}
 use Rattle.atomic_table.specs.Table.{step, keeps, Allows}
 use Rattle.atomic_table.proofs.Lists.{at_set}
 use Rattle.dr_seq.specs.declared.event.Event.{Event}
-use Rattle.dr_graph.specs.Graph.{upstreams_of, finals, IsGraph}
+use Rattle.dr_graph.specs.Meaning.Graph.{upstreams_of, finals, IsGraph}
 use Rattle.dr_ring.specs.Meaning.Shape.{Shape}
 use Rattle.dr_ring.specs.Meaning.Words.{cursor_word, count_word}
 use Rattle.dr_ring.specs.declared.record.SenderRecord.{SenderRecord}
@@ -15,11 +15,11 @@ use Rattle.dr_ring.specs.declared.record.ReceiverRecord.{ReceiverRecord}
 use Rattle.dr_ring.specs.declared.record.EndRecord.{EndRecord}
 use Rattle.dr_ring.specs.declared.record.EndRecord.TheVariants.{Sends, Receives}
 use Rattle.dr_ring.specs.Meaning.Records.{claimed}
-use Rattle.dr_ring.specs.Meaning.Kept.{World, Kept}
+use Rattle.dr_ring.specs.Meaning.Rule.{World, KeepsRule}
 use Rattle.dr_ring.specs.Inside.Seats.{Sitting, end_of, EachPast, Saw, world_of, Ruled, sender_of}
-use Rattle.dr_ring.specs.Meaning.Moments.{IsBeginning, Runs, opening}
+use Rattle.dr_ring.specs.Meaning.Moments.{IsBeginning, Runs, new_world}
 use Rattle.dr_ring.specs.declared.record.View.{View}
-use Rattle.dr_ring.specs.Meaning.Settling.{Agrees, Follows}
+use Rattle.dr_ring.specs.Meaning.Settling.{HasBeginning, FollowsUpstream}
 use Rattle.dr_ring.specs.Inside.Gathering.{LeadsView, Compares}
 use Rattle.dr_ring.proofs.Seats.{StandsAt, kept_of, each_map}
 
@@ -29,8 +29,8 @@ take_whole [] (suc n) le = refl
 take_whole (x ∷ xs) zero le = absurd (omega arith)
 take_whole (x ∷ xs) (suc n) le = ap (λ (ys : List Event). x ∷ ys) (take_whole xs n (omega arith))
 
-agrees : (k : Shape) (w : World) (s : SenderRecord) (r : ReceiverRecord) → w.sender ≡ s → get_elem? w.receivers r.number ≡ some r → Kept k w → Agrees s r
-agrees k w s r same at K = let was = K.received r.number r at in subst (λ (q : SenderRecord). Agrees q r) same (record {
+agrees : (k : Shape) (w : World) (s : SenderRecord) (r : ReceiverRecord) → w.sender ≡ s → get_elem? w.receivers r.number ≡ some r → KeepsRule k w → HasBeginning s r
+agrees k w s r same at K = let was = K.received r.number r at in subst (λ (q : SenderRecord). HasBeginning q r) same (record {
   beginning = was.beginning;
   taken = was.taken;
   drained = λ told. was.beginning ∙ take_whole w.sender.sent.published (length r.received) (was.told told).1;
@@ -40,7 +40,7 @@ agrees k w s r same at K = let was = K.received r.number r at in subst (λ (q : 
 })
 
 follows : (k : Shape) (w : World) (r u : ReceiverRecord) → get_elem? w.receivers r.number ≡ some r → get_elem? w.receivers u.number ≡ some u
-    → Kept k w → Follows r u
+    → KeepsRule k w → FollowsUpstream r u
 follows k w r u at there K has =
     let was = K.received r.number r at in let other = K.received u.number u there in
     let le = was.after u.number (subst (λ (p : Shape). Contains (upstreams_of p.upstreams r.number) u.number) was.plan has) in
@@ -65,7 +65,7 @@ compares k slots id me led s R _ at _ =
         some_slot = R.some_slot;
         steps = R.steps;
         entries = R.entries;
-        runs = subst (λ (ws : List ℕ). Runs k R.steps R.entries (opening k) (world_of ws R.sender R.receivers R.halter)) (sym same) R.runs;
+        runs = subst (λ (ws : List ℕ). Runs k R.steps R.entries (new_world k) (world_of ws R.sender R.receivers R.halter)) (sym same) R.runs;
         place = R.place;
         each_end = λ id' u there. subst (λ (ws : List ℕ). P ws id' u) (sym same) (elim (at_set s.views id id' me.0 u there) [
           | inl x ↦ subst (P s.words id') x.1 (λ j e in_v. (let t = here j e in_v in (t.0 ∙ ap (λ (m : ℕ). let q : ℕ × ℕ = (m, j) in q) (sym x.0), t.1)))
@@ -88,7 +88,7 @@ compares k slots id me led s R _ at _ =
           world = w;
           graph = subst (λ (p : Shape). IsGraph p.upstreams) (sym plan) R.graph;
           some_slot = subst (λ (p : Shape). 0 < p.size) (sym plan) R.some_slot;
-          runs = subst (λ (p : Shape). Runs p R.steps R.entries (opening p) w) (sym plan) R.runs;
+          runs = subst (λ (p : Shape). Runs p R.steps R.entries (new_world p) w) (sym plan) R.runs;
           pasts = each_map (Saw k R.steps) (λ e past. IsBeginning past R.steps) me.0.ends me.0.pasts (λ j e past in_v S. S.begins) (R.each_past id me.0 at);
           sender = mine;
           receivers = λ r in_view. (here in_view.0 (Receives r) in_view.1).1;

@@ -7,15 +7,15 @@ use mathlib.Core.Option.{some}
 use lib.ListN.{get_elem?}
 use Rattle.dr_seq.specs.declared.event.Event.{Event}
 use Rattle.dr_seq.specs.Event.{no_event}
-use Rattle.dr_graph.specs.Graph.{upstreams_of}
-use Rattle.dr_core.specs.Ends.{event_or_none}
+use Rattle.dr_graph.specs.Meaning.Graph.{upstreams_of}
+use Rattle.dr_core.specs.Calls.Ends.{event_or_none}
 use Rattle.dr_ring.specs.Meaning.Shape.{Shape, handlers_of}
 use Rattle.dr_ring.specs.Meaning.Words.{cursor_word, closed_word, halt_word, count_word, payload_start, payload_word}
 use Rattle.dr_ring.specs.declared.record.Look.{Look}
 use Rattle.dr_ring.specs.declared.record.SenderRecord.{SenderRecord}
 use Rattle.dr_ring.specs.declared.record.ReceiverRecord.{ReceiverRecord}
 use Rattle.dr_ring.specs.Meaning.Records.{claimed, last_look, published_to, sender_halted, sender_closed, receiver_looked, tells_drained, cursor_looked, half_taken, took, completed_to, halter_halted, AreWritten, IsBelowBarrier}
-use Rattle.dr_ring.specs.Meaning.Kept.{World, Room, Payload, HaltAndClose, ArePast, ReceiverKept, Kept}
+use Rattle.dr_ring.specs.Meaning.Rule.{World, Room, Payload, HaltAndClose, ArePast, ReceiverKept, KeepsRule}
 use Rattle.dr_ring.specs.Meaning.Steps.{sender_stores, receiver_knows, receiver_stores}
 use Rattle.dr_ring.proofs.Lists.{at_below, each_set, past_set, past_more, last_look_le}
 use Rattle.dr_ring.proofs.Keeps.{word_at, receiver_of_handler, above, upstream_inside, room_stays, payload_stays, flags_stay, receiver_stays}
@@ -47,7 +47,7 @@ payload_publishes k words r n lt le all P =
     }
 
 pub keeps_publishes : (k : Shape) (w : World) (n : ℕ) → length w.sender.sent.published < n → n ≤ claimed w.sender → AreWritten w.sender n
-    → w.sender.half ≡ None → Kept k w → Kept k (sender_stores w cursor_word n (published_to w.sender n))
+    → w.sender.half ≡ None → KeepsRule k w → KeepsRule k (sender_stores w cursor_word n (published_to w.sender n))
 keeps_publishes k w n lt le all free K =
     let old = w.sender.sent.published in let pending = w.sender.sent.pending in let m = n - length old in let new = map event_or_none (take m pending) in
     let count : length new ≡ m = length-map (take m pending) event_or_none ∙ omega (arith, length-take m pending) in
@@ -96,8 +96,8 @@ keeps_publishes k w n lt le all free K =
 
 -- halt or closed becomes 1: what speaks of neither stays
 flagged : (k : Shape) (w : World) (i : ℕ) → 0 < i → i < 32 → word_at w.words i ≤ 1 → (a b c : Bool)
-    → HaltAndClose (set w.words i 1) (length w.sender.sent.pending) a b c → Kept k w
-    → Kept k (record w { words = set w.words i 1; sender = record w.sender { halted = a; closed = b }; halter = record w.halter { halted = c } })
+    → HaltAndClose (set w.words i 1) (length w.sender.sent.pending) a b c → KeepsRule k w
+    → KeepsRule k (record w { words = set w.words i 1; sender = record w.sender { halted = a; closed = b }; halter = record w.halter { halted = c } })
 flagged k w i pos lt flag a b c flags K =
     let wide = K.wide in let us = set w.words i 1 in let inside : i < length w.words = omega arith in
     let rises : i < payload_start k → word_at w.words i ≤ 1 = λ _. flag in
@@ -120,7 +120,7 @@ flagged k w i pos lt flag a b c flags K =
     }
 
 -- the flags once halt is stored
-halts_flags : (k : Shape) (w : World) (a c : Bool) → (a ≡ true) ⊎ (c ≡ true) → Kept k w
+halts_flags : (k : Shape) (w : World) (a c : Bool) → (a ≡ true) ⊎ (c ≡ true) → KeepsRule k w
     → HaltAndClose (set w.words halt_word 1) (length w.sender.sent.pending) a w.sender.closed c
 halts_flags k w a c who K = let F = K.flags in let wide = K.wide in
     let here : word_at (set w.words halt_word 1) halt_word ≡ 1 = get_or-set_same w.words halt_word 1 0 (omega arith) in
@@ -135,14 +135,14 @@ halts_flags k w a c who K = let F = K.flags in let wide = K.wide in
       complete = λ y. (here, (F.complete (sym other ∙ y)).1);
     }
 
-pub keeps_sender_halts : (k : Shape) (w : World) → Kept k w → Kept k (sender_stores w halt_word 1 (sender_halted w.sender))
+pub keeps_sender_halts : (k : Shape) (w : World) → KeepsRule k w → KeepsRule k (sender_stores w halt_word 1 (sender_halted w.sender))
 keeps_sender_halts k w K = flagged k w halt_word (omega arith) (omega arith) K.flags.halt true w.sender.closed w.halter.halted (halts_flags k w true w.halter.halted (inl refl) K) K
 
-pub keeps_halter_halts : (k : Shape) (w : World) → Kept k w → Kept k (record w { words = set w.words halt_word 1; halter = halter_halted w.halter })
+pub keeps_halter_halts : (k : Shape) (w : World) → KeepsRule k w → KeepsRule k (record w { words = set w.words halt_word 1; halter = halter_halted w.halter })
 keeps_halter_halts k w K = flagged k w halt_word (omega arith) (omega arith) K.flags.halt w.sender.halted w.sender.closed true (halts_flags k w w.sender.halted true (inr refl) K) K
 
-pub keeps_closes : (k : Shape) (w : World) → w.sender.halted ≡ true → w.sender.sent.pending ≡ [] → Kept k w
-    → Kept k (sender_stores w closed_word 1 (sender_closed w.sender))
+pub keeps_closes : (k : Shape) (w : World) → w.sender.halted ≡ true → w.sender.sent.pending ≡ [] → KeepsRule k w
+    → KeepsRule k (sender_stores w closed_word 1 (sender_closed w.sender))
 keeps_closes k w halted all K = let F = K.flags in let wide = K.wide in
     let here : word_at (set w.words closed_word 1) closed_word ≡ 1 = get_or-set_same w.words closed_word 1 0 (omega arith) in
     let other : word_at (set w.words closed_word 1) halt_word ≡ word_at w.words halt_word = get_or-set_other w.words closed_word halt_word 1 0 (λ (e : halt_word ≡ closed_word). omega arith) in
@@ -151,8 +151,8 @@ keeps_closes k w halted all K = let F = K.flags in let wide = K.wide in
     (record { halt = omega arith; close = omega arith; by_sender = λ y. halt; by_halter = λ y. halt; closed = λ y. here; known_halt = λ y. inl halted; known_close = λ y. refl; complete = λ y. (halt, ap length all) }) K
 
 -- one receiver's record changes, and no word
-receiver_changes : (k : Shape) (w : World) (h : ℕ) (q : ReceiverRecord) → ReceiverKept k w.words w.sender.sent.published h q → Kept k w
-    → Kept k (receiver_knows w h q)
+receiver_changes : (k : Shape) (w : World) (h : ℕ) (q : ReceiverRecord) → ReceiverKept k w.words w.sender.sent.published h q → KeepsRule k w
+    → KeepsRule k (receiver_knows w h q)
 receiver_changes k w h q new K = record {
   graph = K.graph;
   some_slot = K.some_slot;
@@ -171,8 +171,8 @@ receiver_changes k w h q new K = record {
 -- a receiver that takes and completes nothing
 receiver_learns : (k : Shape) (w : World) (h : ℕ) (r : ReceiverRecord) (half : Option ℕ) (told : Bool) (looks : List Look) → get_elem? w.receivers h ≡ some r
     → ((first : ℕ) → half ≡ Some first → (length r.received < length w.sender.sent.published) × (first ≡ (get_or w.sender.sent.published (length r.received) no_event).first))
-    → (told ≡ true → (word_at w.words closed_word ≡ 1) × (length w.sender.sent.published ≤ length r.received)) → ArePast k w.words looks → Kept k w
-    → Kept k (receiver_knows w h (record r { half = half; told = told; looks = looks }))
+    → (told ≡ true → (word_at w.words closed_word ≡ 1) × (length w.sender.sent.published ≤ length r.received)) → ArePast k w.words looks → KeepsRule k w
+    → KeepsRule k (receiver_knows w h (record r { half = half; told = told; looks = looks }))
 receiver_learns k w h r half told looks at next drained past K = let was = K.received h r at in receiver_changes k w h (record r { half = half; told = told; looks = looks }) (record {
   plan = was.plan;
   number = was.number;
@@ -186,14 +186,14 @@ receiver_learns k w h r half told looks at next drained past K = let was = K.rec
   looks = past;
 }) K
 
-pub keeps_receiver_looks : (k : Shape) (w : World) (h i : ℕ) (r : ReceiverRecord) → i < payload_start k → get_elem? w.receivers h ≡ some r → Kept k w
-    → Kept k (receiver_knows w h (receiver_looked r i (word_at w.words i)))
+pub keeps_receiver_looks : (k : Shape) (w : World) (h i : ℕ) (r : ReceiverRecord) → i < payload_start k → get_elem? w.receivers h ≡ some r → KeepsRule k w
+    → KeepsRule k (receiver_knows w h (receiver_looked r i (word_at w.words i)))
 keeps_receiver_looks k w h i r lt at K = let was = K.received h r at in
     receiver_learns k w h r r.half r.told (receiver_looked r i (word_at w.words i)).looks at was.half was.told (past_more k w.words i r.looks lt was.looks) K
 
 -- a look that tells a receiver that the ring drained tells the truth
 pub tells_truth : (k : Shape) (w : World) (h : ℕ) (r : ReceiverRecord) → get_elem? w.receivers h ≡ some r
-    → tells_drained r (word_at w.words cursor_word) ≡ true → Kept k w
+    → tells_drained r (word_at w.words cursor_word) ≡ true → KeepsRule k w
     → (word_at w.words closed_word ≡ 1) × (length w.sender.sent.published ≡ length r.received)
 tells_truth k w h r at tells K =
     let both : ((last_look 0 r.looks closed_word == 1) ≡ true) × ((word_at w.words cursor_word == length r.received) ≡ true) = and_parts _ _ tells in
@@ -201,8 +201,8 @@ tells_truth k w h r at tells K =
     let seen = last_look_le k w.words 0 r.looks closed_word (omega arith) (K.received h r at).looks in let flag = K.flags.close in
     let cursor = K.counts.cursor in (omega arith, omega arith)
 
-pub keeps_cursor_look : (k : Shape) (w : World) (h : ℕ) (r : ReceiverRecord) → get_elem? w.receivers h ≡ some r → Kept k w
-    → Kept k (receiver_knows w h (cursor_looked r (word_at w.words cursor_word)))
+pub keeps_cursor_look : (k : Shape) (w : World) (h : ℕ) (r : ReceiverRecord) → get_elem? w.receivers h ≡ some r → KeepsRule k w
+    → KeepsRule k (receiver_knows w h (cursor_looked r (word_at w.words cursor_word)))
 keeps_cursor_look k w h r at K = let was = K.received h r at in let seen = cursor_looked r (word_at w.words cursor_word) in
     receiver_learns k w h r r.half seen.told seen.looks at was.half
     (λ yes. elim (or_cases r.told (tells_drained r (word_at w.words cursor_word)) yes) [
@@ -213,7 +213,7 @@ keeps_cursor_look k w h r at K = let was = K.received h r at in let seen = curso
 
 early_by : (k : Shape) (w : World) (h : ℕ) (r : ReceiverRecord) (ups : List ℕ) → get_elem? w.receivers h ≡ some r
     → ((u : ℕ) → Contains ups u → length r.received < last_look 0 r.looks (count_word u)) → (ups ≡ [] → length r.received < last_look 0 r.looks cursor_word)
-    → ups ≡ upstreams_of k.upstreams h → Kept k w → length r.received < length w.sender.sent.published
+    → ups ≡ upstreams_of k.upstreams h → KeepsRule k w → length r.received < length w.sender.sent.published
 early_by k w h r [] at completed published same K =
     let was = K.received h r at in let a = published refl in let b = last_look_le k w.words 0 r.looks cursor_word (omega arith) was.looks in
     let c = K.counts.cursor in omega arith
@@ -225,35 +225,35 @@ early_by k w h r (u ∷ ups) at completed published same K =
     let d = t.2.count in let e = t.2.completed in let f = t.2.taken in omega arith
 
 -- the next event is published
-pub early : (k : Shape) (w : World) (h : ℕ) (r : ReceiverRecord) → get_elem? w.receivers h ≡ some r → IsBelowBarrier k h r → Kept k w
+pub early : (k : Shape) (w : World) (h : ℕ) (r : ReceiverRecord) → get_elem? w.receivers h ≡ some r → IsBelowBarrier k h r → KeepsRule k w
     → length r.received < length w.sender.sent.published
 early k w h r at low K = early_by k w h r (upstreams_of k.upstreams h) at low.completed low.published refl K
 
 -- the words of the next event lie in its slot
 pub next_event : (k : Shape) (w : World) (h : ℕ) (r : ReceiverRecord) → get_elem? w.receivers h ≡ some r
-    → length r.received < length w.sender.sent.published → Kept k w
+    → length r.received < length w.sender.sent.published → KeepsRule k w
     → (word_at w.words (payload_word k (length r.received) 0) ≡ (get_or w.sender.sent.published (length r.received) no_event).first) × (word_at w.words (payload_word k (length r.received) 1) ≡ (get_or w.sender.sent.published (length r.received) no_event).second)
 next_event k w h r at below K =
     let inside : h < handlers_of k = (let b = at_below w.receivers h r at in let c = K.ends in omega arith) in let was = K.received h r at in
     K.payload.events (length r.received) below (let room = above k w K h inside in let d = was.count in let c = was.completed in omega arith)
 
-pub keeps_half_taken : (k : Shape) (w : World) (h : ℕ) (r : ReceiverRecord) → get_elem? w.receivers h ≡ some r → IsBelowBarrier k h r → Kept k w
-    → Kept k (receiver_knows w h (half_taken r (word_at w.words (payload_word k (length r.received) 0))))
+pub keeps_half_taken : (k : Shape) (w : World) (h : ℕ) (r : ReceiverRecord) → get_elem? w.receivers h ≡ some r → IsBelowBarrier k h r → KeepsRule k w
+    → KeepsRule k (receiver_knows w h (half_taken r (word_at w.words (payload_word k (length r.received) 0))))
 keeps_half_taken k w h r at low K =
     let was = K.received h r at in let below = early k w h r at low K in let event = next_event k w h r at below K in
     let first = word_at w.words (payload_word k (length r.received) 0) in
     receiver_learns k w h r (Some first) r.told r.looks at (λ v e. (let same : first ≡ v = cc in (below, sym same ∙ event.0))) was.told was.looks K
 
 -- the event that is taken
-pub taken_event : (k : Shape) (w : World) (h first : ℕ) (r : ReceiverRecord) → get_elem? w.receivers h ≡ some r → r.half ≡ Some first → Kept k w
+pub taken_event : (k : Shape) (w : World) (h first : ℕ) (r : ReceiverRecord) → get_elem? w.receivers h ≡ some r → r.half ≡ Some first → KeepsRule k w
     → record { first = first; second = word_at w.words (payload_word k (length r.received) 1) } ≡ get_or w.sender.sent.published (length r.received) no_event
 taken_event k w h first r at half K =
     let was = K.received h r at in let d = was.half first half in let event = next_event k w h r at d.0 K in
     λ i. record { first = d.1 i; second = event.1 i }
 
 pub keeps_takes : (k : Shape) (w : World) (h first : ℕ) (r : ReceiverRecord) → get_elem? w.receivers h ≡ some r → r.half ≡ Some first
-    → IsBelowBarrier k h r → Kept k w
-    → Kept k (receiver_knows w h (took r record { first = first; second = word_at w.words (payload_word k (length r.received) 1) }))
+    → IsBelowBarrier k h r → KeepsRule k w
+    → KeepsRule k (receiver_knows w h (took r record { first = first; second = word_at w.words (payload_word k (length r.received) 1) }))
 keeps_takes k w h first r at half low K =
     let was = K.received h r at in let n = length r.received in let all = w.sender.sent.published in
     let found : Event = record { first = first; second = word_at w.words (payload_word k n 1) } in
@@ -274,7 +274,7 @@ keeps_takes k w h first r at half low K =
     }) K
 
 pub keeps_completes : (k : Shape) (w : World) (h n : ℕ) (r : ReceiverRecord) → get_elem? w.receivers h ≡ some r → r.completed ≤ n
-    → n ≤ length r.received → Kept k w → Kept k (receiver_stores w h (completed_to r n) (count_word h) n)
+    → n ≤ length r.received → KeepsRule k w → KeepsRule k (receiver_stores w h (completed_to r n) (count_word h) n)
 keeps_completes k w h n r at rise le K =
     let was = K.received h r at in let lt : h < handlers_of k = (let b = at_below w.receivers h r at in let c = K.ends in omega arith) in
     let wide = K.wide in let i = count_word h in let us = set w.words i n in let inside : i < length w.words = omega arith in let done = was.count in

@@ -2,7 +2,7 @@
 pub mod Shape
 pub mod Words
 pub mod Records
-pub mod Kept
+pub mod Rule
 pub mod Steps
 pub mod Moments
 pub mod Settling

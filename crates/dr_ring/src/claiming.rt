@@ -1,7 +1,7 @@
 //! What a claim is made of: looks at halt and at the final handlers' counts.
 
 ghost use Rattle.std.specs.Prelude.{◌≡◌, ◌≤◌, if◌then◌else◌, length, IfSome};
-ghost use Rattle.dr_ring.specs.Meaning.Records.{halt_looked, HasRoom};
+ghost use Rattle.dr_ring.specs.Meaning.Records.{halt_looked, SeesRoom};
 ghost use Rattle.dr_ring.specs.Inside.Fits.{IsSeenLeast};
 ghost use Rattle.dr_ring.specs.Calls.Ends.{HasLoaded};
 ghost use Rattle.dr_ring.specs.Inside.Parts.{Scans};
@@ -19,7 +19,7 @@ impl SenderStation {
 
     /// Looks at halt and, where it finds 0, claims so many more, for which there is room.
     pub(crate) fn claims(&mut self, more: u64) -> bool
-        requires { HasRoom self.old.knows.plan self.old.knows more }
+        requires { SeesRoom self.old.knows.plan self.old.knows more }
         ensures { HasLoaded self.old (halt_looked self.old.knows more (if result then 0 else 1)) self.new }
     {
         self.look_at_halt::<Brand>(more) == 0

@@ -11,15 +11,15 @@ mod sender;
 pub mod settling;
 
 ghost use Rattle.std.specs.Prelude.{List, ◌≡◌, ◌<◌, ◌≤◌, slice_index};
-ghost use Rattle.dr_graph.specs.Graph.{IsGraph};
-ghost use Rattle.dr_core.specs.Transcript.{Transcript, LeadsTo};
-ghost use Rattle.dr_core.specs.Laws.{Laws};
-ghost use Rattle.dr_ring.specs.Meaning.Shape.{Shape, setup_of};
+ghost use Rattle.dr_graph.specs.Meaning.Graph.{IsGraph};
+ghost use Rattle.dr_core.specs.Meaning.Transcript.{Transcript, LeadsTo};
+ghost use Rattle.dr_core.specs.Meaning.Laws.{Laws};
+ghost use Rattle.dr_ring.specs.Meaning.Shape.{Shape, ring_setup};
 ghost use Rattle.dr_ring.specs.Meaning.Words.{halt_word};
 ghost use Rattle.dr_ring.specs.Meaning.Records.{claimed};
-ghost use Rattle.dr_ring.specs.Meaning.Kept.{World, Kept};
+ghost use Rattle.dr_ring.specs.Meaning.Rule.{World, KeepsRule};
 ghost use Rattle.dr_ring.specs.declared.record.Step.{Step};
-ghost use Rattle.dr_ring.specs.Meaning.Moments.{Runs, opening, picture_of};
+ghost use Rattle.dr_ring.specs.Meaning.Moments.{Runs, new_world, picture_of};
 
 use crate::plan::Plan;
 use crate::record::View;
@@ -79,10 +79,10 @@ impl Names for Brand {
 /// a ring is halted, nothing more is claimed. It does nothing when it runs: the contract is the
 /// theorem.
 pub fn moments()
-    ensures rule { (k : Shape) (steps : List Step) (entries : Transcript) (w : World) → IsGraph k.upstreams → 0 < k.size → Runs k steps entries (opening k) w → Kept k w }
-    ensures leads { (k : Shape) (steps : List Step) (entries : Transcript) (w : World) → IsGraph k.upstreams → 0 < k.size → Runs k steps entries (opening k) w → LeadsTo (setup_of k) entries (picture_of k w) }
-    ensures laws { (k : Shape) (steps : List Step) (entries : Transcript) (w : World) → IsGraph k.upstreams → 0 < k.size → Runs k steps entries (opening k) w → Laws (setup_of k) entries }
-    ensures halted { (k : Shape) (steps more : List Step) (entries rest : Transcript) (w u : World) → IsGraph k.upstreams → 0 < k.size → Runs k steps entries (opening k) w → Runs k more rest w u → slice_index w.words halt_word ≡ 1 → claimed u.sender ≡ claimed w.sender }
+    ensures rule { (k : Shape) (steps : List Step) (entries : Transcript) (w : World) → IsGraph k.upstreams → 0 < k.size → Runs k steps entries (new_world k) w → KeepsRule k w }
+    ensures leads { (k : Shape) (steps : List Step) (entries : Transcript) (w : World) → IsGraph k.upstreams → 0 < k.size → Runs k steps entries (new_world k) w → LeadsTo (ring_setup k) entries (picture_of k w) }
+    ensures laws { (k : Shape) (steps : List Step) (entries : Transcript) (w : World) → IsGraph k.upstreams → 0 < k.size → Runs k steps entries (new_world k) w → Laws (ring_setup k) entries }
+    ensures halted { (k : Shape) (steps more : List Step) (entries rest : Transcript) (w u : World) → IsGraph k.upstreams → 0 < k.size → Runs k steps entries (new_world k) w → Runs k more rest w u → slice_index w.words halt_word ≡ 1 → claimed u.sender ≡ claimed w.sender }
 {
     every_transcript_is_lawful();
 }

@@ -2,7 +2,7 @@
 
 ghost use Rattle.std.specs.Prelude.{◌≡◌, [], map, IfOk, IfErr, IsOk, false};
 ghost use Rattle.std.specs.Arc.{arc_value};
-ghost use Rattle.dr_core.specs.OpenFault.{is_bad_limit};
+ghost use Rattle.dr_core.specs.Calls.OpenFault.{is_bad_limit};
 ghost use Rattle.dr_ring.specs.Meaning.Shape.{handlers_of};
 ghost use Rattle.dr_ring.specs.Calls.Plans.{IsPlan};
 ghost use Rattle.dr_ring.specs.Meaning.Moments.{fresh_receivers};

@@ -1,7 +1,7 @@
 //! What a ring is made for, and the places of its words.
 
 ghost use Rattle.std.specs.Prelude.{◌≡◌, ◌^◌, ◌<◌, ◌≤◌, map, IfOk};
-ghost use Rattle.dr_graph.specs.Graph.{upstreams_of, finals as finals_of};
+ghost use Rattle.dr_graph.specs.Meaning.Graph.{upstreams_of, finals as finals_of};
 ghost use Rattle.dr_ring.specs.Meaning.Shape.{handlers_of};
 ghost use Rattle.dr_ring.specs.Meaning.Words.{cursor_word, closed_word, halt_word, count_word as count_word_of, payload_word as payload_word_of, words_of};
 ghost use Rattle.dr_ring.specs.Calls.Plans.{IsPlan};

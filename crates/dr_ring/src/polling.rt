@@ -3,7 +3,7 @@
 ghost use Rattle.std.specs.Prelude.{◌≡◌, ◌+◌, ◌^◌, ◌<◌, ◌≤◌, None, length};
 ghost use Rattle.dr_ring.specs.Calls.Receiving.{received_all};
 ghost use Rattle.dr_ring.specs.Calls.Ends.{HasLoaded};
-ghost use Rattle.dr_ring.specs.Inside.Parts.{lesser_of, LooksAtUpstreams, IsOffered, nothing_offered as answer_of};
+ghost use Rattle.dr_ring.specs.Inside.Parts.{lesser_of, LooksAtUpstreams, IsOfferedUpTo, nothing_offered as answer_of};
 
 use crate::laws::ReceiverStation;
 use dr_core::Polled;
@@ -37,7 +37,7 @@ impl ReceiverStation {
     pub(crate) fn take_all(&mut self, taken: u64, out: &mut [Event])
         requires whole { self.old.knows.half ≡ None }
         requires next { taken ≡ length self.old.knows.received }
-        requires below { IsOffered self.old.knows (taken + length out.old) }
+        requires below { IsOfferedUpTo self.old.knows (taken + length out.old) }
         requires fits { taken + length out.old < 2 ^ 64 }
         ensures only { HasLoaded self.old (received_all self.old.knows out.new) self.new }
         ensures length { length out.new ≡ length out.old }

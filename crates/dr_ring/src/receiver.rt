@@ -1,7 +1,7 @@
 //! An end that receives every event.
 
 ghost use Rattle.std.specs.Prelude.{◌≡◌, ◌<◌, ◌^◌, ◌||◌, [], ◌∷◌, length, Some};
-ghost use Rattle.dr_core.specs.Ends.{Tells, PollAnswers, CompleteAnswers, is_drained, Takes, Completes};
+ghost use Rattle.dr_core.specs.Calls.Ends.{IsEndsAnswer, PollAnswers, CompleteAnswers, is_drained, Takes, Completes};
 ghost use Rattle.dr_ring.specs.Calls.Ends.{receiver_place, received_of, looks_counted};
 ghost use Rattle.dr_ring.specs.Calls.Receiving.{PollCall, CompleteCall};
 
@@ -104,7 +104,7 @@ impl Outlet for Receiver {
         ensures answer { PollAnswers (Some (received_of self.old.knows)) out.old out.new result }
         ensures told { self.new.knows.told ≡ (self.old.knows.told || is_drained result) }
         ensures received { Takes out.new result (received_of self.old.knows) (received_of self.new.knows) }
-        ensures own { Tells (PollCall self.old out.old self.new out.new) result }
+        ensures own { IsEndsAnswer (PollCall self.old out.old self.new out.new) result }
     {
         Ok(Receiver::poll_into(self, out)?)
     }
@@ -114,7 +114,7 @@ impl Outlet for Receiver {
         ensures answer { CompleteAnswers (Some (received_of self.old.knows)) upto result }
         ensures told { self.new.knows.told ≡ self.old.knows.told }
         ensures received { Completes upto result (received_of self.old.knows) (received_of self.new.knows) }
-        ensures own { Tells (CompleteCall self.old upto self.new) result }
+        ensures own { IsEndsAnswer (CompleteCall self.old upto self.new) result }
     {
         Ok(Receiver::complete(self, upto)?)
     }

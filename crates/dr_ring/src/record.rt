@@ -25,7 +25,7 @@ pub struct SentEvents {
 }
 
 impl Model for SentEvents {
-    ghost use Rattle.dr_core.specs.Ends.{Sent};
+    ghost use Rattle.dr_core.specs.Calls.Ends.{Sent};
 
     ghost Value = { Sent };
 

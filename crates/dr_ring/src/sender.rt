@@ -1,7 +1,7 @@
 //! The one end that claims, writes and publishes.
 
 ghost use Rattle.std.specs.Prelude.{◌≡◌, Some};
-ghost use Rattle.dr_core.specs.Ends.{Tells, ClaimAnswers, WriteAnswers, PublishAnswers, Claims, Writes, Publishes};
+ghost use Rattle.dr_core.specs.Calls.Ends.{IsEndsAnswer, ClaimAnswers, WriteAnswers, PublishAnswers, Claims, Writes, Publishes};
 ghost use Rattle.dr_ring.specs.Calls.Ends.{sender_place, looks_counted};
 ghost use Rattle.dr_ring.specs.Calls.Sending.{ClaimCall, WriteCall, PublishCall, CloseCall};
 
@@ -158,7 +158,7 @@ impl Inlet for Sender {
         ensures kept { sender_place self.new ≡ sender_place self.old }
         ensures answer { ClaimAnswers (Some self.old.knows.sent) n result }
         ensures sent { Claims n result self.old.knows.sent self.new.knows.sent }
-        ensures own { Tells (ClaimCall self.old n self.new) result }
+        ensures own { IsEndsAnswer (ClaimCall self.old n self.new) result }
     {
         Ok(Sender::try_claim(self, n)?)
     }
@@ -167,7 +167,7 @@ impl Inlet for Sender {
         ensures kept { sender_place self.new ≡ sender_place self.old }
         ensures answer { WriteAnswers (Some self.old.knows.sent) s result }
         ensures sent { Writes s event result self.old.knows.sent self.new.knows.sent }
-        ensures own { Tells (WriteCall self.old s event self.new) result }
+        ensures own { IsEndsAnswer (WriteCall self.old s event self.new) result }
     {
         Ok(Sender::write(self, s, event)?)
     }
@@ -176,7 +176,7 @@ impl Inlet for Sender {
         ensures kept { sender_place self.new ≡ sender_place self.old }
         ensures answer { PublishAnswers (Some self.old.knows.sent) lo hi result }
         ensures sent { Publishes lo hi result self.old.knows.sent self.new.knows.sent }
-        ensures own { Tells (PublishCall self.old lo hi self.new) result }
+        ensures own { IsEndsAnswer (PublishCall self.old lo hi self.new) result }
     {
         Ok(Sender::publish(self, lo, hi)?)
     }

@@ -6,7 +6,7 @@ ghost use Rattle.dr_ring.specs.Inside.Seats.{IsAtTable, end_of};
 ghost use Rattle.dr_ring.specs.Meaning.Records.{claimed as claimed_of};
 ghost use Rattle.dr_ring.specs.Inside.Gathering.{LeadsView, AreOfRing, Gathers};
 ghost use Rattle.dr_ring.specs.Meaning.Settling.{Settles, HasRun};
-ghost use Rattle.dr_ring.specs.Calls.Settling.{AreAllEnds, counts_of, counts_at};
+ghost use Rattle.dr_ring.specs.Calls.Settling.{AreAllEnds, handler_counts, counts_at};
 
 use crate::laws::{RingBody, RingSeat, moments, settling};
 use crate::receiver::Receiver;
@@ -89,7 +89,7 @@ fn gather(
     requires places { length counts.old.items ≡ length receivers.items }
     ensures seat { seat.new.table_id ≡ seat.old.table_id }
     ensures view { Gathers (end_of seat.old.me) (map (λ e. e.knows) receivers.items) (end_of seat.new.me) }
-    ensures counts { counts.new.items ≡ map (λ e. counts_of e.knows) receivers.items }
+    ensures counts { counts.new.items ≡ map (λ e. handler_counts e.knows) receivers.items }
 {
     while let Some(receiver) = receivers.pop() {
         counts[receivers.len()] = HandlerCounts {
@@ -111,7 +111,7 @@ pub fn settle(sender: Sender, receivers: Vec<Receiver>) -> Settled
     requires { AreAllEnds sender receivers.items }
     ensures claimed { result.claimed ≡ claimed_of sender.knows }
     ensures published { result.published ≡ length sender.knows.sent.published }
-    ensures handlers { result.handlers.items ≡ map (λ e. counts_of e.knows) receivers.items }
+    ensures handlers { result.handlers.items ≡ map (λ e. handler_counts e.knows) receivers.items }
     ensures lists { Settles sender.knows (map (λ e. e.knows) receivers.items) }
     ensures run { HasRun sender.knows (map (λ e. e.knows) receivers.items) }
 {

@@ -9,15 +9,15 @@ use Rattle.std.proofs.lemmas.List.FromFn.{length-map-range_with_len, get_or-map-
 use Rattle.std.proofs.lemmas.Option.{slice_get-get_or}
 use Rattle.dr_seq.specs.declared.event.Event.{Event}
 use Rattle.dr_seq.specs.Event.{no_event}
-use Rattle.dr_core.specs.Machine.{Setup, State, next, producers, handlers}
-use Rattle.dr_core.specs.Transcript.{Transcript, next_of, owner_of, is_published, front_of, received_by, taken_by}
-use Rattle.dr_core.specs.Laws.{Laws, ReceivedInOrder}
+use Rattle.dr_core.specs.Meaning.Machine.{Setup, State, next, producers, handlers}
+use Rattle.dr_core.specs.Meaning.Transcript.{Transcript, next_of, owner_of, is_published, front_of, received_by, taken_by}
+use Rattle.dr_core.specs.Meaning.Laws.{Laws, ReceivedInOrder}
 use Rattle.dr_core.proofs.Leasts.{least_is, IsLeast}
-use Rattle.dr_core.specs.Tells.{Tells}
+use Rattle.dr_core.specs.Meaning.Tells.{Tells}
 use Rattle.dr_shared.specs.declared.sequences.Sequence.{Sequence}
-use Rattle.dr_shared.specs.Sequences.{Lists, nothing, known, known_in, published_of, sent_of}
-use Rattle.dr_shared.specs.Merge.{IsMerge}
-use Rattle.dr_shared.specs.Audit.{is_owner, event_at, published_by_all, published_by, script_of}
+use Rattle.dr_shared.specs.Inside.Sequences.{Lists, nothing, known, known_in, published_of, sent_of}
+use Rattle.dr_shared.specs.Meaning.Merge.{IsMerge}
+use Rattle.dr_shared.specs.Meaning.Audit.{is_owner, event_in, published_by_all, published_by, script_of}
 use Rattle.dr_shared.proofs.Reached.{IsHeld}
 use Rattle.dr_shared.proofs.Picks.{picks, picks_none, picks_first, picks_map, picks_both, picked_passes, none_passes, list_is}
 
@@ -35,7 +35,7 @@ module _ (c : Setup) (t : Transcript) (m : State) (tells : Tells t m) (held : Is
   owner_is : (s p : ℕ) → s < next m → is_owner (owner_of t s) p ≡ (slice_index m.owners s == p)
   owner_is s p l = owned_by (owner_of t s) (slice_index m.owners s) p (tells.owners s ∙ slice_get-get_or m.owners s 0 l)
 
-  event_is : (s : ℕ) → m.published s ≡ true → unwrap_or (m.written s) no_event ≡ event_at t s
+  event_is : (s : ℕ) → m.published s ≡ true → unwrap_or (m.written s) no_event ≡ event_in t s
   event_is s y = ap (λ o. unwrap_or o no_event) (sym (tells.events s y))
 
   module _ (list : List Sequence) (lists : Lists list m) where
@@ -49,25 +49,25 @@ module _ (c : Setup) (t : Transcript) (m : State) (tells : Tells t m) (held : Is
     published_is =
         ap published_of (list_is list nothing)
         ∙ picks_map (known list) (λ x. x.event) (λ x. x.is_published) (range_with_len 0 (length list))
-        ∙ picks (λ s. (known list s).event) (event_at t) (λ s. (known list s).is_published) (is_published t) 0 (length list) (λ s a l.
+        ∙ picks (λ s. (known list s).event) (event_in t) (λ s. (known list s).is_published) (is_published t) 0 (length list) (λ s a l.
         let same : known list s ≡ known_in m s = same_at s (omega arith) in
         (ap (λ x. x.is_published) same ∙ sym (tells.published s), λ y. ap (λ x. x.event) same ∙ event_is s (sym (tells.published s) ∙ y)))
-        ∙ ap (λ n. map (event_at t) (filter (is_published t) (range_with_len 0 n))) long
+        ∙ ap (λ n. map (event_in t) (filter (is_published t) (range_with_len 0 n))) long
 
     pub sent_is : (p : ℕ) → sent_of list p ≡ published_by t p
     sent_is p =
         ap (λ l. sent_of l p) (list_is list nothing)
         ∙ picks_map (known list) (λ x. x.event) (λ x. x.is_published && x.owner == p) (range_with_len 0 (length list))
-        ∙ picks (λ s. (known list s).event) (event_at t) (λ s. (known list s).is_published && (known list s).owner == p) (λ s. is_published t s && is_owner (owner_of t s) p) 0 (length list) (λ s a l.
+        ∙ picks (λ s. (known list s).event) (event_in t) (λ s. (known list s).is_published && (known list s).owner == p) (λ s. is_published t s && is_owner (owner_of t s) p) 0 (length list) (λ s a l.
         let e : length list ≡ next m = lists.length in
         let same : known list s ≡ known_in m s = same_at s (omega arith) in
         (ap (λ x. x.is_published && x.owner == p) same ∙ rw (tells.published s, owner_is s p (omega arith)) refl, λ y. ap (λ x. x.event) same ∙ event_is s (sym (tells.published s) ∙ (and_parts _ _ y).0)))
-        ∙ ap (λ n. map (event_at t) (filter (λ s. is_published t s && is_owner (owner_of t s) p) (range_with_len 0 n))) long
+        ∙ ap (λ n. map (event_in t) (filter (λ s. is_published t s && is_owner (owner_of t s) p) (range_with_len 0 n))) long
 
   -- no other producer published anything
   pub others_none : (p : ℕ) → producers c.mode ≤ p → published_by t p ≡ []
   others_none p le =
-      ap (map (event_at t)) (picks_none (λ s. is_published t s && is_owner (owner_of t s) p) 0 (next_of t) (λ s a l.
+      ap (map (event_in t)) (picks_none (λ s. is_published t s && is_owner (owner_of t s) p) 0 (next_of t) (λ s a l.
       let n : next_of t ≡ next m = tells.next in
       let own : slice_index m.owners s < producers c.mode = held.owned s (omega arith) in
       let other : is_owner (owner_of t s) p ≡ false = owner_is s p (omega arith) ∙ differ (slice_index m.owners s) p (omega arith) in
@@ -77,21 +77,21 @@ module _ (c : Setup) (t : Transcript) (m : State) (tells : Tells t m) (held : Is
   pub received_some : Laws c t → (h : ℕ) → h < handlers c → received_by t h ≡ take (taken_by t h) (published_by_all t)
   received_some laws h inside =
       let n : ℕ = taken_by t h in
-      let front : List Event = map (event_at t) (range_with_len 0 (front_of t)) in
+      let front : List Event = map (event_in t) (range_with_len 0 (front_of t)) in
       let order : ReceivedInOrder t h = laws.received_in_order t [] (append-nil t) h inside in
       let within : n ≤ front_of t = order.published in
       let least : IsLeast (is_published t) (next_of t) (front_of t) = least_is (is_published t) (next_of t) in
       let first : (rest : List ℕ) × (filter (is_published t) (range_with_len 0 (next_of t)) ≡ range_with_len 0 (front_of t) ++ rest) =
       picks_first (is_published t) 0 (front_of t) (next_of t) least.within (λ s a l. least.below s (omega arith)) in
-      let split : published_by_all t ≡ front ++ map (event_at t) first.0 =
-      ap (map (event_at t)) first.1 ∙ map-append (event_at t) (range_with_len 0 (front_of t)) first.0 in
-      let long : length front ≡ front_of t = length-map-range_with_len (event_at t) 0 (front_of t) in
-      let taken : take n (published_by_all t) ≡ map (event_at t) (range_with_len 0 n) =
-      ap (take n) split ∙ take-append-le n front (map (event_at t) first.0) (omega arith) ∙ take-map-range_with_len (event_at t) 0 (front_of t) n within in
-      let each : (i : ℕ) → i < n → get_or (received_by t h) i no_event ≡ get_or (map (event_at t) (range_with_len 0 n)) i no_event =
+      let split : published_by_all t ≡ front ++ map (event_in t) first.0 =
+      ap (map (event_in t)) first.1 ∙ map-append (event_in t) (range_with_len 0 (front_of t)) first.0 in
+      let long : length front ≡ front_of t = length-map-range_with_len (event_in t) 0 (front_of t) in
+      let taken : take n (published_by_all t) ≡ map (event_in t) (range_with_len 0 n) =
+      ap (take n) split ∙ take-append-le n front (map (event_in t) first.0) (omega arith) ∙ take-map-range_with_len (event_in t) 0 (front_of t) n within in
+      let each : (i : ℕ) → i < n → get_or (received_by t h) i no_event ≡ get_or (map (event_in t) (range_with_len 0 n)) i no_event =
       λ i l. ap (λ o. unwrap_or o no_event) (sym (slice_get-get_or (received_by t h) i no_event l) ∙ order.events i l)
-      ∙ sym (get_or-map-range_with_len (event_at t) 0 n i i no_event l (omega arith)) in
-      ext_get_or no_event (received_by t h) (map (event_at t) (range_with_len 0 n)) (sym (length-map-range_with_len (event_at t) 0 n)) each ∙ sym taken
+      ∙ sym (get_or-map-range_with_len (event_in t) 0 n i i no_event l (omega arith)) in
+      ext_get_or no_event (received_by t h) (map (event_in t) (range_with_len 0 n)) (sym (length-map-range_with_len (event_in t) 0 n)) each ∙ sym taken
 
   -- so a handler that took as many events as were published received them all
   pub received_all : Laws c t → (h : ℕ) → h < handlers c → taken_by t h ≡ length (published_by_all t)
@@ -111,22 +111,22 @@ module _ (c : Setup) (t : Transcript) (m : State) (tells : Tells t m) (held : Is
 
   -- the published events of a producer, picked from those of all
   part_is : (xs : List ℕ) → xs ≡ filter (is_published t) (range_with_len 0 (next_of t)) → (i : ℕ)
-      → published_by t i ≡ map (λ s. get_or (map (event_at t) xs) s no_event) (filter (λ s. slice_index m.owners (get_or xs s 0) == i) (range_with_len 0 (length xs)))
+      → published_by t i ≡ map (λ s. get_or (map (event_in t) xs) s no_event) (filter (λ s. slice_index m.owners (get_or xs s 0) == i) (range_with_len 0 (length xs)))
   part_is xs is i =
-      ap (map (event_at t)) (picks_both (is_published t) (λ s. is_owner (owner_of t s) i) (range_with_len 0 (next_of t)))
-      ∙ ap (λ ys. map (event_at t) (filter (λ s. is_owner (owner_of t s) i) ys)) (sym is ∙ list_is xs 0)
-      ∙ picks_map (λ s. get_or xs s 0) (event_at t) (λ s. is_owner (owner_of t s) i) (range_with_len 0 (length xs))
-      ∙ picks (λ s. event_at t (get_or xs s 0)) (λ s. get_or (map (event_at t) xs) s no_event) (λ s. is_owner (owner_of t (get_or xs s 0)) i) (λ s. slice_index m.owners (get_or xs s 0) == i) 0 (length xs) (λ s a l.
+      ap (map (event_in t)) (picks_both (is_published t) (λ s. is_owner (owner_of t s) i) (range_with_len 0 (next_of t)))
+      ∙ ap (λ ys. map (event_in t) (filter (λ s. is_owner (owner_of t s) i) ys)) (sym is ∙ list_is xs 0)
+      ∙ picks_map (λ s. get_or xs s 0) (event_in t) (λ s. is_owner (owner_of t s) i) (range_with_len 0 (length xs))
+      ∙ picks (λ s. event_in t (get_or xs s 0)) (λ s. get_or (map (event_in t) xs) s no_event) (λ s. is_owner (owner_of t (get_or xs s 0)) i) (λ s. slice_index m.owners (get_or xs s 0) == i) 0 (length xs) (λ s a l.
       let inside : s < length xs = omega arith in
-      (owner_is (get_or xs s 0) i (claimed_there (get_or xs s 0) (passes xs is s inside)), λ y. sym (get_or-map (event_at t) xs s 0 no_event inside)))
+      (owner_is (get_or xs s 0) i (claimed_there (get_or xs s 0) (passes xs is s inside)), λ y. sym (get_or-map (event_in t) xs s 0 no_event inside)))
 
   -- each published sequence is that of a producer with a script
   part_within : (xs : List ℕ) → xs ≡ filter (is_published t) (range_with_len 0 (next_of t)) → (s p : ℕ)
       → s < length xs → slice_index m.owners (get_or xs s 0) ≡ p → published_by t p ≡ [] → ⊥
   part_within xs is s p l own nothing_sent =
       let ys : List ℕ = filter (λ s. is_owner (owner_of t s) p) xs in
-      let picked : map (event_at t) (filter (λ s. is_owner (owner_of t s) p) xs) ≡ [] = ap (λ zs. map (event_at t) (filter (λ s. is_owner (owner_of t s) p) zs)) is ∙ sym (ap (map (event_at t)) (picks_both (is_published t) (λ s. is_owner (owner_of t s) p) (range_with_len 0 (next_of t)))) ∙ nothing_sent in
-      let few : length (filter (λ s. is_owner (owner_of t s) p) xs) ≡ 0 = sym (length-map (filter (λ s. is_owner (owner_of t s) p) xs) (event_at t)) ∙ ap length picked in
+      let picked : map (event_in t) (filter (λ s. is_owner (owner_of t s) p) xs) ≡ [] = ap (λ zs. map (event_in t) (filter (λ s. is_owner (owner_of t s) p) zs)) is ∙ sym (ap (map (event_in t)) (picks_both (is_published t) (λ s. is_owner (owner_of t s) p) (range_with_len 0 (next_of t)))) ∙ nothing_sent in
+      let few : length (filter (λ s. is_owner (owner_of t s) p) xs) ≡ 0 = sym (length-map (filter (λ s. is_owner (owner_of t s) p) xs) (event_in t)) ∙ ap length picked in
       let not_own : is_owner (owner_of t (get_or xs s 0)) p ≡ false = none_passes (λ s. is_owner (owner_of t s) p) xs s 0 few l in
       let is_own : is_owner (owner_of t (get_or xs s 0)) p ≡ true = owner_is (get_or xs s 0) p (claimed_there (get_or xs s 0) (passes xs is s l)) ∙ eq-eqb (slice_index m.owners (get_or xs s 0)) p own in
       false≢true (sym not_own ∙ is_own)
@@ -136,7 +136,7 @@ module _ (c : Setup) (t : Transcript) (m : State) (tells : Tells t m) (held : Is
       → IsMerge scripts (published_by_all t)
   merged scripts sent =
       let xs : List ℕ = filter (is_published t) (range_with_len 0 (next_of t)) in
-      let long : length (map (event_at t) xs) ≡ length xs = length-map xs (event_at t) in
+      let long : length (map (event_in t) xs) ≡ length xs = length-map xs (event_in t) in
       record {
         part = λ s. slice_index m.owners (get_or xs s 0);
         within = λ s l. elim (cases_lt (slice_index m.owners (get_or xs s 0)) (length scripts)) [

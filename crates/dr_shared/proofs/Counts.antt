@@ -7,10 +7,10 @@ use Rattle.std.proofs.lemmas.List.FromFn.{length-map-range_with_len}
 use Rattle.dr_core.specs.declared.command.Command.{Command}
 use Rattle.dr_core.specs.declared.command.Command.TheVariants.{Claim, Write, Publish, Poll, Complete, Halt, Retire}
 use Rattle.dr_seq.specs.Event.{no_event}
-use Rattle.dr_core.specs.Machine.{Setup, State, Outcome, handlers, next, available, cursor, refusals, accepted, step}
-use Rattle.dr_core.specs.Runs.{offers}
+use Rattle.dr_core.specs.Meaning.Machine.{Setup, State, Outcome, handlers, next, available, cursor, refusals, accepted, step}
+use Rattle.dr_core.specs.Meaning.Runs.{offers}
 use Rattle.dr_core.proofs.Steps.{unless-cases}
-use Rattle.dr_shared.specs.History.{asked}
+use Rattle.dr_shared.specs.Meaning.History.{asked}
 
 abbrev Gives : ℕ → Outcome → Type 0
 Gives n o = length o.values ≡ n

@@ -7,7 +7,7 @@ use Rattle.std.proofs.lemmas.List.{take_more}
 use Rattle.std.proofs.lemmas.List.Elements.{filter_map-append}
 use Rattle.dr_shared.specs.declared.ended.Ended.{Ended}
 use Rattle.dr_shared.specs.declared.ended.WorkerFault.{WorkerFault}
-use Rattle.dr_shared.specs.FirstFault.{fault_with, faults_with, least, lesser}
+use Rattle.dr_shared.specs.Meaning.FirstFault.{fault_with, faults_with, least, lesser}
 use Rattle.dr_shared.specs.declared.fault.WorkFault.{WorkFault}
 use Rattle.dr_shared.specs.declared.fault.WorkFault.TheVariants.{Memory, Refused, Stopped}
 

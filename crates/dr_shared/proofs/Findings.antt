@@ -1,18 +1,18 @@
 -- What an audit finds, from its two halves.
 use Rattle.std.proofs.Common.{◌≡◌, ℕ, ◌<◌, ◌≤◌, List, sym, ap, ◌∙◌, length, slice_index}
 use Rattle.dr_seq.specs.declared.event.Event.{Event}
-use Rattle.dr_core.specs.CoreView.{retired_in}
-use Rattle.dr_core.specs.Machine.{Setup, State, handlers, producers, opening}
-use Rattle.dr_core.specs.Transcript.{Transcript, LeadsTo, taken_by, retired_by}
-use Rattle.dr_core.specs.Tells.{Tells}
+use Rattle.dr_core.specs.Calls.CoreView.{retired_in}
+use Rattle.dr_core.specs.Meaning.Machine.{Setup, State, handlers, producers, opening}
+use Rattle.dr_core.specs.Meaning.Transcript.{Transcript, LeadsTo, taken_by, retired_by}
+use Rattle.dr_core.specs.Meaning.Tells.{Tells}
 use Rattle.dr_shared.specs.declared.audit_fault.AuditFault.{AuditFault}
 use Rattle.dr_shared.specs.declared.audit_fault.AuditFault.TheVariants.{ScriptDiffers, NotDrained, NoMemory}
 use Rattle.dr_shared.specs.declared.entry.Entry.{Entry}
 use Rattle.dr_shared.specs.declared.sequences.Sequence.{Sequence}
-use Rattle.dr_shared.specs.Audit.{Faults, FirstLacks, IsAudited, SentScript, TookAll, published_by, published_by_all}
-use Rattle.dr_shared.specs.Auditing.{Differs, SentIn, TookIn, Undrained}
-use Rattle.dr_shared.specs.History.{History, IsRecorded, transcript}
-use Rattle.dr_shared.specs.Sequences.{Follows, Lists, published_of, sent_of}
+use Rattle.dr_shared.specs.Meaning.Audit.{Faults, FirstLacks, IsAudited, SentScript, TookAll, published_by, published_by_all}
+use Rattle.dr_shared.specs.Inside.Auditing.{Differs, SentIn, TookIn, Undrained}
+use Rattle.dr_shared.specs.Meaning.History.{History, IsRecorded, transcript}
+use Rattle.dr_shared.specs.Inside.Sequences.{Follows, Lists, published_of, sent_of}
 use Rattle.dr_core.proofs.Shown.{same_taken, same_retired}
 use Rattle.dr_shared.proofs.Reached.{IsHeld, held}
 use Rattle.dr_shared.proofs.Audited.{published_is, sent_is, received_all, received_some, merged, all_sent}

@@ -8,22 +8,22 @@ use Rattle.dr_seq.specs.declared.event.Event.{Event}
 use Rattle.dr_seq.specs.Event.{no_event}
 use Rattle.dr_core.specs.declared.command.Command.{Command}
 use Rattle.dr_core.specs.declared.command.Command.TheVariants.{Claim, Write, Publish, Poll, Complete, Halt, Retire}
-use Rattle.dr_core.specs.Machine.{Setup, State, Outcome, next, available, cursor, refusals, accepted, step, opening}
-use Rattle.dr_core.specs.Transcript.{LeadsFrom}
-use Rattle.dr_core.specs.Runs.{count_in}
+use Rattle.dr_core.specs.Meaning.Machine.{Setup, State, Outcome, next, available, cursor, refusals, accepted, step, opening}
+use Rattle.dr_core.specs.Meaning.Transcript.{LeadsFrom}
+use Rattle.dr_core.specs.Meaning.Runs.{count_in}
 use Rattle.dr_core.proofs.Steps.{NoneHold, unless-cases}
 use Rattle.dr_shared.specs.declared.entry.Entry.{Entry}
 use Rattle.dr_shared.specs.declared.sequences.Sequence.{Sequence}
-use Rattle.dr_shared.specs.History.{is_kept, AreKept, transcript_of_entries}
-use Rattle.dr_shared.specs.Sequences.{claimed_by, nothing, Lists, Takes, Speaks, Follows}
+use Rattle.dr_shared.specs.Meaning.History.{is_kept, AreKept, transcript_of_entries}
+use Rattle.dr_shared.specs.Inside.Sequences.{just_claimed, nothing, Lists, Changes, Speaks, Follows}
 use Rattle.dr_shared.proofs.Reached.{IsHeld, opening_held, step_held}
 
 -- what the list says after an accepted command
 claim_lists : (c : Setup) (m : State) (p n : ℕ) (list new : List Sequence) → IsHeld c m → Lists list m
-    → new ≡ list ++ replicate n (claimed_by p) → Lists new (accepted c m (Claim p n)).state
+    → new ≡ list ++ replicate n (just_claimed p) → Lists new (accepted c m (Claim p n)).state
 claim_lists c m p n list new held lists is =
-    let len : length (list ++ replicate n (claimed_by p)) ≡ length list + length (replicate n (claimed_by p)) = length-append list (replicate n (claimed_by p)) in
-    let many : length (replicate n (claimed_by p)) ≡ n = length-replicate n (claimed_by p) in
+    let len : length (list ++ replicate n (just_claimed p)) ≡ length list + length (replicate n (just_claimed p)) = length-append list (replicate n (just_claimed p)) in
+    let many : length (replicate n (just_claimed p)) ≡ n = length-replicate n (just_claimed p) in
     let len' : length (m.owners ++ replicate n p) ≡ length m.owners + length (replicate n p) = length-append m.owners (replicate n p) in
     let many' : length (replicate n p) ≡ n = length-replicate n p in
     let same : length list ≡ next m = lists.length in
@@ -31,7 +31,7 @@ claim_lists c m p n list new held lists is =
       length = omega (arith, len, many, len', many', same);
       at = λ s l. elim (cases_lt s (next m)) [
         | inl old ↦
-            get_or_append_left list (replicate n (claimed_by p)) nothing s (omega (arith, same))
+            get_or_append_left list (replicate n (just_claimed p)) nothing s (omega (arith, same))
             ∙ lists.at s old
             ∙ ap (λ o. record { owner = o; event = unwrap_or (m.written s) no_event; is_published = m.published s }) (sym (get_or_append_left m.owners (replicate n p) 0 s old))
         | inr more ↦
@@ -39,8 +39,8 @@ claim_lists c m p n list new held lists is =
             let owner : slice_index (m.owners ++ replicate n p) s ≡ p = get_or-append_right m.owners (replicate n p) (length m.owners) s 0 refl more ∙ get_or-replicate n (s - length m.owners) p 0 left in
             let event : m.written s ≡ None = held.unwritten s more in
             let hidden : m.published s ≡ false = held.unpublished s more in
-            get_or-append_right list (replicate n (claimed_by p)) (length m.owners) s nothing same more
-            ∙ get_or-replicate n (s - length m.owners) (claimed_by p) nothing left
+            get_or-append_right list (replicate n (just_claimed p)) (length m.owners) s nothing same more
+            ∙ get_or-replicate n (s - length m.owners) (just_claimed p) nothing left
             ∙ rw (owner, event, hidden) refl
       ];
     })
@@ -51,7 +51,7 @@ chosen true event w = refl
 chosen false event w = refl
 
 write_lists : (c : Setup) (m : State) (p at : ℕ) (event : Event) (list new : List Sequence) → Lists list m
-    → Takes (Write p at event) list new → Lists new (accepted c m (Write p at event)).state
+    → Changes (Write p at event) list new → Lists new (accepted c m (Write p at event)).state
 write_lists c m p at event list new lists takes =
     let same : length list ≡ next m = lists.length in
     record {
@@ -60,7 +60,7 @@ write_lists c m p at event list new lists takes =
     }
 
 publish_lists : (c : Setup) (m : State) (p lo hi : ℕ) (list new : List Sequence) → Lists list m
-    → Takes (Publish p lo hi) list new → Lists new (accepted c m (Publish p lo hi)).state
+    → Changes (Publish p lo hi) list new → Lists new (accepted c m (Publish p lo hi)).state
 publish_lists c m p lo hi list new lists takes =
     let same : length list ≡ next m = lists.length in
     record { length = takes.0 ∙ same; at = λ s l. takes.1 s (omega (arith, same)) ∙ rw (lists.at s l) refl }
@@ -80,7 +80,7 @@ poll_lists c m h max list new lists is =
     (λ n. cond_both (m.halted && (slice_index m.taken h == next m)) _ _ P (λ y. same) (λ n'. cond_both (nat_lt (slice_index m.taken h) (cursor c m)) _ _ P (λ y. same) (λ n''. same)))
 
 accepted_lists : (c : Setup) (m : State) (command : Command) (list new : List Sequence) → IsHeld c m → Lists list m
-    → Takes command list new → Lists new (accepted c m command).state
+    → Changes command list new → Lists new (accepted c m command).state
 accepted_lists c m (Claim p n) list new held lists takes = claim_lists c m p n list new held lists takes
 accepted_lists c m (Write p s event) list new held lists takes = write_lists c m p s event list new lists takes
 accepted_lists c m (Publish p lo hi) list new held lists takes = publish_lists c m p lo hi list new lists takes
@@ -90,7 +90,7 @@ accepted_lists c m Halt list new held lists takes = stays_lists m _ list new lis
 accepted_lists c m (Retire h) list new held lists takes = stays_lists m _ list new lists takes refl refl refl
 
 step_lists : (c : Setup) (m : State) (command : Command) (list new : List Sequence) → IsHeld c m → Lists list m
-    → Takes command list new → is_kept (step c m command).reply ≡ true → Lists new (step c m command).state
+    → Changes command list new → is_kept (step c m command).reply ≡ true → Lists new (step c m command).state
 step_lists c m command list new held lists takes keeps =
     unless-cases (λ (o : Outcome). is_kept o.reply ≡ true → Lists new o.state) (refusals c m command) m (accepted c m command) (λ r e. absurd (cc)) (λ none e. accepted_lists c m command list new held lists takes) keeps
 
@@ -120,7 +120,7 @@ passed_none c list entries end is follows =
     rw is (record { state = opening c; held = opening_held c; lists = record { length = refl; at = λ s l. absurd (omega arith) }; follows = follows })
 
 pub passed_more : (c : Setup) (list new : List Sequence) (e : Entry) (rest : List Entry) (end : State)
-    → Passed c list (e ∷ rest) end → Takes e.command list new → Passed c new rest end
+    → Passed c list (e ∷ rest) end → Changes e.command list new → Passed c new rest end
 passed_more c list new e rest end at takes = record {
   state = (step c at.state e.command).state;
   held = step_held c at.state e.command at.held;
@@ -149,6 +149,6 @@ pub speaks_at : (c : Setup) (list : List Sequence) (entries : List Entry) (i : �
 speaks_at c list entries i d end l at = passed_speaks c list (get_or entries i d) (drop (i + 1) entries) end (rw (drop_more entries i d l) at at)
 
 pub passed_at : (c : Setup) (list new : List Sequence) (entries : List Entry) (i : ℕ) (d : Entry) (end : State)
-    → i < length entries → Passed c list (drop i entries) end → Takes (get_or entries i d).command list new
+    → i < length entries → Passed c list (drop i entries) end → Changes (get_or entries i d).command list new
     → Passed c new (drop (i + 1) entries) end
 passed_at c list new entries i d end l at takes = passed_more c list new (get_or entries i d) (drop (i + 1) entries) end (rw (drop_more entries i d l) at at) takes

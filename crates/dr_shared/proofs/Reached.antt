@@ -7,8 +7,8 @@ use Rattle.std.proofs.lemmas.List.{length-append, length-replicate, get_or_appen
 use Rattle.dr_seq.specs.declared.event.Event.{Event}
 use Rattle.dr_core.specs.declared.command.Command.{Command}
 use Rattle.dr_core.specs.declared.command.Command.TheVariants.{Claim, Write, Publish, Poll, Complete, Halt, Retire}
-use Rattle.dr_core.specs.Machine.{Setup, State, Outcome, next, front, producers, available, cursor, refusals, accepted, step, opening}
-use Rattle.dr_core.specs.Transcript.{Transcript, LeadsFrom, LeadsTo}
+use Rattle.dr_core.specs.Meaning.Machine.{Setup, State, Outcome, next, front, producers, available, cursor, refusals, accepted, step, opening}
+use Rattle.dr_core.specs.Meaning.Transcript.{Transcript, LeadsFrom, LeadsTo}
 use Rattle.dr_core.proofs.Steps.{NoneHold, unless-cases}
 use Rattle.dr_core.proofs.FiveLaws.{reached}
 use Rattle.dr_core.proofs.Sound.{offered-le}

@@ -7,17 +7,17 @@ use Rattle.dr_seq.specs.declared.event.Event.{Event}
 use Rattle.dr_core.specs.declared.command.Command.{Command}
 use Rattle.dr_core.specs.declared.command.Command.TheVariants.{Claim, Write, Publish, Poll, Complete, Halt, Retire}
 use Rattle.dr_core.specs.declared.command.Reply.{Reply}
-use Rattle.dr_core.specs.Machine.{Setup, State, Outcome, step, refusals, accepted, available, cursor, next, opening}
-use Rattle.dr_core.specs.CoreView.{CoreView}
-use Rattle.dr_core.specs.Shows.{Shows, IsStep}
-use Rattle.dr_core.specs.Runs.{RunsTo, count_in}
+use Rattle.dr_core.specs.Meaning.Machine.{Setup, State, Outcome, step, refusals, accepted, available, cursor, next, opening}
+use Rattle.dr_core.specs.Calls.CoreView.{CoreView}
+use Rattle.dr_core.specs.Calls.Shows.{Shows, IsStep}
+use Rattle.dr_core.specs.Meaning.Runs.{RunsTo, count_in}
 use Rattle.dr_core.proofs.Steps.{unless-cases}
-use Rattle.dr_core.specs.Laws.{Laws}
-use Rattle.dr_core.specs.Transcript.{Transcript, LeadsTo, entry_with}
+use Rattle.dr_core.specs.Meaning.Laws.{Laws}
+use Rattle.dr_core.specs.Meaning.Transcript.{Transcript, LeadsTo, entry_with}
 use Rattle.dr_core.proofs.Running.{transcript_push, counts-push}
 use Rattle.dr_shared.specs.declared.entry.Entry.{Entry}
-use Rattle.dr_shared.specs.Lock.{IsAnswer}
-use Rattle.dr_shared.specs.History.{is_kept, AreKept, transcript_of_entries, IsRecorded}
+use Rattle.dr_shared.specs.Calls.Lock.{IsAnswer}
+use Rattle.dr_shared.specs.Meaning.History.{is_kept, AreKept, transcript_of_entries, IsRecorded}
 
 -- The core's laws, as its public functions state them.
 

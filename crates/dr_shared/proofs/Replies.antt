@@ -10,12 +10,12 @@ use Rattle.dr_core.specs.declared.command.Reply.{Reply}
 use Rattle.dr_core.specs.declared.command.Reply.TheVariants.{Claimed, Written, Published, Batch, Drained, Gating, Idle, Completed, Refused as RefusedReply}
 use Rattle.dr_core.specs.declared.ends.Trouble.TheVariants.{Refused}
 use Rattle.dr_core.specs.declared.refusal.Refusal.{Refusal}
-use Rattle.dr_core.specs.Refusals.{NoneHolds, IsFirst, claim_causes, write_causes, sequence_causes, publish_causes, poll_causes, complete_causes}
-use Rattle.dr_core.specs.Ends.{Verdict, Exactly, AtLeast, MayHold, MayFail, claim_tests, write_tests, publish_tests, sequence_tests, poll_tests, complete_tests, ClaimAnswers, WriteAnswers, PublishAnswers, CompleteAnswers}
-use Rattle.dr_core.specs.Machine.{Setup, State, Outcome, next, available, cursor, refusals, publish_faults, accepted, unless, unchanged, step}
-use Rattle.dr_core.specs.Transcript.{Transcript, LeadsTo}
+use Rattle.dr_core.specs.Meaning.Refusals.{NoneHolds, IsFirst, claim_causes, write_causes, sequence_causes, publish_causes, poll_causes, complete_causes}
+use Rattle.dr_core.specs.Calls.Ends.{Verdict, Exactly, AtLeast, MayHold, MayFail, claim_tests, write_tests, publish_tests, end_sequence_tests, poll_tests, complete_tests, ClaimAnswers, WriteAnswers, PublishAnswers, CompleteAnswers}
+use Rattle.dr_core.specs.Meaning.Machine.{Setup, State, Outcome, next, available, cursor, refusals, publish_faults, accepted, unless, unchanged, step}
+use Rattle.dr_core.specs.Meaning.Transcript.{Transcript, LeadsTo}
 use Rattle.dr_core.proofs.Steps.{NoneHold}
-use Rattle.dr_shared.specs.Lock.{IsAnswer}
+use Rattle.dr_shared.specs.Calls.Lock.{IsAnswer}
 use Rattle.dr_shared.proofs.Reached.{held, available_claimed}
 
 -- Verdicts of the machine's tests.
@@ -146,7 +146,7 @@ write_step c m p s e =
 publish_right : (c : Setup) (m : State) (p lo hi : ℕ)
     → AreRight (refusals c m (Publish p lo hi)) (publish_causes lo hi (publish_tests None lo hi))
 publish_right c m p lo hi =
-    let stretch = right_stretch (publish_faults m p) (λ s. sequence_causes (sequence_tests None s)) (λ s. (unsaid _, refl, (unsaid _, refl, (unsaid _, refl, tt)))) lo (hi + 1 - lo) in
+    let stretch = right_stretch (publish_faults m p) (λ s. sequence_causes (end_sequence_tests None s)) (λ s. (unsaid _, refl, (unsaid _, refl, (unsaid _, refl, tt)))) lo (hi + 1 - lo) in
     let order = right_join (flat_map (publish_faults m p) (range_with_len lo (hi + 1 - lo))) _ _ _ stretch (unsaid _, refl, tt) in
     (unsaid _, refl, (refl, refl, (unsaid _, refl, order)))
 

@@ -7,7 +7,7 @@ use Rattle.dr_core.specs.declared.ends.Trouble.TheVariants as trouble
 use Rattle.dr_shared.specs.declared.fault.WorkFault.{WorkFault}
 use Rattle.dr_shared.specs.declared.fault.WorkFault.TheVariants.{Memory, Stopped}
 use Rattle.dr_shared.specs.declared.turns.Turns.{Turns}
-use Rattle.dr_shared.specs.Stops.{Passes, fault_at_end, fault_in_trouble}
+use Rattle.dr_shared.specs.Calls.Stops.{Passes, fault_at_end, fault_in_trouble}
 
 -- no turn
 pub passes_none : (may_stop : ℕ → Type 0) (t : Turns) → Passes may_stop t t

@@ -4,23 +4,23 @@ use Rattle.std.proofs.lemmas.List.{append-nil, length-take-le}
 use Rattle.dr_seq.specs.declared.event.Event.{Event}
 use Rattle.dr_core.specs.declared.command.Polled.{Polled}
 use Rattle.dr_core.specs.declared.command.Polled.TheVariants.{Batch}
-use Rattle.dr_core.specs.Ends.{FillsFront, Received, WhereShown, Takes, Completes}
-use Rattle.dr_core.specs.Handling.{GoesThrough, Relation, Showing, showings}
-use Rattle.dr_shared.specs.Work.{Dealt, FollowFrom, HandsOut, IsDone, Works, events_of, shown_of}
+use Rattle.dr_core.specs.Calls.Ends.{FillsFront, Received, WhereShown, Takes, Completes}
+use Rattle.dr_core.specs.Calls.Handling.{GoesThrough, Relation, Showing, showings}
+use Rattle.dr_shared.specs.Meaning.Work.{Dealt, FollowFrom, HandsOut, IsDone, Works, dealt_events, shown_of}
 use Rattle.dr_shared.proofs.Showing.{shown_as, shown_none, shown_through}
 
 shown_of-append : (bs cs : List Dealt) → shown_of (bs ++ cs) ≡ shown_of bs ++ shown_of cs
 shown_of-append [] cs = refl
 shown_of-append (b ∷ bs) cs = ap (λ l. showings b.events b.first b.end ++ l) (shown_of-append bs cs) ∙ sym (append_assoc (showings b.events b.first b.end) (shown_of bs) (shown_of cs))
 
-events_of-append : (bs cs : List Dealt) → events_of (bs ++ cs) ≡ events_of bs ++ events_of cs
-events_of-append [] cs = refl
-events_of-append (b ∷ bs) cs = ap (λ l. b.events ++ l) (events_of-append bs cs) ∙ sym (append_assoc b.events (events_of bs) (events_of cs))
+dealt_events-append : (bs cs : List Dealt) → dealt_events (bs ++ cs) ≡ dealt_events bs ++ dealt_events cs
+dealt_events-append [] cs = refl
+dealt_events-append (b ∷ bs) cs = ap (λ l. b.events ++ l) (dealt_events-append bs cs) ∙ sym (append_assoc b.events (dealt_events bs) (dealt_events cs))
 
-FollowFrom-append : (s t : ℕ) (bs cs : List Dealt) → t ≡ s + length (events_of bs) → FollowFrom s bs → FollowFrom t cs → FollowFrom s (bs ++ cs)
+FollowFrom-append : (s t : ℕ) (bs cs : List Dealt) → t ≡ s + length (dealt_events bs) → FollowFrom s bs → FollowFrom t cs → FollowFrom s (bs ++ cs)
 FollowFrom-append s t [] cs is h k = (let same : t ≡ s = omega arith in rw same at k)
 FollowFrom-append s t (b ∷ bs) cs is h k =
-    let all : length (b.events ++ events_of bs) ≡ length b.events + length (events_of bs) = length-append b.events (events_of bs) in
+    let all : length (b.events ++ dealt_events bs) ≡ length b.events + length (dealt_events bs) = length-append b.events (dealt_events bs) in
     (h.0, h.1, FollowFrom-append (s + length b.events) t bs cs (omega arith) h.2 k)
 
 GoesThrough-append : {A : Type 0} (goes : Relation A) (before : A) (xs ys : List Showing) (between after : A) → GoesThrough goes before xs between → GoesThrough goes between ys after → GoesThrough goes before (xs ++ ys) after
@@ -29,8 +29,8 @@ GoesThrough-append goes before (x ∷ xs) ys between after h k = (h.0, h.1, Goes
 
 hands_more : (bs cs : List Dealt) (old mid new : Received) → HandsOut bs old mid → HandsOut cs mid new → HandsOut (bs ++ cs) old new
 hands_more bs cs old mid new h k =
-    let events : new.events ≡ old.events ++ events_of (bs ++ cs) = k.0 ∙ ap (λ l. l ++ events_of cs) h.0 ∙ append_assoc old.events (events_of bs) (events_of cs) ∙ ap (λ l. old.events ++ l) (sym (events_of-append bs cs)) in
-    let at : length mid.events ≡ length old.events + length (events_of bs) = ap length h.0 ∙ length-append old.events (events_of bs) in
+    let events : new.events ≡ old.events ++ dealt_events (bs ++ cs) = k.0 ∙ ap (λ l. l ++ dealt_events cs) h.0 ∙ append_assoc old.events (dealt_events bs) (dealt_events cs) ∙ ap (λ l. old.events ++ l) (sym (dealt_events-append bs cs)) in
+    let at : length mid.events ≡ length old.events + length (dealt_events bs) = ap length h.0 ∙ length-append old.events (dealt_events bs) in
     (events, FollowFrom-append (length old.events) (length mid.events) bs cs at h.1 k.1)
 
 hands_none : (a : Received) → HandsOut [] a a

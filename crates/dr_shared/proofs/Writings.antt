@@ -10,9 +10,9 @@ use Rattle.dr_seq.specs.Event.{no_event}
 use Rattle.dr_core.specs.declared.command.Claimed.{Claimed}
 use Rattle.dr_core.specs.declared.refusal.Refusal.{Refusal}
 use Rattle.dr_core.specs.declared.refusal.Refusal.TheVariants.{BadCount, NoProducer, NotClaimed, OutOfOrder}
-use Rattle.dr_core.specs.Refusals.{NoneHolds, sequence_causes}
-use Rattle.dr_core.specs.Ends.{Sent, Verdict, WhereShown, Claims, MayFail, PublishAnswers, Writes, Publishes, publish_tests}
-use Rattle.dr_shared.specs.Work.{Adds, Writing}
+use Rattle.dr_core.specs.Meaning.Refusals.{NoneHolds, sequence_causes}
+use Rattle.dr_core.specs.Calls.Ends.{Sent, Verdict, WhereShown, Claims, MayFail, PublishAnswers, Writes, Publishes, publish_tests}
+use Rattle.dr_shared.specs.Meaning.Work.{Adds, Writing}
 use Rattle.dr_shared.proofs.Showing.{shown_as, shown_none, shown_through}
 
 abbrev some : Event → Option Event

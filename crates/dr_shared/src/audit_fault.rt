@@ -1,7 +1,7 @@
 //! What an audit finds amiss.
 
 ghost use Rattle.std.specs.Prelude.{◌≡◌};
-ghost use Rattle.dr_shared.specs.AuditFault.{number_of, name_of};
+ghost use Rattle.dr_shared.specs.Calls.AuditFault.{number_of, name_of};
 ghost use Rattle.dr_shared.specs.declared.audit_fault.AuditFault.TheVariants.{NoMemory};
 
 use std::alloc::AllocError;

@@ -1,11 +1,11 @@
 //! Whether every handler received what the producers were to send.
 
 ghost use Rattle.std.specs.Prelude.{◌≡◌, ◌↔◌, ℕ, ◌<◌, false, IfErr, IfOk, IsTrue, OnOk};
-ghost use Rattle.dr_core.specs.CoreView.{retired_in};
-ghost use Rattle.dr_core.specs.Machine.{handlers};
-ghost use Rattle.dr_shared.specs.Audit.{Faults, IsAudited, scripts_of};
-ghost use Rattle.dr_shared.specs.Auditing.{Differs, SentIn, TookIn, Undrained};
-ghost use Rattle.dr_shared.specs.History.{transcript};
+ghost use Rattle.dr_core.specs.Calls.CoreView.{retired_in};
+ghost use Rattle.dr_core.specs.Meaning.Machine.{handlers};
+ghost use Rattle.dr_shared.specs.Meaning.Audit.{Faults, IsAudited, scripts_of};
+ghost use Rattle.dr_shared.specs.Inside.Auditing.{Differs, SentIn, TookIn, Undrained};
+ghost use Rattle.dr_shared.specs.Meaning.History.{transcript};
 
 use crate::audit_fault::AuditFault;
 use crate::recorded::Recorded;

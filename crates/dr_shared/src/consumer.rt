@@ -1,11 +1,11 @@
 //! The worker of a handler.
 
 ghost use Rattle.std.specs.Prelude.{◌≡◌, ◌≢◌, true, Err, IfNone, IfOk, OnOk, Some};
-ghost use Rattle.dr_core.specs.Ends.{WhereShown};
+ghost use Rattle.dr_core.specs.Calls.Ends.{WhereShown};
 ghost use Rattle.dr_shared.specs.declared.consumer.Progress.TheVariants.{Drained};
 ghost use Rattle.dr_shared.specs.declared.fault.WorkFault.TheVariants.{Memory, Stopped};
-ghost use Rattle.dr_shared.specs.Stops.{Passes};
-ghost use Rattle.dr_shared.specs.Work.{IsDone, Works};
+ghost use Rattle.dr_shared.specs.Calls.Stops.{Passes};
+ghost use Rattle.dr_shared.specs.Meaning.Work.{IsDone, Works};
 
 use crate::fault::WorkFault;
 use crate::gate::Gate;

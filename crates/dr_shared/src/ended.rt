@@ -1,7 +1,7 @@
 //! Which fault is answered for several workers, once all are joined.
 
 ghost use Rattle.std.specs.Prelude.{◌≡◌, ◌++◌, All, IfNone, None, option_to_list};
-ghost use Rattle.dr_shared.specs.FirstFault.{fault_with, faults_with, first_fault as first_of, least};
+ghost use Rattle.dr_shared.specs.Meaning.FirstFault.{fault_with, faults_with, first_fault as first_of, least};
 
 use crate::fault::WorkFault;
 

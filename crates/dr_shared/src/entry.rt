@@ -1,7 +1,7 @@
 //! What a history keeps of a call.
 
 ghost use Rattle.std.specs.Prelude.{◌≡◌};
-ghost use Rattle.dr_shared.specs.History.{is_kept as is_kept_of};
+ghost use Rattle.dr_shared.specs.Meaning.History.{is_kept as is_kept_of};
 
 use dr_core::{Command, Reply};
 

@@ -4,11 +4,11 @@
 //! the events of their batches. [`Shared`] puts it behind one lock, and each thread calls through an
 //! [`End`] of its own, which counts; [`LockedInlet`] and [`LockedOutlet`] make that a producer's and
 //! a handler's end. [`audit`] compares a history with what its producers were to send. Begin with
-//! `specs/History`, then `specs/Audit`.
+//! `specs/Meaning/History`, then `Audit` beside it.
 //!
 //! Workers serve the ends of an exchange, whichever it is: [`produce`] sends a script through a
 //! producer's end, and [`consume`] takes a handler through all that its end hands out. Both wait for
-//! the other workers ([`Waiting`]), and pass a [`Gate`]. Begin with `specs/Work`: it says what they
+//! the other workers ([`Waiting`]), and pass a [`Gate`]. Begin with `specs/Meaning/Work`: it says what they
 //! do to an end that shows what it sent or received.
 #![tactic(auto)]
 

@@ -1,10 +1,10 @@
 //! The worker of a producer.
 
 ghost use Rattle.std.specs.Prelude.{◌≡◌, ◌+◌, ◌^◌, ◌<◌, ◌≤◌, [], length, take, IfNone, OnErr, OnOk, Some};
-ghost use Rattle.dr_core.specs.Ends.{WhereShown};
+ghost use Rattle.dr_core.specs.Calls.Ends.{WhereShown};
 ghost use Rattle.dr_shared.specs.declared.fault.WorkFault.TheVariants.{Stopped};
-ghost use Rattle.dr_shared.specs.Stops.{Passes};
-ghost use Rattle.dr_shared.specs.Work.{Adds, Writing};
+ghost use Rattle.dr_shared.specs.Calls.Stops.{Passes};
+ghost use Rattle.dr_shared.specs.Meaning.Work.{Adds, Writing};
 
 use crate::fault::WorkFault;
 use crate::gate::Gate;

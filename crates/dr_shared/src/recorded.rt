@@ -1,13 +1,13 @@
 //! A core with the history of the calls that it kept.
 
 ghost use Rattle.std.specs.Prelude.{◌≡◌, ◌+◌, ◌<◌, ◌≤◌, ◌↔◌, ◌^◌, ◌⊎◌, ◌++◌, [], Err, true, false, drop, length, take, IfOk, OnErr, slice_index, if◌then◌else◌};
-ghost use Rattle.dr_core.specs.CoreView.{retired_in};
-ghost use Rattle.dr_core.specs.Machine.{State, handlers, opening, producers as producers_of, setup_of, step};
-ghost use Rattle.dr_core.specs.OpenFault.{has_bad_producers, is_bad_limit};
-ghost use Rattle.dr_core.specs.Runs.{count_in};
-ghost use Rattle.dr_core.specs.Shows.{Shows, IsStep};
-ghost use Rattle.dr_shared.specs.History.{IsRecorded, asked, entries_after};
-ghost use Rattle.dr_shared.specs.Lock.{IsAnswer};
+ghost use Rattle.dr_core.specs.Calls.CoreView.{retired_in};
+ghost use Rattle.dr_core.specs.Meaning.Machine.{State, handlers, opening, producers as producers_of, setup_of, step};
+ghost use Rattle.dr_core.specs.Calls.OpenFault.{has_bad_producers, is_bad_limit};
+ghost use Rattle.dr_core.specs.Meaning.Runs.{count_in};
+ghost use Rattle.dr_core.specs.Calls.Shows.{Shows, IsStep};
+ghost use Rattle.dr_shared.specs.Meaning.History.{IsRecorded, asked, entries_after};
+ghost use Rattle.dr_shared.specs.Calls.Lock.{IsAnswer};
 
 use crate::entry::{Entry, is_kept};
 use dr_core::{
@@ -28,7 +28,7 @@ pub struct Recorded {
 }
 
 impl Model for Recorded {
-    ghost use Rattle.dr_shared.specs.History.{RecordedView, IsRecorded};
+    ghost use Rattle.dr_shared.specs.Meaning.History.{RecordedView, IsRecorded};
     ghost use Rattle.std.specs.Prelude.{vec_capacity};
 
     ghost Value = { RecordedView };

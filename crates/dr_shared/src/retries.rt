@@ -1,7 +1,7 @@
 //! Calls of ends that are tried again while they have to wait.
 
 ghost use Rattle.std.specs.Prelude.{◌≡◌, ◌≢◌, Err, Ok, IfOk, OnErr, OnOk};
-ghost use Rattle.dr_core.specs.Ends.{Claims, Completes, GivesStretch, PublishAnswers, Publishes, WhereShown, Writes};
+ghost use Rattle.dr_core.specs.Calls.Ends.{Claims, Completes, GivesStretch, PublishAnswers, Publishes, WhereShown, Writes};
 
 use crate::waiting::Waiting;
 use dr_core::{Claimed, Inlet, Outlet, Refusal, Trouble};

@@ -1,8 +1,8 @@
 //! What the entries of a history say of each claimed sequence.
 
 ghost use Rattle.std.specs.Prelude.{◌≡◌, ℕ, ◌<◌, ◌≤◌, ◌++◌, IfOk, OnOk, length, replicate, vec_len};
-ghost use Rattle.dr_core.specs.Machine.{Setup, State, opening};
-ghost use Rattle.dr_shared.specs.Sequences.{Follows, Lists, Speaks, Takes, claimed_by, known, published_in, published_of, sent_of};
+ghost use Rattle.dr_core.specs.Meaning.Machine.{Setup, State, opening};
+ghost use Rattle.dr_shared.specs.Inside.Sequences.{Follows, Lists, Speaks, Changes, just_claimed, known, published_in, published_of, sent_of};
 
 use crate::entry::Entry;
 use dr_core::Command;
@@ -33,7 +33,7 @@ pub(crate) fn sequences(alloc: Global, entries: &[Entry]) -> Result<Vec<Sequence
 /// Takes in an accepted command.
 fn take_in(list: &mut Vec<Sequence>, command: Command) -> Result<(), AllocError>
     requires { Speaks command (vec_len list.old) }
-    ensures { OnOk result (Takes command list.old.items list.new.items) }
+    ensures { OnOk result (Changes command list.old.items list.new.items) }
 {
     match command {
         Command::Claim { p, n } => claim(list, p, n),
@@ -53,7 +53,7 @@ fn take_in(list: &mut Vec<Sequence>, command: Command) -> Result<(), AllocError>
 }
 
 fn claim(list: &mut Vec<Sequence>, p: u64, n: u64) -> Result<(), AllocError>
-    ensures { OnOk result (list.new.items ≡ list.old.items ++ replicate n (claimed_by p)) }
+    ensures { OnOk result (list.new.items ≡ list.old.items ++ replicate n (just_claimed p)) }
 {
     for _ in 0..n {
         list.push(Sequence {

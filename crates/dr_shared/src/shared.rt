@@ -1,9 +1,9 @@
 //! The exchange behind one lock.
 
 ghost use Rattle.std.specs.Prelude.{◌≡◌, ◌↔◌, ◌+◌, ◌<◌, ◌≤◌, IfOk, IfErr, OnErr, IsErr, MatchOption, if◌then◌else◌, drop, length, sum, take, vec_len};
-ghost use Rattle.dr_core.specs.Runs.{count_in};
-ghost use Rattle.dr_shared.specs.History.{asked, is_kept as is_kept_of};
-ghost use Rattle.dr_shared.specs.Lock.{IsAnswer};
+ghost use Rattle.dr_core.specs.Meaning.Runs.{count_in};
+ghost use Rattle.dr_shared.specs.Meaning.History.{asked, is_kept as is_kept_of};
+ghost use Rattle.dr_shared.specs.Calls.Lock.{IsAnswer};
 
 use crate::entry::is_kept;
 use crate::recorded::Recorded;
@@ -56,7 +56,7 @@ pub struct Shared<L: Ledger> {
 
 impl<L: Ledger> Model for Shared<L> {
     ghost use Rattle.std.specs.Prelude.{◌≡◌, ◌+◌, ◌≤◌};
-    ghost use Rattle.dr_shared.specs.Lock.{SharedView};
+    ghost use Rattle.dr_shared.specs.Calls.Lock.{SharedView};
 
     ghost Value = { SharedView };
 

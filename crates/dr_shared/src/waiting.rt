@@ -1,7 +1,7 @@
 //! How a thread waits for others.
 
 ghost use Rattle.std.specs.Prelude.{◌≡◌, false, true, if◌then◌else◌};
-ghost use Rattle.dr_shared.specs.Waits.{longer as longer_of, pauses_after, shorter as shorter_of, tuned as tuned_of};
+ghost use Rattle.dr_shared.specs.Calls.Waits.{longer as longer_of, pauses_after, shorter as shorter_of, tuned as tuned_of};
 
 use std::hint::spin_loop;
 use std::thread::yield_now;

@@ -3,11 +3,11 @@
 ghost use Rattle.std.specs.Prelude.{◌≡◌, ◌-◌, ◌↔◌, ◌⊎◌, true, Err, ◌<◌, ◌≤◌, ◌^◌, ◌+◌, ◌++◌, [], length, map, drop, OnErr, IfOk, IfErr, IsOk, slice_index, if◌then◌else◌};
 ghost use Rattle.std.specs.List.{range_with_len};
 ghost use Rattle.dr_seq.specs.Slots.{event_at};
-ghost use Rattle.dr_graph.specs.Graph.{upstreams_of};
-ghost use Rattle.dr_core.specs.CoreView.{retired_in};
-ghost use Rattle.dr_core.specs.Machine.{State, available as available_of, handlers, is_single};
-ghost use Rattle.dr_core.specs.Runs.{count_in};
-ghost use Rattle.dr_core.specs.Shows.{Shows, IsStep, Takes, CanComplete, offered_to, unit_reply, poll_reply, polled};
+ghost use Rattle.dr_graph.specs.Meaning.Graph.{upstreams_of};
+ghost use Rattle.dr_core.specs.Calls.CoreView.{retired_in};
+ghost use Rattle.dr_core.specs.Meaning.Machine.{State, available as available_of, handlers, is_single};
+ghost use Rattle.dr_core.specs.Meaning.Runs.{count_in};
+ghost use Rattle.dr_core.specs.Calls.Shows.{Shows, IsStep, TakesIfBatch, CanComplete, offered_to, unit_reply, poll_reply, polled};
 
 use crate::command::{Command, Polled, Reply};
 use crate::engine::Core;
@@ -65,7 +65,7 @@ impl Core {
         ensures step { IsStep self.old (Command.Poll h (length out.old)) (poll_reply result) (polled result out.new) self.new }
         ensures rest { out.new ≡ polled result out.new ++ drop (length (polled result out.new)) out.old }
         ensures fits { count_in (poll_reply result) ≤ length out.old }
-        ensures takes { Takes h result self.new }
+        ensures takes { TakesIfBatch h result self.new }
         ensures refused { OnErr result (self.new ≡ self.old) }
     {
         if h >= self.graph.len() {

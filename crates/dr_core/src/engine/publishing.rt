@@ -1,9 +1,9 @@
 //! The producers' calls: sequences are claimed, written and published.
 
 ghost use Rattle.std.specs.Prelude.{◌≡◌, ℕ, ◌+◌, ◌^◌, ◌<◌, ◌≤◌, ◌≢◌, nat_le, false, [], None, Some, MatchOption, OnErr};
-ghost use Rattle.dr_core.specs.Availability.{claim_fault as claim_fault_of, publish_fault as publish_fault_of};
-ghost use Rattle.dr_core.specs.CoreView.{known_at, gate_of};
-ghost use Rattle.dr_core.specs.Shows.{IsStep, claim_reply, unit_reply};
+ghost use Rattle.dr_core.specs.Inside.Availability.{claim_fault as claim_fault_of, publish_fault as publish_fault_of};
+ghost use Rattle.dr_core.specs.Calls.CoreView.{known_at, gate_of};
+ghost use Rattle.dr_core.specs.Calls.Shows.{IsStep, claim_reply, unit_reply};
 
 use crate::availability::{is_ahead, is_next_written, is_written, note, own, owner_of, show};
 use crate::command::{Claimed, Command, Reply};

@@ -1,9 +1,9 @@
 //! A handler retires: it takes no more events, and claims no longer wait for it.
 
 ghost use Rattle.std.specs.Prelude.{◌≡◌, ◌≤◌, ◌==◌, ◌||◌, not, [], length, OnErr};
-ghost use Rattle.dr_graph.specs.Graph.{flagged, is_some_left};
-ghost use Rattle.dr_core.specs.CoreView.{AreGating, gate_of};
-ghost use Rattle.dr_core.specs.Shows.{IsStep, unit_reply};
+ghost use Rattle.dr_graph.specs.Meaning.Graph.{flagged, is_some_left};
+ghost use Rattle.dr_core.specs.Calls.CoreView.{AreGating, gate_of};
+ghost use Rattle.dr_core.specs.Calls.Shows.{IsStep, unit_reply};
 
 use crate::command::{Command, Reply};
 use crate::engine::Core;

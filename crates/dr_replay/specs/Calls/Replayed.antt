@@ -2,7 +2,7 @@
 use Rattle.std.specs.Prelude.{◌≡◌, ℕ, Result, Ok, Err, List, [], ◌∷◌, Option, None, Some, Vec}
 use Rattle.std.specs.Io.KnownBytes.{Appends, Keeps}
 use Rattle.dr_seq.specs.declared.event.Event.{Event}
-use Rattle.dr_shared.specs.Merge.{IsMerge}
+use Rattle.dr_shared.specs.Meaning.Merge.{IsMerge}
 use Rattle.dr_accounts.specs.Report.{report_of}
 use Rattle.dr_files.specs.Lines.{joined}
 use Rattle.dr_files.specs.Outcome.{AppendsFront, FaultCounts, FaultKeeps, FaultWrites, Said}

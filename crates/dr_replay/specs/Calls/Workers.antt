@@ -6,12 +6,12 @@ use Rattle.dr_shared.specs.declared.fault.WorkFault.{WorkFault}
 use Rattle.dr_shared.specs.declared.fault.WorkFault.TheVariants as work
 use Rattle.dr_shared.specs.declared.ended.Ended.{Ended}
 use Rattle.dr_shared.specs.declared.ended.WorkerFault.{WorkerFault}
-use Rattle.dr_shared.specs.FirstFault.{first_fault}
+use Rattle.dr_shared.specs.Meaning.FirstFault.{first_fault}
 use Rattle.dr_shared.specs.declared.audit_fault.AuditFault.{AuditFault}
 use Rattle.dr_shared.specs.declared.audit_fault.AuditFault.TheVariants as audit
-use Rattle.dr_shared.specs.Audit.{Faults}
-use Rattle.dr_shared.specs.History.{History, IsRecorded, transcript}
-use Rattle.dr_core.specs.Machine.{handlers}
+use Rattle.dr_shared.specs.Meaning.Audit.{Faults}
+use Rattle.dr_shared.specs.Meaning.History.{History, IsRecorded, transcript}
+use Rattle.dr_core.specs.Meaning.Machine.{handlers}
 use Rattle.dr_files.specs.declared.fault.FileFault.{FileFault}
 use Rattle.dr_files.specs.declared.fault.FileFault.TheVariants as file
 use Rattle.dr_replay.specs.Meaning.Scripts.{scripts_in}

@@ -2,11 +2,11 @@
 use Rattle.std.specs.Prelude.{◌≡◌, ℕ, false, true, if◌then◌else◌, List, [], Some, Result, Ok, Err}
 use Rattle.std.specs.List.{list_all}
 use Rattle.std.specs.Str.{is_utf8}
-use Rattle.dr_core.specs.Machine.{Setup, State, opening, setup_of}
-use Rattle.dr_core.specs.OpenFault.{has_bad_producers, is_bad_limit}
-use Rattle.dr_core.specs.Shows.{Shows}
-use Rattle.dr_graph.specs.Graph.{Shape}
-use Rattle.dr_graph.specs.Name.{Name, is_good_name}
+use Rattle.dr_core.specs.Meaning.Machine.{Setup, State, opening, setup_of}
+use Rattle.dr_core.specs.Calls.OpenFault.{has_bad_producers, is_bad_limit}
+use Rattle.dr_core.specs.Calls.Shows.{Shows}
+use Rattle.dr_graph.specs.Meaning.Graph.{GraphView}
+use Rattle.dr_graph.specs.Meaning.Name.{Name, is_good_name}
 use Rattle.dr_replay.specs.declared.setup.ring_records.Ring.{Ring}
 use Rattle.dr_replay.specs.declared.setup.handler_records.Declaring.{Declaring as Kept}
 use Rattle.dr_replay.specs.declared.setup.Preparation.{Preparation}
@@ -22,7 +22,7 @@ use Rattle.dr_replay.specs.Meaning.Setup.{Declared, Stage, Empty, Ringed, Declar
 use Rattle.dr_replay.specs.Meaning.DriveText.{Running, Taken}
 
 -- a ring with the handlers of a graph
-abbrev pub ring_setup : Ring → Shape → Setup
+abbrev pub ring_setup : Ring → GraphView → Setup
 ring_setup ring graph = setup_of graph.upstreams ring.size ring.mode ring.limit
 
 -- a ring that a core can be opened for
@@ -69,7 +69,7 @@ abbrev pub DeclaresAs : Result Kept RecordFault → Result Declared Cause → Ty
 DeclaresAs (Ok d) t = (t ≡ Ok (declared_of d)) × AreNames d.builder.names
 DeclaresAs (Err f) t = FaultAs f t
 
-pub record IsOpened (e : Exchange) (t : Result Prepared Cause) : Type 0 where
+pub record IsOpenedAs (e : Exchange) (t : Result Prepared Cause) : Type 0 where
   pub names : List Field
   pub setup : Setup
   pub is : t ≡ Ok (Opens names setup)
@@ -77,7 +77,7 @@ pub record IsOpened (e : Exchange) (t : Result Prepared Cause) : Type 0 where
 
 abbrev pub StepAs : Step → Result Prepared Cause → Type 0
 StepAs (does.Goes p) t = (t ≡ Ok (Goes (stage_of p))) × IsPreparation p
-StepAs (does.Opens e) t = IsOpened e t
+StepAs (does.Opens e) t = IsOpenedAs e t
 
 -- a record does to a preparation what it does to its stage
 abbrev pub PreparesAs : Result Step RecordFault → Result Prepared Cause → Type 0

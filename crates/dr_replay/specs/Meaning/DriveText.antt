@@ -1,7 +1,7 @@
 -- The drive text: what a file says, line by line, and how it ends.
 use Rattle.std.specs.Prelude.{ℕ, ◌+◌, List, [], ◌∷◌, ◌++◌, Option, Some, None, option_to_list, Result, Ok, Err}
 use Rattle.dr_core.specs.declared.command.Command.{Command}
-use Rattle.dr_core.specs.Machine.{Setup, State, Outcome, opening, step}
+use Rattle.dr_core.specs.Meaning.Machine.{Setup, State, Outcome, opening, step}
 use Rattle.dr_files.specs.declared.fault.Cause.{Cause}
 use Rattle.dr_files.specs.declared.fault.Cause.TheVariants.{BadRecord}
 use Rattle.dr_replay.specs.Meaning.Records.{Field, Record, records_of}

@@ -7,7 +7,7 @@ use Rattle.dr_accounts.specs.declared.operation.Operation.{Operation}
 use Rattle.dr_accounts.specs.declared.operation.Movement.{Movement}
 use Rattle.dr_accounts.specs.declared.operation.Movement.TheVariants.{Deposit, Withdraw, Transfer}
 use Rattle.dr_replay.specs.Meaning.Commands.{◌>>=◌}
-use Rattle.dr_accounts.specs.Operations.{event_of}
+use Rattle.dr_accounts.specs.Operations.{event_for}
 use Rattle.dr_replay.specs.Meaning.Records.{Record, field, number_at, records_of}
 
 abbrev pub below : ℕ → Option ℕ → Option ℕ
@@ -59,7 +59,7 @@ is_operation r = is_some (operation_in r)
 -- the events of the records' operations, in their order; or, where a record is no operation, the number of the first such one, counted from 1
 unfoldable pub events_in : List Record → Result (List Event) ℕ
 events_in records =
-    if list_all is_operation records then Ok (map event_of (filter_map operation_in records))
+    if list_all is_operation records then Ok (map event_for (filter_map operation_in records))
     else Err (position_or_len (λ r. not (is_operation r)) records + 1)
 
 -- the events of a file's bytes, or the number of its first bad record

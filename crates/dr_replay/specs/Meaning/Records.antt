@@ -1,7 +1,7 @@
 -- The records of a file: lists of fields, which are lists of bytes.
 use Rattle.std.specs.Prelude.{ℕ, Bool, ◌==◌, ◌&&◌, nat_le, List, [], Option, length, bytes_eq, slice_index_or}
 use Rattle.csv.specs.Reading.{default_config, records, strip_bom}
-use Rattle.dr_files.specs.Numbers.{number_of}
+use Rattle.dr_files.specs.Numbers.{number_in}
 
 abbrev pub Field : Type 0
 Field = List ℕ
@@ -18,16 +18,16 @@ abbrev pub field : Record → ℕ → Field
 field r place = slice_index_or r place []
 
 -- whether a record has this first field
-abbrev pub is_named : List ℕ → Record → Bool
-is_named name r = bytes_eq (field r 0) name
+abbrev pub begins_with : List ℕ → Record → Bool
+begins_with name r = bytes_eq (field r 0) name
 
 -- whether a record has this first field and this many fields
 abbrev pub is_record : List ℕ → ℕ → Record → Bool
-is_record name count r = (length r == count) && is_named name r
+is_record name count r = (length r == count) && begins_with name r
 
 -- whether a record has this first field and a list of one or more after it
 abbrev pub is_list : List ℕ → Record → Bool
-is_list name r = nat_le 2 (length r) && is_named name r
+is_list name r = nat_le 2 (length r) && begins_with name r
 
 abbrev pub number_at : Record → ℕ → Option ℕ
-number_at r place = number_of (field r place)
+number_at r place = number_in (field r place)

@@ -1,20 +1,20 @@
 -- The setup of a file: its records up to `start`, and the exchange that they open.
 use Rattle.std.specs.Prelude.{ℕ, ◌^◌, Bool, not, ◌==◌, ◌&&◌, if◌then◌else◌, List, [], ◌∷◌, ◌++◌, length, drop, Option, Some, None, Result, Ok, Err, bytes_eq, codes, option_map}
 use Rattle.std.specs.List.{list_any, range_with_len}
-use Rattle.dr_core.specs.Machine.{Setup, setup_of}
-use Rattle.dr_core.specs.OpenFault.{has_bad_producers, is_bad_limit}
+use Rattle.dr_core.specs.Meaning.Machine.{Setup, setup_of}
+use Rattle.dr_core.specs.Calls.OpenFault.{has_bad_producers, is_bad_limit}
 use Rattle.dr_core.specs.declared.mode.Mode.{Mode}
 use Rattle.dr_core.specs.declared.mode.Mode.TheVariants.{Single, Multi}
-use Rattle.dr_graph.specs.Declaration.{Declaration, connected, declaring_fault, followed_by, following_fault, grouping_fault, stranger_fault}
-use Rattle.dr_graph.specs.Graph.{Shape}
-use Rattle.dr_graph.specs.Name.{Name, new_names}
-use Rattle.dr_graph.specs.Placing.{graph_of}
+use Rattle.dr_graph.specs.Meaning.Declaration.{Declaration, connected, declaring_fault, followed_by, following_fault, grouping_fault, stranger_fault}
+use Rattle.dr_graph.specs.Meaning.Graph.{GraphView}
+use Rattle.dr_graph.specs.Meaning.Name.{Name, new_names}
+use Rattle.dr_graph.specs.Meaning.Placing.{graph_of}
 use Rattle.dr_graph.specs.declared.fault.GraphFault.{GraphFault}
 use Rattle.dr_graph.specs.declared.fault.GraphFault.TheVariants.{Cycle, NoHandlers}
 use Rattle.dr_replay.specs.declared.setup.ring_records.Ring.{Ring}
 use Rattle.dr_files.specs.declared.fault.Cause.{Cause}
 use Rattle.dr_files.specs.declared.fault.Cause.TheVariants.{NoRing, BadRecord, BadSize, BadProducers, BadLimit, NoGroup, Graph, NoStart}
-use Rattle.dr_replay.specs.Meaning.Records.{Record, field, is_list, is_named, is_record, number_at}
+use Rattle.dr_replay.specs.Meaning.Records.{Record, field, is_list, begins_with, is_record, number_at}
 
 -- what is declared so far, and the current group, which `then` follows
 pub record Declared : Type 0 where
@@ -58,7 +58,7 @@ ring_with (Some size) (Some mode) =
 
 -- the first record: `no ring` is tested before anything else
 abbrev pub ring_of : Record → Result Ring Cause
-ring_of r = if is_named (codes "ring") r then ring_with (number_at r 1) (mode_of r) else Err NoRing
+ring_of r = if begins_with (codes "ring") r then ring_with (number_at r 1) (mode_of r) else Err NoRing
 
 abbrev pub limit_with : Ring → Option ℕ → Result Ring Cause
 limit_with ring None = Err BadRecord
@@ -73,14 +73,14 @@ abbrev pub no_handlers : Declared
 no_handlers = record { declaration = record { names = []; edges = [] }; group = None }
 
 -- a call of the builder does this, unless it is refused
-abbrev pub unless : Option GraphFault → Declared → Result Declared Cause
-unless None done = Ok done
-unless (Some fault) done = Err (Graph fault)
+abbrev pub done_unless : Option GraphFault → Declared → Result Declared Cause
+done_unless None done = Ok done
+done_unless (Some fault) done = Err (Graph fault)
 
 -- `with,NAME..`: handlers without upstreams, which are the current group then
 abbrev pub with_names : Declared → List Name → Result Declared Cause
 with_names d names =
-    unless (declaring_fault d.declaration.names names) (record {
+    done_unless (declaring_fault d.declaration.names names) (record {
       declaration = record d.declaration { names = d.declaration.names ++ names };
       group = Some names;
     })
@@ -89,7 +89,7 @@ with_names d names =
 abbrev pub following : Declaration → Option (List Name) → List Name → Result Declared Cause
 following d None names = Err NoGroup
 following d (Some group) names =
-    unless (following_fault d.names group names) (record { declaration = followed_by d group names; group = Some names })
+    done_unless (following_fault d.names group names) (record { declaration = followed_by d group names; group = Some names })
 
 -- `then,NAME..`: handlers that follow the current group, and are the current group then
 abbrev pub then_names : Declared → List Name → Result Declared Cause
@@ -97,28 +97,28 @@ then_names d names = following d.declaration d.group names
 
 -- `after,NAME..`: declared handlers are the current group, each once
 abbrev pub after_names : Declared → List Name → Result Declared Cause
-after_names d names = unless (grouping_fault d.declaration.names names) (record d { group = Some (new_names [] names) })
+after_names d names = done_unless (grouping_fault d.declaration.names names) (record d { group = Some (new_names [] names) })
 
 -- `edge,UP,DOWN`: the current group stays
-abbrev pub with_edge : Declared → Name → Name → Result Declared Cause
-with_edge d up down =
-    unless (stranger_fault d.declaration.names (up ∷ down ∷ [])) (record d { declaration = connected d.declaration up down })
+abbrev pub edge_between : Declared → Name → Name → Result Declared Cause
+edge_between d up down =
+    done_unless (stranger_fault d.declaration.names (up ∷ down ∷ [])) (record d { declaration = connected d.declaration up down })
 
 -- the fields of a record after the first
-abbrev pub names_in : Record → List Name
-names_in r = drop 1 r
+abbrev pub names_after : Record → List Name
+names_after r = drop 1 r
 
 -- a record that declares or connects handlers
 abbrev pub declared_by : Declared → Record → Result Declared Cause
 declared_by d r =
-    if is_list (codes "with") r then with_names d (names_in r)
-    else if is_list (codes "then") r then then_names d (names_in r)
-    else if is_list (codes "after") r then after_names d (names_in r)
-    else if is_record (codes "edge") 3 r then with_edge d (field r 1) (field r 2)
+    if is_list (codes "with") r then with_names d (names_after r)
+    else if is_list (codes "then") r then then_names d (names_after r)
+    else if is_list (codes "after") r then after_names d (names_after r)
+    else if is_record (codes "edge") 3 r then edge_between d (field r 1) (field r 2)
     else Err BadRecord
 
 -- an exchange opens over a graph, if there is one
-abbrev pub opened : Ring → Option Shape → Result Prepared Cause
+abbrev pub opened : Ring → Option GraphView → Result Prepared Cause
 opened ring None = Err (Graph Cycle)
 opened ring (Some graph) = Ok (Opens graph.names (setup_of graph.upstreams ring.size ring.mode ring.limit))
 
@@ -141,7 +141,7 @@ goes_on_by ring d r =
 abbrev pub prepared : Stage → Record → Result Prepared Cause
 prepared Empty r = goes_with (λ ring. Ringed ring) (ring_of r)
 prepared (Ringed ring) r =
-    if is_named (codes "limit") r then goes_with (λ limited. Declaring limited no_handlers) (limit_of ring r)
+    if begins_with (codes "limit") r then goes_with (λ limited. Declaring limited no_handlers) (limit_of ring r)
     else goes_on_by ring no_handlers r
 prepared (Declaring ring d) r = goes_on_by ring d r
 

@@ -2,7 +2,7 @@
 
 ghost use Rattle.std.specs.Prelude.{◌<◌, ◌-◌, ◌^◌, IfErr, IfSome};
 ghost use Rattle.dr_files.specs.Counting.{faults_of, inner_of};
-ghost use Rattle.dr_files.specs.Outcome.{CountsFaults, FaultKeeps, Writes};
+ghost use Rattle.dr_files.specs.Outcome.{CountsFaults, FaultKeeps, RunWrites};
 ghost use Rattle.dr_replay.specs.Calls.Replayed.{replay_text};
 
 use crate::replay::event_file::read_events;
@@ -25,7 +25,7 @@ pub fn replay_plain<R: Read, W: Write>(
     requires writes { faults_of writer.old < 2 ^ 64 - 1 }
     // Where the input's bytes are known, what is written is the report of its events, and the fault of the file is its first bad record.
     ensures bytes { IfSome (R.remaining (inner_of reader.old)) (λ input.
-        Writes result (W.contents (inner_of writer.old)) (W.contents (inner_of writer.new)) (replay_text input)) }
+        RunWrites result (W.contents (inner_of writer.old)) (W.contents (inner_of writer.new)) (replay_text input)) }
     // Any fault but a failed write leaves nothing written, whether or not the input's bytes are known.
     ensures unwritten { IfErr result (λ e. FaultKeeps e (W.contents (inner_of writer.old)) (W.contents (inner_of writer.new))) }
     // A failed read or write is answered where one failed, and nowhere else.

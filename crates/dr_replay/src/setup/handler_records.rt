@@ -2,8 +2,8 @@
 
 ghost use Rattle.std.specs.Prelude.{◌≡◌, List, IfOk, map};
 ghost use Rattle.csv.specs.Records.{fields_of};
-ghost use Rattle.dr_graph.specs.Name.{Name, given};
-ghost use Rattle.dr_replay.specs.Meaning.Setup.{after_names, declared_by, names_in, no_handlers, then_names, with_edge, with_names};
+ghost use Rattle.dr_graph.specs.Meaning.Name.{Name, given};
+ghost use Rattle.dr_replay.specs.Meaning.Setup.{after_names, declared_by, names_after, no_handlers, then_names, edge_between, with_names};
 ghost use Rattle.dr_replay.specs.Inside.Shows.{AreNames, DeclaresAs, declared_of, legible};
 
 use crate::records::{count_of, field, is_list, is_record};
@@ -77,7 +77,7 @@ impl Declaring {
     /// `edge`: one declared handler before another.
     fn edge(self, up: &str, down: &str) -> Result<Declaring, RecordFault>
         requires { AreNames self.builder.names }
-        ensures { (first second : Name) → up.now ≡ legible first → down.now ≡ legible second → DeclaresAs result (with_edge (declared_of self) first second) }
+        ensures { (first second : Name) → up.now ≡ legible first → down.now ≡ legible second → DeclaresAs result (edge_between (declared_of self) first second) }
     {
         let Declaring { mut builder, group } = self;
         builder.edge(up, down)?;
@@ -97,7 +97,7 @@ fn text_of(field: &[u8]) -> &str
 
 // The names of a record: its fields after the first.
 fn names_of(alloc: Global, row: &ByteRecord) -> Result<Vec<&str>, AllocError>
-    ensures { IfOk result (λ names. given names.items ≡ map legible (names_in (fields_of row.now))) }
+    ensures { IfOk result (λ names. given names.items ≡ map legible (names_after (fields_of row.now))) }
 {
     let mut names = Vec::new(alloc);
     for place in 1..count_of(row) {

@@ -1,7 +1,7 @@
 //! Reports of merges, behind the lock.
 
 use crate::By;
-use crate::tests::by_threads::WORKED;
+use crate::tests::files::{OF_TWO_PRODUCERS, text_of};
 use crate::tests::ways::{by_plain, replay_by};
 use dr_shared::OpenGate;
 use std::alloc::Global;
@@ -61,13 +61,24 @@ fn check_merge(
     Ok(())
 }
 
+// Three events of each of two producers, in turns.
+const SIX: [&str; 6] = [
+    "0,deposit,1,5",
+    "1,deposit,1,7",
+    "0,withdraw,1,9",
+    "1,withdraw,1,4",
+    "0,deposit,2,1",
+    "1,withdraw,2,1",
+];
+
 #[test]
 fn two_producers(rt: HostRuntime) -> Result<(), Fail> {
-    let six =
-        "0,deposit,1,5\n1,deposit,1,7\n0,withdraw,1,9\n1,withdraw,1,4\n0,deposit,2,1\n1,withdraw,2,1\n";
-    check_merge(&rt, rt.alloc(), six, &["0,", "1,"], 1)?;
+    let alloc = rt.alloc();
+    let six = text_of(alloc, &SIX)?;
+    check_merge(&rt, alloc, six.as_str(), &["0,", "1,"], 1)?;
+    let transfers = text_of(alloc, OF_TWO_PRODUCERS[1].operations)?;
     for size in [1, 2, 4, 1024] {
-        check_merge(&rt, rt.alloc(), WORKED[3].1, &["0,", "2,"], size)?;
+        check_merge(&rt, alloc, transfers.as_str(), &["0,", "2,"], size)?;
     }
     Ok(())
 }

@@ -1,5 +1,7 @@
 //! Replays on one thread: worked files, files at fault, and the same bytes at every size.
 
+use crate::tests::files::{File, OF_ONE_PRODUCER, OF_TWO_PRODUCERS, text_of};
+use crate::tests::ways::by_plain;
 use crate::tests::{Row, fault_line, status_of};
 use crate::{Counted, replay_plain};
 use dr_seq::Size;
@@ -7,59 +9,14 @@ use std::alloc::Global;
 use std::process::Abort;
 use std::test::Fail;
 
-// Whole files.
-const WORKED: [Row; 8] = [
-    (
-        "three_events",
-        "0,deposit,1,100\n0,withdraw,1,40\n0,withdraw,1,500\n",
-        "journal 3\n0,0,deposit,1,100\n1,0,withdraw,1,40\n2,0,withdraw,1,500\nreplica 3\n0001000100000064\n0002000100000028\n00020001000001f4\nbusiness 3\n1,60,1\n",
-        "",
-        0,
-    ),
-    ("no_events", "", "journal 0\nreplica 0\nbusiness 0\n", "", 0),
-    (
-        "greatest_word",
-        "15,withdraw,65535,4294967295\n",
-        "journal 1\n0,15,withdraw,65535,4294967295\nreplica 1\n0f02ffffffffffff\nbusiness 1\n65535,0,1\n",
-        "",
-        0,
-    ),
-    (
-        "two producers, accounts by rising number",
-        "1,deposit,7,5\n0,deposit,3,10\n1,withdraw,7,6\n0,withdraw,3,10\n",
-        "journal 4\n0,1,deposit,7,5\n1,0,deposit,3,10\n2,1,withdraw,7,6\n3,0,withdraw,3,10\nreplica 4\n0101000700000005\n000100030000000a\n0102000700000006\n000200030000000a\nbusiness 4\n3,0,0\n7,5,1\n",
-        "",
-        0,
-    ),
-    (
-        "transfers, one of them refused",
-        "0,deposit,1,100\n2,transfer,1,7,30\n2,transfer,1,8,71\n0,withdraw,7,30\n",
-        "journal 4\n0,0,deposit,1,100\n1,2,transfer,1,7,30\n2,2,transfer,1,8,71\n3,0,withdraw,7,30\nreplica 4\n0001000100000064\n0203000100000000000700000000001e\n02030001000000000008000000000047\n000200070000001e\nbusiness 4\n1,70,1\n7,0,0\n8,0,0\n",
-        "",
-        0,
-    ),
-    (
-        "transfers from an account to itself",
-        "0,deposit,5,9\n0,transfer,5,5,9\n0,transfer,5,5,10\n",
-        "journal 3\n0,0,deposit,5,9\n1,0,transfer,5,5,9\n2,0,transfer,5,5,10\nreplica 3\n0001000500000009\n00030005000000000005000000000009\n0003000500000000000500000000000a\nbusiness 3\n5,9,1\n",
-        "",
-        0,
-    ),
-    (
-        "the greatest transfer",
-        "0,transfer,1,2,281474976710655\n",
-        "journal 1\n0,0,transfer,1,2,281474976710655\nreplica 1\n00030001000000000002ffffffffffff\nbusiness 1\n1,0,1\n2,0,0\n",
-        "",
-        0,
-    ),
-    (
-        "quotes, leading zeros, empty lines and no last line end",
-        "\"00\",deposit,\"0001\",007\r\n\r\n\n0,\"withdraw\",1,7",
-        "journal 2\n0,0,deposit,1,7\n1,0,withdraw,1,7\nreplica 2\n0001000100000007\n0002000100000007\nbusiness 2\n1,0,0\n",
-        "",
-        0,
-    ),
-];
+// A file whose lines are not as the others' are.
+const QUOTED: [Row; 1] = [(
+    "quotes, leading zeros, empty lines and no last line end",
+    "\"00\",deposit,\"0001\",007\r\n\r\n\n0,\"withdraw\",1,7",
+    "journal 2\n0,0,deposit,1,7\n1,0,withdraw,1,7\nreplica 2\n0001000100000007\n0002000100000007\nbusiness 2\n1,0,0\n",
+    "",
+    0,
+)];
 
 // Records that are no operation.
 const AT_FAULT: [Row; 23] = [
@@ -228,10 +185,23 @@ fn check(rt: &impl Abort, alloc: Global, rows: &[Row], size: u64) -> Result<(), 
     Ok(())
 }
 
+fn check_files(rt: &impl Abort, alloc: Global, files: &[File], size: u64) -> Result<(), Fail> {
+    for file in files {
+        let input = text_of(alloc, file.operations)?;
+        let report = text_of(alloc, file.report)?;
+        let name = file.name;
+        let written = by_plain(alloc, input.as_str(), size)?;
+        assert_eq!(rt; written.as_slice(), report.as_bytes(), "report of {name}");
+    }
+    Ok(())
+}
+
 #[test]
 fn worked_files_at_each_size(rt: HostRuntime) -> Result<(), Fail> {
     for size in [1, 2, 1024] {
-        check(&rt, rt.alloc(), WORKED.as_slice(), size)?;
+        check_files(&rt, rt.alloc(), &OF_ONE_PRODUCER, size)?;
+        check_files(&rt, rt.alloc(), &OF_TWO_PRODUCERS, size)?;
+        check(&rt, rt.alloc(), QUOTED.as_slice(), size)?;
     }
     Ok(())
 }

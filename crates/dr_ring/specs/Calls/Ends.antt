@@ -8,7 +8,7 @@ use Rattle.dr_ring.specs.declared.record.SenderRecord.{SenderRecord}
 use Rattle.dr_ring.specs.declared.record.ReceiverRecord.{ReceiverRecord}
 use Rattle.dr_ring.specs.declared.record.HalterRecord.{HalterRecord}
 use Rattle.dr_ring.specs.Meaning.Moments.{IsBeginning}
-use Rattle.dr_core.specs.Ends.{Received}
+use Rattle.dr_core.specs.Calls.Ends.{Received}
 use Rattle.dr_ring.specs.Meaning.Words.{count_word}
 use Rattle.dr_ring.specs.Meaning.Records.{look}
 

@@ -1,7 +1,7 @@
 -- What is so of every ring's plan.
 use Rattle.std.specs.Prelude.{◌^◌, ◌<◌, ◌≤◌}
 use Rattle.dr_seq.specs.Size.{IsSize}
-use Rattle.dr_graph.specs.Graph.{IsGraph}
+use Rattle.dr_graph.specs.Meaning.Graph.{IsGraph}
 use Rattle.dr_ring.specs.Meaning.Shape.{Shape, handlers_of}
 
 -- a graph of 16 handlers at most, a size, and a limit of at most 2^62 sequences

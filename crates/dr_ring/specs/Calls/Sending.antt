@@ -4,9 +4,9 @@ use Rattle.dr_seq.specs.declared.event.Event.{Event}
 use Rattle.dr_core.specs.declared.refusal.Refusal.{Refusal}
 use Rattle.dr_core.specs.declared.refusal.Refusal.TheVariants.{NoRoom, Halted, BadCount, Exhausted, OpenClaim}
 use Rattle.dr_core.specs.declared.command.Claimed.{Claimed}
-use Rattle.dr_core.specs.Refusals.{ClaimTests, claim_causes}
-use Rattle.dr_core.specs.Ends.{Verdict, Exactly, IsAnswerOf, claim_tests, GivesStretch, WriteAnswers, PublishAnswers, Claims, Writes, Publishes, as_end}
-use Rattle.dr_graph.specs.Graph.{finals}
+use Rattle.dr_core.specs.Meaning.Refusals.{ClaimTests, claim_causes}
+use Rattle.dr_core.specs.Calls.Ends.{Verdict, Exactly, IsAnswerOf, claim_tests, GivesStretch, WriteAnswers, PublishAnswers, Claims, Writes, Publishes, as_end}
+use Rattle.dr_graph.specs.Meaning.Graph.{finals}
 use Rattle.dr_ring.specs.Meaning.Words.{halt_word}
 use Rattle.dr_ring.specs.declared.record.Look.{Look}
 use Rattle.dr_ring.specs.declared.record.SenderRecord.{SenderRecord}

@@ -13,8 +13,8 @@ pub record AreAllEnds (s : SenderEnd) (rs : List ReceiverEnd) : Type 0 where
   pub each : (h : ℕ) (e : ReceiverEnd) → get_elem? rs h ≡ some e → (e.ring ≡ s.ring) × (e.knows.number ≡ h)
 
 -- how many events a receiver took and completed
-abbrev pub counts_of : ReceiverRecord → HandlerCounts
-counts_of r = record { taken = length r.received; completed = r.completed }
+abbrev pub handler_counts : ReceiverRecord → HandlerCounts
+handler_counts r = record { taken = length r.received; completed = r.completed }
 
 abbrev pub counts_at : List HandlerCounts → ℕ → HandlerCounts
 counts_at counts h = slice_index_or counts h record { taken = 0; completed = 0 }

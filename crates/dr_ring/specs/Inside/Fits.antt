@@ -1,6 +1,6 @@
 -- What the fields of an end have to do with what it knows.
 use Rattle.std.specs.Prelude.{◌≡◌, ℕ, ◌+◌, ◌≤◌, List, length, None, Contains}
-use Rattle.dr_graph.specs.Graph.{finals}
+use Rattle.dr_graph.specs.Meaning.Graph.{finals}
 use Rattle.dr_ring.specs.Meaning.Shape.{handlers_of}
 use Rattle.dr_ring.specs.Calls.Plans.{IsPlan}
 use Rattle.dr_ring.specs.Meaning.Words.{count_word}

@@ -4,17 +4,17 @@ use mathlib.Core.Option.{some}
 use lib.ListN.{get_elem?}
 use Rattle.atomic_table.specs.Table.{Step as TableStep}
 use Rattle.atomic_table.specs.Seated.{TableId}
-use Rattle.dr_graph.specs.Graph.{IsGraph}
+use Rattle.dr_graph.specs.Meaning.Graph.{IsGraph}
 use Rattle.dr_ring.specs.declared.record.ReceiverRecord.{ReceiverRecord}
 use Rattle.dr_ring.specs.declared.record.Step.{Step}
 use Rattle.dr_ring.specs.declared.record.View.{View}
 use Rattle.dr_ring.specs.declared.record.EndRecord.TheVariants.{Sends, Receives}
-use Rattle.dr_core.specs.Transcript.{Transcript}
-use Rattle.dr_ring.specs.Meaning.Kept.{World}
-use Rattle.dr_ring.specs.Meaning.Moments.{opening, Runs, IsBeginning}
+use Rattle.dr_core.specs.Meaning.Transcript.{Transcript}
+use Rattle.dr_ring.specs.Meaning.Rule.{World}
+use Rattle.dr_ring.specs.Meaning.Moments.{new_world, Runs, IsBeginning}
 use Rattle.dr_ring.specs.Inside.Seats.{End, Sitting, EachPast, end_of, sender_of}
 use Rattle.dr_ring.specs.Calls.Ends.{ReceiverEnd}
-use Rattle.dr_ring.specs.Meaning.Settling.{Agrees, Follows}
+use Rattle.dr_ring.specs.Meaning.Settling.{HasBeginning, FollowsUpstream}
 
 -- the receivers are of this ring
 abbrev pub AreOfRing : TableId → List ReceiverEnd → Type 0
@@ -36,8 +36,8 @@ pub record Gathers (me : End) (rs : List ReceiverRecord) (me' : End) : Type 0 wh
 
 -- what the records of one view say of each other
 pub record ViewAgrees (me : End) : Type 0 where
-  pub each : (r : ReceiverRecord) → IsInView me r → Agrees (sender_of me.0) r
-  pub follow : (r u : ReceiverRecord) → IsInView me r → IsInView me u → Follows r u
+  pub each : (r : ReceiverRecord) → IsInView me r → HasBeginning (sender_of me.0) r
+  pub follow : (r u : ReceiverRecord) → IsInView me r → IsInView me u → FollowsUpstream r u
 
 -- the run that came to the records of one view, of which each end saw a beginning
 pub record ViewRan (me : Sitting) : Type 0 where
@@ -46,7 +46,7 @@ pub record ViewRan (me : Sitting) : Type 0 where
   pub world : World
   pub graph : IsGraph (sender_of me.0.ends).plan.upstreams
   pub some_slot : 0 < (sender_of me.0.ends).plan.size
-  pub runs : Runs (sender_of me.0.ends).plan steps entries (opening (sender_of me.0.ends).plan) world
+  pub runs : Runs (sender_of me.0.ends).plan steps entries (new_world (sender_of me.0.ends).plan) world
   pub pasts : EachPast (λ e past. IsBeginning past steps) me.0.ends me.0.pasts
   pub sender : world.sender ≡ sender_of me.0.ends
   pub receivers : (r : ReceiverRecord) → IsInView (end_of me) r → get_elem? world.receivers r.number ≡ some r

@@ -2,14 +2,14 @@
 use Rattle.std.specs.Prelude.{◌≡◌, ◌≢◌, ℕ, ◌+◌, ◌<◌, ◌≤◌, ◌==◌, ◌&&◌, ◌||◌, ◌⊎◌, Bool, nat_lt, if◌then◌else◌, true, List, [], ◌++◌, length, slice_index, Option, Some, None, Contains}
 use Rattle.dr_core.specs.declared.command.Polled.{Polled}
 use Rattle.dr_core.specs.declared.command.Polled.TheVariants.{Drained, Gating, Idle}
-use Rattle.dr_graph.specs.Graph.{upstreams_of, finals}
+use Rattle.dr_graph.specs.Meaning.Graph.{upstreams_of, finals}
 use Rattle.dr_ring.specs.Meaning.Shape.{Shape}
 use Rattle.dr_ring.specs.Meaning.Words.{cursor_word, count_word}
 use Rattle.dr_ring.specs.declared.record.Look.{Look}
 use Rattle.dr_ring.specs.declared.record.SenderRecord.{SenderRecord}
 use Rattle.dr_ring.specs.declared.record.ReceiverRecord.{ReceiverRecord}
 use Rattle.dr_ring.specs.Meaning.Records.{last_look}
-use Rattle.dr_core.specs.Ends.{with_claimed}
+use Rattle.dr_core.specs.Calls.Ends.{with_claimed}
 use Rattle.dr_ring.specs.Calls.Ends.{count_looks}
 use Rattle.dr_ring.specs.Calls.Receiving.{offered_by}
 use Rattle.dr_ring.specs.Inside.Fits.{IsSeenLeast}
@@ -63,7 +63,7 @@ abbrev pub ups_of : ReceiverRecord → List ℕ
 ups_of r = upstreams_of r.plan.upstreams r.number
 
 -- so many events are offered to a receiver, as far as it saw
-pub record IsOffered (r : ReceiverRecord) (upto : ℕ) : Type 0 where
+pub record IsOfferedUpTo (r : ReceiverRecord) (upto : ℕ) : Type 0 where
   pub completed : (u : ℕ) → Contains (ups_of r) u → upto ≤ last_look 0 r.looks (count_word u)
   pub published : ups_of r ≡ [] → upto ≤ last_look 0 r.looks cursor_word
 

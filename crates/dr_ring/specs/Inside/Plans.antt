@@ -1,6 +1,6 @@
 -- What a plan's fields have to do with one another.
 use Rattle.std.specs.Prelude.{◌≡◌, ℕ, List}
-use Rattle.dr_graph.specs.Graph.{finals}
+use Rattle.dr_graph.specs.Meaning.Graph.{finals}
 use Rattle.dr_ring.specs.Meaning.Shape.{Shape}
 use Rattle.dr_ring.specs.Meaning.Words.{words_of}
 use Rattle.dr_ring.specs.Calls.Plans.{IsPlan}

@@ -4,29 +4,29 @@ use Rattle.atomic_table.specs.Seated.{TableId}
 use Rattle.dr_ring.specs.declared.record.ReceiverRecord.{ReceiverRecord}
 use Rattle.dr_ring.specs.declared.record.EndRecord.TheVariants.{Receives, Sends, Halts}
 use Rattle.dr_ring.specs.Meaning.Shape.{Shape, handlers_of}
-use Rattle.dr_ring.specs.Meaning.Moments.{fresh_sender, fresh_receivers, fresh_halter, fresh_receiver, opening, Runs, IsBeginning}
+use Rattle.dr_ring.specs.Meaning.Moments.{fresh_sender, fresh_receivers, fresh_halter, fresh_receiver, new_world, Runs, IsBeginning}
 use mathlib.Core.Option.{some}
 use lib.ListN.{get_elem?}
 use Rattle.atomic_table.specs.Table.{State, Me, Step as TableStep}
-use Rattle.dr_graph.specs.Graph.{IsGraph}
-use Rattle.dr_core.specs.Transcript.{Transcript}
+use Rattle.dr_graph.specs.Meaning.Graph.{IsGraph}
+use Rattle.dr_core.specs.Meaning.Transcript.{Transcript}
 use Rattle.dr_ring.specs.Meaning.Words.{halt_word, words_of}
 use Rattle.dr_ring.specs.declared.record.HalfWrite.{HalfWrite}
 use Rattle.dr_ring.specs.declared.record.SenderRecord.{SenderRecord}
 use Rattle.dr_ring.specs.declared.record.HalterRecord.{HalterRecord}
 use Rattle.dr_ring.specs.declared.record.EndRecord.{EndRecord}
 use Rattle.dr_ring.specs.Meaning.Records.{last_look, sender_looked, halt_looked, half_written, written, published_to, sender_halted, sender_closed, receiver_looked, cursor_looked, half_taken, took, completed_to, halter_halted}
-use Rattle.dr_ring.specs.Meaning.Kept.{World}
+use Rattle.dr_ring.specs.Meaning.Rule.{World}
 use Rattle.dr_ring.specs.declared.record.Step.{Step}
 use Rattle.dr_ring.specs.declared.record.Step.TheVariants.{SenderStoresFirst, SenderStoresSecond, SenderPublishes, SenderHalts, SenderCloses, ReceiverCompletes, HalterHalts}
 use Rattle.dr_ring.specs.declared.record.View.{View}
 
 -- the records of the ends that a seat stands for
-abbrev pub Known : Type 0
-Known = List EndRecord
+abbrev pub KnownEnds : Type 0
+KnownEnds = List EndRecord
 
 abbrev pub End : Type 0
-End = Me ℕ Known
+End = Me ℕ KnownEnds
 
 -- a seat: its view has the records of its ends and, for each, the run as it was at the end's last step
 abbrev pub Sitting : Type 0
@@ -97,7 +97,7 @@ pub record Saw (k : Shape) (steps : List Step) (e : EndRecord) (past : List Step
   pub begins : IsBeginning past steps
   pub entries : Transcript
   pub world : World
-  pub runs : Runs k past entries (opening k) world
+  pub runs : Runs k past entries (new_world k) world
   pub stands : Stands world e
   pub stores : stores_of (end_number e) past ≡ stores_of (end_number e) steps
 
@@ -110,7 +110,7 @@ pub record Ruled (k : Shape) (s : State ℕ View) : Type 0 where
   pub some_slot : 0 < k.size
   pub steps : List Step
   pub entries : Transcript
-  pub runs : Runs k steps entries (opening k) (world_of s.words sender receivers halter)
+  pub runs : Runs k steps entries (new_world k) (world_of s.words sender receivers halter)
   -- the seat of each end, and its place in the seat's view
   pub place : ℕ → ℕ × ℕ
   pub each_end : (seat : ℕ) (view : View) → get_elem? s.views seat ≡ some view → (j : ℕ) (e : EndRecord) → get_elem? view.ends j ≡ some e
@@ -126,7 +126,7 @@ all_ends k = record {
 }
 
 -- the records of n receivers from the number h on
-abbrev pub receivers_known : Shape → ℕ → ℕ → Known
+abbrev pub receivers_known : Shape → ℕ → ℕ → KnownEnds
 receivers_known k h n = map (λ r. Receives r) (fresh_receivers k h n)
 
 -- the seat that stands for them all, before any of them steps
@@ -151,15 +151,15 @@ abbrev pub no_shape : Shape
 no_shape = record { upstreams = []; size = 0; limit = 0 }
 
 -- the first record of a view
-abbrev pub sender_of : Known → SenderRecord
+abbrev pub sender_of : KnownEnds → SenderRecord
 sender_of (Sends r ∷ es) = r
 sender_of _ = fresh_sender no_shape
 
-abbrev pub receiver_of : Known → ReceiverRecord
+abbrev pub receiver_of : KnownEnds → ReceiverRecord
 receiver_of (Receives r ∷ es) = r
 receiver_of _ = fresh_receiver no_shape 0
 
-abbrev pub halter_of : Known → HalterRecord
+abbrev pub halter_of : KnownEnds → HalterRecord
 halter_of (Halts r ∷ es) = r
 halter_of _ = fresh_halter no_shape
 

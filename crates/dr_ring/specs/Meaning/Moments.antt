@@ -6,17 +6,17 @@ use Rattle.dr_core.specs.declared.command.Command.{Command}
 use Rattle.dr_core.specs.declared.command.Command.TheVariants.{Claim, Write, Publish, Poll, Complete, Halt}
 use Rattle.dr_core.specs.declared.command.Reply.{Reply}
 use Rattle.dr_core.specs.declared.command.Reply.TheVariants.{Claimed, Written, Published, Batch, Drained, Completed, Halting}
-use Rattle.dr_core.specs.Machine as machine
-use Rattle.dr_core.specs.Machine.{State, available}
-use Rattle.dr_core.specs.Transcript.{Transcript}
-use Rattle.dr_ring.specs.Meaning.Shape.{Shape, handlers_of, setup_of}
+use Rattle.dr_core.specs.Meaning.Machine as machine
+use Rattle.dr_core.specs.Meaning.Machine.{State, available}
+use Rattle.dr_core.specs.Meaning.Transcript.{Transcript}
+use Rattle.dr_ring.specs.Meaning.Shape.{Shape, handlers_of, ring_setup}
 use Rattle.dr_ring.specs.Meaning.Words.{cursor_word, halt_word, count_word, payload_word, words_of}
 use Rattle.dr_ring.specs.declared.record.HalfWrite.{HalfWrite}
 use Rattle.dr_ring.specs.declared.record.SenderRecord.{SenderRecord}
 use Rattle.dr_ring.specs.declared.record.ReceiverRecord.{ReceiverRecord}
 use Rattle.dr_ring.specs.declared.record.HalterRecord.{HalterRecord}
 use Rattle.dr_ring.specs.Meaning.Records.{claimed, tells_drained}
-use Rattle.dr_ring.specs.Meaning.Kept.{World}
+use Rattle.dr_ring.specs.Meaning.Rule.{World}
 use Rattle.dr_ring.specs.declared.record.Step.{Step}
 use Rattle.dr_ring.specs.declared.record.Step.TheVariants.{SenderLooksAtCount, SenderLooksAtHalt, SenderStoresFirst, SenderStoresSecond, SenderPublishes, SenderHalts, SenderCloses, ReceiverLooksAtClosed, ReceiverLooksAtCursor, ReceiverLooksAtCount, ReceiverLoadsFirst, ReceiverLoadsSecond, ReceiverCompletes, HalterHalts}
 use Rattle.dr_ring.specs.Meaning.Steps.{Happens}
@@ -37,15 +37,15 @@ abbrev pub fresh_halter : Shape → HalterRecord
 fresh_halter k = record { plan = k; halted = false }
 
 -- a new ring: each word is 0
-abbrev pub opening : Shape → World
-opening k = record { words = replicate (words_of k) 0; sender = fresh_sender k; receivers = fresh_receivers k 0 (handlers_of k); halter = fresh_halter k }
+abbrev pub new_world : Shape → World
+new_world k = record { words = replicate (words_of k) 0; sender = fresh_sender k; receivers = fresh_receivers k 0 (handlers_of k); halter = fresh_halter k }
 
 abbrev pub taken_of : ReceiverRecord → ℕ
 taken_of r = length r.received
 
 -- what the machine is, where the ring is so
 abbrev pub picture_of : Shape → World → State
-picture_of k w = record (machine.opening (setup_of k)) {
+picture_of k w = record (machine.opening (ring_setup k)) {
   owners = replicate (claimed w.sender) 0;
   written = λ s. slice_index_or (map (λ event. Some event) w.sender.sent.published ++ w.sender.sent.pending) s None;
   published = λ s. nat_lt s (slice_index w.words cursor_word);
@@ -72,31 +72,31 @@ abbrev pub receiver_at : Shape → World → ℕ → ReceiverRecord
 receiver_at k w h = slice_index_or w.receivers h (fresh_receiver k h)
 
 -- the events of a step: a claim is decided by the sender's look at halt, a write by the store of its second word, a publication by that of the cursor, an event is taken by the load of its second word, `Drained` is told by a look at the cursor
-abbrev pub events_of : Shape → Step → World → Transcript
-events_of k (SenderLooksAtCount f) w = []
-events_of k (SenderLooksAtHalt n) w =
+abbrev pub entries_of : Shape → Step → World → Transcript
+entries_of k (SenderLooksAtCount f) w = []
+entries_of k (SenderLooksAtHalt n) w =
     if not (n == 0) && (slice_index w.words halt_word == 0) then entry (Claim 0 n) (Claimed (claimed w.sender) (claimed w.sender + n - 1)) [] else []
-events_of k (SenderStoresFirst s first) w = []
-events_of k (SenderStoresSecond second) w = write_of w.sender.half second
-events_of k (SenderPublishes n) w = entry (Publish 0 (slice_index w.words cursor_word) (n - 1)) Published []
-events_of k SenderHalts w = entry Halt Halting []
-events_of k SenderCloses w = []
-events_of k (ReceiverLooksAtClosed h) w = []
-events_of k (ReceiverLooksAtCursor h) w =
+entries_of k (SenderStoresFirst s first) w = []
+entries_of k (SenderStoresSecond second) w = write_of w.sender.half second
+entries_of k (SenderPublishes n) w = entry (Publish 0 (slice_index w.words cursor_word) (n - 1)) Published []
+entries_of k SenderHalts w = entry Halt Halting []
+entries_of k SenderCloses w = []
+entries_of k (ReceiverLooksAtClosed h) w = []
+entries_of k (ReceiverLooksAtCursor h) w =
     if tells_drained (receiver_at k w h) (slice_index w.words cursor_word) then entry (Poll h 1) Drained [] else []
-events_of k (ReceiverLooksAtCount h u) w = []
-events_of k (ReceiverLoadsFirst h) w = []
-events_of k (ReceiverLoadsSecond h) w =
+entries_of k (ReceiverLooksAtCount h u) w = []
+entries_of k (ReceiverLoadsFirst h) w = []
+entries_of k (ReceiverLoadsSecond h) w =
     let r : ReceiverRecord = receiver_at k w h in
-    poll_of h r.half (slice_index w.words (payload_word k (length r.received) 1)) (length r.received) (available (setup_of k) (picture_of k w) h)
-events_of k (ReceiverCompletes h n) w = entry (Complete h n) Completed []
-events_of k HalterHalts w = entry Halt Halting []
+    poll_of h r.half (slice_index w.words (payload_word k (length r.received) 1)) (length r.received) (available (ring_setup k) (picture_of k w) h)
+entries_of k (ReceiverCompletes h n) w = entry (Complete h n) Completed []
+entries_of k HalterHalts w = entry Halt Halting []
 
 -- a list of steps, with the entries of their events
 abbrev pub Runs : Shape → List Step → Transcript → World → World → Type 0
 Runs k [] entries w w' = (entries ≡ []) × (w ≡ w')
 Runs k (step ∷ steps) entries w w' =
-    (between : World) × (rest : Transcript) × Happens k step w between × (entries ≡ events_of k step w ++ rest) × Runs k steps rest between w'
+    (between : World) × (rest : Transcript) × Happens k step w between × (entries ≡ entries_of k step w ++ rest) × Runs k steps rest between w'
 
 -- some steps are the beginning of others
 abbrev pub IsBeginning : List Step → List Step → Type 0

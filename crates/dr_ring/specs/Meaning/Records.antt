@@ -1,8 +1,8 @@
 -- What each kind of step makes of the record of its end.
 use Rattle.std.specs.Prelude.{◌≡◌, ℕ, ◌+◌, ◌-◌, ◌<◌, ◌≤◌, ◌==◌, ◌&&◌, ◌||◌, if◌then◌else◌, Bool, true, List, [], ◌∷◌, ◌++◌, length, slice_index_or, replicate, Some, None, Contains}
 use Rattle.dr_seq.specs.declared.event.Event.{Event}
-use Rattle.dr_core.specs.Ends.{claimed_by, with_event, published_below}
-use Rattle.dr_graph.specs.Graph.{upstreams_of, finals}
+use Rattle.dr_core.specs.Calls.Ends.{claimed_in, with_event, published_below}
+use Rattle.dr_graph.specs.Meaning.Graph.{upstreams_of, finals}
 use Rattle.dr_ring.specs.Meaning.Shape.{Shape}
 use Rattle.dr_ring.specs.Meaning.Words.{cursor_word, closed_word, halt_word, count_word}
 use Rattle.dr_ring.specs.declared.record.Look.{Look}
@@ -12,7 +12,7 @@ use Rattle.dr_ring.specs.declared.record.HalterRecord.{HalterRecord}
 
 -- how many sequences the sender claimed
 abbrev pub claimed : SenderRecord → ℕ
-claimed r = claimed_by r.sent
+claimed r = claimed_in r.sent
 
 abbrev pub look : ℕ → ℕ → Look
 look word value = record { word = word; value = value }
@@ -78,7 +78,7 @@ abbrev pub halter_halted : HalterRecord → HalterRecord
 halter_halted r = record r { halted = true }
 
 -- the sender has room for n more, as far as it saw: within the limit, and no slot is used again that some final handler has not completed
-pub record HasRoom (k : Shape) (r : SenderRecord) (n : ℕ) : Type 0 where
+pub record SeesRoom (k : Shape) (r : SenderRecord) (n : ℕ) : Type 0 where
   pub limit : claimed r + n ≤ k.limit
   pub completed : (f : ℕ) → Contains (finals k.upstreams) f → claimed r + n ≤ k.size + last_look 0 r.looks (count_word f)
 

@@ -1,7 +1,7 @@
 -- What a ring is made for.
 use Rattle.std.specs.Prelude.{ℕ, List, length}
 use Rattle.dr_core.specs.declared.mode.Mode.TheVariants.{Single}
-use Rattle.dr_core.specs.Machine.{Setup}
+use Rattle.dr_core.specs.Meaning.Machine.{Setup}
 
 -- each handler's direct upstreams, the number of slots, and the limit of sequences
 pub record Shape : Type 0 where
@@ -13,5 +13,5 @@ abbrev pub handlers_of : Shape → ℕ
 handlers_of k = length k.upstreams
 
 -- the machine that a ring does the work of: it has one producer
-abbrev pub setup_of : Shape → Setup
-setup_of k = record { upstreams = k.upstreams; size = k.size; mode = Single; limit = k.limit }
+abbrev pub ring_setup : Shape → Setup
+ring_setup k = record { upstreams = k.upstreams; size = k.size; mode = Single; limit = k.limit }

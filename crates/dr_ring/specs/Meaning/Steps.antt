@@ -2,7 +2,7 @@
 use Rattle.std.specs.Prelude.{◌≡◌, ℕ, ◌<◌, ◌≤◌, true, [], length, slice_index, slice_set, Some, None, Contains}
 use mathlib.Core.Option.{some}
 use lib.ListN.{get_elem?}
-use Rattle.dr_graph.specs.Graph.{upstreams_of, finals}
+use Rattle.dr_graph.specs.Meaning.Graph.{upstreams_of, finals}
 use Rattle.dr_ring.specs.Meaning.Shape.{Shape}
 use Rattle.dr_ring.specs.Meaning.Words.{cursor_word, closed_word, halt_word, count_word, payload_word}
 use Rattle.dr_ring.specs.declared.record.HalfWrite.{HalfWrite}
@@ -10,8 +10,8 @@ use Rattle.dr_ring.specs.declared.record.Step.{Step}
 use Rattle.dr_ring.specs.declared.record.Step.TheVariants.{SenderLooksAtCount, SenderLooksAtHalt, SenderStoresFirst, SenderStoresSecond, SenderPublishes, SenderHalts, SenderCloses, ReceiverLooksAtClosed, ReceiverLooksAtCursor, ReceiverLooksAtCount, ReceiverLoadsFirst, ReceiverLoadsSecond, ReceiverCompletes, HalterHalts}
 use Rattle.dr_ring.specs.declared.record.SenderRecord.{SenderRecord}
 use Rattle.dr_ring.specs.declared.record.ReceiverRecord.{ReceiverRecord}
-use Rattle.dr_ring.specs.Meaning.Records.{claimed, sender_looked, halt_looked, half_written, written, published_to, sender_halted, sender_closed, receiver_looked, cursor_looked, half_taken, took, completed_to, halter_halted, HasRoom, IsOpen, AreWritten, IsBelowBarrier}
-use Rattle.dr_ring.specs.Meaning.Kept.{World}
+use Rattle.dr_ring.specs.Meaning.Records.{claimed, sender_looked, halt_looked, half_written, written, published_to, sender_halted, sender_closed, receiver_looked, cursor_looked, half_taken, took, completed_to, halter_halted, SeesRoom, IsOpen, AreWritten, IsBelowBarrier}
+use Rattle.dr_ring.specs.Meaning.Rule.{World}
 
 -- the sender's record changes, and no word
 abbrev pub sender_knows : World → SenderRecord → World
@@ -36,7 +36,7 @@ abbrev pub Happens : Shape → Step → World → World → Type 0
 Happens k (SenderLooksAtCount f) w w' =
     Contains (finals k.upstreams) f × (w' ≡ sender_knows w (sender_looked w.sender (count_word f) (slice_index w.words (count_word f))))
 Happens k (SenderLooksAtHalt n) w w' =
-    (0 < n → HasRoom k w.sender n) × (w' ≡ sender_knows w (halt_looked w.sender n (slice_index w.words halt_word)))
+    (0 < n → SeesRoom k w.sender n) × (w' ≡ sender_knows w (halt_looked w.sender n (slice_index w.words halt_word)))
 Happens k (SenderStoresFirst s first) w w' =
     IsOpen w.sender s × (w.sender.half ≡ None) × (w' ≡ sender_stores w (payload_word k s 0) first (half_written w.sender s first))
 Happens k (SenderStoresSecond second) w w' =

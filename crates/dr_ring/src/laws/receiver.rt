@@ -1,7 +1,7 @@
 //! A receiver's steps.
 
 ghost use Rattle.std.specs.Prelude.{◌≡◌, ◌<◌, ◌≤◌, true, None, Some, length, Contains};
-ghost use Rattle.dr_graph.specs.Graph.{upstreams_of};
+ghost use Rattle.dr_graph.specs.Meaning.Graph.{upstreams_of};
 ghost use Rattle.dr_ring.specs.Meaning.Words.{cursor_word, closed_word, count_word as count_word_of, payload_word};
 ghost use Rattle.dr_ring.specs.Meaning.Records.{receiver_looked, cursor_looked, half_taken, took, completed_to, IsBelowBarrier};
 ghost use Rattle.dr_ring.specs.declared.record.Step.TheVariants.{ReceiverCompletes};

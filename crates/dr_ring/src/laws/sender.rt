@@ -1,10 +1,10 @@
 //! The sender's steps.
 
 ghost use Rattle.std.specs.Prelude.{◌≡◌, ◌<◌, ◌≤◌, [], true, None, Some, length, Contains};
-ghost use Rattle.dr_graph.specs.Graph.{finals};
+ghost use Rattle.dr_graph.specs.Meaning.Graph.{finals};
 ghost use Rattle.dr_ring.specs.Calls.Plans.{IsPlan};
 ghost use Rattle.dr_ring.specs.Meaning.Words.{count_word as count_word_of, payload_word};
-ghost use Rattle.dr_ring.specs.Meaning.Records.{claimed, sender_looked, halt_looked, half_written, written, published_to, sender_halted, sender_closed, HasRoom, IsOpen, AreWritten};
+ghost use Rattle.dr_ring.specs.Meaning.Records.{claimed, sender_looked, halt_looked, half_written, written, published_to, sender_halted, sender_closed, SeesRoom, IsOpen, AreWritten};
 ghost use Rattle.dr_ring.specs.declared.record.Step.TheVariants.{SenderStoresFirst, SenderStoresSecond, SenderPublishes, SenderHalts, SenderCloses};
 ghost use Rattle.dr_ring.specs.Inside.Seats.{FindsCompleted, FindsHalt};
 ghost use Rattle.dr_ring.specs.Calls.Ends.{HasLoaded, HasStored};
@@ -61,7 +61,7 @@ impl SenderStation {
     /// seen that there is room.
     pub(crate) fn look_at_halt<J: Names>(&mut self, more: u64) -> u64
         requires named { more ≡ J.number }
-        requires room { 0 < more → HasRoom self.old.knows.plan self.old.knows more }
+        requires room { 0 < more → SeesRoom self.old.knows.plan self.old.knows more }
         ensures step { HasLoaded self.old (halt_looked self.old.knows more result) self.new }
         ensures finds { FindsHalt self.old.knows result }
     {

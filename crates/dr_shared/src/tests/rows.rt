@@ -1,7 +1,7 @@
 //! Worked runs, played through a lock from one thread: each reply, and which of them are kept.
 
 ghost use Rattle.std.specs.Prelude.{◌≡◌};
-ghost use Rattle.dr_shared.specs.History.{asked};
+ghost use Rattle.dr_shared.specs.Meaning.History.{asked};
 
 use super::*;
 use dr_core::Command::{Claim, Complete, Halt, Poll, Publish, Retire};

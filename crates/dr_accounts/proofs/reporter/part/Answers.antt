@@ -1,7 +1,7 @@
 use Rattle.std.proofs.Common.{◌++◌, ◌∙◌, ap}
-use Rattle.dr_shared.specs.Work.{events_of}
+use Rattle.dr_shared.specs.Meaning.Work.{dealt_events}
 use Rattle.dr_accounts.proofs.reporter.part.Goals as goal
 
 pub returns : goal.returns
 returns g c = λ first batches new through.
-    c.in_ok-push_part.ensures first batches new through ∙ ap (λ l. l ++ g.H.Reporter.part_of (events_of batches)) c.new-text.ensures.bytes
+    c.in_ok-push_part.ensures first batches new through ∙ ap (λ l. l ++ g.H.Reporter.part_of (dealt_events batches)) c.new-text.ensures.bytes

@@ -1,12 +1,12 @@
 use Rattle.std.proofs.Common.{◌+◌, ◌≡◌, ap, arith, length, subst}
 use Rattle.dr_seq.proofs.Sizes.{size_positive}
 use Rattle.dr_accounts.specs.Passing.{each}
-use Rattle.dr_accounts.specs.Turns.{IsOffered, Rests}
+use Rattle.dr_accounts.specs.Turns.{AreOffered, Rests}
 use Rattle.dr_accounts.proofs.through_core.pass.Goals as goal
 use Rattle.dr_accounts.proofs.through_core.pass.Goals.{In_ok-send}
 
 -- what was sent is offered to the handlers
-offered : (c : In_ok-send) → IsOffered c.args.core.now.setup.size c.args.events.now c.loop-at.at (c.loop-at.at + c.min-n.result) (length c.loop-at.buf) c.send.new.core
+offered : (c : In_ok-send) → AreOffered c.args.core.now.setup.size c.args.events.now c.loop-at.at (c.loop-at.at + c.min-n.result) (length c.loop-at.buf) c.send.new.core
 offered c =
     let at = c.loop-at.at in
     let n = c.min-n.result in

@@ -1,5 +1,5 @@
 use Rattle.std.proofs.Common.{◌≡◌, ◌∷◌, [], ap, codes}
-use Rattle.dr_graph.specs.Name.{given}
+use Rattle.dr_graph.specs.Meaning.Name.{given}
 use Rattle.dr_accounts.proofs.Graphs.{declared, declares, is_its_graph, replay_shape}
 use Rattle.dr_accounts.proofs.topology.graph.Goals as goal
 

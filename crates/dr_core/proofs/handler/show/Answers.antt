@@ -2,7 +2,7 @@ use Rattle.std.proofs.Common.{◌≡◌, ◌+◌, ◌&&◌, length, arith, sym, 
 use Rattle.std.specs.Prelude.{◌==◌}
 use Rattle.std.proofs.lemmas.Bool.{and_left}
 use Rattle.std.proofs.lemmas.List.{take_all}
-use Rattle.dr_core.specs.Handling.{showings}
+use Rattle.dr_core.specs.Calls.Handling.{showings}
 use Rattle.dr_core.proofs.Showings.{shows_more, length-showings}
 use Rattle.dr_core.proofs.handler.show.Goals as goal
 use Rattle.dr_core.proofs.handler.show.Goals.{then-end, else-end}

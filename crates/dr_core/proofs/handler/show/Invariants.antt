@@ -1,5 +1,5 @@
 use Rattle.std.proofs.Common.{take}
-use Rattle.dr_core.specs.Handling.{GoesThrough, showings}
+use Rattle.dr_core.specs.Calls.Handling.{GoesThrough, showings}
 use Rattle.dr_core.proofs.handler.show.Given as goal
 
 abbrev pub invariant-loop-k : goal.invariant-loop-k

@@ -1,5 +1,5 @@
 use Rattle.std.proofs.Common.{◌≡◌, ◌+◌, sym, ap, ◌∙◌, map, take, slice_index, get_or, min}
-use Rattle.dr_graph.specs.Graph.{least_of}
+use Rattle.dr_graph.specs.Meaning.Graph.{least_of}
 use Rattle.std.specs.Prelude.{◌==◌, if◌then◌else◌}
 use Rattle.std.proofs.lemmas.Bool.{cond-true, cond-false, eq-eqb, ne_eqb}
 use Rattle.dr_core.proofs.Leasts.{least_of-more}

@@ -1,5 +1,5 @@
 use Rattle.std.proofs.Common.{slice_index}
-use Rattle.dr_graph.specs.Graph.{flagged}
+use Rattle.dr_graph.specs.Meaning.Graph.{flagged}
 use Rattle.dr_core.proofs.Leasts.{IsLeastOf}
 use Rattle.dr_core.proofs.least.least_flagged.Given as goal
 

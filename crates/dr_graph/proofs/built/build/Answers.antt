@@ -1,9 +1,9 @@
 use Rattle.std.proofs.Common.{◌≡◌, ◌<◌, ℕ, List, sym, ◌∙◌, ap, subst, arith, length, map, Vec, Global}
 use Rattle.std.proofs.lemmas.List.{length-map}
-use Rattle.dr_graph.specs.Name.{Name, texts}
-use Rattle.dr_graph.specs.Order.{IsBuiltOrder}
-use Rattle.dr_graph.specs.Declaration.{Declaration}
-use Rattle.dr_graph.specs.Graph.{AreLists, finals, names_in}
+use Rattle.dr_graph.specs.Meaning.Name.{Name, texts}
+use Rattle.dr_graph.specs.Meaning.Order.{IsBuiltOrder}
+use Rattle.dr_graph.specs.Meaning.Declaration.{Declaration}
+use Rattle.dr_graph.specs.Meaning.Graph.{AreLists, finals, names_in}
 use Rattle.dr_graph.proofs.Adding.{text}
 use Rattle.dr_graph.proofs.Building.{IsFound, shape_of_order, graph_of_order, graph_lawful}
 use Rattle.dr_graph.proofs.built.build.Goals as goal

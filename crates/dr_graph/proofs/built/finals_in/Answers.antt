@@ -1,5 +1,5 @@
 use Rattle.std.proofs.Common.{sym, ap, ◌∙◌, Vec, ℕ, Global, map}
-use Rattle.dr_graph.specs.Graph.{is_final}
+use Rattle.dr_graph.specs.Meaning.Graph.{is_final}
 use Rattle.dr_graph.proofs.Gating.{filter_push, filter_skip}
 use Rattle.dr_graph.proofs.built.finals_in.Goals as goal
 use Rattle.dr_graph.proofs.built.finals_in.Goals.{then-is_final_in+in_ok-push, else-is_final_in}

@@ -1,6 +1,6 @@
 use Rattle.std.proofs.Common.{◌∙◌, sym, ap, zero-add, not, refl, map, Vec, ℕ, Global}
-use Rattle.dr_graph.specs.Order.{is_in}
-use Rattle.dr_graph.specs.Graph.{upstreams_of}
+use Rattle.dr_graph.specs.Meaning.Order.{is_in}
+use Rattle.dr_graph.specs.Meaning.Graph.{upstreams_of}
 use Rattle.dr_graph.proofs.Naming.{list_any-map}
 use Rattle.dr_graph.proofs.Gating.{any_numbered}
 use Rattle.dr_graph.proofs.built.is_final_in.Goals as goal

@@ -1,8 +1,8 @@
 use Rattle.std.proofs.Common.{◌≡◌, ◌<◌, ℕ, Bool, sym, ap, ◌∙◌, arith, length, map, Vec, Global, [], List}
 use Rattle.std.specs.Prelude.{not, ◌&&◌, get_or}
 use Rattle.std.proofs.lemmas.List.{get_or-map, length-map}
-use Rattle.dr_graph.specs.Order.{is_in}
-use Rattle.dr_graph.specs.Graph.{upstreams_of, flagged}
+use Rattle.dr_graph.specs.Meaning.Order.{is_in}
+use Rattle.dr_graph.specs.Meaning.Graph.{upstreams_of, flagged}
 use Rattle.dr_graph.proofs.Gating.{any_more, any_here}
 use Rattle.dr_graph.proofs.built.is_followed_in_without.Goals as goal
 

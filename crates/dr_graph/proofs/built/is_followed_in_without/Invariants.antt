@@ -1,8 +1,8 @@
 use Rattle.std.proofs.Common.{◌≡◌, map, false}
 use Rattle.std.specs.Prelude.{not, ◌&&◌}
 use Rattle.std.specs.List.{list_any, range_with_len}
-use Rattle.dr_graph.specs.Order.{is_in}
-use Rattle.dr_graph.specs.Graph.{upstreams_of, flagged}
+use Rattle.dr_graph.specs.Meaning.Order.{is_in}
+use Rattle.dr_graph.specs.Meaning.Graph.{upstreams_of, flagged}
 use Rattle.dr_graph.proofs.built.is_followed_in_without.Given as goal
 
 abbrev pub invariant-loop-k : goal.invariant-loop-k

@@ -1,6 +1,6 @@
 use Rattle.std.proofs.Common.{◌≡◌, take}
-use Rattle.dr_graph.specs.Name.{texts}
-use Rattle.dr_graph.specs.Graph.{names_in}
+use Rattle.dr_graph.specs.Meaning.Name.{texts}
+use Rattle.dr_graph.specs.Meaning.Graph.{names_in}
 use Rattle.dr_graph.proofs.built.named_in.Given as goal
 
 abbrev pub invariant-loop-h : goal.invariant-loop-h

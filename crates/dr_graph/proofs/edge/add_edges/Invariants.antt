@@ -1,5 +1,5 @@
 use Rattle.std.proofs.Common.{◌≡◌, ◌++◌, take}
-use Rattle.dr_graph.specs.Declaration.{edges_to}
+use Rattle.dr_graph.specs.Meaning.Declaration.{edges_to}
 use Rattle.dr_graph.proofs.edge.add_edges.Given as goal
 
 abbrev pub invariant-loop-up : goal.invariant-loop-up

@@ -2,7 +2,7 @@ use Rattle.std.proofs.Common.{sym, ◌∙◌, ap, ◌++◌, List, append_assoc}
 use Rattle.dr_graph.specs.declared.edge.Edge.{Edge}
 use Rattle.std.specs.List.{range_with_len}
 use Rattle.std.proofs.Common.{◌-◌}
-use Rattle.dr_graph.specs.Declaration.{edges_to, edges_between}
+use Rattle.dr_graph.specs.Meaning.Declaration.{edges_to, edges_between}
 use Rattle.dr_graph.proofs.Following.{between_more}
 use Rattle.dr_graph.proofs.edge.with_followers.Goals as goal
 

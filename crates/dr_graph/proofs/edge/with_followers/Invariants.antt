@@ -1,6 +1,6 @@
 use Rattle.std.proofs.Common.{◌≡◌, ◌++◌, ◌-◌}
 use Rattle.std.specs.List.{range_with_len}
-use Rattle.dr_graph.specs.Declaration.{edges_between}
+use Rattle.dr_graph.specs.Meaning.Declaration.{edges_between}
 use Rattle.dr_graph.proofs.edge.with_followers.Given as goal
 
 abbrev pub invariant-loop-down : goal.invariant-loop-down

@@ -1,5 +1,5 @@
 use Rattle.std.proofs.Common.{arith, ap, ◌∙◌}
-use Rattle.dr_graph.specs.Name.{texts}
+use Rattle.dr_graph.specs.Meaning.Name.{texts}
 use Rattle.dr_graph.proofs.Adding.{text, adding_at, adding_done, left_none}
 use Rattle.dr_graph.proofs.name.add_group.Goals as goal
 

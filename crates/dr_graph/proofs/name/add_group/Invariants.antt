@@ -1,5 +1,5 @@
 use Rattle.std.proofs.Common.{drop}
-use Rattle.dr_graph.specs.Name.{texts}
+use Rattle.dr_graph.specs.Meaning.Name.{texts}
 use Rattle.dr_graph.proofs.Adding.{IsAdding}
 use Rattle.dr_graph.proofs.name.add_group.Given as goal
 

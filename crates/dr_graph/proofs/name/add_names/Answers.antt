@@ -1,5 +1,5 @@
 use Rattle.std.proofs.Common.{Bor, List, ℕ, arith}
-use Rattle.dr_graph.specs.Name.{given}
+use Rattle.dr_graph.specs.Meaning.Name.{given}
 use Rattle.dr_graph.proofs.Adding.{adding_at, adding_done, left_none}
 use Rattle.dr_graph.proofs.name.add_names.Goals as goal
 

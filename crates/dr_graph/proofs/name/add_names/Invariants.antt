@@ -1,5 +1,5 @@
 use Rattle.std.proofs.Common.{drop}
-use Rattle.dr_graph.specs.Name.{given}
+use Rattle.dr_graph.specs.Meaning.Name.{given}
 use Rattle.dr_graph.proofs.Adding.{IsAdding}
 use Rattle.dr_graph.proofs.name.add_names.Given as goal
 

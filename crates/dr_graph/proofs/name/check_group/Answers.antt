@@ -1,6 +1,6 @@
 use Rattle.std.proofs.Common.{sym, ◌∙◌}
 use Rattle.std.proofs.lemmas.List.Folds.{list_all-map}
-use Rattle.dr_graph.specs.Name.{texts, texts, is_named}
+use Rattle.dr_graph.specs.Meaning.Name.{texts, texts, is_named}
 use Rattle.dr_graph.proofs.Adding.{text}
 use Rattle.dr_graph.proofs.Strangers.{stranger_none, stranger_some}
 use Rattle.dr_graph.proofs.name.check_group.Goals as goal

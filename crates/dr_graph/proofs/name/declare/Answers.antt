@@ -1,5 +1,5 @@
 use Rattle.std.proofs.Common.{◌∙◌, ap, ◌++◌, List}
-use Rattle.dr_graph.specs.Name.{Name, texts, given}
+use Rattle.dr_graph.specs.Meaning.Name.{Name, texts, given}
 use Rattle.dr_graph.proofs.NewNames.{new_all}
 use Rattle.dr_graph.proofs.name.declare.Goals as goal
 

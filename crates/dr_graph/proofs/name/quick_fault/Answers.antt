@@ -1,5 +1,5 @@
 use Rattle.std.proofs.Common.{◌++◌, ◌∙◌, sym, ap, Bor, List, ℕ, take, arith}
-use Rattle.dr_graph.specs.Name.{texts, given}
+use Rattle.dr_graph.specs.Meaning.Name.{texts, given}
 use Rattle.dr_graph.proofs.Adding.{seen_next}
 use Rattle.dr_graph.proofs.Naming.{faults_begin, faults_end, goes_after, stops_after}
 use Rattle.dr_graph.proofs.name.quick_fault.Goals as goal

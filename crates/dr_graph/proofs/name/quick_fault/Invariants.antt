@@ -1,6 +1,6 @@
 use Rattle.std.proofs.Common.{◌≡◌, ◌++◌, take, drop}
-use Rattle.dr_graph.specs.Declaration.{name_faults}
-use Rattle.dr_graph.specs.Name.{texts, given}
+use Rattle.dr_graph.specs.Meaning.Declaration.{name_faults}
+use Rattle.dr_graph.specs.Meaning.Name.{texts, given}
 use Rattle.dr_graph.proofs.name.quick_fault.Given as goal
 
 abbrev pub invariant-loop-name : goal.invariant-loop-name

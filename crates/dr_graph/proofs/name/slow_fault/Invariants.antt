@@ -1,6 +1,6 @@
 use Rattle.std.proofs.Common.{◌≡◌, ◌++◌, map, take, drop}
 use Rattle.std.specs.String.{string_bytes}
-use Rattle.dr_graph.specs.Declaration.{name_faults}
+use Rattle.dr_graph.specs.Meaning.Declaration.{name_faults}
 use Rattle.dr_graph.proofs.name.slow_fault.Given as goal
 
 abbrev pub invariant-loop-i : goal.invariant-loop-i

@@ -1,6 +1,6 @@
 use Rattle.std.proofs.Common.{◌≡◌, ℕ, List, ◌+◌, ◌∷◌, ◌++◌, [], sym, ap, ◌∙◌, Vec, Global, subst, map, length, arith}
 use Rattle.std.proofs.lemmas.List.{length_push, map_push, length-map}
-use Rattle.dr_graph.specs.Graph.{leads_to, AreChosen, AreLists}
+use Rattle.dr_graph.specs.Meaning.Graph.{leads_to, AreChosen, AreLists}
 use Rattle.dr_graph.proofs.Chosen.{lists_push}
 use Rattle.dr_graph.proofs.order.all_upstreams.Goals as goal
 

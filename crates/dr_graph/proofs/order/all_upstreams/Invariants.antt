@@ -1,5 +1,5 @@
 use Rattle.std.proofs.Common.{◌≡◌, length, map}
-use Rattle.dr_graph.specs.Graph.{AreLists}
+use Rattle.dr_graph.specs.Meaning.Graph.{AreLists}
 use Rattle.dr_graph.proofs.order.all_upstreams.Given as goal
 
 abbrev pub invariant-loop-h : goal.invariant-loop-h

@@ -1,5 +1,5 @@
 use Rattle.std.proofs.Common.{◌≡◌, ℕ, ◌<◌, false}
-use Rattle.dr_graph.specs.Order.{is_ready}
+use Rattle.dr_graph.specs.Meaning.Order.{is_ready}
 use Rattle.dr_graph.proofs.order.first_ready.Given as goal
 
 abbrev pub invariant-loop-h : goal.invariant-loop-h

@@ -1,6 +1,6 @@
 use Rattle.std.proofs.Common.{◌≡◌, ◌<◌, ◌∷◌, ◌++◌, [], arith, ℕ, List, false, subst}
 use Rattle.std.proofs.lemmas.Grind.{common_steps}
-use Rattle.dr_graph.specs.Order.{IsNext, is_ready}
+use Rattle.dr_graph.specs.Meaning.Order.{IsNext, is_ready}
 use Rattle.dr_graph.proofs.Orders.{starts, goes_on, halts_stuck, halts_whole, no_cycle}
 use Rattle.dr_graph.proofs.order.place_all.Goals as goal
 

@@ -1,5 +1,5 @@
 use Rattle.std.proofs.Common.{◌+◌, ℕ, sym, ap, ◌∙◌, Vec, Global}
-use Rattle.dr_graph.specs.Graph.{leads_to, AreChosen}
+use Rattle.dr_graph.specs.Meaning.Graph.{leads_to, AreChosen}
 use Rattle.dr_graph.proofs.Chosen.{chosen_push, chosen_skip}
 use Rattle.std.proofs.Common.{subst, List}
 use Rattle.dr_graph.proofs.order.upstreams_at.Goals as goal

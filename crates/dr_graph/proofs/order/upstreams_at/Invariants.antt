@@ -1,4 +1,4 @@
-use Rattle.dr_graph.specs.Graph.{AreChosen, leads_to}
+use Rattle.dr_graph.specs.Meaning.Graph.{AreChosen, leads_to}
 use Rattle.dr_graph.proofs.order.upstreams_at.Given as goal
 
 abbrev pub invariant-loop-u : goal.invariant-loop-u

@@ -2,7 +2,7 @@ use Rattle.std.proofs.Common.{List, ℕ, arith, ap, ◌∙◌}
 use Rattle.std.proofs.lemmas.Result.{err_from_is_err_and}
 use Rattle.dr_files.specs.Counting.{inner_of}
 use Rattle.dr_replay.specs.Meaning.DriveText.{drive_text}
-use Rattle.dr_files.specs.Outcome.{Writes}
+use Rattle.dr_files.specs.Outcome.{RunWrites}
 use Rattle.dr_replay.specs.Meaning.Records.{records_of}
 use Rattle.dr_replay.specs.Inside.Rows.{rows_left}
 use Rattle.dr_replay.proofs.RowsLeft.{numbers_fit}
@@ -23,7 +23,7 @@ returns-in_err-exchange-clause-bytes g c =
     let text = c.in_ok-text.text.items in
     let all = c.new-rows.ensures ∙ ap records_of c.as_slice.ensures.value in
     let p = err_from_is_err_and c.from_residual-in_err-exchange.result c.from_residual-in_err-exchange.ensures.1 in
-    let P : List ℕ → Type 0 = λ input. Writes c.from_residual-in_err-exchange.result known known (drive_text input) in
+    let P : List ℕ → Type 0 = λ input. RunWrites c.from_residual-in_err-exchange.result known known (drive_text input) in
     at_input (g.R.Read.remaining (inner_of c.args.reader.now)) text P c.in_ok-text.ensures.whole
     (rw (p.1, p.2) (failed_setup c.in_err-exchange.field-0.0 (rows_left c.new-rows.result) text known all c.in_err-exchange.ensures))
 
@@ -34,6 +34,6 @@ returns-clause-bytes g c =
     let new = con (inner_of c.commands.new.writer) in
     let text = c.in_ok-text.text.items in
     let all = c.new-rows.ensures ∙ ap records_of c.as_slice.ensures.value in
-    let P : List ℕ → Type 0 = λ input. Writes c.commands.result old new (drive_text input) in
+    let P : List ℕ → Type 0 = λ input. RunWrites c.commands.result old new (drive_text input) in
     at_input (g.R.Read.remaining (inner_of c.args.reader.now)) text P c.in_ok-text.ensures.whole
     (after_setup c.commands.result c.in_ok-exchange.field-0 (rows_left c.new-rows.result) (rows_left c.set_up.new.rows) text old new all c.in_ok-exchange.ensures c.commands.ensures.bytes)

@@ -1,6 +1,6 @@
 use Rattle.std.proofs.Common.{ap, length, arith}
 use Rattle.csv.specs.Records.{fields_of}
-use Rattle.dr_core.specs.Machine.{opening}
+use Rattle.dr_core.specs.Meaning.Machine.{opening}
 use Rattle.dr_replay.specs.Meaning.Setup.{Empty}
 use Rattle.dr_replay.specs.Meaning.DriveText.{Preparing, Running, text_from}
 use Rattle.dr_replay.specs.Inside.Rows.{rows_left}

@@ -1,32 +1,32 @@
 use Rattle.std.proofs.Common.{subst, refl}
 use Rattle.dr_ring.specs.Meaning.Records.{claimed}
 use Rattle.dr_ring.proofs.Halting.{halted_runs}
-use Rattle.dr_core.specs.Machine.{State}
-use Rattle.dr_core.specs.Transcript.{Transcript, LeadsFrom, LeadsTo}
-use Rattle.dr_graph.specs.Graph.{IsGraph}
+use Rattle.dr_core.specs.Meaning.Machine.{State}
+use Rattle.dr_core.specs.Meaning.Transcript.{Transcript, LeadsFrom, LeadsTo}
+use Rattle.dr_graph.specs.Meaning.Graph.{IsGraph}
 use Rattle.std.specs.Prelude.{◌<◌, List}
-use Rattle.dr_ring.specs.Meaning.Shape.{Shape, setup_of}
-use Rattle.dr_ring.specs.Meaning.Kept.{World}
+use Rattle.dr_ring.specs.Meaning.Shape.{Shape, ring_setup}
+use Rattle.dr_ring.specs.Meaning.Rule.{World}
 use Rattle.dr_ring.specs.declared.record.Step.{Step}
-use Rattle.dr_ring.specs.Meaning.Moments.{Runs, opening, picture_of}
+use Rattle.dr_ring.specs.Meaning.Moments.{Runs, new_world, picture_of}
 use Rattle.dr_ring.proofs.Pictures.{keeps_runs, lead_runs}
 use Rattle.dr_ring.proofs.Beginning.{kept_opening, opens}
 use Rattle.dr_ring.proofs.laws.moments.Goals as goal
 
-leads : (k : Shape) (steps : List Step) (entries : Transcript) (w : World) → IsGraph k.upstreams → 0 < k.size → Runs k steps entries (opening k) w → LeadsTo (setup_of k) entries (picture_of k w)
+leads : (k : Shape) (steps : List Step) (entries : Transcript) (w : World) → IsGraph k.upstreams → 0 < k.size → Runs k steps entries (new_world k) w → LeadsTo (ring_setup k) entries (picture_of k w)
 leads k steps entries w graph some_slot runs =
-    subst (λ (m : State). LeadsFrom (setup_of k) m entries (picture_of k w)) (opens k) (lead_runs k steps entries (opening k) w runs (kept_opening k graph some_slot))
+    subst (λ (m : State). LeadsFrom (ring_setup k) m entries (picture_of k w)) (opens k) (lead_runs k steps entries (new_world k) w runs (kept_opening k graph some_slot))
 
 pub returns-clause-rule : goal.returns-clause-rule
-returns-clause-rule c k steps entries w graph some_slot runs = keeps_runs k steps entries (opening k) w runs (kept_opening k graph some_slot)
+returns-clause-rule c k steps entries w graph some_slot runs = keeps_runs k steps entries (new_world k) w runs (kept_opening k graph some_slot)
 
 pub returns-clause-leads : goal.returns-clause-leads
 returns-clause-leads c = leads
 
 pub returns-clause-laws : goal.returns-clause-laws
 returns-clause-laws c k steps entries w graph some_slot runs =
-    c.every_transcript_is_lawful.ensures (setup_of k) entries (picture_of k w) (leads k steps entries w graph some_slot runs)
+    c.every_transcript_is_lawful.ensures (ring_setup k) entries (picture_of k w) (leads k steps entries w graph some_slot runs)
 
 pub returns-clause-halted : goal.returns-clause-halted
 returns-clause-halted c k steps more entries rest w u graph some_slot runs on halted =
-    (halted_runs k more rest w u (claimed w.sender) on (keeps_runs k steps entries (opening k) w runs (kept_opening k graph some_slot)) (halted, refl)).1
+    (halted_runs k more rest w u (claimed w.sender) on (keeps_runs k steps entries (new_world k) w runs (kept_opening k graph some_slot)) (halted, refl)).1

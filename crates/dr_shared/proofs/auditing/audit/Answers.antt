@@ -1,11 +1,11 @@
 use Rattle.std.proofs.Common.{◌≡◌, ◌≤◌, ◌<◌, ℕ, length, ap, ◌∙◌, arith}
 use Rattle.std.proofs.lemmas.List.{length-map}
 use Rattle.std.proofs.lemmas.Result.{err_from_is_err_and}
-use Rattle.dr_core.specs.Machine.{handlers, producers}
-use Rattle.dr_shared.specs.History.{IsRecorded, transcript}
-use Rattle.dr_shared.specs.Sequences.{Lists, published_of}
-use Rattle.dr_shared.specs.Audit.{Faults, scripts_of}
-use Rattle.dr_shared.specs.Auditing.{Differs, SentIn}
+use Rattle.dr_core.specs.Meaning.Machine.{handlers, producers}
+use Rattle.dr_shared.specs.Meaning.History.{IsRecorded, transcript}
+use Rattle.dr_shared.specs.Inside.Sequences.{Lists, published_of}
+use Rattle.dr_shared.specs.Meaning.Audit.{Faults, scripts_of}
+use Rattle.dr_shared.specs.Inside.Auditing.{Differs, SentIn}
 use Rattle.dr_shared.proofs.Findings.{IsChecked, lists_of, followed, scripts_fault, drained_fault, audited}
 use Rattle.dr_shared.proofs.auditing.audit.Goals as goal
 use Rattle.dr_shared.proofs.auditing.audit.Goals.{After-len}

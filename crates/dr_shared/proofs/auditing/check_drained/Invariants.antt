@@ -1,5 +1,5 @@
 use Rattle.std.proofs.Common.{ℕ, ◌<◌}
-use Rattle.dr_shared.specs.Auditing.{TookIn}
+use Rattle.dr_shared.specs.Inside.Auditing.{TookIn}
 use Rattle.dr_shared.proofs.auditing.check_drained.Given as goal
 
 abbrev pub invariant-loop-h : goal.invariant-loop-h

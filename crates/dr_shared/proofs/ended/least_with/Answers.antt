@@ -1,7 +1,7 @@
 use Rattle.std.proofs.Common.{◌++◌, ◌∙◌, ap, sym, take}
 use Rattle.std.specs.Prelude.{option_to_list}
 use Rattle.std.proofs.lemmas.List.{take_all}
-use Rattle.dr_shared.specs.FirstFault.{faults_with, least}
+use Rattle.dr_shared.specs.Meaning.FirstFault.{faults_with, least}
 use Rattle.dr_shared.proofs.Faults.{least_with_next}
 use Rattle.dr_shared.proofs.ended.least_with.Goals as goal
 

@@ -1,5 +1,5 @@
 use Rattle.std.proofs.Common.{◌≡◌, take}
-use Rattle.dr_shared.specs.FirstFault.{faults_with, least}
+use Rattle.dr_shared.specs.Meaning.FirstFault.{faults_with, least}
 use Rattle.dr_shared.proofs.ended.least_with.Given as goal
 
 abbrev pub invariant-loop-worker : goal.invariant-loop-worker

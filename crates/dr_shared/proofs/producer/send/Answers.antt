@@ -1,9 +1,9 @@
 use Rattle.std.proofs.Common.{◌≡◌, ◌+◌, Result, Ok, Err, Option, OnOk, List, length}
 use Rattle.dr_seq.specs.declared.event.Event.{Event}
 use Rattle.dr_core.specs.declared.command.Claimed.{Claimed}
-use Rattle.dr_core.specs.Ends.{Sent, WhereShown, PublishAnswers, Publishes}
+use Rattle.dr_core.specs.Calls.Ends.{Sent, WhereShown, PublishAnswers, Publishes}
 use Rattle.dr_core.specs.declared.ends.Trouble.{Trouble}
-use Rattle.dr_shared.specs.Work.{Adds, Writing}
+use Rattle.dr_shared.specs.Meaning.Work.{Adds, Writing}
 use Rattle.dr_shared.proofs.Writings.{Opens, sends}
 use Rattle.dr_shared.proofs.producer.send.Goals as goal
 

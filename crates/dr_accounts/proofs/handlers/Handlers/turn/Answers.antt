@@ -5,7 +5,7 @@ use Rattle.dr_accounts.specs.declared.journal.Journal.{Journal}
 use Rattle.dr_accounts.specs.declared.replica.Replica.{Replica}
 use Rattle.dr_accounts.specs.Handlers.{Books, Copies, IsBusinessOf, IsJournalOf, IsReplicaOf, Journals}
 use Rattle.dr_accounts.specs.Passing.{each}
-use Rattle.dr_accounts.specs.Turns.{IsOffered, Rests}
+use Rattle.dr_accounts.specs.Turns.{AreOffered, Rests}
 use Rattle.dr_accounts.proofs.Rounds.{business_can, journal_can, replica_can, shown_more}
 use Rattle.dr_accounts.proofs.Shown.{business_goes, journal_goes, replica_goes}
 use Rattle.dr_accounts.proofs.Turning.{CanTurn, TookTurn, no_refusal, took_turn}
@@ -23,18 +23,18 @@ books old event s end new = Books old event new
 
 module _ (size : ℕ) (events : List Event) (at sent : ℕ) where
   -- what each turn needs
-  journal_needs : (c : After-processor_turn) → IsOffered size events at sent (length c.args.buf.now) c.args.core.now
+  journal_needs : (c : After-processor_turn) → AreOffered size events at sent (length c.args.buf.now) c.args.core.now
       → CanTurn size events at sent 0 (length c.args.buf.now) (each at) c.args.core.now
   journal_needs c is = journal_can size events at sent is.some is.within _ is.fits _ is.rests
 
-  replica_needs : (c : After-processor_turn-2) → IsOffered size events at sent (length c.args.buf.now) c.args.core.now → Rests size events sent (sent ∷ at ∷ at ∷ []) c.processor_turn.new.core
+  replica_needs : (c : After-processor_turn-2) → AreOffered size events at sent (length c.args.buf.now) c.args.core.now → Rests size events sent (sent ∷ at ∷ at ∷ []) c.processor_turn.new.core
       → CanTurn size events at sent 1 (length c.processor_turn.new.buf) (sent ∷ at ∷ at ∷ []) c.processor_turn.new.core
   replica_needs c is rests =
       let fits = is.fits in
       let room : sent ≤ at + length c.processor_turn.new.buf = omega arith in
       replica_can size events at sent is.some is.within _ room _ rests
 
-  business_needs : (c : After-processor_turn-3) → IsOffered size events at sent (length c.args.buf.now) c.args.core.now → Rests size events sent (sent ∷ sent ∷ at ∷ []) c.processor_turn-2.new.core
+  business_needs : (c : After-processor_turn-3) → AreOffered size events at sent (length c.args.buf.now) c.args.core.now → Rests size events sent (sent ∷ sent ∷ at ∷ []) c.processor_turn-2.new.core
       → CanTurn size events at sent 2 (length c.processor_turn-2.new.buf) (sent ∷ sent ∷ at ∷ []) c.processor_turn-2.new.core
   business_needs c is rests =
       let fits = is.fits in

@@ -1,5 +1,5 @@
 use Rattle.std.proofs.Common.{◌++◌, ◌∙◌, ap, string_bytes}
-use Rattle.dr_shared.specs.Work.{events_of}
+use Rattle.dr_shared.specs.Meaning.Work.{dealt_events}
 use Rattle.dr_accounts.proofs.Parts.{business_shown}
 use Rattle.dr_accounts.proofs.Reports.{business_says}
 use Rattle.dr_accounts.proofs.reporter.BusinessReporter.push_part.Goals as goal
@@ -7,4 +7,4 @@ use Rattle.dr_accounts.proofs.reporter.BusinessReporter.push_part.Goals as goal
 pub returns : goal.returns
 returns c = λ first batches new through.
     let it = c.args.self.now in
-    c.in_ok-append_to.ensures.text ∙ ap (λ l. string_bytes c.args.report.now ++ l) (business_says it (events_of batches) (business_shown first it batches new through c.requires) c.in_ok-append_to.ensures.ordered)
+    c.in_ok-append_to.ensures.text ∙ ap (λ l. string_bytes c.args.report.now ++ l) (business_says it (dealt_events batches) (business_shown first it batches new through c.requires) c.in_ok-append_to.ensures.ordered)

@@ -1,5 +1,5 @@
 use Rattle.std.proofs.Common.{◌++◌, ◌∙◌, ap, string_bytes}
-use Rattle.dr_shared.specs.Work.{events_of}
+use Rattle.dr_shared.specs.Meaning.Work.{dealt_events}
 use Rattle.dr_accounts.proofs.Parts.{replica_shown}
 use Rattle.dr_accounts.proofs.Reports.{replica_says}
 use Rattle.dr_accounts.proofs.reporter.ReplicaReporter.push_part.Goals as goal
@@ -7,4 +7,4 @@ use Rattle.dr_accounts.proofs.reporter.ReplicaReporter.push_part.Goals as goal
 pub returns : goal.returns
 returns c = λ first batches new through.
     let it = c.args.self.now in
-    c.in_ok-append_to.ensures ∙ ap (λ l. string_bytes c.args.report.now ++ l) (replica_says it (events_of batches) (replica_shown first it batches new through c.requires))
+    c.in_ok-append_to.ensures ∙ ap (λ l. string_bytes c.args.report.now ++ l) (replica_says it (dealt_events batches) (replica_shown first it batches new through c.requires))

@@ -1,9 +1,9 @@
 use Rattle.std.proofs.Common.{◌≡◌, ◌<◌, ℕ, sym, ap, ◌∙◌, length, List, map, slice_index, arith}
 use Rattle.std.proofs.lemmas.Bool.{eqb-false}
-use Rattle.dr_graph.specs.Graph.{upstreams_of, least_of}
-use Rattle.dr_core.specs.CoreView.{CoreView}
-use Rattle.dr_core.specs.Inside.{view_of}
-use Rattle.dr_core.specs.Shows.{offered_to}
+use Rattle.dr_graph.specs.Meaning.Graph.{upstreams_of, least_of}
+use Rattle.dr_core.specs.Calls.CoreView.{CoreView}
+use Rattle.dr_core.specs.Inside.Fields.{view_of}
+use Rattle.dr_core.specs.Calls.Shows.{offered_to}
 use Rattle.dr_core.proofs.Polling.{offered_some, ups_within}
 use Rattle.dr_core.proofs.engine.Core.available.Goals as goal
 

@@ -9,11 +9,11 @@ use Rattle.dr_core.specs.declared.mode.Mode.{Mode}
 use Rattle.dr_core.specs.declared.mode.Mode.TheVariants.{Single, Multi}
 use Rattle.dr_core.specs.declared.command.Command.TheVariants.{Claim}
 use Rattle.dr_core.specs.declared.command.Reply.TheVariants.{Claimed}
-use Rattle.dr_core.specs.Machine.{producers}
-use Rattle.dr_core.specs.Shows.{IsStep}
-use Rattle.dr_core.specs.CoreView.{CoreView, gate_of}
-use Rattle.dr_core.specs.Availability.{owners_after, claim_fault}
-use Rattle.dr_core.specs.Inside.{view_of, kept_of}
+use Rattle.dr_core.specs.Meaning.Machine.{producers}
+use Rattle.dr_core.specs.Calls.Shows.{IsStep}
+use Rattle.dr_core.specs.Calls.CoreView.{CoreView, gate_of}
+use Rattle.dr_core.specs.Inside.Availability.{owners_after, claim_fault}
+use Rattle.dr_core.specs.Inside.Fields.{view_of, kept_of}
 use Rattle.dr_core.proofs.CoreSteps.{refused_step, claim_step}
 use Rattle.dr_core.proofs.Gating.{claim_refused, claim_accepted}
 use Rattle.dr_core.proofs.Recents.{claims_known, claims_available, known_there, one_producer}

@@ -1,7 +1,7 @@
 use Rattle.std.proofs.Common.{◌≡◌, ◌+◌, ◌≤◌, sym, arith, inl, inr, false}
 use Rattle.std.proofs.lemmas.Bool.{cases_Bool}
-use Rattle.dr_core.specs.CoreView.{CoreView, gate_of}
-use Rattle.dr_core.specs.Inside.{view_of}
+use Rattle.dr_core.specs.Calls.CoreView.{CoreView, gate_of}
+use Rattle.dr_core.specs.Inside.Fields.{view_of}
 use Rattle.dr_core.proofs.Gating.{claimable_room, claim_fault-none}
 use Rattle.dr_core.proofs.engine.Core.claim_fault.Goals as goal
 

@@ -1,9 +1,9 @@
 use Rattle.std.proofs.Common.{refl, ◌≡◌, ◌<◌, ◌≤◌, ◌+◌, slice_index, length, get_or, false, arith}
 use Rattle.std.proofs.lemmas.List.{get_or_read}
-use Rattle.dr_core.specs.Machine.{handlers}
-use Rattle.dr_core.specs.CoreView.{CoreView}
-use Rattle.dr_core.specs.Shows.{CanComplete}
-use Rattle.dr_core.specs.Inside.{view_of}
+use Rattle.dr_core.specs.Meaning.Machine.{handlers}
+use Rattle.dr_core.specs.Calls.CoreView.{CoreView}
+use Rattle.dr_core.specs.Calls.Shows.{CanComplete}
+use Rattle.dr_core.specs.Inside.Fields.{view_of}
 use Rattle.dr_core.proofs.CoreSteps.{complete_step, completed_grows}
 use Rattle.dr_core.proofs.Retiring.{told}
 use Rattle.dr_core.proofs.Whole.{step_whole}

@@ -1,5 +1,5 @@
 use Rattle.std.proofs.Common.{refl, arith}
-use Rattle.dr_core.specs.Inside.{view_of}
+use Rattle.dr_core.specs.Inside.Fields.{view_of}
 use Rattle.dr_core.proofs.CoreSteps.{halt_step}
 use Rattle.dr_core.proofs.Gating.{final_room}
 use Rattle.dr_core.proofs.Whole.{step_whole}

@@ -1,8 +1,8 @@
 use Rattle.std.proofs.Common.{◌≡◌, ℕ, ◌+◌, ◌<◌, ◌^◌, refl, ◌∙◌, Bool, List, length, map, filter, slice_index, arith}
 use Rattle.std.specs.List.{range_with_len}
-use Rattle.dr_graph.specs.Graph.{flagged, least_of}
-use Rattle.dr_core.specs.CoreView.{CoreView, AreGating, retired_in, gate_of}
-use Rattle.dr_core.specs.Inside.{view_of}
+use Rattle.dr_graph.specs.Meaning.Graph.{flagged, least_of}
+use Rattle.dr_core.specs.Calls.CoreView.{CoreView, AreGating, retired_in, gate_of}
+use Rattle.dr_core.specs.Inside.Fields.{view_of}
 use Rattle.dr_core.proofs.Gating.{flagged_least, claimable_now, room_fits}
 use Rattle.dr_core.proofs.engine.Core.has_room.Goals as goal
 use Rattle.dr_core.proofs.engine.Core.has_room.Goals.{After-least_flagged}

@@ -1,6 +1,6 @@
 use Rattle.std.proofs.Common.{◌≡◌, refl, length, sym, ap, ◌∙◌, arith, replicate, false}
 use Rattle.std.proofs.lemmas.List.{length-replicate}
-use Rattle.dr_core.specs.Machine.{Setup, setup_of}
+use Rattle.dr_core.specs.Meaning.Machine.{Setup, setup_of}
 use Rattle.dr_core.proofs.Recents.{none_marked, none_ahead}
 use Rattle.dr_core.proofs.Opening.{limit_fits, opening_shows, opening_whole}
 use Rattle.dr_core.proofs.Gating.{written_back}

@@ -6,11 +6,11 @@ use Rattle.std.proofs.lemmas.List.{take_at}
 use Rattle.std.proofs.lemmas.List.FromFn.{length-map-range_with_len}
 use Rattle.dr_seq.specs.declared.event.Event.{Event}
 use Rattle.dr_seq.specs.Slots.{event_at}
-use Rattle.dr_graph.specs.Graph.{upstreams_of}
-use Rattle.dr_core.specs.Machine.{is_single}
-use Rattle.dr_core.specs.CoreView.{CoreView}
-use Rattle.dr_core.specs.Inside.{view_of}
-use Rattle.dr_core.specs.Shows.{IsStep, offered_to}
+use Rattle.dr_graph.specs.Meaning.Graph.{upstreams_of}
+use Rattle.dr_core.specs.Meaning.Machine.{is_single}
+use Rattle.dr_core.specs.Calls.CoreView.{CoreView}
+use Rattle.dr_core.specs.Inside.Fields.{view_of}
+use Rattle.dr_core.specs.Calls.Shows.{IsStep, offered_to}
 use Rattle.dr_core.specs.declared.command.Command.TheVariants.{Poll}
 use Rattle.dr_core.specs.declared.command.Reply.TheVariants.{Batch}
 use Rattle.std.specs.Vec.{with_item}

@@ -4,11 +4,11 @@ use Rattle.std.proofs.lemmas.Bool.{and_left, and_right, and_parts, eq-eqb, eqb-t
 use Rattle.dr_seq.proofs.Sizes.{size_positive}
 use Rattle.dr_core.specs.declared.command.Command.TheVariants.{Publish}
 use Rattle.dr_core.specs.declared.command.Reply.TheVariants.{Published}
-use Rattle.dr_core.specs.Shows.{IsStep}
-use Rattle.dr_core.specs.Machine.{producers, is_single}
-use Rattle.dr_core.specs.CoreView.{CoreView, known_at}
-use Rattle.dr_core.specs.Availability.{published_after, IsNewFront, publish_fault}
-use Rattle.dr_core.specs.Inside.{view_of, kept_of}
+use Rattle.dr_core.specs.Calls.Shows.{IsStep}
+use Rattle.dr_core.specs.Meaning.Machine.{producers, is_single}
+use Rattle.dr_core.specs.Calls.CoreView.{CoreView, known_at}
+use Rattle.dr_core.specs.Inside.Availability.{published_after, IsNewFront, publish_fault}
+use Rattle.dr_core.specs.Inside.Fields.{view_of, kept_of}
 use Rattle.dr_core.proofs.Publishing.{publish_front, publish_refused, publish_order, publish_step}
 use Rattle.dr_core.proofs.Recents.{known_there, publishes_known, publishes_available, front_known}
 use Rattle.dr_core.proofs.InOrder.{InOrder, next_step, next_available}

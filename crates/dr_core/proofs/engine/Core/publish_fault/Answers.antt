@@ -2,9 +2,9 @@ use Rattle.std.proofs.Common.{◌≡◌, Bool, true, false, cond, Some, None, sy
 use Rattle.std.specs.Prelude.{◌==◌, nat_lt}
 use Rattle.std.proofs.lemmas.Bool.{eq-eqb, ne_eqb, lt-ltb, le-ltb, or_left, or_right, or_from}
 use Rattle.dr_core.specs.declared.refusal.Refusal.TheVariants.{NotClaimed, NotWritten}
-use Rattle.dr_core.specs.CoreView.{known_at}
-use Rattle.dr_core.specs.Inside.{kept_of}
-use Rattle.dr_core.specs.Availability.{is_ahead, is_published_at, is_written_at, owner_at, publish_fault}
+use Rattle.dr_core.specs.Calls.CoreView.{known_at}
+use Rattle.dr_core.specs.Inside.Fields.{kept_of}
+use Rattle.dr_core.specs.Inside.Availability.{is_ahead, is_published_at, is_written_at, owner_at, publish_fault}
 use Rattle.dr_core.proofs.Recents.{publish_fault_is}
 use Rattle.dr_core.proofs.engine.Core.publish_fault.Goals as goal
 use Rattle.dr_core.proofs.engine.Core.publish_fault.Goals.{After-owner_of, then-s-self, else-s-self}

@@ -1,8 +1,8 @@
 use Rattle.std.proofs.Common.{◌≡◌, ◌<◌, length, slice_index, arith}
 use Rattle.std.proofs.lemmas.List.{get_or_read}
-use Rattle.dr_core.specs.Machine.{handlers}
-use Rattle.dr_core.specs.CoreView.{CoreView}
-use Rattle.dr_core.specs.Inside.{view_of}
+use Rattle.dr_core.specs.Meaning.Machine.{handlers}
+use Rattle.dr_core.specs.Calls.CoreView.{CoreView}
+use Rattle.dr_core.specs.Inside.Fields.{view_of}
 use Rattle.dr_core.proofs.Polling.{ready_is}
 use Rattle.dr_core.proofs.engine.Core.ready.Goals as goal
 

@@ -2,10 +2,10 @@ use Rattle.std.proofs.Common.{◌≡◌, ◌<◌, arith, true, false, ◌||◌, 
 use Rattle.std.specs.Prelude.{◌==◌}
 use Rattle.std.proofs.lemmas.Bool.{not-true, not-false}
 use Rattle.std.proofs.lemmas.List.{length-set}
-use Rattle.dr_graph.specs.Graph.{is_some_left, is_final_without}
-use Rattle.dr_core.specs.Machine.{handlers}
-use Rattle.dr_core.specs.CoreView.{CoreView, retired_in}
-use Rattle.dr_core.specs.Inside.{view_of}
+use Rattle.dr_graph.specs.Meaning.Graph.{is_some_left, is_final_without}
+use Rattle.dr_core.specs.Meaning.Machine.{handlers}
+use Rattle.dr_core.specs.Calls.CoreView.{CoreView, retired_in}
+use Rattle.dr_core.specs.Inside.Fields.{view_of}
 use Rattle.dr_core.proofs.Retiring.{told, others_told, not_final_step, last_step, retire_step, retire_claimable, retire_room}
 use Rattle.dr_core.proofs.Gating.{written_back}
 use Rattle.dr_core.proofs.Whole.{step_whole}

@@ -5,10 +5,10 @@ use Rattle.dr_seq.proofs.Sizes.{size_positive}
 use Rattle.dr_core.specs.declared.refusal.Refusal.TheVariants.{NotClaimed}
 use Rattle.dr_core.specs.declared.command.Command.TheVariants.{Write}
 use Rattle.dr_core.specs.declared.command.Reply.TheVariants.{Written}
-use Rattle.dr_core.specs.Shows.{IsStep}
-use Rattle.dr_core.specs.CoreView.{CoreView, known_at}
-use Rattle.dr_core.specs.Availability.{owner_at, is_published_at, write_fault}
-use Rattle.dr_core.specs.Inside.{view_of, kept_of}
+use Rattle.dr_core.specs.Calls.Shows.{IsStep}
+use Rattle.dr_core.specs.Calls.CoreView.{CoreView, known_at}
+use Rattle.dr_core.specs.Inside.Availability.{owner_at, is_published_at, write_fault}
+use Rattle.dr_core.specs.Inside.Fields.{view_of, kept_of}
 use Rattle.dr_core.proofs.Recents.{known_there, write_fault_is, writes_known, writes_available}
 use Rattle.dr_core.proofs.Whole.{step_whole}
 use Rattle.dr_core.proofs.Writing.{near, write_front, write_refused, write_step}

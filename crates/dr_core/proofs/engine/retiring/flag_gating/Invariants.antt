@@ -1,5 +1,5 @@
 use Rattle.std.proofs.Common.{◌≡◌, ◌<◌, ℕ, length}
-use Rattle.dr_graph.specs.Graph.{flagged, is_final_without}
+use Rattle.dr_graph.specs.Meaning.Graph.{flagged, is_final_without}
 use Rattle.dr_core.proofs.engine.retiring.flag_gating.Given as goal
 
 abbrev pub invariant-loop-h : goal.invariant-loop-h

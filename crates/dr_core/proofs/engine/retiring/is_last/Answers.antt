@@ -1,5 +1,5 @@
 use Rattle.std.proofs.Common.{ℕ, Bool, not, ◌==◌, ◌||◌, length, sym, ap, ◌∙◌}
-use Rattle.dr_graph.specs.Graph.{flagged}
+use Rattle.dr_graph.specs.Meaning.Graph.{flagged}
 use Rattle.dr_graph.proofs.Gating.{any_more, any_here}
 use Rattle.dr_core.proofs.engine.retiring.is_last.Goals as goal
 

@@ -1,5 +1,5 @@
 use Rattle.std.proofs.Common.{◌≡◌, ◌==◌, ◌||◌, false}
-use Rattle.dr_graph.specs.Graph.{flagged, is_some_left}
+use Rattle.dr_graph.specs.Meaning.Graph.{flagged, is_some_left}
 use Rattle.dr_core.proofs.engine.retiring.is_last.Given as goal
 
 abbrev pub invariant-loop-k : goal.invariant-loop-k

@@ -2,8 +2,8 @@ use Rattle.std.proofs.Common.{◌≡◌, ◌<◌, ℕ, List, [], ◌∷◌, true
 use Rattle.std.proofs.lemmas.Bool.{and_parts}
 use Rattle.std.specs.List.{list_all}
 use Rattle.dr_graph.specs.declared.edge.Edge.{Edge}
-use Rattle.dr_graph.specs.Name.{texts, is_named}
-use Rattle.dr_graph.specs.Order.{AreWithin}
+use Rattle.dr_graph.specs.Meaning.Name.{texts, is_named}
+use Rattle.dr_graph.specs.Meaning.Order.{AreWithin}
 use Rattle.dr_graph.proofs.Places.{place_named}
 use Rattle.dr_graph.proofs.Declaring.{within_push}
 use Rattle.dr_graph.proofs.builder.GraphBuilder.edge.Goals as goal

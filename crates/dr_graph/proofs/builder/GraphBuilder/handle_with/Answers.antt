@@ -1,6 +1,6 @@
 use Rattle.std.proofs.Common.{◌+◌, [], refl, ◌∙◌, length, arith}
-use Rattle.dr_graph.specs.Name.{texts, given}
-use Rattle.dr_graph.specs.KeptBuilder.{declaration_of}
+use Rattle.dr_graph.specs.Meaning.Name.{texts, given}
+use Rattle.dr_graph.specs.Inside.KeptBuilder.{declaration_of}
 use Rattle.dr_graph.proofs.NewNames.{new_all}
 use Rattle.dr_graph.proofs.Declaring.{within_more, declared_more, room_of}
 use Rattle.dr_graph.proofs.builder.GraphBuilder.handle_with.Goals as goal

@@ -1,6 +1,6 @@
 use Rattle.std.proofs.Common.{◌≡◌, List, [], ◌++◌, sym, ◌∙◌, ap, subst, String, Global}
-use Rattle.dr_graph.specs.Name.{Name, texts, new_names}
-use Rattle.dr_graph.specs.KeptGroup.{IsGroup}
+use Rattle.dr_graph.specs.Meaning.Name.{Name, texts, new_names}
+use Rattle.dr_graph.specs.Inside.KeptGroup.{IsGroup}
 use Rattle.dr_graph.proofs.Grouping.{group_joined, group_again}
 use Rattle.dr_graph.proofs.group.Group.joined.Goals as goal
 

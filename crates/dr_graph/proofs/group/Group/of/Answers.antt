@@ -1,7 +1,7 @@
 use Rattle.std.proofs.Common.{◌≡◌, ◌<◌, ℕ, Bor, List, [], ◌++◌, sym, ◌∙◌, ap, subst, length, arith}
 use Rattle.std.proofs.lemmas.List.{length-map}
-use Rattle.dr_graph.specs.Name.{Name, texts, given, new_names}
-use Rattle.dr_graph.specs.KeptGroup.{IsGroup}
+use Rattle.dr_graph.specs.Meaning.Name.{Name, texts, given, new_names}
+use Rattle.dr_graph.specs.Inside.KeptGroup.{IsGroup}
 use Rattle.dr_graph.proofs.Grouping.{group_new}
 use Rattle.dr_graph.proofs.group.Group.of.Goals as goal
 

@@ -1,5 +1,5 @@
 use Rattle.std.proofs.Common.{◌∙◌, ap}
-use Rattle.dr_shared.specs.Audit.{scripts_of}
+use Rattle.dr_shared.specs.Meaning.Audit.{scripts_of}
 use Rattle.dr_replay.proofs.Endings.{audit_finds}
 use Rattle.dr_replay.proofs.replay.lock.audited.Goals as goal
 

@@ -1,12 +1,12 @@
 use Rattle.std.proofs.Common.{◌≡◌, ◌-◌, ◌≤◌, map, take}
 use Rattle.csv.specs.Records.{fields_of}
-use Rattle.dr_graph.specs.Name.{given}
-use Rattle.dr_replay.specs.Meaning.Setup.{names_in}
+use Rattle.dr_graph.specs.Meaning.Name.{given}
+use Rattle.dr_replay.specs.Meaning.Setup.{names_after}
 use Rattle.dr_replay.specs.Inside.Shows.{legible}
 use Rattle.dr_replay.proofs.setup.handler_records.names_of.Given as goal
 
 abbrev pub invariant-loop-place : goal.invariant-loop-place
 invariant-loop-place l = record {
   one : 1 ≤ l.place;
-  so_far : given l.names.items ≡ map legible (take (l.place - 1) (names_in (fields_of l.row)));
+  so_far : given l.names.items ≡ map legible (take (l.place - 1) (names_after (fields_of l.row)));
 }

@@ -1,8 +1,8 @@
 use Rattle.std.proofs.Common.{◌≡◌, ◌-◌, ◌<◌, Err, false, min, ap, sym, ◌∙◌, inl, inr, length, slice_index, arith}
 use Rattle.std.proofs.lemmas.Bool.{cases_Bool, cases_lt}
 use Rattle.dr_core.specs.declared.command.Command.TheVariants.{Poll}
-use Rattle.dr_core.specs.CoreView.{retired_in}
-use Rattle.dr_core.specs.Machine.{handlers, available, step}
+use Rattle.dr_core.specs.Calls.CoreView.{retired_in}
+use Rattle.dr_core.specs.Meaning.Machine.{handlers, available, step}
 use Rattle.dr_core.proofs.Shown.{same_retired}
 use Rattle.dr_shared.proofs.Counts.{poll_gives, stranger_gives, retired_gives, other_gives}
 use Rattle.dr_shared.proofs.recorded.Recorded.batch_len_of.Goals as goal

@@ -1,6 +1,6 @@
 use Rattle.std.proofs.Common.{◌≡◌, ◌≤◌, List, arith, ℕ, length, take, sym, ◌∙◌}
 use Rattle.std.proofs.lemmas.List.{length-take-le}
-use Rattle.dr_core.specs.Runs.{count_in}
+use Rattle.dr_core.specs.Meaning.Runs.{count_in}
 use Rattle.dr_seq.specs.declared.event.Event.{Event}
 use Rattle.dr_shared.proofs.Counts.{offers_le_asked}
 use Rattle.dr_shared.proofs.Recording.{recorded_same, recorded_more, answered}

@@ -3,7 +3,7 @@ use Rattle.std.specs.Prelude.{◌==◌, nat_lt}
 use Rattle.std.proofs.lemmas.Bool.{cases_Bool, or_parts}
 use Rattle.std.proofs.lemmas.Bool.Decides.{nat_tests}
 use Rattle.dr_core.specs.declared.mode.Mode.{Mode}
-use Rattle.dr_core.specs.OpenFault.{has_bad_producers, is_bad_limit}
+use Rattle.dr_core.specs.Calls.OpenFault.{has_bad_producers, is_bad_limit}
 use Rattle.dr_shared.proofs.Recording.{recorded_none}
 use Rattle.dr_shared.proofs.recorded.Recorded.open.Goals as goal
 

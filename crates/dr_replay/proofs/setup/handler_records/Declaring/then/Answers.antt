@@ -1,6 +1,6 @@
 use Rattle.std.proofs.Common.{refl}
 use Rattle.std.proofs.lemmas.Result.{err_from_is_err_and}
-use Rattle.dr_graph.specs.Name.{given}
+use Rattle.dr_graph.specs.Meaning.Name.{given}
 use Rattle.dr_replay.proofs.Declaring.{then_does, then_refused}
 use Rattle.dr_replay.proofs.setup.handler_records.Declaring.then.Goals as goal
 

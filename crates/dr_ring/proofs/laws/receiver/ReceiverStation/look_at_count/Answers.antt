@@ -1,6 +1,6 @@
 use Rattle.std.proofs.Common.{rules, refl, sym, subst}
 use Rattle.std.specs.Prelude.{Contains}
-use Rattle.dr_graph.specs.Graph.{upstreams_of}
+use Rattle.dr_graph.specs.Meaning.Graph.{upstreams_of}
 use Rattle.dr_ring.specs.Calls.Ends.{ReceiverEnd}
 use Rattle.dr_ring.proofs.Allowed.{receiver_looks_at_count}
 use Rattle.dr_ring.proofs.laws.receiver.ReceiverStation.look_at_count.Goals as goal

@@ -1,6 +1,6 @@
 use Rattle.std.proofs.Common.{rules, arith, refl, sym, subst, ap, ◌<◌}
 use Rattle.std.specs.Prelude.{Contains}
-use Rattle.dr_graph.specs.Graph.{finals}
+use Rattle.dr_graph.specs.Meaning.Graph.{finals}
 use Rattle.dr_ring.specs.Meaning.Shape.{Shape, handlers_of}
 use Rattle.dr_ring.specs.Calls.Ends.{SenderEnd}
 use Rattle.dr_ring.specs.Inside.Seats.{sender_of}

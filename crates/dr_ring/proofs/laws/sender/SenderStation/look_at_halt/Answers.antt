@@ -1,10 +1,10 @@
 use Rattle.std.proofs.Common.{rules, refl, sym, subst, ◌<◌}
-use Rattle.dr_ring.specs.Meaning.Records.{HasRoom}
+use Rattle.dr_ring.specs.Meaning.Records.{SeesRoom}
 use Rattle.dr_ring.specs.Calls.Ends.{SenderEnd}
 use Rattle.dr_ring.proofs.Allowed.{sender_looks_at_halt}
 use Rattle.dr_ring.proofs.laws.sender.SenderStation.look_at_halt.Goals as goal
 
 pub load-requires : goal.load-requires
 load-requires g c =
-    let room = subst (λ (e : SenderEnd). 0 < c.args.more → HasRoom e.knows.plan e.knows c.args.more) (sym c.self.view_is) c.requires.room in
+    let room = subst (λ (e : SenderEnd). 0 < c.args.more → SeesRoom e.knows.plan e.knows c.args.more) (sym c.self.view_is) c.requires.room in
     (search rules, search rules, sender_looks_at_halt _ _ _ c.args.more _ c.requires.named c.self.invariant.end refl room)

@@ -1,5 +1,5 @@
 use Rattle.std.proofs.Common.{rules, ℕ, List, arith, ◌∙◌, sym, ap, subst, length, get_or}
-use Rattle.dr_graph.specs.Graph.{finals}
+use Rattle.dr_graph.specs.Meaning.Graph.{finals}
 use Rattle.dr_ring.specs.Meaning.Shape.{Shape}
 use Rattle.dr_ring.specs.Calls.Plans.{IsPlan}
 use Rattle.dr_ring.proofs.Stations.{loaded_more}

@@ -1,0 +1,8 @@
+-- What public contracts cite: what a core and an end show, and what their calls answer and leave.
+pub mod CoreView
+pub mod Shows
+pub mod Refusal
+pub mod OpenFault
+pub mod Trouble
+pub mod Handling
+pub mod Ends

@@ -1,0 +1,89 @@
+-- What a core's fields keep.
+use Rattle.std.specs.Prelude.{◌≡◌, ℕ, ◌+◌, ◌^◌, ◌<◌, ◌≤◌, Bool, true, false, List, length, Contains, slice_index}
+use Rattle.dr_seq.specs.Rounds.{is_marked}
+use Rattle.dr_seq.specs.Size.{IsSize}
+use Rattle.dr_core.specs.declared.engine.Core.TheInside.{Inside}
+use Rattle.dr_graph.specs.Meaning.Name.{Name}
+use Rattle.dr_graph.specs.Meaning.Graph.{flagged, upstreams_of, finals_without, IsGraph}
+use Rattle.dr_core.specs.Meaning.Machine.{Setup, handlers, opening, setup_of}
+use Rattle.dr_core.specs.Calls.CoreView.{CoreView, AreGating, retired_in, recent_of}
+use Rattle.dr_core.specs.Calls.Shows.{Shows}
+use Rattle.dr_core.specs.Meaning.Runs.{IsReached}
+use Rattle.dr_core.specs.Inside.Availability.{KeptBySlot, slot_known, HasOwners, is_ahead}
+
+abbrev pub kept_of : Inside → KeptBySlot
+kept_of a = record { mode = a.mode; front = a.front; filled = a.filled; published = a.published; written = a.written; owners = a.owners.items; events = a.events }
+
+abbrev pub view_of : Inside → CoreView
+view_of a = record {
+  setup = setup_of a.graph.upstreams a.size a.mode a.limit;
+  names = a.graph.names;
+  next = a.next;
+  front = a.front;
+  taken = a.taken.items;
+  completed = a.completed.items;
+  halted = a.halted;
+  retired = a.retired.items;
+  recent = recent_of (slot_known (kept_of a)) a.next a.size;
+}
+
+-- every core's setup: a graph, a size, and a limit that lets no sum of counts wrap
+pub record IsSetup (c : Setup) : Type 0 where
+  pub graph : IsGraph c.upstreams
+  pub size : IsSize c.size
+  pub limit : c.limit ≤ 2 ^ 62
+
+-- the counts of handlers: each took no more than lies before the front and than each of its upstreams completed, and completed no more than it took
+pub record AreInOrder (c : Setup) (upto : ℕ) (taken completed : List ℕ) : Type 0 where
+  pub taken_len : length taken ≡ handlers c
+  pub completed_len : length completed ≡ handlers c
+  pub in_front : (h : ℕ) → slice_index taken h ≤ upto
+  pub took : (h : ℕ) → slice_index completed h ≤ slice_index taken h
+  pub after : (h u : ℕ) → Contains (upstreams_of c.upstreams h) u → slice_index taken h ≤ slice_index completed u
+
+-- the claims: they are within the limit, and at most a round beyond what each handler that is left completed; one is left
+pub record AreInBounds (c : Setup) (claims : ℕ) (completed : List ℕ) (gone : ℕ → Bool) : Type 0 where
+  pub claimed : claims ≤ c.limit
+  pub room : (h : ℕ) → h < handlers c → gone h ≡ false → claims ≤ c.size + slice_index completed h
+  pub left : (h : ℕ) × (h < handlers c) × (gone h ≡ false)
+
+-- what holds of every core, however it keeps the recent sequences; since it is reached, its counts are those of a state of the machine
+pub record IsWhole (v : CoreView) : Type 0 where
+  pub setup : IsSetup v.setup
+  pub open setup use *
+  pub retired : length v.retired ≡ handlers v.setup
+  pub reached : IsReached v
+  pub front : v.front ≤ v.next
+  pub order : AreInOrder v.setup v.front v.taken v.completed
+  pub open order use *
+  pub bounds : AreInBounds v.setup v.next v.completed (retired_in v)
+  pub open bounds use *
+
+-- a slot a sequence in each list, and no mark of a sequence that is not claimed yet
+pub record IsAvailable (a : KeptBySlot) (size next : ℕ) : Type 0 where
+  pub published : length a.published ≡ size
+  pub written : length a.written ≡ size
+  pub owners : HasOwners a.mode a.owners size
+  pub events : length a.events ≡ size
+  pub filled : a.filled ≤ next
+  pub unpublished : (s : ℕ) → next ≤ s → is_ahead a.mode a.published s ≡ false
+  pub unwritten : (s : ℕ) → next ≤ s → is_marked a.written s ≡ false
+
+-- what a claim up to a sequence needs beside its producer and its count: that nothing is halted, that the limit is not passed, and that each final of those that are left completed what lay in the slots
+pub record IsClaimable (c : Setup) (next : ℕ) (halted : Bool) (gone : ℕ → Bool) (completed : List ℕ) (upto : ℕ) : Type 0 where
+  pub going : halted ≡ true → upto ≤ next
+  pub limit : upto ≤ c.limit
+  pub room : (f : ℕ) → Contains (finals_without c.upstreams gone) f → upto ≤ c.size + slice_index completed f
+
+-- the two rounds, the flags of those that gate, and a remembered sequence up to which nothing refuses a claim
+pub record IsKept (a : Inside) : Type 0 where
+  pub whole : IsWhole (view_of a)
+  pub available : IsAvailable (kept_of a) a.size a.next
+  pub gating : AreGating a.gating.items a.graph.upstreams (flagged a.retired.items)
+  pub claimable : IsClaimable (view_of a).setup a.next a.halted (flagged a.retired.items) a.completed.items a.claimable
+
+-- a core as it is opened
+pub record IsOpened (v : CoreView) (c : Setup) (named : List Name) : Type 0 where
+  pub setup : v.setup ≡ c
+  pub names : v.names ≡ named
+  pub shows : Shows v (opening c)

@@ -1,0 +1,2 @@
+-- What public contracts cite besides: the faults, by number and name.
+pub mod Fault

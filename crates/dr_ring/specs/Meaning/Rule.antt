@@ -1,0 +1,93 @@
+-- The rule of a ring, which holds between any two steps.
+use Rattle.std.specs.Prelude.{◌≡◌, ℕ, ◌+◌, ◌<◌, ◌≤◌, ◌⊎◌, ◌==◌, if◌then◌else◌, Bool, true, List, length, take, slice_index, slice_index_or, Option, Some, None, Contains}
+use mathlib.Core.Option.{some}
+use lib.ListN.{get_elem?}
+use Rattle.dr_seq.specs.declared.event.Event.{Event}
+use Rattle.dr_seq.specs.Event.{no_event}
+use Rattle.dr_graph.specs.Meaning.Graph.{upstreams_of, finals, IsGraph}
+use Rattle.dr_ring.specs.Meaning.Shape.{Shape, handlers_of}
+use Rattle.dr_ring.specs.Meaning.Words.{cursor_word, closed_word, halt_word, count_word, payload_start, payload_word, words_of}
+use Rattle.dr_ring.specs.Meaning.Records.{claimed}
+use Rattle.dr_ring.specs.declared.record.Look.{Look}
+use Rattle.dr_ring.specs.declared.record.HalfWrite.{HalfWrite}
+use Rattle.dr_ring.specs.declared.record.SenderRecord.{SenderRecord}
+use Rattle.dr_ring.specs.declared.record.ReceiverRecord.{ReceiverRecord}
+use Rattle.dr_ring.specs.declared.record.HalterRecord.{HalterRecord}
+
+-- the words of a ring, and what each end knows
+pub record World : Type 0 where
+  pub words : List ℕ
+  pub sender : SenderRecord
+  pub receivers : List ReceiverRecord
+  pub halter : HalterRecord
+
+-- counts: the cursor is the number of published events, and what is claimed is within the limit
+pub record CountsFit (k : Shape) (words : List ℕ) (published claimed : ℕ) : Type 0 where
+  pub cursor : slice_index words cursor_word ≡ published
+  pub limit : claimed ≤ k.limit
+
+-- room: what is claimed is at most a round beyond what each final handler completed
+abbrev pub Room : Shape → List ℕ → ℕ → Type 0
+Room k words claimed = (f : ℕ) → Contains (finals k.upstreams) f → claimed ≤ k.size + slice_index words (count_word f)
+
+-- the first word of an event that is being written anew may be the new one's
+abbrev pub first_stored : Option HalfWrite → ℕ → Event → ℕ
+first_stored None s event = event.first
+first_stored (Some half) s event = if half.sequence == s then half.first else event.first
+
+-- payload: the slot of each published event that no claim has reached again holds it, and so does the slot of each open write
+pub record Payload (k : Shape) (words : List ℕ) (published : List Event) (pending : List (Option Event)) (half : Option HalfWrite) : Type 0 where
+  pub events : (s : ℕ) → s < length published → length published + length pending ≤ s + k.size
+      → (slice_index words (payload_word k s 0) ≡ (slice_index_or published s no_event).first) × (slice_index words (payload_word k s 1) ≡ (slice_index_or published s no_event).second)
+  pub writes : (i : ℕ) (event : Event) → slice_index_or pending i None ≡ Some event
+      → (slice_index words (payload_word k (length published + i) 0) ≡ first_stored half (length published + i) event) × (slice_index words (payload_word k (length published + i) 1) ≡ event.second)
+  pub halves : (x : HalfWrite) → half ≡ Some x → (length published ≤ x.sequence) × (x.sequence < length published + length pending) × (slice_index words (payload_word k x.sequence 0) ≡ x.first)
+
+-- halt and close: who halted or closed the ring finds it so, and a closed ring is halted, with every claimed sequence published
+pub record HaltAndClose (words : List ℕ) (pending : ℕ) (sender_halted sender_closed halter_halted : Bool) : Type 0 where
+  pub halt : slice_index words halt_word ≤ 1
+  pub close : slice_index words closed_word ≤ 1
+  pub by_sender : sender_halted ≡ true → slice_index words halt_word ≡ 1
+  pub by_halter : halter_halted ≡ true → slice_index words halt_word ≡ 1
+  pub closed : sender_closed ≡ true → slice_index words closed_word ≡ 1
+  -- and where it is so, one of them knows it
+  pub known_halt : slice_index words halt_word ≡ 1 → (sender_halted ≡ true) ⊎ (halter_halted ≡ true)
+  pub known_close : slice_index words closed_word ≡ 1 → sender_closed ≡ true
+  pub complete : slice_index words closed_word ≡ 1 → (slice_index words halt_word ≡ 1) × (pending ≡ 0)
+
+-- looks: each was at a word that only rises, and found at most what is there now
+pub record IsPast (k : Shape) (words : List ℕ) (x : Look) : Type 0 where
+  pub rises : x.word < payload_start k
+  pub before : x.value ≤ slice_index words x.word
+
+abbrev pub ArePast : Shape → List ℕ → List Look → Type 0
+ArePast k words looks = (i : ℕ) (x : Look) → get_elem? looks i ≡ some x → IsPast k words x
+
+-- received lists: what a receiver received is the beginning of what is published; it took no more than each upstream completed, and completed no more than it took
+pub record ReceiverKept (k : Shape) (words : List ℕ) (published : List Event) (h : ℕ) (r : ReceiverRecord) : Type 0 where
+  pub plan : r.plan ≡ k
+  pub number : r.number ≡ h
+  pub count : slice_index words (count_word h) ≡ r.completed
+  pub completed : r.completed ≤ length r.received
+  pub taken : length r.received ≤ length published
+  pub after : (u : ℕ) → Contains (upstreams_of k.upstreams h) u → length r.received ≤ slice_index words (count_word u)
+  pub beginning : r.received ≡ take (length r.received) published
+  -- a first word that is loaded is that of the next event
+  pub half : (first : ℕ) → r.half ≡ Some first → (length r.received < length published) × (first ≡ (slice_index_or published (length r.received) no_event).first)
+  -- who was told that the ring drained has all of it
+  pub told : r.told ≡ true → (slice_index words closed_word ≡ 1) × (length published ≤ length r.received)
+  pub looks : ArePast k words r.looks
+
+pub record KeepsRule (k : Shape) (w : World) : Type 0 where
+  pub graph : IsGraph k.upstreams
+  pub some_slot : 0 < k.size
+  pub wide : length w.words ≡ words_of k
+  pub ends : length w.receivers ≡ handlers_of k
+  pub sender_plan : w.sender.plan ≡ k
+  pub halter_plan : w.halter.plan ≡ k
+  pub counts : CountsFit k w.words (length w.sender.sent.published) (claimed w.sender)
+  pub received : (h : ℕ) (r : ReceiverRecord) → get_elem? w.receivers h ≡ some r → ReceiverKept k w.words w.sender.sent.published h r
+  pub room : Room k w.words (claimed w.sender)
+  pub payload : Payload k w.words w.sender.sent.published w.sender.sent.pending w.sender.half
+  pub flags : HaltAndClose w.words (length w.sender.sent.pending) w.sender.halted w.sender.closed w.halter.halted
+  pub looks : ArePast k w.words w.sender.looks

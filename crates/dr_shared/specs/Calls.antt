@@ -1,0 +1,6 @@
+-- What public contracts cite besides: the lock, and what is answered.
+pub mod Lock
+pub mod AuditFault
+pub mod Fault
+pub mod Stops
+pub mod Waits
