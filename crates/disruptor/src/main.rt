@@ -2,10 +2,9 @@
 //! goes to standard output, and the line of a fault to standard error.
 #![tactic(auto)]
 
-use dr_replay::{
-    By, Counted, FileFault, LineFault, Plan, ReplayFault, drive, plan, replay_lock, replay_plain,
-    replay_ring,
-};
+use dr_command_line::{By, LineFault, Plan, plan};
+use dr_drive::drive;
+use dr_replay::{Counted, FileFault, ReplayFault, replay_lock, replay_plain, replay_ring};
 use dr_seq::Size;
 use dr_shared::OpenGate;
 use std::fs::File;

@@ -7,8 +7,8 @@ use Rattle.std.specs.declared.sync.ledger.Ledger.{Ghosts}
 use Rattle.dr_seq.specs.contracts.event.Event as Event
 use Rattle.dr_seq.specs.contracts.size.Size as Size
 use Rattle.dr_shared.proofs.Sent.{end_send, shared_sync}
-use Rattle.dr_replay.specs.contracts.replay.lock_workers.Around as Around
-use Rattle.dr_replay.specs.contracts.replay.lock_workers.Task as Task
+use Rattle.dr_replay.specs.contracts.lock_workers.Around as Around
+use Rattle.dr_replay.specs.contracts.lock_workers.Task as Task
 
 pub size_sync : IsSync Size.the_row
 size_sync = search sendable depth 30

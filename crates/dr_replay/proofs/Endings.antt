@@ -13,9 +13,9 @@ use Rattle.dr_shared.specs.declared.fault.WorkFault.{WorkFault}
 use Rattle.dr_shared.specs.declared.fault.WorkFault.TheVariants as work
 use Rattle.dr_files.specs.declared.fault.FileFault.{FileFault}
 use Rattle.dr_files.specs.declared.fault.FileFault.TheVariants as file
-use Rattle.dr_replay.specs.declared.replay.fault.ReplayFault.{ReplayFault}
-use Rattle.dr_replay.specs.declared.replay.fault.ReplayFault.TheVariants as fault
-use Rattle.dr_replay.specs.declared.replay.ring.Ran.{Ran}
+use Rattle.dr_replay.specs.declared.fault.ReplayFault.{ReplayFault}
+use Rattle.dr_replay.specs.declared.fault.ReplayFault.TheVariants as fault
+use Rattle.dr_replay.specs.declared.ring.Ran.{Ran}
 use Rattle.dr_replay.specs.Meaning.Scripts.{scripts_in}
 use Rattle.dr_replay.specs.Calls.Workers.{IsFirstOf, IsMemory, IsOfAudit, IsOfLock, IsOfMerge, IsOfWorkers, audit_fault, endings_of, lock_endings, replay_fault, ring_workers}
 

@@ -6,7 +6,7 @@ use Rattle.dr_seq.specs.declared.event.Event.{Event}
 use Rattle.dr_accounts.specs.declared.operation.Operation.{Operation}
 use Rattle.dr_replay.specs.Meaning.EventFile.{events_in, is_operation, operation_in}
 use Rattle.dr_accounts.specs.Operations.{event_for}
-use Rattle.dr_replay.specs.Meaning.Records.{Record}
+use Rattle.dr_records.specs.Records.{Record}
 
 -- a file whose first record, the k-th, was an operation or none, before others
 abbrev pub events_with : ℕ → Option Operation → Result (List Event) ℕ → Result (List Event) ℕ

@@ -2,4 +2,3 @@
 pub mod Replayed
 pub mod ReplayFaults
 pub mod Workers
-pub mod Plans

@@ -1,7 +1,3 @@
--- What a file says: the first to read.
-pub mod Records
-pub mod Setup
-pub mod Commands
-pub mod DriveText
+-- What a file of operations says: the first to read.
 pub mod EventFile
 pub mod Scripts

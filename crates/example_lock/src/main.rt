@@ -5,11 +5,12 @@
 ghost use Rattle.std.specs.Prelude.{◌≡◌};
 ghost use denote.Param.Send.{IsSync};
 
-use dr_core::{Command, Handler, MAX_LIMIT, Mode};
+use dr_core::{Handler, MAX_LIMIT, Mode};
 use dr_graph::GraphBuilder;
 use dr_seq::{Event, Size};
 use dr_shared::{
-    End, LockedInlet, LockedOutlet, OpenGate, Recorded, Shared, audit, consume, finish, produce,
+    End, LockedInlet, LockedOutlet, OpenGate, Recorded, Shared, audit, consume, finish, halt,
+    produce,
 };
 use std::alloc::Global;
 use std::marker::Brand;
@@ -66,15 +67,6 @@ fn receive<L: Ledger, R: Wait>(rt: &R, shared: &Shared<L>, end: End<L>, h: usize
     let mut counter = Counter { seen: 0 };
     let _fault = consume(rt, &mut outlet, &OpenGate, 0, &mut counter, &mut buffer);
     outlet.into_end()
-}
-
-/// Halts the exchange, once there is memory for the entry.
-fn halt<L: Ledger, R: Wait>(rt: &R, shared: &Shared<L>, end: &mut End<L>) {
-    for _ in rt.forever() {
-        if shared.call(rt, end, Command::Halt, &mut []).is_ok() {
-            return;
-        }
-    }
 }
 
 /// Starts a thread a worker, halts once the producers are joined, and gives back every end.

@@ -5,9 +5,10 @@ ghost use denote.Param.Send.{IsSync};
 
 use crate::fault::Fault;
 use crate::sum::Sum;
-use dr_core::Command;
 use dr_seq::Event;
-use dr_shared::{End, LockedInlet, LockedOutlet, OpenGate, Shared, Waiting, consume, produce};
+use dr_shared::{
+    End, LockedInlet, LockedOutlet, OpenGate, Shared, consume, halt, join_all, produce,
+};
 use std::alloc::{AllocError, Global};
 use std::sync::Wait;
 use std::sync::ledger::Ledger;
@@ -96,28 +97,13 @@ fn handle<L: Ledger, R: Wait>(around: &Around<'_, L, R>, task: Task<L>) -> Handl
     }
 }
 
-/// Halts the exchange, once there is memory for the call.
-fn halt<L: Ledger, R: Wait>(around: &Around<'_, L, R>, end: &mut End<L>) {
-    let mut waiting = Waiting::new(1);
-    for _ in around.rt.forever() {
-        match around.shared.call(around.rt, end, Command::Halt, &mut []) {
-            Ok(_) => return,
-            Err(_) => waiting.wait(),
-        }
-    }
-}
-
 /// What threads give back, where so many could be started.
-fn join_all<T: Drop, R: Threads>(
-    rt: &R,
-    alloc: Global,
+fn joined<T: Drop, L: Ledger, R: Threads + Wait>(
+    around: &Around<'_, L, R>,
     started: Vec<JoinHandle<T>>,
     count: usize,
 ) -> Result<Vec<T>, Fault> {
-    let mut all = Vec::with_capacity(alloc, started.len())?;
-    for worker in started {
-        all.push(worker.join(rt))?;
-    }
+    let all = join_all(around.rt, around.alloc, started)?;
     if all.len() < count {
         return Err(Fault::Thread);
     }
@@ -144,7 +130,7 @@ fn send_all<L: Ledger + Send + Sync, R: Threads + Wait + Sync>(
                     started.push(worker)?;
                 }
             }
-            join_all(around.rt, around.alloc, started, count)
+            joined(around, started, count)
         },
     )
 }
@@ -180,8 +166,8 @@ pub fn exchange<L: Ledger + Send + Sync, R: Threads + Wait + Sync>(
             } else {
                 Err(Fault::Thread)
             };
-            halt(around, &mut halter);
-            let handled = join_all(around.rt, around.alloc, started, count)?;
+            halt(around.rt, around.shared, &mut halter);
+            let handled = joined(around, started, count)?;
             Ok(Joined {
                 halter,
                 sent: sent?,

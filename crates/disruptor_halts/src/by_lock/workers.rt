@@ -11,7 +11,7 @@ use crate::signs::Signs;
 use crate::stretch::Stretch;
 use dr_core::{Command, Refusal, Reply};
 use dr_seq::Event;
-use dr_shared::{End, LockedInlet, LockedOutlet, Shared, Waiting};
+use dr_shared::{End, LockedInlet, LockedOutlet, Shared, halt, join_all};
 use std::alloc::Global;
 use std::sync::Wait;
 use std::sync::ledger::Ledger;
@@ -88,17 +88,6 @@ pub struct Joined<L: Ledger> {
     pub handled: Vec<Handled<L>>,
 }
 
-/// Halts the exchange, once there is memory for the call.
-fn halt<L: Ledger, R: Wait>(around: &Around<'_, L, R>, end: &mut End<L>) {
-    let mut waiting = Waiting::new(1);
-    for _ in around.rt.forever() {
-        match around.shared.call(around.rt, end, Command::Halt, &mut []) {
-            Ok(_) => return,
-            Err(_) => waiting.wait(),
-        }
-    }
-}
-
 /// Asks that a handler is retired, and says whether it takes more.
 fn retire<L: Ledger, R: Wait>(
     around: &Around<'_, L, R>,
@@ -132,7 +121,7 @@ impl<L: Ledger> Producer<L> {
                 break;
             }
             if random.below(MOST_BEFORE_HALT) == 0 {
-                halt(around, &mut end);
+                halt(around.rt, around.shared, &mut end);
             }
         }
         let script = match ended {
@@ -173,7 +162,7 @@ impl<L: Ledger> Handler<L> {
                 break;
             }
             if random.below(MOST_BEFORE_HALT) == 0 {
-                halt(around, &mut end);
+                halt(around.rt, around.shared, &mut end);
             }
         }
         let received = match ended {
@@ -213,11 +202,8 @@ fn publish<L: Ledger + Send + Sync, R: Threads + Wait + Sync>(
             for _ in 0..random.below(20000) {
                 random.pause();
             }
-            halt(around, &mut halter);
-            let mut sent = Vec::with_capacity(around.alloc, count)?;
-            for worker in started {
-                sent.push(worker.join(around.rt))?;
-            }
+            halt(around.rt, around.shared, &mut halter);
+            let sent = join_all(around.rt, around.alloc, started)?;
             if sent.len() < count {
                 return Err(Fault::Thread);
             }
@@ -256,10 +242,7 @@ pub fn exchange<L: Ledger + Send + Sync, R: Threads + Wait + Sync>(
             if published.is_err() || started.len() < count {
                 around.signs.leave();
             }
-            let mut handled = Vec::with_capacity(around.alloc, count)?;
-            for worker in started {
-                handled.push(worker.join(around.rt))?;
-            }
+            let handled = join_all(around.rt, around.alloc, started)?;
             if handled.len() < count {
                 return Err(Fault::Thread);
             }

@@ -3,8 +3,8 @@ use Rattle.std.specs.Prelude.{ℕ, List, ◌++◌, codes, decimal}
 use Rattle.dr_shared.specs.Calls.Fault.{name_of}
 use Rattle.dr_shared.specs.declared.audit_fault.AuditFault.TheVariants as audit
 use Rattle.dr_files.specs.Faults.{fault_line, fault_status}
-use Rattle.dr_replay.specs.declared.replay.fault.ReplayFault.{ReplayFault}
-use Rattle.dr_replay.specs.declared.replay.fault.ReplayFault.TheVariants as fault
+use Rattle.dr_replay.specs.declared.fault.ReplayFault.{ReplayFault}
+use Rattle.dr_replay.specs.declared.fault.ReplayFault.TheVariants as fault
 
 abbrev pub replay_line : ReplayFault → List ℕ
 replay_line (fault.File f) = fault_line f

@@ -10,11 +10,11 @@ use Rattle.dr_files.specs.declared.fault.Cause.TheVariants.{BadRecord}
 use Rattle.dr_files.specs.declared.fault.FileFault.{FileFault}
 use Rattle.dr_files.specs.declared.fault.FileFault.TheVariants as file
 use Rattle.dr_replay.specs.Meaning.EventFile.{events_in, events_of}
-use Rattle.dr_replay.specs.Meaning.Records.{Record}
+use Rattle.dr_records.specs.Records.{Record}
 use Rattle.dr_replay.specs.Meaning.Scripts.{scripts_in}
 use Rattle.dr_replay.specs.Calls.Workers.{AuditFinds}
-use Rattle.dr_replay.specs.declared.replay.fault.ReplayFault.{ReplayFault}
-use Rattle.dr_replay.specs.declared.replay.fault.ReplayFault.TheVariants as fault
+use Rattle.dr_replay.specs.declared.fault.ReplayFault.{ReplayFault}
+use Rattle.dr_replay.specs.declared.fault.ReplayFault.TheVariants as fault
 
 -- a file of operations says the report of its events, as one line of text, or is at fault at its first bad record
 abbrev pub reported : Result (List Event) ℕ → Said

@@ -15,10 +15,10 @@ use Rattle.dr_core.specs.Meaning.Machine.{handlers}
 use Rattle.dr_files.specs.declared.fault.FileFault.{FileFault}
 use Rattle.dr_files.specs.declared.fault.FileFault.TheVariants as file
 use Rattle.dr_replay.specs.Meaning.Scripts.{scripts_in}
-use Rattle.dr_replay.specs.declared.replay.fault.ReplayFault.{ReplayFault}
-use Rattle.dr_replay.specs.declared.replay.fault.ReplayFault.TheVariants as fault
+use Rattle.dr_replay.specs.declared.fault.ReplayFault.{ReplayFault}
+use Rattle.dr_replay.specs.declared.fault.ReplayFault.TheVariants as fault
 use Rattle.dr_accounts.specs.Keeping.{Keeps, error_of}
-use Rattle.dr_replay.specs.declared.replay.ring.Ran.{Ran}
+use Rattle.dr_replay.specs.declared.ring.Ran.{Ran}
 use Rattle.dr_accounts.specs.Report.{journal_part, replica_part, business_part}
 
 -- what came of an exchange: the sender published the first of the events, all of them where it has no fault, and each worker keeps its promise

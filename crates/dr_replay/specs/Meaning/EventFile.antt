@@ -6,9 +6,8 @@ use Rattle.dr_seq.specs.declared.event.Event.{Event}
 use Rattle.dr_accounts.specs.declared.operation.Operation.{Operation}
 use Rattle.dr_accounts.specs.declared.operation.Movement.{Movement}
 use Rattle.dr_accounts.specs.declared.operation.Movement.TheVariants.{Deposit, Withdraw, Transfer}
-use Rattle.dr_replay.specs.Meaning.Commands.{◌>>=◌}
 use Rattle.dr_accounts.specs.Operations.{event_for}
-use Rattle.dr_replay.specs.Meaning.Records.{Record, field, number_at, records_of}
+use Rattle.dr_records.specs.Records.{Record, ◌>>=◌, field, number_at, records_of}
 
 abbrev pub below : ℕ → Option ℕ → Option ℕ
 below bound None = None

@@ -1,8 +1,7 @@
 //! Reports of merges, behind the lock.
 
-use crate::By;
 use crate::tests::files::{OF_TWO_PRODUCERS, text_of};
-use crate::tests::ways::{by_plain, replay_by};
+use crate::tests::ways::{Way, by_plain, replay_by};
 use dr_shared::OpenGate;
 use std::alloc::Global;
 use std::process::Abort;
@@ -45,7 +44,7 @@ fn check_merge(
     producers: &[&str],
     size: u64,
 ) -> Result<(), Fail> {
-    let replayed = replay_by(rt, alloc, By::Lock, input, size, &OpenGate)?;
+    let replayed = replay_by(rt, alloc, Way::Lock, input, size, &OpenGate)?;
     replayed.result?;
     let Ok(report) = std::str::from_utf8(replayed.output.as_slice()) else {
         return Err("a text".into());

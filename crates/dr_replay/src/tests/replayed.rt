@@ -2,9 +2,9 @@
 
 use crate::tests::files::{File, OF_ONE_PRODUCER, OF_TWO_PRODUCERS, text_of};
 use crate::tests::ways::by_plain;
-use crate::tests::{Row, fault_line, status_of};
 use crate::{Counted, replay_plain};
 use dr_seq::Size;
+use file_testing::{Row, fault_line, status_of};
 use std::alloc::Global;
 use std::process::Abort;
 use std::test::Fail;

@@ -1,10 +1,10 @@
 //! Replays, by each way, whose reader or writer fails at its k-th call, for every k until a replay meets no
 //! failure.
 
-use crate::tests::failing::{call_on, calls_of, failing_at, meets_failure, slow_at, whole_at};
-use crate::tests::ways::{ALL, Streamed, replay_streams};
-use crate::{By, FileFault, ReplayFault};
+use crate::tests::ways::{ALL, Streamed, Way, replay_streams};
+use crate::{FileFault, ReplayFault};
 use dr_shared::OpenGate;
+use file_testing::{call_on, calls_of, failing_at, meets_failure, slow_at, whole_at};
 use std::alloc::Global;
 use std::io::Write;
 use std::process::Abort;
@@ -26,7 +26,7 @@ const MOST_CALLS: u64 = 1000;
 fn meets_failed_read(
     rt: &(impl Abort + Threads + Wait + Sync),
     alloc: Global,
-    by: By,
+    by: Way,
     fails_at: u64,
 ) -> Result<bool, Fail> {
     let input = failing_at(INPUT, fails_at);
@@ -49,7 +49,7 @@ fn meets_failed_read(
 fn check_reads(
     rt: &(impl Abort + Threads + Wait + Sync),
     alloc: Global,
-    by: By,
+    by: Way,
 ) -> Result<(), Fail> {
     for fails_at in 1..MOST_CALLS {
         if !meets_failed_read(rt, alloc, by, fails_at)? {
@@ -74,7 +74,7 @@ fn reads_that_fail(rt: HostRuntime) -> Result<(), Fail> {
 fn meets_failed_write(
     rt: &(impl Abort + Threads + Wait + Sync),
     alloc: Global,
-    by: By,
+    by: Way,
     fails_at: u64,
     takes_nothing: bool,
 ) -> Result<bool, Fail> {
@@ -97,7 +97,7 @@ fn meets_failed_write(
 fn check_writes(
     rt: &(impl Abort + Threads + Wait + Sync),
     alloc: Global,
-    by: By,
+    by: Way,
 ) -> Result<(), Fail> {
     for fails_at in 1..MOST_CALLS {
         let fails = meets_failed_write(rt, alloc, by, fails_at, false)?;
@@ -122,7 +122,7 @@ fn writes_that_fail(rt: HostRuntime) -> Result<(), Fail> {
 fn check_whole_writes(
     rt: &(impl Abort + Threads + Wait + Sync),
     alloc: Global,
-    by: By,
+    by: Way,
 ) -> Result<(), Fail> {
     for (fails_at, taken) in [(1, ""), (2, OUTPUT)] {
         let output = whole_at(alloc, fails_at);

@@ -1,6 +1,6 @@
 //! A replay by each of its ways.
 
-use crate::{By, Counted, ReplayFault, replay_lock, replay_plain, replay_ring};
+use crate::{Counted, ReplayFault, replay_lock, replay_plain, replay_ring};
 use dr_seq::Size;
 use dr_shared::Gate;
 use std::alloc::Global;
@@ -9,10 +9,18 @@ use std::sync::Wait;
 use std::test::Fail;
 use std::thread::Threads;
 
-// Every way, and those with threads.
-pub const ALL: [By; 3] = [By::Plain, By::Lock, By::Ring];
+// By which exchange a replay goes.
+#[derive(Clone, Copy)]
+pub enum Way {
+    Plain,
+    Lock,
+    Ring,
+}
 
-pub const WITH_THREADS: [By; 2] = [By::Lock, By::Ring];
+// Every way, and those with threads.
+pub const ALL: [Way; 3] = [Way::Plain, Way::Lock, Way::Ring];
+
+pub const WITH_THREADS: [Way; 2] = [Way::Lock, Way::Ring];
 
 // What a replay left of its reader and its writer, and how it ended.
 #[derive(Drop)]
@@ -26,7 +34,7 @@ pub struct Streamed<I, O> {
 pub fn replay_streams<R: Threads + Wait + Sync, I: Read + Drop, O: Write + Drop, G: Gate + Sync>(
     rt: &R,
     alloc: Global,
-    by: By,
+    by: Way,
     input: I,
     output: O,
     size: u64,
@@ -36,11 +44,11 @@ pub fn replay_streams<R: Threads + Wait + Sync, I: Read + Drop, O: Write + Drop,
     let mut writer = Counted::new(output);
     let size = Size::new(size)?;
     let result = match by {
-        By::Plain => {
+        Way::Plain => {
             replay_plain(alloc, &mut reader, &mut writer, size).map_err(ReplayFault::File)
         }
-        By::Lock => replay_lock(rt, alloc, &mut reader, &mut writer, size, gate),
-        By::Ring => replay_ring(rt, alloc, &mut reader, &mut writer, size, gate),
+        Way::Lock => replay_lock(rt, alloc, &mut reader, &mut writer, size, gate),
+        Way::Ring => replay_ring(rt, alloc, &mut reader, &mut writer, size, gate),
     };
     Ok(Streamed {
         reader,
@@ -59,7 +67,7 @@ pub struct Replayed {
 pub fn replay_by<R: Threads + Wait + Sync, G: Gate + Sync>(
     rt: &R,
     alloc: Global,
-    by: By,
+    by: Way,
     input: &str,
     size: u64,
     gate: &G,

@@ -1,0 +1,11 @@
+//! The command line of the program `disruptor`: what it asks for, or why it is refused.
+#![tactic(auto)]
+
+mod plans;
+mod words;
+
+pub use plans::{By, LineFault, Plan};
+pub use words::plan;
+
+#[cfg(test)]
+mod tests;

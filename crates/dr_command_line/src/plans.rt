@@ -1,0 +1,67 @@
+//! What a command line asks for, or why it is refused.
+
+ghost use Rattle.std.specs.Prelude.{◌≡◌};
+ghost use Rattle.dr_command_line.specs.Plans.{line_status};
+
+use dr_seq::Size;
+use std::alloc::AllocError;
+use thiserror::Error;
+
+/// By which exchange a replay goes.
+#[derive(Clone, Copy, Debug, PartialEq, Eq)]
+pub enum By {
+    /// One core on one thread.
+    Plain,
+    /// A core behind a lock, with a thread for each producer and each handler.
+    Lock,
+    /// The ring, with a thread for each handler.
+    Ring,
+}
+
+/// What a command line asks for.
+#[derive(Debug, Drop)]
+pub enum Plan {
+    /// Print this text, and nothing else.
+    Help(String),
+    /// Run the commands of a file.
+    Drive { file: String },
+    /// Replay the operations of a file, through a ring of this size.
+    Replay { file: String, size: Size, by: By },
+}
+
+/// Why a command line is refused. Its text is the line that a program prints.
+#[derive(Debug, Drop, Error)]
+pub enum LineFault {
+    /// The words are no command line of the program; the text says why.
+    #[error("{0}")]
+    Usage(String),
+    /// The number of `--size` is no ring's size.
+    #[error("bad-size")]
+    BadSize,
+    /// A word is not UTF-8.
+    #[error("error: a word of the command line is not UTF-8")]
+    NotUtf8,
+    /// There is no memory for reading them.
+    #[error("no-memory")]
+    Memory,
+}
+
+impl LineFault {
+    /// The status with which a program ends that meets this fault.
+    pub fn status(&self) -> u8
+        ensures { result ≡ line_status self.now }
+    {
+        match self {
+            LineFault::Usage(_) => 1,
+            LineFault::BadSize => 1,
+            LineFault::NotUtf8 => 1,
+            LineFault::Memory => 3,
+        }
+    }
+}
+
+impl From<AllocError> for LineFault {
+    fn from(_error: AllocError) -> LineFault {
+        LineFault::Memory
+    }
+}

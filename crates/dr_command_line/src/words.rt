@@ -1,0 +1,191 @@
+//! The words of a command line, read.
+
+use crate::plans::{By, LineFault, Plan};
+use clap::error::ErrorKind;
+use clap::{Arg, ArgMatches, Command, Error, value_parser};
+use dr_seq::Size;
+use std::alloc::{AllocError, Global};
+
+const ABOUT: &str = "A verified LMAX Disruptor: producers and handlers over one ring of slots";
+
+/// The program's version, and the kit that it is proved with, as `rt version` prints it.
+const VERSION: &str = "0.1.0, proved with rattle-kit-13b logic dac8208d650f15bf";
+
+const DRIVE: &str = "Run a file of commands, and print one line a command";
+
+const FILE: &str = "The file of commands, one record a line";
+
+const EXAMPLE: &str = "\
+A file sets up a ring, its limit and its handlers, and then gives commands:
+
+  ring,4,single       a ring of 4 slots and one producer; ring,4,multi,2 has two
+  limit,1000          at most 1000 sequences (may be left out)
+  with,a,b            two handlers, with the names a and b
+  then,c              a handler c, which follows both of them
+  after,a             the next handlers follow a alone
+  then,d              so d follows a
+  edge,d,c            and c follows d too
+  start
+  claim,0,1           producer 0 claims 1 sequence
+  write,0,0,42        producer 0 writes 42 to sequence 0
+  publish,0,0,0       producer 0 publishes the sequences from 0 to 0
+  poll,a,8            handler a takes at most 8 events
+  complete,a,1        handler a has done with the first 1 event
+  retire,c            handler c takes no more, and claims do not wait for it
+  halt                no more claims
+
+It prints:
+
+  claimed 0 0
+  written
+  published
+  batch 0 end 42
+  completed
+  retired
+  halting
+
+It ends with 0 where all is done, 1 where the command line is at fault, 2 where
+the file is at fault, 3 if memory runs out and 4 where reading or writing failed.";
+
+const REPLAY: &str = "Replay a file of account movements, and print a report of them";
+
+const EVENTS: &str = "The file of movements, one record a line";
+
+const SIZE: &str = "How many slots the ring has: a power of two from 1 to 65536";
+
+const BY: &str =
+    "By which exchange: plain is one core on one thread, lock has a thread for each producer and each handler, ring has one for each handler";
+
+/// The ways of a replay.
+const WAYS: &[&str] = &["plain", "lock", "ring"];
+
+/// The ring's size where the command line gives none.
+const USUAL_SIZE: u64 = 1024;
+
+const REPLAY_EXAMPLE: &str = "\
+A record is a producer from 0 to 15, what it does, the account or accounts, and
+the amount:
+
+  0,deposit,1,100     100 is added to account 1
+  0,withdraw,1,40     40 is taken from account 1, where it has that much
+  2,transfer,1,7,30   30 goes from account 1 to account 7, where 1 has that much
+
+Accounts are below 65536, amounts below 4294967296, and those of a transfer below
+281474976710656. The report has three parts. The journal is each movement under
+its sequence, the replica its words, and business has a line for each account:
+its number, its balance, and how many movements it was refused.
+
+  journal 3
+  0,0,deposit,1,100
+  1,0,withdraw,1,40
+  2,2,transfer,1,7,30
+  replica 3
+  0001000100000064
+  0002000100000028
+  0203000100000000000700000000001e
+  business 3
+  1,30,0
+  7,30,0
+
+It ends with 0 where all is done, 1 where the command line is at fault, 2 where
+the file is at fault, 3 if memory runs out, 4 where reading or writing failed and
+5 where a worker was refused or stopped, or an audit found the history amiss.";
+
+fn replay_command<'a>(alloc: Global) -> Result<Command<'a>, AllocError> {
+    let size = Arg::new(alloc, "size")
+        .long("size")
+        .value_name("N")
+        .help(SIZE)
+        .value_parser(value_parser!(u64))
+        .default_value("1024");
+    let by = Arg::new(alloc, "by")
+        .long("by")
+        .value_name("WAY")
+        .help(BY)
+        .value_parser(WAYS)
+        .default_value("plain");
+    let file = Arg::new(alloc, "file")
+        .value_name("FILE")
+        .help(EVENTS)
+        .required(true);
+    Command::new(alloc, "replay")
+        .about(REPLAY)
+        .after_help(REPLAY_EXAMPLE)
+        .arg(size)?
+        .arg(by)?
+        .arg(file)
+}
+
+fn command<'a>(alloc: Global) -> Result<Command<'a>, AllocError> {
+    let file = Arg::new(alloc, "file")
+        .value_name("FILE")
+        .help(FILE)
+        .required(true);
+    let drive = Command::new(alloc, "drive")
+        .about(DRIVE)
+        .after_help(EXAMPLE)
+        .arg(file)?;
+    Command::new(alloc, "disruptor")
+        .about(ABOUT)
+        .version(VERSION)
+        .after_help(
+            "`disruptor drive --help` and `disruptor replay --help` show a file, and what it prints.",
+        )
+        .subcommand_required(true)
+        .subcommand(drive)?
+        .subcommand(replay_command(alloc)?)
+}
+
+// The text of a fault, without the line feed at its end.
+fn usage(alloc: Global, error: &Error) -> Result<String, AllocError> {
+    let text = error.to_string(alloc)?;
+    String::from_str(alloc, text.as_str().trim_end())
+}
+
+fn refused(alloc: Global, error: &Error) -> Result<Plan, LineFault> {
+    match error.kind() {
+        ErrorKind::OutOfMemory => Err(LineFault::Memory),
+        ErrorKind::DisplayHelp | ErrorKind::DisplayVersion => Ok(Plan::Help(error.to_string(
+            alloc,
+        )?)),
+        _ => Err(LineFault::Usage(usage(alloc, error)?)),
+    }
+}
+
+// The word of FILE, which the command line has to have.
+fn file_of(alloc: Global, matches: &ArgMatches<'_>) -> Result<String, AllocError> {
+    match matches.get_str("file") {
+        Some(file) => String::from_str(alloc, file),
+        None => Ok(String::new(alloc)),
+    }
+}
+
+fn replay_plan(alloc: Global, matches: &ArgMatches<'_>) -> Result<Plan, LineFault> {
+    let slots: Option<u64> = matches.get_one("size");
+    let Ok(size) = Size::new(slots.unwrap_or(USUAL_SIZE)) else {
+        return Err(LineFault::BadSize);
+    };
+    let file = file_of(alloc, matches)?;
+    let by = match matches.get_str("by") {
+        Some("lock") => By::Lock,
+        Some("ring") => By::Ring,
+        _ => By::Plain,
+    };
+    Ok(Plan::Replay { file, size, by })
+}
+
+/// Reads a command line, of which the first word is the program's own name.
+pub fn plan(alloc: Global, words: &[String]) -> Result<Plan, LineFault> {
+    let matches = match command(alloc)?.try_get_matches_from(words) {
+        Ok(matches) => matches,
+        Err(error) => return refused(alloc, &error),
+    };
+    if let Some(matches) = matches.subcommand_matches("replay") {
+        return replay_plan(alloc, matches);
+    }
+    let file = match matches.subcommand_matches("drive") {
+        Some(matches) => file_of(alloc, matches)?,
+        None => String::new(alloc),
+    };
+    Ok(Plan::Drive { file })
+}

@@ -1,0 +1,9 @@
+pub mod Commanding
+pub mod Declaring
+pub mod Finding
+pub mod Legible
+pub mod Runs
+pub mod SetUps
+pub mod Sizes
+pub mod Starting
+pub mod Whole

@@ -1,0 +1,3 @@
+-- What the functions inside promise one another.
+pub mod Shows
+pub mod Tells

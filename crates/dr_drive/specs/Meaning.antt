@@ -1,0 +1,4 @@
+-- What a file of commands says: the first to read.
+pub mod Setup
+pub mod Commands
+pub mod DriveText

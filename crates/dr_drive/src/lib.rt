@@ -1,0 +1,18 @@
+//! The tool `drive`: a file of commands in, a line a reply out.
+//!
+//! Begin with the room `specs/Meaning`. `DriveText` says what a file of commands means, line by line,
+//! by the setup (`Setup`), the commands (`Commands`), the machine's own step, and the reply lines
+//! (`dr_files/specs/Lines`). [`drive`] reads such a file and writes its text. What a run leaves
+//! written, and when it fails, is one definition for all tools: `dr_files/specs/Outcome`.
+#![tactic(auto)]
+
+mod commands;
+mod exchange;
+mod setup;
+mod tool;
+
+pub use dr_files::{Cause, Counted, FileFault};
+pub use tool::drive;
+
+#[cfg(test)]
+mod tests;

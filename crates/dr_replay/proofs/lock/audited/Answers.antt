@@ -1,0 +1,12 @@
+use Rattle.std.proofs.Common.{◌∙◌, ap}
+use Rattle.dr_shared.specs.Meaning.Audit.{scripts_of}
+use Rattle.dr_replay.proofs.Endings.{audit_finds}
+use Rattle.dr_replay.proofs.lock.audited.Goals as goal
+
+pub returns-in-Err : goal.returns-in-Err
+returns-in-Err c =
+    let same = ap scripts_of c.as_slice.ensures.value ∙ c.in_ok-views.ensures in
+    record {
+      text = λ events are. tt;
+      fault = rw c.audit_fault.ensures (audit_finds c.args.recorded.now.history _ _ c.in-Err.found same c.history-history.ensures.recorded c.in-Err.ensures.fault);
+    }

@@ -1,0 +1,24 @@
+use Rattle.std.proofs.Common.{◌≡◌, List, ℕ, IfSome, subst, sym}
+use Rattle.dr_seq.specs.declared.event.Event.{Event}
+use Rattle.dr_files.specs.Counting.{inner_of}
+use Rattle.dr_files.specs.declared.fault.FileFault.TheVariants as file
+use Rattle.dr_replay.specs.Meaning.EventFile.{events_of}
+use Rattle.dr_replay.specs.Calls.Replayed.{IsReportOfMerge, LockWrites}
+use Rattle.dr_replay.specs.declared.fault.ReplayFault.TheVariants as fault
+use Rattle.dr_replay.proofs.Reporting.{at_exit, cut_merge}
+use Rattle.dr_replay.proofs.lock.replay_lock.Goals as goal
+
+-- the bytes that are written are a report of a merge of the file's events
+is_of_merge : {given events : List Event} {text bytes : List ℕ} → given ≡ events → bytes ≡ text → IsReportOfMerge given text → IsReportOfMerge events bytes
+is_of_merge {events} {text} same are is = subst (λ l. IsReportOfMerge events l) (sym are) (subst (λ l. IsReportOfMerge l text) same is)
+
+pub returns-in_err-write_text-clause-bytes : goal.returns-in_err-write_text-clause-bytes
+returns-in_err-write_text-clause-bytes g c =
+    let input = g.R.Read.remaining (inner_of c.args.reader.now) in
+    let old = g.W.Write.contents (inner_of c.args.writer.now) in
+    let new = g.W.Write.contents (inner_of c.write_text.new.writer) in
+    let said = is_of_merge c.as_slice.ensures.value c.as_bytes.ensures.value c.in_ok-text.ensures.text in
+    at_exit c.from_residual-in_err-write_text.result (fault.File file.Write)
+    (λ r. IfSome input (λ bytes. LockWrites r old new (events_of bytes)))
+    c.from_residual-in_err-write_text.ensures.1
+    (cut_merge old new input c.in_ok-events.events.items c.as_bytes.result.now c.in_ok-events.ensures.file said c.in_err-write_text.ensures.0)

@@ -1,0 +1,12 @@
+use denote.Param.Send.{IsSync}
+use Rattle.dr_shared.proofs.Sent.{of_param}
+use Rattle.dr_replay.proofs.Crossing.{crosses}
+use Rattle.dr_replay.proofs.lock_workers.fn.send_all.scope.Goals as goal
+
+-- a worker's closure may go to another thread: it has a reference to what all share, and its task
+pub spawn-requires-send-F : goal.spawn-requires-send-F
+spawn-requires-send-F g c κs within =
+    let ledger : IsSync g.row.L = of_param _ g.row.L c.requires.shared in
+    let workers : IsSync g.row.R = of_param _ g.row.R c.requires.workers in
+    let gates : IsSync g.row.G = of_param _ g.row.G c.requires.gates in
+    search crosses depth 40 fits 20000

@@ -1,8 +1,0 @@
-use Rattle.std.proofs.Common.{◌≡◌, ◌+◌, ◌++◌, length, map}
-use Rattle.dr_replay.proofs.replay.lock.gathered.Given as goal
-
--- all ends so far, and how their workers ended
-abbrev pub invariant-loop-producer : goal.invariant-loop-producer
-invariant-loop-producer g l =
-    (length l.ends.items + length l.producer-iterator.rest.items ≡ 4 + length l.fn.producers.items)
-    × (l.faults.items ++ map (λ s. s.fault) l.producer-iterator.rest.items ≡ map (λ s. s.fault) l.fn.producers.items)

@@ -1,0 +1,239 @@
+//! The replay behind a lock, a thread a producer and a thread a handler.
+
+ghost use Rattle.std.specs.Prelude.{◌≡◌, ◌+◌, ◌-◌, ◌^◌, ◌<◌, ◌≤◌, IfErr, IfOk, IfSome, List, None, OnOk, length, map, string_bytes};
+ghost use Rattle.dr_seq.specs.declared.event.Event.{Event};
+ghost use Rattle.dr_files.specs.Counting.{faults_of, inner_of};
+ghost use Rattle.dr_replay.specs.Meaning.EventFile.{events_of as events_in};
+ghost use Rattle.dr_accounts.specs.Keeping.{error_of};
+ghost use Rattle.dr_shared.specs.Meaning.FirstFault.{first_fault as first_of};
+ghost use Rattle.dr_replay.specs.Calls.Replayed.{IsReportOfMerge, LockWrites, ReplayCounts, ReplayFaultKeeps};
+ghost use Rattle.dr_replay.specs.Calls.Workers.{IsFirstOf, IsFirstOfLock, IsOfAudit, IsOfLock, IsOfMerge, lock_endings};
+ghost use Rattle.dr_replay.specs.Meaning.Scripts.{scripts_in};
+
+use crate::event_file::read_events;
+use crate::fault::ReplayFault;
+use crate::lock_workers::{Around, Joined, Sent, exchange, make_ends};
+use crate::outcome::{
+    BUSINESS, JOURNAL, PRODUCER, REPLICA, audit_fault, ended, joined, replay_fault,
+};
+use crate::part::Part;
+use crate::scripts::{scripts, views};
+use dr_accounts::{Business, Journal, Replica, graph};
+use dr_core::{MAX_LIMIT, Mode};
+use dr_files::{Counted, FileFault, write_text};
+use dr_seq::{Event, Size};
+use dr_shared::{End, Ended, Gate, Recorded, Shared, WorkFault, audit, finish, first_fault};
+use std::alloc::{AllocError, Global};
+use std::io::{Read, Write};
+use std::marker::Brand;
+use std::sync::Wait;
+use std::sync::ledger::{Blank, Ledger};
+use std::thread::Threads;
+
+// How the workers ended: the handlers', and the producers' by their numbers.
+fn endings(
+    alloc: Global,
+    journal: Option<WorkFault>,
+    replica: Option<WorkFault>,
+    business: Option<WorkFault>,
+    producers: &[Option<WorkFault>],
+) -> Result<Vec<Ended>, AllocError>
+    requires { length producers.now ≤ 2 ^ 62 }
+    ensures { IfOk result (λ all. all.items ≡ lock_endings journal replica business producers.now) }
+{
+    let mut all = Vec::new(alloc);
+    all.push(ended(JOURNAL, journal))?;
+    all.push(ended(REPLICA, replica))?;
+    all.push(ended(BUSINESS, business))?;
+    for (p, fault) in producers.iter().enumerate() {
+        all.push(ended(PRODUCER + p, *fault))?;
+    }
+    Ok(all)
+}
+
+// Ends with the first fault of the workers, if one of them has any.
+fn check(
+    alloc: Global,
+    journal: Option<WorkFault>,
+    replica: Option<WorkFault>,
+    business: Option<WorkFault>,
+    producers: &[Option<WorkFault>],
+) -> Result<(), ReplayFault>
+    requires { length producers.now ≤ 2 ^ 62 }
+    ensures fine { OnOk result (first_of (lock_endings journal replica business producers.now) ≡ None) }
+    ensures handlers { OnOk result ((journal ≡ None) × (replica ≡ None) × (business ≡ None)) }
+    ensures first { IfErr result (IsFirstOf (lock_endings journal replica business producers.now)) }
+{
+    let endings = endings(alloc, journal, replica, business, producers)?;
+    match first_fault(endings.as_slice()) {
+        Some(first) => Err(replay_fault(first)),
+        None => Ok(()),
+    }
+}
+
+// The report of the list that every handler received.
+fn audited(
+    alloc: Global,
+    recorded: &Recorded,
+    scripts: &[Vec<Event>],
+    journal: Part<Journal>,
+    replica: Part<Replica>,
+    business: Part<Business>,
+) -> Result<String, ReplayFault>
+    ensures text { (sent : List Event) → map (λ v. v.items) scripts.now ≡ scripts_in sent → IfOk result (λ t. IsReportOfMerge sent (string_bytes t)) }
+    ensures fault { IfErr result (IsOfAudit (map (λ v. v.items) scripts.now)) }
+{
+    let views = views(alloc, scripts)?;
+    let _history = recorded.history();
+    let list = match audit(alloc, recorded, views.as_slice()) {
+        Ok(list) => list,
+        Err(found) => return Err(audit_fault(found)),
+    };
+    let journal = journal.of_list(alloc, list.as_slice())?;
+    let replica = replica.of_list(alloc, list.as_slice())?;
+    let business = business.of_list(alloc, list.as_slice())?;
+    Ok(joined(journal, replica.as_str(), business.as_str())?)
+}
+
+fn fault_in<T>(part: &Result<T, WorkFault>) -> Option<WorkFault>
+    ensures { result ≡ error_of part.now }
+{
+    match part {
+        Ok(_) => None,
+        Err(fault) => Some(*fault),
+    }
+}
+
+// The history, once all ends are back; and how the producers' workers ended.
+fn gathered<L: Ledger>(
+    alloc: Global,
+    shared: Shared<L>,
+    handlers: [End<L>; 4],
+    producers: Vec<Sent<L>>,
+) -> Result<(Recorded, Vec<Option<WorkFault>>), AllocError>
+    requires { shared.given ≡ 4 + length producers.items }
+    ensures { IfOk result (λ got. got.1.items ≡ map (λ s. s.fault) producers.items) }
+{
+    let mut ends = Vec::from_array(alloc, handlers)?;
+    let mut faults = Vec::with_capacity(alloc, producers.len())?;
+    for producer in producers {
+        ends.push(producer.end)?;
+        faults.push(producer.fault)?;
+    }
+    match finish(shared, ends) {
+        Ok(recorded) => Ok((recorded, faults)),
+        Err(_) => unreachable!(),
+    }
+}
+
+// Brings the ends together, and then the parts of the report.
+fn settled<L: Ledger>(
+    alloc: Global,
+    shared: Shared<L>,
+    ran: Joined<L>,
+    scripts: &[Vec<Event>],
+) -> Result<String, ReplayFault>
+    requires given { shared.given ≡ 4 + length ran.producers.items }
+    requires few { length ran.producers.items ≤ 2 ^ 62 }
+    ensures text { (sent : List Event) → map (λ v. v.items) scripts.now ≡ scripts_in sent → IfOk result (λ t. IsReportOfMerge sent (string_bytes t)) }
+    ensures fine { OnOk result (first_of (lock_endings (error_of ran.journal.part) (error_of ran.replica.part) (error_of ran.business.part)
+        (map (λ s. s.fault) ran.producers.items)) ≡ None) }
+    ensures first { IfErr result (IsOfLock (lock_endings (error_of ran.journal.part) (error_of ran.replica.part) (error_of ran.business.part)
+        (map (λ s. s.fault) ran.producers.items)) (map (λ v. v.items) scripts.now)) }
+{
+    let Joined {
+        halter,
+        journal,
+        replica,
+        business,
+        producers,
+    } = ran;
+    let ends = [halter, journal.end, replica.end, business.end];
+    let (recorded, faults) = gathered(alloc, shared, ends, producers)?;
+    let journal_fault = fault_in(&journal.part);
+    let replica_fault = fault_in(&replica.part);
+    let business_fault = fault_in(&business.part);
+    check(
+        alloc,
+        journal_fault,
+        replica_fault,
+        business_fault,
+        faults.as_slice(),
+    )?;
+    match (journal.part, replica.part, business.part) {
+        (Ok(journal), Ok(replica), Ok(business)) => {
+            audited(alloc, &recorded, scripts, journal, replica, business)
+        }
+        _ => unreachable!(),
+    }
+}
+
+// The report of a merge of the producers' events.
+fn report<L: Ledger + Send + Sync, R: Threads + Wait + Sync, G: Gate + Sync>(
+    rt: &R,
+    alloc: Global,
+    blank: Blank,
+    events: &[Event],
+    size: Size,
+    gate: &G,
+) -> Result<String, ReplayFault>
+    requires name { blank.name ≡ L.name }
+    requires parts { blank.parts ≡ L.parts }
+    requires ends { blank.parts ≡ 65 }
+    ensures text { IfOk result (λ text. IsReportOfMerge events.now (string_bytes text)) }
+    ensures first { IfErr result (IsOfMerge events.now) }
+{
+    let scripts = scripts(alloc, events)?;
+    let graph = graph(alloc)?;
+    let mode = Mode::Multi(scripts.len() as u64);
+    // A claim, a write and a publication for each event, and a batch and a completion for each and
+    // each handler; the halt, and a `Drained` for each handler.
+    let entries = events.len().checked_mul(9).ok_or(AllocError)?;
+    let entries = entries.checked_add(4).ok_or(AllocError)?;
+    let words = events.len().checked_mul(3).ok_or(AllocError)?;
+    let Ok(recorded) = Recorded::open(alloc, graph, size, mode, MAX_LIMIT, entries, words) else {
+        return Err(ReplayFault::File(FileFault::Memory));
+    };
+    let mut shared = Shared::<L>::new(recorded, blank);
+    let ends = make_ends(alloc, &mut shared, scripts.len())?;
+    let around = Around {
+        rt,
+        alloc,
+        gate,
+        shared: &shared,
+        size,
+    };
+    let ran = exchange(&around, scripts.as_slice(), ends)?;
+    settled(alloc, shared, ran, scripts.as_slice())
+}
+
+/// Reads a file of operations to its end, sends each producer's events in file order through a core
+/// behind a lock, with a thread a producer and a thread a handler, and writes the report of the one
+/// list that its handlers received, which is some merge of the producers' events. Each worker passes
+/// `gate`: 0 is the journal's, 1 the replica's, 2 the business handler's, and 16 and the producer's
+/// number a producer's. Nothing is written before the report is whole; at a failed write a beginning
+/// of it is written.
+pub fn replay_lock<S: Threads + Wait + Sync, R: Read, W: Write, G: Gate + Sync>(
+    rt: &S,
+    alloc: Global,
+    reader: &mut Counted<R>,
+    writer: &mut Counted<W>,
+    size: Size,
+    gate: &G,
+) -> Result<(), ReplayFault>
+    requires reads { faults_of reader.old < 2 ^ 64 - 1 }
+    requires writes { faults_of writer.old < 2 ^ 64 - 1 }
+    // Where the input's bytes are known, what is written is the report of a merge of its producers' events, and the fault of the file is its first bad record.
+    ensures bytes { IfSome (R.remaining (inner_of reader.old)) (λ input.
+        LockWrites result (W.contents (inner_of writer.old)) (W.contents (inner_of writer.new)) (events_in input)) }
+    // Any fault but a failed write leaves nothing written, whether or not the input's bytes are known.
+    ensures unwritten { IfErr result (λ e. ReplayFaultKeeps e (W.contents (inner_of writer.old)) (W.contents (inner_of writer.new))) }
+    // Where several workers have faults, the first is answered: a stop before a refusal, and then the least worker's.
+    ensures first { IfErr result IsFirstOfLock }
+    // A failed read or write is answered where one failed, and nowhere else.
+    ensures counted { ReplayCounts result (faults_of reader.old) (faults_of reader.new) (faults_of writer.old) (faults_of writer.new) }
+{
+    let events = read_events(alloc, reader)?;
+    let text = report::<Brand, S, G>(rt, alloc, Blank::new(65), events.as_slice(), size, gate)?;
+    Ok(write_text(writer, text.as_bytes())?)
+}

@@ -1,0 +1,58 @@
+//! How a replay's workers are numbered, and what comes of how they ended.
+
+ghost use Rattle.std.specs.Prelude.{◌≡◌, ◌++◌, IfOk, string_bytes};
+ghost use Rattle.dr_replay.specs.Calls.Workers.{audit_fault as audit_fault_of, replay_fault as fault_of};
+
+use crate::fault::ReplayFault;
+use dr_files::FileFault;
+use dr_shared::{AuditFault, Ended, WorkFault, WorkerFault};
+use std::alloc::AllocError;
+
+/// The number of the journal's worker.
+pub const JOURNAL: usize = 0;
+
+/// The number of the replica's worker.
+pub const REPLICA: usize = 1;
+
+/// The number of the business handler's worker.
+pub const BUSINESS: usize = 2;
+
+/// The number of the sender's worker, and of the first producer's.
+pub const PRODUCER: usize = 16;
+
+/// How a worker ended.
+pub fn ended(who: usize, fault: Option<WorkFault>) -> Ended
+    ensures { result ≡ record { who = who; fault = fault } }
+{
+    Ended { who, fault }
+}
+
+/// The fault of a worker, as the replay answers it.
+pub fn replay_fault(first: WorkerFault) -> ReplayFault
+    ensures { result ≡ fault_of first.who first.fault }
+{
+    let WorkerFault { who, fault } = first;
+    match fault {
+        WorkFault::Memory => ReplayFault::File(FileFault::Memory),
+        _ => ReplayFault::Worker { who, fault },
+    }
+}
+
+/// What an audit finds, as the replay answers it.
+pub fn audit_fault(found: AuditFault) -> ReplayFault
+    ensures { result ≡ audit_fault_of found }
+{
+    match found {
+        AuditFault::NoMemory => ReplayFault::File(FileFault::Memory),
+        _ => ReplayFault::Audit(found),
+    }
+}
+
+/// One text after another.
+pub fn joined(mut journal: String, replica: &str, business: &str) -> Result<String, AllocError>
+    ensures { IfOk result (λ text. string_bytes text ≡ string_bytes journal ++ replica.now ++ business.now) }
+{
+    journal.push_str(replica)?;
+    journal.push_str(business)?;
+    Ok(journal)
+}

@@ -1,0 +1,247 @@
+//! The replay over the ring, a thread a handler.
+
+ghost use Rattle.std.specs.Prelude.{◌≡◌, ◌++◌, ◌-◌, ◌^◌, ◌∷◌, ◌<◌, [], IfErr, IfOk, IfSome, List, None, length, string_bytes, take};
+ghost use Rattle.dr_seq.specs.declared.event.Event.{Event};
+ghost use Rattle.dr_ring.specs.Calls.Ends.{sender_place};
+ghost use Rattle.dr_ring.specs.Calls.Settling.{AreAllEnds};
+ghost use Rattle.dr_files.specs.Counting.{faults_of, inner_of};
+ghost use Rattle.dr_replay.specs.Calls.Replayed.{ReplayCounts, ReplayFaultKeeps, ReplayWrites, replay_text};
+ghost use Rattle.dr_accounts.specs.Report.{report_of};
+ghost use Rattle.dr_shared.specs.Meaning.FirstFault.{first_fault as first_of};
+ghost use Rattle.dr_replay.specs.Calls.Workers.{IsFirstOf, IsFirstOfSome, IsOfWorkers, IsRun, Says, StaysAt, endings_of, ends_of, ring_workers};
+
+use crate::event_file::read_events;
+use crate::fault::ReplayFault;
+use crate::outcome::{BUSINESS, JOURNAL, PRODUCER, REPLICA, ended, joined, replay_fault};
+use dr_accounts::{Business, Journal, PartOf, Replica, Worked, graph, work};
+use dr_core::MAX_LIMIT;
+use dr_files::{Counted, FileFault, write_text};
+use dr_ring::{Receiver, Sender, ring, settle};
+use dr_seq::{Event, Size};
+use dr_shared::{Ended, Gate, Produced, first_fault, produce};
+use std::alloc::{AllocError, Global};
+use std::io::{Read, Write};
+use std::sync::Wait;
+use std::thread;
+use std::thread::{Promise, PromisedHandle, Threads};
+
+/// What came of an exchange.
+#[derive(Drop)]
+pub struct Ran {
+    pub sender: Sender,
+    pub produced: Produced,
+    pub journal: Worked,
+    pub replica: Worked,
+    pub business: Worked,
+}
+
+// The ends of the three handlers.
+fn three(mut receivers: Vec<Receiver>) -> (Receiver, Receiver, Receiver)
+    requires { length receivers.items ≡ 3 }
+    ensures { receivers.items ≡ result.0 ∷ result.1 ∷ result.2 ∷ [] }
+{
+    let Some(business) = receivers.pop() else {
+        unreachable!();
+    };
+    let Some(replica) = receivers.pop() else {
+        unreachable!();
+    };
+    let Some(journal) = receivers.pop() else {
+        unreachable!();
+    };
+    (journal, replica, business)
+}
+
+// Closes the ring, unless the sender was refused a call while a claim was open.
+fn close(sender: &mut Sender)
+    ensures { StaysAt sender.old sender.new }
+{
+    let _closed = sender.close();
+}
+
+// Closes a ring before anything was sent, and joins those of its handlers' threads that were started.
+fn abandoned<R: Threads>(
+    rt: &R,
+    mut sender: Sender,
+    journal: PromisedHandle<Worked, PartOf<Journal>>,
+    replica: Option<PromisedHandle<Worked, PartOf<Replica>>>,
+) -> AllocError {
+    close(&mut sender);
+    let _journal = journal.join(rt);
+    if let Some(replica) = replica {
+        let _replica = replica.join(rt);
+    }
+    AllocError
+}
+
+// Sends the events, closes, and joins the handlers' threads.
+fn served<R: Threads + Wait, G: Gate, J: Promise<Worked>, K: Promise<Worked>, B: Promise<Worked>>(
+    rt: &R,
+    gate: &G,
+    events: &[Event],
+    size: Size,
+    mut sender: Sender,
+    journal: PromisedHandle<Worked, J>,
+    replica: PromisedHandle<Worked, K>,
+    business: PromisedHandle<Worked, B>,
+) -> Ran
+    ensures place { sender_place result.sender ≡ sender_place sender }
+    ensures published { result.sender.knows.sent.published ≡ sender.knows.sent.published ++ take result.produced.sent events.now }
+    ensures all { result.produced.fault ≡ None → result.produced.sent ≡ length events.now }
+    ensures journal { J.kept_by journal.promise result.journal }
+    ensures replica { K.kept_by replica.promise result.replica }
+    ensures business { B.kept_by business.promise result.business }
+{
+    // With less than the ring in a claim the handlers have events while the sender writes.
+    let cut = (size.get() / 4).max(1);
+    let produced = produce(rt, &mut sender, gate, PRODUCER, events, cut);
+    close(&mut sender);
+    let journal = journal.join(rt);
+    let replica = replica.join(rt);
+    let business = business.join(rt);
+    Ran {
+        sender,
+        produced,
+        journal,
+        replica,
+        business,
+    }
+}
+
+// Starts a thread a handler, sends the events, closes, and joins. An error is that a thread could not
+// be started: then nothing is sent.
+fn exchange<R: Threads + Wait + Sync, G: Gate + Sync>(
+    rt: &R,
+    alloc: Global,
+    gate: &G,
+    events: &[Event],
+    size: Size,
+    sender: Sender,
+    journal: Receiver,
+    replica: Receiver,
+    business: Receiver,
+) -> Result<Ran, AllocError>
+    ensures ran { IfOk result (λ ran. IsRun events.now sender journal replica business ran) }
+{
+    thread::scope(
+        thread::scope_env(),
+        rt,
+        move |scope| -> Result<Ran, AllocError>
+            ensures { IfOk result (λ ran. IsRun events.entry.now sender journal replica business ran) }
+        {
+            let room = size.get() as usize;
+            let Ok(journal) = scope.spawn_with(PartOf::<Journal>::of(&journal), move || {
+                work::<R, G, Journal>(rt, gate, JOURNAL, journal, room, alloc)
+            }) else {
+                return Err(AllocError);
+            };
+            let Ok(replica) = scope.spawn_with(PartOf::<Replica>::of(&replica), move || {
+                work::<R, G, Replica>(rt, gate, REPLICA, replica, room, alloc)
+            }) else {
+                return Err(abandoned(rt, sender, journal, None));
+            };
+            let Ok(business) = scope.spawn_with(PartOf::<Business>::of(&business), move || {
+                work::<R, G, Business>(rt, gate, BUSINESS, business, room, alloc)
+            }) else {
+                return Err(abandoned(rt, sender, journal, Some(replica)));
+            };
+            let ran = served(rt, gate, events, size, sender, journal, replica, business);
+            Ok(ran)
+        },
+    )
+}
+
+// How the workers ended.
+fn endings(ran: &Ran) -> [Ended; 4]
+    ensures { result ≡ endings_of ran.now }
+{
+    [
+        ended(JOURNAL, ran.journal.fault()),
+        ended(REPLICA, ran.replica.fault()),
+        ended(BUSINESS, ran.business.fault()),
+        ended(PRODUCER, ran.produced.fault),
+    ]
+}
+
+// Brings the ends together, and then the parts of the report.
+fn finish(alloc: Global, ran: Ran) -> Result<String, ReplayFault>
+    requires ends { AreAllEnds ran.sender (ends_of ran) }
+    ensures text { (events : List Event) → Says events ran → IfOk result (λ text. string_bytes text ≡ report_of events) }
+    ensures fine { IfOk result (λ text. first_of (endings_of ran) ≡ None) }
+    ensures first { IfErr result (IsFirstOf (endings_of ran)) }
+{
+    let endings = endings(&ran);
+    let Ran {
+        sender,
+        produced: _,
+        journal,
+        replica,
+        business,
+    } = ran;
+    let mut receivers = Vec::with_capacity(alloc, 3)?;
+    receivers.push(journal.receiver)?;
+    receivers.push(replica.receiver)?;
+    receivers.push(business.receiver)?;
+    let _settled = settle(sender, receivers);
+    if let Some(first) = first_fault(endings.as_slice()) {
+        return Err(replay_fault(first));
+    }
+    match (journal.part, replica.part, business.part) {
+        (Ok(journal), Ok(replica), Ok(business)) => {
+            Ok(joined(journal, replica.as_str(), business.as_str())?)
+        }
+        _ => unreachable!(),
+    }
+}
+
+/// The report of events that went through a ring.
+fn report<R: Threads + Wait + Sync, G: Gate + Sync>(
+    rt: &R,
+    alloc: Global,
+    events: &[Event],
+    size: Size,
+    gate: &G,
+) -> Result<String, ReplayFault>
+    ensures text { IfOk result (λ text. string_bytes text ≡ report_of events.now) }
+    ensures first { IfErr result (IsOfWorkers ring_workers) }
+{
+    let graph = graph(alloc)?;
+    let Ok((sender, receivers, _halter)) = ring(alloc, &graph, size, MAX_LIMIT) else {
+        return Err(ReplayFault::File(FileFault::Memory));
+    };
+    let (journal, replica, business) = three(receivers);
+    let ran = exchange(
+        rt, alloc, gate, events, size, sender, journal, replica, business,
+    )?;
+    finish(alloc, ran)
+}
+
+/// Reads a file of operations to its end, sends their events in file order through a ring, with a
+/// thread a handler and the sender on this one, and writes the report of its three handlers. Each
+/// worker passes `gate`: 0 is the journal's, 1 the replica's, 2 the business handler's, and 16 the
+/// sender's. Nothing is written before the report is whole; at a failed write a beginning of it is
+/// written.
+pub fn replay_ring<S: Threads + Wait + Sync, R: Read, W: Write, G: Gate + Sync>(
+    rt: &S,
+    alloc: Global,
+    reader: &mut Counted<R>,
+    writer: &mut Counted<W>,
+    size: Size,
+    gate: &G,
+) -> Result<(), ReplayFault>
+    requires reads { faults_of reader.old < 2 ^ 64 - 1 }
+    requires writes { faults_of writer.old < 2 ^ 64 - 1 }
+    // Where the input's bytes are known, what is written is the report of its events, and the fault of the file is its first bad record.
+    ensures bytes { IfSome (R.remaining (inner_of reader.old)) (λ input.
+        ReplayWrites result (W.contents (inner_of writer.old)) (W.contents (inner_of writer.new)) (replay_text input)) }
+    // Any fault but a failed write leaves nothing written, whether or not the input's bytes are known.
+    ensures unwritten { IfErr result (λ e. ReplayFaultKeeps e (W.contents (inner_of writer.old)) (W.contents (inner_of writer.new))) }
+    // Where several workers have faults, the first is answered: a stop before a refusal, and then the least worker's.
+    ensures first { IfErr result (IsFirstOfSome ring_workers) }
+    // A failed read or write is answered where one failed, and nowhere else.
+    ensures counted { ReplayCounts result (faults_of reader.old) (faults_of reader.new) (faults_of writer.old) (faults_of writer.new) }
+{
+    let events = read_events(alloc, reader)?;
+    let text = report(rt, alloc, events.as_slice(), size, gate)?;
+    Ok(write_text(writer, text.as_bytes())?)
+}
