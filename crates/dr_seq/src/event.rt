@@ -1,5 +1,7 @@
 //! What the ring carries.
 
+ghost use Rattle.std.specs.Prelude.{◌≡◌, ◌↔◌, IsTrue};
+
 /// An event: two words, whose meaning is its producers' and handlers' own.
 #[derive(Clone, Copy, Debug, PartialEq, Eq)]
 pub struct Event {
@@ -13,4 +15,11 @@ impl Event {
         first: 0,
         second: 0,
     };
+}
+
+/// Whether two lists have the same events in the same order.
+pub fn are_same(a: &[Event], b: &[Event]) -> bool
+    ensures { IsTrue result ↔ a.now ≡ b.now }
+{
+    a == b
 }

@@ -9,7 +9,7 @@ pub mod rounds;
 pub mod size;
 pub mod slots;
 
-pub use event::Event;
+pub use event::{Event, are_same};
 pub use gate_cache::GateCache;
 pub use rounds::Rounds;
 pub use size::{Size, SizeFault};

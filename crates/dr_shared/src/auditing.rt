@@ -11,7 +11,7 @@ use crate::audit_fault::AuditFault;
 use crate::recorded::Recorded;
 use crate::sequences::{Sequence, published, sent, sequences};
 use dr_core::every_transcript_tells_its_state;
-use dr_seq::Event;
+use dr_seq::{Event, are_same};
 use std::alloc::Global;
 
 /// Compares a history with what its producers were to send, by their numbers; a producer without a
@@ -48,7 +48,7 @@ fn check_scripts(
     for p in 0..producers {
         let sent = sent(alloc, list, p)?;
         let is_sent = if p < scripts.len() as u64 {
-            is_same(&sent, scripts[p as usize])
+            are_same(&sent, scripts[p as usize])
         } else {
             sent.is_empty()
         };
@@ -57,12 +57,6 @@ fn check_scripts(
         }
     }
     Ok(())
-}
-
-fn is_same(a: &[Event], b: &[Event]) -> bool
-    ensures { IsTrue result ↔ a.now ≡ b.now }
-{
-    a == b
 }
 
 /// Finds the least handler, of those that are not retired, that did not take so many events.

@@ -3,6 +3,7 @@
 use crate::{Counted, FileFault, drive};
 use file_testing::{call_on, calls_of, failing_at, meets_failure, slow_at, whole_at};
 use std::alloc::Global;
+use std::io::Write;
 use std::process::Abort;
 
 const INPUT: &str = "ring,4,single\nwith,a\nstart\nclaim,0,1\nhalt\n";
