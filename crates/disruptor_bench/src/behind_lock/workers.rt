@@ -98,7 +98,7 @@ fn handle<L: Ledger, R: Wait>(around: &Around<'_, L, R>, task: Task<L>) -> Handl
 }
 
 /// What threads give back, where so many could be started.
-fn joined<T: Drop, L: Ledger, R: Threads + Wait>(
+fn gather<T: Drop, L: Ledger, R: Threads + Wait>(
     around: &Around<'_, L, R>,
     started: Vec<JoinHandle<T>>,
     count: usize,
@@ -130,7 +130,7 @@ fn send_all<L: Ledger + Send + Sync, R: Threads + Wait + Sync>(
                     started.push(worker)?;
                 }
             }
-            joined(around, started, count)
+            gather(around, started, count)
         },
     )
 }
@@ -167,7 +167,7 @@ pub fn exchange<L: Ledger + Send + Sync, R: Threads + Wait + Sync>(
                 Err(Fault::Thread)
             };
             halt(around.rt, around.shared, &mut halter);
-            let handled = joined(around, started, count)?;
+            let handled = gather(around, started, count)?;
             Ok(Joined {
                 halter,
                 sent: sent?,
