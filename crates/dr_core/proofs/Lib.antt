@@ -22,3 +22,4 @@ pub mod Showings
 pub mod Gating
 pub mod InOrder
 pub mod Retiring
+pub mod ManyWrites

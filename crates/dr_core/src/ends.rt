@@ -1,8 +1,8 @@
 //! The ends of an exchange, as those use them who need not know which exchange it is.
 
-ghost use Rattle.std.specs.Prelude.{◌≡◌, ◌||◌, ℕ, Bool, Option, None};
+ghost use Rattle.std.specs.Prelude.{◌≡◌, ◌||◌, ◌+◌, ◌^◌, ◌≤◌, ℕ, Bool, Option, None, length, take};
 ghost use Rattle.dr_core.specs.Calls.Trouble.{number_of, name_of};
-ghost use Rattle.dr_core.specs.Calls.Ends.{Sent, Received, ClaimAnswers, WriteAnswers, PublishAnswers, PollAnswers, CompleteAnswers, is_drained, WhereShown, Claims, Writes, Publishes, Takes, Completes};
+ghost use Rattle.dr_core.specs.Calls.Ends.{Sent, Received, ClaimAnswers, WriteAnswers, PublishAnswers, PollAnswers, CompleteAnswers, is_drained, WhereShown, Claims, Writes, Publishes, Takes, Completes, WriteAllAnswers, WritesAll};
 ghost use Rattle.dr_core.specs.declared.ends.Trouble.TheVariants.{Refused};
 
 use crate::command::{Claimed, Polled};
@@ -51,6 +51,15 @@ impl From<Refusal> for Trouble {
     }
 }
 
+/// How far a call came that writes many events.
+#[derive(Clone, Copy, Debug, PartialEq, Eq)]
+pub struct Wrote {
+    /// How many of the events were written, from the first one on.
+    pub count: usize,
+    /// What kept the next one from being written.
+    pub trouble: Option<Trouble>,
+}
+
 /// A producer's end. Its calls answer as the machine does, and in trouble they change nothing.
 pub trait Inlet {
     /// What no call changes, as which end it is.
@@ -73,6 +82,31 @@ pub trait Inlet {
         ensures kept { kept self.new ≡ kept self.old }
         ensures answer { WriteAnswers (sent self.old) s result }
         ensures sent { WhereShown (Writes s event result) (sent self.old) (sent self.new) };
+
+    /// Writes events to the sequences from `lo` on, as `write` does, until one is not written. An
+    /// exchange behind a lock does so while it holds the lock once.
+    fn write_all(&mut self, lo: u64, events: &[Event]) -> Wrote
+        requires limit { lo + length events.now ≤ 2 ^ 62 }
+        ensures kept { kept self.new ≡ kept self.old }
+        ensures answer { WriteAllAnswers (sent self.old) lo (length events.now) result }
+        ensures sent { WhereShown (WritesAll lo (take result.count events.now)) (sent self.old) (sent self.new) }
+    {
+        for (k, event) in events.iter().enumerate() {
+            match self.write(lo + k as u64, *event) {
+                Ok(()) => (),
+                Err(trouble) => {
+                    return Wrote {
+                        count: k,
+                        trouble: Some(trouble),
+                    };
+                }
+            }
+        }
+        Wrote {
+            count: events.len(),
+            trouble: None,
+        }
+    }
 
     /// Publishes the sequences from `lo` to `hi`, both in the stretch.
     fn publish(&mut self, lo: u64, hi: u64) -> Result<(), Trouble>

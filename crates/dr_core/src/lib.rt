@@ -20,7 +20,7 @@ pub mod refusal;
 pub mod runs;
 
 pub use command::{Claimed, Command, Polled, Reply};
-pub use ends::{Inlet, Outlet, Trouble};
+pub use ends::{Inlet, Outlet, Trouble, Wrote};
 pub use engine::{Core, MAX_LIMIT, is_valid_limit};
 pub use handler::{Handler, processor_turn, show};
 pub use lawful::{

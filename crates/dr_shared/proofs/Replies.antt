@@ -1,5 +1,5 @@
 -- What the machine answers to a call, as an end tells it that shows nothing of what it did.
-use Rattle.std.proofs.Common.{◌≡◌, ◌≢◌, ◌<◌, ◌≤◌, ◌+◌, ◌-◌, ◌^◌, ℕ, zero, suc, Bool, true, false, ◌||◌, ◌&&◌, inl, inr, List, [], ◌∷◌, ◌++◌, Ok, Err, None, refl, sym, ◌∙◌, subst, arith, slice_index}
+use Rattle.std.proofs.Common.{◌≡◌, ◌≢◌, ◌<◌, ◌≤◌, ◌+◌, ◌-◌, ◌^◌, ℕ, zero, suc, Bool, true, false, ◌||◌, ◌&&◌, inl, inr, List, [], ◌∷◌, ◌++◌, Ok, Err, Option, None, Some, Result, length, refl, sym, ◌∙◌, subst, arith, slice_index}
 use Rattle.std.specs.Prelude.{nat_lt, ◌==◌, flat_map}
 use Rattle.std.specs.List.{range_with_len}
 use Rattle.std.proofs.lemmas.Bool.{cond_both, cases_Bool, or_parts, eqb-false, false≢true}
@@ -8,14 +8,16 @@ use Rattle.dr_seq.specs.declared.event.Event.{Event}
 use Rattle.dr_core.specs.declared.command.Command.TheVariants.{Claim, Write, Publish, Poll, Complete}
 use Rattle.dr_core.specs.declared.command.Reply.{Reply}
 use Rattle.dr_core.specs.declared.command.Reply.TheVariants.{Claimed, Written, Published, Batch, Drained, Gating, Idle, Completed, Refused as RefusedReply}
-use Rattle.dr_core.specs.declared.ends.Trouble.TheVariants.{Refused}
+use Rattle.dr_core.specs.declared.ends.Trouble.{Trouble}
+use Rattle.dr_core.specs.declared.ends.Trouble.TheVariants.{Refused, Memory}
+use Rattle.dr_core.specs.declared.ends.Wrote.{Wrote}
 use Rattle.dr_core.specs.declared.refusal.Refusal.{Refusal}
 use Rattle.dr_core.specs.Meaning.Refusals.{NoneHolds, IsFirst, claim_causes, write_causes, sequence_causes, publish_causes, poll_causes, complete_causes}
-use Rattle.dr_core.specs.Calls.Ends.{Verdict, Exactly, AtLeast, MayHold, MayFail, claim_tests, write_tests, publish_tests, end_sequence_tests, poll_tests, complete_tests, ClaimAnswers, WriteAnswers, PublishAnswers, CompleteAnswers}
+use Rattle.dr_core.specs.Calls.Ends.{Verdict, Exactly, AtLeast, MayHold, MayFail, claim_tests, write_tests, publish_tests, end_sequence_tests, poll_tests, complete_tests, ClaimAnswers, StopsAt, WriteAllAnswers, WriteAnswers, PublishAnswers, CompleteAnswers}
 use Rattle.dr_core.specs.Meaning.Machine.{Setup, State, Outcome, next, available, cursor, refusals, publish_faults, accepted, unless, unchanged, step}
 use Rattle.dr_core.specs.Meaning.Transcript.{Transcript, LeadsTo}
 use Rattle.dr_core.proofs.Steps.{NoneHold}
-use Rattle.dr_shared.specs.Calls.Lock.{IsAnswer}
+use Rattle.dr_shared.specs.Calls.Lock.{AreWritten, IsAnswer, IsWritten, StopsBy, one_of}
 use Rattle.dr_shared.proofs.Reached.{held, available_claimed}
 
 -- Verdicts of the machine's tests.
@@ -188,6 +190,21 @@ claim_tells p n reply values is = subst (ClaimTells n) is.replies (claim_step is
 pub write_tells : (p s : ℕ) (e : Event) (reply : Reply) (values : List Event) → IsAnswer (Write p s e) reply values
     → WriteTells s reply
 write_tells p s e reply values is = subst (WriteTells s) is.replies (write_step is.core.setup is.runs.state p s e)
+
+written_tells : (p s : ℕ) (e : Event) (r : Result (Unit {0}) Trouble) → IsWritten p s e r → WriteAnswers None s r
+written_tells p s e (Ok done) is = write_tells p s e Written [] is
+written_tells p s e (Err (Refused refusal)) is = write_tells p s e (RefusedReply refusal) [] is
+written_tells p s e (Err Memory) is = tt
+
+stops_tells : (p lo : ℕ) (events : List Event) (count : ℕ) (trouble : Option Trouble) → StopsBy p lo events count trouble → StopsAt None lo (length events) count trouble
+stops_tells p lo events count None is = is
+stops_tells p lo events count (Some trouble) is = (is.0, written_tells p (lo + count) (one_of events count) (Err trouble) is.1)
+
+pub write_all_tells : (p lo : ℕ) (events : List Event) (wrote : Wrote) → AreWritten p lo events wrote → WriteAllAnswers None lo (length events) wrote
+write_all_tells p lo events wrote is = record {
+  written = λ k less. written_tells p (lo + k) (one_of events k) (Ok tt) (is.written k less);
+  stops = stops_tells p lo events wrote.count wrote.trouble is.stops;
+}
 
 pub publish_tells : (p lo hi : ℕ) (reply : Reply) (values : List Event) → IsAnswer (Publish p lo hi) reply values
     → PublishTells lo hi reply

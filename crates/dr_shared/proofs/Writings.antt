@@ -1,17 +1,19 @@
 -- A script's events, written and published.
-use Rattle.std.proofs.Common.{◌≡◌, ◌<◌, ◌≤◌, ◌+◌, ◌-◌, ℕ, suc, List, [], ◌∷◌, ◌++◌, length, take, drop, map, get_or, set, replicate, Option, None, Some, Ok, refl, sym, ap, ◌∙◌, arith, append_assoc}
+use Rattle.std.proofs.Common.{◌≡◌, ◌<◌, ◌≤◌, ◌+◌, ◌-◌, ℕ, zero, suc, List, [], ◌∷◌, ◌++◌, length, take, drop, map, get_or, set, replicate, Option, None, Some, Ok, refl, sym, ap, ◌∙◌, subst, arith, append_assoc}
 use Rattle.std.specs.Prelude.{◌==◌, false, flat_map, not, unwrap_or}
 use Rattle.std.specs.List.{range_with_len}
 use Rattle.std.proofs.lemmas.Bool.{eqb-true, not-false}
-use Rattle.std.proofs.lemmas.List.{append-nil, length-take-le, map-append, take_more, take_all, take-append-drop, take-take, drop-take}
+use Rattle.std.proofs.lemmas.List.{append-nil, length-drop, length-take-le, map-append, take_more, take_all, take-append-drop, take-take, drop-take}
 use Rattle.std.proofs.Math.Seq.{set-append_seam}
 use Rattle.dr_seq.specs.declared.event.Event.{Event}
 use Rattle.dr_seq.specs.Event.{no_event}
 use Rattle.dr_core.specs.declared.command.Claimed.{Claimed}
+use Rattle.dr_core.specs.declared.ends.Trouble.{Trouble}
 use Rattle.dr_core.specs.declared.refusal.Refusal.{Refusal}
 use Rattle.dr_core.specs.declared.refusal.Refusal.TheVariants.{BadCount, NoProducer, NotClaimed, OutOfOrder}
 use Rattle.dr_core.specs.Meaning.Refusals.{NoneHolds, sequence_causes}
-use Rattle.dr_core.specs.Calls.Ends.{Sent, Verdict, WhereShown, Claims, MayFail, PublishAnswers, Writes, Publishes, publish_tests}
+use Rattle.dr_core.specs.Calls.Ends.{Sent, Verdict, WhereShown, Claims, MayFail, PublishAnswers, StopsAt, Writes, WritesAll, Publishes, publish_tests, with_event, with_events}
+use Rattle.dr_core.proofs.ManyWrites.{with_events-append, written_more}
 use Rattle.dr_shared.specs.Meaning.Work.{Adds, Writing}
 use Rattle.dr_shared.proofs.Showing.{shown_as, shown_none, shown_through}
 
@@ -55,21 +57,47 @@ writing_more lo events k s e less at is a b c h put = record {
 writing_none : (lo : ℕ) (events : List Event) (a : Sent) → Writing lo events 0 a a
 writing_none lo events a = record { published = refl; pending = λ front nothing. (let over : length events - 0 ≡ length events = omega arith in rw over nothing) }
 
--- before the first write
-pub begins : (lo : ℕ) (events : List Event) (o : Option Sent) → WhereShown (Writing lo events 0) o o
-begins lo events o = shown_none (Writing lo events 0) (writing_none lo events) o
+-- the first of some events are written one after another
+writing_first : (lo : ℕ) (events : List Event) (k : ℕ) → k ≤ length events → (a : Sent) → Writing lo events k a (with_events lo (take k events) a)
+writing_first lo events zero within a = writing_none lo events a
+writing_first lo events (suc k) within a =
+    let less : k < length events = omega arith in
+    let on : k + 1 ≡ suc k = omega arith in
+    let before : Sent = with_events lo (take k events) a in
+    let e : Event = get_or events k no_event in
+    let next : with_event before (lo + k) e ≡ with_events lo (take (k + 1) events) a = written_more lo k (lo + k) events e less refl refl (Some a) (Some before) (Some (with_event before (lo + k) e)) refl refl in
+    subst (λ n. Writing lo events n a (with_events lo (take n events) a)) on
+    (writing_more lo events k (lo + k) e less refl refl a before (with_events lo (take (k + 1) events) a) (writing_first lo events k (omega arith) a) (sym next))
 
--- one write more
-pub writes_more : (lo : ℕ) (events : List Event) (k s : ℕ) (e : Event) → k < length events → s ≡ lo + k → get_or events k no_event ≡ e
-    → (o p q : Option Sent) → WhereShown (Writing lo events k) o p → WhereShown (Puts s e) p q → WhereShown (Writing lo events (k + 1)) o q
-writes_more lo events k s e less at is o p q h put = shown_through (Writing lo events k) (Puts s e) (Writing lo events (k + 1)) (writing_more lo events k s e less at is) o p q h put
+written_as : (lo : ℕ) (events : List Event) (a b : Sent) → WritesAll lo events a b → Writing lo events (length events) a b
+written_as lo events a b h =
+    let all : take (length events) events ≡ events = take_all (length events) events (omega arith) in
+    subst (λ x. Writing lo events (length events) a x) (ap (λ l. with_events lo l a) all ∙ sym h) (writing_first lo events (length events) (omega arith) a)
+
+-- all events are written
+pub writes_as : (lo : ℕ) (events : List Event) (o p : Option Sent) → WhereShown (WritesAll lo events) o p → WhereShown (Writing lo events (length events)) o p
+writes_as lo events o p h = shown_as (WritesAll lo events) (Writing lo events (length events)) (written_as lo events) o p h
+
+wrote_through : (lo : ℕ) (xs ys zs : List Event) → zs ≡ xs ++ ys → (n : ℕ) → n ≡ lo + length xs → (a b c : Sent) → WritesAll lo xs a b → WritesAll n ys b c → WritesAll lo zs a c
+wrote_through lo xs ys zs is n at a b c h k = k ∙ ap (λ m. with_events m ys b) at ∙ ap (λ x. with_events (lo + length xs) ys x) h ∙ sym (with_events-append lo xs ys a) ∙ ap (λ l. with_events lo l a) (sym is)
+
+-- some events after others
+pub writes_through : (lo : ℕ) (xs ys zs : List Event) → zs ≡ xs ++ ys → (n : ℕ) → n ≡ lo + length xs → (o p q : Option Sent)
+    → WhereShown (WritesAll lo xs) o p → WhereShown (WritesAll n ys) p q → WhereShown (WritesAll lo zs) o q
+writes_through lo xs ys zs is n at o p q h k = shown_through (WritesAll lo xs) (WritesAll n ys) (WritesAll lo zs) (wrote_through lo xs ys zs is n at) o p q h k
 
 same_published : (lo : ℕ) (events : List Event) (k : ℕ) (a b : Sent) → Writing lo events k a b → Adds [] a b
 same_published lo events k a b h = h.published ∙ sym (append-nil a.published)
 
+written_adds : (lo : ℕ) (events : List Event) (a b : Sent) → WritesAll lo events a b → Adds [] a b
+written_adds lo events a b h = same_published lo events (length events) a b (written_as lo events a b h)
+
 -- what was written is not published yet
-pub adds_nothing : (lo : ℕ) (events : List Event) (k : ℕ) (o p q : Option Sent) → WhereShown (Writing lo events k) o p → q ≡ p → WhereShown (Adds []) o q
-adds_nothing lo events k o p q h same = rw same (shown_as (Writing lo events k) (Adds []) (same_published lo events k) o p h)
+pub only_written : (lo : ℕ) (events : List Event) (o p : Option Sent) → WhereShown (WritesAll lo events) o p → WhereShown (Adds []) o p
+only_written lo events o p h = shown_as (WritesAll lo events) (Adds []) (written_adds lo events) o p h
+
+pub adds_nothing : (lo : ℕ) (events : List Event) (o p q : Option Sent) → WhereShown (WritesAll lo events) o p → q ≡ p → WhereShown (Adds []) o q
+adds_nothing lo events o p q h same = rw same (only_written lo events o p h)
 
 nothing_added : (a : Sent) → Adds [] a a
 nothing_added a = sym (append-nil a.published)
@@ -147,3 +175,29 @@ pub first_and_next : (xs : List Event) (n m : ℕ) → take (n + m) xs ≡ take 
 first_and_next xs n m =
     let less : n ≤ n + m = omega arith in
     sym (take-append-drop n (take (n + m) xs)) ∙ ap (λ l. l ++ drop n (take (n + m) xs)) (take-take n (n + m) xs less) ∙ ap (λ l. take n xs ++ l) (drop-take n m xs)
+
+-- how far a call came that writes many
+
+pub stops_within : (shown : Option Sent) (lo n count : ℕ) (trouble : Option Trouble) → StopsAt shown lo n count trouble → count ≤ n
+stops_within shown lo n count None stops = omega arith
+stops_within shown lo n count (Some trouble) stops = (let less = stops.0 in omega arith)
+
+pub stops_nowhere : (shown : Option Sent) (lo n count : ℕ) (trouble : Option Trouble) → trouble ≡ None → StopsAt shown lo n count trouble → count ≡ n
+stops_nowhere shown lo n count trouble none stops = subst (λ t. StopsAt shown lo n count t) none stops
+
+-- the events after the first ones, as a slice has them
+pub rest_of : (events : List Event) (done : ℕ) → take (length events - done) (drop done events) ≡ drop done events
+rest_of events done = (let left : length (drop done events) ≡ length events - done = length-drop done events in take_all (length events - done) (drop done events) (omega arith))
+
+pub length-rest : (events : List Event) (done : ℕ) → length (take (length events - done) (drop done events)) ≡ length events - done
+length-rest events done = ap length (rest_of events done) ∙ length-drop done events
+
+pub more_written : (lo done count : ℕ) (events : List Event) → done ≤ length events → (o p q : Option Sent)
+    → WhereShown (WritesAll lo (take done events)) o p → WhereShown (WritesAll (lo + done) (take count (take (length events - done) (drop done events)))) p q → WhereShown (WritesAll lo (take (done + count) events)) o q
+more_written lo done count events within o p q h k =
+    let many : length (take done events) ≡ done = length-take-le done events within in
+    writes_through lo (take done events) (take count (drop done events)) (take (done + count) events) (first_and_next events done count) (lo + done) (omega arith) o p q h
+    (subst (λ l. WhereShown (WritesAll (lo + done) (take count l)) p q) (rest_of events done) k)
+
+pub all_written : (lo done count : ℕ) (events : List Event) → done + count ≡ length events → (o p : Option Sent) → WhereShown (WritesAll lo (take (done + count) events)) o p → WhereShown (WritesAll lo events) o p
+all_written lo done count events all o p h = subst (λ l. WhereShown (WritesAll lo l) o p) (take_all (done + count) events (omega arith)) h

@@ -1,14 +1,14 @@
 //! The worker of a producer.
 
-ghost use Rattle.std.specs.Prelude.{◌≡◌, ◌+◌, ◌^◌, ◌<◌, ◌≤◌, [], length, take, IfNone, OnErr, OnOk, Some};
+ghost use Rattle.std.specs.Prelude.{◌≡◌, ◌<◌, ◌≤◌, [], length, take, IfNone, OnErr, OnOk, Some};
 ghost use Rattle.dr_core.specs.Calls.Ends.{WhereShown};
 ghost use Rattle.dr_shared.specs.declared.fault.WorkFault.TheVariants.{Stopped};
 ghost use Rattle.dr_shared.specs.Calls.Stops.{Passes};
-ghost use Rattle.dr_shared.specs.Meaning.Work.{Adds, Writing};
+ghost use Rattle.dr_shared.specs.Meaning.Work.{Adds};
 
 use crate::fault::WorkFault;
 use crate::gate::Gate;
-use crate::retries::{claim, publish, write};
+use crate::retries::{claim, publish, write_all};
 use crate::turns::Turns;
 use dr_core::{Claimed, Inlet, Trouble};
 use dr_seq::Event;
@@ -21,24 +21,6 @@ pub struct Produced {
     pub sent: u64,
     /// Why not all of the script was sent, or that the gate stopped the worker.
     pub fault: Option<WorkFault>,
-}
-
-// Writes events to the sequences from `lo` on.
-fn write_all<R: Wait, I: Inlet>(
-    rt: &R,
-    inlet: &mut I,
-    lo: u64,
-    events: &[Event],
-) -> Result<(), Trouble>
-    requires limit { lo + length events.now ≤ 2 ^ 62 }
-    ensures kept { I.kept inlet.new ≡ I.kept inlet.old }
-    ensures written { OnOk result (WhereShown (Writing lo events.now (length events.now)) (I.sent inlet.old) (I.sent inlet.new)) }
-    ensures fault { OnErr result (WhereShown (Adds []) (I.sent inlet.old) (I.sent inlet.new)) }
-{
-    for (k, event) in events.iter().enumerate() {
-        write(rt, inlet, lo + k as u64, *event)?;
-    }
-    Ok(())
 }
 
 // Claims, passes the gate, writes and publishes some events.

@@ -1,7 +1,8 @@
 //! Calls of ends that are tried again while they have to wait.
 
-ghost use Rattle.std.specs.Prelude.{◌≡◌, ◌≢◌, Err, Ok, IfOk, OnErr, OnOk};
-ghost use Rattle.dr_core.specs.Calls.Ends.{Claims, Completes, GivesStretch, PublishAnswers, Publishes, WhereShown, Writes};
+ghost use Rattle.std.specs.Prelude.{◌≡◌, ◌≢◌, ◌+◌, ◌^◌, ◌≤◌, [], length, Err, Ok, IfOk, OnErr, OnOk};
+ghost use Rattle.dr_core.specs.Calls.Ends.{Claims, Completes, GivesStretch, PublishAnswers, Publishes, WhereShown, WritesAll};
+ghost use Rattle.dr_shared.specs.Meaning.Work.{Adds};
 
 use crate::waiting::Waiting;
 use dr_core::{Claimed, Inlet, Outlet, Refusal, Trouble};
@@ -26,23 +27,28 @@ pub(crate) fn claim<R: Wait, I: Inlet>(rt: &R, inlet: &mut I, n: u64) -> Result<
     unreachable!()
 }
 
-/// Writes the event of a claimed sequence, once there is memory for the call.
-pub(crate) fn write<R: Wait, I: Inlet>(
+/// Writes events to the claimed sequences from `lo` on, once there is memory for the calls.
+pub(crate) fn write_all<R: Wait, I: Inlet>(
     rt: &R,
     inlet: &mut I,
-    s: u64,
-    event: Event,
+    lo: u64,
+    events: &[Event],
 ) -> Result<(), Trouble>
+    requires limit { lo + length events.now ≤ 2 ^ 62 }
     ensures kept { I.kept inlet.new ≡ I.kept inlet.old }
-    ensures written { OnOk result (WhereShown (Writes s event (Ok tt)) (I.sent inlet.old) (I.sent inlet.new)) }
-    ensures fault { OnErr result (I.sent inlet.new ≡ I.sent inlet.old) }
+    ensures written { OnOk result (WhereShown (WritesAll lo events.now) (I.sent inlet.old) (I.sent inlet.new)) }
+    ensures fault { OnErr result (WhereShown (Adds []) (I.sent inlet.old) (I.sent inlet.new)) }
     ensures waits { result ≢ Err Trouble.Memory }
 {
     let mut waiting = Waiting::new(1);
+    let mut done = 0;
     for _ in rt.forever() {
-        match inlet.write(s, event) {
-            Err(Trouble::Memory) => waiting.wait(),
-            answer => return answer,
+        let wrote = inlet.write_all(lo + done as u64, &events[done..]);
+        done += wrote.count;
+        match wrote.trouble {
+            None => return Ok(()),
+            Some(Trouble::Memory) => waiting.wait(),
+            Some(refused) => return Err(refused),
         }
     }
     unreachable!()

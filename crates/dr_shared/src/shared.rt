@@ -1,13 +1,14 @@
 //! The exchange behind one lock.
 
-ghost use Rattle.std.specs.Prelude.{◌≡◌, ◌↔◌, ◌+◌, ◌<◌, ◌≤◌, IfOk, IfErr, OnErr, IsErr, MatchOption, if◌then◌else◌, drop, length, sum, take, vec_len};
+ghost use Rattle.std.specs.Prelude.{◌≡◌, ◌↔◌, ◌+◌, ◌^◌, ◌<◌, ◌≤◌, [], IfOk, IfErr, OnErr, IsErr, MatchOption, if◌then◌else◌, drop, is_ok, length, sum, take, vec_len};
 ghost use Rattle.dr_core.specs.Meaning.Runs.{count_in};
 ghost use Rattle.dr_shared.specs.Meaning.History.{asked, is_kept as is_kept_of};
-ghost use Rattle.dr_shared.specs.Calls.Lock.{IsAnswer};
+ghost use Rattle.dr_core.specs.Calls.Shows.{unit_reply};
+ghost use Rattle.dr_shared.specs.Calls.Lock.{AreWritten, IsAnswer, UnlessMemory};
 
 use crate::entry::is_kept;
 use crate::recorded::Recorded;
-use dr_core::{Command, Reply};
+use dr_core::{Command, Reply, Trouble, Wrote};
 use dr_seq::Event;
 use std::alloc::AllocError;
 use std::marker::{Model, PhantomData};
@@ -122,6 +123,42 @@ impl<L: Ledger> Locked<L> {
         }
         Ok(reply)
     }
+
+    /// Writes the event of a claimed sequence.
+    fn write(&mut self, end: &mut End<L>, p: u64, s: u64, event: Event) -> Result<(), Trouble>
+        ensures answer { UnlessMemory (λ answer. IsAnswer (Command.Write p s event) (unit_reply Reply.Written answer) []) result }
+        ensures counts { end.new ≡ (if is_ok result then end.old + 1 else end.old) }
+    {
+        match self.call(end, Command::Write { p, s, event }, &mut []) {
+            Ok(Reply::Written) => Ok(()),
+            Ok(Reply::Refused(refusal)) => Err(Trouble::Refused(refusal)),
+            Ok(_) => unreachable!(),
+            Err(_) => Err(Trouble::Memory),
+        }
+    }
+
+    /// Writes events to the sequences from `lo` on, until one is not written.
+    fn write_all(&mut self, end: &mut End<L>, p: u64, lo: u64, events: &[Event]) -> Wrote
+        requires limit { lo + length events.now ≤ 2 ^ 62 }
+        ensures answer { AreWritten p lo events.now result }
+        ensures counts { end.new ≡ end.old + result.count }
+    {
+        for (k, event) in events.iter().enumerate() {
+            match self.write(end, p, lo + k as u64, *event) {
+                Ok(()) => (),
+                Err(trouble) => {
+                    return Wrote {
+                        count: k,
+                        trouble: Some(trouble),
+                    };
+                }
+            }
+        }
+        Wrote {
+            count: events.len(),
+            trouble: None,
+        }
+    }
 }
 
 impl<L: Ledger> Shared<L> {
@@ -189,6 +226,23 @@ impl<L: Ledger> Shared<L> {
         ensures unchanged { OnErr result ((end.new ≡ end.old) × (out.new ≡ out.old)) }
     {
         self.locked.lock(rt).call(end, command, out)
+    }
+
+    /// Writes of a producer, one after another while the lock is held once: events go to the
+    /// sequences from `lo` on, until one is not written. Each is answered and counted as by `call`.
+    pub fn write_all(
+        &self,
+        rt: &impl Wait,
+        end: &mut End<L>,
+        p: u64,
+        lo: u64,
+        events: &[Event],
+    ) -> Wrote
+        requires limit { lo + length events.now ≤ 2 ^ 62 }
+        ensures answer { AreWritten p lo events.now result }
+        ensures counts { end.new ≡ end.old + result.count }
+    {
+        self.locked.lock(rt).write_all(end, p, lo, events)
     }
 }
 

@@ -1,5 +1,5 @@
 -- What the ends of an exchange show to whoever does not know which exchange it is, and what their calls answer and change.
-use Rattle.std.specs.Prelude.{◌≡◌, ℕ, ◌+◌, ◌-◌, ◌^◌, ◌<◌, ◌≤◌, Bool, true, false, not, ◌==◌, nat_lt, nat_le, Option, Some, None, is_none, unwrap_or, Result, Ok, Err, List, ◌++◌, length, map, take, drop, replicate, slice_index_or, slice_set}
+use Rattle.std.specs.Prelude.{◌≡◌, ℕ, ◌+◌, ◌-◌, ◌^◌, ◌<◌, ◌≤◌, Bool, true, false, not, ◌==◌, nat_lt, nat_le, Option, Some, None, is_none, unwrap_or, Result, Ok, Err, List, [], ◌∷◌, ◌++◌, length, map, take, drop, replicate, slice_index_or, slice_set}
 use Rattle.dr_seq.specs.declared.event.Event.{Event}
 use Rattle.dr_seq.specs.Event.{no_event}
 use Rattle.dr_core.specs.declared.refusal.Refusal.{Refusal}
@@ -8,6 +8,7 @@ use Rattle.dr_core.specs.declared.command.Polled.{Polled}
 use Rattle.dr_core.specs.declared.command.Polled.TheVariants.{Batch, Drained}
 use Rattle.dr_core.specs.declared.ends.Trouble.{Trouble}
 use Rattle.dr_core.specs.declared.ends.Trouble.TheVariants.{Refused, Memory}
+use Rattle.dr_core.specs.declared.ends.Wrote.{Wrote}
 use Rattle.dr_core.specs.Meaning.Refusals.{ClaimTests, WriteTests, SequenceTests, PublishTests, PollTests, CompleteTests, claim_causes, write_causes, publish_causes, poll_causes, complete_causes, NoneHolds, IsFirst}
 
 -- What an end may show.
@@ -125,6 +126,16 @@ ClaimAnswers shown n result = IsAnswerOf (claim_causes (claim_tests shown n)) re
 abbrev pub WriteAnswers : Option Sent → ℕ → Result (Unit {0}) Trouble → Type 0
 WriteAnswers shown s result = IsAnswerOf (write_causes (write_tests shown s)) result
 
+-- what kept the next of some events from being written: nothing where all are
+abbrev pub StopsAt : Option Sent → ℕ → ℕ → ℕ → Option Trouble → Type 0
+StopsAt shown lo n count None = count ≡ n
+StopsAt shown lo n count (Some trouble) = (count < n) × WriteAnswers shown (lo + count) (Err trouble)
+
+-- of n events, to be written from lo on, the first count are written
+pub record WriteAllAnswers (shown : Option Sent) (lo n : ℕ) (answer : Wrote) : Type 0 where
+  pub written : (k : ℕ) → k < answer.count → WriteAnswers shown (lo + k) (Ok tt)
+  pub stops : StopsAt shown lo n answer.count answer.trouble
+
 abbrev pub PublishAnswers : Option Sent → ℕ → ℕ → Result (Unit {0}) Trouble → Type 0
 PublishAnswers shown lo hi result = IsAnswerOf (publish_causes lo hi (publish_tests shown lo hi)) result
 
@@ -168,6 +179,14 @@ with_event e s event = record e { pending = slice_set e.pending (s - length e.pu
 abbrev pub Writes : ℕ → Event → Result (Unit {0}) Trouble → Sent → Sent → Type 0
 Writes s event (Ok done) old new = new ≡ with_event old s event
 Writes s event (Err trouble) old new = new ≡ old
+
+-- events are written to the sequences from lo on, one after another
+abbrev pub with_events : ℕ → List Event → Sent → Sent
+with_events lo [] e = e
+with_events lo (event ∷ events) e = with_events (lo + 1) events (with_event e lo event)
+
+abbrev pub WritesAll : ℕ → List Event → Sent → Sent → Type 0
+WritesAll lo events old new = new ≡ with_events lo events old
 
 abbrev pub event_or_none : Option Event → Event
 event_or_none o = unwrap_or o no_event

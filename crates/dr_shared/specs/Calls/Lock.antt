@@ -1,13 +1,18 @@
 -- A history behind a lock.
-use Rattle.std.specs.Prelude.{◌≡◌, ℕ, ◌^◌, ◌≤◌, Bool, true, false, Result, Ok, Err, List}
+use Rattle.std.specs.Prelude.{◌≡◌, ℕ, ◌+◌, ◌^◌, ◌<◌, ◌≤◌, Bool, true, false, Option, None, Some, Result, Ok, Err, List, [], length, slice_index_or}
 use Rattle.dr_seq.specs.declared.event.Event.{Event}
+use Rattle.dr_seq.specs.Event.{no_event}
 use Rattle.dr_core.specs.declared.command.Command.{Command}
+use Rattle.dr_core.specs.declared.command.Command.TheVariants.{Write}
 use Rattle.dr_core.specs.declared.command.Reply.{Reply}
+use Rattle.dr_core.specs.declared.command.Reply.TheVariants.{Written}
 use Rattle.dr_core.specs.declared.command.Polled.{Polled}
 use Rattle.dr_core.specs.declared.command.Polled.TheVariants.{Batch, Drained}
 use Rattle.dr_core.specs.declared.refusal.Refusal.{Refusal}
 use Rattle.dr_core.specs.declared.ends.Trouble.{Trouble}
 use Rattle.dr_core.specs.declared.ends.Trouble.TheVariants.{Refused, Memory}
+use Rattle.dr_core.specs.declared.ends.Wrote.{Wrote}
+use Rattle.dr_core.specs.Calls.Shows.{unit_reply}
 use Rattle.dr_core.specs.Meaning.Machine.{step}
 use Rattle.dr_core.specs.Meaning.Transcript.{Transcript}
 use Rattle.dr_core.specs.Calls.CoreView.{CoreView}
@@ -32,6 +37,24 @@ abbrev pub UnlessMemory : {A : Type 0} → (Result A Refusal → Type 0) → Res
 UnlessMemory Answers (Ok x) = Answers (Ok x)
 UnlessMemory Answers (Err (Refused refusal)) = Answers (Err refusal)
 UnlessMemory Answers (Err Memory) = Unit {0}
+
+-- a producer's write of an event
+abbrev pub IsWritten : ℕ → ℕ → Event → Result (Unit {0}) Trouble → Type 0
+IsWritten p s event result = UnlessMemory (λ answer. IsAnswer (Write p s event) (unit_reply Written answer) []) result
+
+-- one of some events
+abbrev pub one_of : List Event → ℕ → Event
+one_of events k = slice_index_or events k no_event
+
+-- what kept the next event from being written: nothing where all are
+abbrev pub StopsBy : ℕ → ℕ → List Event → ℕ → Option Trouble → Type 0
+StopsBy p lo events count None = count ≡ length events
+StopsBy p lo events count (Some trouble) = (count < length events) × IsWritten p (lo + count) (one_of events count) (Err trouble)
+
+-- the first of some events, as many as are answered, were written to the sequences from lo on
+pub record AreWritten (p lo : ℕ) (events : List Event) (wrote : Wrote) : Type 0 where
+  pub written : (k : ℕ) → k < wrote.count → IsWritten p (lo + k) (one_of events k) (Ok tt)
+  pub stops : StopsBy p lo events wrote.count wrote.trouble
 
 -- of a poll's answers the history keeps batches and `Drained`
 abbrev pub is_kept_poll : Result Polled Trouble → Bool

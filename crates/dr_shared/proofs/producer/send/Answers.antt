@@ -1,10 +1,10 @@
-use Rattle.std.proofs.Common.{◌≡◌, ◌+◌, Result, Ok, Err, Option, OnOk, List, length}
+use Rattle.std.proofs.Common.{◌≡◌, ◌+◌, Result, Ok, Err, Option, OnErr, OnOk, List, [], length}
 use Rattle.dr_seq.specs.declared.event.Event.{Event}
 use Rattle.dr_core.specs.declared.command.Claimed.{Claimed}
-use Rattle.dr_core.specs.Calls.Ends.{Sent, WhereShown, PublishAnswers, Publishes}
+use Rattle.dr_core.specs.Calls.Ends.{Sent, WhereShown, WritesAll, PublishAnswers, Publishes}
 use Rattle.dr_core.specs.declared.ends.Trouble.{Trouble}
 use Rattle.dr_shared.specs.Meaning.Work.{Adds, Writing}
-use Rattle.dr_shared.proofs.Writings.{Opens, sends}
+use Rattle.dr_shared.proofs.Writings.{Opens, adds_nothing, claim_adds, sends, writes_as}
 use Rattle.dr_shared.proofs.producer.send.Goals as goal
 
 -- where the publication succeeds
@@ -15,4 +15,13 @@ sent (Err fault) events c is o p q s h k answer l = l
 
 pub returns-clause-sent : goal.returns-clause-sent
 returns-clause-sent g c =
-    sent c.publish.result c.args.events.now c.in_ok-lo.field-0 c.in_ok-lo.ensures.stretch.1 _ _ _ _ c.in_ok-lo.ensures.claimed c.in_ok-write_all.ensures.written c.publish.ensures.answer c.publish.ensures.published
+    sent c.publish.result c.args.events.now c.in_ok-lo.field-0 c.in_ok-lo.ensures.stretch.1 _ _ _ _ c.in_ok-lo.ensures.claimed (writes_as c.in_ok-lo.field-0.lo c.args.events.now _ _ c.in_ok-write_all.ensures.written) c.publish.ensures.answer c.publish.ensures.published
+
+-- where it fails
+unsent : (r : Result (Unit {0}) Trouble) (events : List Event) (c : Claimed) → (o p q s : Option Sent) → WhereShown (Opens (length events) c) o p → WhereShown (WritesAll c.lo events) p q → OnErr r (s ≡ q) → OnErr r (WhereShown (Adds []) o s)
+unsent (Ok done) events c o p q s h k same = same
+unsent (Err fault) events c o p q s h k same = claim_adds (length events) c o p s h (adds_nothing c.lo events p q s k same)
+
+pub returns-clause-fault : goal.returns-clause-fault
+returns-clause-fault g c =
+    unsent c.publish.result c.args.events.now c.in_ok-lo.field-0 _ _ _ _ c.in_ok-lo.ensures.claimed c.in_ok-write_all.ensures.written c.publish.ensures.fault

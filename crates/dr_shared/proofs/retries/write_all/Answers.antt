@@ -1,0 +1,27 @@
+use Rattle.std.proofs.Common.{◌≡◌, ◌≤◌, ◌+◌, ◌-◌, ◌∙◌, arith, drop, length, take}
+use Rattle.dr_shared.proofs.Writings.{all_written, length-rest, more_written, only_written, stops_nowhere, stops_within}
+use Rattle.dr_shared.proofs.retries.write_all.Goals as goal
+
+pub loop-preserved : goal.loop-preserved
+loop-preserved g c =
+    let left : length (take (length c.args.events.now - c.loop.done) (drop c.loop.done c.args.events.now)) ≡ length c.args.events.now - c.loop.done = length-rest c.args.events.now c.loop.done in
+    let some : c.write_all-wrote.result.count ≤ length (take (length c.args.events.now - c.loop.done) (drop c.loop.done c.args.events.now)) = stops_within _ _ _ _ _ c.write_all-wrote.ensures.answer.stops in
+    let front = c.loop.invariant.3 in (
+      tt,
+      tt,
+      c.write_all-wrote.ensures.kept ∙ c.loop.invariant.2,
+      omega arith,
+      more_written c.args.lo c.loop.done c.write_all-wrote.result.count c.args.events.now c.loop.invariant.3 _ _ _ c.loop.invariant.4 c.write_all-wrote.ensures.sent,
+    )
+
+pub returns-in-None-trouble-clause-written : goal.returns-in-None-trouble-clause-written
+returns-in-None-trouble-clause-written g c =
+    let left : length (take (length c.args.events.now - c.loop.done) (drop c.loop.done c.args.events.now)) ≡ length c.args.events.now - c.loop.done = length-rest c.args.events.now c.loop.done in
+    let all : c.write_all-wrote.result.count ≡ length (take (length c.args.events.now - c.loop.done) (drop c.loop.done c.args.events.now)) = stops_nowhere _ _ _ _ _ c.in-None-trouble.is c.write_all-wrote.ensures.answer.stops in
+    let front = c.loop.invariant.3 in
+    all_written c.args.lo c.loop.done c.write_all-wrote.result.count c.args.events.now (omega arith) _ _
+    (more_written c.args.lo c.loop.done c.write_all-wrote.result.count c.args.events.now c.loop.invariant.3 _ _ _ c.loop.invariant.4 c.write_all-wrote.ensures.sent)
+
+pub returns-in-Some-trouble-clause-fault : goal.returns-in-Some-trouble-clause-fault
+returns-in-Some-trouble-clause-fault g c =
+    only_written c.args.lo (take (c.loop.done + c.write_all-wrote.result.count) c.args.events.now) _ _ (more_written c.args.lo c.loop.done c.write_all-wrote.result.count c.args.events.now c.loop.invariant.3 _ _ _ c.loop.invariant.4 c.write_all-wrote.ensures.sent)
