@@ -5,8 +5,8 @@ ghost use Rattle.std.specs.Prelude.{◌≡◌, IfOk, length};
 use std::alloc::{AllocError, Global};
 use std::thread::{JoinHandle, Threads};
 
-/// What threads give back, in their order. Where memory runs out those that are left go on until
-/// their scope ends.
+/// What threads give back, in their order; which thread gave what is in no contract. Where memory
+/// runs out those that are left go on until their scope ends.
 pub fn join_all<T: Drop, R: Threads>(
     rt: &R,
     alloc: Global,
