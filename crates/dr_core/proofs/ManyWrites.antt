@@ -13,7 +13,8 @@ pub below_more : (P : ℕ → Type 0) (k : ℕ) → ((j : ℕ) → j < k → P j
 below_more P k before here j less =
     elim (cases_lt j k) [ inl l ↦ before j l | inr g ↦ (let e : k ≡ j = omega arith in subst P e here) ]
 
-pub with_events-append : (lo : ℕ) (xs ys : List Event) (e : Sent) → with_events lo (xs ++ ys) e ≡ with_events (lo + length xs) ys (with_events lo xs e)
+pub with_events-append : (lo : ℕ) (xs ys : List Event) (e : Sent)
+    → with_events lo (xs ++ ys) e ≡ with_events (lo + length xs) ys (with_events lo xs e)
 with_events-append lo [] ys e = (let at : lo ≡ lo + 0 = omega arith in ap (λ n. with_events n ys e) at)
 with_events-append lo (x ∷ xs) ys e =
     let at : lo + 1 + length xs ≡ lo + length (x ∷ xs) = omega arith in
@@ -35,12 +36,16 @@ wrote_more lo k s events event less at is a b c h put =
     let many : length (take k events) ≡ k = length-take-le k events (omega arith) in
     let place : lo + length (take k events) ≡ s = omega arith in
     let before : Sent = with_events lo (take k events) a in
-    let one : with_events lo (take k events ++ get_or events k no_event ∷ []) a ≡ with_event before (lo + length (take k events)) (get_or events k no_event) = with_events-append lo (take k events) (get_or events k no_event ∷ []) a in
-    let front : with_events lo (take (k + 1) events) a ≡ with_event before s event = ap (λ l. with_events lo l a) (take_more events k no_event less) ∙ one ∙ ap (λ n. with_event before n (get_or events k no_event)) place ∙ ap (λ x. with_event before s x) is in
+    let one : with_events lo (take k events ++ get_or events k no_event ∷ []) a
+    ≡ with_event before (lo + length (take k events)) (get_or events k no_event) = with_events-append lo (take k events) (get_or events k no_event ∷ []) a in
+    let front : with_events lo (take (k + 1) events) a ≡ with_event before s event = ap (λ l. with_events lo l a) (take_more events k no_event less)
+    ∙ one
+    ∙ ap (λ n. with_event before n (get_or events k no_event)) place ∙ ap (λ x. with_event before s x) is in
     put ∙ ap (λ x. with_event x s event) h ∙ sym front
 
 pub written_more : (lo k s : ℕ) (events : List Event) (event : Event) → k < length events → s ≡ lo + k → get_or events k no_event ≡ event
-    → (o p q : Option Sent) → WhereShown (WritesAll lo (take k events)) o p → WhereShown (Writes s event (Ok tt)) p q → WhereShown (WritesAll lo (take (k + 1) events)) o q
+    → (o p q : Option Sent) → WhereShown (WritesAll lo (take k events)) o p → WhereShown (Writes s event (Ok tt)) p q
+    → WhereShown (WritesAll lo (take (k + 1) events)) o q
 written_more lo k s events event less at is None None None h put = tt
 written_more lo k s events event less at is None None (Some c) h put = absurd put
 written_more lo k s events event less at is None (Some b) q h put = absurd h
@@ -50,7 +55,8 @@ written_more lo k s events event less at is (Some a) (Some b) (Some c) h put = w
 
 -- in trouble no event more
 pub written_same : (lo : ℕ) (events : List Event) → (o p q : Option Sent)
-    → WhereShown (WritesAll lo events) o p → WhereShown (λ (a b : Sent). b ≡ a) p q → WhereShown (WritesAll lo events) o q
+    → WhereShown (WritesAll lo events) o p → WhereShown (λ (a b : Sent). b ≡ a) p q
+    → WhereShown (WritesAll lo events) o q
 written_same lo events None None None h same = tt
 written_same lo events None None (Some c) h same = absurd same
 written_same lo events None (Some b) q h same = absurd h
@@ -64,7 +70,8 @@ written_none lo (Some a) = refl
 
 -- writes change no test of a write
 
-answered_before : (lo s : ℕ) (events : List Event) (r : Result (Unit {0}) Trouble) → (a b : Sent) → WritesAll lo events a b → WriteAnswers (Some b) s r → WriteAnswers (Some a) s r
+answered_before : (lo s : ℕ) (events : List Event) (r : Result (Unit {0}) Trouble) → (a b : Sent)
+    → WritesAll lo events a b → WriteAnswers (Some b) s r → WriteAnswers (Some a) s r
 answered_before lo s events r a b h answer =
     let published : length b.published ≡ length a.published = ap (λ x. length x.published) h ∙ ap length (same_published lo events a) in
     let pending : length b.pending ≡ length a.pending = ap (λ x. length x.pending) h ∙ same_pending lo events a in

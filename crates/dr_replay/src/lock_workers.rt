@@ -130,6 +130,7 @@ fn send<L: Ledger, R: Wait, G: Gate>(around: &Around<'_, L, R, G>, task: Task<'_
     let Task { p, end, script } = task;
     let who = PRODUCER.saturating_add(p);
     let mut inlet = LockedInlet::new(around.rt, around.shared, end, p as u64);
+    // With less than the ring in a claim the handlers have events meanwhile.
     let cut = (around.size.get() / 4).max(1);
     let produced = produce(around.rt, &mut inlet, around.gate, who, script, cut);
     let end = inlet.into_end();

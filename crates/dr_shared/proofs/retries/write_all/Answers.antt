@@ -4,24 +4,33 @@ use Rattle.dr_shared.proofs.retries.write_all.Goals as goal
 
 pub loop-preserved : goal.loop-preserved
 loop-preserved g c =
-    let left : length (take (length c.args.events.now - c.loop.done) (drop c.loop.done c.args.events.now)) ≡ length c.args.events.now - c.loop.done = length-rest c.args.events.now c.loop.done in
-    let some : c.write_all-wrote.result.count ≤ length (take (length c.args.events.now - c.loop.done) (drop c.loop.done c.args.events.now)) = stops_within _ _ _ _ _ c.write_all-wrote.ensures.answer.stops in
+    let done = c.loop.done in
+    let events = c.args.events.now in
+    let left : length (take (length events - done) (drop done events)) ≡ length events - done = length-rest events done in
+    let some : c.write_all-wrote.result.count ≤ length (take (length events - done) (drop done events))
+    = stops_within _ _ _ _ _ c.write_all-wrote.ensures.answer.stops in
     let front = c.loop.invariant.3 in (
       tt,
       tt,
       c.write_all-wrote.ensures.kept ∙ c.loop.invariant.2,
       omega arith,
-      more_written c.args.lo c.loop.done c.write_all-wrote.result.count c.args.events.now c.loop.invariant.3 _ _ _ c.loop.invariant.4 c.write_all-wrote.ensures.sent,
+      more_written c.args.lo done c.write_all-wrote.result.count events front _ _ _ c.loop.invariant.4 c.write_all-wrote.ensures.sent,
     )
 
 pub returns-in-None-trouble-clause-written : goal.returns-in-None-trouble-clause-written
 returns-in-None-trouble-clause-written g c =
-    let left : length (take (length c.args.events.now - c.loop.done) (drop c.loop.done c.args.events.now)) ≡ length c.args.events.now - c.loop.done = length-rest c.args.events.now c.loop.done in
-    let all : c.write_all-wrote.result.count ≡ length (take (length c.args.events.now - c.loop.done) (drop c.loop.done c.args.events.now)) = stops_nowhere _ _ _ _ _ c.in-None-trouble.is c.write_all-wrote.ensures.answer.stops in
+    let done = c.loop.done in
+    let events = c.args.events.now in
+    let left : length (take (length events - done) (drop done events)) ≡ length events - done = length-rest events done in
+    let all : c.write_all-wrote.result.count ≡ length (take (length events - done) (drop done events))
+    = stops_nowhere _ _ _ _ _ c.in-None-trouble.is c.write_all-wrote.ensures.answer.stops in
     let front = c.loop.invariant.3 in
-    all_written c.args.lo c.loop.done c.write_all-wrote.result.count c.args.events.now (omega arith) _ _
-    (more_written c.args.lo c.loop.done c.write_all-wrote.result.count c.args.events.now c.loop.invariant.3 _ _ _ c.loop.invariant.4 c.write_all-wrote.ensures.sent)
+    all_written c.args.lo done c.write_all-wrote.result.count events (omega arith) _ _
+    (more_written c.args.lo done c.write_all-wrote.result.count events front _ _ _ c.loop.invariant.4 c.write_all-wrote.ensures.sent)
 
 pub returns-in-Some-trouble-clause-fault : goal.returns-in-Some-trouble-clause-fault
 returns-in-Some-trouble-clause-fault g c =
-    only_written c.args.lo (take (c.loop.done + c.write_all-wrote.result.count) c.args.events.now) _ _ (more_written c.args.lo c.loop.done c.write_all-wrote.result.count c.args.events.now c.loop.invariant.3 _ _ _ c.loop.invariant.4 c.write_all-wrote.ensures.sent)
+    let done = c.loop.done in
+    let events = c.args.events.now in
+    only_written c.args.lo (take (done + c.write_all-wrote.result.count) events) _ _
+    (more_written c.args.lo done c.write_all-wrote.result.count events c.loop.invariant.3 _ _ _ c.loop.invariant.4 c.write_all-wrote.ensures.sent)

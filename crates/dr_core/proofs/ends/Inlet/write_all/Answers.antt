@@ -12,7 +12,10 @@ returns-in-Err-clause-kept g c = c.write.ensures.kept ∙ c.loop-k.invariant.0
 pub returns-in-Err-clause-answer : goal.returns-in-Err-clause-answer
 returns-in-Err-clause-answer g c = record {
   written = c.loop-k.invariant.1;
-  stops = (c.loop-k-test.true, answer_before c.args.lo (c.args.lo + c.loop-k.k) (take c.loop-k.k c.args.events.now) (Err c.in-Err.trouble) _ _ c.loop-k.invariant.2 c.in-Err.ensures.answer);
+  stops = (
+    c.loop-k-test.true,
+    answer_before c.args.lo (c.args.lo + c.loop-k.k) (take c.loop-k.k c.args.events.now) (Err c.in-Err.trouble) _ _ c.loop-k.invariant.2 c.in-Err.ensures.answer,
+  );
 }
 
 pub returns-in-Err-clause-sent : goal.returns-in-Err-clause-sent
@@ -21,7 +24,8 @@ returns-in-Err-clause-sent g c = written_same c.args.lo (take c.loop-k.k c.args.
 pub loop-k-preserved : goal.loop-k-preserved
 loop-k-preserved g c = (
   c.write.ensures.kept ∙ c.loop-k.invariant.0,
-  below_more (λ k. WriteAnswers (g.Self.Inlet.sent c.args.self.now) (c.args.lo + k) (Ok tt)) c.loop-k.k c.loop-k.invariant.1 (answer_before c.args.lo (c.args.lo + c.loop-k.k) (take c.loop-k.k c.args.events.now) (Ok tt) _ _ c.loop-k.invariant.2 c.in-Ok.ensures.answer),
+  below_more (λ k. WriteAnswers (g.Self.Inlet.sent c.args.self.now) (c.args.lo + k) (Ok tt)) c.loop-k.k c.loop-k.invariant.1
+      (answer_before c.args.lo (c.args.lo + c.loop-k.k) (take c.loop-k.k c.args.events.now) (Ok tt) _ _ c.loop-k.invariant.2 c.in-Ok.ensures.answer),
   written_more c.args.lo c.loop-k.k (c.args.lo + c.loop-k.k) c.args.events.now _ c.loop-k-test.true refl refl _ _ _ c.loop-k.invariant.2 c.in-Ok.ensures.sent,
 )
 
