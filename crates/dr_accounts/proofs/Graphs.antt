@@ -109,7 +109,8 @@ is_its_graph = record {
 }
 
 -- what the builder's calls declare
-pub declares : (none some all : Declaration) (group first later : List Name) → none.names ≡ [] → none.edges ≡ [] → first ≡ codes "journal" ∷ codes "replica" ∷ [] → later ≡ codes "business" ∷ []
+pub declares : (none some all : Declaration) (group first later : List Name) → none.names ≡ [] → none.edges ≡ []
+    → first ≡ codes "journal" ∷ codes "replica" ∷ [] → later ≡ codes "business" ∷ []
     → some ≡ record none { names = none.names ++ first } → group ≡ first → all ≡ followed_by some group later → all ≡ declared
 declares none some all group first later no_names no_edges first_is later_is one same two =
     let both : List Name = codes "journal" ∷ codes "replica" ∷ [] in

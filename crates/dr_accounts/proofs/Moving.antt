@@ -24,7 +24,8 @@ same false x = refl
 self_eq : (n : ℕ) → (n == n) ≡ true
 self_eq n = eq-eqb n n refl
 
-pub deposited : (old new : Kept) (n amount : ℕ) → ((a : ℕ) → new a ≡ (if a == n then Some (added (old n) amount) else old a)) → (a : ℕ) → MovedAt (Deposit n amount) old new a
+pub deposited : (old new : Kept) (n amount : ℕ) → ((a : ℕ) → new a ≡ (if a == n then Some (added (old n) amount) else old a)) → (a : ℕ)
+    → MovedAt (Deposit n amount) old new a
 deposited old new n amount h a = elim (cases_eq a n) [
   | inl e ↦ rw e (let is = rw (self_eq n) at (h n) in record { balance = rw (is, self_eq n) refl; refused = rw is (omega arith); named = rw (is, self_eq n, or_true (is_some (old n))) refl })
   | inr ne ↦ let is = rw (ne_eqb a n ne) at (h a) in record { balance = rw (is, ne_eqb a n ne) refl; refused = rw is (omega arith); named = rw (is, ne_eqb a n ne, or_false (is_some (old a))) refl }
@@ -34,7 +35,8 @@ none : (b : Bool) (n : ℕ) → n ≡ n + (if b && false then 1 else 0)
 none true n = omega arith
 none false n = omega arith
 
-pub withdrawn : (old new : Kept) (n amount : ℕ) → ((a : ℕ) → new a ≡ (if a == n then Some (taken (old n) amount) else old a)) → (a : ℕ) → MovedAt (Withdraw n amount) old new a
+pub withdrawn : (old new : Kept) (n amount : ℕ) → ((a : ℕ) → new a ≡ (if a == n then Some (taken (old n) amount) else old a)) → (a : ℕ)
+    → MovedAt (Withdraw n amount) old new a
 withdrawn old new n amount h a = elim (cases_eq a n) [
   | inl e ↦ rw e (let is = rw (self_eq n) at (h n) in elim (cases_Bool (nat_lt (balance_in (old n)) amount)) [
     | inl less ↦ record { balance = rw (is, self_eq n, less) refl; refused = rw (is, self_eq n, less) refl; named = rw (is, self_eq n, or_true (is_some (old n))) refl }
@@ -55,7 +57,8 @@ back balance amount h = omega arith
 abbrev pub given : Bool → ℕ → ℕ
 given refused amount = if refused then 0 else amount
 
-self_transfer : (old new : Kept) (n amount : ℕ) (between : Option Account) (r : Bool) → nat_lt (balance_in (old n)) amount ≡ r → between ≡ Some (taken (old n) amount) → new n ≡ Some (added between (given r amount))
+self_transfer : (old new : Kept) (n amount : ℕ) (between : Option Account) (r : Bool) → nat_lt (balance_in (old n)) amount ≡ r
+    → between ≡ Some (taken (old n) amount) → new n ≡ Some (added between (given r amount))
     → MovedAt (Transfer n n amount) old new n
 self_transfer old new n amount between true less b is = record {
   balance = rw (is, b, less) (omega arith);
@@ -71,7 +74,8 @@ self_transfer old new n amount between false more b is =
     }
 
 -- at the first of two accounts
-transfer_from : (old new : Kept) (from to amount : ℕ) (r : Bool) → (from == to) ≡ false → nat_lt (balance_in (old from)) amount ≡ r → new from ≡ Some (taken (old from) amount) → MovedAt (Transfer from to amount) old new from
+transfer_from : (old new : Kept) (from to amount : ℕ) (r : Bool) → (from == to) ≡ false → nat_lt (balance_in (old from)) amount ≡ r
+    → new from ≡ Some (taken (old from) amount) → MovedAt (Transfer from to amount) old new from
 transfer_from old new from to amount true apart less is = record {
   balance = rw (is, less) refl;
   refused = rw (is, less, self_eq from) refl;
@@ -84,7 +88,8 @@ transfer_from old new from to amount false apart more is = record {
 }
 
 -- at the second
-transfer_to : (old new : Kept) (from to amount : ℕ) (r : Bool) → (from == to) ≡ false → (to == from) ≡ false → nat_lt (balance_in (old from)) amount ≡ r → new to ≡ Some (added (old to) (given r amount)) → MovedAt (Transfer from to amount) old new to
+transfer_to : (old new : Kept) (from to amount : ℕ) (r : Bool) → (from == to) ≡ false → (to == from) ≡ false
+    → nat_lt (balance_in (old from)) amount ≡ r → new to ≡ Some (added (old to) (given r amount)) → MovedAt (Transfer from to amount) old new to
 transfer_to old new from to amount true apart apart2 less is = record {
   balance = rw (is, less) (omega arith);
   refused = rw (is, less, apart2) (omega arith);

@@ -9,7 +9,8 @@ use Rattle.dr_accounts.specs.declared.replica.Replica.{Replica}
 use Rattle.dr_accounts.specs.Handlers.{Books, Copies, IsBusinessOf, IsJournalOf, IsReplicaOf, Journals}
 use Rattle.dr_accounts.proofs.Shown.{along, business_goes, journal_goes, replica_goes}
 
-parted : {A : Type 0} (goes : Relation A) (a : A) (xs ys : List Showing) (b : A) → GoesThrough goes a (xs ++ ys) b → (m : A) × GoesThrough goes a xs m × GoesThrough goes m ys b
+parted : {A : Type 0} (goes : Relation A) (a : A) (xs ys : List Showing) (b : A) → GoesThrough goes a (xs ++ ys) b
+    → (m : A) × GoesThrough goes a xs m × GoesThrough goes m ys b
 parted goes a [] ys b is = (a, refl, is)
 parted goes a (x ∷ xs) ys b is = let rest = parted goes is.0 xs ys b is.2 in (rest.0, (is.0, is.1, rest.1), rest.2)
 
@@ -32,11 +33,14 @@ copies old event s end new = Copies old event new
 abbrev books : Relation Business
 books old event s end new = Books old event new
 
-pub journal_shown : (first last : Journal) (batches : List Dealt) → IsJournalOf first [] → GoesThrough journals first (shown_of batches) last → IsJournalOf last (dealt_events batches)
+pub journal_shown : (first last : Journal) (batches : List Dealt) → IsJournalOf first [] → GoesThrough journals first (shown_of batches) last
+    → IsJournalOf last (dealt_events batches)
 journal_shown first last batches new through = along_batches journals IsJournalOf journal_goes first last [] batches new through
 
-pub replica_shown : (first last : Replica) (batches : List Dealt) → IsReplicaOf first [] → GoesThrough copies first (shown_of batches) last → IsReplicaOf last (dealt_events batches)
+pub replica_shown : (first last : Replica) (batches : List Dealt) → IsReplicaOf first [] → GoesThrough copies first (shown_of batches) last
+    → IsReplicaOf last (dealt_events batches)
 replica_shown first last batches new through = along_batches copies IsReplicaOf replica_goes first last [] batches new through
 
-pub business_shown : (first last : Business) (batches : List Dealt) → IsBusinessOf first [] → GoesThrough books first (shown_of batches) last → IsBusinessOf last (dealt_events batches)
+pub business_shown : (first last : Business) (batches : List Dealt) → IsBusinessOf first [] → GoesThrough books first (shown_of batches) last
+    → IsBusinessOf last (dealt_events batches)
 business_shown first last batches new through = along_batches books IsBusinessOf business_goes first last [] batches new through

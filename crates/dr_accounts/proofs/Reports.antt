@@ -1,5 +1,6 @@
 -- What the handlers say is what the report says of the events that they were shown.
-use Rattle.std.proofs.Common.{◌≡◌, ◌≤◌, ◌<◌, ◌+◌, ◌^◌, ◌/◌, ◌%◌, ◌⊎◌, ℕ, zero, suc, ◌||◌, nat_lt, ⊎_elim, Bool, true, false, List, [], ◌∷◌, ◌++◌, length, Option, Some, None, refl, sym, ap, ◌∙◌, subst, arith, inl, inr, flat_map, if◌then◌else◌, string_bytes, add-one}
+use Rattle.std.proofs.Common.{◌≡◌, ◌≤◌, ◌<◌, ◌+◌, ◌^◌, ◌/◌, ◌%◌, ◌⊎◌, ℕ, zero, suc, ◌||◌, nat_lt, ⊎_elim, Bool, true, false, List, [], ◌∷◌, ◌++◌, length}
+use Rattle.std.proofs.Common.{Option, Some, None, refl, sym, ap, ◌∙◌, subst, arith, inl, inr, flat_map, if◌then◌else◌, string_bytes, add-one}
 use Rattle.std.specs.Prelude.{◌==◌, is_some, filter, codes}
 use Rattle.std.specs.List.{range_with_len, AllByRecursion}
 use Rattle.std.specs.List.Sorted.{IsStrictlySortedBy}
@@ -174,11 +175,13 @@ within_bound : (a : ℕ) → a < 2 ^ 16 → a < 0 + account_bound
 unfolding account_bound
 within_bound a h = omega arith
 
-line_is : (a : ℕ) (o : Option Account) (balance refused : ℕ) (named : Bool) → balance_in o ≡ balance → refused_in o ≡ refused → is_some o ≡ named → line_at a o ≡ (if named then account_line a balance refused else [])
+line_is : (a : ℕ) (o : Option Account) (balance refused : ℕ) (named : Bool) → balance_in o ≡ balance → refused_in o ≡ refused → is_some o ≡ named
+    → line_at a o ≡ (if named then account_line a balance refused else [])
 line_is a None balance refused named b r n = rw (← n) refl
 line_is a (Some account) balance refused named b r n = rw (← n, ← b, ← r) refl
 
-pub business_says : (b : Business) (events : List Event) → HasBusiness b events → IsStrictlySortedBy nat_cmp (keys_of b.accounts.entries) → business_text b ≡ business_part events
+pub business_says : (b : Business) (events : List Event) → HasBusiness b events → IsStrictlySortedBy nat_cmp (keys_of b.accounts.entries)
+    → business_text b ≡ business_part events
 business_says b events has sorted =
     let entries = b.accounts.entries in
     let rise = rises 0 entries (any_above entries) sorted in

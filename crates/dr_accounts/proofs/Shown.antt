@@ -1,5 +1,6 @@
 -- What a handler holds after events that it was shown.
-use Rattle.std.proofs.Common.{◌≡◌, ◌≤◌, ◌<◌, ◌+◌, ℕ, zero, suc, Bool, true, false, ◌||◌, List, [], ◌∷◌, ◌++◌, length, refl, sym, ap, ◌∙◌, subst, arith, inl, inr, add-zero, append-nil, append_assoc, flat_map, length-append}
+use Rattle.std.proofs.Common.{◌≡◌, ◌≤◌, ◌<◌, ◌+◌, ℕ, zero, suc, Bool, true, false, ◌||◌, List, [], ◌∷◌, ◌++◌, length, refl, sym}
+use Rattle.std.proofs.Common.{ap, ◌∙◌, subst, arith, inl, inr, add-zero, append-nil, append_assoc, flat_map, length-append}
 use Rattle.std.proofs.lemmas.Bool.{cases_Bool}
 use Rattle.std.proofs.lemmas.List.{get_or_append_left}
 use Rattle.std.proofs.lemmas.List.Concat.{flat_map-append}
@@ -27,7 +28,8 @@ along goes Has one a b es (e ∷ f ∷ vs) first end has is =
     subst (λ l. Has b l) (append_assoc es (e ∷ []) (f ∷ vs)) (along goes Has one is.0 b (es ++ e ∷ []) (f ∷ vs) (first + 1) end (one a is.0 es e first false has is.1) is.2)
 
 -- one that has not failed after a call had not failed before it
-took : {T : Type 0} (failed : T → Bool) (Takes : T → T → Type 0) (old new : T) → Goes T failed Takes old new → failed new ≡ false → (failed old ≡ false) × Takes old new
+took : {T : Type 0} (failed : T → Bool) (Takes : T → T → Type 0) (old new : T) → Goes T failed Takes old new → failed new ≡ false
+    → (failed old ≡ false) × Takes old new
 took failed Takes old new goes fine = elim (cases_Bool (failed old)) [
   | inl gone ↦ let clash : true ≡ false = sym gone ∙ ap failed (sym (goes.stays gone)) ∙ fine in absurd (let no_way : ⊥ = cc in no_way)
   | inr was ↦ (was, goes.takes was fine)

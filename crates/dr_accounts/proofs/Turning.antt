@@ -1,5 +1,6 @@
 -- A handler's turn, where events are there that it has not taken.
-use Rattle.std.proofs.Common.{◌≡◌, ◌≤◌, ◌<◌, ◌+◌, ◌-◌, ℕ, zero, suc, Bool, true, List, [], ◌∷◌, ◌++◌, length, take, drop, slice_index, Result, Ok, Err, sym, ap, ◌∙◌, subst, arith, take-add}
+use Rattle.std.proofs.Common.{◌≡◌, ◌≤◌, ◌<◌, ◌+◌, ◌-◌, ℕ, zero, suc, Bool, true, List, [], ◌∷◌, ◌++◌, length}
+use Rattle.std.proofs.Common.{take, drop, slice_index, Result, Ok, Err, sym, ap, ◌∙◌, subst, arith, take-add}
 use Rattle.std.specs.Prelude.{slice_set}
 use Rattle.dr_seq.specs.declared.event.Event.{Event}
 use Rattle.dr_core.specs.declared.command.Command.TheVariants.{Complete, Poll}
@@ -77,12 +78,14 @@ module _ {A : Type 0} (goes : Relation A) (size : ℕ) (events : List Event) (at
 
 -- what is offered to each handler, once those before it are done
 
-pub offered_first : (size : ℕ) (events : List Event) (sent h : ℕ) (counts : List ℕ) → h < 2 → available (replay_setup size) (passed events sent sent sent counts counts) h ≡ sent
+pub offered_first : (size : ℕ) (events : List Event) (sent h : ℕ) (counts : List ℕ) → h < 2
+    → available (replay_setup size) (passed events sent sent sent counts counts) h ≡ sent
 offered_first size events sent zero counts low = rw (next_is events sent sent sent counts counts) (front_below sent sent (omega arith))
 offered_first size events sent (suc zero) counts low = rw (next_is events sent sent sent counts counts) (front_below sent sent (omega arith))
 offered_first size events sent (suc (suc h)) counts low = absurd (omega arith)
 
-pub offered_last : (size : ℕ) (events : List Event) (sent at : ℕ) → available (replay_setup size) (passed events sent sent sent (sent ∷ sent ∷ at ∷ []) (sent ∷ sent ∷ at ∷ [])) 2 ≡ sent
+pub offered_last : (size : ℕ) (events : List Event) (sent at : ℕ)
+    → available (replay_setup size) (passed events sent sent sent (sent ∷ sent ∷ at ∷ []) (sent ∷ sent ∷ at ∷ [])) 2 ≡ sent
 offered_last size events sent at = omega arith
 
 -- events that were taken, and those taken after them

@@ -7,7 +7,8 @@ use Rattle.dr_seq.specs.declared.event.Event.{Event}
 use Rattle.dr_seq.specs.Event.{no_event}
 
 -- one more event is copied
-pub copy-more : (f : ℕ → Event) (first k : ℕ) (out old : List Event) (x : Event) → k < length old → out ≡ map f (range_with_len first k) ++ drop k old → x ≡ f (first + k) → set out k x ≡ map f (range_with_len first (k + 1)) ++ drop (k + 1) old
+pub copy-more : (f : ℕ → Event) (first k : ℕ) (out old : List Event) (x : Event) → k < length old
+    → out ≡ map f (range_with_len first k) ++ drop k old → x ≡ f (first + k) → set out k x ≡ map f (range_with_len first (k + 1)) ++ drop (k + 1) old
 copy-more f first k out old x l is same =
     ap (λ o. set o k x) (is ∙ ap (λ r. map f (range_with_len first k) ++ r) (drop_more old k no_event l))
     ∙ set_at (map f (range_with_len first k)) (get_or old k no_event) (drop (k + 1) old) x k (length-map-range_with_len f first k)

@@ -1,5 +1,6 @@
 -- A call of the core is the machine's step, on each state that the core shows.
-use Rattle.std.proofs.Common.{◌≡◌, ℕ, ◌+◌, ◌-◌, ◌<◌, ◌≤◌, ◌≢◌, inl, inr, true, false, cond, List, [], ◌++◌, arith, refl, ap, ◌∙◌, length, map, min, get_or, replicate, slice_index, slice_set}
+use Rattle.std.proofs.Common.{◌≡◌, ℕ, ◌+◌, ◌-◌, ◌<◌, ◌≤◌, ◌≢◌, inl, inr, true, false, cond, List, [], ◌++◌, arith}
+use Rattle.std.proofs.Common.{refl, ap, ◌∙◌, length, map, min, get_or, replicate, slice_index, slice_set}
 use Rattle.std.proofs.lemmas.Bool.{cond_both, eqb-true, or_from, cases_lt, lt-leb, le-ltb, ne_eqb}
 use Rattle.std.proofs.lemmas.List.{length-append, length-replicate, get_or_append_left, get_or-append_right, get_or-replicate}
 use Rattle.std.specs.Prelude.{◌==◌}

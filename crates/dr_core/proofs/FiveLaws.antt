@@ -9,7 +9,8 @@ use Rattle.dr_core.specs.declared.command.Command.TheVariants.{Claim, Write, Pub
 use Rattle.dr_core.specs.declared.command.Reply.TheVariants.{Claimed, Drained, Gating, Idle}
 use Rattle.dr_graph.proofs.Gating.{finals_agree, finals_gate, found_in, least_rises}
 use Rattle.dr_graph.specs.Meaning.Graph.{IsLayered}
-use Rattle.dr_core.specs.Meaning.Machine.{Setup, State, Outcome, handlers, next, front, available, gate, gating, retired_with, least_completed, refusals, accepted, unchanged, step, batch, cursor, opening}
+use Rattle.dr_core.specs.Meaning.Machine.{Setup, State, Outcome, handlers, next, front, available, gate, gating, retired_with}
+use Rattle.dr_core.specs.Meaning.Machine.{least_completed, refusals, accepted, unchanged, step, batch, cursor, opening}
 use Rattle.dr_core.specs.Meaning.Transcript.{Entry, Transcript, LeadsFrom, LeadsTo, next_of, is_published, front_of, taken_by, completed_by, retired_by}
 use Rattle.dr_core.specs.Meaning.Tells.{Tells}
 use Rattle.dr_core.specs.Meaning.Laws.{ReceivedInOrder, AfterUpstreams, HasRoom, NoClaimAfterHalt, DrainedIsComplete, Laws}

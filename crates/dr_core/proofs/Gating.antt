@@ -1,5 +1,6 @@
 -- The least count of the finals, and what of it is remembered.
-use Rattle.std.proofs.Common.{◌≡◌, ℕ, zero, suc, ◌+◌, ◌-◌, ◌<◌, ◌≤◌, ◌≢◌, ◌^◌, inl, inr, Bool, true, false, List, [], ◌∷◌, arith, refl, ap, sym, ◌∙◌, length, map, filter, slice_index, Option, Some, None, Vec, Global}
+use Rattle.std.proofs.Common.{◌≡◌, ℕ, zero, suc, ◌+◌, ◌-◌, ◌<◌, ◌≤◌, ◌≢◌, ◌^◌, inl, inr, Bool, true, false, List, [], ◌∷◌, arith}
+use Rattle.std.proofs.Common.{refl, ap, sym, ◌∙◌, length, map, filter, slice_index, Option, Some, None, Vec, Global}
 use Rattle.std.specs.Vec.{with_items}
 use Rattle.std.proofs.lemmas.List.{with_items_is}
 use Rattle.std.specs.List.{range_with_len}
@@ -31,13 +32,15 @@ filter_within p q (suc n) same =
     ∙ sym (filter_more q n)
 
 -- the flags give the least count of the handlers that gate
-pub flagged_least : (graph : List (List ℕ)) (gone : ℕ → Bool) (flags : List Bool) (counts : ℕ → ℕ) → AreGating flags graph gone → least_of (map counts (filter (flagged flags) (range_with_len 0 (length flags)))) ≡ least_without graph gone counts
+pub flagged_least : (graph : List (List ℕ)) (gone : ℕ → Bool) (flags : List Bool) (counts : ℕ → ℕ) → AreGating flags graph gone
+    → least_of (map counts (filter (flagged flags) (range_with_len 0 (length flags)))) ≡ least_without graph gone counts
 flagged_least graph gone flags counts gating =
     ap (λ n. least_of (map counts (filter (flagged flags) (range_with_len 0 n)))) gating.complete
     ∙ ap (λ hs. least_of (map counts hs)) (filter_within (flagged flags) (is_final_without graph gone) (length graph) gating.each)
 
 -- flags that were lent and written stand in their vector
-pub written_back : (kept : Vec Bool Global) (flags read gone : List Bool) (graph : List (List ℕ)) → length flags ≡ kept.len → read ≡ gone → AreGating flags graph (flagged read) → AreGating (with_items kept flags).items graph (flagged gone)
+pub written_back : (kept : Vec Bool Global) (flags read gone : List Bool) (graph : List (List ℕ)) → length flags ≡ kept.len → read ≡ gone
+    → AreGating flags graph (flagged read) → AreGating (with_items kept flags).items graph (flagged gone)
 written_back kept flags read gone graph len same gating = rw (with_items_is kept flags len) (rw same at gating)
 
 module _ (v : CoreView) (whole : IsWhole v) where
@@ -106,7 +109,8 @@ module _ (v : CoreView) (p n : ℕ) (producer : p < producers v.setup.mode) (som
       ]))
 
 -- a claim that nothing refuses
-pub claim_accepted : (v : CoreView) (n : ℕ) → claim_fault v n ≡ None → (v.halted ≡ false) × (v.next + n ≤ v.setup.limit) × (v.next + n ≤ v.setup.size + gate_of v)
+pub claim_accepted : (v : CoreView) (n : ℕ) → claim_fault v n ≡ None
+    → (v.halted ≡ false) × (v.next + n ≤ v.setup.limit) × (v.next + n ≤ v.setup.size + gate_of v)
 claim_accepted v n e = elim (cases_Bool v.halted) [
   | inl halted ↦ absurd (let is : ◌≡◌ {A = Option Refusal} (Some Halted) None = rw halted at e in cc)
   | inr going ↦ elim (cases_Bool (nat_lt v.setup.limit (v.next + n))) [

@@ -11,7 +11,8 @@ use Rattle.dr_core.specs.Calls.Shows.{IsStep}
 use Rattle.dr_core.specs.Inside.Availability.{published_after, IsNewFront, publish_fault}
 use Rattle.dr_core.specs.Inside.Fields.{view_of, kept_of, IsKept, IsAvailable}
 use Rattle.dr_core.proofs.Publishing.{publish_step}
-use Rattle.dr_core.proofs.Recents.{known_there, publishes_known, publishes_available, front_known, publish_fault_is, single_ahead, single_owns, single_marks, single_front}
+use Rattle.dr_core.proofs.Recents.{known_there, publishes_known, publishes_available, front_known, publish_fault_is}
+use Rattle.dr_core.proofs.Recents.{single_ahead, single_owns, single_marks, single_front}
 use Rattle.dr_core.proofs.Writing.{near}
 
 -- the next stretch of one producer, written in order

@@ -1,5 +1,6 @@
 -- Each command keeps what every state of the machine has.
-use Rattle.std.proofs.Common.{◌≡◌, ℕ, zero, suc, ◌+◌, ◌-◌, ◌<◌, ◌≤◌, inl, inr, true, false, ◌||◌, ◌&&◌, List, [], ◌∷◌, ◌++◌, arith, refl, ◌∙◌, length, replicate, Some, slice_index}
+use Rattle.std.proofs.Common.{◌≡◌, ℕ, zero, suc, ◌+◌, ◌-◌, ◌<◌, ◌≤◌, inl, inr, true, false, ◌||◌, ◌&&◌, List}
+use Rattle.std.proofs.Common.{[], ◌∷◌, ◌++◌, arith, refl, ◌∙◌, length, replicate, Some, slice_index}
 use Rattle.std.specs.Prelude.{Contains, ◌==◌, nat_le, nat_lt, is_none, flat_map}
 use Rattle.std.specs.List.{range_with_len}
 use Rattle.std.proofs.lemmas.Bool.{cond_both, or_cases, and_parts, false≢true, cases_eq, eqb-true}
@@ -9,7 +10,8 @@ use Rattle.dr_core.specs.declared.command.Command.{Command}
 use Rattle.dr_core.specs.declared.command.Command.TheVariants.{Claim, Write, Publish, Poll, Complete, Halt, Retire}
 use Rattle.dr_seq.specs.declared.event.Event.{Event}
 use Rattle.dr_graph.specs.Meaning.Graph.{upstreams_of}
-use Rattle.dr_core.specs.Meaning.Machine.{Setup, State, Outcome, handlers, next, front, available, offered, refusals, accepted, step, batch, publish_faults, cursor, opening}
+use Rattle.dr_core.specs.Meaning.Machine.{Setup, State, Outcome, handlers, next, front, available, offered}
+use Rattle.dr_core.specs.Meaning.Machine.{refusals, accepted, step, batch, publish_faults, cursor, opening}
 use Rattle.dr_core.specs.Inside.Fields.{AreInOrder}
 use Rattle.dr_core.proofs.Leasts.{least_grows, least_of-member}
 use Rattle.dr_core.proofs.Steps.{NoneHold, NoneHold-append, unless-cases}

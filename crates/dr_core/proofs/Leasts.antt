@@ -1,5 +1,6 @@
 -- Laws of the least number outside a set, and of the least of some numbers.
-use Rattle.std.proofs.Common.{◌≡◌, ℕ, zero, suc, ◌+◌, ◌<◌, ◌≤◌, inl, inr, min, Bool, true, false, ◌&&◌, List, [], ◌∷◌, ◌++◌, arith, refl, ap, sym, ◌∙◌, map, take, filter, not}
+use Rattle.std.proofs.Common.{◌≡◌, ℕ, zero, suc, ◌+◌, ◌<◌, ◌≤◌, inl, inr, min, Bool, true, false, ◌&&◌}
+use Rattle.std.proofs.Common.{List, [], ◌∷◌, ◌++◌, arith, refl, ap, sym, ◌∙◌, map, take, filter, not}
 use Rattle.std.proofs.lemmas.Bool.Decides.{nat_tests}
 use Rattle.std.proofs.lemmas.List.{map_more, map_push, length_push, length-map, length-take-le, get_or-map}
 use Rattle.std.proofs.lemmas.Bool.{cond_both, and_parts, and_cases, eqb-true, eqb-false, false≢true, cases_order, cases_lt, ne_eqb}
@@ -61,7 +62,8 @@ least_agree set other bound same =
     (least_is other bound)
 
 -- a larger set with a larger bound has no smaller answer
-pub least_grows : (set other : ℕ → Bool) (bound more : ℕ) → bound ≤ more → ((k : ℕ) → set k ≡ true → other k ≡ true) → least_outside set bound ≤ least_outside other more
+pub least_grows : (set other : ℕ → Bool) (bound more : ℕ) → bound ≤ more → ((k : ℕ) → set k ≡ true → other k ≡ true)
+    → least_outside set bound ≤ least_outside other more
 least_grows set other bound more le sub =
     let p : IsLeast set bound (least_outside set bound) = least_is set bound in
     let q : IsLeast other more (least_outside other more) = least_is other more in
@@ -87,7 +89,8 @@ least_of-push [] n = refl
 least_of-push (x ∷ xs) n = cond_both (length (x ∷ xs) == 0) n (min (least_of (x ∷ xs)) n) (λ r. least_of ((x ∷ xs) ++ n ∷ []) ≡ r) (λ y. absurd (grind (arith, nat_tests, y))) (λ f. least_of-push_cons x xs n)
 
 -- the least of the first counts of a list, with one more
-pub least_of-more : (f : ℕ → ℕ) (xs : List ℕ) (i : ℕ) → i < length xs → least_of (map f (take (i + 1) xs)) ≡ (if i == 0 then f (get_or xs i 0) else min (least_of (map f (take i xs))) (f (get_or xs i 0)))
+pub least_of-more : (f : ℕ → ℕ) (xs : List ℕ) (i : ℕ) → i < length xs
+    → least_of (map f (take (i + 1) xs)) ≡ (if i == 0 then f (get_or xs i 0) else min (least_of (map f (take i xs))) (f (get_or xs i 0)))
 least_of-more f xs i l =
     ap least_of (map_more f xs i 0 l) ∙ least_of-push (map f (take i xs)) (f (get_or xs i 0))
     ∙ ap (λ n. if n == 0 then f (get_or xs i 0) else min (least_of (map f (take i xs))) (f (get_or xs i 0))) (length-map (take i xs) f ∙ length-take-le i xs (omega arith))
@@ -110,7 +113,8 @@ not_first true a b = refl
 not_first false a b = refl
 
 -- one handler more
-pub least_turn : (p : ℕ → Bool) (counts : ℕ → ℕ) (bound : ℕ) (found : Bool) (least new : ℕ) → IsLeastOf p counts bound found least → p bound ≡ true → new ≡ (if found then min least (counts bound) else counts bound) → IsLeastOf p counts (bound + 1) true new
+pub least_turn : (p : ℕ → Bool) (counts : ℕ → ℕ) (bound : ℕ) (found : Bool) (least new : ℕ) → IsLeastOf p counts bound found least → p bound ≡ true
+    → new ≡ (if found then min least (counts bound) else counts bound) → IsLeastOf p counts (bound + 1) true new
 least_turn p counts bound found least new old passed is =
     let fs : List ℕ = filter p (range_with_len 0 bound) in
     let more : fs ++ bound ∷ [] ≡ filter p (range_with_len 0 (bound + 1)) = filter_push p bound fs (fs ++ bound ∷ []) refl passed refl in
@@ -119,7 +123,8 @@ least_turn p counts bound found least new old passed is =
     let here : new ≡ least_of (map counts (fs ++ bound ∷ [])) = rw (lower, length-map fs counts, is, old.some, old.lowest) (not_first (length fs == 0) (counts bound) (min (least_of (map counts fs)) (counts bound))) in
     record { some = rw more at some; lowest = rw more at here }
 
-pub least_skip : (p : ℕ → Bool) (counts : ℕ → ℕ) (bound : ℕ) (found : Bool) (least : ℕ) → IsLeastOf p counts bound found least → p bound ≡ false → IsLeastOf p counts (bound + 1) found least
+pub least_skip : (p : ℕ → Bool) (counts : ℕ → ℕ) (bound : ℕ) (found : Bool) (least : ℕ) → IsLeastOf p counts bound found least → p bound ≡ false
+    → IsLeastOf p counts (bound + 1) found least
 least_skip p counts bound found least old failed =
     let fs : List ℕ = filter p (range_with_len 0 bound) in
     let same : fs ≡ filter p (range_with_len 0 (bound + 1)) = filter_skip p bound fs fs refl failed refl in

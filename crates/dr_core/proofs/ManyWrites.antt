@@ -1,5 +1,6 @@
 -- Many events, written one after another.
-use Rattle.std.proofs.Common.{◌≡◌, ◌<◌, ◌+◌, ℕ, List, [], ◌∷◌, ◌++◌, length, take, get_or, Option, None, Some, Result, Ok, inl, inr, subst, refl, sym, ap, ◌∙◌, arith}
+use Rattle.std.proofs.Common.{◌≡◌, ◌<◌, ◌+◌, ℕ, List, [], ◌∷◌, ◌++◌, length, take, get_or, Option}
+use Rattle.std.proofs.Common.{None, Some, Result, Ok, inl, inr, subst, refl, sym, ap, ◌∙◌, arith}
 use Rattle.std.proofs.lemmas.Bool.{cases_lt}
 use Rattle.std.proofs.lemmas.List.{length-set, length-take-le, take_more}
 use Rattle.dr_seq.specs.declared.event.Event.{Event}

@@ -1,5 +1,6 @@
 -- What is known of the recent sequences, kept by rounds of the ring.
-use Rattle.std.proofs.Common.{◌≡◌, ◌⊎◌, ℕ, ◌+◌, ◌-◌, ◌%◌, ◌<◌, ◌≤◌, ◌≢◌, inl, inr, true, false, Bool, cond, List, arith, refl, ap, sym, ◌∙◌, length, set, None, Some, replicate, max}
+use Rattle.std.proofs.Common.{◌≡◌, ◌⊎◌, ℕ, ◌+◌, ◌-◌, ◌%◌, ◌<◌, ◌≤◌, ◌≢◌, inl, inr, true, false, Bool, cond}
+use Rattle.std.proofs.Common.{List, arith, refl, ap, sym, ◌∙◌, length, set, None, Some, replicate, max}
 use Rattle.std.specs.Prelude.{◌==◌, ◌||◌, nat_lt}
 use Rattle.std.proofs.Math.Nat.{mod-lt}
 use Rattle.std.proofs.lemmas.Bool.{ne_eqb, cases_Bool, cases_lt, or_left, or_right, or_from, lt-ltb, le-ltb, eq-eqb}
@@ -15,7 +16,8 @@ use Rattle.dr_core.specs.declared.refusal.Refusal.TheVariants.{NotClaimed, NotWr
 use Rattle.dr_core.specs.declared.engine.Core.TheInside.{Inside}
 use Rattle.dr_core.specs.Meaning.Machine.{producers, is_single}
 use Rattle.dr_core.specs.Calls.CoreView.{CoreView, known_at}
-use Rattle.dr_core.specs.Inside.Availability.{KeptBySlot, owner_at, is_published_at, is_written_at, is_ahead, IsNoted, published_after, IsNewFront, known_of, slot_known, stamped, owners_after, HasOwners, write_fault, publish_fault, is_shown, event_known}
+use Rattle.dr_core.specs.Inside.Availability.{KeptBySlot, owner_at, is_published_at, is_written_at, is_ahead, IsNoted, published_after, IsNewFront, known_of}
+use Rattle.dr_core.specs.Inside.Availability.{slot_known, stamped, owners_after, HasOwners, write_fault, publish_fault, is_shown, event_known}
 use Rattle.dr_core.specs.Inside.Fields.{kept_of, view_of, IsAvailable}
 use Rattle.dr_core.proofs.Stamped.{length-stamped, stamped-in, stamped-out, marks_none_after, marked-in, marked-out, mark_is}
 use Rattle.dr_core.proofs.Keeps.{zeros}
@@ -28,25 +30,29 @@ pub known_there : (a : Inside) (s : ℕ) → s < a.next → a.next ≤ s + a.siz
 known_there a s claimed near = known_at-recent (slot_known (kept_of a)) a.next a.size s claimed near
 
 -- the tests of a publication, in their order
-pub publish_fault-known : (published written : Bool) (owner p : ℕ) (event : Event) → publish_fault (known_of published written owner event) p ≡ cond published (Some AlreadyPublished) (cond (owner == p) (cond written None (Some NotWritten)) (Some NotClaimed))
+pub publish_fault-known : (published written : Bool) (owner p : ℕ) (event : Event)
+    → publish_fault (known_of published written owner event) p ≡ cond published (Some AlreadyPublished) (cond (owner == p) (cond written None (Some NotWritten)) (Some NotClaimed))
 publish_fault-known true written owner p event = refl
 publish_fault-known false true owner p event = elim (cases_Bool (owner == p)) [ inl y ↦ rw y | inr n ↦ rw n ]
 publish_fault-known false false owner p event = elim (cases_Bool (owner == p)) [ inl y ↦ rw y | inr n ↦ rw n ]
 
 -- the tests of a write
-pub write_fault-known : (published written : Bool) (owner p : ℕ) (event : Event) → write_fault (known_of published written owner event) p ≡ cond published (Some AlreadyPublished) (cond (owner == p) None (Some NotClaimed))
+pub write_fault-known : (published written : Bool) (owner p : ℕ) (event : Event)
+    → write_fault (known_of published written owner event) p ≡ cond published (Some AlreadyPublished) (cond (owner == p) None (Some NotClaimed))
 write_fault-known true written owner p event = refl
 write_fault-known false true owner p event = refl
 write_fault-known false false owner p event = refl
 
 -- what may be published is known with its slot's event
-event_known-known : (published written : Bool) (owner p : ℕ) (event : Event) → publish_fault (known_of published written owner event) p ≡ None → event_known (known_of published written owner event) ≡ event
+event_known-known : (published written : Bool) (owner p : ℕ) (event : Event) → publish_fault (known_of published written owner event) p ≡ None
+    → event_known (known_of published written owner event) ≡ event
 event_known-known true written owner p event e = refl
 event_known-known false true owner p event e = refl
 event_known-known false false owner p event e = absurd (unwritten_refused (owner == p) e)
 
 -- what is shown is known with its slot's event
-event_known-shown : (published written : Bool) (owner : ℕ) (event : Event) → is_shown (known_of published written owner event) ≡ true → event ≡ event_known (known_of published written owner event)
+event_known-shown : (published written : Bool) (owner : ℕ) (event : Event) → is_shown (known_of published written owner event) ≡ true
+    → event ≡ event_known (known_of published written owner event)
 event_known-shown true written owner event e = refl
 event_known-shown false true owner event e = cc
 event_known-shown false false owner event e = cc
@@ -56,17 +62,20 @@ is_shown-known true written owner event = refl
 is_shown-known false true owner event = refl
 is_shown-known false false owner event = refl
 
-pub shown_event : (a : Inside) (s : ℕ) → s < a.next → a.next ≤ s + a.size → is_shown (known_at (view_of a) s) ≡ true → event_at a.events s ≡ event_known (known_at (view_of a) s)
+pub shown_event : (a : Inside) (s : ℕ) → s < a.next → a.next ≤ s + a.size → is_shown (known_at (view_of a) s) ≡ true
+    → event_at a.events s ≡ event_known (known_at (view_of a) s)
 shown_event a s claimed near shown =
     let there : known_at (view_of a) s ≡ slot_known (kept_of a) s = known_there a s claimed near in
     rw there (event_known-shown (is_published_at (kept_of a) s) (is_written_at (kept_of a) s) (owner_at a.mode a.owners.items s) (event_at a.events s) (rw there at shown))
 
 -- the owners after a claim
-owner-in : (mode : Mode) (owners : List ℕ) (size from n p s : ℕ) → HasOwners mode owners size → 0 < size → n ≤ size → from ≤ s → s < from + n → (mode ≡ Single → p ≡ 0) → owner_at mode (owners_after mode owners from n p) s ≡ p
+owner-in : (mode : Mode) (owners : List ℕ) (size from n p s : ℕ) → HasOwners mode owners size → 0 < size → n ≤ size → from ≤ s → s < from + n
+    → (mode ≡ Single → p ≡ 0) → owner_at mode (owners_after mode owners from n p) s ≡ p
 owner-in Single owners size from n p s has some fits low high one = sym (one refl)
 owner-in (Multi producers) owners size from n p s has some fits low high one = rw length-stamped (stamped-in (λ k. p) owners from n 0 s (omega arith) (omega arith) low high)
 
-owner-out : (mode : Mode) (owners : List ℕ) (size from n p s : ℕ) → HasOwners mode owners size → from + n ≤ s + size → s < from + size → ((k : ℕ) → k < n → s ≢ from + k) → owner_at mode (owners_after mode owners from n p) s ≡ owner_at mode owners s
+owner-out : (mode : Mode) (owners : List ℕ) (size from n p s : ℕ) → HasOwners mode owners size → from + n ≤ s + size → s < from + size
+    → ((k : ℕ) → k < n → s ≢ from + k) → owner_at mode (owners_after mode owners from n p) s ≡ owner_at mode owners s
 owner-out Single owners size from n p s has near far out = refl
 owner-out (Multi producers) owners size from n p s has near far out = rw length-stamped (stamped-out (λ k. p) owners from n 0 s (omega arith) (omega arith) out)
 
@@ -120,7 +129,8 @@ record Notes (filled : ℕ) (written : List ℕ) (size next s filled' : ℕ) (wr
   pub upto : filled' ≤ next
   pub beyond : (k : ℕ) → next ≤ k → is_marked written' k ≡ false
 
-notes_is : (filled : ℕ) (written : List ℕ) (size next s filled' : ℕ) (written' : List ℕ) → length written ≡ size → 0 < size → s < next → next ≤ s + size → filled ≤ next → ((k : ℕ) → next ≤ k → is_marked written k ≡ false)
+notes_is : (filled : ℕ) (written : List ℕ) (size next s filled' : ℕ) (written' : List ℕ) → length written ≡ size → 0 < size → s < next
+    → next ≤ s + size → filled ≤ next → ((k : ℕ) → next ≤ k → is_marked written k ≡ false)
     → IsNoted filled written s filled' written' → Notes filled written size next s filled' written'
 notes_is filled written size next s filled' written' len some claimed near within none (inl at) =
     let here : s ≡ filled = at.0 in
@@ -168,7 +178,8 @@ pub record Moves (mode : Mode) (old new : List ℕ) (size front next lo hi front
   pub len : length new ≡ length old
   pub beyond : (k : ℕ) → next ≤ k → is_ahead mode new k ≡ false
 
-moves : (mode : Mode) (published : List ℕ) (size front next lo hi front' : ℕ) → length published ≡ size → 0 < size → lo ≤ hi → hi < next → next ≤ lo + size → next ≤ front + size → front ≤ lo
+moves : (mode : Mode) (published : List ℕ) (size front next lo hi front' : ℕ) → length published ≡ size → 0 < size → lo ≤ hi → hi < next
+    → next ≤ lo + size → next ≤ front + size → front ≤ lo
     → ((k : ℕ) → next ≤ k → is_ahead mode published k ≡ false) → (is_single mode ≡ true → lo ≡ front) → IsNewFront mode (published_after mode published lo (hi + 1 - lo)) front next hi front'
     → Moves mode published (published_after mode published lo (hi + 1 - lo)) size front next lo hi front'
 moves Single published size front next lo hi front' len some order claimed near round fresh none in_order found =

@@ -1,5 +1,6 @@
 -- A retirement of the core is the machine's, and no claim waits longer for it.
-use Rattle.std.proofs.Common.{◌≡◌, ℕ, ◌+◌, ◌<◌, ◌≤◌, Bool, true, false, not, ◌||◌, List, [], inl, inr, refl, ap, sym, ◌∙◌, arith, length, get_or, slice_set, slice_index}
+use Rattle.std.proofs.Common.{◌≡◌, ℕ, ◌+◌, ◌<◌, ◌≤◌, Bool, true, false, not, ◌||◌, List, [], inl, inr}
+use Rattle.std.proofs.Common.{refl, ap, sym, ◌∙◌, arith, length, get_or, slice_set, slice_index}
 use Rattle.std.specs.Prelude.{◌==◌}
 use Rattle.std.specs.List.{range_with_len}
 use Rattle.std.proofs.lemmas.Bool.{cases_eq, eq-eqb, ne_eqb, or_parts, not-true, not-false, lt-leb, and_parts, or_right}

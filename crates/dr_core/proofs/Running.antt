@@ -1,6 +1,7 @@
 -- A run of commands, one step after another.
 use Rattle.std.proofs.Common.{◌≡◌, ℕ, ◌+◌, ◌<◌, ◌≤◌, List, [], ◌∷◌, ◌++◌, arith, refl, ap, sym, subst, ◌∙◌, length, take, drop, get_or, append_assoc}
-use Rattle.std.proofs.lemmas.List.{drop_more, take_more, length-take-le, nil_from_length, take_all, append-nil, take-append-le, drop-append-le, length-append, length-drop}
+use Rattle.std.proofs.lemmas.List.{drop_more, take_more, length-take-le, nil_from_length, take_all, append-nil}
+use Rattle.std.proofs.lemmas.List.{take-append-le, drop-append-le, length-append, length-drop}
 use Rattle.dr_core.specs.declared.command.Command.{Command}
 use Rattle.dr_core.specs.declared.command.Command.TheVariants.{Claim, Write, Publish, Poll, Complete, Halt, Retire}
 use Rattle.dr_core.specs.declared.command.Reply.{Reply}
@@ -29,7 +30,8 @@ transcript_push (c ∷ cs) (r ∷ rs) values command reply more a b d =
     rw (take-append-le (count_in r) values more le, drop-append-le (count_in r) values more le, more')
 
 -- a step of the core leads one entry on
-pub leads_step : (c : Setup) (old new : CoreView) (t : Transcript) (command : Command) (reply : Reply) (values : List Event) → old.setup ≡ c → IsStep old command reply values new
+pub leads_step : (c : Setup) (old new : CoreView) (t : Transcript) (command : Command) (reply : Reply) (values : List Event) → old.setup ≡ c
+    → IsStep old command reply values new
     → RunsTo c t old → RunsTo c (t ++ entry_with command reply values ∷ []) new
 leads_step c old new t command reply values same is at =
     let to : State = (step c at.state command).state in
@@ -45,7 +47,8 @@ step_leads_on t old new command reply values at is =
     subst (λ c. RunsTo c (t ++ entry_with command reply values ∷ []) new) (sym is.same_setup) (leads_step old.setup old new t command reply values refl is at)
 
 -- and what it leaves is reached where what it began with was
-pub step_reached : {old new : CoreView} {command : Command} {reply : Reply} {values : List Event} → IsStep old command reply values new → IsReached old → IsReached new
+pub step_reached : {old new : CoreView} {command : Command} {reply : Reply} {values : List Event} → IsStep old command reply values new
+    → IsReached old → IsReached new
 step_reached is was = record { transcript = _; runs = step_leads_on _ _ _ _ _ _ was.runs is }
 
 pub counts-push : (replies : List Reply) (reply : Reply) → counts_of (replies ++ reply ∷ []) ≡ counts_of replies + count_in reply
@@ -76,16 +79,20 @@ offers-le Halt size = omega arith
 offers-le (Retire h) size = omega arith
 
 -- the words that are left to hand out, one command on
-pub needed-more : (commands : List Command) (i : ℕ) (d : Command) (size : ℕ) → i < length commands → needed (drop i commands) size ≡ offers (get_or commands i d) size + needed (drop (i + 1) commands) size
+pub needed-more : (commands : List Command) (i : ℕ) (d : Command) (size : ℕ) → i < length commands
+    → needed (drop i commands) size ≡ offers (get_or commands i d) size + needed (drop (i + 1) commands) size
 needed-more commands i d size l = ap (λ cs. needed cs size) (drop_more commands i d l)
 
-pub room-first : (values : List Event) (commands : List Command) (room cap size here : ℕ) → values ≡ [] → room ≤ cap → room ≡ needed commands size → size ≡ here → length values + needed commands here ≤ cap
+pub room-first : (values : List Event) (commands : List Command) (room cap size here : ℕ) → values ≡ [] → room ≤ cap → room ≡ needed commands size
+    → size ≡ here → length values + needed commands here ≤ cap
 room-first values commands room cap size here a b d e =
     let n : room ≡ needed commands here = rw e at d in
     let z : length values ≡ 0 = ap length a in
     omega arith
 
-pub room-more : (values more : List Event) (commands : List Command) (i : ℕ) (d : Command) (size here cap cap' k : ℕ) → i < length commands → length values + needed (drop i commands) here ≤ cap → cap ≤ cap' → length more ≡ k → k ≤ offers (get_or commands i d) size → size ≡ here → length (values ++ more) + needed (drop (i + 1) commands) here ≤ cap'
+pub room-more : (values more : List Event) (commands : List Command) (i : ℕ) (d : Command) (size here cap cap' k : ℕ) → i < length commands
+    → length values + needed (drop i commands) here ≤ cap → cap ≤ cap' → length more ≡ k → k ≤ offers (get_or commands i d) size → size ≡ here
+    → length (values ++ more) + needed (drop (i + 1) commands) here ≤ cap'
 room-more values more commands i d size here cap cap' k l room grows many fits same =
     let n : needed (drop i commands) here ≡ offers (get_or commands i d) here + needed (drop (i + 1) commands) here = needed-more commands i d here l in
     let f : k ≤ offers (get_or commands i d) here = rw same at fits in

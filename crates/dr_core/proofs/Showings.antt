@@ -1,5 +1,6 @@
 -- A handler's meaning along the events of a batch.
-use Rattle.std.proofs.Common.{◌≡◌, ℕ, zero, suc, inl, inr, ◌+◌, ◌<◌, Bool, true, false, ◌&&◌, List, [], ◌∷◌, ◌++◌, arith, refl, ap, sym, ◌∙◌, length, get_or, take, add-zero}
+use Rattle.std.proofs.Common.{◌≡◌, ℕ, zero, suc, inl, inr, ◌+◌, ◌<◌, Bool, true, false, ◌&&◌, List, []}
+use Rattle.std.proofs.Common.{◌∷◌, ◌++◌, arith, refl, ap, sym, ◌∙◌, length, get_or, take, add-zero}
 use Rattle.std.specs.Prelude.{◌==◌}
 use Rattle.std.proofs.lemmas.Bool.{and_right, ne_eqb, eq-eqb, cases_eq}
 use Rattle.std.proofs.lemmas.List.{take_more}
@@ -8,7 +9,8 @@ use Rattle.dr_seq.specs.Event.{no_event}
 use Rattle.dr_core.specs.Calls.Handling.{Showing, showings, Relation, GoesThrough}
 
 -- one more call
-pub GoesThrough-push : {A : Type 0} (goes : Relation A) (before : A) (shown : List Showing) (between : A) (s : Showing) (after : A) → GoesThrough goes before shown between → goes between s.event s.sequence s.end after → GoesThrough goes before (shown ++ s ∷ []) after
+pub GoesThrough-push : {A : Type 0} (goes : Relation A) (before : A) (shown : List Showing) (between : A) (s : Showing) (after : A)
+    → GoesThrough goes before shown between → goes between s.event s.sequence s.end after → GoesThrough goes before (shown ++ s ∷ []) after
 GoesThrough-push goes before [] between s after is one = (after, rw is one, refl)
 GoesThrough-push goes before (t ∷ ts) between s after is one = (is.0, is.1, GoesThrough-push goes is.0 ts between s after is.2 one)
 
@@ -42,7 +44,8 @@ showing-at (e ∷ e' ∷ es) first (suc k) end d z l =
     rw (← at, ← last) rest
 
 -- a batch is shown one event further
-pub shows_more : {A : Type 0} (goes : Relation A) (before between after : A) (events : List Event) (first k : ℕ) (end mark : Bool) → k < length events → mark ≡ (end && (k + 1 == length events))
+pub shows_more : {A : Type 0} (goes : Relation A) (before between after : A) (events : List Event) (first k : ℕ) (end mark : Bool)
+    → k < length events → mark ≡ (end && (k + 1 == length events))
     → GoesThrough goes before (take k (showings events first end)) between → goes between (get_or events k no_event) (first + k) mark after → GoesThrough goes before (take (k + 1) (showings events first end)) after
 shows_more goes before between after events first k end mark l is so_far one =
     let here : Showing = record { event = get_or events k no_event; sequence = first + k; end = end && (k + 1 == length events) } in

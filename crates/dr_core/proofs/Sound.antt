@@ -1,5 +1,6 @@
 -- What every state of the machine keeps, and that each command changes it as its entry says.
-use Rattle.std.proofs.Common.{◌≡◌, ℕ, ◌+◌, ◌-◌, ◌<◌, ◌≤◌, ◌≢◌, inl, inr, min, max, Bool, true, false, cond, ◌||◌, ◌&&◌, List, [], ◌∷◌, ◌++◌, arith, refl, ap, sym, ◌∙◌, length, map, replicate, Option, unwrap_or, Some, None, slice_index, slice_set, add-zero}
+use Rattle.std.proofs.Common.{◌≡◌, ℕ, ◌+◌, ◌-◌, ◌<◌, ◌≤◌, ◌≢◌, inl, inr, min, max, Bool, true, false, cond, ◌||◌, ◌&&◌, List, [], ◌∷◌, ◌++◌, arith}
+use Rattle.std.proofs.Common.{refl, ap, sym, ◌∙◌, length, map, replicate, Option, unwrap_or, Some, None, slice_index, slice_set, add-zero}
 use Rattle.std.specs.Prelude.{slice_get, ◌==◌, nat_lt, is_none}
 use Rattle.std.specs.List.{range_with_len}
 use Rattle.std.proofs.lemmas.Bool.{cond_both, cond-true, cond-false, cases_Bool, cases_lt, le-leb, lt-leb, or_parts, false≢true, eqb-true, eqb-false}

@@ -1,5 +1,6 @@
 -- What is read from slots that were set for a stretch of sequences.
-use Rattle.std.proofs.Common.{◌≡◌, ℕ, zero, suc, ◌+◌, ◌*◌, ◌/◌, ◌%◌, ◌<◌, ◌≤◌, ◌≢◌, inl, inr, true, false, List, arith, refl, sym, ◌∙◌, length, get_or, set, add-one, add-zero}
+use Rattle.std.proofs.Common.{◌≡◌, ℕ, zero, suc, ◌+◌, ◌*◌, ◌/◌, ◌%◌, ◌<◌, ◌≤◌, ◌≢◌, inl, inr, true, false}
+use Rattle.std.proofs.Common.{List, arith, refl, sym, ◌∙◌, length, get_or, set, add-one, add-zero}
 use Rattle.std.proofs.lemmas.Bool.{cases_eq, eq-eqb, ne_eqb}
 use Rattle.std.proofs.lemmas.List.{length-set, get_or-set_same, get_or-set_other}
 use Rattle.std.proofs.Math.Nat.{mod-lt}
@@ -22,7 +23,8 @@ unfolding stamped
 stamped-more f xs from n = rw add-one
 
 -- a slot of the stretch is set
-pub stamped-in : (f : ℕ → ℕ) (xs : List ℕ) (from n d s : ℕ) → 0 < length xs → n ≤ length xs → from ≤ s → s < from + n → get_or (stamped f xs from n) (s % length xs) d ≡ f s
+pub stamped-in : (f : ℕ → ℕ) (xs : List ℕ) (from n d s : ℕ) → 0 < length xs → n ≤ length xs → from ≤ s → s < from + n
+    → get_or (stamped f xs from n) (s % length xs) d ≡ f s
 unfolding stamped
 stamped-in f xs from zero d s pos le a b = absurd (omega arith)
 stamped-in f xs from (suc n) d s pos le a b =
@@ -35,7 +37,8 @@ stamped-in f xs from (suc n) d s pos le a b =
     ]
 
 -- the slot of a sequence outside it stays, where both lie in one round of the ring
-pub stamped-out : (f : ℕ → ℕ) (xs : List ℕ) (from n d s : ℕ) → from + n ≤ s + length xs → s < from + length xs → ((k : ℕ) → k < n → s ≢ from + k) → get_or (stamped f xs from n) (s % length xs) d ≡ get_or xs (s % length xs) d
+pub stamped-out : (f : ℕ → ℕ) (xs : List ℕ) (from n d s : ℕ) → from + n ≤ s + length xs → s < from + length xs → ((k : ℕ) → k < n → s ≢ from + k)
+    → get_or (stamped f xs from n) (s % length xs) d ≡ get_or xs (s % length xs) d
 unfolding stamped
 stamped-out f xs from zero d s near far out = refl
 stamped-out f xs from (suc n) d s near far out =
@@ -44,7 +47,8 @@ stamped-out f xs from (suc n) d s near far out =
     ∙ stamped-out f xs from n d s (omega arith) far (λ k l. out k (omega arith))
 
 -- a mark is of one sequence alone: whatever is marked, another that was not is not
-mark_other : (entries : List ℕ) (at s : ℕ) → 0 < length entries → s ≢ at → is_marked entries s ≡ false → is_marked (set entries (at % length entries) (entry_of (length entries) at)) s ≡ false
+mark_other : (entries : List ℕ) (at s : ℕ) → 0 < length entries → s ≢ at → is_marked entries s ≡ false
+    → is_marked (set entries (at % length entries) (entry_of (length entries) at)) s ≡ false
 mark_other entries at s pos ne before =
     let n : ℕ = length entries in
     elim (cases_eq (s % length entries) (at % length entries)) [
@@ -60,7 +64,8 @@ mark_other entries at s pos ne before =
     ]
 
 -- so a stretch of marks leaves those after it unmarked
-pub marks_none_after : (entries : List ℕ) (from n s : ℕ) → 0 < length entries → from + n ≤ s → is_marked entries s ≡ false → is_marked (stamped (entry_of (length entries)) entries from n) s ≡ false
+pub marks_none_after : (entries : List ℕ) (from n s : ℕ) → 0 < length entries → from + n ≤ s → is_marked entries s ≡ false
+    → is_marked (stamped (entry_of (length entries)) entries from n) s ≡ false
 unfolding stamped
 marks_none_after entries from zero s pos after before = before
 marks_none_after entries from (suc n) s pos after before =
@@ -69,12 +74,14 @@ marks_none_after entries from (suc n) s pos after before =
     rw len at (mark_other (stamped (entry_of (length entries)) entries from n) (from + n) s (omega arith) (λ e. absurd (omega arith)) so_far)
 
 -- a sequence of the stretch is marked
-pub marked-in : (entries : List ℕ) (from n s : ℕ) → 0 < length entries → n ≤ length entries → from ≤ s → s < from + n → is_marked (stamped (entry_of (length entries)) entries from n) s ≡ true
+pub marked-in : (entries : List ℕ) (from n s : ℕ) → 0 < length entries → n ≤ length entries → from ≤ s → s < from + n
+    → is_marked (stamped (entry_of (length entries)) entries from n) s ≡ true
 marked-in entries from n s pos le a b =
     rw length-stamped (rw (stamped-in (entry_of (length entries)) entries from n 0 s pos le a b) (eq-eqb _ _ refl))
 
 -- another recent one is marked as before
-pub marked-out : (entries : List ℕ) (from n s : ℕ) → from + n ≤ s + length entries → s < from + length entries → ((k : ℕ) → k < n → s ≢ from + k) → is_marked (stamped (entry_of (length entries)) entries from n) s ≡ is_marked entries s
+pub marked-out : (entries : List ℕ) (from n s : ℕ) → from + n ≤ s + length entries → s < from + length entries → ((k : ℕ) → k < n → s ≢ from + k)
+    → is_marked (stamped (entry_of (length entries)) entries from n) s ≡ is_marked entries s
 marked-out entries from n s near far out =
     rw length-stamped (rw (stamped-out (entry_of (length entries)) entries from n 0 s near far out))
 

@@ -1,13 +1,16 @@
 -- What a transcript says is what the state has.
-use Rattle.std.proofs.Common.{◌≡◌, ℕ, suc, zero, ◌-◌, zero-add, ◌+◌, ◌<◌, inl, inr, max, true, ◌||◌, List, [], ◌∷◌, ◌++◌, arith, refl, ap, sym, ◌∙◌, length, unwrap_or, None, slice_index}
+use Rattle.std.proofs.Common.{◌≡◌, ℕ, suc, zero, ◌-◌, zero-add, ◌+◌, ◌<◌, inl, inr, max, true, ◌||◌, List, []}
+use Rattle.std.proofs.Common.{◌∷◌, ◌++◌, arith, refl, ap, sym, ◌∙◌, length, unwrap_or, None, slice_index}
 use Rattle.std.specs.Prelude.{slice_get}
 use Rattle.std.proofs.lemmas.Bool.{cases_Bool, or_cases, false≢true, cases_lt}
 use Rattle.std.proofs.lemmas.List.{length-append}
 use Rattle.std.proofs.Math.Nat.{suc-add}
 use Rattle.dr_core.specs.Meaning.Machine.{State, next}
 use Rattle.dr_core.specs.Meaning.Tells.{Tells}
-use Rattle.dr_core.specs.Meaning.Transcript.{Entry, Transcript, claimed_below, claimant, first_of, wrote, covers, last_written, event_of, batch_to, received_by, completion, halts, retires}
-use Rattle.dr_core.proofs.Pushes.{next_push, owner_push, published_push, halted_push, retired_push, written_push, received_push, completed_push, before_kept, before_now}
+use Rattle.dr_core.specs.Meaning.Transcript.{Entry, Transcript, claimed_below, claimant, first_of, wrote, covers, last_written}
+use Rattle.dr_core.specs.Meaning.Transcript.{event_of, batch_to, received_by, completion, halts, retires}
+use Rattle.dr_core.proofs.Pushes.{next_push, owner_push, published_push, halted_push, retired_push, written_push}
+use Rattle.dr_core.proofs.Pushes.{received_push, completed_push, before_kept, before_now}
 
 -- a state that differs by what the entry says
 pub record Changes (m : State) (e : Entry) (n : State) : Type 0 where
@@ -48,7 +51,8 @@ tells_events t m n e told d s h =
           ]
     ]
 
-tells_received : (t : Transcript) (m n : State) (e : Entry) → Tells t m → Changes m e n → (h k : ℕ) → k < slice_index n.taken h → slice_get (received_by (t ++ e ∷ []) h) k ≡ n.written k
+tells_received : (t : Transcript) (m n : State) (e : Entry) → Tells t m → Changes m e n → (h k : ℕ) → k < slice_index n.taken h
+    → slice_get (received_by (t ++ e ∷ []) h) k ≡ n.written k
 tells_received t m n e told d h k l =
     let stays : n.written k ≡ m.written k = kept_written m n e d k (d.in_front h k l) in
     let more : slice_index n.taken h ≡ slice_index m.taken h + length (batch_to h e.reply e.command e.values) = d.taken h in

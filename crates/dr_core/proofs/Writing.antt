@@ -1,5 +1,6 @@
 -- A write of the core is the machine's.
-use Rattle.std.proofs.Common.{◌≡◌, ℕ, ◌+◌, ◌<◌, ◌≤◌, ◌≢◌, inl, inr, Bool, true, false, cond, not, [], ◌∷◌, arith, refl, ap, ◌∙◌, slice_index, Option, Some, None}
+use Rattle.std.proofs.Common.{◌≡◌, ℕ, ◌+◌, ◌<◌, ◌≤◌, ◌≢◌, inl, inr, Bool, true, false, cond, not}
+use Rattle.std.proofs.Common.{[], ◌∷◌, arith, refl, ap, ◌∙◌, slice_index, Option, Some, None}
 use Rattle.std.specs.Prelude.{if◌then◌else◌, ◌==◌}
 use Rattle.std.proofs.lemmas.Bool.{cond-true, cond-false, cases_Bool, cases_eq, lt-leb, ne_eqb, eq-eqb, eqb-true}
 use Rattle.dr_core.specs.declared.command.Command.TheVariants.{Write}

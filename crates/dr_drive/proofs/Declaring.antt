@@ -4,7 +4,8 @@ use Rattle.std.proofs.lemmas.List.{length-map}
 use Rattle.std.specs.Prelude.{◌⊎◌, ◌==◌, if◌then◌else◌}
 use Rattle.std.specs.List.{list_all}
 use Rattle.std.specs.Option.{option_or}
-use Rattle.dr_graph.specs.Meaning.Declaration.{Declaration, connected, declaring_fault, followed_by, following_fault, grouping_fault, none_fault, stranger_fault}
+use Rattle.dr_graph.specs.Meaning.Declaration.{Declaration, connected, declaring_fault, followed_by, following_fault}
+use Rattle.dr_graph.specs.Meaning.Declaration.{grouping_fault, none_fault, stranger_fault}
 use Rattle.dr_graph.specs.Meaning.Name.{Name, is_good_name, new_names}
 use Rattle.dr_graph.specs.declared.fault.GraphFault.{GraphFault}
 use Rattle.dr_graph.specs.declared.fault.GraphFault.TheVariants as refused
@@ -33,7 +34,8 @@ refused_as refused.NoHandlers t (inr e) = e
 refused_as refused.EmptyGroup t (inl e) = cc
 refused_as refused.EmptyGroup t (inr e) = e
 
-unless_refused : (fault seen : Option GraphFault) (f : GraphFault) (done : Declared) → seen ≡ fault → (f ≡ refused.NoMemory) ⊎ (seen ≡ Some f) → FaultAs (refused_by f) (done_unless fault done)
+unless_refused : (fault seen : Option GraphFault) (f : GraphFault) (done : Declared) → seen ≡ fault → (f ≡ refused.NoMemory) ⊎ (seen ≡ Some f)
+    → FaultAs (refused_by f) (done_unless fault done)
 unless_refused fault seen f done same why = refused_as f (done_unless fault done) (elim why [
   | inl memory ↦ inl memory
   | inr is ↦ inr (ap (λ x. done_unless x done) (sym same ∙ is))
@@ -109,7 +111,8 @@ head_same x y xs ys e = cc
 tail_same : {A : Type 0} (x y : A) (xs ys : List A) → x ∷ xs ≡ y ∷ ys → xs ≡ ys
 tail_same x y xs ys e = cc
 
-pub edge_does : (old new : Declaration) (group : Option (List Name)) (up down first second_name : Name) → AreNames old.names → up ≡ legible first → down ≡ legible second_name
+pub edge_does : (old new : Declaration) (group : Option (List Name)) (up down first second_name : Name) → AreNames old.names → up ≡ legible first
+    → down ≡ legible second_name
     → stranger_fault old.names (up ∷ down ∷ []) ≡ None → new ≡ connected old up down
     → (edge_between (at old group) first second_name ≡ Ok (at new group)) × AreNames new.names
 edge_does old new group up down first second_name all up_is down_is free is =
@@ -125,7 +128,8 @@ edge_does old new group up down first second_name all up_is down_is free is =
       ap (λ d. list_all is_good_name d.names) new_is ∙ all,
     )
 
-pub edge_refused : (old : Declaration) (group : Option (List Name)) (up down first second_name : Name) (f : GraphFault) → AreNames old.names → up ≡ legible first → down ≡ legible second_name
+pub edge_refused : (old : Declaration) (group : Option (List Name)) (up down first second_name : Name) (f : GraphFault) → AreNames old.names
+    → up ≡ legible first → down ≡ legible second_name
     → (f ≡ refused.NoMemory) ⊎ (stranger_fault old.names (up ∷ down ∷ []) ≡ Some f) → FaultAs (refused_by f) (edge_between (at old group) first second_name)
 edge_refused old group up down first second_name f all up_is down_is why =
     let fields : List Name = first ∷ second_name ∷ [] in

@@ -1,5 +1,6 @@
 -- Handlers found by their names, and the fields that name them.
-use Rattle.std.proofs.Common.{◌≡◌, ◌<◌, ◌≤◌, ◌+◌, ◌-◌, ℕ, zero, suc, true, false, List, [], ◌∷◌, ◌++◌, Some, None, refl, sym, ap, ◌∙◌, arith, length, take, drop, map, add-one}
+use Rattle.std.proofs.Common.{◌≡◌, ◌<◌, ◌≤◌, ◌+◌, ◌-◌, ℕ, zero, suc, true, false, List, [], ◌∷◌, ◌++◌}
+use Rattle.std.proofs.Common.{Some, None, refl, sym, ap, ◌∙◌, arith, length, take, drop, map, add-one}
 use Rattle.std.proofs.lemmas.List.{map-append}
 use Rattle.std.proofs.Math.Seq.{take-suc}
 use Rattle.std.specs.Prelude.{bytes_eq, slice_get}
@@ -22,7 +23,8 @@ cut (m ∷ names) (suc h) n e = cut names h n e
 pub here : (names : List Name) (name n : Name) (h : ℕ) → slice_get names h ≡ Some n → bytes_eq name n ≡ true → handler_of (drop h names) name ≡ 0
 here names name n h get is = ap (λ l. handler_of l name) (cut names h n get) ∙ rw is refl
 
-pub not_here : (names : List Name) (name n : Name) (h : ℕ) → slice_get names h ≡ Some n → bytes_eq name n ≡ false → handler_of (drop h names) name ≡ handler_of (drop (h + 1) names) name + 1
+pub not_here : (names : List Name) (name n : Name) (h : ℕ) → slice_get names h ≡ Some n → bytes_eq name n ≡ false
+    → handler_of (drop h names) name ≡ handler_of (drop (h + 1) names) name + 1
 not_here names name n h get is = ap (λ l. handler_of l name) (cut names h n get) ∙ rw (is, add-one h) refl
 
 pub nowhere : (names : List Name) (name : Name) (h : ℕ) → length names ≤ h → handler_of (drop h names) name ≡ 0
@@ -43,7 +45,8 @@ take_none : {A : Type 0} (n : ℕ) (xs : List A) → xs ≡ [] → take n xs ≡
 take_none zero xs e = sym e
 take_none (suc n) xs e = rw e refl
 
-pub name_added : (r : Record) (place : ℕ) (old new : List (Bor Name)) (x : Bor Name) → 1 ≤ place → place < length r → new ≡ old ++ x ∷ [] → x.now ≡ legible (field r place)
+pub name_added : (r : Record) (place : ℕ) (old new : List (Bor Name)) (x : Bor Name) → 1 ≤ place → place < length r → new ≡ old ++ x ∷ []
+    → x.now ≡ legible (field r place)
     → given old ≡ map legible (take (place - 1) (names_after r)) → given new ≡ map legible (take (place + 1 - 1) (names_after r))
 name_added r place old new x one less pushed is so_far =
     let front = take (place - 1) (names_after r) in

@@ -81,7 +81,8 @@ progress-write whole k s after line row rest old now new p e (start, begins, w) 
   wrote = Appends-trans old now new (joined p.done) start p.wrote w;
 }
 
-pub progress-end : (whole : Said) (k : ℕ) (s : Phase) (old now : Option (List ℕ)) → Progress whole k s [] old now → (whole.fault ≡ end_fault k s) × Appends old now (joined whole.lines)
+pub progress-end : (whole : Said) (k : ℕ) (s : Phase) (old now : Option (List ℕ)) → Progress whole k s [] old now
+    → (whole.fault ≡ end_fault k s) × Appends old now (joined whole.lines)
 unfolding text_from
 progress-end whole k s old now p =
     let lines : whole.lines ≡ p.done = ap (λ t. t.lines) p.is ∙ append-nil p.done in

@@ -13,7 +13,8 @@ use Rattle.dr_files.specs.declared.fault.RecordFault.TheVariants as fault
 use Rattle.dr_drive.proofs.Runs.{says-end, says-err, says-ok}
 
 -- the first of the records that are left goes on with the setup, opens an exchange, or is at fault
-pub setup-goes : (whole : Said) (k : ℕ) (s s2 : Stage) (left : List Record) (row : Record) (rest : List Record) → whole ≡ text_from k (Preparing s) left → left ≡ row ∷ rest
+pub setup-goes : (whole : Said) (k : ℕ) (s s2 : Stage) (left : List Record) (row : Record) (rest : List Record)
+    → whole ≡ text_from k (Preparing s) left → left ≡ row ∷ rest
     → prepared s row ≡ Ok (Goes s2) → whole ≡ text_from (k + 1) (Preparing s2) rest
 setup-goes whole k s s2 left row rest is cut e =
     is ∙ ap (text_from k (Preparing s)) cut ∙ says-ok k (Preparing s) (record { phase = Preparing s2; line = None }) row rest (ap prepares e)

@@ -18,7 +18,8 @@ use Rattle.dr_drive.specs.Inside.Shows.{FaultAs, ring_setup}
 use Rattle.dr_drive.proofs.Declaring.{at, refused_as}
 
 -- with handlers, the graph decides
-decided : (ring : Ring) (names : List Name) (d : Declaration) (group : Option (List Name)) → d.names ≡ names → (names ≡ [] → ⊥) → started ring (at d group) ≡ opened ring (graph_of d)
+decided : (ring : Ring) (names : List Name) (d : Declaration) (group : Option (List Name)) → d.names ≡ names → (names ≡ [] → ⊥)
+    → started ring (at d group) ≡ opened ring (graph_of d)
 decided ring [] d group is some = absurd (some refl)
 decided ring (n ∷ names) d group is some =
     let long : length d.names ≡ length (n ∷ names) = ap length is in
@@ -41,7 +42,8 @@ unlike x e = cc
 no_such : {A : Type 0} → ◌≡◌ {A = GraphFault} Cycle NoHandlers → A
 no_such e = cc
 
-pub start_refused : (ring : Ring) (d : Declaration) (group : Option (List Name)) (f : GraphFault) → FindsGraph d → IsDeclaration d → (f ≡ NoHandlers → d.names ≡ []) → (d.names ≡ [] → f ≡ NoHandlers) → (f ≡ Cycle → HasCycle d.edges)
+pub start_refused : (ring : Ring) (d : Declaration) (group : Option (List Name)) (f : GraphFault) → FindsGraph d → IsDeclaration d
+    → (f ≡ NoHandlers → d.names ≡ []) → (d.names ≡ [] → f ≡ NoHandlers) → (f ≡ Cycle → HasCycle d.edges)
     → (f ≡ NoHandlers) ⊎ ((f ≡ Cycle) ⊎ (f ≡ NoMemory)) → FaultAs (refused_by f) (started ring (at d group))
 start_refused ring d group f finds is none only cycle (inl no_handler) = refused_as f (started ring (at d group)) (inr (without ring d group (none no_handler) ∙ ap (λ x. Err (Graph x)) (sym no_handler)))
 start_refused ring d group f finds is none only cycle (inr (inl cyclic)) =

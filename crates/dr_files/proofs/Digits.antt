@@ -1,5 +1,6 @@
 -- The number of a field, a digit at a time.
-use Rattle.std.proofs.Common.{◌≡◌, ◌≤◌, ◌<◌, ◌+◌, ◌*◌, ◌-◌, ◌^◌, ◌&&◌, ℕ, Bool, true, false, List, [], ◌∷◌, Option, Some, None, refl, sym, ap, ◌∙◌, arith, suc, drop, fold, get_or, if◌then◌else◌, nat_lt, length, drop-cons, inl, inr}
+use Rattle.std.proofs.Common.{◌≡◌, ◌≤◌, ◌<◌, ◌+◌, ◌*◌, ◌-◌, ◌^◌, ◌&&◌, ℕ, Bool, true, false, List, [], ◌∷◌, Option, Some, None, refl}
+use Rattle.std.proofs.Common.{sym, ap, ◌∙◌, arith, suc, drop, fold, get_or, if◌then◌else◌, nat_lt, length, drop-cons, inl, inr}
 use Rattle.std.specs.List.{list_all}
 use Rattle.std.proofs.lemmas.Bool.{cases_Bool, le-ltb, lt-ltb}
 use Rattle.std.proofs.lemmas.List.{drop_all}
@@ -45,7 +46,8 @@ over field n i inv lt digit large =
     sym (digits field some ∙ inv ∙ ap (number_from n) cut ∙ next)
 
 -- the end of the digits
-pub ended : (field : List ℕ) (n i : ℕ) → number_from 0 field ≡ number_from n (drop i field) → length field ≤ i → 0 < length field → n < 2 ^ 64 → Some n ≡ number_in field
+pub ended : (field : List ℕ) (n i : ℕ) → number_from 0 field ≡ number_from n (drop i field) → length field ≤ i → 0 < length field → n < 2 ^ 64
+    → Some n ≡ number_in field
 ended field n i inv end some fits =
     let cut : drop i field ≡ [] = drop_all i field end in
     let last : number_from n [] ≡ Some n = rw (lt-ltb n (2 ^ 64) fits) refl in

@@ -1,5 +1,6 @@
 -- A write of a text, a piece at a time.
-use Rattle.std.proofs.Common.{◌≡◌, ◌≤◌, ◌<◌, ◌+◌, ◌-◌, ◌^◌, ℕ, List, [], ◌++◌, length, take, drop, Option, Some, None, IfSome, refl, sym, ap, ◌∙◌, arith, append-nil, take-append-drop, take-add, length-drop, ◌==◌, ◌&&◌, if◌then◌else◌, nat_lt}
+use Rattle.std.proofs.Common.{◌≡◌, ◌≤◌, ◌<◌, ◌+◌, ◌-◌, ◌^◌, ℕ, List, [], ◌++◌, length, take, drop, Option, Some, None, IfSome, refl, sym}
+use Rattle.std.proofs.Common.{ap, ◌∙◌, arith, append-nil, take-append-drop, take-add, length-drop, ◌==◌, ◌&&◌, if◌then◌else◌, nat_lt}
 use Rattle.std.proofs.lemmas.Bool.{ne_eqb, lt-ltb}
 use Rattle.std.proofs.lemmas.List.{take_all}
 use Rattle.std.proofs.KnownBytes.{Appends-trans}
@@ -44,7 +45,8 @@ pub further : (a b c : Option (List ℕ)) (text : List ℕ) (at n : ℕ) → App
 further a b c text at n p q = rw (take-add at n text) (Appends-trans a b c (take at text) (take n (drop at text)) p (rw (rest_is text at) at q))
 
 -- a write that took nothing of a piece
-pub refused : (piece : List ℕ) (n old new : ℕ) → new ≡ (if (n == 0) && nat_lt 0 (length piece) then one_more old else old) → n ≡ 0 → 0 < length piece → old < 2 ^ 64 - 1
+pub refused : (piece : List ℕ) (n old new : ℕ) → new ≡ (if (n == 0) && nat_lt 0 (length piece) then one_more old else old) → n ≡ 0 → 0 < length piece
+    → old < 2 ^ 64 - 1
     → new ≡ old + 1
 refused piece n old new e z some less = rw (z, lt-ltb 0 (length piece) some) at e ∙ more old less
 

@@ -1,9 +1,11 @@
 -- The records that rows have left: one read takes the first of them.
-use Rattle.std.proofs.Common.{Bor, IsSome, ◌≡◌, ◌≤◌, ◌<◌, ◌+◌, ◌^◌, ◌⊎◌, inl, inr, ℕ, zero, suc, Bool, List, [], ◌∷◌, ◌++◌, length, Option, Some, None, true, false, refl, sym, ap, ◌∙◌, arith}
+use Rattle.std.proofs.Common.{Bor, IsSome, ◌≡◌, ◌≤◌, ◌<◌, ◌+◌, ◌^◌, ◌⊎◌, inl, inr, ℕ, zero, suc, Bool, List, []}
+use Rattle.std.proofs.Common.{◌∷◌, ◌++◌, length, Option, Some, None, true, false, refl, sym, ap, ◌∙◌, arith}
 use Rattle.std.proofs.lemmas.Bool.{cases_Bool}
 use Rattle.std.specs.Prelude.{if◌then◌else◌}
 use Rattle.csv.specs.Machine.{Read, ends_at_end, field_after, fields_after, is_end, next_record, step}
-use Rattle.csv.specs.Reading.{NextIs, ReadRecord, ReadsNext, Ready, default_config, has_failed, is_bom, pending_of, records_from, records_next, source_of, strip_bom, took_first}
+use Rattle.csv.specs.Reading.{NextIs, ReadRecord, ReadsNext, Ready, default_config, has_failed, is_bom}
+use Rattle.csv.specs.Reading.{pending_of, records_from, records_next, source_of, strip_bom, took_first}
 use Rattle.csv.specs.Records.{Row, fields_of}
 use Rattle.csv.specs.declared.parser.Config.{Config}
 use Rattle.csv.specs.declared.reader.Reader.{Reader}
@@ -13,7 +15,8 @@ use Rattle.dr_records.specs.TextReader.{IsTextReader, ReadsRecords, TakesFirst, 
 use Rattle.dr_records.specs.Records.{Record, records_of}
 
 -- a record leaves no more bytes than there were
-leaves : (cfg : Config) (s : State) (fields : List (List ℕ)) (field xs : List ℕ) (p : Read) → next_record cfg s fields field xs ≡ Some p → length p.2 ≤ length xs
+leaves : (cfg : Config) (s : State) (fields : List (List ℕ)) (field xs : List ℕ) (p : Read) → next_record cfg s fields field xs ≡ Some p
+    → length p.2 ≤ length xs
 unfolding next_record
 leaves cfg s fields field [] p e = elim (cases_Bool (ends_at_end s)) [
   | inl ends ↦ let at : Some (fields ++ (field ∷ []), st.StartRecord, []) ≡ Some p = rw ends at e in let same : [] ≡ p.2 = cc in rw (← same) (omega arith)
@@ -90,7 +93,8 @@ takes_first (Some xs) (Some ys) s s2 fields some next = by (next_record default_
     by None none clash = cc
     by (Some p) is (found, row, state, rest) = rw (row, state, rest) (first_record default_config (length xs + 1) s xs p (omega arith) is)
 
-finds_none : (before after : Option (List ℕ)) (s s2 : State) (fields : Record) → ReadsNext default_config s before after false fields s2 → records_from_state s before ≡ []
+finds_none : (before after : Option (List ℕ)) (s s2 : State) (fields : Record) → ReadsNext default_config s before after false fields s2
+    → records_from_state s before ≡ []
 finds_none None after s s2 fields next = refl
 finds_none (Some xs) None s s2 fields next = absurd next
 finds_none (Some xs) (Some ys) s s2 fields next = by (next_record default_config s [] [] xs) refl next

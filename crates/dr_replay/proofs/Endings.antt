@@ -17,7 +17,8 @@ use Rattle.dr_replay.specs.declared.fault.ReplayFault.{ReplayFault}
 use Rattle.dr_replay.specs.declared.fault.ReplayFault.TheVariants as fault
 use Rattle.dr_replay.specs.declared.ring.Ran.{Ran}
 use Rattle.dr_replay.specs.Meaning.Scripts.{scripts_in}
-use Rattle.dr_replay.specs.Calls.Workers.{IsFirstOf, IsMemory, IsOfAudit, IsOfLock, IsOfMerge, IsOfWorkers, audit_fault, endings_of, lock_endings, replay_fault, ring_workers}
+use Rattle.dr_replay.specs.Calls.Workers.{IsFirstOf, IsMemory, IsOfAudit, IsOfLock, IsOfMerge, IsOfWorkers, audit_fault}
+use Rattle.dr_replay.specs.Calls.Workers.{endings_of, lock_endings, replay_fault, ring_workers}
 
 -- whether a fault may be answered for workers
 abbrev is_of_workers : ReplayFault → Bool

@@ -1,5 +1,6 @@
 -- The events of a file, a record at a time, as they are read.
-use Rattle.std.proofs.Common.{◌≡◌, ◌+◌, ℕ, Bool, true, false, not, cond, ◌&&◌, List, [], ◌∷◌, ◌++◌, map, Option, Some, None, Result, Ok, Err, refl, sym, ap, arith, ◌∙◌, append_assoc, append-nil}
+use Rattle.std.proofs.Common.{◌≡◌, ◌+◌, ℕ, Bool, true, false, not, cond, ◌&&◌, List, [], ◌∷◌, ◌++◌, map, Option}
+use Rattle.std.proofs.Common.{Some, None, Result, Ok, Err, refl, sym, ap, arith, ◌∙◌, append_assoc, append-nil}
 use Rattle.std.specs.Option.{is_some}
 use Rattle.std.specs.List.{cons_option, filter_map, list_all, position_or_len}
 use Rattle.dr_seq.specs.declared.event.Event.{Event}
@@ -48,7 +49,8 @@ pub preceded-nil : (r : Result (List Event) ℕ) → r ≡ preceded [] r
 preceded-nil (Ok events) = refl
 preceded-nil (Err k) = refl
 
-one_more : (done : List Event) (k : ℕ) (o : Operation) (r : Result (List Event) ℕ) → preceded done (events_with k (Some o) r) ≡ preceded (done ++ event_for o ∷ []) r
+one_more : (done : List Event) (k : ℕ) (o : Operation) (r : Result (List Event) ℕ)
+    → preceded done (events_with k (Some o) r) ≡ preceded (done ++ event_for o ∷ []) r
 one_more done k o (Ok events) = ap Ok (sym (append_assoc done (event_for o ∷ []) events))
 one_more done k o (Err bad) = refl
 
@@ -63,6 +65,7 @@ pub file-stops : (whole : Result (List Event) ℕ) (done : List Event) (k : ℕ)
 unfolding events_from
 file-stops whole done k left row rest p cut e = p ∙ ap (λ l. preceded done (events_from k l)) cut ∙ ap (λ x. preceded done (events_with k x (events_from (k + 1) rest))) (sym e)
 
-pub file-ends : (whole : Result (List Event) ℕ) (done : List Event) (k : ℕ) (left : List Record) → whole ≡ preceded done (events_from k left) → left ≡ [] → whole ≡ Ok done
+pub file-ends : (whole : Result (List Event) ℕ) (done : List Event) (k : ℕ) (left : List Record) → whole ≡ preceded done (events_from k left)
+    → left ≡ [] → whole ≡ Ok done
 unfolding events_from
 file-ends whole done k left p none = p ∙ ap (λ l. preceded done (events_from k l)) none ∙ ap Ok (append-nil done)

@@ -8,7 +8,8 @@ use Rattle.dr_replay.specs.Calls.Workers.{lock_endings, numbered}
 abbrev end : ℕ → Option WorkFault → Ended
 end who fault = record { who = who; fault = fault }
 
-numbered_more : (who : ℕ) (faults : List (Option WorkFault)) (f : Option WorkFault) → numbered who (faults ++ f ∷ []) ≡ numbered who faults ++ end (who + length faults) f ∷ []
+numbered_more : (who : ℕ) (faults : List (Option WorkFault)) (f : Option WorkFault)
+    → numbered who (faults ++ f ∷ []) ≡ numbered who faults ++ end (who + length faults) f ∷ []
 numbered_more who [] f = let same : who ≡ who + 0 = omega arith in ap (λ n. end n f ∷ []) same
 numbered_more who (g ∷ faults) f =
     let same : who + 1 + length faults ≡ who + suc (length faults) = omega arith in

@@ -16,7 +16,9 @@ use Rattle.dr_ring.specs.declared.record.HalterRecord.{HalterRecord}
 use Rattle.dr_ring.specs.Meaning.Records.{claimed, last_look, sender_looked, halt_looked, half_written, written, published_to, sender_halted, sender_closed, receiver_looked, cursor_looked, half_taken, took, completed_to, halter_halted, SeesRoom, IsOpen, AreWritten, IsBelowBarrier}
 use Rattle.dr_ring.specs.Meaning.Rule.{World, KeepsRule}
 use Rattle.dr_ring.specs.declared.record.Step.{Step}
-use Rattle.dr_ring.specs.declared.record.Step.TheVariants.{SenderLooksAtCount, SenderLooksAtHalt, SenderStoresFirst, SenderStoresSecond, SenderPublishes, SenderHalts, SenderCloses, ReceiverLooksAtClosed, ReceiverLooksAtCursor, ReceiverLooksAtCount, ReceiverLoadsFirst, ReceiverLoadsSecond, ReceiverCompletes, HalterHalts}
+use Rattle.dr_ring.specs.declared.record.Step.TheVariants.{SenderLooksAtCount, SenderLooksAtHalt, SenderStoresFirst, SenderStoresSecond, SenderPublishes}
+use Rattle.dr_ring.specs.declared.record.Step.TheVariants.{SenderHalts, SenderCloses, ReceiverLooksAtClosed, ReceiverLooksAtCursor, ReceiverLooksAtCount}
+use Rattle.dr_ring.specs.declared.record.Step.TheVariants.{ReceiverLoadsFirst, ReceiverLoadsSecond, ReceiverCompletes, HalterHalts}
 use Rattle.dr_ring.specs.Meaning.Steps.{Happens}
 use Rattle.dr_ring.specs.Inside.Seats.{End, Sitting, end_of, seat_at, Loads, Stores, world_of, Ruled, as_sender, as_receiver, as_halter, sender_of, receiver_of, halter_of, IsSender, IsReceiver, IsHalter, FindsHalt, SenderLookedAtCount, SenderLookedAtHalt, SenderStoredFirst, SenderStoredSecond, SenderPublished, SenderHalted, SenderClosed, ReceiverLookedAtClosed, ReceiverLookedAtCursor, ReceiverLookedAtCount, ReceiverLoadedFirst, ReceiverLoadedSecond, ReceiverCompleted, HalterHalted}
 use Rattle.dr_ring.proofs.Lists.{at_below, final_inside, last_look_le}
@@ -77,7 +79,8 @@ sender_looks_at_count k {sh = sh} {slots = slots} id me i f here is plan has =
     (λ w e K. same_words k (SenderLooksAtCount f) w i (sender_looked r i (get_or w.words i 0)) w.receivers w.halter (look_at_final k w r f e (subst (λ (p : Shape). Contains (finals p.upstreams) f) (sender_plan k sh w r e plan K) has) K).0)
     (λ w e K. (let t = look_at_final k w r f e (subst (λ (p : Shape). Contains (finals p.upstreams) f) (sender_plan k sh w r e plan K) has) K in (refl, (t.1, t.2))))))
 
-pub sender_looks_at_halt : (k : Shape) {sh : Shape} {slots : ℕ} (id : ℕ) (me : Sitting) (n m : ℕ) → n ≡ m → IsSender (end_of me) → (sender_of me.0.ends).plan ≡ sh
+pub sender_looks_at_halt : (k : Shape) {sh : Shape} {slots : ℕ} (id : ℕ) (me : Sitting) (n m : ℕ) → n ≡ m → IsSender (end_of me)
+    → (sender_of me.0.ends).plan ≡ sh
     → (0 < n → SeesRoom sh (sender_of me.0.ends) n)
     → MayLoad k slots id me halt_word (SenderLookedAtHalt m)
 sender_looks_at_halt k {sh = sh} {slots = slots} id me n m named is plan room =

@@ -1,5 +1,6 @@
 -- What a claim comes to.
-use Rattle.std.proofs.Common.{◌≡◌, ℕ, zero, suc, ◌+◌, ◌-◌, ◌^◌, ◌<◌, ◌≤◌, ◌==◌, ◌||◌, false, inl, inr, ◌⊎◌, if◌then◌else◌, List, [], ◌∷◌, ◌++◌, length, replicate, Option, Some, None, sym, refl, ap, ◌∙◌, subst, arith, append_assoc}
+use Rattle.std.proofs.Common.{◌≡◌, ℕ, zero, suc, ◌+◌, ◌-◌, ◌^◌, ◌<◌, ◌≤◌, ◌==◌, ◌||◌, false, inl, inr, ◌⊎◌, if◌then◌else◌, List, []}
+use Rattle.std.proofs.Common.{◌∷◌, ◌++◌, length, replicate, Option, Some, None, sym, refl, ap, ◌∙◌, subst, arith, append_assoc}
 use Rattle.std.specs.Prelude.{nat_lt, Ok, Err}
 use Rattle.std.proofs.lemmas.Bool.{ne_eqb, le-ltb, ltb-false}
 use Rattle.std.proofs.lemmas.List.{length-append, length-replicate, append-nil}
@@ -70,7 +71,8 @@ pub fits_halt : {r s : SenderRecord} {f : SenderFields} (q v : ℕ) → SenderFi
 fits_halt {r = r} {s = s} q v F is none = fits_saw (look halt_word v ∷ []) F (saw_halt r s q v is none)
 
 -- a sender that has found room, and remembers how many events every final completed
-pub fits_room : {r s : SenderRecord} {f : SenderFields} {xs : List Look} {needed found : ℕ} (kept : ℕ) → SenderFits r f → LooksAtFinals r xs s → IsEnough r xs needed found
+pub fits_room : {r s : SenderRecord} {f : SenderFields} {xs : List Look} {needed found : ℕ} (kept : ℕ) → SenderFits r f → LooksAtFinals r xs s
+    → IsEnough r xs needed found
     → kept ≡ found → SenderFits s (record f { remembered = kept })
 fits_room {s = s} {xs = xs} {found = found} kept F S E raised = let seen = fits_saw xs F S in record {
   made = seen.made;

@@ -1,5 +1,6 @@
 -- The receivers' seats come to the sender's one after another, from the last.
-use Rattle.std.proofs.Common.{◌≡◌, ℕ, zero, suc, ◌+◌, ◌<◌, List, [], ◌∷◌, ◌++◌, map, length, set, drop, sym, refl, ap, ◌∙◌, subst, arith, append_assoc, length-set}
+use Rattle.std.proofs.Common.{◌≡◌, ℕ, zero, suc, ◌+◌, ◌<◌, List, [], ◌∷◌, ◌++◌, map, length, set}
+use Rattle.std.proofs.Common.{drop, sym, refl, ap, ◌∙◌, subst, arith, append_assoc, length-set}
 use Rattle.std.proofs.lemmas.List.{length-append, length-map}
 use mathlib.Core.Option.{some, some-injective}
 use lib.ListN.{get_elem?}

@@ -1,9 +1,12 @@
 -- Each list of steps keeps the rule, and the entries of its events lead the machine to the ring's picture.
-use Rattle.std.proofs.Common.{◌≡◌, ◌≢◌, ℕ, zero, suc, ◌+◌, ◌-◌, ◌<◌, ◌≤◌, inl, inr, Bool, true, false, ◌==◌, ◌&&◌, if◌then◌else◌, List, [], ◌∷◌, ◌++◌, length, get_or, set, map, take, drop, replicate, Option, Some, None, unwrap_or, is_none, sym, refl, ap, ◌∙◌, subst, arith, length-set, get_or-set_same, get_or-set_other, append_assoc}
+use Rattle.std.proofs.Common.{◌≡◌, ◌≢◌, ℕ, zero, suc, ◌+◌, ◌-◌, ◌<◌, ◌≤◌, inl, inr, Bool, true, false, ◌==◌, ◌&&◌, if◌then◌else◌, List}
+use Rattle.std.proofs.Common.{[], ◌∷◌, ◌++◌, length, get_or, set, map, take, drop, replicate, Option, Some, None, unwrap_or, is_none}
+use Rattle.std.proofs.Common.{sym, refl, ap, ◌∙◌, subst, arith, length-set, get_or-set_same, get_or-set_other, append_assoc}
 use Rattle.std.specs.Prelude.{Contains, not}
 use Rattle.std.specs.List.{range_with_len}
 use Rattle.std.proofs.lemmas.Bool.{cases_eq, cases_lt, cases_Bool, eq-eqb, ne_eqb}
-use Rattle.std.proofs.lemmas.List.{length-append, length-replicate, length-map, length-take, length-drop, length_push, map-append, get_or_append_left, get_or-append_right, get_or-map, set-append_right, append-nil}
+use Rattle.std.proofs.lemmas.List.{length-append, length-replicate, length-map, length-take, length-drop, length_push, map-append}
+use Rattle.std.proofs.lemmas.List.{get_or_append_left, get_or-append_right, get_or-map, set-append_right, append-nil}
 use Rattle.std.proofs.lemmas.List.FromFn.{get_or-map-range_with_len}
 use lib.Seq.{map-set, map-set_same}
 use mathlib.Core.Option.{some}
@@ -23,16 +26,21 @@ use Rattle.dr_ring.specs.Meaning.Shape.{Shape, handlers_of, ring_setup}
 use Rattle.dr_ring.specs.Meaning.Words.{cursor_word, closed_word, halt_word, count_word, payload_start, payload_word}
 use Rattle.dr_ring.specs.declared.record.HalfWrite.{HalfWrite}
 use Rattle.dr_ring.specs.declared.record.ReceiverRecord.{ReceiverRecord}
-use Rattle.dr_ring.specs.Meaning.Records.{claimed, look, halt_looked, half_written, written, published_to, receiver_looked, tells_drained, cursor_looked, half_taken, took, completed_to, SeesRoom, AreWritten, IsBelowBarrier}
+use Rattle.dr_ring.specs.Meaning.Records.{claimed, look, halt_looked, half_written, written, published_to, receiver_looked, tells_drained}
+use Rattle.dr_ring.specs.Meaning.Records.{cursor_looked, half_taken, took, completed_to, SeesRoom, AreWritten, IsBelowBarrier}
 use Rattle.dr_ring.specs.Meaning.Rule.{World, KeepsRule}
 use Rattle.dr_ring.specs.declared.record.Step.{Step}
-use Rattle.dr_ring.specs.declared.record.Step.TheVariants.{SenderLooksAtCount, SenderLooksAtHalt, SenderStoresFirst, SenderStoresSecond, SenderPublishes, SenderHalts, SenderCloses, ReceiverLooksAtClosed, ReceiverLooksAtCursor, ReceiverLooksAtCount, ReceiverLoadsFirst, ReceiverLoadsSecond, ReceiverCompletes, HalterHalts}
+use Rattle.dr_ring.specs.declared.record.Step.TheVariants.{SenderLooksAtCount, SenderLooksAtHalt, SenderStoresFirst, SenderStoresSecond, SenderPublishes}
+use Rattle.dr_ring.specs.declared.record.Step.TheVariants.{SenderHalts, SenderCloses, ReceiverLooksAtClosed, ReceiverLooksAtCursor, ReceiverLooksAtCount}
+use Rattle.dr_ring.specs.declared.record.Step.TheVariants.{ReceiverLoadsFirst, ReceiverLoadsSecond, ReceiverCompletes, HalterHalts}
 use Rattle.dr_ring.specs.Meaning.Steps.{Happens, sender_knows, sender_stores, receiver_knows, receiver_stores}
 use Rattle.dr_ring.specs.Meaning.Moments.{fresh_receiver, taken_of, picture_of, entry, write_of, poll_of, receiver_at, entries_of, Runs}
 use Rattle.dr_ring.proofs.Lists.{at_below, value_at, final_inside, last_look_le}
 use Rattle.dr_ring.proofs.Keeps.{word_at, receiver_of_handler, orderly, upstream_inside, keeps_sender_looks, keeps_halt_look, keeps_first, keeps_second}
-use Rattle.dr_ring.proofs.Stores.{keeps_publishes, keeps_sender_halts, keeps_halter_halts, keeps_closes, keeps_receiver_looks, tells_truth, keeps_cursor_look, early, keeps_half_taken, taken_event, keeps_takes, keeps_completes}
-use Rattle.dr_ring.proofs.Machine.{shown, shown_front, claim_step, write_step, publish_step, take_step, drained_step, complete_step, counts_below, offered_at_most, offered_more}
+use Rattle.dr_ring.proofs.Stores.{keeps_publishes, keeps_sender_halts, keeps_halter_halts, keeps_closes, keeps_receiver_looks, tells_truth}
+use Rattle.dr_ring.proofs.Stores.{keeps_cursor_look, early, keeps_half_taken, taken_event, keeps_takes, keeps_completes}
+use Rattle.dr_ring.proofs.Machine.{shown, shown_front, claim_step, write_step, publish_step, take_step, drained_step}
+use Rattle.dr_ring.proofs.Machine.{complete_step, counts_below, offered_at_most, offered_more}
 
 pub keeps_step : (k : Shape) (s : Step) (w u : World) → Happens k s w u → KeepsRule k w → KeepsRule k u
 keeps_step k (SenderLooksAtCount f) w u H K = let i = final_inside k.upstreams f H.0 in
@@ -408,7 +416,8 @@ lead_step k HalterHalts w u rest end H K L =
     leads_one k Halt Halting [] rest (parts k w) (record (parts k w) { halted = true }) end refl
     (lead_flag k w halt_word rest end true (omega arith) (omega arith) (halt_on k w K) (subst (λ (x : World). Leads k rest (picture_of k x) end) H L))
 
-pub lead_runs : (k : Shape) (steps : List Step) (es : Transcript) (w u : World) → Runs k steps es w u → KeepsRule k w → Leads k es (picture_of k w) (picture_of k u)
+pub lead_runs : (k : Shape) (steps : List Step) (es : Transcript) (w u : World) → Runs k steps es w u → KeepsRule k w
+    → Leads k es (picture_of k w) (picture_of k u)
 lead_runs k [] es w u R K = subst (λ (xs : Transcript). Leads k xs (picture_of k w) (picture_of k u)) (sym R.0) (ap (picture_of k) R.1)
 lead_runs k (s ∷ steps) es w u R K = subst (λ (xs : Transcript). Leads k xs (picture_of k w) (picture_of k u)) (sym R.3)
     (lead_step k s w R.0 R.1 (picture_of k u) R.2 K (lead_runs k steps R.1 R.0 u R.4 (keeps_step k s w R.0 R.2 K)))

@@ -1,5 +1,6 @@
 -- What a publication answers, by the tests of its stretch, and when its sequences are ready.
-use Rattle.std.proofs.Common.{◌≡◌, ℕ, zero, suc, ◌+◌, ◌-◌, ◌<◌, ◌≤◌, inl, inr, not, List, [], ◌∷◌, ◌++◌, Option, Some, None, length, arith, refl, ap, add-zero, get_or, sym, subst, ◌∙◌}
+use Rattle.std.proofs.Common.{◌≡◌, ℕ, zero, suc, ◌+◌, ◌-◌, ◌<◌, ◌≤◌, inl, inr, not, List, [], ◌∷◌, ◌++◌, Option}
+use Rattle.std.proofs.Common.{Some, None, length, arith, refl, ap, add-zero, get_or, sym, subst, ◌∙◌}
 use Rattle.std.specs.Prelude.{◌==◌, is_none, flat_map, slice_index_or, Ok, Err}
 use Rattle.std.specs.List.{range_with_len}
 use Rattle.std.proofs.lemmas.Bool.{cases_Bool, lt-ltb, le-ltb, lt-leb, eq-eqb, ne_eqb}

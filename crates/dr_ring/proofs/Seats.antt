@@ -1,5 +1,6 @@
 -- A step of one end keeps the rule of the table.
-use Rattle.std.proofs.Common.{◌≡◌, ◌≢◌, ℕ, zero, suc, ◌+◌, inl, inr, ◌==◌, Bool, true, false, cond, List, [], ◌∷◌, ◌++◌, get_or, set, sym, refl, ap, ◌∙◌, subst, append_assoc}
+use Rattle.std.proofs.Common.{◌≡◌, ◌≢◌, ℕ, zero, suc, ◌+◌, inl, inr, ◌==◌, Bool, true, false, cond, List}
+use Rattle.std.proofs.Common.{[], ◌∷◌, ◌++◌, get_or, set, sym, refl, ap, ◌∙◌, subst, append_assoc}
 use Rattle.std.proofs.lemmas.Bool.{eq-eqb, ne_eqb}
 use Rattle.std.proofs.lemmas.List.{append-nil}
 use Rattle.std.proofs.lemmas.List.Elements.{filter-append}
@@ -21,7 +22,8 @@ use Rattle.dr_ring.specs.Meaning.Steps.{Happens}
 use Rattle.dr_ring.specs.Meaning.Moments.{Runs, new_world, entries_of, IsBeginning}
 use Rattle.dr_ring.proofs.Pictures.{keeps_runs}
 use Rattle.dr_ring.proofs.Beginning.{kept_opening}
-use Rattle.dr_ring.specs.Inside.Seats.{End, end_of, seat_at, first_past, past_of, is_store_of, stores_of, stored_of, EachPast, Saw, end_number, Stands, world_of, Ruled, as_sender, as_receiver, as_halter}
+use Rattle.dr_ring.specs.Inside.Seats.{End, end_of, seat_at, first_past, past_of, is_store_of, stores_of, stored_of, EachPast}
+use Rattle.dr_ring.specs.Inside.Seats.{Saw, end_number, Stands, world_of, Ruled, as_sender, as_receiver, as_halter}
 use Rattle.dr_ring.proofs.Lists.{at_below}
 
 -- the place of an end, with what it stands for

@@ -29,7 +29,8 @@ take_whole [] (suc n) le = refl
 take_whole (x ∷ xs) zero le = absurd (omega arith)
 take_whole (x ∷ xs) (suc n) le = ap (λ (ys : List Event). x ∷ ys) (take_whole xs n (omega arith))
 
-agrees : (k : Shape) (w : World) (s : SenderRecord) (r : ReceiverRecord) → w.sender ≡ s → get_elem? w.receivers r.number ≡ some r → KeepsRule k w → HasBeginning s r
+agrees : (k : Shape) (w : World) (s : SenderRecord) (r : ReceiverRecord) → w.sender ≡ s → get_elem? w.receivers r.number ≡ some r → KeepsRule k w
+    → HasBeginning s r
 agrees k w s r same at K = let was = K.received r.number r at in subst (λ (q : SenderRecord). HasBeginning q r) same (record {
   beginning = was.beginning;
   taken = was.taken;

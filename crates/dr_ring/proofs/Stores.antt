@@ -1,8 +1,10 @@
 -- Stores of words that are no payload, and the receivers' steps, keep the rule.
-use Rattle.std.proofs.Common.{◌⊎◌, ◌≡◌, ◌≢◌, ℕ, ◌+◌, ◌-◌, ◌<◌, ◌≤◌, inl, inr, Bool, true, ◌==◌, List, [], ◌∷◌, ◌++◌, length, get_or, set, map, take, drop, Option, Some, None, sym, refl, ap, ◌∙◌, subst, arith, length-set, get_or-set_same, get_or-set_other}
+use Rattle.std.proofs.Common.{◌⊎◌, ◌≡◌, ◌≢◌, ℕ, ◌+◌, ◌-◌, ◌<◌, ◌≤◌, inl, inr, Bool, true, ◌==◌, List, [], ◌∷◌, ◌++◌, length, get_or, set, map}
+use Rattle.std.proofs.Common.{take, drop, Option, Some, None, sym, refl, ap, ◌∙◌, subst, arith, length-set, get_or-set_same, get_or-set_other}
 use Rattle.std.specs.Prelude.{Contains}
 use Rattle.std.proofs.lemmas.Bool.{cases_eq, cases_lt, or_cases, and_parts, eqb-true}
-use Rattle.std.proofs.lemmas.List.{length-append, length-take, length-drop, length-map, length_push, take-append-le, take_more, get_or_append_left, get_or-append_right, get_or-take, get_or-drop, get_or-map}
+use Rattle.std.proofs.lemmas.List.{length-append, length-take, length-drop, length-map, length_push, take-append-le, take_more}
+use Rattle.std.proofs.lemmas.List.{get_or_append_left, get_or-append_right, get_or-take, get_or-drop, get_or-map}
 use mathlib.Core.Option.{some}
 use lib.ListN.{get_elem?}
 use Rattle.dr_seq.specs.declared.event.Event.{Event}
@@ -14,7 +16,8 @@ use Rattle.dr_ring.specs.Meaning.Words.{cursor_word, closed_word, halt_word, cou
 use Rattle.dr_ring.specs.declared.record.Look.{Look}
 use Rattle.dr_ring.specs.declared.record.SenderRecord.{SenderRecord}
 use Rattle.dr_ring.specs.declared.record.ReceiverRecord.{ReceiverRecord}
-use Rattle.dr_ring.specs.Meaning.Records.{claimed, last_look, published_to, sender_halted, sender_closed, receiver_looked, tells_drained, cursor_looked, half_taken, took, completed_to, halter_halted, AreWritten, IsBelowBarrier}
+use Rattle.dr_ring.specs.Meaning.Records.{claimed, last_look, published_to, sender_halted, sender_closed, receiver_looked, tells_drained}
+use Rattle.dr_ring.specs.Meaning.Records.{cursor_looked, half_taken, took, completed_to, halter_halted, AreWritten, IsBelowBarrier}
 use Rattle.dr_ring.specs.Meaning.Rule.{World, Room, Payload, HaltAndClose, ArePast, ReceiverKept, KeepsRule}
 use Rattle.dr_ring.specs.Meaning.Steps.{sender_stores, receiver_knows, receiver_stores}
 use Rattle.dr_ring.proofs.Lists.{at_below, each_set, past_set, past_more, last_look_le}

@@ -9,7 +9,8 @@ use Rattle.dr_ring.specs.Inside.Noted.{Notes}
 use Rattle.dr_ring.specs.Inside.Fits.{SenderFields, SenderFits}
 use Rattle.dr_ring.proofs.Noting.{noted_write}
 
-pub fits_write : {r q : SenderRecord} {f : SenderFields} {w : Written} (s : ℕ) (v : Event) → SenderFits r f → q ≡ written r s v → f.published ≤ s → s < f.claimed
+pub fits_write : {r q : SenderRecord} {f : SenderFields} {w : Written} (s : ℕ) (v : Event) → SenderFits r f → q ≡ written r s v → f.published ≤ s
+    → s < f.claimed
     → Notes f.written s w → SenderFits q (record f { written = w })
 fits_write {r = r} {f = f} {w = w} s v F is le lt notes =
     let next = F.next in let front = F.front in let near = F.near in

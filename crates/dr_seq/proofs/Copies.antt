@@ -43,6 +43,7 @@ pieces slots first n head some fits is =
           ∙ ap (λ i. get_or slots i no_event) (sym slot))
     ])))
 
-pub two_pieces : (slots : List Event) (first n at head upto rest : ℕ) → 0 < length slots → n ≤ length slots → at ≡ first % length slots → head ≡ min n (length slots - at) → upto ≡ head → rest ≡ n - head
+pub two_pieces : (slots : List Event) (first n at head upto rest : ℕ) → 0 < length slots → n ≤ length slots → at ≡ first % length slots
+    → head ≡ min n (length slots - at) → upto ≡ head → rest ≡ n - head
     → take upto (drop at slots) ++ take rest slots ≡ map (λ s. event_at slots s) (range_with_len first n)
 two_pieces slots first n at head upto rest some fits a is u r = rw (u, r, a) (pieces slots first n head some fits (rw a at is))

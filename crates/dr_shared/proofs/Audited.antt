@@ -1,5 +1,6 @@
 -- What a list of sequences says of the transcript that it was made of.
-use Rattle.std.proofs.Common.{◌≡◌, ℕ, ◌<◌, ◌≤◌, inl, inr, Bool, true, false, ◌&&◌, List, [], ◌++◌, arith, refl, ap, sym, ◌∙◌, length, map, take, get_or, Option, Some, unwrap_or, slice_index, eq-eqb}
+use Rattle.std.proofs.Common.{◌≡◌, ℕ, ◌<◌, ◌≤◌, inl, inr, Bool, true, false, ◌&&◌, List, [], ◌++◌, arith, refl, ap}
+use Rattle.std.proofs.Common.{sym, ◌∙◌, length, map, take, get_or, Option, Some, unwrap_or, slice_index, eq-eqb}
 use Rattle.std.proofs.Math.ListN.{get_or-eq_default}
 use Rattle.std.specs.Prelude.{◌==◌, filter}
 use Rattle.std.specs.List.{range_with_len}

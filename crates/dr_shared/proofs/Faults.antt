@@ -18,7 +18,8 @@ lesser_next : (a m : WorkerFault) (o : Option WorkerFault) → lesser a (Some (l
 lesser_next a m None = refl
 lesser_next a m (Some c) = lesser_assoc a m c
 
-least_front : (a : WorkerFault) (o : Option WorkerFault) (ys : List WorkerFault) → Some (lesser a (least (option_to_list o ++ ys))) ≡ least (option_to_list (Some (lesser a o)) ++ ys)
+least_front : (a : WorkerFault) (o : Option WorkerFault) (ys : List WorkerFault)
+    → Some (lesser a (least (option_to_list o ++ ys))) ≡ least (option_to_list (Some (lesser a o)) ++ ys)
 least_front a None ys = refl
 least_front a (Some m) ys = ap (λ x. Some x) (lesser_next a m (least ys))
 
@@ -47,7 +48,8 @@ head_none : (o : Option WorkerFault) (rest : List WorkerFault) → least (cons_o
 head_none None rest is = (refl, is)
 head_none (Some a) rest is = absurd (none-some (lesser a (least rest)) (sym is))
 
-none_with : (number : ℕ) (ended : List Ended) → least (faults_with number ended) ≡ None → (k : ℕ) (d : Ended) → k < length ended → fault_with number (get_or ended k d).who (get_or ended k d).fault ≡ None
+none_with : (number : ℕ) (ended : List Ended) → least (faults_with number ended) ≡ None → (k : ℕ) (d : Ended) → k < length ended
+    → fault_with number (get_or ended k d).who (get_or ended k d).fault ≡ None
 none_with number [] is k d less = absurd (omega arith)
 none_with number (e ∷ ended) is zero d less = (head_none (fault_with number e.who e.fault) (faults_with number ended) is).0
 none_with number (e ∷ ended) is (suc k) d less =
@@ -60,7 +62,8 @@ no_fault who (Some Memory) memory stopped refused = absurd (none-some _ (sym mem
 no_fault who (Some Stopped) memory stopped refused = absurd (none-some _ (sym stopped))
 no_fault who (Some (Refused refusal)) memory stopped refused = absurd (none-some _ (sym refused))
 
-pub none_first : (first : Option WorkerFault) (ended : List Ended) → least (faults_with 40 ended) ≡ None → least (faults_with 54 ended) ≡ None → first ≡ least (faults_with 53 ended) → IfNone first (All (λ (e : Ended). e.fault ≡ None) ended)
+pub none_first : (first : Option WorkerFault) (ended : List Ended) → least (faults_with 40 ended) ≡ None → least (faults_with 54 ended) ≡ None
+    → first ≡ least (faults_with 53 ended) → IfNone first (All (λ (e : Ended). e.fault ≡ None) ended)
 none_first None ended memory stopped refused = λ k d less.
     let e : Ended = get_or ended k d in
     no_fault e.who e.fault (none_with 40 ended memory k d less) (none_with 54 ended stopped k d less) (none_with 53 ended (sym refused) k d less)

@@ -1,5 +1,6 @@
 -- What the machine answers to a call, as an end tells it that shows nothing of what it did.
-use Rattle.std.proofs.Common.{◌≡◌, ◌≢◌, ◌<◌, ◌≤◌, ◌+◌, ◌-◌, ◌^◌, ℕ, zero, suc, Bool, true, false, ◌||◌, ◌&&◌, inl, inr, List, [], ◌∷◌, ◌++◌, Ok, Err, Option, None, Some, Result, length, refl, sym, ◌∙◌, subst, arith, slice_index}
+use Rattle.std.proofs.Common.{◌≡◌, ◌≢◌, ◌<◌, ◌≤◌, ◌+◌, ◌-◌, ◌^◌, ℕ, zero, suc, Bool, true, false, ◌||◌, ◌&&◌, inl, inr, List, []}
+use Rattle.std.proofs.Common.{◌∷◌, ◌++◌, Ok, Err, Option, None, Some, Result, length, refl, sym, ◌∙◌, subst, arith, slice_index}
 use Rattle.std.specs.Prelude.{nat_lt, ◌==◌, flat_map}
 use Rattle.std.specs.List.{range_with_len}
 use Rattle.std.proofs.lemmas.Bool.{cond_both, cases_Bool, or_parts, eqb-false, false≢true}
@@ -13,7 +14,8 @@ use Rattle.dr_core.specs.declared.ends.Trouble.TheVariants.{Refused, Memory}
 use Rattle.dr_core.specs.declared.ends.Wrote.{Wrote}
 use Rattle.dr_core.specs.declared.refusal.Refusal.{Refusal}
 use Rattle.dr_core.specs.Meaning.Refusals.{NoneHolds, IsFirst, claim_causes, write_causes, sequence_causes, publish_causes, poll_causes, complete_causes}
-use Rattle.dr_core.specs.Calls.Ends.{Verdict, Exactly, AtLeast, MayHold, MayFail, claim_tests, write_tests, publish_tests, end_sequence_tests, poll_tests, complete_tests, ClaimAnswers, StopsAt, WriteAllAnswers, WriteAnswers, PublishAnswers, CompleteAnswers}
+use Rattle.dr_core.specs.Calls.Ends.{Verdict, Exactly, AtLeast, MayHold, MayFail, claim_tests, write_tests, publish_tests, end_sequence_tests, poll_tests}
+use Rattle.dr_core.specs.Calls.Ends.{complete_tests, ClaimAnswers, StopsAt, WriteAllAnswers, WriteAnswers, PublishAnswers, CompleteAnswers}
 use Rattle.dr_core.specs.Meaning.Machine.{Setup, State, Outcome, next, available, cursor, refusals, publish_faults, accepted, unless, unchanged, step}
 use Rattle.dr_core.specs.Meaning.Transcript.{Transcript, LeadsTo}
 use Rattle.dr_core.proofs.Steps.{NoneHold}
@@ -196,7 +198,8 @@ written_tells p s e (Ok done) is = write_tells p s e Written [] is
 written_tells p s e (Err (Refused refusal)) is = write_tells p s e (RefusedReply refusal) [] is
 written_tells p s e (Err Memory) is = tt
 
-stops_tells : (p lo : ℕ) (events : List Event) (count : ℕ) (trouble : Option Trouble) → StopsBy p lo events count trouble → StopsAt None lo (length events) count trouble
+stops_tells : (p lo : ℕ) (events : List Event) (count : ℕ) (trouble : Option Trouble) → StopsBy p lo events count trouble
+    → StopsAt None lo (length events) count trouble
 stops_tells p lo events count None is = is
 stops_tells p lo events count (Some trouble) is = (is.0, written_tells p (lo + count) (one_of events count) (Err trouble) is.1)
 

@@ -14,7 +14,8 @@ pub passes_none : (may_stop : ℕ → Type 0) (t : Turns) → Passes may_stop t 
 passes_none may_stop t = record { who = refl; stopped = λ is. inl is }
 
 -- one turn more
-pub stopped_more : (may_stop : ℕ → Type 0) (who : ℕ) (old new : Turns) → old.who ≡ who → (old.stopped ≡ true → may_stop who) → Passes may_stop old new → new.stopped ≡ true → may_stop who
+pub stopped_more : (may_stop : ℕ → Type 0) (who : ℕ) (old new : Turns) → old.who ≡ who → (old.stopped ≡ true → may_stop who)
+    → Passes may_stop old new → new.stopped ≡ true → may_stop who
 stopped_more may_stop who old new same before passes is = ⊎_elim before (λ now. rw (sym same) now) (passes.stopped is)
 
 -- who answers that it was stopped was stopped

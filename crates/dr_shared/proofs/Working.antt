@@ -1,5 +1,6 @@
 -- A handler's work, batch after batch.
-use Rattle.std.proofs.Common.{◌≡◌, ◌<◌, ◌≤◌, ◌+◌, ℕ, Bool, List, [], ◌∷◌, ◌++◌, length, take, Option, Ok, inl, inr, ⊎_elim, refl, sym, ap, ◌∙◌, arith, append_assoc, length-append}
+use Rattle.std.proofs.Common.{◌≡◌, ◌<◌, ◌≤◌, ◌+◌, ℕ, Bool, List, [], ◌∷◌, ◌++◌, length, take, Option, Ok}
+use Rattle.std.proofs.Common.{inl, inr, ⊎_elim, refl, sym, ap, ◌∙◌, arith, append_assoc, length-append}
 use Rattle.std.proofs.lemmas.List.{append-nil, length-take-le}
 use Rattle.dr_seq.specs.declared.event.Event.{Event}
 use Rattle.dr_core.specs.declared.command.Polled.{Polled}
@@ -23,7 +24,8 @@ FollowFrom-append s t (b ∷ bs) cs is h k =
     let all : length (b.events ++ dealt_events bs) ≡ length b.events + length (dealt_events bs) = length-append b.events (dealt_events bs) in
     (h.0, h.1, FollowFrom-append (s + length b.events) t bs cs (omega arith) h.2 k)
 
-GoesThrough-append : {A : Type 0} (goes : Relation A) (before : A) (xs ys : List Showing) (between after : A) → GoesThrough goes before xs between → GoesThrough goes between ys after → GoesThrough goes before (xs ++ ys) after
+GoesThrough-append : {A : Type 0} (goes : Relation A) (before : A) (xs ys : List Showing) (between after : A) → GoesThrough goes before xs between
+    → GoesThrough goes between ys after → GoesThrough goes before (xs ++ ys) after
 GoesThrough-append goes before [] ys between after h k = rw h k
 GoesThrough-append goes before (x ∷ xs) ys between after h k = (h.0, h.1, GoesThrough-append goes h.0 xs ys between after h.2 k)
 
@@ -41,7 +43,8 @@ pub works_none : {A : Type 0} (goes : Relation A) (before : A) (old : Option Rec
 works_none goes before old = record { batches = []; through = refl; handed = shown_none (HandsOut []) hands_none old }
 
 -- some work after other work
-pub works_more : {A : Type 0} (goes : Relation A) (before between after : A) (old mid new : Option Received) → Works goes before between old mid → Works goes between after mid new → Works goes before after old new
+pub works_more : {A : Type 0} (goes : Relation A) (before between after : A) (old mid new : Option Received) → Works goes before between old mid
+    → Works goes between after mid new → Works goes before after old new
 works_more goes before between after old mid new h k = record {
   batches = h.batches ++ k.batches;
   through = rw shown_of-append (GoesThrough-append goes before (shown_of h.batches) (shown_of k.batches) between after h.through k.through);
@@ -58,7 +61,8 @@ IsCompleted upto old new = Completes upto (Ok tt) old new
 abbrev one : List Event → ℕ → ℕ → Bool → Dealt
 one out first count end = record { first = first; events = take count out; end = end }
 
-taken_one : (out : List Event) (first count : ℕ) (end : Bool) → 0 < count → count ≤ length out → (a b : Received) → TakesBatch out first count end a b → HandsOut (one out first count end ∷ []) a b
+taken_one : (out : List Event) (first count : ℕ) (end : Bool) → 0 < count → count ≤ length out → (a b : Received)
+    → TakesBatch out first count end a b → HandsOut (one out first count end ∷ []) a b
 taken_one out first count end some within a b h =
     let many : length (take count out) ≡ count = length-take-le count out within in
     (ap (λ r. r.events) h.1 ∙ ap (λ l. a.events ++ l) (sym (append-nil (take count out))), (h.0, (let is = many in omega arith), tt))
@@ -101,7 +105,8 @@ works_shown goes before after out first count end old mid new deal through same 
 done_after : (a b c : Received) → IsDone a b → IsDone b c → IsDone a c
 done_after a b c h k = ⊎_elim (λ all. inl all) (λ same. rw same h) k
 
-done_one : (out : List Event) (first count : ℕ) (end : Bool) → 0 < count → count ≤ length out → (a b c : Received) → TakesBatch out first count end a b → IsCompleted (first + count) b c → IsDone a c
+done_one : (out : List Event) (first count : ℕ) (end : Bool) → 0 < count → count ≤ length out → (a b c : Received)
+    → TakesBatch out first count end a b → IsCompleted (first + count) b c → IsDone a c
 done_one out first count end some within a b c h k =
     let many : length (take count out) ≡ count = length-take-le count out within in
     let long : length b.events ≡ length a.events + length (take count out) = ap (λ r. length r.events) h.1 ∙ length-append a.events (take count out) in
@@ -114,7 +119,8 @@ pub done_more : (o p q : Option Received) → WhereShown IsDone o p → WhereSho
 done_more o p q h k = shown_through IsDone IsDone IsDone done_after o p q h k
 
 -- a batch was handed out and then completed
-pub done_batch : (out : List Event) (first count : ℕ) (end : Bool) (o p q : Option Received) → IsDealt out first count end o p → WhereShown (IsCompleted (first + count)) p q → WhereShown IsDone o q
+pub done_batch : (out : List Event) (first count : ℕ) (end : Bool) (o p q : Option Received) → IsDealt out first count end o p
+    → WhereShown (IsCompleted (first + count)) p q → WhereShown IsDone o q
 done_batch out first count end o p q deal k = shown_through (TakesBatch out first count end) (IsCompleted (first + count)) IsDone (done_one out first count end deal.some deal.within) o p q deal.taken k
 
 -- nothing came

@@ -1,5 +1,6 @@
 -- A script's events, written and published.
-use Rattle.std.proofs.Common.{◌≡◌, ◌<◌, ◌≤◌, ◌+◌, ◌-◌, ℕ, zero, suc, List, [], ◌∷◌, ◌++◌, length, take, drop, map, get_or, set, replicate, Option, None, Some, Ok, refl, sym, ap, ◌∙◌, subst, arith, append_assoc}
+use Rattle.std.proofs.Common.{◌≡◌, ◌<◌, ◌≤◌, ◌+◌, ◌-◌, ℕ, zero, suc, List, [], ◌∷◌, ◌++◌, length, take, drop, map, get_or}
+use Rattle.std.proofs.Common.{set, replicate, Option, None, Some, Ok, refl, sym, ap, ◌∙◌, subst, arith, append_assoc}
 use Rattle.std.specs.Prelude.{◌==◌, false, flat_map, not, unwrap_or}
 use Rattle.std.specs.List.{range_with_len}
 use Rattle.std.proofs.lemmas.Bool.{eqb-true, not-false}
@@ -12,7 +13,8 @@ use Rattle.dr_core.specs.declared.ends.Trouble.{Trouble}
 use Rattle.dr_core.specs.declared.refusal.Refusal.{Refusal}
 use Rattle.dr_core.specs.declared.refusal.Refusal.TheVariants.{BadCount, NoProducer, NotClaimed, OutOfOrder}
 use Rattle.dr_core.specs.Meaning.Refusals.{NoneHolds, sequence_causes}
-use Rattle.dr_core.specs.Calls.Ends.{Sent, Verdict, WhereShown, Claims, MayFail, PublishAnswers, StopsAt, Writes, WritesAll, Publishes, publish_tests, with_event, with_events}
+use Rattle.dr_core.specs.Calls.Ends.{Sent, Verdict, WhereShown, Claims, MayFail, PublishAnswers, StopsAt, Writes}
+use Rattle.dr_core.specs.Calls.Ends.{WritesAll, Publishes, publish_tests, with_event, with_events}
 use Rattle.dr_core.proofs.ManyWrites.{with_events-append, written_more}
 use Rattle.dr_shared.specs.Meaning.Work.{Adds, Writing}
 use Rattle.dr_shared.proofs.Showing.{shown_as, shown_none, shown_through}
@@ -78,7 +80,8 @@ written_as lo events a b h =
 pub writes_as : (lo : ℕ) (events : List Event) (o p : Option Sent) → WhereShown (WritesAll lo events) o p → WhereShown (Writing lo events (length events)) o p
 writes_as lo events o p h = shown_as (WritesAll lo events) (Writing lo events (length events)) (written_as lo events) o p h
 
-wrote_through : (lo : ℕ) (xs ys zs : List Event) → zs ≡ xs ++ ys → (n : ℕ) → n ≡ lo + length xs → (a b c : Sent) → WritesAll lo xs a b → WritesAll n ys b c → WritesAll lo zs a c
+wrote_through : (lo : ℕ) (xs ys zs : List Event) → zs ≡ xs ++ ys → (n : ℕ) → n ≡ lo + length xs → (a b c : Sent) → WritesAll lo xs a b
+    → WritesAll n ys b c → WritesAll lo zs a c
 wrote_through lo xs ys zs is n at a b c h k = k ∙ ap (λ m. with_events m ys b) at ∙ ap (λ x. with_events (lo + length xs) ys x) h ∙ sym (with_events-append lo xs ys a) ∙ ap (λ l. with_events lo l a) (sym is)
 
 -- some events after others
@@ -124,7 +127,8 @@ nothing_left [] h = refl
 nothing_left (x ∷ xs) h = absurd (omega arith)
 
 -- what was claimed, written and then published
-sent_all : (events : List Event) (c : Claimed) → c.hi + 1 ≡ c.lo + length events → (a b d e : Sent) → Opens (length events) c a b → Writing c.lo events (length events) b d → c.lo ≡ length d.published → Shows c.lo c.hi d e → Adds events a e
+sent_all : (events : List Event) (c : Claimed) → c.hi + 1 ≡ c.lo + length events → (a b d e : Sent) → Opens (length events) c a b
+    → Writing c.lo events (length events) b d → c.lo ≡ length d.published → Shows c.lo c.hi d e → Adds events a e
 sent_all events c is a b d e claim write first_next shows =
     let same : d.published ≡ a.published = write.published ∙ ap (λ x. x.published) claim.1 in
     let at : c.lo ≡ length a.published = first_next ∙ ap length same in
@@ -152,7 +156,8 @@ in_order lo hi d h =
     let last : not (lo == length d.published) ≡ false = last_fails ((tests.no_producer, NoProducer) ∷ (tests.bad_count, BadCount) ∷ (tests.unclaimed, NotClaimed) ∷ flat_map (λ s. sequence_causes (tests.of_sequence s)) (range_with_len lo (hi + 1 - lo))) (tests.out_of_order, OutOfOrder) h in
     eqb-true lo (length d.published) (not-false (lo == length d.published) last)
 
-pub sends : (events : List Event) (c : Claimed) → c.hi + 1 ≡ c.lo + length events → (o p q r : Option Sent) → WhereShown (Opens (length events) c) o p → WhereShown (Writing c.lo events (length events)) p q
+pub sends : (events : List Event) (c : Claimed) → c.hi + 1 ≡ c.lo + length events → (o p q r : Option Sent)
+    → WhereShown (Opens (length events) c) o p → WhereShown (Writing c.lo events (length events)) p q
     → PublishAnswers q c.lo c.hi (Ok tt) → WhereShown (Shows c.lo c.hi) q r → WhereShown (Adds events) o r
 sends events c is None None None None h k answer l = tt
 sends events c is None None None (Some e) h k answer l = absurd l
@@ -199,5 +204,6 @@ more_written lo done count events within o p q h k =
     writes_through lo (take done events) (take count (drop done events)) (take (done + count) events) (first_and_next events done count) (lo + done) (omega arith) o p q h
     (subst (λ l. WhereShown (WritesAll (lo + done) (take count l)) p q) (rest_of events done) k)
 
-pub all_written : (lo done count : ℕ) (events : List Event) → done + count ≡ length events → (o p : Option Sent) → WhereShown (WritesAll lo (take (done + count) events)) o p → WhereShown (WritesAll lo events) o p
+pub all_written : (lo done count : ℕ) (events : List Event) → done + count ≡ length events → (o p : Option Sent)
+    → WhereShown (WritesAll lo (take (done + count) events)) o p → WhereShown (WritesAll lo events) o p
 all_written lo done count events all o p h = subst (λ l. WhereShown (WritesAll lo l) o p) (take_all (done + count) events (omega arith)) h

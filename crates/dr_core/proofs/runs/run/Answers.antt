@@ -22,7 +22,8 @@ loop-command-init c = record {
 }
 
 -- what is added to the values are those of the batch
-added : (buffer : Vec Event Global) (out lent : List Event) (n k : ℕ) → length out ≡ buffer.len → lent ≡ (with_items buffer out).items → n ≡ k → take n lent ≡ take k out
+added : (buffer : Vec Event Global) (out lent : List Event) (n k : ℕ) → length out ≡ buffer.len → lent ≡ (with_items buffer out).items → n ≡ k
+    → take n lent ≡ take k out
 added buffer out lent n k len is same = rw (is, same) (ap (take k) (with_items_is buffer out len))
 
 pub loop-command-preserved : goal.loop-command-preserved

@@ -13,7 +13,8 @@ use Rattle.dr_ring.proofs.Pictures.{keeps_runs, lead_runs}
 use Rattle.dr_ring.proofs.Beginning.{kept_opening, opens}
 use Rattle.dr_ring.proofs.laws.moments.Goals as goal
 
-leads : (k : Shape) (steps : List Step) (entries : Transcript) (w : World) → IsGraph k.upstreams → 0 < k.size → Runs k steps entries (new_world k) w → LeadsTo (ring_setup k) entries (picture_of k w)
+leads : (k : Shape) (steps : List Step) (entries : Transcript) (w : World) → IsGraph k.upstreams → 0 < k.size → Runs k steps entries (new_world k) w
+    → LeadsTo (ring_setup k) entries (picture_of k w)
 leads k steps entries w graph some_slot runs =
     subst (λ (m : State). LeadsFrom (ring_setup k) m entries (picture_of k w)) (opens k) (lead_runs k steps entries (new_world k) w runs (kept_opening k graph some_slot))
 

@@ -10,7 +10,8 @@ use Rattle.dr_accounts.proofs.Rounds.{business_can, journal_can, replica_can, sh
 use Rattle.dr_accounts.proofs.Shown.{business_goes, journal_goes, replica_goes}
 use Rattle.dr_accounts.proofs.Turning.{CanTurn, TookTurn, no_refusal, took_turn}
 use Rattle.dr_accounts.proofs.handlers.Handlers.turn.Goals as goal
-use Rattle.dr_accounts.proofs.handlers.Handlers.turn.Goals.{After-processor_turn, After-processor_turn-2, After-processor_turn-3, In_ok-processor_turn, In_ok-processor_turn-2, In_ok-processor_turn-3}
+use Rattle.dr_accounts.proofs.handlers.Handlers.turn.Goals.{After-processor_turn, After-processor_turn-2, After-processor_turn-3}
+use Rattle.dr_accounts.proofs.handlers.Handlers.turn.Goals.{In_ok-processor_turn, In_ok-processor_turn-2, In_ok-processor_turn-3}
 
 abbrev journals : Journal → Event → ℕ → Bool → Journal → Type 0
 journals old event s end new = Journals old event new

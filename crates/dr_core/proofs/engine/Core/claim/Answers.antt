@@ -39,7 +39,8 @@ returns-in-Some-clause-step c =
     (rw (← c.self.view_is) at (sym c.claim_fault.ensures.fault ∙ c.in-Some.is)))
 
 -- the owners that a claim wrote back
-owners_are : (mode : Mode) (owners : Vec ℕ Global) (lent new : List ℕ) (from n p : ℕ) → lent ≡ owners.items → new ≡ owners_after mode lent from n p → (with_items owners new).items ≡ owners_after mode owners.items from n p
+owners_are : (mode : Mode) (owners : Vec ℕ Global) (lent new : List ℕ) (from n p : ℕ) → lent ≡ owners.items → new ≡ owners_after mode lent from n p
+    → (with_items owners new).items ≡ owners_after mode owners.items from n p
 owners_are Single owners lent new from n p a b = with_items_is owners new (ap length (b ∙ a) ∙ sym owners.ok.0) ∙ b ∙ a
 owners_are (Multi producers) owners lent new from n p a b =
     let e : new ≡ owners_after (Multi producers) owners.items from n p = b ∙ ap (λ l. owners_after (Multi producers) l from n p) a in

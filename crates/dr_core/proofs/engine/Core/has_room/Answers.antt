@@ -8,7 +8,8 @@ use Rattle.dr_core.proofs.engine.Core.has_room.Goals as goal
 use Rattle.dr_core.proofs.engine.Core.has_room.Goals.{After-least_flagged}
 
 -- what the scan of the flags found
-least_is : (v : CoreView) (counts : List ℕ) (flags kept : List Bool) (n : ℕ) → AreGating kept v.setup.upstreams (retired_in v) → counts ≡ v.completed → flags ≡ kept
+least_is : (v : CoreView) (counts : List ℕ) (flags kept : List Bool) (n : ℕ) → AreGating kept v.setup.upstreams (retired_in v) → counts ≡ v.completed
+    → flags ≡ kept
     → n ≡ least_of (map (λ h. slice_index counts h) (filter (flagged flags) (range_with_len 0 (length flags)))) → n ≡ gate_of v
 least_is v counts flags kept n gating a b e = (rw (a, b) at e) ∙ flagged_least v.setup.upstreams (retired_in v) kept (λ h. slice_index v.completed h) gating
 

@@ -19,7 +19,8 @@ use Rattle.dr_core.proofs.Recents.{shown_event}
 use Rattle.dr_core.proofs.Retiring.{told}
 use Rattle.dr_core.proofs.Whole.{step_whole}
 use Rattle.dr_core.proofs.engine.Core.poll_into.Goals as goal
-use Rattle.dr_core.proofs.engine.Core.poll_into.Goals.{After-available-available, After-copy_out, After-cursor, else-self-via-then-self+else-first-self, else-self-via-else-self}
+use Rattle.dr_core.proofs.engine.Core.poll_into.Goals.{After-available-available, After-copy_out, After-cursor, else-self-via-then-self+else-first-self}
+use Rattle.dr_core.proofs.engine.Core.poll_into.Goals.{else-self-via-else-self}
 
 -- the events that stand at the front of the buffer
 copied : (events : List Event) (first count : ℕ) (out old : List Event)

@@ -15,7 +15,8 @@ use Rattle.dr_core.proofs.InOrder.{InOrder, next_step, next_available}
 use Rattle.dr_core.proofs.Whole.{step_whole}
 use Rattle.dr_core.proofs.Writing.{near}
 use Rattle.dr_core.proofs.engine.Core.publish.Goals as goal
-use Rattle.dr_core.proofs.engine.Core.publish.Goals.{After-show-self-inside, Then-is_next_written, else-is_single-via-then-is_single+else-lo-self-2, else-is_single-via-else-is_single}
+use Rattle.dr_core.proofs.engine.Core.publish.Goals.{After-show-self-inside, Then-is_next_written, else-is_single-via-then-is_single+else-lo-self-2}
+use Rattle.dr_core.proofs.engine.Core.publish.Goals.{else-is_single-via-else-is_single}
 
 pub returns-then-lo-self-clause-step : goal.returns-then-lo-self-clause-step
 returns-then-lo-self-clause-step c =
@@ -58,7 +59,8 @@ found : (c : After-show-self-inside) → IsNewFront c.self.inside.mode (publishe
 found c = rw c.show-self-inside.ensures.marks at c.show-self-inside.ensures.front
 
 -- the publication is the machine's
-published : (c : After-show-self-inside) → IsStep (view_of c.self.inside) (Publish c.args.p c.args.lo c.args.hi) Published [] (view_of (record c.self.inside { published = c.show-self-inside.new.published; front = c.show-self-inside.result; filled = max c.self.inside.filled c.show-self-inside.result }))
+published : (c : After-show-self-inside)
+    → IsStep (view_of c.self.inside) (Publish c.args.p c.args.lo c.args.hi) Published [] (view_of (record c.self.inside { published = c.show-self-inside.new.published; front = c.show-self-inside.result; filled = max c.self.inside.filled c.show-self-inside.result }))
 published c =
     let v : CoreView = view_of c.self.inside in
     let recent : v.next ≤ c.args.lo + v.setup.size = near v c.self.invariant.whole c.args.lo c.if-lo-self.false in

@@ -18,7 +18,8 @@ returns-then-is_ahead c =
     sym (rw (← c.self.view_is) (publish_fault_is c.self.inside c.args.s c.args.p true _ _ (rw (← c.self.view_is) at c.requires.claimed) (rw (← c.self.view_is) at c.requires.recent) published refl refl))
 
 -- a sequence that is not published, by its owner and its mark as written
-unpublished_fault : (c : After-owner_of) (mine written : Bool) → (owner_at c.self.inside.mode c.self.inside.owners.items c.args.s == c.args.p) ≡ mine → is_written_at (kept_of c.self.inside) c.args.s ≡ written
+unpublished_fault : (c : After-owner_of) (mine written : Bool) → (owner_at c.self.inside.mode c.self.inside.owners.items c.args.s == c.args.p) ≡ mine
+    → is_written_at (kept_of c.self.inside) c.args.s ≡ written
     → publish_fault (known_at c.args.self.now c.args.s) c.args.p ≡ cond mine (cond written None (Some NotWritten)) (Some NotClaimed)
 unpublished_fault c mine written owned marked =
     let unpublished : is_published_at (kept_of c.self.inside) c.args.s ≡ false = elim c.if-s-self.branch [

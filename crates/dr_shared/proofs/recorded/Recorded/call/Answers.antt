@@ -10,7 +10,8 @@ pub invariant_of-self-else-is_kept : goal.invariant_of-self-else-is_kept
 invariant_of-self-else-is_kept c =
     rw (c.reserve.ensures.items, c.reserve-2.ensures.items) (recorded_same _ _ _ _ _ _ _ (sym c.is_kept.ensures ∙ c.if-is_kept.false) c.execute-reply.ensures.step c.self.invariant)
 
-fits_within : (k offers asked : ℕ) (before after : List Event) (n : ℕ) → k ≤ offers → offers ≤ asked → asked ≤ length before → length after ≡ length before → k ≤ length after
+fits_within : (k offers asked : ℕ) (before after : List Event) (n : ℕ) → k ≤ offers → offers ≤ asked → asked ≤ length before
+    → length after ≡ length before → k ≤ length after
 fits_within k offers asked before after n a b d e = omega arith
 
 pub invariant_of-self-in-Continue-branch-3 : goal.invariant_of-self-in-Continue-branch-3

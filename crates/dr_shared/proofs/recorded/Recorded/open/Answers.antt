@@ -11,7 +11,8 @@ use Rattle.dr_shared.proofs.recorded.Recorded.open.Goals as goal
 small_limit : (limit : ℕ) → is_bad_limit limit ≡ false → limit ≤ 2 ^ 62
 small_limit limit h = grind (arith, nat_tests, (or_parts (limit == 0) (nat_lt (2 ^ 62) limit) h).1)
 
-no_fault : (mode : Mode) (limit : ℕ) → (has_bad_producers mode ≡ true → ⊥) → ((has_bad_producers mode ≡ false) × (is_bad_limit limit ≡ true) → ⊥) → limit ≤ 2 ^ 62
+no_fault : (mode : Mode) (limit : ℕ) → (has_bad_producers mode ≡ true → ⊥) → ((has_bad_producers mode ≡ false) × (is_bad_limit limit ≡ true) → ⊥)
+    → limit ≤ 2 ^ 62
 no_fault mode limit f g =
     elim (cases_Bool (has_bad_producers mode)) [
       | inl y ↦ absurd (f y)
