@@ -3,7 +3,7 @@
 //! Begin with `specs/Report`: it says what is reported of a list of events, with the balances of
 //! `specs/Accounts` and the operations of `specs/Operations`. [`report_by_core`] sends events through
 //! a core of one thread and gives the report of three handlers: [`Journal`], [`Replica`] and
-//! [`Business`]. Over an exchange between threads each of them has a worker ([`work`]), which gives
+//! [`Business`]. Over the ring each of them has a worker ([`work`]), which gives
 //! its part of the report ([`Reporter`]).
 #![tactic(auto)]
 

@@ -3,7 +3,7 @@
 ghost use Rattle.std.specs.Prelude.{◌≡◌, ◌↔◌, ◌^◌, ◌<◌, Err, IfOk, IfErr, ◌≤◌, true, false, not, slice_index};
 ghost use Rattle.dr_core.specs.Inside.Availability.{HasOwners};
 ghost use Rattle.dr_core.specs.Calls.CoreView.{retired_in};
-ghost use Rattle.dr_core.specs.Inside.Fields.{IsOpened};
+ghost use Rattle.dr_core.specs.Calls.Shows.{IsOpened};
 ghost use Rattle.dr_core.specs.Meaning.Machine.{opening, handlers, producers as producers_of, setup_of};
 ghost use Rattle.dr_core.specs.Calls.OpenFault.{has_bad_producers, is_bad_limit};
 ghost use Rattle.dr_core.specs.Meaning.Runs.{IsReached};

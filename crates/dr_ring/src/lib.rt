@@ -2,7 +2,7 @@
 //! thread of its own, and no call waits or takes memory.
 //!
 //! Begin with `specs/Meaning`: `Words` says where each word lies, `Records` what each kind of step
-//! makes of what its end knows, `Kept` is the rule that holds between any two steps, and `Steps`
+//! makes of what its end knows, `Rule` is the rule that holds between any two steps, and `Steps`
 //! lists the kinds. `specs/Calls` has what public contracts cite, and `specs/Inside` the rest, of
 //! which `Seats` says of the words that such steps made them. [`laws`] has one function a kind, and
 //! [`laws::moments`] the theorem over all lists of steps.

@@ -4,7 +4,6 @@ use dr_files::Counted;
 use std::alloc::Global;
 use std::io;
 use std::io::{Read, Write};
-use std::process::Abort;
 
 /// A reader that fails at its k-th call, and gives at most sixteen bytes a call.
 #[derive(Drop)]
@@ -88,38 +87,47 @@ pub fn whole_at(alloc: Global, fails_at: u64) -> Slow {
     }
 }
 
-/// Flushes and writes after a failure, of which the writer underneath must hear nothing.
-pub fn call_on(rt: &impl Abort, mut writer: Counted<Slow>) -> Slow {
-    assert!(rt; writer.flush().is_err() && writer.write(b"x".as_slice()).is_err());
-    assert!(rt; writer.write(b"".as_slice()).is_err() && writer.faults() == 4);
-    writer.into_inner()
-}
-
-/// Whether a run that writes this text meets the writer's failure. If so it took all bytes before
-/// that, and was called no more; if not, all.
-pub fn meets_failure(rt: &impl Abort, writer: Counted<Slow>, whole: &[u8]) -> bool {
-    let faults = writer.faults();
-    let meets = faults > 0;
-    let slow = if meets {
-        assert!(rt; faults == 1);
-        call_on(rt, writer)
+/// Flushes and writes after a failure, of which the writer underneath must hear nothing, and gives
+/// that one: none where a call was not answered with a failure.
+pub fn call_on(mut writer: Counted<Slow>) -> Option<Slow> {
+    let fails = writer.flush().is_err()
+        && writer.write(b"x".as_slice()).is_err()
+        && writer.write(b"".as_slice()).is_err();
+    if fails && writer.faults() == 4 {
+        Some(writer.into_inner())
     } else {
-        writer.into_inner()
-    };
-    assert!(rt; meets == (slow.fails_at <= whole.len() as u64));
-    if meets {
-        assert!(rt; slow.calls == slow.fails_at);
-        assert!(rt; whole.starts_with(slow.taken.as_slice()));
-        assert!(rt; slow.taken.len() as u64 + 1 == slow.fails_at);
-    } else {
-        assert!(rt; faults == 0 && slow.taken.as_slice() == whole);
+        None
     }
-    meets
 }
 
-/// How often a reader that failed was called, however it is called on.
-pub fn calls_of(rt: &impl Abort, mut reader: Counted<Failing<'_>>) -> u64 {
+// Whether a writer that failed took all bytes before its failure, and was called no more.
+fn stopped_there(slow: &Slow, whole: &[u8]) -> bool {
+    slow.calls == slow.fails_at
+        && whole.starts_with(slow.taken.as_slice())
+        && slow.taken.len() as u64 == slow.fails_at.saturating_sub(1)
+}
+
+/// Whether a run that writes this text meets the writer's failure. If so the writer took all bytes
+/// before that, and was called no more; if not, all: there is no answer where it is otherwise.
+pub fn meets_failure(writer: Counted<Slow>, whole: &[u8]) -> Option<bool> {
+    let meets = writer.faults() > 0;
+    let is_right = if meets {
+        let slow = call_on(writer)?;
+        stopped_there(&slow, whole) && slow.fails_at <= whole.len() as u64
+    } else {
+        let slow = writer.into_inner();
+        slow.taken.as_slice() == whole && slow.fails_at > whole.len() as u64
+    };
+    if is_right { Some(meets) } else { None }
+}
+
+/// How often a reader that failed was called, however it is called on: none where the next call is
+/// not answered with a failure.
+pub fn calls_of(mut reader: Counted<Failing<'_>>) -> Option<u64> {
     let mut buf = [0u8; 4];
-    assert!(rt; reader.read(&mut buf).is_err() && reader.faults() == 2);
-    reader.into_inner().calls
+    if reader.read(&mut buf).is_err() && reader.faults() == 2 {
+        Some(reader.into_inner().calls)
+    } else {
+        None
+    }
 }

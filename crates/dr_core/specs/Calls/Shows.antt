@@ -9,7 +9,8 @@ use Rattle.dr_core.specs.declared.command.Claimed.{Claimed as Stretch}
 use Rattle.dr_core.specs.declared.command.Polled.{Polled}
 use Rattle.dr_core.specs.declared.command.Polled.TheVariants as answer
 use Rattle.dr_graph.specs.Meaning.Graph.{least_of}
-use Rattle.dr_core.specs.Meaning.Machine.{State, handlers, step, next, front}
+use Rattle.dr_graph.specs.Meaning.Name.{Name}
+use Rattle.dr_core.specs.Meaning.Machine.{Setup, State, handlers, opening, step, next, front}
 use Rattle.dr_core.specs.Calls.CoreView.{Known, Nothing, ClaimedBy, WrittenBy, PublishedWith, CoreView, known_at, retired_in}
 
 -- what is known of a claimed sequence agrees with its owner, its publication mark and what is written to it
@@ -109,3 +110,9 @@ pub record CanComplete (v : CoreView) (h upto : ℕ) : Type 0 where
   pub left : retired_in v h ≡ false
   pub completed : slice_index v.completed h ≤ upto
   pub taken : upto ≤ slice_index v.taken h
+
+-- a core as it is opened
+pub record IsOpened (v : CoreView) (c : Setup) (named : List Name) : Type 0 where
+  pub setup : v.setup ≡ c
+  pub names : v.names ≡ named
+  pub shows : Shows v (opening c)

@@ -3,11 +3,9 @@ use Rattle.std.specs.Prelude.{◌≡◌, ℕ, ◌+◌, ◌^◌, ◌<◌, ◌≤�
 use Rattle.dr_seq.specs.Rounds.{is_marked}
 use Rattle.dr_seq.specs.Size.{IsSize}
 use Rattle.dr_core.specs.declared.engine.Core.TheInside.{Inside}
-use Rattle.dr_graph.specs.Meaning.Name.{Name}
 use Rattle.dr_graph.specs.Meaning.Graph.{flagged, upstreams_of, finals_without, IsGraph}
-use Rattle.dr_core.specs.Meaning.Machine.{Setup, handlers, opening, setup_of}
+use Rattle.dr_core.specs.Meaning.Machine.{Setup, handlers, setup_of}
 use Rattle.dr_core.specs.Calls.CoreView.{CoreView, AreGating, retired_in, recent_of}
-use Rattle.dr_core.specs.Calls.Shows.{Shows}
 use Rattle.dr_core.specs.Meaning.Runs.{IsReached}
 use Rattle.dr_core.specs.Inside.Availability.{KeptBySlot, slot_known, HasOwners, is_ahead}
 
@@ -81,9 +79,3 @@ pub record IsKept (a : Inside) : Type 0 where
   pub available : IsAvailable (kept_of a) a.size a.next
   pub gating : AreGating a.gating.items a.graph.upstreams (flagged a.retired.items)
   pub claimable : IsClaimable (view_of a).setup a.next a.halted (flagged a.retired.items) a.completed.items a.claimable
-
--- a core as it is opened
-pub record IsOpened (v : CoreView) (c : Setup) (named : List Name) : Type 0 where
-  pub setup : v.setup ≡ c
-  pub names : v.names ≡ named
-  pub shows : Shows v (opening c)

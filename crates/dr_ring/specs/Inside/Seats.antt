@@ -1,4 +1,4 @@
--- How the ends of a new ring begin.
+-- The seats that stand for the ends of a ring, and the rule that the words' table keeps.
 use Rattle.std.specs.Prelude.{◌≡◌, ℕ, List, [], map, ◌+◌, ◌<◌, ◌≤◌, ◌==◌, Bool, true, false, ◌∷◌, ◌++◌, length, filter, Some}
 use Rattle.atomic_table.specs.Seated.{TableId}
 use Rattle.dr_ring.specs.declared.record.ReceiverRecord.{ReceiverRecord}
