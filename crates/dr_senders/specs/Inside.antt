@@ -1,0 +1,2 @@
+-- How the ends keep it; no public contract cites this.
+pub mod Seats
