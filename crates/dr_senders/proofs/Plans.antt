@@ -2,7 +2,8 @@
 use Rattle.std.proofs.Common.{ℕ, ◌%◌, ◌<◌, ◌≤◌, arith}
 use Rattle.std.proofs.Math.Nat.{mod-lt}
 use Rattle.dr_seq.proofs.Sizes.{size_positive, size_at_most}
-use Rattle.dr_senders.specs.Meaning.Shape.{Shape, IsShape, IsPlan}
+use Rattle.dr_senders.specs.Meaning.Shape.{Shape, IsShape}
+use Rattle.dr_senders.specs.Calls.Plans.{IsPlan}
 use Rattle.dr_senders.specs.Meaning.Words.{words_of}
 
 pub slot_inside : (k : Shape) (s : ℕ) → IsPlan k → s % k.size < k.size

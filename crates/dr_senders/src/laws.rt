@@ -1,22 +1,32 @@
-//! The steps of a ring over its table. Each function is one step on one word. Its contract gives
-//! what the end knows afterwards from what it knew before and the word found, by the same
-//! definition as the step has in [`crate::moments`].
+//! The steps of a ring over its table, and what every list of them comes to.
+//!
+//! Each end has a station, which is what its steps need, and each kind of step is one function of
+//! a station (the halter's is [`halt`](crate::Halter::halt)): one atomic change of one word. Its
+//! contract gives what the end knows afterwards from what it knew before and the word found or
+//! stored, by the same definition as the step has in [`moments`].
 
-ghost use Rattle.std.specs.Prelude.{◌≡◌, ◌+◌, ◌^◌, ◌<◌, ◌≤◌, ◌==◌, if◌then◌else◌, true, false, None, Some, length, Contains, ℕ};
-ghost use Rattle.dr_seq.specs.declared.event.Event.{Event as EventValue};
-ghost use Rattle.dr_graph.specs.Meaning.Graph.{finals};
-ghost use Rattle.dr_ring.specs.Meaning.Records.{last_look};
-ghost use Rattle.dr_senders.specs.declared.record.Stage.{Stage};
-ghost use Rattle.dr_senders.specs.declared.record.EndRecord.TheVariants.{Sends, Receives, Halts as HaltsEnd};
-ghost use Rattle.dr_senders.specs.Meaning.Words.{claim_word, claimed_in, is_halted, count_word as count_word_of};
-ghost use Rattle.dr_senders.specs.Meaning.Records.{Owns, SeesRoom, half_written, published, brought, sender_looked, claimed_from, claims_looked, mark_looked, halter_halted};
-ghost use Rattle.dr_senders.specs.Inside.Seats.{IsAtTable, IsBeginning, end_of, alone, IsSender, IsReceiver, IsHalter, sender_of, receiver_of, halter_of};
+mod halter;
+mod receiver;
+mod sender;
 
-use crate::plan::{CLAIM_WORD, HALT_BIT, Plan, count_word};
+ghost use Rattle.std.specs.Prelude.{List, ◌≡◌, ◌<◌, true, length, slice_index};
+ghost use Rattle.dr_core.specs.Meaning.Transcript.{Transcript, LeadsTo};
+ghost use Rattle.dr_core.specs.Meaning.Laws.{Laws};
+ghost use Rattle.dr_senders.specs.Meaning.Shape.{Shape, IsShape, ring_setup};
+ghost use Rattle.dr_senders.specs.Meaning.Words.{claim_word, is_halted};
+ghost use Rattle.dr_senders.specs.Meaning.Rule.{World, KeepsRule};
+ghost use Rattle.dr_senders.specs.declared.record.Step.{Step};
+ghost use Rattle.dr_senders.specs.Meaning.Moments.{Runs, new_world, picture_of};
+
+use crate::plan::Plan;
 use crate::record::View;
 use atomic_table::{Play, Seat, Shared, Table, TableRule};
+use dr_core::every_transcript_is_lawful;
+pub use halter::Halter;
+pub(crate) use receiver::ReceiverStation;
+pub(crate) use sender::SenderStation;
 use std::alloc::Global;
-use std::marker::{Brand, PhantomData};
+use std::marker::Brand;
 
 /// The rule that every step keeps.
 pub struct RingRule;
@@ -38,158 +48,42 @@ pub type RingTable = Table<u64, View, Plan, RingRule, Global>;
 /// What an end steps with.
 pub type RingSeat = Seat<u64, View>;
 
-/// A number that a step names, for its proof alone.
+/// What all ends of a ring share: its words, and what it was made for.
+#[derive(Drop)]
+pub(crate) struct RingBody {
+    pub(crate) table: RingTable,
+    pub(crate) plan: Plan,
+}
+
+// The proof of each step says at the call what the step tells; by itself it tells nothing.
+impl Play<u64, View> for Brand {
+    ghost then = { λ s me n me'. me' ≡ me };
+}
+
+/// What a step names, for its proof alone: a sequence, and the first word of its event.
 pub trait Names {
     ghost number: { ℕ };
+
+    ghost first: { ℕ };
 
     ghost use Rattle.std.specs.Prelude.{ℕ};
 }
 
 impl Names for Brand {
     ghost number = { 0 };
+
+    ghost first = { 0 };
 }
 
-struct Looks;
-
-impl Play<u64, View> for Looks {
-    ghost use Rattle.dr_senders.specs.Inside.Seats.{Told, SenderLooked};
-
-    ghost then = { Told SenderLooked };
-}
-
-struct Claims;
-
-impl Play<u64, View> for Claims {
-    ghost use Rattle.dr_senders.specs.Inside.Seats.{Told, SenderClaimed};
-
-    ghost then = { Told SenderClaimed };
-}
-
-struct Publishes<J> {
-    of: PhantomData<J>,
-}
-
-impl<J: Names> Play<u64, View> for Publishes<J> {
-    ghost use Rattle.dr_senders.specs.Inside.Seats.{Told, SenderPublished};
-
-    ghost then = { Told (SenderPublished J.number) };
-}
-
-struct Halts;
-
-impl Play<u64, View> for Halts {
-    ghost use Rattle.dr_senders.specs.Inside.Seats.{Told, HalterHalted};
-
-    ghost then = { Told HalterHalted };
-}
-
-struct LooksAtClaims;
-
-impl Play<u64, View> for LooksAtClaims {
-    ghost use Rattle.dr_senders.specs.Inside.Seats.{Told, ReceiverLookedAtClaims};
-
-    ghost then = { Told ReceiverLookedAtClaims };
-}
-
-/// A sender looks at the claim word.
-pub fn look_at_claims(words: &Words, seat: &mut RingSeat, plan: &Plan) -> u64
-    requires table { IsAtTable seat.old.table_id words.now.table_id plan.now }
-    requires key { words.now.key ≡ plan.now }
-    requires end { IsSender (end_of seat.old.me) }
-    ensures seat { (seat.new.table_id ≡ seat.old.table_id) × (seat.new.id ≡ seat.old.id) }
-    ensures end { end_of seat.new.me ≡ alone (Sends (sender_looked (sender_of seat.old.me.0.ends) claim_word result)) }
-    ensures past { IsBeginning seat.old.me.0.past seat.new.me.0.past }
-    ensures rises { last_look 0 (sender_of seat.old.me.0.ends).looks claim_word ≤ result }
+/// Whatever steps fall in whatever order: between any two of them the rule holds, the entries of
+/// their events lead the machine to the ring's picture, and the transcript has the five laws. Once
+/// a ring is halted, nothing more is claimed. It does nothing when it runs: the contract is the
+/// theorem.
+pub fn moments()
+    ensures rule { (k : Shape) (steps : List Step) (entries : Transcript) (w : World) → IsShape k → Runs k steps entries (new_world k) w → KeepsRule k w }
+    ensures leads { (k : Shape) (steps : List Step) (entries : Transcript) (w : World) → IsShape k → Runs k steps entries (new_world k) w → LeadsTo (ring_setup k) entries (picture_of k w) }
+    ensures laws { (k : Shape) (steps : List Step) (entries : Transcript) (w : World) → IsShape k → Runs k steps entries (new_world k) w → Laws (ring_setup k) entries }
+    ensures halted { (k : Shape) (steps more : List Step) (entries rest : Transcript) (w u : World) → IsShape k → Runs k steps entries (new_world k) w → Runs k more rest w u → is_halted (slice_index w.words claim_word) ≡ true → length u.stages ≡ length w.stages }
 {
-    let _plan = plan;
-    words.load::<Looks>(seat, CLAIM_WORD)
-}
-
-/// A sender looks at a final handler's count.
-pub fn look_at_count(words: &Words, seat: &mut RingSeat, plan: &Plan, handler: usize) -> u64
-    requires table { IsAtTable seat.old.table_id words.now.table_id plan.now }
-    requires key { words.now.key ≡ plan.now }
-    requires end { IsSender (end_of seat.old.me) }
-    requires gates { Contains (finals plan.now.upstreams) handler }
-    ensures seat { (seat.new.table_id ≡ seat.old.table_id) × (seat.new.id ≡ seat.old.id) }
-    ensures end { end_of seat.new.me ≡ alone (Sends (sender_looked (sender_of seat.old.me.0.ends) (count_word_of handler) result)) }
-    ensures past { IsBeginning seat.old.me.0.past seat.new.me.0.past }
-    ensures rises { last_look 0 (sender_of seat.old.me.0.ends).looks (count_word_of handler) ≤ result }
-{
-    let _handlers = plan.handlers();
-    words.load::<Looks>(seat, count_word(handler))
-}
-
-/// A sender claims `count` sequences from `found` on, for which it has seen that there is room,
-/// where so many are claimed now; else it learns what the claim word is.
-pub fn claim(words: &Words, seat: &mut RingSeat, plan: &Plan, found: u64, count: u64) -> u64
-    requires table { IsAtTable seat.old.table_id words.now.table_id plan.now }
-    requires key { words.now.key ≡ plan.now }
-    requires end { IsSender (end_of seat.old.me) }
-    requires some { 0 < count }
-    requires room { SeesRoom plan.now (sender_of seat.old.me.0.ends) found count }
-    ensures seat { (seat.new.table_id ≡ seat.old.table_id) × (seat.new.id ≡ seat.old.id) }
-    ensures end { end_of seat.new.me ≡ alone (Sends (if result == found then claimed_from (sender_of seat.old.me.0.ends) found count else sender_looked (sender_of seat.old.me.0.ends) claim_word result)) }
-    ensures past { IsBeginning seat.old.me.0.past seat.new.me.0.past }
-    ensures rises { last_look 0 (sender_of seat.old.me.0.ends).looks claim_word ≤ result }
-{
-    let _limit = plan.limit();
-    words.compare_exchange::<Claims>(seat, CLAIM_WORD, found, found + count)
-}
-
-fn publish_named<J: Names>(words: &Words, seat: &mut RingSeat, plan: &Plan, sequence: u64)
-    requires table { IsAtTable seat.old.table_id words.now.table_id plan.now }
-    requires key { words.now.key ≡ plan.now }
-    requires end { IsSender (end_of seat.old.me) }
-    requires named { sequence ≡ J.number }
-    requires small { sequence < 2 ^ 62 }
-    requires own { (t : Stage) × (event : EventValue) × Owns (sender_of seat.old.me.0.ends) sequence t × (t.published ≡ false) × (t.half ≡ None) × (t.event ≡ Some event) }
-    ensures seat { (seat.new.table_id ≡ seat.old.table_id) × (seat.new.id ≡ seat.old.id) }
-    ensures end { end_of seat.new.me ≡ alone (Sends (brought (sender_of seat.old.me.0.ends) sequence published)) }
-    ensures past { IsBeginning seat.old.me.0.past seat.new.me.0.past }
-{
-    words.store::<Publishes<J>>(seat, plan.mark_word(sequence), plan.mark(sequence));
-}
-
-/// A sender publishes one of its sequences, which is written and not yet published.
-pub fn publish(words: &Words, seat: &mut RingSeat, plan: &Plan, sequence: u64)
-    requires table { IsAtTable seat.old.table_id words.now.table_id plan.now }
-    requires key { words.now.key ≡ plan.now }
-    requires end { IsSender (end_of seat.old.me) }
-    requires small { sequence < 2 ^ 62 }
-    requires own { (t : Stage) × (event : EventValue) × Owns (sender_of seat.old.me.0.ends) sequence t × (t.published ≡ false) × (t.half ≡ None) × (t.event ≡ Some event) }
-    ensures seat { (seat.new.table_id ≡ seat.old.table_id) × (seat.new.id ≡ seat.old.id) }
-    ensures end { end_of seat.new.me ≡ alone (Sends (brought (sender_of seat.old.me.0.ends) sequence published)) }
-    ensures past { IsBeginning seat.old.me.0.past seat.new.me.0.past }
-{
-    publish_named::<Brand>(words, seat, plan, sequence);
-}
-
-/// The halter sets the halt bit: no claim is decided from then on.
-pub fn halt(words: &Words, seat: &mut RingSeat, plan: &Plan)
-    requires table { IsAtTable seat.old.table_id words.now.table_id plan.now }
-    requires key { words.now.key ≡ plan.now }
-    requires end { IsHalter (end_of seat.old.me) }
-    ensures seat { (seat.new.table_id ≡ seat.old.table_id) × (seat.new.id ≡ seat.old.id) }
-    ensures end { (found : ℕ) × (end_of seat.new.me ≡ alone (HaltsEnd (halter_halted (halter_of seat.old.me.0.ends) found))) }
-    ensures past { IsBeginning seat.old.me.0.past seat.new.me.0.past }
-{
-    let _plan = plan;
-    let _before = words.fetch_or::<Halts>(seat, CLAIM_WORD, HALT_BIT);
-}
-
-/// A receiver looks at the claim word, and is told that the ring drained where the ring is halted
-/// and it took all that is claimed.
-pub fn receiver_look_at_claims(words: &Words, seat: &mut RingSeat, plan: &Plan) -> u64
-    requires table { IsAtTable seat.old.table_id words.now.table_id plan.now }
-    requires key { words.now.key ≡ plan.now }
-    requires end { IsReceiver (end_of seat.old.me) }
-    ensures seat { (seat.new.table_id ≡ seat.old.table_id) × (seat.new.id ≡ seat.old.id) }
-    ensures end { end_of seat.new.me ≡ alone (Receives (claims_looked (receiver_of seat.old.me.0.ends) result)) }
-    ensures past { IsBeginning seat.old.me.0.past seat.new.me.0.past }
-    ensures taken { length (receiver_of seat.old.me.0.ends).received ≤ claimed_in result }
-    ensures told { (receiver_of seat.old.me.0.ends).told ≡ true → (is_halted result ≡ true) × (claimed_in result ≡ length (receiver_of seat.old.me.0.ends).received) }
-{
-    let _plan = plan;
-    words.load::<LooksAtClaims>(seat, CLAIM_WORD)
+    every_transcript_is_lawful();
 }

@@ -1,30 +1,24 @@
-//! A ring over atomic words with several senders.
+//! The ring over atomic words with several senders: each hands events to a graph of receivers, each
+//! end on a thread of its own, and no call waits or takes memory.
+//!
+//! Begin with `specs/Meaning`: `Words` says where each word lies, `Records` what each kind of step
+//! makes of what its end knows, `Rule` is what holds between any two steps, and `Steps` lists the
+//! kinds. `specs/Calls` has what public contracts cite, and `specs/Inside` the rest, of which
+//! `Seats` says of the words that such steps made them. [`laws`] has one function a kind, and
+//! [`laws::moments`] the theorem over all lists of steps.
 #![tactic(auto)]
 
-pub mod claiming;
+mod claiming;
 pub mod laws;
-pub mod opening;
-pub mod plan;
+mod opening;
+mod plan;
+mod receiver;
 pub mod record;
+mod sender;
 
-ghost use Rattle.std.specs.Prelude.{List, ◌≡◌, ◌<◌};
-ghost use Rattle.dr_graph.specs.Meaning.Graph.{IsGraph};
-ghost use Rattle.dr_core.specs.Meaning.Transcript.{Transcript, LeadsTo};
-ghost use Rattle.dr_core.specs.Meaning.Laws.{Laws};
-ghost use Rattle.dr_senders.specs.Meaning.Shape.{Shape, IsShape, ring_setup};
-ghost use Rattle.dr_senders.specs.Meaning.Rule.{World, KeepsRule};
-ghost use Rattle.dr_senders.specs.declared.record.Step.{Step};
-ghost use Rattle.dr_senders.specs.Meaning.Moments.{Runs, new_world, picture_of};
-
-use dr_core::every_transcript_is_lawful;
-
-/// Whatever steps fall in whatever order: between any two of them the rule holds, the entries of
-/// their events lead the machine to the ring's picture, and the transcript has the five laws. It
-/// does nothing when it runs: the contract is the theorem.
-pub fn moments()
-    ensures rule { (k : Shape) (steps : List Step) (entries : Transcript) (w : World) → IsShape k → Runs k steps entries (new_world k) w → KeepsRule k w }
-    ensures leads { (k : Shape) (steps : List Step) (entries : Transcript) (w : World) → IsShape k → Runs k steps entries (new_world k) w → LeadsTo (ring_setup k) entries (picture_of k w) }
-    ensures laws { (k : Shape) (steps : List Step) (entries : Transcript) (w : World) → IsShape k → Runs k steps entries (new_world k) w → Laws (ring_setup k) entries }
-{
-    every_transcript_is_lawful();
-}
+pub use claiming::ClaimFault;
+pub use laws::Halter;
+pub use opening::senders_ring;
+pub use plan::Plan;
+pub use receiver::Receiver;
+pub use sender::Sender;

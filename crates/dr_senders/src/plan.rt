@@ -3,7 +3,8 @@
 ghost use Rattle.std.specs.Prelude.{◌≡◌, ◌^◌, ◌<◌, ◌≤◌, map, IfOk};
 ghost use Rattle.dr_seq.specs.Rounds.{entry_of};
 ghost use Rattle.dr_graph.specs.Meaning.Graph.{upstreams_of, finals as finals_of};
-ghost use Rattle.dr_senders.specs.Meaning.Shape.{handlers_of, IsPlan};
+ghost use Rattle.dr_senders.specs.Meaning.Shape.{handlers_of};
+ghost use Rattle.dr_senders.specs.Calls.Plans.{IsPlan};
 ghost use Rattle.dr_senders.specs.Meaning.Words.{count_word as count_word_of, mark_word as mark_word_of, payload_word as payload_word_of, words_of};
 
 use dr_graph::Graph;
@@ -25,26 +26,27 @@ pub fn count_word(handler: usize) -> usize
 }
 
 /// The graph of a ring's handlers, by each handler's direct upstreams, with its final handlers, the
-/// size, the limit of sequences and how many senders there are.
+/// size, the limit of sequences, how many senders there are, and the number of words.
 #[derive(Drop)]
 pub struct Plan {
     size: Size,
     limit: u64,
     senders: usize,
+    words: usize,
     upstreams: Vec<Vec<usize>>,
     finals: Vec<usize>,
 }
 
 impl Model for Plan {
-    ghost use Rattle.std.specs.Prelude.{◌≡◌, map};
-    ghost use Rattle.dr_graph.specs.Meaning.Graph.{finals as final_handlers};
-    ghost use Rattle.dr_senders.specs.Meaning.Shape.{Shape, IsPlan};
+    ghost use Rattle.std.specs.Prelude.{map};
+    ghost use Rattle.dr_senders.specs.Meaning.Shape.{Shape};
+    ghost use Rattle.dr_senders.specs.Inside.Plans.{PlanFits};
 
     ghost Value = { Shape };
 
     ghost view = { λ p. record { upstreams = map (λ v. v.items) p.upstreams.items; size = p.size; limit = p.limit; senders = p.senders } };
 
-    ghost invariant = { λ p. IsPlan (record { upstreams = map (λ v. v.items) p.upstreams.items; size = p.size; limit = p.limit; senders = p.senders }) × (p.finals.items ≡ final_handlers (map (λ v. v.items) p.upstreams.items)) };
+    ghost invariant = { λ p. PlanFits (record { upstreams = map (λ v. v.items) p.upstreams.items; size = p.size; limit = p.limit; senders = p.senders }) p.finals.items p.words };
 }
 
 // The direct upstreams of each handler of a graph.
@@ -62,24 +64,27 @@ fn copy_upstreams(alloc: Global, graph: &Graph) -> Result<Vec<Vec<usize>>, Alloc
 
 impl Plan {
     /// The plan of a ring for a graph, which it copies.
-    pub fn of(
+    pub(crate) fn of(
         alloc: Global,
         graph: &Graph,
         size: Size,
         limit: u64,
         senders: usize,
     ) -> Result<Plan, AllocError>
-        requires limit { limit ≤ 2 ^ 62 }
+        requires limit { (0 < limit) × (limit ≤ 2 ^ 62) }
+        requires senders { (0 < senders) × (senders ≤ 16) }
         ensures made { IfOk result (λ plan. plan ≡ record { upstreams = graph.now.upstreams; size = size; limit = limit; senders = senders }) }
+        ensures plan { IfOk result (λ plan. IsPlan plan) }
     {
         let upstreams = copy_upstreams(alloc, graph)?;
         let finals = Vec::from_slice(alloc, graph.finals())?;
-        let _handlers = graph.len();
-        let _slots = size.get();
+        let slots = size.get() as usize;
+        let words = 16 + 16 * graph.len() + slots + 2 * slots;
         Ok(Plan {
             size,
             limit,
             senders,
+            words,
             upstreams,
             finals,
         })
@@ -106,6 +111,22 @@ impl Plan {
         ensures few { result ≤ 16 }
     {
         self.upstreams.len()
+    }
+
+    /// How many senders there are.
+    pub fn senders(&self) -> usize
+        ensures count { result ≡ self.now.senders }
+        ensures few { result ≤ 16 }
+    {
+        self.senders
+    }
+
+    /// The direct upstreams of a handler.
+    pub fn upstreams(&self, handler: usize) -> &[usize]
+        requires { handler < handlers_of self.now }
+        ensures { result.now ≡ upstreams_of self.now.upstreams handler }
+    {
+        self.upstreams[handler].as_slice()
     }
 
     /// The final handlers, which gate the senders.
@@ -145,9 +166,8 @@ impl Plan {
 
     /// How many words the ring has.
     pub fn words(&self) -> usize
-        ensures words { result ≡ words_of self.now }
-        ensures plan { IsPlan self.now }
+        ensures { result ≡ words_of self.now }
     {
-        16 + 16 * self.upstreams.len() + self.size.get() as usize + 2 * self.size.get() as usize
+        self.words
     }
 }

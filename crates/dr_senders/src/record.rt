@@ -110,9 +110,9 @@ pub enum EndRecord {
     Halts(HalterRecord),
 }
 
-/// What a seat stands for: the records of one or more ends, and the steps of all ends from the
-/// ring's opening up to the last one by this seat.
+/// What a seat stands for: the records of one or more ends and, for each, the steps of all ends
+/// from the ring's opening up to the last one by this end.
 pub struct View {
     pub ends: LinkedList<EndRecord>,
-    pub past: LinkedList<Step>,
+    pub pasts: LinkedList<LinkedList<Step>>,
 }

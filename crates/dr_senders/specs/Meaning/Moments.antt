@@ -113,3 +113,7 @@ abbrev pub Runs : Shape → List Step → Transcript → World → World → Typ
 Runs k [] entries w w' = (entries ≡ []) × (w ≡ w')
 Runs k (step ∷ steps) entries w w' =
     (between : World) × (rest : Transcript) × Happens k step w between × (entries ≡ entries_of k step w ++ rest) × Runs k steps rest between w'
+
+-- some steps are the beginning of others
+abbrev pub IsBeginning : List Step → List Step → Type 0
+IsBeginning past steps = (rest : List Step) × (steps ≡ past ++ rest)

@@ -1,6 +1,5 @@
 -- What a ring is made for.
-use Rattle.std.specs.Prelude.{ℕ, ◌^◌, ◌<◌, ◌≤◌, List, length}
-use Rattle.dr_seq.specs.Size.{IsSize}
+use Rattle.std.specs.Prelude.{ℕ, ◌^◌, ◌<◌, List, length}
 use Rattle.dr_graph.specs.Meaning.Graph.{IsGraph}
 use Rattle.dr_core.specs.declared.mode.Mode.TheVariants.{Multi}
 use Rattle.dr_core.specs.Meaning.Machine.{Setup}
@@ -24,10 +23,3 @@ pub record IsShape (k : Shape) : Type 0 where
   pub graph : IsGraph k.upstreams
   pub some_slot : 0 < k.size
   pub small : k.limit < 2 ^ 63
-
--- what is so of every ring's plan: a graph of 16 handlers at most, a size, and a limit of at most 2^62 sequences
-pub record IsPlan (k : Shape) : Type 0 where
-  pub graph : IsGraph k.upstreams
-  pub few : handlers_of k ≤ 16
-  pub size : IsSize k.size
-  pub limit : k.limit ≤ 2 ^ 62
