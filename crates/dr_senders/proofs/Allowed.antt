@@ -235,6 +235,13 @@ halts k slots id me is =
       refl,
     )))
 
+-- what a receiver saw published is claimed
+seen_claimed : (k : Shape) (w : World) (r : ReceiverRecord) → get_elem? w.receivers r.number ≡ some r → KeepsRule k w → r.seen ≤ length w.stages
+seen_claimed k w r at K = elim (cases_lt (length w.stages) r.seen) [
+  | inl over ↦ absurd (let x = (K.received r.number r at).seen (length w.stages) over in let b = at_below w.stages (length w.stages) x.0 x.1 in omega arith)
+  | inr within ↦ within
+]
+
 pub receiver_looks_at_claims : (k : Shape) (slots id : ℕ) (me : Sitting) → IsReceiver (end_of me)
     → Allows (Ruled k) slots id me claim_word (λ n. n) (Loads ReceiverLookedAtClaims (step slots claim_word 0 0 none) me)
 receiver_looks_at_claims k slots id me is =
@@ -244,7 +251,7 @@ receiver_looks_at_claims k slots id me is =
     (adds_nothing _ kind (λ n. refl)) (λ n. refl)
     (λ w at K small. let n = word_at w.words claim_word in let was = K.received r.number r at in let count = K.claim in let taken = taken_claimed k w r.number r at K in (
       receiver_learns k kind w r (claims_looked r n) claim_word at refl (r, at, refl),
-      (refl, (last_look_le k w.words 0 r.looks claim_word (omega arith) was.looks, omega arith, λ told. (let t = was.told told in let e = t.1 in (t.0, omega arith)))),
+      (refl, (last_look_le k w.words 0 r.looks claim_word (omega arith) was.looks, omega arith, (let m = seen_claimed k w r at K in omega arith), λ told. (let t = was.told told in let e = t.1 in (t.0, omega arith)))),
     )))
 
 pub looks_at_mark : (k : Shape) {sh : Shape} (slots id : ℕ) (me : Sitting) (i : ℕ) → k ≡ sh → i ≡ mark_word sh (receiver_of me.0.ends).seen → IsReceiver (end_of me)

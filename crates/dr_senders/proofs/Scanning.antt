@@ -34,7 +34,7 @@ looks_few (h ∷ hs) [] (suc i) e = absurd (omega arith)
 looks_few (h ∷ hs) (n ∷ counts) zero e = absurd (omega arith)
 looks_few (h ∷ hs) (n ∷ counts) (suc i) e = ap (λ (xs : List Look). look (count_word h) n ∷ xs) (looks_few hs counts i (omega arith))
 
-last_number : (xs : List ℕ) (x d : ℕ) → get_or (xs ++ x ∷ []) (length xs) d ≡ x
+pub last_number : (xs : List ℕ) (x d : ℕ) → get_or (xs ++ x ∷ []) (length xs) d ≡ x
 last_number [] x d = refl
 last_number (y ∷ xs) x d = last_number xs x d
 
@@ -42,7 +42,7 @@ last_number (y ∷ xs) x d = last_number xs x d
 pub number_at : (xs : List ℕ) (x i : ℕ) → length xs ≡ i → get_or (xs ++ x ∷ []) i 0 ≡ x
 number_at xs x i e = ap (λ (j : ℕ). get_or (xs ++ x ∷ []) j 0) (sym e) ∙ last_number xs x 0
 
-no_looks_at : (hs : List ℕ) → count_looks hs [] ≡ []
+pub no_looks_at : (hs : List ℕ) → count_looks hs [] ≡ []
 no_looks_at [] = refl
 no_looks_at (h ∷ hs) = refl
 
@@ -103,14 +103,14 @@ scanned_all k r s need i S all = (
 )
 
 -- a look at one word leaves those at another
-last_least : (d : ℕ) (xs : List Look) (i v w n : ℕ) → n ≤ last_look d xs w → n ≤ v → n ≤ last_look d (xs ++ look i v ∷ []) w
+pub last_least : (d : ℕ) (xs : List Look) (i v w n : ℕ) → n ≤ last_look d xs w → n ≤ v → n ≤ last_look d (xs ++ look i v ∷ []) w
 last_least d xs i v w n le high =
     elim (cases_eq i w) [
       | inl e ↦ (let a : last_look d (xs ++ look i v ∷ []) w ≡ v = ap (λ (j : ℕ). last_look d (xs ++ look i v ∷ []) j) (sym e) ∙ last_look_more d xs i v in omega arith)
       | inr ne ↦ (let a : last_look d (xs ++ look i v ∷ []) w ≡ last_look d xs w = last_look_else d xs i w v ne in omega arith)
     ]
 
-get_any : (xs : List ℕ) (i a b : ℕ) → i < length xs → get_or xs i a ≡ get_or xs i b
+pub get_any : (xs : List ℕ) (i a b : ℕ) → i < length xs → get_or xs i a ≡ get_or xs i b
 get_any [] i a b lt = absurd (omega arith)
 get_any (x ∷ xs) zero a b lt = refl
 get_any (x ∷ xs) (suc i) a b lt = get_any xs i a b (omega arith)

@@ -12,6 +12,7 @@ mod claiming;
 pub mod laws;
 mod opening;
 mod plan;
+mod polling;
 mod receiver;
 pub mod record;
 mod sender;

@@ -146,7 +146,7 @@ impl Plan {
 
     /// The mark of a sequence.
     pub fn mark(&self, sequence: u64) -> u64
-        requires { sequence < 2 ^ 62 }
+        requires { sequence < 2 ^ 63 }
         ensures { result ≡ entry_of self.now.size sequence }
     {
         self.size.round(sequence) + 1

@@ -27,13 +27,14 @@ pub struct SenderRecord {
 }
 
 /// What a receiver knows: its number, the events that it received, the first word of the next one
-/// if that alone is loaded, how many first sequences it saw published, how many it completed, and
-/// whether it was told that the ring drained.
+/// if that alone is loaded, how many first sequences it saw published, what it found at each look
+/// at a mark, how many it completed, and whether it was told that the ring drained.
 pub struct ReceiverRecord {
     pub number: u64,
     pub received: LinkedList<Event>,
     pub half: Option<u64>,
     pub seen: u64,
+    pub marks: LinkedList<u64>,
     pub completed: u64,
     pub told: bool,
     pub looks: LinkedList<Look>,

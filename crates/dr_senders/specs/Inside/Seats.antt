@@ -196,9 +196,9 @@ Stores step Tells s me n me' =
 abbrev pub FindsMore : List Look → ℕ → ℕ → Type 0
 FindsMore looks word n = last_look 0 looks word ≤ n
 
--- no fewer sequences are claimed than a receiver took, and no more where it was told that the ring drained
+-- no fewer sequences are claimed than a receiver took, or saw published, and no more than it took where it was told that the ring drained
 abbrev pub FindsClaims : ReceiverRecord → ℕ → Type 0
-FindsClaims r n = (last_look 0 r.looks claim_word ≤ n) × (length r.received ≤ claimed_in n) × (r.told ≡ true → (is_halted n ≡ true) × (claimed_in n ≡ length r.received))
+FindsClaims r n = (last_look 0 r.looks claim_word ≤ n) × (length r.received ≤ claimed_in n) × (r.seen ≤ claimed_in n) × (r.told ≡ true → (is_halted n ≡ true) × (claimed_in n ≡ length r.received))
 
 -- an upstream completed no less than a receiver took, and no more where it was told that the ring drained
 abbrev pub FindsEvents : ReceiverRecord → ℕ → ℕ → Type 0

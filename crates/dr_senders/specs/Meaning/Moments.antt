@@ -30,7 +30,7 @@ fresh_senders p zero = []
 fresh_senders p (suc n) = fresh_sender p ∷ fresh_senders (suc p) n
 
 abbrev pub fresh_receiver : ℕ → ReceiverRecord
-fresh_receiver h = record { number = h; received = []; half = None; seen = 0; completed = 0; told = false; looks = [] }
+fresh_receiver h = record { number = h; received = []; half = None; seen = 0; marks = []; completed = 0; told = false; looks = [] }
 
 -- n receivers, from the number h on
 abbrev pub fresh_receivers : ℕ → ℕ → List ReceiverRecord

@@ -66,7 +66,7 @@ claims_looked r found = record r { told = r.told || tells_drained r found; looks
 
 -- it has looked at the mark of the first sequence that it did not see published
 abbrev pub mark_looked : Shape → ReceiverRecord → ℕ → ReceiverRecord
-mark_looked k r found = record r { seen = if found == entry_of k.size r.seen then r.seen + 1 else r.seen }
+mark_looked k r found = record r { seen = if found == entry_of k.size r.seen then r.seen + 1 else r.seen; marks = r.marks ++ found ∷ [] }
 
 -- it has loaded the first word of the next event
 abbrev pub half_taken : ReceiverRecord → ℕ → ReceiverRecord
