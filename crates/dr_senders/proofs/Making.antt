@@ -9,9 +9,10 @@ use Rattle.dr_senders.specs.declared.record.ReceiverRecord.{ReceiverRecord}
 use Rattle.dr_senders.specs.declared.record.EndRecord.{EndRecord}
 use Rattle.dr_senders.specs.declared.record.EndRecord.TheVariants.{Sends, Receives}
 use Rattle.dr_senders.specs.Meaning.Moments.{fresh_sender, fresh_senders, fresh_receiver, fresh_receivers}
-use Rattle.dr_senders.specs.Inside.Seats.{End, Sitting, KnownEnds, seat_at, IsAtTable, alone, as_sender, as_receiver, known_senders, known_receivers, fresh_seat}
+use Rattle.dr_senders.specs.Inside.Seats.{End, Sitting, KnownEnds, seat_at, IsAtTable, alone, as_sender, as_receiver, receiver_of, known_senders, known_receivers, fresh_seat}
 use Rattle.dr_senders.specs.Calls.Ends.{EndOf, SenderEnd, ReceiverEnd}
 use Rattle.dr_senders.specs.Inside.Stations.{sender_end, receiver_end, IsKeyed, SenderSits, ReceiverSits}
+use Rattle.dr_senders.specs.Inside.Fits.{ReceiverFits}
 use Rattle.dr_senders.specs.Calls.Making.{at_ring}
 
 -- the next of the senders
@@ -64,6 +65,10 @@ sender_view t own k k' me p same plan is = λ i. sender_end (same i) (plan i) (i
 
 pub receiver_view : (t own : TableId) (k k' : Shape) (me : Sitting) (h : ℕ) → own ≡ t → k' ≡ k → me ≡ own_seat (Receives (fresh_receiver h)) → receiver_end own k' me ≡ at_ring t k (fresh_receiver h)
 receiver_view t own k k' me h same plan is = λ i. receiver_end (same i) (plan i) (is i)
+
+pub fits_fresh : (k : Shape) (me : Sitting) (h : ℕ) → me ≡ own_seat (Receives (fresh_receiver h)) → ReceiverFits k (receiver_of me.0.ends) 0 0 0
+fits_fresh k me h is =
+    subst (λ (m : Sitting). ReceiverFits k (receiver_of m.0.ends) 0 0 0) (sym is) (record { half = refl; taken = refl; seen = refl; completed = refl; ahead = λ none. omega arith })
 
 -- one end more is listed
 listed_more : {K : Type 0} (t : TableId) (k : Shape) (items new : List (EndOf K)) (e : EndOf K) (r : K) (rs all : List K) (whole : List (EndOf K)) → items ++ map (at_ring t k) all ≡ whole

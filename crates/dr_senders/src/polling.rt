@@ -1,10 +1,10 @@
 //! What a poll is made of: the walk over the marks, the barrier's offer, and the events.
 
-ghost use Rattle.std.specs.Prelude.{◌≡◌, ◌+◌, ◌^◌, ◌<◌, ◌≤◌, None, length};
+ghost use Rattle.std.specs.Prelude.{◌≡◌, ◌+◌, ◌^◌, ◌<◌, ◌≤◌, [], None, length};
 ghost use Rattle.dr_senders.specs.Meaning.Words.{claimed_in as claimed_in_word};
-ghost use Rattle.dr_senders.specs.Calls.Receiving.{received_all};
+ghost use Rattle.dr_senders.specs.Calls.Receiving.{ups_of, received_all};
 ghost use Rattle.dr_senders.specs.Calls.Ends.{HasLoaded};
-ghost use Rattle.dr_senders.specs.Inside.Parts.{lesser_of, Walked, LooksAtUpstreams, IsOfferedUpTo, nothing_offered as answer_of};
+ghost use Rattle.dr_senders.specs.Inside.Parts.{lesser_of, Walked, LooksAtUpstreams, IsOfferedUpTo, Offered, nothing_offered as answer_of};
 
 use crate::laws::ReceiverStation;
 use crate::plan::HALT_BIT;
@@ -64,6 +64,24 @@ impl ReceiverStation {
             available = lesser(place == 0, count, available);
         }
         available
+    }
+
+    /// Looks at the marks, where the handler has no upstreams, or else at the upstreams' counts. It
+    /// gives how many first events may be taken, and how many are seen published.
+    pub(crate) fn offer(&mut self, seen: u64, claimed: u64) -> (u64, u64)
+        requires seen { seen ≡ self.old.knows.seen }
+        requires small { claimed < 2 ^ 63 }
+        requires claimed { (length self.old.knows.received ≤ claimed) × (seen ≤ claimed) }
+        requires ahead { ups_of self.old.plan self.old.knows ≡ [] → length self.old.knows.received ≤ seen }
+        ensures only { HasLoaded self.old self.new.knows self.new }
+        ensures answer { Offered self.old.plan self.old.knows claimed self.new.knows result.0 result.1 }
+    {
+        if self.upstreams().is_empty() {
+            let upto = self.walk(seen, claimed);
+            return (upto, upto);
+        }
+        let available = self.barrier(claimed);
+        (available, seen)
     }
 
     /// Loads the next events, which are below the barrier, into `out`.

@@ -2,10 +2,13 @@
 
 ghost use Rattle.std.specs.Prelude.{◌≡◌};
 ghost use Rattle.dr_senders.specs.Calls.Ends.{looks_counted};
-ghost use Rattle.dr_senders.specs.Calls.Receiving.{CompleteCall};
+ghost use Rattle.dr_senders.specs.Calls.Receiving.{PollCall, CompleteCall};
 
 use crate::laws::ReceiverStation;
-use dr_core::Refusal;
+use crate::plan::HALT_BIT;
+use crate::polling::{claimed_in, nothing_offered};
+use dr_core::{Polled, Refusal};
+use dr_seq::Event;
 use std::marker::Model;
 
 /// The end of one handler, which receives every event after its upstreams. No call waits or takes
@@ -26,10 +29,40 @@ impl Model for Receiver {
 
     ghost view = { λ s. s.station };
 
-    ghost invariant = { λ s. ReceiverFits s.station.knows s.taken s.seen s.completed };
+    ghost invariant = { λ s. ReceiverFits s.station.plan s.station.knows s.taken s.seen s.completed };
 }
 
 impl Receiver {
+    /// Takes the next events, as many as the barrier offers and `out` has room for, to the front of
+    /// `out`. It looks at the claim word, and then, for a handler without upstreams, at the marks as
+    /// far as they are of their sequences, or else at the count of each upstream.
+    ///
+    /// It is refused with `BadCount`, and changes nothing, where `out` is empty.
+    pub fn poll_into(&mut self, out: &mut [Event]) -> Result<Polled, Refusal>
+        ensures { PollCall self.old out.old self.new out.new result }
+    {
+        let first = self.taken;
+        if out.is_empty() {
+            return Err(Refusal::BadCount);
+        }
+        let found = self.station.look_at_claims();
+        let claimed = claimed_in(found);
+        let (available, seen) = self.station.offer(self.seen, claimed);
+        self.seen = seen;
+        if available <= first {
+            return Ok(nothing_offered(found >= HALT_BIT, claimed, first));
+        }
+        let count = (available - first).min(out.len() as u64);
+        let (front, _) = out.split_at_mut(count as usize);
+        self.station.take_all(first, front);
+        self.taken = first + count;
+        Ok(Polled::Batch {
+            first,
+            count,
+            end: first + count == available,
+        })
+    }
+
     /// Completes all events below `upto`: the handlers that follow may take them, and the senders
     /// may use their slots again once all final handlers have completed them.
     ///

@@ -78,6 +78,19 @@ pub record LooksAtUpstreams (k : Shape) (r : ReceiverRecord) (claimed : ℕ) (r'
   pub completed : (u : ℕ) → Contains (ups_of k r) u → available ≤ last_look 0 (r.looks ++ count_looks (ups_of k r) counts) (count_word u)
   pub told : r.told ≡ true → ups_of k r ≢ [] → available ≤ length r.received
 
+-- what a receiver's marks or its upstreams' counts offer
+pub record Offered (k : Shape) (r : ReceiverRecord) (claimed : ℕ) (r' : ReceiverRecord) (available upto : ℕ) : Type 0 where
+  pub marks : List ℕ
+  pub counts : List ℕ
+  pub walks : ups_of k r ≡ [] → WalksTo k.size claimed r.seen marks upto
+  pub stands : ups_of k r ≢ [] → (marks ≡ []) × (upto ≡ r.seen)
+  pub each : length counts ≡ length (ups_of k r)
+  pub is : r' ≡ record r { seen = upto; marks = r.marks ++ marks; looks = r.looks ++ count_looks (ups_of k r) counts }
+  pub offered : available ≡ offered_by upto counts
+  pub taken : length r.received ≤ available
+  pub offers : IsOfferedUpTo k r' available
+  pub told : r.told ≡ true → claimed ≤ length r.received → available ≤ length r.received
+
 -- what a poll answers where nothing is offered
 abbrev pub nothing_offered : Bool → ℕ → ℕ → Polled
 nothing_offered halted claimed taken = if nat_lt taken claimed then Gating else if halted then Drained else Idle

@@ -1,10 +1,9 @@
 use Rattle.std.proofs.Common.{◌<◌, arith, refl, ap, sym, subst, ◌∙◌}
 use Rattle.dr_senders.specs.Meaning.Shape.{handlers_of}
-use Rattle.dr_senders.specs.Inside.Seats.{Sitting, end_of, receiver_of}
-use Rattle.dr_senders.specs.Inside.Fits.{ReceiverFits}
+use Rattle.dr_senders.specs.Inside.Seats.{end_of}
 use Rattle.dr_senders.specs.Inside.Stations.{ReceiverSits}
 use Rattle.dr_senders.proofs.Cuts.{cuts}
-use Rattle.dr_senders.proofs.Making.{cut_own, cut_rest, receivers_next, receiver_sits, receiver_view, receiver_listed}
+use Rattle.dr_senders.proofs.Making.{fits_fresh, cut_own, cut_rest, receivers_next, receiver_sits, receiver_view, receiver_listed}
 use Rattle.dr_senders.proofs.opening.receivers.Goals as goal
 
 pub split_seat-next-requires : goal.split_seat-next-requires
@@ -25,7 +24,7 @@ pub invariant_of-push : goal.invariant_of-push
 invariant_of-push c =
     let count = c.handlers-handlers.ensures.count ∙ ap (λ r. handlers_of r.plan) c.deref.ensures in let test = c.loop-number-test.true in
     let own = cut_own _ _ _ _ _ c.loop-number.invariant.1 (receivers_next c.loop-number.number _ (omega arith)) c.split_seat-next.ensures.2 in
-    subst (λ (m : Sitting). ReceiverFits (receiver_of m.0.ends) 0 0 0) (sym own) (record { half = refl; taken = refl; seen = refl; completed = refl })
+    fits_fresh _ _ c.loop-number.number own
 
 pub loop-number-preserved : goal.loop-number-preserved
 loop-number-preserved c =
