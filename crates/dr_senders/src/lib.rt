@@ -16,6 +16,7 @@ mod polling;
 mod receiver;
 pub mod record;
 mod sender;
+mod writing;
 
 pub use claiming::ClaimFault;
 pub use laws::Halter;
@@ -23,3 +24,6 @@ pub use opening::senders_ring;
 pub use plan::Plan;
 pub use receiver::Receiver;
 pub use sender::Sender;
+
+#[cfg(test)]
+mod tests;

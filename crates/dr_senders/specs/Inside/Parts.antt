@@ -1,5 +1,6 @@
 -- What the loops of the ends' calls come to.
 use Rattle.std.specs.Prelude.{◌≡◌, ◌≢◌, ℕ, ◌+◌, ◌<◌, ◌≤◌, ◌||◌, Bool, nat_lt, if◌then◌else◌, true, false, List, [], ◌∷◌, ◌++◌, length, slice_index, Contains}
+use Rattle.dr_seq.specs.declared.event.Event.{Event}
 use Rattle.dr_seq.specs.Rounds.{entry_of}
 use Rattle.dr_core.specs.declared.command.Polled.{Polled}
 use Rattle.dr_core.specs.declared.command.Polled.TheVariants.{Drained, Gating, Idle}
@@ -10,7 +11,10 @@ use Rattle.dr_senders.specs.Meaning.Shape.{Shape}
 use Rattle.dr_senders.specs.Meaning.Words.{count_word}
 use Rattle.dr_senders.specs.declared.record.SenderRecord.{SenderRecord}
 use Rattle.dr_senders.specs.declared.record.ReceiverRecord.{ReceiverRecord}
-use Rattle.dr_senders.specs.Calls.Ends.{count_looks}
+use Rattle.dr_senders.specs.declared.record.Step.TheVariants.{SenderStoresFirst, SenderStoresSecond}
+use Rattle.dr_senders.specs.Meaning.Records.{half_written, written, brought}
+use Rattle.dr_senders.specs.Meaning.Moments.{IsBeginning}
+use Rattle.dr_senders.specs.Calls.Ends.{SenderEnd, Stays, count_looks}
 use Rattle.dr_senders.specs.Calls.Receiving.{offered_by, walked, WalksTo, ups_of}
 
 -- a sender has made these looks more
@@ -94,3 +98,9 @@ pub record Offered (k : Shape) (r : ReceiverRecord) (claimed : ℕ) (r' : Receiv
 -- what a poll answers where nothing is offered
 abbrev pub nothing_offered : Bool → ℕ → ℕ → Polled
 nothing_offered halted claimed taken = if nat_lt taken claimed then Gating else if halted then Drained else Idle
+
+-- a sender has written an event: it stored its first word and then its second
+abbrev pub HasWritten : SenderEnd → ℕ → Event → SenderEnd → Type 0
+HasWritten e s event e' =
+    Stays e e' × (e'.knows ≡ brought (brought e.knows s (half_written event.first)) s (written event)) × IsBeginning e.past e'.past
+    × (e'.stored ≡ e.stored ++ SenderStoresFirst e.knows.number s event.first ∷ SenderStoresSecond e.knows.number s event.second ∷ [])
