@@ -27,8 +27,7 @@ fn chain(alloc: Global) -> Result<Graph, GraphFault> {
 
 fn open(alloc: Global, senders: usize) -> Result<Ends, Fail> {
     let graph = chain(alloc)?;
-    let (senders, receivers, halter) =
-        senders_ring(alloc, &graph, Size::new(4)?, LIMIT, senders)?;
+    let (senders, receivers, halter) = senders_ring(alloc, &graph, Size::new(4)?, LIMIT, senders)?;
     Ok(Ends {
         senders,
         receivers,
@@ -52,13 +51,28 @@ fn senders_claim_in_turn_up_to_the_room(rt: HostRuntime) -> Result<(), Fail> {
     let mut ends = open(rt.alloc(), 2)?;
     assert_eq!(rt; claim(&rt, &mut ends, 0, 2), Ok(Claimed { lo: 0, hi: 1 }));
     assert_eq!(rt; claim(&rt, &mut ends, 1, 2), Ok(Claimed { lo: 2, hi: 3 }));
-    assert_eq!(rt; claim(&rt, &mut ends, 0, 1), Err(ClaimFault::Refused(Refusal::NoRoom)));
-    assert_eq!(rt; claim(&rt, &mut ends, 0, 3), Err(ClaimFault::Refused(Refusal::Exhausted)));
-    assert_eq!(rt; claim(&rt, &mut ends, 0, 0), Err(ClaimFault::Refused(Refusal::BadCount)));
-    assert_eq!(rt; claim(&rt, &mut ends, 0, 5), Err(ClaimFault::Refused(Refusal::BadCount)));
+    assert_eq!(rt;
+        claim(&rt, &mut ends, 0, 1),
+        Err(ClaimFault::Refused(Refusal::NoRoom))
+    );
+    assert_eq!(rt;
+        claim(&rt, &mut ends, 0, 3),
+        Err(ClaimFault::Refused(Refusal::Exhausted))
+    );
+    assert_eq!(rt;
+        claim(&rt, &mut ends, 0, 0),
+        Err(ClaimFault::Refused(Refusal::BadCount))
+    );
+    assert_eq!(rt;
+        claim(&rt, &mut ends, 0, 5),
+        Err(ClaimFault::Refused(Refusal::BadCount))
+    );
     assert_eq!(rt; poll(&rt, &mut ends, 0), Ok(Polled::Gating));
     ends.halter.halt();
-    assert_eq!(rt; claim(&rt, &mut ends, 1, 1), Err(ClaimFault::Refused(Refusal::Halted)));
+    assert_eq!(rt;
+        claim(&rt, &mut ends, 1, 1),
+        Err(ClaimFault::Refused(Refusal::Halted))
+    );
     assert_eq!(rt; poll(&rt, &mut ends, 0), Ok(Polled::Gating));
     Ok(())
 }
