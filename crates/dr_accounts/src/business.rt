@@ -68,6 +68,11 @@ impl Business {
         ensures count { self.new.count ≡ self.old.count }
         ensures failed { self.new.failed ≡ self.old.failed }
     {
+        // An account that is there needs no room: it is written in its place.
+        if let Some(kept) = self.accounts.get_mut(&number) {
+            *kept = account;
+            return Ok(());
+        }
         self.accounts.insert(number, account)?;
         Ok(())
     }
