@@ -35,6 +35,7 @@ bench:
 
 bench-plots:
 	bench/plots.py
+	bench/tables.py
 
 hello:
 	examples/hello.sh $(DIR)
@@ -50,7 +51,7 @@ help:
 	@echo '  make check CRATE=dr_core  proves one crate over what is kept: seconds, 1 to 5 minutes from nothing'
 	@echo '  make test                 the whole gate, from nothing: about an hour'
 	@echo '  make bench                events a second of core and ring: some minutes, and many where other work runs'
-	@echo '  make bench-plots          draws what bench/measured holds, as docs/pictures: seconds'
+	@echo '  make bench-plots          draws what bench/measured holds, as docs/pictures, and writes its tables: seconds'
 	@echo '  make hello DIR=../hello   starts a repository of your own in that folder, with a program over the'
 	@echo '                            ring, which is proved, built and run: some minutes'
 	@echo '  make clean                removes what was built, and what proofs are kept'

@@ -6,6 +6,7 @@
     bench/beside.py handlers           1 to 16 handlers, in a chain and side by side
     bench/beside.py claims             claims of 1 to 1000 events
     bench/beside.py producers          1 to 16 producers behind a lock
+    bench/beside.py few                two topologies on threads, for fewer processors than ends (`taskset`)
 
 The others are the rings of bench/plain/exchanges, which `rustc` builds, and LMAX's own, where `javac` and
 the library are there (Debian's package libdisruptor-java; `--lmax JAR` names another place). All run in
@@ -116,6 +117,15 @@ def producers(programs):
             print_row(f"{count} | {claim}", programs, ("ours", "mutex"), f"lock{count}-unicast-b{claim}", 1024)
 
 
+def few(programs):
+    """Small and large rings, where threads may have to take turns at a processor."""
+    kinds = programs.of(THREADS)
+    print_head(["topology", "size"] + kinds)
+    for topology in ("unicast", "diamond"):
+        for size in (1, 64, 1024):
+            print_row(f"{topology} | {size}", programs, kinds, topology, size)
+
+
 def steps(what):
     if what == "sizes":
         return [(f"{shape}, {4**k}", shape, 4**k) for shape in ("unicast", "diamond") for k in range(9)]
@@ -126,7 +136,7 @@ def steps(what):
 
 def main():
     parser = argparse.ArgumentParser(description=__doc__, formatter_class=argparse.RawDescriptionHelpFormatter)
-    parser.add_argument("what", choices=["table", "sizes", "handlers", "claims", "producers"])
+    parser.add_argument("what", choices=["table", "sizes", "handlers", "claims", "producers", "few"])
     parser.add_argument("--program", default=PROGRAM)
     parser.add_argument("--lmax", default="/usr/share/java/disruptor.jar")
     parser.add_argument("--under", default="")
@@ -141,6 +151,8 @@ def main():
             table(programs)
         elif given.what == "producers":
             producers(programs)
+        elif given.what == "few":
+            few(programs)
         else:
             grow(programs, given.what, steps(given.what))
         programs.records.save()
