@@ -1,0 +1,6 @@
+-- What public contracts cite: what an end is, and what its calls answer and leave.
+pub mod Plans
+pub mod Ends
+pub mod Sending
+pub mod Receiving
+pub mod Making
