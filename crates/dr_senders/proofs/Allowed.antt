@@ -1,7 +1,8 @@
 -- Kinds of steps that are allowed.
-use Rattle.std.proofs.Common.{◌≡◌, ℕ, ◌+◌, ◌-◌, ◌*◌, ◌^◌, ◌<◌, ◌≤◌, inl, inr, Bool, true, false, ◌==◌, if◌then◌else◌, List, [], ◌∷◌, ◌++◌, length, get_or, set, Some, None, sym, refl, ap, ◌∙◌, subst, arith}
+use Rattle.std.proofs.Common.{◌≡◌, ℕ, ◌+◌, ◌-◌, ◌*◌, ◌^◌, ◌<◌, ◌≤◌, inl, inr, Bool, true, false, ◌==◌, if◌then◌else◌, List, [], ◌∷◌, ◌++◌, length, get_or, set, replicate, Some, None, sym, refl, ap, ◌∙◌, subst, arith}
 use Rattle.std.specs.Prelude.{Contains, bit_or}
 use Rattle.std.proofs.lemmas.Bool.{cases_lt, lt-ltb, le-ltb}
+use Rattle.std.proofs.lemmas.List.{length-append, length-replicate}
 use Rattle.std.proofs.lemmas.Nat.{or_block}
 use Rattle.std.specs.Int.Bits.{or_zero_r}
 use mathlib.Core.Option.{some, none}
@@ -23,13 +24,14 @@ use Rattle.dr_senders.specs.declared.record.HalterRecord.{HalterRecord}
 use Rattle.dr_senders.specs.declared.record.EndRecord.{EndRecord}
 use Rattle.dr_senders.specs.declared.record.EndRecord.TheVariants.{Sends, Receives, Halts}
 use Rattle.dr_senders.specs.declared.record.Step.{Step}
-use Rattle.dr_senders.specs.declared.record.Step.TheVariants.{SenderLooksAtClaims, SenderLooksAtCount, SenderClaims, SenderStoresFirst, SenderStoresSecond, SenderPublishes, SenderHalts, ReceiverLooksAtClaims, ReceiverLooksAtMark, ReceiverLooksAtCount, ReceiverLoadsFirst, ReceiverLoadsSecond, ReceiverCompletes, HalterHalts}
-use Rattle.dr_senders.specs.Meaning.Records.{Owns, half_written, written, published, brought, sender_looked, claimed_from, receiver_looked, claims_looked, mark_looked, half_taken, took, completed_to, halter_halted, SeesRoom, IsBelowBarrier}
+use Rattle.dr_senders.specs.declared.record.Step.TheVariants.{SenderLooksAtClaims, SenderLooksAtCount, SenderClaims, SenderStoresFirst, SenderStoresSecond, SenderPublishes, SenderLooksAtMark, SenderHalts, ReceiverLooksAtClaims, ReceiverLooksAtMark, ReceiverLooksAtCount, ReceiverLoadsFirst, ReceiverLoadsSecond, ReceiverCompletes, HalterHalts}
+use Rattle.dr_senders.specs.Meaning.Records.{Owns, fresh_stage, half_written, written, published, brought, sender_looked, mark_found, claimed_from, receiver_looked, claims_looked, mark_looked, half_taken, took, completed_to, halter_halted, SeesRoom, IsBelowBarrier}
 use Rattle.dr_senders.specs.Meaning.Rule.{World, KeepsRule}
 use Rattle.dr_senders.specs.Meaning.Steps.{Happens, sender_knows, sender_claims, sender_brings, receiver_knows, halted_words}
-use Rattle.dr_senders.specs.Inside.Seats.{End, Sitting, end_of, seat_at, Loads, Stores, Ruled, end_number, Stands, alone, sender_of, receiver_of, halter_of, IsSender, IsReceiver, IsHalter, FindsEvents, after_exchange, SenderLooked, SenderClaimed, SenderStoredFirst, SenderStoredSecond, SenderPublished, SenderHalted, ReceiverLookedAtClaims, ReceiverLookedAtMark, ReceiverLookedAtCount, ReceiverLoadedFirst, ReceiverLoadedSecond, ReceiverCompleted, HalterHalted}
-use Rattle.dr_senders.proofs.Places.{word_at, set_here, last_look_le}
-use Rattle.dr_senders.proofs.Facts.{taken_claimed, handler_inside, upstream_inside, receiver_of_handler}
+use Rattle.dr_senders.specs.Inside.Seats.{End, Sitting, end_of, seat_at, Loads, Stores, Ruled, end_number, Stands, alone, sender_of, receiver_of, halter_of, IsSender, IsReceiver, IsHalter, FindsEvents, IsEarlier, FindsMark, SenderLooked, SenderLookedAtMark, SenderClaimed, SenderStoredFirst, SenderStoredSecond, SenderPublished, SenderHalted, ReceiverLookedAtClaims, ReceiverLookedAtMark, ReceiverLookedAtCount, ReceiverLoadedFirst, ReceiverLoadedSecond, ReceiverCompleted, HalterHalted}
+use Rattle.dr_senders.proofs.Places.{word_at, set_here, last_look_le, more_left, claimed_low}
+use Rattle.dr_senders.proofs.Facts.{taken_claimed, handler_inside, upstream_inside, receiver_of_handler, near_open, owned}
+use Rattle.dr_senders.proofs.Keeps.{keeps_claims}
 use Rattle.dr_senders.proofs.Seats.{Does, OthersStand, by_end, adds_nothing, adds_one, but_sender, but_receiver, but_halter}
 
 -- a load stores what was there
@@ -123,16 +125,29 @@ exchanged_others : (w : World) (r : SenderRecord) (c n : ℕ) (b : Bool)
 exchanged_others w r c n true = but_sender w (exchanged w r c n true) r (claimed_from r c n) refl refl refl
 exchanged_others w r c n false = but_sender w (exchanged w r c n false) r (sender_looked r claim_word (word_at w.words claim_word)) refl refl refl
 
+-- what a sender has is claimed before a claim that the exchange gives, and published where the claim takes its slot
+earlier : (k : Shape) (w : World) (r : SenderRecord) (c n z : ℕ) (t : Stage) → get_elem? w.senders r.number ≡ some r → 0 < n → SeesRoom k r c n → word_at w.words claim_word ≡ c → Owns r z t → KeepsRule k w
+    → IsEarlier k c (c + n) z t
+earlier k w r c n z t at some_one room hit own K =
+    let here = (owned k w r.number r z own.0 t at own.1 K).1 in let inside = at_below w.stages z t here in let small = K.shape.small in let fits = room.limit in
+    let low : c < halt_bit = omega arith in let new = replicate n (fresh_stage r.number) in
+    let now : c ≡ length w.stages = sym (claimed_low c low) ∙ ap claimed_in (sym hit) ∙ K.claim in
+    let longer : length (w.stages ++ new) ≡ length w.stages + n = omega (arith, length-append w.stages new, length-replicate n (fresh_stage r.number)) in (
+      omega arith,
+      λ hidden. (
+          let near = near_open k (sender_claims w r.number r c n) z t (more_left w.stages new z t here) hidden (keeps_claims k w r.number c n r at some_one room hit K) in omega arith),
+    )
+
 pub claims : (k : Shape) {sh : Shape} (slots id : ℕ) (me : Sitting) (c n v : ℕ) → k ≡ sh → v ≡ c + n → IsSender (end_of me) → 0 < n → SeesRoom sh (sender_of me.0.ends) c n
     → Allows (Ruled k) slots id me claim_word (λ m. either (m == c) v m)
-    (Stores (λ s e m. SenderClaims (sender_of e.0).number s.first (s.second - s.first)) SenderClaimed (step slots claim_word c v none) me)
+    (Stores (λ s e m. SenderClaims (sender_of e.0).number s.first (s.second - s.first)) (SenderClaimed k) (step slots claim_word c v none) me)
 claims k {sh = sh} slots id me c n v same sum is some_one there =
     let room : SeesRoom k (sender_of me.0.ends) c n = subst (λ (p : Shape). SeesRoom p (sender_of me.0.ends) c n) (sym same) there in
-    subst (λ (v : ℕ). Allows (Ruled k) slots id me claim_word (λ m. either (m == c) v m) (Stores (λ s e m. SenderClaims (sender_of e.0).number s.first (s.second - s.first)) SenderClaimed (step slots claim_word c v none) me)) (sym sum)
+    subst (λ (v : ℕ). Allows (Ruled k) slots id me claim_word (λ m. either (m == c) v m) (Stores (λ s e m. SenderClaims (sender_of e.0).number s.first (s.second - s.first)) (SenderClaimed k) (step slots claim_word c v none) me)) (sym sum)
     (let r = sender_of me.0.ends in let back : c + n - c ≡ n = omega arith in let kind = SenderClaims r.number c (c + n - c) in
     let room' : SeesRoom k r c (c + n - c) = subst (SeesRoom k r c) (sym back) room in
-    along (λ x. Allows (Ruled k) slots id x claim_word (λ m. either (m == c) (c + n) m) (Stores (λ s e m. SenderClaims (sender_of e.0).number s.first (s.second - s.first)) SenderClaimed (step slots claim_word c (c + n) none) x)) me (Sends r) is
-    (by_end k slots id kind (λ xs. xs ++ kind ∷ []) me.0.pasts (Sends r) claim_word (λ m. either (m == c) (c + n) m) (λ m. Sends (learned r c (c + n - c) m (m == c))) (SenderClaimed (step slots claim_word c (c + n) none) (alone (Sends r)))
+    along (λ x. Allows (Ruled k) slots id x claim_word (λ m. either (m == c) (c + n) m) (Stores (λ s e m. SenderClaims (sender_of e.0).number s.first (s.second - s.first)) (SenderClaimed k) (step slots claim_word c (c + n) none) x)) me (Sends r) is
+    (by_end k slots id kind (λ xs. xs ++ kind ∷ []) me.0.pasts (Sends r) claim_word (λ m. either (m == c) (c + n) m) (λ m. Sends (learned r c (c + n - c) m (m == c))) (SenderClaimed k (step slots claim_word c (c + n) none) (alone (Sends r)))
     (adds_one _ kind (λ n. refl)) (λ m. learned_number r c (c + n - c) m (m == c))
     (λ w at K small. let m = word_at w.words claim_word in let more = c + n - c in (
       record {
@@ -142,7 +157,7 @@ claims k {sh = sh} slots id me c n v same sum is some_one there =
         stands = exchanged_stands w r c more (m == c) at;
         others = exchanged_others w r c more (m == c);
       },
-      (refl, sender_sees k w r claim_word at (omega arith) K),
+      (refl, sender_sees k w r claim_word at (omega arith) K, λ hit z t own. subst (λ (m : ℕ). IsEarlier k c m z t) (omega arith) (earlier k w r c (c + n - c) z t at (omega arith) room' hit own K)),
     ))))
 
 pub stores_first : (k : Shape) {sh : Shape} (slots id : ℕ) (me : Sitting) (i s m v : ℕ) (t : Stage) → k ≡ sh → s ≡ m → i ≡ payload_word sh s 0 → IsSender (end_of me) → Owns (sender_of me.0.ends) s t → t.published ≡ false
@@ -185,6 +200,22 @@ publishes k {sh = sh} slots id me i s m v t event same named there now is own un
     (by_end k slots id kind (λ xs. xs ++ kind ∷ []) me.0.pasts (Sends r) i (λ _. v) (λ _. Sends (brought r s published)) (λ _. SenderPublished s (step slots i v 0 none) (alone (Sends r)) v)
     (adds_one _ kind (λ n. refl)) (λ n. refl)
     (λ w at K small. (sender_stores k kind w r s t published i v at (r, at, (t, own, unshown, (whole, event, has, refl))), refl))))))
+
+-- the mark of a published sequence is there
+finds_mark : (k : Shape) (w : World) (r : SenderRecord) (s : ℕ) → get_elem? w.senders r.number ≡ some r → KeepsRule k w → FindsMark k r s (word_at w.words (mark_word k s))
+finds_mark k w r s at K t own shown = K.marked s (t, (owned k w r.number r s own.0 t at own.1 K).1, shown)
+
+pub sender_looks_at_mark : (k : Shape) {sh : Shape} (slots id : ℕ) (me : Sitting) (i s m : ℕ) → k ≡ sh → s ≡ m → i ≡ mark_word sh s → IsSender (end_of me)
+    → Allows (Ruled k) slots id me i (λ n. n) (Loads (SenderLookedAtMark k m) (step slots i 0 0 none) me)
+sender_looks_at_mark k {sh = sh} slots id me i s m same named there is =
+    let here : i ≡ mark_word k s = there ∙ ap (λ (p : Shape). mark_word p s) (sym same) in
+    subst (λ (m : ℕ). Allows (Ruled k) slots id me i (λ n. n) (Loads (SenderLookedAtMark k m) (step slots i 0 0 none) me)) named
+    (subst (λ (i : ℕ). Allows (Ruled k) slots id me i (λ n. n) (Loads (SenderLookedAtMark k s) (step slots i 0 0 none) me)) (sym here)
+    (let i = mark_word k s in let r = sender_of me.0.ends in let kind = SenderLooksAtMark r.number s in
+    along (λ x. Allows (Ruled k) slots id x i (λ n. n) (Loads (SenderLookedAtMark k s) (step slots i 0 0 none) x)) me (Sends r) is
+    (by_end k slots id kind (λ xs. xs) me.0.pasts (Sends r) i (λ n. n) (λ n. Sends (mark_found r n)) (SenderLookedAtMark k s (step slots i 0 0 none) (alone (Sends r)))
+    (adds_nothing _ kind (λ n. refl)) (λ n. refl)
+    (λ w at K small. (sender_learns k kind w r (mark_found r (word_at w.words i)) i at refl (r, at, refl), (refl, finds_mark k w r s at K))))))
 
 -- the highest bit is set
 or_top : (n : ℕ) → n < 18446744073709551616 → bit_or n 9223372036854775808 ≡ halted_from n

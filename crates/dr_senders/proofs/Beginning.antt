@@ -1,5 +1,5 @@
 -- A ring at its opening.
-use Rattle.std.proofs.Common.{◌≡◌, ℕ, zero, suc, ◌+◌, inl, inr, false, List, [], ◌∷◌, length, get_or, map, replicate, None, sym, refl, ap, ◌∙◌, subst, arith}
+use Rattle.std.proofs.Common.{◌≡◌, ℕ, zero, suc, ◌+◌, inl, inr, List, [], ◌∷◌, length, get_or, map, replicate, sym, refl, ap, ◌∙◌, subst, arith}
 use Rattle.std.specs.List.{range_with_len}
 use Rattle.std.proofs.lemmas.Bool.{cases_lt}
 use Rattle.std.proofs.lemmas.List.{length-replicate, get_or-replicate, get_or_past}
@@ -35,7 +35,7 @@ senders_count p (suc n) = ap suc (senders_count (suc p) n)
 abbrev zeros : ℕ → List ℕ
 zeros n = replicate n 0
 
-all_zero : (n i : ℕ) → ◌≡◌ {A = ℕ} (get_or (zeros n) i 0) 0
+pub all_zero : (n i : ℕ) → ◌≡◌ {A = ℕ} (get_or (zeros n) i 0) 0
 all_zero n i =
     let z : ℕ = 0 in
     elim (cases_lt i n) [
@@ -54,6 +54,7 @@ kept_new_world k shape = let n = words_of k in let ws = zeros n in record {
   room = λ f final. omega arith;
   stages = λ s t there. absurd (some-ne-none t (sym there));
   marks = λ s is. absurd (let z = all_zero n (mark_word k s) in omega arith);
+  marked = λ s x. absurd (some-ne-none x.0 (sym x.1));
   sent = λ p r at. (let e : r ≡ fresh_sender p = sender_fresh 0 k.senders p r at ∙ (let z : 0 + p ≡ p = omega arith in ap fresh_sender z) in
       subst (λ (q : SenderRecord). SenderKept k ws [] p q) (sym e) (record { number = refl; own = λ i o there. absurd (some-ne-none o (sym there)); looks = λ i x there. absurd (some-ne-none x (sym there)) }));
   received = λ h r at. (let e : r ≡ fresh_receiver h = receiver_fresh 0 (handlers_of k) h r at ∙ (let z : 0 + h ≡ h = omega arith in ap fresh_receiver z) in

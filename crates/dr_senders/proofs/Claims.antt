@@ -1,23 +1,25 @@
 -- What a claim of a sender comes to.
-use Rattle.std.proofs.Common.{◌≡◌, ◌≢◌, ℕ, ◌+◌, ◌-◌, ◌<◌, ◌≤◌, ◌⊎◌, inl, inr, Bool, true, false, ◌==◌, if◌then◌else◌, List, [], ◌∷◌, ◌++◌, length, get_or, sym, refl, ap, ◌∙◌, subst, arith, append_assoc}
+use Rattle.std.proofs.Common.{◌≡◌, ◌≢◌, ℕ, ◌+◌, ◌-◌, ◌<◌, ◌≤◌, inl, inr, Bool, true, false, if◌then◌else◌, List, [], ◌∷◌, ◌++◌, refl, ap, ◌∙◌, subst, arith, append_assoc}
 use Rattle.std.specs.Prelude.{◌^◌, Ok, Err}
 use Rattle.std.proofs.lemmas.Bool.{eq-eqb, ne_eqb, le-leb, lt-leb}
-use Rattle.std.proofs.lemmas.List.{append-nil}
-use Rattle.dr_core.specs.declared.refusal.Refusal.TheVariants.{NoRoom, Halted, BadCount, Exhausted}
+use lib.ListN.{get_elem?}
+use Rattle.dr_core.specs.declared.refusal.Refusal.TheVariants.{Halted}
 use Rattle.dr_graph.specs.Meaning.Graph.{finals}
 use Rattle.dr_ring.specs.declared.record.Look.{Look}
 use Rattle.dr_ring.specs.Meaning.Records.{look, last_look}
 use Rattle.dr_senders.specs.Meaning.Shape.{Shape}
 use Rattle.dr_senders.specs.Meaning.Words.{claim_word, is_halted, halt_bit, count_word}
+use Rattle.dr_senders.specs.declared.record.Stage.{Stage}
+use Rattle.dr_senders.specs.declared.record.Own.{Own}
 use Rattle.dr_senders.specs.declared.record.SenderRecord.{SenderRecord}
 use Rattle.dr_senders.specs.declared.record.Step.{Step}
 use Rattle.dr_senders.specs.declared.record.Step.TheVariants.{SenderClaims}
 use Rattle.dr_senders.specs.declared.claiming.ClaimFault.TheVariants.{Refused, Contended}
-use Rattle.dr_senders.specs.Meaning.Records.{sender_looked, claimed_from, SeesRoom}
+use Rattle.dr_senders.specs.Meaning.Records.{Owns, sender_looked, claimed_from, SeesRoom}
 use Rattle.dr_senders.specs.Calls.Ends.{SenderEnd, HasLoaded, HasStored, Stays, count_looks}
-use Rattle.dr_senders.specs.Calls.Sending.{gate_looks, FoundRoom, ClaimCall, knows_after}
-use Rattle.dr_senders.specs.Inside.Seats.{after_exchange}
-use Rattle.dr_senders.specs.Inside.Parts.{sender_saw, IsEnough, IsShort, Scans}
+use Rattle.dr_senders.specs.Calls.Sending.{gate_looks, IsCount, FoundRoom, ClaimCall, knows_after}
+use Rattle.dr_senders.specs.Inside.Seats.{IsEarlier, after_exchange}
+use Rattle.dr_senders.specs.Inside.Parts.{sender_saw, IsEnough, Scans, ClaimsApart}
 use Rattle.dr_senders.proofs.Scanning.{seen_high}
 
 pub going : (found : ℕ) → found < 9223372036854775808 → is_halted found ≡ false
@@ -63,6 +65,7 @@ missed r s t seen c n found was is other =
 -- an exchange for which there was room, by what it found
 pub record Tried (e : SenderEnd) (n c found : ℕ) (e' : SenderEnd) : Type 0 where
   pub stays : Stays e e'
+  pub counted : IsCount e.plan n
   pub counts : List ℕ
   pub room : FoundRoom e.plan c n counts
   pub middle : SenderRecord
@@ -72,12 +75,13 @@ pub record Tried (e : SenderEnd) (n c found : ℕ) (e' : SenderEnd) : Type 0 whe
   pub few : e.plan.limit ≤ 2 ^ 62
 
 pub tried : (e a b e' : SenderEnd) (n c need found : ℕ) → HasLoaded e (sender_looked e.knows claim_word c) a → HasLoaded a b.knows b → Scans a.plan a.knows need b.knows true
-    → HasStored b (SenderClaims b.knows.number c n) (after_exchange b.knows c n found) e' → c < 9223372036854775808 → c + n ≤ e.plan.limit → need ≡ c + n - e.plan.size → e.plan.limit ≤ 2 ^ 62
+    → HasStored b (SenderClaims b.knows.number c n) (after_exchange b.knows c n found) e' → IsCount e.plan n → c < 9223372036854775808 → c + n ≤ e.plan.limit → need ≡ c + n - e.plan.size → e.plan.limit ≤ 2 ^ 62
     → Tried e n c found e'
-tried e a b e' n c need found A B S C low limit is few =
+tried e a b e' n c need found A B S C counted low limit is few =
     let scan : Scans e.plan a.knows need b.knows true = subst (λ (k : Shape). Scans k a.knows need b.knows true) A.0.1 S in
     let mid = looked_first e.plan e.knows a.knows b.knows c scan.0 A.1 scan.1 in record {
       stays = (C.0.0 ∙ B.0.0 ∙ A.0.0, C.0.1 ∙ B.0.1 ∙ A.0.1);
+      counted = counted;
       counts = scan.0;
       room = found_room e.plan c n need scan.0 (going c low) limit is scan.2;
       middle = b.knows;
@@ -90,6 +94,7 @@ tried e a b e' n c need found A B S C low limit is few =
 pub claim_given : (e e' : SenderEnd) (n c hi found : ℕ) → Tried e n c found e' → found ≡ c → hi ≡ c + n - 1 → ClaimCall e n e' (Ok record { lo = c; hi = hi })
 claim_given e e' n c hi found T same last = record {
   stays = T.stays;
+  counts = T.counted;
   seen = first_looks e.plan c T.counts ++ look claim_word (c + n) ∷ [];
   looks = (T.counts, T.room, last, refl);
   knows = hit e.knows T.middle e'.knows (first_looks e.plan c T.counts) c hi n found T.looked T.knows same;
@@ -102,6 +107,7 @@ claim_given e e' n c hi found T same last = record {
 pub claim_halted : (e e' : SenderEnd) (n c found : ℕ) → Tried e n c found e' → found ≢ c → 9223372036854775808 ≤ found → ClaimCall e n e' (Err (Refused Halted))
 claim_halted e e' n c found T other high = record {
   stays = T.stays;
+  counts = T.counted;
   seen = first_looks e.plan c T.counts ++ look claim_word found ∷ [];
   looks = (found, stopped found high, inr (c, T.counts, T.room, refl));
   knows = missed e.knows T.middle e'.knows (first_looks e.plan c T.counts) c n found T.looked T.knows other;
@@ -114,6 +120,7 @@ claim_halted e e' n c found T other high = record {
 pub claim_contended : (e e' : SenderEnd) (n c found : ℕ) → Tried e n c found e' → found ≢ c → found < 9223372036854775808 → ClaimCall e n e' (Err Contended)
 claim_contended e e' n c found T other low = record {
   stays = T.stays;
+  counts = T.counted;
   seen = first_looks e.plan c T.counts ++ look claim_word found ∷ [];
   looks = (c, found, T.counts, T.room, other, going found low, refl);
   knows = missed e.knows T.middle e'.knows (first_looks e.plan c T.counts) c n found T.looked T.knows other;
@@ -122,3 +129,10 @@ claim_contended e e' n c found T other low = record {
   exchanges = (c, refl);
   few = T.few;
 }
+
+-- what an exchange tells of the sequences that the sender had
+pub claim_apart : (e a b : SenderEnd) (n c need found : ℕ) → HasLoaded e (sender_looked e.knows claim_word c) a → HasLoaded a b.knows b → Scans a.plan a.knows need b.knows true
+    → (found ≡ c → (s : ℕ) (t : Stage) → Owns b.knows s t → IsEarlier b.plan c (c + n) s t) → found ≡ c → ClaimsApart e c n
+claim_apart e a b n c need found A B S earlier hit s t own =
+    let plan : b.plan ≡ e.plan = B.0.1 ∙ A.0.1 in let list : b.knows.own ≡ e.knows.own = ap (λ (r : SenderRecord). r.own) S.1 ∙ ap (λ (r : SenderRecord). r.own) A.1 in
+    subst (λ (k : Shape). IsEarlier k c (c + n) s t) plan (earlier hit s t (own.0, ap (λ (xs : List Own). get_elem? xs own.0) list ∙ own.1))

@@ -1,7 +1,7 @@
 -- What the rule of a ring comes to.
 use Rattle.std.proofs.Common.{◌≡◌, ℕ, ◌+◌, ◌<◌, ◌≤◌, inl, inr, true, false, List, [], ◌∷◌, length, get_or, refl, ap, ◌∙◌, subst, arith}
 use Rattle.std.specs.Prelude.{Contains}
-use Rattle.std.proofs.lemmas.Bool.{cases_lt}
+use Rattle.std.proofs.lemmas.Bool.{cases_Bool, cases_lt}
 use Rattle.std.proofs.lemmas.List.{get_or_past}
 use mathlib.Core.Option.{some}
 use lib.ListN.{get_elem?}
@@ -100,3 +100,12 @@ next_event k w h r e at x K =
 pub owned : (k : Shape) (w : World) (p : ℕ) (r : SenderRecord) (s i : ℕ) (t : Stage) → get_elem? w.senders p ≡ some r → get_elem? r.own i ≡ some record { sequence = s; stage = t } → KeepsRule k w
     → (t.owner ≡ p) × (get_elem? w.stages s ≡ some t)
 owned k w p r s i t at has K = (K.sent p r at).own i record { sequence = s; stage = t } has
+
+-- a claimed sequence whose slot is claimed again is published
+pub out_behind : (k : Shape) (w : World) (z s : ℕ) → z + k.size ≤ s → s < length w.stages → KeepsRule k w → IsOut w.stages z
+out_behind k w z s behind inside K =
+    let u = there w.stages z (omega arith) in
+    elim (cases_Bool u.0.published) [
+      | inl shown ↦ (u.0, u.1, shown)
+      | inr hidden ↦ absurd (let near = near_open k w z u.0 u.1 hidden K in omega arith)
+    ]

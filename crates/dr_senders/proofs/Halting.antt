@@ -1,6 +1,6 @@
 -- Once a ring is halted, nothing more is claimed.
-use Rattle.std.proofs.Common.{◌≡◌, ◌≢◌, ℕ, ◌<◌, ◌≤◌, inl, inr, true, ◌==◌, if◌then◌else◌, Bool, List, [], ◌∷◌, ◌++◌, length, set, sym, refl, ap, ◌∙◌, subst, arith, length-set, get_or-set_same, get_or-set_other}
-use Rattle.std.proofs.lemmas.Bool.{cases_eq, ne_eqb, leb-true}
+use Rattle.std.proofs.Common.{◌≡◌, ◌≢◌, ℕ, true, ◌==◌, if◌then◌else◌, Bool, List, [], ◌∷◌, length, set, sym, ap, ◌∙◌, subst, arith, length-set, get_or-set_same, get_or-set_other}
+use Rattle.std.proofs.lemmas.Bool.{ne_eqb, leb-true}
 use Rattle.dr_core.specs.Meaning.Transcript.{Transcript}
 use Rattle.dr_seq.specs.Rounds.{entry_of}
 use Rattle.dr_senders.specs.Meaning.Shape.{Shape}
@@ -8,7 +8,7 @@ use Rattle.dr_senders.specs.Meaning.Words.{claim_word, is_halted, halted_from, h
 use Rattle.dr_senders.specs.declared.record.Stage.{Stage}
 use Rattle.dr_senders.specs.declared.record.SenderRecord.{SenderRecord}
 use Rattle.dr_senders.specs.declared.record.Step.{Step}
-use Rattle.dr_senders.specs.declared.record.Step.TheVariants.{SenderLooksAtClaims, SenderLooksAtCount, SenderClaims, SenderStoresFirst, SenderStoresSecond, SenderPublishes, SenderHalts, ReceiverLooksAtClaims, ReceiverLooksAtMark, ReceiverLooksAtCount, ReceiverLoadsFirst, ReceiverLoadsSecond, ReceiverCompletes, HalterHalts}
+use Rattle.dr_senders.specs.declared.record.Step.TheVariants.{SenderLooksAtClaims, SenderLooksAtCount, SenderClaims, SenderStoresFirst, SenderStoresSecond, SenderPublishes, SenderLooksAtMark, SenderHalts, ReceiverLooksAtClaims, ReceiverLooksAtMark, ReceiverLooksAtCount, ReceiverLoadsFirst, ReceiverLoadsSecond, ReceiverCompletes, HalterHalts}
 use Rattle.dr_senders.specs.Meaning.Records.{half_written, written, published, sender_looked, SeesRoom}
 use Rattle.dr_senders.specs.Meaning.Rule.{World, KeepsRule}
 use Rattle.dr_senders.specs.Meaning.Steps.{Happens, sender_knows, sender_claims}
@@ -47,6 +47,7 @@ halted_step k (SenderStoresSecond p s v) w u n H K is =
     subst (HaltedAt n) (sym H.2.3.2) (other_word w (payload_word k s 1) v (λ e. omega arith) is.0, same_stages w.stages s n (written record { first = H.2.3.0; second = v } H.2.0) is.1)
 halted_step k (SenderPublishes p s) w u n H K is =
     subst (HaltedAt n) (sym H.2.3.3) (other_word w (mark_word k s) (entry_of k.size s) (λ e. omega arith) is.0, same_stages w.stages s n (published H.2.0) is.1)
+halted_step k (SenderLooksAtMark p s) w u n H K is = subst (HaltedAt n) (sym H.2) is
 halted_step k (SenderHalts p) w u n H K is = subst (HaltedAt n) (sym H.2) (halted_more k w K, is.1)
 halted_step k (ReceiverLooksAtClaims h) w u n H K is = subst (HaltedAt n) (sym H.2) is
 halted_step k (ReceiverLooksAtMark h) w u n H K is = subst (HaltedAt n) (sym H.2) is

@@ -17,11 +17,11 @@ use Rattle.dr_senders.specs.declared.record.Own.{Own}
 use Rattle.dr_senders.specs.declared.record.SenderRecord.{SenderRecord}
 use Rattle.dr_senders.specs.declared.record.ReceiverRecord.{ReceiverRecord}
 use Rattle.dr_senders.specs.declared.record.HalterRecord.{HalterRecord}
-use Rattle.dr_senders.specs.Meaning.Records.{fresh_stage, half_written, written, published, fresh_own, own_after, brought, sender_looked, claimed_from, receiver_looked, tells_drained, claims_looked, mark_looked, half_taken, took, completed_to, halter_halted, SeesRoom, IsBelowBarrier}
+use Rattle.dr_senders.specs.Meaning.Records.{fresh_stage, half_written, written, published, fresh_own, own_after, brought, sender_looked, mark_found, claimed_from, receiver_looked, tells_drained, claims_looked, mark_looked, half_taken, took, completed_to, halter_halted, SeesRoom, IsBelowBarrier}
 use Rattle.dr_senders.specs.Meaning.Rule.{World, Room, IsOut, IsOutWith, StageKept, ArePast, SenderKept, ReceiverKept, KeepsRule}
 use Rattle.dr_senders.specs.Meaning.Steps.{sender_knows, sender_claims, sender_brings, receiver_knows, halted_words}
-use Rattle.dr_senders.proofs.Places.{word_at, more_left, more_right, more_cases, at_replicate, in_replicate, set_here, set_else, at_map, one_value, claimed_low, halted_low, claimed_halted, halted_rises, is_halted_from, Rises, rises_set, past_rises, past_more, last_look_le, own_slot, apart, same_sequence}
-use Rattle.dr_senders.proofs.Facts.{handler_inside, near_open, upstream_inside, out_with, early, next_event, owned}
+use Rattle.dr_senders.proofs.Places.{word_at, more_left, more_right, more_cases, at_replicate, in_replicate, set_here, set_else, at_map, one_value, claimed_low, halted_low, claimed_halted, halted_rises, is_halted_from, Rises, rises_set, past_rises, past_more, last_look_le, own_slot, apart, rounds_rise, same_or_behind}
+use Rattle.dr_senders.proofs.Facts.{handler_inside, near_open, out_behind, upstream_inside, out_with, early, next_event, owned}
 
 -- what is published stays as it is
 abbrev pub Lasts : List Stage → List Stage → Type 0
@@ -70,23 +70,34 @@ stage_stays k words us n s t same S = record {
   marked = λ near shown. (same near).2 ∙ S.marked near shown;
 }
 
--- a sender looks
-pub keeps_sender_looks : (k : Shape) (w : World) (p i : ℕ) (r : SenderRecord) → i < mark_start k → get_elem? w.senders p ≡ some r → KeepsRule k w → KeepsRule k (sender_knows w p (sender_looked r i (word_at w.words i)))
-keeps_sender_looks k w p i r low at K = let was = K.sent p r at in record {
+-- a sender's record changes
+sender_changes : (k : Shape) (w : World) (p : ℕ) (r : SenderRecord) → SenderKept k w.words w.stages p r → KeepsRule k w → KeepsRule k (sender_knows w p r)
+sender_changes k w p r now K = record {
   shape = K.shape;
   wide = K.wide;
-  inlets = length-set w.senders p (sender_looked r i (word_at w.words i)) ∙ K.inlets;
+  inlets = length-set w.senders p r ∙ K.inlets;
   outlets = K.outlets;
   claim = K.claim;
   limit = K.limit;
   room = K.room;
   stages = K.stages;
   marks = K.marks;
-  sent = each_set (SenderKept k w.words w.stages) w.senders p (sender_looked r i (word_at w.words i))
-      (record { number = was.number; own = was.own; looks = past_more k w.words i (word_at w.words i) r.looks low (omega arith) was.looks }) (λ q x ne there. K.sent q x there);
+  marked = K.marked;
+  sent = each_set (SenderKept k w.words w.stages) w.senders p r now (λ q x ne there. K.sent q x there);
   received = K.received;
   halter = K.halter;
 }
+
+-- a sender looks
+pub keeps_sender_looks : (k : Shape) (w : World) (p i : ℕ) (r : SenderRecord) → i < mark_start k → get_elem? w.senders p ≡ some r → KeepsRule k w
+    → KeepsRule k (sender_knows w p (sender_looked r i (word_at w.words i)))
+keeps_sender_looks k w p i r low at K = let was = K.sent p r at in
+    sender_changes k w p (sender_looked r i (word_at w.words i))
+    (record { number = was.number; own = was.own; looks = past_more k w.words i (word_at w.words i) r.looks low (omega arith) was.looks }) K
+
+-- it looks at a mark
+pub keeps_mark_found : (k : Shape) (w : World) (p found : ℕ) (r : SenderRecord) → get_elem? w.senders p ≡ some r → KeepsRule k w → KeepsRule k (sender_knows w p (mark_found r found))
+keeps_mark_found k w p found r at K = let was = K.sent p r at in sender_changes k w p (mark_found r found) (record { number = was.number; own = was.own; looks = was.looks }) K
 
 -- a receiver's record changes
 receiver_changes : (k : Shape) (w : World) (h : ℕ) (r : ReceiverRecord) → ReceiverKept k w.words w.stages h r → KeepsRule k w → KeepsRule k (receiver_knows w h r)
@@ -100,12 +111,13 @@ receiver_changes k w h r now K = record {
   room = K.room;
   stages = K.stages;
   marks = K.marks;
+  marked = K.marked;
   sent = K.sent;
   received = each_set (ReceiverKept k w.words w.stages) w.receivers h r now (λ j q ne there. K.received j q there);
   halter = K.halter;
 }
 
-fresh_at : (p c n i : ℕ) (o : Own) → get_elem? (fresh_own p c n) i ≡ some o → (i < n) × (record { sequence = c + i; stage = fresh_stage p } ≡ o)
+pub fresh_at : (p c n i : ℕ) (o : Own) → get_elem? (fresh_own p c n) i ≡ some o → (i < n) × (record { sequence = c + i; stage = fresh_stage p } ≡ o)
 fresh_at p c zero i o at = absurd (some-ne-none o (sym at))
 fresh_at p c (suc n) zero o at = (omega arith, (let z : c + 0 ≡ c = omega arith in ap (λ (s : ℕ). let x : Own = record { sequence = s; stage = fresh_stage p } in x) z) ∙ some-injective _ o at)
 fresh_at p c (suc n) (suc i) o at =
@@ -147,7 +159,11 @@ keeps_claims k w p c n r at some_one room found K =
           marked = λ near y. absurd (cc);
         })
       ];
-      marks = λ s is. out_lasts w.stages more lasts s (K.marks s (sym (stays (mark_word k s) (omega arith)) ∙ is));
+      marks = λ s le. out_lasts w.stages more lasts s (K.marks s (let e = stays (mark_word k s) (omega arith) in omega arith));
+      marked = λ s x. elim (more_cases w.stages new s x.0 x.1) [
+        | inl old ↦ (let a = K.marked s (x.0, old, x.2) in let e = stays (mark_word k s) (omega arith) in omega arith)
+        | inr y ↦ absurd (let no : false ≡ x.0.published = ap (λ (t : Stage). t.published) (at_replicate n (fresh_stage p) x.0 y.0 y.2) in let yes = x.2 in cc)
+      ];
       sent = each_set (SenderKept k us more) w.senders p (claimed_from r c n)
           (record {
             number = was.number;
@@ -183,7 +199,8 @@ halting k w senders halter count sent looks K =
       limit = K.limit;
       room = room_stays k w.words us (length w.stages) rises K.room;
       stages = λ s t there. stage_stays k w.words us (length w.stages) s t (λ _. (stays (payload_word k s 0) (omega arith), stays (payload_word k s 1) (omega arith), stays (mark_word k s) (omega arith))) (K.stages s t there);
-      marks = λ s is. K.marks s (sym (stays (mark_word k s) (omega arith)) ∙ is);
+      marks = λ s le. K.marks s (let e = stays (mark_word k s) (omega arith) in omega arith);
+      marked = λ s x. (let a = K.marked s x in let e = stays (mark_word k s) (omega arith) in omega arith);
       sent = sent;
       received = λ h q there. (let old = K.received h q there in
           receiver_stays k w.words us w.stages w.stages h q K.shape.graph (handler_inside k w h q there K) (stays (count_word h) (omega arith)) rises (λ s t x _. x) (omega arith) (λ y. (ap is_halted here ∙ is_halted_from n, (old.told y).1)) old);
@@ -228,9 +245,10 @@ brought_own p s t further stages o inside owner at was =
 keeps_brings : (k : Shape) (w : World) (p s i : ℕ) (r : SenderRecord) (t : Stage) (further : Stage → Stage) (word v : ℕ) → get_elem? w.senders p ≡ some r → get_elem? r.own i ≡ some record { sequence = s; stage = t } → t.published ≡ false → (further t).owner ≡ t.owner
     → mark_start k ≤ word → word < words_of k
     → ((z : ℕ) (u : Stage) → get_elem? (set w.stages s (further t)) z ≡ some u → StageKept k (set w.words word v) (length w.stages) z u)
-    → ((z : ℕ) → word_at (set w.words word v) (mark_word k z) ≡ entry_of k.size z → IsOut (set w.stages s (further t)) z)
+    → ((z : ℕ) → entry_of k.size z ≤ word_at (set w.words word v) (mark_word k z) → IsOut (set w.stages s (further t)) z)
+    → ((z : ℕ) → IsOut (set w.stages s (further t)) z → entry_of k.size z ≤ word_at (set w.words word v) (mark_word k z))
     → KeepsRule k w → KeepsRule k (sender_brings w p r s t further word v)
-keeps_brings k w p s i r t further word v at has unshown owner low high stages marks K =
+keeps_brings k w p s i r t further word v at has unshown owner low high stages marks marked K =
     let was = K.sent p r at in let us = set w.words word v in let more = set w.stages s (further t) in let wide = K.wide in
     let own = owned k w p r s i t at has K in let inside : s < length w.stages = at_below w.stages s t own.1 in
     let len : length more ≡ length w.stages = length-set w.stages s (further t) in
@@ -253,6 +271,7 @@ keeps_brings k w p s i r t further word v at has unshown owner low high stages m
       room = subst (Room k us) (sym len) (room_stays k w.words us (length w.stages) rises K.room);
       stages = λ z u there. subst (λ (n : ℕ). StageKept k us n z u) (sym len) (stages z u there);
       marks = marks;
+      marked = marked;
       sent = each_set (SenderKept k us more) w.senders p (brought r s further)
           (record {
             number = was.number;
@@ -288,12 +307,24 @@ other_payload k w s z j v t u ne low at unshown there K =
 
 -- marks stay where a payload word is stored
 marks_stay : (k : Shape) (w : World) (s j v : ℕ) (t t' : Stage) → get_elem? w.stages s ≡ some t → t.published ≡ false → KeepsRule k w
-    → (z : ℕ) → word_at (set w.words (payload_word k s j) v) (mark_word k z) ≡ entry_of k.size z → IsOut (set w.stages s t') z
-marks_stay k w s j v t t' at unshown K z is =
-    let x = K.marks z (sym (get_or-set_other w.words (payload_word k s j) (mark_word k z) v 0 (λ e. let pos = K.shape.some_slot in omega arith)) ∙ is) in
+    → (z : ℕ) → entry_of k.size z ≤ word_at (set w.words (payload_word k s j) v) (mark_word k z) → IsOut (set w.stages s t') z
+marks_stay k w s j v t t' at unshown K z le =
+    let other = get_or-set_other w.words (payload_word k s j) (mark_word k z) v 0 (λ e. let pos = K.shape.some_slot in omega arith) in
+    let x = K.marks z (omega arith) in
     elim (cases_eq z s) [
-      | inl e ↦ absurd (let same : t ≡ x.0 = one_value w.stages s t x.0 at (ap (λ (m : ℕ). get_elem? w.stages m) (sym e) ∙ x.1) in let yes : t.published ≡ true = ap (λ (y : Stage). y.published) same ∙ x.2 in cc)
+      | inl e ↦ absurd (let same : t ≡ x.0 = one_value w.stages s t x.0 at (ap (λ (m : ℕ). get_elem? w.stages m) (sym e) ∙ x.1) in
+          let yes : t.published ≡ true = ap (λ (y : Stage). y.published) same ∙ x.2 in cc)
       | inr ne ↦ (x.0, set_else w.stages s z t' x.0 ne x.1, x.2)
+    ]
+
+-- and what is published keeps its mark
+marked_stay : (k : Shape) (w : World) (s j v : ℕ) (t' : Stage) → t'.published ≡ false → KeepsRule k w
+    → (z : ℕ) → IsOut (set w.stages s t') z → entry_of k.size z ≤ word_at (set w.words (payload_word k s j) v) (mark_word k z)
+marked_stay k w s j v t' unshown K z x =
+    let other = get_or-set_other w.words (payload_word k s j) (mark_word k z) v 0 (λ e. let pos = K.shape.some_slot in omega arith) in
+    elim (at_set w.stages s z t' x.0 x.1) [
+      | inl e ↦ absurd (let same : t'.published ≡ x.0.published = ap (λ (y : Stage). y.published) e.1 in let yes = x.2 in cc)
+      | inr old ↦ (let a = K.marked z (x.0, old.1, x.2) in omega arith)
     ]
 
 pub keeps_first : (k : Shape) (w : World) (p s i v : ℕ) (r : SenderRecord) (t : Stage) → get_elem? w.senders p ≡ some r → get_elem? r.own i ≡ some record { sequence = s; stage = t } → t.published ≡ false → KeepsRule k w
@@ -310,7 +341,7 @@ keeps_first k w p s i v r t at has unshown K =
       marked = λ near y. absurd (cc);
     })
     (λ z u ne there. other_payload k w s z 0 v t u ne (omega arith) here unshown there K))
-    (marks_stay k w s 0 v t (half_written v t) here unshown K) K
+    (marks_stay k w s 0 v t (half_written v t) here unshown K) (marked_stay k w s 0 v (half_written v t) unshown K) K
 
 pub keeps_second : (k : Shape) (w : World) (p s i first v : ℕ) (r : SenderRecord) (t : Stage) → get_elem? w.senders p ≡ some r → get_elem? r.own i ≡ some record { sequence = s; stage = t } → t.published ≡ false → t.half ≡ Some first → KeepsRule k w
     → KeepsRule k (sender_brings w p r s t (written record { first = first; second = v }) (payload_word k s 1) v)
@@ -326,7 +357,42 @@ keeps_second k w p s i first v r t at has unshown half K =
       marked = λ near y. absurd (cc);
     })
     (λ z u ne there. other_payload k w s z 1 v t u ne (omega arith) here unshown there K))
-    (marks_stay k w s 1 v t (written event t) here unshown K) K
+    (marks_stay k w s 1 v t (written event t) here unshown K) (marked_stay k w s 1 v (written event t) unshown K) K
+
+-- once a mark is stored, whoever finds it or a later one finds its sequence published
+publishes_marks : (k : Shape) (w : World) (s : ℕ) (t : Stage) → get_elem? w.stages s ≡ some t → mark_word k s < length w.words → t.published ≡ false → KeepsRule k w
+    → (z : ℕ) → entry_of k.size z ≤ word_at (set w.words (mark_word k s) (entry_of k.size s)) (mark_word k z) → IsOut (set w.stages s (published t)) z
+publishes_marks k w s t here wide unshown K z le =
+    let v = entry_of k.size s in let us = set w.words (mark_word k s) v in let inside = at_below w.stages s t here in
+    elim (cases_eq (mark_word k z) (mark_word k s)) [
+      | inl slot ↦ (let found : word_at us (mark_word k z) ≡ v = ap (λ (m : ℕ). word_at us m) slot ∙ get_or-set_same w.words (mark_word k s) v 0 wide in
+          elim (same_or_behind k z s K.shape.some_slot slot (omega arith)) [
+            | inl same ↦ subst (IsOut (set w.stages s (published t))) (sym same) (published t, set_here w.stages s (published t) inside, refl)
+            | inr behind ↦ (let x = out_behind k w z s behind inside K in let pos = K.shape.some_slot in
+                (x.0, set_else w.stages s z (published t) x.0 (λ (e : z ≡ s). omega arith) x.1, x.2))
+          ])
+      | inr other ↦ (let e = get_or-set_other w.words (mark_word k s) (mark_word k z) v 0 other in let x = K.marks z (omega arith) in
+          (x.0, set_else w.stages s z (published t) x.0 (λ (e : z ≡ s). other (ap (mark_word k) e)) x.1, x.2))
+    ]
+
+-- and what is published finds its mark or a later one
+publishes_marked : (k : Shape) (w : World) (s : ℕ) (t : Stage) → get_elem? w.stages s ≡ some t → mark_word k s < length w.words → t.published ≡ false → KeepsRule k w
+    → (z : ℕ) → IsOut (set w.stages s (published t)) z → entry_of k.size z ≤ word_at (set w.words (mark_word k s) (entry_of k.size s)) (mark_word k z)
+publishes_marked k w s t here wide unshown K z x =
+    let v = entry_of k.size s in let us = set w.words (mark_word k s) v in let near = near_open k w s t here unshown K in let pos = K.shape.some_slot in
+    elim (cases_eq (mark_word k z) (mark_word k s)) [
+      | inl slot ↦ (let found : word_at us (mark_word k z) ≡ v = ap (λ (m : ℕ). word_at us m) slot ∙ get_or-set_same w.words (mark_word k s) v 0 wide in
+          let claimed : z < length w.stages = (let b = at_below (set w.stages s (published t)) z x.0 x.1 in let l = length-set w.stages s (published t) in omega arith) in
+          elim (cases_lt s z) [
+            | inl after ↦ absurd (own_slot k s z (λ e. omega arith) (omega arith) (omega arith) (omega arith))
+            | inr before ↦ (let a = rounds_rise z s k.size pos before in omega arith)
+          ])
+      | inr other ↦ (let e = get_or-set_other w.words (mark_word k s) (mark_word k z) v 0 other in
+          elim (at_set w.stages s z (published t) x.0 x.1) [
+            | inl same ↦ absurd (other (ap (mark_word k) same.0))
+            | inr old ↦ (let a = K.marked z (x.0, old.1, x.2) in omega arith)
+          ])
+    ]
 
 pub keeps_publishes : (k : Shape) (w : World) (p s i : ℕ) (r : SenderRecord) (t : Stage) (event : Event) → get_elem? w.senders p ≡ some r → get_elem? r.own i ≡ some record { sequence = s; stage = t } → t.published ≡ false → t.half ≡ None → t.event ≡ Some event → KeepsRule k w
     → KeepsRule k (sender_brings w p r s t published (mark_word k s) (entry_of k.size s))
@@ -345,14 +411,7 @@ keeps_publishes k w p s i r t event at has unshown none whole K =
     })
     (λ z u ne there. let b = at_below w.stages z u there in stage_stays k w.words us (length w.stages) z u
     (λ close. (payload z 0, payload z 1, get_or-set_other w.words (mark_word k s) (mark_word k z) v 0 (λ e. own_slot k z s ne (omega arith) (omega arith) (omega arith)))) (K.stages z u there)))
-    (λ z is. elim (cases_eq (mark_word k z) (mark_word k s)) [
-      | inl slot ↦ (
-          let found : v ≡ entry_of k.size z = sym (get_or-set_same w.words (mark_word k s) v 0 (omega arith)) ∙ ap (λ (m : ℕ). word_at us m) (sym slot) ∙ is in
-          let same : z ≡ s = same_sequence k z s pos slot (sym found) in
-          subst (IsOut (set w.stages s (published t))) (sym same) (published t, set_here w.stages s (published t) inside, refl))
-      | inr other ↦ (let x = K.marks z (sym (get_or-set_other w.words (mark_word k s) (mark_word k z) v 0 other) ∙ is) in
-          (x.0, set_else w.stages s z (published t) x.0 (λ (e : z ≡ s). other (ap (mark_word k) e)) x.1, x.2))
-    ]) K
+    (publishes_marks k w s t here (omega arith) unshown K) (publishes_marked k w s t here (omega arith) unshown K) K
 
 -- a receiver looks at an upstream's count
 pub keeps_receiver_looks : (k : Shape) (w : World) (h i : ℕ) (r : ReceiverRecord) → 0 < i → i < mark_start k → get_elem? w.receivers h ≡ some r → KeepsRule k w → KeepsRule k (receiver_knows w h (receiver_looked r i (word_at w.words i)))
@@ -404,7 +463,7 @@ keeps_mark_look k w h r at K = let was = K.received h r at in let n = word_at w.
     | inl e ↦ (let P : Bool → Type 0 = λ b. (s : ℕ) → s < (if b then r.seen + 1 else r.seen) → IsOut w.stages s in
         subst P (sym (eq-eqb n (entry_of k.size r.seen) e)) (λ s lt. elim (cases_lt s r.seen) [
           | inl old ↦ was.seen s old
-          | inr new ↦ (let same : r.seen ≡ s = omega arith in subst (IsOut w.stages) same (K.marks r.seen e))
+          | inr new ↦ (let same : r.seen ≡ s = omega arith in subst (IsOut w.stages) same (K.marks r.seen (omega arith)))
         ]))
     | inr ne ↦ (let P : Bool → Type 0 = λ b. (s : ℕ) → s < (if b then r.seen + 1 else r.seen) → IsOut w.stages s in
         subst P (sym (ne_eqb n (entry_of k.size r.seen) ne)) was.seen)
@@ -481,7 +540,8 @@ keeps_completes k w h n r at rise le K =
       limit = K.limit;
       room = room_stays k w.words us (length w.stages) rises K.room;
       stages = λ s t there. stage_stays k w.words us (length w.stages) s t (λ _. (stays (payload_word k s 0) (λ e. omega arith), stays (payload_word k s 1) (λ e. omega arith), stays (mark_word k s) (λ e. omega arith))) (K.stages s t there);
-      marks = λ s is. K.marks s (sym (stays (mark_word k s) (λ e. omega arith)) ∙ is);
+      marks = λ s low. K.marks s (let e = stays (mark_word k s) (λ e. omega arith) in omega arith);
+      marked = λ s x. (let a = K.marked s x in let e = stays (mark_word k s) (λ e. omega arith) in omega arith);
       sent = λ p q there. sender_stays k w.words us w.stages w.stages p q rises (λ s t x _. x) (K.sent p q there);
       received = each_set (ReceiverKept k us w.stages) w.receivers h (completed_to r n)
           (record {

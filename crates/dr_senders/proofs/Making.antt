@@ -1,5 +1,5 @@
 -- A new ring's ends.
-use Rattle.std.proofs.Common.{◌≡◌, ℕ, zero, suc, ◌+◌, ◌-◌, ◌<◌, List, [], ◌∷◌, ◌++◌, map, length, take, drop, replicate, sym, refl, ap, ◌∙◌, subst, arith, append_assoc}
+use Rattle.std.proofs.Common.{◌≡◌, ℕ, suc, ◌+◌, ◌-◌, ◌<◌, List, [], ◌∷◌, ◌++◌, map, length, take, drop, replicate, sym, refl, ap, ◌∙◌, subst, arith, append_assoc}
 use Rattle.std.proofs.lemmas.List.{length-replicate}
 use Rattle.atomic_table.specs.Seated.{TableId}
 use Rattle.dr_senders.specs.Meaning.Shape.{Shape, handlers_of}
@@ -9,7 +9,7 @@ use Rattle.dr_senders.specs.declared.record.ReceiverRecord.{ReceiverRecord}
 use Rattle.dr_senders.specs.declared.record.EndRecord.{EndRecord}
 use Rattle.dr_senders.specs.declared.record.EndRecord.TheVariants.{Sends, Receives}
 use Rattle.dr_senders.specs.Meaning.Moments.{fresh_sender, fresh_senders, fresh_receiver, fresh_receivers}
-use Rattle.dr_senders.specs.Inside.Seats.{End, Sitting, KnownEnds, seat_at, IsAtTable, alone, as_sender, as_receiver, receiver_of, known_senders, known_receivers, fresh_seat}
+use Rattle.dr_senders.specs.Inside.Seats.{Sitting, KnownEnds, seat_at, IsAtTable, alone, receiver_of, known_senders, known_receivers, fresh_seat}
 use Rattle.dr_senders.specs.Calls.Ends.{EndOf, SenderEnd, ReceiverEnd}
 use Rattle.dr_senders.specs.Inside.Stations.{sender_end, receiver_end, IsKeyed, SenderSits, ReceiverSits}
 use Rattle.dr_senders.specs.Inside.Fits.{ReceiverFits}

@@ -29,14 +29,14 @@ use Rattle.dr_senders.specs.declared.record.Stage.{Stage}
 use Rattle.dr_senders.specs.declared.record.SenderRecord.{SenderRecord}
 use Rattle.dr_senders.specs.declared.record.ReceiverRecord.{ReceiverRecord}
 use Rattle.dr_senders.specs.declared.record.Step.{Step}
-use Rattle.dr_senders.specs.declared.record.Step.TheVariants.{SenderLooksAtClaims, SenderLooksAtCount, SenderClaims, SenderStoresFirst, SenderStoresSecond, SenderPublishes, SenderHalts, ReceiverLooksAtClaims, ReceiverLooksAtMark, ReceiverLooksAtCount, ReceiverLoadsFirst, ReceiverLoadsSecond, ReceiverCompletes, HalterHalts}
+use Rattle.dr_senders.specs.declared.record.Step.TheVariants.{SenderLooksAtClaims, SenderLooksAtCount, SenderClaims, SenderStoresFirst, SenderStoresSecond, SenderPublishes, SenderLooksAtMark, SenderHalts, ReceiverLooksAtClaims, ReceiverLooksAtMark, ReceiverLooksAtCount, ReceiverLoadsFirst, ReceiverLoadsSecond, ReceiverCompletes, HalterHalts}
 use Rattle.dr_senders.specs.Meaning.Records.{fresh_stage, half_written, written, published, sender_looked, receiver_looked, claims_looked, mark_looked, half_taken, took, completed_to, SeesRoom, IsBelowBarrier}
 use Rattle.dr_senders.specs.Meaning.Rule.{World, IsOutWith, KeepsRule}
 use Rattle.dr_senders.specs.Meaning.Steps.{Happens, sender_knows, sender_claims, sender_brings, receiver_knows, halted_words}
 use Rattle.dr_senders.specs.Meaning.Moments.{fresh_receiver, taken_of, stage_at, picture_of, write_of, receiver_at, entries_of, Runs, told_by_claims, told_gated, is_unmarked}
 use Rattle.dr_senders.proofs.Places.{word_at, claimed_low, halted_low, is_halted_from, last_look_le}
 use Rattle.dr_senders.proofs.Facts.{receiver_of_handler, handler_inside, orderly, upstream_inside, early, taken_claimed, owned, above}
-use Rattle.dr_senders.proofs.Keeps.{keeps_sender_looks, keeps_claims, keeps_sender_halts, keeps_halter_halts, keeps_first, keeps_second, keeps_publishes, keeps_receiver_looks, keeps_claims_look, keeps_mark_look, keeps_half_taken, taken_event, keeps_takes, keeps_completes}
+use Rattle.dr_senders.proofs.Keeps.{keeps_sender_looks, keeps_mark_found, keeps_claims, keeps_sender_halts, keeps_halter_halts, keeps_first, keeps_second, keeps_publishes, keeps_receiver_looks, keeps_claims_look, keeps_mark_look, keeps_half_taken, taken_event, keeps_takes, keeps_completes}
 use Rattle.dr_senders.proofs.Machine.{shown, at_stage, same_owners, same_part, claim_step, write_step, publish_step, take_step, drained_step, complete_step, front_within, front_beyond, idle_step, gating_step, front_at_most}
 
 keeps_exchange : (k : Shape) (w : World) (p c n : ℕ) (r : SenderRecord) → get_elem? w.senders p ≡ some r → 0 < n → SeesRoom k r c n → KeepsRule k w
@@ -55,6 +55,7 @@ keeps_step k (SenderClaims p c n) w u H K = subst (KeepsRule k) (sym H.2.2) (kee
 keeps_step k (SenderStoresFirst p s v) w u H K = subst (KeepsRule k) (sym H.2.3) (keeps_first k w p s H.2.1.0 v H.0 H.2.0 H.1 H.2.1.1 H.2.2 K)
 keeps_step k (SenderStoresSecond p s v) w u H K = subst (KeepsRule k) (sym H.2.3.2) (keeps_second k w p s H.2.1.0 H.2.3.0 v H.0 H.2.0 H.1 H.2.1.1 H.2.2 H.2.3.1 K)
 keeps_step k (SenderPublishes p s) w u H K = subst (KeepsRule k) (sym H.2.3.3) (keeps_publishes k w p s H.2.1.0 H.0 H.2.0 H.2.3.1 H.1 H.2.1.1 H.2.2 H.2.3.0 H.2.3.2 K)
+keeps_step k (SenderLooksAtMark p s) w u H K = subst (KeepsRule k) (sym H.2) (keeps_mark_found k w p (word_at w.words (mark_word k s)) H.0 H.1 K)
 keeps_step k (SenderHalts p) w u H K = subst (KeepsRule k) (sym H.2) (keeps_sender_halts k w p H.0 H.1 K)
 keeps_step k (ReceiverLooksAtClaims h) w u H K = subst (KeepsRule k) (sym H.2) (keeps_claims_look k w h H.0 H.1 K)
 keeps_step k (ReceiverLooksAtMark h) w u H K = subst (KeepsRule k) (sym H.2) (keeps_mark_look k w h H.0 H.1 K)
@@ -361,6 +362,7 @@ lead_step k (SenderStoresSecond p s v) w u H K = let own = owned k w p H.0 s H.2
     subst (λ (x : World). Leads k (write_of p s (stage_at w.stages s).half v) (picture_of k w) (picture_of k x)) (sym H.2.3.2) (lead_second k w p s H.2.3.0 v H.0 H.2.0 (sender_inside k w p H.0 H.1 K) own.1 own.0 H.2.2 H.2.3.1)
 lead_step k (SenderPublishes p s) w u H K = let own = owned k w p H.0 s H.2.1.0 H.2.0 H.1 H.2.1.1 K in
     subst (λ (x : World). Leads k (entry (Publish p s s) Published []) (picture_of k w) (picture_of k x)) (sym H.2.3.3) (lead_publish k w p s H.0 H.2.0 H.2.3.1 (sender_inside k w p H.0 H.1 K) own.1 own.0 H.2.2 H.2.3.2)
+lead_step k (SenderLooksAtMark p s) w u H K = ap (picture_of k) (sym H.2)
 lead_step k (SenderHalts p) w u H K = subst (λ (x : World). Leads k (entry Halt Halting []) (picture_of k w) (picture_of k x)) (sym H.2) (lead_halt k w K)
 lead_step k (ReceiverLooksAtClaims h) w u H K =
     let n = word_at w.words claim_word in

@@ -2,6 +2,7 @@
 use Rattle.std.proofs.Common.{◌≡◌, ◌≢◌, ℕ, zero, suc, ◌+◌, ◌*◌, ◌/◌, ◌%◌, ◌<◌, ◌≤◌, ◌⊎◌, inl, inr, true, false, ◌==◌, if◌then◌else◌, List, [], ◌∷◌, ◌++◌, map, length, get_or, set, replicate, sym, refl, ap, ◌∙◌, subst, arith, get_or-set_same, get_or-set_other}
 use Rattle.std.proofs.lemmas.Bool.{cases_eq, cases_lt, eq-eqb, ne_eqb, lt-ltb, le-ltb, le-leb, lt-leb}
 use Rattle.std.proofs.lemmas.Nat.{div-add-mod'}
+use Rattle.std.proofs.Math.Nat.{mod-lt, mul-le-mul_right}
 use mathlib.Core.Option.{some, some-injective, some-ne-none}
 use lib.ListN.{get_elem?}
 use Rattle.atomic_table.proofs.Lists.{at_snoc, one_turn}
@@ -132,3 +133,21 @@ same_sequence k a b pos slot round =
     let n = k.size in let p = div-add-mod' a n in let q = div-add-mod' b n in
     let same : a / n ≡ b / n = omega arith in let rest : a % n ≡ b % n = omega arith in
     sym p ∙ (λ i. same i * n + rest i) ∙ q
+
+-- a later sequence has no earlier round
+pub rounds_rise : (a b size : ℕ) → 0 < size → a ≤ b → entry_of size a ≤ entry_of size b
+rounds_rise a b size pos le =
+    let p = div-add-mod' a size in let q = div-add-mod' b size in let r = mod-lt b pos in
+    elim (cases_lt (b / size) (a / size)) [
+      | inl lt ↦ absurd (let m : (b / size + 1) * size ≤ a / size * size = mul-le-mul_right size (let x : b / size + 1 ≤ a / size = omega arith in x) in omega (arith, m, p, q, r))
+      | inr ge ↦ omega arith
+    ]
+
+-- of two sequences in one slot, the one with the lesser mark is a round or more behind
+pub same_or_behind : (k : Shape) (a b : ℕ) → 0 < k.size → mark_word k a ≡ mark_word k b → entry_of k.size a ≤ entry_of k.size b → (a ≡ b) ⊎ (a + k.size ≤ b)
+same_or_behind k a b pos slot le =
+    let n = k.size in let p = div-add-mod' a n in let q = div-add-mod' b n in let rest : a % n ≡ b % n = omega arith in
+    elim (cases_lt (a / n) (b / n)) [
+      | inl lt ↦ inr (let m : (a / n + 1) * n ≤ b / n * n = mul-le-mul_right n (let x : a / n + 1 ≤ b / n = omega arith in x) in omega (arith, m, p, q, rest))
+      | inr ge ↦ inl (same_sequence k a b pos slot (omega arith))
+    ]

@@ -1,6 +1,5 @@
 -- What looks at counts come to.
-use Rattle.std.proofs.Common.{◌≡◌, ◌≢◌, ℕ, zero, suc, ◌+◌, ◌<◌, ◌≤◌, ◌⊎◌, inl, inr, true, false, List, [], ◌∷◌, ◌++◌, length, get_or, take, sym, refl, ap, ◌∙◌, subst, arith, append_assoc}
-use Rattle.std.specs.Prelude.{Contains}
+use Rattle.std.proofs.Common.{◌≡◌, ℕ, zero, suc, ◌+◌, ◌<◌, ◌≤◌, ◌⊎◌, inl, inr, true, false, List, [], ◌∷◌, ◌++◌, length, get_or, take, sym, refl, ap, ◌∙◌, subst, arith, append_assoc}
 use Rattle.std.proofs.lemmas.Bool.{cases_eq, cases_lt}
 use Rattle.std.proofs.lemmas.List.{length-append, append-nil, get_or_append_left}
 use Rattle.dr_graph.specs.Meaning.Graph.{finals}
@@ -12,7 +11,7 @@ use Rattle.dr_senders.specs.Meaning.Words.{count_word}
 use Rattle.dr_senders.specs.declared.record.SenderRecord.{SenderRecord}
 use Rattle.dr_senders.specs.Meaning.Records.{sender_looked}
 use Rattle.dr_senders.specs.Calls.Ends.{count_looks}
-use Rattle.dr_senders.specs.Inside.Parts.{sender_saw, IsEnough, Found, Scans}
+use Rattle.dr_senders.specs.Inside.Parts.{sender_saw, Scans}
 
 -- one look more
 pub looks_more : (hs counts : List ℕ) (i v : ℕ) → length counts ≡ i → i < length hs

@@ -11,6 +11,7 @@
 mod claiming;
 pub mod laws;
 mod opening;
+mod owned;
 mod plan;
 mod polling;
 mod receiver;

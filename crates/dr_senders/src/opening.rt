@@ -12,6 +12,7 @@ ghost use Rattle.dr_senders.specs.Inside.Stations.{IsKeyed};
 ghost use Rattle.dr_senders.specs.Calls.Making.{at_ring, AreFreshEnds, fault_of};
 
 use crate::laws::{Halter, ReceiverStation, RingBody, RingSeat, RingTable, SenderStation};
+use crate::owned::Owned;
 use crate::plan::Plan;
 use crate::receiver::Receiver;
 use crate::record::View;
@@ -52,13 +53,14 @@ fn senders(
     for number in 0..count {
         let next = ring.table.shared.split_seat::<Cut>(&mut rest);
         let own = Arc::try_clone(ring)?;
+        let owned = Owned::new(alloc, ring.plan.size())?;
         let station = SenderStation {
             ring: own,
             seat: rest,
             number,
             looks: 0,
         };
-        senders.push(Sender { station })?;
+        senders.push(Sender { station, owned })?;
         rest = next;
     }
     Ok((senders, rest))

@@ -19,10 +19,12 @@ pub struct Own {
     pub stage: Stage,
 }
 
-/// What a sender knows: its number, and the sequences that it claimed.
+/// What a sender knows: its number, the sequences that it claimed, and what it found at each look
+/// at a mark.
 pub struct SenderRecord {
     pub number: u64,
     pub own: LinkedList<Own>,
+    pub marks: LinkedList<u64>,
     pub looks: LinkedList<Look>,
 }
 
@@ -73,6 +75,11 @@ pub enum Step {
     },
     /// A sender stores the mark of one of its sequences.
     SenderPublishes {
+        sender: u64,
+        sequence: u64,
+    },
+    /// A sender looks at the mark in a sequence's slot.
+    SenderLooksAtMark {
         sender: u64,
         sequence: u64,
     },

@@ -28,6 +28,16 @@ ReceiverEnd = EndOf ReceiverRecord
 abbrev pub HalterEnd : Type 0
 HalterEnd = EndOf HalterRecord
 
+-- which end it is: of which ring, made for what, and its number
+abbrev pub EndPlace : Type 0
+EndPlace = TableId × Shape × ℕ
+
+abbrev pub sender_place : SenderEnd → EndPlace
+sender_place e = (e.ring, e.plan, e.knows.number)
+
+abbrev pub receiver_place : ReceiverEnd → EndPlace
+receiver_place e = (e.ring, e.plan, e.knows.number)
+
 -- an end is still of this ring, and the plan that it was made for
 abbrev pub Stays : {K : Type 0} → EndOf K → EndOf K → Type 0
 Stays e e' = (e'.ring ≡ e.ring) × (e'.plan ≡ e.plan)

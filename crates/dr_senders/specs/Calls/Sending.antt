@@ -2,6 +2,8 @@
 use Rattle.std.specs.Prelude.{◌≡◌, ◌≢◌, ℕ, ◌+◌, ◌-◌, ◌^◌, ◌<◌, ◌≤◌, ◌⊎◌, true, false, List, [], ◌∷◌, ◌++◌, length, slice_index, Result, Ok, Err}
 use Rattle.dr_core.specs.declared.refusal.Refusal.TheVariants.{NoRoom, Halted, BadCount, Exhausted}
 use Rattle.dr_core.specs.declared.command.Claimed.{Claimed}
+use Rattle.dr_core.specs.declared.ends.Trouble.{Trouble}
+use Rattle.dr_core.specs.declared.ends.Trouble.TheVariants.{Refused as IsRefused, Memory}
 use Rattle.dr_graph.specs.Meaning.Graph.{finals}
 use Rattle.dr_ring.specs.declared.record.Look.{Look}
 use Rattle.dr_ring.specs.Meaning.Records.{look}
@@ -40,11 +42,20 @@ pub record FoundNoRoom (k : Shape) (c n : ℕ) (counts : List ℕ) : Type 0 wher
   pub room : (i : ℕ) → i < before → LeavesRoom k c n (slice_index counts i)
   pub behind : k.size + slice_index counts before < c + n
 
+-- a claim is of some sequences, at most as many as there are slots
+abbrev pub IsCount : Shape → ℕ → Type 0
+IsCount k n = (0 < n) × (n ≤ k.size)
+
+-- a bad count is refused before all else
+abbrev pub Counts : Shape → ℕ → Result Claimed ClaimFault → Type 0
+Counts k n (Err (Refused BadCount)) = (n ≡ 0) ⊎ (k.size < n)
+Counts k n _ = IsCount k n
+
 -- where a claim looked, and what it found: at the claim word first, then at the finals' counts, and by its exchange at the claim word again, by which it is decided
 abbrev pub LooksToClaim : Shape → ℕ → List Look → Result Claimed ClaimFault → Type 0
 LooksToClaim k n seen (Ok c) =
     (counts : List ℕ) × FoundRoom k c.lo n counts × (c.hi ≡ c.lo + n - 1) × (seen ≡ look claim_word c.lo ∷ gate_looks k counts ++ look claim_word (c.lo + n) ∷ [])
-LooksToClaim k n seen (Err (Refused BadCount)) = ((n ≡ 0) ⊎ (k.size < n)) × (seen ≡ [])
+LooksToClaim k n seen (Err (Refused BadCount)) = seen ≡ []
 LooksToClaim k n seen (Err (Refused Halted)) =
     (found : ℕ) × (is_halted found ≡ true) × ((seen ≡ look claim_word found ∷ [])
     ⊎ ((c : ℕ) × (counts : List ℕ) × FoundRoom k c n counts × (seen ≡ look claim_word c ∷ gate_looks k counts ++ look claim_word found ∷ [])))
@@ -69,6 +80,7 @@ Exchanges r n steps (Err Contended) = (c : ℕ) × (steps ≡ SenderClaims r.num
 
 pub record ClaimCall (e : SenderEnd) (n : ℕ) (e' : SenderEnd) (result : Result Claimed ClaimFault) : Type 0 where
   pub stays : Stays e e'
+  pub counts : Counts e.plan n result
   pub seen : List Look
   pub looks : LooksToClaim e.plan n seen result
   pub knows : e'.knows ≡ knows_after e.knows n seen result
@@ -77,3 +89,10 @@ pub record ClaimCall (e : SenderEnd) (n : ℕ) (e' : SenderEnd) (result : Result
   pub exchanges : Exchanges e.knows n steps result
   -- so no sequence reaches 2^62
   pub few : e.plan.limit ≤ 2 ^ 62
+
+-- A claim as an exchange's end answers it: where another sender claimed meanwhile, nothing is known of the room, and the claim may be tried again as after `NoRoom`.
+abbrev pub ClaimsAsEnd : SenderEnd → ℕ → SenderEnd → Result Claimed Trouble → Type 0
+ClaimsAsEnd e n e' (Ok c) = ClaimCall e n e' (Ok c)
+ClaimsAsEnd e n e' (Err (IsRefused NoRoom)) = ClaimCall e n e' (Err (Refused NoRoom)) ⊎ ClaimCall e n e' (Err Contended)
+ClaimsAsEnd e n e' (Err (IsRefused refusal)) = ClaimCall e n e' (Err (Refused refusal))
+ClaimsAsEnd e n e' (Err Memory) = ⊥

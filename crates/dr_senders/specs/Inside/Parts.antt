@@ -1,21 +1,26 @@
 -- What the loops of the ends' calls come to.
-use Rattle.std.specs.Prelude.{◌≡◌, ◌≢◌, ℕ, ◌+◌, ◌<◌, ◌≤◌, ◌||◌, Bool, nat_lt, if◌then◌else◌, true, false, List, [], ◌∷◌, ◌++◌, length, slice_index, Contains}
+use Rattle.std.specs.Prelude.{◌≡◌, ◌≢◌, ℕ, ◌+◌, ◌-◌, ◌<◌, ◌≤◌, ◌||◌, Bool, nat_lt, nat_le, if◌then◌else◌, true, false, List, [], ◌∷◌, ◌++◌, length, slice_index, None, Contains}
 use Rattle.dr_seq.specs.declared.event.Event.{Event}
 use Rattle.dr_seq.specs.Rounds.{entry_of}
+use Rattle.dr_core.specs.declared.refusal.Refusal.{Refusal}
+use Rattle.dr_core.specs.declared.refusal.Refusal.TheVariants.{NotClaimed, AlreadyPublished}
 use Rattle.dr_core.specs.declared.command.Polled.{Polled}
 use Rattle.dr_core.specs.declared.command.Polled.TheVariants.{Drained, Gating, Idle}
-use Rattle.dr_graph.specs.Meaning.Graph.{upstreams_of, finals}
+use Rattle.dr_graph.specs.Meaning.Graph.{finals}
 use Rattle.dr_ring.specs.declared.record.Look.{Look}
 use Rattle.dr_ring.specs.Meaning.Records.{last_look}
 use Rattle.dr_senders.specs.Meaning.Shape.{Shape}
-use Rattle.dr_senders.specs.Meaning.Words.{count_word}
+use Rattle.dr_senders.specs.Meaning.Words.{claim_word, claimed_in, count_word}
+use Rattle.dr_senders.specs.declared.record.Stage.{Stage}
 use Rattle.dr_senders.specs.declared.record.SenderRecord.{SenderRecord}
 use Rattle.dr_senders.specs.declared.record.ReceiverRecord.{ReceiverRecord}
 use Rattle.dr_senders.specs.declared.record.Step.TheVariants.{SenderStoresFirst, SenderStoresSecond}
-use Rattle.dr_senders.specs.Meaning.Records.{half_written, written, brought}
+use Rattle.dr_senders.specs.Meaning.Records.{Owns, half_written, written, brought, sender_looked, mark_found}
 use Rattle.dr_senders.specs.Meaning.Moments.{IsBeginning}
-use Rattle.dr_senders.specs.Calls.Ends.{SenderEnd, Stays, count_looks}
+use Rattle.dr_senders.specs.Calls.Ends.{SenderEnd, Stays, HasLoaded, count_looks}
+use Rattle.dr_senders.specs.Calls.Writing.{published_between, publications}
 use Rattle.dr_senders.specs.Calls.Receiving.{offered_by, walked, WalksTo, ups_of}
+use Rattle.dr_senders.specs.Inside.Seats.{FindsMark, IsEarlier}
 
 -- a sender has made these looks more
 abbrev pub sender_saw : SenderRecord → List Look → SenderRecord
@@ -104,3 +109,26 @@ abbrev pub HasWritten : SenderEnd → ℕ → Event → SenderEnd → Type 0
 HasWritten e s event e' =
     Stays e e' × (e'.knows ≡ brought (brought e.knows s (half_written event.first)) s (written event)) × IsBeginning e.past e'.past
     × (e'.stored ≡ e.stored ++ SenderStoresFirst e.knows.number s event.first ∷ SenderStoresSecond e.knows.number s event.second ∷ [])
+
+-- whether the last sequence of a stretch is claimed: its sender has it, or looks at the claim word
+abbrev pub Reaches : SenderEnd → Bool → ℕ → SenderEnd → Bool → Type 0
+Reaches e true hi e' result = HasLoaded e e.knows e' × (result ≡ true)
+Reaches e false hi e' result = (found : ℕ) × HasLoaded e (sender_looked e.knows claim_word found) e' × (result ≡ nat_lt hi (claimed_in found))
+
+-- why a sequence is refused that a sender has not, or only published: by the mark in its slot
+abbrev pub RefusesBy : SenderEnd → ℕ → SenderEnd → Refusal → Type 0
+RefusesBy e s e' refusal = (m : ℕ) × HasLoaded e (mark_found e.knows m) e' × FindsMark e.plan e.knows s m
+    × (refusal ≡ (if nat_le (entry_of e.plan.size s) m then AlreadyPublished else NotClaimed))
+
+-- no sequence of a sender is half written
+abbrev pub AreWhole : SenderRecord → Type 0
+AreWhole r = (s : ℕ) (t : Stage) → Owns r s t → t.half ≡ None
+
+-- a sender has published the sequences from lo up to before `upto`, one after the other
+abbrev pub HasPublished : SenderEnd → ℕ → ℕ → SenderEnd → Type 0
+HasPublished e lo upto e' =
+    Stays e e' × (e'.knows ≡ published_between e.knows lo upto) × IsBeginning e.past e'.past × (e'.stored ≡ e.stored ++ publications e.knows.number lo (upto - lo))
+
+-- what a claim that is given tells of the sequences that the sender had
+abbrev pub ClaimsApart : SenderEnd → ℕ → ℕ → Type 0
+ClaimsApart e lo n = (s : ℕ) (t : Stage) → Owns e.knows s t → IsEarlier e.plan lo (lo + n) s t

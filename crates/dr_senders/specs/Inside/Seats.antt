@@ -1,15 +1,17 @@
 -- The rule of a ring as its table's rule: each end stands in one seat's view, at one place of it, with what it saw of the run.
-use Rattle.std.specs.Prelude.{◌≡◌, ℕ, ◌+◌, ◌-◌, ◌*◌, ◌≤◌, ◌==◌, if◌then◌else◌, Bool, true, false, List, [], ◌∷◌, ◌++◌, length, map, filter, Some}
+use Rattle.std.specs.Prelude.{◌≡◌, ℕ, ◌+◌, ◌-◌, ◌*◌, ◌<◌, ◌≤◌, ◌==◌, if◌then◌else◌, Bool, true, false, List, [], ◌∷◌, ◌++◌, length, map, filter, Some}
 use mathlib.Core.Option.{some}
 use lib.ListN.{get_elem?}
 use Rattle.atomic_table.specs.Table.{State, Me}
 use Rattle.atomic_table.specs.Table.{Step as TableStep}
 use Rattle.atomic_table.specs.Seated.{TableId}
+use Rattle.dr_seq.specs.Rounds.{entry_of}
 use Rattle.dr_core.specs.Meaning.Transcript.{Transcript}
 use Rattle.dr_ring.specs.declared.record.Look.{Look}
 use Rattle.dr_ring.specs.Meaning.Records.{last_look}
 use Rattle.dr_senders.specs.Meaning.Shape.{Shape, IsShape, handlers_of}
 use Rattle.dr_senders.specs.Meaning.Words.{claim_word, claimed_in, is_halted, halted_from, words_of}
+use Rattle.dr_senders.specs.declared.record.Stage.{Stage}
 use Rattle.dr_senders.specs.declared.record.SenderRecord.{SenderRecord}
 use Rattle.dr_senders.specs.declared.record.ReceiverRecord.{ReceiverRecord}
 use Rattle.dr_senders.specs.declared.record.HalterRecord.{HalterRecord}
@@ -18,7 +20,7 @@ use Rattle.dr_senders.specs.declared.record.EndRecord.TheVariants.{Sends, Receiv
 use Rattle.dr_senders.specs.declared.record.Step.{Step}
 use Rattle.dr_senders.specs.declared.record.Step.TheVariants.{SenderClaims, SenderStoresFirst, SenderStoresSecond, SenderPublishes, SenderHalts, ReceiverCompletes, HalterHalts}
 use Rattle.dr_senders.specs.declared.record.View.{View}
-use Rattle.dr_senders.specs.Meaning.Records.{half_written, written, published, brought, sender_looked, claimed_from, receiver_looked, claims_looked, mark_looked, half_taken, took, completed_to, halter_halted}
+use Rattle.dr_senders.specs.Meaning.Records.{Owns, half_written, written, published, brought, sender_looked, mark_found, claimed_from, receiver_looked, claims_looked, mark_looked, half_taken, took, completed_to, halter_halted}
 use Rattle.dr_senders.specs.Meaning.Rule.{World}
 use Rattle.dr_senders.specs.Meaning.Moments.{fresh_sender, fresh_senders, fresh_receiver, fresh_receivers, new_world, Runs, IsBeginning}
 
@@ -204,6 +206,14 @@ FindsClaims r n = (last_look 0 r.looks claim_word ≤ n) × (length r.received �
 abbrev pub FindsEvents : ReceiverRecord → ℕ → ℕ → Type 0
 FindsEvents r word n = (last_look 0 r.looks word ≤ n) × (length r.received ≤ n) × (r.told ≡ true → n ≤ length r.received)
 
+-- a sequence that a sender has is claimed before another claim from c up to n, and published where that takes its slot
+abbrev pub IsEarlier : Shape → ℕ → ℕ → ℕ → Stage → Type 0
+IsEarlier k c n s t = (s < c) × (t.published ≡ false → n ≤ s + k.size)
+
+-- the mark of a sender's own sequence is there once it is published
+abbrev pub FindsMark : Shape → SenderRecord → ℕ → ℕ → Type 0
+FindsMark k r s n = (t : Stage) → Owns r s t → t.published ≡ true → entry_of k.size s ≤ n
+
 -- a sender's exchange of c for c + n claims where it finds c, and is a look where it finds another number
 abbrev pub after_exchange : SenderRecord → ℕ → ℕ → ℕ → SenderRecord
 after_exchange r c n found = if found == c then claimed_from r c n else sender_looked r claim_word found
@@ -212,8 +222,10 @@ after_exchange r c n found = if found == c then claimed_from r c n else sender_l
 abbrev pub SenderLooked : TableStep ℕ → End → ℕ → End → Type 0
 SenderLooked s me n me' = (me' ≡ as_sender (sender_looked (sender_of me.0) s.word n)) × FindsMore (sender_of me.0).looks s.word n
 
-abbrev pub SenderClaimed : TableStep ℕ → End → ℕ → End → Type 0
-SenderClaimed s me n me' = (me' ≡ as_sender (after_exchange (sender_of me.0) s.first (s.second - s.first) n)) × FindsMore (sender_of me.0).looks claim_word n
+abbrev pub SenderClaimed : Shape → TableStep ℕ → End → ℕ → End → Type 0
+SenderClaimed k s me n me' =
+    (me' ≡ as_sender (after_exchange (sender_of me.0) s.first (s.second - s.first) n)) × FindsMore (sender_of me.0).looks claim_word n
+    × (n ≡ s.first → (z : ℕ) (t : Stage) → Owns (sender_of me.0) z t → IsEarlier k s.first s.second z t)
 
 abbrev pub SenderStoredFirst : ℕ → TableStep ℕ → End → ℕ → End → Type 0
 SenderStoredFirst sequence s me n me' = me' ≡ as_sender (brought (sender_of me.0) sequence (half_written n))
@@ -223,6 +235,9 @@ SenderStoredSecond sequence first s me n me' = me' ≡ as_sender (brought (sende
 
 abbrev pub SenderPublished : ℕ → TableStep ℕ → End → ℕ → End → Type 0
 SenderPublished sequence s me n me' = me' ≡ as_sender (brought (sender_of me.0) sequence published)
+
+abbrev pub SenderLookedAtMark : Shape → ℕ → TableStep ℕ → End → ℕ → End → Type 0
+SenderLookedAtMark k sequence s me n me' = (me' ≡ as_sender (mark_found (sender_of me.0) n)) × FindsMark k (sender_of me.0) sequence n
 
 abbrev pub SenderHalted : TableStep ℕ → End → ℕ → End → Type 0
 SenderHalted s me n me' = me' ≡ as_sender (sender_looked (sender_of me.0) claim_word (halted_from n))

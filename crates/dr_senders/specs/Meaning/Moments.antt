@@ -16,13 +16,13 @@ use Rattle.dr_senders.specs.declared.record.Stage.{Stage}
 use Rattle.dr_senders.specs.declared.record.SenderRecord.{SenderRecord}
 use Rattle.dr_senders.specs.declared.record.ReceiverRecord.{ReceiverRecord}
 use Rattle.dr_senders.specs.declared.record.Step.{Step}
-use Rattle.dr_senders.specs.declared.record.Step.TheVariants.{SenderLooksAtClaims, SenderLooksAtCount, SenderClaims, SenderStoresFirst, SenderStoresSecond, SenderPublishes, SenderHalts, ReceiverLooksAtClaims, ReceiverLooksAtMark, ReceiverLooksAtCount, ReceiverLoadsFirst, ReceiverLoadsSecond, ReceiverCompletes, HalterHalts}
+use Rattle.dr_senders.specs.declared.record.Step.TheVariants.{SenderLooksAtClaims, SenderLooksAtCount, SenderClaims, SenderStoresFirst, SenderStoresSecond, SenderPublishes, SenderLooksAtMark, SenderHalts, ReceiverLooksAtClaims, ReceiverLooksAtMark, ReceiverLooksAtCount, ReceiverLoadsFirst, ReceiverLoadsSecond, ReceiverCompletes, HalterHalts}
 use Rattle.dr_senders.specs.Meaning.Records.{fresh_stage}
 use Rattle.dr_senders.specs.Meaning.Rule.{World}
 use Rattle.dr_senders.specs.Meaning.Steps.{Happens}
 
 abbrev pub fresh_sender : ℕ → SenderRecord
-fresh_sender p = record { number = p; own = []; looks = [] }
+fresh_sender p = record { number = p; own = []; marks = []; looks = [] }
 
 -- n senders, from the number p on
 abbrev pub fresh_senders : ℕ → ℕ → List SenderRecord
@@ -93,6 +93,7 @@ entries_of k (SenderClaims p c n) w = if slice_index w.words claim_word == c the
 entries_of k (SenderStoresFirst p s first) w = []
 entries_of k (SenderStoresSecond p s second) w = write_of p s (stage_at w.stages s).half second
 entries_of k (SenderPublishes p s) w = entry (Publish p s s) Published []
+entries_of k (SenderLooksAtMark p s) w = []
 entries_of k (SenderHalts p) w = entry Halt Halting []
 entries_of k (ReceiverLooksAtClaims h) w = told_by_claims h (receiver_at w h) (slice_index w.words claim_word)
 entries_of k (ReceiverLooksAtMark h) w =

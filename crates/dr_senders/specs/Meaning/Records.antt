@@ -49,6 +49,10 @@ brought r s further = record r { own = map (own_after s further) r.own }
 abbrev pub sender_looked : SenderRecord → ℕ → ℕ → SenderRecord
 sender_looked r word found = record r { looks = r.looks ++ look word found ∷ [] }
 
+-- it has looked at a mark
+abbrev pub mark_found : SenderRecord → ℕ → SenderRecord
+mark_found r found = record r { marks = r.marks ++ found ∷ [] }
+
 -- it has claimed n sequences from c on
 abbrev pub claimed_from : SenderRecord → ℕ → ℕ → SenderRecord
 claimed_from r c n = record r { own = r.own ++ fresh_own r.number c n; looks = r.looks ++ look claim_word (c + n) ∷ [] }

@@ -83,8 +83,9 @@ pub record KeepsRule (k : Shape) (w : World) : Type 0 where
   pub limit : length w.stages ≤ k.limit
   pub room : Room k w.words (length w.stages)
   pub stages : (s : ℕ) (t : Stage) → get_elem? w.stages s ≡ some t → StageKept k w.words (length w.stages) s t
-  -- who finds a sequence's mark finds it published
-  pub marks : (s : ℕ) → slice_index w.words (mark_word k s) ≡ entry_of k.size s → IsOut w.stages s
+  -- a sequence is published exactly where the mark in its slot is of its round or a later one
+  pub marks : (s : ℕ) → entry_of k.size s ≤ slice_index w.words (mark_word k s) → IsOut w.stages s
+  pub marked : (s : ℕ) → IsOut w.stages s → entry_of k.size s ≤ slice_index w.words (mark_word k s)
   pub sent : (p : ℕ) (r : SenderRecord) → get_elem? w.senders p ≡ some r → SenderKept k w.words w.stages p r
   pub received : (h : ℕ) (r : ReceiverRecord) → get_elem? w.receivers h ≡ some r → ReceiverKept k w.words w.stages h r
   pub halter : ArePast k w.words w.halter.looks

@@ -9,10 +9,10 @@ use Rattle.dr_senders.specs.Meaning.Shape.{Shape}
 use Rattle.dr_senders.specs.Meaning.Words.{claim_word, halted_from, count_word, mark_word, payload_word}
 use Rattle.dr_senders.specs.declared.record.Stage.{Stage}
 use Rattle.dr_senders.specs.declared.record.Step.{Step}
-use Rattle.dr_senders.specs.declared.record.Step.TheVariants.{SenderLooksAtClaims, SenderLooksAtCount, SenderClaims, SenderStoresFirst, SenderStoresSecond, SenderPublishes, SenderHalts, ReceiverLooksAtClaims, ReceiverLooksAtMark, ReceiverLooksAtCount, ReceiverLoadsFirst, ReceiverLoadsSecond, ReceiverCompletes, HalterHalts}
+use Rattle.dr_senders.specs.declared.record.Step.TheVariants.{SenderLooksAtClaims, SenderLooksAtCount, SenderClaims, SenderStoresFirst, SenderStoresSecond, SenderPublishes, SenderLooksAtMark, SenderHalts, ReceiverLooksAtClaims, ReceiverLooksAtMark, ReceiverLooksAtCount, ReceiverLoadsFirst, ReceiverLoadsSecond, ReceiverCompletes, HalterHalts}
 use Rattle.dr_senders.specs.declared.record.SenderRecord.{SenderRecord}
 use Rattle.dr_senders.specs.declared.record.ReceiverRecord.{ReceiverRecord}
-use Rattle.dr_senders.specs.Meaning.Records.{fresh_stage, half_written, written, published, Owns, brought, sender_looked, claimed_from, receiver_looked, claims_looked, mark_looked, half_taken, took, completed_to, halter_halted, SeesRoom, IsBelowBarrier}
+use Rattle.dr_senders.specs.Meaning.Records.{fresh_stage, half_written, written, published, Owns, brought, sender_looked, mark_found, claimed_from, receiver_looked, claims_looked, mark_looked, half_taken, took, completed_to, halter_halted, SeesRoom, IsBelowBarrier}
 use Rattle.dr_senders.specs.Meaning.Rule.{World}
 
 -- a sender's record changes, and no word
@@ -63,6 +63,8 @@ Happens k (SenderStoresSecond p s second) w w' =
     ByOwner w p s (λ r t. (first : ℕ) × (t.half ≡ Some first) × (w' ≡ sender_brings w p r s t (written record { first = first; second = second }) (payload_word k s 1) second))
 Happens k (SenderPublishes p s) w w' =
     ByOwner w p s (λ r t. (t.half ≡ None) × (event : Event) × (t.event ≡ Some event) × (w' ≡ sender_brings w p r s t published (mark_word k s) (entry_of k.size s)))
+Happens k (SenderLooksAtMark p s) w w' =
+    BySender w p (λ r. w' ≡ sender_knows w p (mark_found r (slice_index w.words (mark_word k s))))
 Happens k (SenderHalts p) w w' =
     BySender w p (λ r. w' ≡ record w { words = halted_words w; senders = slice_set w.senders p (sender_looked r claim_word (halted_from (slice_index w.words claim_word))) })
 Happens k (ReceiverLooksAtClaims h) w w' =

@@ -1,14 +1,14 @@
 //! A sender's steps.
 
-ghost use Rattle.std.specs.Prelude.{◌≡◌, ◌^◌, ◌<◌, ◌≤◌, false, None, Some, Contains, ℕ};
+ghost use Rattle.std.specs.Prelude.{◌≡◌, ◌+◌, ◌^◌, ◌<◌, ◌≤◌, false, None, Some, Contains, ℕ};
 ghost use Rattle.dr_seq.specs.declared.event.Event.{Event as EventValue};
 ghost use Rattle.dr_graph.specs.Meaning.Graph.{finals};
 ghost use Rattle.dr_senders.specs.Calls.Plans.{IsPlan};
 ghost use Rattle.dr_senders.specs.declared.record.Stage.{Stage};
 ghost use Rattle.dr_senders.specs.Meaning.Words.{claim_word, halted_from, count_word as count_word_of, payload_word};
-ghost use Rattle.dr_senders.specs.Meaning.Records.{Owns, half_written, written, published, brought, sender_looked, SeesRoom};
+ghost use Rattle.dr_senders.specs.Meaning.Records.{Owns, half_written, written, published, brought, sender_looked, mark_found, SeesRoom};
 ghost use Rattle.dr_senders.specs.declared.record.Step.TheVariants.{SenderClaims, SenderStoresFirst, SenderStoresSecond, SenderPublishes, SenderHalts};
-ghost use Rattle.dr_senders.specs.Inside.Seats.{FindsMore, after_exchange};
+ghost use Rattle.dr_senders.specs.Inside.Seats.{FindsMore, FindsMark, IsEarlier, after_exchange};
 ghost use Rattle.dr_senders.specs.Calls.Ends.{HasLoaded, HasStored};
 
 use super::{Names, RingBody, RingSeat};
@@ -77,6 +77,7 @@ impl SenderStation {
         requires room { SeesRoom self.old.plan self.old.knows found count }
         ensures step { HasStored self.old (SenderClaims self.old.knows.number found count) (after_exchange self.old.knows found count result) self.new }
         ensures finds { FindsMore self.old.knows.looks claim_word result }
+        ensures own { result ≡ found → (s : ℕ) (t : Stage) → Owns self.old.knows s t → IsEarlier self.old.plan found (found + count) s t }
     {
         self.looks = self.looks.saturating_add(1);
         let words = &self.ring.table.shared;
@@ -121,6 +122,17 @@ impl SenderStation {
             plan.mark_word(sequence),
             plan.mark(sequence),
         );
+    }
+
+    /// A sender looks at the mark in a sequence's slot.
+    pub(crate) fn look_at_mark<J: Names>(&mut self, sequence: u64) -> u64
+        requires { sequence ≡ J.number }
+        ensures step { HasLoaded self.old (mark_found self.old.knows result) self.new }
+        ensures finds { FindsMark self.old.plan self.old.knows sequence result }
+    {
+        let plan = &self.ring.plan;
+        let words = &self.ring.table.shared;
+        words.load::<Brand>(&mut self.seat, plan.mark_word(sequence))
     }
 
     /// A sender halts the ring.

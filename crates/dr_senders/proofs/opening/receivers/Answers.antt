@@ -1,4 +1,4 @@
-use Rattle.std.proofs.Common.{◌<◌, arith, refl, ap, sym, subst, ◌∙◌}
+use Rattle.std.proofs.Common.{◌<◌, arith, ap, sym, subst, ◌∙◌}
 use Rattle.dr_senders.specs.Meaning.Shape.{handlers_of}
 use Rattle.dr_senders.specs.Inside.Seats.{end_of}
 use Rattle.dr_senders.specs.Inside.Stations.{ReceiverSits}

@@ -1,5 +1,8 @@
-use Rattle.std.proofs.Common.{◌<◌, arith, refl, ap, sym, subst, ◌∙◌}
-use Rattle.dr_senders.specs.Inside.Seats.{end_of}
+use Rattle.std.proofs.Common.{◌<◌, arith, ap, sym, subst, ◌∙◌}
+use Rattle.dr_senders.specs.declared.record.SenderRecord.{SenderRecord}
+use Rattle.dr_senders.specs.Inside.Seats.{Sitting, end_of, sender_of}
+use Rattle.dr_senders.specs.Inside.Fits.{SenderFits}
+use Rattle.dr_senders.proofs.Fitting.{fits_new}
 use Rattle.dr_senders.specs.Inside.Stations.{SenderSits}
 use Rattle.dr_senders.proofs.Cuts.{cuts}
 use Rattle.dr_senders.proofs.Making.{cut_own, cut_rest, senders_next, sender_sits, sender_view, sender_listed}
@@ -27,3 +30,11 @@ loop-number-preserved c =
       sender_listed c.args.rest.table_id _ c.loop-number.number _ c.loop-number.senders.items _ _ _ (omega arith) inv.2 c.in_ok-push.ensures.items
           (sender_view c.args.rest.table_id _ _ _ _ c.loop-number.number (own.0 ∙ inv.0) (ap (λ r. r.plan) c.in_ok-own.ensures) (cut_own _ _ _ _ _ inv.1 (senders_next c.loop-number.number _ _ (omega arith)) own.2)),
     )
+
+pub invariant_of-push : goal.invariant_of-push
+invariant_of-push c =
+    let count = c.senders-count.ensures.count ∙ ap (λ r. r.plan.senders) c.deref.ensures in let test = c.loop-number-test.true in
+    let me = cut_own _ _ _ _ _ c.loop-number.invariant.1 (senders_next c.loop-number.number _ _ (omega arith)) c.split_seat-next.ensures.2 in
+    let size = c.size.ensures ∙ ap (λ r. r.plan.size) c.deref-in-loop-number-2.ensures ∙ sym (ap (λ r. r.plan.size) c.in_ok-own.ensures) in
+    subst (λ (q : SenderRecord). SenderFits c.in_ok-own.own.value.plan q c.in_ok-owned.owned) (sym (ap (λ (m : Sitting). sender_of m.0.ends) me))
+    (fits_new _ c.loop-number.number _ _ size c.in_ok-owned.ensures)

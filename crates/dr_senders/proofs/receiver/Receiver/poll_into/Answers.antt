@@ -2,7 +2,7 @@ use Rattle.std.proofs.Common.{List, ℕ, length, rules, arith, refl, ap, sym, su
 use Rattle.std.proofs.lemmas.List.{take_at, drop_at}
 use Rattle.dr_seq.specs.declared.event.Event.{Event}
 use Rattle.dr_core.specs.declared.command.Polled.{Polled}
-use Rattle.dr_senders.specs.Meaning.Words.{claimed_in, is_halted}
+use Rattle.dr_senders.specs.Meaning.Words.{is_halted}
 use Rattle.dr_senders.specs.Meaning.Records.{claims_looked}
 use Rattle.dr_senders.specs.Calls.Ends.{ReceiverEnd}
 use Rattle.dr_senders.specs.Calls.Receiving.{Answers, received_all}

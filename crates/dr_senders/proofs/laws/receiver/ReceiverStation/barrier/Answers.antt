@@ -1,4 +1,4 @@
-use Rattle.std.proofs.Common.{rules, ℕ, List, arith, ◌∙◌, sym, ap, length, get_or}
+use Rattle.std.proofs.Common.{rules, arith, ap, length}
 use Rattle.dr_senders.specs.Calls.Receiving.{ups_of}
 use Rattle.dr_senders.proofs.Stations.{loaded_more}
 use Rattle.dr_senders.proofs.Rounds.{round_more, round_all}

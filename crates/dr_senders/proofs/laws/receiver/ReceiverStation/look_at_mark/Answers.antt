@@ -1,5 +1,4 @@
 use Rattle.std.proofs.Common.{rules, sym, subst, ap, ◌∙◌, ◌≡◌}
-use Rattle.dr_senders.specs.Meaning.Words.{mark_word}
 use Rattle.dr_senders.specs.Calls.Ends.{ReceiverEnd}
 use Rattle.dr_senders.proofs.Allowed.{looks_at_mark}
 use Rattle.dr_senders.proofs.laws.receiver.ReceiverStation.look_at_mark.Goals as goal
