@@ -1,13 +1,14 @@
 //! An end that receives every event.
 
-ghost use Rattle.std.specs.Prelude.{◌≡◌};
-ghost use Rattle.dr_senders.specs.Calls.Ends.{looks_counted};
-ghost use Rattle.dr_senders.specs.Calls.Receiving.{PollCall, CompleteCall};
+ghost use Rattle.std.specs.Prelude.{◌≡◌, ◌<◌, ◌^◌, ◌||◌, length, Some};
+ghost use Rattle.dr_core.specs.Calls.Ends.{IsEndsAnswer, PollAnswers, CompleteAnswers, is_drained, Takes, Completes};
+ghost use Rattle.dr_senders.specs.Calls.Ends.{looks_counted, receiver_place};
+ghost use Rattle.dr_senders.specs.Calls.Receiving.{received_of, PollCall, CompleteCall};
 
 use crate::laws::ReceiverStation;
 use crate::plan::HALT_BIT;
 use crate::polling::{claimed_in, nothing_offered};
-use dr_core::{Polled, Refusal};
+use dr_core::{Outlet, Polled, Refusal, Trouble};
 use dr_seq::Event;
 use std::marker::Model;
 
@@ -39,7 +40,8 @@ impl Receiver {
     ///
     /// It is refused with `BadCount`, and changes nothing, where `out` is empty.
     pub fn poll_into(&mut self, out: &mut [Event]) -> Result<Polled, Refusal>
-        ensures { PollCall self.old out.old self.new out.new result }
+        ensures call { PollCall self.old out.old self.new out.new result }
+        ensures fits { length self.new.knows.received < 2 ^ 64 }
     {
         let first = self.taken;
         if out.is_empty() {
@@ -87,5 +89,37 @@ impl Receiver {
         ensures { result ≡ looks_counted self.now.knows.looks }
     {
         self.station.looks
+    }
+}
+
+impl Outlet for Receiver {
+    ghost use Rattle.dr_senders.specs.Calls.Ends.{EndPlace};
+
+    ghost Kept = { EndPlace };
+
+    ghost kept = { receiver_place };
+
+    ghost received = { λ e. Some (received_of e.knows) };
+
+    ghost told = { λ e. e.knows.told };
+
+    fn poll_into(&mut self, out: &mut [Event]) -> Result<Polled, Trouble>
+        ensures kept { receiver_place self.new ≡ receiver_place self.old }
+        ensures answer { PollAnswers (Some (received_of self.old.knows)) out.old out.new result }
+        ensures told { self.new.knows.told ≡ (self.old.knows.told || is_drained result) }
+        ensures received { Takes out.new result (received_of self.old.knows) (received_of self.new.knows) }
+        ensures own { IsEndsAnswer (PollCall self.old out.old self.new out.new) result }
+    {
+        Ok(Receiver::poll_into(self, out)?)
+    }
+
+    fn complete(&mut self, upto: u64) -> Result<(), Trouble>
+        ensures kept { receiver_place self.new ≡ receiver_place self.old }
+        ensures answer { CompleteAnswers (Some (received_of self.old.knows)) upto result }
+        ensures told { self.new.knows.told ≡ self.old.knows.told }
+        ensures received { Completes upto result (received_of self.old.knows) (received_of self.new.knows) }
+        ensures own { IsEndsAnswer (CompleteCall self.old upto self.new) result }
+    {
+        Ok(Receiver::complete(self, upto)?)
     }
 }

@@ -11,8 +11,8 @@ use Rattle.dr_senders.specs.Inside.Parts.{nothing_offered}
 use Rattle.dr_senders.proofs.Polls.{saw, in_order, seen_round, poll_nothing, poll_batch, of_count}
 use Rattle.dr_senders.proofs.receiver.Receiver.poll_into.Goals as goal
 
-pub returns-then-available-first : goal.returns-then-available-first
-returns-then-available-first c =
+pub returns-then-available-first-clause-call : goal.returns-then-available-first-clause-call
+returns-then-available-first-clause-call c =
     let found = c.look_at_claims-found.result in let looked = c.look_at_claims-found.ensures.step in let count = c.claimed_in-claimed.ensures in
     let k = c.args.self.now.plan in let r = c.args.self.now.knows in let available = c.offer-available.result.0 in let upto = c.offer-available.result.1 in let s = c.offer-available.new.self.knows in
     let O = seen_round k _ r _ s found _ available upto (looked.0.1 ∙ ap (λ (e : ReceiverEnd). e.plan) c.self.view_is) (looked.1 ∙ ap (λ (e : ReceiverEnd). claims_looked e.knows found) c.self.view_is) count c.offer-available.ensures.answer in
@@ -32,8 +32,8 @@ returns-then-available-first c =
       search rules,
     )
 
-pub returns : goal.returns
-returns c =
+pub returns-clause-call : goal.returns-clause-call
+returns-clause-call c =
     let found = c.look_at_claims-found.result in let looked = c.look_at_claims-found.ensures.step in let count = c.claimed_in-claimed.ensures in
     let k = c.args.self.now.plan in let r = c.args.self.now.knows in let available = c.offer-available.result.0 in let upto = c.offer-available.result.1 in let s = c.offer-available.new.self.knows in
     let O = seen_round k _ r _ s found _ available upto (looked.0.1 ∙ ap (λ (e : ReceiverEnd). e.plan) c.self.view_is) (looked.1 ∙ ap (λ (e : ReceiverEnd). claims_looked e.knows found) c.self.view_is) count c.offer-available.ensures.answer in
