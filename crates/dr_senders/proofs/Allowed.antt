@@ -43,7 +43,8 @@ along : (P : Sitting → Type 0) (me : Sitting) (e : EndRecord) → end_of me �
 along P me e is p = subst (λ (x : End). P (seat_at x me.0.pasts)) (sym is) p
 
 -- a sender's look
-sender_sees : (k : Shape) (w : World) (r : SenderRecord) (i : ℕ) → get_elem? w.senders r.number ≡ some r → i < 16 + 16 * handlers_of k → KeepsRule k w → last_look 0 r.looks i ≤ word_at w.words i
+sender_sees : (k : Shape) (w : World) (r : SenderRecord) (i : ℕ) → get_elem? w.senders r.number ≡ some r → i < 16 + 16 * handlers_of k → KeepsRule k w
+    → last_look 0 r.looks i ≤ word_at w.words i
 sender_sees k w r i at low K = last_look_le k w.words 0 r.looks i (omega arith) (K.sent r.number r at).looks
 
 -- what a step does that changes a sender's record, and no word
@@ -69,7 +70,8 @@ receiver_learns k kind w r q i at same happens = record {
 }
 
 -- what a step does that brings a sequence of a sender further
-sender_stores : (k : Shape) (kind : Step) (w : World) (r : SenderRecord) (s : ℕ) (t : Stage) (further : Stage → Stage) (i v : ℕ) → get_elem? w.senders r.number ≡ some r
+sender_stores : (k : Shape) (kind : Step) (w : World) (r : SenderRecord) (s : ℕ) (t : Stage) (further : Stage → Stage) (i v : ℕ)
+    → get_elem? w.senders r.number ≡ some r
     → Happens k kind w (sender_brings w r.number r s t further i v) → Does k kind w i v (Sends (brought r s further))
 sender_stores k kind w r s t further i v at happens = record {
   after = sender_brings w r.number r s t further i v;
@@ -88,7 +90,8 @@ looks_at_claims k slots id me is =
     (adds_nothing _ kind (λ n. refl)) (λ n. refl)
     (λ w at K small. (sender_learns k kind w r (sender_looked r claim_word (word_at w.words claim_word)) claim_word at refl (r, at, refl), (refl, sender_sees k w r claim_word at (omega arith) K))))
 
-pub looks_at_count : (k : Shape) {sh : Shape} (slots id : ℕ) (me : Sitting) (i f : ℕ) → k ≡ sh → i ≡ count_word f → IsSender (end_of me) → Contains (finals sh.upstreams) f
+pub looks_at_count : (k : Shape) {sh : Shape} (slots id : ℕ) (me : Sitting) (i f : ℕ) → k ≡ sh → i ≡ count_word f → IsSender (end_of me)
+    → Contains (finals sh.upstreams) f
     → Allows (Ruled k) slots id me i (λ n. n) (Loads SenderLooked (step slots i 0 0 none) me)
 looks_at_count k {sh = sh} slots id me i f same here is those =
     let has : Contains (finals k.upstreams) f = subst (λ (p : Shape). Contains (finals p.upstreams) f) (sym same) those in
@@ -107,7 +110,8 @@ exchanged w r c n b = if b then sender_claims w r.number r c n else sender_knows
 abbrev learned : SenderRecord → ℕ → ℕ → ℕ → Bool → SenderRecord
 learned r c n found b = if b then claimed_from r c n else sender_looked r claim_word found
 
-exchanged_words : (w : World) (r : SenderRecord) (c n : ℕ) (b : Bool) → (exchanged w r c n b).words ≡ set w.words claim_word (either b (c + n) (word_at w.words claim_word))
+exchanged_words : (w : World) (r : SenderRecord) (c n : ℕ) (b : Bool)
+    → (exchanged w r c n b).words ≡ set w.words claim_word (either b (c + n) (word_at w.words claim_word))
 exchanged_words w r c n true = refl
 exchanged_words w r c n false = same_words w.words claim_word
 
@@ -126,7 +130,8 @@ exchanged_others w r c n true = but_sender w (exchanged w r c n true) r (claimed
 exchanged_others w r c n false = but_sender w (exchanged w r c n false) r (sender_looked r claim_word (word_at w.words claim_word)) refl refl refl
 
 -- what a sender has is claimed before a claim that the exchange gives, and published where the claim takes its slot
-earlier : (k : Shape) (w : World) (r : SenderRecord) (c n z : ℕ) (t : Stage) → get_elem? w.senders r.number ≡ some r → 0 < n → SeesRoom k r c n → word_at w.words claim_word ≡ c → Owns r z t → KeepsRule k w
+earlier : (k : Shape) (w : World) (r : SenderRecord) (c n z : ℕ) (t : Stage) → get_elem? w.senders r.number ≡ some r → 0 < n → SeesRoom k r c n
+    → word_at w.words claim_word ≡ c → Owns r z t → KeepsRule k w
     → IsEarlier k c (c + n) z t
 earlier k w r c n z t at some_one room hit own K =
     let here = (owned k w r.number r z own.0 t at own.1 K).1 in let inside = at_below w.stages z t here in let small = K.shape.small in let fits = room.limit in
@@ -138,7 +143,8 @@ earlier k w r c n z t at some_one room hit own K =
           let near = near_open k (sender_claims w r.number r c n) z t (more_left w.stages new z t here) hidden (keeps_claims k w r.number c n r at some_one room hit K) in omega arith),
     )
 
-pub claims : (k : Shape) {sh : Shape} (slots id : ℕ) (me : Sitting) (c n v : ℕ) → k ≡ sh → v ≡ c + n → IsSender (end_of me) → 0 < n → SeesRoom sh (sender_of me.0.ends) c n
+pub claims : (k : Shape) {sh : Shape} (slots id : ℕ) (me : Sitting) (c n v : ℕ) → k ≡ sh → v ≡ c + n → IsSender (end_of me) → 0 < n
+    → SeesRoom sh (sender_of me.0.ends) c n
     → Allows (Ruled k) slots id me claim_word (λ m. either (m == c) v m)
     (Stores (λ s e m. SenderClaims (sender_of e.0).number s.first (s.second - s.first)) (SenderClaimed k) (step slots claim_word c v none) me)
 claims k {sh = sh} slots id me c n v same sum is some_one there =
@@ -160,7 +166,8 @@ claims k {sh = sh} slots id me c n v same sum is some_one there =
       (refl, sender_sees k w r claim_word at (omega arith) K, λ hit z t own. subst (λ (m : ℕ). IsEarlier k c m z t) (omega arith) (earlier k w r c (c + n - c) z t at (omega arith) room' hit own K)),
     ))))
 
-pub stores_first : (k : Shape) {sh : Shape} (slots id : ℕ) (me : Sitting) (i s m v : ℕ) (t : Stage) → k ≡ sh → s ≡ m → i ≡ payload_word sh s 0 → IsSender (end_of me) → Owns (sender_of me.0.ends) s t → t.published ≡ false
+pub stores_first : (k : Shape) {sh : Shape} (slots id : ℕ) (me : Sitting) (i s m v : ℕ) (t : Stage) → k ≡ sh → s ≡ m → i ≡ payload_word sh s 0
+    → IsSender (end_of me) → Owns (sender_of me.0.ends) s t → t.published ≡ false
     → Allows (Ruled k) slots id me i (λ _. v) (λ _. Stores (λ x e n. SenderStoresFirst (sender_of e.0).number m n) (SenderStoredFirst m) (step slots i v 0 none) me v)
 stores_first k {sh = sh} slots id me i s m v t same named there is own unshown =
     let here : i ≡ payload_word k s 0 = there ∙ ap (λ (p : Shape). payload_word p s 0) (sym same) in
@@ -173,7 +180,8 @@ stores_first k {sh = sh} slots id me i s m v t same named there is own unshown =
     (adds_one _ kind (λ n. refl)) (λ n. refl)
     (λ w at K small. (sender_stores k kind w r s t (half_written v) i v at (r, at, (t, own, unshown, refl)), refl)))))
 
-pub stores_second : (k : Shape) {sh : Shape} (slots id : ℕ) (me : Sitting) (i s m first f v : ℕ) (t : Stage) → k ≡ sh → s ≡ m → first ≡ f → i ≡ payload_word sh s 1 → IsSender (end_of me) → Owns (sender_of me.0.ends) s t → t.published ≡ false → t.half ≡ Some first
+pub stores_second : (k : Shape) {sh : Shape} (slots id : ℕ) (me : Sitting) (i s m first f v : ℕ) (t : Stage) → k ≡ sh → s ≡ m → first ≡ f
+    → i ≡ payload_word sh s 1 → IsSender (end_of me) → Owns (sender_of me.0.ends) s t → t.published ≡ false → t.half ≡ Some first
     → Allows (Ruled k) slots id me i (λ _. v) (λ _. Stores (λ x e n. SenderStoresSecond (sender_of e.0).number m n) (SenderStoredSecond m f) (step slots i v 0 none) me v)
 stores_second k {sh = sh} slots id me i s m first f v t same named first_named there is own unshown half =
     let here : i ≡ payload_word k s 1 = there ∙ ap (λ (p : Shape). payload_word p s 1) (sym same) in
@@ -187,10 +195,12 @@ stores_second k {sh = sh} slots id me i s m first f v t same named first_named t
     (adds_one _ kind (λ n. refl)) (λ n. refl)
     (λ w at K small. (sender_stores k kind w r s t (written event) i v at (r, at, (t, own, unshown, (first, half, refl))), refl))))))
 
-pub publishes : (k : Shape) {sh : Shape} (slots id : ℕ) (me : Sitting) (i s m v : ℕ) (t : Stage) (event : Event) → k ≡ sh → s ≡ m → i ≡ mark_word sh s → v ≡ entry_of sh.size s → IsSender (end_of me) → Owns (sender_of me.0.ends) s t → t.published ≡ false → t.half ≡ None → t.event ≡ Some event
+pub publishes : (k : Shape) {sh : Shape} (slots id : ℕ) (me : Sitting) (i s m v : ℕ) (t : Stage) (event : Event) → k ≡ sh → s ≡ m → i ≡ mark_word sh s
+    → v ≡ entry_of sh.size s → IsSender (end_of me) → Owns (sender_of me.0.ends) s t → t.published ≡ false → t.half ≡ None → t.event ≡ Some event
     → Allows (Ruled k) slots id me i (λ _. v) (λ _. Stores (λ x e n. SenderPublishes (sender_of e.0).number m) (SenderPublished m) (step slots i v 0 none) me v)
 publishes k {sh = sh} slots id me i s m v t event same named there now is own unshown whole has =
-    let here : i ≡ mark_word k s = there ∙ ap (λ (p : Shape). mark_word p s) (sym same) in let round : v ≡ entry_of k.size s = now ∙ ap (λ (p : Shape). entry_of p.size s) (sym same) in
+    let here : i ≡ mark_word k s = there ∙ ap (λ (p : Shape). mark_word p s) (sym same) in
+    let round : v ≡ entry_of k.size s = now ∙ ap (λ (p : Shape). entry_of p.size s) (sym same) in
     let r = sender_of me.0.ends in
     subst (λ (m : ℕ). Allows (Ruled k) slots id me i (λ _. v) (λ _. Stores (λ x e n. SenderPublishes (sender_of e.0).number m) (SenderPublished m) (step slots i v 0 none) me v)) named
     (subst (λ (i : ℕ). Allows (Ruled k) slots id me i (λ _. v) (λ _. Stores (λ x e n. SenderPublishes (sender_of e.0).number s) (SenderPublished s) (step slots i v 0 none) me v)) (sym here)
@@ -202,7 +212,8 @@ publishes k {sh = sh} slots id me i s m v t event same named there now is own un
     (λ w at K small. (sender_stores k kind w r s t published i v at (r, at, (t, own, unshown, (whole, event, has, refl))), refl))))))
 
 -- the mark of a published sequence is there
-finds_mark : (k : Shape) (w : World) (r : SenderRecord) (s : ℕ) → get_elem? w.senders r.number ≡ some r → KeepsRule k w → FindsMark k r s (word_at w.words (mark_word k s))
+finds_mark : (k : Shape) (w : World) (r : SenderRecord) (s : ℕ) → get_elem? w.senders r.number ≡ some r → KeepsRule k w
+    → FindsMark k r s (word_at w.words (mark_word k s))
 finds_mark k w r s at K t own shown = K.marked s (t, (owned k w r.number r s own.0 t at own.1 K).1, shown)
 
 pub sender_looks_at_mark : (k : Shape) {sh : Shape} (slots id : ℕ) (me : Sitting) (i s m : ℕ) → k ≡ sh → s ≡ m → i ≡ mark_word sh s → IsSender (end_of me)
@@ -223,10 +234,13 @@ or_top n small =
     let y : 1 * 2 ^ 63 + 0 ≡ 9223372036854775808 = omega arith in
     elim (cases_lt n halt_bit) [
       | inl lt ↦ rw (lt-ltb n halt_bit lt) (
-          let b : bit_or (0 * 2 ^ 63 + n) (1 * 2 ^ 63 + 0) ≡ 1 * 2 ^ 63 + bit_or n 0 = or_block 63 0 1 n 0 lt (omega arith) in let z : 0 * 2 ^ 63 + n ≡ n = omega arith in let e = or_zero_r n in
+          let b : bit_or (0 * 2 ^ 63 + n) (1 * 2 ^ 63 + 0) ≡ 1 * 2 ^ 63 + bit_or n 0 = or_block 63 0 1 n 0 lt (omega arith) in
+          let z : 0 * 2 ^ 63 + n ≡ n = omega arith in let e = or_zero_r n in
           let last : 1 * 2 ^ 63 + bit_or n 0 ≡ n + halt_bit = omega arith in (λ i. bit_or (sym z i) (sym y i)) ∙ b ∙ last)
       | inr ge ↦ rw (le-ltb n halt_bit ge) (
-          let r : ℕ = n - halt_bit in let b : bit_or (1 * 2 ^ 63 + r) (1 * 2 ^ 63 + 0) ≡ 1 * 2 ^ 63 + bit_or r 0 = or_block 63 1 1 r 0 (omega arith) (omega arith) in let z : 1 * 2 ^ 63 + r ≡ n = omega arith in let e = or_zero_r r in
+          let r : ℕ = n - halt_bit in
+          let b : bit_or (1 * 2 ^ 63 + r) (1 * 2 ^ 63 + 0) ≡ 1 * 2 ^ 63 + bit_or r 0 = or_block 63 1 1 r 0 (omega arith) (omega arith) in
+          let z : 1 * 2 ^ 63 + r ≡ n = omega arith in let e = or_zero_r r in
           let last : 1 * 2 ^ 63 + bit_or r 0 ≡ n = omega arith in (λ i. bit_or (sym z i) (sym y i)) ∙ b ∙ last)
     ]
 
@@ -285,7 +299,8 @@ receiver_looks_at_claims k slots id me is =
       (refl, (last_look_le k w.words 0 r.looks claim_word (omega arith) was.looks, omega arith, (let m = seen_claimed k w r at K in omega arith), λ told. (let t = was.told told in let e = t.1 in (t.0, omega arith)))),
     )))
 
-pub looks_at_mark : (k : Shape) {sh : Shape} (slots id : ℕ) (me : Sitting) (i : ℕ) → k ≡ sh → i ≡ mark_word sh (receiver_of me.0.ends).seen → IsReceiver (end_of me)
+pub looks_at_mark : (k : Shape) {sh : Shape} (slots id : ℕ) (me : Sitting) (i : ℕ) → k ≡ sh → i ≡ mark_word sh (receiver_of me.0.ends).seen
+    → IsReceiver (end_of me)
     → Allows (Ruled k) slots id me i (λ n. n) (Loads (ReceiverLookedAtMark k) (step slots i 0 0 none) me)
 looks_at_mark k {sh = sh} slots id me i same there is =
     let here : i ≡ mark_word k (receiver_of me.0.ends).seen = there ∙ ap (λ (p : Shape). mark_word p (receiver_of me.0.ends).seen) (sym same) in
@@ -297,14 +312,16 @@ looks_at_mark k {sh = sh} slots id me i same there is =
     (λ w at K small. (receiver_learns k kind w r (mark_looked k r (word_at w.words i)) i at refl (r, at, refl), refl))))
 
 -- what a look at an upstream's count finds
-finds_events : (k : Shape) (w : World) (r : ReceiverRecord) (u : ℕ) → get_elem? w.receivers r.number ≡ some r → Contains (upstreams_of k.upstreams r.number) u → KeepsRule k w
+finds_events : (k : Shape) (w : World) (r : ReceiverRecord) (u : ℕ) → get_elem? w.receivers r.number ≡ some r
+    → Contains (upstreams_of k.upstreams r.number) u → KeepsRule k w
     → FindsEvents r (count_word u) (word_at w.words (count_word u))
 finds_events k w r u at has K =
     let was = K.received r.number r at in let inside = upstream_inside k K.shape.graph r.number u (handler_inside k w r.number r at K) has in
     let o = receiver_of_handler k w K u inside in let a = o.2.count in let b = o.2.completed in let c = taken_claimed k w u o.0 o.1 K in
     (last_look_le k w.words 0 r.looks (count_word u) (omega arith) was.looks, was.after u has, λ told. (let t = was.told told in let e = t.1 in omega arith))
 
-pub receiver_looks_at_count : (k : Shape) {sh : Shape} (slots id : ℕ) (me : Sitting) (i u : ℕ) → k ≡ sh → i ≡ count_word u → IsReceiver (end_of me) → Contains (upstreams_of sh.upstreams (receiver_of me.0.ends).number) u
+pub receiver_looks_at_count : (k : Shape) {sh : Shape} (slots id : ℕ) (me : Sitting) (i u : ℕ) → k ≡ sh → i ≡ count_word u → IsReceiver (end_of me)
+    → Contains (upstreams_of sh.upstreams (receiver_of me.0.ends).number) u
     → Allows (Ruled k) slots id me i (λ n. n) (Loads ReceiverLookedAtCount (step slots i 0 0 none) me)
 receiver_looks_at_count k {sh = sh} slots id me i u same here is those =
     let has : Contains (upstreams_of k.upstreams (receiver_of me.0.ends).number) u = subst (λ (p : Shape). Contains (upstreams_of p.upstreams (receiver_of me.0.ends).number) u) (sym same) those in
@@ -315,7 +332,9 @@ receiver_looks_at_count k {sh = sh} slots id me i u same here is those =
     (adds_nothing _ kind (λ n. refl)) (λ n. refl)
     (λ w at K small. (receiver_learns k kind w r (receiver_looked r i (word_at w.words i)) i at refl (r, at, (has, refl)), (refl, finds_events k w r u at has K)))))
 
-pub loads_first : (k : Shape) {sh : Shape} (slots id : ℕ) (me : Sitting) (i : ℕ) → k ≡ sh → i ≡ payload_word sh (length (receiver_of me.0.ends).received) 0 → IsReceiver (end_of me) → IsBelowBarrier sh (receiver_of me.0.ends).number (receiver_of me.0.ends)
+pub loads_first : (k : Shape) {sh : Shape} (slots id : ℕ) (me : Sitting) (i : ℕ) → k ≡ sh
+    → i ≡ payload_word sh (length (receiver_of me.0.ends).received) 0 → IsReceiver (end_of me)
+    → IsBelowBarrier sh (receiver_of me.0.ends).number (receiver_of me.0.ends)
     → Allows (Ruled k) slots id me i (λ n. n) (Loads ReceiverLoadedFirst (step slots i 0 0 none) me)
 loads_first k {sh = sh} slots id me i same there is low =
     let here : i ≡ payload_word k (length (receiver_of me.0.ends).received) 0 = there ∙ ap (λ (p : Shape). payload_word p (length (receiver_of me.0.ends).received) 0) (sym same) in
@@ -327,7 +346,9 @@ loads_first k {sh = sh} slots id me i same there is low =
     (adds_nothing _ kind (λ n. refl)) (λ n. refl)
     (λ w at K small. (receiver_learns k kind w r (half_taken r (word_at w.words i)) i at refl (r, at, (below, refl)), refl))))
 
-pub loads_second : (k : Shape) {sh : Shape} (slots id : ℕ) (me : Sitting) (i first : ℕ) → k ≡ sh → i ≡ payload_word sh (length (receiver_of me.0.ends).received) 1 → IsReceiver (end_of me) → (receiver_of me.0.ends).half ≡ Some first → IsBelowBarrier sh (receiver_of me.0.ends).number (receiver_of me.0.ends)
+pub loads_second : (k : Shape) {sh : Shape} (slots id : ℕ) (me : Sitting) (i first : ℕ) → k ≡ sh
+    → i ≡ payload_word sh (length (receiver_of me.0.ends).received) 1 → IsReceiver (end_of me) → (receiver_of me.0.ends).half ≡ Some first
+    → IsBelowBarrier sh (receiver_of me.0.ends).number (receiver_of me.0.ends)
     → Allows (Ruled k) slots id me i (λ n. n) (Loads ReceiverLoadedSecond (step slots i 0 0 none) me)
 loads_second k {sh = sh} slots id me i first same there is half low =
     let here : i ≡ payload_word k (length (receiver_of me.0.ends).received) 1 = there ∙ ap (λ (p : Shape). payload_word p (length (receiver_of me.0.ends).received) 1) (sym same) in
@@ -342,7 +363,8 @@ loads_second k {sh = sh} slots id me i first same there is half low =
       λ other same. (let one : first ≡ other = cc in ap (λ (x : ℕ). alone (Receives (took r record { first = x; second = word_at w.words i }))) one),
     ))))
 
-pub completes : (k : Shape) (slots id : ℕ) (me : Sitting) (i h n : ℕ) → i ≡ count_word h → IsReceiver (end_of me) → (receiver_of me.0.ends).number ≡ h → (receiver_of me.0.ends).completed ≤ n → n ≤ length (receiver_of me.0.ends).received
+pub completes : (k : Shape) (slots id : ℕ) (me : Sitting) (i h n : ℕ) → i ≡ count_word h → IsReceiver (end_of me) → (receiver_of me.0.ends).number ≡ h
+    → (receiver_of me.0.ends).completed ≤ n → n ≤ length (receiver_of me.0.ends).received
     → Allows (Ruled k) slots id me i (λ _. n) (λ _. Stores (λ s e m. ReceiverCompletes (receiver_of e.0).number m) ReceiverCompleted (step slots i n 0 none) me n)
 completes k slots id me i h n here is own rises taken =
     let r = receiver_of me.0.ends in

@@ -56,7 +56,8 @@ by_mark : (b : Bool) (refusal : Refusal) → refusal ≡ (if b then AlreadyPubli
 by_mark true refusal is = inr (refl, inr (refl, inl (refl, sym is)))
 by_mark false refusal is = inr (refl, inl (tt, sym is))
 
-pub write_refused : (e e' : SenderEnd) (o : Owned) (s : ℕ) (event : Event) (refusal : Refusal) → SenderFits e.plan e.knows o → is_marked o.claimed s ≡ false → RefusesBy e s e' refusal
+pub write_refused : (e e' : SenderEnd) (o : Owned) (s : ℕ) (event : Event) (refusal : Refusal) → SenderFits e.plan e.knows o
+    → is_marked o.claimed s ≡ false → RefusesBy e s e' refusal
     → WriteCall e s event e' (Err refusal)
 write_refused e e' o s event refusal F unmarked R = record {
   stays = R.1.0;
@@ -68,7 +69,8 @@ write_refused e e' o s event refusal F unmarked R = record {
   stored = R.1.3;
 }
 
-pub write_late : (e : SenderEnd) (o : Owned) (s : ℕ) (event : Event) → SenderFits e.plan e.knows o → is_marked o.claimed s ≡ true → is_marked o.published s ≡ true
+pub write_late : (e : SenderEnd) (o : Owned) (s : ℕ) (event : Event) → SenderFits e.plan e.knows o → is_marked o.claimed s ≡ true
+    → is_marked o.published s ≡ true
     → WriteCall e s event e (Err AlreadyPublished)
 write_late e o s event F mine shown = let x = F.own s mine in record {
   stays = (refl, refl);
@@ -81,7 +83,8 @@ write_late e o s event F mine shown = let x = F.own s mine in record {
 }
 
 -- a sequence of its own that is not published
-pub open_own : (k : Shape) (r : SenderRecord) (o : Owned) (s : ℕ) → SenderFits k r o → is_marked o.claimed s ≡ true → is_marked o.published s ≡ false → (t : Stage) × Owns r s t × (t.published ≡ false)
+pub open_own : (k : Shape) (r : SenderRecord) (o : Owned) (s : ℕ) → SenderFits k r o → is_marked o.claimed s ≡ true → is_marked o.published s ≡ false
+    → (t : Stage) × Owns r s t × (t.published ≡ false)
 open_own k r o s F mine hidden = let x = F.own s mine in (x.0, x.1, F.shown s x.0 x.1 mine ∙ hidden)
 
 -- both words of an event are stored, which is one write
@@ -103,14 +106,16 @@ one_write s v event o =
     ap (λ (q : ℕ). if q == s then record x { stage = written event x.stage } else x) (own_same s (half_written v) o)
     ∙ stored_over (o.sequence == s) o.sequence o.stage v event
 
-writes_once : (s v : ℕ) (event : Event) (own : List Own) → map (own_after s (written event)) (map (own_after s (half_written v)) own) ≡ map (own_after s (written event)) own
+writes_once : (s v : ℕ) (event : Event) (own : List Own)
+    → map (own_after s (written event)) (map (own_after s (half_written v)) own) ≡ map (own_after s (written event)) own
 writes_once s v event [] = refl
 writes_once s v event (o ∷ os) = λ i. one_write s v event o i ∷ writes_once s v event os i
 
 pub wrote_once : (r : SenderRecord) (s v : ℕ) (event : Event) → brought (brought r s (half_written v)) s (written event) ≡ brought r s (written event)
 wrote_once r s v event = ap (λ (xs : List Own). record r { own = xs }) (writes_once s v event r.own)
 
-pub write_done : (e e' : SenderEnd) (o : Owned) (s : ℕ) (event : Event) → SenderFits e.plan e.knows o → is_marked o.claimed s ≡ true → is_marked o.published s ≡ false → HasWritten e s event e'
+pub write_done : (e e' : SenderEnd) (o : Owned) (s : ℕ) (event : Event) → SenderFits e.plan e.knows o → is_marked o.claimed s ≡ true
+    → is_marked o.published s ≡ false → HasWritten e s event e'
     → WriteCall e s event e' (Ok tt)
 write_done e e' o s event F mine hidden W = let x = open_own e.plan e.knows o s F mine hidden in record {
   stays = W.0;
@@ -161,7 +166,8 @@ not_within a b = elim (cases_lt a b) [
   | inr ge ↦ le-leb b a ge ∙ sym (ap not (le-ltb a b ge))
 ]
 
-pub reached : (e e' : SenderEnd) (o : Owned) (hi : ℕ) (own is : Bool) → SenderFits e.plan e.knows o → own ≡ is_marked o.claimed hi → hi < e.plan.limit → Reaches e own hi e' is → Reached e hi e' is
+pub reached : (e e' : SenderEnd) (o : Owned) (hi : ℕ) (own is : Bool) → SenderFits e.plan e.knows o → own ≡ is_marked o.claimed hi → hi < e.plan.limit
+    → Reaches e own hi e' is → Reached e hi e' is
 reached e e' o hi true is F mine below R = record {
   reach = Inside;
   sees = F.own hi (sym mine);
@@ -198,12 +204,14 @@ module _ (k : Shape) (lo : ℕ) (seen : PublishLooks) where
   clear : (j : ℕ) → lo + j ≢ lo + seen.ready → NoneHolds MayFail (causes (lo + j))
   clear j ne = subst (λ (b : Bool). NoneHolds MayFail (sequence_causes (sight_tests k (lo + j) (if b then seen.stop else Unasked)))) (sym (ne_eqb (lo + j) (lo + seen.ready) ne)) (refl, (refl, (refl, tt)))
 
-  here : (refusal : Refusal) → IsFirst MayHold MayFail refusal (sequence_causes (sight_tests k (lo + seen.ready) seen.stop)) → IsFirst MayHold MayFail refusal (causes (lo + seen.ready))
+  here : (refusal : Refusal) → IsFirst MayHold MayFail refusal (sequence_causes (sight_tests k (lo + seen.ready) seen.stop))
+      → IsFirst MayHold MayFail refusal (causes (lo + seen.ready))
   here refusal first = subst (λ (b : Bool). IsFirst MayHold MayFail refusal (sequence_causes (sight_tests k (lo + seen.ready) (if b then seen.stop else Unasked))))
       (sym (eq-eqb (lo + seen.ready) (lo + seen.ready) refl)) first
 
   refuses : (hi : ℕ) (refusal : Refusal) → lo ≤ hi → lo + seen.ready ≤ hi → MayFail (reach_unclaimed hi seen.reach)
-      → IsFirst MayHold MayFail refusal (sequence_causes (sight_tests k (lo + seen.ready) seen.stop)) → IsAnswerOf {A = Unit {0}} (publish_causes lo hi (tests_of_publication k lo hi seen)) (Err (Refused refusal))
+      → IsFirst MayHold MayFail refusal (sequence_causes (sight_tests k (lo + seen.ready) seen.stop))
+      → IsAnswerOf {A = Unit {0}} (publish_causes lo hi (tests_of_publication k lo hi seen)) (Err (Refused refusal))
   refuses hi refusal order within reaches first = inr (
     refl,
     inr (
@@ -216,7 +224,8 @@ module _ (k : Shape) (lo : ℕ) (seen : PublishLooks) where
     ),
   )
 
-  accepts : (hi : ℕ) → lo ≤ hi → lo + seen.ready ≡ hi + 1 → MayFail (reach_unclaimed hi seen.reach) → IsAnswerOf {A = Unit {0}} (publish_causes lo hi (tests_of_publication k lo hi seen)) (Ok tt)
+  accepts : (hi : ℕ) → lo ≤ hi → lo + seen.ready ≡ hi + 1 → MayFail (reach_unclaimed hi seen.reach)
+      → IsAnswerOf {A = Unit {0}} (publish_causes lo hi (tests_of_publication k lo hi seen)) (Ok tt)
   accepts hi order all reaches = (
     refl,
     (
@@ -230,8 +239,10 @@ module _ (k : Shape) (lo : ℕ) (seen : PublishLooks) where
   )
 
 -- one sequence is refused, after some that may be published
-pub publish_stops : (e a e' : SenderEnd) (lo hi stop : ℕ) (x : Sight) (refusal : Refusal) → lo ≤ stop → stop ≤ hi → Reached e hi a true → ((s : ℕ) → lo ≤ s → s < stop → IsReady e.knows s)
-    → IsSight e.plan e.knows stop x → IsFirst MayHold MayFail refusal (sequence_causes (sight_tests e.plan stop x)) → Stays a e' → e'.knows ≡ record a.knows { marks = a.knows.marks ++ marks_of x } → e'.stored ≡ a.stored
+pub publish_stops : (e a e' : SenderEnd) (lo hi stop : ℕ) (x : Sight) (refusal : Refusal) → lo ≤ stop → stop ≤ hi → Reached e hi a true
+    → ((s : ℕ) → lo ≤ s → s < stop → IsReady e.knows s)
+    → IsSight e.plan e.knows stop x → IsFirst MayHold MayFail refusal (sequence_causes (sight_tests e.plan stop x)) → Stays a e'
+    → e'.knows ≡ record a.knows { marks = a.knows.marks ++ marks_of x } → e'.stored ≡ a.stored
     → PublishCall e lo hi e' (Err refusal)
 publish_stops e a e' lo hi stop x refusal low high R ready sight first stays knows stored =
     let at : lo + (stop - lo) ≡ stop = omega arith in let seen : PublishLooks = record { reach = R.reach; ready = stop - lo; stop = x } in record {
@@ -283,7 +294,8 @@ module _ (e a : SenderEnd) (o : Owned) (lo hi stop : ℕ) (F : SenderFits e.plan
   before : (s : ℕ) → lo ≤ s → s < stop → IsReady e.knows s
   before s low lt = ready_is e.plan e.knows o s F (front.below s low lt)
 
-  pub publish_foreign : (e' : SenderEnd) (refusal : Refusal) → is_marked o.claimed stop ≡ false → RefusesBy a stop e' refusal → PublishCall e lo hi e' (Err refusal)
+  pub publish_foreign : (e' : SenderEnd) (refusal : Refusal) → is_marked o.claimed stop ≡ false → RefusesBy a stop e' refusal
+      → PublishCall e lo hi e' (Err refusal)
   publish_foreign e' refusal unmarked B =
       let plan = R.stays.1 in let own : a.knows.own ≡ e.knows.own = ap (λ (q : SenderRecord). q.own) R.knows in
       publish_stops e a e' lo hi stop (Found B.0) refusal front.low high R before
@@ -298,16 +310,19 @@ module _ (e a : SenderEnd) (o : Owned) (lo hi stop : ℕ) (F : SenderFits e.plan
 
   pub publish_unwritten : is_marked o.claimed stop ≡ true → is_marked o.published stop ≡ false → PublishCall e lo hi a (Err NotWritten)
   publish_unwritten mine hidden =
-      let x = F.own stop mine in let unwritten = unready_part (is_marked o.claimed stop) (is_marked o.published stop) (is_marked o.written stop) (front.here (omega arith)) mine hidden in
+      let x = F.own stop mine in
+      let unwritten = unready_part (is_marked o.claimed stop) (is_marked o.published stop) (is_marked o.written stop) (front.here (omega arith)) mine hidden in
       publish_stops e a a lo hi stop (Has x.0) NotWritten front.low high R before x.1
       (inr (F.shown stop x.0 x.1 mine ∙ hidden, inr (refl, inl (F.event stop x.0 x.1 mine ∙ ap not unwritten, refl)))) (refl, refl) (found_nothing a.knows) refl
 
 -- a sender that has the last sequence looked at nothing
-pub stood : (e a : SenderEnd) (o : Owned) (hi : ℕ) (own is : Bool) → own ≡ is_marked o.claimed hi → is_ready o hi ≡ true → Reaches e own hi a is → HasLoaded e e.knows a
+pub stood : (e a : SenderEnd) (o : Owned) (hi : ℕ) (own is : Bool) → own ≡ is_marked o.claimed hi → is_ready o hi ≡ true → Reaches e own hi a is
+    → HasLoaded e e.knows a
 stood e a o hi true is mine ready R = R.0
 stood e a o hi false is mine ready R = absurd (let yes = mine_ready o hi ready in cc)
 
-pub publish_done : (e a e' : SenderEnd) (o : Owned) (lo hi stop : ℕ) → SenderFits e.plan e.knows o → HasLoaded e e.knows a → IsFront (is_ready o) lo (hi + 1) stop → lo ≤ hi → hi < stop
+pub publish_done : (e a e' : SenderEnd) (o : Owned) (lo hi stop : ℕ) → SenderFits e.plan e.knows o → HasLoaded e e.knows a
+    → IsFront (is_ready o) lo (hi + 1) stop → lo ≤ hi → hi < stop
     → HasPublished a lo (hi + 1) e' → PublishCall e lo hi e' (Ok tt)
 publish_done e a e' o lo hi stop F L front order past P =
     let high = front.high in let n = hi + 1 - lo in
@@ -332,7 +347,8 @@ published_first e lo = let none : lo - lo ≡ 0 = omega arith in (
   sym (append-nil e.stored) ∙ ap (λ (n : ℕ). e.stored ++ publications e.knows.number lo n) (sym none),
 )
 
-pub published_next : (e a e' : SenderEnd) (lo s : ℕ) → lo ≤ s → HasPublished e lo s a → HasStored a (SenderPublishes a.knows.number s) (brought a.knows s published) e' → HasPublished e lo (s + 1) e'
+pub published_next : (e a e' : SenderEnd) (lo s : ℕ) → lo ≤ s → HasPublished e lo s a
+    → HasStored a (SenderPublishes a.knows.number s) (brought a.knows s published) e' → HasPublished e lo (s + 1) e'
 published_next e a e' lo s le P S =
     let before = P.2 in let next = S.2 in let n = s - lo in let p = e.knows.number in let more : n + 1 ≡ s + 1 - lo = omega arith in
     let number : a.knows.number ≡ p = ap (λ (q : SenderRecord). q.number) P.1 in (

@@ -29,11 +29,13 @@ pub stopped : (found : ℕ) → 9223372036854775808 ≤ found → is_halted foun
 stopped found le = le-leb halt_bit found (omega arith)
 
 -- what was found at each final leaves room
-pub found_room : (k : Shape) (c n need : ℕ) (counts : List ℕ) → is_halted c ≡ false → c + n ≤ k.limit → need ≡ c + n - k.size → IsEnough (finals k.upstreams) counts need → FoundRoom k c n counts
+pub found_room : (k : Shape) (c n need : ℕ) (counts : List ℕ) → is_halted c ≡ false → c + n ≤ k.limit → need ≡ c + n - k.size
+    → IsEnough (finals k.upstreams) counts need → FoundRoom k c n counts
 found_room k c n need counts on limit is E = record { going = on; limit = limit; all = E.all; room = λ i lt. (let a = E.high i lt in omega arith) }
 
 -- and is seen by the exchange
-pub sees_room : (k : Shape) (r q s : SenderRecord) (c n need : ℕ) → c + n ≤ k.limit → need ≡ c + n - k.size → q ≡ sender_looked r claim_word c → Scans k q need s true → SeesRoom k s c n
+pub sees_room : (k : Shape) (r q s : SenderRecord) (c n need : ℕ) → c + n ≤ k.limit → need ≡ c + n - k.size → q ≡ sender_looked r claim_word c
+    → Scans k q need s true → SeesRoom k s c n
 sees_room k r q s c n need limit is first S = record {
   limit = limit;
   completed = λ f has. (let a = seen_high (finals k.upstreams) S.0 q.looks f need S.2.all S.2.high (inl (has.0, has.1, has.2)) in
@@ -44,7 +46,8 @@ sees_room k r q s c n need limit is first S = record {
 abbrev pub first_looks : Shape → ℕ → List ℕ → List Look
 first_looks k c counts = look claim_word c ∷ gate_looks k counts
 
-pub looked_first : (k : Shape) (r q s : SenderRecord) (c : ℕ) (counts : List ℕ) → q ≡ sender_looked r claim_word c → s ≡ sender_saw q (gate_looks k counts) → s ≡ sender_saw r (first_looks k c counts)
+pub looked_first : (k : Shape) (r q s : SenderRecord) (c : ℕ) (counts : List ℕ) → q ≡ sender_looked r claim_word c
+    → s ≡ sender_saw q (gate_looks k counts) → s ≡ sender_saw r (first_looks k c counts)
 looked_first k r q s c counts first next = next ∙ ap (λ (x : SenderRecord). sender_saw x (gate_looks k counts)) first
     ∙ ap (λ (xs : List Look). record r { looks = xs }) (append_assoc r.looks (look claim_word c ∷ []) (gate_looks k counts))
 
@@ -57,7 +60,8 @@ hit r s t seen c hi n found was is same =
     is ∙ (let P : Bool → SenderRecord = λ b. if b then claimed_from s c n else sender_looked s claim_word found in ap P (eq-eqb found c same)) ∙ ap (λ (x : SenderRecord). claimed_from x c n) was
     ∙ ap (λ (xs : List Look). record (claimed_from r c n) { looks = xs }) (append_assoc r.looks seen (look claim_word (c + n) ∷ []))
 
-pub missed : (r s t : SenderRecord) (seen : List Look) (c n found : ℕ) → s ≡ sender_saw r seen → t ≡ after_exchange s c n found → found ≢ c → t ≡ sender_saw r (seen ++ look claim_word found ∷ [])
+pub missed : (r s t : SenderRecord) (seen : List Look) (c n found : ℕ) → s ≡ sender_saw r seen → t ≡ after_exchange s c n found → found ≢ c
+    → t ≡ sender_saw r (seen ++ look claim_word found ∷ [])
 missed r s t seen c n found was is other =
     is ∙ (let P : Bool → SenderRecord = λ b. if b then claimed_from s c n else sender_looked s claim_word found in ap P (ne_eqb found c other)) ∙ ap (λ (x : SenderRecord). sender_looked x claim_word found) was
     ∙ last_one r seen (look claim_word found)
@@ -74,8 +78,10 @@ pub record Tried (e : SenderEnd) (n c found : ℕ) (e' : SenderEnd) : Type 0 whe
   pub stored : e'.stored ≡ e.stored ++ SenderClaims e.knows.number c n ∷ []
   pub few : e.plan.limit ≤ 2 ^ 62
 
-pub tried : (e a b e' : SenderEnd) (n c need found : ℕ) → HasLoaded e (sender_looked e.knows claim_word c) a → HasLoaded a b.knows b → Scans a.plan a.knows need b.knows true
-    → HasStored b (SenderClaims b.knows.number c n) (after_exchange b.knows c n found) e' → IsCount e.plan n → c < 9223372036854775808 → c + n ≤ e.plan.limit → need ≡ c + n - e.plan.size → e.plan.limit ≤ 2 ^ 62
+pub tried : (e a b e' : SenderEnd) (n c need found : ℕ) → HasLoaded e (sender_looked e.knows claim_word c) a → HasLoaded a b.knows b
+    → Scans a.plan a.knows need b.knows true
+    → HasStored b (SenderClaims b.knows.number c n) (after_exchange b.knows c n found) e' → IsCount e.plan n → c < 9223372036854775808
+    → c + n ≤ e.plan.limit → need ≡ c + n - e.plan.size → e.plan.limit ≤ 2 ^ 62
     → Tried e n c found e'
 tried e a b e' n c need found A B S C counted low limit is few =
     let scan : Scans e.plan a.knows need b.knows true = subst (λ (k : Shape). Scans k a.knows need b.knows true) A.0.1 S in
@@ -131,8 +137,10 @@ claim_contended e e' n c found T other low = record {
 }
 
 -- what an exchange tells of the sequences that the sender had
-pub claim_apart : (e a b : SenderEnd) (n c need found : ℕ) → HasLoaded e (sender_looked e.knows claim_word c) a → HasLoaded a b.knows b → Scans a.plan a.knows need b.knows true
+pub claim_apart : (e a b : SenderEnd) (n c need found : ℕ) → HasLoaded e (sender_looked e.knows claim_word c) a → HasLoaded a b.knows b
+    → Scans a.plan a.knows need b.knows true
     → (found ≡ c → (s : ℕ) (t : Stage) → Owns b.knows s t → IsEarlier b.plan c (c + n) s t) → found ≡ c → ClaimsApart e c n
 claim_apart e a b n c need found A B S earlier hit s t own =
-    let plan : b.plan ≡ e.plan = B.0.1 ∙ A.0.1 in let list : b.knows.own ≡ e.knows.own = ap (λ (r : SenderRecord). r.own) S.1 ∙ ap (λ (r : SenderRecord). r.own) A.1 in
+    let plan : b.plan ≡ e.plan = B.0.1 ∙ A.0.1 in
+    let list : b.knows.own ≡ e.knows.own = ap (λ (r : SenderRecord). r.own) S.1 ∙ ap (λ (r : SenderRecord). r.own) A.1 in
     subst (λ (k : Shape). IsEarlier k c (c + n) s t) plan (earlier hit s t (own.0, ap (λ (xs : List Own). get_elem? xs own.0) list ∙ own.1))

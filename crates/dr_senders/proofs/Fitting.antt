@@ -58,7 +58,8 @@ abbrev no_marks : ℕ → Owned
 no_marks n = record { claimed = replicate n 0; written = replicate n 0; published = replicate n 0 }
 
 -- a new sender's
-pub fits_new : (k : Shape) (p : ℕ) (o : Owned) (n : ℕ) → n ≡ k.size → o ≡ record { claimed = replicate n 0; written = replicate n 0; published = replicate n 0 } → SenderFits k (fresh_sender p) o
+pub fits_new : (k : Shape) (p : ℕ) (o : Owned) (n : ℕ) → n ≡ k.size
+    → o ≡ record { claimed = replicate n 0; written = replicate n 0; published = replicate n 0 } → SenderFits k (fresh_sender p) o
 fits_new k p o n size is = let z : ℕ = 0 in
     subst (SenderFits k (fresh_sender p)) (sym (is ∙ ap no_marks size)) (record {
       claims = length-replicate k.size z;
@@ -219,7 +220,8 @@ fits_showed k r o s pos F mine =
     }
 
 -- and a stretch of them
-pub fits_published : (k : Shape) (r : SenderRecord) (o : Owned) (lo n : ℕ) → 0 < k.size → SenderFits k r o → ((s : ℕ) → lo ≤ s → s < lo + n → is_marked o.claimed s ≡ true)
+pub fits_published : (k : Shape) (r : SenderRecord) (o : Owned) (lo n : ℕ) → 0 < k.size → SenderFits k r o
+    → ((s : ℕ) → lo ≤ s → s < lo + n → is_marked o.claimed s ≡ true)
     → SenderFits k (published_between r lo (lo + n)) (record o { published = stamped (entry_of (length o.published)) o.published lo n })
 fits_published k r o lo zero pos F all =
     let end : lo + 0 ≡ lo = omega arith in
@@ -242,23 +244,28 @@ fits_published k r o lo (suc n) pos F all =
 -- What each call leaves of both.
 
 pub fits_claim : (e e' : SenderEnd) (n : ℕ) (c : Claimed) (o o' : Owned) → ClaimCall e n e' (Ok c) → ClaimsApart e c.lo n → IsCount e.plan n
-    → o' ≡ record o { claimed = stamped (entry_of (length o.claimed)) o.claimed c.lo (c.lo + n - c.lo) } → SenderFits e.plan e.knows o → SenderFits e'.plan e'.knows o'
+    → o' ≡ record o { claimed = stamped (entry_of (length o.claimed)) o.claimed c.lo (c.lo + n - c.lo) } → SenderFits e.plan e.knows o
+    → SenderFits e'.plan e'.knows o'
 fits_claim e e' n c o o' C apart count is F =
     let back : c.lo + n - c.lo ≡ n = omega arith in let grown = ap (λ (r : SenderRecord). r.own) C.knows in let f = entry_of (length o.claimed) in
     let list : o' ≡ record o { claimed = stamped f o.claimed c.lo n } = is ∙ ap (λ (m : ℕ). record o { claimed = stamped f o.claimed c.lo m }) back in
     subst (λ (k : Shape). SenderFits k e'.knows o') (sym C.stays.1)
     (subst (SenderFits e.plan e'.knows) (sym list) (fits_claimed e.knows e'.knows c.lo n grown e.plan o F count.0 count.1 apart))
 
-pub fits_write : (e e' : SenderEnd) (o o' : Owned) (s : ℕ) (event : Event) → 0 < e.plan.size → SenderFits e.plan e.knows o → is_marked o.claimed s ≡ true → Stays e e' → e'.knows ≡ brought e.knows s (written event)
+pub fits_write : (e e' : SenderEnd) (o o' : Owned) (s : ℕ) (event : Event) → 0 < e.plan.size → SenderFits e.plan e.knows o
+    → is_marked o.claimed s ≡ true → Stays e e' → e'.knows ≡ brought e.knows s (written event)
     → o' ≡ record o { written = set o.written (s % length o.written) (entry_of (length o.written) s) } → SenderFits e'.plan e'.knows o'
 fits_write e e' o o' s event pos F mine stays knows is =
     let fits = fits_wrote e.plan e.knows o s event pos F mine in
     subst (λ (k : Shape). SenderFits k e'.knows o') (sym stays.1) (subst (λ (q : SenderRecord). SenderFits e.plan q o') (sym knows) (subst (SenderFits e.plan (brought e.knows s (written event))) (sym is) fits))
 
-pub fits_publish : (e e' : SenderEnd) (o o' : Owned) (lo upto : ℕ) → 0 < e.plan.size → lo ≤ upto → SenderFits e.plan e.knows o → ((s : ℕ) → lo ≤ s → s < upto → is_marked o.claimed s ≡ true) → Stays e e'
-    → e'.knows ≡ published_between e.knows lo upto → o' ≡ record o { published = stamped (entry_of (length o.published)) o.published lo (upto - lo) } → SenderFits e'.plan e'.knows o'
+pub fits_publish : (e e' : SenderEnd) (o o' : Owned) (lo upto : ℕ) → 0 < e.plan.size → lo ≤ upto → SenderFits e.plan e.knows o
+    → ((s : ℕ) → lo ≤ s → s < upto → is_marked o.claimed s ≡ true) → Stays e e'
+    → e'.knows ≡ published_between e.knows lo upto → o' ≡ record o { published = stamped (entry_of (length o.published)) o.published lo (upto - lo) }
+    → SenderFits e'.plan e'.knows o'
 fits_publish e e' o o' lo upto pos le F mine stays knows is =
-    let end : lo + (upto - lo) ≡ upto = omega arith in let marks = record o { published = stamped (entry_of (length o.published)) o.published lo (upto - lo) } in
+    let end : lo + (upto - lo) ≡ upto = omega arith in
+    let marks = record o { published = stamped (entry_of (length o.published)) o.published lo (upto - lo) } in
     let fits = fits_published e.plan e.knows o lo (upto - lo) pos F (λ s low high. mine s low (omega arith)) in
     let now = subst (λ (m : ℕ). SenderFits e.plan (published_between e.knows lo m) marks) end fits in
     subst (λ (k : Shape). SenderFits k e'.knows o') (sym stays.1) (subst (λ (q : SenderRecord). SenderFits e.plan q o') (sym knows) (subst (SenderFits e.plan (published_between e.knows lo upto)) (sym is) now))

@@ -1,7 +1,7 @@
--- Each step keeps the rule.
-use Rattle.std.proofs.Common.{◌≡◌, ◌≢◌, ℕ, zero, suc, ◌+◌, ◌-◌, ◌<◌, ◌≤◌, inl, inr, Bool, true, false, ◌==◌, if◌then◌else◌, List, [], ◌∷◌, ◌++◌, length, get_or, set, replicate, Some, None, sym, refl, ap, ◌∙◌, subst, arith, length-set, get_or-set_same, get_or-set_other}
-use Rattle.std.proofs.lemmas.Bool.{cases_eq, cases_lt, eq-eqb, ne_eqb, eqb-true, or_cases, and_parts}
-use Rattle.std.proofs.lemmas.List.{length-append, length-replicate, length_push, get_or_append_left, get_or-append_right}
+-- Each step of a sender or the halter keeps the rule.
+use Rattle.std.proofs.Common.{◌≡◌, ◌≢◌, ℕ, zero, suc, ◌+◌, ◌<◌, ◌≤◌, inl, inr, Bool, true, false, if◌then◌else◌, List, ◌++◌, length, get_or, set, replicate, Some, None, sym, refl, ap, ◌∙◌, subst, arith, length-set, get_or-set_same, get_or-set_other}
+use Rattle.std.proofs.lemmas.Bool.{cases_eq, cases_lt, eq-eqb, ne_eqb}
+use Rattle.std.proofs.lemmas.List.{length-append, length-replicate}
 use mathlib.Core.Option.{some, some-injective, some-ne-none}
 use lib.ListN.{get_elem?}
 use Rattle.atomic_table.proofs.Lists.{at_set}
@@ -9,7 +9,7 @@ use Rattle.dr_seq.specs.declared.event.Event.{Event}
 use Rattle.dr_seq.specs.Event.{no_event}
 use Rattle.dr_seq.specs.Rounds.{entry_of}
 use Rattle.dr_graph.specs.Meaning.Graph.{IsGraph}
-use Rattle.dr_ring.proofs.Lists.{at_below, each_set, final_inside, last_look_more, last_look_else}
+use Rattle.dr_ring.proofs.Lists.{at_below, each_set, final_inside}
 use Rattle.dr_senders.specs.Meaning.Shape.{Shape, handlers_of}
 use Rattle.dr_senders.specs.Meaning.Words.{claim_word, claimed_in, is_halted, halted_from, halt_bit, count_word, mark_start, mark_word, payload_word, words_of}
 use Rattle.dr_senders.specs.declared.record.Stage.{Stage}
@@ -17,11 +17,11 @@ use Rattle.dr_senders.specs.declared.record.Own.{Own}
 use Rattle.dr_senders.specs.declared.record.SenderRecord.{SenderRecord}
 use Rattle.dr_senders.specs.declared.record.ReceiverRecord.{ReceiverRecord}
 use Rattle.dr_senders.specs.declared.record.HalterRecord.{HalterRecord}
-use Rattle.dr_senders.specs.Meaning.Records.{fresh_stage, half_written, written, published, fresh_own, own_after, brought, sender_looked, mark_found, claimed_from, receiver_looked, tells_drained, claims_looked, mark_looked, half_taken, took, completed_to, halter_halted, SeesRoom, IsBelowBarrier}
+use Rattle.dr_senders.specs.Meaning.Records.{fresh_stage, half_written, written, published, fresh_own, own_after, brought, sender_looked, mark_found, claimed_from, halter_halted, SeesRoom}
 use Rattle.dr_senders.specs.Meaning.Rule.{World, Room, IsOut, IsOutWith, StageKept, ArePast, SenderKept, ReceiverKept, KeepsRule}
-use Rattle.dr_senders.specs.Meaning.Steps.{sender_knows, sender_claims, sender_brings, receiver_knows, halted_words}
+use Rattle.dr_senders.specs.Meaning.Steps.{sender_knows, sender_claims, sender_brings, halted_words}
 use Rattle.dr_senders.proofs.Places.{word_at, more_left, more_right, more_cases, at_replicate, in_replicate, set_here, set_else, at_map, one_value, claimed_low, halted_low, claimed_halted, halted_rises, is_halted_from, Rises, rises_set, past_rises, past_more, last_look_le, own_slot, apart, rounds_rise, same_or_behind}
-use Rattle.dr_senders.proofs.Facts.{handler_inside, near_open, out_behind, upstream_inside, out_with, early, next_event, owned}
+use Rattle.dr_senders.proofs.Facts.{handler_inside, near_open, out_behind, upstream_inside, owned}
 
 -- what is published stays as it is
 abbrev pub Lasts : List Stage → List Stage → Type 0
@@ -34,11 +34,14 @@ out_with_lasts : (stages more : List Stage) → Lasts stages more → (s : ℕ) 
 out_with_lasts stages more L s e x = (x.0, L s x.0 x.1 x.2, x.2, x.3)
 
 -- where the words that a part speaks of stay or rise, and what is published stays, the part stays
-room_stays : (k : Shape) (words us : List ℕ) (n : ℕ) → Rises k words us → Room k words n → Room k us n
-room_stays k words us n rises room f final = let i = final_inside k.upstreams f final in let a = rises (count_word f) (omega arith) in let b = room f final in omega arith
+pub room_stays : (k : Shape) (words us : List ℕ) (n : ℕ) → Rises k words us → Room k words n → Room k us n
+room_stays k words us n rises room f final =
+    let i = final_inside k.upstreams f final in let a = rises (count_word f) (omega arith) in let b = room f final in omega arith
 
-receiver_stays : (k : Shape) (words us : List ℕ) (stages more : List Stage) (h : ℕ) (r : ReceiverRecord) → IsGraph k.upstreams → h < handlers_of k → word_at us (count_word h) ≡ word_at words (count_word h) → Rises k words us → Lasts stages more → length stages ≤ length more
-    → (r.told ≡ true → (is_halted (word_at us claim_word) ≡ true) × (length more ≤ length r.received)) → ReceiverKept k words stages h r → ReceiverKept k us more h r
+pub receiver_stays : (k : Shape) (words us : List ℕ) (stages more : List Stage) (h : ℕ) (r : ReceiverRecord) → IsGraph k.upstreams → h < handlers_of k
+    → word_at us (count_word h) ≡ word_at words (count_word h) → Rises k words us → Lasts stages more → length stages ≤ length more
+    → (r.told ≡ true → (is_halted (word_at us claim_word) ≡ true) × (length more ≤ length r.received)) → ReceiverKept k words stages h r
+    → ReceiverKept k us more h r
 receiver_stays k words us stages more h r graph inside same rises lasts longer told was = record {
   number = was.number;
   count = same ∙ was.count;
@@ -52,7 +55,8 @@ receiver_stays k words us stages more h r graph inside same rises lasts longer t
   looks = past_rises k words us r.looks rises was.looks;
 }
 
-sender_stays : (k : Shape) (words us : List ℕ) (stages more : List Stage) (q : ℕ) (r : SenderRecord) → Rises k words us → ((s : ℕ) (t : Stage) → get_elem? stages s ≡ some t → t.owner ≡ q → get_elem? more s ≡ some t)
+pub sender_stays : (k : Shape) (words us : List ℕ) (stages more : List Stage) (q : ℕ) (r : SenderRecord) → Rises k words us
+    → ((s : ℕ) (t : Stage) → get_elem? stages s ≡ some t → t.owner ≡ q → get_elem? more s ≡ some t)
     → SenderKept k words stages q r → SenderKept k us more q r
 sender_stays k words us stages more q r rises same was = record {
   number = was.number;
@@ -60,7 +64,8 @@ sender_stays k words us stages more q r rises same was = record {
   looks = past_rises k words us r.looks rises was.looks;
 }
 
-stage_stays : (k : Shape) (words us : List ℕ) (n s : ℕ) (t : Stage) → (n ≤ s + k.size → (word_at us (payload_word k s 0) ≡ word_at words (payload_word k s 0)) × (word_at us (payload_word k s 1) ≡ word_at words (payload_word k s 1)) × (word_at us (mark_word k s) ≡ word_at words (mark_word k s)))
+pub stage_stays : (k : Shape) (words us : List ℕ) (n s : ℕ) (t : Stage)
+    → (n ≤ s + k.size → (word_at us (payload_word k s 0) ≡ word_at words (payload_word k s 0)) × (word_at us (payload_word k s 1) ≡ word_at words (payload_word k s 1)) × (word_at us (mark_word k s) ≡ word_at words (mark_word k s)))
     → StageKept k words n s t → StageKept k us n s t
 stage_stays k words us n s t same S = record {
   whole = S.whole;
@@ -96,35 +101,20 @@ keeps_sender_looks k w p i r low at K = let was = K.sent p r at in
     (record { number = was.number; own = was.own; looks = past_more k w.words i (word_at w.words i) r.looks low (omega arith) was.looks }) K
 
 -- it looks at a mark
-pub keeps_mark_found : (k : Shape) (w : World) (p found : ℕ) (r : SenderRecord) → get_elem? w.senders p ≡ some r → KeepsRule k w → KeepsRule k (sender_knows w p (mark_found r found))
+pub keeps_mark_found : (k : Shape) (w : World) (p found : ℕ) (r : SenderRecord) → get_elem? w.senders p ≡ some r → KeepsRule k w
+    → KeepsRule k (sender_knows w p (mark_found r found))
 keeps_mark_found k w p found r at K = let was = K.sent p r at in sender_changes k w p (mark_found r found) (record { number = was.number; own = was.own; looks = was.looks }) K
-
--- a receiver's record changes
-receiver_changes : (k : Shape) (w : World) (h : ℕ) (r : ReceiverRecord) → ReceiverKept k w.words w.stages h r → KeepsRule k w → KeepsRule k (receiver_knows w h r)
-receiver_changes k w h r now K = record {
-  shape = K.shape;
-  wide = K.wide;
-  inlets = K.inlets;
-  outlets = length-set w.receivers h r ∙ K.outlets;
-  claim = K.claim;
-  limit = K.limit;
-  room = K.room;
-  stages = K.stages;
-  marks = K.marks;
-  marked = K.marked;
-  sent = K.sent;
-  received = each_set (ReceiverKept k w.words w.stages) w.receivers h r now (λ j q ne there. K.received j q there);
-  halter = K.halter;
-}
 
 pub fresh_at : (p c n i : ℕ) (o : Own) → get_elem? (fresh_own p c n) i ≡ some o → (i < n) × (record { sequence = c + i; stage = fresh_stage p } ≡ o)
 fresh_at p c zero i o at = absurd (some-ne-none o (sym at))
 fresh_at p c (suc n) zero o at = (omega arith, (let z : c + 0 ≡ c = omega arith in ap (λ (s : ℕ). let x : Own = record { sequence = s; stage = fresh_stage p } in x) z) ∙ some-injective _ o at)
 fresh_at p c (suc n) (suc i) o at =
-    let d = fresh_at p (suc c) n i o at in let l = d.0 in (omega arith, (let z : c + suc i ≡ suc c + i = omega arith in ap (λ (s : ℕ). let x : Own = record { sequence = s; stage = fresh_stage p } in x) z) ∙ d.1)
+    let d = fresh_at p (suc c) n i o at in
+    let l = d.0 in (omega arith, (let z : c + suc i ≡ suc c + i = omega arith in ap (λ (s : ℕ). let x : Own = record { sequence = s; stage = fresh_stage p } in x) z) ∙ d.1)
 
 -- a sender claims
-pub keeps_claims : (k : Shape) (w : World) (p c n : ℕ) (r : SenderRecord) → get_elem? w.senders p ≡ some r → 0 < n → SeesRoom k r c n → word_at w.words claim_word ≡ c → KeepsRule k w → KeepsRule k (sender_claims w p r c n)
+pub keeps_claims : (k : Shape) (w : World) (p c n : ℕ) (r : SenderRecord) → get_elem? w.senders p ≡ some r → 0 < n → SeesRoom k r c n
+    → word_at w.words claim_word ≡ c → KeepsRule k w → KeepsRule k (sender_claims w p r c n)
 keeps_claims k w p c n r at some_one room found K =
     let was = K.sent p r at in let us = set w.words claim_word (c + n) in let new = replicate n (fresh_stage p) in let more = w.stages ++ new in
     let wide = K.wide in let small = K.shape.small in let fits = room.limit in
@@ -184,12 +174,15 @@ keeps_claims k w p c n r at some_one room found K =
     }
 
 -- the highest bit of the claim word is set
-halting : (k : Shape) (w : World) (senders : List SenderRecord) (halter : HalterRecord) → length senders ≡ k.senders → ((p : ℕ) (r : SenderRecord) → get_elem? senders p ≡ some r → SenderKept k (halted_words w) w.stages p r) → ArePast k (halted_words w) halter.looks
+halting : (k : Shape) (w : World) (senders : List SenderRecord) (halter : HalterRecord) → length senders ≡ k.senders
+    → ((p : ℕ) (r : SenderRecord) → get_elem? senders p ≡ some r → SenderKept k (halted_words w) w.stages p r)
+    → ArePast k (halted_words w) halter.looks
     → KeepsRule k w → KeepsRule k (record w { words = halted_words w; senders = senders; halter = halter })
 halting k w senders halter count sent looks K =
     let n = word_at w.words claim_word in let us = halted_words w in let wide = K.wide in
     let here : word_at us claim_word ≡ halted_from n = get_or-set_same w.words claim_word (halted_from n) 0 (omega arith) in
-    let stays : (j : ℕ) → 0 < j → word_at us j ≡ word_at w.words j = λ j pos. get_or-set_other w.words claim_word j (halted_from n) 0 (λ (e : j ≡ 0). omega arith) in
+    let stays : (j : ℕ) → 0 < j
+    → word_at us j ≡ word_at w.words j = λ j pos. get_or-set_other w.words claim_word j (halted_from n) 0 (λ (e : j ≡ 0). omega arith) in
     let rises : Rises k w.words us = rises_set k w.words claim_word (halted_from n) (omega arith) (λ _. halted_rises n) in record {
       shape = K.shape;
       wide = length-set w.words claim_word (halted_from n) ∙ K.wide;
@@ -223,14 +216,16 @@ keeps_sender_halts k w p r at K =
     (λ q x ne there. sender_stays k w.words us w.stages w.stages q x rises (λ s t old _. old) (K.sent q x there)))
     (past_rises k w.words us w.halter.looks rises K.halter) K
 
-pub keeps_halter_halts : (k : Shape) (w : World) → KeepsRule k w → KeepsRule k (record w { words = halted_words w; halter = halter_halted w.halter (word_at w.words claim_word) })
+pub keeps_halter_halts : (k : Shape) (w : World) → KeepsRule k w
+    → KeepsRule k (record w { words = halted_words w; halter = halter_halted w.halter (word_at w.words claim_word) })
 keeps_halter_halts k w K =
     let n = word_at w.words claim_word in let us = halted_words w in let rises = halt_rises k w K in let here = halt_here k w K in
     halting k w w.senders (halter_halted w.halter n) K.inlets (λ p x there. sender_stays k w.words us w.stages w.stages p x rises (λ s t old _. old) (K.sent p x there))
     (past_more k us claim_word (halted_from n) w.halter.looks (omega arith) (omega arith) (past_rises k w.words us w.halter.looks rises K.halter)) K
 
 -- one of a sender's sequences after it was brought further
-brought_own : (p s : ℕ) (t : Stage) (further : Stage → Stage) (stages : List Stage) (o : Own) → s < length stages → (further t).owner ≡ p → get_elem? stages s ≡ some t → (o.stage.owner ≡ p) × (get_elem? stages o.sequence ≡ some o.stage)
+brought_own : (p s : ℕ) (t : Stage) (further : Stage → Stage) (stages : List Stage) (o : Own) → s < length stages → (further t).owner ≡ p
+    → get_elem? stages s ≡ some t → (o.stage.owner ≡ p) × (get_elem? stages o.sequence ≡ some o.stage)
     → ((own_after s further o).stage.owner ≡ p) × (get_elem? (set stages s (further t)) (own_after s further o).sequence ≡ some (own_after s further o).stage)
 brought_own p s t further stages o inside owner at was =
     let more = set stages s (further t) in let Q : Own → Type 0 = λ x. (x.stage.owner ≡ p) × (get_elem? more x.sequence ≡ some x.stage) in
@@ -242,7 +237,8 @@ brought_own p s t further stages o inside owner at was =
     ]
 
 -- a sender stores a word, and brings one of its sequences further
-keeps_brings : (k : Shape) (w : World) (p s i : ℕ) (r : SenderRecord) (t : Stage) (further : Stage → Stage) (word v : ℕ) → get_elem? w.senders p ≡ some r → get_elem? r.own i ≡ some record { sequence = s; stage = t } → t.published ≡ false → (further t).owner ≡ t.owner
+keeps_brings : (k : Shape) (w : World) (p s i : ℕ) (r : SenderRecord) (t : Stage) (further : Stage → Stage) (word v : ℕ)
+    → get_elem? w.senders p ≡ some r → get_elem? r.own i ≡ some record { sequence = s; stage = t } → t.published ≡ false → (further t).owner ≡ t.owner
     → mark_start k ≤ word → word < words_of k
     → ((z : ℕ) (u : Stage) → get_elem? (set w.stages s (further t)) z ≡ some u → StageKept k (set w.words word v) (length w.stages) z u)
     → ((z : ℕ) → entry_of k.size z ≤ word_at (set w.words word v) (mark_word k z) → IsOut (set w.stages s (further t)) z)
@@ -252,13 +248,15 @@ keeps_brings k w p s i r t further word v at has unshown owner low high stages m
     let was = K.sent p r at in let us = set w.words word v in let more = set w.stages s (further t) in let wide = K.wide in
     let own = owned k w p r s i t at has K in let inside : s < length w.stages = at_below w.stages s t own.1 in
     let len : length more ≡ length w.stages = length-set w.stages s (further t) in
-    let stays : (j : ℕ) → j < mark_start k → word_at us j ≡ word_at w.words j = λ j below. get_or-set_other w.words word j v 0 (λ (e : j ≡ word). omega arith) in
+    let stays : (j : ℕ) → j < mark_start k
+    → word_at us j ≡ word_at w.words j = λ j below. get_or-set_other w.words word j v 0 (λ (e : j ≡ word). omega arith) in
     let rises : Rises k w.words us = rises_set k w.words word v (omega arith) (λ h. absurd (omega arith)) in
     let lasts : Lasts w.stages more = λ z u there shown. elim (cases_eq z s) [
       | inl e ↦ absurd (let same : t ≡ u = one_value w.stages s t u own.1 (ap (λ (j : ℕ). get_elem? w.stages j) (sym e) ∙ there) in let no : u.published ≡ false = ap (λ (y : Stage). y.published) (sym same) ∙ unshown in cc)
       | inr ne ↦ set_else w.stages s z (further t) u ne there
     ] in
-    let others : (q : ℕ) → q ≢ p → (z : ℕ) (u : Stage) → get_elem? w.stages z ≡ some u → u.owner ≡ q → get_elem? more z ≡ some u = λ q ne z u there is. elim (cases_eq z s) [
+    let others : (q : ℕ) → q ≢ p → (z : ℕ) (u : Stage) → get_elem? w.stages z ≡ some u → u.owner ≡ q
+    → get_elem? more z ≡ some u = λ q ne z u there is. elim (cases_eq z s) [
       | inl e ↦ absurd (let same : t ≡ u = one_value w.stages s t u own.1 (ap (λ (j : ℕ). get_elem? w.stages j) (sym e) ∙ there) in ne (sym is ∙ ap (λ (y : Stage). y.owner) (sym same) ∙ own.0))
       | inr other ↦ set_else w.stages s z (further t) u other there
     ] in record {
@@ -286,17 +284,20 @@ keeps_brings k w p s i r t further word v at has unshown owner low high stages m
     }
 
 -- the stages after one was brought further, by that one and the others
-each_stage : (P : ℕ → Stage → Type 0) (stages : List Stage) (s : ℕ) (t : Stage) → P s t → ((z : ℕ) (u : Stage) → z ≢ s → get_elem? stages z ≡ some u → P z u) → (z : ℕ) (u : Stage) → get_elem? (set stages s t) z ≡ some u → P z u
+each_stage : (P : ℕ → Stage → Type 0) (stages : List Stage) (s : ℕ) (t : Stage) → P s t
+    → ((z : ℕ) (u : Stage) → z ≢ s → get_elem? stages z ≡ some u → P z u) → (z : ℕ) (u : Stage) → get_elem? (set stages s t) z ≡ some u → P z u
 each_stage P stages s t here rest z u there = elim (at_set stages s z t u there) [
   | inl x ↦ subst (λ (m : ℕ). P m u) (sym x.0) (subst (P s) x.1 here)
   | inr x ↦ rest z u x.0 x.1
 ]
 
 -- the payload of another sequence
-other_payload : (k : Shape) (w : World) (s z j v : ℕ) (t u : Stage) → z ≢ s → j < 2 → get_elem? w.stages s ≡ some t → t.published ≡ false → get_elem? w.stages z ≡ some u → KeepsRule k w
+other_payload : (k : Shape) (w : World) (s z j v : ℕ) (t u : Stage) → z ≢ s → j < 2 → get_elem? w.stages s ≡ some t → t.published ≡ false
+    → get_elem? w.stages z ≡ some u → KeepsRule k w
     → StageKept k (set w.words (payload_word k s j) v) (length w.stages) z u
 other_payload k w s z j v t u ne low at unshown there K =
-    let us = set w.words (payload_word k s j) v in let near = near_open k w s t at unshown K in let a = at_below w.stages s t at in let b = at_below w.stages z u there in
+    let us = set w.words (payload_word k s j) v in let near = near_open k w s t at unshown K in let a = at_below w.stages s t at in
+    let b = at_below w.stages z u there in
     stage_stays k w.words us (length w.stages) z u
     (λ close. (
       get_or-set_other w.words (payload_word k s j) (payload_word k z 0) v 0 (apart k z s 0 j ne (omega arith) (omega arith) (omega arith) low),
@@ -327,10 +328,12 @@ marked_stay k w s j v t' unshown K z x =
       | inr old ↦ (let a = K.marked z (x.0, old.1, x.2) in omega arith)
     ]
 
-pub keeps_first : (k : Shape) (w : World) (p s i v : ℕ) (r : SenderRecord) (t : Stage) → get_elem? w.senders p ≡ some r → get_elem? r.own i ≡ some record { sequence = s; stage = t } → t.published ≡ false → KeepsRule k w
+pub keeps_first : (k : Shape) (w : World) (p s i v : ℕ) (r : SenderRecord) (t : Stage) → get_elem? w.senders p ≡ some r
+    → get_elem? r.own i ≡ some record { sequence = s; stage = t } → t.published ≡ false → KeepsRule k w
     → KeepsRule k (sender_brings w p r s t (half_written v) (payload_word k s 0) v)
 keeps_first k w p s i v r t at has unshown K =
-    let here = (owned k w p r s i t at has K).1 in let us = set w.words (payload_word k s 0) v in let S = K.stages s t here in let wide = K.wide in let pos = K.shape.some_slot in
+    let here = (owned k w p r s i t at has K).1 in let us = set w.words (payload_word k s 0) v in let S = K.stages s t here in let wide = K.wide in
+    let pos = K.shape.some_slot in
     keeps_brings k w p s i r t (half_written v) (payload_word k s 0) v at has unshown refl (omega arith) (omega arith)
     (each_stage (StageKept k us (length w.stages)) w.stages s (half_written v t)
     (record {
@@ -343,10 +346,12 @@ keeps_first k w p s i v r t at has unshown K =
     (λ z u ne there. other_payload k w s z 0 v t u ne (omega arith) here unshown there K))
     (marks_stay k w s 0 v t (half_written v t) here unshown K) (marked_stay k w s 0 v (half_written v t) unshown K) K
 
-pub keeps_second : (k : Shape) (w : World) (p s i first v : ℕ) (r : SenderRecord) (t : Stage) → get_elem? w.senders p ≡ some r → get_elem? r.own i ≡ some record { sequence = s; stage = t } → t.published ≡ false → t.half ≡ Some first → KeepsRule k w
+pub keeps_second : (k : Shape) (w : World) (p s i first v : ℕ) (r : SenderRecord) (t : Stage) → get_elem? w.senders p ≡ some r
+    → get_elem? r.own i ≡ some record { sequence = s; stage = t } → t.published ≡ false → t.half ≡ Some first → KeepsRule k w
     → KeepsRule k (sender_brings w p r s t (written record { first = first; second = v }) (payload_word k s 1) v)
 keeps_second k w p s i first v r t at has unshown half K =
-    let here = (owned k w p r s i t at has K).1 in let us = set w.words (payload_word k s 1) v in let S = K.stages s t here in let wide = K.wide in let pos = K.shape.some_slot in let event : Event = record { first = first; second = v } in
+    let here = (owned k w p r s i t at has K).1 in let us = set w.words (payload_word k s 1) v in let S = K.stages s t here in let wide = K.wide in
+    let pos = K.shape.some_slot in let event : Event = record { first = first; second = v } in
     keeps_brings k w p s i r t (written event) (payload_word k s 1) v at has unshown refl (omega arith) (omega arith)
     (each_stage (StageKept k us (length w.stages)) w.stages s (written event t)
     (record {
@@ -360,7 +365,8 @@ keeps_second k w p s i first v r t at has unshown half K =
     (marks_stay k w s 1 v t (written event t) here unshown K) (marked_stay k w s 1 v (written event t) unshown K) K
 
 -- once a mark is stored, whoever finds it or a later one finds its sequence published
-publishes_marks : (k : Shape) (w : World) (s : ℕ) (t : Stage) → get_elem? w.stages s ≡ some t → mark_word k s < length w.words → t.published ≡ false → KeepsRule k w
+publishes_marks : (k : Shape) (w : World) (s : ℕ) (t : Stage) → get_elem? w.stages s ≡ some t → mark_word k s < length w.words → t.published ≡ false
+    → KeepsRule k w
     → (z : ℕ) → entry_of k.size z ≤ word_at (set w.words (mark_word k s) (entry_of k.size s)) (mark_word k z) → IsOut (set w.stages s (published t)) z
 publishes_marks k w s t here wide unshown K z le =
     let v = entry_of k.size s in let us = set w.words (mark_word k s) v in let inside = at_below w.stages s t here in
@@ -376,7 +382,8 @@ publishes_marks k w s t here wide unshown K z le =
     ]
 
 -- and what is published finds its mark or a later one
-publishes_marked : (k : Shape) (w : World) (s : ℕ) (t : Stage) → get_elem? w.stages s ≡ some t → mark_word k s < length w.words → t.published ≡ false → KeepsRule k w
+publishes_marked : (k : Shape) (w : World) (s : ℕ) (t : Stage) → get_elem? w.stages s ≡ some t → mark_word k s < length w.words → t.published ≡ false
+    → KeepsRule k w
     → (z : ℕ) → IsOut (set w.stages s (published t)) z → entry_of k.size z ≤ word_at (set w.words (mark_word k s) (entry_of k.size s)) (mark_word k z)
 publishes_marked k w s t here wide unshown K z x =
     let v = entry_of k.size s in let us = set w.words (mark_word k s) v in let near = near_open k w s t here unshown K in let pos = K.shape.some_slot in
@@ -394,12 +401,15 @@ publishes_marked k w s t here wide unshown K z x =
           ])
     ]
 
-pub keeps_publishes : (k : Shape) (w : World) (p s i : ℕ) (r : SenderRecord) (t : Stage) (event : Event) → get_elem? w.senders p ≡ some r → get_elem? r.own i ≡ some record { sequence = s; stage = t } → t.published ≡ false → t.half ≡ None → t.event ≡ Some event → KeepsRule k w
+pub keeps_publishes : (k : Shape) (w : World) (p s i : ℕ) (r : SenderRecord) (t : Stage) (event : Event) → get_elem? w.senders p ≡ some r
+    → get_elem? r.own i ≡ some record { sequence = s; stage = t } → t.published ≡ false → t.half ≡ None → t.event ≡ Some event → KeepsRule k w
     → KeepsRule k (sender_brings w p r s t published (mark_word k s) (entry_of k.size s))
 keeps_publishes k w p s i r t event at has unshown none whole K =
-    let here = (owned k w p r s i t at has K).1 in let v = entry_of k.size s in let us = set w.words (mark_word k s) v in let S = K.stages s t here in let wide = K.wide in let pos = K.shape.some_slot in
+    let here = (owned k w p r s i t at has K).1 in let v = entry_of k.size s in let us = set w.words (mark_word k s) v in let S = K.stages s t here in
+    let wide = K.wide in let pos = K.shape.some_slot in
     let near = near_open k w s t here unshown K in let inside = at_below w.stages s t here in
-    let payload : (z j : ℕ) → word_at us (payload_word k z j) ≡ word_at w.words (payload_word k z j) = λ z j. get_or-set_other w.words (mark_word k s) (payload_word k z j) v 0 (λ e. omega arith) in
+    let payload : (z j : ℕ)
+    → word_at us (payload_word k z j) ≡ word_at w.words (payload_word k z j) = λ z j. get_or-set_other w.words (mark_word k s) (payload_word k z j) v 0 (λ e. omega arith) in
     keeps_brings k w p s i r t published (mark_word k s) v at has unshown refl (omega arith) (omega arith)
     (each_stage (StageKept k us (length w.stages)) w.stages s (published t)
     (record {
@@ -412,151 +422,3 @@ keeps_publishes k w p s i r t event at has unshown none whole K =
     (λ z u ne there. let b = at_below w.stages z u there in stage_stays k w.words us (length w.stages) z u
     (λ close. (payload z 0, payload z 1, get_or-set_other w.words (mark_word k s) (mark_word k z) v 0 (λ e. own_slot k z s ne (omega arith) (omega arith) (omega arith)))) (K.stages z u there)))
     (publishes_marks k w s t here (omega arith) unshown K) (publishes_marked k w s t here (omega arith) unshown K) K
-
--- a receiver looks at an upstream's count
-pub keeps_receiver_looks : (k : Shape) (w : World) (h i : ℕ) (r : ReceiverRecord) → 0 < i → i < mark_start k → get_elem? w.receivers h ≡ some r → KeepsRule k w → KeepsRule k (receiver_knows w h (receiver_looked r i (word_at w.words i)))
-keeps_receiver_looks k w h i r pos low at K = let was = K.received h r at in receiver_changes k w h (receiver_looked r i (word_at w.words i)) (record {
-  number = was.number;
-  count = was.count;
-  completed = was.completed;
-  after = was.after;
-  beginning = was.beginning;
-  seen = was.seen;
-  half = was.half;
-  told = was.told;
-  claims = let a = was.claims in let b = last_look_else 0 r.looks i claim_word (word_at w.words i) (λ (e : i ≡ claim_word). omega arith) in let c = ap claimed_in b in omega arith;
-  looks = past_more k w.words i (word_at w.words i) r.looks low (omega arith) was.looks;
-}) K
-
--- a look that tells a receiver that the ring drained tells the truth
-pub tells_truth : (k : Shape) (w : World) (r : ReceiverRecord) → tells_drained r (word_at w.words claim_word) ≡ true → KeepsRule k w → (is_halted (word_at w.words claim_word) ≡ true) × (length w.stages ≡ length r.received)
-tells_truth k w r tells K =
-    let n = word_at w.words claim_word in let both : (is_halted n ≡ true) × ((claimed_in n == length r.received) ≡ true) = and_parts _ _ tells in
-    (both.0, sym K.claim ∙ eqb-true _ _ both.1)
-
-pub keeps_claims_look : (k : Shape) (w : World) (h : ℕ) (r : ReceiverRecord) → get_elem? w.receivers h ≡ some r → KeepsRule k w → KeepsRule k (receiver_knows w h (claims_looked r (word_at w.words claim_word)))
-keeps_claims_look k w h r at K = let was = K.received h r at in let n = word_at w.words claim_word in receiver_changes k w h (claims_looked r n) (record {
-  number = was.number;
-  count = was.count;
-  completed = was.completed;
-  after = was.after;
-  beginning = was.beginning;
-  seen = was.seen;
-  half = was.half;
-  told = λ yes. elim (or_cases r.told (tells_drained r n) yes) [
-    | inl before ↦ was.told before
-    | inr now ↦ (let t = tells_truth k w r now K in let e = t.1 in (t.0, omega arith))
-  ];
-  claims = let a = ap claimed_in (last_look_more 0 r.looks claim_word n) in let b = K.claim in omega arith;
-  looks = past_more k w.words claim_word n r.looks (omega arith) (omega arith) was.looks;
-}) K
-
--- a mark that is found is of a published sequence
-pub keeps_mark_look : (k : Shape) (w : World) (h : ℕ) (r : ReceiverRecord) → get_elem? w.receivers h ≡ some r → KeepsRule k w → KeepsRule k (receiver_knows w h (mark_looked k r (word_at w.words (mark_word k r.seen))))
-keeps_mark_look k w h r at K = let was = K.received h r at in let n = word_at w.words (mark_word k r.seen) in receiver_changes k w h (mark_looked k r n) (record {
-  number = was.number;
-  count = was.count;
-  completed = was.completed;
-  after = was.after;
-  beginning = was.beginning;
-  seen = elim (cases_eq n (entry_of k.size r.seen)) [
-    | inl e ↦ (let P : Bool → Type 0 = λ b. (s : ℕ) → s < (if b then r.seen + 1 else r.seen) → IsOut w.stages s in
-        subst P (sym (eq-eqb n (entry_of k.size r.seen) e)) (λ s lt. elim (cases_lt s r.seen) [
-          | inl old ↦ was.seen s old
-          | inr new ↦ (let same : r.seen ≡ s = omega arith in subst (IsOut w.stages) same (K.marks r.seen (omega arith)))
-        ]))
-    | inr ne ↦ (let P : Bool → Type 0 = λ b. (s : ℕ) → s < (if b then r.seen + 1 else r.seen) → IsOut w.stages s in
-        subst P (sym (ne_eqb n (entry_of k.size r.seen) ne)) was.seen)
-  ];
-  half = was.half;
-  told = was.told;
-  claims = was.claims;
-  looks = was.looks;
-}) K
-
-pub keeps_half_taken : (k : Shape) (w : World) (h : ℕ) (r : ReceiverRecord) → get_elem? w.receivers h ≡ some r → IsBelowBarrier k h r → KeepsRule k w → KeepsRule k (receiver_knows w h (half_taken r (word_at w.words (payload_word k (length r.received) 0))))
-keeps_half_taken k w h r at low K =
-    let was = K.received h r at in let x = out_with k w (length r.received) (early k w h r at low K) K in let event = next_event k w h r x.0 at x.1 K in
-    let found = word_at w.words (payload_word k (length r.received) 0) in receiver_changes k w h (half_taken r found) (record {
-      number = was.number;
-      count = was.count;
-      completed = was.completed;
-      after = was.after;
-      beginning = was.beginning;
-      seen = was.seen;
-      half = λ v e. (let same : found ≡ v = cc in (x.0, x.1, sym same ∙ event.0));
-      told = was.told;
-      claims = was.claims;
-      looks = was.looks;
-    }) K
-
--- the event that is taken
-pub taken_event : (k : Shape) (w : World) (h first : ℕ) (r : ReceiverRecord) → get_elem? w.receivers h ≡ some r → r.half ≡ Some first → KeepsRule k w
-    → IsOutWith w.stages (length r.received) record { first = first; second = word_at w.words (payload_word k (length r.received) 1) }
-taken_event k w h first r at half K =
-    let was = K.received h r at in let d = was.half first half in let event = next_event k w h r d.0 at d.1 K in
-    let same : d.0 ≡ record { first = first; second = word_at w.words (payload_word k (length r.received) 1) } = λ i. record { first = sym d.2 i; second = sym event.1 i } in
-    subst (IsOutWith w.stages (length r.received)) same d.1
-
-pub keeps_takes : (k : Shape) (w : World) (h first : ℕ) (r : ReceiverRecord) → get_elem? w.receivers h ≡ some r → r.half ≡ Some first → IsBelowBarrier k h r → KeepsRule k w
-    → KeepsRule k (receiver_knows w h (took r record { first = first; second = word_at w.words (payload_word k (length r.received) 1) }))
-keeps_takes k w h first r at half low K =
-    let was = K.received h r at in let n = length r.received in
-    let found : Event = record { first = first; second = word_at w.words (payload_word k n 1) } in
-    let event : IsOutWith w.stages n found = taken_event k w h first r at half K in
-    let longer : length (r.received ++ found ∷ []) ≡ n + 1 = length_push r.received found in
-    let claimed = at_below w.stages n event.0 event.1 in
-    receiver_changes k w h (took r found) (record {
-      number = was.number;
-      count = was.count;
-      completed = let c = was.completed in omega arith;
-      after = λ u up. (let i = upstream_inside k K.shape.graph h u (handler_inside k w h r at K) up in let a = low.completed u up in let b = last_look_le k w.words 0 r.looks (count_word u) (omega arith) was.looks in omega arith);
-      beginning = λ s lt. elim (cases_lt s n) [
-        | inl old ↦ subst (IsOutWith w.stages s) (sym (get_or_append_left r.received (found ∷ []) no_event s old)) (was.beginning s old)
-        | inr new ↦ (let same : n ≡ s = omega arith in let z : s - n ≡ 0 = omega arith in
-            subst (IsOutWith w.stages s) (sym (get_or-append_right r.received (found ∷ []) n s no_event refl new ∙ ap (λ (j : ℕ). get_or (found ∷ []) j no_event) z)) (subst (λ (m : ℕ). IsOutWith w.stages m found) same event))
-      ];
-      seen = was.seen;
-      half = λ v e. absurd (cc);
-      told = λ yes. absurd (let t = (was.told yes).1 in omega arith);
-      claims = was.claims;
-      looks = was.looks;
-    }) K
-
-pub keeps_completes : (k : Shape) (w : World) (h n : ℕ) (r : ReceiverRecord) → get_elem? w.receivers h ≡ some r → r.completed ≤ n → n ≤ length r.received → KeepsRule k w
-    → KeepsRule k (record w { words = set w.words (count_word h) n; receivers = set w.receivers h (completed_to r n) })
-keeps_completes k w h n r at rise le K =
-    let was = K.received h r at in let lt : h < handlers_of k = handler_inside k w h r at K in
-    let wide = K.wide in let i = count_word h in let us = set w.words i n in let inside : i < length w.words = omega arith in let done = was.count in
-    let here : word_at us i ≡ n = get_or-set_same w.words i n 0 inside in
-    let stays : (j : ℕ) → j ≢ i → word_at us j ≡ word_at w.words j = λ j ne. get_or-set_other w.words i j n 0 ne in
-    let rises : Rises k w.words us = rises_set k w.words i n inside (λ _. omega arith) in
-    let one = stays claim_word (λ e. omega arith) in record {
-      shape = K.shape;
-      wide = length-set w.words i n ∙ K.wide;
-      inlets = K.inlets;
-      outlets = length-set w.receivers h (completed_to r n) ∙ K.outlets;
-      claim = ap claimed_in one ∙ K.claim;
-      limit = K.limit;
-      room = room_stays k w.words us (length w.stages) rises K.room;
-      stages = λ s t there. stage_stays k w.words us (length w.stages) s t (λ _. (stays (payload_word k s 0) (λ e. omega arith), stays (payload_word k s 1) (λ e. omega arith), stays (mark_word k s) (λ e. omega arith))) (K.stages s t there);
-      marks = λ s low. K.marks s (let e = stays (mark_word k s) (λ e. omega arith) in omega arith);
-      marked = λ s x. (let a = K.marked s x in let e = stays (mark_word k s) (λ e. omega arith) in omega arith);
-      sent = λ p q there. sender_stays k w.words us w.stages w.stages p q rises (λ s t x _. x) (K.sent p q there);
-      received = each_set (ReceiverKept k us w.stages) w.receivers h (completed_to r n)
-          (record {
-            number = was.number;
-            count = here;
-            completed = le;
-            after = λ u isup. (let in_graph = upstream_inside k K.shape.graph h u lt isup in let a = was.after u isup in let b = rises (count_word u) (omega arith) in omega arith);
-            beginning = was.beginning;
-            seen = was.seen;
-            half = was.half;
-            told = λ yes. (ap is_halted one ∙ (was.told yes).0, (was.told yes).1);
-            claims = was.claims;
-            looks = past_rises k w.words us r.looks rises was.looks;
-          })
-          (λ j q ne there. (let old = K.received j q there in
-          receiver_stays k w.words us w.stages w.stages j q K.shape.graph (handler_inside k w j q there K) (stays (count_word j) (λ e. ne (omega arith))) rises (λ s t x _. x) (omega arith) (λ yes. (ap is_halted one ∙ (old.told yes).0, (old.told yes).1)) old));
-      halter = past_rises k w.words us w.halter.looks rises K.halter;
-    }

@@ -35,7 +35,8 @@ pub staged_has : (P : ℕ → Bool) (f : Stage → Stage) (own : List Own) (i z 
 staged_has P f own i z t at = map_there (staged P f) own i (own_of z t) at ∙ ap (λ (x : Own). some x) (stage_or (P z) z t (f t))
 
 -- and had before
-pub staged_from : (P : ℕ → Bool) (f : Stage → Stage) (own : List Own) (i z : ℕ) (u : Stage) → get_elem? (map (staged P f) own) i ≡ some record { sequence = z; stage = u }
+pub staged_from : (P : ℕ → Bool) (f : Stage → Stage) (own : List Own) (i z : ℕ) (u : Stage)
+    → get_elem? (map (staged P f) own) i ≡ some record { sequence = z; stage = u }
     → (t : Stage) × (get_elem? own i ≡ some record { sequence = z; stage = t }) × (u ≡ (if P z then f t else t))
 staged_from P f own i z u at =
     let x = at_map (staged P f) own i (own_of z u) at in let o : Own = x.0 in
@@ -76,7 +77,8 @@ past_between : (lo s : ℕ) → lo ≤ s → (nat_le lo s && nat_lt s s) ≡ fal
 past_between lo s le = ap (λ (b : Bool). b && nat_lt s s) (le-leb lo s le) ∙ le-ltb s s (omega arith)
 
 -- two steps of one list are one step
-both : (p q both : Bool) (z : ℕ) (t : Stage) → (if q then published (if p then published t else t) else (if p then published t else t)) ≡ (if both then published t else t)
+both : (p q both : Bool) (z : ℕ) (t : Stage)
+    → (if q then published (if p then published t else t) else (if p then published t else t)) ≡ (if both then published t else t)
     → own_of z (if q then published (if p then published t else t) else (if p then published t else t)) ≡ own_of z (if both then published t else t)
 both p q b z t same = ap (own_of z) same
 
@@ -123,7 +125,8 @@ mark_else l at s pos ne before =
       | inr other ↦ rw length-set (rw (get_or-set_other l (at % length l) (s % length l) (entry_of (length l) at) 0 other) before)
     ]
 
-none_marked : (l : List ℕ) (from n s : ℕ) → 0 < length l → ((j : ℕ) → j < n → s ≢ from + j) → is_marked l s ≡ false → is_marked (stamped (entry_of (length l)) l from n) s ≡ false
+none_marked : (l : List ℕ) (from n s : ℕ) → 0 < length l → ((j : ℕ) → j < n → s ≢ from + j) → is_marked l s ≡ false
+    → is_marked (stamped (entry_of (length l)) l from n) s ≡ false
 unfolding stamped
 none_marked l from zero s pos out before = before
 none_marked l from (suc n) s pos out before =
@@ -132,7 +135,8 @@ none_marked l from (suc n) s pos out before =
     rw len at (mark_else (stamped (entry_of (length l)) l from n) (from + n) s (omega arith) (out n (omega arith)) so_far)
 
 -- what is marked after a stretch was is of the stretch, or was marked before
-pub marked_was : (l : List ℕ) (from n s : ℕ) → 0 < length l → is_marked (stamped (entry_of (length l)) l from n) s ≡ true → ((from ≤ s) × (s < from + n)) ⊎ (is_marked l s ≡ true)
+pub marked_was : (l : List ℕ) (from n s : ℕ) → 0 < length l → is_marked (stamped (entry_of (length l)) l from n) s ≡ true
+    → ((from ≤ s) × (s < from + n)) ⊎ (is_marked l s ≡ true)
 marked_was l from n s pos now = elim (cases_Bool (is_marked l s)) [
   | inl before ↦ inr before
   | inr not_before ↦ elim (cases_lt s from) [
@@ -176,7 +180,8 @@ none_fresh size s marked =
 pub mark_first : (xs : List ℕ) (from : ℕ) → xs ≡ stamped (entry_of (length xs)) xs from (from - from)
 mark_first xs from = let none : from - from ≡ 0 = omega arith in sym (ap (stamped (entry_of (length xs)) xs from) none ∙ stamped-none (entry_of (length xs)) xs from)
 
-pub mark_next : (xs ys zs : List ℕ) (from s : ℕ) → from ≤ s → ys ≡ stamped (entry_of (length xs)) xs from (s - from) → zs ≡ set ys (s % length ys) (entry_of (length ys) s)
+pub mark_next : (xs ys zs : List ℕ) (from s : ℕ) → from ≤ s → ys ≡ stamped (entry_of (length xs)) xs from (s - from)
+    → zs ≡ set ys (s % length ys) (entry_of (length ys) s)
     → zs ≡ stamped (entry_of (length xs)) xs from (s + 1 - from)
 mark_next xs ys zs from s le was is =
     let f = entry_of (length xs) in let n = s - from in let at : from + n ≡ s = omega arith in let more : n + 1 ≡ s + 1 - from = omega arith in

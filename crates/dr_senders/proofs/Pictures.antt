@@ -36,7 +36,8 @@ use Rattle.dr_senders.specs.Meaning.Steps.{Happens, sender_knows, sender_claims,
 use Rattle.dr_senders.specs.Meaning.Moments.{fresh_receiver, taken_of, stage_at, picture_of, write_of, receiver_at, entries_of, Runs, told_by_claims, told_gated, is_unmarked}
 use Rattle.dr_senders.proofs.Places.{word_at, claimed_low, halted_low, is_halted_from, last_look_le}
 use Rattle.dr_senders.proofs.Facts.{receiver_of_handler, handler_inside, orderly, upstream_inside, early, taken_claimed, owned, above}
-use Rattle.dr_senders.proofs.Keeps.{keeps_sender_looks, keeps_mark_found, keeps_claims, keeps_sender_halts, keeps_halter_halts, keeps_first, keeps_second, keeps_publishes, keeps_receiver_looks, keeps_claims_look, keeps_mark_look, keeps_half_taken, taken_event, keeps_takes, keeps_completes}
+use Rattle.dr_senders.proofs.Keeps.{keeps_sender_looks, keeps_mark_found, keeps_claims, keeps_sender_halts, keeps_halter_halts, keeps_first, keeps_second, keeps_publishes}
+use Rattle.dr_senders.proofs.Takes.{keeps_receiver_looks, keeps_claims_look, keeps_mark_look, keeps_half_taken, taken_event, keeps_takes, keeps_completes}
 use Rattle.dr_senders.proofs.Machine.{shown, at_stage, same_owners, same_part, claim_step, write_step, publish_step, take_step, drained_step, complete_step, front_within, front_beyond, idle_step, gating_step, front_at_most}
 
 keeps_exchange : (k : Shape) (w : World) (p c n : ℕ) (r : SenderRecord) → get_elem? w.senders p ≡ some r → 0 < n → SeesRoom k r c n → KeepsRule k w

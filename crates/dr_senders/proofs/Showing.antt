@@ -37,7 +37,8 @@ weaker_stretch f g each [] = tt
 weaker_stretch f g each (s ∷ ss) = weaker_join (f s) (g s) (flat_map f ss) (flat_map g ss) (each s) (weaker_stretch f g each ss)
 
 -- of a publication an end tells whether its stretch is one
-publish_weaker : (lo hi : ℕ) (tests : PublishTests Verdict) → tests.bad_count ≡ (publish_tests None lo hi).bad_count → Weaker (publish_causes lo hi tests) (publish_causes lo hi (publish_tests None lo hi))
+publish_weaker : (lo hi : ℕ) (tests : PublishTests Verdict) → tests.bad_count ≡ (publish_tests None lo hi).bad_count
+    → Weaker (publish_causes lo hi tests) (publish_causes lo hi (publish_tests None lo hi))
 publish_weaker lo hi tests bad = (
   refl,
   (λ h. tt),
