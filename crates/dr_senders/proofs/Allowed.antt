@@ -66,7 +66,8 @@ receiver_learns k kind w r q i at same happens = record {
   happens = happens;
   words = same_words w.words i;
   stands = ap (λ (p : ℕ). get_elem? (set w.receivers r.number q) p) same ∙ set_here w.receivers r.number q (at_below w.receivers r.number r at);
-  others = subst (λ (p : ℕ). OthersStand w (receiver_knows w r.number q) (2 * p + 2)) (sym same) (but_receiver w (receiver_knows w r.number q) r q refl refl refl);
+  others = subst (λ (p : ℕ). OthersStand w (receiver_knows w r.number q) (2 * p + 2)) (sym same)
+      (but_receiver w (receiver_knows w r.number q) r q refl refl refl);
 }
 
 -- what a step does that brings a sequence of a sender further
@@ -140,7 +141,8 @@ earlier k w r c n z t at some_one room hit own K =
     let longer : length (w.stages ++ new) ≡ length w.stages + n = omega (arith, length-append w.stages new, length-replicate n (fresh_stage r.number)) in (
       omega arith,
       λ hidden. (
-          let near = near_open k (sender_claims w r.number r c n) z t (more_left w.stages new z t here) hidden (keeps_claims k w r.number c n r at some_one room hit K) in omega arith),
+          let near = near_open k (sender_claims w r.number r c n) z t (more_left w.stages new z t here) hidden
+          (keeps_claims k w r.number c n r at some_one room hit K) in omega arith),
     )
 
 pub claims : (k : Shape) {sh : Shape} (slots id : ℕ) (me : Sitting) (c n v : ℕ) → k ≡ sh → v ≡ c + n → IsSender (end_of me) → 0 < n
@@ -168,7 +170,8 @@ claims k {sh = sh} slots id me c n v same sum is some_one there =
 
 pub stores_first : (k : Shape) {sh : Shape} (slots id : ℕ) (me : Sitting) (i s m v : ℕ) (t : Stage) → k ≡ sh → s ≡ m → i ≡ payload_word sh s 0
     → IsSender (end_of me) → Owns (sender_of me.0.ends) s t → t.published ≡ false
-    → Allows (Ruled k) slots id me i (λ _. v) (λ _. Stores (λ x e n. SenderStoresFirst (sender_of e.0).number m n) (SenderStoredFirst m) (step slots i v 0 none) me v)
+    → Allows (Ruled k) slots id me i (λ _. v)
+    (λ _. Stores (λ x e n. SenderStoresFirst (sender_of e.0).number m n) (SenderStoredFirst m) (step slots i v 0 none) me v)
 stores_first k {sh = sh} slots id me i s m v t same named there is own unshown =
     let here : i ≡ payload_word k s 0 = there ∙ ap (λ (p : Shape). payload_word p s 0) (sym same) in
     let r = sender_of me.0.ends in
@@ -182,7 +185,8 @@ stores_first k {sh = sh} slots id me i s m v t same named there is own unshown =
 
 pub stores_second : (k : Shape) {sh : Shape} (slots id : ℕ) (me : Sitting) (i s m first f v : ℕ) (t : Stage) → k ≡ sh → s ≡ m → first ≡ f
     → i ≡ payload_word sh s 1 → IsSender (end_of me) → Owns (sender_of me.0.ends) s t → t.published ≡ false → t.half ≡ Some first
-    → Allows (Ruled k) slots id me i (λ _. v) (λ _. Stores (λ x e n. SenderStoresSecond (sender_of e.0).number m n) (SenderStoredSecond m f) (step slots i v 0 none) me v)
+    → Allows (Ruled k) slots id me i (λ _. v)
+    (λ _. Stores (λ x e n. SenderStoresSecond (sender_of e.0).number m n) (SenderStoredSecond m f) (step slots i v 0 none) me v)
 stores_second k {sh = sh} slots id me i s m first f v t same named first_named there is own unshown half =
     let here : i ≡ payload_word k s 1 = there ∙ ap (λ (p : Shape). payload_word p s 1) (sym same) in
     let r = sender_of me.0.ends in let event : Event = record { first = first; second = v } in
@@ -245,7 +249,8 @@ or_top n small =
     ]
 
 pub sender_halts : (k : Shape) (slots id : ℕ) (me : Sitting) → IsSender (end_of me)
-    → Allows (Ruled k) slots id me claim_word (λ n. bit_or n 9223372036854775808) (Stores (λ s e n. SenderHalts (sender_of e.0).number) SenderHalted (step slots claim_word 9223372036854775808 0 none) me)
+    → Allows (Ruled k) slots id me claim_word (λ n. bit_or n 9223372036854775808)
+    (Stores (λ s e n. SenderHalts (sender_of e.0).number) SenderHalted (step slots claim_word 9223372036854775808 0 none) me)
 sender_halts k slots id me is =
     let r = sender_of me.0.ends in let kind = SenderHalts r.number in
     along (λ m. Allows (Ruled k) slots id m claim_word (λ n. bit_or n 9223372036854775808) (Stores (λ s e n. SenderHalts (sender_of e.0).number) SenderHalted (step slots claim_word 9223372036854775808 0 none) m)) me (Sends r) is
@@ -263,7 +268,8 @@ sender_halts k slots id me is =
     )))
 
 pub halts : (k : Shape) (slots id : ℕ) (me : Sitting) → IsHalter (end_of me)
-    → Allows (Ruled k) slots id me claim_word (λ n. bit_or n 9223372036854775808) (Stores (λ s e n. HalterHalts) HalterHalted (step slots claim_word 9223372036854775808 0 none) me)
+    → Allows (Ruled k) slots id me claim_word (λ n. bit_or n 9223372036854775808)
+    (Stores (λ s e n. HalterHalts) HalterHalted (step slots claim_word 9223372036854775808 0 none) me)
 halts k slots id me is =
     let r = halter_of me.0.ends in
     along (λ m. Allows (Ruled k) slots id m claim_word (λ n. bit_or n 9223372036854775808) (Stores (λ s e n. HalterHalts) HalterHalted (step slots claim_word 9223372036854775808 0 none) m)) me (Halts r) is
@@ -324,7 +330,8 @@ pub receiver_looks_at_count : (k : Shape) {sh : Shape} (slots id : ℕ) (me : Si
     → Contains (upstreams_of sh.upstreams (receiver_of me.0.ends).number) u
     → Allows (Ruled k) slots id me i (λ n. n) (Loads ReceiverLookedAtCount (step slots i 0 0 none) me)
 receiver_looks_at_count k {sh = sh} slots id me i u same here is those =
-    let has : Contains (upstreams_of k.upstreams (receiver_of me.0.ends).number) u = subst (λ (p : Shape). Contains (upstreams_of p.upstreams (receiver_of me.0.ends).number) u) (sym same) those in
+    let has : Contains (upstreams_of k.upstreams (receiver_of me.0.ends).number) u = subst
+    (λ (p : Shape). Contains (upstreams_of p.upstreams (receiver_of me.0.ends).number) u) (sym same) those in
     subst (λ (i : ℕ). Allows (Ruled k) slots id me i (λ n. n) (Loads ReceiverLookedAtCount (step slots i 0 0 none) me)) (sym here)
     (let i = count_word u in let r = receiver_of me.0.ends in let kind = ReceiverLooksAtCount r.number u in
     along (λ m. Allows (Ruled k) slots id m i (λ n. n) (Loads ReceiverLookedAtCount (step slots i 0 0 none) m)) me (Receives r) is
@@ -337,8 +344,10 @@ pub loads_first : (k : Shape) {sh : Shape} (slots id : ℕ) (me : Sitting) (i : 
     → IsBelowBarrier sh (receiver_of me.0.ends).number (receiver_of me.0.ends)
     → Allows (Ruled k) slots id me i (λ n. n) (Loads ReceiverLoadedFirst (step slots i 0 0 none) me)
 loads_first k {sh = sh} slots id me i same there is low =
-    let here : i ≡ payload_word k (length (receiver_of me.0.ends).received) 0 = there ∙ ap (λ (p : Shape). payload_word p (length (receiver_of me.0.ends).received) 0) (sym same) in
-    let below : IsBelowBarrier k (receiver_of me.0.ends).number (receiver_of me.0.ends) = subst (λ (p : Shape). IsBelowBarrier p (receiver_of me.0.ends).number (receiver_of me.0.ends)) (sym same) low in
+    let here : i ≡ payload_word k (length (receiver_of me.0.ends).received) 0 = there ∙ ap
+    (λ (p : Shape). payload_word p (length (receiver_of me.0.ends).received) 0) (sym same) in
+    let below : IsBelowBarrier k (receiver_of me.0.ends).number (receiver_of me.0.ends) = subst
+    (λ (p : Shape). IsBelowBarrier p (receiver_of me.0.ends).number (receiver_of me.0.ends)) (sym same) low in
     subst (λ (i : ℕ). Allows (Ruled k) slots id me i (λ n. n) (Loads ReceiverLoadedFirst (step slots i 0 0 none) me)) (sym here)
     (let r = receiver_of me.0.ends in let i = payload_word k (length r.received) 0 in let kind = ReceiverLoadsFirst r.number in
     along (λ m. Allows (Ruled k) slots id m i (λ n. n) (Loads ReceiverLoadedFirst (step slots i 0 0 none) m)) me (Receives r) is
@@ -351,8 +360,10 @@ pub loads_second : (k : Shape) {sh : Shape} (slots id : ℕ) (me : Sitting) (i f
     → IsBelowBarrier sh (receiver_of me.0.ends).number (receiver_of me.0.ends)
     → Allows (Ruled k) slots id me i (λ n. n) (Loads ReceiverLoadedSecond (step slots i 0 0 none) me)
 loads_second k {sh = sh} slots id me i first same there is half low =
-    let here : i ≡ payload_word k (length (receiver_of me.0.ends).received) 1 = there ∙ ap (λ (p : Shape). payload_word p (length (receiver_of me.0.ends).received) 1) (sym same) in
-    let below : IsBelowBarrier k (receiver_of me.0.ends).number (receiver_of me.0.ends) = subst (λ (p : Shape). IsBelowBarrier p (receiver_of me.0.ends).number (receiver_of me.0.ends)) (sym same) low in
+    let here : i ≡ payload_word k (length (receiver_of me.0.ends).received) 1 = there ∙ ap
+    (λ (p : Shape). payload_word p (length (receiver_of me.0.ends).received) 1) (sym same) in
+    let below : IsBelowBarrier k (receiver_of me.0.ends).number (receiver_of me.0.ends) = subst
+    (λ (p : Shape). IsBelowBarrier p (receiver_of me.0.ends).number (receiver_of me.0.ends)) (sym same) low in
     subst (λ (i : ℕ). Allows (Ruled k) slots id me i (λ n. n) (Loads ReceiverLoadedSecond (step slots i 0 0 none) me)) (sym here)
     (let r = receiver_of me.0.ends in let i = payload_word k (length r.received) 1 in let kind = ReceiverLoadsSecond r.number in
     along (λ m. Allows (Ruled k) slots id m i (λ n. n) (Loads ReceiverLoadedSecond (step slots i 0 0 none) m)) me (Receives r) is
@@ -365,7 +376,8 @@ loads_second k {sh = sh} slots id me i first same there is half low =
 
 pub completes : (k : Shape) (slots id : ℕ) (me : Sitting) (i h n : ℕ) → i ≡ count_word h → IsReceiver (end_of me) → (receiver_of me.0.ends).number ≡ h
     → (receiver_of me.0.ends).completed ≤ n → n ≤ length (receiver_of me.0.ends).received
-    → Allows (Ruled k) slots id me i (λ _. n) (λ _. Stores (λ s e m. ReceiverCompletes (receiver_of e.0).number m) ReceiverCompleted (step slots i n 0 none) me n)
+    → Allows (Ruled k) slots id me i (λ _. n)
+    (λ _. Stores (λ s e m. ReceiverCompletes (receiver_of e.0).number m) ReceiverCompleted (step slots i n 0 none) me n)
 completes k slots id me i h n here is own rises taken =
     let r = receiver_of me.0.ends in
     subst (λ (i : ℕ). Allows (Ruled k) slots id me i (λ _. n) (λ _. Stores (λ s e m. ReceiverCompletes (receiver_of e.0).number m) ReceiverCompleted (step slots i n 0 none) me n)) (sym (here ∙ ap count_word (sym own)))

@@ -77,11 +77,13 @@ fits_new k p o n size is = let z : ℕ = 0 in
 -- what a claim adds to what a sender has
 module _ (r q : SenderRecord) (c n : ℕ) (grown : q.own ≡ r.own ++ fresh_own r.number c n) where
   kept : (s : ℕ) (t : Stage) → Owns r s t → Owns q s t
-  kept s t own = (own.0, ap (λ (xs : List Own). get_elem? xs own.0) grown ∙ more_left r.own (fresh_own r.number c n) own.0 (record { sequence = s; stage = t }) own.1)
+  kept s t own =
+      (own.0, ap (λ (xs : List Own). get_elem? xs own.0) grown ∙ more_left r.own (fresh_own r.number c n) own.0 (record { sequence = s; stage = t }) own.1)
 
   fresh_there : (d m i : ℕ) → i < m → get_elem? (fresh_own r.number d m) i ≡ some record { sequence = d + i; stage = fresh_stage r.number }
   fresh_there d zero i lt = absurd (omega arith)
-  fresh_there d (suc m) zero lt = let z : d ≡ d + 0 = omega arith in ap (λ (x : ℕ). let o : Own = record { sequence = x; stage = fresh_stage r.number } in some o) z
+  fresh_there d (suc m) zero lt =
+      let z : d ≡ d + 0 = omega arith in ap (λ (x : ℕ). let o : Own = record { sequence = x; stage = fresh_stage r.number } in some o) z
   fresh_there d (suc m) (suc i) lt = let z : suc d + i ≡ d + suc i = omega arith in
       fresh_there (suc d) m i (omega arith) ∙ ap (λ (x : ℕ). let o : Own = record { sequence = x; stage = fresh_stage r.number } in some o) z
 
@@ -89,7 +91,8 @@ module _ (r q : SenderRecord) (c n : ℕ) (grown : q.own ≡ r.own ++ fresh_own 
   new s low high = let at : c + (s - c) ≡ s = omega arith in (
     length r.own + (s - c),
     ap (λ (xs : List Own). get_elem? xs (length r.own + (s - c))) grown
-        ∙ more_right r.own (fresh_own r.number c n) (s - c) (record { sequence = c + (s - c); stage = fresh_stage r.number }) (fresh_there c n (s - c) (omega arith))
+        ∙ more_right r.own (fresh_own r.number c n) (s - c) (record { sequence = c + (s - c); stage = fresh_stage r.number })
+        (fresh_there c n (s - c) (omega arith))
         ∙ ap (λ (x : ℕ). let o : Own = record { sequence = x; stage = fresh_stage r.number } in some o) at,
   )
 
@@ -98,11 +101,12 @@ module _ (r q : SenderRecord) (c n : ℕ) (grown : q.own ≡ r.own ++ fresh_own 
   Whence s t = ((c ≤ s) × (s < c + n) × (t ≡ fresh_stage r.number)) ⊎ Owns r s t
 
   whence : (s : ℕ) (t : Stage) → Owns q s t → Whence s t
-  whence s t own = elim (more_cases r.own (fresh_own r.number c n) own.0 (record { sequence = s; stage = t }) (ap (λ (xs : List Own). get_elem? xs own.0) (sym grown) ∙ own.1)) [
-    | inl old ↦ inr (own.0, old)
-    | inr x ↦ (let d = fresh_at r.number c n x.0 (record { sequence = s; stage = t }) x.2 in
-        let at : c + x.0 ≡ s = ap (λ (o : Own). o.sequence) d.1 in let lt = d.0 in inl (omega arith, omega arith, sym (ap (λ (o : Own). o.stage) d.1)))
-  ]
+  whence s t own =
+      elim (more_cases r.own (fresh_own r.number c n) own.0 (record { sequence = s; stage = t }) (ap (λ (xs : List Own). get_elem? xs own.0) (sym grown) ∙ own.1)) [
+        | inl old ↦ inr (own.0, old)
+        | inr x ↦ (let d = fresh_at r.number c n x.0 (record { sequence = s; stage = t }) x.2 in
+            let at : c + x.0 ≡ s = ap (λ (o : Own). o.sequence) d.1 in let lt = d.0 in inl (omega arith, omega arith, sym (ap (λ (o : Own). o.stage) d.1)))
+      ]
 
   -- a sender's marks once it claimed n from c on
   pub fits_claimed : (k : Shape) (o : Owned) → SenderFits k r o → 0 < n → n ≤ k.size → ((s : ℕ) (t : Stage) → Owns r s t → IsEarlier k c (c + n) s t)
@@ -231,13 +235,16 @@ fits_published k r o lo zero pos F all =
     (subst (λ (xs : List ℕ). SenderFits k r (record o { published = xs })) (sym list) F)
 fits_published k r o lo (suc n) pos F all =
     let e = entry_of (length o.published) in let xs = stamped e o.published lo n in let more : n + 1 ≡ suc n = omega arith in
-    let one : SenderFits k (brought (published_between r lo (lo + n)) (lo + n) published) (record o { published = set xs ((lo + n) % length xs) (entry_of (length xs) (lo + n)) }) =
-    fits_showed k (published_between r lo (lo + n)) (record o { published = xs }) (lo + n) pos (fits_published k r o lo n pos F (λ s low high. all s low (omega arith))) (all (lo + n) (omega arith) (omega arith)) in
+    let one : SenderFits k (brought (published_between r lo (lo + n)) (lo + n) published)
+    (record o { published = set xs ((lo + n) % length xs) (entry_of (length xs) (lo + n)) }) =
+    fits_showed k (published_between r lo (lo + n)) (record o { published = xs }) (lo + n) pos
+    (fits_published k r o lo n pos F (λ s low high. all s low (omega arith))) (all (lo + n) (omega arith) (omega arith)) in
     let len : length xs ≡ length o.published = length-stamped e o.published lo n in
     let end : lo + n + 1 ≡ lo + suc n = omega arith in
     let list : set xs ((lo + n) % length xs) (entry_of (length xs) (lo + n)) ≡ stamped e o.published lo (suc n) =
     ap (λ (l : ℕ). set xs ((lo + n) % l) (entry_of l (lo + n))) len ∙ sym (stamped-more e o.published lo n) ∙ ap (stamped e o.published lo) more in
-    let same : brought (published_between r lo (lo + n)) (lo + n) published ≡ published_between r lo (lo + suc n) = published_more r lo (lo + n) (omega arith) ∙ ap (published_between r lo) end in
+    let same : brought (published_between r lo (lo + n)) (lo + n) published ≡ published_between r lo (lo + suc n) = published_more r lo (lo + n)
+    (omega arith) ∙ ap (published_between r lo) end in
     subst (λ (q : SenderRecord). SenderFits k q (record o { published = stamped e o.published lo (suc n) })) same
     (subst (λ (ys : List ℕ). SenderFits k (brought (published_between r lo (lo + n)) (lo + n) published) (record o { published = ys })) list one)
 
@@ -257,7 +264,8 @@ pub fits_write : (e e' : SenderEnd) (o o' : Owned) (s : ℕ) (event : Event) →
     → o' ≡ record o { written = set o.written (s % length o.written) (entry_of (length o.written) s) } → SenderFits e'.plan e'.knows o'
 fits_write e e' o o' s event pos F mine stays knows is =
     let fits = fits_wrote e.plan e.knows o s event pos F mine in
-    subst (λ (k : Shape). SenderFits k e'.knows o') (sym stays.1) (subst (λ (q : SenderRecord). SenderFits e.plan q o') (sym knows) (subst (SenderFits e.plan (brought e.knows s (written event))) (sym is) fits))
+    subst (λ (k : Shape). SenderFits k e'.knows o') (sym stays.1)
+    (subst (λ (q : SenderRecord). SenderFits e.plan q o') (sym knows) (subst (SenderFits e.plan (brought e.knows s (written event))) (sym is) fits))
 
 pub fits_publish : (e e' : SenderEnd) (o o' : Owned) (lo upto : ℕ) → 0 < e.plan.size → lo ≤ upto → SenderFits e.plan e.knows o
     → ((s : ℕ) → lo ≤ s → s < upto → is_marked o.claimed s ≡ true) → Stays e e'
@@ -268,4 +276,5 @@ fits_publish e e' o o' lo upto pos le F mine stays knows is =
     let marks = record o { published = stamped (entry_of (length o.published)) o.published lo (upto - lo) } in
     let fits = fits_published e.plan e.knows o lo (upto - lo) pos F (λ s low high. mine s low (omega arith)) in
     let now = subst (λ (m : ℕ). SenderFits e.plan (published_between e.knows lo m) marks) end fits in
-    subst (λ (k : Shape). SenderFits k e'.knows o') (sym stays.1) (subst (λ (q : SenderRecord). SenderFits e.plan q o') (sym knows) (subst (SenderFits e.plan (published_between e.knows lo upto)) (sym is) now))
+    subst (λ (k : Shape). SenderFits k e'.knows o') (sym stays.1)
+    (subst (λ (q : SenderRecord). SenderFits e.plan q o') (sym knows) (subst (SenderFits e.plan (published_between e.knows lo upto)) (sym is) now))

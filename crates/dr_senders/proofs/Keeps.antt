@@ -103,11 +103,13 @@ keeps_sender_looks k w p i r low at K = let was = K.sent p r at in
 -- it looks at a mark
 pub keeps_mark_found : (k : Shape) (w : World) (p found : ℕ) (r : SenderRecord) → get_elem? w.senders p ≡ some r → KeepsRule k w
     → KeepsRule k (sender_knows w p (mark_found r found))
-keeps_mark_found k w p found r at K = let was = K.sent p r at in sender_changes k w p (mark_found r found) (record { number = was.number; own = was.own; looks = was.looks }) K
+keeps_mark_found k w p found r at K =
+    let was = K.sent p r at in sender_changes k w p (mark_found r found) (record { number = was.number; own = was.own; looks = was.looks }) K
 
 pub fresh_at : (p c n i : ℕ) (o : Own) → get_elem? (fresh_own p c n) i ≡ some o → (i < n) × (record { sequence = c + i; stage = fresh_stage p } ≡ o)
 fresh_at p c zero i o at = absurd (some-ne-none o (sym at))
-fresh_at p c (suc n) zero o at = (omega arith, (let z : c + 0 ≡ c = omega arith in ap (λ (s : ℕ). let x : Own = record { sequence = s; stage = fresh_stage p } in x) z) ∙ some-injective _ o at)
+fresh_at p c (suc n) zero o at =
+    (omega arith, (let z : c + 0 ≡ c = omega arith in ap (λ (s : ℕ). let x : Own = record { sequence = s; stage = fresh_stage p } in x) z) ∙ some-injective _ o at)
 fresh_at p c (suc n) (suc i) o at =
     let d = fresh_at p (suc c) n i o at in
     let l = d.0 in (omega arith, (let z : c + suc i ≡ suc c + i = omega arith in ap (λ (s : ℕ). let x : Own = record { sequence = s; stage = fresh_stage p } in x) z) ∙ d.1)
@@ -162,14 +164,16 @@ keeps_claims k w p c n r at some_one room found K =
               | inr x ↦ (let d = fresh_at r.number c n x.0 o x.2 in let number = was.number in
                   subst (λ (o : Own). (o.stage.owner ≡ p) × (get_elem? more o.sequence ≡ some o.stage)) d.1 (
                     number,
-                    ap (λ (m : ℕ). get_elem? more (m + x.0)) now ∙ more_right w.stages new x.0 (fresh_stage p) (in_replicate n (fresh_stage p) x.0 d.0) ∙ ap (λ (m : ℕ). some (fresh_stage m)) (sym number),
+                    ap (λ (m : ℕ). get_elem? more (m + x.0)) now ∙ more_right w.stages new x.0 (fresh_stage p)
+                        (in_replicate n (fresh_stage p) x.0 d.0) ∙ ap (λ (m : ℕ). some (fresh_stage m)) (sym number),
                   ))
             ];
             looks = past_more k us claim_word (c + n) r.looks (omega arith) (omega arith) (past_rises k w.words us r.looks rises was.looks);
           })
           (λ q x ne there. sender_stays k w.words us w.stages more q x rises (λ s t old _. more_left w.stages new s t old) (K.sent q x there));
       received = λ h q there. (let old = K.received h q there in
-          receiver_stays k w.words us w.stages more h q K.shape.graph (handler_inside k w h q there K) (stays (count_word h) (omega arith)) rises lasts (omega arith) (λ y. absurd (let t = (old.told y).0 in cc)) old);
+          receiver_stays k w.words us w.stages more h q K.shape.graph (handler_inside k w h q there K)
+          (stays (count_word h) (omega arith)) rises lasts (omega arith) (λ y. absurd (let t = (old.told y).0 in cc)) old);
       halter = past_rises k w.words us w.halter.looks rises K.halter;
     }
 
@@ -191,12 +195,14 @@ halting k w senders halter count sent looks K =
       claim = ap claimed_in here ∙ claimed_halted n ∙ K.claim;
       limit = K.limit;
       room = room_stays k w.words us (length w.stages) rises K.room;
-      stages = λ s t there. stage_stays k w.words us (length w.stages) s t (λ _. (stays (payload_word k s 0) (omega arith), stays (payload_word k s 1) (omega arith), stays (mark_word k s) (omega arith))) (K.stages s t there);
+      stages = λ s t there. stage_stays k w.words us (length w.stages) s t
+          (λ _. (stays (payload_word k s 0) (omega arith), stays (payload_word k s 1) (omega arith), stays (mark_word k s) (omega arith))) (K.stages s t there);
       marks = λ s le. K.marks s (let e = stays (mark_word k s) (omega arith) in omega arith);
       marked = λ s x. (let a = K.marked s x in let e = stays (mark_word k s) (omega arith) in omega arith);
       sent = sent;
       received = λ h q there. (let old = K.received h q there in
-          receiver_stays k w.words us w.stages w.stages h q K.shape.graph (handler_inside k w h q there K) (stays (count_word h) (omega arith)) rises (λ s t x _. x) (omega arith) (λ y. (ap is_halted here ∙ is_halted_from n, (old.told y).1)) old);
+          receiver_stays k w.words us w.stages w.stages h q K.shape.graph (handler_inside k w h q there K) (stays (count_word h) (omega arith)) rises
+          (λ s t x _. x) (omega arith) (λ y. (ap is_halted here ∙ is_halted_from n, (old.told y).1)) old);
       halter = looks;
     }
 
@@ -210,7 +216,8 @@ pub keeps_sender_halts : (k : Shape) (w : World) (p : ℕ) (r : SenderRecord) �
     → KeepsRule k (record w { words = halted_words w; senders = set w.senders p (sender_looked r claim_word (halted_from (word_at w.words claim_word))) })
 keeps_sender_halts k w p r at K =
     let n = word_at w.words claim_word in let us = halted_words w in let was = K.sent p r at in let rises = halt_rises k w K in let here = halt_here k w K in
-    halting k w (set w.senders p (sender_looked r claim_word (halted_from n))) w.halter (length-set w.senders p (sender_looked r claim_word (halted_from n)) ∙ K.inlets)
+    halting k w (set w.senders p (sender_looked r claim_word (halted_from n))) w.halter
+    (length-set w.senders p (sender_looked r claim_word (halted_from n)) ∙ K.inlets)
     (each_set (SenderKept k us w.stages) w.senders p (sender_looked r claim_word (halted_from n))
     (record { number = was.number; own = was.own; looks = past_more k us claim_word (halted_from n) r.looks (omega arith) (omega arith) (past_rises k w.words us r.looks rises was.looks) })
     (λ q x ne there. sender_stays k w.words us w.stages w.stages q x rises (λ s t old _. old) (K.sent q x there)))
@@ -220,7 +227,8 @@ pub keeps_halter_halts : (k : Shape) (w : World) → KeepsRule k w
     → KeepsRule k (record w { words = halted_words w; halter = halter_halted w.halter (word_at w.words claim_word) })
 keeps_halter_halts k w K =
     let n = word_at w.words claim_word in let us = halted_words w in let rises = halt_rises k w K in let here = halt_here k w K in
-    halting k w w.senders (halter_halted w.halter n) K.inlets (λ p x there. sender_stays k w.words us w.stages w.stages p x rises (λ s t old _. old) (K.sent p x there))
+    halting k w w.senders (halter_halted w.halter n) K.inlets
+    (λ p x there. sender_stays k w.words us w.stages w.stages p x rises (λ s t old _. old) (K.sent p x there))
     (past_more k us claim_word (halted_from n) w.halter.looks (omega arith) (omega arith) (past_rises k w.words us w.halter.looks rises K.halter)) K
 
 -- one of a sender's sequences after it was brought further
@@ -232,7 +240,8 @@ brought_own p s t further stages o inside owner at was =
     let P : Bool → Type 0 = λ b. Q (if b then record o { stage = further o.stage } else o) in
     elim (cases_eq o.sequence s) [
       | inl e ↦ (let same : t ≡ o.stage = one_value stages s t o.stage at (ap (λ (j : ℕ). get_elem? stages j) (sym e) ∙ was.1) in
-          subst P (sym (eq-eqb o.sequence s e)) (subst (λ (x : Stage). ((further x).owner ≡ p) × (get_elem? more o.sequence ≡ some (further x))) same (owner, ap (λ (j : ℕ). get_elem? more j) e ∙ set_here stages s (further t) inside)))
+          subst P (sym (eq-eqb o.sequence s e))
+          (subst (λ (x : Stage). ((further x).owner ≡ p) × (get_elem? more o.sequence ≡ some (further x))) same (owner, ap (λ (j : ℕ). get_elem? more j) e ∙ set_here stages s (further t) inside)))
       | inr ne ↦ subst P (sym (ne_eqb o.sequence s ne)) (was.0, set_else stages s o.sequence (further t) o.stage ne was.1)
     ]
 
@@ -274,12 +283,14 @@ keeps_brings k w p s i r t further word v at has unshown owner low high stages m
           (record {
             number = was.number;
             own = λ j o there. (let m = at_map (own_after s further) r.own j o there in
-                subst (λ (x : Own). (x.stage.owner ≡ p) × (get_elem? more x.sequence ≡ some x.stage)) m.2 (brought_own p s t further w.stages m.0 inside (owner ∙ own.0) own.1 (was.own j m.0 m.1)));
+                subst (λ (x : Own). (x.stage.owner ≡ p) × (get_elem? more x.sequence ≡ some x.stage)) m.2
+                (brought_own p s t further w.stages m.0 inside (owner ∙ own.0) own.1 (was.own j m.0 m.1)));
             looks = past_rises k w.words us r.looks rises was.looks;
           })
           (λ q x ne there. sender_stays k w.words us w.stages more q x rises (others q ne) (K.sent q x there));
       received = λ h q there. (let old = K.received h q there in let in_graph = handler_inside k w h q there K in
-          receiver_stays k w.words us w.stages more h q K.shape.graph in_graph (stays (count_word h) (omega arith)) rises lasts (omega arith) (λ y. (ap is_halted (stays claim_word (omega arith)) ∙ (old.told y).0, (let l = (old.told y).1 in omega arith))) old);
+          receiver_stays k w.words us w.stages more h q K.shape.graph in_graph (stays (count_word h) (omega arith)) rises lasts (omega arith)
+          (λ y. (ap is_halted (stays claim_word (omega arith)) ∙ (old.told y).0, (let l = (old.told y).1 in omega arith))) old);
       halter = past_rises k w.words us w.halter.looks rises K.halter;
     }
 
@@ -356,7 +367,8 @@ keeps_second k w p s i first v r t at has unshown half K =
     (each_stage (StageKept k us (length w.stages)) w.stages s (written event t)
     (record {
       whole = λ y. absurd (cc);
-      first = λ near e is none. get_or-set_other w.words (payload_word k s 1) (payload_word k s 0) v 0 (λ e. omega arith) ∙ S.half near first half ∙ ap (λ (x : Event). x.first) (let y : event ≡ e = cc in y);
+      first = λ near e is none. get_or-set_other w.words (payload_word k s 1) (payload_word k s 0) v 0
+          (λ e. omega arith) ∙ S.half near first half ∙ ap (λ (x : Event). x.first) (let y : event ≡ e = cc in y);
       second = λ near e is. get_or-set_same w.words (payload_word k s 1) v 0 (omega arith) ∙ ap (λ (x : Event). x.second) (let y : event ≡ e = cc in y);
       half = λ near x is. absurd (cc);
       marked = λ near y. absurd (cc);
@@ -389,7 +401,8 @@ publishes_marked k w s t here wide unshown K z x =
     let v = entry_of k.size s in let us = set w.words (mark_word k s) v in let near = near_open k w s t here unshown K in let pos = K.shape.some_slot in
     elim (cases_eq (mark_word k z) (mark_word k s)) [
       | inl slot ↦ (let found : word_at us (mark_word k z) ≡ v = ap (λ (m : ℕ). word_at us m) slot ∙ get_or-set_same w.words (mark_word k s) v 0 wide in
-          let claimed : z < length w.stages = (let b = at_below (set w.stages s (published t)) z x.0 x.1 in let l = length-set w.stages s (published t) in omega arith) in
+          let claimed : z < length w.stages =
+          (let b = at_below (set w.stages s (published t)) z x.0 x.1 in let l = length-set w.stages s (published t) in omega arith) in
           elim (cases_lt s z) [
             | inl after ↦ absurd (own_slot k s z (λ e. omega arith) (omega arith) (omega arith) (omega arith))
             | inr before ↦ (let a = rounds_rise z s k.size pos before in omega arith)
@@ -409,7 +422,8 @@ keeps_publishes k w p s i r t event at has unshown none whole K =
     let wide = K.wide in let pos = K.shape.some_slot in
     let near = near_open k w s t here unshown K in let inside = at_below w.stages s t here in
     let payload : (z j : ℕ)
-    → word_at us (payload_word k z j) ≡ word_at w.words (payload_word k z j) = λ z j. get_or-set_other w.words (mark_word k s) (payload_word k z j) v 0 (λ e. omega arith) in
+    → word_at us (payload_word k z j) ≡ word_at w.words (payload_word k z j) = λ z j. get_or-set_other w.words (mark_word k s)
+    (payload_word k z j) v 0 (λ e. omega arith) in
     keeps_brings k w p s i r t published (mark_word k s) v at has unshown refl (omega arith) (omega arith)
     (each_stage (StageKept k us (length w.stages)) w.stages s (published t)
     (record {

@@ -51,7 +51,8 @@ publish_weaker lo hi tests bad = (
       refl,
       (λ h. tt),
       (λ h. refl),
-      weaker_join (flat_map (λ s. sequence_causes (tests.of_sequence s)) (range_with_len lo (hi + 1 - lo))) (flat_map (λ s. sequence_causes (end_sequence_tests None s)) (range_with_len lo (hi + 1 - lo))) _ _
+      weaker_join (flat_map (λ s. sequence_causes (tests.of_sequence s)) (range_with_len lo (hi + 1 - lo)))
+          (flat_map (λ s. sequence_causes (end_sequence_tests None s)) (range_with_len lo (hi + 1 - lo))) _ _
           (weaker_stretch (λ s. sequence_causes (tests.of_sequence s)) (λ s. sequence_causes (end_sequence_tests None s))
           (λ s. (refl, (λ h. tt), (λ h. refl), (refl, (λ h. tt), (λ h. refl), (refl, (λ h. tt), (λ h. refl), tt)))) (range_with_len lo (hi + 1 - lo)))
           (refl, (λ h. tt), (λ h. refl), tt),
@@ -61,5 +62,7 @@ publish_weaker lo hi tests bad = (
 
 pub publish_answers : (lo hi : ℕ) (tests : PublishTests Verdict) (result : Result (Unit {0}) Refusal) → tests.bad_count ≡ (publish_tests None lo hi).bad_count
     → IsAnswerOf (publish_causes lo hi tests) (as_end result) → PublishAnswers None lo hi (as_end result)
-publish_answers lo hi tests (Ok _) bad answer = weaker_none (publish_causes lo hi tests) (publish_causes lo hi (publish_tests None lo hi)) (publish_weaker lo hi tests bad) answer
-publish_answers lo hi tests (Err refusal) bad answer = weaker_first refusal (publish_causes lo hi tests) (publish_causes lo hi (publish_tests None lo hi)) (publish_weaker lo hi tests bad) answer
+publish_answers lo hi tests (Ok _) bad answer = weaker_none (publish_causes lo hi tests) (publish_causes lo hi (publish_tests None lo hi))
+    (publish_weaker lo hi tests bad) answer
+publish_answers lo hi tests (Err refusal) bad answer = weaker_first refusal (publish_causes lo hi tests)
+    (publish_causes lo hi (publish_tests None lo hi)) (publish_weaker lo hi tests bad) answer

@@ -24,7 +24,8 @@ invariant_of-station c =
 
 pub loop-number-preserved : goal.loop-number-preserved
 loop-number-preserved c =
-    let own = c.split_seat-next.ensures in let inv = c.loop-number.invariant in let count = c.senders-count.ensures.count ∙ ap (λ r. r.plan.senders) c.deref.ensures in let test = c.loop-number-test.true in (
+    let own = c.split_seat-next.ensures in let inv = c.loop-number.invariant in
+    let count = c.senders-count.ensures.count ∙ ap (λ r. r.plan.senders) c.deref.ensures in let test = c.loop-number-test.true in (
       own.3 ∙ inv.0,
       cut_rest _ _ _ _ _ inv.1 (senders_next c.loop-number.number _ _ (omega arith)) own.4,
       sender_listed c.args.rest.table_id _ c.loop-number.number _ c.loop-number.senders.items _ _ _ (omega arith) inv.2 c.in_ok-push.ensures.items

@@ -10,7 +10,9 @@ use Rattle.dr_senders.proofs.Answering.{open_own, wrote_once, write_refused, wri
 use Rattle.dr_senders.proofs.sender.Sender.write.Goals as goal
 
 pub invariant_of-self : goal.invariant_of-self
-invariant_of-self c = let looked = c.refusal.ensures.1 in fits_moved c.self.inside.station c.refusal.new.self _ looked.0.1 (ap (λ (r : SenderRecord). r.own) looked.1) c.self.invariant
+invariant_of-self c =
+    let looked = c.refusal.ensures.1 in fits_moved c.self.inside.station c.refusal.new.self _ looked.0.1
+    (ap (λ (r : SenderRecord). r.own) looked.1) c.self.invariant
 
 pub returns-then-not-has : goal.returns-then-not-has
 returns-then-not-has c =
@@ -23,7 +25,9 @@ returns-then-is_published c =
     (write_late c.self.inside.station _ c.args.sequence c.args.event c.self.invariant (sym c.if-not-has.ensures) (sym c.if-is_published.ensures))
 
 pub write-requires : goal.write-requires
-write-requires c = open_own c.self.inside.station.plan c.self.inside.station.knows _ c.args.sequence c.self.invariant (sym c.if-not-has.ensures) (sym c.if-is_published.ensures)
+write-requires c =
+    open_own c.self.inside.station.plan c.self.inside.station.knows _ c.args.sequence c.self.invariant (sym c.if-not-has.ensures)
+    (sym c.if-is_published.ensures)
 
 pub invariant_of-self-2 : goal.invariant_of-self-2
 invariant_of-self-2 c =

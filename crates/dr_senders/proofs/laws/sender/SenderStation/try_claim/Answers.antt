@@ -32,11 +32,14 @@ returns-then-found-lo-clause-own c =
     claim_apart c.args.self.now _ _ c.args.n c.look_at_claims-lo.result c.saturating_sub.result c.claim-found.result c.look_at_claims-lo.ensures.step c.has_room.ensures.only scan c.claim-found.ensures.own c.if-found-lo.true
 
 pub returns-then-found-lo-clause-call : goal.returns-then-found-lo-clause-call
-returns-then-found-lo-clause-call c = claim_given _ _ _ _ _ c.claim-found.result (tried_now (goal.at.returns-then-found-lo-clause-call c).After-claim-found) c.if-found-lo.true refl
+returns-then-found-lo-clause-call c =
+    claim_given _ _ _ _ _ c.claim-found.result (tried_now (goal.at.returns-then-found-lo-clause-call c).After-claim-found) c.if-found-lo.true refl
 
 pub returns-then-found-ge-HALT_BIT-clause-call : goal.returns-then-found-ge-HALT_BIT-clause-call
 returns-then-found-ge-HALT_BIT-clause-call c =
-    claim_halted _ _ _ _ c.claim-found.result (tried_now (goal.at.returns-then-found-ge-HALT_BIT-clause-call c).After-claim-found) c.if-found-lo.false c.if-found-ge-HALT_BIT.true
+    claim_halted _ _ _ _ c.claim-found.result
+    (tried_now (goal.at.returns-then-found-ge-HALT_BIT-clause-call c).After-claim-found) c.if-found-lo.false c.if-found-ge-HALT_BIT.true
 
 pub returns-clause-call : goal.returns-clause-call
-returns-clause-call c = claim_contended _ _ _ _ c.claim-found.result (tried_now (goal.at.returns-clause-call c).After-claim-found) c.if-found-lo.false c.if-found-ge-HALT_BIT.false
+returns-clause-call c =
+    claim_contended _ _ _ _ c.claim-found.result (tried_now (goal.at.returns-clause-call c).After-claim-found) c.if-found-lo.false c.if-found-ge-HALT_BIT.false
