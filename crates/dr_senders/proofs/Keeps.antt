@@ -17,10 +17,11 @@ use Rattle.dr_senders.specs.declared.record.Own.{Own}
 use Rattle.dr_senders.specs.declared.record.SenderRecord.{SenderRecord}
 use Rattle.dr_senders.specs.declared.record.ReceiverRecord.{ReceiverRecord}
 use Rattle.dr_senders.specs.declared.record.HalterRecord.{HalterRecord}
-use Rattle.dr_senders.specs.Meaning.Records.{fresh_stage, half_written, written, published, fresh_own, own_after, brought, sender_looked, mark_found, claimed_from, halter_halted, SeesRoom}
+use Rattle.dr_senders.specs.Meaning.Records.{Owns, fresh_stage, half_written, written, published, fresh_own, own_after, brought, sender_looked, mark_found, claimed_from, halter_halted, SeesRoom}
 use Rattle.dr_senders.specs.Meaning.Rule.{World, Room, IsOut, IsOutWith, StageKept, ArePast, SenderKept, ReceiverKept, KeepsRule}
 use Rattle.dr_senders.specs.Meaning.Steps.{sender_knows, sender_claims, sender_brings, halted_words}
 use Rattle.dr_senders.proofs.Places.{word_at, more_left, more_right, more_cases, at_replicate, in_replicate, set_here, set_else, at_map, one_value, claimed_low, halted_low, claimed_halted, halted_rises, is_halted_from, Rises, rises_set, past_rises, past_more, last_look_le, own_slot, apart, rounds_rise, same_or_behind}
+use Rattle.dr_senders.proofs.Brought.{map_there, own_brought}
 use Rattle.dr_senders.proofs.Facts.{handler_inside, near_open, out_behind, upstream_inside, owned}
 
 -- what is published stays as it is
@@ -57,10 +58,12 @@ receiver_stays k words us stages more h r graph inside same rises lasts longer t
 
 pub sender_stays : (k : Shape) (words us : List ℕ) (stages more : List Stage) (q : ℕ) (r : SenderRecord) → Rises k words us
     → ((s : ℕ) (t : Stage) → get_elem? stages s ≡ some t → t.owner ≡ q → get_elem? more s ≡ some t)
+    → ((s : ℕ) (t : Stage) → get_elem? more s ≡ some t → t.owner ≡ q → get_elem? stages s ≡ some t)
     → SenderKept k words stages q r → SenderKept k us more q r
-sender_stays k words us stages more q r rises same was = record {
+sender_stays k words us stages more q r rises same back was = record {
   number = was.number;
   own = λ i o at. (let d = was.own i o at in (d.0, same o.sequence o.stage d.1 d.0));
+  all = λ s t there mine. was.all s t (back s t there mine) mine;
   looks = past_rises k words us r.looks rises was.looks;
 }
 
@@ -98,13 +101,13 @@ pub keeps_sender_looks : (k : Shape) (w : World) (p i : ℕ) (r : SenderRecord) 
     → KeepsRule k (sender_knows w p (sender_looked r i (word_at w.words i)))
 keeps_sender_looks k w p i r low at K = let was = K.sent p r at in
     sender_changes k w p (sender_looked r i (word_at w.words i))
-    (record { number = was.number; own = was.own; looks = past_more k w.words i (word_at w.words i) r.looks low (omega arith) was.looks }) K
+    (record { number = was.number; own = was.own; all = was.all; looks = past_more k w.words i (word_at w.words i) r.looks low (omega arith) was.looks }) K
 
 -- it looks at a mark
 pub keeps_mark_found : (k : Shape) (w : World) (p found : ℕ) (r : SenderRecord) → get_elem? w.senders p ≡ some r → KeepsRule k w
     → KeepsRule k (sender_knows w p (mark_found r found))
 keeps_mark_found k w p found r at K =
-    let was = K.sent p r at in sender_changes k w p (mark_found r found) (record { number = was.number; own = was.own; looks = was.looks }) K
+    let was = K.sent p r at in sender_changes k w p (mark_found r found) (record { number = was.number; own = was.own; all = was.all; looks = was.looks }) K
 
 pub fresh_at : (p c n i : ℕ) (o : Own) → get_elem? (fresh_own p c n) i ≡ some o → (i < n) × (record { sequence = c + i; stage = fresh_stage p } ≡ o)
 fresh_at p c zero i o at = absurd (some-ne-none o (sym at))
@@ -113,6 +116,23 @@ fresh_at p c (suc n) zero o at =
 fresh_at p c (suc n) (suc i) o at =
     let d = fresh_at p (suc c) n i o at in
     let l = d.0 in (omega arith, (let z : c + suc i ≡ suc c + i = omega arith in ap (λ (s : ℕ). let x : Own = record { sequence = s; stage = fresh_stage p } in x) z) ∙ d.1)
+
+pub fresh_there : (p c n i : ℕ) → i < n → get_elem? (fresh_own p c n) i ≡ some record { sequence = c + i; stage = fresh_stage p }
+fresh_there p c zero i lt = absurd (omega arith)
+fresh_there p c (suc n) zero lt =
+    let z : c ≡ c + 0 = omega arith in ap (λ (s : ℕ). let o : Own = record { sequence = s; stage = fresh_stage p } in some o) z
+fresh_there p c (suc n) (suc i) lt = let z : suc c + i ≡ c + suc i = omega arith in
+    fresh_there p (suc c) n i (omega arith) ∙ ap (λ (s : ℕ). let o : Own = record { sequence = s; stage = fresh_stage p } in some o) z
+
+-- what is claimed now, its sender has
+claimed_own : (r : SenderRecord) (p c n s i : ℕ) (t : Stage) → r.number ≡ p → c + i ≡ s → get_elem? (replicate n (fresh_stage p)) i ≡ some t → Owns (claimed_from r c n) s t
+claimed_own r p c n s i t number at new =
+    let inside = at_below (replicate n (fresh_stage p)) i t new in let len = length-replicate n (fresh_stage p) in
+    let fresh : fresh_stage r.number ≡ t = ap fresh_stage number ∙ at_replicate n (fresh_stage p) t i new in (
+      length r.own + i,
+      more_right r.own (fresh_own r.number c n) i (record { sequence = c + i; stage = fresh_stage r.number }) (fresh_there r.number c n i (omega arith))
+          ∙ (λ j. let o : Own = record { sequence = at j; stage = fresh j } in some o),
+    )
 
 -- a sender claims
 pub keeps_claims : (k : Shape) (w : World) (p c n : ℕ) (r : SenderRecord) → get_elem? w.senders p ≡ some r → 0 < n → SeesRoom k r c n
@@ -168,9 +188,17 @@ keeps_claims k w p c n r at some_one room found K =
                         (in_replicate n (fresh_stage p) x.0 d.0) ∙ ap (λ (m : ℕ). some (fresh_stage m)) (sym number),
                   ))
             ];
+            all = λ s t there mine. elim (more_cases w.stages new s t there) [
+              | inl old ↦ (let x = was.all s t old mine in (x.0, more_left r.own (fresh_own r.number c n) x.0 (record { sequence = s; stage = t }) x.1))
+              | inr y ↦ claimed_own r p c n s y.0 t (was.number) (let at = y.1 in omega arith) y.2
+            ];
             looks = past_more k us claim_word (c + n) r.looks (omega arith) (omega arith) (past_rises k w.words us r.looks rises was.looks);
           })
-          (λ q x ne there. sender_stays k w.words us w.stages more q x rises (λ s t old _. more_left w.stages new s t old) (K.sent q x there));
+          (λ q x ne there. sender_stays k w.words us w.stages more q x rises (λ s t old _. more_left w.stages new s t old)
+          (λ s t at_more mine. elim (more_cases w.stages new s t at_more) [
+            | inl old ↦ old
+            | inr y ↦ absurd (ne (sym (ap (λ (u : Stage). u.owner) (at_replicate n (fresh_stage p) t y.0 y.2) ∙ mine)))
+          ]) (K.sent q x there));
       received = λ h q there. (let old = K.received h q there in
           receiver_stays k w.words us w.stages more h q K.shape.graph (handler_inside k w h q there K)
           (stays (count_word h) (omega arith)) rises lasts (omega arith) (λ y. absurd (let t = (old.told y).0 in cc)) old);
@@ -219,8 +247,8 @@ keeps_sender_halts k w p r at K =
     halting k w (set w.senders p (sender_looked r claim_word (halted_from n))) w.halter
     (length-set w.senders p (sender_looked r claim_word (halted_from n)) ∙ K.inlets)
     (each_set (SenderKept k us w.stages) w.senders p (sender_looked r claim_word (halted_from n))
-    (record { number = was.number; own = was.own; looks = past_more k us claim_word (halted_from n) r.looks (omega arith) (omega arith) (past_rises k w.words us r.looks rises was.looks) })
-    (λ q x ne there. sender_stays k w.words us w.stages w.stages q x rises (λ s t old _. old) (K.sent q x there)))
+    (record { number = was.number; own = was.own; all = was.all; looks = past_more k us claim_word (halted_from n) r.looks (omega arith) (omega arith) (past_rises k w.words us r.looks rises was.looks) })
+    (λ q x ne there. sender_stays k w.words us w.stages w.stages q x rises (λ s t old _. old) (λ s t old _. old) (K.sent q x there)))
     (past_rises k w.words us w.halter.looks rises K.halter) K
 
 pub keeps_halter_halts : (k : Shape) (w : World) → KeepsRule k w
@@ -228,7 +256,7 @@ pub keeps_halter_halts : (k : Shape) (w : World) → KeepsRule k w
 keeps_halter_halts k w K =
     let n = word_at w.words claim_word in let us = halted_words w in let rises = halt_rises k w K in let here = halt_here k w K in
     halting k w w.senders (halter_halted w.halter n) K.inlets
-    (λ p x there. sender_stays k w.words us w.stages w.stages p x rises (λ s t old _. old) (K.sent p x there))
+    (λ p x there. sender_stays k w.words us w.stages w.stages p x rises (λ s t old _. old) (λ s t old _. old) (K.sent p x there))
     (past_more k us claim_word (halted_from n) w.halter.looks (omega arith) (omega arith) (past_rises k w.words us w.halter.looks rises K.halter)) K
 
 -- one of a sender's sequences after it was brought further
@@ -285,9 +313,21 @@ keeps_brings k w p s i r t further word v at has unshown owner low high stages m
             own = λ j o there. (let m = at_map (own_after s further) r.own j o there in
                 subst (λ (x : Own). (x.stage.owner ≡ p) × (get_elem? more x.sequence ≡ some x.stage)) m.2
                 (brought_own p s t further w.stages m.0 inside (owner ∙ own.0) own.1 (was.own j m.0 m.1)));
+            all = λ z u there mine. elim (at_set w.stages s z (further t) u there) [
+              | inl e ↦ (let x = own_brought r s t further (i, has) in (x.0, x.1 ∙ (λ j. let o : Own = record { sequence = sym e.0 j; stage = e.1 j } in some o)))
+              | inr old ↦ (let x = was.all z u old.1 mine in (
+                x.0,
+                map_there (own_after s further) r.own x.0 (record { sequence = z; stage = u }) x.1
+                    ∙ ap (λ (b : Bool). let o : Own = record { sequence = z; stage = u } in some (if b then record o { stage = further u } else o)) (ne_eqb z s old.0),
+              ))
+            ];
             looks = past_rises k w.words us r.looks rises was.looks;
           })
-          (λ q x ne there. sender_stays k w.words us w.stages more q x rises (others q ne) (K.sent q x there));
+          (λ q x ne there. sender_stays k w.words us w.stages more q x rises (others q ne)
+          (λ z u at_more mine. elim (at_set w.stages s z (further t) u at_more) [
+            | inl e ↦ absurd (ne (sym mine ∙ sym (ap (λ (y : Stage). y.owner) e.1) ∙ owner ∙ own.0))
+            | inr old ↦ old.1
+          ]) (K.sent q x there));
       received = λ h q there. (let old = K.received h q there in let in_graph = handler_inside k w h q there K in
           receiver_stays k w.words us w.stages more h q K.shape.graph in_graph (stays (count_word h) (omega arith)) rises lasts (omega arith)
           (λ y. (ap is_halted (stays claim_word (omega arith)) ∙ (old.told y).0, (let l = (old.told y).1 in omega arith))) old);

@@ -15,6 +15,7 @@ use Rattle.dr_senders.specs.declared.record.Own.{Own}
 use Rattle.dr_senders.specs.declared.record.SenderRecord.{SenderRecord}
 use Rattle.dr_senders.specs.declared.record.ReceiverRecord.{ReceiverRecord}
 use Rattle.dr_senders.specs.declared.record.HalterRecord.{HalterRecord}
+use Rattle.dr_senders.specs.Meaning.Records.{Owns}
 
 -- the words of a ring, how far each claimed sequence has come, and what each end knows
 pub record World : Type 0 where
@@ -52,10 +53,11 @@ pub record IsPast (k : Shape) (words : List ℕ) (x : Look) : Type 0 where
 abbrev pub ArePast : Shape → List ℕ → List Look → Type 0
 ArePast k words looks = (i : ℕ) (x : Look) → get_elem? looks i ≡ some x → IsPast k words x
 
--- a sender: each sequence that it has is its own, and as far as it knows
+-- a sender: the sequences that it has are those that it claimed, each as far as it knows
 pub record SenderKept (k : Shape) (words : List ℕ) (stages : List Stage) (p : ℕ) (r : SenderRecord) : Type 0 where
   pub number : r.number ≡ p
   pub own : (i : ℕ) (o : Own) → get_elem? r.own i ≡ some o → (o.stage.owner ≡ p) × (get_elem? stages o.sequence ≡ some o.stage)
+  pub all : (s : ℕ) (t : Stage) → get_elem? stages s ≡ some t → t.owner ≡ p → Owns r s t
   pub looks : ArePast k words r.looks
 
 -- a receiver: what it received are the first events, each published; it took no more than each upstream completed, and completed no more than it took
