@@ -24,7 +24,7 @@ use Rattle.dr_senders.specs.Inside.Parts.{ClaimsApart}
 use Rattle.dr_senders.specs.Inside.Seats.{IsEarlier}
 use Rattle.dr_senders.specs.Inside.Fits.{SenderFits}
 use Rattle.dr_senders.proofs.Places.{more_left, more_right, more_cases}
-use Rattle.dr_senders.proofs.Keeps.{fresh_at}
+use Rattle.dr_senders.proofs.Keeps.{fresh_at, fresh_there}
 use Rattle.dr_senders.proofs.Owning.{staged_has, staged_from, published_none, published_more, marked_was, mark_was, mark_here, marked_apart, mark_beside, none_fresh}
 
 -- a sender has what its list has
@@ -80,19 +80,12 @@ module _ (r q : SenderRecord) (c n : ℕ) (grown : q.own ≡ r.own ++ fresh_own 
   kept s t own =
       (own.0, ap (λ (xs : List Own). get_elem? xs own.0) grown ∙ more_left r.own (fresh_own r.number c n) own.0 (record { sequence = s; stage = t }) own.1)
 
-  fresh_there : (d m i : ℕ) → i < m → get_elem? (fresh_own r.number d m) i ≡ some record { sequence = d + i; stage = fresh_stage r.number }
-  fresh_there d zero i lt = absurd (omega arith)
-  fresh_there d (suc m) zero lt =
-      let z : d ≡ d + 0 = omega arith in ap (λ (x : ℕ). let o : Own = record { sequence = x; stage = fresh_stage r.number } in some o) z
-  fresh_there d (suc m) (suc i) lt = let z : suc d + i ≡ d + suc i = omega arith in
-      fresh_there (suc d) m i (omega arith) ∙ ap (λ (x : ℕ). let o : Own = record { sequence = x; stage = fresh_stage r.number } in some o) z
-
   new : (s : ℕ) → c ≤ s → s < c + n → Owns q s (fresh_stage r.number)
   new s low high = let at : c + (s - c) ≡ s = omega arith in (
     length r.own + (s - c),
     ap (λ (xs : List Own). get_elem? xs (length r.own + (s - c))) grown
         ∙ more_right r.own (fresh_own r.number c n) (s - c) (record { sequence = c + (s - c); stage = fresh_stage r.number })
-        (fresh_there c n (s - c) (omega arith))
+        (fresh_there r.number c n (s - c) (omega arith))
         ∙ ap (λ (x : ℕ). let o : Own = record { sequence = x; stage = fresh_stage r.number } in some o) at,
   )
 

@@ -9,7 +9,8 @@ mod halter;
 mod receiver;
 mod sender;
 
-ghost use Rattle.std.specs.Prelude.{List, ℕ, ◌≡◌, ◌≤◌, ◌↔◌, true, length, slice_index};
+ghost use Rattle.std.specs.Prelude.{List, ℕ, ◌≡◌, ◌<◌, ◌≤◌, ◌↔◌, true, length, slice_index};
+ghost use Rattle.dr_seq.specs.declared.event.Event.{Event as EventValue};
 ghost use Rattle.dr_seq.specs.Rounds.{entry_of};
 ghost use Rattle.dr_core.specs.Meaning.Transcript.{Transcript, LeadsTo};
 ghost use Rattle.dr_core.specs.Meaning.Laws.{Laws};
@@ -17,7 +18,7 @@ ghost use Rattle.dr_senders.specs.Meaning.Shape.{Shape, IsShape, ring_setup};
 ghost use Rattle.dr_senders.specs.Meaning.Words.{claim_word, mark_word, is_halted};
 ghost use Rattle.dr_senders.specs.Meaning.Rule.{World, KeepsRule};
 ghost use Rattle.dr_senders.specs.declared.record.Step.{Step};
-ghost use Rattle.dr_senders.specs.Meaning.Moments.{Runs, new_world, picture_of};
+ghost use Rattle.dr_senders.specs.Meaning.Moments.{Runs, new_world, picture_of, IsShut, RefusesByMark};
 
 use crate::plan::Plan;
 use crate::record::View;
@@ -79,13 +80,15 @@ impl Names for Brand {
 /// Whatever steps fall in whatever order: between any two of them the rule holds, the entries of
 /// their events lead the machine to the ring's picture, and the transcript has the five laws. A
 /// sequence is published exactly where the mark in its slot is of its round or a later one, so one
-/// look at the mark tells it. Once a ring is halted, nothing more is claimed. It does nothing when it
+/// look at the mark tells it, and with it why the machine refuses a write of a sequence that is not
+/// the sender's own, or is published. Once a ring is halted, nothing more is claimed. It does nothing when it
 /// runs: the contract is the theorem.
 pub fn moments()
     ensures rule { (k : Shape) (steps : List Step) (entries : Transcript) (w : World) → IsShape k → Runs k steps entries (new_world k) w → KeepsRule k w }
     ensures leads { (k : Shape) (steps : List Step) (entries : Transcript) (w : World) → IsShape k → Runs k steps entries (new_world k) w → LeadsTo (ring_setup k) entries (picture_of k w) }
     ensures laws { (k : Shape) (steps : List Step) (entries : Transcript) (w : World) → IsShape k → Runs k steps entries (new_world k) w → Laws (ring_setup k) entries }
     ensures marks { (k : Shape) (steps : List Step) (entries : Transcript) (w : World) → IsShape k → Runs k steps entries (new_world k) w → (s : ℕ) → ((picture_of k w).published s ≡ true) ↔ (entry_of k.size s ≤ slice_index w.words (mark_word k s)) }
+    ensures refused { (k : Shape) (steps : List Step) (entries : Transcript) (w : World) → IsShape k → Runs k steps entries (new_world k) w → (p s : ℕ) (event : EventValue) → p < k.senders → IsShut w p s → RefusesByMark k w p s event }
     ensures halted { (k : Shape) (steps more : List Step) (entries rest : Transcript) (w u : World) → IsShape k → Runs k steps entries (new_world k) w → Runs k more rest w u → is_halted (slice_index w.words claim_word) ≡ true → length u.stages ≡ length w.stages }
 {
     every_transcript_is_lawful();

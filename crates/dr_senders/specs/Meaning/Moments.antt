@@ -1,8 +1,12 @@
 -- What each list of steps comes to, from a ring's opening.
-use Rattle.std.specs.Prelude.{◌≡◌, ℕ, zero, suc, ◌+◌, ◌-◌, ◌==◌, if◌then◌else◌, false, List, [], ◌∷◌, ◌++◌, map, length, replicate, slice_index, slice_index_or, Option, Some, None, Bool, nat_le, nat_lt, not, ◌&&◌}
+use Rattle.std.specs.Prelude.{◌≡◌, ℕ, zero, suc, ◌+◌, ◌-◌, ◌==◌, if◌then◌else◌, true, false, List, [], ◌∷◌, ◌++◌, map, length, replicate, slice_index, slice_index_or, Option, Some, None, Bool, nat_le, nat_lt, not, ◌&&◌}
 use Rattle.std.specs.List.{range_with_len}
+use mathlib.Core.Option.{some}
+use lib.ListN.{get_elem?}
+use Rattle.dr_seq.specs.declared.event.Event.{Event}
 use Rattle.dr_core.specs.declared.command.Command.TheVariants.{Claim, Write, Publish, Poll, Complete, Halt}
-use Rattle.dr_core.specs.declared.command.Reply.TheVariants.{Claimed, Written, Published, Drained, Completed, Halting, Idle, Gating}
+use Rattle.dr_core.specs.declared.refusal.Refusal.TheVariants.{NotClaimed, AlreadyPublished}
+use Rattle.dr_core.specs.declared.command.Reply.TheVariants.{Refused, Claimed, Written, Published, Drained, Completed, Halting, Idle, Gating}
 use Rattle.dr_core.specs.Meaning.Machine as machine
 use Rattle.dr_core.specs.Meaning.Machine.{State, available}
 use Rattle.dr_core.specs.Meaning.Transcript.{Transcript}
@@ -118,3 +122,13 @@ Runs k (step ∷ steps) entries w w' =
 -- some steps are the beginning of others
 abbrev pub IsBeginning : List Step → List Step → Type 0
 IsBeginning past steps = (rest : List Step) × (steps ≡ past ++ rest)
+
+-- a sequence that a sender may not write any more, or never might: it is not its own, or it is published
+abbrev pub IsShut : World → ℕ → ℕ → Type 0
+IsShut w p s = (t : Stage) → get_elem? w.stages s ≡ some t → t.owner ≡ p → t.published ≡ true
+
+-- the machine refuses a write as the mark in the sequence's slot says
+abbrev pub RefusesByMark : Shape → World → ℕ → ℕ → Event → Type 0
+RefusesByMark k w p s event =
+    machine.step (ring_setup k) (picture_of k w) (Write p s event)
+    ≡ machine.unchanged (Refused (if nat_le (entry_of k.size s) (slice_index w.words (mark_word k s)) then AlreadyPublished else NotClaimed)) (picture_of k w)

@@ -14,6 +14,7 @@ use Rattle.dr_senders.specs.Meaning.Moments.{Runs, new_world, stage_at, picture_
 use Rattle.dr_senders.proofs.Pictures.{keeps_runs, lead_runs}
 use Rattle.dr_senders.proofs.Beginning.{kept_new_world, opens}
 use Rattle.dr_senders.proofs.Halting.{halted_runs}
+use Rattle.dr_senders.proofs.Shutting.{refused_by_mark}
 use Rattle.dr_senders.proofs.laws.moments.Goals as goal
 
 leads : (k : Shape) (steps : List Step) (entries : Transcript) (w : World) → IsShape k → Runs k steps entries (new_world k) w
@@ -50,3 +51,7 @@ pub returns-clause-marks : goal.returns-clause-marks
 returns-clause-marks c k steps entries w shape runs s =
     let K = keeps_runs k steps entries (new_world k) w runs (kept_new_world k shape) in
     ((λ shown. K.marked s (out_at w.stages s shown)), (λ le. published_at w.stages s (K.marks s le)))
+
+pub returns-clause-refused : goal.returns-clause-refused
+returns-clause-refused c k steps entries w shape runs p s event who shut =
+    refused_by_mark k w p s event (keeps_runs k steps entries (new_world k) w runs (kept_new_world k shape)) who shut
