@@ -18,7 +18,7 @@ use Rattle.dr_senders.specs.declared.record.Step.TheVariants.{SenderStoresFirst,
 use Rattle.dr_senders.specs.Meaning.Records.{Owns, written, published, brought}
 use Rattle.dr_senders.specs.Calls.Ends.{SenderEnd, Stays, StoresWhereOk}
 
--- The refusals of each call are the machine's, in its order. What a sender knows of its own sequences is exact. Of another's it learns by a look at the mark in its slot whether it is published, which the mark tells exactly (`moments`); all that is then left of the machine's tests is answered `NotClaimed`. A sequence at the limit or beyond is never claimed.
+-- The refusals of each call are the machine's, in its order. What a sender knows of its own sequences is exact. Of another's it learns by a look at the mark in its slot whether it is published, which the mark tells exactly; all that is then left of the machine's tests is answered `NotClaimed`, as the machine answers it at that moment (`moments`). A sequence at the limit or beyond is never claimed.
 
 -- what a sender knows of a sequence when it answers: how far it brought its own, else what it found at the mark, or that it is never claimed; or it asked nothing of it
 pub data Sight : Type 0 where
