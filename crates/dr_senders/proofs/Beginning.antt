@@ -1,5 +1,5 @@
 -- A ring at its opening.
-use Rattle.std.proofs.Common.{◌≡◌, ℕ, zero, suc, ◌+◌, inl, inr, false, List, [], ◌∷◌, length, get_or, map, replicate, None, sym, refl, ap, ◌∙◌, subst, arith}
+use Rattle.std.proofs.Common.{◌≡◌, ℕ, zero, suc, ◌+◌, inl, inr, List, [], ◌∷◌, length, get_or, map, replicate, sym, refl, ap, ◌∙◌, subst, arith}
 use Rattle.std.specs.List.{range_with_len}
 use Rattle.std.proofs.lemmas.Bool.{cases_lt}
 use Rattle.std.proofs.lemmas.List.{length-replicate, get_or-replicate, get_or_past}
@@ -24,7 +24,7 @@ sender_fresh p zero i r e = absurd (some-ne-none r (sym e))
 sender_fresh p (suc n) zero r e = sym (some-injective _ r e) ∙ (let z : p ≡ p + 0 = omega arith in ap fresh_sender z)
 sender_fresh p (suc n) (suc i) r e = sender_fresh (suc p) n i r e ∙ (let s : suc p + i ≡ p + suc i = omega arith in ap fresh_sender s)
 
-receivers_count : (h n : ℕ) → length (fresh_receivers h n) ≡ n
+pub receivers_count : (h n : ℕ) → length (fresh_receivers h n) ≡ n
 receivers_count h zero = refl
 receivers_count h (suc n) = ap suc (receivers_count (suc h) n)
 
@@ -55,7 +55,8 @@ kept_new_world k shape = let n = words_of k in let ws = zeros n in record {
   stages = λ s t there. absurd (some-ne-none t (sym there));
   marks = λ s is. absurd (let z = all_zero n (mark_word k s) in omega arith);
   sent = λ p r at. (let e : r ≡ fresh_sender p = sender_fresh 0 k.senders p r at ∙ (let z : 0 + p ≡ p = omega arith in ap fresh_sender z) in
-      subst (λ (q : SenderRecord). SenderKept k ws [] p q) (sym e) (record { number = refl; own = λ i o there. absurd (some-ne-none o (sym there)); looks = λ i x there. absurd (some-ne-none x (sym there)) }));
+      subst (λ (q : SenderRecord). SenderKept k ws [] p q) (sym e)
+      (record { number = refl; own = λ i o there. absurd (some-ne-none o (sym there)); looks = λ i x there. absurd (some-ne-none x (sym there)) }));
   received = λ h r at. (let e : r ≡ fresh_receiver h = receiver_fresh 0 (handlers_of k) h r at ∙ (let z : 0 + h ≡ h = omega arith in ap fresh_receiver z) in
       subst (λ (q : ReceiverRecord). ReceiverKept k ws [] h q) (sym e)
       (record {

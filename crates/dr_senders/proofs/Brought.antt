@@ -8,7 +8,7 @@ use Rattle.dr_senders.specs.declared.record.Own.{Own}
 use Rattle.dr_senders.specs.declared.record.SenderRecord.{SenderRecord}
 use Rattle.dr_senders.specs.Meaning.Records.{Owns, own_after, brought}
 
-map_there : {A B : Type 0} (f : A → B) (l : List A) (i : ℕ) (a : A) → get_elem? l i ≡ some a → get_elem? (map f l) i ≡ some (f a)
+pub map_there : {A B : Type 0} (f : A → B) (l : List A) (i : ℕ) (a : A) → get_elem? l i ≡ some a → get_elem? (map f l) i ≡ some (f a)
 map_there f [] i a at = absurd (some-ne-none a (sym at))
 map_there f (x ∷ xs) zero a at = ap (λ y. some (f y)) (some-injective x a at)
 map_there f (x ∷ xs) (suc i) a at = map_there f xs i a at

@@ -1,5 +1,4 @@
 use Rattle.dr_graph.specs.Meaning.Graph.{finals}
-use Rattle.std.specs.Prelude.{◌≡◌}
 use Rattle.dr_senders.specs.Calls.Ends.{HasLoaded}
 use Rattle.dr_senders.proofs.Scanning.{Scanned}
 use Rattle.dr_senders.proofs.laws.sender.SenderStation.has_room.Given as goal
