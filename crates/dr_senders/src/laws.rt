@@ -8,6 +8,7 @@
 mod halter;
 mod receiver;
 mod sender;
+pub(crate) mod settling;
 
 ghost use Rattle.std.specs.Prelude.{List, ◌≡◌, ◌<◌, true, length, slice_index};
 ghost use Rattle.dr_core.specs.Meaning.Transcript.{Transcript, LeadsTo};

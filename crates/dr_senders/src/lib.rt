@@ -16,6 +16,7 @@ mod polling;
 mod receiver;
 pub mod record;
 mod sender;
+mod settled;
 mod writing;
 
 pub use claiming::ClaimFault;
@@ -24,6 +25,7 @@ pub use opening::senders_ring;
 pub use plan::Plan;
 pub use receiver::Receiver;
 pub use sender::Sender;
+pub use settled::{Settled, settle};
 
 #[cfg(test)]
 mod tests;

@@ -1,0 +1,8 @@
+use Rattle.std.proofs.Common.{ap}
+use Rattle.dr_senders.specs.declared.record.ReceiverRecord.{ReceiverRecord}
+use Rattle.dr_senders.proofs.Together.{all_receiver}
+use Rattle.dr_senders.proofs.tests.settling.complete.Goals as goal
+
+pub returns : goal.returns
+returns g c = let call = c.complete.ensures in
+    all_receiver _ _ _ c.args.handler _ _ c.requires c.index_mut.ensures.value call.0.0 (ap (λ (r : ReceiverRecord). r.number) call.1.2)
