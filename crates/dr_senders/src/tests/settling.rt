@@ -38,13 +38,17 @@ fn claim(rt: &impl Abort, ends: &mut Ends, sender: usize, n: u64) -> Result<Clai
     ends.senders[sender].try_claim(n)
 }
 
-fn poll(rt: &impl Abort, ends: &mut Ends, handler: usize) -> Result<Polled, Refusal>
+fn poll(
+    rt: &impl Abort,
+    ends: &mut Ends,
+    handler: usize,
+    out: &mut [Event],
+) -> Result<Polled, Refusal>
     requires { AreAllEnds ends.old.senders.items ends.old.receivers.items ends.old.halter }
     ensures { AreAllEnds ends.new.senders.items ends.new.receivers.items ends.new.halter }
 {
     assert!(rt; handler < ends.receivers.len());
-    let mut out = [Event::NONE; 4];
-    ends.receivers[handler].poll_into(&mut out)
+    ends.receivers[handler].poll_into(out)
 }
 
 fn complete(rt: &impl Abort, ends: &mut Ends, handler: usize, upto: u64) -> Result<(), Refusal>
@@ -72,11 +76,12 @@ fn shows_nothing_taken(rt: &impl Abort, settled: &Settled) {
 
 #[test]
 fn settle_after_open_claims(rt: HostRuntime) -> Result<(), Fail> {
+    let mut out = [Event::NONE; 4];
     let mut ends = open(rt.alloc(), &chain(rt.alloc())?)?;
     assert_eq!(rt; claim(&rt, &mut ends, 1, 2), Ok(Claimed { lo: 0, hi: 1 }));
     assert_eq!(rt; claim(&rt, &mut ends, 0, 1), Ok(Claimed { lo: 2, hi: 2 }));
-    assert_eq!(rt; poll(&rt, &mut ends, 0), Ok(Polled::Gating));
-    assert_eq!(rt; poll(&rt, &mut ends, 1), Ok(Polled::Gating));
+    assert_eq!(rt; poll(&rt, &mut ends, 0, &mut out), Ok(Polled::Gating));
+    assert_eq!(rt; poll(&rt, &mut ends, 1, &mut out), Ok(Polled::Gating));
     assert_eq!(rt; complete(&rt, &mut ends, 0, 0), Ok(()));
     assert_eq!(rt; complete(&rt, &mut ends, 1, 1), Err(Refusal::NotTaken));
     let settled = settle(ends.senders, ends.receivers, ends.halter);
@@ -88,15 +93,16 @@ fn settle_after_open_claims(rt: HostRuntime) -> Result<(), Fail> {
 
 #[test]
 fn settle_after_a_halt(rt: HostRuntime) -> Result<(), Fail> {
+    let mut out = [Event::NONE; 4];
     let mut ends = open(rt.alloc(), &side_by_side(rt.alloc())?)?;
-    assert_eq!(rt; poll(&rt, &mut ends, 1), Ok(Polled::Idle));
+    assert_eq!(rt; poll(&rt, &mut ends, 1, &mut out), Ok(Polled::Idle));
     halt(&mut ends);
     assert_eq!(rt;
         claim(&rt, &mut ends, 0, 1),
         Err(ClaimFault::Refused(Refusal::Halted))
     );
-    assert_eq!(rt; poll(&rt, &mut ends, 0), Ok(Polled::Drained));
-    assert_eq!(rt; poll(&rt, &mut ends, 1), Ok(Polled::Drained));
+    assert_eq!(rt; poll(&rt, &mut ends, 0, &mut out), Ok(Polled::Drained));
+    assert_eq!(rt; poll(&rt, &mut ends, 1, &mut out), Ok(Polled::Drained));
     let settled = settle(ends.senders, ends.receivers, ends.halter);
     assert_eq!(rt; settled.claimed(), 0);
     assert!(rt; settled.is_halted());
