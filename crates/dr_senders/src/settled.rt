@@ -105,9 +105,10 @@ fn gather_receivers(
 /// Brings all ends of a ring together. It takes no memory, and looks once at the claim word.
 ///
 /// There is one run of all ends that came to what they know, and its transcript is lawful. Each
-/// receiver has the first of the published events in the order of their sequences, all of them where
-/// it was told that the ring drained; no handler took more than its upstreams completed; and no
-/// more is claimed than a round beyond what each final handler completed.
+/// claimed sequence is in its sender's record. Each receiver has the first of the published events
+/// in the order of their sequences, each from the sender of its sequence, and all that is claimed
+/// where it was told that the ring drained. No handler took more than its upstreams completed, and
+/// no more is claimed than a round beyond what each final handler completed.
 pub fn settle(senders: Vec<Sender>, receivers: Vec<Receiver>, halter: Halter) -> Settled
     requires { AreAllEnds senders.items receivers.items halter }
     ensures handlers { result.handlers.items ≡ map (λ e. handler_counts e.knows) receivers.items }
