@@ -1,8 +1,7 @@
 -- Kinds of steps that are allowed.
-use Rattle.std.proofs.Common.{◌≡◌, ℕ, ◌+◌, ◌-◌, ◌*◌, ◌^◌, ◌<◌, ◌≤◌, inl, inr, Bool, true, false, ◌==◌, if◌then◌else◌, List, [], ◌∷◌, ◌++◌, length, get_or, set, replicate, Some, None, sym, refl, ap, ◌∙◌, subst, arith}
+use Rattle.std.proofs.Common.{◌≡◌, ℕ, ◌+◌, ◌-◌, ◌*◌, ◌^◌, ◌<◌, ◌≤◌, inl, inr, Bool, true, false, ◌==◌, if◌then◌else◌, List, [], ◌∷◌, ◌++◌, length, get_or, set, Some, None, sym, refl, ap, ◌∙◌, subst, arith, replicate}
 use Rattle.std.specs.Prelude.{Contains, bit_or}
 use Rattle.std.proofs.lemmas.Bool.{cases_lt, lt-ltb, le-ltb}
-use Rattle.std.proofs.lemmas.List.{length-append, length-replicate}
 use Rattle.std.proofs.lemmas.Nat.{or_block}
 use Rattle.std.specs.Int.Bits.{or_zero_r}
 use mathlib.Core.Option.{some, none}
@@ -16,7 +15,7 @@ use Rattle.dr_graph.specs.Meaning.Graph.{upstreams_of, finals}
 use Rattle.dr_ring.specs.Meaning.Records.{last_look}
 use Rattle.dr_ring.proofs.Lists.{at_below, final_inside}
 use Rattle.dr_senders.specs.Meaning.Shape.{Shape, handlers_of}
-use Rattle.dr_senders.specs.Meaning.Words.{claim_word, claimed_in, halted_from, halt_bit, count_word, mark_word, payload_word}
+use Rattle.dr_senders.specs.Meaning.Words.{claim_word, halted_from, halt_bit, count_word, mark_word, payload_word, claimed_in}
 use Rattle.dr_senders.specs.declared.record.Stage.{Stage}
 use Rattle.dr_senders.specs.declared.record.SenderRecord.{SenderRecord}
 use Rattle.dr_senders.specs.declared.record.ReceiverRecord.{ReceiverRecord}
@@ -24,15 +23,16 @@ use Rattle.dr_senders.specs.declared.record.HalterRecord.{HalterRecord}
 use Rattle.dr_senders.specs.declared.record.EndRecord.{EndRecord}
 use Rattle.dr_senders.specs.declared.record.EndRecord.TheVariants.{Sends, Receives, Halts}
 use Rattle.dr_senders.specs.declared.record.Step.{Step}
-use Rattle.dr_senders.specs.declared.record.Step.TheVariants.{SenderLooksAtClaims, SenderLooksAtCount, SenderClaims, SenderStoresFirst, SenderStoresSecond, SenderPublishes, SenderLooksAtMark, SenderHalts, ReceiverLooksAtClaims, ReceiverLooksAtMark, ReceiverLooksAtCount, ReceiverLoadsFirst, ReceiverLoadsSecond, ReceiverCompletes, HalterHalts}
-use Rattle.dr_senders.specs.Meaning.Records.{Owns, fresh_stage, half_written, written, published, brought, sender_looked, mark_found, claimed_from, receiver_looked, claims_looked, mark_looked, half_taken, took, completed_to, halter_halted, SeesRoom, IsBelowBarrier}
+use Rattle.dr_senders.specs.declared.record.Step.TheVariants.{SenderLooksAtClaims, SenderLooksAtCount, SenderClaims, SenderStoresFirst, SenderStoresSecond, SenderPublishes, SenderHalts, ReceiverLooksAtClaims, ReceiverLooksAtMark, ReceiverLooksAtCount, ReceiverLoadsFirst, ReceiverLoadsSecond, ReceiverCompletes, HalterHalts, SenderLooksAtMark}
+use Rattle.dr_senders.specs.Meaning.Records.{Owns, half_written, written, published, brought, sender_looked, claimed_from, receiver_looked, claims_looked, mark_looked, half_taken, took, completed_to, halter_halted, SeesRoom, IsBelowBarrier, fresh_stage, mark_found}
 use Rattle.dr_senders.specs.Meaning.Rule.{World, KeepsRule}
 use Rattle.dr_senders.specs.Meaning.Steps.{Happens, sender_knows, sender_claims, sender_brings, receiver_knows, halted_words}
-use Rattle.dr_senders.specs.Inside.Seats.{End, Sitting, end_of, seat_at, Loads, Stores, Ruled, end_number, Stands, alone, sender_of, receiver_of, halter_of, IsSender, IsReceiver, IsHalter, FindsEvents, IsEarlier, FindsMark, SenderLooked, SenderLookedAtMark, SenderClaimed, SenderStoredFirst, SenderStoredSecond, SenderPublished, SenderHalted, ReceiverLookedAtClaims, ReceiverLookedAtMark, ReceiverLookedAtCount, ReceiverLoadedFirst, ReceiverLoadedSecond, ReceiverCompleted, HalterHalted}
+use Rattle.dr_senders.specs.Inside.Seats.{End, Sitting, end_of, seat_at, Loads, Stores, Ruled, end_number, Stands, alone, sender_of, receiver_of, halter_of, IsSender, IsReceiver, IsHalter, FindsEvents, SenderLooked, SenderClaimed, SenderStoredFirst, SenderStoredSecond, SenderPublished, SenderHalted, ReceiverLookedAtClaims, ReceiverLookedAtMark, ReceiverLookedAtCount, ReceiverLoadedFirst, ReceiverLoadedSecond, ReceiverCompleted, HalterHalted, IsEarlier, FindsMark, SenderLookedAtMark}
 use Rattle.dr_senders.proofs.Places.{word_at, set_here, last_look_le, more_left, claimed_low}
 use Rattle.dr_senders.proofs.Facts.{taken_claimed, handler_inside, upstream_inside, receiver_of_handler, near_open, owned}
-use Rattle.dr_senders.proofs.Keeps.{keeps_claims}
 use Rattle.dr_senders.proofs.Seats.{Does, OthersStand, by_end, adds_nothing, adds_one, but_sender, but_receiver, but_halter}
+use Rattle.std.proofs.lemmas.List.{length-append, length-replicate}
+use Rattle.dr_senders.proofs.KeepsClaims.{keeps_claims}
 
 -- a load stores what was there
 same_words : (us : List ℕ) (i : ℕ) → us ≡ set us i (get_or us i 0)
@@ -87,9 +87,13 @@ pub looks_at_claims : (k : Shape) (slots id : ℕ) (me : Sitting) → IsSender (
 looks_at_claims k slots id me is =
     let r = sender_of me.0.ends in let kind = SenderLooksAtClaims r.number in
     along (λ m. Allows (Ruled k) slots id m claim_word (λ n. n) (Loads SenderLooked (step slots claim_word 0 0 none) m)) me (Sends r) is
-    (by_end k slots id kind (λ xs. xs) me.0.pasts (Sends r) claim_word (λ n. n) (λ n. Sends (sender_looked r claim_word n)) (SenderLooked (step slots claim_word 0 0 none) (alone (Sends r)))
+    (by_end k slots id kind (λ xs. xs) me.0.pasts (Sends r) claim_word (λ n. n) (λ n. Sends (sender_looked r claim_word n))
+    (SenderLooked (step slots claim_word 0 0 none) (alone (Sends r)))
     (adds_nothing _ kind (λ n. refl)) (λ n. refl)
-    (λ w at K small. (sender_learns k kind w r (sender_looked r claim_word (word_at w.words claim_word)) claim_word at refl (r, at, refl), (refl, sender_sees k w r claim_word at (omega arith) K))))
+    (λ w at K small. (
+      sender_learns k kind w r (sender_looked r claim_word (word_at w.words claim_word)) claim_word at refl (r, at, refl),
+      (refl, sender_sees k w r claim_word at (omega arith) K),
+    )))
 
 pub looks_at_count : (k : Shape) {sh : Shape} (slots id : ℕ) (me : Sitting) (i f : ℕ) → k ≡ sh → i ≡ count_word f → IsSender (end_of me)
     → Contains (finals sh.upstreams) f
@@ -99,7 +103,8 @@ looks_at_count k {sh = sh} slots id me i f same here is those =
     subst (λ (i : ℕ). Allows (Ruled k) slots id me i (λ n. n) (Loads SenderLooked (step slots i 0 0 none) me)) (sym here)
     (let i = count_word f in let r = sender_of me.0.ends in let kind = SenderLooksAtCount r.number f in
     along (λ m. Allows (Ruled k) slots id m i (λ n. n) (Loads SenderLooked (step slots i 0 0 none) m)) me (Sends r) is
-    (by_end k slots id kind (λ xs. xs) me.0.pasts (Sends r) i (λ n. n) (λ n. Sends (sender_looked r i n)) (SenderLooked (step slots i 0 0 none) (alone (Sends r)))
+    (by_end k slots id kind (λ xs. xs) me.0.pasts (Sends r) i (λ n. n) (λ n. Sends (sender_looked r i n))
+    (SenderLooked (step slots i 0 0 none) (alone (Sends r)))
     (adds_nothing _ kind (λ n. refl)) (λ n. refl)
     (λ w at K small. let inside = final_inside k.upstreams f has in
     (sender_learns k kind w r (sender_looked r i (word_at w.words i)) i at refl (r, at, (has, refl)), (refl, sender_sees k w r i at (omega arith) K)))))
@@ -148,14 +153,18 @@ earlier k w r c n z t at some_one room hit own K =
 pub claims : (k : Shape) {sh : Shape} (slots id : ℕ) (me : Sitting) (c n v : ℕ) → k ≡ sh → v ≡ c + n → IsSender (end_of me) → 0 < n
     → SeesRoom sh (sender_of me.0.ends) c n
     → Allows (Ruled k) slots id me claim_word (λ m. either (m == c) v m)
-    (Stores (λ s e m. SenderClaims (sender_of e.0).number s.first (s.second - s.first)) (SenderClaimed k) (step slots claim_word c v none) me)
+    (Stores (λ s e m. SenderClaims (sender_of e.0).number s.first (s.second - s.first)) ( SenderClaimed k) (step slots claim_word c v none) me)
 claims k {sh = sh} slots id me c n v same sum is some_one there =
     let room : SeesRoom k (sender_of me.0.ends) c n = subst (λ (p : Shape). SeesRoom p (sender_of me.0.ends) c n) (sym same) there in
-    subst (λ (v : ℕ). Allows (Ruled k) slots id me claim_word (λ m. either (m == c) v m) (Stores (λ s e m. SenderClaims (sender_of e.0).number s.first (s.second - s.first)) (SenderClaimed k) (step slots claim_word c v none) me)) (sym sum)
+    subst (λ (v : ℕ). Allows (Ruled k) slots id me claim_word (λ m. either (m == c) v m)
+    (Stores (λ s e m. SenderClaims (sender_of e.0).number s.first (s.second - s.first)) ( SenderClaimed k) (step slots claim_word c v none) me)) (sym sum)
     (let r = sender_of me.0.ends in let back : c + n - c ≡ n = omega arith in let kind = SenderClaims r.number c (c + n - c) in
     let room' : SeesRoom k r c (c + n - c) = subst (SeesRoom k r c) (sym back) room in
-    along (λ x. Allows (Ruled k) slots id x claim_word (λ m. either (m == c) (c + n) m) (Stores (λ s e m. SenderClaims (sender_of e.0).number s.first (s.second - s.first)) (SenderClaimed k) (step slots claim_word c (c + n) none) x)) me (Sends r) is
-    (by_end k slots id kind (λ xs. xs ++ kind ∷ []) me.0.pasts (Sends r) claim_word (λ m. either (m == c) (c + n) m) (λ m. Sends (learned r c (c + n - c) m (m == c))) (SenderClaimed k (step slots claim_word c (c + n) none) (alone (Sends r)))
+    along (λ x. Allows (Ruled k) slots id x claim_word (λ m. either (m == c) (c + n) m)
+    (Stores (λ s e m. SenderClaims (sender_of e.0).number s.first (s.second - s.first)) ( SenderClaimed k) (step slots claim_word c (c + n) none) x)) me
+    (Sends r) is
+    (by_end k slots id kind (λ xs. xs ++ kind ∷ []) me.0.pasts (Sends r) claim_word (λ m. either (m == c) (c + n) m)
+    (λ m. Sends (learned r c (c + n - c) m (m == c))) (SenderClaimed k (step slots claim_word c (c + n) none) (alone (Sends r)))
     (adds_one _ kind (λ n. refl)) (λ m. learned_number r c (c + n - c) m (m == c))
     (λ w at K small. let m = word_at w.words claim_word in let more = c + n - c in (
       record {
@@ -175,11 +184,15 @@ pub stores_first : (k : Shape) {sh : Shape} (slots id : ℕ) (me : Sitting) (i s
 stores_first k {sh = sh} slots id me i s m v t same named there is own unshown =
     let here : i ≡ payload_word k s 0 = there ∙ ap (λ (p : Shape). payload_word p s 0) (sym same) in
     let r = sender_of me.0.ends in
-    subst (λ (m : ℕ). Allows (Ruled k) slots id me i (λ _. v) (λ _. Stores (λ x e n. SenderStoresFirst (sender_of e.0).number m n) (SenderStoredFirst m) (step slots i v 0 none) me v)) named
-    (subst (λ (i : ℕ). Allows (Ruled k) slots id me i (λ _. v) (λ _. Stores (λ x e n. SenderStoresFirst (sender_of e.0).number s n) (SenderStoredFirst s) (step slots i v 0 none) me v)) (sym here)
+    subst (λ (m : ℕ). Allows (Ruled k) slots id me i (λ _. v)
+    (λ _. Stores (λ x e n. SenderStoresFirst (sender_of e.0).number m n) (SenderStoredFirst m) (step slots i v 0 none) me v)) named
+    (subst (λ (i : ℕ). Allows (Ruled k) slots id me i (λ _. v)
+    (λ _. Stores (λ x e n. SenderStoresFirst (sender_of e.0).number s n) (SenderStoredFirst s) (step slots i v 0 none) me v)) (sym here)
     (let i = payload_word k s 0 in let kind = SenderStoresFirst r.number s v in
-    along (λ x. Allows (Ruled k) slots id x i (λ _. v) (λ _. Stores (λ x e n. SenderStoresFirst (sender_of e.0).number s n) (SenderStoredFirst s) (step slots i v 0 none) x v)) me (Sends r) is
-    (by_end k slots id kind (λ xs. xs ++ kind ∷ []) me.0.pasts (Sends r) i (λ _. v) (λ _. Sends (brought r s (half_written v))) (λ _. SenderStoredFirst s (step slots i v 0 none) (alone (Sends r)) v)
+    along (λ x. Allows (Ruled k) slots id x i (λ _. v)
+    (λ _. Stores (λ x e n. SenderStoresFirst (sender_of e.0).number s n) (SenderStoredFirst s) (step slots i v 0 none) x v)) me (Sends r) is
+    (by_end k slots id kind (λ xs. xs ++ kind ∷ []) me.0.pasts (Sends r) i (λ _. v) (λ _. Sends (brought r s (half_written v)))
+    (λ _. SenderStoredFirst s (step slots i v 0 none) (alone (Sends r)) v)
     (adds_one _ kind (λ n. refl)) (λ n. refl)
     (λ w at K small. (sender_stores k kind w r s t (half_written v) i v at (r, at, (t, own, unshown, refl)), refl)))))
 
@@ -190,12 +203,17 @@ pub stores_second : (k : Shape) {sh : Shape} (slots id : ℕ) (me : Sitting) (i 
 stores_second k {sh = sh} slots id me i s m first f v t same named first_named there is own unshown half =
     let here : i ≡ payload_word k s 1 = there ∙ ap (λ (p : Shape). payload_word p s 1) (sym same) in
     let r = sender_of me.0.ends in let event : Event = record { first = first; second = v } in
-    subst (λ (m : ℕ). Allows (Ruled k) slots id me i (λ _. v) (λ _. Stores (λ x e n. SenderStoresSecond (sender_of e.0).number m n) (SenderStoredSecond m f) (step slots i v 0 none) me v)) named
-    (subst (λ (f : ℕ). Allows (Ruled k) slots id me i (λ _. v) (λ _. Stores (λ x e n. SenderStoresSecond (sender_of e.0).number s n) (SenderStoredSecond s f) (step slots i v 0 none) me v)) first_named
-    (subst (λ (i : ℕ). Allows (Ruled k) slots id me i (λ _. v) (λ _. Stores (λ x e n. SenderStoresSecond (sender_of e.0).number s n) (SenderStoredSecond s first) (step slots i v 0 none) me v)) (sym here)
+    subst (λ (m : ℕ). Allows (Ruled k) slots id me i (λ _. v)
+    (λ _. Stores (λ x e n. SenderStoresSecond (sender_of e.0).number m n) (SenderStoredSecond m f) (step slots i v 0 none) me v)) named
+    (subst (λ (f : ℕ). Allows (Ruled k) slots id me i (λ _. v)
+    (λ _. Stores (λ x e n. SenderStoresSecond (sender_of e.0).number s n) (SenderStoredSecond s f) (step slots i v 0 none) me v)) first_named
+    (subst (λ (i : ℕ). Allows (Ruled k) slots id me i (λ _. v)
+    (λ _. Stores (λ x e n. SenderStoresSecond (sender_of e.0).number s n) (SenderStoredSecond s first) (step slots i v 0 none) me v)) (sym here)
     (let i = payload_word k s 1 in let kind = SenderStoresSecond r.number s v in
-    along (λ x. Allows (Ruled k) slots id x i (λ _. v) (λ _. Stores (λ x e n. SenderStoresSecond (sender_of e.0).number s n) (SenderStoredSecond s first) (step slots i v 0 none) x v)) me (Sends r) is
-    (by_end k slots id kind (λ xs. xs ++ kind ∷ []) me.0.pasts (Sends r) i (λ _. v) (λ _. Sends (brought r s (written event))) (λ _. SenderStoredSecond s first (step slots i v 0 none) (alone (Sends r)) v)
+    along (λ x. Allows (Ruled k) slots id x i (λ _. v)
+    (λ _. Stores (λ x e n. SenderStoresSecond (sender_of e.0).number s n) (SenderStoredSecond s first) (step slots i v 0 none) x v)) me (Sends r) is
+    (by_end k slots id kind (λ xs. xs ++ kind ∷ []) me.0.pasts (Sends r) i (λ _. v) (λ _. Sends (brought r s (written event)))
+    (λ _. SenderStoredSecond s first (step slots i v 0 none) (alone (Sends r)) v)
     (adds_one _ kind (λ n. refl)) (λ n. refl)
     (λ w at K small. (sender_stores k kind w r s t (written event) i v at (r, at, (t, own, unshown, (first, half, refl))), refl))))))
 
@@ -206,12 +224,17 @@ publishes k {sh = sh} slots id me i s m v t event same named there now is own un
     let here : i ≡ mark_word k s = there ∙ ap (λ (p : Shape). mark_word p s) (sym same) in
     let round : v ≡ entry_of k.size s = now ∙ ap (λ (p : Shape). entry_of p.size s) (sym same) in
     let r = sender_of me.0.ends in
-    subst (λ (m : ℕ). Allows (Ruled k) slots id me i (λ _. v) (λ _. Stores (λ x e n. SenderPublishes (sender_of e.0).number m) (SenderPublished m) (step slots i v 0 none) me v)) named
-    (subst (λ (i : ℕ). Allows (Ruled k) slots id me i (λ _. v) (λ _. Stores (λ x e n. SenderPublishes (sender_of e.0).number s) (SenderPublished s) (step slots i v 0 none) me v)) (sym here)
-    (subst (λ (v : ℕ). Allows (Ruled k) slots id me (mark_word k s) (λ _. v) (λ _. Stores (λ x e n. SenderPublishes (sender_of e.0).number s) (SenderPublished s) (step slots (mark_word k s) v 0 none) me v)) (sym round)
+    subst (λ (m : ℕ). Allows (Ruled k) slots id me i (λ _. v)
+    (λ _. Stores (λ x e n. SenderPublishes (sender_of e.0).number m) (SenderPublished m) (step slots i v 0 none) me v)) named
+    (subst (λ (i : ℕ). Allows (Ruled k) slots id me i (λ _. v)
+    (λ _. Stores (λ x e n. SenderPublishes (sender_of e.0).number s) (SenderPublished s) (step slots i v 0 none) me v)) (sym here)
+    (subst (λ (v : ℕ). Allows (Ruled k) slots id me (mark_word k s) (λ _. v)
+    (λ _. Stores (λ x e n. SenderPublishes (sender_of e.0).number s) (SenderPublished s) (step slots (mark_word k s) v 0 none) me v)) (sym round)
     (let i = mark_word k s in let v = entry_of k.size s in let kind = SenderPublishes r.number s in
-    along (λ x. Allows (Ruled k) slots id x i (λ _. v) (λ _. Stores (λ x e n. SenderPublishes (sender_of e.0).number s) (SenderPublished s) (step slots i v 0 none) x v)) me (Sends r) is
-    (by_end k slots id kind (λ xs. xs ++ kind ∷ []) me.0.pasts (Sends r) i (λ _. v) (λ _. Sends (brought r s published)) (λ _. SenderPublished s (step slots i v 0 none) (alone (Sends r)) v)
+    along (λ x. Allows (Ruled k) slots id x i (λ _. v)
+    (λ _. Stores (λ x e n. SenderPublishes (sender_of e.0).number s) (SenderPublished s) (step slots i v 0 none) x v)) me (Sends r) is
+    (by_end k slots id kind (λ xs. xs ++ kind ∷ []) me.0.pasts (Sends r) i (λ _. v) (λ _. Sends (brought r s published))
+    (λ _. SenderPublished s (step slots i v 0 none) (alone (Sends r)) v)
     (adds_one _ kind (λ n. refl)) (λ n. refl)
     (λ w at K small. (sender_stores k kind w r s t published i v at (r, at, (t, own, unshown, (whole, event, has, refl))), refl))))))
 
@@ -253,10 +276,13 @@ pub sender_halts : (k : Shape) (slots id : ℕ) (me : Sitting) → IsSender (end
     (Stores (λ s e n. SenderHalts (sender_of e.0).number) SenderHalted (step slots claim_word 9223372036854775808 0 none) me)
 sender_halts k slots id me is =
     let r = sender_of me.0.ends in let kind = SenderHalts r.number in
-    along (λ m. Allows (Ruled k) slots id m claim_word (λ n. bit_or n 9223372036854775808) (Stores (λ s e n. SenderHalts (sender_of e.0).number) SenderHalted (step slots claim_word 9223372036854775808 0 none) m)) me (Sends r) is
-    (by_end k slots id kind (λ xs. xs ++ kind ∷ []) me.0.pasts (Sends r) claim_word (λ n. bit_or n 9223372036854775808) (λ n. Sends (sender_looked r claim_word (halted_from n))) (SenderHalted (step slots claim_word 9223372036854775808 0 none) (alone (Sends r)))
+    along (λ m. Allows (Ruled k) slots id m claim_word (λ n. bit_or n 9223372036854775808)
+    (Stores (λ s e n. SenderHalts (sender_of e.0).number) SenderHalted (step slots claim_word 9223372036854775808 0 none) m)) me (Sends r) is
+    (by_end k slots id kind (λ xs. xs ++ kind ∷ []) me.0.pasts (Sends r) claim_word (λ n. bit_or n 9223372036854775808)
+    (λ n. Sends (sender_looked r claim_word (halted_from n))) (SenderHalted (step slots claim_word 9223372036854775808 0 none) (alone (Sends r)))
     (adds_one _ kind (λ n. refl)) (λ n. refl)
-    (λ w at K small. let n = word_at w.words claim_word in let q = sender_looked r claim_word (halted_from n) in let u : World = record w { words = halted_words w; senders = set w.senders r.number q } in (
+    (λ w at K small. let n = word_at w.words claim_word in let q = sender_looked r claim_word (halted_from n) in
+    let u : World = record w { words = halted_words w; senders = set w.senders r.number q } in (
       record {
         after = u;
         happens = (r, at, refl);
@@ -272,8 +298,10 @@ pub halts : (k : Shape) (slots id : ℕ) (me : Sitting) → IsHalter (end_of me)
     (Stores (λ s e n. HalterHalts) HalterHalted (step slots claim_word 9223372036854775808 0 none) me)
 halts k slots id me is =
     let r = halter_of me.0.ends in
-    along (λ m. Allows (Ruled k) slots id m claim_word (λ n. bit_or n 9223372036854775808) (Stores (λ s e n. HalterHalts) HalterHalted (step slots claim_word 9223372036854775808 0 none) m)) me (Halts r) is
-    (by_end k slots id HalterHalts (λ xs. xs ++ HalterHalts ∷ []) me.0.pasts (Halts r) claim_word (λ n. bit_or n 9223372036854775808) (λ n. Halts (halter_halted r n)) (HalterHalted (step slots claim_word 9223372036854775808 0 none) (alone (Halts r)))
+    along (λ m. Allows (Ruled k) slots id m claim_word (λ n. bit_or n 9223372036854775808)
+    (Stores (λ s e n. HalterHalts) HalterHalted (step slots claim_word 9223372036854775808 0 none) m)) me (Halts r) is
+    (by_end k slots id HalterHalts (λ xs. xs ++ HalterHalts ∷ []) me.0.pasts (Halts r) claim_word (λ n. bit_or n 9223372036854775808)
+    (λ n. Halts (halter_halted r n)) (HalterHalted (step slots claim_word 9223372036854775808 0 none) (alone (Halts r)))
     (adds_one _ HalterHalts (λ n. refl)) (λ n. refl)
     (λ w at K small. let n = word_at w.words claim_word in let u : World = record w { words = halted_words w; halter = halter_halted w.halter n } in (
       record {
@@ -298,11 +326,22 @@ pub receiver_looks_at_claims : (k : Shape) (slots id : ℕ) (me : Sitting) → I
 receiver_looks_at_claims k slots id me is =
     let r = receiver_of me.0.ends in let kind = ReceiverLooksAtClaims r.number in
     along (λ m. Allows (Ruled k) slots id m claim_word (λ n. n) (Loads ReceiverLookedAtClaims (step slots claim_word 0 0 none) m)) me (Receives r) is
-    (by_end k slots id kind (λ xs. xs) me.0.pasts (Receives r) claim_word (λ n. n) (λ n. Receives (claims_looked r n)) (ReceiverLookedAtClaims (step slots claim_word 0 0 none) (alone (Receives r)))
+    (by_end k slots id kind (λ xs. xs) me.0.pasts (Receives r) claim_word (λ n. n) (λ n. Receives (claims_looked r n))
+    (ReceiverLookedAtClaims (step slots claim_word 0 0 none) (alone (Receives r)))
     (adds_nothing _ kind (λ n. refl)) (λ n. refl)
-    (λ w at K small. let n = word_at w.words claim_word in let was = K.received r.number r at in let count = K.claim in let taken = taken_claimed k w r.number r at K in (
+    (λ w at K small. let n = word_at w.words claim_word in let was = K.received r.number r at in let count = K.claim in
+    let taken = taken_claimed k w r.number r at K in (
       receiver_learns k kind w r (claims_looked r n) claim_word at refl (r, at, refl),
-      (refl, (last_look_le k w.words 0 r.looks claim_word (omega arith) was.looks, omega arith, (let m = seen_claimed k w r at K in omega arith), λ told. (let t = was.told told in let e = t.1 in (t.0, omega arith)))),
+      (
+        refl,
+        (
+          last_look_le k w.words 0 r.looks claim_word (omega arith) was.looks,
+          omega arith,
+          (let m = seen_claimed k w r at K in omega arith),
+          λ told.
+              (let t = was.told told in let e = t.1 in (t.0, omega arith)),
+        ),
+      ),
     )))
 
 pub looks_at_mark : (k : Shape) {sh : Shape} (slots id : ℕ) (me : Sitting) (i : ℕ) → k ≡ sh → i ≡ mark_word sh (receiver_of me.0.ends).seen
@@ -313,13 +352,14 @@ looks_at_mark k {sh = sh} slots id me i same there is =
     subst (λ (i : ℕ). Allows (Ruled k) slots id me i (λ n. n) (Loads (ReceiverLookedAtMark k) (step slots i 0 0 none) me)) (sym here)
     (let i = mark_word k (receiver_of me.0.ends).seen in let r = receiver_of me.0.ends in let kind = ReceiverLooksAtMark r.number in
     along (λ m. Allows (Ruled k) slots id m i (λ n. n) (Loads (ReceiverLookedAtMark k) (step slots i 0 0 none) m)) me (Receives r) is
-    (by_end k slots id kind (λ xs. xs) me.0.pasts (Receives r) i (λ n. n) (λ n. Receives (mark_looked k r n)) (ReceiverLookedAtMark k (step slots i 0 0 none) (alone (Receives r)))
+    (by_end k slots id kind (λ xs. xs) me.0.pasts (Receives r) i (λ n. n) (λ n. Receives (mark_looked k r n))
+    (ReceiverLookedAtMark k (step slots i 0 0 none) (alone (Receives r)))
     (adds_nothing _ kind (λ n. refl)) (λ n. refl)
     (λ w at K small. (receiver_learns k kind w r (mark_looked k r (word_at w.words i)) i at refl (r, at, refl), refl))))
 
 -- what a look at an upstream's count finds
-finds_events : (k : Shape) (w : World) (r : ReceiverRecord) (u : ℕ) → get_elem? w.receivers r.number ≡ some r
-    → Contains (upstreams_of k.upstreams r.number) u → KeepsRule k w
+finds_events : (k : Shape) (w : World) (r : ReceiverRecord) (u : ℕ) → get_elem? w.receivers r.number ≡ some r → Contains (upstreams_of k.upstreams r.number) u
+    → KeepsRule k w
     → FindsEvents r (count_word u) (word_at w.words (count_word u))
 finds_events k w r u at has K =
     let was = K.received r.number r at in let inside = upstream_inside k K.shape.graph r.number u (handler_inside k w r.number r at K) has in
@@ -330,28 +370,32 @@ pub receiver_looks_at_count : (k : Shape) {sh : Shape} (slots id : ℕ) (me : Si
     → Contains (upstreams_of sh.upstreams (receiver_of me.0.ends).number) u
     → Allows (Ruled k) slots id me i (λ n. n) (Loads ReceiverLookedAtCount (step slots i 0 0 none) me)
 receiver_looks_at_count k {sh = sh} slots id me i u same here is those =
-    let has : Contains (upstreams_of k.upstreams (receiver_of me.0.ends).number) u = subst
-    (λ (p : Shape). Contains (upstreams_of p.upstreams (receiver_of me.0.ends).number) u) (sym same) those in
+    let has : Contains (upstreams_of k.upstreams (receiver_of me.0.ends).number) u =
+    subst (λ (p : Shape). Contains (upstreams_of p.upstreams (receiver_of me.0.ends).number) u) (sym same) those in
     subst (λ (i : ℕ). Allows (Ruled k) slots id me i (λ n. n) (Loads ReceiverLookedAtCount (step slots i 0 0 none) me)) (sym here)
     (let i = count_word u in let r = receiver_of me.0.ends in let kind = ReceiverLooksAtCount r.number u in
     along (λ m. Allows (Ruled k) slots id m i (λ n. n) (Loads ReceiverLookedAtCount (step slots i 0 0 none) m)) me (Receives r) is
-    (by_end k slots id kind (λ xs. xs) me.0.pasts (Receives r) i (λ n. n) (λ n. Receives (receiver_looked r i n)) (ReceiverLookedAtCount (step slots i 0 0 none) (alone (Receives r)))
+    (by_end k slots id kind (λ xs. xs) me.0.pasts (Receives r) i (λ n. n) (λ n. Receives (receiver_looked r i n))
+    (ReceiverLookedAtCount (step slots i 0 0 none) (alone (Receives r)))
     (adds_nothing _ kind (λ n. refl)) (λ n. refl)
-    (λ w at K small. (receiver_learns k kind w r (receiver_looked r i (word_at w.words i)) i at refl (r, at, (has, refl)), (refl, finds_events k w r u at has K)))))
+    (λ w at K small. (
+      receiver_learns k kind w r (receiver_looked r i (word_at w.words i)) i at refl (r, at, (has, refl)),
+      (refl, finds_events k w r u at has K),
+    ))))
 
-pub loads_first : (k : Shape) {sh : Shape} (slots id : ℕ) (me : Sitting) (i : ℕ) → k ≡ sh
-    → i ≡ payload_word sh (length (receiver_of me.0.ends).received) 0 → IsReceiver (end_of me)
-    → IsBelowBarrier sh (receiver_of me.0.ends).number (receiver_of me.0.ends)
+pub loads_first : (k : Shape) {sh : Shape} (slots id : ℕ) (me : Sitting) (i : ℕ) → k ≡ sh → i ≡ payload_word sh (length (receiver_of me.0.ends).received) 0
+    → IsReceiver (end_of me) → IsBelowBarrier sh (receiver_of me.0.ends).number (receiver_of me.0.ends)
     → Allows (Ruled k) slots id me i (λ n. n) (Loads ReceiverLoadedFirst (step slots i 0 0 none) me)
 loads_first k {sh = sh} slots id me i same there is low =
-    let here : i ≡ payload_word k (length (receiver_of me.0.ends).received) 0 = there ∙ ap
-    (λ (p : Shape). payload_word p (length (receiver_of me.0.ends).received) 0) (sym same) in
-    let below : IsBelowBarrier k (receiver_of me.0.ends).number (receiver_of me.0.ends) = subst
-    (λ (p : Shape). IsBelowBarrier p (receiver_of me.0.ends).number (receiver_of me.0.ends)) (sym same) low in
+    let here : i ≡ payload_word k (length (receiver_of me.0.ends).received) 0 =
+    there ∙ ap (λ (p : Shape). payload_word p (length (receiver_of me.0.ends).received) 0) (sym same) in
+    let below : IsBelowBarrier k (receiver_of me.0.ends).number (receiver_of me.0.ends) =
+    subst (λ (p : Shape). IsBelowBarrier p (receiver_of me.0.ends).number (receiver_of me.0.ends)) (sym same) low in
     subst (λ (i : ℕ). Allows (Ruled k) slots id me i (λ n. n) (Loads ReceiverLoadedFirst (step slots i 0 0 none) me)) (sym here)
     (let r = receiver_of me.0.ends in let i = payload_word k (length r.received) 0 in let kind = ReceiverLoadsFirst r.number in
     along (λ m. Allows (Ruled k) slots id m i (λ n. n) (Loads ReceiverLoadedFirst (step slots i 0 0 none) m)) me (Receives r) is
-    (by_end k slots id kind (λ xs. xs) me.0.pasts (Receives r) i (λ n. n) (λ n. Receives (half_taken r n)) (ReceiverLoadedFirst (step slots i 0 0 none) (alone (Receives r)))
+    (by_end k slots id kind (λ xs. xs) me.0.pasts (Receives r) i (λ n. n) (λ n. Receives (half_taken r n))
+    (ReceiverLoadedFirst (step slots i 0 0 none) (alone (Receives r)))
     (adds_nothing _ kind (λ n. refl)) (λ n. refl)
     (λ w at K small. (receiver_learns k kind w r (half_taken r (word_at w.words i)) i at refl (r, at, (below, refl)), refl))))
 
@@ -360,14 +404,15 @@ pub loads_second : (k : Shape) {sh : Shape} (slots id : ℕ) (me : Sitting) (i f
     → IsBelowBarrier sh (receiver_of me.0.ends).number (receiver_of me.0.ends)
     → Allows (Ruled k) slots id me i (λ n. n) (Loads ReceiverLoadedSecond (step slots i 0 0 none) me)
 loads_second k {sh = sh} slots id me i first same there is half low =
-    let here : i ≡ payload_word k (length (receiver_of me.0.ends).received) 1 = there ∙ ap
-    (λ (p : Shape). payload_word p (length (receiver_of me.0.ends).received) 1) (sym same) in
-    let below : IsBelowBarrier k (receiver_of me.0.ends).number (receiver_of me.0.ends) = subst
-    (λ (p : Shape). IsBelowBarrier p (receiver_of me.0.ends).number (receiver_of me.0.ends)) (sym same) low in
+    let here : i ≡ payload_word k (length (receiver_of me.0.ends).received) 1 =
+    there ∙ ap (λ (p : Shape). payload_word p (length (receiver_of me.0.ends).received) 1) (sym same) in
+    let below : IsBelowBarrier k (receiver_of me.0.ends).number (receiver_of me.0.ends) =
+    subst (λ (p : Shape). IsBelowBarrier p (receiver_of me.0.ends).number (receiver_of me.0.ends)) (sym same) low in
     subst (λ (i : ℕ). Allows (Ruled k) slots id me i (λ n. n) (Loads ReceiverLoadedSecond (step slots i 0 0 none) me)) (sym here)
     (let r = receiver_of me.0.ends in let i = payload_word k (length r.received) 1 in let kind = ReceiverLoadsSecond r.number in
     along (λ m. Allows (Ruled k) slots id m i (λ n. n) (Loads ReceiverLoadedSecond (step slots i 0 0 none) m)) me (Receives r) is
-    (by_end k slots id kind (λ xs. xs) me.0.pasts (Receives r) i (λ n. n) (λ n. Receives (took r record { first = first; second = n })) (ReceiverLoadedSecond (step slots i 0 0 none) (alone (Receives r)))
+    (by_end k slots id kind (λ xs. xs) me.0.pasts (Receives r) i (λ n. n) (λ n. Receives (took r record { first = first; second = n }))
+    (ReceiverLoadedSecond (step slots i 0 0 none) (alone (Receives r)))
     (adds_nothing _ kind (λ n. refl)) (λ n. refl)
     (λ w at K small. let found : Event = record { first = first; second = word_at w.words i } in (
       receiver_learns k kind w r (took r found) i at refl (r, at, (first, half, below, refl)),
@@ -380,10 +425,14 @@ pub completes : (k : Shape) (slots id : ℕ) (me : Sitting) (i h n : ℕ) → i 
     (λ _. Stores (λ s e m. ReceiverCompletes (receiver_of e.0).number m) ReceiverCompleted (step slots i n 0 none) me n)
 completes k slots id me i h n here is own rises taken =
     let r = receiver_of me.0.ends in
-    subst (λ (i : ℕ). Allows (Ruled k) slots id me i (λ _. n) (λ _. Stores (λ s e m. ReceiverCompletes (receiver_of e.0).number m) ReceiverCompleted (step slots i n 0 none) me n)) (sym (here ∙ ap count_word (sym own)))
+    subst (λ (i : ℕ). Allows (Ruled k) slots id me i (λ _. n)
+    (λ _. Stores (λ s e m. ReceiverCompletes (receiver_of e.0).number m) ReceiverCompleted (step slots i n 0 none) me n))
+    (sym (here ∙ ap count_word (sym own)))
     (let i = count_word r.number in let kind = ReceiverCompletes r.number n in
-    along (λ x. Allows (Ruled k) slots id x i (λ _. n) (λ _. Stores (λ s e m. ReceiverCompletes (receiver_of e.0).number m) ReceiverCompleted (step slots i n 0 none) x n)) me (Receives r) is
-    (by_end k slots id kind (λ xs. xs ++ kind ∷ []) me.0.pasts (Receives r) i (λ _. n) (λ _. Receives (completed_to r n)) (λ _. ReceiverCompleted (step slots i n 0 none) (alone (Receives r)) n)
+    along (λ x. Allows (Ruled k) slots id x i (λ _. n)
+    (λ _. Stores (λ s e m. ReceiverCompletes (receiver_of e.0).number m) ReceiverCompleted (step slots i n 0 none) x n)) me (Receives r) is
+    (by_end k slots id kind (λ xs. xs ++ kind ∷ []) me.0.pasts (Receives r) i (λ _. n) (λ _. Receives (completed_to r n))
+    (λ _. ReceiverCompleted (step slots i n 0 none) (alone (Receives r)) n)
     (adds_one _ kind (λ n. refl)) (λ n. refl)
     (λ w at K small. let q = completed_to r n in let u : World = record w { words = set w.words i n; receivers = set w.receivers r.number q } in (
       record {

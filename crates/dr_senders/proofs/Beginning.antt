@@ -5,7 +5,6 @@ use Rattle.std.proofs.lemmas.Bool.{cases_lt}
 use Rattle.std.proofs.lemmas.List.{length-replicate, get_or-replicate, get_or_past}
 use mathlib.Core.Option.{some, some-injective, some-ne-none}
 use lib.ListN.{get_elem?}
-use Rattle.dr_core.specs.Meaning.Machine as machine
 use Rattle.dr_core.specs.Meaning.Machine.{State}
 use Rattle.dr_senders.specs.Meaning.Shape.{Shape, IsShape, handlers_of, ring_setup}
 use Rattle.dr_senders.specs.Meaning.Words.{claim_word, claimed_in, is_halted, count_word, mark_word, words_of}
@@ -13,6 +12,7 @@ use Rattle.dr_senders.specs.declared.record.SenderRecord.{SenderRecord}
 use Rattle.dr_senders.specs.declared.record.ReceiverRecord.{ReceiverRecord}
 use Rattle.dr_senders.specs.Meaning.Rule.{KeepsRule, SenderKept, ReceiverKept}
 use Rattle.dr_senders.specs.Meaning.Moments.{fresh_sender, fresh_senders, fresh_receiver, fresh_receivers, new_world, taken_of, picture_of}
+use Rattle.dr_core.specs.Meaning.Machine as machine
 
 pub receiver_fresh : (h n i : ℕ) (r : ReceiverRecord) → get_elem? (fresh_receivers h n) i ≡ some r → r ≡ fresh_receiver (h + i)
 receiver_fresh h zero i r e = absurd (some-ne-none r (sym e))
@@ -24,7 +24,7 @@ sender_fresh p zero i r e = absurd (some-ne-none r (sym e))
 sender_fresh p (suc n) zero r e = sym (some-injective _ r e) ∙ (let z : p ≡ p + 0 = omega arith in ap fresh_sender z)
 sender_fresh p (suc n) (suc i) r e = sender_fresh (suc p) n i r e ∙ (let s : suc p + i ≡ p + suc i = omega arith in ap fresh_sender s)
 
-receivers_count : (h n : ℕ) → length (fresh_receivers h n) ≡ n
+pub receivers_count : (h n : ℕ) → length (fresh_receivers h n) ≡ n
 receivers_count h zero = refl
 receivers_count h (suc n) = ap suc (receivers_count (suc h) n)
 
@@ -35,7 +35,9 @@ senders_count p (suc n) = ap suc (senders_count (suc p) n)
 abbrev zeros : ℕ → List ℕ
 zeros n = replicate n 0
 
-pub all_zero : (n i : ℕ) → ◌≡◌ {A = ℕ} (get_or (zeros n) i 0) 0
+pub
+
+all_zero : (n i : ℕ) → ◌≡◌ {A = ℕ} (get_or (zeros n) i 0) 0
 all_zero n i =
     let z : ℕ = 0 in
     elim (cases_lt i n) [
@@ -56,7 +58,8 @@ kept_new_world k shape = let n = words_of k in let ws = zeros n in record {
   marks = λ s is. absurd (let z = all_zero n (mark_word k s) in omega arith);
   marked = λ s x. absurd (some-ne-none x.0 (sym x.1));
   sent = λ p r at. (let e : r ≡ fresh_sender p = sender_fresh 0 k.senders p r at ∙ (let z : 0 + p ≡ p = omega arith in ap fresh_sender z) in
-      subst (λ (q : SenderRecord). SenderKept k ws [] p q) (sym e) (record { number = refl; own = λ i o there. absurd (some-ne-none o (sym there)); all = λ s t there mine. absurd (some-ne-none t (sym there)); looks = λ i x there. absurd (some-ne-none x (sym there)) }));
+      subst (λ (q : SenderRecord). SenderKept k ws [] p q) (sym e)
+      (record { number = refl; own = λ i o there. absurd (some-ne-none o (sym there)); all = λ s t there mine. absurd (some-ne-none t (sym there)); looks = λ i x there. absurd (some-ne-none x (sym there)) }));
   received = λ h r at. (let e : r ≡ fresh_receiver h = receiver_fresh 0 (handlers_of k) h r at ∙ (let z : 0 + h ≡ h = omega arith in ap fresh_receiver z) in
       subst (λ (q : ReceiverRecord). ReceiverKept k ws [] h q) (sym e)
       (record {

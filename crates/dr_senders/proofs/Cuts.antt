@@ -1,5 +1,6 @@
 -- How a new ring's rule begins, and how the views of seats are cut.
-use Rattle.std.proofs.Common.{◌≡◌, ◌≢◌, ℕ, zero, suc, ◌+◌, ◌-◌, ◌*◌, ◌/◌, ◌%◌, ◌⊎◌, inl, inr, ◌==◌, if◌then◌else◌, List, [], ◌∷◌, ◌++◌, map, length, set, take, drop, replicate, sym, refl, ap, ◌∙◌, subst, arith, length-set}
+use Rattle.std.proofs.Common.{◌≡◌, ◌≢◌, ℕ, zero, suc, ◌+◌, ◌-◌, ◌*◌, ◌/◌, ◌%◌, ◌⊎◌, inl, inr, ◌==◌, if◌then◌else◌, List, [], ◌∷◌, ◌++◌, map, length, set}
+use Rattle.std.proofs.Common.{take, drop, replicate, sym, refl, ap, ◌∙◌, subst, arith, length-set}
 use Rattle.std.proofs.lemmas.Bool.{eq-eqb, ne_eqb}
 use Rattle.std.proofs.lemmas.List.{length-map}
 use mathlib.Core.Option.{some, some-injective, some-ne-none}
@@ -14,7 +15,7 @@ use Rattle.dr_senders.specs.declared.record.EndRecord.{EndRecord}
 use Rattle.dr_senders.specs.declared.record.EndRecord.TheVariants.{Sends, Receives}
 use Rattle.dr_senders.specs.declared.record.Step.{Step}
 use Rattle.dr_senders.specs.declared.record.View.{View}
-use Rattle.dr_senders.specs.Meaning.Moments.{fresh_sender, fresh_senders, fresh_receiver, fresh_receivers, new_world}
+use Rattle.dr_senders.specs.Meaning.Moments.{fresh_senders, fresh_receivers, new_world}
 use Rattle.dr_senders.specs.Inside.Seats.{KnownEnds, EachPast, Saw, end_number, Stands, Ruled, fresh_ends, all_ends}
 use Rattle.dr_senders.specs.Inside.Gathering.{both_views}
 use Rattle.dr_senders.proofs.Places.{more_cases, at_map}
@@ -40,12 +41,25 @@ stands_fresh k (suc j) e at =
     let ss = fresh_senders 0 k.senders in let rs = fresh_receivers 0 (handlers_of k) in
     elim (more_cases (map (λ r. Sends r) ss) (map (λ r. Receives r) rs) j e at) [
       | inl in_senders ↦ (
-          let m = at_map (λ (r : SenderRecord). Sends r) ss j e in_senders in let number : m.0.number ≡ j = ap (λ (r : SenderRecord). r.number) (sender_fresh 0 k.senders j m.0 m.1) ∙ omega arith in let i = index_sender k.senders m.0.number in
-          subst (λ (x : EndRecord). (index k.senders (end_number x) ≡ suc j) × Stands (new_world k) x) m.2 (omega arith, ap (λ (n : ℕ). get_elem? ss n) number ∙ m.1))
+          let m = at_map (λ (r : SenderRecord). Sends r) ss j e in_senders in
+          let number : m.0.number ≡ j = ap (λ (r : SenderRecord). r.number) (sender_fresh 0 k.senders j m.0 m.1) ∙ omega arith in
+          let i = index_sender k.senders m.0.number in
+          subst (λ (x : EndRecord). (index k.senders (end_number x) ≡ suc j) × Stands (new_world k) x) m.2 (
+            omega arith,
+            ap (λ (n : ℕ). get_elem? ss n) number
+                ∙ m.1,
+          ))
       | inr x ↦ (
-          let m = at_map (λ (r : ReceiverRecord). Receives r) rs x.0 e x.2 in let number : m.0.number ≡ x.0 = ap (λ (r : ReceiverRecord). r.number) (receiver_fresh 0 (handlers_of k) x.0 m.0 m.1) ∙ omega arith in let i = index_receiver k.senders m.0.number in
-          let before : length (map (λ (r : SenderRecord). Sends r) ss) ≡ k.senders = length-map ss (λ (r : SenderRecord). Sends r) ∙ senders_count 0 k.senders in let at_j = x.1 in
-          subst (λ (x : EndRecord). (index k.senders (end_number x) ≡ suc j) × Stands (new_world k) x) m.2 (omega arith, ap (λ (n : ℕ). get_elem? rs n) number ∙ m.1))
+          let m = at_map (λ (r : ReceiverRecord). Receives r) rs x.0 e x.2 in
+          let number : m.0.number ≡ x.0 = ap (λ (r : ReceiverRecord). r.number) (receiver_fresh 0 (handlers_of k) x.0 m.0 m.1) ∙ omega arith in
+          let i = index_receiver k.senders m.0.number in
+          let before : length (map (λ (r : SenderRecord). Sends r) ss) ≡ k.senders =
+          length-map ss (λ (r : SenderRecord). Sends r) ∙ senders_count 0 k.senders in let at_j = x.1 in
+          subst (λ (x : EndRecord). (index k.senders (end_number x) ≡ suc j) × Stands (new_world k) x) m.2 (
+            omega arith,
+            ap (λ (n : ℕ). get_elem? rs n) number
+                ∙ m.1,
+          ))
     ]
 
 one_view : (P : ℕ → View → Type 0) (first : View) → P 0 first → (id : ℕ) (v : View) → get_elem? (first ∷ []) id ≡ some v → P id v
@@ -55,7 +69,8 @@ one_view P first p (suc id) v at = absurd (some-ne-none v (sym at))
 saw_fresh : (k : Shape) (e : EndRecord) → Stands (new_world k) e → Saw k [] e []
 saw_fresh k e stands = record { begins = ([], refl); entries = []; world = new_world k; runs = (refl, refl); stands = stands; stores = refl }
 
-each_fresh : (P : EndRecord → List Step → Type 0) (es : List EndRecord) → ((j : ℕ) (e : EndRecord) → get_elem? es j ≡ some e → P e []) → EachPast P es (map (λ e. []) es)
+each_fresh : (P : EndRecord → List Step → Type 0) (es : List EndRecord) → ((j : ℕ) (e : EndRecord) → get_elem? es j ≡ some e → P e [])
+    → EachPast P es (map (λ e. []) es)
 each_fresh P [] all = tt
 each_fresh P (e ∷ es) all = (all 0 e refl, each_fresh P es (λ j x at. all (suc j) x at))
 
@@ -68,9 +83,11 @@ ruled_fresh k ws is shape = record {
   entries = [];
   runs = (refl, refl);
   place = λ n. (0, index k.senders n);
-  each_end = one_view (λ id v. (j : ℕ) (e : EndRecord) → get_elem? v.ends j ≡ some e → ((0, index k.senders (end_number e)) ≡ (id, j)) × Stands (new_world k) e) (all_ends k)
+  each_end = one_view (λ id v. (j : ℕ) (e : EndRecord) → get_elem? v.ends j ≡ some e
+      → ((0, index k.senders (end_number e)) ≡ (id, j)) × Stands (new_world k) e) (all_ends k)
       (λ j e at. let t = stands_fresh k j e at in (ap (λ (m : ℕ). let p : ℕ × ℕ = (0, m) in p) t.0, t.1));
-  each_past = one_view (λ id v. EachPast (Saw k []) v.ends v.pasts) (all_ends k) (each_fresh (Saw k []) (fresh_ends k) (λ j e at. saw_fresh k e (stands_fresh k j e at).1));
+  each_past = one_view (λ id v. EachPast (Saw k []) v.ends v.pasts) (all_ends k)
+      (each_fresh (Saw k []) (fresh_ends k) (λ j e at. saw_fresh k e (stands_fresh k j e at).1));
 }
 
 -- a list with one more
@@ -90,7 +107,8 @@ moved_first id new p e = ap (moved id new) e ∙ rw (eq-eqb id id refl) refl
 
 moved_later : (id new j : ℕ) (p : ℕ × ℕ) → p ≡ (id, suc j) → moved id new p ≡ (new, j)
 unfolding moved
-moved_later id new j p e = ap (moved id new) e ∙ rw (eq-eqb id id refl, ne_eqb (suc j) 0 (λ h. omega arith)) (let s : suc j - 1 ≡ j = omega arith in ap (λ (m : ℕ). let q : ℕ × ℕ = (new, m) in q) s)
+moved_later id new j p e = ap (moved id new) e
+    ∙ rw (eq-eqb id id refl, ne_eqb (suc j) 0 (λ h. omega arith)) (let s : suc j - 1 ≡ j = omega arith in ap (λ (m : ℕ). let q : ℕ × ℕ = (new, m) in q) s)
 
 moved_other : (id new id' j : ℕ) (p : ℕ × ℕ) → id' ≢ id → p ≡ (id', j) → moved id new p ≡ (id', j)
 unfolding moved
@@ -200,7 +218,8 @@ joins k id v other w s R mine apart theirs =
       each_past = λ id' u at. elim (at_set (set s.views id (both_views v w)) other id' none u at) [
         | inl x ↦ subst (λ (y : View). EachPast (Saw k R.steps) y.ends y.pasts) x.1 tt
         | inr x ↦ elim (at_set s.views id id' (both_views v w) u x.1) [
-          | inl y ↦ subst (λ (z : View). EachPast (Saw k R.steps) z.ends z.pasts) y.1 (each_both (Saw k R.steps) v.ends w.ends v.pasts w.pasts (R.each_past id v mine) (R.each_past other w was))
+          | inl y ↦ subst (λ (z : View). EachPast (Saw k R.steps) z.ends z.pasts) y.1
+              (each_both (Saw k R.steps) v.ends w.ends v.pasts w.pasts (R.each_past id v mine) (R.each_past other w was))
           | inr y ↦ R.each_past id' u y.1
         ]
       ];

@@ -18,7 +18,8 @@ use Rattle.dr_senders.specs.Meaning.Records.{IsBelowBarrier}
 use Rattle.dr_senders.specs.Meaning.Rule.{World, IsOut, IsOutWith, ReceiverKept, KeepsRule}
 use Rattle.dr_senders.proofs.Places.{word_at, one_value, last_look_le}
 
-pub receiver_of_handler : (k : Shape) (w : World) → KeepsRule k w → (h : ℕ) → h < handlers_of k → (r : ReceiverRecord) × (get_elem? w.receivers h ≡ some r) × ReceiverKept k w.words w.stages h r
+pub receiver_of_handler : (k : Shape) (w : World) → KeepsRule k w → (h : ℕ) → h < handlers_of k
+    → (r : ReceiverRecord) × (get_elem? w.receivers h ≡ some r) × ReceiverKept k w.words w.stages h r
 receiver_of_handler k w K h lt = let count = K.outlets in let t = there w.receivers h (omega arith) in (t.0, t.1, K.received h t.0 t.1)
 
 pub handler_inside : (k : Shape) (w : World) (h : ℕ) (r : ReceiverRecord) → get_elem? w.receivers h ≡ some r → KeepsRule k w → h < handlers_of k
@@ -33,13 +34,15 @@ orderly k w K h u has =
           let c : word_at w.words (count_word h) ≡ t.0.completed = t.2.count in
           let d : t.0.completed ≤ length t.0.received = t.2.completed in
           let a : length t.0.received ≤ word_at w.words (count_word u) = t.2.after u has in omega arith
-      | inr past ↦ absurd (contains_none u (let e : upstreams_of k.upstreams h ≡ [] = get_or_past k.upstreams h [] past in subst (λ (ups : List ℕ). Contains ups u) e has))
+      | inr past ↦ absurd (contains_none u (let e : upstreams_of k.upstreams h ≡ [] = get_or_past k.upstreams h [] past in
+          subst (λ (ups : List ℕ). Contains ups u) e has))
     ]
 
 -- no claim is more than a round ahead of any handler
 pub above : (k : Shape) (w : World) → KeepsRule k w → (h : ℕ) → h < handlers_of k → length w.stages ≤ k.size + word_at w.words (count_word h)
 above k w K h lt =
-    let g : IsGated k.upstreams nobody (λ h. word_at w.words (count_word h)) h = K.shape.graph.gate nobody (λ h. word_at w.words (count_word h)) (orderly k w K) h lt refl in
+    let g : IsGated k.upstreams nobody (λ h. word_at w.words (count_word h)) h =
+    K.shape.graph.gate nobody (λ h. word_at w.words (count_word h)) (orderly k w K) h lt refl in
     let r : length w.stages ≤ k.size + word_at w.words (count_word g.last) = K.room g.last g.final in
     let b : word_at w.words (count_word g.last) ≤ word_at w.words (count_word h) = g.behind in omega arith
 
@@ -74,21 +77,26 @@ early_by k w h r (u ∷ ups) at completed published same K =
     let up : u < handlers_of k = upstream_inside k K.shape.graph h u inside (subst (λ (xs : List ℕ). Contains xs u) same has) in
     let b = last_look_le k w.words 0 r.looks (count_word u) (omega arith) was.looks in
     let t = receiver_of_handler k w K u up in
-    let d = t.2.count in let e = t.2.completed in out w.stages (length r.received) (get_or t.0.received (length r.received) record { first = 0; second = 0 }) (t.2.beginning (length r.received) (omega arith))
+    let d = t.2.count in let e =
+    t.2.completed in out w.stages (length r.received) (get_or t.0.received (length r.received) record { first = 0; second = 0 })
+    (t.2.beginning (length r.received) (omega arith))
 
 -- the next event is published
-pub early : (k : Shape) (w : World) (h : ℕ) (r : ReceiverRecord) → get_elem? w.receivers h ≡ some r → IsBelowBarrier k h r → KeepsRule k w → IsOut w.stages (length r.received)
+pub early : (k : Shape) (w : World) (h : ℕ) (r : ReceiverRecord) → get_elem? w.receivers h ≡ some r → IsBelowBarrier k h r → KeepsRule k w
+    → IsOut w.stages (length r.received)
 early k w h r at low K = early_by k w h r (upstreams_of k.upstreams h) at low.completed low.published refl K
 
 -- a receiver took only what is claimed
-pub taken_claimed : (k : Shape) (w : World) (h : ℕ) (r : ReceiverRecord) → get_elem? w.receivers h ≡ some r → KeepsRule k w → length r.received ≤ length w.stages
+pub taken_claimed : (k : Shape) (w : World) (h : ℕ) (r : ReceiverRecord) → get_elem? w.receivers h ≡ some r → KeepsRule k w
+    → length r.received ≤ length w.stages
 taken_claimed k w h r at K = let n = length r.received in elim (cases_lt (length w.stages) n) [
   | inl over ↦ absurd (let x = (K.received h r at).beginning (length w.stages) over in let b = at_below w.stages (length w.stages) x.0 x.1 in omega arith)
   | inr within ↦ within
 ]
 
 -- the words of the next event lie in its slot
-pub next_event : (k : Shape) (w : World) (h : ℕ) (r : ReceiverRecord) (e : Event) → get_elem? w.receivers h ≡ some r → IsOutWith w.stages (length r.received) e → KeepsRule k w
+pub next_event : (k : Shape) (w : World) (h : ℕ) (r : ReceiverRecord) (e : Event) → get_elem? w.receivers h ≡ some r
+    → IsOutWith w.stages (length r.received) e → KeepsRule k w
     → (word_at w.words (payload_word k (length r.received) 0) ≡ e.first) × (word_at w.words (payload_word k (length r.received) 1) ≡ e.second)
 next_event k w h r e at x K =
     let was = K.received h r at in let room = above k w K h (handler_inside k w h r at K) in let d = was.count in let c = was.completed in
@@ -97,7 +105,8 @@ next_event k w h r e at x K =
     (S.first near e x.3 (S.whole x.2).0, S.second near e x.3)
 
 -- a sequence that a sender has
-pub owned : (k : Shape) (w : World) (p : ℕ) (r : SenderRecord) (s i : ℕ) (t : Stage) → get_elem? w.senders p ≡ some r → get_elem? r.own i ≡ some record { sequence = s; stage = t } → KeepsRule k w
+pub owned : (k : Shape) (w : World) (p : ℕ) (r : SenderRecord) (s i : ℕ) (t : Stage) → get_elem? w.senders p ≡ some r
+    → get_elem? r.own i ≡ some record { sequence = s; stage = t } → KeepsRule k w
     → (t.owner ≡ p) × (get_elem? w.stages s ≡ some t)
 owned k w p r s i t at has K = (K.sent p r at).own i record { sequence = s; stage = t } has
 

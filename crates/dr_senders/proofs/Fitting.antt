@@ -24,7 +24,7 @@ use Rattle.dr_senders.specs.Inside.Parts.{ClaimsApart}
 use Rattle.dr_senders.specs.Inside.Seats.{IsEarlier}
 use Rattle.dr_senders.specs.Inside.Fits.{SenderFits}
 use Rattle.dr_senders.proofs.Places.{more_left, more_right, more_cases}
-use Rattle.dr_senders.proofs.Keeps.{fresh_at, fresh_there}
+use Rattle.dr_senders.proofs.KeepsClaims.{fresh_at, fresh_there}
 use Rattle.dr_senders.proofs.Owning.{staged_has, staged_from, published_none, published_more, marked_was, mark_was, mark_here, marked_apart, mark_beside, none_fresh}
 
 -- a sender has what its list has

@@ -53,25 +53,31 @@ cut_rest e es all me me' was next is = is ∙ ap rest_cut was ∙ ap (λ (xs : K
 pub sender_sits : (at own : TableId) (key k : Shape) (me : Sitting) (p : ℕ) → IsAtTable own at k → IsKeyed key k → p < k.senders
     → me ≡ own_seat (Sends (fresh_sender p)) → SenderSits at own key k (me.0.ends, me.1) p 0
 sender_sits at own key k me p table keyed lt is =
-    subst (λ (m : Sitting). SenderSits at own key k (m.0.ends, m.1) p 0) (sym is) (record { table = table; keyed = keyed; end = refl; own = refl; sender = lt; looks = refl })
+    subst (λ (m : Sitting). SenderSits at own key k (m.0.ends, m.1) p 0) (sym is)
+    (record { table = table; keyed = keyed; end = refl; own = refl; sender = lt; looks = refl })
 
 pub receiver_sits : (at own : TableId) (key k : Shape) (me : Sitting) (h : ℕ) → IsAtTable own at k → IsKeyed key k → h < handlers_of k
     → me ≡ own_seat (Receives (fresh_receiver h)) → ReceiverSits at own key k (me.0.ends, me.1) h 0
 receiver_sits at own key k me h table keyed lt is =
-    subst (λ (m : Sitting). ReceiverSits at own key k (m.0.ends, m.1) h 0) (sym is) (record { table = table; keyed = keyed; end = refl; own = refl; handler = lt; looks = refl })
+    subst (λ (m : Sitting). ReceiverSits at own key k (m.0.ends, m.1) h 0) (sym is)
+    (record { table = table; keyed = keyed; end = refl; own = refl; handler = lt; looks = refl })
 
-pub sender_view : (t own : TableId) (k k' : Shape) (me : Sitting) (p : ℕ) → own ≡ t → k' ≡ k → me ≡ own_seat (Sends (fresh_sender p)) → sender_end own k' me ≡ at_ring t k (fresh_sender p)
+pub sender_view : (t own : TableId) (k k' : Shape) (me : Sitting) (p : ℕ) → own ≡ t → k' ≡ k → me ≡ own_seat (Sends (fresh_sender p))
+    → sender_end own k' me ≡ at_ring t k (fresh_sender p)
 sender_view t own k k' me p same plan is = λ i. sender_end (same i) (plan i) (is i)
 
-pub receiver_view : (t own : TableId) (k k' : Shape) (me : Sitting) (h : ℕ) → own ≡ t → k' ≡ k → me ≡ own_seat (Receives (fresh_receiver h)) → receiver_end own k' me ≡ at_ring t k (fresh_receiver h)
+pub receiver_view : (t own : TableId) (k k' : Shape) (me : Sitting) (h : ℕ) → own ≡ t → k' ≡ k → me ≡ own_seat (Receives (fresh_receiver h))
+    → receiver_end own k' me ≡ at_ring t k (fresh_receiver h)
 receiver_view t own k k' me h same plan is = λ i. receiver_end (same i) (plan i) (is i)
 
 pub fits_fresh : (k : Shape) (me : Sitting) (h : ℕ) → me ≡ own_seat (Receives (fresh_receiver h)) → ReceiverFits k (receiver_of me.0.ends) 0 0 0
 fits_fresh k me h is =
-    subst (λ (m : Sitting). ReceiverFits k (receiver_of m.0.ends) 0 0 0) (sym is) (record { half = refl; taken = refl; seen = refl; completed = refl; ahead = λ none. omega arith })
+    subst (λ (m : Sitting). ReceiverFits k (receiver_of m.0.ends) 0 0 0) (sym is)
+    (record { half = refl; taken = refl; seen = refl; completed = refl; ahead = λ none. omega arith })
 
 -- one end more is listed
-listed_more : {K : Type 0} (t : TableId) (k : Shape) (items new : List (EndOf K)) (e : EndOf K) (r : K) (rs all : List K) (whole : List (EndOf K)) → items ++ map (at_ring t k) all ≡ whole
+listed_more : {K : Type 0} (t : TableId) (k : Shape) (items new : List (EndOf K)) (e : EndOf K) (r : K) (rs all : List K) (whole : List (EndOf K))
+    → items ++ map (at_ring t k) all ≡ whole
     → all ≡ r ∷ rs → new ≡ items ++ e ∷ [] → e ≡ at_ring t k r → new ++ map (at_ring t k) rs ≡ whole
 listed_more t k items new e r rs all whole was next is own =
     ap (λ (xs : List (EndOf _)). xs ++ map (at_ring t k) rs) (is ∙ ap (λ (x : EndOf _). items ++ x ∷ []) own)
@@ -87,7 +93,8 @@ pub receiver_listed : (t : TableId) (k : Shape) (h n : ℕ) (items new : List Re
     → items ++ map (at_ring t k) (fresh_receivers h (n - h)) ≡ whole → new ≡ items ++ e ∷ [] → e ≡ at_ring t k (fresh_receiver h)
     → new ++ map (at_ring t k) (fresh_receivers (h + 1) (n - (h + 1))) ≡ whole
 receiver_listed t k h n items new e whole lt was is own =
-    listed_more t k items new e (fresh_receiver h) (fresh_receivers (h + 1) (n - (h + 1))) (fresh_receivers h (n - h)) whole was (fresh_receivers_next h n lt) is own
+    listed_more t k items new e (fresh_receiver h) (fresh_receivers (h + 1) (n - (h + 1))) (fresh_receivers h (n - h)) whole was
+    (fresh_receivers_next h n lt) is own
 
 pub some_words : (k : Shape) (n : ℕ) (ws : List ℕ) → n ≡ length ws → ws ≡ replicate (words_of k) 0 → 0 < n
 some_words k n ws count is = let z : ℕ = 0 in let same = ap length is in let len = length-replicate (words_of k) z in omega arith

@@ -1,5 +1,6 @@
 -- Places of lists, words and looks.
-use Rattle.std.proofs.Common.{◌≡◌, ◌≢◌, ℕ, zero, suc, ◌+◌, ◌*◌, ◌/◌, ◌%◌, ◌<◌, ◌≤◌, ◌⊎◌, inl, inr, true, false, ◌==◌, if◌then◌else◌, List, [], ◌∷◌, ◌++◌, map, length, get_or, set, replicate, sym, refl, ap, ◌∙◌, subst, arith, get_or-set_same, get_or-set_other}
+use Rattle.std.proofs.Common.{◌≡◌, ◌≢◌, ℕ, zero, suc, ◌+◌, ◌*◌, ◌/◌, ◌%◌, ◌<◌, ◌≤◌, ◌⊎◌, inl, inr, true, false, ◌==◌, if◌then◌else◌, List, [], ◌∷◌, ◌++◌, map}
+use Rattle.std.proofs.Common.{length, get_or, set, replicate, sym, refl, ap, ◌∙◌, subst, arith, get_or-set_same, get_or-set_other}
 use Rattle.std.proofs.lemmas.Bool.{cases_eq, cases_lt, eq-eqb, ne_eqb, lt-ltb, le-ltb, le-leb, lt-leb}
 use Rattle.std.proofs.lemmas.Nat.{div-add-mod'}
 use Rattle.std.proofs.Math.Nat.{mod-lt, mul-le-mul_right}
@@ -23,9 +24,11 @@ more_left (x ∷ xs) m (suc s) t at = more_left xs m s t at
 
 pub more_right : {A : Type 0} (l m : List A) (i : ℕ) (t : A) → get_elem? m i ≡ some t → get_elem? (l ++ m) (length l + i) ≡ some t
 more_right [] m i t at = (let z : 0 + i ≡ i = omega arith in ap (λ (j : ℕ). get_elem? m j) z) ∙ at
-more_right (x ∷ xs) m i t at = (let z : suc (length xs) + i ≡ suc (length xs + i) = omega arith in ap (λ (j : ℕ). get_elem? (x ∷ xs ++ m) j) z) ∙ more_right xs m i t at
+more_right (x ∷ xs) m i t at = (let z : suc (length xs) + i ≡ suc (length xs + i) = omega arith in ap (λ (j : ℕ). get_elem? (x ∷ xs ++ m) j) z)
+    ∙ more_right xs m i t at
 
-pub more_cases : {A : Type 0} (l m : List A) (s : ℕ) (t : A) → get_elem? (l ++ m) s ≡ some t → (get_elem? l s ≡ some t) ⊎ ((i : ℕ) × (s ≡ length l + i) × (get_elem? m i ≡ some t))
+pub more_cases : {A : Type 0} (l m : List A) (s : ℕ) (t : A) → get_elem? (l ++ m) s ≡ some t
+    → (get_elem? l s ≡ some t) ⊎ ((i : ℕ) × (s ≡ length l + i) × (get_elem? m i ≡ some t))
 more_cases [] m s t at = inr (s, omega arith, at)
 more_cases (x ∷ xs) m zero t at = inl at
 more_cases (x ∷ xs) m (suc s) t at = elim (more_cases xs m s t at) [ inl y ↦ inl y | inr y ↦ (let e = y.1 in inr (y.0, omega arith, y.2)) ]
@@ -98,16 +101,19 @@ rises_set k words i n inside up j low = elim (cases_eq j i) [
 ]
 
 pub past_rises : (k : Shape) (words us : List ℕ) (looks : List Look) → Rises k words us → ArePast k words looks → ArePast k us looks
-past_rises k words us looks up all j x at = let d = all j x at in record { rises = d.rises; before = let a = d.before in let b = up x.word d.rises in omega arith }
+past_rises k words us looks up all j x at =
+    let d = all j x at in record { rises = d.rises; before = let a = d.before in let b = up x.word d.rises in omega arith }
 
-pub past_more : (k : Shape) (words : List ℕ) (i v : ℕ) (looks : List Look) → i < mark_start k → v ≤ word_at words i → ArePast k words looks → ArePast k words (looks ++ look i v ∷ [])
+pub past_more : (k : Shape) (words : List ℕ) (i v : ℕ) (looks : List Look) → i < mark_start k → v ≤ word_at words i → ArePast k words looks
+    → ArePast k words (looks ++ look i v ∷ [])
 past_more k words i v looks lt le all j x at =
     elim (at_snoc looks (look i v) x j at) [
       | inl old ↦ all j x old
       | inr new ↦ subst (IsPast k words) new (record { rises = lt; before = le })
     ]
 
-pub last_look_le : (k : Shape) (words : List ℕ) (d : ℕ) (looks : List Look) (word : ℕ) → d ≤ word_at words word → ArePast k words looks → last_look d looks word ≤ word_at words word
+pub last_look_le : (k : Shape) (words : List ℕ) (d : ℕ) (looks : List Look) (word : ℕ) → d ≤ word_at words word → ArePast k words looks
+    → last_look d looks word ≤ word_at words word
 last_look_le k words d [] word le all = le
 last_look_le k words d (x ∷ xs) word le all =
     last_look_le k words (if x.word == word then x.value else d) xs word

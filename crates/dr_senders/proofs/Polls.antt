@@ -1,5 +1,6 @@
 -- What a poll comes to.
-use Rattle.std.proofs.Common.{◌≡◌, ◌≢◌, ℕ, ◌+◌, ◌-◌, ◌<◌, ◌≤◌, ◌⊎◌, inl, inr, Bool, true, false, ◌==◌, ◌&&◌, ◌||◌, min, List, [], ◌∷◌, ◌++◌, length, take, drop, sym, refl, ap, ◌∙◌, subst, arith, append_assoc}
+use Rattle.std.proofs.Common.{◌≡◌, ◌≢◌, ℕ, ◌+◌, ◌-◌, ◌<◌, ◌≤◌, ◌⊎◌, inl, inr, Bool, true, false, ◌==◌, ◌&&◌, ◌||◌, min, List, [], ◌∷◌, ◌++◌, length, take}
+use Rattle.std.proofs.Common.{drop, sym, refl, ap, ◌∙◌, subst, arith, append_assoc}
 use Rattle.std.specs.Prelude.{Contains, IsTrue, ◌↔◌}
 use Rattle.std.proofs.lemmas.Bool.{cases_lt, cases_Bool, eqb-true, eq-eqb, lt-ltb, le-ltb}
 use Rattle.std.proofs.lemmas.List.{length-append, append-nil}
@@ -29,7 +30,8 @@ walk_within size claimed s upto (m ∷ ms) W le = elim W.1 [
 no_listed : (ups : List ℕ) (u : ℕ) → ups ≡ [] → Contains ups u → ⊥
 no_listed ups u none has = let e = ap length none in let lt = has.1 in omega arith
 
-pub offer_walk : (k : Shape) (r s : ReceiverRecord) (claimed upto : ℕ) → ups_of k r ≡ [] → length r.received ≤ r.seen → r.seen ≤ claimed → Walked k r claimed s upto → Offered k r claimed s upto upto
+pub offer_walk : (k : Shape) (r s : ReceiverRecord) (claimed upto : ℕ) → ups_of k r ≡ [] → length r.received ≤ r.seen → r.seen ≤ claimed
+    → Walked k r claimed s upto → Offered k r claimed s upto upto
 offer_walk k r s claimed upto none ahead low W =
     let within = walk_within k.size claimed r.seen upto W.0 W.1 low in let a = within.0 in let b = within.1 in record {
       marks = W.0;
@@ -37,10 +39,12 @@ offer_walk k r s claimed upto none ahead low W =
       walks = λ _. W.1;
       stands = λ some. absurd (some none);
       each = sym (ap length none);
-      is = W.2 ∙ ap (λ (xs : List Look). record (walked r W.0 upto) { looks = xs }) (sym (append-nil r.looks) ∙ ap (λ (xs : List Look). r.looks ++ xs) (sym (no_looks_at (ups_of k r))));
+      is = W.2 ∙ ap (λ (xs : List Look). record (walked r W.0 upto) { looks = xs }) (sym (append-nil r.looks)
+          ∙ ap (λ (xs : List Look). r.looks ++ xs) (sym (no_looks_at (ups_of k r))));
       offered = refl;
       taken = omega arith;
-      offers = subst (λ (q : ReceiverRecord). IsOfferedUpTo k q upto) (sym W.2) (record { completed = λ u has. absurd (no_listed (ups_of k r) u none has); published = λ _. omega arith });
+      offers = subst (λ (q : ReceiverRecord). IsOfferedUpTo k q upto) (sym W.2)
+          (record { completed = λ u has. absurd (no_listed (ups_of k r) u none has); published = λ _. omega arith });
       told = λ _ all. omega arith;
     }
 
@@ -52,7 +56,8 @@ offered_some : (a b : ℕ) (counts : List ℕ) → counts ≢ [] → offered_by 
 offered_some a b [] some = absurd (some refl)
 offered_some a b (n ∷ counts) some = refl
 
-pub offer_barrier : (k : Shape) (r s : ReceiverRecord) (claimed available : ℕ) → ups_of k r ≢ [] → LooksAtUpstreams k r claimed s available → Offered k r claimed s available r.seen
+pub offer_barrier : (k : Shape) (r s : ReceiverRecord) (claimed available : ℕ) → ups_of k r ≢ [] → LooksAtUpstreams k r claimed s available
+    → Offered k r claimed s available r.seen
 offer_barrier k r s claimed available some L = record {
   marks = [];
   counts = L.counts;
@@ -70,11 +75,15 @@ offer_barrier k r s claimed available some L = record {
 abbrev pub saw : (k : Shape) (q s : ReceiverRecord) (found available upto : ℕ) → Offered k q (claimed_in found) s available upto → PollLooks
 saw k q s found available upto O = record { claims = found; marks = O.marks; upto = upto; counts = O.counts }
 
-pub in_order : (k : Shape) (r : ReceiverRecord) (s : ReceiverRecord) (found available upto : ℕ) → (O : Offered k (claims_looked r found) (claimed_in found) s available upto) → LooksInOrder k r (saw k (claims_looked r found) s found available upto O)
+pub in_order : (k : Shape) (r : ReceiverRecord) (s : ReceiverRecord) (found available upto : ℕ)
+    → (O : Offered k (claims_looked r found) (claimed_in found) s available upto) → LooksInOrder k r (saw k (claims_looked r found) s found available upto O)
 in_order k r s found available upto O = record { walks = O.walks; stands = O.stands; each = O.each }
 
-round_of : (k : Shape) (r s : ReceiverRecord) (found available upto : ℕ) → (O : Offered k (claims_looked r found) (claimed_in found) s available upto) → s ≡ looked_round k r (saw k (claims_looked r found) s found available upto O)
-round_of k r s found available upto O = O.is ∙ ap (λ (xs : List Look). record (claims_looked r found) { seen = upto; marks = r.marks ++ O.marks; looks = xs }) (append_assoc r.looks (look claim_word found ∷ []) (count_looks (ups_of k r) O.counts))
+round_of : (k : Shape) (r s : ReceiverRecord) (found available upto : ℕ) → (O : Offered k (claims_looked r found) (claimed_in found) s available upto)
+    → s ≡ looked_round k r (saw k (claims_looked r found) s found available upto O)
+round_of k r s found available upto O = O.is
+    ∙ ap (λ (xs : List Look). record (claims_looked r found) { seen = upto; marks = r.marks ++ O.marks; looks = xs })
+    (append_assoc r.looks (look claim_word found ∷ []) (count_looks (ups_of k r) O.counts))
 
 or_true : (b : Bool) → (b || true) ≡ true
 or_true true = refl
@@ -89,7 +98,8 @@ drains halted claimed taken on all = rw (le-ltb taken claimed all, on) refl
 idles : (halted : Bool) (claimed taken : ℕ) → halted ≡ false → claimed ≤ taken → nothing_offered halted claimed taken ≡ Idle
 idles halted claimed taken off all = rw (le-ltb taken claimed all, off) refl
 
-is_told : (r : ReceiverRecord) (found : ℕ) → is_halted found ≡ true → claimed_in found ≡ length r.received → (r.told || (is_halted found && (claimed_in found == length r.received))) ≡ true
+is_told : (r : ReceiverRecord) (found : ℕ) → is_halted found ≡ true → claimed_in found ≡ length r.received
+    → (r.told || (is_halted found && (claimed_in found == length r.received))) ≡ true
 is_told r found on all = (λ i. r.told || (on i && eq-eqb (claimed_in found) (length r.received) all i)) ∙ or_true r.told
 
 -- the offer, by the record from before the look at the claim word
@@ -108,7 +118,8 @@ poll_nothing k r s out found available upto taken next O ahead none =
     let seen = saw k (claims_looked r found) s found available upto O in let round = round_of k r s found available upto O in
     let P : Polled → Type 0 = λ p. Answers k r out s out seen p in
     elim (cases_lt taken (claimed_in found)) [
-      | inl more ↦ subst P (sym (gates (is_halted found) (claimed_in found) taken more)) (omega arith, (let e = O.offered in let t = O.taken in omega arith), round, refl)
+      | inl more ↦ subst P (sym (gates (is_halted found) (claimed_in found) taken more))
+          (omega arith, (let e = O.offered in let t = O.taken in omega arith), round, refl)
       | inr all ↦ elim (cases_Bool (is_halted found)) [
         | inl on ↦ subst P (sym (drains (is_halted found) (claimed_in found) taken on all))
             (on, omega arith, round, ap (λ (q : ReceiverRecord). q.told) round ∙ is_told r found on (omega arith), refl)
@@ -143,7 +154,8 @@ poll_batch k r s t out out' found available upto taken count last next O before 
   ap (λ (q : ReceiverRecord). q.told) is ∙ ap (λ (q : ReceiverRecord). q.told) O.is
       ∙ not_true (claims_looked r found).told (λ told. (let all : claimed_in found ≤ length r.received = elim (either_true r.told _ told) [
         | inl old ↦ before old
-        | inr new ↦ (let e = eqb-true (claimed_in found) (length r.received) (second_true (is_halted found) (claimed_in found == length r.received) new) in omega arith)
+        | inr new ↦ (let e = eqb-true (claimed_in found) (length r.received) (second_true (is_halted found) (claimed_in found == length r.received) new) in
+            omega arith)
       ] in let b = O.told told all in omega arith)),
   rest,
 )

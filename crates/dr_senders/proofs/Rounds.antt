@@ -1,5 +1,6 @@
 -- What a round of looks at the upstreams' counts comes to.
-use Rattle.std.proofs.Common.{◌≡◌, ◌≢◌, ℕ, zero, suc, ◌+◌, ◌<◌, ◌≤◌, inl, inr, Bool, true, false, ◌==◌, ◌⊎◌, min, List, [], ◌∷◌, ◌++◌, length, get_or, take, sym, refl, ap, ◌∙◌, subst, arith, append_assoc}
+use Rattle.std.proofs.Common.{◌≡◌, ◌≢◌, ℕ, zero, suc, ◌+◌, ◌<◌, ◌≤◌, inl, inr, Bool, true, false, ◌==◌, ◌⊎◌, min, List, [], ◌∷◌, ◌++◌, length, get_or, take}
+use Rattle.std.proofs.Common.{sym, refl, ap, ◌∙◌, subst, arith, append_assoc}
 use Rattle.std.specs.Prelude.{Contains}
 use Rattle.std.proofs.lemmas.Bool.{cases_lt, ne_eqb, lt-ltb, le-ltb}
 use Rattle.std.proofs.lemmas.List.{length-append, append-nil, get_or_append_left}
@@ -36,7 +37,8 @@ pub round_none : (ups : List ℕ) (r : ReceiverRecord) (cursor : ℕ) → length
 round_none ups r cursor le = record {
   counts = [];
   each = refl;
-  is = ap (λ (ys : List Look). record r { looks = ys }) (sym (append-nil r.looks)) ∙ ap (λ (ys : List Look). receiver_saw r ys) (sym (no_looks_at (take 0 ups)));
+  is = ap (λ (ys : List Look). record r { looks = ys }) (sym (append-nil r.looks))
+      ∙ ap (λ (ys : List Look). receiver_saw r ys) (sym (no_looks_at (take 0 ups)));
   offered = refl;
   taken = le;
   found = λ lt. absurd (omega arith);
@@ -47,7 +49,8 @@ round_none ups r cursor le = record {
 -- what a list of counts offers, once one more is seen
 offers_more : (cursor v available available' : ℕ) (counts : List ℕ) (first : Bool) → first ≡ (length counts == 0)
     → available ≡ offered_by cursor counts → available' ≡ lesser_of first v available
-    → (available' ≡ offered_by cursor (counts ++ v ∷ [])) × (available' ≤ v) × (0 < length counts → available' ≤ available) × ((available' ≡ v) ⊎ ((0 < length counts) × (available' ≡ available)))
+    → (available' ≡ offered_by cursor (counts ++ v ∷ [])) × (available' ≤ v) × (0 < length counts → available' ≤ available)
+    × ((available' ≡ v) ⊎ ((0 < length counts) × (available' ≡ available)))
 offers_more cursor v available available' [] first start offered new =
     let e : available' ≡ v = new ∙ rw (start) refl in (e, omega arith, (λ lt. absurd (omega arith)), inl e)
 offers_more cursor v available available' (n ∷ counts) first start offered new =
@@ -55,7 +58,8 @@ offers_more cursor v available available' (n ∷ counts) first start offered new
     let first_no : first ≡ false = start ∙ ne_eqb (length (n ∷ counts)) 0 (λ (z : length (n ∷ counts) ≡ 0). omega arith) in
     elim (cases_lt v available) [
       | inl lt ↦ (let e : available' ≡ v = new ∙ rw (first_no, lt-ltb v available lt) refl in (omega arith, omega arith, (λ _. omega arith), inl e))
-      | inr ge ↦ (let e : available' ≡ available = new ∙ rw (first_no, le-ltb v available ge) refl in (omega arith, omega arith, (λ _. omega arith), inr (omega arith, e)))
+      | inr ge ↦ (let e : available' ≡ available = new ∙ rw (first_no, le-ltb v available ge) refl in
+          (omega arith, omega arith, (λ _. omega arith), inr (omega arith, e)))
     ]
 
 contains_more : (xs : List ℕ) (x v : ℕ) → Contains xs x → Contains (xs ++ v ∷ []) x
@@ -69,7 +73,8 @@ pub round_more : (ups : List ℕ) (r s s' : ReceiverRecord) (cursor available av
     → available' ≡ lesser_of (i == 0) v available → Round ups r cursor available' (i + 1) s'
 round_more ups r s s' cursor available available' i u v R lt at is le told new =
     let xs = count_looks (take i ups) R.counts in let len = R.each in
-    let next : count_looks (take (i + 1) ups) (R.counts ++ v ∷ []) ≡ xs ++ look (count_word u) v ∷ [] = looks_more ups R.counts i v R.each lt ∙ ap (λ (w : ℕ). xs ++ look (count_word w) v ∷ []) at in
+    let next : count_looks (take (i + 1) ups) (R.counts ++ v ∷ []) ≡ xs ++ look (count_word u) v ∷ [] =
+    looks_more ups R.counts i v R.each lt ∙ ap (λ (w : ℕ). xs ++ look (count_word w) v ∷ []) at in
     let offer = offers_more cursor v available available' R.counts (i == 0) (ap (λ (m : ℕ). m == 0) (sym len)) R.offered new in
     let low = offer.1 in let down = offer.2 in
     let received : length r.received ≤ v = subst (λ (q : ReceiverRecord). length q.received ≤ v) R.is le in
@@ -77,7 +82,8 @@ round_more ups r s s' cursor available available' i u v R lt at is le told new =
     let P : List Look → ℕ → Type 0 = λ ys w. available' ≤ last_look 0 ys w in record {
       counts = R.counts ++ v ∷ [];
       each = omega (arith, length-append R.counts (v ∷ []));
-      is = is ∙ ap (λ (q : ReceiverRecord). receiver_looked q (count_word u) v) R.is ∙ ap (λ (ys : List Look). record r { looks = ys }) (append_assoc r.looks xs (look (count_word u) v ∷ [])) ∙ ap (receiver_saw r) (sym next);
+      is = is ∙ ap (λ (q : ReceiverRecord). receiver_looked q (count_word u) v) R.is
+          ∙ ap (λ (ys : List Look). record r { looks = ys }) (append_assoc r.looks xs (look (count_word u) v ∷ [])) ∙ ap (receiver_saw r) (sym next);
       offered = offer.0;
       taken = elim offer.3 [ inl this ↦ omega arith | inr old ↦ (let e = old.1 in let t = R.taken in omega arith) ];
       found = λ _. elim offer.3 [
@@ -87,9 +93,13 @@ round_more ups r s s' cursor available available' i u v R lt at is le told new =
       high = λ j below. subst (λ (ys : List Look). P (r.looks ++ ys) (count_word (get_or ups j 0))) (sym next)
           (subst (λ (ys : List Look). P ys (count_word (get_or ups j 0))) (append_assoc r.looks xs (look (count_word u) v ∷ []))
           (elim (cases_lt j i) [
-            | inl before ↦ (let a = R.high j before in let b = down (omega arith) in last_least 0 (r.looks ++ xs) (count_word u) v (count_word (get_or ups j 0)) available' (omega arith) low)
-            | inr here ↦ (let same : j ≡ i = omega arith in let w : count_word (get_or ups j 0) ≡ count_word u = ap (λ (m : ℕ). count_word (get_or ups m 0)) same ∙ ap count_word at in
-                let b : last_look 0 ((r.looks ++ xs) ++ look (count_word u) v ∷ []) (count_word (get_or ups j 0)) ≡ v = ap (λ (m : ℕ). last_look 0 ((r.looks ++ xs) ++ look (count_word u) v ∷ []) m) w ∙ last_look_more 0 (r.looks ++ xs) (count_word u) v in omega arith)
+            | inl before ↦ (let a = R.high j before in
+                let b = down (omega arith) in last_least 0 (r.looks ++ xs) (count_word u) v (count_word (get_or ups j 0)) available' (omega arith) low)
+            | inr here ↦ (let same : j ≡ i = omega arith in
+                let w : count_word (get_or ups j 0) ≡ count_word u = ap (λ (m : ℕ). count_word (get_or ups m 0)) same ∙ ap count_word at in
+                let b : last_look 0 ((r.looks ++ xs) ++ look (count_word u) v ∷ []) (count_word (get_or ups j 0)) ≡ v =
+                ap (λ (m : ℕ). last_look 0 ((r.looks ++ xs) ++ look (count_word u) v ∷ []) m) w ∙ last_look_more 0 (r.looks ++ xs) (count_word u) v in
+                omega arith)
           ]));
       told = λ y _. (let a = told_low y in omega arith);
     }
@@ -117,6 +127,7 @@ round_all k r s cursor available i R all =
       found = λ ne. R.found (some_one ne);
       completed = λ u has. (let lt = has.1 in let at : get_or ups has.0 0 ≡ u = get_any ups has.0 0 u has.1 ∙ has.2 in
           subst (λ (m : ℕ). available ≤ last_look 0 (r.looks ++ count_looks ups R.counts) (count_word m)) at
-          (subst (λ (xs : List ℕ). available ≤ last_look 0 (r.looks ++ count_looks xs R.counts) (count_word (get_or ups has.0 0))) whole (R.high has.0 (omega arith))));
+          (subst (λ (xs : List ℕ). available ≤ last_look 0 (r.looks ++ count_looks xs R.counts) (count_word (get_or ups has.0 0))) whole
+          (R.high has.0 (omega arith))));
       told = λ y ne. R.told y (some_one ne);
     }

@@ -1,5 +1,6 @@
 -- A step of one end keeps the rule of the table.
-use Rattle.std.proofs.Common.{◌≡◌, ◌≢◌, ℕ, zero, suc, ◌+◌, ◌*◌, ◌<◌, inl, inr, ◌==◌, Bool, true, false, cond, List, [], ◌∷◌, ◌++◌, set, sym, refl, ap, ◌∙◌, subst, append_assoc, arith}
+use Rattle.std.proofs.Common.{◌≡◌, ◌≢◌, ℕ, zero, suc, ◌+◌, ◌*◌, ◌<◌, inl, inr, ◌==◌, Bool, true, false, cond, List, [], ◌∷◌, ◌++◌, set, sym, refl, ap, ◌∙◌}
+use Rattle.std.proofs.Common.{subst, append_assoc, arith}
 use Rattle.std.proofs.lemmas.Bool.{eq-eqb, ne_eqb}
 use Rattle.std.proofs.lemmas.List.{append-nil}
 use Rattle.std.proofs.lemmas.List.Elements.{filter-append}
@@ -18,7 +19,8 @@ use Rattle.dr_senders.specs.declared.record.View.{View}
 use Rattle.dr_senders.specs.Meaning.Rule.{World, KeepsRule}
 use Rattle.dr_senders.specs.Meaning.Steps.{Happens}
 use Rattle.dr_senders.specs.Meaning.Moments.{Runs, new_world, entries_of, IsBeginning}
-use Rattle.dr_senders.specs.Inside.Seats.{End, end_of, seat_at, first_past, past_of, is_store_of, stores_of, stored_of, EachPast, Saw, end_number, Stands, Ruled, alone}
+use Rattle.dr_senders.specs.Inside.Seats.{End, end_of, seat_at, first_past, past_of, is_store_of, stores_of, stored_of, EachPast, Saw, end_number, Stands}
+use Rattle.dr_senders.specs.Inside.Seats.{Ruled, alone}
 use Rattle.dr_senders.proofs.Places.{word_at, set_else}
 use Rattle.dr_senders.proofs.Pictures.{keeps_runs}
 use Rattle.dr_senders.proofs.Beginning.{kept_new_world}
@@ -37,9 +39,11 @@ one P e p zero x at = subst (P 0) (some-injective e x at) p
 one P e p (suc j) x at = absurd (some-ne-none x (sym at))
 
 -- one view changes, to that of one end whose record is new; the others stay
-views_change : (views : List View) (place : ℕ → ℕ × ℕ) (w u : World) (id : ℕ) (e : EndRecord) (past : List Step) → place (end_number e) ≡ (id, 0) → Stands u e → OthersStand w u (end_number e)
+views_change : (views : List View) (place : ℕ → ℕ × ℕ) (w u : World) (id : ℕ) (e : EndRecord) (past : List Step) → place (end_number e) ≡ (id, 0) → Stands u e
+    → OthersStand w u (end_number e)
     → ((id' : ℕ) (v : View) → get_elem? views id' ≡ some v → (j : ℕ) (x : EndRecord) → get_elem? v.ends j ≡ some x → StandsAt place w id' j x)
-    → (id' : ℕ) (v : View) → get_elem? (set views id (record { ends = e ∷ []; pasts = past ∷ [] })) id' ≡ some v → (j : ℕ) (x : EndRecord) → get_elem? v.ends j ≡ some x → StandsAt place u id' j x
+    → (id' : ℕ) (v : View) → get_elem? (set views id (record { ends = e ∷ []; pasts = past ∷ [] })) id' ≡ some v → (j : ℕ) (x : EndRecord)
+    → get_elem? v.ends j ≡ some x → StandsAt place u id' j x
 views_change views place w u id e past here stands others each id' v there =
     elim (at_set views id id' (record { ends = e ∷ []; pasts = past ∷ [] }) v there) [
       | inl x ↦ subst (λ (v : View). (j : ℕ) (y : EndRecord) → get_elem? v.ends j ≡ some y → StandsAt place u id' j y) x.1
@@ -100,7 +104,8 @@ saw_more k steps step e past nothing S = record {
 apart : (views : List View) (place : ℕ → ℕ × ℕ) (w : World) (id end : ℕ) → place end ≡ (id, 0)
     → ((id' : ℕ) (v : View) → get_elem? views id' ≡ some v → (j : ℕ) (x : EndRecord) → get_elem? v.ends j ≡ some x → StandsAt place w id' j x)
     → (id' : ℕ) (v : View) → id' ≢ id → get_elem? views id' ≡ some v → (j : ℕ) (x : EndRecord) → get_elem? v.ends j ≡ some x → end_number x ≢ end
-apart views place w id end here each id' v ne there j x at = λ (e : end_number x ≡ end). ne (ap (λ (p : ℕ × ℕ). p.0) (sym (each id' v there j x at).0 ∙ ap place e ∙ here))
+apart views place w id end here each id' v ne there j x at =
+    λ (e : end_number x ≡ end). ne (ap (λ (p : ℕ × ℕ). p.0) (sym (each id' v there j x at).0 ∙ ap place e ∙ here))
 
 -- and the end whose step it is has seen it, and the others what they saw
 pasts_change : (k : Shape) (views : List View) (steps : List Step) (step : Step) (id end : ℕ) (e : EndRecord) (es : Transcript) (u : World)
@@ -118,7 +123,8 @@ pasts_change k views steps step id end e es u runs stands nothing others each id
           (λ j y past at S. saw_more k steps step y past (nothing (end_number y) (others id' v x.0 x.1 j y at) steps) S) (each id' v x.1)
     ]
 
-pub runs_more : (k : Shape) (steps : List Step) (es : Transcript) (w u v : World) (step : Step) → Runs k steps es w u → Happens k step u v → Runs k (steps ++ step ∷ []) (es ++ entries_of k step u) w v
+pub runs_more : (k : Shape) (steps : List Step) (es : Transcript) (w u v : World) (step : Step) → Runs k steps es w u → Happens k step u v
+    → Runs k (steps ++ step ∷ []) (es ++ entries_of k step u) w v
 runs_more k [] es w u v step R H = (
   v,
   [],
@@ -147,17 +153,21 @@ pub record Does (k : Shape) (step : Step) (w : World) (i n : ℕ) (e : EndRecord
   pub others : OthersStand w after (end_number e)
 
 -- a step of one end, which keeps its number
-pub by_end : (k : Shape) (slots id : ℕ) (step : Step) (grow : List Step → List Step) (pasts : List (List Step)) (e : EndRecord) (i : ℕ) (f : ℕ → ℕ) (g : ℕ → EndRecord) (told : ℕ → End → Type 0)
+pub by_end : (k : Shape) (slots id : ℕ) (step : Step) (grow : List Step → List Step) (pasts : List (List Step)) (e : EndRecord) (i : ℕ) (f : ℕ → ℕ) (g : ℕ
+    → EndRecord) (told : ℕ → End → Type 0)
     → Adds (end_number e) step grow
     → ((n : ℕ) → end_number (g n) ≡ end_number e)
-    → ((w : World) → Stands w e → KeepsRule k w → word_at w.words i < 18446744073709551616 → Does k step w i (f (word_at w.words i)) (g (word_at w.words i)) × told (word_at w.words i) (alone (g (word_at w.words i))))
-    → Allows (Ruled k) slots id (seat_at (alone e) pasts) i f (λ n me'. told n (end_of me') × IsBeginning (first_past pasts) (past_of me'.0) × (stored_of me'.0 ≡ grow (stores_of (end_number e) (first_past pasts))))
+    → ((w : World) → Stands w e → KeepsRule k w → word_at w.words i < 18446744073709551616
+    → Does k step w i (f (word_at w.words i)) (g (word_at w.words i)) × told (word_at w.words i) (alone (g (word_at w.words i))))
+    → Allows (Ruled k) slots id (seat_at (alone e) pasts) i f (λ n me'. told n (end_of me') × IsBeginning (first_past pasts) (past_of me'.0)
+    × (stored_of me'.0 ≡ grow (stores_of (end_number e) (first_past pasts))))
 by_end k slots id step grow pasts e i f g told adds same does s R _ at small =
     let w = R.world in let n = word_at s.words i in let mine_view : View = record { ends = e ∷ []; pasts = pasts } in
     let here : word_at w.words i ≡ n = ap (λ (us : List ℕ). word_at us i) R.words in
     let mine : StandsAt R.place w id 0 e = R.each_end id mine_view at 0 e refl in
     let saw : Saw k R.steps e (first_past pasts) = first_saw (Saw k R.steps) e pasts (R.each_past id mine_view at) in
-    let both : Does k step w i (f n) (g n) × told n (alone (g n)) = subst (λ (m : ℕ). Does k step w i (f m) (g m) × told m (alone (g m))) here (does w mine.1 (kept_of k s R) (omega arith)) in
+    let both : Does k step w i (f n) (g n) × told n (alone (g n)) =
+    subst (λ (m : ℕ). Does k step w i (f m) (g m) × told m (alone (g m))) here (does w mine.1 (kept_of k s R) (omega arith)) in
     let D = both.0 in let steps = R.steps ++ step ∷ [] in let entries = R.entries ++ entries_of k step w in
     let runs = runs_more k R.steps R.entries (new_world k) w D.after step R.runs D.happens in (
       record { ends = g n ∷ []; pasts = steps ∷ [] },
@@ -172,20 +182,30 @@ by_end k slots id step grow pasts e i f g told adds same does s R _ at small =
         runs = runs;
         place = R.place;
         each_end = views_change s.views R.place w D.after id (g n) steps (ap R.place (same n) ∙ mine.0) D.stands D.others R.each_end;
-        each_past = pasts_change k s.views R.steps step id (end_number e) (g n) entries D.after runs D.stands adds.other (apart s.views R.place w id (end_number e) mine.0 R.each_end) R.each_past;
+        each_past = pasts_change k s.views R.steps step id (end_number e) (g n) entries D.after runs D.stands adds.other
+            (apart s.views R.place w id (end_number e) mine.0 R.each_end) R.each_past;
       },
-      (both.1, begins_more (first_past pasts) R.steps step saw.begins, ap (λ (m : ℕ). stores_of m steps) (same n) ∙ adds.own R.steps ∙ ap grow (sym saw.stores)),
+      (
+        both.1,
+        begins_more (first_past pasts) R.steps step saw.begins,
+        ap (λ (m : ℕ). stores_of m steps) (same n) ∙ adds.own R.steps
+            ∙ ap grow (sym saw.stores),
+      ),
     )
 
 -- the other ends stand where the record of one changes
-pub but_sender : (w u : World) (r q : SenderRecord) → u.senders ≡ set w.senders r.number q → u.receivers ≡ w.receivers → u.halter ≡ w.halter → OthersStand w u (2 * r.number + 1)
-but_sender w u r q a b c (Sends x) ne stood = ap (λ (xs : List SenderRecord). get_elem? xs x.number) a ∙ set_else w.senders r.number x.number q x (λ (e : x.number ≡ r.number). ne (omega arith)) stood
+pub but_sender : (w u : World) (r q : SenderRecord) → u.senders ≡ set w.senders r.number q → u.receivers ≡ w.receivers → u.halter ≡ w.halter
+    → OthersStand w u (2 * r.number + 1)
+but_sender w u r q a b c (Sends x) ne stood = ap (λ (xs : List SenderRecord). get_elem? xs x.number) a
+    ∙ set_else w.senders r.number x.number q x (λ (e : x.number ≡ r.number). ne (omega arith)) stood
 but_sender w u r q a b c (Receives x) ne stood = ap (λ (xs : List ReceiverRecord). get_elem? xs x.number) b ∙ stood
 but_sender w u r q a b c (Halts x) ne stood = c ∙ stood
 
-pub but_receiver : (w u : World) (r q : ReceiverRecord) → u.senders ≡ w.senders → u.receivers ≡ set w.receivers r.number q → u.halter ≡ w.halter → OthersStand w u (2 * r.number + 2)
+pub but_receiver : (w u : World) (r q : ReceiverRecord) → u.senders ≡ w.senders → u.receivers ≡ set w.receivers r.number q → u.halter ≡ w.halter
+    → OthersStand w u (2 * r.number + 2)
 but_receiver w u r q a b c (Sends x) ne stood = ap (λ (xs : List SenderRecord). get_elem? xs x.number) a ∙ stood
-but_receiver w u r q a b c (Receives x) ne stood = ap (λ (xs : List ReceiverRecord). get_elem? xs x.number) b ∙ set_else w.receivers r.number x.number q x (λ (e : x.number ≡ r.number). ne (omega arith)) stood
+but_receiver w u r q a b c (Receives x) ne stood = ap (λ (xs : List ReceiverRecord). get_elem? xs x.number) b
+    ∙ set_else w.receivers r.number x.number q x (λ (e : x.number ≡ r.number). ne (omega arith)) stood
 but_receiver w u r q a b c (Halts x) ne stood = c ∙ stood
 
 pub but_halter : (w u : World) → u.senders ≡ w.senders → u.receivers ≡ w.receivers → OthersStand w u 0

@@ -6,3 +6,4 @@ pub mod Sending
 pub mod Writing
 pub mod Receiving
 pub mod Making
+pub mod Settling

@@ -5,3 +5,4 @@ pub mod Records
 pub mod Rule
 pub mod Steps
 pub mod Moments
+pub mod Settling

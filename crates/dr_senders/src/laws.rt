@@ -8,6 +8,7 @@
 mod halter;
 mod receiver;
 mod sender;
+pub(crate) mod settling;
 
 ghost use Rattle.std.specs.Prelude.{List, ℕ, ◌≡◌, ◌<◌, ◌≤◌, ◌↔◌, true, length, slice_index};
 ghost use Rattle.dr_seq.specs.declared.event.Event.{Event as EventValue};

@@ -17,6 +17,7 @@ mod polling;
 mod receiver;
 pub mod record;
 mod sender;
+mod settled;
 mod writing;
 
 pub use claiming::ClaimFault;
@@ -25,6 +26,7 @@ pub use opening::senders_ring;
 pub use plan::Plan;
 pub use receiver::Receiver;
 pub use sender::Sender;
+pub use settled::{Settled, settle};
 
 #[cfg(test)]
 mod tests;

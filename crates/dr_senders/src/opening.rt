@@ -9,6 +9,7 @@ ghost use Rattle.dr_senders.specs.Meaning.Moments.{fresh_senders, fresh_receiver
 ghost use Rattle.dr_senders.specs.Calls.Plans.{IsPlan};
 ghost use Rattle.dr_senders.specs.Inside.Seats.{IsAtTable, known_senders, known_receivers, fresh_seat};
 ghost use Rattle.dr_senders.specs.Inside.Stations.{IsKeyed};
+ghost use Rattle.dr_senders.specs.Calls.Settling.{AreAllEnds};
 ghost use Rattle.dr_senders.specs.Calls.Making.{at_ring, AreFreshEnds, fault_of};
 
 use crate::laws::{Halter, ReceiverStation, RingBody, RingSeat, RingTable, SenderStation};
@@ -20,6 +21,7 @@ use crate::sender::Sender;
 use atomic_table::Split;
 use dr_core::{Mode, OpenFault, is_valid_limit};
 use dr_graph::Graph;
+use dr_ring::HandlerCounts;
 use dr_seq::Size;
 use std::alloc::{AllocError, Global};
 use std::sync::Arc;
@@ -105,12 +107,13 @@ fn ends(alloc: Global, plan: Plan) -> Result<(Vec<Sender>, Vec<Receiver>, Halter
     ensures { IfOk result (λ made. AreFreshEnds plan made.0.items made.1.items made.2) }
 {
     let words = vec![in alloc; 0; plan.words()]?;
+    let counts = vec![in alloc; HandlerCounts::NONE; plan.handlers()]?;
     let (table, mut seat) = RingTable::of_words(alloc, words.as_slice(), &plan)?;
     let ring = Arc::new(alloc, RingBody { table, plan })?;
     let rest = ring.table.shared.split_seat::<Cut>(&mut seat);
     let (senders, rest) = senders(alloc, &ring, rest)?;
     let receivers = receivers(alloc, &ring, rest)?;
-    Ok((senders, receivers, Halter { ring, seat }))
+    Ok((senders, receivers, Halter { ring, seat, counts }))
 }
 
 /// A ring for a graph of handlers, of a size, in which so many senders may claim `limit` sequences
@@ -128,6 +131,7 @@ pub fn senders_ring(
     senders: usize,
 ) -> Result<(Vec<Sender>, Vec<Receiver>, Halter), OpenFault>
     ensures made { IfOk result (λ made. AreFreshEnds (record { upstreams = graph.now.upstreams; size = size; limit = limit; senders = senders }) made.0.items made.1.items made.2) }
+    ensures all { IfOk result (λ made. AreAllEnds made.0.items made.1.items made.2) }
     ensures fits { IsOk result → (has_bad_producers (Multi senders) ≡ false) × (is_bad_limit limit ≡ false) }
     ensures refused { IfErr result (λ fault. fault ≡ fault_of senders limit) }
 {

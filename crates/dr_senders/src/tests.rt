@@ -1,5 +1,7 @@
 //! What no clause says: that the calls succeed with ample memory, and worked runs by their answers.
 
+mod settling;
+
 use crate::{ClaimFault, Halter, Receiver, Sender, senders_ring};
 use dr_core::{Claimed, OpenFault, Polled, Refusal};
 use dr_graph::{Graph, GraphBuilder, GraphFault};

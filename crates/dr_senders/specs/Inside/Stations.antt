@@ -1,6 +1,7 @@
 -- The ends of a ring, each at its station, with the seat that stands for it.
-use Rattle.std.specs.Prelude.{◌≡◌, ℕ, ◌<◌}
+use Rattle.std.specs.Prelude.{◌≡◌, ℕ, ◌<◌, List, length}
 use Rattle.atomic_table.specs.Seated.{TableId}
+use Rattle.dr_ring.specs.declared.settled.HandlerCounts.{HandlerCounts}
 use Rattle.dr_senders.specs.Meaning.Shape.{Shape, handlers_of}
 use Rattle.dr_senders.specs.Calls.Plans.{IsPlan}
 use Rattle.dr_senders.specs.Inside.Seats.{End, Sitting, IsAtTable, past_of, stored_of, sender_of, receiver_of, halter_of, IsSender, IsReceiver, IsHalter}
@@ -38,7 +39,9 @@ pub record ReceiverSits (at seat : TableId) (key k : Shape) (me : End) (number l
   pub handler : number < handlers_of k
   pub looks : looked ≡ looks_counted (receiver_of me.0).looks
 
-pub record HalterSits (at seat : TableId) (key k : Shape) (me : End) : Type 0 where
+-- the halter also has room for the handlers' counts, for when the ends come together
+pub record HalterSits (at seat : TableId) (key k : Shape) (me : End) (rooms : List HandlerCounts) : Type 0 where
   pub table : IsAtTable seat at k
   pub keyed : IsKeyed key k
   pub end : IsHalter me
+  pub places : length rooms ≡ handlers_of k

@@ -7,6 +7,7 @@ ghost use Rattle.dr_senders.specs.Calls.Ends.{HasStored};
 
 use super::{RingBody, RingSeat};
 use crate::plan::{CLAIM_WORD, HALT_BIT};
+use dr_ring::HandlerCounts;
 use std::alloc::Global;
 use std::marker::{Brand, Model};
 use std::sync::Arc;
@@ -16,6 +17,7 @@ use std::sync::Arc;
 pub struct Halter {
     pub(crate) ring: Arc<RingBody, Global>,
     pub(crate) seat: RingSeat,
+    pub(crate) counts: Vec<HandlerCounts>,
 }
 
 impl Model for Halter {
@@ -28,7 +30,7 @@ impl Model for Halter {
 
     ghost view = { λ s. halter_end s.seat.table_id (arc_value s.ring).plan s.seat.me };
 
-    ghost invariant = { λ s. HalterSits (arc_value s.ring).table.shared.table_id s.seat.table_id (arc_value s.ring).table.shared.key (arc_value s.ring).plan (end_of s.seat.me) };
+    ghost invariant = { λ s. HalterSits (arc_value s.ring).table.shared.table_id s.seat.table_id (arc_value s.ring).table.shared.key (arc_value s.ring).plan (end_of s.seat.me) s.counts.items };
 }
 
 impl Halter {

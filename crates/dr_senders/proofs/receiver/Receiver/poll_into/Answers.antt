@@ -14,8 +14,10 @@ use Rattle.dr_senders.proofs.receiver.Receiver.poll_into.Goals as goal
 pub returns-then-available-first-clause-call : goal.returns-then-available-first-clause-call
 returns-then-available-first-clause-call c =
     let found = c.look_at_claims-found.result in let looked = c.look_at_claims-found.ensures.step in let count = c.claimed_in-claimed.ensures in
-    let k = c.args.self.now.plan in let r = c.args.self.now.knows in let available = c.offer-available.result.0 in let upto = c.offer-available.result.1 in let s = c.offer-available.new.self.knows in
-    let O = seen_round k _ r _ s found _ available upto (looked.0.1 ∙ ap (λ (e : ReceiverEnd). e.plan) c.self.view_is) (looked.1 ∙ ap (λ (e : ReceiverEnd). claims_looked e.knows found) c.self.view_is) count c.offer-available.ensures.answer in
+    let k = c.args.self.now.plan in let r = c.args.self.now.knows in let available = c.offer-available.result.0 in let upto = c.offer-available.result.1 in
+    let s = c.offer-available.new.self.knows in
+    let O = seen_round k _ r _ s found _ available upto (looked.0.1 ∙ ap (λ (e : ReceiverEnd). e.plan) c.self.view_is) (looked.1
+    ∙ ap (λ (e : ReceiverEnd). claims_looked e.knows found) c.self.view_is) count c.offer-available.ensures.answer in
     let next = c.self.invariant.taken ∙ ap (λ (e : ReceiverEnd). length e.knows.received) c.self.view_is in
     let finds = subst (λ (e : ReceiverEnd). FindsClaims e.knows found) c.self.view_is c.look_at_claims-found.ensures.finds in let ahead = finds.1 in (
       search rules,
@@ -35,8 +37,10 @@ returns-then-available-first-clause-call c =
 pub returns-clause-call : goal.returns-clause-call
 returns-clause-call c =
     let found = c.look_at_claims-found.result in let looked = c.look_at_claims-found.ensures.step in let count = c.claimed_in-claimed.ensures in
-    let k = c.args.self.now.plan in let r = c.args.self.now.knows in let available = c.offer-available.result.0 in let upto = c.offer-available.result.1 in let s = c.offer-available.new.self.knows in
-    let O = seen_round k _ r _ s found _ available upto (looked.0.1 ∙ ap (λ (e : ReceiverEnd). e.plan) c.self.view_is) (looked.1 ∙ ap (λ (e : ReceiverEnd). claims_looked e.knows found) c.self.view_is) count c.offer-available.ensures.answer in
+    let k = c.args.self.now.plan in let r = c.args.self.now.knows in let available = c.offer-available.result.0 in let upto = c.offer-available.result.1 in
+    let s = c.offer-available.new.self.knows in
+    let O = seen_round k _ r _ s found _ available upto (looked.0.1 ∙ ap (λ (e : ReceiverEnd). e.plan) c.self.view_is) (looked.1
+    ∙ ap (λ (e : ReceiverEnd). claims_looked e.knows found) c.self.view_is) count c.offer-available.ensures.answer in
     let next = c.self.invariant.taken ∙ ap (λ (e : ReceiverEnd). length e.knows.received) c.self.view_is in
     let finds = subst (λ (e : ReceiverEnd). FindsClaims e.knows found) c.self.view_is c.look_at_claims-found.ensures.finds in
     let many = c.take_all.ensures.length ∙ c.split_at_mut-front.ensures.front_len in (
@@ -46,8 +50,10 @@ returns-clause-call c =
         (
           saw k (claims_looked r found) s found available upto O,
           in_order k r s found available upto O,
-          poll_batch k r s _ c.args.out.now _ found available upto c.self.inside.taken c.min-count.result _ next O (λ told. (let t = finds.3 told in let e = t.1 in omega arith))
-              (c.take_all.ensures.only.1 ∙ ap (λ (xs : List Event). received_all s xs) (sym (take_at c.take_all.new.out c.split_at_mut-front.result.1.now c.min-count.result many)))
+          poll_batch k r s _ c.args.out.now _ found available upto c.self.inside.taken c.min-count.result _ next O
+              (λ told. (let t = finds.3 told in let e = t.1 in omega arith))
+              (c.take_all.ensures.only.1
+              ∙ ap (λ (xs : List Event). received_all s xs) (sym (take_at c.take_all.new.out c.split_at_mut-front.result.1.now c.min-count.result many)))
               (drop_at c.take_all.new.out c.split_at_mut-front.result.1.now c.min-count.result many ∙ c.split_at_mut-front.ensures.back)
               (let more = c.if-available-first.false in omega arith) c.min-count.ensures (of_count _ _ _ refl),
         ),

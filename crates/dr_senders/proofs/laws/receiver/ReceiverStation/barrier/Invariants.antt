@@ -4,4 +4,5 @@ use Rattle.dr_senders.proofs.Rounds.{Round}
 use Rattle.dr_senders.proofs.laws.receiver.ReceiverStation.barrier.Given as goal
 
 abbrev pub invariant-loop-place : goal.invariant-loop-place
-invariant-loop-place l = HasLoaded l.fn.self l.self.knows l.self × Round (ups_of l.fn.self.plan l.fn.self.knows) l.fn.self.knows l.claimed l.available l.place l.self.knows
+invariant-loop-place l = HasLoaded l.fn.self l.self.knows l.self
+    × Round (ups_of l.fn.self.plan l.fn.self.knows) l.fn.self.knows l.claimed l.available l.place l.self.knows

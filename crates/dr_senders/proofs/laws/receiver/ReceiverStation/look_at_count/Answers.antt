@@ -16,5 +16,6 @@ load-requires c =
     let below = c.self.invariant.keyed.made.graph.layered _ _ has in (
       search rules,
       search rules,
-      receiver_looks_at_count _ _ _ _ _ _ (ap (λ r. r.table.shared.key) c.deref.ensures ∙ c.self.invariant.keyed.key) c.count_word.ensures c.self.invariant.end has,
+      receiver_looks_at_count _ _ _ _ _ _ (ap (λ r. r.table.shared.key) c.deref.ensures
+          ∙ c.self.invariant.keyed.key) c.count_word.ensures c.self.invariant.end has,
     )

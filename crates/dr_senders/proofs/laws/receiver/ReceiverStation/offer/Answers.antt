@@ -17,4 +17,5 @@ returns-clause-answer c =
     let k = c.args.self.now.plan in let r = c.args.self.now.knows in
     subst (λ (n : ℕ). Offered k r c.args.claimed c.barrier-available.new.self.knows c.barrier-available.result n) (sym c.requires.seen)
     (offer_barrier k r c.barrier-available.new.self.knows c.args.claimed c.barrier-available.result
-    (λ e. (let zero = eq-eqb (length c.upstreams.result.now) 0 (ap length (c.upstreams.ensures ∙ e)) in let not_empty = c.if-is_empty.ensures in cc)) c.barrier-available.ensures.answer)
+    (λ e. (let zero = eq-eqb (length c.upstreams.result.now) 0 (ap length (c.upstreams.ensures ∙ e)) in
+    let not_empty = c.if-is_empty.ensures in cc)) c.barrier-available.ensures.answer)

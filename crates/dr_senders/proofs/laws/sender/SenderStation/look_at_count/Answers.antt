@@ -15,7 +15,8 @@ count_word-requires c =
 pub load-requires : goal.load-requires
 load-requires c =
     let has = subst (λ (e : SenderEnd). Contains (finals e.plan.upstreams) c.args.handler) (sym c.self.view_is) c.requires in
-    let inside = final_inside (arc_value c.self.inside.ring).plan.upstreams c.args.handler has in let at = c.self.invariant.table.1 in let word = c.count_word.ensures in (
+    let inside = final_inside (arc_value c.self.inside.ring).plan.upstreams c.args.handler has in let at = c.self.invariant.table.1 in
+    let word = c.count_word.ensures in (
       search rules,
       subst (λ r. c.count_word.result < r.table.shared.table_id.words) (sym c.deref.ensures) (omega arith),
       looks_at_count _ _ _ _ _ c.args.handler (ap (λ r. r.table.shared.key) c.deref.ensures ∙ c.self.invariant.keyed.key) word c.self.invariant.end has,

@@ -8,8 +8,10 @@ use Rattle.dr_senders.proofs.laws.sender.SenderStation.publish.Goals as goal
 
 pub store-requires : goal.store-requires
 store-requires g c =
-    let own = subst (λ (e : SenderEnd). (t : Stage) × (event : Event) × Owns e.knows c.args.sequence t × (t.published ≡ false) × (t.half ≡ None) × (t.event ≡ Some event)) (sym c.self.view_is) c.requires.own in (
+    let own = subst (λ (e : SenderEnd). (t : Stage) × (event : Event) × Owns e.knows c.args.sequence t × (t.published ≡ false) × (t.half ≡ None)
+    × (t.event ≡ Some event)) (sym c.self.view_is) c.requires.own in (
       search rules,
       search rules,
-      publishes _ _ _ _ _ c.args.sequence _ _ own.0 own.1 (ap (λ r. r.table.shared.key) c.deref-2.ensures ∙ c.self.invariant.keyed.key) c.requires.named (search rules) (search rules) c.self.invariant.end own.2 own.3 own.4 own.5,
+      publishes _ _ _ _ _ c.args.sequence _ _ own.0 own.1 (ap (λ r. r.table.shared.key) c.deref-2.ensures ∙ c.self.invariant.keyed.key) c.requires.named
+          (search rules) (search rules) c.self.invariant.end own.2 own.3 own.4 own.5,
     )

@@ -12,5 +12,6 @@ store-requires g c =
     let place = subst (λ (e : SenderEnd). c.args.word ≡ payload_word e.plan c.args.sequence 0) (sym c.self.view_is) c.requires.place in (
       search rules,
       search rules,
-      stores_first _ _ _ _ _ c.args.sequence _ _ own.0 (ap (λ r. r.table.shared.key) c.deref.ensures ∙ c.self.invariant.keyed.key) c.requires.named place c.self.invariant.end own.1 own.2,
+      stores_first _ _ _ _ _ c.args.sequence _ _ own.0 (ap (λ r. r.table.shared.key) c.deref.ensures
+          ∙ c.self.invariant.keyed.key) c.requires.named place c.self.invariant.end own.1 own.2,
     )

@@ -11,12 +11,13 @@ use Rattle.dr_ring.proofs.Lists.{at_below, each_set, last_look_more, last_look_e
 use Rattle.dr_senders.specs.Meaning.Shape.{Shape, handlers_of}
 use Rattle.dr_senders.specs.Meaning.Words.{claim_word, claimed_in, is_halted, count_word, mark_start, mark_word, payload_word}
 use Rattle.dr_senders.specs.declared.record.ReceiverRecord.{ReceiverRecord}
-use Rattle.dr_senders.specs.Meaning.Records.{receiver_looked, tells_drained, claims_looked, mark_looked, half_taken, took, completed_to, IsBelowBarrier}
+use Rattle.dr_senders.specs.Meaning.Records.{receiver_looked, tells_drained, claims_looked, mark_looked, half_taken, took, completed_to, IsBelowBarrier, Owns, mark_found}
 use Rattle.dr_senders.specs.Meaning.Rule.{World, IsOut, IsOutWith, ReceiverKept, KeepsRule}
 use Rattle.dr_senders.specs.Meaning.Steps.{receiver_knows}
-use Rattle.dr_senders.proofs.Places.{word_at, Rises, rises_set, past_rises, past_more, last_look_le}
-use Rattle.dr_senders.proofs.Facts.{handler_inside, upstream_inside, out_with, early, next_event}
-use Rattle.dr_senders.proofs.Keeps.{room_stays, receiver_stays, sender_stays, stage_stays}
+use Rattle.dr_senders.proofs.Places.{word_at, Rises, rises_set, past_rises, past_more, last_look_le, rounds_rise, same_or_behind}
+use Rattle.dr_senders.proofs.Facts.{handler_inside, upstream_inside, out_with, early, next_event, out_behind}
+use Rattle.dr_senders.proofs.Stays.{room_stays, receiver_stays, sender_stays, stage_stays}
+use Rattle.dr_senders.proofs.Brought.{map_there, own_brought}
 
 -- a receiver's record changes
 receiver_changes : (k : Shape) (w : World) (h : ℕ) (r : ReceiverRecord) → ReceiverKept k w.words w.stages h r → KeepsRule k w
@@ -49,8 +50,7 @@ keeps_receiver_looks k w h i r pos low at K = let was = K.received h r at in rec
   seen = was.seen;
   half = was.half;
   told = was.told;
-  claims =
-      let a = was.claims in let b = last_look_else 0 r.looks i claim_word (word_at w.words i) (λ (e : i ≡ claim_word). omega arith) in
+  claims = let a = was.claims in let b = last_look_else 0 r.looks i claim_word (word_at w.words i) (λ (e : i ≡ claim_word). omega arith) in
       let c = ap claimed_in b in omega arith;
   looks = past_more k w.words i (word_at w.words i) r.looks low (omega arith) was.looks;
 }) K
@@ -127,11 +127,12 @@ pub taken_event : (k : Shape) (w : World) (h first : ℕ) (r : ReceiverRecord) �
     → IsOutWith w.stages (length r.received) record { first = first; second = word_at w.words (payload_word k (length r.received) 1) }
 taken_event k w h first r at half K =
     let was = K.received h r at in let d = was.half first half in let event = next_event k w h r d.0 at d.1 K in
-    let same : d.0 ≡ record { first = first; second = word_at w.words (payload_word k (length r.received) 1) } = λ i. record { first = sym d.2 i; second = sym event.1 i } in
+    let same : d.0 ≡ record { first = first; second = word_at w.words (payload_word k (length r.received) 1) } =
+    λ i. record { first = sym d.2 i; second = sym event.1 i } in
     subst (IsOutWith w.stages (length r.received)) same d.1
 
-pub keeps_takes : (k : Shape) (w : World) (h first : ℕ) (r : ReceiverRecord) → get_elem? w.receivers h ≡ some r → r.half ≡ Some first
-    → IsBelowBarrier k h r → KeepsRule k w
+pub keeps_takes : (k : Shape) (w : World) (h first : ℕ) (r : ReceiverRecord) → get_elem? w.receivers h ≡ some r → r.half ≡ Some first → IsBelowBarrier k h r
+    → KeepsRule k w
     → KeepsRule k (receiver_knows w h (took r record { first = first; second = word_at w.words (payload_word k (length r.received) 1) }))
 keeps_takes k w h first r at half low K =
     let was = K.received h r at in let n = length r.received in
@@ -143,11 +144,14 @@ keeps_takes k w h first r at half low K =
       number = was.number;
       count = was.count;
       completed = let c = was.completed in omega arith;
-      after = λ u up. (let i = upstream_inside k K.shape.graph h u (handler_inside k w h r at K) up in let a = low.completed u up in let b = last_look_le k w.words 0 r.looks (count_word u) (omega arith) was.looks in omega arith);
+      after = λ u up. (let i = upstream_inside k K.shape.graph h u (handler_inside k w h r at K) up in let a = low.completed u up in
+          let b = last_look_le k w.words 0 r.looks (count_word u) (omega arith) was.looks in omega arith);
       beginning = λ s lt. elim (cases_lt s n) [
         | inl old ↦ subst (IsOutWith w.stages s) (sym (get_or_append_left r.received (found ∷ []) no_event s old)) (was.beginning s old)
         | inr new ↦ (let same : n ≡ s = omega arith in let z : s - n ≡ 0 = omega arith in
-            subst (IsOutWith w.stages s) (sym (get_or-append_right r.received (found ∷ []) n s no_event refl new ∙ ap (λ (j : ℕ). get_or (found ∷ []) j no_event) z)) (subst (λ (m : ℕ). IsOutWith w.stages m found) same event))
+            subst (IsOutWith w.stages s)
+            (sym (get_or-append_right r.received (found ∷ []) n s no_event refl new ∙ ap (λ (j : ℕ). get_or (found ∷ []) j no_event) z))
+            (subst (λ (m : ℕ). IsOutWith w.stages m found) same event))
       ];
       seen = was.seen;
       half = λ v e. absurd (cc);
@@ -156,8 +160,8 @@ keeps_takes k w h first r at half low K =
       looks = was.looks;
     }) K
 
-pub keeps_completes : (k : Shape) (w : World) (h n : ℕ) (r : ReceiverRecord) → get_elem? w.receivers h ≡ some r → r.completed ≤ n
-    → n ≤ length r.received → KeepsRule k w
+pub keeps_completes : (k : Shape) (w : World) (h n : ℕ) (r : ReceiverRecord) → get_elem? w.receivers h ≡ some r → r.completed ≤ n → n ≤ length r.received
+    → KeepsRule k w
     → KeepsRule k (record w { words = set w.words (count_word h) n; receivers = set w.receivers h (completed_to r n) })
 keeps_completes k w h n r at rise le K =
     let was = K.received h r at in let lt : h < handlers_of k = handler_inside k w h r at K in
@@ -173,8 +177,10 @@ keeps_completes k w h n r at rise le K =
       claim = ap claimed_in one ∙ K.claim;
       limit = K.limit;
       room = room_stays k w.words us (length w.stages) rises K.room;
-      stages = λ s t there. stage_stays k w.words us (length w.stages) s t (λ _. (stays (payload_word k s 0) (λ e. omega arith), stays (payload_word k s 1) (λ e. omega arith), stays (mark_word k s) (λ e. omega arith))) (K.stages s t there);
-      marks = λ s low. K.marks s (let e = stays (mark_word k s) (λ e. omega arith) in omega arith);
+      stages = λ s t there. stage_stays k w.words us (length w.stages) s t
+          (λ _. (stays (payload_word k s 0) (λ e. omega arith), stays (payload_word k s 1) (λ e. omega arith), stays (mark_word k s) (λ e. omega arith)))
+          (K.stages s t there);
+      marks = λ s low. K.marks s (let e =stays (mark_word k s) (λ e. omega arith) in omega arith);
       marked = λ s x. (let a = K.marked s x in let e = stays (mark_word k s) (λ e. omega arith) in omega arith);
       sent = λ p q there. sender_stays k w.words us w.stages w.stages p q rises (λ s t x _. x) (λ s t x _. x) (K.sent p q there);
       received = each_set (ReceiverKept k us w.stages) w.receivers h (completed_to r n)
@@ -182,7 +188,8 @@ keeps_completes k w h n r at rise le K =
             number = was.number;
             count = here;
             completed = le;
-            after = λ u isup. (let in_graph = upstream_inside k K.shape.graph h u lt isup in let a = was.after u isup in let b = rises (count_word u) (omega arith) in omega arith);
+            after = λ u isup. (let in_graph = upstream_inside k K.shape.graph h u lt isup in let a = was.after u isup in
+                let b = rises (count_word u) (omega arith) in omega arith);
             beginning = was.beginning;
             seen = was.seen;
             half = was.half;
@@ -191,6 +198,8 @@ keeps_completes k w h n r at rise le K =
             looks = past_rises k w.words us r.looks rises was.looks;
           })
           (λ j q ne there. (let old = K.received j q there in
-          receiver_stays k w.words us w.stages w.stages j q K.shape.graph (handler_inside k w j q there K) (stays (count_word j) (λ e. ne (omega arith))) rises (λ s t x _. x) (omega arith) (λ yes. (ap is_halted one ∙ (old.told yes).0, (old.told yes).1)) old));
+          receiver_stays k w.words us w.stages w.stages j q K.shape.graph (handler_inside k w j q there K)
+          (stays (count_word j) (λ e. ne (omega arith))) rises (λ s t x _. x) (omega arith)
+          (λ yes. (ap is_halted one ∙ (old.told yes).0, (old.told yes).1)) old));
       halter = past_rises k w.words us w.halter.looks rises K.halter;
     }
