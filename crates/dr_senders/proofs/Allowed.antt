@@ -251,9 +251,9 @@ sender_looks_at_mark k {sh = sh} slots id me i s m same named there is =
     (subst (λ (i : ℕ). Allows (Ruled k) slots id me i (λ n. n) (Loads (SenderLookedAtMark k s) (step slots i 0 0 none) me)) (sym here)
     (let i = mark_word k s in let r = sender_of me.0.ends in let kind = SenderLooksAtMark r.number s in
     along (λ x. Allows (Ruled k) slots id x i (λ n. n) (Loads (SenderLookedAtMark k s) (step slots i 0 0 none) x)) me (Sends r) is
-    (by_end k slots id kind (λ xs. xs) me.0.pasts (Sends r) i (λ n. n) (λ n. Sends (mark_found r n)) (SenderLookedAtMark k s (step slots i 0 0 none) (alone (Sends r)))
+    (by_end k slots id kind (λ xs. xs) me.0.pasts (Sends r) i (λ n. n) (λ n. Sends (mark_found r i n)) (SenderLookedAtMark k s (step slots i 0 0 none) (alone (Sends r)))
     (adds_nothing _ kind (λ n. refl)) (λ n. refl)
-    (λ w at K small. (sender_learns k kind w r (mark_found r (word_at w.words i)) i at refl (r, at, refl), (refl, finds_mark k w r s at K))))))
+    (λ w at K small. (sender_learns k kind w r (mark_found r i (word_at w.words i)) i at refl (r, at, refl), (refl, finds_mark k w r s at K))))))
 
 -- the highest bit is set
 or_top : (n : ℕ) → n < 18446744073709551616 → bit_or n 9223372036854775808 ≡ halted_from n

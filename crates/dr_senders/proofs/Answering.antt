@@ -35,7 +35,7 @@ looked_nowhere : (r : SenderRecord) → r ≡ record r { marks = r.marks ++ []; 
 looked_nowhere r = λ i. record r { marks = sym (append-nil r.marks) i; looks = sym (append-nil r.looks) i }
 
 found_nothing : (r : SenderRecord) → r ≡ record r { marks = r.marks ++ [] }
-found_nothing r = ap (λ (xs : List ℕ). record r { marks = xs }) (sym (append-nil r.marks))
+found_nothing r = ap (λ (xs : List Look). record r { marks = xs }) (sym (append-nil r.marks))
 
 -- A write.
 
@@ -242,7 +242,7 @@ module _ (k : Shape) (lo : ℕ) (seen : PublishLooks) where
 pub publish_stops : (e a e' : SenderEnd) (lo hi stop : ℕ) (x : Sight) (refusal : Refusal) → lo ≤ stop → stop ≤ hi → Reached e hi a true
     → ((s : ℕ) → lo ≤ s → s < stop → IsReady e.knows s)
     → IsSight e.plan e.knows stop x → IsFirst MayHold MayFail refusal (sequence_causes (sight_tests e.plan stop x)) → Stays a e'
-    → e'.knows ≡ record a.knows { marks = a.knows.marks ++ marks_of x } → e'.stored ≡ a.stored
+    → e'.knows ≡ record a.knows { marks = a.knows.marks ++ marks_of e.plan stop x } → e'.stored ≡ a.stored
     → PublishCall e lo hi e' (Err refusal)
 publish_stops e a e' lo hi stop x refusal low high R ready sight first stays knows stored =
     let at : lo + (stop - lo) ≡ stop = omega arith in let seen : PublishLooks = record { reach = R.reach; ready = stop - lo; stop = x } in record {
@@ -252,7 +252,9 @@ publish_stops e a e' lo hi stop x refusal low high R ready sight first stays kno
       answer = refuses e.plan lo seen hi refusal (omega arith) (omega arith) (subst MayFail (sym R.unclaimed) refl)
           (subst (λ (s : ℕ). IsFirst MayHold MayFail refusal (sequence_causes (sight_tests e.plan s x))) (sym at) first);
       all = tt;
-      knows = knows ∙ ap (λ (q : SenderRecord). record q { marks = q.marks ++ marks_of x }) R.knows;
+      knows =
+          knows ∙ ap (λ (q : SenderRecord). record q { marks = q.marks ++ marks_of e.plan stop x }) R.knows
+          ∙ ap (λ (s : ℕ). record e.knows { marks = e.knows.marks ++ marks_of e.plan s x; looks = e.knows.looks ++ reach_looks R.reach }) (sym at);
       stored = stored ∙ R.stored;
     }
 

@@ -43,10 +43,10 @@ keeps_sender_looks k w p i r low at K = let was = K.sent p r at in
       (record { number = was.number; own = was.own; all = was.all; looks = past_more k w.words i (word_at w.words i) r.looks low (omega arith) was.looks }) K
 
 -- it looks at a mark
-pub keeps_mark_found : (k : Shape) (w : World) (p found : ℕ) (r : SenderRecord) → get_elem? w.senders p ≡ some r → KeepsRule k w
-    → KeepsRule k (sender_knows w p (mark_found r found))
-keeps_mark_found k w p found r at K =
-    let was = K.sent p r at in sender_changes k w p (mark_found r found) (record { number = was.number; own = was.own; all = was.all; looks = was.looks }) K
+pub keeps_mark_found : (k : Shape) (w : World) (p word found : ℕ) (r : SenderRecord) → get_elem? w.senders p ≡ some r → KeepsRule k w
+    → KeepsRule k (sender_knows w p (mark_found r word found))
+keeps_mark_found k w p word found r at K =
+    let was = K.sent p r at in sender_changes k w p (mark_found r word found) (record { number = was.number; own = was.own; all = was.all; looks = was.looks }) K
 
 pubfresh_at : (p c n i : ℕ) (o : Own) → get_elem? (fresh_own p c n) i ≡ some o → (i < n) × (record { sequence = c + i; stage = fresh_stage p } ≡ o)
 fresh_at p c zero i o at = absurd (some-ne-none o (sym at))

@@ -58,9 +58,9 @@ owned_looks : (w : World) (p word n : ℕ) (r : SenderRecord) → get_elem? w.se
 owned_looks w p word n r at all = one_changes w.stages w.stages w.senders p r (sender_looked r word n) at all
     (λ s t there. (λ own. own_of w.stages w.senders p s r t all at there own, λ other. there))
 
-owned_mark : (w : World) (p n : ℕ) (r : SenderRecord) → get_elem? w.senders p ≡ some r → AllOwned w
-    → HaveOwners w.stages (set w.senders p (mark_found r n))
-owned_mark w p n r at all = one_changes w.stages w.stages w.senders p r (mark_found r n) at all
+owned_mark : (w : World) (p word n : ℕ) (r : SenderRecord) → get_elem? w.senders p ≡ some r → AllOwned w
+    → HaveOwners w.stages (set w.senders p (mark_found r word n))
+owned_mark w p word n r at all = one_changes w.stages w.stages w.senders p r (mark_found r word n) at all
     (λ s t there. (λ own. own_of w.stages w.senders p s r t all at there own, λ other. there))
 
 fresh_there : (p c n i : ℕ) → i < n → get_elem? (fresh_own p c n) i ≡ some record { sequence = c + i; stage = fresh_stage p }
@@ -135,7 +135,7 @@ owned_step k (SenderStoresFirst p s v) w u H K all = subst AllOwned (sym H.2.3) 
 owned_step k (SenderStoresSecond p s v) w u H K all =
     subst AllOwned (sym H.2.3.2) (owned_brings k w p s H.0 H.2.0 (written record { first = H.2.3.0; second = v }) H.1 H.2.1 refl K all)
 owned_step k (SenderPublishes p s) w u H K all = subst AllOwned (sym H.2.3.3) (owned_brings k w p s H.0 H.2.0 published H.1 H.2.1 refl K all)
-owned_step k (SenderLooksAtMark p s) w u H K all = subst AllOwned (sym H.2) (owned_mark w p _ H.0 H.1 all)
+owned_step k (SenderLooksAtMark p s) w u H K all = subst AllOwned (sym H.2) (owned_mark w p _ _ H.0 H.1 all)
 owned_step k (SenderHalts p) w u H K all = subst AllOwned (sym H.2) (owned_looks w p claim_word _ H.0 H.1 all)
 owned_step k (ReceiverLooksAtClaims h) w u H K all = subst AllOwned (sym H.2) all
 owned_step k (ReceiverLooksAtMark h) w u H K all = subst AllOwned (sym H.2) all

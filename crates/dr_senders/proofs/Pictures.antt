@@ -62,7 +62,7 @@ keeps_step k (SenderStoresSecond p s v) w u H K =
     subst (KeepsRule k) (sym H.2.3.2) (keeps_second k w p s H.2.1.0 H.2.3.0 v H.0 H.2.0 H.1 H.2.1.1 H.2.2 H.2.3.1 K)
 keeps_step k (SenderPublishes p s) w u H K =
     subst (KeepsRule k) (sym H.2.3.3) (keeps_publishes k w p s H.2.1.0 H.0 H.2.0 H.2.3.1 H.1 H.2.1.1 H.2.2 H.2.3.0 H.2.3.2 K)
-keeps_step k (SenderLooksAtMark p s) w u H K = subst (KeepsRule k) (sym H.2) (keeps_mark_found k w p (word_at w.words (mark_word k s)) H.0 H.1 K)
+keeps_step k (SenderLooksAtMark p s) w u H K = subst (KeepsRule k) (sym H.2) (keeps_mark_found k w p (mark_word k s) (word_at w.words (mark_word k s)) H.0 H.1 K)
 keeps_step k (SenderHalts p) w u H K = subst (KeepsRule k) (sym H.2) (keeps_sender_halts k w p H.0 H.1 K)
 keeps_step k (ReceiverLooksAtClaims h) w u H K = subst (KeepsRule k) (sym H.2) (keeps_claims_look k w h H.0 H.1 K)
 keeps_step k (ReceiverLooksAtMark h) w u H K = subst (KeepsRule k) (sym H.2) (keeps_mark_look k w h H.0 H.1 K)

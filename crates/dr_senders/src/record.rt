@@ -19,12 +19,12 @@ pub struct Own {
     pub stage: Stage,
 }
 
-/// What a sender knows: its number, the sequences that it claimed, and what it found at each look
-/// at a mark.
+/// What a sender knows: its number, the sequences that it claimed, and its looks, those at marks
+/// apart.
 pub struct SenderRecord {
     pub number: u64,
     pub own: LinkedList<Own>,
-    pub marks: LinkedList<u64>,
+    pub marks: LinkedList<Look>,
     pub looks: LinkedList<Look>,
 }
 

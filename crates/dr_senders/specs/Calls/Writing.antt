@@ -9,7 +9,7 @@ use Rattle.dr_core.specs.Calls.Ends.{Verdict, Exactly, unknown, IsAnswerOf, as_e
 use Rattle.dr_ring.specs.declared.record.Look.{Look}
 use Rattle.dr_ring.specs.Meaning.Records.{look}
 use Rattle.dr_senders.specs.Meaning.Shape.{Shape}
-use Rattle.dr_senders.specs.Meaning.Words.{claim_word, claimed_in}
+use Rattle.dr_senders.specs.Meaning.Words.{claim_word, claimed_in, mark_word}
 use Rattle.dr_senders.specs.declared.record.Stage.{Stage}
 use Rattle.dr_senders.specs.declared.record.Own.{Own}
 use Rattle.dr_senders.specs.declared.record.SenderRecord.{SenderRecord}
@@ -38,10 +38,10 @@ abbrev pub IsAsked : Sight → Type 0
 IsAsked Unasked = ⊥
 IsAsked _ = Unit {0}
 
--- what it found at a mark
-abbrev pub marks_of : Sight → List ℕ
-marks_of (Found m) = m ∷ []
-marks_of _ = []
+-- what it found at the mark of a sequence
+abbrev pub marks_of : Shape → ℕ → Sight → List Look
+marks_of k s (Found m) = look (mark_word k s) m ∷ []
+marks_of k s _ = []
 
 -- the tests of a sequence, of which one that is not asked refuses nothing
 abbrev pub sight_tests : Shape → ℕ → Sight → SequenceTests Verdict
@@ -65,9 +65,9 @@ tests_of_write k s x = record {
 }
 
 -- what a sender knows after a write: the event of its sequence or, where it is refused, what it found
-abbrev pub after_write : SenderRecord → ℕ → Event → Sight → Result (Unit {0}) Refusal → SenderRecord
-after_write r s event x (Ok _) = brought r s (written event)
-after_write r s event x (Err refusal) = record r { marks = r.marks ++ marks_of x }
+abbrev pub after_write : Shape → SenderRecord → ℕ → Event → Sight → Result (Unit {0}) Refusal → SenderRecord
+after_write k r s event x (Ok _) = brought r s (written event)
+after_write k r s event x (Err refusal) = record r { marks = r.marks ++ marks_of k s x }
 
 pub record WriteCall (e : SenderEnd) (s : ℕ) (event : Event) (e' : SenderEnd) (result : Result (Unit {0}) Refusal) : Type 0 where
   pub stays : Stays e e'
@@ -75,7 +75,7 @@ pub record WriteCall (e : SenderEnd) (s : ℕ) (event : Event) (e' : SenderEnd) 
   pub sees : IsSight e.plan e.knows s sight
   pub asked : IsAsked sight
   pub answer : IsAnswerOf (write_causes (tests_of_write e.plan s sight)) (as_end result)
-  pub knows : e'.knows ≡ after_write e.knows s event sight result
+  pub knows : e'.knows ≡ after_write e.plan e.knows s event sight result
   pub stored : StoresWhereOk e.stored (SenderStoresFirst e.knows.number s event.first ∷ SenderStoresSecond e.knows.number s event.second ∷ []) e'.stored result
 
 -- how a sender knows whether the last sequence of a stretch is claimed: it is its own, or never claimed, or it looked at the claim word
@@ -133,9 +133,9 @@ abbrev pub published_between : SenderRecord → ℕ → ℕ → SenderRecord
 published_between r lo upto = record r { own = map (own_between lo upto) r.own }
 
 -- what a sender knows after a publication: its stretch is published or, where it is refused, what it found
-abbrev pub after_publication : SenderRecord → ℕ → ℕ → PublishLooks → Result (Unit {0}) Refusal → SenderRecord
-after_publication r lo hi seen (Ok _) = published_between r lo (hi + 1)
-after_publication r lo hi seen (Err refusal) = record r { marks = r.marks ++ marks_of seen.stop; looks = r.looks ++ reach_looks seen.reach }
+abbrev pub after_publication : Shape → SenderRecord → ℕ → ℕ → PublishLooks → Result (Unit {0}) Refusal → SenderRecord
+after_publication k r lo hi seen (Ok _) = published_between r lo (hi + 1)
+after_publication k r lo hi seen (Err refusal) = record r { marks = r.marks ++ marks_of k (lo + seen.ready) seen.stop; looks = r.looks ++ reach_looks seen.reach }
 
 -- a publication that is not refused saw that each of its sequences may be published
 abbrev pub AllReady : ℕ → ℕ → ℕ → Result (Unit {0}) Refusal → Type 0
@@ -152,5 +152,5 @@ pub record PublishCall (e : SenderEnd) (lo hi : ℕ) (e' : SenderEnd) (result : 
   pub sees : PublishSees e.plan e.knows lo hi seen
   pub answer : IsAnswerOf (publish_causes lo hi (tests_of_publication e.plan lo hi seen)) (as_end result)
   pub all : AllReady lo hi seen.ready result
-  pub knows : e'.knows ≡ after_publication e.knows lo hi seen result
+  pub knows : e'.knows ≡ after_publication e.plan e.knows lo hi seen result
   pub stored : StoresWhereOk e.stored (publications e.knows.number lo (hi + 1 - lo)) e'.stored result

@@ -10,7 +10,7 @@ use Rattle.dr_graph.specs.Meaning.Graph.{finals}
 use Rattle.dr_ring.specs.declared.record.Look.{Look}
 use Rattle.dr_ring.specs.Meaning.Records.{last_look}
 use Rattle.dr_senders.specs.Meaning.Shape.{Shape}
-use Rattle.dr_senders.specs.Meaning.Words.{claim_word, claimed_in, count_word}
+use Rattle.dr_senders.specs.Meaning.Words.{claim_word, claimed_in, count_word, mark_word}
 use Rattle.dr_senders.specs.declared.record.Stage.{Stage}
 use Rattle.dr_senders.specs.declared.record.SenderRecord.{SenderRecord}
 use Rattle.dr_senders.specs.declared.record.ReceiverRecord.{ReceiverRecord}
@@ -117,7 +117,7 @@ Reaches e false hi e' result = (found : ℕ) × HasLoaded e (sender_looked e.kno
 
 -- why a sequence is refused that a sender has not, or only published: by the mark in its slot
 abbrev pub RefusesBy : SenderEnd → ℕ → SenderEnd → Refusal → Type 0
-RefusesBy e s e' refusal = (m : ℕ) × HasLoaded e (mark_found e.knows m) e' × FindsMark e.plan e.knows s m
+RefusesBy e s e' refusal = (m : ℕ) × HasLoaded e (mark_found e.knows (mark_word e.plan s) m) e' × FindsMark e.plan e.knows s m
     × (refusal ≡ (if nat_le (entry_of e.plan.size s) m then AlreadyPublished else NotClaimed))
 
 -- no sequence of a sender is half written

@@ -10,7 +10,7 @@ use Rattle.dr_core.specs.Meaning.Transcript.{Transcript}
 use Rattle.dr_ring.specs.declared.record.Look.{Look}
 use Rattle.dr_ring.specs.Meaning.Records.{last_look}
 use Rattle.dr_senders.specs.Meaning.Shape.{Shape, IsShape, handlers_of}
-use Rattle.dr_senders.specs.Meaning.Words.{claim_word, claimed_in, is_halted, halted_from, words_of}
+use Rattle.dr_senders.specs.Meaning.Words.{claim_word, claimed_in, is_halted, halted_from, mark_word, words_of}
 use Rattle.dr_senders.specs.declared.record.Stage.{Stage}
 use Rattle.dr_senders.specs.declared.record.SenderRecord.{SenderRecord}
 use Rattle.dr_senders.specs.declared.record.ReceiverRecord.{ReceiverRecord}
@@ -237,7 +237,7 @@ abbrev pub SenderPublished : ℕ → TableStep ℕ → End → ℕ → End → T
 SenderPublished sequence s me n me' = me' ≡ as_sender (brought (sender_of me.0) sequence published)
 
 abbrev pub SenderLookedAtMark : Shape → ℕ → TableStep ℕ → End → ℕ → End → Type 0
-SenderLookedAtMark k sequence s me n me' = (me' ≡ as_sender (mark_found (sender_of me.0) n)) × FindsMark k (sender_of me.0) sequence n
+SenderLookedAtMark k sequence s me n me' = (me' ≡ as_sender (mark_found (sender_of me.0) (mark_word k sequence) n)) × FindsMark k (sender_of me.0) sequence n
 
 abbrev pub SenderHalted : TableStep ℕ → End → ℕ → End → Type 0
 SenderHalted s me n me' = me' ≡ as_sender (sender_looked (sender_of me.0) claim_word (halted_from n))

@@ -50,8 +50,8 @@ abbrev pub sender_looked : SenderRecord → ℕ → ℕ → SenderRecord
 sender_looked r word found = record r { looks = r.looks ++ look word found ∷ [] }
 
 -- it has looked at a mark
-abbrev pub mark_found : SenderRecord → ℕ → SenderRecord
-mark_found r found = record r { marks = r.marks ++ found ∷ [] }
+abbrev pub mark_found : SenderRecord → ℕ → ℕ → SenderRecord
+mark_found r word found = record r { marks = r.marks ++ look word found ∷ [] }
 
 -- it has claimed n sequences from c on
 abbrev pub claimed_from : SenderRecord → ℕ → ℕ → SenderRecord

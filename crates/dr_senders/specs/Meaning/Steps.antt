@@ -64,7 +64,7 @@ Happens k (SenderStoresSecond p s second) w w' =
 Happens k (SenderPublishes p s) w w' =
     ByOwner w p s (λ r t. (t.half ≡ None) × (event : Event) × (t.event ≡ Some event) × (w' ≡ sender_brings w p r s t published (mark_word k s) (entry_of k.size s)))
 Happens k (SenderLooksAtMark p s) w w' =
-    BySender w p (λ r. w' ≡ sender_knows w p (mark_found r (slice_index w.words (mark_word k s))))
+    BySender w p (λ r. w' ≡ sender_knows w p (mark_found r (mark_word k s) (slice_index w.words (mark_word k s))))
 Happens k (SenderHalts p) w w' =
     BySender w p (λ r. w' ≡ record w { words = halted_words w; senders = slice_set w.senders p (sender_looked r claim_word (halted_from (slice_index w.words claim_word))) })
 Happens k (ReceiverLooksAtClaims h) w w' =

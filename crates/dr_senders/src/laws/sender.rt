@@ -5,7 +5,7 @@ ghost use Rattle.dr_seq.specs.declared.event.Event.{Event as EventValue};
 ghost use Rattle.dr_graph.specs.Meaning.Graph.{finals};
 ghost use Rattle.dr_senders.specs.Calls.Plans.{IsPlan};
 ghost use Rattle.dr_senders.specs.declared.record.Stage.{Stage};
-ghost use Rattle.dr_senders.specs.Meaning.Words.{claim_word, halted_from, count_word as count_word_of, payload_word};
+ghost use Rattle.dr_senders.specs.Meaning.Words.{claim_word, halted_from, count_word as count_word_of, mark_word, payload_word};
 ghost use Rattle.dr_senders.specs.Meaning.Records.{Owns, half_written, written, published, brought, sender_looked, mark_found, SeesRoom};
 ghost use Rattle.dr_senders.specs.declared.record.Step.TheVariants.{SenderClaims, SenderStoresFirst, SenderStoresSecond, SenderPublishes, SenderHalts};
 ghost use Rattle.dr_senders.specs.Inside.Seats.{FindsMore, FindsMark, IsEarlier, after_exchange};
@@ -127,7 +127,7 @@ impl SenderStation {
     /// A sender looks at the mark in a sequence's slot.
     pub(crate) fn look_at_mark<J: Names>(&mut self, sequence: u64) -> u64
         requires { sequence ≡ J.number }
-        ensures step { HasLoaded self.old (mark_found self.old.knows result) self.new }
+        ensures step { HasLoaded self.old (mark_found self.old.knows (mark_word self.old.plan sequence) result) self.new }
         ensures finds { FindsMark self.old.plan self.old.knows sequence result }
     {
         let plan = &self.ring.plan;
