@@ -153,15 +153,15 @@ earlier k w r c n z t at some_one room hit own K =
 pub claims : (k : Shape) {sh : Shape} (slots id : ℕ) (me : Sitting) (c n v : ℕ) → k ≡ sh → v ≡ c + n → IsSender (end_of me) → 0 < n
     → SeesRoom sh (sender_of me.0.ends) c n
     → Allows (Ruled k) slots id me claim_word (λ m. either (m == c) v m)
-    (Stores (λ s e m. SenderClaims (sender_of e.0).number s.first (s.second - s.first)) ( SenderClaimed k) (step slots claim_word c v none) me)
+    (Stores (λ s e m. SenderClaims (sender_of e.0).number s.first (s.second - s.first)) (SenderClaimed k) (step slots claim_word c v none) me)
 claims k {sh = sh} slots id me c n v same sum is some_one there =
     let room : SeesRoom k (sender_of me.0.ends) c n = subst (λ (p : Shape). SeesRoom p (sender_of me.0.ends) c n) (sym same) there in
     subst (λ (v : ℕ). Allows (Ruled k) slots id me claim_word (λ m. either (m == c) v m)
-    (Stores (λ s e m. SenderClaims (sender_of e.0).number s.first (s.second - s.first)) ( SenderClaimed k) (step slots claim_word c v none) me)) (sym sum)
+    (Stores (λ s e m. SenderClaims (sender_of e.0).number s.first (s.second - s.first)) (SenderClaimed k) (step slots claim_word c v none) me)) (sym sum)
     (let r = sender_of me.0.ends in let back : c + n - c ≡ n = omega arith in let kind = SenderClaims r.number c (c + n - c) in
     let room' : SeesRoom k r c (c + n - c) = subst (SeesRoom k r c) (sym back) room in
     along (λ x. Allows (Ruled k) slots id x claim_word (λ m. either (m == c) (c + n) m)
-    (Stores (λ s e m. SenderClaims (sender_of e.0).number s.first (s.second - s.first)) ( SenderClaimed k) (step slots claim_word c (c + n) none) x)) me
+    (Stores (λ s e m. SenderClaims (sender_of e.0).number s.first (s.second - s.first)) (SenderClaimed k) (step slots claim_word c (c + n) none) x)) me
     (Sends r) is
     (by_end k slots id kind (λ xs. xs ++ kind ∷ []) me.0.pasts (Sends r) claim_word (λ m. either (m == c) (c + n) m)
     (λ m. Sends (learned r c (c + n - c) m (m == c))) (SenderClaimed k (step slots claim_word c (c + n) none) (alone (Sends r)))

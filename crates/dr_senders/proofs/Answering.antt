@@ -15,14 +15,14 @@ use Rattle.dr_core.specs.Calls.Ends.{Verdict, Exactly, unknown, MayHold, MayFail
 use Rattle.dr_core.proofs.Causes.{none_join, first_left, none_of_stretch, first_of_stretch}
 use Rattle.dr_ring.specs.declared.record.Look.{Look}
 use Rattle.dr_senders.specs.Meaning.Shape.{Shape}
-use Rattle.dr_senders.specs.Meaning.Words.{claimed_in}
+use Rattle.dr_senders.specs.Meaning.Words.{claimed_in, mark_word}
 use Rattle.dr_senders.specs.declared.record.Stage.{Stage}
 use Rattle.dr_senders.specs.declared.record.Own.{Own}
 use Rattle.dr_senders.specs.declared.record.SenderRecord.{SenderRecord}
 use Rattle.dr_senders.specs.declared.record.Step.{Step}
 use Rattle.dr_senders.specs.declared.record.Step.TheVariants.{SenderPublishes}
 use Rattle.dr_senders.specs.declared.owned.Owned.{Owned}
-use Rattle.dr_senders.specs.Meaning.Records.{Owns, half_written, written, published, own_after, brought}
+use Rattle.dr_senders.specs.Meaning.Records.{Owns, half_written, written, published, own_after, brought, mark_found}
 use Rattle.dr_senders.specs.Calls.Ends.{SenderEnd, Stays, HasLoaded, HasStored}
 use Rattle.dr_senders.specs.Calls.Writing.{Sight, Has, Found, Never, Unasked, IsSight, marks_of, sight_tests, WriteCall, Reach, Inside, Outside, Looked, IsReach, reach_looks, reach_unclaimed, IsReady, PublishLooks, stretch_tests, tests_of_publication, published_between, publications, PublishCall}
 use Rattle.dr_senders.specs.Inside.Fits.{is_ready, SenderFits}
@@ -304,7 +304,7 @@ module _ (e a : SenderEnd) (o : Owned) (lo hi stop : ℕ) (F : SenderFits e.plan
       (λ t mine. let shown = F.old stop t mine unmarked in
       (shown, subst (λ (k : Shape). entry_of k.size stop ≤ B.0) plan (B.2 t (owns_same e.knows a.knows stop t own mine) shown)))
       (by_sequence_mark (nat_le (entry_of e.plan.size stop) B.0) refusal (B.3 ∙ ap (λ (k : Shape). if nat_le (entry_of k.size stop) B.0 then AlreadyPublished else NotClaimed) plan))
-      B.1.0 B.1.1 B.1.3
+      B.1.0 (B.1.1 ∙ ap (λ (k : Shape). mark_found a.knows (mark_word k stop) B.0) plan) B.1.3
 
   pub publish_late : is_marked o.claimed stop ≡ true → is_marked o.published stop ≡ true → PublishCall e lo hi a (Err AlreadyPublished)
   publish_late mine shown = let x = F.own stop mine in

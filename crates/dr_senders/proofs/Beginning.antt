@@ -35,9 +35,7 @@ senders_count p (suc n) = ap suc (senders_count (suc p) n)
 abbrev zeros : ℕ → List ℕ
 zeros n = replicate n 0
 
-pub
-
-all_zero : (n i : ℕ) → ◌≡◌ {A = ℕ} (get_or (zeros n) i 0) 0
+pub all_zero : (n i : ℕ) → ◌≡◌ {A = ℕ} (get_or (zeros n) i 0) 0
 all_zero n i =
     let z : ℕ = 0 in
     elim (cases_lt i n) [

@@ -3,9 +3,10 @@ use Rattle.std.proofs.Common.{◌≡◌, ℕ, zero, suc, ◌+◌, ◌<◌, inl, 
 use Rattle.std.proofs.lemmas.List.{length-append, length-replicate}
 use mathlib.Core.Option.{some, some-injective, some-ne-none}
 use lib.ListN.{get_elem?}
-use Rattle.dr_ring.proofs.Lists.{each_set, final_inside}
+use Rattle.dr_ring.proofs.Lists.{at_below, each_set, final_inside}
 use Rattle.dr_senders.specs.Meaning.Shape.{Shape}
 use Rattle.dr_senders.specs.Meaning.Words.{claim_word, claimed_in, is_halted, halted_from, halt_bit, count_word, mark_start, mark_word, payload_word}
+use Rattle.dr_senders.specs.declared.record.Stage.{Stage}
 use Rattle.dr_senders.specs.declared.record.Own.{Own}
 use Rattle.dr_senders.specs.declared.record.SenderRecord.{SenderRecord}
 use Rattle.dr_senders.specs.declared.record.HalterRecord.{HalterRecord}
@@ -40,7 +41,7 @@ pub keeps_sender_looks : (k : Shape) (w : World) (p i : ℕ) (r : SenderRecord) 
     → KeepsRule k (sender_knows w p (sender_looked r i (word_at w.words i)))
 keeps_sender_looks k w p i r low at K = let was = K.sent p r at in
     sender_changes k w p (sender_looked r i (word_at w.words i))
-      (record { number = was.number; own = was.own; all = was.all; looks = past_more k w.words i (word_at w.words i) r.looks low (omega arith) was.looks }) K
+    (record { number = was.number; own = was.own; all = was.all; looks = past_more k w.words i (word_at w.words i) r.looks low (omega arith) was.looks }) K
 
 -- it looks at a mark
 pub keeps_mark_found : (k : Shape) (w : World) (p word found : ℕ) (r : SenderRecord) → get_elem? w.senders p ≡ some r → KeepsRule k w
@@ -48,7 +49,7 @@ pub keeps_mark_found : (k : Shape) (w : World) (p word found : ℕ) (r : SenderR
 keeps_mark_found k w p word found r at K =
     let was = K.sent p r at in sender_changes k w p (mark_found r word found) (record { number = was.number; own = was.own; all = was.all; looks = was.looks }) K
 
-pubfresh_at : (p c n i : ℕ) (o : Own) → get_elem? (fresh_own p c n) i ≡ some o → (i < n) × (record { sequence = c + i; stage = fresh_stage p } ≡ o)
+pub fresh_at : (p c n i : ℕ) (o : Own) → get_elem? (fresh_own p c n) i ≡ some o → (i < n) × (record { sequence = c + i; stage = fresh_stage p } ≡ o)
 fresh_at p c zero i o at = absurd (some-ne-none o (sym at))
 fresh_at p c (suc n) zero o at = (
   omega arith,
@@ -118,7 +119,7 @@ keeps_claims k w p c n r at some_one room found K =
           marked = λ near y. absurd (cc);
         })
       ];
-      marks = λ s le. out_lasts w.stages more lasts s (K.marks s (let e =stays (mark_word k s) (omega arith) in omega arith));
+      marks = λ s le. out_lasts w.stages more lasts s (K.marks s (let e = stays (mark_word k s) (omega arith) in omega arith));
       marked = λ s x. elim (more_cases w.stages new s x.0 x.1) [
         | inl old ↦ (let a = K.marked s (x.0, old, x.2) in let e = stays (mark_word k s) (omega arith) in omega arith)
         | inr y ↦ absurd (let no : false ≡ x.0.published = ap (λ (t : Stage). t.published) (at_replicate n (fresh_stage p) x.0 y.0 y.2) in let yes = x.2 in cc)
@@ -172,7 +173,7 @@ halting k w senders halter count sent looks K =
       stages = λ s t there. stage_stays k w.words us (length w.stages) s t
           (λ _. (stays (payload_word k s 0) (omega arith), stays (payload_word k s 1) (omega arith), stays (mark_word k s) (omega arith)))
           (K.stages s t there);
-      marks = λ s le. K.marks s (let e =stays (mark_word k s) (omega arith) in omega arith);
+      marks = λ s le. K.marks s (let e = stays (mark_word k s) (omega arith) in omega arith);
       marked = λ s x. (let a = K.marked s x in let e = stays (mark_word k s) (omega arith) in omega arith);
       sent = sent;
       received = λ h q there. (let old = K.received h q there in
@@ -196,7 +197,8 @@ keeps_sender_halts k w p r at K =
     (each_set (SenderKept k us w.stages) w.senders p (sender_looked r claim_word (halted_from n))
     (record {
       number = was.number;
-      own = was.own; all = was.all;
+      own = was.own;
+      all = was.all;
       looks =
           past_more k us claim_word (halted_from n) r.looks (omega arith) (omega arith) (past_rises k w.words us r.looks rises was.looks);
     })

@@ -180,7 +180,7 @@ keeps_completes k w h n r at rise le K =
       stages = λ s t there. stage_stays k w.words us (length w.stages) s t
           (λ _. (stays (payload_word k s 0) (λ e. omega arith), stays (payload_word k s 1) (λ e. omega arith), stays (mark_word k s) (λ e. omega arith)))
           (K.stages s t there);
-      marks = λ s low. K.marks s (let e =stays (mark_word k s) (λ e. omega arith) in omega arith);
+      marks = λ s low. K.marks s (let e = stays (mark_word k s) (λ e. omega arith) in omega arith);
       marked = λ s x. (let a = K.marked s x in let e = stays (mark_word k s) (λ e. omega arith) in omega arith);
       sent = λ p q there. sender_stays k w.words us w.stages w.stages p q rises (λ s t x _. x) (λ s t x _. x) (K.sent p q there);
       received = each_set (ReceiverKept k us w.stages) w.receivers h (completed_to r n)

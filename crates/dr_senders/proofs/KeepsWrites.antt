@@ -1,6 +1,6 @@
 -- A sender that stores a word of an event or its mark keeps the rule.
 use Rattle.std.proofs.Common.{◌≡◌, ◌≢◌, ℕ, ◌<◌, ◌≤◌, inl, inr, Bool, true, false, if◌then◌else◌, List, length, set, Some, None, sym, refl, ap, ◌∙◌, subst, arith, length-set, get_or-set_same, get_or-set_other}
-use Rattle.std.proofs.lemmas.Bool.{cases_eq, eq-eqb, ne_eqb}
+use Rattle.std.proofs.lemmas.Bool.{cases_eq, eq-eqb, ne_eqb, cases_lt}
 use mathlib.Core.Option.{some}
 use lib.ListN.{get_elem?}
 use Rattle.atomic_table.proofs.Lists.{at_set}
@@ -128,7 +128,7 @@ other_payload k w s z j v t u ne low at unshown there K =
 marks_stay : (k : Shape) (w : World) (s j v : ℕ) (t t' : Stage) → get_elem? w.stages s ≡ some t → t.published ≡ false → KeepsRule k w
     → (z : ℕ) → entry_of k.size z ≤ word_at (set w.words (payload_word k s j) v) (mark_word k z) → IsOut (set w.stages s t') z
 marks_stay k w s j v t t' at unshown K z le =
-    let other =get_or-set_other w.words (payload_word k s j) (mark_word k z) v 0 (λ e. let pos = K.shape.some_slot in omega arith) in
+    let other = get_or-set_other w.words (payload_word k s j) (mark_word k z) v 0 (λ e. let pos = K.shape.some_slot in omega arith) in
     let x = K.marks z (omega arith) in
     elim (cases_eq z s) [
       | inl e ↦ absurd (let same : t ≡ x.0 = one_value w.stages s t x.0 at (ap (λ (m : ℕ). get_elem? w.stages m) (sym e) ∙ x.1) in

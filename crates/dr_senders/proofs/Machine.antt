@@ -133,9 +133,7 @@ same_part part stages s t u at same q = elim (cases_eq q s) [
   | inr ne ↦ ap part (get_or-set_other stages s q u (fresh_stage 0) ne)
 ]
 
-pub
-
-owner_at : (stages : List Stage) (s : ℕ) (t : Stage) → get_elem? stages s ≡ some t → get_or (map (λ (x : Stage). x.owner) stages) s 0 ≡ t.owner
+pub owner_at : (stages : List Stage) (s : ℕ) (t : Stage) → get_elem? stages s ≡ some t → get_or (map (λ (x : Stage). x.owner) stages) s 0 ≡ t.owner
 owner_at stages s t at = get_or-map (λ (x : Stage). x.owner) stages s (fresh_stage 0) 0 (at_below stages s t at)
     ∙ ap (λ (x : Stage). x.owner) (at_stage stages s t at)
 

@@ -26,12 +26,11 @@ out_with_lasts : (stages more : List Stage) → Lasts stages more → (s : ℕ) 
 out_with_lasts stages more L s e x = (x.0, L s x.0 x.1 x.2, x.2, x.3)
 
 -- where the words that a part speaks of stay or rise, and what is published stays, the part stays
-pub
 pub room_stays : (k : Shape) (words us : List ℕ) (n : ℕ) → Rises k words us → Room k words n → Room k us n
 room_stays k words us n rises room f final =
     let i = final_inside k.upstreams f final in let a = rises (count_word f) (omega arith) in let b = room f final in omega arith
 
-pubpub receiver_stays : (k : Shape) (words us : List ℕ) (stages more : List Stage) (h : ℕ) (r : ReceiverRecord) → IsGraph k.upstreams → h < handlers_of k
+pub receiver_stays : (k : Shape) (words us : List ℕ) (stages more : List Stage) (h : ℕ) (r : ReceiverRecord) → IsGraph k.upstreams → h < handlers_of k
     → word_at us (count_word h) ≡ word_at words (count_word h) → Rises k words us → Lasts stages more → length stages ≤ length more
     → (r.told ≡ true → (is_halted (word_at us claim_word) ≡ true) × (length more ≤ length r.received)) → ReceiverKept k words stages h r
     → ReceiverKept k us more h r
@@ -48,7 +47,7 @@ receiver_stays k words us stages more h r graph inside same rises lasts longer t
   looks = past_rises k words us r.looks rises was.looks;
 }
 
-pubpub sender_stays : (k : Shape) (words us : List ℕ) (stages more : List Stage) (q : ℕ) (r : SenderRecord) → Rises k words us
+pub sender_stays : (k : Shape) (words us : List ℕ) (stages more : List Stage) (q : ℕ) (r : SenderRecord) → Rises k words us
     → ((s : ℕ) (t : Stage) → get_elem? stages s ≡ some t → t.owner ≡ q → get_elem? more s ≡ some t)
     → ((s : ℕ) (t : Stage) → get_elem? more s ≡ some t → t.owner ≡ q → get_elem? stages s ≡ some t)
     → SenderKept k words stages q r → SenderKept k us more q r
@@ -59,7 +58,7 @@ sender_stays k words us stages more q r rises same back was = record {
   looks = past_rises k words us r.looks rises was.looks;
 }
 
-pubpub stage_stays : (k : Shape) (words us : List ℕ) (n s : ℕ) (t : Stage)
+pub stage_stays : (k : Shape) (words us : List ℕ) (n s : ℕ) (t : Stage)
     → (n ≤ s + k.size → (word_at us (payload_word k s 0) ≡ word_at words (payload_word k s 0))
     × (word_at us (payload_word k s 1) ≡ word_at words (payload_word k s 1)) × (word_at us (mark_word k s) ≡ word_at words (mark_word k s)))
     → StageKept k words n s t → StageKept k us n s t

@@ -1,7 +1,7 @@
 use Rattle.std.proofs.Common.{rules, refl, sym, subst, ap, ◌∙◌, ◌≡◌, ◌+◌, ℕ}
 use Rattle.dr_senders.specs.Meaning.Shape.{Shape}
 use Rattle.dr_senders.specs.declared.record.Stage.{Stage}
-use Rattle.dr_senders.specs.Meaning.Records.{Owns,SeesRoom}
+use Rattle.dr_senders.specs.Meaning.Records.{Owns, SeesRoom}
 use Rattle.dr_senders.specs.Inside.Seats.{IsEarlier, sender_of}
 use Rattle.dr_senders.specs.Calls.Ends.{SenderEnd}
 use Rattle.dr_senders.proofs.Allowed.{claims}
