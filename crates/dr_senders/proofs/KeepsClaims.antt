@@ -13,10 +13,9 @@ use Rattle.dr_senders.specs.declared.record.HalterRecord.{HalterRecord}
 use Rattle.dr_senders.specs.Meaning.Records.{fresh_stage, fresh_own, sender_looked, claimed_from, halter_halted, SeesRoom, Owns, mark_found}
 use Rattle.dr_senders.specs.Meaning.Rule.{World, StageKept, ArePast, SenderKept, KeepsRule}
 use Rattle.dr_senders.specs.Meaning.Steps.{sender_knows, sender_claims, halted_words}
-use Rattle.dr_senders.proofs.Places.{word_at, more_left, more_right, more_cases, at_replicate, in_replicate, claimed_low, halted_low, claimed_halted, halted_rises, is_halted_from, Rises, rises_set, past_rises, past_more, last_look_le, rounds_rise, same_or_behind}
-use Rattle.dr_senders.proofs.Facts.{handler_inside, out_behind}
+use Rattle.dr_senders.proofs.Places.{word_at, more_left, more_right, more_cases, at_replicate, in_replicate, claimed_low, halted_low, claimed_halted, halted_rises, is_halted_from, Rises, rises_set, past_rises, past_more, last_look_le}
+use Rattle.dr_senders.proofs.Facts.{handler_inside}
 use Rattle.dr_senders.proofs.Stays.{Lasts, out_lasts, room_stays, receiver_stays, sender_stays, stage_stays}
-use Rattle.dr_senders.proofs.Brought.{map_there, own_brought}
 
 -- a sender's record changes
 sender_changes : (k : Shape) (w : World) (p : ℕ) (r : SenderRecord) → SenderKept k w.words w.stages p r → KeepsRule k w → KeepsRule k (sender_knows w p r)

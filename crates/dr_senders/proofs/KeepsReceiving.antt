@@ -11,13 +11,12 @@ use Rattle.dr_ring.proofs.Lists.{at_below, each_set, last_look_more, last_look_e
 use Rattle.dr_senders.specs.Meaning.Shape.{Shape, handlers_of}
 use Rattle.dr_senders.specs.Meaning.Words.{claim_word, claimed_in, is_halted, count_word, mark_start, mark_word, payload_word}
 use Rattle.dr_senders.specs.declared.record.ReceiverRecord.{ReceiverRecord}
-use Rattle.dr_senders.specs.Meaning.Records.{receiver_looked, tells_drained, claims_looked, mark_looked, half_taken, took, completed_to, IsBelowBarrier, Owns, mark_found}
+use Rattle.dr_senders.specs.Meaning.Records.{receiver_looked, tells_drained, claims_looked, mark_looked, half_taken, took, completed_to, IsBelowBarrier}
 use Rattle.dr_senders.specs.Meaning.Rule.{World, IsOut, IsOutWith, ReceiverKept, KeepsRule}
 use Rattle.dr_senders.specs.Meaning.Steps.{receiver_knows}
-use Rattle.dr_senders.proofs.Places.{word_at, Rises, rises_set, past_rises, past_more, last_look_le, rounds_rise, same_or_behind}
-use Rattle.dr_senders.proofs.Facts.{handler_inside, upstream_inside, out_with, early, next_event, out_behind}
+use Rattle.dr_senders.proofs.Places.{word_at, Rises, rises_set, past_rises, past_more, last_look_le}
+use Rattle.dr_senders.proofs.Facts.{handler_inside, upstream_inside, out_with, early, next_event}
 use Rattle.dr_senders.proofs.Stays.{room_stays, receiver_stays, sender_stays, stage_stays}
-use Rattle.dr_senders.proofs.Brought.{map_there, own_brought}
 
 -- a receiver's record changes
 receiver_changes : (k : Shape) (w : World) (h : ℕ) (r : ReceiverRecord) → ReceiverKept k w.words w.stages h r → KeepsRule k w

@@ -12,10 +12,10 @@ use Rattle.dr_senders.specs.Meaning.Words.{claim_word, claimed_in, is_halted, co
 use Rattle.dr_senders.specs.declared.record.Stage.{Stage}
 use Rattle.dr_senders.specs.declared.record.Own.{Own}
 use Rattle.dr_senders.specs.declared.record.SenderRecord.{SenderRecord}
-use Rattle.dr_senders.specs.Meaning.Records.{half_written, written, published, own_after, brought, Owns, mark_found}
+use Rattle.dr_senders.specs.Meaning.Records.{half_written, written, published, own_after, brought}
 use Rattle.dr_senders.specs.Meaning.Rule.{World, Room, IsOut, StageKept, SenderKept, KeepsRule}
 use Rattle.dr_senders.specs.Meaning.Steps.{sender_brings}
-use Rattle.dr_senders.proofs.Places.{word_at, set_here, set_else, at_map, one_value, Rises, rises_set, past_rises, own_slot, apart, same_sequence, rounds_rise, same_or_behind}
+use Rattle.dr_senders.proofs.Places.{word_at, set_here, set_else, at_map, one_value, Rises, rises_set, past_rises, own_slot, apart, rounds_rise, same_or_behind}
 use Rattle.dr_senders.proofs.Facts.{handler_inside, near_open, owned, out_behind}
 use Rattle.dr_senders.proofs.Stays.{Lasts, room_stays, receiver_stays, sender_stays, stage_stays}
 use Rattle.dr_senders.proofs.Brought.{map_there, own_brought}

@@ -12,8 +12,8 @@ use Rattle.dr_senders.specs.declared.record.Stage.{Stage}
 use Rattle.dr_senders.specs.declared.record.SenderRecord.{SenderRecord}
 use Rattle.dr_senders.specs.declared.record.ReceiverRecord.{ReceiverRecord}
 use Rattle.dr_senders.specs.Meaning.Rule.{Room, IsOut, IsOutWith, StageKept, SenderKept, ReceiverKept}
-use Rattle.dr_senders.proofs.Places.{word_at, Rises, past_rises, rounds_rise, same_or_behind}
-use Rattle.dr_senders.proofs.Facts.{upstream_inside, out_behind}
+use Rattle.dr_senders.proofs.Places.{word_at, Rises, past_rises}
+use Rattle.dr_senders.proofs.Facts.{upstream_inside}
 
 -- what is published stays as it is
 abbrev pub Lasts : List Stage → List Stage → Type 0

@@ -1,4 +1,5 @@
 -- All ends of a ring are still all of its ends, whatever calls they made.
+use Rattle.dr_senders.specs.Calls.Writing.{Sight, PublishLooks, after_write, after_publication}
 use Rattle.std.proofs.Common.{◌≡◌, ℕ, zero, suc, ◌≤◌, inl, inr, List, [], ◌∷◌, length, map, get_or, set, sym, refl, ap, ◌∙◌, subst, arith, length-set}
 use Rattle.std.proofs.lemmas.Bool.{cases_lt}
 use Rattle.std.proofs.lemmas.List.{length-map}
@@ -111,3 +112,13 @@ poll_number k r r' out out' (Ok Drained) x = ap (λ (q : ReceiverRecord). q.numb
 poll_number k r r' out out' (Ok Gating) x = ap (λ (q : ReceiverRecord). q.number) x.2.2
 poll_number k r r' out out' (Ok Idle) x = ap (λ (q : ReceiverRecord). q.number) x.2.2
 poll_number k r r' out out' (Err refusal) x = ap (λ (q : ReceiverRecord). q.number) x.0
+
+pub write_number : (k : Shape) (r : SenderRecord) (s : ℕ) (event : Event) (x : Sight) (result : Result (Unit {0}) Refusal)
+    → (after_write k r s event x result).number ≡ r.number
+write_number k r s event x (Ok _) = refl
+write_number k r s event x (Err refusal) = refl
+
+pub publish_number : (k : Shape) (r : SenderRecord) (lo hi : ℕ) (seen : PublishLooks) (result : Result (Unit {0}) Refusal)
+    → (after_publication k r lo hi seen result).number ≡ r.number
+publish_number k r lo hi seen (Ok _) = refl
+publish_number k r lo hi seen (Err refusal) = refl

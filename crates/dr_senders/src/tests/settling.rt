@@ -10,7 +10,6 @@ use dr_core::{Claimed, Polled, Refusal};
 use dr_graph::{Graph, GraphBuilder, GraphFault};
 use dr_seq::{Event, Size};
 use std::alloc::Global;
-use std::marker::Brand;
 use std::process::Abort;
 use std::test::Fail;
 
@@ -71,8 +70,9 @@ fn send_one(rt: &impl Abort, sender: &mut Sender, event: Event)
 {
     match sender.try_claim(1) {
         Ok(claimed) => {
-            sender.station.write(claimed.lo, event);
-            sender.station.publish::<Brand>(claimed.lo);
+            let written = sender.write(claimed.lo, event);
+            let published = sender.publish(claimed.lo, claimed.hi);
+            assert!(rt; written.is_ok() && published.is_ok());
         }
         Err(fault) => assert!(rt; false, "refused with {fault:?}"),
     }
