@@ -49,8 +49,13 @@ pub fn round(
     senders: u64,
 ) -> Result<Round, Fault> {
     let graph = order.topology.shape.graph(alloc)?;
-    let (senders, receivers, mut halter) =
-        senders_ring(alloc, &graph, order.size, MAX_LIMIT, senders as usize)?;
+    let (senders, receivers, mut halter) = senders_ring(
+        alloc,
+        &graph,
+        order.size,
+        MAX_LIMIT,
+        senders as usize,
+    )?;
     let room = order.size.get().min(MOST_AT_ONCE) as usize;
     let handlers = start(rt, alloc, receivers, room)?;
     let begun = Instant::now(rt)?;

@@ -22,7 +22,7 @@ pub type Handler = JoinHandle<Result<u64, Fault>>;
 pub const MOST_AT_ONCE: u64 = 1024;
 
 /// Adds up what is received, until the ring is drained.
-fn receive<O: Outlet>(mut receiver: O, mut room: Vec<Event>) -> Result<u64, Fault> {
+fn receive<O: Outlet + Drop>(mut receiver: O, mut room: Vec<Event>) -> Result<u64, Fault> {
     let mut total = 0u64;
     let mut waiting = Waiting::new(room.len() as u64);
     for _ in 0..MOST_TURNS {
@@ -96,7 +96,7 @@ fn send_for(clock: &impl Clock, sender: &mut Sender, n: u64, time: Duration) -> 
 }
 
 /// Starts a thread for each handler.
-pub fn start<O: Outlet + Drop + Send>(
+pub fn start<O: Outlet + Drop + Send + 'static>(
     rt: &impl Threads,
     alloc: Global,
     receivers: Vec<O>,

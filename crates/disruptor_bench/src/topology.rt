@@ -88,7 +88,11 @@ impl Exchange {
     pub fn paces(self) -> [Pace; 3] {
         match self {
             Exchange::Core => [Pace::Ones, Pace::Step, Pace::Claims(10)],
-            Exchange::Ring | Exchange::Senders(_) | Exchange::Lock(_) => [Pace::Ones, Pace::Claims(10), Pace::Claims(100)],
+            Exchange::Ring | Exchange::Senders(_) | Exchange::Lock(_) => [
+                Pace::Ones,
+                Pace::Claims(10),
+                Pace::Claims(100),
+            ],
         }
     }
 
