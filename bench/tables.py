@@ -60,7 +60,7 @@ def table(records, first):
 def section(title, unit, head, records):
     yield f"## {title}"
     yield ""
-    yield f"{unit} {head['machine']}, load {head['load']}; {head['manner']}; {head['date']}."
+    yield f"{unit} On {head['machine']}, load {head['load']}; {head['manner']}; {head['date']}."
     kinds = {}
     for record in records:
         kinds.setdefault(kind(record), []).append(record)
