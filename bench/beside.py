@@ -6,6 +6,7 @@
     bench/beside.py handlers           1 to 16 handlers, in a chain and side by side
     bench/beside.py claims             claims of 1 to 1000 events
     bench/beside.py producers          1 to 16 producers behind a lock
+    bench/beside.py senders            1 to 16 senders of one ring; three of them are LMAX's `sequencer`
     bench/beside.py few                two topologies on threads, for fewer processors than ends (`taskset`)
 
 The others are the rings of bench/plain/exchanges, which `rustc` builds, and LMAX's own, where `javac` and
@@ -117,6 +118,15 @@ def producers(programs):
             print_row(f"{count} | {claim}", programs, ("ours", "mutex"), f"lock{count}-unicast-b{claim}", 1024)
 
 
+def senders(programs):
+    """The ring with several senders beside LMAX's with several producers."""
+    kinds = programs.of(("ours", "lmax"))
+    print_head(["senders", "events a claim"] + kinds)
+    for count in (1, 2, 3, 4, 8, 16):
+        for claim in (1, 10, 100):
+            print_row(f"{count} | {claim}", programs, kinds, f"senders{count}-unicast-b{claim}", 1024)
+
+
 def few(programs):
     """Small and large rings, where threads may have to take turns at a processor."""
     kinds = programs.of(THREADS)
@@ -136,7 +146,7 @@ def steps(what):
 
 def main():
     parser = argparse.ArgumentParser(description=__doc__, formatter_class=argparse.RawDescriptionHelpFormatter)
-    parser.add_argument("what", choices=["table", "sizes", "handlers", "claims", "producers", "few"])
+    parser.add_argument("what", choices=["table", "sizes", "handlers", "claims", "producers", "senders", "few"])
     parser.add_argument("--program", default=PROGRAM)
     parser.add_argument("--lmax", default="/usr/share/java/disruptor.jar")
     parser.add_argument("--under", default="")
@@ -151,6 +161,8 @@ def main():
             table(programs)
         elif given.what == "producers":
             producers(programs)
+        elif given.what == "senders":
+            senders(programs)
         elif given.what == "few":
             few(programs)
         else:

@@ -24,6 +24,7 @@ FILES = {
     "handlers": ("By the number of handlers, 1024 slots, claims of one", RATES),
     "claims": ("By the events of a claim, one handler, 1024 slots", RATES),
     "producers": ("By the number of producers, behind a lock, 1024 slots", RATES),
+    "senders": ("By the number of senders of one ring, 1024 slots", RATES),
     "few": ("With two processors for all threads", RATES),
     "lengths": ("The tools, by the records of a file", "Processor seconds."),
 }

@@ -14,6 +14,7 @@ import java.util.List;
  * LMAX's own ring, to measure the exchanges against: {@code Lmax TOPOLOGY SIZE SECONDS ROUNDS} prints a
  * line as {@code disruptor_bench} does. On one thread (topologies that begin with {@code core-}) the
  * handlers are pollers; else each is a batch processor on a thread of its own that waits by yielding.
+ * {@code sendersP-} before a shape stands for P producers, each on a thread of its own too.
  */
 public final class Lmax {
     /** How many events go through between two looks at the clock, about. */
@@ -52,12 +53,14 @@ public final class Lmax {
     }
 
     private final int[][] upstreams;
+    private final int producers;
     private final long claim;
     private final boolean step;
     private final int size;
     private final long nanos;
 
-    private Lmax(String shape, String pace, int size, double seconds) {
+    private Lmax(int producers, String shape, String pace, int size, double seconds) {
+        this.producers = producers;
         this.upstreams = upstreams(shape);
         this.step = pace.equals("step");
         this.claim = pace.startsWith("b") ? Math.min(size, Long.parseLong(pace.substring(1))) : 1;
@@ -115,7 +118,7 @@ public final class Lmax {
 
     /** Rounds of laps: claims until the ring is full, or one, and then a turn for each poller. */
     private List<Round> oneThread(int rounds) throws Exception {
-        RingBuffer<Event> ring = RingBuffer.createSingleProducer(Event::new, size, new YieldingWaitStrategy());
+        RingBuffer<Event> ring = ring();
         int handlers = upstreams.length;
         PolledSum[] sums = new PolledSum[handlers];
         Sequence[] sequences = new Sequence[handlers];
@@ -154,9 +157,41 @@ public final class Lmax {
         return done;
     }
 
+    private RingBuffer<Event> ring() {
+        YieldingWaitStrategy waiting = new YieldingWaitStrategy();
+        return producers == 0
+                ? RingBuffer.createSingleProducer(Event::new, size, waiting)
+                : RingBuffer.createMultiProducer(Event::new, size, waiting);
+    }
+
+    /** Claims, as many as a stretch has, and so on until the time is over. */
+    private void sendAll(RingBuffer<Event> ring, long begun) {
+        do {
+            for (long k = 0; k < STRETCH / claim; k++) {
+                send(ring);
+            }
+        } while (System.nanoTime() - begun < nanos);
+    }
+
+    /** The only producer sends on this thread, and several of them on threads of their own. */
+    private void produce(RingBuffer<Event> ring, long begun) throws InterruptedException {
+        if (producers == 0) {
+            sendAll(ring, begun);
+            return;
+        }
+        List<Thread> threads = new ArrayList<>();
+        for (int p = 0; p < producers; p++) {
+            threads.add(new Thread(() -> sendAll(ring, begun)));
+        }
+        threads.forEach(Thread::start);
+        for (Thread thread : threads) {
+            thread.join();
+        }
+    }
+
     /** One round over a ring of its own, from the first claim until the last handler has taken all. */
     private Round threads() throws Exception {
-        RingBuffer<Event> ring = RingBuffer.createSingleProducer(Event::new, size, new YieldingWaitStrategy());
+        RingBuffer<Event> ring = ring();
         int handlers = upstreams.length;
         Sum[] sums = new Sum[handlers];
         Sequence[] sequences = new Sequence[handlers];
@@ -174,11 +209,7 @@ public final class Lmax {
         }
         threads.forEach(Thread::start);
         long begun = System.nanoTime();
-        do {
-            for (long k = 0; k < STRETCH / claim; k++) {
-                send(ring);
-            }
-        } while (System.nanoTime() - begun < nanos);
+        produce(ring, begun);
         long last = ring.getCursor();
         while (Arrays.stream(sequences).anyMatch(sequence -> sequence.get() < last)) {
             Thread.yield();
@@ -196,10 +227,15 @@ public final class Lmax {
 
     public static void main(String[] words) throws Exception {
         boolean oneThread = words[0].startsWith("core-");
-        String[] parts = (oneThread ? words[0].substring(5) : words[0]).split("-");
+        List<String> parts = new ArrayList<>(List.of(words[0].split("-")));
+        String exchange = parts.get(0);
+        int producers = exchange.startsWith("senders") ? Integer.parseInt(exchange.substring(7)) : 0;
+        if (oneThread || producers > 0) {
+            parts.remove(0);
+        }
         int rounds = Integer.parseInt(words[3]);
-        String pace = parts.length > 1 ? parts[1] : "";
-        Lmax lmax = new Lmax(parts[0], pace, Integer.parseInt(words[1]), Double.parseDouble(words[2]));
+        String pace = parts.size() > 1 ? parts.get(1) : "";
+        Lmax lmax = new Lmax(producers, parts.get(0), pace, Integer.parseInt(words[1]), Double.parseDouble(words[2]));
         List<Round> done = new ArrayList<>();
         if (oneThread) {
             done.addAll(lmax.oneThread(rounds));

@@ -1,6 +1,6 @@
 //! Why nothing is measured.
 
-use dr_core::{OpenFault, Refusal};
+use dr_core::{OpenFault, Refusal, Trouble};
 use dr_graph::GraphFault;
 use dr_ring::RingFault;
 use std::alloc::{AllocError, AllocFailed};
@@ -88,5 +88,14 @@ impl From<RingFault> for Fault {
 impl From<Refusal> for Fault {
     fn from(refusal: Refusal) -> Fault {
         Fault::Refused(refusal)
+    }
+}
+
+impl From<Trouble> for Fault {
+    fn from(trouble: Trouble) -> Fault {
+        match trouble {
+            Trouble::Refused(refusal) => Fault::Refused(refusal),
+            Trouble::Memory => Fault::Memory,
+        }
     }
 }

@@ -1,5 +1,6 @@
 //! Measures the exchanges: events a second through a core on one thread, through a ring with a thread
-//! for each end, and through a core behind a lock with a thread for each producer and each handler.
+//! for each end, of one sender or of several, and through a core behind a lock with a thread for each
+//! producer and each handler.
 //!
 //! `disruptor_bench TOPOLOGY SIZE SECONDS ROUNDS` runs a topology over a ring of SIZE slots for about
 //! SECONDS in each of ROUNDS rounds, and prints the round in the middle:
@@ -11,6 +12,7 @@ mod behind_lock;
 mod fault;
 mod measured;
 mod one_thread;
+mod senders;
 mod sum;
 #[cfg(test)]
 mod tests;
@@ -85,6 +87,19 @@ fn ring_rounds(
     Ok(rounds)
 }
 
+fn senders_rounds(
+    rt: &(impl Runtime + Threads),
+    alloc: Global,
+    order: &Order,
+    senders: u64,
+) -> Result<Vec<Round>, Fault> {
+    let mut rounds = Vec::new(alloc);
+    for _ in 0..order.rounds {
+        rounds.push(senders::round(rt, alloc, order, senders)?)?;
+    }
+    Ok(rounds)
+}
+
 fn lock_rounds(
     rt: &(impl Runtime + Threads + Wait + Sync),
     alloc: Global,
@@ -106,6 +121,7 @@ fn measure(
     let mut rounds = match order.topology.exchange {
         Exchange::Core => core_rounds(rt, alloc, &order)?,
         Exchange::Ring => ring_rounds(rt, alloc, &order)?,
+        Exchange::Senders(senders) => senders_rounds(rt, alloc, &order, senders)?,
         Exchange::Lock(producers) => lock_rounds(rt, alloc, &order, producers)?,
     };
     let median = median(&mut rounds).ok_or(Fault::Usage)?;

@@ -6,7 +6,7 @@ use crate::measured::{Measured, Round, median};
 use crate::one_thread::OneThread;
 use crate::sum::sum_of_first;
 use crate::topology::{Exchange, Pace, Shape, Topology};
-use crate::{behind_lock, threads};
+use crate::{behind_lock, senders, threads};
 use dr_seq::Size;
 use std::alloc::{AllocError, Global};
 use std::process::Abort;
@@ -57,6 +57,7 @@ fn every_name_is_read_back(rt: HostRuntime) -> Result<(), Fail> {
     for shape in Shape::ALL {
         check_names(&rt, rt.alloc(), Exchange::Core, shape)?;
         check_names(&rt, rt.alloc(), Exchange::Ring, shape)?;
+        check_names(&rt, rt.alloc(), Exchange::Senders(16), shape)?;
         check_names(&rt, rt.alloc(), Exchange::Lock(16), shape)?;
     }
     for name in [
@@ -74,6 +75,10 @@ fn every_name_is_read_back(rt: HostRuntime) -> Result<(), Fail> {
         "lock17-unicast",
         "lock2-unicast-step",
         "lock2",
+        "senders0-unicast",
+        "senders17-unicast",
+        "senders3-unicast-step",
+        "senders3",
         "Diamond",
     ] {
         assert_eq!(rt; Topology::named(name), None, "at {name}");
@@ -155,6 +160,18 @@ fn each_graph_sums_all_on_threads(rt: HostRuntime) -> Result<(), Fail> {
         let order = order(Exchange::Ring, shape, Pace::Claims(10))?;
         let round = threads::round(&rt, rt.alloc(), &order)?;
         assert_eq!(rt; round.events, 65_530);
+    }
+    Ok(())
+}
+
+#[test]
+fn each_graph_sums_all_of_several_senders(rt: HostRuntime) -> Result<(), Fail> {
+    for shape in Shape::ALL {
+        for count in [1, 3] {
+            let order = order(Exchange::Senders(count), shape, Pace::Claims(10))?;
+            let round = senders::round(&rt, rt.alloc(), &order, count)?;
+            assert_eq!(rt; round.events, 65_530 * count);
+        }
     }
     Ok(())
 }

@@ -1,12 +1,13 @@
-//! The ring's rounds: the producer and each handler on a thread of its own.
+//! The ring's rounds: the producer and each handler on a thread of its own. What sends and what
+//! handles goes over the ends of any exchange.
 
 use crate::arguments::Order;
 use crate::fault::Fault;
 use crate::measured::Round;
 use crate::sum::{event_at, sum_of_first};
 use crate::{MOST_TURNS, STRETCH};
-use dr_core::{Claimed, MAX_LIMIT, Polled, Refusal};
-use dr_ring::{Receiver, Sender, ring};
+use dr_core::{Claimed, Inlet, MAX_LIMIT, Outlet, Polled, Refusal, Trouble};
+use dr_ring::{Sender, ring};
 use dr_seq::Event;
 use dr_shared::Waiting;
 use std::alloc::Global;
@@ -15,13 +16,13 @@ use std::thread::{self, JoinHandle, Threads};
 use std::time::{Duration, Instant};
 
 /// The sum that a handler's thread added up.
-type Handler = JoinHandle<Result<u64, Fault>>;
+pub type Handler = JoinHandle<Result<u64, Fault>>;
 
 /// The most events that a handler takes at once.
-const MOST_AT_ONCE: u64 = 1024;
+pub const MOST_AT_ONCE: u64 = 1024;
 
 /// Adds up what is received, until the ring is drained.
-fn receive(mut receiver: Receiver, mut room: Vec<Event>) -> Result<u64, Fault> {
+fn receive<O: Outlet + Drop>(mut receiver: O, mut room: Vec<Event>) -> Result<u64, Fault> {
     let mut total = 0u64;
     let mut waiting = Waiting::new(room.len() as u64);
     for _ in 0..MOST_TURNS {
@@ -48,13 +49,13 @@ fn sum_of(room: &[Event], count: u64) -> u64 {
 }
 
 /// Claims once there is room.
-fn claim(sender: &mut Sender, n: u64) -> Result<Claimed, Fault> {
+fn claim<I: Inlet>(sender: &mut I, n: u64) -> Result<Claimed, Fault> {
     let mut waiting = Waiting::new(n);
     for _ in 0..MOST_TURNS {
         match sender.try_claim(n) {
             Ok(claimed) => return Ok(claimed),
-            Err(Refusal::NoRoom) => waiting.wait(),
-            Err(refusal) => return Err(refusal.into()),
+            Err(Trouble::Refused(Refusal::NoRoom)) => waiting.wait(),
+            Err(trouble) => return Err(trouble.into()),
         }
     }
     Err(Fault::NoEnd)
@@ -62,7 +63,7 @@ fn claim(sender: &mut Sender, n: u64) -> Result<Claimed, Fault> {
 
 /// Claims, writes and publishes once.
 #[inline]
-fn send(sender: &mut Sender, n: u64) -> Result<(), Fault> {
+fn send<I: Inlet>(sender: &mut I, n: u64) -> Result<(), Fault> {
     let claimed = claim(sender, n)?;
     for k in 0..n {
         let s = claimed.lo.wrapping_add(k);
@@ -72,7 +73,7 @@ fn send(sender: &mut Sender, n: u64) -> Result<(), Fault> {
 }
 
 /// Sends a stretch of events, and answers how many there were.
-fn stretch(sender: &mut Sender, n: u64) -> Result<u64, Fault> {
+pub fn stretch<I: Inlet>(sender: &mut I, n: u64) -> Result<u64, Fault> {
     let claims = STRETCH.checked_div(n).unwrap_or(1);
     for _ in 0..claims {
         send(sender, n)?;
@@ -94,10 +95,11 @@ fn send_for(clock: &impl Clock, sender: &mut Sender, n: u64, time: Duration) -> 
     Err(Fault::NoEnd)
 }
 
-fn start(
+/// Starts a thread for each handler.
+pub fn start<O: Outlet + Drop + Send + 'static>(
     rt: &impl Threads,
     alloc: Global,
-    receivers: Vec<Receiver>,
+    receivers: Vec<O>,
     room: usize,
 ) -> Result<Vec<Handler>, Fault> {
     let mut handlers = Vec::new(alloc);
@@ -112,7 +114,7 @@ fn start(
 }
 
 /// Waits until all handlers are told that the ring drained, and checks what they added up.
-fn finish(rt: &impl Threads, handlers: Vec<Handler>, events: u64) -> Result<(), Fault> {
+pub fn finish(rt: &impl Threads, handlers: Vec<Handler>, events: u64) -> Result<(), Fault> {
     let total = sum_of_first(events);
     for handler in handlers {
         if handler.join(rt)? != total {

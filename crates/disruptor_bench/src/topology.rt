@@ -11,6 +11,8 @@ pub enum Exchange {
     Core,
     /// The ring over atomic words, with a thread for each end.
     Ring,
+    /// The ring with so many senders, and a thread for each end.
+    Senders(u64),
     /// The core behind a lock, with so many producers, and a thread for each of them and for each handler.
     Lock(u64),
 }
@@ -59,7 +61,7 @@ pub struct Topology {
     pub pace: Pace,
 }
 
-/// The most producers behind the lock.
+/// The most producers of an exchange.
 const MOST_PRODUCERS: u64 = 16;
 
 impl Exchange {
@@ -71,20 +73,26 @@ impl Exchange {
         if let Some(rest) = name.strip_prefix("core-") {
             return Some((Exchange::Core, rest));
         }
-        match name.strip_prefix("lock") {
-            Some(rest) => {
-                let (producers, rest) = rest.split_once('-')?;
-                Some((Exchange::Lock(count_of(producers, MOST_PRODUCERS)?), rest))
-            }
-            None => Some((Exchange::Ring, name)),
+        if let Some(rest) = name.strip_prefix("lock") {
+            let (producers, rest) = producers_before(rest)?;
+            return Some((Exchange::Lock(producers), rest));
         }
+        if let Some(rest) = name.strip_prefix("senders") {
+            let (senders, rest) = producers_before(rest)?;
+            return Some((Exchange::Senders(senders), rest));
+        }
+        Some((Exchange::Ring, name))
     }
 
     /// How a producer sends to it in the measurements that are listed.
     pub fn paces(self) -> [Pace; 3] {
         match self {
             Exchange::Core => [Pace::Ones, Pace::Step, Pace::Claims(10)],
-            Exchange::Ring | Exchange::Lock(_) => [Pace::Ones, Pace::Claims(10), Pace::Claims(100)],
+            Exchange::Ring | Exchange::Senders(_) | Exchange::Lock(_) => [
+                Pace::Ones,
+                Pace::Claims(10),
+                Pace::Claims(100),
+            ],
         }
     }
 
@@ -99,6 +107,7 @@ impl fmt::Display for Exchange {
         f.write_str(match self {
             Exchange::Core => "core",
             Exchange::Ring => "ring",
+            Exchange::Senders(_) => "senders",
             Exchange::Lock(_) => "lock",
         })
     }
@@ -111,6 +120,12 @@ fn count_of(word: &str, most: u64) -> Option<u64> {
         return None;
     }
     Some(count)
+}
+
+/// A count of producers and, after a dash, the rest of a name.
+fn producers_before(name: &str) -> Option<(u64, &str)> {
+    let (producers, rest) = name.split_once('-')?;
+    Some((count_of(producers, MOST_PRODUCERS)?, rest))
 }
 
 fn handlers_of(word: &str) -> Option<usize> {
@@ -243,6 +258,7 @@ impl fmt::Display for Topology {
         match self.exchange {
             Exchange::Core => f.write_str("core-")?,
             Exchange::Ring => {}
+            Exchange::Senders(senders) => write!(f, "senders{senders}-")?,
             Exchange::Lock(producers) => write!(f, "lock{producers}-")?,
         }
         let shape = self.shape;

@@ -3,7 +3,7 @@
 ghost use Rattle.std.specs.Prelude.{◌≡◌, ◌+◌, ◌++◌, [], false, IfOk, OnOk, nat_lt, not, string_bytes};
 ghost use Rattle.std.specs.BTreeMap.{IsOrdered};
 ghost use Rattle.std.specs.Ordering.{nat_cmp};
-ghost use Rattle.dr_accounts.specs.Handlers.{Booked, IsBusinessOf, Moved, Puts, account_lines, added, balance_in, business_text, kept, refused_in, taken};
+ghost use Rattle.dr_accounts.specs.Handlers.{Booked, IsBusinessOf, Moved, Puts, account_lines, added, balance_in, business_text, kept, taken};
 ghost use Rattle.dr_accounts.specs.Report.{account_line};
 
 use crate::operation::{Movement, Operation};
@@ -19,6 +19,12 @@ pub struct Account {
     /// How many movements asked for more than the balance.
     pub refused: u64,
 }
+
+/// An account that no movement has changed.
+const EMPTY: Account = Account {
+    balance: 0,
+    refused: 0,
+};
 
 /// A handler that keeps the balance of each account that an event names. Once it finds no memory it
 /// has failed, and takes no more.
@@ -49,38 +55,18 @@ impl Business {
         self.failed
     }
 
-    // The account with a number: one of nothing, where no event named it yet.
-    fn account(&self, number: u16) -> Account
-        ensures balance { result.balance ≡ balance_in (kept self.now number) }
-        ensures refused { result.refused ≡ refused_in (kept self.now number) }
-    {
-        match self.accounts.get(&number) {
-            Some(account) => *account,
-            None => Account {
-                balance: 0,
-                refused: 0,
-            },
-        }
-    }
-
-    fn put(&mut self, number: u16, account: Account) -> Result<(), AllocError>
-        ensures put { OnOk result (Puts number account self.old self.new) }
-        ensures count { self.new.count ≡ self.old.count }
-        ensures failed { self.new.failed ≡ self.old.failed }
-    {
-        self.accounts.insert(number, account)?;
-        Ok(())
-    }
-
     // Adds an amount to an account, which is thereby named.
     fn add(&mut self, number: u16, amount: u64) -> Result<(), AllocError>
         ensures put { OnOk result (Puts number (added (kept self.old number) amount) self.old self.new) }
         ensures count { self.new.count ≡ self.old.count }
         ensures failed { self.new.failed ≡ self.old.failed }
     {
-        let Account { balance, refused } = self.account(number);
-        let balance = balance.checked_add(amount as u128).ok_or(AllocError)?;
-        self.put(number, Account { balance, refused })
+        let account = self.accounts.entry(number)?.or_insert(EMPTY);
+        account.balance = account
+            .balance
+            .checked_add(amount as u128)
+            .ok_or(AllocError)?;
+        Ok(())
     }
 
     // Takes an amount from an account, where that has so much; else counts a refusal. Says whether
@@ -91,14 +77,12 @@ impl Business {
         ensures count { self.new.count ≡ self.old.count }
         ensures failed { self.new.failed ≡ self.old.failed }
     {
-        let Account { balance, refused } = self.account(number);
-        if balance < amount as u128 {
-            let refused = refused.checked_add(1).ok_or(AllocError)?;
-            self.put(number, Account { balance, refused })?;
+        let account = self.accounts.entry(number)?.or_insert(EMPTY);
+        if account.balance < amount as u128 {
+            account.refused = account.refused.checked_add(1).ok_or(AllocError)?;
             return Ok(false);
         }
-        let balance = balance - amount as u128;
-        self.put(number, Account { balance, refused })?;
+        account.balance -= amount as u128;
         Ok(true)
     }
 

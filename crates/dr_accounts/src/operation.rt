@@ -4,7 +4,6 @@ ghost use Rattle.std.specs.Prelude.{◌≡◌};
 ghost use Rattle.dr_accounts.specs.Operations.{IsOperation, event_for as event_in, operation_of as operation_in};
 
 use dr_seq::Event;
-use std::fmt;
 
 /// What is done to accounts.
 #[derive(Clone, Copy, Debug, PartialEq, Eq)]
@@ -89,35 +88,5 @@ impl Operation {
             },
         };
         Operation { producer, movement }
-    }
-}
-
-/// The movement's part of a record of the event file.
-impl fmt::Display for Movement {
-    ghost use Rattle.std.specs.Prelude.{Some};
-    ghost use Rattle.dr_accounts.specs.Operations.{movement_text};
-
-    ghost output = { λ movement. Some (movement_text movement) };
-
-    fn fmt<W: fmt::Write>(&self, f: &mut fmt::Formatter<W>) -> fmt::Result {
-        match self {
-            Movement::Deposit { account, amount } => write!(f, "deposit,{account},{amount}"),
-            Movement::Withdraw { account, amount } => write!(f, "withdraw,{account},{amount}"),
-            Movement::Transfer { from, to, amount } => write!(f, "transfer,{from},{to},{amount}"),
-        }
-    }
-}
-
-/// The record of the event file.
-impl fmt::Display for Operation {
-    ghost use Rattle.std.specs.Prelude.{Some};
-    ghost use Rattle.dr_accounts.specs.Operations.{operation_text};
-
-    ghost output = { λ operation. Some (operation_text operation) };
-
-    fn fmt<W: fmt::Write>(&self, f: &mut fmt::Formatter<W>) -> fmt::Result {
-        let producer = self.producer;
-        let movement = self.movement;
-        write!(f, "{producer},{movement}")
     }
 }

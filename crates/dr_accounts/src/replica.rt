@@ -7,6 +7,7 @@ ghost use Rattle.dr_accounts.specs.Report.{hexadecimal, replica_line};
 use crate::operation::{Movement, Operation};
 use dr_core::Handler;
 use dr_seq::Event;
+use hex::encode_to_slice;
 use std::alloc::{AllocError, Global};
 
 /// A handler that writes the words of each event. Once it finds no memory it has failed, and takes
@@ -66,7 +67,14 @@ impl Replica {
 fn push_word(line: &mut String, word: u64) -> Result<(), AllocError>
     ensures { OnOk result (string_bytes line.new ≡ string_bytes line.old ++ hexadecimal word) }
 {
-    write!(line, "{word:016x}")
+    let mut digits = [b'0'; 16];
+    let Ok(()) = encode_to_slice(word.to_be_bytes(), &mut digits) else {
+        unreachable!();
+    };
+    let Ok(text) = str::from_utf8(&digits) else {
+        unreachable!();
+    };
+    line.push_str(text)
 }
 
 impl Handler for Replica {

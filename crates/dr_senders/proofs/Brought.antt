@@ -1,0 +1,22 @@
+-- What a sender's sequence has come to, once it is brought further.
+use Rattle.std.proofs.Common.{◌≡◌, ℕ, zero, suc, ◌==◌, if◌then◌else◌, Bool, true, List, [], ◌∷◌, map, sym, refl, ap, ◌∙◌}
+use Rattle.std.proofs.lemmas.Bool.{eq-eqb}
+use mathlib.Core.Option.{some, some-injective, some-ne-none}
+use lib.ListN.{get_elem?}
+use Rattle.dr_senders.specs.declared.record.Stage.{Stage}
+use Rattle.dr_senders.specs.declared.record.Own.{Own}
+use Rattle.dr_senders.specs.declared.record.SenderRecord.{SenderRecord}
+use Rattle.dr_senders.specs.Meaning.Records.{Owns, own_after, brought}
+
+pub map_there : {A B : Type 0} (f : A → B) (l : List A) (i : ℕ) (a : A) → get_elem? l i ≡ some a → get_elem? (map f l) i ≡ some (f a)
+map_there f [] i a at = absurd (some-ne-none a (sym at))
+map_there f (x ∷ xs) zero a at = ap (λ y. some (f y)) (some-injective x a at)
+map_there f (x ∷ xs) (suc i) a at = map_there f xs i a at
+
+own_is : (s : ℕ) (t : Stage) (further : Stage → Stage) (b : Bool) → (s == s) ≡ b
+    → (if b then record { sequence = s; stage = further t } else record { sequence = s; stage = t }) ≡ own_after s further record { sequence = s; stage = t }
+own_is s t further b is = let o : Own = record { sequence = s; stage = t } in ap (λ (c : Bool). if c then record o { stage = further t } else o) (sym is)
+
+pub own_brought : (r : SenderRecord) (s : ℕ) (t : Stage) (further : Stage → Stage) → Owns r s t → Owns (brought r s further) s (further t)
+own_brought r s t further own = let o : Own = record { sequence = s; stage = t } in
+    (own.0, map_there (own_after s further) r.own own.0 o own.1 ∙ ap (λ (x : Own). some x) (sym (own_is s t further true (eq-eqb s s refl))))

@@ -1,0 +1,133 @@
+-- What a round of looks at the upstreams' counts comes to.
+use Rattle.std.proofs.Common.{◌≡◌, ◌≢◌, ℕ, zero, suc, ◌+◌, ◌<◌, ◌≤◌, inl, inr, Bool, true, false, ◌==◌, ◌⊎◌, min, List, [], ◌∷◌, ◌++◌, length, get_or, take}
+use Rattle.std.proofs.Common.{sym, refl, ap, ◌∙◌, subst, arith, append_assoc}
+use Rattle.std.specs.Prelude.{Contains}
+use Rattle.std.proofs.lemmas.Bool.{cases_lt, ne_eqb, lt-ltb, le-ltb}
+use Rattle.std.proofs.lemmas.List.{length-append, append-nil, get_or_append_left}
+use Rattle.dr_graph.specs.Meaning.Graph.{least_of}
+use Rattle.dr_ring.specs.declared.record.Look.{Look}
+use Rattle.dr_ring.specs.Meaning.Records.{look, last_look}
+use Rattle.dr_ring.proofs.Lists.{last_look_more}
+use Rattle.dr_senders.specs.Meaning.Shape.{Shape}
+use Rattle.dr_senders.specs.Meaning.Words.{count_word}
+use Rattle.dr_senders.specs.declared.record.ReceiverRecord.{ReceiverRecord}
+use Rattle.dr_senders.specs.Meaning.Records.{receiver_looked}
+use Rattle.dr_senders.specs.Calls.Ends.{count_looks}
+use Rattle.dr_senders.specs.Calls.Receiving.{ups_of, offered_by}
+use Rattle.dr_senders.specs.Inside.Parts.{lesser_of, receiver_saw, LooksAtUpstreams}
+use Rattle.dr_senders.proofs.Scanning.{looks_more, last_least, last_number, get_any, no_looks_at}
+
+-- the counts of the first i upstreams were looked at
+least_more : (counts : List ℕ) (v : ℕ) → 0 < length counts → least_of (counts ++ v ∷ []) ≡ min (least_of counts) v
+least_more [] v lt = absurd (omega arith)
+least_more (n ∷ []) v lt = refl
+least_more (n ∷ m ∷ ms) v lt = let e : least_of ((m ∷ ms) ++ v ∷ []) ≡ min (least_of (m ∷ ms)) v = least_more (m ∷ ms) v (omega arith) in omega arith
+
+pub record Round (ups : List ℕ) (r : ReceiverRecord) (cursor available i : ℕ) (s : ReceiverRecord) : Type 0 where
+  pub counts : List ℕ
+  pub each : length counts ≡ i
+  pub is : s ≡ receiver_saw r (count_looks (take i ups) counts)
+  pub offered : available ≡ offered_by cursor counts
+  pub taken : length r.received ≤ available
+  pub found : 0 < i → Contains counts available
+  pub high : (j : ℕ) → j < i → available ≤ last_look 0 (r.looks ++ count_looks (take i ups) counts) (count_word (get_or ups j 0))
+  pub told : r.told ≡ true → 0 < i → available ≤ length r.received
+
+pub round_none : (ups : List ℕ) (r : ReceiverRecord) (cursor : ℕ) → length r.received ≤ cursor → Round ups r cursor cursor 0 r
+round_none ups r cursor le = record {
+  counts = [];
+  each = refl;
+  is = ap (λ (ys : List Look). record r { looks = ys }) (sym (append-nil r.looks))
+      ∙ ap (λ (ys : List Look). receiver_saw r ys) (sym (no_looks_at (take 0 ups)));
+  offered = refl;
+  taken = le;
+  found = λ lt. absurd (omega arith);
+  high = λ j lt. absurd (omega arith);
+  told = λ y lt. absurd (omega arith);
+}
+
+-- what a list of counts offers, once one more is seen
+offers_more : (cursor v available available' : ℕ) (counts : List ℕ) (first : Bool) → first ≡ (length counts == 0)
+    → available ≡ offered_by cursor counts → available' ≡ lesser_of first v available
+    → (available' ≡ offered_by cursor (counts ++ v ∷ [])) × (available' ≤ v) × (0 < length counts → available' ≤ available)
+    × ((available' ≡ v) ⊎ ((0 < length counts) × (available' ≡ available)))
+offers_more cursor v available available' [] first start offered new =
+    let e : available' ≡ v = new ∙ rw (start) refl in (e, omega arith, (λ lt. absurd (omega arith)), inl e)
+offers_more cursor v available available' (n ∷ counts) first start offered new =
+    let least : least_of ((n ∷ counts) ++ v ∷ []) ≡ min (least_of (n ∷ counts)) v = least_more (n ∷ counts) v (omega arith) in
+    let first_no : first ≡ false = start ∙ ne_eqb (length (n ∷ counts)) 0 (λ (z : length (n ∷ counts) ≡ 0). omega arith) in
+    elim (cases_lt v available) [
+      | inl lt ↦ (let e : available' ≡ v = new ∙ rw (first_no, lt-ltb v available lt) refl in (omega arith, omega arith, (λ _. omega arith), inl e))
+      | inr ge ↦ (let e : available' ≡ available = new ∙ rw (first_no, le-ltb v available ge) refl in
+          (omega arith, omega arith, (λ _. omega arith), inr (omega arith, e)))
+    ]
+
+contains_more : (xs : List ℕ) (x v : ℕ) → Contains xs x → Contains (xs ++ v ∷ []) x
+contains_more xs x v has = (has.0, (let l = has.1 in omega (arith, length-append xs (v ∷ []))), get_or_append_left xs (v ∷ []) x has.0 has.1 ∙ has.2)
+
+contains_last : (xs : List ℕ) (x : ℕ) → Contains (xs ++ x ∷ []) x
+contains_last xs x = (length xs, omega (arith, length-append xs (x ∷ [])), last_number xs x x)
+
+pub round_more : (ups : List ℕ) (r s s' : ReceiverRecord) (cursor available available' i u v : ℕ) → Round ups r cursor available i s → i < length ups
+    → get_or ups i 0 ≡ u → s' ≡ receiver_looked s (count_word u) v → length s.received ≤ v → (s.told ≡ true → v ≤ length s.received)
+    → available' ≡ lesser_of (i == 0) v available → Round ups r cursor available' (i + 1) s'
+round_more ups r s s' cursor available available' i u v R lt at is le told new =
+    let xs = count_looks (take i ups) R.counts in let len = R.each in
+    let next : count_looks (take (i + 1) ups) (R.counts ++ v ∷ []) ≡ xs ++ look (count_word u) v ∷ [] =
+    looks_more ups R.counts i v R.each lt ∙ ap (λ (w : ℕ). xs ++ look (count_word w) v ∷ []) at in
+    let offer = offers_more cursor v available available' R.counts (i == 0) (ap (λ (m : ℕ). m == 0) (sym len)) R.offered new in
+    let low = offer.1 in let down = offer.2 in
+    let received : length r.received ≤ v = subst (λ (q : ReceiverRecord). length q.received ≤ v) R.is le in
+    let told_low : r.told ≡ true → v ≤ length r.received = subst (λ (q : ReceiverRecord). q.told ≡ true → v ≤ length q.received) R.is told in
+    let P : List Look → ℕ → Type 0 = λ ys w. available' ≤ last_look 0 ys w in record {
+      counts = R.counts ++ v ∷ [];
+      each = omega (arith, length-append R.counts (v ∷ []));
+      is = is ∙ ap (λ (q : ReceiverRecord). receiver_looked q (count_word u) v) R.is
+          ∙ ap (λ (ys : List Look). record r { looks = ys }) (append_assoc r.looks xs (look (count_word u) v ∷ [])) ∙ ap (receiver_saw r) (sym next);
+      offered = offer.0;
+      taken = elim offer.3 [ inl this ↦ omega arith | inr old ↦ (let e = old.1 in let t = R.taken in omega arith) ];
+      found = λ _. elim offer.3 [
+        | inl this ↦ subst (λ (m : ℕ). Contains (R.counts ++ v ∷ []) m) (sym this) (contains_last R.counts v)
+        | inr old ↦ subst (λ (m : ℕ). Contains (R.counts ++ v ∷ []) m) (sym old.1) (contains_more R.counts available v (R.found (let z = old.0 in omega arith)))
+      ];
+      high = λ j below. subst (λ (ys : List Look). P (r.looks ++ ys) (count_word (get_or ups j 0))) (sym next)
+          (subst (λ (ys : List Look). P ys (count_word (get_or ups j 0))) (append_assoc r.looks xs (look (count_word u) v ∷ []))
+          (elim (cases_lt j i) [
+            | inl before ↦ (let a = R.high j before in
+                let b = down (omega arith) in last_least 0 (r.looks ++ xs) (count_word u) v (count_word (get_or ups j 0)) available' (omega arith) low)
+            | inr here ↦ (let same : j ≡ i = omega arith in
+                let w : count_word (get_or ups j 0) ≡ count_word u = ap (λ (m : ℕ). count_word (get_or ups m 0)) same ∙ ap count_word at in
+                let b : last_look 0 ((r.looks ++ xs) ++ look (count_word u) v ∷ []) (count_word (get_or ups j 0)) ≡ v =
+                ap (λ (m : ℕ). last_look 0 ((r.looks ++ xs) ++ look (count_word u) v ∷ []) m) w ∙ last_look_more 0 (r.looks ++ xs) (count_word u) v in
+                omega arith)
+          ]));
+      told = λ y _. (let a = told_low y in omega arith);
+    }
+
+take_whole : (xs : List ℕ) (n : ℕ) → n ≡ length xs → take n xs ≡ xs
+take_whole [] zero e = refl
+take_whole [] (suc n) e = absurd (omega arith)
+take_whole (x ∷ xs) zero e = absurd (omega arith)
+take_whole (x ∷ xs) (suc n) e = ap (λ (ys : List ℕ). x ∷ ys) (take_whole xs n (omega arith))
+
+no_elements : (xs : List ℕ) → length xs ≡ 0 → xs ≡ []
+no_elements [] e = refl
+no_elements (x ∷ xs) e = absurd (omega arith)
+
+pub round_all : (k : Shape) (r s : ReceiverRecord) (cursor available i : ℕ) → Round (ups_of k r) r cursor available i s → i ≡ length (ups_of k r)
+    → LooksAtUpstreams k r cursor s available
+round_all k r s cursor available i R all =
+    let ups = ups_of k r in let whole : take i ups ≡ ups = take_whole ups i all in
+    let some_one : ups ≢ [] → 0 < i = λ ne. (elim (cases_lt 0 i) [ inl lt ↦ lt | inr le ↦ absurd (ne (no_elements ups (omega arith))) ]) in record {
+      counts = R.counts;
+      each = R.each ∙ all;
+      is = R.is ∙ ap (λ (xs : List ℕ). receiver_saw r (count_looks xs R.counts)) whole;
+      offered = R.offered;
+      taken = R.taken;
+      found = λ ne. R.found (some_one ne);
+      completed = λ u has. (let lt = has.1 in let at : get_or ups has.0 0 ≡ u = get_any ups has.0 0 u has.1 ∙ has.2 in
+          subst (λ (m : ℕ). available ≤ last_look 0 (r.looks ++ count_looks ups R.counts) (count_word m)) at
+          (subst (λ (xs : List ℕ). available ≤ last_look 0 (r.looks ++ count_looks xs R.counts) (count_word (get_or ups has.0 0))) whole
+          (R.high has.0 (omega arith))));
+      told = λ y ne. R.told y (some_one ne);
+    }

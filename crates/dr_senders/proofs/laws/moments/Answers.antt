@@ -1,0 +1,57 @@
+use Rattle.std.proofs.Common.{◌≡◌, ℕ, inl, inr, true, length, refl, sym, ap, ◌∙◌, subst}
+use Rattle.std.specs.Prelude.{List}
+use Rattle.std.proofs.lemmas.Bool.{cases_lt}
+use Rattle.std.proofs.lemmas.List.{get_or_past}
+use Rattle.dr_ring.proofs.Lists.{there, value_at}
+use Rattle.dr_core.specs.Meaning.Machine.{State}
+use Rattle.dr_core.specs.Meaning.Transcript.{Transcript, LeadsFrom, LeadsTo}
+use Rattle.dr_senders.specs.Meaning.Shape.{Shape, IsShape, ring_setup}
+use Rattle.dr_senders.specs.declared.record.Stage.{Stage}
+use Rattle.dr_senders.specs.Meaning.Records.{fresh_stage}
+use Rattle.dr_senders.specs.Meaning.Rule.{World, IsOut}
+use Rattle.dr_senders.specs.declared.record.Step.{Step}
+use Rattle.dr_senders.specs.Meaning.Moments.{Runs, new_world, stage_at, picture_of}
+use Rattle.dr_senders.proofs.Pictures.{keeps_runs, lead_runs}
+use Rattle.dr_senders.proofs.Beginning.{kept_new_world, opens}
+use Rattle.dr_senders.proofs.Halting.{halted_runs}
+use Rattle.dr_senders.proofs.Shutting.{refused_by_mark}
+use Rattle.dr_senders.proofs.laws.moments.Goals as goal
+
+leads : (k : Shape) (steps : List Step) (entries : Transcript) (w : World) → IsShape k → Runs k steps entries (new_world k) w
+    → LeadsTo (ring_setup k) entries (picture_of k w)
+leads k steps entries w shape runs =
+    subst (λ (m : State). LeadsFrom (ring_setup k) m entries (picture_of k w)) (opens k)
+    (lead_runs k steps entries (new_world k) w runs (kept_new_world k shape))
+
+pub returns-clause-rule : goal.returns-clause-rule
+returns-clause-rule c k steps entries w shape runs = keeps_runs k steps entries (new_world k) w runs (kept_new_world k shape)
+
+pub returns-clause-leads : goal.returns-clause-leads
+returns-clause-leads c = leads
+
+pub returns-clause-laws : goal.returns-clause-laws
+returns-clause-laws c k steps entries w shape runs =
+    c.every_transcript_is_lawful.ensures (ring_setup k) entries (picture_of k w) (leads k steps entries w shape runs)
+
+pub returns-clause-halted : goal.returns-clause-halted
+returns-clause-halted c k steps more entries rest w u shape runs on halted =
+    (halted_runs k more rest w u (length w.stages) on (keeps_runs k steps entries (new_world k) w runs (kept_new_world k shape)) (halted, refl)).1
+
+-- a published sequence, as the picture has it and as the rule says it
+published_at : (stages : List Stage) (s : ℕ) → IsOut stages s → (stage_at stages s).published ≡ true
+published_at stages s x = ap (λ (t : Stage). t.published) (value_at stages s x.0 (fresh_stage 0) x.1) ∙ x.2
+
+out_at : (stages : List Stage) (s : ℕ) → (stage_at stages s).published ≡ true → IsOut stages s
+out_at stages s shown = elim (cases_lt s (length stages)) [
+  | inl inside ↦ (let x = there stages s inside in (x.0, x.1, ap (λ (t : Stage). t.published) (sym (value_at stages s x.0 (fresh_stage 0) x.1)) ∙ shown))
+  | inr past ↦ absurd (let none = ap (λ (t : Stage). t.published) (get_or_past stages s (fresh_stage 0) past) in cc)
+]
+
+pub returns-clause-marks : goal.returns-clause-marks
+returns-clause-marks c k steps entries w shape runs s =
+    let K = keeps_runs k steps entries (new_world k) w runs (kept_new_world k shape) in
+    ((λ shown. K.marked s (out_at w.stages s shown)), (λ le. published_at w.stages s (K.marks s le)))
+
+pub returns-clause-refused : goal.returns-clause-refused
+returns-clause-refused c k steps entries w shape runs p s event who shut =
+    refused_by_mark k w p s event (keeps_runs k steps entries (new_world k) w runs (kept_new_world k shape)) who shut

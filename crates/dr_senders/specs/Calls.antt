@@ -1,0 +1,9 @@
+-- What public contracts cite: what an end is, and what its calls answer and leave.
+pub mod Plans
+pub mod Ends
+pub mod ClaimFault
+pub mod Sending
+pub mod Writing
+pub mod Receiving
+pub mod Making
+pub mod Settling

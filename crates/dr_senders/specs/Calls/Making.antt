@@ -1,0 +1,24 @@
+-- How the ends of a new ring begin.
+use Rattle.std.specs.Prelude.{◌≡◌, ℕ, if◌then◌else◌, List, [], map}
+use Rattle.atomic_table.specs.Seated.{TableId}
+use Rattle.dr_core.specs.declared.mode.Mode.TheVariants.{Multi}
+use Rattle.dr_core.specs.declared.open_fault.OpenFault.{OpenFault}
+use Rattle.dr_core.specs.declared.open_fault.OpenFault.TheVariants.{BadProducers, BadLimit, NoMemory}
+use Rattle.dr_core.specs.Calls.OpenFault.{has_bad_producers, is_bad_limit}
+use Rattle.dr_senders.specs.Meaning.Shape.{Shape, handlers_of}
+use Rattle.dr_senders.specs.Meaning.Moments.{fresh_senders, fresh_receivers}
+use Rattle.dr_senders.specs.Calls.Ends.{EndOf, SenderEnd, ReceiverEnd, HalterEnd}
+
+-- an end of a new ring, which has stored nothing
+abbrev pub at_ring : {K : Type 0} → TableId → Shape → K → EndOf K
+at_ring ring k knows = record { ring = ring; plan = k; knows = knows; past = []; stored = [] }
+
+-- the ends of a new ring: nothing is claimed, received or halted, no end has stored anything, senders stand by their numbers, and receivers in the graph's order
+pub record AreFreshEnds (k : Shape) (ss : List SenderEnd) (rs : List ReceiverEnd) (t : HalterEnd) : Type 0 where
+  pub senders : ss ≡ map (at_ring t.ring k) (fresh_senders 0 k.senders)
+  pub receivers : rs ≡ map (at_ring t.ring k) (fresh_receivers 0 (handlers_of k))
+  pub halter : t ≡ at_ring t.ring k record { looks = [] }
+
+-- why a ring is refused: its number of senders, its limit, or that memory ran out
+abbrev pub fault_of : ℕ → ℕ → OpenFault
+fault_of senders limit = if has_bad_producers (Multi senders) then BadProducers else if is_bad_limit limit then BadLimit else NoMemory

@@ -1,0 +1,98 @@
+-- What a sender's claim answers, and what it leaves of what the sender knows.
+use Rattle.std.specs.Prelude.{◌≡◌, ◌≢◌, ℕ, ◌+◌, ◌-◌, ◌^◌, ◌<◌, ◌≤◌, ◌⊎◌, true, false, List, [], ◌∷◌, ◌++◌, length, slice_index, Result, Ok, Err}
+use Rattle.dr_core.specs.declared.refusal.Refusal.TheVariants.{NoRoom, Halted, BadCount, Exhausted}
+use Rattle.dr_core.specs.declared.command.Claimed.{Claimed}
+use Rattle.dr_core.specs.declared.ends.Trouble.{Trouble}
+use Rattle.dr_core.specs.declared.ends.Trouble.TheVariants.{Refused as IsRefused, Memory}
+use Rattle.dr_graph.specs.Meaning.Graph.{finals}
+use Rattle.dr_ring.specs.declared.record.Look.{Look}
+use Rattle.dr_ring.specs.Meaning.Records.{look}
+use Rattle.dr_senders.specs.Meaning.Shape.{Shape}
+use Rattle.dr_senders.specs.Meaning.Words.{claim_word, is_halted}
+use Rattle.dr_senders.specs.Meaning.Records.{fresh_own}
+use Rattle.dr_senders.specs.declared.record.SenderRecord.{SenderRecord}
+use Rattle.dr_senders.specs.declared.record.Step.{Step}
+use Rattle.dr_senders.specs.declared.record.Step.TheVariants.{SenderClaims}
+use Rattle.dr_senders.specs.declared.claiming.ClaimFault.{ClaimFault}
+use Rattle.dr_senders.specs.declared.claiming.ClaimFault.TheVariants.{Refused, Contended}
+use Rattle.dr_senders.specs.Calls.Ends.{SenderEnd, Stays, count_looks}
+
+-- a claim looks at the finals' counts in rising order
+abbrev pub gate_looks : Shape → List ℕ → List Look
+gate_looks k counts = count_looks (finals k.upstreams) counts
+
+-- a count leaves room for n from c on
+abbrev pub LeavesRoom : Shape → ℕ → ℕ → ℕ → Type 0
+LeavesRoom k c n count = c + n ≤ k.size + count
+
+-- there is room for n from c on: within the limit, and the sender looked at each final, and each leaves room
+pub record FoundRoom (k : Shape) (c n : ℕ) (counts : List ℕ) : Type 0 where
+  pub going : is_halted c ≡ false
+  pub limit : c + n ≤ k.limit
+  pub all : length counts ≡ length (finals k.upstreams)
+  pub room : (i : ℕ) → i < length counts → LeavesRoom k c n (slice_index counts i)
+
+-- there is none: the last count at which the sender looked is the first that leaves no room
+pub record FoundNoRoom (k : Shape) (c n : ℕ) (counts : List ℕ) : Type 0 where
+  pub going : is_halted c ≡ false
+  pub limit : c + n ≤ k.limit
+  pub before : ℕ
+  pub last : length counts ≡ before + 1
+  pub among : length counts ≤ length (finals k.upstreams)
+  pub room : (i : ℕ) → i < before → LeavesRoom k c n (slice_index counts i)
+  pub behind : k.size + slice_index counts before < c + n
+
+-- a claim is of some sequences, at most as many as there are slots
+abbrev pub IsCount : Shape → ℕ → Type 0
+IsCount k n = (0 < n) × (n ≤ k.size)
+
+-- a bad count is refused before all else
+abbrev pub Counts : Shape → ℕ → Result Claimed ClaimFault → Type 0
+Counts k n (Err (Refused BadCount)) = (n ≡ 0) ⊎ (k.size < n)
+Counts k n _ = IsCount k n
+
+-- where a claim looked, and what it found: at the claim word first, then at the finals' counts, and by its exchange at the claim word again, by which it is decided
+abbrev pub LooksToClaim : Shape → ℕ → List Look → Result Claimed ClaimFault → Type 0
+LooksToClaim k n seen (Ok c) =
+    (counts : List ℕ) × FoundRoom k c.lo n counts × (c.hi ≡ c.lo + n - 1) × (seen ≡ look claim_word c.lo ∷ gate_looks k counts ++ look claim_word (c.lo + n) ∷ [])
+LooksToClaim k n seen (Err (Refused BadCount)) = seen ≡ []
+LooksToClaim k n seen (Err (Refused Halted)) =
+    (found : ℕ) × (is_halted found ≡ true) × ((seen ≡ look claim_word found ∷ [])
+    ⊎ ((c : ℕ) × (counts : List ℕ) × FoundRoom k c n counts × (seen ≡ look claim_word c ∷ gate_looks k counts ++ look claim_word found ∷ [])))
+LooksToClaim k n seen (Err (Refused Exhausted)) = (found : ℕ) × (is_halted found ≡ false) × (k.limit < found + n) × (seen ≡ look claim_word found ∷ [])
+LooksToClaim k n seen (Err (Refused NoRoom)) = (c : ℕ) × (counts : List ℕ) × FoundNoRoom k c n counts × (seen ≡ look claim_word c ∷ gate_looks k counts)
+LooksToClaim k n seen (Err (Refused other)) = ⊥
+-- another sender claimed between the first look and the exchange
+LooksToClaim k n seen (Err Contended) =
+    (c found : ℕ) × (counts : List ℕ) × FoundRoom k c n counts × (found ≢ c) × (is_halted found ≡ false) × (seen ≡ look claim_word c ∷ gate_looks k counts ++ look claim_word found ∷ [])
+
+-- what a sender knows after a claim: its looks, and the stretch where it is given
+abbrev pub knows_after : SenderRecord → ℕ → List Look → Result Claimed ClaimFault → SenderRecord
+knows_after r n seen (Ok c) = record r { own = r.own ++ fresh_own r.number c.lo n; looks = r.looks ++ seen }
+knows_after r n seen (Err fault) = record r { looks = r.looks ++ seen }
+
+-- the exchanges of a claim: one where it found room, from what it found claimed on, and none otherwise
+abbrev pub Exchanges : SenderRecord → ℕ → List Step → Result Claimed ClaimFault → Type 0
+Exchanges r n steps (Ok c) = steps ≡ SenderClaims r.number c.lo n ∷ []
+Exchanges r n steps (Err (Refused Halted)) = (steps ≡ []) ⊎ ((c : ℕ) × (steps ≡ SenderClaims r.number c n ∷ []))
+Exchanges r n steps (Err (Refused other)) = steps ≡ []
+Exchanges r n steps (Err Contended) = (c : ℕ) × (steps ≡ SenderClaims r.number c n ∷ [])
+
+pub record ClaimCall (e : SenderEnd) (n : ℕ) (e' : SenderEnd) (result : Result Claimed ClaimFault) : Type 0 where
+  pub stays : Stays e e'
+  pub counts : Counts e.plan n result
+  pub seen : List Look
+  pub looks : LooksToClaim e.plan n seen result
+  pub knows : e'.knows ≡ knows_after e.knows n seen result
+  pub steps : List Step
+  pub stored : e'.stored ≡ e.stored ++ steps
+  pub exchanges : Exchanges e.knows n steps result
+  -- so no sequence reaches 2^62
+  pub few : e.plan.limit ≤ 2 ^ 62
+
+-- A claim as an exchange's end answers it: where another sender claimed meanwhile, nothing is known of the room, and the claim may be tried again as after `NoRoom`.
+abbrev pub ClaimsAsEnd : SenderEnd → ℕ → SenderEnd → Result Claimed Trouble → Type 0
+ClaimsAsEnd e n e' (Ok c) = ClaimCall e n e' (Ok c)
+ClaimsAsEnd e n e' (Err (IsRefused NoRoom)) = ClaimCall e n e' (Err (Refused NoRoom)) ⊎ ClaimCall e n e' (Err Contended)
+ClaimsAsEnd e n e' (Err (IsRefused refusal)) = ClaimCall e n e' (Err (Refused refusal))
+ClaimsAsEnd e n e' (Err Memory) = ⊥

@@ -1,0 +1,47 @@
+-- The ends of a ring, each at its station, with the seat that stands for it.
+use Rattle.std.specs.Prelude.{◌≡◌, ℕ, ◌<◌, List, length}
+use Rattle.atomic_table.specs.Seated.{TableId}
+use Rattle.dr_ring.specs.declared.settled.HandlerCounts.{HandlerCounts}
+use Rattle.dr_senders.specs.Meaning.Shape.{Shape, handlers_of}
+use Rattle.dr_senders.specs.Calls.Plans.{IsPlan}
+use Rattle.dr_senders.specs.Inside.Seats.{End, Sitting, IsAtTable, past_of, stored_of, sender_of, receiver_of, halter_of, IsSender, IsReceiver, IsHalter}
+use Rattle.dr_senders.specs.Calls.Ends.{SenderEnd, ReceiverEnd, HalterEnd, looks_counted}
+
+-- the end that a seat at a table stands for
+abbrev pub sender_end : TableId → Shape → Sitting → SenderEnd
+sender_end ring k me = record { ring = ring; plan = k; knows = sender_of me.0.ends; past = past_of me.0; stored = stored_of me.0 }
+
+abbrev pub receiver_end : TableId → Shape → Sitting → ReceiverEnd
+receiver_end ring k me = record { ring = ring; plan = k; knows = receiver_of me.0.ends; past = past_of me.0; stored = stored_of me.0 }
+
+abbrev pub halter_end : TableId → Shape → Sitting → HalterEnd
+halter_end ring k me = record { ring = ring; plan = k; knows = halter_of me.0.ends; past = past_of me.0; stored = stored_of me.0 }
+
+-- the table's rule is the ring's, for its plan
+pub record IsKeyed (table_key k : Shape) : Type 0 where
+  pub key : table_key ≡ k
+  pub made : IsPlan k
+
+-- an end's seat is at the table of its ring and stands for that end alone, and its looks are counted
+pub record SenderSits (at seat : TableId) (key k : Shape) (me : End) (number looked : ℕ) : Type 0 where
+  pub table : IsAtTable seat at k
+  pub keyed : IsKeyed key k
+  pub end : IsSender me
+  pub own : (sender_of me.0).number ≡ number
+  pub sender : number < k.senders
+  pub looks : looked ≡ looks_counted (sender_of me.0).looks
+
+pub record ReceiverSits (at seat : TableId) (key k : Shape) (me : End) (number looked : ℕ) : Type 0 where
+  pub table : IsAtTable seat at k
+  pub keyed : IsKeyed key k
+  pub end : IsReceiver me
+  pub own : (receiver_of me.0).number ≡ number
+  pub handler : number < handlers_of k
+  pub looks : looked ≡ looks_counted (receiver_of me.0).looks
+
+-- the halter also has room for the handlers' counts, for when the ends come together
+pub record HalterSits (at seat : TableId) (key k : Shape) (me : End) (rooms : List HandlerCounts) : Type 0 where
+  pub table : IsAtTable seat at k
+  pub keyed : IsKeyed key k
+  pub end : IsHalter me
+  pub places : length rooms ≡ handlers_of k

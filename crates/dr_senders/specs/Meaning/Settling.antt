@@ -1,0 +1,86 @@
+-- What the ends of a ring know of each other, once they come together.
+use Rattle.std.specs.Prelude.{◌≡◌, ℕ, ◌+◌, ◌≤◌, true, Bool, List, length, map, take, slice_index, unwrap_or, Some, Contains}
+use Rattle.std.specs.List.{take_while}
+use mathlib.Core.Option.{some}
+use lib.ListN.{get_elem?}
+use Rattle.dr_seq.specs.declared.event.Event.{Event}
+use Rattle.dr_seq.specs.Event.{no_event}
+use Rattle.dr_graph.specs.Meaning.Graph.{upstreams_of, finals}
+use Rattle.dr_core.specs.Meaning.Transcript.{Transcript, LeadsTo}
+use Rattle.dr_core.specs.Meaning.Laws.{Laws}
+use Rattle.dr_senders.specs.Meaning.Shape.{Shape, ring_setup}
+use Rattle.dr_senders.specs.Meaning.Words.{claim_word, is_halted}
+use Rattle.dr_senders.specs.declared.record.Stage.{Stage}
+use Rattle.dr_senders.specs.declared.record.Own.{Own}
+use Rattle.dr_senders.specs.declared.record.SenderRecord.{SenderRecord}
+use Rattle.dr_senders.specs.declared.record.ReceiverRecord.{ReceiverRecord}
+use Rattle.dr_senders.specs.declared.record.HalterRecord.{HalterRecord}
+use Rattle.dr_senders.specs.declared.record.Step.{Step}
+use Rattle.dr_senders.specs.Meaning.Records.{Owns}
+use Rattle.dr_senders.specs.Meaning.Rule.{World}
+use Rattle.dr_senders.specs.Meaning.Moments.{new_world, picture_of, Runs}
+
+abbrev pub is_published : Stage → Bool
+is_published t = t.published
+
+abbrev pub event_of : Stage → Event
+event_of t = unwrap_or t.event no_event
+
+-- the published events in the order of their sequences, up to the first sequence that is not published
+abbrev pub published_events : World → List Event
+published_events w = map event_of (take_while is_published w.stages)
+
+-- a receiver has the beginning of what is published, and a final handler leaves room for all that is claimed
+pub record HasBeginning (k : Shape) (w : World) (r : ReceiverRecord) : Type 0 where
+  pub beginning : r.received ≡ take (length r.received) (published_events w)
+  pub taken : length r.received ≤ length (published_events w)
+  -- who was told that the ring drained has all of it, and all that is claimed
+  pub drained : r.told ≡ true → (r.received ≡ published_events w) × (length r.received ≡ length w.stages)
+  pub completed : r.completed ≤ length r.received
+  pub room : Contains (finals k.upstreams) r.number → length w.stages ≤ k.size + r.completed
+
+-- what a receiver took, each of its upstreams completed
+abbrev pub FollowsUpstream : Shape → ReceiverRecord → ReceiverRecord → Type 0
+FollowsUpstream k r u = Contains (upstreams_of k.upstreams r.number) u.number → length r.received ≤ u.completed
+
+-- a sequence that a sender has is claimed by it, and has come as far as it knows
+abbrev pub IsOwnOf : World → SenderRecord → Own → Type 0
+IsOwnOf w r o = (o.stage.owner ≡ r.number) × (get_elem? w.stages o.sequence ≡ some o.stage)
+
+-- the sender of a sequence published this event with it
+abbrev pub IsSent : World → ℕ → Event → Type 0
+IsSent w s event =
+    (r : SenderRecord) × (t : Stage) × (get_elem? w.senders t.owner ≡ some r) × Owns r s t × (t.published ≡ true) × (t.event ≡ Some event)
+
+-- senders and receivers agree, and each claimed sequence is its sender's own, as far as it has come
+pub record Settles (k : Shape) (w : World) : Type 0 where
+  pub claimed : (s : ℕ) (t : Stage) → get_elem? w.stages s ≡ some t → (r : SenderRecord) × (get_elem? w.senders t.owner ≡ some r) × Owns r s t
+  pub owned : (p i : ℕ) (r : SenderRecord) (o : Own) → get_elem? w.senders p ≡ some r → get_elem? r.own i ≡ some o → IsOwnOf w r o
+  pub each : (h : ℕ) (r : ReceiverRecord) → get_elem? w.receivers h ≡ some r → HasBeginning k w r
+  pub sent : (h s : ℕ) (r : ReceiverRecord) (event : Event) → get_elem? w.receivers h ≡ some r → get_elem? r.received s ≡ some event → IsSent w s event
+  pub follow : (h j : ℕ) (r u : ReceiverRecord) → get_elem? w.receivers h ≡ some r → get_elem? w.receivers j ≡ some u → FollowsUpstream k r u
+
+-- what the ends of a ring know
+pub record AllKnow : Type 0 where
+  pub senders : List SenderRecord
+  pub receivers : List ReceiverRecord
+  pub halter : HalterRecord
+
+-- how many sequences are claimed, and whether the ring is halted
+pub record CameTo (w : World) (n : ℕ) (halted : Bool) : Type 0 where
+  pub claims : n ≡ length w.stages
+  pub halts : halted ≡ is_halted (slice_index w.words claim_word)
+
+-- the run of a ring, which came so far, and to what its ends know: its transcript leads the machine to the ring's picture, and has the five laws
+pub record HasRun (k : Shape) (all : AllKnow) (n : ℕ) (on : Bool) : Type 0 where
+  pub steps : List Step
+  pub entries : Transcript
+  pub world : World
+  pub runs : Runs k steps entries (new_world k) world
+  pub came : CameTo world n on
+  pub senders : world.senders ≡ all.senders
+  pub receivers : world.receivers ≡ all.receivers
+  pub halter : world.halter ≡ all.halter
+  pub leads : LeadsTo (ring_setup k) entries (picture_of k world)
+  pub laws : Laws (ring_setup k) entries
+  pub settles : Settles k world

@@ -1,0 +1,96 @@
+//! The steps of a ring over its table, and what every list of them comes to.
+//!
+//! Each end has a station, which is what its steps need, and each kind of step is one function of
+//! a station (the halter's is [`halt`](crate::Halter::halt)): one atomic change of one word. Its
+//! contract gives what the end knows afterwards from what it knew before and the word found or
+//! stored, by the same definition as the step has in [`moments`].
+
+mod halter;
+mod receiver;
+mod sender;
+pub(crate) mod settling;
+
+ghost use Rattle.std.specs.Prelude.{List, ℕ, ◌≡◌, ◌<◌, ◌≤◌, ◌↔◌, true, length, slice_index};
+ghost use Rattle.dr_seq.specs.declared.event.Event.{Event as EventValue};
+ghost use Rattle.dr_seq.specs.Rounds.{entry_of};
+ghost use Rattle.dr_core.specs.Meaning.Transcript.{Transcript, LeadsTo};
+ghost use Rattle.dr_core.specs.Meaning.Laws.{Laws};
+ghost use Rattle.dr_senders.specs.Meaning.Shape.{Shape, IsShape, ring_setup};
+ghost use Rattle.dr_senders.specs.Meaning.Words.{claim_word, mark_word, is_halted};
+ghost use Rattle.dr_senders.specs.Meaning.Rule.{World, KeepsRule};
+ghost use Rattle.dr_senders.specs.declared.record.Step.{Step};
+ghost use Rattle.dr_senders.specs.Meaning.Moments.{Runs, new_world, picture_of, IsShut, RefusesByMark};
+
+use crate::plan::Plan;
+use crate::record::View;
+use atomic_table::{Play, Seat, Shared, Table, TableRule};
+use dr_core::every_transcript_is_lawful;
+pub use halter::Halter;
+pub(crate) use receiver::ReceiverStation;
+pub(crate) use sender::SenderStation;
+use std::alloc::Global;
+use std::marker::Brand;
+
+/// The rule that every step keeps.
+pub struct RingRule;
+
+impl TableRule<u64, View, Plan> for RingRule {
+    ghost use Rattle.dr_senders.specs.Inside.Seats.{Ruled, all_ends};
+
+    ghost holds = { Ruled };
+
+    ghost first = { all_ends };
+}
+
+/// The words of a ring, as its ends share them.
+pub type Words = Shared<u64, View, Plan, RingRule>;
+
+/// The words of a ring with their memory.
+pub type RingTable = Table<u64, View, Plan, RingRule, Global>;
+
+/// What an end steps with.
+pub type RingSeat = Seat<u64, View>;
+
+/// What all ends of a ring share: its words, and what it was made for.
+#[derive(Drop)]
+pub(crate) struct RingBody {
+    pub(crate) table: RingTable,
+    pub(crate) plan: Plan,
+}
+
+// The proof of each step says at the call what the step tells; by itself it tells nothing.
+impl Play<u64, View> for Brand {
+    ghost then = { λ s me n me'. me' ≡ me };
+}
+
+/// What a step names, for its proof alone: a sequence, and the first word of its event.
+pub trait Names {
+    ghost number: { ℕ };
+
+    ghost first: { ℕ };
+
+    ghost use Rattle.std.specs.Prelude.{ℕ};
+}
+
+impl Names for Brand {
+    ghost number = { 0 };
+
+    ghost first = { 0 };
+}
+
+/// Whatever steps fall in whatever order: between any two of them the rule holds, the entries of
+/// their events lead the machine to the ring's picture, and the transcript has the five laws. A
+/// sequence is published exactly where the mark in its slot is of its round or a later one, so one
+/// look at the mark tells it, and with it why the machine refuses a write of a sequence that is not
+/// the sender's own, or is published. Once a ring is halted, nothing more is claimed. It does nothing when it
+/// runs: the contract is the theorem.
+pub fn moments()
+    ensures rule { (k : Shape) (steps : List Step) (entries : Transcript) (w : World) → IsShape k → Runs k steps entries (new_world k) w → KeepsRule k w }
+    ensures leads { (k : Shape) (steps : List Step) (entries : Transcript) (w : World) → IsShape k → Runs k steps entries (new_world k) w → LeadsTo (ring_setup k) entries (picture_of k w) }
+    ensures laws { (k : Shape) (steps : List Step) (entries : Transcript) (w : World) → IsShape k → Runs k steps entries (new_world k) w → Laws (ring_setup k) entries }
+    ensures marks { (k : Shape) (steps : List Step) (entries : Transcript) (w : World) → IsShape k → Runs k steps entries (new_world k) w → (s : ℕ) → ((picture_of k w).published s ≡ true) ↔ (entry_of k.size s ≤ slice_index w.words (mark_word k s)) }
+    ensures refused { (k : Shape) (steps : List Step) (entries : Transcript) (w : World) → IsShape k → Runs k steps entries (new_world k) w → (p s : ℕ) (event : EventValue) → p < k.senders → IsShut w p s → RefusesByMark k w p s event }
+    ensures halted { (k : Shape) (steps more : List Step) (entries rest : Transcript) (w u : World) → IsShape k → Runs k steps entries (new_world k) w → Runs k more rest w u → is_halted (slice_index w.words claim_word) ≡ true → length u.stages ≡ length w.stages }
+{
+    every_transcript_is_lawful();
+}

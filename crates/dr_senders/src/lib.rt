@@ -1,0 +1,32 @@
+//! The ring over atomic words with several senders: each hands events to a graph of receivers, each
+//! end on a thread of its own, and no call waits or takes memory.
+//!
+//! Begin with `specs/Meaning`: `Words` says where each word lies, `Records` what each kind of step
+//! makes of what its end knows, `Rule` is what holds between any two steps, and `Steps` lists the
+//! kinds. `specs/Calls` has what public contracts cite, and `specs/Inside` the rest, of which
+//! `Seats` says of the words that such steps made them. [`laws`] has one function a kind, and
+//! [`laws::moments`] the theorem over all lists of steps.
+#![tactic(auto)]
+
+mod claiming;
+pub mod laws;
+mod opening;
+mod owned;
+mod plan;
+mod polling;
+mod receiver;
+pub mod record;
+mod sender;
+mod settled;
+mod writing;
+
+pub use claiming::ClaimFault;
+pub use laws::Halter;
+pub use opening::senders_ring;
+pub use plan::Plan;
+pub use receiver::Receiver;
+pub use sender::Sender;
+pub use settled::{Settled, settle};
+
+#[cfg(test)]
+mod tests;

@@ -1,0 +1,173 @@
+//! What a ring is made for, and the places of its words.
+
+ghost use Rattle.std.specs.Prelude.{◌≡◌, ◌^◌, ◌<◌, ◌≤◌, map, IfOk};
+ghost use Rattle.dr_seq.specs.Rounds.{entry_of};
+ghost use Rattle.dr_graph.specs.Meaning.Graph.{upstreams_of, finals as finals_of};
+ghost use Rattle.dr_senders.specs.Meaning.Shape.{handlers_of};
+ghost use Rattle.dr_senders.specs.Calls.Plans.{IsPlan};
+ghost use Rattle.dr_senders.specs.Meaning.Words.{count_word as count_word_of, mark_word as mark_word_of, payload_word as payload_word_of, words_of};
+
+use dr_graph::Graph;
+use dr_seq::Size;
+use std::alloc::{AllocError, Global};
+use std::marker::Model;
+
+/// The place of the word that counts the claimed sequences, and has the halt bit.
+pub const CLAIM_WORD: usize = 0;
+/// The bit of the claim word that is set once the ring is halted.
+pub const HALT_BIT: u64 = 9223372036854775808;
+
+/// The place of the word that counts what a handler completed.
+pub fn count_word(handler: usize) -> usize
+    requires { handler < 65536 }
+    ensures { result ≡ count_word_of handler }
+{
+    16 + 16 * handler
+}
+
+/// The graph of a ring's handlers, by each handler's direct upstreams, with its final handlers, the
+/// size, the limit of sequences, how many senders there are, and the number of words.
+#[derive(Drop)]
+pub struct Plan {
+    size: Size,
+    limit: u64,
+    senders: usize,
+    words: usize,
+    upstreams: Vec<Vec<usize>>,
+    finals: Vec<usize>,
+}
+
+impl Model for Plan {
+    ghost use Rattle.std.specs.Prelude.{map};
+    ghost use Rattle.dr_senders.specs.Meaning.Shape.{Shape};
+    ghost use Rattle.dr_senders.specs.Inside.Plans.{PlanFits};
+
+    ghost Value = { Shape };
+
+    ghost view = { λ p. record { upstreams = map (λ v. v.items) p.upstreams.items; size = p.size; limit = p.limit; senders = p.senders } };
+
+    ghost invariant = { λ p. PlanFits (record { upstreams = map (λ v. v.items) p.upstreams.items; size = p.size; limit = p.limit; senders = p.senders }) p.finals.items p.words };
+}
+
+// The direct upstreams of each handler of a graph.
+fn copy_upstreams(alloc: Global, graph: &Graph) -> Result<Vec<Vec<usize>>, AllocError>
+    ensures { IfOk result (λ v. map (λ ups. ups.items) v.items ≡ graph.now.upstreams) }
+{
+    let handlers = graph.len();
+    let mut upstreams = Vec::with_capacity(alloc, handlers)?;
+    for handler in 0..handlers {
+        let own = Vec::from_slice(alloc, graph.upstreams(handler))?;
+        upstreams.push(own)?;
+    }
+    Ok(upstreams)
+}
+
+impl Plan {
+    /// The plan of a ring for a graph, which it copies.
+    pub(crate) fn of(
+        alloc: Global,
+        graph: &Graph,
+        size: Size,
+        limit: u64,
+        senders: usize,
+    ) -> Result<Plan, AllocError>
+        requires limit { (0 < limit) × (limit ≤ 2 ^ 62) }
+        requires senders { (0 < senders) × (senders ≤ 16) }
+        ensures made { IfOk result (λ plan. plan ≡ record { upstreams = graph.now.upstreams; size = size; limit = limit; senders = senders }) }
+        ensures plan { IfOk result (λ plan. IsPlan plan) }
+    {
+        let upstreams = copy_upstreams(alloc, graph)?;
+        let finals = Vec::from_slice(alloc, graph.finals())?;
+        let slots = size.get() as usize;
+        let words = 16 + 16 * graph.len() + slots + 2 * slots;
+        Ok(Plan {
+            size,
+            limit,
+            senders,
+            words,
+            upstreams,
+            finals,
+        })
+    }
+
+    /// How many slots the ring has.
+    pub fn size(&self) -> Size
+        ensures { result ≡ self.now.size }
+    {
+        self.size
+    }
+
+    /// How many sequences may be claimed in all.
+    pub fn limit(&self) -> u64
+        ensures limit { result ≡ self.now.limit }
+        ensures small { result ≤ 2 ^ 62 }
+    {
+        self.limit
+    }
+
+    /// How many handlers there are.
+    pub fn handlers(&self) -> usize
+        ensures count { result ≡ handlers_of self.now }
+        ensures few { result ≤ 16 }
+    {
+        self.upstreams.len()
+    }
+
+    /// How many senders there are.
+    pub fn senders(&self) -> usize
+        ensures count { result ≡ self.now.senders }
+        ensures few { result ≤ 16 }
+    {
+        self.senders
+    }
+
+    /// The direct upstreams of a handler.
+    pub fn upstreams(&self, handler: usize) -> &[usize]
+        requires { handler < handlers_of self.now }
+        ensures { result.now ≡ upstreams_of self.now.upstreams handler }
+    {
+        self.upstreams[handler].as_slice()
+    }
+
+    /// The final handlers, which gate the senders.
+    pub fn finals(&self) -> &[usize]
+        ensures { result.now ≡ finals_of self.now.upstreams }
+    {
+        self.finals.as_slice()
+    }
+
+    /// The place of the mark of a sequence's slot.
+    pub fn mark_word(&self, sequence: u64) -> usize
+        ensures place { result ≡ mark_word_of self.now sequence }
+        ensures inside { result < words_of self.now }
+    {
+        16 + 16 * self.upstreams.len() + self.size.slot(sequence)
+    }
+
+    /// The mark of a sequence.
+    pub fn mark(&self, sequence: u64) -> u64
+        requires { sequence < 2 ^ 63 }
+        ensures { result ≡ entry_of self.now.size sequence }
+    {
+        self.size.round(sequence) + 1
+    }
+
+    /// The place of the first word (part 0) or the second (part 1) of the event in a sequence's slot.
+    pub fn payload_word(&self, sequence: u64, part: usize) -> usize
+        requires { part < 2 }
+        ensures place { result ≡ payload_word_of self.now sequence part }
+        ensures inside { result < words_of self.now }
+    {
+        16 + 16 * self.upstreams.len()
+            + self.size.get() as usize
+            + 2 * self.size.slot(sequence)
+            + part
+    }
+
+    /// How many words the ring has.
+    pub fn words(&self) -> usize
+        ensures { result ≡ words_of self.now }
+    {
+        self.words
+    }
+}

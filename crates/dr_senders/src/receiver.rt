@@ -1,0 +1,125 @@
+//! An end that receives every event.
+
+ghost use Rattle.std.specs.Prelude.{◌≡◌, ◌<◌, ◌^◌, ◌||◌, length, Some};
+ghost use Rattle.dr_core.specs.Calls.Ends.{IsEndsAnswer, PollAnswers, CompleteAnswers, is_drained, Takes, Completes};
+ghost use Rattle.dr_senders.specs.Calls.Ends.{looks_counted, receiver_place};
+ghost use Rattle.dr_senders.specs.Calls.Receiving.{received_of, PollCall, CompleteCall};
+
+use crate::laws::ReceiverStation;
+use crate::plan::HALT_BIT;
+use crate::polling::{claimed_in, nothing_offered};
+use dr_core::{Outlet, Polled, Refusal, Trouble};
+use dr_seq::Event;
+use std::marker::Model;
+
+/// The end of one handler, which receives every event after its upstreams. No call waits or takes
+/// memory.
+#[derive(Drop)]
+pub struct Receiver {
+    pub(crate) station: ReceiverStation,
+    pub(crate) taken: u64,
+    pub(crate) seen: u64,
+    pub(crate) completed: u64,
+}
+
+impl Model for Receiver {
+    ghost use Rattle.dr_senders.specs.Calls.Ends.{ReceiverEnd};
+    ghost use Rattle.dr_senders.specs.Inside.Fits.{ReceiverFits};
+
+    ghost Value = { ReceiverEnd };
+
+    ghost view = { λ s. s.station };
+
+    ghost invariant = { λ s. ReceiverFits s.station.plan s.station.knows s.taken s.seen s.completed };
+}
+
+impl Receiver {
+    /// Takes the next events, as many as the barrier offers and `out` has room for, to the front of
+    /// `out`. It looks at the claim word, and then, for a handler without upstreams, at the marks as
+    /// far as they are of their sequences, or else at the count of each upstream.
+    ///
+    /// It is refused with `BadCount`, and changes nothing, where `out` is empty.
+    pub fn poll_into(&mut self, out: &mut [Event]) -> Result<Polled, Refusal>
+        ensures call { PollCall self.old out.old self.new out.new result }
+        ensures fits { length self.new.knows.received < 2 ^ 64 }
+    {
+        let first = self.taken;
+        if out.is_empty() {
+            return Err(Refusal::BadCount);
+        }
+        let found = self.station.look_at_claims();
+        let claimed = claimed_in(found);
+        let (available, seen) = self.station.offer(self.seen, claimed);
+        self.seen = seen;
+        if available <= first {
+            return Ok(nothing_offered(found >= HALT_BIT, claimed, first));
+        }
+        let count = (available - first).min(out.len() as u64);
+        let (front, _) = out.split_at_mut(count as usize);
+        self.station.take_all(first, front);
+        self.taken = first + count;
+        Ok(Polled::Batch {
+            first,
+            count,
+            end: first + count == available,
+        })
+    }
+
+    /// Completes all events below `upto`: the handlers that follow may take them, and the senders
+    /// may use their slots again once all final handlers have completed them.
+    ///
+    /// Refusals in their order: `Behind` (more are completed), `NotTaken`. They change nothing.
+    pub fn complete(&mut self, upto: u64) -> Result<(), Refusal>
+        ensures { CompleteCall self.old upto self.new result }
+    {
+        if upto < self.completed {
+            return Err(Refusal::Behind);
+        }
+        if upto > self.taken {
+            return Err(Refusal::NotTaken);
+        }
+        self.station.complete(upto);
+        self.completed = upto;
+        Ok(())
+    }
+
+    /// How many words the receiver has looked at that other ends store, marks and payload aside, up
+    /// to the greatest `u64`.
+    pub fn looks(&self) -> u64
+        ensures { result ≡ looks_counted self.now.knows.looks }
+    {
+        self.station.looks
+    }
+}
+
+impl Outlet for Receiver {
+    ghost use Rattle.dr_senders.specs.Calls.Ends.{EndPlace};
+
+    ghost Kept = { EndPlace };
+
+    ghost kept = { receiver_place };
+
+    ghost received = { λ e. Some (received_of e.knows) };
+
+    ghost told = { λ e. e.knows.told };
+
+    fn poll_into(&mut self, out: &mut [Event]) -> Result<Polled, Trouble>
+        ensures kept { receiver_place self.new ≡ receiver_place self.old }
+        ensures answer { PollAnswers (Some (received_of self.old.knows)) out.old out.new result }
+        ensures told { self.new.knows.told ≡ (self.old.knows.told || is_drained result) }
+        ensures received { Takes out.new result (received_of self.old.knows) (received_of self.new.knows) }
+        ensures own { IsEndsAnswer (PollCall self.old out.old self.new out.new) result }
+    {
+        Ok(Receiver::poll_into(self, out)?)
+    }
+
+    fn complete(&mut self, upto: u64) -> Result<(), Trouble>
+        ensures kept { receiver_place self.new ≡ receiver_place self.old }
+        ensures answer { CompleteAnswers (Some (received_of self.old.knows)) upto result }
+        ensures told { self.new.knows.told ≡ self.old.knows.told }
+        ensures received { Completes upto result (received_of self.old.knows) (received_of self.new.knows) }
+        ensures own { IsEndsAnswer (CompleteCall self.old upto self.new) result }
+    {
+        Ok(Receiver::complete(self, upto)?)
+    }
+}

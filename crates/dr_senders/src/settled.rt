@@ -1,0 +1,129 @@
+//! All ends of a ring come together.
+
+ghost use Rattle.std.specs.Prelude.{◌≡◌, ◌<◌, length, map};
+ghost use Rattle.std.specs.Arc.{arc_value};
+ghost use Rattle.dr_ring.specs.Calls.Settling.{counts_at};
+ghost use Rattle.dr_senders.specs.declared.record.EndRecord.TheVariants.{Sends, Receives};
+ghost use Rattle.dr_senders.specs.Inside.Seats.{IsAtTable, end_of};
+ghost use Rattle.dr_senders.specs.Inside.Gathering.{AreOfRing, Gathers};
+ghost use Rattle.dr_senders.specs.Meaning.Settling.{HasRun};
+ghost use Rattle.dr_senders.specs.Calls.Settling.{AreAllEnds, known_by, handler_counts};
+
+use crate::laws::{Halter, RingBody, RingSeat, moments, settling};
+use crate::plan::HALT_BIT;
+use crate::polling::claimed_in;
+use crate::receiver::Receiver;
+use crate::sender::Sender;
+use dr_ring::HandlerCounts;
+use std::alloc::Global;
+use std::sync::Arc;
+
+/// How far a ring came.
+#[derive(Drop)]
+pub struct Settled {
+    claimed: u64,
+    is_halted: bool,
+    handlers: Vec<HandlerCounts>,
+}
+
+impl Settled {
+    /// How many sequences were claimed.
+    pub fn claimed(&self) -> u64
+        ensures { result ≡ self.now.claimed }
+    {
+        self.claimed
+    }
+
+    /// Whether the ring was halted.
+    pub fn is_halted(&self) -> bool
+        ensures { result ≡ self.now.is_halted }
+    {
+        self.is_halted
+    }
+
+    /// How many handlers there are.
+    pub fn handlers(&self) -> usize
+        ensures { result ≡ length self.now.handlers.items }
+    {
+        self.handlers.len()
+    }
+
+    /// How many events a handler took.
+    pub fn taken(&self, handler: usize) -> u64
+        requires { handler < length self.now.handlers.items }
+        ensures { result ≡ (counts_at self.now.handlers.items handler).taken }
+    {
+        self.handlers[handler].taken
+    }
+
+    /// How many events a handler completed.
+    pub fn completed(&self, handler: usize) -> u64
+        requires { handler < length self.now.handlers.items }
+        ensures { result ≡ (counts_at self.now.handlers.items handler).completed }
+    {
+        self.handlers[handler].completed
+    }
+}
+
+// The senders' seats come to the halter's.
+fn gather_senders(ring: &Arc<RingBody, Global>, seat: &mut RingSeat, mut senders: Vec<Sender>)
+    requires table { IsAtTable seat.old.table_id (arc_value ring.now).table.shared.table_id (arc_value ring.now).plan }
+    requires senders { AreOfRing seat.old.table_id senders.items }
+    ensures seat { seat.new.table_id ≡ seat.old.table_id }
+    ensures view { Gathers (end_of seat.old.me) (map (λ e. Sends e.knows) senders.items) (end_of seat.new.me) }
+{
+    while let Some(sender) = senders.pop() {
+        let station = sender.station;
+        settling::take_in(&ring.table.shared, seat, station.seat);
+    }
+}
+
+// A receiver's seat comes to the halter's, and its counts to their place.
+fn gather_receivers(
+    ring: &Arc<RingBody, Global>,
+    seat: &mut RingSeat,
+    mut receivers: Vec<Receiver>,
+    counts: &mut Vec<HandlerCounts>,
+)
+    requires table { IsAtTable seat.old.table_id (arc_value ring.now).table.shared.table_id (arc_value ring.now).plan }
+    requires receivers { AreOfRing seat.old.table_id receivers.items }
+    requires places { length counts.old.items ≡ length receivers.items }
+    ensures seat { seat.new.table_id ≡ seat.old.table_id }
+    ensures view { Gathers (end_of seat.old.me) (map (λ e. Receives e.knows) receivers.items) (end_of seat.new.me) }
+    ensures counts { counts.new.items ≡ map (λ e. handler_counts e.knows) receivers.items }
+{
+    while let Some(receiver) = receivers.pop() {
+        counts[receivers.len()] = HandlerCounts {
+            taken: receiver.taken,
+            completed: receiver.completed,
+        };
+        let station = receiver.station;
+        settling::take_in(&ring.table.shared, seat, station.seat);
+    }
+}
+
+/// Brings all ends of a ring together. It takes no memory, and looks once at the claim word.
+///
+/// There is one run of all ends that came to what they know, and its transcript is lawful. Each
+/// claimed sequence is in its sender's record. Each receiver has the first of the published events
+/// in the order of their sequences, each from the sender of its sequence, and all that is claimed
+/// where it was told that the ring drained. No handler took more than its upstreams completed, and
+/// no more is claimed than a round beyond what each final handler completed.
+pub fn settle(senders: Vec<Sender>, receivers: Vec<Receiver>, halter: Halter) -> Settled
+    requires { AreAllEnds senders.items receivers.items halter }
+    ensures handlers { result.handlers.items ≡ map (λ e. handler_counts e.knows) receivers.items }
+    ensures run { HasRun halter.plan (known_by senders.items receivers.items halter) result.claimed result.is_halted }
+{
+    let ring = halter.ring;
+    let mut seat = halter.seat;
+    let mut counts = halter.counts;
+    gather_senders(&ring, &mut seat, senders);
+    gather_receivers(&ring, &mut seat, receivers, &mut counts);
+    let found = settling::compare(&ring.table.shared, &mut seat);
+    moments();
+    Settled {
+        claimed: claimed_in(found),
+        is_halted: found >= HALT_BIT,
+        handlers: counts,
+    }
+}

@@ -1,0 +1,142 @@
+//! Two senders and a handler, each on a thread of its own, over one ring and without a lock.
+#![tactic(auto)]
+
+use dr_core::{Handler, MAX_LIMIT};
+use dr_graph::{Graph, GraphBuilder, GraphFault};
+use dr_senders::{Receiver, Sender, senders_ring};
+use dr_seq::{Event, Size};
+use dr_shared::{OpenGate, WorkFault, consume, produce};
+use std::alloc::Global;
+use std::process::ExitCode;
+use std::sync::Wait;
+use std::thread::{self, Threads};
+use thiserror::Error;
+
+#[derive(Debug, Drop, Error)]
+enum Fault {
+    #[error("the graph: {0}")]
+    Graph(GraphFault),
+    #[error("a worker: {0}")]
+    Work(WorkFault),
+    #[error("no memory, or no thread")]
+    Memory,
+}
+
+/// Adds up the first words of what it is shown.
+#[derive(Drop)]
+struct Adder {
+    total: u64,
+}
+
+impl Handler for Adder {
+    ghost use Rattle.std.specs.Prelude.{◌≡◌, ◌+◌, ◌%◌, ◌^◌};
+
+    ghost goes = { λ old event s end new. new.total ≡ (old.total + event.first) % 2 ^ 64 };
+
+    fn on_event(&mut self, event: Event, _s: u64, _end: bool) {
+        self.total = self.total.wrapping_add(event.first);
+    }
+}
+
+/// The work of the handler: it ends when the ring has drained.
+fn add_up<R: Wait>(rt: &R, mut receiver: Receiver) -> Result<u64, Fault> {
+    let mut adder = Adder { total: 0 };
+    let mut buffer = [Event::NONE; 64];
+    match consume(rt, &mut receiver, &OpenGate, 0, &mut adder, &mut buffer) {
+        None => Ok(adder.total),
+        Some(fault) => Err(Fault::Work(fault)),
+    }
+}
+
+/// The work of a sender: it sends a script in claims of up to eight events.
+fn send<R: Wait>(rt: &R, mut sender: Sender, who: usize, script: &[Event]) -> Result<(), Fault> {
+    match produce(rt, &mut sender, &OpenGate, who, script, 8).fault {
+        None => Ok(()),
+        Some(fault) => Err(Fault::Work(fault)),
+    }
+}
+
+fn graph(alloc: Global) -> Result<Graph, GraphFault> {
+    let mut builder = GraphBuilder::new(alloc);
+    let _adder = builder.handle_with(&["adder"])?;
+    builder.build()
+}
+
+/// Two senders send a script each, one on a thread of its own and one on this.
+fn send_both<R: Threads + Wait + Sync>(
+    rt: &R,
+    one: Sender,
+    other: Sender,
+    script: &[Event],
+) -> Result<(), Fault> {
+    thread::scope(
+        thread::scope_env(),
+        rt,
+        move |scope| -> Result<(), Fault> {
+            let Ok(one) = scope.spawn(move || send(rt, one, 16, script)) else {
+                return Err(Fault::Memory);
+            };
+            let sent = send(rt, other, 17, script);
+            one.join(rt)?;
+            sent
+        },
+    )
+}
+
+/// Sends a script twice, by two senders, and gives what the handler added up.
+fn exchange<R: Threads + Wait + Sync>(
+    rt: &R,
+    alloc: Global,
+    size: Size,
+    script: &[Event],
+) -> Result<u64, Fault> {
+    let graph = graph(alloc).map_err(Fault::Graph)?;
+    let Ok((mut senders, mut receivers, mut halter)) =
+        senders_ring(alloc, &graph, size, MAX_LIMIT, 2)
+    else {
+        return Err(Fault::Memory);
+    };
+    let (Some(one), Some(other), Some(receiver)) = (senders.pop(), senders.pop(), receivers.pop())
+    else {
+        return Err(Fault::Memory);
+    };
+    thread::scope(
+        thread::scope_env(),
+        rt,
+        move |scope| -> Result<u64, Fault> {
+            let Ok(handler) = scope.spawn(move || add_up(rt, receiver)) else {
+                return Err(Fault::Memory);
+            };
+            let sent = send_both(rt, one, other, script);
+            // The handler is told that the ring drained once it has all that was claimed before.
+            halter.halt();
+            let total = handler.join(rt)?;
+            sent?;
+            Ok(total)
+        },
+    )
+}
+
+fn run<R: Threads + Wait + Sync>(rt: &R, alloc: Global) -> Result<u64, Fault> {
+    let script = [Event {
+        first: 1,
+        second: 0,
+    }; 100];
+    let Ok(size) = Size::new(64) else {
+        return Err(Fault::Memory);
+    };
+    exchange(rt, alloc, size, script.as_slice())
+}
+
+fn main(rt: HostRuntime) -> ExitCode {
+    match run(&rt, rt.alloc()) {
+        Ok(total) => {
+            let _printed = rt.println(&total);
+            ExitCode::SUCCESS
+        }
+        Err(fault) => {
+            let _printed = rt.eprintln(&fault);
+            ExitCode::FAILURE
+        }
+    }
+}
