@@ -69,18 +69,14 @@ fn send_both<R: Threads + Wait + Sync>(
     other: Sender,
     script: &[Event],
 ) -> Result<(), Fault> {
-    thread::scope(
-        thread::scope_env(),
-        rt,
-        move |scope| -> Result<(), Fault> {
-            let Ok(one) = scope.spawn(move || send(rt, one, 16, script)) else {
-                return Err(Fault::Memory);
-            };
-            let sent = send(rt, other, 17, script);
-            one.join(rt)?;
-            sent
-        },
-    )
+    thread::scope(thread::scope_env(), rt, move |scope| -> Result<(), Fault> {
+        let Ok(one) = scope.spawn(move || send(rt, one, 16, script)) else {
+            return Err(Fault::Memory);
+        };
+        let sent = send(rt, other, 17, script);
+        one.join(rt)?;
+        sent
+    })
 }
 
 /// Sends a script twice, by two senders, and gives what the handler added up.
@@ -91,9 +87,9 @@ fn exchange<R: Threads + Wait + Sync>(
     script: &[Event],
 ) -> Result<u64, Fault> {
     let graph = graph(alloc).map_err(Fault::Graph)?;
-    let Ok((mut senders, mut receivers, mut halter)) =
-        senders_ring(alloc, &graph, size, MAX_LIMIT, 2)
-    else {
+    let Ok((mut senders, mut receivers, mut halter)) = senders_ring(
+        alloc, &graph, size, MAX_LIMIT, 2,
+    ) else {
         return Err(Fault::Memory);
     };
     let (Some(one), Some(other), Some(receiver)) = (senders.pop(), senders.pop(), receivers.pop())
