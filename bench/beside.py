@@ -119,8 +119,8 @@ def producers(programs):
 
 
 def senders(programs):
-    """The ring with several senders beside LMAX's with several producers."""
-    kinds = programs.of(("ours", "lmax"))
+    """The ring with several senders beside plain words, and LMAX's with several producers."""
+    kinds = programs.of(("ours", "words", "lmax"))
     print_head(["senders", "events a claim"] + kinds)
     for count in (1, 2, 3, 4, 8, 16):
         for claim in (1, 10, 100):

@@ -3,11 +3,13 @@
 //!
 //! On one thread (topologies that begin with `core-`): `ring`, counts and slots that handlers read in
 //! place, and `deque`, a `VecDeque` for each edge of the graph. With a thread for each end: `words`, a
-//! ring of sequentially consistent words, and `mutex`, a ring behind a `Mutex`.
+//! ring of sequentially consistent words, with one sender or several (`sendersP-`), and `mutex`, a ring
+//! behind a `Mutex`.
 
 mod deque;
 mod mutex;
 mod ring;
+mod senders;
 mod topology;
 mod waiting;
 mod words;
@@ -15,7 +17,7 @@ mod words;
 use std::env;
 use std::process::exit;
 use std::time::{Duration, Instant};
-use topology::Topology;
+use topology::{Exchange, Topology};
 
 /// How many events go through between two looks at the clock, about.
 pub const STRETCH: u64 = 65_536;
@@ -109,11 +111,12 @@ fn one_thread(mut exchange: impl OneThread, order: &Order, rounds: usize) -> Vec
 
 fn rounds_of(kind: &str, order: &Order, rounds: usize) -> Option<Vec<Round>> {
     let shape = &order.topology.shape;
-    match (kind, order.topology.one_thread) {
-        ("ring", true) => Some(one_thread(ring::Ring::new(shape, order.size), order, rounds)),
-        ("deque", true) => Some(one_thread(deque::Deques::new(shape), order, rounds)),
-        ("words", false) => Some((0..rounds).map(|_| words::round(order)).collect()),
-        ("mutex", false) => Some((0..rounds).map(|_| mutex::round(order)).collect()),
+    match (kind, order.topology.exchange) {
+        ("ring", Exchange::OneThread) => Some(one_thread(ring::Ring::new(shape, order.size), order, rounds)),
+        ("deque", Exchange::OneThread) => Some(one_thread(deque::Deques::new(shape), order, rounds)),
+        ("words", Exchange::OneSender) => Some((0..rounds).map(|_| words::round(order)).collect()),
+        ("words", Exchange::Senders) => Some((0..rounds).map(|_| senders::round(order)).collect()),
+        ("mutex", Exchange::OneSender | Exchange::Lock) => Some((0..rounds).map(|_| mutex::round(order)).collect()),
         _ => None,
     }
 }

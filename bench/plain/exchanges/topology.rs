@@ -5,8 +5,17 @@ pub struct Shape {
     pub upstreams: Vec<Vec<usize>>,
 }
 
+/// What an event goes through.
+#[derive(Clone, Copy, PartialEq)]
+pub enum Exchange {
+    OneThread,
+    OneSender,
+    Senders,
+    Lock,
+}
+
 pub struct Topology {
-    pub one_thread: bool,
+    pub exchange: Exchange,
     pub producers: u64,
     pub shape: Shape,
     pub claim: u64,
@@ -43,24 +52,26 @@ fn chain(handlers: usize) -> Vec<Vec<usize>> {
 impl Topology {
     pub fn named(name: &str) -> Option<Topology> {
         let mut words = name.split('-');
-        let mut first = words.next()?;
-        let one_thread = first == "core";
-        let producers = match first.strip_prefix("lock") {
-            Some(producers) => producers.parse().ok()?,
-            None => 1,
+        let first = words.next()?;
+        let (exchange, producers) = match (first, first.strip_prefix("lock"), first.strip_prefix("senders")) {
+            ("core", _, _) => (Exchange::OneThread, 1),
+            (_, Some(producers), _) => (Exchange::Lock, producers.parse().ok()?),
+            (_, _, Some(producers)) => (Exchange::Senders, producers.parse().ok()?),
+            _ => (Exchange::OneSender, 1),
         };
-        if one_thread || first.starts_with("lock") {
-            first = words.next()?;
-        }
+        let shape = match exchange {
+            Exchange::OneSender => first,
+            _ => words.next()?,
+        };
         let (claim, step) = match words.next() {
             None => (1, false),
             Some("step") => (1, true),
             Some(pace) => (pace.strip_prefix('b')?.parse().ok()?, false),
         };
         Some(Topology {
-            one_thread,
+            exchange,
             producers,
-            shape: Shape::named(first)?,
+            shape: Shape::named(shape)?,
             claim,
             step,
         })
