@@ -92,7 +92,7 @@ fn run<R: Runtime + Alloc<A = Global> + Threads + Wait + Sync>(rt: &R) -> Result
     let by_senders = several(rt, alloc, seed, count)?;
     let by_lock = locks(rt, alloc, seed, count)?;
     println!(rt; "{count} rounds")?;
-    eprintln!(rt; "by ring {by_ring}\nby several senders {by_senders}\nby lock {by_lock}")?;
+    eprintln!(rt; "by ring {by_ring}\nby senders {by_senders}\nby lock {by_lock}")?;
     Ok(())
 }
 

@@ -64,7 +64,7 @@ fn producers<I: Producing>(
 
 /// Runs a ring with a thread for each end, and compares what each handler received with what was
 /// published.
-fn run<I: Producing, O: Outlet + Drop, H: Halting, R: Threads + Wait + Sync>(
+fn run<I: Producing, O: Outlet + Drop + Send, H: Halting, R: Threads + Wait + Sync>(
     rt: &R,
     alloc: Global,
     parties: Parties<I, O, H>,
