@@ -7,6 +7,8 @@ use lib.Seq.{set-get_or}
 use Rattle.atomic_table.specs.Table.{step, Allows}
 use Rattle.atomic_table.specs.Table.{Step as TableStep}
 use Rattle.dr_graph.specs.Meaning.Graph.{upstreams_of, finals}
+use Rattle.dr_runs.specs.Seats.{end_of, seat_at}
+use Rattle.dr_runs.proofs.Seats.{adds_nothing, adds_one}
 use Rattle.dr_ring.specs.Meaning.Shape.{Shape, handlers_of}
 use Rattle.dr_ring.specs.Meaning.Words.{cursor_word, closed_word, halt_word, count_word, payload_word}
 use Rattle.dr_ring.specs.declared.record.HalfWrite.{HalfWrite}
@@ -20,10 +22,10 @@ use Rattle.dr_ring.specs.declared.record.Step.TheVariants.{SenderLooksAtCount, S
 use Rattle.dr_ring.specs.declared.record.Step.TheVariants.{SenderHalts, SenderCloses, ReceiverLooksAtClosed, ReceiverLooksAtCursor, ReceiverLooksAtCount}
 use Rattle.dr_ring.specs.declared.record.Step.TheVariants.{ReceiverLoadsFirst, ReceiverLoadsSecond, ReceiverCompletes, HalterHalts}
 use Rattle.dr_ring.specs.Meaning.Steps.{Happens}
-use Rattle.dr_ring.specs.Inside.Seats.{End, Sitting, end_of, seat_at, Loads, Stores, world_of, Ruled, as_sender, as_receiver, as_halter, sender_of, receiver_of, halter_of, IsSender, IsReceiver, IsHalter, FindsHalt, SenderLookedAtCount, SenderLookedAtHalt, SenderStoredFirst, SenderStoredSecond, SenderPublished, SenderHalted, SenderClosed, ReceiverLookedAtClosed, ReceiverLookedAtCursor, ReceiverLookedAtCount, ReceiverLoadedFirst, ReceiverLoadedSecond, ReceiverCompleted, HalterHalted}
+use Rattle.dr_ring.specs.Inside.Seats.{End, Sitting, ring_ends, Loads, Stores, world_of, Ruled, as_sender, as_receiver, as_halter, sender_of, receiver_of, halter_of, IsSender, IsReceiver, IsHalter, FindsHalt, SenderLookedAtCount, SenderLookedAtHalt, SenderStoredFirst, SenderStoredSecond, SenderPublished, SenderHalted, SenderClosed, ReceiverLookedAtClosed, ReceiverLookedAtCursor, ReceiverLookedAtCount, ReceiverLoadedFirst, ReceiverLoadedSecond, ReceiverCompleted, HalterHalted}
 use Rattle.dr_ring.proofs.Lists.{at_below, final_inside, last_look_le}
 use Rattle.dr_ring.proofs.Keeps.{receiver_of_handler, upstream_inside}
-use Rattle.dr_ring.proofs.Seats.{adds_nothing, adds_one, by_sender, by_receiver, by_halter}
+use Rattle.dr_ring.proofs.Seats.{by_sender, by_receiver, by_halter}
 
 -- a load of a word is allowed, and tells this
 abbrev MayLoad : Shape → ℕ → ℕ → Sitting → ℕ → (TableStep ℕ → End → ℕ → End → Type 0) → Type 0
@@ -75,7 +77,7 @@ sender_looks_at_count k {sh = sh} {slots = slots} id me i f here is plan has =
     (let i = count_word f in along_sender (λ m. MayLoad k slots id m i SenderLookedAtCount) me is
     (let r = sender_of me.0.ends in
     by_sender k slots id (SenderLooksAtCount f) (λ stores. stores) me.0.pasts r i (λ n. n) (λ n. sender_looked r i n) (SenderLookedAtCount (step slots i 0 0 none) (as_sender r))
-    (adds_nothing 0 (SenderLooksAtCount f) (λ n. refl))
+    (adds_nothing ring_ends 0 (SenderLooksAtCount f) (λ n. refl))
     (λ w e K. same_words k (SenderLooksAtCount f) w i (sender_looked r i (get_or w.words i 0)) w.receivers w.halter (look_at_final k w r f e (subst (λ (p : Shape). Contains (finals p.upstreams) f) (sender_plan k sh w r e plan K) has) K).0)
     (λ w e K. (let t = look_at_final k w r f e (subst (λ (p : Shape). Contains (finals p.upstreams) f) (sender_plan k sh w r e plan K) has) K in (refl, (t.1, t.2))))))
 
@@ -88,7 +90,7 @@ sender_looks_at_halt k {sh = sh} {slots = slots} id me n m named is plan room =
     (along_sender (λ x. MayLoad k slots id x halt_word (SenderLookedAtHalt n)) me is
     (let r = sender_of me.0.ends in
     by_sender k slots id (SenderLooksAtHalt n) (λ stores. stores) me.0.pasts r halt_word (λ n. n) (λ found. halt_looked r n found) (SenderLookedAtHalt n (step slots halt_word 0 0 none) (as_sender r))
-    (adds_nothing 0 (SenderLooksAtHalt n) (λ n. refl))
+    (adds_nothing ring_ends 0 (SenderLooksAtHalt n) (λ n. refl))
     (λ w e K. (let found = get_or w.words halt_word 0 in same_words k (SenderLooksAtHalt n) w halt_word (halt_looked r n found) w.receivers w.halter
     (subst (λ (q : SenderRecord). (0 < n → SeesRoom k q n) → Happens k (SenderLooksAtHalt n) w (world_of w.words (halt_looked q n found) w.receivers w.halter)) e
     (λ room. (room, refl)) (subst (λ (p : Shape). 0 < n → SeesRoom p r n) (sender_plan k sh w r e plan K) room))))
@@ -105,7 +107,7 @@ sender_stores_first k {sh = sh} {slots = slots} id me i s m v named here is plan
     along_sender (λ x. MayStore k slots id x i v (λ _ n. SenderStoresFirst s n) (SenderStoredFirst s)) me is
     (let r = sender_of me.0.ends in
     by_sender k slots id (SenderStoresFirst s v) (λ stores. stores ++ SenderStoresFirst s v ∷ []) me.0.pasts r i (λ _. v) (λ _. half_written r s v) (λ _. SenderStoredFirst s (step slots i v 0 none) (as_sender r) v)
-    (adds_one 0 (SenderStoresFirst s v) (λ n. refl))
+    (adds_one ring_ends 0 (SenderStoresFirst s v) (λ n. refl))
     (λ w e K. subst (λ (p : Shape). Happens k (SenderStoresFirst s v) w (world_of (set w.words (payload_word p s 0) v) (half_written r s v) w.receivers w.halter)) (sym (sender_plan k sh w r e plan K))
     (subst (λ (q : SenderRecord). IsOpen q s → q.half ≡ None → Happens k (SenderStoresFirst s v) w (world_of (set w.words (payload_word k s 0) v) (half_written q s v) w.receivers w.halter)) e (λ own free. (own, free, refl)) own free))
     (λ w e K. refl))))
@@ -122,7 +124,7 @@ sender_stores_second k {sh = sh} {slots = slots} id me i s first v here is plan 
     along_sender (λ m. MayStore k slots id m i v (λ _ n. SenderStoresSecond n) SenderStoredSecond) me is
     (let r = sender_of me.0.ends in
     by_sender k slots id (SenderStoresSecond v) (λ stores. stores ++ SenderStoresSecond v ∷ []) me.0.pasts r i (λ _. v) (λ _. written r s record { first = first; second = v }) (λ _. SenderStoredSecond (step slots i v 0 none) (as_sender r) v)
-    (adds_one 0 (SenderStoresSecond v) (λ n. refl))
+    (adds_one ring_ends 0 (SenderStoresSecond v) (λ n. refl))
     (λ w e K. subst (λ (p : Shape). Happens k (SenderStoresSecond v) w (world_of (set w.words (payload_word p s 1) v) (written r s record { first = first; second = v }) w.receivers w.halter)) (sym (sender_plan k sh w r e plan K))
     (subst (λ (q : SenderRecord). q.half ≡ Some x → Happens k (SenderStoresSecond v) w (world_of (set w.words (payload_word k s 1) v) (written q s record { first = first; second = v }) w.receivers w.halter)) e (λ has. (x, has, refl)) half))
     (λ w e K y other. (let same : x ≡ y = same_half x y (sym half ∙ other) in ap (λ (z : HalfWrite). as_sender (written r z.sequence record { first = z.first; second = v })) same))))
@@ -133,7 +135,7 @@ pub sender_publishes : (k : Shape) {slots : ℕ} (id : ℕ) (me : Sitting) (n : 
 sender_publishes k {slots = slots} id me n is lt le all free = along_sender (λ m. MayStore k slots id m cursor_word n (λ _ n. SenderPublishes n) SenderPublished) me is
     (let r = sender_of me.0.ends in
     by_sender k slots id (SenderPublishes n) (λ stores. stores ++ SenderPublishes n ∷ []) me.0.pasts r cursor_word (λ _. n) (λ _. published_to r n) (λ _. SenderPublished (step slots cursor_word n 0 none) (as_sender r) n)
-    (adds_one 0 (SenderPublishes n) (λ n. refl))
+    (adds_one ring_ends 0 (SenderPublishes n) (λ n. refl))
     (λ w e K. subst (λ (q : SenderRecord). length q.sent.published < n → n ≤ claimed q → AreWritten q n → q.half ≡ None → Happens k (SenderPublishes n) w (world_of (set w.words cursor_word n) (published_to q n) w.receivers w.halter)) e
     (λ lt le all free. (lt, le, all, free, refl)) lt le all free)
     (λ w e K. refl))
@@ -143,7 +145,7 @@ pub sender_halts : (k : Shape) {slots : ℕ} (id : ℕ) (me : Sitting) → IsSen
 sender_halts k {slots = slots} id me is = along_sender (λ m. MayStore k slots id m halt_word 1 (λ _ _. SenderHalts) SenderHalted) me is
     (let r = sender_of me.0.ends in
     by_sender k slots id SenderHalts (λ stores. stores ++ SenderHalts ∷ []) me.0.pasts r halt_word (λ _. 1) (λ _. sender_halted r) (λ _. SenderHalted (step slots halt_word 1 0 none) (as_sender r) 1)
-    (adds_one 0 SenderHalts (λ n. refl))
+    (adds_one ring_ends 0 SenderHalts (λ n. refl))
     (λ w e K. subst (λ (q : SenderRecord). Happens k SenderHalts w (world_of (set w.words halt_word 1) (sender_halted q) w.receivers w.halter)) e refl)
     (λ w e K. refl))
 
@@ -153,7 +155,7 @@ pub sender_closes : (k : Shape) {slots : ℕ} (id : ℕ) (me : Sitting) → IsSe
 sender_closes k {slots = slots} id me is halted all = along_sender (λ m. MayStore k slots id m closed_word 1 (λ _ _. SenderCloses) SenderClosed) me is
     (let r = sender_of me.0.ends in
     by_sender k slots id SenderCloses (λ stores. stores ++ SenderCloses ∷ []) me.0.pasts r closed_word (λ _. 1) (λ _. sender_closed r) (λ _. SenderClosed (step slots closed_word 1 0 none) (as_sender r) 1)
-    (adds_one 0 SenderCloses (λ n. refl))
+    (adds_one ring_ends 0 SenderCloses (λ n. refl))
     (λ w e K. subst (λ (q : SenderRecord). q.halted ≡ true → q.sent.pending ≡ [] → Happens k SenderCloses w (world_of (set w.words closed_word 1) (sender_closed q) w.receivers w.halter)) e (λ halted all. (halted, all, refl)) halted all)
     (λ w e K. refl))
 
@@ -161,7 +163,7 @@ pub receiver_looks_at_closed : (k : Shape) {slots : ℕ} (id : ℕ) (me : Sittin
     → MayLoad k slots id me closed_word ReceiverLookedAtClosed
 receiver_looks_at_closed k {slots = slots} id me is = along_receiver (λ m. MayLoad k slots id m closed_word ReceiverLookedAtClosed) me is
     (let r = receiver_of me.0.ends in
-    by_receiver k slots id (ReceiverLooksAtClosed r.number) (λ stores. stores) me.0.pasts r closed_word (λ n. n) (λ n. receiver_looked r closed_word n) (ReceiverLookedAtClosed (step slots closed_word 0 0 none) (as_receiver r)) (λ n. refl) (adds_nothing (r.number + 2) (ReceiverLooksAtClosed r.number) (λ n. refl))
+    by_receiver k slots id (ReceiverLooksAtClosed r.number) (λ stores. stores) me.0.pasts r closed_word (λ n. n) (λ n. receiver_looked r closed_word n) (ReceiverLookedAtClosed (step slots closed_word 0 0 none) (as_receiver r)) (λ n. refl) (adds_nothing ring_ends (r.number + 2) (ReceiverLooksAtClosed r.number) (λ n. refl))
     (λ w at K. same_words k (ReceiverLooksAtClosed r.number) w closed_word w.sender (set w.receivers r.number (receiver_looked r closed_word (get_or w.words closed_word 0))) w.halter (r, at, refl))
     (λ w at K. (let was = K.received r.number r at in
     (refl, (last_look_le k w.words 0 r.looks closed_word (omega arith) was.looks, K.flags.close, λ told. (was.told told).0)))))
@@ -170,7 +172,7 @@ pub receiver_looks_at_cursor : (k : Shape) {slots : ℕ} (id : ℕ) (me : Sittin
     → MayLoad k slots id me cursor_word ReceiverLookedAtCursor
 receiver_looks_at_cursor k {slots = slots} id me is = along_receiver (λ m. MayLoad k slots id m cursor_word ReceiverLookedAtCursor) me is
     (let r = receiver_of me.0.ends in
-    by_receiver k slots id (ReceiverLooksAtCursor r.number) (λ stores. stores) me.0.pasts r cursor_word (λ n. n) (λ n. cursor_looked r n) (ReceiverLookedAtCursor (step slots cursor_word 0 0 none) (as_receiver r)) (λ n. refl) (adds_nothing (r.number + 2) (ReceiverLooksAtCursor r.number) (λ n. refl))
+    by_receiver k slots id (ReceiverLooksAtCursor r.number) (λ stores. stores) me.0.pasts r cursor_word (λ n. n) (λ n. cursor_looked r n) (ReceiverLookedAtCursor (step slots cursor_word 0 0 none) (as_receiver r)) (λ n. refl) (adds_nothing ring_ends (r.number + 2) (ReceiverLooksAtCursor r.number) (λ n. refl))
     (λ w at K. same_words k (ReceiverLooksAtCursor r.number) w cursor_word w.sender (set w.receivers r.number (cursor_looked r (get_or w.words cursor_word 0))) w.halter (r, at, refl))
     (λ w at K. (let was = K.received r.number r at in let t = was.taken in let c = K.counts.cursor in
     (refl, (last_look_le k w.words 0 r.looks cursor_word (omega arith) was.looks, omega arith, λ told. (let d = (was.told told).1 in omega arith))))))
@@ -192,7 +194,7 @@ receiver_looks_at_count k {sh = sh} {slots = slots} id me i h u here is plan num
     (let i = count_word u in let r = receiver_of me.0.ends in
     let mine : Contains (upstreams_of sh.upstreams r.number) u = subst (λ (j : ℕ). Contains (upstreams_of sh.upstreams j) u) (sym number) has in
     along_receiver (λ m. MayLoad k slots id m i ReceiverLookedAtCount) me is
-    (by_receiver k slots id (ReceiverLooksAtCount r.number u) (λ stores. stores) me.0.pasts r i (λ n. n) (λ n. receiver_looked r i n) (ReceiverLookedAtCount (step slots i 0 0 none) (as_receiver r)) (λ n. refl) (adds_nothing (r.number + 2) (ReceiverLooksAtCount r.number u) (λ n. refl))
+    (by_receiver k slots id (ReceiverLooksAtCount r.number u) (λ stores. stores) me.0.pasts r i (λ n. n) (λ n. receiver_looked r i n) (ReceiverLookedAtCount (step slots i 0 0 none) (as_receiver r)) (λ n. refl) (adds_nothing ring_ends (r.number + 2) (ReceiverLooksAtCount r.number u) (λ n. refl))
     (λ w at K. same_words k (ReceiverLooksAtCount r.number u) w i w.sender (set w.receivers r.number (receiver_looked r i (get_or w.words i 0))) w.halter
     (r, at, (subst (λ (p : Shape). Contains (upstreams_of p.upstreams r.number) u) (receiver_plan k sh w r.number r at plan K) mine, refl)))
     (λ w at K. (let t = tells_count k w r u at (subst (λ (p : Shape). Contains (upstreams_of p.upstreams r.number) u) (receiver_plan k sh w r.number r at plan K) mine) K in
@@ -207,7 +209,7 @@ receiver_loads_first k {sh = sh} {slots = slots} id me i h n here is plan number
     (let r = receiver_of me.0.ends in let i = payload_word sh (length r.received) 0 in
     let mine : IsBelowBarrier sh r.number r = subst (λ (j : ℕ). IsBelowBarrier sh j r) (sym number) low in
     along_receiver (λ m. MayLoad k slots id m i ReceiverLoadedFirst) me is
-    (by_receiver k slots id (ReceiverLoadsFirst r.number) (λ stores. stores) me.0.pasts r i (λ n. n) (λ n. half_taken r n) (ReceiverLoadedFirst (step slots i 0 0 none) (as_receiver r)) (λ n. refl) (adds_nothing (r.number + 2) (ReceiverLoadsFirst r.number) (λ n. refl))
+    (by_receiver k slots id (ReceiverLoadsFirst r.number) (λ stores. stores) me.0.pasts r i (λ n. n) (λ n. half_taken r n) (ReceiverLoadedFirst (step slots i 0 0 none) (as_receiver r)) (λ n. refl) (adds_nothing ring_ends (r.number + 2) (ReceiverLoadsFirst r.number) (λ n. refl))
     (λ w at K. (let same = receiver_plan k sh w r.number r at plan K in
     same_words k (ReceiverLoadsFirst r.number) w i w.sender (set w.receivers r.number (half_taken r (get_or w.words i 0))) w.halter
     (subst (λ (p : Shape). Happens k (ReceiverLoadsFirst r.number) w (world_of w.words w.sender (set w.receivers r.number (half_taken r (get_or w.words (payload_word p (length r.received) 0) 0))) w.halter)) (sym same)
@@ -226,7 +228,7 @@ receiver_loads_second k {sh = sh} {slots = slots} id me i h n first here is plan
     (let r = receiver_of me.0.ends in let i = payload_word sh (length r.received) 1 in
     let mine : IsBelowBarrier sh r.number r = subst (λ (j : ℕ). IsBelowBarrier sh j r) (sym number) low in
     along_receiver (λ m. MayLoad k slots id m i ReceiverLoadedSecond) me is
-    (by_receiver k slots id (ReceiverLoadsSecond r.number) (λ stores. stores) me.0.pasts r i (λ n. n) (λ n. took r record { first = first; second = n }) (ReceiverLoadedSecond (step slots i 0 0 none) (as_receiver r)) (λ n. refl) (adds_nothing (r.number + 2) (ReceiverLoadsSecond r.number) (λ n. refl))
+    (by_receiver k slots id (ReceiverLoadsSecond r.number) (λ stores. stores) me.0.pasts r i (λ n. n) (λ n. took r record { first = first; second = n }) (ReceiverLoadedSecond (step slots i 0 0 none) (as_receiver r)) (λ n. refl) (adds_nothing ring_ends (r.number + 2) (ReceiverLoadsSecond r.number) (λ n. refl))
     (λ w at K. (let same = receiver_plan k sh w r.number r at plan K in
     same_words k (ReceiverLoadsSecond r.number) w i w.sender (set w.receivers r.number (took r record { first = first; second = get_or w.words i 0 })) w.halter
     (subst (λ (p : Shape). Happens k (ReceiverLoadsSecond r.number) w (world_of w.words w.sender (set w.receivers r.number (took r record { first = first; second = get_or w.words (payload_word p (length r.received) 1) 0 })) w.halter)) (sym same)
@@ -240,7 +242,7 @@ receiver_completes k {slots = slots} id me i h n here is number rise le =
     subst (λ (i : ℕ). MayStore k slots id me i n (λ me n. ReceiverCompletes (receiver_of me.0).number n) ReceiverCompleted) (sym (here ∙ ap count_word (sym number)))
     (let r = receiver_of me.0.ends in let i = count_word r.number in
     along_receiver (λ m. MayStore k slots id m i n (λ me n. ReceiverCompletes (receiver_of me.0).number n) ReceiverCompleted) me is
-    (by_receiver k slots id (ReceiverCompletes r.number n) (λ stores. stores ++ ReceiverCompletes r.number n ∷ []) me.0.pasts r i (λ _. n) (λ _. completed_to r n) (λ _. ReceiverCompleted (step slots i n 0 none) (as_receiver r) n) (λ n. refl) (adds_one (r.number + 2) (ReceiverCompletes r.number n) (λ n. refl))
+    (by_receiver k slots id (ReceiverCompletes r.number n) (λ stores. stores ++ ReceiverCompletes r.number n ∷ []) me.0.pasts r i (λ _. n) (λ _. completed_to r n) (λ _. ReceiverCompleted (step slots i n 0 none) (as_receiver r) n) (λ n. refl) (adds_one ring_ends (r.number + 2) (ReceiverCompletes r.number n) (λ n. refl))
     (λ w at K. (r, at, (rise, le, refl)))
     (λ w at K. refl)))
 
@@ -249,6 +251,6 @@ pub halter_halts : (k : Shape) {slots : ℕ} (id : ℕ) (me : Sitting) → IsHal
 halter_halts k {slots = slots} id me is = along_halter (λ m. MayStore k slots id m halt_word 1 (λ _ _. HalterHalts) HalterHalted) me is
     (let r = halter_of me.0.ends in
     by_halter k slots id HalterHalts (λ stores. stores ++ HalterHalts ∷ []) me.0.pasts r halt_word (λ _. 1) (λ _. halter_halted r) (λ _. HalterHalted (step slots halt_word 1 0 none) (as_halter r) 1)
-    (adds_one 1 HalterHalts (λ n. refl))
+    (adds_one ring_ends 1 HalterHalts (λ n. refl))
     (λ w e K. subst (λ (q : HalterRecord). Happens k HalterHalts w (world_of (set w.words halt_word 1) w.sender w.receivers (halter_halted q))) e refl)
     (λ w e K. refl))

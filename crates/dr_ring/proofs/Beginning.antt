@@ -23,7 +23,7 @@ pub fresh_count : (k : Shape) (h n : ℕ) → length (fresh_receivers k h n) ≡
 fresh_count k h zero = refl
 fresh_count k h (suc n) = ap suc (fresh_count k (suc h) n)
 
-abbrev zeros : ℕ → List ℕ
+abbrev pub zeros : ℕ → List ℕ
 zeros n = replicate n 0
 
 pub all_zero : (n i : ℕ) → ◌≡◌ {A = ℕ} (get_or (zeros n) i 0) 0

@@ -8,12 +8,12 @@ pub mod Seats
 pub mod Allowed
 pub mod Plans
 pub mod Stations
+pub mod Looking
 pub mod Rounds
 pub mod Noting
 pub mod Writing
 pub mod Claims
 pub mod Polls
-pub mod Cuts
 pub mod Making
 pub mod Settling
 pub mod Gathering

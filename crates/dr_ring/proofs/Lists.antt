@@ -69,17 +69,21 @@ past_more k words i looks lt all j x at =
       | inr new ↦ subst (IsPast k words) new (record { rises = lt; before = omega arith })
     ]
 
--- a look is never above its word
-pub last_look_le : (k : Shape) (words : List ℕ) (d : ℕ) (looks : List Look) (word : ℕ) → d ≤ get_or words word 0 → ArePast k words looks
-    → last_look d looks word ≤ get_or words word 0
-last_look_le k words d [] word le all = le
-last_look_le k words d (x ∷ xs) word le all =
-    last_look_le k words (if x.word == word then x.value else d) xs word
+-- the last look is not above its word, where none is
+pub last_look_below : (words : List ℕ) (d : ℕ) (looks : List Look) (word : ℕ) → d ≤ get_or words word 0
+    → ((i : ℕ) (x : Look) → get_elem? looks i ≡ some x → x.value ≤ get_or words x.word 0) → last_look d looks word ≤ get_or words word 0
+last_look_below words d [] word le all = le
+last_look_below words d (x ∷ xs) word le all =
+    last_look_below words (if x.word == word then x.value else d) xs word
     (elim (cases_eq x.word word) [
-      | inl e ↦ rw (eq-eqb x.word word e) (subst (λ (m : ℕ). x.value ≤ get_or words m 0) e (all 0 x refl).before)
+      | inl e ↦ rw (eq-eqb x.word word e) (subst (λ (m : ℕ). x.value ≤ get_or words m 0) e (all 0 x refl))
       | inr ne ↦ rw (ne_eqb x.word word ne) le
     ])
     (λ i y at. all (suc i) y at)
+
+pub last_look_le : (k : Shape) (words : List ℕ) (d : ℕ) (looks : List Look) (word : ℕ) → d ≤ get_or words word 0 → ArePast k words looks
+    → last_look d looks word ≤ get_or words word 0
+last_look_le k words d looks word le all = last_look_below words d looks word le (λ i x at. (all i x at).before)
 
 pub last_look_more : (d : ℕ) (looks : List Look) (i v : ℕ) → last_look d (looks ++ look i v ∷ []) i ≡ v
 last_look_more d [] i v = rw (eq-eqb i i refl) refl

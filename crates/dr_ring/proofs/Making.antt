@@ -2,48 +2,68 @@
 use Rattle.std.proofs.Common.{length-set, set, ◌≡◌, ℕ, zero, suc, ◌+◌, ◌-◌, ◌<◌, ◌≤◌, List, [], ◌∷◌, ◌++◌, map, length}
 use Rattle.std.proofs.Common.{get_or, take, drop, replicate, sym, refl, ap, ◌∙◌, subst, arith, append_assoc, inl, inr}
 use Rattle.std.proofs.lemmas.List.{length-map, length-replicate}
+use Rattle.atomic_table.specs.Table.{opening as table_opening}
 use Rattle.atomic_table.specs.Seated.{TableId}
+use Rattle.dr_graph.specs.Meaning.Graph.{IsGraph}
+use Rattle.dr_runs.specs.Seats.{seat_at, fresh_seat, first_view, rest_view}
+use Rattle.dr_runs.proofs.Lists.{at_map}
+use Rattle.dr_runs.proofs.Cuts.{ruled_fresh}
 use Rattle.dr_ring.specs.Meaning.Shape.{Shape, handlers_of}
 use Rattle.dr_ring.specs.Meaning.Words.{words_of}
 use Rattle.dr_ring.specs.Calls.Plans.{IsPlan}
 use Rattle.dr_ring.specs.declared.record.SenderRecord.{SenderRecord}
 use Rattle.dr_ring.specs.declared.record.ReceiverRecord.{ReceiverRecord}
-use Rattle.dr_ring.specs.declared.record.EndRecord.TheVariants.{Receives}
-use Rattle.dr_ring.specs.Meaning.Moments.{fresh_receiver, fresh_receivers}
-use Rattle.dr_ring.specs.Inside.Seats.{End, Sitting, seat_at, IsAtTable, as_receiver, receivers_seat}
+use Rattle.dr_ring.specs.declared.record.EndRecord.{EndRecord}
+use Rattle.dr_ring.specs.declared.record.EndRecord.TheVariants.{Sends, Receives, Halts}
+use Rattle.dr_ring.specs.Meaning.Moments.{fresh_sender, fresh_receiver, fresh_receivers, fresh_halter, new_world}
+use Rattle.dr_ring.specs.Inside.Seats.{End, Sitting, end_number, Stands, exchange, Ruled, known_receivers, fresh_ends, all_ends, IsAtTable, as_receiver}
 use Rattle.dr_ring.specs.Calls.Ends.{SenderEnd, ReceiverEnd, HalterEnd}
 use Rattle.dr_ring.specs.Inside.Stations.{receiver_end, ReceiverSits}
 use Rattle.dr_ring.specs.Calls.Settling.{AreAllEnds}
 use Rattle.dr_ring.proofs.Lists.{there, value_at, each_set}
 use Rattle.std.proofs.lemmas.Bool.{cases_lt}
-use Rattle.dr_ring.proofs.Beginning.{fresh_count}
+use Rattle.dr_ring.proofs.Beginning.{fresh_at, fresh_count}
 use mathlib.Core.Option.{some, some-injective}
 use lib.ListN.{get_elem?}
 use Rattle.dr_ring.specs.Calls.Making.{at_ring, AreFreshEnds}
+
+-- where each end stands in the first view
+stands_fresh : (k : Shape) (j : ℕ) (e : EndRecord) → get_elem? (fresh_ends k) j ≡ some e → (end_number e ≡ j) × Stands (new_world k) e
+stands_fresh k zero e at = subst (λ (x : EndRecord). (end_number x ≡ 0) × Stands (new_world k) x) (some-injective (Sends (fresh_sender k)) e at) (refl, refl)
+stands_fresh k (suc zero) e at = subst (λ (x : EndRecord). (end_number x ≡ 1) × Stands (new_world k) x) (some-injective (Halts (fresh_halter k)) e at) (refl, refl)
+stands_fresh k (suc (suc j)) e at =
+    let rs = fresh_receivers k 0 (handlers_of k) in let t = at_map (λ (r : ReceiverRecord). Receives r) rs j e at in
+    let number : t.0.number ≡ j = ap (λ (r : ReceiverRecord). r.number) (fresh_at k 0 (handlers_of k) j t.0 t.1) ∙ omega arith in
+    subst (λ (x : EndRecord). (end_number x ≡ suc (suc j)) × Stands (new_world k) x) t.2
+    ((let g = number in omega arith), ap (λ (m : ℕ). get_elem? rs m) number ∙ t.1)
+
+-- a new ring keeps the rule
+pub ruled_new : (k : Shape) (ws : List ℕ) → ws ≡ replicate (words_of k) 0 → IsGraph k.upstreams → 0 < k.size → Ruled k (table_opening ws [] (all_ends k))
+ruled_new k ws is graph some_slot = ruled_fresh (exchange k) (fresh_ends k) (λ n. n) ws (sym is) (graph, some_slot) (stands_fresh k)
 
 -- the next of the receivers
 fresh_next : (k : Shape) (h n : ℕ) → h < n → fresh_receivers k h (n - h) ≡ fresh_receiver k h ∷ fresh_receivers k (h + 1) (n - (h + 1))
 fresh_next k h n lt = let a : n - h ≡ suc (n - (h + 1)) = omega arith in let b : suc h ≡ h + 1 = omega arith in
     ap (fresh_receivers k h) a ∙ ap (λ (m : ℕ). fresh_receiver k h ∷ fresh_receivers k m (n - (h + 1))) b
 
-abbrev seat_for : List ReceiverRecord → Sitting
-seat_for rs = (record { ends = map (λ r. Receives r) rs; pasts = map (λ r. []) rs }, [])
-
 abbrev first_cut : Sitting → Sitting
-first_cut m = (record { ends = take 1 m.0.ends; pasts = take 1 m.0.pasts }, m.1)
+first_cut m = (first_view m.0, m.1)
 
 abbrev rest_cut : Sitting → Sitting
-rest_cut m = (record { ends = drop 1 m.0.ends; pasts = drop 1 m.0.pasts }, [])
+rest_cut m = (rest_view m.0, [])
 
 -- a receiver that has not stepped
-abbrev pub fresh_seat : Shape → ℕ → Sitting
-fresh_seat k h = seat_at (as_receiver (fresh_receiver k h)) ([] ∷ [])
+abbrev pub own_seat : Shape → ℕ → Sitting
+own_seat k h = seat_at (as_receiver (fresh_receiver k h)) ([] ∷ [])
 
-pub cut_own : (k : Shape) (h n : ℕ) (me me' : Sitting) → h < n → me ≡ receivers_seat k h (n - h) → me' ≡ first_cut me → me' ≡ fresh_seat k h
+abbrev seat_for : List ReceiverRecord → Sitting
+seat_for rs = fresh_seat (map (λ r. Receives r) rs)
+
+pub cut_own : (k : Shape) (h n : ℕ) (me me' : Sitting) → h < n → me ≡ fresh_seat (known_receivers k h (n - h)) → me' ≡ first_cut me → me' ≡ own_seat k h
 cut_own k h n me me' lt was is = is ∙ ap first_cut was ∙ ap (λ (rs : List ReceiverRecord). first_cut (seat_for rs)) (fresh_next k h n lt)
 
-pub cut_rest : (k : Shape) (h n : ℕ) (me me' : Sitting) → h < n → me ≡ receivers_seat k h (n - h) → me' ≡ rest_cut me
-    → me' ≡ receivers_seat k (h + 1) (n - (h + 1))
+pub cut_rest : (k : Shape) (h n : ℕ) (me me' : Sitting) → h < n → me ≡ fresh_seat (known_receivers k h (n - h)) → me' ≡ rest_cut me
+    → me' ≡ fresh_seat (known_receivers k (h + 1) (n - (h + 1)))
 cut_rest k h n me me' lt was is = is ∙ ap rest_cut was ∙ ap (λ (rs : List ReceiverRecord). rest_cut (seat_for rs)) (fresh_next k h n lt)
 
 pub sits_fresh : (at own : TableId) (me : End) (k : Shape) (h : ℕ) → IsAtTable own at k → IsPlan k → h < handlers_of k
@@ -60,7 +80,7 @@ listed_next t k h n items new e all lt was is own = ap (λ (xs : List ReceiverEn
     ∙ append_assoc items (at_ring t (fresh_receiver k h) ∷ []) (map (at_ring t) (fresh_receivers k (h + 1) (n - (h + 1))))
     ∙ ap (λ (rs : List ReceiverRecord). items ++ map (at_ring t) rs) (sym (fresh_next k h n lt)) ∙ was
 
-pub view_fresh : (t own : TableId) (me : Sitting) (k : Shape) (h : ℕ) → own ≡ t → me ≡ fresh_seat k h → receiver_end own me ≡ at_ring t (fresh_receiver k h)
+pub view_fresh : (t own : TableId) (me : Sitting) (k : Shape) (h : ℕ) → own ≡ t → me ≡ own_seat k h → receiver_end own me ≡ at_ring t (fresh_receiver k h)
 view_fresh t own me k h same is = λ i. receiver_end (same i) (is i)
 
 pub some_words : (k : Shape) (n : ℕ) (ws : List ℕ) → n ≡ length ws → ws ≡ replicate (words_of k) 0 → 0 < n

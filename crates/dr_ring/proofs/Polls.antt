@@ -105,19 +105,19 @@ fits_batch r s t n done count closed cursor available xs F L is many =
     subst (λ (q : ReceiverRecord). ReceiverFits q (n + count) done) (sym (is ∙ ap (λ (q : ReceiverRecord). received_all q xs) L.is))
     (record { half = F.half; taken = (let e = F.taken in omega (arith, length-append r.received xs)); completed = F.completed })
 
-not_true : (b : Bool) → (b ≡ true → ⊥) → b ≡ false
+pub not_true : (b : Bool) → (b ≡ true → ⊥) → b ≡ false
 not_true true never = absurd (never refl)
 not_true false never = refl
 
-either_true : (a b : Bool) → (a || b) ≡ true → (a ≡ true) ⊎ (b ≡ true)
+pub either_true : (a b : Bool) → (a || b) ≡ true → (a ≡ true) ⊎ (b ≡ true)
 either_true true b e = inl refl
 either_true false b e = inr e
 
-second_true : (a b : Bool) → (a && b) ≡ true → b ≡ true
+pub second_true : (a b : Bool) → (a && b) ≡ true → b ≡ true
 second_true true b e = e
 second_true false b e = absurd (cc)
 
-some_or_none : (ups : List ℕ) → (ups ≡ []) ⊎ (ups ≢ [])
+pub some_or_none : (ups : List ℕ) → (ups ≡ []) ⊎ (ups ≢ [])
 some_or_none [] = inl refl
 some_or_none (u ∷ ups) = inr (λ (e : u ∷ ups ≡ []). cc)
 

@@ -16,60 +16,14 @@ use Rattle.dr_ring.specs.Calls.Ends.{count_looks}
 use Rattle.dr_ring.specs.Calls.Receiving.{offered_by}
 use Rattle.dr_ring.specs.Inside.Fits.{IsSeenLeast}
 use Rattle.dr_ring.specs.Inside.Parts.{sender_saw, lesser_of, LooksAtFinals, IsEnough, IsShort, receiver_saw, ups_of, LooksAtUpstreams}
-use Rattle.dr_ring.proofs.Lists.{last_look_more, last_look_else}
+use Rattle.dr_runs.proofs.Lists.{no_elements, take_whole}
+use Rattle.dr_ring.proofs.Lists.{last_look_more}
+use Rattle.dr_ring.proofs.Looking.{get_any, last_rises, last_least, looks_more, looks_few, no_looks_at, number_at, offers_more, contains_more, contains_last}
 use Rattle.dr_ring.proofs.Pictures.{some_final}
-
--- the default of a list's element does not matter inside it
-get_any : (xs : List ℕ) (i a b : ℕ) → i < length xs → get_or xs i a ≡ get_or xs i b
-get_any [] i a b lt = absurd (omega arith)
-get_any (x ∷ xs) zero a b lt = refl
-get_any (x ∷ xs) (suc i) a b lt = get_any xs i a b (omega arith)
 
 -- one look more
 saw_one : (r : SenderRecord) (xs : List Look) (i v : ℕ) → sender_looked (sender_saw r xs) i v ≡ sender_saw r (xs ++ look i v ∷ [])
 saw_one r xs i v = ap (λ (ys : List Look). record r { looks = ys }) (append_assoc r.looks xs (look i v ∷ []))
-
-last_rises : (d : ℕ) (xs : List Look) (i v w : ℕ) → last_look d xs i ≤ v → last_look d xs w ≤ last_look d (xs ++ look i v ∷ []) w
-last_rises d xs i v w le =
-    elim (cases_eq i w) [
-      | inl e ↦ (let a : last_look d (xs ++ look i v ∷ []) w ≡ v = ap (λ (j : ℕ). last_look d (xs ++ look i v ∷ []) j) (sym e) ∙ last_look_more d xs i v in let b : last_look d xs w ≡ last_look d xs i = ap (last_look d xs) (sym e) in omega arith)
-      | inr ne ↦ (let a : last_look d (xs ++ look i v ∷ []) w ≡ last_look d xs w = last_look_else d xs i w v ne in omega arith)
-    ]
-
--- what a look at one word leaves of the last looks at another that it raised to n or more
-last_least : (d : ℕ) (xs : List Look) (i v w n : ℕ) → n ≤ last_look d xs w → n ≤ v → n ≤ last_look d (xs ++ look i v ∷ []) w
-last_least d xs i v w n le high =
-    elim (cases_eq i w) [
-      | inl e ↦ (let a : last_look d (xs ++ look i v ∷ []) w ≡ v = ap (λ (j : ℕ). last_look d (xs ++ look i v ∷ []) j) (sym e) ∙ last_look_more d xs i v in omega arith)
-      | inr ne ↦ (let a : last_look d (xs ++ look i v ∷ []) w ≡ last_look d xs w = last_look_else d xs i w v ne in omega arith)
-    ]
-
-looks_more : (ups counts : List ℕ) (i v : ℕ) → length counts ≡ i → i < length ups
-    → count_looks (take (i + 1) ups) (counts ++ v ∷ []) ≡ count_looks (take i ups) counts ++ look (count_word (get_or ups i 0)) v ∷ []
-looks_more [] counts i v e lt = absurd (omega arith)
-looks_more (u ∷ ups) [] zero v e lt = refl
-looks_more (u ∷ ups) [] (suc i) v e lt = absurd (omega arith)
-looks_more (u ∷ ups) (n ∷ counts) zero v e lt = absurd (omega arith)
-looks_more (u ∷ ups) (n ∷ counts) (suc i) v e lt =
-    let at : suc i + 1 ≡ suc (i + 1) = omega arith in
-    ap (λ (j : ℕ). count_looks (take j (u ∷ ups)) (n ∷ (counts ++ v ∷ []))) at ∙ ap (λ (xs : List Look). look (count_word u) n ∷ xs) (looks_more ups counts i v (omega arith) (omega arith))
-
--- counts of fewer handlers
-looks_few : (hs counts : List ℕ) (i : ℕ) → length counts ≡ i → count_looks (take i hs) counts ≡ count_looks hs counts
-looks_few [] counts zero e = refl
-looks_few [] counts (suc i) e = refl
-looks_few (h ∷ hs) [] zero e = refl
-looks_few (h ∷ hs) [] (suc i) e = absurd (omega arith)
-looks_few (h ∷ hs) (n ∷ counts) zero e = absurd (omega arith)
-looks_few (h ∷ hs) (n ∷ counts) (suc i) e = ap (λ (xs : List Look). look (count_word h) n ∷ xs) (looks_few hs counts i (omega arith))
-
-last_number : (xs : List ℕ) (x d : ℕ) → get_or (xs ++ x ∷ []) (length xs) d ≡ x
-last_number [] x d = refl
-last_number (y ∷ xs) x d = last_number xs x d
-
--- one count more
-number_at : (xs : List ℕ) (x i : ℕ) → length xs ≡ i → get_or (xs ++ x ∷ []) i 0 ≡ x
-number_at xs x i e = ap (λ (j : ℕ). get_or (xs ++ x ∷ []) j 0) (sym e) ∙ last_number xs x 0
 
 -- the first i finals were looked at
 pub record Scanned (r : SenderRecord) (needed least i : ℕ) (s : SenderRecord) : Type 0 where
@@ -84,9 +38,6 @@ pub record Scanned (r : SenderRecord) (needed least i : ℕ) (s : SenderRecord) 
   pub some_one : 0 < i → needed ≤ length r.sent.published
   pub front : least ≤ length r.sent.published
 
-no_looks_at : (hs : List ℕ) → count_looks hs [] ≡ []
-no_looks_at [] = refl
-no_looks_at (h ∷ hs) = refl
 
 saw_nothing : (r : SenderRecord) → LooksAtFinals r [] r
 saw_nothing r = record {
@@ -107,7 +58,7 @@ scan_more : (k : Shape) (xs : List Look) (counts : List ℕ) (i f v : ℕ) → l
     → get_or (finals k.upstreams) i 0 ≡ f → xs ≡ count_looks (take i (finals k.upstreams)) counts
     → xs ++ look (count_word f) v ∷ [] ≡ count_looks (take (i + 1) (finals k.upstreams)) (counts ++ v ∷ [])
 scan_more k xs counts i f v each inside at are =
-    ap (λ (ys : List Look). ys ++ look (count_word f) v ∷ []) are ∙ ap (λ (g : ℕ). count_looks (take i (finals k.upstreams)) counts ++ look (count_word g) v ∷ []) (sym at) ∙ sym (looks_more (finals k.upstreams) counts i v each inside)
+    ap (λ (ys : List Look). ys ++ look (count_word f) v ∷ []) are ∙ ap (λ (g : ℕ). count_looks (take i (finals k.upstreams)) counts ++ look (count_word g) v ∷ []) (sym at) ∙ sym (looks_more count_word (finals k.upstreams) counts i v each inside)
 
 at_end : (counts : List ℕ) (v needed i j : ℕ) → length counts ≡ i → j < i + 1 → ((l : ℕ) → l < i → needed ≤ get_or counts l 0) → needed ≤ v
     → needed ≤ get_or (counts ++ v ∷ []) j 0
@@ -149,7 +100,7 @@ scanned_low r s s' needed least i f v S inside at is rise low =
       saw_more r s s' S.xs (count_word f) v S.saw is rise,
       record {
         counts = S.counts ++ v ∷ [];
-        are = scan_more r.plan S.xs S.counts i f v S.each inside at S.are ∙ looks_few (finals r.plan.upstreams) (S.counts ++ v ∷ []) (i + 1) len;
+        are = scan_more r.plan S.xs S.counts i f v S.each inside at S.are ∙ looks_few count_word (finals r.plan.upstreams) (S.counts ++ v ∷ []) (i + 1) len;
         before = i;
         last = len;
         among = omega arith;
@@ -170,7 +121,7 @@ scanned_all r s needed least i plan S all =
         seen = λ f has. (let lt = has.1 in let at : get_or (finals r.plan.upstreams) has.0 0 ≡ f = get_any (finals r.plan.upstreams) has.0 0 f has.1 ∙ has.2 in
             subst (λ (m : ℕ). least ≤ last_look 0 (r.looks ++ S.xs) (count_word m)) at (S.high has.0 (omega arith)));
         counts = S.counts;
-        are = S.are ∙ looks_few (finals r.plan.upstreams) S.counts i S.each;
+        are = S.are ∙ looks_few count_word (finals r.plan.upstreams) S.counts i S.each;
         all = inr (S.each ∙ all);
         high = let each = S.each in λ j lt. S.ahead j (omega arith);
       },
@@ -187,18 +138,13 @@ remembers r needed least front enough low at seen = (
     front = omega arith;
     seen = λ f has. subst (λ (ys : List Look). least ≤ last_look 0 ys (count_word f)) (sym (append-nil r.looks)) (seen f has);
     counts = [];
-    are = sym (no_looks_at (finals r.plan.upstreams));
+    are = sym (no_looks_at count_word (finals r.plan.upstreams));
     all = inl refl;
     high = λ i lt. absurd (omega arith);
   },
 )
 
 -- the counts of the first i upstreams were looked at
-least_more : (counts : List ℕ) (v : ℕ) → 0 < length counts → least_of (counts ++ v ∷ []) ≡ min (least_of counts) v
-least_more [] v lt = absurd (omega arith)
-least_more (n ∷ []) v lt = refl
-least_more (n ∷ m ∷ ms) v lt = let e : least_of ((m ∷ ms) ++ v ∷ []) ≡ min (least_of (m ∷ ms)) v = least_more (m ∷ ms) v (omega arith) in omega arith
-
 pub record Round (ups : List ℕ) (r : ReceiverRecord) (cursor available i : ℕ) (s : ReceiverRecord) : Type 0 where
   pub counts : List ℕ
   pub each : length counts ≡ i
@@ -209,32 +155,12 @@ pub record Round (ups : List ℕ) (r : ReceiverRecord) (cursor available i : ℕ
   pub high : (j : ℕ) → j < i → available ≤ last_look 0 (r.looks ++ count_looks (take i ups) counts) (count_word (get_or ups j 0))
   pub told : r.told ≡ true → 0 < i → available ≤ length r.received
 
--- what a list of counts offers, once one more is seen
-offers_more : (cursor v available available' : ℕ) (counts : List ℕ) (first : Bool) → first ≡ (length counts == 0)
-    → available ≡ offered_by cursor counts → available' ≡ lesser_of first v available
-    → (available' ≡ offered_by cursor (counts ++ v ∷ [])) × (available' ≤ v) × (0 < length counts → available' ≤ available) × ((available' ≡ v) ⊎ ((0 < length counts) × (available' ≡ available)))
-offers_more cursor v available available' [] first start offered new =
-    let e : available' ≡ v = new ∙ rw (start) refl in (e, omega arith, (λ lt. absurd (omega arith)), inl e)
-offers_more cursor v available available' (n ∷ counts) first start offered new =
-    let least : least_of ((n ∷ counts) ++ v ∷ []) ≡ min (least_of (n ∷ counts)) v = least_more (n ∷ counts) v (omega arith) in
-    let first_no : first ≡ false = start ∙ ne_eqb (length (n ∷ counts)) 0 (λ (z : length (n ∷ counts) ≡ 0). omega arith) in
-    elim (cases_lt v available) [
-      | inl lt ↦ (let e : available' ≡ v = new ∙ rw (first_no, lt-ltb v available lt) refl in (omega arith, omega arith, (λ _. omega arith), inl e))
-      | inr ge ↦ (let e : available' ≡ available = new ∙ rw (first_no, le-ltb v available ge) refl in (omega arith, omega arith, (λ _. omega arith), inr (omega arith, e)))
-    ]
-
-contains_more : (xs : List ℕ) (x v : ℕ) → Contains xs x → Contains (xs ++ v ∷ []) x
-contains_more xs x v has = (has.0, (let l = has.1 in omega (arith, length-append xs (v ∷ []))), get_or_append_left xs (v ∷ []) x has.0 has.1 ∙ has.2)
-
-contains_last : (xs : List ℕ) (x : ℕ) → Contains (xs ++ x ∷ []) x
-contains_last xs x = (length xs, omega (arith, length-append xs (x ∷ [])), last_number xs x x)
-
 pub round_more : (ups : List ℕ) (r s s' : ReceiverRecord) (cursor available available' i u v : ℕ) → Round ups r cursor available i s → i < length ups
     → get_or ups i 0 ≡ u → s' ≡ receiver_looked s (count_word u) v → length s.received ≤ v → (s.told ≡ true → v ≤ length s.received)
     → available' ≡ lesser_of (i == 0) v available → Round ups r cursor available' (i + 1) s'
 round_more ups r s s' cursor available available' i u v R lt at is le told new =
     let xs = count_looks (take i ups) R.counts in let len = R.each in
-    let next : count_looks (take (i + 1) ups) (R.counts ++ v ∷ []) ≡ xs ++ look (count_word u) v ∷ [] = looks_more ups R.counts i v R.each lt ∙ ap (λ (w : ℕ). xs ++ look (count_word w) v ∷ []) at in
+    let next : count_looks (take (i + 1) ups) (R.counts ++ v ∷ []) ≡ xs ++ look (count_word u) v ∷ [] = looks_more count_word ups R.counts i v R.each lt ∙ ap (λ (w : ℕ). xs ++ look (count_word w) v ∷ []) at in
     let offer = offers_more cursor v available available' R.counts (i == 0) (ap (λ (m : ℕ). m == 0) (sym len)) R.offered new in
     let low = offer.1 in let down = offer.2 in
     let received : length r.received ≤ v = subst (λ (q : ReceiverRecord). length q.received ≤ v) R.is le in
@@ -259,20 +185,10 @@ round_more ups r s s' cursor available available' i u v R lt at is le told new =
       told = λ y _. (let a = told_low y in omega arith);
     }
 
-take_whole : (xs : List ℕ) (n : ℕ) → n ≡ length xs → take n xs ≡ xs
-take_whole [] zero e = refl
-take_whole [] (suc n) e = absurd (omega arith)
-take_whole (x ∷ xs) zero e = absurd (omega arith)
-take_whole (x ∷ xs) (suc n) e = ap (λ (ys : List ℕ). x ∷ ys) (take_whole xs n (omega arith))
-
-no_elements : (xs : List ℕ) → length xs ≡ 0 → xs ≡ []
-no_elements [] e = refl
-no_elements (x ∷ xs) e = absurd (omega arith)
-
 pub round_all : (r s : ReceiverRecord) (cursor available i : ℕ) → Round (ups_of r) r cursor available i s → i ≡ length (ups_of r)
     → LooksAtUpstreams r cursor s available
 round_all r s cursor available i R all =
-    let ups = ups_of r in let whole : take i ups ≡ ups = take_whole ups i all in
+    let ups = ups_of r in let whole : take i ups ≡ ups = take_whole ups i (omega arith) in
     let some_one : ups ≢ [] → 0 < i = λ ne. (elim (cases_lt 0 i) [ inl lt ↦ lt | inr le ↦ absurd (ne (no_elements ups (omega arith))) ]) in record {
       counts = R.counts;
       each = R.each ∙ all;

@@ -23,7 +23,7 @@ mod written;
 pub use fault::RingFault;
 pub use laws::Halter;
 pub use opening::ring;
-pub use plan::Plan;
+pub use plan::{Plan, copy_upstreams};
 pub use receiver::Receiver;
 pub use sender::Sender;
 pub use settled::{HandlerCounts, Settled, settle};

@@ -6,7 +6,8 @@ ghost use Rattle.dr_core.specs.Calls.OpenFault.{is_bad_limit};
 ghost use Rattle.dr_ring.specs.Meaning.Shape.{handlers_of};
 ghost use Rattle.dr_ring.specs.Calls.Plans.{IsPlan};
 ghost use Rattle.dr_ring.specs.Meaning.Moments.{fresh_receivers};
-ghost use Rattle.dr_ring.specs.Inside.Seats.{IsAtTable, receivers_seat};
+ghost use Rattle.dr_runs.specs.Seats.{fresh_seat};
+ghost use Rattle.dr_ring.specs.Inside.Seats.{IsAtTable, known_receivers};
 ghost use Rattle.dr_ring.specs.Calls.Settling.{AreAllEnds};
 ghost use Rattle.dr_ring.specs.Calls.Making.{at_ring, AreFreshEnds, fault_of};
 
@@ -29,11 +30,11 @@ use std::sync::Arc;
 struct Cut;
 
 impl Split<View> for Cut {
-    ghost use Rattle.std.specs.Prelude.{take, drop};
+    ghost use Rattle.dr_runs.specs.Seats.{first_view, rest_view};
 
-    ghost left = { λ v. record { ends = take 1 v.ends; pasts = take 1 v.pasts } };
+    ghost left = { first_view };
 
-    ghost right = { λ v. record { ends = drop 1 v.ends; pasts = drop 1 v.pasts } };
+    ghost right = { rest_view };
 }
 
 // The receivers, each with its seat. `rest` stands for them all.
@@ -44,7 +45,7 @@ fn receivers(
 ) -> Result<Vec<Receiver>, AllocError>
     requires table { IsAtTable rest.table_id (arc_value ring.now).table.shared.table_id (arc_value ring.now).plan }
     requires made { IsPlan (arc_value ring.now).plan }
-    requires all { rest.me ≡ receivers_seat (arc_value ring.now).plan 0 (handlers_of (arc_value ring.now).plan) }
+    requires all { rest.me ≡ fresh_seat (known_receivers (arc_value ring.now).plan 0 (handlers_of (arc_value ring.now).plan)) }
     ensures { IfOk result (λ v. v.items ≡ map (at_ring rest.table_id) (fresh_receivers (arc_value ring.now).plan 0 (handlers_of (arc_value ring.now).plan))) }
 {
     let handlers = ring.plan.handlers();

@@ -49,8 +49,8 @@ impl Model for Plan {
     ghost invariant = { λ p. PlanFits (record { upstreams = map (λ v. v.items) p.upstreams.items; size = p.size; limit = p.limit }) p.finals.items p.words };
 }
 
-// The direct upstreams of each handler of a graph.
-fn copy_upstreams(alloc: Global, graph: &Graph) -> Result<Vec<Vec<usize>>, AllocError>
+/// The direct upstreams of each handler of a graph, copied.
+pub fn copy_upstreams(alloc: Global, graph: &Graph) -> Result<Vec<Vec<usize>>, AllocError>
     ensures { IfOk result (λ v. map (λ ups. ups.items) v.items ≡ graph.now.upstreams) }
 {
     let handlers = graph.len();

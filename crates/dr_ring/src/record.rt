@@ -90,9 +90,5 @@ pub enum Step {
     HalterHalts,
 }
 
-/// What a seat stands for: the records of one or more ends and, for each, the steps of all ends
-/// from the ring's opening up to the last one by this end.
-pub struct View {
-    pub ends: LinkedList<EndRecord>,
-    pub pasts: LinkedList<LinkedList<Step>>,
-}
+/// What a seat of a ring stands for.
+pub type View = dr_runs::View<EndRecord, Step>;

@@ -2,9 +2,12 @@
 
 ghost use Rattle.std.specs.Prelude.{◌≡◌, ◌<◌, length, map};
 ghost use Rattle.std.specs.Arc.{arc_value};
-ghost use Rattle.dr_ring.specs.Inside.Seats.{IsAtTable, end_of};
+ghost use Rattle.dr_runs.specs.Seats.{end_of};
+ghost use Rattle.dr_ring.specs.Inside.Seats.{IsAtTable};
 ghost use Rattle.dr_ring.specs.Meaning.Records.{claimed as claimed_of};
-ghost use Rattle.dr_ring.specs.Inside.Gathering.{LeadsView, AreOfRing, Gathers};
+ghost use Rattle.dr_runs.specs.Gathering.{Gathers};
+ghost use Rattle.dr_ring.specs.declared.record.EndRecord.TheVariants.{Receives};
+ghost use Rattle.dr_ring.specs.Inside.Stations.{AreOfRing};
 ghost use Rattle.dr_ring.specs.Meaning.Settling.{Settles, HasRun};
 ghost use Rattle.dr_ring.specs.Calls.Settling.{AreAllEnds, handler_counts, counts_at};
 
@@ -84,11 +87,10 @@ fn gather(
     counts: &mut Vec<HandlerCounts>,
 )
     requires table { IsAtTable seat.old.table_id (arc_value ring.now).table.shared.table_id (arc_value ring.now).plan }
-    requires sender { LeadsView (end_of seat.old.me) }
     requires receivers { AreOfRing seat.old.table_id receivers.items }
     requires places { length counts.old.items ≡ length receivers.items }
     ensures seat { seat.new.table_id ≡ seat.old.table_id }
-    ensures view { Gathers (end_of seat.old.me) (map (λ e. e.knows) receivers.items) (end_of seat.new.me) }
+    ensures view { Gathers (end_of seat.old.me) (map (λ e. Receives e.knows) receivers.items) (end_of seat.new.me) }
     ensures counts { counts.new.items ≡ map (λ e. handler_counts e.knows) receivers.items }
 {
     while let Some(receiver) = receivers.pop() {

@@ -27,10 +27,13 @@ use Rattle.dr_senders.specs.declared.record.Step.TheVariants.{SenderLooksAtClaim
 use Rattle.dr_senders.specs.Meaning.Records.{Owns, half_written, written, published, brought, sender_looked, claimed_from, receiver_looked, claims_looked, mark_looked, half_taken, took, completed_to, halter_halted, SeesRoom, IsBelowBarrier, fresh_stage, mark_found}
 use Rattle.dr_senders.specs.Meaning.Rule.{World, KeepsRule}
 use Rattle.dr_senders.specs.Meaning.Steps.{Happens, sender_knows, sender_claims, sender_brings, receiver_knows, halted_words}
-use Rattle.dr_senders.specs.Inside.Seats.{End, Sitting, end_of, seat_at, Loads, Stores, Ruled, end_number, Stands, alone, sender_of, receiver_of, halter_of, IsSender, IsReceiver, IsHalter, FindsEvents, SenderLooked, SenderClaimed, SenderStoredFirst, SenderStoredSecond, SenderPublished, SenderHalted, ReceiverLookedAtClaims, ReceiverLookedAtMark, ReceiverLookedAtCount, ReceiverLoadedFirst, ReceiverLoadedSecond, ReceiverCompleted, HalterHalted, IsEarlier, FindsMark, SenderLookedAtMark}
-use Rattle.dr_senders.proofs.Places.{word_at, set_here, last_look_le, more_left, claimed_low}
+use Rattle.dr_runs.specs.Seats.{end_of, seat_at, alone}
+use Rattle.dr_senders.specs.Inside.Seats.{End, Sitting, ring_ends, Loads, Stores, Ruled, end_number, Stands, sender_of, receiver_of, halter_of, IsSender, IsReceiver, IsHalter, FindsEvents, SenderLooked, SenderClaimed, SenderStoredFirst, SenderStoredSecond, SenderPublished, SenderHalted, ReceiverLookedAtClaims, ReceiverLookedAtMark, ReceiverLookedAtCount, ReceiverLoadedFirst, ReceiverLoadedSecond, ReceiverCompleted, HalterHalted, IsEarlier, FindsMark, SenderLookedAtMark}
+use Rattle.atomic_table.proofs.Lists.{set_here, at_longer}
+use Rattle.dr_senders.proofs.Places.{word_at, last_look_le, claimed_low}
 use Rattle.dr_senders.proofs.Facts.{taken_claimed, handler_inside, upstream_inside, receiver_of_handler, near_open, owned}
-use Rattle.dr_senders.proofs.Seats.{Does, OthersStand, by_end, adds_nothing, adds_one, but_sender, but_receiver, but_halter}
+use Rattle.dr_runs.proofs.Seats.{adds_nothing, adds_one}
+use Rattle.dr_senders.proofs.Seats.{Does, OthersStand, by_end, but_sender, but_receiver, but_halter}
 use Rattle.std.proofs.lemmas.List.{length-append, length-replicate}
 use Rattle.dr_senders.proofs.KeepsClaims.{keeps_claims}
 
@@ -89,7 +92,7 @@ looks_at_claims k slots id me is =
     along (λ m. Allows (Ruled k) slots id m claim_word (λ n. n) (Loads SenderLooked (step slots claim_word 0 0 none) m)) me (Sends r) is
     (by_end k slots id kind (λ xs. xs) me.0.pasts (Sends r) claim_word (λ n. n) (λ n. Sends (sender_looked r claim_word n))
     (SenderLooked (step slots claim_word 0 0 none) (alone (Sends r)))
-    (adds_nothing _ kind (λ n. refl)) (λ n. refl)
+    (adds_nothing ring_ends _ kind (λ n. refl)) (λ n. refl)
     (λ w at K small. (
       sender_learns k kind w r (sender_looked r claim_word (word_at w.words claim_word)) claim_word at refl (r, at, refl),
       (refl, sender_sees k w r claim_word at (omega arith) K),
@@ -105,7 +108,7 @@ looks_at_count k {sh = sh} slots id me i f same here is those =
     along (λ m. Allows (Ruled k) slots id m i (λ n. n) (Loads SenderLooked (step slots i 0 0 none) m)) me (Sends r) is
     (by_end k slots id kind (λ xs. xs) me.0.pasts (Sends r) i (λ n. n) (λ n. Sends (sender_looked r i n))
     (SenderLooked (step slots i 0 0 none) (alone (Sends r)))
-    (adds_nothing _ kind (λ n. refl)) (λ n. refl)
+    (adds_nothing ring_ends _ kind (λ n. refl)) (λ n. refl)
     (λ w at K small. let inside = final_inside k.upstreams f has in
     (sender_learns k kind w r (sender_looked r i (word_at w.words i)) i at refl (r, at, (has, refl)), (refl, sender_sees k w r i at (omega arith) K)))))
 
@@ -146,7 +149,7 @@ earlier k w r c n z t at some_one room hit own K =
     let longer : length (w.stages ++ new) ≡ length w.stages + n = omega (arith, length-append w.stages new, length-replicate n (fresh_stage r.number)) in (
       omega arith,
       λ hidden. (
-          let near = near_open k (sender_claims w r.number r c n) z t (more_left w.stages new z t here) hidden
+          let near = near_open k (sender_claims w r.number r c n) z t (at_longer w.stages new z t here) hidden
           (keeps_claims k w r.number c n r at some_one room hit K) in omega arith),
     )
 
@@ -165,7 +168,7 @@ claims k {sh = sh} slots id me c n v same sum is some_one there =
     (Sends r) is
     (by_end k slots id kind (λ xs. xs ++ kind ∷ []) me.0.pasts (Sends r) claim_word (λ m. either (m == c) (c + n) m)
     (λ m. Sends (learned r c (c + n - c) m (m == c))) (SenderClaimed k (step slots claim_word c (c + n) none) (alone (Sends r)))
-    (adds_one _ kind (λ n. refl)) (λ m. learned_number r c (c + n - c) m (m == c))
+    (adds_one ring_ends _ kind (λ n. refl)) (λ m. learned_number r c (c + n - c) m (m == c))
     (λ w at K small. let m = word_at w.words claim_word in let more = c + n - c in (
       record {
         after = exchanged w r c more (m == c);
@@ -193,7 +196,7 @@ stores_first k {sh = sh} slots id me i s m v t same named there is own unshown =
     (λ _. Stores (λ x e n. SenderStoresFirst (sender_of e.0).number s n) (SenderStoredFirst s) (step slots i v 0 none) x v)) me (Sends r) is
     (by_end k slots id kind (λ xs. xs ++ kind ∷ []) me.0.pasts (Sends r) i (λ _. v) (λ _. Sends (brought r s (half_written v)))
     (λ _. SenderStoredFirst s (step slots i v 0 none) (alone (Sends r)) v)
-    (adds_one _ kind (λ n. refl)) (λ n. refl)
+    (adds_one ring_ends _ kind (λ n. refl)) (λ n. refl)
     (λ w at K small. (sender_stores k kind w r s t (half_written v) i v at (r, at, (t, own, unshown, refl)), refl)))))
 
 pub stores_second : (k : Shape) {sh : Shape} (slots id : ℕ) (me : Sitting) (i s m first f v : ℕ) (t : Stage) → k ≡ sh → s ≡ m → first ≡ f
@@ -214,7 +217,7 @@ stores_second k {sh = sh} slots id me i s m first f v t same named first_named t
     (λ _. Stores (λ x e n. SenderStoresSecond (sender_of e.0).number s n) (SenderStoredSecond s first) (step slots i v 0 none) x v)) me (Sends r) is
     (by_end k slots id kind (λ xs. xs ++ kind ∷ []) me.0.pasts (Sends r) i (λ _. v) (λ _. Sends (brought r s (written event)))
     (λ _. SenderStoredSecond s first (step slots i v 0 none) (alone (Sends r)) v)
-    (adds_one _ kind (λ n. refl)) (λ n. refl)
+    (adds_one ring_ends _ kind (λ n. refl)) (λ n. refl)
     (λ w at K small. (sender_stores k kind w r s t (written event) i v at (r, at, (t, own, unshown, (first, half, refl))), refl))))))
 
 pub publishes : (k : Shape) {sh : Shape} (slots id : ℕ) (me : Sitting) (i s m v : ℕ) (t : Stage) (event : Event) → k ≡ sh → s ≡ m → i ≡ mark_word sh s
@@ -235,7 +238,7 @@ publishes k {sh = sh} slots id me i s m v t event same named there now is own un
     (λ _. Stores (λ x e n. SenderPublishes (sender_of e.0).number s) (SenderPublished s) (step slots i v 0 none) x v)) me (Sends r) is
     (by_end k slots id kind (λ xs. xs ++ kind ∷ []) me.0.pasts (Sends r) i (λ _. v) (λ _. Sends (brought r s published))
     (λ _. SenderPublished s (step slots i v 0 none) (alone (Sends r)) v)
-    (adds_one _ kind (λ n. refl)) (λ n. refl)
+    (adds_one ring_ends _ kind (λ n. refl)) (λ n. refl)
     (λ w at K small. (sender_stores k kind w r s t published i v at (r, at, (t, own, unshown, (whole, event, has, refl))), refl))))))
 
 -- the mark of a published sequence is there
@@ -252,7 +255,7 @@ sender_looks_at_mark k {sh = sh} slots id me i s m same named there is =
     (let i = mark_word k s in let r = sender_of me.0.ends in let kind = SenderLooksAtMark r.number s in
     along (λ x. Allows (Ruled k) slots id x i (λ n. n) (Loads (SenderLookedAtMark k s) (step slots i 0 0 none) x)) me (Sends r) is
     (by_end k slots id kind (λ xs. xs) me.0.pasts (Sends r) i (λ n. n) (λ n. Sends (mark_found r i n)) (SenderLookedAtMark k s (step slots i 0 0 none) (alone (Sends r)))
-    (adds_nothing _ kind (λ n. refl)) (λ n. refl)
+    (adds_nothing ring_ends _ kind (λ n. refl)) (λ n. refl)
     (λ w at K small. (sender_learns k kind w r (mark_found r i (word_at w.words i)) i at refl (r, at, refl), (refl, finds_mark k w r s at K))))))
 
 -- the highest bit is set
@@ -280,7 +283,7 @@ sender_halts k slots id me is =
     (Stores (λ s e n. SenderHalts (sender_of e.0).number) SenderHalted (step slots claim_word 9223372036854775808 0 none) m)) me (Sends r) is
     (by_end k slots id kind (λ xs. xs ++ kind ∷ []) me.0.pasts (Sends r) claim_word (λ n. bit_or n 9223372036854775808)
     (λ n. Sends (sender_looked r claim_word (halted_from n))) (SenderHalted (step slots claim_word 9223372036854775808 0 none) (alone (Sends r)))
-    (adds_one _ kind (λ n. refl)) (λ n. refl)
+    (adds_one ring_ends _ kind (λ n. refl)) (λ n. refl)
     (λ w at K small. let n = word_at w.words claim_word in let q = sender_looked r claim_word (halted_from n) in
     let u : World = record w { words = halted_words w; senders = set w.senders r.number q } in (
       record {
@@ -302,7 +305,7 @@ halts k slots id me is =
     (Stores (λ s e n. HalterHalts) HalterHalted (step slots claim_word 9223372036854775808 0 none) m)) me (Halts r) is
     (by_end k slots id HalterHalts (λ xs. xs ++ HalterHalts ∷ []) me.0.pasts (Halts r) claim_word (λ n. bit_or n 9223372036854775808)
     (λ n. Halts (halter_halted r n)) (HalterHalted (step slots claim_word 9223372036854775808 0 none) (alone (Halts r)))
-    (adds_one _ HalterHalts (λ n. refl)) (λ n. refl)
+    (adds_one ring_ends _ HalterHalts (λ n. refl)) (λ n. refl)
     (λ w at K small. let n = word_at w.words claim_word in let u : World = record w { words = halted_words w; halter = halter_halted w.halter n } in (
       record {
         after = u;
@@ -328,7 +331,7 @@ receiver_looks_at_claims k slots id me is =
     along (λ m. Allows (Ruled k) slots id m claim_word (λ n. n) (Loads ReceiverLookedAtClaims (step slots claim_word 0 0 none) m)) me (Receives r) is
     (by_end k slots id kind (λ xs. xs) me.0.pasts (Receives r) claim_word (λ n. n) (λ n. Receives (claims_looked r n))
     (ReceiverLookedAtClaims (step slots claim_word 0 0 none) (alone (Receives r)))
-    (adds_nothing _ kind (λ n. refl)) (λ n. refl)
+    (adds_nothing ring_ends _ kind (λ n. refl)) (λ n. refl)
     (λ w at K small. let n = word_at w.words claim_word in let was = K.received r.number r at in let count = K.claim in
     let taken = taken_claimed k w r.number r at K in (
       receiver_learns k kind w r (claims_looked r n) claim_word at refl (r, at, refl),
@@ -354,7 +357,7 @@ looks_at_mark k {sh = sh} slots id me i same there is =
     along (λ m. Allows (Ruled k) slots id m i (λ n. n) (Loads (ReceiverLookedAtMark k) (step slots i 0 0 none) m)) me (Receives r) is
     (by_end k slots id kind (λ xs. xs) me.0.pasts (Receives r) i (λ n. n) (λ n. Receives (mark_looked k r n))
     (ReceiverLookedAtMark k (step slots i 0 0 none) (alone (Receives r)))
-    (adds_nothing _ kind (λ n. refl)) (λ n. refl)
+    (adds_nothing ring_ends _ kind (λ n. refl)) (λ n. refl)
     (λ w at K small. (receiver_learns k kind w r (mark_looked k r (word_at w.words i)) i at refl (r, at, refl), refl))))
 
 -- what a look at an upstream's count finds
@@ -377,7 +380,7 @@ receiver_looks_at_count k {sh = sh} slots id me i u same here is those =
     along (λ m. Allows (Ruled k) slots id m i (λ n. n) (Loads ReceiverLookedAtCount (step slots i 0 0 none) m)) me (Receives r) is
     (by_end k slots id kind (λ xs. xs) me.0.pasts (Receives r) i (λ n. n) (λ n. Receives (receiver_looked r i n))
     (ReceiverLookedAtCount (step slots i 0 0 none) (alone (Receives r)))
-    (adds_nothing _ kind (λ n. refl)) (λ n. refl)
+    (adds_nothing ring_ends _ kind (λ n. refl)) (λ n. refl)
     (λ w at K small. (
       receiver_learns k kind w r (receiver_looked r i (word_at w.words i)) i at refl (r, at, (has, refl)),
       (refl, finds_events k w r u at has K),
@@ -396,7 +399,7 @@ loads_first k {sh = sh} slots id me i same there is low =
     along (λ m. Allows (Ruled k) slots id m i (λ n. n) (Loads ReceiverLoadedFirst (step slots i 0 0 none) m)) me (Receives r) is
     (by_end k slots id kind (λ xs. xs) me.0.pasts (Receives r) i (λ n. n) (λ n. Receives (half_taken r n))
     (ReceiverLoadedFirst (step slots i 0 0 none) (alone (Receives r)))
-    (adds_nothing _ kind (λ n. refl)) (λ n. refl)
+    (adds_nothing ring_ends _ kind (λ n. refl)) (λ n. refl)
     (λ w at K small. (receiver_learns k kind w r (half_taken r (word_at w.words i)) i at refl (r, at, (below, refl)), refl))))
 
 pub loads_second : (k : Shape) {sh : Shape} (slots id : ℕ) (me : Sitting) (i first : ℕ) → k ≡ sh
@@ -413,7 +416,7 @@ loads_second k {sh = sh} slots id me i first same there is half low =
     along (λ m. Allows (Ruled k) slots id m i (λ n. n) (Loads ReceiverLoadedSecond (step slots i 0 0 none) m)) me (Receives r) is
     (by_end k slots id kind (λ xs. xs) me.0.pasts (Receives r) i (λ n. n) (λ n. Receives (took r record { first = first; second = n }))
     (ReceiverLoadedSecond (step slots i 0 0 none) (alone (Receives r)))
-    (adds_nothing _ kind (λ n. refl)) (λ n. refl)
+    (adds_nothing ring_ends _ kind (λ n. refl)) (λ n. refl)
     (λ w at K small. let found : Event = record { first = first; second = word_at w.words i } in (
       receiver_learns k kind w r (took r found) i at refl (r, at, (first, half, below, refl)),
       λ other same. (let one : first ≡ other = cc in ap (λ (x : ℕ). alone (Receives (took r record { first = x; second = word_at w.words i }))) one),
@@ -433,7 +436,7 @@ completes k slots id me i h n here is own rises taken =
     (λ _. Stores (λ s e m. ReceiverCompletes (receiver_of e.0).number m) ReceiverCompleted (step slots i n 0 none) x n)) me (Receives r) is
     (by_end k slots id kind (λ xs. xs ++ kind ∷ []) me.0.pasts (Receives r) i (λ _. n) (λ _. Receives (completed_to r n))
     (λ _. ReceiverCompleted (step slots i n 0 none) (alone (Receives r)) n)
-    (adds_one _ kind (λ n. refl)) (λ n. refl)
+    (adds_one ring_ends _ kind (λ n. refl)) (λ n. refl)
     (λ w at K small. let q = completed_to r n in let u : World = record w { words = set w.words i n; receivers = set w.receivers r.number q } in (
       record {
         after = u;

@@ -13,6 +13,7 @@ use Rattle.dr_senders.specs.declared.record.ReceiverRecord.{ReceiverRecord}
 use Rattle.dr_senders.specs.Meaning.Rule.{KeepsRule, SenderKept, ReceiverKept}
 use Rattle.dr_senders.specs.Meaning.Moments.{fresh_sender, fresh_senders, fresh_receiver, fresh_receivers, new_world, taken_of, picture_of}
 use Rattle.dr_core.specs.Meaning.Machine as machine
+use Rattle.dr_ring.proofs.Beginning.{zeros, all_zero}
 
 pub receiver_fresh : (h n i : ℕ) (r : ReceiverRecord) → get_elem? (fresh_receivers h n) i ≡ some r → r ≡ fresh_receiver (h + i)
 receiver_fresh h zero i r e = absurd (some-ne-none r (sym e))
@@ -31,17 +32,6 @@ receivers_count h (suc n) = ap suc (receivers_count (suc h) n)
 pub senders_count : (p n : ℕ) → length (fresh_senders p n) ≡ n
 senders_count p zero = refl
 senders_count p (suc n) = ap suc (senders_count (suc p) n)
-
-abbrev zeros : ℕ → List ℕ
-zeros n = replicate n 0
-
-pub all_zero : (n i : ℕ) → ◌≡◌ {A = ℕ} (get_or (zeros n) i 0) 0
-all_zero n i =
-    let z : ℕ = 0 in
-    elim (cases_lt i n) [
-      | inl lt ↦ get_or-replicate n i z z lt
-      | inr past ↦ get_or_past (zeros n) i 0 (omega (arith, length-replicate n z))
-    ]
 
 pub kept_new_world : (k : Shape) → IsShape k → KeepsRule k (new_world k)
 kept_new_world k shape = let n = words_of k in let ws = zeros n in record {

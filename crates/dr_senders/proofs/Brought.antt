@@ -7,11 +7,7 @@ use Rattle.dr_senders.specs.declared.record.Stage.{Stage}
 use Rattle.dr_senders.specs.declared.record.Own.{Own}
 use Rattle.dr_senders.specs.declared.record.SenderRecord.{SenderRecord}
 use Rattle.dr_senders.specs.Meaning.Records.{Owns, own_after, brought}
-
-pub map_there : {A B : Type 0} (f : A → B) (l : List A) (i : ℕ) (a : A) → get_elem? l i ≡ some a → get_elem? (map f l) i ≡ some (f a)
-map_there f [] i a at = absurd (some-ne-none a (sym at))
-map_there f (x ∷ xs) zero a at = ap (λ y. some (f y)) (some-injective x a at)
-map_there f (x ∷ xs) (suc i) a at = map_there f xs i a at
+use Rattle.dr_runs.proofs.Lists.{map_there}
 
 own_is : (s : ℕ) (t : Stage) (further : Stage → Stage) (b : Bool) → (s == s) ≡ b
     → (if b then record { sequence = s; stage = further t } else record { sequence = s; stage = t }) ≡ own_after s further record { sequence = s; stage = t }

@@ -106,11 +106,10 @@ claim_given e e' n c hi found T same last = record {
   stays = T.stays;
   counts = T.counted;
   seen = first_looks e.plan c T.counts ++ look claim_word (c + n) ∷ [];
-  looks = (T.counts, T.room, last, refl);
+  looks = (T.counts, T.room, last, refl, refl);
   knows = hit e.knows T.middle e'.knows (first_looks e.plan c T.counts) c hi n found T.looked T.knows same;
   steps = SenderClaims e.knows.number c n ∷ [];
   stored = T.stored;
-  exchanges = refl;
   few = T.few;
 }
 
@@ -119,11 +118,10 @@ claim_halted e e' n c found T other high = record {
   stays = T.stays;
   counts = T.counted;
   seen = first_looks e.plan c T.counts ++ look claim_word found ∷ [];
-  looks = (found, stopped found high, inr (c, T.counts, T.room, refl));
+  looks = (found, stopped found high, inr (c, T.counts, T.room, refl, refl));
   knows = missed e.knows T.middle e'.knows (first_looks e.plan c T.counts) c n found T.looked T.knows other;
   steps = SenderClaims e.knows.number c n ∷ [];
   stored = T.stored;
-  exchanges = inr (c, refl);
   few = T.few;
 }
 
@@ -132,11 +130,10 @@ claim_contended e e' n c found T other low = record {
   stays = T.stays;
   counts = T.counted;
   seen = first_looks e.plan c T.counts ++ look claim_word found ∷ [];
-  looks = (c, found, T.counts, T.room, other, going found low, refl);
+  looks = (c, found, T.counts, T.room, other, going found low, refl, refl);
   knows = missed e.knows T.middle e'.knows (first_looks e.plan c T.counts) c n found T.looked T.knows other;
   steps = SenderClaims e.knows.number c n ∷ [];
   stored = T.stored;
-  exchanges = (c, refl);
   few = T.few;
 }
 

@@ -23,7 +23,8 @@ use Rattle.dr_senders.specs.Calls.Writing.{published_between}
 use Rattle.dr_senders.specs.Inside.Parts.{ClaimsApart}
 use Rattle.dr_senders.specs.Inside.Seats.{IsEarlier}
 use Rattle.dr_senders.specs.Inside.Fits.{SenderFits}
-use Rattle.dr_senders.proofs.Places.{more_left, more_right, more_cases}
+use Rattle.atomic_table.proofs.Lists.{at_longer}
+use Rattle.dr_senders.proofs.Places.{more_right, more_cases}
 use Rattle.dr_senders.proofs.KeepsClaims.{fresh_at, fresh_there}
 use Rattle.dr_senders.proofs.Owning.{staged_has, staged_from, published_none, published_more, marked_was, mark_was, mark_here, marked_apart, mark_beside, none_fresh}
 
@@ -78,7 +79,7 @@ fits_new k p o n size is = let z : ℕ = 0 in
 module _ (r q : SenderRecord) (c n : ℕ) (grown : q.own ≡ r.own ++ fresh_own r.number c n) where
   kept : (s : ℕ) (t : Stage) → Owns r s t → Owns q s t
   kept s t own =
-      (own.0, ap (λ (xs : List Own). get_elem? xs own.0) grown ∙ more_left r.own (fresh_own r.number c n) own.0 (record { sequence = s; stage = t }) own.1)
+      (own.0, ap (λ (xs : List Own). get_elem? xs own.0) grown ∙ at_longer r.own (fresh_own r.number c n) own.0 (record { sequence = s; stage = t }) own.1)
 
   new : (s : ℕ) → c ≤ s → s < c + n → Owns q s (fresh_stage r.number)
   new s low high = let at : c + (s - c) ≡ s = omega arith in (

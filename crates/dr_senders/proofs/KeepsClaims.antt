@@ -13,7 +13,8 @@ use Rattle.dr_senders.specs.declared.record.HalterRecord.{HalterRecord}
 use Rattle.dr_senders.specs.Meaning.Records.{fresh_stage, fresh_own, sender_looked, claimed_from, halter_halted, SeesRoom, Owns, mark_found}
 use Rattle.dr_senders.specs.Meaning.Rule.{World, StageKept, ArePast, SenderKept, KeepsRule}
 use Rattle.dr_senders.specs.Meaning.Steps.{sender_knows, sender_claims, halted_words}
-use Rattle.dr_senders.proofs.Places.{word_at, more_left, more_right, more_cases, at_replicate, in_replicate, claimed_low, halted_low, claimed_halted, halted_rises, is_halted_from, Rises, rises_set, past_rises, past_more, last_look_le}
+use Rattle.atomic_table.proofs.Lists.{at_longer}
+use Rattle.dr_senders.proofs.Places.{word_at, more_right, more_cases, at_replicate, in_replicate, claimed_low, halted_low, claimed_halted, halted_rises, is_halted_from, Rises, rises_set, past_rises, past_more, last_look_le}
 use Rattle.dr_senders.proofs.Facts.{handler_inside}
 use Rattle.dr_senders.proofs.Stays.{Lasts, out_lasts, room_stays, receiver_stays, sender_stays, stage_stays}
 
@@ -92,7 +93,7 @@ keeps_claims k w p c n r at some_one room found K =
     let here : word_at us claim_word ≡ c + n = get_or-set_same w.words claim_word (c + n) 0 (omega arith) in
     let stays : (j : ℕ) → 0 < j → word_at us j ≡ word_at w.words j = λ j pos. get_or-set_other w.words claim_word j (c + n) 0 (λ (e : j ≡ 0). omega arith) in
     let rises : Rises k w.words us = rises_set k w.words claim_word (c + n) (omega arith) (λ _. omega arith) in
-    let lasts : Lasts w.stages more = λ s t there shown. more_left w.stages new s t there in
+    let lasts : Lasts w.stages more = λ s t there shown. at_longer w.stages new s t there in
     let going : is_halted (word_at w.words claim_word) ≡ false = ap is_halted found ∙ halted_low c low in record {
       shape = K.shape;
       wide = length-set w.words claim_word (c + n) ∙ K.wide;
@@ -127,7 +128,7 @@ keeps_claims k w p c n r at some_one room found K =
           (record {
             number = was.number;
             own = λ i o there. elim (more_cases r.own (fresh_own r.number c n) i o there) [
-              | inl old ↦ (let d = was.own i o old in (d.0, more_left w.stages new o.sequence o.stage d.1))
+              | inl old ↦ (let d = was.own i o old in (d.0, at_longer w.stages new o.sequence o.stage d.1))
               | inr x ↦ (let d = fresh_at r.number c n x.0 o x.2 in let number = was.number in
                   subst (λ (o : Own). (o.stage.owner ≡ p) × (get_elem? more o.sequence ≡ some o.stage)) d.1 (
                     number,
@@ -136,12 +137,12 @@ keeps_claims k w p c n r at some_one room found K =
                   ))
             ];
             all = λ s t there mine. elim (more_cases w.stages new s t there) [
-              | inl old ↦ (let x = was.all s t old mine in (x.0, more_left r.own (fresh_own r.number c n) x.0 (record { sequence = s; stage = t }) x.1))
+              | inl old ↦ (let x = was.all s t old mine in (x.0, at_longer r.own (fresh_own r.number c n) x.0 (record { sequence = s; stage = t }) x.1))
               | inr y ↦ claimed_own r p c n s y.0 t (was.number) (let at = y.1 in omega arith) y.2
             ];
             looks = past_more k us claim_word (c + n) r.looks (omega arith) (omega arith) (past_rises k w.words us r.looks rises was.looks);
           })
-          (λ q x ne there. sender_stays k w.words us w.stages more q x rises (λ s t old _. more_left w.stages new s t old)
+          (λ q x ne there. sender_stays k w.words us w.stages more q x rises (λ s t old _. at_longer w.stages new s t old)
           (λ s t at_more mine. elim (more_cases w.stages new s t at_more) [
             | inl old ↦ old
             | inr y ↦ absurd (ne (sym (ap (λ (u : Stage). u.owner) (at_replicate n (fresh_stage p) t y.0 y.2) ∙ mine)))

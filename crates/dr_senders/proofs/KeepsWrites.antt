@@ -3,7 +3,7 @@ use Rattle.std.proofs.Common.{◌≡◌, ◌≢◌, ℕ, ◌<◌, ◌≤◌, inl
 use Rattle.std.proofs.lemmas.Bool.{cases_eq, eq-eqb, ne_eqb, cases_lt}
 use mathlib.Core.Option.{some}
 use lib.ListN.{get_elem?}
-use Rattle.atomic_table.proofs.Lists.{at_set}
+use Rattle.atomic_table.proofs.Lists.{at_set, set_here}
 use Rattle.dr_seq.specs.declared.event.Event.{Event}
 use Rattle.dr_seq.specs.Rounds.{entry_of}
 use Rattle.dr_ring.proofs.Lists.{at_below, each_set}
@@ -15,10 +15,11 @@ use Rattle.dr_senders.specs.declared.record.SenderRecord.{SenderRecord}
 use Rattle.dr_senders.specs.Meaning.Records.{half_written, written, published, own_after, brought}
 use Rattle.dr_senders.specs.Meaning.Rule.{World, Room, IsOut, StageKept, SenderKept, KeepsRule}
 use Rattle.dr_senders.specs.Meaning.Steps.{sender_brings}
-use Rattle.dr_senders.proofs.Places.{word_at, set_here, set_else, at_map, one_value, Rises, rises_set, past_rises, own_slot, apart, rounds_rise, same_or_behind}
+use Rattle.dr_runs.proofs.Lists.{at_map, map_there}
+use Rattle.dr_senders.proofs.Places.{word_at, set_else, one_value, Rises, rises_set, past_rises, own_slot, apart, rounds_rise, same_or_behind}
 use Rattle.dr_senders.proofs.Facts.{handler_inside, near_open, owned, out_behind}
 use Rattle.dr_senders.proofs.Stays.{Lasts, room_stays, receiver_stays, sender_stays, stage_stays}
-use Rattle.dr_senders.proofs.Brought.{map_there, own_brought}
+use Rattle.dr_senders.proofs.Brought.{own_brought}
 
 -- one of a sender's sequences after it was brought further
 brought_own : (p s : ℕ) (t : Stage) (further : Stage → Stage) (stages : List Stage) (o : Own) → s < length stages → (further t).owner ≡ p

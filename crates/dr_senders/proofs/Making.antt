@@ -9,7 +9,8 @@ use Rattle.dr_senders.specs.declared.record.ReceiverRecord.{ReceiverRecord}
 use Rattle.dr_senders.specs.declared.record.EndRecord.{EndRecord}
 use Rattle.dr_senders.specs.declared.record.EndRecord.TheVariants.{Sends, Receives}
 use Rattle.dr_senders.specs.Meaning.Moments.{fresh_sender, fresh_senders, fresh_receiver, fresh_receivers}
-use Rattle.dr_senders.specs.Inside.Seats.{Sitting, KnownEnds, seat_at, IsAtTable, alone, receiver_of, known_senders, known_receivers, fresh_seat}
+use Rattle.dr_runs.specs.Seats.{seat_at, alone, fresh_seat, first_view, rest_view}
+use Rattle.dr_senders.specs.Inside.Seats.{Sitting, IsAtTable, receiver_of, known_senders, known_receivers}
 use Rattle.dr_senders.specs.Calls.Ends.{EndOf, SenderEnd, ReceiverEnd}
 use Rattle.dr_senders.specs.Inside.Stations.{sender_end, receiver_end, IsKeyed, SenderSits, ReceiverSits}
 use Rattle.dr_senders.specs.Inside.Fits.{ReceiverFits}
@@ -25,30 +26,30 @@ fresh_receivers_next : (h n : ℕ) → h < n → fresh_receivers h (n - h) ≡ f
 fresh_receivers_next h n lt = let a : n - h ≡ suc (n - (h + 1)) = omega arith in let b : suc h ≡ h + 1 = omega arith in
     ap (fresh_receivers h) a ∙ ap (λ (m : ℕ). fresh_receiver h ∷ fresh_receivers m (n - (h + 1))) b
 
-pub senders_next : (p n : ℕ) (es : KnownEnds) → p < n → known_senders p (n - p) ++ es ≡ Sends (fresh_sender p) ∷ known_senders (p + 1) (n - (p + 1)) ++ es
+pub senders_next : (p n : ℕ) (es : List EndRecord) → p < n → known_senders p (n - p) ++ es ≡ Sends (fresh_sender p) ∷ known_senders (p + 1) (n - (p + 1)) ++ es
 senders_next p n es lt = ap (λ (rs : List SenderRecord). map (λ r. Sends r) rs ++ es) (fresh_senders_next p n lt)
 
 pub receivers_next : (h n : ℕ) → h < n → known_receivers h (n - h) ≡ Receives (fresh_receiver h) ∷ known_receivers (h + 1) (n - (h + 1))
 receivers_next h n lt = ap (λ (rs : List ReceiverRecord). map (λ r. Receives r) rs) (fresh_receivers_next h n lt)
 
-pub no_senders_left : (n m : ℕ) (es : KnownEnds) → n ≡ m → known_senders m (n - m) ++ es ≡ es
+pub no_senders_left : (n m : ℕ) (es : List EndRecord) → n ≡ m → known_senders m (n - m) ++ es ≡ es
 no_senders_left n m es same = let none : n - m ≡ 0 = omega arith in ap (λ (j : ℕ). known_senders m j ++ es) none
 
 abbrev first_cut : Sitting → Sitting
-first_cut m = (record { ends = take 1 m.0.ends; pasts = take 1 m.0.pasts }, m.1)
+first_cut m = (first_view m.0, m.1)
 
 abbrev rest_cut : Sitting → Sitting
-rest_cut m = (record { ends = drop 1 m.0.ends; pasts = drop 1 m.0.pasts }, [])
+rest_cut m = (rest_view m.0, [])
 
 -- an end that has not stepped
 abbrev pub own_seat : EndRecord → Sitting
 own_seat e = seat_at (alone e) ([] ∷ [])
 
-pub cut_own : (e : EndRecord) (es all : KnownEnds) (me me' : Sitting) → me ≡ fresh_seat all → all ≡ e ∷ es → me' ≡ first_cut me → me' ≡ own_seat e
-cut_own e es all me me' was next is = is ∙ ap first_cut was ∙ ap (λ (xs : KnownEnds). first_cut (fresh_seat xs)) next
+pub cut_own : (e : EndRecord) (es all : List EndRecord) (me me' : Sitting) → me ≡ fresh_seat all → all ≡ e ∷ es → me' ≡ first_cut me → me' ≡ own_seat e
+cut_own e es all me me' was next is = is ∙ ap first_cut was ∙ ap (λ (xs : List EndRecord). first_cut (fresh_seat xs)) next
 
-pub cut_rest : (e : EndRecord) (es all : KnownEnds) (me me' : Sitting) → me ≡ fresh_seat all → all ≡ e ∷ es → me' ≡ rest_cut me → me' ≡ fresh_seat es
-cut_rest e es all me me' was next is = is ∙ ap rest_cut was ∙ ap (λ (xs : KnownEnds). rest_cut (fresh_seat xs)) next
+pub cut_rest : (e : EndRecord) (es all : List EndRecord) (me me' : Sitting) → me ≡ fresh_seat all → all ≡ e ∷ es → me' ≡ rest_cut me → me' ≡ fresh_seat es
+cut_rest e es all me me' was next is = is ∙ ap rest_cut was ∙ ap (λ (xs : List EndRecord). rest_cut (fresh_seat xs)) next
 
 pub sender_sits : (at own : TableId) (key k : Shape) (me : Sitting) (p : ℕ) → IsAtTable own at k → IsKeyed key k → p < k.senders
     → me ≡ own_seat (Sends (fresh_sender p)) → SenderSits at own key k (me.0.ends, me.1) p 0

@@ -6,7 +6,7 @@ use Rattle.std.proofs.lemmas.Bool.{cases_eq, eq-eqb, ne_eqb}
 use Rattle.std.proofs.lemmas.List.{length-replicate}
 use mathlib.Core.Option.{some, some-ne-none}
 use lib.ListN.{get_elem?}
-use Rattle.atomic_table.proofs.Lists.{at_set}
+use Rattle.atomic_table.proofs.Lists.{at_set, at_longer, set_here}
 use Rattle.dr_core.specs.Meaning.Transcript.{Transcript}
 use Rattle.dr_ring.proofs.Lists.{at_below}
 use Rattle.dr_senders.specs.Meaning.Shape.{Shape, IsShape}
@@ -24,8 +24,9 @@ use Rattle.dr_senders.specs.Meaning.Records.{SeesRoom}
 use Rattle.dr_senders.specs.Meaning.Rule.{World, KeepsRule}
 use Rattle.dr_senders.specs.Meaning.Steps.{Happens, sender_knows, sender_claims}
 use Rattle.dr_senders.specs.Meaning.Moments.{new_world, Runs}
-use Rattle.dr_senders.proofs.Places.{word_at, more_left, more_right, more_cases, at_replicate, set_here, set_else, one_value, claimed_low}
-use Rattle.dr_senders.proofs.Brought.{map_there, own_brought}
+use Rattle.dr_senders.proofs.Places.{word_at, more_right, more_cases, at_replicate, set_else, one_value, claimed_low}
+use Rattle.dr_runs.proofs.Lists.{map_there}
+use Rattle.dr_senders.proofs.Brought.{own_brought}
 use Rattle.dr_senders.proofs.Pictures.{keeps_step}
 use Rattle.dr_senders.proofs.Beginning.{kept_new_world}
 
@@ -81,7 +82,7 @@ owned_claims k w p c n r at room found K all =
     one_changes w.stages (w.stages ++ new) w.senders p r (claimed_from r c n) at all (λ s t there. elim (more_cases w.stages new s t there) [
       | inl old ↦ (
         λ own. (let x = own_of w.stages w.senders p s r t all at old own in
-            (x.0, more_left r.own (fresh_own r.number c n) x.0 record { sequence = s; stage = t } x.1)),
+            (x.0, at_longer r.own (fresh_own r.number c n) x.0 record { sequence = s; stage = t } x.1)),
         λ other. old,
       )
       | inr x ↦ (

@@ -6,8 +6,10 @@ use Rattle.std.proofs.lemmas.Nat.{div-add-mod'}
 use Rattle.std.proofs.Math.Nat.{mod-lt, mul-le-mul_right}
 use mathlib.Core.Option.{some, some-injective, some-ne-none}
 use lib.ListN.{get_elem?}
-use Rattle.atomic_table.proofs.Lists.{at_snoc, one_turn}
+use Rattle.atomic_table.proofs.Lists as lists
+use Rattle.atomic_table.proofs.Lists.{at_longer, at_snoc, one_turn}
 use Rattle.dr_seq.specs.Rounds.{entry_of}
+use Rattle.dr_ring.proofs.Lists.{last_look_below}
 use Rattle.dr_ring.specs.declared.record.Look.{Look}
 use Rattle.dr_ring.specs.Meaning.Records.{look, last_look}
 use Rattle.dr_senders.specs.Meaning.Shape.{Shape}
@@ -16,11 +18,6 @@ use Rattle.dr_senders.specs.Meaning.Rule.{IsPast, ArePast}
 
 abbrev pub word_at : List ℕ → ℕ → ℕ
 word_at words i = get_or words i 0
-
-pub more_left : {A : Type 0} (l m : List A) (s : ℕ) (t : A) → get_elem? l s ≡ some t → get_elem? (l ++ m) s ≡ some t
-more_left [] m s t at = absurd (some-ne-none t (sym at))
-more_left (x ∷ xs) m zero t at = at
-more_left (x ∷ xs) m (suc s) t at = more_left xs m s t at
 
 pub more_right : {A : Type 0} (l m : List A) (i : ℕ) (t : A) → get_elem? m i ≡ some t → get_elem? (l ++ m) (length l + i) ≡ some t
 more_right [] m i t at = (let z : 0 + i ≡ i = omega arith in ap (λ (j : ℕ). get_elem? m j) z) ∙ at
@@ -43,22 +40,8 @@ in_replicate zero a i lt = absurd (omega arith)
 in_replicate (suc n) a zero lt = refl
 in_replicate (suc n) a (suc i) lt = in_replicate n a i (omega arith)
 
-pub set_here : {A : Type 0} (l : List A) (s : ℕ) (a : A) → s < length l → get_elem? (set l s a) s ≡ some a
-set_here [] s a lt = absurd (omega arith)
-set_here (x ∷ xs) zero a lt = refl
-set_here (x ∷ xs) (suc s) a lt = set_here xs s a (omega arith)
-
 pub set_else : {A : Type 0} (l : List A) (s i : ℕ) (a t : A) → i ≢ s → get_elem? l i ≡ some t → get_elem? (set l s a) i ≡ some t
-set_else [] s i a t ne at = at
-set_else (x ∷ xs) zero zero a t ne at = absurd (ne refl)
-set_else (x ∷ xs) zero (suc i) a t ne at = at
-set_else (x ∷ xs) (suc s) zero a t ne at = at
-set_else (x ∷ xs) (suc s) (suc i) a t ne at = set_else xs s i a t (λ (e : i ≡ s). ne (ap suc e)) at
-
-pub at_map : {A B : Type 0} (f : A → B) (l : List A) (i : ℕ) (b : B) → get_elem? (map f l) i ≡ some b → (a : A) × (get_elem? l i ≡ some a) × (f a ≡ b)
-at_map f [] i b at = absurd (some-ne-none b (sym at))
-at_map f (x ∷ xs) zero b at = (x, refl, some-injective (f x) b at)
-at_map f (x ∷ xs) (suc i) b at = at_map f xs i b at
+set_else l s i a t ne at = lists.set_else l s i a ne ∙ at
 
 -- one place has one value
 pub one_value : {A : Type 0} (l : List A) (i : ℕ) (a b : A) → get_elem? l i ≡ some a → get_elem? l i ≡ some b → a ≡ b
@@ -114,14 +97,7 @@ past_more k words i v looks lt le all j x at =
 
 pub last_look_le : (k : Shape) (words : List ℕ) (d : ℕ) (looks : List Look) (word : ℕ) → d ≤ word_at words word → ArePast k words looks
     → last_look d looks word ≤ word_at words word
-last_look_le k words d [] word le all = le
-last_look_le k words d (x ∷ xs) word le all =
-    last_look_le k words (if x.word == word then x.value else d) xs word
-    (elim (cases_eq x.word word) [
-      | inl e ↦ rw (eq-eqb x.word word e) (subst (λ (m : ℕ). x.value ≤ get_or words m 0) e (all 0 x refl).before)
-      | inr ne ↦ rw (ne_eqb x.word word ne) le
-    ])
-    (λ i y at. all (suc i) y at)
+last_look_le k words d looks word le all = last_look_below words d looks word le (λ i x at. (all i x at).before)
 
 -- two sequences less than a round apart have slots of their own
 pub own_slot : (k : Shape) (a b : ℕ) → a ≢ b → b < a + k.size → a < b + k.size → a % k.size ≢ b % k.size

@@ -14,10 +14,12 @@ use Rattle.dr_senders.specs.Meaning.Words.{claim_word, claimed_in, is_halted}
 use Rattle.dr_senders.specs.declared.record.ReceiverRecord.{ReceiverRecord}
 use Rattle.dr_senders.specs.Meaning.Records.{claims_looked}
 use Rattle.dr_senders.specs.Calls.Ends.{count_looks}
-use Rattle.dr_senders.specs.Calls.Receiving.{ups_of, walked, WalksTo, PollLooks, LooksInOrder, looked_round, offered_by, received_all, Answers}
+use Rattle.dr_ring.specs.Calls.Receiving.{offered_by}
+use Rattle.dr_senders.specs.Calls.Receiving.{ups_of, walked, WalksTo, PollLooks, LooksInOrder, looked_round, received_all, Answers}
 use Rattle.dr_senders.specs.Inside.Parts.{Walked, receiver_saw, IsOfferedUpTo, LooksAtUpstreams, Offered, nothing_offered}
 use Rattle.dr_senders.specs.Inside.Fits.{ReceiverFits}
-use Rattle.dr_senders.proofs.Scanning.{no_looks_at}
+use Rattle.dr_ring.proofs.Looking.{no_looks_at}
+use Rattle.dr_ring.proofs.Polls.{not_true, either_true, second_true}
 
 -- a walk ends between where it begins and what is claimed
 walk_within : (size claimed s upto : ℕ) (ms : List ℕ) → WalksTo size claimed s ms upto → s ≤ claimed → (s ≤ upto) × (upto ≤ claimed)
@@ -40,7 +42,7 @@ offer_walk k r s claimed upto none ahead low W =
       stands = λ some. absurd (some none);
       each = sym (ap length none);
       is = W.2 ∙ ap (λ (xs : List Look). record (walked r W.0 upto) { looks = xs }) (sym (append-nil r.looks)
-          ∙ ap (λ (xs : List Look). r.looks ++ xs) (sym (no_looks_at (ups_of k r))));
+          ∙ ap (λ (xs : List Look). r.looks ++ xs) (sym (no_looks_at count_word (ups_of k r))));
       offered = refl;
       taken = omega arith;
       offers = subst (λ (q : ReceiverRecord). IsOfferedUpTo k q upto) (sym W.2)
@@ -126,18 +128,6 @@ poll_nothing k r s out found available upto taken next O ahead none =
         | inr off ↦ subst P (sym (idles (is_halted found) (claimed_in found) taken off all)) (off, omega arith, round, refl)
       ]
     ]
-
-not_true : (b : Bool) → (b ≡ true → ⊥) → b ≡ false
-not_true true never = absurd (never refl)
-not_true false never = refl
-
-either_true : (a b : Bool) → (a || b) ≡ true → (a ≡ true) ⊎ (b ≡ true)
-either_true true b e = inl refl
-either_true false b e = inr e
-
-second_true : (a b : Bool) → (a && b) ≡ true → b ≡ true
-second_true true b e = e
-second_true false b e = absurd (cc)
 
 -- some events are offered
 pub poll_batch : (k : Shape) (r s t : ReceiverRecord) (out out' : List Event) (found available upto taken count : ℕ) (last : Bool) → taken ≡ length r.received

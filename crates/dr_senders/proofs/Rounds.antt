@@ -13,16 +13,14 @@ use Rattle.dr_senders.specs.Meaning.Words.{count_word}
 use Rattle.dr_senders.specs.declared.record.ReceiverRecord.{ReceiverRecord}
 use Rattle.dr_senders.specs.Meaning.Records.{receiver_looked}
 use Rattle.dr_senders.specs.Calls.Ends.{count_looks}
-use Rattle.dr_senders.specs.Calls.Receiving.{ups_of, offered_by}
-use Rattle.dr_senders.specs.Inside.Parts.{lesser_of, receiver_saw, LooksAtUpstreams}
-use Rattle.dr_senders.proofs.Scanning.{looks_more, last_least, last_number, get_any, no_looks_at}
+use Rattle.dr_ring.specs.Calls.Receiving.{offered_by}
+use Rattle.dr_senders.specs.Calls.Receiving.{ups_of}
+use Rattle.dr_ring.specs.Inside.Parts.{lesser_of}
+use Rattle.dr_senders.specs.Inside.Parts.{receiver_saw, LooksAtUpstreams}
+use Rattle.dr_runs.proofs.Lists.{no_elements, take_whole}
+use Rattle.dr_ring.proofs.Looking.{get_any, last_least, looks_more, no_looks_at, offers_more, contains_more, contains_last}
 
 -- the counts of the first i upstreams were looked at
-least_more : (counts : List ℕ) (v : ℕ) → 0 < length counts → least_of (counts ++ v ∷ []) ≡ min (least_of counts) v
-least_more [] v lt = absurd (omega arith)
-least_more (n ∷ []) v lt = refl
-least_more (n ∷ m ∷ ms) v lt = let e : least_of ((m ∷ ms) ++ v ∷ []) ≡ min (least_of (m ∷ ms)) v = least_more (m ∷ ms) v (omega arith) in omega arith
-
 pub record Round (ups : List ℕ) (r : ReceiverRecord) (cursor available i : ℕ) (s : ReceiverRecord) : Type 0 where
   pub counts : List ℕ
   pub each : length counts ≡ i
@@ -38,7 +36,7 @@ round_none ups r cursor le = record {
   counts = [];
   each = refl;
   is = ap (λ (ys : List Look). record r { looks = ys }) (sym (append-nil r.looks))
-      ∙ ap (λ (ys : List Look). receiver_saw r ys) (sym (no_looks_at (take 0 ups)));
+      ∙ ap (λ (ys : List Look). receiver_saw r ys) (sym (no_looks_at count_word (take 0 ups)));
   offered = refl;
   taken = le;
   found = λ lt. absurd (omega arith);
@@ -46,35 +44,13 @@ round_none ups r cursor le = record {
   told = λ y lt. absurd (omega arith);
 }
 
--- what a list of counts offers, once one more is seen
-offers_more : (cursor v available available' : ℕ) (counts : List ℕ) (first : Bool) → first ≡ (length counts == 0)
-    → available ≡ offered_by cursor counts → available' ≡ lesser_of first v available
-    → (available' ≡ offered_by cursor (counts ++ v ∷ [])) × (available' ≤ v) × (0 < length counts → available' ≤ available)
-    × ((available' ≡ v) ⊎ ((0 < length counts) × (available' ≡ available)))
-offers_more cursor v available available' [] first start offered new =
-    let e : available' ≡ v = new ∙ rw (start) refl in (e, omega arith, (λ lt. absurd (omega arith)), inl e)
-offers_more cursor v available available' (n ∷ counts) first start offered new =
-    let least : least_of ((n ∷ counts) ++ v ∷ []) ≡ min (least_of (n ∷ counts)) v = least_more (n ∷ counts) v (omega arith) in
-    let first_no : first ≡ false = start ∙ ne_eqb (length (n ∷ counts)) 0 (λ (z : length (n ∷ counts) ≡ 0). omega arith) in
-    elim (cases_lt v available) [
-      | inl lt ↦ (let e : available' ≡ v = new ∙ rw (first_no, lt-ltb v available lt) refl in (omega arith, omega arith, (λ _. omega arith), inl e))
-      | inr ge ↦ (let e : available' ≡ available = new ∙ rw (first_no, le-ltb v available ge) refl in
-          (omega arith, omega arith, (λ _. omega arith), inr (omega arith, e)))
-    ]
-
-contains_more : (xs : List ℕ) (x v : ℕ) → Contains xs x → Contains (xs ++ v ∷ []) x
-contains_more xs x v has = (has.0, (let l = has.1 in omega (arith, length-append xs (v ∷ []))), get_or_append_left xs (v ∷ []) x has.0 has.1 ∙ has.2)
-
-contains_last : (xs : List ℕ) (x : ℕ) → Contains (xs ++ x ∷ []) x
-contains_last xs x = (length xs, omega (arith, length-append xs (x ∷ [])), last_number xs x x)
-
 pub round_more : (ups : List ℕ) (r s s' : ReceiverRecord) (cursor available available' i u v : ℕ) → Round ups r cursor available i s → i < length ups
     → get_or ups i 0 ≡ u → s' ≡ receiver_looked s (count_word u) v → length s.received ≤ v → (s.told ≡ true → v ≤ length s.received)
     → available' ≡ lesser_of (i == 0) v available → Round ups r cursor available' (i + 1) s'
 round_more ups r s s' cursor available available' i u v R lt at is le told new =
     let xs = count_looks (take i ups) R.counts in let len = R.each in
     let next : count_looks (take (i + 1) ups) (R.counts ++ v ∷ []) ≡ xs ++ look (count_word u) v ∷ [] =
-    looks_more ups R.counts i v R.each lt ∙ ap (λ (w : ℕ). xs ++ look (count_word w) v ∷ []) at in
+    looks_more count_word ups R.counts i v R.each lt ∙ ap (λ (w : ℕ). xs ++ look (count_word w) v ∷ []) at in
     let offer = offers_more cursor v available available' R.counts (i == 0) (ap (λ (m : ℕ). m == 0) (sym len)) R.offered new in
     let low = offer.1 in let down = offer.2 in
     let received : length r.received ≤ v = subst (λ (q : ReceiverRecord). length q.received ≤ v) R.is le in
@@ -104,20 +80,10 @@ round_more ups r s s' cursor available available' i u v R lt at is le told new =
       told = λ y _. (let a = told_low y in omega arith);
     }
 
-take_whole : (xs : List ℕ) (n : ℕ) → n ≡ length xs → take n xs ≡ xs
-take_whole [] zero e = refl
-take_whole [] (suc n) e = absurd (omega arith)
-take_whole (x ∷ xs) zero e = absurd (omega arith)
-take_whole (x ∷ xs) (suc n) e = ap (λ (ys : List ℕ). x ∷ ys) (take_whole xs n (omega arith))
-
-no_elements : (xs : List ℕ) → length xs ≡ 0 → xs ≡ []
-no_elements [] e = refl
-no_elements (x ∷ xs) e = absurd (omega arith)
-
 pub round_all : (k : Shape) (r s : ReceiverRecord) (cursor available i : ℕ) → Round (ups_of k r) r cursor available i s → i ≡ length (ups_of k r)
     → LooksAtUpstreams k r cursor s available
 round_all k r s cursor available i R all =
-    let ups = ups_of k r in let whole : take i ups ≡ ups = take_whole ups i all in
+    let ups = ups_of k r in let whole : take i ups ≡ ups = take_whole ups i (omega arith) in
     let some_one : ups ≢ [] → 0 < i = λ ne. (elim (cases_lt 0 i) [ inl lt ↦ lt | inr le ↦ absurd (ne (no_elements ups (omega arith))) ]) in record {
       counts = R.counts;
       each = R.each ∙ all;

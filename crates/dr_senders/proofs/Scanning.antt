@@ -5,46 +5,14 @@ use Rattle.std.proofs.lemmas.List.{length-append, append-nil, get_or_append_left
 use Rattle.dr_graph.specs.Meaning.Graph.{finals}
 use Rattle.dr_ring.specs.declared.record.Look.{Look}
 use Rattle.dr_ring.specs.Meaning.Records.{look, last_look}
-use Rattle.dr_ring.proofs.Lists.{last_look_more, last_look_else}
+use Rattle.dr_ring.proofs.Lists.{last_look_more}
+use Rattle.dr_ring.proofs.Looking.{last_least, looks_more, looks_few, no_looks_at, number_at}
 use Rattle.dr_senders.specs.Meaning.Shape.{Shape}
 use Rattle.dr_senders.specs.Meaning.Words.{count_word}
 use Rattle.dr_senders.specs.declared.record.SenderRecord.{SenderRecord}
 use Rattle.dr_senders.specs.Meaning.Records.{sender_looked}
 use Rattle.dr_senders.specs.Calls.Ends.{count_looks}
 use Rattle.dr_senders.specs.Inside.Parts.{sender_saw, Scans}
-
--- one look more
-pub looks_more : (hs counts : List ℕ) (i v : ℕ) → length counts ≡ i → i < length hs
-    → count_looks (take (i + 1) hs) (counts ++ v ∷ []) ≡ count_looks (take i hs) counts ++ look (count_word (get_or hs i 0)) v ∷ []
-looks_more [] counts i v e lt = absurd (omega arith)
-looks_more (h ∷ hs) [] zero v e lt = refl
-looks_more (h ∷ hs) [] (suc i) v e lt = absurd (omega arith)
-looks_more (h ∷ hs) (n ∷ counts) zero v e lt = absurd (omega arith)
-looks_more (h ∷ hs) (n ∷ counts) (suc i) v e lt =
-    let at : suc i + 1 ≡ suc (i + 1) = omega arith in
-    ap (λ (j : ℕ). count_looks (take j (h ∷ hs)) (n ∷ (counts ++ v ∷ []))) at
-    ∙ ap (λ (xs : List Look). look (count_word h) n ∷ xs) (looks_more hs counts i v (omega arith) (omega arith))
-
--- counts of fewer handlers
-pub looks_few : (hs counts : List ℕ) (i : ℕ) → length counts ≡ i → count_looks (take i hs) counts ≡ count_looks hs counts
-looks_few [] counts zero e = refl
-looks_few [] counts (suc i) e = refl
-looks_few (h ∷ hs) [] zero e = refl
-looks_few (h ∷ hs) [] (suc i) e = absurd (omega arith)
-looks_few (h ∷ hs) (n ∷ counts) zero e = absurd (omega arith)
-looks_few (h ∷ hs) (n ∷ counts) (suc i) e = ap (λ (xs : List Look). look (count_word h) n ∷ xs) (looks_few hs counts i (omega arith))
-
-pub last_number : (xs : List ℕ) (x d : ℕ) → get_or (xs ++ x ∷ []) (length xs) d ≡ x
-last_number [] x d = refl
-last_number (y ∷ xs) x d = last_number xs x d
-
--- the last count
-pub number_at : (xs : List ℕ) (x i : ℕ) → length xs ≡ i → get_or (xs ++ x ∷ []) i 0 ≡ x
-number_at xs x i e = ap (λ (j : ℕ). get_or (xs ++ x ∷ []) j 0) (sym e) ∙ last_number xs x 0
-
-pub no_looks_at : (hs : List ℕ) → count_looks hs [] ≡ []
-no_looks_at [] = refl
-no_looks_at (h ∷ hs) = refl
 
 -- the first i finals were looked at, and each count is high
 pub record Scanned (hs : List ℕ) (r : SenderRecord) (need i : ℕ) (s : SenderRecord) : Type 0 where
@@ -57,7 +25,7 @@ pub scanned_none : (hs : List ℕ) (r : SenderRecord) (need : ℕ) → Scanned h
 scanned_none hs r need = record {
   counts = [];
   each = refl;
-  is = ap (λ (xs : List Look). record r { looks = xs }) (sym (append-nil r.looks)) ∙ ap (λ (xs : List Look). sender_saw r xs) (sym (no_looks_at (take 0 hs)));
+  is = ap (λ (xs : List Look). record r { looks = xs }) (sym (append-nil r.looks)) ∙ ap (λ (xs : List Look). sender_saw r xs) (sym (no_looks_at count_word (take 0 hs)));
   high = λ j lt. absurd (omega arith);
 }
 
@@ -69,7 +37,7 @@ saw_more hs r s s' counts i h v each inside at was is =
     is ∙ ap (λ (q : SenderRecord). sender_looked q (count_word h) v) was
     ∙ ap (λ (ys : List Look). record r { looks = ys }) (append_assoc r.looks xs (look (count_word h) v ∷ []))
     ∙ ap (λ (g : ℕ). sender_saw r (xs ++ look (count_word g) v ∷ [])) (sym at)
-    ∙ ap (λ (ys : List Look). sender_saw r ys) (sym (looks_more hs counts i v each inside))
+    ∙ ap (λ (ys : List Look). sender_saw r ys) (sym (looks_more count_word hs counts i v each inside))
 
 pub scanned_more : (hs : List ℕ) (r s s' : SenderRecord) (need i h v : ℕ) → Scanned hs r need i s → i < length hs → get_or hs i 0 ≡ h
     → s' ≡ sender_looked s (count_word h) v → need ≤ v
@@ -91,7 +59,7 @@ pub scanned_low : (k : Shape) (r s s' : SenderRecord) (need i h v : ℕ) → Sca
 scanned_low k r s s' need i h v S inside at is low =
     let hs = finals k.upstreams in let each = S.each in let len : length (S.counts ++ v ∷ []) ≡ i + 1 = omega (arith, length-append S.counts (v ∷ [])) in (
       S.counts ++ v ∷ [],
-      saw_more hs r s s' S.counts i h v S.each inside at S.is is ∙ ap (λ (xs : List Look). sender_saw r xs) (looks_few hs (S.counts ++ v ∷ []) (i + 1) len),
+      saw_more hs r s s' S.counts i h v S.each inside at S.is is ∙ ap (λ (xs : List Look). sender_saw r xs) (looks_few count_word hs (S.counts ++ v ∷ []) (i + 1) len),
       record {
         before = i;
         last = len;
@@ -106,23 +74,9 @@ pub scanned_all : (k : Shape) (r s : SenderRecord) (need i : ℕ) → Scanned (f
     → Scans k r need s true
 scanned_all k r s need i S all = (
   S.counts,
-  S.is ∙ ap (λ (xs : List Look). sender_saw r xs) (looks_few (finals k.upstreams) S.counts i S.each),
+  S.is ∙ ap (λ (xs : List Look). sender_saw r xs) (looks_few count_word (finals k.upstreams) S.counts i S.each),
   record { all = S.each ∙ all; high = λ j lt. S.high j (let each = S.each in omega arith) },
 )
-
--- a look at one word leaves those at another
-pub last_least : (d : ℕ) (xs : List Look) (i v w n : ℕ) → n ≤ last_look d xs w → n ≤ v → n ≤ last_look d (xs ++ look i v ∷ []) w
-last_least d xs i v w n le high =
-    elim (cases_eq i w) [
-      | inl e ↦ (let a : last_look d (xs ++ look i v ∷ []) w ≡ v = ap (λ (j : ℕ). last_look d (xs ++ look i v ∷ []) j) (sym e) ∙ last_look_more d xs i v in
-          omega arith)
-      | inr ne ↦ (let a : last_look d (xs ++ look i v ∷ []) w ≡ last_look d xs w = last_look_else d xs i w v ne in omega arith)
-    ]
-
-pub get_any : (xs : List ℕ) (i a b : ℕ) → i < length xs → get_or xs i a ≡ get_or xs i b
-get_any [] i a b lt = absurd (omega arith)
-get_any (x ∷ xs) zero a b lt = refl
-get_any (x ∷ xs) (suc i) a b lt = get_any xs i a b (omega arith)
 
 -- a handler is listed from a place on
 abbrev Listed : List ℕ → ℕ → Type 0

@@ -7,26 +7,17 @@ use Rattle.std.specs.Prelude.{Contains}
 use Rattle.std.proofs.lemmas.List.Sums.{take_while-cons}
 use mathlib.Core.Option.{some, some-injective, some-ne-none, none}
 use lib.ListN.{get_elem?}
-use lib.Seq.{set-get_or}
-use Rattle.atomic_table.specs.Table.{step, keeps, Allows}
-use Rattle.atomic_table.proofs.Lists.{at_set}
 use Rattle.dr_seq.specs.declared.event.Event.{Event}
 use Rattle.dr_seq.specs.Event.{no_event}
 use Rattle.dr_graph.specs.Meaning.Graph.{upstreams_of}
 use Rattle.dr_ring.proofs.Lists.{at_below, value_at}
 use Rattle.dr_senders.specs.Meaning.Shape.{Shape}
-use Rattle.dr_senders.specs.Meaning.Words.{claim_word, count_word}
+use Rattle.dr_senders.specs.Meaning.Words.{count_word}
 use Rattle.dr_senders.specs.declared.record.Stage.{Stage}
-use Rattle.dr_senders.specs.declared.record.EndRecord.{EndRecord}
 use Rattle.dr_senders.specs.declared.record.ReceiverRecord.{ReceiverRecord}
-use Rattle.dr_senders.specs.declared.record.View.{View}
 use Rattle.dr_senders.specs.Meaning.Rule.{World, IsOutWith, KeepsRule}
-use Rattle.dr_senders.specs.Meaning.Moments.{IsBeginning}
 use Rattle.dr_senders.specs.Meaning.Settling.{is_published, event_of, HasBeginning, FollowsUpstream, IsSent, Settles}
-use Rattle.dr_senders.specs.Inside.Seats.{Sitting, EachPast, Saw, Ruled}
-use Rattle.dr_senders.specs.Inside.Gathering.{Compares}
 use Rattle.dr_senders.proofs.Places.{word_at}
-use Rattle.dr_senders.proofs.Seats.{StandsAt, each_map}
 use Rattle.dr_senders.proofs.Owners.{AllOwned}
 
 abbrev out_of : List Stage → List Event
@@ -103,43 +94,3 @@ settles k w K all = record {
   sent = λ h s r event at there. is_sent k w h s r event at there K all;
   follow = λ h j r u at there. follows k w h j r u at there K;
 }
-
-pub compares : (k : Shape) (slots id : ℕ) (me : Sitting) → Allows (Ruled k) slots id me claim_word (λ n. n) (Compares k (step slots claim_word 0 0 none) me)
-compares k slots id me s R _ at _ =
-    let us = set s.words claim_word (get_or s.words claim_word 0) in let same : us ≡ s.words = set-get_or s.words claim_word 0 in
-    let P : ℕ → View → Type 0 = λ id' u. (j : ℕ) (e : EndRecord) → get_elem? u.ends j ≡ some e → StandsAt R.place R.world id' j e in
-    let here : P id me.0 = R.each_end id me.0 at in (
-      me.0,
-      keeps,
-      tt,
-      record {
-        world = R.world;
-        words = R.words ∙ sym same;
-        shape = R.shape;
-        steps = R.steps;
-        entries = R.entries;
-        runs = R.runs;
-        place = R.place;
-        each_end = λ id' u there. elim (at_set s.views id id' me.0 u there) [
-          | inl x ↦ subst (P id') x.1 (λ j e in_v. (let t = here j e in_v in (t.0 ∙ ap (λ (m : ℕ). let q : ℕ × ℕ = (m, j) in q) (sym x.0), t.1)))
-          | inr x ↦ R.each_end id' u x.1
-        ];
-        each_past = λ id' u there. elim (at_set s.views id id' me.0 u there) [
-          | inl x ↦ subst (λ (v : View). EachPast (Saw k R.steps) v.ends v.pasts) x.1 (R.each_past id me.0 at)
-          | inr x ↦ R.each_past id' u x.1
-        ];
-      },
-      (
-        refl,
-        record {
-          steps = R.steps;
-          entries = R.entries;
-          world = R.world;
-          shape = R.shape;
-          runs = R.runs;
-          pasts = each_map (Saw k R.steps) (λ e past. IsBeginning past R.steps) me.0.ends me.0.pasts (λ j e past in_v S. S.begins) (R.each_past id me.0 at);
-          stands = λ e in_view. (here in_view.0 e in_view.1).1;
-          finds = ap (λ (ws : List ℕ). get_or ws claim_word 0) R.words;
-        },
-      ),
-    )

@@ -25,7 +25,7 @@ use Rattle.dr_senders.specs.Calls.Sending.{knows_after}
 use Rattle.dr_senders.specs.Calls.Receiving.{PollSees}
 use Rattle.dr_senders.specs.Calls.Settling.{AreAllEnds}
 use Rattle.dr_senders.proofs.Beginning.{sender_fresh, receiver_fresh, senders_count, receivers_count}
-use Rattle.dr_senders.proofs.Places.{at_map}
+use Rattle.dr_runs.proofs.Lists.{at_map}
 
 -- each end of a list is of the ring, and has the number of its place
 abbrev AreInPlace : {K : Type 0} → (K → ℕ) → TableId → List (EndOf K) → Type 0

@@ -1,5 +1,4 @@
 -- How it is kept: seats at a table, and what the ends' stations have.
-pub mod Gathering
 pub mod Plans
 pub mod Seats
 pub mod Stations

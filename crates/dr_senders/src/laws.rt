@@ -23,7 +23,7 @@ ghost use Rattle.dr_senders.specs.Meaning.Moments.{Runs, new_world, picture_of, 
 
 use crate::plan::Plan;
 use crate::record::View;
-use atomic_table::{Play, Seat, Shared, Table, TableRule};
+use atomic_table::{Seat, Shared, Table, TableRule};
 use dr_core::every_transcript_is_lawful;
 pub use halter::Halter;
 pub(crate) use receiver::ReceiverStation;
@@ -56,11 +56,6 @@ pub type RingSeat = Seat<u64, View>;
 pub(crate) struct RingBody {
     pub(crate) table: RingTable,
     pub(crate) plan: Plan,
-}
-
-// The proof of each step says at the call what the step tells; by itself it tells nothing.
-impl Play<u64, View> for Brand {
-    ghost then = { λ s me n me'. me' ≡ me };
 }
 
 /// What a step names, for its proof alone: a sequence, and the first word of its event.

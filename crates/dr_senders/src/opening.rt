@@ -7,7 +7,8 @@ ghost use Rattle.dr_core.specs.Calls.OpenFault.{has_bad_producers, is_bad_limit}
 ghost use Rattle.dr_senders.specs.Meaning.Shape.{handlers_of};
 ghost use Rattle.dr_senders.specs.Meaning.Moments.{fresh_senders, fresh_receivers};
 ghost use Rattle.dr_senders.specs.Calls.Plans.{IsPlan};
-ghost use Rattle.dr_senders.specs.Inside.Seats.{IsAtTable, known_senders, known_receivers, fresh_seat};
+ghost use Rattle.dr_runs.specs.Seats.{fresh_seat};
+ghost use Rattle.dr_senders.specs.Inside.Seats.{IsAtTable, known_senders, known_receivers};
 ghost use Rattle.dr_senders.specs.Inside.Stations.{IsKeyed};
 ghost use Rattle.dr_senders.specs.Calls.Settling.{AreAllEnds};
 ghost use Rattle.dr_senders.specs.Calls.Making.{at_ring, AreFreshEnds, fault_of};
@@ -30,11 +31,11 @@ use std::sync::Arc;
 struct Cut;
 
 impl Split<View> for Cut {
-    ghost use Rattle.std.specs.Prelude.{take, drop};
+    ghost use Rattle.dr_runs.specs.Seats.{first_view, rest_view};
 
-    ghost left = { λ v. record { ends = take 1 v.ends; pasts = take 1 v.pasts } };
+    ghost left = { first_view };
 
-    ghost right = { λ v. record { ends = drop 1 v.ends; pasts = drop 1 v.pasts } };
+    ghost right = { rest_view };
 }
 
 // The senders, each with its seat, and the seat of the receivers. `rest` stands for them all.

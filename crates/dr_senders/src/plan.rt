@@ -8,6 +8,7 @@ ghost use Rattle.dr_senders.specs.Calls.Plans.{IsPlan};
 ghost use Rattle.dr_senders.specs.Meaning.Words.{count_word as count_word_of, mark_word as mark_word_of, payload_word as payload_word_of, words_of};
 
 use dr_graph::Graph;
+use dr_ring::copy_upstreams;
 use dr_seq::Size;
 use std::alloc::{AllocError, Global};
 use std::marker::Model;
@@ -47,19 +48,6 @@ impl Model for Plan {
     ghost view = { λ p. record { upstreams = map (λ v. v.items) p.upstreams.items; size = p.size; limit = p.limit; senders = p.senders } };
 
     ghost invariant = { λ p. PlanFits (record { upstreams = map (λ v. v.items) p.upstreams.items; size = p.size; limit = p.limit; senders = p.senders }) p.finals.items p.words };
-}
-
-// The direct upstreams of each handler of a graph.
-fn copy_upstreams(alloc: Global, graph: &Graph) -> Result<Vec<Vec<usize>>, AllocError>
-    ensures { IfOk result (λ v. map (λ ups. ups.items) v.items ≡ graph.now.upstreams) }
-{
-    let handlers = graph.len();
-    let mut upstreams = Vec::with_capacity(alloc, handlers)?;
-    for handler in 0..handlers {
-        let own = Vec::from_slice(alloc, graph.upstreams(handler))?;
-        upstreams.push(own)?;
-    }
-    Ok(upstreams)
 }
 
 impl Plan {

@@ -2,7 +2,8 @@
 
 ghost use Rattle.std.specs.Prelude.{◌≡◌, ◌<◌, ◌^◌, ◌||◌, length, Some};
 ghost use Rattle.dr_core.specs.Calls.Ends.{IsEndsAnswer, PollAnswers, CompleteAnswers, is_drained, Takes, Completes};
-ghost use Rattle.dr_senders.specs.Calls.Ends.{looks_counted, receiver_place};
+ghost use Rattle.dr_ring.specs.Calls.Ends.{looks_counted};
+ghost use Rattle.dr_senders.specs.Calls.Ends.{receiver_place};
 ghost use Rattle.dr_senders.specs.Calls.Receiving.{received_of, PollCall, CompleteCall};
 
 use crate::laws::ReceiverStation;

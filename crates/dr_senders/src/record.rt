@@ -118,9 +118,5 @@ pub enum EndRecord {
     Halts(HalterRecord),
 }
 
-/// What a seat stands for: the records of one or more ends and, for each, the steps of all ends
-/// from the ring's opening up to the last one by this end.
-pub struct View {
-    pub ends: LinkedList<EndRecord>,
-    pub pasts: LinkedList<LinkedList<Step>>,
-}
+/// What a seat of a ring stands for.
+pub type View = dr_runs::View<EndRecord, Step>;

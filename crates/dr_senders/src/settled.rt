@@ -4,8 +4,10 @@ ghost use Rattle.std.specs.Prelude.{◌≡◌, ◌<◌, length, map};
 ghost use Rattle.std.specs.Arc.{arc_value};
 ghost use Rattle.dr_ring.specs.Calls.Settling.{counts_at};
 ghost use Rattle.dr_senders.specs.declared.record.EndRecord.TheVariants.{Sends, Receives};
-ghost use Rattle.dr_senders.specs.Inside.Seats.{IsAtTable, end_of};
-ghost use Rattle.dr_senders.specs.Inside.Gathering.{AreOfRing, Gathers};
+ghost use Rattle.dr_runs.specs.Seats.{end_of};
+ghost use Rattle.dr_senders.specs.Inside.Seats.{IsAtTable};
+ghost use Rattle.dr_runs.specs.Gathering.{Gathers};
+ghost use Rattle.dr_senders.specs.Inside.Stations.{AreOfRing};
 ghost use Rattle.dr_senders.specs.Meaning.Settling.{HasRun};
 ghost use Rattle.dr_senders.specs.Calls.Settling.{AreAllEnds, known_by, handler_counts};
 

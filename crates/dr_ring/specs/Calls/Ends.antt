@@ -7,7 +7,7 @@ use Rattle.dr_ring.specs.declared.record.Step.{Step}
 use Rattle.dr_ring.specs.declared.record.SenderRecord.{SenderRecord}
 use Rattle.dr_ring.specs.declared.record.ReceiverRecord.{ReceiverRecord}
 use Rattle.dr_ring.specs.declared.record.HalterRecord.{HalterRecord}
-use Rattle.dr_ring.specs.Meaning.Moments.{IsBeginning}
+use Rattle.dr_runs.specs.Runs.{IsBeginning}
 use Rattle.dr_core.specs.Calls.Ends.{Received}
 use Rattle.dr_ring.specs.Meaning.Words.{count_word}
 use Rattle.dr_ring.specs.Meaning.Records.{look}
@@ -57,12 +57,16 @@ abbrev pub receiver_place : ReceiverEnd → ReceiverPlace
 receiver_place e = (e.ring, e.knows.plan, e.knows.number)
 
 -- a call that is not refused stores this and nothing else, and a refused one nothing
-abbrev pub StoresWhereOk : {A E : Type 0} → List Step → List Step → List Step → Result A E → Type 0
+abbrev pub StoresWhereOk : {A E S : Type 0} → List S → List S → List S → Result A E → Type 0
 StoresWhereOk stored steps stored' (Ok _) = stored' ≡ stored ++ steps
 StoresWhereOk stored steps stored' (Err _) = stored' ≡ stored
 
--- looks at the counts of some handlers, in their order, as far as there are counts
+-- looks at words of some handlers, in their order, as far as there are values
+abbrev pub looks_at : (ℕ → ℕ) → List ℕ → List ℕ → List Look
+looks_at word_of [] values = []
+looks_at word_of (h ∷ hs) [] = []
+looks_at word_of (h ∷ hs) (n ∷ values) = look (word_of h) n ∷ looks_at word_of hs values
+
+-- looks at the counts of some handlers
 abbrev pub count_looks : List ℕ → List ℕ → List Look
-count_looks [] counts = []
-count_looks (h ∷ hs) [] = []
-count_looks (h ∷ hs) (n ∷ counts) = look (count_word h) n ∷ count_looks hs counts
+count_looks hs counts = looks_at count_word hs counts

@@ -1,10 +1,16 @@
 -- The ends of a ring, each at its station, with the seat that stands for it.
-use Rattle.std.specs.Prelude.{◌≡◌, ℕ, ◌<◌}
+use Rattle.std.specs.Prelude.{◌≡◌, ℕ, ◌<◌, List}
 use Rattle.atomic_table.specs.Seated.{TableId}
 use Rattle.dr_ring.specs.Meaning.Shape.{Shape, handlers_of}
 use Rattle.dr_ring.specs.Calls.Plans.{IsPlan}
-use Rattle.dr_ring.specs.Inside.Seats.{End, Sitting, IsAtTable, past_of, stored_of, sender_of, receiver_of, halter_of, IsSender, IsReceiver, IsHalter}
-use Rattle.dr_ring.specs.Calls.Ends.{SenderEnd, ReceiverEnd, HalterEnd, looks_counted}
+use Rattle.dr_runs.specs.Seats.{past_of}
+use Rattle.dr_ring.specs.Inside.Seats.{End, Sitting, IsAtTable, stored_of, sender_of, receiver_of, halter_of, IsSender, IsReceiver, IsHalter}
+use Rattle.dr_runs.specs.Gathering.{AreOf}
+use Rattle.dr_ring.specs.Calls.Ends.{EndOf, SenderEnd, ReceiverEnd, HalterEnd, looks_counted}
+
+-- the ends are of this ring
+abbrev pub AreOfRing : {K : Type 0} → TableId → List (EndOf K) → Type 0
+AreOfRing ring es = AreOf (λ (e : EndOf _). e.ring) ring es
 
 -- the end that a seat at a table stands for
 abbrev pub sender_end : TableId → Sitting → SenderEnd

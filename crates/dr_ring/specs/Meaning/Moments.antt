@@ -9,6 +9,7 @@ use Rattle.dr_core.specs.declared.command.Reply.TheVariants.{Claimed, Written, P
 use Rattle.dr_core.specs.Meaning.Machine as machine
 use Rattle.dr_core.specs.Meaning.Machine.{State, available}
 use Rattle.dr_core.specs.Meaning.Transcript.{Transcript}
+use Rattle.dr_runs.specs.Runs as runs
 use Rattle.dr_ring.specs.Meaning.Shape.{Shape, handlers_of, ring_setup}
 use Rattle.dr_ring.specs.Meaning.Words.{cursor_word, halt_word, count_word, payload_word, words_of}
 use Rattle.dr_ring.specs.declared.record.HalfWrite.{HalfWrite}
@@ -94,10 +95,4 @@ entries_of k HalterHalts w = entry Halt Halting []
 
 -- a list of steps, with the entries of their events
 abbrev pub Runs : Shape → List Step → Transcript → World → World → Type 0
-Runs k [] entries w w' = (entries ≡ []) × (w ≡ w')
-Runs k (step ∷ steps) entries w w' =
-    (between : World) × (rest : Transcript) × Happens k step w between × (entries ≡ entries_of k step w ++ rest) × Runs k steps rest between w'
-
--- some steps are the beginning of others
-abbrev pub IsBeginning : List Step → List Step → Type 0
-IsBeginning past steps = (rest : List Step) × (steps ≡ past ++ rest)
+Runs k steps entries w w' = runs.Runs (Happens k) (entries_of k) steps entries w w'

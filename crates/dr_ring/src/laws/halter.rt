@@ -19,7 +19,7 @@ pub struct Halter {
 
 impl Model for Halter {
     ghost use Rattle.std.specs.Arc.{arc_value};
-    ghost use Rattle.dr_ring.specs.Inside.Seats.{end_of};
+    ghost use Rattle.dr_runs.specs.Seats.{end_of};
     ghost use Rattle.dr_ring.specs.Calls.Ends.{HalterEnd};
     ghost use Rattle.dr_ring.specs.Inside.Stations.{halter_end, HalterSits};
 

@@ -1,8 +1,9 @@
 //! How seats come together, at the end. No step of these changes a word or a record.
 
 ghost use Rattle.std.specs.Prelude.{◌≡◌, ◌++◌, [], ◌<◌};
-ghost use Rattle.dr_ring.specs.Inside.Seats.{end_of};
-ghost use Rattle.dr_ring.specs.Inside.Gathering.{LeadsView, ViewAgrees, ViewRan};
+ghost use Rattle.dr_runs.specs.Seats.{end_of};
+ghost use Rattle.dr_runs.specs.Gathering.{ViewRan};
+ghost use Rattle.dr_ring.specs.Inside.Seats.{exchange};
 
 use super::{RingSeat, Words};
 use crate::plan::CURSOR_WORD;
@@ -13,12 +14,11 @@ use std::marker::Brand;
 struct Together;
 
 impl Join<View> for Together {
-    ghost use Rattle.std.specs.Prelude.{[]};
-    ghost use Rattle.dr_ring.specs.Inside.Gathering.{both_views};
+    ghost use Rattle.dr_runs.specs.Seats.{both_views, no_view};
 
     ghost both = { both_views };
 
-    ghost spent = { record { ends = []; pasts = [] } };
+    ghost spent = { no_view };
 }
 
 /// A seat takes in what another stands for.
@@ -31,14 +31,12 @@ pub fn take_in(words: &Words, seat: &mut RingSeat, other: RingSeat)
     words.join_seat::<Together>(seat, other);
 }
 
-/// What the ends that a seat stands for know agrees, and the run came to it. It costs one load,
-/// whose value says nothing.
+/// One run came to what the ends that a seat stands for know. It costs one load, whose value says
+/// nothing.
 pub fn compare(words: &Words, seat: &mut RingSeat)
     requires table { (seat.old.table_id ≡ words.now.table_id) × (0 < words.now.table_id.words) }
-    requires sender { LeadsView (end_of seat.old.me) }
     ensures seat { (seat.new.table_id ≡ seat.old.table_id) × (seat.new.me ≡ seat.old.me) }
-    ensures agree { ViewAgrees (end_of seat.old.me) }
-    ensures ran { ViewRan seat.old.me }
+    ensures ran { ViewRan (exchange words.now.key) seat.old.me }
 {
     words.load::<Brand>(seat, CURSOR_WORD);
 }

@@ -1,15 +1,15 @@
 -- What an end of a ring is to its caller, and what one of its steps leaves of it.
-use Rattle.std.specs.Prelude.{◌≡◌, ℕ, min, List, [], ◌∷◌, ◌++◌, length, Result, Ok, Err}
+use Rattle.std.specs.Prelude.{◌≡◌, ℕ, List, [], ◌∷◌, ◌++◌}
 use Rattle.atomic_table.specs.Seated.{TableId}
 use Rattle.dr_ring.specs.declared.record.Look.{Look}
-use Rattle.dr_ring.specs.Meaning.Records.{look}
+use Rattle.dr_ring.specs.Calls.Ends.{looks_at}
 use Rattle.dr_senders.specs.Meaning.Shape.{Shape}
 use Rattle.dr_senders.specs.Meaning.Words.{count_word}
 use Rattle.dr_senders.specs.declared.record.Step.{Step}
 use Rattle.dr_senders.specs.declared.record.SenderRecord.{SenderRecord}
 use Rattle.dr_senders.specs.declared.record.ReceiverRecord.{ReceiverRecord}
 use Rattle.dr_senders.specs.declared.record.HalterRecord.{HalterRecord}
-use Rattle.dr_senders.specs.Meaning.Moments.{IsBeginning}
+use Rattle.dr_runs.specs.Runs.{IsBeginning}
 
 -- an end: of which ring it is, made for what, what it knows, the run as it was at its last step, and what it has stored since the ring's opening
 pub record EndOf (K : Type 0) : Type 0 where
@@ -50,17 +50,6 @@ HasLoaded e knows e' = Stays e e' × (e'.knows ≡ knows) × IsBeginning e.past 
 abbrev pub HasStored : {K : Type 0} → EndOf K → Step → K → EndOf K → Type 0
 HasStored e step knows e' = Stays e e' × (e'.knows ≡ knows) × IsBeginning e.past e'.past × (e'.stored ≡ e.stored ++ step ∷ [])
 
--- how many looks an end counts
-abbrev pub looks_counted : List Look → ℕ
-looks_counted looks = min (length looks) 18446744073709551615
-
--- a call that is not refused stores this and nothing else, and a refused one nothing
-abbrev pub StoresWhereOk : {A E : Type 0} → List Step → List Step → List Step → Result A E → Type 0
-StoresWhereOk stored steps stored' (Ok _) = stored' ≡ stored ++ steps
-StoresWhereOk stored steps stored' (Err _) = stored' ≡ stored
-
--- looks at the counts of some handlers, in their order, as far as there are counts
+-- looks at the counts of some handlers
 abbrev pub count_looks : List ℕ → List ℕ → List Look
-count_looks [] counts = []
-count_looks (h ∷ hs) [] = []
-count_looks (h ∷ hs) (n ∷ counts) = look (count_word h) n ∷ count_looks hs counts
+count_looks hs counts = looks_at count_word hs counts

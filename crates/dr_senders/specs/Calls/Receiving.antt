@@ -7,13 +7,15 @@ use Rattle.dr_core.specs.declared.command.Polled.{Polled}
 use Rattle.dr_core.specs.declared.command.Polled.TheVariants.{Batch, Drained, Gating, Idle}
 use Rattle.dr_core.specs.Meaning.Refusals.{PollTests, CompleteTests, poll_causes, complete_causes}
 use Rattle.dr_core.specs.Calls.Ends.{Received, Verdict, Exactly, IsAnswerOf, poll_tests, complete_tests, Completes, as_end}
-use Rattle.dr_graph.specs.Meaning.Graph.{upstreams_of, least_of}
+use Rattle.dr_graph.specs.Meaning.Graph.{upstreams_of}
 use Rattle.dr_ring.specs.Meaning.Records.{look}
+use Rattle.dr_ring.specs.Calls.Receiving.{offered_by}
 use Rattle.dr_senders.specs.Meaning.Shape.{Shape}
 use Rattle.dr_senders.specs.Meaning.Words.{claim_word, claimed_in, is_halted}
 use Rattle.dr_senders.specs.declared.record.ReceiverRecord.{ReceiverRecord}
 use Rattle.dr_senders.specs.declared.record.Step.TheVariants.{ReceiverCompletes}
-use Rattle.dr_senders.specs.Calls.Ends.{ReceiverEnd, Stays, StoresWhereOk, count_looks}
+use Rattle.dr_ring.specs.Calls.Ends.{StoresWhereOk}
+use Rattle.dr_senders.specs.Calls.Ends.{ReceiverEnd, Stays, count_looks}
 
 -- what a receiver shows as received
 abbrev pub received_of : ReceiverRecord → Received
@@ -38,11 +40,6 @@ WalksTo size claimed s (m ∷ ms) upto =
 -- a receiver has found these marks, and seen all below upto published
 abbrev pub walked : ReceiverRecord → List ℕ → ℕ → ReceiverRecord
 walked r marks upto = record r { seen = upto; marks = r.marks ++ marks }
-
--- what the barrier offered: the least count that was seen or, without upstreams, what was seen published
-abbrev pub offered_by : ℕ → List ℕ → ℕ
-offered_by published [] = published
-offered_by published (n ∷ counts) = least_of (n ∷ counts)
 
 -- a receiver has taken these events more
 abbrev pub received_all : ReceiverRecord → List Event → ReceiverRecord

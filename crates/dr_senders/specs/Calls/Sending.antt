@@ -51,42 +51,38 @@ abbrev pub Counts : Shape → ℕ → Result Claimed ClaimFault → Type 0
 Counts k n (Err (Refused BadCount)) = (n ≡ 0) ⊎ (k.size < n)
 Counts k n _ = IsCount k n
 
--- where a claim looked, and what it found: at the claim word first, then at the finals' counts, and by its exchange at the claim word again, by which it is decided
-abbrev pub LooksToClaim : Shape → ℕ → List Look → Result Claimed ClaimFault → Type 0
-LooksToClaim k n seen (Ok c) =
+-- where a claim of the sender p looked, what it found, and what it exchanged: it looked at the claim word first, then at the finals' counts, and where it found room it exchanged the claim word from what it found there, by which it is decided
+abbrev pub LooksToClaim : Shape → ℕ → ℕ → List Look → List Step → Result Claimed ClaimFault → Type 0
+LooksToClaim k p n seen steps (Ok c) =
     (counts : List ℕ) × FoundRoom k c.lo n counts × (c.hi ≡ c.lo + n - 1) × (seen ≡ look claim_word c.lo ∷ gate_looks k counts ++ look claim_word (c.lo + n) ∷ [])
-LooksToClaim k n seen (Err (Refused BadCount)) = seen ≡ []
-LooksToClaim k n seen (Err (Refused Halted)) =
-    (found : ℕ) × (is_halted found ≡ true) × ((seen ≡ look claim_word found ∷ [])
-    ⊎ ((c : ℕ) × (counts : List ℕ) × FoundRoom k c n counts × (seen ≡ look claim_word c ∷ gate_looks k counts ++ look claim_word found ∷ [])))
-LooksToClaim k n seen (Err (Refused Exhausted)) = (found : ℕ) × (is_halted found ≡ false) × (k.limit < found + n) × (seen ≡ look claim_word found ∷ [])
-LooksToClaim k n seen (Err (Refused NoRoom)) = (c : ℕ) × (counts : List ℕ) × FoundNoRoom k c n counts × (seen ≡ look claim_word c ∷ gate_looks k counts)
-LooksToClaim k n seen (Err (Refused other)) = ⊥
+    × (steps ≡ SenderClaims p c.lo n ∷ [])
+LooksToClaim k p n seen steps (Err (Refused BadCount)) = (seen ≡ []) × (steps ≡ [])
+LooksToClaim k p n seen steps (Err (Refused Halted)) =
+    (found : ℕ) × (is_halted found ≡ true) × (((seen ≡ look claim_word found ∷ []) × (steps ≡ []))
+    ⊎ ((c : ℕ) × (counts : List ℕ) × FoundRoom k c n counts × (seen ≡ look claim_word c ∷ gate_looks k counts ++ look claim_word found ∷ []) × (steps ≡ SenderClaims p c n ∷ [])))
+LooksToClaim k p n seen steps (Err (Refused Exhausted)) =
+    (found : ℕ) × (is_halted found ≡ false) × (k.limit < found + n) × (seen ≡ look claim_word found ∷ []) × (steps ≡ [])
+LooksToClaim k p n seen steps (Err (Refused NoRoom)) =
+    (c : ℕ) × (counts : List ℕ) × FoundNoRoom k c n counts × (seen ≡ look claim_word c ∷ gate_looks k counts) × (steps ≡ [])
+LooksToClaim k p n seen steps (Err (Refused other)) = ⊥
 -- another sender claimed between the first look and the exchange
-LooksToClaim k n seen (Err Contended) =
-    (c found : ℕ) × (counts : List ℕ) × FoundRoom k c n counts × (found ≢ c) × (is_halted found ≡ false) × (seen ≡ look claim_word c ∷ gate_looks k counts ++ look claim_word found ∷ [])
+LooksToClaim k p n seen steps (Err Contended) =
+    (c found : ℕ) × (counts : List ℕ) × FoundRoom k c n counts × (found ≢ c) × (is_halted found ≡ false)
+    × (seen ≡ look claim_word c ∷ gate_looks k counts ++ look claim_word found ∷ []) × (steps ≡ SenderClaims p c n ∷ [])
 
 -- what a sender knows after a claim: its looks, and the stretch where it is given
 abbrev pub knows_after : SenderRecord → ℕ → List Look → Result Claimed ClaimFault → SenderRecord
 knows_after r n seen (Ok c) = record r { own = r.own ++ fresh_own r.number c.lo n; looks = r.looks ++ seen }
 knows_after r n seen (Err fault) = record r { looks = r.looks ++ seen }
 
--- the exchanges of a claim: one where it found room, from what it found claimed on, and none otherwise
-abbrev pub Exchanges : SenderRecord → ℕ → List Step → Result Claimed ClaimFault → Type 0
-Exchanges r n steps (Ok c) = steps ≡ SenderClaims r.number c.lo n ∷ []
-Exchanges r n steps (Err (Refused Halted)) = (steps ≡ []) ⊎ ((c : ℕ) × (steps ≡ SenderClaims r.number c n ∷ []))
-Exchanges r n steps (Err (Refused other)) = steps ≡ []
-Exchanges r n steps (Err Contended) = (c : ℕ) × (steps ≡ SenderClaims r.number c n ∷ [])
-
 pub record ClaimCall (e : SenderEnd) (n : ℕ) (e' : SenderEnd) (result : Result Claimed ClaimFault) : Type 0 where
   pub stays : Stays e e'
   pub counts : Counts e.plan n result
   pub seen : List Look
-  pub looks : LooksToClaim e.plan n seen result
-  pub knows : e'.knows ≡ knows_after e.knows n seen result
   pub steps : List Step
+  pub looks : LooksToClaim e.plan e.knows.number n seen steps result
+  pub knows : e'.knows ≡ knows_after e.knows n seen result
   pub stored : e'.stored ≡ e.stored ++ steps
-  pub exchanges : Exchanges e.knows n steps result
   -- so no sequence reaches 2^62
   pub few : e.plan.limit ≤ 2 ^ 62
 

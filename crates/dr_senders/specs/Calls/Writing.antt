@@ -16,7 +16,8 @@ use Rattle.dr_senders.specs.declared.record.SenderRecord.{SenderRecord}
 use Rattle.dr_senders.specs.declared.record.Step.{Step}
 use Rattle.dr_senders.specs.declared.record.Step.TheVariants.{SenderStoresFirst, SenderStoresSecond, SenderPublishes}
 use Rattle.dr_senders.specs.Meaning.Records.{Owns, written, published, brought}
-use Rattle.dr_senders.specs.Calls.Ends.{SenderEnd, Stays, StoresWhereOk}
+use Rattle.dr_ring.specs.Calls.Ends.{StoresWhereOk}
+use Rattle.dr_senders.specs.Calls.Ends.{SenderEnd, Stays}
 
 -- The refusals of each call are the machine's, in its order. What a sender knows of its own sequences is exact. Of another's it learns by a look at the mark in its slot whether it is published, which the mark tells exactly; all that is then left of the machine's tests is answered `NotClaimed`, as the machine answers it at that moment (`moments`). A sequence at the limit or beyond is never claimed.
 

@@ -16,10 +16,11 @@ use Rattle.dr_senders.specs.declared.record.SenderRecord.{SenderRecord}
 use Rattle.dr_senders.specs.declared.record.ReceiverRecord.{ReceiverRecord}
 use Rattle.dr_senders.specs.declared.record.Step.TheVariants.{SenderStoresFirst, SenderStoresSecond}
 use Rattle.dr_senders.specs.Meaning.Records.{Owns, half_written, written, brought, sender_looked, mark_found}
-use Rattle.dr_senders.specs.Meaning.Moments.{IsBeginning}
+use Rattle.dr_runs.specs.Runs.{IsBeginning}
 use Rattle.dr_senders.specs.Calls.Ends.{SenderEnd, Stays, HasLoaded, count_looks}
 use Rattle.dr_senders.specs.Calls.Writing.{published_between, publications}
-use Rattle.dr_senders.specs.Calls.Receiving.{offered_by, walked, WalksTo, ups_of}
+use Rattle.dr_ring.specs.Calls.Receiving.{offered_by}
+use Rattle.dr_senders.specs.Calls.Receiving.{walked, WalksTo, ups_of}
 use Rattle.dr_senders.specs.Inside.Seats.{FindsMark, IsEarlier}
 
 -- a sender has made these looks more
@@ -62,10 +63,6 @@ pub record Walking (k : Shape) (r : ReceiverRecord) (claimed next : ℕ) (s : Re
   pub carry : AllCarry k.size claimed r.seen marks
   pub at : next ≡ r.seen + length marks
   pub is : s ≡ walked r marks next
-
--- the lesser of a count and those seen before, or the count where it is the first
-abbrev pub lesser_of : Bool → ℕ → ℕ → ℕ
-lesser_of first count seen = if first || nat_lt count seen then count else seen
 
 -- a receiver has made these looks more
 abbrev pub receiver_saw : ReceiverRecord → List Look → ReceiverRecord

@@ -1,12 +1,15 @@
--- The rule of a ring as its table's rule: each end stands in one seat's view, at one place of it, with what it saw of the run.
-use Rattle.std.specs.Prelude.{◌≡◌, ℕ, ◌+◌, ◌-◌, ◌*◌, ◌<◌, ◌≤◌, ◌==◌, if◌then◌else◌, Bool, true, false, List, [], ◌∷◌, ◌++◌, length, map, filter, Some}
+-- The seats that stand for the ends of a ring, the rule that the words' table keeps, and what each kind of step tells.
+use Rattle.std.specs.Prelude.{◌≡◌, ℕ, ◌+◌, ◌-◌, ◌*◌, ◌<◌, ◌≤◌, ◌==◌, if◌then◌else◌, Bool, true, false, List, [], ◌∷◌, ◌++◌, length, map, Some}
 use mathlib.Core.Option.{some}
 use lib.ListN.{get_elem?}
-use Rattle.atomic_table.specs.Table.{State, Me}
+use Rattle.atomic_table.specs.Table.{State}
 use Rattle.atomic_table.specs.Table.{Step as TableStep}
 use Rattle.atomic_table.specs.Seated.{TableId}
 use Rattle.dr_seq.specs.Rounds.{entry_of}
-use Rattle.dr_core.specs.Meaning.Transcript.{Transcript}
+use Rattle.dr_runs.specs.declared.view.View.{View}
+use Rattle.dr_runs.specs.Runs.{Ends, Exchange}
+use Rattle.dr_runs.specs.Seats as seats
+use Rattle.dr_runs.specs.Seats.{alone, fresh_view}
 use Rattle.dr_ring.specs.declared.record.Look.{Look}
 use Rattle.dr_ring.specs.Meaning.Records.{last_look}
 use Rattle.dr_senders.specs.Meaning.Shape.{Shape, IsShape, handlers_of}
@@ -19,35 +22,17 @@ use Rattle.dr_senders.specs.declared.record.EndRecord.{EndRecord}
 use Rattle.dr_senders.specs.declared.record.EndRecord.TheVariants.{Sends, Receives, Halts}
 use Rattle.dr_senders.specs.declared.record.Step.{Step}
 use Rattle.dr_senders.specs.declared.record.Step.TheVariants.{SenderClaims, SenderStoresFirst, SenderStoresSecond, SenderPublishes, SenderHalts, ReceiverCompletes, HalterHalts}
-use Rattle.dr_senders.specs.declared.record.View.{View}
 use Rattle.dr_senders.specs.Meaning.Records.{Owns, half_written, written, published, brought, sender_looked, mark_found, claimed_from, receiver_looked, claims_looked, mark_looked, half_taken, took, completed_to, halter_halted}
 use Rattle.dr_senders.specs.Meaning.Rule.{World}
-use Rattle.dr_senders.specs.Meaning.Moments.{fresh_sender, fresh_senders, fresh_receiver, fresh_receivers, new_world, Runs, IsBeginning}
+use Rattle.dr_senders.specs.Meaning.Steps.{Happens}
+use Rattle.dr_senders.specs.Meaning.Moments.{fresh_sender, fresh_senders, fresh_receiver, fresh_receivers, new_world, entries_of}
 
--- the records of the ends that a seat stands for
-abbrev pub KnownEnds : Type 0
-KnownEnds = List EndRecord
-
+-- a seat: what is known of its ends and, with it, the run as it was at each end's last step
 abbrev pub End : Type 0
-End = Me ℕ KnownEnds
+End = seats.End EndRecord
 
--- a seat: its view has the records of its ends and, for each, the run as it was at the end's last step
 abbrev pub Sitting : Type 0
-Sitting = Me ℕ View
-
-abbrev pub end_of : Sitting → End
-end_of m = (m.0.ends, m.1)
-
-abbrev pub seat_at : End → List (List Step) → Sitting
-seat_at e pasts = (record { ends = e.0; pasts = pasts }, e.1)
-
--- what the first end of a view saw of the run
-abbrev pub first_past : List (List Step) → List Step
-first_past [] = []
-first_past (past ∷ pasts) = past
-
-abbrev pub past_of : View → List Step
-past_of v = first_past v.pasts
+Sitting = seats.Sitting EndRecord Step
 
 -- the halter is end 0, and senders and receivers take turns behind it
 abbrev pub sender_number : ℕ → ℕ
@@ -72,24 +57,12 @@ is_store_of end HalterHalts = end == 0
 is_store_of end (ReceiverCompletes h n) = end == receiver_number h
 is_store_of end _ = false
 
--- what it stored in a run, in order
-abbrev pub stores_of : ℕ → List Step → List Step
-stores_of end steps = filter (is_store_of end) steps
-
--- a fact of each end of a view and its past
-abbrev pub EachPast : (EndRecord → List Step → Type 0) → List EndRecord → List (List Step) → Type 0
-EachPast P [] [] = Unit {0}
-EachPast P [] (past ∷ pasts) = ⊥
-EachPast P (e ∷ es) [] = ⊥
-EachPast P (e ∷ es) (past ∷ pasts) = P e past × EachPast P es pasts
-
-abbrev pub first_number : List EndRecord → ℕ
-first_number [] = 0
-first_number (e ∷ es) = end_number e
+abbrev pub ring_ends : Ends EndRecord Step
+ring_ends = record { number_of = end_number; is_store_of = is_store_of }
 
 -- what the first end of a view stored since the ring's opening
-abbrev pub stored_of : View → List Step
-stored_of v = stores_of (first_number v.ends) (past_of v)
+abbrev pub stored_of : View EndRecord Step → List Step
+stored_of v = seats.stored_of ring_ends v
 
 -- the record is that of the end in the world
 abbrev pub Stands : World → EndRecord → Type 0
@@ -97,62 +70,43 @@ Stands w (Sends r) = get_elem? w.senders r.number ≡ some r
 Stands w (Receives r) = get_elem? w.receivers r.number ≡ some r
 Stands w (Halts r) = w.halter ≡ r
 
--- what an end saw is the beginning of the run, came to its record, and has all that it stored
-pub record Saw (k : Shape) (steps : List Step) (e : EndRecord) (past : List Step) : Type 0 where
-  pub begins : IsBeginning past steps
-  pub entries : Transcript
-  pub world : World
-  pub runs : Runs k past entries (new_world k) world
-  pub stands : Stands world e
-  pub stores : stores_of (end_number e) past ≡ stores_of (end_number e) steps
+-- a ring by its steps
+abbrev pub exchange : Shape → Exchange EndRecord Step World
+exchange k = record {
+  ends = ring_ends;
+  IsMade = IsShape k;
+  opening = new_world k;
+  words_of = λ w. w.words;
+  Stands = Stands;
+  Happens = Happens k;
+  entries_of = entries_of k;
+}
 
--- some steps lead from the opening to a world with the table's words, and each record in each view is that of its end, which stands there alone
-pub record Ruled (k : Shape) (s : State ℕ View) : Type 0 where
-  pub world : World
-  pub words : world.words ≡ s.words
-  pub shape : IsShape k
-  pub steps : List Step
-  pub entries : Transcript
-  pub runs : Runs k steps entries (new_world k) world
-  -- the seat of each end, and its place in the seat's view
-  pub place : ℕ → ℕ × ℕ
-  pub each_end : (seat : ℕ) (view : View) → get_elem? s.views seat ≡ some view → (j : ℕ) (e : EndRecord) → get_elem? view.ends j ≡ some e
-      → (place (end_number e) ≡ (seat, j)) × Stands world e
-  -- no step changes what another end saw of the run
-  pub each_past : (seat : ℕ) (view : View) → get_elem? s.views seat ≡ some view → EachPast (Saw k steps) view.ends view.pasts
+-- the rule of a ring as its table's
+abbrev pub Ruled : Shape → State ℕ (View EndRecord Step) → Type 0
+Ruled k s = seats.Ruled (exchange k) s
 
 -- n senders of a new ring, from the number p on
-abbrev pub known_senders : ℕ → ℕ → KnownEnds
+abbrev pub known_senders : ℕ → ℕ → List EndRecord
 known_senders p n = map (λ r. Sends r) (fresh_senders p n)
 
 -- n receivers, from the number h on
-abbrev pub known_receivers : ℕ → ℕ → KnownEnds
+abbrev pub known_receivers : ℕ → ℕ → List EndRecord
 known_receivers h n = map (λ r. Receives r) (fresh_receivers h n)
 
 -- the ends of a new ring: the halter, the senders, and the receivers
-abbrev pub fresh_ends : Shape → KnownEnds
+abbrev pub fresh_ends : Shape → List EndRecord
 fresh_ends k = Halts record { looks = [] } ∷ known_senders 0 k.senders ++ known_receivers 0 (handlers_of k)
 
--- the view of ends that have not stepped
-abbrev pub fresh_view : KnownEnds → View
-fresh_view es = record { ends = es; pasts = map (λ e. []) es }
-
 -- the view that has them all
-abbrev pub all_ends : Shape → View
+abbrev pub all_ends : Shape → View EndRecord Step
 all_ends k = fresh_view (fresh_ends k)
-
--- the seat that stands for them
-abbrev pub fresh_seat : KnownEnds → Sitting
-fresh_seat es = (fresh_view es, [])
 
 -- a seat at a table with the words of a ring
 abbrev pub IsAtTable : TableId → TableId → Shape → Type 0
 IsAtTable seat table k = (seat ≡ table) × (table.words ≡ words_of k)
 
 -- a seat that stands for one end alone
-abbrev pub alone : EndRecord → End
-alone e = (e ∷ [], [])
-
 abbrev pub as_sender : SenderRecord → End
 as_sender r = alone (Sends r)
 
@@ -163,15 +117,15 @@ abbrev pub as_halter : HalterRecord → End
 as_halter r = alone (Halts r)
 
 -- the first record of a view
-abbrev pub sender_of : KnownEnds → SenderRecord
+abbrev pub sender_of : List EndRecord → SenderRecord
 sender_of (Sends r ∷ es) = r
 sender_of _ = fresh_sender 0
 
-abbrev pub receiver_of : KnownEnds → ReceiverRecord
+abbrev pub receiver_of : List EndRecord → ReceiverRecord
 receiver_of (Receives r ∷ es) = r
 receiver_of _ = fresh_receiver 0
 
-abbrev pub halter_of : KnownEnds → HalterRecord
+abbrev pub halter_of : List EndRecord → HalterRecord
 halter_of (Halts r ∷ es) = r
 halter_of _ = record { looks = [] }
 
@@ -184,14 +138,12 @@ IsReceiver me = me ≡ as_receiver (receiver_of me.0)
 abbrev pub IsHalter : End → Type 0
 IsHalter me = me ≡ as_halter (halter_of me.0)
 
--- a load's play: what it tells of the end, and that it comes after all that its end saw and stored
+-- what a load and a store tell their end
 abbrev pub Loads : (TableStep ℕ → End → ℕ → End → Type 0) → TableStep ℕ → Sitting → ℕ → Sitting → Type 0
-Loads Tells s me n me' = Tells s (end_of me) n (end_of me') × IsBeginning (past_of me.0) (past_of me'.0) × (stored_of me'.0 ≡ stored_of me.0)
+Loads Tells s me n me' = seats.Loads ring_ends Tells s me n me'
 
--- a store's play: the end has stored one thing more
 abbrev pub Stores : (TableStep ℕ → End → ℕ → Step) → (TableStep ℕ → End → ℕ → End → Type 0) → TableStep ℕ → Sitting → ℕ → Sitting → Type 0
-Stores step Tells s me n me' =
-    Tells s (end_of me) n (end_of me') × IsBeginning (past_of me.0) (past_of me'.0) × (stored_of me'.0 ≡ stored_of me.0 ++ step s (end_of me) n ∷ [])
+Stores step Tells s me n me' = seats.Stores ring_ends step Tells s me n me'
 
 -- What a look may find: no word that is looked at falls.
 

@@ -10,6 +10,7 @@ use Rattle.dr_core.specs.declared.command.Reply.TheVariants.{Refused, Claimed, W
 use Rattle.dr_core.specs.Meaning.Machine as machine
 use Rattle.dr_core.specs.Meaning.Machine.{State, available}
 use Rattle.dr_core.specs.Meaning.Transcript.{Transcript}
+use Rattle.dr_runs.specs.Runs as runs
 use Rattle.dr_ring.specs.Meaning.Moments.{entry, poll_of}
 use Rattle.dr_ring.specs.Meaning.Records.{last_look}
 use Rattle.dr_graph.specs.Meaning.Graph.{upstreams_of}
@@ -115,13 +116,7 @@ entries_of k HalterHalts w = entry Halt Halting []
 
 -- a list of steps, with the entries of their events
 abbrev pub Runs : Shape → List Step → Transcript → World → World → Type 0
-Runs k [] entries w w' = (entries ≡ []) × (w ≡ w')
-Runs k (step ∷ steps) entries w w' =
-    (between : World) × (rest : Transcript) × Happens k step w between × (entries ≡ entries_of k step w ++ rest) × Runs k steps rest between w'
-
--- some steps are the beginning of others
-abbrev pub IsBeginning : List Step → List Step → Type 0
-IsBeginning past steps = (rest : List Step) × (steps ≡ past ++ rest)
+Runs k steps entries w w' = runs.Runs (Happens k) (entries_of k) steps entries w w'
 
 -- a sequence that a sender may not write any more, or never might: it is not its own, or it is published
 abbrev pub IsShut : World → ℕ → ℕ → Type 0

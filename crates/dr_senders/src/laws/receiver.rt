@@ -26,7 +26,7 @@ pub(crate) struct ReceiverStation {
 
 impl Model for ReceiverStation {
     ghost use Rattle.std.specs.Arc.{arc_value};
-    ghost use Rattle.dr_senders.specs.Inside.Seats.{end_of};
+    ghost use Rattle.dr_runs.specs.Seats.{end_of};
     ghost use Rattle.dr_senders.specs.Calls.Ends.{ReceiverEnd};
     ghost use Rattle.dr_senders.specs.Inside.Stations.{receiver_end, ReceiverSits};
 

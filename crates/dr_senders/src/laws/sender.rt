@@ -29,7 +29,7 @@ pub(crate) struct SenderStation {
 
 impl Model for SenderStation {
     ghost use Rattle.std.specs.Arc.{arc_value};
-    ghost use Rattle.dr_senders.specs.Inside.Seats.{end_of};
+    ghost use Rattle.dr_runs.specs.Seats.{end_of};
     ghost use Rattle.dr_senders.specs.Calls.Ends.{SenderEnd};
     ghost use Rattle.dr_senders.specs.Inside.Stations.{sender_end, SenderSits};
 

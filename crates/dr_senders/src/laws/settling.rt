@@ -1,8 +1,10 @@
 //! How seats come together, at the end. No step of these changes a word or a record.
 
-ghost use Rattle.std.specs.Prelude.{◌≡◌, ◌++◌, [], ◌<◌};
-ghost use Rattle.dr_senders.specs.Inside.Seats.{end_of};
-ghost use Rattle.dr_senders.specs.Inside.Gathering.{ViewRan};
+ghost use Rattle.std.specs.Prelude.{◌≡◌, ◌++◌, [], ◌<◌, slice_index};
+ghost use Rattle.dr_runs.specs.Seats.{end_of};
+ghost use Rattle.dr_runs.specs.Gathering.{ViewRan};
+ghost use Rattle.dr_senders.specs.Meaning.Words.{claim_word};
+ghost use Rattle.dr_senders.specs.Inside.Seats.{exchange};
 
 use super::{RingSeat, Words};
 use crate::plan::CLAIM_WORD;
@@ -13,12 +15,11 @@ use std::marker::Brand;
 struct Together;
 
 impl Join<View> for Together {
-    ghost use Rattle.std.specs.Prelude.{[]};
-    ghost use Rattle.dr_senders.specs.Inside.Gathering.{both_views};
+    ghost use Rattle.dr_runs.specs.Seats.{both_views, no_view};
 
     ghost both = { both_views };
 
-    ghost spent = { record { ends = []; pasts = [] } };
+    ghost spent = { no_view };
 }
 
 /// A seat takes in what another stands for.
@@ -36,7 +37,7 @@ pub fn take_in(words: &Words, seat: &mut RingSeat, other: RingSeat)
 pub fn compare(words: &Words, seat: &mut RingSeat) -> u64
     requires table { (seat.old.table_id ≡ words.now.table_id) × (0 < words.now.table_id.words) }
     ensures seat { (seat.new.table_id ≡ seat.old.table_id) × (seat.new.me ≡ seat.old.me) }
-    ensures ran { ViewRan words.now.key seat.old.me result }
+    ensures ran { (ran : ViewRan (exchange words.now.key) seat.old.me) × (slice_index ran.world.words claim_word ≡ result) }
 {
     words.load::<Brand>(seat, CLAIM_WORD)
 }

@@ -1,12 +1,12 @@
 use Rattle.std.proofs.Common.{ℕ, ◌<◌, ap, sym, subst, ◌∙◌, replicate}
 use Rattle.dr_seq.proofs.Sizes.{size_positive}
-use Rattle.dr_ring.proofs.Cuts.{cuts, ruled_fresh}
-use Rattle.dr_ring.proofs.Making.{some_words}
+use Rattle.dr_runs.proofs.Cuts.{cuts}
+use Rattle.dr_ring.proofs.Making.{ruled_new, some_words}
 use Rattle.dr_ring.proofs.opening.ends.Goals as goal
 
 pub of_words-requires : goal.of_words-requires
 of_words-requires c =
-    ruled_fresh _ _ (c.as_slice.ensures.value ∙ c.in_ok-words.ensures.items_if_clones_equal (λ y same. same) ∙ ap (λ (n : ℕ). replicate n 0) c.words.ensures)
+    ruled_new _ _ (c.as_slice.ensures.value ∙ c.in_ok-words.ensures.items_if_clones_equal (λ y same. same) ∙ ap (λ (n : ℕ). replicate n 0) c.words.ensures)
     c.requires.graph (size_positive _ c.requires.size)
 
 pub split_seat-second-requires : goal.split_seat-second-requires

@@ -1,9 +1,10 @@
 use Rattle.std.proofs.Common.{◌<◌, arith, refl, ap, sym, subst, ◌∙◌}
 use Rattle.dr_ring.specs.Meaning.Shape.{handlers_of}
-use Rattle.dr_ring.specs.Inside.Seats.{Sitting, end_of, receiver_of}
+use Rattle.dr_runs.specs.Seats.{end_of}
+use Rattle.dr_ring.specs.Inside.Seats.{Sitting, receiver_of}
 use Rattle.dr_ring.specs.Inside.Fits.{ReceiverFits}
 use Rattle.dr_ring.specs.Inside.Stations.{ReceiverSits}
-use Rattle.dr_ring.proofs.Cuts.{cuts}
+use Rattle.dr_runs.proofs.Cuts.{cuts}
 use Rattle.dr_ring.proofs.Making.{cut_own, cut_rest, sits_fresh, listed_next, view_fresh}
 use Rattle.dr_ring.proofs.opening.receivers.Goals as goal
 

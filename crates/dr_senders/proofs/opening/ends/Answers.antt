@@ -1,12 +1,13 @@
 use Rattle.std.proofs.Common.{ℕ, ◌<◌, ap, sym, subst, ◌∙◌, replicate}
-use Rattle.dr_senders.proofs.Cuts.{cuts, ruled_fresh}
+use Rattle.dr_runs.proofs.Cuts.{cuts}
+use Rattle.dr_senders.proofs.Opening.{ruled_new}
 use Rattle.dr_senders.proofs.Making.{some_words}
 use Rattle.dr_senders.proofs.Plans.{is_shape}
 use Rattle.dr_senders.proofs.opening.ends.Goals as goal
 
 pub of_words-requires : goal.of_words-requires
 of_words-requires c =
-    ruled_fresh _ _ (c.as_slice.ensures.value ∙ c.in_ok-words.ensures.items_if_clones_equal (λ y same. same) ∙ ap (λ (n : ℕ). replicate n 0) c.words.ensures)
+    ruled_new _ _ (c.as_slice.ensures.value ∙ c.in_ok-words.ensures.items_if_clones_equal (λ y same. same) ∙ ap (λ (n : ℕ). replicate n 0) c.words.ensures)
     (is_shape _ c.requires)
 
 pub split_seat-rest-requires : goal.split_seat-rest-requires

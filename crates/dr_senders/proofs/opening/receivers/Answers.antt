@@ -1,8 +1,8 @@
 use Rattle.std.proofs.Common.{◌<◌, arith, ap, sym, subst, ◌∙◌}
 use Rattle.dr_senders.specs.Meaning.Shape.{handlers_of}
-use Rattle.dr_senders.specs.Inside.Seats.{end_of}
+use Rattle.dr_runs.specs.Seats.{end_of}
 use Rattle.dr_senders.specs.Inside.Stations.{ReceiverSits}
-use Rattle.dr_senders.proofs.Cuts.{cuts}
+use Rattle.dr_runs.proofs.Cuts.{cuts}
 use Rattle.dr_senders.proofs.Making.{fits_fresh, cut_own, cut_rest, receivers_next, receiver_sits, receiver_view, receiver_listed}
 use Rattle.dr_senders.proofs.opening.receivers.Goals as goal
 

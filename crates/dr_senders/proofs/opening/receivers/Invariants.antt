@@ -2,7 +2,8 @@ use Rattle.std.proofs.Common.{◌≡◌, ◌-◌, ◌++◌, map}
 use Rattle.std.specs.Arc.{arc_value}
 use Rattle.dr_senders.specs.Meaning.Shape.{handlers_of}
 use Rattle.dr_senders.specs.Meaning.Moments.{fresh_receivers}
-use Rattle.dr_senders.specs.Inside.Seats.{known_receivers, fresh_seat}
+use Rattle.dr_runs.specs.Seats.{fresh_seat}
+use Rattle.dr_senders.specs.Inside.Seats.{known_receivers}
 use Rattle.dr_senders.specs.Calls.Making.{at_ring}
 use Rattle.dr_senders.proofs.opening.receivers.Given as goal
 

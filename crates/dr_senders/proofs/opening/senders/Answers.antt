@@ -1,7 +1,8 @@
 use Rattle.std.proofs.Common.{◌<◌, arith, ap, sym, subst, ◌∙◌}
-use Rattle.dr_senders.specs.Inside.Seats.{end_of, Sitting, sender_of}
+use Rattle.dr_runs.specs.Seats.{end_of}
+use Rattle.dr_senders.specs.Inside.Seats.{Sitting, sender_of}
 use Rattle.dr_senders.specs.Inside.Stations.{SenderSits}
-use Rattle.dr_senders.proofs.Cuts.{cuts}
+use Rattle.dr_runs.proofs.Cuts.{cuts}
 use Rattle.dr_senders.proofs.Making.{cut_own, cut_rest, senders_next, sender_sits, sender_view, sender_listed}
 use Rattle.dr_senders.specs.declared.record.SenderRecord.{SenderRecord}
 use Rattle.dr_senders.specs.Inside.Fits.{SenderFits}

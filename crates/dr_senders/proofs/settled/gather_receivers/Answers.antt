@@ -1,9 +1,9 @@
 use Rattle.std.proofs.Common.{◌≡◌, ◌<◌, ◌∷◌, length, set, arith, ap, sym, subst, ◌∙◌}
 use Rattle.dr_senders.specs.declared.record.EndRecord.TheVariants.{Receives}
 use Rattle.dr_senders.specs.declared.record.ReceiverRecord.{ReceiverRecord}
-use Rattle.dr_senders.specs.Inside.Seats.{end_of, alone}
+use Rattle.dr_runs.specs.Seats.{end_of, alone}
 use Rattle.dr_senders.specs.Calls.Ends.{ReceiverEnd}
-use Rattle.dr_senders.proofs.Gathering.{last_of_ring, gathering_more, gathering_all, filled_more, filled_all}
+use Rattle.dr_runs.proofs.Gathering.{last_of, gathering_more, gathering_all, filled_more, filled_all}
 use Rattle.dr_senders.proofs.settled.gather_receivers.Goals as goal
 
 pub take_in-requires-clause-table : goal.take_in-requires-clause-table
@@ -11,7 +11,7 @@ take_in-requires-clause-table c =
     let t = c.requires.table in let inv = c.loop-receiver.invariant in let at = t.0 ∙ ap (λ r. r.table.shared.table_id) (sym c.deref.ensures) in (
       inv.0 ∙ at,
       ap (λ (e : ReceiverEnd). e.ring) (c.station.view_is ∙ c.receiver.view_is)
-          ∙ last_of_ring _ _ _ _ _ _ c.requires.receivers inv.1.1.split c.in-Some.ensures.items ∙ at,
+          ∙ last_of (λ (e : ReceiverEnd). e.ring) _ _ _ _ _ _ c.requires.receivers inv.1.1.split c.in-Some.ensures.items ∙ at,
       subst (λ r. 0 < r.table.shared.table_id.words) (sym c.deref.ensures) (omega arith),
     )
 

@@ -1,8 +1,8 @@
 use Rattle.std.proofs.Common.{◌<◌, ◌∷◌, arith, ap, sym, subst, ◌∙◌}
 use Rattle.dr_senders.specs.declared.record.EndRecord.TheVariants.{Sends}
-use Rattle.dr_senders.specs.Inside.Seats.{end_of, alone}
+use Rattle.dr_runs.specs.Seats.{end_of, alone}
 use Rattle.dr_senders.specs.Calls.Ends.{SenderEnd}
-use Rattle.dr_senders.proofs.Gathering.{last_of_ring, gathering_more, gathering_all}
+use Rattle.dr_runs.proofs.Gathering.{last_of, gathering_more, gathering_all}
 use Rattle.dr_senders.proofs.settled.gather_senders.Goals as goal
 
 pub take_in-requires-clause-table : goal.take_in-requires-clause-table
@@ -10,7 +10,7 @@ take_in-requires-clause-table c =
     let t = c.requires.table in let inv = c.loop-sender.invariant in let at = t.0 ∙ ap (λ r. r.table.shared.table_id) (sym c.deref.ensures) in (
       inv.0 ∙ at,
       ap (λ (e : SenderEnd). e.ring) (c.station.view_is ∙ c.sender.view_is)
-          ∙ last_of_ring _ _ _ _ _ _ c.requires.senders inv.1.1.split c.in-Some.ensures.items ∙ at,
+          ∙ last_of (λ (e : SenderEnd). e.ring) _ _ _ _ _ _ c.requires.senders inv.1.1.split c.in-Some.ensures.items ∙ at,
       subst (λ r. 0 < r.table.shared.table_id.words) (sym c.deref.ensures) (omega arith),
     )
 

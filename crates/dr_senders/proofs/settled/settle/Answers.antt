@@ -14,5 +14,5 @@ returns-clause-run c =
     let plan = ap (λ r. r.table.shared.key) c.deref.ensures ∙ c.halter.invariant.keyed.key ∙ ap (λ (e : HalterEnd). e.plan) c.halter.view_is in
     let laws = c.moments.ensures in
     subst (λ (n : ℕ). HasRun t.plan (known_by ss rs t) n (is_halted found)) (sym c.claimed_in.ensures)
-    (has_run _ _ _ _ _ ss rs t found alone c.gather_senders.ensures.view c.gather_receivers.ensures.view refl c.compare-found.ensures.ran plan c.requires
+    (has_run _ _ _ _ _ ss rs t found alone c.gather_senders.ensures.view c.gather_receivers.ensures.view refl c.compare-found.ensures.ran.0 c.compare-found.ensures.ran.1 plan c.requires
     laws.rule laws.leads laws.laws)

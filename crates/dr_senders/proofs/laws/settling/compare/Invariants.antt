@@ -1,5 +1,6 @@
-use Rattle.dr_senders.specs.Inside.Gathering.{Compares}
+use Rattle.dr_runs.specs.Gathering.{Compares}
+use Rattle.dr_senders.specs.Inside.Seats.{exchange}
 use Rattle.dr_senders.proofs.laws.settling.compare.Given as goal
 
 abbrev pub ghosts-load : goal.ghosts-load
-ghosts-load a = record { then = Compares a.self.now.key }
+ghosts-load a = record { then = Compares (exchange a.self.now.key) }

@@ -1,4 +1,4 @@
-use Rattle.dr_senders.proofs.Cuts.{joins}
+use Rattle.dr_runs.proofs.Cuts.{joins}
 use Rattle.dr_senders.proofs.laws.settling.take_in.Goals as goal
 
 pub join_seat-requires : goal.join_seat-requires

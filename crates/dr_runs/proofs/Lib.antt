@@ -1,0 +1,4 @@
+pub mod Lists
+pub mod Seats
+pub mod Cuts
+pub mod Gathering

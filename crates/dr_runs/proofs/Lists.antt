@@ -1,0 +1,46 @@
+-- Elements of lists, by their places.
+use Rattle.std.proofs.Common.{◌≡◌, ℕ, zero, suc, ◌+◌, ◌<◌, ◌≤◌, List, [], ◌∷◌, map, length, set, take, drop, refl, sym, ap, ◌∙◌, arith}
+use mathlib.Core.Option.{some, some-injective, some-ne-none}
+use lib.ListN.{get_elem?}
+
+module _ {A : Type 0} where
+  pub no_elements : (xs : List A) → length xs ≡ 0 → xs ≡ []
+  no_elements [] e = refl
+  no_elements (x ∷ xs) e = absurd (omega arith)
+
+  pub take_whole : (xs : List A) (n : ℕ) → length xs ≤ n → take n xs ≡ xs
+  take_whole [] zero le = refl
+  take_whole [] (suc n) le = refl
+  take_whole (x ∷ xs) zero le = absurd (omega arith)
+  take_whole (x ∷ xs) (suc n) le = ap (λ (ys : List A). x ∷ ys) (take_whole xs n (omega arith))
+
+  pub past_end : (xs : List A) (n : ℕ) → length xs ≡ n → drop n xs ≡ []
+  past_end [] zero len = refl
+  past_end [] (suc n) len = refl
+  past_end (x ∷ xs) zero len = absurd (omega arith)
+  past_end (x ∷ xs) (suc n) len = past_end xs n (omega arith)
+
+  -- what is set at a place comes before what follows it
+  pub drop_set : (xs : List A) (n : ℕ) (x : A) (ys : List A) → n < length xs → drop (n + 1) xs ≡ ys → drop n (set xs n x) ≡ x ∷ ys
+  drop_set [] n x ys lt rest = absurd (omega arith)
+  drop_set (y ∷ xs) zero x ys lt rest = ap (λ (zs : List A). x ∷ zs) rest
+  drop_set (y ∷ xs) (suc n) x ys lt rest =
+      drop_set xs n x ys (omega arith) (let e : suc (n + 1) ≡ suc n + 1 = omega arith in ap (λ (m : ℕ). drop m (y ∷ xs)) e ∙ rest)
+
+  -- lists of one length that have the same elements
+  pub same_lists : (xs ys : List A) → length xs ≡ length ys → ((i : ℕ) (y : A) → get_elem? ys i ≡ some y → get_elem? xs i ≡ some y) → xs ≡ ys
+  same_lists [] [] e all = refl
+  same_lists [] (y ∷ ys) e all = absurd (omega arith)
+  same_lists (x ∷ xs) [] e all = absurd (omega arith)
+  same_lists (x ∷ xs) (y ∷ ys) e all = λ i. some-injective x y (all 0 y refl) i ∷ same_lists xs ys (omega arith) (λ h r at. all (suc h) r at) i
+
+module _ {A B : Type 0} (f : A → B) where
+  pub at_map : (xs : List A) (i : ℕ) (y : B) → get_elem? (map f xs) i ≡ some y → (x : A) × (get_elem? xs i ≡ some x) × (f x ≡ y)
+  at_map [] i y at = absurd (some-ne-none y (sym at))
+  at_map (x ∷ xs) zero y at = (x, refl, some-injective (f x) y at)
+  at_map (x ∷ xs) (suc i) y at = at_map xs i y at
+
+  pub map_there : (xs : List A) (i : ℕ) (x : A) → get_elem? xs i ≡ some x → get_elem? (map f xs) i ≡ some (f x)
+  map_there [] i x at = absurd (some-ne-none x (sym at))
+  map_there (y ∷ xs) zero x at = ap (λ z. some (f z)) (some-injective y x at)
+  map_there (y ∷ xs) (suc i) x at = map_there xs i x at

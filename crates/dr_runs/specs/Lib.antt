@@ -1,0 +1,3 @@
+pub mod Runs
+pub mod Seats
+pub mod Gathering
