@@ -1,6 +1,6 @@
 use Rattle.std.proofs.Common.{ℕ, ◌<◌, ap, sym, subst, ◌∙◌, replicate}
 use Rattle.dr_runs.proofs.Cuts.{cuts}
-use Rattle.dr_senders.proofs.Opening.{ruled_new}
+use Rattle.dr_senders.proofs.FreshSeats.{ruled_new}
 use Rattle.dr_senders.proofs.Making.{some_words}
 use Rattle.dr_senders.proofs.Plans.{is_shape}
 use Rattle.dr_senders.proofs.opening.ends.Goals as goal
