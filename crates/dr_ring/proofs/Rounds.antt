@@ -38,7 +38,6 @@ pub record Scanned (r : SenderRecord) (needed least i : ℕ) (s : SenderRecord) 
   pub some_one : 0 < i → needed ≤ length r.sent.published
   pub front : least ≤ length r.sent.published
 
-
 saw_nothing : (r : SenderRecord) → LooksAtFinals r [] r
 saw_nothing r = record {
   is = ap (λ (ys : List Look). record r { looks = ys }) (sym (append-nil r.looks));

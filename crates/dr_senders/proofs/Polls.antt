@@ -10,7 +10,7 @@ use Rattle.dr_core.specs.declared.command.Polled.TheVariants.{Batch, Drained, Ga
 use Rattle.dr_ring.specs.declared.record.Look.{Look}
 use Rattle.dr_ring.specs.Meaning.Records.{look}
 use Rattle.dr_senders.specs.Meaning.Shape.{Shape}
-use Rattle.dr_senders.specs.Meaning.Words.{claim_word, claimed_in, is_halted}
+use Rattle.dr_senders.specs.Meaning.Words.{claim_word, claimed_in, count_word, is_halted}
 use Rattle.dr_senders.specs.declared.record.ReceiverRecord.{ReceiverRecord}
 use Rattle.dr_senders.specs.Meaning.Records.{claims_looked}
 use Rattle.dr_senders.specs.Calls.Ends.{count_looks}
