@@ -1,5 +1,5 @@
 -- The run of a ring's ends, once its receivers' seats have come to the sender's.
-use Rattle.std.proofs.Common.{◌≡◌, ℕ, ◌<◌, List, length, map, sym, refl, ap, ◌∙◌, subst}
+use Rattle.std.proofs.Common.{◌≡◌, ℕ, ◌<◌, List, map, sym, refl, ap, ◌∙◌, subst}
 use Rattle.std.proofs.lemmas.List.{length-map}
 use mathlib.Core.Option.{some}
 use lib.ListN.{get_elem?}
@@ -11,14 +11,13 @@ use Rattle.dr_runs.specs.Gathering.{IsInView, Gathers, ViewRan}
 use Rattle.dr_runs.proofs.Lists.{same_lists, at_map, map_there}
 use Rattle.dr_ring.specs.declared.record.SenderRecord.{SenderRecord}
 use Rattle.dr_ring.specs.declared.record.ReceiverRecord.{ReceiverRecord}
-use Rattle.dr_ring.specs.declared.record.EndRecord.{EndRecord}
 use Rattle.dr_ring.specs.declared.record.EndRecord.TheVariants.{Sends, Receives}
 use Rattle.dr_ring.specs.declared.record.Step.{Step}
 use Rattle.dr_ring.specs.Meaning.Shape.{Shape, handlers_of, ring_setup}
 use Rattle.dr_ring.specs.Meaning.Rule.{World, KeepsRule}
 use Rattle.dr_ring.specs.Meaning.Moments.{new_world, picture_of, Runs}
 use Rattle.dr_ring.specs.Meaning.Settling.{Settles, HasRun}
-use Rattle.dr_ring.specs.Inside.Seats.{End, Sitting, exchange, Stands, as_sender}
+use Rattle.dr_ring.specs.Inside.Seats.{End, Sitting, exchange, as_sender}
 use Rattle.dr_ring.specs.Calls.Ends.{SenderEnd, ReceiverEnd}
 use Rattle.dr_ring.specs.Calls.Settling.{AreAllEnds}
 use Rattle.dr_ring.proofs.Seats.{kept_of}

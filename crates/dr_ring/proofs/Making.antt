@@ -1,6 +1,6 @@
 -- A new ring's ends.
 use Rattle.std.proofs.Common.{length-set, set, ◌≡◌, ℕ, zero, suc, ◌+◌, ◌-◌, ◌<◌, ◌≤◌, List, [], ◌∷◌, ◌++◌, map, length}
-use Rattle.std.proofs.Common.{get_or, take, drop, replicate, sym, refl, ap, ◌∙◌, subst, arith, append_assoc, inl, inr}
+use Rattle.std.proofs.Common.{get_or, replicate, sym, refl, ap, ◌∙◌, subst, arith, append_assoc, inl, inr}
 use Rattle.std.proofs.lemmas.List.{length-map, length-replicate}
 use Rattle.atomic_table.specs.Table.{opening as table_opening}
 use Rattle.atomic_table.specs.Seated.{TableId}

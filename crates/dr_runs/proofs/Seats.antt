@@ -5,7 +5,7 @@ use Rattle.std.proofs.lemmas.List.{append-nil}
 use Rattle.std.proofs.lemmas.List.Elements.{filter-append}
 use mathlib.Core.Option.{some, some-injective, some-ne-none}
 use lib.ListN.{get_elem?}
-use Rattle.atomic_table.specs.Table.{State, keeps, Allows}
+use Rattle.atomic_table.specs.Table.{keeps, Allows}
 use Rattle.atomic_table.proofs.Lists.{at_set}
 use Rattle.dr_core.specs.Meaning.Transcript.{Transcript}
 use Rattle.dr_runs.specs.declared.view.View.{View}

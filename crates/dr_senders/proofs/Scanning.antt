@@ -1,6 +1,6 @@
 -- What looks at counts come to.
 use Rattle.std.proofs.Common.{◌≡◌, ℕ, zero, suc, ◌+◌, ◌<◌, ◌≤◌, ◌⊎◌, inl, inr, true, false, List, [], ◌∷◌, ◌++◌, length, get_or, take, sym, refl, ap, ◌∙◌, subst, arith, append_assoc}
-use Rattle.std.proofs.lemmas.Bool.{cases_eq, cases_lt}
+use Rattle.std.proofs.lemmas.Bool.{cases_lt}
 use Rattle.std.proofs.lemmas.List.{length-append, append-nil, get_or_append_left}
 use Rattle.dr_graph.specs.Meaning.Graph.{finals}
 use Rattle.dr_ring.specs.declared.record.Look.{Look}

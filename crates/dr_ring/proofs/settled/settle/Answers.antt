@@ -1,7 +1,7 @@
 use Rattle.std.proofs.Common.{ap, ◌∙◌}
 use Rattle.dr_ring.specs.Inside.Seats.{as_sender}
 use Rattle.dr_ring.specs.Calls.Ends.{SenderEnd}
-use Rattle.dr_ring.proofs.Gathering.{Together, all_settle, has_run}
+use Rattle.dr_ring.proofs.Gathering.{all_settle, has_run}
 use Rattle.dr_ring.proofs.settled.settle.Goals as goal
 
 pub returns-clause-lists : goal.returns-clause-lists
