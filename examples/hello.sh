@@ -15,7 +15,18 @@ case $own/ in
     "$top"/*) echo "$own lies within this repository, whose gate would then refuse it: name a folder elsewhere"; rm -r "$own"; exit 1 ;;
 esac
 
-for crate in dr_seq dr_graph dr_core dr_shared dr_ring; do
+# The library's crates that a crate stands on, each after those that it stands on itself, some more than once.
+below() {
+    local crate
+    for crate in $(sed -n "s/^$1://p" "$top/crates.txt"); do
+        if [ -d "$top/crates/$crate" ]; then
+            below "$crate"
+            echo "$crate"
+        fi
+    done
+}
+
+for crate in $(below example_ring | awk '!seen[$0]++'); do
     mkdir -p "$own/crates/$crate/out"
     cp -r "$top/crates/$crate/src" "$top/crates/$crate/specs" "$own/crates/$crate/" || exit 2
     [ -d "$top/crates/$crate/proofs" ] && cp -r "$top/crates/$crate/proofs" "$own/crates/$crate/"
