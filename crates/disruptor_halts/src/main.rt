@@ -1,4 +1,4 @@
-//! Exchanges over the ring and behind the lock, with a thread for each end, whose claims, polls,
+//! Exchanges over both rings and behind the lock, with a thread for each end, whose claims, polls,
 //! completions, retirements and halt fall at random times.
 //!
 //! `disruptor_halts SEED ROUNDS` runs so many of each, with graphs, sizes and turns of their ends that
@@ -10,9 +10,9 @@
 ghost use Rattle.std.specs.Prelude.{◌≡◌};
 
 mod by_lock;
-mod by_ring;
 mod fault;
 mod graphs;
+mod over_ring;
 mod random;
 mod receiving;
 mod sending;
@@ -42,7 +42,21 @@ fn rings<R: Threads + Wait + Sync>(
     let mut random = Random::new(seed);
     let mut all = Told::NONE;
     for _ in 0..count {
-        all = all.with(by_ring::round(rt, alloc, &mut random)?);
+        all = all.with(over_ring::one_sender(rt, alloc, &mut random)?);
+    }
+    Ok(all)
+}
+
+fn several<R: Threads + Wait + Sync>(
+    rt: &R,
+    alloc: Global,
+    seed: u64,
+    count: u64,
+) -> Result<Told, Fault> {
+    let mut random = Random::new(seed);
+    let mut all = Told::NONE;
+    for _ in 0..count {
+        all = all.with(over_ring::several_senders(rt, alloc, &mut random)?);
     }
     Ok(all)
 }
@@ -75,9 +89,10 @@ fn run<R: Runtime + Alloc<A = Global> + Threads + Wait + Sync>(rt: &R) -> Result
     let seed = number(seed.as_str())?;
     let count = number(count.as_str())?;
     let by_ring = rings(rt, alloc, seed, count)?;
+    let by_senders = several(rt, alloc, seed, count)?;
     let by_lock = locks(rt, alloc, seed, count)?;
     println!(rt; "{count} rounds")?;
-    eprintln!(rt; "by ring {by_ring}\nby lock {by_lock}")?;
+    eprintln!(rt; "by ring {by_ring}\nby senders {by_senders}\nby lock {by_lock}")?;
     Ok(())
 }
 
