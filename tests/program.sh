@@ -33,6 +33,14 @@ matches() { # FILE TEXT
     esac
 }
 
+# Whether a command succeeds.
+holds() { # NAME WHY COMMAND..
+    local name=$1 why=$2
+    shift 2
+    cases=$((cases + 1))
+    "$@" || fail "$name" "$why"
+}
+
 run() { # STATUS OUT ERR WORD..
     local status=$1 out=$2 err=$3
     shift 3
@@ -87,8 +95,16 @@ done
 run 0 "$(printf '%s\n' 'journal 3' 0,0,deposit,1,100 1,0,withdraw,1,40 2,0,withdraw,1,500 \
     'replica 3' 0001000100000064 0002000100000028 00020001000001f4 'business 3' 1,60,1)"$'\n' '' replay three_events.csv
 
-# Help, and the version, which names the kit that proved the program.
-run 0 "disruptor 0.1.0, proved with $(rt version)"$'\n' '' --version
+# The version names the kit that proved the program, and so do the pages. A kit of the same logic checks the same proofs.
+kit=$("$program" --version | sed -n 's/^disruptor 0\.1\.0, proved with \(rattle-kit-[0-9a-z]* logic [0-9a-f]*\)$/\1/p')
+here=$(rt version)
+run 0 "disruptor 0.1.0, proved with $kit"$'\n' '' --version
+holds --version "proved with '$kit', and the kit here is '$here'" [ "${kit##* }" = "${here##* }" ]
+for page in README.md docs/PROVED.md; do
+    holds $page "does not name '$kit'" grep -qxF "    $kit" "../$page"
+done
+
+# Help.
 run 0 $'A verified LMAX Disruptor: producers and handlers over one ring of slots\n\nUsage: disruptor <COMMAND>\n*' '' --help
 run 0 $'Run a file of commands, and print one line a command\n\nUsage: disruptor drive <FILE>\n*' '' drive --help
 run 0 $'Replay a file of account movements, and print a report of them\n\nUsage: disruptor replay [OPTIONS] <FILE>\n*' '' replay --help
