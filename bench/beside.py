@@ -67,12 +67,13 @@ class Programs:
         return int(ran.stdout.split()[-1]) / 1e6
 
     def rates(self, kinds, topology, size):
-        """The best of the turns of each program, which are taken one after another."""
-        best = {kind: None for kind in kinds}
+        """The best of the turns of each program, which are taken one after another, up to one that takes too long."""
+        turns = {kind: [] for kind in kinds}
         for _ in range(self.given.turns):
             for kind in kinds:
-                rate = self.rate(kind, topology, size)
-                best[kind] = max(filter(None, (rate, best[kind])), default=None)
+                if None not in turns[kind]:
+                    turns[kind].append(self.rate(kind, topology, size))
+        best = {kind: max(filter(None, rates), default=None) for kind, rates in turns.items()}
         for kind, rate in best.items():
             if rate is not None:
                 self.records.add(topology, size, kind, f"{rate:.2f}")

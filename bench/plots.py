@@ -30,7 +30,9 @@ TOP = os.path.dirname(os.path.dirname(os.path.abspath(__file__)))
 RATE = "million events a second"
 SLOTS = "1024 slots"
 SHAPES = ("unicast", "pipeline", "multicast", "diamond")
-TOPOLOGY = re.compile(r"(?P<core>core-)?(?P<shape>[a-z]+)(?P<handlers>\d+)?(-b(?P<claim>\d+))?")
+TOPOLOGY = re.compile(
+    r"(?P<core>core-)?((lock|senders)(?P<producers>\d+)-)?(?P<shape>[a-z]+)(?P<handlers>\d+)?(-b(?P<claim>\d+))?"
+)
 # Text stays text, and the same records give the same bytes.
 STYLE = {
     "svg.fonttype": "none",
@@ -67,6 +69,7 @@ class Rate(NamedTuple):
     """A record of events a second, with the topology's name taken apart."""
 
     threads: bool
+    producers: int
     shape: str
     handlers: int
     claim: int
@@ -81,9 +84,9 @@ def rates(records):
     for record in records:
         name = TOPOLOGY.fullmatch(record["topology"])
         if name:
-            handlers, claim = int(name["handlers"] or 1), int(name["claim"] or 1)
+            producers, handlers, claim = (int(name[part] or 1) for part in ("producers", "handlers", "claim"))
             rate = float(record["million_events_a_second"])
-            where = (name["core"] is None, name["shape"], handlers, claim, int(record["size"]))
+            where = (name["core"] is None, producers, name["shape"], handlers, claim, int(record["size"]))
             found.append(Rate(*where, record["program"], rate))
     return found
 
@@ -230,6 +233,16 @@ def claims(records):
     return growth(records, {"unicast": "unicast"}, "claim", f"events a claim, {SLOTS}", [1, 10, 100, 1000])
 
 
+def producers(records):
+    """A panel for claims of one and one for claims of ten, over the producers side by side."""
+    found = rates(records)
+    panels = []
+    for claim in (1, 10):
+        here = [rate for rate in found if rate.claim == claim]
+        panels.append((f"claims of {claim}", lines_of((rate.program, rate.producers, rate.rate) for rate in here)))
+    return line_picture(panels, f"producers, {SLOTS}", [1, 2, 4, 8, 16], RATE)
+
+
 def lengths(records):
     """Seconds by a file's records, a panel for each tool."""
     panels = []
@@ -250,6 +263,8 @@ PICTURES = {
     "sizes": {"sizes": sizes},
     "handlers": {"handlers": handlers},
     "claims": {"claims": claims},
+    "senders": {"senders": producers},
+    "producers": {"producers": producers},
     "lengths": {"lengths": lengths},
 }
 

@@ -1,13 +1,14 @@
 #!/usr/bin/env python3
-"""Runs the program on the examples, and looks whether the docs show what it prints.
+"""Runs the program on the examples, and looks whether the docs show what it prints, and name what is there.
 
     tests/examples.py PROGRAM
 
 Beside each file of examples/ stands what the program prints of it, NAME.txt beside NAME.csv, as sessions of a terminal: a
 line `$ ./disruptor ..` and then its output, up to the next such line. Each session that README.md or a page of docs/ shows
 has to be one of these, each file of commands that they show an example's or a setup that the program takes, and what they
-show as from a file of crates/ has to stand in it. It prints a line for each failure, and then a count; its status is 0
-where none failed.
+show as from a file of crates/ has to stand in it. Each link of theirs has to lead to a page and its heading, and each path
+of a crate that they name has to be there. It prints a line for each failure, and then a count; its status is 0 where none
+failed.
 """
 
 import os
@@ -21,6 +22,8 @@ TOP = os.path.dirname(os.path.dirname(os.path.abspath(__file__)))
 EXAMPLES = os.path.join(TOP, "examples")
 FENCE = re.compile(r"^```(\w*)\n(.*?)^```$", re.MULTILINE | re.DOTALL)
 EXCERPT = re.compile(r"[Ff]rom `(crates/[^`]*)`:\n\n```rust\n(.*?)^```$", re.MULTILINE | re.DOTALL)
+LINK = re.compile(r"\]\((?!https:)([^)#\s]*)#?([^)\s]*)\)")
+CRATE_PATH = re.compile(r"`(?:crates/)?(\w+/(?:src|specs|proofs|must-fail)/[\w./-]*)`")
 
 
 def text_of(*path):
@@ -37,7 +40,14 @@ def sessions_of(text):
 
 def pages():
     yield "README.md"
+    yield "tests/README.md"
     yield from (f"docs/{name}" for name in sorted(os.listdir(os.path.join(TOP, "docs"))) if name.endswith(".md"))
+
+
+def headings_of(page):
+    """What links call the headings of a page."""
+    headings = re.findall(r"^#+ (.*)$", FENCE.sub("", text_of(TOP, page)), re.MULTILINE)
+    return {re.sub(r"[^\w\- ]", "", heading.lower()).replace(" ", "-") for heading in headings}
 
 
 class Looked:
@@ -86,6 +96,15 @@ class Looked:
         for path, block in EXCERPT.findall(text_of(TOP, page)):
             self.see(block in text_of(TOP, path), page, f"this does not stand in {path}: {block[:80]!r}")
 
+    def look_at_names(self, page):
+        for path, heading in LINK.findall(text_of(TOP, page)):
+            target = os.path.normpath(os.path.join(os.path.dirname(page), path)) if path else page
+            leads = os.path.exists(os.path.join(TOP, target)) and (not heading or heading in headings_of(target))
+            self.see(leads, page, f"this link leads nowhere: {path}#{heading}")
+        for path in CRATE_PATH.findall(text_of(TOP, page)):
+            there = any(os.path.exists(os.path.join(TOP, "crates", path + end)) for end in ("", ".antt"))
+            self.see(there, page, f"crates/ has no {path}")
+
 
 def main():
     if len(sys.argv) != 2:
@@ -97,6 +116,7 @@ def main():
         texts = [text_of(EXAMPLES, name) for name in files]
         for page in pages():
             looked.look_at_page(page, texts, sessions)
+            looked.look_at_names(page)
     print(f"{sys.argv[1]}: {looked.cases} examples, {looked.failed} failed")
     sys.exit(looked.failed > 0)
 

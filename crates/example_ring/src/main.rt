@@ -79,7 +79,8 @@ fn exchange<R: Threads + Wait + Sync>(
             if first.is_ok() && second.is_ok() {
                 sent = produce(rt, &mut sender, &OpenGate, 16, script, size.get()).fault;
             }
-            // Who is told that the ring drained ends; a sender that was refused leaves no claim open.
+            // The handlers end once the ring has drained, which it does only when it is closed. No claim
+            // is open by then, even where the sender was refused.
             let _closed = sender.close();
             let (Ok(first), Ok(second)) = (first, second) else {
                 return Err(Fault::Memory);
