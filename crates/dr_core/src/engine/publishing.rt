@@ -132,6 +132,9 @@ impl Core {
 
     /// Publishes a stretch of sequences in one step. Handlers receive them once all before them
     /// are published too.
+    // Where a program calls it at several places, LLVM would leave it out of line, and an event on
+    // one thread would take many more instructions.
+    #[inline(always)]
     pub fn publish(&mut self, p: u64, lo: u64, hi: u64) -> Result<(), Refusal>
         ensures step { IsStep self.old (Command.Publish p lo hi) (unit_reply Reply.Published result) [] self.new }
         ensures refused { OnErr result (self.new ≡ self.old) }
