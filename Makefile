@@ -49,7 +49,7 @@ help:
 	@echo '  make                      proves and builds ./disruptor and runs the shipped example:'
 	@echo '                            a quarter of an hour from nothing, then seconds to minutes'
 	@echo '  make check CRATE=dr_core  proves one crate over what is kept: seconds, 1 to 5 minutes from nothing'
-	@echo '  make test                 the whole gate, from nothing: over an hour'
+	@echo '  make test                 the whole gate, from nothing: up to an hour and a half'
 	@echo '  make bench                events a second of core and ring: some minutes, and many where other work runs'
 	@echo '  make bench-plots          draws what bench/measured holds, as docs/pictures, and writes its tables: seconds'
 	@echo '  make hello DIR=../hello   starts a repository of your own in that folder, with a program over the'
