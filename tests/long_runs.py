@@ -7,10 +7,10 @@
     tests/long_runs.py --seed 7                other exchanges
 
 First `disruptor_bench` passes events through each topology at three sizes; each handler adds up what it is shown, and a
-wrong sum fails. Then `disruptor_halts` runs exchanges over the ring and behind the lock, whose claims, polls,
-completions and halt fall at random times, and compares what each handler received with the beginning of what was
-published. The script prints a line for each run, and its status is 1 where one failed. Both programs are built by
-`rt run` in their crates' folders.
+wrong sum fails. Then `disruptor_halts` runs exchanges over the ring, with one sender and with several, and behind the
+lock, whose claims, polls, completions and halt fall at random times, and compares what each handler received with the
+beginning of what was published. The script prints a line for each run, and its status is 1 where one failed. Both
+programs are built by `rt run` in their crates' folders.
 """
 
 import argparse

@@ -1,4 +1,4 @@
--- What the threads of an exchange behind the lock share may be shared, and what they are given may be sent.
+-- What the threads of an exchange share may be shared, and what they are given may be sent.
 use denote.RattleType.{RattleType}
 use denote.Ref.{NamedLft}
 use denote.Param.Send.{IsSend, IsSync, recorded_send, sendable, struct_send}
@@ -11,6 +11,7 @@ use Rattle.dr_shared.specs.contracts.shared.End as End
 use Rattle.disruptor_halts.specs.contracts.random.Random as Random
 use Rattle.disruptor_halts.specs.contracts.receiving.Receiving as Receiving
 use Rattle.disruptor_halts.specs.contracts.sending.Sending as Sending
+use Rattle.disruptor_halts.specs.contracts.sending.Sent as Sent
 use Rattle.disruptor_halts.specs.contracts.signs.Signs as Signs
 use Rattle.disruptor_halts.specs.contracts.by_lock.workers.Around as Around
 use Rattle.disruptor_halts.specs.contracts.by_lock.workers.Handler as Handler
@@ -22,7 +23,10 @@ event_send = search sendable depth 30
 pub random_send : IsSend Random.the_row
 random_send = search sendable depth 30
 
-pub ruleset parts = (sendable, std.crosses, event_send, random_send)
+pub sent_send : IsSend Sent.the_row
+sent_send = search sendable depth 30
+
+pub ruleset parts = (sendable, std.crosses, event_send, random_send, sent_send)
 
 pub sending_send : IsSend (Sending.the_field).row
 sending_send = search parts depth 60 fits 20000

@@ -38,6 +38,9 @@ pub enum Fault {
     /// A call had a reply that it never has.
     #[error("wrong reply")]
     WrongReply,
+    /// Two producers sent at one sequence, or none did.
+    #[error("wrong sequence")]
+    WrongSequence,
     /// A handler received an event that was not published at its sequence, or out of order.
     #[error("wrong event")]
     WrongEvent,

@@ -1,4 +1,4 @@
-//! Exchanges over the ring and behind the lock, with a thread for each end, whose claims, polls,
+//! Exchanges over both rings and behind the lock, with a thread for each end, whose claims, polls,
 //! completions, retirements and halt fall at random times.
 //!
 //! `disruptor_halts SEED ROUNDS` runs so many of each, with graphs, sizes and turns of their ends that
@@ -10,9 +10,9 @@
 ghost use Rattle.std.specs.Prelude.{◌≡◌};
 
 mod by_lock;
-mod by_ring;
 mod fault;
 mod graphs;
+mod over_ring;
 mod random;
 mod receiving;
 mod sending;
@@ -33,33 +33,42 @@ use told::Told;
 /// More turns than any loop takes that waits for another thread.
 const MOST_TURNS: u64 = u64::MAX;
 
-fn rings<R: Threads + Wait + Sync>(
-    rt: &R,
-    alloc: Global,
-    seed: u64,
-    count: u64,
-) -> Result<Told, Fault> {
-    let mut random = Random::new(seed);
-    let mut all = Told::NONE;
-    for _ in 0..count {
-        all = all.with(by_ring::round(rt, alloc, &mut random)?);
-    }
-    Ok(all)
+/// Over which exchange rounds are run.
+#[derive(Clone, Copy)]
+enum Way {
+    Ring,
+    Senders,
+    Lock,
 }
 
-fn locks<R: Threads + Wait + Sync>(
-    rt: &R,
-    alloc: Global,
-    seed: u64,
-    count: u64,
-) -> Result<Told, Fault> {
-    let mut random = Random::new(seed);
-    let mut all = Told::NONE;
-    for _ in 0..count {
-        let told = by_lock::round(rt, alloc, &mut random)?;
-        all = all.with(told);
+impl Way {
+    fn round<R: Threads + Wait + Sync>(
+        self,
+        rt: &R,
+        alloc: Global,
+        random: &mut Random,
+    ) -> Result<Told, Fault> {
+        match self {
+            Way::Ring => over_ring::one_sender(rt, alloc, random),
+            Way::Senders => over_ring::several_senders(rt, alloc, random),
+            Way::Lock => by_lock::round(rt, alloc, random),
+        }
     }
-    Ok(all)
+
+    fn rounds<R: Threads + Wait + Sync>(
+        self,
+        rt: &R,
+        alloc: Global,
+        seed: u64,
+        count: u64,
+    ) -> Result<Told, Fault> {
+        let mut random = Random::new(seed);
+        let mut all = Told::NONE;
+        for _ in 0..count {
+            all = all.with(self.round(rt, alloc, &mut random)?);
+        }
+        Ok(all)
+    }
 }
 
 fn number(word: &str) -> Result<u64, Fault> {
@@ -74,10 +83,11 @@ fn run<R: Runtime + Alloc<A = Global> + Threads + Wait + Sync>(rt: &R) -> Result
     };
     let seed = number(seed.as_str())?;
     let count = number(count.as_str())?;
-    let by_ring = rings(rt, alloc, seed, count)?;
-    let by_lock = locks(rt, alloc, seed, count)?;
+    let ring = Way::Ring.rounds(rt, alloc, seed, count)?;
+    let senders = Way::Senders.rounds(rt, alloc, seed, count)?;
+    let lock = Way::Lock.rounds(rt, alloc, seed, count)?;
     println!(rt; "{count} rounds")?;
-    eprintln!(rt; "by ring {by_ring}\nby lock {by_lock}")?;
+    eprintln!(rt; "ring: {ring}\nseveral senders: {senders}\nlock: {lock}")?;
     Ok(())
 }
 

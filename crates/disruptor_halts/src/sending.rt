@@ -5,7 +5,47 @@ use crate::random::Random;
 use crate::stretch::{Stretch, TURNS};
 use dr_core::{Claimed, Inlet, Refusal, Trouble};
 use dr_seq::Event;
-use std::alloc::Global;
+use std::alloc::{AllocError, Global};
+
+/// An event with its sequence.
+#[derive(Clone, Copy, Debug, PartialEq, Eq)]
+pub struct Sent {
+    pub sequence: u64,
+    pub event: Event,
+}
+
+// How many events several producers sent.
+fn how_many(all: &[Vec<Sent>]) -> usize {
+    let mut count: usize = 0;
+    for sent in all {
+        count = count.saturating_add(sent.len());
+    }
+    count
+}
+
+/// What several producers sent, by the sequences. Each sequence below their number is to be there once.
+pub fn by_sequence(alloc: Global, all: &[Vec<Sent>]) -> Result<Vec<Event>, Fault> {
+    let count = how_many(all);
+    let mut found = vec![in alloc; false; count]?;
+    let mut events = vec![in alloc; Event::NONE; count]?;
+    for sent in all {
+        place(sent.as_slice(), &mut found, &mut events)?;
+    }
+    Ok(events)
+}
+
+/// Puts each event in its place, where no other is.
+fn place(sent: &[Sent], found: &mut [bool], events: &mut [Event]) -> Result<(), Fault> {
+    for Sent { sequence, event } in sent {
+        let place = *sequence as usize;
+        if place >= found.len() || place >= events.len() || found[place] {
+            return Err(Fault::WrongSequence);
+        }
+        found[place] = true;
+        events[place] = *event;
+    }
+    Ok(())
+}
 
 /// A producer with what it sent so far. Its events have its number, and 0, 1, 2 and so on.
 #[derive(Drop)]
@@ -15,7 +55,7 @@ pub struct Sending {
     /// Whether publications are to come in the order of their sequences.
     in_order: bool,
     random: Random,
-    script: Vec<Event>,
+    sent: Vec<Sent>,
 }
 
 impl Sending {
@@ -26,22 +66,31 @@ impl Sending {
             size,
             in_order,
             random,
-            script: Vec::new(alloc),
+            sent: Vec::new(alloc),
         }
     }
 
     /// What it sent, in the order of its claims.
-    pub fn into_script(self) -> Vec<Event> {
-        self.script
+    pub fn into_sent(self) -> Vec<Sent> {
+        self.sent
+    }
+
+    /// The events that it sent, in the order of its claims.
+    pub fn script(&self, alloc: Global) -> Result<Vec<Event>, AllocError> {
+        let mut events = Vec::with_capacity(alloc, self.sent.len())?;
+        for sent in &self.sent {
+            events.push(sent.event)?;
+        }
+        Ok(events)
     }
 
     fn write<I: Inlet>(&mut self, inlet: &mut I, s: u64) -> Result<(), Fault> {
         let event = Event {
             first: self.number,
-            second: self.script.len() as u64,
+            second: self.sent.len() as u64,
         };
         inlet.write(s, event)?;
-        Ok(self.script.push(event)?)
+        Ok(self.sent.push(Sent { sequence: s, event })?)
     }
 
     fn write_all<I: Inlet>(&mut self, inlet: &mut I, claimed: Claimed) -> Result<(), Fault> {

@@ -125,7 +125,7 @@ impl<L: Ledger> Producer<L> {
             }
         }
         let script = match ended {
-            Ok(_) => Ok(sending.into_script()),
+            Ok(_) => sending.script(around.alloc).map_err(Fault::from),
             Err(fault) => {
                 // What it claimed may stay unpublished.
                 around.signs.leave();

@@ -1,96 +1,98 @@
-//! One ring, from its opening until all its ends are back.
+//! The threads of an exchange over a ring.
 
-ghost use denote.Param.Send.{IsSync};
+ghost use denote.Param.Send.{IsSend, IsSync};
 
+use super::ends::{Halting, Producing};
 use crate::MOST_TURNS;
 use crate::fault::Fault;
-use crate::graphs::graph;
 use crate::random::Random;
 use crate::receiving::{Received, Receiving};
-use crate::sending::Sending;
+use crate::sending::{Sending, Sent, by_sequence};
 use crate::signs::Signs;
 use crate::stretch::Stretch;
-use crate::told::Told;
-use dr_core::MAX_LIMIT;
-use dr_ring::{Halter, Receiver, Sender, ring};
-use dr_seq::{Event, Size};
-use std::alloc::{AllocError, Global};
+use dr_core::Outlet;
+use dr_seq::Event;
+use std::alloc::Global;
 use std::sync::Wait;
 use std::thread::{self, Threads};
 
-/// In one of how many stretches a handler that leaves early does so.
+/// In one of how many stretches a handler that leaves early does so, or a sender halts.
 const MOST_BEFORE_LEAVING: u64 = 100;
 
 /// What all threads of a round share.
 #[derive(Drop)]
-struct Around<'a, R> {
-    rt: &'a R,
-    alloc: Global,
-    signs: &'a Signs,
+pub struct Around<'a, R> {
+    pub rt: &'a R,
+    pub alloc: Global,
+    pub signs: &'a Signs,
 }
 
-/// The producer's end.
+/// A producer's end.
 #[derive(Drop)]
-struct Producer {
-    sender: Sender,
-    sending: Sending,
+pub struct Producer<I> {
+    pub inlet: I,
+    pub random: Random,
+    pub sending: Sending,
 }
 
 /// A handler's end.
 #[derive(Drop)]
-struct Handler {
-    receiver: Receiver,
-    random: Random,
-    receiving: Receiving,
+pub struct Handler<O> {
+    pub outlet: O,
+    pub random: Random,
+    pub receiving: Receiving,
     /// Whether it takes no more at some time, whatever there is.
-    leaves: bool,
+    pub leaves: bool,
 }
 
 /// All ends of a ring.
 #[derive(Drop)]
-struct Parties {
-    producer: Producer,
-    handlers: Vec<Handler>,
-    halter: Halter,
-    random: Random,
+pub struct Parties<I, O, H> {
+    pub producers: Vec<Producer<I>>,
+    pub handlers: Vec<Handler<O>>,
+    pub halter: H,
+    pub random: Random,
 }
 
 /// What the threads gave back.
 #[derive(Drop)]
-struct Joined {
-    published: Vec<Event>,
-    received: Vec<Received>,
+pub struct Joined {
+    pub published: Vec<Event>,
+    pub received: Vec<Received>,
 }
 
-impl Producer {
+impl<I: Producing> Producer<I> {
     fn send_all(&mut self) -> Result<(), Fault> {
         for _ in 0..MOST_TURNS {
-            if self.sending.send(&mut self.sender)? != Stretch::Goes {
+            if self.sending.send(&mut self.inlet)? != Stretch::Goes {
                 return Ok(());
+            }
+            if self.random.below(MOST_BEFORE_LEAVING) == 0 {
+                self.inlet.may_halt();
             }
         }
         Err(Fault::NoEnd)
     }
 
-    /// Sends until the ring is halted, and closes.
-    fn send(mut self, signs: &Signs) -> Result<Vec<Event>, Fault> {
+    /// Sends until the ring is halted.
+    fn send(mut self, signs: &Signs) -> Result<Vec<Sent>, Fault> {
         let sent = self.send_all();
         if sent.is_err() {
             // The ring may never be drained.
             signs.leave();
         }
-        let closed = self.sender.close();
+        let ended = self.inlet.end();
         sent?;
-        closed?;
-        Ok(self.sending.into_script())
+        ended?;
+        Ok(self.sending.into_sent())
     }
 }
 
-impl Handler {
+impl<O: Outlet + Drop> Handler<O> {
     /// Whether it was told that the ring drained.
     fn receive_all(&mut self, signs: &Signs) -> Result<bool, Fault> {
         for _ in 0..MOST_TURNS {
-            match self.receiving.receive(&mut self.receiver, signs)? {
+            match self.receiving.receive(&mut self.outlet, signs)? {
                 Stretch::Drained => return Ok(true),
                 Stretch::Left => return Ok(false),
                 Stretch::Goes => {}
@@ -114,26 +116,8 @@ impl Handler {
     }
 }
 
-fn handlers(
-    alloc: Global,
-    receivers: Vec<Receiver>,
-    random: &mut Random,
-) -> Result<Vec<Handler>, AllocError> {
-    let mut all = Vec::with_capacity(alloc, receivers.len())?;
-    for receiver in receivers {
-        let handler = Handler {
-            receiver,
-            random: random.split(),
-            receiving: Receiving::new(alloc, random)?,
-            leaves: random.below(4) == 0,
-        };
-        all.push(handler)?;
-    }
-    Ok(all)
-}
-
 /// Halts after a while, and sometimes again.
-fn halt(halter: &mut Halter, random: &mut Random) {
+fn halt<H: Halting>(halter: &mut H, random: &mut Random) {
     for _ in 0..random.below(20000) {
         random.pause();
     }
@@ -143,43 +127,55 @@ fn halt(halter: &mut Halter, random: &mut Random) {
     }
 }
 
-/// Starts the producer's thread, halts after a while, and joins it.
-fn publish<R: Threads + Wait + Sync>(
+/// Starts a thread for each producer, halts after a while, and joins them.
+fn publish<I: Producing, H: Halting, R: Threads + Wait + Sync>(
     around: &Around<'_, R>,
-    producer: Producer,
-    mut halter: Halter,
+    producers: Vec<Producer<I>>,
+    mut halter: H,
     mut random: Random,
 ) -> Result<Vec<Event>, Fault> {
     thread::scope(
         thread::scope_env(),
         around.rt,
         move |scope| -> Result<Vec<Event>, Fault>
-            requires { IsSync R.row }
+            requires producers { IsSend I.row }
+            requires workers { IsSync R.row }
         {
-            let started = scope.spawn(move || producer.send(around.signs));
-            halt(&mut halter, &mut random);
-            match started {
-                Ok(worker) => worker.join(around.rt),
-                Err(_) => Err(Fault::Thread),
+            let count = producers.len();
+            let mut started = Vec::with_capacity(around.alloc, count)?;
+            for producer in producers {
+                if let Ok(worker) = scope.spawn(move || producer.send(around.signs)) {
+                    started.push(worker)?;
+                }
             }
+            halt(&mut halter, &mut random);
+            let mut sent = Vec::with_capacity(around.alloc, count)?;
+            for worker in started {
+                sent.push(worker.join(around.rt)?)?;
+            }
+            if sent.len() < count {
+                return Err(Fault::Thread);
+            }
+            by_sequence(around.alloc, sent.as_slice())
         },
     )
 }
 
-/// Runs a ring with threads of its own for the producer and for each handler, and halts it from
-/// this one.
-fn exchange<R: Threads + Wait + Sync>(
+/// Runs a ring with threads of its own for each producer and each handler, and halts it from this
+/// one.
+pub fn exchange<I: Producing, O: Outlet + Drop + Send, H: Halting, R: Threads + Wait + Sync>(
     around: &Around<'_, R>,
-    parties: Parties,
+    parties: Parties<I, O, H>,
 ) -> Result<Joined, Fault> {
     thread::scope(
         thread::scope_env(),
         around.rt,
         move |scope| -> Result<Joined, Fault>
-            requires { IsSync R.row }
+            requires handlers { IsSend O.row }
+            requires workers { IsSync R.row }
         {
             let Parties {
-                producer,
+                producers,
                 handlers,
                 halter,
                 random,
@@ -191,7 +187,7 @@ fn exchange<R: Threads + Wait + Sync>(
                     started.push(worker)?;
                 }
             }
-            let published = publish(around, producer, halter, random);
+            let published = publish(around, producers, halter, random);
             around.signs.close();
             if published.is_err() || started.len() < count {
                 around.signs.leave();
@@ -209,30 +205,4 @@ fn exchange<R: Threads + Wait + Sync>(
             })
         },
     )
-}
-
-/// Runs a ring, and compares what each handler received with what was published.
-pub fn round<R: Threads + Wait + Sync>(
-    rt: &R,
-    alloc: Global,
-    random: &mut Random,
-) -> Result<Told, Fault> {
-    let graph = graph(alloc, random)?;
-    let slots = 1 << random.below(11);
-    let (sender, receivers, halter) = ring(alloc, &graph, Size::new(slots)?, MAX_LIMIT)?;
-    let signs = Signs::new();
-    let sending = Sending::new(alloc, 0, slots, true, random.split());
-    let parties = Parties {
-        producer: Producer { sender, sending },
-        handlers: handlers(alloc, receivers, random)?,
-        halter,
-        random: random.split(),
-    };
-    let around = Around {
-        rt,
-        alloc,
-        signs: &signs,
-    };
-    let joined = exchange(&around, parties)?;
-    Told::of(joined.published.as_slice(), joined.received.as_slice())
 }
