@@ -87,7 +87,7 @@ fn run<R: Runtime + Alloc<A = Global> + Threads + Wait + Sync>(rt: &R) -> Result
     let senders = Way::Senders.rounds(rt, alloc, seed, count)?;
     let lock = Way::Lock.rounds(rt, alloc, seed, count)?;
     println!(rt; "{count} rounds")?;
-    eprintln!(rt; "ring: {ring}\nseveral senders: {senders}\nlock: {lock}")?;
+    eprintln!(rt; "by ring {ring}\nby senders {senders}\nby lock {lock}")?;
     Ok(())
 }
 
