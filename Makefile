@@ -14,7 +14,7 @@ endif
 all: disruptor run
 
 disruptor: crates.txt $(sources)
-	@tools/prove.sh $(log) disruptor --help
+	@tools/prove.py --log $(log) disruptor -- --help
 	@cp $(program)/out/disruptor $@
 
 run: disruptor
@@ -30,7 +30,7 @@ check:
 	cd crates/$(CRATE) && rt check
 
 bench:
-	@tools/prove.sh $(log) disruptor_bench --list
+	@tools/prove.py --log $(log) disruptor_bench -- --list
 	bench/exchanges.py table
 
 bench-plots:

@@ -23,7 +23,7 @@ EXAMPLES = os.path.join(TOP, "examples")
 FENCE = re.compile(r"^```(\w*)\n(.*?)^```$", re.MULTILINE | re.DOTALL)
 EXCERPT = re.compile(r"[Ff]rom `(crates/[^`]*)`:\n\n```rust\n(.*?)^```$", re.MULTILINE | re.DOTALL)
 LINK = re.compile(r"\]\((?!https:)([^)#\s]*)#?([^)\s]*)\)")
-CRATE_PATH = re.compile(r"`(?:crates/)?(\w+/(?:src|specs|proofs|must-fail)/[\w./-]*)`")
+CRATE_PATH = re.compile(r"`(?:crates/)?(\w+/(?:src|specs|proofs|wrong)/[\w./-]*)`")
 
 
 def text_of(*path):

@@ -1,36 +1,43 @@
 #!/usr/bin/env bash
-# The whole gate: `rt ci`, and then the program, as both compilers built it there, from outside. The last line is that
-# of `rt ci`, in which each script that fails on a build of the program counts as one failure more.
+# The whole gate: every proof and every test's proof from nothing and each program's run (`rt ci`), the wrong bodies, and
+# then the program, as both compilers built it, from outside. The last line, `N passed, M failed`, counts what `rt ci`
+# counts, each wrong body, and one failure more for each script that fails on a build.
 set -u
 cd "$(dirname "$0")/.." || exit 2
 last=$(mktemp) || exit 2
 trap 'rm -f "$last"' EXIT
-# A check takes up to 4 GB; `rt ci` by itself reckons with more, and leaves processors idle.
-fits=$(awk '/^MemAvailable:/ { print int($2 / 4000000) }' /proc/meminfo)
-export RT_JOBS=${RT_JOBS:-$(printf '%s\n' "$(nproc)" "$((fits > 0 ? fits : 1))" | sort -n | head -n 1)}
-# (the last line waits, and the others go through as they come)
-rt ci | sed -u -n -e "\$w $last" -e '$!p'
-status=${PIPESTATUS[0]}
+passed=0 failed=0
 
-more=0
+# Runs a command, shows its lines but the last, and adds the two numbers of the last one to what passed and what failed.
+counted() { # COMMAND..
+    : > "$last"
+    "$@" | sed -u -n -e "\$w $last" -e '$!p'
+    local status=${PIPESTATUS[0]} numbers
+    read -r -a numbers <<< "$(sed -n -E 's/^([0-9]+) (passed|refused), ([0-9]+) (failed|not)$/\1 \3/p' "$last")"
+    [ "${#numbers[@]}" = 2 ] || { cat "$last"; numbers=(0 1); }
+    [ "$status" = 0 ] || [ "${numbers[1]}" -gt 0 ] || numbers[1]=1
+    passed=$((passed + numbers[0])) failed=$((failed + numbers[1]))
+}
+
+# Runs a script that counts nothing of its own.
+whole() { # COMMAND..
+    "$@" || failed=$((failed + 1))
+}
+
+counted rt ci
+whole tests/wrong_bodies_test.py
+counted tests/wrong_bodies.py
 for build in '' .by-rattle; do
     built=crates/disruptor/out/disruptor$build calls=crates/disruptor_hostile/out/disruptor_hostile$build
     if [ -f "$built" ] && [ -f "$calls" ]; then
-        tests/program.sh "$built" || more=$((more + 1))
-        tests/examples.py "$built" || more=$((more + 1))
-        tests/hostile/run.py "$built" || more=$((more + 1))
-        tests/hostile/refused.py "$built" "$calls" || more=$((more + 1))
-    elif [ "$status" = 0 ] && [ -z "$build" ]; then
+        whole tests/program.sh "$built"
+        whole tests/examples.py "$built"
+        whole tests/hostile/run.py "$built"
+        whole tests/hostile/refused.py "$built" "$calls"
+    elif [ "$failed" = 0 ] && [ -z "$build" ]; then
         echo "FAILED: rt ci left no $built or no $calls"
-        more=1
+        failed=1
     fi
 done
-if [ "$more" -gt 0 ]; then
-    status=1
-    passed=$(sed -n 's/^\([0-9]*\) passed, [0-9]* failed$/\1/p' "$last")
-    failed=$(sed -n 's/^[0-9]* passed, \([0-9]*\) failed$/\1/p' "$last")
-    echo "${passed:-0} passed, $((${failed:-1} + more)) failed"
-else
-    cat "$last"
-fi
-exit "$status"
+echo "$passed passed, $failed failed"
+[ "$failed" = 0 ]

@@ -1,0 +1,93 @@
+#!/usr/bin/env python3
+"""Tests of `wrong_bodies.py` over a crate of three functions, made in a folder of its own: which edits it takes as refused."""
+
+import os
+import sys
+import tempfile
+
+sys.dont_write_bytecode = True
+sys.path.insert(0, os.path.dirname(os.path.abspath(__file__)))
+import wrong_bodies  # noqa: E402
+
+SOURCE = """#![tactic(auto)]
+
+ghost use Rattle.std.specs.Prelude.{◌≡◌, ◌≤◌, ◌+◌, ◌-◌};
+
+pub fn twice(n: u32) -> u64
+    ensures { result ≡ n + n }
+{
+    let n = n as u64;
+    n + n
+}
+
+pub fn rest_of(n: u64, m: u64) -> u64
+    requires { m ≤ n }
+    ensures { result ≡ n - m }
+{
+    let rest = n - m;
+    rest
+}
+
+pub fn four_times(n: u16) -> u64
+    ensures { result ≡ n + n + (n + n) }
+{
+    let half = twice(n as u32);
+    half + half
+}
+
+#[cfg(test)]
+mod tests;
+"""
+TESTS = """use crate::twice;
+use std::test::Fail;
+
+#[test]
+fn doubles(rt: HostRuntime) -> Result<(), Fail> {
+    assert_eq!(rt; twice(4), 8);
+    Ok(())
+}
+"""
+# Each edit by its name: the file, the old text, the new one, and what the last lines have to say of it.
+EDITS = {
+    "adds_one": ("src/lib.rt", "    n + n", "    n + n + 1", "refused by twice"),
+    "leaves_all": ("src/lib.rt", "rest = n - m", "rest = n", "refused by rest_of"),
+    "means_the_same": ("src/lib.rt", "half + half", "2 * half", "NOT REFUSED"),
+    "is_of_a_test": ("src/tests.rt", "8);", "9);", "NOT REFUSED"),
+    "is_not_there": ("src/lib.rt", "n * n", "n", "BAD EDIT"),
+    "stands_twice": ("src/lib.rt", "n: u", "m: u", "BAD EDIT"),
+}
+
+
+def made_in(top):
+    """Makes the crate with its edits."""
+    for it in ("src", "wrong"):
+        os.makedirs(f"{top}/crates/toy/{it}")
+    texts = {"crates.txt": "toy:\n", "HANDLES": "Handles allowed: none.\n", "crates/toy/src/lib.rt": SOURCE, "crates/toy/src/tests.rt": TESTS}
+    for name, (file, old, new, _) in EDITS.items():
+        texts[f"crates/toy/wrong/{name}.edit"] = f"file: {file}\nold: {old}\nnew: {new}\n"
+    for path, text in texts.items():
+        with open(f"{top}/{path}", "w", encoding="utf-8") as it:
+            it.write(text)
+
+
+def main():
+    lines, failed = [], 0
+    # (so that the edit that changes nothing is tried beside a wrong body of what its function calls)
+    wrong_bodies.calls_of = lambda folder: {}
+    with tempfile.TemporaryDirectory() as top:
+        made_in(top)
+        status = wrong_bodies.run(top, None, False, lines.append)
+    for name, (_, _, _, wanted) in EDITS.items():
+        said = [it for it in lines if f"toy/{name}:" in it]
+        if not any(wanted in it for it in said):
+            failed += 1
+            print(f"FAILED: {name}: {wanted} was to come, and {said} came")
+    if status != 1 or lines[-1] != "2 refused, 4 not":
+        failed += 1
+        print(f"FAILED: status {status}, last line {lines[-1]}")
+    print(f"wrong_bodies.py: {len(EDITS)} edits of a small crate, {failed} failed")
+    return 1 if failed else 0
+
+
+if __name__ == "__main__":
+    sys.exit(main())
