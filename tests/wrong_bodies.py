@@ -7,9 +7,9 @@
 
 A function is proved against its own contract and the contracts of what it calls, and never against a body. So wrong
 bodies of different functions can stand in one copy of a crate, and one check refuses each by its own function. An edit
-counts as refused where that function is told as not proved, for a goal of its own. What is not told so is tried again in
-other company, and then alone by `rt must-fail`, whose word is the last. Each edit has a line that names the goal that
-refused it, and the last line is `N refused, M not`.
+counts as refused where that function is told as not proved, for a goal of its own. What is not told so is tried alone by
+`rt must-fail`, whose word is the last. Each edit has a line that names the goal that refused it, and the last line is
+`N refused, M not`.
 """
 
 import argparse
@@ -19,8 +19,7 @@ import shutil
 import subprocess
 import sys
 import tempfile
-from collections import defaultdict
-from concurrent.futures import ThreadPoolExecutor
+from concurrent.futures import ThreadPoolExecutor, as_completed
 from dataclasses import dataclass, field
 
 TOP = os.path.dirname(os.path.dirname(os.path.abspath(__file__)))
@@ -28,8 +27,6 @@ sys.dont_write_bytecode = True
 sys.path.insert(0, f"{TOP}/tools")
 import prove  # noqa: E402
 
-# How often an edit is tried in company before it is tried alone.
-ROUNDS = 3
 FUNCTION = re.compile(r"^([ \t]*)(?:pub(?:\([\w: ]+\))? )?(?:(?:const|unsafe) )*fn (\w+)", re.M)
 OWNER = re.compile(r"^(?:pub )?(?:unsafe )?(?:impl|trait)\b[^\n{]*", re.M)
 # What an edit may not touch if it is to be one of a body.
@@ -47,8 +44,6 @@ class Edit:
     name: str
     pairs: list = field(default_factory=list)
     function: tuple = ()
-    tries: int = 0
-    apart: set = field(default_factory=set)
 
     def __hash__(self):
         return hash((self.crate, self.name))
@@ -137,49 +132,15 @@ def place(edit, folder):
         edit.function = found.pop()
 
 
-def calls_of(folder):
-    """Returns the names that each function of a crate may call, directly or not, by its name: more than it calls."""
-    bodies = defaultdict(str)
-    for at, folders, names in os.walk(f"{folder}/src"):
-        folders[:] = [it for it in folders if it != "tests"]
-        for name in names:
-            text = open(f"{at}/{name}", encoding="utf-8").read()
-            starts = [it for it in FUNCTION.finditer(text)]
-            for one, other in zip(starts, [*starts[1:], None]):
-                bodies[one[2]] += text[one.end() : other.start() if other else len(text)]
-    direct = {it: {name for name in re.findall(r"\b(\w+)(?:::<[^;{]*?>)?\(", body) if name in bodies} for it, body in bodies.items()}
-    whole = {}
-    for name in direct:
-        seen, left = set(), [name]
-        while left:
-            for it in direct[left.pop()] - seen:
-                seen.add(it)
-                left.append(it)
-        whole[name] = seen
-    return whole
-
-
-def companies(edits, calls):
-    """Parts the edits into lists that one check each can try: in none are two of one function, nor one of what another calls."""
+def companies(edits):
+    """Parts the edits into lists that one check each can try: in none are two of one function."""
     groups = []
-    for edit in sorted(edits, key=lambda it: (-len(it.apart), it.label)):
-        name = edit.function[2]
-
-        def fits(group):
-            return all(
-                it.function != edit.function
-                and name not in calls.get(it.function[2], ())
-                and it.function[2] not in calls.get(name, ())
-                and it.function[2] not in edit.apart
-                and name not in it.apart
-                for it in group
-            )
-
-        found = next((it for it in groups if fits(it)), None)
-        if found is None:
+    for edit in edits:
+        group = next((it for it in groups if edit.function not in [one.function for one in it]), None)
+        if group is None:
             groups.append([edit])
         else:
-            found.append(edit)
+            group.append(edit)
     return groups
 
 
@@ -199,9 +160,11 @@ def path_in(said, edit):
 
 
 def goal_of(output, path, why):
-    """Returns the goal of its own for which a function is not proved, or None."""
-    if match := re.search(r"`search` did not prove (`[^`]+`)", why):
-        return match[1].strip("`")
+    """Returns the goal of its own for which a function is not proved, or None. That it calls one that is not proved is no such goal."""
+    if match := re.match(r"no proof: expected answers .*`search` did not prove `([^`]+)`", why):
+        return match[1]
+    if why != "not proved":
+        return None
     folder = "proofs/" + "/".join(path.split("::")[1:]) + "/"
     errors = re.findall(rf"^(?:\./)?{re.escape(folder)}\S+?:\d+:\d+: error: (.*)$", output, re.M)
     own = [it for it in errors if not NAMES.search(re.sub(r"`[^`]*`", "", it))]
@@ -210,14 +173,10 @@ def goal_of(output, path, why):
 
 
 def verdict(output, edit):
-    """Returns what a check in company says of an edit: the goal that refuses it, None where another try is needed."""
+    """Returns what a check in company says of an edit: the goal that refuses it, or None where that is not told."""
     said = dict(TELLS.findall(output))
     path = path_in(said, edit)
-    why = said.get(path, "")
-    if path and (match := re.findall(r"`([^`]+)`", why.partition("it calls ")[2])):
-        edit.apart |= {it.split("::")[-1] for it in match}
-    is_own = why == "not proved" or why.startswith("no proof: expected answers") and "it calls" not in why
-    goal = goal_of(output, path, why) if is_own else None
+    goal = goal_of(output, path, said[path]) if path else None
     return f"{path.partition('::')[2]}, goal {goal}" if goal else None
 
 
@@ -267,22 +226,18 @@ class Crate:
                 continue
             place(edit, folder)
             (self.left if edit.function else self.alone).append(edit)
-        self.calls = calls_of(folder)
 
     def try_in_company(self, pool, told):
-        """Tries what is left, all companies of a round side by side; what no round settles is left to be tried alone."""
-        while self.left:
-            groups = companies(self.left, self.calls)
-            runs = [pool.submit(try_together, self.top, self.name, self.below, it) for it in groups]
-            self.left = []
-            for run in runs:
-                for edit, goal in run.result().items():
-                    edit.tries += 1
-                    if goal:
-                        self.refused[edit] = goal
-                        told(f"{edit.label}: refused by {goal}")
-                    else:
-                        (self.left if edit.apart and edit.tries < ROUNDS else self.alone).append(edit)
+        """Tries the edits of bodies, all companies side by side; what these do not settle is left to be tried alone."""
+        runs = [pool.submit(try_together, self.top, self.name, self.below, it) for it in companies(self.left)]
+        self.left = []
+        for run in as_completed(runs):
+            for edit, goal in run.result().items():
+                if goal:
+                    self.refused[edit] = goal
+                    told(f"{edit.label}: refused by {goal}")
+                else:
+                    self.alone.append(edit)
 
     def note(self, edit, text):
         """Notes what the kit says of an edit that was tried alone."""
