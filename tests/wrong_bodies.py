@@ -163,7 +163,7 @@ def goal_of(output, path, why):
     """Returns the goal of its own for which a function is not proved, or None. That it calls one that is not proved is no such goal."""
     if match := re.match(r"no proof: expected answers .*`search` did not prove `([^`]+)`", why):
         return match[1]
-    if why != "not proved":
+    if not why.startswith("not proved"):
         return None
     folder = "proofs/" + "/".join(path.split("::")[1:]) + "/"
     errors = re.findall(rf"^(?:\./)?{re.escape(folder)}\S+?:\d+:\d+: error: (.*)$", output, re.M)
