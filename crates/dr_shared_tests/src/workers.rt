@@ -1,10 +1,10 @@
 //! Workers over ends of the tests' own, which no exchange stands behind.
 
-use crate::{
-    Ended, Gate, GateAnswer, OpenGate, Produced, Waiting, WorkFault, consume, first_fault, produce,
-};
 use dr_core::{Claimed, Handler, Inlet, Outlet, Polled, Refusal, Trouble};
 use dr_seq::Event;
+use dr_shared::{
+    Ended, Gate, GateAnswer, OpenGate, Produced, Waiting, WorkFault, consume, first_fault, produce,
+};
 use std::process::Abort;
 use std::sync::atomic::{AtomicU64, Ordering};
 use std::test::Fail;
@@ -263,20 +263,6 @@ fn consumers(rt: HostRuntime) -> Result<(), Fail> {
         consume(&rt, &mut dealing_end(5), &gate, 0, &mut adder, &mut []),
         refused
     );
-    Ok(())
-}
-
-#[test]
-fn faults_have_numbers_and_names(rt: HostRuntime) -> Result<(), Fail> {
-    for (fault, number, name) in [
-        (WorkFault::Memory, 40, "no-memory"),
-        (WorkFault::Refused(Refusal::Halted), 53, "worker-refused"),
-        (WorkFault::Stopped, 54, "stopped"),
-    ] {
-        assert_eq!(rt; fault.number(), number);
-        assert_eq!(rt; fault.name(), name);
-        assert_eq!(rt; fault.to_string(rt.alloc())?.as_str(), name);
-    }
     Ok(())
 }
 

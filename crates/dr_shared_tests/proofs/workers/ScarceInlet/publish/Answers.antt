@@ -5,7 +5,7 @@ use Rattle.std.proofs.lemmas.Bool.Decides.{nat_tests}
 use Rattle.dr_core.specs.Meaning.Refusals.{sequence_causes}
 use Rattle.dr_core.specs.Calls.Ends.{MayHold, MayFail, PublishAnswers, end_sequence_tests}
 use Rattle.dr_core.proofs.Causes.{none_join, none_of_stretch}
-use Rattle.dr_shared.proofs.tests.workers.ScarceInlet.publish.Goals as goal
+use Rattle.dr_shared_tests.proofs.workers.ScarceInlet.publish.Goals as goal
 
 -- an end that shows nothing may publish any stretch
 silent : (lo hi : ℕ) → nat_lt hi lo ≡ false → PublishAnswers None lo hi (Ok tt)
