@@ -127,7 +127,9 @@ def prove_all(top, names, words=lambda name: ["lib"], told=print, log=None):
             ready = work.ready()
             idle = most - sum(jobs for _, jobs, _ in running.values())
             for at, name in enumerate(ready[:idle]):
-                jobs = max((idle - at) // (len(ready) - at), 1) if len(ready) < idle else 1
+                # (what no other crate can use yet goes to those that are ready)
+                jobs = max(idle // (len(ready) - at), 1)
+                idle -= jobs
                 work.left.remove(name)
                 running[pool.submit(prove, top, name, work.below[name], jobs, words(name))] = name, jobs, time.time()
             for it in wait(running, return_when=FIRST_COMPLETED).done:
