@@ -31,6 +31,3 @@ pub use mode::{MAX_PRODUCERS, Mode};
 pub use open_fault::OpenFault;
 pub use refusal::Refusal;
 pub use runs::{Ran, run};
-
-#[cfg(test)]
-mod tests;

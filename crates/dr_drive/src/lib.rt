@@ -13,6 +13,3 @@ mod tool;
 
 pub use dr_files::{Cause, Counted, FileFault};
 pub use tool::drive;
-
-#[cfg(test)]
-mod tests;

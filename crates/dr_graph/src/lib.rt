@@ -19,6 +19,3 @@ pub use built::Graph;
 pub use fault::GraphFault;
 pub use group::Group;
 pub use name::{MAX_HANDLERS, MAX_NAME_LEN};
-
-#[cfg(test)]
-mod tests;

@@ -22,6 +22,3 @@ pub use fault::ReplayFault;
 pub use lock::replay_lock;
 pub use one_thread::replay_plain;
 pub use ring::replay_ring;
-
-#[cfg(test)]
-mod tests;

@@ -27,6 +27,3 @@ pub use plan::{Plan, copy_upstreams};
 pub use receiver::Receiver;
 pub use sender::Sender;
 pub use settled::{HandlerCounts, Settled, settle};
-
-#[cfg(test)]
-mod tests;

@@ -27,6 +27,3 @@ pub use plan::Plan;
 pub use receiver::Receiver;
 pub use sender::Sender;
 pub use settled::{Settled, settle};
-
-#[cfg(test)]
-mod tests;

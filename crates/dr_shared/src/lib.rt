@@ -47,6 +47,3 @@ pub use producer::{Produced, produce};
 pub use recorded::Recorded;
 pub use shared::{End, MAX_ENDS, Shared, Unfinished, finish};
 pub use waiting::Waiting;
-
-#[cfg(test)]
-mod tests;

@@ -1,0 +1,10 @@
+//! Tests of `dr_senders` by its public calls, of what no clause says: that the calls succeed with ample memory, and worked
+//! runs by their answers.
+#![tactic(auto)]
+
+#[cfg(test)]
+mod answers;
+#[cfg(test)]
+mod ends;
+#[cfg(test)]
+mod settling;

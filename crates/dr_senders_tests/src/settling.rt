@@ -1,0 +1,169 @@
+//! That all ends of a ring come together, by the counts.
+
+ghost use Rattle.std.specs.Prelude.{◌≡◌, IfOk};
+ghost use Rattle.dr_senders.specs.Calls.Ends.{Stays};
+ghost use Rattle.dr_senders.specs.Calls.Settling.{AreAllEnds};
+
+use crate::ends::{Ends, LIMIT, chain};
+use dr_core::{Claimed, Polled, Refusal};
+use dr_graph::{Graph, GraphBuilder, GraphFault};
+use dr_senders::{ClaimFault, Sender, Settled, senders_ring, settle};
+use dr_seq::{Event, Size};
+use std::alloc::Global;
+use std::process::Abort;
+use std::test::Fail;
+
+/// Two handlers without upstreams.
+fn side_by_side(alloc: Global) -> Result<Graph, GraphFault> {
+    let mut builder = GraphBuilder::new(alloc);
+    builder.handle_with(&["a", "b"])?;
+    builder.build()
+}
+
+const fn word(first: u64) -> Event {
+    Event { first, second: 0 }
+}
+
+fn open(alloc: Global, graph: &Graph) -> Result<Ends, Fail>
+    ensures { IfOk result (λ ends. AreAllEnds ends.senders.items ends.receivers.items ends.halter) }
+{
+    let (senders, receivers, halter) = senders_ring(alloc, graph, Size::new(4)?, LIMIT, 2)?;
+    Ok(Ends {
+        senders,
+        receivers,
+        halter,
+    })
+}
+
+fn claim(rt: &impl Abort, ends: &mut Ends, sender: usize, n: u64) -> Result<Claimed, ClaimFault>
+    requires { AreAllEnds ends.old.senders.items ends.old.receivers.items ends.old.halter }
+    ensures { AreAllEnds ends.new.senders.items ends.new.receivers.items ends.new.halter }
+{
+    assert!(rt; sender < ends.senders.len());
+    ends.senders[sender].try_claim(n)
+}
+
+fn poll(
+    rt: &impl Abort,
+    ends: &mut Ends,
+    handler: usize,
+    out: &mut [Event],
+) -> Result<Polled, Refusal>
+    requires { AreAllEnds ends.old.senders.items ends.old.receivers.items ends.old.halter }
+    ensures { AreAllEnds ends.new.senders.items ends.new.receivers.items ends.new.halter }
+{
+    assert!(rt; handler < ends.receivers.len());
+    ends.receivers[handler].poll_into(out)
+}
+
+fn complete(rt: &impl Abort, ends: &mut Ends, handler: usize, upto: u64) -> Result<(), Refusal>
+    requires { AreAllEnds ends.old.senders.items ends.old.receivers.items ends.old.halter }
+    ensures { AreAllEnds ends.new.senders.items ends.new.receivers.items ends.new.halter }
+{
+    assert!(rt; handler < ends.receivers.len());
+    ends.receivers[handler].complete(upto)
+}
+
+/// A sender claims one sequence, and writes and publishes an event with it.
+fn send_one(rt: &impl Abort, sender: &mut Sender, event: Event)
+    ensures { Stays sender.old sender.new × (sender.new.knows.number ≡ sender.old.knows.number) }
+{
+    match sender.try_claim(1) {
+        Ok(claimed) => {
+            let written = sender.write(claimed.lo, event);
+            let published = sender.publish(claimed.lo, claimed.hi);
+            assert!(rt; written.is_ok() && published.is_ok());
+        }
+        Err(fault) => assert!(rt; false, "refused with {fault:?}"),
+    }
+}
+
+fn send(rt: &impl Abort, ends: &mut Ends, sender: usize, first: u64)
+    requires { AreAllEnds ends.old.senders.items ends.old.receivers.items ends.old.halter }
+    ensures { AreAllEnds ends.new.senders.items ends.new.receivers.items ends.new.halter }
+{
+    assert!(rt; sender < ends.senders.len());
+    send_one(rt, &mut ends.senders[sender], word(first));
+}
+
+fn halt(ends: &mut Ends)
+    requires { AreAllEnds ends.old.senders.items ends.old.receivers.items ends.old.halter }
+    ensures { AreAllEnds ends.new.senders.items ends.new.receivers.items ends.new.halter }
+{
+    ends.halter.halt();
+}
+
+fn shows_nothing_taken(rt: &impl Abort, settled: &Settled) {
+    assert!(rt; settled.handlers() == 2);
+    for handler in 0..2 {
+        assert_eq!(rt; settled.taken(handler), 0, "at {handler}");
+        assert_eq!(rt; settled.completed(handler), 0, "at {handler}");
+    }
+}
+
+#[test]
+fn settle_after_open_claims(rt: HostRuntime) -> Result<(), Fail> {
+    let mut out = [Event::NONE; 4];
+    let mut ends = open(rt.alloc(), &chain(rt.alloc())?)?;
+    assert_eq!(rt; claim(&rt, &mut ends, 1, 2), Ok(Claimed { lo: 0, hi: 1 }));
+    assert_eq!(rt; claim(&rt, &mut ends, 0, 1), Ok(Claimed { lo: 2, hi: 2 }));
+    assert_eq!(rt; poll(&rt, &mut ends, 0, &mut out), Ok(Polled::Gating));
+    assert_eq!(rt; poll(&rt, &mut ends, 1, &mut out), Ok(Polled::Gating));
+    assert_eq!(rt; complete(&rt, &mut ends, 0, 0), Ok(()));
+    assert_eq!(rt; complete(&rt, &mut ends, 1, 1), Err(Refusal::NotTaken));
+    let settled = settle(ends.senders, ends.receivers, ends.halter);
+    assert_eq!(rt; settled.claimed(), 3);
+    assert!(rt; !settled.is_halted());
+    shows_nothing_taken(&rt, &settled);
+    Ok(())
+}
+
+#[test]
+fn settle_after_a_halt(rt: HostRuntime) -> Result<(), Fail> {
+    let mut out = [Event::NONE; 4];
+    let mut ends = open(rt.alloc(), &side_by_side(rt.alloc())?)?;
+    assert_eq!(rt; poll(&rt, &mut ends, 1, &mut out), Ok(Polled::Idle));
+    halt(&mut ends);
+    assert_eq!(rt;
+        claim(&rt, &mut ends, 0, 1),
+        Err(ClaimFault::Refused(Refusal::Halted))
+    );
+    assert_eq!(rt; poll(&rt, &mut ends, 0, &mut out), Ok(Polled::Drained));
+    assert_eq!(rt; poll(&rt, &mut ends, 1, &mut out), Ok(Polled::Drained));
+    let settled = settle(ends.senders, ends.receivers, ends.halter);
+    assert_eq!(rt; settled.claimed(), 0);
+    assert!(rt; settled.is_halted());
+    shows_nothing_taken(&rt, &settled);
+    Ok(())
+}
+
+#[test]
+fn settle_after_a_run(rt: HostRuntime) -> Result<(), Fail> {
+    let mut out = [Event::NONE; 4];
+    let mut ends = open(rt.alloc(), &chain(rt.alloc())?)?;
+    send(&rt, &mut ends, 1, 7);
+    send(&rt, &mut ends, 0, 8);
+    send(&rt, &mut ends, 1, 9);
+    assert_eq!(rt; poll(&rt, &mut ends, 1, &mut out), Ok(Polled::Gating));
+    let all = Ok(Polled::Batch {
+        first: 0,
+        count: 3,
+        end: true,
+    });
+    assert_eq!(rt; poll(&rt, &mut ends, 0, &mut out), all);
+    assert_eq!(rt; &out[..3], &[word(7), word(8), word(9)][..]);
+    assert_eq!(rt; complete(&rt, &mut ends, 0, 3), Ok(()));
+    halt(&mut ends);
+    assert_eq!(rt; poll(&rt, &mut ends, 0, &mut out), Ok(Polled::Drained));
+    assert_eq!(rt; poll(&rt, &mut ends, 1, &mut out), all);
+    assert_eq!(rt; complete(&rt, &mut ends, 1, 2), Ok(()));
+    assert_eq!(rt; poll(&rt, &mut ends, 1, &mut out), Ok(Polled::Drained));
+    let settled = settle(ends.senders, ends.receivers, ends.halter);
+    assert_eq!(rt; settled.claimed(), 3);
+    assert!(rt; settled.is_halted() && settled.handlers() == 2);
+    for (handler, completed) in [(0, 3), (1, 2)] {
+        assert_eq!(rt; settled.taken(handler), 3, "at {handler}");
+        assert_eq!(rt; settled.completed(handler), completed, "at {handler}");
+    }
+    Ok(())
+}

@@ -1,0 +1,72 @@
+//! Ends of a history behind a lock.
+
+ghost use Rattle.std.specs.Prelude.{◌≡◌};
+
+use crate::histories::{Shape, between_two, word};
+use dr_core::{Claimed, Command, Inlet, Outlet, Polled, Refusal, Trouble};
+use dr_seq::Event;
+use dr_shared::{LockedInlet, LockedOutlet, Shared};
+use std::alloc::Global;
+use std::marker::Brand;
+use std::process::Abort;
+use std::sync::Wait;
+use std::sync::ledger::{Blank, Ledger};
+use std::test::Fail;
+
+#[test]
+fn an_inlet_and_an_outlet(rt: HostRuntime) -> Result<(), Fail> {
+    by_inlet_and_outlet::<Brand, _>(&rt, rt.alloc(), Blank::new(65))
+}
+
+/// An event goes in and out.
+fn pass_between<I: Inlet, O: Outlet>(rt: &impl Abort, inlet: &mut I, outlet: &mut O) {
+    let mut out = [Event::NONE; 2];
+    let unwritten = Err(Trouble::Refused(Refusal::NotWritten));
+    assert_eq!(rt; inlet.try_claim(1), Ok(Claimed { lo: 0, hi: 0 }));
+    assert_eq!(rt; inlet.publish(0, 0), unwritten);
+    assert_eq!(rt; inlet.write(0, word(5)), Ok(()));
+    assert_eq!(rt; outlet.poll_into(&mut out), Ok(Polled::Gating));
+    assert_eq!(rt; inlet.publish(0, 0), Ok(()));
+    let batch = Polled::Batch {
+        first: 0,
+        count: 1,
+        end: true,
+    };
+    assert_eq!(rt; outlet.poll_into(&mut out), Ok(batch));
+    assert_eq!(rt; out, [word(5), Event::NONE]);
+}
+
+/// The event is completed, and no other one comes.
+fn complete_one(rt: &impl Abort, outlet: &mut impl Outlet) {
+    let mut out = [Event::NONE; 2];
+    let untaken = Err(Trouble::Refused(Refusal::NotTaken));
+    assert_eq!(rt; outlet.poll_into(&mut out), Ok(Polled::Idle));
+    assert_eq!(rt; outlet.complete(2), untaken);
+    assert_eq!(rt; outlet.complete(1), Ok(()));
+}
+
+/// An event goes in and out, and the outlet is told of the halt.
+fn by_inlet_and_outlet<L: Ledger, R: Wait + Abort>(
+    rt: &R,
+    alloc: Global,
+    blank: Blank,
+) -> Result<(), Fail>
+    requires name { blank.name ≡ L.name }
+    requires parts { blank.parts ≡ L.parts }
+    requires ends { blank.parts ≡ 65 }
+{
+    let mut shared = Shared::<L>::new(between_two(alloc, Shape::Alone)?, blank);
+    let one = shared.end().ok_or("an end")?;
+    let two = shared.end().ok_or("an end")?;
+    let mut halter = shared.end().ok_or("an end")?;
+    let mut inlet = LockedInlet::new(rt, &shared, one, 1);
+    let mut outlet = LockedOutlet::new(rt, &shared, two, 0);
+    pass_between(rt, &mut inlet, &mut outlet);
+    complete_one(rt, &mut outlet);
+    shared.call(rt, &mut halter, Command::Halt, &mut [])?;
+    assert_eq!(rt; inlet.try_claim(1), Err(Trouble::Refused(Refusal::Halted)));
+    assert_eq!(rt; outlet.poll_into(&mut [Event::NONE]), Ok(Polled::Drained));
+    assert_eq!(rt; inlet.into_end().calls(), 3);
+    assert_eq!(rt; outlet.into_end().calls(), 3);
+    Ok(())
+}

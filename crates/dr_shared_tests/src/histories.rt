@@ -1,0 +1,56 @@
+//! Histories of small exchanges.
+
+use dr_core::{MAX_LIMIT, Mode};
+use dr_graph::{Graph, GraphBuilder, GraphFault};
+use dr_seq::{Event, Size};
+use dr_shared::Recorded;
+use std::alloc::Global;
+use std::test::Fail;
+
+/// How the handlers of an exchange stand to each other.
+#[derive(Clone, Copy)]
+pub enum Shape {
+    /// One handler.
+    Alone,
+    /// Two handlers without upstreams.
+    SideBySide,
+    /// Two handlers, the second after the first.
+    Chain,
+    /// Two handlers without upstreams, and a third after both.
+    Diamond,
+}
+
+pub const fn word(first: u64) -> Event {
+    Event { first, second: 0 }
+}
+
+fn graph(alloc: Global, shape: Shape) -> Result<Graph, GraphFault> {
+    let mut builder = GraphBuilder::new(alloc);
+    let sides: &[&str] = match shape {
+        Shape::Alone | Shape::Chain => &["a"],
+        Shape::SideBySide | Shape::Diamond => &["a", "b"],
+    };
+    let first = builder.handle_with(sides)?;
+    if matches!(shape, Shape::Chain | Shape::Diamond) {
+        builder.then(&first, &["c"])?;
+    }
+    builder.build()
+}
+
+/// A history that begins with room for 4 entries and 2 values.
+pub fn opened(
+    alloc: Global,
+    shape: Shape,
+    size: u64,
+    mode: Mode,
+    limit: u64,
+) -> Result<Recorded, Fail> {
+    let size = Size::new(size)?;
+    let graph = graph(alloc, shape)?;
+    Ok(Recorded::open(alloc, graph, size, mode, limit, 4, 2)?)
+}
+
+/// The history of a ring of four slots with two producers.
+pub fn between_two(alloc: Global, shape: Shape) -> Result<Recorded, Fail> {
+    opened(alloc, shape, 4, Mode::Multi(2), MAX_LIMIT)
+}

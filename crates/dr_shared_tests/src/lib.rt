@@ -1,0 +1,18 @@
+//! Tests of `dr_shared` by its public calls, of what no clause says: that the calls succeed with ample memory, worked
+//! runs through a lock by their replies, and workers over ends that fail.
+#![tactic(auto)]
+
+#[cfg(test)]
+mod audits;
+#[cfg(test)]
+mod ends;
+#[cfg(test)]
+mod faults;
+#[cfg(test)]
+mod histories;
+#[cfg(test)]
+mod play;
+#[cfg(test)]
+mod rows;
+#[cfg(test)]
+mod workers;
