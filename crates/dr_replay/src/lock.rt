@@ -20,7 +20,7 @@ use crate::part::Part;
 use crate::scripts::{scripts, views};
 use dr_accounts::{Business, Journal, Replica, graph};
 use dr_core::{MAX_LIMIT, Mode};
-use dr_files::{Counted, FileFault, write_text};
+use dr_files::{Counted, write_text};
 use dr_seq::{Event, Size};
 use dr_shared::{End, Ended, Gate, Recorded, Shared, WorkFault, audit, finish, first_fault};
 use std::alloc::{AllocError, Global};
@@ -168,6 +168,26 @@ fn settled<L: Ledger>(
     }
 }
 
+// A history with room for what so many producers do with so many events.
+fn opened(
+    alloc: Global,
+    size: Size,
+    producers: usize,
+    events: usize,
+) -> Result<Recorded, AllocError> {
+    let graph = graph(alloc)?;
+    let mode = Mode::Multi(producers as u64);
+    // A claim, a write and a publication for each event, and a batch and a completion for each and
+    // each handler; the halt, and a `Drained` for each handler.
+    let entries = events.checked_mul(9).ok_or(AllocError)?;
+    let entries = entries.checked_add(4).ok_or(AllocError)?;
+    let words = events.checked_mul(3).ok_or(AllocError)?;
+    match Recorded::open(alloc, graph, size, mode, MAX_LIMIT, entries, words) {
+        Ok(recorded) => Ok(recorded),
+        Err(_) => Err(AllocError),
+    }
+}
+
 // The report of a merge of the producers' events.
 fn report<L: Ledger + Send + Sync, R: Threads + Wait + Sync, G: Gate + Sync>(
     rt: &R,
@@ -184,16 +204,7 @@ fn report<L: Ledger + Send + Sync, R: Threads + Wait + Sync, G: Gate + Sync>(
     ensures first { IfErr result (IsOfMerge events.now) }
 {
     let scripts = scripts(alloc, events)?;
-    let graph = graph(alloc)?;
-    let mode = Mode::Multi(scripts.len() as u64);
-    // A claim, a write and a publication for each event, and a batch and a completion for each and
-    // each handler; the halt, and a `Drained` for each handler.
-    let entries = events.len().checked_mul(9).ok_or(AllocError)?;
-    let entries = entries.checked_add(4).ok_or(AllocError)?;
-    let words = events.len().checked_mul(3).ok_or(AllocError)?;
-    let Ok(recorded) = Recorded::open(alloc, graph, size, mode, MAX_LIMIT, entries, words) else {
-        return Err(ReplayFault::File(FileFault::Memory));
-    };
+    let recorded = opened(alloc, size, scripts.len(), events.len())?;
     let mut shared = Shared::<L>::new(recorded, blank);
     let ends = make_ends(alloc, &mut shared, scripts.len())?;
     let around = Around {

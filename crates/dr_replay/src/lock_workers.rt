@@ -72,6 +72,29 @@ pub struct Joined<L: Ledger> {
     pub producers: Vec<Sent<L>>,
 }
 
+// One end more.
+fn new_end<L: Ledger>(shared: &mut Shared<L>) -> Result<End<L>, AllocError>
+    ensures { IfOk result (λ end. shared.new.given ≡ shared.old.given + 1) }
+{
+    shared.end().ok_or(AllocError)
+}
+
+// An end for each producer.
+fn list_of_ends<L: Ledger>(
+    alloc: Global,
+    shared: &mut Shared<L>,
+    producers: usize,
+) -> Result<Vec<End<L>>, AllocError>
+    ensures given { IfOk result (λ ends. shared.new.given ≡ shared.old.given + length ends.items) }
+    ensures producers { IfOk result (λ ends. length ends.items ≡ producers) }
+{
+    let mut list = Vec::with_capacity(alloc, producers)?;
+    for _p in 0..producers {
+        list.push(new_end(shared)?)?;
+    }
+    Ok(list)
+}
+
 /// An end for each worker, and one that halts.
 pub fn make_ends<L: Ledger>(
     alloc: Global,
@@ -81,20 +104,17 @@ pub fn make_ends<L: Ledger>(
     ensures given { IfOk result (λ ends. shared.new.given ≡ shared.old.given + 4 + length ends.producers.items) }
     ensures producers { IfOk result (λ ends. length ends.producers.items ≡ producers) }
 {
-    let halter = shared.end().ok_or(AllocError)?;
-    let journal = shared.end().ok_or(AllocError)?;
-    let replica = shared.end().ok_or(AllocError)?;
-    let business = shared.end().ok_or(AllocError)?;
-    let mut list = Vec::with_capacity(alloc, producers)?;
-    for _p in 0..producers {
-        list.push(shared.end().ok_or(AllocError)?)?;
-    }
+    let halter = new_end(shared)?;
+    let journal = new_end(shared)?;
+    let replica = new_end(shared)?;
+    let business = new_end(shared)?;
+    let producers = list_of_ends(alloc, shared, producers)?;
     Ok(Ends {
         halter,
         journal,
         replica,
         business,
-        producers: list,
+        producers,
     })
 }
 
@@ -186,6 +206,51 @@ fn join<T: Drop, R: Threads>(rt: &R, started: Option<JoinHandle<T>>) -> Result<T
     Ok(worker.join(rt))
 }
 
+// Whether each handler's thread could be started.
+fn are_all<L: Ledger>(handlers: &Handlers<L>) -> bool {
+    handlers.journal.is_some() && handlers.replica.is_some() && handlers.business.is_some()
+}
+
+// Sends all scripts, unless a handler's thread is missing.
+fn send_if<L: Ledger + Send + Sync, R: Threads + Wait + Sync, G: Gate + Sync>(
+    around: &Around<'_, L, R, G>,
+    scripts: &[Vec<Event>],
+    producers: Vec<End<L>>,
+    is_whole: bool,
+) -> Result<Vec<Sent<L>>, AllocError>
+    requires { length producers.items ≡ length scripts.now }
+    ensures { IfOk result (λ sent. length sent.items ≡ length scripts.now) }
+{
+    if is_whole {
+        send_all(around, scripts, producers)
+    } else {
+        Err(AllocError)
+    }
+}
+
+// What the handlers' threads give back, if all could be started; those that could be are joined in any case.
+fn join_handlers<L: Ledger, R: Threads>(
+    rt: &R,
+    handlers: Handlers<L>,
+) -> Result<
+    (
+        Handled<L, Journal>,
+        Handled<L, Replica>,
+        Handled<L, Business>,
+    ),
+    AllocError,
+> {
+    let Handlers {
+        journal,
+        replica,
+        business,
+    } = handlers;
+    let journal = join(rt, journal);
+    let replica = join(rt, replica);
+    let business = join(rt, business);
+    Ok((journal?, replica?, business?))
+}
+
 // Sends all scripts, unless a handler's thread is missing; then halts the core, and joins the handlers.
 fn served<L: Ledger + Send + Sync, R: Threads + Wait + Sync, G: Gate + Sync>(
     around: &Around<'_, L, R, G>,
@@ -197,26 +262,14 @@ fn served<L: Ledger + Send + Sync, R: Threads + Wait + Sync, G: Gate + Sync>(
     requires { length producers.items ≡ length scripts.now }
     ensures { IfOk result (λ joined. length joined.producers.items ≡ length scripts.now) }
 {
-    let rt = around.rt;
-    let Handlers {
+    let sent = send_if(around, scripts, producers, are_all(&handlers));
+    halt(around.rt, around.shared, &mut halter);
+    let (journal, replica, business) = join_handlers(around.rt, handlers)?;
+    Ok(Joined {
+        halter,
         journal,
         replica,
         business,
-    } = handlers;
-    let sent = if journal.is_some() && replica.is_some() && business.is_some() {
-        send_all(around, scripts, producers)
-    } else {
-        Err(AllocError)
-    };
-    halt(rt, around.shared, &mut halter);
-    let journal = join(rt, journal);
-    let replica = join(rt, replica);
-    let business = join(rt, business);
-    Ok(Joined {
-        halter,
-        journal: journal?,
-        replica: replica?,
-        business: business?,
         producers: sent?,
     })
 }

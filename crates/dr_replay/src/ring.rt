@@ -163,6 +163,22 @@ fn endings(ran: &Ran) -> [Ended; 4]
     ]
 }
 
+// The ends of the three handlers in one list.
+fn listed(
+    alloc: Global,
+    journal: Receiver,
+    replica: Receiver,
+    business: Receiver,
+) -> Result<Vec<Receiver>, AllocError>
+    ensures { IfOk result (λ ends. ends.items ≡ journal ∷ replica ∷ business ∷ []) }
+{
+    let mut receivers = Vec::with_capacity(alloc, 3)?;
+    receivers.push(journal)?;
+    receivers.push(replica)?;
+    receivers.push(business)?;
+    Ok(receivers)
+}
+
 // Brings the ends together, and then the parts of the report.
 fn finish(alloc: Global, ran: Ran) -> Result<String, ReplayFault>
     requires ends { AreAllEnds ran.sender (ends_of ran) }
@@ -178,10 +194,7 @@ fn finish(alloc: Global, ran: Ran) -> Result<String, ReplayFault>
         replica,
         business,
     } = ran;
-    let mut receivers = Vec::with_capacity(alloc, 3)?;
-    receivers.push(journal.receiver)?;
-    receivers.push(replica.receiver)?;
-    receivers.push(business.receiver)?;
+    let receivers = listed(alloc, journal.receiver, replica.receiver, business.receiver)?;
     let _settled = settle(sender, receivers);
     if let Some(first) = first_fault(endings.as_slice()) {
         return Err(replay_fault(first));

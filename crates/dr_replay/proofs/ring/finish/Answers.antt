@@ -10,11 +10,7 @@ pub returns-clause-text : goal.returns-clause-text
 returns-clause-text c = λ events says.
     let ran = c.args.ran in
     let parts = c.in-Ok-Ok-Ok in
-    let items : c.push-3.new.self.items ≡ ran.journal.receiver ∷ ran.replica.receiver ∷ ran.business.receiver ∷ [] =
-    c.in_ok-push-3.ensures.items
-    ∙ ap (λ l. l ++ ran.business.receiver ∷ [])
-    (c.in_ok-push-2.ensures.items ∙ ap (λ l. l ++ ran.replica.receiver ∷ []) (c.in_ok-push.ensures.items ∙ ap (λ l. l ++ ran.journal.receiver ∷ []) c.in_ok-receivers.ensures.items)) in
-    let settled : Settles ran.sender.knows (map (λ (e : ReceiverEnd). e.knows) (ran.journal.receiver ∷ ran.replica.receiver ∷ ran.business.receiver ∷ [])) = rw items at c.settle-settled.ensures.lists in
+    let settled : Settles ran.sender.knows (map (λ (e : ReceiverEnd). e.knows) (ran.journal.receiver ∷ ran.replica.receiver ∷ ran.business.receiver ∷ [])) = rw c.in_ok-receivers.ensures at c.settle-settled.ensures.lists in
     let all : All (λ (e : Ended). e.fault ≡ None) (endings_of ran) = rw (c.as_slice.ensures ∙ c.endings-endings.ensures) at c.in_default.ensures.none in
     let fine : ran.produced.fault ≡ None = all 3 (record { who = 0; fault = None }) (omega arith) in
     let first = rw parts.is-0 at says.journal in
