@@ -100,17 +100,19 @@ class Work:
         self.all = [it for it in self.below if it in names or any(it in self.below[one] for one in names)]
         self.left, self.done, self.began = list(self.all), {}, time.time()
         self.size = {it: size_of(top, it) for it in self.all}
-        self.behind = {it: max([self.chain(one, it) for one in self.all if it in self.below[one]], default=0) for it in self.all}
+        self.path = {}
+        for it in reversed(self.all):
+            self.path[it] = self.size[it] + self.above(it)
 
-    def chain(self, name, under):
-        """Returns the size of the longest chain of crates from above `under` up to `name`."""
-        between = [self.chain(it, under) for it in self.below[name] if under in self.below[it]]
-        return self.size[name] + max(between, default=0)
+    def above(self, name):
+        """Returns the size of the longest chain of crates that stand on this one."""
+        return max([self.path[it] for it in self.path if name in self.below[it]], default=0)
 
     def ready(self):
-        """Returns the crates that can be proved now, first that with the longest chain of others above it."""
+        """Returns the crates to begin now, that with the longest chain first. Those that can wait until it is done, wait."""
         found = [it for it in self.left if all(one in self.done for one in self.below[it])]
-        return sorted(found, key=lambda it: -self.behind[it])
+        found.sort(key=lambda it: -self.path[it])
+        return [it for it in found if self.path[it] > self.above(found[0])]
 
     def minutes_left(self):
         """Returns about how long the rest takes, at the speed of what is done."""

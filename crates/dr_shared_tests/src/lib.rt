@@ -11,8 +11,10 @@ mod faults;
 #[cfg(test)]
 mod histories;
 #[cfg(test)]
-mod play;
+mod playing;
 #[cfg(test)]
 mod rows;
+#[cfg(test)]
+mod words;
 #[cfg(test)]
 mod workers;

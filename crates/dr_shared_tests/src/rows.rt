@@ -1,33 +1,25 @@
-//! Worked runs: the commands of an exchange, and the reply to each.
+//! Worked runs: what is asked of an exchange, and what it answers.
 
-use crate::histories::{Shape, word};
-use dr_core::Command::{Claim, Complete, Halt, Poll, Publish, Retire};
-use dr_core::Reply::{
-    Claimed, Completed, Drained, Gating, Halting, Idle, Published, Refused, Retired, Written,
+use crate::histories::Shape;
+use crate::words::Answer::{
+    Batch, Claimed, Completed, Drained, Gating, Halting, Idle, Published, Refused, Retired, Written,
 };
-use dr_core::{Command, MAX_LIMIT, Mode, Refusal, Reply};
-use dr_seq::Event;
+use crate::words::Call::{Claim, Complete, Halt, Poll, Publish, Retire, Write};
+use crate::words::{Answer, Call};
+use dr_core::Refusal::{
+    AlreadyPublished, BadCount, Behind, Exhausted, Halted, LastHandler, NoHandler, NoProducer,
+    NoRoom, NotClaimed, NotFinal, NotTaken, NotWritten, OutOfOrder,
+};
+use dr_core::{MAX_LIMIT, Mode, Refusal};
 
-/// A run of an exchange, and what its handlers received, batch after batch.
+/// A run of an exchange, and the first word of each event that its handlers received, batch after batch.
 pub struct Run {
     pub shape: Shape,
     pub size: u64,
     pub mode: Mode,
     pub limit: u64,
-    pub rows: &'static [(Command, Reply)],
-    pub values: &'static [Event],
-}
-
-const fn write(p: u64, s: u64, first: u64) -> Command {
-    Command::Write {
-        p,
-        s,
-        event: word(first),
-    }
-}
-
-const fn batch(first: u64, count: usize, end: bool) -> Reply {
-    Reply::Batch { first, count, end }
+    pub rows: &'static [(Call, Answer)],
+    pub values: &'static [u64],
 }
 
 const FIRST_EVENT: Run = Run {
@@ -36,13 +28,13 @@ const FIRST_EVENT: Run = Run {
     mode: Mode::Single,
     limit: MAX_LIMIT,
     rows: &[
-        (Claim { p: 0, n: 1 }, Claimed { lo: 0, hi: 0 }),
-        (write(0, 0, 42), Written),
-        (Publish { p: 0, lo: 0, hi: 0 }, Published),
-        (Poll { h: 0, max: 8 }, batch(0, 1, true)),
-        (Complete { h: 0, upto: 1 }, Completed),
+        (Claim(0, 1), Claimed(0, 0)),
+        (Write(0, 0, 42), Written),
+        (Publish(0, 0, 0), Published),
+        (Poll(0, 8), Batch(0, 1, true)),
+        (Complete(0, 1), Completed),
     ],
-    values: &[word(42)],
+    values: &[42],
 };
 
 const RING_OF_ONE: Run = Run {
@@ -51,16 +43,16 @@ const RING_OF_ONE: Run = Run {
     mode: Mode::Single,
     limit: MAX_LIMIT,
     rows: &[
-        (Claim { p: 0, n: 1 }, Claimed { lo: 0, hi: 0 }),
-        (write(0, 0, 7), Written),
-        (Claim { p: 0, n: 1 }, Refused(Refusal::NoRoom)),
-        (Publish { p: 0, lo: 0, hi: 0 }, Published),
-        (Poll { h: 0, max: 8 }, batch(0, 1, true)),
-        (Claim { p: 0, n: 1 }, Refused(Refusal::NoRoom)),
-        (Complete { h: 0, upto: 1 }, Completed),
-        (Claim { p: 0, n: 1 }, Claimed { lo: 1, hi: 1 }),
+        (Claim(0, 1), Claimed(0, 0)),
+        (Write(0, 0, 7), Written),
+        (Claim(0, 1), Refused(NoRoom)),
+        (Publish(0, 0, 0), Published),
+        (Poll(0, 8), Batch(0, 1, true)),
+        (Claim(0, 1), Refused(NoRoom)),
+        (Complete(0, 1), Completed),
+        (Claim(0, 1), Claimed(1, 1)),
     ],
-    values: &[word(7)],
+    values: &[7],
 };
 
 const GAP_BETWEEN_PRODUCERS: Run = Run {
@@ -69,17 +61,17 @@ const GAP_BETWEEN_PRODUCERS: Run = Run {
     mode: Mode::Multi(2),
     limit: MAX_LIMIT,
     rows: &[
-        (Claim { p: 0, n: 1 }, Claimed { lo: 0, hi: 0 }),
-        (Claim { p: 1, n: 2 }, Claimed { lo: 1, hi: 2 }),
-        (write(1, 1, 5), Written),
-        (write(1, 2, 6), Written),
-        (Publish { p: 1, lo: 1, hi: 2 }, Published),
-        (Poll { h: 0, max: 8 }, Gating),
-        (write(0, 0, 4), Written),
-        (Publish { p: 0, lo: 0, hi: 0 }, Published),
-        (Poll { h: 0, max: 8 }, batch(0, 3, true)),
+        (Claim(0, 1), Claimed(0, 0)),
+        (Claim(1, 2), Claimed(1, 2)),
+        (Write(1, 1, 5), Written),
+        (Write(1, 2, 6), Written),
+        (Publish(1, 1, 2), Published),
+        (Poll(0, 8), Gating),
+        (Write(0, 0, 4), Written),
+        (Publish(0, 0, 0), Published),
+        (Poll(0, 8), Batch(0, 3, true)),
     ],
-    values: &[word(4), word(5), word(6)],
+    values: &[4, 5, 6],
 };
 
 const CHAIN_OF_TWO: Run = Run {
@@ -88,16 +80,16 @@ const CHAIN_OF_TWO: Run = Run {
     mode: Mode::Single,
     limit: MAX_LIMIT,
     rows: &[
-        (Claim { p: 0, n: 1 }, Claimed { lo: 0, hi: 0 }),
-        (write(0, 0, 9), Written),
-        (Publish { p: 0, lo: 0, hi: 0 }, Published),
-        (Poll { h: 1, max: 8 }, Gating),
-        (Poll { h: 0, max: 8 }, batch(0, 1, true)),
-        (Poll { h: 1, max: 8 }, Gating),
-        (Complete { h: 0, upto: 1 }, Completed),
-        (Poll { h: 1, max: 8 }, batch(0, 1, true)),
+        (Claim(0, 1), Claimed(0, 0)),
+        (Write(0, 0, 9), Written),
+        (Publish(0, 0, 0), Published),
+        (Poll(1, 8), Gating),
+        (Poll(0, 8), Batch(0, 1, true)),
+        (Poll(1, 8), Gating),
+        (Complete(0, 1), Completed),
+        (Poll(1, 8), Batch(0, 1, true)),
     ],
-    values: &[word(9), word(9)],
+    values: &[9, 9],
 };
 
 const DIAMOND_ROOM: Run = Run {
@@ -106,20 +98,20 @@ const DIAMOND_ROOM: Run = Run {
     mode: Mode::Single,
     limit: MAX_LIMIT,
     rows: &[
-        (Claim { p: 0, n: 2 }, Claimed { lo: 0, hi: 1 }),
-        (write(0, 0, 10), Written),
-        (write(0, 1, 11), Written),
-        (Publish { p: 0, lo: 0, hi: 1 }, Published),
-        (Poll { h: 0, max: 8 }, batch(0, 2, true)),
-        (Poll { h: 1, max: 8 }, batch(0, 2, true)),
-        (Complete { h: 0, upto: 2 }, Completed),
-        (Complete { h: 1, upto: 2 }, Completed),
-        (Poll { h: 2, max: 8 }, batch(0, 2, true)),
-        (Complete { h: 2, upto: 1 }, Completed),
-        (Claim { p: 0, n: 2 }, Refused(Refusal::NoRoom)),
-        (Claim { p: 0, n: 1 }, Claimed { lo: 2, hi: 2 }),
+        (Claim(0, 2), Claimed(0, 1)),
+        (Write(0, 0, 10), Written),
+        (Write(0, 1, 11), Written),
+        (Publish(0, 0, 1), Published),
+        (Poll(0, 8), Batch(0, 2, true)),
+        (Poll(1, 8), Batch(0, 2, true)),
+        (Complete(0, 2), Completed),
+        (Complete(1, 2), Completed),
+        (Poll(2, 8), Batch(0, 2, true)),
+        (Complete(2, 1), Completed),
+        (Claim(0, 2), Refused(NoRoom)),
+        (Claim(0, 1), Claimed(2, 2)),
     ],
-    values: &[word(10), word(11), word(10), word(11), word(10), word(11)],
+    values: &[10, 11, 10, 11, 10, 11],
 };
 
 const BAD_COUNTS: Run = Run {
@@ -128,12 +120,12 @@ const BAD_COUNTS: Run = Run {
     mode: Mode::Single,
     limit: MAX_LIMIT,
     rows: &[
-        (Claim { p: 0, n: 5 }, Refused(Refusal::BadCount)),
-        (Claim { p: 0, n: 0 }, Refused(Refusal::BadCount)),
-        (Claim { p: 1, n: 1 }, Refused(Refusal::NoProducer)),
-        (Poll { h: 1, max: 1 }, Refused(Refusal::NoHandler)),
-        (Poll { h: 0, max: 0 }, Refused(Refusal::BadCount)),
-        (Poll { h: 0, max: 1 }, Idle),
+        (Claim(0, 5), Refused(BadCount)),
+        (Claim(0, 0), Refused(BadCount)),
+        (Claim(1, 1), Refused(NoProducer)),
+        (Poll(1, 1), Refused(NoHandler)),
+        (Poll(0, 0), Refused(BadCount)),
+        (Poll(0, 1), Idle),
     ],
     values: &[],
 };
@@ -144,9 +136,9 @@ const LIMIT_OF_SEQUENCES: Run = Run {
     mode: Mode::Single,
     limit: 3,
     rows: &[
-        (Claim { p: 0, n: 3 }, Claimed { lo: 0, hi: 2 }),
-        (Claim { p: 0, n: 1 }, Refused(Refusal::Exhausted)),
-        (Claim { p: 0, n: 2 }, Refused(Refusal::Exhausted)),
+        (Claim(0, 3), Claimed(0, 2)),
+        (Claim(0, 1), Refused(Exhausted)),
+        (Claim(0, 2), Refused(Exhausted)),
     ],
     values: &[],
 };
@@ -157,20 +149,17 @@ const REFUSED_PRODUCERS: Run = Run {
     mode: Mode::Multi(2),
     limit: MAX_LIMIT,
     rows: &[
-        (Claim { p: 0, n: 1 }, Claimed { lo: 0, hi: 0 }),
-        (Publish { p: 0, lo: 0, hi: 0 }, Refused(Refusal::NotWritten)),
-        (write(0, 0, 3), Written),
-        (Publish { p: 1, lo: 0, hi: 0 }, Refused(Refusal::NotClaimed)),
-        (Publish { p: 0, lo: 0, hi: 0 }, Published),
-        (
-            Publish { p: 0, lo: 0, hi: 0 },
-            Refused(Refusal::AlreadyPublished),
-        ),
-        (write(0, 0, 4), Refused(Refusal::AlreadyPublished)),
-        (write(0, 1, 4), Refused(Refusal::NotClaimed)),
-        (Poll { h: 0, max: 8 }, batch(0, 1, true)),
+        (Claim(0, 1), Claimed(0, 0)),
+        (Publish(0, 0, 0), Refused(NotWritten)),
+        (Write(0, 0, 3), Written),
+        (Publish(1, 0, 0), Refused(NotClaimed)),
+        (Publish(0, 0, 0), Published),
+        (Publish(0, 0, 0), Refused(AlreadyPublished)),
+        (Write(0, 0, 4), Refused(AlreadyPublished)),
+        (Write(0, 1, 4), Refused(NotClaimed)),
+        (Poll(0, 8), Batch(0, 1, true)),
     ],
-    values: &[word(3)],
+    values: &[3],
 };
 
 const OUT_OF_ORDER: Run = Run {
@@ -179,18 +168,18 @@ const OUT_OF_ORDER: Run = Run {
     mode: Mode::Single,
     limit: MAX_LIMIT,
     rows: &[
-        (Claim { p: 0, n: 2 }, Claimed { lo: 0, hi: 1 }),
-        (write(0, 1, 8), Written),
-        (Publish { p: 0, lo: 1, hi: 1 }, Refused(Refusal::OutOfOrder)),
-        (Publish { p: 0, lo: 0, hi: 1 }, Refused(Refusal::NotWritten)),
-        (Poll { h: 0, max: 8 }, Idle),
-        (write(0, 0, 6), Written),
-        (Publish { p: 0, lo: 0, hi: 1 }, Published),
-        (Poll { h: 0, max: 1 }, batch(0, 1, false)),
-        (Poll { h: 0, max: 1 }, batch(1, 1, true)),
-        (Poll { h: 0, max: 1 }, Idle),
+        (Claim(0, 2), Claimed(0, 1)),
+        (Write(0, 1, 8), Written),
+        (Publish(0, 1, 1), Refused(OutOfOrder)),
+        (Publish(0, 0, 1), Refused(NotWritten)),
+        (Poll(0, 8), Idle),
+        (Write(0, 0, 6), Written),
+        (Publish(0, 0, 1), Published),
+        (Poll(0, 1), Batch(0, 1, false)),
+        (Poll(0, 1), Batch(1, 1, true)),
+        (Poll(0, 1), Idle),
     ],
-    values: &[word(6), word(8)],
+    values: &[6, 8],
 };
 
 const HALT_AND_DRAIN: Run = Run {
@@ -199,18 +188,18 @@ const HALT_AND_DRAIN: Run = Run {
     mode: Mode::Multi(2),
     limit: MAX_LIMIT,
     rows: &[
-        (Claim { p: 0, n: 1 }, Claimed { lo: 0, hi: 0 }),
+        (Claim(0, 1), Claimed(0, 0)),
         (Halt, Halting),
-        (Claim { p: 0, n: 1 }, Refused(Refusal::Halted)),
-        (Claim { p: 0, n: 9 }, Refused(Refusal::BadCount)),
-        (Poll { h: 0, max: 8 }, Gating),
-        (write(0, 0, 5), Written),
-        (Publish { p: 0, lo: 0, hi: 0 }, Published),
-        (Poll { h: 0, max: 8 }, batch(0, 1, true)),
-        (Poll { h: 0, max: 8 }, Drained),
+        (Claim(0, 1), Refused(Halted)),
+        (Claim(0, 9), Refused(BadCount)),
+        (Poll(0, 8), Gating),
+        (Write(0, 0, 5), Written),
+        (Publish(0, 0, 0), Published),
+        (Poll(0, 8), Batch(0, 1, true)),
+        (Poll(0, 8), Drained),
         (Halt, Halting),
     ],
-    values: &[word(5)],
+    values: &[5],
 };
 
 const DRAINED_BY_ONE_PRODUCER: Run = Run {
@@ -219,16 +208,16 @@ const DRAINED_BY_ONE_PRODUCER: Run = Run {
     mode: Mode::Single,
     limit: MAX_LIMIT,
     rows: &[
-        (Claim { p: 0, n: 1 }, Claimed { lo: 0, hi: 0 }),
+        (Claim(0, 1), Claimed(0, 0)),
         (Halt, Halting),
-        (Claim { p: 0, n: 1 }, Refused(Refusal::Halted)),
-        (Poll { h: 0, max: 1 }, Idle),
-        (write(0, 0, 3), Written),
-        (Publish { p: 0, lo: 0, hi: 0 }, Published),
-        (Poll { h: 0, max: 1 }, batch(0, 1, true)),
-        (Poll { h: 0, max: 1 }, Drained),
+        (Claim(0, 1), Refused(Halted)),
+        (Poll(0, 1), Idle),
+        (Write(0, 0, 3), Written),
+        (Publish(0, 0, 0), Published),
+        (Poll(0, 1), Batch(0, 1, true)),
+        (Poll(0, 1), Drained),
     ],
-    values: &[word(3)],
+    values: &[3],
 };
 
 const OLDER_ROUND: Run = Run {
@@ -237,16 +226,16 @@ const OLDER_ROUND: Run = Run {
     mode: Mode::Multi(1),
     limit: MAX_LIMIT,
     rows: &[
-        (Claim { p: 0, n: 2 }, Claimed { lo: 0, hi: 1 }),
-        (write(0, 0, 1), Written),
-        (write(0, 1, 2), Written),
-        (Publish { p: 0, lo: 0, hi: 1 }, Published),
-        (Poll { h: 0, max: 8 }, batch(0, 2, true)),
-        (Complete { h: 0, upto: 2 }, Completed),
-        (Claim { p: 0, n: 2 }, Claimed { lo: 2, hi: 3 }),
-        (Poll { h: 0, max: 8 }, Gating),
+        (Claim(0, 2), Claimed(0, 1)),
+        (Write(0, 0, 1), Written),
+        (Write(0, 1, 2), Written),
+        (Publish(0, 0, 1), Published),
+        (Poll(0, 8), Batch(0, 2, true)),
+        (Complete(0, 2), Completed),
+        (Claim(0, 2), Claimed(2, 3)),
+        (Poll(0, 8), Gating),
     ],
-    values: &[word(1), word(2)],
+    values: &[1, 2],
 };
 
 const GREATEST_NUMBERS: Run = Run {
@@ -255,15 +244,15 @@ const GREATEST_NUMBERS: Run = Run {
     mode: Mode::Single,
     limit: MAX_LIMIT,
     rows: &[
-        (Claim { p: 0, n: 1 }, Claimed { lo: 0, hi: 0 }),
-        (write(0, 0, u64::MAX), Written),
-        (Publish { p: 0, lo: 0, hi: 0 }, Published),
-        (Poll { h: 0, max: 1 }, batch(0, 1, true)),
-        (Complete { h: 0, upto: 2 }, Refused(Refusal::NotTaken)),
-        (Complete { h: 0, upto: 1 }, Completed),
-        (Complete { h: 0, upto: 0 }, Refused(Refusal::Behind)),
+        (Claim(0, 1), Claimed(0, 0)),
+        (Write(0, 0, u64::MAX), Written),
+        (Publish(0, 0, 0), Published),
+        (Poll(0, 1), Batch(0, 1, true)),
+        (Complete(0, 2), Refused(NotTaken)),
+        (Complete(0, 1), Completed),
+        (Complete(0, 0), Refused(Behind)),
     ],
-    values: &[word(u64::MAX)],
+    values: &[u64::MAX],
 };
 
 const A_CHAIN_RETIRES_FROM_ITS_END: Run = Run {
@@ -272,22 +261,22 @@ const A_CHAIN_RETIRES_FROM_ITS_END: Run = Run {
     mode: Mode::Single,
     limit: MAX_LIMIT,
     rows: &[
-        (Claim { p: 0, n: 2 }, Claimed { lo: 0, hi: 1 }),
-        (write(0, 0, 1), Written),
-        (write(0, 1, 2), Written),
-        (Publish { p: 0, lo: 0, hi: 1 }, Published),
-        (Poll { h: 0, max: 8 }, batch(0, 2, true)),
-        (Complete { h: 0, upto: 2 }, Completed),
-        (Claim { p: 0, n: 1 }, Refused(Refusal::NoRoom)),
-        (Retire { h: 0 }, Refused(Refusal::NotFinal)),
-        (Retire { h: 1 }, Retired),
-        (Claim { p: 0, n: 2 }, Claimed { lo: 2, hi: 3 }),
-        (Poll { h: 1, max: 8 }, Refused(Refusal::Retired)),
-        (Retire { h: 1 }, Refused(Refusal::Retired)),
-        (Retire { h: 0 }, Refused(Refusal::LastHandler)),
-        (Retire { h: 2 }, Refused(Refusal::NoHandler)),
+        (Claim(0, 2), Claimed(0, 1)),
+        (Write(0, 0, 1), Written),
+        (Write(0, 1, 2), Written),
+        (Publish(0, 0, 1), Published),
+        (Poll(0, 8), Batch(0, 2, true)),
+        (Complete(0, 2), Completed),
+        (Claim(0, 1), Refused(NoRoom)),
+        (Retire(0), Refused(NotFinal)),
+        (Retire(1), Retired),
+        (Claim(0, 2), Claimed(2, 3)),
+        (Poll(1, 8), Refused(Refusal::Retired)),
+        (Retire(1), Refused(Refusal::Retired)),
+        (Retire(0), Refused(LastHandler)),
+        (Retire(2), Refused(NoHandler)),
     ],
-    values: &[word(1), word(2)],
+    values: &[1, 2],
 };
 
 const A_CLAIM_WAITS_NO_LONGER_FOR_A_RETIRED_HANDLER: Run = Run {
@@ -296,16 +285,16 @@ const A_CLAIM_WAITS_NO_LONGER_FOR_A_RETIRED_HANDLER: Run = Run {
     mode: Mode::Single,
     limit: MAX_LIMIT,
     rows: &[
-        (Claim { p: 0, n: 1 }, Claimed { lo: 0, hi: 0 }),
-        (write(0, 0, 9), Written),
-        (Publish { p: 0, lo: 0, hi: 0 }, Published),
-        (Poll { h: 1, max: 1 }, batch(0, 1, true)),
-        (Complete { h: 1, upto: 1 }, Completed),
-        (Claim { p: 0, n: 1 }, Refused(Refusal::NoRoom)),
-        (Retire { h: 0 }, Retired),
-        (Claim { p: 0, n: 1 }, Claimed { lo: 1, hi: 1 }),
+        (Claim(0, 1), Claimed(0, 0)),
+        (Write(0, 0, 9), Written),
+        (Publish(0, 0, 0), Published),
+        (Poll(1, 1), Batch(0, 1, true)),
+        (Complete(1, 1), Completed),
+        (Claim(0, 1), Refused(NoRoom)),
+        (Retire(0), Retired),
+        (Claim(0, 1), Claimed(1, 1)),
     ],
-    values: &[word(9)],
+    values: &[9],
 };
 
 const COUNTS_AND_THE_LAST_HANDLER: Run = Run {
@@ -314,16 +303,16 @@ const COUNTS_AND_THE_LAST_HANDLER: Run = Run {
     mode: Mode::Single,
     limit: MAX_LIMIT,
     rows: &[
-        (Claim { p: 0, n: 2 }, Claimed { lo: 0, hi: 1 }),
-        (write(0, 0, 7), Written),
-        (Publish { p: 0, lo: 0, hi: 1 }, Refused(Refusal::NotWritten)),
-        (Publish { p: 0, lo: 0, hi: 0 }, Published),
-        (Poll { h: 0, max: 2 }, batch(0, 1, true)),
-        (Complete { h: 0, upto: 1 }, Completed),
-        (Retire { h: 0 }, Refused(Refusal::LastHandler)),
+        (Claim(0, 2), Claimed(0, 1)),
+        (Write(0, 0, 7), Written),
+        (Publish(0, 0, 1), Refused(NotWritten)),
+        (Publish(0, 0, 0), Published),
+        (Poll(0, 2), Batch(0, 1, true)),
+        (Complete(0, 1), Completed),
+        (Retire(0), Refused(LastHandler)),
         (Halt, Halting),
     ],
-    values: &[word(7)],
+    values: &[7],
 };
 
 const BATCHES_OF_A_PROCESSOR: Run = Run {
@@ -332,43 +321,36 @@ const BATCHES_OF_A_PROCESSOR: Run = Run {
     mode: Mode::Single,
     limit: MAX_LIMIT,
     rows: &[
-        (Claim { p: 0, n: 3 }, Claimed { lo: 0, hi: 2 }),
-        (write(0, 0, 4), Written),
-        (write(0, 1, 5), Written),
-        (write(0, 2, 6), Written),
-        (Publish { p: 0, lo: 0, hi: 2 }, Published),
-        (Poll { h: 0, max: 2 }, batch(0, 2, false)),
-        (Complete { h: 0, upto: 2 }, Completed),
-        (Poll { h: 0, max: 2 }, batch(2, 1, true)),
-        (Complete { h: 0, upto: 3 }, Completed),
-        (Poll { h: 0, max: 2 }, Idle),
+        (Claim(0, 3), Claimed(0, 2)),
+        (Write(0, 0, 4), Written),
+        (Write(0, 1, 5), Written),
+        (Write(0, 2, 6), Written),
+        (Publish(0, 0, 2), Published),
+        (Poll(0, 2), Batch(0, 2, false)),
+        (Complete(0, 2), Completed),
+        (Poll(0, 2), Batch(2, 1, true)),
+        (Complete(0, 3), Completed),
+        (Poll(0, 2), Idle),
     ],
-    values: &[word(4), word(5), word(6)],
+    values: &[4, 5, 6],
 };
 
-/// All runs, each with its name.
-pub const RUNS: [(&str, Run); 17] = [
-    ("first event", FIRST_EVENT),
-    ("ring of one", RING_OF_ONE),
-    ("gap between producers", GAP_BETWEEN_PRODUCERS),
-    ("chain of two", CHAIN_OF_TWO),
-    ("diamond room", DIAMOND_ROOM),
-    ("bad counts", BAD_COUNTS),
-    ("limit of sequences", LIMIT_OF_SEQUENCES),
-    ("refused producers", REFUSED_PRODUCERS),
-    ("out of order", OUT_OF_ORDER),
-    ("halt and drain", HALT_AND_DRAIN),
-    ("drained by one producer", DRAINED_BY_ONE_PRODUCER),
-    ("older round", OLDER_ROUND),
-    ("greatest numbers", GREATEST_NUMBERS),
-    (
-        "a chain retires from its end",
-        A_CHAIN_RETIRES_FROM_ITS_END,
-    ),
-    (
-        "a claim waits no longer for a retired handler",
-        A_CLAIM_WAITS_NO_LONGER_FOR_A_RETIRED_HANDLER,
-    ),
-    ("counts and the last handler", COUNTS_AND_THE_LAST_HANDLER),
-    ("batches of a processor", BATCHES_OF_A_PROCESSOR),
+pub const RUNS: [Run; 17] = [
+    FIRST_EVENT,
+    RING_OF_ONE,
+    GAP_BETWEEN_PRODUCERS,
+    CHAIN_OF_TWO,
+    DIAMOND_ROOM,
+    BAD_COUNTS,
+    LIMIT_OF_SEQUENCES,
+    REFUSED_PRODUCERS,
+    OUT_OF_ORDER,
+    HALT_AND_DRAIN,
+    DRAINED_BY_ONE_PRODUCER,
+    OLDER_ROUND,
+    GREATEST_NUMBERS,
+    A_CHAIN_RETIRES_FROM_ITS_END,
+    A_CLAIM_WAITS_NO_LONGER_FOR_A_RETIRED_HANDLER,
+    COUNTS_AND_THE_LAST_HANDLER,
+    BATCHES_OF_A_PROCESSOR,
 ];

@@ -11,8 +11,8 @@ use std::process::Abort;
 use std::sync::Wait;
 use std::sync::atomic::{AtomicU64, Ordering};
 use std::test::Fail;
-use std::thread::Threads;
 use std::thread;
+use std::thread::Threads;
 
 // Ten deposits, on the accounts 1 to 10.
 const TEN: &str =

@@ -1,5 +1,6 @@
 //! Replays on one thread: worked files, files at fault, and the same bytes at every size.
 
+use crate::drive::Row;
 use crate::ended::{fault_line, status_of};
 use crate::replay::files::{File, OF_ONE_PRODUCER, OF_TWO_PRODUCERS, text_of};
 use crate::replay::ways::by_plain;
