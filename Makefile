@@ -47,7 +47,7 @@ help:
 	@echo 'On a machine of four processors:'
 	@echo
 	@echo '  make                      proves and builds ./disruptor and runs the shipped example:'
-	@echo '                            a quarter of an hour from nothing, then seconds to minutes'
+	@echo '                            up to twenty minutes from nothing, then seconds to minutes'
 	@echo '  make check CRATE=dr_core  proves one crate over what is kept: seconds, 1 to 5 minutes from nothing'
 	@echo '  make test                 the whole gate, from nothing: up to an hour and a half'
 	@echo '  make bench                events a second of core and ring: some minutes, and many where other work runs'

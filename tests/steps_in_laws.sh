@@ -1,9 +1,12 @@
 #!/usr/bin/env bash
-# Every load and store of a ring's words is a step of its module `laws`, one a function. A load
-# that nobody remembers changes nothing that a contract sees, so it is looked for here.
+# Every load and store of a ring's words is a step of its module `laws`, one a function, and a
+# function that stores says so in its contract. A load that nobody remembers, and a store of what
+# a word has already, change nothing that a contract sees, so they are looked for here.
 set -u
 cd "$(dirname "$0")/.." || exit 1
 calls='[.:](load|store|peek|swap|exchange|compare_exchange|fetch_[a-z]+|load_new_seat|swap_new_seat)(_with)?[(:]'
+
+stores='[.:](store|swap|exchange|compare_exchange|fetch_[a-z]+|swap_new_seat)(_with)?[(:]'
 
 others_in() {
     local src=$1
@@ -12,11 +15,15 @@ others_in() {
         FNR == 1 || /(^| )fn / { steps = 0 }
         { steps += gsub(calls, "&") }
         steps > 1 { print FILENAME ":" FNR ":" $0; steps = 1 }' {} +
+    find "$src/laws" "$src/laws.rt" -name '*.rt' -exec awk -v stores="$stores" '
+        FNR == 1 || /(^| )fn / { told = 0 }
+        /HasStored/ { told = 1 }
+        $0 ~ stores && !told { print FILENAME ":" FNR ":" $0 }' {} +
 }
 
 others=$(others_in crates/dr_ring/src; others_in crates/dr_senders/src)
 if [ -n "$others" ]; then
-    printf 'a load or store that is no step of the laws:\n%s\n' "$others"
+    printf 'a load or store that is no step of the laws, or a store that its contract does not tell:\n%s\n' "$others"
     exit 1
 fi
 echo 'each load and store of a ring is a step of its laws'

@@ -264,7 +264,7 @@ def run(top, asked, is_alone, told):
             told(f"{it} is no crate with edits")
             return 2
     names = [it for it in names if not asked or it in asked]
-    said = prove.prove_all(top, names, told=told)
+    said = prove.prove_all(top, names, lambda it: ["check" if prove.is_program(top, it) else "lib"], told)
     if said is not None:
         told(f"{said[-3000:]}\n0 refused, 1 not")
         return 1

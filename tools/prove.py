@@ -23,8 +23,9 @@ TOP = os.path.dirname(os.path.dirname(os.path.abspath(__file__)))
 SOURCES = ("src", "specs", "proofs")
 # What rt says of each thing that it proved or read, which nobody wants to see where something failed.
 QUIET = re.compile(r": proved$|^checked |^(library|statements|crate|logic|axioms|by-macro:) |^rt: ")
-# A check may take as much memory, in kB.
+# A check may take as much memory, in kB, and one of its jobs as much.
 MEMORY = 4_000_000
+JOB_MEMORY = 2_000_000
 
 
 def crates_of(top):
@@ -43,10 +44,18 @@ def crates_of(top):
     return {name: below(name) for name in uses}
 
 
+def memory():
+    """Returns how much memory is free, in kB."""
+    return int(re.search(r"MemAvailable:\s+(\d+)", open("/proc/meminfo").read())[1])
+
+
+def is_program(top, name):
+    return os.path.isfile(f"{top}/crates/{name}/src/main.rt")
+
+
 def lanes():
     """Returns how many checks fit side by side, by processors and memory."""
-    free = int(re.search(r"MemAvailable:\s+(\d+)", open("/proc/meminfo").read())[1])
-    return max(min(len(os.sched_getaffinity(0)), free // MEMORY), 1)
+    return max(min(len(os.sched_getaffinity(0)), memory() // MEMORY), 1)
 
 
 def link(one, other):
@@ -70,12 +79,12 @@ def copy_of(top, room, names, below):
                 shutil.copytree(f"{top}/crates/{it}/{part}", f"{room}/crates/{it}/{part}", copy_function=link)
 
 
-def prove(top, name, below, jobs, words):
+def prove(top, name, below, jobs, priority, words):
     """Proves one crate in a copy, puts what it left in its place, and returns the status and what `rt` said."""
     with tempfile.TemporaryDirectory(prefix="prove-") as room:
         copy_of(top, room, [name], below)
         folder = f"{room}/crates/{name}"
-        call = ["rt", *words[:1], "--jobs", str(jobs), *words[1:]]
+        call = ["nice", "-n", str(priority), "rt", *words[:1], "--jobs", str(jobs), *words[1:]]
         ran = subprocess.run(call, cwd=folder, stdin=subprocess.DEVNULL, stdout=subprocess.PIPE, stderr=subprocess.STDOUT)
         if os.path.isdir(f"{folder}/out"):
             shutil.rmtree(f"{top}/crates/{name}/out", ignore_errors=True)
@@ -109,10 +118,13 @@ class Work:
         return max([self.path[it] for it in self.path if name in self.below[it]], default=0)
 
     def ready(self):
-        """Returns the crates to begin now, that with the longest chain first. Those that can wait until it is done, wait."""
+        """Returns the crates that can begin now, that with the longest chain first."""
         found = [it for it in self.left if all(one in self.done for one in self.below[it])]
-        found.sort(key=lambda it: -self.path[it])
-        return [it for it in found if self.path[it] > self.above(found[0])]
+        return sorted(found, key=lambda it: -self.path[it])
+
+    def is_longest(self, name):
+        """Whether no crate that is not done begins a longer chain: the whole takes as long as this one."""
+        return all(self.path[it] <= self.path[name] for it in self.all if it not in self.done)
 
     def minutes_left(self):
         """Returns about how long the rest takes, at the speed of what is done."""
@@ -124,16 +136,19 @@ class Work:
 def prove_all(top, names, words=lambda name: ["lib"], told=print, log=None):
     """Proves the crates and those below them, and returns what `rt` said of the first that was not proved, or None."""
     work, most, running = Work(top, names), lanes(), {}
-    with ThreadPoolExecutor(most) as pool:
+    with ThreadPoolExecutor(2 * most) as pool:
         while work.left or running:
-            ready = work.ready()
-            idle = most - sum(jobs for _, jobs, _ in running.values())
-            for at, name in enumerate(ready[:idle]):
-                # (what no other crate can use yet goes to those that are ready)
-                jobs = max(idle // (len(ready) - at), 1)
-                idle -= jobs
+            for name in work.ready():
+                # The longest chain has every processor, and first; others have what it leaves.
+                is_longest = work.is_longest(name)
+                used = sum(jobs for _, jobs, _ in running.values())
+                idle = min(2 * most, memory() // JOB_MEMORY + used) - used
+                jobs = min(most if is_longest else max(most // 2, 1), idle)
+                if jobs < 1 and running:
+                    break
                 work.left.remove(name)
-                running[pool.submit(prove, top, name, work.below[name], jobs, words(name))] = name, jobs, time.time()
+                run = pool.submit(prove, top, name, work.below[name], max(jobs, 1), 0 if is_longest else 5, words(name))
+                running[run] = name, jobs, time.time()
             for it in wait(running, return_when=FIRST_COMPLETED).done:
                 name, _, began = running.pop(it)
                 status, said = it.result()
@@ -161,8 +176,7 @@ def main():
         parser.error(f"crates.txt has no crate {unknown[0]}")
 
     def words(name):
-        is_program = os.path.isfile(f"{TOP}/crates/{name}/src/main.rt")
-        return ["run", "--", *given[cut + 1 :]] if is_program else ["lib"]
+        return ["run", "--", *given[cut + 1 :]] if is_program(TOP, name) else ["lib"]
 
     with open(asked.log, "w", encoding="utf-8") as log:
         said = prove_all(TOP, asked.crates, words, lambda it: print(it, flush=True), log)

@@ -2,6 +2,9 @@
 //! goes to standard output, and the line of a fault to standard error.
 #![tactic(auto)]
 
+ghost use Rattle.std.specs.Prelude.{◌≡◌, Some};
+ghost use Rattle.disruptor.specs.Faults.{program_line, program_status};
+
 use dr_command_line::{By, LineFault, Plan, plan};
 use dr_drive::drive;
 use dr_replay::{Counted, FileFault, ReplayFault, replay_lock, replay_plain, replay_ring};
@@ -12,25 +15,36 @@ use std::io::{BufWriter, Write};
 use std::process::ExitCode;
 use std::sync::Wait;
 use std::thread::Threads;
-use std::{env, io};
-use thiserror::Error;
+use std::{env, fmt, io};
 
-/// Why the program ends early.
-#[derive(Debug, Drop, Error)]
+/// Why the program ends early. Its text is the line that the program prints.
+#[derive(Debug, Drop)]
 enum Fault {
     /// The command line is refused.
-    #[error("{0}")]
     Line(LineFault),
     /// The help could not be printed.
-    #[error("cannot write")]
     Help,
     /// A file, or a worker that took part in its run.
-    #[error("{0}")]
     File(ReplayFault),
 }
 
+impl fmt::Display for Fault {
+    ghost output = { λ fault. Some (program_line fault) };
+
+    fn fmt<W: fmt::Write>(&self, f: &mut fmt::Formatter<W>) -> fmt::Result {
+        match self {
+            Fault::Line(refused) => write!(f, "{refused}"),
+            Fault::Help => write!(f, "cannot write"),
+            Fault::File(fault) => write!(f, "{fault}"),
+        }
+    }
+}
+
 impl Fault {
-    fn status(&self) -> u8 {
+    /// The status with which the program ends.
+    fn status(&self) -> u8
+        ensures { result ≡ program_status self.now }
+    {
         match self {
             Fault::Line(fault) => fault.status(),
             Fault::Help => 4,

@@ -12,7 +12,10 @@ use Rattle.disruptor_bench.specs.contracts.behind_lock.workers.Task as Task
 pub event_sync : IsSync Event.the_row
 event_sync = search sendable depth 30
 
-pub ruleset shares = (sendable, std.sync, event_sync, shared_sync)
+pub event_send : IsSend Event.the_row
+event_send = search sendable depth 30
+
+pub ruleset shares = (sendable, std.sync, event_sync, event_send, shared_sync)
 
 pub around_sync : (a : NamedLft) (L R : RattleType) (g : Ghosts L.Denot) → IsSync L → IsSync R → IsSync (Around.the_row a L R g)
 around_sync a L R g ledger workers = search shares depth 60 fits 20000

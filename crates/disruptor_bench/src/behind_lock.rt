@@ -32,7 +32,7 @@ fn script(alloc: Global, producers: u64) -> Result<Vec<Event>, Fault> {
 
 fn ends<L: Ledger>(
     alloc: Global,
-    shared: &mut Shared<L>,
+    shared: &mut Shared<Event, L>,
     count: usize,
 ) -> Result<Vec<End<L>>, Fault> {
     let mut ends = Vec::with_capacity(alloc, count)?;
@@ -45,7 +45,12 @@ fn ends<L: Ledger>(
 /// A history with room for all of the round, so that no locked call needs memory: a claim, a write and a
 /// publication for each event, and for each handler a batch and a completion; then the halt, and that each handler
 /// is told `Drained`.
-fn open(alloc: Global, order: &Order, producers: u64, events: usize) -> Result<Recorded, Fault> {
+fn open(
+    alloc: Global,
+    order: &Order,
+    producers: u64,
+    events: usize,
+) -> Result<Recorded<Event>, Fault> {
     let graph = order.topology.shape.graph(alloc)?;
     let handlers = graph.len();
     let taken = events.saturating_mul(handlers);
@@ -54,13 +59,22 @@ fn open(alloc: Global, order: &Order, producers: u64, events: usize) -> Result<R
         .saturating_add(events.saturating_mul(3));
     let entries = entries.saturating_add(handlers).saturating_add(1);
     let mode = Mode::Multi(producers);
-    Ok(Recorded::open(alloc, graph, order.size, mode, MAX_LIMIT, entries, taken)?)
+    Ok(Recorded::open(
+        alloc,
+        graph,
+        order.size,
+        mode,
+        MAX_LIMIT,
+        Event::NONE,
+        entries,
+        taken,
+    )?)
 }
 
 /// Checks that all ends are back and what the handlers added up.
 fn check<L: Ledger>(
     alloc: Global,
-    shared: Shared<L>,
+    shared: Shared<Event, L>,
     joined: Joined<L>,
     total: u64,
 ) -> Result<(), Fault> {
@@ -97,7 +111,7 @@ fn measured<L: Ledger + Send + Sync, R: Clock + Threads + Wait + Sync>(
     let events = count.saturating_mul(producers);
     let recorded = open(alloc, order, producers, events as usize)?;
     let handlers = recorded.graph().len();
-    let mut shared = Shared::<L>::new(recorded, blank);
+    let mut shared = Shared::<Event, L>::new(recorded, blank);
     let parties = Parties {
         halter: shared.end().ok_or(Fault::Ends)?,
         producers: ends(alloc, &mut shared, producers as usize)?,

@@ -39,7 +39,7 @@ impl Lap {
 /// A core with its handlers, and the room that their turns take events to.
 #[derive(Drop)]
 pub struct OneThread {
-    core: Core,
+    core: Core<Event>,
     sums: Vec<Sum>,
     room: Vec<Event>,
     lap: Lap,
@@ -50,7 +50,14 @@ impl OneThread {
     pub fn open(alloc: Global, order: &Order) -> Result<OneThread, Fault> {
         let graph = order.topology.shape.graph(alloc)?;
         let handlers = graph.len();
-        let core = Core::open(alloc, graph, order.size, Mode::Single, MAX_LIMIT)?;
+        let core = Core::open(
+            alloc,
+            graph,
+            order.size,
+            Mode::Single,
+            MAX_LIMIT,
+            Event::NONE,
+        )?;
         let sums = vec![in alloc; Sum { total: 0 }; handlers]?;
         let room = vec![in alloc; Event::NONE; slots(order.size)]?;
         Ok(OneThread {

@@ -9,7 +9,7 @@ pub struct Sum {
     pub total: u64,
 }
 
-impl Handler for Sum {
+impl Handler<Event> for Sum {
     ghost use Rattle.std.specs.Prelude.{◌≡◌, ◌+◌, ◌%◌, ◌^◌};
 
     ghost goes = { λ old event s end new. new.total ≡ (old.total + event.first) % 2 ^ 64 };

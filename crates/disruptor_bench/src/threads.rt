@@ -22,7 +22,7 @@ pub type Handler = JoinHandle<Result<u64, Fault>>;
 pub const MOST_AT_ONCE: u64 = 1024;
 
 /// Adds up what is received, until the ring is drained.
-fn receive<O: Outlet + Drop>(mut receiver: O, mut room: Vec<Event>) -> Result<u64, Fault> {
+fn receive<O: Outlet<Event> + Drop>(mut receiver: O, mut room: Vec<Event>) -> Result<u64, Fault> {
     let mut total = 0u64;
     let mut waiting = Waiting::new(room.len() as u64);
     for _ in 0..MOST_TURNS {
@@ -49,7 +49,7 @@ fn sum_of(room: &[Event], count: u64) -> u64 {
 }
 
 /// Claims once there is room.
-fn claim<I: Inlet>(sender: &mut I, n: u64) -> Result<Claimed, Fault> {
+fn claim<I: Inlet<Event>>(sender: &mut I, n: u64) -> Result<Claimed, Fault> {
     let mut waiting = Waiting::new(n);
     for _ in 0..MOST_TURNS {
         match sender.try_claim(n) {
@@ -63,7 +63,7 @@ fn claim<I: Inlet>(sender: &mut I, n: u64) -> Result<Claimed, Fault> {
 
 /// Claims, writes and publishes once.
 #[inline]
-fn send<I: Inlet>(sender: &mut I, n: u64) -> Result<(), Fault> {
+fn send<I: Inlet<Event>>(sender: &mut I, n: u64) -> Result<(), Fault> {
     let claimed = claim(sender, n)?;
     for k in 0..n {
         let s = claimed.lo.wrapping_add(k);
@@ -73,7 +73,7 @@ fn send<I: Inlet>(sender: &mut I, n: u64) -> Result<(), Fault> {
 }
 
 /// Sends a stretch of events, and answers how many there were.
-pub fn stretch<I: Inlet>(sender: &mut I, n: u64) -> Result<u64, Fault> {
+pub fn stretch<I: Inlet<Event>>(sender: &mut I, n: u64) -> Result<u64, Fault> {
     let claims = STRETCH.checked_div(n).unwrap_or(1);
     for _ in 0..claims {
         send(sender, n)?;
@@ -96,7 +96,7 @@ fn send_for(clock: &impl Clock, sender: &mut Sender, n: u64, time: Duration) -> 
 }
 
 /// Starts a thread for each handler.
-pub fn start<O: Outlet + Drop + Send + 'static>(
+pub fn start<O: Outlet<Event> + Drop + Send + 'static>(
     rt: &impl Threads,
     alloc: Global,
     receivers: Vec<O>,

@@ -37,7 +37,7 @@ receiving_send = search parts depth 60 fits 20000
 pub signs_sync : IsSync Signs.the_row
 signs_sync = search parts depth 60 fits 20000
 
-pub ruleset shares = (sendable, std.sync, signs_sync, shared_sync)
+pub ruleset shares = (sendable, std.sync, signs_sync, event_send, shared_sync)
 
 pub around_sync : (a : NamedLft) (L R : RattleType) (g : Ghosts L.Denot) → IsSync L → IsSync R → IsSync (Around.the_row a L R g)
 around_sync a L R g ledger workers = search shares depth 60 fits 20000

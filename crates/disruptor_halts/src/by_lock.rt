@@ -23,7 +23,7 @@ use workers::{Around, Handler, Joined, Parties, Producer, exchange};
 
 fn producers<L: Ledger>(
     alloc: Global,
-    shared: &mut Shared<L>,
+    shared: &mut Shared<Event, L>,
     mode: Mode,
     size: u64,
     random: &mut Random,
@@ -46,7 +46,7 @@ fn producers<L: Ledger>(
 
 fn handlers<L: Ledger>(
     alloc: Global,
-    shared: &mut Shared<L>,
+    shared: &mut Shared<Event, L>,
     count: usize,
     random: &mut Random,
 ) -> Result<Vec<Handler<L>>, Fault> {
@@ -100,7 +100,11 @@ fn views<'a>(alloc: Global, scripts: &'a [Vec<Event>]) -> Result<Vec<&'a [Event]
 }
 
 /// Compares what each handler received with the one list of the audit.
-fn audited<L: Ledger>(alloc: Global, shared: Shared<L>, joined: Joined<L>) -> Result<Told, Fault> {
+fn audited<L: Ledger>(
+    alloc: Global,
+    shared: Shared<Event, L>,
+    joined: Joined<L>,
+) -> Result<Told, Fault> {
     let gathered = gather(alloc, joined)?;
     let Ok(recorded) = finish(shared, gathered.ends) else {
         return Err(Fault::Ends);
@@ -129,8 +133,8 @@ fn round_over<L: Ledger + Send + Sync, R: Threads + Wait + Sync>(
         producers => Mode::Multi(producers),
     };
     let size = Size::new(slots)?;
-    let recorded = Recorded::open(alloc, graph, size, mode, MAX_LIMIT, 0, 0)?;
-    let mut shared = Shared::<L>::new(recorded, blank);
+    let recorded = Recorded::open(alloc, graph, size, mode, MAX_LIMIT, Event::NONE, 0, 0)?;
+    let mut shared = Shared::<Event, L>::new(recorded, blank);
     let parties = Parties {
         producers: producers(alloc, &mut shared, mode, slots, random)?,
         handlers: handlers(alloc, &mut shared, count, random)?,

@@ -15,7 +15,7 @@ use crate::told::Told;
 use dr_core::{MAX_LIMIT, Outlet};
 use dr_ring::ring;
 use dr_senders::senders_ring;
-use dr_seq::Size;
+use dr_seq::{Event, Size};
 use ends::{Halting, Producing};
 use std::alloc::{AllocError, Global};
 use std::sync::Wait;
@@ -25,7 +25,7 @@ use workers::{Around, Handler, Parties, Producer, exchange};
 /// The most senders of a ring.
 const MOST_SENDERS: u64 = 4;
 
-fn handlers<O: Outlet + Drop>(
+fn handlers<O: Outlet<Event> + Drop>(
     alloc: Global,
     outlets: Vec<O>,
     random: &mut Random,
@@ -64,7 +64,7 @@ fn producers<I: Producing>(
 
 /// Runs a ring with a thread for each end, and compares what each handler received with what was
 /// published.
-fn run<I: Producing, O: Outlet + Drop + Send, H: Halting, R: Threads + Wait + Sync>(
+fn run<I: Producing, O: Outlet<Event> + Drop + Send, H: Halting, R: Threads + Wait + Sync>(
     rt: &R,
     alloc: Global,
     parties: Parties<I, O, H>,

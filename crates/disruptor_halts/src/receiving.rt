@@ -45,7 +45,7 @@ impl Receiving {
     }
 
     /// Completes a part of what it took, or all of it.
-    fn complete<O: Outlet>(&mut self, outlet: &mut O, all: bool) -> Result<(), Fault> {
+    fn complete<O: Outlet<Event>>(&mut self, outlet: &mut O, all: bool) -> Result<(), Fault> {
         let open = (self.taken.len() as u64).wrapping_sub(self.completed);
         let part = if all || self.random.below(2) == 0 {
             open
@@ -68,14 +68,14 @@ impl Receiving {
     }
 
     /// A poll with some room, and at least one event's.
-    fn poll<O: Outlet>(&mut self, outlet: &mut O) -> Result<Polled, Fault> {
+    fn poll<O: Outlet<Event>>(&mut self, outlet: &mut O) -> Result<Polled, Fault> {
         let most = self.room.len();
         let offered = self.random.below(most as u64).saturating_add(1);
         let offered = most.min(offered as usize);
         Ok(outlet.poll_into(&mut self.room[..offered])?)
     }
 
-    fn turn<O: Outlet>(&mut self, outlet: &mut O, signs: &Signs) -> Result<Stretch, Fault> {
+    fn turn<O: Outlet<Event>>(&mut self, outlet: &mut O, signs: &Signs) -> Result<Stretch, Fault> {
         match self.poll(outlet)? {
             Polled::Batch { first, count, .. } => {
                 self.keep(first, count)?;
@@ -100,7 +100,11 @@ impl Receiving {
     }
 
     /// Polls and completes for a stretch of turns, or until there is no more to take.
-    pub fn receive<O: Outlet>(&mut self, outlet: &mut O, signs: &Signs) -> Result<Stretch, Fault> {
+    pub fn receive<O: Outlet<Event>>(
+        &mut self,
+        outlet: &mut O,
+        signs: &Signs,
+    ) -> Result<Stretch, Fault> {
         for _ in 0..TURNS {
             self.random.pause();
             let stretch = self.turn(outlet, signs)?;

@@ -84,7 +84,7 @@ impl Sending {
         Ok(events)
     }
 
-    fn write<I: Inlet>(&mut self, inlet: &mut I, s: u64) -> Result<(), Fault> {
+    fn write<I: Inlet<Event>>(&mut self, inlet: &mut I, s: u64) -> Result<(), Fault> {
         let event = Event {
             first: self.number,
             second: self.sent.len() as u64,
@@ -93,7 +93,7 @@ impl Sending {
         Ok(self.sent.push(Sent { sequence: s, event })?)
     }
 
-    fn write_all<I: Inlet>(&mut self, inlet: &mut I, claimed: Claimed) -> Result<(), Fault> {
+    fn write_all<I: Inlet<Event>>(&mut self, inlet: &mut I, claimed: Claimed) -> Result<(), Fault> {
         for s in claimed.lo..claimed.hi {
             self.write(inlet, s)?;
         }
@@ -101,7 +101,7 @@ impl Sending {
     }
 
     /// Publishes a claim in two parts, of which either may come first where no order is asked for.
-    fn publish_parts<I: Inlet>(
+    fn publish_parts<I: Inlet<Event>>(
         &mut self,
         inlet: &mut I,
         low: Claimed,
@@ -114,7 +114,7 @@ impl Sending {
         Ok(inlet.publish(second.lo, second.hi)?)
     }
 
-    fn publish<I: Inlet>(&mut self, inlet: &mut I, claimed: Claimed) -> Result<(), Fault> {
+    fn publish<I: Inlet<Event>>(&mut self, inlet: &mut I, claimed: Claimed) -> Result<(), Fault> {
         let Claimed { lo, hi } = claimed;
         if lo == hi || self.random.below(2) == 0 {
             return Ok(inlet.publish(lo, hi)?);
@@ -130,7 +130,7 @@ impl Sending {
 
     /// Claims, writes and publishes for a stretch of turns, or until a claim is refused because the
     /// exchange is halted. Some claims ask for nothing, or for more than there are slots.
-    pub fn send<I: Inlet>(&mut self, inlet: &mut I) -> Result<Stretch, Fault> {
+    pub fn send<I: Inlet<Event>>(&mut self, inlet: &mut I) -> Result<Stretch, Fault> {
         for _ in 0..TURNS {
             self.random.pause();
             let count = self.random.below(self.size.saturating_add(2));

@@ -10,7 +10,7 @@ use dr_shared::{Recorded, audit};
 use std::alloc::Global;
 
 /// Producer 1 sent 5 and 6, and producer 0 then 4.
-fn sent(alloc: Global) -> Result<Recorded, Fault> {
+fn sent(alloc: Global) -> Result<Recorded<Event>, Fault> {
     let mut recorded = recorded(alloc, 0, 0)?;
     let mut out = [Event::NONE; 8];
     for command in [
@@ -30,7 +30,7 @@ fn sent(alloc: Global) -> Result<Recorded, Fault> {
 fn tell_audit<R: Print>(
     rt: &R,
     alloc: Global,
-    recorded: &Recorded,
+    recorded: &Recorded<Event>,
     scripts: &[&[Event]],
 ) -> Result<(), Fault> {
     match again(rt, || Ok(audit(alloc, recorded, scripts)?)) {

@@ -12,7 +12,7 @@ pub const fn word(first: u64) -> Event {
     Event { first, second: 0 }
 }
 
-pub const fn write(p: u64, s: u64, first: u64) -> Command {
+pub const fn write(p: u64, s: u64, first: u64) -> Command<Event> {
     Write {
         p,
         s,
@@ -21,12 +21,12 @@ pub const fn write(p: u64, s: u64, first: u64) -> Command {
 }
 
 /// A core of four slots with three handlers, the third after the others.
-pub fn opened(alloc: Global, mode: Mode) -> Result<Core, Fault> {
+pub fn opened(alloc: Global, mode: Mode) -> Result<Core<Event>, Fault> {
     let size = Size::new(4)?;
-    Ok(Core::open(alloc, diamond(alloc)?, size, mode, MAX_LIMIT)?)
+    Ok(Core::open(alloc, diamond(alloc)?, size, mode, MAX_LIMIT, Event::NONE)?)
 }
 
-fn tell_core_of<R: Print>(rt: &R, core: &mut Core) -> Result<(), Fault> {
+fn tell_core_of<R: Print>(rt: &R, core: &mut Core<Event>) -> Result<(), Fault> {
     let mut out = [Event::NONE; 4];
     let claimed = core.claim(0, 3)?;
     println!(rt; "{claimed:?}")?;
@@ -50,10 +50,10 @@ pub fn tell_opened<R: Print>(rt: &R, alloc: Global) -> Result<(), Fault> {
     Ok(())
 }
 
-fn open_for_two(alloc: Global) -> Result<Core, Fault> {
+fn open_for_two(alloc: Global) -> Result<Core<Event>, Fault> {
     let graph = side_by_side(alloc, &["a"])?;
     let size = Size::new(4)?;
-    Ok(Core::open(alloc, graph, size, Mode::Multi(2), MAX_LIMIT)?)
+    Ok(Core::open(alloc, graph, size, Mode::Multi(2), MAX_LIMIT, Event::NONE)?)
 }
 
 /// A run in which producer 1 publishes first, and the handler waits at the gap that producer 0 has left.

@@ -14,7 +14,7 @@ use dr_shared::Recorded;
 use std::alloc::Global;
 
 /// The room that a command asks for.
-fn room(command: Command) -> usize
+fn room(command: Command<Event>) -> usize
     ensures { result ≡ asked command }
 {
     match command {
@@ -24,17 +24,26 @@ fn room(command: Command) -> usize
 }
 
 /// Two handlers and two producers, over four slots, with room for so many entries and events.
-pub fn recorded(alloc: Global, entries: usize, events: usize) -> Result<Recorded, Fault> {
+pub fn recorded(alloc: Global, entries: usize, events: usize) -> Result<Recorded<Event>, Fault> {
     let graph = side_by_side(alloc, &["a", "b"])?;
     let size = Size::new(4)?;
     let mode = Mode::Multi(2);
-    Ok(Recorded::open(alloc, graph, size, mode, MAX_LIMIT, entries, events)?)
+    Ok(Recorded::open(
+        alloc,
+        graph,
+        size,
+        mode,
+        MAX_LIMIT,
+        Event::NONE,
+        entries,
+        events,
+    )?)
 }
 
 /// Makes a call that offers room for up to eight events.
 pub fn call(
-    recorded: &mut Recorded,
-    command: Command,
+    recorded: &mut Recorded<Event>,
+    command: Command<Event>,
     out: &mut [Event; 8],
 ) -> Result<Reply, Fault> {
     if room(command) > 8 {
@@ -45,7 +54,7 @@ pub fn call(
 
 /// What two producers send, and two handlers receive: each kind of command, each kind of reply that
 /// is kept, and some that are not.
-pub fn commands() -> [Command; 17] {
+pub fn commands() -> [Command<Event>; 17] {
     [
         Claim { p: 0, n: 1 },
         Claim { p: 1, n: 2 },
@@ -80,7 +89,11 @@ pub fn tell_recorded<R: Print>(rt: &R, alloc: Global) -> Result<(), Fault> {
     Ok(())
 }
 
-fn tell_call<R: Print>(rt: &R, recorded: &mut Recorded, command: Command) -> Result<(), Fault> {
+fn tell_call<R: Print>(
+    rt: &R,
+    recorded: &mut Recorded<Event>,
+    command: Command<Event>,
+) -> Result<(), Fault> {
     let mut out = [Event::NONE; 8];
     let reply = again(rt, || call(recorded, command, &mut out))?;
     let kept = recorded.history().len();

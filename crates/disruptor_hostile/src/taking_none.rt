@@ -16,7 +16,7 @@ struct Count {
     shown: u64,
 }
 
-impl Handler for Count {
+impl Handler<Event> for Count {
     ghost use Rattle.std.specs.Prelude.{◌≡◌, ◌+◌, ◌%◌, ◌^◌};
 
     ghost goes = { λ old event s end new. new.shown ≡ (old.shown + 1) % 2 ^ 64 };
@@ -35,7 +35,7 @@ fn tell_memory<R: Print>(rt: &R, alloc: Global) -> Result<(), Fault> {
     Ok(())
 }
 
-fn tell_sending<R: Print>(rt: &R, core: &mut Core) -> Result<(), Fault> {
+fn tell_sending<R: Print>(rt: &R, core: &mut Core<Event>) -> Result<(), Fault> {
     println!(rt; "{:?}", core.claim(0, 2))?;
     println!(rt; "{:?}", core.claim(1, 3))?;
     println!(rt; "{:?}", core.claim(2, 1))?;
@@ -47,7 +47,7 @@ fn tell_sending<R: Print>(rt: &R, core: &mut Core) -> Result<(), Fault> {
     Ok(())
 }
 
-fn tell_receiving<R: Print>(rt: &R, core: &mut Core) -> Result<(), Fault> {
+fn tell_receiving<R: Print>(rt: &R, core: &mut Core<Event>) -> Result<(), Fault> {
     let mut out = [Event::NONE; 4];
     println!(rt; "{:?}", core.ready(0))?;
     println!(rt; "{:?}", core.poll_into(0, &mut out))?;
@@ -70,7 +70,7 @@ fn tell_receiving<R: Print>(rt: &R, core: &mut Core) -> Result<(), Fault> {
     Ok(())
 }
 
-fn tell_counts<R: Print>(rt: &R, core: &Core) -> Result<(), Fault> {
+fn tell_counts<R: Print>(rt: &R, core: &Core<Event>) -> Result<(), Fault> {
     println!(rt; "{} of {} claimed", core.next(), core.size().get())?;
     println!(rt; "{} in front of {}", core.front(), core.producers())?;
     println!(rt; "{}", core.is_halted())?;

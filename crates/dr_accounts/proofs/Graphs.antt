@@ -6,10 +6,7 @@ use Rattle.dr_graph.specs.Meaning.Declaration.{Declaration, followed_by}
 use Rattle.dr_graph.specs.Meaning.Graph.{AreChosen, IsGraphOf, GraphView, leads_to, upstreams_of}
 use Rattle.dr_graph.specs.Meaning.Name.{Name}
 use Rattle.dr_graph.specs.Meaning.Order.{IsNext, is_in, is_ready}
-use Rattle.dr_accounts.specs.Passing.{replay_graph}
-
-abbrev pub replay_names : List Name
-replay_names = codes "journal" ∷ codes "replica" ∷ codes "business" ∷ []
+use Rattle.dr_accounts.specs.Passing.{replay_graph, replay_names}
 
 abbrev pub replay_edges : List Edge
 replay_edges = record { up = 0; down = 2 } ∷ record { up = 1; down = 2 } ∷ []

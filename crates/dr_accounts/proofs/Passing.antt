@@ -1,7 +1,7 @@
 -- A stretch of events goes through the exchange: each call is accepted.
-use Rattle.std.proofs.Common.{◌≡◌, ◌≤◌, ◌<◌, ◌+◌, ◌-◌, ◌^◌, ℕ, zero, suc, Bool, true, false, not, ◌&&◌, ◌||◌, List, [], ◌∷◌, ◌++◌, length, map, take, drop, replicate, slice_index, min, Option, Some, refl, sym, ap, ◌∙◌, subst, arith, inl, inr, if◌then◌else◌, nat_lt, drop-cons, get_or-set_same}
-use Rattle.std.specs.Prelude.{◌==◌, nat_le, flat_map, is_none, unwrap_or, slice_set, slice_index_or}
-use Rattle.std.specs.List.{range_with_len}
+use Rattle.std.proofs.Common.{◌≡◌, ◌≤◌, ◌<◌, ◌+◌, ◌-◌, ◌^◌, ℕ, zero, suc, Bool, true, false, not, ◌&&◌, ◌||◌, List, [], ◌∷◌, ◌++◌, length, take, drop, replicate, slice_index, min, Option, Some, refl, sym, ap, ◌∙◌, subst, arith, inl, inr, if◌then◌else◌, nat_lt, drop-cons, get_or-set_same}
+use Rattle.std.specs.Prelude.{◌==◌, nat_le, flat_map, is_none, slice_set, slice_index_or}
+use Rattle.std.specs.List.{range_with_len, filter_map, cons_option}
 use Rattle.std.proofs.lemmas.Bool.{cases_eq, cases_lt, cond-true, eq-eqb, le-leb, le-ltb, lt-leb, lt-ltb, ne_eqb}
 use Rattle.std.proofs.lemmas.List.{get_or-replicate, length-replicate, replicate-append-replicate}
 use Rattle.dr_seq.specs.declared.event.Event.{Event}
@@ -41,7 +41,7 @@ claims events size at n some fits limit =
     let room : at + n ≤ size + at = omega arith in
     let no_room : nat_lt (size + at) (next m + n) ≡ false = rw next_at (le-ltb (size + at) (at + n) room) in
     let none : NoneHold (refusals (replay_setup size) m (Claim 0 n)) = (refl, (bad_count, (refl, (exhausted, (no_room, tt))))) in
-    let after : ℕ → List ℕ → Outcome = λ k owners. record { reply = Claimed k (k + n - 1); values = []; state = record m { owners = owners } } in
+    let after : ℕ → List ℕ → Outcome Event = λ k owners. record { reply = Claimed k (k + n - 1); values = []; state = record m { owners = owners } } in
     unless-none (refusals (replay_setup size) m (Claim 0 n)) m (accepted (replay_setup size) m (Claim 0 n)) none
     ∙ ap (λ k. after k (replicate at 0 ++ replicate n 0)) next_at ∙ ap (after at) (replicate-append-replicate at n 0)
 
@@ -66,7 +66,7 @@ writes events size claimed w at taken completed e low high is =
     let mine : slice_index (replicate claimed 0) w ≡ 0 = get_or-replicate claimed w 0 0 high in
     let other : not (slice_index (replicate claimed 0) w == 0) ≡ false = ap not (eq-eqb _ 0 mine) in
     let none : NoneHold (refusals (replay_setup size) m (Write 0 w e)) = (refl, (unclaimed, (shown, (other, tt)))) in
-    let after : (ℕ → Option Event) → Outcome = λ written. record { reply = Written; values = []; state = record m { written = written } } in
+    let after : (ℕ → Option Event) → Outcome Event = λ written. record { reply = Written; values = []; state = record m { written = written } } in
     unless-none (refusals (replay_setup size) m (Write 0 w e)) m (accepted (replay_setup size) m (Write 0 w e)) none
     ∙ ap after (funext (λ k. if k == w then Some e else written_below events w k) (written_below events (w + 1)) (written_more events w e is))
 
@@ -103,22 +103,22 @@ publishes events size at n taken completed some =
     let in_order : not (at == front m) ≡ false = rw here (ap not (eq-eqb at at refl)) in
     let none : NoneHold (refusals (replay_setup size) m (Publish 0 at (at + n - 1))) =
     (refl, (bad_count, (unclaimed, NoneHold-join (flat_map (publish_faults m 0) (range_with_len at (at + n - 1 + 1 - at))) _ (NoneHold-stretch (publish_faults m 0) at (at + n - 1 + 1 - at) each_fine) (in_order, tt)))) in
-    let after : (ℕ → Bool) → Outcome = λ published. record { reply = Published; values = []; state = record m { published = published } } in
+    let after : (ℕ → Bool) → Outcome Event = λ published. record { reply = Published; values = []; state = record m { published = published } } in
     unless-none (refusals (replay_setup size) m (Publish 0 at (at + n - 1))) m (accepted (replay_setup size) m (Publish 0 at (at + n - 1))) none
     ∙ ap after (funext (λ k. nat_lt k at || (nat_le at k && nat_le k (at + n - 1))) (λ k. nat_lt k (at + n)) (λ k. shown_more at n k some))
 
 -- the events of a stretch are those that were written to it
 values_are : (events : List Event) (c at n : ℕ) → at + n ≤ c → c ≤ length events
-    → map (λ s. unwrap_or (written_below events c s) no_event) (range_with_len at n) ≡ take n (drop at events)
+    → filter_map (written_below events c) (range_with_len at n) ≡ take n (drop at events)
 values_are events c at zero within fits = refl
 values_are events c at (suc n) within fits =
     let below : at < c = omega arith in
     let inside : at < length events = omega arith in
     let rest : (at + 1) + n ≤ c = omega arith in
     let next_place : at + 1 ≡ suc at = omega arith in
-    let first : unwrap_or (written_below events c at) no_event ≡ slice_index_or events at no_event = rw (lt-ltb at c below) refl in
+    let first : written_below events c at ≡ Some (slice_index_or events at no_event) = rw (lt-ltb at c below) refl in
     let others = values_are events c (at + 1) n rest fits ∙ ap (λ k. take n (drop k events)) next_place in
-    ap (λ e. e ∷ map (λ s. unwrap_or (written_below events c s) no_event) (range_with_len (at + 1) n)) first
+    ap (λ e. cons_option e (filter_map (written_below events c) (range_with_len (at + 1) n))) first
     ∙ ap (λ l. slice_index_or events at no_event ∷ l) others ∙ ap (take (suc n)) (sym (drop-cons events at no_event inside))
 
 pub polls : (events : List Event) (size c at h room : ℕ) (counts : List ℕ) → h < 3 → 0 < room → slice_index counts h ≡ at
@@ -130,10 +130,10 @@ polls events size c at h room counts handler some taken_is offered less fits wit
     let nonzero : room ≡ 0 → ⊥ = λ e. absurd (omega arith) in
     let none : NoneHold (refusals (replay_setup size) m (Poll h room)) = (lt-leb 3 h handler, (refl, (ne_eqb room 0 nonzero, tt))) in
     let there : nat_lt (slice_index counts h) (available (replay_setup size) m h) ≡ true = rw (taken_is, offered) (lt-ltb at c less) in
-    let value = λ (s : ℕ). unwrap_or (written_below events c s) no_event in
-    let by_count : ℕ → ℕ → ℕ → Outcome =
-    λ first av count. record { reply = Batch first count (first + count == av); values = map value (range_with_len first count); state = record m { taken = slice_set counts h (first + count) } } in
-    let outcome : Bool → List Event → ℕ → Outcome =
+    let value = written_below events c in
+    let by_count : ℕ → ℕ → ℕ → Outcome Event =
+    λ first av count. record { reply = Batch first count (first + count == av); values = filter_map value (range_with_len first count); state = record m { taken = slice_set counts h (first + count) } } in
+    let outcome : Bool → List Event → ℕ → Outcome Event =
     λ end values upto. record { reply = Batch at (c - at) end; values = values; state = record m { taken = slice_set counts h upto } } in
     let count_is : min (c - at) room ≡ c - at = omega arith in
     let whole : at + (c - at) ≡ c = omega arith in
@@ -143,7 +143,7 @@ polls events size c at h room counts handler some taken_is offered less fits wit
     ∙ ap (λ first. by_count first (available (replay_setup size) m h) (min (available (replay_setup size) m h - first) room)) taken_is
     ∙ ap (λ av. by_count at av (min (av - at) room)) offered
     ∙ ap (by_count at c) count_is
-    ∙ ap (λ end. outcome end (map value (range_with_len at (c - at))) (at + (c - at))) (eq-eqb (at + (c - at)) c whole)
+    ∙ ap (λ end. outcome end (filter_map value (range_with_len at (c - at))) (at + (c - at))) (eq-eqb (at + (c - at)) c whole)
     ∙ ap (λ values. outcome true values (at + (c - at))) (values_are events c at (c - at) inside within)
     ∙ ap (outcome true (take (c - at) (drop at events))) whole
 
@@ -160,13 +160,13 @@ completes events size c at h counts handler inside taken_is less =
     unless-none (refusals (replay_setup size) m (Complete h c)) m (accepted (replay_setup size) m (Complete h c)) none
 
 -- what a core's call answers and leaves, where the machine's step is known
-pub record Stepped (o : Outcome) (reply : Reply) (values : List Event) (c : Setup) (new : CoreView) : Type 0 where
+pub record Stepped (o : Outcome Event) (reply : Reply) (values : List Event) (c : Setup) (new : CoreView Event) : Type 0 where
   pub replies : o.reply ≡ reply
   pub hands_out : o.values ≡ values
   pub shows : Shows new o.state
   pub setup : new.setup ≡ c
 
-pub stepped : (old new : CoreView) (command : Command) (reply : Reply) (values : List Event) (c : Setup) (m : State) (o : Outcome)
+pub stepped : (old new : CoreView Event) (command : Command Event) (reply : Reply) (values : List Event) (c : Setup) (m : State Event) (o : Outcome Event)
     → IsStep old command reply values new → old.setup ≡ c → Shows old m → step c m command ≡ o → Stepped o reply values c new
 stepped old new command reply values c m o is setup_is shows e =
     let same : step old.setup m command ≡ o = ap (λ s. step s m command) setup_is ∙ e in

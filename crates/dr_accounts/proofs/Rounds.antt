@@ -8,7 +8,7 @@ use Rattle.dr_accounts.specs.Turns.{Rests}
 use Rattle.dr_accounts.proofs.Shown.{along}
 use Rattle.dr_accounts.proofs.Turning.{CanTurn, TookTurn, offered_first, offered_last, taken_more}
 
-module _ (size : ℕ) (events : List Event) (at sent : ℕ) (some : at < sent) (within : sent ≤ length events) (room : ℕ) (fits : sent ≤ at + room) (v : CoreView) where
+module _ (size : ℕ) (events : List Event) (at sent : ℕ) (some : at < sent) (within : sent ≤ length events) (room : ℕ) (fits : sent ≤ at + room) (v : CoreView Event) where
   pub journal_can : Rests size events sent (each at) v → CanTurn size events at sent 0 room (each at) v
   journal_can rests = record { rests = rests; handler = omega arith; counted = omega arith; taken = refl; offered = offered_first size events sent 0 (each at) (omega arith); some = some; fits = fits; within = within }
 
@@ -19,9 +19,9 @@ module _ (size : ℕ) (events : List Event) (at sent : ℕ) (some : at < sent) (
   business_can rests = record { rests = rests; handler = omega arith; counted = omega arith; taken = refl; offered = offered_last size events sent at; some = some; fits = fits; within = within }
 
 -- a handler that was shown the events before a turn was shown those that were sent, after it
-pub shown_more : {A : Type 0} (goes : Relation A) (Has : A → List Event → Type 0)
+pub shown_more : {A : Type 0} (goes : Relation Event A) (Has : A → List Event → Type 0)
     → ((a b : A) (es : List Event) (e : Event) (s : ℕ) (end : Bool) → Has a es → goes a e s end b → Has b (es ++ e ∷ []))
-    → (size : ℕ) (events : List Event) (at sent h : ℕ) (counts : List ℕ) (new : CoreView) (before after : A) → at < sent → TookTurn goes size events at sent h counts new before after
+    → (size : ℕ) (events : List Event) (at sent h : ℕ) (counts : List ℕ) (new : CoreView Event) (before after : A) → at < sent → TookTurn goes size events at sent h counts new before after
     → Has before (take at events) → Has after (take sent events)
 shown_more goes Has one size events at sent h counts new before after some took has =
     subst (λ l. Has after l) (taken_more events at sent some) (along goes Has one before after (take at events) (take (sent - at) (drop at events)) at true has took.went)

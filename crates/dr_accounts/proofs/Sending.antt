@@ -14,11 +14,11 @@ use Rattle.dr_accounts.specs.Turns.{Rests, Sends}
 use Rattle.dr_accounts.proofs.Passing.{claims, publishes, stepped, writes}
 
 -- a stretch is claimed, and some of it written
-pub record InHand (size : ℕ) (events : List Event) (claimed written at : ℕ) (v : CoreView) : Type 0 where
+pub record InHand (size : ℕ) (events : List Event) (claimed written at : ℕ) (v : CoreView Event) : Type 0 where
   pub setup : v.setup ≡ replay_setup size
   pub shows : Shows v (passed events claimed written at (each at) (each at))
 
-module _ (old new : CoreView) (size : ℕ) (events : List Event) (at n : ℕ) where
+module _ (old new : CoreView Event) (size : ℕ) (events : List Event) (at n : ℕ) where
   pub claim_ok : (lo hi : ℕ) → Rests size events at (each at) old → 0 < n → n ≤ size → at + n ≤ 2 ^ 62 → IsStep old (Claim 0 n) (Claimed lo hi) [] new
       → (lo ≡ at) × (hi ≡ at + n - 1) × InHand size events (at + n) at at new
   claim_ok lo hi rests some fits limit is =

@@ -19,7 +19,7 @@ use Rattle.dr_accounts.specs.Report.{journal_from, journal_line, replica_line}
 use Rattle.dr_accounts.proofs.Passing.{funext}
 
 -- what one call keeps, a batch keeps
-pub along : {A : Type 0} (goes : Relation A) (Has : A → List Event → Type 0)
+pub along : {A : Type 0} (goes : Relation Event A) (Has : A → List Event → Type 0)
     → ((a b : A) (es : List Event) (e : Event) (s : ℕ) (end : Bool) → Has a es → goes a e s end b → Has b (es ++ e ∷ []))
     → (a b : A) (es vs : List Event) (first : ℕ) (end : Bool) → Has a es → GoesThrough goes a (showings vs first end) b → Has b (es ++ vs)
 along goes Has one a b es [] first end has is = rw append-nil (subst (λ x. Has x es) is has)

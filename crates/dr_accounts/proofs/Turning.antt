@@ -18,12 +18,12 @@ use Rattle.dr_accounts.specs.Turns.{Rests}
 use Rattle.dr_accounts.proofs.Passing.{completes, front_below, next_is, polls, stepped}
 
 -- what a turn did: the handler is done with all that was sent, and was shown what it had not taken
-pub record TookTurn {A : Type 0} (goes : Relation A) (size : ℕ) (events : List Event) (at sent h : ℕ) (counts : List ℕ) (new : CoreView) (before after : A) : Type 0 where
+pub record TookTurn {A : Type 0} (goes : Relation Event A) (size : ℕ) (events : List Event) (at sent h : ℕ) (counts : List ℕ) (new : CoreView Event) (before after : A) : Type 0 where
   pub rests : Rests size events sent (slice_set counts h sent) new
   pub went : GoesThrough goes before (showings (take (sent - at) (drop at events)) at true) after
 
 -- what a turn needs
-pub record CanTurn (size : ℕ) (events : List Event) (at sent h room : ℕ) (counts : List ℕ) (old : CoreView) : Type 0 where
+pub record CanTurn (size : ℕ) (events : List Event) (at sent h room : ℕ) (counts : List ℕ) (old : CoreView Event) : Type 0 where
   pub rests : Rests size events sent counts old
   pub handler : h < 3
   pub counted : h < length counts
@@ -33,7 +33,7 @@ pub record CanTurn (size : ℕ) (events : List Event) (at sent h room : ℕ) (co
   pub fits : sent ≤ at + room
   pub within : sent ≤ length events
 
-module _ {A : Type 0} (goes : Relation A) (size : ℕ) (events : List Event) (at sent h room : ℕ) (counts : List ℕ) (old new : CoreView) (before after : A) (can : CanTurn size events at sent h room counts old) where
+module _ {A : Type 0} (goes : Relation Event A) (size : ℕ) (events : List Event) (at sent h room : ℕ) (counts : List ℕ) (old new : CoreView Event) (before after : A) (can : CanTurn size events at sent h room counts old) where
   batch_turn : (first count : ℕ) (end : Bool) (values : List Event) → TakesTurn goes old h room (Ok (answer.Batch first count end)) values new before after
       → TookTurn goes size events at sent h counts new before after
   batch_turn first count end values turn =
@@ -55,7 +55,7 @@ module _ {A : Type 0} (goes : Relation A) (size : ℕ) (events : List Event) (at
       ap (λ v. showings v first end) (sym polled.hands_out) ∙ ap (λ f. showings (take (sent - at) (drop at events)) f end) first_is ∙ ap (λ b. showings (take (sent - at) (drop at events)) at b) end_is in
       record { rests = record { setup = done.setup; shows = done.shows }; went = subst (λ l. GoesThrough goes before l after) shown turn.3 }
 
-  other_turn : (reply : Reply) (values : List Event) (polled : CoreView) → IsStep old (Poll h room) reply values polled → Batch at (sent - at) true ≡ reply
+  other_turn : (reply : Reply) (values : List Event) (polled : CoreView Event) → IsStep old (Poll h room) reply values polled → Batch at (sent - at) true ≡ reply
   other_turn reply values polled is =
       let some = can.some in
       let fits = can.fits in

@@ -9,12 +9,12 @@ use Rattle.dr_accounts.specs.Handlers.{IsBusinessOf, IsJournalOf, IsReplicaOf}
 use Rattle.dr_accounts.specs.Passing.{each, passed, replay_setup}
 
 -- the first events of a list went into an exchange, and each handler is done with as many of them as it took
-pub record Rests (size : ℕ) (events : List Event) (sent : ℕ) (counts : List ℕ) (v : CoreView) : Type 0 where
+pub record Rests (size : ℕ) (events : List Event) (sent : ℕ) (counts : List ℕ) (v : CoreView Event) : Type 0 where
   pub setup : v.setup ≡ replay_setup size
   pub shows : Shows v (passed events sent sent sent counts counts)
 
 -- no call is refused, and the next events are in the exchange
-abbrev pub Sends : {A : Type 0} → Result A Refusal → ℕ → List Event → ℕ → ℕ → CoreView → Type 0
+abbrev pub Sends : {A : Type 0} → Result A Refusal → ℕ → List Event → ℕ → ℕ → CoreView Event → Type 0
 Sends (Ok done) size events at n v = Rests size events (at + n) (each at) v
 Sends (Err refusal) size events at n v = ⊥
 
@@ -31,18 +31,18 @@ pub record AreWell (h : Handlers) : Type 0 where
   pub business : h.business.failed ≡ false
 
 -- some events are in an exchange that no handler took, and there is room for them
-pub record AreOffered (size : ℕ) (events : List Event) (at sent room : ℕ) (v : CoreView) : Type 0 where
+pub record AreOffered (size : ℕ) (events : List Event) (at sent room : ℕ) (v : CoreView Event) : Type 0 where
   pub rests : Rests size events sent (each at) v
   pub some : at < sent
   pub fits : sent ≤ at + room
   pub within : sent ≤ length events
 
 -- no turn is refused, and each handler is done with all that was sent
-pub record Turned (size : ℕ) (events : List Event) (sent : ℕ) (v : CoreView) (h : Handlers) : Type 0 where
+pub record Turned (size : ℕ) (events : List Event) (sent : ℕ) (v : CoreView Event) (h : Handlers) : Type 0 where
   pub rests : Rests size events sent (each sent) v
   pub shown : AreShown h (take sent events)
 
-abbrev pub Turns : {A : Type 0} → Result A Refusal → ℕ → List Event → ℕ → CoreView → Handlers → Type 0
+abbrev pub Turns : {A : Type 0} → Result A Refusal → ℕ → List Event → ℕ → CoreView Event → Handlers → Type 0
 Turns (Ok done) size events sent v h = Turned size events sent v h
 Turns (Err refusal) size events sent v h = ⊥
 

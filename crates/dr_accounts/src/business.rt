@@ -155,7 +155,7 @@ fn push_accounts(report: &mut String, accounts: &BTreeMap<u16, Account>) -> Resu
     Ok(())
 }
 
-impl Handler for Business {
+impl Handler<Event> for Business {
     ghost use Rattle.dr_accounts.specs.Handlers.{Books};
 
     ghost goes = { λ old event s end new. Books old event new };

@@ -51,7 +51,7 @@ impl Handlers {
     }
 
     /// One turn of each. Where the room of `buf` is that of the ring, each takes all that there is.
-    pub fn turn(&mut self, core: &mut Core, buf: &mut [Event]) -> Result<(), Refusal>
+    pub fn turn(&mut self, core: &mut Core<Event>, buf: &mut [Event]) -> Result<(), Refusal>
         ensures { (size : ℕ) (events : List Event) (at sent : ℕ) → AreOffered size events at sent (length buf.old) core.old → AreShown self.old (take at events) → Turns result size events sent core.new self.new }
     {
         processor_turn(core, JOURNAL, &mut self.journal, buf)?;

@@ -111,7 +111,7 @@ fn push_operation(line: &mut String, operation: Operation) -> Result<(), AllocEr
     push_movement(line, operation.movement)
 }
 
-impl Handler for Journal {
+impl Handler<Event> for Journal {
     ghost use Rattle.dr_accounts.specs.Handlers.{Journals};
 
     ghost goes = { λ old event s end new. Journals old event new };

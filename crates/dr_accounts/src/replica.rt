@@ -77,7 +77,7 @@ fn push_word(line: &mut String, word: u64) -> Result<(), AllocError>
     line.push_str(text)
 }
 
-impl Handler for Replica {
+impl Handler<Event> for Replica {
     ghost use Rattle.dr_accounts.specs.Handlers.{Copies};
 
     ghost goes = { λ old event s end new. Copies old event new };

@@ -9,10 +9,11 @@ use crate::business::Business;
 use crate::journal::Journal;
 use crate::replica::Replica;
 use dr_core::Handler;
+use dr_seq::Event;
 use std::alloc::{AllocError, Global};
 
 /// A handler that has a part in the report of the events that it was shown.
-pub trait Reporter: Handler + Drop {
+pub trait Reporter: Handler<Event> + Drop {
     /// The part of a list of events.
     ghost part_of: { List Event → List ℕ };
 
@@ -33,12 +34,12 @@ pub trait Reporter: Handler + Drop {
     /// Appends its part to a report. An error is that memory ran out.
     fn push_part(&self, report: &mut String) -> Result<(), AllocError>
         requires { failed self.now ≡ false }
-        ensures { (first : Self) (batches : List Dealt) → is_new first → GoesThrough Self.goes first (shown_of batches) self.now → OnOk result (string_bytes report.new ≡ string_bytes report.old ++ part_of (dealt_events batches)) };
+        ensures { (first : Self) (batches : List (Dealt Event)) → is_new first → GoesThrough Self.goes first (shown_of batches) self.now → OnOk result (string_bytes report.new ≡ string_bytes report.old ++ part_of (dealt_events batches)) };
 }
 
 /// The part of a handler alone. An error is that memory ran out, here or when an event was handled.
 pub fn part<H: Reporter>(handler: &H, alloc: Global) -> Result<String, AllocError>
-    ensures { (first : H) (batches : List Dealt) → H.is_new first → GoesThrough H.goes first (shown_of batches) handler.now → IfOk result (λ text. string_bytes text ≡ H.part_of (dealt_events batches)) }
+    ensures { (first : H) (batches : List (Dealt Event)) → H.is_new first → GoesThrough H.goes first (shown_of batches) handler.now → IfOk result (λ text. string_bytes text ≡ H.part_of (dealt_events batches)) }
 {
     if handler.has_failed() {
         return Err(AllocError);

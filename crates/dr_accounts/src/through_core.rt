@@ -13,7 +13,7 @@ use std::alloc::{AllocError, Global};
 
 // Puts the next `n` events into the exchange, from the place `at` on: the event at a place goes to
 // the sequence of that number.
-fn send(core: &mut Core, events: &[Event], at: usize, n: usize) -> Result<(), Refusal>
+fn send(core: &mut Core<Event>, events: &[Event], at: usize, n: usize) -> Result<(), Refusal>
     requires rests { Rests core.old.setup.size events.now at (each at) core.old }
     requires some { 0 < n }
     requires fits { n ≤ core.old.setup.size }
@@ -31,7 +31,7 @@ fn send(core: &mut Core, events: &[Event], at: usize, n: usize) -> Result<(), Re
 // Sends all events, as many at a time as the ring has slots, and gives each handler its turn after
 // each time.
 fn pass(
-    core: &mut Core,
+    core: &mut Core<Event>,
     handlers: &mut Handlers,
     events: &[Event],
     buf: &mut [Event],

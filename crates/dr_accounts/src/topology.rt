@@ -3,18 +3,19 @@
 ghost use Rattle.std.specs.Prelude.{◌≡◌, IfOk};
 ghost use Rattle.dr_core.specs.Meaning.Machine.{opening};
 ghost use Rattle.dr_core.specs.Calls.Shows.{Shows};
-ghost use Rattle.dr_accounts.specs.Passing.{replay_graph, replay_setup};
+ghost use Rattle.dr_accounts.specs.Passing.{replay_graph, replay_names, replay_setup};
 
 use dr_core::{Core, MAX_LIMIT, Mode};
 use dr_graph::laws::one_graph;
 use dr_graph::{Graph, GraphBuilder};
-use dr_seq::Size;
+use dr_seq::{Event, Size};
 use std::alloc::{AllocError, Global};
 
 /// The graph of the replay's handlers. An error is that memory ran out: the names are good and differ,
 /// and there is no cycle.
 pub fn graph(alloc: Global) -> Result<Graph, AllocError>
-    ensures { IfOk result (λ graph. graph.upstreams ≡ replay_graph) }
+    ensures graph { IfOk result (λ graph. graph.upstreams ≡ replay_graph) }
+    ensures names { IfOk result (λ graph. graph.names ≡ replay_names) }
 {
     one_graph();
     let mut builder = GraphBuilder::new(alloc);
@@ -32,10 +33,10 @@ pub fn graph(alloc: Global) -> Result<Graph, AllocError>
 
 /// Opens the exchange with one producer and as many sequences as there may be. An error is that
 /// memory ran out.
-pub fn open(alloc: Global, size: Size) -> Result<Core, AllocError>
+pub fn open(alloc: Global, size: Size) -> Result<Core<Event>, AllocError>
     ensures setup { IfOk result (λ core. core.setup ≡ replay_setup size) }
     ensures opening { IfOk result (λ core. Shows core (opening (replay_setup size))) }
 {
     let graph = graph(alloc)?;
-    Core::open_valid(alloc, graph, size, Mode::Single, MAX_LIMIT)
+    Core::open_valid(alloc, graph, size, Mode::Single, MAX_LIMIT, Event::NONE)
 }

@@ -35,31 +35,42 @@ impl Worked {
     }
 }
 
-/// The promise of the worker that is given an end, and whose handler is a `P`.
-pub struct PartOf<P> {
+/// The promise of the worker `who` that is given an end and passes a gate, and whose handler is a `P`.
+pub struct PartOf<P, G> {
     end: Snapshot<Receiver>,
+    gate: Snapshot<G>,
+    who: usize,
     of: PhantomData<P>,
 }
 
-impl<P> PartOf<P> {
-    pub fn of(end: &Receiver) -> PartOf<P>
-        ensures { result.end.value ≡ end.now }
+impl<P, G> PartOf<P, G> {
+    pub fn of(end: &Receiver, gate: &G, who: usize) -> PartOf<P, G>
+        ensures end { result.end.value ≡ end.now }
+        ensures gate { result.gate.value ≡ gate.now }
+        ensures who { result.who ≡ who }
     {
         PartOf {
             end: Snapshot::of(end),
+            gate: Snapshot::of(gate),
+            who,
             of: PhantomData,
         }
     }
 }
 
-impl<P> Drop for PartOf<P> {
+impl<P, G> Drop for PartOf<P, G> {
     fn drop(self) {
-        let PartOf { end: _, of: _ } = self;
+        let PartOf {
+            end: _,
+            gate: _,
+            who: _,
+            of: _,
+        } = self;
     }
 }
 
-impl<P: Reporter> Promise<Worked> for PartOf<P> {
-    ghost kept_by = { λ p r. Keeps P.part_of p.end.value r };
+impl<P: Reporter, G: Gate> Promise<Worked> for PartOf<P, G> {
+    ghost kept_by = { λ p r. Keeps P.part_of (G.may_stop p.gate.value p.who) p.end.value r };
 }
 
 /// Takes a new handler through all events of an end, at most `room` of them and 256 at once. A
@@ -72,7 +83,7 @@ pub fn work<R: Wait, G: Gate, P: Reporter>(
     room: usize,
     alloc: Global,
 ) -> Worked
-    ensures { Keeps P.part_of receiver result }
+    ensures { Keeps P.part_of (G.may_stop gate.now who) receiver result }
 {
     let mut handler = P::begin(alloc);
     let mut buf = [Event::NONE; BATCH];

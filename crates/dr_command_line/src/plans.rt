@@ -1,11 +1,12 @@
 //! What a command line asks for, or why it is refused.
 
-ghost use Rattle.std.specs.Prelude.{◌≡◌};
-ghost use Rattle.dr_command_line.specs.Plans.{line_status};
+ghost use Rattle.std.specs.Prelude.{◌≡◌, Some};
+ghost use Rattle.dr_command_line.specs.Plans.{line_status, line_text};
 
 use dr_seq::Size;
 use std::alloc::AllocError;
-use thiserror::Error;
+use std::error::Error;
+use std::fmt;
 
 /// By which exchange a replay goes.
 #[derive(Clone, Copy, Debug, PartialEq, Eq)]
@@ -30,19 +31,15 @@ pub enum Plan {
 }
 
 /// Why a command line is refused. Its text is the line that a program prints.
-#[derive(Debug, Drop, Error)]
+#[derive(Debug, Drop)]
 pub enum LineFault {
     /// The words are no command line of the program; the text says why.
-    #[error("{0}")]
     Usage(String),
     /// The number of `--size` is no ring's size.
-    #[error("bad-size")]
     BadSize,
     /// A word is not UTF-8.
-    #[error("error: a word of the command line is not UTF-8")]
     NotUtf8,
     /// There is no memory for reading them.
-    #[error("no-memory")]
     Memory,
 }
 
@@ -59,6 +56,21 @@ impl LineFault {
         }
     }
 }
+
+impl fmt::Display for LineFault {
+    ghost output = { λ fault. Some (line_text fault) };
+
+    fn fmt<W: fmt::Write>(&self, f: &mut fmt::Formatter<W>) -> fmt::Result {
+        match self {
+            LineFault::Usage(text) => write!(f, "{text}"),
+            LineFault::BadSize => write!(f, "bad-size"),
+            LineFault::NotUtf8 => write!(f, "error: a word of the command line is not UTF-8"),
+            LineFault::Memory => write!(f, "no-memory"),
+        }
+    }
+}
+
+impl Error for LineFault {}
 
 impl From<AllocError> for LineFault {
     fn from(_error: AllocError) -> LineFault {

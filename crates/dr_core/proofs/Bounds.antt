@@ -16,11 +16,11 @@ use Rattle.dr_core.proofs.Sound.{IsSound, orderly}
 use Rattle.dr_core.proofs.Keeps.{opening_sound, step_sound}
 use Rattle.dr_core.proofs.FiveLaws.{accepted_rises, leaves_another}
 
-abbrev pub IsBounded : Setup → State → Type 0
+abbrev pub IsBounded : {E : Type 0} → Setup → State E → Type 0
 IsBounded c m = AreInBounds c (next m) m.completed m.retired
 
 module _ (c : Setup) (gates : FinalsGate c.upstreams) where
-  claim_bounded : (m : State) (p n : ℕ) → IsSound c m → NoneHold (refusals c m (Claim p n)) → IsBounded c m → IsBounded c (accepted c m (Claim p n)).state
+  claim_bounded : {E : Type 0} (m : State E) (p n : ℕ) → IsSound c m → NoneHold (refusals c m (Claim p n)) → IsBounded c m → IsBounded c (accepted c m (Claim p n)).state
   claim_bounded m p n sound none bounds =
       let more : length (m.owners ++ replicate n p) ≡ next m + n = rw (length-append, length-replicate) refl in
       let limit : next m + n ≤ c.limit = grind (arith, nat_tests, none.1.1.1.0) in
@@ -33,7 +33,7 @@ module _ (c : Setup) (gates : FinalsGate c.upstreams) where
             omega arith);
       }
 
-  complete_bounded : (m : State) (at upto : ℕ) → IsSound c m → NoneHold (refusals c m (Complete at upto)) → IsBounded c m
+  complete_bounded : {E : Type 0} (m : State E) (at upto : ℕ) → IsSound c m → NoneHold (refusals c m (Complete at upto)) → IsBounded c m
       → IsBounded c (accepted c m (Complete at upto)).state
   complete_bounded m at upto sound none bounds = record {
     claimed = bounds.claimed;
@@ -43,12 +43,12 @@ module _ (c : Setup) (gates : FinalsGate c.upstreams) where
         omega (arith, accepted_rises c m (Complete at upto) h sound none));
   }
 
-  accepted_bounded : (m : State) (command : Command) → IsSound c m → IsBounded c m → NoneHold (refusals c m command) → IsBounded c (accepted c m command).state
+  accepted_bounded : {E : Type 0} (m : State E) (command : Command E) → IsSound c m → IsBounded c m → NoneHold (refusals c m command) → IsBounded c (accepted c m command).state
   accepted_bounded m (Claim p n) sound bounds none = claim_bounded m p n sound none bounds
   accepted_bounded m (Write p s v) sound bounds none = bounds
   accepted_bounded m (Publish p lo hi) sound bounds none = bounds
-  accepted_bounded m (Poll h limit) sound bounds none =
-      let P : Outcome → Type 0 = λ o. IsBounded c o.state in
+  accepted_bounded {E} m (Poll h limit) sound bounds none =
+      let P : Outcome E → Type 0 = λ o. IsBounded c o.state in
       cond_both (nat_lt (slice_index m.taken h) (available c m h)) _ _ P (λ y. bounds)
       (λ n. cond_both (m.halted && (slice_index m.taken h == next m)) _ _ P (λ y. bounds)
       (λ n'. cond_both (nat_lt (slice_index m.taken h) (cursor c m)) _ _ P (λ y. bounds) (λ n''. bounds)))
@@ -60,14 +60,14 @@ module _ (c : Setup) (gates : FinalsGate c.upstreams) where
     room = λ k inside here. bounds.room k inside (or_parts _ _ here).0;
   }
 
-  bounded_along : (es : Transcript) (m n : State) → IsSound c m → IsBounded c m → LeadsFrom c m es n → IsBounded c n
+  bounded_along : {E : Type 0} (es : Transcript E) (m n : State E) → IsSound c m → IsBounded c m → LeadsFrom c m es n → IsBounded c n
   bounded_along [] m n sound bounds leads = subst (IsBounded c) leads bounds
   bounded_along (e ∷ es) m n sound bounds leads =
       let more : IsBounded c (step c m e.command).state =
       unless-cases (λ o. IsBounded c o.state) (refusals c m e.command) m (accepted c m e.command) (λ r. bounds) (accepted_bounded m e.command sound bounds) in
       bounded_along es (step c m e.command).state n (step_sound c m e.command sound) more leads.2
 
-pub bounded : (c : Setup) (t : Transcript) (m : State) → IsGraph c.upstreams → LeadsTo c t m → IsBounded c m
+pub bounded : {E : Type 0} (c : Setup) (t : Transcript E) (m : State E) → IsGraph c.upstreams → LeadsTo c t m → IsBounded c m
 bounded c t m graph leads =
     bounded_along c graph.gate t (opening c) m (opening_sound c)
     (record { claimed = omega arith; left = (0, graph.some, refl); room = λ h inside left. omega arith })

@@ -10,7 +10,6 @@ use Rattle.dr_core.specs.declared.command.Command.TheVariants.{Claim, Complete, 
 use Rattle.dr_core.specs.declared.command.Reply.{Reply}
 use Rattle.dr_core.specs.declared.command.Reply.TheVariants.{Claimed, Completed, Halting, Refused}
 use Rattle.dr_core.specs.declared.refusal.Refusal.{Refusal}
-use Rattle.dr_seq.specs.declared.event.Event.{Event}
 use Rattle.dr_graph.specs.Meaning.Graph.{finals_without, least_of}
 use Rattle.dr_graph.proofs.Gating.{finals_agree, least_gates}
 use Rattle.dr_core.specs.Meaning.Machine.{Setup, State, least_outside, handlers, producers, next, front, gating, least_completed, refusals, accepted}
@@ -23,17 +22,17 @@ use Rattle.dr_core.proofs.Sound.{orderly, set_count}
 use Rattle.dr_core.proofs.Steps.{NoneHold, Refuses, unless-none, unless-refused}
 
 -- in a state the machine accepts a command with this reply and these events, and what it leaves is shown
-pub record Accepts (c : Setup) (m : State) (command : Command) (reply : Reply) (values : List Event) (new : CoreView) : Type 0 where
+pub record Accepts {E : Type 0} (c : Setup) (m : State E) (command : Command E) (reply : Reply) (values : List E) (new : CoreView E) : Type 0 where
   pub passes : NoneHold (refusals c m command)
   pub replies : (accepted c m command).reply ≡ reply
   pub hands_out : (accepted c m command).values ≡ values
   pub shown : Shows new (accepted c m command).state
 
 -- where no test holds, what is to show is of the accepted command
-pub accepted_step : {old new : CoreView} {command : Command} {reply : Reply} {values : List Event} → new.setup ≡ old.setup → new.names ≡ old.names
-    → ((m : State) → Shows old m → Accepts old.setup m command reply values new) → IsStep old command reply values new
-accepted_step {old = old} {command = command} same named accepts =
-    let is = λ (m : State) (sh : Shows old m). unless-none (refusals old.setup m command) m (accepted old.setup m command) (accepts m sh).passes in
+pub accepted_step : {E : Type 0} {old new : (CoreView E)} {command : (Command E)} {reply : Reply} {values : List E} → new.setup ≡ old.setup → new.names ≡ old.names
+    → ((m : State E) → Shows old m → Accepts old.setup m command reply values new) → IsStep old command reply values new
+accepted_step {E} {old = old} {command = command} same named accepts =
+    let is = λ (m : State E) (sh : Shows old m). unless-none (refusals old.setup m command) m (accepted old.setup m command) (accepts m sh).passes in
     record {
       same_setup = same;
       same_names = named;
@@ -42,10 +41,10 @@ accepted_step {old = old} {command = command} same named accepts =
       shown = λ m sh. rw (is m sh) (accepts m sh).shown;
     }
 
-pub refused_step : (v : CoreView) (command : Command) (r : Refusal) → ((m : State) → Shows v m → Refuses r (refusals v.setup m command))
+pub refused_step : {E : Type 0} (v : CoreView E) (command : Command E) (r : Refusal) → ((m : State E) → Shows v m → Refuses r (refusals v.setup m command))
     → IsStep v command (Refused r) [] v
-refused_step v command r refuses =
-    let is = λ (m : State) (sh : Shows v m). unless-refused r (refusals v.setup m command) m (accepted v.setup m command) (refuses m sh) in
+refused_step {E} v command r refuses =
+    let is = λ (m : State E) (sh : Shows v m). unless-refused r (refusals v.setup m command) m (accepted v.setup m command) (refuses m sh) in
     record {
       same_setup = refl;
       same_names = refl;
@@ -54,7 +53,7 @@ refused_step v command r refuses =
       shown = λ m sh. rw (is m sh) sh;
     }
 
-pub halt_step : (v : CoreView) → IsStep v Halt Halting [] (record v { halted = true })
+pub halt_step : {E : Type 0} (v : CoreView E) → IsStep v Halt Halting [] (record v { halted = true })
 halt_step v = accepted_step refl refl (λ m sh. record {
   passes = tt;
   replies = refl;
@@ -62,7 +61,7 @@ halt_step v = accepted_step refl refl (λ m sh. record {
   shown = record { counts = sh.counts; flags = λ i. record (sh.flags i) { halted = true }; recents = sh.recents };
 })
 
-pub complete_step : (v : CoreView) (h upto : ℕ) → CanComplete v h upto
+pub complete_step : {E : Type 0} (v : CoreView E) (h upto : ℕ) → CanComplete v h upto
     → IsStep v (Complete h upto) Completed [] (record v { completed = slice_set v.completed h upto })
 complete_step v h upto can = accepted_step refl refl (λ m sh. record {
   passes =
@@ -73,12 +72,12 @@ complete_step v h upto can = accepted_step refl refl (λ m sh. record {
 })
 
 -- the claim's gate is the least completed count that the core finds
-pub gate_same : (v : CoreView) (m : State) → Shows v m → least_completed m (gating v.setup m) ≡ gate_of v
+pub gate_same : {E : Type 0} (v : CoreView E) (m : State E) → Shows v m → least_completed m (gating v.setup m) ≡ gate_of v
 gate_same v m sh =
     ap (λ fs. least_of (map (λ h. slice_index m.completed h) fs)) (finals_agree v.setup.upstreams m.retired (retired_in v) (same_retired sh))
     ∙ ap (λ cs. least_of (map (λ h. slice_index cs h) (finals_without v.setup.upstreams (retired_in v)))) (same_completed sh)
 
-module _ (v : CoreView) (h upto : ℕ) (whole : IsWhole v) (can : CanComplete v h upto) where
+module _ {E : Type 0} (v : CoreView E) (h upto : ℕ) (whole : IsWhole v) (can : CanComplete v h upto) where
   abbrev counts : List ℕ
   counts = slice_set v.completed h upto
 
@@ -101,22 +100,22 @@ owner_after : (owners : List ℕ) (n p s : ℕ) → length owners ≤ s → s < 
 owner_after owners n p s l g = get_or-append_right owners (replicate n p) (length owners) s 0 refl l ∙ get_or-replicate n (s - length owners) p 0 (omega arith)
 
 -- a recent sequence is found among the last claimed
-pub known_at-recent : (known : ℕ → Known) (next size s : ℕ) → s < next → next ≤ s + size
+pub known_at-recent : {E : Type 0} (known : ℕ → Known E) (next size s : ℕ) → s < next → next ≤ s + size
     → get_or (recent_of known next size) (s - (next - size)) Nothing ≡ known s
 known_at-recent known next size s claimed near =
     get_or-map-range_with_len known (next - size) (min next size) (s - (next - size)) s Nothing (omega arith) (omega arith)
 
 -- what a claim leaves known: the fresh sequences are claimed, and of the others as much as before
-pub record ClaimsKnown (v : CoreView) (p n : ℕ) (known : ℕ → Known) : Type 0 where
+pub record ClaimsKnown {E : Type 0} (v : CoreView E) (p n : ℕ) (known : ℕ → Known E) : Type 0 where
   pub fresh : (s : ℕ) → v.next ≤ s → s < v.next + n → known s ≡ ClaimedBy p
   pub kept : (s : ℕ) → s < v.next → v.next + n ≤ s + v.setup.size → known s ≡ known_at v s
 
-module _ (v : CoreView) (p n : ℕ) (known : ℕ → Known) (knows : ClaimsKnown v p n known) where
-  more_claimed : (m : State) → Shows v m → length (m.owners ++ replicate n p) ≡ v.next + n
+module _ {E : Type 0} (v : CoreView E) (p n : ℕ) (known : ℕ → Known E) (knows : ClaimsKnown v p n known) where
+  more_claimed : (m : State E) → Shows v m → length (m.owners ++ replicate n p) ≡ v.next + n
   more_claimed m sh = length-append m.owners (replicate n p) ∙ ap (λ k. length m.owners + k) (length-replicate n p) ∙ ap (λ k. k + n) (same_next sh)
 
   -- what is claimed is not published yet, so the front stays
-  front_stays : (m : State) → Shows v m → least_outside m.published (length (m.owners ++ replicate n p)) ≡ v.front
+  front_stays : (m : State E) → Shows v m → least_outside m.published (length (m.owners ++ replicate n p)) ≡ v.front
   front_stays m sh =
       let least : IsLeast m.published (next m) (front m) = least_is m.published (next m) in
       let here : next m ≡ v.next = same_next sh in
@@ -132,7 +131,7 @@ module _ (v : CoreView) (p n : ℕ) (known : ℕ → Known) (knows : ClaimsKnown
         ];
       })
 
-  claimed_recents : n ≤ v.setup.size → (m : State) → Shows v m
+  claimed_recents : n ≤ v.setup.size → (m : State E) → Shows v m
       → KnowsRecents v.setup.size (v.next + n) (known_at (record v { next = v.next + n; recent = recent_of known (v.next + n) v.setup.size }))
       (m.owners ++ replicate n p) m.published m.written
   claimed_recents fits m sh =
@@ -173,6 +172,6 @@ module _ (v : CoreView) (p n : ℕ) (known : ℕ → Known) (knows : ClaimsKnown
   })
 
 -- the least of the finals' counts is the least of all that are left
-pub finals_least : (v : CoreView) → IsWhole v → (h : ℕ) → h < handlers v.setup → retired_in v h ≡ false → gate_of v ≤ slice_index v.completed h
+pub finals_least : {E : Type 0} (v : CoreView E) → IsWhole v → (h : ℕ) → h < handlers v.setup → retired_in v h ≡ false → gate_of v ≤ slice_index v.completed h
 finals_least v whole h inside left =
     least_gates v.setup.upstreams whole.graph.gate (retired_in v) (λ k. slice_index v.completed k) (orderly whole.order) h inside left

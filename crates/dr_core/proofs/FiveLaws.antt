@@ -21,12 +21,12 @@ use Rattle.dr_core.proofs.Sound.{IsSound, orderly, entry_of, step_changes, set_c
 use Rattle.dr_core.proofs.Keeps.{opening_sound, step_sound, zeros}
 
 -- the machine is in this state after this transcript
-pub record Reached (c : Setup) (t : Transcript) (m : State) : Type 0 where
+pub record Reached {E : Type 0} (c : Setup) (t : Transcript E) (m : State E) : Type 0 where
   pub sound : IsSound c m
   pub tells : Tells t m
 
-opening_reached : (c : Setup) → Reached c [] (opening c)
-opening_reached c = record {
+opening_reached : {E : Type 0} (c : Setup) → Reached {E = E} c [] (opening c)
+opening_reached {E} c = record {
   sound = opening_sound c;
   tells = record {
     next = refl;
@@ -35,7 +35,7 @@ opening_reached c = record {
     written = λ s. refl;
     events = λ s h. refl;
     taken = λ h. sym (zeros (handlers c) h);
-    received = λ h k l. absurd (let z : slice_index (opening c).taken h ≡ 0 = zeros (handlers c) h in omega arith);
+    received = λ h k l. absurd (let z : slice_index (opening {E = E} c).taken h ≡ 0 = zeros (handlers c) h in omega arith);
     completed = λ h. sym (zeros (handlers c) h);
     halted = refl;
     retired = λ h. refl;
@@ -43,44 +43,44 @@ opening_reached c = record {
 }
 
 -- an entry is the machine's where it has its reply and values
-same_entry : (c : Setup) (m : State) (e : Entry) → (step c m e.command).reply ≡ e.reply → (step c m e.command).values ≡ e.values
+same_entry : {E : Type 0} (c : Setup) (m : State E) (e : Entry E) → (step c m e.command).reply ≡ e.reply → (step c m e.command).values ≡ e.values
     → entry_of e.command (step c m e.command) ≡ e
 same_entry c m e r v = rw (r, v)
 
-reached_more : (c : Setup) (t : Transcript) (m : State) (e : Entry) → Reached c t m → (step c m e.command).reply ≡ e.reply
+reached_more : {E : Type 0} (c : Setup) (t : Transcript E) (m : State E) (e : Entry E) → Reached c t m → (step c m e.command).reply ≡ e.reply
     → (step c m e.command).values ≡ e.values → Reached c (t ++ e ∷ []) (step c m e.command).state
 reached_more c t m e at r v =
     let told : Tells (t ++ entry_of e.command (step c m e.command) ∷ []) (step c m e.command).state =
     tells_more t m _ _ at.tells (step_changes c m e.command at.sound) in
     record { sound = step_sound c m e.command at.sound; tells = rw (same_entry c m e r v) at told }
 
-pub reached_from : (c : Setup) (t es : Transcript) (m n : State) → Reached c t m → LeadsFrom c m es n → Reached c (t ++ es) n
+pub reached_from : {E : Type 0} (c : Setup) (t es : Transcript E) (m n : State E) → Reached c t m → LeadsFrom c m es n → Reached c (t ++ es) n
 reached_from c t [] m n at e = rw append-nil (rw e at at)
 reached_from c t (x ∷ es) m n at h =
     let r : Reached c ((t ++ x ∷ []) ++ es) n = reached_from c (t ++ x ∷ []) es (step c m x.command).state n (reached_more c t m x at h.0 h.1) h.2 in
     rw append_assoc at r
 
-pub reached : (c : Setup) (t : Transcript) (m : State) → LeadsTo c t m → Reached c t m
+pub reached : {E : Type 0} (c : Setup) (t : Transcript E) (m : State E) → LeadsTo c t m → Reached c t m
 reached c t m h = reached_from c [] t (opening c) m (opening_reached c) h
 
 -- a transcript leads through a state at each of its beginnings
-pub leads_through : (c : Setup) (start rest : Transcript) (m n : State) → LeadsFrom c m (start ++ rest) n
-    → (between : State) × LeadsFrom c m start between × LeadsFrom c between rest n
+pub leads_through : {E : Type 0} (c : Setup) (start rest : Transcript E) (m n : State E) → LeadsFrom c m (start ++ rest) n
+    → (between : State E) × LeadsFrom c m start between × LeadsFrom c between rest n
 leads_through c [] rest m n h = (m, refl, h)
-leads_through c (e ∷ es) rest m n h =
-    let r : (between : State) × LeadsFrom c (step c m e.command).state es between × LeadsFrom c between rest n =
+leads_through {E} c (e ∷ es) rest m n h =
+    let r : (between : State E) × LeadsFrom c (step c m e.command).state es between × LeadsFrom c between rest n =
     leads_through c es rest (step c m e.command).state n h.2 in
     (r.0, (h.0, h.1, r.1), r.2)
 
-pub leads_append : (c : Setup) (start rest : Transcript) (m between n : State) → LeadsFrom c m start between → LeadsFrom c between rest n
+pub leads_append : {E : Type 0} (c : Setup) (start rest : Transcript E) (m between n : State E) → LeadsFrom c m start between → LeadsFrom c between rest n
     → LeadsFrom c m (start ++ rest) n
 leads_append c [] rest m between n a b = rw a b
 leads_append c (e ∷ es) rest m between n a b = (a.0, a.1, leads_append c es rest (step c m e.command).state between n a.2 b)
 
-front_same : (t : Transcript) (m : State) → Tells t m → front_of t ≡ front m
+front_same : {E : Type 0} (t : Transcript E) (m : State E) → Tells t m → front_of t ≡ front m
 front_same t m told = rw (told.next) (least_agree (is_published t) m.published (next m) told.published)
 
-receives : (c : Setup) (t : Transcript) (m : State) → Reached c t m → (h : ℕ) → ReceivedInOrder t h
+receives : {E : Type 0} (c : Setup) (t : Transcript E) (m : State E) → Reached c t m → (h : ℕ) → ReceivedInOrder t h
 receives c t m at h =
     let took : taken_by t h ≡ slice_index m.taken h = at.tells.taken h in
     let in_front : slice_index m.taken h ≤ front m = at.sound.in_front h in
@@ -91,7 +91,7 @@ receives c t m at h =
     }
 
 -- what holds of an accepted poll in each of its four cases
-poll_cases : (c : Setup) (m : State) (h limit : ℕ) (P : Outcome → Type 0) → P (batch c m h limit)
+poll_cases : {E : Type 0} (c : Setup) (m : State E) (h limit : ℕ) (P : Outcome E → Type 0) → P (batch c m h limit)
     → (m.halted ≡ true → slice_index m.taken h ≡ next m → P (unchanged Drained m)) → P (unchanged Gating m) → P (unchanged Idle m)
     → P (accepted c m (Poll h limit))
 poll_cases c m h limit P b d g i =
@@ -101,10 +101,10 @@ poll_cases c m h limit P b d g i =
     (λ y. let both : (m.halted ≡ true) × ((slice_index m.taken h == next m) ≡ true) = and_parts _ _ y in d both.0 (eqb-true _ _ both.1))
     (λ n'. cond_both (nat_lt (slice_index m.taken h) (cursor c m)) _ _ P (λ y. g) (λ n''. i)))
 
-abbrev pub Rises : State → ℕ → Outcome → Type 0
+abbrev pub Rises : {E : Type 0} → State E → ℕ → Outcome E → Type 0
 Rises m h o = slice_index m.completed h ≤ slice_index o.state.completed h
 
-pub accepted_rises : (c : Setup) (m : State) (command : Command) (h : ℕ) → IsSound c m → NoneHold (refusals c m command) → Rises m h (accepted c m command)
+pub accepted_rises : {E : Type 0} (c : Setup) (m : State E) (command : Command E) (h : ℕ) → IsSound c m → NoneHold (refusals c m command) → Rises m h (accepted c m command)
 accepted_rises c m (Claim p n) h sound none = omega arith
 accepted_rises c m (Write p s v) h sound none = omega arith
 accepted_rises c m (Publish p lo hi) h sound none = omega arith
@@ -119,19 +119,19 @@ accepted_rises c m (Complete at upto) h sound none =
 accepted_rises c m Halt h sound none = omega arith
 accepted_rises c m (Retire at) h sound none = omega arith
 
-step_rises : (c : Setup) (m : State) (command : Command) (h : ℕ) → IsSound c m → Rises m h (step c m command)
+step_rises : {E : Type 0} (c : Setup) (m : State E) (command : Command E) (h : ℕ) → IsSound c m → Rises m h (step c m command)
 step_rises c m command h sound =
     unless-cases (Rises m h) (refusals c m command) m (accepted c m command) (λ r. omega arith) (accepted_rises c m command h sound)
 
 -- an accepted claim has room, and comes before a halt
-abbrev ClaimsInRoom : Setup → State → Outcome → Type 0
+abbrev ClaimsInRoom : {E : Type 0} → Setup → State E → Outcome E → Type 0
 ClaimsInRoom c m o =
     (lo hi : ℕ) → o.reply ≡ Claimed lo hi → (m.halted ≡ false) × ((f : ℕ) → Contains (gating c m) f → hi + 1 ≤ c.size + slice_index m.completed f)
 
 claimed_end : (lo hi a b : ℕ) → Claimed a b ≡ Claimed lo hi → hi ≡ b
 claimed_end lo hi a b e = cc
 
-accepted_room : (c : Setup) (m : State) (command : Command) → NoneHold (refusals c m command) → ClaimsInRoom c m (accepted c m command)
+accepted_room : {E : Type 0} (c : Setup) (m : State E) (command : Command E) → NoneHold (refusals c m command) → ClaimsInRoom c m (accepted c m command)
 accepted_room c m (Claim p n) none lo hi e =
     let ends : hi ≡ next m + n - 1 = claimed_end lo hi (next m) (next m + n - 1) e in
     let ne : n ≢ 0 = eqb-false n 0 (or_parts _ _ none.1.0).0 in
@@ -150,20 +150,20 @@ accepted_room c m (Complete at upto) none lo hi e = cc
 accepted_room c m Halt none lo hi e = cc
 accepted_room c m (Retire at) none lo hi e = cc
 
-step_room : (c : Setup) (m : State) (command : Command) → ClaimsInRoom c m (step c m command)
+step_room : {E : Type 0} (c : Setup) (m : State E) (command : Command E) → ClaimsInRoom c m (step c m command)
 step_room c m command = unless-cases (ClaimsInRoom c m) (refusals c m command) m (accepted c m command) (λ r lo hi e. cc) (accepted_room c m command)
 
 -- who is told that it drained the ring has taken all, after a halt
-abbrev Drains : State → ℕ → Outcome → Type 0
+abbrev Drains : {E : Type 0} → State E → ℕ → Outcome E → Type 0
 Drains m h o = o.reply ≡ Drained → (m.halted ≡ true) × (slice_index m.taken h ≡ next m)
 
-step_drains : (c : Setup) (m : State) (h limit : ℕ) → Drains m h (step c m (Poll h limit))
+step_drains : {E : Type 0} (c : Setup) (m : State E) (h limit : ℕ) → Drains m h (step c m (Poll h limit))
 step_drains c m h limit =
     unless-cases (Drains m h) (refusals c m (Poll h limit)) m (accepted c m (Poll h limit)) (λ r e. cc)
     (λ none. poll_cases c m h limit (Drains m h) (λ e. cc) (λ a b e. (a, b)) (λ e. cc) (λ e. cc))
 
 -- along a transcript no completed count falls
-rises_along : (c : Setup) (es : Transcript) (m n : State) (h : ℕ) → IsSound c m → LeadsFrom c m es n → slice_index m.completed h ≤ slice_index n.completed h
+rises_along : {E : Type 0} (c : Setup) (es : Transcript E) (m n : State E) (h : ℕ) → IsSound c m → LeadsFrom c m es n → slice_index m.completed h ≤ slice_index n.completed h
 rises_along c [] m n h sound leads = rw leads (omega arith)
 rises_along c (e ∷ es) m n h sound leads =
     let one : slice_index m.completed h ≤ slice_index (step c m e.command).state.completed h = step_rises c m e.command h sound in
@@ -171,11 +171,11 @@ rises_along c (e ∷ es) m n h sound leads =
     rises_along c es (step c m e.command).state n h (step_sound c m e.command sound) leads.2 in
     omega arith
 
-rises : (c : Setup) (t : Transcript) (m : State) → LeadsTo c t m → (h : ℕ) (earlier since : Transcript) → earlier ++ since ≡ t
+rises : {E : Type 0} (c : Setup) (t : Transcript E) (m : State E) → LeadsTo c t m → (h : ℕ) (earlier since : Transcript E) → earlier ++ since ≡ t
     → completed_by earlier h ≤ completed_by t h
-rises c t m leads h earlier since is =
+rises {E} c t m leads h earlier since is =
     let whole : LeadsFrom c (opening c) (earlier ++ since) m = rw is leads in
-    let through : (between : State) × LeadsFrom c (opening c) earlier between × LeadsFrom c between since m =
+    let through : (between : State E) × LeadsFrom c (opening c) earlier between × LeadsFrom c between since m =
     leads_through c earlier since (opening c) m whole in
     let before : Reached c earlier through.0 = reached c earlier through.0 through.1 in
     let after : Reached c t m = reached c t m leads in
@@ -184,7 +184,7 @@ rises c t m leads h earlier since is =
     let l : slice_index through.0.completed h ≤ slice_index m.completed h = rises_along c since through.0 m h before.sound through.2 in
     omega arith
 
-follows : (c : Setup) (t : Transcript) (m : State) → LeadsTo c t m → (h : ℕ) → AfterUpstreams c t h
+follows : {E : Type 0} (c : Setup) (t : Transcript E) (m : State E) → LeadsTo c t m → (h : ℕ) → AfterUpstreams c t h
 follows c t m leads h =
     let at : Reached c t m = reached c t m leads in
     let took : taken_by t h ≡ slice_index m.taken h = at.tells.taken h in
@@ -198,7 +198,7 @@ follows c t m leads h =
           omega arith);
     }
 
-module _ (c : Setup) (t : Transcript) (m : State) (e : Entry) (at : Reached c t m) (r : (step c m e.command).reply ≡ e.reply) where
+module _ {E : Type 0} (c : Setup) (t : Transcript E) (m : State E) (e : Entry E) (at : Reached c t m) (r : (step c m e.command).reply ≡ e.reply) where
   room : HasRoom c t e
   room lo hi f claimed has =
       let a : completed_by t f ≡ slice_index m.completed f = at.tells.completed f in
@@ -226,14 +226,14 @@ module _ (c : Setup) (t : Transcript) (m : State) (e : Entry) (at : Reached c t 
       }
 
 -- where a transcript leads at a beginning of it, and what it answers next
-abbrev Through : Setup → Transcript → Transcript → State → Type 0
-Through c start rest m = (between : State) × LeadsFrom c (opening c) start between × LeadsFrom c between rest m
+abbrev Through : {E : Type 0} → Setup → Transcript E → Transcript E → State E → Type 0
+Through {E} c start rest m = (between : State E) × LeadsFrom c (opening c) start between × LeadsFrom c between rest m
 
-through : (c : Setup) (t : Transcript) (m : State) → LeadsTo c t m → (start rest : Transcript) → start ++ rest ≡ t → Through c start rest m
+through : {E : Type 0} (c : Setup) (t : Transcript E) (m : State E) → LeadsTo c t m → (start rest : Transcript E) → start ++ rest ≡ t → Through c start rest m
 through c t m leads start rest is = leads_through c start rest (opening c) m (rw is leads)
 
 -- every transcript that leads to a state from the opening is lawful
-pub lawful : (c : Setup) (t : Transcript) (m : State) → LeadsTo c t m → Laws c t
+pub lawful : {E : Type 0} (c : Setup) (t : Transcript E) (m : State E) → LeadsTo c t m → Laws c t
 lawful c t m leads = record {
   received_in_order = λ start rest is h inside. (let r : Through c start rest m = through c t m leads start rest is in
       receives c start r.0 (reached c start r.0 r.1) h);
@@ -247,14 +247,14 @@ lawful c t m leads = record {
 }
 
 -- a handler that may retire leaves another
-pub leaves_another : (c : Setup) (m : State) (h : ℕ) → NoneHold (refusals c m (Retire h)) → (k : ℕ) × (k < handlers c) × (retired_with m h k ≡ false)
+pub leaves_another : {E : Type 0} (c : Setup) (m : State E) (h : ℕ) → NoneHold (refusals c m (Retire h)) → (k : ℕ) × (k < handlers c) × (retired_with m h k ≡ false)
 leaves_another c m h none =
     let at : (k : ℕ) × (0 ≤ k) × (k < 0 + handlers c) × (not (retired_with m h k) ≡ true) =
     found_in (λ k. not (retired_with m h k)) 0 (handlers c) (not-false _ none.1.1.1.0) in
     (at.0, omega (arith, at.2), not-true _ at.3)
 
 -- no retirement lowers the count that a claim is gated by
-pub retirement_keeps : (c : Setup) (t : Transcript) (m : State) (h : ℕ) → IsLayered c.upstreams → LeadsTo c t m → gate c m ≤ gate c (step c m (Retire h)).state
+pub retirement_keeps : {E : Type 0} (c : Setup) (t : Transcript E) (m : State E) (h : ℕ) → IsLayered c.upstreams → LeadsTo c t m → gate c m ≤ gate c (step c m (Retire h)).state
 retirement_keeps c t m h layered leads =
     let sound : IsSound c m = (reached c t m leads).sound in
     unless-cases (λ o. gate c m ≤ gate c o.state) (refusals c m (Retire h)) m (accepted c m (Retire h)) (λ r. omega arith)

@@ -43,7 +43,7 @@ pub written_back : (kept : Vec Bool Global) (flags read gone : List Bool) (graph
     → AreGating flags graph (flagged read) → AreGating (with_items kept flags).items graph (flagged gone)
 written_back kept flags read gone graph len same gating = rw (with_items_is kept flags len) (rw same at gating)
 
-module _ (v : CoreView) (whole : IsWhole v) where
+module _ {E : Type 0} (v : CoreView E) (whole : IsWhole v) where
   -- a count that no final is below is no more than the least one
   seen_below : (count : ℕ) → ((f : ℕ) → Contains (finals_without v.setup.upstreams (retired_in v)) f → count ≤ slice_index v.completed f) → count ≤ gate_of v
   seen_below count all =
@@ -84,9 +84,9 @@ module _ (v : CoreView) (whole : IsWhole v) where
       omega arith
 
 -- what refuses a claim, where its producer and its count are good
-module _ (v : CoreView) (p n : ℕ) (producer : p < producers v.setup.mode) (some : n ≢ 0) (fits : n ≤ v.setup.size) where
+module _ {E : Type 0} (v : CoreView E) (p n : ℕ) (producer : p < producers v.setup.mode) (some : n ≢ 0) (fits : n ≤ v.setup.size) where
   -- the tests before those of the state
-  past : (m : State) → Shows v m → (r : Refusal) → Refuses r ((m.halted, Halted) ∷ (nat_lt v.setup.limit (next m + n), Exhausted) ∷ (nat_lt (v.setup.size + gate v.setup m) (next m + n), NoRoom) ∷ []) → Refuses r (refusals v.setup m (Claim p n))
+  past : (m : State E) → Shows v m → (r : Refusal) → Refuses r ((m.halted, Halted) ∷ (nat_lt v.setup.limit (next m + n), Exhausted) ∷ (nat_lt (v.setup.size + gate v.setup m) (next m + n), NoRoom) ∷ []) → Refuses r (refusals v.setup m (Claim p n))
   past m sh r h = inr (lt-leb _ _ producer, inr (or_from _ _ (ne_eqb n 0 some) (le-ltb _ _ fits), h))
 
   pub claim_refused : (r : Refusal) → claim_fault v n ≡ Some r → IsStep v (Claim p n) (Refused r) [] v
@@ -109,7 +109,7 @@ module _ (v : CoreView) (p n : ℕ) (producer : p < producers v.setup.mode) (som
       ]))
 
 -- a claim that nothing refuses
-pub claim_accepted : (v : CoreView) (n : ℕ) → claim_fault v n ≡ None
+pub claim_accepted : {E : Type 0} (v : CoreView E) (n : ℕ) → claim_fault v n ≡ None
     → (v.halted ≡ false) × (v.next + n ≤ v.setup.limit) × (v.next + n ≤ v.setup.size + gate_of v)
 claim_accepted v n e = elim (cases_Bool v.halted) [
   | inl halted ↦ absurd (let is : ◌≡◌ {A = Option Refusal} (Some Halted) None = rw halted at e in cc)
@@ -123,5 +123,5 @@ claim_accepted v n e = elim (cases_Bool v.halted) [
 ]
 
 -- where none of the tests refuses it
-pub claim_fault-none : (v : CoreView) (n : ℕ) → v.halted ≡ false → v.next + n ≤ v.setup.limit → v.next + n ≤ v.setup.size + gate_of v → claim_fault v n ≡ None
+pub claim_fault-none : {E : Type 0} (v : CoreView E) (n : ℕ) → v.halted ≡ false → v.next + n ≤ v.setup.limit → v.next + n ≤ v.setup.size + gate_of v → claim_fault v n ≡ None
 claim_fault-none v n going limit room = rw (going, le-ltb _ _ limit, le-leb _ _ room)

@@ -16,13 +16,13 @@ use Rattle.dr_core.proofs.Recents.{single_ahead, single_owns, single_marks, sing
 use Rattle.dr_core.proofs.Writing.{near}
 
 -- the next stretch of one producer, written in order
-pub record InOrder (a : Inside) (lo hi : ℕ) : Type 0 where
+pub record InOrder {E : Type 0} (a : Inside E) (lo hi : ℕ) : Type 0 where
   pub single : is_single a.mode ≡ true
   pub begins : lo ≡ a.front
   pub order : lo ≤ hi
   pub written : hi < a.filled
 
-module _ (a : Inside) (kept : IsKept a) (p lo hi : ℕ) (producer : p < producers a.mode) (is : InOrder a lo hi) where
+module _ {E : Type 0} (a : Inside E) (kept : IsKept a) (p lo hi : ℕ) (producer : p < producers a.mode) (is : InOrder a lo hi) where
   pub claimed : hi < a.next
   claimed = (let upto : a.filled ≤ a.next = kept.available.filled in let written : hi < a.filled = is.written in omega arith)
 
@@ -56,7 +56,7 @@ module _ (a : Inside) (kept : IsKept a) (p lo hi : ℕ) (producer : p < producer
 
   pub next_step : IsStep (view_of a) (Publish p lo hi) Published [] (view_of (record a { front = hi + 1 }))
   next_step =
-      let v : CoreView = view_of a in
+      let v : CoreView E = view_of a in
       let low : v.front ≤ lo = (let b : lo ≡ a.front = is.begins in omega arith) in
       rw (marks, filled) at
       (publish_step v p lo hi (hi + 1) _
@@ -67,7 +67,7 @@ module _ (a : Inside) (kept : IsKept a) (p lo hi : ℕ) (producer : p < producer
 
   pub next_available : IsAvailable (kept_of (record a { front = hi + 1 })) a.size a.next
   next_available =
-      let v : CoreView = view_of a in
+      let v : CoreView E = view_of a in
       let low : v.front ≤ lo = (let b : lo ≡ a.front = is.begins in omega arith) in
       rw (marks, filled) at
       (publishes_available v (kept_of a) (known_there a) kept.available kept.whole.front some p lo hi (hi + 1) is.order claimed recent (near v kept.whole v.front (omega arith)) refl low (λ s. is.begins) new_front)

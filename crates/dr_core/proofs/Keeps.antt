@@ -8,7 +8,6 @@ use Rattle.std.proofs.lemmas.Bool.Decides.{nat_tests}
 use Rattle.std.proofs.lemmas.List.{length-append, length-replicate, length-set}
 use Rattle.dr_core.specs.declared.command.Command.{Command}
 use Rattle.dr_core.specs.declared.command.Command.TheVariants.{Claim, Write, Publish, Poll, Complete, Halt, Retire}
-use Rattle.dr_seq.specs.declared.event.Event.{Event}
 use Rattle.dr_graph.specs.Meaning.Graph.{upstreams_of}
 use Rattle.dr_core.specs.Meaning.Machine.{Setup, State, Outcome, handlers, next, front, available, offered}
 use Rattle.dr_core.specs.Meaning.Machine.{refusals, accepted, step, batch, publish_faults, cursor, opening}
@@ -27,7 +26,7 @@ front_on c old new taken completed on order = record {
   after = order.after;
 }
 
-claim_sound : (c : Setup) (m : State) (p n : ℕ) → IsSound c m → IsSound c (accepted c m (Claim p n)).state
+claim_sound : {E : Type 0} (c : Setup) (m : State E) (p n : ℕ) → IsSound c m → IsSound c (accepted c m (Claim p n)).state
 claim_sound c m p n sound =
     let more : next m ≤ length (m.owners ++ replicate n p) = rw length-append (omega arith) in
     record {
@@ -37,7 +36,7 @@ claim_sound c m p n sound =
           (least_grows m.published m.published (next m) (length (m.owners ++ replicate n p)) more (λ k y. y)) sound.order;
     }
 
-write_sound : (c : Setup) (m : State) (p at : ℕ) (v : Event) → IsSound c m → IsSound c (accepted c m (Write p at v)).state
+write_sound : {E : Type 0} (c : Setup) (m : State E) (p at : ℕ) (v : E) → IsSound c m → IsSound c (accepted c m (Write p at v)).state
 write_sound c m p at v sound = record {
   marks = record {
     claimed = sound.claimed;
@@ -47,7 +46,7 @@ write_sound c m p at v sound = record {
 }
 
 -- no sequence of the stretch is at fault
-each_written : (m : State) (p lo n : ℕ) → NoneHold (flat_map (publish_faults m p) (range_with_len lo n)) → (s : ℕ) → lo ≤ s → s < lo + n
+each_written : {E : Type 0} (m : State E) (p lo n : ℕ) → NoneHold (flat_map (publish_faults m p) (range_with_len lo n)) → (s : ℕ) → lo ≤ s → s < lo + n
     → is_none (m.written s) ≡ false
 each_written m p lo zero h s a b = absurd (omega arith)
 each_written m p lo (suc n) h s a b =
@@ -56,7 +55,7 @@ each_written m p lo (suc n) h s a b =
       | inr ne ↦ each_written m p (lo + 1) n h.1.1.1 s (omega arith) (omega arith)
     ]
 
-publish_sound : (c : Setup) (m : State) (p lo hi : ℕ) → IsSound c m → NoneHold (refusals c m (Publish p lo hi))
+publish_sound : {E : Type 0} (c : Setup) (m : State E) (p lo hi : ℕ) → IsSound c m → NoneHold (refusals c m (Publish p lo hi))
     → IsSound c (accepted c m (Publish p lo hi)).state
 publish_sound c m p lo hi sound none =
     let in_claimed : hi < next m = grind (arith, nat_tests, none.1.1.0) in
@@ -79,7 +78,7 @@ publish_sound c m p lo hi sound none =
           (least_grows m.published (λ k. m.published k || (nat_le lo k && nat_le k hi)) (next m) (next m) (omega arith) (λ k y. rw y)) sound.order;
     }
 
-complete_sound : (c : Setup) (m : State) (at upto : ℕ) → IsSound c m → NoneHold (refusals c m (Complete at upto))
+complete_sound : {E : Type 0} (c : Setup) (m : State E) (at upto : ℕ) → IsSound c m → NoneHold (refusals c m (Complete at upto))
     → IsSound c (accepted c m (Complete at upto)).state
 complete_sound c m at upto sound none =
     let inside : at < handlers c = grind (arith, nat_tests, none.0) in
@@ -102,11 +101,11 @@ complete_sound c m at upto sound none =
     }
 
 -- a handler with upstreams is offered no more than each completed
-offered_after : (m : State) (ups : List ℕ) (u : ℕ) → Contains ups u → offered m ups ≤ slice_index m.completed u
+offered_after : {E : Type 0} (m : State E) (ups : List ℕ) (u : ℕ) → Contains ups u → offered m ups ≤ slice_index m.completed u
 offered_after m [] u has = absurd (let l : has.0 < 0 = has.1 in omega arith)
 offered_after m (x ∷ xs) u has = least_of-member (λ h. slice_index m.completed h) (x ∷ xs) u has
 
-batch_sound : (c : Setup) (m : State) (at limit : ℕ) → IsSound c m → at < handlers c → slice_index m.taken at < available c m at
+batch_sound : {E : Type 0} (c : Setup) (m : State E) (at limit : ℕ) → IsSound c m → at < handlers c → slice_index m.taken at < available c m at
     → IsSound c (batch c m at limit).state
 batch_sound c m at limit sound inside more =
     let len : at < length m.taken = within c m at limit sound inside in
@@ -131,14 +130,14 @@ batch_sound c m at limit sound inside more =
       };
     }
 
-poll_sound : (c : Setup) (m : State) (at limit : ℕ) → IsSound c m → NoneHold (refusals c m (Poll at limit)) → IsSound c (accepted c m (Poll at limit)).state
-poll_sound c m at limit sound none =
-    let P : Outcome → Type 0 = λ o. IsSound c o.state in
+poll_sound : {E : Type 0} (c : Setup) (m : State E) (at limit : ℕ) → IsSound c m → NoneHold (refusals c m (Poll at limit)) → IsSound c (accepted c m (Poll at limit)).state
+poll_sound {E} c m at limit sound none =
+    let P : Outcome E → Type 0 = λ o. IsSound c o.state in
     cond_both (nat_lt (slice_index m.taken at) (available c m at)) _ _ P
     (λ y. batch_sound c m at limit sound (grind (arith, nat_tests, none.0)) (grind (arith, nat_tests, y)))
     (λ n. cond_both (m.halted && (slice_index m.taken at == next m)) _ _ P (λ y. sound) (λ n'. cond_both (nat_lt (slice_index m.taken at) (cursor c m)) _ _ P (λ y. sound) (λ n''. sound)))
 
-accepted_sound : (c : Setup) (m : State) (command : Command) → IsSound c m → NoneHold (refusals c m command) → IsSound c (accepted c m command).state
+accepted_sound : {E : Type 0} (c : Setup) (m : State E) (command : Command E) → IsSound c m → NoneHold (refusals c m command) → IsSound c (accepted c m command).state
 accepted_sound c m (Claim p n) sound none = claim_sound c m p n sound
 accepted_sound c m (Write p s v) sound none = write_sound c m p s v sound
 accepted_sound c m (Publish p lo hi) sound none = publish_sound c m p lo hi sound none
@@ -147,7 +146,7 @@ accepted_sound c m (Complete h upto) sound none = complete_sound c m h upto soun
 accepted_sound c m Halt sound none = record { marks = sound.marks; order = sound.order }
 accepted_sound c m (Retire h) sound none = record { marks = sound.marks; order = sound.order }
 
-pub step_sound : (c : Setup) (m : State) (command : Command) → IsSound c m → IsSound c (step c m command).state
+pub step_sound : {E : Type 0} (c : Setup) (m : State E) (command : Command E) → IsSound c m → IsSound c (step c m command).state
 step_sound c m command sound =
     unless-cases (λ o. IsSound c o.state) (refusals c m command) m (accepted c m command) (λ r. sound) (accepted_sound c m command sound)
 
@@ -156,7 +155,7 @@ zeros zero h = refl
 zeros (suc n) zero = refl
 zeros (suc n) (suc h) = zeros n h
 
-pub opening_sound : (c : Setup) → IsSound c (opening c)
+pub opening_sound : {E : Type 0} (c : Setup) → IsSound {E = E} c (opening c)
 opening_sound c = record {
   marks = record { claimed = λ s h. absurd (false≢true h); written = λ s h. absurd (false≢true h) };
   order = record {

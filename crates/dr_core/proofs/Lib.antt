@@ -22,4 +22,9 @@ pub mod Showings
 pub mod Gating
 pub mod InOrder
 pub mod Retiring
+pub mod Progress
+pub mod Finishing
+pub mod Resting
+pub mod Going
+pub mod Turns
 pub mod ManyWrites

@@ -1,11 +1,12 @@
 -- A new core shows the opening.
-use Rattle.std.proofs.Common.{◌≡◌, ℕ, zero, suc, ◌≤◌, ◌^◌, Bool, List, [], arith, refl, ap, sym, ◌∙◌, length, replicate, false}
+use Rattle.std.proofs.Common.{◌≡◌, ℕ, zero, suc, ◌≤◌, ◌^◌, Bool, List, [], arith, refl, ap, sym, ◌∙◌, length, map, min, replicate, false, ◌-◌}
+use Rattle.std.specs.List.{range_with_len}
 use Rattle.std.proofs.lemmas.Bool.{or_parts, ltb-false}
 use Rattle.std.proofs.lemmas.List.{length-replicate}
 use Rattle.dr_graph.specs.Meaning.Name.{Name}
 use Rattle.dr_core.specs.Meaning.Machine.{Setup, handlers, opening, least_outside}
 use Rattle.dr_graph.specs.Meaning.Graph.{flagged}
-use Rattle.dr_core.specs.Calls.CoreView.{Known, CoreView}
+use Rattle.dr_core.specs.Calls.CoreView.{Known, CoreView, opened, recent_of}
 use Rattle.dr_core.specs.Calls.Shows.{Shows}
 use Rattle.dr_core.specs.Calls.OpenFault.{is_bad_limit}
 use Rattle.dr_core.specs.Meaning.Runs.{IsReached}
@@ -24,10 +25,14 @@ unflagged (suc n) zero = refl
 unflagged (suc n) (suc h) = unflagged n h
 
 -- a core over a graph, as it is opened
-abbrev pub new_core : Setup → List Name → List Known → List ℕ → List ℕ → List Bool → CoreView
+abbrev pub new_core : {E : Type 0} → Setup → List Name → List (Known E) → List ℕ → List ℕ → List Bool → CoreView E
 new_core c names recent taken completed retired = record { setup = c; names = names; next = 0; front = 0; taken = taken; completed = completed; halted = false; retired = retired; recent = recent }
 
-module _ (c : Setup) (names : List Name) (recent : List Known) (taken completed : List ℕ) (retired : List Bool)
+-- nothing is recent where nothing is claimed
+pub none_recent : {E : Type 0} (known : ℕ → Known E) (size : ℕ) → recent_of known 0 size ≡ []
+none_recent known size = let none : min 0 size ≡ 0 = omega arith in ap (λ n. map known (range_with_len (0 - size) n)) none
+
+module _ {E : Type 0} (c : Setup) (names : List Name) (recent : List (Known E)) (taken completed : List ℕ) (retired : List Bool)
     (none_taken : taken ≡ replicate (handlers c) 0) (none_completed : completed ≡ replicate (handlers c) 0)
     (none_retired : retired ≡ replicate (handlers c) false) where
   pub opening_shows : Shows (new_core c names recent taken completed retired) (opening c)
@@ -36,6 +41,19 @@ module _ (c : Setup) (names : List Name) (recent : List Known) (taken completed 
     counts = λ i. record { next = 0; front = 0; taken = sym none_taken i; completed = sym none_completed i };
     flags = λ i. record { halted = false; retired = λ h. sym (ap (λ (flags : List Bool). flagged flags h) none_retired ∙ unflagged (handlers c) h) i };
     recents = record { recent = λ s l r. absurd (omega arith); unclaimed = λ s l. (refl, refl) };
+  }
+
+  pub opening_seen : recent ≡ [] → new_core c names recent taken completed retired ≡ opened c names
+  opening_seen none = λ i. record {
+    setup = c;
+    names = names;
+    next = 0;
+    front = 0;
+    taken = none_taken i;
+    completed = none_completed i;
+    halted = false;
+    retired = none_retired i;
+    recent = none i;
   }
 
   opening_reached : IsReached (new_core c names recent taken completed retired)

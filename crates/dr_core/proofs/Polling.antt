@@ -1,43 +1,44 @@
 -- A poll of the core is the machine's.
 use Rattle.std.proofs.Common.{◌≡◌, ℕ, zero, suc, ◌+◌, ◌-◌, ◌<◌, ◌≤◌, ◌≢◌, inl, inr, min, Bool, true, false, ◌&&◌, List, [], ◌∷◌}
-use Rattle.std.proofs.Common.{◌++◌, arith, refl, ap, sym, ◌∙◌, length, map, slice_index, slice_set, get_or, take, drop, Option}
-use Rattle.std.specs.Prelude.{◌==◌, nat_le, nat_lt, unwrap_or, if◌then◌else◌, Contains}
-use Rattle.std.specs.List.{range_with_len}
+use Rattle.std.proofs.Common.{◌++◌, arith, refl, ap, sym, ◌∙◌, length, map, slice_index, slice_set, get_or, take, drop, Option, Some}
+use Rattle.std.specs.Prelude.{◌==◌, nat_le, nat_lt, if◌then◌else◌, Contains}
+use Rattle.std.specs.List.{range_with_len, filter_map}
 use Rattle.std.proofs.lemmas.Bool.{cond-true, cond-false, cases_Bool, false≢true, cases_eq, cases_lt, lt-leb, lt-ltb, le-ltb, ne_eqb, eq-eqb, and_from}
 use Rattle.dr_core.specs.declared.command.Command.TheVariants.{Poll}
 use Rattle.dr_core.specs.declared.command.Reply.{Reply}
 use Rattle.dr_core.specs.declared.command.Reply.TheVariants.{Batch, Drained, Gating, Idle}
-use Rattle.dr_seq.specs.declared.event.Event.{Event}
-use Rattle.dr_seq.specs.Event.{no_event}
 use Rattle.dr_seq.proofs.Sizes.{size_positive}
 use Rattle.dr_graph.specs.Meaning.Graph.{upstreams_of, IsGraph, least_of}
-use Rattle.dr_core.specs.Meaning.Machine.{State, handlers, is_single, next, available, offered, cursor, batch, unchanged, accepted, step}
+use Rattle.dr_core.specs.Meaning.Machine.{State, Outcome, handlers, is_single, next, available, offered, cursor, batch, unchanged, accepted, step}
 use Rattle.dr_core.specs.Calls.CoreView.{Known, Nothing, ClaimedBy, WrittenBy, PublishedWith, CoreView, known_at, retired_in}
 use Rattle.dr_core.specs.Inside.Availability.{is_shown, event_known}
-use Rattle.dr_core.specs.Calls.Shows.{Shows, Agrees, IsStep, offered_to, poll_reply, polled}
+use Rattle.dr_core.specs.Calls.Shows.{Shows, Agrees, IsStep, TakesIfBatch, offered_to, poll_reply, polled}
 use Rattle.dr_core.specs.Meaning.Runs.{count_in}
 use Rattle.dr_core.specs.declared.refusal.Refusal.{Refusal}
 use Rattle.dr_core.specs.declared.command.Polled.{Polled}
 use Rattle.dr_core.specs.declared.command.Polled.TheVariants as answer
 use Rattle.std.proofs.Common.{Result, Ok, Err}
 use Rattle.std.proofs.lemmas.List.{take-append-le, length-take-le}
-use Rattle.dr_core.specs.Inside.Fields.{IsWhole}
+use Rattle.dr_core.specs.Inside.Fields.{IsWhole, IsNothing}
 use Rattle.dr_core.proofs.CoreSteps.{accepted_step}
 use Rattle.dr_core.proofs.Shown.{same_next, same_front, same_taken, same_completed, same_halted, same_retired}
 use Rattle.dr_core.proofs.Leasts.{least_of-le, least_of-member}
 use Rattle.std.proofs.lemmas.Bool.{leb-false}
 use Rattle.dr_core.proofs.Writing.{below_front}
-use Rattle.std.specs.Prelude.{All}
+use Rattle.std.specs.Prelude.{All, is_none}
+use Rattle.std.proofs.lemmas.Bool.{cond_both}
+use Rattle.std.proofs.lemmas.Bool.Decides.{nat_tests}
+use Rattle.dr_core.proofs.Sound.{given}
 use Rattle.std.proofs.lemmas.List.Elements.{Contains-get_or}
 use Rattle.std.proofs.lemmas.List.{get_or_past, get_or_read}
 
 -- what is offered by the core is what the machine offers
-offered_same : (v : CoreView) (m : State) → Shows v m → (ups : List ℕ) → offered m ups ≡ offered_to v ups
+offered_same : {E : Type 0} (v : CoreView E) (m : State E) → Shows v m → (ups : List ℕ) → offered m ups ≡ offered_to v ups
 offered_same v m sh [] = same_front sh
 offered_same v m sh (u ∷ us) = ap (λ cs. least_of (map (λ h. slice_index cs h) (u ∷ us))) (same_completed sh)
 
 -- no more than is published, and than each upstream completed
-offered_front : (v : CoreView) → IsWhole v → (ups : List ℕ) → offered_to v ups ≤ v.front
+pub offered_front : {E : Type 0} (v : CoreView E) → IsWhole v → (ups : List ℕ) → offered_to v ups ≤ v.front
 offered_front v whole [] = omega arith
 offered_front v whole (u ∷ us) =
     let a : least_of (map (λ h. slice_index v.completed h) (u ∷ us)) ≤ slice_index v.completed u =
@@ -46,37 +47,37 @@ offered_front v whole (u ∷ us) =
     let d : slice_index v.taken u ≤ v.front = whole.in_front u in
     omega arith
 
-offered_upstream : (v : CoreView) (ups : List ℕ) (u : ℕ) → Contains ups u → offered_to v ups ≤ slice_index v.completed u
+offered_upstream : {E : Type 0} (v : CoreView E) (ups : List ℕ) (u : ℕ) → Contains ups u → offered_to v ups ≤ slice_index v.completed u
 offered_upstream v [] u has = absurd (let l : has.0 < 0 = has.1 in omega arith)
 offered_upstream v (x ∷ xs) u has = least_of-member (λ h. slice_index v.completed h) (x ∷ xs) u has
 
 -- of a published sequence the event is known
-known_value : (known : Known) (o : ℕ) (b : Bool) (w : Option Event) → b ≡ true → Agrees known o b w
-    → (is_shown known ≡ true) × (event_known known ≡ unwrap_or w no_event)
+known_value : {E : Type 0} (known : Known E) (o : ℕ) (b : Bool) (w : Option E) → b ≡ true → Agrees known o b w
+    → (is_shown known ≡ true) × (event_known known ≡ w)
 known_value Nothing o b w y h = absurd h
 known_value (ClaimedBy q) o b w y h = absurd (false≢true (sym h.1 ∙ y))
 known_value (WrittenBy q event) o b w y h = absurd (false≢true (sym h.1 ∙ y))
-known_value (PublishedWith event) o b w y h = (refl, ap (λ x. unwrap_or x no_event) (sym h.1))
+known_value (PublishedWith event) o b w y h = (refl, sym h.1)
 
-map_same : (f g : ℕ → Event) (a n : ℕ) → ((k : ℕ) → a ≤ k → k < a + n → f k ≡ g k) → map f (range_with_len a n) ≡ map g (range_with_len a n)
+map_same : {E : Type 0} (f : ℕ → Option E) (g : ℕ → E) (a n : ℕ) → ((k : ℕ) → a ≤ k → k < a + n → f k ≡ Some (g k)) → filter_map f (range_with_len a n) ≡ map g (range_with_len a n)
 map_same f g a zero h = refl
-map_same f g a (suc n) h = (let e : f a ≡ g a = h a (omega arith) (omega arith) in
-    let r : map f (range_with_len (a + 1) n) ≡ map g (range_with_len (a + 1) n) = map_same f g (a + 1) n (λ k x y. h k (omega arith) (omega arith)) in
-    cc)
+map_same f g a (suc n) h = (let e : f a ≡ Some (g a) = h a (omega arith) (omega arith) in
+    let r : filter_map f (range_with_len (a + 1) n) ≡ map g (range_with_len (a + 1) n) = map_same f g (a + 1) n (λ k x y. h k (omega arith) (omega arith)) in
+    rw (e, r) refl)
 
-cursor_same : (v : CoreView) (m : State) → Shows v m → cursor v.setup m ≡ (if is_single v.setup.mode then v.front else v.next)
+cursor_same : {E : Type 0} (v : CoreView E) (m : State E) → Shows v m → cursor v.setup m ≡ (if is_single v.setup.mode then v.front else v.next)
 cursor_same v m sh =
     ap (λ f. if is_single v.setup.mode then f else next m) (same_front sh) ∙ ap (λ n. if is_single v.setup.mode then v.front else n) (same_next sh)
 
-module _ (v : CoreView) (h limit : ℕ) (whole : IsWhole v) (inside : h < handlers v.setup) (left : retired_in v h ≡ false) (some : limit ≢ 0) where
-  none : (m : State) → Shows v m → (nat_le (handlers v.setup) h ≡ false) × ((m.retired h ≡ false) × (((limit == 0) ≡ false) × Unit {0}))
+module _ {E : Type 0} (v : CoreView E) (h limit : ℕ) (whole : IsWhole v) (inside : h < handlers v.setup) (left : retired_in v h ≡ false) (some : limit ≢ 0) where
+  none : (m : State E) → Shows v m → (nat_le (handlers v.setup) h ≡ false) × ((m.retired h ≡ false) × (((limit == 0) ≡ false) × Unit {0}))
   none m sh = (lt-leb _ _ inside, (same_retired sh h ∙ left, (ne_eqb limit 0 some, tt)))
 
-  same : (m : State) → Shows v m → available v.setup m h ≡ offered_to v (upstreams_of v.setup.upstreams h)
+  same : (m : State E) → Shows v m → available v.setup m h ≡ offered_to v (upstreams_of v.setup.upstreams h)
   same m sh = offered_same v m sh (upstreams_of v.setup.upstreams h)
 
   -- the poll in one of its cases
-  pub quiet_step : (r : Reply) → ((m : State) → Shows v m → accepted v.setup m (Poll h limit) ≡ unchanged r m) → IsStep v (Poll h limit) r [] v
+  pub quiet_step : (r : Reply) → ((m : State E) → Shows v m → accepted v.setup m (Poll h limit) ≡ unchanged r m) → IsStep v (Poll h limit) r [] v
   quiet_step r is = accepted_step refl refl (λ m sh. record {
     passes = none m sh;
     replies = ap (λ o. o.reply) (is m sh);
@@ -85,7 +86,7 @@ module _ (v : CoreView) (h limit : ℕ) (whole : IsWhole v) (inside : h < handle
   })
 
   module _ (all : offered_to v (upstreams_of v.setup.upstreams h) ≤ slice_index v.taken h) where
-    no_batch : (m : State) → Shows v m → nat_lt (slice_index m.taken h) (available v.setup m h) ≡ false
+    no_batch : (m : State E) → Shows v m → nat_lt (slice_index m.taken h) (available v.setup m h) ≡ false
     no_batch m sh = (let e : available v.setup m h ≡ offered_to v (upstreams_of v.setup.upstreams h) = same m sh in
         let t : slice_index m.taken h ≡ slice_index v.taken h = ap (λ ts. slice_index ts h) (same_taken sh) in
         le-ltb _ _ (omega arith))
@@ -95,7 +96,7 @@ module _ (v : CoreView) (h limit : ℕ) (whole : IsWhole v) (inside : h < handle
         quiet_step Drained
         (λ m sh. cond-false _ _ _ (no_batch m sh) ∙ cond-true _ _ _ (and_from _ _ (same_halted sh ∙ halted) (eq-eqb _ _ (ap (λ ts. slice_index ts h) (same_taken sh) ∙ last ∙ sym (same_next sh)))))
 
-    stays : (v.halted && (slice_index v.taken h == v.next)) ≡ false → (m : State) → Shows v m → (m.halted && (slice_index m.taken h == next m)) ≡ false
+    stays : (v.halted && (slice_index v.taken h == v.next)) ≡ false → (m : State E) → Shows v m → (m.halted && (slice_index m.taken h == next m)) ≡ false
     stays more m sh = (let e : next m ≡ v.next = same_next sh in rw (same_halted sh, same_taken sh, e) more)
 
     pub gating_step : (v.halted && (slice_index v.taken h == v.next)) ≡ false
@@ -112,19 +113,26 @@ module _ (v : CoreView) (h limit : ℕ) (whole : IsWhole v) (inside : h < handle
         (λ m sh. let ahead : nat_lt (slice_index m.taken h) (cursor v.setup m) ≡ false = (let c : cursor v.setup m ≡ (if is_single v.setup.mode then v.front else v.next) = cursor_same v m sh in rw (c, same_taken sh) (le-ltb _ _ l)) in
         cond-false _ _ _ (no_batch m sh) ∙ cond-false _ _ _ (stays more m sh) ∙ cond-false _ _ _ ahead)
 
+    -- a poll that hands nothing out
+    pub nothing_step : (said : Polled) → IsNothing v (slice_index v.taken h) said → IsStep v (Poll h limit) (poll_reply (Ok said)) [] v
+    nothing_step (answer.Batch first count end) is = absurd is
+    nothing_step answer.Drained is = drained_step is.0 is.1
+    nothing_step answer.Gating is = gating_step is.0 is.1
+    nothing_step answer.Idle is = idle_step is.0 is.1
+
   module _ (more : slice_index v.taken h < offered_to v (upstreams_of v.setup.upstreams h)) where
-    is_batch : (m : State) → Shows v m → accepted v.setup m (Poll h limit) ≡ batch v.setup m h limit
+    is_batch : (m : State E) → Shows v m → accepted v.setup m (Poll h limit) ≡ batch v.setup m h limit
     is_batch m sh = (let e : available v.setup m h ≡ offered_to v (upstreams_of v.setup.upstreams h) = same m sh in
         let t : slice_index m.taken h ≡ slice_index v.taken h = ap (λ ts. slice_index ts h) (same_taken sh) in
         let l : slice_index m.taken h < available v.setup m h = omega arith in
         cond-true (nat_lt (slice_index m.taken h) (available v.setup m h)) _ _ (lt-ltb _ _ l))
 
-    taken_shows : (first count : ℕ) (m : State) → Shows v m
+    taken_shows : (first count : ℕ) (m : State E) → Shows v m
         → Shows (record v { taken = slice_set v.taken h (first + count) }) (record m { taken = slice_set m.taken h (first + count) })
     taken_shows first count m sh = record { counts = λ i. record (sh.counts i) { taken = slice_set (sh.counts i).taken h (first + count) }; flags = sh.flags; recents = sh.recents }
 
-    pub batch_step : (first count to : ℕ) (event : ℕ → Event)
-        → ((k : ℕ) → k < v.next → v.next ≤ k + v.setup.size → is_shown (known_at v k) ≡ true → event k ≡ event_known (known_at v k))
+    pub batch_step : (first count to : ℕ) (event : ℕ → E)
+        → ((k : ℕ) → k < v.next → v.next ≤ k + v.setup.size → is_shown (known_at v k) ≡ true → Some (event k) ≡ event_known (known_at v k))
         → first ≡ slice_index v.taken h → to ≡ offered_to v (upstreams_of v.setup.upstreams h) → count ≡ min (to - first) limit
         → IsStep v (Poll h limit) (Batch first count (first + count == to)) (map event (range_with_len first count))
         (record v { taken = slice_set v.taken h (first + count) })
@@ -139,21 +147,21 @@ module _ (v : CoreView) (h limit : ℕ) (whole : IsWhole v) (inside : h < handle
           shown = rw (is_batch m sh) (rw (e, t, ← d) (taken_shows first count m sh));
         })
       where
-        first_is : (m : State) → Shows v m → slice_index m.taken h ≡ first
+        first_is : (m : State E) → Shows v m → slice_index m.taken h ≡ first
         first_is m sh = ap (λ ts. slice_index ts h) (same_taken sh) ∙ sym a
 
-        values : (m : State) → Shows v m → map (λ s. unwrap_or (m.written s) no_event) (range_with_len first count) ≡ map event (range_with_len first count)
-        values m sh = map_same (λ s. unwrap_or (m.written s) no_event) event first count
+        values : (m : State E) → Shows v m → filter_map m.written (range_with_len first count) ≡ map event (range_with_len first count)
+        values m sh = map_same m.written event first count
             (λ k x y. let f : offered_to v (upstreams_of v.setup.upstreams h) ≤ v.front = offered_front v whole (upstreams_of v.setup.upstreams h) in
             let n : v.front ≤ v.next = whole.front in
             let r : v.next ≤ v.setup.size + slice_index v.completed h = whole.room h inside left in
             let c : slice_index v.completed h ≤ slice_index v.taken h = whole.took h in
-            let there : (is_shown (known_at v k) ≡ true) × (event_known (known_at v k) ≡ unwrap_or (m.written k) no_event) =
+            let there : (is_shown (known_at v k) ≡ true) × (event_known (known_at v k) ≡ m.written k) =
             known_value (known_at v k) _ _ _ (below_front v m sh k (omega arith)) (sh.recent k (omega arith) (omega arith)) in
             sym (holds k (omega arith) (omega arith) there.0 ∙ there.1))
 
 -- of some upstreams it is their least count
-pub offered_some : (v : CoreView) (ups : List ℕ) → 0 < length ups → least_of (map (λ h. slice_index v.completed h) ups) ≡ offered_to v ups
+pub offered_some : {E : Type 0} (v : CoreView E) (ups : List ℕ) → 0 < length ups → least_of (map (λ h. slice_index v.completed h) ups) ≡ offered_to v ups
 offered_some v [] l = absurd (omega arith)
 offered_some v (u ∷ us) l = refl
 
@@ -167,7 +175,7 @@ upstream_within graph is h u has = elim (cases_lt h (length graph)) [
       omega arith)
 ]
 
-pub ups_within : (v : CoreView) → IsWhole v → (h : ℕ) (ups : List ℕ) → ups ≡ upstreams_of v.setup.upstreams h → All (λ u. u < length v.completed) ups
+pub ups_within : {E : Type 0} (v : CoreView E) → IsWhole v → (h : ℕ) (ups : List ℕ) → ups ≡ upstreams_of v.setup.upstreams h → All (λ u. u < length v.completed) ups
 ups_within v whole h ups is =
     rw is (λ k d l.
     let e : length v.completed ≡ handlers v.setup = whole.completed_len in
@@ -176,7 +184,7 @@ ups_within v whole h ups is =
     omega arith)
 
 -- more room than the size gives no more
-step_capped : (v : CoreView) (m : State) (h limit : ℕ) → IsWhole v → Shows v m
+step_capped : {E : Type 0} (v : CoreView E) (m : State E) (h limit : ℕ) → IsWhole v → Shows v m
     → step v.setup m (Poll h limit) ≡ step v.setup m (Poll h (min limit v.setup.size))
 step_capped v m h limit whole sh =
     elim (cases_Bool (nat_le (handlers v.setup) h)) [
@@ -202,7 +210,7 @@ step_capped v m h limit whole sh =
       ]
     ]
 
-pub capped_step : (v w : CoreView) (h limit : ℕ) (reply : Reply) (values : List Event) → IsWhole v
+pub capped_step : {E : Type 0} (v w : CoreView E) (h limit : ℕ) (reply : Reply) (values : List E) → IsWhole v
     → IsStep v (Poll h (min limit v.setup.size)) reply values w → IsStep v (Poll h limit) reply values w
 capped_step v w h limit reply values whole is = record {
   same_setup = is.same_setup;
@@ -212,7 +220,7 @@ capped_step v w h limit reply values whole is = record {
   shown = λ m sh. rw (step_capped v m h limit whole sh) (is.shown m sh);
 }
 
-polled-is : (r : Result Polled Refusal) (sub rest : List Event) → count_in (poll_reply r) ≤ length sub
+polled-is : {E : Type 0} (r : Result Polled Refusal) (sub rest : List E) → count_in (poll_reply r) ≤ length sub
     → polled r sub ≡ take (count_in (poll_reply r)) (sub ++ rest)
 polled-is (Ok (answer.Batch first count end)) sub rest l = sym (take-append-le count sub rest l)
 polled-is (Ok answer.Drained) sub rest l = refl
@@ -221,7 +229,7 @@ polled-is (Ok answer.Idle) sub rest l = refl
 polled-is (Err r) sub rest l = refl
 
 -- what a poll into the front of a buffer answers
-pub poll_front : (v w : CoreView) (h limit k : ℕ) (r : Result Polled Refusal) (sub out : List Event) → IsWhole v → k ≡ min limit v.setup.size
+pub poll_front : {E : Type 0} (v w : CoreView E) (h limit k : ℕ) (r : Result Polled Refusal) (sub out : List E) → IsWhole v → k ≡ min limit v.setup.size
     → min limit v.setup.size ≤ length out → length sub ≡ length (take k out)
     → count_in (poll_reply r) ≤ length (take k out) → IsStep v (Poll h (length (take k out))) (poll_reply r) (polled r sub) w
     → IsStep v (Poll h limit) (poll_reply r) (take (count_in (poll_reply r)) (sub ++ drop k out)) w
@@ -231,15 +239,15 @@ poll_front v w h limit k r sub out whole is room same fits step =
     capped_step v w h limit (poll_reply r) (take (count_in (poll_reply r)) (sub ++ drop k out)) whole (rw values at (rw len at step))
 
 -- what is ready on each state that the core shows
-pub ready_is : (v : CoreView) (h n to first : ℕ) → n ≡ to - first → to ≡ offered_to v (upstreams_of v.setup.upstreams h)
-    → first ≡ slice_index v.taken h → (m : State) → Shows v m → n ≡ available v.setup m h - slice_index m.taken h
+pub ready_is : {E : Type 0} (v : CoreView E) (h n to first : ℕ) → n ≡ to - first → to ≡ offered_to v (upstreams_of v.setup.upstreams h)
+    → first ≡ slice_index v.taken h → (m : State E) → Shows v m → n ≡ available v.setup m h - slice_index m.taken h
 ready_is v h n to first a b d m sh =
     let e : available v.setup m h ≡ offered_to v (upstreams_of v.setup.upstreams h) = offered_same v m sh (upstreams_of v.setup.upstreams h) in
     let t : slice_index m.taken h ≡ slice_index v.taken h = ap (λ ts. slice_index ts h) (same_taken sh) in
     omega arith
 
 -- what a poll has found before it answers: the handler is there, room is offered, and how much it took and is let through
-pub record PollsAt (v : CoreView) (h limit first to : ℕ) : Type 0 where
+pub record PollsAt {E : Type 0} (v : CoreView E) (h limit first to : ℕ) : Type 0 where
   pub whole : IsWhole v
   pub inside : h < handlers v.setup
   pub left : retired_in v h ≡ false
@@ -247,8 +255,55 @@ pub record PollsAt (v : CoreView) (h limit first to : ℕ) : Type 0 where
   pub taken : first ≡ slice_index v.taken h
   pub offered : to ≡ offered_to v (upstreams_of v.setup.upstreams h)
 
-pub polls_at : (v : CoreView) (h limit count first to : ℕ) → IsWhole v → count ≡ handlers v.setup → h < count → retired_in v h ≡ false → limit ≢ 0
+pub polls_at : {E : Type 0} (v : CoreView E) (h limit count first to : ℕ) → IsWhole v → count ≡ handlers v.setup → h < count → retired_in v h ≡ false → limit ≢ 0
     → first ≡ get_or v.taken h first → to ≡ offered_to v (upstreams_of v.setup.upstreams h) → PollsAt v h limit first to
 polls_at v h limit count first to whole counted inside left some read offered =
     let taken : length v.taken ≡ handlers v.setup = whole.taken_len in
     record { whole = whole; inside = omega arith; left = left; some = some; taken = get_or_read v.taken h first (omega arith) read 0; offered = offered }
+
+-- what goes with an answer that hands nothing out
+pub record GivesNothing (E : Type 0) (said : Polled) : Type 0 where
+  pub none : (out : List E) → polled (Ok said) out ≡ []
+  pub counts : count_in (poll_reply (Ok said)) ≡ 0
+
+pub gives_nothing : {E : Type 0} (v : CoreView E) (first : ℕ) (said : Polled) → IsNothing v first said → GivesNothing E said
+gives_nothing v first (answer.Batch start count end) is = absurd is
+gives_nothing v first answer.Drained is = record { none = λ out. refl; counts = refl }
+gives_nothing v first answer.Gating is = record { none = λ out. refl; counts = refl }
+gives_nothing v first answer.Idle is = record { none = λ out. refl; counts = refl }
+
+pub takes_nothing : {E : Type 0} (v new : CoreView E) (h first : ℕ) (said : Polled) → IsNothing v first said → TakesIfBatch h (Ok said) new
+takes_nothing v new h first (answer.Batch start count end) is = absurd is
+takes_nothing v new h first answer.Drained is = tt
+takes_nothing v new h first answer.Gating is = tt
+takes_nothing v new h first answer.Idle is = tt
+
+-- what is published is written
+written_shown : {E : Type 0} (known : Known E) (o : ℕ) (b : Bool) (w : Option E) → b ≡ true → Agrees known o b w → is_none w ≡ false
+written_shown Nothing o b w y h = absurd h
+written_shown (ClaimedBy q) o b w y h = absurd (false≢true (sym h.1 ∙ y))
+written_shown (WrittenBy q event) o b w y h = absurd (false≢true (sym h.1 ∙ y))
+written_shown (PublishedWith event) o b w y h = ap is_none h.1
+
+-- a poll gives what is available, and at most what it asks for
+pub poll_counts : {E : Type 0} (v : CoreView E) (m : State E) (h max : ℕ) → IsWhole v → Shows v m → h < handlers v.setup → retired_in v h ≡ false
+    → length (step v.setup m (Poll h max)).values ≡ min (available v.setup m h - slice_index m.taken h) max
+poll_counts {E} v m h max whole sh inside left =
+    let n : ℕ = min (available v.setup m h - slice_index m.taken h) max in
+    let P : Outcome E → Type 0 = λ o. length o.values ≡ n in
+    let to : available v.setup m h ≡ offered_to v (upstreams_of v.setup.upstreams h) = offered_same v m sh (upstreams_of v.setup.upstreams h) in
+    let f : offered_to v (upstreams_of v.setup.upstreams h) ≤ v.front = offered_front v whole (upstreams_of v.setup.upstreams h) in
+    let claimed : v.front ≤ v.next = whole.front in
+    let room : v.next ≤ v.setup.size + slice_index v.completed h = whole.room h inside left in
+    let took : slice_index v.completed h ≤ slice_index v.taken h = whole.took h in
+    let first : slice_index m.taken h ≡ slice_index v.taken h = ap (λ ts. slice_index ts h) (same_taken sh) in
+    cond_both (nat_le (handlers v.setup) h) _ _ P (λ y. absurd (let out : handlers v.setup ≤ h = grind (arith, nat_tests, y) in omega arith))
+    (λ n'. cond_both (m.retired h) _ _ P (λ y. absurd (false≢true (sym (same_retired sh h ∙ left) ∙ y)))
+    (λ n''. cond_both (max == 0) _ _ P (λ y. (let z : max ≡ 0 = grind (arith, nat_tests, y) in omega arith))
+    (λ some. cond_both (nat_lt (slice_index m.taken h) (available v.setup m h)) _ _ P
+    (λ y. (let more : slice_index m.taken h < available v.setup m h = grind (arith, nat_tests, y) in
+    (given m.written (slice_index m.taken h) n
+    (λ k low high. written_shown (known_at v k) _ _ _ (below_front v m sh k (omega arith)) (sh.recent k (omega arith) (omega arith)))).0))
+    (λ none. let z : available v.setup m h ≤ slice_index m.taken h = grind (arith, nat_tests, none) in
+    cond_both (m.halted && (slice_index m.taken h == next m)) _ _ P (λ y. omega arith)
+    (λ a. cond_both (nat_lt (slice_index m.taken h) (cursor v.setup m)) _ _ P (λ y. omega arith) (λ b. omega arith))))))

@@ -5,8 +5,6 @@ use Rattle.std.specs.Prelude.{◌==◌, ◌||◌, nat_lt}
 use Rattle.std.proofs.Math.Nat.{mod-lt}
 use Rattle.std.proofs.lemmas.Bool.{ne_eqb, cases_Bool, cases_lt, or_left, or_right, or_from, lt-ltb, le-ltb, eq-eqb}
 use Rattle.std.proofs.lemmas.List.{length-set, get_or-set_same, get_or-set_other}
-use Rattle.dr_seq.specs.declared.event.Event.{Event}
-use Rattle.dr_seq.specs.Event.{no_event}
 use Rattle.dr_seq.specs.Rounds.{entry_of, is_marked, IsFront}
 use Rattle.dr_seq.specs.Slots.{event_at}
 use Rattle.dr_seq.proofs.Apart.{slots_differ}
@@ -26,47 +24,47 @@ use Rattle.dr_core.proofs.Writing.{WritesKnown, unwritten_refused}
 use Rattle.dr_core.proofs.Publishing.{PublishesKnown}
 
 -- what a core's view says of a recent sequence is what its slot says
-pub known_there : (a : Inside) (s : ℕ) → s < a.next → a.next ≤ s + a.size → known_at (view_of a) s ≡ slot_known (kept_of a) s
+pub known_there : {E : Type 0} (a : Inside E) (s : ℕ) → s < a.next → a.next ≤ s + a.size → known_at (view_of a) s ≡ slot_known (kept_of a) s
 known_there a s claimed near = known_at-recent (slot_known (kept_of a)) a.next a.size s claimed near
 
 -- the tests of a publication, in their order
-pub publish_fault-known : (published written : Bool) (owner p : ℕ) (event : Event)
+pub publish_fault-known : {E : Type 0} (published written : Bool) (owner p : ℕ) (event : E)
     → publish_fault (known_of published written owner event) p ≡ cond published (Some AlreadyPublished) (cond (owner == p) (cond written None (Some NotWritten)) (Some NotClaimed))
 publish_fault-known true written owner p event = refl
 publish_fault-known false true owner p event = elim (cases_Bool (owner == p)) [ inl y ↦ rw y | inr n ↦ rw n ]
 publish_fault-known false false owner p event = elim (cases_Bool (owner == p)) [ inl y ↦ rw y | inr n ↦ rw n ]
 
 -- the tests of a write
-pub write_fault-known : (published written : Bool) (owner p : ℕ) (event : Event)
+pub write_fault-known : {E : Type 0} (published written : Bool) (owner p : ℕ) (event : E)
     → write_fault (known_of published written owner event) p ≡ cond published (Some AlreadyPublished) (cond (owner == p) None (Some NotClaimed))
 write_fault-known true written owner p event = refl
 write_fault-known false true owner p event = refl
 write_fault-known false false owner p event = refl
 
 -- what may be published is known with its slot's event
-event_known-known : (published written : Bool) (owner p : ℕ) (event : Event) → publish_fault (known_of published written owner event) p ≡ None
-    → event_known (known_of published written owner event) ≡ event
+event_known-known : {E : Type 0} (published written : Bool) (owner p : ℕ) (event : E) → publish_fault (known_of published written owner event) p ≡ None
+    → event_known (known_of published written owner event) ≡ Some event
 event_known-known true written owner p event e = refl
 event_known-known false true owner p event e = refl
 event_known-known false false owner p event e = absurd (unwritten_refused (owner == p) e)
 
 -- what is shown is known with its slot's event
-event_known-shown : (published written : Bool) (owner : ℕ) (event : Event) → is_shown (known_of published written owner event) ≡ true
-    → event ≡ event_known (known_of published written owner event)
+event_known-shown : {E : Type 0} (published written : Bool) (owner : ℕ) (event : E) → is_shown (known_of published written owner event) ≡ true
+    → Some event ≡ event_known (known_of published written owner event)
 event_known-shown true written owner event e = refl
 event_known-shown false true owner event e = cc
 event_known-shown false false owner event e = cc
 
-is_shown-known : (published written : Bool) (owner : ℕ) (event : Event) → is_shown (known_of published written owner event) ≡ published
+is_shown-known : {E : Type 0} (published written : Bool) (owner : ℕ) (event : E) → is_shown (known_of published written owner event) ≡ published
 is_shown-known true written owner event = refl
 is_shown-known false true owner event = refl
 is_shown-known false false owner event = refl
 
-pub shown_event : (a : Inside) (s : ℕ) → s < a.next → a.next ≤ s + a.size → is_shown (known_at (view_of a) s) ≡ true
-    → event_at a.events s ≡ event_known (known_at (view_of a) s)
+pub shown_event : {E : Type 0} (a : Inside E) (s : ℕ) → s < a.next → a.next ≤ s + a.size → is_shown (known_at (view_of a) s) ≡ true
+    → Some (event_at a.blank a.events s) ≡ event_known (known_at (view_of a) s)
 shown_event a s claimed near shown =
     let there : known_at (view_of a) s ≡ slot_known (kept_of a) s = known_there a s claimed near in
-    rw there (event_known-shown (is_published_at (kept_of a) s) (is_written_at (kept_of a) s) (owner_at a.mode a.owners.items s) (event_at a.events s) (rw there at shown))
+    rw there (event_known-shown (is_published_at (kept_of a) s) (is_written_at (kept_of a) s) (owner_at a.mode a.owners.items s) (event_at a.blank a.events s) (rw there at shown))
 
 -- the owners after a claim
 owner-in : (mode : Mode) (owners : List ℕ) (size from n p s : ℕ) → HasOwners mode owners size → 0 < size → n ≤ size → from ≤ s → s < from + n
@@ -218,7 +216,7 @@ moves (Multi producers) published size front next lo hi front' len some order cl
       beyond = λ k beyond. marks_none_after published lo (hi + 1 - lo) k (omega arith) (omega arith) (none k beyond);
     }
 
-module _ (v : CoreView) (a : KeptBySlot) (kept : (s : ℕ) → s < v.next → v.next ≤ s + v.setup.size → known_at v s ≡ slot_known a s) (available : IsAvailable a v.setup.size v.next) (fronts : a.front ≤ v.next) (some : 0 < v.setup.size) where
+module _ {E : Type 0} (v : CoreView E) (a : KeptBySlot E) (kept : (s : ℕ) → s < v.next → v.next ≤ s + v.setup.size → known_at v s ≡ slot_known a s) (available : IsAvailable a v.setup.size v.next) (fronts : a.front ≤ v.next) (some : 0 < v.setup.size) where
   -- a claim touches the owners alone
   pub claims_known : (n p : ℕ) → n ≤ v.setup.size → (a.mode ≡ Single → p ≡ 0) → ClaimsKnown v p n (slot_known (record a { owners = owners_after a.mode a.owners v.next n p }))
   claims_known n p fits one = record {
@@ -243,8 +241,8 @@ module _ (v : CoreView) (a : KeptBySlot) (kept : (s : ℕ) → s < v.next → v.
   }
 
   -- a write notes its sequence as written
-  module _ (p s : ℕ) (x : Event) (filled' : ℕ) (written' : List ℕ) (claimed : s < v.next) (near : v.next ≤ s + v.setup.size) (noted : IsNoted a.filled a.written s filled' written') where
-    abbrev after : KeptBySlot
+  module _ (p s : ℕ) (x : E) (filled' : ℕ) (written' : List ℕ) (claimed : s < v.next) (near : v.next ≤ s + v.setup.size) (noted : IsNoted a.filled a.written s filled' written') where
+    abbrev after : KeptBySlot E
     after = record a { filled = filled'; written = written'; events = set a.events (s % length a.events) x }
 
     notes : Notes a.filled a.written v.setup.size v.next s filled' written'
@@ -254,10 +252,10 @@ module _ (v : CoreView) (a : KeptBySlot) (kept : (s : ℕ) → s < v.next → v.
     writes_known unpublished mine =
         let lene : length a.events ≡ v.setup.size = available.events in
         record {
-          here = (let event : event_at after.events s ≡ x = rw length-set (get_or-set_same a.events (s % length a.events) x no_event (mod-lt s (omega arith))) in
+          here = (let event : event_at a.blank after.events s ≡ x = rw length-set (get_or-set_same a.events (s % length a.events) x a.blank (mod-lt s (omega arith))) in
               rw (unpublished, notes.here, event, mine));
           kept = λ k ne l round. (let apart : k % length a.events ≢ s % length a.events = slots_differ (length a.events) k s ne (omega arith) (omega arith) in
-              let event : event_at after.events k ≡ event_at a.events k = rw length-set (get_or-set_other a.events (s % length a.events) (k % length a.events) x no_event apart) in
+              let event : event_at a.blank after.events k ≡ event_at a.blank a.events k = rw length-set (get_or-set_other a.events (s % length a.events) (k % length a.events) x a.blank apart) in
               rw (notes.others k ne l round, event) (sym (kept k l round)));
         }
 
@@ -280,7 +278,7 @@ module _ (v : CoreView) (a : KeptBySlot) (kept : (s : ℕ) → s < v.next → v.
     abbrev marked : List ℕ
     marked = published_after a.mode a.published lo (hi + 1 - lo)
 
-    abbrev shown : KeptBySlot
+    abbrev shown : KeptBySlot E
     shown = record a { published = marked; front = front'; filled = max a.filled front' }
 
     pub publishes_moves : Moves a.mode a.published marked v.setup.size v.front v.next lo hi front'
@@ -305,9 +303,9 @@ module _ (v : CoreView) (a : KeptBySlot) (kept : (s : ℕ) → s < v.next → v.
       inside = λ k low high. (let off : lo + (k - lo) ≡ k = omega arith in
           let fine : publish_fault (known_at v k) p ≡ None = rw off at (none (k - lo) (omega arith)) in
           let there : known_at v k ≡ slot_known a k = kept k (omega arith) (omega arith) in
-          let value : event_known (known_at v k) ≡ event_at a.events k = ap event_known there ∙ event_known-known (is_published_at a k) (is_written_at a k) (owner_at a.mode a.owners k) p (event_at a.events k) (rw there at fine) in
+          let value : event_known (known_at v k) ≡ Some (event_at a.blank a.events k) = ap event_known there ∙ event_known-known (is_published_at a k) (is_written_at a k) (owner_at a.mode a.owners k) p (event_at a.blank a.events k) (rw there at fine) in
           let published : is_published_at shown k ≡ true = publishes_moves.inside k low high in
-          rw (published, value));
+          (event_at a.blank a.events k, rw published refl, value));
       outside = λ k l round out. same_slot k l round out ∙ sym (kept k l round);
     }
 
@@ -316,8 +314,8 @@ module _ (v : CoreView) (a : KeptBySlot) (kept : (s : ℕ) → s < v.next → v.
     front_known = record {
       low = publishes_moves.low;
       high = publishes_moves.high;
-      below = λ s low high. is_shown-known (is_published_at shown s) (is_written_at shown s) (owner_at a.mode a.owners s) (event_at a.events s) ∙ or_left _ _ (lt-ltb s front' high);
-      here = λ l. is_shown-known (is_published_at shown front') (is_written_at shown front') (owner_at a.mode a.owners front') (event_at a.events front') ∙ or_from _ _ (le-ltb front' front' (omega arith)) (publishes_moves.here l);
+      below = λ s low high. is_shown-known (is_published_at shown s) (is_written_at shown s) (owner_at a.mode a.owners s) (event_at a.blank a.events s) ∙ or_left _ _ (lt-ltb s front' high);
+      here = λ l. is_shown-known (is_published_at shown front') (is_written_at shown front') (owner_at a.mode a.owners front') (event_at a.blank a.events front') ∙ or_from _ _ (le-ltb front' front' (omega arith)) (publishes_moves.here l);
     }
 
     pub publishes_available : IsAvailable shown v.setup.size v.next
@@ -333,19 +331,19 @@ module _ (v : CoreView) (a : KeptBySlot) (kept : (s : ℕ) → s < v.next → v.
         }
 
 -- what refuses to publish a recent sequence, by the tests of its slot
-pub publish_fault_is : (a : Inside) (s p : ℕ) (published mine written : Bool) → s < a.next → a.next ≤ s + a.size
+pub publish_fault_is : {E : Type 0} (a : Inside E) (s p : ℕ) (published mine written : Bool) → s < a.next → a.next ≤ s + a.size
     → is_published_at (kept_of a) s ≡ published → (owner_at a.mode a.owners.items s == p) ≡ mine → is_written_at (kept_of a) s ≡ written
     → publish_fault (known_at (view_of a) s) p ≡ cond published (Some AlreadyPublished) (cond mine (cond written None (Some NotWritten)) (Some NotClaimed))
 publish_fault_is a s p published mine written claimed near e1 e2 e3 =
     ap (λ k. publish_fault k p) (known_there a s claimed near)
-    ∙ publish_fault-known (is_published_at (kept_of a) s) (is_written_at (kept_of a) s) (owner_at a.mode a.owners.items s) p (event_at a.events s)
+    ∙ publish_fault-known (is_published_at (kept_of a) s) (is_written_at (kept_of a) s) (owner_at a.mode a.owners.items s) p (event_at a.blank a.events s)
     ∙ rw (e1, e2, e3)
 
 -- what refuses to write one
-pub write_fault_is : (a : Inside) (s p : ℕ) (published mine : Bool) → s < a.next → a.next ≤ s + a.size
+pub write_fault_is : {E : Type 0} (a : Inside E) (s p : ℕ) (published mine : Bool) → s < a.next → a.next ≤ s + a.size
     → is_published_at (kept_of a) s ≡ published → (owner_at a.mode a.owners.items s == p) ≡ mine
     → write_fault (known_at (view_of a) s) p ≡ cond published (Some AlreadyPublished) (cond mine None (Some NotClaimed))
 write_fault_is a s p published mine claimed near e1 e2 =
     ap (λ k. write_fault k p) (known_there a s claimed near)
-    ∙ write_fault-known (is_published_at (kept_of a) s) (is_written_at (kept_of a) s) (owner_at a.mode a.owners.items s) p (event_at a.events s)
+    ∙ write_fault-known (is_published_at (kept_of a) s) (is_written_at (kept_of a) s) (owner_at a.mode a.owners.items s) p (event_at a.blank a.events s)
     ∙ rw (e1, e2)

@@ -21,11 +21,11 @@ use Rattle.dr_core.proofs.Sound.{orderly}
 use Rattle.dr_core.proofs.Pushes.{or-false}
 
 -- a flag that was read
-pub told : (v : CoreView) (h : ℕ) (r b : Bool) → IsWhole v → h < handlers v.setup → r ≡ get_or v.retired h r → r ≡ b → retired_in v h ≡ b
+pub told : {E : Type 0} (v : CoreView E) (h : ℕ) (r b : Bool) → IsWhole v → h < handlers v.setup → r ≡ get_or v.retired h r → r ≡ b → retired_in v h ≡ b
 told v h r b whole inside read is = sym (get_or_read v.retired h r (let e : length v.retired ≡ handlers v.setup = whole.retired in omega arith) read false) ∙ is
 
 -- whether another is left, as it was told
-pub others_told : (v : CoreView) (h : ℕ) (flags : List Bool) (r b : Bool) → IsWhole v → flags ≡ v.retired
+pub others_told : {E : Type 0} (v : CoreView E) (h : ℕ) (flags : List Bool) (r b : Bool) → IsWhole v → flags ≡ v.retired
     → r ≡ not (is_some_left (length flags) (λ k. flagged flags k || k == h)) → r ≡ b
     → not (is_some_left (handlers v.setup) (λ k. retired_in v k || k == h)) ≡ b
 others_told v h flags r b whole same read is =
@@ -42,10 +42,10 @@ flagged_more flags h k lt = elim (cases_eq k h) [
 ]
 
 -- a core with one more handler retired
-abbrev pub retired_core : CoreView → ℕ → CoreView
+abbrev pub retired_core : {E : Type 0} → CoreView E → ℕ → CoreView E
 retired_core v h = record v { retired = slice_set v.retired h true }
 
-module _ (v : CoreView) (h : ℕ) (whole : IsWhole v) (inside : h < handlers v.setup) (left : retired_in v h ≡ false) where
+module _ {E : Type 0} (v : CoreView E) (h : ℕ) (whole : IsWhole v) (inside : h < handlers v.setup) (left : retired_in v h ≡ false) where
   pub not_final_step : is_final_without v.setup.upstreams (retired_in v) h ≡ false → IsStep v (Retire h) (Refused NotFinal) [] v
   not_final_step not_final =
       refused_step v (Retire h) NotFinal
@@ -59,10 +59,10 @@ module _ (v : CoreView) (h : ℕ) (whole : IsWhole v) (inside : h < handlers v.s
       is_followed_then = not-false _ (rw left at not_final)
 
   module _ (final : is_final_without v.setup.upstreams (retired_in v) h ≡ true) where
-    unfollowed : (m : State) → Shows v m → is_followed v.setup.upstreams m.retired h ≡ false
+    unfollowed : (m : State E) → Shows v m → is_followed v.setup.upstreams m.retired h ≡ false
     unfollowed m sh = followed_agree v.setup.upstreams m.retired (retired_in v) (same_retired sh) h ∙ not-true _ (and_parts _ _ final).1
 
-    some_left : (m : State) → Shows v m → is_some_left (handlers v.setup) (retired_with m h) ≡ is_some_left (handlers v.setup) (λ k. retired_in v k || k == h)
+    some_left : (m : State E) → Shows v m → is_some_left (handlers v.setup) (retired_with m h) ≡ is_some_left (handlers v.setup) (λ k. retired_in v k || k == h)
     some_left m sh =
         any_agree (λ k. not (retired_with m h k)) (λ k. not (retired_in v k || k == h)) (λ k. ap (λ b. not (b || k == h)) (same_retired sh k))
         (range_with_len 0 (handlers v.setup))

@@ -5,7 +5,6 @@ use Rattle.std.proofs.lemmas.List.{take-append-le, drop-append-le, length-append
 use Rattle.dr_core.specs.declared.command.Command.{Command}
 use Rattle.dr_core.specs.declared.command.Command.TheVariants.{Claim, Write, Publish, Poll, Complete, Halt, Retire}
 use Rattle.dr_core.specs.declared.command.Reply.{Reply}
-use Rattle.dr_seq.specs.declared.event.Event.{Event}
 use Rattle.dr_core.specs.Meaning.Machine.{Setup, State, step, opening}
 use Rattle.dr_core.specs.Meaning.Transcript.{Transcript, entry_with, LeadsTo}
 use Rattle.dr_core.specs.Calls.CoreView.{CoreView}
@@ -14,7 +13,7 @@ use Rattle.dr_core.specs.Meaning.Runs.{RunsTo, IsReached, transcript_of, count_i
 use Rattle.dr_core.proofs.FiveLaws.{lawful, leads_append}
 
 -- one more command, reply and values are one more entry
-pub transcript_push : (commands : List Command) (replies : List Reply) (values : List Event) (command : Command) (reply : Reply) (more : List Event)
+pub transcript_push : {E : Type 0} (commands : List (Command E)) (replies : List Reply) (values : List E) (command : Command E) (reply : Reply) (more : List E)
     → length replies ≡ length commands → length values ≡ counts_of replies → length more ≡ count_in reply
     → transcript_of (commands ++ command ∷ []) (replies ++ reply ∷ []) (values ++ more) ≡ transcript_of commands replies values ++ record { command = command; reply = reply; values = more } ∷ []
 transcript_push [] [] values command reply more a b d =
@@ -30,24 +29,24 @@ transcript_push (c ∷ cs) (r ∷ rs) values command reply more a b d =
     rw (take-append-le (count_in r) values more le, drop-append-le (count_in r) values more le, more')
 
 -- a step of the core leads one entry on
-pub leads_step : (c : Setup) (old new : CoreView) (t : Transcript) (command : Command) (reply : Reply) (values : List Event) → old.setup ≡ c
+pub leads_step : {E : Type 0} (c : Setup) (old new : CoreView E) (t : Transcript E) (command : Command E) (reply : Reply) (values : List E) → old.setup ≡ c
     → IsStep old command reply values new
     → RunsTo c t old → RunsTo c (t ++ entry_with command reply values ∷ []) new
-leads_step c old new t command reply values same is at =
-    let to : State = (step c at.state command).state in
-    let more : Transcript = entry_with command reply values ∷ [] in
+leads_step {E} c old new t command reply values same is at =
+    let to : State E = (step c at.state command).state in
+    let more : Transcript E = entry_with command reply values ∷ [] in
     let r : (step c at.state command).reply ≡ reply = rw same at (is.replies at.state at.shows) in
     let v : (step c at.state command).values ≡ values = rw same at (is.hands_out at.state at.shows) in
     let l : LeadsTo c (t ++ more) to = leads_append c t more (opening c) at.state to at.leads (r, v, refl) in
     record { state = to; leads = l; shows = rw same at (is.shown at.state at.shows); lawful = lawful c (t ++ more) to l }
 
-pub step_leads_on : (t : Transcript) (old new : CoreView) (command : Command) (reply : Reply) (values : List Event)
+pub step_leads_on : {E : Type 0} (t : Transcript E) (old new : CoreView E) (command : Command E) (reply : Reply) (values : List E)
     → RunsTo old.setup t old → IsStep old command reply values new → RunsTo new.setup (t ++ entry_with command reply values ∷ []) new
 step_leads_on t old new command reply values at is =
     subst (λ c. RunsTo c (t ++ entry_with command reply values ∷ []) new) (sym is.same_setup) (leads_step old.setup old new t command reply values refl is at)
 
 -- and what it leaves is reached where what it began with was
-pub step_reached : {old new : CoreView} {command : Command} {reply : Reply} {values : List Event} → IsStep old command reply values new
+pub step_reached : {E : Type 0} {old new : (CoreView E)} {command : (Command E)} {reply : Reply} {values : List E} → IsStep old command reply values new
     → IsReached old → IsReached new
 step_reached is was = record { transcript = _; runs = step_leads_on _ _ _ _ _ _ was.runs is }
 
@@ -56,7 +55,7 @@ counts-push [] reply = omega arith
 counts-push (r ∷ rs) reply = (let e : counts_of (rs ++ reply ∷ []) ≡ counts_of rs + count_in reply = counts-push rs reply in omega arith)
 
 -- the run so far, with one more command
-pub run_step : (c : Setup) (old new : CoreView) (t : Transcript) (commands : List Command) (i : ℕ) (d : Command) (replies : List Reply) (values : List Event) (reply : Reply) (more : List Event)
+pub run_step : {E : Type 0} (c : Setup) (old new : CoreView E) (t : Transcript E) (commands : List (Command E)) (i : ℕ) (d : Command E) (replies : List Reply) (values : List E) (reply : Reply) (more : List E)
     → i < length commands → length replies ≡ i → length values ≡ counts_of replies → length more ≡ count_in reply → old.setup ≡ c → IsStep old (get_or commands i d) reply more new
     → RunsTo c (t ++ transcript_of (take i commands) replies values) old → RunsTo c (t ++ transcript_of (take (i + 1) commands) (replies ++ reply ∷ []) (values ++ more)) new
 run_step c old new t commands i d replies values reply more l told counted len same is at =
@@ -66,10 +65,10 @@ run_step c old new t commands i d replies values reply more l told counted len s
     rw (front, push, ← append_assoc) (leads_step c old new (t ++ transcript_of (take i commands) replies values) (get_or commands i d) reply more same is at)
 
 -- a run of no commands
-pub run_none : (c : Setup) (t : Transcript) (m : State) (v : CoreView) → LeadsTo c t m → Shows v m → RunsTo c (t ++ []) v
+pub run_none : {E : Type 0} (c : Setup) (t : Transcript E) (m : State E) (v : CoreView E) → LeadsTo c t m → Shows v m → RunsTo c (t ++ []) v
 run_none c t m v leads shows = rw append-nil (record { state = m; leads = leads; shows = shows; lawful = lawful c t m leads })
 
-pub offers-le : (command : Command) (size : ℕ) → offers command size ≤ size
+pub offers-le : {E : Type 0} (command : Command E) (size : ℕ) → offers command size ≤ size
 offers-le (Claim p n) size = omega arith
 offers-le (Write p s v) size = omega arith
 offers-le (Publish p lo hi) size = omega arith
@@ -79,18 +78,18 @@ offers-le Halt size = omega arith
 offers-le (Retire h) size = omega arith
 
 -- the words that are left to hand out, one command on
-pub needed-more : (commands : List Command) (i : ℕ) (d : Command) (size : ℕ) → i < length commands
+pub needed-more : {E : Type 0} (commands : List (Command E)) (i : ℕ) (d : Command E) (size : ℕ) → i < length commands
     → needed (drop i commands) size ≡ offers (get_or commands i d) size + needed (drop (i + 1) commands) size
 needed-more commands i d size l = ap (λ cs. needed cs size) (drop_more commands i d l)
 
-pub room-first : (values : List Event) (commands : List Command) (room cap size here : ℕ) → values ≡ [] → room ≤ cap → room ≡ needed commands size
+pub room-first : {E : Type 0} (values : List E) (commands : List (Command E)) (room cap size here : ℕ) → values ≡ [] → room ≤ cap → room ≡ needed commands size
     → size ≡ here → length values + needed commands here ≤ cap
 room-first values commands room cap size here a b d e =
     let n : room ≡ needed commands here = rw e at d in
     let z : length values ≡ 0 = ap length a in
     omega arith
 
-pub room-more : (values more : List Event) (commands : List Command) (i : ℕ) (d : Command) (size here cap cap' k : ℕ) → i < length commands
+pub room-more : {E : Type 0} (values more : List E) (commands : List (Command E)) (i : ℕ) (d : Command E) (size here cap cap' k : ℕ) → i < length commands
     → length values + needed (drop i commands) here ≤ cap → cap ≤ cap' → length more ≡ k → k ≤ offers (get_or commands i d) size → size ≡ here
     → length (values ++ more) + needed (drop (i + 1) commands) here ≤ cap'
 room-more values more commands i d size here cap cap' k l room grows many fits same =

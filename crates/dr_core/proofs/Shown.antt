@@ -4,7 +4,7 @@ use Rattle.dr_core.specs.Meaning.Machine.{State, next, front}
 use Rattle.dr_core.specs.Calls.CoreView.{CoreView, retired_in}
 use Rattle.dr_core.specs.Calls.Shows.{Shows}
 
-module _ {v : CoreView} {m : State} (sh : Shows v m) where
+module _ {E : Type 0} {v : (CoreView E)} {m : (State E)} (sh : Shows v m) where
   pub same_next : next m ≡ v.next
   same_next = ap (λ n. n.next) sh.counts
 

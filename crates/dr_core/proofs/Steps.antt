@@ -37,18 +37,18 @@ pub NoneHold-stretch : (causes : ℕ → List (Bool × Refusal)) (lo n : ℕ) �
 NoneHold-stretch causes lo n = none_of_stretch IsHolding IsFailing causes lo n
 
 -- where no test holds, the outcome is the accepted one
-pub unless-none : (tests : List (Bool × Refusal)) (m : State) (o : Outcome) → NoneHold tests → unless tests m o ≡ o
+pub unless-none : {E : Type 0} (tests : List (Bool × Refusal)) (m : State E) (o : Outcome E) → NoneHold tests → unless tests m o ≡ o
 unless-none [] m o h = refl
 unless-none (test ∷ tests) m o h = cond-false test.0 _ _ h.0 ∙ unless-none tests m o h.1
 
 -- and where one does, the first refuses
-pub unless-refused : (r : Refusal) (tests : List (Bool × Refusal)) (m : State) (o : Outcome) → Refuses r tests → unless tests m o ≡ unchanged (Refused r) m
+pub unless-refused : {E : Type 0} (r : Refusal) (tests : List (Bool × Refusal)) (m : State E) (o : Outcome E) → Refuses r tests → unless tests m o ≡ unchanged (Refused r) m
 unless-refused r [] m o h = absurd h
 unless-refused r (test ∷ tests) m o (inl h) = cond-true test.0 _ _ h.0 ∙ ap (λ x. unchanged (Refused x) m) h.1
 unless-refused r (test ∷ tests) m o (inr h) = cond-false test.0 _ _ h.0 ∙ unless-refused r tests m o h.1
 
 -- either a test refuses, or none holds
-pub unless-cases : (P : Outcome → Type 0) (tests : List (Bool × Refusal)) (m : State) (o : Outcome) → ((r : Refusal) → P (unchanged (Refused r) m))
+pub unless-cases : {E : Type 0} (P : Outcome E → Type 0) (tests : List (Bool × Refusal)) (m : State E) (o : Outcome E) → ((r : Refusal) → P (unchanged (Refused r) m))
     → (NoneHold tests → P o) → P (unless tests m o)
 unless-cases P [] m o refuses accepts = accepts tt
 unless-cases P (test ∷ tests) m o refuses accepts =

@@ -13,7 +13,7 @@ use Rattle.dr_core.proofs.Pushes.{next_push, owner_push, published_push, halted_
 use Rattle.dr_core.proofs.Pushes.{received_push, completed_push, before_kept, before_now}
 
 -- a state that differs by what the entry says
-pub record Changes (m : State) (e : Entry) (n : State) : Type 0 where
+pub record Changes {E : Type 0} (m : State E) (e : Entry E) (n : State E) : Type 0 where
   pub next : next n ≡ max (next m) (claimed_below e.reply)
   pub owners : (s : ℕ) → slice_get n.owners s ≡ first_of (slice_get m.owners s) (claimant e.reply e.command s)
   pub published : (s : ℕ) → n.published s ≡ (m.published s || covers e.reply e.command s)
@@ -37,10 +37,10 @@ slice_get-append_right [] ys k n e = rw (← e) (rw zero-add)
 slice_get-append_right (x ∷ xs) ys k n e = rw (← e) (rw suc-add (slice_get-append_right xs ys k (length xs) refl))
 
 -- what is published was settled before, so it stays
-kept_written : (m n : State) (e : Entry) → Changes m e n → (s : ℕ) → m.published s ≡ true → n.written s ≡ m.written s
+kept_written : {E : Type 0} (m n : State E) (e : Entry E) → Changes m e n → (s : ℕ) → m.published s ≡ true → n.written s ≡ m.written s
 kept_written m n e d s p = d.written s ∙ ap (λ w. first_of w (m.written s)) (d.settled s p)
 
-tells_events : (t : Transcript) (m n : State) (e : Entry) → Tells t m → Changes m e n → (s : ℕ) → n.published s ≡ true → event_of (t ++ e ∷ []) s ≡ n.written s
+tells_events : {E : Type 0} (t : Transcript E) (m n : State E) (e : Entry E) → Tells t m → Changes m e n → (s : ℕ) → n.published s ≡ true → event_of (t ++ e ∷ []) s ≡ n.written s
 tells_events t m n e told d s h =
     elim (cases_Bool (m.published s)) [
       | inl p ↦ ap (λ es. last_written es s) (before_kept t e s (told.published s ∙ p)) ∙ told.events s p ∙ sym (kept_written m n e d s p)
@@ -51,7 +51,7 @@ tells_events t m n e told d s h =
           ]
     ]
 
-tells_received : (t : Transcript) (m n : State) (e : Entry) → Tells t m → Changes m e n → (h k : ℕ) → k < slice_index n.taken h
+tells_received : {E : Type 0} (t : Transcript E) (m n : State E) (e : Entry E) → Tells t m → Changes m e n → (h k : ℕ) → k < slice_index n.taken h
     → slice_get (received_by (t ++ e ∷ []) h) k ≡ n.written k
 tells_received t m n e told d h k l =
     let stays : n.written k ≡ m.written k = kept_written m n e d k (d.in_front h k l) in
@@ -70,7 +70,7 @@ tells_received t m n e told d h k l =
           ∙ sym stays
     ]
 
-pub tells_more : (t : Transcript) (m n : State) (e : Entry) → Tells t m → Changes m e n → Tells (t ++ e ∷ []) n
+pub tells_more : {E : Type 0} (t : Transcript E) (m n : State E) (e : Entry E) → Tells t m → Changes m e n → Tells (t ++ e ∷ []) n
 tells_more t m n e told d = record {
   next = next_push t e ∙ ap (λ k. max k (claimed_below e.reply)) told.next ∙ sym d.next;
   owners = λ s. owner_push t e s ∙ ap (λ o. first_of o (claimant e.reply e.command s)) (told.owners s) ∙ sym (d.owners s);

@@ -1,6 +1,5 @@
 -- What holds of every core: it is reached, so that its counts are those of a state that some transcript leads to.
 use Rattle.std.proofs.Common.{◌≡◌, ◌≤◌, ◌∙◌, List, ap, sym, subst, length}
-use Rattle.dr_seq.specs.declared.event.Event.{Event}
 use Rattle.dr_core.specs.declared.command.Command.{Command}
 use Rattle.dr_core.specs.declared.command.Reply.{Reply}
 use Rattle.dr_core.specs.Meaning.Machine.{State, handlers, next, front}
@@ -15,10 +14,10 @@ use Rattle.dr_core.proofs.Bounds.{IsBounded, bounded}
 use Rattle.dr_core.proofs.Running.{step_reached}
 use Rattle.dr_core.proofs.Shown.{same_next, same_front}
 
-pub reached_whole : (v : CoreView) → IsSetup v.setup → length v.retired ≡ handlers v.setup → IsReached v → IsWhole v
-reached_whole v setup retired is =
+pub reached_whole : {E : Type 0} (v : CoreView E) → IsSetup v.setup → length v.retired ≡ handlers v.setup → IsReached v → IsWhole v
+reached_whole {E} v setup retired is =
     let runs : RunsTo v.setup is.transcript v = is.runs in
-    let m : State = runs.state in
+    let m : State E = runs.state in
     let sh : Shows v m = runs.shows in
     let sound : IsSound v.setup m = (reached v.setup is.transcript m runs.leads).sound in
     let bounds : IsBounded v.setup m = bounded v.setup is.transcript m setup.graph runs.leads in
@@ -34,7 +33,7 @@ reached_whole v setup retired is =
     }
 
 -- so each step of a core leaves it whole
-pub step_whole : {old new : CoreView} {command : Command} {reply : Reply} {values : List Event} → IsStep old command reply values new
+pub step_whole : {E : Type 0} {old new : (CoreView E)} {command : (Command E)} {reply : Reply} {values : List E} → IsStep old command reply values new
     → length new.retired ≡ length old.retired → IsWhole old → IsWhole new
 step_whole {old = old} {new = new} is same whole =
     reached_whole new (subst IsSetup (sym is.same_setup) whole.setup) (same ∙ whole.retired ∙ ap handlers (sym is.same_setup)) (step_reached is whole.reached)

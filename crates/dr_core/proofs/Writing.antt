@@ -7,7 +7,6 @@ use Rattle.dr_core.specs.declared.command.Command.TheVariants.{Write}
 use Rattle.dr_core.specs.declared.command.Reply.TheVariants.{Written, Refused}
 use Rattle.dr_core.specs.declared.refusal.Refusal.{Refusal}
 use Rattle.dr_core.specs.declared.refusal.Refusal.TheVariants.{NotClaimed, AlreadyPublished, NotWritten}
-use Rattle.dr_seq.specs.declared.event.Event.{Event}
 use Rattle.dr_core.specs.Meaning.Machine.{State, producers, next, front, accepted}
 use Rattle.dr_core.specs.Calls.CoreView.{Known, Nothing, ClaimedBy, WrittenBy, PublishedWith, CoreView, recent_of, known_at}
 use Rattle.dr_core.specs.Inside.Availability.{write_fault}
@@ -19,11 +18,11 @@ use Rattle.dr_core.proofs.Steps.{Refuses}
 use Rattle.dr_core.proofs.CoreSteps.{refused_step, accepted_step, known_at-recent}
 
 -- all below the front is published
-pub below_front : (v : CoreView) (m : State) → Shows v m → (s : ℕ) → s < v.front → m.published s ≡ true
+pub below_front : {E : Type 0} (v : CoreView E) (m : State E) → Shows v m → (s : ℕ) → s < v.front → m.published s ≡ true
 below_front v m sh s l = (least_is m.published (next m)).below s (let f : front m ≡ v.front = same_front sh in omega arith)
 
 -- what lies at the front or after it is in the slots
-pub near : (v : CoreView) → IsWhole v → (s : ℕ) → v.front ≤ s → v.next ≤ s + v.setup.size
+pub near : {E : Type 0} (v : CoreView E) → IsWhole v → (s : ℕ) → v.front ≤ s → v.next ≤ s + v.setup.size
 near v whole s open' =
     let a : v.next ≤ v.setup.size + slice_index v.completed whole.left.0 = whole.room whole.left.0 whole.left.1 whole.left.2 in
     let b : slice_index v.completed whole.left.0 ≤ slice_index v.taken whole.left.0 = whole.took whole.left.0 in
@@ -49,13 +48,13 @@ unwritten_refused own e = elim (cases_Bool own) [
 ]
 
 -- what refuses a write by what is known, and what the machine tests
-write_ok : (known : Known) (p o : ℕ) (b : Bool) (w : Option Event) → Agrees known o b w → write_fault known p ≡ None → (b ≡ false) × ((o == p) ≡ true)
+write_ok : {E : Type 0} (known : Known E) (p o : ℕ) (b : Bool) (w : Option E) → Agrees known o b w → write_fault known p ≡ None → (b ≡ false) × ((o == p) ≡ true)
 write_ok Nothing p o b w h e = absurd h
 write_ok (ClaimedBy q) p o b w h e = (h.1, ap (λ k. k == p) h.0 ∙ owned (q == p) NotClaimed e)
 write_ok (WrittenBy q event) p o b w h e = (h.1, ap (λ k. k == p) h.0 ∙ owned (q == p) NotClaimed e)
 write_ok (PublishedWith event) p o b w h e = absurd (let f : ◌≡◌ {A = Option Refusal} (Some AlreadyPublished) None = e in cc)
 
-write_err : (known : Known) (p o : ℕ) (b : Bool) (w : Option Event) (r : Refusal) → Agrees known o b w → write_fault known p ≡ Some r
+write_err : {E : Type 0} (known : Known E) (p o : ℕ) (b : Bool) (w : Option E) (r : Refusal) → Agrees known o b w → write_fault known p ≡ Some r
     → Refuses r ((b, AlreadyPublished) ∷ (not (o == p), NotClaimed) ∷ [])
 write_err Nothing p o b w r h e = absurd h
 write_err (ClaimedBy q) p o b w r h e =
@@ -65,19 +64,19 @@ write_err (WrittenBy q event) p o b w r h e =
 write_err (PublishedWith event) p o b w r h e = inl (h.0, (let f : ◌≡◌ {A = Option Refusal} (Some AlreadyPublished) (Some r) = e in cc))
 
 -- what lies before the front is published
-pub write_front : (v : CoreView) (p s : ℕ) (x : Event) → p < producers v.setup.mode → s < v.next → s < v.front
+pub write_front : {E : Type 0} (v : CoreView E) (p s : ℕ) (x : E) → p < producers v.setup.mode → s < v.next → s < v.front
     → IsStep v (Write p s x) (Refused AlreadyPublished) [] v
 write_front v p s x producer claimed old =
     refused_step v (Write p s x) AlreadyPublished
     (λ m sh. inr (lt-leb _ _ producer, inr ((let n : next m ≡ v.next = same_next sh in rw n (lt-leb _ _ claimed)), inl (below_front v m sh s old, refl))))
 
 -- what a write leaves known: the sequence is written, and of the others as much as before
-pub record WritesKnown (v : CoreView) (p s : ℕ) (x : Event) (known : ℕ → Known) : Type 0 where
+pub record WritesKnown {E : Type 0} (v : CoreView E) (p s : ℕ) (x : E) (known : ℕ → Known E) : Type 0 where
   pub here : known s ≡ WrittenBy p x
   pub kept : (k : ℕ) → k ≢ s → k < v.next → v.next ≤ k + v.setup.size → known k ≡ known_at v k
 
-module _ (v : CoreView) (p s : ℕ) (x : Event) (whole : IsWhole v) (producer : p < producers v.setup.mode) (claimed : s < v.next) (open' : v.front ≤ s) where
-  there : (m : State) → Shows v m → Agrees (known_at v s) (slice_index m.owners s) (m.published s) (m.written s)
+module _ {E : Type 0} (v : CoreView E) (p s : ℕ) (x : E) (whole : IsWhole v) (producer : p < producers v.setup.mode) (claimed : s < v.next) (open' : v.front ≤ s) where
+  there : (m : State E) → Shows v m → Agrees (known_at v s) (slice_index m.owners s) (m.published s) (m.written s)
   there m sh = sh.recent s claimed (near v whole s open')
 
   pub write_refused : (r : Refusal) → write_fault (known_at v s) p ≡ Some r → IsStep v (Write p s x) (Refused r) [] v
@@ -86,7 +85,7 @@ module _ (v : CoreView) (p s : ℕ) (x : Event) (whole : IsWhole v) (producer : 
       (λ m sh. inr
       (lt-leb _ _ producer, inr ((let n : next m ≡ v.next = same_next sh in rw n (lt-leb _ _ claimed)), write_err (known_at v s) p _ _ _ r (there m sh) e)))
 
-  written_recents : (known : ℕ → Known) → WritesKnown v p s x known → (m : State) → Shows v m → m.published s ≡ false → slice_index m.owners s ≡ p
+  written_recents : (known : ℕ → Known E) → WritesKnown v p s x known → (m : State E) → Shows v m → m.published s ≡ false → slice_index m.owners s ≡ p
       → KnowsRecents v.setup.size v.next (known_at (record v { recent = recent_of known v.next v.setup.size })) m.owners m.published
       (accepted v.setup m (Write p s x)).state.written
   written_recents known knows m sh hidden mine =
@@ -100,7 +99,7 @@ module _ (v : CoreView) (p s : ℕ) (x : Event) (whole : IsWhole v) (producer : 
         unclaimed = λ k g. ((sh.unclaimed k g).0, cond-false (k == s) _ _ (ne_eqb k s (λ e. absurd (omega arith))) ∙ (sh.unclaimed k g).1);
       }
 
-  pub write_step : (known : ℕ → Known) → WritesKnown v p s x known → write_fault (known_at v s) p ≡ None
+  pub write_step : (known : ℕ → Known E) → WritesKnown v p s x known → write_fault (known_at v s) p ≡ None
       → IsStep v (Write p s x) Written [] (record v { recent = recent_of known v.next v.setup.size })
   write_step known knows e =
       accepted_step refl refl (λ m sh.

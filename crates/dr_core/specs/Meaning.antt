@@ -4,4 +4,6 @@ pub mod Refusals
 pub mod Transcript
 pub mod Tells
 pub mod Laws
+pub mod TooFar
+pub mod Progress
 pub mod Runs

@@ -4,16 +4,15 @@ ghost use Rattle.std.specs.Prelude.{◌≡◌};
 ghost use Rattle.dr_core.specs.Meaning.Runs.{count_in};
 
 use crate::refusal::Refusal;
-use dr_seq::Event;
 
 /// One call on an exchange. Producers go by number from 0, and handlers by their number in the
 /// built order of the graph.
 #[derive(Clone, Copy, Debug, PartialEq, Eq)]
-pub enum Command {
+pub enum Command<E> {
     /// Producer `p` asks for the next `n` sequences.
     Claim { p: u64, n: u64 },
     /// Producer `p` writes an event to the sequence `s`, which it has claimed.
-    Write { p: u64, s: u64, event: Event },
+    Write { p: u64, s: u64, event: E },
     /// Producer `p` publishes the sequences from `lo` to `hi`, both in the stretch.
     Publish { p: u64, lo: u64, hi: u64 },
     /// Handler `h` takes what its barrier offers, at most `max` events.

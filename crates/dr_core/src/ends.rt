@@ -7,7 +7,6 @@ ghost use Rattle.dr_core.specs.declared.ends.Trouble.TheVariants.{Refused};
 
 use crate::command::{Claimed, Polled};
 use crate::refusal::Refusal;
-use dr_seq::Event;
 use thiserror::Error;
 
 /// Why a call of an end did nothing.
@@ -61,14 +60,14 @@ pub struct Wrote {
 }
 
 /// A producer's end. Its calls answer as the machine does, and in trouble they change nothing.
-pub trait Inlet {
+pub trait Inlet<E: Copy> {
     /// What no call changes, as which end it is.
     ghost Kept: { Type 0 } = { Unit {0} };
 
     ghost kept: { Self → Self.Kept };
 
     /// What it sent so far, where the type shows it: one that shows it is the only producer.
-    ghost sent: { Self → Option Sent } = { λ _. None };
+    ghost sent: { Self → Option (Sent E) } = { λ _. None };
 
     /// Claims the next `n` sequences.
     fn try_claim(&mut self, n: u64) -> Result<Claimed, Trouble>
@@ -78,14 +77,14 @@ pub trait Inlet {
 
     /// Writes the event of a sequence that is claimed and not published, in place of one that was
     /// written before.
-    fn write(&mut self, s: u64, event: Event) -> Result<(), Trouble>
+    fn write(&mut self, s: u64, event: E) -> Result<(), Trouble>
         ensures kept { kept self.new ≡ kept self.old }
         ensures answer { WriteAnswers (sent self.old) s result }
         ensures sent { WhereShown (Writes s event result) (sent self.old) (sent self.new) };
 
     /// Writes events to the sequences from `lo` on, as `write` does, until one is not written. An
     /// exchange behind a lock does so while it holds the lock once.
-    fn write_all(&mut self, lo: u64, events: &[Event]) -> Wrote
+    fn write_all(&mut self, lo: u64, events: &[E]) -> Wrote
         requires limit { lo + length events.now ≤ 2 ^ 62 }
         ensures kept { kept self.new ≡ kept self.old }
         ensures answer { WriteAllAnswers (sent self.old) lo (length events.now) result }
@@ -116,21 +115,21 @@ pub trait Inlet {
 }
 
 /// A handler's end. Its calls answer as the machine does, and in trouble they change nothing.
-pub trait Outlet {
+pub trait Outlet<E> {
     /// What no call changes, as which end it is.
     ghost Kept: { Type 0 } = { Unit {0} };
 
     ghost kept: { Self → Self.Kept };
 
     /// What it handed out and completed so far, where the type shows it.
-    ghost received: { Self → Option Received } = { λ _. None };
+    ghost received: { Self → Option (Received E) } = { λ _. None };
 
     /// Whether it was told that the exchange drained.
     ghost told: { Self → Bool };
 
     /// Takes the next events, as many as the barrier offers and `out` has room for, to the front
     /// of `out`.
-    fn poll_into(&mut self, out: &mut [Event]) -> Result<Polled, Trouble>
+    fn poll_into(&mut self, out: &mut [E]) -> Result<Polled, Trouble>
         ensures kept { kept self.new ≡ kept self.old }
         ensures answer { PollAnswers (received self.old) out.old out.new result }
         ensures told { told self.new ≡ (told self.old || is_drained result) }

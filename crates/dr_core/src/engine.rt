@@ -2,7 +2,8 @@
 
 ghost use Rattle.std.specs.Prelude.{◌≡◌, ◌↔◌, ◌^◌, ◌<◌, Err, IfOk, IfErr, ◌≤◌, true, false, not, slice_index};
 ghost use Rattle.dr_core.specs.Inside.Availability.{HasOwners};
-ghost use Rattle.dr_core.specs.Calls.CoreView.{retired_in};
+ghost use Rattle.dr_core.specs.Calls.CoreView.{opened, retired_in};
+ghost use Rattle.dr_core.specs.Calls.Going.{IsNeverStuck};
 ghost use Rattle.dr_core.specs.Calls.Shows.{IsOpened};
 ghost use Rattle.dr_core.specs.Meaning.Machine.{opening, handlers, producers as producers_of, setup_of};
 ghost use Rattle.dr_core.specs.Calls.OpenFault.{has_bad_producers, is_bad_limit};
@@ -37,7 +38,7 @@ pub fn is_valid_limit(limit: u64) -> bool
 /// Contracts see what it remembers of the machine's state, and say of each call that it is the
 /// machine's step on every state that the core shows.
 #[derive(Drop)]
-pub struct Core {
+pub struct Core<E> {
     graph: Graph,
     size: Size,
     mode: Mode,
@@ -45,7 +46,8 @@ pub struct Core {
     published: Rounds,
     written: Rounds,
     owners: Vec<u64>,
-    events: Slots,
+    events: Slots<E>,
+    blank: E,
     // A claim of sequences that all lie below this one is granted without a further look.
     claimable: u64,
     next: u64,
@@ -59,10 +61,10 @@ pub struct Core {
     gating: Vec<bool>,
 }
 
-impl Model for Core {
+impl<E> Model for Core<E> {
     ghost use Rattle.dr_core.specs.Calls.CoreView.{CoreView};
 
-    ghost Value = { CoreView };
+    ghost Value = { CoreView E };
 
     ghost use Rattle.dr_core.specs.Inside.Fields.{view_of, IsKept};
 
@@ -71,19 +73,22 @@ impl Model for Core {
     ghost invariant = { IsKept };
 }
 
-impl Core {
+impl<E: Copy> Core<E> {
     /// Opens a core over a graph of handlers, with nothing claimed. It spends the graph, at a
-    /// fault too. The limit is how many sequences there will ever be.
+    /// fault too. The limit is how many sequences there will ever be. Until they are written to,
+    /// the slots hold `blank`, of which no call tells: a new core is seen the same whatever it is.
     pub fn open(
         alloc: Global,
         graph: Graph,
         size: Size,
         mode: Mode,
         limit: u64,
-    ) -> Result<Core, OpenFault>
+        blank: E,
+    ) -> Result<Core<E>, OpenFault>
         ensures setup { IfOk result (λ core. core.setup ≡ setup_of graph.upstreams size mode limit) }
         ensures names { IfOk result (λ core. core.names ≡ graph.names) }
         ensures opening { IfOk result (λ core. Shows core (opening (setup_of graph.upstreams size mode limit))) }
+        ensures seen { IfOk result (λ core. core ≡ opened (setup_of graph.upstreams size mode limit) graph.names) }
         ensures bad_producers { (result ≡ Err OpenFault.BadProducers) ↔ (has_bad_producers mode ≡ true) }
         ensures bad_limit { (result ≡ Err OpenFault.BadLimit) ↔ (has_bad_producers mode ≡ false) × (is_bad_limit limit ≡ true) }
     {
@@ -93,7 +98,7 @@ impl Core {
         if !is_valid_limit(limit) {
             return Err(OpenFault::BadLimit);
         }
-        Ok(Core::open_valid(alloc, graph, size, mode, limit)?)
+        Ok(Core::open_valid(alloc, graph, size, mode, limit, blank)?)
     }
 
     /// Opens a core as [`Core::open`] does, where the mode and the limit are known to be valid: an
@@ -104,7 +109,8 @@ impl Core {
         size: Size,
         mode: Mode,
         limit: u64,
-    ) -> Result<Core, AllocError>
+        blank: E,
+    ) -> Result<Core<E>, AllocError>
         requires mode { has_bad_producers mode ≡ false }
         requires limit { is_bad_limit limit ≡ false }
         ensures { IfOk result (λ core. IsOpened core (setup_of graph.upstreams size mode limit) graph.names) }
@@ -113,7 +119,7 @@ impl Core {
         let published = Rounds::new(alloc, size)?;
         let written = Rounds::new(alloc, size)?;
         let owners = owners_for(alloc, mode, size)?;
-        let events = Slots::new(alloc, size)?;
+        let events = Slots::new(alloc, size, blank)?;
         let taken = vec![in alloc; 0u64; handlers]?;
         let completed = vec![in alloc; 0u64; handlers]?;
         let retired = vec![in alloc; false; handlers]?;
@@ -128,6 +134,7 @@ impl Core {
             written,
             owners,
             events,
+            blank,
             claimable: limit.min(size.get()),
             next: 0,
             front: 0,
@@ -138,6 +145,11 @@ impl Core {
             retired,
             gating,
         })
+    }
+
+    /// What fills a buffer until events are taken into it.
+    pub(crate) fn blank(&self) -> E {
+        self.blank
     }
 
     /// Who follows whom.
@@ -201,6 +213,14 @@ impl Core {
         ensures { result ≡ self.now.halted }
     {
         self.halted
+    }
+
+    /// That somebody can always go on, whatever this core did. It does nothing when it runs: its
+    /// contract is the theorem.
+    pub fn is_never_stuck(&self)
+        ensures { IsNeverStuck self.now }
+    {
+        let _next = self.next;
     }
 
     /// Whether a handler is retired.

@@ -22,10 +22,11 @@ pub mod runs;
 pub use command::{Claimed, Command, Polled, Reply};
 pub use ends::{Inlet, Outlet, Trouble, Wrote};
 pub use engine::{Core, MAX_LIMIT, is_valid_limit};
-pub use handler::{Handler, processor_turn, show};
+pub use handler::{Handler, InPlaceHandler, processor_turn, show, show_in_place};
 pub use lawful::{
-    every_step_leads_on, every_transcript_is_lawful, every_transcript_tells_its_state,
-    retirement_keeps_the_gate,
+    every_answer_is_settled, every_state_can_finish, every_step_leads_on,
+    every_transcript_is_lawful, every_transcript_tells_its_state, handlers_come_to_rest,
+    laws_refuse_a_step_too_far, nobody_is_stuck, retirement_keeps_the_gate,
 };
 pub use mode::{MAX_PRODUCERS, Mode};
 pub use open_fault::OpenFault;

@@ -8,20 +8,23 @@ ghost use Rattle.dr_core.specs.Calls.Shows.{Shows};
 
 use crate::command::{Command, Reply};
 use crate::engine::Core;
-use dr_seq::Event;
 use std::alloc::{AllocError, Global};
 
 /// The replies to a list of commands, one a command, and the events of the batches, joined.
 #[derive(Drop)]
-pub struct Ran {
+pub struct Ran<E> {
     pub replies: Vec<Reply>,
-    pub values: Vec<Event>,
+    pub values: Vec<E>,
 }
 
 /// Runs commands in order, whatever they are answered. All memory is taken before the first
 /// command.
-pub fn run(alloc: Global, core: &mut Core, commands: &[Command]) -> Result<Ran, AllocError>
-    ensures lawful { IfOk result (λ ran. (t : Transcript) (m : State) → LeadsTo core.old.setup t m → Shows core.old m → RunsTo core.old.setup (t ++ transcript_of commands.now ran.replies.items ran.values.items) core.new) }
+pub fn run<E: Copy>(
+    alloc: Global,
+    core: &mut Core<E>,
+    commands: &[Command<E>],
+) -> Result<Ran<E>, AllocError>
+    ensures lawful { IfOk result (λ ran. (t : Transcript E) (m : State E) → LeadsTo core.old.setup t m → Shows core.old m → RunsTo core.old.setup (t ++ transcript_of commands.now ran.replies.items ran.values.items) core.new) }
     ensures replies { IfOk result (λ ran. length ran.replies.items ≡ length commands.now) }
     ensures values { IfOk result (λ ran. length ran.values.items ≡ counts_of ran.replies.items) }
     ensures setup { core.new.setup ≡ core.old.setup }
@@ -34,7 +37,8 @@ pub fn run(alloc: Global, core: &mut Core, commands: &[Command]) -> Result<Ran, 
     };
     let mut replies = Vec::with_capacity(alloc, commands.len())?;
     let mut values = Vec::with_capacity(alloc, room)?;
-    let mut buffer = vec![in alloc; Event::NONE; size]?;
+    let mut buffer = Vec::new(alloc);
+    buffer.resize(size, core.blank())?;
     for command in commands {
         let reply = core.execute(*command, &mut buffer);
         replies.push(reply)?;
@@ -44,7 +48,7 @@ pub fn run(alloc: Global, core: &mut Core, commands: &[Command]) -> Result<Ran, 
 }
 
 /// The room that some commands need at most, or `None` past the greatest number.
-fn room_for(commands: &[Command], size: usize) -> Option<usize>
+fn room_for<E: Copy>(commands: &[Command<E>], size: usize) -> Option<usize>
     ensures { MatchOption result (2 ^ 64 ≤ needed commands.now size) (λ room. room ≡ needed commands.now size) }
 {
     let mut room: usize = 0;
@@ -55,7 +59,7 @@ fn room_for(commands: &[Command], size: usize) -> Option<usize>
 }
 
 /// The room that a command needs at most.
-fn offered(command: Command, size: usize) -> usize
+fn offered<E: Copy>(command: Command<E>, size: usize) -> usize
     ensures { result ≡ offers command size }
 {
     match command {

@@ -2,6 +2,7 @@
 use Rattle.std.proofs.Common.{◌≡◌, ◌+◌, ◌∷◌, ℕ, List, [], Option, Some, None, Ok, refl, sym, subst, append-nil, ◌∙◌}
 use Rattle.std.specs.Prelude.{option_to_list}
 use Rattle.std.specs.Io.KnownBytes.{Appends, Keeps}
+use Rattle.dr_seq.specs.declared.event.Event.{Event}
 use Rattle.dr_core.specs.Meaning.Machine.{Setup, State}
 use Rattle.dr_records.specs.Records.{Field, Record}
 use Rattle.dr_drive.specs.Meaning.Commands.{command_of}
@@ -21,7 +22,7 @@ pub record HasCome (first : Exchange) (k : ℕ) (all : List Record) (exchange : 
 
 -- an exchange obeyed a record, and the line of it was written
 pub written : {first exchange : Exchange} {line bytes : List ℕ} (row : Record) (old new : Option (List ℕ))
-    → ((names : List Field) (c : Setup) (m : State) → ExchangeShows first names c m → IsObeyed exchange line (obeys names c m (command_of names row)))
+    → ((names : List Field) (c : Setup) (m : State Event) → ExchangeShows first names c m → IsObeyed exchange line (obeys names c m (command_of names row)))
     → bytes ≡ line → Appends old new bytes
     → (phase : Phase) → ShowsPhase first phase → (did : Taken) × (taken phase row ≡ Ok did) × ShowsPhase exchange did.phase × Appends old new (joined (option_to_list did.line))
 written row old new obeyed same wrote (Preparing stage) shown = absurd shown

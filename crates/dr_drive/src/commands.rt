@@ -25,7 +25,7 @@ fn handler_of(graph: &Graph, name: &[u8]) -> usize
     graph.len()
 }
 
-fn claim(row: &ByteRecord) -> Option<Command>
+fn claim(row: &ByteRecord) -> Option<Command<Event>>
     ensures { result ≡ claim_in (fields_of row.now) }
 {
     let p = number_at(row, 1)?;
@@ -34,7 +34,7 @@ fn claim(row: &ByteRecord) -> Option<Command>
 }
 
 // A `write` of four fields: the second word of its event is 0.
-fn write_one(row: &ByteRecord) -> Option<Command>
+fn write_one(row: &ByteRecord) -> Option<Command<Event>>
     ensures { result ≡ write_one_in (fields_of row.now) }
 {
     let p = number_at(row, 1)?;
@@ -45,7 +45,7 @@ fn write_one(row: &ByteRecord) -> Option<Command>
 }
 
 // A `write` of five fields.
-fn write_two(row: &ByteRecord) -> Option<Command>
+fn write_two(row: &ByteRecord) -> Option<Command<Event>>
     ensures { result ≡ write_two_in (fields_of row.now) }
 {
     let p = number_at(row, 1)?;
@@ -56,7 +56,7 @@ fn write_two(row: &ByteRecord) -> Option<Command>
     Some(Command::Write { p, s, event })
 }
 
-fn publish(row: &ByteRecord) -> Option<Command>
+fn publish(row: &ByteRecord) -> Option<Command<Event>>
     ensures { result ≡ publish_in (fields_of row.now) }
 {
     let p = number_at(row, 1)?;
@@ -65,7 +65,7 @@ fn publish(row: &ByteRecord) -> Option<Command>
     Some(Command::Publish { p, lo, hi })
 }
 
-fn poll(graph: &Graph, row: &ByteRecord) -> Option<Command>
+fn poll(graph: &Graph, row: &ByteRecord) -> Option<Command<Event>>
     ensures { result ≡ poll_in graph.now.names (fields_of row.now) }
 {
     let max = number_at(row, 2)?.min(GREATEST_BATCH) as usize;
@@ -73,7 +73,7 @@ fn poll(graph: &Graph, row: &ByteRecord) -> Option<Command>
     Some(Command::Poll { h, max })
 }
 
-fn complete(graph: &Graph, row: &ByteRecord) -> Option<Command>
+fn complete(graph: &Graph, row: &ByteRecord) -> Option<Command<Event>>
     ensures { result ≡ complete_in graph.now.names (fields_of row.now) }
 {
     let upto = number_at(row, 2)?;
@@ -81,7 +81,7 @@ fn complete(graph: &Graph, row: &ByteRecord) -> Option<Command>
     Some(Command::Complete { h, upto })
 }
 
-fn retire(graph: &Graph, row: &ByteRecord) -> Option<Command>
+fn retire(graph: &Graph, row: &ByteRecord) -> Option<Command<Event>>
     ensures { result ≡ retire_in graph.now.names (fields_of row.now) }
 {
     let h = handler_of(graph, field(row, 1));
@@ -89,7 +89,7 @@ fn retire(graph: &Graph, row: &ByteRecord) -> Option<Command>
 }
 
 /// The command of a record, if it is one, where these are the handlers.
-pub fn command_of(graph: &Graph, row: &ByteRecord) -> Option<Command>
+pub fn command_of(graph: &Graph, row: &ByteRecord) -> Option<Command<Event>>
     ensures { result ≡ command_in graph.now.names (fields_of row.now) }
 {
     if is_record(row, b"claim".as_slice(), 3) {

@@ -1,6 +1,7 @@
 //! A core that obeys the records of a file.
 
 ghost use Rattle.std.specs.Prelude.{◌≤◌, length, IfOk};
+ghost use Rattle.dr_seq.specs.declared.event.Event.{Event};
 
 use crate::commands::command_of;
 use crate::setup::ring_records::Ring;
@@ -14,7 +15,7 @@ use std::alloc::{AllocError, Global};
 /// A core, with room for the longest batch.
 #[derive(Drop)]
 pub struct Exchange {
-    core: Core,
+    core: Core<Event>,
     batch: Vec<Event>,
     ghost room: { core.setup.size ≤ length batch.items },
 }
@@ -34,14 +35,14 @@ impl Exchange {
         ensures { IfOk result (λ e. ExchangeShows e graph.names (ring_setup ring graph) (opening (ring_setup ring graph))) }
     {
         let batch = vec![in alloc; Event::NONE; ring.size.get() as usize]?;
-        let core = Core::open_valid(alloc, graph, ring.size, ring.mode, ring.limit)?;
+        let core = Core::open_valid(alloc, graph, ring.size, ring.mode, ring.limit, Event::NONE)?;
         Ok(Exchange { core, batch })
     }
 
     /// Runs the command of a record, and puts its line in the place of another. Where the record is
     /// no command, nothing is done.
     pub fn obey(&mut self, row: &ByteRecord, line: &mut String) -> Result<(), RecordFault>
-        ensures { (names : List Field) (c : Setup) (m : State) → ExchangeShows self.old names c m → ObeysAs result self.new (string_bytes line.new) (obeys names c m (command_in names (fields_of row.now))) }
+        ensures { (names : List Field) (c : Setup) (m : State Event) → ExchangeShows self.old names c m → ObeysAs result self.new (string_bytes line.new) (obeys names c m (command_in names (fields_of row.now))) }
     {
         let Some(command) = command_of(self.core.graph(), row) else {
             return Err(RecordFault::Cause(Cause::BadRecord));

@@ -1,29 +1,52 @@
 //! Whole texts, read and written by loops over single calls. No call follows one that failed.
 
-ghost use Rattle.std.specs.Prelude.{◌≡◌, ◌<◌, ◌-◌, ◌^◌, IfErr, IfOk, IfSome, OnOk};
+ghost use Rattle.std.specs.Prelude.{◌≡◌, ◌<◌, ◌-◌, ◌^◌, IfErr, IfOk, IfSome, OnOk, Some};
+ghost use Rattle.dr_files.specs.declared.fault.FileFault.TheVariants as fault;
 ghost use Rattle.dr_files.specs.Counting.{faults_of, inner_of};
+ghost use Rattle.dr_files.specs.Faults.{fault_line, read_fault};
 ghost use Rattle.dr_files.specs.Outcome.{ReadFaultTells, WriteTells};
 
 use crate::counted::Counted;
 use std::alloc::Global;
+use std::error::Error;
+use std::fmt;
 use std::io::{Read, Write};
-use thiserror::Error;
 
-/// Why a text is not read whole.
-#[derive(Clone, Copy, Debug, PartialEq, Eq, Error)]
+/// Why a text is not read whole. Its text is that of the file's fault.
+#[derive(Clone, Copy, Debug, PartialEq, Eq)]
 pub enum ReadFault {
     /// There is no memory for it.
-    #[error("no-memory")]
     Memory,
     /// A read failed.
-    #[error("cannot read")]
     Read,
 }
 
-/// A write failed.
-#[derive(Clone, Copy, Debug, PartialEq, Eq, Error)]
-#[error("cannot write")]
+impl fmt::Display for ReadFault {
+    ghost output = { λ fault. Some (fault_line (read_fault fault)) };
+
+    fn fmt<W: fmt::Write>(&self, f: &mut fmt::Formatter<W>) -> fmt::Result {
+        match self {
+            ReadFault::Memory => write!(f, "no-memory"),
+            ReadFault::Read => write!(f, "cannot read"),
+        }
+    }
+}
+
+impl Error for ReadFault {}
+
+/// A write failed. Its text is that of the file's fault.
+#[derive(Clone, Copy, Debug, PartialEq, Eq)]
 pub struct WriteFault;
+
+impl fmt::Display for WriteFault {
+    ghost output = { λ _. Some (fault_line fault.Write) };
+
+    fn fmt<W: fmt::Write>(&self, f: &mut fmt::Formatter<W>) -> fmt::Result {
+        write!(f, "cannot write")
+    }
+}
+
+impl Error for WriteFault {}
 
 /// All bytes that a reader has left, read to its end.
 pub fn read_all<R: Read>(alloc: Global, reader: &mut Counted<R>) -> Result<Vec<u8>, ReadFault>

@@ -16,7 +16,10 @@ size_sync = search sendable depth 30
 pub event_sync : IsSync Event.the_row
 event_sync = search sendable depth 30
 
-pub ruleset shares = (sendable, std.sync, size_sync, shared_sync)
+pub event_send : IsSend Event.the_row
+event_send = search sendable depth 30
+
+pub ruleset shares = (sendable, std.sync, size_sync, event_send, shared_sync)
 
 pub around_sync : (a : NamedLft) (L R G : RattleType) (g : Ghosts L.Denot) → IsSync L → IsSync R → IsSync G → IsSync (Around.the_row a L R G g)
 around_sync a L R G g ledger workers gates = search shares depth 60 fits 20000

@@ -17,7 +17,7 @@ use Rattle.dr_replay.specs.declared.fault.ReplayFault.{ReplayFault}
 use Rattle.dr_replay.specs.declared.fault.ReplayFault.TheVariants as fault
 use Rattle.dr_replay.specs.declared.ring.Ran.{Ran}
 use Rattle.dr_replay.specs.Meaning.Scripts.{scripts_in}
-use Rattle.dr_replay.specs.Calls.Workers.{IsFirstOf, IsMemory, IsOfAudit, IsOfLock, IsOfMerge, IsOfWorkers, audit_fault}
+use Rattle.dr_replay.specs.Calls.Workers.{AreStopped, IsFirstOf, IsMemory, IsOfAudit, IsOfLock, IsOfMerge, IsOfWorkers, audit_fault}
 use Rattle.dr_replay.specs.Calls.Workers.{endings_of, lock_endings, replay_fault, ring_workers}
 
 -- whether a fault may be answered for workers
@@ -44,25 +44,27 @@ only_memory endings (file.Input k cause) is = no_other endings (fault.File (file
 only_memory endings file.Read is = no_other endings (fault.File file.Read) refl is
 only_memory endings file.Write is = no_other endings (fault.File file.Write) refl is
 
-of_workers : (ran : Ran) (e : ReplayFault) → IsFirstOf (endings_of ran) e → IsOfWorkers ring_workers e
-of_workers ran (fault.File f) is = only_memory (endings_of ran) f is
-of_workers ran (fault.Worker who f) is = (endings_of ran, refl, is)
-of_workers ran (fault.Audit f) is = no_other (endings_of ran) (fault.Audit f) refl is
+of_workers : (may_stop : ℕ → Type 0) (ran : Ran) (e : ReplayFault) → AreStopped may_stop (endings_of ran) → IsFirstOf (endings_of ran) e
+    → IsOfWorkers may_stop ring_workers e
+of_workers may_stop ran (fault.File f) stopped is = only_memory (endings_of ran) f is
+of_workers may_stop ran (fault.Worker who f) stopped is = (endings_of ran, refl, record { stopped = stopped; first = is })
+of_workers may_stop ran (fault.Audit f) stopped is = no_other (endings_of ran) (fault.Audit f) refl is
 
-pub ends_of_workers : {A : Type 0} (ran : Ran) (r : Result A ReplayFault) → IfErr r (IsFirstOf (endings_of ran)) → IfErr r (IsOfWorkers ring_workers)
-ends_of_workers ran (Ok x) is = tt
-ends_of_workers ran (Err e) is = of_workers ran e is
+pub ends_of_workers : {A : Type 0} (may_stop : ℕ → Type 0) (ran : Ran) (r : Result A ReplayFault) → AreStopped may_stop (endings_of ran)
+    → IfErr r (IsFirstOf (endings_of ran)) → IfErr r (IsOfWorkers may_stop ring_workers)
+ends_of_workers may_stop ran (Ok x) stopped is = tt
+ends_of_workers may_stop ran (Err e) stopped is = of_workers may_stop ran e stopped is
 
 -- behind a lock
 
-finds : (h : History) (scripts : List (List Event)) (f : AuditFault) → IsRecorded h → Faults (transcript h) (handlers h.core.setup) scripts f
+finds : (h : History Event) (scripts : List (List Event)) (f : AuditFault) → IsRecorded h → Faults (transcript h) (handlers h.core.setup) scripts f
     → IsOfAudit scripts (audit_fault f)
 finds h scripts audit.NoMemory recorded is = tt
 finds h scripts (audit.ScriptDiffers p) recorded is = (h, recorded, is)
 finds h scripts (audit.NotDrained k) recorded is = (h, recorded, is)
 
 -- an audit's fault of a recorded history
-pub audit_finds : (h : History) (given scripts : List (List Event)) (f : AuditFault) → given ≡ scripts → IsRecorded h
+pub audit_finds : (h : History Event) (given scripts : List (List Event)) (f : AuditFault) → given ≡ scripts → IsRecorded h
     → Faults (transcript h) (handlers h.core.setup) given f → IsOfAudit scripts (audit_fault f)
 audit_finds h given scripts f same recorded is = finds h scripts f recorded (rw same at is)
 

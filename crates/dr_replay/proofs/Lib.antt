@@ -6,3 +6,4 @@ pub mod Numbered
 pub mod Reporting
 pub mod Scripting
 pub mod Settled
+pub mod Stopping

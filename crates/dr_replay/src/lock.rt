@@ -74,7 +74,7 @@ fn check(
 // The report of the list that every handler received.
 fn audited(
     alloc: Global,
-    recorded: &Recorded,
+    recorded: &Recorded<Event>,
     scripts: &[Vec<Event>],
     journal: Part<Journal>,
     replica: Part<Replica>,
@@ -107,10 +107,10 @@ fn fault_in<T>(part: &Result<T, WorkFault>) -> Option<WorkFault>
 // The history, once all ends are back; and how the producers' workers ended.
 fn gathered<L: Ledger>(
     alloc: Global,
-    shared: Shared<L>,
+    shared: Shared<Event, L>,
     handlers: [End<L>; 4],
     producers: Vec<Sent<L>>,
-) -> Result<(Recorded, Vec<Option<WorkFault>>), AllocError>
+) -> Result<(Recorded<Event>, Vec<Option<WorkFault>>), AllocError>
     requires { shared.given ≡ 4 + length producers.items }
     ensures { IfOk result (λ got. got.1.items ≡ map (λ s. s.fault) producers.items) }
 {
@@ -129,7 +129,7 @@ fn gathered<L: Ledger>(
 // Brings the ends together, and then the parts of the report.
 fn settled<L: Ledger>(
     alloc: Global,
-    shared: Shared<L>,
+    shared: Shared<Event, L>,
     ran: Joined<L>,
     scripts: &[Vec<Event>],
 ) -> Result<String, ReplayFault>
@@ -174,7 +174,7 @@ fn opened(
     size: Size,
     producers: usize,
     events: usize,
-) -> Result<Recorded, AllocError> {
+) -> Result<Recorded<Event>, AllocError> {
     let graph = graph(alloc)?;
     let mode = Mode::Multi(producers as u64);
     // A claim, a write and a publication for each event, and a batch and a completion for each and
@@ -182,7 +182,16 @@ fn opened(
     let entries = events.checked_mul(9).ok_or(AllocError)?;
     let entries = entries.checked_add(4).ok_or(AllocError)?;
     let words = events.checked_mul(3).ok_or(AllocError)?;
-    match Recorded::open(alloc, graph, size, mode, MAX_LIMIT, entries, words) {
+    match Recorded::open(
+        alloc,
+        graph,
+        size,
+        mode,
+        MAX_LIMIT,
+        Event::NONE,
+        entries,
+        words,
+    ) {
         Ok(recorded) => Ok(recorded),
         Err(_) => Err(AllocError),
     }
@@ -205,7 +214,7 @@ fn report<L: Ledger + Send + Sync, R: Threads + Wait + Sync, G: Gate + Sync>(
 {
     let scripts = scripts(alloc, events)?;
     let recorded = opened(alloc, size, scripts.len(), events.len())?;
-    let mut shared = Shared::<L>::new(recorded, blank);
+    let mut shared = Shared::<Event, L>::new(recorded, blank);
     let ends = make_ends(alloc, &mut shared, scripts.len())?;
     let around = Around {
         rt,

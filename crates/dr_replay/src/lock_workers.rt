@@ -25,7 +25,7 @@ pub struct Around<'a, L: Ledger, R, G> {
     pub rt: &'a R,
     pub alloc: Global,
     pub gate: &'a G,
-    pub shared: &'a Shared<L>,
+    pub shared: &'a Shared<Event, L>,
     pub size: Size,
 }
 
@@ -73,7 +73,7 @@ pub struct Joined<L: Ledger> {
 }
 
 // One end more.
-fn new_end<L: Ledger>(shared: &mut Shared<L>) -> Result<End<L>, AllocError>
+fn new_end<L: Ledger>(shared: &mut Shared<Event, L>) -> Result<End<L>, AllocError>
     ensures { IfOk result (λ end. shared.new.given ≡ shared.old.given + 1) }
 {
     shared.end().ok_or(AllocError)
@@ -82,7 +82,7 @@ fn new_end<L: Ledger>(shared: &mut Shared<L>) -> Result<End<L>, AllocError>
 // An end for each producer.
 fn list_of_ends<L: Ledger>(
     alloc: Global,
-    shared: &mut Shared<L>,
+    shared: &mut Shared<Event, L>,
     producers: usize,
 ) -> Result<Vec<End<L>>, AllocError>
     ensures given { IfOk result (λ ends. shared.new.given ≡ shared.old.given + length ends.items) }
@@ -98,7 +98,7 @@ fn list_of_ends<L: Ledger>(
 /// An end for each worker, and one that halts.
 pub fn make_ends<L: Ledger>(
     alloc: Global,
-    shared: &mut Shared<L>,
+    shared: &mut Shared<Event, L>,
     producers: usize,
 ) -> Result<Ends<L>, AllocError>
     ensures given { IfOk result (λ ends. shared.new.given ≡ shared.old.given + 4 + length ends.producers.items) }

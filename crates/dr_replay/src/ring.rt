@@ -1,6 +1,6 @@
 //! The replay over the ring, a thread a handler.
 
-ghost use Rattle.std.specs.Prelude.{◌≡◌, ◌++◌, ◌-◌, ◌^◌, ◌∷◌, ◌<◌, [], IfErr, IfOk, IfSome, List, None, length, string_bytes, take};
+ghost use Rattle.std.specs.Prelude.{◌≡◌, ◌++◌, ◌-◌, ◌^◌, ◌∷◌, ◌<◌, [], IfErr, IfOk, IfSome, List, None, Some, length, string_bytes, take};
 ghost use Rattle.dr_seq.specs.declared.event.Event.{Event};
 ghost use Rattle.dr_ring.specs.Calls.Ends.{sender_place};
 ghost use Rattle.dr_ring.specs.Calls.Settling.{AreAllEnds};
@@ -8,6 +8,7 @@ ghost use Rattle.dr_files.specs.Counting.{faults_of, inner_of};
 ghost use Rattle.dr_replay.specs.Calls.Replayed.{ReplayCounts, ReplayFaultKeeps, ReplayWrites, replay_text};
 ghost use Rattle.dr_accounts.specs.Report.{report_of};
 ghost use Rattle.dr_shared.specs.Meaning.FirstFault.{first_fault as first_of};
+ghost use Rattle.dr_shared.specs.declared.fault.WorkFault.TheVariants.{Stopped};
 ghost use Rattle.dr_replay.specs.Calls.Workers.{IsFirstOf, IsFirstOfSome, IsOfWorkers, IsRun, Says, StaysAt, endings_of, ends_of, ring_workers};
 
 use crate::event_file::read_events;
@@ -60,11 +61,11 @@ fn close(sender: &mut Sender)
 }
 
 // Closes a ring before anything was sent, and joins those of its handlers' threads that were started.
-fn abandoned<R: Threads>(
+fn abandoned<R: Threads, G: Gate>(
     rt: &R,
     mut sender: Sender,
-    journal: PromisedHandle<Worked, PartOf<Journal>>,
-    replica: Option<PromisedHandle<Worked, PartOf<Replica>>>,
+    journal: PromisedHandle<Worked, PartOf<Journal, G>>,
+    replica: Option<PromisedHandle<Worked, PartOf<Replica, G>>>,
 ) -> AllocError {
     close(&mut sender);
     let _journal = journal.join(rt);
@@ -88,6 +89,7 @@ fn served<R: Threads + Wait, G: Gate, J: Promise<Worked>, K: Promise<Worked>, B:
     ensures place { sender_place result.sender ≡ sender_place sender }
     ensures published { result.sender.knows.sent.published ≡ sender.knows.sent.published ++ take result.produced.sent events.now }
     ensures all { result.produced.fault ≡ None → result.produced.sent ≡ length events.now }
+    ensures stopped { result.produced.fault ≡ Some Stopped → G.may_stop gate.now 16 }
     ensures journal { J.kept_by journal.promise result.journal }
     ensures replica { K.kept_by replica.promise result.replica }
     ensures business { B.kept_by business.promise result.business }
@@ -121,26 +123,29 @@ fn exchange<R: Threads + Wait + Sync, G: Gate + Sync>(
     replica: Receiver,
     business: Receiver,
 ) -> Result<Ran, AllocError>
-    ensures ran { IfOk result (λ ran. IsRun events.now sender journal replica business ran) }
+    ensures ran { IfOk result (λ ran. IsRun (G.may_stop gate.now) events.now sender journal replica business ran) }
 {
     thread::scope(
         thread::scope_env(),
         rt,
         move |scope| -> Result<Ran, AllocError>
-            ensures { IfOk result (λ ran. IsRun events.entry.now sender journal replica business ran) }
+            ensures { IfOk result (λ ran. IsRun (G.may_stop gate.entry.now) events.entry.now sender journal replica business ran) }
         {
             let room = size.get() as usize;
-            let Ok(journal) = scope.spawn_with(PartOf::<Journal>::of(&journal), move || {
+            let promise = PartOf::<Journal, G>::of(&journal, gate, JOURNAL);
+            let Ok(journal) = scope.spawn_with(promise, move || {
                 work::<R, G, Journal>(rt, gate, JOURNAL, journal, room, alloc)
             }) else {
                 return Err(AllocError);
             };
-            let Ok(replica) = scope.spawn_with(PartOf::<Replica>::of(&replica), move || {
+            let promise = PartOf::<Replica, G>::of(&replica, gate, REPLICA);
+            let Ok(replica) = scope.spawn_with(promise, move || {
                 work::<R, G, Replica>(rt, gate, REPLICA, replica, room, alloc)
             }) else {
                 return Err(abandoned(rt, sender, journal, None));
             };
-            let Ok(business) = scope.spawn_with(PartOf::<Business>::of(&business), move || {
+            let promise = PartOf::<Business, G>::of(&business, gate, BUSINESS);
+            let Ok(business) = scope.spawn_with(promise, move || {
                 work::<R, G, Business>(rt, gate, BUSINESS, business, room, alloc)
             }) else {
                 return Err(abandoned(rt, sender, journal, Some(replica)));
@@ -216,7 +221,7 @@ fn report<R: Threads + Wait + Sync, G: Gate + Sync>(
     gate: &G,
 ) -> Result<String, ReplayFault>
     ensures text { IfOk result (λ text. string_bytes text ≡ report_of events.now) }
-    ensures first { IfErr result (IsOfWorkers ring_workers) }
+    ensures first { IfErr result (IsOfWorkers (G.may_stop gate.now) ring_workers) }
 {
     let graph = graph(alloc)?;
     let Ok((sender, receivers, _halter)) = ring(alloc, &graph, size, MAX_LIMIT) else {
@@ -249,8 +254,8 @@ pub fn replay_ring<S: Threads + Wait + Sync, R: Read, W: Write, G: Gate + Sync>(
         ReplayWrites result (W.contents (inner_of writer.old)) (W.contents (inner_of writer.new)) (replay_text input)) }
     // Any fault but a failed write leaves nothing written, whether or not the input's bytes are known.
     ensures unwritten { IfErr result (λ e. ReplayFaultKeeps e (W.contents (inner_of writer.old)) (W.contents (inner_of writer.new))) }
-    // Where several workers have faults, the first is answered: a stop before a refusal, and then the least worker's.
-    ensures first { IfErr result (IsFirstOfSome ring_workers) }
+    // Where several workers have faults, the first is answered: a stop before a refusal, and then the least worker's. Only the gate stops a worker.
+    ensures first { IfErr result (IsFirstOfSome (G.may_stop gate.now) ring_workers) }
     // A failed read or write is answered where one failed, and nowhere else.
     ensures counted { ReplayCounts result (faults_of reader.old) (faults_of reader.new) (faults_of writer.old) (faults_of writer.new) }
 {

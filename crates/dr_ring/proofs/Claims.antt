@@ -166,7 +166,7 @@ module _ {r s t e : SenderRecord} {xs : List Look} {n q needed : ℕ} (S : Scann
           },
           refl,
         );
-        only = only ∙ ap (λ (x : Sent). record r { sent = x; looks = r.looks ++ look halt_word 0 ∷ gate_looks r H.counts }) (sym sent);
+        only = only ∙ ap (λ (x : Sent Event). record r { sent = x; looks = r.looks ++ look halt_word 0 ∷ gate_looks r H.counts }) (sym sent);
         few = S.few;
       })
 
@@ -184,7 +184,7 @@ module _ {r s t e : SenderRecord} {xs : List Look} {n q needed : ℕ} (S : Scann
         sent = sent;
         seen = seen;
         looks = inr (record { limit = (let next = S.next in let limit = S.limit in omega arith); counts = E.counts; room = room least E; saw = refl });
-        only = only ∙ ap (λ (x : Sent). record r { sent = x; looks = r.looks ++ seen }) (sym sent);
+        only = only ∙ ap (λ (x : Sent Event). record r { sent = x; looks = r.looks ++ seen }) (sym sent);
         few = S.few;
       })
 
@@ -206,7 +206,7 @@ module _ {r s t e : SenderRecord} {xs : List Look} {n q needed : ℕ} (S : Scann
         sent = (lo ∙ S.next, sent);
         seen = seen;
         looks = (E.counts, room least E, refl);
-        only = only ∙ ap (λ (x : Sent). record r { sent = x; looks = r.looks ++ seen }) (sym sent);
+        only = only ∙ ap (λ (x : Sent Event). record r { sent = x; looks = r.looks ++ seen }) (sym sent);
         few = S.few;
       })
 

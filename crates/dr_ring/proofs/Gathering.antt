@@ -1,4 +1,5 @@
 -- The run of a ring's ends, once its receivers' seats have come to the sender's.
+use Rattle.dr_seq.specs.declared.event.Event.{Event}
 use Rattle.std.proofs.Common.{◌≡◌, ℕ, ◌<◌, List, map, sym, refl, ap, ◌∙◌, subst}
 use Rattle.std.proofs.lemmas.List.{length-map}
 use mathlib.Core.Option.{some}
@@ -62,8 +63,8 @@ all_settle k me now s es T =
     (λ h r at. (let here = ap (λ (xs : List ReceiverRecord). get_elem? xs h) A.receivers ∙ at in
     ap (λ (n : ℕ). get_elem? w.receivers n) (A.rule.received h r here).number ∙ here)) A.rule
 
-abbrev Moments : (Shape → List Step → Transcript → World → Type 0) → Type 0
-Moments P = (k : Shape) (steps : List Step) (entries : Transcript) (w : World) → IsGraph k.upstreams → 0 < k.size → Runs k steps entries (new_world k) w → P k steps entries w
+abbrev Moments : (Shape → List Step → Transcript Event → World → Type 0) → Type 0
+Moments P = (k : Shape) (steps : List Step) (entries : Transcript Event) (w : World) → IsGraph k.upstreams → 0 < k.size → Runs k steps entries (new_world k) w → P k steps entries w
 
 -- the run of the ends that came together
 pub has_run : (k : Shape) (me : End) (now : Sitting) (s : SenderEnd) (es : List ReceiverEnd) → Together k me now s es

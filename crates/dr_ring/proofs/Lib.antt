@@ -1,5 +1,6 @@
 pub mod Lists
 pub mod Keeps
+pub mod Events
 pub mod Stores
 pub mod Machine
 pub mod Pictures
@@ -19,3 +20,7 @@ pub mod Settling
 pub mod Gathering
 pub mod Publishing
 pub mod Halting
+pub mod Fronts
+pub mod Writings
+pub mod Replies
+pub mod Rising

@@ -1,12 +1,11 @@
 -- What the machine answers to the entries of a ring's steps.
-use Rattle.std.proofs.Common.{◌≡◌, ℕ, zero, suc, ◌+◌, ◌-◌, ◌<◌, ◌≤◌, inl, inr, Bool, true, false, ◌==◌, ◌&&◌, ◌||◌, if◌then◌else◌, min, List, [], ◌∷◌, ◌++◌, length, get_or, set, map, replicate, Option, Some, None, unwrap_or, is_none, sym, refl, ap, ◌∙◌, arith, get_or-set_same, get_or-set_other}
+use Rattle.std.proofs.Common.{◌≡◌, ℕ, zero, suc, ◌+◌, ◌-◌, ◌<◌, ◌≤◌, inl, inr, Bool, true, false, ◌==◌, ◌&&◌, ◌||◌, if◌then◌else◌, min, List, [], ◌∷◌, ◌++◌, length, get_or, set, map, replicate, Option, Some, None, is_none, sym, refl, ap, ◌∙◌, arith, get_or-set_same, get_or-set_other}
 use Rattle.std.specs.Prelude.{nat_lt, nat_le, Contains, not, flat_map}
-use Rattle.std.specs.List.{range_with_len}
+use Rattle.std.specs.List.{range_with_len, filter_map, cons_option}
 use Rattle.std.proofs.lemmas.Bool.{cases_eq, cases_lt, eq-eqb, ne_eqb, lt-ltb, le-ltb, le-leb, lt-leb}
 use Rattle.std.proofs.lemmas.List.{length-replicate, length-map, get_or_append_left, get_or-append_right, get_or-replicate, get_or_past, get_or-map}
 use Rattle.std.proofs.Math.Nat.{suc-add, zero-add}
 use Rattle.dr_seq.specs.declared.event.Event.{Event}
-use Rattle.dr_seq.specs.Event.{no_event}
 use Rattle.dr_core.specs.declared.command.Command.TheVariants.{Claim, Write, Publish, Poll, Complete}
 use Rattle.dr_core.specs.declared.command.Reply.TheVariants.{Claimed, Written, Published, Batch, Drained, Completed}
 use Rattle.dr_graph.specs.Meaning.Graph.{finals, least_of}
@@ -15,7 +14,7 @@ use Rattle.dr_core.proofs.Steps.{NoneHold, NoneHold-join, unless-none}
 use Rattle.dr_ring.specs.Meaning.Shape.{Shape, handlers_of, ring_setup}
 
 -- a state of which n sequences are claimed, with what is written to each, and all below f published; the rest is as at the opening
-abbrev pub shown : Shape → ℕ → List (Option Event) → ℕ → List ℕ → List ℕ → Bool → State
+abbrev pub shown : Shape → ℕ → List (Option Event) → ℕ → List ℕ → List ℕ → Bool → State Event
 shown k n vs f t d b = record (opening (ring_setup k)) {
   owners = replicate n 0;
   written = λ s. get_or vs s None;
@@ -134,19 +133,20 @@ publish_step k n vs f t d b q lt within all =
     )
     ∙ (λ i. record { reply = Published; values = []; state = record m { published = λ s. covers_below f q s lt i } })
 
-pub take_step : (k : Shape) (m : State) (h : ℕ) → h < handlers_of k → m.retired h ≡ false → get_or m.taken h 0 < available (ring_setup k) m h
+pub take_step : (k : Shape) (m : State Event) (h : ℕ) (event : Event) → h < handlers_of k → m.retired h ≡ false
+    → m.written (get_or m.taken h 0) ≡ Some event → get_or m.taken h 0 < available (ring_setup k) m h
     → step (ring_setup k) m
     (Poll h 1) ≡ record {
       reply = Batch (get_or m.taken h 0) 1 (get_or m.taken h 0 + 1 == available (ring_setup k) m h);
-      values = unwrap_or
-          (m.written (get_or m.taken h 0)) no_event ∷ [];
+      values = event ∷ [];
       state = record m { taken = set m.taken h (get_or m.taken h 0 + 1) };
     }
-take_step k m h inside here more =
+take_step k m h event inside here is more =
     let at = get_or m.taken h 0 in let to = available (ring_setup k) m h in let one : min (to - at) 1 ≡ 1 = omega arith in
     unless-none (refusals (ring_setup k) m (Poll h 1)) m (accepted (ring_setup k) m (Poll h 1)) (lt-leb (handlers_of k) h inside, (here, (refl, tt)))
     ∙ rw (lt-ltb at to more)
-    (λ i. record { reply = Batch at (one i) (at + one i == to); values = map (λ s. unwrap_or (m.written s) no_event) (range_with_len at (one i)); state = record m { taken = set m.taken h (at + one i) } })
+    (λ i. record { reply = Batch at (one i) (at + one i == to); values = filter_map m.written (range_with_len at (one i)); state = record m { taken = set m.taken h (at + one i) } })
+    ∙ (λ i. record { reply = Batch at 1 (at + 1 == to); values = cons_option (is i) []; state = record m { taken = set m.taken h (at + 1) } })
 
 pub drained_step : (k : Shape) (n : ℕ) (vs : List (Option Event)) (f : ℕ) (t d : List ℕ) (h : ℕ) → h < handlers_of k
     → available (ring_setup k) (shown k n vs f t d true) h ≤ n → get_or t h 0 ≡ n
@@ -156,7 +156,7 @@ drained_step k n vs f t d h inside none all =
     unless-none (refusals (ring_setup k) m (Poll h 1)) m (accepted (ring_setup k) m (Poll h 1)) (lt-leb (handlers_of k) h inside, (refl, (refl, tt)))
     ∙ rw (le-ltb (get_or t h 0) (available (ring_setup k) m h) (omega arith), eq-eqb (get_or t h 0) (length (owners n)) (omega arith)) refl
 
-pub complete_step : (k : Shape) (m : State) (h n : ℕ) → h < handlers_of k → m.retired h ≡ false → get_or m.completed h 0 ≤ n → n ≤ get_or m.taken h 0
+pub complete_step : (k : Shape) (m : State Event) (h n : ℕ) → h < handlers_of k → m.retired h ≡ false → get_or m.completed h 0 ≤ n → n ≤ get_or m.taken h 0
     → step (ring_setup k) m (Complete h n) ≡ record { reply = Completed; values = []; state = record m { completed = set m.completed h n } }
 complete_step k m h n inside here rise le =
     unless-none (refusals (ring_setup k) m (Complete h n)) m (accepted (ring_setup k) m (Complete h n))
@@ -174,7 +174,7 @@ contains_at [] i lt = absurd (omega arith)
 contains_at (h ∷ hs) zero lt = (0, omega arith, refl)
 contains_at (h ∷ hs) (suc i) lt = let r : Contains hs (get_or hs i 0) = contains_at hs i (omega arith) in (suc r.0, (let l = r.1 in omega arith), r.2)
 
-pub counts_below : (m : State) (hs : List ℕ) (a b : ℕ) → 0 < length hs → ((h : ℕ) → Contains hs h → b ≤ a + get_or m.completed h 0)
+pub counts_below : (m : State Event) (hs : List ℕ) (a b : ℕ) → 0 < length hs → ((h : ℕ) → Contains hs h → b ≤ a + get_or m.completed h 0)
     → b ≤ a + least_completed m hs
 counts_below m hs a b some_one all =
     below_least (map (λ h. get_or m.completed h 0) hs) a b (rw length-map some_one)
@@ -188,7 +188,7 @@ least_of-le n [] = omega arith
 least_of-le n (m ∷ ms) = omega arith
 
 -- what is offered to a handler is at most n, where all that is published and every count are
-pub offered_at_most : (m : State) (ups : List ℕ) (n : ℕ) → front m ≤ n → ((u : ℕ) → Contains ups u → get_or m.completed u 0 ≤ n) → offered m ups ≤ n
+pub offered_at_most : (m : State Event) (ups : List ℕ) (n : ℕ) → front m ≤ n → ((u : ℕ) → Contains ups u → get_or m.completed u 0 ≤ n) → offered m ups ≤ n
 offered_at_most m [] n published counts = published
 offered_at_most m (u ∷ ups) n published counts =
     let a : least_of (map (λ h. get_or m.completed h 0) (u ∷ ups)) ≤ get_or m.completed u 0 =
@@ -196,7 +196,7 @@ offered_at_most m (u ∷ ups) n published counts =
     let b : get_or m.completed u 0 ≤ n = counts u (0, omega arith, refl) in omega arith
 
 -- and more than n, where these are
-pub offered_more : (m : State) (ups : List ℕ) (n : ℕ) → (ups ≡ [] → n < front m) → ((u : ℕ) → Contains ups u → n < get_or m.completed u 0) → n < offered m ups
+pub offered_more : (m : State Event) (ups : List ℕ) (n : ℕ) → (ups ≡ [] → n < front m) → ((u : ℕ) → Contains ups u → n < get_or m.completed u 0) → n < offered m ups
 offered_more m [] n published counts = published refl
 offered_more m (u ∷ ups) n published counts =
     let r : suc n ≤ 0 + least_completed m (u ∷ ups) = counts_below m (u ∷ ups) 0 (suc n) (omega arith) (λ h has. (let c = counts h has in omega arith)) in

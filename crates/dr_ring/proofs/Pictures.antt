@@ -1,11 +1,11 @@
 -- Each list of steps keeps the rule, and the entries of its events lead the machine to the ring's picture.
 use Rattle.std.proofs.Common.{◌≡◌, ◌≢◌, ℕ, zero, suc, ◌+◌, ◌-◌, ◌<◌, ◌≤◌, inl, inr, Bool, true, false, ◌==◌, ◌&&◌, if◌then◌else◌, List}
-use Rattle.std.proofs.Common.{[], ◌∷◌, ◌++◌, length, get_or, set, map, take, drop, replicate, Option, Some, None, unwrap_or, is_none}
+use Rattle.std.proofs.Common.{[], ◌∷◌, ◌++◌, length, get_or, set, map, take, drop, replicate, Option, Some, None, is_none}
 use Rattle.std.proofs.Common.{sym, refl, ap, ◌∙◌, subst, arith, length-set, get_or-set_same, get_or-set_other, append_assoc}
 use Rattle.std.specs.Prelude.{Contains, not}
 use Rattle.std.specs.List.{range_with_len}
 use Rattle.std.proofs.lemmas.Bool.{cases_eq, cases_lt, cases_Bool, eq-eqb, ne_eqb}
-use Rattle.std.proofs.lemmas.List.{length-append, length-replicate, length-map, length-take, length-drop, length_push, map-append}
+use Rattle.std.proofs.lemmas.List.{length-append, length-replicate, length-map, length-drop, length_push, map-append}
 use Rattle.std.proofs.lemmas.List.{get_or_append_left, get_or-append_right, get_or-map, set-append_right, append-nil}
 use Rattle.std.proofs.lemmas.List.FromFn.{get_or-map-range_with_len}
 use lib.Seq.{map-set, map-set_same}
@@ -21,7 +21,7 @@ use Rattle.dr_graph.specs.Meaning.Graph.{nobody, upstreams_of, finals, IsGated, 
 use Rattle.dr_core.specs.Meaning.Machine as machine
 use Rattle.dr_core.specs.Meaning.Machine.{State, Outcome, front, available, least_completed}
 use Rattle.dr_core.specs.Meaning.Transcript.{Transcript, LeadsFrom}
-use Rattle.dr_core.specs.Calls.Ends.{event_or_none}
+use Rattle.dr_core.specs.Calls.Ends.{written_of}
 use Rattle.dr_ring.specs.Meaning.Shape.{Shape, handlers_of, ring_setup}
 use Rattle.dr_ring.specs.Meaning.Words.{cursor_word, closed_word, halt_word, count_word, payload_start, payload_word}
 use Rattle.dr_ring.specs.declared.record.HalfWrite.{HalfWrite}
@@ -36,6 +36,7 @@ use Rattle.dr_ring.specs.declared.record.Step.TheVariants.{ReceiverLoadsFirst, R
 use Rattle.dr_ring.specs.Meaning.Steps.{Happens, sender_knows, sender_stores, receiver_knows, receiver_stores}
 use Rattle.dr_ring.specs.Meaning.Moments.{fresh_receiver, taken_of, picture_of, entry, write_of, poll_of, receiver_at, entries_of, Runs}
 use Rattle.dr_ring.proofs.Lists.{at_below, value_at, final_inside, last_look_le}
+use Rattle.dr_ring.proofs.Events.{open_events, written_count, published_same}
 use Rattle.dr_ring.proofs.Keeps.{word_at, receiver_of_handler, orderly, upstream_inside, keeps_sender_looks, keeps_halt_look, keeps_first, keeps_second}
 use Rattle.dr_ring.proofs.Stores.{keeps_publishes, keeps_sender_halts, keeps_halter_halts, keeps_closes, keeps_receiver_looks, tells_truth}
 use Rattle.dr_ring.proofs.Stores.{keeps_cursor_look, early, keeps_half_taken, taken_event, keeps_takes, keeps_completes}
@@ -61,7 +62,7 @@ keeps_step k (ReceiverLoadsSecond h) w u H K = subst (KeepsRule k) (sym H.2.3) (
 keeps_step k (ReceiverCompletes h n) w u H K = subst (KeepsRule k) (sym H.2.2) (keeps_completes k w h n H.0 H.1 H.2.0 H.2.1 K)
 keeps_step k HalterHalts w u H K = subst (KeepsRule k) (sym H) (keeps_halter_halts k w K)
 
-pub keeps_runs : (k : Shape) (steps : List Step) (es : Transcript) (w u : World) → Runs k steps es w u → KeepsRule k w → KeepsRule k u
+pub keeps_runs : (k : Shape) (steps : List Step) (es : Transcript Event) (w u : World) → Runs k steps es w u → KeepsRule k w → KeepsRule k u
 keeps_runs k [] es w u R K = subst (KeepsRule k) R.1 K
 keeps_runs k (s ∷ steps) es w u R K = keeps_runs k steps R.1 R.0 u R.4 (keeps_step k s w R.0 R.2 K)
 
@@ -79,10 +80,10 @@ map_but f g a (suc n) (suc j) v lt here same = let at : a + 1 + j ≡ a + suc j 
     λ i. same a (λ (e : a ≡ a + suc j). omega arith) i ∷ map_but f g (a + 1) n j v (omega arith) (ap g at ∙ here)
     (λ q ne. same q (λ (e : q ≡ a + suc j). ne (omega arith))) i
 
-abbrev counts_of : Shape → List ℕ → List ℕ
+abbrev pub counts_of : Shape → List ℕ → List ℕ
 counts_of k words = map (λ h. word_at words (count_word h)) (range_with_len 0 (handlers_of k))
 
-count_at : (k : Shape) (words : List ℕ) (h : ℕ) → h < handlers_of k → get_or (counts_of k words) h 0 ≡ word_at words (count_word h)
+pub count_at : (k : Shape) (words : List ℕ) (h : ℕ) → h < handlers_of k → get_or (counts_of k words) h 0 ≡ word_at words (count_word h)
 count_at k words h lt = get_or-map-range_with_len (λ h. word_at words (count_word h)) 0 (handlers_of k) h h 0 lt (omega arith)
 
 counts_stay : (k : Shape) (words : List ℕ) (i v : ℕ) → ((h : ℕ) → h < handlers_of k → count_word h ≢ i) → counts_of k (set words i v) ≡ counts_of k words
@@ -98,21 +99,21 @@ count_set k words h v lt inside =
     (λ j ne. get_or-set_other words (count_word h) (count_word j) v 0 (λ (e : count_word j ≡ count_word h). ne (omega arith)))
 
 -- what is written to each sequence
-abbrev values_of : List Event → List (Option Event) → List (Option Event)
+abbrev pub values_of : List Event → List (Option Event) → List (Option Event)
 values_of published pending = map (λ event. Some event) published ++ pending
 
 values_count : (published : List Event) (pending : List (Option Event)) → length (values_of published pending) ≡ length published + length pending
 values_count published pending =
     length-append (map (λ event. Some event) published) pending ∙ ap (λ (n : ℕ). n + length pending) (length-map published (λ event. Some event))
 
-leads_one : (k : Shape) (command : Command) (reply : Reply) (values : List Event) (rest : Transcript) (m n end : State)
+leads_one : (k : Shape) (command : Command Event) (reply : Reply) (values : List Event) (rest : Transcript Event) (m n end : State Event)
     → machine.step (ring_setup k) m command ≡ record { reply = reply; values = values; state = n } → LeadsFrom (ring_setup k) n rest end
     → LeadsFrom (ring_setup k) m (entry command reply values ++ rest) end
 leads_one k command reply values rest m n end is leads =
-    (ap (λ (o : Outcome). o.reply) is, ap (λ (o : Outcome). o.values) is, subst (λ (x : State). LeadsFrom (ring_setup k) x rest end) (sym (ap (λ (o : Outcome). o.state) is)) leads)
+    (ap (λ (o : Outcome Event). o.reply) is, ap (λ (o : Outcome Event). o.values) is, subst (λ (x : State Event). LeadsFrom (ring_setup k) x rest end) (sym (ap (λ (o : Outcome Event). o.state) is)) leads)
 
 -- the picture, by its parts
-abbrev parts : Shape → World → State
+abbrev parts : Shape → World → State Event
 parts k w =
     shown k (claimed w.sender) (values_of w.sender.sent.published w.sender.sent.pending) (word_at w.words cursor_word) (map taken_of w.receivers)
     (counts_of k w.words) (word_at w.words halt_word == 1)
@@ -121,10 +122,10 @@ same_taken : (w : World) (h : ℕ) (r q : ReceiverRecord) → get_elem? w.receiv
     → map taken_of (set w.receivers h q) ≡ map taken_of w.receivers
 same_taken w h r q at same = map-set_same taken_of w.receivers h q r (same ∙ ap taken_of (sym (value_at w.receivers h r r at)))
 
-taken_at : (w : World) (h : ℕ) (r : ReceiverRecord) → get_elem? w.receivers h ≡ some r → get_or (map taken_of w.receivers) h 0 ≡ length r.received
+pub taken_at : (w : World) (h : ℕ) (r : ReceiverRecord) → get_elem? w.receivers h ≡ some r → get_or (map taken_of w.receivers) h 0 ≡ length r.received
 taken_at w h r at = get_or-map taken_of w.receivers h r 0 (at_below w.receivers h r at) ∙ ap taken_of (value_at w.receivers h r r at)
 
-inside_of : (k : Shape) (w : World) (h : ℕ) (r : ReceiverRecord) → KeepsRule k w → get_elem? w.receivers h ≡ some r → h < handlers_of k
+pub inside_of : (k : Shape) (w : World) (h : ℕ) (r : ReceiverRecord) → KeepsRule k w → get_elem? w.receivers h ≡ some r → h < handlers_of k
 inside_of k w h r K at = let b = at_below w.receivers h r at in let e = K.ends in omega arith
 
 same_picture : (k : Shape) (w : World) (h : ℕ) (r q : ReceiverRecord) → get_elem? w.receivers h ≡ some r → taken_of q ≡ taken_of r
@@ -139,7 +140,7 @@ some_final k graph =
     let has : Contains (finals k.upstreams) g.last = g.final in let lt = has.1 in omega arith
 
 -- what a claim of the sender has room for, the machine has
-claim_room : (k : Shape) (w : World) (n : ℕ) (t : List ℕ) (m : State) → m.completed ≡ counts_of k w.words → SeesRoom k w.sender n → KeepsRule k w
+pub claim_room : (k : Shape) (w : World) (n : ℕ) (t : List ℕ) (m : State Event) → m.completed ≡ counts_of k w.words → SeesRoom k w.sender n → KeepsRule k w
     → claimed w.sender + n ≤ k.size + least_completed m (finals k.upstreams)
 claim_room k w n t m same room K =
     counts_below m (finals k.upstreams) k.size (claimed w.sender + n) (some_final k K.graph)
@@ -148,7 +149,7 @@ claim_room k w n t m same room K =
     let c : get_or m.completed f 0 ≡ word_at w.words (count_word f) = ap (λ (d : List ℕ). get_or d f 0) same ∙ count_at k w.words f i in omega arith))
 
 -- a claim is of the size at most
-claim_fits : (k : Shape) (w : World) (n : ℕ) → SeesRoom k w.sender n → KeepsRule k w → n ≤ k.size
+pub claim_fits : (k : Shape) (w : World) (n : ℕ) → SeesRoom k w.sender n → KeepsRule k w → n ≤ k.size
 claim_fits k w n room K =
     let some_one = K.graph.some in
     let g : IsGated k.upstreams nobody (λ h. word_at w.words (count_word h)) 0 =
@@ -158,7 +159,7 @@ claim_fits k w n room K =
     let d : word_at w.words (count_word g.last) ≤ word_at w.words (count_word 0) = g.behind in
     let t = receiver_of_handler k w K 0 some_one in let e = t.2.count in let f = t.2.completed in let h = t.2.taken in omega arith
 
-abbrev Leads : Shape → Transcript → State → State → Type 0
+abbrev Leads : Shape → Transcript Event → State Event → State Event → Type 0
 Leads k es m n = LeadsFrom (ring_setup k) m es n
 
 abbrev opens : ℕ → ℕ → List (Option Event)
@@ -170,10 +171,10 @@ opens_none found n z = elim (cases_eq found 0) [
   | inr ne ↦ rw (ne_eqb found 0 ne) refl
 ]
 
-abbrev claim_of : World → ℕ → Bool → Transcript
+abbrev claim_of : World → ℕ → Bool → Transcript Event
 claim_of w n b = if b then entry (Claim 0 n) (Claimed (claimed w.sender) (claimed w.sender + n - 1)) [] else []
 
-lead_claim : (k : Shape) (w : World) (n : ℕ) (rest : Transcript) (end : State) → (0 < n → SeesRoom k w.sender n) → KeepsRule k w
+lead_claim : (k : Shape) (w : World) (n : ℕ) (rest : Transcript Event) (end : State Event) → (0 < n → SeesRoom k w.sender n) → KeepsRule k w
     → Leads k rest (picture_of k (sender_knows w (halt_looked w.sender n (word_at w.words halt_word)))) end
     → Leads k (claim_of w n (not (n == 0) && (word_at w.words halt_word == 0)) ++ rest) (parts k w) end
 lead_claim k w n rest end room K leads =
@@ -197,7 +198,7 @@ lead_claim k w n rest end room K leads =
             let halt : (found == 0) ≡ true = eq-eqb found 0 going in
             let off : (found == 1) ≡ false = ne_eqb found 1 (λ (e : found ≡ 1). omega arith) in
             let going_on : Leads k rest (shown k (claimed s + n) (vs ++ replicate n None) (word_at w.words cursor_word) (map taken_of w.receivers) (counts_of k w.words) false) end =
-            subst (λ (x : State). Leads k rest x end)
+            subst (λ (x : State Event). Leads k rest x end)
             (λ i. shown k (longer i) (joined i) (word_at w.words cursor_word) (map taken_of w.receivers) (counts_of k w.words) (off i)) more in
             let one = leads_one k (Claim 0 n) (Claimed (claimed s) (claimed s + n - 1)) [] rest m _ end
             (claim_step k (claimed s) n vs (word_at w.words cursor_word) (map taken_of w.receivers) (counts_of k w.words) some_one (claim_fits k w n r K) r.limit (claim_room k w n (map taken_of w.receivers) m refl r K)) going_on in
@@ -220,7 +221,7 @@ lead_claim k w n rest end room K leads =
           subst (λ (b : Bool). Leads k (claim_of w n b ++ rest) (parts k w) end) (sym both) same)
     ]
 
-lead_write : (k : Shape) (w : World) (x : HalfWrite) (v : ℕ) (rest : Transcript) (end : State) → w.sender.half ≡ Some x → KeepsRule k w
+lead_write : (k : Shape) (w : World) (x : HalfWrite) (v : ℕ) (rest : Transcript Event) (end : State Event) → w.sender.half ≡ Some x → KeepsRule k w
     → Leads k rest (picture_of k (sender_stores w (payload_word k x.sequence 1) v (written w.sender x.sequence record { first = x.first; second = v }))) end
     → Leads k (write_of w.sender.half v ++ rest) (parts k w) end
 lead_write k w x v rest end has K leads =
@@ -235,35 +236,24 @@ lead_write k w x v rest end has K leads =
     let counts : counts_of k us ≡ counts_of k w.words = counts_stay k w.words i v (λ h inside. (λ (e : count_word h ≡ i). omega arith)) in
     let one = stays cursor_word (omega arith) in let two = stays halt_word (omega arith) in
     let going_on : Leads k rest (shown k (claimed s) (set vs x.sequence (Some event)) (word_at w.words cursor_word) (map taken_of w.receivers) (counts_of k w.words) (word_at w.words halt_word == 1)) end =
-    subst (λ (y : State). Leads k rest y end)
+    subst (λ (y : State Event). Leads k rest y end)
     (λ i. shown k (length s.sent.published + same i) (place i) (one i) (map taken_of w.receivers) (counts i) (two i == 1)) leads in
     subst (λ (h : Option HalfWrite). Leads k (write_of h v ++ rest) (parts k w) end) (sym has)
     (leads_one k (Write 0 x.sequence event) Written [] rest (parts k w) _ end
     (write_step k (claimed s) vs (word_at w.words cursor_word) (map taken_of w.receivers) (counts_of k w.words) (word_at w.words halt_word == 1) x.sequence event count (omega arith) lt) going_on)
 
--- what is written stays when it is published
-published_same : (vs : List (Option Event)) (m : ℕ) → ((i : ℕ) → i < m → (v : Event) × (get_or vs i None ≡ Some v)) → m ≤ length vs
-    → map (λ event. Some event) (map event_or_none (take m vs)) ++ drop m vs ≡ vs
-published_same [] zero all le = refl
-published_same [] (suc m) all le = absurd (omega arith)
-published_same (x ∷ xs) zero all le = refl
-published_same (x ∷ xs) (suc m) all le =
-    let h = all 0 (omega arith) in let e : Some (event_or_none x) ≡ x = ap (λ (o : Option Event). Some (event_or_none o)) h.1 ∙ sym h.1 in
-    λ i. e i ∷ published_same xs m (λ j lt. all (suc j) (omega arith)) (omega arith) i
-
-lead_publish : (k : Shape) (w : World) (n : ℕ) (rest : Transcript) (end : State) → length w.sender.sent.published < n → n ≤ claimed w.sender
+lead_publish : (k : Shape) (w : World) (n : ℕ) (rest : Transcript Event) (end : State Event) → length w.sender.sent.published < n → n ≤ claimed w.sender
     → AreWritten w.sender n → KeepsRule k w
     → Leads k rest (picture_of k (sender_stores w cursor_word n (published_to w.sender n))) end
     → Leads k (entry (Publish 0 (word_at w.words cursor_word) (n - 1)) Published [] ++ rest) (parts k w) end
 lead_publish k w n rest end lt le all K leads =
-    let s = w.sender in let old = s.sent.published in let pending = s.sent.pending in let m = n - length old in let new = map event_or_none (take m pending) in
+    let s = w.sender in let old = s.sent.published in let pending = s.sent.pending in let m = n - length old in let new = written_of (take m pending) in
     let vs = values_of old pending in let us = set w.words cursor_word n in let cursor = K.counts.cursor in let wide = K.wide in
-    let count : length new ≡ m = length-map (take m pending) event_or_none ∙ omega (arith, length-take m pending) in
+    let ready = open_events s n all in
+    let count : length new ≡ m = written_count pending m ready (omega arith) in
     let longer : length (old ++ new) ≡ n = omega (arith, length-append old new) in
     let left : length (drop m pending) + m ≡ length pending = omega (arith, length-drop m pending) in
     let whole : length (old ++ new) + length (drop m pending) ≡ claimed s = omega arith in
-    let ready : (i : ℕ) → i < m → (v : Event) × (get_or pending i None ≡ Some v) =
-    λ i below. (let a = all (length old + i) (omega arith) (omega arith) in let z : length old + i - length old ≡ i = omega arith in (a.0, ap (λ (j : ℕ). get_or pending j None) (sym z) ∙ a.1)) in
     let same : values_of (old ++ new) (drop m pending) ≡ vs =
     ap (λ (xs : List (Option Event)). xs ++ drop m pending) (map-append (λ event. Some event) old new)
     ∙ append_assoc (map (λ event. Some event) old) (map (λ event. Some event) new) (drop m pending)
@@ -272,7 +262,7 @@ lead_publish k w n rest end lt le all K leads =
     let counts : counts_of k us ≡ counts_of k w.words = counts_stay k w.words cursor_word n (λ h inside. (λ (e : count_word h ≡ cursor_word). omega arith)) in
     let one : word_at us cursor_word ≡ n = get_or-set_same w.words cursor_word n 0 (omega arith) in let two = stays halt_word (omega arith) in
     let going_on : Leads k rest (shown k (claimed s) vs n (map taken_of w.receivers) (counts_of k w.words) (word_at w.words halt_word == 1)) end =
-    subst (λ (y : State). Leads k rest y end) (λ i. shown k (whole i) (same i) (one i) (map taken_of w.receivers) (counts i) (two i == 1)) leads in
+    subst (λ (y : State Event). Leads k rest y end) (λ i. shown k (whole i) (same i) (one i) (map taken_of w.receivers) (counts i) (two i == 1)) leads in
     leads_one k (Publish 0 (word_at w.words cursor_word) (n - 1)) Published [] rest (parts k w) _ end
     (publish_step k (claimed s) vs (word_at w.words cursor_word) (map taken_of w.receivers) (counts_of k w.words) (word_at w.words halt_word == 1) n (omega arith) le
     (λ q low high. (let a = all q (omega arith) high in
@@ -280,7 +270,7 @@ lead_publish k w n rest end lt le all K leads =
     get_or-append_right (map (λ event. Some event) old) pending (length old) q None (length-map old (λ event. Some event)) (omega arith) ∙ a.1 in
     ap is_none e))) going_on
 
-lead_drained : (k : Shape) (w : World) (h : ℕ) (r : ReceiverRecord) (rest : Transcript) (end : State) → get_elem? w.receivers h ≡ some r
+lead_drained : (k : Shape) (w : World) (h : ℕ) (r : ReceiverRecord) (rest : Transcript Event) (end : State Event) → get_elem? w.receivers h ≡ some r
     → tells_drained r (word_at w.words cursor_word) ≡ true → KeepsRule k w
     → Leads k rest (parts k w) end → Leads k (entry (Poll h 1) Drained [] ++ rest) (parts k w) end
 lead_drained k w h r rest end at tells K leads =
@@ -288,7 +278,7 @@ lead_drained k w h r rest end at tells K leads =
     let s = w.sender in let vs = values_of s.sent.published s.sent.pending in let d = counts_of k w.words in let ts = map taken_of w.receivers in
     let on : true ≡ (word_at w.words halt_word == 1) = sym (eq-eqb (word_at w.words halt_word) 1 closed.0) in
     let inside = inside_of k w h r K at in
-    let S : Bool → State = λ b. shown k (claimed s) vs (word_at w.words cursor_word) ts d b in
+    let S : Bool → State Event = λ b. shown k (claimed s) vs (word_at w.words cursor_word) ts d b in
     let seen : front (S true) ≡ word_at w.words cursor_word = shown_front k (claimed s) vs (word_at w.words cursor_word) ts d true (omega arith) in
     let offer : available (ring_setup k) (S true) h ≤ claimed s = offered_at_most (S true) (upstreams_of k.upstreams h) (claimed s) (omega arith)
     (λ u has. (let i = upstream_inside k K.graph h u inside has in let c = count_at k w.words u i in let o = receiver_of_handler k w K u i in let a = o.2.count in let b = o.2.completed in let e = o.2.taken in omega arith)) in
@@ -296,7 +286,7 @@ lead_drained k w h r rest end at tells K leads =
     subst (λ (b : Bool). Leads k (entry (Poll h 1) Drained [] ++ rest) (S b) end) on
     (leads_one k (Poll h 1) Drained [] rest (S true) (S true) end step (subst (λ (b : Bool). Leads k rest (S b) end) (sym on) leads))
 
-lead_cursor_look : (k : Shape) (w : World) (h : ℕ) (r : ReceiverRecord) (rest : Transcript) (end : State) → get_elem? w.receivers h ≡ some r → KeepsRule k w
+lead_cursor_look : (k : Shape) (w : World) (h : ℕ) (r : ReceiverRecord) (rest : Transcript Event) (end : State Event) → get_elem? w.receivers h ≡ some r → KeepsRule k w
     → Leads k rest (parts k w) end
     → Leads k ((if tells_drained r (word_at w.words cursor_word) then entry (Poll h 1) Drained [] else []) ++ rest) (parts k w) end
 lead_cursor_look k w h r rest end at K leads =
@@ -305,7 +295,7 @@ lead_cursor_look k w h r rest end at K leads =
       | inr quiet ↦ subst (λ (b : Bool). Leads k ((if b then entry (Poll h 1) Drained [] else []) ++ rest) (parts k w) end) (sym quiet) leads
     ]
 
-lead_take : (k : Shape) (w : World) (h first : ℕ) (r : ReceiverRecord) (rest : Transcript) (end : State) → get_elem? w.receivers h ≡ some r
+lead_take : (k : Shape) (w : World) (h first : ℕ) (r : ReceiverRecord) (rest : Transcript Event) (end : State Event) → get_elem? w.receivers h ≡ some r
     → r.half ≡ Some first → IsBelowBarrier k h r → KeepsRule k w
     → Leads k rest (picture_of k (receiver_knows w h (took r record { first = first; second = word_at w.words (payload_word k (length r.received) 1) }))) end
     → Leads k (poll_of h r.half (word_at w.words (payload_word k (length r.received) 1)) (length r.received) (available (ring_setup k) (picture_of k w) h) ++ rest) (parts k w) end
@@ -321,22 +311,21 @@ lead_take k w h first r rest end at half low K leads =
     (word_at w.words halt_word == 1) (omega arith) in
     let more : n < available (ring_setup k) m h = offered_more m (upstreams_of k.upstreams h) n (λ none. omega arith)
     (λ u has. (let i = upstream_inside k K.graph h u inside has in let c = count_at k w.words u i in let a = low.completed u has in let b = last_look_le k w.words 0 r.looks (count_word u) (omega arith) was.looks in omega arith)) in
-    let value : unwrap_or (m.written n) no_event ≡ found =
-    ap event_or_none (get_or_append_left (map (λ event. Some event) s.sent.published) s.sent.pending None n (omega (arith, length-map s.sent.published (λ (event : Event). Some event))) ∙ get_or-map (λ event. Some event) s.sent.published n no_event None below)
-    ∙ sym event in
-    let step = take_step k m h inside refl (omega arith) in
+    let value : m.written n ≡ Some found =
+    get_or_append_left (map (λ event. Some event) s.sent.published) s.sent.pending None n (omega (arith, length-map s.sent.published (λ (event : Event). Some event)))
+    ∙ get_or-map (λ event. Some event) s.sent.published n no_event None below ∙ ap (λ (e : Event). Some e) (sym event) in
+    let step = take_step k m h found inside refl (ap m.written is ∙ value) (omega arith) in
     let set_taken : map taken_of (set w.receivers h (took r found)) ≡ set ts h (n + 1) =
     map-set taken_of w.receivers h (took r found) ∙ ap (λ (j : ℕ). set ts h j) (length_push r.received found) in
     let going_on : Leads k rest (record m { taken = set ts h (n + 1) }) end =
     subst (λ (xs : List ℕ). Leads k rest (record m { taken = xs }) end) set_taken leads in
     let exact : machine.step (ring_setup k) m (Poll h 1) ≡ record { reply = Batch n 1 (n + 1 == available (ring_setup k) m h); values = found ∷ []; state = record m { taken = set ts h (n + 1) } } =
     step
-    ∙ ap (λ (j : ℕ). let o : Outcome = record { reply = Batch j 1 (j + 1 == available (ring_setup k) m h); values = unwrap_or (m.written j) no_event ∷ []; state = record m { taken = set ts h (j + 1) } } in o) is
-    ∙ ap (λ (e : Event). let o : Outcome = record { reply = Batch n 1 (n + 1 == available (ring_setup k) m h); values = e ∷ []; state = record m { taken = set ts h (n + 1) } } in o) value in
+    ∙ ap (λ (j : ℕ). let o : Outcome Event = record { reply = Batch j 1 (j + 1 == available (ring_setup k) m h); values = found ∷ []; state = record m { taken = set ts h (j + 1) } } in o) is in
     subst (λ (o : Option ℕ). Leads k (poll_of h o (word_at w.words (payload_word k n 1)) n (available (ring_setup k) m h) ++ rest) m end) (sym half)
     (leads_one k (Poll h 1) (Batch n 1 (n + 1 == available (ring_setup k) m h)) (found ∷ []) rest m _ end exact going_on)
 
-lead_complete : (k : Shape) (w : World) (h n : ℕ) (r : ReceiverRecord) (rest : Transcript) (end : State) → get_elem? w.receivers h ≡ some r
+lead_complete : (k : Shape) (w : World) (h n : ℕ) (r : ReceiverRecord) (rest : Transcript Event) (end : State Event) → get_elem? w.receivers h ≡ some r
     → r.completed ≤ n → n ≤ length r.received → KeepsRule k w
     → Leads k rest (picture_of k (receiver_stores w h (completed_to r n) (count_word h) n)) end
     → Leads k (entry (Complete h n) Completed [] ++ rest) (parts k w) end
@@ -348,19 +337,19 @@ lead_complete k w h n r rest end at rise le K leads =
     let one = stays cursor_word (λ e. omega arith) in let two = stays halt_word (λ e. omega arith) in
     let counts : counts_of k us ≡ set (counts_of k w.words) h n = count_set k w.words h n inside (omega arith) in
     let going_on : Leads k rest (record m { completed = set (counts_of k w.words) h n }) end =
-    subst (λ (y : State). Leads k rest y end)
+    subst (λ (y : State Event). Leads k rest y end)
     (λ i. shown k (claimed s) (values_of s.sent.published s.sent.pending) (one i) (same_taken w h r (completed_to r n) at refl i) (counts i) (two i == 1)) leads in
     leads_one k (Complete h n) Completed [] rest m _ end (complete_step k m h n inside refl (omega arith) (omega arith)) going_on
 
 -- halt or closed is stored: nothing else shows
-lead_flag : (k : Shape) (w : World) (i : ℕ) (rest : Transcript) (end : State) (b : Bool) → 0 < i → i < 32 → (word_at (set w.words i 1) halt_word == 1) ≡ b
+lead_flag : (k : Shape) (w : World) (i : ℕ) (rest : Transcript Event) (end : State Event) (b : Bool) → 0 < i → i < 32 → (word_at (set w.words i 1) halt_word == 1) ≡ b
     → Leads k rest (shown k (claimed w.sender) (values_of w.sender.sent.published w.sender.sent.pending) (word_at (set w.words i 1) cursor_word) (map taken_of w.receivers) (counts_of k (set w.words i 1)) (word_at (set w.words i 1) halt_word == 1)) end
     → Leads k rest (record (parts k w) { halted = b }) end
 lead_flag k w i rest end b pos lt halt leads =
     let s = w.sender in let us = set w.words i 1 in
     let one : word_at us cursor_word ≡ word_at w.words cursor_word = get_or-set_other w.words i cursor_word 1 0 (λ (e : cursor_word ≡ i). omega arith) in
     let counts : counts_of k us ≡ counts_of k w.words = counts_stay k w.words i 1 (λ h inside. (λ (e : count_word h ≡ i). omega arith)) in
-    subst (λ (y : State). Leads k rest y end)
+    subst (λ (y : State Event). Leads k rest y end)
     (λ j. shown k (claimed s) (values_of s.sent.published s.sent.pending) (one j) (map taken_of w.receivers) (counts j) (halt j)) leads
 
 halt_on : (k : Shape) (w : World) → KeepsRule k w → (word_at (set w.words halt_word 1) halt_word == 1) ≡ true
@@ -369,7 +358,7 @@ halt_on k w K = let wide = K.wide in eq-eqb _ _ (get_or-set_same w.words halt_wo
 is_receiver : (k : Shape) (w : World) (h : ℕ) (r : ReceiverRecord) → get_elem? w.receivers h ≡ some r → receiver_at k w h ≡ r
 is_receiver k w h r at = value_at w.receivers h r (fresh_receiver k h) at
 
-lead_step : (k : Shape) (s : Step) (w u : World) (rest : Transcript) (end : State) → Happens k s w u → KeepsRule k w → Leads k rest (picture_of k u) end
+lead_step : (k : Shape) (s : Step) (w u : World) (rest : Transcript Event) (end : State Event) → Happens k s w u → KeepsRule k w → Leads k rest (picture_of k u) end
     → Leads k (entries_of k s w ++ rest) (picture_of k w) end
 lead_step k (SenderLooksAtCount f) w u rest end H K L = subst (λ (x : World). Leads k rest (picture_of k x) end) H.1 L
 lead_step k (SenderLooksAtHalt n) w u rest end H K L = lead_claim k w n rest end H.0 K (subst (λ (x : World). Leads k rest (picture_of k x) end) H.1 L)
@@ -380,7 +369,7 @@ lead_step k (SenderStoresFirst s v) w u rest end H K L =
     let one : word_at us cursor_word ≡ word_at w.words cursor_word = get_or-set_other w.words i cursor_word v 0 (λ (e : cursor_word ≡ i). omega arith) in
     let two : word_at us halt_word ≡ word_at w.words halt_word = get_or-set_other w.words i halt_word v 0 (λ (e : halt_word ≡ i). omega arith) in
     let counts : counts_of k us ≡ counts_of k w.words = counts_stay k w.words i v (λ h inside. (λ (e : count_word h ≡ i). omega arith)) in
-    subst (λ (y : State). Leads k rest y end)
+    subst (λ (y : State Event). Leads k rest y end)
     (λ j. shown k (claimed w.sender) (values_of w.sender.sent.published w.sender.sent.pending) (one j) (map taken_of w.receivers) (counts j) (two j == 1)) now
 lead_step k (SenderStoresSecond v) w u rest end H K L = lead_write k w H.0 v rest end H.1 K (subst (λ (x : World). Leads k rest (picture_of k x) end) H.2 L)
 lead_step k (SenderPublishes n) w u rest end H K L = lead_publish k w n rest end H.0 H.1 H.2 K (subst (λ (x : World). Leads k rest (picture_of k x) end) H.4 L)
@@ -392,19 +381,19 @@ lead_step k SenderCloses w u rest end H K L =
     (ap (λ (x : ℕ). x == 1) (get_or-set_other w.words closed_word halt_word 1 0 (λ (e : halt_word ≡ closed_word). omega arith)))
     (subst (λ (x : World). Leads k rest (picture_of k x) end) H.2 L)
 lead_step k (ReceiverLooksAtClosed h) w u rest end H K L =
-    subst (λ (x : State). Leads k rest x end) (same_picture k w h H.0 (receiver_looked H.0 closed_word (word_at w.words closed_word)) H.1 refl)
+    subst (λ (x : State Event). Leads k rest x end) (same_picture k w h H.0 (receiver_looked H.0 closed_word (word_at w.words closed_word)) H.1 refl)
     (subst (λ (x : World). Leads k rest (picture_of k x) end) H.2 L)
 lead_step k (ReceiverLooksAtCursor h) w u rest end H K L =
     subst
     (λ (r : ReceiverRecord). Leads k ((if tells_drained r (word_at w.words cursor_word) then entry (Poll h 1) Drained [] else []) ++ rest) (parts k w) end)
     (sym (is_receiver k w h H.0 H.1))
     (lead_cursor_look k w h H.0 rest end H.1 K
-    (subst (λ (x : State). Leads k rest x end) (same_picture k w h H.0 (cursor_looked H.0 (word_at w.words cursor_word)) H.1 refl) (subst (λ (x : World). Leads k rest (picture_of k x) end) H.2 L)))
+    (subst (λ (x : State Event). Leads k rest x end) (same_picture k w h H.0 (cursor_looked H.0 (word_at w.words cursor_word)) H.1 refl) (subst (λ (x : World). Leads k rest (picture_of k x) end) H.2 L)))
 lead_step k (ReceiverLooksAtCount h c) w u rest end H K L =
-    subst (λ (x : State). Leads k rest x end) (same_picture k w h H.0 (receiver_looked H.0 (count_word c) (word_at w.words (count_word c))) H.1 refl)
+    subst (λ (x : State Event). Leads k rest x end) (same_picture k w h H.0 (receiver_looked H.0 (count_word c) (word_at w.words (count_word c))) H.1 refl)
     (subst (λ (x : World). Leads k rest (picture_of k x) end) H.2.1 L)
 lead_step k (ReceiverLoadsFirst h) w u rest end H K L =
-    subst (λ (x : State). Leads k rest x end)
+    subst (λ (x : State Event). Leads k rest x end)
     (same_picture k w h H.0 (half_taken H.0 (word_at w.words (payload_word k (length H.0.received) 0))) H.1 refl)
     (subst (λ (x : World). Leads k rest (picture_of k x) end) H.2.1 L)
 lead_step k (ReceiverLoadsSecond h) w u rest end H K L =
@@ -416,8 +405,8 @@ lead_step k HalterHalts w u rest end H K L =
     leads_one k Halt Halting [] rest (parts k w) (record (parts k w) { halted = true }) end refl
     (lead_flag k w halt_word rest end true (omega arith) (omega arith) (halt_on k w K) (subst (λ (x : World). Leads k rest (picture_of k x) end) H L))
 
-pub lead_runs : (k : Shape) (steps : List Step) (es : Transcript) (w u : World) → Runs k steps es w u → KeepsRule k w
+pub lead_runs : (k : Shape) (steps : List Step) (es : Transcript Event) (w u : World) → Runs k steps es w u → KeepsRule k w
     → Leads k es (picture_of k w) (picture_of k u)
-lead_runs k [] es w u R K = subst (λ (xs : Transcript). Leads k xs (picture_of k w) (picture_of k u)) (sym R.0) (ap (picture_of k) R.1)
-lead_runs k (s ∷ steps) es w u R K = subst (λ (xs : Transcript). Leads k xs (picture_of k w) (picture_of k u)) (sym R.3)
+lead_runs k [] es w u R K = subst (λ (xs : Transcript Event). Leads k xs (picture_of k w) (picture_of k u)) (sym R.0) (ap (picture_of k) R.1)
+lead_runs k (s ∷ steps) es w u R K = subst (λ (xs : Transcript Event). Leads k xs (picture_of k w) (picture_of k u)) (sym R.3)
     (lead_step k s w R.0 R.1 (picture_of k u) R.2 K (lead_runs k steps R.1 R.0 u R.4 (keeps_step k s w R.0 R.2 K)))

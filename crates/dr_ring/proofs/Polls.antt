@@ -72,11 +72,13 @@ pub poll_nothing : (r s : ReceiverRecord) (out : List Event) (closed cursor avai
     → closed ≤ 1 → taken ≤ cursor → available ≤ taken → Answers r out s out (saw closed cursor L.counts) (nothing_offered closed cursor taken)
 poll_nothing r s out closed cursor available taken next L flag ahead none =
     let round = round_of r s closed cursor available L in
+    let least = L.taken in
+    let level : available ≡ length r.received = omega arith in
     let P : Polled → Type 0 = λ p. Answers r out s out (saw closed cursor L.counts) p in
     elim (cases_eq cursor taken) [
       | inl all ↦ elim (cases_eq closed 1) [
-        | inl one ↦ subst P (sym (drains closed cursor taken one all)) (one, omega arith, round, ap (λ (q : ReceiverRecord). q.told) round ∙ is_told r closed cursor one (omega arith), refl)
-        | inr still ↦ subst P (sym (idles closed cursor taken still (omega arith))) (omega arith, omega arith, round, refl)
+        | inl one ↦ subst P (sym (drains closed cursor taken one all)) (one, omega arith, sym L.offered ∙ level, round, ap (λ (q : ReceiverRecord). q.told) round ∙ is_told r closed cursor one (omega arith), refl)
+        | inr still ↦ subst P (sym (idles closed cursor taken still (omega arith))) (omega arith, omega arith, sym L.offered ∙ level, round, refl)
       ]
       | inr more ↦ (
           let taken_least = L.taken in

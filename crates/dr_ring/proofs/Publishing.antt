@@ -117,4 +117,4 @@ module _ {r e : SenderRecord} {f : SenderFields} {lo hi : ℕ} (same : r ≡ e) 
       let next = fits.next in let front = fits.front in
       let sent : q.sent ≡ published_below r.sent (hi + 1) = ap (λ (x : SenderRecord). x.sent) new in
       subst (λ (x : SenderRecord). TriesToPublish x lo hi q (Ok tt)) same
-      (accepted r lo hi (omega arith) order (omega arith) (ready all), sent, new ∙ ap (λ (x : Sent). record r { sent = x }) (sym sent))
+      (accepted r lo hi (omega arith) order (omega arith) (ready all), sent, new ∙ ap (λ (x : Sent Event). record r { sent = x }) (sym sent))

@@ -1,16 +1,16 @@
 -- Stores of words that are no payload, and the receivers' steps, keep the rule.
-use Rattle.std.proofs.Common.{◌⊎◌, ◌≡◌, ◌≢◌, ℕ, ◌+◌, ◌-◌, ◌<◌, ◌≤◌, inl, inr, Bool, true, ◌==◌, List, [], ◌∷◌, ◌++◌, length, get_or, set, map}
+use Rattle.std.proofs.Common.{◌⊎◌, ◌≡◌, ◌≢◌, ℕ, ◌+◌, ◌-◌, ◌<◌, ◌≤◌, inl, inr, Bool, true, ◌==◌, List, [], ◌∷◌, ◌++◌, length, get_or, set}
 use Rattle.std.proofs.Common.{take, drop, Option, Some, None, sym, refl, ap, ◌∙◌, subst, arith, length-set, get_or-set_same, get_or-set_other}
 use Rattle.std.specs.Prelude.{Contains}
 use Rattle.std.proofs.lemmas.Bool.{cases_eq, cases_lt, or_cases, and_parts, eqb-true}
-use Rattle.std.proofs.lemmas.List.{length-append, length-take, length-drop, length-map, length_push, take-append-le, take_more}
-use Rattle.std.proofs.lemmas.List.{get_or_append_left, get_or-append_right, get_or-take, get_or-drop, get_or-map}
+use Rattle.std.proofs.lemmas.List.{length-append, length-drop, length_push, take-append-le, take_more}
+use Rattle.std.proofs.lemmas.List.{get_or_append_left, get_or-append_right, get_or-drop}
 use mathlib.Core.Option.{some}
 use lib.ListN.{get_elem?}
 use Rattle.dr_seq.specs.declared.event.Event.{Event}
 use Rattle.dr_seq.specs.Event.{no_event}
 use Rattle.dr_graph.specs.Meaning.Graph.{upstreams_of}
-use Rattle.dr_core.specs.Calls.Ends.{event_or_none}
+use Rattle.dr_core.specs.Calls.Ends.{written_of}
 use Rattle.dr_ring.specs.Meaning.Shape.{Shape, handlers_of}
 use Rattle.dr_ring.specs.Meaning.Words.{cursor_word, closed_word, halt_word, count_word, payload_start, payload_word}
 use Rattle.dr_ring.specs.declared.record.Look.{Look}
@@ -21,13 +21,15 @@ use Rattle.dr_ring.specs.Meaning.Records.{cursor_looked, half_taken, took, compl
 use Rattle.dr_ring.specs.Meaning.Rule.{World, Room, Payload, HaltAndClose, ArePast, ReceiverKept, KeepsRule}
 use Rattle.dr_ring.specs.Meaning.Steps.{sender_stores, receiver_knows, receiver_stores}
 use Rattle.dr_ring.proofs.Lists.{at_below, each_set, past_set, past_more, last_look_le}
+use Rattle.dr_ring.proofs.Events.{open_events, written_count, written_at}
 use Rattle.dr_ring.proofs.Keeps.{word_at, receiver_of_handler, above, upstream_inside, room_stays, payload_stays, flags_stay, receiver_stays}
 
 payload_publishes : (k : Shape) (words : List ℕ) (r : SenderRecord) (n : ℕ) → length r.sent.published < n → n ≤ claimed r → AreWritten r n
     → Payload k words r.sent.published r.sent.pending None → Payload k words (published_to r n).sent.published (published_to r n).sent.pending None
 payload_publishes k words r n lt le all P =
-    let old = r.sent.published in let pending = r.sent.pending in let m = n - length old in let new = map event_or_none (take m pending) in
-    let count : length new ≡ m = length-map (take m pending) event_or_none ∙ omega (arith, length-take m pending) in
+    let old = r.sent.published in let pending = r.sent.pending in let m = n - length old in let new = written_of (take m pending) in
+    let ready = open_events r n all in
+    let count : length new ≡ m = written_count pending m ready (omega arith) in
     let longer : length (old ++ new) ≡ n = omega (arith, length-append old new) in
     let rest : length (drop m pending) + m ≡ length pending = omega (arith, length-drop m pending) in record {
       events = λ s below near_by. elim (cases_lt s (length old)) [
@@ -36,9 +38,7 @@ payload_publishes k words r n lt le all P =
         | inr late ↦ (
             let i = s - length old in let here : length old + i ≡ s = omega arith in let a = all s late (omega arith) in
             let b : get_or (old ++ new) s no_event ≡ get_or new i no_event = get_or-append_right old new (length old) s no_event refl late in
-            let c : get_or new i no_event ≡ event_or_none (get_or (take m pending) i None) = get_or-map event_or_none (take m pending) i None no_event (omega (arith, length-take m pending)) in
-            let d : get_or (take m pending) i None ≡ Some a.0 = get_or-take m pending i None (omega arith) ∙ a.1 in
-            let same : get_or (old ++ new) s no_event ≡ a.0 = b ∙ c ∙ ap event_or_none d in
+            let same : get_or (old ++ new) s no_event ≡ a.0 = b ∙ written_at pending m ready (omega arith) i no_event a.0 (omega arith) a.1 in
             let e = P.writes i a.0 a.1 in (
               subst (λ (t : ℕ). word_at words (payload_word k t 0) ≡ a.0.first) here e.0 ∙ ap (λ (o : Event). o.first) (sym same),
               subst (λ (t : ℕ). word_at words (payload_word k t 1) ≡ a.0.second) here e.1 ∙ ap (λ (o : Event). o.second) (sym same),
@@ -52,8 +52,8 @@ payload_publishes k words r n lt le all P =
 pub keeps_publishes : (k : Shape) (w : World) (n : ℕ) → length w.sender.sent.published < n → n ≤ claimed w.sender → AreWritten w.sender n
     → w.sender.half ≡ None → KeepsRule k w → KeepsRule k (sender_stores w cursor_word n (published_to w.sender n))
 keeps_publishes k w n lt le all free K =
-    let old = w.sender.sent.published in let pending = w.sender.sent.pending in let m = n - length old in let new = map event_or_none (take m pending) in
-    let count : length new ≡ m = length-map (take m pending) event_or_none ∙ omega (arith, length-take m pending) in
+    let old = w.sender.sent.published in let pending = w.sender.sent.pending in let m = n - length old in let new = written_of (take m pending) in
+    let count : length new ≡ m = written_count pending m (open_events w.sender n all) (omega arith) in
     let longer : length (old ++ new) ≡ n = omega (arith, length-append old new) in
     let rest : length (drop m pending) + m ≡ length pending = omega (arith, length-drop m pending) in
     let wide = K.wide in let cursor = K.counts.cursor in let us = set w.words cursor_word n in

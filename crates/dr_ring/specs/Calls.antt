@@ -6,3 +6,4 @@ pub mod Ends
 pub mod Sending
 pub mod Receiving
 pub mod Making
+pub mod Replies

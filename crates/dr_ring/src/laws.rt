@@ -10,21 +10,24 @@ mod receiver;
 mod sender;
 pub mod settling;
 
-ghost use Rattle.std.specs.Prelude.{List, ◌≡◌, ◌<◌, ◌≤◌, slice_index};
+ghost use Rattle.dr_seq.specs.declared.event.Event.{Event};
+ghost use Rattle.std.specs.Prelude.{List, ℕ, ◌≡◌, ◌<◌, ◌≤◌, slice_index};
 ghost use Rattle.dr_graph.specs.Meaning.Graph.{IsGraph};
 ghost use Rattle.dr_core.specs.Meaning.Transcript.{Transcript, LeadsTo};
 ghost use Rattle.dr_core.specs.Meaning.Laws.{Laws};
-ghost use Rattle.dr_ring.specs.Meaning.Shape.{Shape, ring_setup};
-ghost use Rattle.dr_ring.specs.Meaning.Words.{halt_word};
+ghost use Rattle.dr_ring.specs.Meaning.Shape.{Shape, ring_setup, handlers_of};
+ghost use Rattle.dr_ring.specs.Meaning.Words.{halt_word, count_word};
 ghost use Rattle.dr_ring.specs.Meaning.Records.{claimed};
 ghost use Rattle.dr_ring.specs.Meaning.Rule.{World, KeepsRule};
 ghost use Rattle.dr_ring.specs.declared.record.Step.{Step};
 ghost use Rattle.dr_ring.specs.Meaning.Moments.{Runs, new_world, picture_of};
+ghost use Rattle.dr_ring.specs.Calls.Replies.{RepliesAsAnswered};
 
 use crate::plan::Plan;
 use crate::record::View;
 use atomic_table::{Seat, Shared, Table, TableRule};
 use dr_core::every_transcript_is_lawful;
+use dr_seq::Event;
 pub use halter::Halter;
 pub(crate) use receiver::ReceiverStation;
 pub(crate) use sender::SenderStation;
@@ -70,14 +73,18 @@ impl Names for Brand {
 }
 
 /// Whatever steps fall in whatever order: between any two of them the rule holds, the entries of
-/// their events lead the machine to the ring's picture, and the transcript has the five laws. Once
-/// a ring is halted, nothing more is claimed. It does nothing when it runs: the contract is the
+/// their events lead the machine to the ring's picture, and the transcript has the five laws. What
+/// an end answers by what it knows, and by what the deciding look finds, is what the machine then
+/// replies on the picture. No handler's count falls, so what the last look of a claim without room
+/// finds was so already at its first. Once a ring is halted, nothing more is claimed. It does nothing when it runs: the contract is the
 /// theorem.
 pub fn moments()
-    ensures rule { (k : Shape) (steps : List Step) (entries : Transcript) (w : World) → IsGraph k.upstreams → 0 < k.size → Runs k steps entries (new_world k) w → KeepsRule k w }
-    ensures leads { (k : Shape) (steps : List Step) (entries : Transcript) (w : World) → IsGraph k.upstreams → 0 < k.size → Runs k steps entries (new_world k) w → LeadsTo (ring_setup k) entries (picture_of k w) }
-    ensures laws { (k : Shape) (steps : List Step) (entries : Transcript) (w : World) → IsGraph k.upstreams → 0 < k.size → Runs k steps entries (new_world k) w → Laws (ring_setup k) entries }
-    ensures halted { (k : Shape) (steps more : List Step) (entries rest : Transcript) (w u : World) → IsGraph k.upstreams → 0 < k.size → Runs k steps entries (new_world k) w → Runs k more rest w u → slice_index w.words halt_word ≡ 1 → claimed u.sender ≡ claimed w.sender }
+    ensures rule { (k : Shape) (steps : List Step) (entries : Transcript Event) (w : World) → IsGraph k.upstreams → 0 < k.size → Runs k steps entries (new_world k) w → KeepsRule k w }
+    ensures leads { (k : Shape) (steps : List Step) (entries : Transcript Event) (w : World) → IsGraph k.upstreams → 0 < k.size → Runs k steps entries (new_world k) w → LeadsTo (ring_setup k) entries (picture_of k w) }
+    ensures laws { (k : Shape) (steps : List Step) (entries : Transcript Event) (w : World) → IsGraph k.upstreams → 0 < k.size → Runs k steps entries (new_world k) w → Laws (ring_setup k) entries }
+    ensures replies { (k : Shape) (steps : List Step) (entries : Transcript Event) (w : World) → IsGraph k.upstreams → 0 < k.size → Runs k steps entries (new_world k) w → RepliesAsAnswered k w }
+    ensures rises { (k : Shape) (steps more : List Step) (entries rest : Transcript Event) (w u : World) → IsGraph k.upstreams → 0 < k.size → Runs k steps entries (new_world k) w → Runs k more rest w u → (f : ℕ) → f < handlers_of k → slice_index w.words (count_word f) ≤ slice_index u.words (count_word f) }
+    ensures halted { (k : Shape) (steps more : List Step) (entries rest : Transcript Event) (w u : World) → IsGraph k.upstreams → 0 < k.size → Runs k steps entries (new_world k) w → Runs k more rest w u → slice_index w.words halt_word ≡ 1 → claimed u.sender ≡ claimed w.sender }
 {
-    every_transcript_is_lawful();
+    every_transcript_is_lawful::<Event>();
 }

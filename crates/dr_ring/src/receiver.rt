@@ -88,7 +88,7 @@ impl Receiver {
     }
 }
 
-impl Outlet for Receiver {
+impl Outlet<Event> for Receiver {
     ghost use Rattle.dr_ring.specs.Calls.Ends.{ReceiverPlace};
 
     ghost Kept = { ReceiverPlace };

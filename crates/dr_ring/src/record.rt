@@ -25,9 +25,10 @@ pub struct SentEvents {
 }
 
 impl Model for SentEvents {
+    ghost use Rattle.dr_seq.specs.declared.event.Event.{Event};
     ghost use Rattle.dr_core.specs.Calls.Ends.{Sent};
 
-    ghost Value = { Sent };
+    ghost Value = { Sent Event };
 
     ghost view = { λ e. record { published = e.published; pending = e.pending } };
 }

@@ -1,14 +1,14 @@
 //! The one end that claims, writes and publishes.
 
-ghost use Rattle.std.specs.Prelude.{◌≡◌, Some};
-ghost use Rattle.dr_core.specs.Calls.Ends.{IsEndsAnswer, ClaimAnswers, WriteAnswers, PublishAnswers, Claims, Writes, Publishes};
+ghost use Rattle.std.specs.Prelude.{◌≡◌, ◌+◌, ◌^◌, ◌≤◌, Some, length, take};
+ghost use Rattle.dr_core.specs.Calls.Ends.{IsEndsAnswer, ClaimAnswers, WriteAnswers, PublishAnswers, Claims, Writes, Publishes, WriteAllAnswers, WritesAll};
 ghost use Rattle.dr_ring.specs.Calls.Ends.{sender_place, looks_counted};
-ghost use Rattle.dr_ring.specs.Calls.Sending.{ClaimCall, WriteCall, PublishCall, CloseCall};
+ghost use Rattle.dr_ring.specs.Calls.Sending.{ClaimCall, WriteCall, WriteAllCall, PublishCall, CloseCall};
 
 use crate::laws::SenderStation;
 use crate::settled::HandlerCounts;
 use crate::written::Written;
-use dr_core::{Claimed, Inlet, Refusal, Trouble};
+use dr_core::{Claimed, Inlet, Refusal, Trouble, Wrote};
 use dr_seq::{Event, GateCache};
 use std::marker::{Brand, Model};
 
@@ -145,7 +145,7 @@ impl Sender {
     }
 }
 
-impl Inlet for Sender {
+impl Inlet<Event> for Sender {
     ghost use Rattle.dr_ring.specs.Calls.Ends.{SenderPlace};
 
     ghost Kept = { SenderPlace };
@@ -170,6 +170,30 @@ impl Inlet for Sender {
         ensures own { IsEndsAnswer (WriteCall self.old s event self.new) result }
     {
         Ok(Sender::write(self, s, event)?)
+    }
+
+    fn write_all(&mut self, lo: u64, events: &[Event]) -> Wrote
+        requires limit { lo + length events.now ≤ 2 ^ 62 }
+        ensures kept { sender_place self.new ≡ sender_place self.old }
+        ensures answer { WriteAllAnswers (Some self.old.knows.sent) lo (length events.now) result }
+        ensures sent { WritesAll lo (take result.count events.now) self.old.knows.sent self.new.knows.sent }
+        ensures own { WriteAllCall self.old lo events.now self.new result }
+    {
+        for (k, event) in events.iter().enumerate() {
+            match Sender::write(self, lo + k as u64, *event) {
+                Ok(()) => (),
+                Err(refusal) => {
+                    return Wrote {
+                        count: k,
+                        trouble: Some(Trouble::Refused(refusal)),
+                    };
+                }
+            }
+        }
+        Wrote {
+            count: events.len(),
+            trouble: None,
+        }
     }
 
     fn publish(&mut self, lo: u64, hi: u64) -> Result<(), Trouble>

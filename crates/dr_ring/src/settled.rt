@@ -32,6 +32,8 @@ impl HandlerCounts {
     };
 }
 
+const _: () = prove!(HandlerCounts::NONE.taken == 0 && HandlerCounts::NONE.completed == 0);
+
 /// How far a ring came.
 #[derive(Drop)]
 pub struct Settled {

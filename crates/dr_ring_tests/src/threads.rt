@@ -10,7 +10,7 @@ use std::thread;
 
 /// Sends events in claims of up to `cut`, until there are so many or a claim is refused for another
 /// cause than want of room, and tells how many it sent.
-fn send_all<I: Inlet>(inlet: &mut I, count: u64, cut: u64) -> u64 {
+fn send_all<I: Inlet<Event>>(inlet: &mut I, count: u64, cut: u64) -> u64 {
     let mut next = 0;
     for _ in 0..u64::MAX {
         if next >= count {
@@ -45,7 +45,7 @@ fn send(mut sender: Sender, count: u64, cut: u64) -> u64 {
 
 /// Receives until it is told that the ring drained, and tells how many events came, or nothing
 /// where one came out of order.
-fn receive<O: Outlet + Drop>(mut outlet: O) -> Option<u64> {
+fn receive<O: Outlet<Event> + Drop>(mut outlet: O) -> Option<u64> {
     let mut next = 0u64;
     let mut out = [Event::NONE; 64];
     for _ in 0..u64::MAX {

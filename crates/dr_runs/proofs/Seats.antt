@@ -1,4 +1,5 @@
 -- A step of one end keeps the rule of the table.
+use Rattle.dr_seq.specs.declared.event.Event.{Event}
 use Rattle.std.proofs.Common.{◌≡◌, ◌≢◌, ℕ, zero, suc, ◌<◌, inl, inr, ◌==◌, Bool, true, false, cond, List, [], ◌∷◌, ◌++◌, get_or, set, sym, refl, ap, ◌∙◌, subst, append_assoc}
 use Rattle.std.proofs.lemmas.Bool.{eq-eqb, ne_eqb}
 use Rattle.std.proofs.lemmas.List.{append-nil}
@@ -33,21 +34,21 @@ one P e p (suc j) x at = absurd (some-ne-none x (sym at))
 begins_more : {S : Type 0} (past steps : List S) (step : S) → IsBeginning past steps → IsBeginning past (steps ++ step ∷ [])
 begins_more past steps step B = (B.0 ++ step ∷ [], ap (λ (xs : List _). xs ++ step ∷ []) B.1 ∙ append_assoc past B.0 (step ∷ []))
 
-module _ {S W : Type 0} (Happens : S → W → W → Type 0) (entries_of : S → W → Transcript) where
-  pub runs_more : (steps : List S) (es : Transcript) (w u v : W) (step : S) → Runs Happens entries_of steps es w u → Happens step u v
+module _ {S W : Type 0} (Happens : S → W → W → Type 0) (entries_of : S → W → Transcript Event) where
+  pub runs_more : (steps : List S) (es : Transcript Event) (w u v : W) (step : S) → Runs Happens entries_of steps es w u → Happens step u v
       → Runs Happens entries_of (steps ++ step ∷ []) (es ++ entries_of step u) w v
   runs_more [] es w u v step R H = (
     v,
     [],
     subst (λ (x : W). Happens step x v) (sym R.1) H,
-    ap (λ (xs : Transcript). xs ++ entries_of step u) R.0 ∙ ap (entries_of step) (sym R.1) ∙ sym (append-nil (entries_of step w)),
+    ap (λ (xs : Transcript Event). xs ++ entries_of step u) R.0 ∙ ap (entries_of step) (sym R.1) ∙ sym (append-nil (entries_of step w)),
     (refl, refl),
   )
   runs_more (s ∷ steps) es w u v step R H = (
     R.0,
     R.1 ++ entries_of step u,
     R.2,
-    ap (λ (xs : Transcript). xs ++ entries_of step u) R.3 ∙ append_assoc (entries_of s w) R.1 (entries_of step u),
+    ap (λ (xs : Transcript Event). xs ++ entries_of step u) R.3 ∙ append_assoc (entries_of s w) R.1 (entries_of step u),
     runs_more steps R.1 R.0 u v step R.4 H,
   )
 
@@ -118,7 +119,7 @@ module _ {E S W : Type 0} (X : Exchange E S W) where
       λ (e : X.ends.number_of x ≡ end). ne (ap (λ (p : ℕ × ℕ). p.0) (sym (each id' v there j x at).0 ∙ ap place e ∙ here))
 
   -- and the end whose step it is has seen it, and the others what they saw
-  pasts_change : (views : List (View E S)) (steps : List S) (step : S) (id end : ℕ) (e : E) (es : Transcript) (u : W)
+  pasts_change : (views : List (View E S)) (steps : List S) (step : S) (id end : ℕ) (e : E) (es : Transcript Event) (u : W)
       → Runs X.Happens X.entries_of (steps ++ step ∷ []) es X.opening u → X.Stands u e
       → ((n : ℕ) → n ≢ end → (steps : List S) → stores_of X.ends n (steps ++ step ∷ []) ≡ stores_of X.ends n steps)
       → ((id' : ℕ) (v : View E S) → id' ≢ id → get_elem? views id' ≡ some v → (j : ℕ) (x : E) → get_elem? v.ends j ≡ some x → X.ends.number_of x ≢ end)

@@ -1,4 +1,5 @@
 -- An exchange by its steps, and what lists of them come to.
+use Rattle.dr_seq.specs.declared.event.Event.{Event}
 use Rattle.std.specs.Prelude.{◌≡◌, ℕ, Bool, List, [], ◌∷◌, ◌++◌}
 use Rattle.dr_core.specs.Meaning.Transcript.{Transcript}
 
@@ -18,13 +19,13 @@ pub record Exchange (E S W : Type 0) : Type 1 where
   pub Stands : W → E → Type 0
   -- a step leads from one world to another, and these are the entries of its events
   pub Happens : S → W → W → Type 0
-  pub entries_of : S → W → Transcript
+  pub entries_of : S → W → Transcript Event
 
 -- a list of steps, with the entries of their events
-abbrev pub Runs : {S W : Type 0} → (S → W → W → Type 0) → (S → W → Transcript) → List S → Transcript → W → W → Type 0
+abbrev pub Runs : {S W : Type 0} → (S → W → W → Type 0) → (S → W → Transcript Event) → List S → Transcript Event → W → W → Type 0
 Runs Happens entries_of [] entries w w' = (entries ≡ []) × (w ≡ w')
 Runs Happens entries_of (step ∷ steps) entries w w' =
-    (between : _) × (rest : Transcript) × Happens step w between × (entries ≡ entries_of step w ++ rest) × Runs Happens entries_of steps rest between w'
+    (between : _) × (rest : Transcript Event) × Happens step w between × (entries ≡ entries_of step w ++ rest) × Runs Happens entries_of steps rest between w'
 
 -- some steps are the beginning of others
 abbrev pub IsBeginning : {S : Type 0} → List S → List S → Type 0
@@ -34,5 +35,5 @@ IsBeginning past steps = (rest : List _) × (steps ≡ past ++ rest)
 pub record IsReached {E S W : Type 0} (X : Exchange E S W) (w : W) : Type 0 where
   pub made : X.IsMade
   pub steps : List S
-  pub entries : Transcript
+  pub entries : Transcript Event
   pub runs : Runs X.Happens X.entries_of steps entries X.opening w

@@ -1,4 +1,5 @@
 -- The seats that stand for the ends of an exchange, and the rule that the table of its words keeps.
+use Rattle.dr_seq.specs.declared.event.Event.{Event}
 use Rattle.std.specs.Prelude.{◌≡◌, ℕ, List, [], ◌∷◌, ◌++◌, map, filter, take, drop}
 use mathlib.Core.Option.{some}
 use lib.ListN.{get_elem?}
@@ -88,7 +89,7 @@ module _ {E S : Type 0} (ends : Ends E S) where
 -- what an end saw is the beginning of the run, came to its record, and has all that it stored
 pub record Saw {E S W : Type 0} (X : Exchange E S W) (steps : List S) (e : E) (past : List S) : Type 0 where
   pub begins : IsBeginning past steps
-  pub entries : Transcript
+  pub entries : Transcript Event
   pub world : W
   pub runs : Runs X.Happens X.entries_of past entries X.opening world
   pub stands : X.Stands world e

@@ -133,7 +133,7 @@ pub publish_bad : (e : SenderEnd) (lo hi : ℕ) → hi < lo → PublishCall e lo
 publish_bad e lo hi lt = record {
   stays = (refl, refl);
   seen = record { reach = Outside; ready = 0; stop = Unasked };
-  sees = record { reach = λ le. absurd (omega arith); ready = λ s low high. absurd (omega arith); stop = tt };
+  sees = record { reach = λ le. absurd (omega arith); ready = λ s low high. absurd (omega arith); stop = tt; empty = λ none. (refl, refl) };
   answer = inr (refl, inl (lt-ltb hi lo lt, refl));
   all = tt;
   knows = looked_nowhere e.knows;
@@ -144,7 +144,7 @@ pub publish_never : (e : SenderEnd) (lo hi : ℕ) → lo ≤ hi → e.plan.limit
 publish_never e lo hi order past = record {
   stays = (refl, refl);
   seen = record { reach = Outside; ready = 0; stop = Unasked };
-  sees = record { reach = λ le. past; ready = λ s low high. absurd (omega arith); stop = tt };
+  sees = record { reach = λ le. past; ready = λ s low high. absurd (omega arith); stop = tt; empty = λ none. absurd (omega arith) };
   answer = inr (refl, inr (le-ltb hi lo order, inl (refl, refl)));
   all = tt;
   knows = looked_nowhere e.knows;
@@ -189,7 +189,7 @@ pub publish_unclaimed : (e e' : SenderEnd) (lo hi : ℕ) → lo ≤ hi → Reach
 publish_unclaimed e e' lo hi order R = record {
   stays = R.stays;
   seen = record { reach = R.reach; ready = 0; stop = Unasked };
-  sees = record { reach = λ le. R.sees; ready = λ s low high. absurd (omega arith); stop = tt };
+  sees = record { reach = λ le. R.sees; ready = λ s low high. absurd (omega arith); stop = tt; empty = λ none. absurd (omega arith) };
   answer = inr (refl, inr (le-ltb hi lo order, inl (subst MayHold (sym R.unclaimed) refl, refl)));
   all = tt;
   knows = R.knows ∙ (let r : SenderRecord = record e.knows { looks = e.knows.looks ++ reach_looks R.reach } in found_nothing r);
@@ -248,7 +248,7 @@ publish_stops e a e' lo hi stop x refusal low high R ready sight first stays kno
     let at : lo + (stop - lo) ≡ stop = omega arith in let seen : PublishLooks = record { reach = R.reach; ready = stop - lo; stop = x } in record {
       stays = (stays.0 ∙ R.stays.0, stays.1 ∙ R.stays.1);
       seen = seen;
-      sees = record { reach = λ le. R.sees; ready = λ s below above. ready s below (omega arith); stop = subst (λ (s : ℕ). IsSight e.plan e.knows s x) (sym at) sight };
+      sees = record { reach = λ le. R.sees; ready = λ s below above. ready s below (omega arith); stop = subst (λ (s : ℕ). IsSight e.plan e.knows s x) (sym at) sight; empty = λ none. absurd (omega arith) };
       answer = refuses e.plan lo seen hi refusal (omega arith) (omega arith) (subst MayFail (sym R.unclaimed) refl)
           (subst (λ (s : ℕ). IsFirst MayHold MayFail refusal (sequence_causes (sight_tests e.plan s x))) (sym at) first);
       all = tt;
@@ -332,7 +332,7 @@ publish_done e a e' o lo hi stop F L front order past P =
     let seen : PublishLooks = record { reach = Inside; ready = n; stop = Unasked } in record {
       stays = (P.0.0 ∙ L.0.0, P.0.1 ∙ L.0.1);
       seen = seen;
-      sees = record { reach = λ le. (let x = ready hi order (omega arith) in (x.0, x.2)); ready = ready; stop = tt };
+      sees = record { reach = λ le. (let x = ready hi order (omega arith) in (x.0, x.2)); ready = ready; stop = tt; empty = λ none. absurd (omega arith) };
       answer = accepts e.plan lo seen hi order (omega arith) refl;
       all = omega arith;
       knows = P.1 ∙ ap (λ (q : SenderRecord). published_between q lo (hi + 1)) L.1;

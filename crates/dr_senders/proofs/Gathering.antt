@@ -1,4 +1,5 @@
 -- The run of a ring's ends, once the seats of its senders and receivers have come to its halter's.
+use Rattle.dr_seq.specs.declared.event.Event.{Event}
 use Rattle.std.proofs.Common.{◌≡◌, ℕ, List, length, map, sym, refl, ap, ◌∙◌, subst}
 use Rattle.std.specs.Prelude.{slice_index}
 use Rattle.std.proofs.lemmas.List.{length-map}
@@ -25,8 +26,8 @@ use Rattle.dr_senders.specs.Calls.Settling.{AreAllEnds, known_by}
 use Rattle.dr_senders.proofs.Owners.{owned_since}
 use Rattle.dr_senders.proofs.Settling.{settles}
 
-abbrev pub Moments : (Shape → List Step → Transcript → World → Type 0) → Type 0
-Moments P = (k : Shape) (steps : List Step) (entries : Transcript) (w : World) → IsShape k → Runs k steps entries (new_world k) w → P k steps entries w
+abbrev pub Moments : (Shape → List Step → Transcript Event → World → Type 0) → Type 0
+Moments P = (k : Shape) (steps : List Step) (entries : Transcript Event) (w : World) → IsShape k → Runs k steps entries (new_world k) w → P k steps entries w
 
 -- the run of the ends that came together
 pub has_run : (k : Shape) (me after now : End) (last : Sitting) (ss : List SenderEnd) (rs : List ReceiverEnd) (t : HalterEnd) (found : ℕ)

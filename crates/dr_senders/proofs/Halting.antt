@@ -1,4 +1,5 @@
 -- Once a ring is halted, nothing more is claimed.
+use Rattle.dr_seq.specs.declared.event.Event.{Event}
 use Rattle.std.proofs.Common.{◌≡◌, ◌≢◌, ℕ, true, ◌==◌, if◌then◌else◌, Bool, List, [], ◌∷◌, length, set, sym, ap, ◌∙◌, subst, arith, length-set, get_or-set_same, get_or-set_other}
 use Rattle.std.proofs.lemmas.Bool.{ne_eqb, leb-true}
 use Rattle.dr_core.specs.Meaning.Transcript.{Transcript}
@@ -62,6 +63,6 @@ halted_step k (ReceiverLoadsSecond h) w u n H K is = subst (HaltedAt n) (sym H.2
 halted_step k (ReceiverCompletes h m) w u n H K is = subst (HaltedAt n) (sym H.2.2) (other_word w (count_word h) m (λ e. omega arith) is.0, is.1)
 halted_step k HalterHalts w u n H K is = subst (HaltedAt n) (sym H) (halted_more k w K, is.1)
 
-pub halted_runs : (k : Shape) (steps : List Step) (es : Transcript) (w u : World) (n : ℕ) → Runs k steps es w u → KeepsRule k w → HaltedAt n w → HaltedAt n u
+pub halted_runs : (k : Shape) (steps : List Step) (es : Transcript Event) (w u : World) (n : ℕ) → Runs k steps es w u → KeepsRule k w → HaltedAt n w → HaltedAt n u
 halted_runs k [] es w u n R K is = subst (HaltedAt n) R.1 is
 halted_runs k (s ∷ steps) es w u n R K is = halted_runs k steps R.1 R.0 u n R.4 (keeps_step k s w R.0 R.2 K) (halted_step k s w R.0 n R.2 K is)

@@ -1,14 +1,13 @@
 -- What the machine answers to the entries of a ring's steps.
-use Rattle.std.proofs.Common.{◌≡◌, ℕ, zero, suc, ◌+◌, ◌-◌, ◌<◌, ◌≤◌, inl, inr, Bool, true, false, ◌==◌, ◌&&◌, ◌||◌, if◌then◌else◌, min, List, [], ◌∷◌, ◌++◌, length, get_or, set, map, replicate, Some, None, unwrap_or, is_none, sym, refl, ap, ◌∙◌, subst, arith, get_or-set_same, get_or-set_other}
+use Rattle.std.proofs.Common.{◌≡◌, ℕ, zero, suc, ◌+◌, ◌-◌, ◌<◌, ◌≤◌, inl, inr, Bool, true, false, ◌==◌, ◌&&◌, ◌||◌, if◌then◌else◌, min, List, [], ◌∷◌, ◌++◌, length, get_or, set, map, replicate, Some, None, is_none, sym, refl, ap, ◌∙◌, subst, arith, get_or-set_same, get_or-set_other}
 use Rattle.std.specs.Prelude.{nat_le, not, flat_map}
-use Rattle.std.specs.List.{range_with_len}
+use Rattle.std.specs.List.{range_with_len, filter_map, cons_option}
 use Rattle.std.proofs.lemmas.Bool.{cases_eq, cases_lt, eq-eqb, ne_eqb, lt-ltb, le-ltb, le-leb, lt-leb}
 use Rattle.std.proofs.lemmas.List.{length-map, map-append, get_or_append_left, get_or-append_right, get_or_past, get_or-map}
 use lib.Seq.{map-set_same}
 use mathlib.Core.Option.{some}
 use lib.ListN.{get_elem?}
 use Rattle.dr_seq.specs.declared.event.Event.{Event}
-use Rattle.dr_seq.specs.Event.{no_event}
 use Rattle.dr_core.specs.declared.command.Command.TheVariants.{Claim, Write, Publish, Poll, Complete}
 use Rattle.dr_core.specs.declared.command.Reply.TheVariants.{Claimed, Written, Published, Batch, Drained, Gating, Idle, Completed}
 use Rattle.dr_graph.specs.Meaning.Graph.{finals}
@@ -27,7 +26,7 @@ and_false true = refl
 and_false false = refl
 
 -- a state by its stages
-abbrev pub shown : Shape → List Stage → List ℕ → List ℕ → Bool → State
+abbrev pub shown : Shape → List Stage → List ℕ → List ℕ → Bool → State Event
 shown k stages t d b =
     record (opening (ring_setup k)) {
       owners = map (λ t. t.owner) stages;
@@ -173,7 +172,7 @@ write_step k stages p s e t ts d b who at own unshown =
           };
     })
 
-one_fault : (m : State) (p s c : ℕ) → c ≡ 1 → (m.published s ≡ false) → (get_or m.owners s 0 ≡ p) → (is_none (m.written s) ≡ false)
+one_fault : (m : State Event) (p s c : ℕ) → c ≡ 1 → (m.published s ≡ false) → (get_or m.owners s 0 ≡ p) → (is_none (m.written s) ≡ false)
     → NoneHold (flat_map (publish_faults m p) (range_with_len s c))
 one_fault m p s c one shown owner whole =
     subst (λ (n : ℕ). NoneHold (flat_map (publish_faults m p) (range_with_len s n))) (sym one)
@@ -232,32 +231,33 @@ publish_step k stages p s e t ts d b who at own unshown whole =
           };
     })
 
-pub take_step : (c : Setup) (m : State) (h : ℕ) → h < handlers c → m.retired h ≡ false → get_or m.taken h 0 < available c m h
+pub take_step : (c : Setup) (m : State Event) (h : ℕ) (event : Event) → h < handlers c → m.retired h ≡ false → m.written (get_or m.taken h 0) ≡ Some event
+    → get_or m.taken h 0 < available c m h
     → step c m (Poll h 1) ≡ record {
       reply = Batch (get_or m.taken h 0) 1 (get_or m.taken h 0 + 1 == available c m h);
-      values =
-          unwrap_or (m.written (get_or m.taken h 0)) no_event ∷ [];
+      values = event ∷ [];
       state = record m { taken = set m.taken h (get_or m.taken h 0 + 1) };
     }
-take_step c m h inside here more =
+take_step c m h event inside here is more =
     let at = get_or m.taken h 0 in let to = available c m h in let one : min (to - at) 1 ≡ 1 = omega arith in
     unless-none (refusals c m (Poll h 1)) m (accepted c m (Poll h 1)) (lt-leb (handlers c) h inside, (here, (refl, tt)))
     ∙ rw (lt-ltb at to more)
     (λ i. record {
       reply = Batch at (one i) (at + one i == to);
-      values = map (λ s. unwrap_or (m.written s) no_event) (range_with_len at (one i));
+      values = filter_map m.written (range_with_len at (one i));
       state =
           record m { taken = set m.taken h (at + one i) };
     })
+    ∙ (λ i. record { reply = Batch at 1 (at + 1 == to); values = cons_option (is i) []; state = record m { taken = set m.taken h (at + 1) } })
 
-pub drained_step : (c : Setup) (m : State) (h : ℕ) → h < handlers c → m.retired h ≡ false → m.halted ≡ true → available c m h ≤ next m
+pub drained_step : (c : Setup) (m : State Event) (h : ℕ) → h < handlers c → m.retired h ≡ false → m.halted ≡ true → available c m h ≤ next m
     → get_or m.taken h 0 ≡ next m
     → step c m (Poll h 1) ≡ record { reply = Drained; values = []; state = m }
 drained_step c m h inside here halted none all =
     unless-none (refusals c m (Poll h 1)) m (accepted c m (Poll h 1)) (lt-leb (handlers c) h inside, (here, (refl, tt)))
     ∙ rw (le-ltb (get_or m.taken h 0) (available c m h) (omega arith), halted, eq-eqb (get_or m.taken h 0) (next m) all) refl
 
-pub complete_step : (c : Setup) (m : State) (h n : ℕ) → h < handlers c → m.retired h ≡ false → get_or m.completed h 0 ≤ n → n ≤ get_or m.taken h 0
+pub complete_step : (c : Setup) (m : State Event) (h n : ℕ) → h < handlers c → m.retired h ≡ false → get_or m.completed h 0 ≤ n → n ≤ get_or m.taken h 0
     → step c m (Complete h n) ≡ record { reply = Completed; values = []; state = record m { completed = set m.completed h n } }
 complete_step c m h n inside here rise le =
     unless-none (refusals c m (Complete h n)) m (accepted c m (Complete h n))
@@ -280,14 +280,14 @@ front_beyond k stages t d b n lt all =
           let on : m.published (front m) ≡ true = ap (λ (y : Stage). y.published) (at_stage stages (front m) x.0 x.1) ∙ x.2 in cc)
     ]
 
-pub idle_step : (c : Setup) (m : State) (h : ℕ) → h < handlers c → m.retired h ≡ false → is_single c.mode ≡ false → m.halted ≡ false
+pub idle_step : (c : Setup) (m : State Event) (h : ℕ) → h < handlers c → m.retired h ≡ false → is_single c.mode ≡ false → m.halted ≡ false
     → available c m h ≤ next m → get_or m.taken h 0 ≡ next m
     → step c m (Poll h 1) ≡ record { reply = Idle; values = []; state = m }
 idle_step c m h inside here several going none all =
     unless-none (refusals c m (Poll h 1)) m (accepted c m (Poll h 1)) (lt-leb (handlers c) h inside, (here, (refl, tt)))
     ∙ rw (le-ltb (get_or m.taken h 0) (available c m h) (omega arith), going, several, le-ltb (get_or m.taken h 0) (next m) (omega arith)) refl
 
-pub gating_step : (c : Setup) (m : State) (h : ℕ) → h < handlers c → m.retired h ≡ false → is_single c.mode ≡ false → available c m h ≤ get_or m.taken h 0
+pub gating_step : (c : Setup) (m : State Event) (h : ℕ) → h < handlers c → m.retired h ≡ false → is_single c.mode ≡ false → available c m h ≤ get_or m.taken h 0
     → get_or m.taken h 0 < next m
     → step c m (Poll h 1) ≡ record { reply = Gating; values = []; state = m }
 gating_step c m h inside here several none more =

@@ -1,4 +1,5 @@
 -- Each claimed sequence is one of its sender's own, as far as it has come.
+use Rattle.dr_seq.specs.declared.event.Event.{Event}
 use Rattle.std.proofs.Common.{◌≡◌, ◌≢◌, ℕ, zero, suc, ◌+◌, ◌*◌, ◌<◌, inl, inr, Bool, ◌==◌, if◌then◌else◌, List, [], ◌∷◌, ◌++◌, length, set, replicate, sym}
 use Rattle.std.proofs.Common.{refl}
 use Rattle.std.proofs.Common.{ap, ◌∙◌, subst, arith}
@@ -146,10 +147,10 @@ owned_step k (ReceiverLoadsSecond h) w u H K all = subst AllOwned (sym H.2.3) al
 owned_step k (ReceiverCompletes h m) w u H K all = subst AllOwned (sym H.2.2) all
 owned_step k HalterHalts w u H K all = subst AllOwned (sym H) all
 
-owned_runs : (k : Shape) (steps : List Step) (es : Transcript) (w u : World) → Runs k steps es w u → KeepsRule k w → AllOwned w → AllOwned u
+owned_runs : (k : Shape) (steps : List Step) (es : Transcript Event) (w u : World) → Runs k steps es w u → KeepsRule k w → AllOwned w → AllOwned u
 owned_runs k [] es w u R K all = subst AllOwned R.1 all
 owned_runs k (s ∷ steps) es w u R K all = owned_runs k steps R.1 R.0 u R.4 (keeps_step k s w R.0 R.2 K) (owned_step k s w R.0 R.2 K all)
 
 -- from the opening on
-pub owned_since : (k : Shape) (steps : List Step) (es : Transcript) (u : World) → IsShape k → Runs k steps es (new_world k) u → AllOwned u
+pub owned_since : (k : Shape) (steps : List Step) (es : Transcript Event) (u : World) → IsShape k → Runs k steps es (new_world k) u → AllOwned u
 owned_since k steps es u shape R = owned_runs k steps es (new_world k) u R (kept_new_world k shape) (λ s t at. absurd (some-ne-none t (sym at)))

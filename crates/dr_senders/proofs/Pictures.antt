@@ -1,6 +1,6 @@
 -- Each list of steps keeps the rule, and the entries of its events lead the machine to the ring's picture.
 use Rattle.dr_ring.specs.Meaning.Records.{last_look}
-use Rattle.std.proofs.Common.{◌≡◌, ◌≢◌, ℕ, zero, suc, ◌+◌, ◌-◌, ◌<◌, ◌≤◌, inl, inr, Bool, true, false, ◌==◌, if◌then◌else◌, List, [], ◌∷◌, ◌++◌, length, get_or, set, map, replicate, Option, Some, unwrap_or, sym, refl, ap, ◌∙◌, subst, arith, get_or-set_same, get_or-set_other, ◌&&◌}
+use Rattle.std.proofs.Common.{◌≡◌, ◌≢◌, ℕ, zero, suc, ◌+◌, ◌-◌, ◌<◌, ◌≤◌, inl, inr, Bool, true, false, ◌==◌, if◌then◌else◌, List, [], ◌∷◌, ◌++◌, length, get_or, set, map, replicate, Option, Some, sym, refl, ap, ◌∙◌, subst, arith, get_or-set_same, get_or-set_other, ◌&&◌}
 use Rattle.std.specs.Prelude.{Contains, not, nat_le, nat_lt}
 use Rattle.std.specs.List.{range_with_len}
 use Rattle.std.proofs.lemmas.Bool.{cases_eq, cases_Bool, eq-eqb, ne_eqb, and_parts, ltb-true, leb-true, eqb-true, eqb-false, cases_lt}
@@ -10,7 +10,6 @@ use lib.Seq.{map-set, map-set_same}
 use mathlib.Core.Option.{some}
 use lib.ListN.{get_elem?}
 use Rattle.dr_seq.specs.declared.event.Event.{Event}
-use Rattle.dr_seq.specs.Event.{no_event}
 use Rattle.dr_seq.specs.Rounds.{entry_of}
 use Rattle.dr_core.specs.declared.command.Command.{Command}
 use Rattle.dr_core.specs.declared.command.Command.TheVariants.{Claim, Write, Publish, Poll, Complete, Halt}
@@ -74,7 +73,7 @@ keeps_step k (ReceiverLoadsSecond h) w u H K = subst (KeepsRule k) (sym H.2.3) (
 keeps_step k (ReceiverCompletes h n) w u H K = subst (KeepsRule k) (sym H.2.2) (keeps_completes k w h n H.0 H.1 H.2.0 H.2.1 K)
 keeps_step k HalterHalts w u H K = subst (KeepsRule k) (sym H) (keeps_halter_halts k w K)
 
-pub keeps_runs : (k : Shape) (steps : List Step) (es : Transcript) (w u : World) → Runs k steps es w u → KeepsRule k w → KeepsRule k u
+pub keeps_runs : (k : Shape) (steps : List Step) (es : Transcript Event) (w u : World) → Runs k steps es w u → KeepsRule k w → KeepsRule k u
 keeps_runs k [] es w u R K = subst (KeepsRule k) R.1 K
 keeps_runs k (s ∷ steps) es w u R K = keeps_runs k steps R.1 R.0 u R.4 (keeps_step k s w R.0 R.2 K)
 
@@ -95,7 +94,7 @@ map_but f g a (suc n) (suc j) v lt here same = let at : a + 1 + j ≡ a + suc j 
 abbrev pub counts_of : Shape → List ℕ → List ℕ
 counts_of k words = map (λ h. word_at words (count_word h)) (range_with_len 0 (handlers_of k))
 
-count_at : (k : Shape) (words : List ℕ) (h : ℕ) → h < handlers_of k → get_or (counts_of k words) h 0 ≡ word_at words (count_word h)
+pub count_at : (k : Shape) (words : List ℕ) (h : ℕ) → h < handlers_of k → get_or (counts_of k words) h 0 ≡ word_at words (count_word h)
 count_at k words h lt = get_or-map-range_with_len (λ h. word_at words (count_word h)) 0 (handlers_of k) h h 0 lt (omega arith)
 
 counts_stay : (k : Shape) (words : List ℕ) (i v : ℕ) → ((h : ℕ) → h < handlers_of k → count_word h ≢ i) → counts_of k (set words i v) ≡ counts_of k words
@@ -110,16 +109,16 @@ count_set k words h v lt inside =
     (let z : 0 + h ≡ h = omega arith in ap (λ (j : ℕ). word_at (set words (count_word h) v) (count_word j)) z ∙ get_or-set_same words (count_word h) v 0 inside)
     (λ j ne. get_or-set_other words (count_word h) (count_word j) v 0 (λ (e : count_word j ≡ count_word h). ne (omega arith)))
 
-abbrev Leads : Shape → Transcript → State → State → Type 0
+abbrev Leads : Shape → Transcript Event → State Event → State Event → Type 0
 Leads k es m n = LeadsFrom (ring_setup k) m es n
 
-leads_on : (c : Setup) (m n end : State) (es more : Transcript) → LeadsFrom c m es n → LeadsFrom c n more end → LeadsFrom c m (es ++ more) end
-leads_on c m n end [] more a b = subst (λ (x : State). LeadsFrom c x more end) (sym a) b
+leads_on : (c : Setup) (m n end : State Event) (es more : Transcript Event) → LeadsFrom c m es n → LeadsFrom c n more end → LeadsFrom c m (es ++ more) end
+leads_on c m n end [] more a b = subst (λ (x : State Event). LeadsFrom c x more end) (sym a) b
 leads_on c m n end (e ∷ es) more a b = (a.0, a.1, leads_on c (machine.step c m e.command).state n end es more a.2 b)
 
-leads_one : (k : Shape) (command : Command) (reply : Reply) (values : List Event) (m n : State)
+leads_one : (k : Shape) (command : Command Event) (reply : Reply) (values : List Event) (m n : State Event)
     → machine.step (ring_setup k) m command ≡ record { reply = reply; values = values; state = n } → Leads k (entry command reply values) m n
-leads_one k command reply values m n is = (ap (λ (o : Outcome). o.reply) is, ap (λ (o : Outcome). o.values) is, ap (λ (o : Outcome). o.state) is)
+leads_one k command reply values m n is = (ap (λ (o : Outcome Event). o.reply) is, ap (λ (o : Outcome Event). o.values) is, ap (λ (o : Outcome Event). o.state) is)
 
 -- the picture, by its parts
 abbrev takens : World → List ℕ
@@ -132,7 +131,7 @@ same_taken : (w : World) (h : ℕ) (r q : ReceiverRecord) → get_elem? w.receiv
     → map taken_of (set w.receivers h q) ≡ takens w
 same_taken w h r q at same = map-set_same taken_of w.receivers h q r (same ∙ ap taken_of (sym (value_at w.receivers h r r at)))
 
-taken_at : (w : World) (h : ℕ) (r : ReceiverRecord) → get_elem? w.receivers h ≡ some r → get_or (takens w) h 0 ≡ length r.received
+pub taken_at : (w : World) (h : ℕ) (r : ReceiverRecord) → get_elem? w.receivers h ≡ some r → get_or (takens w) h 0 ≡ length r.received
 taken_at w h r at = get_or-map taken_of w.receivers h r 0 (at_below w.receivers h r at) ∙ ap taken_of (value_at w.receivers h r r at)
 
 same_picture : (k : Shape) (w : World) (h : ℕ) (r q : ReceiverRecord) → get_elem? w.receivers h ≡ some r → taken_of q ≡ taken_of r
@@ -146,7 +145,7 @@ sender_inside : (k : Shape) (w : World) (p : ℕ) (r : SenderRecord) → get_ele
 sender_inside k w p r at K = let b = at_below w.senders p r at in let e = K.inlets in omega arith
 
 -- what a claim has room for, the machine has
-claim_room : (k : Shape) (w : World) (p c n : ℕ) (r : SenderRecord) (m : State) → m.completed ≡ counts_of k w.words → get_elem? w.senders p ≡ some r
+claim_room : (k : Shape) (w : World) (p c n : ℕ) (r : SenderRecord) (m : State Event) → m.completed ≡ counts_of k w.words → get_elem? w.senders p ≡ some r
     → SeesRoom k r c n → KeepsRule k w → c + n ≤ k.size + least_completed m (finals k.upstreams)
 claim_room k w p c n r m same at room K =
     let g : IsGated k.upstreams nobody (λ h. 0) 0 = K.shape.graph.gate nobody (λ h. 0) (λ h u has. omega arith) 0 K.shape.graph.some refl in
@@ -189,12 +188,12 @@ lead_claim k w p c n r at some_one room found K =
     subst (λ (b : Bool). Leads k (entry (Claim p n) (Claimed c (c + n - 1)) []) (shown k w.stages (takens w) (counts_of k w.words) b)
     (picture_of k (sender_claims w p r c n))) (sym off)
     (subst (λ (x : ℕ). Leads k (entry (Claim p n) (Claimed x (x + n - 1)) []) m (picture_of k (sender_claims w p r c n))) (sym now)
-    (subst (λ (x : State). Leads k (entry (Claim p n) (Claimed (length w.stages) (length w.stages + n - 1)) []) m x) end one))
+    (subst (λ (x : State Event). Leads k (entry (Claim p n) (Claimed (length w.stages) (length w.stages + n - 1)) []) m x) end one))
 
 abbrev exchanged : World → ℕ → SenderRecord → ℕ → ℕ → Bool → World
 exchanged w p r c n b = if b then sender_claims w p r c n else sender_knows w p (sender_looked r claim_word (word_at w.words claim_word))
 
-abbrev claim_of : ℕ → ℕ → ℕ → Bool → Transcript
+abbrev claim_of : ℕ → ℕ → ℕ → Bool → Transcript Event
 claim_of p c n b = if b then entry (Claim p n) (Claimed c (c + n - 1)) [] else []
 
 lead_exchange : (k : Shape) (w : World) (p c n : ℕ) (r : SenderRecord) → get_elem? w.senders p ≡ some r → 0 < n → SeesRoom k r c n → KeepsRule k w
@@ -239,7 +238,7 @@ lead_second k w p s first v r t who at own unshown half =
     let end = picture_brings k w p s r t (written event) (payload_word k s 1) v (omega arith) in
     subst (λ (h : Option ℕ). Leads k (write_of p s h v) (picture_of k w) (picture_of k (sender_brings w p r s t (written event) (payload_word k s 1) v)))
     (sym has)
-    (subst (λ (x : State). Leads k (entry (Write p s event) Written []) (picture_of k w) x) (sym end)
+    (subst (λ (x : State Event). Leads k (entry (Write p s event) Written []) (picture_of k w) x) (sym end)
     (leads_one k (Write p s event) Written [] (picture_of k w) _
     (write_step k w.stages p s event t (takens w) (counts_of k w.words) (halted w.words) who at own unshown)))
 
@@ -248,7 +247,7 @@ lead_publish : (k : Shape) (w : World) (p s : ℕ) (r : SenderRecord) (t : Stage
     → Leads k (entry (Publish p s s) Published []) (picture_of k w) (picture_of k (sender_brings w p r s t published (mark_word k s) (entry_of k.size s)))
 lead_publish k w p s r t event who at own unshown whole =
     let end = picture_brings k w p s r t published (mark_word k s) (entry_of k.size s) (omega arith) in
-    subst (λ (x : State). Leads k (entry (Publish p s s) Published []) (picture_of k w) x) (sym end)
+    subst (λ (x : State Event). Leads k (entry (Publish p s s) Published []) (picture_of k w) x) (sym end)
     (leads_one k (Publish p s s) Published [] (picture_of k w) _
     (publish_step k w.stages p s event t (takens w) (counts_of k w.words) (halted w.words) who at own unshown whole))
 
@@ -261,7 +260,7 @@ lead_halt k w K =
     let on : halted (halted_words w) ≡ true = ap is_halted (get_or-set_same w.words claim_word (halted_from n) 0 (omega arith)) ∙ is_halted_from n in
     let end : shown k w.stages (takens w) (counts_of k w.words) true ≡ shown k w.stages (takens w) (counts_of k (halted_words w)) (halted (halted_words w)) =
     λ i. shown k w.stages (takens w) (sym counts i) (sym on i) in
-    subst (λ (x : State). Leads k (entry Halt Halting []) (picture_of k w) x) end
+    subst (λ (x : State Event). Leads k (entry Halt Halting []) (picture_of k w) x) end
     (leads_one k Halt Halting [] (picture_of k w) (shown k w.stages (takens w) (counts_of k w.words) true) refl)
 
 -- what is offered to a handler is claimed
@@ -344,7 +343,7 @@ least_low f (x ∷ []) (suc i) u lt e = absurd (omega arith)
 least_low f (x ∷ y ∷ ys) zero u lt e = let s = ap f e in omega arith
 least_low f (x ∷ y ∷ ys) (suc i) u lt e = let rest = least_low f (y ∷ ys) i u (omega arith) e in omega arith
 
-offered_below : (m : State) (us : List ℕ) (u : ℕ) → Contains us u → machine.offered m us ≤ get_or m.completed u 0
+offered_below : (m : State Event) (us : List ℕ) (u : ℕ) → Contains us u → machine.offered m us ≤ get_or m.completed u 0
 offered_below m [] u has = absurd (let lt = has.1 in omega arith)
 offered_below m (x ∷ xs) u has = least_low (λ h. get_or m.completed h 0) (x ∷ xs) has.0 u has.1 has.2
 
@@ -367,9 +366,6 @@ offered_next k w h r at low K =
     (λ u has. (let i = upstream_inside k K.shape.graph h u inside has in let c = count_at k w.words u i in let a = low.completed u has in
     let b = last_look_le k w.words 0 r.looks (count_word u) (omega arith) was.looks in omega arith))
 
-event_or_none : Option Event → Event
-event_or_none o = unwrap_or o no_event
-
 lead_take : (k : Shape) (w : World) (h first : ℕ) (r : ReceiverRecord) → get_elem? w.receivers h ≡ some r → r.half ≡ Some first → IsBelowBarrier k h r
     → KeepsRule k w
     → Leads k (poll_of h r.half (word_at w.words (payload_word k (length r.received) 1)) (length r.received) (available (ring_setup k) (picture_of k w) h))
@@ -383,20 +379,19 @@ lead_take k w h first r at half low K =
     let is : get_or ts h 0 ≡ n = taken_at w h r at in
     let more = offered_next k w h r at low K in
     let to = available (ring_setup k) m h in
-    let value : unwrap_or (m.written n) no_event ≡ found =
-    ap (λ (t : Stage). unwrap_or t.event no_event) (at_stage w.stages n x.0 x.1) ∙ ap (λ (o : Option Event). unwrap_or o no_event) x.3 in
-    let step = take_step (ring_setup k) m h inside refl (omega arith) in
+    let value : m.written n ≡ Some found = ap (λ (t : Stage). t.event) (at_stage w.stages n x.0 x.1) ∙ x.3 in
+    let step = take_step (ring_setup k) m h found inside refl (ap m.written is ∙ value) (omega arith) in
     let set_taken : set ts h (n + 1) ≡ map taken_of (set w.receivers h (took r found)) =
     sym (map-set taken_of w.receivers h (took r found) ∙ ap (λ (j : ℕ). set ts h j) (length_push r.received found)) in
     let end = picture_of k (receiver_knows w h (took r found)) in
     let there : machine.step (ring_setup k) m (Poll h 1) ≡ record { reply = Batch n 1 (n + 1 == to); values = found ∷ []; state = end } =
     step ∙ (λ i. record {
       reply = Batch (is i) 1 (is i + 1 == to);
-      values = unwrap_or (m.written (is i)) no_event ∷ [];
+      values = found ∷ [];
       state =
           record m { taken = set ts h (is i + 1) };
     })
-    ∙ (λ i. record { reply = Batch n 1 (n + 1 == to); values = value i ∷ []; state = record m { taken = set_taken i } }) in
+    ∙ (λ i. record { reply = Batch n 1 (n + 1 == to); values = found ∷ []; state = record m { taken = set_taken i } }) in
     subst (λ (o : Option ℕ). Leads k (poll_of h o (word_at w.words (payload_word k n 1)) n to) m end) (sym half)
     (leads_one k (Poll h 1) (Batch n 1 (n + 1 == to)) (found ∷ []) m end there)
 
@@ -414,7 +409,7 @@ lead_complete k w h n r at rise le K =
     let taken = same_taken w h r (completed_to r n) at refl in
     let end : record m { completed = set (counts_of k w.words) h n } ≡ picture_of k
     (record w { words = us; receivers = set w.receivers h (completed_to r n) }) = λ i. shown k w.stages (sym taken i) (sym counts i) (sym still i) in
-    subst (λ (x : State). Leads k (entry (Complete h n) Completed []) m x) end
+    subst (λ (x : State Event). Leads k (entry (Complete h n) Completed []) m x) end
     (leads_one k (Complete h n) Completed [] m _ (complete_step (ring_setup k) m h n inside refl (omega arith) (omega arith)))
 
 pub lead_step : (k : Shape) (s : Step) (w u : World) → Happens k s w u → KeepsRule k w → Leads k (entries_of k s w) (picture_of k w) (picture_of k u)
@@ -436,19 +431,19 @@ lead_step k (SenderHalts p) w u H K = subst (λ (x : World). Leads k (entry Halt
 lead_step k (ReceiverLooksAtClaims h) w u H K =
     let n = word_at w.words claim_word in
     subst (λ (r : ReceiverRecord). Leads k (told_by_claims h r n) (picture_of k w) (picture_of k u)) (sym (is_receiver w h H.0 H.1))
-    (subst (λ (x : State). Leads k (told_by_claims h H.0 n) (picture_of k w) x) (same_picture k w h H.0 (claims_looked H.0 n) H.1 refl
+    (subst (λ (x : State Event). Leads k (told_by_claims h H.0 n) (picture_of k w) x) (same_picture k w h H.0 (claims_looked H.0 n) H.1 refl
     ∙ ap (picture_of k) (sym H.2)) (lead_claims_look k w h H.0 H.1 K))
 lead_step k (ReceiverLooksAtMark h) w u H K =
     let n = word_at w.words (mark_word k H.0.seen) in
     subst (λ (r : ReceiverRecord). Leads k (told_gated h r (is_unmarked k h r (word_at w.words (mark_word k r.seen)))) (picture_of k w) (picture_of k u))
     (sym (is_receiver w h H.0 H.1))
-    (subst (λ (x : State). Leads k (told_gated h H.0 (is_unmarked k h H.0 n)) (picture_of k w) x) (same_picture k w h H.0 (mark_looked k H.0 n) H.1 refl
+    (subst (λ (x : State Event). Leads k (told_gated h H.0 (is_unmarked k h H.0 n)) (picture_of k w) x) (same_picture k w h H.0 (mark_looked k H.0 n) H.1 refl
     ∙ ap (picture_of k) (sym H.2))
     (lead_gated k w h H.0 (is_unmarked k h H.0 n) H.1 (unmarked_offers k w h H.0 H.1 K) K))
 lead_step k (ReceiverLooksAtCount h c) w u H K =
     let n = word_at w.words (count_word c) in
     subst (λ (r : ReceiverRecord). Leads k (told_gated h r (nat_le n (length r.received))) (picture_of k w) (picture_of k u)) (sym (is_receiver w h H.0 H.1))
-    (subst (λ (x : State). Leads k (told_gated h H.0 (nat_le n (length H.0.received))) (picture_of k w) x)
+    (subst (λ (x : State Event). Leads k (told_gated h H.0 (nat_le n (length H.0.received))) (picture_of k w) x)
     (same_picture k w h H.0 (receiver_looked H.0 (count_word c) n) H.1 refl ∙ ap (picture_of k) (sym H.2.1))
     (lead_gated k w h H.0 (nat_le n (length H.0.received)) H.1 (behind_offers k w h c H.0 H.1 H.2.0 K) K))
 lead_step k (ReceiverLoadsFirst h) w u H K = same_picture k w h H.0 (half_taken H.0 (word_at w.words (payload_word k (length H.0.received) 0))) H.1 refl
@@ -466,9 +461,9 @@ lead_step k (ReceiverCompletes h n) w u H K =
     (lead_complete k w h n H.0 H.1 H.2.0 H.2.1 K)
 lead_step k HalterHalts w u H K = subst (λ (x : World). Leads k (entry Halt Halting []) (picture_of k w) (picture_of k x)) (sym H) (lead_halt k w K)
 
-pub lead_runs : (k : Shape) (steps : List Step) (es : Transcript) (w u : World) → Runs k steps es w u → KeepsRule k w
+pub lead_runs : (k : Shape) (steps : List Step) (es : Transcript Event) (w u : World) → Runs k steps es w u → KeepsRule k w
     → Leads k es (picture_of k w) (picture_of k u)
-lead_runs k [] es w u R K = subst (λ (xs : Transcript). Leads k xs (picture_of k w) (picture_of k u)) (sym R.0) (ap (picture_of k) R.1)
-lead_runs k (s ∷ steps) es w u R K = subst (λ (xs : Transcript). Leads k xs (picture_of k w) (picture_of k u)) (sym R.3)
+lead_runs k [] es w u R K = subst (λ (xs : Transcript Event). Leads k xs (picture_of k w) (picture_of k u)) (sym R.0) (ap (picture_of k) R.1)
+lead_runs k (s ∷ steps) es w u R K = subst (λ (xs : Transcript Event). Leads k xs (picture_of k w) (picture_of k u)) (sym R.3)
     (leads_on (ring_setup k) (picture_of k w) (picture_of k R.0) (picture_of k u) (entries_of k s w) R.1 (lead_step k s w R.0 R.2 K)
     (lead_runs k steps R.1 R.0 u R.4 (keeps_step k s w R.0 R.2 K)))

@@ -15,7 +15,7 @@ use Rattle.dr_senders.specs.declared.record.ReceiverRecord.{ReceiverRecord}
 use Rattle.dr_senders.specs.Meaning.Records.{claims_looked}
 use Rattle.dr_senders.specs.Calls.Ends.{count_looks}
 use Rattle.dr_ring.specs.Calls.Receiving.{offered_by}
-use Rattle.dr_senders.specs.Calls.Receiving.{ups_of, walked, WalksTo, PollLooks, LooksInOrder, looked_round, received_all, Answers}
+use Rattle.dr_senders.specs.Calls.Receiving.{ups_of, walked, WalksTo, PollLooks, LooksInOrder, looked_round, received_all, offer, Answers}
 use Rattle.dr_senders.specs.Inside.Parts.{Walked, receiver_saw, IsOfferedUpTo, LooksAtUpstreams, Offered, nothing_offered}
 use Rattle.dr_senders.specs.Inside.Fits.{ReceiverFits}
 use Rattle.dr_ring.proofs.Looking.{no_looks_at}
@@ -118,14 +118,16 @@ pub poll_nothing : (k : Shape) (r s : ReceiverRecord) (out : List Event) (found 
     → Answers k r out s out (saw k (claims_looked r found) s found available upto O) (nothing_offered (is_halted found) (claimed_in found) taken)
 poll_nothing k r s out found available upto taken next O ahead none =
     let seen = saw k (claims_looked r found) s found available upto O in let round = round_of k r s found available upto O in
+    let least = O.taken in let offered = O.offered in
+    let level : offer seen ≡ length r.received = omega arith in
     let P : Polled → Type 0 = λ p. Answers k r out s out seen p in
     elim (cases_lt taken (claimed_in found)) [
       | inl more ↦ subst P (sym (gates (is_halted found) (claimed_in found) taken more))
           (omega arith, (let e = O.offered in let t = O.taken in omega arith), round, refl)
       | inr all ↦ elim (cases_Bool (is_halted found)) [
         | inl on ↦ subst P (sym (drains (is_halted found) (claimed_in found) taken on all))
-            (on, omega arith, round, ap (λ (q : ReceiverRecord). q.told) round ∙ is_told r found on (omega arith), refl)
-        | inr off ↦ subst P (sym (idles (is_halted found) (claimed_in found) taken off all)) (off, omega arith, round, refl)
+            (on, omega arith, level, round, ap (λ (q : ReceiverRecord). q.told) round ∙ is_told r found on (omega arith), refl)
+        | inr off ↦ subst P (sym (idles (is_halted found) (claimed_in found) taken off all)) (off, omega arith, level, round, refl)
       ]
     ]
 

@@ -1,4 +1,5 @@
 -- What a sender's calls answer as those of any exchange's end.
+use Rattle.dr_seq.specs.declared.event.Event.{Event}
 use Rattle.std.proofs.Common.{◌≡◌, ℕ, ◌+◌, ◌-◌, inl, inr, List, [], ◌∷◌, ◌++◌, refl, sym, ◌∙◌, subst}
 use Rattle.std.specs.Prelude.{flat_map, None, Result, Ok, Err}
 use Rattle.std.specs.List.{range_with_len}
@@ -37,8 +38,8 @@ weaker_stretch f g each [] = tt
 weaker_stretch f g each (s ∷ ss) = weaker_join (f s) (g s) (flat_map f ss) (flat_map g ss) (each s) (weaker_stretch f g each ss)
 
 -- of a publication an end tells whether its stretch is one
-publish_weaker : (lo hi : ℕ) (tests : PublishTests Verdict) → tests.bad_count ≡ (publish_tests None lo hi).bad_count
-    → Weaker (publish_causes lo hi tests) (publish_causes lo hi (publish_tests None lo hi))
+publish_weaker : (lo hi : ℕ) (tests : PublishTests Verdict) → tests.bad_count ≡ (publish_tests {E = Event} None lo hi).bad_count
+    → Weaker (publish_causes lo hi tests) (publish_causes lo hi (publish_tests {E = Event} None lo hi))
 publish_weaker lo hi tests bad = (
   refl,
   (λ h. tt),
@@ -52,17 +53,17 @@ publish_weaker lo hi tests bad = (
       (λ h. tt),
       (λ h. refl),
       weaker_join (flat_map (λ s. sequence_causes (tests.of_sequence s)) (range_with_len lo (hi + 1 - lo)))
-          (flat_map (λ s. sequence_causes (end_sequence_tests None s)) (range_with_len lo (hi + 1 - lo))) _ _
-          (weaker_stretch (λ s. sequence_causes (tests.of_sequence s)) (λ s. sequence_causes (end_sequence_tests None s))
+          (flat_map (λ s. sequence_causes (end_sequence_tests {E = Event} None s)) (range_with_len lo (hi + 1 - lo))) _ _
+          (weaker_stretch (λ s. sequence_causes (tests.of_sequence s)) (λ s. sequence_causes (end_sequence_tests {E = Event} None s))
           (λ s. (refl, (λ h. tt), (λ h. refl), (refl, (λ h. tt), (λ h. refl), (refl, (λ h. tt), (λ h. refl), tt)))) (range_with_len lo (hi + 1 - lo)))
           (refl, (λ h. tt), (λ h. refl), tt),
     ),
   ),
 )
 
-pub publish_answers : (lo hi : ℕ) (tests : PublishTests Verdict) (result : Result (Unit {0}) Refusal) → tests.bad_count ≡ (publish_tests None lo hi).bad_count
-    → IsAnswerOf (publish_causes lo hi tests) (as_end result) → PublishAnswers None lo hi (as_end result)
-publish_answers lo hi tests (Ok _) bad answer = weaker_none (publish_causes lo hi tests) (publish_causes lo hi (publish_tests None lo hi))
+pub publish_answers : (lo hi : ℕ) (tests : PublishTests Verdict) (result : Result (Unit {0}) Refusal) → tests.bad_count ≡ (publish_tests {E = Event} None lo hi).bad_count
+    → IsAnswerOf (publish_causes lo hi tests) (as_end result) → PublishAnswers {E = Event} None lo hi (as_end result)
+publish_answers lo hi tests (Ok _) bad answer = weaker_none (publish_causes lo hi tests) (publish_causes lo hi (publish_tests {E = Event} None lo hi))
     (publish_weaker lo hi tests bad) answer
 publish_answers lo hi tests (Err refusal) bad answer = weaker_first refusal (publish_causes lo hi tests)
-    (publish_causes lo hi (publish_tests None lo hi)) (publish_weaker lo hi tests bad) answer
+    (publish_causes lo hi (publish_tests {E = Event} None lo hi)) (publish_weaker lo hi tests bad) answer

@@ -24,7 +24,7 @@ use Rattle.dr_senders.proofs.Machine.{at_stage, owner_at}
 abbrev Decides : Bool → Bool → Bool → Bool → Type 0
 Decides b c d e = ((b ≡ true) × (e ≡ false)) ⊎ ((b ≡ false) × (((c ≡ true) × (e ≡ true)) ⊎ ((c ≡ false) × (d ≡ true) × (e ≡ false))))
 
-first_cause : (m : State) (o : Outcome) (a b c d e : Bool) → a ≡ false → Decides b c d e
+first_cause : (m : State Event) (o : Outcome Event) (a b c d e : Bool) → a ≡ false → Decides b c d e
     → unless ((a, NoProducer) ∷ (b, NotClaimed) ∷ (c, AlreadyPublished) ∷ (d, NotClaimed) ∷ []) m o ≡ unchanged (Refused (if e then AlreadyPublished else NotClaimed)) m
 first_cause m o a b c d e none (inl x) =
     (λ i. unless ((none i, NoProducer) ∷ (x.0 i, NotClaimed) ∷ (c, AlreadyPublished) ∷ (d, NotClaimed) ∷ []) m o)

@@ -7,3 +7,4 @@ pub mod Writing
 pub mod Receiving
 pub mod Making
 pub mod Settling
+pub mod Replies

@@ -11,7 +11,7 @@ mod sender;
 pub(crate) mod settling;
 
 ghost use Rattle.std.specs.Prelude.{List, ℕ, ◌≡◌, ◌<◌, ◌≤◌, ◌↔◌, true, length, slice_index};
-ghost use Rattle.dr_seq.specs.declared.event.Event.{Event as EventValue};
+ghost use Rattle.dr_seq.specs.declared.event.Event.{Event};
 ghost use Rattle.dr_seq.specs.Rounds.{entry_of};
 ghost use Rattle.dr_core.specs.Meaning.Transcript.{Transcript, LeadsTo};
 ghost use Rattle.dr_core.specs.Meaning.Laws.{Laws};
@@ -20,11 +20,13 @@ ghost use Rattle.dr_senders.specs.Meaning.Words.{claim_word, mark_word, is_halte
 ghost use Rattle.dr_senders.specs.Meaning.Rule.{World, KeepsRule};
 ghost use Rattle.dr_senders.specs.declared.record.Step.{Step};
 ghost use Rattle.dr_senders.specs.Meaning.Moments.{Runs, new_world, picture_of, IsShut, RefusesByMark};
+ghost use Rattle.dr_senders.specs.Calls.Replies.{RepliesAsAnswered};
 
 use crate::plan::Plan;
 use crate::record::View;
 use atomic_table::{Seat, Shared, Table, TableRule};
 use dr_core::every_transcript_is_lawful;
+use dr_seq::Event;
 pub use halter::Halter;
 pub(crate) use receiver::ReceiverStation;
 pub(crate) use sender::SenderStation;
@@ -77,15 +79,17 @@ impl Names for Brand {
 /// their events lead the machine to the ring's picture, and the transcript has the five laws. A
 /// sequence is published exactly where the mark in its slot is of its round or a later one, so one
 /// look at the mark tells it, and with it why the machine refuses a write of a sequence that is not
-/// the sender's own, or is published. Once a ring is halted, nothing more is claimed. It does nothing when it
+/// the sender's own, or is published. A refused claim by what its deciding look finds, a write of
+/// one's own sequence and a completion are answered as the machine then replies on the picture. Once a ring is halted, nothing more is claimed. It does nothing when it
 /// runs: the contract is the theorem.
 pub fn moments()
-    ensures rule { (k : Shape) (steps : List Step) (entries : Transcript) (w : World) → IsShape k → Runs k steps entries (new_world k) w → KeepsRule k w }
-    ensures leads { (k : Shape) (steps : List Step) (entries : Transcript) (w : World) → IsShape k → Runs k steps entries (new_world k) w → LeadsTo (ring_setup k) entries (picture_of k w) }
-    ensures laws { (k : Shape) (steps : List Step) (entries : Transcript) (w : World) → IsShape k → Runs k steps entries (new_world k) w → Laws (ring_setup k) entries }
-    ensures marks { (k : Shape) (steps : List Step) (entries : Transcript) (w : World) → IsShape k → Runs k steps entries (new_world k) w → (s : ℕ) → ((picture_of k w).published s ≡ true) ↔ (entry_of k.size s ≤ slice_index w.words (mark_word k s)) }
-    ensures refused { (k : Shape) (steps : List Step) (entries : Transcript) (w : World) → IsShape k → Runs k steps entries (new_world k) w → (p s : ℕ) (event : EventValue) → p < k.senders → IsShut w p s → RefusesByMark k w p s event }
-    ensures halted { (k : Shape) (steps more : List Step) (entries rest : Transcript) (w u : World) → IsShape k → Runs k steps entries (new_world k) w → Runs k more rest w u → is_halted (slice_index w.words claim_word) ≡ true → length u.stages ≡ length w.stages }
+    ensures rule { (k : Shape) (steps : List Step) (entries : Transcript Event) (w : World) → IsShape k → Runs k steps entries (new_world k) w → KeepsRule k w }
+    ensures leads { (k : Shape) (steps : List Step) (entries : Transcript Event) (w : World) → IsShape k → Runs k steps entries (new_world k) w → LeadsTo (ring_setup k) entries (picture_of k w) }
+    ensures laws { (k : Shape) (steps : List Step) (entries : Transcript Event) (w : World) → IsShape k → Runs k steps entries (new_world k) w → Laws (ring_setup k) entries }
+    ensures marks { (k : Shape) (steps : List Step) (entries : Transcript Event) (w : World) → IsShape k → Runs k steps entries (new_world k) w → (s : ℕ) → ((picture_of k w).published s ≡ true) ↔ (entry_of k.size s ≤ slice_index w.words (mark_word k s)) }
+    ensures refused { (k : Shape) (steps : List Step) (entries : Transcript Event) (w : World) → IsShape k → Runs k steps entries (new_world k) w → (p s : ℕ) (event : Event) → p < k.senders → IsShut w p s → RefusesByMark k w p s event }
+    ensures replies { (k : Shape) (steps : List Step) (entries : Transcript Event) (w : World) → IsShape k → Runs k steps entries (new_world k) w → RepliesAsAnswered k w }
+    ensures halted { (k : Shape) (steps more : List Step) (entries rest : Transcript Event) (w u : World) → IsShape k → Runs k steps entries (new_world k) w → Runs k more rest w u → is_halted (slice_index w.words claim_word) ≡ true → length u.stages ≡ length w.stages }
 {
-    every_transcript_is_lawful();
+    every_transcript_is_lawful::<Event>();
 }

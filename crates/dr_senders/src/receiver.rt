@@ -93,7 +93,7 @@ impl Receiver {
     }
 }
 
-impl Outlet for Receiver {
+impl Outlet<Event> for Receiver {
     ghost use Rattle.dr_senders.specs.Calls.Ends.{EndPlace};
 
     ghost Kept = { EndPlace };

@@ -1,19 +1,20 @@
 //! An end that claims, writes and publishes.
 
-ghost use Rattle.std.specs.Prelude.{◌≡◌, ℕ, None};
-ghost use Rattle.dr_core.specs.Calls.Ends.{IsEndsAnswer, ClaimAnswers, WriteAnswers, PublishAnswers};
+ghost use Rattle.std.specs.Prelude.{◌≡◌, ◌+◌, ◌^◌, ◌≤◌, ℕ, None, length};
+ghost use Rattle.dr_seq.specs.declared.event.Event.{Event};
+ghost use Rattle.dr_core.specs.Calls.Ends.{IsEndsAnswer, ClaimAnswers, WriteAnswers, WriteAllAnswers, PublishAnswers};
 ghost use Rattle.dr_senders.specs.Meaning.Words.{claim_word, halted_from};
 ghost use Rattle.dr_senders.specs.Meaning.Records.{sender_looked};
 ghost use Rattle.dr_senders.specs.declared.record.Step.TheVariants.{SenderHalts};
 ghost use Rattle.dr_ring.specs.Calls.Ends.{looks_counted};
 ghost use Rattle.dr_senders.specs.Calls.Ends.{HasStored, sender_place};
 ghost use Rattle.dr_senders.specs.Calls.Sending.{ClaimCall, ClaimsAsEnd};
-ghost use Rattle.dr_senders.specs.Calls.Writing.{WriteCall, PublishCall};
+ghost use Rattle.dr_senders.specs.Calls.Writing.{WriteCall, WriteAllCall, PublishCall};
 
 use crate::claiming::ClaimFault;
 use crate::laws::SenderStation;
 use crate::owned::Owned;
-use dr_core::{Claimed, Inlet, Refusal, Trouble};
+use dr_core::{Claimed, Inlet, Refusal, Trouble, Wrote};
 use dr_seq::Event;
 use std::marker::Model;
 
@@ -131,7 +132,7 @@ impl Sender {
 /// It is not the only producer, so it shows nothing of what it sent. `NoRoom` stands for
 /// [`ClaimFault::Contended`] too: where another sender claimed meanwhile, nothing is known of the
 /// room, and whoever tries again where there is none tries that again.
-impl Inlet for Sender {
+impl Inlet<Event> for Sender {
     ghost use Rattle.dr_senders.specs.Calls.Ends.{EndPlace};
 
     ghost Kept = { EndPlace };
@@ -140,7 +141,7 @@ impl Inlet for Sender {
 
     fn try_claim(&mut self, n: u64) -> Result<Claimed, Trouble>
         ensures kept { sender_place self.new ≡ sender_place self.old }
-        ensures answer { ClaimAnswers None n result }
+        ensures answer { ClaimAnswers {E = Event} None n result }
         ensures own { ClaimsAsEnd self.old n self.new result }
     {
         match Sender::try_claim(self, n) {
@@ -152,15 +153,38 @@ impl Inlet for Sender {
 
     fn write(&mut self, s: u64, event: Event) -> Result<(), Trouble>
         ensures kept { sender_place self.new ≡ sender_place self.old }
-        ensures answer { WriteAnswers None s result }
+        ensures answer { WriteAnswers {E = Event} None s result }
         ensures own { IsEndsAnswer (WriteCall self.old s event self.new) result }
     {
         Ok(Sender::write(self, s, event)?)
     }
 
+    fn write_all(&mut self, lo: u64, events: &[Event]) -> Wrote
+        requires limit { lo + length events.now ≤ 2 ^ 62 }
+        ensures kept { sender_place self.new ≡ sender_place self.old }
+        ensures answer { WriteAllAnswers {E = Event} None lo (length events.now) result }
+        ensures own { WriteAllCall self.old lo events.now self.new result.count result.trouble }
+    {
+        for (k, event) in events.iter().enumerate() {
+            match Inlet::write(self, lo + k as u64, *event) {
+                Ok(()) => (),
+                Err(trouble) => {
+                    return Wrote {
+                        count: k,
+                        trouble: Some(trouble),
+                    };
+                }
+            }
+        }
+        Wrote {
+            count: events.len(),
+            trouble: None,
+        }
+    }
+
     fn publish(&mut self, lo: u64, hi: u64) -> Result<(), Trouble>
         ensures kept { sender_place self.new ≡ sender_place self.old }
-        ensures answer { PublishAnswers None lo hi result }
+        ensures answer { PublishAnswers {E = Event} None lo hi result }
         ensures own { IsEndsAnswer (PublishCall self.old lo hi self.new) result }
     {
         Ok(Sender::publish(self, lo, hi)?)

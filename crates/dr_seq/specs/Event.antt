@@ -1,6 +1,6 @@
--- What the ring carries.
+-- Events of two words.
 use Rattle.dr_seq.specs.declared.event.Event.{Event}
 
--- what a slot holds before anything is written to it
+-- both words 0, which stands where no event is known
 abbrev pub no_event : Event
 no_event = record { first = 0; second = 0 }

@@ -1,8 +1,8 @@
-//! What the ring carries.
+//! Events of two words, as the tools and the rings over atomic words carry them.
 
 ghost use Rattle.std.specs.Prelude.{◌≡◌, ◌↔◌, IsTrue};
 
-/// An event: two words, whose meaning is its producers' and handlers' own.
+/// An event of two words, whose meaning is its producers' and handlers' own.
 #[derive(Clone, Copy, Debug, PartialEq, Eq)]
 pub struct Event {
     pub first: u64,

@@ -1,6 +1,7 @@
 //! What a sequence number means to a ring of slots. [`Size`] is how many slots a ring has and
-//! where a sequence lies in it, [`Slots`] holds an [`Event`] a slot, [`Rounds`] knows which sequences
-//! are marked, and [`GateCache`] remembers the least count of the handlers that a claim waits for.
+//! where a sequence lies in it, [`Slots`] holds an event a slot, of any type that may be copied,
+//! [`Rounds`] knows which sequences are marked, and [`GateCache`] remembers the least count of the
+//! handlers that a claim waits for. [`Event`] is the event of two words that the tools send.
 #![tactic(auto)]
 
 pub mod event;

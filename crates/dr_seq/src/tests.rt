@@ -48,7 +48,7 @@ fn event(first: u64) -> Event {
 
 #[test]
 fn a_slot_is_used_again_a_round_later(rt: HostRuntime) -> Result<(), Fail> {
-    let mut slots = Slots::new(rt.alloc(), Size::new(4)?)?;
+    let mut slots = Slots::new(rt.alloc(), Size::new(4)?, Event::NONE)?;
     assert_eq!(rt; slots.get(3), Event::NONE);
     slots.put(3, event(1));
     slots.put(4, event(2));
@@ -61,7 +61,7 @@ fn a_slot_is_used_again_a_round_later(rt: HostRuntime) -> Result<(), Fail> {
 
 #[test]
 fn a_stretch_is_copied_round_the_end(rt: HostRuntime) -> Result<(), Fail> {
-    let mut slots = Slots::new(rt.alloc(), Size::new(4)?)?;
+    let mut slots = Slots::new(rt.alloc(), Size::new(4)?, Event::NONE)?;
     slots.put(3, event(3));
     slots.put(4, event(4));
     let mut out = [Event::NONE; 3];

@@ -1,6 +1,6 @@
 -- What an audit finds, from its two halves.
+use Rattle.std.specs.Prelude.{is_none, true, false}
 use Rattle.std.proofs.Common.{◌≡◌, ℕ, ◌<◌, ◌≤◌, List, sym, ap, ◌∙◌, length, slice_index}
-use Rattle.dr_seq.specs.declared.event.Event.{Event}
 use Rattle.dr_core.specs.Calls.CoreView.{retired_in}
 use Rattle.dr_core.specs.Meaning.Machine.{Setup, State, handlers, producers, opening}
 use Rattle.dr_core.specs.Meaning.Transcript.{Transcript, LeadsTo, taken_by, retired_by}
@@ -13,27 +13,28 @@ use Rattle.dr_shared.specs.Meaning.Audit.{Faults, FirstLacks, IsAudited, SentScr
 use Rattle.dr_shared.specs.Inside.Auditing.{Differs, SentIn, TookIn, Undrained}
 use Rattle.dr_shared.specs.Meaning.History.{History, IsRecorded, transcript}
 use Rattle.dr_shared.specs.Inside.Sequences.{Follows, Lists, published_of, sent_of}
+use Rattle.dr_core.proofs.FiveLaws.{reached}
 use Rattle.dr_core.proofs.Shown.{same_taken, same_retired}
 use Rattle.dr_shared.proofs.Reached.{IsHeld, held}
 use Rattle.dr_shared.proofs.Audited.{published_is, sent_is, received_all, received_some, merged, all_sent}
 use Rattle.dr_shared.proofs.Following.{follows_of}
 
 -- the core's law, as its public function states it
-abbrev pub AllTell : Type 0
-AllTell = (c : Setup) (t : Transcript) (m : State) → LeadsTo c t m → Tells t m
+abbrev pub AllTell : Type 0 → Type 0
+AllTell E = (c : Setup) (t : Transcript E) (m : State E) → LeadsTo c t m → Tells t m
 
-pub followed : (k : History) (r : IsRecorded k) (entries : List Entry) → entries ≡ k.entries
+pub followed : {E : Type 0} (k : History E) (r : IsRecorded k) (entries : List (Entry E)) → entries ≡ k.entries
     → Follows k.core.setup (opening k.core.setup) entries r.runs.state
 followed k r entries is = rw is (follows_of k.core.setup (opening k.core.setup) k.entries k.values r.runs.state r.kept r.runs.leads)
 
 -- the list that was made of a history's entries
-pub lists_of : (k : History) (r : IsRecorded k) (entries : List Entry) → entries ≡ k.entries → (list : List Sequence)
-    → ((c : Setup) (end : State) → Follows c (opening c) entries end → Lists list end) → Lists list r.runs.state
+pub lists_of : {E : Type 0} (k : History E) (r : IsRecorded k) (entries : List (Entry E)) → entries ≡ k.entries → (list : List (Sequence E))
+    → ((c : Setup) (end : State E) → Follows c (opening c) entries end → Lists list end) → Lists list r.runs.state
 lists_of k r entries is list made = made k.core.setup r.runs.state (followed k r entries is)
 
 -- a list of sequences in which each producer below a bound sent its script, and the published events
-pub record IsChecked (k : History) (r : IsRecorded k) (scripts : List (List Event)) (all : List Event) : Type 0 where
-  pub list : List Sequence
+pub record IsChecked {E : Type 0} (k : History E) (r : IsRecorded k) (scripts : List (List E)) (all : List E) : Type 0 where
+  pub list : List (Sequence E)
   pub lists : Lists list r.runs.state
   pub bound : ℕ
   pub few : producers k.core.setup.mode ≤ bound
@@ -44,12 +45,16 @@ pub record IsChecked (k : History) (r : IsRecorded k) (scripts : List (List Even
 first_same : (P Q : ℕ → Type 0) (n : ℕ) → ((k : ℕ) → P k → Q k) → ((k : ℕ) → Q k → P k) → FirstLacks P n → FirstLacks Q n
 first_same P Q n there back d = (λ q. d.0 (back n q), λ k l. there k (d.1 k l))
 
-module _ (all_tell : AllTell) (k : History) (r : IsRecorded k) where
+module _ {E : Type 0} (all_tell : AllTell E) (k : History E) (r : IsRecorded k) where
   told : Tells (transcript k) r.runs.state
   told = all_tell k.core.setup (transcript k) r.runs.state r.runs.leads
 
   is_held : IsHeld k.core.setup r.runs.state
   is_held = held k.core.setup (transcript k) r.runs.state r.runs.leads
+
+  -- what is published is written
+  are_written : (s : ℕ) → r.runs.state.published s ≡ true → is_none (r.runs.state.written s) ≡ false
+  are_written = (reached k.core.setup (transcript k) r.runs.state r.runs.leads).sound.marks.written
 
   -- what the core counts and remembers is what the transcript tells
   taken_is : (h : ℕ) → taken_by (transcript k) h ≡ slice_index k.core.taken h
@@ -58,7 +63,7 @@ module _ (all_tell : AllTell) (k : History) (r : IsRecorded k) where
   retired_is : (h : ℕ) → retired_by (transcript k) h ≡ retired_in k.core h
   retired_is h = told.retired h ∙ same_retired r.runs.shows h
 
-  module _ (list : List Sequence) (lists : Lists list r.runs.state) (scripts : List (List Event)) where
+  module _ (list : List (Sequence E)) (lists : Lists list r.runs.state) (scripts : List (List E)) where
     sent_as : (q : ℕ) → sent_of list q ≡ published_by (transcript k) q
     sent_as = sent_is k.core.setup (transcript k) r.runs.state told is_held list lists
 
@@ -68,7 +73,7 @@ module _ (all_tell : AllTell) (k : History) (r : IsRecorded k) where
     scripts_fault (NotDrained h) d = absurd d
     scripts_fault NoMemory d = tt
 
-  module _ (scripts : List (List Event)) (all : List Event) (checked : IsChecked k r scripts all) where
+  module _ (scripts : List (List E)) (all : List E) (checked : IsChecked k r scripts all) where
     published : all ≡ published_by_all (transcript k)
     published = checked.published ∙ published_is k.core.setup (transcript k) r.runs.state told is_held checked.list checked.lists
 
@@ -94,5 +99,5 @@ module _ (all_tell : AllTell) (k : History) (r : IsRecorded k) where
       received = λ h l left. received_all k.core.setup (transcript k) r.runs.state told is_held r.runs.lawful h l (took_all h (rw len at (drained h l)) left) ∙ sym published;
       left = λ h l gone. rw published (received_some k.core.setup (transcript k) r.runs.state told is_held r.runs.lawful h l);
       all = published;
-      merged = rw published (merged k.core.setup (transcript k) r.runs.state told is_held scripts sent);
+      merged = rw published (merged k.core.setup (transcript k) r.runs.state told is_held are_written scripts sent);
     }

@@ -3,7 +3,6 @@ use Rattle.std.proofs.Common.{◌≡◌, ◌^◌, ◌≤◌, ◌+◌, List, [], 
 use Rattle.std.specs.Prelude.{nat_lt, ◌==◌}
 use Rattle.std.proofs.lemmas.Bool.{cond_both}
 use Rattle.std.proofs.lemmas.List.{map_push, length-map, length-append}
-use Rattle.dr_seq.specs.declared.event.Event.{Event}
 use Rattle.dr_core.specs.declared.command.Command.{Command}
 use Rattle.dr_core.specs.declared.command.Command.TheVariants.{Claim, Write, Publish, Poll, Complete, Halt, Retire}
 use Rattle.dr_core.specs.declared.command.Reply.{Reply}
@@ -21,15 +20,15 @@ use Rattle.dr_shared.specs.Meaning.History.{is_kept, AreKept, transcript_of_entr
 
 -- The core's laws, as its public functions state them.
 
-abbrev pub AllLawful : Type 0
-AllLawful = (c : Setup) (t : Transcript) (m : State) → LeadsTo c t m → Laws c t
+abbrev pub AllLawful : Type 0 → Type 0
+AllLawful E = (c : Setup) (t : Transcript E) (m : State E) → LeadsTo c t m → Laws c t
 
-abbrev pub AllLeadOn : Type 0
-AllLeadOn = (t : Transcript) (old new : CoreView) (command : Command) (reply : Reply) (values : List Event)
+abbrev pub AllLeadOn : Type 0 → Type 0
+AllLeadOn E = (t : Transcript E) (old new : CoreView E) (command : Command E) (reply : Reply) (values : List E)
     → RunsTo old.setup t old → IsStep old command reply values new → RunsTo new.setup (t ++ entry_with command reply values ∷ []) new
 
 -- a new core's history
-pub recorded_none : AllLawful → (c : Setup) (core : CoreView) (entries : List Entry) (values : List Event)
+pub recorded_none : {E : Type 0} → AllLawful E → (c : Setup) (core : CoreView E) (entries : List (Entry E)) (values : List E)
     → core.setup ≡ c → entries ≡ [] → values ≡ [] → Shows core (opening c) → c.limit ≤ 2 ^ 62
     → IsRecorded (record { core = core; entries = entries; values = values })
 recorded_none lawful c core entries values same none none_given shows small =
@@ -46,10 +45,10 @@ recorded_none lawful c core entries values same none none_given shows small =
     })
 
 -- a reply that is not kept changes nothing
-abbrev Stays : State → Outcome → Type 0
+abbrev Stays : {E : Type 0} → State E → Outcome E → Type 0
 Stays m o = is_kept o.reply ≡ false → o.state ≡ m
 
-accepted_stays : (c : Setup) (m : State) (command : Command) → Stays m (accepted c m command)
+accepted_stays : {E : Type 0} (c : Setup) (m : State E) (command : Command E) → Stays m (accepted c m command)
 accepted_stays c m (Claim p n) e = absurd (cc)
 accepted_stays c m (Write p s v) e = absurd (cc)
 accepted_stays c m (Publish p lo hi) e = absurd (cc)
@@ -60,31 +59,31 @@ accepted_stays c m (Complete h upto) e = absurd (cc)
 accepted_stays c m Halt e = absurd (cc)
 accepted_stays c m (Retire h) e = absurd (cc)
 
-step_stays : (c : Setup) (m : State) (command : Command) → Stays m (step c m command)
+step_stays : {E : Type 0} (c : Setup) (m : State E) (command : Command E) → Stays m (step c m command)
 step_stays c m command = unless-cases (Stays m) (refusals c m command) m (accepted c m command) (λ r e. refl) (λ none. accepted_stays c m command)
 
 -- a call that is not kept
-pub recorded_same : (old new : CoreView) (entries : List Entry) (values more : List Event) (command : Command) (reply : Reply)
+pub recorded_same : {E : Type 0} (old new : CoreView E) (entries : List (Entry E)) (values more : List E) (command : Command E) (reply : Reply)
     → is_kept reply ≡ false → IsStep old command reply more new
     → IsRecorded (record { core = old; entries = entries; values = values }) → IsRecorded (record { core = new; entries = entries; values = values })
-recorded_same old new entries values more command reply e is r =
-    let m : State = r.runs.state in
+recorded_same {E} old new entries values more command reply e is r =
+    let m : State E = r.runs.state in
     let sh : Shows old m = r.runs.shows in
     let stays : (step old.setup m command).state ≡ m = step_stays old.setup m command (ap is_kept (is.replies m sh) ∙ e) in
     record { small = rw is.same_setup r.small; kept = r.kept; counted = r.counted; runs = subst (λ c. RunsTo c (transcript_of_entries entries values) new) (sym is.same_setup) (record { state = m; leads = r.runs.leads; shows = rw stays at (is.shown m sh); lawful = r.runs.lawful }) }
 
-kept_push : (entries : List Entry) (e : Entry) → AreKept entries → is_kept e.reply ≡ true → AreKept (entries ++ e ∷ [])
+kept_push : {E : Type 0} (entries : List (Entry E)) (e : Entry E) → AreKept entries → is_kept e.reply ≡ true → AreKept (entries ++ e ∷ [])
 kept_push [] e all keeps = (keeps, tt)
 kept_push (x ∷ xs) e all keeps = (all.0, kept_push xs e all.1 keeps)
 
 -- a call that is kept
-pub recorded_more : AllLeadOn
-    → (old new : CoreView) (entries : List Entry) (values more : List Event) (command : Command) (reply : Reply)
+pub recorded_more : {E : Type 0} → AllLeadOn E
+    → (old new : CoreView E) (entries : List (Entry E)) (values more : List E) (command : Command E) (reply : Reply)
     → is_kept reply ≡ true → length more ≡ count_in reply → IsStep old command reply more new
     → IsRecorded (record { core = old; entries = entries; values = values })
     → IsRecorded (record { core = new; entries = entries ++ record { command = command; reply = reply } ∷ []; values = values ++ more })
-recorded_more on old new entries values more command reply keeps len is r =
-    let e : Entry = record { command = command; reply = reply } in
+recorded_more {E} on old new entries values more command reply keeps len is r =
+    let e : Entry E = record { command = command; reply = reply } in
     let same : length (map (λ e. e.reply) entries) ≡ length (map (λ e. e.command) entries) = length-map entries (λ e. e.reply) ∙ sym (length-map entries (λ e. e.command)) in
     let push : transcript_of_entries (entries ++ e ∷ []) (values ++ more) ≡ transcript_of_entries entries values ++ entry_with command reply more ∷ [] =
     rw (map_push (λ e. e.command) entries e, map_push (λ e. e.reply) entries e)
@@ -97,7 +96,7 @@ recorded_more on old new entries values more command reply keeps len is r =
     }
 
 -- a step from a recorded core is an answer of the machine
-pub answered : (old new : CoreView) (entries : List Entry) (values more : List Event) (command : Command) (reply : Reply)
+pub answered : {E : Type 0} (old new : CoreView E) (entries : List (Entry E)) (values more : List E) (command : Command E) (reply : Reply)
     → IsStep old command reply more new → IsRecorded (record { core = old; entries = entries; values = values })
     → IsAnswer command reply more
 answered old new entries values more command reply is r = record {

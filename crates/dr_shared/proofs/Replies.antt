@@ -5,7 +5,7 @@ use Rattle.std.specs.Prelude.{nat_lt, ◌==◌, flat_map}
 use Rattle.std.specs.List.{range_with_len}
 use Rattle.std.proofs.lemmas.Bool.{cond_both, cases_Bool, or_parts, eqb-false, false≢true}
 use Rattle.std.proofs.lemmas.Bool.Decides.{nat_tests}
-use Rattle.dr_seq.specs.declared.event.Event.{Event}
+use Rattle.std.proofs.lemmas.Option.{slice_get_within}
 use Rattle.dr_core.specs.declared.command.Command.TheVariants.{Claim, Write, Publish, Poll, Complete}
 use Rattle.dr_core.specs.declared.command.Reply.{Reply}
 use Rattle.dr_core.specs.declared.command.Reply.TheVariants.{Claimed, Written, Published, Batch, Drained, Gating, Idle, Completed, Refused as RefusedReply}
@@ -19,7 +19,8 @@ use Rattle.dr_core.specs.Calls.Ends.{complete_tests, ClaimAnswers, StopsAt, Writ
 use Rattle.dr_core.specs.Meaning.Machine.{Setup, State, Outcome, next, available, cursor, refusals, publish_faults, accepted, unless, unchanged, step}
 use Rattle.dr_core.specs.Meaning.Transcript.{Transcript, LeadsTo}
 use Rattle.dr_core.proofs.Steps.{NoneHold}
-use Rattle.dr_shared.specs.Calls.Lock.{AreWritten, IsAnswer, IsWritten, StopsBy, one_of}
+use Rattle.dr_shared.specs.Calls.Lock.{AreWritten, IsAnswer, IsWritten, StopsBy}
+use Rattle.dr_shared.proofs.Picks.{there}
 use Rattle.dr_shared.proofs.Reached.{held, available_claimed}
 
 -- Verdicts of the machine's tests.
@@ -78,105 +79,105 @@ right_stretch tests told are lo zero = tt
 right_stretch tests told are lo (suc n) = right_join (tests lo) _ (told lo) _ (are lo) (right_stretch tests told are (lo + 1) n)
 
 -- either a test refuses, or none holds
-answers : (P : Outcome → Type 0) (tests : List (Bool × Refusal)) (m : State) (o : Outcome)
+answers : {E : Type 0} (P : Outcome E → Type 0) (tests : List (Bool × Refusal)) (m : State E) (o : Outcome E)
     → ((r : Refusal) → FirstOf r tests → P (unchanged (RefusedReply r) m)) → (NoneHold tests → P o) → P (unless tests m o)
 answers P [] m o refuses accepts = accepts tt
 answers P (test ∷ tests) m o refuses accepts =
     cond_both test.0 (unchanged (RefusedReply test.1) m) (unless tests m o) P (λ h. refuses test.1 (inl (h, refl)))
     (λ h. answers P tests m o (λ r f. refuses r (inr (h, f))) (λ n. accepts (h, n)))
 
-tells : (P : Reply → Type 0) (tests : List (Bool × Refusal)) (told : List (Verdict × Refusal)) (m : State) (o : Outcome)
+tells : {E : Type 0} (P : Reply → Type 0) (tests : List (Bool × Refusal)) (told : List (Verdict × Refusal)) (m : State E) (o : Outcome E)
     → AreRight tests told
     → ((r : Refusal) → IsFirst MayHold MayFail r told → P (RefusedReply r)) → (NoneHold tests → NoneHolds MayFail told → P o.reply)
     → P (unless tests m o).reply
-tells P tests told m o right refuses accepts =
-    answers (λ (x : Outcome). P x.reply) tests m o (λ r f. refuses r (first_right r tests told right f)) (λ none. accepts none (none_right tests told right none))
+tells {E} P tests told m o right refuses accepts =
+    answers (λ (x : Outcome E). P x.reply) tests m o (λ r f. refuses r (first_right r tests told right f)) (λ none. accepts none (none_right tests told right none))
 
 -- What each command's reply tells.
 
-abbrev pub ClaimTells : ℕ → Reply → Type 0
-ClaimTells n (Claimed lo hi) = ClaimAnswers None n (Ok (record { lo = lo; hi = hi }))
-ClaimTells n (RefusedReply r) = ClaimAnswers None n (Err (Refused r))
-ClaimTells n other = ⊥
+abbrev pub ClaimTells : Type 0 → ℕ → Reply → Type 0
+ClaimTells E n (Claimed lo hi) = ClaimAnswers {E = E} None n (Ok (record { lo = lo; hi = hi }))
+ClaimTells E n (RefusedReply r) = ClaimAnswers {E = E} None n (Err (Refused r))
+ClaimTells E n other = ⊥
 
-abbrev pub WriteTells : ℕ → Reply → Type 0
-WriteTells s Written = WriteAnswers None s (Ok tt)
-WriteTells s (RefusedReply r) = WriteAnswers None s (Err (Refused r))
-WriteTells s other = ⊥
+abbrev pub WriteTells : Type 0 → ℕ → Reply → Type 0
+WriteTells E s Written = WriteAnswers {E = E} None s (Ok tt)
+WriteTells E s (RefusedReply r) = WriteAnswers {E = E} None s (Err (Refused r))
+WriteTells E s other = ⊥
 
-abbrev pub PublishTells : ℕ → ℕ → Reply → Type 0
-PublishTells lo hi Published = PublishAnswers None lo hi (Ok tt)
-PublishTells lo hi (RefusedReply r) = PublishAnswers None lo hi (Err (Refused r))
-PublishTells lo hi other = ⊥
+abbrev pub PublishTells : Type 0 → ℕ → ℕ → Reply → Type 0
+PublishTells E lo hi Published = PublishAnswers {E = E} None lo hi (Ok tt)
+PublishTells E lo hi (RefusedReply r) = PublishAnswers {E = E} None lo hi (Err (Refused r))
+PublishTells E lo hi other = ⊥
 
-abbrev pub CompleteTells : ℕ → Reply → Type 0
-CompleteTells upto Completed = CompleteAnswers None upto (Ok tt)
-CompleteTells upto (RefusedReply r) = CompleteAnswers None upto (Err (Refused r))
-CompleteTells upto other = ⊥
+abbrev pub CompleteTells : Type 0 → ℕ → Reply → Type 0
+CompleteTells E upto Completed = CompleteAnswers {E = E} None upto (Ok tt)
+CompleteTells E upto (RefusedReply r) = CompleteAnswers {E = E} None upto (Err (Refused r))
+CompleteTells E upto other = ⊥
 
-abbrev poll_verdicts : ℕ → List (Verdict × Refusal)
-poll_verdicts max = poll_causes (poll_tests None max)
+abbrev poll_verdicts : Type 0 → ℕ → List (Verdict × Refusal)
+poll_verdicts E max = poll_causes (poll_tests {E = E} None max)
 
-abbrev pub PollTells : ℕ → Reply → Type 0
-PollTells max (Batch first count end) = NoneHolds MayFail (poll_verdicts max) × (0 < count) × (count ≤ max) × (first + count < 2 ^ 64)
-PollTells max Drained = NoneHolds MayFail (poll_verdicts max)
-PollTells max Gating = NoneHolds MayFail (poll_verdicts max)
-PollTells max Idle = NoneHolds MayFail (poll_verdicts max)
-PollTells max (RefusedReply r) = IsFirst MayHold MayFail r (poll_verdicts max)
-PollTells max other = ⊥
+abbrev pub PollTells : Type 0 → ℕ → Reply → Type 0
+PollTells E max (Batch first count end) = NoneHolds MayFail (poll_verdicts E max) × (0 < count) × (count ≤ max) × (first + count < 2 ^ 64)
+PollTells E max Drained = NoneHolds MayFail (poll_verdicts E max)
+PollTells E max Gating = NoneHolds MayFail (poll_verdicts E max)
+PollTells E max Idle = NoneHolds MayFail (poll_verdicts E max)
+PollTells E max (RefusedReply r) = IsFirst MayHold MayFail r (poll_verdicts E max)
+PollTells E max other = ⊥
 
 some_or : (a b : Bool) → a ≡ true → (a || b) ≡ true
 some_or a b e = rw e refl
 
-claim_right : (c : Setup) (m : State) (p n : ℕ) → c.limit ≤ 2 ^ 62
-    → AreRight (refusals c m (Claim p n)) (claim_causes (claim_tests None n))
+claim_right : {E : Type 0} (c : Setup) (m : State E) (p n : ℕ) → c.limit ≤ 2 ^ 62
+    → AreRight (refusals c m (Claim p n)) (claim_causes (claim_tests {E = E} None n))
 claim_right c m p n small =
     (unsaid _, refl, (some_or (n == 0) (nat_lt c.size n), refl, (unsaid _, refl, ((λ past. grind (arith, nat_tests, past, small)), refl, (unsaid _, refl, tt)))))
 
-claim_step : (c : Setup) (m : State) (p n : ℕ) → c.limit ≤ 2 ^ 62 → ClaimTells n (step c m (Claim p n)).reply
-claim_step c m p n small =
-    tells (ClaimTells n) (refusals c m (Claim p n)) (claim_causes (claim_tests None n)) m (accepted c m (Claim p n)) (claim_right c m p n small)
+claim_step : {E : Type 0} (c : Setup) (m : State E) (p n : ℕ) → c.limit ≤ 2 ^ 62 → ClaimTells E n (step c m (Claim p n)).reply
+claim_step {E} c m p n small =
+    tells (ClaimTells E n) (refusals c m (Claim p n)) (claim_causes (claim_tests {E = E} None n)) m (accepted c m (Claim p n)) (claim_right c m p n small)
     (λ r first. (first, tt))
     (λ none known.
     let some : 0 < n = (let ne : n ≢ 0 = eqb-false n 0 (or_parts _ _ none.1.0).0 in omega arith) in
     let within : next m + n ≤ c.limit = grind (arith, nat_tests, none.1.1.1.0) in
     (known, (omega arith, omega arith, omega arith)))
 
-write_step : (c : Setup) (m : State) (p s : ℕ) (e : Event) → WriteTells s (step c m (Write p s e)).reply
-write_step c m p s e =
-    tells (WriteTells s) (refusals c m (Write p s e)) (write_causes (write_tests None s)) m (accepted c m (Write p s e))
+write_step : {E : Type 0} (c : Setup) (m : State E) (p s : ℕ) (e : E) → WriteTells E s (step c m (Write p s e)).reply
+write_step {E} c m p s e =
+    tells (WriteTells E s) (refusals c m (Write p s e)) (write_causes (write_tests {E = E} None s)) m (accepted c m (Write p s e))
     (unsaid _, refl, (unsaid _, refl, (unsaid _, refl, (unsaid _, refl, tt)))) (λ r first. first) (λ none known. known)
 
-publish_right : (c : Setup) (m : State) (p lo hi : ℕ)
-    → AreRight (refusals c m (Publish p lo hi)) (publish_causes lo hi (publish_tests None lo hi))
-publish_right c m p lo hi =
-    let stretch = right_stretch (publish_faults m p) (λ s. sequence_causes (end_sequence_tests None s)) (λ s. (unsaid _, refl, (unsaid _, refl, (unsaid _, refl, tt)))) lo (hi + 1 - lo) in
+publish_right : {E : Type 0} (c : Setup) (m : State E) (p lo hi : ℕ)
+    → AreRight (refusals c m (Publish p lo hi)) (publish_causes lo hi (publish_tests {E = E} None lo hi))
+publish_right {E} c m p lo hi =
+    let stretch = right_stretch (publish_faults m p) (λ s. sequence_causes (end_sequence_tests {E = E} None s)) (λ s. (unsaid _, refl, (unsaid _, refl, (unsaid _, refl, tt)))) lo (hi + 1 - lo) in
     let order = right_join (flat_map (publish_faults m p) (range_with_len lo (hi + 1 - lo))) _ _ _ stretch (unsaid _, refl, tt) in
     (unsaid _, refl, (refl, refl, (unsaid _, refl, order)))
 
-publish_step : (c : Setup) (m : State) (p lo hi : ℕ) → PublishTells lo hi (step c m (Publish p lo hi)).reply
-publish_step c m p lo hi =
-    tells (PublishTells lo hi) (refusals c m (Publish p lo hi)) (publish_causes lo hi (publish_tests None lo hi)) m (accepted c m (Publish p lo hi))
+publish_step : {E : Type 0} (c : Setup) (m : State E) (p lo hi : ℕ) → PublishTells E lo hi (step c m (Publish p lo hi)).reply
+publish_step {E} c m p lo hi =
+    tells (PublishTells E lo hi) (refusals c m (Publish p lo hi)) (publish_causes lo hi (publish_tests {E = E} None lo hi)) m (accepted c m (Publish p lo hi))
     (publish_right c m p lo hi) (λ r first. first) (λ none known. known)
 
-complete_step : (c : Setup) (m : State) (h upto : ℕ) → CompleteTells upto (step c m (Complete h upto)).reply
-complete_step c m h upto =
-    tells (CompleteTells upto) (refusals c m (Complete h upto)) (complete_causes (complete_tests None upto)) m (accepted c m (Complete h upto))
+complete_step : {E : Type 0} (c : Setup) (m : State E) (h upto : ℕ) → CompleteTells E upto (step c m (Complete h upto)).reply
+complete_step {E} c m h upto =
+    tells (CompleteTells E upto) (refusals c m (Complete h upto)) (complete_causes (complete_tests {E = E} None upto)) m (accepted c m (Complete h upto))
     (unsaid _, refl, (unsaid _, refl, (unsaid _, refl, (unsaid _, refl, tt)))) (λ r first. first) (λ none known. known)
 
-poll_accepted : (c : Setup) (m : State) (h max : ℕ) → 0 < max → available c m h ≤ 2 ^ 62 → NoneHolds MayFail (poll_verdicts max)
-    → PollTells max (accepted c m (Poll h max)).reply
-poll_accepted c m h max some small known =
-    let P : Outcome → Type 0 = λ o. PollTells max o.reply in
+poll_accepted : {E : Type 0} (c : Setup) (m : State E) (h max : ℕ) → 0 < max → available c m h ≤ 2 ^ 62 → NoneHolds MayFail (poll_verdicts E max)
+    → PollTells E max (accepted c m (Poll h max)).reply
+poll_accepted {E} c m h max some small known =
+    let P : Outcome E → Type 0 = λ o. PollTells E max o.reply in
     cond_both (nat_lt (slice_index m.taken h) (available c m h)) _ _ P
     (λ y. let less : slice_index m.taken h < available c m h = grind (arith, nat_tests, y) in (known, omega arith, omega arith, omega arith))
     (λ n. cond_both (m.halted && (slice_index m.taken h == next m)) _ _ P (λ y. known)
     (λ n'. cond_both (nat_lt (slice_index m.taken h) (cursor c m)) _ _ P (λ y. known) (λ n''. known)))
 
-poll_step : (c : Setup) (t : Transcript) (m : State) (h max : ℕ) → c.limit ≤ 2 ^ 62 → LeadsTo c t m
-    → PollTells max (step c m (Poll h max)).reply
-poll_step c t m h max small leads =
-    tells (PollTells max) (refusals c m (Poll h max)) (poll_verdicts max) m (accepted c m (Poll h max))
+poll_step : {E : Type 0} (c : Setup) (t : Transcript E) (m : State E) (h max : ℕ) → c.limit ≤ 2 ^ 62 → LeadsTo c t m
+    → PollTells E max (step c m (Poll h max)).reply
+poll_step {E} c t m h max small leads =
+    tells (PollTells E max) (refusals c m (Poll h max)) (poll_verdicts E max) m (accepted c m (Poll h max))
     (unsaid _, refl, (unsaid _, refl, (refl, refl, tt))) (λ r first. first)
     (λ none known.
     let some : 0 < max = (let ne : max ≢ 0 = eqb-false max 0 none.1.1.0 in omega arith) in
@@ -186,36 +187,44 @@ poll_step c t m h max small leads =
 
 -- What an answer tells.
 
-pub claim_tells : (p n : ℕ) (reply : Reply) (values : List Event) → IsAnswer (Claim p n) reply values → ClaimTells n reply
-claim_tells p n reply values is = subst (ClaimTells n) is.replies (claim_step is.core.setup is.runs.state p n is.small)
+pub claim_tells : {E : Type 0} (p n : ℕ) (reply : Reply) (values : List E) → IsAnswer (Claim p n) reply values → ClaimTells E n reply
+claim_tells {E} p n reply values is = subst (ClaimTells E n) is.replies (claim_step is.core.setup is.runs.state p n is.small)
 
-pub write_tells : (p s : ℕ) (e : Event) (reply : Reply) (values : List Event) → IsAnswer (Write p s e) reply values
-    → WriteTells s reply
-write_tells p s e reply values is = subst (WriteTells s) is.replies (write_step is.core.setup is.runs.state p s e)
+pub write_tells : {E : Type 0} (p s : ℕ) (e : E) (reply : Reply) (values : List E) → IsAnswer (Write p s e) reply values
+    → WriteTells E s reply
+write_tells {E} p s e reply values is = subst (WriteTells E s) is.replies (write_step is.core.setup is.runs.state p s e)
 
-written_tells : (p s : ℕ) (e : Event) (r : Result (Unit {0}) Trouble) → IsWritten p s e r → WriteAnswers None s r
+written_tells : {E : Type 0} (p s : ℕ) (e : E) (r : Result (Unit {0}) Trouble) → IsWritten p s e r → WriteAnswers {E = E} None s r
 written_tells p s e (Ok done) is = write_tells p s e Written [] is
 written_tells p s e (Err (Refused refusal)) is = write_tells p s e (RefusedReply refusal) [] is
 written_tells p s e (Err Memory) is = tt
 
-stops_tells : (p lo : ℕ) (events : List Event) (count : ℕ) (trouble : Option Trouble) → StopsBy p lo events count trouble
-    → StopsAt None lo (length events) count trouble
+stops_tells : {E : Type 0} (p lo : ℕ) (events : List E) (count : ℕ) (trouble : Option Trouble) → StopsBy p lo events count trouble
+    → StopsAt {E = E} None lo (length events) count trouble
 stops_tells p lo events count None is = is
-stops_tells p lo events count (Some trouble) is = (is.0, written_tells p (lo + count) (one_of events count) (Err trouble) is.1)
+stops_tells p lo events count (Some trouble) is = (slice_get_within events count is.0 is.1, written_tells p (lo + count) is.0 (Err trouble) is.2)
 
-pub write_all_tells : (p lo : ℕ) (events : List Event) (wrote : Wrote) → AreWritten p lo events wrote → WriteAllAnswers None lo (length events) wrote
-write_all_tells p lo events wrote is = record {
-  written = λ k less. written_tells p (lo + k) (one_of events k) (Ok tt) (is.written k less);
+stops_within : {E : Type 0} (p lo : ℕ) (events : List E) (count : ℕ) (trouble : Option Trouble) → StopsBy p lo events count trouble
+    → count ≤ length events
+stops_within p lo events count None is = omega arith
+stops_within p lo events count (Some trouble) is = (let less : count < length events = slice_get_within events count is.0 is.1 in omega arith)
+
+pub write_all_tells : {E : Type 0} (p lo : ℕ) (events : List E) (wrote : Wrote) → AreWritten p lo events wrote → WriteAllAnswers {E = E} None lo (length events) wrote
+write_all_tells {E} p lo events wrote is = record {
+  written = λ k less.
+      let within : wrote.count ≤ length events = stops_within p lo events wrote.count wrote.trouble is.stops in
+      let at = there events k (omega arith) in
+      written_tells p (lo + k) at.0 (Ok tt) (is.written k at.0 less at.1);
   stops = stops_tells p lo events wrote.count wrote.trouble is.stops;
 }
 
-pub publish_tells : (p lo hi : ℕ) (reply : Reply) (values : List Event) → IsAnswer (Publish p lo hi) reply values
-    → PublishTells lo hi reply
-publish_tells p lo hi reply values is = subst (PublishTells lo hi) is.replies (publish_step is.core.setup is.runs.state p lo hi)
+pub publish_tells : {E : Type 0} (p lo hi : ℕ) (reply : Reply) (values : List E) → IsAnswer (Publish p lo hi) reply values
+    → PublishTells E lo hi reply
+publish_tells {E} p lo hi reply values is = subst (PublishTells E lo hi) is.replies (publish_step is.core.setup is.runs.state p lo hi)
 
-pub complete_tells : (h upto : ℕ) (reply : Reply) (values : List Event) → IsAnswer (Complete h upto) reply values
-    → CompleteTells upto reply
-complete_tells h upto reply values is = subst (CompleteTells upto) is.replies (complete_step is.core.setup is.runs.state h upto)
+pub complete_tells : {E : Type 0} (h upto : ℕ) (reply : Reply) (values : List E) → IsAnswer (Complete h upto) reply values
+    → CompleteTells E upto reply
+complete_tells {E} h upto reply values is = subst (CompleteTells E upto) is.replies (complete_step is.core.setup is.runs.state h upto)
 
-pub poll_tells : (h max : ℕ) (reply : Reply) (values : List Event) → IsAnswer (Poll h max) reply values → PollTells max reply
-poll_tells h max reply values is = subst (PollTells max) is.replies (poll_step is.core.setup is.before is.runs.state h max is.small is.runs.leads)
+pub poll_tells : {E : Type 0} (h max : ℕ) (reply : Reply) (values : List E) → IsAnswer (Poll h max) reply values → PollTells E max reply
+poll_tells {E} h max reply values is = subst (PollTells E max) is.replies (poll_step is.core.setup is.before is.runs.state h max is.small is.runs.leads)

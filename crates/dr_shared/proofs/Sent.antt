@@ -47,48 +47,48 @@ book_send L g = the_book_send L g
 
 pub ruleset passes = (sendable, std.crosses, maps.crosses)
 
-pub core_send : IsSend Core.the_row
-core_send = search passes depth 30
-
 pub event_send : IsSend Event.the_row
 event_send = search passes depth 30
 
-pub command_send : IsSend Command.the_row
-command_send = search passes depth 30
+pub core_send : (E : RattleType) → IsSend E → IsSend (Core.the_row E)
+core_send E s = search passes depth 40
+
+pub command_send : (E : RattleType) → IsSend E → IsSend (Command.the_row E)
+command_send E s = search passes depth 40
 
 pub reply_send : IsSend Reply.the_row
 reply_send = search sendable depth 120 fits 50000
 
-pub entry_send : IsSend Entry.the_row
-entry_send = search sendable depth 120 fits 50000
+pub entry_send : (E : RattleType) → IsSend E → IsSend (Entry.the_row E)
+entry_send E s = let command : IsSend (Command.the_row E) = command_send E s in let reply : IsSend Reply.the_row = reply_send in search passes depth 60 fits 20000
 
-pub recorded_send : IsSend Recorded.the_row
-recorded_send = let core : IsSend Core.the_row = core_send in let entry : IsSend Entry.the_row = entry_send in let event : IsSend Event.the_row = event_send in search passes depth 60 fits 20000
+pub recorded_send : (E : RattleType) → IsSend E → IsSend (Recorded.the_row E)
+recorded_send E s = let core : IsSend (Core.the_row E) = core_send E s in let entry : IsSend (Entry.the_row E) = entry_send E s in search passes depth 60 fits 20000
 
-pub locked_send : (L : RattleType) (g : Ghosts L.Denot) → IsSend (Locked.the_row L g)
-locked_send L g = let book : IsSend (Book.the_row L g) = book_send L g in let recorded : IsSend Recorded.the_row = recorded_send in search passes depth 30
+pub locked_send : (E L : RattleType) (g : Ghosts L.Denot) → IsSend E → IsSend (Locked.the_row E L g)
+locked_send E L g s = let book : IsSend (Book.the_row L g) = book_send L g in let recorded : IsSend (Recorded.the_row E) = recorded_send E s in search passes depth 30
 
-pub mutex_sync : (L : RattleType) (g : Ghosts L.Denot) → IsSync (Mutex.the_row (Locked.the_row L g))
-mutex_sync L g = the_mutex_sync (Locked.the_row L g) (locked_send L g)
+pub mutex_sync : (E L : RattleType) (g : Ghosts L.Denot) → IsSend E → IsSync (Mutex.the_row (Locked.the_row E L g))
+mutex_sync E L g s = the_mutex_sync (Locked.the_row E L g) (locked_send E L g s)
 
 pub whole_sync : (L : RattleType) (g : Ghosts L.Denot) → IsSync L → IsSync (Whole.the_row L g)
 whole_sync L g s = search passes depth 30
 
 pub ruleset shares = (sendable, the_mutex_sync)
 
-pub mutex_field : (L : RattleType) (g : Ghosts L.Denot) → IsSync (Mutex.the_row (param 0 (Locked.the_row L g)))
-mutex_field L g = the_mutex_sync (param 0 (Locked.the_row L g)) (param_send 0 (Locked.the_row L g) (locked_send L g))
+pub mutex_field : (E L : RattleType) (g : Ghosts L.Denot) → IsSend E → IsSync (Mutex.the_row (param 0 (Locked.the_row E L g)))
+mutex_field E L g s = the_mutex_sync (param 0 (Locked.the_row E L g)) (param_send 0 (Locked.the_row E L g) (locked_send E L g s))
 
 pub rest_field : (L : RattleType) (g : Ghosts L.Denot) → IsSync (Rest.the_field L g).row
 rest_field L g = let s : IsSync (Share.the_row L g) = share_sync L g in search sendable depth 20
 
-pub shared_inside : (L : RattleType) (g : Ghosts L.Denot) → IsSync L → IsSync (Inside.the_row L g)
-shared_inside L g s =
+pub shared_inside : (E L : RattleType) (g : Ghosts L.Denot) → IsSend E → IsSync L → IsSync (Inside.the_row E L g)
+shared_inside E L g e s =
     let rest : IsSync (Rest.the_field L g).row = rest_field L g in
-    let mutex : IsSync (Mutex.the_row (param 0 (Locked.the_row L g))) = mutex_field L g in
-    let locked : IsSend (Locked.the_row L g) = locked_send L g in
+    let mutex : IsSync (Mutex.the_row (param 0 (Locked.the_row E L g))) = mutex_field E L g e in
+    let locked : IsSend (Locked.the_row E L g) = locked_send E L g e in
     let whole : IsSync (Whole.the_row L g) = whole_sync L g s in
-    recorded_sync (Inside.the_field L g).row _ _ (Inside.the_type L g).to_one (struct_sync (shape (Inside.the_type L g)) (search shares depth 40, (search sendable depth 40, (search sendable depth 40, (search sendable depth 40, (search sendable depth 40, tt))))))
+    recorded_sync (Inside.the_field E L g).row _ _ (Inside.the_type E L g).to_one (struct_sync (shape (Inside.the_type E L g)) (search shares depth 40, (search sendable depth 40, (search sendable depth 40, (search sendable depth 40, (search sendable depth 40, tt))))))
 
-pub shared_sync : (L : RattleType) (g : Ghosts L.Denot) → IsSync L → IsSync (Shared.the_row L g)
-shared_sync L g s = let inside : IsSync (Inside.the_row L g) = shared_inside L g s in search sendable depth 60
+pub shared_sync : (E L : RattleType) (g : Ghosts L.Denot) → IsSend E → IsSync L → IsSync (Shared.the_row E L g)
+shared_sync E L g e s = let inside : IsSync (Inside.the_row E L g) = shared_inside E L g e s in search sendable depth 60

@@ -9,24 +9,24 @@ ghost use Rattle.dr_shared.specs.Meaning.History.{transcript};
 
 use crate::audit_fault::AuditFault;
 use crate::recorded::Recorded;
+use crate::same::{Same, are_same};
 use crate::sequences::{Sequence, published, sent, sequences};
 use dr_core::every_transcript_tells_its_state;
-use dr_seq::{Event, are_same};
 use std::alloc::Global;
 
 /// Compares a history with what its producers were to send, by their numbers; a producer without a
 /// script was to send nothing, and a script without a producer is that of one that sent nothing.
 /// The answer is the one list that every handler received that is not retired; what a retired one
 /// received is a beginning of it. Scripts are looked at before handlers.
-pub fn audit(
+pub fn audit<E: Copy + Same>(
     alloc: Global,
-    recorded: &Recorded,
-    scripts: &[&[Event]],
-) -> Result<Vec<Event>, AuditFault>
+    recorded: &Recorded<E>,
+    scripts: &[&[E]],
+) -> Result<Vec<E>, AuditFault>
     ensures list { IfOk result (λ list. IsAudited (transcript recorded.now.history) (handlers recorded.now.history.core.setup) (scripts_of scripts.now) list.items) }
     ensures fault { IfErr result (Faults (transcript recorded.now.history) (handlers recorded.now.history.core.setup) (scripts_of scripts.now)) }
 {
-    every_transcript_tells_its_state();
+    every_transcript_tells_its_state::<E>();
     let list = sequences(alloc, recorded.history())?;
     let producers = recorded.producers().max(scripts.len() as u64);
     check_scripts(alloc, &list, producers, scripts)?;
@@ -36,11 +36,11 @@ pub fn audit(
 }
 
 /// Finds the least producer of some whose published events are not its script.
-fn check_scripts(
+fn check_scripts<E: Copy + Same>(
     alloc: Global,
-    list: &[Sequence],
+    list: &[Sequence<E>],
     producers: u64,
-    scripts: &[&[Event]],
+    scripts: &[&[E]],
 ) -> Result<(), AuditFault>
     ensures same { OnOk result ((p : ℕ) → p < producers → SentIn list.now (scripts_of scripts.now) p) }
     ensures fault { IfErr result (Differs list.now (scripts_of scripts.now)) }
@@ -60,7 +60,7 @@ fn check_scripts(
 }
 
 /// Finds the least handler, of those that are not retired, that did not take so many events.
-fn check_drained(recorded: &Recorded, count: u64) -> Result<(), AuditFault>
+fn check_drained<E: Copy>(recorded: &Recorded<E>, count: u64) -> Result<(), AuditFault>
     ensures drained { OnOk result ((h : ℕ) → h < handlers recorded.now.history.core.setup → TookIn recorded.now.history.core count h) }
     ensures fault { IfErr result (Undrained recorded.now.history.core count) }
 {
@@ -73,7 +73,7 @@ fn check_drained(recorded: &Recorded, count: u64) -> Result<(), AuditFault>
 }
 
 /// Whether a handler is retired or took so many events.
-fn took(recorded: &Recorded, h: usize, count: u64) -> bool
+fn took<E: Copy>(recorded: &Recorded<E>, h: usize, count: u64) -> bool
     requires { h < handlers recorded.now.history.core.setup }
     ensures { IsTrue result ↔ TookIn recorded.now.history.core count h }
 {

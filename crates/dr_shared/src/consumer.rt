@@ -13,7 +13,6 @@ use crate::retries::complete;
 use crate::turns::Turns;
 use crate::waiting::Waiting;
 use dr_core::{Handler, Outlet, Polled, Trouble, show};
-use dr_seq::Event;
 use std::sync::Wait;
 
 // What a turn of a worker came to.
@@ -27,13 +26,13 @@ enum Progress {
 }
 
 // A poll and, for a batch, the handler's calls, the gate and the completion.
-fn turn<R: Wait, O: Outlet, G: Gate, H: Handler>(
+fn turn<E: Copy, R: Wait, O: Outlet<E>, G: Gate, H: Handler<E>>(
     rt: &R,
     outlet: &mut O,
     gate: &G,
     turns: &mut Turns,
     handler: &mut H,
-    buf: &mut [Event],
+    buf: &mut [E],
 ) -> Result<Progress, Trouble>
     ensures kept { O.kept outlet.new ≡ O.kept outlet.old }
     ensures works { Works H.goes handler.old handler.new (O.received outlet.old) (O.received outlet.new) }
@@ -59,13 +58,13 @@ fn turn<R: Wait, O: Outlet, G: Gate, H: Handler>(
 /// drained: each batch goes to the handler, then the worker passes its gate, then it completes the
 /// batch. A refusal ends the work. A worker that the gate stops goes on without it, and answers
 /// `Stopped` at its end.
-pub fn consume<R: Wait, O: Outlet, G: Gate, H: Handler>(
+pub fn consume<E: Copy, R: Wait, O: Outlet<E>, G: Gate, H: Handler<E>>(
     rt: &R,
     outlet: &mut O,
     gate: &G,
     who: usize,
     handler: &mut H,
-    buf: &mut [Event],
+    buf: &mut [E],
 ) -> Option<WorkFault>
     ensures kept { O.kept outlet.new ≡ O.kept outlet.old }
     // The handler was shown all events that the end handed out, in order, batch by batch.

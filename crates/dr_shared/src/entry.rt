@@ -7,8 +7,8 @@ use dr_core::{Command, Reply};
 
 /// A kept call: a command with the reply that it got.
 #[derive(Clone, Copy, Debug, PartialEq, Eq)]
-pub struct Entry {
-    pub command: Command,
+pub struct Entry<E> {
+    pub command: Command<E>,
     pub reply: Reply,
 }
 

@@ -10,7 +10,7 @@ use std::sync::ledger::Ledger;
 
 /// Halts the exchange, once there is memory for the call: no later claim succeeds. Every halt is
 /// kept in the history, however often the exchange is halted, and the end counts it.
-pub fn halt<L: Ledger, R: Wait>(rt: &R, shared: &Shared<L>, end: &mut End<L>)
+pub fn halt<E: Copy, L: Ledger, R: Wait>(rt: &R, shared: &Shared<E, L>, end: &mut End<L>)
     ensures { end.new ≡ end.old + 1 }
 {
     let mut waiting = Waiting::new(1);

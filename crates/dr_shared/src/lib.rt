@@ -19,6 +19,7 @@ pub mod entry;
 mod halting;
 pub mod locked;
 pub mod recorded;
+pub mod same;
 mod sequences;
 pub mod shared;
 
@@ -45,5 +46,6 @@ pub use joining::join_all;
 pub use locked::{LockedInlet, LockedOutlet};
 pub use producer::{Produced, produce};
 pub use recorded::Recorded;
+pub use same::{Same, are_same};
 pub use shared::{End, MAX_ENDS, Shared, Unfinished, finish};
 pub use waiting::Waiting;

@@ -11,7 +11,6 @@ use crate::gate::Gate;
 use crate::retries::{claim, publish, write_all};
 use crate::turns::Turns;
 use dr_core::{Claimed, Inlet, Trouble};
-use dr_seq::Event;
 use std::sync::Wait;
 
 /// How much of its script a worker sent, and why not all of it or what stopped it.
@@ -24,12 +23,12 @@ pub struct Produced {
 }
 
 // Claims, passes the gate, writes and publishes some events.
-fn send<R: Wait, I: Inlet, G: Gate>(
+fn send<E: Copy, R: Wait, I: Inlet<E>, G: Gate>(
     rt: &R,
     inlet: &mut I,
     gate: &G,
     turns: &mut Turns,
-    events: &[Event],
+    events: &[E],
 ) -> Result<(), Trouble>
     ensures kept { I.kept inlet.new ≡ I.kept inlet.old }
     ensures sent { OnOk result (WhereShown (Adds events.now) (I.sent inlet.old) (I.sent inlet.new)) }
@@ -45,12 +44,12 @@ fn send<R: Wait, I: Inlet, G: Gate>(
 /// Sends a script in claims of up to `cut` events, each once there is room: a claim, the worker's
 /// gate, the writes, and the publication. A refusal ends the work, and so does running out of memory for a
 /// claim. A worker that the gate stops goes on without it, and answers `Stopped` at its end.
-pub fn produce<R: Wait, I: Inlet, G: Gate>(
+pub fn produce<E: Copy, R: Wait, I: Inlet<E>, G: Gate>(
     rt: &R,
     inlet: &mut I,
     gate: &G,
     who: usize,
-    script: &[Event],
+    script: &[E],
     cut: u64,
 ) -> Produced
     requires cut { 0 < cut }

@@ -14,43 +14,44 @@ use dr_core::{
     Command, Core, Mode, OpenFault, Reply, every_step_leads_on, every_transcript_is_lawful,
 };
 use dr_graph::Graph;
-use dr_seq::{Event, Size};
+use dr_seq::Size;
 use std::alloc::{AllocError, Global};
 use std::marker::Model;
 
 /// A core and the history of the calls that it kept, which leads from the opening to what the core
 /// shows, and so has the five laws.
 #[derive(Drop)]
-pub struct Recorded {
-    core: Core,
-    entries: Vec<Entry>,
-    values: Vec<Event>,
+pub struct Recorded<E> {
+    core: Core<E>,
+    entries: Vec<Entry<E>>,
+    values: Vec<E>,
 }
 
-impl Model for Recorded {
+impl<E> Model for Recorded<E> {
     ghost use Rattle.dr_shared.specs.Meaning.History.{RecordedView, IsRecorded};
     ghost use Rattle.std.specs.Prelude.{vec_capacity};
 
-    ghost Value = { RecordedView };
+    ghost Value = { RecordedView E };
 
     ghost view = { λ a. record { history = record { core = a.core; entries = a.entries.items; values = a.values.items }; entry_room = vec_capacity a.entries; value_room = vec_capacity a.values } };
 
     ghost invariant = { λ a. IsRecorded (record { core = a.core; entries = a.entries.items; values = a.values.items }) };
 }
 
-impl Recorded {
+impl<E: Copy> Recorded<E> {
     /// Opens a core with an empty history, which has room for so many entries and for so many
     /// events of batches. It spends the graph, at a fault too. The limit is how many sequences
-    /// there will ever be.
+    /// there will ever be. Until they are written to, the slots hold `blank`.
     pub fn open(
         alloc: Global,
         graph: Graph,
         size: Size,
         mode: Mode,
         limit: u64,
+        blank: E,
         entries: usize,
         events: usize,
-    ) -> Result<Recorded, OpenFault>
+    ) -> Result<Recorded<E>, OpenFault>
         ensures setup { IfOk result (λ recorded. recorded.history.core.setup ≡ setup_of graph.upstreams size mode limit) }
         ensures names { IfOk result (λ recorded. recorded.history.core.names ≡ graph.names) }
         ensures opening { IfOk result (λ recorded. Shows recorded.history.core (opening (setup_of graph.upstreams size mode limit))) }
@@ -59,8 +60,8 @@ impl Recorded {
         ensures bad_producers { (result ≡ Err OpenFault.BadProducers) ↔ (has_bad_producers mode ≡ true) }
         ensures bad_limit { (result ≡ Err OpenFault.BadLimit) ↔ (has_bad_producers mode ≡ false) × (is_bad_limit limit ≡ true) }
     {
-        every_transcript_is_lawful();
-        let core = Core::open(alloc, graph, size, mode, limit)?;
+        every_transcript_is_lawful::<E>();
+        let core = Core::open(alloc, graph, size, mode, limit, blank)?;
         let entries = Vec::with_capacity(alloc, entries)?;
         let values = Vec::with_capacity(alloc, events)?;
         Ok(Recorded {
@@ -104,7 +105,7 @@ impl Recorded {
     /// The calls that were kept, in order: those that changed something, and those that told a
     /// handler that the exchange drained. With the events of their batches they lead from the
     /// opening to what the core shows, and so they have the five laws.
-    pub fn history(&self) -> &[Entry]
+    pub fn history(&self) -> &[Entry<E>]
         ensures entries { result.now ≡ self.now.history.entries }
         ensures recorded { IsRecorded self.now.history }
     {
@@ -112,7 +113,7 @@ impl Recorded {
     }
 
     /// The events of the kept batches, joined in order.
-    pub fn values(&self) -> &[Event]
+    pub fn values(&self) -> &[E]
         ensures values { result.now ≡ self.now.history.values }
         ensures recorded { IsRecorded self.now.history }
     {
@@ -123,7 +124,7 @@ impl Recorded {
     /// exchange drained. For a poll `out` holds as many events as it asks for; a batch stands at
     /// its front. Memory is taken first, and only where the history has no room left for one entry
     /// and for the events of the reply. Where an allocation fails nothing has changed.
-    pub fn call(&mut self, command: Command, out: &mut [Event]) -> Result<Reply, AllocError>
+    pub fn call(&mut self, command: Command<E>, out: &mut [E]) -> Result<Reply, AllocError>
         requires { asked command ≤ length out.old }
         ensures step { IfOk result (λ reply. IsStep self.old.history.core command reply (take (count_in reply) out.new) self.new.history.core) }
         ensures answer { IfOk result (λ reply. IsAnswer command reply (take (count_in reply) out.new)) }
@@ -131,11 +132,11 @@ impl Recorded {
         ensures values { IfOk result (λ reply. self.new.history.values ≡ self.old.history.values ++ take (count_in reply) out.new) }
         ensures rest { IfOk result (λ reply. drop (count_in reply) out.new ≡ drop (count_in reply) out.old) }
         ensures unchanged { OnErr result ((self.new.history ≡ self.old.history) × (out.new ≡ out.old)) }
-        ensures memory { OnErr result ((m : State) → Shows self.old.history.core m → (self.old.entry_room < length self.old.history.entries + 1) ⊎ (self.old.value_room < length self.old.history.values + length (step self.old.history.core.setup m command).values)) }
+        ensures memory { OnErr result ((m : State E) → Shows self.old.history.core m → (self.old.entry_room < length self.old.history.entries + 1) ⊎ (self.old.value_room < length self.old.history.values + length (step self.old.history.core.setup m command).values)) }
         ensures counted { length self.new.history.entries < 2 ^ 64 }
         ensures room { (self.old.entry_room ≤ self.new.entry_room) × (self.old.value_room ≤ self.new.value_room) }
     {
-        every_step_leads_on();
+        every_step_leads_on::<E>();
         let room = self.batch_len_of(command);
         self.entries.reserve(1)?;
         self.values.reserve(room)?;
@@ -148,8 +149,8 @@ impl Recorded {
     }
 
     /// How many events a command would be given now.
-    fn batch_len_of(&self, command: Command) -> usize
-        ensures { (m : State) → Shows self.now.history.core m → result ≡ length (step self.now.history.core.setup m command).values }
+    fn batch_len_of(&self, command: Command<E>) -> usize
+        ensures { (m : State E) → Shows self.now.history.core m → result ≡ length (step self.now.history.core.setup m command).values }
     {
         match command {
             Command::Poll { h, max } => match self.core.ready(h) {

@@ -6,11 +6,14 @@ ghost use Rattle.dr_shared.specs.Meaning.Work.{Adds};
 
 use crate::waiting::Waiting;
 use dr_core::{Claimed, Inlet, Outlet, Refusal, Trouble};
-use dr_seq::Event;
 use std::sync::Wait;
 
 /// Claims the next `n` sequences, once there is room.
-pub(crate) fn claim<R: Wait, I: Inlet>(rt: &R, inlet: &mut I, n: u64) -> Result<Claimed, Trouble>
+pub(crate) fn claim<E: Copy, R: Wait, I: Inlet<E>>(
+    rt: &R,
+    inlet: &mut I,
+    n: u64,
+) -> Result<Claimed, Trouble>
     ensures kept { I.kept inlet.new ≡ I.kept inlet.old }
     ensures stretch { IfOk result (λ c. GivesStretch n (Ok c)) }
     ensures claimed { IfOk result (λ c. WhereShown (Claims n (Ok c)) (I.sent inlet.old) (I.sent inlet.new)) }
@@ -28,11 +31,11 @@ pub(crate) fn claim<R: Wait, I: Inlet>(rt: &R, inlet: &mut I, n: u64) -> Result<
 }
 
 /// Writes events to the claimed sequences from `lo` on, once there is memory for the calls.
-pub(crate) fn write_all<R: Wait, I: Inlet>(
+pub(crate) fn write_all<E: Copy, R: Wait, I: Inlet<E>>(
     rt: &R,
     inlet: &mut I,
     lo: u64,
-    events: &[Event],
+    events: &[E],
 ) -> Result<(), Trouble>
     requires limit { lo + length events.now ≤ 2 ^ 62 }
     ensures kept { I.kept inlet.new ≡ I.kept inlet.old }
@@ -55,7 +58,7 @@ pub(crate) fn write_all<R: Wait, I: Inlet>(
 }
 
 /// Publishes a claimed stretch, once there is memory for the call.
-pub(crate) fn publish<R: Wait, I: Inlet>(
+pub(crate) fn publish<E: Copy, R: Wait, I: Inlet<E>>(
     rt: &R,
     inlet: &mut I,
     lo: u64,
@@ -78,7 +81,11 @@ pub(crate) fn publish<R: Wait, I: Inlet>(
 }
 
 /// Completes all events below `upto`, once there is memory for the call.
-pub(crate) fn complete<R: Wait, O: Outlet>(rt: &R, outlet: &mut O, upto: u64) -> Result<(), Trouble>
+pub(crate) fn complete<E: Copy, R: Wait, O: Outlet<E>>(
+    rt: &R,
+    outlet: &mut O,
+    upto: u64,
+) -> Result<(), Trouble>
     ensures kept { O.kept outlet.new ≡ O.kept outlet.old }
     ensures told { O.told outlet.new ≡ O.told outlet.old }
     ensures completed { OnOk result (WhereShown (Completes upto (Ok tt)) (O.received outlet.old) (O.received outlet.new)) }

@@ -6,22 +6,24 @@ ghost use Rattle.dr_shared.specs.Inside.Sequences.{Follows, Lists, Speaks, Chang
 
 use crate::entry::Entry;
 use dr_core::Command;
-use dr_seq::Event;
 use std::alloc::{AllocError, Global};
 
-/// What is known of a claimed sequence: its producer, the event that was last written to it, and
-/// whether it is published.
+/// What is known of a claimed sequence: its producer, the event that was last written to it, if any,
+/// and whether it is published.
 #[derive(Clone, Copy, Debug)]
-pub(crate) struct Sequence {
+pub(crate) struct Sequence<E> {
     pub owner: u64,
-    pub event: Event,
+    pub event: Option<E>,
     pub is_published: bool,
 }
 
 /// All claimed sequences of a history, in order.
-pub(crate) fn sequences(alloc: Global, entries: &[Entry]) -> Result<Vec<Sequence>, AllocError>
-    requires { (c : Setup) × (end : State) × Follows c (opening c) entries.now end }
-    ensures { IfOk result (λ list. (c : Setup) (end : State) → Follows c (opening c) entries.now end → Lists list.items end) }
+pub(crate) fn sequences<E: Copy>(
+    alloc: Global,
+    entries: &[Entry<E>],
+) -> Result<Vec<Sequence<E>>, AllocError>
+    requires { (c : Setup) × (end : State E) × Follows c (opening c) entries.now end }
+    ensures { IfOk result (λ list. (c : Setup) (end : State E) → Follows c (opening c) entries.now end → Lists list.items end) }
 {
     let mut list = Vec::new(alloc);
     for entry in entries {
@@ -31,14 +33,14 @@ pub(crate) fn sequences(alloc: Global, entries: &[Entry]) -> Result<Vec<Sequence
 }
 
 /// Takes in an accepted command.
-fn take_in(list: &mut Vec<Sequence>, command: Command) -> Result<(), AllocError>
+fn take_in<E: Copy>(list: &mut Vec<Sequence<E>>, command: Command<E>) -> Result<(), AllocError>
     requires { Speaks command (vec_len list.old) }
     ensures { OnOk result (Changes command list.old.items list.new.items) }
 {
     match command {
         Command::Claim { p, n } => claim(list, p, n),
         Command::Write { p: _, s, event } => {
-            list[s as usize].event = event;
+            list[s as usize].event = Some(event);
             Ok(())
         }
         Command::Publish { p: _, lo, hi } => {
@@ -52,20 +54,20 @@ fn take_in(list: &mut Vec<Sequence>, command: Command) -> Result<(), AllocError>
     }
 }
 
-fn claim(list: &mut Vec<Sequence>, p: u64, n: u64) -> Result<(), AllocError>
+fn claim<E: Copy>(list: &mut Vec<Sequence<E>>, p: u64, n: u64) -> Result<(), AllocError>
     ensures { OnOk result (list.new.items ≡ list.old.items ++ replicate n (just_claimed p)) }
 {
     for _ in 0..n {
         list.push(Sequence {
             owner: p,
-            event: Event::NONE,
+            event: None,
             is_published: false,
         })?;
     }
     Ok(())
 }
 
-fn publish(list: &mut [Sequence], lo: u64, hi: u64)
+fn publish<E: Copy>(list: &mut [Sequence<E>], lo: u64, hi: u64)
     requires stretch { lo ≤ hi }
     requires claimed { hi < length list.old }
     ensures length { length list.new ≡ length list.old }
@@ -77,21 +79,25 @@ fn publish(list: &mut [Sequence], lo: u64, hi: u64)
 }
 
 /// The published events, in order.
-pub(crate) fn published(alloc: Global, list: &[Sequence]) -> Result<Vec<Event>, AllocError>
+pub(crate) fn published<E: Copy>(alloc: Global, list: &[Sequence<E>]) -> Result<Vec<E>, AllocError>
     ensures { IfOk result (λ events. events.items ≡ published_of list.now) }
 {
     list.iter()
         .filter(|x| x.is_published)
-        .map(|x| x.event)
+        .filter_map(|x| x.event)
         .collect(alloc)
 }
 
 /// The published events of a producer, in order.
-pub(crate) fn sent(alloc: Global, list: &[Sequence], p: u64) -> Result<Vec<Event>, AllocError>
+pub(crate) fn sent<E: Copy>(
+    alloc: Global,
+    list: &[Sequence<E>],
+    p: u64,
+) -> Result<Vec<E>, AllocError>
     ensures { IfOk result (λ events. events.items ≡ sent_of list.now p) }
 {
     list.iter()
         .filter(|x| x.is_published && x.owner == p)
-        .map(|x| x.event)
+        .filter_map(|x| x.event)
         .collect(alloc)
 }

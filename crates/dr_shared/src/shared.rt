@@ -9,7 +9,6 @@ ghost use Rattle.dr_shared.specs.Calls.Lock.{AreWritten, IsAnswer, UnlessMemory}
 use crate::entry::is_kept;
 use crate::recorded::Recorded;
 use dr_core::{Command, Reply, Trouble, Wrote};
-use dr_seq::Event;
 use std::alloc::AllocError;
 use std::marker::{Model, PhantomData};
 use std::sync::ledger::{Blank, Book, Ledger, Share};
@@ -20,8 +19,8 @@ pub const MAX_ENDS: usize = 64;
 
 /// What lies under the lock: a history that is as long as the ledger says.
 #[derive(Drop)]
-struct Locked<L: Ledger> {
-    recorded: Recorded,
+struct Locked<E, L: Ledger> {
+    recorded: Recorded<E>,
     calls: Book<L>,
     ghost counted: { length recorded.history.entries ≡ calls.total },
 }
@@ -47,15 +46,15 @@ struct Whole<L: Ledger> {
 /// A history behind one lock, which threads share by reference. Each calls through an end of its
 /// own.
 #[derive(Drop)]
-pub struct Shared<L: Ledger> {
-    locked: Mutex<Locked<L>>,
+pub struct Shared<E, L: Ledger> {
+    locked: Mutex<Locked<E, L>>,
     rest: Rest<L>,
     whole: Whole<L>,
     begun: usize,
     given: usize,
 }
 
-impl<L: Ledger> Model for Shared<L> {
+impl<E, L: Ledger> Model for Shared<E, L> {
     ghost use Rattle.std.specs.Prelude.{◌≡◌, ◌+◌, ◌≤◌};
     ghost use Rattle.dr_shared.specs.Calls.Lock.{SharedView};
 
@@ -86,8 +85,8 @@ impl<L: Ledger> Model for End<L> {
 
 /// What is handed back where an end is missing.
 #[derive(Drop)]
-pub struct Unfinished<L: Ledger> {
-    pub shared: Shared<L>,
+pub struct Unfinished<E, L: Ledger> {
+    pub shared: Shared<E, L>,
     pub ends: Vec<End<L>>,
 }
 
@@ -100,13 +99,13 @@ impl<L: Ledger> End<L> {
     }
 }
 
-impl<L: Ledger> Locked<L> {
+impl<E: Copy, L: Ledger> Locked<E, L> {
     /// The history's call, which the end counts where it is kept.
     fn call(
         &mut self,
         end: &mut End<L>,
-        command: Command,
-        out: &mut [Event],
+        command: Command<E>,
+        out: &mut [E],
     ) -> Result<Reply, AllocError>
         requires { asked command ≤ length out.old }
         ensures answer { IfOk result (λ reply. IsAnswer command reply (take (count_in reply) out.new)) }
@@ -125,7 +124,7 @@ impl<L: Ledger> Locked<L> {
     }
 
     /// Writes the event of a claimed sequence.
-    fn write(&mut self, end: &mut End<L>, p: u64, s: u64, event: Event) -> Result<(), Trouble>
+    fn write(&mut self, end: &mut End<L>, p: u64, s: u64, event: E) -> Result<(), Trouble>
         ensures answer { UnlessMemory (λ answer. IsAnswer (Command.Write p s event) (unit_reply Reply.Written answer) []) result }
         ensures counts { end.new ≡ (if is_ok result then end.old + 1 else end.old) }
     {
@@ -138,7 +137,7 @@ impl<L: Ledger> Locked<L> {
     }
 
     /// Writes events to the sequences from `lo` on, until one is not written.
-    fn write_all(&mut self, end: &mut End<L>, p: u64, lo: u64, events: &[Event]) -> Wrote
+    fn write_all(&mut self, end: &mut End<L>, p: u64, lo: u64, events: &[E]) -> Wrote
         requires limit { lo + length events.now ≤ 2 ^ 62 }
         ensures answer { AreWritten p lo events.now result }
         ensures counts { end.new ≡ end.old + result.count }
@@ -161,9 +160,9 @@ impl<L: Ledger> Locked<L> {
     }
 }
 
-impl<L: Ledger> Shared<L> {
+impl<E: Copy, L: Ledger> Shared<E, L> {
     /// Puts a history behind a lock. The ledger has a part for each end and one that stays.
-    pub fn new(recorded: Recorded, blank: Blank) -> Shared<L>
+    pub fn new(recorded: Recorded<E>, blank: Blank) -> Shared<E, L>
         requires name { blank.name ≡ L.name }
         requires parts { blank.parts ≡ L.parts }
         requires ends { blank.parts ≡ 65 }
@@ -216,8 +215,8 @@ impl<L: Ledger> Shared<L> {
         &self,
         rt: &impl Wait,
         end: &mut End<L>,
-        command: Command,
-        out: &mut [Event],
+        command: Command<E>,
+        out: &mut [E],
     ) -> Result<Reply, AllocError>
         requires { asked command ≤ length out.old }
         ensures answer { IfOk result (λ reply. IsAnswer command reply (take (count_in reply) out.new)) }
@@ -236,7 +235,7 @@ impl<L: Ledger> Shared<L> {
         end: &mut End<L>,
         p: u64,
         lo: u64,
-        events: &[Event],
+        events: &[E],
     ) -> Wrote
         requires limit { lo + length events.now ≤ 2 ^ 62 }
         ensures answer { AreWritten p lo events.now result }
@@ -248,7 +247,10 @@ impl<L: Ledger> Shared<L> {
 
 /// Takes the history from behind its lock, once all ends are back: it has as many entries as it
 /// began with and as the ends counted. Where an end is missing, all is handed back.
-pub fn finish<L: Ledger>(shared: Shared<L>, ends: Vec<End<L>>) -> Result<Recorded, Unfinished<L>>
+pub fn finish<E, L: Ledger>(
+    shared: Shared<E, L>,
+    ends: Vec<End<L>>,
+) -> Result<Recorded<E>, Unfinished<E, L>>
     ensures missing { IsErr result ↔ (vec_len ends < shared.given) }
     ensures entries { IfOk result (λ recorded. length recorded.history.entries ≡ shared.begun + sum ends.items) }
     ensures back { IfErr result (λ unfinished. (unfinished.shared ≡ shared) × (unfinished.ends ≡ ends)) }

@@ -19,7 +19,7 @@ fn an_inlet_and_an_outlet(rt: HostRuntime) -> Result<(), Fail> {
 }
 
 /// An event goes in and out.
-fn pass_between<I: Inlet, O: Outlet>(rt: &impl Abort, inlet: &mut I, outlet: &mut O) {
+fn pass_between<I: Inlet<Event>, O: Outlet<Event>>(rt: &impl Abort, inlet: &mut I, outlet: &mut O) {
     let mut out = [Event::NONE; 2];
     let unwritten = Err(Trouble::Refused(Refusal::NotWritten));
     assert_eq!(rt; inlet.try_claim(1), Ok(Claimed { lo: 0, hi: 0 }));
@@ -37,7 +37,7 @@ fn pass_between<I: Inlet, O: Outlet>(rt: &impl Abort, inlet: &mut I, outlet: &mu
 }
 
 /// The event is completed, and no other one comes.
-fn complete_one(rt: &impl Abort, outlet: &mut impl Outlet) {
+fn complete_one(rt: &impl Abort, outlet: &mut impl Outlet<Event>) {
     let mut out = [Event::NONE; 2];
     let untaken = Err(Trouble::Refused(Refusal::NotTaken));
     assert_eq!(rt; outlet.poll_into(&mut out), Ok(Polled::Idle));
@@ -55,7 +55,7 @@ fn by_inlet_and_outlet<L: Ledger, R: Wait + Abort>(
     requires parts { blank.parts ≡ L.parts }
     requires ends { blank.parts ≡ 65 }
 {
-    let mut shared = Shared::<L>::new(between_two(alloc, Shape::Alone)?, blank);
+    let mut shared = Shared::<Event, L>::new(between_two(alloc, Shape::Alone)?, blank);
     let one = shared.end().ok_or("an end")?;
     let two = shared.end().ok_or("an end")?;
     let mut halter = shared.end().ok_or("an end")?;

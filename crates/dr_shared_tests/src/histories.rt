@@ -44,13 +44,13 @@ pub fn opened(
     size: u64,
     mode: Mode,
     limit: u64,
-) -> Result<Recorded, Fail> {
+) -> Result<Recorded<Event>, Fail> {
     let size = Size::new(size)?;
     let graph = graph(alloc, shape)?;
-    Ok(Recorded::open(alloc, graph, size, mode, limit, 4, 2)?)
+    Ok(Recorded::open(alloc, graph, size, mode, limit, Event::NONE, 4, 2)?)
 }
 
 /// The history of a ring of four slots with two producers.
-pub fn between_two(alloc: Global, shape: Shape) -> Result<Recorded, Fail> {
+pub fn between_two(alloc: Global, shape: Shape) -> Result<Recorded<Event>, Fail> {
     opened(alloc, shape, 4, Mode::Multi(2), MAX_LIMIT)
 }

@@ -19,7 +19,7 @@ use std::sync::ledger::{Blank, Ledger};
 use std::test::Fail;
 
 /// The room that a command asks for.
-fn room(command: Command) -> usize
+fn room(command: Command<Event>) -> usize
     ensures { result ≡ asked command }
 {
     match command {
@@ -33,7 +33,7 @@ fn play_in<L: Ledger, R: Wait + Abort>(
     rt: &R,
     alloc: Global,
     blank: Blank,
-    recorded: Recorded,
+    recorded: Recorded<Event>,
     rows: &[(Call, Answer)],
     values: &[u64],
 ) -> Result<(), Fail>
@@ -41,7 +41,7 @@ fn play_in<L: Ledger, R: Wait + Abort>(
     requires parts { blank.parts ≡ L.parts }
     requires ends { blank.parts ≡ 65 }
 {
-    let mut shared = Shared::<L>::new(recorded, blank);
+    let mut shared = Shared::<Event, L>::new(recorded, blank);
     let mut end = shared.end().ok_or("an end")?;
     let mut kept = Vec::new(alloc);
     for (call, answer) in rows {
@@ -75,7 +75,7 @@ fn play_in<L: Ledger, R: Wait + Abort>(
 fn play(
     rt: &(impl Wait + Abort),
     alloc: Global,
-    recorded: Recorded,
+    recorded: Recorded<Event>,
     rows: &[(Call, Answer)],
     values: &[u64],
 ) -> Result<(), Fail> {

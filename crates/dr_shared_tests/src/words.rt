@@ -2,6 +2,7 @@
 
 use crate::histories::word;
 use dr_core::{Command, Refusal, Reply};
+use dr_seq::Event;
 
 /// A command: of a producer or handler, with its sequences or counts.
 #[derive(Clone, Copy)]
@@ -16,7 +17,7 @@ pub enum Call {
 }
 
 impl Call {
-    pub fn command(self) -> Command {
+    pub fn command(self) -> Command<Event> {
         match self {
             Call::Claim(p, n) => Command::Claim { p, n },
             Call::Write(p, s, first) => {

@@ -25,7 +25,7 @@ impl Scarce {
     }
 }
 
-impl Inlet for Scarce {
+impl Inlet<Event> for Scarce {
     ghost kept = { λ _. tt };
 
     fn try_claim(&mut self, n: u64) -> Result<Claimed, Trouble> {
@@ -173,7 +173,7 @@ struct Dealer {
     told: bool,
 }
 
-impl Outlet for Dealer {
+impl Outlet<Event> for Dealer {
     ghost kept = { λ _. tt };
 
     ghost told = { λ d. d.told };
@@ -231,7 +231,7 @@ struct Adder {
     sum: u64,
 }
 
-impl Handler for Adder {
+impl Handler<Event> for Adder {
     ghost use Rattle.std.specs.Prelude.{⊤};
 
     ghost goes = { λ old event s end new. ⊤ };

@@ -3,7 +3,7 @@
 
 use dr_core::{Core, Handler, MAX_LIMIT, Mode, OpenFault, Refusal, processor_turn};
 use dr_graph::{Graph, GraphBuilder, GraphFault};
-use dr_seq::{Event, Size, SizeFault};
+use dr_seq::{Size, SizeFault};
 use std::alloc::Global;
 use std::process::ExitCode;
 use thiserror::Error;
@@ -20,19 +20,57 @@ enum Fault {
     Call(#[from] Refusal),
 }
 
-/// Adds up the first words of what it is shown.
+/// What this program's producer sends. An event may be of any type that is `Copy`.
+#[derive(Clone, Copy, Debug, PartialEq, Eq)]
+struct Order {
+    account: u64,
+    instrument: u64,
+    price: u64,
+    quantity: u64,
+    sent_at: u64,
+    is_buy: bool,
+    reference: [u8; 16],
+}
+
+impl Order {
+    /// What the slots hold before the first order, and the buffer before the first batch.
+    const NONE: Order = Order {
+        account: 0,
+        instrument: 0,
+        price: 0,
+        quantity: 0,
+        sent_at: 0,
+        is_buy: false,
+        reference: [0; 16],
+    };
+
+    /// An order to buy so many.
+    fn to_buy(quantity: u64) -> Order {
+        Order {
+            account: 7,
+            instrument: 42,
+            price: 1250,
+            quantity,
+            sent_at: quantity,
+            is_buy: true,
+            reference: *b"first come, best",
+        }
+    }
+}
+
+/// Adds up the quantities of what it is shown.
 #[derive(Drop)]
 struct Sum {
     total: u64,
 }
 
-impl Handler for Sum {
+impl Handler<Order> for Sum {
     ghost use Rattle.std.specs.Prelude.{◌≡◌, ◌+◌, ◌%◌, ◌^◌};
 
-    ghost goes = { λ old event s end new. new.total ≡ (old.total + event.first) % 2 ^ 64 };
+    ghost goes = { λ old event s end new. new.total ≡ (old.total + event.quantity) % 2 ^ 64 };
 
-    fn on_event(&mut self, event: Event, _s: u64, _end: bool) {
-        self.total = self.total.wrapping_add(event.first);
+    fn on_event(&mut self, event: Order, _s: u64, _end: bool) {
+        self.total = self.total.wrapping_add(event.quantity);
     }
 }
 
@@ -43,16 +81,16 @@ fn graph(alloc: Global) -> Result<Graph, GraphFault> {
     builder.build()
 }
 
-/// Sends an event, if there is room for it.
-fn send(core: &mut Core, first: u64) -> Result<(), Refusal> {
+/// Sends an order, if there is room for it.
+fn send(core: &mut Core<Order>, order: Order) -> Result<(), Refusal> {
     let claimed = core.claim(0, 1)?;
-    core.write(0, claimed.lo, Event { first, second: 0 })?;
+    core.write(0, claimed.lo, order)?;
     core.publish(0, claimed.lo, claimed.hi)
 }
 
 /// Gives each handler a turn, in the graph's order.
-fn turns(core: &mut Core, sums: &mut [Sum; 3]) -> Result<(), Refusal> {
-    let mut buffer = [Event::NONE; 16];
+fn turns(core: &mut Core<Order>, sums: &mut [Sum; 3]) -> Result<(), Refusal> {
+    let mut buffer = [Order::NONE; 16];
     for (h, sum) in sums.iter_mut().enumerate() {
         processor_turn(core, h, sum, &mut buffer)?;
     }
@@ -60,13 +98,21 @@ fn turns(core: &mut Core, sums: &mut [Sum; 3]) -> Result<(), Refusal> {
 }
 
 fn exchange(alloc: Global) -> Result<[Sum; 3], Fault> {
-    let mut core = Core::open(alloc, graph(alloc)?, Size::new(8)?, Mode::Single, MAX_LIMIT)?;
+    let mut core = Core::open(
+        alloc,
+        graph(alloc)?,
+        Size::new(8)?,
+        Mode::Single,
+        MAX_LIMIT,
+        Order::NONE,
+    )?;
     let mut sums = [Sum { total: 0 }, Sum { total: 0 }, Sum { total: 0 }];
-    for number in 1..=100 {
-        match send(&mut core, number) {
+    for quantity in 1..=100 {
+        let order = Order::to_buy(quantity);
+        match send(&mut core, order) {
             Err(Refusal::NoRoom) => {
                 turns(&mut core, &mut sums)?;
-                send(&mut core, number)?;
+                send(&mut core, order)?;
             }
             sent => sent?,
         }

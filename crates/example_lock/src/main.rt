@@ -42,7 +42,7 @@ struct Counter {
     seen: u64,
 }
 
-impl Handler for Counter {
+impl Handler<Event> for Counter {
     ghost use Rattle.std.specs.Prelude.{◌≡◌, ◌+◌, ◌%◌, ◌^◌};
 
     ghost goes = { λ old event s end new. new.seen ≡ (old.seen + 1) % 2 ^ 64 };
@@ -53,7 +53,7 @@ impl Handler for Counter {
 }
 
 /// A producer's work. Its end is handed back, since the history is had only once all ends are.
-fn send<L: Ledger, R: Wait>(rt: &R, shared: &Shared<L>, end: End<L>, p: u64) -> End<L> {
+fn send<L: Ledger, R: Wait>(rt: &R, shared: &Shared<Event, L>, end: End<L>, p: u64) -> End<L> {
     let mut inlet = LockedInlet::new(rt, shared, end, p);
     let script = script(p);
     let _sent = produce(rt, &mut inlet, &OpenGate, 0, script.as_slice(), 4);
@@ -61,7 +61,7 @@ fn send<L: Ledger, R: Wait>(rt: &R, shared: &Shared<L>, end: End<L>, p: u64) -> 
 }
 
 /// A handler's work: it ends once the exchange is halted and the handler has everything.
-fn receive<L: Ledger, R: Wait>(rt: &R, shared: &Shared<L>, end: End<L>, h: usize) -> End<L> {
+fn receive<L: Ledger, R: Wait>(rt: &R, shared: &Shared<Event, L>, end: End<L>, h: usize) -> End<L> {
     let mut outlet = LockedOutlet::new(rt, shared, end, h);
     let mut buffer = [Event::NONE; 4];
     let mut counter = Counter { seen: 0 };
@@ -72,7 +72,7 @@ fn receive<L: Ledger, R: Wait>(rt: &R, shared: &Shared<L>, end: End<L>, h: usize
 /// Starts a thread a worker, halts once the producers are joined, and gives back every end.
 fn exchange<L: Ledger + Send + Sync, R: Threads + Wait + Sync>(
     rt: &R,
-    shared: &Shared<L>,
+    shared: &Shared<Event, L>,
     ends: Ends<L>,
 ) -> Option<Ends<L>> {
     thread::scope(
@@ -109,15 +109,25 @@ fn exchange<L: Ledger + Send + Sync, R: Threads + Wait + Sync>(
 }
 
 /// The core of a ring of eight slots with two producers and one handler, and room for its history.
-fn open(alloc: Global) -> Option<Recorded> {
+fn open(alloc: Global) -> Option<Recorded<Event>> {
     let mut builder = GraphBuilder::new(alloc);
     let _all = builder.handle_with(&["counter"]).ok()?;
     let graph = builder.build().ok()?;
     let size = Size::new(8).ok()?;
-    Recorded::open(alloc, graph, size, Mode::Multi(2), MAX_LIMIT, 200, 40).ok()
+    Recorded::open(
+        alloc,
+        graph,
+        size,
+        Mode::Multi(2),
+        MAX_LIMIT,
+        Event::NONE,
+        200,
+        40,
+    )
+    .ok()
 }
 
-fn make_ends<L: Ledger>(shared: &mut Shared<L>) -> Option<Ends<L>> {
+fn make_ends<L: Ledger>(shared: &mut Shared<Event, L>) -> Option<Ends<L>> {
     Some(Ends {
         first: shared.end()?,
         second: shared.end()?,
@@ -127,7 +137,7 @@ fn make_ends<L: Ledger>(shared: &mut Shared<L>) -> Option<Ends<L>> {
 }
 
 /// How many events the one list has that every handler received, by the audit of the history.
-fn audited(alloc: Global, recorded: &Recorded) -> Option<usize> {
+fn audited(alloc: Global, recorded: &Recorded<Event>) -> Option<usize> {
     let (one, two) = (script(0), script(1));
     let list = audit(alloc, recorded, &[one.as_slice(), two.as_slice()]).ok()?;
     Some(list.len())
@@ -143,7 +153,7 @@ fn run<L: Ledger + Send + Sync, R: Threads + Wait + Sync>(
     requires parts { blank.parts ≡ L.parts }
     requires ends { blank.parts ≡ 65 }
 {
-    let mut shared = Shared::<L>::new(open(alloc)?, blank);
+    let mut shared = Shared::<Event, L>::new(open(alloc)?, blank);
     let ends = make_ends(&mut shared)?;
     let Ends {
         first,

@@ -28,7 +28,7 @@ struct Adder {
     total: u64,
 }
 
-impl Handler for Adder {
+impl Handler<Event> for Adder {
     ghost use Rattle.std.specs.Prelude.{◌≡◌, ◌+◌, ◌%◌, ◌^◌};
 
     ghost goes = { λ old event s end new. new.total ≡ (old.total + event.first) % 2 ^ 64 };

@@ -22,7 +22,7 @@ const MOST_AT_ONCE: usize = 1024;
 pub struct Around<'a, L: Ledger, R> {
     pub rt: &'a R,
     pub alloc: Global,
-    pub shared: &'a Shared<L>,
+    pub shared: &'a Shared<Event, L>,
     /// What each producer sends.
     pub script: &'a [Event],
     /// The most events of a claim.

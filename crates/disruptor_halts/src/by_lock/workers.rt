@@ -28,7 +28,7 @@ const MOST_BEFORE_RETIREMENT: u64 = 4;
 pub struct Around<'a, L: Ledger, R> {
     pub rt: &'a R,
     pub alloc: Global,
-    pub shared: &'a Shared<L>,
+    pub shared: &'a Shared<Event, L>,
     pub signs: &'a Signs,
 }
 

@@ -3,9 +3,10 @@
 use crate::fault::Fault;
 use dr_core::Inlet;
 use dr_ring::{Halter, Sender};
+use dr_seq::Event;
 
 /// An end that sends over a ring.
-pub trait Producing: Inlet + Drop + Send {
+pub trait Producing: Inlet<Event> + Drop + Send {
     /// Whether sequences have to be published in their order.
     const IN_ORDER: bool;
 

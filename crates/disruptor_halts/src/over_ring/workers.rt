@@ -88,7 +88,7 @@ impl<I: Producing> Producer<I> {
     }
 }
 
-impl<O: Outlet + Drop> Handler<O> {
+impl<O: Outlet<Event> + Drop> Handler<O> {
     /// Whether it was told that the ring drained.
     fn receive_all(&mut self, signs: &Signs) -> Result<bool, Fault> {
         for _ in 0..MOST_TURNS {
@@ -163,7 +163,7 @@ fn publish<I: Producing, H: Halting, R: Threads + Wait + Sync>(
 
 /// Runs a ring with threads of its own for each producer and each handler, and halts it from this
 /// one.
-pub fn exchange<I: Producing, O: Outlet + Drop + Send, H: Halting, R: Threads + Wait + Sync>(
+pub fn exchange<I: Producing, O: Outlet<Event> + Drop + Send, H: Halting, R: Threads + Wait + Sync>(
     around: &Around<'_, R>,
     parties: Parties<I, O, H>,
 ) -> Result<Joined, Fault> {

@@ -1,7 +1,6 @@
 -- What the ends of an exchange show to whoever does not know which exchange it is, and what their calls answer and change.
-use Rattle.std.specs.Prelude.{◌≡◌, ℕ, ◌+◌, ◌-◌, ◌^◌, ◌<◌, ◌≤◌, Bool, true, false, not, ◌==◌, nat_lt, nat_le, Option, Some, None, is_none, unwrap_or, Result, Ok, Err, List, [], ◌∷◌, ◌++◌, length, map, take, drop, replicate, slice_index_or, slice_set}
-use Rattle.dr_seq.specs.declared.event.Event.{Event}
-use Rattle.dr_seq.specs.Event.{no_event}
+use Rattle.std.specs.List.{filter_map}
+use Rattle.std.specs.Prelude.{◌≡◌, ℕ, ◌+◌, ◌-◌, ◌^◌, ◌<◌, ◌≤◌, Bool, true, false, not, ◌==◌, nat_lt, nat_le, Option, Some, None, is_none, Result, Ok, Err, List, [], ◌∷◌, ◌++◌, length, take, drop, replicate, slice_index_or, slice_set}
 use Rattle.dr_core.specs.declared.refusal.Refusal.{Refusal}
 use Rattle.dr_core.specs.declared.command.Claimed.{Claimed}
 use Rattle.dr_core.specs.declared.command.Polled.{Polled}
@@ -14,21 +13,21 @@ use Rattle.dr_core.specs.Meaning.Refusals.{ClaimTests, WriteTests, SequenceTests
 -- What an end may show.
 
 -- what an only producer's end sent: the events that it published, in order, and each later sequence that it claimed, with its event once it is written
-pub record Sent : Type 0 where
-  pub published : List Event
-  pub pending : List (Option Event)
+pub record Sent (E : Type 0) : Type 0 where
+  pub published : List E
+  pub pending : List (Option E)
 
 -- how many sequences are claimed
-abbrev pub claimed_in : Sent → ℕ
+abbrev pub claimed_in : {E : Type 0} → Sent E → ℕ
 claimed_in e = length e.published + length e.pending
 
 -- the event of a sequence that is claimed and not published, once it is written
-abbrev pub open_event : Sent → ℕ → Option Event
+abbrev pub open_event : {E : Type 0} → Sent E → ℕ → Option E
 open_event e s = slice_index_or e.pending (s - length e.published) None
 
 -- what a handler's end received, in order, and how much of it is completed
-pub record Received : Type 0 where
-  pub events : List Event
+pub record Received (E : Type 0) : Type 0 where
+  pub events : List E
   pub completed : ℕ
 
 -- What is known of the machine's tests.
@@ -55,7 +54,7 @@ IsAnswerOf causes (Ok done) = NoneHolds MayFail causes
 IsAnswerOf causes (Err (Refused refusal)) = IsFirst MayHold MayFail refusal causes
 IsAnswerOf causes (Err Memory) = Unit {0}
 
-abbrev pub claim_tests : Option Sent → ℕ → ClaimTests Verdict
+abbrev pub claim_tests : {E : Type 0} → Option (Sent E) → ℕ → ClaimTests Verdict
 claim_tests None n =
     record { no_producer = unknown; bad_count = AtLeast (n == 0); halted = unknown; exhausted = AtLeast (nat_lt (2 ^ 62) n); no_room = unknown }
 claim_tests (Some e) n = record {
@@ -66,7 +65,7 @@ claim_tests (Some e) n = record {
   no_room = unknown;
 }
 
-abbrev pub write_tests : Option Sent → ℕ → WriteTests Verdict
+abbrev pub write_tests : {E : Type 0} → Option (Sent E) → ℕ → WriteTests Verdict
 write_tests None s = record { no_producer = unknown; unclaimed = unknown; published = unknown; not_owned = unknown }
 write_tests (Some e) s = record {
   no_producer = Exactly false;
@@ -75,7 +74,7 @@ write_tests (Some e) s = record {
   not_owned = Exactly false;
 }
 
-abbrev pub end_sequence_tests : Option Sent → ℕ → SequenceTests Verdict
+abbrev pub end_sequence_tests : {E : Type 0} → Option (Sent E) → ℕ → SequenceTests Verdict
 end_sequence_tests None s = record { published = unknown; not_owned = unknown; unwritten = unknown }
 end_sequence_tests (Some e) s = record {
   published = Exactly (nat_lt s (length e.published));
@@ -83,12 +82,12 @@ end_sequence_tests (Some e) s = record {
   unwritten = Exactly (is_none (open_event e s));
 }
 
-abbrev pub publish_tests : Option Sent → ℕ → ℕ → PublishTests Verdict
-publish_tests None lo hi = record {
+abbrev pub publish_tests : {E : Type 0} → Option (Sent E) → ℕ → ℕ → PublishTests Verdict
+publish_tests {E} None lo hi = record {
   no_producer = unknown;
   bad_count = Exactly (nat_lt hi lo);
   unclaimed = unknown;
-  of_sequence = end_sequence_tests None;
+  of_sequence = end_sequence_tests {E = E} None;
   out_of_order = unknown;
 }
 publish_tests (Some e) lo hi = record {
@@ -100,11 +99,11 @@ publish_tests (Some e) lo hi = record {
 }
 
 -- of a poll with room for so many
-abbrev pub poll_tests : Option Received → ℕ → PollTests Verdict
+abbrev pub poll_tests : {E : Type 0} → Option (Received E) → ℕ → PollTests Verdict
 poll_tests None room = record { no_handler = unknown; retired = unknown; bad_count = Exactly (room == 0) }
 poll_tests (Some e) room = record { no_handler = Exactly false; retired = unknown; bad_count = Exactly (room == 0) }
 
-abbrev pub complete_tests : Option Received → ℕ → CompleteTests Verdict
+abbrev pub complete_tests : {E : Type 0} → Option (Received E) → ℕ → CompleteTests Verdict
 complete_tests None upto = record { no_handler = unknown; retired = unknown; behind = unknown; not_taken = unknown }
 complete_tests (Some e) upto = record {
   no_handler = Exactly false;
@@ -120,39 +119,39 @@ abbrev pub GivesStretch : ℕ → Result Claimed Trouble → Type 0
 GivesStretch n (Ok c) = (c.lo ≤ c.hi) × (c.hi + 1 ≡ c.lo + n) × (c.hi < 2 ^ 62)
 GivesStretch n (Err trouble) = Unit {0}
 
-abbrev pub ClaimAnswers : Option Sent → ℕ → Result Claimed Trouble → Type 0
+abbrev pub ClaimAnswers : {E : Type 0} → Option (Sent E) → ℕ → Result Claimed Trouble → Type 0
 ClaimAnswers shown n result = IsAnswerOf (claim_causes (claim_tests shown n)) result × GivesStretch n result
 
-abbrev pub WriteAnswers : Option Sent → ℕ → Result (Unit {0}) Trouble → Type 0
+abbrev pub WriteAnswers : {E : Type 0} → Option (Sent E) → ℕ → Result (Unit {0}) Trouble → Type 0
 WriteAnswers shown s result = IsAnswerOf (write_causes (write_tests shown s)) result
 
 -- what kept the next of some events from being written: nothing where all are
-abbrev pub StopsAt : Option Sent → ℕ → ℕ → ℕ → Option Trouble → Type 0
+abbrev pub StopsAt : {E : Type 0} → Option (Sent E) → ℕ → ℕ → ℕ → Option Trouble → Type 0
 StopsAt shown lo n count None = count ≡ n
 StopsAt shown lo n count (Some trouble) = (count < n) × WriteAnswers shown (lo + count) (Err trouble)
 
 -- of n events, to be written from lo on, the first count are written
-pub record WriteAllAnswers (shown : Option Sent) (lo n : ℕ) (answer : Wrote) : Type 0 where
+pub record WriteAllAnswers {E : Type 0} (shown : Option (Sent E)) (lo n : ℕ) (answer : Wrote) : Type 0 where
   pub written : (k : ℕ) → k < answer.count → WriteAnswers shown (lo + k) (Ok tt)
   pub stops : StopsAt shown lo n answer.count answer.trouble
 
-abbrev pub PublishAnswers : Option Sent → ℕ → ℕ → Result (Unit {0}) Trouble → Type 0
+abbrev pub PublishAnswers : {E : Type 0} → Option (Sent E) → ℕ → ℕ → Result (Unit {0}) Trouble → Type 0
 PublishAnswers shown lo hi result = IsAnswerOf (publish_causes lo hi (publish_tests shown lo hi)) result
 
 -- a batch stands at the front of the buffer, and the rest of it stays as it was, all of it where there is no batch
-abbrev pub FillsFront : List Event → List Event → Result Polled Trouble → Type 0
+abbrev pub FillsFront : {E : Type 0} → List E → List E → Result Polled Trouble → Type 0
 FillsFront out out' (Ok (Batch first count end)) = (0 < count) × (count ≤ length out) × (first + count < 2 ^ 64) × (drop count out' ≡ drop count out)
 FillsFront out out' (Ok other) = out' ≡ out
 FillsFront out out' (Err trouble) = out' ≡ out
 
-abbrev pub PollAnswers : Option Received → List Event → List Event → Result Polled Trouble → Type 0
+abbrev pub PollAnswers : {E : Type 0} → Option (Received E) → List E → List E → Result Polled Trouble → Type 0
 PollAnswers shown out out' result = IsAnswerOf (poll_causes (poll_tests shown (length out))) result × FillsFront out out' result
 
 abbrev pub is_drained : Result Polled Trouble → Bool
 is_drained (Ok Drained) = true
 is_drained other = false
 
-abbrev pub CompleteAnswers : Option Received → ℕ → Result (Unit {0}) Trouble → Type 0
+abbrev pub CompleteAnswers : {E : Type 0} → Option (Received E) → ℕ → Result (Unit {0}) Trouble → Type 0
 CompleteAnswers shown upto result = IsAnswerOf (complete_causes (complete_tests shown upto)) result
 
 -- How each call changes what an end shows. In trouble it changes nothing.
@@ -164,53 +163,54 @@ WhereShown Changes None (Some new) = ⊥
 WhereShown Changes (Some old) None = ⊥
 WhereShown Changes (Some old) (Some new) = Changes old new
 
-abbrev pub with_claimed : Sent → ℕ → Sent
+abbrev pub with_claimed : {E : Type 0} → Sent E → ℕ → Sent E
 with_claimed e n = record e { pending = e.pending ++ replicate n None }
 
 -- the next n sequences are claimed
-abbrev pub Claims : ℕ → Result Claimed Trouble → Sent → Sent → Type 0
+abbrev pub Claims : {E : Type 0} → ℕ → Result Claimed Trouble → Sent E → Sent E → Type 0
 Claims n (Ok c) old new = (c.lo ≡ claimed_in old) × (new ≡ with_claimed old n)
 Claims n (Err trouble) old new = new ≡ old
 
-abbrev pub with_event : Sent → ℕ → Event → Sent
+abbrev pub with_event : {E : Type 0} → Sent E → ℕ → E → Sent E
 with_event e s event = record e { pending = slice_set e.pending (s - length e.published) (Some event) }
 
 -- an open sequence has the event
-abbrev pub Writes : ℕ → Event → Result (Unit {0}) Trouble → Sent → Sent → Type 0
+abbrev pub Writes : {E : Type 0} → ℕ → E → Result (Unit {0}) Trouble → Sent E → Sent E → Type 0
 Writes s event (Ok done) old new = new ≡ with_event old s event
 Writes s event (Err trouble) old new = new ≡ old
 
 -- events are written to the sequences from lo on, one after another
-abbrev pub with_events : ℕ → List Event → Sent → Sent
+abbrev pub with_events : {E : Type 0} → ℕ → List E → Sent E → Sent E
 with_events lo [] e = e
 with_events lo (event ∷ events) e = with_events (lo + 1) events (with_event e lo event)
 
-abbrev pub WritesAll : ℕ → List Event → Sent → Sent → Type 0
+abbrev pub WritesAll : {E : Type 0} → ℕ → List E → Sent E → Sent E → Type 0
 WritesAll lo events old new = new ≡ with_events lo events old
 
-abbrev pub event_or_none : Option Event → Event
-event_or_none o = unwrap_or o no_event
+-- the events of those that are written
+abbrev pub written_of : {E : Type 0} → List (Option E) → List E
+written_of pending = filter_map (λ o. o) pending
 
 -- the open sequences below n are published
-abbrev pub published_below : Sent → ℕ → Sent
+abbrev pub published_below : {E : Type 0} → Sent E → ℕ → Sent E
 published_below e n = record {
-  published = e.published ++ map event_or_none (take (n - length e.published) e.pending);
+  published = e.published ++ written_of (take (n - length e.published) e.pending);
   pending = drop (n - length e.published) e.pending;
 }
 
 -- the open sequences up to hi are published
-abbrev pub Publishes : ℕ → ℕ → Result (Unit {0}) Trouble → Sent → Sent → Type 0
+abbrev pub Publishes : {E : Type 0} → ℕ → ℕ → Result (Unit {0}) Trouble → Sent E → Sent E → Type 0
 Publishes lo hi (Ok done) old new = new ≡ published_below old (hi + 1)
 Publishes lo hi (Err trouble) old new = new ≡ old
 
 -- a batch has the next events; any other answer takes none
-abbrev pub Takes : List Event → Result Polled Trouble → Received → Received → Type 0
+abbrev pub Takes : {E : Type 0} → List E → Result Polled Trouble → Received E → Received E → Type 0
 Takes out' (Ok (Batch first count end)) old new = (first ≡ length old.events) × (new ≡ record old { events = old.events ++ take count out' })
 Takes out' (Ok other) old new = new ≡ old
 Takes out' (Err trouble) old new = new ≡ old
 
 -- what is completed is everything up to there
-abbrev pub Completes : ℕ → Result (Unit {0}) Trouble → Received → Received → Type 0
+abbrev pub Completes : {E : Type 0} → ℕ → Result (Unit {0}) Trouble → Received E → Received E → Type 0
 Completes upto (Ok done) old new = new ≡ record old { completed = upto }
 Completes upto (Err trouble) old new = new ≡ old
 

@@ -1,18 +1,20 @@
 -- What a core's fields keep.
-use Rattle.std.specs.Prelude.{◌≡◌, ℕ, ◌+◌, ◌^◌, ◌<◌, ◌≤◌, Bool, true, false, List, length, Contains, slice_index}
+use Rattle.std.specs.Prelude.{◌≡◌, ℕ, ◌+◌, ◌^◌, ◌<◌, ◌≤◌, Bool, true, false, ◌&&◌, ◌==◌, if◌then◌else◌, List, length, Contains, slice_index}
 use Rattle.dr_seq.specs.Rounds.{is_marked}
 use Rattle.dr_seq.specs.Size.{IsSize}
 use Rattle.dr_core.specs.declared.engine.Core.TheInside.{Inside}
 use Rattle.dr_graph.specs.Meaning.Graph.{flagged, upstreams_of, finals_without, IsGraph}
-use Rattle.dr_core.specs.Meaning.Machine.{Setup, handlers, setup_of}
+use Rattle.dr_core.specs.declared.command.Polled.{Polled}
+use Rattle.dr_core.specs.declared.command.Polled.TheVariants.{Batch, Drained, Gating, Idle}
+use Rattle.dr_core.specs.Meaning.Machine.{Setup, handlers, is_single, setup_of}
 use Rattle.dr_core.specs.Calls.CoreView.{CoreView, AreGating, retired_in, recent_of}
 use Rattle.dr_core.specs.Meaning.Runs.{IsReached}
 use Rattle.dr_core.specs.Inside.Availability.{KeptBySlot, slot_known, HasOwners, is_ahead}
 
-abbrev pub kept_of : Inside → KeptBySlot
-kept_of a = record { mode = a.mode; front = a.front; filled = a.filled; published = a.published; written = a.written; owners = a.owners.items; events = a.events }
+abbrev pub kept_of : {E : Type 0} → Inside E → KeptBySlot E
+kept_of a = record { mode = a.mode; front = a.front; filled = a.filled; published = a.published; written = a.written; owners = a.owners.items; events = a.events; blank = a.blank }
 
-abbrev pub view_of : Inside → CoreView
+abbrev pub view_of : {E : Type 0} → Inside E → CoreView E
 view_of a = record {
   setup = setup_of a.graph.upstreams a.size a.mode a.limit;
   names = a.graph.names;
@@ -46,7 +48,7 @@ pub record AreInBounds (c : Setup) (claims : ℕ) (completed : List ℕ) (gone :
   pub left : (h : ℕ) × (h < handlers c) × (gone h ≡ false)
 
 -- what holds of every core, however it keeps the recent sequences; since it is reached, its counts are those of a state of the machine
-pub record IsWhole (v : CoreView) : Type 0 where
+pub record IsWhole {E : Type 0} (v : CoreView E) : Type 0 where
   pub setup : IsSetup v.setup
   pub open setup use *
   pub retired : length v.retired ≡ handlers v.setup
@@ -58,7 +60,7 @@ pub record IsWhole (v : CoreView) : Type 0 where
   pub open bounds use *
 
 -- a slot a sequence in each list, and no mark of a sequence that is not claimed yet
-pub record IsAvailable (a : KeptBySlot) (size next : ℕ) : Type 0 where
+pub record IsAvailable {E : Type 0} (a : KeptBySlot E) (size next : ℕ) : Type 0 where
   pub published : length a.published ≡ size
   pub written : length a.written ≡ size
   pub owners : HasOwners a.mode a.owners size
@@ -74,8 +76,15 @@ pub record IsClaimable (c : Setup) (next : ℕ) (halted : Bool) (gone : ℕ → 
   pub room : (f : ℕ) → Contains (finals_without c.upstreams gone) f → upto ≤ c.size + slice_index completed f
 
 -- the two rounds, the flags of those that gate, and a remembered sequence up to which nothing refuses a claim
-pub record IsKept (a : Inside) : Type 0 where
+pub record IsKept {E : Type 0} (a : Inside E) : Type 0 where
   pub whole : IsWhole (view_of a)
   pub available : IsAvailable (kept_of a) a.size a.next
   pub gating : AreGating a.gating.items a.graph.upstreams (flagged a.retired.items)
   pub claimable : IsClaimable (view_of a).setup a.next a.halted (flagged a.retired.items) a.completed.items a.claimable
+
+-- why a poll hands nothing out to a handler that took so many events, as many as are offered
+abbrev pub IsNothing : {E : Type 0} → CoreView E → ℕ → Polled → Type 0
+IsNothing v first Drained = (v.halted ≡ true) × (first ≡ v.next)
+IsNothing v first Gating = ((v.halted && (first == v.next)) ≡ false) × (first < (if is_single v.setup.mode then v.front else v.next))
+IsNothing v first Idle = ((v.halted && (first == v.next)) ≡ false) × ((if is_single v.setup.mode then v.front else v.next) ≤ first)
+IsNothing v first (Batch start count end) = ⊥

@@ -1,9 +1,7 @@
 -- The machine: what each call answers and leaves.
 -- Its lists, sets and maps go by sequence and have no bound; it has no slots, and uses nothing again.
-use Rattle.std.specs.Prelude.{ℕ, zero, suc, ◌+◌, ◌-◌, min, Bool, true, false, not, ◌&&◌, ◌||◌, ◌==◌, nat_lt, nat_le, if◌then◌else◌, Option, None, Some, is_none, unwrap_or, List, [], ◌∷◌, ◌++◌, length, map, replicate, slice_index, slice_set}
-use Rattle.std.specs.List.{range_with_len}
-use Rattle.dr_seq.specs.declared.event.Event.{Event}
-use Rattle.dr_seq.specs.Event.{no_event}
+use Rattle.std.specs.Prelude.{ℕ, zero, suc, ◌+◌, ◌-◌, min, Bool, true, false, not, ◌&&◌, ◌||◌, ◌==◌, nat_lt, nat_le, if◌then◌else◌, Option, None, Some, is_none, List, [], ◌∷◌, ◌++◌, length, map, replicate, slice_index, slice_set}
+use Rattle.std.specs.List.{range_with_len, filter_map}
 use Rattle.dr_core.specs.declared.mode.Mode.{Mode}
 use Rattle.dr_core.specs.declared.mode.Mode.TheVariants.{Single, Multi}
 use Rattle.dr_core.specs.declared.command.Command.{Command}
@@ -21,9 +19,9 @@ pub record Setup : Type 0 where
   pub mode : Mode
   pub limit : ℕ
 
-pub record State : Type 0 where
+pub record State (E : Type 0) : Type 0 where
   pub owners : List ℕ  -- of each claimed sequence, its producer
-  pub written : ℕ → Option Event  -- of each sequence, the event last written to it
+  pub written : ℕ → Option E  -- of each sequence, the event last written to it
   pub published : ℕ → Bool  -- which sequences are published
   pub taken : List ℕ  -- of each handler, how many events it took
   pub completed : List ℕ  -- of each handler, how many events it completed
@@ -31,10 +29,10 @@ pub record State : Type 0 where
   pub retired : ℕ → Bool  -- which handlers are retired
 
 -- what a call answers, the events that it hands out, and what it leaves
-pub record Outcome : Type 0 where
+pub record Outcome (E : Type 0) : Type 0 where
   pub reply : Reply
-  pub values : List Event
-  pub state : State
+  pub values : List E
+  pub state : State E
 
 abbrev pub handlers : Setup → ℕ
 handlers c = length c.upstreams
@@ -44,7 +42,7 @@ abbrev pub setup_of : List (List ℕ) → ℕ → Mode → ℕ → Setup
 setup_of upstreams size mode limit = record { upstreams = upstreams; size = size; mode = mode; limit = limit }
 
 -- nothing is claimed, written, published, taken or completed, and nobody is retired
-abbrev pub opening : Setup → State
+abbrev pub opening : {E : Type 0} → Setup → State E
 opening c =
     record { owners = []; written = λ s. None; published = λ s. false; taken = replicate (handlers c) 0; completed = replicate (handlers c) 0; halted = false; retired = nobody }
 
@@ -57,19 +55,19 @@ producers Single = 1
 producers (Multi p) = p
 
 -- the handlers that gate a claim: those that are not retired, and upstream of none that is not
-abbrev pub gating : Setup → State → List ℕ
+abbrev pub gating : {E : Type 0} → Setup → State E → List ℕ
 gating c m = finals_without c.upstreams m.retired
 
 -- the retired handlers with one more
-abbrev pub retired_with : State → ℕ → ℕ → Bool
+abbrev pub retired_with : {E : Type 0} → State E → ℕ → ℕ → Bool
 retired_with m h k = m.retired k || k == h
 
 -- the least completed count of some handlers
-abbrev pub least_completed : State → List ℕ → ℕ
+abbrev pub least_completed : {E : Type 0} → State E → List ℕ → ℕ
 least_completed m hs = least_of (map (λ h. slice_index m.completed h) hs)
 
 -- the count that a claim is gated by
-abbrev pub gate : Setup → State → ℕ
+abbrev pub gate : {E : Type 0} → Setup → State E → ℕ
 gate c m = least_completed m (gating c m)
 
 -- the least number that is not in a set, or the bound where all below it are
@@ -78,36 +76,36 @@ least_outside set zero = 0
 least_outside set (suc bound) = if (least_outside set bound == bound) && set bound then suc bound else least_outside set bound
 
 -- how many sequences are claimed
-abbrev pub next : State → ℕ
+abbrev pub next : {E : Type 0} → State E → ℕ
 next m = length m.owners
 
 -- the least sequence that is not published
-abbrev pub front : State → ℕ
+abbrev pub front : {E : Type 0} → State E → ℕ
 front m = least_outside m.published (next m)
 
 -- what the barrier of a handler with these upstreams lets through: what is published, or what all of them completed
-abbrev pub offered : State → List ℕ → ℕ
+abbrev pub offered : {E : Type 0} → State E → List ℕ → ℕ
 offered m [] = front m
 offered m (up ∷ ups) = least_completed m (up ∷ ups)
 
-abbrev pub available : Setup → State → ℕ → ℕ
+abbrev pub available : {E : Type 0} → Setup → State E → ℕ → ℕ
 available c m h = offered m (upstreams_of c.upstreams h)
 
 -- one producer moves the cursor when it publishes, several when they claim
-abbrev pub cursor : Setup → State → ℕ
+abbrev pub cursor : {E : Type 0} → Setup → State E → ℕ
 cursor c m = if is_single c.mode then front m else next m
 
 -- the tests of one sequence of a publication
-abbrev pub sequence_tests : State → ℕ → ℕ → SequenceTests Bool
+abbrev pub sequence_tests : {E : Type 0} → State E → ℕ → ℕ → SequenceTests Bool
 sequence_tests m p s =
     record { published = m.published s; not_owned = not (slice_index m.owners s == p); unwritten = is_none (m.written s) }
 
 -- what refuses to publish one sequence, in order
-abbrev pub publish_faults : State → ℕ → ℕ → List (Bool × Refusal)
+abbrev pub publish_faults : {E : Type 0} → State E → ℕ → ℕ → List (Bool × Refusal)
 publish_faults m p s = sequence_causes (sequence_tests m p s)
 
 -- what refuses a command, in order: the first test that holds is answered
-abbrev pub refusals : Setup → State → Command → List (Bool × Refusal)
+abbrev pub refusals : {E : Type 0} → Setup → State E → Command E → List (Bool × Refusal)
 refusals c m (Claim p n) = claim_causes (record {
   no_producer = nat_le (producers c.mode) p;
   bad_count = n == 0 || nat_lt c.size n;
@@ -143,22 +141,22 @@ refusals c m (Retire h) = retire_causes (record {
   last_handler = not (is_some_left (handlers c) (retired_with m h));
 })
 
-abbrev pub unchanged : Reply → State → Outcome
+abbrev pub unchanged : {E : Type 0} → Reply → State E → Outcome E
 unchanged r m = record { reply = r; values = []; state = m }
 
 -- the next events of a handler, at most `max`
-abbrev pub batch : Setup → State → ℕ → ℕ → Outcome
+abbrev pub batch : {E : Type 0} → Setup → State E → ℕ → ℕ → Outcome E
 batch c m h max =
     let first : ℕ = slice_index m.taken h in
     let count : ℕ = min (available c m h - first) max in
     record {
       reply = Batch first count (first + count == available c m h);
-      values = map (λ s. unwrap_or (m.written s) no_event) (range_with_len first count);
+      values = filter_map m.written (range_with_len first count);
       state = record m { taken = slice_set m.taken h (first + count) };
     }
 
 -- what a command answers and leaves where nothing refuses it
-abbrev pub accepted : Setup → State → Command → Outcome
+abbrev pub accepted : {E : Type 0} → Setup → State E → Command E → Outcome E
 accepted c m (Claim p n) =
     record { reply = Claimed (next m) (next m + n - 1); values = []; state = record m { owners = m.owners ++ replicate n p } }
 accepted c m (Write p s event) =
@@ -176,9 +174,9 @@ accepted c m Halt = record { reply = Halting; values = []; state = record m { ha
 accepted c m (Retire h) = record { reply = Retired; values = []; state = record m { retired = retired_with m h } }
 
 -- the first test that holds refuses, and changes nothing
-abbrev pub unless : List (Bool × Refusal) → State → Outcome → Outcome
+abbrev pub unless : {E : Type 0} → List (Bool × Refusal) → State E → Outcome E → Outcome E
 unless [] m o = o
 unless (test ∷ tests) m o = if test.0 then unchanged (Refused test.1) m else unless tests m o
 
-abbrev pub step : Setup → State → Command → Outcome
+abbrev pub step : {E : Type 0} → Setup → State E → Command E → Outcome E
 step c m command = unless (refusals c m command) m (accepted c m command)

@@ -1,6 +1,5 @@
 -- A whole run of commands.
 use Rattle.std.specs.Prelude.{ℕ, ◌+◌, min, List, [], ◌∷◌, take, drop}
-use Rattle.dr_seq.specs.declared.event.Event.{Event}
 use Rattle.dr_core.specs.declared.command.Command.{Command}
 use Rattle.dr_core.specs.declared.command.Command.TheVariants.{Poll}
 use Rattle.dr_core.specs.declared.command.Reply.{Reply}
@@ -22,30 +21,30 @@ counts_of [] = 0
 counts_of (reply ∷ replies) = count_in reply + counts_of replies
 
 -- the room that a command needs at most: no batch is longer than the ring
-abbrev pub offers : Command → ℕ → ℕ
+abbrev pub offers : {E : Type 0} → Command E → ℕ → ℕ
 offers (Poll h max) size = min max size
 offers other size = 0
 
 -- the room that some commands need at most
-abbrev pub needed : List Command → ℕ → ℕ
+abbrev pub needed : {E : Type 0} → List (Command E) → ℕ → ℕ
 needed [] size = 0
 needed (command ∷ commands) size = offers command size + needed commands size
 
 -- each command with its reply, and the events cut by the counts of the batches
-abbrev pub transcript_of : List Command → List Reply → List Event → Transcript
+abbrev pub transcript_of : {E : Type 0} → List (Command E) → List Reply → List E → Transcript E
 transcript_of [] replies values = []
 transcript_of (command ∷ commands) [] values = []
 transcript_of (command ∷ commands) (reply ∷ replies) values =
     record { command = command; reply = reply; values = take (count_in reply) values } ∷ transcript_of commands replies (drop (count_in reply) values)
 
 -- a transcript that leads to a state that the core shows, and has the five laws
-pub record RunsTo (c : Setup) (t : Transcript) (v : CoreView) : Type 0 where
-  pub state : State
+pub record RunsTo {E : Type 0} (c : Setup) (t : Transcript E) (v : CoreView E) : Type 0 where
+  pub state : State E
   pub leads : LeadsTo c t state
   pub shows : Shows v state
   pub lawful : Laws c t
 
 -- a core is reached where some transcript leads from its opening to a state that it shows
-pub record IsReached (v : CoreView) : Type 0 where
-  pub transcript : Transcript
+pub record IsReached {E : Type 0} (v : CoreView E) : Type 0 where
+  pub transcript : Transcript E
   pub runs : RunsTo v.setup transcript v

@@ -4,7 +4,7 @@ use Rattle.dr_core.specs.Meaning.Machine.{State, next}
 use Rattle.dr_core.specs.Meaning.Transcript.{Transcript, next_of, owner_of, is_published, last_written, event_of, received_by, taken_by, completed_by, is_halted, retired_by}
 
 -- each word of transcripts says what the state has; a sequence that is not claimed has no owner
-pub record Tells (t : Transcript) (m : State) : Type 0 where
+pub record Tells {E : Type 0} (t : Transcript E) (m : State E) : Type 0 where
   pub next : next_of t ≡ next m
   pub owners : (s : ℕ) → owner_of t s ≡ slice_get m.owners s
   pub published : (s : ℕ) → is_published t s ≡ m.published s

@@ -1,21 +1,24 @@
 //! The handlers' calls: events are taken as their barriers let them through, and completed.
 
-ghost use Rattle.std.specs.Prelude.{◌≡◌, ◌-◌, ◌↔◌, ◌⊎◌, true, Err, ◌<◌, ◌≤◌, ◌^◌, ◌+◌, ◌++◌, [], length, map, drop, OnErr, IfOk, IfErr, IsOk, slice_index, if◌then◌else◌};
+ghost use Rattle.std.specs.Prelude.{◌≡◌, ◌-◌, ◌↔◌, ◌⊎◌, ℕ, Bool, List, Ok, min, true, Err, ◌<◌, ◌≤◌, ◌^◌, ◌+◌, ◌++◌, [], length, map, drop, OnErr, IfOk, IfErr, IsOk, slice_index, if◌then◌else◌};
 ghost use Rattle.std.specs.List.{range_with_len};
 ghost use Rattle.dr_seq.specs.Slots.{event_at};
 ghost use Rattle.dr_graph.specs.Meaning.Graph.{upstreams_of};
 ghost use Rattle.dr_core.specs.Calls.CoreView.{retired_in};
-ghost use Rattle.dr_core.specs.Meaning.Machine.{State, available as available_of, handlers, is_single};
+ghost use Rattle.dr_core.specs.Meaning.Machine.{State, available as available_of, handlers, is_single, step};
 ghost use Rattle.dr_core.specs.Meaning.Runs.{count_in};
+ghost use Rattle.dr_core.specs.Inside.Fields.{IsNothing};
+ghost use Rattle.dr_core.specs.Calls.Handling.{TakesTurn};
 ghost use Rattle.dr_core.specs.Calls.Shows.{Shows, IsStep, TakesIfBatch, CanComplete, offered_to, unit_reply, poll_reply, polled};
 
 use crate::command::{Command, Polled, Reply};
 use crate::engine::Core;
+use crate::handler::{InPlaceHandler, show_stretch};
 use crate::least::least_count;
 use crate::refusal::Refusal;
-use dr_seq::{Event, Slots};
+use dr_seq::Slots;
 
-impl Core {
+impl<E: Copy> Core<E> {
     /// How many events a handler could take by now: those published, or those that all its
     /// upstreams completed.
     fn available(&self, h: usize) -> u64
@@ -44,7 +47,8 @@ impl Core {
     /// How many events a poll could give a handler now.
     pub fn ready(&self, h: usize) -> Result<u64, Refusal>
         ensures stranger { result ≡ Err Refusal.NoHandler ↔ (handlers self.now.setup ≤ h) }
-        ensures count { IfOk result (λ n. (m : State) → Shows self.now m → n ≡ available_of self.now.setup m h - slice_index m.taken h) }
+        ensures count { IfOk result (λ n. (m : State E) → Shows self.now m → n ≡ available_of self.now.setup m h - slice_index m.taken h) }
+        ensures gives { IfOk result (λ n. (m : State E) (max : ℕ) → Shows self.now m → length (step self.now.setup m (Command.Poll h max)).values ≡ min n max) }
         ensures retired { result ≡ Err Refusal.Retired ↔ (h < handlers self.now.setup) × (retired_in self.now h ≡ true) }
         ensures refused { IfErr result (λ refusal. (refusal ≡ Refusal.NoHandler) ⊎ (refusal ≡ Refusal.Retired)) }
     {
@@ -61,7 +65,7 @@ impl Core {
 
     /// Takes what the barrier of a handler lets through, at most as much as `out` holds, and puts
     /// it at the front of `out`. `end` is LMAX's end of batch, unless `out` was too small for all.
-    pub fn poll_into(&mut self, h: usize, out: &mut [Event]) -> Result<Polled, Refusal>
+    pub fn poll_into(&mut self, h: usize, out: &mut [E]) -> Result<Polled, Refusal>
         ensures step { IsStep self.old (Command.Poll h (length out.old)) (poll_reply result) (polled result out.new) self.new }
         ensures rest { out.new ≡ polled result out.new ++ drop (length (polled result out.new)) out.old }
         ensures fits { count_in (poll_reply result) ≤ length out.old }
@@ -89,13 +93,54 @@ impl Core {
                 end: first + count == available,
             });
         }
+        Ok(self.why_nothing(first))
+    }
+
+    /// One turn of LMAX's batch processor over the events where they lie: all that the barrier of
+    /// a handler lets through is shown to it, in at most two pieces, and then completed. So the last
+    /// event is always marked. Answers other than a batch reach no handler.
+    pub fn turn_in_place<H: InPlaceHandler<E>>(
+        &mut self,
+        h: usize,
+        handler: &mut H,
+    ) -> Result<Polled, Refusal>
+        ensures turn { (values : List E) × TakesTurn H.goes self.old h self.old.setup.size result values self.new handler.old handler.new }
+        ensures all { (first : ℕ) (count : ℕ) (end : Bool) → result ≡ Ok (Polled.Batch first count end) → end ≡ true }
+        ensures refused { OnErr result (self.new ≡ self.old) }
+    {
+        if h >= self.graph.len() {
+            return Err(Refusal::NoHandler);
+        }
+        if self.retired[h] {
+            return Err(Refusal::Retired);
+        }
+        let first = self.taken[h];
+        let available = self.available(h);
+        if first >= available {
+            return Ok(self.why_nothing(first));
+        }
+        let count = available - first;
+        show_stretch(handler, &self.events, first, count as usize);
+        self.taken[h] = available;
+        self.completed[h] = available;
+        Ok(Polled::Batch {
+            first,
+            count,
+            end: true,
+        })
+    }
+
+    /// What a poll answers a handler that took all that its barrier lets through.
+    fn why_nothing(&self, first: u64) -> Polled
+        ensures { IsNothing self.now first result }
+    {
         if self.halted && first == self.next {
-            return Ok(Polled::Drained);
+            return Polled::Drained;
         }
         if first < self.cursor() {
-            return Ok(Polled::Gating);
+            return Polled::Gating;
         }
-        Ok(Polled::Idle)
+        Polled::Idle
     }
 
     /// A handler has done with its first `upto` events, so that its followers may take them, and
@@ -127,11 +172,11 @@ const MANY_EVENTS: usize = 16;
 
 /// Copies the events of a stretch of sequences to the front of a buffer.
 #[inline]
-fn copy_out(events: &Slots, first: u64, count: usize, out: &mut [Event])
+fn copy_out<E: Copy>(events: &Slots<E>, first: u64, count: usize, out: &mut [E])
     requires fits { first + count < 2 ^ 63 }
     requires round { count ≤ length events.now }
     requires within { count ≤ length out.old }
-    ensures { out.new ≡ map (λ s. event_at events.now s) (range_with_len first count) ++ drop count out.old }
+    ensures { (d : E) → out.new ≡ map (λ s. event_at d events.now s) (range_with_len first count) ++ drop count out.old }
 {
     if count < MANY_EVENTS {
         copy_few(events, first, count, out);
@@ -143,10 +188,10 @@ fn copy_out(events: &Slots, first: u64, count: usize, out: &mut [Event])
 
 /// The same, one by one.
 #[inline]
-fn copy_few(events: &Slots, first: u64, count: usize, out: &mut [Event])
+fn copy_few<E: Copy>(events: &Slots<E>, first: u64, count: usize, out: &mut [E])
     requires fits { first + count < 2 ^ 63 }
     requires within { count ≤ length out.old }
-    ensures { out.new ≡ map (λ s. event_at events.now s) (range_with_len first count) ++ drop count out.old }
+    ensures { (d : E) → out.new ≡ map (λ s. event_at d events.now s) (range_with_len first count) ++ drop count out.old }
 {
     for k in 0..count {
         out[k] = events.get(first + k as u64);

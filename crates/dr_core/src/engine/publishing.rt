@@ -10,9 +10,8 @@ use crate::command::{Claimed, Command, Reply};
 use crate::engine::Core;
 use crate::least::least_flagged;
 use crate::refusal::Refusal;
-use dr_seq::Event;
 
-impl Core {
+impl<E: Copy> Core<E> {
     /// Whether a claim up to `wanted` has room, after a scan of the gating handlers. What it finds
     /// is remembered for the claims to come.
     fn has_room(&mut self, wanted: u64) -> bool
@@ -106,7 +105,7 @@ impl Core {
     }
 
     /// Writes the event of a claimed sequence. Until it is published it may be written again.
-    pub fn write(&mut self, p: u64, s: u64, event: Event) -> Result<(), Refusal>
+    pub fn write(&mut self, p: u64, s: u64, event: E) -> Result<(), Refusal>
         ensures step { IsStep self.old (Command.Write p s event) (unit_reply Reply.Written result) [] self.new }
         ensures refused { OnErr result (self.new ≡ self.old) }
     {

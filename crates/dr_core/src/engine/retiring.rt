@@ -10,7 +10,7 @@ use crate::engine::Core;
 use crate::refusal::Refusal;
 use dr_graph::Graph;
 
-impl Core {
+impl<E: Copy> Core<E> {
     /// A handler takes no more events, and claims no longer wait for it. All its followers are
     /// retired before, and some other handler is left. Its counts stay as they are.
     pub fn retire(&mut self, h: usize) -> Result<(), Refusal>

@@ -2,6 +2,7 @@
 use Rattle.std.specs.Prelude.{◌≡◌, ℕ, false, true, if◌then◌else◌, List, [], Some, Result, Ok, Err}
 use Rattle.std.specs.List.{list_all}
 use Rattle.std.specs.Str.{is_utf8}
+use Rattle.dr_seq.specs.declared.event.Event.{Event}
 use Rattle.dr_core.specs.Meaning.Machine.{Setup, State, opening, setup_of}
 use Rattle.dr_core.specs.Calls.OpenFault.{has_bad_producers, is_bad_limit}
 use Rattle.dr_core.specs.Calls.Shows.{Shows}
@@ -54,7 +55,7 @@ IsPreparation (at.Ringed ring) = IsRing ring
 IsPreparation (at.Declaring ring d) = IsRing ring × AreNames d.builder.names
 
 -- the exchange's core shows a state of the machine, and its handlers have these names
-pub record ExchangeShows (e : Exchange) (names : List Field) (c : Setup) (m : State) : Type 0 where
+pub record ExchangeShows (e : Exchange) (names : List Field) (c : Setup) (m : State Event) : Type 0 where
   pub names_are : names ≡ e.core.names
   pub setup_is : e.core.setup ≡ c
   pub shows : Shows e.core m
@@ -88,7 +89,7 @@ PreparesAs (Err f) t = FaultAs f t
 pub record IsObeyed (e : Exchange) (line : List ℕ) (t : Result Taken Cause) : Type 0 where
   pub names : List Field
   pub setup : Setup
-  pub state : State
+  pub state : State Event
   pub is : t ≡ Ok (record { phase = Running names setup state; line = Some line })
   pub shows : ExchangeShows e names setup state
 

@@ -1,5 +1,6 @@
 -- The drive text: what a file says, line by line, and how it ends.
 use Rattle.std.specs.Prelude.{ℕ, ◌+◌, List, [], ◌∷◌, ◌++◌, Option, Some, None, option_to_list, Result, Ok, Err}
+use Rattle.dr_seq.specs.declared.event.Event.{Event}
 use Rattle.dr_core.specs.declared.command.Command.{Command}
 use Rattle.dr_core.specs.Meaning.Machine.{Setup, State, Outcome, opening, step}
 use Rattle.dr_files.specs.declared.fault.Cause.{Cause}
@@ -13,7 +14,7 @@ use Rattle.dr_drive.specs.Meaning.Setup.{Stage, Empty, Prepared, Goes, Opens, mi
 -- how far a file has come: in its setup, or at a state of the machine, whose handlers have these names
 pub data Phase : Type 0 where
   Preparing : Stage → Phase
-  Running : List Field → Setup → State → Phase
+  Running : List Field → Setup → State Event → Phase
 
 -- what a record did: the phase after it, and its line, if it has one
 pub record Taken : Type 0 where
@@ -26,11 +27,11 @@ prepares (Ok (Goes stage)) = Ok (record { phase = Preparing stage; line = None }
 prepares (Ok (Opens names c)) = Ok (record { phase = Running names c (opening c); line = None })
 prepares (Err cause) = Err cause
 
-abbrev pub ran : List Field → Setup → Outcome → Taken
+abbrev pub ran : List Field → Setup → Outcome Event → Taken
 ran names c o = record { phase = Running names c o.state; line = Some (line_of o.reply o.values) }
 
 -- a command is the machine's step, and its line is the machine's reply
-abbrev pub obeys : List Field → Setup → State → Option Command → Result Taken Cause
+abbrev pub obeys : List Field → Setup → State Event → Option (Command Event) → Result Taken Cause
 obeys names c m None = Err BadRecord
 obeys names c m (Some command) = Ok (ran names c (step c m command))
 

@@ -1,5 +1,5 @@
 -- What the workers of a replay give back, and what they promise.
-use Rattle.std.specs.Prelude.{◌≡◌, ◌⊎◌, ℕ, ◌+◌, ◌++◌, true, List, [], ◌∷◌, length, map, take, Option, None, Some, IfOk, string_bytes}
+use Rattle.std.specs.Prelude.{◌≡◌, ◌⊎◌, ℕ, ◌+◌, ◌++◌, true, List, [], ◌∷◌, length, map, take, Option, None, Some, All, IfOk, string_bytes}
 use Rattle.dr_seq.specs.declared.event.Event.{Event}
 use Rattle.dr_ring.specs.Calls.Ends.{SenderEnd, ReceiverEnd, sender_place}
 use Rattle.dr_shared.specs.declared.fault.WorkFault.{WorkFault}
@@ -22,13 +22,14 @@ use Rattle.dr_replay.specs.declared.ring.Ran.{Ran}
 use Rattle.dr_accounts.specs.Report.{journal_part, replica_part, business_part}
 
 -- what came of an exchange: the sender published the first of the events, all of them where it has no fault, and each worker keeps its promise
-pub record IsRun (events : List Event) (s : SenderEnd) (j r b : ReceiverEnd) (ran : Ran) : Type 0 where
+pub record IsRun (may_stop : ℕ → Type 0) (events : List Event) (s : SenderEnd) (j r b : ReceiverEnd) (ran : Ran) : Type 0 where
   pub place : sender_place ran.sender ≡ sender_place s
   pub published : ran.sender.knows.sent.published ≡ s.knows.sent.published ++ take ran.produced.sent events
   pub all : ran.produced.fault ≡ None → ran.produced.sent ≡ length events
-  pub journal : Keeps journal_part j ran.journal
-  pub replica : Keeps replica_part r ran.replica
-  pub business : Keeps business_part b ran.business
+  pub stopped : ran.produced.fault ≡ Some work.Stopped → may_stop 16
+  pub journal : Keeps journal_part (may_stop 0) j ran.journal
+  pub replica : Keeps replica_part (may_stop 1) r ran.replica
+  pub business : Keeps business_part (may_stop 2) b ran.business
 
 -- what is told of some events, unless a worker has a fault
 pub record Says (events : List Event) (ran : Ran) : Type 0 where
@@ -75,17 +76,26 @@ abbrev pub IsMemory : FileFault → Type 0
 IsMemory file.Memory = Unit {0}
 IsMemory other = ⊥
 
+-- no worker was stopped but by its gate, which may stop these
+abbrev pub AreStopped : (ℕ → Type 0) → List Ended → Type 0
+AreStopped may_stop endings = All (λ (e : Ended). e.fault ≡ Some work.Stopped → may_stop e.who) endings
+
+-- workers that ended so answer this fault, which is the first of theirs
+pub record Ends (may_stop : ℕ → Type 0) (endings : List Ended) (e : ReplayFault) : Type 0 where
+  pub stopped : AreStopped may_stop endings
+  pub first : IsFirstOf endings e
+
 -- a lack of memory, or the first fault of those that workers with these numbers ended with
-abbrev pub IsOfWorkers : List ℕ → ReplayFault → Type 0
-IsOfWorkers whos (fault.File f) = IsMemory f
-IsOfWorkers whos (fault.Worker who f) = (endings : List Ended) × (map (λ (e : Ended). e.who) endings ≡ whos) × IsFirstOf endings (fault.Worker who f)
-IsOfWorkers whos (fault.Audit f) = ⊥
+abbrev pub IsOfWorkers : (ℕ → Type 0) → List ℕ → ReplayFault → Type 0
+IsOfWorkers may_stop whos (fault.File f) = IsMemory f
+IsOfWorkers may_stop whos (fault.Worker who f) = (endings : List Ended) × (map (λ (e : Ended). e.who) endings ≡ whos) × Ends may_stop endings (fault.Worker who f)
+IsOfWorkers may_stop whos (fault.Audit f) = ⊥
 
 -- where a worker's fault is answered, it is the first of theirs; there is no audit
-abbrev pub IsFirstOfSome : List ℕ → ReplayFault → Type 0
-IsFirstOfSome whos (fault.Worker who f) = IsOfWorkers whos (fault.Worker who f)
-IsFirstOfSome whos (fault.Audit f) = ⊥
-IsFirstOfSome whos (fault.File f) = Unit {0}
+abbrev pub IsFirstOfSome : (ℕ → Type 0) → List ℕ → ReplayFault → Type 0
+IsFirstOfSome may_stop whos (fault.Worker who f) = IsOfWorkers may_stop whos (fault.Worker who f)
+IsFirstOfSome may_stop whos (fault.Audit f) = ⊥
+IsFirstOfSome may_stop whos (fault.File f) = Unit {0}
 
 -- Behind a lock.
 
@@ -102,7 +112,7 @@ lock_endings journal replica business producers =
 -- what an audit answers of a history that a core went through: the least producer that did not send its script, and where each did, the least handler that lacks events
 abbrev pub AuditFinds : List (List Event) → AuditFault → Type 0
 AuditFinds scripts audit.NoMemory = ⊥
-AuditFinds scripts f = (h : History) × IsRecorded h × Faults (transcript h) (handlers h.core.setup) scripts f
+AuditFinds scripts f = (h : History Event) × IsRecorded h × Faults (transcript h) (handlers h.core.setup) scripts f
 
 -- an audit that ran out of memory makes the replay answer so, and any other fault is told as it is
 abbrev pub audit_fault : AuditFault → ReplayFault

@@ -1,4 +1,5 @@
 -- What an end of a ring is to its caller, and what one of its steps leaves of it.
+use Rattle.dr_seq.specs.declared.event.Event.{Event}
 use Rattle.std.specs.Prelude.{◌≡◌, ℕ, min, List, [], ◌∷◌, ◌++◌, length, Result, Ok, Err}
 use Rattle.atomic_table.specs.Seated.{TableId}
 use Rattle.dr_ring.specs.Meaning.Shape.{Shape}
@@ -40,7 +41,7 @@ HasStored e step knows e' = (e'.ring ≡ e.ring) × (e'.knows ≡ knows) × IsBe
 abbrev pub looks_counted : List Look → ℕ
 looks_counted looks = min (length looks) 18446744073709551615
 
-abbrev pub received_of : ReceiverRecord → Received
+abbrev pub received_of : ReceiverRecord → Received Event
 received_of r = record { events = r.received; completed = r.completed }
 
 -- which end it is: of which ring, made for what, and a receiver's number

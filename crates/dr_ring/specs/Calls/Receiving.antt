@@ -52,11 +52,11 @@ Answers r out r' out' seen (Batch first count last) =
     (first ≡ length r.received) × (first < offer seen) × (count ≡ min (offer seen - first) (length out)) × (IsTrue last ↔ (first + count ≡ offer seen))
     × (r' ≡ received_all (looked_round r seen) (take count out')) × (r'.told ≡ false) × (drop count out' ≡ drop count out)
 Answers r out r' out' seen Drained =
-    (seen.closed ≡ 1) × (seen.cursor ≡ length r.received) × (r' ≡ looked_round r seen) × (r'.told ≡ true) × (out' ≡ out)
+    (seen.closed ≡ 1) × (seen.cursor ≡ length r.received) × (offer seen ≡ length r.received) × (r' ≡ looked_round r seen) × (r'.told ≡ true) × (out' ≡ out)
 Answers r out r' out' seen Gating =
     (length r.received < seen.cursor) × Contains seen.counts (length r.received) × (offer seen ≡ length r.received) × (r' ≡ looked_round r seen) × (out' ≡ out)
 Answers r out r' out' seen Idle =
-    (seen.closed ≡ 0) × (seen.cursor ≡ length r.received) × (r' ≡ looked_round r seen) × (out' ≡ out)
+    (seen.closed ≡ 0) × (seen.cursor ≡ length r.received) × (offer seen ≡ length r.received) × (r' ≡ looked_round r seen) × (out' ≡ out)
 
 -- a poll that is not refused answers by what it saw
 abbrev pub PollSees : ReceiverRecord → List Event → ReceiverRecord → List Event → Result Polled Refusal → Type 0

@@ -45,7 +45,7 @@ abbrev pub taken_of : ReceiverRecord → ℕ
 taken_of r = length r.received
 
 -- what the machine is, where the ring is so
-abbrev pub picture_of : Shape → World → State
+abbrev pub picture_of : Shape → World → State Event
 picture_of k w = record (machine.opening (ring_setup k)) {
   owners = replicate (claimed w.sender) 0;
   written = λ s. slice_index_or (map (λ event. Some event) w.sender.sent.published ++ w.sender.sent.pending) s None;
@@ -55,16 +55,16 @@ picture_of k w = record (machine.opening (ring_setup k)) {
   halted = slice_index w.words halt_word == 1;
 }
 
-abbrev pub entry : Command → Reply → List Event → Transcript
+abbrev pub entry : Command Event → Reply → List Event → Transcript Event
 entry command reply values = record { command = command; reply = reply; values = values } ∷ []
 
 -- the write that a half stored one comes to
-abbrev pub write_of : Option HalfWrite → ℕ → Transcript
+abbrev pub write_of : Option HalfWrite → ℕ → Transcript Event
 write_of None second = []
 write_of (Some x) second = entry (Write 0 x.sequence record { first = x.first; second = second }) Written []
 
 -- the poll that a half loaded event comes to
-abbrev pub poll_of : ℕ → Option ℕ → ℕ → ℕ → ℕ → Transcript
+abbrev pub poll_of : ℕ → Option ℕ → ℕ → ℕ → ℕ → Transcript Event
 poll_of h None second taken available = []
 poll_of h (Some first) second taken available =
     entry (Poll h 1) (Batch taken 1 (taken + 1 == available)) (record { first = first; second = second } ∷ [])
@@ -73,7 +73,7 @@ abbrev pub receiver_at : Shape → World → ℕ → ReceiverRecord
 receiver_at k w h = slice_index_or w.receivers h (fresh_receiver k h)
 
 -- the events of a step: a claim is decided by the sender's look at halt, a write by the store of its second word, a publication by that of the cursor, an event is taken by the load of its second word, `Drained` is told by a look at the cursor
-abbrev pub entries_of : Shape → Step → World → Transcript
+abbrev pub entries_of : Shape → Step → World → Transcript Event
 entries_of k (SenderLooksAtCount f) w = []
 entries_of k (SenderLooksAtHalt n) w =
     if not (n == 0) && (slice_index w.words halt_word == 0) then entry (Claim 0 n) (Claimed (claimed w.sender) (claimed w.sender + n - 1)) [] else []
@@ -94,5 +94,5 @@ entries_of k (ReceiverCompletes h n) w = entry (Complete h n) Completed []
 entries_of k HalterHalts w = entry Halt Halting []
 
 -- a list of steps, with the entries of their events
-abbrev pub Runs : Shape → List Step → Transcript → World → World → Type 0
+abbrev pub Runs : Shape → List Step → Transcript Event → World → World → Type 0
 Runs k steps entries w w' = runs.Runs (Happens k) (entries_of k) steps entries w w'

@@ -1,4 +1,5 @@
 -- What the ends of a ring know of each other, once they come together.
+use Rattle.dr_seq.specs.declared.event.Event.{Event}
 use Rattle.std.specs.Prelude.{◌≡◌, ℕ, ◌+◌, ◌≤◌, true, List, length, take, Contains}
 use mathlib.Core.Option.{some}
 use lib.ListN.{get_elem?}
@@ -33,7 +34,7 @@ pub record Settles (s : SenderRecord) (rs : List ReceiverRecord) : Type 0 where
 -- the run of a ring, which came to what its ends know: its transcript leads the machine to the ring's picture, and has the five laws
 pub record HasRun (s : SenderRecord) (rs : List ReceiverRecord) : Type 0 where
   pub steps : List Step
-  pub entries : Transcript
+  pub entries : Transcript Event
   pub world : World
   pub runs : Runs s.plan steps entries (new_world s.plan) world
   pub sender : world.sender ≡ s

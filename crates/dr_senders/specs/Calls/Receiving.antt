@@ -18,7 +18,7 @@ use Rattle.dr_ring.specs.Calls.Ends.{StoresWhereOk}
 use Rattle.dr_senders.specs.Calls.Ends.{ReceiverEnd, Stays, count_looks}
 
 -- what a receiver shows as received
-abbrev pub received_of : ReceiverRecord → Received
+abbrev pub received_of : ReceiverRecord → Received Event
 received_of r = record { events = r.received; completed = r.completed }
 
 abbrev pub ups_of : Shape → ReceiverRecord → List ℕ
@@ -85,11 +85,11 @@ Answers k r out r' out' seen (Batch first count last) =
     (first ≡ length r.received) × (first < offer seen) × (count ≡ min (offer seen - first) (length out)) × (IsTrue last ↔ (first + count ≡ offer seen))
     × (r' ≡ received_all (looked_round k r seen) (take count out')) × (r'.told ≡ false) × (drop count out' ≡ drop count out)
 Answers k r out r' out' seen Drained =
-    (is_halted seen.claims ≡ true) × (claimed_in seen.claims ≡ length r.received) × (r' ≡ looked_round k r seen) × (r'.told ≡ true) × (out' ≡ out)
+    (is_halted seen.claims ≡ true) × (claimed_in seen.claims ≡ length r.received) × (offer seen ≡ length r.received) × (r' ≡ looked_round k r seen) × (r'.told ≡ true) × (out' ≡ out)
 Answers k r out r' out' seen Gating =
     (length r.received < claimed_in seen.claims) × (offer seen ≡ length r.received) × (r' ≡ looked_round k r seen) × (out' ≡ out)
 Answers k r out r' out' seen Idle =
-    (is_halted seen.claims ≡ false) × (claimed_in seen.claims ≡ length r.received) × (r' ≡ looked_round k r seen) × (out' ≡ out)
+    (is_halted seen.claims ≡ false) × (claimed_in seen.claims ≡ length r.received) × (offer seen ≡ length r.received) × (r' ≡ looked_round k r seen) × (out' ≡ out)
 
 -- a poll that is not refused answers by what it saw
 abbrev pub PollSees : Shape → ReceiverRecord → List Event → ReceiverRecord → List Event → Result Polled Refusal → Type 0

@@ -1,11 +1,12 @@
 -- What a sender's write and publication answer, and what they leave of what the sender knows.
-use Rattle.std.specs.Prelude.{◌≡◌, ℕ, ◌+◌, ◌-◌, ◌<◌, ◌≤◌, ◌==◌, ◌&&◌, nat_lt, nat_le, if◌then◌else◌, true, false, List, [], ◌∷◌, ◌++◌, map, Some, is_none, Result, Ok, Err}
+use Rattle.std.specs.Prelude.{◌≡◌, ◌⊎◌, ℕ, ◌+◌, ◌-◌, ◌<◌, ◌≤◌, ◌==◌, ◌&&◌, nat_lt, nat_le, if◌then◌else◌, true, false, List, [], ◌∷◌, ◌++◌, map, Option, None, Some, is_none, Result, Ok, Err}
 use Rattle.std.specs.List.{range_with_len}
 use Rattle.dr_seq.specs.declared.event.Event.{Event}
 use Rattle.dr_seq.specs.Rounds.{entry_of}
 use Rattle.dr_core.specs.declared.refusal.Refusal.{Refusal}
 use Rattle.dr_core.specs.Meaning.Refusals.{WriteTests, SequenceTests, PublishTests, write_causes, publish_causes}
-use Rattle.dr_core.specs.Calls.Ends.{Verdict, Exactly, unknown, IsAnswerOf, as_end}
+use Rattle.dr_core.specs.declared.ends.Trouble.{Trouble}
+use Rattle.dr_core.specs.Calls.Ends.{Verdict, Exactly, unknown, IsAnswerOf, IsEndsAnswer, as_end}
 use Rattle.dr_ring.specs.declared.record.Look.{Look}
 use Rattle.dr_ring.specs.Meaning.Records.{look}
 use Rattle.dr_senders.specs.Meaning.Shape.{Shape}
@@ -79,6 +80,13 @@ pub record WriteCall (e : SenderEnd) (s : ℕ) (event : Event) (e' : SenderEnd) 
   pub knows : e'.knows ≡ after_write e.plan e.knows s event sight result
   pub stored : StoresWhereOk e.stored (SenderStoresFirst e.knows.number s event.first ∷ SenderStoresSecond e.knows.number s event.second ∷ []) e'.stored result
 
+-- many writes are one write after another, from the sequence lo on, up to the first in trouble
+abbrev pub WriteAllCall : SenderEnd → ℕ → List Event → SenderEnd → ℕ → Option Trouble → Type 0
+WriteAllCall e lo [] e' count trouble = (e' ≡ e) × (count ≡ 0) × (trouble ≡ None)
+WriteAllCall e lo (event ∷ events) e' count trouble =
+    ((between : SenderEnd) × (rest : ℕ) × WriteCall e lo event between (Ok tt) × (count ≡ rest + 1) × WriteAllCall between (lo + 1) events e' rest trouble)
+    ⊎ ((first : Trouble) × IsEndsAnswer (WriteCall e lo event e') (Err first) × (count ≡ 0) × (trouble ≡ Some first))
+
 -- how a sender knows whether the last sequence of a stretch is claimed: it is its own, or never claimed, or it looked at the claim word
 pub data Reach : Type 0 where
   Inside : Reach
@@ -113,6 +121,8 @@ pub record PublishSees (k : Shape) (r : SenderRecord) (lo hi : ℕ) (seen : Publ
   pub reach : lo ≤ hi → IsReach k r hi seen.reach
   pub ready : (s : ℕ) → lo ≤ s → s < lo + seen.ready → IsReady r s
   pub stop : IsSight k r (lo + seen.ready) seen.stop
+  -- a stretch that ends before it begins is looked at nowhere
+  pub empty : hi < lo → (reach_looks seen.reach ≡ []) × (seen.stop ≡ Unasked)
 
 abbrev pub stretch_tests : Shape → ℕ → PublishLooks → ℕ → SequenceTests Verdict
 stretch_tests k lo seen s = sight_tests k s (if s == lo + seen.ready then seen.stop else Unasked)

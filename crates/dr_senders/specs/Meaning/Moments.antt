@@ -60,7 +60,7 @@ abbrev pub stage_at : List Stage → ℕ → Stage
 stage_at stages s = slice_index_or stages s (fresh_stage 0)
 
 -- what the machine is, where the ring is so
-abbrev pub picture_of : Shape → World → State
+abbrev pub picture_of : Shape → World → State Event
 picture_of k w = record (machine.opening (ring_setup k)) {
   owners = map (λ t. t.owner) w.stages;
   written = λ s. (stage_at w.stages s).event;
@@ -71,7 +71,7 @@ picture_of k w = record (machine.opening (ring_setup k)) {
 }
 
 -- the write that a half stored one comes to
-abbrev pub write_of : ℕ → ℕ → Option ℕ → ℕ → Transcript
+abbrev pub write_of : ℕ → ℕ → Option ℕ → ℕ → Transcript Event
 write_of p s None second = []
 write_of p s (Some first) second = entry (Write p s record { first = first; second = second }) Written []
 
@@ -79,11 +79,11 @@ abbrev pub receiver_at : World → ℕ → ReceiverRecord
 receiver_at w h = slice_index_or w.receivers h (fresh_receiver 0)
 
 -- a look at the claim word that finds no more claimed than was taken tells a poll that the ring drained, where it is halted, and else that the handler is idle
-abbrev pub told_by_claims : ℕ → ReceiverRecord → ℕ → Transcript
+abbrev pub told_by_claims : ℕ → ReceiverRecord → ℕ → Transcript Event
 told_by_claims h r found = if claimed_in found == length r.received then entry (Poll h 1) (if is_halted found then Drained else Idle) [] else []
 
 -- a look that finds that the barrier offers nothing tells a poll that the handler is gated, where more is claimed than it took
-abbrev pub told_gated : ℕ → ReceiverRecord → Bool → Transcript
+abbrev pub told_gated : ℕ → ReceiverRecord → Bool → Transcript Event
 told_gated h r nothing = if nothing && nat_lt (length r.received) (claimed_in (last_look 0 r.looks claim_word)) then entry (Poll h 1) Gating [] else []
 
 -- the mark of the next event of a handler without upstreams is not there
@@ -91,7 +91,7 @@ abbrev pub is_unmarked : Shape → ℕ → ReceiverRecord → ℕ → Bool
 is_unmarked k h r found = (length (upstreams_of k.upstreams h) == 0) && ((r.seen == length r.received) && not (found == entry_of k.size r.seen))
 
 -- the events of a step: a claim is decided by the exchange, a write by the store of its second word, a publication by that of its mark, and an event is taken by the load of its second word; a poll that takes nothing is decided by the look that found nothing
-abbrev pub entries_of : Shape → Step → World → Transcript
+abbrev pub entries_of : Shape → Step → World → Transcript Event
 entries_of k (SenderLooksAtClaims p) w = []
 entries_of k (SenderLooksAtCount p f) w = []
 entries_of k (SenderClaims p c n) w = if slice_index w.words claim_word == c then entry (Claim p n) (Claimed c (c + n - 1)) [] else []
@@ -115,7 +115,7 @@ entries_of k (ReceiverCompletes h n) w = entry (Complete h n) Completed []
 entries_of k HalterHalts w = entry Halt Halting []
 
 -- a list of steps, with the entries of their events
-abbrev pub Runs : Shape → List Step → Transcript → World → World → Type 0
+abbrev pub Runs : Shape → List Step → Transcript Event → World → World → Type 0
 Runs k steps entries w w' = runs.Runs (Happens k) (entries_of k) steps entries w w'
 
 -- a sequence that a sender may not write any more, or never might: it is not its own, or it is published

@@ -74,7 +74,7 @@ pub record CameTo (w : World) (n : ℕ) (halted : Bool) : Type 0 where
 -- the run of a ring, which came so far, and to what its ends know: its transcript leads the machine to the ring's picture, and has the five laws
 pub record HasRun (k : Shape) (all : AllKnow) (n : ℕ) (on : Bool) : Type 0 where
   pub steps : List Step
-  pub entries : Transcript
+  pub entries : Transcript Event
   pub world : World
   pub runs : Runs k steps entries (new_world k) world
   pub came : CameTo world n on

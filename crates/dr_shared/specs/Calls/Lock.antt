@@ -1,7 +1,5 @@
 -- A history behind a lock.
-use Rattle.std.specs.Prelude.{◌≡◌, ℕ, ◌+◌, ◌^◌, ◌<◌, ◌≤◌, Bool, true, false, Option, None, Some, Result, Ok, Err, List, [], length, slice_index_or}
-use Rattle.dr_seq.specs.declared.event.Event.{Event}
-use Rattle.dr_seq.specs.Event.{no_event}
+use Rattle.std.specs.Prelude.{◌≡◌, ℕ, ◌+◌, ◌^◌, ◌<◌, ◌≤◌, Bool, true, false, Option, None, Some, Result, Ok, Err, List, [], length, slice_get}
 use Rattle.dr_core.specs.declared.command.Command.{Command}
 use Rattle.dr_core.specs.declared.command.Command.TheVariants.{Write}
 use Rattle.dr_core.specs.declared.command.Reply.{Reply}
@@ -24,9 +22,9 @@ pub record SharedView : Type 0 where
   pub given : ℕ  -- how many ends were given out
 
 -- some calls led a core from its opening to where it shows a state in which the machine answers so
-pub record IsAnswer (command : Command) (reply : Reply) (values : List Event) : Type 0 where
-  pub core : CoreView
-  pub before : Transcript
+pub record IsAnswer {E : Type 0} (command : Command E) (reply : Reply) (values : List E) : Type 0 where
+  pub core : CoreView E
+  pub before : Transcript E
   pub runs : RunsTo core.setup before core
   pub small : core.setup.limit ≤ 2 ^ 62
   pub replies : (step core.setup runs.state command).reply ≡ reply
@@ -39,21 +37,21 @@ UnlessMemory Answers (Err (Refused refusal)) = Answers (Err refusal)
 UnlessMemory Answers (Err Memory) = Unit {0}
 
 -- a producer's write of an event
-abbrev pub IsWritten : ℕ → ℕ → Event → Result (Unit {0}) Trouble → Type 0
+abbrev pub IsWritten : {E : Type 0} → ℕ → ℕ → E → Result (Unit {0}) Trouble → Type 0
 IsWritten p s event result = UnlessMemory (λ answer. IsAnswer (Write p s event) (unit_reply Written answer) []) result
 
--- one of some events
-abbrev pub one_of : List Event → ℕ → Event
-one_of events k = slice_index_or events k no_event
+-- an event stands at a place of some events
+abbrev pub IsAt : {E : Type 0} → List E → ℕ → E → Type 0
+IsAt events k event = slice_get events k ≡ Some event
 
 -- what kept the next event from being written: nothing where all are
-abbrev pub StopsBy : ℕ → ℕ → List Event → ℕ → Option Trouble → Type 0
+abbrev pub StopsBy : {E : Type 0} → ℕ → ℕ → List E → ℕ → Option Trouble → Type 0
 StopsBy p lo events count None = count ≡ length events
-StopsBy p lo events count (Some trouble) = (count < length events) × IsWritten p (lo + count) (one_of events count) (Err trouble)
+StopsBy {E} p lo events count (Some trouble) = (event : E) × IsAt events count event × IsWritten p (lo + count) event (Err trouble)
 
 -- the first of some events, as many as are answered, were written to the sequences from lo on
-pub record AreWritten (p lo : ℕ) (events : List Event) (wrote : Wrote) : Type 0 where
-  pub written : (k : ℕ) → k < wrote.count → IsWritten p (lo + k) (one_of events k) (Ok tt)
+pub record AreWritten {E : Type 0} (p lo : ℕ) (events : List E) (wrote : Wrote) : Type 0 where
+  pub written : (k : ℕ) (event : E) → k < wrote.count → IsAt events k event → IsWritten p (lo + k) event (Ok tt)
   pub stops : StopsBy p lo events wrote.count wrote.trouble
 
 -- of a poll's answers the history keeps batches and `Drained`

@@ -1,6 +1,5 @@
 -- The history of an exchange: the calls that it kept, and the events of their batches.
 use Rattle.std.specs.Prelude.{◌≡◌, ℕ, ◌^◌, ◌≤◌, Bool, true, false, List, [], ◌∷◌, ◌++◌, length, map, if◌then◌else◌}
-use Rattle.dr_seq.specs.declared.event.Event.{Event}
 use Rattle.dr_core.specs.declared.command.Command.{Command}
 use Rattle.dr_core.specs.declared.command.Command.TheVariants.{Poll}
 use Rattle.dr_core.specs.declared.command.Reply.{Reply}
@@ -10,14 +9,14 @@ use Rattle.dr_core.specs.Meaning.Transcript.{Transcript}
 use Rattle.dr_core.specs.Meaning.Runs.{transcript_of, counts_of, RunsTo}
 use Rattle.dr_shared.specs.declared.entry.Entry.{Entry}
 
-pub record History : Type 0 where
-  pub core : CoreView
-  pub entries : List Entry
-  pub values : List Event
+pub record History (E : Type 0) : Type 0 where
+  pub core : CoreView E
+  pub entries : List (Entry E)
+  pub values : List E
 
 -- a history, and how many entries and events its memory holds
-pub record RecordedView : Type 0 where
-  pub history : History
+pub record RecordedView (E : Type 0) : Type 0 where
+  pub history : History E
   pub entry_room : ℕ
   pub value_room : ℕ
 
@@ -29,29 +28,29 @@ is_kept Idle = false
 is_kept other = true
 
 -- the entries with their events, cut by the counts of the batches
-abbrev pub transcript_of_entries : List Entry → List Event → Transcript
+abbrev pub transcript_of_entries : {E : Type 0} → List (Entry E) → List E → Transcript E
 transcript_of_entries entries values = transcript_of (map (λ e. e.command) entries) (map (λ e. e.reply) entries) values
 
-abbrev pub transcript : History → Transcript
+abbrev pub transcript : {E : Type 0} → History E → Transcript E
 transcript k = transcript_of_entries k.entries k.values
 
 -- the entries after one more call
-abbrev pub entries_after : List Entry → Entry → List Entry
+abbrev pub entries_after : {E : Type 0} → List (Entry E) → Entry E → List (Entry E)
 entries_after entries e = if is_kept e.reply then entries ++ e ∷ [] else entries
 
 -- only kept replies
-abbrev pub AreKept : List Entry → Type 0
+abbrev pub AreKept : {E : Type 0} → List (Entry E) → Type 0
 AreKept [] = Unit {0}
 AreKept (e ∷ es) = (is_kept e.reply ≡ true) × AreKept es
 
 -- the history has kept replies only, leads to a state that the core shows, has the five laws, and has the events of its batches
-pub record IsRecorded (k : History) : Type 0 where
+pub record IsRecorded {E : Type 0} (k : History E) : Type 0 where
   pub small : k.core.setup.limit ≤ 2 ^ 62
   pub kept : AreKept k.entries
   pub counted : length k.values ≡ counts_of (map (λ e. e.reply) k.entries)
   pub runs : RunsTo k.core.setup (transcript k) k.core
 
 -- for how many events a command asks
-abbrev pub asked : Command → ℕ
+abbrev pub asked : {E : Type 0} → Command E → ℕ
 asked (Poll h max) = max
 asked other = 0

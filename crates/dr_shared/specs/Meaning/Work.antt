@@ -1,53 +1,52 @@
 -- What workers do at their ends.
 use Rattle.std.specs.Prelude.{◌≡◌, ℕ, ◌+◌, ◌-◌, ◌<◌, ◌⊎◌, Bool, List, [], ◌∷◌, ◌++◌, length, map, take, replicate, Option, None, Some}
-use Rattle.dr_seq.specs.declared.event.Event.{Event}
 use Rattle.dr_core.specs.Calls.Ends.{Sent, Received, WhereShown}
 use Rattle.dr_core.specs.Calls.Handling.{GoesThrough, Relation, Showing, showings}
 
 -- The handler's side.
 
 -- a batch that an outlet handed out
-pub record Dealt : Type 0 where
+pub record Dealt (E : Type 0) : Type 0 where
   pub first : ℕ
-  pub events : List Event
+  pub events : List E
   pub end : Bool
 
 -- what a handler is shown of batches
-abbrev pub shown_of : List Dealt → List Showing
+abbrev pub shown_of : {E : Type 0} → List (Dealt E) → List (Showing E)
 shown_of [] = []
 shown_of (b ∷ batches) = showings b.events b.first b.end ++ shown_of batches
 
 -- the events of batches, joined
-abbrev pub dealt_events : List Dealt → List Event
+abbrev pub dealt_events : {E : Type 0} → List (Dealt E) → List E
 dealt_events [] = []
 dealt_events (b ∷ batches) = b.events ++ dealt_events batches
 
 -- batches that are not empty, each of which begins where the one before ended
-abbrev pub FollowFrom : ℕ → List Dealt → Type 0
+abbrev pub FollowFrom : {E : Type 0} → ℕ → List (Dealt E) → Type 0
 FollowFrom s [] = Unit {0}
 FollowFrom s (b ∷ batches) = (b.first ≡ s) × (0 < length b.events) × FollowFrom (s + length b.events) batches
 
 -- an end handed out these batches
-abbrev pub HandsOut : List Dealt → Received → Received → Type 0
+abbrev pub HandsOut : {E : Type 0} → List (Dealt E) → Received E → Received E → Type 0
 HandsOut batches old new = (new.events ≡ old.events ++ dealt_events batches) × FollowFrom (length old.events) batches
 
 -- a handler was shown some batches, which are those that its end handed out, where that shows it
-pub record Works {A : Type 0} (goes : Relation A) (before after : A) (old new : Option Received) : Type 0 where
-  pub batches : List Dealt
+pub record Works {E A : Type 0} (goes : Relation E A) (before after : A) (old new : Option (Received E)) : Type 0 where
+  pub batches : List (Dealt E)
   pub through : GoesThrough goes before (shown_of batches) after
   pub handed : WhereShown (HandsOut batches) old new
 
 -- all that an end handed out is completed, or nothing came
-abbrev pub IsDone : Received → Received → Type 0
+abbrev pub IsDone : {E : Type 0} → Received E → Received E → Type 0
 IsDone old new = (new.completed ≡ length new.events) ⊎ (new ≡ old)
 
 -- The producer's side.
 
 -- what an end published is more by these events
-abbrev pub Adds : List Event → Sent → Sent → Type 0
+abbrev pub Adds : {E : Type 0} → List E → Sent E → Sent E → Type 0
 Adds events old new = new.published ≡ old.published ++ events
 
 -- the first k of some events are written to the sequences from lo on, where these are all that is pending, and nothing is published
-pub record Writing (lo : ℕ) (events : List Event) (k : ℕ) (old new : Sent) : Type 0 where
+pub record Writing {E : Type 0} (lo : ℕ) (events : List E) (k : ℕ) (old new : Sent E) : Type 0 where
   pub published : new.published ≡ old.published
   pub pending : lo ≡ length old.published → old.pending ≡ replicate (length events) None → new.pending ≡ map (λ e. Some e) (take k events) ++ replicate (length events - k) None

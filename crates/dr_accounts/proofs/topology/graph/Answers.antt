@@ -10,4 +10,4 @@ returns-in-Ok-build c =
     let is : c.then.new.self ≡ declared = declares c.new-builder.result c.handle_with.new.self c.then.new.self c.in-Ok.first (given c.as_slice.result.now) (given c.as_slice-2.result.now)
     c.new-builder.ensures.names c.new-builder.ensures.edges first later c.in-Ok.ensures.declared c.in-Ok.ensures.group c.in-Ok-then.ensures.declared in
     let same : c.in-Ok-build.graph ≡ replay_shape = c.one_graph.ensures declared c.in-Ok-build.graph replay_shape (rw is at c.in-Ok-build.ensures.built) is_its_graph in
-    ap (λ shape. shape.upstreams) same
+    record { graph = ap (λ shape. shape.upstreams) same; names = ap (λ shape. shape.names) same }

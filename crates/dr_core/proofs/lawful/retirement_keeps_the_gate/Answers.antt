@@ -2,4 +2,4 @@ use Rattle.dr_core.proofs.FiveLaws.{retirement_keeps}
 use Rattle.dr_core.proofs.lawful.retirement_keeps_the_gate.Goals as goal
 
 pub returns : goal.returns
-returns c = retirement_keeps
+returns g c = retirement_keeps

@@ -6,7 +6,7 @@ use Rattle.dr_core.specs.Meaning.Runs.{RunsTo, transcript_of, counts_of, needed}
 use Rattle.dr_core.proofs.runs.run.Given as goal
 
 abbrev pub invariant-loop-command : goal.invariant-loop-command
-invariant-loop-command l = record {
+invariant-loop-command g l = record {
   same : l.core.setup ≡ l.fn.core.setup;
   names : l.core.names ≡ l.fn.core.names;
   room : length l.buffer.items ≡ l.fn.core.setup.size;
@@ -14,5 +14,5 @@ invariant-loop-command l = record {
   counted : length l.values.items ≡ counts_of l.replies.items;
   reply_room : length l.commands ≤ vec_capacity l.replies;
   value_room : length l.values.items + needed (drop l.command-index l.commands) l.fn.core.setup.size ≤ vec_capacity l.values;
-  runs : (t : Transcript) (m : State) → LeadsTo l.fn.core.setup t m → Shows l.fn.core m → RunsTo l.fn.core.setup (t ++ transcript_of (take l.command-index l.commands) l.replies.items l.values.items) l.core;
+  runs : (t : Transcript g.row.E.Denot) (m : State g.row.E.Denot) → LeadsTo l.fn.core.setup t m → Shows l.fn.core m → RunsTo l.fn.core.setup (t ++ transcript_of (take l.command-index l.commands) l.replies.items l.values.items) l.core;
 }

@@ -1,3 +1,4 @@
+use Rattle.dr_seq.specs.declared.event.Event.{Event}
 use Rattle.std.proofs.Common.{subst, refl}
 use Rattle.dr_ring.specs.Meaning.Records.{claimed}
 use Rattle.dr_ring.proofs.Halting.{halted_runs}
@@ -11,12 +12,14 @@ use Rattle.dr_ring.specs.declared.record.Step.{Step}
 use Rattle.dr_ring.specs.Meaning.Moments.{Runs, new_world, picture_of}
 use Rattle.dr_ring.proofs.Pictures.{keeps_runs, lead_runs}
 use Rattle.dr_ring.proofs.Beginning.{kept_opening, opens}
+use Rattle.dr_ring.proofs.Replies.{replies}
+use Rattle.dr_ring.proofs.Rising.{rises_runs}
 use Rattle.dr_ring.proofs.laws.moments.Goals as goal
 
-leads : (k : Shape) (steps : List Step) (entries : Transcript) (w : World) → IsGraph k.upstreams → 0 < k.size → Runs k steps entries (new_world k) w
+leads : (k : Shape) (steps : List Step) (entries : Transcript Event) (w : World) → IsGraph k.upstreams → 0 < k.size → Runs k steps entries (new_world k) w
     → LeadsTo (ring_setup k) entries (picture_of k w)
 leads k steps entries w graph some_slot runs =
-    subst (λ (m : State). LeadsFrom (ring_setup k) m entries (picture_of k w)) (opens k) (lead_runs k steps entries (new_world k) w runs (kept_opening k graph some_slot))
+    subst (λ (m : State Event). LeadsFrom (ring_setup k) m entries (picture_of k w)) (opens k) (lead_runs k steps entries (new_world k) w runs (kept_opening k graph some_slot))
 
 pub returns-clause-rule : goal.returns-clause-rule
 returns-clause-rule c k steps entries w graph some_slot runs = keeps_runs k steps entries (new_world k) w runs (kept_opening k graph some_slot)
@@ -27,6 +30,13 @@ returns-clause-leads c = leads
 pub returns-clause-laws : goal.returns-clause-laws
 returns-clause-laws c k steps entries w graph some_slot runs =
     c.every_transcript_is_lawful.ensures (ring_setup k) entries (picture_of k w) (leads k steps entries w graph some_slot runs)
+
+pub returns-clause-replies : goal.returns-clause-replies
+returns-clause-replies c k steps entries w graph some_slot runs = replies k w (keeps_runs k steps entries (new_world k) w runs (kept_opening k graph some_slot))
+
+pub returns-clause-rises : goal.returns-clause-rises
+returns-clause-rises c k steps more entries rest w u graph some_slot runs on f inside =
+    rises_runs f k more rest w u inside on (keeps_runs k steps entries (new_world k) w runs (kept_opening k graph some_slot))
 
 pub returns-clause-halted : goal.returns-clause-halted
 returns-clause-halted c k steps more entries rest w u graph some_slot runs on halted =

@@ -1,3 +1,4 @@
+use Rattle.dr_seq.specs.declared.event.Event.{Event}
 use Rattle.std.proofs.Common.{◌≡◌, ℕ, inl, inr, true, length, refl, sym, ap, ◌∙◌, subst}
 use Rattle.std.specs.Prelude.{List}
 use Rattle.std.proofs.lemmas.Bool.{cases_lt}
@@ -15,12 +16,13 @@ use Rattle.dr_senders.proofs.Pictures.{keeps_runs, lead_runs}
 use Rattle.dr_senders.proofs.Beginning.{kept_new_world, opens}
 use Rattle.dr_senders.proofs.Halting.{halted_runs}
 use Rattle.dr_senders.proofs.Shutting.{refused_by_mark}
+use Rattle.dr_senders.proofs.Replies.{replies}
 use Rattle.dr_senders.proofs.laws.moments.Goals as goal
 
-leads : (k : Shape) (steps : List Step) (entries : Transcript) (w : World) → IsShape k → Runs k steps entries (new_world k) w
+leads : (k : Shape) (steps : List Step) (entries : Transcript Event) (w : World) → IsShape k → Runs k steps entries (new_world k) w
     → LeadsTo (ring_setup k) entries (picture_of k w)
 leads k steps entries w shape runs =
-    subst (λ (m : State). LeadsFrom (ring_setup k) m entries (picture_of k w)) (opens k)
+    subst (λ (m : State Event). LeadsFrom (ring_setup k) m entries (picture_of k w)) (opens k)
     (lead_runs k steps entries (new_world k) w runs (kept_new_world k shape))
 
 pub returns-clause-rule : goal.returns-clause-rule
@@ -32,6 +34,9 @@ returns-clause-leads c = leads
 pub returns-clause-laws : goal.returns-clause-laws
 returns-clause-laws c k steps entries w shape runs =
     c.every_transcript_is_lawful.ensures (ring_setup k) entries (picture_of k w) (leads k steps entries w shape runs)
+
+pub returns-clause-replies : goal.returns-clause-replies
+returns-clause-replies c k steps entries w shape runs = replies k w (keeps_runs k steps entries (new_world k) w runs (kept_new_world k shape))
 
 pub returns-clause-halted : goal.returns-clause-halted
 returns-clause-halted c k steps more entries rest w u shape runs on halted =

@@ -8,16 +8,17 @@ use Rattle.dr_shared.specs.Meaning.Audit.{Faults, scripts_of}
 use Rattle.dr_shared.specs.Inside.Auditing.{Differs, SentIn}
 use Rattle.dr_shared.proofs.Findings.{IsChecked, lists_of, followed, scripts_fault, drained_fault, audited}
 use Rattle.dr_shared.proofs.auditing.audit.Goals as goal
+use Rattle.dr_shared.proofs.auditing.audit.Given.{Over}
 use Rattle.dr_shared.proofs.auditing.audit.Goals.{After-len}
 
 pub sequences-requires : goal.sequences-requires
-sequences-requires c =
+sequences-requires g c =
     let k = c.args.recorded.now.history in
     let r : IsRecorded k = c.history.ensures.recorded in
     (k.core.setup, r.runs.state, followed k r _ c.history.ensures.entries)
 
 pub returns-in_err-check_scripts-clause-fault : goal.returns-in_err-check_scripts-clause-fault
-returns-in_err-check_scripts-clause-fault c =
+returns-in_err-check_scripts-clause-fault g c =
     let k = c.args.recorded.now.history in
     let r : IsRecorded k = c.history.ensures.recorded in
     let list = c.in_ok-list.list.items in
@@ -30,8 +31,8 @@ returns-in_err-check_scripts-clause-fault c =
     rw (p.1, p.2) f
 
 -- the scripts were found sent
-checked : (c : After-len) → IsChecked c.args.recorded.now.history c.history.ensures.recorded (scripts_of c.args.scripts.now) c.in_ok-all.all.items
-checked c =
+checked : (g : Over) (c : After-len g) → IsChecked c.args.recorded.now.history c.history.ensures.recorded (scripts_of c.args.scripts.now) c.in_ok-all.all.items
+checked g c =
     let k = c.args.recorded.now.history in
     let scripts = scripts_of c.args.scripts.now in
     let long : length scripts ≡ length c.args.scripts.now = length-map c.args.scripts.now (λ s. s.now) in
@@ -48,20 +49,20 @@ checked c =
       published = c.in_ok-all.ensures ∙ ap published_of c.deref-2.ensures.value;
     }
 
-counted : (c : After-len) → c.len.result ≡ length c.in_ok-all.all.items
-counted c = c.len.ensures ∙ c.in_ok-all.all.ok.0
+counted : (g : Over) (c : After-len g) → c.len.result ≡ length c.in_ok-all.all.items
+counted g c = c.len.ensures ∙ c.in_ok-all.all.ok.0
 
 pub returns-in_err-check_drained-clause-fault : goal.returns-in_err-check_drained-clause-fault
-returns-in_err-check_drained-clause-fault c =
+returns-in_err-check_drained-clause-fault g c =
     let k = c.args.recorded.now.history in
-    let at : After-len = (goal.at.returns-in_err-check_drained-clause-fault c).After-len in
+    let at : After-len g = (goal.at.returns-in_err-check_drained-clause-fault g c).After-len in
     let f : Faults (transcript k) (handlers k.core.setup) (scripts_of c.args.scripts.now) c.in_err-check_drained.field-0.0 =
-    drained_fault c.every_transcript_tells_its_state.ensures k c.history.ensures.recorded _ _ (checked at) c.len.result (counted at)
+    drained_fault c.every_transcript_tells_its_state.ensures k c.history.ensures.recorded _ _ (checked g at) c.len.result (counted g at)
     c.in_err-check_drained.field-0.0 c.in_err-check_drained.ensures.fault in
     let p = err_from_is_err_and c.from_residual-in_err-check_drained.result c.from_residual-in_err-check_drained.ensures.1 in
     rw (p.1, p.2) f
 
 pub returns-clause-list : goal.returns-clause-list
-returns-clause-list c =
-    let at : After-len = (goal.at.returns-clause-list c).After-len in
-    audited c.every_transcript_tells_its_state.ensures c.args.recorded.now.history c.history.ensures.recorded _ _ (checked at) c.len.result (counted at) c.in_ok-check_drained.ensures.drained
+returns-clause-list g c =
+    let at : After-len g = (goal.at.returns-clause-list g c).After-len in
+    audited c.every_transcript_tells_its_state.ensures c.args.recorded.now.history c.history.ensures.recorded _ _ (checked g at) c.len.result (counted g at) c.in_ok-check_drained.ensures.drained

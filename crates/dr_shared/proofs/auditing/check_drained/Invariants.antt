@@ -3,4 +3,4 @@ use Rattle.dr_shared.specs.Inside.Auditing.{TookIn}
 use Rattle.dr_shared.proofs.auditing.check_drained.Given as goal
 
 abbrev pub invariant-loop-h : goal.invariant-loop-h
-invariant-loop-h l = (g : ℕ) → g < l.h → TookIn l.recorded.history.core l.count g
+invariant-loop-h g l = (k : ℕ) → k < l.h → TookIn l.recorded.history.core l.count k

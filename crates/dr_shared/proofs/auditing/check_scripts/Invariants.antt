@@ -4,4 +4,4 @@ use Rattle.dr_shared.specs.Inside.Auditing.{SentIn}
 use Rattle.dr_shared.proofs.auditing.check_scripts.Given as goal
 
 abbrev pub invariant-loop-p : goal.invariant-loop-p
-invariant-loop-p l = (q : ℕ) → q < l.p → SentIn l.list (scripts_of l.scripts) q
+invariant-loop-p g l = (q : ℕ) → q < l.p → SentIn l.list (scripts_of l.scripts) q

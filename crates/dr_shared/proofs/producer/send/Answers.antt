@@ -1,5 +1,4 @@
 use Rattle.std.proofs.Common.{◌≡◌, ◌+◌, Result, Ok, Err, Option, OnErr, OnOk, List, [], length}
-use Rattle.dr_seq.specs.declared.event.Event.{Event}
 use Rattle.dr_core.specs.declared.command.Claimed.{Claimed}
 use Rattle.dr_core.specs.Calls.Ends.{Sent, WhereShown, WritesAll, PublishAnswers, Publishes}
 use Rattle.dr_core.specs.declared.ends.Trouble.{Trouble}
@@ -8,7 +7,7 @@ use Rattle.dr_shared.proofs.Writings.{Opens, adds_nothing, claim_adds, sends, wr
 use Rattle.dr_shared.proofs.producer.send.Goals as goal
 
 -- where the publication succeeds
-sent : (r : Result (Unit {0}) Trouble) (events : List Event) (c : Claimed) → c.hi + 1 ≡ c.lo + length events → (o p q s : Option Sent)
+sent : {E : Type 0} (r : Result (Unit {0}) Trouble) (events : List E) (c : Claimed) → c.hi + 1 ≡ c.lo + length events → (o p q s : Option (Sent E))
     → WhereShown (Opens (length events) c) o p → WhereShown (Writing c.lo events (length events)) p q
     → OnOk r (PublishAnswers q c.lo c.hi (Ok tt)) → OnOk r (WhereShown (Publishes c.lo c.hi (Ok tt)) q s) → OnOk r (WhereShown (Adds events) o s)
 sent (Ok done) events c is o p q s h k answer l = sends events c is o p q s h k answer l
@@ -19,7 +18,7 @@ returns-clause-sent g c =
     sent c.publish.result c.args.events.now c.in_ok-lo.field-0 c.in_ok-lo.ensures.stretch.1 _ _ _ _ c.in_ok-lo.ensures.claimed (writes_as c.in_ok-lo.field-0.lo c.args.events.now _ _ c.in_ok-write_all.ensures.written) c.publish.ensures.answer c.publish.ensures.published
 
 -- where it fails
-unsent : (r : Result (Unit {0}) Trouble) (events : List Event) (c : Claimed) → (o p q s : Option Sent) → WhereShown (Opens (length events) c) o p
+unsent : {E : Type 0} (r : Result (Unit {0}) Trouble) (events : List E) (c : Claimed) → (o p q s : Option (Sent E)) → WhereShown (Opens (length events) c) o p
     → WhereShown (WritesAll c.lo events) p q → OnErr r (s ≡ q) → OnErr r (WhereShown (Adds []) o s)
 unsent (Ok done) events c o p q s h k same = same
 unsent (Err fault) events c o p q s h k same = claim_adds (length events) c o p s h (adds_nothing c.lo events p q s k same)

@@ -1,4 +1,4 @@
-use Rattle.std.proofs.Common.{◌≡◌, ◌+◌, ◌∙◌, Ok, Err, arith, length, refl, take}
+use Rattle.std.proofs.Common.{sym, ◌≡◌, ◌+◌, ◌∙◌, Ok, Err, arith, length, refl, take}
 use Rattle.dr_core.specs.Calls.Ends.{WriteAnswers}
 use Rattle.dr_core.proofs.ManyWrites.{answer_before, below_more, written_more, written_none, written_same}
 use Rattle.dr_core.proofs.ends.Inlet.write_all.Goals as goal
@@ -26,7 +26,7 @@ loop-k-preserved g c = (
   c.write.ensures.kept ∙ c.loop-k.invariant.0,
   below_more (λ k. WriteAnswers (g.Self.Inlet.sent c.args.self.now) (c.args.lo + k) (Ok tt)) c.loop-k.k c.loop-k.invariant.1
       (answer_before c.args.lo (c.args.lo + c.loop-k.k) (take c.loop-k.k c.args.events.now) (Ok tt) _ _ c.loop-k.invariant.2 c.in-Ok.ensures.answer),
-  written_more c.args.lo c.loop-k.k (c.args.lo + c.loop-k.k) c.args.events.now _ c.loop-k-test.true refl refl _ _ _ c.loop-k.invariant.2 c.in-Ok.ensures.sent,
+  written_more c.args.lo c.loop-k.k (c.args.lo + c.loop-k.k) c.args.events.now c.index-events-k.result c.index-events-k.result c.loop-k-test.true refl (sym c.index-events-k.is) _ _ _ c.loop-k.invariant.2 c.in-Ok.ensures.sent,
 )
 
 pub returns-clause-answer : goal.returns-clause-answer

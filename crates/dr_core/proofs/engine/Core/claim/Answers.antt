@@ -20,11 +20,12 @@ use Rattle.dr_core.proofs.Recents.{claims_known, claims_available, known_there, 
 use Rattle.dr_core.proofs.Whole.{step_whole}
 use Rattle.dr_core.proofs.Stamped.{length-stamped}
 use Rattle.dr_core.proofs.engine.Core.claim.Goals as goal
+use Rattle.dr_core.proofs.engine.Core.claim.Given.{Over}
 use Rattle.dr_core.proofs.engine.Core.claim.Goals.{After-own, then-n-eq0-via-then-n-eq0, then-n-eq0-via-else-n-eq0+then-n-get}
 
 pub returns-then-n-eq0-clause-step : goal.returns-then-n-eq0-clause-step
-returns-then-n-eq0-clause-step c =
-    let v : CoreView = view_of c.self.inside in
+returns-then-n-eq0-clause-step g c =
+    let v : CoreView g.row.E.Denot = view_of c.self.inside in
     let bad : (c.args.n == 0 || nat_lt v.setup.size c.args.n) ≡ true = elim c.then-n-eq0.branch [
       | then-n-eq0-via-then-n-eq0 w ↦ or_left _ _ (eq-eqb _ _ w.if-n-eq0.true)
       | then-n-eq0-via-else-n-eq0+then-n-get w ↦ or_right (c.args.n == 0) _ (lt-ltb _ _ (rw w.get.ensures.value at w.if-n-get.true))
@@ -32,8 +33,8 @@ returns-then-n-eq0-clause-step c =
     rw (← c.self.view_is) (refused_step v (Claim c.args.p c.args.n) BadCount (λ m sh. inr (lt-leb _ _ (rw c.producers.ensures at c.if-p-producers.false), inl (bad, refl))))
 
 pub returns-in-Some-clause-step : goal.returns-in-Some-clause-step
-returns-in-Some-clause-step c =
-    let v : CoreView = view_of c.self.inside in
+returns-in-Some-clause-step g c =
+    let v : CoreView g.row.E.Denot = view_of c.self.inside in
     rw (c.claim_fault.ensures.same, ← c.self.view_is)
     (claim_refused v c.args.p c.args.n (rw c.producers.ensures at c.if-p-producers.false) c.if-n-eq0.false (rw c.get.ensures.value at c.if-n-get.false) c.in-Some.refusal
     (rw (← c.self.view_is) at (sym c.claim_fault.ensures.fault ∙ c.in-Some.is)))
@@ -46,37 +47,37 @@ owners_are (Multi producers) owners lent new from n p a b =
     let e : new ≡ owners_after (Multi producers) owners.items from n p = b ∙ ap (λ l. owners_after (Multi producers) l from n p) a in
     with_items_is owners new (ap length e ∙ length-stamped (λ s. p) owners.items from n ∙ sym owners.ok.0) ∙ e
 
-owned : (c : After-own) → (with_items c.self-2.inside.owners c.own.new.owners).items ≡ owners_after c.self-2.inside.mode c.self-2.inside.owners.items c.self-2.inside.next c.args.n c.args.p
-owned c = owners_are c.self-2.inside.mode c.self-2.inside.owners _ _ _ _ _ c.deref_mut.ensures.value c.own.ensures
+owned : (g : Over) (c : After-own g) → (with_items c.self-2.inside.owners c.own.new.owners).items ≡ owners_after c.self-2.inside.mode c.self-2.inside.owners.items c.self-2.inside.next c.args.n c.args.p
+owned g c = owners_are c.self-2.inside.mode c.self-2.inside.owners _ _ _ _ _ c.deref_mut.ensures.value c.own.ensures
 
 -- the look for what refuses it changes nothing
-unchanged : (c : After-own) → view_of c.self-2.inside ≡ view_of c.self.inside
-unchanged c = c.self-2.view_is ∙ c.claim_fault.ensures.same ∙ sym c.self.view_is
+unchanged : (g : Over) (c : After-own g) → view_of c.self-2.inside ≡ view_of c.self.inside
+unchanged g c = c.self-2.view_is ∙ c.claim_fault.ensures.same ∙ sym c.self.view_is
 
 -- and nothing does
-free : (c : After-own) → ((view_of c.self-2.inside).halted ≡ false) × (c.self-2.inside.next + c.args.n ≤ c.self-2.inside.limit) × (c.self-2.inside.next + c.args.n ≤ c.self-2.inside.size + gate_of (view_of c.self-2.inside))
-free c = claim_accepted (view_of c.self-2.inside) c.args.n (ap (λ w. claim_fault w c.args.n) (unchanged c ∙ c.self.view_is) ∙ sym c.claim_fault.ensures.fault ∙ c.in_default.is)
+free : (g : Over) (c : After-own g) → ((view_of c.self-2.inside).halted ≡ false) × (c.self-2.inside.next + c.args.n ≤ c.self-2.inside.limit) × (c.self-2.inside.next + c.args.n ≤ c.self-2.inside.size + gate_of (view_of c.self-2.inside))
+free g c = claim_accepted (view_of c.self-2.inside) c.args.n (ap (λ w. claim_fault w c.args.n) (unchanged g c ∙ c.self.view_is) ∙ sym c.claim_fault.ensures.fault ∙ c.in_default.is)
 
 -- the claim is the machine's
-claimed : (c : After-own) → IsStep (view_of c.self-2.inside) (Claim c.args.p c.args.n) (Claimed c.self-2.inside.next (c.self-2.inside.next + c.args.n - 1)) []
+claimed : (g : Over) (c : After-own g) → IsStep (view_of c.self-2.inside) (Claim c.args.p c.args.n) (Claimed c.self-2.inside.next (c.self-2.inside.next + c.args.n - 1)) []
     (view_of (record c.self-2.inside { owners = with_items c.self-2.inside.owners c.own.new.owners; next = c.self-2.inside.next + c.args.n }))
-claimed c =
-    let v : CoreView = view_of c.self-2.inside in
-    let same : v ≡ view_of c.self.inside = unchanged c in
+claimed g c =
+    let v : CoreView g.row.E.Denot = view_of c.self-2.inside in
+    let same : v ≡ view_of c.self.inside = unchanged g c in
     let producer : c.args.p < producers v.setup.mode = rw (ap (λ w. w.setup.mode) same) (rw c.producers.ensures at c.if-p-producers.false) in
     let fits : c.args.n ≤ v.setup.size = rw (ap (λ w. w.setup.size) same) (rw c.get.ensures.value at c.if-n-get.false) in
-    rw (owned c)
+    rw (owned g c)
     (claim_step v c.args.p c.args.n _
     (claims_known v (kept_of c.self-2.inside) (known_there c.self-2.inside) c.self-2.invariant.available c.self-2.invariant.whole.front (size_positive v.setup.size c.self-2.invariant.whole.size) c.args.n c.args.p fits (one_producer c.self-2.inside.mode c.args.p producer))
-    producer c.if-n-eq0.false fits (free c).0 (free c).1 (free c).2)
+    producer c.if-n-eq0.false fits (free g c).0 (free g c).1 (free g c).2)
 
 pub invariant_of-self : goal.invariant_of-self
-invariant_of-self c =
-    let v : CoreView = view_of c.self-2.inside in
-    let at : After-own = (goal.at.invariant_of-self c).After-own in
+invariant_of-self g c =
+    let v : CoreView g.row.E.Denot = view_of c.self-2.inside in
+    let at : After-own g = (goal.at.invariant_of-self g c).After-own in
     record {
-      whole = step_whole (claimed at) refl c.self-2.invariant.whole;
-      available = rw (owned at) (claims_available v (kept_of c.self-2.inside) (known_there c.self-2.inside) c.self-2.invariant.available c.self-2.invariant.whole.front (size_positive v.setup.size c.self-2.invariant.whole.size) c.args.n c.args.p);
+      whole = step_whole (claimed g at) refl c.self-2.invariant.whole;
+      available = rw (owned g at) (claims_available v (kept_of c.self-2.inside) (known_there c.self-2.inside) c.self-2.invariant.available c.self-2.invariant.whole.front (size_positive v.setup.size c.self-2.invariant.whole.size) c.args.n c.args.p);
       gating = c.self-2.invariant.gating;
       claimable = record {
         going = λ e. (let old : c.self-2.inside.claimable ≤ c.self-2.inside.next = c.self-2.invariant.claimable.going e in omega arith);
@@ -86,4 +87,4 @@ invariant_of-self c =
     }
 
 pub returns-clause-step : goal.returns-clause-step
-returns-clause-step c = rw (← c.claim_fault.ensures.same, ← c.self-2.view_is) (claimed (goal.at.returns-clause-step c).After-own)
+returns-clause-step g c = rw (← c.claim_fault.ensures.same, ← c.self-2.view_is) (claimed g (goal.at.returns-clause-step g c).After-own)

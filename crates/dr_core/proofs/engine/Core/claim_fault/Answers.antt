@@ -6,8 +6,8 @@ use Rattle.dr_core.proofs.Gating.{claimable_room, claim_fault-none}
 use Rattle.dr_core.proofs.engine.Core.claim_fault.Goals as goal
 
 pub returns-then-wanted-self-clause-fault : goal.returns-then-wanted-self-clause-fault
-returns-then-wanted-self-clause-fault c =
-    let v : CoreView = view_of c.self.inside in
+returns-then-wanted-self-clause-fault g c =
+    let v : CoreView g.row.E.Denot = view_of c.self.inside in
     let upto : v.next + c.args.n ≤ c.self.inside.claimable = c.if-wanted-self.true in
     let room : c.self.inside.claimable ≤ v.setup.size + gate_of v = claimable_room v c.self.invariant.whole c.self.inside.claimable c.self.invariant.claimable in
     let limit : c.self.inside.claimable ≤ v.setup.limit = c.self.invariant.claimable.limit in

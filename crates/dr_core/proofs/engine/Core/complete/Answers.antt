@@ -8,11 +8,12 @@ use Rattle.dr_core.proofs.CoreSteps.{complete_step, completed_grows}
 use Rattle.dr_core.proofs.Retiring.{told}
 use Rattle.dr_core.proofs.Whole.{step_whole}
 use Rattle.dr_core.proofs.engine.Core.complete.Goals as goal
+use Rattle.dr_core.proofs.engine.Core.complete.Given.{Over}
 use Rattle.dr_core.proofs.engine.Core.complete.Goals.{After-index_mut}
 
 -- the handler completes what it took
-completes : (c : After-index_mut) → CanComplete (view_of c.self.inside) c.args.h c.args.upto
-completes c =
+completes : (g : Over) (c : After-index_mut g) → CanComplete (view_of c.self.inside) c.args.h c.args.upto
+completes g c =
     let inside : c.args.h < handlers (view_of c.self.inside).setup = omega (arith, c.len.ensures.handlers) in
     let taken : length c.self.inside.taken.items ≡ handlers (view_of c.self.inside).setup = c.self.invariant.whole.taken_len in
     let completed : length c.self.inside.completed.items ≡ handlers (view_of c.self.inside).setup = c.self.invariant.whole.completed_len in
@@ -28,9 +29,9 @@ completes c =
     }
 
 pub invariant_of-self : goal.invariant_of-self
-invariant_of-self c =
-    let v : CoreView = view_of c.self.inside in
-    let can : CanComplete v c.args.h c.args.upto = completes (goal.at.invariant_of-self c).After-index_mut in
+invariant_of-self g c =
+    let v : CoreView g.row.E.Denot = view_of c.self.inside in
+    let can : CanComplete v c.args.h c.args.upto = completes g (goal.at.invariant_of-self g c).After-index_mut in
     record {
       whole = step_whole (complete_step v c.args.h c.args.upto can) refl c.self.invariant.whole;
       available = c.self.invariant.available;
@@ -44,5 +45,5 @@ invariant_of-self c =
     }
 
 pub returns-clause-step : goal.returns-clause-step
-returns-clause-step c =
-    rw (← c.self.view_is) (complete_step (view_of c.self.inside) c.args.h c.args.upto (completes (goal.at.returns-clause-step c).After-index_mut))
+returns-clause-step g c =
+    rw (← c.self.view_is) (complete_step (view_of c.self.inside) c.args.h c.args.upto (completes g (goal.at.returns-clause-step g c).After-index_mut))

@@ -6,7 +6,7 @@ use Rattle.dr_core.proofs.Whole.{step_whole}
 use Rattle.dr_core.proofs.engine.Core.halt.Goals as goal
 
 pub invariant_of-self : goal.invariant_of-self
-invariant_of-self c = record {
+invariant_of-self g c = record {
   whole = step_whole (halt_step (view_of c.self.inside)) refl c.self.invariant.whole;
   available = c.self.invariant.available;
   gating = c.self.invariant.gating;
@@ -14,4 +14,4 @@ invariant_of-self c = record {
 }
 
 pub returns : goal.returns
-returns c = rw (← c.self.view_is) (halt_step _)
+returns g c = rw (← c.self.view_is) (halt_step _)

@@ -5,29 +5,30 @@ use Rattle.dr_core.specs.Calls.CoreView.{CoreView, AreGating, retired_in, gate_o
 use Rattle.dr_core.specs.Inside.Fields.{view_of}
 use Rattle.dr_core.proofs.Gating.{flagged_least, claimable_now, room_fits}
 use Rattle.dr_core.proofs.engine.Core.has_room.Goals as goal
+use Rattle.dr_core.proofs.engine.Core.has_room.Given.{Over}
 use Rattle.dr_core.proofs.engine.Core.has_room.Goals.{After-least_flagged}
 
 -- what the scan of the flags found
-least_is : (v : CoreView) (counts : List ℕ) (flags kept : List Bool) (n : ℕ) → AreGating kept v.setup.upstreams (retired_in v) → counts ≡ v.completed
+least_is : {E : Type 0} (v : CoreView E) (counts : List ℕ) (flags kept : List Bool) (n : ℕ) → AreGating kept v.setup.upstreams (retired_in v) → counts ≡ v.completed
     → flags ≡ kept
     → n ≡ least_of (map (λ h. slice_index counts h) (filter (flagged flags) (range_with_len 0 (length flags)))) → n ≡ gate_of v
 least_is v counts flags kept n gating a b e = (rw (a, b) at e) ∙ flagged_least v.setup.upstreams (retired_in v) kept (λ h. slice_index v.completed h) gating
 
 -- the scan finds the least completed count of those that gate
-scanned : (c : After-least_flagged) → c.least_flagged.result ≡ gate_of (view_of c.self.inside)
-scanned c = least_is (view_of c.self.inside) _ _ _ _ c.self.invariant.gating c.deref.ensures.value c.deref-2.ensures.value c.least_flagged.ensures
+scanned : (g : Over) (c : After-least_flagged g) → c.least_flagged.result ≡ gate_of (view_of c.self.inside)
+scanned g c = least_is (view_of c.self.inside) _ _ _ _ c.self.invariant.gating c.deref.ensures.value c.deref-2.ensures.value c.least_flagged.ensures
 
 pub overflow_add-room : goal.overflow_add-room
-overflow_add-room c =
-    let v : CoreView = view_of c.self.inside in
+overflow_add-room g c =
+    let v : CoreView g.row.E.Denot = view_of c.self.inside in
     let fits : v.setup.size + gate_of v < 2 ^ 63 = room_fits v c.self.invariant.whole in
-    let least : c.least_flagged.result ≡ gate_of v = scanned c in
+    let least : c.least_flagged.result ≡ gate_of v = scanned g c in
     omega (arith, c.get.ensures.value)
 
 pub invariant_of-self : goal.invariant_of-self
-invariant_of-self c =
-    let v : CoreView = view_of c.self.inside in
-    let least : c.least_flagged.result ≡ gate_of v = scanned (goal.at.invariant_of-self c).After-least_flagged in
+invariant_of-self g c =
+    let v : CoreView g.row.E.Denot = view_of c.self.inside in
+    let least : c.least_flagged.result ≡ gate_of v = scanned g (goal.at.invariant_of-self g c).After-least_flagged in
     let size : c.get.result ≡ v.setup.size = c.get.ensures.value in
     record {
       whole = c.self.invariant.whole;
@@ -37,6 +38,6 @@ invariant_of-self c =
     }
 
 pub returns-clause-room : goal.returns-clause-room
-returns-clause-room c =
-    let least = scanned (goal.at.returns-clause-room c).After-least_flagged in
+returns-clause-room g c =
+    let least = scanned g (goal.at.returns-clause-room g c).After-least_flagged in
     rw (← c.self.view_is) (rw (c.get.ensures.value, least) refl)

@@ -15,54 +15,55 @@ use Rattle.dr_core.proofs.InOrder.{InOrder, next_step, next_available}
 use Rattle.dr_core.proofs.Whole.{step_whole}
 use Rattle.dr_core.proofs.Writing.{near}
 use Rattle.dr_core.proofs.engine.Core.publish.Goals as goal
+use Rattle.dr_core.proofs.engine.Core.publish.Given.{Over}
 use Rattle.dr_core.proofs.engine.Core.publish.Goals.{After-show-self-inside, Then-is_next_written, else-is_single-via-then-is_single+else-lo-self-2}
 use Rattle.dr_core.proofs.engine.Core.publish.Goals.{else-is_single-via-else-is_single}
 
 pub returns-then-lo-self-clause-step : goal.returns-then-lo-self-clause-step
-returns-then-lo-self-clause-step c =
+returns-then-lo-self-clause-step g c =
     rw (← c.self.view_is)
     (publish_front (view_of c.self.inside) c.args.p c.args.lo c.args.hi c.self.invariant.whole (rw c.producers.ensures at c.if-p-producers.false) c.if-lo-hi.false c.if-hi-self.false c.if-lo-self.true)
 
 pub returns-in-Some-clause-step : goal.returns-in-Some-clause-step
-returns-in-Some-clause-step c =
-    let v : CoreView = view_of c.self.inside in
+returns-in-Some-clause-step g c =
+    let v : CoreView g.row.E.Denot = view_of c.self.inside in
     let found = rw (← c.self.view_is) at c.in-Some.ensures in
     rw (← c.self.view_is)
     (publish_refused v c.args.p c.args.lo c.args.hi c.self.invariant.whole (rw c.producers.ensures at c.if-p-producers.false) c.if-lo-hi.false c.if-hi-self.false c.if-lo-self.false c.in-Some.refusal found.0 found.1 found.2 found.3)
 
 pub returns-then-lo-self-2-clause-step : goal.returns-then-lo-self-2-clause-step
-returns-then-lo-self-2-clause-step c =
-    let v : CoreView = view_of c.self.inside in
+returns-then-lo-self-2-clause-step g c =
+    let v : CoreView g.row.E.Denot = view_of c.self.inside in
     let found = rw (← c.self.view_is) at c.in_default.ensures in
     rw (← c.self.view_is)
     (publish_order v c.args.p c.args.lo c.args.hi c.self.invariant.whole (rw c.producers.ensures at c.if-p-producers.false) c.if-lo-hi.false c.if-hi-self.false c.if-lo-self.false found (sym c.is_single.ensures ∙ c.if-is_single.true) c.if-lo-self-2.true)
 
 pub first_fault-requires-clause-recent : goal.first_fault-requires-clause-recent
-first_fault-requires-clause-recent c = rw (← c.self.view_is) (near (view_of c.self.inside) c.self.invariant.whole c.args.lo c.if-lo-self.false)
+first_fault-requires-clause-recent g c = rw (← c.self.view_is) (near (view_of c.self.inside) c.self.invariant.whole c.args.lo c.if-lo-self.false)
 
 pub show-self-inside-requires-clause-round : goal.show-self-inside-requires-clause-round
-show-self-inside-requires-clause-round c =
-    let v : CoreView = view_of c.self.inside in
+show-self-inside-requires-clause-round g c =
+    let v : CoreView g.row.E.Denot = view_of c.self.inside in
     let round : v.next ≤ v.front + v.setup.size = near v c.self.invariant.whole v.front (omega arith) in
     let len : length c.self.inside.published ≡ v.setup.size = c.self.invariant.available.published in
     omega arith
 
 -- what one producer publishes begins at the front
-begins : (c : After-show-self-inside) → is_single c.self.inside.mode ≡ true → c.args.lo ≡ c.self.inside.front
-begins c single = elim c.else-is_single.branch [
+begins : (g : Over) (c : After-show-self-inside g) → is_single c.self.inside.mode ≡ true → c.args.lo ≡ c.self.inside.front
+begins g c single = elim c.else-is_single.branch [
   | else-is_single-via-then-is_single+else-lo-self-2 w ↦ w.if-lo-self-2.false
   | else-is_single-via-else-is_single w ↦ absurd (let e : ◌≡◌ {A = Bool} true false = sym single ∙ sym c.is_single.ensures ∙ w.if-is_single.false in cc)
 ]
 
 -- the front that the new marks have
-found : (c : After-show-self-inside) → IsNewFront c.self.inside.mode (published_after c.self.inside.mode c.self.inside.published c.args.lo (c.args.hi + 1 - c.args.lo)) c.self.inside.front c.self.inside.next c.args.hi c.show-self-inside.result
-found c = rw c.show-self-inside.ensures.marks at c.show-self-inside.ensures.front
+found : (g : Over) (c : After-show-self-inside g) → IsNewFront c.self.inside.mode (published_after c.self.inside.mode c.self.inside.published c.args.lo (c.args.hi + 1 - c.args.lo)) c.self.inside.front c.self.inside.next c.args.hi c.show-self-inside.result
+found g c = rw c.show-self-inside.ensures.marks at c.show-self-inside.ensures.front
 
 -- the publication is the machine's
-published : (c : After-show-self-inside)
+published : (g : Over) (c : After-show-self-inside g)
     → IsStep (view_of c.self.inside) (Publish c.args.p c.args.lo c.args.hi) Published [] (view_of (record c.self.inside { published = c.show-self-inside.new.published; front = c.show-self-inside.result; filled = max c.self.inside.filled c.show-self-inside.result }))
-published c =
-    let v : CoreView = view_of c.self.inside in
+published g c =
+    let v : CoreView g.row.E.Denot = view_of c.self.inside in
     let recent : v.next ≤ c.args.lo + v.setup.size = near v c.self.invariant.whole c.args.lo c.if-lo-self.false in
     let round : v.next ≤ v.front + v.setup.size = near v c.self.invariant.whole v.front (omega arith) in
     let some : 0 < v.setup.size = size_positive v.setup.size c.self.invariant.whole.size in
@@ -73,44 +74,44 @@ published c =
     ] in
     rw c.show-self-inside.ensures.marks
     (publish_step v c.args.p c.args.lo c.args.hi c.show-self-inside.result _
-    (publishes_known v (kept_of c.self.inside) (known_there c.self.inside) c.self.invariant.available c.self.invariant.whole.front some c.args.p c.args.lo c.args.hi c.show-self-inside.result c.if-lo-hi.false c.if-hi-self.false recent round refl c.if-lo-self.false (begins c) (found c) none)
+    (publishes_known v (kept_of c.self.inside) (known_there c.self.inside) c.self.invariant.available c.self.invariant.whole.front some c.args.p c.args.lo c.args.hi c.show-self-inside.result c.if-lo-hi.false c.if-hi-self.false recent round refl c.if-lo-self.false (begins g c) (found g c) none)
     c.self.invariant.whole (rw c.producers.ensures at c.if-p-producers.false) c.if-lo-hi.false c.if-hi-self.false c.if-lo-self.false none
-    (front_known v (kept_of c.self.inside) (known_there c.self.inside) c.self.invariant.available c.self.invariant.whole.front some c.args.p c.args.lo c.args.hi c.show-self-inside.result c.if-lo-hi.false c.if-hi-self.false recent round refl c.if-lo-self.false (begins c) (found c))
+    (front_known v (kept_of c.self.inside) (known_there c.self.inside) c.self.invariant.available c.self.invariant.whole.front some c.args.p c.args.lo c.args.hi c.show-self-inside.result c.if-lo-hi.false c.if-hi-self.false recent round refl c.if-lo-self.false (begins g c) (found g c))
     order)
 
 pub invariant_of-self-2 : goal.invariant_of-self-2
-invariant_of-self-2 c =
-    let v : CoreView = view_of c.self.inside in
-    let at : After-show-self-inside = (goal.at.invariant_of-self-2 c).After-show-self-inside in
+invariant_of-self-2 g c =
+    let v : CoreView g.row.E.Denot = view_of c.self.inside in
+    let at : After-show-self-inside g = (goal.at.invariant_of-self-2 g c).After-show-self-inside in
     let recent : v.next ≤ c.args.lo + v.setup.size = near v c.self.invariant.whole c.args.lo c.if-lo-self.false in
     let round : v.next ≤ v.front + v.setup.size = near v c.self.invariant.whole v.front (omega arith) in
     let some : 0 < v.setup.size = size_positive v.setup.size c.self.invariant.whole.size in
     record {
-      whole = rw c.max-self-inside.ensures (step_whole (published at) refl c.self.invariant.whole);
-      available = rw (c.max-self-inside.ensures, c.show-self-inside.ensures.marks) (publishes_available v (kept_of c.self.inside) (known_there c.self.inside) c.self.invariant.available c.self.invariant.whole.front some c.args.p c.args.lo c.args.hi c.show-self-inside.result c.if-lo-hi.false c.if-hi-self.false recent round refl c.if-lo-self.false (begins at) (found at));
+      whole = rw c.max-self-inside.ensures (step_whole (published g at) refl c.self.invariant.whole);
+      available = rw (c.max-self-inside.ensures, c.show-self-inside.ensures.marks) (publishes_available v (kept_of c.self.inside) (known_there c.self.inside) c.self.invariant.available c.self.invariant.whole.front some c.args.p c.args.lo c.args.hi c.show-self-inside.result c.if-lo-hi.false c.if-hi-self.false recent round refl c.if-lo-self.false (begins g at) (found g at));
       gating = c.self.invariant.gating;
       claimable = c.self.invariant.claimable;
     }
 
 pub returns-clause-step : goal.returns-clause-step
-returns-clause-step c = rw (← c.self.view_is) (rw c.max-self-inside.ensures (published (goal.at.returns-clause-step c).After-show-self-inside))
+returns-clause-step g c = rw (← c.self.view_is) (rw c.max-self-inside.ensures (published g (goal.at.returns-clause-step g c).After-show-self-inside))
 
 -- what the test of the next stretch told
-in_order : (c : Then-is_next_written) → InOrder c.self.inside c.args.lo c.args.hi
-in_order c =
+in_order : (g : Over) (c : Then-is_next_written g) → InOrder c.self.inside c.args.lo c.args.hi
+in_order g c =
     let all = and_parts _ _ (sym c.is_next_written.ensures ∙ c.if-is_next_written.true) in
     let from = and_parts _ _ all.1 in
     let upto = and_parts _ _ from.1 in
     record { single = all.0; begins = eqb-true _ _ from.0; order = leb-true _ _ upto.0; written = ltb-true _ _ upto.1 }
 
 pub returns-then-is_next_written-clause-step : goal.returns-then-is_next_written-clause-step
-returns-then-is_next_written-clause-step c =
-    rw (← c.self.view_is) (next_step c.self.inside c.self.invariant c.args.p c.args.lo c.args.hi (rw c.producers.ensures at c.if-p-producers.false) (in_order (goal.at.returns-then-is_next_written-clause-step c).Then-is_next_written))
+returns-then-is_next_written-clause-step g c =
+    rw (← c.self.view_is) (next_step c.self.inside c.self.invariant c.args.p c.args.lo c.args.hi (rw c.producers.ensures at c.if-p-producers.false) (in_order g (goal.at.returns-then-is_next_written-clause-step g c).Then-is_next_written))
 
 pub invariant_of-self : goal.invariant_of-self
-invariant_of-self c =
-    let at : Then-is_next_written = (goal.at.invariant_of-self c).Then-is_next_written in
-    let is : InOrder c.self.inside c.args.lo c.args.hi = in_order at in
+invariant_of-self g c =
+    let at : Then-is_next_written g = (goal.at.invariant_of-self g c).Then-is_next_written in
+    let is : InOrder c.self.inside c.args.lo c.args.hi = in_order g at in
     let producer : c.args.p < producers c.self.inside.mode = rw c.producers.ensures at c.if-p-producers.false in
     let step = next_step c.self.inside c.self.invariant c.args.p c.args.lo c.args.hi producer is in
     record {

@@ -10,29 +10,30 @@ use Rattle.dr_core.proofs.Retiring.{told, others_told, not_final_step, last_step
 use Rattle.dr_core.proofs.Gating.{written_back}
 use Rattle.dr_core.proofs.Whole.{step_whole}
 use Rattle.dr_core.proofs.engine.Core.retire.Goals as goal
+use Rattle.dr_core.proofs.engine.Core.retire.Given.{Over}
 use Rattle.dr_core.proofs.engine.Core.retire.Goals.{After-is_final_without, After-index_mut}
 
 -- a handler that is not retired
-pub record Left (c : After-is_final_without) : Type 0 where
+pub record Left (g : Over) (c : After-is_final_without g) : Type 0 where
   pub inside : c.args.h < handlers (view_of c.self.inside).setup
   pub left : retired_in (view_of c.self.inside) c.args.h ≡ false
 
-left : (c : After-is_final_without) → Left c
-left c =
+left : (g : Over) (c : After-is_final_without g) → Left g c
+left g c =
     let inside : c.args.h < handlers (view_of c.self.inside).setup = omega (arith, c.len.ensures.handlers) in
     record { inside = inside; left = told (view_of c.self.inside) c.args.h c.index.result.now false c.self.invariant.whole inside c.index.ensures c.if-index.false }
 
 pub returns-then-not-is_final_without-clause-step : goal.returns-then-not-is_final_without-clause-step
-returns-then-not-is_final_without-clause-step c =
-    let L = left (goal.at.returns-then-not-is_final_without-clause-step c).After-is_final_without in
+returns-then-not-is_final_without-clause-step g c =
+    let L = left g (goal.at.returns-then-not-is_final_without-clause-step g c).After-is_final_without in
     rw (← c.self.view_is)
     (not_final_step (view_of c.self.inside) c.args.h c.self.invariant.whole L.inside L.left
     (rw c.deref.ensures.value at (sym c.is_final_without.ensures ∙ c.if-not-is_final_without.true)))
 
 pub returns-then-is_last-clause-step : goal.returns-then-is_last-clause-step
-returns-then-is_last-clause-step c =
-    let v : CoreView = view_of c.self.inside in
-    let L = left (goal.at.returns-then-is_last-clause-step c).After-is_final_without in
+returns-then-is_last-clause-step g c =
+    let v : CoreView g.row.E.Denot = view_of c.self.inside in
+    let L = left g (goal.at.returns-then-is_last-clause-step g c).After-is_final_without in
     let final : is_final_without v.setup.upstreams (retired_in v) c.args.h ≡ true =
     rw c.deref.ensures.value at (sym c.is_final_without.ensures ∙ c.if-not-is_final_without.false) in
     rw (← c.self.view_is)
@@ -41,14 +42,14 @@ returns-then-is_last-clause-step c =
     (others_told v c.args.h c.deref-2.result.now c.is_last.result true c.self.invariant.whole c.deref-2.ensures.value c.is_last.ensures c.if-is_last.true)))
 
 -- past all tests the handler is final, and another is left
-pub record Last (c : After-index_mut) : Type 0 where
+pub record Last (g : Over) (c : After-index_mut g) : Type 0 where
   pub inside : c.args.h < handlers (view_of c.self.inside).setup
   pub left : retired_in (view_of c.self.inside) c.args.h ≡ false
   pub final : is_final_without (view_of c.self.inside).setup.upstreams (retired_in (view_of c.self.inside)) c.args.h ≡ true
   pub others : is_some_left (handlers (view_of c.self.inside).setup) (λ k. retired_in (view_of c.self.inside) k || k == c.args.h) ≡ true
 
-last : (c : After-index_mut) → Last c
-last c =
+last : (g : Over) (c : After-index_mut g) → Last g c
+last g c =
     let inside : c.args.h < handlers (view_of c.self.inside).setup = omega (arith, c.len.ensures.handlers) in
     record {
       inside = inside;
@@ -61,9 +62,9 @@ last c =
     }
 
 pub invariant_of-self : goal.invariant_of-self
-invariant_of-self c =
-    let v : CoreView = view_of c.self.inside in
-    let L = last (goal.at.invariant_of-self c).After-index_mut in
+invariant_of-self g c =
+    let v : CoreView g.row.E.Denot = view_of c.self.inside in
+    let L = last g (goal.at.invariant_of-self g c).After-index_mut in
     record {
       whole =
           step_whole (retire_step v c.args.h c.self.invariant.whole L.inside L.left L.final L.others)
@@ -76,11 +77,11 @@ invariant_of-self c =
     }
 
 pub returns-clause-step : goal.returns-clause-step
-returns-clause-step c =
-    let L = last (goal.at.returns-clause-step c).After-index_mut in
+returns-clause-step g c =
+    let L = last g (goal.at.returns-clause-step g c).After-index_mut in
     rw (← c.self.view_is) (retire_step (view_of c.self.inside) c.args.h c.self.invariant.whole L.inside L.left L.final L.others)
 
 pub returns-clause-room : goal.returns-clause-room
-returns-clause-room c =
-    let L = last (goal.at.returns-clause-room c).After-index_mut in
+returns-clause-room g c =
+    let L = last g (goal.at.returns-clause-room g c).After-index_mut in
     rw (← c.self.view_is) (retire_room (view_of c.self.inside) c.args.h c.self.invariant.whole L.inside L.left L.final L.others)

@@ -4,7 +4,7 @@ use Rattle.dr_seq.proofs.Copies.{two_pieces}
 use Rattle.dr_seq.proofs.slots.Slots.copy_to.Goals as goal
 
 pub returns : goal.returns
-returns c =
+returns g c d =
     let len : length c.self.inside.events.items ≡ c.self.inside.size = c.self.invariant.0 in
     let some : 0 < length c.self.inside.events.items = rw len (size_positive c.self.inside.size c.self.invariant.1) in
     let slot : c.slot-at.result ≡ c.args.first % length c.self.inside.events.items = c.slot-at.ensures ∙ ap (λ n. c.args.first % n) (sym len) in
@@ -12,4 +12,4 @@ returns c =
     let whole : length c.as_slice-slots.result.now ≡ length c.self.inside.events.items = ap length c.as_slice-slots.ensures.value in
     let head : c.min-head.result ≡ min (length c.args.out.now) (length c.self.inside.events.items - c.slot-at.result) = c.min-head.ensures ∙ ap (λ m. min (length c.args.out.now) (m - c.slot-at.result)) whole in
     rw (← c.self.view_is, c.copy_from_slice.ensures.after, c.copy_from_slice-2.ensures.after, c.as_slice-slots.ensures.value)
-    (two_pieces c.self.inside.events.items c.args.first (length c.args.out.now) c.slot-at.result c.min-head.result _ _ some fits slot head (omega arith) (let back = c.split_at_mut-front.ensures.back_len in omega arith))
+    (two_pieces d c.self.inside.events.items c.args.first (length c.args.out.now) c.slot-at.result c.min-head.result _ _ some fits slot head (omega arith) (let back = c.split_at_mut-front.ensures.back_len in omega arith))

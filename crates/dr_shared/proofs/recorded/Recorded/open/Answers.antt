@@ -20,7 +20,7 @@ no_fault mode limit f g =
     ]
 
 pub invariant_of-result : goal.invariant_of-result
-invariant_of-result c =
+invariant_of-result g c =
     let core = c.in_ok-core.ensures in
     let small = no_fault c.args.mode c.args.limit (λ y. cc (core.bad_producers.1 y)) (λ y. cc (core.bad_limit.1 y)) in
     recorded_none c.every_transcript_is_lawful.ensures _ c.in_ok-core.core _ _ core.setup c.in_ok-entries.ensures.items c.in_ok-values.ensures.items core.opening small

@@ -1,0 +1,36 @@
+-- No worker of an exchange was stopped but by its gate.
+use Rattle.std.proofs.Common.{◌≡◌, ℕ, List, [], ◌∷◌, Option, Some, Result, Ok, Err}
+use Rattle.std.proofs.lemmas.List.Elements.{All-nil, All-cons}
+use Rattle.dr_seq.specs.declared.event.Event.{Event}
+use Rattle.dr_ring.specs.Calls.Ends.{SenderEnd, ReceiverEnd}
+use Rattle.dr_shared.specs.declared.ended.Ended.{Ended}
+use Rattle.dr_shared.specs.declared.fault.WorkFault.{WorkFault}
+use Rattle.dr_shared.specs.declared.fault.WorkFault.TheVariants.{Stopped}
+use Rattle.dr_accounts.specs.Keeping.{error_of}
+use Rattle.dr_replay.specs.declared.ring.Ran.{Ran}
+use Rattle.dr_replay.specs.Calls.Workers.{AreStopped, IsRun, endings_of}
+
+-- a worker that ended stopped
+stopped_of : {A : Type 0} (part : Result A WorkFault) → error_of part ≡ Some Stopped → part ≡ Err Stopped
+stopped_of (Ok x) is = cc
+stopped_of (Err f) is = cc
+
+module _ (may_stop : ℕ → Type 0) where
+  abbrev IsStopped : Ended → Type 0
+  IsStopped e = e.fault ≡ Some Stopped → may_stop e.who
+
+  -- one ending before others
+  more : (who : ℕ) (fault : Option WorkFault) (others : List Ended) → (fault ≡ Some Stopped → may_stop who) → AreStopped may_stop others
+      → AreStopped may_stop (record { who = who; fault = fault } ∷ others)
+  more who fault others one rest = All-cons IsStopped (record { who = who; fault = fault }) others one rest
+
+  -- over a ring
+  pub run_stopped : (events : List Event) (s : SenderEnd) (j r b : ReceiverEnd) (ran : Ran) → IsRun may_stop events s j r b ran → AreStopped may_stop (endings_of ran)
+  run_stopped events s j r b ran is =
+      let sender : List Ended = record { who = 16; fault = ran.produced.fault } ∷ [] in
+      let later : List Ended = record { who = 2; fault = error_of ran.business.part } ∷ sender in
+      let others : List Ended = record { who = 1; fault = error_of ran.replica.part } ∷ later in
+      more 0 (error_of ran.journal.part) others (λ e. is.journal.stopped (stopped_of ran.journal.part e))
+      (more 1 (error_of ran.replica.part) later (λ e. is.replica.stopped (stopped_of ran.replica.part e))
+      (more 2 (error_of ran.business.part) sender (λ e. is.business.stopped (stopped_of ran.business.part e))
+      (more 16 ran.produced.fault [] is.stopped (All-nil IsStopped))))

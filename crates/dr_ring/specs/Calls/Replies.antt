@@ -1,0 +1,65 @@
+-- What an end of a ring answers is what the machine replies on the ring's picture.
+use Rattle.std.specs.Prelude.{◌≡◌, ℕ, ◌+◌, ◌-◌, ◌<◌, length, slice_index, Some, Result, Ok, Err, Contains}
+use mathlib.Core.Option.{some}
+use lib.ListN.{get_elem?}
+use Rattle.dr_seq.specs.declared.event.Event.{Event}
+use Rattle.dr_core.specs.declared.refusal.Refusal.{Refusal}
+use Rattle.dr_core.specs.declared.refusal.Refusal.TheVariants.{NoRoom, Halted, Exhausted}
+use Rattle.dr_core.specs.declared.command.Claimed.{Claimed}
+use Rattle.dr_core.specs.declared.command.Command.{Command}
+use Rattle.dr_core.specs.declared.command.Command.TheVariants.{Claim, Write, Publish, Poll, Complete}
+use Rattle.dr_core.specs.declared.command.Reply.{Reply}
+use Rattle.dr_core.specs.declared.command.Reply.TheVariants.{Written, Published, Completed}
+use Rattle.dr_core.specs.declared.command.Polled.{Polled}
+use Rattle.dr_core.specs.declared.command.Polled.TheVariants.{Batch, Drained, Gating, Idle}
+use Rattle.dr_core.specs.Meaning.Refusals.{claim_causes, poll_causes, complete_causes}
+use Rattle.dr_core.specs.Meaning.Machine as machine
+use Rattle.dr_core.specs.Calls.Shows.{claim_reply, unit_reply, poll_reply}
+use Rattle.dr_core.specs.Calls.Ends.{IsAnswerOf, WriteAnswers, PublishAnswers, as_end}
+use Rattle.dr_graph.specs.Meaning.Graph.{upstreams_of, finals}
+use Rattle.dr_ring.specs.Meaning.Shape.{Shape, ring_setup}
+use Rattle.dr_ring.specs.Meaning.Words.{cursor_word, closed_word, halt_word, count_word}
+use Rattle.dr_ring.specs.declared.record.ReceiverRecord.{ReceiverRecord}
+use Rattle.dr_ring.specs.Meaning.Records.{claimed, SeesRoom}
+use Rattle.dr_ring.specs.Meaning.Rule.{World}
+use Rattle.dr_ring.specs.Meaning.Moments.{picture_of}
+use Rattle.dr_ring.specs.Calls.Sending.{tests_of_claim}
+use Rattle.dr_ring.specs.Calls.Receiving.{tests_of_poll, tests_of_completion}
+
+-- on the ring's picture the machine replies so
+abbrev pub Replies : Shape → World → Command Event → Reply → Type 0
+Replies k w command reply = (machine.step (ring_setup k) (picture_of k w) command).reply ≡ reply
+
+-- what the look by which a claim is decided finds: for an accepted one, and for one halted late, the last look at halt, and else the first
+abbrev pub DecidesClaim : Shape → World → ℕ → Result Claimed Refusal → Type 0
+DecidesClaim k w n (Ok stretch) =
+    (slice_index w.words halt_word ≡ 0) × SeesRoom k w.sender n × (stretch ≡ record { lo = claimed w.sender; hi = claimed w.sender + n - 1 })
+DecidesClaim k w n (Err Halted) = slice_index w.words halt_word ≡ 1
+DecidesClaim k w n (Err Exhausted) = slice_index w.words halt_word ≡ 0
+DecidesClaim k w n (Err NoRoom) =
+    (slice_index w.words halt_word ≡ 0) × ((f : ℕ) × Contains (finals k.upstreams) f × (k.size + slice_index w.words (count_word f) < claimed w.sender + n))
+DecidesClaim k w n (Err other) = Unit {0}
+
+-- what the look finds by which a poll takes nothing: at the cursor or, for `Gating`, at an upstream's count; of a batch each event is an entry of the run
+abbrev pub DecidesPoll : Shape → World → ReceiverRecord → Result Polled Refusal → Type 0
+DecidesPoll k w r (Ok (Batch first count last)) = ⊥
+DecidesPoll k w r (Ok Drained) = (slice_index w.words closed_word ≡ 1) × (slice_index w.words cursor_word ≡ length r.received)
+DecidesPoll k w r (Ok Gating) =
+    (length r.received < slice_index w.words cursor_word) × ((u : ℕ) × Contains (upstreams_of k.upstreams r.number) u × (slice_index w.words (count_word u) ≡ length r.received))
+-- and the machine tells nobody that it drained
+DecidesPoll k w r (Ok Idle) =
+    (slice_index w.words cursor_word ≡ length r.received) × (slice_index w.words halt_word ≡ 1 → 0 < length w.sender.sent.pending)
+DecidesPoll k w r (Err refusal) = Unit {0}
+
+-- each call of an end, by what the end knows and, where it looks, by what the deciding look finds
+pub record RepliesAsAnswered (k : Shape) (w : World) : Type 0 where
+  pub claim : (n : ℕ) (result : Result Claimed Refusal) → IsAnswerOf (claim_causes (tests_of_claim w.sender n)) (as_end result)
+      → DecidesClaim k w n result → Replies k w (Claim 0 n) (claim_reply result)
+  pub write : (s : ℕ) (event : Event) (result : Result (Unit {0}) Refusal) → WriteAnswers (Some w.sender.sent) s (as_end result)
+      → Replies k w (Write 0 s event) (unit_reply Written result)
+  pub publish : (lo hi : ℕ) (result : Result (Unit {0}) Refusal) → PublishAnswers (Some w.sender.sent) lo hi (as_end result)
+      → Replies k w (Publish 0 lo hi) (unit_reply Published result)
+  pub poll : (h room : ℕ) (r : ReceiverRecord) (result : Result Polled Refusal) → get_elem? w.receivers h ≡ some r
+      → IsAnswerOf (poll_causes (tests_of_poll r room)) (as_end result) → DecidesPoll k w r result → Replies k w (Poll h room) (poll_reply result)
+  pub complete : (h upto : ℕ) (r : ReceiverRecord) (result : Result (Unit {0}) Refusal) → get_elem? w.receivers h ≡ some r
+      → IsAnswerOf (complete_causes (tests_of_completion r upto)) (as_end result) → Replies k w (Complete h upto) (unit_reply Completed result)
