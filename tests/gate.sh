@@ -1,11 +1,11 @@
 #!/usr/bin/env bash
-# The whole gate: every proof and every test's proof from nothing and each program's run (`rt ci`), the wrong bodies, and
-# then the program, as both compilers built it, from outside. The last line, `N passed, M failed`, counts what `rt ci`
-# counts, each wrong body, and one failure more for each script that fails on a build.
+# The whole gate: every proof and every test's proof from nothing and each program's run (`rt ci`), then the program, as both
+# compilers built it, from outside; and, on what processors that leaves, the wrong bodies. The last line, `N passed, M
+# failed`, counts what `rt ci` counts, each wrong body, and one failure more for each script that fails on a build.
 set -u
 cd "$(dirname "$0")/.." || exit 2
 last=$(mktemp) || exit 2
-trap 'rm -f "$last"' EXIT
+bodies=$(mktemp) || exit 2
 passed=0 failed=0
 
 # Runs a command, shows its lines but the last, and adds the two numbers of the last one to what passed and what failed.
@@ -24,9 +24,12 @@ whole() { # COMMAND..
     "$@" || failed=$((failed + 1))
 }
 
-counted rt ci
+nice -n 10 tests/wrong_bodies.py --apart > "$bodies" 2>&1 &
+trying=$!
+trap 'kill "$trying" 2> /dev/null; rm -f "$last" "$bodies"' EXIT
+# One job for each proof takes the least of the processors' time, and there are always other proofs.
+RT_JOBS=$(nproc) counted rt ci
 whole tests/wrong_bodies_test.py
-counted tests/wrong_bodies.py
 for build in '' .by-rattle; do
     built=crates/disruptor/out/disruptor$build calls=crates/disruptor_hostile/out/disruptor_hostile$build
     if [ -f "$built" ] && [ -f "$calls" ]; then
@@ -39,5 +42,7 @@ for build in '' .by-rattle; do
         failed=1
     fi
 done
+wait "$trying"
+counted cat "$bodies"
 echo "$passed passed, $failed failed"
 [ "$failed" = 0 ]

@@ -13,13 +13,17 @@ counts as refused where that function is told as not proved, for a goal of its o
 """
 
 import argparse
+import functools
+import glob
+import heapq
 import os
 import re
 import shutil
 import subprocess
 import sys
 import tempfile
-from concurrent.futures import ThreadPoolExecutor, as_completed
+import threading
+from concurrent.futures import ThreadPoolExecutor
 from dataclasses import dataclass, field
 
 TOP = os.path.dirname(os.path.dirname(os.path.abspath(__file__)))
@@ -32,6 +36,10 @@ OWNER = re.compile(r"^(?:pub )?(?:unsafe )?(?:impl|trait)\b[^\n{]*", re.M)
 # What an edit may not touch if it is to be one of a body.
 STATED = re.compile(r"\b(requires|ensures|ghost|struct|enum|fn|impl|trait|const|use|mod)\b")
 TELLS = re.compile(r"^fn (\S+): (.*)$", re.M)
+# So much memory, in kB, is free before a further check begins: others go on beside it.
+ROOM = 6_000_000
+# How many edits one run of `rt must-fail` judges: it tries them in turn.
+LOT = 3
 # Errors that say only that a proof file cites what is gone.
 NAMES = re.compile(r"has no field|is not in scope|has no `|was not admitted|which was rejected|depends? on")
 
@@ -165,6 +173,9 @@ def goal_of(output, path, why):
         return match[1]
     if not why.startswith("not proved"):
         return None
+    # The notes before the function's own line tell what of it is not proved; else an error in its proof files does.
+    if match := re.search(rf"^note: .*\(`([^`]+)`\)(?:.*\nnote: .*)*\nfn {re.escape(path)}: ", output, re.M):
+        return match[1]
     folder = "proofs/" + "/".join(path.split("::")[1:]) + "/"
     errors = re.findall(rf"^(?:\./)?{re.escape(folder)}\S+?:\d+:\d+: error: (.*)$", output, re.M)
     own = [it for it in errors if not NAMES.search(re.sub(r"`[^`]*`", "", it))]
@@ -180,27 +191,38 @@ def verdict(output, edit):
     return f"{path.partition('::')[2]}, goal {goal}" if goal else None
 
 
-def try_together(top, crate, below, edits):
-    """Checks a copy of the crate in which all these edits stand, and returns what it says of each."""
+def path_of(edit):
+    """Returns the whole path of the edit's function, as `rt check --only` takes it."""
+    file, owner, name = edit.function
+    module = file.removeprefix("src/").removesuffix(".rt").removesuffix("/mod").replace("/", "::")
+    return "::".join(it for it in (edit.crate, module if module != "lib" else "", owner, name) if it)
+
+
+def only(edits):
+    """Returns the words with which `rt check` looks at the functions of these edits alone."""
+    return [word for it in sorted({path_of(edit) for edit in edits}) for word in ("--only", it)]
+
+
+def try_together(top, crate, below, edits, is_whole):
+    """Checks a copy of the crate in which all these edits stand, or their functions alone, and returns what it says of each."""
     with tempfile.TemporaryDirectory(prefix="wrong-") as room:
         prove.copy_of(top, room, [crate], below)
         for it in edits:
             applied(it, f"{room}/crates/{crate}")
-        said = said_by(["rt", "check", "--jobs", "1"], f"{room}/crates/{crate}")
+        said = said_by(["rt", "check", "--jobs", "1", *([] if is_whole else only(edits))], f"{room}/crates/{crate}")
     return {it: verdict(said, it) for it in edits}
 
 
-def try_alone(top, below, edits):
+def try_alone(top, crate, below, edits):
     """Has `rt must-fail` judge each of these edits by itself, over what is kept, and returns what it says of each."""
-    names = {it.crate for it in edits}
     with tempfile.TemporaryDirectory(prefix="wrong-") as room:
-        prove.copy_of(top, room, names, {one for it in names for one in below[it]})
+        prove.copy_of(top, room, [crate], below)
+        os.makedirs(f"{room}/crates/{crate}/must-fail")
         for it in edits:
-            os.makedirs(f"{room}/crates/{it.crate}/must-fail", exist_ok=True)
-            shutil.copy2(f"{top}/crates/{it.crate}/wrong/{it.name}.edit", f"{room}/crates/{it.crate}/must-fail")
-        said = said_by(["rt", "must-fail", *sorted(names)], room)
-    found = {f"{it[1]}/{it[2]}": it[3] for it in re.finditer(r"must-fail (\w+)/(\S+)\.edit: (.*)", said)}
-    return {it: found.get(it.label, f"rt must-fail said nothing of it: {said[-200:]}") for it in edits}
+            shutil.copy2(f"{top}/crates/{crate}/wrong/{it.name}.edit", f"{room}/crates/{crate}/must-fail")
+        said = said_by(["rt", "must-fail", crate], room)
+    found = {it[1]: it[2] for it in re.finditer(rf"must-fail {crate}/(\S+)\.edit: (.*)", said)}
+    return {it: found.get(it.name, f"rt must-fail said nothing of it: {said[-200:]}") for it in edits}
 
 
 def said_by(words, folder):
@@ -212,12 +234,46 @@ def is_refused(text):
     return text.startswith("refused, as it must be") and "only because a proof file" not in text
 
 
+class Lanes:
+    """Work that runs side by side, one piece on each processor as far as memory goes, the most urgent first. Work may add more."""
+
+    def __init__(self):
+        self.ready, self.added, self.running, self.changed = [], 0, 0, threading.Condition()
+
+    def add(self, urgency, work):
+        with self.changed:
+            heapq.heappush(self.ready, (urgency, self.added, work))
+            self.added += 1
+            self.changed.notify()
+
+    def take(self):
+        """Returns the next work, once there is memory for it, or None where all is done."""
+        with self.changed:
+            while self.running and (not self.ready or prove.memory() < ROOM):
+                self.changed.wait(1)
+            self.running += bool(self.ready)
+            return heapq.heappop(self.ready)[2] if self.ready else None
+
+    def go_on(self):
+        while work := self.take():
+            try:
+                work()
+            finally:
+                with self.changed:
+                    self.running -= 1
+                    self.changed.notify_all()
+
+    def run(self):
+        with ThreadPoolExecutor(prove.processors()) as pool:
+            for it in [pool.submit(self.go_on) for _ in range(prove.processors())]:
+                it.result()
+
+
 class Crate:
     """The edits of one crate, and what became of each."""
 
-    def __init__(self, top, name, below):
-        self.top, self.name, self.below = top, name, below
-        self.refused, self.failed, self.left, self.alone = {}, {}, [], []
+    def __init__(self, top, name):
+        self.refused, self.failed, self.bodies, self.others = {}, {}, [], []
         folder = f"{top}/crates/{name}"
         for it in sorted(os.listdir(f"{folder}/wrong")):
             edit = read_edit(name, f"{folder}/wrong/{it}")
@@ -225,55 +281,94 @@ class Crate:
                 self.failed[edit] = f"BAD EDIT: {why}"
                 continue
             place(edit, folder)
-            (self.left if edit.function else self.alone).append(edit)
-
-    def try_in_company(self, pool, told):
-        """Tries the edits of bodies, all companies side by side; what these do not settle is left to be tried alone."""
-        runs = [pool.submit(try_together, self.top, self.name, self.below, it) for it in companies(self.left)]
-        self.left = []
-        for run in as_completed(runs):
-            for edit, goal in run.result().items():
-                if goal:
-                    self.refused[edit] = goal
-                    told(f"{edit.label}: refused by {goal}")
-                else:
-                    self.alone.append(edit)
-
-    def note(self, edit, text):
-        """Notes what the kit says of an edit that was tried alone."""
-        (self.refused if is_refused(text) else self.failed)[edit] = text
+            (self.bodies if edit.function else self.others).append(edit)
 
 
-def try_all(top, crates, below, is_alone, told):
-    """Tries the edits of all crates: those that can be in company, unless each is to be tried alone, and then the rest."""
-    if not is_alone:
-        with ThreadPoolExecutor(prove.lanes()) as pool, ThreadPoolExecutor(len(crates)) as drivers:
-            list(drivers.map(lambda it: it.try_in_company(pool, told), crates.values()))
-    rest = [edit for it in crates.values() for edit in [*it.left, *it.alone]]
-    for edit, text in (try_alone(top, below, rest) if rest else {}).items():
-        crates[edit.crate].note(edit, text)
-        told(f"{edit.label}: alone, {text[:200]}")
+class Trial:
+    """The edits of some crates: first a crate is proved as it is, and then its edits are tried over what that kept."""
+
+    def __init__(self, top, names, is_alone, told):
+        self.top, self.is_alone, self.told, self.below = top, is_alone, told, prove.crates_of(top)
+        self.crates = {it: Crate(top, it) for it in names}
+        self.left = [it for it in self.below if any(it in (one, *self.below[one]) for one in names)]
+        self.all, self.proved, self.changing, self.lanes = list(self.left), set(), threading.Lock(), Lanes()
+        # Where another crate stands on it, or the kit judges an edit, all of a crate is proved; else what its edits reach.
+        self.whole = {it for it in self.all if it not in self.crates or is_alone or self.crates[it].others}
+        self.whole |= {one for it in self.all for one in self.below[it]}
+
+    def begin(self):
+        """Proves the crates whose lower crates are proved: those with the most above them first."""
+        with self.changing:
+            for name in [it for it in self.left if self.proved.issuperset(self.below[it])]:
+                self.left.remove(name)
+                above = sum(name in self.below[it] for it in self.all)
+                self.lanes.add(-above, functools.partial(self.prove, name))
+
+    def prove(self, name):
+        words = ["lib"] if name in self.whole else ["check", *only(self.crates[name].bodies)]
+        status, said = prove.prove(self.top, name, self.below[name], 1, 0, words)
+        if status and name not in self.whole:  # (a test's function is unknown to such a check)
+            self.whole.add(name)
+            self.lanes.add(0, functools.partial(self.prove, name))
+            return
+        if status:
+            self.told(f"{said[-3000:]}\n{name} is not proved as it is")
+            return
+        self.proved.add(name)
+        self.begin()
+        if crate := self.crates.get(name):
+            alone = [*crate.bodies, *crate.others] if self.is_alone else crate.others
+            for it in [] if self.is_alone else companies(crate.bodies):
+                self.lanes.add(1, functools.partial(self.together, name, it))
+            for it in range(0, len(alone), LOT):
+                self.lanes.add(2, functools.partial(self.alone, name, alone[it : it + LOT]))
+
+    def together(self, name, edits):
+        found = try_together(self.top, name, self.below[name], edits, name in self.whole)
+        for edit, goal in found.items():
+            if goal:
+                self.crates[name].refused[edit] = goal
+                self.told(f"{edit.label}: refused by {goal}")
+        if rest := [it for it in edits if not found[it]]:
+            self.lanes.add(1, functools.partial(self.alone, name, rest))
+
+    def alone(self, name, edits):
+        for edit, text in try_alone(self.top, name, self.below[name], edits).items():
+            crate = self.crates[name]
+            (crate.refused if is_refused(text) else crate.failed)[edit] = text
+            self.told(f"{edit.label}: alone, {text[:200]}")
+
+    def run(self):
+        """Tries all edits, tells what was not refused, and returns how many were refused, and how many not."""
+        self.begin()
+        self.lanes.run()
+        refused, failed = 0, 0
+        for crate in self.crates.values():
+            for edit in [*crate.bodies, *crate.others]:
+                if edit not in crate.refused:
+                    crate.failed.setdefault(edit, "no run reached it")
+            for edit, why in crate.failed.items():
+                self.told(f"NOT REFUSED: {edit.label}: {why[:300]}")
+            refused, failed = refused + len(crate.refused), failed + len(crate.failed)
+        return refused, failed
+
+
+def apart(top, room):
+    """Makes a copy of the sources with nothing kept."""
+    prove.copy_of(top, room, [], [])
+    for it in glob.glob(f"{top}/crates/*/wrong"):
+        shutil.copytree(it, room + it.removeprefix(top))
+    return room
 
 
 def run(top, asked, is_alone, told):
     """Tries the edits of the crates that are asked for, or of all, and returns the status."""
-    below = prove.crates_of(top)
-    names = [it for it in below if os.path.isdir(f"{top}/crates/{it}/wrong")]
+    names = [it for it in prove.crates_of(top) if os.path.isdir(f"{top}/crates/{it}/wrong")]
     for it in asked or ():
         if it not in names:
             told(f"{it} is no crate with edits")
             return 2
-    names = [it for it in names if not asked or it in asked]
-    said = prove.prove_all(top, names, lambda it: ["check" if prove.is_program(top, it) else "lib"], told)
-    if said is not None:
-        told(f"{said[-3000:]}\n0 refused, 1 not")
-        return 1
-    crates = {it: Crate(top, it, below[it]) for it in names}
-    try_all(top, crates, below, is_alone, told)
-    refused, failed = [sum(len(getattr(it, kind)) for it in crates.values()) for kind in ("refused", "failed")]
-    for it in crates.values():
-        for edit, why in it.failed.items():
-            told(f"NOT REFUSED: {edit.label}: {why[:300]}")
+    refused, failed = Trial(top, [it for it in names if not asked or it in asked], is_alone, told).run()
     told(f"{refused} refused, {failed} not")
     return 1 if failed or not refused else 0
 
@@ -282,8 +377,11 @@ def main():
     parser = argparse.ArgumentParser(description=__doc__, formatter_class=argparse.RawDescriptionHelpFormatter)
     parser.add_argument("--crate", nargs="+", metavar="NAME", help="try those of these crates alone")
     parser.add_argument("--alone", action="store_true", help="try each by itself")
+    parser.add_argument("--apart", action="store_true", help="in a copy with nothing kept, so that another rt may run beside it")
     asked = parser.parse_args()
-    return run(TOP, asked.crate, asked.alone, lambda it: print(it, flush=True))
+    with tempfile.TemporaryDirectory(prefix="apart-") as room:
+        top = apart(TOP, room) if asked.apart else TOP
+        return run(top, asked.crate, asked.alone, lambda it: print(it, flush=True))
 
 
 if __name__ == "__main__":

@@ -53,9 +53,13 @@ def is_program(top, name):
     return os.path.isfile(f"{top}/crates/{name}/src/main.rt")
 
 
+def processors():
+    return len(os.sched_getaffinity(0))
+
+
 def lanes():
     """Returns how many checks fit side by side, by processors and memory."""
-    return max(min(len(os.sched_getaffinity(0)), memory() // MEMORY), 1)
+    return max(min(processors(), memory() // MEMORY), 1)
 
 
 def link(one, other):

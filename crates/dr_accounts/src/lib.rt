@@ -25,6 +25,3 @@ pub use reporter::{Reporter, part};
 pub use through_core::report_by_core;
 pub use topology::graph;
 pub use worker::{PartOf, Worked, work};
-
-#[cfg(test)]
-mod tests;

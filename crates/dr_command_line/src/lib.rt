@@ -6,6 +6,3 @@ mod words;
 
 pub use plans::{By, LineFault, Plan};
 pub use words::plan;
-
-#[cfg(test)]
-mod tests;

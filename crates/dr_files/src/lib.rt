@@ -17,6 +17,3 @@ pub use fault::{Cause, FileFault, RecordFault};
 pub use lines::put_line;
 pub use numbers::number_of;
 pub use streams::{ReadFault, WriteFault, read_all, write_text};
-
-#[cfg(test)]
-mod tests;

@@ -9,6 +9,3 @@ mod rows;
 
 pub use fields::{count_of, field, is_list, is_named, is_record, number_at};
 pub use rows::Rows;
-
-#[cfg(test)]
-mod tests;

@@ -15,6 +15,3 @@ pub use gate_cache::GateCache;
 pub use rounds::Rounds;
 pub use size::{Size, SizeFault};
 pub use slots::Slots;
-
-#[cfg(test)]
-mod tests;

@@ -1,6 +1,6 @@
 //! What no clause says: the faults' text, and that the calls succeed with ample memory.
 
-use crate::{Event, GateCache, Rounds, Size, SizeFault, Slots};
+use dr_seq::{Event, GateCache, Rounds, Size, SizeFault, Slots};
 use std::process::Abort;
 use std::test::Fail;
 

@@ -1,7 +1,7 @@
 //! What no clause says: that the records of a small text are read, whose values come from the rules
 //! of the format and not from a run.
 
-use crate::{Rows, count_of, field, is_list, is_named, is_record, number_at};
+use dr_records::{Rows, count_of, field, is_list, is_named, is_record, number_at};
 use std::test::Fail;
 
 #[test]

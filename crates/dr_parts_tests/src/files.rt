@@ -1,7 +1,7 @@
 //! What no clause says: that the calls over memory succeed, and the printed texts.
 
-use crate::{Cause, Counted, FileFault, number_of, put_line, read_all, write_text};
 use dr_core::Reply;
+use dr_files::{Cause, Counted, FileFault, number_of, put_line, read_all, write_text};
 use dr_graph::GraphFault;
 use dr_seq::Event;
 use std::process::Abort;

@@ -1,6 +1,6 @@
 //! What no clause says: that a report over memory succeeds, and its text, by the rules of the format.
 
-use crate::{Movement, Operation, report_by_core};
+use dr_accounts::{Movement, Operation, report_by_core};
 use dr_seq::Size;
 use std::process::Abort;
 use std::test::Fail;

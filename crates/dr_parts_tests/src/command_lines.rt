@@ -1,6 +1,6 @@
 //! Command lines.
 
-use crate::{By, LineFault, Plan, plan};
+use dr_command_line::{By, LineFault, Plan, plan};
 use std::alloc::Global;
 use std::process::Abort;
 use std::test::Fail;
