@@ -3,7 +3,7 @@ program := crates/disruptor
 log := make.log
 sources = $(shell find crates \( -name '*.rt' -o -name '*.antt' \) -not -path '*/out/*')
 
-.PHONY: all run test check bench bench-plots hello clean help
+.PHONY: all run try test check bench bench-plots hello clean help
 
 ifneq ($(filter-out help clean bench-plots,$(or $(MAKECMDGOALS),all)),)
 ifeq ($(shell command -v rt),)
@@ -20,6 +20,10 @@ disruptor: crates.txt $(sources)
 run: disruptor
 	./disruptor drive examples/first_event.csv
 	./disruptor replay --by ring examples/accounts.csv
+
+# Before any proof: it shows what the program does, and proves nothing.
+try:
+	cd $(program) && rt try -- drive $(CURDIR)/examples/first_event.csv
 
 test:
 	tests/steps_in_laws.sh
@@ -48,6 +52,7 @@ help:
 	@echo
 	@echo '  make                      proves and builds ./disruptor and runs the shipped example:'
 	@echo '                            up to twenty minutes from nothing, then seconds to minutes'
+	@echo '  make try                  runs the shipped example before any proof: a minute or two'
 	@echo '  make check CRATE=dr_core  proves one crate over what is kept: seconds, 1 to 5 minutes from nothing'
 	@echo '  make test                 the whole gate, from nothing: up to an hour and a half'
 	@echo '  make bench                events a second of core and ring: some minutes, and many where other work runs'
