@@ -5,6 +5,7 @@
     bench/beside.py sizes              ring sizes from 1 to 65,536
     bench/beside.py handlers           1 to 16 handlers, in a chain and side by side
     bench/beside.py claims             claims of 1 to 1000 events
+    bench/beside.py widths             events of 1, 2, 8 and 16 words, on one thread
     bench/beside.py producers          1 to 16 producers behind a lock
     bench/beside.py senders            1 to 16 senders of one ring; three of them are LMAX's `sequencer`
     bench/beside.py few                two topologies on threads, for fewer processors than ends (`taskset`)
@@ -111,6 +112,15 @@ def grow(programs, word, steps):
             print_row(name, programs, kinds, prefix + topology, size)
 
 
+def widths(programs):
+    """The core of large and small events beside the plain ring of them."""
+    print_head(["words an event", "size", "ours", "ring"])
+    for pace in ("", "-b10"):
+        for words, name in ((1, "core1"), (2, "core"), (8, "core8"), (16, "core16")):
+            for size in SIZES:
+                print_row(f"{words}{pace} | {size}", programs, ("ours", "ring"), f"{name}-unicast{pace}", size)
+
+
 def producers(programs):
     """The exchange by lock beside the ring behind a mutex."""
     print_head(["producers", "events a claim", "ours", "mutex"])
@@ -147,7 +157,7 @@ def steps(what):
 
 def main():
     parser = argparse.ArgumentParser(description=__doc__, formatter_class=argparse.RawDescriptionHelpFormatter)
-    parser.add_argument("what", choices=["table", "sizes", "handlers", "claims", "producers", "senders", "few"])
+    parser.add_argument("what", choices=["table", "sizes", "handlers", "claims", "widths", "producers", "senders", "few"])
     parser.add_argument("--program", default=PROGRAM)
     parser.add_argument("--lmax", default="/usr/share/java/disruptor.jar")
     parser.add_argument("--under", default="")
@@ -160,6 +170,8 @@ def main():
         programs = Programs(given, folder)
         if given.what == "table":
             table(programs)
+        elif given.what == "widths":
+            widths(programs)
         elif given.what == "producers":
             producers(programs)
         elif given.what == "senders":

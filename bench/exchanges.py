@@ -106,7 +106,7 @@ def main():
     given.program = given.program or [PROGRAM]
     if given.record and (given.what != "table" or len(given.program) > 1):
         parser.error("--record goes with the table of one program")
-    given.only = given.only or ("" if given.what == "table" else "core-")
+    given.only = given.only or ("" if given.what == "table" else "core")
     if given.what == "table":
         table(given)
     else:

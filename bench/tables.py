@@ -23,6 +23,7 @@ FILES = {
     "sizes": ("By the slots of the ring, claims of one", RATES),
     "handlers": ("By the number of handlers, 1024 slots, claims of one", RATES),
     "claims": ("By the events of a claim, one handler, 1024 slots", RATES),
+    "widths": ("By the words of an event, one handler", RATES),
     "producers": ("By the number of producers, behind a lock, 1024 slots", RATES),
     "senders": ("By the number of senders of one ring, 1024 slots", RATES),
     "few": ("With two processors for all threads", RATES),
@@ -34,7 +35,7 @@ def kind(record):
     """A table of its own for one thread, for threads, and for each tool."""
     if "tool" in record:
         return record["tool"]
-    return "one thread" if record["topology"].startswith("core-") else "a thread for each end"
+    return "one thread" if record["topology"].startswith("core") else "a thread for each end"
 
 
 def row_of(record):

@@ -46,7 +46,7 @@ def passed(topology, size, wanted):
 
 
 def pass_events(wanted):
-    topologies = [name for name in run([BENCH, "--list"]).stdout.split() if not name.startswith("core-")]
+    topologies = [name for name in run([BENCH, "--list"]).stdout.split() if not name.startswith("core")]
     each = -(-wanted // (len(topologies) * len(SIZES)))
     total = 0
     for topology in topologies:

@@ -1,10 +1,11 @@
 //! Rings and queues in plain Rust with nothing verified, to measure the exchanges against:
 //! `exchanges KIND TOPOLOGY SIZE SECONDS ROUNDS` prints a line as `disruptor_bench` does.
 //!
-//! On one thread (topologies that begin with `core-`): `ring`, counts and slots that handlers read in
-//! place, and `deque`, a `VecDeque` for each edge of the graph. With a thread for each end: `words`, a
-//! ring of sequentially consistent words, with one sender or several (`sendersP-`), and `mutex`, a ring
-//! behind a `Mutex`.
+//! On one thread (topologies that begin with `core-`, or with `core1-`, `core8-` or `core16-` for events of
+//! so many words): `ring`, counts and slots that handlers read in place, and `deque`, a `VecDeque` for each
+//! edge of the graph, of events of two words alone. With a thread for each end: `words`, a ring of
+//! sequentially consistent words, with one sender or several (`sendersP-`), and `mutex`, a ring behind a
+//! `Mutex`.
 
 mod deque;
 mod mutex;
@@ -109,11 +110,22 @@ fn one_thread(mut exchange: impl OneThread, order: &Order, rounds: usize) -> Vec
     done
 }
 
+/// The rounds of the ring with so many words an event.
+fn ring_rounds(words: u64, order: &Order, rounds: usize) -> Vec<Round> {
+    let shape = &order.topology.shape;
+    match words {
+        1 => one_thread(ring::Ring::<0>::new(shape, order.size), order, rounds),
+        8 => one_thread(ring::Ring::<7>::new(shape, order.size), order, rounds),
+        16 => one_thread(ring::Ring::<15>::new(shape, order.size), order, rounds),
+        _ => one_thread(ring::Ring::<1>::new(shape, order.size), order, rounds),
+    }
+}
+
 fn rounds_of(kind: &str, order: &Order, rounds: usize) -> Option<Vec<Round>> {
     let shape = &order.topology.shape;
     match (kind, order.topology.exchange) {
-        ("ring", Exchange::OneThread) => Some(one_thread(ring::Ring::new(shape, order.size), order, rounds)),
-        ("deque", Exchange::OneThread) => Some(one_thread(deque::Deques::new(shape), order, rounds)),
+        ("ring", Exchange::OneThread(words)) => Some(ring_rounds(words, order, rounds)),
+        ("deque", Exchange::OneThread(2)) => Some(one_thread(deque::Deques::new(shape), order, rounds)),
         ("words", Exchange::OneSender) => Some((0..rounds).map(|_| words::round(order)).collect()),
         ("words", Exchange::Senders) => Some((0..rounds).map(|_| senders::round(order)).collect()),
         ("mutex", Exchange::OneSender | Exchange::Lock) => Some((0..rounds).map(|_| mutex::round(order)).collect()),

@@ -1,10 +1,28 @@
 //! A ring on one thread: counts, and slots that the handlers read in place. It refuses nothing.
 
+use crate::OneThread;
 use crate::topology::Shape;
-use crate::{Event, OneThread, event_at};
 
-pub struct Ring {
-    slots: Vec<Event>,
+/// An event of one word and so many more.
+#[derive(Clone, Copy)]
+pub struct Words<const MORE: usize> {
+    pub first: u64,
+    /// Which handlers do not read.
+    #[allow(dead_code)]
+    pub more: [u64; MORE],
+}
+
+impl<const MORE: usize> Words<MORE> {
+    fn at(sequence: u64) -> Words<MORE> {
+        Words {
+            first: sequence,
+            more: [0; MORE],
+        }
+    }
+}
+
+pub struct Ring<const MORE: usize> {
+    slots: Vec<Words<MORE>>,
     mask: u64,
     next: u64,
     completed: Vec<u64>,
@@ -15,11 +33,11 @@ pub struct Ring {
     sums: Vec<u64>,
 }
 
-impl Ring {
-    pub fn new(shape: &Shape, size: u64) -> Ring {
+impl<const MORE: usize> Ring<MORE> {
+    pub fn new(shape: &Shape, size: u64) -> Ring<MORE> {
         let handlers = shape.upstreams.len();
         Ring {
-            slots: vec![Event::default(); size as usize],
+            slots: vec![Words::at(0); size as usize],
             mask: size - 1,
             next: 0,
             completed: vec![0; handlers],
@@ -45,14 +63,14 @@ impl Ring {
     }
 }
 
-impl OneThread for Ring {
+impl<const MORE: usize> OneThread for Ring<MORE> {
     fn send(&mut self, n: u64) {
         if self.next + n > self.gate + self.slots.len() as u64 {
             self.gate = self.least(&self.finals);
             assert!(self.next + n <= self.gate + self.slots.len() as u64);
         }
         for s in self.next..self.next + n {
-            self.slots[(s & self.mask) as usize] = event_at(s);
+            self.slots[(s & self.mask) as usize] = Words::at(s);
         }
         self.next += n;
     }

@@ -8,7 +8,8 @@ pub struct Shape {
 /// What an event goes through.
 #[derive(Clone, Copy, PartialEq)]
 pub enum Exchange {
-    OneThread,
+    /// With so many words an event.
+    OneThread(u64),
     OneSender,
     Senders,
     Lock,
@@ -54,7 +55,10 @@ impl Topology {
         let mut words = name.split('-');
         let first = words.next()?;
         let (exchange, producers) = match (first, first.strip_prefix("lock"), first.strip_prefix("senders")) {
-            ("core", _, _) => (Exchange::OneThread, 1),
+            ("core", _, _) => (Exchange::OneThread(2), 1),
+            ("core1", _, _) => (Exchange::OneThread(1), 1),
+            ("core8", _, _) => (Exchange::OneThread(8), 1),
+            ("core16", _, _) => (Exchange::OneThread(16), 1),
             (_, Some(producers), _) => (Exchange::Lock, producers.parse().ok()?),
             (_, _, Some(producers)) => (Exchange::Senders, producers.parse().ok()?),
             _ => (Exchange::OneSender, 1),

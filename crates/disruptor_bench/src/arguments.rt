@@ -9,6 +9,8 @@ use std::time::Duration;
 pub enum Request {
     /// The names of all topologies.
     List,
+    /// The program's check of itself.
+    Check,
     /// A measurement.
     Measure(Order),
 }
@@ -56,6 +58,7 @@ fn rounds_of(word: &str) -> Option<u32> {
 pub fn read_request(words: &[String]) -> Option<Request> {
     match words {
         [only] if only.as_str() == "--list" => Some(Request::List),
+        [only] if only.as_str() == "--check" => Some(Request::Check),
         [topology, size, seconds, rounds] => Some(Request::Measure(Order {
             topology: Topology::named(topology.as_str())?,
             size: size_of(size.as_str())?,

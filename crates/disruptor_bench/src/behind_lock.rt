@@ -11,12 +11,12 @@ use crate::measured::Round;
 use crate::sum::{event_at, sum_of_first};
 use dr_core::{MAX_LIMIT, Mode};
 use dr_seq::Event;
-use dr_shared::{End, Recorded, Shared, finish};
+use dr_shared::{End, Exchange, Recorded, Shared, finish};
 use std::alloc::Global;
 use std::marker::Brand;
 use std::rt::Clock;
 use std::sync::Wait;
-use std::sync::ledger::{Blank, Ledger};
+use std::sync::ledger::Blank;
 use std::thread::Threads;
 use std::time::Instant;
 use workers::{Around, Joined, Parties, exchange};
@@ -30,7 +30,7 @@ fn script(alloc: Global, producers: u64) -> Result<Vec<Event>, Fault> {
     Ok(events)
 }
 
-fn ends<L: Ledger>(
+fn ends<L: Exchange<Event>>(
     alloc: Global,
     shared: &mut Shared<Event, L>,
     count: usize,
@@ -72,7 +72,7 @@ fn open(
 }
 
 /// Checks that all ends are back and what the handlers added up.
-fn check<L: Ledger>(
+fn check<L: Exchange<Event>>(
     alloc: Global,
     shared: Shared<Event, L>,
     joined: Joined<L>,
@@ -95,21 +95,22 @@ fn check<L: Ledger>(
     }
 }
 
-fn measured<L: Ledger + Send + Sync, R: Clock + Threads + Wait + Sync>(
+fn measured<L: Exchange<Event> + Send + Sync, R: Clock + Threads + Wait + Sync>(
     rt: &R,
     alloc: Global,
     blank: Blank,
+    recorded: Recorded<Event>,
+    script: &[Event],
     order: &Order,
     producers: u64,
 ) -> Result<Round, Fault>
     requires name { blank.name ≡ L.name }
     requires parts { blank.parts ≡ L.parts }
     requires ends { blank.parts ≡ 65 }
+    requires begun { recorded.history ≡ L.begun }
 {
-    let script = script(alloc, producers)?;
     let count = script.len() as u64;
     let events = count.saturating_mul(producers);
-    let recorded = open(alloc, order, producers, events as usize)?;
     let handlers = recorded.graph().len();
     let mut shared = Shared::<Event, L>::new(recorded, blank);
     let parties = Parties {
@@ -121,7 +122,7 @@ fn measured<L: Ledger + Send + Sync, R: Clock + Threads + Wait + Sync>(
         rt,
         alloc,
         shared: &shared,
-        script: script.as_slice(),
+        script,
         cut: order.claim().max(1),
         slots: order.size.get() as usize,
     };
@@ -141,5 +142,10 @@ pub fn round<R: Clock + Threads + Wait + Sync>(
     order: &Order,
     producers: u64,
 ) -> Result<Round, Fault> {
-    measured::<Brand, R>(rt, alloc, Blank::new(65), order, producers)
+    let script = script(alloc, producers)?;
+    let script = script.as_slice();
+    let events = (script.len() as u64).saturating_mul(producers);
+    let recorded = open(alloc, order, producers, events as usize)?;
+    let blank = Blank::new(65);
+    measured::<Brand, R>(rt, alloc, blank, recorded, script, order, producers)
 }

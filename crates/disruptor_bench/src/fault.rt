@@ -10,7 +10,7 @@ use thiserror::Error;
 /// Why the program ends early. Its text is the line that it prints.
 #[derive(Debug, Drop, Error)]
 pub enum Fault {
-    #[error("usage: disruptor_bench TOPOLOGY SIZE SECONDS ROUNDS, or disruptor_bench --list")]
+    #[error("usage: disruptor_bench TOPOLOGY SIZE SECONDS ROUNDS, or disruptor_bench --list, or disruptor_bench --check")]
     Usage,
     #[error("no-memory")]
     Memory,

@@ -4,22 +4,24 @@
 //!
 //! `disruptor_bench TOPOLOGY SIZE SECONDS ROUNDS` runs a topology over a ring of SIZE slots for about
 //! SECONDS in each of ROUNDS rounds, and prints the round in the middle:
-//! `ours-EXCHANGE TOPOLOGY SIZE EVENTS SECONDS EVENTS_PER_SECOND`. `--list` prints the topologies.
+//! `ours-EXCHANGE TOPOLOGY SIZE EVENTS SECONDS EVENTS_PER_SECOND`. `--list` prints the topologies, and
+//! `--check` runs some of each kind for a round, and prints nothing that a clock decides.
 #![tactic(auto)]
 
 mod arguments;
 mod behind_lock;
+mod check;
 mod fault;
 mod measured;
 mod one_thread;
 mod senders;
 mod sum;
-#[cfg(test)]
-mod tests;
 mod threads;
 mod topology;
+mod width;
 
 use arguments::{Order, Request, read_request};
+use check::check;
 use fault::Fault;
 use measured::{Measured, Round, median};
 use one_thread::OneThread;
@@ -29,7 +31,8 @@ use std::process::ExitCode;
 use std::rt::Runtime;
 use std::sync::Wait;
 use std::thread::Threads;
-use topology::{Exchange, Shape, Topology};
+use topology::{Exchange, Pace, Shape, Topology};
+use width::Width;
 
 /// How many events go through between two looks at the clock, about.
 const STRETCH: u64 = 65536;
@@ -58,16 +61,51 @@ fn print_exchange(rt: &impl Runtime, exchange: Exchange) -> Result<(), Fault> {
     Ok(())
 }
 
-fn print_list(rt: &impl Runtime) -> Result<(), Fault> {
-    for exchange in Exchange::ALL {
-        print_exchange(rt, exchange)?;
+/// A row for each further width of an event.
+fn print_widths(rt: &impl Runtime) -> Result<(), Fault> {
+    for width in Width::OTHERS {
+        println!(rt;
+            "{}",
+            Topology {
+                exchange: Exchange::Core(width),
+                shape: Shape::Unicast,
+                pace: Pace::Ones
+            }
+        )?;
     }
     Ok(())
 }
 
-fn core_rounds(rt: &impl Runtime, alloc: Global, order: &Order) -> Result<Vec<Round>, Fault> {
+fn print_list(rt: &impl Runtime) -> Result<(), Fault> {
+    for exchange in Exchange::ALL {
+        print_exchange(rt, exchange)?;
+    }
+    print_widths(rt)
+}
+
+/// The core's rounds with events of a width.
+fn core_rounds(
+    rt: &impl Runtime,
+    alloc: Global,
+    order: &Order,
+    width: Width,
+) -> Result<Vec<Round>, Fault> {
+    match width {
+        Width::One => rounds_of(rt, alloc, order, OneThread::<0>::open(alloc, order)?),
+        Width::Two => rounds_of(rt, alloc, order, OneThread::<1>::open(alloc, order)?),
+        Width::Eight => rounds_of(rt, alloc, order, OneThread::<7>::open(alloc, order)?),
+        Width::Sixteen => rounds_of(rt, alloc, order, OneThread::<15>::open(alloc, order)?),
+    }
+}
+
+/// The same with events of one word and so many more.
+fn rounds_of<const MORE: usize>(
+    rt: &impl Runtime,
+    alloc: Global,
+    order: &Order,
+    mut all: OneThread<MORE>,
+) -> Result<Vec<Round>, Fault> {
     let mut rounds = Vec::new(alloc);
-    let mut all = OneThread::open(alloc, order)?;
     for _ in 0..order.rounds {
         rounds.push(all.round(rt)?)?;
     }
@@ -119,7 +157,7 @@ fn measure(
     order: Order,
 ) -> Result<Measured, Fault> {
     let mut rounds = match order.topology.exchange {
-        Exchange::Core => core_rounds(rt, alloc, &order)?,
+        Exchange::Core(width) => core_rounds(rt, alloc, &order, width)?,
         Exchange::Ring => ring_rounds(rt, alloc, &order)?,
         Exchange::Senders(senders) => senders_rounds(rt, alloc, &order, senders)?,
         Exchange::Lock(producers) => lock_rounds(rt, alloc, &order, producers)?,
@@ -133,6 +171,7 @@ fn run(rt: &(impl Runtime + Alloc<A = Global> + Threads + Wait + Sync)) -> Resul
     let words: Vec<String> = env::args(rt)?.skip(1).collect(alloc)?;
     match read_request(&words) {
         Some(Request::List) => print_list(rt),
+        Some(Request::Check) => check(rt, alloc),
         Some(Request::Measure(order)) => {
             let measured = measure(rt, alloc, order)?;
             Ok(rt.println(measured)?)

@@ -3,11 +3,11 @@
 use crate::arguments::Order;
 use crate::fault::Fault;
 use crate::measured::Round;
-use crate::sum::{Sum, event_at, sum_of_first};
+use crate::sum::{Sum, sum_of_first};
 use crate::topology::Pace;
+use crate::width::Words;
 use crate::{MOST_TURNS, STRETCH};
-use dr_core::{Core, MAX_LIMIT, Mode, Refusal, processor_turn};
-use dr_seq::{Event, Size};
+use dr_core::{Core, MAX_LIMIT, Mode, Refusal};
 use std::alloc::Global;
 use std::rt::Clock;
 use std::time::{Duration, Instant};
@@ -36,18 +36,17 @@ impl Lap {
     }
 }
 
-/// A core with its handlers, and the room that their turns take events to.
+/// A core of events of one word and so many more, with its handlers.
 #[derive(Drop)]
-pub struct OneThread {
-    core: Core<Event>,
+pub struct OneThread<const MORE: usize> {
+    core: Core<Words<MORE>>,
     sums: Vec<Sum>,
-    room: Vec<Event>,
     lap: Lap,
     time: Duration,
 }
 
-impl OneThread {
-    pub fn open(alloc: Global, order: &Order) -> Result<OneThread, Fault> {
+impl<const MORE: usize> OneThread<MORE> {
+    pub fn open(alloc: Global, order: &Order) -> Result<OneThread<MORE>, Fault> {
         let graph = order.topology.shape.graph(alloc)?;
         let handlers = graph.len();
         let core = Core::open(
@@ -56,14 +55,12 @@ impl OneThread {
             order.size,
             Mode::Single,
             MAX_LIMIT,
-            Event::NONE,
+            Words::at(0),
         )?;
         let sums = vec![in alloc; Sum { total: 0 }; handlers]?;
-        let room = vec![in alloc; Event::NONE; slots(order.size)]?;
         Ok(OneThread {
             core,
             sums,
-            room,
             lap: Lap::of(order),
             time: order.time,
         })
@@ -75,7 +72,7 @@ impl OneThread {
         let claimed = self.core.claim(0, self.lap.claim)?;
         for k in 0..self.lap.claim {
             let s = claimed.lo.wrapping_add(k);
-            self.core.write(0, s, event_at(s))?;
+            self.core.write(0, s, Words::at(s))?;
         }
         self.core.publish(0, claimed.lo, claimed.hi)
     }
@@ -87,10 +84,10 @@ impl OneThread {
         Ok(())
     }
 
-    /// Each handler takes all that it is offered.
+    /// Each handler is shown all that it is offered, where it lies.
     fn take_all(&mut self) -> Result<(), Refusal> {
         for (h, sum) in self.sums.iter_mut().enumerate() {
-            processor_turn(&mut self.core, h, sum, &mut self.room)?;
+            self.core.turn_in_place(h, sum)?;
         }
         Ok(())
     }
@@ -127,8 +124,4 @@ impl OneThread {
             Err(Fault::WrongSum)
         }
     }
-}
-
-fn slots(size: Size) -> usize {
-    size.get() as usize
 }

@@ -1,6 +1,7 @@
 //! The work of the handlers: they add up what they are shown.
 
-use dr_core::Handler;
+use crate::width::Words;
+use dr_core::{Handler, InPlaceHandler};
 use dr_seq::Event;
 
 /// A handler that adds up the first words, as the LMAX measurements' does.
@@ -15,6 +16,17 @@ impl Handler<Event> for Sum {
     ghost goes = { λ old event s end new. new.total ≡ (old.total + event.first) % 2 ^ 64 };
 
     fn on_event(&mut self, event: Event, _s: u64, _end: bool) {
+        self.total = self.total.wrapping_add(event.first);
+    }
+}
+
+impl<const MORE: usize> InPlaceHandler<Words<MORE>> for Sum {
+    ghost use Rattle.std.specs.Prelude.{◌≡◌, ◌+◌, ◌%◌, ◌^◌};
+
+    ghost goes = { λ old event s end new. new.total ≡ (old.total + event.first) % 2 ^ 64 };
+
+    #[inline]
+    fn on_event_in_place(&mut self, event: &Words<MORE>, _s: u64, _end: bool) {
         self.total = self.total.wrapping_add(event.first);
     }
 }

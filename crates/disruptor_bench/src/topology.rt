@@ -1,5 +1,6 @@
 //! What can be measured: an exchange, a graph of handlers, and how the producer sends.
 
+use crate::width::Width;
 use dr_graph::{Graph, GraphBuilder, GraphFault};
 use std::alloc::Global;
 use std::fmt;
@@ -7,8 +8,8 @@ use std::fmt;
 /// What the events go through.
 #[derive(Clone, Copy, Debug, PartialEq, Eq)]
 pub enum Exchange {
-    /// The core, with all on one thread.
-    Core,
+    /// The core of events of such a width, with all on one thread.
+    Core(Width),
     /// The ring over atomic words, with a thread for each end.
     Ring,
     /// The ring with so many senders, and a thread for each end.
@@ -66,12 +67,13 @@ const MOST_PRODUCERS: u64 = 16;
 
 impl Exchange {
     /// The exchanges of the measurements that are listed.
-    pub const ALL: [Exchange; 2] = [Exchange::Core, Exchange::Ring];
+    pub const ALL: [Exchange; 2] = [Exchange::Core(Width::Two), Exchange::Ring];
 
     /// Reads the beginning of a topology's name, and gives the rest with it.
     fn before(name: &str) -> Option<(Exchange, &str)> {
-        if let Some(rest) = name.strip_prefix("core-") {
-            return Some((Exchange::Core, rest));
+        if let Some(rest) = name.strip_prefix("core") {
+            let (width, rest) = rest.split_once('-')?;
+            return Some((Exchange::Core(Width::named(width)?), rest));
         }
         if let Some(rest) = name.strip_prefix("lock") {
             let (producers, rest) = producers_before(rest)?;
@@ -87,7 +89,7 @@ impl Exchange {
     /// How a producer sends to it in the measurements that are listed.
     pub fn paces(self) -> [Pace; 3] {
         match self {
-            Exchange::Core => [Pace::Ones, Pace::Step, Pace::Claims(10)],
+            Exchange::Core(_) => [Pace::Ones, Pace::Step, Pace::Claims(10)],
             Exchange::Ring | Exchange::Senders(_) | Exchange::Lock(_) => [
                 Pace::Ones,
                 Pace::Claims(10),
@@ -98,14 +100,14 @@ impl Exchange {
 
     /// Whether a producer can send to it so: threads have no steps.
     fn has(self, pace: Pace) -> bool {
-        self == Exchange::Core || pace != Pace::Step
+        matches!(self, Exchange::Core(_)) || pace != Pace::Step
     }
 }
 
 impl fmt::Display for Exchange {
     fn fmt<W: fmt::Write>(&self, f: &mut fmt::Formatter<W>) -> fmt::Result {
         f.write_str(match self {
-            Exchange::Core => "core",
+            Exchange::Core(_) => "core",
             Exchange::Ring => "ring",
             Exchange::Senders(_) => "senders",
             Exchange::Lock(_) => "lock",
@@ -256,7 +258,7 @@ impl Topology {
 impl fmt::Display for Topology {
     fn fmt<W: fmt::Write>(&self, f: &mut fmt::Formatter<W>) -> fmt::Result {
         match self.exchange {
-            Exchange::Core => f.write_str("core-")?,
+            Exchange::Core(width) => write!(f, "core{width}-")?,
             Exchange::Ring => {}
             Exchange::Senders(senders) => write!(f, "senders{senders}-")?,
             Exchange::Lock(producers) => write!(f, "lock{producers}-")?,

@@ -7,7 +7,7 @@ use crate::fault::Fault;
 use crate::sum::Sum;
 use dr_seq::Event;
 use dr_shared::{
-    End, LockedInlet, LockedOutlet, OpenGate, Shared, consume, halt, join_all, produce,
+    End, Exchange, LockedInlet, LockedOutlet, OpenGate, Shared, consume, halt, join_all, produce,
 };
 use std::alloc::{AllocError, Global};
 use std::sync::Wait;
@@ -19,7 +19,7 @@ const MOST_AT_ONCE: usize = 1024;
 
 /// What all threads of a round share.
 #[derive(Drop)]
-pub struct Around<'a, L: Ledger, R> {
+pub struct Around<'a, L: Exchange<Event>, R> {
     pub rt: &'a R,
     pub alloc: Global,
     pub shared: &'a Shared<Event, L>,
@@ -67,7 +67,7 @@ pub struct Joined<L: Ledger> {
     pub handled: Vec<Handled<L>>,
 }
 
-fn send<L: Ledger, R: Wait>(around: &Around<'_, L, R>, task: Task<L>) -> Sent<L> {
+fn send<L: Exchange<Event>, R: Wait>(around: &Around<'_, L, R>, task: Task<L>) -> Sent<L> {
     let Task { k, end } = task;
     let mut inlet = LockedInlet::new(around.rt, around.shared, end, k as u64);
     let cut = around.cut.max(1);
@@ -76,7 +76,7 @@ fn send<L: Ledger, R: Wait>(around: &Around<'_, L, R>, task: Task<L>) -> Sent<L>
     Sent { end }
 }
 
-fn handle<L: Ledger, R: Wait>(around: &Around<'_, L, R>, task: Task<L>) -> Handled<L> {
+fn handle<L: Exchange<Event>, R: Wait>(around: &Around<'_, L, R>, task: Task<L>) -> Handled<L> {
     let Task { k, end } = task;
     let mut outlet = LockedOutlet::new(around.rt, around.shared, end, k);
     let mut buffer = [Event::NONE; MOST_AT_ONCE];
@@ -98,7 +98,7 @@ fn handle<L: Ledger, R: Wait>(around: &Around<'_, L, R>, task: Task<L>) -> Handl
 }
 
 /// What threads give back, where so many could be started.
-fn gather<T: Drop, L: Ledger, R: Threads + Wait>(
+fn gather<T: Drop, L: Exchange<Event>, R: Threads + Wait>(
     around: &Around<'_, L, R>,
     started: Vec<JoinHandle<T>>,
     count: usize,
@@ -111,7 +111,7 @@ fn gather<T: Drop, L: Ledger, R: Threads + Wait>(
 }
 
 /// Starts a thread for each producer, and joins them.
-fn send_all<L: Ledger + Send + Sync, R: Threads + Wait + Sync>(
+fn send_all<L: Exchange<Event> + Send + Sync, R: Threads + Wait + Sync>(
     around: &Around<'_, L, R>,
     ends: Vec<End<L>>,
 ) -> Result<Vec<Sent<L>>, Fault> {
@@ -136,7 +136,7 @@ fn send_all<L: Ledger + Send + Sync, R: Threads + Wait + Sync>(
 }
 
 /// Starts a thread for each handler, then one for each producer; joins the producers, halts, and joins the handlers.
-pub fn exchange<L: Ledger + Send + Sync, R: Threads + Wait + Sync>(
+pub fn exchange<L: Exchange<Event> + Send + Sync, R: Threads + Wait + Sync>(
     around: &Around<'_, L, R>,
     parties: Parties<L>,
 ) -> Result<Joined<L>, Fault> {

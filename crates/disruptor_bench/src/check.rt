@@ -1,0 +1,157 @@
+//! The program's check of itself: a round of each kind of topology, whose sums come out, and command
+//! lines that ask for nothing.
+
+use crate::arguments::{Request, read_request};
+use crate::fault::Fault;
+use crate::measure;
+use crate::measured::{Measured, Round, median};
+use crate::topology::Shape;
+use std::alloc::{AllocError, Global};
+use std::rt::Runtime;
+use std::sync::Wait;
+use std::thread::Threads;
+use std::time::Duration;
+
+/// What stands before and after a shape's name in the topologies that are checked.
+const WAYS: [(&str, &str); 8] = [
+    ("core-", ""),
+    ("core-", "-step"),
+    ("core-", "-b10"),
+    ("", "-b10"),
+    ("senders1-", "-b10"),
+    ("senders3-", "-b10"),
+    ("lock1-", "-b10"),
+    ("lock3-", "-b10"),
+];
+
+/// Further topologies that are checked.
+const OTHERS: [&str; 6] = [
+    "core1-unicast",
+    "core8-diamond-b7",
+    "core16-unicast-step",
+    "core-chain1",
+    "core-side16-b1000",
+    "side2-b7",
+];
+
+/// Names of no topology.
+const UNKNOWN: [&str; 21] = [
+    "",
+    "core",
+    "core-",
+    "core2-unicast",
+    "unicast-step",
+    "core-unicast-b0",
+    "core-unicast-b1001",
+    "chain",
+    "chain17",
+    "side0",
+    "diamond-",
+    "lock0-unicast",
+    "lock17-unicast",
+    "lock2-unicast-step",
+    "lock2",
+    "senders0-unicast",
+    "senders17-unicast",
+    "senders3-unicast-step",
+    "senders3",
+    "Diamond",
+    "unicorn",
+];
+
+/// Command lines that ask for nothing, but for their names.
+const WRONG: [[&str; 3]; 4] = [
+    ["63", "0", "1"],
+    ["64", "-1", "1"],
+    ["64", "0", "0"],
+    ["64", "0", "1001"],
+];
+
+fn asked(
+    alloc: Global,
+    name: &str,
+    [size, seconds, rounds]: [&str; 3],
+) -> Result<Option<Request>, AllocError> {
+    let mut words = Vec::new(alloc);
+    for word in [name, size, seconds, rounds] {
+        words.push(String::from_str(alloc, word)?)?;
+    }
+    Ok(read_request(&words))
+}
+
+/// Prints the name of a topology as it was read, and how many events a round of it had.
+fn check_round(
+    rt: &(impl Runtime + Threads + Wait + Sync),
+    alloc: Global,
+    name: &str,
+) -> Result<(), Fault> {
+    let Some(Request::Measure(order)) = asked(alloc, name, ["64", "0", "1"])? else {
+        return Err(Fault::Usage);
+    };
+    let events = measure(rt, alloc, order)?.median.events;
+    let topology = order.topology;
+    println!(rt; "{topology} {events}")?;
+    Ok(())
+}
+
+fn check_shape(
+    rt: &(impl Runtime + Threads + Wait + Sync),
+    alloc: Global,
+    shape: Shape,
+) -> Result<(), Fault> {
+    for (before, after) in WAYS {
+        let name = format!(in alloc; "{before}{shape}{after}")?;
+        check_round(rt, alloc, name.as_str())?;
+    }
+    Ok(())
+}
+
+fn check_rounds(rt: &(impl Runtime + Threads + Wait + Sync), alloc: Global) -> Result<(), Fault> {
+    for shape in Shape::ALL {
+        check_shape(rt, alloc, shape)?;
+    }
+    for name in OTHERS {
+        check_round(rt, alloc, name)?;
+    }
+    Ok(())
+}
+
+fn print_wrong(rt: &impl Runtime, alloc: Global, name: &str, rest: [&str; 3]) -> Result<(), Fault> {
+    let [size, seconds, rounds] = rest;
+    let what = match asked(alloc, name, rest)? {
+        Some(_) => "is read",
+        None => "is wrong",
+    };
+    println!(rt; "'{name} {size} {seconds} {rounds}' {what}")?;
+    Ok(())
+}
+
+fn check_wrong(rt: &impl Runtime, alloc: Global) -> Result<(), Fault> {
+    for name in UNKNOWN {
+        print_wrong(rt, alloc, name, ["64", "0", "1"])?;
+    }
+    for rest in WRONG {
+        print_wrong(rt, alloc, "unicast", rest)?;
+    }
+    Ok(())
+}
+
+/// Prints the line of three rounds, the second of which is in the middle by events a second.
+fn check_line(rt: &impl Runtime, alloc: Global) -> Result<(), Fault> {
+    let Some(Request::Measure(order)) = asked(alloc, "diamond", ["64", "0.25", "3"])? else {
+        return Err(Fault::Usage);
+    };
+    let mut rounds = [30, 20, 10].map(|events| Round {
+        events,
+        time: Duration::from_millis(1500),
+    });
+    let median = median(&mut rounds).ok_or(Fault::Usage)?;
+    Ok(rt.println(Measured { order, median })?)
+}
+
+/// Prints what the gate compares.
+pub fn check(rt: &(impl Runtime + Threads + Wait + Sync), alloc: Global) -> Result<(), Fault> {
+    check_line(rt, alloc)?;
+    check_wrong(rt, alloc)?;
+    check_rounds(rt, alloc)
+}
