@@ -21,7 +21,7 @@ from run import HERE, NO_MEMORY, WAYS, Ran, merged_like
 
 # The calls of the library, and those of them that take no memory once something is open.
 CALLS = ("builder", "build", "open", "record", "ring", "run", "call", "audit")
-TAKING_NONE = ("core", "ends", "kept")
+TAKING_NONE = ("core", "ends", "kept", "parts")
 
 DIAMOND = """ring,2,single
 with,journal,replica

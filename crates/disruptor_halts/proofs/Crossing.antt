@@ -5,6 +5,7 @@ use denote.Param.Send.{IsSend, IsSync, recorded_send, sendable, struct_send}
 use denote.Struct.Declared.{shape}
 use Rattle.std.proofs.Crossing as std
 use Rattle.std.specs.declared.sync.ledger.Ledger.{Ghosts}
+use Rattle.dr_shared.specs.declared.exchange.Exchange.{Ghosts as Begun}
 use Rattle.dr_seq.specs.contracts.event.Event as Event
 use Rattle.dr_shared.proofs.Sent.{end_send, shared_sync}
 use Rattle.dr_shared.specs.contracts.shared.End as End
@@ -39,8 +40,8 @@ signs_sync = search parts depth 60 fits 20000
 
 pub ruleset shares = (sendable, std.sync, signs_sync, event_send, shared_sync)
 
-pub around_sync : (a : NamedLft) (L R : RattleType) (g : Ghosts L.Denot) → IsSync L → IsSync R → IsSync (Around.the_row a L R g)
-around_sync a L R g ledger workers = search shares depth 60 fits 20000
+pub around_sync : (a : NamedLft) (L R : RattleType) (b : Begun L.Denot Event.the_row.Denot) (g : Ghosts L.Denot) → IsSync L → IsSync R → IsSync (Around.the_row a L R b g)
+around_sync a L R b g ledger workers = search shares depth 60 fits 20000
 
 pub ruleset sends = (sendable, end_send, random_send)
 

@@ -13,7 +13,7 @@ use crate::signs::Signs;
 use crate::told::Told;
 use dr_core::{MAX_LIMIT, Mode};
 use dr_seq::{Event, Size};
-use dr_shared::{End, Recorded, Shared, audit, finish};
+use dr_shared::{End, Exchange, Recorded, Shared, audit, finish};
 use std::alloc::{AllocError, Global};
 use std::marker::Brand;
 use std::sync::Wait;
@@ -21,7 +21,7 @@ use std::sync::ledger::{Blank, Ledger};
 use std::thread::Threads;
 use workers::{Around, Handler, Joined, Parties, Producer, exchange};
 
-fn producers<L: Ledger>(
+fn producers<L: Exchange<Event>>(
     alloc: Global,
     shared: &mut Shared<Event, L>,
     mode: Mode,
@@ -44,7 +44,7 @@ fn producers<L: Ledger>(
     Ok(all)
 }
 
-fn handlers<L: Ledger>(
+fn handlers<L: Exchange<Event>>(
     alloc: Global,
     shared: &mut Shared<Event, L>,
     count: usize,
@@ -100,7 +100,7 @@ fn views<'a>(alloc: Global, scripts: &'a [Vec<Event>]) -> Result<Vec<&'a [Event]
 }
 
 /// Compares what each handler received with the one list of the audit.
-fn audited<L: Ledger>(
+fn audited<L: Exchange<Event>>(
     alloc: Global,
     shared: Shared<Event, L>,
     joined: Joined<L>,
@@ -114,19 +114,9 @@ fn audited<L: Ledger>(
     Told::of(list.as_slice(), gathered.received.as_slice())
 }
 
-/// Runs an exchange over a ledger, and compares what each handler received with the list of the audit.
-fn round_over<L: Ledger + Send + Sync, R: Threads + Wait + Sync>(
-    rt: &R,
-    alloc: Global,
-    blank: Blank,
-    random: &mut Random,
-) -> Result<Told, Fault>
-    requires name { blank.name ≡ L.name }
-    requires parts { blank.parts ≡ L.parts }
-    requires ends { blank.parts ≡ 65 }
-{
+/// A core with a random graph and up to three producers, their mode, and its slots.
+fn opened(alloc: Global, random: &mut Random) -> Result<(Recorded<Event>, Mode, u64), Fault> {
     let graph = graph(alloc, random)?;
-    let count = graph.len();
     let slots = 1 << random.below(11);
     let mode = match random.below(4) {
         0 => Mode::Single,
@@ -134,6 +124,25 @@ fn round_over<L: Ledger + Send + Sync, R: Threads + Wait + Sync>(
     };
     let size = Size::new(slots)?;
     let recorded = Recorded::open(alloc, graph, size, mode, MAX_LIMIT, Event::NONE, 0, 0)?;
+    Ok((recorded, mode, slots))
+}
+
+/// Runs an exchange over a ledger, and compares what each handler received with the list of the audit.
+fn round_over<L: Exchange<Event> + Send + Sync, R: Threads + Wait + Sync>(
+    rt: &R,
+    alloc: Global,
+    blank: Blank,
+    recorded: Recorded<Event>,
+    mode: Mode,
+    slots: u64,
+    random: &mut Random,
+) -> Result<Told, Fault>
+    requires name { blank.name ≡ L.name }
+    requires parts { blank.parts ≡ L.parts }
+    requires ends { blank.parts ≡ 65 }
+    requires begun { recorded.history ≡ L.begun }
+{
+    let count = recorded.graph().len();
     let mut shared = Shared::<Event, L>::new(recorded, blank);
     let parties = Parties {
         producers: producers(alloc, &mut shared, mode, slots, random)?,
@@ -159,5 +168,7 @@ pub fn round<R: Threads + Wait + Sync>(
     alloc: Global,
     random: &mut Random,
 ) -> Result<Told, Fault> {
-    round_over::<Brand, R>(rt, alloc, Blank::new(65), random)
+    let (recorded, mode, slots) = opened(alloc, random)?;
+    let blank = Blank::new(65);
+    round_over::<Brand, R>(rt, alloc, blank, recorded, mode, slots, random)
 }

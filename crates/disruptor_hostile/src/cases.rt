@@ -4,6 +4,7 @@ use crate::auditing::tell_audits;
 use crate::building::{tell_builder, tell_built};
 use crate::core_calls::{tell_opened, tell_run};
 use crate::fault::Fault;
+use crate::parts::tell_parts;
 use crate::recording::{tell_calls, tell_recorded};
 use crate::ring_calls::tell_ring;
 use crate::taking_none::{tell_core, tell_ends, tell_kept};
@@ -30,10 +31,12 @@ pub enum Case {
     Ends,
     /// `Recorded::call`, with room for what it keeps.
     Kept,
+    /// Every call of slots, rounds, a remembered count and a graph.
+    Parts,
 }
 
 impl Case {
-    pub const ALL: [Case; 11] = [
+    pub const ALL: [Case; 12] = [
         Case::Builder,
         Case::Build,
         Case::Open,
@@ -45,6 +48,7 @@ impl Case {
         Case::Core,
         Case::Ends,
         Case::Kept,
+        Case::Parts,
     ];
 
     /// Its name on the command line.
@@ -61,6 +65,7 @@ impl Case {
             Case::Core => "core",
             Case::Ends => "ends",
             Case::Kept => "kept",
+            Case::Parts => "parts",
         }
     }
 
@@ -90,5 +95,6 @@ pub fn tell<R: Print>(rt: &R, alloc: Global, case: Case) -> Result<(), Fault> {
         Case::Core => tell_core(rt, alloc),
         Case::Ends => tell_ends(rt, alloc),
         Case::Kept => tell_kept(rt, alloc),
+        Case::Parts => tell_parts(rt, alloc),
     }
 }

@@ -11,6 +11,7 @@ mod cases;
 mod core_calls;
 mod fault;
 mod graphs;
+mod parts;
 mod recording;
 mod ring_calls;
 mod taking_none;

@@ -27,7 +27,7 @@ impl Handler<Event> for Count {
 }
 
 /// Asks for memory, and tells whether there was any.
-fn tell_memory<R: Print>(rt: &R, alloc: Global) -> Result<(), Fault> {
+pub fn tell_memory<R: Print>(rt: &R, alloc: Global) -> Result<(), Fault> {
     match Vec::<u64>::with_capacity(alloc, 1) {
         Ok(_) => println!(rt; "memory")?,
         Err(_) => println!(rt; "no-memory")?,

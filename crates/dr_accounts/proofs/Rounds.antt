@@ -8,14 +8,14 @@ use Rattle.dr_accounts.specs.Turns.{Rests}
 use Rattle.dr_accounts.proofs.Shown.{along}
 use Rattle.dr_accounts.proofs.Turning.{CanTurn, TookTurn, offered_first, offered_last, taken_more}
 
-module _ (size : ℕ) (events : List Event) (at sent : ℕ) (some : at < sent) (within : sent ≤ length events) (room : ℕ) (fits : sent ≤ at + room) (v : CoreView Event) where
-  pub journal_can : Rests size events sent (each at) v → CanTurn size events at sent 0 room (each at) v
+module _ (size : ℕ) (events : List Event) (at sent : ℕ) (some : at < sent) (within : sent ≤ length events) (fits : sent ≤ at + size) (v : CoreView Event) where
+  pub journal_can : Rests size events sent (each at) v → CanTurn size events at sent 0 (each at) v
   journal_can rests = record { rests = rests; handler = omega arith; counted = omega arith; taken = refl; offered = offered_first size events sent 0 (each at) (omega arith); some = some; fits = fits; within = within }
 
-  pub replica_can : Rests size events sent (sent ∷ at ∷ at ∷ []) v → CanTurn size events at sent 1 room (sent ∷ at ∷ at ∷ []) v
+  pub replica_can : Rests size events sent (sent ∷ at ∷ at ∷ []) v → CanTurn size events at sent 1 (sent ∷ at ∷ at ∷ []) v
   replica_can rests = record { rests = rests; handler = omega arith; counted = omega arith; taken = refl; offered = offered_first size events sent 1 (sent ∷ at ∷ at ∷ []) (omega arith); some = some; fits = fits; within = within }
 
-  pub business_can : Rests size events sent (sent ∷ sent ∷ at ∷ []) v → CanTurn size events at sent 2 room (sent ∷ sent ∷ at ∷ []) v
+  pub business_can : Rests size events sent (sent ∷ sent ∷ at ∷ []) v → CanTurn size events at sent 2 (sent ∷ sent ∷ at ∷ []) v
   business_can rests = record { rests = rests; handler = omega arith; counted = omega arith; taken = refl; offered = offered_last size events sent at; some = some; fits = fits; within = within }
 
 -- a handler that was shown the events before a turn was shown those that were sent, after it

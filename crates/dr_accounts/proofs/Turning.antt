@@ -23,26 +23,27 @@ pub record TookTurn {A : Type 0} (goes : Relation Event A) (size : ℕ) (events 
   pub went : GoesThrough goes before (showings (take (sent - at) (drop at events)) at true) after
 
 -- what a turn needs
-pub record CanTurn (size : ℕ) (events : List Event) (at sent h room : ℕ) (counts : List ℕ) (old : CoreView Event) : Type 0 where
+pub record CanTurn (size : ℕ) (events : List Event) (at sent h : ℕ) (counts : List ℕ) (old : CoreView Event) : Type 0 where
   pub rests : Rests size events sent counts old
   pub handler : h < 3
   pub counted : h < length counts
   pub taken : slice_index counts h ≡ at
   pub offered : available (replay_setup size) (passed events sent sent sent counts counts) h ≡ sent
   pub some : at < sent
-  pub fits : sent ≤ at + room
+  pub fits : sent ≤ at + size
   pub within : sent ≤ length events
 
-module _ {A : Type 0} (goes : Relation Event A) (size : ℕ) (events : List Event) (at sent h room : ℕ) (counts : List ℕ) (old new : CoreView Event) (before after : A) (can : CanTurn size events at sent h room counts old) where
-  batch_turn : (first count : ℕ) (end : Bool) (values : List Event) → TakesTurn goes old h room (Ok (answer.Batch first count end)) values new before after
+module _ {A : Type 0} (goes : Relation Event A) (size : ℕ) (events : List Event) (at sent h : ℕ) (counts : List ℕ) (old new : CoreView Event) (before after : A) (can : CanTurn size events at sent h counts old) where
+  batch_turn : (first count : ℕ) (end : Bool) (values : List Event) → TakesTurn goes old h old.setup.size (Ok (answer.Batch first count end)) values new before after
       → TookTurn goes size events at sent h counts new before after
   batch_turn first count end values turn =
       let some = can.some in
       let fits = can.fits in
-      let open_room : 0 < room = omega arith in
-      let enough : sent - at ≤ room = omega arith in
-      let polled = stepped old turn.0 (Poll h room) (Batch first count end) values (replay_setup size) (passed events sent sent sent counts counts) _ turn.1 can.rests.setup can.rests.shows
-      (polls events size sent at h room counts can.handler open_room can.taken can.offered can.some enough can.within) in
+      let ring : old.setup.size ≡ size = ap (λ s. s.size) can.rests.setup in
+      let open_room : 0 < old.setup.size = omega arith in
+      let enough : sent - at ≤ old.setup.size = omega arith in
+      let polled = stepped old turn.0 (Poll h old.setup.size) (Batch first count end) values (replay_setup size) (passed events sent sent sent counts counts) _ turn.1 can.rests.setup can.rests.shows
+      (polls events size sent at h old.setup.size counts can.handler open_room can.taken can.offered can.some enough can.within) in
       let same : ◌≡◌ {A = Reply} (Batch at (sent - at) true) (Batch first count end) = polled.replies in
       let first_is : first ≡ at = cc in
       let count_is : count ≡ sent - at = cc in
@@ -55,17 +56,18 @@ module _ {A : Type 0} (goes : Relation Event A) (size : ℕ) (events : List Even
       ap (λ v. showings v first end) (sym polled.hands_out) ∙ ap (λ f. showings (take (sent - at) (drop at events)) f end) first_is ∙ ap (λ b. showings (take (sent - at) (drop at events)) at b) end_is in
       record { rests = record { setup = done.setup; shows = done.shows }; went = subst (λ l. GoesThrough goes before l after) shown turn.3 }
 
-  other_turn : (reply : Reply) (values : List Event) (polled : CoreView Event) → IsStep old (Poll h room) reply values polled → Batch at (sent - at) true ≡ reply
+  other_turn : (reply : Reply) (values : List Event) (polled : CoreView Event) → IsStep old (Poll h old.setup.size) reply values polled → Batch at (sent - at) true ≡ reply
   other_turn reply values polled is =
       let some = can.some in
       let fits = can.fits in
-      let open_room : 0 < room = omega arith in
-      let enough : sent - at ≤ room = omega arith in
-      (stepped old polled (Poll h room) reply values (replay_setup size) (passed events sent sent sent counts counts) _ is can.rests.setup can.rests.shows
-      (polls events size sent at h room counts can.handler open_room can.taken can.offered can.some enough can.within)).replies
+      let ring : old.setup.size ≡ size = ap (λ s. s.size) can.rests.setup in
+      let open_room : 0 < old.setup.size = omega arith in
+      let enough : sent - at ≤ old.setup.size = omega arith in
+      (stepped old polled (Poll h old.setup.size) reply values (replay_setup size) (passed events sent sent sent counts counts) _ is can.rests.setup can.rests.shows
+      (polls events size sent at h old.setup.size counts can.handler open_room can.taken can.offered can.some enough can.within)).replies
 
   -- it is a batch
-  pub took_turn : (result : Result Polled Refusal) (values : List Event) → TakesTurn goes old h room result values new before after → TookTurn goes size events at sent h counts new before after
+  pub took_turn : (result : Result Polled Refusal) (values : List Event) → TakesTurn goes old h old.setup.size result values new before after → TookTurn goes size events at sent h counts new before after
   took_turn (Ok (answer.Batch first count end)) values turn = batch_turn first count end values turn
   took_turn (Ok answer.Drained) values turn = let clash : ◌≡◌ {A = Reply} (Batch at (sent - at) true) Drained = other_turn Drained [] new turn.0 in cc
   took_turn (Ok answer.Gating) values turn = let clash : ◌≡◌ {A = Reply} (Batch at (sent - at) true) Gating = other_turn Gating [] new turn.0 in cc
@@ -73,7 +75,7 @@ module _ {A : Type 0} (goes : Relation Event A) (size : ℕ) (events : List Even
   took_turn (Err r) values turn = let clash : ◌≡◌ {A = Reply} (Batch at (sent - at) true) (Refused r) = other_turn (Refused r) [] new turn.0 in cc
 
   -- and no refusal
-  pub no_refusal : (r : Refusal) (values : List Event) → TakesTurn goes old h room (Err r) values new before after → ⊥
+  pub no_refusal : (r : Refusal) (values : List Event) → TakesTurn goes old h old.setup.size (Err r) values new before after → ⊥
   no_refusal r values turn = let clash : ◌≡◌ {A = Reply} (Batch at (sent - at) true) (Refused r) = other_turn (Refused r) [] new turn.0 in cc
 
 -- what is offered to each handler, once those before it are done

@@ -31,10 +31,10 @@ pub record AreWell (h : Handlers) : Type 0 where
   pub business : h.business.failed ≡ false
 
 -- some events are in an exchange that no handler took, and there is room for them
-pub record AreOffered (size : ℕ) (events : List Event) (at sent room : ℕ) (v : CoreView Event) : Type 0 where
+pub record AreOffered (size : ℕ) (events : List Event) (at sent : ℕ) (v : CoreView Event) : Type 0 where
   pub rests : Rests size events sent (each at) v
   pub some : at < sent
-  pub fits : sent ≤ at + room
+  pub fits : sent ≤ at + size
   pub within : sent ≤ length events
 
 -- no turn is refused, and each handler is done with all that was sent

@@ -1,6 +1,6 @@
 //! The three handlers together.
 
-ghost use Rattle.std.specs.Prelude.{◌≡◌, ℕ, [], IfOk, List, false, length, string_bytes, take};
+ghost use Rattle.std.specs.Prelude.{◌≡◌, ℕ, [], IfOk, List, false, string_bytes, take};
 ghost use Rattle.dr_seq.specs.declared.event.Event.{Event};
 ghost use Rattle.dr_accounts.specs.Report.{report_of};
 ghost use Rattle.dr_accounts.specs.Turns.{AreShown, AreWell, AreOffered, Turns};
@@ -8,7 +8,7 @@ ghost use Rattle.dr_accounts.specs.Turns.{AreShown, AreWell, AreOffered, Turns};
 use crate::business::Business;
 use crate::journal::Journal;
 use crate::replica::Replica;
-use dr_core::{Core, Refusal, processor_turn};
+use dr_core::{Core, Refusal};
 use dr_seq::Event;
 use std::alloc::{AllocError, Global};
 
@@ -50,13 +50,13 @@ impl Handlers {
         self.journal.is_failed() || self.replica.is_failed() || self.business.is_failed()
     }
 
-    /// One turn of each. Where the room of `buf` is that of the ring, each takes all that there is.
-    pub fn turn(&mut self, core: &mut Core<Event>, buf: &mut [Event]) -> Result<(), Refusal>
-        ensures { (size : ℕ) (events : List Event) (at sent : ℕ) → AreOffered size events at sent (length buf.old) core.old → AreShown self.old (take at events) → Turns result size events sent core.new self.new }
+    /// One turn of each, which is shown all that there is, where it lies.
+    pub fn turn(&mut self, core: &mut Core<Event>) -> Result<(), Refusal>
+        ensures { (size : ℕ) (events : List Event) (at sent : ℕ) → AreOffered size events at sent core.old → AreShown self.old (take at events) → Turns result size events sent core.new self.new }
     {
-        processor_turn(core, JOURNAL, &mut self.journal, buf)?;
-        processor_turn(core, REPLICA, &mut self.replica, buf)?;
-        processor_turn(core, BUSINESS, &mut self.business, buf)?;
+        core.turn_in_place(JOURNAL, &mut self.journal)?;
+        core.turn_in_place(REPLICA, &mut self.replica)?;
+        core.turn_in_place(BUSINESS, &mut self.business)?;
         Ok(())
     }
 

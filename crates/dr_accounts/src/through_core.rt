@@ -30,15 +30,9 @@ fn send(core: &mut Core<Event>, events: &[Event], at: usize, n: usize) -> Result
 
 // Sends all events, as many at a time as the ring has slots, and gives each handler its turn after
 // each time.
-fn pass(
-    core: &mut Core<Event>,
-    handlers: &mut Handlers,
-    events: &[Event],
-    buf: &mut [Event],
-) -> Result<(), Refusal>
+fn pass(core: &mut Core<Event>, handlers: &mut Handlers, events: &[Event]) -> Result<(), Refusal>
     requires rests { Rests core.old.setup.size events.now 0 (each 0) core.old }
     requires shown { AreShown handlers.old [] }
-    requires room { core.old.setup.size ≤ length buf.old }
     requires limit { length events.now ≤ 2 ^ 62 }
     ensures { ShowsAll result events.now handlers.new }
 {
@@ -47,7 +41,7 @@ fn pass(
     while at < events.len() {
         let n = size.min(events.len() - at);
         send(core, events, at, n)?;
-        handlers.turn(core, buf)?;
+        handlers.turn(core)?;
         at += n;
     }
     Ok(())
@@ -62,10 +56,9 @@ pub fn report_by_core(alloc: Global, events: &[Event], size: Size) -> Result<Str
         return Err(AllocError);
     }
     let mut core = open(alloc, size)?;
-    let mut buf = vec![in alloc; Event::NONE; size.get() as usize]?;
     let mut handlers = Handlers::new(alloc);
     // None of these calls is refused.
-    let Ok(()) = pass(&mut core, &mut handlers, events, buf.as_mut_slice()) else {
+    let Ok(()) = pass(&mut core, &mut handlers, events) else {
         unreachable!();
     };
     if handlers.is_failed() {

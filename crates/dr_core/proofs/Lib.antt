@@ -1,6 +1,7 @@
 pub mod Leasts
 pub mod Pushes
 pub mod Causes
+pub mod BadCounts
 pub mod Steps
 pub mod Tells
 pub mod Sound

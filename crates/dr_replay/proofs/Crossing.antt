@@ -4,6 +4,7 @@ use denote.Ref.{NamedLft}
 use denote.Param.Send.{IsSend, IsSync, sendable}
 use Rattle.std.proofs.Crossing as std
 use Rattle.std.specs.declared.sync.ledger.Ledger.{Ghosts}
+use Rattle.dr_shared.specs.declared.exchange.Exchange.{Ghosts as Begun}
 use Rattle.dr_seq.specs.contracts.event.Event as Event
 use Rattle.dr_seq.specs.contracts.size.Size as Size
 use Rattle.dr_shared.proofs.Sent.{end_send, shared_sync}
@@ -21,8 +22,8 @@ event_send = search sendable depth 30
 
 pub ruleset shares = (sendable, std.sync, size_sync, event_send, shared_sync)
 
-pub around_sync : (a : NamedLft) (L R G : RattleType) (g : Ghosts L.Denot) → IsSync L → IsSync R → IsSync G → IsSync (Around.the_row a L R G g)
-around_sync a L R G g ledger workers gates = search shares depth 60 fits 20000
+pub around_sync : (a : NamedLft) (L R G : RattleType) (b : Begun L.Denot Event.the_row.Denot) (g : Ghosts L.Denot) → IsSync L → IsSync R → IsSync G → IsSync (Around.the_row a L R G b g)
+around_sync a L R G b g ledger workers gates = search shares depth 60 fits 20000
 
 pub ruleset sends = (sendable, event_sync, end_send)
 

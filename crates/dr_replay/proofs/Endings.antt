@@ -1,10 +1,11 @@
 -- How the workers of an exchange ended, and what a replay answers of it.
-use Rattle.std.proofs.Common.{◌≡◌, List, Option, Result, Ok, Err, IfErr, ⊎_elim, refl, sym, ap, ◌∙◌}
+use Rattle.std.proofs.Common.{◌≡◌, List, Option, Result, Ok, Err, IfErr, ⊎_elim, refl, sym, ap, ◌∙◌, length}
 use Rattle.std.proofs.lemmas.Bool.{false≢true}
 use Rattle.std.specs.Prelude.{Bool, ℕ, true, false}
+use Rattle.std.proofs.lemmas.List.FromFn.{length-map-range_with_len}
 use Rattle.dr_seq.specs.declared.event.Event.{Event}
 use Rattle.dr_core.specs.Meaning.Machine.{handlers}
-use Rattle.dr_shared.specs.Meaning.Audit.{Faults}
+use Rattle.dr_shared.specs.Meaning.Audit.{Faults, IsAudited}
 use Rattle.dr_shared.specs.Meaning.History.{History, IsRecorded, transcript}
 use Rattle.dr_shared.specs.declared.audit_fault.AuditFault.{AuditFault}
 use Rattle.dr_shared.specs.declared.audit_fault.AuditFault.TheVariants as audit
@@ -16,7 +17,9 @@ use Rattle.dr_files.specs.declared.fault.FileFault.TheVariants as file
 use Rattle.dr_replay.specs.declared.fault.ReplayFault.{ReplayFault}
 use Rattle.dr_replay.specs.declared.fault.ReplayFault.TheVariants as fault
 use Rattle.dr_replay.specs.declared.ring.Ran.{Ran}
-use Rattle.dr_replay.specs.Meaning.Scripts.{scripts_in}
+use Rattle.dr_replay.specs.Meaning.Scripts.{producers_in, script_in, scripts_in}
+use Rattle.dr_accounts.specs.Report.{report_of}
+use Rattle.dr_replay.specs.Calls.Replayed.{IsReportOfMerge}
 use Rattle.dr_replay.specs.Calls.Workers.{AreStopped, IsFirstOf, IsMemory, IsOfAudit, IsOfLock, IsOfMerge, IsOfWorkers, audit_fault}
 use Rattle.dr_replay.specs.Calls.Workers.{endings_of, lock_endings, replay_fault, ring_workers}
 
@@ -80,13 +83,23 @@ first_of_parts {j2 = j2} {r2 = r2} {b2 = b2} {p2 = p2} scripts e journal replica
     after_workers (lock_endings j2 r2 b2 p2) scripts e (rw (journal, replica, business, producers) at is)
 
 of_merge : (events : List Event) (journal replica business : Option WorkFault) (producers : List (Option WorkFault)) (e : ReplayFault)
-    → IsOfLock (lock_endings journal replica business producers) (scripts_in events) e → IsOfMerge events e
-of_merge events journal replica business producers (fault.File f) is = is
-of_merge events journal replica business producers (fault.Worker who f) is = (journal, replica, business, producers, is)
-of_merge events journal replica business producers (fault.Audit f) is = is.1
+    → length producers ≡ producers_in events → IsOfLock (lock_endings journal replica business producers) (scripts_in events) e → IsOfMerge events e
+of_merge events journal replica business producers (fault.File f) many is = is
+of_merge events journal replica business producers (fault.Worker who f) many is = (journal, replica, business, producers, many, is)
+of_merge events journal replica business producers (fault.Audit f) many is = is.1
+
+-- as many scripts as producers
+many_scripts : (events : List Event) → length (scripts_in events) ≡ producers_in events
+many_scripts events = length-map-range_with_len (script_in events) 0 (producers_in events)
 
 pub ends_of_merge : {A : Type 0} (events : List Event) (scripts : List (List Event)) (journal replica business : Option WorkFault)
-    (producers : List (Option WorkFault)) (r : Result A ReplayFault) → scripts ≡ scripts_in events
+    (producers : List (Option WorkFault)) (r : Result A ReplayFault) → scripts ≡ scripts_in events → length producers ≡ length scripts
     → IfErr r (IsOfLock (lock_endings journal replica business producers) scripts) → IfErr r (IsOfMerge events)
-ends_of_merge events scripts journal replica business producers (Ok x) same is = tt
-ends_of_merge events scripts journal replica business producers (Err e) same is = of_merge events journal replica business producers e (rw same at is)
+ends_of_merge events scripts journal replica business producers (Ok x) same many is = tt
+ends_of_merge events scripts journal replica business producers (Err e) same many is =
+    of_merge events journal replica business producers e (many ∙ ap length same ∙ many_scripts events) (rw same at is)
+
+-- a report of what an audit finds of a recorded history
+pub reports : (h : History Event) (given : List (List Event)) (events list : List Event) (text : List ℕ) → given ≡ scripts_in events → IsRecorded h
+    → IsAudited (transcript h) (handlers h.core.setup) given list → text ≡ report_of list → IsReportOfMerge events text
+reports h given events list text same recorded is says = record { history = h; recorded = recorded; list = list; audited = rw same at is; says = says }

@@ -1,10 +1,16 @@
 -- What a replay leaves written where a write of its report failed.
 use Rattle.std.proofs.Common.{◌≡◌, ℕ, List, [], ◌∷◌, Option, Some, None, IfSome, IsErrAnd, Result, Ok, Err, refl, sym, subst}
+use Rattle.std.proofs.lemmas.List.{append-nil}
+use Rattle.std.specs.Io.KnownBytes.{Appends, Keeps}
 use Rattle.dr_seq.specs.declared.event.Event.{Event}
 use Rattle.dr_accounts.specs.Report.{report_of}
 use Rattle.dr_files.specs.Outcome.{AppendsFront, AreCut, Begins}
 use Rattle.dr_replay.specs.Meaning.EventFile.{events_of}
-use Rattle.dr_replay.specs.Calls.Replayed.{IsReportOfMerge, replay_text, reported}
+use Rattle.dr_files.specs.declared.fault.FileFault.TheVariants as file
+use Rattle.dr_replay.specs.declared.fault.ReplayFault.{ReplayFault}
+use Rattle.dr_replay.specs.declared.fault.ReplayFault.TheVariants as fault
+use Rattle.dr_replay.specs.Calls.Workers.{IsOfMerge}
+use Rattle.dr_replay.specs.Calls.Replayed.{IsReportOfMerge, LockFaultWrites, replay_text, reported}
 
 -- what holds where a fault is answered that came from a call
 pub at_exit : {A E : Type 0} (r : Result A E) (e : E) (P : Result A E → Type 0) → IsErrAnd r (λ y. y ≡ e) → P (Err e) → P r
@@ -35,3 +41,28 @@ pub cut_merge : (old new input : Option (List ℕ)) (events : List Event) (text 
     → IfSome input (λ bytes. (found : List Event) × (said : List ℕ) × (events_of bytes ≡ Ok found) × IsReportOfMerge found said × AppendsFront old new said)
 cut_merge old new None events text is of_merge wrote = tt
 cut_merge old new (Some bytes) events text is of_merge wrote = (events, text, is, of_merge, wrote)
+
+-- before anything is written, a fault of the workers or of an audit is of the file's events
+
+keeps_all : (old : Option (List ℕ)) → Keeps old old
+keeps_all None = tt
+keeps_all (Some xs) = refl
+
+adds_none : (old : Option (List ℕ)) → Appends old old []
+adds_none None = tt
+adds_none (Some xs) = sym (append-nil xs)
+
+kept : (old : Option (List ℕ)) (events : List Event) (e : ReplayFault) → IsOfMerge events e → LockFaultWrites e old old (Ok events)
+kept old events (fault.File file.Memory) is = (0, adds_none old)
+kept old events (fault.File (file.Input k cause)) is = absurd is
+kept old events (fault.File file.Read) is = absurd is
+kept old events (fault.File file.Write) is = absurd is
+kept old events (fault.Worker who f) is = (events, refl, is, keeps_all old)
+kept old events (fault.Audit f) is = (events, refl, is, keeps_all old)
+
+pub kept_merge : (old input : Option (List ℕ)) (given events : List Event) (e : ReplayFault) → given ≡ events
+    → IfSome input (λ bytes. events_of bytes ≡ Ok events) → IsOfMerge given e → IfSome input (λ bytes. LockFaultWrites e old old (events_of bytes))
+kept_merge old None given events e same is of_merge = tt
+kept_merge old (Some bytes) given events e same is of_merge =
+    let P : Result (List Event) ℕ → Type 0 = λ r. LockFaultWrites e old old r in
+    subst P (sym is) (kept old events e (subst (λ (l : List Event). IsOfMerge l e) same of_merge))

@@ -22,12 +22,14 @@ use dr_accounts::{Business, Journal, Replica, graph};
 use dr_core::{MAX_LIMIT, Mode};
 use dr_files::{Counted, write_text};
 use dr_seq::{Event, Size};
-use dr_shared::{End, Ended, Gate, Recorded, Shared, WorkFault, audit, finish, first_fault};
+use dr_shared::{
+    End, Ended, Exchange, Gate, Recorded, Shared, WorkFault, audit, finish, first_fault,
+};
 use std::alloc::{AllocError, Global};
 use std::io::{Read, Write};
 use std::marker::Brand;
 use std::sync::Wait;
-use std::sync::ledger::{Blank, Ledger};
+use std::sync::ledger::Blank;
 use std::thread::Threads;
 
 // How the workers ended: the handlers', and the producers' by their numbers.
@@ -105,7 +107,7 @@ fn fault_in<T>(part: &Result<T, WorkFault>) -> Option<WorkFault>
 }
 
 // The history, once all ends are back; and how the producers' workers ended.
-fn gathered<L: Ledger>(
+fn gathered<L: Exchange<Event>>(
     alloc: Global,
     shared: Shared<Event, L>,
     handlers: [End<L>; 4],
@@ -127,7 +129,7 @@ fn gathered<L: Ledger>(
 }
 
 // Brings the ends together, and then the parts of the report.
-fn settled<L: Ledger>(
+fn settled<L: Exchange<Event>>(
     alloc: Global,
     shared: Shared<Event, L>,
     ran: Joined<L>,
@@ -197,23 +199,23 @@ fn opened(
     }
 }
 
-// The report of a merge of the producers' events.
-fn report<L: Ledger + Send + Sync, R: Threads + Wait + Sync, G: Gate + Sync>(
+// The report of a merge of the producers' events, which a history behind a lock has room for.
+fn report<L: Exchange<Event> + Send + Sync, R: Threads + Wait + Sync, G: Gate + Sync>(
     rt: &R,
     alloc: Global,
     blank: Blank,
-    events: &[Event],
+    recorded: Recorded<Event>,
+    scripts: &[Vec<Event>],
     size: Size,
     gate: &G,
 ) -> Result<String, ReplayFault>
     requires name { blank.name ≡ L.name }
     requires parts { blank.parts ≡ L.parts }
     requires ends { blank.parts ≡ 65 }
-    ensures text { IfOk result (λ text. IsReportOfMerge events.now (string_bytes text)) }
-    ensures first { IfErr result (IsOfMerge events.now) }
+    requires begun { recorded.history ≡ L.begun }
+    ensures text { (sent : List Event) → map (λ v. v.items) scripts.now ≡ scripts_in sent → IfOk result (λ t. IsReportOfMerge sent (string_bytes t)) }
+    ensures first { (sent : List Event) → map (λ v. v.items) scripts.now ≡ scripts_in sent → IfErr result (IsOfMerge sent) }
 {
-    let scripts = scripts(alloc, events)?;
-    let recorded = opened(alloc, size, scripts.len(), events.len())?;
     let mut shared = Shared::<Event, L>::new(recorded, blank);
     let ends = make_ends(alloc, &mut shared, scripts.len())?;
     let around = Around {
@@ -223,8 +225,25 @@ fn report<L: Ledger + Send + Sync, R: Threads + Wait + Sync, G: Gate + Sync>(
         shared: &shared,
         size,
     };
-    let ran = exchange(&around, scripts.as_slice(), ends)?;
-    settled(alloc, shared, ran, scripts.as_slice())
+    let ran = exchange(&around, scripts, ends)?;
+    settled(alloc, shared, ran, scripts)
+}
+
+// The report of a merge of the producers' events.
+fn merged<R: Threads + Wait + Sync, G: Gate + Sync>(
+    rt: &R,
+    alloc: Global,
+    events: &[Event],
+    size: Size,
+    gate: &G,
+) -> Result<String, ReplayFault>
+    ensures text { IfOk result (λ text. IsReportOfMerge events.now (string_bytes text)) }
+    ensures first { IfErr result (IsOfMerge events.now) }
+{
+    let scripts = scripts(alloc, events)?;
+    let recorded = opened(alloc, size, scripts.len(), events.len())?;
+    let blank = Blank::new(65);
+    report::<Brand, R, G>(rt, alloc, blank, recorded, scripts.as_slice(), size, gate)
 }
 
 /// Reads a file of operations to its end, sends each producer's events in file order through a core
@@ -254,6 +273,6 @@ pub fn replay_lock<S: Threads + Wait + Sync, R: Read, W: Write, G: Gate + Sync>(
     ensures counted { ReplayCounts result (faults_of reader.old) (faults_of reader.new) (faults_of writer.old) (faults_of writer.new) }
 {
     let events = read_events(alloc, reader)?;
-    let text = report::<Brand, S, G>(rt, alloc, Blank::new(65), events.as_slice(), size, gate)?;
+    let text = merged(rt, alloc, events.as_slice(), size, gate)?;
     Ok(write_text(writer, text.as_bytes())?)
 }

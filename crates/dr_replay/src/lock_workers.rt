@@ -8,7 +8,8 @@ use crate::part::{Listing, Part};
 use dr_accounts::{Business, Journal, Replica, Reporter};
 use dr_seq::{Event, Size};
 use dr_shared::{
-    End, Gate, LockedInlet, LockedOutlet, Shared, WorkFault, consume, halt, join_all, produce,
+    End, Exchange, Gate, LockedInlet, LockedOutlet, Shared, WorkFault, consume, halt, join_all,
+    produce,
 };
 use std::alloc::{AllocError, Global};
 use std::sync::Wait;
@@ -21,7 +22,7 @@ const BATCH: usize = 256;
 
 /// What all workers of an exchange share.
 #[derive(Drop)]
-pub struct Around<'a, L: Ledger, R, G> {
+pub struct Around<'a, L: Exchange<Event>, R, G> {
     pub rt: &'a R,
     pub alloc: Global,
     pub gate: &'a G,
@@ -73,14 +74,14 @@ pub struct Joined<L: Ledger> {
 }
 
 // One end more.
-fn new_end<L: Ledger>(shared: &mut Shared<Event, L>) -> Result<End<L>, AllocError>
+fn new_end<L: Exchange<Event>>(shared: &mut Shared<Event, L>) -> Result<End<L>, AllocError>
     ensures { IfOk result (λ end. shared.new.given ≡ shared.old.given + 1) }
 {
     shared.end().ok_or(AllocError)
 }
 
 // An end for each producer.
-fn list_of_ends<L: Ledger>(
+fn list_of_ends<L: Exchange<Event>>(
     alloc: Global,
     shared: &mut Shared<Event, L>,
     producers: usize,
@@ -96,7 +97,7 @@ fn list_of_ends<L: Ledger>(
 }
 
 /// An end for each worker, and one that halts.
-pub fn make_ends<L: Ledger>(
+pub fn make_ends<L: Exchange<Event>>(
     alloc: Global,
     shared: &mut Shared<Event, L>,
     producers: usize,
@@ -120,7 +121,7 @@ pub fn make_ends<L: Ledger>(
 
 // Takes a new handler through all events that an end is given. A handler that finds no memory holds
 // up no other worker: it goes on without taking any more.
-fn handle<L: Ledger, R: Wait, G: Gate, P: Reporter>(
+fn handle<L: Exchange<Event>, R: Wait, G: Gate, P: Reporter>(
     around: &Around<'_, L, R, G>,
     who: usize,
     end: End<L>,
@@ -146,7 +147,10 @@ fn handle<L: Ledger, R: Wait, G: Gate, P: Reporter>(
 }
 
 // Sends a producer's script.
-fn send<L: Ledger, R: Wait, G: Gate>(around: &Around<'_, L, R, G>, task: Task<'_, L>) -> Sent<L> {
+fn send<L: Exchange<Event>, R: Wait, G: Gate>(
+    around: &Around<'_, L, R, G>,
+    task: Task<'_, L>,
+) -> Sent<L> {
     let Task { p, end, script } = task;
     let who = PRODUCER.saturating_add(p);
     let mut inlet = LockedInlet::new(around.rt, around.shared, end, p as u64);
@@ -162,7 +166,7 @@ fn send<L: Ledger, R: Wait, G: Gate>(around: &Around<'_, L, R, G>, task: Task<'_
 
 // Starts a thread for each producer, and joins them. An error is that memory ran out or that a
 // thread could not be started: those before it send their scripts all the same.
-fn send_all<L: Ledger + Send + Sync, R: Threads + Wait + Sync, G: Gate + Sync>(
+fn send_all<L: Exchange<Event> + Send + Sync, R: Threads + Wait + Sync, G: Gate + Sync>(
     around: &Around<'_, L, R, G>,
     scripts: &[Vec<Event>],
     ends: Vec<End<L>>,
@@ -212,7 +216,7 @@ fn are_all<L: Ledger>(handlers: &Handlers<L>) -> bool {
 }
 
 // Sends all scripts, unless a handler's thread is missing.
-fn send_if<L: Ledger + Send + Sync, R: Threads + Wait + Sync, G: Gate + Sync>(
+fn send_if<L: Exchange<Event> + Send + Sync, R: Threads + Wait + Sync, G: Gate + Sync>(
     around: &Around<'_, L, R, G>,
     scripts: &[Vec<Event>],
     producers: Vec<End<L>>,
@@ -252,7 +256,7 @@ fn join_handlers<L: Ledger, R: Threads>(
 }
 
 // Sends all scripts, unless a handler's thread is missing; then halts the core, and joins the handlers.
-fn served<L: Ledger + Send + Sync, R: Threads + Wait + Sync, G: Gate + Sync>(
+fn served<L: Exchange<Event> + Send + Sync, R: Threads + Wait + Sync, G: Gate + Sync>(
     around: &Around<'_, L, R, G>,
     scripts: &[Vec<Event>],
     mut halter: End<L>,
@@ -277,7 +281,7 @@ fn served<L: Ledger + Send + Sync, R: Threads + Wait + Sync, G: Gate + Sync>(
 /// Starts a thread for each handler, then one for each producer; joins the producers, halts the core,
 /// and joins the handlers. An error is that memory ran out or that a thread could not be started:
 /// where it was a handler's, nothing is sent.
-pub fn exchange<L: Ledger + Send + Sync, R: Threads + Wait + Sync, G: Gate + Sync>(
+pub fn exchange<L: Exchange<Event> + Send + Sync, R: Threads + Wait + Sync, G: Gate + Sync>(
     around: &Around<'_, L, R, G>,
     scripts: &[Vec<Event>],
     ends: Ends<L>,

@@ -1,7 +1,5 @@
 //! Events of two words, as the tools and the rings over atomic words carry them.
 
-ghost use Rattle.std.specs.Prelude.{◌≡◌, ◌↔◌, IsTrue};
-
 /// An event of two words, whose meaning is its producers' and handlers' own.
 #[derive(Clone, Copy, Debug, PartialEq, Eq)]
 pub struct Event {
@@ -15,11 +13,4 @@ impl Event {
         first: 0,
         second: 0,
     };
-}
-
-/// Whether two lists have the same events in the same order.
-pub fn are_same(a: &[Event], b: &[Event]) -> bool
-    ensures { IsTrue result ↔ a.now ≡ b.now }
-{
-    a == b
 }

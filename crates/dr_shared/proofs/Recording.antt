@@ -3,6 +3,7 @@ use Rattle.std.proofs.Common.{◌≡◌, ◌^◌, ◌≤◌, ◌+◌, List, [], 
 use Rattle.std.specs.Prelude.{nat_lt, ◌==◌}
 use Rattle.std.proofs.lemmas.Bool.{cond_both}
 use Rattle.std.proofs.lemmas.List.{map_push, length-map, length-append}
+use Rattle.dr_seq.specs.Size.{IsSize}
 use Rattle.dr_core.specs.declared.command.Command.{Command}
 use Rattle.dr_core.specs.declared.command.Command.TheVariants.{Claim, Write, Publish, Poll, Complete, Halt, Retire}
 use Rattle.dr_core.specs.declared.command.Reply.{Reply}
@@ -16,6 +17,7 @@ use Rattle.dr_core.specs.Meaning.Transcript.{Transcript, LeadsTo, entry_with}
 use Rattle.dr_core.proofs.Running.{transcript_push, counts-push}
 use Rattle.dr_shared.specs.declared.entry.Entry.{Entry}
 use Rattle.dr_shared.specs.Calls.Lock.{IsAnswer}
+use Rattle.dr_shared.proofs.Going.{goes_nowhere}
 use Rattle.dr_shared.specs.Meaning.History.{is_kept, AreKept, transcript_of_entries, IsRecorded}
 
 -- The core's laws, as its public functions state them.
@@ -29,11 +31,12 @@ AllLeadOn E = (t : Transcript E) (old new : CoreView E) (command : Command E) (r
 
 -- a new core's history
 pub recorded_none : {E : Type 0} → AllLawful E → (c : Setup) (core : CoreView E) (entries : List (Entry E)) (values : List E)
-    → core.setup ≡ c → entries ≡ [] → values ≡ [] → Shows core (opening c) → c.limit ≤ 2 ^ 62
+    → core.setup ≡ c → entries ≡ [] → values ≡ [] → Shows core (opening c) → c.limit ≤ 2 ^ 62 → IsSize core.setup.size
     → IsRecorded (record { core = core; entries = entries; values = values })
-recorded_none lawful c core entries values same none none_given shows small =
+recorded_none lawful c core entries values same none none_given shows small size =
     rw (none, none_given) (record {
       small = rw same small;
+      size = size;
       kept = tt;
       counted = refl;
       runs = record {
@@ -70,7 +73,7 @@ recorded_same {E} old new entries values more command reply e is r =
     let m : State E = r.runs.state in
     let sh : Shows old m = r.runs.shows in
     let stays : (step old.setup m command).state ≡ m = step_stays old.setup m command (ap is_kept (is.replies m sh) ∙ e) in
-    record { small = rw is.same_setup r.small; kept = r.kept; counted = r.counted; runs = subst (λ c. RunsTo c (transcript_of_entries entries values) new) (sym is.same_setup) (record { state = m; leads = r.runs.leads; shows = rw stays at (is.shown m sh); lawful = r.runs.lawful }) }
+    record { small = rw is.same_setup r.small; size = rw is.same_setup r.size; kept = r.kept; counted = r.counted; runs = subst (λ c. RunsTo c (transcript_of_entries entries values) new) (sym is.same_setup) (record { state = m; leads = r.runs.leads; shows = rw stays at (is.shown m sh); lawful = r.runs.lawful }) }
 
 kept_push : {E : Type 0} (entries : List (Entry E)) (e : Entry E) → AreKept entries → is_kept e.reply ≡ true → AreKept (entries ++ e ∷ [])
 kept_push [] e all keeps = (keeps, tt)
@@ -90,6 +93,7 @@ recorded_more {E} on old new entries values more command reply keeps len is r =
     (transcript_push (map (λ e. e.command) entries) (map (λ e. e.reply) entries) values command reply more same r.counted len) in
     record {
       small = rw is.same_setup r.small;
+      size = rw is.same_setup r.size;
       kept = kept_push entries e r.kept keeps;
       counted = rw (length-append, map_push, counts-push, len) (ap (λ n. n + count_in reply) r.counted);
       runs = rw push (on (transcript_of_entries entries values) old new command reply more r.runs is);
@@ -98,12 +102,11 @@ recorded_more {E} on old new entries values more command reply keeps len is r =
 -- a step from a recorded core is an answer of the machine
 pub answered : {E : Type 0} (old new : CoreView E) (entries : List (Entry E)) (values more : List E) (command : Command E) (reply : Reply)
     → IsStep old command reply more new → IsRecorded (record { core = old; entries = entries; values = values })
-    → IsAnswer command reply more
+    → IsAnswer (record { core = old; entries = entries; values = values }) command reply more
 answered old new entries values more command reply is r = record {
-  core = old;
-  before = transcript_of_entries entries values;
-  runs = r.runs;
-  small = r.small;
+  before = record { core = old; entries = entries; values = values };
+  goes_on = goes_nowhere (record { core = old; entries = entries; values = values });
+  recorded = r;
   replies = is.replies r.runs.state r.runs.shows;
   gives = is.hands_out r.runs.state r.runs.shows;
 }

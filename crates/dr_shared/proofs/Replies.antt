@@ -1,11 +1,12 @@
 -- What the machine answers to a call, as an end tells it that shows nothing of what it did.
-use Rattle.std.proofs.Common.{◌≡◌, ◌≢◌, ◌<◌, ◌≤◌, ◌+◌, ◌-◌, ◌^◌, ℕ, zero, suc, Bool, true, false, ◌||◌, ◌&&◌, inl, inr, List, []}
+use Rattle.std.proofs.Common.{◌≡◌, ◌≢◌, ◌<◌, ◌≤◌, ◌+◌, ◌-◌, ◌^◌, ℕ, zero, suc, Bool, true, false, ◌&&◌, inl, inr, List, []}
 use Rattle.std.proofs.Common.{◌∷◌, ◌++◌, Ok, Err, Option, None, Some, Result, length, refl, sym, ◌∙◌, subst, arith, slice_index}
 use Rattle.std.specs.Prelude.{nat_lt, ◌==◌, flat_map}
 use Rattle.std.specs.List.{range_with_len}
 use Rattle.std.proofs.lemmas.Bool.{cond_both, cases_Bool, or_parts, eqb-false, false≢true}
 use Rattle.std.proofs.lemmas.Bool.Decides.{nat_tests}
 use Rattle.std.proofs.lemmas.Option.{slice_get_within}
+use Rattle.dr_seq.specs.Size.{IsSize}
 use Rattle.dr_core.specs.declared.command.Command.TheVariants.{Claim, Write, Publish, Poll, Complete}
 use Rattle.dr_core.specs.declared.command.Reply.{Reply}
 use Rattle.dr_core.specs.declared.command.Reply.TheVariants.{Claimed, Written, Published, Batch, Drained, Gating, Idle, Completed, Refused as RefusedReply}
@@ -14,12 +15,14 @@ use Rattle.dr_core.specs.declared.ends.Trouble.TheVariants.{Refused, Memory}
 use Rattle.dr_core.specs.declared.ends.Wrote.{Wrote}
 use Rattle.dr_core.specs.declared.refusal.Refusal.{Refusal}
 use Rattle.dr_core.specs.Meaning.Refusals.{NoneHolds, IsFirst, claim_causes, write_causes, sequence_causes, publish_causes, poll_causes, complete_causes}
-use Rattle.dr_core.specs.Calls.Ends.{Verdict, Exactly, AtLeast, MayHold, MayFail, claim_tests, write_tests, publish_tests, end_sequence_tests, poll_tests}
+use Rattle.dr_core.specs.Calls.Ends.{Verdict, Exactly, AtLeast, Between, MayHold, MayFail, claim_tests, write_tests, publish_tests, end_sequence_tests, poll_tests}
 use Rattle.dr_core.specs.Calls.Ends.{complete_tests, ClaimAnswers, StopsAt, WriteAllAnswers, WriteAnswers, PublishAnswers, CompleteAnswers}
 use Rattle.dr_core.specs.Meaning.Machine.{Setup, State, Outcome, next, available, cursor, refusals, publish_faults, accepted, unless, unchanged, step}
 use Rattle.dr_core.specs.Meaning.Transcript.{Transcript, LeadsTo}
 use Rattle.dr_core.proofs.Steps.{NoneHold}
+use Rattle.dr_core.proofs.BadCounts.{bad_in_every, bad_is_not_one}
 use Rattle.dr_shared.specs.Calls.Lock.{AreWritten, IsAnswer, IsWritten, StopsBy}
+use Rattle.dr_shared.specs.Meaning.History.{History, transcript}
 use Rattle.dr_shared.proofs.Picks.{there}
 use Rattle.dr_shared.proofs.Reached.{held, available_claimed}
 
@@ -29,6 +32,7 @@ use Rattle.dr_shared.proofs.Reached.{held, available_claimed}
 abbrev pub IsRight : Bool → Verdict → Type 0
 IsRight b (Exactly v) = b ≡ v
 IsRight b (AtLeast v) = v ≡ true → b ≡ true
+IsRight b (Between least most) = (least ≡ true → b ≡ true) × (b ≡ true → most ≡ true)
 
 -- the same causes, with verdicts that are right of their tests
 abbrev pub AreRight : List (Bool × Refusal) → List (Verdict × Refusal) → Type 0
@@ -43,10 +47,12 @@ unsaid b e = absurd (false≢true e)
 may_hold : (b : Bool) (v : Verdict) → IsRight b v → b ≡ true → MayHold v
 may_hold b (Exactly v) is y = sym is ∙ y
 may_hold b (AtLeast v) is y = tt
+may_hold b (Between least most) is y = is.1 y
 
 may_fail : (b : Bool) (v : Verdict) → IsRight b v → b ≡ false → MayFail v
 may_fail b (Exactly v) is n = sym is ∙ n
 may_fail b (AtLeast v) is n = elim (cases_Bool v) [ inl y ↦ absurd (false≢true (sym n ∙ is y)) | inr n' ↦ n' ]
+may_fail b (Between least most) is n = elim (cases_Bool least) [ inl y ↦ absurd (false≢true (sym n ∙ is.0 y)) | inr n' ↦ n' ]
 
 none_right : (xs : List (Bool × Refusal)) (ys : List (Verdict × Refusal)) → AreRight xs ys → NoneHold xs → NoneHolds MayFail ys
 none_right [] [] is none = tt
@@ -126,17 +132,14 @@ PollTells E max Idle = NoneHolds MayFail (poll_verdicts E max)
 PollTells E max (RefusedReply r) = IsFirst MayHold MayFail r (poll_verdicts E max)
 PollTells E max other = ⊥
 
-some_or : (a b : Bool) → a ≡ true → (a || b) ≡ true
-some_or a b e = rw e refl
-
-claim_right : {E : Type 0} (c : Setup) (m : State E) (p n : ℕ) → c.limit ≤ 2 ^ 62
+claim_right : {E : Type 0} (c : Setup) (m : State E) (p n : ℕ) → c.limit ≤ 2 ^ 62 → IsSize c.size
     → AreRight (refusals c m (Claim p n)) (claim_causes (claim_tests {E = E} None n))
-claim_right c m p n small =
-    (unsaid _, refl, (some_or (n == 0) (nat_lt c.size n), refl, (unsaid _, refl, ((λ past. grind (arith, nat_tests, past, small)), refl, (unsaid _, refl, tt)))))
+claim_right c m p n small size =
+    (unsaid _, refl, ((bad_in_every n c.size size, bad_is_not_one n c.size size), refl, (unsaid _, refl, ((λ past. grind (arith, nat_tests, past, small)), refl, (unsaid _, refl, tt)))))
 
-claim_step : {E : Type 0} (c : Setup) (m : State E) (p n : ℕ) → c.limit ≤ 2 ^ 62 → ClaimTells E n (step c m (Claim p n)).reply
-claim_step {E} c m p n small =
-    tells (ClaimTells E n) (refusals c m (Claim p n)) (claim_causes (claim_tests {E = E} None n)) m (accepted c m (Claim p n)) (claim_right c m p n small)
+claim_step : {E : Type 0} (c : Setup) (m : State E) (p n : ℕ) → c.limit ≤ 2 ^ 62 → IsSize c.size → ClaimTells E n (step c m (Claim p n)).reply
+claim_step {E} c m p n small size =
+    tells (ClaimTells E n) (refusals c m (Claim p n)) (claim_causes (claim_tests {E = E} None n)) m (accepted c m (Claim p n)) (claim_right c m p n small size)
     (λ r first. (first, tt))
     (λ none known.
     let some : 0 < n = (let ne : n ≢ 0 = eqb-false n 0 (or_parts _ _ none.1.0).0 in omega arith) in
@@ -187,44 +190,44 @@ poll_step {E} c t m h max small leads =
 
 -- What an answer tells.
 
-pub claim_tells : {E : Type 0} (p n : ℕ) (reply : Reply) (values : List E) → IsAnswer (Claim p n) reply values → ClaimTells E n reply
-claim_tells {E} p n reply values is = subst (ClaimTells E n) is.replies (claim_step is.core.setup is.runs.state p n is.small)
+pub claim_tells : {E : Type 0} (b : History E) (p n : ℕ) (reply : Reply) (values : List E) → IsAnswer b (Claim p n) reply values → ClaimTells E n reply
+claim_tells {E} b p n reply values is = subst (ClaimTells E n) is.replies (claim_step is.before.core.setup is.recorded.runs.state p n is.recorded.small is.recorded.size)
 
-pub write_tells : {E : Type 0} (p s : ℕ) (e : E) (reply : Reply) (values : List E) → IsAnswer (Write p s e) reply values
+pub write_tells : {E : Type 0} (b : History E) (p s : ℕ) (e : E) (reply : Reply) (values : List E) → IsAnswer b (Write p s e) reply values
     → WriteTells E s reply
-write_tells {E} p s e reply values is = subst (WriteTells E s) is.replies (write_step is.core.setup is.runs.state p s e)
+write_tells {E} b p s e reply values is = subst (WriteTells E s) is.replies (write_step is.before.core.setup is.recorded.runs.state p s e)
 
-written_tells : {E : Type 0} (p s : ℕ) (e : E) (r : Result (Unit {0}) Trouble) → IsWritten p s e r → WriteAnswers {E = E} None s r
-written_tells p s e (Ok done) is = write_tells p s e Written [] is
-written_tells p s e (Err (Refused refusal)) is = write_tells p s e (RefusedReply refusal) [] is
-written_tells p s e (Err Memory) is = tt
+written_tells : {E : Type 0} (b : History E) (p s : ℕ) (e : E) (r : Result (Unit {0}) Trouble) → IsWritten b p s e r → WriteAnswers {E = E} None s r
+written_tells b p s e (Ok done) is = write_tells b p s e Written [] is
+written_tells b p s e (Err (Refused refusal)) is = write_tells b p s e (RefusedReply refusal) [] is
+written_tells b p s e (Err Memory) is = tt
 
-stops_tells : {E : Type 0} (p lo : ℕ) (events : List E) (count : ℕ) (trouble : Option Trouble) → StopsBy p lo events count trouble
+stops_tells : {E : Type 0} (b : History E) (p lo : ℕ) (events : List E) (count : ℕ) (trouble : Option Trouble) → StopsBy b p lo events count trouble
     → StopsAt {E = E} None lo (length events) count trouble
-stops_tells p lo events count None is = is
-stops_tells p lo events count (Some trouble) is = (slice_get_within events count is.0 is.1, written_tells p (lo + count) is.0 (Err trouble) is.2)
+stops_tells b p lo events count None is = is
+stops_tells b p lo events count (Some trouble) is = (slice_get_within events count is.0 is.1, written_tells b p (lo + count) is.0 (Err trouble) is.2)
 
-stops_within : {E : Type 0} (p lo : ℕ) (events : List E) (count : ℕ) (trouble : Option Trouble) → StopsBy p lo events count trouble
+stops_within : {E : Type 0} (b : History E) (p lo : ℕ) (events : List E) (count : ℕ) (trouble : Option Trouble) → StopsBy b p lo events count trouble
     → count ≤ length events
-stops_within p lo events count None is = omega arith
-stops_within p lo events count (Some trouble) is = (let less : count < length events = slice_get_within events count is.0 is.1 in omega arith)
+stops_within b p lo events count None is = omega arith
+stops_within b p lo events count (Some trouble) is = (let less : count < length events = slice_get_within events count is.0 is.1 in omega arith)
 
-pub write_all_tells : {E : Type 0} (p lo : ℕ) (events : List E) (wrote : Wrote) → AreWritten p lo events wrote → WriteAllAnswers {E = E} None lo (length events) wrote
-write_all_tells {E} p lo events wrote is = record {
+pub write_all_tells : {E : Type 0} (b : History E) (p lo : ℕ) (events : List E) (wrote : Wrote) → AreWritten b p lo events wrote → WriteAllAnswers {E = E} None lo (length events) wrote
+write_all_tells {E} b p lo events wrote is = record {
   written = λ k less.
-      let within : wrote.count ≤ length events = stops_within p lo events wrote.count wrote.trouble is.stops in
+      let within : wrote.count ≤ length events = stops_within b p lo events wrote.count wrote.trouble is.stops in
       let at = there events k (omega arith) in
-      written_tells p (lo + k) at.0 (Ok tt) (is.written k at.0 less at.1);
-  stops = stops_tells p lo events wrote.count wrote.trouble is.stops;
+      written_tells b p (lo + k) at.0 (Ok tt) (is.written k at.0 less at.1);
+  stops = stops_tells b p lo events wrote.count wrote.trouble is.stops;
 }
 
-pub publish_tells : {E : Type 0} (p lo hi : ℕ) (reply : Reply) (values : List E) → IsAnswer (Publish p lo hi) reply values
+pub publish_tells : {E : Type 0} (b : History E) (p lo hi : ℕ) (reply : Reply) (values : List E) → IsAnswer b (Publish p lo hi) reply values
     → PublishTells E lo hi reply
-publish_tells {E} p lo hi reply values is = subst (PublishTells E lo hi) is.replies (publish_step is.core.setup is.runs.state p lo hi)
+publish_tells {E} b p lo hi reply values is = subst (PublishTells E lo hi) is.replies (publish_step is.before.core.setup is.recorded.runs.state p lo hi)
 
-pub complete_tells : {E : Type 0} (h upto : ℕ) (reply : Reply) (values : List E) → IsAnswer (Complete h upto) reply values
+pub complete_tells : {E : Type 0} (b : History E) (h upto : ℕ) (reply : Reply) (values : List E) → IsAnswer b (Complete h upto) reply values
     → CompleteTells E upto reply
-complete_tells {E} h upto reply values is = subst (CompleteTells E upto) is.replies (complete_step is.core.setup is.runs.state h upto)
+complete_tells {E} b h upto reply values is = subst (CompleteTells E upto) is.replies (complete_step is.before.core.setup is.recorded.runs.state h upto)
 
-pub poll_tells : {E : Type 0} (h max : ℕ) (reply : Reply) (values : List E) → IsAnswer (Poll h max) reply values → PollTells E max reply
-poll_tells {E} h max reply values is = subst (PollTells E max) is.replies (poll_step is.core.setup is.before is.runs.state h max is.small is.runs.leads)
+pub poll_tells : {E : Type 0} (b : History E) (h max : ℕ) (reply : Reply) (values : List E) → IsAnswer b (Poll h max) reply values → PollTells E max reply
+poll_tells {E} b h max reply values is = subst (PollTells E max) is.replies (poll_step is.before.core.setup (transcript is.before) is.recorded.runs.state h max is.recorded.small is.recorded.runs.leads)

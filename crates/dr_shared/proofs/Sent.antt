@@ -5,6 +5,7 @@ use Rattle.std.proofs.Crossing as std
 use Rattle.std.proofs.MapsCrossing as maps
 use denote.Param.Send.{IsSend, IsSync, part_keyless, param_send, recorded_sync, struct_sync, sendable}
 use Rattle.std.specs.declared.sync.ledger.Ledger.{Ghosts}
+use Rattle.dr_shared.specs.declared.exchange.Exchange.{Ghosts as Begun}
 use Rattle.std.specs.contracts.sync.ledger.Share as Share
 use Rattle.std.proofs.sync.ledger.Share.TheSendSync.{the_send}
 use Rattle.std.specs.contracts.sync.ledger.Book as Book
@@ -65,30 +66,30 @@ entry_send E s = let command : IsSend (Command.the_row E) = command_send E s in 
 pub recorded_send : (E : RattleType) → IsSend E → IsSend (Recorded.the_row E)
 recorded_send E s = let core : IsSend (Core.the_row E) = core_send E s in let entry : IsSend (Entry.the_row E) = entry_send E s in search passes depth 60 fits 20000
 
-pub locked_send : (E L : RattleType) (g : Ghosts L.Denot) → IsSend E → IsSend (Locked.the_row E L g)
-locked_send E L g s = let book : IsSend (Book.the_row L g) = book_send L g in let recorded : IsSend (Recorded.the_row E) = recorded_send E s in search passes depth 30
+pub locked_send : (E L : RattleType) (b : Begun L.Denot E.Denot) (g : Ghosts L.Denot) → IsSend E → IsSend (Locked.the_row E L b g)
+locked_send E L b g s = let book : IsSend (Book.the_row L g) = book_send L g in let recorded : IsSend (Recorded.the_row E) = recorded_send E s in search passes depth 30
 
-pub mutex_sync : (E L : RattleType) (g : Ghosts L.Denot) → IsSend E → IsSync (Mutex.the_row (Locked.the_row E L g))
-mutex_sync E L g s = the_mutex_sync (Locked.the_row E L g) (locked_send E L g s)
+pub mutex_sync : (E L : RattleType) (b : Begun L.Denot E.Denot) (g : Ghosts L.Denot) → IsSend E → IsSync (Mutex.the_row (Locked.the_row E L b g))
+mutex_sync E L b g s = the_mutex_sync (Locked.the_row E L b g) (locked_send E L b g s)
 
 pub whole_sync : (L : RattleType) (g : Ghosts L.Denot) → IsSync L → IsSync (Whole.the_row L g)
 whole_sync L g s = search passes depth 30
 
 pub ruleset shares = (sendable, the_mutex_sync)
 
-pub mutex_field : (E L : RattleType) (g : Ghosts L.Denot) → IsSend E → IsSync (Mutex.the_row (param 0 (Locked.the_row E L g)))
-mutex_field E L g s = the_mutex_sync (param 0 (Locked.the_row E L g)) (param_send 0 (Locked.the_row E L g) (locked_send E L g s))
+pub mutex_field : (E L : RattleType) (b : Begun L.Denot E.Denot) (g : Ghosts L.Denot) → IsSend E → IsSync (Mutex.the_row (param 0 (Locked.the_row E L b g)))
+mutex_field E L b g s = the_mutex_sync (param 0 (Locked.the_row E L b g)) (param_send 0 (Locked.the_row E L b g) (locked_send E L b g s))
 
 pub rest_field : (L : RattleType) (g : Ghosts L.Denot) → IsSync (Rest.the_field L g).row
 rest_field L g = let s : IsSync (Share.the_row L g) = share_sync L g in search sendable depth 20
 
-pub shared_inside : (E L : RattleType) (g : Ghosts L.Denot) → IsSend E → IsSync L → IsSync (Inside.the_row E L g)
-shared_inside E L g e s =
+pub shared_inside : (E L : RattleType) (b : Begun L.Denot E.Denot) (g : Ghosts L.Denot) → IsSend E → IsSync L → IsSync (Inside.the_row E L b g)
+shared_inside E L b g e s =
     let rest : IsSync (Rest.the_field L g).row = rest_field L g in
-    let mutex : IsSync (Mutex.the_row (param 0 (Locked.the_row E L g))) = mutex_field E L g e in
-    let locked : IsSend (Locked.the_row E L g) = locked_send E L g e in
+    let mutex : IsSync (Mutex.the_row (param 0 (Locked.the_row E L b g))) = mutex_field E L b g e in
+    let locked : IsSend (Locked.the_row E L b g) = locked_send E L b g e in
     let whole : IsSync (Whole.the_row L g) = whole_sync L g s in
-    recorded_sync (Inside.the_field E L g).row _ _ (Inside.the_type E L g).to_one (struct_sync (shape (Inside.the_type E L g)) (search shares depth 40, (search sendable depth 40, (search sendable depth 40, (search sendable depth 40, (search sendable depth 40, tt))))))
+    recorded_sync (Inside.the_field E L b g).row _ _ (Inside.the_type E L b g).to_one (struct_sync (shape (Inside.the_type E L b g)) (search shares depth 40, (search sendable depth 40, (search sendable depth 40, (search sendable depth 40, (search sendable depth 40, tt))))))
 
-pub shared_sync : (E L : RattleType) (g : Ghosts L.Denot) → IsSend E → IsSync L → IsSync (Shared.the_row E L g)
-shared_sync E L g e s = let inside : IsSync (Inside.the_row E L g) = shared_inside E L g e s in search sendable depth 60
+pub shared_sync : (E L : RattleType) (b : Begun L.Denot E.Denot) (g : Ghosts L.Denot) → IsSend E → IsSync L → IsSync (Shared.the_row E L b g)
+shared_sync E L b g e s = let inside : IsSync (Inside.the_row E L b g) = shared_inside E L b g e s in search sendable depth 60

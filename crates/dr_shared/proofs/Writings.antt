@@ -18,7 +18,7 @@ use Rattle.dr_shared.specs.Meaning.Work.{Adds, Writing}
 use Rattle.dr_shared.proofs.Picks.{there}
 use Rattle.dr_shared.proofs.Showing.{shown_as, shown_none, shown_through}
 
-abbrev some : {E : Type 0} → E → Option E
+abbrev pub some : {E : Type 0} → E → Option E
 some e = Some e
 
 abbrev pub Opens : {E : Type 0} → ℕ → Claimed → Sent E → Sent E → Type 0
@@ -30,7 +30,7 @@ Puts s e old new = Writes s e (Ok tt) old new
 abbrev pub Shows : {E : Type 0} → ℕ → ℕ → Sent E → Sent E → Type 0
 Shows lo hi old new = Publishes lo hi (Ok tt) old new
 
-length-map : {E : Type 0} (xs : List E) → length (map some xs) ≡ length xs
+pub length-map : {E : Type 0} (xs : List E) → length (map some xs) ≡ length xs
 length-map [] = refl
 length-map (x ∷ xs) = ap suc (length-map xs)
 

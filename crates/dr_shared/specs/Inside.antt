@@ -1,3 +1,5 @@
 -- What private functions promise one another.
 pub mod Sequences
+pub mod Weights
+pub mod Writes
 pub mod Auditing

@@ -9,9 +9,9 @@ ghost use Rattle.dr_shared.specs.Meaning.History.{transcript};
 
 use crate::audit_fault::AuditFault;
 use crate::recorded::Recorded;
-use crate::same::{Same, are_same};
 use crate::sequences::{Sequence, published, sent, sequences};
 use dr_core::every_transcript_tells_its_state;
+use dr_seq::{Same, are_same};
 use std::alloc::Global;
 
 /// Compares a history with what its producers were to send, by their numbers; a producer without a

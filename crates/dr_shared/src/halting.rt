@@ -2,16 +2,16 @@
 
 ghost use Rattle.std.specs.Prelude.{◌≡◌, ◌+◌};
 
+use crate::exchange::Exchange;
 use crate::shared::{End, Shared};
 use crate::waiting::Waiting;
 use dr_core::Command;
 use std::sync::Wait;
-use std::sync::ledger::Ledger;
 
 /// Halts the exchange, once there is memory for the call: no later claim succeeds. Every halt is
 /// kept in the history, however often the exchange is halted, and the end counts it.
-pub fn halt<E: Copy, L: Ledger, R: Wait>(rt: &R, shared: &Shared<E, L>, end: &mut End<L>)
-    ensures { end.new ≡ end.old + 1 }
+pub fn halt<E: Copy, L: Exchange<E>, R: Wait>(rt: &R, shared: &Shared<E, L>, end: &mut End<L>)
+    ensures { end.new ≡ record { calls = end.old.calls + 1; halts = end.old.halts + 1 } }
 {
     let mut waiting = Waiting::new(1);
     for _ in rt.forever() {

@@ -2,7 +2,7 @@
 //!
 //! [`Recorded`] is the core of one thread with its history: the calls that changed something, and
 //! the events of their batches. [`Shared`] puts it behind one lock, and each thread calls through an
-//! [`End`] of its own, which counts; [`LockedInlet`] and [`LockedOutlet`] make that a producer's and
+//! [`End`] of its own, which counts; an [`Exchange`] says with which history it began; [`LockedInlet`] and [`LockedOutlet`] make that a producer's and
 //! a handler's end. [`halt`] halts the exchange. [`audit`] compares a history with what its producers were to send. Begin with
 //! `specs/Meaning/History`, then `Audit` beside it.
 //!
@@ -16,11 +16,11 @@
 pub mod audit_fault;
 pub mod auditing;
 pub mod entry;
+pub mod exchange;
 mod halting;
 pub mod locked;
 pub mod recorded;
-pub mod same;
-mod sequences;
+pub mod sequences;
 pub mod shared;
 
 // Workers.
@@ -39,6 +39,7 @@ pub use auditing::audit;
 pub use consumer::consume;
 pub use ended::{Ended, WorkerFault, first_fault};
 pub use entry::Entry;
+pub use exchange::Exchange;
 pub use fault::WorkFault;
 pub use gate::{Gate, GateAnswer, OpenGate};
 pub use halting::halt;
@@ -46,6 +47,5 @@ pub use joining::join_all;
 pub use locked::{LockedInlet, LockedOutlet};
 pub use producer::{Produced, produce};
 pub use recorded::Recorded;
-pub use same::{Same, are_same};
 pub use shared::{End, MAX_ENDS, Shared, Unfinished, finish};
 pub use waiting::Waiting;

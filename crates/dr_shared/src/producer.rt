@@ -4,7 +4,7 @@ ghost use Rattle.std.specs.Prelude.{◌≡◌, ◌<◌, ◌≤◌, [], length, t
 ghost use Rattle.dr_core.specs.Calls.Ends.{WhereShown};
 ghost use Rattle.dr_shared.specs.declared.fault.WorkFault.TheVariants.{Stopped};
 ghost use Rattle.dr_shared.specs.Calls.Stops.{Passes};
-ghost use Rattle.dr_shared.specs.Meaning.Work.{Adds};
+ghost use Rattle.dr_shared.specs.Meaning.Work.{Adds, LeavesNothingOpen};
 
 use crate::fault::WorkFault;
 use crate::gate::Gate;
@@ -33,6 +33,7 @@ fn send<E: Copy, R: Wait, I: Inlet<E>, G: Gate>(
     ensures kept { I.kept inlet.new ≡ I.kept inlet.old }
     ensures sent { OnOk result (WhereShown (Adds events.now) (I.sent inlet.old) (I.sent inlet.new)) }
     ensures fault { OnErr result (WhereShown (Adds []) (I.sent inlet.old) (I.sent inlet.new)) }
+    ensures open { WhereShown LeavesNothingOpen (I.sent inlet.old) (I.sent inlet.new) }
     ensures passes { Passes (G.may_stop gate.now) turns.old turns.new }
 {
     let Claimed { lo, hi } = claim(rt, inlet, events.len() as u64)?;
@@ -55,6 +56,8 @@ pub fn produce<E: Copy, R: Wait, I: Inlet<E>, G: Gate>(
     requires cut { 0 < cut }
     ensures kept { I.kept inlet.new ≡ I.kept inlet.old }
     ensures sent { WhereShown (Adds (take result.sent script.now)) (I.sent inlet.old) (I.sent inlet.new) }
+    // Whatever the answer, each claim that an end shows was published.
+    ensures open { WhereShown LeavesNothingOpen (I.sent inlet.old) (I.sent inlet.new) }
     ensures within { result.sent ≤ length script.now }
     ensures all { IfNone result.fault (result.sent ≡ length script.now) }
     ensures stopped { result.fault ≡ Some Stopped → G.may_stop gate.now who }

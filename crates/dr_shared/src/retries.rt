@@ -3,6 +3,7 @@
 ghost use Rattle.std.specs.Prelude.{◌≡◌, ◌≢◌, ◌+◌, ◌^◌, ◌≤◌, [], length, Err, Ok, IfOk, OnErr, OnOk};
 ghost use Rattle.dr_core.specs.Calls.Ends.{Claims, Completes, GivesStretch, PublishAnswers, Publishes, WhereShown, WritesAll};
 ghost use Rattle.dr_shared.specs.Meaning.Work.{Adds};
+ghost use Rattle.dr_shared.specs.Inside.Writes.{MayRefuse};
 
 use crate::waiting::Waiting;
 use dr_core::{Claimed, Inlet, Outlet, Refusal, Trouble};
@@ -41,6 +42,7 @@ pub(crate) fn write_all<E: Copy, R: Wait, I: Inlet<E>>(
     ensures kept { I.kept inlet.new ≡ I.kept inlet.old }
     ensures written { OnOk result (WhereShown (WritesAll lo events.now) (I.sent inlet.old) (I.sent inlet.new)) }
     ensures fault { OnErr result (WhereShown (Adds []) (I.sent inlet.old) (I.sent inlet.new)) }
+    ensures refused { (r : Refusal) → result ≡ Err (Trouble.Refused r) → MayRefuse lo (length events.now) (I.sent inlet.old) }
     ensures waits { result ≢ Err Trouble.Memory }
 {
     let mut waiting = Waiting::new(1);
@@ -65,7 +67,7 @@ pub(crate) fn publish<E: Copy, R: Wait, I: Inlet<E>>(
     hi: u64,
 ) -> Result<(), Trouble>
     ensures kept { I.kept inlet.new ≡ I.kept inlet.old }
-    ensures answer { OnOk result (PublishAnswers (I.sent inlet.old) lo hi (Ok tt)) }
+    ensures answer { PublishAnswers (I.sent inlet.old) lo hi result }
     ensures published { OnOk result (WhereShown (Publishes lo hi (Ok tt)) (I.sent inlet.old) (I.sent inlet.new)) }
     ensures fault { OnErr result (I.sent inlet.new ≡ I.sent inlet.old) }
     ensures waits { result ≢ Err Trouble.Memory }
@@ -73,8 +75,9 @@ pub(crate) fn publish<E: Copy, R: Wait, I: Inlet<E>>(
     let mut waiting = Waiting::new(1);
     for _ in rt.forever() {
         match inlet.publish(lo, hi) {
+            Ok(()) => return Ok(()),
             Err(Trouble::Memory) => waiting.wait(),
-            answer => return answer,
+            Err(Trouble::Refused(refusal)) => return Err(Trouble::Refused(refusal)),
         }
     }
     unreachable!()

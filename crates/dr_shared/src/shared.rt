@@ -1,12 +1,14 @@
 //! The exchange behind one lock.
 
-ghost use Rattle.std.specs.Prelude.{◌≡◌, ◌↔◌, ◌+◌, ◌^◌, ◌<◌, ◌≤◌, [], IfOk, IfErr, OnErr, IsErr, MatchOption, if◌then◌else◌, drop, is_ok, length, sum, take, vec_len};
+ghost use Rattle.std.specs.Prelude.{◌≡◌, ◌↔◌, ◌+◌, ◌^◌, ◌<◌, ◌≤◌, [], IfOk, IfErr, OnErr, IsErr, MatchOption, if◌then◌else◌, ◌*◌, drop, is_ok, length, sum_by, take, vec_len};
 ghost use Rattle.dr_core.specs.Meaning.Runs.{count_in};
-ghost use Rattle.dr_shared.specs.Meaning.History.{asked, is_kept as is_kept_of};
+ghost use Rattle.dr_shared.specs.Meaning.History.{GoesOn, asked, entries_since, halts_in, halts_of, is_kept as is_kept_of};
 ghost use Rattle.dr_core.specs.Calls.Shows.{unit_reply};
-ghost use Rattle.dr_shared.specs.Calls.Lock.{AreWritten, IsAnswer, UnlessMemory};
+ghost use Rattle.dr_shared.specs.Calls.Lock.{AreWritten, IsAnswer, UnlessMemory, counted, no_calls, with_calls};
+ghost use Rattle.dr_shared.specs.Inside.Weights.{most_calls, weight, weight_since};
 
 use crate::entry::is_kept;
+use crate::exchange::Exchange;
 use crate::recorded::Recorded;
 use dr_core::{Command, Reply, Trouble, Wrote};
 use std::alloc::AllocError;
@@ -17,16 +19,21 @@ use std::sync::{Mutex, Wait};
 /// How many ends a lock gives out at most.
 pub const MAX_ENDS: usize = 64;
 
-/// What lies under the lock: a history that is as long as the ledger says.
+/// How many kept calls an end counts at most, so that all of them weigh less than one halt.
+const MOST_CALLS: u64 = 1 << 57;
+
+/// What lies under the lock: the history that the exchange began with, and since then as many calls,
+/// and as many halts among them, as the ledger says.
 #[derive(Drop)]
-struct Locked<E, L: Ledger> {
+struct Locked<E, L: Exchange<E>> {
     recorded: Recorded<E>,
     calls: Book<L>,
-    ghost counted: { length recorded.history.entries ≡ calls.total },
+    ghost goes_on: { GoesOn L.begun recorded.history },
+    ghost counted: { calls.total ≡ weight_since L.begun recorded.history },
+    ghost fits: { length recorded.history.entries < 2 ^ 64 },
 }
 
-/// The parts of the ledger that no end has. Their amount is the number of entries that the history
-/// began with.
+/// The parts of the ledger that no end has.
 #[derive(Drop)]
 struct Rest<L: Ledger> {
     share: Share<L>,
@@ -46,7 +53,7 @@ struct Whole<L: Ledger> {
 /// A history behind one lock, which threads share by reference. Each calls through an end of its
 /// own.
 #[derive(Drop)]
-pub struct Shared<E, L: Ledger> {
+pub struct Shared<E, L: Exchange<E>> {
     locked: Mutex<Locked<E, L>>,
     rest: Rest<L>,
     whole: Whole<L>,
@@ -54,38 +61,42 @@ pub struct Shared<E, L: Ledger> {
     given: usize,
 }
 
-impl<E, L: Ledger> Model for Shared<E, L> {
-    ghost use Rattle.std.specs.Prelude.{◌≡◌, ◌+◌, ◌≤◌};
+impl<E, L: Exchange<E>> Model for Shared<E, L> {
+    ghost use Rattle.std.specs.Prelude.{◌≡◌, ◌+◌, ◌≤◌, length};
     ghost use Rattle.dr_shared.specs.Calls.Lock.{SharedView};
 
     ghost Value = { SharedView };
 
     ghost view = { λ a. record { begun = a.begun; given = a.given } };
 
-    ghost invariant = { λ a. (a.rest.share.parts + a.given ≡ 65) × (a.rest.share.amount ≡ a.begun) × (a.given ≤ 64) };
+    ghost invariant = { λ a. (a.rest.share.parts + a.given ≡ 65) × (a.rest.share.amount ≡ 0) × (a.begun ≡ length L.begun.entries) × (a.given ≤ 64) };
 }
 
-/// One thread's end of a shared history; the ledger ties it to that history alone. Contracts see it
-/// as the number of its calls that were kept.
+/// One thread's end of a shared history; the ledger ties it to that history alone. Contracts see how
+/// many of its calls were kept, and how many of these were halts. In the ledger a halt weighs more
+/// than all other calls could.
 #[derive(Drop)]
 pub struct End<L: Ledger> {
     share: Share<L>,
     calls: u64,
+    halts: u64,
 }
 
 impl<L: Ledger> Model for End<L> {
-    ghost use Rattle.std.specs.Prelude.{◌≡◌, ℕ};
+    ghost use Rattle.std.specs.Prelude.{◌≡◌, ◌≤◌};
+    ghost use Rattle.dr_shared.specs.Calls.Lock.{EndView};
+    ghost use Rattle.dr_shared.specs.Inside.Weights.{most_calls, weight};
 
-    ghost Value = { ℕ };
+    ghost Value = { EndView };
 
-    ghost view = { λ a. a.calls };
+    ghost view = { λ a. record { calls = a.calls; halts = a.halts } };
 
-    ghost invariant = { λ a. (a.share.parts ≡ 1) × (a.share.amount ≡ a.calls) };
+    ghost invariant = { λ a. (a.share.parts ≡ 1) × (a.share.amount ≡ weight a.calls a.halts) × (a.halts ≤ a.calls) × (a.calls ≤ most_calls) };
 }
 
 /// What is handed back where an end is missing.
 #[derive(Drop)]
-pub struct Unfinished<E, L: Ledger> {
+pub struct Unfinished<E, L: Exchange<E>> {
     pub shared: Shared<E, L>,
     pub ends: Vec<End<L>>,
 }
@@ -93,13 +104,40 @@ pub struct Unfinished<E, L: Ledger> {
 impl<L: Ledger> End<L> {
     /// How many of its calls were kept.
     pub fn calls(&self) -> u64
-        ensures { result ≡ self.now }
+        ensures { result ≡ self.now.calls }
     {
         self.calls
     }
+
+    /// How many of its kept calls were halts.
+    pub fn halts(&self) -> u64
+        ensures { result ≡ self.now.halts }
+    {
+        self.halts
+    }
+
+    /// Counts a kept call, in the ledger too.
+    fn count<E: Copy>(&mut self, ledger: &mut Book<L>, command: Command<E>)
+        requires { self.old.calls < most_calls }
+        ensures end { self.new ≡ counted command self.old }
+        ensures total { ledger.new.total ≡ ledger.old.total + weight 1 (halts_of command) }
+    {
+        let End {
+            share,
+            calls,
+            halts,
+        } = self;
+        ledger.add(share, 1);
+        *calls += 1;
+        if let Command::Halt = command {
+            ledger.add(share, 1 << 63);
+            ledger.add(share, 1 << 63);
+            *halts += 1;
+        }
+    }
 }
 
-impl<E: Copy, L: Ledger> Locked<E, L> {
+impl<E: Copy, L: Exchange<E>> Locked<E, L> {
     /// The history's call, which the end counts where it is kept.
     fn call(
         &mut self,
@@ -108,25 +146,26 @@ impl<E: Copy, L: Ledger> Locked<E, L> {
         out: &mut [E],
     ) -> Result<Reply, AllocError>
         requires { asked command ≤ length out.old }
-        ensures answer { IfOk result (λ reply. IsAnswer command reply (take (count_in reply) out.new)) }
+        ensures answer { IfOk result (λ reply. IsAnswer L.begun command reply (take (count_in reply) out.new)) }
         ensures rest { IfOk result (λ reply. drop (count_in reply) out.new ≡ drop (count_in reply) out.old) }
-        ensures counts { IfOk result (λ reply. end.new ≡ (if is_kept_of reply then end.old + 1 else end.old)) }
+        ensures counts { IfOk result (λ reply. end.new ≡ (if is_kept_of reply then counted command end.old else end.old)) }
         ensures unchanged { OnErr result ((end.new ≡ end.old) × (out.new ≡ out.old)) }
     {
+        if end.calls == MOST_CALLS {
+            return Err(AllocError);
+        }
         let Locked { recorded, calls } = self;
-        calls.audit(&mut end.share);
         let reply = recorded.call(command, out)?;
         if is_kept(reply) {
-            calls.add(&mut end.share, 1);
-            end.calls += 1;
+            end.count(calls, command);
         }
         Ok(reply)
     }
 
     /// Writes the event of a claimed sequence.
     fn write(&mut self, end: &mut End<L>, p: u64, s: u64, event: E) -> Result<(), Trouble>
-        ensures answer { UnlessMemory (λ answer. IsAnswer (Command.Write p s event) (unit_reply Reply.Written answer) []) result }
-        ensures counts { end.new ≡ (if is_ok result then end.old + 1 else end.old) }
+        ensures answer { UnlessMemory (λ answer. IsAnswer L.begun (Command.Write p s event) (unit_reply Reply.Written answer) []) result }
+        ensures counts { end.new ≡ (if is_ok result then with_calls 1 end.old else end.old) }
     {
         match self.call(end, Command::Write { p, s, event }, &mut []) {
             Ok(Reply::Written) => Ok(()),
@@ -139,8 +178,8 @@ impl<E: Copy, L: Ledger> Locked<E, L> {
     /// Writes events to the sequences from `lo` on, until one is not written.
     fn write_all(&mut self, end: &mut End<L>, p: u64, lo: u64, events: &[E]) -> Wrote
         requires limit { lo + length events.now ≤ 2 ^ 62 }
-        ensures answer { AreWritten p lo events.now result }
-        ensures counts { end.new ≡ end.old + result.count }
+        ensures answer { AreWritten L.begun p lo events.now result }
+        ensures counts { end.new ≡ with_calls result.count end.old }
     {
         for (k, event) in events.iter().enumerate() {
             match self.write(end, p, lo + k as u64, *event) {
@@ -160,18 +199,19 @@ impl<E: Copy, L: Ledger> Locked<E, L> {
     }
 }
 
-impl<E: Copy, L: Ledger> Shared<E, L> {
-    /// Puts a history behind a lock. The ledger has a part for each end and one that stays.
+impl<E: Copy, L: Exchange<E>> Shared<E, L> {
+    /// Puts a history behind a lock. The ledger has a part for each end and one that stays, and begins
+    /// with this history.
     pub fn new(recorded: Recorded<E>, blank: Blank) -> Shared<E, L>
         requires name { blank.name ≡ L.name }
         requires parts { blank.parts ≡ L.parts }
         requires ends { blank.parts ≡ 65 }
+        requires begun { recorded.history ≡ L.begun }
         ensures begun { result.begun ≡ length recorded.history.entries }
         ensures given { result.given ≡ 0 }
     {
         let begun = recorded.history().len();
-        let (mut calls, mut share) = blank.open::<L>();
-        calls.add(&mut share, begun as u64);
+        let (calls, share) = blank.open::<L>();
         Shared {
             locked: Mutex::new(Locked { recorded, calls }),
             rest: Rest { share },
@@ -197,20 +237,25 @@ impl<E: Copy, L: Ledger> Shared<E, L> {
 
     /// An end for one thread, or `None` after [`MAX_ENDS`].
     pub fn end(&mut self) -> Option<End<L>>
-        ensures end { MatchOption result ((self.old.given ≡ 64) × (self.new ≡ self.old)) (λ end. (end ≡ 0) × (self.new ≡ record self.old { given = self.old.given + 1 })) }
+        ensures end { MatchOption result ((self.old.given ≡ 64) × (self.new ≡ self.old)) (λ end. (end ≡ no_calls) × (self.new ≡ record self.old { given = self.old.given + 1 })) }
     {
         if self.given == MAX_ENDS {
             return None;
         }
         let share = self.rest.share.split_off(1, 0);
         self.given += 1;
-        Some(End { share, calls: 0 })
+        Some(End {
+            share,
+            calls: 0,
+            halts: 0,
+        })
     }
 
     /// One call of the history, while the lock is held: it may wait for the lock. What it answers is
-    /// what the machine answers in some state that a core shows, and the end counts it where it is
-    /// kept. For a poll `out` holds as many events as it asks for; a batch stands at its front.
-    /// Where an allocation fails the call may be made again.
+    /// what the machine answers after some history that goes on from the one that the lock began with,
+    /// and the end counts it where it is kept. For a poll `out` holds as many events as it asks for; a
+    /// batch stands at its front. Where an allocation fails the call may be made again. An end that
+    /// counted 2^57 calls answers all others as if one failed.
     pub fn call(
         &self,
         rt: &impl Wait,
@@ -219,9 +264,9 @@ impl<E: Copy, L: Ledger> Shared<E, L> {
         out: &mut [E],
     ) -> Result<Reply, AllocError>
         requires { asked command ≤ length out.old }
-        ensures answer { IfOk result (λ reply. IsAnswer command reply (take (count_in reply) out.new)) }
+        ensures answer { IfOk result (λ reply. IsAnswer L.begun command reply (take (count_in reply) out.new)) }
         ensures rest { IfOk result (λ reply. drop (count_in reply) out.new ≡ drop (count_in reply) out.old) }
-        ensures counts { IfOk result (λ reply. end.new ≡ (if is_kept_of reply then end.old + 1 else end.old)) }
+        ensures counts { IfOk result (λ reply. end.new ≡ (if is_kept_of reply then counted command end.old else end.old)) }
         ensures unchanged { OnErr result ((end.new ≡ end.old) × (out.new ≡ out.old)) }
     {
         self.locked.lock(rt).call(end, command, out)
@@ -238,21 +283,24 @@ impl<E: Copy, L: Ledger> Shared<E, L> {
         events: &[E],
     ) -> Wrote
         requires limit { lo + length events.now ≤ 2 ^ 62 }
-        ensures answer { AreWritten p lo events.now result }
-        ensures counts { end.new ≡ end.old + result.count }
+        ensures answer { AreWritten L.begun p lo events.now result }
+        ensures counts { end.new ≡ with_calls result.count end.old }
     {
         self.locked.lock(rt).write_all(end, p, lo, events)
     }
 }
 
-/// Takes the history from behind its lock, once all ends are back: it has as many entries as it
-/// began with and as the ends counted. Where an end is missing, all is handed back.
-pub fn finish<E, L: Ledger>(
+/// Takes the history from behind its lock, once all ends are back: it is the one that came there with
+/// as many entries more as the ends counted, and among those as many halts. Where an end is missing,
+/// all is handed back.
+pub fn finish<E, L: Exchange<E>>(
     shared: Shared<E, L>,
     ends: Vec<End<L>>,
 ) -> Result<Recorded<E>, Unfinished<E, L>>
     ensures missing { IsErr result ↔ (vec_len ends < shared.given) }
-    ensures entries { IfOk result (λ recorded. length recorded.history.entries ≡ shared.begun + sum ends.items) }
+    ensures goes_on { IfOk result (λ recorded. GoesOn L.begun recorded.history) }
+    ensures entries { IfOk result (λ recorded. length recorded.history.entries ≡ shared.begun + sum_by (λ end. end.calls) ends.items) }
+    ensures halts { IfOk result (λ recorded. halts_in (entries_since L.begun recorded.history) ≡ sum_by (λ end. end.halts) ends.items) }
     ensures back { IfErr result (λ unfinished. (unfinished.shared ≡ shared) × (unfinished.ends ≡ ends)) }
 {
     if ends.len() < shared.given {
@@ -268,7 +316,11 @@ pub fn finish<E, L: Ledger>(
     let Rest { share: mut all } = rest;
     let mut ends = ends;
     while let Some(end) = ends.pop() {
-        let End { share, calls: _ } = end;
+        let End {
+            share,
+            calls: _,
+            halts: _,
+        } = end;
         all.merge(share);
     }
     let Locked {

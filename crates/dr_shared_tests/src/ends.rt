@@ -5,17 +5,17 @@ ghost use Rattle.std.specs.Prelude.{◌≡◌};
 use crate::histories::{Shape, between_two, word};
 use dr_core::{Claimed, Command, Inlet, Outlet, Polled, Refusal, Trouble};
 use dr_seq::Event;
-use dr_shared::{LockedInlet, LockedOutlet, Shared};
-use std::alloc::Global;
+use dr_shared::{Exchange, LockedInlet, LockedOutlet, Recorded, Shared};
 use std::marker::Brand;
 use std::process::Abort;
 use std::sync::Wait;
-use std::sync::ledger::{Blank, Ledger};
+use std::sync::ledger::Blank;
 use std::test::Fail;
 
 #[test]
 fn an_inlet_and_an_outlet(rt: HostRuntime) -> Result<(), Fail> {
-    by_inlet_and_outlet::<Brand, _>(&rt, rt.alloc(), Blank::new(65))
+    let recorded = between_two(rt.alloc(), Shape::Alone)?;
+    by_inlet_and_outlet::<Brand, _>(&rt, recorded, Blank::new(65))
 }
 
 /// An event goes in and out.
@@ -46,16 +46,17 @@ fn complete_one(rt: &impl Abort, outlet: &mut impl Outlet<Event>) {
 }
 
 /// An event goes in and out, and the outlet is told of the halt.
-fn by_inlet_and_outlet<L: Ledger, R: Wait + Abort>(
+fn by_inlet_and_outlet<L: Exchange<Event>, R: Wait + Abort>(
     rt: &R,
-    alloc: Global,
+    recorded: Recorded<Event>,
     blank: Blank,
 ) -> Result<(), Fail>
     requires name { blank.name ≡ L.name }
     requires parts { blank.parts ≡ L.parts }
     requires ends { blank.parts ≡ 65 }
+    requires begun { recorded.history ≡ L.begun }
 {
-    let mut shared = Shared::<Event, L>::new(between_two(alloc, Shape::Alone)?, blank);
+    let mut shared = Shared::<Event, L>::new(recorded, blank);
     let one = shared.end().ok_or("an end")?;
     let two = shared.end().ok_or("an end")?;
     let mut halter = shared.end().ok_or("an end")?;
@@ -68,5 +69,6 @@ fn by_inlet_and_outlet<L: Ledger, R: Wait + Abort>(
     assert_eq!(rt; outlet.poll_into(&mut [Event::NONE]), Ok(Polled::Drained));
     assert_eq!(rt; inlet.into_end().calls(), 3);
     assert_eq!(rt; outlet.into_end().calls(), 3);
+    assert_eq!(rt; (halter.calls(), halter.halts()), (1, 1));
     Ok(())
 }

@@ -24,7 +24,7 @@ pub const fn word(first: u64) -> Event {
     Event { first, second: 0 }
 }
 
-fn graph(alloc: Global, shape: Shape) -> Result<Graph, GraphFault> {
+pub fn graph(alloc: Global, shape: Shape) -> Result<Graph, GraphFault> {
     let mut builder = GraphBuilder::new(alloc);
     let sides: &[&str] = match shape {
         Shape::Alone | Shape::Chain => &["a"],

@@ -11,9 +11,13 @@ mod faults;
 #[cfg(test)]
 mod histories;
 #[cfg(test)]
+mod orders;
+#[cfg(test)]
 mod playing;
 #[cfg(test)]
 mod rows;
+#[cfg(test)]
+mod telling;
 #[cfg(test)]
 mod words;
 #[cfg(test)]

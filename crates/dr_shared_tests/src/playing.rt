@@ -10,12 +10,12 @@ use dr_core::Command;
 use dr_core::Command::Poll;
 use dr_core::Reply::{Gating, Idle, Refused};
 use dr_seq::Event;
-use dr_shared::{Entry, Recorded, Shared, finish};
+use dr_shared::{Entry, Exchange, Recorded, Shared, finish};
 use std::alloc::Global;
 use std::marker::Brand;
 use std::process::Abort;
 use std::sync::Wait;
-use std::sync::ledger::{Blank, Ledger};
+use std::sync::ledger::Blank;
 use std::test::Fail;
 
 /// The room that a command asks for.
@@ -29,7 +29,7 @@ fn room(command: Command<Event>) -> usize
 }
 
 /// Plays a run through one end of a new lock. A call whose allocation fails is made again.
-fn play_in<L: Ledger, R: Wait + Abort>(
+fn play_in<L: Exchange<Event>, R: Wait + Abort>(
     rt: &R,
     alloc: Global,
     blank: Blank,
@@ -40,6 +40,7 @@ fn play_in<L: Ledger, R: Wait + Abort>(
     requires name { blank.name ≡ L.name }
     requires parts { blank.parts ≡ L.parts }
     requires ends { blank.parts ≡ 65 }
+    requires begun { recorded.history ≡ L.begun }
 {
     let mut shared = Shared::<Event, L>::new(recorded, blank);
     let mut end = shared.end().ok_or("an end")?;

@@ -1,7 +1,7 @@
 //! Workers over ends of the tests' own, which no exchange stands behind.
 
 use dr_core::{Claimed, Handler, Inlet, Outlet, Polled, Refusal, Trouble};
-use dr_seq::Event;
+use dr_seq::{Event, Size};
 use dr_shared::{
     Ended, Gate, GateAnswer, OpenGate, Produced, Waiting, WorkFault, consume, first_fault, produce,
 };
@@ -29,7 +29,7 @@ impl Inlet<Event> for Scarce {
     ghost kept = { λ _. tt };
 
     fn try_claim(&mut self, n: u64) -> Result<Claimed, Trouble> {
-        if n == 0 {
+        if n == 0 || n > Size::MAX {
             return Err(Trouble::Refused(Refusal::BadCount));
         }
         if self.hoards {

@@ -1,7 +1,7 @@
 //! One thread: a producer and three handlers over a core, and a handler of one's own.
 #![tactic(auto)]
 
-use dr_core::{Core, Handler, MAX_LIMIT, Mode, OpenFault, Refusal, processor_turn};
+use dr_core::{Core, InPlaceHandler, MAX_LIMIT, Mode, OpenFault, Refusal};
 use dr_graph::{Graph, GraphBuilder, GraphFault};
 use dr_seq::{Size, SizeFault};
 use std::alloc::Global;
@@ -33,7 +33,7 @@ struct Order {
 }
 
 impl Order {
-    /// What the slots hold before the first order, and the buffer before the first batch.
+    /// What the slots hold before the first order.
     const NONE: Order = Order {
         account: 0,
         instrument: 0,
@@ -58,18 +58,18 @@ impl Order {
     }
 }
 
-/// Adds up the quantities of what it is shown.
+/// Adds up the quantities of what it is shown, where it lies.
 #[derive(Drop)]
 struct Sum {
     total: u64,
 }
 
-impl Handler<Order> for Sum {
+impl InPlaceHandler<Order> for Sum {
     ghost use Rattle.std.specs.Prelude.{◌≡◌, ◌+◌, ◌%◌, ◌^◌};
 
     ghost goes = { λ old event s end new. new.total ≡ (old.total + event.quantity) % 2 ^ 64 };
 
-    fn on_event(&mut self, event: Order, _s: u64, _end: bool) {
+    fn on_event_in_place(&mut self, event: &Order, _s: u64, _end: bool) {
         self.total = self.total.wrapping_add(event.quantity);
     }
 }
@@ -90,9 +90,8 @@ fn send(core: &mut Core<Order>, order: Order) -> Result<(), Refusal> {
 
 /// Gives each handler a turn, in the graph's order.
 fn turns(core: &mut Core<Order>, sums: &mut [Sum; 3]) -> Result<(), Refusal> {
-    let mut buffer = [Order::NONE; 16];
     for (h, sum) in sums.iter_mut().enumerate() {
-        processor_turn(core, h, sum, &mut buffer)?;
+        core.turn_in_place(h, sum)?;
     }
     Ok(())
 }

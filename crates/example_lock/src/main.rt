@@ -9,8 +9,8 @@ use dr_core::{Handler, MAX_LIMIT, Mode};
 use dr_graph::GraphBuilder;
 use dr_seq::{Event, Size};
 use dr_shared::{
-    End, LockedInlet, LockedOutlet, OpenGate, Recorded, Shared, audit, consume, finish, halt,
-    produce,
+    End, Exchange, LockedInlet, LockedOutlet, OpenGate, Recorded, Shared, audit, consume, finish,
+    halt, produce,
 };
 use std::alloc::Global;
 use std::marker::Brand;
@@ -53,7 +53,12 @@ impl Handler<Event> for Counter {
 }
 
 /// A producer's work. Its end is handed back, since the history is had only once all ends are.
-fn send<L: Ledger, R: Wait>(rt: &R, shared: &Shared<Event, L>, end: End<L>, p: u64) -> End<L> {
+fn send<L: Exchange<Event>, R: Wait>(
+    rt: &R,
+    shared: &Shared<Event, L>,
+    end: End<L>,
+    p: u64,
+) -> End<L> {
     let mut inlet = LockedInlet::new(rt, shared, end, p);
     let script = script(p);
     let _sent = produce(rt, &mut inlet, &OpenGate, 0, script.as_slice(), 4);
@@ -61,7 +66,12 @@ fn send<L: Ledger, R: Wait>(rt: &R, shared: &Shared<Event, L>, end: End<L>, p: u
 }
 
 /// A handler's work: it ends once the exchange is halted and the handler has everything.
-fn receive<L: Ledger, R: Wait>(rt: &R, shared: &Shared<Event, L>, end: End<L>, h: usize) -> End<L> {
+fn receive<L: Exchange<Event>, R: Wait>(
+    rt: &R,
+    shared: &Shared<Event, L>,
+    end: End<L>,
+    h: usize,
+) -> End<L> {
     let mut outlet = LockedOutlet::new(rt, shared, end, h);
     let mut buffer = [Event::NONE; 4];
     let mut counter = Counter { seen: 0 };
@@ -70,7 +80,7 @@ fn receive<L: Ledger, R: Wait>(rt: &R, shared: &Shared<Event, L>, end: End<L>, h
 }
 
 /// Starts a thread a worker, halts once the producers are joined, and gives back every end.
-fn exchange<L: Ledger + Send + Sync, R: Threads + Wait + Sync>(
+fn exchange<L: Exchange<Event> + Send + Sync, R: Threads + Wait + Sync>(
     rt: &R,
     shared: &Shared<Event, L>,
     ends: Ends<L>,
@@ -127,7 +137,7 @@ fn open(alloc: Global) -> Option<Recorded<Event>> {
     .ok()
 }
 
-fn make_ends<L: Ledger>(shared: &mut Shared<Event, L>) -> Option<Ends<L>> {
+fn make_ends<L: Exchange<Event>>(shared: &mut Shared<Event, L>) -> Option<Ends<L>> {
     Some(Ends {
         first: shared.end()?,
         second: shared.end()?,
@@ -143,17 +153,19 @@ fn audited(alloc: Global, recorded: &Recorded<Event>) -> Option<usize> {
     Some(list.len())
 }
 
-/// Opens an exchange, lets the workers have it, and audits its history once all ends are back.
-fn run<L: Ledger + Send + Sync, R: Threads + Wait + Sync>(
+/// Lets the workers have an exchange behind a lock, and audits its history once all ends are back.
+fn run<L: Exchange<Event> + Send + Sync, R: Threads + Wait + Sync>(
     rt: &R,
     alloc: Global,
     blank: Blank,
+    recorded: Recorded<Event>,
 ) -> Option<usize>
     requires name { blank.name ≡ L.name }
     requires parts { blank.parts ≡ L.parts }
     requires ends { blank.parts ≡ 65 }
+    requires begun { recorded.history ≡ L.begun }
 {
-    let mut shared = Shared::<Event, L>::new(open(alloc)?, blank);
+    let mut shared = Shared::<Event, L>::new(recorded, blank);
     let ends = make_ends(&mut shared)?;
     let Ends {
         first,
@@ -166,8 +178,13 @@ fn run<L: Ledger + Send + Sync, R: Threads + Wait + Sync>(
     audited(alloc, &recorded)
 }
 
+/// Opens an exchange and runs it.
+fn count<R: Threads + Wait + Sync>(rt: &R, alloc: Global) -> Option<usize> {
+    run::<Brand, R>(rt, alloc, Blank::new(65), open(alloc)?)
+}
+
 fn main(rt: HostRuntime) -> ExitCode {
-    match run::<Brand, _>(&rt, rt.alloc(), Blank::new(65)) {
+    match count(&rt, rt.alloc()) {
         Some(count) => {
             let _printed = rt.println(&count);
             ExitCode::SUCCESS

@@ -11,7 +11,7 @@ use crate::signs::Signs;
 use crate::stretch::Stretch;
 use dr_core::{Command, Refusal, Reply};
 use dr_seq::Event;
-use dr_shared::{End, LockedInlet, LockedOutlet, Shared, halt, join_all};
+use dr_shared::{End, Exchange, LockedInlet, LockedOutlet, Shared, halt, join_all};
 use std::alloc::Global;
 use std::sync::Wait;
 use std::sync::ledger::Ledger;
@@ -25,7 +25,7 @@ const MOST_BEFORE_RETIREMENT: u64 = 4;
 
 /// What all threads of an exchange share.
 #[derive(Drop)]
-pub struct Around<'a, L: Ledger, R> {
+pub struct Around<'a, L: Exchange<Event>, R> {
     pub rt: &'a R,
     pub alloc: Global,
     pub shared: &'a Shared<Event, L>,
@@ -89,7 +89,7 @@ pub struct Joined<L: Ledger> {
 }
 
 /// Asks that a handler is retired, and says whether it takes more.
-fn retire<L: Ledger, R: Wait>(
+fn retire<L: Exchange<Event>, R: Wait>(
     around: &Around<'_, L, R>,
     end: &mut End<L>,
     h: usize,
@@ -102,7 +102,7 @@ fn retire<L: Ledger, R: Wait>(
     }
 }
 
-impl<L: Ledger> Producer<L> {
+impl<L: Exchange<Event>> Producer<L> {
     /// Sends until the exchange is halted, which it may do itself.
     fn send<R: Wait>(self, around: &Around<'_, L, R>) -> Sent<L> {
         let Producer {
@@ -136,7 +136,7 @@ impl<L: Ledger> Producer<L> {
     }
 }
 
-impl<L: Ledger> Handler<L> {
+impl<L: Exchange<Event>> Handler<L> {
     /// Takes and completes events, until the exchange drained or it is retired; it may halt the exchange.
     fn receive<R: Wait>(self, around: &Around<'_, L, R>) -> Handled<L> {
         let Handler {
@@ -178,7 +178,7 @@ impl<L: Ledger> Handler<L> {
 }
 
 /// Starts a thread for each producer, halts after a while, and joins them.
-fn publish<L: Ledger + Send + Sync, R: Threads + Wait + Sync>(
+fn publish<L: Exchange<Event> + Send + Sync, R: Threads + Wait + Sync>(
     around: &Around<'_, L, R>,
     producers: Vec<Producer<L>>,
     halter: End<L>,
@@ -213,7 +213,7 @@ fn publish<L: Ledger + Send + Sync, R: Threads + Wait + Sync>(
 }
 
 /// Starts a thread for each handler and for each producer, halts after a while, and joins them.
-pub fn exchange<L: Ledger + Send + Sync, R: Threads + Wait + Sync>(
+pub fn exchange<L: Exchange<Event> + Send + Sync, R: Threads + Wait + Sync>(
     around: &Around<'_, L, R>,
     parties: Parties<L>,
 ) -> Result<Joined<L>, Fault> {

@@ -1,6 +1,6 @@
 -- What the ends of an exchange show to whoever does not know which exchange it is, and what their calls answer and change.
 use Rattle.std.specs.List.{filter_map}
-use Rattle.std.specs.Prelude.{◌≡◌, ℕ, ◌+◌, ◌-◌, ◌^◌, ◌<◌, ◌≤◌, Bool, true, false, not, ◌==◌, nat_lt, nat_le, Option, Some, None, is_none, Result, Ok, Err, List, [], ◌∷◌, ◌++◌, length, take, drop, replicate, slice_index_or, slice_set}
+use Rattle.std.specs.Prelude.{◌≡◌, ℕ, ◌+◌, ◌-◌, ◌^◌, ◌<◌, ◌≤◌, Bool, true, false, not, ◌||◌, ◌==◌, nat_lt, nat_le, Option, Some, None, is_none, Result, Ok, Err, List, [], ◌∷◌, ◌++◌, length, take, drop, replicate, slice_index_or, slice_set}
 use Rattle.dr_core.specs.declared.refusal.Refusal.{Refusal}
 use Rattle.dr_core.specs.declared.command.Claimed.{Claimed}
 use Rattle.dr_core.specs.declared.command.Polled.{Polled}
@@ -32,10 +32,11 @@ pub record Received (E : Type 0) : Type 0 where
 
 -- What is known of the machine's tests.
 
--- a test holds exactly where this is true, or at least where it is
+-- a test holds exactly where this is true, or at least where it is, or at least where the first is and at most where the second is
 pub data Verdict : Type 0 where
   Exactly : Bool → Verdict
   AtLeast : Bool → Verdict
+  Between : Bool → Bool → Verdict
 
 abbrev pub unknown : Verdict
 unknown = AtLeast false
@@ -43,10 +44,12 @@ unknown = AtLeast false
 abbrev pub MayHold : Verdict → Type 0
 MayHold (Exactly b) = b ≡ true
 MayHold (AtLeast b) = Unit {0}
+MayHold (Between least most) = most ≡ true
 
 abbrev pub MayFail : Verdict → Type 0
 MayFail (Exactly b) = b ≡ false
 MayFail (AtLeast b) = b ≡ false
+MayFail (Between least most) = least ≡ false
 
 -- A call is accepted where no test is known to hold, and a refusal is the first test's that may hold. An end that shows what it did has a producer or a handler; of its size, its room, its limit, a halt and a retirement it shows nothing.
 abbrev pub IsAnswerOf : {A : Type 0} → List (Verdict × Refusal) → Result A Trouble → Type 0
@@ -54,12 +57,16 @@ IsAnswerOf causes (Ok done) = NoneHolds MayFail causes
 IsAnswerOf causes (Err (Refused refusal)) = IsFirst MayHold MayFail refusal causes
 IsAnswerOf causes (Err Memory) = Unit {0}
 
+-- a ring has 1 to 65,536 slots: a claim of none or of more than that is bad in each, and a claim of one in none
+abbrev pub is_bad_claim : ℕ → Verdict
+is_bad_claim n = Between (n == 0 || nat_lt 65536 n) (not (n == 1))
+
 abbrev pub claim_tests : {E : Type 0} → Option (Sent E) → ℕ → ClaimTests Verdict
 claim_tests None n =
-    record { no_producer = unknown; bad_count = AtLeast (n == 0); halted = unknown; exhausted = AtLeast (nat_lt (2 ^ 62) n); no_room = unknown }
+    record { no_producer = unknown; bad_count = is_bad_claim n; halted = unknown; exhausted = AtLeast (nat_lt (2 ^ 62) n); no_room = unknown }
 claim_tests (Some e) n = record {
   no_producer = Exactly false;
-  bad_count = AtLeast (n == 0);
+  bad_count = is_bad_claim n;
   halted = unknown;
   exhausted = AtLeast (nat_lt (2 ^ 62) (claimed_in e + n));
   no_room = unknown;

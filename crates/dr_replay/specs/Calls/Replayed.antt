@@ -2,7 +2,9 @@
 use Rattle.std.specs.Prelude.{◌≡◌, ℕ, Result, Ok, Err, List, [], ◌∷◌, Option, None, Some, Vec}
 use Rattle.std.specs.Io.KnownBytes.{Appends, Keeps}
 use Rattle.dr_seq.specs.declared.event.Event.{Event}
-use Rattle.dr_shared.specs.Meaning.Merge.{IsMerge}
+use Rattle.dr_core.specs.Meaning.Machine.{handlers}
+use Rattle.dr_shared.specs.Meaning.Audit.{IsAudited}
+use Rattle.dr_shared.specs.Meaning.History.{History, IsRecorded, transcript}
 use Rattle.dr_accounts.specs.Report.{report_of}
 use Rattle.dr_files.specs.Lines.{joined}
 use Rattle.dr_files.specs.Outcome.{AppendsFront, FaultCounts, FaultKeeps, FaultWrites, Said}
@@ -12,7 +14,7 @@ use Rattle.dr_files.specs.declared.fault.FileFault.TheVariants as file
 use Rattle.dr_replay.specs.Meaning.EventFile.{events_in, events_of}
 use Rattle.dr_records.specs.Records.{Record}
 use Rattle.dr_replay.specs.Meaning.Scripts.{scripts_in}
-use Rattle.dr_replay.specs.Calls.Workers.{AuditFinds}
+use Rattle.dr_replay.specs.Calls.Workers.{AuditFinds, IsOfMerge}
 use Rattle.dr_replay.specs.declared.fault.ReplayFault.{ReplayFault}
 use Rattle.dr_replay.specs.declared.fault.ReplayFault.TheVariants as fault
 
@@ -71,13 +73,18 @@ ReplayCounts (Err e) reads reads2 writes writes2 = ReplayFaultCounts e reads rea
 
 -- Behind a lock: the same, but that the report is of a merge.
 
--- a report of a list that is a merge of what the producers were to send
-abbrev pub IsReportOfMerge : List Event → List ℕ → Type 0
-IsReportOfMerge events text = (list : List Event) × IsMerge (scripts_in events) list × (text ≡ report_of list)
+-- a report of the list that an audit finds of what a core went through: each handler received it, and it is a merge of what the producers were to send
+pub record IsReportOfMerge (events : List Event) (text : List ℕ) : Type 0 where
+  pub history : History Event
+  pub recorded : IsRecorded history
+  pub list : List Event
+  pub audited : IsAudited (transcript history) (handlers history.core.setup) (scripts_in events) list
+  pub says : text ≡ report_of list
 
--- at a failed write a beginning of such a report is written; an audit's fault is one of these producers and their events
+-- at a failed write a beginning of such a report is written; a worker's fault is one of the handlers or of these producers, and an audit's is one of these producers and their events
 abbrev pub LockFaultWrites : ReplayFault → Option (List ℕ) → Option (List ℕ) → Result (List Event) ℕ → Type 0
 LockFaultWrites (fault.File file.Write) old new events = (found : List Event) × (text : List ℕ) × (events ≡ Ok found) × IsReportOfMerge found text × AppendsFront old new text
+LockFaultWrites (fault.Worker who f) old new events = (found : List Event) × (events ≡ Ok found) × IsOfMerge found (fault.Worker who f) × Keeps old new
 LockFaultWrites (fault.Audit f) old new events = (found : List Event) × (events ≡ Ok found) × AuditFinds (scripts_in found) f × Keeps old new
 LockFaultWrites other old new events = ReplayFaultWrites other old new (reported events)
 

@@ -14,7 +14,7 @@ use Rattle.dr_shared.specs.Meaning.History.{History, IsRecorded, transcript}
 use Rattle.dr_core.specs.Meaning.Machine.{handlers}
 use Rattle.dr_files.specs.declared.fault.FileFault.{FileFault}
 use Rattle.dr_files.specs.declared.fault.FileFault.TheVariants as file
-use Rattle.dr_replay.specs.Meaning.Scripts.{scripts_in}
+use Rattle.dr_replay.specs.Meaning.Scripts.{producers_in, scripts_in}
 use Rattle.dr_replay.specs.declared.fault.ReplayFault.{ReplayFault}
 use Rattle.dr_replay.specs.declared.fault.ReplayFault.TheVariants as fault
 use Rattle.dr_accounts.specs.Keeping.{Keeps, error_of}
@@ -131,16 +131,16 @@ IsOfLock endings scripts (fault.File f) = IsMemory f
 IsOfLock endings scripts (fault.Worker who f) = IsFirstOf endings (fault.Worker who f)
 IsOfLock endings scripts (fault.Audit f) = (first_fault endings ≡ None) × AuditFinds scripts f
 
--- a lack of memory, or the first fault of some such workers, or what an audit finds of each producer's events
+-- a lack of memory, or the first fault of such workers, one of each producer of these events, or what an audit finds of each producer's events
 abbrev pub IsOfMerge : List Event → ReplayFault → Type 0
 IsOfMerge events (fault.File f) = IsMemory f
 IsOfMerge events (fault.Worker who f) =
     (journal : Option WorkFault) × (replica : Option WorkFault) × (business : Option WorkFault) × (producers : List (Option WorkFault))
-    × IsFirstOf (lock_endings journal replica business producers) (fault.Worker who f)
+    × (length producers ≡ producers_in events) × IsFirstOf (lock_endings journal replica business producers) (fault.Worker who f)
 IsOfMerge events (fault.Audit f) = AuditFinds (scripts_in events) f
 
 -- where a fault of the workers or of an audit is answered, it is one that comes first
 abbrev pub IsFirstOfLock : ReplayFault → Type 0
 IsFirstOfLock (fault.File f) = Unit {0}
-IsFirstOfLock (fault.Worker who f) = IsOfMerge [] (fault.Worker who f)
+IsFirstOfLock (fault.Worker who f) = (events : List Event) × IsOfMerge events (fault.Worker who f)
 IsFirstOfLock (fault.Audit f) = (events : List Event) × IsOfMerge events (fault.Audit f)

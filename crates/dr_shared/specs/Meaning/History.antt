@@ -1,7 +1,8 @@
 -- The history of an exchange: the calls that it kept, and the events of their batches.
-use Rattle.std.specs.Prelude.{◌≡◌, ℕ, ◌^◌, ◌≤◌, Bool, true, false, List, [], ◌∷◌, ◌++◌, length, map, if◌then◌else◌}
+use Rattle.std.specs.Prelude.{◌≡◌, ℕ, ◌^◌, ◌≤◌, Bool, true, false, List, [], ◌∷◌, ◌++◌, drop, length, map, sum_by, if◌then◌else◌}
+use Rattle.dr_seq.specs.Size.{IsSize}
 use Rattle.dr_core.specs.declared.command.Command.{Command}
-use Rattle.dr_core.specs.declared.command.Command.TheVariants.{Poll}
+use Rattle.dr_core.specs.declared.command.Command.TheVariants.{Halt, Poll}
 use Rattle.dr_core.specs.declared.command.Reply.{Reply}
 use Rattle.dr_core.specs.declared.command.Reply.TheVariants.{Gating, Idle, Refused}
 use Rattle.dr_core.specs.Calls.CoreView.{CoreView}
@@ -46,9 +47,29 @@ AreKept (e ∷ es) = (is_kept e.reply ≡ true) × AreKept es
 -- the history has kept replies only, leads to a state that the core shows, has the five laws, and has the events of its batches
 pub record IsRecorded {E : Type 0} (k : History E) : Type 0 where
   pub small : k.core.setup.limit ≤ 2 ^ 62
+  pub size : IsSize k.core.setup.size
   pub kept : AreKept k.entries
   pub counted : length k.values ≡ counts_of (map (λ e. e.reply) k.entries)
   pub runs : RunsTo k.core.setup (transcript k) k.core
+
+-- the entries that a history has beyond those of its beginning
+abbrev pub entries_since : {E : Type 0} → History E → History E → List (Entry E)
+entries_since begun k = drop (length begun.entries) k.entries
+
+-- a history of the same exchange, which begins as it was once
+pub record GoesOn {E : Type 0} (begun k : History E) : Type 0 where
+  pub setup : k.core.setup ≡ begun.core.setup
+  pub names : k.core.names ≡ begun.core.names
+  pub entries : k.entries ≡ begun.entries ++ entries_since begun k
+  pub values : k.values ≡ begun.values ++ drop (length begun.values) k.values
+
+abbrev pub halts_of : {E : Type 0} → Command E → ℕ
+halts_of Halt = 1
+halts_of other = 0
+
+-- how many of some calls are halts
+abbrev pub halts_in : {E : Type 0} → List (Entry E) → ℕ
+halts_in entries = sum_by (λ e. halts_of e.command) entries
 
 -- for how many events a command asks
 abbrev pub asked : {E : Type 0} → Command E → ℕ

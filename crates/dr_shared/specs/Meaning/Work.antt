@@ -46,6 +46,10 @@ IsDone old new = (new.completed ≡ length new.events) ⊎ (new ≡ old)
 abbrev pub Adds : {E : Type 0} → List E → Sent E → Sent E → Type 0
 Adds events old new = new.published ≡ old.published ++ events
 
+-- what was claimed is published: where nothing was open, nothing is
+abbrev pub LeavesNothingOpen : {E : Type 0} → Sent E → Sent E → Type 0
+LeavesNothingOpen old new = old.pending ≡ [] → new.pending ≡ []
+
 -- the first k of some events are written to the sequences from lo on, where these are all that is pending, and nothing is published
 pub record Writing {E : Type 0} (lo : ℕ) (events : List E) (k : ℕ) (old new : Sent E) : Type 0 where
   pub published : new.published ≡ old.published

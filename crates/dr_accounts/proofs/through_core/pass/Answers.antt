@@ -6,13 +6,12 @@ use Rattle.dr_accounts.proofs.through_core.pass.Goals as goal
 use Rattle.dr_accounts.proofs.through_core.pass.Goals.{In_ok-send}
 
 -- what was sent is offered to the handlers
-offered : (c : In_ok-send) → AreOffered c.args.core.now.setup.size c.args.events.now c.loop-at.at (c.loop-at.at + c.min-n.result) (length c.loop-at.buf) c.send.new.core
+offered : (c : In_ok-send) → AreOffered c.args.core.now.setup.size c.args.events.now c.loop-at.at (c.loop-at.at + c.min-n.result) c.send.new.core
 offered c =
     let at = c.loop-at.at in
     let n = c.min-n.result in
     let same : c.loop-at.core.setup.size ≡ c.args.core.now.setup.size = ap (λ s. s.size) c.loop-at.invariant.rests.setup in
     let positive = size_positive c.get-size.result c.get-size.ensures.size in
-    let room = c.requires.room in
     record {
       rests = subst (λ s. Rests s c.args.events.now (at + n) (each at) c.send.new.core) same c.in_ok-send.ensures;
       some = omega arith;

@@ -1,11 +1,12 @@
 use Rattle.std.proofs.Common.{◌≡◌, List, ℕ, IfSome, subst, sym}
+use Rattle.std.proofs.lemmas.Result.{err_from_is_err_and}
 use Rattle.dr_seq.specs.declared.event.Event.{Event}
 use Rattle.dr_files.specs.Counting.{inner_of}
 use Rattle.dr_files.specs.declared.fault.FileFault.TheVariants as file
 use Rattle.dr_replay.specs.Meaning.EventFile.{events_of}
 use Rattle.dr_replay.specs.Calls.Replayed.{IsReportOfMerge, LockWrites}
 use Rattle.dr_replay.specs.declared.fault.ReplayFault.TheVariants as fault
-use Rattle.dr_replay.proofs.Reporting.{at_exit, cut_merge}
+use Rattle.dr_replay.proofs.Reporting.{at_exit, cut_merge, kept_merge}
 use Rattle.dr_replay.proofs.lock.replay_lock.Goals as goal
 
 -- the bytes that are written are a report of a merge of the file's events
@@ -22,3 +23,9 @@ returns-in_err-write_text-clause-bytes g c =
     (λ r. IfSome input (λ bytes. LockWrites r old new (events_of bytes)))
     c.from_residual-in_err-write_text.ensures.1
     (cut_merge old new input c.in_ok-events.events.items c.as_bytes.result.now c.in_ok-events.ensures.file said c.in_err-write_text.ensures.0)
+
+pub returns-in_err-text-clause-bytes : goal.returns-in_err-text-clause-bytes
+returns-in_err-text-clause-bytes g c =
+    let p = err_from_is_err_and c.from_residual-in_err-text.result c.from_residual-in_err-text.ensures.1 in
+    rw (p.1, p.2) (kept_merge (g.W.Write.contents (inner_of c.args.writer.now)) (g.R.Read.remaining (inner_of c.args.reader.now)) c.as_slice.result.now
+    c.in_ok-events.events.items c.in_err-text.field-0.0 c.as_slice.ensures.value c.in_ok-events.ensures.file c.in_err-text.ensures.first)

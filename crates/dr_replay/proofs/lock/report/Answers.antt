@@ -1,21 +1,13 @@
-use Rattle.std.proofs.Common.{◌≡◌, ◌∙◌, List, Vec, Global, map, ap}
+use Rattle.std.proofs.Common.{◌∙◌, map, sym}
+use Rattle.std.proofs.lemmas.List.{length-map}
 use Rattle.dr_accounts.specs.Keeping.{error_of}
-use Rattle.dr_seq.specs.declared.event.Event.{Event}
-use Rattle.dr_replay.specs.Meaning.Scripts.{scripts_in}
 use Rattle.dr_replay.proofs.Endings.{ends_of_merge}
 use Rattle.dr_replay.proofs.lock.report.Goals as goal
 
--- the scripts that are settled are the producers' events
-same : (all now : List (Vec Event Global)) (events : List Event) → now ≡ all → map (λ v. v.items) all ≡ scripts_in events
-    → map (λ v. v.items) now ≡ scripts_in events
-same all now events are is = ap (λ l. map (λ v. v.items) l) are ∙ is
-
-pub returns-clause-text : goal.returns-clause-text
-returns-clause-text g c = c.settled.ensures.text c.args.events.now (same _ _ c.args.events.now c.as_slice-2.ensures.value c.in_ok-scripts.ensures)
-
 pub returns-clause-first : goal.returns-clause-first
-returns-clause-first g c =
+returns-clause-first g c = λ sent are.
     let ran = c.in_ok-ran.ran in
-    ends_of_merge c.args.events.now _ (error_of ran.journal.part) (error_of ran.replica.part) (error_of ran.business.part)
-    (map (λ s. s.fault) ran.producers.items) c.settled.result
-    (same _ _ c.args.events.now c.as_slice-2.ensures.value c.in_ok-scripts.ensures) c.settled.ensures.first
+    ends_of_merge sent _ (error_of ran.journal.part) (error_of ran.replica.part) (error_of ran.business.part)
+    (map (λ s. s.fault) ran.producers.items) c.settled.result are
+    (length-map ran.producers.items (λ s. s.fault) ∙ c.in_ok-ran.ensures ∙ sym (length-map c.args.scripts.now (λ v. v.items)))
+    c.settled.ensures.first

@@ -1,4 +1,6 @@
-use Rattle.std.proofs.Common.{◌≡◌, ◌≤◌, ◌+◌, ◌-◌, ◌∙◌, arith, drop, length, take}
+use Rattle.std.proofs.Common.{ap, subst, ◌≡◌, ◌≤◌, ◌+◌, ◌-◌, ◌∙◌, arith, drop, length, take}
+use Rattle.dr_core.specs.Calls.Ends.{StopsAt}
+use Rattle.dr_shared.proofs.Closing.{trouble_of, write_refused}
 use Rattle.dr_shared.proofs.Writings.{all_written, length-rest, more_written, only_written, stops_nowhere, stops_within}
 use Rattle.dr_shared.proofs.retries.write_all.Goals as goal
 
@@ -34,3 +36,14 @@ returns-in-Some-trouble-clause-fault g c =
     let events = c.args.events.now in
     only_written c.args.lo (take (done + c.write_all-wrote.result.count) events) _ _
     (more_written c.args.lo done c.write_all-wrote.result.count events c.loop.invariant.3 _ _ _ c.loop.invariant.4 c.write_all-wrote.ensures.sent)
+
+pub returns-in-Some-trouble-clause-refused : goal.returns-in-Some-trouble-clause-refused
+returns-in-Some-trouble-clause-refused g c = λ r is.
+    let done = c.loop.done in
+    let events = c.args.events.now in
+    let part = take (length events - done) (drop done events) in
+    let left : length part ≡ length events - done = length-rest events done in
+    let front = c.loop.invariant.3 in
+    let lo = c.args.lo in
+    let stops = subst (λ t. StopsAt (g.I.Inlet.sent c.loop.inlet) (lo + done) (length part) c.write_all-wrote.result.count t) (c.in-Some-trouble.is ∙ ap trouble_of is) c.write_all-wrote.ensures.answer.stops in
+    write_refused lo (take done events) (length events) (lo + done) (length part) c.write_all-wrote.result.count _ _ r c.loop.invariant.4 (omega arith) (omega arith) stops

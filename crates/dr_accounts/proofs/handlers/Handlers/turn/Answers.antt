@@ -1,4 +1,4 @@
-use Rattle.std.proofs.Common.{◌≤◌, ◌+◌, ℕ, Bool, List, [], ◌∷◌, arith, length}
+use Rattle.std.proofs.Common.{ℕ, Bool, List, [], ◌∷◌}
 use Rattle.dr_seq.specs.declared.event.Event.{Event}
 use Rattle.dr_accounts.specs.declared.business.Business.{Business}
 use Rattle.dr_accounts.specs.declared.journal.Journal.{Journal}
@@ -10,8 +10,8 @@ use Rattle.dr_accounts.proofs.Rounds.{business_can, journal_can, replica_can, sh
 use Rattle.dr_accounts.proofs.Shown.{business_goes, journal_goes, replica_goes}
 use Rattle.dr_accounts.proofs.Turning.{CanTurn, TookTurn, no_refusal, took_turn}
 use Rattle.dr_accounts.proofs.handlers.Handlers.turn.Goals as goal
-use Rattle.dr_accounts.proofs.handlers.Handlers.turn.Goals.{After-processor_turn, After-processor_turn-2, After-processor_turn-3}
-use Rattle.dr_accounts.proofs.handlers.Handlers.turn.Goals.{In_ok-processor_turn, In_ok-processor_turn-2, In_ok-processor_turn-3}
+use Rattle.dr_accounts.proofs.handlers.Handlers.turn.Goals.{After-turn_in_place, After-turn_in_place-2, After-turn_in_place-3}
+use Rattle.dr_accounts.proofs.handlers.Handlers.turn.Goals.{In_ok-turn_in_place, In_ok-turn_in_place-2, In_ok-turn_in_place-3}
 
 abbrev journals : Journal → Event → ℕ → Bool → Journal → Type 0
 journals old event s end new = Journals old event new
@@ -24,64 +24,57 @@ books old event s end new = Books old event new
 
 module _ (size : ℕ) (events : List Event) (at sent : ℕ) where
   -- what each turn needs
-  journal_needs : (c : After-processor_turn) → AreOffered size events at sent (length c.args.buf.now) c.args.core.now
-      → CanTurn size events at sent 0 (length c.args.buf.now) (each at) c.args.core.now
-  journal_needs c is = journal_can size events at sent is.some is.within _ is.fits _ is.rests
+  journal_needs : (c : After-turn_in_place) → AreOffered size events at sent c.args.core.now → CanTurn size events at sent 0 (each at) c.args.core.now
+  journal_needs c is = journal_can size events at sent is.some is.within is.fits _ is.rests
 
-  replica_needs : (c : After-processor_turn-2) → AreOffered size events at sent (length c.args.buf.now) c.args.core.now → Rests size events sent (sent ∷ at ∷ at ∷ []) c.processor_turn.new.core
-      → CanTurn size events at sent 1 (length c.processor_turn.new.buf) (sent ∷ at ∷ at ∷ []) c.processor_turn.new.core
-  replica_needs c is rests =
-      let fits = is.fits in
-      let room : sent ≤ at + length c.processor_turn.new.buf = omega arith in
-      replica_can size events at sent is.some is.within _ room _ rests
+  replica_needs : (c : After-turn_in_place-2) → AreOffered size events at sent c.args.core.now → Rests size events sent (sent ∷ at ∷ at ∷ []) c.turn_in_place.new.self
+      → CanTurn size events at sent 1 (sent ∷ at ∷ at ∷ []) c.turn_in_place.new.self
+  replica_needs c is rests = replica_can size events at sent is.some is.within is.fits _ rests
 
-  business_needs : (c : After-processor_turn-3) → AreOffered size events at sent (length c.args.buf.now) c.args.core.now → Rests size events sent (sent ∷ sent ∷ at ∷ []) c.processor_turn-2.new.core
-      → CanTurn size events at sent 2 (length c.processor_turn-2.new.buf) (sent ∷ sent ∷ at ∷ []) c.processor_turn-2.new.core
-  business_needs c is rests =
-      let fits = is.fits in
-      let room : sent ≤ at + length c.processor_turn-2.new.buf = omega arith in
-      business_can size events at sent is.some is.within _ room _ rests
+  business_needs : (c : After-turn_in_place-3) → AreOffered size events at sent c.args.core.now → Rests size events sent (sent ∷ sent ∷ at ∷ []) c.turn_in_place-2.new.self
+      → CanTurn size events at sent 2 (sent ∷ sent ∷ at ∷ []) c.turn_in_place-2.new.self
+  business_needs c is rests = business_can size events at sent is.some is.within is.fits _ rests
 
   -- what each turn did
-  journal_took : (c : In_ok-processor_turn) → CanTurn size events at sent 0 (length c.args.buf.now) (each at) c.args.core.now
-      → TookTurn journals size events at sent 0 (each at) c.processor_turn.new.core c.args.self.now.journal c.processor_turn.new.handler
-  journal_took c can = took_turn journals size events at sent 0 _ (each at) _ _ _ _ can c.processor_turn.result _ c.processor_turn.ensures.turn
+  journal_took : (c : In_ok-turn_in_place) → CanTurn size events at sent 0 (each at) c.args.core.now
+      → TookTurn journals size events at sent 0 (each at) c.turn_in_place.new.self c.args.self.now.journal c.turn_in_place.new.handler
+  journal_took c can = took_turn journals size events at sent 0 (each at) _ _ _ _ can c.turn_in_place.result c.turn_in_place.ensures.turn.0 c.turn_in_place.ensures.turn.1
 
-  replica_took : (c : In_ok-processor_turn-2) → CanTurn size events at sent 1 (length c.processor_turn.new.buf) (sent ∷ at ∷ at ∷ []) c.processor_turn.new.core
-      → TookTurn copies size events at sent 1 (sent ∷ at ∷ at ∷ []) c.processor_turn-2.new.core c.args.self.now.replica c.processor_turn-2.new.handler
-  replica_took c can = took_turn copies size events at sent 1 _ (sent ∷ at ∷ at ∷ []) _ _ _ _ can c.processor_turn-2.result _ c.processor_turn-2.ensures.turn
+  replica_took : (c : In_ok-turn_in_place-2) → CanTurn size events at sent 1 (sent ∷ at ∷ at ∷ []) c.turn_in_place.new.self
+      → TookTurn copies size events at sent 1 (sent ∷ at ∷ at ∷ []) c.turn_in_place-2.new.self c.args.self.now.replica c.turn_in_place-2.new.handler
+  replica_took c can = took_turn copies size events at sent 1 (sent ∷ at ∷ at ∷ []) _ _ _ _ can c.turn_in_place-2.result c.turn_in_place-2.ensures.turn.0 c.turn_in_place-2.ensures.turn.1
 
-  business_took : (c : In_ok-processor_turn-3) → CanTurn size events at sent 2 (length c.processor_turn-2.new.buf) (sent ∷ sent ∷ at ∷ []) c.processor_turn-2.new.core
-      → TookTurn books size events at sent 2 (sent ∷ sent ∷ at ∷ []) c.processor_turn-3.new.core c.args.self.now.business c.processor_turn-3.new.handler
-  business_took c can = took_turn books size events at sent 2 _ (sent ∷ sent ∷ at ∷ []) _ _ _ _ can c.processor_turn-3.result _ c.processor_turn-3.ensures.turn
+  business_took : (c : In_ok-turn_in_place-3) → CanTurn size events at sent 2 (sent ∷ sent ∷ at ∷ []) c.turn_in_place-2.new.self
+      → TookTurn books size events at sent 2 (sent ∷ sent ∷ at ∷ []) c.turn_in_place-3.new.self c.args.self.now.business c.turn_in_place-3.new.handler
+  business_took c can = took_turn books size events at sent 2 (sent ∷ sent ∷ at ∷ []) _ _ _ _ can c.turn_in_place-3.result c.turn_in_place-3.ensures.turn.0 c.turn_in_place-3.ensures.turn.1
 
-pub returns-in_err-processor_turn : goal.returns-in_err-processor_turn
-returns-in_err-processor_turn c = λ size events at sent offered shown.
-    let at_turn = goal.at.returns-in_err-processor_turn c in
-    let can = journal_needs size events at sent at_turn.After-processor_turn offered in
-    absurd (no_refusal journals size events at sent 0 _ (each at) _ _ _ _ can c.in_err-processor_turn.field-0.0 [] c.in_err-processor_turn.ensures.turn)
+pub returns-in_err-turn_in_place : goal.returns-in_err-turn_in_place
+returns-in_err-turn_in_place c = λ size events at sent offered shown.
+    let at_turn = goal.at.returns-in_err-turn_in_place c in
+    let can = journal_needs size events at sent at_turn.After-turn_in_place offered in
+    absurd (no_refusal journals size events at sent 0 (each at) _ _ _ _ can c.in_err-turn_in_place.field-0.0 [] c.in_err-turn_in_place.ensures.turn.1)
 
-pub returns-in_err-processor_turn-2 : goal.returns-in_err-processor_turn-2
-returns-in_err-processor_turn-2 c = λ size events at sent offered shown.
-    let at_turn = goal.at.returns-in_err-processor_turn-2 c in
-    let took = journal_took size events at sent at_turn.In_ok-processor_turn (journal_needs size events at sent at_turn.After-processor_turn offered) in
-    let can = replica_needs size events at sent at_turn.After-processor_turn-2 offered took.rests in
-    absurd (no_refusal copies size events at sent 1 _ (sent ∷ at ∷ at ∷ []) _ _ _ _ can c.in_err-processor_turn-2.field-0.0 [] c.in_err-processor_turn-2.ensures.turn)
+pub returns-in_err-turn_in_place-2 : goal.returns-in_err-turn_in_place-2
+returns-in_err-turn_in_place-2 c = λ size events at sent offered shown.
+    let at_turn = goal.at.returns-in_err-turn_in_place-2 c in
+    let took = journal_took size events at sent at_turn.In_ok-turn_in_place (journal_needs size events at sent at_turn.After-turn_in_place offered) in
+    let can = replica_needs size events at sent at_turn.After-turn_in_place-2 offered took.rests in
+    absurd (no_refusal copies size events at sent 1 (sent ∷ at ∷ at ∷ []) _ _ _ _ can c.in_err-turn_in_place-2.field-0.0 [] c.in_err-turn_in_place-2.ensures.turn.1)
 
-pub returns-in_err-processor_turn-3 : goal.returns-in_err-processor_turn-3
-returns-in_err-processor_turn-3 c = λ size events at sent offered shown.
-    let at_turn = goal.at.returns-in_err-processor_turn-3 c in
-    let took = journal_took size events at sent at_turn.In_ok-processor_turn (journal_needs size events at sent at_turn.After-processor_turn offered) in
-    let took2 = replica_took size events at sent at_turn.In_ok-processor_turn-2 (replica_needs size events at sent at_turn.After-processor_turn-2 offered took.rests) in
-    let can = business_needs size events at sent at_turn.After-processor_turn-3 offered took2.rests in
-    absurd (no_refusal books size events at sent 2 _ (sent ∷ sent ∷ at ∷ []) _ _ _ _ can c.in_err-processor_turn-3.field-0.0 [] c.in_err-processor_turn-3.ensures.turn)
+pub returns-in_err-turn_in_place-3 : goal.returns-in_err-turn_in_place-3
+returns-in_err-turn_in_place-3 c = λ size events at sent offered shown.
+    let at_turn = goal.at.returns-in_err-turn_in_place-3 c in
+    let took = journal_took size events at sent at_turn.In_ok-turn_in_place (journal_needs size events at sent at_turn.After-turn_in_place offered) in
+    let took2 = replica_took size events at sent at_turn.In_ok-turn_in_place-2 (replica_needs size events at sent at_turn.After-turn_in_place-2 offered took.rests) in
+    let can = business_needs size events at sent at_turn.After-turn_in_place-3 offered took2.rests in
+    absurd (no_refusal books size events at sent 2 (sent ∷ sent ∷ at ∷ []) _ _ _ _ can c.in_err-turn_in_place-3.field-0.0 [] c.in_err-turn_in_place-3.ensures.turn.1)
 
 pub returns : goal.returns
 returns c = λ size events at sent offered shown.
     let at_end = goal.at.returns c in
-    let took = journal_took size events at sent at_end.In_ok-processor_turn (journal_needs size events at sent at_end.After-processor_turn offered) in
-    let took2 = replica_took size events at sent at_end.In_ok-processor_turn-2 (replica_needs size events at sent at_end.After-processor_turn-2 offered took.rests) in
-    let took3 = business_took size events at sent at_end.In_ok-processor_turn-3 (business_needs size events at sent at_end.After-processor_turn-3 offered took2.rests) in
+    let took = journal_took size events at sent at_end.In_ok-turn_in_place (journal_needs size events at sent at_end.After-turn_in_place offered) in
+    let took2 = replica_took size events at sent at_end.In_ok-turn_in_place-2 (replica_needs size events at sent at_end.After-turn_in_place-2 offered took.rests) in
+    let took3 = business_took size events at sent at_end.In_ok-turn_in_place-3 (business_needs size events at sent at_end.After-turn_in_place-3 offered took2.rests) in
     record {
       rests = took3.rests;
       shown = record {

@@ -21,7 +21,7 @@ invariant_of-self-in-Continue-branch-3 g c =
     (recorded_more c.every_step_leads_on.ensures _ _ _ _ _ _ _ (sym c.is_kept.ensures ∙ c.if-is_kept.true) many c.execute-reply.ensures.step c.self.invariant)
 
 pub returns-else-is_kept-clause-answer : goal.returns-else-is_kept-clause-answer
-returns-else-is_kept-clause-answer g c = answered _ _ _ _ _ _ _ c.execute-reply.ensures.step c.self.invariant
+returns-else-is_kept-clause-answer g c = rw (← c.self.view_is) (answered _ _ _ _ _ _ _ c.execute-reply.ensures.step c.self.invariant)
 
 pub returns-in_ok-extend_from_slice-clause-answer : goal.returns-in_ok-extend_from_slice-clause-answer
-returns-in_ok-extend_from_slice-clause-answer g c = answered _ _ _ _ _ _ _ c.execute-reply.ensures.step c.self.invariant
+returns-in_ok-extend_from_slice-clause-answer g c = rw (← c.self.view_is) (answered _ _ _ _ _ _ _ c.execute-reply.ensures.step c.self.invariant)

@@ -1,8 +1,10 @@
-use Rattle.std.proofs.Common.{◌≡◌, ◌≤◌, ◌^◌, ℕ, inl, inr, true, false, arith}
+use Rattle.std.proofs.Common.{◌≡◌, ◌≤◌, ◌^◌, ℕ, inl, inr, true, false, subst, arith}
 use Rattle.std.specs.Prelude.{◌==◌, nat_lt}
 use Rattle.std.proofs.lemmas.Bool.{cases_Bool, or_parts}
 use Rattle.std.proofs.lemmas.Bool.Decides.{nat_tests}
+use Rattle.dr_seq.specs.Size.{IsSize}
 use Rattle.dr_core.specs.declared.mode.Mode.{Mode}
+use Rattle.dr_core.specs.Calls.CoreView.{CoreView}
 use Rattle.dr_core.specs.Calls.OpenFault.{has_bad_producers, is_bad_limit}
 use Rattle.dr_shared.proofs.Recording.{recorded_none}
 use Rattle.dr_shared.proofs.recorded.Recorded.open.Goals as goal
@@ -24,3 +26,4 @@ invariant_of-result g c =
     let core = c.in_ok-core.ensures in
     let small = no_fault c.args.mode c.args.limit (λ y. cc (core.bad_producers.1 y)) (λ y. cc (core.bad_limit.1 y)) in
     recorded_none c.every_transcript_is_lawful.ensures _ c.in_ok-core.core _ _ core.setup c.in_ok-entries.ensures.items c.in_ok-values.ensures.items core.opening small
+    (subst (λ (v : CoreView _). IsSize v.setup.size) c.core.view_is c.core.invariant.whole.size)

@@ -2,7 +2,7 @@
 
 ghost use Rattle.std.specs.Prelude.{◌≡◌, ◌↔◌, IsTrue};
 
-use dr_seq::Event;
+use crate::event::Event;
 
 /// Values of which a test tells whether they are the same: an audit compares the events of a history
 /// with what was to be sent. A type of several fields compares each of them.

@@ -1,0 +1,77 @@
+//! Calls that never take memory, of what an exchange is made of: its slots, its rounds, the
+//! remembered count and the graph.
+
+ghost use Rattle.std.specs.Prelude.{◌≡◌, length};
+
+use crate::core_calls::word;
+use crate::fault::Fault;
+use crate::graphs::{diamond, tell_graph};
+use crate::taking_none::tell_memory;
+use dr_graph::Graph;
+use dr_seq::{Event, GateCache, Rounds, Size, Slots};
+use std::alloc::Global;
+
+fn tell_slots<R: Print>(rt: &R, slots: &mut Slots<Event>) -> Result<(), Fault>
+    requires { length slots.old ≡ 4 }
+{
+    slots.put(2, word(2));
+    slots.put(3, word(3));
+    slots.put(4, word(4));
+    println!(rt; "{:?}", slots.get(6))?;
+    let (head, rest) = slots.slices(2, 3);
+    println!(rt; "{head:?} {rest:?}")?;
+    let mut out = [Event::NONE; 3];
+    slots.copy_to(3, &mut out);
+    println!(rt; "{out:?}")?;
+    Ok(())
+}
+
+fn tell_rounds<R: Print>(rt: &R, rounds: &mut Rounds) -> Result<(), Fault>
+    requires { length rounds.old ≡ 4 }
+{
+    rounds.mark(2);
+    rounds.mark(3);
+    println!(rt; "{} {}", rounds.is_marked(2), rounds.is_marked(6))?;
+    println!(rt; "marked from 2 up to {}", rounds.front(2, 6))?;
+    Ok(())
+}
+
+fn tell_gate<R: Print>(rt: &R) -> Result<(), Fault> {
+    let mut gate = GateCache::new();
+    gate.raise(3);
+    println!(rt; "seen {}", gate.seen())?;
+    Ok(())
+}
+
+fn tell_finals<R: Print>(rt: &R, graph: &Graph) -> Result<(), Fault> {
+    for h in 0..graph.len() {
+        println!(rt; "{}", graph.is_final(h))?;
+    }
+    let gone = [false, true, false];
+    if graph.len() == gone.len() {
+        println!(rt; "{}", graph.is_final_without(2, &gone))?;
+    }
+    println!(rt; "{:?}", graph.position("b"))?;
+    Ok(())
+}
+
+/// Every call of slots, rounds, a remembered count and a graph.
+pub fn tell_parts<R: Print>(rt: &R, alloc: Global) -> Result<(), Fault> {
+    let size = Size::new(4)?;
+    let mut slots = Slots::new(alloc, size, Event::NONE)?;
+    let mut rounds = Rounds::new(alloc, size)?;
+    let graph = diamond(alloc)?;
+    println!(rt; "open")?;
+    println!(rt;
+        "slot {} in round {} of {}",
+        size.slot(6),
+        size.round(6),
+        size.get()
+    )?;
+    tell_slots(rt, &mut slots)?;
+    tell_rounds(rt, &mut rounds)?;
+    tell_gate(rt)?;
+    tell_graph(rt, &graph)?;
+    tell_finals(rt, &graph)?;
+    tell_memory(rt, alloc)
+}
