@@ -22,7 +22,8 @@ use Rattle.dr_ring.specs.declared.record.Step.TheVariants.{SenderLooksAtCount, S
 use Rattle.dr_ring.specs.declared.record.Step.TheVariants.{SenderHalts, SenderCloses, ReceiverLooksAtClosed, ReceiverLooksAtCursor, ReceiverLooksAtCount}
 use Rattle.dr_ring.specs.declared.record.Step.TheVariants.{ReceiverLoadsFirst, ReceiverLoadsSecond, ReceiverCompletes, HalterHalts}
 use Rattle.dr_ring.specs.Meaning.Steps.{Happens}
-use Rattle.dr_ring.specs.Inside.Seats.{End, Sitting, ring_ends, Loads, Stores, world_of, Ruled, as_sender, as_receiver, as_halter, sender_of, receiver_of, halter_of, IsSender, IsReceiver, IsHalter, FindsHalt, SenderLookedAtCount, SenderLookedAtHalt, SenderStoredFirst, SenderStoredSecond, SenderPublished, SenderHalted, SenderClosed, ReceiverLookedAtClosed, ReceiverLookedAtCursor, ReceiverLookedAtCount, ReceiverLoadedFirst, ReceiverLoadedSecond, ReceiverCompleted, HalterHalted}
+use Rattle.dr_ring.specs.Calls.Finds.{FindsHalt}
+use Rattle.dr_ring.specs.Inside.Seats.{End, Sitting, ring_ends, Loads, Stores, world_of, Ruled, as_sender, as_receiver, as_halter, sender_of, receiver_of, halter_of, IsSender, IsReceiver, IsHalter, SenderLookedAtCount, SenderLookedAtHalt, SenderStoredFirst, SenderStoredSecond, SenderPublished, SenderHalted, SenderClosed, ReceiverLookedAtClosed, ReceiverLookedAtCursor, ReceiverLookedAtCount, ReceiverLoadedFirst, ReceiverLoadedSecond, ReceiverCompleted, HalterHalted}
 use Rattle.dr_ring.proofs.Lists.{at_below, final_inside, last_look_le}
 use Rattle.dr_ring.proofs.Keeps.{receiver_of_handler, upstream_inside}
 use Rattle.dr_ring.proofs.Seats.{by_sender, by_receiver, by_halter}

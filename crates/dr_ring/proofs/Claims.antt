@@ -4,12 +4,14 @@ use Rattle.std.proofs.Common.{◌∷◌, ◌++◌, length, replicate, Option, So
 use Rattle.std.specs.Prelude.{nat_lt, Ok, Err}
 use Rattle.std.proofs.lemmas.Bool.{ne_eqb, le-ltb, ltb-false}
 use Rattle.std.proofs.lemmas.List.{length-append, length-replicate, append-nil}
+use Rattle.dr_seq.specs.Size.{IsSize}
 use Rattle.dr_seq.specs.declared.event.Event.{Event}
 use Rattle.dr_core.specs.declared.refusal.Refusal.TheVariants.{NoRoom, Halted}
 use Rattle.dr_core.specs.declared.command.Claimed.{Claimed}
 use Rattle.dr_core.specs.declared.refusal.Refusal.{Refusal}
-use Rattle.dr_core.specs.Meaning.Refusals.{claim_causes, IsFirst}
+use Rattle.dr_core.specs.Meaning.Refusals.{claim_causes, IsFirst, NoneHolds}
 use Rattle.dr_core.specs.Calls.Ends.{Sent, MayHold, MayFail, claim_tests, with_claimed}
+use Rattle.dr_core.proofs.BadCounts.{bad_is_not_one, good_is_never_bad}
 use Rattle.dr_graph.specs.Meaning.Graph.{finals}
 use Rattle.dr_ring.specs.Meaning.Shape.{Shape}
 use Rattle.dr_ring.specs.Meaning.Words.{halt_word, count_word}
@@ -124,6 +126,7 @@ pub record Scanned (r s t e : SenderRecord) (xs : List Look) (n q needed : ℕ) 
   pub size : (0 < q) × (q ≤ r.plan.size)
   pub limit : n + q ≤ r.plan.limit
   pub few : r.plan.limit ≤ 2 ^ 62
+  pub made : IsSize r.plan.size
 
 module _ {r s t e : SenderRecord} {xs : List Look} {n q needed : ℕ} (S : Scanned r s t e xs n q needed) where
   scanned : LooksAtFinals r (look halt_word 0 ∷ xs) t
@@ -168,6 +171,7 @@ module _ {r s t e : SenderRecord} {xs : List Look} {n q needed : ℕ} (S : Scann
         );
         only = only ∙ ap (λ (x : Sent Event). record r { sent = x; looks = r.looks ++ look halt_word 0 ∷ gate_looks r H.counts }) (sym sent);
         few = S.few;
+        size = S.made;
       })
 
   -- the last look found the ring halted
@@ -186,6 +190,7 @@ module _ {r s t e : SenderRecord} {xs : List Look} {n q needed : ℕ} (S : Scann
         looks = inr (record { limit = (let next = S.next in let limit = S.limit in omega arith); counts = E.counts; room = room least E; saw = refl });
         only = only ∙ ap (λ (x : Sent Event). record r { sent = x; looks = r.looks ++ seen }) (sym sent);
         few = S.few;
+        size = S.made;
       })
 
   pub claim_accepted : (u : SenderRecord) (least : ℕ) (c : Claimed) → IsEnough s xs needed least → u ≡ halt_looked t q 0 → c ≡ record { lo = n; hi = n + q - 1 }
@@ -208,19 +213,22 @@ module _ {r s t e : SenderRecord} {xs : List Look} {n q needed : ℕ} (S : Scann
         looks = (E.counts, room least E, refl);
         only = only ∙ ap (λ (x : Sent Event). record r { sent = x; looks = r.looks ++ seen }) (sym sent);
         few = S.few;
+        size = S.made;
       })
 
 -- What a claim answers is what every end's claim answers.
-no_none : (n size : ℕ) → ((n == 0) || nat_lt size n) ≡ false → (n == 0) ≡ false
-no_none zero size e = absurd (cc)
-no_none (suc n) size e = ne_eqb (suc n) 0 (λ z. omega arith)
 
-pub claim_of_end : (r : SenderRecord) (n : ℕ) (refusal : Refusal) → r.plan.limit ≤ 2 ^ 62 → IsFirst MayHold MayFail refusal (claim_causes (tests_of_claim r n))
+pub claim_of_end : (r : SenderRecord) (n : ℕ) (refusal : Refusal) → r.plan.limit ≤ 2 ^ 62 → IsSize r.plan.size → IsFirst MayHold MayFail refusal (claim_causes (tests_of_claim r n))
     → IsFirst MayHold MayFail refusal (claim_causes (claim_tests (Some r.sent) n))
-claim_of_end r n refusal few (inl h) = inl h
-claim_of_end r n refusal few (inr (a, inl h)) = inr (a, inl (tt, h.1))
-claim_of_end r n refusal few (inr (a, inr (b, inl h))) = inr (a, inr (no_none n r.plan.size b, inl h))
-claim_of_end r n refusal few (inr (a, inr (b, inr (c, inl h)))) = inr (a, inr (no_none n r.plan.size b, inr (c, inl (tt, h.1))))
-claim_of_end r n refusal few (inr (a, inr (b, inr (c, inr (d, inl h))))) =
-    inr (a, inr (no_none n r.plan.size b, inr (c, inr (le-ltb (2 ^ 62) (claimed r + n) (let within = ltb-false r.plan.limit (claimed r + n) d in omega arith), inl h))))
-claim_of_end r n refusal few (inr (a, inr (b, inr (c, inr (d, inr h))))) = absurd h.1
+claim_of_end r n refusal few is (inl h) = inl h
+claim_of_end r n refusal few is (inr (a, inl h)) = inr (a, inl (bad_is_not_one n r.plan.size is h.0, h.1))
+claim_of_end r n refusal few is (inr (a, inr (b, inl h))) = inr (a, inr (good_is_never_bad n r.plan.size is b, inl h))
+claim_of_end r n refusal few is (inr (a, inr (b, inr (c, inl h)))) = inr (a, inr (good_is_never_bad n r.plan.size is b, inr (c, inl (tt, h.1))))
+claim_of_end r n refusal few is (inr (a, inr (b, inr (c, inr (d, inl h))))) =
+    inr (a, inr (good_is_never_bad n r.plan.size is b, inr (c, inr (le-ltb (2 ^ 62) (claimed r + n) (let within = ltb-false r.plan.limit (claimed r + n) d in omega arith), inl h))))
+claim_of_end r n refusal few is (inr (a, inr (b, inr (c, inr (d, inr h))))) = absurd h.1
+
+pub claim_given : (r : SenderRecord) (n : ℕ) → r.plan.limit ≤ 2 ^ 62 → IsSize r.plan.size → NoneHolds MayFail (claim_causes (tests_of_claim r n))
+    → NoneHolds MayFail (claim_causes (claim_tests (Some r.sent) n))
+claim_given r n few is (a, (b, (c, (d, e)))) =
+    (a, (good_is_never_bad n r.plan.size is b, (c, (le-ltb (2 ^ 62) (claimed r + n) (let within = ltb-false r.plan.limit (claimed r + n) d in omega arith), e))))

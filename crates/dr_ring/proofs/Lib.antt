@@ -24,3 +24,4 @@ pub mod Fronts
 pub mod Writings
 pub mod Replies
 pub mod Rising
+pub mod Later

@@ -151,7 +151,7 @@ module _ (k : Shape) (w : World) (K : KeepsRule k w) where
     ),
   )
 
-  at_front : front m ≡ length w.sender.sent.published
+  pub at_front : front m ≡ length w.sender.sent.published
   at_front =
       let cursor = K.counts.cursor in
       shown_front k (claimed w.sender) (values_of w.sender.sent.published w.sender.sent.pending) (word_at w.words cursor_word) (map taken_of w.receivers)

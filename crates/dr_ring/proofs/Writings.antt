@@ -7,7 +7,9 @@ use Rattle.dr_core.proofs.ManyWrites.{below_more, answer_before, written_more}
 use Rattle.dr_ring.specs.declared.record.SenderRecord.{SenderRecord}
 use Rattle.dr_ring.specs.declared.record.Step.{Step}
 use Rattle.dr_ring.specs.declared.record.Step.TheVariants.{SenderStoresFirst, SenderStoresSecond}
+use Rattle.dr_runs.specs.Runs.{IsBeginning}
 use Rattle.dr_ring.specs.Calls.Ends.{SenderEnd, sender_place}
+use Rattle.dr_ring.proofs.Stations.{begins_same, begins_on}
 use Rattle.dr_ring.specs.Calls.Sending.{OnlySends, WriteCall, writes_from}
 
 -- a sender has written the first k of some events
@@ -17,9 +19,10 @@ pub record WroteFirst (e : SenderEnd) (lo : ℕ) (events : List Event) (k : ℕ)
   pub sent : WritesAll lo (take k events) e.knows.sent e'.knows.sent
   pub only : OnlySends e.knows e'.knows
   pub stored : e'.stored ≡ e.stored ++ writes_from lo (take k events)
+  pub past : IsBeginning e.past e'.past
 
 pub wrote_none : (e : SenderEnd) (lo : ℕ) (events : List Event) → WroteFirst e lo events 0 e
-wrote_none e lo events = record { place = refl; answers = λ j lt. absurd (omega arith); sent = refl; only = refl; stored = sym (append-nil e.stored) }
+wrote_none e lo events = record { place = refl; answers = λ j lt. absurd (omega arith); sent = refl; only = refl; stored = sym (append-nil e.stored); past = begins_same e.past }
 
 -- what another sender's record has besides what it sent
 only_more : (a b c : SenderRecord) → OnlySends a b → OnlySends b c → OnlySends a c
@@ -46,6 +49,7 @@ wrote_more e a b lo k s events d event less at is W C =
           (subst (λ (n : ℕ). WriteAnswers (Some e.knows.sent) n (Ok tt)) at (answer_before lo s (take k events) (Ok tt) (Some e.knows.sent) (Some a.knows.sent) W.sent C.1.0));
       sent = written_more lo k s events d event less at is (Some e.knows.sent) (Some a.knows.sent) (Some b.knows.sent) W.sent C.1.1;
       only = only_more e.knows a.knows b.knows W.only C.1.2;
+      past = begins_on e.past a.past b.past W.past C.3;
       stored =
           C.2 ∙ ap (λ (xs : List Step). xs ++ steps s) W.stored ∙ append_assoc e.stored (writes_from lo (take k events)) (steps s)
           ∙ ap (λ (n : ℕ). e.stored ++ (writes_from lo (take k events) ++ steps n)) place

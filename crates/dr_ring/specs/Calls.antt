@@ -3,6 +3,7 @@ pub mod Settling
 pub mod Plans
 pub mod Fault
 pub mod Ends
+pub mod Finds
 pub mod Sending
 pub mod Receiving
 pub mod Making

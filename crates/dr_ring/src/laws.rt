@@ -3,7 +3,8 @@
 //! Each end has a station, which is what its steps need, and each kind of step is one function of
 //! a station (the halter's is [`halt`](crate::Halter::halt)): one load or one store of one word. Its
 //! contract gives what the end knows afterwards from what it knew before and the word loaded or
-//! stored, by the same definition as the step has in [`moments`].
+//! stored, by the same definition as the step has in [`moments`]. So who writes a loop of their own
+//! has the steps themselves ([`into_station`](crate::Sender::into_station)), and the theorem.
 
 mod halter;
 mod receiver;
@@ -15,22 +16,23 @@ ghost use Rattle.std.specs.Prelude.{List, ℕ, ◌≡◌, ◌<◌, ◌≤◌, sl
 ghost use Rattle.dr_graph.specs.Meaning.Graph.{IsGraph};
 ghost use Rattle.dr_core.specs.Meaning.Transcript.{Transcript, LeadsTo};
 ghost use Rattle.dr_core.specs.Meaning.Laws.{Laws};
+ghost use Rattle.dr_core.specs.Meaning.Progress.{NobodyIsStuck};
 ghost use Rattle.dr_ring.specs.Meaning.Shape.{Shape, ring_setup, handlers_of};
 ghost use Rattle.dr_ring.specs.Meaning.Words.{halt_word, count_word};
 ghost use Rattle.dr_ring.specs.Meaning.Records.{claimed};
 ghost use Rattle.dr_ring.specs.Meaning.Rule.{World, KeepsRule};
 ghost use Rattle.dr_ring.specs.declared.record.Step.{Step};
 ghost use Rattle.dr_ring.specs.Meaning.Moments.{Runs, new_world, picture_of};
-ghost use Rattle.dr_ring.specs.Calls.Replies.{RepliesAsAnswered};
+ghost use Rattle.dr_ring.specs.Calls.Replies.{RepliesAsAnswered, HandsWhatWasThere};
 
 use crate::plan::Plan;
 use crate::record::View;
 use atomic_table::{Seat, Shared, Table, TableRule};
-use dr_core::every_transcript_is_lawful;
+use dr_core::{every_transcript_is_lawful, nobody_is_stuck};
 use dr_seq::Event;
 pub use halter::Halter;
-pub(crate) use receiver::ReceiverStation;
-pub(crate) use sender::SenderStation;
+pub use receiver::ReceiverStation;
+pub use sender::SenderStation;
 use std::alloc::Global;
 use std::marker::Brand;
 
@@ -73,18 +75,22 @@ impl Names for Brand {
 }
 
 /// Whatever steps fall in whatever order: between any two of them the rule holds, the entries of
-/// their events lead the machine to the ring's picture, and the transcript has the five laws. What
-/// an end answers by what it knows, and by what the deciding look finds, is what the machine then
-/// replies on the picture. No handler's count falls, so what the last look of a claim without room
-/// finds was so already at its first. Once a ring is halted, nothing more is claimed. It does nothing when it runs: the contract is the
-/// theorem.
+/// their events lead the machine to the ring's picture, in which nobody is stuck, and the
+/// transcript has the five laws. What an end answers by what it knows, and by what the deciding
+/// look finds, is what the machine then replies on the picture. A poll hands over at least what the
+/// picture had at any moment since its receiver last stepped. No handler's count falls, so what the
+/// last look of a claim without room finds was so already at its first. Once a ring is halted,
+/// nothing more is claimed. It does nothing when it runs: the contract is the theorem.
 pub fn moments()
     ensures rule { (k : Shape) (steps : List Step) (entries : Transcript Event) (w : World) → IsGraph k.upstreams → 0 < k.size → Runs k steps entries (new_world k) w → KeepsRule k w }
     ensures leads { (k : Shape) (steps : List Step) (entries : Transcript Event) (w : World) → IsGraph k.upstreams → 0 < k.size → Runs k steps entries (new_world k) w → LeadsTo (ring_setup k) entries (picture_of k w) }
     ensures laws { (k : Shape) (steps : List Step) (entries : Transcript Event) (w : World) → IsGraph k.upstreams → 0 < k.size → Runs k steps entries (new_world k) w → Laws (ring_setup k) entries }
+    ensures progress { (k : Shape) (steps : List Step) (entries : Transcript Event) (w : World) → IsGraph k.upstreams → 0 < k.size → Runs k steps entries (new_world k) w → NobodyIsStuck (ring_setup k) (picture_of k w) }
     ensures replies { (k : Shape) (steps : List Step) (entries : Transcript Event) (w : World) → IsGraph k.upstreams → 0 < k.size → Runs k steps entries (new_world k) w → RepliesAsAnswered k w }
+    ensures hands { (k : Shape) (steps more : List Step) (entries rest : Transcript Event) (w u : World) → IsGraph k.upstreams → 0 < k.size → Runs k steps entries (new_world k) w → Runs k more rest w u → HandsWhatWasThere k w u }
     ensures rises { (k : Shape) (steps more : List Step) (entries rest : Transcript Event) (w u : World) → IsGraph k.upstreams → 0 < k.size → Runs k steps entries (new_world k) w → Runs k more rest w u → (f : ℕ) → f < handlers_of k → slice_index w.words (count_word f) ≤ slice_index u.words (count_word f) }
     ensures halted { (k : Shape) (steps more : List Step) (entries rest : Transcript Event) (w u : World) → IsGraph k.upstreams → 0 < k.size → Runs k steps entries (new_world k) w → Runs k more rest w u → slice_index w.words halt_word ≡ 1 → claimed u.sender ≡ claimed w.sender }
 {
     every_transcript_is_lawful::<Event>();
+    nobody_is_stuck::<Event>();
 }

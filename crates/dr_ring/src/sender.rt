@@ -43,6 +43,7 @@ impl Sender {
     /// The causes of a refusal in their order: `BadCount` (none, or more than the size), `Halted`,
     /// `Exhausted`, `NoRoom`, and `Halted` once more. A refused claim may have looked, and changes
     /// nothing else.
+    #[tactic(auto, using(crate::proofs::Stations::begins_same, crate::proofs::Stations::begins_on))]
     pub fn try_claim(&mut self, n: u64) -> Result<Claimed, Refusal>
         ensures { ClaimCall self.old n self.new result }
     {
@@ -76,6 +77,7 @@ impl Sender {
     /// written before.
     ///
     /// Refusals in their order: `NotClaimed`, `AlreadyPublished`. They change nothing.
+    #[tactic(auto, using(crate::proofs::Stations::begins_same, crate::proofs::Stations::begins_on))]
     pub fn write(&mut self, sequence: u64, event: Event) -> Result<(), Refusal>
         ensures { WriteCall self.old sequence event self.new result }
     {
@@ -98,6 +100,7 @@ impl Sender {
     ///
     /// Refusals in their order: `BadCount` (`lo` above `hi`), `NotClaimed`, `AlreadyPublished`,
     /// `NotWritten`, `OutOfOrder`. They change nothing.
+    #[tactic(auto, using(crate::proofs::Stations::begins_same, crate::proofs::Stations::begins_on))]
     pub fn publish(&mut self, lo: u64, hi: u64) -> Result<(), Refusal>
         ensures { PublishCall self.old lo hi self.new result }
     {
@@ -126,6 +129,7 @@ impl Sender {
     /// all of them is told `Drained`. It may be repeated.
     ///
     /// It is refused with `OpenClaim`, and changes nothing, while a claimed sequence is unpublished.
+    #[tactic(auto, using(crate::proofs::Stations::begins_same, crate::proofs::Stations::begins_on))]
     pub fn close(&mut self) -> Result<(), Refusal>
         ensures { CloseCall self.old self.new result }
     {
@@ -142,6 +146,14 @@ impl Sender {
         ensures { result ≡ looks_counted self.now.knows.looks }
     {
         self.station.looks
+    }
+
+    /// The sender's steps, one a function, for who writes a loop of their own.
+    pub fn into_station(self) -> SenderStation
+        ensures { result ≡ self }
+    {
+        let Sender { station, .. } = self;
+        station
     }
 }
 
@@ -172,6 +184,7 @@ impl Inlet<Event> for Sender {
         Ok(Sender::write(self, s, event)?)
     }
 
+    #[tactic(auto, using(crate::proofs::Stations::begins_same, crate::proofs::Stations::begins_on))]
     fn write_all(&mut self, lo: u64, events: &[Event]) -> Wrote
         requires limit { lo + length events.now ≤ 2 ^ 62 }
         ensures kept { sender_place self.new ≡ sender_place self.old }

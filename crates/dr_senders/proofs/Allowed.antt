@@ -28,7 +28,8 @@ use Rattle.dr_senders.specs.Meaning.Records.{Owns, half_written, written, publis
 use Rattle.dr_senders.specs.Meaning.Rule.{World, KeepsRule}
 use Rattle.dr_senders.specs.Meaning.Steps.{Happens, sender_knows, sender_claims, sender_brings, receiver_knows, halted_words}
 use Rattle.dr_runs.specs.Seats.{end_of, seat_at, alone}
-use Rattle.dr_senders.specs.Inside.Seats.{End, Sitting, ring_ends, Loads, Stores, Ruled, end_number, Stands, sender_of, receiver_of, halter_of, IsSender, IsReceiver, IsHalter, FindsEvents, SenderLooked, SenderClaimed, SenderStoredFirst, SenderStoredSecond, SenderPublished, SenderHalted, ReceiverLookedAtClaims, ReceiverLookedAtMark, ReceiverLookedAtCount, ReceiverLoadedFirst, ReceiverLoadedSecond, ReceiverCompleted, HalterHalted, IsEarlier, FindsMark, SenderLookedAtMark}
+use Rattle.dr_senders.specs.Inside.Seats.{End, Sitting, ring_ends, Loads, Stores, Ruled, end_number, Stands, sender_of, receiver_of, halter_of, IsSender, IsReceiver, IsHalter, SenderLooked, SenderClaimed, SenderStoredFirst, SenderStoredSecond, SenderPublished, SenderHalted, ReceiverLookedAtClaims, ReceiverLookedAtMark, ReceiverLookedAtCount, ReceiverLoadedFirst, ReceiverLoadedSecond, ReceiverCompleted, HalterHalted, SenderLookedAtMark}
+use Rattle.dr_senders.specs.Calls.Finds.{FindsEvents, IsEarlier, FindsMark}
 use Rattle.atomic_table.proofs.Lists.{set_here, at_longer}
 use Rattle.dr_senders.proofs.Places.{word_at, last_look_le, claimed_low}
 use Rattle.dr_senders.proofs.Facts.{taken_claimed, handler_inside, upstream_inside, receiver_of_handler, near_open, owned}

@@ -24,6 +24,8 @@ use Rattle.dr_senders.specs.declared.record.Step.TheVariants.{SenderPublishes}
 use Rattle.dr_senders.specs.declared.owned.Owned.{Owned}
 use Rattle.dr_senders.specs.Meaning.Records.{Owns, half_written, written, published, own_after, brought, mark_found}
 use Rattle.dr_senders.specs.Calls.Ends.{SenderEnd, Stays, HasLoaded, HasStored}
+use Rattle.dr_runs.specs.Runs.{IsBeginning}
+use Rattle.dr_senders.proofs.Stations.{begins_same, begins_on}
 use Rattle.dr_senders.specs.Calls.Writing.{Sight, Has, Found, Never, Unasked, IsSight, marks_of, sight_tests, WriteCall, Reach, Inside, Outside, Looked, IsReach, reach_looks, reach_unclaimed, IsReady, PublishLooks, stretch_tests, tests_of_publication, published_between, publications, PublishCall}
 use Rattle.dr_senders.specs.Inside.Fits.{is_ready, SenderFits}
 use Rattle.dr_senders.specs.Inside.Parts.{HasWritten, HasPublished, Reaches, RefusesBy, AreWhole}
@@ -48,6 +50,7 @@ write_never e s event past = record {
   answer = inr (refl, inl (refl, refl));
   knows = found_nothing e.knows;
   stored = refl;
+  past = begins_same e.past;
 }
 
 -- what is answered by a mark
@@ -67,6 +70,7 @@ write_refused e e' o s event refusal F unmarked R = record {
   answer = by_mark (nat_le (entry_of e.plan.size s) R.0) refusal R.3;
   knows = R.1.1;
   stored = R.1.3;
+  past = R.1.2;
 }
 
 pub write_late : (e : SenderEnd) (o : Owned) (s : ℕ) (event : Event) → SenderFits e.plan e.knows o → is_marked o.claimed s ≡ true
@@ -80,6 +84,7 @@ write_late e o s event F mine shown = let x = F.own s mine in record {
   answer = inr (refl, inr (refl, inl (F.shown s x.0 x.1 mine ∙ shown, refl)));
   knows = found_nothing e.knows;
   stored = refl;
+  past = begins_same e.past;
 }
 
 -- a sequence of its own that is not published
@@ -125,6 +130,7 @@ write_done e e' o s event F mine hidden W = let x = open_own e.plan e.knows o s 
   answer = (refl, (refl, (x.2, (refl, tt))));
   knows = W.1 ∙ wrote_once e.knows s event.first event;
   stored = W.3;
+  past = W.2;
 }
 
 -- A publication.
@@ -138,6 +144,7 @@ publish_bad e lo hi lt = record {
   all = tt;
   knows = looked_nowhere e.knows;
   stored = refl;
+  past = begins_same e.past;
 }
 
 pub publish_never : (e : SenderEnd) (lo hi : ℕ) → lo ≤ hi → e.plan.limit ≤ hi → PublishCall e lo hi e (Err NotClaimed)
@@ -149,6 +156,7 @@ publish_never e lo hi order past = record {
   all = tt;
   knows = looked_nowhere e.knows;
   stored = refl;
+  past = begins_same e.past;
 }
 
 -- how a sender found whether the last sequence is claimed
@@ -158,6 +166,7 @@ pub record Reached (e : SenderEnd) (hi : ℕ) (e' : SenderEnd) (is : Bool) : Typ
   pub stays : Stays e e'
   pub knows : e'.knows ≡ record e.knows { looks = e.knows.looks ++ reach_looks reach }
   pub stored : e'.stored ≡ e.stored
+  pub past : IsBeginning e.past e'.past
   pub unclaimed : reach_unclaimed hi reach ≡ Exactly (not is)
 
 not_within : (a b : ℕ) → nat_le b a ≡ not (nat_lt a b)
@@ -174,6 +183,7 @@ reached e e' o hi true is F mine below R = record {
   stays = R.0.0;
   knows = R.0.1 ∙ ap (λ (xs : List Look). record e.knows { looks = xs }) (sym (append-nil e.knows.looks));
   stored = R.0.3;
+  past = R.0.2;
   unclaimed = ap (λ (b : Bool). Exactly (not b)) (sym R.1);
 }
 reached e e' o hi false is F mine below R = record {
@@ -182,6 +192,7 @@ reached e e' o hi false is F mine below R = record {
   stays = R.1.0;
   knows = R.1.1;
   stored = R.1.3;
+  past = R.1.2;
   unclaimed = ap (λ (b : Bool). Exactly b) (not_within hi (claimed_in R.0)) ∙ ap (λ (b : Bool). Exactly (not b)) (sym R.2);
 }
 
@@ -194,6 +205,7 @@ publish_unclaimed e e' lo hi order R = record {
   all = tt;
   knows = R.knows ∙ (let r : SenderRecord = record e.knows { looks = e.knows.looks ++ reach_looks R.reach } in found_nothing r);
   stored = R.stored;
+  past = R.past;
 }
 
 -- the tests of a stretch, of which one sequence alone was asked
@@ -242,9 +254,9 @@ module _ (k : Shape) (lo : ℕ) (seen : PublishLooks) where
 pub publish_stops : (e a e' : SenderEnd) (lo hi stop : ℕ) (x : Sight) (refusal : Refusal) → lo ≤ stop → stop ≤ hi → Reached e hi a true
     → ((s : ℕ) → lo ≤ s → s < stop → IsReady e.knows s)
     → IsSight e.plan e.knows stop x → IsFirst MayHold MayFail refusal (sequence_causes (sight_tests e.plan stop x)) → Stays a e'
-    → e'.knows ≡ record a.knows { marks = a.knows.marks ++ marks_of e.plan stop x } → e'.stored ≡ a.stored
+    → e'.knows ≡ record a.knows { marks = a.knows.marks ++ marks_of e.plan stop x } → e'.stored ≡ a.stored → IsBeginning a.past e'.past
     → PublishCall e lo hi e' (Err refusal)
-publish_stops e a e' lo hi stop x refusal low high R ready sight first stays knows stored =
+publish_stops e a e' lo hi stop x refusal low high R ready sight first stays knows stored past =
     let at : lo + (stop - lo) ≡ stop = omega arith in let seen : PublishLooks = record { reach = R.reach; ready = stop - lo; stop = x } in record {
       stays = (stays.0 ∙ R.stays.0, stays.1 ∙ R.stays.1);
       seen = seen;
@@ -256,6 +268,7 @@ publish_stops e a e' lo hi stop x refusal low high R ready sight first stays kno
           knows ∙ ap (λ (q : SenderRecord). record q { marks = q.marks ++ marks_of e.plan stop x }) R.knows
           ∙ ap (λ (s : ℕ). record e.knows { marks = e.knows.marks ++ marks_of e.plan s x; looks = e.knows.looks ++ reach_looks R.reach }) (sym at);
       stored = stored ∙ R.stored;
+      past = begins_on e.past a.past e'.past R.past past;
     }
 
 by_sequence_mark : (b : Bool) (refusal : Refusal) → refusal ≡ (if b then AlreadyPublished else NotClaimed)
@@ -304,18 +317,18 @@ module _ (e a : SenderEnd) (o : Owned) (lo hi stop : ℕ) (F : SenderFits e.plan
       (λ t mine. let shown = F.old stop t mine unmarked in
       (shown, subst (λ (k : Shape). entry_of k.size stop ≤ B.0) plan (B.2 t (owns_same e.knows a.knows stop t own mine) shown)))
       (by_sequence_mark (nat_le (entry_of e.plan.size stop) B.0) refusal (B.3 ∙ ap (λ (k : Shape). if nat_le (entry_of k.size stop) B.0 then AlreadyPublished else NotClaimed) plan))
-      B.1.0 (B.1.1 ∙ ap (λ (k : Shape). mark_found a.knows (mark_word k stop) B.0) plan) B.1.3
+      B.1.0 (B.1.1 ∙ ap (λ (k : Shape). mark_found a.knows (mark_word k stop) B.0) plan) B.1.3 B.1.2
 
   pub publish_late : is_marked o.claimed stop ≡ true → is_marked o.published stop ≡ true → PublishCall e lo hi a (Err AlreadyPublished)
   publish_late mine shown = let x = F.own stop mine in
-      publish_stops e a a lo hi stop (Has x.0) AlreadyPublished front.low high R before x.1 (inl (F.shown stop x.0 x.1 mine ∙ shown, refl)) (refl, refl) (found_nothing a.knows) refl
+      publish_stops e a a lo hi stop (Has x.0) AlreadyPublished front.low high R before x.1 (inl (F.shown stop x.0 x.1 mine ∙ shown, refl)) (refl, refl) (found_nothing a.knows) refl (begins_same a.past)
 
   pub publish_unwritten : is_marked o.claimed stop ≡ true → is_marked o.published stop ≡ false → PublishCall e lo hi a (Err NotWritten)
   publish_unwritten mine hidden =
       let x = F.own stop mine in
       let unwritten = unready_part (is_marked o.claimed stop) (is_marked o.published stop) (is_marked o.written stop) (front.here (omega arith)) mine hidden in
       publish_stops e a a lo hi stop (Has x.0) NotWritten front.low high R before x.1
-      (inr (F.shown stop x.0 x.1 mine ∙ hidden, inr (refl, inl (F.event stop x.0 x.1 mine ∙ ap not unwritten, refl)))) (refl, refl) (found_nothing a.knows) refl
+      (inr (F.shown stop x.0 x.1 mine ∙ hidden, inr (refl, inl (F.event stop x.0 x.1 mine ∙ ap not unwritten, refl)))) (refl, refl) (found_nothing a.knows) refl (begins_same a.past)
 
 -- a sender that has the last sequence looked at nothing
 pub stood : (e a : SenderEnd) (o : Owned) (hi : ℕ) (own is : Bool) → own ≡ is_marked o.claimed hi → is_ready o hi ≡ true → Reaches e own hi a is
@@ -337,6 +350,7 @@ publish_done e a e' o lo hi stop F L front order past P =
       all = omega arith;
       knows = P.1 ∙ ap (λ (q : SenderRecord). published_between q lo (hi + 1)) L.1;
       stored = P.3 ∙ ap (λ (xs : List Step). xs ++ publications a.knows.number lo n) L.3 ∙ ap (λ (q : SenderRecord). e.stored ++ publications q.number lo n) L.1;
+      past = begins_on e.past a.past e'.past L.2 P.2;
     }
 
 -- The loop that publishes.

@@ -2,6 +2,7 @@
 use Rattle.std.proofs.Common.{◌≡◌, ◌≢◌, ℕ, ◌+◌, ◌-◌, ◌<◌, ◌≤◌, inl, inr, Bool, true, false, if◌then◌else◌, List, [], ◌∷◌, ◌++◌, refl, ap, ◌∙◌, subst, arith, append_assoc}
 use Rattle.std.specs.Prelude.{◌^◌, Ok, Err}
 use Rattle.std.proofs.lemmas.Bool.{eq-eqb, ne_eqb, le-leb, lt-leb}
+use Rattle.dr_seq.specs.Size.{IsSize}
 use Rattle.dr_core.specs.declared.refusal.Refusal.TheVariants.{Halted}
 use Rattle.dr_graph.specs.Meaning.Graph.{finals}
 use Rattle.dr_ring.specs.declared.record.Look.{Look}
@@ -13,9 +14,11 @@ use Rattle.dr_senders.specs.declared.record.Step.{Step}
 use Rattle.dr_senders.specs.declared.record.Step.TheVariants.{SenderClaims}
 use Rattle.dr_senders.specs.declared.claiming.ClaimFault.TheVariants.{Refused, Contended}
 use Rattle.dr_senders.specs.Meaning.Records.{sender_looked, claimed_from, SeesRoom, Owns}
+use Rattle.dr_runs.specs.Runs.{IsBeginning}
+use Rattle.dr_senders.proofs.Stations.{begins_on}
 use Rattle.dr_senders.specs.Calls.Ends.{SenderEnd, HasLoaded, HasStored, Stays, count_looks}
 use Rattle.dr_senders.specs.Calls.Sending.{gate_looks, FoundRoom, ClaimCall, knows_after, IsCount}
-use Rattle.dr_senders.specs.Inside.Seats.{after_exchange, IsEarlier}
+use Rattle.dr_senders.specs.Calls.Finds.{after_exchange, IsEarlier}
 use Rattle.dr_senders.specs.Inside.Parts.{sender_saw, IsEnough, Scans, ClaimsApart}
 use Rattle.dr_senders.proofs.Scanning.{seen_high}
 use lib.ListN.{get_elem?}
@@ -79,14 +82,16 @@ pub record Tried (e : SenderEnd) (n c found : ℕ) (e' : SenderEnd) : Type 0 whe
   pub looked : middle ≡ sender_saw e.knows (first_looks e.plan c counts)
   pub knows : e'.knows ≡ after_exchange middle c n found
   pub stored : e'.stored ≡ e.stored ++ SenderClaims e.knows.number c n ∷ []
+  pub past : IsBeginning e.past e'.past
   pub few : e.plan.limit ≤ 2 ^ 62
+  pub size : IsSize e.plan.size
 
 pub tried : (e a b e' : SenderEnd) (n c need found : ℕ) → HasLoaded e (sender_looked e.knows claim_word c) a → HasLoaded a b.knows b
     → Scans a.plan a.knows need b.knows true
     → HasStored b (SenderClaims b.knows.number c n) (after_exchange b.knows c n found) e' → IsCount e.plan n → c < 9223372036854775808 → c + n ≤ e.plan.limit
-    → need ≡ c + n - e.plan.size → e.plan.limit ≤ 2 ^ 62
+    → need ≡ c + n - e.plan.size → e.plan.limit ≤ 2 ^ 62 → IsSize e.plan.size
     → Tried e n c found e'
-tried e a b e' n c need found A B S C counted low limit is few =
+tried e a b e' n c need found A B S C counted low limit is few size =
     let scan : Scans e.plan a.knows need b.knows true = subst (λ (k : Shape). Scans k a.knows need b.knows true) A.0.1 S in
     let mid = looked_first e.plan e.knows a.knows b.knows c scan.0 A.1 scan.1 in record {
       stays = (C.0.0 ∙ B.0.0 ∙ A.0.0, C.0.1 ∙ B.0.1 ∙ A.0.1);
@@ -98,7 +103,9 @@ tried e a b e' n c need found A B S C counted low limit is few =
       knows = C.1;
       stored = C.3 ∙ ap (λ (xs : List Step). xs ++ SenderClaims b.knows.number c n ∷ []) (B.3 ∙ A.3)
           ∙ ap (λ (q : SenderRecord). e.stored ++ SenderClaims q.number c n ∷ []) mid;
+      past = begins_on e.past b.past e'.past (begins_on e.past a.past b.past A.2 B.2) C.2;
       few = few;
+      size = size;
     }
 
 pub claim_given : (e e' : SenderEnd) (n c hi found : ℕ) → Tried e n c found e' → found ≡ c → hi ≡ c + n - 1 → ClaimCall e n e' (Ok record { lo = c; hi = hi })
@@ -110,7 +117,9 @@ claim_given e e' n c hi found T same last = record {
   knows = hit e.knows T.middle e'.knows (first_looks e.plan c T.counts) c hi n found T.looked T.knows same;
   steps = SenderClaims e.knows.number c n ∷ [];
   stored = T.stored;
+  past = T.past;
   few = T.few;
+  size = T.size;
 }
 
 pub claim_halted : (e e' : SenderEnd) (n c found : ℕ) → Tried e n c found e' → found ≢ c → 9223372036854775808 ≤ found → ClaimCall e n e' (Err (Refused Halted))
@@ -122,7 +131,9 @@ claim_halted e e' n c found T other high = record {
   knows = missed e.knows T.middle e'.knows (first_looks e.plan c T.counts) c n found T.looked T.knows other;
   steps = SenderClaims e.knows.number c n ∷ [];
   stored = T.stored;
+  past = T.past;
   few = T.few;
+  size = T.size;
 }
 
 pub claim_contended : (e e' : SenderEnd) (n c found : ℕ) → Tried e n c found e' → found ≢ c → found < 9223372036854775808 → ClaimCall e n e' (Err Contended)
@@ -134,7 +145,9 @@ claim_contended e e' n c found T other low = record {
   knows = missed e.knows T.middle e'.knows (first_looks e.plan c T.counts) c n found T.looked T.knows other;
   steps = SenderClaims e.knows.number c n ∷ [];
   stored = T.stored;
+  past = T.past;
   few = T.few;
+  size = T.size;
 }
 
 -- what an exchange tells of the sequences that the sender had

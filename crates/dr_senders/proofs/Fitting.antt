@@ -21,7 +21,7 @@ use Rattle.dr_senders.specs.Calls.Ends.{SenderEnd, Stays}
 use Rattle.dr_senders.specs.Calls.Sending.{IsCount, ClaimCall}
 use Rattle.dr_senders.specs.Calls.Writing.{published_between}
 use Rattle.dr_senders.specs.Inside.Parts.{ClaimsApart}
-use Rattle.dr_senders.specs.Inside.Seats.{IsEarlier}
+use Rattle.dr_senders.specs.Calls.Finds.{IsEarlier}
 use Rattle.dr_senders.specs.Inside.Fits.{SenderFits}
 use Rattle.atomic_table.proofs.Lists.{at_longer}
 use Rattle.dr_senders.proofs.Places.{more_right, more_cases}

@@ -121,10 +121,10 @@ leads_one : (k : Shape) (command : Command Event) (reply : Reply) (values : List
 leads_one k command reply values m n is = (ap (λ (o : Outcome Event). o.reply) is, ap (λ (o : Outcome Event). o.values) is, ap (λ (o : Outcome Event). o.state) is)
 
 -- the picture, by its parts
-abbrev takens : World → List ℕ
+abbrev pub takens : World → List ℕ
 takens w = map taken_of w.receivers
 
-abbrev halted : List ℕ → Bool
+abbrev pub halted : List ℕ → Bool
 halted words = is_halted (word_at words claim_word)
 
 same_taken : (w : World) (h : ℕ) (r q : ReceiverRecord) → get_elem? w.receivers h ≡ some r → taken_of q ≡ taken_of r

@@ -30,6 +30,7 @@ use Rattle.dr_senders.specs.Calls.Receiving.{tests_of_completion}
 use Rattle.dr_senders.specs.Calls.Replies.{Replies, DecidesRefusal, RepliesAsAnswered}
 use Rattle.dr_senders.proofs.Machine.{at_stage, owner_at}
 use Rattle.dr_senders.proofs.Pictures.{count_at, taken_at}
+use Rattle.dr_senders.proofs.Publications.{publish_replies}
 
 module _ (k : Shape) (w : World) (K : KeepsRule k w) where
   abbrev m : State Event
@@ -110,4 +111,9 @@ module _ (k : Shape) (w : World) (K : KeepsRule k w) where
       ]))
 
   pub replies : RepliesAsAnswered k w
-  replies = record { claim = claim_replies; write = write_replies; complete = complete_replies }
+  replies = record {
+    claim = claim_replies;
+    write = write_replies;
+    publish = λ p lo hi r seen result at sees answer decides. publish_replies k w K p lo hi r seen at sees result answer decides;
+    complete = complete_replies;
+  }

@@ -47,6 +47,7 @@ impl ClaimFault {
 
 impl SenderStation {
     /// Claims the next `n` sequences, as [`Sender::try_claim`](crate::Sender::try_claim) says.
+    #[tactic(auto, using(crate::proofs::Stations::begins_same, crate::proofs::Stations::begins_on))]
     pub(crate) fn try_claim(&mut self, n: u64) -> Result<Claimed, ClaimFault>
         ensures call { ClaimCall self.old n self.new result }
         ensures own { IfOk result (λ c. ClaimsApart self.old c.lo n) }

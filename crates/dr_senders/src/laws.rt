@@ -3,7 +3,8 @@
 //! Each end has a station, which is what its steps need, and each kind of step is one function of
 //! a station (the halter's is [`halt`](crate::Halter::halt)): one atomic change of one word. Its
 //! contract gives what the end knows afterwards from what it knew before and the word found or
-//! stored, by the same definition as the step has in [`moments`].
+//! stored, by the same definition as the step has in [`moments`]. So who writes a loop of their own
+//! has the steps themselves ([`into_station`](crate::Sender::into_station)), and the theorem.
 
 mod halter;
 mod receiver;
@@ -15,21 +16,22 @@ ghost use Rattle.dr_seq.specs.declared.event.Event.{Event};
 ghost use Rattle.dr_seq.specs.Rounds.{entry_of};
 ghost use Rattle.dr_core.specs.Meaning.Transcript.{Transcript, LeadsTo};
 ghost use Rattle.dr_core.specs.Meaning.Laws.{Laws};
+ghost use Rattle.dr_core.specs.Meaning.Progress.{NobodyIsStuck};
 ghost use Rattle.dr_senders.specs.Meaning.Shape.{Shape, IsShape, ring_setup};
 ghost use Rattle.dr_senders.specs.Meaning.Words.{claim_word, mark_word, is_halted};
 ghost use Rattle.dr_senders.specs.Meaning.Rule.{World, KeepsRule};
 ghost use Rattle.dr_senders.specs.declared.record.Step.{Step};
 ghost use Rattle.dr_senders.specs.Meaning.Moments.{Runs, new_world, picture_of, IsShut, RefusesByMark};
-ghost use Rattle.dr_senders.specs.Calls.Replies.{RepliesAsAnswered};
+ghost use Rattle.dr_senders.specs.Calls.Replies.{RepliesAsAnswered, HandsWhatWasThere, NothingFalls};
 
 use crate::plan::Plan;
 use crate::record::View;
 use atomic_table::{Seat, Shared, Table, TableRule};
-use dr_core::every_transcript_is_lawful;
+use dr_core::{every_transcript_is_lawful, nobody_is_stuck};
 use dr_seq::Event;
 pub use halter::Halter;
-pub(crate) use receiver::ReceiverStation;
-pub(crate) use sender::SenderStation;
+pub use receiver::ReceiverStation;
+pub use sender::SenderStation;
 use std::alloc::Global;
 use std::marker::Brand;
 
@@ -76,20 +78,27 @@ impl Names for Brand {
 }
 
 /// Whatever steps fall in whatever order: between any two of them the rule holds, the entries of
-/// their events lead the machine to the ring's picture, and the transcript has the five laws. A
-/// sequence is published exactly where the mark in its slot is of its round or a later one, so one
-/// look at the mark tells it, and with it why the machine refuses a write of a sequence that is not
-/// the sender's own, or is published. A refused claim by what its deciding look finds, a write of
-/// one's own sequence and a completion are answered as the machine then replies on the picture. Once a ring is halted, nothing more is claimed. It does nothing when it
-/// runs: the contract is the theorem.
+/// their events lead the machine to the ring's picture, in which nobody is stuck, and the
+/// transcript has the five laws. A sequence is published exactly where the mark in its slot is of
+/// its round or a later one, so one look at the mark tells it, and with it why the machine refuses
+/// a write of a sequence that is not the sender's own, or is published. A refused claim and a
+/// publication of a whole stretch by what the deciding look finds, a write of one's own sequence
+/// and a completion are answered as the machine then replies on the picture. A poll hands over at
+/// least what the picture had at any moment since its receiver last stepped. No handler's count
+/// falls, and no claim is taken back. Once a ring is halted, nothing more is claimed. It does
+/// nothing when it runs: the contract is the theorem.
 pub fn moments()
     ensures rule { (k : Shape) (steps : List Step) (entries : Transcript Event) (w : World) → IsShape k → Runs k steps entries (new_world k) w → KeepsRule k w }
     ensures leads { (k : Shape) (steps : List Step) (entries : Transcript Event) (w : World) → IsShape k → Runs k steps entries (new_world k) w → LeadsTo (ring_setup k) entries (picture_of k w) }
     ensures laws { (k : Shape) (steps : List Step) (entries : Transcript Event) (w : World) → IsShape k → Runs k steps entries (new_world k) w → Laws (ring_setup k) entries }
+    ensures progress { (k : Shape) (steps : List Step) (entries : Transcript Event) (w : World) → IsShape k → Runs k steps entries (new_world k) w → NobodyIsStuck (ring_setup k) (picture_of k w) }
     ensures marks { (k : Shape) (steps : List Step) (entries : Transcript Event) (w : World) → IsShape k → Runs k steps entries (new_world k) w → (s : ℕ) → ((picture_of k w).published s ≡ true) ↔ (entry_of k.size s ≤ slice_index w.words (mark_word k s)) }
     ensures refused { (k : Shape) (steps : List Step) (entries : Transcript Event) (w : World) → IsShape k → Runs k steps entries (new_world k) w → (p s : ℕ) (event : Event) → p < k.senders → IsShut w p s → RefusesByMark k w p s event }
     ensures replies { (k : Shape) (steps : List Step) (entries : Transcript Event) (w : World) → IsShape k → Runs k steps entries (new_world k) w → RepliesAsAnswered k w }
+    ensures hands { (k : Shape) (steps more : List Step) (entries rest : Transcript Event) (w u : World) → IsShape k → Runs k steps entries (new_world k) w → Runs k more rest w u → HandsWhatWasThere k w u }
+    ensures rises { (k : Shape) (steps more : List Step) (entries rest : Transcript Event) (w u : World) → IsShape k → Runs k steps entries (new_world k) w → Runs k more rest w u → NothingFalls k w u }
     ensures halted { (k : Shape) (steps more : List Step) (entries rest : Transcript Event) (w u : World) → IsShape k → Runs k steps entries (new_world k) w → Runs k more rest w u → is_halted (slice_index w.words claim_word) ≡ true → length u.stages ≡ length w.stages }
 {
     every_transcript_is_lawful::<Event>();
+    nobody_is_stuck::<Event>();
 }

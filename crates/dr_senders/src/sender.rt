@@ -61,6 +61,7 @@ impl Sender {
     ///
     /// Refusals in their order: `NotClaimed` (nobody's), `AlreadyPublished`, `NotClaimed` (another
     /// sender's). They change nothing.
+    #[tactic(auto, using(crate::proofs::Stations::begins_same, crate::proofs::Stations::begins_on))]
     pub fn write(&mut self, sequence: u64, event: Event) -> Result<(), Refusal>
         ensures { WriteCall self.old sequence event self.new result }
     {
@@ -126,6 +127,14 @@ impl Sender {
         ensures { result ≡ looks_counted self.now.knows.looks }
     {
         self.station.looks
+    }
+
+    /// The sender's steps, one a function, for who writes a loop of their own.
+    pub fn into_station(self) -> SenderStation
+        ensures { result ≡ self }
+    {
+        let Sender { station, .. } = self;
+        station
     }
 }
 

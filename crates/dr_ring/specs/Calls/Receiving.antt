@@ -10,6 +10,7 @@ use Rattle.dr_graph.specs.Meaning.Graph.{upstreams_of, least_of}
 use Rattle.dr_ring.specs.Meaning.Words.{cursor_word, closed_word}
 use Rattle.dr_ring.specs.declared.record.ReceiverRecord.{ReceiverRecord}
 use Rattle.dr_ring.specs.declared.record.Step.TheVariants.{ReceiverCompletes}
+use Rattle.dr_runs.specs.Runs.{IsBeginning}
 use Rattle.dr_ring.specs.Calls.Ends.{ReceiverEnd, received_of, receiver_place, count_looks, StoresWhereOk}
 use Rattle.dr_ring.specs.Meaning.Records.{look}
 
@@ -72,7 +73,7 @@ TriesToComplete r n r' result =
     × Completes n (as_end result) (received_of r) (received_of r') × (r' ≡ record r { completed = r'.completed })
 
 abbrev pub PollCall : ReceiverEnd → List Event → ReceiverEnd → List Event → Result Polled Refusal → Type 0
-PollCall e out e' out' result = (receiver_place e' ≡ receiver_place e) × Polls e.knows out e'.knows out' result × (e'.stored ≡ e.stored)
+PollCall e out e' out' result = (receiver_place e' ≡ receiver_place e) × Polls e.knows out e'.knows out' result × (e'.stored ≡ e.stored) × IsBeginning e.past e'.past
 
 abbrev pub CompleteCall : ReceiverEnd → ℕ → ReceiverEnd → Result (Unit {0}) Refusal → Type 0
-CompleteCall e n e' result = (receiver_place e' ≡ receiver_place e) × TriesToComplete e.knows n e'.knows result × StoresWhereOk e.stored (ReceiverCompletes e.knows.number n ∷ []) e'.stored result
+CompleteCall e n e' result = (receiver_place e' ≡ receiver_place e) × TriesToComplete e.knows n e'.knows result × StoresWhereOk e.stored (ReceiverCompletes e.knows.number n ∷ []) e'.stored result × IsBeginning e.past e'.past

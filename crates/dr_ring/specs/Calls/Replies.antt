@@ -1,5 +1,5 @@
 -- What an end of a ring answers is what the machine replies on the ring's picture.
-use Rattle.std.specs.Prelude.{◌≡◌, ℕ, ◌+◌, ◌-◌, ◌<◌, length, slice_index, Some, Result, Ok, Err, Contains}
+use Rattle.std.specs.Prelude.{◌≡◌, ℕ, ◌+◌, ◌-◌, ◌<◌, ◌≤◌, min, List, length, slice_index, Some, Result, Ok, Err, Contains}
 use mathlib.Core.Option.{some}
 use lib.ListN.{get_elem?}
 use Rattle.dr_seq.specs.declared.event.Event.{Event}
@@ -14,6 +14,7 @@ use Rattle.dr_core.specs.declared.command.Polled.{Polled}
 use Rattle.dr_core.specs.declared.command.Polled.TheVariants.{Batch, Drained, Gating, Idle}
 use Rattle.dr_core.specs.Meaning.Refusals.{claim_causes, poll_causes, complete_causes}
 use Rattle.dr_core.specs.Meaning.Machine as machine
+use Rattle.dr_core.specs.Meaning.Machine.{available}
 use Rattle.dr_core.specs.Calls.Shows.{claim_reply, unit_reply, poll_reply}
 use Rattle.dr_core.specs.Calls.Ends.{IsAnswerOf, WriteAnswers, PublishAnswers, as_end}
 use Rattle.dr_graph.specs.Meaning.Graph.{upstreams_of, finals}
@@ -24,7 +25,7 @@ use Rattle.dr_ring.specs.Meaning.Records.{claimed, SeesRoom}
 use Rattle.dr_ring.specs.Meaning.Rule.{World}
 use Rattle.dr_ring.specs.Meaning.Moments.{picture_of}
 use Rattle.dr_ring.specs.Calls.Sending.{tests_of_claim}
-use Rattle.dr_ring.specs.Calls.Receiving.{tests_of_poll, tests_of_completion}
+use Rattle.dr_ring.specs.Calls.Receiving.{tests_of_poll, tests_of_completion, Polls}
 
 -- on the ring's picture the machine replies so
 abbrev pub Replies : Shape → World → Command Event → Reply → Type 0
@@ -50,6 +51,17 @@ DecidesPoll k w r (Ok Gating) =
 DecidesPoll k w r (Ok Idle) =
     (slice_index w.words cursor_word ≡ length r.received) × (slice_index w.words halt_word ≡ 1 → 0 < length w.sender.sent.pending)
 DecidesPoll k w r (Err refusal) = Unit {0}
+
+-- how many events an answer hands over
+abbrev pub handed : Polled → ℕ
+handed (Batch first count last) = count
+handed _ = 0
+
+-- A poll hands over at least what the picture had for its handler at any earlier moment at which its receiver stood as the poll found it, as far as there is room; so where that was more than the handler took, it answers a batch.
+abbrev pub HandsWhatWasThere : Shape → World → World → Type 0
+HandsWhatWasThere k w u =
+    (h : ℕ) (r r' : ReceiverRecord) (out out' : List Event) (polled : Polled) → get_elem? w.receivers h ≡ some r → get_elem? u.receivers h ≡ some r'
+    → Polls r out r' out' (Ok polled) → min (available (ring_setup k) (picture_of k w) h - length r.received) (length out) ≤ handed polled
 
 -- each call of an end, by what the end knows and, where it looks, by what the deciding look finds
 pub record RepliesAsAnswered (k : Shape) (w : World) : Type 0 where

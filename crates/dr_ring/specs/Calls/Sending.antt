@@ -1,5 +1,6 @@
 -- What each call of the sender answers, and what it leaves of what the sender knows.
 use Rattle.std.specs.Prelude.{◌≡◌, ◌≢◌, ℕ, ◌+◌, ◌^◌, ◌<◌, ◌≤◌, ◌⊎◌, ◌==◌, ◌||◌, nat_lt, List, [], ◌∷◌, ◌++◌, length, take, slice_index, Some, Result, Ok, Err}
+use Rattle.dr_seq.specs.Size.{IsSize}
 use Rattle.dr_seq.specs.declared.event.Event.{Event}
 use Rattle.dr_core.specs.declared.refusal.Refusal.{Refusal}
 use Rattle.dr_core.specs.declared.refusal.Refusal.TheVariants.{NoRoom, Halted, BadCount, Exhausted, OpenClaim}
@@ -14,6 +15,7 @@ use Rattle.dr_ring.specs.declared.record.Look.{Look}
 use Rattle.dr_ring.specs.declared.record.SenderRecord.{SenderRecord}
 use Rattle.dr_ring.specs.declared.record.Step.{Step}
 use Rattle.dr_ring.specs.declared.record.Step.TheVariants.{SenderStoresFirst, SenderStoresSecond, SenderPublishes, SenderHalts, SenderCloses}
+use Rattle.dr_runs.specs.Runs.{IsBeginning}
 use Rattle.dr_ring.specs.Calls.Ends.{SenderEnd, sender_place, count_looks, StoresWhereOk}
 use Rattle.dr_ring.specs.Meaning.Records.{claimed, look, sender_halted, sender_closed}
 
@@ -70,8 +72,9 @@ pub record TriesToClaim (r : SenderRecord) (n : ℕ) (r' : SenderRecord) (result
   pub seen : List Look
   pub looks : LooksToClaim r n seen result
   pub only : r' ≡ record r { sent = r'.sent; looks = r.looks ++ seen }
-  -- so no sequence reaches 2^62
+  -- so no sequence reaches 2^62, and no claim is of more than 65,536
   pub few : r.plan.limit ≤ 2 ^ 62
+  pub size : IsSize r.plan.size
 
 -- a call that changes what is sent alone
 abbrev pub OnlySends : SenderRecord → SenderRecord → Type 0
@@ -91,13 +94,13 @@ TriesToClose r r' (Ok _) = (r.sent.pending ≡ []) × (r' ≡ sender_closed (sen
 TriesToClose r r' (Err OpenClaim) = (0 < length r.sent.pending) × (r' ≡ r)
 TriesToClose r r' (Err _) = ⊥
 
--- Each call whole: the end stays where it is, answers by what it knows, and stores this where it is not refused and nothing else.
+-- Each call whole: the end stays where it is, answers by what it knows, and stores this where it is not refused and nothing else, and all that it saw before comes first.
 abbrev pub ClaimCall : SenderEnd → ℕ → SenderEnd → Result Claimed Refusal → Type 0
-ClaimCall e n e' result = (sender_place e' ≡ sender_place e) × TriesToClaim e.knows n e'.knows result × (e'.stored ≡ e.stored)
+ClaimCall e n e' result = (sender_place e' ≡ sender_place e) × TriesToClaim e.knows n e'.knows result × (e'.stored ≡ e.stored) × IsBeginning e.past e'.past
 
 abbrev pub WriteCall : SenderEnd → ℕ → Event → SenderEnd → Result (Unit {0}) Refusal → Type 0
 WriteCall e s event e' result =
-    (sender_place e' ≡ sender_place e) × TriesToWrite e.knows s event e'.knows result × StoresWhereOk e.stored (SenderStoresFirst s event.first ∷ SenderStoresSecond event.second ∷ []) e'.stored result
+    (sender_place e' ≡ sender_place e) × TriesToWrite e.knows s event e'.knows result × StoresWhereOk e.stored (SenderStoresFirst s event.first ∷ SenderStoresSecond event.second ∷ []) e'.stored result × IsBeginning e.past e'.past
 
 -- the stores of events that are written one after another, to the sequences from lo on
 abbrev pub writes_from : ℕ → List Event → List Step
@@ -110,9 +113,10 @@ pub record WriteAllCall (e : SenderEnd) (lo : ℕ) (events : List Event) (e' : S
   pub only : OnlySends e.knows e'.knows
   pub stored : e'.stored ≡ e.stored ++ writes_from lo (take answer.count events)
   pub memory : answer.trouble ≢ Some Memory
+  pub past : IsBeginning e.past e'.past
 
 abbrev pub PublishCall : SenderEnd → ℕ → ℕ → SenderEnd → Result (Unit {0}) Refusal → Type 0
-PublishCall e lo hi e' result = (sender_place e' ≡ sender_place e) × TriesToPublish e.knows lo hi e'.knows result × StoresWhereOk e.stored (SenderPublishes (hi + 1) ∷ []) e'.stored result
+PublishCall e lo hi e' result = (sender_place e' ≡ sender_place e) × TriesToPublish e.knows lo hi e'.knows result × StoresWhereOk e.stored (SenderPublishes (hi + 1) ∷ []) e'.stored result × IsBeginning e.past e'.past
 
 abbrev pub CloseCall : SenderEnd → SenderEnd → Result (Unit {0}) Refusal → Type 0
-CloseCall e e' result = (sender_place e' ≡ sender_place e) × TriesToClose e.knows e'.knows result × StoresWhereOk e.stored (SenderHalts ∷ SenderCloses ∷ []) e'.stored result
+CloseCall e e' result = (sender_place e' ≡ sender_place e) × TriesToClose e.knows e'.knows result × StoresWhereOk e.stored (SenderHalts ∷ SenderCloses ∷ []) e'.stored result × IsBeginning e.past e'.past

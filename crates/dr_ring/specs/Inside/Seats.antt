@@ -1,5 +1,5 @@
 -- The seats that stand for the ends of a ring, the rule that the words' table keeps, and what each kind of step tells.
-use Rattle.std.specs.Prelude.{◌≡◌, ℕ, List, [], map, ◌+◌, ◌<◌, ◌≤◌, ◌==◌, Bool, true, false, ◌∷◌, length, Some}
+use Rattle.std.specs.Prelude.{◌≡◌, ℕ, List, [], map, ◌+◌, ◌<◌, ◌==◌, Bool, false, ◌∷◌, Some}
 use Rattle.atomic_table.specs.Seated.{TableId}
 use Rattle.dr_ring.specs.declared.record.ReceiverRecord.{ReceiverRecord}
 use Rattle.dr_ring.specs.declared.record.EndRecord.TheVariants.{Receives, Sends, Halts}
@@ -13,13 +13,14 @@ use Rattle.dr_runs.specs.declared.view.View.{View}
 use Rattle.dr_runs.specs.Runs.{Ends, Exchange}
 use Rattle.dr_runs.specs.Seats as seats
 use Rattle.dr_runs.specs.Seats.{alone, fresh_view}
-use Rattle.dr_ring.specs.Meaning.Words.{halt_word, words_of}
+use Rattle.dr_ring.specs.Meaning.Words.{words_of}
 use Rattle.dr_ring.specs.declared.record.HalfWrite.{HalfWrite}
 use Rattle.dr_ring.specs.declared.record.SenderRecord.{SenderRecord}
 use Rattle.dr_ring.specs.declared.record.HalterRecord.{HalterRecord}
 use Rattle.dr_ring.specs.declared.record.EndRecord.{EndRecord}
-use Rattle.dr_ring.specs.Meaning.Records.{last_look, sender_looked, halt_looked, half_written, written, published_to, sender_halted, sender_closed, receiver_looked, cursor_looked, half_taken, took, completed_to, halter_halted}
+use Rattle.dr_ring.specs.Meaning.Records.{sender_looked, halt_looked, half_written, written, published_to, sender_halted, sender_closed, receiver_looked, cursor_looked, half_taken, took, completed_to, halter_halted}
 use Rattle.dr_ring.specs.Meaning.Rule.{World}
+use Rattle.dr_ring.specs.Calls.Finds.{FindsCompleted, FindsHalt, FindsClosed, FindsEvents}
 use Rattle.dr_ring.specs.Meaning.Steps.{Happens}
 use Rattle.dr_ring.specs.declared.record.Step.{Step}
 use Rattle.dr_ring.specs.declared.record.Step.TheVariants.{SenderStoresFirst, SenderStoresSecond, SenderPublishes, SenderHalts, SenderCloses, ReceiverCompletes, HalterHalts}
@@ -142,22 +143,6 @@ Loads Tells s me n me' = seats.Loads ring_ends Tells s me n me'
 
 abbrev pub Stores : (End → ℕ → Step) → (TableStep ℕ → End → ℕ → End → Type 0) → TableStep ℕ → Sitting → ℕ → Sitting → Type 0
 Stores step Tells s me n me' = seats.Stores ring_ends (λ s. step) Tells s me n me'
-
--- What a look may find: no word that is looked at falls.
-
--- no more is completed than is published
-abbrev pub FindsCompleted : SenderRecord → ℕ → ℕ → Type 0
-FindsCompleted r word n = (last_look 0 r.looks word ≤ n) × (n ≤ length r.sent.published)
-
-abbrev pub FindsHalt : SenderRecord → ℕ → Type 0
-FindsHalt r n = (last_look 0 r.looks halt_word ≤ n) × (n ≤ 1) × (r.halted ≡ true → n ≡ 1)
-
-abbrev pub FindsClosed : ReceiverRecord → ℕ → ℕ → Type 0
-FindsClosed r word n = (last_look 0 r.looks word ≤ n) × (n ≤ 1) × (r.told ≡ true → n ≡ 1)
-
--- neither the cursor nor an upstream's count is less than what a receiver took, nor more where it was told that the ring drained
-abbrev pub FindsEvents : ReceiverRecord → ℕ → ℕ → Type 0
-FindsEvents r word n = (last_look 0 r.looks word ≤ n) × (length r.received ≤ n) × (r.told ≡ true → n ≤ length r.received)
 
 -- What each kind of step tells: of the seat before and the word found or stored, the seat after.
 abbrev pub SenderLookedAtCount : TableStep ℕ → End → ℕ → End → Type 0

@@ -5,7 +5,7 @@ ghost use Rattle.dr_graph.specs.Meaning.Graph.{upstreams_of};
 ghost use Rattle.dr_ring.specs.Meaning.Words.{cursor_word, closed_word, count_word as count_word_of, payload_word};
 ghost use Rattle.dr_ring.specs.Meaning.Records.{receiver_looked, cursor_looked, half_taken, took, completed_to, IsBelowBarrier};
 ghost use Rattle.dr_ring.specs.declared.record.Step.TheVariants.{ReceiverCompletes};
-ghost use Rattle.dr_ring.specs.Inside.Seats.{FindsClosed, FindsEvents};
+ghost use Rattle.dr_ring.specs.Calls.Finds.{FindsClosed, FindsEvents};
 ghost use Rattle.dr_ring.specs.Calls.Ends.{HasLoaded, HasStored};
 
 use super::{RingBody, RingSeat};
@@ -17,7 +17,7 @@ use std::sync::Arc;
 
 /// What each step of a receiver needs, and how many words it looked at.
 #[derive(Drop)]
-pub(crate) struct ReceiverStation {
+pub struct ReceiverStation {
     pub(crate) ring: Arc<RingBody, Global>,
     pub(crate) seat: RingSeat,
     pub(crate) number: usize,
@@ -39,14 +39,14 @@ impl Model for ReceiverStation {
 
 impl ReceiverStation {
     /// The direct upstreams of the handler.
-    pub(crate) fn upstreams(&self) -> &[usize]
+    pub fn upstreams(&self) -> &[usize]
         ensures { result.now ≡ upstreams_of self.now.knows.plan.upstreams self.now.knows.number }
     {
         self.ring.plan.upstreams(self.number)
     }
 
     /// A receiver looks at closed.
-    pub(crate) fn look_at_closed(&mut self) -> u64
+    pub fn look_at_closed(&mut self) -> u64
         ensures step { HasLoaded self.old (receiver_looked self.old.knows closed_word result) self.new }
         ensures finds { FindsClosed self.old.knows closed_word result }
     {
@@ -56,7 +56,7 @@ impl ReceiverStation {
     }
 
     /// A receiver looks at the cursor, by which it may be told that the ring drained.
-    pub(crate) fn look_at_cursor(&mut self) -> u64
+    pub fn look_at_cursor(&mut self) -> u64
         ensures step { HasLoaded self.old (cursor_looked self.old.knows result) self.new }
         ensures finds { FindsEvents self.old.knows cursor_word result }
     {
@@ -66,7 +66,7 @@ impl ReceiverStation {
     }
 
     /// A receiver looks at the count of one of its upstreams.
-    pub(crate) fn look_at_count(&mut self, upstream: usize) -> u64
+    pub fn look_at_count(&mut self, upstream: usize) -> u64
         requires { Contains (upstreams_of self.old.knows.plan.upstreams self.old.knows.number) upstream }
         ensures step { HasLoaded self.old (receiver_looked self.old.knows (count_word_of upstream) result) self.new }
         ensures finds { FindsEvents self.old.knows (count_word_of upstream) result }
@@ -77,7 +77,7 @@ impl ReceiverStation {
     }
 
     /// A receiver loads the first word of its next event, which is below its barrier.
-    pub(crate) fn load_first(&mut self, word: usize) -> u64
+    pub fn load_first(&mut self, word: usize) -> u64
         requires place { word ≡ payload_word self.old.knows.plan (length self.old.knows.received) 0 }
         requires whole { self.old.knows.half ≡ None }
         requires below { IsBelowBarrier self.old.knows.plan self.old.knows.number self.old.knows }
@@ -89,7 +89,7 @@ impl ReceiverStation {
 
     /// A receiver loads the second word of its next event, whose first word it has just loaded, and
     /// has taken that event.
-    pub(crate) fn load_second(&mut self, word: usize, first: u64) -> Event
+    pub fn load_second(&mut self, word: usize, first: u64) -> Event
         requires place { word ≡ payload_word self.old.knows.plan (length self.old.knows.received) 1 }
         requires half { self.old.knows.half ≡ Some first }
         requires below { IsBelowBarrier self.old.knows.plan self.old.knows.number self.old.knows }
@@ -102,7 +102,7 @@ impl ReceiverStation {
     }
 
     /// A receiver stores its count.
-    pub(crate) fn complete(&mut self, upto: u64)
+    pub fn complete(&mut self, upto: u64)
         requires rises { self.old.knows.completed ≤ upto }
         requires taken { upto ≤ length self.old.knows.received }
         ensures { HasStored self.old (ReceiverCompletes self.old.knows.number upto) (completed_to self.old.knows upto) self.new }

@@ -6,7 +6,7 @@ ghost use Rattle.dr_ring.specs.Calls.Plans.{IsPlan};
 ghost use Rattle.dr_ring.specs.Meaning.Words.{count_word as count_word_of, payload_word};
 ghost use Rattle.dr_ring.specs.Meaning.Records.{claimed, sender_looked, halt_looked, half_written, written, published_to, sender_halted, sender_closed, SeesRoom, IsOpen, AreWritten};
 ghost use Rattle.dr_ring.specs.declared.record.Step.TheVariants.{SenderStoresFirst, SenderStoresSecond, SenderPublishes, SenderHalts, SenderCloses};
-ghost use Rattle.dr_ring.specs.Inside.Seats.{FindsCompleted, FindsHalt};
+ghost use Rattle.dr_ring.specs.Calls.Finds.{FindsCompleted, FindsHalt};
 ghost use Rattle.dr_ring.specs.Calls.Ends.{HasLoaded, HasStored};
 
 use super::{Names, RingBody, RingSeat};
@@ -18,7 +18,7 @@ use std::sync::Arc;
 
 /// What each of the sender's steps needs, and how many words it looked at.
 #[derive(Drop)]
-pub(crate) struct SenderStation {
+pub struct SenderStation {
     pub(crate) ring: Arc<RingBody, Global>,
     pub(crate) seat: RingSeat,
     pub(crate) looks: u64,
@@ -39,7 +39,7 @@ impl Model for SenderStation {
 
 impl SenderStation {
     /// What the ring was made for.
-    pub(crate) fn plan(&self) -> &Plan
+    pub fn plan(&self) -> &Plan
         ensures plan { result.now ≡ self.now.knows.plan }
         ensures made { IsPlan result.now }
     {
@@ -47,7 +47,7 @@ impl SenderStation {
     }
 
     /// The sender looks at a final handler's count.
-    pub(crate) fn look_at_count(&mut self, handler: usize) -> u64
+    pub fn look_at_count(&mut self, handler: usize) -> u64
         requires { Contains (finals self.old.knows.plan.upstreams) handler }
         ensures step { HasLoaded self.old (sender_looked self.old.knows (count_word_of handler) result) self.new }
         ensures finds { FindsCompleted self.old.knows (count_word_of handler) result }
@@ -59,7 +59,7 @@ impl SenderStation {
 
     /// The sender looks at halt and, where it finds 0, claims `more` sequences, for which it has
     /// seen that there is room.
-    pub(crate) fn look_at_halt<J: Names>(&mut self, more: u64) -> u64
+    pub fn look_at_halt<J: Names>(&mut self, more: u64) -> u64
         requires named { more ≡ J.number }
         requires room { 0 < more → SeesRoom self.old.knows.plan self.old.knows more }
         ensures step { HasLoaded self.old (halt_looked self.old.knows more result) self.new }
@@ -72,7 +72,7 @@ impl SenderStation {
 
     /// The sender stores the first word of the event of a sequence that it has claimed and not
     /// published, at the word's place.
-    pub(crate) fn store_first<J: Names>(&mut self, sequence: u64, word: usize, first: u64)
+    pub fn store_first<J: Names>(&mut self, sequence: u64, word: usize, first: u64)
         requires named { sequence ≡ J.number }
         requires place { word ≡ payload_word self.old.knows.plan sequence 0 }
         requires own { IsOpen self.old.knows sequence }
@@ -84,7 +84,7 @@ impl SenderStation {
     }
 
     /// The sender stores the second word of an event whose first word it has just stored.
-    pub(crate) fn store_second(&mut self, sequence: u64, word: usize, event: Event)
+    pub fn store_second(&mut self, sequence: u64, word: usize, event: Event)
         requires place { word ≡ payload_word self.old.knows.plan sequence 1 }
         requires half { self.old.knows.half ≡ Some record { sequence = sequence; first = event.first } }
         ensures { HasStored self.old (SenderStoresSecond event.second) (written self.old.knows sequence event) self.new }
@@ -94,7 +94,7 @@ impl SenderStation {
     }
 
     /// The sender stores the cursor: each sequence below `upto` is written, and is published by it.
-    pub(crate) fn publish(&mut self, upto: u64)
+    pub fn publish(&mut self, upto: u64)
         requires more { length self.old.knows.sent.published < upto }
         requires within { upto ≤ claimed self.old.knows }
         requires written { AreWritten self.old.knows upto }
@@ -106,7 +106,7 @@ impl SenderStation {
     }
 
     /// The sender stores halt.
-    pub(crate) fn halt(&mut self)
+    pub fn halt(&mut self)
         ensures { HasStored self.old SenderHalts (sender_halted self.old.knows) self.new }
     {
         let words = &self.ring.table.shared;
@@ -114,7 +114,7 @@ impl SenderStation {
     }
 
     /// The sender stores closed, once it has stored halt and all that it claimed is published.
-    pub(crate) fn close(&mut self)
+    pub fn close(&mut self)
         requires halted { self.old.knows.halted ≡ true }
         requires published { self.old.knows.sent.pending ≡ [] }
         ensures { HasStored self.old SenderCloses (sender_closed self.old.knows) self.new }

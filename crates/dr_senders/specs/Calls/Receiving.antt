@@ -15,6 +15,7 @@ use Rattle.dr_senders.specs.Meaning.Words.{claim_word, claimed_in, is_halted}
 use Rattle.dr_senders.specs.declared.record.ReceiverRecord.{ReceiverRecord}
 use Rattle.dr_senders.specs.declared.record.Step.TheVariants.{ReceiverCompletes}
 use Rattle.dr_ring.specs.Calls.Ends.{StoresWhereOk}
+use Rattle.dr_runs.specs.Runs.{IsBeginning}
 use Rattle.dr_senders.specs.Calls.Ends.{ReceiverEnd, Stays, count_looks}
 
 -- what a receiver shows as received
@@ -51,7 +52,7 @@ TriesToComplete r n r' result =
     × Completes n (as_end result) (received_of r) (received_of r') × (r' ≡ record r { completed = r'.completed })
 
 abbrev pub CompleteCall : ReceiverEnd → ℕ → ReceiverEnd → Result (Unit {0}) Refusal → Type 0
-CompleteCall e n e' result = Stays e e' × TriesToComplete e.knows n e'.knows result × StoresWhereOk e.stored (ReceiverCompletes e.knows.number n ∷ []) e'.stored result
+CompleteCall e n e' result = Stays e e' × TriesToComplete e.knows n e'.knows result × StoresWhereOk e.stored (ReceiverCompletes e.knows.number n ∷ []) e'.stored result × IsBeginning e.past e'.past
 
 -- what a poll saw: the claim word, then, without upstreams, the marks up to a sequence, or the count of each upstream
 pub record PollLooks : Type 0 where
@@ -100,4 +101,4 @@ abbrev pub Polls : Shape → ReceiverRecord → List Event → ReceiverRecord �
 Polls k r out r' out' result = IsAnswerOf (poll_causes (tests_of_poll r (length out))) (as_end result) × PollSees k r out r' out' result
 
 abbrev pub PollCall : ReceiverEnd → List Event → ReceiverEnd → List Event → Result Polled Refusal → Type 0
-PollCall e out e' out' result = Stays e e' × Polls e.plan e.knows out e'.knows out' result × (e'.stored ≡ e.stored)
+PollCall e out e' out' result = Stays e e' × Polls e.plan e.knows out e'.knows out' result × (e'.stored ≡ e.stored) × IsBeginning e.past e'.past

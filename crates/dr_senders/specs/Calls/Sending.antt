@@ -1,5 +1,6 @@
 -- What a sender's claim answers, and what it leaves of what the sender knows.
 use Rattle.std.specs.Prelude.{◌≡◌, ◌≢◌, ℕ, ◌+◌, ◌-◌, ◌^◌, ◌<◌, ◌≤◌, ◌⊎◌, true, false, List, [], ◌∷◌, ◌++◌, length, slice_index, Result, Ok, Err}
+use Rattle.dr_seq.specs.Size.{IsSize}
 use Rattle.dr_core.specs.declared.refusal.Refusal.TheVariants.{NoRoom, Halted, BadCount, Exhausted}
 use Rattle.dr_core.specs.declared.command.Claimed.{Claimed}
 use Rattle.dr_core.specs.declared.ends.Trouble.{Trouble}
@@ -15,6 +16,7 @@ use Rattle.dr_senders.specs.declared.record.Step.{Step}
 use Rattle.dr_senders.specs.declared.record.Step.TheVariants.{SenderClaims}
 use Rattle.dr_senders.specs.declared.claiming.ClaimFault.{ClaimFault}
 use Rattle.dr_senders.specs.declared.claiming.ClaimFault.TheVariants.{Refused, Contended}
+use Rattle.dr_runs.specs.Runs.{IsBeginning}
 use Rattle.dr_senders.specs.Calls.Ends.{SenderEnd, Stays, count_looks}
 
 -- a claim looks at the finals' counts in rising order
@@ -83,8 +85,10 @@ pub record ClaimCall (e : SenderEnd) (n : ℕ) (e' : SenderEnd) (result : Result
   pub looks : LooksToClaim e.plan e.knows.number n seen steps result
   pub knows : e'.knows ≡ knows_after e.knows n seen result
   pub stored : e'.stored ≡ e.stored ++ steps
-  -- so no sequence reaches 2^62
+  pub past : IsBeginning e.past e'.past
+  -- so no sequence reaches 2^62, and no claim is of more than 65,536
   pub few : e.plan.limit ≤ 2 ^ 62
+  pub size : IsSize e.plan.size
 
 -- A claim as an exchange's end answers it: where another sender claimed meanwhile, nothing is known of the room, and the claim may be tried again as after `NoRoom`.
 abbrev pub ClaimsAsEnd : SenderEnd → ℕ → SenderEnd → Result Claimed Trouble → Type 0

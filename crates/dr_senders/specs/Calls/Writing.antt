@@ -18,6 +18,7 @@ use Rattle.dr_senders.specs.declared.record.Step.{Step}
 use Rattle.dr_senders.specs.declared.record.Step.TheVariants.{SenderStoresFirst, SenderStoresSecond, SenderPublishes}
 use Rattle.dr_senders.specs.Meaning.Records.{Owns, written, published, brought}
 use Rattle.dr_ring.specs.Calls.Ends.{StoresWhereOk}
+use Rattle.dr_runs.specs.Runs.{IsBeginning}
 use Rattle.dr_senders.specs.Calls.Ends.{SenderEnd, Stays}
 
 -- The refusals of each call are the machine's, in its order. What a sender knows of its own sequences is exact. Of another's it learns by a look at the mark in its slot whether it is published, which the mark tells exactly; all that is then left of the machine's tests is answered `NotClaimed`, as the machine answers it at that moment (`moments`). A sequence at the limit or beyond is never claimed.
@@ -79,6 +80,7 @@ pub record WriteCall (e : SenderEnd) (s : ℕ) (event : Event) (e' : SenderEnd) 
   pub answer : IsAnswerOf (write_causes (tests_of_write e.plan s sight)) (as_end result)
   pub knows : e'.knows ≡ after_write e.plan e.knows s event sight result
   pub stored : StoresWhereOk e.stored (SenderStoresFirst e.knows.number s event.first ∷ SenderStoresSecond e.knows.number s event.second ∷ []) e'.stored result
+  pub past : IsBeginning e.past e'.past
 
 -- many writes are one write after another, from the sequence lo on, up to the first in trouble
 abbrev pub WriteAllCall : SenderEnd → ℕ → List Event → SenderEnd → ℕ → Option Trouble → Type 0
@@ -165,3 +167,4 @@ pub record PublishCall (e : SenderEnd) (lo hi : ℕ) (e' : SenderEnd) (result : 
   pub all : AllReady lo hi seen.ready result
   pub knows : e'.knows ≡ after_publication e.plan e.knows lo hi seen result
   pub stored : StoresWhereOk e.stored (publications e.knows.number lo (hi + 1 - lo)) e'.stored result
+  pub past : IsBeginning e.past e'.past

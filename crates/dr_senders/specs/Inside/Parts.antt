@@ -21,7 +21,7 @@ use Rattle.dr_senders.specs.Calls.Ends.{SenderEnd, Stays, HasLoaded, count_looks
 use Rattle.dr_senders.specs.Calls.Writing.{published_between, publications}
 use Rattle.dr_ring.specs.Calls.Receiving.{offered_by}
 use Rattle.dr_senders.specs.Calls.Receiving.{walked, WalksTo, ups_of}
-use Rattle.dr_senders.specs.Inside.Seats.{FindsMark, IsEarlier}
+use Rattle.dr_senders.specs.Calls.Finds.{FindsMark, IsEarlier}
 
 -- a sender has made these looks more
 abbrev pub sender_saw : SenderRecord → List Look → SenderRecord

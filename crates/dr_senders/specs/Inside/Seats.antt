@@ -1,19 +1,16 @@
 -- The seats that stand for the ends of a ring, the rule that the words' table keeps, and what each kind of step tells.
-use Rattle.std.specs.Prelude.{◌≡◌, ℕ, ◌+◌, ◌-◌, ◌*◌, ◌<◌, ◌≤◌, ◌==◌, if◌then◌else◌, Bool, true, false, List, [], ◌∷◌, ◌++◌, length, map, Some}
+use Rattle.std.specs.Prelude.{◌≡◌, ℕ, ◌+◌, ◌-◌, ◌*◌, ◌==◌, Bool, false, List, [], ◌∷◌, ◌++◌, map, Some}
 use mathlib.Core.Option.{some}
 use lib.ListN.{get_elem?}
 use Rattle.atomic_table.specs.Table.{State}
 use Rattle.atomic_table.specs.Table.{Step as TableStep}
 use Rattle.atomic_table.specs.Seated.{TableId}
-use Rattle.dr_seq.specs.Rounds.{entry_of}
 use Rattle.dr_runs.specs.declared.view.View.{View}
 use Rattle.dr_runs.specs.Runs.{Ends, Exchange}
 use Rattle.dr_runs.specs.Seats as seats
 use Rattle.dr_runs.specs.Seats.{alone, fresh_view}
-use Rattle.dr_ring.specs.declared.record.Look.{Look}
-use Rattle.dr_ring.specs.Meaning.Records.{last_look}
 use Rattle.dr_senders.specs.Meaning.Shape.{Shape, IsShape, handlers_of}
-use Rattle.dr_senders.specs.Meaning.Words.{claim_word, claimed_in, is_halted, halted_from, mark_word, words_of}
+use Rattle.dr_senders.specs.Meaning.Words.{claim_word, halted_from, mark_word, words_of}
 use Rattle.dr_senders.specs.declared.record.Stage.{Stage}
 use Rattle.dr_senders.specs.declared.record.SenderRecord.{SenderRecord}
 use Rattle.dr_senders.specs.declared.record.ReceiverRecord.{ReceiverRecord}
@@ -22,8 +19,9 @@ use Rattle.dr_senders.specs.declared.record.EndRecord.{EndRecord}
 use Rattle.dr_senders.specs.declared.record.EndRecord.TheVariants.{Sends, Receives, Halts}
 use Rattle.dr_senders.specs.declared.record.Step.{Step}
 use Rattle.dr_senders.specs.declared.record.Step.TheVariants.{SenderClaims, SenderStoresFirst, SenderStoresSecond, SenderPublishes, SenderHalts, ReceiverCompletes, HalterHalts}
-use Rattle.dr_senders.specs.Meaning.Records.{Owns, half_written, written, published, brought, sender_looked, mark_found, claimed_from, receiver_looked, claims_looked, mark_looked, half_taken, took, completed_to, halter_halted}
+use Rattle.dr_senders.specs.Meaning.Records.{Owns, half_written, written, published, brought, sender_looked, mark_found, receiver_looked, claims_looked, mark_looked, half_taken, took, completed_to, halter_halted}
 use Rattle.dr_senders.specs.Meaning.Rule.{World}
+use Rattle.dr_senders.specs.Calls.Finds.{FindsMore, FindsClaims, FindsEvents, IsEarlier, FindsMark, after_exchange}
 use Rattle.dr_senders.specs.Meaning.Steps.{Happens}
 use Rattle.dr_senders.specs.Meaning.Moments.{fresh_sender, fresh_senders, fresh_receiver, fresh_receivers, new_world, entries_of}
 
@@ -144,31 +142,6 @@ Loads Tells s me n me' = seats.Loads ring_ends Tells s me n me'
 
 abbrev pub Stores : (TableStep ℕ → End → ℕ → Step) → (TableStep ℕ → End → ℕ → End → Type 0) → TableStep ℕ → Sitting → ℕ → Sitting → Type 0
 Stores step Tells s me n me' = seats.Stores ring_ends step Tells s me n me'
-
--- What a look may find: no word that is looked at falls.
-
-abbrev pub FindsMore : List Look → ℕ → ℕ → Type 0
-FindsMore looks word n = last_look 0 looks word ≤ n
-
--- no fewer sequences are claimed than a receiver took, or saw published, and no more than it took where it was told that the ring drained
-abbrev pub FindsClaims : ReceiverRecord → ℕ → Type 0
-FindsClaims r n = (last_look 0 r.looks claim_word ≤ n) × (length r.received ≤ claimed_in n) × (r.seen ≤ claimed_in n) × (r.told ≡ true → (is_halted n ≡ true) × (claimed_in n ≡ length r.received))
-
--- an upstream completed no less than a receiver took, and no more where it was told that the ring drained
-abbrev pub FindsEvents : ReceiverRecord → ℕ → ℕ → Type 0
-FindsEvents r word n = (last_look 0 r.looks word ≤ n) × (length r.received ≤ n) × (r.told ≡ true → n ≤ length r.received)
-
--- a sequence that a sender has is claimed before another claim from c up to n, and published where that takes its slot
-abbrev pub IsEarlier : Shape → ℕ → ℕ → ℕ → Stage → Type 0
-IsEarlier k c n s t = (s < c) × (t.published ≡ false → n ≤ s + k.size)
-
--- the mark of a sender's own sequence is there once it is published
-abbrev pub FindsMark : Shape → SenderRecord → ℕ → ℕ → Type 0
-FindsMark k r s n = (t : Stage) → Owns r s t → t.published ≡ true → entry_of k.size s ≤ n
-
--- a sender's exchange of c for c + n claims where it finds c, and is a look where it finds another number
-abbrev pub after_exchange : SenderRecord → ℕ → ℕ → ℕ → SenderRecord
-after_exchange r c n found = if found == c then claimed_from r c n else sender_looked r claim_word found
 
 -- What each kind of step tells: of the seat before and the word found or stored, the seat after.
 abbrev pub SenderLooked : TableStep ℕ → End → ℕ → End → Type 0

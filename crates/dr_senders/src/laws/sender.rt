@@ -8,7 +8,7 @@ ghost use Rattle.dr_senders.specs.declared.record.Stage.{Stage};
 ghost use Rattle.dr_senders.specs.Meaning.Words.{claim_word, halted_from, count_word as count_word_of, mark_word, payload_word};
 ghost use Rattle.dr_senders.specs.Meaning.Records.{Owns, half_written, written, published, brought, sender_looked, mark_found, SeesRoom};
 ghost use Rattle.dr_senders.specs.declared.record.Step.TheVariants.{SenderClaims, SenderStoresFirst, SenderStoresSecond, SenderPublishes, SenderHalts};
-ghost use Rattle.dr_senders.specs.Inside.Seats.{FindsMore, FindsMark, IsEarlier, after_exchange};
+ghost use Rattle.dr_senders.specs.Calls.Finds.{FindsMore, FindsMark, IsEarlier, after_exchange};
 ghost use Rattle.dr_senders.specs.Calls.Ends.{HasLoaded, HasStored};
 
 use super::{Names, RingBody, RingSeat};
@@ -20,7 +20,7 @@ use std::sync::Arc;
 
 /// What each of a sender's steps needs, and how many words it looked at.
 #[derive(Drop)]
-pub(crate) struct SenderStation {
+pub struct SenderStation {
     pub(crate) ring: Arc<RingBody, Global>,
     pub(crate) seat: RingSeat,
     pub(crate) number: usize,
@@ -42,7 +42,7 @@ impl Model for SenderStation {
 
 impl SenderStation {
     /// What the ring was made for.
-    pub(crate) fn plan(&self) -> &Plan
+    pub fn plan(&self) -> &Plan
         ensures plan { result.now ≡ self.now.plan }
         ensures made { IsPlan result.now }
     {
@@ -50,7 +50,7 @@ impl SenderStation {
     }
 
     /// A sender looks at the claim word.
-    pub(crate) fn look_at_claims(&mut self) -> u64
+    pub fn look_at_claims(&mut self) -> u64
         ensures step { HasLoaded self.old (sender_looked self.old.knows claim_word result) self.new }
         ensures finds { FindsMore self.old.knows.looks claim_word result }
     {
@@ -60,7 +60,7 @@ impl SenderStation {
     }
 
     /// A sender looks at a final handler's count.
-    pub(crate) fn look_at_count(&mut self, handler: usize) -> u64
+    pub fn look_at_count(&mut self, handler: usize) -> u64
         requires { Contains (finals self.old.plan.upstreams) handler }
         ensures step { HasLoaded self.old (sender_looked self.old.knows (count_word_of handler) result) self.new }
         ensures finds { FindsMore self.old.knows.looks (count_word_of handler) result }
@@ -72,7 +72,7 @@ impl SenderStation {
 
     /// A sender claims `count` sequences from `found` on, for which it has seen that there is room,
     /// where so many are claimed now; else it learns what the claim word is.
-    pub(crate) fn claim(&mut self, found: u64, count: u64) -> u64
+    pub fn claim(&mut self, found: u64, count: u64) -> u64
         requires some { 0 < count }
         requires room { SeesRoom self.old.plan self.old.knows found count }
         ensures step { HasStored self.old (SenderClaims self.old.knows.number found count) (after_exchange self.old.knows found count result) self.new }
@@ -86,7 +86,7 @@ impl SenderStation {
 
     /// A sender stores the first word of the event of one of its sequences, which is not yet
     /// published, at the word's place.
-    pub(crate) fn store_first<J: Names>(&mut self, sequence: u64, word: usize, first: u64)
+    pub fn store_first<J: Names>(&mut self, sequence: u64, word: usize, first: u64)
         requires named { sequence ≡ J.number }
         requires place { word ≡ payload_word self.old.plan sequence 0 }
         requires own { (t : Stage) × Owns self.old.knows sequence t × (t.published ≡ false) }
@@ -97,7 +97,7 @@ impl SenderStation {
     }
 
     /// A sender stores the second word of an event whose first word it has just stored.
-    pub(crate) fn store_second<J: Names>(&mut self, sequence: u64, word: usize, event: Event)
+    pub fn store_second<J: Names>(&mut self, sequence: u64, word: usize, event: Event)
         requires named { (sequence ≡ J.number) × (event.first ≡ J.first) }
         requires place { word ≡ payload_word self.old.plan sequence 1 }
         requires own { (t : Stage) × Owns self.old.knows sequence t × (t.published ≡ false) × (t.half ≡ Some event.first) }
@@ -109,7 +109,7 @@ impl SenderStation {
 
     /// A sender publishes one of its sequences, which is written and not yet published: it stores
     /// the sequence's mark.
-    pub(crate) fn publish<J: Names>(&mut self, sequence: u64)
+    pub fn publish<J: Names>(&mut self, sequence: u64)
         requires named { sequence ≡ J.number }
         requires small { sequence < 2 ^ 62 }
         requires own { (t : Stage) × (event : EventValue) × Owns self.old.knows sequence t × (t.published ≡ false) × (t.half ≡ None) × (t.event ≡ Some event) }
@@ -125,7 +125,7 @@ impl SenderStation {
     }
 
     /// A sender looks at the mark in a sequence's slot.
-    pub(crate) fn look_at_mark<J: Names>(&mut self, sequence: u64) -> u64
+    pub fn look_at_mark<J: Names>(&mut self, sequence: u64) -> u64
         requires { sequence ≡ J.number }
         ensures step { HasLoaded self.old (mark_found self.old.knows (mark_word self.old.plan sequence) result) self.new }
         ensures finds { FindsMark self.old.plan self.old.knows sequence result }
@@ -136,7 +136,7 @@ impl SenderStation {
     }
 
     /// A sender halts the ring.
-    pub(crate) fn halt(&mut self)
+    pub fn halt(&mut self)
         ensures { (found : ℕ) × HasStored self.old (SenderHalts self.old.knows.number) (sender_looked self.old.knows claim_word (halted_from found)) self.new }
     {
         self.looks = self.looks.saturating_add(1);

@@ -1,5 +1,5 @@
 use Rattle.dr_seq.specs.declared.event.Event.{Event}
-use Rattle.std.proofs.Common.{◌≡◌, ℕ, inl, inr, true, length, refl, sym, ap, ◌∙◌, subst}
+use Rattle.std.proofs.Common.{◌≡◌, ℕ, inl, inr, true, length, refl, sym, ap, ◌∙◌, subst, arith}
 use Rattle.std.specs.Prelude.{List}
 use Rattle.std.proofs.lemmas.Bool.{cases_lt}
 use Rattle.std.proofs.lemmas.List.{get_or_past}
@@ -7,6 +7,7 @@ use Rattle.dr_ring.proofs.Lists.{there, value_at}
 use Rattle.dr_core.specs.Meaning.Machine.{State}
 use Rattle.dr_core.specs.Meaning.Transcript.{Transcript, LeadsFrom, LeadsTo}
 use Rattle.dr_senders.specs.Meaning.Shape.{Shape, IsShape, ring_setup}
+use Rattle.dr_senders.specs.Meaning.Words.{count_word}
 use Rattle.dr_senders.specs.declared.record.Stage.{Stage}
 use Rattle.dr_senders.specs.Meaning.Records.{fresh_stage}
 use Rattle.dr_senders.specs.Meaning.Rule.{World, IsOut}
@@ -17,6 +18,8 @@ use Rattle.dr_senders.proofs.Beginning.{kept_new_world, opens}
 use Rattle.dr_senders.proofs.Halting.{halted_runs}
 use Rattle.dr_senders.proofs.Shutting.{refused_by_mark}
 use Rattle.dr_senders.proofs.Replies.{replies}
+use Rattle.dr_senders.proofs.Rising.{rose_runs}
+use Rattle.dr_senders.proofs.Later.{hands_what_was_there}
 use Rattle.dr_senders.proofs.laws.moments.Goals as goal
 
 leads : (k : Shape) (steps : List Step) (entries : Transcript Event) (w : World) → IsShape k → Runs k steps entries (new_world k) w
@@ -35,8 +38,21 @@ pub returns-clause-laws : goal.returns-clause-laws
 returns-clause-laws c k steps entries w shape runs =
     c.every_transcript_is_lawful.ensures (ring_setup k) entries (picture_of k w) (leads k steps entries w shape runs)
 
+pub returns-clause-progress : goal.returns-clause-progress
+returns-clause-progress c k steps entries w shape runs =
+    c.nobody_is_stuck.ensures (ring_setup k) entries (picture_of k w) shape.graph (leads k steps entries w shape runs)
+
 pub returns-clause-replies : goal.returns-clause-replies
 returns-clause-replies c k steps entries w shape runs = replies k w (keeps_runs k steps entries (new_world k) w runs (kept_new_world k shape))
+
+pub returns-clause-hands : goal.returns-clause-hands
+returns-clause-hands c k steps more entries rest w u shape runs on =
+    hands_what_was_there k more rest w u on (keeps_runs k steps entries (new_world k) w runs (kept_new_world k shape))
+
+pub returns-clause-rises : goal.returns-clause-rises
+returns-clause-rises c k steps more entries rest w u shape runs on =
+    let rose = rose_runs k more rest w u on (keeps_runs k steps entries (new_world k) w runs (kept_new_world k shape)) in
+    ((λ f inside. rose.words (count_word f) (omega arith)), rose.claimed)
 
 pub returns-clause-halted : goal.returns-clause-halted
 returns-clause-halted c k steps more entries rest w u shape runs on halted =

@@ -7,6 +7,8 @@ use Rattle.dr_ring.specs.Meaning.Words.{closed_word}
 use Rattle.dr_ring.specs.Meaning.Records.{receiver_looked}
 use Rattle.dr_ring.specs.Calls.Ends.{ReceiverEnd}
 use Rattle.dr_ring.specs.Calls.Receiving.{Answers, received_all}
+use Rattle.dr_runs.specs.Runs.{IsBeginning}
+use Rattle.dr_ring.proofs.Stations.{begins_on}
 use Rattle.dr_ring.proofs.Polls.{saw, seen_round, poll_nothing, poll_batch, offers, of_count}
 use Rattle.dr_ring.proofs.receiver.Receiver.poll_into.Goals as goal
 
@@ -27,6 +29,8 @@ returns-then-available-first-clause-call c =
         ),
       ),
       search rules,
+      begins_on _ _ _ (subst (λ (e : ReceiverEnd). IsBeginning e.past c.look_at_closed-closed.new.self.past) c.self.view_is c.look_at_closed-closed.ensures.step.2)
+          (begins_on _ _ _ c.look_at_cursor-cursor.ensures.step.2 c.barrier-available.ensures.only.2),
     )
 
 pub take_all-requires-clause-below : goal.take_all-requires-clause-below
@@ -57,4 +61,6 @@ returns-clause-call c =
         ),
       ),
       search rules,
+      begins_on _ _ _ (subst (λ (e : ReceiverEnd). IsBeginning e.past c.look_at_closed-closed.new.self.past) c.self.view_is c.look_at_closed-closed.ensures.step.2)
+          (begins_on _ _ _ c.look_at_cursor-cursor.ensures.step.2 (begins_on _ _ _ c.barrier-available.ensures.only.2 c.take_all.ensures.only.2)),
     )

@@ -1,9 +1,11 @@
-use Rattle.std.proofs.Common.{rules, List, arith, refl, ap, ◌∙◌}
+use Rattle.std.proofs.Common.{rules, List, arith, refl, ap, ◌∙◌, subst}
 use Rattle.dr_ring.specs.Meaning.Shape.{Shape}
 use Rattle.dr_ring.specs.declared.record.Look.{Look}
 use Rattle.dr_ring.specs.declared.record.SenderRecord.{SenderRecord}
 use Rattle.dr_ring.specs.Calls.Ends.{SenderEnd}
 use Rattle.dr_ring.specs.Inside.Parts.{LooksAtFinals}
+use Rattle.dr_runs.specs.Runs.{IsBeginning}
+use Rattle.dr_ring.proofs.Stations.{begins_on}
 use Rattle.dr_ring.proofs.Claims.{Scanned, fits_saw, fits_halt, fits_room, fits_claim, claim_no_room, claim_halted_late, claim_accepted}
 use Rattle.dr_ring.proofs.sender.Sender.try_claim.Goals as goal
 use Rattle.dr_ring.proofs.sender.Sender.try_claim.Goals.{After-saturating_sub-need}
@@ -39,6 +41,7 @@ tried c scan =
       size = search rules;
       limit = omega arith;
       few = search rules;
+      made = c.self.invariant.made.size;
     }
 
 pub returns-in_default : goal.returns-in_default
@@ -46,6 +49,7 @@ returns-in_default c = (
   search rules,
   claim_no_room (tried (goal.at.returns-in_default c).After-saturating_sub-need c.in_default.ensures.answer.1) c.in_default.ensures.answer.2,
   search rules,
+  begins_on _ _ _ (subst (λ (e : SenderEnd). IsBeginning e.past c.finds_halt.new.self.past) c.self.view_is c.finds_halt.ensures.2) c.in_default.ensures.only.2,
 )
 
 pub invariant_of-self-then-not-claims : goal.invariant_of-self-then-not-claims
@@ -59,6 +63,8 @@ returns-then-not-claims c = (
   search rules,
   claim_halted_late (tried (goal.at.returns-then-not-claims c).After-saturating_sub-need c.in-Some.ensures.answer.1) _ _ c.in-Some.ensures.answer.2 c.if-not-claims.ensures.1,
   search rules,
+  begins_on _ _ _ (subst (λ (e : SenderEnd). IsBeginning e.past c.finds_halt.new.self.past) c.self.view_is c.finds_halt.ensures.2)
+      (begins_on _ _ _ c.in-Some.ensures.only.2 c.if-not-claims.ensures.2),
 )
 
 pub invariant_of-self-2 : goal.invariant_of-self-2
@@ -76,4 +82,6 @@ returns c = (
   search rules,
   claim_accepted (tried (goal.at.returns c).After-saturating_sub-need c.in-Some.ensures.answer.1) _ _ _ c.in-Some.ensures.answer.2 c.if-not-claims.ensures.1 refl,
   search rules,
+  begins_on _ _ _ (subst (λ (e : SenderEnd). IsBeginning e.past c.finds_halt.new.self.past) c.self.view_is c.finds_halt.ensures.2)
+      (begins_on _ _ _ c.in-Some.ensures.only.2 c.if-not-claims.ensures.2),
 )

@@ -6,8 +6,10 @@ use Rattle.dr_senders.specs.Meaning.Words.{is_halted}
 use Rattle.dr_senders.specs.Meaning.Records.{claims_looked}
 use Rattle.dr_senders.specs.Calls.Ends.{ReceiverEnd}
 use Rattle.dr_senders.specs.Calls.Receiving.{Answers, received_all}
-use Rattle.dr_senders.specs.Inside.Seats.{FindsClaims}
+use Rattle.dr_senders.specs.Calls.Finds.{FindsClaims}
 use Rattle.dr_senders.specs.Inside.Parts.{nothing_offered}
+use Rattle.dr_runs.specs.Runs.{IsBeginning}
+use Rattle.dr_senders.proofs.Stations.{begins_on}
 use Rattle.dr_senders.proofs.Polls.{saw, in_order, seen_round, poll_nothing, poll_batch, of_count}
 use Rattle.dr_senders.proofs.receiver.Receiver.poll_into.Goals as goal
 
@@ -32,6 +34,8 @@ returns-then-available-first-clause-call c =
         ),
       ),
       search rules,
+      begins_on _ _ _ (subst (λ (e : ReceiverEnd). IsBeginning e.past c.look_at_claims-found.new.self.past) c.self.view_is c.look_at_claims-found.ensures.step.2)
+          c.offer-available.ensures.only.2,
     )
 
 pub returns-clause-call : goal.returns-clause-call
@@ -59,4 +63,6 @@ returns-clause-call c =
         ),
       ),
       search rules,
+      begins_on _ _ _ (subst (λ (e : ReceiverEnd). IsBeginning e.past c.look_at_claims-found.new.self.past) c.self.view_is c.look_at_claims-found.ensures.step.2)
+          (begins_on _ _ _ c.offer-available.ensures.only.2 c.take_all.ensures.only.2),
     )

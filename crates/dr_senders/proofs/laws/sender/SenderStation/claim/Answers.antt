@@ -2,7 +2,8 @@ use Rattle.std.proofs.Common.{rules, refl, sym, subst, ap, ◌∙◌, ◌≡◌,
 use Rattle.dr_senders.specs.Meaning.Shape.{Shape}
 use Rattle.dr_senders.specs.declared.record.Stage.{Stage}
 use Rattle.dr_senders.specs.Meaning.Records.{Owns, SeesRoom}
-use Rattle.dr_senders.specs.Inside.Seats.{IsEarlier, sender_of}
+use Rattle.dr_senders.specs.Inside.Seats.{sender_of}
+use Rattle.dr_senders.specs.Calls.Finds.{IsEarlier}
 use Rattle.dr_senders.specs.Calls.Ends.{SenderEnd}
 use Rattle.dr_senders.proofs.Allowed.{claims}
 use Rattle.dr_senders.proofs.laws.sender.SenderStation.claim.Goals as goal

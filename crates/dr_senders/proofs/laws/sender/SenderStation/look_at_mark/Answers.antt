@@ -2,7 +2,8 @@ use Rattle.std.proofs.Common.{rules, ℕ, ap, sym, subst, ◌∙◌}
 use Rattle.dr_senders.specs.Meaning.Shape.{Shape}
 use Rattle.dr_senders.specs.declared.record.SenderRecord.{SenderRecord}
 use Rattle.dr_senders.specs.Calls.Ends.{SenderEnd}
-use Rattle.dr_senders.specs.Inside.Seats.{FindsMark, sender_of}
+use Rattle.dr_senders.specs.Inside.Seats.{sender_of}
+use Rattle.dr_senders.specs.Calls.Finds.{FindsMark}
 use Rattle.dr_senders.proofs.Allowed.{sender_looks_at_mark}
 use Rattle.dr_senders.proofs.laws.sender.SenderStation.look_at_mark.Goals as goal
 

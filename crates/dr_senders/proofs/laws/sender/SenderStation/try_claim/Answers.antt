@@ -1,4 +1,5 @@
 use Rattle.std.proofs.Common.{Bool, true, arith, refl, sym, ap, ◌∙◌, subst}
+use Rattle.dr_seq.specs.Size.{IsSize}
 use Rattle.dr_senders.specs.Meaning.Shape.{Shape}
 use Rattle.dr_senders.specs.Meaning.Records.{SeesRoom}
 use Rattle.dr_senders.specs.Inside.Parts.{Scans}
@@ -25,6 +26,7 @@ tried_now c =
     let small = c.limit-limit.ensures.small in let below = c.if-upto-limit.false in let need = c.saturating_sub.ensures in
     tried c.args.self.now _ _ _ c.args.n c.look_at_claims-lo.result c.saturating_sub.result c.claim-found.result c.look_at_claims-lo.ensures.step c.has_room.ensures.only scan c.claim-found.ensures.step
     (omega arith, omega arith) c.if-lo-ge-HALT_BIT.false (omega arith) (omega arith) (omega arith)
+    (subst (λ (k : Shape). IsSize k.size) c.plan.ensures.plan c.plan.ensures.made.size)
 
 pub returns-then-found-lo-clause-own : goal.returns-then-found-lo-clause-own
 returns-then-found-lo-clause-own c =
