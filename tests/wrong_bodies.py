@@ -16,6 +16,7 @@ import argparse
 import functools
 import glob
 import heapq
+import itertools
 import os
 import re
 import shutil
@@ -174,8 +175,10 @@ def goal_of(output, path, why):
     if not why.startswith("not proved"):
         return None
     # The notes before the function's own line tell what of it is not proved; else an error in its proof files does.
-    if match := re.search(rf"^note: .*\(`([^`]+)`\)(?:.*\nnote: .*)*\nfn {re.escape(path)}: ", output, re.M):
-        return match[1]
+    before = output[: output.index(f"\nfn {path}: ")].split("\n")
+    notes = itertools.takewhile(lambda it: it.startswith("note: "), reversed(before))
+    if goals := [it[1] for it in (re.search(r"\(`([^`]+)`\)", note) for note in notes) if it]:
+        return goals[-1]
     folder = "proofs/" + "/".join(path.split("::")[1:]) + "/"
     errors = re.findall(rf"^(?:\./)?{re.escape(folder)}\S+?:\d+:\d+: error: (.*)$", output, re.M)
     own = [it for it in errors if not NAMES.search(re.sub(r"`[^`]*`", "", it))]
