@@ -2,8 +2,9 @@
 //!
 //! [`Recorded`] is the core of one thread with its history: the calls that changed something, and
 //! the events of their batches. [`Shared`] puts it behind one lock, and each thread calls through an
-//! [`End`] of its own, which counts; an [`Exchange`] says with which history it began; [`LockedInlet`] and [`LockedOutlet`] make that a producer's and
-//! a handler's end. [`halt`] halts the exchange. [`audit`] compares a history with what its producers were to send. Begin with
+//! [`End`] of its own, which counts. An [`Exchange`] says with which history it began.
+//! [`LockedInlet`] and [`LockedOutlet`] make an end a producer's or a handler's. [`halt`] halts the
+//! exchange. [`audit`] compares a history with what its producers were to send. Begin with
 //! `specs/Meaning/History`, then `Audit` beside it.
 //!
 //! Workers serve the ends of an exchange, whichever it is: [`produce`] sends a script through a
