@@ -1,7 +1,8 @@
 //! An end that claims, writes and publishes.
 
-ghost use Rattle.std.specs.Prelude.{◌≡◌, ◌+◌, ◌^◌, ◌≤◌, ℕ, None, length};
+ghost use Rattle.std.specs.Prelude.{◌≡◌, ◌+◌, ◌^◌, ◌≤◌, ℕ, None, Err, length};
 ghost use Rattle.dr_seq.specs.declared.event.Event.{Event};
+ghost use Rattle.dr_core.specs.declared.refusal.Refusal.TheVariants.{NotClaimed};
 ghost use Rattle.dr_core.specs.Calls.Ends.{IsEndsAnswer, ClaimAnswers, WriteAnswers, WriteAllAnswers, PublishAnswers};
 ghost use Rattle.dr_senders.specs.Meaning.Words.{claim_word, halted_from};
 ghost use Rattle.dr_senders.specs.Meaning.Records.{sender_looked};
@@ -63,7 +64,8 @@ impl Sender {
     /// sender's). They change nothing.
     #[tactic(auto, using(crate::proofs::Stations::begins_same, crate::proofs::Stations::begins_on))]
     pub fn write(&mut self, sequence: u64, event: Event) -> Result<(), Refusal>
-        ensures { WriteCall self.old sequence event self.new result }
+        ensures call { WriteCall self.old sequence event self.new result }
+        ensures beyond { 2 ^ 62 ≤ sequence → result ≡ Err NotClaimed }
     {
         if sequence >= self.station.plan().limit() {
             return Err(Refusal::NotClaimed);
@@ -87,7 +89,8 @@ impl Sender {
     /// of the first sequence that is refused `AlreadyPublished`, `NotClaimed` (another sender's) or
     /// `NotWritten`. They change nothing.
     pub fn publish(&mut self, lo: u64, hi: u64) -> Result<(), Refusal>
-        ensures { PublishCall self.old lo hi self.new result }
+        ensures call { PublishCall self.old lo hi self.new result }
+        ensures beyond { lo ≤ hi → 2 ^ 62 ≤ hi → result ≡ Err NotClaimed }
     {
         if lo > hi {
             return Err(Refusal::BadCount);

@@ -1,7 +1,7 @@
 -- What the machine answers to a call, as an end tells it that shows nothing of what it did.
 use Rattle.std.proofs.Common.{◌≡◌, ◌≢◌, ◌<◌, ◌≤◌, ◌+◌, ◌-◌, ◌^◌, ℕ, zero, suc, Bool, true, false, ◌&&◌, inl, inr, List, []}
 use Rattle.std.proofs.Common.{◌∷◌, ◌++◌, Ok, Err, Option, None, Some, Result, length, refl, sym, ◌∙◌, subst, arith, slice_index}
-use Rattle.std.specs.Prelude.{nat_lt, ◌==◌, flat_map}
+use Rattle.std.specs.Prelude.{nat_lt, nat_le, ◌==◌, flat_map}
 use Rattle.std.specs.List.{range_with_len}
 use Rattle.std.proofs.lemmas.Bool.{cond_both, cases_Bool, or_parts, eqb-false, false≢true}
 use Rattle.std.proofs.lemmas.Bool.Decides.{nat_tests}
@@ -146,22 +146,28 @@ claim_step {E} c m p n small size =
     let within : next m + n ≤ c.limit = grind (arith, nat_tests, none.1.1.1.0) in
     (known, (omega arith, omega arith, omega arith)))
 
-write_step : {E : Type 0} (c : Setup) (m : State E) (p s : ℕ) (e : E) → WriteTells E s (step c m (Write p s e)).reply
-write_step {E} c m p s e =
-    tells (WriteTells E s) (refusals c m (Write p s e)) (write_causes (write_tests {E = E} None s)) m (accepted c m (Write p s e))
-    (unsaid _, refl, (unsaid _, refl, (unsaid _, refl, (unsaid _, refl, tt)))) (λ r first. first) (λ none known. known)
+-- a sequence from 2^62 on is not claimed
+beyond : (n limit s : ℕ) → n ≤ limit → limit ≤ 2 ^ 62 → nat_le (2 ^ 62) s ≡ true → nat_le n s ≡ true
+beyond n limit s within small past = grind (arith, nat_tests, past, within, small)
 
-publish_right : {E : Type 0} (c : Setup) (m : State E) (p lo hi : ℕ)
+write_step : {E : Type 0} (c : Setup) (t : Transcript E) (m : State E) (p s : ℕ) (e : E) → c.limit ≤ 2 ^ 62 → LeadsTo c t m
+    → WriteTells E s (step c m (Write p s e)).reply
+write_step {E} c t m p s e small leads =
+    tells (WriteTells E s) (refusals c m (Write p s e)) (write_causes (write_tests {E = E} None s)) m (accepted c m (Write p s e))
+    (unsaid _, refl, (beyond (next m) c.limit s (held c t m leads).within small, refl, (unsaid _, refl, (unsaid _, refl, tt)))) (λ r first. first) (λ none known. known)
+
+publish_right : {E : Type 0} (c : Setup) (m : State E) (p lo hi : ℕ) → next m ≤ c.limit → c.limit ≤ 2 ^ 62
     → AreRight (refusals c m (Publish p lo hi)) (publish_causes lo hi (publish_tests {E = E} None lo hi))
-publish_right {E} c m p lo hi =
+publish_right {E} c m p lo hi within small =
     let stretch = right_stretch (publish_faults m p) (λ s. sequence_causes (end_sequence_tests {E = E} None s)) (λ s. (unsaid _, refl, (unsaid _, refl, (unsaid _, refl, tt)))) lo (hi + 1 - lo) in
     let order = right_join (flat_map (publish_faults m p) (range_with_len lo (hi + 1 - lo))) _ _ _ stretch (unsaid _, refl, tt) in
-    (unsaid _, refl, (refl, refl, (unsaid _, refl, order)))
+    (unsaid _, refl, (refl, refl, (beyond (next m) c.limit hi within small, refl, order)))
 
-publish_step : {E : Type 0} (c : Setup) (m : State E) (p lo hi : ℕ) → PublishTells E lo hi (step c m (Publish p lo hi)).reply
-publish_step {E} c m p lo hi =
+publish_step : {E : Type 0} (c : Setup) (t : Transcript E) (m : State E) (p lo hi : ℕ) → c.limit ≤ 2 ^ 62 → LeadsTo c t m
+    → PublishTells E lo hi (step c m (Publish p lo hi)).reply
+publish_step {E} c t m p lo hi small leads =
     tells (PublishTells E lo hi) (refusals c m (Publish p lo hi)) (publish_causes lo hi (publish_tests {E = E} None lo hi)) m (accepted c m (Publish p lo hi))
-    (publish_right c m p lo hi) (λ r first. first) (λ none known. known)
+    (publish_right c m p lo hi (held c t m leads).within small) (λ r first. first) (λ none known. known)
 
 complete_step : {E : Type 0} (c : Setup) (m : State E) (h upto : ℕ) → CompleteTells E upto (step c m (Complete h upto)).reply
 complete_step {E} c m h upto =
@@ -195,7 +201,7 @@ claim_tells {E} b p n reply values is = subst (ClaimTells E n) is.replies (claim
 
 pub write_tells : {E : Type 0} (b : History E) (p s : ℕ) (e : E) (reply : Reply) (values : List E) → IsAnswer b (Write p s e) reply values
     → WriteTells E s reply
-write_tells {E} b p s e reply values is = subst (WriteTells E s) is.replies (write_step is.before.core.setup is.recorded.runs.state p s e)
+write_tells {E} b p s e reply values is = subst (WriteTells E s) is.replies (write_step is.before.core.setup (transcript is.before) is.recorded.runs.state p s e is.recorded.small is.recorded.runs.leads)
 
 written_tells : {E : Type 0} (b : History E) (p s : ℕ) (e : E) (r : Result (Unit {0}) Trouble) → IsWritten b p s e r → WriteAnswers {E = E} None s r
 written_tells b p s e (Ok done) is = write_tells b p s e Written [] is
@@ -223,7 +229,7 @@ write_all_tells {E} b p lo events wrote is = record {
 
 pub publish_tells : {E : Type 0} (b : History E) (p lo hi : ℕ) (reply : Reply) (values : List E) → IsAnswer b (Publish p lo hi) reply values
     → PublishTells E lo hi reply
-publish_tells {E} b p lo hi reply values is = subst (PublishTells E lo hi) is.replies (publish_step is.before.core.setup is.recorded.runs.state p lo hi)
+publish_tells {E} b p lo hi reply values is = subst (PublishTells E lo hi) is.replies (publish_step is.before.core.setup (transcript is.before) is.recorded.runs.state p lo hi is.recorded.small is.recorded.runs.leads)
 
 pub complete_tells : {E : Type 0} (b : History E) (h upto : ℕ) (reply : Reply) (values : List E) → IsAnswer b (Complete h upto) reply values
     → CompleteTells E upto reply

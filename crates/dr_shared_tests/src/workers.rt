@@ -46,7 +46,10 @@ impl Inlet<Event> for Scarce {
         })
     }
 
-    fn write(&mut self, _s: u64, _event: Event) -> Result<(), Trouble> {
+    fn write(&mut self, s: u64, _event: Event) -> Result<(), Trouble> {
+        if s >= 1 << 62 {
+            return Err(Trouble::Refused(Refusal::NotClaimed));
+        }
         if self.finds_memory() {
             Ok(())
         } else {
@@ -57,6 +60,9 @@ impl Inlet<Event> for Scarce {
     fn publish(&mut self, lo: u64, hi: u64) -> Result<(), Trouble> {
         if lo > hi {
             return Err(Trouble::Refused(Refusal::BadCount));
+        }
+        if hi >= 1 << 62 {
+            return Err(Trouble::Refused(Refusal::NotClaimed));
         }
         if self.finds_memory() {
             Ok(())

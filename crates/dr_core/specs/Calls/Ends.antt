@@ -72,8 +72,12 @@ claim_tests (Some e) n = record {
   no_room = unknown;
 }
 
+-- a limit is at most 2^62, so a sequence from there on is nobody's
+abbrev pub is_beyond : ℕ → Verdict
+is_beyond s = AtLeast (nat_le (2 ^ 62) s)
+
 abbrev pub write_tests : {E : Type 0} → Option (Sent E) → ℕ → WriteTests Verdict
-write_tests None s = record { no_producer = unknown; unclaimed = unknown; published = unknown; not_owned = unknown }
+write_tests None s = record { no_producer = unknown; unclaimed = is_beyond s; published = unknown; not_owned = unknown }
 write_tests (Some e) s = record {
   no_producer = Exactly false;
   unclaimed = Exactly (nat_le (claimed_in e) s);
@@ -93,7 +97,7 @@ abbrev pub publish_tests : {E : Type 0} → Option (Sent E) → ℕ → ℕ → 
 publish_tests {E} None lo hi = record {
   no_producer = unknown;
   bad_count = Exactly (nat_lt hi lo);
-  unclaimed = unknown;
+  unclaimed = is_beyond hi;
   of_sequence = end_sequence_tests {E = E} None;
   out_of_order = unknown;
 }

@@ -20,11 +20,11 @@ found c =
 own_stays : {e a : SenderEnd} {hi : ℕ} {is : Bool} → Reached e hi a is → a.knows.own ≡ e.knows.own
 own_stays R = ap (λ (r : SenderRecord). r.own) R.knows
 
-pub returns-then-lo-hi : goal.returns-then-lo-hi
-returns-then-lo-hi c = publish_bad c.args.self.now c.args.lo c.args.hi c.if-lo-hi.true
+pub returns-then-lo-hi-clause-call : goal.returns-then-lo-hi-clause-call
+returns-then-lo-hi-clause-call c = publish_bad c.args.self.now c.args.lo c.args.hi c.if-lo-hi.true
 
-pub returns-then-hi-limit : goal.returns-then-hi-limit
-returns-then-hi-limit c =
+pub returns-then-hi-limit-clause-call : goal.returns-then-hi-limit-clause-call
+returns-then-hi-limit-clause-call c =
     let limit = c.limit.ensures.limit ∙ ap (λ (k : Shape). k.limit) c.plan.ensures.plan in let above = c.if-hi-limit.true in
     subst (λ (e : SenderEnd). PublishCall e c.args.lo c.args.hi e (Err NotClaimed)) c.self.view_is
     (publish_never c.self.inside.station c.args.lo c.args.hi c.if-lo-hi.false (omega arith))
@@ -33,9 +33,9 @@ pub invariant_of-self : goal.invariant_of-self
 invariant_of-self c =
     let R = found (goal.at.invariant_of-self c).After-reaches in fits_moved c.self.inside.station c.reaches.new.self _ R.stays.1 (own_stays R) c.self.invariant
 
-pub returns-then-not-reaches : goal.returns-then-not-reaches
-returns-then-not-reaches c =
-    let R = found (goal.at.returns-then-not-reaches c).After-reaches in
+pub returns-then-not-reaches-clause-call : goal.returns-then-not-reaches-clause-call
+returns-then-not-reaches-clause-call c =
+    let R = found (goal.at.returns-then-not-reaches-clause-call c).After-reaches in
     subst (λ (e : SenderEnd). PublishCall e c.args.lo c.args.hi c.reaches.new.self (Err NotClaimed)) c.self.view_is
     (publish_unclaimed c.self.inside.station c.reaches.new.self c.args.lo c.args.hi c.if-lo-hi.false (subst (Reached c.self.inside.station c.args.hi c.reaches.new.self) c.if-not-reaches.true R))
 
@@ -58,8 +58,8 @@ invariant_of-self-then-stop-hi c =
     (fits_moved c.self.inside.station c.reaches.new.self _ R.stays.1 (own_stays R) c.self.invariant)
     (λ s low high. mine_ready _ s (c.first_unready-stop.ensures.below s low (omega arith))) c.publish_all.ensures.0 c.publish_all.ensures.1 c.publish.ensures
 
-pub returns-then-stop-hi : goal.returns-then-stop-hi
-returns-then-stop-hi c =
+pub returns-then-stop-hi-clause-call : goal.returns-then-stop-hi-clause-call
+returns-then-stop-hi-clause-call c =
     let past = c.if-stop-hi.true in let order = c.if-lo-hi.false in let front = c.first_unready-stop.ensures in
     let load = stood c.self.inside.station c.reaches.new.self _ c.args.hi c.has-is_own.result c.reaches.result c.has-is_own.ensures
     (front.below c.args.hi order past) c.reaches.ensures in
@@ -71,9 +71,9 @@ invariant_of-self-then-not-has c =
     let R = found (goal.at.invariant_of-self-then-not-has c).After-reaches in let looked = c.refusal.ensures.1 in
     fits_moved c.self.inside.station c.refusal.new.self _ (looked.0.1 ∙ R.stays.1) (ap (λ (r : SenderRecord). r.own) looked.1 ∙ own_stays R) c.self.invariant
 
-pub returns-then-not-has : goal.returns-then-not-has
-returns-then-not-has c =
-    let R = subst (Reached c.self.inside.station c.args.hi c.reaches.new.self) c.if-not-reaches.false (found (goal.at.returns-then-not-has c).After-reaches) in
+pub returns-then-not-has-clause-call : goal.returns-then-not-has-clause-call
+returns-then-not-has-clause-call c =
+    let R = subst (Reached c.self.inside.station c.args.hi c.reaches.new.self) c.if-not-reaches.false (found (goal.at.returns-then-not-has-clause-call c).After-reaches) in
     subst (λ (e : SenderEnd). PublishCall e c.args.lo c.args.hi c.refusal.new.self (Err c.refusal.result)) c.self.view_is
     (publish_foreign c.self.inside.station c.reaches.new.self _ c.args.lo c.args.hi c.first_unready-stop.result c.self.invariant R c.first_unready-stop.ensures c.if-stop-hi.false
     c.refusal.new.self _ (sym c.if-not-has.ensures) c.refusal.ensures)
@@ -83,10 +83,10 @@ invariant_of-self-then-is_published c =
     let R = found (goal.at.invariant_of-self-then-is_published c).After-reaches in fits_moved c.self.inside.station c.reaches.new.self _ R.stays.1
     (own_stays R) c.self.invariant
 
-pub returns-then-is_published : goal.returns-then-is_published
-returns-then-is_published c =
+pub returns-then-is_published-clause-call : goal.returns-then-is_published-clause-call
+returns-then-is_published-clause-call c =
     let R = subst (Reached c.self.inside.station c.args.hi c.reaches.new.self) c.if-not-reaches.false
-    (found (goal.at.returns-then-is_published c).After-reaches) in
+    (found (goal.at.returns-then-is_published-clause-call c).After-reaches) in
     subst (λ (e : SenderEnd). PublishCall e c.args.lo c.args.hi c.reaches.new.self (Err AlreadyPublished)) c.self.view_is
     (publish_late c.self.inside.station c.reaches.new.self _ c.args.lo c.args.hi c.first_unready-stop.result c.self.invariant R c.first_unready-stop.ensures c.if-stop-hi.false
     (sym c.if-not-has.ensures) (sym c.if-is_published.ensures))
@@ -96,9 +96,9 @@ invariant_of-self-2 c =
     let R = found (goal.at.invariant_of-self-2 c).After-reaches in fits_moved c.self.inside.station c.reaches.new.self _ R.stays.1
     (own_stays R) c.self.invariant
 
-pub returns : goal.returns
-returns c =
-    let R = subst (Reached c.self.inside.station c.args.hi c.reaches.new.self) c.if-not-reaches.false (found (goal.at.returns c).After-reaches) in
+pub returns-clause-call : goal.returns-clause-call
+returns-clause-call c =
+    let R = subst (Reached c.self.inside.station c.args.hi c.reaches.new.self) c.if-not-reaches.false (found (goal.at.returns-clause-call c).After-reaches) in
     subst (λ (e : SenderEnd). PublishCall e c.args.lo c.args.hi c.reaches.new.self (Err NotWritten)) c.self.view_is
     (publish_unwritten c.self.inside.station c.reaches.new.self _ c.args.lo c.args.hi c.first_unready-stop.result c.self.invariant R c.first_unready-stop.ensures c.if-stop-hi.false
     (sym c.if-not-has.ensures) (sym c.if-is_published.ensures))

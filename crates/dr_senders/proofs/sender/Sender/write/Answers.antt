@@ -14,13 +14,13 @@ invariant_of-self c =
     let looked = c.refusal.ensures.1 in fits_moved c.self.inside.station c.refusal.new.self _ looked.0.1
     (ap (λ (r : SenderRecord). r.own) looked.1) c.self.invariant
 
-pub returns-then-not-has : goal.returns-then-not-has
-returns-then-not-has c =
+pub returns-then-not-has-clause-call : goal.returns-then-not-has-clause-call
+returns-then-not-has-clause-call c =
     subst (λ (e : SenderEnd). WriteCall e c.args.sequence c.args.event c.refusal.new.self (Err c.refusal.result)) c.self.view_is
     (write_refused c.self.inside.station c.refusal.new.self _ c.args.sequence c.args.event _ c.self.invariant (sym c.if-not-has.ensures) c.refusal.ensures)
 
-pub returns-then-is_published : goal.returns-then-is_published
-returns-then-is_published c =
+pub returns-then-is_published-clause-call : goal.returns-then-is_published-clause-call
+returns-then-is_published-clause-call c =
     subst (λ (e : SenderEnd). WriteCall e c.args.sequence c.args.event e (Err AlreadyPublished)) c.self.view_is
     (write_late c.self.inside.station _ c.args.sequence c.args.event c.self.invariant (sym c.if-not-has.ensures) (sym c.if-is_published.ensures))
 
@@ -36,7 +36,7 @@ invariant_of-self-2 c =
     fits_write c.self.inside.station c.write.new.self _ _ c.args.sequence c.args.event size c.self.invariant (sym c.if-not-has.ensures) c.write.ensures.0
     (c.write.ensures.1 ∙ wrote_once c.self.inside.station.knows c.args.sequence c.args.event.first c.args.event) c.write-2.ensures
 
-pub returns : goal.returns
-returns c =
+pub returns-clause-call : goal.returns-clause-call
+returns-clause-call c =
     subst (λ (e : SenderEnd). WriteCall e c.args.sequence c.args.event c.write.new.self (Ok tt)) c.self.view_is
     (write_done c.self.inside.station c.write.new.self _ c.args.sequence c.args.event c.self.invariant (sym c.if-not-has.ensures) (sym c.if-is_published.ensures) c.write.ensures)
