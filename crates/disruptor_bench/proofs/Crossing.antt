@@ -27,3 +27,6 @@ pub task_send : (L : RattleType) (g : Ghosts L.Denot) → IsSend (Task.the_row L
 task_send L g = search sends depth 60 fits 20000
 
 pub ruleset crosses = (sendable, task_send, around_sync)
+
+-- what they give back
+pub ruleset gives = (sendable, std.crosses, end_send)

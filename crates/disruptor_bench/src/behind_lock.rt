@@ -34,7 +34,7 @@ fn ends<L: Exchange<Event>>(
     alloc: Global,
     shared: &mut Shared<Event, L>,
     count: usize,
-) -> Result<Vec<End<L>>, Fault> {
+) -> Result<Vec<End<Event, L>>, Fault> {
     let mut ends = Vec::with_capacity(alloc, count)?;
     for _end in 0..count {
         ends.push(shared.end().ok_or(Fault::Ends)?)?;

@@ -57,3 +57,6 @@ handler_send L g =
     (search sends depth 40, (search sends depth 40, (search sends depth 40, (receiving_send, (search sends depth 40, tt))))))
 
 pub ruleset crosses = (sendable, producer_send, handler_send, around_sync)
+
+-- what they give back
+pub ruleset gives = (sendable, std.crosses, end_send)

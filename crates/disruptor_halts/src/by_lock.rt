@@ -66,7 +66,7 @@ fn handlers<L: Exchange<Event>>(
 /// What came of an exchange, with the ends apart.
 #[derive(Drop)]
 struct Gathered<L: Ledger> {
-    ends: Vec<End<L>>,
+    ends: Vec<End<Event, L>>,
     scripts: Vec<Vec<Event>>,
     received: Vec<Received>,
 }

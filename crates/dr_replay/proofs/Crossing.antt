@@ -31,3 +31,6 @@ pub task_send : (a : NamedLft) (L : RattleType) (g : Ghosts L.Denot) → IsSend 
 task_send a L g = search sends depth 60 fits 20000
 
 pub ruleset crosses = (sendable, end_send, task_send, around_sync)
+
+-- what they give back
+pub ruleset gives = (sendable, std.crosses, end_send)

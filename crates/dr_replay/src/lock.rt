@@ -110,7 +110,7 @@ fn fault_in<T>(part: &Result<T, WorkFault>) -> Option<WorkFault>
 fn gathered<L: Exchange<Event>>(
     alloc: Global,
     shared: Shared<Event, L>,
-    handlers: [End<L>; 4],
+    handlers: [End<Event, L>; 4],
     producers: Vec<Sent<L>>,
 ) -> Result<(Recorded<Event>, Vec<Option<WorkFault>>), AllocError>
     requires { shared.given ≡ 4 + length producers.items }

@@ -33,18 +33,18 @@ pub struct Around<'a, L: Exchange<Event>, R, G> {
 /// The ends of an exchange, before they go to their workers.
 #[derive(Drop)]
 pub struct Ends<L: Ledger> {
-    halter: End<L>,
-    journal: End<L>,
-    replica: End<L>,
-    business: End<L>,
-    producers: Vec<End<L>>,
+    halter: End<Event, L>,
+    journal: End<Event, L>,
+    replica: End<Event, L>,
+    business: End<Event, L>,
+    producers: Vec<End<Event, L>>,
 }
 
 // What a producer's worker is given.
 #[derive(Drop)]
 struct Task<'a, L: Ledger> {
     p: usize,
-    end: End<L>,
+    end: End<Event, L>,
     script: &'a [Event],
 }
 
@@ -52,21 +52,21 @@ struct Task<'a, L: Ledger> {
 /// handler was shown.
 #[derive(Drop)]
 pub struct Handled<L: Ledger, P: Reporter> {
-    pub end: End<L>,
+    pub end: End<Event, L>,
     pub part: Result<Part<P>, WorkFault>,
 }
 
 /// What a producer's worker gives back.
 #[derive(Drop)]
 pub struct Sent<L: Ledger> {
-    pub end: End<L>,
+    pub end: End<Event, L>,
     pub fault: Option<WorkFault>,
 }
 
 /// What came of an exchange: all ends are back.
 #[derive(Drop)]
 pub struct Joined<L: Ledger> {
-    pub halter: End<L>,
+    pub halter: End<Event, L>,
     pub journal: Handled<L, Journal>,
     pub replica: Handled<L, Replica>,
     pub business: Handled<L, Business>,
@@ -74,7 +74,7 @@ pub struct Joined<L: Ledger> {
 }
 
 // One end more.
-fn new_end<L: Exchange<Event>>(shared: &mut Shared<Event, L>) -> Result<End<L>, AllocError>
+fn new_end<L: Exchange<Event>>(shared: &mut Shared<Event, L>) -> Result<End<Event, L>, AllocError>
     ensures { IfOk result (λ end. shared.new.given ≡ shared.old.given + 1) }
 {
     shared.end().ok_or(AllocError)
@@ -85,7 +85,7 @@ fn list_of_ends<L: Exchange<Event>>(
     alloc: Global,
     shared: &mut Shared<Event, L>,
     producers: usize,
-) -> Result<Vec<End<L>>, AllocError>
+) -> Result<Vec<End<Event, L>>, AllocError>
     ensures given { IfOk result (λ ends. shared.new.given ≡ shared.old.given + length ends.items) }
     ensures producers { IfOk result (λ ends. length ends.items ≡ producers) }
 {
@@ -124,7 +124,7 @@ pub fn make_ends<L: Exchange<Event>>(
 fn handle<L: Exchange<Event>, R: Wait, G: Gate, P: Reporter>(
     around: &Around<'_, L, R, G>,
     who: usize,
-    end: End<L>,
+    end: End<Event, L>,
 ) -> Handled<L, P> {
     let mut outlet = LockedOutlet::new(around.rt, around.shared, end, who);
     let mut listing = Listing::<P>::new(around.alloc);
@@ -169,7 +169,7 @@ fn send<L: Exchange<Event>, R: Wait, G: Gate>(
 fn send_all<L: Exchange<Event> + Send + Sync, R: Threads + Wait + Sync, G: Gate + Sync>(
     around: &Around<'_, L, R, G>,
     scripts: &[Vec<Event>],
-    ends: Vec<End<L>>,
+    ends: Vec<End<Event, L>>,
 ) -> Result<Vec<Sent<L>>, AllocError>
     requires { length ends.items ≡ length scripts.now }
     ensures { IfOk result (λ sent. length sent.items ≡ length scripts.now) }
@@ -219,7 +219,7 @@ fn are_all<L: Ledger>(handlers: &Handlers<L>) -> bool {
 fn send_if<L: Exchange<Event> + Send + Sync, R: Threads + Wait + Sync, G: Gate + Sync>(
     around: &Around<'_, L, R, G>,
     scripts: &[Vec<Event>],
-    producers: Vec<End<L>>,
+    producers: Vec<End<Event, L>>,
     is_whole: bool,
 ) -> Result<Vec<Sent<L>>, AllocError>
     requires { length producers.items ≡ length scripts.now }
@@ -259,8 +259,8 @@ fn join_handlers<L: Ledger, R: Threads>(
 fn served<L: Exchange<Event> + Send + Sync, R: Threads + Wait + Sync, G: Gate + Sync>(
     around: &Around<'_, L, R, G>,
     scripts: &[Vec<Event>],
-    mut halter: End<L>,
-    producers: Vec<End<L>>,
+    mut halter: End<Event, L>,
+    producers: Vec<End<Event, L>>,
     handlers: Handlers<L>,
 ) -> Result<Joined<L>, AllocError>
     requires { length producers.items ≡ length scripts.now }

@@ -37,16 +37,16 @@ share_sync L g = record { shared = λ d b o κ q. part_keyless (Share.the_row L 
 pub rest_sync : (L : RattleType) (g : Ghosts L.Denot) → IsSync (Rest.the_row L g)
 rest_sync L g = let s : IsSync (Share.the_row L g) = share_sync L g in search sendable depth 20
 
-pub end_send : (L : RattleType) (g : Ghosts L.Denot) → IsSend (End.the_row L g)
-end_send L g = let share : IsSend (Share.the_row L g) = the_send L g in search sendable depth 30
+pub ruleset passes = (sendable, std.crosses, maps.crosses)
+
+pub end_send : (E L : RattleType) (g : Ghosts L.Denot) → IsSend (End.the_row E L g)
+end_send E L g = let share : IsSend (Share.the_row L g) = the_send L g in search passes depth 40
 
 pub share_send : (L : RattleType) (g : Ghosts L.Denot) → IsSend (Share.the_row L g)
 share_send L g = the_send L g
 
 pub book_send : (L : RattleType) (g : Ghosts L.Denot) → IsSend (Book.the_row L g)
 book_send L g = the_book_send L g
-
-pub ruleset passes = (sendable, std.crosses, maps.crosses)
 
 pub event_send : IsSend Event.the_row
 event_send = search passes depth 30

@@ -1,17 +1,18 @@
 //! Halting an exchange behind a lock.
 
-ghost use Rattle.std.specs.Prelude.{◌≡◌, ◌+◌};
+ghost use Rattle.std.specs.Prelude.{◌≡◌, Some};
+ghost use Rattle.dr_shared.specs.Calls.Lock.{after_call};
 
 use crate::exchange::Exchange;
 use crate::shared::{End, Shared};
 use crate::waiting::Waiting;
-use dr_core::Command;
+use dr_core::{Command, Reply};
 use std::sync::Wait;
 
 /// Halts the exchange, once there is memory for the call: no later claim succeeds. Every halt is
-/// kept in the history, however often the exchange is halted, and the end counts it.
-pub fn halt<E: Copy, L: Exchange<E>, R: Wait>(rt: &R, shared: &Shared<E, L>, end: &mut End<L>)
-    ensures { end.new ≡ record { calls = end.old.calls + 1; halts = end.old.halts + 1 } }
+/// kept in the history, however often the exchange is halted, and the end counts and remembers it.
+pub fn halt<E: Copy, L: Exchange<E>, R: Wait>(rt: &R, shared: &Shared<E, L>, end: &mut End<E, L>)
+    ensures { end.new ≡ after_call Command.Halt (Some Reply.Halting) end.old }
 {
     let mut waiting = Waiting::new(1);
     for _ in rt.forever() {

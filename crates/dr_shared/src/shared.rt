@@ -1,10 +1,12 @@
 //! The exchange behind one lock.
 
+ghost use Rattle.std.specs.Result.{result_ok};
 ghost use Rattle.std.specs.Prelude.{◌≡◌, ◌↔◌, ◌+◌, ◌^◌, ◌<◌, ◌≤◌, [], IfOk, IfErr, OnErr, IsErr, MatchOption, if◌then◌else◌, ◌*◌, drop, is_ok, length, sum_by, take, vec_len};
 ghost use Rattle.dr_core.specs.Meaning.Runs.{count_in};
-ghost use Rattle.dr_shared.specs.Meaning.History.{GoesOn, asked, entries_since, halts_in, halts_of, is_kept as is_kept_of};
+ghost use Rattle.dr_shared.specs.Meaning.History.{GoesOn, asked, entries_since, halts_in, halts_of};
 ghost use Rattle.dr_core.specs.Calls.Shows.{unit_reply};
-ghost use Rattle.dr_shared.specs.Calls.Lock.{AreWritten, IsAnswer, UnlessMemory, counted, no_calls, with_calls};
+ghost use Rattle.dr_shared.specs.Calls.Lock.{AfterWrites, AreWritten, IsAnswer, UnlessMemory, after_call, counted, no_calls, told_by};
+ghost use Rattle.dr_shared.specs.Inside.Locked.{AreWrites, IsCall, IsLacking, IsWrite};
 ghost use Rattle.dr_shared.specs.Inside.Weights.{most_calls, weight, weight_since};
 
 use crate::entry::is_kept;
@@ -13,6 +15,7 @@ use crate::recorded::Recorded;
 use dr_core::{Command, Reply, Trouble, Wrote};
 use std::alloc::AllocError;
 use std::marker::{Model, PhantomData};
+use std::snapshot::Snapshot;
 use std::sync::ledger::{Blank, Book, Ledger, Share};
 use std::sync::{Mutex, Wait};
 
@@ -74,22 +77,25 @@ impl<E, L: Exchange<E>> Model for Shared<E, L> {
 
 /// One thread's end of a shared history; the ledger ties it to that history alone. Contracts see how
 /// many of its calls were kept, and how many of these were halts. In the ledger a halt weighs more
-/// than all other calls could.
+/// than all other calls could. They also see its last call, kept or not, with the answer: once the
+/// lock is open again no clause can speak of the shared history, but the end keeps what it asked.
 #[derive(Drop)]
-pub struct End<L: Ledger> {
+pub struct End<E, L: Ledger> {
     share: Share<L>,
     calls: u64,
     halts: u64,
+    asked: Snapshot<Option<Command<E>>>,
+    answered: Snapshot<Option<Reply>>,
 }
 
-impl<L: Ledger> Model for End<L> {
+impl<E, L: Ledger> Model for End<E, L> {
     ghost use Rattle.std.specs.Prelude.{◌≡◌, ◌≤◌};
     ghost use Rattle.dr_shared.specs.Calls.Lock.{EndView};
     ghost use Rattle.dr_shared.specs.Inside.Weights.{most_calls, weight};
 
-    ghost Value = { EndView };
+    ghost Value = { EndView E };
 
-    ghost view = { λ a. record { calls = a.calls; halts = a.halts } };
+    ghost view = { λ a. record { calls = a.calls; halts = a.halts; asked = a.asked.value; answered = a.answered.value } };
 
     ghost invariant = { λ a. (a.share.parts ≡ 1) × (a.share.amount ≡ weight a.calls a.halts) × (a.halts ≤ a.calls) × (a.calls ≤ most_calls) };
 }
@@ -98,10 +104,10 @@ impl<L: Ledger> Model for End<L> {
 #[derive(Drop)]
 pub struct Unfinished<E, L: Exchange<E>> {
     pub shared: Shared<E, L>,
-    pub ends: Vec<End<L>>,
+    pub ends: Vec<End<E, L>>,
 }
 
-impl<L: Ledger> End<L> {
+impl<E, L: Ledger> End<E, L> {
     /// How many of its calls were kept.
     pub fn calls(&self) -> u64
         ensures { result ≡ self.now.calls }
@@ -115,9 +121,11 @@ impl<L: Ledger> End<L> {
     {
         self.halts
     }
+}
 
+impl<E: Copy, L: Ledger> End<E, L> {
     /// Counts a kept call, in the ledger too.
-    fn count<E: Copy>(&mut self, ledger: &mut Book<L>, command: Command<E>)
+    fn count(&mut self, ledger: &mut Book<L>, command: Command<E>)
         requires { self.old.calls < most_calls }
         ensures end { self.new ≡ counted command self.old }
         ensures total { ledger.new.total ≡ ledger.old.total + weight 1 (halts_of command) }
@@ -126,6 +134,7 @@ impl<L: Ledger> End<L> {
             share,
             calls,
             halts,
+            ..
         } = self;
         ledger.add(share, 1);
         *calls += 1;
@@ -135,37 +144,63 @@ impl<L: Ledger> End<L> {
             *halts += 1;
         }
     }
+
+    /// Remembers the last call, and what was answered to it.
+    fn remember(&mut self, command: Command<E>, reply: Option<Reply>)
+        ensures { self.new ≡ record self.old { asked = Some command; answered = reply } }
+    {
+        let End {
+            asked,
+            answered,
+            ..
+        } = self;
+        *asked = Snapshot::of(&Some(command));
+        *answered = Snapshot::of(&reply);
+    }
 }
 
 impl<E: Copy, L: Exchange<E>> Locked<E, L> {
-    /// The history's call, which the end counts where it is kept.
+    /// The history's call, which the end counts where it is kept. Here the history is at hand, so its
+    /// clauses are exact of it.
     fn call(
         &mut self,
-        end: &mut End<L>,
+        end: &mut End<E, L>,
         command: Command<E>,
         out: &mut [E],
     ) -> Result<Reply, AllocError>
         requires { asked command ≤ length out.old }
         ensures answer { IfOk result (λ reply. IsAnswer L.begun command reply (take (count_in reply) out.new)) }
+        ensures call { IfOk result (λ reply. IsCall self.old.recorded command reply (take (count_in reply) out.new) self.new.recorded) }
+        ensures memory { OnErr result (IsLacking end.old.calls self.old.recorded command self.new.recorded) }
         ensures rest { IfOk result (λ reply. drop (count_in reply) out.new ≡ drop (count_in reply) out.old) }
-        ensures counts { IfOk result (λ reply. end.new ≡ (if is_kept_of reply then counted command end.old else end.old)) }
-        ensures unchanged { OnErr result ((end.new ≡ end.old) × (out.new ≡ out.old)) }
+        ensures unchanged { OnErr result (out.new ≡ out.old) }
+        ensures end { end.new ≡ after_call command (result_ok result) end.old }
     {
         if end.calls == MOST_CALLS {
+            end.remember(command, None);
             return Err(AllocError);
         }
         let Locked { recorded, calls } = self;
-        let reply = recorded.call(command, out)?;
-        if is_kept(reply) {
-            end.count(calls, command);
+        match recorded.call(command, out) {
+            Ok(reply) => {
+                if is_kept(reply) {
+                    end.count(calls, command);
+                }
+                end.remember(command, Some(reply));
+                Ok(reply)
+            }
+            Err(fault) => {
+                end.remember(command, None);
+                Err(fault)
+            }
         }
-        Ok(reply)
     }
 
     /// Writes the event of a claimed sequence.
-    fn write(&mut self, end: &mut End<L>, p: u64, s: u64, event: E) -> Result<(), Trouble>
+    fn write(&mut self, end: &mut End<E, L>, p: u64, s: u64, event: E) -> Result<(), Trouble>
         ensures answer { UnlessMemory (λ answer. IsAnswer L.begun (Command.Write p s event) (unit_reply Reply.Written answer) []) result }
-        ensures counts { end.new ≡ (if is_ok result then with_calls 1 end.old else end.old) }
+        ensures call { IsWrite end.old.calls self.old.recorded p s event self.new.recorded result }
+        ensures end { end.new ≡ after_call (Command.Write p s event) (told_by (unit_reply Reply.Written) result) end.old }
     {
         match self.call(end, Command::Write { p, s, event }, &mut []) {
             Ok(Reply::Written) => Ok(()),
@@ -176,10 +211,12 @@ impl<E: Copy, L: Exchange<E>> Locked<E, L> {
     }
 
     /// Writes events to the sequences from `lo` on, until one is not written.
-    fn write_all(&mut self, end: &mut End<L>, p: u64, lo: u64, events: &[E]) -> Wrote
+    fn write_all(&mut self, end: &mut End<E, L>, p: u64, lo: u64, events: &[E]) -> Wrote
         requires limit { lo + length events.now ≤ 2 ^ 62 }
         ensures answer { AreWritten L.begun p lo events.now result }
-        ensures counts { end.new ≡ with_calls result.count end.old }
+        ensures calls { AreWrites end.old.calls self.old.recorded p lo events.now self.new.recorded result }
+        ensures counts { (end.new.calls ≡ end.old.calls + result.count) × (end.new.halts ≡ end.old.halts) }
+        ensures end { AfterWrites end.old p lo events.now result end.new }
     {
         for (k, event) in events.iter().enumerate() {
             match self.write(end, p, lo + k as u64, *event) {
@@ -236,7 +273,7 @@ impl<E: Copy, L: Exchange<E>> Shared<E, L> {
     }
 
     /// An end for one thread, or `None` after [`MAX_ENDS`].
-    pub fn end(&mut self) -> Option<End<L>>
+    pub fn end(&mut self) -> Option<End<E, L>>
         ensures end { MatchOption result ((self.old.given ≡ 64) × (self.new ≡ self.old)) (λ end. (end ≡ no_calls) × (self.new ≡ record self.old { given = self.old.given + 1 })) }
     {
         if self.given == MAX_ENDS {
@@ -248,26 +285,28 @@ impl<E: Copy, L: Exchange<E>> Shared<E, L> {
             share,
             calls: 0,
             halts: 0,
+            asked: Snapshot::of(&None),
+            answered: Snapshot::of(&None),
         })
     }
 
     /// One call of the history, while the lock is held: it may wait for the lock. What it answers is
     /// what the machine answers after some history that goes on from the one that the lock began with,
-    /// and the end counts it where it is kept. For a poll `out` holds as many events as it asks for; a
+    /// and the end counts it where it is kept, and remembers it. For a poll `out` holds as many events as it asks for; a
     /// batch stands at its front. Where an allocation fails the call may be made again. An end that
     /// counted 2^57 calls answers all others as if one failed.
     pub fn call(
         &self,
         rt: &impl Wait,
-        end: &mut End<L>,
+        end: &mut End<E, L>,
         command: Command<E>,
         out: &mut [E],
     ) -> Result<Reply, AllocError>
         requires { asked command ≤ length out.old }
         ensures answer { IfOk result (λ reply. IsAnswer L.begun command reply (take (count_in reply) out.new)) }
         ensures rest { IfOk result (λ reply. drop (count_in reply) out.new ≡ drop (count_in reply) out.old) }
-        ensures counts { IfOk result (λ reply. end.new ≡ (if is_kept_of reply then counted command end.old else end.old)) }
-        ensures unchanged { OnErr result ((end.new ≡ end.old) × (out.new ≡ out.old)) }
+        ensures unchanged { OnErr result (out.new ≡ out.old) }
+        ensures end { end.new ≡ after_call command (result_ok result) end.old }
     {
         self.locked.lock(rt).call(end, command, out)
     }
@@ -277,14 +316,15 @@ impl<E: Copy, L: Exchange<E>> Shared<E, L> {
     pub fn write_all(
         &self,
         rt: &impl Wait,
-        end: &mut End<L>,
+        end: &mut End<E, L>,
         p: u64,
         lo: u64,
         events: &[E],
     ) -> Wrote
         requires limit { lo + length events.now ≤ 2 ^ 62 }
         ensures answer { AreWritten L.begun p lo events.now result }
-        ensures counts { end.new ≡ with_calls result.count end.old }
+        ensures counts { (end.new.calls ≡ end.old.calls + result.count) × (end.new.halts ≡ end.old.halts) }
+        ensures end { AfterWrites end.old p lo events.now result end.new }
     {
         self.locked.lock(rt).write_all(end, p, lo, events)
     }
@@ -295,7 +335,7 @@ impl<E: Copy, L: Exchange<E>> Shared<E, L> {
 /// all is handed back.
 pub fn finish<E, L: Exchange<E>>(
     shared: Shared<E, L>,
-    ends: Vec<End<L>>,
+    ends: Vec<End<E, L>>,
 ) -> Result<Recorded<E>, Unfinished<E, L>>
     ensures missing { IsErr result ↔ (vec_len ends < shared.given) }
     ensures goes_on { IfOk result (λ recorded. GoesOn L.begun recorded.history) }
@@ -316,11 +356,7 @@ pub fn finish<E, L: Exchange<E>>(
     let Rest { share: mut all } = rest;
     let mut ends = ends;
     while let Some(end) = ends.pop() {
-        let End {
-            share,
-            calls: _,
-            halts: _,
-        } = end;
+        let End { share, .. } = end;
         all.merge(share);
     }
     let Locked {

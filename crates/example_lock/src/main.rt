@@ -30,10 +30,10 @@ fn script(p: u64) -> [Event; 10] {
 /// An end for each worker, and one that halts.
 #[derive(Drop)]
 struct Ends<L: Ledger> {
-    first: End<L>,
-    second: End<L>,
-    handler: End<L>,
-    halter: End<L>,
+    first: End<Event, L>,
+    second: End<Event, L>,
+    handler: End<Event, L>,
+    halter: End<Event, L>,
 }
 
 /// Counts what it is shown.
@@ -56,9 +56,9 @@ impl Handler<Event> for Counter {
 fn send<L: Exchange<Event>, R: Wait>(
     rt: &R,
     shared: &Shared<Event, L>,
-    end: End<L>,
+    end: End<Event, L>,
     p: u64,
-) -> End<L> {
+) -> End<Event, L> {
     let mut inlet = LockedInlet::new(rt, shared, end, p);
     let script = script(p);
     let _sent = produce(rt, &mut inlet, &OpenGate, 0, script.as_slice(), 4);
@@ -69,9 +69,9 @@ fn send<L: Exchange<Event>, R: Wait>(
 fn receive<L: Exchange<Event>, R: Wait>(
     rt: &R,
     shared: &Shared<Event, L>,
-    end: End<L>,
+    end: End<Event, L>,
     h: usize,
-) -> End<L> {
+) -> End<Event, L> {
     let mut outlet = LockedOutlet::new(rt, shared, end, h);
     let mut buffer = [Event::NONE; 4];
     let mut counter = Counter { seen: 0 };

@@ -34,35 +34,35 @@ pub struct Around<'a, L: Exchange<Event>, R> {
 /// The ends of a round.
 #[derive(Drop)]
 pub struct Parties<L: Ledger> {
-    pub halter: End<L>,
-    pub producers: Vec<End<L>>,
-    pub handlers: Vec<End<L>>,
+    pub halter: End<Event, L>,
+    pub producers: Vec<End<Event, L>>,
+    pub handlers: Vec<End<Event, L>>,
 }
 
 /// A worker's number among those of its kind, and its end.
 #[derive(Drop)]
 struct Task<L: Ledger> {
     k: usize,
-    end: End<L>,
+    end: End<Event, L>,
 }
 
 /// What a producer gives back. That it sent all is seen by what the handlers added up.
 #[derive(Drop)]
 pub struct Sent<L: Ledger> {
-    pub end: End<L>,
+    pub end: End<Event, L>,
 }
 
 /// What a handler gives back.
 #[derive(Drop)]
 pub struct Handled<L: Ledger> {
-    pub end: End<L>,
+    pub end: End<Event, L>,
     pub total: u64,
 }
 
 /// What all threads gave back.
 #[derive(Drop)]
 pub struct Joined<L: Ledger> {
-    pub halter: End<L>,
+    pub halter: End<Event, L>,
     pub sent: Vec<Sent<L>>,
     pub handled: Vec<Handled<L>>,
 }
@@ -113,7 +113,7 @@ fn gather<T: Drop, L: Exchange<Event>, R: Threads + Wait>(
 /// Starts a thread for each producer, and joins them.
 fn send_all<L: Exchange<Event> + Send + Sync, R: Threads + Wait + Sync>(
     around: &Around<'_, L, R>,
-    ends: Vec<End<L>>,
+    ends: Vec<End<Event, L>>,
 ) -> Result<Vec<Sent<L>>, Fault> {
     thread::scope(
         thread::scope_env(),

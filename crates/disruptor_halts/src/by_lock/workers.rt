@@ -35,7 +35,7 @@ pub struct Around<'a, L: Exchange<Event>, R> {
 #[derive(Drop)]
 pub struct Producer<L: Ledger> {
     pub p: u64,
-    pub end: End<L>,
+    pub end: End<Event, L>,
     pub random: Random,
     pub sending: Sending,
 }
@@ -43,7 +43,7 @@ pub struct Producer<L: Ledger> {
 #[derive(Drop)]
 pub struct Handler<L: Ledger> {
     pub h: usize,
-    pub end: End<L>,
+    pub end: End<Event, L>,
     pub random: Random,
     pub receiving: Receiving,
     /// Whether it is retired at some time, if it may be.
@@ -55,35 +55,35 @@ pub struct Handler<L: Ledger> {
 pub struct Parties<L: Ledger> {
     pub producers: Vec<Producer<L>>,
     pub handlers: Vec<Handler<L>>,
-    pub halter: End<L>,
+    pub halter: End<Event, L>,
     pub random: Random,
 }
 
 /// What a producer gives back.
 #[derive(Drop)]
 pub struct Sent<L: Ledger> {
-    pub end: End<L>,
+    pub end: End<Event, L>,
     pub script: Result<Vec<Event>, Fault>,
 }
 
 /// What a handler gives back.
 #[derive(Drop)]
 pub struct Handled<L: Ledger> {
-    pub end: End<L>,
+    pub end: End<Event, L>,
     pub received: Result<Received, Fault>,
 }
 
 /// What the halter and the producers gave back.
 #[derive(Drop)]
 struct Published<L: Ledger> {
-    halter: End<L>,
+    halter: End<Event, L>,
     sent: Vec<Sent<L>>,
 }
 
 /// What all threads gave back.
 #[derive(Drop)]
 pub struct Joined<L: Ledger> {
-    pub halter: End<L>,
+    pub halter: End<Event, L>,
     pub sent: Vec<Sent<L>>,
     pub handled: Vec<Handled<L>>,
 }
@@ -91,7 +91,7 @@ pub struct Joined<L: Ledger> {
 /// Asks that a handler is retired, and says whether it takes more.
 fn retire<L: Exchange<Event>, R: Wait>(
     around: &Around<'_, L, R>,
-    end: &mut End<L>,
+    end: &mut End<Event, L>,
     h: usize,
 ) -> Result<Stretch, Fault> {
     let command = Command::Retire { h };
@@ -181,7 +181,7 @@ impl<L: Exchange<Event>> Handler<L> {
 fn publish<L: Exchange<Event> + Send + Sync, R: Threads + Wait + Sync>(
     around: &Around<'_, L, R>,
     producers: Vec<Producer<L>>,
-    halter: End<L>,
+    halter: End<Event, L>,
     random: Random,
 ) -> Result<Published<L>, Fault> {
     thread::scope(

@@ -1,18 +1,16 @@
 -- A history behind a lock.
-use Rattle.std.specs.Prelude.{◌≡◌, ℕ, ◌+◌, ◌<◌, Bool, true, false, Option, None, Some, Result, Ok, Err, List, [], length, slice_get}
+use Rattle.std.specs.Prelude.{◌≡◌, ℕ, ◌+◌, ◌<◌, if◌then◌else◌, Option, None, Some, Result, Ok, Err, List, [], length, slice_get}
 use Rattle.dr_core.specs.declared.command.Command.{Command}
 use Rattle.dr_core.specs.declared.command.Command.TheVariants.{Halt, Write}
 use Rattle.dr_core.specs.declared.command.Reply.{Reply}
 use Rattle.dr_core.specs.declared.command.Reply.TheVariants.{Written}
-use Rattle.dr_core.specs.declared.command.Polled.{Polled}
-use Rattle.dr_core.specs.declared.command.Polled.TheVariants.{Batch, Drained}
 use Rattle.dr_core.specs.declared.refusal.Refusal.{Refusal}
 use Rattle.dr_core.specs.declared.ends.Trouble.{Trouble}
 use Rattle.dr_core.specs.declared.ends.Trouble.TheVariants.{Refused, Memory}
 use Rattle.dr_core.specs.declared.ends.Wrote.{Wrote}
 use Rattle.dr_core.specs.Calls.Shows.{unit_reply}
 use Rattle.dr_core.specs.Meaning.Machine.{step}
-use Rattle.dr_shared.specs.Meaning.History.{GoesOn, History, IsRecorded}
+use Rattle.dr_shared.specs.Meaning.History.{GoesOn, History, IsRecorded, is_kept}
 
 -- what contracts see of a history behind a lock
 pub record SharedView : Type 0 where
@@ -20,22 +18,35 @@ pub record SharedView : Type 0 where
   pub given : ℕ  -- how many ends were given out
 
 -- what contracts see of an end
-pub record EndView : Type 0 where
+pub record EndView (E : Type 0) : Type 0 where
   pub calls : ℕ  -- how many of its calls were kept
   pub halts : ℕ  -- how many of these were halts
+  pub asked : Option (Command E)  -- the last of all its calls
+  pub answered : Option Reply  -- what was answered to it, unless memory ran out
 
 -- an end that made no call
-abbrev pub no_calls : EndView
-no_calls = record { calls = 0; halts = 0 }
+abbrev pub no_calls : {E : Type 0} → EndView E
+no_calls = record { calls = 0; halts = 0; asked = None; answered = None }
 
 -- an end with so many calls more, none of which is a halt
-abbrev pub with_calls : ℕ → EndView → EndView
-with_calls n end = record { calls = end.calls + n; halts = end.halts }
+abbrev pub with_calls : {E : Type 0} → ℕ → EndView E → EndView E
+with_calls n end = record end { calls = end.calls + n }
 
--- an end after one call more
-abbrev pub counted : {E : Type 0} → Command E → EndView → EndView
-counted Halt end = record { calls = end.calls + 1; halts = end.halts + 1 }
+-- an end that counts one call more
+abbrev pub counted : {E : Type 0} → Command E → EndView E → EndView E
+counted Halt end = record end { calls = end.calls + 1; halts = end.halts + 1 }
 counted other end = with_calls 1 end
+
+-- an end after one call more, which it counts where its reply is kept; no reply is there where memory ran out
+abbrev pub after_call : {E : Type 0} → Command E → Option Reply → EndView E → EndView E
+after_call command None end = record end { asked = Some command; answered = None }
+after_call command (Some reply) end = record (if is_kept reply then counted command end else end) { asked = Some command; answered = Some reply }
+
+-- the reply to a call, as an end's own answer tells it
+abbrev pub told_by : {A : Type 0} → (Result A Refusal → Reply) → Result A Trouble → Option Reply
+told_by reply_of (Ok x) = Some (reply_of (Ok x))
+told_by reply_of (Err (Refused refusal)) = Some (reply_of (Err refusal))
+told_by reply_of (Err Memory) = None
 
 -- some history goes on from this one, and leads to a state in which the machine answers so
 pub record IsAnswer {E : Type 0} (begun : History E) (command : Command E) (reply : Reply) (values : List E) : Type 0 where
@@ -69,8 +80,18 @@ pub record AreWritten {E : Type 0} (begun : History E) (p lo : ℕ) (events : Li
   pub written : (k : ℕ) (event : E) → k < wrote.count → IsAt events k event → IsWritten begun p (lo + k) event (Ok tt)
   pub stops : StopsBy begun p lo events wrote.count wrote.trouble
 
--- of a poll's answers the history keeps batches and `Drained`
-abbrev pub is_kept_poll : Result Polled Trouble → Bool
-is_kept_poll (Ok (Batch first count end)) = true
-is_kept_poll (Ok Drained) = true
-is_kept_poll other = false
+-- the answer to the last of some writes
+abbrev pub last_answer : Option Trouble → Result (Unit {0}) Trouble
+last_answer None = Ok tt
+last_answer (Some trouble) = Err trouble
+
+-- how many of some writes were tried
+abbrev pub tried : ℕ → Option Trouble → ℕ
+tried count None = count
+tried count (Some trouble) = count + 1
+
+-- an end after writes of the first of some events to the sequences from lo on, one after another up to the first in trouble
+pub record AfterWrites {E : Type 0} (old : EndView E) (p lo : ℕ) (events : List E) (wrote : Wrote) (new : EndView E) : Type 0 where
+  pub nothing : events ≡ [] → new ≡ old
+  pub last : (k : ℕ) (event : E) → IsAt events k event → k + 1 ≡ tried wrote.count wrote.trouble
+      → new ≡ after_call (Write p (lo + k) event) (told_by (unit_reply Written) (last_answer wrote.trouble)) (with_calls k old)

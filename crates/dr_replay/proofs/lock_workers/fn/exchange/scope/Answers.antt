@@ -1,6 +1,6 @@
 use denote.Param.Send.{IsSync}
 use Rattle.dr_shared.proofs.Sent.{of_param}
-use Rattle.dr_replay.proofs.Crossing.{crosses}
+use Rattle.dr_replay.proofs.Crossing.{crosses, gives}
 use Rattle.dr_replay.proofs.lock_workers.fn.exchange.scope.Goals as goal
 
 -- a worker's closure may go to another thread: it has a reference to what all share, and an end
@@ -25,3 +25,14 @@ spawn-business-requires-send-F g c κs within =
     let workers : IsSync g.row.R = of_param _ g.row.R c.requires.workers in
     let gates : IsSync g.row.G = of_param _ g.row.G c.requires.gates in
     search crosses depth 40 fits 20000
+
+-- what it gives back may be sent: its end, and what came of its work
+
+pub spawn-journal-requires-send-T : goal.spawn-journal-requires-send-T
+spawn-journal-requires-send-T g c κs within = search gives depth 60 fits 20000
+
+pub spawn-replica-requires-send-T : goal.spawn-replica-requires-send-T
+spawn-replica-requires-send-T g c κs within = search gives depth 60 fits 20000
+
+pub spawn-business-requires-send-T : goal.spawn-business-requires-send-T
+spawn-business-requires-send-T g c κs within = search gives depth 60 fits 20000
