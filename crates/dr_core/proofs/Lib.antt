@@ -28,4 +28,5 @@ pub mod Finishing
 pub mod Resting
 pub mod Going
 pub mod Turns
+pub mod Calling
 pub mod ManyWrites

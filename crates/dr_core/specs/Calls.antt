@@ -6,4 +6,5 @@ pub mod Refusal
 pub mod OpenFault
 pub mod Trouble
 pub mod Handling
+pub mod Calling
 pub mod Ends

@@ -2,6 +2,7 @@
 
 ghost use Rattle.std.specs.Prelude.{◌≡◌, ◌||◌, ◌+◌, ◌^◌, ◌≤◌, ℕ, Bool, Option, None, length, take};
 ghost use Rattle.dr_core.specs.Calls.Trouble.{number_of, name_of};
+ghost use Rattle.dr_core.specs.Calls.Calling.{InletCall, OutletCall, TriesClaim, WritesOne, PublishesStretch, PollsInto, CompletesBelow, WritesBy};
 ghost use Rattle.dr_core.specs.Calls.Ends.{Sent, Received, ClaimAnswers, WriteAnswers, PublishAnswers, PollAnswers, CompleteAnswers, is_drained, WhereShown, Claims, Writes, Publishes, Takes, Completes, WriteAllAnswers, WritesAll};
 ghost use Rattle.dr_core.specs.declared.ends.Trouble.TheVariants.{Refused};
 
@@ -69,18 +70,24 @@ pub trait Inlet<E: Copy> {
     /// What it sent so far, where the type shows it: one that shows it is the only producer.
     ghost sent: { Self → Option (Sent E) } = { λ _. None };
 
+    /// What a call with its answer tells of the end before and after it, beside what it shows:
+    /// nothing, unless the type says more.
+    ghost does: { Self → InletCall E → Self → Type 0 } = { λ _ _ _. Unit {0} };
+
     /// Claims the next `n` sequences.
     fn try_claim(&mut self, n: u64) -> Result<Claimed, Trouble>
         ensures kept { kept self.new ≡ kept self.old }
         ensures answer { ClaimAnswers (sent self.old) n result }
-        ensures sent { WhereShown (Claims n result) (sent self.old) (sent self.new) };
+        ensures sent { WhereShown (Claims n result) (sent self.old) (sent self.new) }
+        ensures called { does self.old (TriesClaim n result) self.new };
 
     /// Writes the event of a sequence that is claimed and not published, in place of one that was
     /// written before.
     fn write(&mut self, s: u64, event: E) -> Result<(), Trouble>
         ensures kept { kept self.new ≡ kept self.old }
         ensures answer { WriteAnswers (sent self.old) s result }
-        ensures sent { WhereShown (Writes s event result) (sent self.old) (sent self.new) };
+        ensures sent { WhereShown (Writes s event result) (sent self.old) (sent self.new) }
+        ensures called { does self.old (WritesOne s event result) self.new };
 
     /// Writes events to the sequences from `lo` on, as `write` does, until one is not written. An
     /// exchange behind a lock does so while it holds the lock once.
@@ -89,6 +96,7 @@ pub trait Inlet<E: Copy> {
         ensures kept { kept self.new ≡ kept self.old }
         ensures answer { WriteAllAnswers (sent self.old) lo (length events.now) result }
         ensures sent { WhereShown (WritesAll lo (take result.count events.now)) (sent self.old) (sent self.new) }
+        ensures called { WritesBy does lo events.now result self.old self.new }
     {
         for (k, event) in events.iter().enumerate() {
             match self.write(lo + k as u64, *event) {
@@ -111,7 +119,8 @@ pub trait Inlet<E: Copy> {
     fn publish(&mut self, lo: u64, hi: u64) -> Result<(), Trouble>
         ensures kept { kept self.new ≡ kept self.old }
         ensures answer { PublishAnswers (sent self.old) lo hi result }
-        ensures sent { WhereShown (Publishes lo hi result) (sent self.old) (sent self.new) };
+        ensures sent { WhereShown (Publishes lo hi result) (sent self.old) (sent self.new) }
+        ensures called { does self.old (PublishesStretch lo hi result) self.new };
 }
 
 /// A handler's end. Its calls answer as the machine does, and in trouble they change nothing.
@@ -127,18 +136,23 @@ pub trait Outlet<E> {
     /// Whether it was told that the exchange drained.
     ghost told: { Self → Bool };
 
+    /// What a call with its answer tells of the end before and after it, as [`Inlet`] has it.
+    ghost does: { Self → OutletCall E → Self → Type 0 } = { λ _ _ _. Unit {0} };
+
     /// Takes the next events, as many as the barrier offers and `out` has room for, to the front
     /// of `out`.
     fn poll_into(&mut self, out: &mut [E]) -> Result<Polled, Trouble>
         ensures kept { kept self.new ≡ kept self.old }
         ensures answer { PollAnswers (received self.old) out.old out.new result }
         ensures told { told self.new ≡ (told self.old || is_drained result) }
-        ensures received { WhereShown (Takes out.new result) (received self.old) (received self.new) };
+        ensures received { WhereShown (Takes out.new result) (received self.old) (received self.new) }
+        ensures called { does self.old (PollsInto out.old out.new result) self.new };
 
     /// Completes all events below `upto`.
     fn complete(&mut self, upto: u64) -> Result<(), Trouble>
         ensures kept { kept self.new ≡ kept self.old }
         ensures answer { CompleteAnswers (received self.old) upto result }
         ensures told { told self.new ≡ told self.old }
-        ensures received { WhereShown (Completes upto result) (received self.old) (received self.new) };
+        ensures received { WhereShown (Completes upto result) (received self.old) (received self.new) }
+        ensures called { does self.old (CompletesBelow upto result) self.new };
 }
