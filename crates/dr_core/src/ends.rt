@@ -96,7 +96,7 @@ pub trait Inlet<E: Copy> {
         ensures kept { kept self.new ≡ kept self.old }
         ensures answer { WriteAllAnswers (sent self.old) lo (length events.now) result }
         ensures sent { WhereShown (WritesAll lo (take result.count events.now)) (sent self.old) (sent self.new) }
-        ensures called { WritesBy does lo events.now result self.old self.new }
+        ensures called { WritesBy self.old self.new does lo events.now result }
     {
         for (k, event) in events.iter().enumerate() {
             match self.write(lo + k as u64, *event) {

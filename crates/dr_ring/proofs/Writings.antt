@@ -1,7 +1,9 @@
 -- Many events, written one after another.
-use Rattle.std.proofs.Common.{◌≡◌, ℕ, ◌+◌, ◌<◌, List, [], ◌∷◌, ◌++◌, length, take, get_or, Some, Ok, sym, refl, ap, ◌∙◌, subst, arith, append_assoc}
+use Rattle.std.proofs.Common.{◌≡◌, ℕ, ◌+◌, ◌<◌, List, [], ◌∷◌, ◌++◌, length, take, get_or, None, Some, Ok, Err, sym, refl, ap, ◌∙◌, subst, arith, append_assoc}
 use Rattle.std.proofs.lemmas.List.{length-take-le, take_more, append-nil}
 use Rattle.dr_seq.specs.declared.event.Event.{Event}
+use Rattle.dr_core.specs.declared.refusal.Refusal.{Refusal}
+use Rattle.dr_core.specs.declared.ends.Trouble.TheVariants.{Refused}
 use Rattle.dr_core.specs.Calls.Ends.{WriteAnswers, WritesAll}
 use Rattle.dr_core.proofs.ManyWrites.{below_more, answer_before, written_more}
 use Rattle.dr_ring.specs.declared.record.SenderRecord.{SenderRecord}
@@ -10,7 +12,7 @@ use Rattle.dr_ring.specs.declared.record.Step.TheVariants.{SenderStoresFirst, Se
 use Rattle.dr_runs.specs.Runs.{IsBeginning}
 use Rattle.dr_ring.specs.Calls.Ends.{SenderEnd, sender_place}
 use Rattle.dr_ring.proofs.Stations.{begins_same, begins_on}
-use Rattle.dr_ring.specs.Calls.Sending.{OnlySends, WriteCall, writes_from}
+use Rattle.dr_ring.specs.Calls.Sending.{OnlySends, WriteAllCall, WriteCall, writes_from}
 
 -- a sender has written the first k of some events
 pub record WroteFirst (e : SenderEnd) (lo : ℕ) (events : List Event) (k : ℕ) (e' : SenderEnd) : Type 0 where
@@ -55,3 +57,18 @@ wrote_more e a b lo k s events d event less at is W C =
           ∙ ap (λ (n : ℕ). e.stored ++ (writes_from lo (take k events) ++ steps n)) place
           ∙ ap (λ (xs : List Step). e.stored ++ xs) (sym (writes_append lo (take k events) event) ∙ ap (writes_from lo) (sym more));
     }
+
+-- the next one is refused
+pub wrote_refused : (e a b : SenderEnd) (lo k s : ℕ) (events : List Event) (event : Event) (refusal : Refusal) → WroteFirst e lo events k a → WriteCall a s event b (Err refusal)
+    → WriteAllCall e lo events b (record { count = k; trouble = Some (Refused refusal) })
+wrote_refused e a b lo k s events event refusal W C = record {
+  place = C.0 ∙ W.place;
+  only = only_more e.knows a.knows b.knows W.only C.1.2;
+  stored = C.2 ∙ W.stored;
+  memory = λ is. cc;
+  past = begins_on e.past a.past b.past W.past C.3;
+}
+
+-- all are written
+pub wrote_each : (e a : SenderEnd) (lo k n : ℕ) (events : List Event) → k ≡ n → WroteFirst e lo events k a → WriteAllCall e lo events a (record { count = n; trouble = None })
+wrote_each e a lo k n events same W = record { place = W.place; only = W.only; stored = subst (λ m. a.stored ≡ e.stored ++ writes_from lo (take m events)) same W.stored; memory = λ is. cc; past = W.past }

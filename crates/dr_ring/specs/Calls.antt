@@ -6,5 +6,6 @@ pub mod Ends
 pub mod Finds
 pub mod Sending
 pub mod Receiving
+pub mod Telling
 pub mod Making
 pub mod Replies

@@ -4,6 +4,7 @@ ghost use Rattle.std.specs.Prelude.{◌≡◌, ◌<◌, ◌^◌, ◌||◌, [], �
 ghost use Rattle.dr_core.specs.Calls.Ends.{IsEndsAnswer, PollAnswers, CompleteAnswers, is_drained, Takes, Completes};
 ghost use Rattle.dr_ring.specs.Calls.Ends.{receiver_place, received_of, looks_counted};
 ghost use Rattle.dr_ring.specs.Calls.Receiving.{PollCall, CompleteCall};
+ghost use Rattle.dr_ring.specs.Calls.Telling.{receiver_does};
 
 use crate::laws::ReceiverStation;
 use crate::polling::nothing_offered;
@@ -108,6 +109,8 @@ impl Outlet<Event> for Receiver {
     ghost received = { λ e. Some (received_of e.knows) };
 
     ghost told = { λ e. e.knows.told };
+
+    ghost does = { receiver_does };
 
     fn poll_into(&mut self, out: &mut [Event]) -> Result<Polled, Trouble>
         ensures kept { receiver_place self.new ≡ receiver_place self.old }

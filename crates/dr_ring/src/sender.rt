@@ -1,9 +1,11 @@
 //! The one end that claims, writes and publishes.
 
 ghost use Rattle.std.specs.Prelude.{◌≡◌, ◌+◌, ◌^◌, ◌≤◌, Some, length, take};
+ghost use Rattle.dr_core.specs.Calls.Calling.{WritesBy};
 ghost use Rattle.dr_core.specs.Calls.Ends.{IsEndsAnswer, ClaimAnswers, WriteAnswers, PublishAnswers, Claims, Writes, Publishes, WriteAllAnswers, WritesAll};
 ghost use Rattle.dr_ring.specs.Calls.Ends.{sender_place, looks_counted};
 ghost use Rattle.dr_ring.specs.Calls.Sending.{ClaimCall, WriteCall, WriteAllCall, PublishCall, CloseCall};
+ghost use Rattle.dr_ring.specs.Calls.Telling.{sender_does};
 
 use crate::laws::SenderStation;
 use crate::settled::HandlerCounts;
@@ -166,6 +168,8 @@ impl Inlet<Event> for Sender {
 
     ghost sent = { λ e. Some e.knows.sent };
 
+    ghost does = { sender_does };
+
     fn try_claim(&mut self, n: u64) -> Result<Claimed, Trouble>
         ensures kept { sender_place self.new ≡ sender_place self.old }
         ensures answer { ClaimAnswers (Some self.old.knows.sent) n result }
@@ -191,6 +195,7 @@ impl Inlet<Event> for Sender {
         ensures answer { WriteAllAnswers (Some self.old.knows.sent) lo (length events.now) result }
         ensures sent { WritesAll lo (take result.count events.now) self.old.knows.sent self.new.knows.sent }
         ensures own { WriteAllCall self.old lo events.now self.new result }
+        ensures called { WritesBy self.old self.new sender_does lo events.now result }
     {
         for (k, event) in events.iter().enumerate() {
             match Sender::write(self, lo + k as u64, *event) {

@@ -6,6 +6,7 @@ pub mod ClaimFault
 pub mod Sending
 pub mod Writing
 pub mod Receiving
+pub mod Telling
 pub mod Making
 pub mod Settling
 pub mod Replies

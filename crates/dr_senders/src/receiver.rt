@@ -5,6 +5,7 @@ ghost use Rattle.dr_core.specs.Calls.Ends.{IsEndsAnswer, PollAnswers, CompleteAn
 ghost use Rattle.dr_ring.specs.Calls.Ends.{looks_counted};
 ghost use Rattle.dr_senders.specs.Calls.Ends.{receiver_place};
 ghost use Rattle.dr_senders.specs.Calls.Receiving.{received_of, PollCall, CompleteCall};
+ghost use Rattle.dr_senders.specs.Calls.Telling.{receiver_does};
 
 use crate::laws::ReceiverStation;
 use crate::plan::HALT_BIT;
@@ -113,6 +114,8 @@ impl Outlet<Event> for Receiver {
     ghost received = { λ e. Some (received_of e.knows) };
 
     ghost told = { λ e. e.knows.told };
+
+    ghost does = { receiver_does };
 
     fn poll_into(&mut self, out: &mut [Event]) -> Result<Polled, Trouble>
         ensures kept { receiver_place self.new ≡ receiver_place self.old }

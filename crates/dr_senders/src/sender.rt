@@ -3,6 +3,7 @@
 ghost use Rattle.std.specs.Prelude.{◌≡◌, ◌+◌, ◌^◌, ◌≤◌, ℕ, None, Err, length};
 ghost use Rattle.dr_seq.specs.declared.event.Event.{Event};
 ghost use Rattle.dr_core.specs.declared.refusal.Refusal.TheVariants.{NotClaimed};
+ghost use Rattle.dr_core.specs.Calls.Calling.{WritesBy};
 ghost use Rattle.dr_core.specs.Calls.Ends.{IsEndsAnswer, ClaimAnswers, WriteAnswers, WriteAllAnswers, PublishAnswers};
 ghost use Rattle.dr_senders.specs.Meaning.Words.{claim_word, halted_from};
 ghost use Rattle.dr_senders.specs.Meaning.Records.{sender_looked};
@@ -11,6 +12,7 @@ ghost use Rattle.dr_ring.specs.Calls.Ends.{looks_counted};
 ghost use Rattle.dr_senders.specs.Calls.Ends.{HasStored, sender_place};
 ghost use Rattle.dr_senders.specs.Calls.Sending.{ClaimCall, ClaimsAsEnd};
 ghost use Rattle.dr_senders.specs.Calls.Writing.{WriteCall, WriteAllCall, PublishCall};
+ghost use Rattle.dr_senders.specs.Calls.Telling.{sender_does};
 
 use crate::claiming::ClaimFault;
 use crate::laws::SenderStation;
@@ -151,6 +153,8 @@ impl Inlet<Event> for Sender {
 
     ghost kept = { sender_place };
 
+    ghost does = { sender_does };
+
     fn try_claim(&mut self, n: u64) -> Result<Claimed, Trouble>
         ensures kept { sender_place self.new ≡ sender_place self.old }
         ensures answer { ClaimAnswers {E = Event} None n result }
@@ -176,6 +180,7 @@ impl Inlet<Event> for Sender {
         ensures kept { sender_place self.new ≡ sender_place self.old }
         ensures answer { WriteAllAnswers {E = Event} None lo (length events.now) result }
         ensures own { WriteAllCall self.old lo events.now self.new result.count result.trouble }
+        ensures called { WritesBy self.old self.new sender_does lo events.now result }
     {
         for (k, event) in events.iter().enumerate() {
             match Inlet::write(self, lo + k as u64, *event) {

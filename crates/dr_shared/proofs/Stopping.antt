@@ -1,22 +1,75 @@
 -- A worker that is stopped, turn by turn.
-use Rattle.std.proofs.Common.{◌≡◌, ◌≢◌, ℕ, Bool, true, false, Option, Some, ⊎_elim, inl, refl, sym, ap}
-use Rattle.std.proofs.lemmas.Bool.{false≢true}
+use Rattle.std.proofs.Common.{◌≡◌, ◌≢◌, ◌⊎◌, ◌+◌, ◌-◌, ◌^◌, ◌<◌, ◌≤◌, ℕ, Bool, true, false, Option, Some, ⊎_elim, inl, inr, refl, sym, ap, ◌∙◌, subst, arith, add-zero, zero-add}
+use Rattle.std.proofs.lemmas.Bool.{cases_lt, false≢true}
 use Rattle.std.proofs.lemmas.Option.{none-some}
 use Rattle.dr_core.specs.declared.ends.Trouble.{Trouble}
 use Rattle.dr_core.specs.declared.ends.Trouble.TheVariants as trouble
 use Rattle.dr_shared.specs.declared.fault.WorkFault.{WorkFault}
 use Rattle.dr_shared.specs.declared.fault.WorkFault.TheVariants.{Memory, Stopped}
 use Rattle.dr_shared.specs.declared.turns.Turns.{Turns}
-use Rattle.dr_shared.specs.Calls.Stops.{Passes, fault_at_end, fault_in_trouble}
+use Rattle.dr_shared.specs.Calls.Stops.{Passes, Stops, begins, fault_at_end, fault_in_trouble}
 
 -- no turn
-pub passes_none : (may_stop : ℕ → Type 0) (t : Turns) → Passes may_stop t t
-passes_none may_stop t = record { who = refl; stopped = λ is. inl is }
+pub passes_none : (may_stop : ℕ → Type 0) (must_stop : ℕ → ℕ → Type 0) (t : Turns) → Passes may_stop must_stop 0 t t
+passes_none may_stop must_stop t = record { who = refl; may = λ is. inl is; stays = λ is. is; turn = λ going fits. sym (add-zero t.turn); must = λ k less fits stop. absurd (omega arith) }
+
+-- who is not stopped later is not before
+going_before : (b c : Bool) → (b ≡ true → c ≡ true) → c ≡ false → b ≡ false
+going_before true c stays going = absurd (false≢true (sym going ∙ stays refl))
+going_before false c stays going = refl
+
+stopped_or_not : (b : Bool) → (b ≡ true) ⊎ (b ≡ false)
+stopped_or_not true = inl refl
+stopped_or_not false = inr refl
+
+-- at a later turn
+must_later : (may_stop : ℕ → Type 0) (must_stop : ℕ → ℕ → Type 0) (n m k : ℕ) (a b c : Turns) → Passes may_stop must_stop n a b → Passes may_stop must_stop m b c → n ≤ k → k < n + m
+    → a.turn + k < 2 ^ 64 → must_stop a.who (a.turn + k) → c.stopped ≡ true
+must_later may_stop must_stop n m k a b c h l late less fits stop =
+    elim (stopped_or_not b.stopped) [
+      | inl stopped ↦ l.stays stopped
+      | inr going ↦
+          let at : b.turn ≡ a.turn + n = h.turn going (omega arith) in
+          let there : a.turn + k ≡ b.turn + (k - n) = omega arith in
+          l.must (k - n) (omega arith) (omega arith) (subst (λ t. must_stop b.who t) there (subst (λ w. must_stop w (a.turn + k)) (sym h.who) stop))
+    ]
+
+-- some turns after others
+pub passes_more : (may_stop : ℕ → Type 0) (must_stop : ℕ → ℕ → Type 0) (n m : ℕ) (a b c : Turns) → Passes may_stop must_stop n a b → Passes may_stop must_stop m b c
+    → Passes may_stop must_stop (n + m) a c
+passes_more may_stop must_stop n m a b c h l = record {
+  who = l.who ∙ h.who;
+  may = λ is. ⊎_elim (λ before. h.may before) (λ now. inr (subst may_stop h.who now)) (l.may is);
+  stays = λ is. l.stays (h.stays is);
+  turn = λ going fits.
+      let first : b.turn ≡ a.turn + n = h.turn (going_before b.stopped c.stopped l.stays going) (omega arith) in
+      let second : c.turn ≡ b.turn + m = l.turn going (omega arith) in
+      omega arith;
+  must = λ k less fits stop. elim (cases_lt k n) [
+    | inl early ↦ l.stays (h.must k early fits stop)
+    | inr not ↦ must_later may_stop must_stop n m k a b c h l (omega arith) less fits stop
+  ];
+}
+
+-- one turn
+pub passes_stopped : (may_stop : ℕ → Type 0) (must_stop : ℕ → ℕ → Type 0) (t : Turns) → t.stopped ≡ true → Passes may_stop must_stop 1 t t
+passes_stopped may_stop must_stop t is =
+    record { who = refl; may = λ now. inl now; stays = λ now. now; turn = λ going fits. absurd (false≢true (sym going ∙ is)); must = λ k less fits stop. is }
+
+-- a worker that passed its gate so often answers by whether it was stopped
+pub stops_after : (may_stop : ℕ → Type 0) (must_stop : ℕ → ℕ → Type 0) (times who : ℕ) (t : Turns) (Answers : Bool → Type 0) → Passes may_stop must_stop times (begins who) t → Answers t.stopped
+    → Stops (may_stop who) (must_stop who) times Answers
+stops_after may_stop must_stop times who t Answers h answers = record {
+  stopped = t.stopped;
+  answers = answers;
+  may = λ is. ⊎_elim (λ before. absurd (false≢true before)) (λ now. now) (h.may is);
+  must = λ turn less fits stop. h.must turn less (omega arith) (subst (λ n. must_stop who n) (sym (zero-add turn)) stop);
+}
 
 -- one turn more
-pub stopped_more : (may_stop : ℕ → Type 0) (who : ℕ) (old new : Turns) → old.who ≡ who → (old.stopped ≡ true → may_stop who)
-    → Passes may_stop old new → new.stopped ≡ true → may_stop who
-stopped_more may_stop who old new same before passes is = ⊎_elim before (λ now. rw (sym same) now) (passes.stopped is)
+pub stopped_more : (may_stop : ℕ → Type 0) (must_stop : ℕ → ℕ → Type 0) (times who : ℕ) (old new : Turns) → old.who ≡ who → (old.stopped ≡ true → may_stop who)
+    → Passes may_stop must_stop times old new → new.stopped ≡ true → may_stop who
+stopped_more may_stop must_stop times who old new same before passes is = ⊎_elim before (λ now. rw (sym same) now) (passes.may is)
 
 -- who answers that it was stopped was stopped
 pub was_stopped : (stopped : Bool) → fault_at_end stopped ≡ Some Stopped → stopped ≡ true

@@ -34,20 +34,19 @@ hands_more bs cs old mid new h k =
     let at : length mid.events ≡ length old.events + length (dealt_events bs) = ap length h.0 ∙ length-append old.events (dealt_events bs) in
     (events, FollowFrom-append (length old.events) (length mid.events) bs cs at h.1 k.1)
 
-hands_none : {E : Type 0} (a : Received E) → HandsOut [] a a
+pub hands_none : {E : Type 0} (a : Received E) → HandsOut [] a a
 hands_none a = (sym (append-nil a.events), tt)
 
 -- nothing was done
-pub works_none : {E : Type 0} {A : Type 0} (goes : Relation E A) (before : A) (old : Option (Received E)) → Works goes before before old old
-works_none goes before old = record { batches = []; through = refl; handed = shown_none (HandsOut []) hands_none old }
+pub works_none : {E : Type 0} {A : Type 0} (goes : Relation E A) (before : A) (old : Option (Received E)) → Works goes before before old old []
+works_none goes before old = record { through = refl; handed = shown_none (HandsOut []) hands_none old }
 
 -- some work after other work
-pub works_more : {E : Type 0} {A : Type 0} (goes : Relation E A) (before between after : A) (old mid new : Option (Received E)) → Works goes before between old mid
-    → Works goes between after mid new → Works goes before after old new
-works_more goes before between after old mid new h k = record {
-  batches = h.batches ++ k.batches;
-  through = rw shown_of-append (GoesThrough-append goes before (shown_of h.batches) (shown_of k.batches) between after h.through k.through);
-  handed = shown_through (HandsOut h.batches) (HandsOut k.batches) (HandsOut (h.batches ++ k.batches)) (hands_more h.batches k.batches) old mid new h.handed k.handed;
+pub works_more : {E : Type 0} {A : Type 0} (goes : Relation E A) (before between after : A) (old mid new : Option (Received E)) (bs cs : List (Dealt E)) → Works goes before between old mid bs
+    → Works goes between after mid new cs → Works goes before after old new (bs ++ cs)
+works_more goes before between after old mid new bs cs h k = record {
+  through = rw shown_of-append (GoesThrough-append goes before (shown_of bs) (shown_of cs) between after h.through k.through);
+  handed = shown_through (HandsOut bs) (HandsOut cs) (HandsOut (bs ++ cs)) (hands_more bs cs) old mid new h.handed k.handed;
 }
 
 -- what an end does that hands a batch out and has it completed
@@ -57,7 +56,7 @@ TakesBatch out first count end old new = Takes out (Ok (Batch first count end)) 
 abbrev pub IsCompleted : {E : Type 0} → ℕ → Received E → Received E → Type 0
 IsCompleted upto old new = Completes upto (Ok tt) old new
 
-abbrev one : {E : Type 0} → List E → ℕ → ℕ → Bool → Dealt E
+abbrev pub one : {E : Type 0} → List E → ℕ → ℕ → Bool → Dealt E
 one out first count end = record { first = first; events = take count out; end = end }
 
 taken_one : {E : Type 0} (out : List E) (first count : ℕ) (end : Bool) → 0 < count → count ≤ length out → (a b : Received E)
@@ -83,18 +82,17 @@ dealt before out answer first count end old new is fills whole taken =
 
 -- a batch was handed out, shown and then completed
 pub works_batch : {E : Type 0} {A : Type 0} (goes : Relation E A) (before after : A) (out : List E) (first count upto : ℕ) (end : Bool) (old mid new : Option (Received E)) → IsDealt out first count end old mid
-    → GoesThrough goes before (showings (take count out) first end) after → WhereShown (IsCompleted upto) mid new → Works goes before after old new
+    → GoesThrough goes before (showings (take count out) first end) after → WhereShown (IsCompleted upto) mid new
+    → Works goes before after old new (one out first count end ∷ [])
 works_batch goes before after out first count upto end old mid new deal through done = record {
-  batches = one out first count end ∷ [];
   through = rw (append-nil (showings (take count out) first end)) through;
   handed = shown_through (TakesBatch out first count end) (IsCompleted upto) (HandsOut (one out first count end ∷ [])) (λ a b c h k. completed_one upto (one out first count end ∷ []) a b c (taken_one out first count end deal.some deal.within a b h) k) old mid new deal.taken done;
 }
 
 -- a batch was handed out and shown
 pub works_shown : {E : Type 0} {A : Type 0} (goes : Relation E A) (before after : A) (out : List E) (first count : ℕ) (end : Bool) (old mid new : Option (Received E)) → IsDealt out first count end old mid
-    → GoesThrough goes before (showings (take count out) first end) after → new ≡ mid → Works goes before after old new
+    → GoesThrough goes before (showings (take count out) first end) after → new ≡ mid → Works goes before after old new (one out first count end ∷ [])
 works_shown {E} goes before after out first count end old mid new deal through same = record {
-  batches = one out first count end ∷ [];
   through = rw (append-nil (showings (take count out) first end)) through;
   handed = rw same (shown_through (TakesBatch out first count end) (λ b c. c ≡ b) (HandsOut (one out first count end ∷ [])) (λ a b c h k. rw k (taken_one out first count end deal.some deal.within a b h)) old mid mid deal.taken (shown_none (λ (b c : Received E). c ≡ b) (λ b. refl) mid));
 }

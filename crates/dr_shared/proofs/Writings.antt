@@ -187,6 +187,9 @@ pub stops_within : {E : Type 0} (shown : Option (Sent E)) (lo n count : ℕ) (tr
 stops_within shown lo n count None stops = omega arith
 stops_within shown lo n count (Some trouble) stops = (let less = stops.0 in omega arith)
 
+pub stops_before : {E : Type 0} (shown : Option (Sent E)) (lo n count : ℕ) (trouble : Option Trouble) (why : Trouble) → trouble ≡ Some why → StopsAt shown lo n count trouble → count < n
+stops_before shown lo n count trouble why is stops = (let at = subst (λ t. StopsAt shown lo n count t) is stops in at.0)
+
 pub stops_nowhere : {E : Type 0} (shown : Option (Sent E)) (lo n count : ℕ) (trouble : Option Trouble) → trouble ≡ None → StopsAt shown lo n count trouble → count ≡ n
 stops_nowhere shown lo n count trouble none stops = subst (λ t. StopsAt shown lo n count t) none stops
 

@@ -3,4 +3,5 @@ pub mod Lock
 pub mod AuditFault
 pub mod Fault
 pub mod Stops
+pub mod Serving
 pub mod Waits

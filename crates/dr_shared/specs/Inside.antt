@@ -2,5 +2,6 @@
 pub mod Sequences
 pub mod Weights
 pub mod Writes
+pub mod Retries
 pub mod Auditing
 pub mod Locked

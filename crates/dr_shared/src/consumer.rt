@@ -1,11 +1,13 @@
 //! The worker of a handler.
 
 ghost use Rattle.std.specs.Prelude.{◌≡◌, ◌≢◌, true, Err, IfNone, IfOk, OnOk, Some};
+ghost use Rattle.dr_core.specs.Calls.Calling.{SomeCalls};
 ghost use Rattle.dr_core.specs.Calls.Ends.{WhereShown};
 ghost use Rattle.dr_shared.specs.declared.consumer.Progress.TheVariants.{Drained};
 ghost use Rattle.dr_shared.specs.declared.fault.WorkFault.TheVariants.{Memory, Stopped};
-ghost use Rattle.dr_shared.specs.Calls.Stops.{Passes};
-ghost use Rattle.dr_shared.specs.Meaning.Work.{IsDone, Works};
+ghost use Rattle.dr_shared.specs.Calls.Serving.{Serves};
+ghost use Rattle.dr_shared.specs.Inside.Retries.{TakesBatch};
+ghost use Rattle.dr_shared.specs.Meaning.Work.{IsDone};
 
 use crate::fault::WorkFault;
 use crate::gate::Gate;
@@ -35,11 +37,10 @@ fn turn<E: Copy, R: Wait, O: Outlet<E>, G: Gate, H: Handler<E>>(
     buf: &mut [E],
 ) -> Result<Progress, Trouble>
     ensures kept { O.kept outlet.new ≡ O.kept outlet.old }
-    ensures works { Works H.goes handler.old handler.new (O.received outlet.old) (O.received outlet.new) }
+    ensures takes { SomeCalls O.does outlet.old outlet.new (TakesBatch H.goes handler.old handler.new (O.received outlet.old) (O.received outlet.new) (G.may_stop gate.now) (G.must_stop gate.now) turns.old turns.new result) }
     ensures done { OnOk result (WhereShown IsDone (O.received outlet.old) (O.received outlet.new)) }
     ensures waits { result ≢ Err Trouble.Memory }
     ensures drained { IfOk result (λ progress. progress ≡ Drained → O.told outlet.new ≡ true) }
-    ensures passes { Passes (G.may_stop gate.now) turns.old turns.new }
 {
     match outlet.poll_into(buf) {
         Ok(Polled::Batch { first, count, end }) => {
@@ -67,8 +68,9 @@ pub fn consume<E: Copy, R: Wait, O: Outlet<E>, G: Gate, H: Handler<E>>(
     buf: &mut [E],
 ) -> Option<WorkFault>
     ensures kept { O.kept outlet.new ≡ O.kept outlet.old }
-    // The handler was shown all events that the end handed out, in order, batch by batch.
-    ensures works { Works H.goes handler.old handler.new (O.received outlet.old) (O.received outlet.new) }
+    // The handler was shown all events that the end handed out, in order, batch by batch, with the
+    // marks that it gave, and the answer is that of the last call, or that the gate stopped the worker.
+    ensures serves { SomeCalls O.does outlet.old outlet.new (Serves H.goes handler.old handler.new (O.received outlet.old) (O.received outlet.new) (G.may_stop gate.now who) (G.must_stop gate.now who) result) }
     ensures done { IfNone result (WhereShown IsDone (O.received outlet.old) (O.received outlet.new)) }
     ensures drained { IfNone result (O.told outlet.new ≡ true) }
     ensures waits { result ≢ Some Memory }

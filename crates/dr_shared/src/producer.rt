@@ -1,9 +1,11 @@
 //! The worker of a producer.
 
 ghost use Rattle.std.specs.Prelude.{◌≡◌, ◌<◌, ◌≤◌, [], length, take, IfNone, OnErr, OnOk, Some};
+ghost use Rattle.dr_core.specs.Calls.Calling.{SomeCalls};
 ghost use Rattle.dr_core.specs.Calls.Ends.{WhereShown};
 ghost use Rattle.dr_shared.specs.declared.fault.WorkFault.TheVariants.{Stopped};
-ghost use Rattle.dr_shared.specs.Calls.Stops.{Passes};
+ghost use Rattle.dr_shared.specs.Calls.Serving.{Sends};
+ghost use Rattle.dr_shared.specs.Inside.Retries.{SendsPart};
 ghost use Rattle.dr_shared.specs.Meaning.Work.{Adds, LeavesNothingOpen};
 
 use crate::fault::WorkFault;
@@ -34,7 +36,7 @@ fn send<E: Copy, R: Wait, I: Inlet<E>, G: Gate>(
     ensures sent { OnOk result (WhereShown (Adds events.now) (I.sent inlet.old) (I.sent inlet.new)) }
     ensures fault { OnErr result (WhereShown (Adds []) (I.sent inlet.old) (I.sent inlet.new)) }
     ensures open { WhereShown LeavesNothingOpen (I.sent inlet.old) (I.sent inlet.new) }
-    ensures passes { Passes (G.may_stop gate.now) turns.old turns.new }
+    ensures sends { SomeCalls I.does inlet.old inlet.new (SendsPart (length events.now) (G.may_stop gate.now) (G.must_stop gate.now) turns.old turns.new result) }
 {
     let Claimed { lo, hi } = claim(rt, inlet, events.len() as u64)?;
     turns.pass(gate);
@@ -61,6 +63,8 @@ pub fn produce<E: Copy, R: Wait, I: Inlet<E>, G: Gate>(
     ensures within { result.sent ≤ length script.now }
     ensures all { IfNone result.fault (result.sent ≡ length script.now) }
     ensures stopped { result.fault ≡ Some Stopped → G.may_stop gate.now who }
+    // Its claims are cut as told, and a fault is the last call's, or that the gate stopped the worker.
+    ensures sends { SomeCalls I.does inlet.old inlet.new (Sends cut (length script.now) (G.may_stop gate.now who) (G.must_stop gate.now who) result) }
 {
     let mut turns = Turns::new(who);
     let mut sent = 0;

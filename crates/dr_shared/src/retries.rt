@@ -1,8 +1,10 @@
 //! Calls of ends that are tried again while they have to wait.
 
 ghost use Rattle.std.specs.Prelude.{◌≡◌, ◌≢◌, ◌+◌, ◌^◌, ◌≤◌, [], length, Err, Ok, IfOk, OnErr, OnOk};
+ghost use Rattle.dr_core.specs.Calls.Calling.{SomeCalls, TriesClaim, PublishesStretch, CompletesBelow};
 ghost use Rattle.dr_core.specs.Calls.Ends.{Claims, Completes, GivesStretch, PublishAnswers, Publishes, WhereShown, WritesAll};
 ghost use Rattle.dr_shared.specs.Meaning.Work.{Adds};
+ghost use Rattle.dr_shared.specs.Inside.Retries.{AreWrites, Retries};
 ghost use Rattle.dr_shared.specs.Inside.Writes.{MayRefuse};
 
 use crate::waiting::Waiting;
@@ -20,6 +22,7 @@ pub(crate) fn claim<E: Copy, R: Wait, I: Inlet<E>>(
     ensures claimed { IfOk result (λ c. WhereShown (Claims n (Ok c)) (I.sent inlet.old) (I.sent inlet.new)) }
     ensures fault { OnErr result (I.sent inlet.new ≡ I.sent inlet.old) }
     ensures waits { result ≢ Err (Trouble.Refused Refusal.NoRoom) }
+    ensures called { SomeCalls I.does inlet.old inlet.new (Retries (TriesClaim n (Err (Trouble.Refused Refusal.NoRoom))) (TriesClaim n result)) }
 {
     let mut waiting = Waiting::new(n);
     for _ in rt.forever() {
@@ -42,6 +45,7 @@ pub(crate) fn write_all<E: Copy, R: Wait, I: Inlet<E>>(
     ensures kept { I.kept inlet.new ≡ I.kept inlet.old }
     ensures written { OnOk result (WhereShown (WritesAll lo events.now) (I.sent inlet.old) (I.sent inlet.new)) }
     ensures fault { OnErr result (WhereShown (Adds []) (I.sent inlet.old) (I.sent inlet.new)) }
+    ensures called { SomeCalls I.does inlet.old inlet.new (AreWrites result) }
     ensures refused { (r : Refusal) → result ≡ Err (Trouble.Refused r) → MayRefuse lo (length events.now) (I.sent inlet.old) }
     ensures waits { result ≢ Err Trouble.Memory }
 {
@@ -71,6 +75,7 @@ pub(crate) fn publish<E: Copy, R: Wait, I: Inlet<E>>(
     ensures published { OnOk result (WhereShown (Publishes lo hi (Ok tt)) (I.sent inlet.old) (I.sent inlet.new)) }
     ensures fault { OnErr result (I.sent inlet.new ≡ I.sent inlet.old) }
     ensures waits { result ≢ Err Trouble.Memory }
+    ensures called { SomeCalls I.does inlet.old inlet.new (Retries (PublishesStretch lo hi (Err Trouble.Memory)) (PublishesStretch lo hi result)) }
 {
     let mut waiting = Waiting::new(1);
     for _ in rt.forever() {
@@ -94,6 +99,7 @@ pub(crate) fn complete<E: Copy, R: Wait, O: Outlet<E>>(
     ensures completed { OnOk result (WhereShown (Completes upto (Ok tt)) (O.received outlet.old) (O.received outlet.new)) }
     ensures fault { OnErr result (O.received outlet.new ≡ O.received outlet.old) }
     ensures waits { result ≢ Err Trouble.Memory }
+    ensures called { SomeCalls O.does outlet.old outlet.new (Retries (CompletesBelow upto (Err Trouble.Memory)) (CompletesBelow upto result)) }
 {
     let mut waiting = Waiting::new(1);
     for _ in rt.forever() {

@@ -46,5 +46,5 @@ abbrev pub writes_of : {E : Type 0} → ℕ → List E → Wrote → List (Inlet
 writes_of lo events wrote = each_written lo (take wrote.count events) ++ first_in_trouble (lo + wrote.count) wrote.trouble (drop wrote.count events)
 
 -- many events are written by one call, or one by one
-abbrev pub WritesBy : {S E : Type 0} → (S → InletCall E → S → Type 0) → ℕ → List E → Wrote → S → S → Type 0
-WritesBy does lo events wrote old new = does old (WritesMany lo events wrote) new ⊎ CallsLead does old (writes_of lo events wrote) new
+abbrev pub WritesBy : {S E : Type 0} → S → S → (S → InletCall E → S → Type 0) → ℕ → List E → Wrote → Type 0
+WritesBy old new does lo events wrote = does old (WritesMany lo events wrote) new ⊎ CallsLead does old (writes_of lo events wrote) new

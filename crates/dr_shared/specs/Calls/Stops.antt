@@ -1,5 +1,5 @@
 -- How a gate stops a worker.
-use Rattle.std.specs.Prelude.{◌≡◌, ◌⊎◌, ℕ, Bool, true, false, Option, None, Some}
+use Rattle.std.specs.Prelude.{◌≡◌, ◌⊎◌, ℕ, ◌+◌, ◌^◌, ◌<◌, Bool, true, false, Option, None, Some}
 use Rattle.dr_core.specs.declared.ends.Trouble.{Trouble}
 use Rattle.dr_core.specs.declared.ends.Trouble.TheVariants as trouble
 use Rattle.dr_shared.specs.declared.fault.WorkFault.{WorkFault}
@@ -17,7 +17,21 @@ fault_in_trouble stopped trouble.Memory = Memory
 fault_in_trouble true (trouble.Refused refusal) = Stopped
 fault_in_trouble false (trouble.Refused refusal) = Refused refusal
 
--- a worker that goes on is stopped where it was, or where its gate may stop it
-pub record Passes (may_stop : ℕ → Type 0) (old new : Turns) : Type 0 where
+-- a worker that has come to no gate yet
+abbrev pub begins : ℕ → Turns
+begins who = record { who = who; turn = 0; stopped = false }
+
+-- a worker comes to its gate so many times, and passes it at one turn after another unless it is stopped: where it was, where its gate may stop it, and at each of these turns where its gate must
+pub record Passes (may_stop : ℕ → Type 0) (must_stop : ℕ → ℕ → Type 0) (times : ℕ) (old new : Turns) : Type 0 where
   pub who : new.who ≡ old.who
-  pub stopped : new.stopped ≡ true → (old.stopped ≡ true) ⊎ may_stop old.who
+  pub may : new.stopped ≡ true → (old.stopped ≡ true) ⊎ may_stop old.who
+  pub stays : old.stopped ≡ true → new.stopped ≡ true
+  pub turn : new.stopped ≡ false → old.turn + times < 2 ^ 64 → new.turn ≡ old.turn + times
+  pub must : (k : ℕ) → k < times → old.turn + k < 2 ^ 64 → must_stop old.who (old.turn + k) → new.stopped ≡ true
+
+-- a worker came to its gate at so many turns, from 0 on, and answers by whether it was stopped there: only where its gate may stop it, and wherever its gate must at one of them
+pub record Stops (may_stop : Type 0) (must_stop : ℕ → Type 0) (turns : ℕ) (Answers : Bool → Type 0) : Type 0 where
+  pub stopped : Bool
+  pub answers : Answers stopped
+  pub may : stopped ≡ true → may_stop
+  pub must : (turn : ℕ) → turn < turns → turn < 2 ^ 64 → must_stop turn → stopped ≡ true

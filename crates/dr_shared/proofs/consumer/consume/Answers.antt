@@ -1,8 +1,10 @@
-use Rattle.std.proofs.Common.{◌∙◌, ap, Err, Option, None, Some, IfNone, refl, sym}
+use Rattle.std.proofs.Common.{◌∙◌, ap, Err, Option, None, Some, IfNone, Ok, refl, sym}
 use Rattle.std.proofs.lemmas.Bool.{false≢true}
+use Rattle.dr_shared.proofs.Serving.{serves_in_trouble, serves_told, serving_more, serving_none}
 use Rattle.dr_shared.proofs.Stopping.{stopped_more, waited, waited_in}
 use Rattle.dr_shared.specs.declared.fault.WorkFault.{WorkFault}
-use Rattle.dr_shared.proofs.Working.{done_first, done_more, works_more, works_none}
+use Rattle.dr_shared.specs.declared.turns.Turns.{Turns}
+use Rattle.dr_shared.proofs.Working.{done_first, done_more}
 use Rattle.dr_shared.proofs.consumer.consume.Goals as goal
 
 whatever : {P : Type 0} (r : Option WorkFault) → P → IfNone r P
@@ -10,10 +12,19 @@ whatever (Some fault) is = tt
 whatever None is = is
 
 pub loop-init : goal.loop-init
-loop-init g c = (tt, tt, refl, c.new-turns.ensures.who, λ is. absurd (false≢true (sym c.new-turns.ensures.stopped ∙ is)), works_none g.H.Handler.goes _ _, done_first _)
+loop-init g c = (
+  tt,
+  tt,
+  refl,
+  ap (λ (t : Turns). t.who) c.new-turns.ensures,
+  λ is. absurd (false≢true (sym (ap (λ (t : Turns). t.stopped) c.new-turns.ensures) ∙ is)),
+  serving_none g.O.Outlet.does g.H.Handler.goes c.args.handler.now c.args.outlet.now (g.O.Outlet.received c.args.outlet.now) (g.G.Gate.may_stop c.args.gate.now) (g.G.Gate.must_stop c.args.gate.now) c.args.who c.new-turns.result c.new-turns.ensures,
+  done_first _,
+)
 
-pub returns-in-Ok-Drained-clause-works : goal.returns-in-Ok-Drained-clause-works
-returns-in-Ok-Drained-clause-works g c = works_more g.H.Handler.goes _ _ _ _ _ _ c.loop.invariant.5 c.turn.ensures.works
+pub returns-in-Ok-Drained-clause-serves : goal.returns-in-Ok-Drained-clause-serves
+returns-in-Ok-Drained-clause-serves g c =
+    serves_told g.O.Outlet.does g.H.Handler.goes _ _ _ _ _ _ _ _ _ (g.G.Gate.may_stop c.args.gate.now) (g.G.Gate.must_stop c.args.gate.now) c.args.who _ _ _ _ c.loop.invariant.5 c.turn.ensures.takes (c.in-Ok-Drained.is ∙ ap (λ x. Ok x) c.in-Ok-Drained.field-0-is) c.at_end.ensures
 
 pub returns-in-Ok-Drained-clause-done : goal.returns-in-Ok-Drained-clause-done
 returns-in-Ok-Drained-clause-done g c = whatever c.at_end.result (done_more _ _ _ c.loop.invariant.6 c.in-Ok-Drained.ensures.done)
@@ -23,9 +34,9 @@ loop-preserved-in-Ok-Batch g c = (
   tt,
   tt,
   c.turn.ensures.kept ∙ c.loop.invariant.2,
-  c.turn.ensures.passes.who ∙ c.loop.invariant.3,
-  stopped_more (g.G.Gate.may_stop c.args.gate.now) c.args.who _ _ c.loop.invariant.3 c.loop.invariant.4 c.turn.ensures.passes,
-  works_more g.H.Handler.goes _ _ _ _ _ _ c.loop.invariant.5 c.turn.ensures.works,
+  c.turn.ensures.takes.holds.passes.who ∙ c.loop.invariant.3,
+  stopped_more (g.G.Gate.may_stop c.args.gate.now) (g.G.Gate.must_stop c.args.gate.now) _ c.args.who _ _ c.loop.invariant.3 c.loop.invariant.4 c.turn.ensures.takes.holds.passes,
+  serving_more g.O.Outlet.does g.H.Handler.goes _ _ _ _ _ _ _ _ _ (g.G.Gate.may_stop c.args.gate.now) (g.G.Gate.must_stop c.args.gate.now) c.args.who _ _ _ c.loop.invariant.5 c.turn.ensures.takes,
   done_more _ _ _ c.loop.invariant.6 c.in-Ok-Batch.ensures.done,
 )
 
@@ -34,14 +45,15 @@ loop-preserved g c = (
   tt,
   tt,
   c.turn.ensures.kept ∙ c.loop.invariant.2,
-  c.turn.ensures.passes.who ∙ c.loop.invariant.3,
-  stopped_more (g.G.Gate.may_stop c.args.gate.now) c.args.who _ _ c.loop.invariant.3 c.loop.invariant.4 c.turn.ensures.passes,
-  works_more g.H.Handler.goes _ _ _ _ _ _ c.loop.invariant.5 c.turn.ensures.works,
+  c.turn.ensures.takes.holds.passes.who ∙ c.loop.invariant.3,
+  stopped_more (g.G.Gate.may_stop c.args.gate.now) (g.G.Gate.must_stop c.args.gate.now) _ c.args.who _ _ c.loop.invariant.3 c.loop.invariant.4 c.turn.ensures.takes.holds.passes,
+  serving_more g.O.Outlet.does g.H.Handler.goes _ _ _ _ _ _ _ _ _ (g.G.Gate.may_stop c.args.gate.now) (g.G.Gate.must_stop c.args.gate.now) c.args.who _ _ _ c.loop.invariant.5 c.turn.ensures.takes,
   done_more _ _ _ c.loop.invariant.6 c.in-Ok-Nothing.ensures.done,
 )
 
-pub returns-in-Err-clause-works : goal.returns-in-Err-clause-works
-returns-in-Err-clause-works g c = works_more g.H.Handler.goes _ _ _ _ _ _ c.loop.invariant.5 c.turn.ensures.works
+pub returns-in-Err-clause-serves : goal.returns-in-Err-clause-serves
+returns-in-Err-clause-serves g c =
+    serves_in_trouble g.O.Outlet.does g.H.Handler.goes _ _ _ _ _ _ _ _ _ (g.G.Gate.may_stop c.args.gate.now) (g.G.Gate.must_stop c.args.gate.now) c.args.who _ _ _ _ c.in-Err.trouble c.loop.invariant.5 c.turn.ensures.takes c.in-Err.is (ap Some c.in_trouble.ensures)
 
 pub returns-in-Ok-Drained-clause-waits : goal.returns-in-Ok-Drained-clause-waits
 returns-in-Ok-Drained-clause-waits g c is = waited _ (sym c.at_end.ensures ∙ is)

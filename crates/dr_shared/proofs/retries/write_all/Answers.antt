@@ -1,7 +1,8 @@
-use Rattle.std.proofs.Common.{ap, subst, ◌≡◌, ◌≤◌, ◌+◌, ◌-◌, ◌∙◌, arith, drop, length, take}
+use Rattle.std.proofs.Common.{ap, subst, ◌≡◌, ◌≤◌, ◌+◌, ◌-◌, ◌∙◌, arith, drop, length, rules, take}
 use Rattle.dr_core.specs.Calls.Ends.{StopsAt}
+use Rattle.dr_shared.proofs.Calling.{all_accepted, claim_nothing, last_refused, many_writes}
 use Rattle.dr_shared.proofs.Closing.{trouble_of, write_refused}
-use Rattle.dr_shared.proofs.Writings.{all_written, length-rest, more_written, only_written, stops_nowhere, stops_within}
+use Rattle.dr_shared.proofs.Writings.{all_written, length-rest, more_written, only_written, stops_before, stops_nowhere, stops_within}
 use Rattle.dr_shared.proofs.retries.write_all.Goals as goal
 
 pub loop-preserved : goal.loop-preserved
@@ -17,6 +18,8 @@ loop-preserved g c =
       c.write_all-wrote.ensures.kept ∙ c.loop.invariant.2,
       omega arith,
       more_written c.args.lo done c.write_all-wrote.result.count events front _ _ _ c.loop.invariant.4 c.write_all-wrote.ensures.sent,
+      claim_nothing g.I.Inlet.does _ _ _ c.write_all-wrote.result.trouble c.loop.invariant.5
+          (many_writes g.I.Inlet.does (c.args.lo + done) (take (length events - done) (drop done events)) c.write_all-wrote.result _ _ (λ r is. stops_before _ _ _ _ _ _ is c.write_all-wrote.ensures.answer.stops) c.write_all-wrote.ensures.called),
     )
 
 pub returns-in-None-trouble-clause-written : goal.returns-in-None-trouble-clause-written
@@ -47,3 +50,17 @@ returns-in-Some-trouble-clause-refused g c = λ r is.
     let lo = c.args.lo in
     let stops = subst (λ t. StopsAt (g.I.Inlet.sent c.loop.inlet) (lo + done) (length part) c.write_all-wrote.result.count t) (c.in-Some-trouble.is ∙ ap trouble_of is) c.write_all-wrote.ensures.answer.stops in
     write_refused lo (take done events) (length events) (lo + done) (length part) c.write_all-wrote.result.count _ _ r c.loop.invariant.4 (omega arith) (omega arith) stops
+
+pub returns-in-None-trouble-clause-called : goal.returns-in-None-trouble-clause-called
+returns-in-None-trouble-clause-called g c =
+    let done = c.loop.done in
+    let events = c.args.events.now in
+    all_accepted g.I.Inlet.does _ _ _ c.write_all-wrote.result.trouble c.loop.invariant.5
+    (many_writes g.I.Inlet.does (c.args.lo + done) (take (length events - done) (drop done events)) c.write_all-wrote.result _ _ (λ r is. stops_before _ _ _ _ _ _ is c.write_all-wrote.ensures.answer.stops) c.write_all-wrote.ensures.called)
+
+pub returns-in-Some-trouble-clause-called : goal.returns-in-Some-trouble-clause-called
+returns-in-Some-trouble-clause-called g c =
+    let done = c.loop.done in
+    let events = c.args.events.now in
+    last_refused g.I.Inlet.does _ _ _ c.write_all-wrote.result.trouble _ c.in-Some-trouble.is (search rules) c.loop.invariant.5
+    (many_writes g.I.Inlet.does (c.args.lo + done) (take (length events - done) (drop done events)) c.write_all-wrote.result _ _ (λ r is. stops_before _ _ _ _ _ _ is c.write_all-wrote.ensures.answer.stops) c.write_all-wrote.ensures.called)

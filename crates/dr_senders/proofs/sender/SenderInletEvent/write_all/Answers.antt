@@ -1,4 +1,4 @@
-use Rattle.std.proofs.Common.{refl}
+use Rattle.std.proofs.Common.{inl, refl}
 use Rattle.dr_senders.proofs.Sequel.{wrote_more, wrote_all, stopped}
 use Rattle.dr_senders.proofs.sender.SenderInletEvent.write_all.Goals as goal
 
@@ -13,3 +13,9 @@ loop-k-preserved c = wrote_more _ _ _ c.args.lo c.loop-k.k _ c.args.events.now _
 
 pub returns-clause-own : goal.returns-clause-own
 returns-clause-own c = wrote_all _ _ c.args.lo c.loop-k.k c.args.events.now c.loop-k-test.false c.loop-k.invariant
+
+pub returns-in-Err-clause-called : goal.returns-in-Err-clause-called
+returns-in-Err-clause-called c = inl (stopped _ _ _ c.args.lo c.loop-k.k _ c.args.events.now _ _ c.in-Err.trouble c.loop-k-test.true refl refl c.loop-k.invariant c.in-Err.ensures.own)
+
+pub returns-clause-called : goal.returns-clause-called
+returns-clause-called c = inl (wrote_all _ _ c.args.lo c.loop-k.k c.args.events.now c.loop-k-test.false c.loop-k.invariant)
