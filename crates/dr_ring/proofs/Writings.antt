@@ -1,5 +1,5 @@
 -- Many events, written one after another.
-use Rattle.std.proofs.Common.{◌≡◌, ℕ, ◌+◌, ◌<◌, List, [], ◌∷◌, ◌++◌, length, take, get_or, None, Some, Ok, Err, sym, refl, ap, ◌∙◌, subst, arith, append_assoc}
+use Rattle.std.proofs.Common.{◌≡◌, ℕ, ◌+◌, ◌<◌, List, [], ◌∷◌, ◌++◌, length, take, get_or, None, Some, Ok, sym, refl, ap, ◌∙◌, subst, arith, append_assoc}
 use Rattle.std.proofs.lemmas.List.{length-take-le, take_more, append-nil}
 use Rattle.dr_seq.specs.declared.event.Event.{Event}
 use Rattle.dr_core.specs.declared.refusal.Refusal.{Refusal}
@@ -59,14 +59,14 @@ wrote_more e a b lo k s events d event less at is W C =
     }
 
 -- the next one is refused
-pub wrote_refused : (e a b : SenderEnd) (lo k s : ℕ) (events : List Event) (event : Event) (refusal : Refusal) → WroteFirst e lo events k a → WriteCall a s event b (Err refusal)
-    → WriteAllCall e lo events b (record { count = k; trouble = Some (Refused refusal) })
-wrote_refused e a b lo k s events event refusal W C = record {
-  place = C.0 ∙ W.place;
-  only = only_more e.knows a.knows b.knows W.only C.1.2;
-  stored = C.2 ∙ W.stored;
+pub wrote_refused : (e a b : SenderEnd) (lo k : ℕ) (events : List Event) (refusal : Refusal) → WroteFirst e lo events k a → sender_place b ≡ sender_place a → OnlySends a.knows b.knows → b.stored ≡ a.stored
+    → IsBeginning a.past b.past → WriteAllCall e lo events b (record { count = k; trouble = Some (Refused refusal) })
+wrote_refused e a b lo k events refusal W place only stored past = record {
+  place = place ∙ W.place;
+  only = only_more e.knows a.knows b.knows W.only only;
+  stored = stored ∙ W.stored;
   memory = λ is. cc;
-  past = begins_on e.past a.past b.past W.past C.3;
+  past = begins_on e.past a.past b.past W.past past;
 }
 
 -- all are written

@@ -88,6 +88,10 @@ struct StopsAtOne {
 }
 
 impl Gate for StopsAtOne {
+    ghost use Rattle.std.specs.Prelude.{◌≡◌};
+
+    ghost must_stop = { λ gate who turn. turn ≡ 1 };
+
     fn pass(&self, _who: usize, turn: u64) -> GateAnswer {
         self.passed.fetch_add(1, Ordering::SeqCst);
         if turn == 1 {
@@ -170,7 +174,8 @@ fn stopped_producers(rt: HostRuntime) -> Result<(), Fail> {
     Ok(())
 }
 
-// An end that hands out so many batches of one event, and finds no memory at each second call.
+// An end that hands out so many batches of one event, of which it marks the last alone, and finds no
+// memory at each second call.
 #[derive(Drop)]
 struct Dealer {
     calls: u64,
@@ -208,7 +213,7 @@ impl Outlet<Event> for Dealer {
         Ok(Polled::Batch {
             first,
             count: 1,
-            end: true,
+            end: self.dealt == self.batches,
         })
     }
 
@@ -230,10 +235,11 @@ fn dealing_end(batches: u64) -> Dealer {
     }
 }
 
-// A handler that counts, and adds the first words.
+// A handler that counts events and marks, and adds the first words.
 #[derive(Drop)]
 struct Adder {
     count: u64,
+    marks: u64,
     sum: u64,
 }
 
@@ -242,8 +248,9 @@ impl Handler<Event> for Adder {
 
     ghost goes = { λ old event s end new. ⊤ };
 
-    fn on_event(&mut self, event: Event, _s: u64, _end: bool) {
+    fn on_event(&mut self, event: Event, _s: u64, end: bool) {
         self.count = self.count.wrapping_add(1);
+        self.marks = self.marks.wrapping_add(u64::from(end));
         self.sum = self.sum.wrapping_add(event.first);
     }
 }
@@ -251,19 +258,24 @@ impl Handler<Event> for Adder {
 #[test]
 fn consumers(rt: HostRuntime) -> Result<(), Fail> {
     let mut buf = [Event::NONE; 4];
-    let mut adder = Adder { count: 0, sum: 0 };
+    let mut adder = Adder {
+        count: 0,
+        marks: 0,
+        sum: 0,
+    };
     assert_eq!(rt;
         consume(&rt, &mut dealing_end(5), &OpenGate, 0, &mut adder, &mut buf),
         None
     );
-    assert!(rt; adder.count == 5 && adder.sum == 10);
+    assert!(rt; adder.count == 5 && adder.marks == 1 && adder.sum == 10);
     let gate = stops_at_one();
     let stopped = Some(WorkFault::Stopped);
     assert_eq!(rt;
         consume(&rt, &mut dealing_end(5), &gate, 0, &mut adder, &mut buf),
         stopped
     );
-    assert!(rt; adder.count == 10 && gate.passed.load(Ordering::SeqCst) == 2);
+    assert!(rt; adder.count == 10 && adder.marks == 2);
+    assert_eq!(rt; gate.passed.load(Ordering::SeqCst), 2);
     let refused = Some(WorkFault::Refused(Refusal::BadCount));
     assert_eq!(rt;
         consume(&rt, &mut dealing_end(5), &gate, 0, &mut adder, &mut []),

@@ -21,7 +21,9 @@ pub loop-k-preserved : goal.loop-k-preserved
 loop-k-preserved c = wrote_more _ _ _ c.args.lo c.loop-k.k _ c.args.events.now _ _ c.loop-k-test.true refl refl c.loop-k.invariant c.in-Ok.ensures
 
 pub returns-in-Err-clause-called : goal.returns-in-Err-clause-called
-returns-in-Err-clause-called c = inl (wrote_refused _ c.loop-k.self _ c.args.lo c.loop-k.k _ c.args.events.now _ c.in-Err.refusal c.loop-k.invariant c.in-Err.ensures)
+returns-in-Err-clause-called c =
+    let call = c.in-Err.ensures in
+    inl (wrote_refused _ c.loop-k.self _ c.args.lo c.loop-k.k c.args.events.now c.in-Err.refusal c.loop-k.invariant call.0 call.1.2 call.2 call.3)
 
 pub returns-clause-called : goal.returns-clause-called
 returns-clause-called c =
