@@ -43,7 +43,8 @@ pub retry_more : {S C : Type 0} (does : S → C → S → Type 0) (a b c : S) (w
 retry_more does a b c waits times h call =
     subst (λ l. CallsLead does a l c) (replicate-append-replicate times 1 waits) (lead_more does a b c (replicate times waits) (waits ∷ []) h (c, call, refl))
 
-pub retried : {S C : Type 0} (does : S → C → S → Type 0) (a b c : S) (waits answered : C) (times : ℕ) → CallsLead does a (replicate times waits) b → does b answered c
+pub retried : {S C : Type 0} (does : S → C → S → Type 0) (a b c : S) (waits answered : C) (times : ℕ) → CallsLead does a (replicate times waits) b
+    → does b answered c
     → SomeCalls does a c (Retries waits answered)
 retried does a b c waits answered times h call =
     record { calls = replicate times waits ++ answered ∷ []; lead = lead_more does a b c (replicate times waits) (answered ∷ []) h (c, call, refl); holds = (times, refl) }
@@ -55,10 +56,12 @@ picks_last pick waits answered none zero = refl
 picks_last pick waits answered none (suc times) =
     ap (λ o. cons_option o (filter_map pick (replicate times waits ++ answered ∷ []))) none ∙ picks_last pick waits answered none times
 
-pub picked : {C X : Type 0} (pick : C → Option X) (waits answered : C) (calls : List C) → Retries waits answered calls → pick waits ≡ None → filter_map pick calls ≡ cons_option (pick answered) []
+pub picked : {C X : Type 0} (pick : C → Option X) (waits answered : C) (calls : List C) → Retries waits answered calls → pick waits ≡ None
+    → filter_map pick calls ≡ cons_option (pick answered) []
 picked pick waits answered calls h none = ap (filter_map pick) h.1 ∙ picks_last pick waits answered none h.0
 
-pub ends_retried : {C : Type 0} (IsSuch : C → Type 0) (waits answered : C) (calls : List C) → Retries waits answered calls → IsSuch answered → EndsIn IsSuch calls
+pub ends_retried : {C : Type 0} (IsSuch : C → Type 0) (waits answered : C) (calls : List C) → Retries waits answered calls → IsSuch answered
+    → EndsIn IsSuch calls
 ends_retried IsSuch waits answered calls h is = subst (λ l. EndsIn IsSuch l) (sym h.1) (ends_in_last IsSuch (replicate h.0 waits) answered is)
 
 -- Many writes.
@@ -77,12 +80,14 @@ pub record AreRefused {E : Type 0} (trouble : Option Trouble) (calls : List (Inl
   pub claims : claims_in calls ≡ []
   pub refused : (r : Refusal) → trouble ≡ Some (Refused r) → EndsIn (GivesUp (Refused r)) calls
 
-one_refused : {E : Type 0} (s : ℕ) (trouble : Option Trouble) (r : Refusal) (event : E) (rest : List E) → trouble ≡ Some (Refused r) → EndsIn (GivesUp (Refused r)) (first_in_trouble s trouble (event ∷ rest))
+one_refused : {E : Type 0} (s : ℕ) (trouble : Option Trouble) (r : Refusal) (event : E) (rest : List E) → trouble ≡ Some (Refused r)
+    → EndsIn (GivesUp (Refused r)) (first_in_trouble s trouble (event ∷ rest))
 one_refused s None r event rest is = absurd (none-some (Refused r) is)
 one_refused s (Some trouble) r event rest is = (cc, tt)
 
 pub many_writes : {S E : Type 0} (does : S → InletCall E → S → Type 0) (lo : ℕ) (events : List E) (wrote : Wrote) (a b : S)
-    → ((r : Refusal) → wrote.trouble ≡ Some (Refused r) → wrote.count < length events) → WritesBy a b does lo events wrote → SomeCalls does a b (AreRefused wrote.trouble)
+    → ((r : Refusal) → wrote.trouble ≡ Some (Refused r) → wrote.count < length events) → WritesBy a b does lo events wrote
+    → SomeCalls does a b (AreRefused wrote.trouble)
 many_writes does lo events wrote a b stops (inl once) =
     record { calls = WritesMany lo events wrote ∷ []; lead = (b, once, refl); holds = record { claims = refl; refused = λ r is. (is, tt) } }
 many_writes {S} {E} does lo events wrote a b stops (inr each) = record {
@@ -104,13 +109,15 @@ many_writes {S} {E} does lo events wrote a b stops (inr each) = record {
 none_more : {E : Type 0} (xs ys : List (InletCall E)) → claims_in xs ≡ [] → claims_in ys ≡ [] → claims_in (xs ++ ys) ≡ []
 none_more xs ys h k = filter_map-append claim_of xs ys ∙ ap (λ l. l ++ claims_in ys) h ∙ k
 
-pub claim_nothing : {S E : Type 0} (does : S → InletCall E → S → Type 0) (a b c : S) (trouble : Option Trouble) → SomeCalls does a b (λ calls. claims_in calls ≡ []) → SomeCalls does b c (AreRefused trouble)
+pub claim_nothing : {S E : Type 0} (does : S → InletCall E → S → Type 0) (a b c : S) (trouble : Option Trouble)
+    → SomeCalls does a b (λ calls. claims_in calls ≡ []) → SomeCalls does b c (AreRefused trouble)
     → SomeCalls does a c (λ calls. claims_in calls ≡ [])
 claim_nothing does a b c trouble h k =
     record { calls = h.calls ++ k.calls; lead = lead_more does a b c h.calls k.calls h.lead k.lead; holds = none_more h.calls k.calls h.holds k.holds.claims }
 
 -- none of them is refused
-pub all_accepted : {S E : Type 0} (does : S → InletCall E → S → Type 0) (a b c : S) (trouble : Option Trouble) → SomeCalls does a b (λ calls. claims_in calls ≡ []) → SomeCalls does b c (AreRefused trouble)
+pub all_accepted : {S E : Type 0} (does : S → InletCall E → S → Type 0) (a b c : S) (trouble : Option Trouble)
+    → SomeCalls does a b (λ calls. claims_in calls ≡ []) → SomeCalls does b c (AreRefused trouble)
     → SomeCalls does a c (AreWrites (Ok tt))
 all_accepted does a b c trouble h k = record {
   calls = h.calls ++ k.calls;
@@ -119,7 +126,8 @@ all_accepted does a b c trouble h k = record {
 }
 
 -- the last one is
-pub last_refused : {S E : Type 0} (does : S → InletCall E → S → Type 0) (a b c : S) (trouble : Option Trouble) (why : Trouble) → trouble ≡ Some why → why ≢ Memory → SomeCalls does a b (λ calls. claims_in calls ≡ []) → SomeCalls does b c (AreRefused trouble)
+pub last_refused : {S E : Type 0} (does : S → InletCall E → S → Type 0) (a b c : S) (trouble : Option Trouble) (why : Trouble) → trouble ≡ Some why
+    → why ≢ Memory → SomeCalls does a b (λ calls. claims_in calls ≡ []) → SomeCalls does b c (AreRefused trouble)
     → SomeCalls does a c (AreWrites (Err why))
 last_refused does a b c trouble Memory is other h k = absurd (other refl)
 last_refused {S} {E} does a b c trouble (Refused r) is other h k = record {

@@ -34,25 +34,28 @@ claims_one n claimed calls h = picked claim_of (TriesClaim n (Err (Refused NoRoo
 claims_none : {E : Type 0} (n : ℕ) (trouble : Trouble) (calls : List (InletCall E)) → IsClaimed n (Err trouble) calls → claims_in calls ≡ []
 claims_none n trouble calls h = picked claim_of (TriesClaim n (Err (Refused NoRoom))) (TriesClaim n (Err trouble)) calls h refl
 
-publishes_none : {E : Type 0} (lo hi : ℕ) (answer : Result (Unit {0}) Trouble) (calls : List (InletCall E)) → IsPublished lo hi answer calls → claims_in calls ≡ []
+publishes_none : {E : Type 0} (lo hi : ℕ) (answer : Result (Unit {0}) Trouble) (calls : List (InletCall E)) → IsPublished lo hi answer calls
+    → claims_in calls ≡ []
 publishes_none lo hi answer calls h = picked claim_of (PublishesStretch lo hi (Err Memory)) (PublishesStretch lo hi answer) calls h refl
 
 -- the claim is refused
-pub part_unclaimed : {S E : Type 0} (does : S → InletCall E → S → Type 0) (n : ℕ) (a b : S) (may_stop : ℕ → Type 0) (must_stop : ℕ → ℕ → Type 0) (t : Turns) (trouble : Trouble) → SomeCalls does a b (IsClaimed n (Err trouble))
+pub part_unclaimed : {S E : Type 0} (does : S → InletCall E → S → Type 0) (n : ℕ) (a b : S) (may_stop : ℕ → Type 0) (must_stop : ℕ → ℕ → Type 0)
+    (t : Turns) (trouble : Trouble) → trouble ≢ Refused NoRoom → SomeCalls does a b (IsClaimed n (Err trouble))
     → SomeCalls does a b (SendsPart n may_stop must_stop t t (Err trouble))
-part_unclaimed does n a b may_stop must_stop t trouble h =
+part_unclaimed does n a b may_stop must_stop t trouble other h =
     let none : claims_in h.calls ≡ [] = claims_none n trouble h.calls h.holds in record {
       calls = h.calls;
       lead = h.lead;
       holds = record {
         claims = inr (none, (trouble, refl));
         passes = subst (λ l. Passes may_stop must_stop (length l) t t) (sym none) (passes_none may_stop must_stop t);
-        trouble = λ fault is. subst (λ f. EndsIn (GivesUp f) h.calls) (same_trouble (Err trouble) trouble fault refl is) (ends_retried (GivesUp trouble) (TriesClaim n (Err (Refused NoRoom))) (TriesClaim n (Err trouble)) h.calls h.holds refl);
+        trouble = λ fault is. subst (λ f. EndsIn (GivesUp f) h.calls) (same_trouble (Err trouble) trouble fault refl is) (ends_retried (GivesUp trouble) (TriesClaim n (Err (Refused NoRoom))) (TriesClaim n (Err trouble)) h.calls h.holds (refl, other));
       };
     }
 
 -- after the claim some calls that claim nothing
-pub part_claimed : {S E : Type 0} (does : S → InletCall E → S → Type 0) (n : ℕ) (claimed : Claimed) (a b c : S) (may_stop : ℕ → Type 0) (must_stop : ℕ → ℕ → Type 0) (t t' : Turns) (result : Result (Unit {0}) Trouble) → SomeCalls does a b (IsClaimed n (Ok claimed))
+pub part_claimed : {S E : Type 0} (does : S → InletCall E → S → Type 0) (n : ℕ) (claimed : Claimed) (a b c : S) (may_stop : ℕ → Type 0)
+    (must_stop : ℕ → ℕ → Type 0) (t t' : Turns) (result : Result (Unit {0}) Trouble) → SomeCalls does a b (IsClaimed n (Ok claimed))
     → SomeCalls does b c (AreWrites result) → Passes may_stop must_stop 1 t t' → SomeCalls does a c (SendsPart n may_stop must_stop t t' result)
 part_claimed does n claimed a b c may_stop must_stop t t' result h k passes =
     let one : claims_in (h.calls ++ k.calls) ≡ n ∷ [] = claims_in-append h.calls k.calls ∙ ap (λ l. l ++ claims_in k.calls) (claims_one n claimed h.calls h.holds) ∙ ap (λ l. n ∷ l) k.holds.claims in record {
@@ -70,7 +73,8 @@ a_refusal Memory other = other refl
 a_refusal (Refused refusal) other = tt
 
 -- the writes, and then the publication
-pub written_and_published : {S E : Type 0} (does : S → InletCall E → S → Type 0) (lo hi : ℕ) (a b c : S) (result : Result (Unit {0}) Trouble) → result ≢ Err Memory → SomeCalls does a b (AreWrites (Ok tt))
+pub written_and_published : {S E : Type 0} (does : S → InletCall E → S → Type 0) (lo hi : ℕ) (a b c : S) (result : Result (Unit {0}) Trouble)
+    → result ≢ Err Memory → SomeCalls does a b (AreWrites (Ok tt))
     → SomeCalls does b c (IsPublished lo hi result) → SomeCalls does a c (AreWrites result)
 written_and_published {S} {E} does lo hi a b c result waits h k = record {
   calls = h.calls ++ k.calls;
@@ -104,7 +108,8 @@ pub record Sending {E : Type 0} (cut all : ℕ) (may_stop : ℕ → Type 0) (mus
   pub left : left_after all (claims_in calls) ≡ all - sent
   pub passes : Passes may_stop must_stop (length (claims_in calls)) (begins who) turns
 
-pub sending_none : {S E : Type 0} (does : S → InletCall E → S → Type 0) (a : S) (cut all : ℕ) (may_stop : ℕ → Type 0) (must_stop : ℕ → ℕ → Type 0) (who : ℕ) (turns : Turns) → turns ≡ begins who
+pub sending_none : {S E : Type 0} (does : S → InletCall E → S → Type 0) (a : S) (cut all : ℕ) (may_stop : ℕ → Type 0) (must_stop : ℕ → ℕ → Type 0)
+    (who : ℕ) (turns : Turns) → turns ≡ begins who
     → SomeCalls does a a (Sending cut all may_stop must_stop who 0 turns)
 sending_none does a cut all may_stop must_stop who turns is = record {
   calls = [];
@@ -116,7 +121,8 @@ sending_none does a cut all may_stop must_stop who turns is = record {
 claims_both : {E : Type 0} (n : ℕ) (xs ys : List (InletCall E)) → claims_in ys ≡ n ∷ [] → claims_in (xs ++ ys) ≡ claims_in xs ++ n ∷ []
 claims_both n xs ys is = claims_in-append xs ys ∙ ap (λ l. claims_in xs ++ l) is
 
-passes_both : {E : Type 0} (may_stop : ℕ → Type 0) (must_stop : ℕ → ℕ → Type 0) (xs ys : List (InletCall E)) (t t' t'' : Turns) → Passes may_stop must_stop (length (claims_in xs)) t t'
+passes_both : {E : Type 0} (may_stop : ℕ → Type 0) (must_stop : ℕ → ℕ → Type 0) (xs ys : List (InletCall E)) (t t' t'' : Turns)
+    → Passes may_stop must_stop (length (claims_in xs)) t t'
     → Passes may_stop must_stop (length (claims_in ys)) t' t'' → Passes may_stop must_stop (length (claims_in (xs ++ ys))) t t''
 passes_both may_stop must_stop xs ys t t' t'' h k =
     let many : length (claims_in (xs ++ ys)) ≡ length (claims_in xs) + length (claims_in ys) = ap length (claims_in-append xs ys) ∙ length-append (claims_in xs) (claims_in ys) in
@@ -126,8 +132,10 @@ went_well : {P : Type 0} (result : Result (Unit {0}) Trouble) (trouble : Trouble
 went_well result trouble is is' = absurd (cc)
 
 -- one part more
-pub sending_more : {S E : Type 0} (does : S → InletCall E → S → Type 0) (a b c : S) (cut all : ℕ) (may_stop : ℕ → Type 0) (must_stop : ℕ → ℕ → Type 0) (who sent n : ℕ) (t t' : Turns) (result : Result (Unit {0}) Trouble) → result ≡ Ok tt → n ≡ min (all - sent) cut
-    → SomeCalls does a b (Sending cut all may_stop must_stop who sent t) → SomeCalls does b c (SendsPart n may_stop must_stop t t' result) → SomeCalls does a c (Sending cut all may_stop must_stop who (sent + n) t')
+pub sending_more : {S E : Type 0} (does : S → InletCall E → S → Type 0) (a b c : S) (cut all : ℕ) (may_stop : ℕ → Type 0) (must_stop : ℕ → ℕ → Type 0)
+    (who sent n : ℕ) (t t' : Turns) (result : Result (Unit {0}) Trouble) → result ≡ Ok tt → n ≡ min (all - sent) cut
+    → SomeCalls does a b (Sending cut all may_stop must_stop who sent t) → SomeCalls does b c (SendsPart n may_stop must_stop t t' result)
+    → SomeCalls does a c (Sending cut all may_stop must_stop who (sent + n) t')
 sending_more does a b c cut all may_stop must_stop who sent n t t' result is size h k =
     let one : claims_in k.calls ≡ n ∷ [] = elim k.holds.claims [ inl one ↦ one | inr none ↦ went_well result none.1.0 is none.1.1 ] in
     let whole = claims_both n h.calls k.calls one in record {
@@ -141,7 +149,8 @@ sending_more does a b c cut all may_stop must_stop who sent n t t' result is siz
     }
 
 -- all is sent
-pub sends_all : {S E : Type 0} (does : S → InletCall E → S → Type 0) (a b : S) (cut all : ℕ) (may_stop : ℕ → Type 0) (must_stop : ℕ → ℕ → Type 0) (who sent : ℕ) (t : Turns) (produced : Produced) → produced.sent ≡ all → produced.fault ≡ fault_at_end t.stopped
+pub sends_all : {S E : Type 0} (does : S → InletCall E → S → Type 0) (a b : S) (cut all : ℕ) (may_stop : ℕ → Type 0) (must_stop : ℕ → ℕ → Type 0)
+    (who sent : ℕ) (t : Turns) (produced : Produced) → produced.sent ≡ all → produced.fault ≡ fault_at_end t.stopped
     → SomeCalls does a b (Sending cut all may_stop must_stop who sent t) → SomeCalls does a b (Sends cut all (may_stop who) (must_stop who) produced)
 sends_all does a b cut all may_stop must_stop who sent t produced whole is h = record {
   calls = h.calls;
@@ -153,9 +162,11 @@ sends_all does a b cut all may_stop must_stop who sent t produced whole is h = r
 }
 
 -- a part is in trouble
-pub sends_in_trouble : {S E : Type 0} (does : S → InletCall E → S → Type 0) (a b c : S) (cut all : ℕ) (may_stop : ℕ → Type 0) (must_stop : ℕ → ℕ → Type 0) (who sent n : ℕ) (t t' : Turns) (result : Result (Unit {0}) Trouble) (trouble : Trouble) (produced : Produced)
+pub sends_in_trouble : {S E : Type 0} (does : S → InletCall E → S → Type 0) (a b c : S) (cut all : ℕ) (may_stop : ℕ → Type 0) (must_stop : ℕ → ℕ → Type 0)
+    (who sent n : ℕ) (t t' : Turns) (result : Result (Unit {0}) Trouble) (trouble : Trouble) (produced : Produced)
     → n ≡ min (all - sent) cut → result ≡ Err trouble → produced.fault ≡ Some (fault_in_trouble t'.stopped trouble)
-    → SomeCalls does a b (Sending cut all may_stop must_stop who sent t) → SomeCalls does b c (SendsPart n may_stop must_stop t t' result) → SomeCalls does a c (Sends cut all (may_stop who) (must_stop who) produced)
+    → SomeCalls does a b (Sending cut all may_stop must_stop who sent t) → SomeCalls does b c (SendsPart n may_stop must_stop t t' result)
+    → SomeCalls does a c (Sends cut all (may_stop who) (must_stop who) produced)
 sends_in_trouble does a b c cut all may_stop must_stop who sent n t t' result trouble produced size fails is h k = record {
   calls = h.calls ++ k.calls;
   lead = lead_more does a b c h.calls k.calls h.lead k.lead;

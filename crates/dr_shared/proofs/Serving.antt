@@ -28,16 +28,20 @@ batches_in-append xs ys = filter_map-append batch_of xs ys
 
 -- A poll that hands nothing out.
 
-took_none : {E : Type 0} (out out' : List E) (answer : Result Polled Trouble) → batch_of (PollsInto out out' answer) ≡ None → (a b : Received E) → Takes out' answer a b → HandsOut [] a b
+took_none : {E : Type 0} (out out' : List E) (answer : Result Polled Trouble) → batch_of (PollsInto out out' answer) ≡ None → (a b : Received E)
+    → Takes out' answer a b → HandsOut [] a b
 took_none out out' (Ok (polled.Batch first count end)) is a b h = absurd (cc)
 took_none out out' (Ok polled.Gating) is a b h = rw h (hands_none a)
 took_none out out' (Ok polled.Idle) is a b h = rw h (hands_none a)
 took_none out out' (Ok polled.Drained) is a b h = rw h (hands_none a)
 took_none out out' (Err trouble) is a b h = rw h (hands_none a)
 
-pub turned_nothing : {S E A : Type 0} (does : S → OutletCall E → S → Type 0) (goes : Relation E A) (before : A) (a b : S) (o p : Option (Received E)) (may_stop : ℕ → Type 0) (must_stop : ℕ → ℕ → Type 0) (t : Turns) (result : Result Progress Trouble)
-    (out out' : List E) (answer : Result Polled Trouble) → does a (PollsInto out out' answer) b → batch_of (PollsInto out out' answer) ≡ None → WhereShown (Takes out' answer) o p
-    → (result ≡ Ok Drained → IsTold (PollsInto out out' answer)) → ((trouble : Trouble) → result ≡ Err trouble → IsInTrouble trouble (PollsInto out out' answer))
+pub turned_nothing : {S E A : Type 0} (does : S → OutletCall E → S → Type 0) (goes : Relation E A) (before : A) (a b : S) (o p : Option (Received E))
+    (may_stop : ℕ → Type 0) (must_stop : ℕ → ℕ → Type 0) (t : Turns) (result : Result Progress Trouble)
+    (out out' : List E) (answer : Result Polled Trouble) → does a (PollsInto out out' answer) b → batch_of (PollsInto out out' answer) ≡ None
+    → WhereShown (Takes out' answer) o p
+    → (result ≡ Ok Drained → IsTold (PollsInto out out' answer)) →
+    ((trouble : Trouble) → result ≡ Err trouble → IsInTrouble trouble (PollsInto out out' answer))
     → SomeCalls does a b (TakesBatch goes before before o p may_stop must_stop t t result)
 turned_nothing does goes before a b o p may_stop must_stop t result out out' answer call is takes told trouble =
     let none : batches_in (PollsInto out out' answer ∷ []) ≡ [] = ap (λ x. cons_option x []) is in record {
@@ -53,9 +57,12 @@ turned_nothing does goes before a b o p may_stop must_stop t result out out' ans
 
 -- A poll that hands a batch out, and its completion.
 
-pub turned_batch : {S E A : Type 0} (does : S → OutletCall E → S → Type 0) (goes : Relation E A) (before after : A) (a b c : S) (o q : Option (Received E)) (may_stop : ℕ → Type 0) (must_stop : ℕ → ℕ → Type 0) (t t' : Turns) (result : Result Progress Trouble)
-    (out out' : List E) (first count upto : ℕ) (end : Bool) (completed : Result (Unit {0}) Trouble) → does a (PollsInto out out' (Ok (polled.Batch first count end))) b
-    → SomeCalls does b c (Retries (CompletesBelow upto (Err Memory)) (CompletesBelow upto completed)) → Works goes before after o q (one out' first count end ∷ []) → Passes may_stop must_stop 1 t t'
+pub turned_batch : {S E A : Type 0} (does : S → OutletCall E → S → Type 0) (goes : Relation E A) (before after : A) (a b c : S) (o q : Option (Received E))
+    (may_stop : ℕ → Type 0) (must_stop : ℕ → ℕ → Type 0) (t t' : Turns) (result : Result Progress Trouble)
+    (out out' : List E) (first count upto : ℕ) (end : Bool) (completed : Result (Unit {0}) Trouble)
+    → does a (PollsInto out out' (Ok (polled.Batch first count end))) b
+    → SomeCalls does b c (Retries (CompletesBelow upto (Err Memory)) (CompletesBelow upto completed))
+    → Works goes before after o q (one out' first count end ∷ []) → Passes may_stop must_stop 1 t t'
     → (result ≡ Ok Drained → ⊥) → ((trouble : Trouble) → result ≡ Err trouble → completed ≡ Err trouble)
     → SomeCalls does a c (TakesBatch goes before after o q may_stop must_stop t t' result)
 turned_batch does goes before after a b c o q may_stop must_stop t t' result out out' first count upto end completed call rest works passes told trouble =
@@ -81,7 +88,8 @@ pub record Serving {E A : Type 0} (goes : Relation E A) (before after : A) (old 
   pub works : Works goes before after old new (batches_in calls)
   pub passes : Passes may_stop must_stop (length (batches_in calls)) (begins who) turns
 
-pub serving_none : {S E A : Type 0} (does : S → OutletCall E → S → Type 0) (goes : Relation E A) (before : A) (a : S) (o : Option (Received E)) (may_stop : ℕ → Type 0) (must_stop : ℕ → ℕ → Type 0) (who : ℕ) (turns : Turns) → turns ≡ begins who
+pub serving_none : {S E A : Type 0} (does : S → OutletCall E → S → Type 0) (goes : Relation E A) (before : A) (a : S) (o : Option (Received E))
+    (may_stop : ℕ → Type 0) (must_stop : ℕ → ℕ → Type 0) (who : ℕ) (turns : Turns) → turns ≡ begins who
     → SomeCalls does a a (Serving goes before before o o may_stop must_stop who turns)
 serving_none does goes before a o may_stop must_stop who turns is = record {
   calls = [];
@@ -90,8 +98,10 @@ serving_none does goes before a o may_stop must_stop who turns is = record {
 }
 
 -- one turn more
-pub serving_more : {S E A : Type 0} (does : S → OutletCall E → S → Type 0) (goes : Relation E A) (before between after : A) (a b c : S) (o p q : Option (Received E)) (may_stop : ℕ → Type 0) (must_stop : ℕ → ℕ → Type 0) (who : ℕ) (t t' : Turns) (result : Result Progress Trouble)
-    → SomeCalls does a b (Serving goes before between o p may_stop must_stop who t) → SomeCalls does b c (TakesBatch goes between after p q may_stop must_stop t t' result)
+pub serving_more : {S E A : Type 0} (does : S → OutletCall E → S → Type 0) (goes : Relation E A) (before between after : A) (a b c : S)
+    (o p q : Option (Received E)) (may_stop : ℕ → Type 0) (must_stop : ℕ → ℕ → Type 0) (who : ℕ) (t t' : Turns) (result : Result Progress Trouble)
+    → SomeCalls does a b (Serving goes before between o p may_stop must_stop who t)
+    → SomeCalls does b c (TakesBatch goes between after p q may_stop must_stop t t' result)
     → SomeCalls does a c (Serving goes before after o q may_stop must_stop who t')
 serving_more does goes before between after a b c o p q may_stop must_stop who t t' result h k =
     let both : batches_in (h.calls ++ k.calls) ≡ batches_in h.calls ++ batches_in k.calls = batches_in-append h.calls k.calls in
@@ -105,8 +115,11 @@ serving_more does goes before between after a b c o p q may_stop must_stop who t
     }
 
 -- the last turn
-serving_ends : {S E A : Type 0} (does : S → OutletCall E → S → Type 0) (goes : Relation E A) (before between after : A) (a b c : S) (o p q : Option (Received E)) (may_stop : ℕ → Type 0) (must_stop : ℕ → ℕ → Type 0) (who : ℕ) (t t' : Turns) (result : Result Progress Trouble) (answer : Option WorkFault)
-    → (h : SomeCalls does a b (Serving goes before between o p may_stop must_stop who t)) (k : SomeCalls does b c (TakesBatch goes between after p q may_stop must_stop t t' result))
+serving_ends : {S E A : Type 0} (does : S → OutletCall E → S → Type 0) (goes : Relation E A) (before between after : A) (a b c : S)
+    (o p q : Option (Received E)) (may_stop : ℕ → Type 0) (must_stop : ℕ → ℕ → Type 0) (who : ℕ) (t t' : Turns) (result : Result Progress Trouble)
+    (answer : Option WorkFault)
+    → (h : SomeCalls does a b (Serving goes before between o p may_stop must_stop who t))
+    (k : SomeCalls does b c (TakesBatch goes between after p q may_stop must_stop t t' result))
     → ConsumerEnds t'.stopped (h.calls ++ k.calls) answer → SomeCalls does a c (Serves goes before after o q (may_stop who) (must_stop who) answer)
 unfolding serving_more
 serving_ends does goes before between after a b c o p q may_stop must_stop who t t' result answer h k ends =
@@ -119,14 +132,21 @@ serving_ends does goes before between after a b c o p q may_stop must_stop who t
       };
     }
 
-pub serves_told : {S E A : Type 0} (does : S → OutletCall E → S → Type 0) (goes : Relation E A) (before between after : A) (a b c : S) (o p q : Option (Received E)) (may_stop : ℕ → Type 0) (must_stop : ℕ → ℕ → Type 0) (who : ℕ) (t t' : Turns) (result : Result Progress Trouble) (answer : Option WorkFault)
-    → SomeCalls does a b (Serving goes before between o p may_stop must_stop who t) → SomeCalls does b c (TakesBatch goes between after p q may_stop must_stop t t' result)
+pub serves_told : {S E A : Type 0} (does : S → OutletCall E → S → Type 0) (goes : Relation E A) (before between after : A) (a b c : S)
+    (o p q : Option (Received E)) (may_stop : ℕ → Type 0) (must_stop : ℕ → ℕ → Type 0) (who : ℕ) (t t' : Turns) (result : Result Progress Trouble)
+    (answer : Option WorkFault)
+    → SomeCalls does a b (Serving goes before between o p may_stop must_stop who t)
+    → SomeCalls does b c (TakesBatch goes between after p q may_stop must_stop t t' result)
     → result ≡ Ok Drained → answer ≡ fault_at_end t'.stopped → SomeCalls does a c (Serves goes before after o q (may_stop who) (must_stop who) answer)
 serves_told does goes before between after a b c o p q may_stop must_stop who t t' result answer h k told is =
     serving_ends does goes before between after a b c o p q may_stop must_stop who t t' result answer h k (inl (ends_after IsTold h.calls k.calls (k.holds.told told), is))
 
-pub serves_in_trouble : {S E A : Type 0} (does : S → OutletCall E → S → Type 0) (goes : Relation E A) (before between after : A) (a b c : S) (o p q : Option (Received E)) (may_stop : ℕ → Type 0) (must_stop : ℕ → ℕ → Type 0) (who : ℕ) (t t' : Turns) (result : Result Progress Trouble) (answer : Option WorkFault) (trouble : Trouble)
-    → SomeCalls does a b (Serving goes before between o p may_stop must_stop who t) → SomeCalls does b c (TakesBatch goes between after p q may_stop must_stop t t' result)
-    → result ≡ Err trouble → answer ≡ Some (fault_in_trouble t'.stopped trouble) → SomeCalls does a c (Serves goes before after o q (may_stop who) (must_stop who) answer)
+pub serves_in_trouble : {S E A : Type 0} (does : S → OutletCall E → S → Type 0) (goes : Relation E A) (before between after : A) (a b c : S)
+    (o p q : Option (Received E)) (may_stop : ℕ → Type 0) (must_stop : ℕ → ℕ → Type 0) (who : ℕ) (t t' : Turns) (result : Result Progress Trouble)
+    (answer : Option WorkFault) (trouble : Trouble)
+    → SomeCalls does a b (Serving goes before between o p may_stop must_stop who t)
+    → SomeCalls does b c (TakesBatch goes between after p q may_stop must_stop t t' result)
+    → result ≡ Err trouble → answer ≡ Some (fault_in_trouble t'.stopped trouble)
+    → SomeCalls does a c (Serves goes before after o q (may_stop who) (must_stop who) answer)
 serves_in_trouble does goes before between after a b c o p q may_stop must_stop who t t' result answer trouble h k fails is =
     serving_ends does goes before between after a b c o p q may_stop must_stop who t t' result answer h k (inr (trouble, ends_after (IsInTrouble trouble) h.calls k.calls (k.holds.trouble trouble fails), is))

@@ -23,7 +23,8 @@ stopped_or_not true = inl refl
 stopped_or_not false = inr refl
 
 -- at a later turn
-must_later : (may_stop : ℕ → Type 0) (must_stop : ℕ → ℕ → Type 0) (n m k : ℕ) (a b c : Turns) → Passes may_stop must_stop n a b → Passes may_stop must_stop m b c → n ≤ k → k < n + m
+must_later : (may_stop : ℕ → Type 0) (must_stop : ℕ → ℕ → Type 0) (n m k : ℕ) (a b c : Turns) → Passes may_stop must_stop n a b
+    → Passes may_stop must_stop m b c → n ≤ k → k < n + m
     → a.turn + k < 2 ^ 64 → must_stop a.who (a.turn + k) → c.stopped ≡ true
 must_later may_stop must_stop n m k a b c h l late less fits stop =
     elim (stopped_or_not b.stopped) [
@@ -35,7 +36,8 @@ must_later may_stop must_stop n m k a b c h l late less fits stop =
     ]
 
 -- some turns after others
-pub passes_more : (may_stop : ℕ → Type 0) (must_stop : ℕ → ℕ → Type 0) (n m : ℕ) (a b c : Turns) → Passes may_stop must_stop n a b → Passes may_stop must_stop m b c
+pub passes_more : (may_stop : ℕ → Type 0) (must_stop : ℕ → ℕ → Type 0) (n m : ℕ) (a b c : Turns) → Passes may_stop must_stop n a b
+    → Passes may_stop must_stop m b c
     → Passes may_stop must_stop (n + m) a c
 passes_more may_stop must_stop n m a b c h l = record {
   who = l.who ∙ h.who;
@@ -57,7 +59,8 @@ passes_stopped may_stop must_stop t is =
     record { who = refl; may = λ now. inl now; stays = λ now. now; turn = λ going fits. absurd (false≢true (sym going ∙ is)); must = λ k less fits stop. is }
 
 -- a worker that passed its gate so often answers by whether it was stopped
-pub stops_after : (may_stop : ℕ → Type 0) (must_stop : ℕ → ℕ → Type 0) (times who : ℕ) (t : Turns) (Answers : Bool → Type 0) → Passes may_stop must_stop times (begins who) t → Answers t.stopped
+pub stops_after : (may_stop : ℕ → Type 0) (must_stop : ℕ → ℕ → Type 0) (times who : ℕ) (t : Turns) (Answers : Bool → Type 0)
+    → Passes may_stop must_stop times (begins who) t → Answers t.stopped
     → Stops (may_stop who) (must_stop who) times Answers
 stops_after may_stop must_stop times who t Answers h answers = record {
   stopped = t.stopped;

@@ -1,8 +1,9 @@
 -- What workers called of their ends, and how they came to their answers.
-use Rattle.std.specs.Prelude.{◌≡◌, ◌⊎◌, ℕ, Bool, List, [], ◌∷◌, length, Option, Some, Ok, Err}
+use Rattle.std.specs.Prelude.{◌≡◌, ◌≢◌, ◌⊎◌, ℕ, Bool, List, [], ◌∷◌, length, Option, Some, Ok, Err}
 use Rattle.dr_core.specs.declared.command.Polled.TheVariants.{Drained}
 use Rattle.dr_core.specs.declared.ends.Trouble.{Trouble}
 use Rattle.dr_core.specs.declared.ends.Trouble.TheVariants.{Refused, Memory}
+use Rattle.dr_core.specs.declared.refusal.Refusal.TheVariants.{NoRoom}
 use Rattle.dr_core.specs.Calls.Calling.{InletCall, OutletCall, TriesClaim, WritesOne, WritesMany, PublishesStretch, PollsInto, CompletesBelow}
 use Rattle.dr_core.specs.Calls.Ends.{Received}
 use Rattle.dr_core.specs.Calls.Handling.{Relation}
@@ -43,13 +44,14 @@ pub record Serves {E A : Type 0} (goes : Relation E A) (before after : A) (old n
 
 -- The producer's side.
 
+-- a refusal, and not a lack of memory
 abbrev pub IsRefusal : Trouble → Type 0
 IsRefusal (Refused refusal) = Unit {0}
 IsRefusal Memory = ⊥
 
--- a producer's worker gives up in this trouble of a call: a claim's, or the refusal of a write or a publication
+-- a producer's worker gives up in this trouble of a call: a claim's, unless it only has no room, or the refusal of a write or a publication
 abbrev pub GivesUp : {E : Type 0} → Trouble → InletCall E → Type 0
-GivesUp trouble (TriesClaim n (Err fault)) = fault ≡ trouble
+GivesUp trouble (TriesClaim n (Err fault)) = (fault ≡ trouble) × (trouble ≢ Refused NoRoom)
 GivesUp trouble (WritesOne s event (Err fault)) = (fault ≡ trouble) × IsRefusal trouble
 GivesUp trouble (WritesMany lo events wrote) = (wrote.trouble ≡ Some trouble) × IsRefusal trouble
 GivesUp trouble (PublishesStretch lo hi (Err fault)) = (fault ≡ trouble) × IsRefusal trouble

@@ -24,7 +24,8 @@ loop-init g c = (
 
 pub returns-in-Ok-Drained-clause-serves : goal.returns-in-Ok-Drained-clause-serves
 returns-in-Ok-Drained-clause-serves g c =
-    serves_told g.O.Outlet.does g.H.Handler.goes _ _ _ _ _ _ _ _ _ (g.G.Gate.may_stop c.args.gate.now) (g.G.Gate.must_stop c.args.gate.now) c.args.who _ _ _ _ c.loop.invariant.5 c.turn.ensures.takes (c.in-Ok-Drained.is ∙ ap (λ x. Ok x) c.in-Ok-Drained.field-0-is) c.at_end.ensures
+    serves_told g.O.Outlet.does g.H.Handler.goes c.args.handler.now c.loop.handler c.turn.new.handler c.args.outlet.now c.loop.outlet c.turn.new.outlet _ _ _
+    (g.G.Gate.may_stop c.args.gate.now) (g.G.Gate.must_stop c.args.gate.now) c.args.who _ _ _ _ c.loop.invariant.5 c.turn.ensures.takes (c.in-Ok-Drained.is ∙ ap (λ x. Ok x) c.in-Ok-Drained.field-0-is) c.at_end.ensures
 
 pub returns-in-Ok-Drained-clause-done : goal.returns-in-Ok-Drained-clause-done
 returns-in-Ok-Drained-clause-done g c = whatever c.at_end.result (done_more _ _ _ c.loop.invariant.6 c.in-Ok-Drained.ensures.done)
@@ -36,7 +37,8 @@ loop-preserved-in-Ok-Batch g c = (
   c.turn.ensures.kept ∙ c.loop.invariant.2,
   c.turn.ensures.takes.holds.passes.who ∙ c.loop.invariant.3,
   stopped_more (g.G.Gate.may_stop c.args.gate.now) (g.G.Gate.must_stop c.args.gate.now) _ c.args.who _ _ c.loop.invariant.3 c.loop.invariant.4 c.turn.ensures.takes.holds.passes,
-  serving_more g.O.Outlet.does g.H.Handler.goes _ _ _ _ _ _ _ _ _ (g.G.Gate.may_stop c.args.gate.now) (g.G.Gate.must_stop c.args.gate.now) c.args.who _ _ _ c.loop.invariant.5 c.turn.ensures.takes,
+  serving_more g.O.Outlet.does g.H.Handler.goes c.args.handler.now c.loop.handler c.turn.new.handler c.args.outlet.now c.loop.outlet c.turn.new.outlet _ _ _
+      (g.G.Gate.may_stop c.args.gate.now) (g.G.Gate.must_stop c.args.gate.now) c.args.who _ _ _ c.loop.invariant.5 c.turn.ensures.takes,
   done_more _ _ _ c.loop.invariant.6 c.in-Ok-Batch.ensures.done,
 )
 
@@ -47,13 +49,15 @@ loop-preserved g c = (
   c.turn.ensures.kept ∙ c.loop.invariant.2,
   c.turn.ensures.takes.holds.passes.who ∙ c.loop.invariant.3,
   stopped_more (g.G.Gate.may_stop c.args.gate.now) (g.G.Gate.must_stop c.args.gate.now) _ c.args.who _ _ c.loop.invariant.3 c.loop.invariant.4 c.turn.ensures.takes.holds.passes,
-  serving_more g.O.Outlet.does g.H.Handler.goes _ _ _ _ _ _ _ _ _ (g.G.Gate.may_stop c.args.gate.now) (g.G.Gate.must_stop c.args.gate.now) c.args.who _ _ _ c.loop.invariant.5 c.turn.ensures.takes,
+  serving_more g.O.Outlet.does g.H.Handler.goes c.args.handler.now c.loop.handler c.turn.new.handler c.args.outlet.now c.loop.outlet c.turn.new.outlet _ _ _
+      (g.G.Gate.may_stop c.args.gate.now) (g.G.Gate.must_stop c.args.gate.now) c.args.who _ _ _ c.loop.invariant.5 c.turn.ensures.takes,
   done_more _ _ _ c.loop.invariant.6 c.in-Ok-Nothing.ensures.done,
 )
 
 pub returns-in-Err-clause-serves : goal.returns-in-Err-clause-serves
 returns-in-Err-clause-serves g c =
-    serves_in_trouble g.O.Outlet.does g.H.Handler.goes _ _ _ _ _ _ _ _ _ (g.G.Gate.may_stop c.args.gate.now) (g.G.Gate.must_stop c.args.gate.now) c.args.who _ _ _ _ c.in-Err.trouble c.loop.invariant.5 c.turn.ensures.takes c.in-Err.is (ap Some c.in_trouble.ensures)
+    serves_in_trouble g.O.Outlet.does g.H.Handler.goes c.args.handler.now c.loop.handler c.turn.new.handler c.args.outlet.now c.loop.outlet c.turn.new.outlet _ _ _
+    (g.G.Gate.may_stop c.args.gate.now) (g.G.Gate.must_stop c.args.gate.now) c.args.who _ _ _ _ c.in-Err.trouble c.loop.invariant.5 c.turn.ensures.takes c.in-Err.is (ap Some c.in_trouble.ensures)
 
 pub returns-in-Ok-Drained-clause-waits : goal.returns-in-Ok-Drained-clause-waits
 returns-in-Ok-Drained-clause-waits g c is = waited _ (sym c.at_end.ensures ∙ is)

@@ -19,7 +19,7 @@ returns-in_err-complete-in-Ok-Batch-clause-takes g c =
     let p = err_from_is_err_and c.from_residual.result c.from_residual.ensures.1 in
     let same = p.1 in
     let why = p.2 in
-    turned_batch g.O.Outlet.does g.H.Handler.goes _ _ _ _ _ _ _ (g.G.Gate.may_stop c.args.gate.now) (g.G.Gate.must_stop c.args.gate.now) _ _ c.from_residual.result
+    turned_batch g.O.Outlet.does g.H.Handler.goes c.args.handler.now c.show.new.handler _ _ _ _ _ (g.G.Gate.may_stop c.args.gate.now) (g.G.Gate.must_stop c.args.gate.now) _ _ c.from_residual.result
     c.args.buf.now out b.first b.count (b.first + b.count) b.end c.complete.result call c.complete.ensures.called works c.pass.ensures (λ is. cc) (λ fault is. cc)
 
 pub returns-in_ok-complete-in-Ok-Batch-clause-takes : goal.returns-in_ok-complete-in-Ok-Batch-clause-takes
@@ -29,7 +29,7 @@ returns-in_ok-complete-in-Ok-Batch-clause-takes g c =
     let deal = dealt _ out _ b.first b.count b.end _ _ b.field-0-is b.ensures.answer.1 c.poll_into.auto.out b.ensures.received in
     let works = works_batch g.H.Handler.goes c.args.handler.now c.show.new.handler out b.first b.count _ b.end _ _ _ deal c.show.ensures c.in_ok-complete-in-Ok-Batch.ensures.completed in
     let call = subst (λ r. g.O.Outlet.does c.args.outlet.now (PollsInto c.args.buf.now out r) c.poll_into.new.self) (b.is ∙ ap (λ x. Ok x) b.field-0-is) c.poll_into.ensures.called in
-    turned_batch g.O.Outlet.does g.H.Handler.goes _ _ _ _ _ _ _ (g.G.Gate.may_stop c.args.gate.now) (g.G.Gate.must_stop c.args.gate.now) _ _ (Ok (Batch b.count))
+    turned_batch g.O.Outlet.does g.H.Handler.goes c.args.handler.now c.show.new.handler _ _ _ _ _ (g.G.Gate.may_stop c.args.gate.now) (g.G.Gate.must_stop c.args.gate.now) _ _ (Ok (Batch b.count))
     c.args.buf.now out b.first b.count (b.first + b.count) b.end c.complete.result call c.complete.ensures.called works c.pass.ensures (λ is. cc) (λ fault is. cc)
 
 pub returns-in-Ok-Drained-clause-takes : goal.returns-in-Ok-Drained-clause-takes

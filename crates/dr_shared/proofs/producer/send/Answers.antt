@@ -1,4 +1,4 @@
-use Rattle.std.proofs.Common.{ℕ, ◌≡◌, ◌+◌, Result, Ok, Err, Option, OnErr, OnOk, List, [], length, subst}
+use Rattle.std.proofs.Common.{ℕ, ◌≡◌, ◌+◌, ◌∙◌, ap, Result, Ok, Err, Option, OnErr, OnOk, List, [], length, subst}
 use Rattle.std.proofs.lemmas.Result.{err_from_is_err_and}
 use Rattle.dr_core.specs.declared.command.Claimed.{Claimed}
 use Rattle.dr_core.specs.Calls.Calling.{SomeCalls}
@@ -54,10 +54,11 @@ returns-in_err-lo-clause-sends g c =
     let must = g.G.Gate.must_stop c.args.gate.now in
     let n = length c.args.events.now in
     let why = c.in_err-lo.field-0.0 in
+    let failed : c.claim.result ≡ Err why = c.in_err-lo.was in
     let p = err_from_is_err_and c.from_residual.result c.from_residual.ensures.1 in
     let same : Err why ≡ c.from_residual.result = (let e = p.1 in let f = p.2 in cc) in
     subst (λ r. SomeCalls does c.args.inlet.now c.claim.new.inlet (SendsPart n may must c.args.turns.now c.args.turns.now r)) same
-    (part_unclaimed does n _ _ may must _ why (subst (λ r. SomeCalls does c.args.inlet.now c.claim.new.inlet (IsClaimed n r)) c.in_err-lo.was c.claim.ensures.called))
+    (part_unclaimed does n _ _ may must _ why (λ full. c.claim.ensures.waits (failed ∙ ap (λ t. Err t) full)) (subst (λ r. SomeCalls does c.args.inlet.now c.claim.new.inlet (IsClaimed n r)) c.in_err-lo.was c.claim.ensures.called))
 
 pub returns-in_err-write_all-clause-sends : goal.returns-in_err-write_all-clause-sends
 returns-in_err-write_all-clause-sends g c =

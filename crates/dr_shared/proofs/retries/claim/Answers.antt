@@ -14,7 +14,7 @@ loop-preserved g c =
       tt,
       c.try_claim.ensures.kept ∙ c.loop.invariant.2,
       shown_same _ _ none.ensures.sent ∙ c.loop.invariant.3,
-      (c.loop.invariant.4.0 + 1, retry_more g.I.Inlet.does c.args.inlet.now c.loop.inlet c.try_claim.new.self _ c.loop.invariant.4.0 c.loop.invariant.4.1 (subst (λ r. g.I.Inlet.does c.loop.inlet (TriesClaim c.args.n r) c.try_claim.new.self) is c.try_claim.ensures.called)),
+      (c.loop.invariant.4.0 + 1, retry_more g.I.Inlet.does c.args.inlet.now c.loop.inlet c.try_claim.new.self (TriesClaim c.args.n (Err (Refused NoRoom))) c.loop.invariant.4.0 c.loop.invariant.4.1 (subst (λ r. g.I.Inlet.does c.loop.inlet (TriesClaim c.args.n r) c.try_claim.new.self) is c.try_claim.ensures.called)),
     )
 
 pub returns-in_default-clause-called : goal.returns-in_default-clause-called

@@ -14,7 +14,7 @@ loop-preserved g c =
       c.complete.ensures.kept ∙ c.loop.invariant.2,
       c.complete.ensures.told ∙ c.loop.invariant.3,
       shown_same _ _ out.ensures.received ∙ c.loop.invariant.4,
-      (c.loop.invariant.5.0 + 1, retry_more g.O.Outlet.does c.args.outlet.now c.loop.outlet c.complete.new.self _ c.loop.invariant.5.0 c.loop.invariant.5.1 (subst (λ r. g.O.Outlet.does c.loop.outlet (CompletesBelow c.args.upto r) c.complete.new.self) is c.complete.ensures.called)),
+      (c.loop.invariant.5.0 + 1, retry_more g.O.Outlet.does c.args.outlet.now c.loop.outlet c.complete.new.self (CompletesBelow c.args.upto (Err Memory)) c.loop.invariant.5.0 c.loop.invariant.5.1 (subst (λ r. g.O.Outlet.does c.loop.outlet (CompletesBelow c.args.upto r) c.complete.new.self) is c.complete.ensures.called)),
     )
 
 pub returns-in_default-clause-called : goal.returns-in_default-clause-called

@@ -13,7 +13,7 @@ loop-preserved g c =
       tt,
       c.publish.ensures.kept ∙ c.loop.invariant.2,
       shown_same _ _ out.ensures.sent ∙ c.loop.invariant.3,
-      (c.loop.invariant.4.0 + 1, retry_more g.I.Inlet.does c.args.inlet.now c.loop.inlet c.publish.new.self _ c.loop.invariant.4.0 c.loop.invariant.4.1 (subst (λ r. g.I.Inlet.does c.loop.inlet (PublishesStretch c.args.lo c.args.hi r) c.publish.new.self) is c.publish.ensures.called)),
+      (c.loop.invariant.4.0 + 1, retry_more g.I.Inlet.does c.args.inlet.now c.loop.inlet c.publish.new.self (PublishesStretch c.args.lo c.args.hi (Err Memory)) c.loop.invariant.4.0 c.loop.invariant.4.1 (subst (λ r. g.I.Inlet.does c.loop.inlet (PublishesStretch c.args.lo c.args.hi r) c.publish.new.self) is c.publish.ensures.called)),
     )
 
 pub returns-in-Ok-clause-called : goal.returns-in-Ok-clause-called
