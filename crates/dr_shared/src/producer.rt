@@ -46,7 +46,8 @@ fn send<E: Copy, R: Wait, I: Inlet<E>, G: Gate>(
 
 /// Sends a script in claims of up to `cut` events, each once there is room: a claim, the worker's
 /// gate, the writes, and the publication. A refusal ends the work, and so does running out of memory for a
-/// claim. A worker that the gate stops goes on without it, and answers `Stopped` at its end.
+/// claim: the fault is what the last call answered. A worker that the gate stops goes on without it,
+/// and answers `Stopped` at its end.
 pub fn produce<E: Copy, R: Wait, I: Inlet<E>, G: Gate>(
     rt: &R,
     inlet: &mut I,
@@ -63,7 +64,6 @@ pub fn produce<E: Copy, R: Wait, I: Inlet<E>, G: Gate>(
     ensures within { result.sent ≤ length script.now }
     ensures all { IfNone result.fault (result.sent ≡ length script.now) }
     ensures stopped { result.fault ≡ Some Stopped → G.may_stop gate.now who }
-    // Its claims are cut as told, and a fault is the last call's, or that the gate stopped the worker.
     ensures sends { SomeCalls I.does inlet.old inlet.new (Sends cut (length script.now) (G.may_stop gate.now who) (G.must_stop gate.now who) result) }
 {
     let mut turns = Turns::new(who);
