@@ -5,3 +5,4 @@ pub mod Fault
 pub mod Stops
 pub mod Serving
 pub mod Waits
+pub mod Asking

@@ -4,6 +4,7 @@ ghost use Rattle.std.specs.Prelude.{◌≡◌, ◌+◌, ◌<◌, ◌≤◌, ◌�
 ghost use Rattle.dr_core.specs.Calls.CoreView.{retired_in};
 ghost use Rattle.dr_core.specs.Meaning.Machine.{State, handlers, opening, producers as producers_of, setup_of, step};
 ghost use Rattle.dr_core.specs.Calls.OpenFault.{has_bad_producers, is_bad_limit};
+ghost use Rattle.dr_core.specs.Meaning.Progress.{NobodyIsStuck};
 ghost use Rattle.dr_core.specs.Meaning.Runs.{count_in};
 ghost use Rattle.dr_core.specs.Calls.Shows.{Shows, IsStep};
 ghost use Rattle.dr_shared.specs.Meaning.History.{IsRecorded, asked, entries_after};
@@ -12,6 +13,7 @@ ghost use Rattle.dr_shared.specs.Calls.Lock.{IsAnswer};
 use crate::entry::{Entry, is_kept};
 use dr_core::{
     Command, Core, Mode, OpenFault, Reply, every_step_leads_on, every_transcript_is_lawful,
+    nobody_is_stuck,
 };
 use dr_graph::Graph;
 use dr_seq::Size;
@@ -110,6 +112,15 @@ impl<E: Copy> Recorded<E> {
         ensures recorded { IsRecorded self.now.history }
     {
         &self.entries
+    }
+
+    /// That somebody can always go on from where the history leads. It does nothing when it runs: its
+    /// contract is the theorem.
+    pub fn is_never_stuck(&self)
+        ensures { (recorded : IsRecorded self.now.history) × NobodyIsStuck self.now.history.core.setup recorded.runs.state }
+    {
+        nobody_is_stuck::<E>();
+        let _handlers = self.core.graph().len();
     }
 
     /// The events of the kept batches, joined in order.
