@@ -8,8 +8,7 @@ use Rattle.dr_graph.specs.Meaning.Graph.{least_of}
 use Rattle.dr_ring.specs.declared.record.Look.{Look}
 use Rattle.dr_ring.specs.Meaning.Records.{look, last_look}
 use Rattle.dr_ring.specs.Calls.Ends.{looks_at}
-use Rattle.dr_ring.specs.Calls.Receiving.{offered_by}
-use Rattle.dr_ring.specs.Inside.Parts.{lesser_of}
+use Rattle.dr_ring.specs.Calls.Receiving.{offered_by, lesser_of}
 use Rattle.dr_ring.proofs.Lists.{last_look_more, last_look_else}
 
 -- the default of a list's element does not matter inside it

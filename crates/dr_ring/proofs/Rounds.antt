@@ -13,9 +13,9 @@ use Rattle.dr_ring.specs.declared.record.SenderRecord.{SenderRecord}
 use Rattle.dr_ring.specs.declared.record.ReceiverRecord.{ReceiverRecord}
 use Rattle.dr_ring.specs.Meaning.Records.{look, last_look, sender_looked, receiver_looked}
 use Rattle.dr_ring.specs.Calls.Ends.{count_looks}
-use Rattle.dr_ring.specs.Calls.Receiving.{offered_by}
+use Rattle.dr_ring.specs.Calls.Receiving.{offered_by, lesser_of}
 use Rattle.dr_ring.specs.Inside.Fits.{IsSeenLeast}
-use Rattle.dr_ring.specs.Inside.Parts.{sender_saw, lesser_of, LooksAtFinals, IsEnough, IsShort, receiver_saw, ups_of, LooksAtUpstreams}
+use Rattle.dr_ring.specs.Inside.Parts.{sender_saw, LooksAtFinals, IsEnough, IsShort, receiver_saw, ups_of, LooksAtUpstreams}
 use Rattle.dr_runs.proofs.Lists.{no_elements, take_whole}
 use Rattle.dr_ring.proofs.Lists.{last_look_more}
 use Rattle.dr_ring.proofs.Looking.{get_any, last_rises, last_least, looks_more, looks_few, no_looks_at, number_at, offers_more, contains_more, contains_last}

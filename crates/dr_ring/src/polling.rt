@@ -1,9 +1,9 @@
 //! What a poll is made of: the barrier's offer, the events, and the answer where there are none.
 
 ghost use Rattle.std.specs.Prelude.{◌≡◌, ◌+◌, ◌^◌, ◌<◌, ◌≤◌, None, length};
-ghost use Rattle.dr_ring.specs.Calls.Receiving.{received_all};
+ghost use Rattle.dr_ring.specs.Calls.Receiving.{lesser_of, received_all};
 ghost use Rattle.dr_ring.specs.Calls.Ends.{HasLoaded};
-ghost use Rattle.dr_ring.specs.Inside.Parts.{lesser_of, LooksAtUpstreams, IsOfferedUpTo, nothing_offered as answer_of};
+ghost use Rattle.dr_ring.specs.Inside.Parts.{LooksAtUpstreams, IsOfferedUpTo, nothing_offered as answer_of};
 
 use crate::laws::ReceiverStation;
 use dr_core::Polled;

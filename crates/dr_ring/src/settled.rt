@@ -2,14 +2,12 @@
 
 ghost use Rattle.std.specs.Prelude.{◌≡◌, ◌<◌, length, map};
 ghost use Rattle.std.specs.Arc.{arc_value};
-ghost use Rattle.dr_runs.specs.Seats.{end_of};
-ghost use Rattle.dr_ring.specs.Inside.Seats.{IsAtTable};
+ghost use Rattle.dr_ring.specs.Inside.Seats.{IsAtTable, ring_ends};
 ghost use Rattle.dr_ring.specs.Meaning.Records.{claimed as claimed_of};
 ghost use Rattle.dr_runs.specs.Gathering.{Gathers};
-ghost use Rattle.dr_ring.specs.declared.record.EndRecord.TheVariants.{Receives};
-ghost use Rattle.dr_ring.specs.Inside.Stations.{AreOfRing};
-ghost use Rattle.dr_ring.specs.Meaning.Settling.{Settles, HasRun};
-ghost use Rattle.dr_ring.specs.Calls.Settling.{AreAllEnds, handler_counts, counts_at};
+ghost use Rattle.dr_ring.specs.Inside.Stations.{AreOfRing, receiver_known};
+ghost use Rattle.dr_ring.specs.Meaning.Settling.{Settles};
+ghost use Rattle.dr_ring.specs.Calls.Settling.{AreAllEnds, HasRun, handler_counts, counts_at};
 
 use crate::laws::{RingBody, RingSeat, moments, settling};
 use crate::receiver::Receiver;
@@ -92,7 +90,7 @@ fn gather(
     requires receivers { AreOfRing seat.old.table_id receivers.items }
     requires places { length counts.old.items ≡ length receivers.items }
     ensures seat { seat.new.table_id ≡ seat.old.table_id }
-    ensures view { Gathers (end_of seat.old.me) (map (λ e. Receives e.knows) receivers.items) (end_of seat.new.me) }
+    ensures view { Gathers ring_ends seat.old.me.0 (map receiver_known receivers.items) seat.new.me.0 }
     ensures counts { counts.new.items ≡ map (λ e. handler_counts e.knows) receivers.items }
 {
     while let Some(receiver) = receivers.pop() {
@@ -110,14 +108,14 @@ fn gather(
 /// Each receiver has the beginning of what the sender published, all of it where it was told that
 /// the ring drained; no handler took more than its upstreams completed; and no more is claimed
 /// than a round beyond what each final handler completed. There is one run of all ends that came
-/// to what they know, and its transcript is lawful.
+/// to what they know, in which each end stored exactly what it did, and its transcript is lawful.
 pub fn settle(sender: Sender, receivers: Vec<Receiver>) -> Settled
     requires { AreAllEnds sender receivers.items }
     ensures claimed { result.claimed ≡ claimed_of sender.knows }
     ensures published { result.published ≡ length sender.knows.sent.published }
     ensures handlers { result.handlers.items ≡ map (λ e. handler_counts e.knows) receivers.items }
     ensures lists { Settles sender.knows (map (λ e. e.knows) receivers.items) }
-    ensures run { HasRun sender.knows (map (λ e. e.knows) receivers.items) }
+    ensures run { HasRun sender receivers.items }
 {
     let station = sender.station;
     let mut seat = station.seat;

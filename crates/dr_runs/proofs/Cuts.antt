@@ -8,7 +8,7 @@ use Rattle.atomic_table.specs.Table.{Splits, Joins, opening as table_opening}
 use Rattle.atomic_table.proofs.Lists.{at_set}
 use Rattle.dr_runs.specs.declared.view.View.{View}
 use Rattle.dr_runs.specs.Runs.{Exchange}
-use Rattle.dr_runs.specs.Seats.{EachPast, Saw, Ruled, fresh_view, first_view, rest_view, both_views, no_view}
+use Rattle.dr_runs.specs.Seats.{with_pasts, EachPast, Saw, Ruled, pasts_of, fresh_view, first_view, rest_view, both_views, no_view}
 use Rattle.dr_runs.proofs.Seats.{StandsAt}
 
 -- a table with one view
@@ -96,6 +96,13 @@ each_both P [] fs (p ∷ ps) qs A B = absurd A
 each_both P (e ∷ es) fs [] qs A B = absurd A
 each_both P (e ∷ es) fs (p ∷ ps) qs A B = (A.0, each_both P es fs ps qs A.1 B)
 
+-- each end keeps its past
+each_with : {E S : Type 0} (P : E → List S → Type 0) (es : List E) (ps : List (List S)) → EachPast P es ps
+    → EachPast P es (map (λ (x : E × List S). x.1) (with_pasts es ps))
+each_with P [] ps A = tt
+each_with P (e ∷ es) [] A = absurd A
+each_with P (e ∷ es) (p ∷ ps) A = (A.0, each_with P es ps A.1)
+
 pub cuts : {E S W : Type 0} (X : Exchange E S W) (id : ℕ) (v : View E S)
     → Splits (Ruled X) id v (first_view v) (rest_view v)
 cuts {E = E} {S = S} X id v s R mine = let new = length s.views in let place' : ℕ → ℕ × ℕ = λ e. moved id new (R.place e) in let w = R.world in
@@ -168,7 +175,8 @@ joins {E = E} {S = S} X id v other w s R mine apart theirs =
         | inl x ↦ subst (λ (y : View E S). EachPast (Saw X R.reached.steps) y.ends y.pasts) x.1 tt
         | inr x ↦ elim (at_set s.views id id' (both_views v w) u x.1) [
           | inl y ↦ subst (λ (z : View E S). EachPast (Saw X R.reached.steps) z.ends z.pasts) y.1
-              (each_both (Saw X R.reached.steps) v.ends w.ends v.pasts w.pasts (R.each_past id v mine) (R.each_past other w was))
+              (each_both (Saw X R.reached.steps) v.ends w.ends (pasts_of v) (pasts_of w) (each_with (Saw X R.reached.steps) v.ends v.pasts (R.each_past id v mine))
+              (each_with (Saw X R.reached.steps) w.ends w.pasts (R.each_past other w was)))
           | inr y ↦ R.each_past id' u y.1
         ]
       ];

@@ -9,45 +9,104 @@ use Rattle.atomic_table.specs.Table.{step, keeps, Allows}
 use Rattle.atomic_table.specs.Seated.{TableId}
 use Rattle.atomic_table.proofs.Lists.{at_longer, at_last, at_set}
 use Rattle.dr_runs.specs.declared.view.View.{View}
-use Rattle.dr_runs.specs.Runs.{Exchange, IsBeginning}
-use Rattle.dr_runs.specs.Seats.{End, Sitting, EachPast, alone, Saw, Ruled}
-use Rattle.dr_runs.specs.Gathering.{AreOf, IsInView, Gathers, Compares}
-use Rattle.dr_runs.proofs.Lists.{no_elements, past_end, drop_set, at_map}
+use Rattle.dr_runs.specs.Runs.{Ends, Exchange, IsBeginning}
+use Rattle.dr_runs.specs.Seats.{End, Sitting, EachPast, alone, first_past, with_pasts, end_of, past_of, pasts_of, both_views, first_number, stores_of, stored_of, Saw, Ruled}
+use Rattle.dr_runs.specs.Gathering.{AreOf, Known, IsInView, Gathers, ViewRan, Compares}
+use Rattle.dr_runs.proofs.Lists.{no_elements, past_end, drop_set, at_behind, at_map}
 use Rattle.dr_runs.proofs.Seats.{StandsAt, each_map}
 
+module _ {E S : Type 0} where
+  -- the ends of a view, and of two, with the pasts that they have already
+  with_again : (es : List E) (ps : List (List S)) → with_pasts es (map (λ (x : E × List S). x.1) (with_pasts es ps)) ≡ with_pasts es ps
+  with_again [] ps = refl
+  with_again (e ∷ es) ps = ap (λ (xs : List (E × List S)). (e, first_past ps) ∷ xs) (with_again es (drop 1 ps))
+
+  with_both : (es : List E) (ps : List (List S)) (v : View E S)
+      → with_pasts (es ++ v.ends) (map (λ (x : E × List S). x.1) (with_pasts es ps) ++ pasts_of v) ≡ with_pasts es ps ++ with_pasts v.ends v.pasts
+  with_both [] ps v = with_again v.ends v.pasts
+  with_both (e ∷ es) ps v = ap (λ (xs : List (E × List S)). (e, first_past ps) ∷ xs) (with_both es (drop 1 ps) v)
+
+module _ {E S : Type 0} (ends : Ends E S) where
+  in_first : (v w : View E S) (x : Known E S) → IsInView ends v x → IsInView ends (both_views v w) x
+  in_first v w x I = (
+    I.0,
+    subst (λ (xs : List (E × List S)). get_elem? xs I.0 ≡ some (x.knows, x.past)) (sym (with_both v.ends v.pasts w))
+        (at_longer (with_pasts v.ends v.pasts) (with_pasts w.ends w.pasts) I.0 (x.knows, x.past) I.1),
+    I.2,
+  )
+
+  in_second : (v w : View E S) (x : Known E S) → IsInView ends w x → IsInView ends (both_views v w) x
+  in_second v w x I = let n = length (with_pasts v.ends v.pasts) in (
+    n + I.0,
+    subst (λ (xs : List (E × List S)). get_elem? xs (n + I.0) ≡ some (x.knows, x.past)) (sym (with_both v.ends v.pasts w))
+        (at_behind (with_pasts v.ends v.pasts) (with_pasts w.ends w.pasts) I.0 (x.knows, x.past) I.1),
+    I.2,
+  )
+
+  -- a seat that stands for one end alone has it in its view
+  pub in_own : (me : Sitting E S) (x : Known E S) → end_of me ≡ alone x.knows → past_of me.0 ≡ x.past → stored_of ends me.0 ≡ x.stored → IsInView ends me.0 x
+  in_own me x is past stored = let one : me.0.ends ≡ x.knows ∷ [] = ap (λ (m : End E). m.0) is in (
+    0,
+    subst (λ (es : List E). get_elem? (with_pasts es me.0.pasts) 0 ≡ some (x.knows, x.past)) (sym one)
+        (ap (λ (p : List S). let y : E × List S = (x.knows, p) in some y) past),
+    ap (λ (p : List S). stores_of ends (ends.number_of x.knows) p) (sym past)
+        ∙ ap (λ (es : List E). stores_of ends (first_number ends es) (past_of me.0)) (sym one) ∙ stored,
+  )
+
+each_there : {E S : Type 0} (P : E → List S → Type 0) (es : List E) (ps : List (List S)) (j : ℕ) (x : E × List S) → EachPast P es ps
+    → get_elem? (with_pasts es ps) j ≡ some x → P x.0 x.1
+each_there P [] ps j x A at = absurd (some-ne-none x (sym at))
+each_there P (e ∷ es) [] j x A at = absurd A
+each_there P (e ∷ es) (p ∷ ps) zero x A at = subst (λ (y : _). P y.0 y.1) (some-injective (e, p) x at) A.0
+each_there P (e ∷ es) (p ∷ ps) (suc j) x A at = each_there P es ps j x A.1 at
+
+-- what the run that a view came to says of an end: its record stands, it saw a beginning, and it stored what it says
+pub record InRun {E S W : Type 0} (X : Exchange E S W) (w : W) (steps : List S) (x : Known E S) : Type 0 where
+  pub stands : X.Stands w x.knows
+  pub begins : IsBeginning x.past steps
+  pub stores : stores_of X.ends (X.ends.number_of x.knows) steps ≡ x.stored
+
+pub in_run : {E S W : Type 0} (X : Exchange E S W) (v : View E S) (V : ViewRan X v) (x : Known E S) → IsInView X.ends v x
+    → InRun X V.world V.reached.steps x
+in_run X v V x I =
+    let both = each_there (λ e past. Saw X V.reached.steps e past × X.Stands V.world e) v.ends v.pasts I.0 (x.knows, x.past) V.each I.1 in
+    record { stands = both.1; begins = both.0.begins; stores = sym both.0.stores ∙ I.2 }
+
 -- the ends `seen` have come, the others `left` not yet
-pub record Gathering {A E : Type 0} (known : A → E) (me now : End E) (left seen all : List A) : Type 0 where
+pub record Gathering {A E S : Type 0} (ends : Ends E S) (known : A → Known E S) (v now : View E S) (left seen all : List A) : Type 0 where
   pub split : left ++ seen ≡ all
-  pub stay : (e : E) → IsInView me e → IsInView now e
-  pub come : (i : ℕ) (a : A) → get_elem? seen i ≡ some a → IsInView now (known a)
+  pub stay : (x : Known E S) → IsInView ends v x → IsInView ends now x
+  pub come : (i : ℕ) (a : A) → get_elem? seen i ≡ some a → IsInView ends now (known a)
 
-pub gathering_none : {A E : Type 0} (known : A → E) (me : End E) (all : List A) → all ++ [] ≡ all → Gathering known me me all [] all
-gathering_none known me all same = record { split = same; stay = λ e in_view. in_view; come = λ i a at. absurd (some-ne-none a (sym at)) }
+pub gathering_none : {A E S : Type 0} (ends : Ends E S) (known : A → Known E S) (v : View E S) (all : List A) → all ++ [] ≡ all
+    → Gathering ends known v v all [] all
+gathering_none ends known v all same = record { split = same; stay = λ x in_view. in_view; come = λ i a at. absurd (some-ne-none a (sym at)) }
 
-come_more : {A E : Type 0} (known : A → E) (now : End E) (a : A) (seen : List A) → ((i : ℕ) (x : A) → get_elem? seen i ≡ some x → IsInView now (known x))
-    → (i : ℕ) (x : A) → get_elem? (a ∷ seen) i ≡ some x → IsInView (now.0 ++ known a ∷ [], now.1) (known x)
-come_more known now a seen before zero x at =
-    subst (λ (y : _). IsInView (now.0 ++ known a ∷ [], now.1) (known y)) (some-injective a x at) (length now.0, at_last now.0 (known a) (length now.0) refl)
-come_more known now a seen before (suc i) x at = let b = before i x at in (b.0, at_longer now.0 (known a ∷ []) b.0 (known x) b.1)
+come_more : {A : Type 0} (P : A → Type 0) (a : A) (seen : List A) → P a → ((i : ℕ) (x : A) → get_elem? seen i ≡ some x → P x)
+    → (i : ℕ) (x : A) → get_elem? (a ∷ seen) i ≡ some x → P x
+come_more P a seen first before zero x at = subst P (some-injective a x at) first
+come_more P a seen first before (suc i) x at = before i x at
 
-pub gathering_more : {A E : Type 0} {known : A → E} {me now next : End E} {left left' seen all : List A} {a : A} (other : End E)
-    → Gathering known me now left seen all → left ≡ left' ++ a ∷ [] → other ≡ alone (known a) → next ≡ (now.0 ++ other.0, now.1)
-    → Gathering known me next left' (a ∷ seen) all
-gathering_more {E = E} {known = known} {me = me} {now = now} {next = next} {left = left} {left' = left'} {seen = seen} {all = all} {a = a} other G popped of is =
-    let joined : (now.0 ++ known a ∷ [], now.1) ≡ next = sym (is ∙ ap (λ (m : End E). let x : End E = (now.0 ++ m.0, now.1) in x) of) in record {
+pub gathering_more : {A E S : Type 0} {ends : Ends E S} {known : A → Known E S} {v now next : View E S} {left left' seen all : List A} {a : A} (other : View E S)
+    → Gathering ends known v now left seen all → left ≡ left' ++ a ∷ [] → IsInView ends other (known a) → next ≡ both_views now other
+    → Gathering ends known v next left' (a ∷ seen) all
+gathering_more {E = E} {S = S} {ends = ends} {known = known} {now = now} {next = next} {left' = left'} {seen = seen} {a = a} other G popped came is =
+    let In : Known E S → Type 0 = λ x. IsInView ends next x in
+    let joined : (x : Known E S) → IsInView ends (both_views now other) x → In x = λ x. subst (λ (u : View E S). IsInView ends u x) (sym is) in record {
       split = sym (append_assoc left' (a ∷ []) seen) ∙ ap (λ (xs : List _). xs ++ seen) (sym popped) ∙ G.split;
-      stay = λ x in_view. (let b = G.stay x in_view in subst (λ (m : End E). IsInView m x) joined (b.0, at_longer now.0 (known a ∷ []) b.0 x b.1));
-      come = λ i x at. subst (λ (m : End E). IsInView m (known x)) joined (come_more known now a seen G.come i x at);
+      stay = λ x in_view. joined x (in_first ends now other x (G.stay x in_view));
+      come = come_more (λ y. In (known y)) a seen (joined (known a) (in_second ends now other (known a) came))
+          (λ i y at. joined (known y) (in_first ends now other (known y) (G.come i y at)));
     }
 
 -- all have come
-pub gathering_all : {A E : Type 0} {known : A → E} {me now : End E} {left seen all : List A} → Gathering known me now left seen all → length left ≡ 0
-    → Gathers me (map known all) now
-gathering_all {known = known} {now = now} {left = left} {seen = seen} {all = all} G none_left =
+pub gathering_all : {A E S : Type 0} {ends : Ends E S} {known : A → Known E S} {v now : View E S} {left seen all : List A}
+    → Gathering ends known v now left seen all → length left ≡ 0 → Gathers ends v (map known all) now
+gathering_all {ends = ends} {known = known} {now = now} {left = left} {seen = seen} {all = all} G none_left =
     let same : seen ≡ all = ap (λ (xs : List _). xs ++ seen) (sym (no_elements left none_left)) ∙ G.split in record {
       stay = G.stay;
       come = λ i x at. (let m = at_map known all i x at in
-          subst (IsInView now) m.2 (G.come i m.0 (subst (λ (xs : List _). get_elem? xs i ≡ some m.0) (sym same) m.1)));
+          subst (IsInView ends now) m.2 (G.come i m.0 (subst (λ (xs : List _). get_elem? xs i ≡ some m.0) (sym same) m.1)));
     }
 
 -- what is counted of those that have come is at their places
@@ -111,8 +170,8 @@ compares {E = E} {S = S} X slots id word me s R _ at _ =
         record {
           world = R.world;
           reached = R.reached;
-          pasts = each_map seen (λ e past. IsBeginning past R.reached.steps) me.0.ends me.0.pasts (λ j e past in_v was. was.begins) (R.each_past id me.0 at);
-          stands = λ e in_view. (here in_view.0 e in_view.1).1;
+          each = each_map seen (λ e past. seen e past × X.Stands R.world e) me.0.ends me.0.pasts (λ j e past in_v was. (was, (here j e in_v).1))
+              (R.each_past id me.0 at);
         },
         ap (λ (ws : List ℕ). get_or ws word 0) R.words,
       ),

@@ -1,5 +1,5 @@
 -- Elements of lists, by their places.
-use Rattle.std.proofs.Common.{◌≡◌, ℕ, zero, suc, ◌+◌, ◌<◌, ◌≤◌, List, [], ◌∷◌, map, length, set, take, drop, refl, sym, ap, ◌∙◌, arith}
+use Rattle.std.proofs.Common.{◌≡◌, ℕ, zero, suc, ◌+◌, ◌<◌, ◌≤◌, List, [], ◌∷◌, ◌++◌, map, length, set, take, drop, refl, sym, ap, ◌∙◌, arith}
 use mathlib.Core.Option.{some, some-injective, some-ne-none}
 use lib.ListN.{get_elem?}
 
@@ -26,6 +26,12 @@ module _ {A : Type 0} where
   drop_set (y ∷ xs) zero x ys lt rest = ap (λ (zs : List A). x ∷ zs) rest
   drop_set (y ∷ xs) (suc n) x ys lt rest =
       drop_set xs n x ys (omega arith) (let e : suc (n + 1) ≡ suc n + 1 = omega arith in ap (λ (m : ℕ). drop m (y ∷ xs)) e ∙ rest)
+
+  -- an element of the second of two lists
+  pub at_behind : (xs ys : List A) (j : ℕ) (y : A) → get_elem? ys j ≡ some y → get_elem? (xs ++ ys) (length xs + j) ≡ some y
+  at_behind [] ys j y at = let e : 0 + j ≡ j = omega arith in ap (λ (n : ℕ). get_elem? ys n) e ∙ at
+  at_behind (x ∷ xs) ys j y at =
+      let e : suc (length xs) + j ≡ suc (length xs + j) = omega arith in ap (λ (n : ℕ). get_elem? (x ∷ (xs ++ ys)) n) e ∙ at_behind xs ys j y at
 
   -- lists of one length that have the same elements
   pub same_lists : (xs ys : List A) → length xs ≡ length ys → ((i : ℕ) (y : A) → get_elem? ys i ≡ some y → get_elem? xs i ≡ some y) → xs ≡ ys

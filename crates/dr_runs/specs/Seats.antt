@@ -26,6 +26,11 @@ abbrev pub first_past : {S : Type 0} → List (List S) → List S
 first_past [] = []
 first_past (past ∷ pasts) = past
 
+-- each end of a view with its past
+abbrev pub with_pasts : {E S : Type 0} → List E → List (List S) → List (E × List S)
+with_pasts [] pasts = []
+with_pasts (e ∷ es) pasts = (e, first_past pasts) ∷ with_pasts es (drop 1 pasts)
+
 -- a fact of each end of a view and its past
 abbrev pub EachPast : {E S : Type 0} → (E → List S → Type 0) → List E → List (List S) → Type 0
 EachPast P [] [] = Unit {0}
@@ -43,6 +48,9 @@ module _ {E S : Type 0} where
   abbrev pub past_of : View E S → List S
   past_of v = first_past v.pasts
 
+  abbrev pub pasts_of : View E S → List (List S)
+  pasts_of v = map (λ (x : E × List S). x.1) (with_pasts v.ends v.pasts)
+
   -- the view of ends that have not stepped, and the seat that stands for them
   abbrev pub fresh_view : List E → View E S
   fresh_view es = record { ends = es; pasts = map (λ e. []) es }
@@ -59,7 +67,7 @@ module _ {E S : Type 0} where
 
   -- a seat takes in the view of another, which is left with none
   abbrev pub both_views : View E S → View E S → View E S
-  both_views v w = record { ends = v.ends ++ w.ends; pasts = v.pasts ++ w.pasts }
+  both_views v w = record { ends = v.ends ++ w.ends; pasts = pasts_of v ++ pasts_of w }
 
   abbrev pub no_view : View E S
   no_view = record { ends = []; pasts = [] }

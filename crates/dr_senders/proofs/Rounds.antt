@@ -12,9 +12,8 @@ use Rattle.dr_senders.specs.Meaning.Words.{count_word}
 use Rattle.dr_senders.specs.declared.record.ReceiverRecord.{ReceiverRecord}
 use Rattle.dr_senders.specs.Meaning.Records.{receiver_looked}
 use Rattle.dr_senders.specs.Calls.Ends.{count_looks}
-use Rattle.dr_ring.specs.Calls.Receiving.{offered_by}
+use Rattle.dr_ring.specs.Calls.Receiving.{offered_by, lesser_of}
 use Rattle.dr_senders.specs.Calls.Receiving.{ups_of}
-use Rattle.dr_ring.specs.Inside.Parts.{lesser_of}
 use Rattle.dr_senders.specs.Inside.Parts.{receiver_saw, LooksAtUpstreams}
 use Rattle.dr_runs.proofs.Lists.{no_elements, take_whole}
 use Rattle.dr_ring.proofs.Looking.{get_any, last_least, looks_more, no_looks_at, offers_more, contains_more, contains_last}

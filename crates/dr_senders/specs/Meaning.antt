@@ -4,5 +4,6 @@ pub mod Words
 pub mod Records
 pub mod Rule
 pub mod Steps
+pub mod Stores
 pub mod Moments
 pub mod Settling

@@ -4,7 +4,7 @@ ghost use Rattle.std.specs.Prelude.{◌≡◌, ◌+◌, ◌^◌, ◌<◌, ◌≤
 ghost use Rattle.dr_senders.specs.Meaning.Words.{claimed_in as claimed_in_word};
 ghost use Rattle.dr_senders.specs.Calls.Receiving.{ups_of, received_all};
 ghost use Rattle.dr_senders.specs.Calls.Ends.{HasLoaded};
-ghost use Rattle.dr_ring.specs.Inside.Parts.{lesser_of};
+ghost use Rattle.dr_ring.specs.Calls.Receiving.{lesser_of};
 ghost use Rattle.dr_senders.specs.Inside.Parts.{Walked, LooksAtUpstreams, IsOfferedUpTo, Offered, nothing_offered as answer_of};
 
 use crate::laws::ReceiverStation;

@@ -3,13 +3,10 @@
 ghost use Rattle.std.specs.Prelude.{◌≡◌, ◌<◌, length, map};
 ghost use Rattle.std.specs.Arc.{arc_value};
 ghost use Rattle.dr_ring.specs.Calls.Settling.{counts_at};
-ghost use Rattle.dr_senders.specs.declared.record.EndRecord.TheVariants.{Sends, Receives};
-ghost use Rattle.dr_runs.specs.Seats.{end_of};
-ghost use Rattle.dr_senders.specs.Inside.Seats.{IsAtTable};
+ghost use Rattle.dr_senders.specs.Inside.Seats.{IsAtTable, ring_ends};
 ghost use Rattle.dr_runs.specs.Gathering.{Gathers};
-ghost use Rattle.dr_senders.specs.Inside.Stations.{AreOfRing};
-ghost use Rattle.dr_senders.specs.Meaning.Settling.{HasRun};
-ghost use Rattle.dr_senders.specs.Calls.Settling.{AreAllEnds, known_by, handler_counts};
+ghost use Rattle.dr_senders.specs.Inside.Stations.{AreOfRing, sender_known, receiver_known};
+ghost use Rattle.dr_senders.specs.Calls.Settling.{AreAllEnds, HasRun, handler_counts};
 
 use crate::laws::{Halter, RingBody, RingSeat, moments, settling};
 use crate::plan::HALT_BIT;
@@ -72,7 +69,7 @@ fn gather_senders(ring: &Arc<RingBody, Global>, seat: &mut RingSeat, mut senders
     requires table { IsAtTable seat.old.table_id (arc_value ring.now).table.shared.table_id (arc_value ring.now).plan }
     requires senders { AreOfRing seat.old.table_id senders.items }
     ensures seat { seat.new.table_id ≡ seat.old.table_id }
-    ensures view { Gathers (end_of seat.old.me) (map (λ e. Sends e.knows) senders.items) (end_of seat.new.me) }
+    ensures view { Gathers ring_ends seat.old.me.0 (map sender_known senders.items) seat.new.me.0 }
 {
     while let Some(sender) = senders.pop() {
         let station = sender.station;
@@ -91,7 +88,7 @@ fn gather_receivers(
     requires receivers { AreOfRing seat.old.table_id receivers.items }
     requires places { length counts.old.items ≡ length receivers.items }
     ensures seat { seat.new.table_id ≡ seat.old.table_id }
-    ensures view { Gathers (end_of seat.old.me) (map (λ e. Receives e.knows) receivers.items) (end_of seat.new.me) }
+    ensures view { Gathers ring_ends seat.old.me.0 (map receiver_known receivers.items) seat.new.me.0 }
     ensures counts { counts.new.items ≡ map (λ e. handler_counts e.knows) receivers.items }
 {
     while let Some(receiver) = receivers.pop() {
@@ -106,15 +103,16 @@ fn gather_receivers(
 
 /// Brings all ends of a ring together. It takes no memory, and looks once at the claim word.
 ///
-/// There is one run of all ends that came to what they know, and its transcript is lawful. Each
-/// claimed sequence is in its sender's record. Each receiver has the first of the published events
-/// in the order of their sequences, each from the sender of its sequence, and all that is claimed
-/// where it was told that the ring drained. No handler took more than its upstreams completed, and
-/// no more is claimed than a round beyond what each final handler completed.
+/// There is one run of all ends that came to what they know, in which each end stored exactly what
+/// it did, and its transcript is lawful. Each claimed sequence is in its sender's record. Each
+/// receiver has the first of the published events in the order of their sequences, each from the
+/// sender of its sequence, and all that is claimed where it was told that the ring drained. No
+/// handler took more than its upstreams completed, and no more is claimed than a round beyond what
+/// each final handler completed.
 pub fn settle(senders: Vec<Sender>, receivers: Vec<Receiver>, halter: Halter) -> Settled
     requires { AreAllEnds senders.items receivers.items halter }
     ensures handlers { result.handlers.items ≡ map (λ e. handler_counts e.knows) receivers.items }
-    ensures run { HasRun halter.plan (known_by senders.items receivers.items halter) result.claimed result.is_halted }
+    ensures run { HasRun senders.items receivers.items halter result.claimed result.is_halted }
 {
     let ring = halter.ring;
     let mut seat = halter.seat;

@@ -1,5 +1,5 @@
 -- What each call of a receiver answers, and what it leaves of what the receiver knows.
-use Rattle.std.specs.Prelude.{◌≡◌, ◌↔◌, ℕ, ◌+◌, ◌-◌, ◌<◌, ◌==◌, ◌&&◌, ◌||◌, IsTrue, true, false, min, List, [], ◌∷◌, ◌++◌, length, take, drop, Some, Result, Ok, Err, Contains}
+use Rattle.std.specs.Prelude.{◌≡◌, ◌↔◌, ℕ, ◌+◌, ◌-◌, ◌<◌, ◌==◌, ◌&&◌, ◌||◌, Bool, nat_lt, if◌then◌else◌, IsTrue, true, false, min, List, [], ◌∷◌, ◌++◌, length, take, drop, Some, Result, Ok, Err, Contains}
 use Rattle.dr_seq.specs.declared.event.Event.{Event}
 use Rattle.dr_core.specs.declared.refusal.Refusal.{Refusal}
 use Rattle.dr_core.specs.declared.command.Polled.{Polled}
@@ -25,6 +25,10 @@ tests_of_completion r upto = record (complete_tests (Some (received_of r)) upto)
 abbrev pub offered_by : ℕ → List ℕ → ℕ
 offered_by cursor [] = cursor
 offered_by cursor (n ∷ counts) = least_of (n ∷ counts)
+
+-- the lesser of a count and those seen before, or the count where it is the first
+abbrev pub lesser_of : Bool → ℕ → ℕ → ℕ
+lesser_of first count seen = if first || nat_lt count seen then count else seen
 
 -- a receiver has taken these events more
 abbrev pub received_all : ReceiverRecord → List Event → ReceiverRecord

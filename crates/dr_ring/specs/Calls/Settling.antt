@@ -1,16 +1,41 @@
--- Which ends come together, and what is counted of them.
-use Rattle.std.specs.Prelude.{◌≡◌, ℕ, List, length, slice_index_or}
+-- Which ends come together, which run came to them, and what is counted of them.
+use Rattle.std.specs.Prelude.{◌≡◌, ℕ, List, length, map, slice_index_or}
 use mathlib.Core.Option.{some}
 use lib.ListN.{get_elem?}
 use Rattle.dr_ring.specs.declared.record.ReceiverRecord.{ReceiverRecord}
 use Rattle.dr_ring.specs.declared.settled.HandlerCounts.{HandlerCounts}
-use Rattle.dr_ring.specs.Meaning.Shape.{handlers_of}
-use Rattle.dr_ring.specs.Calls.Ends.{SenderEnd, ReceiverEnd}
+use Rattle.dr_ring.specs.declared.record.Step.{Step}
+use Rattle.dr_seq.specs.declared.event.Event.{Event}
+use Rattle.dr_core.specs.Meaning.Transcript.{Transcript, LeadsTo}
+use Rattle.dr_core.specs.Meaning.Laws.{Laws}
+use Rattle.dr_runs.specs.Runs.{IsBeginning}
+use Rattle.dr_ring.specs.Meaning.Shape.{handlers_of, ring_setup}
+use Rattle.dr_ring.specs.Meaning.Stores.{sender_stores, receiver_stores}
+use Rattle.dr_ring.specs.Meaning.Rule.{World}
+use Rattle.dr_ring.specs.Meaning.Moments.{new_world, picture_of, Runs}
+use Rattle.dr_ring.specs.Calls.Ends.{EndOf, SenderEnd, ReceiverEnd}
 
 -- these are the receivers of a sender's ring, in the graph's order
 pub record AreAllEnds (s : SenderEnd) (rs : List ReceiverEnd) : Type 0 where
   pub all : length rs ≡ handlers_of s.knows.plan
   pub each : (h : ℕ) (e : ReceiverEnd) → get_elem? rs h ≡ some e → (e.ring ≡ s.ring) × (e.knows.number ≡ h)
+
+-- an end saw the beginning of a run, and these are its stores there: exactly what it stored, in its order
+abbrev pub HasPart : {K : Type 0} → EndOf K → List Step → List Step → Type 0
+HasPart e stores steps = IsBeginning e.past steps × (stores ≡ e.stored)
+
+-- the run of a ring, which came to what its ends know, and in which each of them stored exactly what it did: its transcript leads the machine to the ring's picture, and has the five laws
+pub record HasRun (s : SenderEnd) (rs : List ReceiverEnd) : Type 0 where
+  pub steps : List Step
+  pub entries : Transcript Event
+  pub world : World
+  pub runs : Runs s.knows.plan steps entries (new_world s.knows.plan) world
+  pub sender : world.sender ≡ s.knows
+  pub receivers : world.receivers ≡ map (λ e. e.knows) rs
+  pub sends : HasPart s (sender_stores steps) steps
+  pub receives : (h : ℕ) (e : ReceiverEnd) → get_elem? rs h ≡ some e → HasPart e (receiver_stores h steps) steps
+  pub leads : LeadsTo (ring_setup s.knows.plan) entries (picture_of s.knows.plan world)
+  pub laws : Laws (ring_setup s.knows.plan) entries
 
 -- how many events a receiver took and completed
 abbrev pub handler_counts : ReceiverRecord → HandlerCounts

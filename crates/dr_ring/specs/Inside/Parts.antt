@@ -1,5 +1,5 @@
 -- What the loops of the ends' calls come to.
-use Rattle.std.specs.Prelude.{◌≡◌, ◌≢◌, ℕ, ◌+◌, ◌<◌, ◌≤◌, ◌==◌, ◌&&◌, ◌||◌, ◌⊎◌, Bool, nat_lt, if◌then◌else◌, true, List, [], ◌++◌, length, slice_index, Option, Some, None, Contains}
+use Rattle.std.specs.Prelude.{◌≡◌, ◌≢◌, ℕ, ◌+◌, ◌<◌, ◌≤◌, ◌==◌, ◌&&◌, ◌⊎◌, nat_lt, if◌then◌else◌, true, List, [], ◌++◌, length, slice_index, Option, Some, None, Contains}
 use Rattle.dr_core.specs.declared.command.Polled.{Polled}
 use Rattle.dr_core.specs.declared.command.Polled.TheVariants.{Drained, Gating, Idle}
 use Rattle.dr_graph.specs.Meaning.Graph.{upstreams_of, finals}
@@ -21,10 +21,6 @@ sender_saw r seen = record r { looks = r.looks ++ seen }
 -- and claimed n more
 abbrev pub more_claimed : SenderRecord → ℕ → SenderRecord
 more_claimed r n = record r { sent = with_claimed r.sent n }
-
--- the lesser of a count and those seen before, or the count where it is the first
-abbrev pub lesser_of : Bool → ℕ → ℕ → ℕ
-lesser_of first count seen = if first || nat_lt count seen then count else seen
 
 -- the sender made these looks, in which no count fell
 pub record LooksAtFinals (r : SenderRecord) (xs : List Look) (r' : SenderRecord) : Type 0 where

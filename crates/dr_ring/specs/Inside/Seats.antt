@@ -1,5 +1,5 @@
 -- The seats that stand for the ends of a ring, the rule that the words' table keeps, and what each kind of step tells.
-use Rattle.std.specs.Prelude.{◌≡◌, ℕ, List, [], map, ◌+◌, ◌<◌, ◌==◌, Bool, false, ◌∷◌, Some}
+use Rattle.std.specs.Prelude.{◌≡◌, ℕ, List, [], map, ◌<◌, ◌∷◌, Some}
 use Rattle.atomic_table.specs.Seated.{TableId}
 use Rattle.dr_ring.specs.declared.record.ReceiverRecord.{ReceiverRecord}
 use Rattle.dr_ring.specs.declared.record.EndRecord.TheVariants.{Receives, Sends, Halts}
@@ -22,8 +22,8 @@ use Rattle.dr_ring.specs.Meaning.Records.{sender_looked, halt_looked, half_writt
 use Rattle.dr_ring.specs.Meaning.Rule.{World}
 use Rattle.dr_ring.specs.Calls.Finds.{FindsCompleted, FindsHalt, FindsClosed, FindsEvents}
 use Rattle.dr_ring.specs.Meaning.Steps.{Happens}
+use Rattle.dr_ring.specs.Meaning.Stores.{receiver_number, is_store_of}
 use Rattle.dr_ring.specs.declared.record.Step.{Step}
-use Rattle.dr_ring.specs.declared.record.Step.TheVariants.{SenderStoresFirst, SenderStoresSecond, SenderPublishes, SenderHalts, SenderCloses, ReceiverCompletes, HalterHalts}
 
 -- a seat: what is known of its ends and, with it, the run as it was at each end's last step
 abbrev pub End : Type 0
@@ -32,22 +32,10 @@ End = seats.End EndRecord
 abbrev pub Sitting : Type 0
 Sitting = seats.Sitting EndRecord Step
 
--- whether a step is a store by the end of a number
-abbrev pub is_store_of : ℕ → Step → Bool
-is_store_of end (SenderStoresFirst s first) = end == 0
-is_store_of end (SenderStoresSecond second) = end == 0
-is_store_of end (SenderPublishes n) = end == 0
-is_store_of end SenderHalts = end == 0
-is_store_of end SenderCloses = end == 0
-is_store_of end HalterHalts = end == 1
-is_store_of end (ReceiverCompletes h n) = end == h + 2
-is_store_of end _ = false
-
--- the sender is end 0, the halter end 1, and the receivers follow
 abbrev pub end_number : EndRecord → ℕ
 end_number (Sends r) = 0
 end_number (Halts r) = 1
-end_number (Receives r) = r.number + 2
+end_number (Receives r) = receiver_number r.number
 
 abbrev pub ring_ends : Ends EndRecord Step
 ring_ends = record { number_of = end_number; is_store_of = is_store_of }

@@ -1,17 +1,10 @@
 -- What the ends of a ring know of each other, once they come together.
-use Rattle.dr_seq.specs.declared.event.Event.{Event}
 use Rattle.std.specs.Prelude.{◌≡◌, ℕ, ◌+◌, ◌≤◌, true, List, length, take, Contains}
 use mathlib.Core.Option.{some}
 use lib.ListN.{get_elem?}
 use Rattle.dr_graph.specs.Meaning.Graph.{upstreams_of, finals}
 use Rattle.dr_ring.specs.declared.record.SenderRecord.{SenderRecord}
 use Rattle.dr_ring.specs.declared.record.ReceiverRecord.{ReceiverRecord}
-use Rattle.dr_ring.specs.declared.record.Step.{Step}
-use Rattle.dr_core.specs.Meaning.Transcript.{Transcript, LeadsTo}
-use Rattle.dr_core.specs.Meaning.Laws.{Laws}
-use Rattle.dr_ring.specs.Meaning.Shape.{ring_setup}
-use Rattle.dr_ring.specs.Meaning.Rule.{World}
-use Rattle.dr_ring.specs.Meaning.Moments.{new_world, picture_of, Runs}
 use Rattle.dr_ring.specs.Meaning.Records.{claimed}
 
 -- a receiver has the beginning of what its sender published, all of it where it was told that the ring drained, and a final handler leaves room for all that is claimed
@@ -30,14 +23,3 @@ FollowsUpstream r u = Contains (upstreams_of r.plan.upstreams r.number) u.number
 pub record Settles (s : SenderRecord) (rs : List ReceiverRecord) : Type 0 where
   pub each : (h : ℕ) (r : ReceiverRecord) → get_elem? rs h ≡ some r → HasBeginning s r
   pub follow : (h j : ℕ) (r u : ReceiverRecord) → get_elem? rs h ≡ some r → get_elem? rs j ≡ some u → FollowsUpstream r u
-
--- the run of a ring, which came to what its ends know: its transcript leads the machine to the ring's picture, and has the five laws
-pub record HasRun (s : SenderRecord) (rs : List ReceiverRecord) : Type 0 where
-  pub steps : List Step
-  pub entries : Transcript Event
-  pub world : World
-  pub runs : Runs s.plan steps entries (new_world s.plan) world
-  pub sender : world.sender ≡ s
-  pub receivers : world.receivers ≡ rs
-  pub leads : LeadsTo (ring_setup s.plan) entries (picture_of s.plan world)
-  pub laws : Laws (ring_setup s.plan) entries

@@ -1,7 +1,7 @@
 //! How seats come together, at the end. No step of these changes a word or a record.
 
-ghost use Rattle.std.specs.Prelude.{◌≡◌, ◌++◌, [], ◌<◌};
-ghost use Rattle.dr_runs.specs.Seats.{end_of};
+ghost use Rattle.std.specs.Prelude.{◌≡◌, [], ◌<◌};
+ghost use Rattle.dr_runs.specs.Seats.{both_views};
 ghost use Rattle.dr_runs.specs.Gathering.{ViewRan};
 ghost use Rattle.dr_ring.specs.Inside.Seats.{exchange};
 
@@ -26,7 +26,7 @@ pub fn take_in(words: &Words, seat: &mut RingSeat, other: RingSeat)
     requires table { (seat.old.table_id ≡ words.now.table_id) × (other.table_id ≡ words.now.table_id) × (0 < words.now.table_id.words) }
     requires other { other.me.1 ≡ [] }
     ensures seat { (seat.new.table_id ≡ seat.old.table_id) × (seat.new.id ≡ seat.old.id) }
-    ensures ends { end_of seat.new.me ≡ (seat.old.me.0.ends ++ other.me.0.ends, seat.old.me.1) }
+    ensures view { seat.new.me ≡ (both_views seat.old.me.0 other.me.0, seat.old.me.1) }
 {
     words.join_seat::<Together>(seat, other);
 }
@@ -36,7 +36,7 @@ pub fn take_in(words: &Words, seat: &mut RingSeat, other: RingSeat)
 pub fn compare(words: &Words, seat: &mut RingSeat)
     requires table { (seat.old.table_id ≡ words.now.table_id) × (0 < words.now.table_id.words) }
     ensures seat { (seat.new.table_id ≡ seat.old.table_id) × (seat.new.me ≡ seat.old.me) }
-    ensures ran { ViewRan (exchange words.now.key) seat.old.me }
+    ensures ran { ViewRan (exchange words.now.key) seat.old.me.0 }
 {
     words.load::<Brand>(seat, CURSOR_WORD);
 }

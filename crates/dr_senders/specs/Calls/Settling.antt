@@ -1,12 +1,20 @@
--- Which ends come together, and what is counted of them.
-use Rattle.std.specs.Prelude.{◌≡◌, ℕ, List, length, map}
+-- Which ends come together, which run came to them, and what is counted of them.
+use Rattle.std.specs.Prelude.{◌≡◌, ℕ, Bool, List, length, map}
 use mathlib.Core.Option.{some}
 use lib.ListN.{get_elem?}
 use Rattle.dr_ring.specs.declared.settled.HandlerCounts.{HandlerCounts}
 use Rattle.dr_senders.specs.declared.record.ReceiverRecord.{ReceiverRecord}
-use Rattle.dr_senders.specs.Meaning.Shape.{handlers_of}
-use Rattle.dr_senders.specs.Meaning.Settling.{AllKnow}
-use Rattle.dr_senders.specs.Calls.Ends.{SenderEnd, ReceiverEnd, HalterEnd}
+use Rattle.dr_senders.specs.declared.record.Step.{Step}
+use Rattle.dr_seq.specs.declared.event.Event.{Event}
+use Rattle.dr_core.specs.Meaning.Transcript.{Transcript, LeadsTo}
+use Rattle.dr_core.specs.Meaning.Laws.{Laws}
+use Rattle.dr_runs.specs.Runs.{IsBeginning}
+use Rattle.dr_senders.specs.Meaning.Shape.{handlers_of, ring_setup}
+use Rattle.dr_senders.specs.Meaning.Stores.{sender_stores, receiver_stores, halter_stores}
+use Rattle.dr_senders.specs.Meaning.Rule.{World}
+use Rattle.dr_senders.specs.Meaning.Moments.{new_world, picture_of, Runs}
+use Rattle.dr_senders.specs.Meaning.Settling.{CameTo, Settles}
+use Rattle.dr_senders.specs.Calls.Ends.{EndOf, SenderEnd, ReceiverEnd, HalterEnd}
 
 -- these are the senders of the halter's ring by their numbers, and its receivers in the graph's order
 pub record AreAllEnds (ss : List SenderEnd) (rs : List ReceiverEnd) (t : HalterEnd) : Type 0 where
@@ -15,9 +23,26 @@ pub record AreAllEnds (ss : List SenderEnd) (rs : List ReceiverEnd) (t : HalterE
   pub each_sender : (p : ℕ) (e : SenderEnd) → get_elem? ss p ≡ some e → (e.ring ≡ t.ring) × (e.knows.number ≡ p)
   pub each_receiver : (h : ℕ) (e : ReceiverEnd) → get_elem? rs h ≡ some e → (e.ring ≡ t.ring) × (e.knows.number ≡ h)
 
--- what they know
-abbrev pub known_by : List SenderEnd → List ReceiverEnd → HalterEnd → AllKnow
-known_by ss rs t = record { senders = map (λ e. e.knows) ss; receivers = map (λ e. e.knows) rs; halter = t.knows }
+-- an end saw the beginning of a run, and these are its stores there: exactly what it stored, in its order
+abbrev pub HasPart : {K : Type 0} → EndOf K → List Step → List Step → Type 0
+HasPart e stores steps = IsBeginning e.past steps × (stores ≡ e.stored)
+
+-- the run of a ring, which came so far, and to what its ends know, and in which each of them stored exactly what it did: its transcript leads the machine to the ring's picture, and has the five laws
+pub record HasRun (ss : List SenderEnd) (rs : List ReceiverEnd) (t : HalterEnd) (n : ℕ) (on : Bool) : Type 0 where
+  pub steps : List Step
+  pub entries : Transcript Event
+  pub world : World
+  pub runs : Runs t.plan steps entries (new_world t.plan) world
+  pub came : CameTo world n on
+  pub senders : world.senders ≡ map (λ e. e.knows) ss
+  pub receivers : world.receivers ≡ map (λ e. e.knows) rs
+  pub halter : world.halter ≡ t.knows
+  pub sends : (p : ℕ) (e : SenderEnd) → get_elem? ss p ≡ some e → HasPart e (sender_stores p steps) steps
+  pub receives : (h : ℕ) (e : ReceiverEnd) → get_elem? rs h ≡ some e → HasPart e (receiver_stores h steps) steps
+  pub halts : HasPart t (halter_stores steps) steps
+  pub leads : LeadsTo (ring_setup t.plan) entries (picture_of t.plan world)
+  pub laws : Laws (ring_setup t.plan) entries
+  pub settles : Settles t.plan world
 
 -- how many events a receiver took and completed
 abbrev pub handler_counts : ReceiverRecord → HandlerCounts

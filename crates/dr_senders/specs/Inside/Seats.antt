@@ -1,5 +1,5 @@
 -- The seats that stand for the ends of a ring, the rule that the words' table keeps, and what each kind of step tells.
-use Rattle.std.specs.Prelude.{◌≡◌, ℕ, ◌+◌, ◌-◌, ◌*◌, ◌==◌, Bool, false, List, [], ◌∷◌, ◌++◌, map, Some}
+use Rattle.std.specs.Prelude.{◌≡◌, ℕ, ◌-◌, List, [], ◌∷◌, ◌++◌, map, Some}
 use mathlib.Core.Option.{some}
 use lib.ListN.{get_elem?}
 use Rattle.atomic_table.specs.Table.{State}
@@ -18,11 +18,11 @@ use Rattle.dr_senders.specs.declared.record.HalterRecord.{HalterRecord}
 use Rattle.dr_senders.specs.declared.record.EndRecord.{EndRecord}
 use Rattle.dr_senders.specs.declared.record.EndRecord.TheVariants.{Sends, Receives, Halts}
 use Rattle.dr_senders.specs.declared.record.Step.{Step}
-use Rattle.dr_senders.specs.declared.record.Step.TheVariants.{SenderClaims, SenderStoresFirst, SenderStoresSecond, SenderPublishes, SenderHalts, ReceiverCompletes, HalterHalts}
 use Rattle.dr_senders.specs.Meaning.Records.{Owns, half_written, written, published, brought, sender_looked, mark_found, receiver_looked, claims_looked, mark_looked, half_taken, took, completed_to, halter_halted}
 use Rattle.dr_senders.specs.Meaning.Rule.{World}
 use Rattle.dr_senders.specs.Calls.Finds.{FindsMore, FindsClaims, FindsEvents, IsEarlier, FindsMark, after_exchange}
 use Rattle.dr_senders.specs.Meaning.Steps.{Happens}
+use Rattle.dr_senders.specs.Meaning.Stores.{sender_number, receiver_number, is_store_of}
 use Rattle.dr_senders.specs.Meaning.Moments.{fresh_sender, fresh_senders, fresh_receiver, fresh_receivers, new_world, entries_of}
 
 -- a seat: what is known of its ends and, with it, the run as it was at each end's last step
@@ -32,28 +32,10 @@ End = seats.End EndRecord
 abbrev pub Sitting : Type 0
 Sitting = seats.Sitting EndRecord Step
 
--- the halter is end 0, and senders and receivers take turns behind it
-abbrev pub sender_number : ℕ → ℕ
-sender_number p = 2 * p + 1
-
-abbrev pub receiver_number : ℕ → ℕ
-receiver_number h = 2 * h + 2
-
 abbrev pub end_number : EndRecord → ℕ
 end_number (Halts r) = 0
 end_number (Sends r) = sender_number r.number
 end_number (Receives r) = receiver_number r.number
-
--- whether a step is a store by the end of a number; an exchange counts as one, also where it finds another number
-abbrev pub is_store_of : ℕ → Step → Bool
-is_store_of end (SenderClaims p found more) = end == sender_number p
-is_store_of end (SenderStoresFirst p s first) = end == sender_number p
-is_store_of end (SenderStoresSecond p s second) = end == sender_number p
-is_store_of end (SenderPublishes p s) = end == sender_number p
-is_store_of end (SenderHalts p) = end == sender_number p
-is_store_of end HalterHalts = end == 0
-is_store_of end (ReceiverCompletes h n) = end == receiver_number h
-is_store_of end _ = false
 
 abbrev pub ring_ends : Ends EndRecord Step
 ring_ends = record { number_of = end_number; is_store_of = is_store_of }

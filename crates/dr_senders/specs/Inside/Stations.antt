@@ -6,7 +6,10 @@ use Rattle.dr_senders.specs.Meaning.Shape.{Shape, handlers_of}
 use Rattle.dr_senders.specs.Calls.Plans.{IsPlan}
 use Rattle.dr_runs.specs.Seats.{past_of}
 use Rattle.dr_senders.specs.Inside.Seats.{End, Sitting, IsAtTable, stored_of, sender_of, receiver_of, halter_of, IsSender, IsReceiver, IsHalter}
-use Rattle.dr_runs.specs.Gathering.{AreOf}
+use Rattle.dr_runs.specs.Gathering.{AreOf, Known}
+use Rattle.dr_senders.specs.declared.record.EndRecord.{EndRecord}
+use Rattle.dr_senders.specs.declared.record.EndRecord.TheVariants.{Sends, Receives, Halts}
+use Rattle.dr_senders.specs.declared.record.Step.{Step}
 use Rattle.dr_ring.specs.Calls.Ends.{looks_counted}
 use Rattle.dr_senders.specs.Calls.Ends.{EndOf, SenderEnd, ReceiverEnd, HalterEnd}
 
@@ -23,6 +26,16 @@ receiver_end ring k me = record { ring = ring; plan = k; knows = receiver_of me.
 
 abbrev pub halter_end : TableId → Shape → Sitting → HalterEnd
 halter_end ring k me = record { ring = ring; plan = k; knows = halter_of me.0.ends; past = past_of me.0; stored = stored_of me.0 }
+
+-- what is known of the ends that come together
+abbrev pub sender_known : SenderEnd → Known EndRecord Step
+sender_known e = record { knows = Sends e.knows; past = e.past; stored = e.stored }
+
+abbrev pub receiver_known : ReceiverEnd → Known EndRecord Step
+receiver_known e = record { knows = Receives e.knows; past = e.past; stored = e.stored }
+
+abbrev pub halter_known : HalterEnd → Known EndRecord Step
+halter_known e = record { knows = Halts e.knows; past = e.past; stored = e.stored }
 
 -- the table's rule is the ring's, for its plan
 pub record IsKeyed (table_key k : Shape) : Type 0 where

@@ -6,19 +6,14 @@ use lib.ListN.{get_elem?}
 use Rattle.dr_seq.specs.declared.event.Event.{Event}
 use Rattle.dr_seq.specs.Event.{no_event}
 use Rattle.dr_graph.specs.Meaning.Graph.{upstreams_of, finals}
-use Rattle.dr_core.specs.Meaning.Transcript.{Transcript, LeadsTo}
-use Rattle.dr_core.specs.Meaning.Laws.{Laws}
-use Rattle.dr_senders.specs.Meaning.Shape.{Shape, ring_setup}
+use Rattle.dr_senders.specs.Meaning.Shape.{Shape}
 use Rattle.dr_senders.specs.Meaning.Words.{claim_word, is_halted}
 use Rattle.dr_senders.specs.declared.record.Stage.{Stage}
 use Rattle.dr_senders.specs.declared.record.Own.{Own}
 use Rattle.dr_senders.specs.declared.record.SenderRecord.{SenderRecord}
 use Rattle.dr_senders.specs.declared.record.ReceiverRecord.{ReceiverRecord}
-use Rattle.dr_senders.specs.declared.record.HalterRecord.{HalterRecord}
-use Rattle.dr_senders.specs.declared.record.Step.{Step}
 use Rattle.dr_senders.specs.Meaning.Records.{Owns}
 use Rattle.dr_senders.specs.Meaning.Rule.{World}
-use Rattle.dr_senders.specs.Meaning.Moments.{new_world, picture_of, Runs}
 
 abbrev pub is_published : Stage → Bool
 is_published t = t.published
@@ -60,27 +55,7 @@ pub record Settles (k : Shape) (w : World) : Type 0 where
   pub sent : (h s : ℕ) (r : ReceiverRecord) (event : Event) → get_elem? w.receivers h ≡ some r → get_elem? r.received s ≡ some event → IsSent w s event
   pub follow : (h j : ℕ) (r u : ReceiverRecord) → get_elem? w.receivers h ≡ some r → get_elem? w.receivers j ≡ some u → FollowsUpstream k r u
 
--- what the ends of a ring know
-pub record AllKnow : Type 0 where
-  pub senders : List SenderRecord
-  pub receivers : List ReceiverRecord
-  pub halter : HalterRecord
-
 -- how many sequences are claimed, and whether the ring is halted
 pub record CameTo (w : World) (n : ℕ) (halted : Bool) : Type 0 where
   pub claims : n ≡ length w.stages
   pub halts : halted ≡ is_halted (slice_index w.words claim_word)
-
--- the run of a ring, which came so far, and to what its ends know: its transcript leads the machine to the ring's picture, and has the five laws
-pub record HasRun (k : Shape) (all : AllKnow) (n : ℕ) (on : Bool) : Type 0 where
-  pub steps : List Step
-  pub entries : Transcript Event
-  pub world : World
-  pub runs : Runs k steps entries (new_world k) world
-  pub came : CameTo world n on
-  pub senders : world.senders ≡ all.senders
-  pub receivers : world.receivers ≡ all.receivers
-  pub halter : world.halter ≡ all.halter
-  pub leads : LeadsTo (ring_setup k) entries (picture_of k world)
-  pub laws : Laws (ring_setup k) entries
-  pub settles : Settles k world

@@ -1,7 +1,7 @@
 //! How seats come together, at the end. No step of these changes a word or a record.
 
-ghost use Rattle.std.specs.Prelude.{◌≡◌, ◌++◌, [], ◌<◌, slice_index};
-ghost use Rattle.dr_runs.specs.Seats.{end_of};
+ghost use Rattle.std.specs.Prelude.{◌≡◌, [], ◌<◌, slice_index};
+ghost use Rattle.dr_runs.specs.Seats.{both_views};
 ghost use Rattle.dr_runs.specs.Gathering.{ViewRan};
 ghost use Rattle.dr_senders.specs.Meaning.Words.{claim_word};
 ghost use Rattle.dr_senders.specs.Inside.Seats.{exchange};
@@ -27,7 +27,7 @@ pub fn take_in(words: &Words, seat: &mut RingSeat, other: RingSeat)
     requires table { (seat.old.table_id ≡ words.now.table_id) × (other.table_id ≡ words.now.table_id) × (0 < words.now.table_id.words) }
     requires other { other.me.1 ≡ [] }
     ensures seat { (seat.new.table_id ≡ seat.old.table_id) × (seat.new.id ≡ seat.old.id) }
-    ensures ends { end_of seat.new.me ≡ (seat.old.me.0.ends ++ other.me.0.ends, seat.old.me.1) }
+    ensures view { seat.new.me ≡ (both_views seat.old.me.0 other.me.0, seat.old.me.1) }
 {
     words.join_seat::<Together>(seat, other);
 }
@@ -37,7 +37,7 @@ pub fn take_in(words: &Words, seat: &mut RingSeat, other: RingSeat)
 pub fn compare(words: &Words, seat: &mut RingSeat) -> u64
     requires table { (seat.old.table_id ≡ words.now.table_id) × (0 < words.now.table_id.words) }
     ensures seat { (seat.new.table_id ≡ seat.old.table_id) × (seat.new.me ≡ seat.old.me) }
-    ensures ran { (ran : ViewRan (exchange words.now.key) seat.old.me) × (slice_index ran.world.words claim_word ≡ result) }
+    ensures ran { (ran : ViewRan (exchange words.now.key) seat.old.me.0) × (slice_index ran.world.words claim_word ≡ result) }
 {
     words.load::<Brand>(seat, CLAIM_WORD)
 }

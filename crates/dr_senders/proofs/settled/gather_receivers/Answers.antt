@@ -1,9 +1,10 @@
 use Rattle.std.proofs.Common.{◌≡◌, ◌<◌, ◌∷◌, length, set, arith, ap, sym, subst, ◌∙◌}
-use Rattle.dr_senders.specs.declared.record.EndRecord.TheVariants.{Receives}
+use Rattle.dr_senders.specs.Inside.Seats.{Sitting, ring_ends, as_receiver}
+use Rattle.dr_senders.specs.Inside.Stations.{receiver_known}
 use Rattle.dr_senders.specs.declared.record.ReceiverRecord.{ReceiverRecord}
-use Rattle.dr_runs.specs.Seats.{end_of, alone}
+use Rattle.dr_runs.specs.Gathering.{IsInView}
 use Rattle.dr_senders.specs.Calls.Ends.{ReceiverEnd}
-use Rattle.dr_runs.proofs.Gathering.{last_of, gathering_more, gathering_all, filled_more, filled_all}
+use Rattle.dr_runs.proofs.Gathering.{last_of, in_own, gathering_more, gathering_all, filled_more, filled_all}
 use Rattle.dr_senders.proofs.settled.gather_receivers.Goals as goal
 
 pub take_in-requires-clause-table : goal.take_in-requires-clause-table
@@ -18,6 +19,10 @@ take_in-requires-clause-table c =
 pub loop-receiver-preserved : goal.loop-receiver-preserved
 loop-receiver-preserved c =
     let inv = c.loop-receiver.invariant in
+    let is = c.station.view_is ∙ c.receiver.view_is in
+    let came : IsInView ring_ends c.station.inside.seat.me.0 (receiver_known c.in-Some.receiver) =
+    in_own ring_ends c.station.inside.seat.me (receiver_known c.in-Some.receiver) (c.station.invariant.end ∙ ap (λ (e : ReceiverEnd). as_receiver e.knows) is)
+    (ap (λ (e : ReceiverEnd). e.past) is) (ap (λ (e : ReceiverEnd). e.stored) is) in
     let knows = ap (λ (e : ReceiverEnd). e.knows) c.receiver.view_is in
     let place : c.len.result ≡ length c.pop.new.self.items = (let ok = c.pop.new.self.ok in let len = c.len.ensures in omega arith) in
     let taken : c.receiver.inside.taken ≡ length c.in-Some.receiver.knows.received =
@@ -27,8 +32,7 @@ loop-receiver-preserved c =
       c.take_in.ensures.seat.0 ∙ inv.0,
       (
         c.in-Some.receiver ∷ inv.1.0,
-        gathering_more (end_of c.station.inside.seat.me) inv.1.1 c.in-Some.ensures.items
-            (c.station.invariant.end ∙ ap (λ (e : ReceiverEnd). alone (Receives e.knows)) (c.station.view_is ∙ c.receiver.view_is)) c.take_in.ensures.ends,
+        gathering_more c.station.inside.seat.me.0 inv.1.1 c.in-Some.ensures.items came (ap (λ (m : Sitting). m.0) c.take_in.ensures.view),
         filled_more inv.1.2 inv.1.1.split c.in-Some.ensures.items
             (λ i. set c.loop-receiver.counts.items (place i) record { taken = taken i; completed = completed i }),
       ),

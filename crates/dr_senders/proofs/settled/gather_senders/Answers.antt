@@ -1,8 +1,9 @@
 use Rattle.std.proofs.Common.{◌<◌, ◌∷◌, arith, ap, sym, subst, ◌∙◌}
-use Rattle.dr_senders.specs.declared.record.EndRecord.TheVariants.{Sends}
-use Rattle.dr_runs.specs.Seats.{end_of, alone}
+use Rattle.dr_senders.specs.Inside.Seats.{Sitting, ring_ends, as_sender}
+use Rattle.dr_senders.specs.Inside.Stations.{sender_known}
+use Rattle.dr_runs.specs.Gathering.{IsInView}
 use Rattle.dr_senders.specs.Calls.Ends.{SenderEnd}
-use Rattle.dr_runs.proofs.Gathering.{last_of, gathering_more, gathering_all}
+use Rattle.dr_runs.proofs.Gathering.{last_of, in_own, gathering_more, gathering_all}
 use Rattle.dr_senders.proofs.settled.gather_senders.Goals as goal
 
 pub take_in-requires-clause-table : goal.take_in-requires-clause-table
@@ -16,12 +17,15 @@ take_in-requires-clause-table c =
 
 pub loop-sender-preserved : goal.loop-sender-preserved
 loop-sender-preserved c =
-    let inv = c.loop-sender.invariant in (
+    let inv = c.loop-sender.invariant in
+    let is = c.station.view_is ∙ c.sender.view_is in
+    let came : IsInView ring_ends c.station.inside.seat.me.0 (sender_known c.in-Some.sender) =
+    in_own ring_ends c.station.inside.seat.me (sender_known c.in-Some.sender) (c.station.invariant.end ∙ ap (λ (e : SenderEnd). as_sender e.knows) is)
+    (ap (λ (e : SenderEnd). e.past) is) (ap (λ (e : SenderEnd). e.stored) is) in (
       c.take_in.ensures.seat.0 ∙ inv.0,
       (
         c.in-Some.sender ∷ inv.1.0,
-        gathering_more (end_of c.station.inside.seat.me) inv.1.1 c.in-Some.ensures.items
-            (c.station.invariant.end ∙ ap (λ (e : SenderEnd). alone (Sends e.knows)) (c.station.view_is ∙ c.sender.view_is)) c.take_in.ensures.ends,
+        gathering_more c.station.inside.seat.me.0 inv.1.1 c.in-Some.ensures.items came (ap (λ (m : Sitting). m.0) c.take_in.ensures.view),
       ),
     )
 

@@ -1,0 +1,27 @@
+-- Whose store a step of a ring is.
+use Rattle.std.specs.Prelude.{ℕ, ◌+◌, ◌==◌, Bool, false, List, filter}
+use Rattle.dr_ring.specs.declared.record.Step.{Step}
+use Rattle.dr_ring.specs.declared.record.Step.TheVariants.{SenderStoresFirst, SenderStoresSecond, SenderPublishes, SenderHalts, SenderCloses, ReceiverCompletes, HalterHalts}
+
+-- the sender is end 0, the halter end 1, and the receivers follow
+abbrev pub receiver_number : ℕ → ℕ
+receiver_number h = h + 2
+
+-- whether a step is a store by the end of a number
+abbrev pub is_store_of : ℕ → Step → Bool
+is_store_of end (SenderStoresFirst s first) = end == 0
+is_store_of end (SenderStoresSecond second) = end == 0
+is_store_of end (SenderPublishes n) = end == 0
+is_store_of end SenderHalts = end == 0
+is_store_of end SenderCloses = end == 0
+is_store_of end HalterHalts = end == 1
+is_store_of end (ReceiverCompletes h n) = end == receiver_number h
+is_store_of end _ = false
+
+-- what the sender stored in a run, in order
+abbrev pub sender_stores : List Step → List Step
+sender_stores steps = filter (is_store_of 0) steps
+
+-- what the receiver of a handler stored in a run, in order
+abbrev pub receiver_stores : ℕ → List Step → List Step
+receiver_stores h steps = filter (is_store_of (receiver_number h)) steps

@@ -1,0 +1,34 @@
+-- Whose store a step of a ring is.
+use Rattle.std.specs.Prelude.{ℕ, ◌+◌, ◌*◌, ◌==◌, Bool, false, List, filter}
+use Rattle.dr_senders.specs.declared.record.Step.{Step}
+use Rattle.dr_senders.specs.declared.record.Step.TheVariants.{SenderClaims, SenderStoresFirst, SenderStoresSecond, SenderPublishes, SenderHalts, ReceiverCompletes, HalterHalts}
+
+-- the halter is end 0, and senders and receivers take turns behind it
+abbrev pub sender_number : ℕ → ℕ
+sender_number p = 2 * p + 1
+
+abbrev pub receiver_number : ℕ → ℕ
+receiver_number h = 2 * h + 2
+
+-- whether a step is a store by the end of a number; an exchange counts as one, also where it finds another number
+abbrev pub is_store_of : ℕ → Step → Bool
+is_store_of end (SenderClaims p found more) = end == sender_number p
+is_store_of end (SenderStoresFirst p s first) = end == sender_number p
+is_store_of end (SenderStoresSecond p s second) = end == sender_number p
+is_store_of end (SenderPublishes p s) = end == sender_number p
+is_store_of end (SenderHalts p) = end == sender_number p
+is_store_of end HalterHalts = end == 0
+is_store_of end (ReceiverCompletes h n) = end == receiver_number h
+is_store_of end _ = false
+
+-- what a sender stored in a run, in order
+abbrev pub sender_stores : ℕ → List Step → List Step
+sender_stores p steps = filter (is_store_of (sender_number p)) steps
+
+-- what the receiver of a handler stored in a run, in order
+abbrev pub receiver_stores : ℕ → List Step → List Step
+receiver_stores h steps = filter (is_store_of (receiver_number h)) steps
+
+-- what the halter stored in a run, in order
+abbrev pub halter_stores : List Step → List Step
+halter_stores steps = filter (is_store_of 0) steps
