@@ -18,7 +18,7 @@ use Rattle.dr_ring.specs.declared.record.Step.{Step}
 use Rattle.dr_ring.specs.Meaning.Shape.{Shape, handlers_of, ring_setup}
 use Rattle.dr_ring.specs.Meaning.Rule.{World, KeepsRule}
 use Rattle.dr_ring.specs.Meaning.Moments.{new_world, picture_of, Runs}
-use Rattle.dr_ring.specs.Meaning.Stores.{sender_stores, receiver_stores}
+use Rattle.dr_ring.specs.Meaning.Stores.{stores_of_sender, stores_of_receiver}
 use Rattle.dr_ring.specs.Meaning.Settling.{Settles}
 use Rattle.dr_ring.specs.Inside.Seats.{ring_ends, exchange}
 use Rattle.dr_ring.specs.Inside.Stations.{sender_known, receiver_known}
@@ -42,8 +42,8 @@ record AllStand (k : Shape) (w : World) (steps : List Step) (s : SenderEnd) (es 
   rule : KeepsRule k w
   sender : w.sender ≡ s.knows
   receivers : w.receivers ≡ map knows_of es
-  sends : HasPart s (sender_stores steps) steps
-  receives : (h : ℕ) (e : ReceiverEnd) → get_elem? es h ≡ some e → HasPart e (receiver_stores h steps) steps
+  sends : HasPart s (stores_of_sender steps) steps
+  receives : (h : ℕ) (e : ReceiverEnd) → get_elem? es h ≡ some e → HasPart e (stores_of_receiver h steps) steps
 
 all_stand : (k : Shape) (v now : View EndRecord Step) (s : SenderEnd) (es : List ReceiverEnd) (T : Together k v now s es)
     → AllStand k T.ran.world T.ran.reached.steps s es
@@ -61,7 +61,7 @@ all_stand k v now s es T =
           ap (λ (n : ℕ). get_elem? w.receivers n) (sym number) ∙ (each h m.0 m.1).stands ∙ ap (λ (x : ReceiverRecord). some x) m.2));
       sends = (first.begins, first.stores);
       receives = λ h e at. (let here = each h e at in
-          (here.begins, ap (λ (n : ℕ). receiver_stores n steps) (sym (T.all.each h e at).1) ∙ here.stores));
+          (here.begins, ap (λ (n : ℕ). stores_of_receiver n steps) (sym (T.all.each h e at).1) ∙ here.stores));
     }
 
 -- the ends agree

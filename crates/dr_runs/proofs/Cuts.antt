@@ -175,8 +175,9 @@ joins {E = E} {S = S} X id v other w s R mine apart theirs =
         | inl x ↦ subst (λ (y : View E S). EachPast (Saw X R.reached.steps) y.ends y.pasts) x.1 tt
         | inr x ↦ elim (at_set s.views id id' (both_views v w) u x.1) [
           | inl y ↦ subst (λ (z : View E S). EachPast (Saw X R.reached.steps) z.ends z.pasts) y.1
-              (each_both (Saw X R.reached.steps) v.ends w.ends (pasts_of v) (pasts_of w) (each_with (Saw X R.reached.steps) v.ends v.pasts (R.each_past id v mine))
-              (each_with (Saw X R.reached.steps) w.ends w.pasts (R.each_past other w was)))
+              (let seen = Saw X R.reached.steps in
+              each_both seen v.ends w.ends (pasts_of v) (pasts_of w) (each_with seen v.ends v.pasts (R.each_past id v mine))
+              (each_with seen w.ends w.pasts (R.each_past other w was)))
           | inr y ↦ R.each_past id' u y.1
         ]
       ];

@@ -87,8 +87,8 @@ come_more : {A : Type 0} (P : A → Type 0) (a : A) (seen : List A) → P a → 
 come_more P a seen first before zero x at = subst P (some-injective a x at) first
 come_more P a seen first before (suc i) x at = before i x at
 
-pub gathering_more : {A E S : Type 0} {ends : Ends E S} {known : A → Known E S} {v now next : View E S} {left left' seen all : List A} {a : A} (other : View E S)
-    → Gathering ends known v now left seen all → left ≡ left' ++ a ∷ [] → IsInView ends other (known a) → next ≡ both_views now other
+pub gathering_more : {A E S : Type 0} {ends : Ends E S} {known : A → Known E S} {v now next : View E S} {left left' seen all : List A} {a : A}
+    (other : View E S) → Gathering ends known v now left seen all → left ≡ left' ++ a ∷ [] → IsInView ends other (known a) → next ≡ both_views now other
     → Gathering ends known v next left' (a ∷ seen) all
 gathering_more {E = E} {S = S} {ends = ends} {known = known} {now = now} {next = next} {left' = left'} {seen = seen} {a = a} other G popped came is =
     let In : Known E S → Type 0 = λ x. IsInView ends next x in

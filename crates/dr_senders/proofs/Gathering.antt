@@ -19,7 +19,7 @@ use Rattle.dr_senders.specs.declared.record.Step.{Step}
 use Rattle.dr_senders.specs.Meaning.Words.{claim_word, claimed_in, is_halted}
 use Rattle.dr_senders.specs.Meaning.Rule.{World, KeepsRule}
 use Rattle.dr_senders.specs.Meaning.Moments.{new_world, picture_of, Runs}
-use Rattle.dr_senders.specs.Meaning.Stores.{sender_stores, receiver_stores}
+use Rattle.dr_senders.specs.Meaning.Stores.{stores_of_sender, stores_of_receiver}
 use Rattle.dr_senders.specs.Meaning.Settling.{Settles}
 use Rattle.dr_senders.specs.Inside.Seats.{ring_ends, exchange}
 use Rattle.dr_senders.specs.Inside.Stations.{sender_known, receiver_known, halter_known}
@@ -98,9 +98,9 @@ has_run k v after now ss rs t found T plan rule leads laws =
       receivers = receivers_are k w steps ss rs t K plan A R;
       halter = R.halts.stands;
       sends = λ p e at. (let x = R.sends p e at in
-          (x.begins, ap (λ (n : ℕ). sender_stores n steps) (sym (A.each_sender p e at).1) ∙ x.stores));
+          (x.begins, ap (λ (n : ℕ). stores_of_sender n steps) (sym (A.each_sender p e at).1) ∙ x.stores));
       receives = λ h e at. (let x = R.receives h e at in
-          (x.begins, ap (λ (n : ℕ). receiver_stores n steps) (sym (A.each_receiver h e at).1) ∙ x.stores));
+          (x.begins, ap (λ (n : ℕ). stores_of_receiver n steps) (sym (A.each_receiver h e at).1) ∙ x.stores));
       halts = (R.halts.begins, R.halts.stores);
       leads = all.1;
       laws = all.2;

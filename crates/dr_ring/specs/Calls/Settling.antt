@@ -10,7 +10,7 @@ use Rattle.dr_core.specs.Meaning.Transcript.{Transcript, LeadsTo}
 use Rattle.dr_core.specs.Meaning.Laws.{Laws}
 use Rattle.dr_runs.specs.Runs.{IsBeginning}
 use Rattle.dr_ring.specs.Meaning.Shape.{handlers_of, ring_setup}
-use Rattle.dr_ring.specs.Meaning.Stores.{sender_stores, receiver_stores}
+use Rattle.dr_ring.specs.Meaning.Stores.{stores_of_sender, stores_of_receiver}
 use Rattle.dr_ring.specs.Meaning.Rule.{World}
 use Rattle.dr_ring.specs.Meaning.Moments.{new_world, picture_of, Runs}
 use Rattle.dr_ring.specs.Calls.Ends.{EndOf, SenderEnd, ReceiverEnd}
@@ -24,7 +24,8 @@ pub record AreAllEnds (s : SenderEnd) (rs : List ReceiverEnd) : Type 0 where
 abbrev pub HasPart : {K : Type 0} → EndOf K → List Step → List Step → Type 0
 HasPart e stores steps = IsBeginning e.past steps × (stores ≡ e.stored)
 
--- the run of a ring, which came to what its ends know, and in which each of them stored exactly what it did: its transcript leads the machine to the ring's picture, and has the five laws
+-- The run of a ring, which came to what its ends know, and in which each of them stored exactly what it did.
+-- Its transcript leads the machine to the ring's picture, and has the five laws.
 pub record HasRun (s : SenderEnd) (rs : List ReceiverEnd) : Type 0 where
   pub steps : List Step
   pub entries : Transcript Event
@@ -32,8 +33,8 @@ pub record HasRun (s : SenderEnd) (rs : List ReceiverEnd) : Type 0 where
   pub runs : Runs s.knows.plan steps entries (new_world s.knows.plan) world
   pub sender : world.sender ≡ s.knows
   pub receivers : world.receivers ≡ map (λ e. e.knows) rs
-  pub sends : HasPart s (sender_stores steps) steps
-  pub receives : (h : ℕ) (e : ReceiverEnd) → get_elem? rs h ≡ some e → HasPart e (receiver_stores h steps) steps
+  pub sends : HasPart s (stores_of_sender steps) steps
+  pub receives : (h : ℕ) (e : ReceiverEnd) → get_elem? rs h ≡ some e → HasPart e (stores_of_receiver h steps) steps
   pub leads : LeadsTo (ring_setup s.knows.plan) entries (picture_of s.knows.plan world)
   pub laws : Laws (ring_setup s.knows.plan) entries
 

@@ -19,9 +19,9 @@ is_store_of end (ReceiverCompletes h n) = end == receiver_number h
 is_store_of end _ = false
 
 -- what the sender stored in a run, in order
-abbrev pub sender_stores : List Step → List Step
-sender_stores steps = filter (is_store_of 0) steps
+abbrev pub stores_of_sender : List Step → List Step
+stores_of_sender steps = filter (is_store_of 0) steps
 
 -- what the receiver of a handler stored in a run, in order
-abbrev pub receiver_stores : ℕ → List Step → List Step
-receiver_stores h steps = filter (is_store_of (receiver_number h)) steps
+abbrev pub stores_of_receiver : ℕ → List Step → List Step
+stores_of_receiver h steps = filter (is_store_of (receiver_number h)) steps

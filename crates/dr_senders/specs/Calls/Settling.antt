@@ -10,7 +10,7 @@ use Rattle.dr_core.specs.Meaning.Transcript.{Transcript, LeadsTo}
 use Rattle.dr_core.specs.Meaning.Laws.{Laws}
 use Rattle.dr_runs.specs.Runs.{IsBeginning}
 use Rattle.dr_senders.specs.Meaning.Shape.{handlers_of, ring_setup}
-use Rattle.dr_senders.specs.Meaning.Stores.{sender_stores, receiver_stores, halter_stores}
+use Rattle.dr_senders.specs.Meaning.Stores.{stores_of_sender, stores_of_receiver, stores_of_halter}
 use Rattle.dr_senders.specs.Meaning.Rule.{World}
 use Rattle.dr_senders.specs.Meaning.Moments.{new_world, picture_of, Runs}
 use Rattle.dr_senders.specs.Meaning.Settling.{CameTo, Settles}
@@ -27,7 +27,8 @@ pub record AreAllEnds (ss : List SenderEnd) (rs : List ReceiverEnd) (t : HalterE
 abbrev pub HasPart : {K : Type 0} → EndOf K → List Step → List Step → Type 0
 HasPart e stores steps = IsBeginning e.past steps × (stores ≡ e.stored)
 
--- the run of a ring, which came so far, and to what its ends know, and in which each of them stored exactly what it did: its transcript leads the machine to the ring's picture, and has the five laws
+-- The run of a ring, which came so far, and to what its ends know, and in which each of them stored exactly what it did.
+-- Its transcript leads the machine to the ring's picture, and has the five laws.
 pub record HasRun (ss : List SenderEnd) (rs : List ReceiverEnd) (t : HalterEnd) (n : ℕ) (on : Bool) : Type 0 where
   pub steps : List Step
   pub entries : Transcript Event
@@ -37,9 +38,9 @@ pub record HasRun (ss : List SenderEnd) (rs : List ReceiverEnd) (t : HalterEnd) 
   pub senders : world.senders ≡ map (λ e. e.knows) ss
   pub receivers : world.receivers ≡ map (λ e. e.knows) rs
   pub halter : world.halter ≡ t.knows
-  pub sends : (p : ℕ) (e : SenderEnd) → get_elem? ss p ≡ some e → HasPart e (sender_stores p steps) steps
-  pub receives : (h : ℕ) (e : ReceiverEnd) → get_elem? rs h ≡ some e → HasPart e (receiver_stores h steps) steps
-  pub halts : HasPart t (halter_stores steps) steps
+  pub sends : (p : ℕ) (e : SenderEnd) → get_elem? ss p ≡ some e → HasPart e (stores_of_sender p steps) steps
+  pub receives : (h : ℕ) (e : ReceiverEnd) → get_elem? rs h ≡ some e → HasPart e (stores_of_receiver h steps) steps
+  pub halts : HasPart t (stores_of_halter steps) steps
   pub leads : LeadsTo (ring_setup t.plan) entries (picture_of t.plan world)
   pub laws : Laws (ring_setup t.plan) entries
   pub settles : Settles t.plan world

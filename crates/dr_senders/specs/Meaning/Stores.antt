@@ -22,13 +22,13 @@ is_store_of end (ReceiverCompletes h n) = end == receiver_number h
 is_store_of end _ = false
 
 -- what a sender stored in a run, in order
-abbrev pub sender_stores : ℕ → List Step → List Step
-sender_stores p steps = filter (is_store_of (sender_number p)) steps
+abbrev pub stores_of_sender : ℕ → List Step → List Step
+stores_of_sender p steps = filter (is_store_of (sender_number p)) steps
 
 -- what the receiver of a handler stored in a run, in order
-abbrev pub receiver_stores : ℕ → List Step → List Step
-receiver_stores h steps = filter (is_store_of (receiver_number h)) steps
+abbrev pub stores_of_receiver : ℕ → List Step → List Step
+stores_of_receiver h steps = filter (is_store_of (receiver_number h)) steps
 
 -- what the halter stored in a run, in order
-abbrev pub halter_stores : List Step → List Step
-halter_stores steps = filter (is_store_of 0) steps
+abbrev pub stores_of_halter : List Step → List Step
+stores_of_halter steps = filter (is_store_of 0) steps
