@@ -15,7 +15,8 @@ use Rattle.dr_core.specs.declared.engine.Core.TheInside.{Inside}
 use Rattle.dr_core.specs.Meaning.Machine.{producers, is_single}
 use Rattle.dr_core.specs.Calls.CoreView.{CoreView, known_at}
 use Rattle.dr_core.specs.Inside.Availability.{KeptBySlot, owner_at, is_published_at, is_written_at, is_ahead, IsNoted, published_after, IsNewFront, known_of}
-use Rattle.dr_core.specs.Inside.Availability.{slot_known, stamped, owners_after, HasOwners, write_fault, publish_fault, is_shown, event_known}
+use Rattle.dr_core.specs.Inside.Availability.{slot_known, owners_after, HasOwners, write_fault, publish_fault, is_shown, event_known}
+use Rattle.dr_core.specs.Calls.Stamped.{stamped}
 use Rattle.dr_core.specs.Inside.Fields.{kept_of, view_of, IsAvailable}
 use Rattle.dr_core.proofs.Stamped.{length-stamped, stamped-in, stamped-out, marks_none_after, marked-in, marked-out, mark_is}
 use Rattle.dr_core.proofs.Keeps.{zeros}

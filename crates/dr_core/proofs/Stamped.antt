@@ -7,7 +7,7 @@ use Rattle.std.proofs.Math.Nat.{mod-lt}
 use Rattle.std.proofs.lemmas.Nat.{div-add-mod'}
 use Rattle.dr_seq.specs.Rounds.{entry_of, is_marked}
 use Rattle.dr_seq.proofs.Apart.{slots_differ}
-use Rattle.dr_core.specs.Inside.Availability.{stamped}
+use Rattle.dr_core.specs.Calls.Stamped.{stamped}
 
 pub length-stamped : (f : ℕ → ℕ) (xs : List ℕ) (from n : ℕ) → length (stamped f xs from n) ≡ length xs
 unfolding stamped

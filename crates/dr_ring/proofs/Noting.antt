@@ -6,7 +6,7 @@ use Rattle.std.proofs.lemmas.Bool.{cases_eq, cases_lt, lt-ltb, le-ltb, or_left, 
 use Rattle.std.proofs.lemmas.List.{length-append, length-replicate, get_or_append_left, get_or-append_right, get_or-replicate}
 use Rattle.dr_seq.specs.declared.event.Event.{Event}
 use Rattle.dr_seq.specs.Rounds.{entry_of, is_marked}
-use Rattle.dr_core.specs.Inside.Availability.{stamped}
+use Rattle.dr_core.specs.Calls.Stamped.{stamped}
 use Rattle.dr_core.proofs.Stamped.{mark_is, marked-in, marked-out, marks_none_after}
 use Rattle.dr_ring.specs.declared.written.Written.{Written}
 use Rattle.dr_ring.specs.declared.record.Look.{Look}

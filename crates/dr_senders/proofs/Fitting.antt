@@ -8,7 +8,7 @@ use mathlib.Core.Option.{some, some-ne-none}
 use lib.ListN.{get_elem?}
 use Rattle.dr_seq.specs.declared.event.Event.{Event}
 use Rattle.dr_seq.specs.Rounds.{entry_of, is_marked}
-use Rattle.dr_core.specs.Inside.Availability.{stamped}
+use Rattle.dr_core.specs.Calls.Stamped.{stamped}
 use Rattle.dr_core.proofs.Stamped.{marked-in, marked-out, stamped-none, stamped-more, length-stamped}
 use Rattle.dr_senders.specs.Meaning.Shape.{Shape}
 use Rattle.dr_senders.specs.declared.record.Stage.{Stage}

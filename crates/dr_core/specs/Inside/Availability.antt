@@ -1,5 +1,5 @@
 -- How the core keeps what it knows of the recent sequences: by two rounds of the ring, a count of those written in order, owners by slot, and events by slot.
-use Rattle.std.specs.Prelude.{◌≡◌, ◌⊎◌, ◌<◌, ℕ, zero, suc, ◌+◌, ◌%◌, Bool, true, false, ◌==◌, ◌||◌, nat_lt, nat_le, if◌then◌else◌, Option, Some, None, List, length, slice_index, slice_set}
+use Rattle.std.specs.Prelude.{◌≡◌, ◌⊎◌, ◌<◌, ℕ, ◌+◌, ◌%◌, Bool, true, false, ◌==◌, ◌||◌, nat_lt, nat_le, if◌then◌else◌, Option, Some, None, List, length, slice_index, slice_set}
 use Rattle.dr_seq.specs.Rounds.{entry_of, is_marked, IsFront}
 use Rattle.dr_seq.specs.Slots.{event_at}
 use Rattle.dr_core.specs.declared.mode.Mode.{Mode}
@@ -7,6 +7,7 @@ use Rattle.dr_core.specs.declared.mode.Mode.TheVariants.{Single, Multi}
 use Rattle.dr_core.specs.declared.refusal.Refusal.{Refusal}
 use Rattle.dr_core.specs.declared.refusal.Refusal.TheVariants.{Halted, Exhausted, NoRoom, NotClaimed, AlreadyPublished, NotWritten}
 use Rattle.dr_core.specs.Calls.CoreView.{CoreView, gate_of, Known, Nothing, ClaimedBy, WrittenBy, PublishedWith}
+use Rattle.dr_core.specs.Calls.Stamped.{stamped}
 
 -- what is kept by slot, and the front
 pub record KeptBySlot (E : Type 0) : Type 0 where
@@ -18,11 +19,6 @@ pub record KeptBySlot (E : Type 0) : Type 0 where
   pub owners : List ℕ
   pub events : List E
   pub blank : E
-
--- the slots of n sequences, from one on, hold a number of each sequence
-unfoldable pub stamped : (ℕ → ℕ) → List ℕ → ℕ → ℕ → List ℕ
-stamped number slots from zero = slots
-stamped number slots from (suc n) = slice_set (stamped number slots from n) ((from + n) % length slots) (number (from + n))
 
 -- one producer owns every sequence; several leave their numbers in the slots
 abbrev pub owner_at : Mode → List ℕ → ℕ → ℕ
