@@ -3,6 +3,7 @@ pub mod Endings
 pub mod EventFiles
 pub mod Listing
 pub mod Numbered
+pub mod Promising
 pub mod Reporting
 pub mod Scripting
 pub mod Settled

@@ -1,5 +1,5 @@
 -- No worker of an exchange was stopped but by its gate.
-use Rattle.std.proofs.Common.{◌≡◌, ℕ, List, [], ◌∷◌, Option, Some, Result, Ok, Err}
+use Rattle.std.proofs.Common.{◌≡◌, ◌+◌, ◌<◌, ℕ, suc, List, [], ◌∷◌, length, map, get_or, Option, Some, Result, Ok, Err, subst, arith}
 use Rattle.std.proofs.lemmas.List.Elements.{All-nil, All-cons}
 use Rattle.dr_seq.specs.declared.event.Event.{Event}
 use Rattle.dr_ring.specs.Calls.Ends.{SenderEnd, ReceiverEnd}
@@ -8,7 +8,7 @@ use Rattle.dr_shared.specs.declared.fault.WorkFault.{WorkFault}
 use Rattle.dr_shared.specs.declared.fault.WorkFault.TheVariants.{Stopped}
 use Rattle.dr_accounts.specs.Keeping.{error_of}
 use Rattle.dr_replay.specs.declared.ring.Ran.{Ran}
-use Rattle.dr_replay.specs.Calls.Workers.{AreStopped, IsRun, endings_of}
+use Rattle.dr_replay.specs.Calls.Workers.{AreStopped, IsRun, endings_of, lock_endings, numbered}
 
 -- a worker that ended stopped
 stopped_of : {A : Type 0} (part : Result A WorkFault) → error_of part ≡ Some Stopped → part ≡ Err Stopped
@@ -34,3 +34,24 @@ module _ (may_stop : ℕ → Type 0) where
       (more 1 (error_of ran.replica.part) later (λ e. is.replica.stopped (stopped_of ran.replica.part e))
       (more 2 (error_of ran.business.part) sender (λ e. is.business.stopped (stopped_of ran.business.part e))
       (more 16 ran.produced.fault [] is.stopped (All-nil IsStopped))))
+
+  -- producers' workers that each were stopped by their gate alone
+  pub numbered_stopped : {X : Type 0} (fault_of : X → Option WorkFault) (who : ℕ) (given : List X)
+      → ((k : ℕ) (d : X) → k < length given → fault_of (get_or given k d) ≡ Some Stopped → may_stop (who + k)) → AreStopped may_stop (numbered who (map fault_of given))
+  numbered_stopped fault_of who [] each = All-nil IsStopped
+  numbered_stopped fault_of who (x ∷ given) each =
+      let first : who + 0 ≡ who = omega arith in
+      more who (fault_of x) (numbered (who + 1) (map fault_of given)) (λ e. subst may_stop first (each 0 x (omega arith) e))
+      (numbered_stopped fault_of (who + 1) given (λ k d below e.
+      let next : who + suc k ≡ who + 1 + k = omega arith in
+      subst may_stop next (each (suc k) d (omega (arith, below)) e)))
+
+  -- behind a lock
+  pub lock_stopped : (journal replica business : Option WorkFault) (producers : List (Option WorkFault)) → (journal ≡ Some Stopped → may_stop 0)
+      → (replica ≡ Some Stopped → may_stop 1) → (business ≡ Some Stopped → may_stop 2) → AreStopped may_stop (numbered 16 producers)
+      → AreStopped may_stop (lock_endings journal replica business producers)
+  lock_stopped journal replica business producers first second third rest =
+      let sent : List Ended = numbered 16 producers in
+      let later : List Ended = record { who = 2; fault = business } ∷ sent in
+      let others : List Ended = record { who = 1; fault = replica } ∷ later in
+      more 0 journal others first (more 1 replica later second (more 2 business sent third rest))

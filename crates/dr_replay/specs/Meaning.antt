@@ -1,3 +1,4 @@
 -- What a file of operations says: the first to read.
 pub mod EventFile
+pub mod Exchange
 pub mod Scripts

@@ -9,6 +9,7 @@
 
 mod event_file;
 mod fault;
+mod given_back;
 mod lock;
 mod lock_workers;
 mod one_thread;

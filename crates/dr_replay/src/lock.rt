@@ -1,18 +1,21 @@
 //! The replay behind a lock, a thread a producer and a thread a handler.
 
-ghost use Rattle.std.specs.Prelude.{◌≡◌, ◌+◌, ◌-◌, ◌^◌, ◌<◌, ◌≤◌, IfErr, IfOk, IfSome, List, None, OnOk, length, map, string_bytes};
+ghost use Rattle.std.specs.Prelude.{◌≡◌, ◌+◌, ◌-◌, ◌^◌, ◌<◌, ◌≤◌, IfErr, IfOk, IfSome, List, None, OnOk, length, map, string_bytes, sum_by};
 ghost use Rattle.dr_seq.specs.declared.event.Event.{Event};
 ghost use Rattle.dr_files.specs.Counting.{faults_of, inner_of};
 ghost use Rattle.dr_replay.specs.Meaning.EventFile.{events_of as events_in};
 ghost use Rattle.dr_accounts.specs.Keeping.{error_of};
 ghost use Rattle.dr_shared.specs.Meaning.FirstFault.{first_fault as first_of};
+ghost use Rattle.dr_shared.specs.Meaning.History.{halts_in};
 ghost use Rattle.dr_replay.specs.Calls.Replayed.{IsReportOfMerge, LockWrites, ReplayCounts, ReplayFaultKeeps};
-ghost use Rattle.dr_replay.specs.Calls.Workers.{IsFirstOf, IsFirstOfLock, IsOfAudit, IsOfLock, IsOfMerge, lock_endings};
+ghost use Rattle.dr_replay.specs.Calls.Workers.{AreStopped, IsFirstOf, IsFirstOfLock, IsOfAudit, IsOfLock, IsOfMerge, lock_endings};
+ghost use Rattle.dr_replay.specs.Meaning.Exchange.{lock_setup, setup_for};
 ghost use Rattle.dr_replay.specs.Meaning.Scripts.{scripts_in};
 
 use crate::event_file::read_events;
 use crate::fault::ReplayFault;
-use crate::lock_workers::{Around, Joined, Sent, exchange, make_ends};
+use crate::given_back::Sent;
+use crate::lock_workers::{Around, Joined, exchange, make_ends};
 use crate::outcome::{
     BUSINESS, JOURNAL, PRODUCER, REPLICA, audit_fault, ended, joined, replay_fault,
 };
@@ -82,8 +85,10 @@ fn audited(
     replica: Part<Replica>,
     business: Part<Business>,
 ) -> Result<String, ReplayFault>
-    ensures text { (sent : List Event) → map (λ v. v.items) scripts.now ≡ scripts_in sent → IfOk result (λ t. IsReportOfMerge sent (string_bytes t)) }
-    ensures fault { IfErr result (IsOfAudit (map (λ v. v.items) scripts.now)) }
+    requires halted { 0 < halts_in recorded.now.history.entries }
+    ensures text { (sent : List Event) → map (λ v. v.items) scripts.now ≡ scripts_in sent
+        → IfOk result (λ t. IsReportOfMerge recorded.now.history.core.setup sent (string_bytes t)) }
+    ensures fault { IfErr result (IsOfAudit recorded.now.history.core.setup (map (λ v. v.items) scripts.now)) }
 {
     let views = views(alloc, scripts)?;
     let _history = recorded.history();
@@ -113,8 +118,11 @@ fn gathered<L: Exchange<Event>>(
     handlers: [End<Event, L>; 4],
     producers: Vec<Sent<L>>,
 ) -> Result<(Recorded<Event>, Vec<Option<WorkFault>>), AllocError>
-    requires { shared.given ≡ 4 + length producers.items }
-    ensures { IfOk result (λ got. got.1.items ≡ map (λ s. s.fault) producers.items) }
+    requires given { shared.given ≡ 4 + length producers.items }
+    requires halted { 0 < sum_by (λ end. end.halts) handlers }
+    ensures faults { IfOk result (λ got. got.1.items ≡ map (λ s. s.fault) producers.items) }
+    ensures setup { IfOk result (λ got. got.0.history.core.setup ≡ L.begun.core.setup) }
+    ensures halted { IfOk result (λ got. 0 < halts_in got.0.history.entries) }
 {
     let mut ends = Vec::from_array(alloc, handlers)?;
     let mut faults = Vec::with_capacity(alloc, producers.len())?;
@@ -137,11 +145,12 @@ fn settled<L: Exchange<Event>>(
 ) -> Result<String, ReplayFault>
     requires given { shared.given ≡ 4 + length ran.producers.items }
     requires few { length ran.producers.items ≤ 2 ^ 62 }
-    ensures text { (sent : List Event) → map (λ v. v.items) scripts.now ≡ scripts_in sent → IfOk result (λ t. IsReportOfMerge sent (string_bytes t)) }
+    requires halted { 0 < ran.halter.halts }
+    ensures text { (sent : List Event) → map (λ v. v.items) scripts.now ≡ scripts_in sent → IfOk result (λ t. IsReportOfMerge L.begun.core.setup sent (string_bytes t)) }
     ensures fine { OnOk result (first_of (lock_endings (error_of ran.journal.part) (error_of ran.replica.part) (error_of ran.business.part)
         (map (λ s. s.fault) ran.producers.items)) ≡ None) }
     ensures first { IfErr result (IsOfLock (lock_endings (error_of ran.journal.part) (error_of ran.replica.part) (error_of ran.business.part)
-        (map (λ s. s.fault) ran.producers.items)) (map (λ v. v.items) scripts.now)) }
+        (map (λ s. s.fault) ran.producers.items)) L.begun.core.setup (map (λ v. v.items) scripts.now)) }
 {
     let Joined {
         halter,
@@ -170,13 +179,15 @@ fn settled<L: Exchange<Event>>(
     }
 }
 
-// A history with room for what so many producers do with so many events.
+// An exchange of so many producers, whose history has room for what these do with so many events.
 fn opened(
     alloc: Global,
     size: Size,
     producers: usize,
     events: usize,
-) -> Result<Recorded<Event>, AllocError> {
+) -> Result<Recorded<Event>, AllocError>
+    ensures { IfOk result (λ recorded. recorded.history.core.setup ≡ setup_for size producers) }
+{
     let graph = graph(alloc)?;
     let mode = Mode::Multi(producers as u64);
     // A claim, a write and a publication for each event, and a batch and a completion for each and
@@ -213,8 +224,10 @@ fn report<L: Exchange<Event> + Send + Sync, R: Threads + Wait + Sync, G: Gate + 
     requires parts { blank.parts ≡ L.parts }
     requires ends { blank.parts ≡ 65 }
     requires begun { recorded.history ≡ L.begun }
-    ensures text { (sent : List Event) → map (λ v. v.items) scripts.now ≡ scripts_in sent → IfOk result (λ t. IsReportOfMerge sent (string_bytes t)) }
-    ensures first { (sent : List Event) → map (λ v. v.items) scripts.now ≡ scripts_in sent → IfErr result (IsOfMerge sent) }
+    ensures text { (sent : List Event) → map (λ v. v.items) scripts.now ≡ scripts_in sent
+        → IfOk result (λ t. IsReportOfMerge recorded.history.core.setup sent (string_bytes t)) }
+    ensures first { (sent : List Event) → map (λ v. v.items) scripts.now ≡ scripts_in sent
+        → IfErr result (IsOfMerge (G.may_stop gate.now) recorded.history.core.setup sent) }
 {
     let mut shared = Shared::<Event, L>::new(recorded, blank);
     let ends = make_ends(alloc, &mut shared, scripts.len())?;
@@ -237,8 +250,8 @@ fn merged<R: Threads + Wait + Sync, G: Gate + Sync>(
     size: Size,
     gate: &G,
 ) -> Result<String, ReplayFault>
-    ensures text { IfOk result (λ text. IsReportOfMerge events.now (string_bytes text)) }
-    ensures first { IfErr result (IsOfMerge events.now) }
+    ensures text { IfOk result (λ text. IsReportOfMerge (lock_setup size events.now) events.now (string_bytes text)) }
+    ensures first { IfErr result (IsOfMerge (G.may_stop gate.now) (lock_setup size events.now) events.now) }
 {
     let scripts = scripts(alloc, events)?;
     let recorded = opened(alloc, size, scripts.len(), events.len())?;
@@ -264,11 +277,11 @@ pub fn replay_lock<S: Threads + Wait + Sync, R: Read, W: Write, G: Gate + Sync>(
     requires writes { faults_of writer.old < 2 ^ 64 - 1 }
     // Where the input's bytes are known, what is written is the report of a merge of its producers' events, and the fault of the file is its first bad record.
     ensures bytes { IfSome (R.remaining (inner_of reader.old)) (λ input.
-        LockWrites result (W.contents (inner_of writer.old)) (W.contents (inner_of writer.new)) (events_in input)) }
+        LockWrites (G.may_stop gate.now) size result (W.contents (inner_of writer.old)) (W.contents (inner_of writer.new)) (events_in input)) }
     // Any fault but a failed write leaves nothing written, whether or not the input's bytes are known.
     ensures unwritten { IfErr result (λ e. ReplayFaultKeeps e (W.contents (inner_of writer.old)) (W.contents (inner_of writer.new))) }
-    // Where several workers have faults, the first is answered: a stop before a refusal, and then the least worker's.
-    ensures first { IfErr result IsFirstOfLock }
+    // Where several workers have faults, the first is answered: a stop before a refusal, and then the least worker's. Only the gate stops a worker.
+    ensures first { IfErr result (IsFirstOfLock (G.may_stop gate.now) size) }
     // A failed read or write is answered where one failed, and nowhere else.
     ensures counted { ReplayCounts result (faults_of reader.old) (faults_of reader.new) (faults_of writer.old) (faults_of writer.new) }
 {

@@ -1,21 +1,24 @@
 //! The workers of a replay behind a lock: a thread for each producer, and one for each handler.
 
-ghost use Rattle.std.specs.Prelude.{◌≡◌, ◌+◌, IfOk, length};
+ghost use Rattle.std.specs.Prelude.{◌≡◌, ◌+◌, ◌^◌, ◌<◌, ◌≤◌, IfOk, Some, length, map};
 ghost use denote.Param.Send.{IsSync};
+ghost use Rattle.dr_accounts.specs.Keeping.{error_of};
+ghost use Rattle.dr_shared.specs.declared.fault.WorkFault.TheVariants.{Stopped};
+ghost use Rattle.dr_replay.specs.Calls.Workers.{AreStopped, lock_endings, numbered};
 
+use crate::given_back::{Handled, Sent, StoppedBy};
 use crate::outcome::{BUSINESS, JOURNAL, PRODUCER, REPLICA};
-use crate::part::{Listing, Part};
+use crate::part::Listing;
 use dr_accounts::{Business, Journal, Replica, Reporter};
 use dr_seq::{Event, Size};
 use dr_shared::{
-    End, Exchange, Gate, LockedInlet, LockedOutlet, Shared, WorkFault, consume, halt, join_all,
-    produce,
+    End, Exchange, Gate, LockedInlet, LockedOutlet, Shared, WorkFault, consume, halt, produce,
 };
 use std::alloc::{AllocError, Global};
 use std::sync::Wait;
 use std::sync::ledger::Ledger;
 use std::thread;
-use std::thread::{JoinHandle, Threads};
+use std::thread::{Promise, PromisedHandle, Threads};
 
 /// How many events a worker takes at once, at most.
 const BATCH: usize = 256;
@@ -46,21 +49,6 @@ struct Task<'a, L: Ledger> {
     p: usize,
     end: End<Event, L>,
     script: &'a [Event],
-}
-
-/// What a handler's worker gives back: its end, and its part of the report with the list that its
-/// handler was shown.
-#[derive(Drop)]
-pub struct Handled<L: Ledger, P: Reporter> {
-    pub end: End<Event, L>,
-    pub part: Result<Part<P>, WorkFault>,
-}
-
-/// What a producer's worker gives back.
-#[derive(Drop)]
-pub struct Sent<L: Ledger> {
-    pub end: End<Event, L>,
-    pub fault: Option<WorkFault>,
 }
 
 /// What came of an exchange: all ends are back.
@@ -125,7 +113,9 @@ fn handle<L: Exchange<Event>, R: Wait, G: Gate, P: Reporter>(
     around: &Around<'_, L, R, G>,
     who: usize,
     end: End<Event, L>,
-) -> Handled<L, P> {
+) -> Handled<L, P>
+    ensures { error_of result.part ≡ Some Stopped → G.may_stop around.now.gate.now who }
+{
     let mut outlet = LockedOutlet::new(around.rt, around.shared, end, who);
     let mut listing = Listing::<P>::new(around.alloc);
     let mut buf = [Event::NONE; BATCH];
@@ -150,13 +140,22 @@ fn handle<L: Exchange<Event>, R: Wait, G: Gate, P: Reporter>(
 fn send<L: Exchange<Event>, R: Wait, G: Gate>(
     around: &Around<'_, L, R, G>,
     task: Task<'_, L>,
-) -> Sent<L> {
+) -> Sent<L>
+    requires few { task.p ≤ 2 ^ 62 }
+    ensures stopped { result.fault ≡ Some Stopped → G.may_stop around.now.gate.now (16 + task.entry.p) }
+{
     let Task { p, end, script } = task;
-    let who = PRODUCER.saturating_add(p);
     let mut inlet = LockedInlet::new(around.rt, around.shared, end, p as u64);
     // With less than the ring in a claim the handlers have events meanwhile.
     let cut = (around.size.get() / 4).max(1);
-    let produced = produce(around.rt, &mut inlet, around.gate, who, script, cut);
+    let produced = produce(
+        around.rt,
+        &mut inlet,
+        around.gate,
+        PRODUCER + p,
+        script,
+        cut,
+    );
     let end = inlet.into_end();
     Sent {
         end,
@@ -172,7 +171,8 @@ fn send_all<L: Exchange<Event> + Send + Sync, R: Threads + Wait + Sync, G: Gate 
     ends: Vec<End<Event, L>>,
 ) -> Result<Vec<Sent<L>>, AllocError>
     requires { length ends.items ≡ length scripts.now }
-    ensures { IfOk result (λ sent. length sent.items ≡ length scripts.now) }
+    ensures sent { IfOk result (λ sent. length sent.items ≡ length scripts.now) }
+    ensures stopped { IfOk result (λ sent. AreStopped (G.may_stop around.now.gate.now) (numbered 16 (map (λ s. s.fault) sent.items))) }
 {
     thread::scope(
         thread::scope_env(),
@@ -182,93 +182,52 @@ fn send_all<L: Exchange<Event> + Send + Sync, R: Threads + Wait + Sync, G: Gate 
             requires workers { IsSync R.row }
             requires gates { IsSync G.row }
             requires ends { length ends.items ≡ length scripts.now }
-            ensures { IfOk result (λ sent. length sent.items ≡ length scripts.entry.now) }
+            ensures sent { IfOk result (λ sent. length sent.items ≡ length scripts.entry.now) }
+            ensures stopped { IfOk result (λ sent. AreStopped (G.may_stop around.entry.now.gate.now) (numbered 16 (map (λ s. s.fault) sent.items))) }
         {
             let mut started = Vec::with_capacity(around.alloc, scripts.len())?;
             for end in ends {
                 let p = started.len();
                 let script = scripts[p].as_slice();
                 let task = Task { p, end, script };
-                started.push(scope.spawn(move || send(around, task))?)?;
+                let promise = StoppedBy::of(around.gate, PRODUCER + p);
+                started.push(scope.spawn_with(promise, move || send(around, task))?)?;
             }
-            join_all(around.rt, around.alloc, started)
+            Ok(thread::join_promised(around.rt, started)?)
         },
     )
 }
 
-// The threads of the handlers, those that could be started.
-#[derive(Drop)]
-struct Handlers<L: Ledger> {
-    journal: Option<JoinHandle<Handled<L, Journal>>>,
-    replica: Option<JoinHandle<Handled<L, Replica>>>,
-    business: Option<JoinHandle<Handled<L, Business>>>,
-}
-
-// What a thread gives back, if it could be started.
-fn join<T: Drop, R: Threads>(rt: &R, started: Option<JoinHandle<T>>) -> Result<T, AllocError> {
-    let worker = started.ok_or(AllocError)?;
-    Ok(worker.join(rt))
-}
-
-// Whether each handler's thread could be started.
-fn are_all<L: Ledger>(handlers: &Handlers<L>) -> bool {
-    handlers.journal.is_some() && handlers.replica.is_some() && handlers.business.is_some()
-}
-
-// Sends all scripts, unless a handler's thread is missing.
-fn send_if<L: Exchange<Event> + Send + Sync, R: Threads + Wait + Sync, G: Gate + Sync>(
-    around: &Around<'_, L, R, G>,
-    scripts: &[Vec<Event>],
-    producers: Vec<End<Event, L>>,
-    is_whole: bool,
-) -> Result<Vec<Sent<L>>, AllocError>
-    requires { length producers.items ≡ length scripts.now }
-    ensures { IfOk result (λ sent. length sent.items ≡ length scripts.now) }
-{
-    if is_whole {
-        send_all(around, scripts, producers)
-    } else {
-        Err(AllocError)
-    }
-}
-
-// What the handlers' threads give back, if all could be started; those that could be are joined in any case.
-fn join_handlers<L: Ledger, R: Threads>(
-    rt: &R,
-    handlers: Handlers<L>,
-) -> Result<
-    (
-        Handled<L, Journal>,
-        Handled<L, Replica>,
-        Handled<L, Business>,
-    ),
-    AllocError,
-> {
-    let Handlers {
-        journal,
-        replica,
-        business,
-    } = handlers;
-    let journal = join(rt, journal);
-    let replica = join(rt, replica);
-    let business = join(rt, business);
-    Ok((journal?, replica?, business?))
-}
-
-// Sends all scripts, unless a handler's thread is missing; then halts the core, and joins the handlers.
-fn served<L: Exchange<Event> + Send + Sync, R: Threads + Wait + Sync, G: Gate + Sync>(
+// Sends all scripts, halts the core, and joins the handlers' threads.
+fn served<
+    L: Exchange<Event> + Send + Sync,
+    R: Threads + Wait + Sync,
+    G: Gate + Sync,
+    J: Promise<Handled<L, Journal>>,
+    K: Promise<Handled<L, Replica>>,
+    B: Promise<Handled<L, Business>>,
+>(
     around: &Around<'_, L, R, G>,
     scripts: &[Vec<Event>],
     mut halter: End<Event, L>,
     producers: Vec<End<Event, L>>,
-    handlers: Handlers<L>,
+    journal: PromisedHandle<Handled<L, Journal>, J>,
+    replica: PromisedHandle<Handled<L, Replica>, K>,
+    business: PromisedHandle<Handled<L, Business>, B>,
 ) -> Result<Joined<L>, AllocError>
     requires { length producers.items ≡ length scripts.now }
-    ensures { IfOk result (λ joined. length joined.producers.items ≡ length scripts.now) }
+    ensures sent { IfOk result (λ joined. length joined.producers.items ≡ length scripts.now) }
+    ensures stopped { IfOk result (λ joined. AreStopped (G.may_stop around.now.gate.now) (numbered 16 (map (λ s. s.fault) joined.producers.items))) }
+    ensures halted { IfOk result (λ joined. 0 < joined.halter.halts) }
+    ensures journal { IfOk result (λ joined. J.kept_by journal.promise joined.journal) }
+    ensures replica { IfOk result (λ joined. K.kept_by replica.promise joined.replica) }
+    ensures business { IfOk result (λ joined. B.kept_by business.promise joined.business) }
 {
-    let sent = send_if(around, scripts, producers, are_all(&handlers));
+    let sent = send_all(around, scripts, producers);
     halt(around.rt, around.shared, &mut halter);
-    let (journal, replica, business) = join_handlers(around.rt, handlers)?;
+    let journal = journal.join(around.rt);
+    let replica = replica.join(around.rt);
+    let business = business.join(around.rt);
     Ok(Joined {
         halter,
         journal,
@@ -278,16 +237,30 @@ fn served<L: Exchange<Event> + Send + Sync, R: Threads + Wait + Sync, G: Gate + 
     })
 }
 
+// Halts the core before anything was sent, so that those of its handlers' threads that were started
+// end with their scope.
+fn abandoned<L: Exchange<Event>, R: Wait, G>(
+    around: &Around<'_, L, R, G>,
+    mut halter: End<Event, L>,
+) -> AllocError {
+    halt(around.rt, around.shared, &mut halter);
+    AllocError
+}
+
 /// Starts a thread for each handler, then one for each producer; joins the producers, halts the core,
 /// and joins the handlers. An error is that memory ran out or that a thread could not be started:
 /// where it was a handler's, nothing is sent.
+#[tactic(auto, using(crate::proofs::Stopping::lock_stopped))]
 pub fn exchange<L: Exchange<Event> + Send + Sync, R: Threads + Wait + Sync, G: Gate + Sync>(
     around: &Around<'_, L, R, G>,
     scripts: &[Vec<Event>],
     ends: Ends<L>,
 ) -> Result<Joined<L>, AllocError>
     requires { length ends.producers.items ≡ length scripts.now }
-    ensures { IfOk result (λ joined. length joined.producers.items ≡ length scripts.now) }
+    ensures sent { IfOk result (λ joined. length joined.producers.items ≡ length scripts.now) }
+    ensures halted { IfOk result (λ joined. 0 < joined.halter.halts) }
+    ensures stopped { IfOk result (λ joined. AreStopped (G.may_stop around.now.gate.now) (lock_endings
+        (error_of joined.journal.part) (error_of joined.replica.part) (error_of joined.business.part) (map (λ s. s.fault) joined.producers.items))) }
 {
     thread::scope(
         thread::scope_env(),
@@ -297,7 +270,10 @@ pub fn exchange<L: Exchange<Event> + Send + Sync, R: Threads + Wait + Sync, G: G
             requires workers { IsSync R.row }
             requires gates { IsSync G.row }
             requires ends { length ends.producers.items ≡ length scripts.now }
-            ensures { IfOk result (λ joined. length joined.producers.items ≡ length scripts.entry.now) }
+            ensures sent { IfOk result (λ joined. length joined.producers.items ≡ length scripts.entry.now) }
+            ensures halted { IfOk result (λ joined. 0 < joined.halter.halts) }
+            ensures stopped { IfOk result (λ joined. AreStopped (G.may_stop around.entry.now.gate.now) (lock_endings
+                (error_of joined.journal.part) (error_of joined.replica.part) (error_of joined.business.part) (map (λ s. s.fault) joined.producers.items))) }
         {
             let Ends {
                 halter,
@@ -306,17 +282,27 @@ pub fn exchange<L: Exchange<Event> + Send + Sync, R: Threads + Wait + Sync, G: G
                 business,
                 producers,
             } = ends;
-            let journal = scope.spawn(move || handle::<L, R, G, Journal>(around, JOURNAL, journal));
-            let replica = scope.spawn(move || handle::<L, R, G, Replica>(around, REPLICA, replica));
-            let business = scope.spawn(move || handle::<L, R, G, Business>(
-                around, BUSINESS, business,
-            ));
-            let handlers = Handlers {
-                journal: journal.ok(),
-                replica: replica.ok(),
-                business: business.ok(),
+            let promise = StoppedBy::of(around.gate, JOURNAL);
+            let Ok(journal) = scope.spawn_with(promise, move || {
+                handle::<L, R, G, Journal>(around, JOURNAL, journal)
+            }) else {
+                return Err(abandoned(around, halter));
             };
-            served(around, scripts, halter, producers, handlers)
+            let promise = StoppedBy::of(around.gate, REPLICA);
+            let Ok(replica) = scope.spawn_with(promise, move || {
+                handle::<L, R, G, Replica>(around, REPLICA, replica)
+            }) else {
+                return Err(abandoned(around, halter));
+            };
+            let promise = StoppedBy::of(around.gate, BUSINESS);
+            let Ok(business) = scope.spawn_with(promise, move || {
+                handle::<L, R, G, Business>(around, BUSINESS, business)
+            }) else {
+                return Err(abandoned(around, halter));
+            };
+            Ok(served(
+                around, scripts, halter, producers, journal, replica, business,
+            )?)
         },
     )
 }

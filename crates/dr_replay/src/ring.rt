@@ -1,6 +1,6 @@
 //! The replay over the ring, a thread a handler.
 
-ghost use Rattle.std.specs.Prelude.{◌≡◌, ◌++◌, ◌-◌, ◌^◌, ◌∷◌, ◌<◌, [], IfErr, IfOk, IfSome, List, None, Some, length, string_bytes, take};
+ghost use Rattle.std.specs.Prelude.{◌≡◌, ◌++◌, ◌-◌, ◌^◌, ◌∷◌, ◌<◌, [], IfErr, IfOk, IfSome, List, None, Some, false, length, string_bytes, take};
 ghost use Rattle.dr_seq.specs.declared.event.Event.{Event};
 ghost use Rattle.dr_ring.specs.Calls.Ends.{sender_place};
 ghost use Rattle.dr_ring.specs.Calls.Settling.{AreAllEnds};
@@ -75,6 +75,25 @@ fn abandoned<R: Threads, G: Gate>(
     AllocError
 }
 
+// Sends the events through a ring that is not closed yet.
+fn sent<R: Wait, G: Gate>(
+    rt: &R,
+    gate: &G,
+    events: &[Event],
+    size: Size,
+    sender: &mut Sender,
+) -> Produced
+    requires open { sender.old.knows.closed ≡ false }
+    ensures place { sender_place sender.new ≡ sender_place sender.old }
+    ensures published { sender.new.knows.sent.published ≡ sender.old.knows.sent.published ++ take result.sent events.now }
+    ensures all { result.fault ≡ None → result.sent ≡ length events.now }
+    ensures stopped { result.fault ≡ Some Stopped → G.may_stop gate.now 16 }
+{
+    // With less than the ring in a claim the handlers have events while the sender writes.
+    let cut = (size.get() / 4).max(1);
+    produce(rt, sender, gate, PRODUCER, events, cut)
+}
+
 // Sends the events, closes, and joins the handlers' threads.
 fn served<R: Threads + Wait, G: Gate, J: Promise<Worked>, K: Promise<Worked>, B: Promise<Worked>>(
     rt: &R,
@@ -86,6 +105,7 @@ fn served<R: Threads + Wait, G: Gate, J: Promise<Worked>, K: Promise<Worked>, B:
     replica: PromisedHandle<Worked, K>,
     business: PromisedHandle<Worked, B>,
 ) -> Ran
+    requires open { sender.knows.closed ≡ false }
     ensures place { sender_place result.sender ≡ sender_place sender }
     ensures published { result.sender.knows.sent.published ≡ sender.knows.sent.published ++ take result.produced.sent events.now }
     ensures all { result.produced.fault ≡ None → result.produced.sent ≡ length events.now }
@@ -94,9 +114,7 @@ fn served<R: Threads + Wait, G: Gate, J: Promise<Worked>, K: Promise<Worked>, B:
     ensures replica { K.kept_by replica.promise result.replica }
     ensures business { B.kept_by business.promise result.business }
 {
-    // With less than the ring in a claim the handlers have events while the sender writes.
-    let cut = (size.get() / 4).max(1);
-    let produced = produce(rt, &mut sender, gate, PRODUCER, events, cut);
+    let produced = sent(rt, gate, events, size, &mut sender);
     close(&mut sender);
     let journal = journal.join(rt);
     let replica = replica.join(rt);
@@ -123,12 +141,14 @@ fn exchange<R: Threads + Wait + Sync, G: Gate + Sync>(
     replica: Receiver,
     business: Receiver,
 ) -> Result<Ran, AllocError>
+    requires open { sender.knows.closed ≡ false }
     ensures ran { IfOk result (λ ran. IsRun (G.may_stop gate.now) events.now sender journal replica business ran) }
 {
     thread::scope(
         thread::scope_env(),
         rt,
         move |scope| -> Result<Ran, AllocError>
+            requires open { sender.knows.closed ≡ false }
             ensures { IfOk result (λ ran. IsRun (G.may_stop gate.entry.now) events.entry.now sender journal replica business ran) }
         {
             let room = size.get() as usize;

@@ -10,10 +10,11 @@ use Rattle.dr_shared.specs.Meaning.FirstFault.{first_fault}
 use Rattle.dr_shared.specs.declared.audit_fault.AuditFault.{AuditFault}
 use Rattle.dr_shared.specs.declared.audit_fault.AuditFault.TheVariants as audit
 use Rattle.dr_shared.specs.Meaning.Audit.{Faults}
-use Rattle.dr_shared.specs.Meaning.History.{History, IsRecorded, transcript}
-use Rattle.dr_core.specs.Meaning.Machine.{handlers}
+use Rattle.dr_shared.specs.Meaning.History.{History, transcript}
+use Rattle.dr_core.specs.Meaning.Machine.{Setup, handlers}
 use Rattle.dr_files.specs.declared.fault.FileFault.{FileFault}
 use Rattle.dr_files.specs.declared.fault.FileFault.TheVariants as file
+use Rattle.dr_replay.specs.Meaning.Exchange.{IsHalted, lock_setup}
 use Rattle.dr_replay.specs.Meaning.Scripts.{producers_in, scripts_in}
 use Rattle.dr_replay.specs.declared.fault.ReplayFault.{ReplayFault}
 use Rattle.dr_replay.specs.declared.fault.ReplayFault.TheVariants as fault
@@ -109,10 +110,10 @@ abbrev pub lock_endings : Option WorkFault → Option WorkFault → Option WorkF
 lock_endings journal replica business producers =
     record { who = 0; fault = journal } ∷ record { who = 1; fault = replica } ∷ record { who = 2; fault = business } ∷ numbered 16 producers
 
--- what an audit answers of a history that a core went through: the least producer that did not send its script, and where each did, the least handler that lacks events
-abbrev pub AuditFinds : List (List Event) → AuditFault → Type 0
-AuditFinds scripts audit.NoMemory = ⊥
-AuditFinds scripts f = (h : History Event) × IsRecorded h × Faults (transcript h) (handlers h.core.setup) scripts f
+-- what an audit answers of what an exchange of this setup went through: the least producer that did not send its script, and where each did, the least handler that lacks events
+abbrev pub AuditFinds : Setup → List (List Event) → AuditFault → Type 0
+AuditFinds c scripts audit.NoMemory = ⊥
+AuditFinds c scripts f = (h : History Event) × IsHalted c h × Faults (transcript h) (handlers h.core.setup) scripts f
 
 -- an audit that ran out of memory makes the replay answer so, and any other fault is told as it is
 abbrev pub audit_fault : AuditFault → ReplayFault
@@ -120,27 +121,27 @@ audit_fault audit.NoMemory = fault.File file.Memory
 audit_fault other = fault.Audit other
 
 -- after workers that had no fault: a lack of memory, or what an audit finds
-abbrev pub IsOfAudit : List (List Event) → ReplayFault → Type 0
-IsOfAudit scripts (fault.File f) = IsMemory f
-IsOfAudit scripts (fault.Worker who f) = ⊥
-IsOfAudit scripts (fault.Audit f) = AuditFinds scripts f
+abbrev pub IsOfAudit : Setup → List (List Event) → ReplayFault → Type 0
+IsOfAudit c scripts (fault.File f) = IsMemory f
+IsOfAudit c scripts (fault.Worker who f) = ⊥
+IsOfAudit c scripts (fault.Audit f) = AuditFinds c scripts f
 
 -- after the join: a lack of memory, or the workers' first fault, and where none has a fault, what an audit finds
-abbrev pub IsOfLock : List Ended → List (List Event) → ReplayFault → Type 0
-IsOfLock endings scripts (fault.File f) = IsMemory f
-IsOfLock endings scripts (fault.Worker who f) = IsFirstOf endings (fault.Worker who f)
-IsOfLock endings scripts (fault.Audit f) = (first_fault endings ≡ None) × AuditFinds scripts f
+abbrev pub IsOfLock : List Ended → Setup → List (List Event) → ReplayFault → Type 0
+IsOfLock endings c scripts (fault.File f) = IsMemory f
+IsOfLock endings c scripts (fault.Worker who f) = IsFirstOf endings (fault.Worker who f)
+IsOfLock endings c scripts (fault.Audit f) = (first_fault endings ≡ None) × AuditFinds c scripts f
 
 -- a lack of memory, or the first fault of such workers, one of each producer of these events, or what an audit finds of each producer's events
-abbrev pub IsOfMerge : List Event → ReplayFault → Type 0
-IsOfMerge events (fault.File f) = IsMemory f
-IsOfMerge events (fault.Worker who f) =
+abbrev pub IsOfMerge : (ℕ → Type 0) → Setup → List Event → ReplayFault → Type 0
+IsOfMerge may_stop c events (fault.File f) = IsMemory f
+IsOfMerge may_stop c events (fault.Worker who f) =
     (journal : Option WorkFault) × (replica : Option WorkFault) × (business : Option WorkFault) × (producers : List (Option WorkFault))
-    × (length producers ≡ producers_in events) × IsFirstOf (lock_endings journal replica business producers) (fault.Worker who f)
-IsOfMerge events (fault.Audit f) = AuditFinds (scripts_in events) f
+    × (length producers ≡ producers_in events) × Ends may_stop (lock_endings journal replica business producers) (fault.Worker who f)
+IsOfMerge may_stop c events (fault.Audit f) = AuditFinds c (scripts_in events) f
 
 -- where a fault of the workers or of an audit is answered, it is one that comes first
-abbrev pub IsFirstOfLock : ReplayFault → Type 0
-IsFirstOfLock (fault.File f) = Unit {0}
-IsFirstOfLock (fault.Worker who f) = (events : List Event) × IsOfMerge events (fault.Worker who f)
-IsFirstOfLock (fault.Audit f) = (events : List Event) × IsOfMerge events (fault.Audit f)
+abbrev pub IsFirstOfLock : (ℕ → Type 0) → ℕ → ReplayFault → Type 0
+IsFirstOfLock may_stop size (fault.File f) = Unit {0}
+IsFirstOfLock may_stop size (fault.Worker who f) = (events : List Event) × IsOfMerge may_stop (lock_setup size events) events (fault.Worker who f)
+IsFirstOfLock may_stop size (fault.Audit f) = (events : List Event) × IsOfMerge may_stop (lock_setup size events) events (fault.Audit f)

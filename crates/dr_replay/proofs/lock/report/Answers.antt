@@ -1,13 +1,19 @@
-use Rattle.std.proofs.Common.{◌∙◌, map, sym}
+use Rattle.std.proofs.Common.{◌∙◌, ap, map, string_bytes, sym}
 use Rattle.std.proofs.lemmas.List.{length-map}
+use Rattle.dr_seq.specs.declared.event.Event.{Event}
+use Rattle.dr_shared.specs.Meaning.History.{History}
 use Rattle.dr_accounts.specs.Keeping.{error_of}
-use Rattle.dr_replay.proofs.Endings.{ends_of_merge}
+use Rattle.dr_replay.proofs.Endings.{ends_of_merge, of_setup}
 use Rattle.dr_replay.proofs.lock.report.Goals as goal
+
+pub returns-clause-text : goal.returns-clause-text
+returns-clause-text g c = λ sent are.
+    of_setup sent (λ t. string_bytes t) c.settled.result (ap (λ (h : History Event). h.core.setup) (sym c.requires.begun)) (c.settled.ensures.text sent are)
 
 pub returns-clause-first : goal.returns-clause-first
 returns-clause-first g c = λ sent are.
     let ran = c.in_ok-ran.ran in
-    ends_of_merge sent _ (error_of ran.journal.part) (error_of ran.replica.part) (error_of ran.business.part)
-    (map (λ s. s.fault) ran.producers.items) c.settled.result are
-    (length-map ran.producers.items (λ s. s.fault) ∙ c.in_ok-ran.ensures ∙ sym (length-map c.args.scripts.now (λ v. v.items)))
-    c.settled.ensures.first
+    ends_of_merge (g.G.Gate.may_stop c.args.gate.now) sent _ (error_of ran.journal.part) (error_of ran.replica.part) (error_of ran.business.part)
+    (map (λ s. s.fault) ran.producers.items) c.settled.result (ap (λ (h : History Event). h.core.setup) (sym c.requires.begun)) are
+    (length-map ran.producers.items (λ s. s.fault) ∙ c.in_ok-ran.ensures.sent ∙ sym (length-map c.args.scripts.now (λ v. v.items)))
+    c.in_ok-ran.ensures.stopped c.settled.ensures.first

@@ -5,22 +5,22 @@ use Rattle.dr_replay.proofs.lock_workers.fn.exchange.scope.Goals as goal
 
 -- a worker's closure may go to another thread: it has a reference to what all share, and an end
 
-pub spawn-journal-requires-send-F : goal.spawn-journal-requires-send-F
-spawn-journal-requires-send-F g c κs within =
+pub spawn_with-requires-send-F : goal.spawn_with-requires-send-F
+spawn_with-requires-send-F g c κs within =
     let ledger : IsSync g.row.L = of_param _ g.row.L c.requires.shared in
     let workers : IsSync g.row.R = of_param _ g.row.R c.requires.workers in
     let gates : IsSync g.row.G = of_param _ g.row.G c.requires.gates in
     search crosses depth 40 fits 20000
 
-pub spawn-replica-requires-send-F : goal.spawn-replica-requires-send-F
-spawn-replica-requires-send-F g c κs within =
+pub spawn_with-requires-2-send-F : goal.spawn_with-requires-2-send-F
+spawn_with-requires-2-send-F g c κs within =
     let ledger : IsSync g.row.L = of_param _ g.row.L c.requires.shared in
     let workers : IsSync g.row.R = of_param _ g.row.R c.requires.workers in
     let gates : IsSync g.row.G = of_param _ g.row.G c.requires.gates in
     search crosses depth 40 fits 20000
 
-pub spawn-business-requires-send-F : goal.spawn-business-requires-send-F
-spawn-business-requires-send-F g c κs within =
+pub spawn_with-requires-3-send-F : goal.spawn_with-requires-3-send-F
+spawn_with-requires-3-send-F g c κs within =
     let ledger : IsSync g.row.L = of_param _ g.row.L c.requires.shared in
     let workers : IsSync g.row.R = of_param _ g.row.R c.requires.workers in
     let gates : IsSync g.row.G = of_param _ g.row.G c.requires.gates in
