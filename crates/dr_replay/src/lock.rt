@@ -8,7 +8,7 @@ ghost use Rattle.dr_accounts.specs.Keeping.{error_of};
 ghost use Rattle.dr_shared.specs.Meaning.FirstFault.{first_fault as first_of};
 ghost use Rattle.dr_shared.specs.Meaning.History.{halts_in};
 ghost use Rattle.dr_replay.specs.Calls.Replayed.{IsReportOfMerge, LockWrites, ReplayCounts, ReplayFaultKeeps};
-ghost use Rattle.dr_replay.specs.Calls.Workers.{AreStopped, IsFirstOf, IsFirstOfLock, IsOfAudit, IsOfLock, IsOfMerge, lock_endings};
+ghost use Rattle.dr_replay.specs.Calls.Workers.{IsFirstOf, IsFirstOfLock, IsOfAudit, IsOfLock, IsOfMerge, lock_endings};
 ghost use Rattle.dr_replay.specs.Meaning.Exchange.{lock_setup, setup_for};
 ghost use Rattle.dr_replay.specs.Meaning.Scripts.{scripts_in};
 
