@@ -1,0 +1,75 @@
+-- What came of a run: what each handler went through, and how the workers ended.
+use Rattle.std.specs.Prelude.{◌≡◌, ℕ, ◌<◌, ◌≤◌, List, [], ◌∷◌, length, take, drop, Option, None, Some, All, Contains}
+use mathlib.Core.Option.{some}
+use lib.ListN.{get_elem?}
+use Rattle.dr_seq.specs.declared.event.Event.{Event}
+use Rattle.dr_graph.specs.Meaning.Graph.{upstreams_of}
+use Rattle.dr_core.specs.Calls.Handling.{GoesThrough, Relation}
+use Rattle.dr_shared.specs.Meaning.Work.{Dealt, FollowFrom, dealt_events, shown_of}
+use Rattle.dr_shared.specs.declared.fault.WorkFault.{WorkFault}
+use Rattle.dr_shared.specs.declared.ended.Ended.{Ended}
+use Rattle.dr_shared.specs.declared.ended.WorkerFault.{WorkerFault}
+use Rattle.dr_shared.specs.Meaning.FirstFault.{first_fault}
+use Rattle.dr_ring.specs.Calls.Ends.{SenderEnd}
+use Rattle.dr_ring.specs.Calls.Settling.{counts_at}
+use Rattle.dr_disruptor.specs.declared.running.Ran.{Ran}
+use Rattle.dr_disruptor.specs.declared.fault.RunFault.{RunFault}
+use Rattle.dr_disruptor.specs.declared.fault.RunFault.TheVariants.{Worker}
+
+-- a handler went from one meaning to another through exactly these events: each once, in sequence order from 0 on, in some batches
+pub record WentThrough {A : Type 0} (goes : Relation Event A) (start after : A) (events : List Event) : Type 0 where
+  pub batches : List (Dealt Event)
+  pub through : GoesThrough goes start (shown_of batches) after
+  pub order : FollowFrom 0 batches
+  pub dealt : dealt_events batches ≡ events
+
+-- so did each handler, from the one that was given at its place
+pub record AllWentThrough {A : Type 0} (goes : Relation Event A) (events : List Event) (starts afters : List A) : Type 0 where
+  pub many : length afters ≡ length starts
+  pub each : (h : ℕ) (start after : A) → get_elem? starts h ≡ some start → get_elem? afters h ≡ some after → WentThrough goes start after events
+
+-- how many events a handler took, and how many it completed
+abbrev pub taken_in : {A : Type 0} → Ran A → ℕ → ℕ
+taken_in ran h = (counts_at ran.settled.handlers.items h).taken
+
+abbrev pub completed_in : {A : Type 0} → Ran A → ℕ → ℕ
+completed_in ran h = (counts_at ran.settled.handlers.items h).completed
+
+-- no worker ended with a fault
+abbrev pub AreFine : List Ended → Type 0
+AreFine endings = All (λ e. e.fault ≡ None) endings
+
+-- what came of a ring of this graph over which these events were sent, by a sender's worker that ended so
+pub record IsRan {A : Type 0} (goes : Relation Event A) (upstreams : List (List ℕ)) (starts : List A) (sent : List Event) (sender : Option WorkFault) (ran : Ran A) : Type 0 where
+  pub published : ran.settled.published ≡ length sent
+  pub many : length ran.handlers.items ≡ length starts
+  -- each handler went through the first of the events, as many as it took
+  pub each : (h : ℕ) (start after : A) → get_elem? starts h ≡ some start → get_elem? ran.handlers.items h ≡ some after
+      → WentThrough goes start after (take (taken_in ran h) sent)
+  pub taken : (h : ℕ) → h < length starts → taken_in ran h ≤ length sent
+  -- and took no more than each handler that it follows completed
+  pub follow : (h u : ℕ) → h < length starts → u < length starts → Contains (upstreams_of upstreams h) u → taken_in ran h ≤ completed_in ran u
+  -- a handler's ending stands at its number; without a fault it took all
+  pub ended : (h : ℕ) (e : Ended) → h < length starts → get_elem? ran.endings.items h ≡ some e → (e.who ≡ h) × (e.fault ≡ None → taken_in ran h ≡ length sent)
+  -- and the sender's after those
+  pub last : drop (length starts) ran.endings.items ≡ record { who = 16; fault = sender } ∷ []
+
+-- what came of a script: the sender published the first of its events, all of them where it ended without a fault
+pub record IsRun {A : Type 0} (goes : Relation Event A) (upstreams : List (List ℕ)) (starts : List A) (script : List Event) (ran : Ran A) : Type 0 where
+  pub sender : Option WorkFault
+  pub sent : ran.settled.published ≤ length script
+  pub all : sender ≡ None → ran.settled.published ≡ length script
+  pub came : IsRan goes upstreams starts (take ran.settled.published script) sender ran
+
+-- what came of a closure's sending: it went from a new sender to one that published what was sent
+pub record IsRanBy {A : Type 0} (sends : SenderEnd → Option WorkFault → SenderEnd → Type 0) (goes : Relation Event A) (upstreams : List (List ℕ)) (starts : List A) (ran : Ran A) : Type 0 where
+  pub given : SenderEnd
+  pub back : SenderEnd
+  pub fault : Option WorkFault
+  pub none : given.knows.sent.published ≡ []
+  pub sending : sends given fault back
+  pub came : IsRan goes upstreams starts back.knows.sent.published fault ran
+
+-- the fault that is the first of the workers'
+abbrev pub IsFirst : List Ended → RunFault → Type 0
+IsFirst endings e = (first : WorkerFault) × (first_fault endings ≡ Some first) × (e ≡ Worker first.who first.fault)

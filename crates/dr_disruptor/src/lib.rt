@@ -1,0 +1,15 @@
+//! A ring with its threads, in one call: LMAX's `Disruptor`.
+//!
+//! [`run`] makes the ring of a graph, starts a thread for each handler, sends a script from the calling thread,
+//! and hands back the handlers with how far each came ([`Ran`]). [`run_with`] leaves the sending to a closure,
+//! for events that come up while it runs. Begin with `specs/Running`: it says what each handler went through.
+#![tactic(auto)]
+
+mod fault;
+mod running;
+mod served;
+mod workers;
+
+pub use fault::RunFault;
+pub use running::{Ran, run, run_with};
+pub use served::{Served, Serves, serve};

@@ -1,0 +1,135 @@
+//! A whole run over a ring.
+
+ghost use Rattle.std.specs.Prelude.{◌≡◌, List, Option, None, All, IfErr, IfOk, length, map, take};
+ghost use Rattle.std.specs.Fn.{FnOnceReturnsAtMut};
+ghost use Rattle.dr_seq.specs.declared.event.Event.{Event};
+ghost use Rattle.dr_shared.specs.Meaning.FirstFault.{first_fault as first_of};
+ghost use Rattle.dr_shared.specs.declared.fault.WorkFault.{WorkFault};
+ghost use Rattle.dr_ring.specs.Calls.Ends.{SenderEnd, sender_place};
+ghost use Rattle.dr_ring.specs.Calls.Settling.{AreAllEnds};
+ghost use Rattle.dr_disruptor.specs.Refused.{refusal_of};
+ghost use Rattle.dr_disruptor.specs.Running.{AllWentThrough, AreFine, IsFirst, IsRan, IsRanBy, IsRun};
+ghost use Rattle.dr_disruptor.specs.Serving.{BeginsAt, given_end, given_handler};
+ghost use Rattle.dr_disruptor.specs.declared.fault.RunFault.TheVariants.{Memory};
+
+use crate::fault::RunFault;
+use crate::workers::{Back, SENDER, Worker, apart, begin, close, joined};
+use dr_core::Handler;
+use dr_graph::Graph;
+use dr_ring::{Sender, Settled, settle};
+use dr_seq::{Event, Size};
+use dr_shared::{Ended, OpenGate, WorkFault, WorkerFault, first_fault, produce};
+use std::alloc::Global;
+use std::sync::Wait;
+use std::thread::Threads;
+
+/// What came of a run.
+#[derive(Drop)]
+pub struct Ran<H> {
+    /// The handlers, in the graph's order.
+    pub handlers: Vec<H>,
+    /// How many events were published, and how far each handler came.
+    pub settled: Settled,
+    /// How each worker ended: the handlers' in the graph's order, then the sender's, which is number 16.
+    pub endings: Vec<Ended>,
+}
+
+impl<H: Drop> Ran<H> {
+    /// The fault that is answered for the workers, if one of them has any.
+    pub fn fault(&self) -> Option<WorkerFault>
+        ensures first { result ≡ first_of self.now.endings.items }
+        ensures none { result ≡ None → AreFine self.now.endings.items }
+    {
+        first_fault(self.endings.as_slice())
+    }
+
+    /// The handlers, where no worker has a fault.
+    pub fn finished(self) -> Result<Vec<H>, RunFault>
+        ensures handlers { IfOk result (λ handlers. (handlers ≡ self.handlers) × AreFine self.endings.items) }
+        ensures fault { IfErr result (λ e. IsFirst self.endings.items e) }
+    {
+        match self.fault() {
+            Some(first) => Err(RunFault::from(first)),
+            None => Ok(self.handlers),
+        }
+    }
+}
+
+// Closes the ring, joins its threads, and brings the ends together.
+fn finish<R: Threads, H: Handler<Event> + Drop>(
+    rt: &R,
+    alloc: Global,
+    mut sender: Sender,
+    workers: Vec<Worker<H>>,
+    fault: Option<WorkFault>,
+) -> Result<Ran<H>, RunFault>
+    requires ends { AreAllEnds sender (map given_end workers.items) }
+    requires fresh { All (BeginsAt sender.knows.plan) (map given_end workers.items) }
+    ensures ran { IfOk result (IsRan H.goes sender.knows.plan.upstreams (map given_handler workers.items) sender.knows.sent.published fault) }
+    ensures memory { IfErr result (λ e. e ≡ Memory) }
+{
+    close(&mut sender);
+    let served = joined(rt, workers)?;
+    let back = apart(alloc, served, fault)?;
+    let Back {
+        receivers,
+        handlers,
+        endings,
+    } = back;
+    let settled = settle(sender, receivers);
+    Ok(Ran {
+        handlers,
+        settled,
+        endings,
+    })
+}
+
+/// Makes a ring for a graph, starts a thread for each handler, the first one for the graph's first
+/// handler, and sends a script from this thread, in claims of a quarter of the ring. Then it closes the ring
+/// and waits until each handler has had all events. `Handlers` is answered where there are not as many handlers
+/// as the graph has, and nothing was made then; `Memory` where memory ran out or a thread could not be started.
+pub fn run<R: Threads + Wait + Copy + Send + 'static, H: Handler<Event> + Drop + Send + 'static>(
+    rt: R,
+    alloc: Global,
+    graph: &Graph,
+    size: Size,
+    handlers: Vec<H>,
+    script: &[Event],
+) -> Result<Ran<H>, RunFault>
+    // Where no worker has a fault, each handler went through exactly the script.
+    ensures whole { IfOk result (λ ran. AreFine ran.endings.items → AllWentThrough H.goes script.now handlers.items ran.handlers.items) }
+    // And where one has, each went through a beginning of what was sent.
+    ensures run { IfOk result (IsRun H.goes graph.now.upstreams handlers.items script.now) }
+    ensures refused { IfErr result (λ e. e ≡ refusal_of (length graph.now.upstreams) (length handlers.items)) }
+{
+    let (mut sender, workers) = begin(rt, alloc, graph, size, handlers)?;
+    // With less than the ring in a claim the handlers have events while the sender writes.
+    let cut = (size.get() / 4).max(1);
+    let produced = produce(&rt, &mut sender, &OpenGate, SENDER, script, cut);
+    finish(&rt, alloc, sender, workers, produced.fault)
+}
+
+/// As [`run`], with the sending by a closure, which is given the ring's sender and claims, writes and publishes
+/// what it likes, and answers its fault, if it has one. It leaves no claim open, or the handlers wait for ever.
+pub fn run_with<
+    R: Threads + Wait + Copy + Send + 'static,
+    H: Handler<Event> + Drop + Send + 'static,
+    F: FnOnce(&mut Sender) -> Option<WorkFault> + Drop,
+>(
+    rt: R,
+    alloc: Global,
+    graph: &Graph,
+    size: Size,
+    handlers: Vec<H>,
+    send: F,
+) -> Result<Ran<H>, RunFault>
+    requires callable { F.IsAlwaysCallable send }
+    // The closure does not put another ring's sender in the place of the one that it is given.
+    requires place { (given : SenderEnd) (fault : Option WorkFault) (back : SenderEnd) → FnOnceReturnsAtMut F.FnOnce send given fault back → sender_place back ≡ sender_place given }
+    ensures ran { IfOk result (IsRanBy (FnOnceReturnsAtMut F.FnOnce send) H.goes graph.now.upstreams handlers.items) }
+    ensures refused { IfErr result (λ e. e ≡ refusal_of (length graph.now.upstreams) (length handlers.items)) }
+{
+    let (mut sender, workers) = begin(rt, alloc, graph, size, handlers)?;
+    let fault = send(&mut sender);
+    finish(&rt, alloc, sender, workers, fault)
+}

@@ -1,0 +1,69 @@
+//! A handler's worker, with what it promises.
+
+ghost use Rattle.std.specs.Prelude.{◌≡◌};
+ghost use Rattle.dr_disruptor.specs.Serving.{Serving};
+
+use dr_core::Handler;
+use dr_ring::Receiver;
+use dr_seq::Event;
+use dr_shared::{OpenGate, WorkFault, consume};
+use std::snapshot::Snapshot;
+use std::sync::Wait;
+use std::thread::Promise;
+
+/// How many events a worker takes at once, at most.
+const BATCH: usize = 256;
+
+/// What a worker gives back: its end, its handler, and its fault if it has one.
+#[derive(Drop)]
+pub struct Served<H> {
+    pub receiver: Receiver,
+    pub handler: H,
+    pub fault: Option<WorkFault>,
+}
+
+/// The promise of the worker that is given an end and a handler.
+pub struct Serves<H> {
+    end: Snapshot<Receiver>,
+    start: Snapshot<H>,
+}
+
+impl<H> Serves<H> {
+    pub fn of(end: &Receiver, handler: &H) -> Serves<H>
+        ensures end { result.end.value ≡ end.now }
+        ensures start { result.start.value ≡ handler.now }
+    {
+        Serves {
+            end: Snapshot::of(end),
+            start: Snapshot::of(handler),
+        }
+    }
+}
+
+impl<H> Drop for Serves<H> {
+    fn drop(self) {
+        let Serves { end: _, start: _ } = self;
+    }
+}
+
+impl<H: Handler<Event>> Promise<Served<H>> for Serves<H> {
+    ghost kept_by = { λ p r. Serving H.goes p.start.value p.end.value r };
+}
+
+/// Takes a handler through all events of an end, up to 256 at once. `who` is the handler's number.
+pub fn serve<R: Wait, H: Handler<Event>>(
+    rt: &R,
+    who: usize,
+    mut receiver: Receiver,
+    mut handler: H,
+) -> Served<H>
+    ensures { Serving H.goes handler receiver result }
+{
+    let mut buffer = [Event::NONE; BATCH];
+    let fault = consume(rt, &mut receiver, &OpenGate, who, &mut handler, &mut buffer);
+    Served {
+        receiver,
+        handler,
+        fault,
+    }
+}

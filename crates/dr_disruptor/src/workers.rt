@@ -1,0 +1,163 @@
+//! The threads of a ring's handlers: how they are started, and what they give back.
+
+ghost use Rattle.std.specs.Prelude.{◌≡◌, ◌++◌, ◌∷◌, [], All, IfErr, IfOk, OnOk, length, map};
+ghost use Rattle.dr_ring.specs.Calls.Settling.{AreAllEnds};
+ghost use Rattle.dr_disruptor.specs.Refused.{refusal_of};
+ghost use Rattle.dr_disruptor.specs.Serving.{AreKept, AreReady, StaysAt, endings_from, given_end, given_handler};
+
+use crate::fault::RunFault;
+use crate::served::{Served, Serves, serve};
+use dr_core::{Handler, MAX_LIMIT};
+use dr_graph::Graph;
+use dr_ring::{Receiver, Sender, ring};
+use dr_seq::{Event, Size};
+use dr_shared::{Ended, WorkFault};
+use std::alloc::{AllocError, Global};
+use std::sync::Wait;
+use std::thread::{self, PromisedHandle, Threads, join_promised};
+
+/// The number of the sender's worker. Those of the handlers are below it.
+pub(crate) const SENDER: usize = 16;
+
+/// A handler's thread.
+pub(crate) type Worker<H> = PromisedHandle<Served<H>, Serves<H>>;
+
+// Starts a thread for each handler with the end at its place. Where one cannot be started the earlier ones are in `started`.
+fn start<R: Threads + Wait + Copy + Send + 'static, H: Handler<Event> + Drop + Send + 'static>(
+    rt: R,
+    started: &mut Vec<Worker<H>>,
+    receivers: Vec<Receiver>,
+    handlers: Vec<H>,
+) -> Result<(), AllocError>
+    requires none { started.old.items ≡ [] }
+    requires many { length receivers.items ≡ length handlers.items }
+    ensures ends { OnOk result (map given_end started.new.items ≡ receivers.items) }
+    ensures starts { OnOk result (map given_handler started.new.items ≡ handlers.items) }
+{
+    let mut handlers = handlers.into_iter();
+    for receiver in receivers {
+        let Some(handler) = handlers.next() else {
+            unreachable!();
+        };
+        let promise = Serves::of(&receiver, &handler);
+        let who = started.len();
+        let Ok(worker) = thread::spawn_with(
+            &rt,
+            promise,
+            move || serve(&rt, who, receiver, handler),
+        ) else {
+            return Err(AllocError);
+        };
+        started.push(worker)?;
+    }
+    Ok(())
+}
+
+// Closes the ring, unless the sender left a claim open.
+pub(crate) fn close(sender: &mut Sender)
+    ensures { StaysAt sender.old sender.new }
+{
+    let _closed = sender.close();
+}
+
+// Waits for threads whose results nobody wants.
+fn wait_for<R: Threads, H: Handler<Event> + Drop>(rt: &R, workers: Vec<Worker<H>>) {
+    for worker in workers {
+        let _served = worker.join(rt);
+    }
+}
+
+/// A ring's sender, and a thread for each handler with its end of the ring. Where a thread cannot be
+/// started, nothing is sent, and those that were started are joined.
+pub(crate) fn begin<
+    R: Threads + Wait + Copy + Send + 'static,
+    H: Handler<Event> + Drop + Send + 'static,
+>(
+    rt: R,
+    alloc: Global,
+    graph: &Graph,
+    size: Size,
+    handlers: Vec<H>,
+) -> Result<(Sender, Vec<Worker<H>>), RunFault>
+    ensures ready { IfOk result (λ r. AreReady graph.now.upstreams handlers.items r.0 r.1.items) }
+    ensures refused { IfErr result (λ e. e ≡ refusal_of (length graph.now.upstreams) (length handlers.items)) }
+{
+    let (expected, given) = (graph.len(), handlers.len());
+    if given != expected {
+        return Err(RunFault::Handlers {
+            graph: expected,
+            given,
+        });
+    }
+    let mut started = Vec::with_capacity(alloc, given)?;
+    let Ok((mut sender, receivers, _halter)) = ring(alloc, graph, size, MAX_LIMIT) else {
+        return Err(RunFault::Memory);
+    };
+    if start(rt, &mut started, receivers, handlers).is_err() {
+        close(&mut sender);
+        wait_for(&rt, started);
+        return Err(RunFault::Memory);
+    }
+    Ok((sender, started))
+}
+
+// What each thread gives back. Where memory runs out all threads end too, and what they give back is lost.
+pub(crate) fn joined<R: Threads, H: Handler<Event> + Drop>(
+    rt: &R,
+    workers: Vec<Worker<H>>,
+) -> Result<Vec<Served<H>>, AllocError>
+    ensures { IfOk result (λ served. AreKept H.goes workers.items served.items) }
+{
+    match join_promised(rt, workers) {
+        Ok(served) => Ok(served),
+        Err(failed) => {
+            wait_for(rt, failed.value);
+            Err(AllocError)
+        }
+    }
+}
+
+/// What came back of a run: the ends, the handlers, and how the workers ended, the sender's last.
+pub(crate) struct Back<H> {
+    pub(crate) receivers: Vec<Receiver>,
+    pub(crate) handlers: Vec<H>,
+    pub(crate) endings: Vec<Ended>,
+}
+
+// What workers gave back, each kind in a list of its own.
+pub(crate) fn apart<H: Drop>(
+    alloc: Global,
+    served: Vec<Served<H>>,
+    sender: Option<WorkFault>,
+) -> Result<Back<H>, AllocError>
+    ensures receivers { IfOk result (λ back. back.receivers.items ≡ map (λ s. s.receiver) served.items) }
+    ensures handlers { IfOk result (λ back. back.handlers.items ≡ map (λ s. s.handler) served.items) }
+    ensures endings { IfOk result (λ back. back.endings.items ≡ endings_from 0 served.items ++ record { who = 16; fault = sender } ∷ []) }
+{
+    let many = served.len();
+    let mut receivers = Vec::with_capacity(alloc, many)?;
+    let mut handlers = Vec::with_capacity(alloc, many)?;
+    let mut endings = Vec::with_capacity(alloc, many)?;
+    for one in served {
+        let Served {
+            receiver,
+            handler,
+            fault,
+        } = one;
+        endings.push(Ended {
+            who: handlers.len(),
+            fault,
+        })?;
+        receivers.push(receiver)?;
+        handlers.push(handler)?;
+    }
+    endings.push(Ended {
+        who: SENDER,
+        fault: sender,
+    })?;
+    Ok(Back {
+        receivers,
+        handlers,
+        endings,
+    })
+}

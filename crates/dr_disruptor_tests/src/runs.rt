@@ -1,0 +1,106 @@
+//! Runs in one call: a diamond, another number of handlers, and a closure that sends.
+
+use dr_core::Handler;
+use dr_disruptor::{RunFault, run, run_with};
+use dr_graph::{Graph, GraphBuilder, GraphFault};
+use dr_seq::{Event, Size};
+use dr_shared::{OpenGate, produce};
+use std::alloc::Global;
+use std::test::Fail;
+
+/// Handlers of two kinds in one list: the sum of the first words, and the last one.
+#[derive(Clone, Copy, Debug, PartialEq, Eq)]
+pub enum Work {
+    Sum(u64),
+    Keep(u64),
+}
+
+impl Handler<Event> for Work {
+    ghost use Rattle.dr_disruptor_tests.specs.Goes.{WorkGoes};
+
+    ghost goes = { λ old event s end new. WorkGoes old event new };
+
+    fn on_event(&mut self, event: Event, _s: u64, _end: bool) {
+        *self = match *self {
+            Work::Sum(total) => Work::Sum(total.wrapping_add(event.first)),
+            Work::Keep(_) => Work::Keep(event.first),
+        };
+    }
+}
+
+/// Two handlers, and one after both.
+fn diamond(alloc: Global) -> Result<Graph, GraphFault> {
+    let mut builder = GraphBuilder::new(alloc);
+    let sides = builder.handle_with(&["a", "b"])?;
+    let _last = builder.then(&sides, &["c"])?;
+    builder.build()
+}
+
+#[test]
+fn a_script_through_a_diamond(rt: HostRuntime) -> Result<(), Fail> {
+    let alloc = rt.alloc();
+    let mut script = Vec::new(alloc);
+    for k in 0..1000 {
+        script.push(Event {
+            first: k,
+            second: 0,
+        })?;
+    }
+    let handlers = vec![in alloc; Work::Sum(0), Work::Keep(0), Work::Sum(1)]?;
+    let ran = run(
+        rt,
+        alloc,
+        &diamond(alloc)?,
+        Size::new(8)?,
+        handlers,
+        script.as_slice(),
+    )?;
+    assert_eq!(rt; ran.settled.published(), 1000);
+    assert_eq!(rt; ran.settled.completed(2), 1000);
+    let handlers = ran.finished()?;
+    assert_eq!(rt;
+        handlers.as_slice(),
+        [Work::Sum(499_500), Work::Keep(999), Work::Sum(499_501)].as_slice()
+    );
+    Ok(())
+}
+
+#[test]
+fn a_handler_too_few(rt: HostRuntime) -> Result<(), Fail> {
+    let alloc = rt.alloc();
+    let handlers = vec![in alloc; Work::Sum(0), Work::Keep(0)]?;
+    let ran = run(rt, alloc, &diamond(alloc)?, Size::new(8)?, handlers, &[]);
+    match ran {
+        Err(fault) => {
+            let said = format!(in alloc; "{fault}")?;
+            assert_eq!(rt; said.as_str(), "the graph has 3 handlers, and 2 were given");
+            assert!(rt; matches!(&fault, RunFault::Handlers { graph: 3, given: 2 }));
+        }
+        Ok(_) => assert!(rt; false),
+    }
+    Ok(())
+}
+
+#[test]
+fn events_by_a_closure(rt: HostRuntime) -> Result<(), Fail> {
+    let alloc = rt.alloc();
+    let handlers = vec![in alloc; Work::Sum(0), Work::Keep(0), Work::Sum(0)]?;
+    let event = Event {
+        first: 7,
+        second: 0,
+    };
+    let ran = run_with(
+        rt,
+        alloc,
+        &diamond(alloc)?,
+        Size::new(2)?,
+        handlers,
+        |sender| { produce(&rt, sender, &OpenGate, 16, &[event; 5], 1).fault },
+    )?;
+    let handlers = ran.finished()?;
+    assert_eq!(rt;
+        handlers.as_slice(),
+        [Work::Sum(35), Work::Keep(7), Work::Sum(35)].as_slice()
+    );
+    Ok(())
+}
