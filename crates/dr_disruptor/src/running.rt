@@ -84,10 +84,12 @@ fn finish<R: Threads, H: Handler<Event> + Drop>(
     })
 }
 
-/// Makes a ring for a graph, starts a thread for each handler, the first one for the graph's first
-/// handler, and sends a script from this thread, in claims of a quarter of the ring. Then it closes the ring
-/// and waits until each handler has had all events. `Handlers` is answered where there are not as many handlers
-/// as the graph has, and nothing was made then; `Memory` where memory ran out or a thread could not be started.
+/// Makes a ring for a graph, starts a thread for each handler, which stand in the graph's order, and sends a
+/// script from this thread, in claims of a quarter of the ring. Then it closes the ring, and waits until each
+/// handler has had all events.
+///
+/// It is refused with `Handlers` where there are not as many handlers as the graph has, and with `Memory` where
+/// a thread could not be started: then nothing was sent. Where memory runs out after that, what was done is lost.
 pub fn run<R: Threads + Wait + Copy + Send + 'static, H: Handler<Event> + Drop + Send + 'static>(
     rt: R,
     alloc: Global,

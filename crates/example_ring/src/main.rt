@@ -5,10 +5,6 @@ use dr_core::Handler;
 use dr_disruptor::{RunFault, run};
 use dr_graph::GraphBuilder;
 use dr_seq::{Event, Size};
-use std::alloc::Global;
-use std::process::ExitCode;
-use std::sync::Wait;
-use std::thread::Threads;
 
 /// Adds up the first words of what it is shown.
 #[derive(Drop)]
@@ -27,10 +23,8 @@ impl Handler<Event> for Adder {
 }
 
 /// Sends a hundred events through two handlers, of which the second follows the first.
-fn exchange<R: Threads + Wait + Copy + Send + 'static>(
-    rt: R,
-    alloc: Global,
-) -> Result<Vec<Adder>, RunFault> {
+fn main(rt: HostRuntime) -> Result<(), RunFault> {
+    let alloc = rt.alloc();
     let mut builder = GraphBuilder::new(alloc);
     let first = builder.handle_with(&["first"])?;
     let _second = builder.then(&first, &["second"])?;
@@ -40,20 +34,9 @@ fn exchange<R: Threads + Wait + Copy + Send + 'static>(
         first: 1,
         second: 0,
     }; 100];
-    run(rt, alloc, &graph, Size::new(64)?, adders, &script)?.finished()
-}
-
-fn main(rt: HostRuntime) -> ExitCode {
-    match exchange(rt, rt.alloc()) {
-        Ok(adders) => {
-            for adder in adders.iter() {
-                let _printed = rt.println(&adder.total);
-            }
-            ExitCode::SUCCESS
-        }
-        Err(fault) => {
-            let _printed = rt.eprintln(&fault);
-            ExitCode::FAILURE
-        }
+    let ran = run(rt, alloc, &graph, Size::new(64)?, adders, &script)?;
+    for adder in ran.finished()?.iter() {
+        let _printed = rt.println(&adder.total);
     }
+    Ok(())
 }
