@@ -56,7 +56,6 @@ fn a_script_through_a_diamond(rt: HostRuntime) -> Result<(), Fail> {
         script.as_slice(),
     )?;
     assert_eq!(rt; ran.settled.published(), 1000);
-    assert_eq!(rt; ran.settled.completed(2), 1000);
     let handlers = ran.finished()?;
     assert_eq!(rt;
         handlers.as_slice(),
