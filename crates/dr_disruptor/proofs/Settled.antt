@@ -35,12 +35,12 @@ pub went : {A : Type 0} (goes : Relation Event A) (s : SenderRecord) (start : A)
     → WentThrough goes start back.handler (take (length back.receiver.knows.received) s.sent.published)
 went goes s start given back serving none has =
     let works = serving.works in
-    let handed : HandsOut works.batches (received_of given.knows) (received_of back.receiver.knows) = works.handed in
+    let handed : HandsOut serving.batches (received_of given.knows) (received_of back.receiver.knows) = works.handed in
     record {
-      batches = works.batches;
+      batches = serving.batches;
       through = works.through;
-      order = subst (λ (l : List Event). FollowFrom (length l) works.batches) none handed.1;
-      dealt = sym (handed.0 ∙ ap (λ (l : List Event). l ++ dealt_events works.batches) none) ∙ has.beginning;
+      order = subst (λ (l : List Event). FollowFrom (length l) serving.batches) none handed.1;
+      dealt = sym (handed.0 ∙ ap (λ (l : List Event). l ++ dealt_events serving.batches) none) ∙ has.beginning;
     }
 
 -- without a fault it went through all

@@ -5,7 +5,7 @@ use lib.ListN.{get_elem?}
 use Rattle.std.specs.declared.thread.PromisedHandle.{PromisedHandle}
 use Rattle.dr_seq.specs.declared.event.Event.{Event}
 use Rattle.dr_core.specs.Calls.Handling.{Relation}
-use Rattle.dr_shared.specs.Meaning.Work.{Works}
+use Rattle.dr_shared.specs.Meaning.Work.{Dealt, Works}
 use Rattle.dr_ring.specs.Meaning.Shape.{Shape}
 use Rattle.dr_ring.specs.Calls.Ends.{SenderEnd, ReceiverEnd, sender_place, receiver_place, received_of}
 use Rattle.dr_ring.specs.Calls.Settling.{AreAllEnds}
@@ -16,7 +16,8 @@ use Rattle.dr_disruptor.specs.declared.served.Serves.{Serves}
 -- a worker took a handler through exactly what its end handed out, and gave both back; without a fault the end was told that the ring drained
 pub record Serving {A : Type 0} (goes : Relation Event A) (start : A) (given : ReceiverEnd) (back : Served A) : Type 0 where
   pub place : receiver_place back.receiver ≡ receiver_place given
-  pub works : Works goes start back.handler (Some (received_of given.knows)) (Some (received_of back.receiver.knows))
+  pub batches : List (Dealt Event)
+  pub works : Works goes start back.handler (Some (received_of given.knows)) (Some (received_of back.receiver.knows)) batches
   pub drained : IfNone back.fault (back.receiver.knows.told ≡ true)
 
 -- a handler's thread
