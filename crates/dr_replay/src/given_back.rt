@@ -6,6 +6,7 @@ ghost use Rattle.dr_shared.specs.declared.fault.WorkFault.TheVariants.{Stopped};
 
 use crate::part::Part;
 use dr_accounts::Reporter;
+use dr_seq::Event;
 use dr_shared::{End, Gate, WorkFault};
 use std::snapshot::Snapshot;
 use std::sync::ledger::Ledger;
@@ -15,14 +16,14 @@ use std::thread::Promise;
 /// handler was shown.
 #[derive(Drop)]
 pub struct Handled<L: Ledger, P: Reporter> {
-    pub end: End<L>,
+    pub end: End<Event, L>,
     pub part: Result<Part<P>, WorkFault>,
 }
 
 /// What a producer's worker gives back.
 #[derive(Drop)]
 pub struct Sent<L: Ledger> {
-    pub end: End<L>,
+    pub end: End<Event, L>,
     pub fault: Option<WorkFault>,
 }
 

@@ -28,11 +28,11 @@ spawn_with-requires-3-send-F g c κs within =
 
 -- what it gives back may be sent: its end, and what came of its work
 
-pub spawn-journal-requires-send-T : goal.spawn-journal-requires-send-T
-spawn-journal-requires-send-T g c κs within = search gives depth 60 fits 20000
+pub spawn_with-requires-send-T : goal.spawn_with-requires-send-T
+spawn_with-requires-send-T g c κs within = search gives depth 60 fits 20000
 
-pub spawn-replica-requires-send-T : goal.spawn-replica-requires-send-T
-spawn-replica-requires-send-T g c κs within = search gives depth 60 fits 20000
+pub spawn_with-requires-2-send-T : goal.spawn_with-requires-2-send-T
+spawn_with-requires-2-send-T g c κs within = search gives depth 60 fits 20000
 
-pub spawn-business-requires-send-T : goal.spawn-business-requires-send-T
-spawn-business-requires-send-T g c κs within = search gives depth 60 fits 20000
+pub spawn_with-requires-3-send-T : goal.spawn_with-requires-3-send-T
+spawn_with-requires-3-send-T g c κs within = search gives depth 60 fits 20000
