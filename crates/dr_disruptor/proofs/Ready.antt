@@ -17,12 +17,11 @@ all_begin k t h zero = All-nil (BeginsAt k)
 all_begin k t h (suc n) = All-cons (BeginsAt k) (at_ring t (fresh_receiver k h)) (map (at_ring t) (fresh_receivers k (suc h) n)) (refl, refl) (all_begin k t (suc h) n)
 
 pub are_ready : {A : Type 0} (k : Shape) (s : SenderEnd) (rs : List ReceiverEnd) (t : HalterEnd) (starts : List A) (ws : List (Worker A)) → AreFreshEnds k s rs t → AreAllEnds s rs
-    → map given_end ws ≡ rs → map given_handler ws ≡ starts → AreReady k.upstreams starts s ws
+    → map given_end ws ≡ rs → map given_handler ws ≡ starts → AreReady k starts s ws
 are_ready k s rs t starts ws fresh all ends handlers =
     let plan : s.knows.plan ≡ k = ap (λ (r : SenderRecord). r.plan) fresh.sender in
     record {
-      graph = ap (λ (q : Shape). q.upstreams) plan;
-      sent = ap (λ (r : SenderRecord). r.sent.published) fresh.sender;
+      begins = fresh.sender;
       ends = subst (AreAllEnds s) (sym ends) all;
       fresh = subst (λ (q : Shape). All (BeginsAt q) (map given_end ws)) (sym plan)
           (subst (All (BeginsAt k)) (sym (ends ∙ fresh.receivers)) (all_begin k s.ring 0 (handlers_of k)));

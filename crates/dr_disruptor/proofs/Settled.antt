@@ -7,7 +7,7 @@ use Rattle.atomic_table.proofs.Lists.{at_map}
 use Rattle.dr_seq.specs.declared.event.Event.{Event}
 use Rattle.dr_graph.specs.Meaning.Graph.{upstreams_of}
 use Rattle.dr_core.specs.Calls.Handling.{Relation}
-use Rattle.dr_shared.specs.Meaning.Work.{FollowFrom, HandsOut, dealt_events}
+use Rattle.dr_shared.specs.Meaning.Work.{FollowFrom, HandsOut, batches_in, dealt_events}
 use Rattle.dr_shared.specs.declared.ended.Ended.{Ended}
 use Rattle.dr_shared.specs.declared.fault.WorkFault.{WorkFault}
 use Rattle.dr_ring.specs.declared.record.SenderRecord.{SenderRecord}
@@ -34,13 +34,14 @@ pub went : {A : Type 0} (goes : Relation Event A) (s : SenderRecord) (start : A)
     → given.knows.received ≡ [] → HasBeginning s back.receiver.knows
     → WentThrough goes start back.handler (take (length back.receiver.knows.received) s.sent.published)
 went goes s start given back serving none has =
-    let works = serving.works in
-    let handed : HandsOut serving.batches (received_of given.knows) (received_of back.receiver.knows) = works.handed in
+    let works = serving.calls.holds.works in
+    let batches = batches_in serving.calls.calls in
+    let handed : HandsOut batches (received_of given.knows) (received_of back.receiver.knows) = works.handed in
     record {
-      batches = serving.batches;
+      batches = batches;
       through = works.through;
-      order = subst (λ (l : List Event). FollowFrom (length l) serving.batches) none handed.1;
-      dealt = sym (handed.0 ∙ ap (λ (l : List Event). l ++ dealt_events serving.batches) none) ∙ has.beginning;
+      order = subst (λ (l : List Event). FollowFrom (length l) batches) none handed.1;
+      dealt = sym (handed.0 ∙ ap (λ (l : List Event). l ++ dealt_events batches) none) ∙ has.beginning;
     }
 
 -- without a fault it went through all
@@ -166,6 +167,8 @@ module _ {A : Type 0} (goes : Relation Event A) (s : SenderEnd) (ws : List (Work
               let who : h ≡ 0 + h = omega arith in (
                 sym (who ∙ ap (λ (x : Ended). x.who) same),
                 λ fine. p.taken ∙ took_all goes s.knows (given_handler p.worker) (given_end p.worker) p.back p.serving p.has (ap (λ (x : Ended). x.fault) same ∙ fine),
+                λ stopped. p.serving.stopped (ap (λ (x : Ended). x.fault) same ∙ stopped),
+                λ memory. p.serving.memory (ap (λ (x : Ended). x.fault) same ∙ memory),
               );
           last = ap (λ (n : ℕ). drop n ran.endings.items) many ∙ ap (drop (length ss)) endings ∙ last_ending 0 ss (record { who = 16; fault = fault } ∷ []);
         }

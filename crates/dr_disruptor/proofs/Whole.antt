@@ -7,22 +7,25 @@ use Rattle.dr_core.specs.Calls.Handling.{Relation}
 use Rattle.dr_shared.specs.declared.ended.Ended.{Ended}
 use Rattle.dr_shared.specs.declared.fault.WorkFault.{WorkFault}
 use Rattle.dr_ring.specs.Calls.Ends.{SenderEnd}
+use Rattle.dr_ring.specs.Meaning.Moments.{fresh_sender}
+use Rattle.dr_ring.specs.Meaning.Shape.{Shape}
+use Rattle.dr_shared.specs.declared.producer.Produced.{Produced}
 use Rattle.dr_ring.proofs.Lists.{there, at_below, value_at}
 use Rattle.dr_disruptor.specs.declared.running.Ran.{Ran}
 use Rattle.dr_disruptor.specs.declared.fault.RunFault.{RunFault}
-use Rattle.dr_disruptor.specs.Running.{AllWentThrough, AreFine, IsRan, IsRanBy, IsRun, WentThrough, taken_in}
+use Rattle.dr_disruptor.specs.Running.{AllWentThrough, AreFine, IsRan, IsRanBy, IsRun, IsSending, WentThrough, taken_in}
 
 abbrev IsFine : Ended → Type 0
 IsFine e = e.fault ≡ None
 
-module _ {A : Type 0} (goes : Relation Event A) (upstreams : List (List ℕ)) (starts : List A) where
+module _ {A : Type 0} (goes : Relation Event A) (k : Shape) (starts : List A) where
   -- without a fault the sender had none
   sender_fine : (endings : List Ended) (n : ℕ) (fault : Option WorkFault) → AreFine endings → drop n endings ≡ record { who = 16; fault = fault } ∷ [] → fault ≡ None
   sender_fine endings n fault fine last =
       All-head IsFine (record { who = 16; fault = fault }) [] (subst (λ (l : List Ended). AreFine l) last (All-drop IsFine n endings fine))
 
   -- and each handler went through all that was sent
-  went_all : (sent : List Event) (fault : Option WorkFault) (ran : Ran A) → IsRan goes upstreams starts sent fault ran → AreFine ran.endings.items
+  went_all : (sent : List Event) (fault : Option WorkFault) (ran : Ran A) → IsRan goes k.upstreams starts sent fault ran → AreFine ran.endings.items
       → AllWentThrough goes sent starts ran.handlers.items
   went_all sent fault ran is fine = record {
     many = is.many;
@@ -37,47 +40,49 @@ module _ {A : Type 0} (goes : Relation Event A) (upstreams : List (List ℕ)) (s
         subst (λ (l : List Event). WentThrough goes start after l) all (is.each h start after at_start at_after);
   }
 
-  pub went_whole : (script : List Event) (ran : Ran A) → IsRun goes upstreams starts script ran → AreFine ran.endings.items
+  pub went_whole : (script : List Event) (ran : Ran A) → IsRun goes k starts script ran → AreFine ran.endings.items
       → AllWentThrough goes script starts ran.handlers.items
   went_whole script ran is fine =
-      let none = sender_fine ran.endings.items (length starts) is.sender fine is.came.last in
-      let all : take ran.settled.published script ≡ script = ap (λ (n : ℕ). take n script) (is.all none) ∙ take_all (length script) script (omega arith) in
-      subst (λ (l : List Event). AllWentThrough goes l starts ran.handlers.items) all (went_all (take ran.settled.published script) is.sender ran is.came fine)
+      let none = sender_fine ran.endings.items (length starts) is.produced.fault fine is.came.last in
+      let all : take is.produced.sent script ≡ script = ap (λ (n : ℕ). take n script) (is.all none) ∙ take_all (length script) script (omega arith) in
+      subst (λ (l : List Event). AllWentThrough goes l starts ran.handlers.items) all (went_all (take is.produced.sent script) is.produced.fault ran is.came fine)
 
   -- the first of a script, as many as were published
-  pub of_script : (script sent : List Event) (n : ℕ) (fault : Option WorkFault) (ran : Ran A) → n ≤ length script → sent ≡ take n script → (fault ≡ None → n ≡ length script)
-      → IsRan goes upstreams starts sent fault ran → IsRun goes upstreams starts script ran
-  of_script script sent n fault ran within is all done =
-      let many : ran.settled.published ≡ n = done.published ∙ ap length is ∙ length-take-le n script within in
-      record {
-        sender = fault;
-        sent = omega (arith, many, within);
-        all = λ fine. many ∙ all fine;
-        came = subst (λ (l : List Event). IsRan goes upstreams starts l fault ran) (is ∙ ap (λ (k : ℕ). take k script) (sym many)) done;
-      }
+  of_script : (script : List Event) (produced : Produced) (ran : Ran A) (sending : IsSending k script produced) → produced.sent ≤ length script
+      → (produced.fault ≡ None → produced.sent ≡ length script) → IsRan goes k.upstreams starts sending.back.knows.sent.published produced.fault ran → IsRun goes k starts script ran
+  of_script script produced ran sending within all done = record {
+    produced = produced;
+    sending = sending;
+    sent = done.published ∙ ap length sending.published ∙ length-take-le produced.sent script within;
+    within = within;
+    all = all;
+    came = subst (λ (l : List Event). IsRan goes k.upstreams starts l produced.fault ran) sending.published done;
+  }
 
-  pub run_of : (script sent : List Event) (n : ℕ) (fault : Option WorkFault) (us : List (List ℕ)) (hs : List A) (r : Result (Ran A) RunFault) → us ≡ upstreams → hs ≡ starts
-      → n ≤ length script → sent ≡ take n script → (fault ≡ None → n ≡ length script) → IfOk r (IsRan goes us hs sent fault) → IfOk r (IsRun goes upstreams starts script)
-  run_of script sent n fault us hs (Ok ran) graph given within is all done =
-      of_script script sent n fault ran within is all
-      (subst (λ (u : List (List ℕ)). IsRan goes u starts sent fault ran) graph (subst (λ (l : List A). IsRan goes us l sent fault ran) given done))
-  run_of script sent n fault us hs (Err e) graph given within is all done = tt
+  pub run_of : (script : List Event) (produced : Produced) (us : List (List ℕ)) (hs : List A) (r : Result (Ran A) RunFault) → us ≡ k.upstreams → hs ≡ starts
+      → (sending : IsSending k script produced) → produced.sent ≤ length script → (produced.fault ≡ None → produced.sent ≡ length script)
+      → IfOk r (IsRan goes us hs sending.back.knows.sent.published produced.fault) → IfOk r (IsRun goes k starts script)
+  run_of script produced us hs (Ok ran) graph given sending within all done =
+      of_script script produced ran sending within all
+      (subst (λ (u : List (List ℕ)). IsRan goes u starts sending.back.knows.sent.published produced.fault ran) graph
+      (subst (λ (l : List A). IsRan goes us l sending.back.knows.sent.published produced.fault ran) given done))
+  run_of script produced us hs (Err e) graph given sending within all done = tt
 
-  pub whole_of : (script : List Event) (r : Result (Ran A) RunFault) → IfOk r (IsRun goes upstreams starts script)
+  pub whole_of : (script : List Event) (r : Result (Ran A) RunFault) → IfOk r (IsRun goes k starts script)
       → IfOk r (λ ran. AreFine ran.endings.items → AllWentThrough goes script starts ran.handlers.items)
   whole_of script (Ok ran) is = went_whole script ran is
   whole_of script (Err e) is = tt
 
   pub run_by : (sends : SenderEnd → Option WorkFault → SenderEnd → Type 0) (s s' : SenderEnd) (fault : Option WorkFault) (us : List (List ℕ)) (hs : List A) (r : Result (Ran A) RunFault)
-      → us ≡ upstreams → hs ≡ starts → s.knows.sent.published ≡ [] → sends s fault s' → IfOk r (IsRan goes us hs s'.knows.sent.published fault)
-      → IfOk r (IsRanBy sends goes upstreams starts)
-  run_by sends s s' fault us hs (Ok ran) graph given none gave done = record {
+      → us ≡ k.upstreams → hs ≡ starts → s.knows ≡ fresh_sender k → sends s fault s' → IfOk r (IsRan goes us hs s'.knows.sent.published fault)
+      → IfOk r (IsRanBy sends goes k starts)
+  run_by sends s s' fault us hs (Ok ran) graph given fresh gave done = record {
     given = s;
     back = s';
     fault = fault;
-    none = none;
+    fresh = fresh;
     sending = gave;
     came = subst (λ (u : List (List ℕ)). IsRan goes u starts s'.knows.sent.published fault ran) graph
         (subst (λ (l : List A). IsRan goes us l s'.knows.sent.published fault ran) given done);
   }
-  run_by sends s s' fault us hs (Err e) graph given none gave done = tt
+  run_by sends s s' fault us hs (Err e) graph given fresh gave done = tt

@@ -1,16 +1,23 @@
 -- What came of a run: what each handler went through, and how the workers ended.
-use Rattle.std.specs.Prelude.{◌≡◌, ℕ, ◌<◌, ◌≤◌, List, [], ◌∷◌, length, take, drop, Option, None, Some, All, Contains}
+use Rattle.std.specs.Prelude.{◌≡◌, ◌≢◌, ℕ, ◌<◌, ◌≤◌, ◌/◌, max, List, [], ◌∷◌, length, take, drop, Option, None, Some, All, Contains}
 use mathlib.Core.Option.{some}
 use lib.ListN.{get_elem?}
 use Rattle.dr_seq.specs.declared.event.Event.{Event}
 use Rattle.dr_graph.specs.Meaning.Graph.{upstreams_of}
+use Rattle.dr_core.specs.Calls.Calling.{SomeCalls}
 use Rattle.dr_core.specs.Calls.Handling.{GoesThrough, Relation}
+use Rattle.dr_shared.specs.Calls.Serving as worker
+use Rattle.dr_shared.specs.declared.producer.Produced.{Produced}
 use Rattle.dr_shared.specs.Meaning.Work.{Dealt, FollowFrom, dealt_events, shown_of}
 use Rattle.dr_shared.specs.declared.fault.WorkFault.{WorkFault}
+use Rattle.dr_shared.specs.declared.fault.WorkFault.TheVariants as work
 use Rattle.dr_shared.specs.declared.ended.Ended.{Ended}
 use Rattle.dr_shared.specs.declared.ended.WorkerFault.{WorkerFault}
 use Rattle.dr_shared.specs.Meaning.FirstFault.{first_fault}
 use Rattle.dr_ring.specs.Calls.Ends.{SenderEnd}
+use Rattle.dr_ring.specs.Calls.Telling.{sender_does}
+use Rattle.dr_ring.specs.Meaning.Moments.{fresh_sender}
+use Rattle.dr_ring.specs.Meaning.Shape.{Shape}
 use Rattle.dr_ring.specs.Calls.Settling.{counts_at}
 use Rattle.dr_disruptor.specs.declared.running.Ran.{Ran}
 use Rattle.dr_disruptor.specs.declared.fault.RunFault.{RunFault}
@@ -49,26 +56,37 @@ pub record IsRan {A : Type 0} (goes : Relation Event A) (upstreams : List (List 
   pub taken : (h : ℕ) → h < length starts → taken_in ran h ≤ length sent
   -- and took no more than each handler that it follows completed
   pub follow : (h u : ℕ) → h < length starts → u < length starts → Contains (upstreams_of upstreams h) u → taken_in ran h ≤ completed_in ran u
-  -- a handler's ending stands at its number; without a fault it took all
-  pub ended : (h : ℕ) (e : Ended) → h < length starts → get_elem? ran.endings.items h ≡ some e → (e.who ≡ h) × (e.fault ≡ None → taken_in ran h ≡ length sent)
+  -- a handler's ending stands at its number; without a fault it took all, and only a refusal of its end is a fault
+  pub ended : (h : ℕ) (e : Ended) → h < length starts → get_elem? ran.endings.items h ≡ some e
+      → (e.who ≡ h) × (e.fault ≡ None → taken_in ran h ≡ length sent) × (e.fault ≢ Some work.Stopped) × (e.fault ≢ Some work.Memory)
   -- and the sender's after those
   pub last : drop (length starts) ran.endings.items ≡ record { who = 16; fault = sender } ∷ []
 
--- what came of a script: the sender published the first of its events, all of them where it ended without a fault
-pub record IsRun {A : Type 0} (goes : Relation Event A) (upstreams : List (List ℕ)) (starts : List A) (script : List Event) (ran : Ran A) : Type 0 where
-  pub sender : Option WorkFault
-  pub sent : ran.settled.published ≤ length script
-  pub all : sender ≡ None → ran.settled.published ≡ length script
-  pub came : IsRan goes upstreams starts (take ran.settled.published script) sender ran
+-- the sender of a new ring of this shape sent a script in claims of a quarter of the ring, and its calls came to this
+pub record IsSending (k : Shape) (script : List Event) (produced : Produced) : Type 0 where
+  pub given : SenderEnd
+  pub back : SenderEnd
+  pub fresh : given.knows ≡ fresh_sender k
+  pub calls : SomeCalls sender_does given back (worker.Sends (max (k.size / 4) 1) (length script) ⊥ (λ turn. ⊥) produced)
+  pub published : back.knows.sent.published ≡ take produced.sent script
 
--- what came of a closure's sending: it went from a new sender to one that published what was sent
-pub record IsRanBy {A : Type 0} (sends : SenderEnd → Option WorkFault → SenderEnd → Type 0) (goes : Relation Event A) (upstreams : List (List ℕ)) (starts : List A) (ran : Ran A) : Type 0 where
+-- what came of a script over a ring of this shape: the sender published the first of its events, all of them where it ended without a fault
+pub record IsRun {A : Type 0} (goes : Relation Event A) (k : Shape) (starts : List A) (script : List Event) (ran : Ran A) : Type 0 where
+  pub produced : Produced
+  pub sending : IsSending k script produced
+  pub sent : ran.settled.published ≡ produced.sent
+  pub within : produced.sent ≤ length script
+  pub all : produced.fault ≡ None → produced.sent ≡ length script
+  pub came : IsRan goes k.upstreams starts (take produced.sent script) produced.fault ran
+
+-- what came of a closure's sending: it went from the sender of a new ring of this shape to one that published what was sent
+pub record IsRanBy {A : Type 0} (sends : SenderEnd → Option WorkFault → SenderEnd → Type 0) (goes : Relation Event A) (k : Shape) (starts : List A) (ran : Ran A) : Type 0 where
   pub given : SenderEnd
   pub back : SenderEnd
   pub fault : Option WorkFault
-  pub none : given.knows.sent.published ≡ []
+  pub fresh : given.knows ≡ fresh_sender k
   pub sending : sends given fault back
-  pub came : IsRan goes upstreams starts back.knows.sent.published fault ran
+  pub came : IsRan goes k.upstreams starts back.knows.sent.published fault ran
 
 -- the fault that is the first of the workers'
 abbrev pub IsFirst : List Ended → RunFault → Type 0

@@ -1,24 +1,30 @@
 -- What a handler's worker promises, and what workers gave back.
-use Rattle.std.specs.Prelude.{◌≡◌, ℕ, ◌+◌, true, List, [], ◌∷◌, length, map, All, Some, IfNone}
+use Rattle.std.specs.Prelude.{◌≡◌, ◌≢◌, ℕ, ◌+◌, ◌^◌, true, List, [], ◌∷◌, length, map, All, Some, IfNone}
 use mathlib.Core.Option.{some}
 use lib.ListN.{get_elem?}
 use Rattle.std.specs.declared.thread.PromisedHandle.{PromisedHandle}
 use Rattle.dr_seq.specs.declared.event.Event.{Event}
+use Rattle.dr_core.specs.Calls.Calling.{SomeCalls}
 use Rattle.dr_core.specs.Calls.Handling.{Relation}
-use Rattle.dr_shared.specs.Meaning.Work.{Dealt, Works}
+use Rattle.dr_shared.specs.Calls.Serving as worker
 use Rattle.dr_ring.specs.Meaning.Shape.{Shape}
 use Rattle.dr_ring.specs.Calls.Ends.{SenderEnd, ReceiverEnd, sender_place, receiver_place, received_of}
 use Rattle.dr_ring.specs.Calls.Settling.{AreAllEnds}
+use Rattle.dr_ring.specs.Calls.Telling.{receiver_does}
+use Rattle.dr_ring.specs.Meaning.Moments.{fresh_sender}
 use Rattle.dr_shared.specs.declared.ended.Ended.{Ended}
+use Rattle.dr_shared.specs.declared.fault.WorkFault.TheVariants.{Memory, Stopped}
 use Rattle.dr_disruptor.specs.declared.served.Served.{Served}
 use Rattle.dr_disruptor.specs.declared.served.Serves.{Serves}
 
--- a worker took a handler through exactly what its end handed out, and gave both back; without a fault the end was told that the ring drained
+-- a worker's calls took a handler through exactly what its end handed out, and it gave both back with the fault that these calls came to; without one the end was told that the ring drained. With an open gate nobody stops it, and a ring's end takes no memory
 pub record Serving {A : Type 0} (goes : Relation Event A) (start : A) (given : ReceiverEnd) (back : Served A) : Type 0 where
   pub place : receiver_place back.receiver ≡ receiver_place given
-  pub batches : List (Dealt Event)
-  pub works : Works goes start back.handler (Some (received_of given.knows)) (Some (received_of back.receiver.knows)) batches
+  pub calls : SomeCalls receiver_does given back.receiver
+      (worker.Serves goes start back.handler (Some (received_of given.knows)) (Some (received_of back.receiver.knows)) ⊥ (λ turn. ⊥) back.fault)
   pub drained : IfNone back.fault (back.receiver.knows.told ≡ true)
+  pub stopped : back.fault ≢ Some Stopped
+  pub memory : back.fault ≢ Some Memory
 
 -- a handler's thread
 abbrev pub Worker : Type 0 → Type 0
@@ -51,10 +57,13 @@ pub record StaysAt (old new : SenderEnd) : Type 0 where
   pub place : sender_place new ≡ sender_place old
   pub published : new.knows.sent.published ≡ old.knows.sent.published
 
--- the sender of a new ring of this graph, and a worker for each handler, each with the end at its place
-pub record AreReady {A : Type 0} (upstreams : List (List ℕ)) (starts : List A) (sender : SenderEnd) (workers : List (Worker A)) : Type 0 where
-  pub graph : sender.knows.plan.upstreams ≡ upstreams
-  pub sent : sender.knows.sent.published ≡ []
+-- a ring of a graph and so many slots, for as many sequences as there may be
+abbrev pub shape_of : List (List ℕ) → ℕ → Shape
+shape_of upstreams size = record { upstreams = upstreams; size = size; limit = 2 ^ 62 }
+
+-- the sender of a new ring of this shape, and a worker for each handler, each with the end at its place
+pub record AreReady {A : Type 0} (k : Shape) (starts : List A) (sender : SenderEnd) (workers : List (Worker A)) : Type 0 where
+  pub begins : sender.knows ≡ fresh_sender k
   pub ends : AreAllEnds sender (map given_end workers)
   pub fresh : All (BeginsAt sender.knows.plan) (map given_end workers)
   pub handlers : map given_handler workers ≡ starts

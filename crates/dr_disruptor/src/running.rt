@@ -9,7 +9,7 @@ ghost use Rattle.dr_ring.specs.Calls.Ends.{SenderEnd, sender_place};
 ghost use Rattle.dr_ring.specs.Calls.Settling.{AreAllEnds};
 ghost use Rattle.dr_disruptor.specs.Refused.{refusal_of};
 ghost use Rattle.dr_disruptor.specs.Running.{AllWentThrough, AreFine, IsFirst, IsRan, IsRanBy, IsRun};
-ghost use Rattle.dr_disruptor.specs.Serving.{BeginsAt, given_end, given_handler};
+ghost use Rattle.dr_disruptor.specs.Serving.{BeginsAt, given_end, given_handler, shape_of};
 ghost use Rattle.dr_disruptor.specs.declared.fault.RunFault.TheVariants.{Memory};
 
 use crate::fault::RunFault;
@@ -101,7 +101,7 @@ pub fn run<R: Threads + Wait + Copy + Send + 'static, H: Handler<Event> + Drop +
     // Where no worker has a fault, each handler went through exactly the script.
     ensures whole { IfOk result (λ ran. AreFine ran.endings.items → AllWentThrough H.goes script.now handlers.items ran.handlers.items) }
     // And where one has, each went through a beginning of what was sent.
-    ensures run { IfOk result (IsRun H.goes graph.now.upstreams handlers.items script.now) }
+    ensures run { IfOk result (IsRun H.goes (shape_of graph.now.upstreams size) handlers.items script.now) }
     ensures refused { IfErr result (λ e. e ≡ refusal_of (length graph.now.upstreams) (length handlers.items)) }
 {
     let (mut sender, workers) = begin(rt, alloc, graph, size, handlers)?;
@@ -128,7 +128,7 @@ pub fn run_with<
     requires callable { F.IsAlwaysCallable send }
     // The closure does not put another ring's sender in the place of the one that it is given.
     requires place { (given : SenderEnd) (fault : Option WorkFault) (back : SenderEnd) → FnOnceReturnsAtMut F.FnOnce send given fault back → sender_place back ≡ sender_place given }
-    ensures ran { IfOk result (IsRanBy (FnOnceReturnsAtMut F.FnOnce send) H.goes graph.now.upstreams handlers.items) }
+    ensures ran { IfOk result (IsRanBy (FnOnceReturnsAtMut F.FnOnce send) H.goes (shape_of graph.now.upstreams size) handlers.items) }
     ensures refused { IfErr result (λ e. e ≡ refusal_of (length graph.now.upstreams) (length handlers.items)) }
 {
     let (mut sender, workers) = begin(rt, alloc, graph, size, handlers)?;

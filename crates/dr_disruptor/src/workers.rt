@@ -3,7 +3,7 @@
 ghost use Rattle.std.specs.Prelude.{◌≡◌, ◌++◌, ◌∷◌, [], All, IfErr, IfOk, OnOk, length, map};
 ghost use Rattle.dr_ring.specs.Calls.Settling.{AreAllEnds};
 ghost use Rattle.dr_disruptor.specs.Refused.{refusal_of};
-ghost use Rattle.dr_disruptor.specs.Serving.{AreKept, AreReady, StaysAt, endings_from, given_end, given_handler};
+ghost use Rattle.dr_disruptor.specs.Serving.{AreKept, AreReady, StaysAt, endings_from, given_end, given_handler, shape_of};
 
 use crate::fault::RunFault;
 use crate::served::{Served, Serves, serve};
@@ -79,7 +79,7 @@ pub(crate) fn begin<
     size: Size,
     handlers: Vec<H>,
 ) -> Result<(Sender, Vec<Worker<H>>), RunFault>
-    ensures ready { IfOk result (λ r. AreReady graph.now.upstreams handlers.items r.0 r.1.items) }
+    ensures ready { IfOk result (λ r. AreReady (shape_of graph.now.upstreams size) handlers.items r.0 r.1.items) }
     ensures refused { IfErr result (λ e. e ≡ refusal_of (length graph.now.upstreams) (length handlers.items)) }
 {
     let (expected, given) = (graph.len(), handlers.len());

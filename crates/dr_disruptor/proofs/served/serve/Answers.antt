@@ -1,10 +1,10 @@
-use Rattle.dr_shared.specs.Meaning.Work.{batches_in}
 use Rattle.dr_disruptor.proofs.served.serve.Goals as goal
 
 pub returns : goal.returns
 returns g c = record {
   place = c.consume-fault.ensures.kept;
-  batches = batches_in c.consume-fault.ensures.serves.calls;
-  works = c.consume-fault.ensures.serves.holds.works;
+  calls = c.consume-fault.ensures.serves;
   drained = c.consume-fault.ensures.drained;
+  stopped = c.consume-fault.ensures.stopped;
+  memory = c.consume-fault.ensures.waits;
 }
