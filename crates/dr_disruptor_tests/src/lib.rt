@@ -4,3 +4,4 @@
 
 #[cfg(test)]
 mod runs;
+pub mod work;

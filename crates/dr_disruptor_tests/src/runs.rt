@@ -1,32 +1,12 @@
 //! Runs in one call: a diamond, another number of handlers, and a closure that sends.
 
-use dr_core::Handler;
+use crate::work::Work;
 use dr_disruptor::{RunFault, run, run_with};
 use dr_graph::{Graph, GraphBuilder, GraphFault};
 use dr_seq::{Event, Size};
 use dr_shared::{OpenGate, produce};
 use std::alloc::Global;
 use std::test::Fail;
-
-/// Handlers of two kinds in one list: the sum of the first words, and the last one.
-#[derive(Clone, Copy, Debug, PartialEq, Eq)]
-pub enum Work {
-    Sum(u64),
-    Keep(u64),
-}
-
-impl Handler<Event> for Work {
-    ghost use Rattle.dr_disruptor_tests.specs.Goes.{WorkGoes};
-
-    ghost goes = { λ old event s end new. WorkGoes old event new };
-
-    fn on_event(&mut self, event: Event, _s: u64, _end: bool) {
-        *self = match *self {
-            Work::Sum(total) => Work::Sum(total.wrapping_add(event.first)),
-            Work::Keep(_) => Work::Keep(event.first),
-        };
-    }
-}
 
 /// Two handlers, and one after both.
 fn diamond(alloc: Global) -> Result<Graph, GraphFault> {
