@@ -102,13 +102,38 @@ def applied(edit, folder):
 
 
 def owner_of(head):
-    """Returns the name by which `rt` tells the methods of an `impl` or a trait: that of the type, and of the trait."""
-    head = re.sub(r"^(?:pub )?(?:unsafe )?(?:impl|trait)\s*", "", head)
-    while head.startswith("<") or re.search(r"<[^<>]*>", head):
-        head = re.sub(r"<[^<>]*>", "", head).strip()
-    trait, is_of, kind = head.partition(" for ")
-    names = [re.sub(r".*::", "", it.split(" where")[0].split(":")[0].strip(" &")) for it in (kind, trait) if it]
-    return "".join(names)
+    """Returns the name by which `rt` tells the methods of an `impl` or a trait: that of the type and then, of the trait and the
+    types that it is at, each name but those of parameters. A type that is itself a parameter is `Any`."""
+    head = re.sub(r"'\w+|\bwhere\b.*|^(?:pub )?(?:unsafe )?", "", head).strip()
+    if head.startswith("trait"):
+        return re.match(r"trait\s+(\w+)", head)[1]
+    generics, head = generics_of(head.removeprefix("impl").strip())
+    parameters = re.findall(r"(?:^|,)\s*(?:const )?(\w+)", without_arguments(generics))
+    trait, _, kind = head.rpartition(" for ")
+    kind = "Array" if kind.startswith("[") else name_of(re.match(r"(?:&\s*(?:mut )?)?([\w:]+)", kind)[1])
+    return ("Any" if kind in parameters else kind) + "".join(name_of(it) for it in re.findall(r"[\w:]+", trait) if it not in parameters)
+
+
+def generics_of(text):
+    """Parts a text after the `<..>` that it begins with, where it does."""
+    depth = 0
+    for at, sign in enumerate(text):
+        depth += (sign == "<") - (sign == ">")
+        if not depth:
+            return (text[1:at], text[at + 1 :].strip()) if at else ("", text)
+    return "", text
+
+
+def without_arguments(text):
+    while re.search(r"<[^<>]*>", text):
+        text = re.sub(r"<[^<>]*>", "", text)
+    return text
+
+
+def name_of(path):
+    """Returns the last word of a path, with a capital letter."""
+    word = path.rpartition("::")[2]
+    return word[:1].upper() + word[1:]
 
 
 def function_at(text, at):
