@@ -1,20 +1,44 @@
-//! How a run over a file ended.
+//! How a run ended.
 
 use dr_files::FileFault;
-use std::alloc::{AllocError, Global};
+use dr_replay::ReplayFault;
 
-/// The line of its fault, or no text where it ended well.
-pub fn fault_line(alloc: Global, ended: &Result<(), FileFault>) -> Result<String, AllocError> {
-    match ended {
-        Ok(()) => Ok(String::new(alloc)),
-        Err(fault) => fault.to_string(alloc),
-    }
+/// How a run ended: well, at a stream that failed, or otherwise.
+#[derive(Clone, Copy)]
+pub enum Ended {
+    Well,
+    Read,
+    Write,
+    Otherwise,
 }
 
-/// The status with which a program ends.
-pub fn status_of(ended: &Result<(), FileFault>) -> u8 {
-    match ended {
-        Ok(()) => 0,
-        Err(fault) => fault.status(),
+impl Ended {
+    pub fn of_drive(run: Result<(), FileFault>) -> Ended {
+        match run {
+            Ok(()) => Ended::Well,
+            Err(FileFault::Read) => Ended::Read,
+            Err(FileFault::Write) => Ended::Write,
+            Err(_) => Ended::Otherwise,
+        }
+    }
+
+    pub fn of_replay(run: Result<(), ReplayFault>) -> Ended {
+        match run {
+            Ok(()) => Ended::Well,
+            Err(ReplayFault::File(fault)) => Ended::of_drive(Err(fault)),
+            Err(_) => Ended::Otherwise,
+        }
+    }
+
+    pub fn is_well(self) -> bool {
+        matches!(self, Ended::Well)
+    }
+
+    pub fn is_read(self) -> bool {
+        matches!(self, Ended::Read)
+    }
+
+    pub fn is_write(self) -> bool {
+        matches!(self, Ended::Write)
     }
 }

@@ -1,6 +1,5 @@
-//! Tests of `dr_drive` and `dr_replay` by their public calls, of what no clause says: that runs over memory and over
-//! streams that fail end as they are to, and worked rows, whose values come from the rules of the formats and not from a
-//! run.
+//! Tests of `dr_drive` and `dr_replay` by their public calls, of what no clause says: that runs over streams that fail, and
+//! replays whose workers are stopped, end as they are to.
 #![tactic(auto)]
 
 #[cfg(test)]

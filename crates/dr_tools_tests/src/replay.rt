@@ -2,7 +2,4 @@
 
 mod by_threads;
 mod failing;
-mod files;
-mod merges;
-mod replayed;
 mod ways;

@@ -1,5 +1,6 @@
 //! A reader and a writer that fail at their k-th call, and count their calls.
 
+use crate::ended::Ended;
 use dr_files::Counted;
 use std::alloc::Global;
 use std::io;
@@ -107,27 +108,56 @@ fn stopped_there(slow: &Slow, whole: &[u8]) -> bool {
         && slow.taken.len() as u64 == slow.fails_at.saturating_sub(1)
 }
 
-/// Whether a run that writes this text meets the writer's failure. If so the writer took all bytes
-/// before that, and was called no more; if not, all: there is no answer where it is otherwise.
-pub fn meets_failure(writer: Counted<Slow>, whole: &[u8]) -> Option<bool> {
-    let meets = writer.faults() > 0;
-    let is_right = if meets {
-        let slow = call_on(writer)?;
-        stopped_there(&slow, whole) && slow.fails_at <= whole.len() as u64
-    } else {
+/// Whether a run that writes this text, and ended so, meets the writer's failure. If so the writer took all bytes before that,
+/// and was called no more; if not, all: there is no answer where it is otherwise.
+pub fn ends_as(ended: Ended, writer: Counted<Slow>, whole: &[u8]) -> Option<bool> {
+    if writer.faults() == 0 {
         let slow = writer.into_inner();
-        slow.taken.as_slice() == whole && slow.fails_at > whole.len() as u64
-    };
-    if is_right { Some(meets) } else { None }
-}
-
-/// How often a reader that failed was called, however it is called on: none where the next call is
-/// not answered with a failure.
-pub fn calls_of(mut reader: Counted<Failing<'_>>) -> Option<u64> {
-    let mut buf = [0u8; 4];
-    if reader.read(&mut buf).is_err() && reader.faults() == 2 {
-        Some(reader.into_inner().calls)
+        let took_all = slow.taken.as_slice() == whole && slow.fails_at > whole.len() as u64;
+        return if took_all && ended.is_well() {
+            Some(false)
+        } else {
+            None
+        };
+    }
+    let slow = call_on(writer)?;
+    let stopped = stopped_there(&slow, whole) && slow.fails_at <= whole.len() as u64;
+    if stopped && ended.is_write() {
+        Some(true)
     } else {
         None
     }
+}
+
+/// Whether a writer that takes whole pieces, and fails at its k-th call, took these bytes and was called so often. A run that
+/// `is_whole` ended well, and meets the failure when it is flushed once more.
+pub fn is_left_whole(
+    ended: Ended,
+    mut writer: Counted<Slow>,
+    taken: &[u8],
+    is_whole: bool,
+) -> bool {
+    if ended.is_well() != is_whole || ended.is_write() == is_whole {
+        return false;
+    }
+    if is_whole && writer.flush().is_ok() {
+        return false;
+    }
+    match call_on(writer) {
+        Some(slow) => slow.calls == slow.fails_at && slow.taken.as_slice() == taken,
+        None => false,
+    }
+}
+
+/// Whether a reader failed once, if a run met its failure, and was then called no more; and else not at all. However it is
+/// called on, the next call is answered with a failure too.
+pub fn is_left(mut reader: Counted<Failing<'_>>, meets: bool) -> bool {
+    if !meets {
+        return reader.faults() == 0;
+    }
+    let mut buf = [0u8; 4];
+    let failed_once = reader.faults() == 1;
+    let fails_on = reader.read(&mut buf).is_err() && reader.faults() == 2;
+    let failing = reader.into_inner();
+    failed_once && fails_on && failing.calls == failing.fails_at
 }

@@ -1,72 +1,64 @@
 //! Runs whose reader or writer fails at its k-th call, for every k until a run meets no failure.
 
-use crate::streams::{call_on, calls_of, failing_at, meets_failure, slow_at, whole_at};
+use crate::ended::Ended;
+use crate::streams::{Slow, ends_as, failing_at, is_left, is_left_whole, slow_at, whole_at};
 use dr_drive::drive;
-use dr_files::{Counted, FileFault};
+use dr_files::Counted;
 use std::alloc::Global;
-use std::io::Write;
-use std::process::Abort;
 
 const INPUT: &str = "ring,4,single\nwith,a\nstart\nclaim,0,1\nhalt\n";
 
 const OUTPUT: &str = "claimed 0 0\nhalting\n";
 
+// Whether a run meets a reader that fails at its k-th call if it is to. If so nothing is written, and the reader is called
+// no more.
+fn read_ends_so(alloc: Global, fails_at: u64, meets: bool) -> bool {
+    let mut reader = Counted::new(failing_at(INPUT, fails_at));
+    let mut writer = Counted::new(Vec::new(alloc));
+    let ended = Ended::of_drive(drive(alloc, &mut reader, &mut writer));
+    let output = writer.into_inner();
+    let wanted = if meets { "" } else { OUTPUT };
+    let is_written = output.as_slice() == wanted.as_bytes();
+    is_written && ended.is_read() == meets && ended.is_well() != meets && is_left(reader, meets)
+}
+
 #[test]
 fn reads_that_fail(rt: HostRuntime) {
-    let alloc = rt.alloc();
     for fails_at in 1..6 {
-        let mut reader = Counted::new(failing_at(INPUT, fails_at));
-        let mut writer = Counted::new(Vec::new(alloc));
-        let result = drive(alloc, &mut reader, &mut writer);
-        let output = writer.into_inner();
-        if fails_at < 5 {
-            assert!(rt; matches!(&result, Err(FileFault::Read)));
-            assert!(rt; reader.faults() == 1 && output.is_empty());
-            assert!(rt; matches!(calls_of(reader), Some(calls) if calls == fails_at));
-        } else {
-            assert!(rt; result.is_ok() && reader.faults() == 0);
-            assert!(rt; output.as_slice() == OUTPUT.as_bytes());
-        }
+        assert!(rt;
+            read_ends_so(rt.alloc(), fails_at, fails_at < 5),
+            "at {fails_at}"
+        );
     }
 }
 
-fn write_that_fails(rt: &impl Abort, alloc: Global, fails_at: u64, takes_nothing: bool) {
+// A run into a writer, with that writer.
+fn drive_into(alloc: Global, writer: Slow) -> (Ended, Counted<Slow>) {
     let mut reader = Counted::new(INPUT.as_bytes());
-    let mut writer = Counted::new(slow_at(alloc, fails_at, takes_nothing));
-    let result = drive(alloc, &mut reader, &mut writer);
-    match meets_failure(writer, OUTPUT.as_bytes()) {
-        Some(true) => assert!(rt; matches!(&result, Err(FileFault::Write))),
-        Some(false) => assert!(rt; result.is_ok()),
-        None => assert!(rt; false),
-    }
+    let mut writer = Counted::new(writer);
+    let ended = Ended::of_drive(drive(alloc, &mut reader, &mut writer));
+    (ended, writer)
+}
+
+fn write_ends_so(alloc: Global, fails_at: u64, takes_nothing: bool) -> bool {
+    let (ended, writer) = drive_into(alloc, slow_at(alloc, fails_at, takes_nothing));
+    ends_as(ended, writer, OUTPUT.as_bytes()).is_some()
 }
 
 #[test]
 fn writes_that_fail(rt: HostRuntime) {
     for fails_at in 1..22 {
-        write_that_fails(&rt, rt.alloc(), fails_at, false);
-        write_that_fails(&rt, rt.alloc(), fails_at, true);
+        assert!(rt; write_ends_so(rt.alloc(), fails_at, false), "at {fails_at}");
+        assert!(rt; write_ends_so(rt.alloc(), fails_at, true), "at {fails_at}");
     }
 }
 
-// A writer that takes whole pieces is called once a line, and not after it failed.
+// A writer that takes whole pieces is called once a line, and not after it failed. The third call is the flush.
 #[test]
 fn whole_writes_that_fail(rt: HostRuntime) {
-    let alloc = rt.alloc();
     for (fails_at, taken) in [(1, ""), (2, "claimed 0 0\n"), (3, OUTPUT)] {
-        let mut reader = Counted::new(INPUT.as_bytes());
-        let mut writer = Counted::new(whole_at(alloc, fails_at));
-        let result = drive(alloc, &mut reader, &mut writer);
-        let is_whole = taken == OUTPUT;
-        assert!(rt; matches!(&result, Err(FileFault::Write)) == !is_whole);
-        assert!(rt; result.is_ok() == is_whole);
-        // The third call is the flush.
-        assert!(rt; !is_whole || writer.flush().is_err());
-        let Some(whole) = call_on(writer) else {
-            assert!(rt; false);
-            return;
-        };
-        assert!(rt; whole.calls == fails_at);
-        assert_eq!(rt; whole.taken.as_slice(), taken.as_bytes());
+        let (ended, writer) = drive_into(rt.alloc(), whole_at(rt.alloc(), fails_at));
+        let is_right = is_left_whole(ended, writer, taken.as_bytes(), taken == OUTPUT);
+        assert!(rt; is_right, "at {fails_at}");
     }
 }

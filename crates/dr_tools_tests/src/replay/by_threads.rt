@@ -1,88 +1,18 @@
-//! Replays with threads, over the ring and behind the lock: worked files at each size, workers that
-//! run at the same time, and workers that are stopped.
+//! Replays with threads, over the ring and behind the lock: workers that run at the same time, and workers
+//! that are stopped.
 
-use crate::replay::files::{File, OF_ONE_PRODUCER, OF_TWO_PRODUCERS, text_of};
-use crate::replay::ways::{Replayed, WITH_THREADS, Way, by_plain, replay_by};
+use crate::replay::ways::{Replayed, WITH_THREADS, by_plain, replay_by};
+use dr_core::Refusal;
 use dr_files::FileFault;
 use dr_replay::ReplayFault;
-use dr_shared::{AuditFault, Gate, GateAnswer, OpenGate, WorkFault};
-use std::alloc::Global;
-use std::process::Abort;
-use std::sync::Wait;
+use dr_shared::{AuditFault, Gate, GateAnswer, WorkFault};
 use std::sync::atomic::{AtomicU64, Ordering};
 use std::test::Fail;
 use std::thread;
-use std::thread::Threads;
 
 // Ten deposits, on the accounts 1 to 10.
 const TEN: &str =
     "0,deposit,1,1\n0,deposit,2,2\n0,deposit,3,3\n0,deposit,4,4\n0,deposit,5,5\n0,deposit,6,6\n0,deposit,7,7\n0,deposit,8,8\n0,deposit,9,9\n0,deposit,10,10\n";
-
-fn check_report(
-    rt: &(impl Abort + Threads + Wait + Sync),
-    alloc: Global,
-    by: Way,
-    input: &str,
-    report: &[u8],
-) -> Result<(), Fail> {
-    for size in [1, 2, 4, 1024] {
-        let replayed = replay_by(rt, alloc, by, input, size, &OpenGate)?;
-        replayed.result?;
-        assert_eq!(rt; replayed.output.as_slice(), report, "of {input}");
-    }
-    Ok(())
-}
-
-fn check_files(
-    rt: &(impl Abort + Threads + Wait + Sync),
-    alloc: Global,
-    by: Way,
-    files: &[File],
-) -> Result<(), Fail> {
-    for file in files {
-        let input = text_of(alloc, file.operations)?;
-        let report = text_of(alloc, file.report)?;
-        check_report(rt, alloc, by, input.as_str(), report.as_bytes())?;
-    }
-    Ok(())
-}
-
-// Behind the lock the events of two producers are merged somehow: `merges` has them.
-#[test]
-fn worked_files(rt: HostRuntime) -> Result<(), Fail> {
-    check_files(&rt, rt.alloc(), Way::Ring, &OF_ONE_PRODUCER)?;
-    check_files(&rt, rt.alloc(), Way::Ring, &OF_TWO_PRODUCERS)?;
-    check_files(&rt, rt.alloc(), Way::Lock, &OF_ONE_PRODUCER)
-}
-
-#[test]
-fn one_producer_has_the_bytes_of_plain(rt: HostRuntime) -> Result<(), Fail> {
-    let moves = "0,deposit,1,100\n0,transfer,1,7,30\n0,transfer,1,8,71\n0,withdraw,7,30\n";
-    for by in WITH_THREADS {
-        for input in [TEN, moves] {
-            let report = by_plain(rt.alloc(), input, 4)?;
-            check_report(&rt, rt.alloc(), by, input, report.as_slice())?;
-        }
-    }
-    Ok(())
-}
-
-#[test]
-fn bad_records(rt: HostRuntime) -> Result<(), Fail> {
-    for by in WITH_THREADS {
-        for input in ["0,deposit,65536,1\n", "16,deposit,1,1\n"] {
-            let replayed = replay_by(&rt, rt.alloc(), by, input, 2, &OpenGate)?;
-            assert!(rt;
-                matches!(
-                    &replayed.result,
-                    Err(ReplayFault::File(FileFault::Input { k: 1, .. }))
-                )
-            );
-            assert!(rt; replayed.output.is_empty());
-        }
-    }
-    Ok(())
-}
 
 // A gate that holds journal and replica at their first batch until both have come.
 #[derive(Drop)]
@@ -237,35 +167,38 @@ fn two_that_are_stopped(rt: HostRuntime) -> Result<(), Fail> {
     Ok(())
 }
 
-// The text and the status of the faults of workers, and of one of the file.
+// The text and the status of the faults of workers, of one of the file, and of what an audit finds.
 #[test]
 fn lines_of_faults(rt: HostRuntime) -> Result<(), Fail> {
-    let alloc = rt.alloc();
-    let stopped = ReplayFault::Worker {
-        who: 16,
-        fault: WorkFault::Stopped,
-    };
-    let refused = ReplayFault::Worker {
-        who: 2,
-        fault: WorkFault::Refused(dr_core::Refusal::Halted),
-    };
-    assert_eq!(rt; stopped.to_string(alloc)?.as_str(), "stopped 16");
-    assert_eq!(rt; refused.to_string(alloc)?.as_str(), "worker-refused 2");
-    assert!(rt; stopped.status() == 5 && refused.status() == 5);
-    let read = ReplayFault::File(FileFault::Read);
-    assert_eq!(rt; read.to_string(alloc)?.as_str(), "cannot read");
-    assert!(rt; read.status() == 4);
+    let rows = [
+        (worker_fault(16, WorkFault::Stopped), "stopped 16", 5),
+        (
+            worker_fault(2, WorkFault::Refused(Refusal::Halted)),
+            "worker-refused 2",
+            5,
+        ),
+        (ReplayFault::File(FileFault::Read), "cannot read", 4),
+        (
+            ReplayFault::Audit(AuditFault::ScriptDiffers(3)),
+            "script-differs 3",
+            5,
+        ),
+        (
+            ReplayFault::Audit(AuditFault::NotDrained(2)),
+            "not-drained 2",
+            5,
+        ),
+    ];
+    for (fault, line, status) in &rows {
+        let text = fault.to_string(rt.alloc())?;
+        assert!(rt;
+            text.as_str() == *line && fault.status() == *status,
+            "{line}"
+        );
+    }
     Ok(())
 }
 
-// The text and the status of what an audit finds.
-#[test]
-fn lines_of_audit_faults(rt: HostRuntime) -> Result<(), Fail> {
-    let alloc = rt.alloc();
-    let differs = ReplayFault::Audit(AuditFault::ScriptDiffers(3));
-    let undrained = ReplayFault::Audit(AuditFault::NotDrained(2));
-    assert_eq!(rt; differs.to_string(alloc)?.as_str(), "script-differs 3");
-    assert_eq!(rt; undrained.to_string(alloc)?.as_str(), "not-drained 2");
-    assert!(rt; differs.status() == 5 && undrained.status() == 5);
-    Ok(())
+fn worker_fault(who: usize, fault: WorkFault) -> ReplayFault {
+    ReplayFault::Worker { who, fault }
 }

@@ -1,13 +1,11 @@
 //! Replays, by each way, whose reader or writer fails at its k-th call, for every k until a replay meets no
 //! failure.
 
+use crate::ended::Ended;
 use crate::replay::ways::{ALL, Streamed, Way, replay_streams};
-use crate::streams::{call_on, calls_of, failing_at, meets_failure, slow_at, whole_at};
-use dr_files::FileFault;
-use dr_replay::ReplayFault;
+use crate::streams::{ends_as, failing_at, is_left, is_left_whole, slow_at, whole_at};
 use dr_shared::OpenGate;
 use std::alloc::Global;
-use std::io::Write;
 use std::process::Abort;
 use std::sync::Wait;
 use std::test::Fail;
@@ -22,29 +20,27 @@ const OUTPUT: &str =
 // More calls than a replay makes of its reader or its writer.
 const MOST_CALLS: u64 = 1000;
 
-// Whether a replay meets a reader that fails at its k-th call. If so nothing is written, and the reader
-// is called no more.
+// Whether a replay meets a reader that fails at its k-th call. If so nothing is written, and the reader is called no more;
+// there is no answer where it is otherwise.
 fn meets_failed_read(
-    rt: &(impl Abort + Threads + Wait + Sync),
+    rt: &(impl Threads + Wait + Sync),
     alloc: Global,
     by: Way,
     fails_at: u64,
-) -> Result<bool, Fail> {
+) -> Result<Option<bool>, Fail> {
     let input = failing_at(INPUT, fails_at);
     let Streamed {
         reader,
         writer,
         result,
     } = replay_streams(rt, alloc, by, input, Vec::new(alloc), 2, &OpenGate)?;
+    let ended = Ended::of_replay(result);
+    let meets = !ended.is_well();
+    let wanted = if meets { "" } else { OUTPUT };
     let output = writer.into_inner();
-    if result.is_ok() {
-        assert!(rt; reader.faults() == 0 && output.as_slice() == OUTPUT.as_bytes());
-        return Ok(false);
-    }
-    assert!(rt; matches!(&result, Err(ReplayFault::File(FileFault::Read))));
-    assert!(rt; reader.faults() == 1 && output.is_empty());
-    assert!(rt; matches!(calls_of(reader), Some(calls) if calls == fails_at));
-    Ok(true)
+    let is_written = output.as_slice() == wanted.as_bytes();
+    let is_right = is_written && ended.is_read() == meets && is_left(reader, meets);
+    Ok(if is_right { Some(meets) } else { None })
 }
 
 fn check_reads(
@@ -53,9 +49,11 @@ fn check_reads(
     by: Way,
 ) -> Result<(), Fail> {
     for fails_at in 1..MOST_CALLS {
-        if !meets_failed_read(rt, alloc, by, fails_at)? {
+        let meets = meets_failed_read(rt, alloc, by, fails_at)?;
+        assert!(rt; meets.is_some(), "at {fails_at}");
+        if meets == Some(false) {
             // One call for each record, and one that finds the end.
-            assert_eq!(rt; fails_at, 4);
+            assert!(rt; fails_at == 4);
             return Ok(());
         }
     }
@@ -70,15 +68,15 @@ fn reads_that_fail(rt: HostRuntime) -> Result<(), Fail> {
     Ok(())
 }
 
-// Whether a replay meets a writer that takes a byte a call, and fails at its k-th call, or takes nothing
-// there.
+// Whether a replay meets a writer that takes a byte a call, and fails at its k-th call, or takes nothing there: no answer where
+// it does not end as it is to.
 fn meets_failed_write(
-    rt: &(impl Abort + Threads + Wait + Sync),
+    rt: &(impl Threads + Wait + Sync),
     alloc: Global,
     by: Way,
     fails_at: u64,
     takes_nothing: bool,
-) -> Result<bool, Fail> {
+) -> Result<Option<bool>, Fail> {
     let output = slow_at(alloc, fails_at, takes_nothing);
     let Streamed { writer, result, .. } = replay_streams(
         rt,
@@ -89,12 +87,7 @@ fn meets_failed_write(
         2,
         &OpenGate,
     )?;
-    let met = meets_failure(writer, OUTPUT.as_bytes());
-    assert!(rt; met.is_some());
-    let meets = met.unwrap_or(false);
-    assert!(rt; matches!(&result, Err(ReplayFault::File(FileFault::Write))) == meets);
-    assert!(rt; result.is_ok() == !meets);
-    Ok(meets)
+    Ok(ends_as(Ended::of_replay(result), writer, OUTPUT.as_bytes()))
 }
 
 fn check_writes(
@@ -105,8 +98,8 @@ fn check_writes(
     for fails_at in 1..MOST_CALLS {
         let fails = meets_failed_write(rt, alloc, by, fails_at, false)?;
         let takes_nothing = meets_failed_write(rt, alloc, by, fails_at, true)?;
-        assert!(rt; fails == takes_nothing);
-        if !fails {
+        assert!(rt; fails.is_some() && fails == takes_nothing, "at {fails_at}");
+        if fails == Some(false) {
             return Ok(());
         }
     }
@@ -121,38 +114,37 @@ fn writes_that_fail(rt: HostRuntime) -> Result<(), Fail> {
     Ok(())
 }
 
-// A writer that takes whole pieces is called once for the report, and not after it failed.
-fn check_whole_writes(
-    rt: &(impl Abort + Threads + Wait + Sync),
+// A writer that takes whole pieces is called once for the report, and not after it failed. The second call is the flush.
+fn whole_write_ends_so(
+    rt: &(impl Threads + Wait + Sync),
     alloc: Global,
     by: Way,
-) -> Result<(), Fail> {
-    for (fails_at, taken) in [(1, ""), (2, OUTPUT)] {
-        let output = whole_at(alloc, fails_at);
-        let Streamed {
-            mut writer,
-            result,
-            ..
-        } = replay_streams(rt, alloc, by, INPUT.as_bytes(), output, 2, &OpenGate)?;
-        let is_whole = taken == OUTPUT;
-        assert!(rt; matches!(&result, Err(ReplayFault::File(FileFault::Write))) == !is_whole);
-        assert!(rt; result.is_ok() == is_whole);
-        // The second call is the flush.
-        assert!(rt; !is_whole || writer.flush().is_err());
-        let Some(whole) = call_on(writer) else {
-            assert!(rt; false);
-            return Ok(());
-        };
-        assert!(rt; whole.calls == fails_at);
-        assert_eq!(rt; whole.taken.as_slice(), taken.as_bytes());
-    }
-    Ok(())
+    fails_at: u64,
+) -> Result<bool, Fail> {
+    let output = whole_at(alloc, fails_at);
+    let Streamed { writer, result, .. } = replay_streams(
+        rt,
+        alloc,
+        by,
+        INPUT.as_bytes(),
+        output,
+        2,
+        &OpenGate,
+    )?;
+    let is_whole = fails_at > 1;
+    let taken = if is_whole { OUTPUT } else { "" };
+    Ok(is_left_whole(Ended::of_replay(result), writer, taken.as_bytes(), is_whole))
 }
 
 #[test]
 fn whole_writes_that_fail(rt: HostRuntime) -> Result<(), Fail> {
     for by in ALL {
-        check_whole_writes(&rt, rt.alloc(), by)?;
+        for fails_at in [1, 2] {
+            assert!(rt;
+                whole_write_ends_so(&rt, rt.alloc(), by, fails_at)?,
+                "at {fails_at}"
+            );
+        }
     }
     Ok(())
 }
