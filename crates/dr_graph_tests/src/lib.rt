@@ -4,3 +4,5 @@
 
 #[cfg(test)]
 mod graphs;
+#[cfg(test)]
+mod rows;
