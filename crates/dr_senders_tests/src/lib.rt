@@ -7,4 +7,6 @@ mod answers;
 #[cfg(test)]
 mod ends;
 #[cfg(test)]
+mod rows;
+#[cfg(test)]
 mod settling;
