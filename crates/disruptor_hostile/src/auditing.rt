@@ -1,19 +1,18 @@
 //! Audits of a history.
 
 use crate::again::again;
-use crate::core_calls::{word, write};
+use crate::core_calls::write;
 use crate::fault::Fault;
 use crate::recording::{call, recorded};
+use dr_core::Command;
 use dr_core::Command::{Claim, Poll, Publish};
 use dr_seq::Event;
-use dr_shared::{Recorded, audit};
+use dr_shared::{AuditFault, Recorded, audit};
 use std::alloc::Global;
 
-/// Producer 1 sent 5 and 6, and producer 0 then 4.
-fn sent(alloc: Global) -> Result<Recorded<Event>, Fault> {
-    let mut recorded = recorded(alloc, 0, 0)?;
-    let mut out = [Event::NONE; 8];
-    for command in [
+/// Producer 1 sends 5 and 6, and producer 0 then 4.
+fn sending() -> [Command<Event>; 7] {
+    [
         Claim { p: 1, n: 2 },
         write(1, 0, 5),
         write(1, 1, 6),
@@ -21,10 +20,46 @@ fn sent(alloc: Global) -> Result<Recorded<Event>, Fault> {
         Claim { p: 0, n: 1 },
         write(0, 2, 4),
         Publish { p: 0, lo: 2, hi: 2 },
-    ] {
-        call(&mut recorded, command, &mut out)?;
+    ]
+}
+
+const FOUR: Event = Event {
+    first: 4,
+    second: 0,
+};
+
+const FIVE: Event = Event {
+    first: 5,
+    second: 0,
+};
+
+const SIX: Event = Event {
+    first: 6,
+    second: 0,
+};
+
+/// What each producer is to have sent, and scripts of which the second lacks an event.
+const SCRIPTS: [&[Event]; 2] = [&[FOUR], &[FIVE, SIX]];
+
+const TOO_SHORT: [&[Event]; 2] = [&[FOUR], &[FIVE]];
+
+fn send_all(recorded: &mut Recorded<Event>) -> Result<(), Fault> {
+    let mut out = [Event::NONE; 8];
+    for command in sending() {
+        call(recorded, command, &mut out)?;
     }
+    Ok(())
+}
+
+fn sent(alloc: Global) -> Result<Recorded<Event>, Fault> {
+    let mut recorded = recorded(alloc, 0, 0)?;
+    send_all(&mut recorded)?;
     Ok(recorded)
+}
+
+fn tell_list<R: Print>(rt: &R, list: &[Event]) -> Result<(), Fault> {
+    println!(rt; "{list:?}")?;
+    Ok(())
 }
 
 fn tell_audit<R: Print>(
@@ -33,28 +68,47 @@ fn tell_audit<R: Print>(
     recorded: &Recorded<Event>,
     scripts: &[&[Event]],
 ) -> Result<(), Fault> {
-    match again(rt, || Ok(audit(alloc, recorded, scripts)?)) {
-        Ok(list) => {
-            let list = list.as_slice();
-            println!(rt; "{list:?}")?;
+    match again!(
+        rt,
+        Err(AuditFault::NoMemory),
+        audit(alloc, recorded, scripts)
+    ) {
+        Ok(list) => tell_list(rt, list.as_slice()),
+        Err(AuditFault::NoMemory) => Err(Fault::Memory),
+        Err(fault) => {
+            println!(rt; "{fault}")?;
+            Ok(())
         }
-        Err(Fault::Audit(fault)) => println!(rt; "{fault}")?,
-        Err(fault) => return Err(fault),
     }
+}
+
+fn poll<R: Print>(rt: &R, recorded: &mut Recorded<Event>, h: usize) -> Result<(), Fault> {
+    let mut out = [Event::NONE; 8];
+    again!(
+        rt,
+        Err(Fault::Memory),
+        call(recorded, Poll { h, max: 8 }, &mut out)
+    )?;
     Ok(())
 }
 
 /// Audits that answer each fault, and one that answers the list.
-pub fn tell_audits<R: Print>(rt: &R, alloc: Global) -> Result<(), Fault> {
-    let (first, second) = ([word(4)], [word(5), word(6)]);
-    let scripts = [&first[..], &second[..]];
-    let mut recorded = again(rt, || sent(alloc))?;
-    tell_audit(rt, alloc, &recorded, &[&first[..], &second[..1]])?;
-    tell_audit(rt, alloc, &recorded, &scripts)?;
-    let mut out = [Event::NONE; 8];
-    for h in [0, 1] {
-        again(rt, || call(&mut recorded, Poll { h, max: 8 }, &mut out))?;
-        tell_audit(rt, alloc, &recorded, &scripts)?;
+fn tell_audits_of<R: Print>(
+    rt: &R,
+    alloc: Global,
+    recorded: &mut Recorded<Event>,
+) -> Result<(), Fault> {
+    tell_audit(rt, alloc, recorded, &TOO_SHORT)?;
+    tell_audit(rt, alloc, recorded, &SCRIPTS)?;
+    for h in 0..2 {
+        poll(rt, recorded, h)?;
+        tell_audit(rt, alloc, recorded, &SCRIPTS)?;
     }
     Ok(())
+}
+
+/// The same, of a history of its own.
+pub fn tell_audits<R: Print>(rt: &R, alloc: Global) -> Result<(), Fault> {
+    let mut recorded = again!(rt, Err(Fault::Memory), sent(alloc))?;
+    tell_audits_of(rt, alloc, &mut recorded)
 }

@@ -17,18 +17,19 @@ enum Call<'a> {
     Edge(&'a str, &'a str),
 }
 
+fn both(builder: &GraphBuilder, first: &Group, names: &[&str]) -> Result<Group, GraphFault> {
+    let second = builder.after(names)?;
+    builder.and(first, &second)
+}
+
 fn make(builder: &mut GraphBuilder, current: &mut Group, call: &Call) -> Result<(), GraphFault> {
-    let group = match call {
+    *current = match call {
         Call::With(names) => builder.handle_with(*names)?,
         Call::Then(names) => builder.then(&*current, *names)?,
         Call::After(names) => builder.after(*names)?,
-        Call::And(names) => {
-            let second = builder.after(*names)?;
-            builder.and(&*current, &second)?
-        }
+        Call::And(names) => both(&*builder, &*current, *names)?,
         Call::Edge(up, down) => return builder.edge(*up, *down),
     };
-    *current = group;
     Ok(())
 }
 
@@ -38,53 +39,69 @@ fn tell_call<R: Print>(
     current: &mut Group,
     call: &Call,
 ) -> Result<(), Fault> {
-    match again(rt, || Ok(make(builder, current, call)?)) {
+    match again!(rt, Err(GraphFault::NoMemory), make(builder, current, call)) {
         Ok(()) => println!(rt; "done {call:?}")?,
-        Err(Fault::Graph(fault)) => println!(rt; "{fault} {call:?}")?,
-        Err(fault) => return Err(fault),
+        Err(GraphFault::NoMemory) => return Err(Fault::Memory),
+        Err(fault) => println!(rt; "{fault} {call:?}")?,
+    }
+    Ok(())
+}
+
+const CALLS: [Call; 15] = [
+    Call::Then(&["c"]),
+    Call::With(&["d", "a"]),
+    Call::With(&["d", "e f"]),
+    Call::With(&[]),
+    Call::After(&["a", "a"]),
+    Call::Then(&["d"]),
+    Call::After(&["z"]),
+    Call::After(&["c"]),
+    Call::And(&["d"]),
+    Call::Then(&["e"]),
+    Call::Edge("a", "z"),
+    Call::Edge("b", "d"),
+    Call::Edge("b", "d"),
+    Call::With(&["f", "g", "h", "i", "j", "k", "l", "m", "n", "o", "p"]),
+    Call::With(&["q"]),
+];
+
+fn tell_calls<R: Print>(rt: &R, builder: &mut GraphBuilder) -> Result<(), Fault> {
+    let mut current = again!(
+        rt,
+        Err(GraphFault::NoMemory),
+        builder.handle_with(&["a", "b"])
+    )?;
+    for call in &CALLS {
+        tell_call(rt, builder, &mut current, call)?;
     }
     Ok(())
 }
 
 /// Makes each call of a builder, and refused ones between them, which change nothing.
 pub fn tell_builder<R: Print>(rt: &R, alloc: Global) -> Result<(), Fault> {
-    let calls = [
-        Call::Then(&["c"]),
-        Call::With(&["d", "a"]),
-        Call::With(&["d", "e f"]),
-        Call::With(&[]),
-        Call::After(&["a", "a"]),
-        Call::Then(&["d"]),
-        Call::After(&["z"]),
-        Call::After(&["c"]),
-        Call::And(&["d"]),
-        Call::Then(&["e"]),
-        Call::Edge("a", "z"),
-        Call::Edge("b", "d"),
-        Call::Edge("b", "d"),
-        Call::With(&["f", "g", "h", "i", "j", "k", "l", "m", "n", "o", "p"]),
-        Call::With(&["q"]),
-    ];
     let mut builder = GraphBuilder::new(alloc);
-    let mut current = again(rt, || Ok(builder.handle_with(&["a", "b"])?))?;
-    for call in &calls {
-        tell_call(rt, &mut builder, &mut current, call)?;
-    }
-    tell_graph(rt, &builder.build()?)
+    tell_calls(rt, &mut builder)?;
+    let graph = builder.build()?;
+    tell_graph(rt, &graph)
 }
 
-/// Declares some handlers with edges between them, and builds.
-fn built(alloc: Global) -> Result<Graph, Fault> {
-    let mut builder = GraphBuilder::new(alloc);
+/// Declares some handlers with edges between them.
+fn declare(builder: &mut GraphBuilder) -> Result<(), GraphFault> {
     let all = builder.handle_with(&["a", "b", "c", "d"])?;
     builder.then(&all, &["e"])?;
     builder.edge("d", "a")?;
-    builder.edge("c", "b")?;
-    Ok(builder.build()?)
+    builder.edge("c", "b")
+}
+
+/// Declares them, and builds.
+fn built(alloc: Global) -> Result<Graph, GraphFault> {
+    let mut builder = GraphBuilder::new(alloc);
+    declare(&mut builder)?;
+    builder.build()
 }
 
 /// Builds, with a builder of its own each time.
 pub fn tell_built<R: Print>(rt: &R, alloc: Global) -> Result<(), Fault> {
-    let graph = again(rt, || built(alloc))?;
+    let graph = again!(rt, Err(GraphFault::NoMemory), built(alloc))?;
     tell_graph(rt, &graph)
 }

@@ -9,10 +9,9 @@ use crate::recording::{tell_calls, tell_recorded};
 use crate::ring_calls::tell_ring;
 use crate::taking_none::{tell_core, tell_ends, tell_kept};
 use std::alloc::Global;
-use std::fmt;
 
 /// What is called.
-#[derive(Clone, Copy, Debug, PartialEq, Eq)]
+#[derive(Clone, Copy)]
 pub enum Case {
     /// Each call of a builder, refused ones among them.
     Builder,
@@ -71,13 +70,12 @@ impl Case {
 
     /// The case of a name, where there is one.
     pub fn named(name: &str) -> Option<Case> {
-        Case::ALL.into_iter().find(|case| case.name() == name)
-    }
-}
-
-impl fmt::Display for Case {
-    fn fmt<W: fmt::Write>(&self, f: &mut fmt::Formatter<W>) -> fmt::Result {
-        f.write_str(self.name())
+        for case in Case::ALL {
+            if case.name() == name {
+                return Some(case);
+            }
+        }
+        None
     }
 }
 

@@ -4,9 +4,9 @@ use crate::again::again;
 use crate::fault::Fault;
 use crate::graphs::{diamond, side_by_side};
 use dr_core::Command::{Claim, Poll, Publish, Write};
-use dr_core::{Command, Core, MAX_LIMIT, Mode, run};
+use dr_core::{Command, Core, MAX_LIMIT, Mode, Ran, run};
 use dr_seq::{Event, Size};
-use std::alloc::Global;
+use std::alloc::{AllocError, Global};
 
 pub const fn word(first: u64) -> Event {
     Event { first, second: 0 }
@@ -41,24 +41,26 @@ fn tell_core_of<R: Print>(rt: &R, core: &mut Core<Event>) -> Result<(), Fault> {
     Ok(())
 }
 
+fn tell_opened_in<R: Print>(rt: &R, alloc: Global, mode: Mode) -> Result<(), Fault> {
+    let mut core = again!(rt, Err(Fault::Memory), opened(alloc, mode))?;
+    tell_core_of(rt, &mut core)
+}
+
 /// Opens cores, whose graph is spent each time, and sends three events through each.
 pub fn tell_opened<R: Print>(rt: &R, alloc: Global) -> Result<(), Fault> {
-    for mode in [Mode::Single, Mode::Multi(2)] {
-        let mut core = again(rt, || opened(alloc, mode))?;
-        tell_core_of(rt, &mut core)?;
-    }
-    Ok(())
+    tell_opened_in(rt, alloc, Mode::Single)?;
+    tell_opened_in(rt, alloc, Mode::Multi(2))
 }
 
 fn open_for_two(alloc: Global) -> Result<Core<Event>, Fault> {
-    let graph = side_by_side(alloc, &["a"])?;
     let size = Size::new(4)?;
+    let graph = side_by_side(alloc, &["a"])?;
     Ok(Core::open(alloc, graph, size, Mode::Multi(2), MAX_LIMIT, Event::NONE)?)
 }
 
-/// A run in which producer 1 publishes first, and the handler waits at the gap that producer 0 has left.
-pub fn tell_run<R: Print>(rt: &R, alloc: Global) -> Result<(), Fault> {
-    let commands = [
+/// Producer 1 publishes first, and the handler waits at the gap that producer 0 has left.
+fn commands() -> [Command<Event>; 9] {
+    [
         Claim { p: 0, n: 1 },
         Claim { p: 1, n: 2 },
         write(1, 1, 5),
@@ -68,13 +70,26 @@ pub fn tell_run<R: Print>(rt: &R, alloc: Global) -> Result<(), Fault> {
         write(0, 0, 4),
         Publish { p: 0, lo: 0, hi: 0 },
         Poll { h: 0, max: 8 },
-    ];
-    let mut core = again(rt, || open_for_two(alloc))?;
-    let ran = again(rt, || Ok(run(alloc, &mut core, &commands)?))?;
+    ]
+}
+
+fn tell_ran<R: Print>(rt: &R, ran: &Ran<Event>) -> Result<(), Fault> {
     for reply in &ran.replies {
         println!(rt; "{reply:?}")?;
     }
     let values = ran.values.as_slice();
     println!(rt; "{values:?}")?;
     Ok(())
+}
+
+fn tell_run_over<R: Print>(rt: &R, alloc: Global, core: &mut Core<Event>) -> Result<(), Fault> {
+    let commands = commands();
+    let ran = again!(rt, Err(AllocError), run(alloc, core, &commands))?;
+    tell_ran(rt, &ran)
+}
+
+/// A run of these commands.
+pub fn tell_run<R: Print>(rt: &R, alloc: Global) -> Result<(), Fault> {
+    let mut core = again!(rt, Err(Fault::Memory), open_for_two(alloc))?;
+    tell_run_over(rt, alloc, &mut core)
 }

@@ -5,56 +5,47 @@ use dr_graph::GraphFault;
 use dr_ring::RingFault;
 use dr_seq::SizeFault;
 use dr_shared::AuditFault;
-use std::alloc::{AllocError, AllocFailed};
-use std::io;
-use thiserror::Error;
+use std::alloc::AllocError;
+use std::{fmt, io};
 
 /// Why a call gave nothing, or the program ends early. Its text is the line that it prints.
-#[derive(Clone, Copy, Debug, PartialEq, Eq, Error)]
+#[derive(Clone, Copy)]
 pub enum Fault {
-    #[error("usage: disruptor_hostile CASE, or disruptor_hostile all")]
     Usage,
-    #[error("no-memory")]
     Memory,
-    #[error("cannot write")]
     Outside,
-    #[error("{0}")]
-    Graph(GraphFault),
-    #[error("{0}")]
-    Open(OpenFault),
-    #[error("{0}")]
-    Ring(RingFault),
-    #[error("{0}")]
-    Audit(AuditFault),
-    #[error("{0}")]
-    Refused(Refusal),
-    #[error("bad-size")]
-    Size,
+    /// A call of the library was refused, with a fault of this name.
+    Refused(&'static str),
     /// A poll of the program's own that asks for more events than it has room for.
-    #[error("no room for a batch")]
     Room,
 }
 
 impl Fault {
     /// The status with which the program ends.
-    pub fn status(&self) -> u8 {
+    pub fn status(self) -> u8 {
         match self {
             Fault::Usage => 1,
             Fault::Memory => 3,
             Fault::Outside => 4,
-            _ => 5,
+            Fault::Refused(_) | Fault::Room => 5,
         }
+    }
+}
+
+impl fmt::Display for Fault {
+    fn fmt<W: fmt::Write>(&self, f: &mut fmt::Formatter<W>) -> fmt::Result {
+        f.write_str(match self {
+            Fault::Usage => "usage: disruptor_hostile CASE, or disruptor_hostile all",
+            Fault::Memory => "no-memory",
+            Fault::Outside => "cannot write",
+            Fault::Refused(name) => name,
+            Fault::Room => "no room for a batch",
+        })
     }
 }
 
 impl From<AllocError> for Fault {
     fn from(_: AllocError) -> Fault {
-        Fault::Memory
-    }
-}
-
-impl<T: Drop> From<AllocFailed<T>> for Fault {
-    fn from(_: AllocFailed<T>) -> Fault {
         Fault::Memory
     }
 }
@@ -73,7 +64,7 @@ impl From<GraphFault> for Fault {
     fn from(fault: GraphFault) -> Fault {
         match fault {
             GraphFault::NoMemory => Fault::Memory,
-            _ => Fault::Graph(fault),
+            _ => Fault::Refused(fault.name()),
         }
     }
 }
@@ -82,7 +73,7 @@ impl From<OpenFault> for Fault {
     fn from(fault: OpenFault) -> Fault {
         match fault {
             OpenFault::NoMemory => Fault::Memory,
-            _ => Fault::Open(fault),
+            _ => Fault::Refused(fault.name()),
         }
     }
 }
@@ -91,7 +82,7 @@ impl From<RingFault> for Fault {
     fn from(fault: RingFault) -> Fault {
         match fault {
             RingFault::NoMemory => Fault::Memory,
-            _ => Fault::Ring(fault),
+            _ => Fault::Refused(fault.name()),
         }
     }
 }
@@ -100,19 +91,19 @@ impl From<AuditFault> for Fault {
     fn from(fault: AuditFault) -> Fault {
         match fault {
             AuditFault::NoMemory => Fault::Memory,
-            _ => Fault::Audit(fault),
+            _ => Fault::Refused(fault.name()),
         }
     }
 }
 
 impl From<Refusal> for Fault {
     fn from(refusal: Refusal) -> Fault {
-        Fault::Refused(refusal)
+        Fault::Refused(refusal.name())
     }
 }
 
 impl From<SizeFault> for Fault {
-    fn from(_: SizeFault) -> Fault {
-        Fault::Size
+    fn from(fault: SizeFault) -> Fault {
+        Fault::Refused(fault.name())
     }
 }

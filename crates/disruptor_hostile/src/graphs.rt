@@ -1,22 +1,27 @@
 //! The graphs that the cases open exchanges for.
 
 use crate::fault::Fault;
-use dr_graph::{Graph, GraphBuilder};
+use dr_graph::{Graph, GraphBuilder, GraphFault};
 use std::alloc::Global;
 
 /// Handlers side by side.
-pub fn side_by_side(alloc: Global, names: &[&str]) -> Result<Graph, Fault> {
+pub fn side_by_side(alloc: Global, names: &[&str]) -> Result<Graph, GraphFault> {
     let mut builder = GraphBuilder::new(alloc);
     builder.handle_with(names)?;
-    Ok(builder.build()?)
+    builder.build()
+}
+
+fn declare_diamond(builder: &mut GraphBuilder) -> Result<(), GraphFault> {
+    let both = builder.handle_with(&["a", "b"])?;
+    builder.then(&both, &["c"])?;
+    Ok(())
 }
 
 /// Two handlers, and one after both.
-pub fn diamond(alloc: Global) -> Result<Graph, Fault> {
+pub fn diamond(alloc: Global) -> Result<Graph, GraphFault> {
     let mut builder = GraphBuilder::new(alloc);
-    let both = builder.handle_with(&["a", "b"])?;
-    builder.then(&both, &["c"])?;
-    Ok(builder.build()?)
+    declare_diamond(&mut builder)?;
+    builder.build()
 }
 
 /// Tells each handler of a graph, with its upstreams.

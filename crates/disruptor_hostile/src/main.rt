@@ -25,7 +25,8 @@ use std::rt::Runtime;
 
 fn tell_all<R: Print>(rt: &R, alloc: Global) -> Result<(), Fault> {
     for case in Case::ALL {
-        println!(rt; "case {case}")?;
+        let name = case.name();
+        println!(rt; "case {name}")?;
         tell(rt, alloc, case)?;
     }
     Ok(())

@@ -55,12 +55,16 @@ fn tell_finals<R: Print>(rt: &R, graph: &Graph) -> Result<(), Fault> {
     Ok(())
 }
 
-/// Every call of slots, rounds, a remembered count and a graph.
-pub fn tell_parts<R: Print>(rt: &R, alloc: Global) -> Result<(), Fault> {
-    let size = Size::new(4)?;
-    let mut slots = Slots::new(alloc, size, Event::NONE)?;
-    let mut rounds = Rounds::new(alloc, size)?;
-    let graph = diamond(alloc)?;
+fn tell_all<R: Print>(
+    rt: &R,
+    size: Size,
+    slots: &mut Slots<Event>,
+    rounds: &mut Rounds,
+    graph: &Graph,
+) -> Result<(), Fault>
+    requires slots { length slots.old ≡ 4 }
+    requires rounds { length rounds.old ≡ 4 }
+{
     println!(rt; "open")?;
     println!(rt;
         "slot {} in round {} of {}",
@@ -68,10 +72,19 @@ pub fn tell_parts<R: Print>(rt: &R, alloc: Global) -> Result<(), Fault> {
         size.round(6),
         size.get()
     )?;
-    tell_slots(rt, &mut slots)?;
-    tell_rounds(rt, &mut rounds)?;
+    tell_slots(rt, slots)?;
+    tell_rounds(rt, rounds)?;
     tell_gate(rt)?;
-    tell_graph(rt, &graph)?;
-    tell_finals(rt, &graph)?;
+    tell_graph(rt, graph)?;
+    tell_finals(rt, graph)
+}
+
+/// Every call of slots, rounds, a remembered count and a graph.
+pub fn tell_parts<R: Print>(rt: &R, alloc: Global) -> Result<(), Fault> {
+    let size = Size::new(4)?;
+    let mut slots = Slots::new(alloc, size, Event::NONE)?;
+    let mut rounds = Rounds::new(alloc, size)?;
+    let graph = diamond(alloc)?;
+    tell_all(rt, size, &mut slots, &mut rounds, &graph)?;
     tell_memory(rt, alloc)
 }

@@ -25,8 +25,8 @@ fn room(command: Command<Event>) -> usize
 
 /// Two handlers and two producers, over four slots, with room for so many entries and events.
 pub fn recorded(alloc: Global, entries: usize, events: usize) -> Result<Recorded<Event>, Fault> {
-    let graph = side_by_side(alloc, &["a", "b"])?;
     let size = Size::new(4)?;
+    let graph = side_by_side(alloc, &["a", "b"])?;
     let mode = Mode::Multi(2);
     Ok(Recorded::open(
         alloc,
@@ -76,17 +76,21 @@ pub fn commands() -> [Command<Event>; 17] {
     ]
 }
 
-/// Opens a history, whose graph is spent each time, and tells how it begins.
-pub fn tell_recorded<R: Print>(rt: &R, alloc: Global) -> Result<(), Fault> {
-    let mut recorded = again(rt, || recorded(alloc, 4, 2))?;
+fn tell_beginning<R: Print>(rt: &R, recorded: &mut Recorded<Event>) -> Result<(), Fault> {
     let entries = recorded.history().len();
     let producers = recorded.producers();
     let handlers = recorded.graph().len();
     println!(rt; "{entries} entries, {producers} producers, {handlers} handlers")?;
     let mut out = [Event::NONE; 8];
-    let reply = call(&mut recorded, Claim { p: 1, n: 4 }, &mut out)?;
+    let reply = call(recorded, Claim { p: 1, n: 4 }, &mut out)?;
     println!(rt; "{reply:?}")?;
     Ok(())
+}
+
+/// Opens a history, whose graph is spent each time, and tells how it begins.
+pub fn tell_recorded<R: Print>(rt: &R, alloc: Global) -> Result<(), Fault> {
+    let mut recorded = again!(rt, Err(Fault::Memory), recorded(alloc, 4, 2))?;
+    tell_beginning(rt, &mut recorded)
 }
 
 fn tell_call<R: Print>(
@@ -95,17 +99,15 @@ fn tell_call<R: Print>(
     command: Command<Event>,
 ) -> Result<(), Fault> {
     let mut out = [Event::NONE; 8];
-    let reply = again(rt, || call(recorded, command, &mut out))?;
+    let reply = again!(rt, Err(Fault::Memory), call(recorded, command, &mut out))?;
     let kept = recorded.history().len();
     println!(rt; "{reply:?} {kept}")?;
     Ok(())
 }
 
-/// Makes calls of a history that has no room to begin with, and tells what it kept.
-pub fn tell_calls<R: Print>(rt: &R, alloc: Global) -> Result<(), Fault> {
-    let mut recorded = again(rt, || recorded(alloc, 0, 0))?;
+fn tell_calls_of<R: Print>(rt: &R, recorded: &mut Recorded<Event>) -> Result<(), Fault> {
     for command in commands() {
-        tell_call(rt, &mut recorded, command)?;
+        tell_call(rt, recorded, command)?;
     }
     for entry in recorded.history() {
         println!(rt; "{entry:?}")?;
@@ -113,4 +115,10 @@ pub fn tell_calls<R: Print>(rt: &R, alloc: Global) -> Result<(), Fault> {
     let values = recorded.values();
     println!(rt; "{values:?}")?;
     Ok(())
+}
+
+/// Makes calls of a history that has no room to begin with, and tells what it kept.
+pub fn tell_calls<R: Print>(rt: &R, alloc: Global) -> Result<(), Fault> {
+    let mut recorded = again!(rt, Err(Fault::Memory), recorded(alloc, 0, 0))?;
+    tell_calls_of(rt, &mut recorded)
 }

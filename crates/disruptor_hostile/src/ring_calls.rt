@@ -5,7 +5,8 @@ use crate::core_calls::word;
 use crate::fault::Fault;
 use crate::graphs::{diamond, tell_graph};
 use dr_core::MAX_LIMIT;
-use dr_ring::{Receiver, Sender, ring};
+use dr_graph::{Graph, GraphFault};
+use dr_ring::{Halter, Receiver, RingFault, Sender, ring};
 use dr_seq::{Event, Size};
 use std::alloc::Global;
 
@@ -26,23 +27,42 @@ fn receive<R: Print>(rt: &R, receiver: &mut Receiver) -> Result<(), Fault> {
     Ok(())
 }
 
-/// Makes a ring, sends two events through it, and closes.
-pub fn tell_ring<R: Print>(rt: &R, alloc: Global) -> Result<(), Fault> {
-    let graph = again(rt, || diamond(alloc))?;
-    let size = Size::new(4)?;
-    let (mut sender, mut receivers, mut halter) = again(
-        rt,
-        || Ok(ring(alloc, &graph, size, MAX_LIMIT)?),
-    )?;
-    send(rt, &mut sender)?;
+fn tell_polls<R: Print>(rt: &R, receivers: &mut [Receiver]) -> Result<(), Fault> {
+    for receiver in receivers.iter_mut() {
+        println!(rt; "{:?}", receiver.poll_into(&mut [Event::NONE]))?;
+    }
+    Ok(())
+}
+
+fn send_and_close<R: Print>(
+    rt: &R,
+    sender: &mut Sender,
+    receivers: &mut [Receiver],
+    halter: &mut Halter,
+) -> Result<(), Fault> {
+    send(rt, sender)?;
     for receiver in receivers.iter_mut() {
         receive(rt, receiver)?;
     }
     halter.halt();
     println!(rt; "{:?}", sender.try_claim(1))?;
     sender.close()?;
-    for receiver in receivers.iter_mut() {
-        println!(rt; "{:?}", receiver.poll_into(&mut [Event::NONE]))?;
-    }
+    tell_polls(rt, receivers)
+}
+
+fn tell_ring_over<R: Print>(rt: &R, alloc: Global, graph: &Graph) -> Result<(), Fault> {
+    let size = Size::new(4)?;
+    let (mut sender, mut receivers, mut halter) = again!(
+        rt,
+        Err(RingFault::NoMemory),
+        ring(alloc, graph, size, MAX_LIMIT)
+    )?;
+    send_and_close(rt, &mut sender, receivers.as_mut_slice(), &mut halter)
+}
+
+/// Makes a ring, sends two events through it, and closes.
+pub fn tell_ring<R: Print>(rt: &R, alloc: Global) -> Result<(), Fault> {
+    let graph = again!(rt, Err(GraphFault::NoMemory), diamond(alloc))?;
+    tell_ring_over(rt, alloc, &graph)?;
     tell_graph(rt, &graph)
 }

@@ -8,10 +8,11 @@ use crate::recording::{call, commands, recorded};
 use dr_core::{Command, Core, Handler, MAX_LIMIT, Mode, processor_turn};
 use dr_ring::{Halter, Receiver, Sender, ring};
 use dr_seq::{Event, Size};
+use dr_shared::Recorded;
 use std::alloc::Global;
 
 /// Counts the events that it is shown.
-#[derive(Clone, Copy, Debug, PartialEq, Eq)]
+#[derive(Clone, Copy, Debug)]
 struct Count {
     shown: u64,
 }
@@ -86,13 +87,17 @@ fn tell_counts<R: Print>(rt: &R, core: &Core<Event>) -> Result<(), Fault> {
     Ok(())
 }
 
+fn tell_calls_of_core<R: Print>(rt: &R, core: &mut Core<Event>) -> Result<(), Fault> {
+    println!(rt; "open")?;
+    tell_sending(rt, core)?;
+    tell_receiving(rt, core)?;
+    tell_counts(rt, core)
+}
+
 /// Every call of a core.
 pub fn tell_core<R: Print>(rt: &R, alloc: Global) -> Result<(), Fault> {
     let mut core = opened(alloc, Mode::Multi(2))?;
-    println!(rt; "open")?;
-    tell_sending(rt, &mut core)?;
-    tell_receiving(rt, &mut core)?;
-    tell_counts(rt, &core)?;
+    tell_calls_of_core(rt, &mut core)?;
     tell_memory(rt, alloc)
 }
 
@@ -136,29 +141,44 @@ fn tell_end<R: Print>(
     Ok(())
 }
 
-/// Every call of a ring's ends.
-pub fn tell_ends<R: Print>(rt: &R, alloc: Global) -> Result<(), Fault> {
-    let graph = diamond(alloc)?;
-    let (mut sender, mut receivers, mut halter) = ring(alloc, &graph, Size::new(4)?, MAX_LIMIT)?;
+fn tell_calls_of_ends<R: Print>(
+    rt: &R,
+    sender: &mut Sender,
+    receivers: &mut [Receiver],
+    halter: &mut Halter,
+) -> Result<(), Fault> {
     println!(rt; "open")?;
-    tell_sender(rt, &mut sender)?;
+    tell_sender(rt, sender)?;
     for receiver in receivers.iter_mut() {
         tell_receiver(rt, receiver)?;
     }
-    tell_end(rt, &mut sender, receivers.as_mut_slice(), &mut halter)?;
+    tell_end(rt, sender, receivers, halter)
+}
+
+/// Every call of a ring's ends.
+pub fn tell_ends<R: Print>(rt: &R, alloc: Global) -> Result<(), Fault> {
+    let size = Size::new(4)?;
+    let graph = diamond(alloc)?;
+    let (mut sender, mut receivers, mut halter) = ring(alloc, &graph, size, MAX_LIMIT)?;
+    tell_calls_of_ends(rt, &mut sender, receivers.as_mut_slice(), &mut halter)?;
     tell_memory(rt, alloc)
+}
+
+fn tell_calls_kept<R: Print>(rt: &R, recorded: &mut Recorded<Event>) -> Result<(), Fault> {
+    println!(rt; "open")?;
+    for command in commands() {
+        let mut out = [Event::NONE; 8];
+        let reply = call(recorded, command, &mut out)?;
+        println!(rt; "{reply:?}")?;
+    }
+    let kept = recorded.history().len();
+    println!(rt; "{kept} {:?}", recorded.values())?;
+    Ok(())
 }
 
 /// The calls of a history that has room for all that it is to keep.
 pub fn tell_kept<R: Print>(rt: &R, alloc: Global) -> Result<(), Fault> {
     let mut recorded = recorded(alloc, 17, 8)?;
-    println!(rt; "open")?;
-    for command in commands() {
-        let mut out = [Event::NONE; 8];
-        let reply = call(&mut recorded, command, &mut out)?;
-        println!(rt; "{reply:?}")?;
-    }
-    let kept = recorded.history().len();
-    println!(rt; "{kept} {:?}", recorded.values())?;
+    tell_calls_kept(rt, &mut recorded)?;
     tell_memory(rt, alloc)
 }
