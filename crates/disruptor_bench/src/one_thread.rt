@@ -13,7 +13,7 @@ use std::rt::Clock;
 use std::time::{Duration, Instant};
 
 /// How events go through: so many claims, and then a turn for each handler.
-#[derive(Clone, Copy, Debug, PartialEq, Eq)]
+#[derive(Clone, Copy)]
 struct Lap {
     claims: u64,
     claim: u64,
@@ -112,16 +112,17 @@ impl<const MORE: usize> OneThread<MORE> {
                 return Ok(Round { events, time });
             }
         }
-        Err(Fault::NoEnd)
+        Err(Fault::NO_END)
     }
 
     /// Whether each handler added up all that was ever published.
     pub fn check(&self) -> Result<(), Fault> {
         let total = sum_of_first(self.core.next());
-        if self.sums.iter().all(|sum| sum.total == total) {
-            Ok(())
-        } else {
-            Err(Fault::WrongSum)
+        for sum in &self.sums {
+            if sum.total != total {
+                return Err(Fault::WRONG_SUM);
+            }
         }
+        Ok(())
     }
 }

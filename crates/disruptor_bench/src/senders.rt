@@ -24,7 +24,7 @@ fn start_senders(
     let mut producers = Vec::new(alloc);
     for mut sender in senders {
         let Ok(producer) = thread::spawn(rt, move || stretch(&mut sender, n)) else {
-            return Err(Fault::Thread);
+            return Err(Fault::THREAD);
         };
         producers.push(producer)?;
     }

@@ -36,7 +36,7 @@ fn receive<O: Outlet<Event> + Drop>(mut receiver: O, mut room: Vec<Event>) -> Re
             Polled::Gating | Polled::Idle => waiting.wait(),
         }
     }
-    Err(Fault::NoEnd)
+    Err(Fault::NO_END)
 }
 
 /// The sum of the first events of a batch, as it wraps.
@@ -58,7 +58,7 @@ fn claim<I: Inlet<Event>>(sender: &mut I, n: u64) -> Result<Claimed, Fault> {
             Err(trouble) => return Err(trouble.into()),
         }
     }
-    Err(Fault::NoEnd)
+    Err(Fault::NO_END)
 }
 
 /// Claims, writes and publishes once.
@@ -92,7 +92,7 @@ fn send_for(clock: &impl Clock, sender: &mut Sender, n: u64, time: Duration) -> 
             return Ok(events);
         }
     }
-    Err(Fault::NoEnd)
+    Err(Fault::NO_END)
 }
 
 /// Starts a thread for each handler.
@@ -106,7 +106,7 @@ pub fn start<O: Outlet<Event> + Drop + Send + 'static>(
     for receiver in receivers {
         let room = vec![in alloc; Event::NONE; room]?;
         let Ok(handler) = thread::spawn(rt, move || receive(receiver, room)) else {
-            return Err(Fault::Thread);
+            return Err(Fault::THREAD);
         };
         handlers.push(handler)?;
     }
@@ -118,7 +118,7 @@ pub fn finish(rt: &impl Threads, handlers: Vec<Handler>, events: u64) -> Result<
     let total = sum_of_first(events);
     for handler in handlers {
         if handler.join(rt)? != total {
-            return Err(Fault::WrongSum);
+            return Err(Fault::WRONG_SUM);
         }
     }
     Ok(())

@@ -46,12 +46,6 @@ struct Task<L: Ledger> {
     end: End<L>,
 }
 
-/// What a producer gives back. That it sent all is seen by what the handlers added up.
-#[derive(Drop)]
-pub struct Sent<L: Ledger> {
-    pub end: End<L>,
-}
-
 /// What a handler gives back.
 #[derive(Drop)]
 pub struct Handled<L: Ledger> {
@@ -63,17 +57,17 @@ pub struct Handled<L: Ledger> {
 #[derive(Drop)]
 pub struct Joined<L: Ledger> {
     pub halter: End<L>,
-    pub sent: Vec<Sent<L>>,
+    pub producers: Vec<End<L>>,
     pub handled: Vec<Handled<L>>,
 }
 
-fn send<L: Exchange<Event>, R: Wait>(around: &Around<'_, L, R>, task: Task<L>) -> Sent<L> {
+/// That a producer sent all is seen by what the handlers added up.
+fn send<L: Exchange<Event>, R: Wait>(around: &Around<'_, L, R>, task: Task<L>) -> End<L> {
     let Task { k, end } = task;
     let mut inlet = LockedInlet::new(around.rt, around.shared, end, k as u64);
     let cut = around.cut.max(1);
     let _sent = produce(around.rt, &mut inlet, &OpenGate, k, around.script, cut);
-    let end = inlet.into_end();
-    Sent { end }
+    inlet.into_end()
 }
 
 fn handle<L: Exchange<Event>, R: Wait>(around: &Around<'_, L, R>, task: Task<L>) -> Handled<L> {
@@ -105,7 +99,7 @@ fn gather<T: Drop, L: Exchange<Event>, R: Threads + Wait>(
 ) -> Result<Vec<T>, Fault> {
     let all = join_all(around.rt, around.alloc, started)?;
     if all.len() < count {
-        return Err(Fault::Thread);
+        return Err(Fault::THREAD);
     }
     Ok(all)
 }
@@ -114,11 +108,11 @@ fn gather<T: Drop, L: Exchange<Event>, R: Threads + Wait>(
 fn send_all<L: Exchange<Event> + Send + Sync, R: Threads + Wait + Sync>(
     around: &Around<'_, L, R>,
     ends: Vec<End<L>>,
-) -> Result<Vec<Sent<L>>, Fault> {
+) -> Result<Vec<End<L>>, Fault> {
     thread::scope(
         thread::scope_env(),
         around.rt,
-        move |scope| -> Result<Vec<Sent<L>>, Fault>
+        move |scope| -> Result<Vec<End<L>>, Fault>
             requires shared { IsSync L.row }
             requires workers { IsSync R.row }
         {
@@ -164,13 +158,13 @@ pub fn exchange<L: Exchange<Event> + Send + Sync, R: Threads + Wait + Sync>(
             let sent = if started.len() == count {
                 send_all(around, producers)
             } else {
-                Err(Fault::Thread)
+                Err(Fault::THREAD)
             };
             halt(around.rt, around.shared, &mut halter);
             let handled = gather(around, started, count)?;
             Ok(Joined {
                 halter,
-                sent: sent?,
+                producers: sent?,
                 handled,
             })
         },
