@@ -36,7 +36,7 @@ fn producers<L: Exchange<Event>>(
     for p in 0..count {
         all.push(Producer {
             p,
-            end: shared.end().ok_or(Fault::Ends)?,
+            end: shared.end().ok_or(Fault::ENDS)?,
             random: random.split(),
             sending: Sending::new(alloc, p, size, in_order, random.split()),
         })?;
@@ -54,7 +54,7 @@ fn handlers<L: Exchange<Event>>(
     for h in 0..count {
         all.push(Handler {
             h,
-            end: shared.end().ok_or(Fault::Ends)?,
+            end: shared.end().ok_or(Fault::ENDS)?,
             random: random.split(),
             receiving: Receiving::new(alloc, random)?,
             leaves: random.below(4) == 0,
@@ -99,19 +99,32 @@ fn views<'a>(alloc: Global, scripts: &'a [Vec<Event>]) -> Result<Vec<&'a [Event]
     Ok(all)
 }
 
+fn told(
+    alloc: Global,
+    recorded: &Recorded<Event>,
+    scripts: &[Vec<Event>],
+    received: &[Received],
+) -> Result<Told, Fault> {
+    let views = views(alloc, scripts)?;
+    let list = audit(alloc, recorded, views.as_slice())?;
+    Told::of(list.as_slice(), received)
+}
+
 /// Compares what each handler received with the one list of the audit.
 fn audited<L: Exchange<Event>>(
     alloc: Global,
     shared: Shared<Event, L>,
     joined: Joined<L>,
 ) -> Result<Told, Fault> {
-    let gathered = gather(alloc, joined)?;
-    let Ok(recorded) = finish(shared, gathered.ends) else {
-        return Err(Fault::Ends);
-    };
-    let views = views(alloc, gathered.scripts.as_slice())?;
-    let list = audit(alloc, &recorded, views.as_slice())?;
-    Told::of(list.as_slice(), gathered.received.as_slice())
+    let Gathered {
+        ends,
+        scripts,
+        received,
+    } = gather(alloc, joined)?;
+    match finish(shared, ends) {
+        Ok(recorded) => told(alloc, &recorded, scripts.as_slice(), received.as_slice()),
+        Err(_) => Err(Fault::ENDS),
+    }
 }
 
 /// A core with a random graph and up to three producers, their mode, and its slots.
@@ -147,7 +160,7 @@ fn round_over<L: Exchange<Event> + Send + Sync, R: Threads + Wait + Sync>(
     let parties = Parties {
         producers: producers(alloc, &mut shared, mode, slots, random)?,
         handlers: handlers(alloc, &mut shared, count, random)?,
-        halter: shared.end().ok_or(Fault::Ends)?,
+        halter: shared.end().ok_or(Fault::ENDS)?,
         random: random.split(),
     };
     let signs = Signs::new();

@@ -6,123 +6,155 @@ use dr_ring::RingFault;
 use dr_seq::SizeFault;
 use dr_shared::AuditFault;
 use std::alloc::{AllocError, AllocFailed};
-use std::io;
-use thiserror::Error;
+use std::{fmt, io};
 
-/// Why the program ends early. Its text is the line that it prints.
-#[derive(Debug, Drop, Error)]
-pub enum Fault {
-    #[error("usage: disruptor_halts SEED ROUNDS")]
-    Usage,
-    #[error("no-memory")]
-    Memory,
-    #[error("cannot write")]
-    Outside,
-    #[error("no thread")]
-    Thread,
-    #[error("{0}")]
-    Graph(GraphFault),
-    #[error("{0}")]
-    Ring(RingFault),
-    #[error("{0}")]
-    Open(OpenFault),
-    /// An end is missing.
-    #[error("no end of the exchange")]
-    Ends,
-    /// The history is not what the producers sent, or a handler that is not retired lacks some of it.
-    #[error("{0}")]
-    Audit(AuditFault),
-    /// A call was refused that was to succeed.
-    #[error("{0}")]
-    Refused(Refusal),
-    /// A call had a reply that it never has.
-    #[error("wrong reply")]
-    WrongReply,
-    /// Two producers sent at one sequence, or none did.
-    #[error("wrong sequence")]
-    WrongSequence,
-    /// A handler received an event that was not published at its sequence, or out of order.
-    #[error("wrong event")]
-    WrongEvent,
-    /// A handler was told `Drained` with less than was published.
-    #[error("wrong count")]
-    WrongCount,
-    /// A loop had more turns than there are.
-    #[error("a loop with no end")]
-    NoEnd,
+/// Why the program ends early: the line that it prints, and the status with which it ends.
+#[derive(Clone, Copy)]
+pub struct Fault {
+    line: &'static str,
+    pub status: u8,
 }
 
 impl Fault {
-    /// The status with which the program ends.
-    pub fn status(&self) -> u8 {
-        match self {
-            Fault::Usage => 1,
-            Fault::Memory | Fault::Graph(_) | Fault::Ring(_) | Fault::Open(_) => 3,
-            Fault::Outside | Fault::Thread => 4,
-            _ => 5,
-        }
+    pub const USAGE: Fault = Fault {
+        line: "usage: disruptor_halts SEED ROUNDS",
+        status: 1,
+    };
+
+    pub const MEMORY: Fault = Fault {
+        line: "no-memory",
+        status: 3,
+    };
+
+    pub const OUTSIDE: Fault = Fault {
+        line: "cannot write",
+        status: 4,
+    };
+
+    pub const THREAD: Fault = Fault {
+        line: "no thread",
+        status: 4,
+    };
+
+    /// An end is missing.
+    pub const ENDS: Fault = Fault {
+        line: "no end of the exchange",
+        status: 5,
+    };
+
+    /// A call had a reply that it never has.
+    pub const WRONG_REPLY: Fault = Fault {
+        line: "wrong reply",
+        status: 5,
+    };
+
+    /// Two producers sent at one sequence, or none did.
+    pub const WRONG_SEQUENCE: Fault = Fault {
+        line: "wrong sequence",
+        status: 5,
+    };
+
+    /// A handler received an event that was not published at its sequence, or out of order.
+    pub const WRONG_EVENT: Fault = Fault {
+        line: "wrong event",
+        status: 5,
+    };
+
+    /// A handler was told `Drained` with less than was published.
+    pub const WRONG_COUNT: Fault = Fault {
+        line: "wrong count",
+        status: 5,
+    };
+
+    /// A loop had more turns than there are.
+    pub const NO_END: Fault = Fault {
+        line: "a loop with no end",
+        status: 5,
+    };
+}
+
+impl fmt::Display for Fault {
+    fn fmt<W: fmt::Write>(&self, f: &mut fmt::Formatter<W>) -> fmt::Result {
+        f.write_str(self.line)
     }
 }
 
 impl From<AllocError> for Fault {
     fn from(_: AllocError) -> Fault {
-        Fault::Memory
+        Fault::MEMORY
     }
 }
 
 impl<T: Drop> From<AllocFailed<T>> for Fault {
     fn from(_: AllocFailed<T>) -> Fault {
-        Fault::Memory
+        Fault::MEMORY
     }
 }
 
 impl From<io::Error> for Fault {
     fn from(_: io::Error) -> Fault {
-        Fault::Outside
+        Fault::OUTSIDE
     }
 }
 
 impl From<GraphFault> for Fault {
     fn from(fault: GraphFault) -> Fault {
-        Fault::Graph(fault)
+        Fault {
+            line: fault.name(),
+            status: 3,
+        }
     }
 }
 
 impl From<RingFault> for Fault {
     fn from(fault: RingFault) -> Fault {
-        Fault::Ring(fault)
+        Fault {
+            line: fault.name(),
+            status: 3,
+        }
     }
 }
 
 impl From<OpenFault> for Fault {
     fn from(fault: OpenFault) -> Fault {
-        Fault::Open(fault)
+        Fault {
+            line: fault.name(),
+            status: 3,
+        }
     }
 }
 
+/// The history is not what the producers sent, or a handler that is not retired lacks some of it.
 impl From<AuditFault> for Fault {
     fn from(fault: AuditFault) -> Fault {
-        Fault::Audit(fault)
+        Fault {
+            line: fault.name(),
+            status: 5,
+        }
+    }
+}
+
+/// A call was refused that was to succeed.
+impl From<Refusal> for Fault {
+    fn from(refusal: Refusal) -> Fault {
+        Fault {
+            line: refusal.name(),
+            status: 5,
+        }
     }
 }
 
 impl From<Trouble> for Fault {
     fn from(trouble: Trouble) -> Fault {
         match trouble {
-            Trouble::Refused(refusal) => Fault::Refused(refusal),
-            Trouble::Memory => Fault::Memory,
+            Trouble::Refused(refusal) => Fault::from(refusal),
+            Trouble::Memory => Fault::MEMORY,
         }
-    }
-}
-
-impl From<Refusal> for Fault {
-    fn from(refusal: Refusal) -> Fault {
-        Fault::Refused(refusal)
     }
 }
 
 impl From<SizeFault> for Fault {
     fn from(_: SizeFault) -> Fault {
-        Fault::Usage
+        Fault::USAGE
     }
 }

@@ -72,14 +72,17 @@ impl Way {
 }
 
 fn number(word: &str) -> Result<u64, Fault> {
-    word.parse().map_err(|_| Fault::Usage)
+    match word.parse() {
+        Ok(number) => Ok(number),
+        Err(_) => Err(Fault::USAGE),
+    }
 }
 
 fn run<R: Runtime + Alloc<A = Global> + Threads + Wait + Sync>(rt: &R) -> Result<(), Fault> {
     let alloc = rt.alloc();
     let words: Vec<String> = env::args(rt)?.skip(1).collect(alloc)?;
     let [seed, count] = words.as_slice() else {
-        return Err(Fault::Usage);
+        return Err(Fault::USAGE);
     };
     let seed = number(seed.as_str())?;
     let count = number(count.as_str())?;
@@ -97,7 +100,7 @@ fn main(rt: HostRuntime) -> ExitCode {
         Err(fault) => {
             // Where even this cannot be written, the status tells it.
             let _printed = rt.eprintln(&fault);
-            ExitCode::from(fault.status())
+            ExitCode::from(fault.status)
         }
     }
 }

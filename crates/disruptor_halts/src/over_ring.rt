@@ -25,6 +25,19 @@ use workers::{Around, Handler, Parties, Producer, exchange};
 /// The most senders of a ring.
 const MOST_SENDERS: u64 = 4;
 
+fn handler<O: Outlet<Event> + Drop>(
+    alloc: Global,
+    outlet: O,
+    random: &mut Random,
+) -> Result<Handler<O>, AllocError> {
+    Ok(Handler {
+        outlet,
+        random: random.split(),
+        receiving: Receiving::new(alloc, random)?,
+        leaves: random.below(4) == 0,
+    })
+}
+
 fn handlers<O: Outlet<Event> + Drop>(
     alloc: Global,
     outlets: Vec<O>,
@@ -32,13 +45,7 @@ fn handlers<O: Outlet<Event> + Drop>(
 ) -> Result<Vec<Handler<O>>, AllocError> {
     let mut all = Vec::with_capacity(alloc, outlets.len())?;
     for outlet in outlets {
-        let handler = Handler {
-            outlet,
-            random: random.split(),
-            receiving: Receiving::new(alloc, random)?,
-            leaves: random.below(4) == 0,
-        };
-        all.push(handler)?;
+        all.push(handler(alloc, outlet, random)?)?;
     }
     Ok(all)
 }
@@ -62,13 +69,21 @@ fn producers<I: Producing>(
     Ok(all)
 }
 
-/// Runs a ring with a thread for each end, and compares what each handler received with what was
-/// published.
+/// Runs a ring of so many slots with a thread for each end, and compares what each handler received
+/// with what was published.
 fn run<I: Producing, O: Outlet<Event> + Drop + Send, H: Halting, R: Threads + Wait + Sync>(
     rt: &R,
     alloc: Global,
-    parties: Parties<I, O, H>,
+    (senders, receivers, halter): (Vec<I>, Vec<O>, H),
+    slots: u64,
+    random: &mut Random,
 ) -> Result<Told, Fault> {
+    let parties = Parties {
+        producers: producers(alloc, senders, slots, random)?,
+        handlers: handlers(alloc, receivers, random)?,
+        halter,
+        random: random.split(),
+    };
     let signs = Signs::new();
     let around = Around {
         rt,
@@ -90,13 +105,7 @@ pub fn one_sender<R: Threads + Wait + Sync>(
     let (sender, receivers, halter) = ring(alloc, &graph, Size::new(slots)?, MAX_LIMIT)?;
     let mut senders = Vec::new(alloc);
     senders.push(sender)?;
-    let parties = Parties {
-        producers: producers(alloc, senders, slots, random)?,
-        handlers: handlers(alloc, receivers, random)?,
-        halter,
-        random: random.split(),
-    };
-    run(rt, alloc, parties)
+    run(rt, alloc, (senders, receivers, halter), slots, random)
 }
 
 /// Runs a ring of several senders, which may halt it too.
@@ -109,12 +118,6 @@ pub fn several_senders<R: Threads + Wait + Sync>(
     let slots = 1 << random.below(11);
     let count = random.below(MOST_SENDERS).saturating_add(1) as usize;
     let size = Size::new(slots)?;
-    let (senders, receivers, halter) = senders_ring(alloc, &graph, size, MAX_LIMIT, count)?;
-    let parties = Parties {
-        producers: producers(alloc, senders, slots, random)?,
-        handlers: handlers(alloc, receivers, random)?,
-        halter,
-        random: random.split(),
-    };
-    run(rt, alloc, parties)
+    let ends = senders_ring(alloc, &graph, size, MAX_LIMIT, count)?;
+    run(rt, alloc, ends, slots, random)
 }

@@ -59,7 +59,7 @@ impl Receiving {
     /// Keeps a batch, which is to follow what was taken before.
     fn keep(&mut self, first: u64, count: u64) -> Result<(), Fault> {
         if first != self.taken.len() as u64 || count > self.room.len() as u64 {
-            return Err(Fault::WrongEvent);
+            return Err(Fault::WRONG_EVENT);
         }
         for event in self.room.iter().take(count as usize) {
             self.taken.push(*event)?;
@@ -108,7 +108,7 @@ impl Receiving {
         for _ in 0..TURNS {
             self.random.pause();
             let stretch = self.turn(outlet, signs)?;
-            if stretch != Stretch::Goes {
+            if !matches!(stretch, Stretch::Goes) {
                 return Ok(stretch);
             }
         }

@@ -6,7 +6,7 @@ use dr_seq::Event;
 use std::fmt;
 
 /// What rounds came to.
-#[derive(Clone, Copy, Debug, PartialEq, Eq)]
+#[derive(Clone, Copy)]
 pub struct Told {
     published: u64,
     received: u64,
@@ -51,10 +51,10 @@ impl Told {
         };
         for received in received {
             if !published.starts_with(received.events.as_slice()) {
-                return Err(Fault::WrongEvent);
+                return Err(Fault::WRONG_EVENT);
             }
             if received.drained && received.events.len() < published.len() {
-                return Err(Fault::WrongCount);
+                return Err(Fault::WRONG_COUNT);
             }
             told = told.with_handler(received);
         }

@@ -98,7 +98,7 @@ fn retire<L: Exchange<Event>, R: Wait>(
     match around.shared.call(around.rt, end, command, &mut [])? {
         Reply::Retired => Ok(Stretch::Left),
         Reply::Refused(Refusal::NotFinal | Refusal::LastHandler) => Ok(Stretch::Goes),
-        _ => Err(Fault::WrongReply),
+        _ => Err(Fault::WRONG_REPLY),
     }
 }
 
@@ -111,7 +111,7 @@ impl<L: Exchange<Event>> Producer<L> {
             mut random,
             mut sending,
         } = self;
-        let mut ended = Err(Fault::NoEnd);
+        let mut ended = Err(Fault::NO_END);
         for _ in 0..MOST_TURNS {
             let mut inlet = LockedInlet::new(around.rt, around.shared, end, p);
             let stretch = sending.send(&mut inlet);
@@ -125,7 +125,7 @@ impl<L: Exchange<Event>> Producer<L> {
             }
         }
         let script = match ended {
-            Ok(_) => sending.script(around.alloc).map_err(Fault::from),
+            Ok(_) => sending.script(around.alloc),
             Err(fault) => {
                 // What it claimed may stay unpublished.
                 around.signs.leave();
@@ -146,7 +146,7 @@ impl<L: Exchange<Event>> Handler<L> {
             mut receiving,
             leaves,
         } = self;
-        let mut ended = Err(Fault::NoEnd);
+        let mut ended = Err(Fault::NO_END);
         for _ in 0..MOST_TURNS {
             let mut outlet = LockedOutlet::new(around.rt, around.shared, end, h);
             let mut stretch = receiving.receive(&mut outlet, around.signs);
@@ -166,7 +166,7 @@ impl<L: Exchange<Event>> Handler<L> {
             }
         }
         let received = match ended {
-            Ok(stretch) => Ok(receiving.into_received(stretch == Stretch::Drained)),
+            Ok(stretch) => Ok(receiving.into_received(matches!(stretch, Stretch::Drained))),
             Err(fault) => {
                 // Those after it may wait for it for ever.
                 around.signs.leave();
@@ -205,7 +205,7 @@ fn publish<L: Exchange<Event> + Send + Sync, R: Threads + Wait + Sync>(
             halt(around.rt, around.shared, &mut halter);
             let sent = join_all(around.rt, around.alloc, started)?;
             if sent.len() < count {
-                return Err(Fault::Thread);
+                return Err(Fault::THREAD);
             }
             Ok(Published { halter, sent })
         },
@@ -244,7 +244,7 @@ pub fn exchange<L: Exchange<Event> + Send + Sync, R: Threads + Wait + Sync>(
             }
             let handled = join_all(around.rt, around.alloc, started)?;
             if handled.len() < count {
-                return Err(Fault::Thread);
+                return Err(Fault::THREAD);
             }
             let Published { halter, sent } = published?;
             Ok(Joined {

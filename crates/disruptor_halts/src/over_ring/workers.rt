@@ -12,9 +12,10 @@ use crate::signs::Signs;
 use crate::stretch::Stretch;
 use dr_core::Outlet;
 use dr_seq::Event;
+use dr_shared::join_all;
 use std::alloc::Global;
 use std::sync::Wait;
-use std::thread::{self, Threads};
+use std::thread::{self, JoinHandle, Threads};
 
 /// In one of how many stretches a handler that leaves early does so, or a sender halts.
 const MOST_BEFORE_LEAVING: u64 = 100;
@@ -64,14 +65,15 @@ pub struct Joined {
 impl<I: Producing> Producer<I> {
     fn send_all(&mut self) -> Result<(), Fault> {
         for _ in 0..MOST_TURNS {
-            if self.sending.send(&mut self.inlet)? != Stretch::Goes {
+            let stretch = self.sending.send(&mut self.inlet)?;
+            if !matches!(stretch, Stretch::Goes) {
                 return Ok(());
             }
             if self.random.below(MOST_BEFORE_LEAVING) == 0 {
                 self.inlet.may_halt();
             }
         }
-        Err(Fault::NoEnd)
+        Err(Fault::NO_END)
     }
 
     /// Sends until the ring is halted.
@@ -102,7 +104,7 @@ impl<O: Outlet<Event> + Drop> Handler<O> {
                 return Ok(false);
             }
         }
-        Err(Fault::NoEnd)
+        Err(Fault::NO_END)
     }
 
     /// Takes and completes events, until the ring drained, until it leaves, or until it may wait for
@@ -127,6 +129,23 @@ fn halt<H: Halting>(halter: &mut H, random: &mut Random) {
     }
 }
 
+/// What threads gave back, if there are so many of them and all did their work.
+fn join<T: Drop, R: Threads + Wait>(
+    around: &Around<'_, R>,
+    started: Vec<JoinHandle<Result<T, Fault>>>,
+    count: usize,
+) -> Result<Vec<T>, Fault> {
+    let ended = join_all(around.rt, around.alloc, started)?;
+    let mut all = Vec::with_capacity(around.alloc, count)?;
+    for one in ended {
+        all.push(one?)?;
+    }
+    if all.len() < count {
+        return Err(Fault::THREAD);
+    }
+    Ok(all)
+}
+
 /// Starts a thread for each producer, halts after a while, and joins them.
 fn publish<I: Producing, H: Halting, R: Threads + Wait + Sync>(
     around: &Around<'_, R>,
@@ -149,13 +168,7 @@ fn publish<I: Producing, H: Halting, R: Threads + Wait + Sync>(
                 }
             }
             halt(&mut halter, &mut random);
-            let mut sent = Vec::with_capacity(around.alloc, count)?;
-            for worker in started {
-                sent.push(worker.join(around.rt)?)?;
-            }
-            if sent.len() < count {
-                return Err(Fault::Thread);
-            }
+            let sent = join(around, started, count)?;
             by_sequence(around.alloc, sent.as_slice())
         },
     )
@@ -192,13 +205,7 @@ pub fn exchange<I: Producing, O: Outlet<Event> + Drop + Send, H: Halting, R: Thr
             if published.is_err() || started.len() < count {
                 around.signs.leave();
             }
-            let mut received = Vec::with_capacity(around.alloc, count)?;
-            for worker in started {
-                received.push(worker.join(around.rt)?)?;
-            }
-            if received.len() < count {
-                return Err(Fault::Thread);
-            }
+            let received = join(around, started, count)?;
             Ok(Joined {
                 published: published?,
                 received,
