@@ -4,7 +4,7 @@ ghost use Rattle.std.specs.Prelude.{◌≡◌, ◌+◌, ◌^◌, ◌≤◌, Some
 ghost use Rattle.dr_core.specs.Calls.Calling.{WritesBy};
 ghost use Rattle.dr_core.specs.Calls.Ends.{IsEndsAnswer, ClaimAnswers, WriteAnswers, PublishAnswers, Claims, Writes, Publishes, WriteAllAnswers, WritesAll};
 ghost use Rattle.dr_ring.specs.Calls.Ends.{sender_place, looks_counted};
-ghost use Rattle.dr_ring.specs.Calls.Sending.{ClaimCall, WriteCall, WriteAllCall, PublishCall, CloseCall};
+ghost use Rattle.dr_ring.specs.Calls.Sending.{ClaimCall, WriteCall, WriteAllCall, PublishCall, CloseCall, ClosesOnceDone};
 ghost use Rattle.dr_ring.specs.Calls.Telling.{sender_does};
 
 use crate::laws::SenderStation;
@@ -133,7 +133,8 @@ impl Sender {
     /// It is refused with `OpenClaim`, and changes nothing, while a claimed sequence is unpublished.
     #[tactic(auto, using(crate::proofs::Stations::begins_same, crate::proofs::Stations::begins_on))]
     pub fn close(&mut self) -> Result<(), Refusal>
-        ensures { CloseCall self.old self.new result }
+        ensures call { CloseCall self.old self.new result }
+        ensures done { ClosesOnceDone self.old self.new }
     {
         if self.published != self.claimed {
             return Err(Refusal::OpenClaim);

@@ -1,5 +1,5 @@
 -- What each call of the sender answers, and what it leaves of what the sender knows.
-use Rattle.std.specs.Prelude.{◌≡◌, ◌≢◌, ℕ, ◌+◌, ◌^◌, ◌<◌, ◌≤◌, ◌⊎◌, ◌==◌, ◌||◌, nat_lt, List, [], ◌∷◌, ◌++◌, length, take, slice_index, Some, Result, Ok, Err}
+use Rattle.std.specs.Prelude.{◌≡◌, ◌≢◌, ℕ, ◌+◌, ◌^◌, ◌<◌, ◌≤◌, ◌⊎◌, ◌==◌, ◌||◌, nat_lt, true, List, [], ◌∷◌, ◌++◌, length, take, slice_index, Some, Result, Ok, Err}
 use Rattle.dr_seq.specs.Size.{IsSize}
 use Rattle.dr_seq.specs.declared.event.Event.{Event}
 use Rattle.dr_core.specs.declared.refusal.Refusal.{Refusal}
@@ -120,3 +120,9 @@ PublishCall e lo hi e' result = (sender_place e' ≡ sender_place e) × TriesToP
 
 abbrev pub CloseCall : SenderEnd → SenderEnd → Result (Unit {0}) Refusal → Type 0
 CloseCall e e' result = (sender_place e' ≡ sender_place e) × TriesToClose e.knows e'.knows result × StoresWhereOk e.stored (SenderHalts ∷ SenderCloses ∷ []) e'.stored result × IsBeginning e.past e'.past
+
+-- Whoever closes need not look at the answer: a sender that left nothing claimed unpublished has closed its ring, and any sender stays at its place and published what it did.
+pub record ClosesOnceDone (e e' : SenderEnd) : Type 0 where
+  pub place : sender_place e' ≡ sender_place e
+  pub published : e'.knows.sent.published ≡ e.knows.sent.published
+  pub closed : e.knows.sent.pending ≡ [] → e'.knows.closed ≡ true
