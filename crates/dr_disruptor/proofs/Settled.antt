@@ -140,6 +140,7 @@ module _ {A : Type 0} (goes : Relation Event A) (s : SenderEnd) (ws : List (Work
         record {
           published = published;
           many = ap length handlers ∙ length-map ss (λ b. b.handler) ∙ kept.many ∙ sym (length-map ws given_handler);
+          counted = ap length counts ∙ length-map receivers (λ (e : ReceiverEnd). handler_counts e.knows) ∙ length-map ss (λ b. b.receiver) ∙ kept.many ∙ sym (length-map ws given_handler);
           each = λ h start after at_start at_after.
               let inside : h < length (map given_handler ws) = at_below (map given_handler ws) h start at_start in
               let p = place h (omega arith) in

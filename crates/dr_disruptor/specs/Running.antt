@@ -50,6 +50,7 @@ AreFine endings = All (λ e. e.fault ≡ None) endings
 pub record IsRan {A : Type 0} (goes : Relation Event A) (upstreams : List (List ℕ)) (starts : List A) (sent : List Event) (sender : Option WorkFault) (ran : Ran A) : Type 0 where
   pub published : ran.settled.published ≡ length sent
   pub many : length ran.handlers.items ≡ length starts
+  pub counted : length ran.settled.handlers.items ≡ length starts
   -- each handler went through the first of the events, as many as it took
   pub each : (h : ℕ) (start after : A) → get_elem? starts h ≡ some start → get_elem? ran.handlers.items h ≡ some after
       → WentThrough goes start after (take (taken_in ran h) sent)

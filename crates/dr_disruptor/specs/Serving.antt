@@ -8,7 +8,7 @@ use Rattle.dr_core.specs.Calls.Calling.{SomeCalls}
 use Rattle.dr_core.specs.Calls.Handling.{Relation}
 use Rattle.dr_shared.specs.Calls.Serving as worker
 use Rattle.dr_ring.specs.Meaning.Shape.{Shape}
-use Rattle.dr_ring.specs.Calls.Ends.{SenderEnd, ReceiverEnd, sender_place, receiver_place, received_of}
+use Rattle.dr_ring.specs.Calls.Ends.{SenderEnd, ReceiverEnd, receiver_place, received_of}
 use Rattle.dr_ring.specs.Calls.Settling.{AreAllEnds}
 use Rattle.dr_ring.specs.Calls.Telling.{receiver_does}
 use Rattle.dr_ring.specs.Meaning.Moments.{fresh_sender}
@@ -51,11 +51,6 @@ pub record AreKept {A : Type 0} (goes : Relation Event A) (workers : List (Worke
 abbrev pub endings_from : {A : Type 0} → ℕ → List (Served A) → List Ended
 endings_from who [] = []
 endings_from who (s ∷ served) = record { who = who; fault = s.fault } ∷ endings_from (who + 1) served
-
--- whether a sender closed or not, it published what it did
-pub record StaysAt (old new : SenderEnd) : Type 0 where
-  pub place : sender_place new ≡ sender_place old
-  pub published : new.knows.sent.published ≡ old.knows.sent.published
 
 -- a ring of a graph and so many slots, for as many sequences as there may be
 abbrev pub shape_of : List (List ℕ) → ℕ → Shape

@@ -13,7 +13,7 @@ ghost use Rattle.dr_disruptor.specs.Serving.{BeginsAt, given_end, given_handler,
 ghost use Rattle.dr_disruptor.specs.declared.fault.RunFault.TheVariants.{Memory};
 
 use crate::fault::RunFault;
-use crate::workers::{Back, SENDER, Worker, apart, begin, close, joined};
+use crate::workers::{Back, SENDER, Worker, apart, begin, joined};
 use dr_core::Handler;
 use dr_graph::Graph;
 use dr_ring::{Sender, Settled, settle};
@@ -68,8 +68,7 @@ fn finish<R: Threads, H: Handler<Event> + Drop>(
     ensures ran { IfOk result (IsRan H.goes sender.knows.plan.upstreams (map given_handler workers.items) sender.knows.sent.published fault) }
     ensures memory { IfErr result (λ e. e ≡ Memory) }
 {
-    close(&mut sender);
-    let served = joined(rt, workers)?;
+    let served = joined(rt, &mut sender, workers)?;
     let back = apart(alloc, served, fault)?;
     let Back {
         receivers,

@@ -1,9 +1,10 @@
 //! The threads of a ring's handlers: how they are started, and what they give back.
 
 ghost use Rattle.std.specs.Prelude.{◌≡◌, ◌++◌, ◌∷◌, [], All, IfErr, IfOk, OnOk, length, map};
+ghost use Rattle.dr_ring.specs.Calls.Sending.{ClosesOnceDone};
 ghost use Rattle.dr_ring.specs.Calls.Settling.{AreAllEnds};
 ghost use Rattle.dr_disruptor.specs.Refused.{refusal_of};
-ghost use Rattle.dr_disruptor.specs.Serving.{AreKept, AreReady, StaysAt, endings_from, given_end, given_handler, shape_of};
+ghost use Rattle.dr_disruptor.specs.Serving.{AreKept, AreReady, endings_from, given_end, given_handler, shape_of};
 
 use crate::fault::RunFault;
 use crate::served::{Served, Serves, serve};
@@ -53,18 +54,23 @@ fn start<R: Threads + Wait + Copy + Send + 'static, H: Handler<Event> + Drop + S
     Ok(())
 }
 
-// Closes the ring, unless the sender left a claim open.
-pub(crate) fn close(sender: &mut Sender)
-    ensures { StaysAt sender.old sender.new }
-{
-    let _closed = sender.close();
-}
-
 // Waits for threads whose results nobody wants.
 fn wait_for<R: Threads, H: Handler<Event> + Drop>(rt: &R, workers: Vec<Worker<H>>) {
     for worker in workers {
         let _served = worker.join(rt);
     }
+}
+
+// Closes a ring before anything was sent, and waits for those of its threads that were started.
+fn abandon<R: Threads, H: Handler<Event> + Drop>(
+    rt: &R,
+    sender: &mut Sender,
+    workers: Vec<Worker<H>>,
+)
+    ensures { ClosesOnceDone sender.old sender.new }
+{
+    let _closed = sender.close();
+    wait_for(rt, workers);
 }
 
 /// A ring's sender, and a thread for each handler with its end of the ring. Where a thread cannot be
@@ -94,20 +100,23 @@ pub(crate) fn begin<
         return Err(RunFault::Memory);
     };
     if start(rt, &mut started, receivers, handlers).is_err() {
-        close(&mut sender);
-        wait_for(&rt, started);
+        abandon(&rt, &mut sender, started);
         return Err(RunFault::Memory);
     }
     Ok((sender, started))
 }
 
-// What each thread gives back. Where memory runs out all threads end too, and what they give back is lost.
+// Closes the ring, unless the sender left a claim open, and has what each thread gives back. Where memory
+// runs out all threads end too, and what they give back is lost.
 pub(crate) fn joined<R: Threads, H: Handler<Event> + Drop>(
     rt: &R,
+    sender: &mut Sender,
     workers: Vec<Worker<H>>,
 ) -> Result<Vec<Served<H>>, AllocError>
-    ensures { IfOk result (λ served. AreKept H.goes workers.items served.items) }
+    ensures closes { ClosesOnceDone sender.old sender.new }
+    ensures kept { IfOk result (λ served. AreKept H.goes workers.items served.items) }
 {
+    let _done = sender.close();
     match join_promised(rt, workers) {
         Ok(served) => Ok(served),
         Err(failed) => {

@@ -12,21 +12,21 @@ use Rattle.dr_disruptor.proofs.running.finish.Goals as goal
 
 pub settle-settled-requires : goal.settle-settled-requires
 settle-settled-requires g c =
-    let sender = c.close.new.sender in
+    let sender = c.joined.new.sender in
     let workers = c.args.workers.items in
-    let all : AreAllEnds sender (map given_end workers) = all_moved c.args.sender sender (map given_end workers) c.close.ensures.place c.requires.ends in
+    let all : AreAllEnds sender (map given_end workers) = all_moved c.args.sender sender (map given_end workers) c.joined.ensures.closes.place c.requires.ends in
     subst (AreAllEnds sender) (sym c.in_ok-back.ensures.receivers)
-    (all_back g.H.Handler.goes sender workers c.in_ok-served.served.items c.in_ok-served.ensures all)
+    (all_back g.H.Handler.goes sender workers c.in_ok-served.served.items c.in_ok-served.ensures.kept all)
 
 pub returns-clause-ran : goal.returns-clause-ran
 returns-clause-ran g c =
-    let sender = c.close.new.sender in
+    let sender = c.joined.new.sender in
     let workers = c.args.workers.items in
     let served = c.in_ok-served.served.items in
     let back = c.in_ok-back.back in
     let receivers = map (λ b. b.receiver) served in
-    let plan : sender.knows.plan ≡ c.args.sender.knows.plan = ap (λ (p : SenderPlace). p.1) c.close.ensures.place in
-    let all : AreAllEnds sender (map given_end workers) = all_moved c.args.sender sender (map given_end workers) c.close.ensures.place c.requires.ends in
+    let plan : sender.knows.plan ≡ c.args.sender.knows.plan = ap (λ (p : SenderPlace). p.1) c.joined.ensures.closes.place in
+    let all : AreAllEnds sender (map given_end workers) = all_moved c.args.sender sender (map given_end workers) c.joined.ensures.closes.place c.requires.ends in
     let fresh : All (BeginsAt sender.knows.plan) (map given_end workers) = subst (λ (k : Shape). All (BeginsAt k) (map given_end workers)) (sym plan) c.requires.fresh in
     let settles : Settles sender.knows (map (λ (e : ReceiverEnd). e.knows) receivers) =
     subst (λ (l : List ReceiverEnd). Settles sender.knows (map (λ (e : ReceiverEnd). e.knows) l)) c.in_ok-back.ensures.receivers c.settle-settled.ensures.lists
@@ -35,6 +35,6 @@ returns-clause-ran g c =
     c.settle-settled.ensures.handlers ∙ ap (map (λ (e : ReceiverEnd). handler_counts e.knows)) c.in_ok-back.ensures.receivers
     in
     let ran : Ran g.row.H.Denot = record { handlers = back.handlers; settled = c.settle-settled.result; endings = back.endings } in
-    let is = is_ran g.H.Handler.goes sender workers served c.in_ok-served.ensures ran all fresh settles counts c.args.fault c.settle-settled.ensures.published c.in_ok-back.ensures.handlers c.in_ok-back.ensures.endings in
+    let is = is_ran g.H.Handler.goes sender workers served c.in_ok-served.ensures.kept ran all fresh settles counts c.args.fault c.settle-settled.ensures.published c.in_ok-back.ensures.handlers c.in_ok-back.ensures.endings in
     subst (λ (k : Shape). IsRan g.H.Handler.goes k.upstreams (map given_handler workers) c.args.sender.knows.sent.published c.args.fault ran) plan
-    (subst (λ (l : List Event). IsRan g.H.Handler.goes sender.knows.plan.upstreams (map given_handler workers) l c.args.fault ran) c.close.ensures.published is)
+    (subst (λ (l : List Event). IsRan g.H.Handler.goes sender.knows.plan.upstreams (map given_handler workers) l c.args.fault ran) c.joined.ensures.closes.published is)

@@ -5,8 +5,8 @@ use Rattle.dr_ring.proofs.Lists.{at_below, value_at}
 use Rattle.dr_disruptor.specs.Serving.{Serving, given_end, given_handler}
 use Rattle.dr_disruptor.proofs.workers.joined.Goals as goal
 
-pub returns-in-Ok : goal.returns-in-Ok
-returns-in-Ok g c =
+pub returns-in-Ok-clause-kept : goal.returns-in-Ok-clause-kept
+returns-in-Ok-clause-kept g c =
     let workers = c.args.workers.items in
     let served = c.in-Ok.served.items in
     let many : length served ≡ length workers = search rules in
