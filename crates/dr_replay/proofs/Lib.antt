@@ -1,6 +1,7 @@
 pub mod Crossing
 pub mod Endings
 pub mod EventFiles
+pub mod Heeding
 pub mod Listing
 pub mod Numbered
 pub mod Promising

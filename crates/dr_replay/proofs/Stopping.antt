@@ -25,7 +25,8 @@ module _ (may_stop : ℕ → Type 0) where
   more who fault others one rest = All-cons IsStopped (record { who = who; fault = fault }) others one rest
 
   -- over a ring
-  pub run_stopped : (events : List Event) (s : SenderEnd) (j r b : ReceiverEnd) (ran : Ran) → IsRun may_stop events s j r b ran → AreStopped may_stop (endings_of ran)
+  pub run_stopped : {must_stop : ℕ → ℕ → Type 0} {size : ℕ} (events : List Event) (s : SenderEnd) (j r b : ReceiverEnd) (ran : Ran) → IsRun may_stop must_stop size events s j r b ran
+      → AreStopped may_stop (endings_of ran)
   run_stopped events s j r b ran is =
       let sender : List Ended = record { who = 16; fault = ran.produced.fault } ∷ [] in
       let later : List Ended = record { who = 2; fault = error_of ran.business.part } ∷ sender in
@@ -33,7 +34,7 @@ module _ (may_stop : ℕ → Type 0) where
       more 0 (error_of ran.journal.part) others (λ e. is.journal.stopped (stopped_of ran.journal.part e))
       (more 1 (error_of ran.replica.part) later (λ e. is.replica.stopped (stopped_of ran.replica.part e))
       (more 2 (error_of ran.business.part) sender (λ e. is.business.stopped (stopped_of ran.business.part e))
-      (more 16 ran.produced.fault [] is.stopped (All-nil IsStopped))))
+      (more 16 ran.produced.fault [] is.sending.stopped (All-nil IsStopped))))
 
   -- producers' workers that each were stopped by their gate alone
   pub numbered_stopped : {X : Type 0} (fault_of : X → Option WorkFault) (who : ℕ) (given : List X)

@@ -1,15 +1,21 @@
 //! The replay over the ring, a thread a handler.
 
-ghost use Rattle.std.specs.Prelude.{◌≡◌, ◌++◌, ◌-◌, ◌^◌, ◌∷◌, ◌<◌, [], IfErr, IfOk, IfSome, List, None, Some, false, length, string_bytes, take};
+ghost use Rattle.std.specs.Prelude.{◌≡◌, ◌++◌, ◌-◌, ◌/◌, ◌^◌, ◌∷◌, ◌<◌, [], IfErr, IfOk, IfSome, List, None, Some, length, max, string_bytes, take, true};
 ghost use Rattle.dr_seq.specs.declared.event.Event.{Event};
 ghost use Rattle.dr_ring.specs.Calls.Ends.{sender_place};
+ghost use Rattle.dr_ring.specs.Calls.Sending.{ClosesOnceDone};
 ghost use Rattle.dr_ring.specs.Calls.Settling.{AreAllEnds};
+ghost use Rattle.dr_ring.specs.Calls.Telling.{sender_does};
+ghost use Rattle.dr_core.specs.Calls.Calling.{SomeCalls};
 ghost use Rattle.dr_files.specs.Counting.{faults_of, inner_of};
 ghost use Rattle.dr_replay.specs.Calls.Replayed.{ReplayCounts, ReplayFaultKeeps, ReplayWrites, replay_text};
 ghost use Rattle.dr_accounts.specs.Report.{report_of};
+ghost use Rattle.dr_shared.specs.Calls.Serving.{Sends};
 ghost use Rattle.dr_shared.specs.Meaning.FirstFault.{first_fault as first_of};
+ghost use Rattle.dr_shared.specs.Meaning.Work.{LeavesNothingOpen};
 ghost use Rattle.dr_shared.specs.declared.fault.WorkFault.TheVariants.{Stopped};
-ghost use Rattle.dr_replay.specs.Calls.Workers.{IsFirstOf, IsFirstOfSome, IsOfWorkers, IsRun, Says, StaysAt, endings_of, ends_of, ring_workers};
+ghost use Rattle.dr_replay.specs.Meaning.EventFile.{events_of as events_in};
+ghost use Rattle.dr_replay.specs.Calls.Workers.{AreThrough, IsFirstOf, IsFirstOfSome, IsOfWorkers, IsRun, IsSending, NoneHadToStop, Says, endings_of, ends_of, ring_workers};
 
 use crate::event_file::read_events;
 use crate::fault::ReplayFault;
@@ -53,21 +59,16 @@ fn three(mut receivers: Vec<Receiver>) -> (Receiver, Receiver, Receiver)
     (journal, replica, business)
 }
 
-// Closes the ring, unless the sender was refused a call while a claim was open.
-fn close(sender: &mut Sender)
-    ensures { StaysAt sender.old sender.new }
-{
-    let _closed = sender.close();
-}
-
 // Closes a ring before anything was sent, and joins those of its handlers' threads that were started.
 fn abandoned<R: Threads, G: Gate>(
     rt: &R,
-    mut sender: Sender,
+    sender: &mut Sender,
     journal: PromisedHandle<Worked, PartOf<Journal, G>>,
     replica: Option<PromisedHandle<Worked, PartOf<Replica, G>>>,
-) -> AllocError {
-    close(&mut sender);
+) -> AllocError
+    ensures { ClosesOnceDone sender.old sender.new }
+{
+    let _closed = sender.close();
     let _journal = journal.join(rt);
     if let Some(replica) = replica {
         let _replica = replica.join(rt);
@@ -75,7 +76,7 @@ fn abandoned<R: Threads, G: Gate>(
     AllocError
 }
 
-// Sends the events through a ring that is not closed yet.
+// Sends the events, in claims of a quarter of the ring.
 fn sent<R: Wait, G: Gate>(
     rt: &R,
     gate: &G,
@@ -83,18 +84,20 @@ fn sent<R: Wait, G: Gate>(
     size: Size,
     sender: &mut Sender,
 ) -> Produced
-    requires open { sender.old.knows.closed ≡ false }
     ensures place { sender_place sender.new ≡ sender_place sender.old }
     ensures published { sender.new.knows.sent.published ≡ sender.old.knows.sent.published ++ take result.sent events.now }
+    ensures open { LeavesNothingOpen sender.old.knows.sent sender.new.knows.sent }
     ensures all { result.fault ≡ None → result.sent ≡ length events.now }
     ensures stopped { result.fault ≡ Some Stopped → G.may_stop gate.now 16 }
+    ensures calls { SomeCalls sender_does sender.old sender.new (Sends (max (size / 4) 1) (length events.now) (G.may_stop gate.now 16) (G.must_stop gate.now 16) result) }
 {
     // With less than the ring in a claim the handlers have events while the sender writes.
     let cut = (size.get() / 4).max(1);
     produce(rt, sender, gate, PRODUCER, events, cut)
 }
 
-// Sends the events, closes, and joins the handlers' threads.
+// Sends the events, then closes, unless the sender was refused a call while a claim was open, and joins
+// the handlers' threads.
 fn served<R: Threads + Wait, G: Gate, J: Promise<Worked>, K: Promise<Worked>, B: Promise<Worked>>(
     rt: &R,
     gate: &G,
@@ -105,17 +108,14 @@ fn served<R: Threads + Wait, G: Gate, J: Promise<Worked>, K: Promise<Worked>, B:
     replica: PromisedHandle<Worked, K>,
     business: PromisedHandle<Worked, B>,
 ) -> Ran
-    requires open { sender.knows.closed ≡ false }
-    ensures place { sender_place result.sender ≡ sender_place sender }
-    ensures published { result.sender.knows.sent.published ≡ sender.knows.sent.published ++ take result.produced.sent events.now }
-    ensures all { result.produced.fault ≡ None → result.produced.sent ≡ length events.now }
-    ensures stopped { result.produced.fault ≡ Some Stopped → G.may_stop gate.now 16 }
+    ensures sending { IsSending (max (size / 4) 1) events.now (G.may_stop gate.now 16) (G.must_stop gate.now 16) sender result.sender result.produced }
+    ensures closed { sender.knows.sent.pending ≡ [] → result.sender.knows.closed ≡ true }
     ensures journal { J.kept_by journal.promise result.journal }
     ensures replica { K.kept_by replica.promise result.replica }
     ensures business { B.kept_by business.promise result.business }
 {
     let produced = sent(rt, gate, events, size, &mut sender);
-    close(&mut sender);
+    let _done = sender.close();
     let journal = journal.join(rt);
     let replica = replica.join(rt);
     let business = business.join(rt);
@@ -136,20 +136,18 @@ fn exchange<R: Threads + Wait + Sync, G: Gate + Sync>(
     gate: &G,
     events: &[Event],
     size: Size,
-    sender: Sender,
+    mut sender: Sender,
     journal: Receiver,
     replica: Receiver,
     business: Receiver,
 ) -> Result<Ran, AllocError>
-    requires open { sender.knows.closed ≡ false }
-    ensures ran { IfOk result (λ ran. IsRun (G.may_stop gate.now) events.now sender journal replica business ran) }
+    ensures { IfOk result (λ ran. IsRun (G.may_stop gate.now) (G.must_stop gate.now) size events.now sender journal replica business ran) }
 {
     thread::scope(
         thread::scope_env(),
         rt,
         move |scope| -> Result<Ran, AllocError>
-            requires open { sender.knows.closed ≡ false }
-            ensures { IfOk result (λ ran. IsRun (G.may_stop gate.entry.now) events.entry.now sender journal replica business ran) }
+            ensures { IfOk result (λ ran. IsRun (G.may_stop gate.entry.now) (G.must_stop gate.entry.now) size events.entry.now sender journal replica business ran) }
         {
             let room = size.get() as usize;
             let promise = PartOf::<Journal, G>::of(&journal, gate, JOURNAL);
@@ -162,13 +160,13 @@ fn exchange<R: Threads + Wait + Sync, G: Gate + Sync>(
             let Ok(replica) = scope.spawn_with(promise, move || {
                 work::<R, G, Replica>(rt, gate, REPLICA, replica, room, alloc)
             }) else {
-                return Err(abandoned(rt, sender, journal, None));
+                return Err(abandoned(rt, &mut sender, journal, None));
             };
             let promise = PartOf::<Business, G>::of(&business, gate, BUSINESS);
             let Ok(business) = scope.spawn_with(promise, move || {
                 work::<R, G, Business>(rt, gate, BUSINESS, business, room, alloc)
             }) else {
-                return Err(abandoned(rt, sender, journal, Some(replica)));
+                return Err(abandoned(rt, &mut sender, journal, Some(replica)));
             };
             let ran = served(rt, gate, events, size, sender, journal, replica, business);
             Ok(ran)
@@ -208,6 +206,7 @@ fn listed(
 fn finish(alloc: Global, ran: Ran) -> Result<String, ReplayFault>
     requires ends { AreAllEnds ran.sender (ends_of ran) }
     ensures text { (events : List Event) → Says events ran → IfOk result (λ text. string_bytes text ≡ report_of events) }
+    ensures received { (events : List Event) → Says events ran → IfOk result (λ text. AreThrough events ran) }
     ensures fine { IfOk result (λ text. first_of (endings_of ran) ≡ None) }
     ensures first { IfErr result (IsFirstOf (endings_of ran)) }
 {
@@ -241,6 +240,7 @@ fn report<R: Threads + Wait + Sync, G: Gate + Sync>(
     gate: &G,
 ) -> Result<String, ReplayFault>
     ensures text { IfOk result (λ text. string_bytes text ≡ report_of events.now) }
+    ensures stops { IfOk result (λ text. NoneHadToStop (G.must_stop gate.now) events.now) }
     ensures first { IfErr result (IsOfWorkers (G.may_stop gate.now) ring_workers) }
 {
     let graph = graph(alloc)?;
@@ -276,6 +276,8 @@ pub fn replay_ring<S: Threads + Wait + Sync, R: Read, W: Write, G: Gate + Sync>(
     ensures unwritten { IfErr result (λ e. ReplayFaultKeeps e (W.contents (inner_of writer.old)) (W.contents (inner_of writer.new))) }
     // Where several workers have faults, the first is answered: a stop before a refusal, and then the least worker's. Only the gate stops a worker.
     ensures first { IfErr result (IsFirstOfSome (G.may_stop gate.now) ring_workers) }
+    // A handler's gate that has to stop it at its first turn, where there is an event, leaves no report.
+    ensures stops { IfSome (R.remaining (inner_of reader.old)) (λ input. IfOk result (λ _. IfOk (events_in input) (NoneHadToStop (G.must_stop gate.now)))) }
     // A failed read or write is answered where one failed, and nowhere else.
     ensures counted { ReplayCounts result (faults_of reader.old) (faults_of reader.new) (faults_of writer.old) (faults_of writer.new) }
 {

@@ -74,7 +74,7 @@ ReplayCounts (Err e) reads reads2 writes writes2 = ReplayFaultCounts e reads rea
 
 -- Behind a lock: the same, but that the report is of a merge.
 
--- a report of the list that an audit finds of what an exchange of this setup went through: each handler received it, and it is a merge of what the producers were to send
+-- a report of the list that an audit finds of some history that an exchange of this setup went through: all events that were published, a merge of what the producers were to send, which each handler received that was not retired
 pub record IsReportOfMerge (c : Setup) (events : List Event) (text : List ℕ) : Type 0 where
   pub history : History Event
   pub went : IsHalted c history

@@ -1,7 +1,12 @@
 -- What the workers of a replay give back, and what they promise.
-use Rattle.std.specs.Prelude.{◌≡◌, ◌⊎◌, ℕ, ◌+◌, ◌++◌, true, List, [], ◌∷◌, length, map, take, Option, None, Some, All, IfOk, string_bytes}
+use Rattle.std.specs.Prelude.{◌≡◌, ◌⊎◌, ℕ, ◌+◌, ◌/◌, ◌<◌, max, ◌++◌, true, List, [], ◌∷◌, length, map, take, Option, None, Some, All, IfOk, string_bytes}
 use Rattle.dr_seq.specs.declared.event.Event.{Event}
+use Rattle.dr_core.specs.Calls.Calling.{SomeCalls}
 use Rattle.dr_ring.specs.Calls.Ends.{SenderEnd, ReceiverEnd, sender_place}
+use Rattle.dr_ring.specs.Calls.Sending.{ClosesOnceDone}
+use Rattle.dr_ring.specs.Calls.Telling.{sender_does}
+use Rattle.dr_shared.specs.Calls.Serving.{Sends}
+use Rattle.dr_shared.specs.declared.producer.Produced.{Produced}
 use Rattle.dr_shared.specs.declared.fault.WorkFault.{WorkFault}
 use Rattle.dr_shared.specs.declared.fault.WorkFault.TheVariants as work
 use Rattle.dr_shared.specs.declared.ended.Ended.{Ended}
@@ -20,17 +25,38 @@ use Rattle.dr_replay.specs.declared.fault.ReplayFault.{ReplayFault}
 use Rattle.dr_replay.specs.declared.fault.ReplayFault.TheVariants as fault
 use Rattle.dr_accounts.specs.Keeping.{Keeps, error_of}
 use Rattle.dr_replay.specs.declared.ring.Ran.{Ran}
+use Rattle.dr_accounts.specs.Handlers.{Books, Copies, IsBusinessOf, IsJournalOf, IsReplicaOf, Journals}
+use Rattle.dr_accounts.specs.declared.worker.Worked.{Worked}
 use Rattle.dr_accounts.specs.Report.{journal_part, replica_part, business_part}
 
--- what came of an exchange: the sender published the first of the events, all of them where it has no fault, and each worker keeps its promise
-pub record IsRun (may_stop : ℕ → Type 0) (events : List Event) (s : SenderEnd) (j r b : ReceiverEnd) (ran : Ran) : Type 0 where
-  pub place : sender_place ran.sender ≡ sender_place s
-  pub published : ran.sender.knows.sent.published ≡ s.knows.sent.published ++ take ran.produced.sent events
-  pub all : ran.produced.fault ≡ None → ran.produced.sent ≡ length events
-  pub stopped : ran.produced.fault ≡ Some work.Stopped → may_stop 16
-  pub journal : Keeps journal_part (may_stop 0) j ran.journal
-  pub replica : Keeps replica_part (may_stop 1) r ran.replica
-  pub business : Keeps business_part (may_stop 2) b ran.business
+-- a sender sent the first of some events in such claims, came to its gate with each, and answers what these calls came to; after them, and not before, it closed the ring
+pub record IsSending (cut : ℕ) (events : List Event) (may_stop : Type 0) (must_stop : ℕ → Type 0) (given back : SenderEnd) (produced : Produced) : Type 0 where
+  pub place : sender_place back ≡ sender_place given
+  pub published : back.knows.sent.published ≡ given.knows.sent.published ++ take produced.sent events
+  pub all : produced.fault ≡ None → produced.sent ≡ length events
+  pub stopped : produced.fault ≡ Some work.Stopped → may_stop
+  pub done : SenderEnd
+  pub calls : SomeCalls sender_does given done (Sends cut (length events) may_stop must_stop produced)
+  pub closes : ClosesOnceDone done back
+
+-- the promises of the three handlers' workers
+
+abbrev pub KeepsJournal : Type 0 → (ℕ → Type 0) → ReceiverEnd → Worked → Type 0
+KeepsJournal may_stop must_stop given back = Keeps (λ old event s end new. Journals old event new) (λ j. IsJournalOf j []) journal_part may_stop must_stop given back
+
+abbrev pub KeepsReplica : Type 0 → (ℕ → Type 0) → ReceiverEnd → Worked → Type 0
+KeepsReplica may_stop must_stop given back = Keeps (λ old event s end new. Copies old event new) (λ r. IsReplicaOf r []) replica_part may_stop must_stop given back
+
+abbrev pub KeepsBusiness : Type 0 → (ℕ → Type 0) → ReceiverEnd → Worked → Type 0
+KeepsBusiness may_stop must_stop given back = Keeps (λ old event s end new. Books old event new) (λ b. IsBusinessOf b []) business_part may_stop must_stop given back
+
+-- what came of an exchange: the sender published the first of the events, all of them where it has no fault, and closed, and each worker keeps its promise
+pub record IsRun (may_stop : ℕ → Type 0) (must_stop : ℕ → ℕ → Type 0) (size : ℕ) (events : List Event) (s : SenderEnd) (j r b : ReceiverEnd) (ran : Ran) : Type 0 where
+  pub sending : IsSending (max (size / 4) 1) events (may_stop 16) (must_stop 16) s ran.sender ran.produced
+  pub closed : s.knows.sent.pending ≡ [] → ran.sender.knows.closed ≡ true
+  pub journal : KeepsJournal (may_stop 0) (must_stop 0) j ran.journal
+  pub replica : KeepsReplica (may_stop 1) (must_stop 1) r ran.replica
+  pub business : KeepsBusiness (may_stop 2) (must_stop 2) b ran.business
 
 -- what is told of some events, unless a worker has a fault
 pub record Says (events : List Event) (ran : Ran) : Type 0 where
@@ -43,10 +69,16 @@ pub record Says (events : List Event) (ran : Ran) : Type 0 where
 abbrev pub ends_of : Ran → List ReceiverEnd
 ends_of ran = ran.journal.receiver ∷ ran.replica.receiver ∷ ran.business.receiver ∷ []
 
--- whether a sender closed or not, it published what it did
-pub record StaysAt (old new : SenderEnd) : Type 0 where
-  pub place : sender_place new ≡ sender_place old
-  pub published : new.knows.sent.published ≡ old.knows.sent.published
+-- each handler's end received these events, and its worker has no fault
+pub record AreThrough (events : List Event) (ran : Ran) : Type 0 where
+  pub journal : (ran.journal.receiver.knows.received ≡ events) × (error_of ran.journal.part ≡ None)
+  pub replica : (ran.replica.receiver.knows.received ≡ events) × (error_of ran.replica.part ≡ None)
+  pub business : (ran.business.receiver.knows.received ≡ events) × (error_of ran.business.part ≡ None)
+
+-- where there is an event, no handler was one that its gate has to stop at its first turn
+abbrev pub NoneHadToStop : (ℕ → ℕ → Type 0) → List Event → Type 0
+NoneHadToStop must_stop [] = Unit {0}
+NoneHadToStop must_stop (event ∷ events) = (who : ℕ) → who < 3 → must_stop who 0 → ⊥
 
 -- Which fault of the workers a replay answers.
 
@@ -110,7 +142,7 @@ abbrev pub lock_endings : Option WorkFault → Option WorkFault → Option WorkF
 lock_endings journal replica business producers =
     record { who = 0; fault = journal } ∷ record { who = 1; fault = replica } ∷ record { who = 2; fault = business } ∷ numbered 16 producers
 
--- what an audit answers of what an exchange of this setup went through: the least producer that did not send its script, and where each did, the least handler that lacks events
+-- what an audit answers of some history that an exchange of this setup went through, since no contract above the lock can name it: the least producer that did not send its script, and where each did, the least handler that lacks events
 abbrev pub AuditFinds : Setup → List (List Event) → AuditFault → Type 0
 AuditFinds c scripts audit.NoMemory = ⊥
 AuditFinds c scripts f = (h : History Event) × IsHalted c h × Faults (transcript h) (handlers h.core.setup) scripts f
