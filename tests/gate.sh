@@ -1,17 +1,20 @@
 #!/usr/bin/env bash
 # The whole gate: every proof and every test's proof from nothing and each program's run (`rt ci`), then the program, as both
-# compilers built it, from outside; and, on what processors that leaves, the wrong bodies. The last line, `N passed, M
-# failed`, counts what `rt ci` counts, each wrong body, and one failure more for each script that fails on a build.
+# compilers built it, from outside; and, on what processors that leaves, the wrong bodies, over the libraries that `rt ci`
+# proves. The last line, `N passed, M failed`, counts what `rt ci` counts, each wrong body, and one failure more for each
+# script that fails on a build.
 set -u
 cd "$(dirname "$0")/.." || exit 2
 last=$(mktemp) || exit 2
 bodies=$(mktemp) || exit 2
+words=$(mktemp) || exit 2
 passed=0 failed=0
 
-# Runs a command, shows its lines but the last, and adds the two numbers of the last one to what passed and what failed.
+# Runs a command, shows its lines but the last, and adds the two numbers of the last one to what passed and what failed. Its
+# lines go to $words too, as they come.
 counted() { # COMMAND..
     : > "$last"
-    "$@" | sed -u -n -e "\$w $last" -e '$!p'
+    "$@" | tee "$words" | sed -u -n -e "\$w $last" -e '$!p'
     local status=${PIPESTATUS[0]} numbers
     read -r -a numbers <<< "$(sed -n -E 's/^([0-9]+) (passed|refused), ([0-9]+) (failed|not)$/\1 \3/p' "$last")"
     [ "${#numbers[@]}" = 2 ] || { cat "$last"; numbers=(0 1); }
@@ -24,11 +27,12 @@ whole() { # COMMAND..
     "$@" || failed=$((failed + 1))
 }
 
-nice -n 10 tests/wrong_bodies.py --apart > "$bodies" 2>&1 &
+nice -n 10 tests/wrong_bodies.py --over "$words" > "$bodies" 2>&1 &
 trying=$!
-trap 'kill "$trying" 2> /dev/null; rm -f "$last" "$bodies"' EXIT
+trap 'kill "$trying" 2> /dev/null; rm -f "$last" "$bodies" "$words"' EXIT
 # One job for each proof takes the least of the processors' time, and there are always other proofs.
 RT_JOBS=$(nproc) counted rt ci
+echo '0 passed, 0 failed: rt ci ended' >> "$words"
 whole tests/wrong_bodies_test.py
 for build in '' .by-rattle; do
     built=crates/disruptor/out/disruptor$build calls=crates/disruptor_hostile/out/disruptor_hostile$build

@@ -3,18 +3,20 @@
 
   tests/wrong_bodies.py                      those of all crates
   tests/wrong_bodies.py --crate dr_core ..   those of these crates
-  tests/wrong_bodies.py --alone ..           each by itself, as `rt must-fail` judges it
+  tests/wrong_bodies.py --alone ..           each by itself
+  tests/wrong_bodies.py --over FILE          over the libraries of an `rt ci` that runs here, whose words go to FILE
 
 A function is proved against its own contract and the contracts of what it calls, and never against a body. So wrong
-bodies of different functions can stand in one copy of a crate, and one check refuses each by its own function. An edit
-counts as refused where that function is told as not proved, for a goal of its own. What is not told so is tried alone by
-`rt must-fail`, whose word is the last. Each edit has a line that names the goal that refused it, and the last line is
-`N refused, M not`.
+bodies of different functions can stand in one copy of a crate, and one check of these functions refuses each by its own.
+An edit counts as refused where that function is told as not proved, for a goal of its own. What is not told so is tried
+once more, alone. Each edit has a line that names the goal that refused it, and the last line is `N refused, M not`.
+
+First each crate is proved as it is, over what earlier runs kept. With `--over` that is `rt ci`'s part: a crate's edits are
+tried as soon as the libraries below it stand, and none of them counts unless `rt ci` proves the crate.
 """
 
 import argparse
 import functools
-import glob
 import heapq
 import itertools
 import os
@@ -24,6 +26,7 @@ import subprocess
 import sys
 import tempfile
 import threading
+import time
 from concurrent.futures import ThreadPoolExecutor
 from dataclasses import dataclass, field
 
@@ -39,20 +42,23 @@ STATED = re.compile(r"\b(requires|ensures|ghost|struct|enum|fn|impl|trait|const|
 TELLS = re.compile(r"^fn (\S+): (.*)$", re.M)
 # So much memory, in kB, is free before a further check begins: others go on beside it.
 ROOM = 6_000_000
-# How many edits one run of `rt must-fail` judges: it tries them in turn.
-LOT = 3
+# What `rt ci` says once a library stands, or a program is proved, and at its end.
+PROVED = re.compile(r"^rt: (\w+) (?:proved$|is kept: )", re.M)
+ENDED = re.compile(r"^\d+ passed, \d+ failed", re.M)
 # Errors that say only that a proof file cites what is gone.
 NAMES = re.compile(r"has no field|is not in scope|has no `|was not admitted|which was rejected|depends? on")
 
 
 @dataclass
 class Edit:
-    """A wrong body: the texts that it changes, and the function whose body it is of, where that is one."""
+    """A wrong body: the texts that it changes, and the functions in which these stand, as files, owners and names."""
 
     crate: str
     name: str
     pairs: list = field(default_factory=list)
-    function: tuple = ()
+    functions: list = field(default_factory=list)
+    is_of_a_body: bool = True
+    judge: str = ""
 
     def __hash__(self):
         return hash((self.crate, self.name))
@@ -63,12 +69,15 @@ class Edit:
 
 
 def read_edit(crate, path):
-    """Reads an edit: lines `file: PATH`, and pairs of lines `old: TEXT` and `new: TEXT`."""
+    """Reads an edit: lines `file: PATH`, and pairs of lines `old: TEXT` and `new: TEXT`. A line `judge: PATH` names the function
+    that has to refuse an edit of no body."""
     edit, file, old = Edit(crate, os.path.basename(path).removesuffix(".edit")), None, None
     for line in open(path, encoding="utf-8").read().split("\n"):
         word, _, text = line.partition(": ")
         if word == "file":
             file = text.strip()
+        elif word == "judge":
+            edit.judge = text.strip()
         elif word == "old":
             old = text
         elif word in ("new", "new:"):
@@ -150,27 +159,26 @@ def function_at(text, at):
 
 
 def place(edit, folder):
-    """Notes the one function that the edit changes, if it is one, and the edit is inside its body."""
-    found = set()
-    for file, old, _ in edit.pairs:
-        if not file.startswith("src/") or STATED.search(old):
-            return
-        text = open(f"{folder}/{file}", encoding="utf-8").read()
-        if text.count(old) != 1:
-            return
-        function = function_at(text, text.find(old))
-        if not function:
-            return
-        found.add((file, *function))
-    if len(found) == 1:
-        edit.function = found.pop()
+    """Notes the functions that the edit changes, and whether it changes the body of one and nothing else."""
+    texts = {it[0]: open(f"{folder}/{it[0]}", encoding="utf-8").read() for it in edit.pairs}
+    for file, old, new in edit.pairs:
+        # What is added to a line begins where that ends, as in a body after `fn .. {`.
+        goes_on = old.endswith("{") and new.startswith(old)
+        at = texts[file].find(old) + len(old) * goes_on
+        # A check knows no function of a test.
+        function = function_at(texts[file], at) if file.startswith("src/") and "tests" not in re.split("[/.]", file) else None
+        if function and (file, *function) not in edit.functions:
+            edit.functions.append((file, *function))
+        edit.is_of_a_body &= bool(function) and (goes_on or not STATED.search(old))
+        texts[file] = texts[file].replace(old, new)
+    edit.is_of_a_body &= len(edit.functions) == 1 and not edit.judge
 
 
 def companies(edits):
-    """Parts the edits into lists that one check each can try: in none are two of one function."""
+    """Parts the edits into lists that one check each can try, the longest first: in none are two of one function."""
     groups = []
     for edit in edits:
-        group = next((it for it in groups if edit.function not in [one.function for one in it]), None)
+        group = next((it for it in groups if edit.functions not in [one.functions for one in it]), None)
         if group is None:
             groups.append([edit])
         else:
@@ -180,7 +188,7 @@ def companies(edits):
 
 def path_in(said, edit):
     """Returns the path by which `rt` told the edit's function, or None where that is not one."""
-    file, owner, name = edit.function
+    [(file, owner, name)] = edit.functions
     paths = [it for it in said if it.split("::")[-1] == name]
     if owner:
         paths = [it for it in paths if it.split("::")[-2] == owner] or [it for it in paths if it.split("::")[-2].startswith(owner)]
@@ -212,54 +220,66 @@ def goal_of(output, path, why):
 
 
 def verdict(output, edit):
-    """Returns what a check in company says of an edit: the goal that refuses it, or None where that is not told."""
+    """Returns what a check says of an edit: the goal that refuses it, or None where that is not told. It is one of the edit's own
+    function, or, where the edit is not of one body and so stands alone, of its judge or else of any."""
     said = dict(TELLS.findall(output))
-    path = path_in(said, edit)
-    goal = goal_of(output, path, said[path]) if path else None
-    return f"{path.partition('::')[2]}, goal {goal}" if goal else None
+    for path in [path_in(said, edit)] if edit.is_of_a_body else [it for it in said if it.endswith(edit.judge)]:
+        if path and (goal := goal_of(output, path, said[path])):
+            return f"{path.partition('::')[2]}, goal {goal}"
+    return None
 
 
-def path_of(edit):
-    """Returns the whole path of the edit's function, as `rt check --only` takes it."""
-    file, owner, name = edit.function
+def path_of(function):
+    """Returns the end of a function's path that `rattle check --only` knows it by: a method stands below its type, wherever the impl is."""
+    file, owner, name = function
     module = file.removeprefix("src/").removesuffix(".rt").removesuffix("/mod").replace("/", "::")
-    return "::".join(it for it in (edit.crate, module if module != "lib" else "", owner, name) if it)
+    return "::".join(it for it in (owner or (module if module != "lib" else ""), name) if it)
+
+
+class Libraries:
+    """The libraries of the crates, as some `rt` built them, and how a crate is checked over them."""
+
+    def __init__(self, top, room):
+        self.top, self.room, self.uses, self.below = top, room, prove.uses_of(top), prove.crates_of(top)
+        self.kit = os.path.dirname(said_by(["rt", "doc"], top).strip())
+
+    def take(self, name):
+        """Gives the library that stands in the crate's folder `out` a second name, since an `rt` may replace it there."""
+        shutil.copytree(f"{self.top}/crates/{name}/out/rlib/{name}.rlib", f"{self.room}/{name}.rlib", copy_function=prove.link)
+
+    def check(self, edits, kept, keeps=None):
+        """Checks the functions of these edits in a copy of their crate, over what is kept, and returns what is said. What it kept goes to keeps."""
+        name = edits[0].crate
+        with tempfile.TemporaryDirectory(prefix="wrong-") as room:
+            for it in prove.SOURCES:
+                if os.path.isdir(f"{self.top}/crates/{name}/{it}"):
+                    shutil.copytree(f"{self.top}/crates/{name}/{it}", f"{room}/{it}")
+            if kept and os.path.isdir(kept):
+                shutil.copytree(kept, f"{room}/kept", copy_function=prove.link)
+            for it in edits:
+                applied(it, room)
+            said = said_by([*self.words(name), *only(edits)], room)
+            if keeps and os.path.isdir(f"{room}/kept"):
+                shutil.move(f"{room}/kept", keeps)
+        return said
+
+    def words(self, name):
+        libraries = [f"{it}={self.room if it in self.below else f'{self.kit}/rlibs'}/{it}.rlib" for it in ("std", *self.uses[name])]
+        words = ["rattle", "check", "--crate-name", name, "src/lib.rt", "--jobs", "1", "--incremental", "kept", "--links", f"{name}="]
+        words += [word for it in libraries for word in ("--extern", it)]
+        words += ["-L", f"dependency={self.kit}/rlibs", "-L", f"dependency={self.room}"]
+        return [*words, "--antt-project", f"{self.kit}/rattle/logic/antt-project.json", "--logic-built", f"{self.kit}/logic_built"]
 
 
 def only(edits):
-    """Returns the words with which `rt check` looks at the functions of these edits alone."""
-    return [word for it in sorted({path_of(edit) for edit in edits}) for word in ("--only", it)]
-
-
-def try_together(top, crate, below, edits, is_whole):
-    """Checks a copy of the crate in which all these edits stand, or their functions alone, and returns what it says of each."""
-    with tempfile.TemporaryDirectory(prefix="wrong-") as room:
-        prove.copy_of(top, room, [crate], below)
-        for it in edits:
-            applied(it, f"{room}/crates/{crate}")
-        said = said_by(["rt", "check", "--jobs", "1", *([] if is_whole else only(edits))], f"{room}/crates/{crate}")
-    return {it: verdict(said, it) for it in edits}
-
-
-def try_alone(top, crate, below, edits):
-    """Has `rt must-fail` judge each of these edits by itself, over what is kept, and returns what it says of each."""
-    with tempfile.TemporaryDirectory(prefix="wrong-") as room:
-        prove.copy_of(top, room, [crate], below)
-        os.makedirs(f"{room}/crates/{crate}/must-fail")
-        for it in edits:
-            shutil.copy2(f"{top}/crates/{crate}/wrong/{it.name}.edit", f"{room}/crates/{crate}/must-fail")
-        said = said_by(["rt", "must-fail", crate], room)
-    found = {it[1]: it[2] for it in re.finditer(rf"must-fail {crate}/(\S+)\.edit: (.*)", said)}
-    return {it: found.get(it.name, f"rt must-fail said nothing of it: {said[-200:]}") for it in edits}
+    """Returns the words with which a check looks at the functions of these edits alone, or at all where an edit is of none."""
+    paths = [[it.judge] if it.judge else [path_of(one) for one in it.functions] for it in edits]
+    return [word for it in sorted({it for one in paths for it in one}) for word in ("--only", it)] if all(paths) else []
 
 
 def said_by(words, folder):
     how = {"stdin": subprocess.DEVNULL, "stdout": subprocess.PIPE, "stderr": subprocess.STDOUT}
     return subprocess.run(words, cwd=folder, **how).stdout.decode(errors="replace")
-
-
-def is_refused(text):
-    return text.startswith("refused, as it must be") and "only because a proof file" not in text
 
 
 class Lanes:
@@ -282,14 +302,21 @@ class Lanes:
             self.running += bool(self.ready)
             return heapq.heappop(self.ready)[2] if self.ready else None
 
+    def hold(self):
+        """Has the lanes wait for work that is still to be added, until it is released."""
+        self.running += 1
+
+    def release(self):
+        with self.changed:
+            self.running -= 1
+            self.changed.notify_all()
+
     def go_on(self):
         while work := self.take():
             try:
                 work()
             finally:
-                with self.changed:
-                    self.running -= 1
-                    self.changed.notify_all()
+                self.release()
 
     def run(self):
         with ThreadPoolExecutor(prove.processors()) as pool:
@@ -309,71 +336,109 @@ class Crate:
                 self.failed[edit] = f"BAD EDIT: {why}"
                 continue
             place(edit, folder)
-            (self.bodies if edit.function else self.others).append(edit)
+            (self.bodies if edit.is_of_a_body else self.others).append(edit)
 
 
 class Trial:
-    """The edits of some crates: first a crate is proved as it is, and then its edits are tried over what that kept."""
+    """The edits of some crates, each tried once the libraries below its crate stand."""
 
-    def __init__(self, top, names, is_alone, told):
-        self.top, self.is_alone, self.told, self.below = top, is_alone, told, prove.crates_of(top)
+    def __init__(self, top, names, room, told):
+        self.top, self.room, self.told, self.below = top, room, told, prove.crates_of(top)
+        os.mkdir(f"{room}/libraries")
+        self.libraries = Libraries(top, f"{room}/libraries")
         self.crates = {it: Crate(top, it) for it in names}
-        self.left = [it for it in self.below if any(it in (one, *self.below[one]) for one in names)]
-        self.all, self.proved, self.changing, self.lanes = list(self.left), set(), threading.Lock(), Lanes()
-        # Where another crate stands on it, or the kit judges an edit, all of a crate is proved; else what its edits reach.
-        self.whole = {it for it in self.all if it not in self.crates or is_alone or self.crates[it].others}
-        self.whole |= {one for it in self.all for one in self.below[it]}
+        self.all = [it for it in self.below if any(it in (one, *self.below[one]) for one in names)]
+        self.left, self.proved, self.changing, self.lanes = list(self.all), set(), threading.Lock(), Lanes()
 
-    def begin(self):
-        """Proves the crates whose lower crates are proved: those with the most above them first."""
+    def ready(self):
+        """Returns the crates that were not begun, and whose lower crates are proved, in their order."""
         with self.changing:
-            for name in [it for it in self.left if self.proved.issuperset(self.below[it])]:
-                self.left.remove(name)
-                above = sum(name in self.below[it] for it in self.all)
-                self.lanes.add(-above, functools.partial(self.prove, name))
+            found = [it for it in self.left if self.proved.issuperset(self.below[it])]
+            self.left = [it for it in self.left if it not in found]
+            return found
 
-    def prove(self, name):
-        words = ["lib"] if name in self.whole else ["check", *only(self.crates[name].bodies)]
-        status, said = prove.prove(self.top, name, self.below[name], 1, 0, words)
-        if status and name not in self.whole:  # (a test's function is unknown to such a check)
-            self.whole.add(name)
-            self.lanes.add(0, functools.partial(self.prove, name))
-            return
+    def prove_what_is_ready(self, is_alone):
+        """Proves each as it is, those with the most above them first, and then tries its edits over what that kept."""
+        for name in self.ready():
+            above = sum(name in self.below[it] for it in self.all)
+            self.lanes.add(-above, functools.partial(self.prove, name, is_alone))
+
+    def prove(self, name, is_alone):
+        status, said = prove.prove(self.top, name, self.below[name], 1, 0, ["lib"])
         if status:
             self.told(f"{said[-3000:]}\n{name} is not proved as it is")
             return
-        self.proved.add(name)
-        self.begin()
+        self.note_proved(name)
+        self.prove_what_is_ready(is_alone)
         if crate := self.crates.get(name):
-            alone = [*crate.bodies, *crate.others] if self.is_alone else crate.others
-            for it in [] if self.is_alone else companies(crate.bodies):
-                self.lanes.add(1, functools.partial(self.together, name, it))
-            for it in range(0, len(alone), LOT):
-                self.lanes.add(2, functools.partial(self.alone, name, alone[it : it + LOT]))
+            kept = f"{self.top}/crates/{name}/out/incremental"
+            lone = [*crate.bodies, *crate.others] if is_alone else crate.others
+            self.add([[it] for it in lone] + companies([] if is_alone else crate.bodies), kept)
 
-    def together(self, name, edits):
-        found = try_together(self.top, name, self.below[name], edits, name in self.whole)
-        for edit, goal in found.items():
-            if goal:
-                self.crates[name].refused[edit] = goal
+    def note_proved(self, name):
+        """Notes that a crate is proved, and takes its library for the crates above."""
+        if any(name in self.below[it] for it in self.all):
+            self.libraries.take(name)
+        self.proved.add(name)
+
+    def follow(self, file):
+        """Takes each library that `rt ci` has proved, by its words in the file, and begins the edits of the crates above it."""
+        try:
+            words = ""
+            while not ENDED.search(words) and not self.proved.issuperset(self.all):
+                time.sleep(2)
+                words = open(file, encoding="utf-8", errors="replace").read()
+                for name in [it for it in self.all if it in PROVED.findall(words) and it not in self.proved]:
+                    self.note_proved(name)
+                for crate in [self.crates[it] for it in self.ready() if it in self.crates]:
+                    self.begin([*companies(crate.bodies), *[[it] for it in crate.others]])
+        finally:
+            self.lanes.release()
+
+    def begin(self, groups):
+        """Tries the first of these lists of a crate's edits from nothing, and then the others over what that kept."""
+
+        def first():
+            kept = f"{self.room}/{groups[0][0].crate}"
+            self.attempt(groups[0], None, kept)
+            self.add(groups[1:], kept)
+
+        if groups:
+            self.lanes.add(0, first)
+
+    def add(self, groups, kept):
+        for it in groups:
+            self.lanes.add(1, functools.partial(self.attempt, it, kept))
+
+    def attempt(self, edits, kept, keeps=None):
+        """Has one check judge these edits, and each of which it does not tell one of its own."""
+        said = self.libraries.check(edits, kept, keeps)
+        for edit in edits:
+            crate = self.crates[edit.crate]
+            if goal := verdict(said, edit):
+                crate.refused[edit] = goal
                 self.told(f"{edit.label}: refused by {goal}")
-        if rest := [it for it in edits if not found[it]]:
-            self.lanes.add(1, functools.partial(self.alone, name, rest))
+            elif len(edits) > 1:
+                self.add([[edit]], kept or keeps)
+            else:
+                errors = [it for it in said.split("\n") if "error" in it]
+                crate.failed[edit] = errors[0] if errors else said.strip().split("\n")[-1]
 
-    def alone(self, name, edits):
-        for edit, text in try_alone(self.top, name, self.below[name], edits).items():
-            crate = self.crates[name]
-            (crate.refused if is_refused(text) else crate.failed)[edit] = text
-            self.told(f"{edit.label}: alone, {text[:200]}")
-
-    def run(self):
+    def run(self, is_alone=False, file=None):
         """Tries all edits, tells what was not refused, and returns how many were refused, and how many not."""
-        self.begin()
+        if file:
+            self.lanes.hold()
+            threading.Thread(target=self.follow, args=(file,), daemon=True).start()
+        else:
+            self.prove_what_is_ready(is_alone)
         self.lanes.run()
         refused, failed = 0, 0
-        for crate in self.crates.values():
+        for name, crate in self.crates.items():
             for edit in [*crate.bodies, *crate.others]:
-                if edit not in crate.refused:
+                if name not in self.proved:
+                    crate.refused.pop(edit, None)
+                    crate.failed[edit] = f"{name} is not proved as it is"
+                elif edit not in crate.refused:
                     crate.failed.setdefault(edit, "no run reached it")
             for edit, why in crate.failed.items():
                 self.told(f"NOT REFUSED: {edit.label}: {why[:300]}")
@@ -381,22 +446,15 @@ class Trial:
         return refused, failed
 
 
-def apart(top, room):
-    """Makes a copy of the sources with nothing kept."""
-    prove.copy_of(top, room, [], [])
-    for it in glob.glob(f"{top}/crates/*/wrong"):
-        shutil.copytree(it, room + it.removeprefix(top))
-    return room
-
-
-def run(top, asked, is_alone, told):
+def run(top, asked, is_alone, told, file=None):
     """Tries the edits of the crates that are asked for, or of all, and returns the status."""
     names = [it for it in prove.crates_of(top) if os.path.isdir(f"{top}/crates/{it}/wrong")]
     for it in asked or ():
         if it not in names:
             told(f"{it} is no crate with edits")
             return 2
-    refused, failed = Trial(top, [it for it in names if not asked or it in asked], is_alone, told).run()
+    with tempfile.TemporaryDirectory(prefix="trial-") as room:
+        refused, failed = Trial(top, [it for it in names if not asked or it in asked], room, told).run(is_alone, file)
     told(f"{refused} refused, {failed} not")
     return 1 if failed or not refused else 0
 
@@ -405,11 +463,9 @@ def main():
     parser = argparse.ArgumentParser(description=__doc__, formatter_class=argparse.RawDescriptionHelpFormatter)
     parser.add_argument("--crate", nargs="+", metavar="NAME", help="try those of these crates alone")
     parser.add_argument("--alone", action="store_true", help="try each by itself")
-    parser.add_argument("--apart", action="store_true", help="in a copy with nothing kept, so that another rt may run beside it")
+    parser.add_argument("--over", metavar="FILE", help="over the libraries of the rt ci whose words go to FILE")
     asked = parser.parse_args()
-    with tempfile.TemporaryDirectory(prefix="apart-") as room:
-        top = apart(TOP, room) if asked.apart else TOP
-        return run(top, asked.crate, asked.alone, lambda it: print(it, flush=True))
+    return run(TOP, asked.crate, asked.alone, lambda it: print(it, flush=True), asked.over)
 
 
 if __name__ == "__main__":

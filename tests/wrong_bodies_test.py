@@ -1,5 +1,6 @@
 #!/usr/bin/env python3
-"""Tests of `wrong_bodies.py` over a crate of three functions, made in a folder of its own: which edits it takes as refused."""
+"""Tests of `wrong_bodies.py` over a crate of four functions, made in a folder of its own: which edits it takes as refused, over
+what `rt lib` keeps, and some from nothing, beside an `rt ci` whose words are written here."""
 
 import os
 import sys
@@ -35,6 +36,11 @@ pub fn four_times(n: u16) -> u64
     half + half
 }
 
+pub fn same(n: u8) -> u8 ensures { result ≡ n } {
+    let same = n;
+    same
+}
+
 #[cfg(test)]
 mod tests;
 """
@@ -52,38 +58,59 @@ EDITS = {
     "adds_one": ("src/lib.rt", "    n + n", "    n + n + 1", "refused by twice"),
     "leaves_all": ("src/lib.rt", "rest = n - m", "rest = n", "refused by rest_of"),
     "means_the_same": ("src/lib.rt", "half + half", "2 * half", "NOT REFUSED"),
+    "begins_with_a_return": ("src/lib.rt", "result ≡ n } {", "result ≡ n } { if n > 100 { return 0; }", "refused by same"),
+    "says_less": ("src/lib.rt\njudge: four_times", "    ensures { result ≡ n + n }", "    ensures { n ≤ result }", "refused by four_times"),
     "is_of_a_test": ("src/tests.rt", "8);", "9);", "NOT REFUSED"),
     "is_not_there": ("src/lib.rt", "n * n", "n", "BAD EDIT"),
     "stands_twice": ("src/lib.rt", "n: u", "m: u", "BAD EDIT"),
 }
 
 
-def made_in(top):
-    """Makes the crate with its edits."""
+def made_in(top, names):
+    """Makes the crate with these edits."""
     for it in ("src", "wrong"):
         os.makedirs(f"{top}/crates/toy/{it}")
     texts = {"crates.txt": "toy:\n", "HANDLES": "Handles allowed: none.\n", "crates/toy/src/lib.rt": SOURCE, "crates/toy/src/tests.rt": TESTS}
-    for name, (file, old, new, _) in EDITS.items():
+    for name in names:
+        file, old, new, _ = EDITS[name]
         texts[f"crates/toy/wrong/{name}.edit"] = f"file: {file}\nold: {old}\nnew: {new}\n"
     for path, text in texts.items():
         with open(f"{top}/{path}", "w", encoding="utf-8") as it:
             it.write(text)
 
 
-def main():
-    lines, failed = [], 0
-    # The edit that changes nothing is tried beside a wrong body of what its function calls, so it is not proved there.
+def tried(names, words):
+    """Tries these edits, over what `rt lib` proves or beside an `rt ci` that says these words, and returns the status and the lines."""
+    lines = []
     with tempfile.TemporaryDirectory() as top:
-        made_in(top)
-        status = wrong_bodies.run(top, None, False, lines.append)
-    for name, (_, _, _, wanted) in EDITS.items():
+        made_in(top, names)
+        file = f"{top}/words" if words else None
+        if file:
+            with open(file, "w", encoding="utf-8") as it:
+                it.write(words)
+        return wrong_bodies.run(top, None, False, lines.append, file), lines
+
+
+def failures(wanted, last, words=None):
+    """Returns how much came otherwise: what is said of each edit, and the last line."""
+    failed = 0
+    status, lines = tried(wanted, words)
+    for name, text in wanted.items():
         said = [it for it in lines if f"toy/{name}:" in it]
-        if not any(wanted in it for it in said):
+        if not any(text in it for it in said):
             failed += 1
-            print(f"FAILED: {name}: {wanted} was to come, and {said} came")
-    if status != 1 or lines[-1] != "2 refused, 4 not":
+            print(f"FAILED: {name}: {text} was to come, and {said} came")
+    if bool(status) == last.endswith(" 0 not") or lines[-1] != last:
         failed += 1
         print(f"FAILED: status {status}, last line {lines[-1]}")
+    return failed
+
+
+def main():
+    # The edit that changes nothing is tried beside a wrong body of what its function calls, so it is not proved there.
+    failed = failures({name: it[3] for name, it in EDITS.items()}, "4 refused, 4 not")
+    failed += failures({"adds_one": "refused by twice", "leaves_all": "refused by rest_of"}, "2 refused, 0 not", "rt: toy proved\n")
+    failed += failures({"adds_one": "toy is not proved"}, "0 refused, 1 not", "rt: toy NOT PROVED\n0 passed, 1 failed\n")
     print(f"wrong_bodies.py: {len(EDITS)} edits of a small crate, {failed} failed")
     return 1 if failed else 0
 

@@ -28,12 +28,15 @@ MEMORY = 4_000_000
 JOB_MEMORY = 2_000_000
 
 
+def uses_of(top):
+    """Returns each crate of crates.txt with the libraries that its line names."""
+    lines = [re.match(r"([a-z]\w*)[^:]*:(.*)", it) for it in open(f"{top}/crates.txt", encoding="utf-8")]
+    return {it[1]: it[2].split() for it in lines if it}
+
+
 def crates_of(top):
     """Returns each crate of crates.txt with the crates of the repository below it, the lowest first."""
-    uses = {}
-    for line in open(f"{top}/crates.txt", encoding="utf-8"):
-        if match := re.match(r"([a-z]\w*)[^:]*:(.*)", line):
-            uses[match[1]] = match[2].split()
+    uses = uses_of(top)
 
     def below(name):
         found = []
