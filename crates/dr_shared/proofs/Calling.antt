@@ -1,19 +1,21 @@
 -- What workers call of their ends.
-use Rattle.std.proofs.Common.{◌≡◌, ◌≢◌, ◌<◌, ◌+◌, ℕ, zero, suc, List, [], ◌∷◌, ◌++◌, length, take, drop, replicate, Option, None, Some, Result, Ok, Err, inl, inr, refl, sym, ap, ◌∙◌, subst, drop-cons}
+use Rattle.std.proofs.Common.{◌≡◌, ◌≢◌, ◌<◌, ◌≤◌, ◌+◌, ◌-◌, ℕ, zero, suc, List, [], ◌∷◌, ◌++◌, length, take, drop, replicate, Option, None, Some, Result, Ok, Err, inl, inr, refl, sym, ap, ◌∙◌, subst, arith, add-zero, drop-cons}
 use Rattle.std.specs.List.{cons_option, filter_map}
-use Rattle.std.proofs.lemmas.List.{replicate-append-replicate}
+use Rattle.std.proofs.lemmas.Grind.{flat_map-append}
+use Rattle.std.proofs.lemmas.List.{append-nil, length-take-le, replicate-append-replicate, take_all}
 use Rattle.std.proofs.lemmas.List.Elements.{filter_map-append}
 use Rattle.std.proofs.lemmas.Option.{none-some}
 use Rattle.dr_core.specs.declared.ends.Trouble.{Trouble}
 use Rattle.dr_core.specs.declared.ends.Trouble.TheVariants.{Memory, Refused}
 use Rattle.dr_core.specs.declared.ends.Wrote.{Wrote}
 use Rattle.dr_core.specs.declared.refusal.Refusal.{Refusal}
-use Rattle.dr_core.specs.Calls.Calling.{InletCall, WritesMany, CallsLead, SomeCalls, WritesBy, each_written, first_in_trouble, writes_of}
+use Rattle.dr_core.specs.Calls.Calling.{InletCall, WritesMany, WritesOne, CallsLead, SomeCalls, WritesBy, each_written, first_in_trouble, writes_of}
 use Rattle.dr_core.proofs.Calling.{lead_more}
 use Rattle.dr_shared.specs.Calls.Serving.{EndsIn, GivesUp}
-use Rattle.dr_shared.specs.Inside.Retries.{AreWrites, Retries}
-use Rattle.dr_shared.specs.Meaning.Work.{claim_of, claims_in}
+use Rattle.dr_shared.specs.Inside.Retries.{Retries, WriteCalls}
+use Rattle.dr_shared.specs.Meaning.Work.{accepted_in, accepted_of, claim_of, claims_in}
 use Rattle.dr_shared.proofs.Picks.{there}
+use Rattle.dr_shared.proofs.Writings.{first_and_next, rest_of}
 
 -- The last call.
 
@@ -64,6 +66,19 @@ pub ends_retried : {C : Type 0} (IsSuch : C → Type 0) (waits answered : C) (ca
     → EndsIn IsSuch calls
 ends_retried IsSuch waits answered calls h is = subst (λ l. EndsIn IsSuch l) (sym h.1) (ends_in_last IsSuch (replicate h.0 waits) answered is)
 
+-- what is accepted of calls that are made again is what is accepted of the last one
+accepts_last : {E : Type 0} (waits answered : InletCall E) → accepted_of waits ≡ [] → (times : ℕ) → accepted_in (replicate times waits ++ answered ∷ []) ≡ accepted_of answered
+accepts_last waits answered none zero = append-nil (accepted_of answered)
+accepts_last waits answered none (suc times) =
+    ap (λ l. l ++ accepted_in (replicate times waits ++ answered ∷ [])) none ∙ accepts_last waits answered none times
+
+pub accepted_last : {E : Type 0} (waits answered : InletCall E) (calls : List (InletCall E)) → Retries waits answered calls → accepted_of waits ≡ []
+    → accepted_in calls ≡ accepted_of answered
+accepted_last waits answered calls h none = ap accepted_in h.1 ∙ accepts_last waits answered none h.0
+
+pub accepted_in-append : {E : Type 0} (xs ys : List (InletCall E)) → accepted_in (xs ++ ys) ≡ accepted_in xs ++ accepted_in ys
+accepted_in-append xs ys = flat_map-append accepted_of xs ys
+
 -- Many writes.
 
 no_claims : {E : Type 0} (lo : ℕ) (events : List E) → claims_in (each_written lo events) ≡ []
@@ -75,10 +90,32 @@ no_claim s None events = refl
 no_claim s (Some trouble) [] = refl
 no_claim s (Some trouble) (event ∷ events) = refl
 
--- writes claim nothing, and where one is refused it is the last
-pub record AreRefused {E : Type 0} (trouble : Option Trouble) (calls : List (InletCall E)) : Type 0 where
+all_written : {E : Type 0} (lo : ℕ) (events : List E) → accepted_in (each_written lo events) ≡ each_written lo events
+all_written lo [] = refl
+all_written lo (event ∷ events) = ap (λ l. WritesOne lo event (Ok tt) ∷ l) (all_written (lo + 1) events)
+
+none_accepted : {E : Type 0} (s : ℕ) (trouble : Option Trouble) (events : List E) → accepted_in (first_in_trouble s trouble events) ≡ []
+none_accepted s None events = refl
+none_accepted s (Some trouble) [] = refl
+none_accepted s (Some trouble) (event ∷ events) = refl
+
+-- the writes of some events, and of others after them
+pub each_written-append : {E : Type 0} (lo : ℕ) (xs ys : List E) → each_written lo xs ++ each_written (lo + length xs) ys ≡ each_written lo (xs ++ ys)
+each_written-append lo [] ys = ap (λ n. each_written n ys) (add-zero lo)
+each_written-append lo (x ∷ xs) ys =
+    let at : lo + length (x ∷ xs) ≡ lo + 1 + length xs = omega arith in
+    ap (λ l. WritesOne lo x (Ok tt) ∷ l) (ap (λ n. each_written (lo + 1) xs ++ each_written n ys) at ∙ each_written-append (lo + 1) xs ys)
+
+pub each_written-take : {E : Type 0} (k lo : ℕ) (events : List E) → each_written lo (take k events) ≡ take k (each_written lo events)
+each_written-take zero lo events = refl
+each_written-take (suc k) lo [] = refl
+each_written-take (suc k) lo (event ∷ events) = ap (λ l. WritesOne lo event (Ok tt) ∷ l) (each_written-take k (lo + 1) events)
+
+-- writes claim nothing, those that are accepted are of the first events, as many as are answered, and where one is refused it is the last
+pub record AreTried {E : Type 0} (lo : ℕ) (events : List E) (wrote : Wrote) (calls : List (InletCall E)) : Type 0 where
   pub claims : claims_in calls ≡ []
-  pub refused : (r : Refusal) → trouble ≡ Some (Refused r) → EndsIn (GivesUp (Refused r)) calls
+  pub accepted : accepted_in calls ≡ each_written lo (take wrote.count events)
+  pub refused : (r : Refusal) → wrote.trouble ≡ Some (Refused r) → EndsIn (GivesUp (Refused r)) calls
 
 one_refused : {E : Type 0} (s : ℕ) (trouble : Option Trouble) (r : Refusal) (event : E) (rest : List E) → trouble ≡ Some (Refused r)
     → EndsIn (GivesUp (Refused r)) (first_in_trouble s trouble (event ∷ rest))
@@ -87,54 +124,85 @@ one_refused s (Some trouble) r event rest is = (cc, tt)
 
 pub many_writes : {S E : Type 0} (does : S → InletCall E → S → Type 0) (lo : ℕ) (events : List E) (wrote : Wrote) (a b : S)
     → ((r : Refusal) → wrote.trouble ≡ Some (Refused r) → wrote.count < length events) → WritesBy a b does lo events wrote
-    → SomeCalls does a b (AreRefused wrote.trouble)
+    → SomeCalls does a b (AreTried lo events wrote)
 many_writes does lo events wrote a b stops (inl once) =
-    record { calls = WritesMany lo events wrote ∷ []; lead = (b, once, refl); holds = record { claims = refl; refused = λ r is. (is, tt) } }
-many_writes {S} {E} does lo events wrote a b stops (inr each) = record {
-  calls = writes_of lo events wrote;
-  lead = each;
-  holds = record {
-    claims = filter_map-append claim_of (each_written lo (take wrote.count events)) (first_in_trouble (lo + wrote.count) wrote.trouble (drop wrote.count events))
-        ∙ ap (λ l. l ++ claims_in (first_in_trouble (lo + wrote.count) wrote.trouble (drop wrote.count events))) (no_claims lo (take wrote.count events))
-        ∙ no_claim (lo + wrote.count) wrote.trouble (drop wrote.count events);
-    refused = λ r is.
-        let at = there events wrote.count (stops r is) in
-        ends_after (GivesUp (Refused r)) (each_written lo (take wrote.count events)) (first_in_trouble (lo + wrote.count) wrote.trouble (drop wrote.count events))
-        (rw (drop-cons events wrote.count at.0 (stops r is)) (one_refused (lo + wrote.count) wrote.trouble r _ _ is));
-  };
-}
+    record { calls = WritesMany lo events wrote ∷ []; lead = (b, once, refl); holds = record { claims = refl; accepted = append-nil (each_written lo (take wrote.count events)); refused = λ r is. (is, tt) } }
+many_writes {S} {E} does lo events wrote a b stops (inr each) =
+    let first = each_written lo (take wrote.count events) in
+    let rest = first_in_trouble (lo + wrote.count) wrote.trouble (drop wrote.count events) in record {
+      calls = writes_of lo events wrote;
+      lead = each;
+      holds = record {
+        claims = filter_map-append claim_of first rest ∙ ap (λ l. l ++ claims_in rest) (no_claims lo (take wrote.count events)) ∙ no_claim (lo + wrote.count) wrote.trouble (drop wrote.count events);
+        accepted = accepted_in-append first rest ∙ ap (λ l. l ++ accepted_in rest) (all_written lo (take wrote.count events))
+            ∙ ap (λ l. first ++ l) (none_accepted (lo + wrote.count) wrote.trouble (drop wrote.count events)) ∙ append-nil first;
+        refused = λ r is.
+            let at = there events wrote.count (stops r is) in
+            ends_after (GivesUp (Refused r)) first rest (rw (drop-cons events wrote.count at.0 (stops r is)) (one_refused (lo + wrote.count) wrote.trouble r _ _ is));
+      };
+    }
 
 -- One after another.
 
 none_more : {E : Type 0} (xs ys : List (InletCall E)) → claims_in xs ≡ [] → claims_in ys ≡ [] → claims_in (xs ++ ys) ≡ []
 none_more xs ys h k = filter_map-append claim_of xs ys ∙ ap (λ l. l ++ claims_in ys) h ∙ k
 
-pub claim_nothing : {S E : Type 0} (does : S → InletCall E → S → Type 0) (a b c : S) (trouble : Option Trouble)
-    → SomeCalls does a b (λ calls. claims_in calls ≡ []) → SomeCalls does b c (AreRefused trouble)
-    → SomeCalls does a c (λ calls. claims_in calls ≡ [])
-claim_nothing does a b c trouble h k =
-    record { calls = h.calls ++ k.calls; lead = lead_more does a b c h.calls k.calls h.lead k.lead; holds = none_more h.calls k.calls h.holds k.holds.claims }
+-- the first events are written
+pub record AreFirst {E : Type 0} (lo : ℕ) (events : List E) (done : ℕ) (calls : List (InletCall E)) : Type 0 where
+  pub claims : claims_in calls ≡ []
+  pub accepted : accepted_in calls ≡ each_written lo (take done events)
+
+pub first_none : {S E : Type 0} (does : S → InletCall E → S → Type 0) (a : S) (lo : ℕ) (events : List E) → SomeCalls does a a (AreFirst lo events 0)
+first_none does a lo events = record { calls = []; lead = refl; holds = record { claims = refl; accepted = refl } }
+
+-- the first of some events, and then the first of those that are left
+first_of_rest : {E : Type 0} (done n : ℕ) (events : List E) → take done events ++ take n (take (length events - done) (drop done events)) ≡ take (done + n) events
+first_of_rest done n events =
+    ap (λ l. take done events ++ take n l) (rest_of events done) ∙ sym (first_and_next events done n)
+
+pub first_more : {S E : Type 0} (does : S → InletCall E → S → Type 0) (a b c : S) (lo done : ℕ) (events : List E) (wrote : Wrote) → done ≤ length events
+    → SomeCalls does a b (AreFirst lo events done) → SomeCalls does b c (AreTried (lo + done) (take (length events - done) (drop done events)) wrote)
+    → SomeCalls does a c (AreFirst lo events (done + wrote.count))
+first_more does a b c lo done events wrote within h k =
+    let part = take wrote.count (take (length events - done) (drop done events)) in
+    let many : length (take done events) ≡ done = length-take-le done events within in record {
+      calls = h.calls ++ k.calls;
+      lead = lead_more does a b c h.calls k.calls h.lead k.lead;
+      holds = record {
+        claims = none_more h.calls k.calls h.holds.claims k.holds.claims;
+        accepted = accepted_in-append h.calls k.calls ∙ ap (λ l. l ++ accepted_in k.calls) h.holds.accepted
+            ∙ ap (λ l. each_written lo (take done events) ++ l) (k.holds.accepted ∙ ap (λ n. each_written (lo + n) part) (sym many))
+            ∙ each_written-append lo (take done events) part ∙ ap (each_written lo) (first_of_rest done wrote.count events);
+      };
+    }
 
 -- none of them is refused
-pub all_accepted : {S E : Type 0} (does : S → InletCall E → S → Type 0) (a b c : S) (trouble : Option Trouble)
-    → SomeCalls does a b (λ calls. claims_in calls ≡ []) → SomeCalls does b c (AreRefused trouble)
-    → SomeCalls does a c (AreWrites (Ok tt))
-all_accepted does a b c trouble h k = record {
-  calls = h.calls ++ k.calls;
-  lead = lead_more does a b c h.calls k.calls h.lead k.lead;
-  holds = record { claims = none_more h.calls k.calls h.holds k.holds.claims; trouble = λ fault is. absurd (is_ok (Ok tt) fault refl is) };
+pub all_accepted : {S E : Type 0} (does : S → InletCall E → S → Type 0) (a b : S) (lo done : ℕ) (events : List E) → length events ≤ done
+    → SomeCalls does a b (AreFirst lo events done) → SomeCalls does a b (WriteCalls lo events (Ok tt))
+all_accepted does a b lo done events all h = record {
+  calls = h.calls;
+  lead = h.lead;
+  holds = record {
+    claims = h.holds.claims;
+    trouble = λ fault is. absurd (is_ok (Ok tt) fault refl is);
+    accepted = h.holds.accepted ∙ ap (each_written lo) (take_all done events all);
+  };
 }
 
 -- the last one is
-pub last_refused : {S E : Type 0} (does : S → InletCall E → S → Type 0) (a b c : S) (trouble : Option Trouble) (why : Trouble) → trouble ≡ Some why
-    → why ≢ Memory → SomeCalls does a b (λ calls. claims_in calls ≡ []) → SomeCalls does b c (AreRefused trouble)
-    → SomeCalls does a c (AreWrites (Err why))
-last_refused does a b c trouble Memory is other h k = absurd (other refl)
-last_refused {S} {E} does a b c trouble (Refused r) is other h k = record {
-  calls = h.calls ++ k.calls;
-  lead = lead_more does a b c h.calls k.calls h.lead k.lead;
-  holds = record {
-    claims = none_more h.calls k.calls h.holds k.holds.claims;
-    trouble = λ fault same. subst (λ f. EndsIn (GivesUp {E = E} f) (h.calls ++ k.calls)) (same_trouble (Err (Refused r)) (Refused r) fault refl same) (ends_after (GivesUp (Refused r)) h.calls k.calls (k.holds.refused r is));
-  };
-}
+pub last_refused : {S E : Type 0} (does : S → InletCall E → S → Type 0) (a b c : S) (lo done : ℕ) (events : List E) (wrote : Wrote) (why : Trouble)
+    → wrote.trouble ≡ Some why → why ≢ Memory → done ≤ length events
+    → SomeCalls does a b (AreFirst lo events done) → SomeCalls does b c (AreTried (lo + done) (take (length events - done) (drop done events)) wrote)
+    → SomeCalls does a c (WriteCalls lo events (Err why))
+unfolding first_more
+last_refused does a b c lo done events wrote Memory is other within h k = absurd (other refl)
+last_refused {S} {E} does a b c lo done events wrote (Refused r) is other within h k =
+    let both = first_more does a b c lo done events wrote within h k in record {
+      calls = h.calls ++ k.calls;
+      lead = both.lead;
+      holds = record {
+        claims = both.holds.claims;
+        trouble = λ fault same. subst (λ f. EndsIn (GivesUp {E = E} f) (h.calls ++ k.calls)) (same_trouble (Err (Refused r)) (Refused r) fault refl same) (ends_after (GivesUp (Refused r)) h.calls k.calls (k.holds.refused r is));
+        accepted = (done + wrote.count, both.holds.accepted ∙ each_written-take (done + wrote.count) lo events);
+      };
+    }

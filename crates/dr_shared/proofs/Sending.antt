@@ -1,21 +1,24 @@
 -- A producer's worker, part after part of its script.
-use Rattle.std.proofs.Common.{◌≡◌, ◌≢◌, ◌+◌, ◌-◌, ℕ, min, List, [], ◌∷◌, ◌++◌, length, Some, Result, Ok, Err, inl, inr, refl, sym, ap, ◌∙◌, subst, arith, length-append}
-use Rattle.std.proofs.lemmas.List.{append-nil}
+use Rattle.std.proofs.Common.{◌≡◌, ◌≢◌, ◌+◌, ◌-◌, ◌<◌, ℕ, zero, suc, min, take, drop, List, [], ◌∷◌, ◌++◌, length, Some, Result, Ok, Err, inl, inr, refl, sym, ap, ◌∙◌, subst, arith, add-one, length-append, length-drop}
+use Rattle.std.specs.Prelude.{flat_map}
+use Rattle.std.proofs.lemmas.Grind.{flat_map-append}
+use Rattle.std.proofs.lemmas.List.{append-nil, length-take-le, take_all}
 use Rattle.std.proofs.lemmas.List.Elements.{filter_map-append}
 use Rattle.dr_core.specs.declared.command.Claimed.{Claimed}
 use Rattle.dr_core.specs.declared.ends.Trouble.{Trouble}
 use Rattle.dr_core.specs.declared.ends.Trouble.TheVariants.{Refused, Memory}
 use Rattle.dr_core.specs.declared.refusal.Refusal.TheVariants.{NoRoom}
-use Rattle.dr_core.specs.Calls.Calling.{InletCall, TriesClaim, PublishesStretch, SomeCalls}
+use Rattle.dr_core.specs.Calls.Calling.{InletCall, TriesClaim, PublishesStretch, SomeCalls, each_written}
 use Rattle.dr_core.proofs.Calling.{lead_more}
 use Rattle.dr_shared.specs.declared.producer.Produced.{Produced}
 use Rattle.dr_shared.specs.declared.turns.Turns.{Turns}
 use Rattle.dr_shared.specs.Calls.Serving.{EndsIn, GivesUp, IsRefusal, ProducerEnds, Sends}
 use Rattle.dr_shared.specs.Calls.Stops.{Passes, begins, fault_at_end, fault_in_trouble}
-use Rattle.dr_shared.specs.Inside.Retries.{AreWrites, Retries, SendsPart}
-use Rattle.dr_shared.specs.Meaning.Work.{AreCut, claim_of, claims_in}
-use Rattle.dr_shared.proofs.Calling.{ends_after, ends_retried, picked, same_trouble}
+use Rattle.dr_shared.specs.Inside.Retries.{AfterClaim, AreWrittenOut, IsPartSent, Retries, SendsPart, WriteCalls}
+use Rattle.dr_shared.specs.Meaning.Work.{AreCut, BeginsPart, IsSent, Part, accepted_in, accepted_of, claim_of, claims_in, sending_of}
+use Rattle.dr_shared.proofs.Calling.{accepted_in-append, accepted_last, ends_after, ends_retried, picked, same_trouble}
 use Rattle.dr_shared.proofs.Stopping.{passes_more, passes_none, stops_after}
+use Rattle.dr_shared.proofs.Writings.{first_and_next}
 
 claims_in-append : {E : Type 0} (xs ys : List (InletCall E)) → claims_in (xs ++ ys) ≡ claims_in xs ++ claims_in ys
 claims_in-append xs ys = filter_map-append claim_of xs ys
@@ -38,11 +41,19 @@ publishes_none : {E : Type 0} (lo hi : ℕ) (answer : Result (Unit {0}) Trouble)
     → claims_in calls ≡ []
 publishes_none lo hi answer calls h = picked claim_of (PublishesStretch lo hi (Err Memory)) (PublishesStretch lo hi answer) calls h refl
 
+accepts_claim : {E : Type 0} (n : ℕ) (answer : Result Claimed Trouble) (calls : List (InletCall E)) → IsClaimed n answer calls → accepted_in calls ≡ accepted_of (TriesClaim n answer)
+accepts_claim n answer calls h = accepted_last (TriesClaim n (Err (Refused NoRoom))) (TriesClaim n answer) calls h refl
+
+accepts_publication : {E : Type 0} (lo hi : ℕ) (answer : Result (Unit {0}) Trouble) (calls : List (InletCall E)) → IsPublished lo hi answer calls
+    → accepted_in calls ≡ accepted_of (PublishesStretch lo hi answer)
+accepts_publication lo hi answer calls h = accepted_last (PublishesStretch lo hi (Err Memory)) (PublishesStretch lo hi answer) calls h refl
+
 -- the claim is refused
-pub part_unclaimed : {S E : Type 0} (does : S → InletCall E → S → Type 0) (n : ℕ) (a b : S) (may_stop : ℕ → Type 0) (must_stop : ℕ → ℕ → Type 0)
-    (t : Turns) (trouble : Trouble) → trouble ≢ Refused NoRoom → SomeCalls does a b (IsClaimed n (Err trouble))
-    → SomeCalls does a b (SendsPart n may_stop must_stop t t (Err trouble))
-part_unclaimed does n a b may_stop must_stop t trouble other h =
+pub part_unclaimed : {S E : Type 0} (does : S → InletCall E → S → Type 0) (events : List E) (a b : S) (may_stop must_stop : ℕ → ℕ → Type 0)
+    (t : Turns) (trouble : Trouble) → trouble ≢ Refused NoRoom → SomeCalls does a b (IsClaimed (length events) (Err trouble))
+    → SomeCalls does a b (SendsPart events may_stop must_stop t t (Err trouble))
+part_unclaimed does events a b may_stop must_stop t trouble other h =
+    let n = length events in
     let none : claims_in h.calls ≡ [] = claims_none n trouble h.calls h.holds in record {
       calls = h.calls;
       lead = h.lead;
@@ -50,14 +61,30 @@ part_unclaimed does n a b may_stop must_stop t trouble other h =
         claims = inr (none, (trouble, refl));
         passes = subst (λ l. Passes may_stop must_stop (length l) t t) (sym none) (passes_none may_stop must_stop t);
         trouble = λ fault is. subst (λ f. EndsIn (GivesUp f) h.calls) (same_trouble (Err trouble) trouble fault refl is) (ends_retried (GivesUp trouble) (TriesClaim n (Err (Refused NoRoom))) (TriesClaim n (Err trouble)) h.calls h.holds (refl, other));
+        accepted = inl (accepts_claim n (Err trouble) h.calls h.holds);
       };
     }
 
--- after the claim some calls that claim nothing
-pub part_claimed : {S E : Type 0} (does : S → InletCall E → S → Type 0) (n : ℕ) (claimed : Claimed) (a b c : S) (may_stop : ℕ → Type 0)
-    (must_stop : ℕ → ℕ → Type 0) (t t' : Turns) (result : Result (Unit {0}) Trouble) → SomeCalls does a b (IsClaimed n (Ok claimed))
-    → SomeCalls does b c (AreWrites result) → Passes may_stop must_stop 1 t t' → SomeCalls does a c (SendsPart n may_stop must_stop t t' result)
-part_claimed does n claimed a b c may_stop must_stop t t' result h k passes =
+-- what is accepted of a claim and of what follows it
+accepts_part : {E : Type 0} (events : List E) (stretch : Claimed) (result : Result (Unit {0}) Trouble) (first rest : List (InletCall E)) → 0 < length events
+    → first ≡ TriesClaim (length events) (Ok stretch) ∷ [] → AreWrittenOut (record { stretch = stretch; events = events }) result rest → IsPartSent events result (first ++ rest)
+accepts_part events stretch (Ok done) first rest some is written = (stretch, ap (λ l. l ++ rest) is ∙ ap (λ l. TriesClaim (length events) (Ok stretch) ∷ l) written)
+accepts_part events stretch (Err trouble) first rest some is written =
+    inr (
+      stretch,
+      written.0 + 1,
+      some,
+      ap (λ l. l ++ rest) is ∙ ap (λ l. TriesClaim (length events) (Ok stretch) ∷ l) written.1
+          ∙ ap (λ n. take n (TriesClaim (length events) (Ok stretch) ∷ each_written stretch.lo events)) (sym (add-one written.0)),
+    )
+
+-- after the claim the writes and the publication
+pub part_claimed : {S E : Type 0} (does : S → InletCall E → S → Type 0) (events : List E) (claimed : Claimed) (a b c : S) (may_stop must_stop : ℕ → ℕ → Type 0)
+    (t t' : Turns) (result : Result (Unit {0}) Trouble) → 0 < length events → SomeCalls does a b (IsClaimed (length events) (Ok claimed))
+    → SomeCalls does b c (AfterClaim (record { stretch = claimed; events = events }) result) → Passes may_stop must_stop 1 t t'
+    → SomeCalls does a c (SendsPart events may_stop must_stop t t' result)
+part_claimed does events claimed a b c may_stop must_stop t t' result some h k passes =
+    let n = length events in
     let one : claims_in (h.calls ++ k.calls) ≡ n ∷ [] = claims_in-append h.calls k.calls ∙ ap (λ l. l ++ claims_in k.calls) (claims_one n claimed h.calls h.holds) ∙ ap (λ l. n ∷ l) k.holds.claims in record {
       calls = h.calls ++ k.calls;
       lead = lead_more does a b c h.calls k.calls h.lead k.lead;
@@ -65,6 +92,8 @@ part_claimed does n claimed a b c may_stop must_stop t t' result h k passes =
         claims = inl one;
         passes = subst (λ l. Passes may_stop must_stop (length l) t t') (sym one) passes;
         trouble = λ fault is. ends_after (GivesUp fault) h.calls k.calls (k.holds.trouble fault is);
+        accepted = subst (IsPartSent events result) (sym (accepted_in-append h.calls k.calls))
+            (accepts_part events claimed result (accepted_in h.calls) (accepted_in k.calls) some (accepts_claim n (Ok claimed) h.calls h.holds) k.holds.accepted);
       };
     }
 
@@ -72,20 +101,38 @@ a_refusal : (trouble : Trouble) → trouble ≢ Memory → IsRefusal trouble
 a_refusal Memory other = other refl
 a_refusal (Refused refusal) other = tt
 
--- the writes, and then the publication
-pub written_and_published : {S E : Type 0} (does : S → InletCall E → S → Type 0) (lo hi : ℕ) (a b c : S) (result : Result (Unit {0}) Trouble)
-    → result ≢ Err Memory → SomeCalls does a b (AreWrites (Ok tt))
-    → SomeCalls does b c (IsPublished lo hi result) → SomeCalls does a c (AreWrites result)
-written_and_published {S} {E} does lo hi a b c result waits h k = record {
-  calls = h.calls ++ k.calls;
-  lead = lead_more does a b c h.calls k.calls h.lead k.lead;
-  holds = record {
-    claims = claims_in-append h.calls k.calls ∙ ap (λ l. l ++ claims_in k.calls) h.holds.claims ∙ publishes_none lo hi result k.calls k.holds;
-    trouble = λ fault is.
-        let refused : GivesUp {E = E} fault (PublishesStretch lo hi (Err fault)) = (refl, a_refusal fault (λ out. waits (is ∙ ap Err out))) in
-        ends_after (GivesUp fault) h.calls k.calls (ends_retried (GivesUp fault) (PublishesStretch lo hi (Err Memory)) (PublishesStretch lo hi result) k.calls k.holds (subst (λ r. GivesUp {E = E} fault (PublishesStretch lo hi r)) (sym is) refused));
-  };
-}
+-- the writes, of which one is refused
+pub written_in_part : {S E : Type 0} (does : S → InletCall E → S → Type 0) (part : Part E) (a b : S) (trouble : Trouble)
+    → SomeCalls does a b (WriteCalls part.stretch.lo part.events (Err trouble)) → SomeCalls does a b (AfterClaim part (Err trouble))
+written_in_part does part a b trouble h =
+    record { calls = h.calls; lead = h.lead; holds = record { claims = h.holds.claims; trouble = h.holds.trouble; accepted = h.holds.accepted } }
+
+-- what is accepted of all writes and of a publication
+accepts_rest : {E : Type 0} (part : Part E) (result : Result (Unit {0}) Trouble) (xs ys : List (InletCall E)) → xs ≡ each_written part.stretch.lo part.events
+    → ys ≡ accepted_of (PublishesStretch part.stretch.lo part.stretch.hi result) → AreWrittenOut part result (xs ++ ys)
+accepts_rest part (Ok done) xs ys is then = ap (λ l. l ++ ys) is ∙ ap (λ l. each_written part.stretch.lo part.events ++ l) then
+accepts_rest part (Err trouble) xs ys is then =
+    let all = each_written part.stretch.lo part.events in
+    (length all, ap (λ l. l ++ ys) is ∙ ap (λ l. all ++ l) then ∙ append-nil all ∙ sym (take_all (length all) all (omega arith)))
+
+-- all of the writes, and then the publication
+pub written_and_published : {S E : Type 0} (does : S → InletCall E → S → Type 0) (part : Part E) (a b c : S) (result : Result (Unit {0}) Trouble)
+    → result ≢ Err Memory → SomeCalls does a b (WriteCalls part.stretch.lo part.events (Ok tt))
+    → SomeCalls does b c (IsPublished part.stretch.lo part.stretch.hi result) → SomeCalls does a c (AfterClaim part result)
+written_and_published {S} {E} does part a b c result waits h k =
+    let lo = part.stretch.lo in
+    let hi = part.stretch.hi in record {
+      calls = h.calls ++ k.calls;
+      lead = lead_more does a b c h.calls k.calls h.lead k.lead;
+      holds = record {
+        claims = claims_in-append h.calls k.calls ∙ ap (λ l. l ++ claims_in k.calls) h.holds.claims ∙ publishes_none lo hi result k.calls k.holds;
+        trouble = λ fault is.
+            let refused : GivesUp {E = E} fault (PublishesStretch lo hi (Err fault)) = (refl, a_refusal fault (λ out. waits (is ∙ ap Err out))) in
+            ends_after (GivesUp fault) h.calls k.calls (ends_retried (GivesUp fault) (PublishesStretch lo hi (Err Memory)) (PublishesStretch lo hi result) k.calls k.holds (subst (λ r. GivesUp {E = E} fault (PublishesStretch lo hi r)) (sym is) refused));
+        accepted = subst (AreWrittenOut part result) (sym (accepted_in-append h.calls k.calls))
+            (accepts_rest part result (accepted_in h.calls) (accepted_in k.calls) h.holds.accepted (accepts_publication lo hi result k.calls k.holds));
+      };
+    }
 
 -- Part after part.
 
@@ -102,26 +149,70 @@ cut_more : (cut left : ℕ) (claims : List ℕ) (n : ℕ) → AreCut cut left cl
 cut_more cut left [] n h is = (is, tt)
 cut_more cut left (m ∷ claims) n h is = (h.0, cut_more cut (left - m) claims n h.1 is)
 
--- so many events are sent so far
-pub record Sending {E : Type 0} (cut all : ℕ) (may_stop : ℕ → Type 0) (must_stop : ℕ → ℕ → Type 0) (who sent : ℕ) (turns : Turns) (calls : List (InletCall E)) : Type 0 where
-  pub cuts : AreCut cut all (claims_in calls)
-  pub left : left_after all (claims_in calls) ≡ all - sent
-  pub passes : Passes may_stop must_stop (length (claims_in calls)) (begins who) turns
+-- the first events of a script are sent, part by part
+pub record InParts {E : Type 0} (script : List E) (sent : ℕ) (accepted : List (InletCall E)) : Type 0 where
+  pub parts : List (Part E)
+  pub calls : accepted ≡ flat_map sending_of parts
+  pub events : flat_map (λ part. part.events) parts ≡ take sent script
 
-pub sending_none : {S E : Type 0} (does : S → InletCall E → S → Type 0) (a : S) (cut all : ℕ) (may_stop : ℕ → Type 0) (must_stop : ℕ → ℕ → Type 0)
+-- the next events are sent too
+parts_more : {E : Type 0} (script : List E) (sent n : ℕ) (xs ys : List (InletCall E)) → InParts script sent xs → IsPartSent (take n (drop sent script)) (Ok tt) ys
+    → InParts script (sent + n) (xs ++ ys)
+parts_more {E} script sent n xs ys h k =
+    let part : Part E = record { stretch = k.0; events = take n (drop sent script) } in
+    let one : flat_map sending_of (part ∷ []) ≡ sending_of part = append-nil (sending_of part) in
+    let its : flat_map (λ (p : Part E). p.events) (part ∷ []) ≡ part.events = append-nil part.events in record {
+      parts = h.parts ++ part ∷ [];
+      calls = ap (λ l. l ++ ys) h.calls ∙ ap (λ l. flat_map sending_of h.parts ++ l) (k.1 ∙ sym one) ∙ sym (flat_map-append sending_of h.parts (part ∷ []));
+      events = flat_map-append (λ (p : Part E). p.events) h.parts (part ∷ []) ∙ ap (λ l. l ++ flat_map (λ (p : Part E). p.events) (part ∷ [])) h.events
+          ∙ ap (λ l. take sent script ++ l) its ∙ sym (first_and_next script sent n);
+    }
+
+-- the first of a list is as many of its first as it has
+part_of : {E : Type 0} (rest : List E) (n : ℕ) → take n rest ≡ take (length (take n rest)) rest
+part_of [] zero = refl
+part_of [] (suc n) = refl
+part_of (x ∷ rest) zero = refl
+part_of (x ∷ rest) (suc n) = ap (λ l. x ∷ l) (part_of rest n)
+
+-- of the next events not all are
+begins_part : {E : Type 0} (rest : List E) (n : ℕ) (trouble : Trouble) (calls : List (InletCall E)) → IsPartSent (take n rest) (Err trouble) calls → BeginsPart rest calls
+begins_part rest n trouble calls (inl none) = inl none
+begins_part rest n trouble calls (inr (stretch, k, some, is)) =
+    inr (record { stretch = stretch; events = take n rest }, k, part_of rest n, some, is)
+
+-- so many events are sent so far
+pub record Sending {E : Type 0} (cut : ℕ) (script : List E) (may_stop must_stop : ℕ → ℕ → Type 0) (who sent : ℕ) (turns : Turns) (calls : List (InletCall E)) : Type 0 where
+  pub cuts : AreCut cut (length script) (claims_in calls)
+  pub left : left_after (length script) (claims_in calls) ≡ length script - sent
+  pub passes : Passes may_stop must_stop (length (claims_in calls)) (begins who) turns
+  pub sends : InParts script sent (accepted_in calls)
+
+pub sending_none : {S E : Type 0} (does : S → InletCall E → S → Type 0) (a : S) (cut : ℕ) (script : List E) (may_stop must_stop : ℕ → ℕ → Type 0)
     (who : ℕ) (turns : Turns) → turns ≡ begins who
-    → SomeCalls does a a (Sending cut all may_stop must_stop who 0 turns)
-sending_none does a cut all may_stop must_stop who turns is = record {
+    → SomeCalls does a a (Sending cut script may_stop must_stop who 0 turns)
+sending_none does a cut script may_stop must_stop who turns is = record {
   calls = [];
   lead = refl;
-  holds = record { cuts = tt; left = omega arith; passes = subst (λ t. Passes may_stop must_stop 0 (begins who) t) (sym is) (passes_none may_stop must_stop (begins who)) };
+  holds = record {
+    cuts = tt;
+    left = omega arith;
+    passes = subst (λ t. Passes may_stop must_stop 0 (begins who) t) (sym is) (passes_none may_stop must_stop (begins who));
+    sends = record { parts = []; calls = refl; events = refl };
+  };
 }
+
+-- how long the next part is
+part_length : {E : Type 0} (script : List E) (sent n cut : ℕ) → n ≡ min (length script - sent) cut → length (take n (drop sent script)) ≡ n
+part_length script sent n cut is =
+    let left : length (drop sent script) ≡ length script - sent = length-drop sent script in
+    length-take-le n (drop sent script) (omega arith)
 
 -- the claims and passages of one part more
 claims_both : {E : Type 0} (n : ℕ) (xs ys : List (InletCall E)) → claims_in ys ≡ n ∷ [] → claims_in (xs ++ ys) ≡ claims_in xs ++ n ∷ []
 claims_both n xs ys is = claims_in-append xs ys ∙ ap (λ l. claims_in xs ++ l) is
 
-passes_both : {E : Type 0} (may_stop : ℕ → Type 0) (must_stop : ℕ → ℕ → Type 0) (xs ys : List (InletCall E)) (t t' t'' : Turns)
+passes_both : {E : Type 0} (may_stop must_stop : ℕ → ℕ → Type 0) (xs ys : List (InletCall E)) (t t' t'' : Turns)
     → Passes may_stop must_stop (length (claims_in xs)) t t'
     → Passes may_stop must_stop (length (claims_in ys)) t' t'' → Passes may_stop must_stop (length (claims_in (xs ++ ys))) t t''
 passes_both may_stop must_stop xs ys t t' t'' h k =
@@ -132,12 +223,13 @@ went_well : {P : Type 0} (result : Result (Unit {0}) Trouble) (trouble : Trouble
 went_well result trouble is is' = absurd (cc)
 
 -- one part more
-pub sending_more : {S E : Type 0} (does : S → InletCall E → S → Type 0) (a b c : S) (cut all : ℕ) (may_stop : ℕ → Type 0) (must_stop : ℕ → ℕ → Type 0)
-    (who sent n : ℕ) (t t' : Turns) (result : Result (Unit {0}) Trouble) → result ≡ Ok tt → n ≡ min (all - sent) cut
-    → SomeCalls does a b (Sending cut all may_stop must_stop who sent t) → SomeCalls does b c (SendsPart n may_stop must_stop t t' result)
-    → SomeCalls does a c (Sending cut all may_stop must_stop who (sent + n) t')
-sending_more does a b c cut all may_stop must_stop who sent n t t' result is size h k =
-    let one : claims_in k.calls ≡ n ∷ [] = elim k.holds.claims [ inl one ↦ one | inr none ↦ went_well result none.1.0 is none.1.1 ] in
+pub sending_more : {S E : Type 0} (does : S → InletCall E → S → Type 0) (a b c : S) (cut : ℕ) (script : List E) (may_stop must_stop : ℕ → ℕ → Type 0)
+    (who sent n : ℕ) (t t' : Turns) (result : Result (Unit {0}) Trouble) → result ≡ Ok tt → n ≡ min (length script - sent) cut
+    → SomeCalls does a b (Sending cut script may_stop must_stop who sent t) → SomeCalls does b c (SendsPart (take n (drop sent script)) may_stop must_stop t t' result)
+    → SomeCalls does a c (Sending cut script may_stop must_stop who (sent + n) t')
+sending_more does a b c cut script may_stop must_stop who sent n t t' result is size h k =
+    let all = length script in
+    let one : claims_in k.calls ≡ n ∷ [] = elim k.holds.claims [ inl one ↦ one ∙ ap (λ m. m ∷ []) (part_length script sent n cut size) | inr none ↦ went_well result none.1.0 is none.1.1 ] in
     let whole = claims_both n h.calls k.calls one in record {
       calls = h.calls ++ k.calls;
       lead = lead_more does a b c h.calls k.calls h.lead k.lead;
@@ -145,38 +237,58 @@ sending_more does a b c cut all may_stop must_stop who sent n t t' result is siz
         cuts = subst (λ l. AreCut cut all l) (sym whole) (cut_more cut all (claims_in h.calls) n h.holds.cuts (size ∙ ap (λ l. min l cut) (sym h.holds.left)));
         left = ap (λ l. left_after all l) whole ∙ left_more all (claims_in h.calls) n ∙ ap (λ l. l - n) h.holds.left ∙ (omega arith);
         passes = passes_both may_stop must_stop h.calls k.calls (begins who) t t' h.holds.passes k.holds.passes;
+        sends = subst (InParts script (sent + n)) (sym (accepted_in-append h.calls k.calls))
+            (parts_more script sent n (accepted_in h.calls) (accepted_in k.calls) h.holds.sends (subst (λ r. IsPartSent (take n (drop sent script)) r (accepted_in k.calls)) is k.holds.accepted));
       };
     }
 
 -- all is sent
-pub sends_all : {S E : Type 0} (does : S → InletCall E → S → Type 0) (a b : S) (cut all : ℕ) (may_stop : ℕ → Type 0) (must_stop : ℕ → ℕ → Type 0)
-    (who sent : ℕ) (t : Turns) (produced : Produced) → produced.sent ≡ all → produced.fault ≡ fault_at_end t.stopped
-    → SomeCalls does a b (Sending cut all may_stop must_stop who sent t) → SomeCalls does a b (Sends cut all (may_stop who) (must_stop who) produced)
-sends_all does a b cut all may_stop must_stop who sent t produced whole is h = record {
+pub sends_all : {S E : Type 0} (does : S → InletCall E → S → Type 0) (a b : S) (cut : ℕ) (script : List E) (may_stop must_stop : ℕ → ℕ → Type 0)
+    (who sent : ℕ) (t : Turns) (produced : Produced) → produced.sent ≡ length script → produced.sent ≡ sent → produced.fault ≡ fault_at_end t.stopped
+    → SomeCalls does a b (Sending cut script may_stop must_stop who sent t) → SomeCalls does a b (Sends cut script (may_stop who) (must_stop who) produced)
+sends_all does a b cut script may_stop must_stop who sent t produced whole same is h = record {
   calls = h.calls;
   lead = h.lead;
   holds = record {
     cuts = h.holds.cuts;
-    gate = stops_after may_stop must_stop (length (claims_in h.calls)) who t (λ stopped. ProducerEnds all stopped h.calls produced) h.holds.passes (inl (whole, is));
+    gate = stops_after may_stop must_stop (length (claims_in h.calls)) who t (λ stopped. ProducerEnds (length script) stopped h.calls produced) h.holds.passes (inl (whole, is));
+    sends = subst (λ n. IsSent script n (accepted_in h.calls)) (sym same) (record {
+      parts = h.holds.sends.parts;
+      next = [];
+      calls = h.holds.sends.calls ∙ sym (append-nil (flat_map sending_of h.holds.sends.parts));
+      events = h.holds.sends.events;
+      begins = inl refl;
+    });
   };
 }
 
 -- a part is in trouble
-pub sends_in_trouble : {S E : Type 0} (does : S → InletCall E → S → Type 0) (a b c : S) (cut all : ℕ) (may_stop : ℕ → Type 0) (must_stop : ℕ → ℕ → Type 0)
+pub sends_in_trouble : {S E : Type 0} (does : S → InletCall E → S → Type 0) (a b c : S) (cut : ℕ) (script : List E) (may_stop must_stop : ℕ → ℕ → Type 0)
     (who sent n : ℕ) (t t' : Turns) (result : Result (Unit {0}) Trouble) (trouble : Trouble) (produced : Produced)
-    → n ≡ min (all - sent) cut → result ≡ Err trouble → produced.fault ≡ Some (fault_in_trouble t'.stopped trouble)
-    → SomeCalls does a b (Sending cut all may_stop must_stop who sent t) → SomeCalls does b c (SendsPart n may_stop must_stop t t' result)
-    → SomeCalls does a c (Sends cut all (may_stop who) (must_stop who) produced)
-sends_in_trouble does a b c cut all may_stop must_stop who sent n t t' result trouble produced size fails is h k = record {
-  calls = h.calls ++ k.calls;
-  lead = lead_more does a b c h.calls k.calls h.lead k.lead;
-  holds = record {
-    cuts = elim k.holds.claims [
-      | inl one ↦ subst (λ l. AreCut cut all l) (sym (claims_both n h.calls k.calls one)) (cut_more cut all (claims_in h.calls) n h.holds.cuts (size ∙ ap (λ l. min l cut) (sym h.holds.left)))
-      | inr none ↦ subst (λ l. AreCut cut all l) (sym (claims_in-append h.calls k.calls ∙ ap (λ l. claims_in h.calls ++ l) none.0 ∙ append-nil (claims_in h.calls))) h.holds.cuts
-    ];
-    gate = stops_after may_stop must_stop (length (claims_in (h.calls ++ k.calls))) who t' (λ stopped. ProducerEnds all stopped (h.calls ++ k.calls) produced)
-        (passes_both may_stop must_stop h.calls k.calls (begins who) t t' h.holds.passes k.holds.passes)
-        (inr (trouble, ends_after (GivesUp trouble) h.calls k.calls (k.holds.trouble trouble fails), is));
-  };
-}
+    → n ≡ min (length script - sent) cut → result ≡ Err trouble → produced.sent ≡ sent → produced.fault ≡ Some (fault_in_trouble t'.stopped trouble)
+    → SomeCalls does a b (Sending cut script may_stop must_stop who sent t) → SomeCalls does b c (SendsPart (take n (drop sent script)) may_stop must_stop t t' result)
+    → SomeCalls does a c (Sends cut script (may_stop who) (must_stop who) produced)
+sends_in_trouble does a b c cut script may_stop must_stop who sent n t t' result trouble produced size fails same is h k =
+    let all = length script in
+    let part = take n (drop sent script) in record {
+      calls = h.calls ++ k.calls;
+      lead = lead_more does a b c h.calls k.calls h.lead k.lead;
+      holds = record {
+        cuts = elim k.holds.claims [
+          | inl one ↦
+              subst (λ l. AreCut cut all l) (sym (claims_both n h.calls k.calls (one ∙ ap (λ m. m ∷ []) (part_length script sent n cut size))))
+              (cut_more cut all (claims_in h.calls) n h.holds.cuts (size ∙ ap (λ l. min l cut) (sym h.holds.left)))
+          | inr none ↦ subst (λ l. AreCut cut all l) (sym (claims_in-append h.calls k.calls ∙ ap (λ l. claims_in h.calls ++ l) none.0 ∙ append-nil (claims_in h.calls))) h.holds.cuts
+        ];
+        gate = stops_after may_stop must_stop (length (claims_in (h.calls ++ k.calls))) who t' (λ stopped. ProducerEnds all stopped (h.calls ++ k.calls) produced)
+            (passes_both may_stop must_stop h.calls k.calls (begins who) t t' h.holds.passes k.holds.passes)
+            (inr (trouble, ends_after (GivesUp trouble) h.calls k.calls (k.holds.trouble trouble fails), is));
+        sends = subst (λ m. IsSent script m (accepted_in (h.calls ++ k.calls))) (sym same) (record {
+          parts = h.holds.sends.parts;
+          next = accepted_in k.calls;
+          calls = accepted_in-append h.calls k.calls ∙ ap (λ l. l ++ accepted_in k.calls) h.holds.sends.calls;
+          events = h.holds.sends.events;
+          begins = begins_part (drop sent script) n trouble (accepted_in k.calls) (subst (λ r. IsPartSent part r (accepted_in k.calls)) fails k.holds.accepted);
+        });
+      };
+    }

@@ -1,6 +1,7 @@
 -- A handler's worker, turn after turn.
-use Rattle.std.proofs.Common.{◌≡◌, ◌+◌, ℕ, Bool, List, [], ◌∷◌, ◌++◌, length, Option, None, Some, Result, Ok, Err, inl, inr, refl, sym, ap, ◌∙◌, subst, length-append}
+use Rattle.std.proofs.Common.{◌≡◌, ◌+◌, ℕ, Bool, List, [], ◌∷◌, ◌++◌, length, take, Option, None, Some, Result, Ok, Err, inl, inr, refl, sym, ap, ◌∙◌, subst, append_assoc, length-append}
 use Rattle.std.specs.List.{cons_option}
+use Rattle.std.proofs.lemmas.List.{append-nil}
 use Rattle.std.proofs.lemmas.List.Elements.{filter_map-append}
 use Rattle.dr_core.specs.declared.command.Polled.{Polled}
 use Rattle.dr_core.specs.declared.command.Polled.TheVariants as polled
@@ -14,10 +15,10 @@ use Rattle.dr_shared.specs.declared.consumer.Progress.{Progress}
 use Rattle.dr_shared.specs.declared.consumer.Progress.TheVariants.{Drained}
 use Rattle.dr_shared.specs.declared.fault.WorkFault.{WorkFault}
 use Rattle.dr_shared.specs.declared.turns.Turns.{Turns}
-use Rattle.dr_shared.specs.Calls.Serving.{ConsumerEnds, IsInTrouble, IsTold, Serves}
+use Rattle.dr_shared.specs.Calls.Serving.{AreCompleted, ConsumerEnds, IsInTrouble, IsTold, LeavesOpen, Serves}
 use Rattle.dr_shared.specs.Calls.Stops.{Passes, begins, fault_at_end, fault_in_trouble}
 use Rattle.dr_shared.specs.Inside.Retries.{Retries, TakesBatch}
-use Rattle.dr_shared.specs.Meaning.Work.{HandsOut, Works, batch_of, batches_in}
+use Rattle.dr_shared.specs.Meaning.Work.{Advance, CompletedBelow, Dealt, HandedOut, HandsOut, Works, advance_of, advances_in, batch_of, batches_in, each_completed}
 use Rattle.dr_shared.proofs.Calling.{ends_after, ends_retried, picked}
 use Rattle.dr_shared.proofs.Showing.{shown_as}
 use Rattle.dr_shared.proofs.Stopping.{passes_more, passes_none, stops_after}
@@ -25,6 +26,13 @@ use Rattle.dr_shared.proofs.Working.{hands_none, one, works_more, works_none}
 
 batches_in-append : {E : Type 0} (xs ys : List (OutletCall E)) → batches_in (xs ++ ys) ≡ batches_in xs ++ batches_in ys
 batches_in-append xs ys = filter_map-append batch_of xs ys
+
+advances_in-append : {E : Type 0} (xs ys : List (OutletCall E)) → advances_in (xs ++ ys) ≡ advances_in xs ++ advances_in ys
+advances_in-append xs ys = filter_map-append advance_of xs ys
+
+each_completed-append : {E : Type 0} (bs cs : List (Dealt E)) → each_completed (bs ++ cs) ≡ each_completed bs ++ each_completed cs
+each_completed-append [] cs = refl
+each_completed-append (b ∷ bs) cs = ap (λ l. HandedOut b ∷ CompletedBelow (b.first + length b.events) ∷ l) (each_completed-append bs cs)
 
 -- A poll that hands nothing out.
 
@@ -36,15 +44,25 @@ took_none out out' (Ok polled.Idle) is a b h = rw h (hands_none a)
 took_none out out' (Ok polled.Drained) is a b h = rw h (hands_none a)
 took_none out out' (Err trouble) is a b h = rw h (hands_none a)
 
+-- and completes nothing
+advances_none : {E : Type 0} (out out' : List E) (answer : Result Polled Trouble) → batch_of (PollsInto out out' answer) ≡ None → advance_of (PollsInto out out' answer) ≡ None
+advances_none out out' (Ok (polled.Batch first count end)) is = absurd (cc)
+advances_none out out' (Ok polled.Gating) is = refl
+advances_none out out' (Ok polled.Idle) is = refl
+advances_none out out' (Ok polled.Drained) is = refl
+advances_none out out' (Err trouble) is = refl
+
 pub turned_nothing : {S E A : Type 0} (does : S → OutletCall E → S → Type 0) (goes : Relation E A) (before : A) (a b : S) (o p : Option (Received E))
-    (may_stop : ℕ → Type 0) (must_stop : ℕ → ℕ → Type 0) (t : Turns) (result : Result Progress Trouble)
+    (may_stop must_stop : ℕ → ℕ → Type 0) (t : Turns) (result : Result Progress Trouble)
     (out out' : List E) (answer : Result Polled Trouble) → does a (PollsInto out out' answer) b → batch_of (PollsInto out out' answer) ≡ None
     → WhereShown (Takes out' answer) o p
     → (result ≡ Ok Drained → IsTold (PollsInto out out' answer)) →
     ((trouble : Trouble) → result ≡ Err trouble → IsInTrouble trouble (PollsInto out out' answer))
     → SomeCalls does a b (TakesBatch goes before before o p may_stop must_stop t t result)
 turned_nothing does goes before a b o p may_stop must_stop t result out out' answer call is takes told trouble =
-    let none : batches_in (PollsInto out out' answer ∷ []) ≡ [] = ap (λ x. cons_option x []) is in record {
+    let none : batches_in (PollsInto out out' answer ∷ []) ≡ [] = ap (λ x. cons_option x []) is in
+    let completed : advances_in (PollsInto out out' answer ∷ []) ≡ each_completed (batches_in (PollsInto out out' answer ∷ [])) =
+    ap (λ x. cons_option x []) (advances_none out out' answer is) ∙ ap each_completed (sym none) in record {
       calls = PollsInto out out' answer ∷ [];
       lead = (b, call, refl);
       holds = record {
@@ -52,23 +70,41 @@ turned_nothing does goes before a b o p may_stop must_stop t result out out' ans
         passes = subst (λ bs. Passes may_stop must_stop (length bs) t t) (sym none) (passes_none may_stop must_stop t);
         told = told;
         trouble = trouble;
+        completes = inl completed;
+        whole = λ progress is. completed;
       };
     }
 
 -- A poll that hands a batch out, and its completion.
 
+-- the completion is made, or it is in trouble
+completed_or_not : {E : Type 0} (deal : Dealt E) (upto : ℕ) (completed : Result (Unit {0}) Trouble) (before calls : List (OutletCall E)) → upto ≡ deal.first + length deal.events
+    → Retries (CompletesBelow upto (Err Memory)) (CompletesBelow upto completed) calls → batches_in (before ++ calls) ≡ deal ∷ []
+    → advances_in (before ++ calls) ≡ HandedOut deal ∷ cons_option (advance_of {E = E} (CompletesBelow upto completed)) [] → AreCompleted (before ++ calls)
+completed_or_not {E} deal upto (Ok done) before calls end rest batches advances =
+    inl (advances ∙ ap (λ n. HandedOut deal ∷ CompletedBelow n ∷ []) end ∙ ap each_completed (sym batches))
+completed_or_not {E} deal upto (Err trouble) before calls end rest batches advances =
+    inr (
+      upto,
+      ends_after (LeavesOpen upto) before calls (ends_retried (LeavesOpen upto) (CompletesBelow upto (Err Memory)) (CompletesBelow upto (Err trouble)) calls rest refl),
+      ap (λ l. l ++ CompletedBelow upto ∷ []) advances ∙ ap (λ n. HandedOut deal ∷ CompletedBelow n ∷ []) end ∙ ap each_completed (sym batches),
+    )
+
 pub turned_batch : {S E A : Type 0} (does : S → OutletCall E → S → Type 0) (goes : Relation E A) (before after : A) (a b c : S) (o q : Option (Received E))
-    (may_stop : ℕ → Type 0) (must_stop : ℕ → ℕ → Type 0) (t t' : Turns) (result : Result Progress Trouble)
+    (may_stop must_stop : ℕ → ℕ → Type 0) (t t' : Turns) (result : Result Progress Trouble)
     (out out' : List E) (first count upto : ℕ) (end : Bool) (completed : Result (Unit {0}) Trouble)
     → does a (PollsInto out out' (Ok (polled.Batch first count end))) b
     → SomeCalls does b c (Retries (CompletesBelow upto (Err Memory)) (CompletesBelow upto completed))
-    → Works goes before after o q (one out' first count end ∷ []) → Passes may_stop must_stop 1 t t'
-    → (result ≡ Ok Drained → ⊥) → ((trouble : Trouble) → result ≡ Err trouble → completed ≡ Err trouble)
+    → Works goes before after o q (one out' first count end ∷ []) → Passes may_stop must_stop 1 t t' → upto ≡ first + length (take count out')
+    → (result ≡ Ok Drained → ⊥) → ((trouble : Trouble) → result ≡ Err trouble → completed ≡ Err trouble) → ((progress : Progress) → result ≡ Ok progress → completed ≡ Ok tt)
     → SomeCalls does a c (TakesBatch goes before after o q may_stop must_stop t t' result)
-turned_batch does goes before after a b c o q may_stop must_stop t t' result out out' first count upto end completed call rest works passes told trouble =
+turned_batch does goes before after a b c o q may_stop must_stop t t' result out out' first count upto end completed call rest works passes last told trouble fine =
     let deal = one out' first count end in
     let none : batches_in rest.calls ≡ [] = picked batch_of (CompletesBelow upto (Err Memory)) (CompletesBelow upto completed) rest.calls rest.holds refl in
-    let batches : batches_in (PollsInto out out' (Ok (polled.Batch first count end)) ∷ rest.calls) ≡ deal ∷ [] = ap (λ bs. deal ∷ bs) none in record {
+    let batches : batches_in (PollsInto out out' (Ok (polled.Batch first count end)) ∷ rest.calls) ≡ deal ∷ [] = ap (λ bs. deal ∷ bs) none in
+    let poll : OutletCall _ = PollsInto out out' (Ok (polled.Batch first count end)) in
+    let advances : advances_in (poll ∷ rest.calls) ≡ HandedOut deal ∷ cons_option (advance_of (CompletesBelow upto completed)) [] =
+    ap (λ l. HandedOut deal ∷ l) (picked advance_of (CompletesBelow upto (Err Memory)) (CompletesBelow upto completed) rest.calls rest.holds refl) in record {
       calls = PollsInto out out' (Ok (polled.Batch first count end)) ∷ rest.calls;
       lead = (b, call, rest.lead);
       holds = record {
@@ -78,62 +114,94 @@ turned_batch does goes before after a b c o q may_stop must_stop t t' result out
         trouble = λ fault is.
             ends_after (IsInTrouble fault) (PollsInto out out' (Ok (polled.Batch first count end)) ∷ []) rest.calls
             (ends_retried (IsInTrouble fault) (CompletesBelow upto (Err Memory)) (CompletesBelow upto completed) rest.calls rest.holds (rw (trouble fault is) refl));
+        completes = completed_or_not deal upto completed (poll ∷ []) rest.calls last rest.holds batches advances;
+        whole = λ progress is.
+            advances ∙ ap (λ r. HandedOut deal ∷ cons_option (advance_of (CompletesBelow upto r)) []) (fine progress is)
+            ∙ ap (λ n. HandedOut deal ∷ CompletedBelow n ∷ []) last ∙ ap each_completed (sym batches);
       };
     }
 
 -- Turn after turn.
 
 -- the work so far, and the worker's passages of its gate
-pub record Serving {E A : Type 0} (goes : Relation E A) (before after : A) (old new : Option (Received E)) (may_stop : ℕ → Type 0) (must_stop : ℕ → ℕ → Type 0) (who : ℕ) (turns : Turns) (calls : List (OutletCall E)) : Type 0 where
+pub record Serving {E A : Type 0} (goes : Relation E A) (before after : A) (old new : Option (Received E)) (may_stop must_stop : ℕ → ℕ → Type 0) (who : ℕ) (turns : Turns) (calls : List (OutletCall E)) : Type 0 where
   pub works : Works goes before after old new (batches_in calls)
   pub passes : Passes may_stop must_stop (length (batches_in calls)) (begins who) turns
+  pub whole : advances_in calls ≡ each_completed (batches_in calls)
 
 pub serving_none : {S E A : Type 0} (does : S → OutletCall E → S → Type 0) (goes : Relation E A) (before : A) (a : S) (o : Option (Received E))
-    (may_stop : ℕ → Type 0) (must_stop : ℕ → ℕ → Type 0) (who : ℕ) (turns : Turns) → turns ≡ begins who
+    (may_stop must_stop : ℕ → ℕ → Type 0) (who : ℕ) (turns : Turns) → turns ≡ begins who
     → SomeCalls does a a (Serving goes before before o o may_stop must_stop who turns)
 serving_none does goes before a o may_stop must_stop who turns is = record {
   calls = [];
   lead = refl;
-  holds = record { works = works_none goes before o; passes = subst (λ t. Passes may_stop must_stop 0 (begins who) t) (sym is) (passes_none may_stop must_stop (begins who)) };
+  holds = record { works = works_none goes before o; passes = subst (λ t. Passes may_stop must_stop 0 (begins who) t) (sym is) (passes_none may_stop must_stop (begins who)); whole = refl };
 }
+
+-- the batches of one turn more
+batches_more : {E A : Type 0} (goes : Relation E A) (before between after : A) (o p q : Option (Received E)) (xs ys : List (OutletCall E))
+    → Works goes before between o p (batches_in xs) → Works goes between after p q (batches_in ys) → Works goes before after o q (batches_in (xs ++ ys))
+batches_more goes before between after o p q xs ys h k =
+    subst (λ bs. Works goes before after o q bs) (sym (batches_in-append xs ys)) (works_more goes before between after o p q (batches_in xs) (batches_in ys) h k)
+
+-- and the passages
+passes_both : {E : Type 0} (may_stop must_stop : ℕ → ℕ → Type 0) (xs ys : List (OutletCall E)) (t t' t'' : Turns) → Passes may_stop must_stop (length (batches_in xs)) t t'
+    → Passes may_stop must_stop (length (batches_in ys)) t' t'' → Passes may_stop must_stop (length (batches_in (xs ++ ys))) t t''
+passes_both may_stop must_stop xs ys t t' t'' h k =
+    let many : length (batches_in (xs ++ ys)) ≡ length (batches_in xs) + length (batches_in ys) = ap length (batches_in-append xs ys) ∙ length-append (batches_in xs) (batches_in ys) in
+    subst (λ n. Passes may_stop must_stop n t t'') (sym many) (passes_more may_stop must_stop (length (batches_in xs)) (length (batches_in ys)) t t' t'' h k)
+
+-- and the completions
+completed_more : {E : Type 0} (xs ys : List (OutletCall E)) (last : List (Advance E)) → advances_in xs ≡ each_completed (batches_in xs) → advances_in ys ++ last ≡ each_completed (batches_in ys)
+    → advances_in (xs ++ ys) ++ last ≡ each_completed (batches_in (xs ++ ys))
+completed_more xs ys last h k =
+    ap (λ l. l ++ last) (advances_in-append xs ys) ∙ append_assoc (advances_in xs) (advances_in ys) last ∙ ap (λ l. l ++ (advances_in ys ++ last)) h
+    ∙ ap (λ l. each_completed (batches_in xs) ++ l) k ∙ sym (each_completed-append (batches_in xs) (batches_in ys)) ∙ ap each_completed (sym (batches_in-append xs ys))
+
+whole_more : {E : Type 0} (xs ys : List (OutletCall E)) → advances_in xs ≡ each_completed (batches_in xs) → advances_in ys ≡ each_completed (batches_in ys)
+    → advances_in (xs ++ ys) ≡ each_completed (batches_in (xs ++ ys))
+whole_more xs ys h k = sym (append-nil (advances_in (xs ++ ys))) ∙ completed_more xs ys [] h (append-nil (advances_in ys) ∙ k)
+
+completes_more : {E : Type 0} (xs ys : List (OutletCall E)) → advances_in xs ≡ each_completed (batches_in xs) → AreCompleted ys → AreCompleted (xs ++ ys)
+completes_more xs ys h (inl all) = inl (whole_more xs ys h all)
+completes_more xs ys h (inr (upto, last, but)) = inr (upto, ends_after (LeavesOpen upto) xs ys last, completed_more xs ys (CompletedBelow upto ∷ []) h but)
 
 -- one turn more
 pub serving_more : {S E A : Type 0} (does : S → OutletCall E → S → Type 0) (goes : Relation E A) (before between after : A) (a b c : S)
-    (o p q : Option (Received E)) (may_stop : ℕ → Type 0) (must_stop : ℕ → ℕ → Type 0) (who : ℕ) (t t' : Turns) (result : Result Progress Trouble)
+    (o p q : Option (Received E)) (may_stop must_stop : ℕ → ℕ → Type 0) (who : ℕ) (t t' : Turns) (result : Result Progress Trouble) (progress : Progress) → result ≡ Ok progress
     → SomeCalls does a b (Serving goes before between o p may_stop must_stop who t)
     → SomeCalls does b c (TakesBatch goes between after p q may_stop must_stop t t' result)
     → SomeCalls does a c (Serving goes before after o q may_stop must_stop who t')
-serving_more does goes before between after a b c o p q may_stop must_stop who t t' result h k =
-    let both : batches_in (h.calls ++ k.calls) ≡ batches_in h.calls ++ batches_in k.calls = batches_in-append h.calls k.calls in
-    let many : length (batches_in (h.calls ++ k.calls)) ≡ length (batches_in h.calls) + length (batches_in k.calls) = ap length both ∙ length-append (batches_in h.calls) (batches_in k.calls) in record {
-      calls = h.calls ++ k.calls;
-      lead = lead_more does a b c h.calls k.calls h.lead k.lead;
-      holds = record {
-        works = subst (λ bs. Works goes before after o q bs) (sym both) (works_more goes before between after o p q (batches_in h.calls) (batches_in k.calls) h.holds.works k.holds.works);
-        passes = subst (λ n. Passes may_stop must_stop n (begins who) t') (sym many) (passes_more may_stop must_stop (length (batches_in h.calls)) (length (batches_in k.calls)) (begins who) t t' h.holds.passes k.holds.passes);
-      };
-    }
+serving_more does goes before between after a b c o p q may_stop must_stop who t t' result progress is h k = record {
+  calls = h.calls ++ k.calls;
+  lead = lead_more does a b c h.calls k.calls h.lead k.lead;
+  holds = record {
+    works = batches_more goes before between after o p q h.calls k.calls h.holds.works k.holds.works;
+    passes = passes_both may_stop must_stop h.calls k.calls (begins who) t t' h.holds.passes k.holds.passes;
+    whole = whole_more h.calls k.calls h.holds.whole (k.holds.whole progress is);
+  };
+}
 
 -- the last turn
 serving_ends : {S E A : Type 0} (does : S → OutletCall E → S → Type 0) (goes : Relation E A) (before between after : A) (a b c : S)
-    (o p q : Option (Received E)) (may_stop : ℕ → Type 0) (must_stop : ℕ → ℕ → Type 0) (who : ℕ) (t t' : Turns) (result : Result Progress Trouble)
+    (o p q : Option (Received E)) (may_stop must_stop : ℕ → ℕ → Type 0) (who : ℕ) (t t' : Turns) (result : Result Progress Trouble)
     (answer : Option WorkFault)
     → (h : SomeCalls does a b (Serving goes before between o p may_stop must_stop who t))
     (k : SomeCalls does b c (TakesBatch goes between after p q may_stop must_stop t t' result))
     → ConsumerEnds t'.stopped (h.calls ++ k.calls) answer → SomeCalls does a c (Serves goes before after o q (may_stop who) (must_stop who) answer)
-unfolding serving_more
-serving_ends does goes before between after a b c o p q may_stop must_stop who t t' result answer h k ends =
-    let whole = serving_more does goes before between after a b c o p q may_stop must_stop who t t' result h k in record {
-      calls = h.calls ++ k.calls;
-      lead = whole.lead;
-      holds = record {
-        works = whole.holds.works;
-        gate = stops_after may_stop must_stop (length (batches_in (h.calls ++ k.calls))) who t' (λ stopped. ConsumerEnds stopped (h.calls ++ k.calls) answer) whole.holds.passes ends;
-      };
-    }
+serving_ends does goes before between after a b c o p q may_stop must_stop who t t' result answer h k ends = record {
+  calls = h.calls ++ k.calls;
+  lead = lead_more does a b c h.calls k.calls h.lead k.lead;
+  holds = record {
+    works = batches_more goes before between after o p q h.calls k.calls h.holds.works k.holds.works;
+    gate = stops_after may_stop must_stop (length (batches_in (h.calls ++ k.calls))) who t' (λ stopped. ConsumerEnds stopped (h.calls ++ k.calls) answer)
+        (passes_both may_stop must_stop h.calls k.calls (begins who) t t' h.holds.passes k.holds.passes) ends;
+    completes = completes_more h.calls k.calls h.holds.whole k.holds.completes;
+  };
+}
 
 pub serves_told : {S E A : Type 0} (does : S → OutletCall E → S → Type 0) (goes : Relation E A) (before between after : A) (a b c : S)
-    (o p q : Option (Received E)) (may_stop : ℕ → Type 0) (must_stop : ℕ → ℕ → Type 0) (who : ℕ) (t t' : Turns) (result : Result Progress Trouble)
+    (o p q : Option (Received E)) (may_stop must_stop : ℕ → ℕ → Type 0) (who : ℕ) (t t' : Turns) (result : Result Progress Trouble)
     (answer : Option WorkFault)
     → SomeCalls does a b (Serving goes before between o p may_stop must_stop who t)
     → SomeCalls does b c (TakesBatch goes between after p q may_stop must_stop t t' result)
@@ -142,7 +210,7 @@ serves_told does goes before between after a b c o p q may_stop must_stop who t 
     serving_ends does goes before between after a b c o p q may_stop must_stop who t t' result answer h k (inl (ends_after IsTold h.calls k.calls (k.holds.told told), is))
 
 pub serves_in_trouble : {S E A : Type 0} (does : S → OutletCall E → S → Type 0) (goes : Relation E A) (before between after : A) (a b c : S)
-    (o p q : Option (Received E)) (may_stop : ℕ → Type 0) (must_stop : ℕ → ℕ → Type 0) (who : ℕ) (t t' : Turns) (result : Result Progress Trouble)
+    (o p q : Option (Received E)) (may_stop must_stop : ℕ → ℕ → Type 0) (who : ℕ) (t t' : Turns) (result : Result Progress Trouble)
     (answer : Option WorkFault) (trouble : Trouble)
     → SomeCalls does a b (Serving goes before between o p may_stop must_stop who t)
     → SomeCalls does b c (TakesBatch goes between after p q may_stop must_stop t t' result)

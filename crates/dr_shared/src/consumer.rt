@@ -6,6 +6,7 @@ ghost use Rattle.dr_core.specs.Calls.Ends.{WhereShown};
 ghost use Rattle.dr_shared.specs.declared.consumer.Progress.TheVariants.{Drained};
 ghost use Rattle.dr_shared.specs.declared.fault.WorkFault.TheVariants.{Memory, Stopped};
 ghost use Rattle.dr_shared.specs.Calls.Serving.{Serves};
+ghost use Rattle.dr_shared.specs.Calls.Stops.{MayStop};
 ghost use Rattle.dr_shared.specs.Inside.Retries.{TakesBatch};
 ghost use Rattle.dr_shared.specs.Meaning.Work.{IsDone};
 
@@ -74,7 +75,7 @@ pub fn consume<E: Copy, R: Wait, O: Outlet<E>, G: Gate, H: Handler<E>>(
     ensures done { IfNone result (WhereShown IsDone (O.received outlet.old) (O.received outlet.new)) }
     ensures drained { IfNone result (O.told outlet.new ≡ true) }
     ensures waits { result ≢ Some Memory }
-    ensures stopped { result ≡ Some Stopped → G.may_stop gate.now who }
+    ensures stopped { result ≡ Some Stopped → MayStop G.may_stop gate.now who }
 {
     let mut turns = Turns::new(who);
     let mut waiting = Waiting::new(buf.len() as u64);

@@ -5,6 +5,7 @@ ghost use Rattle.dr_core.specs.Calls.Calling.{SomeCalls};
 ghost use Rattle.dr_core.specs.Calls.Ends.{WhereShown};
 ghost use Rattle.dr_shared.specs.declared.fault.WorkFault.TheVariants.{Stopped};
 ghost use Rattle.dr_shared.specs.Calls.Serving.{Sends};
+ghost use Rattle.dr_shared.specs.Calls.Stops.{MayStop};
 ghost use Rattle.dr_shared.specs.Inside.Retries.{SendsPart};
 ghost use Rattle.dr_shared.specs.Meaning.Work.{Adds, LeavesNothingOpen};
 
@@ -36,7 +37,7 @@ fn send<E: Copy, R: Wait, I: Inlet<E>, G: Gate>(
     ensures sent { OnOk result (WhereShown (Adds events.now) (I.sent inlet.old) (I.sent inlet.new)) }
     ensures fault { OnErr result (WhereShown (Adds []) (I.sent inlet.old) (I.sent inlet.new)) }
     ensures open { WhereShown LeavesNothingOpen (I.sent inlet.old) (I.sent inlet.new) }
-    ensures sends { SomeCalls I.does inlet.old inlet.new (SendsPart (length events.now) (G.may_stop gate.now) (G.must_stop gate.now) turns.old turns.new result) }
+    ensures sends { SomeCalls I.does inlet.old inlet.new (SendsPart events.now (G.may_stop gate.now) (G.must_stop gate.now) turns.old turns.new result) }
 {
     let Claimed { lo, hi } = claim(rt, inlet, events.len() as u64)?;
     turns.pass(gate);
@@ -63,8 +64,8 @@ pub fn produce<E: Copy, R: Wait, I: Inlet<E>, G: Gate>(
     ensures open { WhereShown LeavesNothingOpen (I.sent inlet.old) (I.sent inlet.new) }
     ensures within { result.sent ≤ length script.now }
     ensures all { IfNone result.fault (result.sent ≡ length script.now) }
-    ensures stopped { result.fault ≡ Some Stopped → G.may_stop gate.now who }
-    ensures sends { SomeCalls I.does inlet.old inlet.new (Sends cut (length script.now) (G.may_stop gate.now who) (G.must_stop gate.now who) result) }
+    ensures stopped { result.fault ≡ Some Stopped → MayStop G.may_stop gate.now who }
+    ensures sends { SomeCalls I.does inlet.old inlet.new (Sends cut script.now (G.may_stop gate.now who) (G.must_stop gate.now who) result) }
 {
     let mut turns = Turns::new(who);
     let mut sent = 0;

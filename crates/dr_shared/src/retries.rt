@@ -4,7 +4,7 @@ ghost use Rattle.std.specs.Prelude.{◌≡◌, ◌≢◌, ◌+◌, ◌^◌, ◌�
 ghost use Rattle.dr_core.specs.Calls.Calling.{SomeCalls, TriesClaim, PublishesStretch, CompletesBelow};
 ghost use Rattle.dr_core.specs.Calls.Ends.{Claims, Completes, GivesStretch, PublishAnswers, Publishes, WhereShown, WritesAll};
 ghost use Rattle.dr_shared.specs.Meaning.Work.{Adds};
-ghost use Rattle.dr_shared.specs.Inside.Retries.{AreWrites, Retries};
+ghost use Rattle.dr_shared.specs.Inside.Retries.{Retries, WriteCalls};
 ghost use Rattle.dr_shared.specs.Inside.Writes.{MayRefuse};
 
 use crate::waiting::Waiting;
@@ -45,7 +45,7 @@ pub(crate) fn write_all<E: Copy, R: Wait, I: Inlet<E>>(
     ensures kept { I.kept inlet.new ≡ I.kept inlet.old }
     ensures written { OnOk result (WhereShown (WritesAll lo events.now) (I.sent inlet.old) (I.sent inlet.new)) }
     ensures fault { OnErr result (WhereShown (Adds []) (I.sent inlet.old) (I.sent inlet.new)) }
-    ensures called { SomeCalls I.does inlet.old inlet.new (AreWrites result) }
+    ensures called { SomeCalls I.does inlet.old inlet.new (WriteCalls lo events.now result) }
     ensures refused { (r : Refusal) → result ≡ Err (Trouble.Refused r) → MayRefuse lo (length events.now) (I.sent inlet.old) }
     ensures waits { result ≢ Err Trouble.Memory }
 {

@@ -1,5 +1,5 @@
 -- What workers called of their ends, and how they came to their answers.
-use Rattle.std.specs.Prelude.{◌≡◌, ◌≢◌, ◌⊎◌, ℕ, Bool, List, [], ◌∷◌, length, Option, Some, Ok, Err}
+use Rattle.std.specs.Prelude.{◌≡◌, ◌≢◌, ◌⊎◌, ℕ, Bool, List, [], ◌∷◌, ◌++◌, length, Option, Some, Ok, Err}
 use Rattle.dr_core.specs.declared.command.Polled.TheVariants.{Drained}
 use Rattle.dr_core.specs.declared.ends.Trouble.{Trouble}
 use Rattle.dr_core.specs.declared.ends.Trouble.TheVariants.{Refused, Memory}
@@ -10,7 +10,7 @@ use Rattle.dr_core.specs.Calls.Handling.{Relation}
 use Rattle.dr_shared.specs.declared.fault.WorkFault.{WorkFault}
 use Rattle.dr_shared.specs.declared.producer.Produced.{Produced}
 use Rattle.dr_shared.specs.Calls.Stops.{Stops, fault_at_end, fault_in_trouble}
-use Rattle.dr_shared.specs.Meaning.Work.{AreCut, Works, batches_in, claims_in}
+use Rattle.dr_shared.specs.Meaning.Work.{AreCut, CompletedBelow, IsSent, Works, accepted_in, advances_in, batches_in, claims_in, each_completed}
 
 -- the last call is such a one
 abbrev pub EndsIn : {C : Type 0} → (C → Type 0) → List C → Type 0
@@ -37,10 +37,22 @@ ConsumerEnds stopped calls answer =
     (EndsIn IsTold calls × (answer ≡ fault_at_end stopped))
     ⊎ ((trouble : Trouble) × EndsIn (IsInTrouble trouble) calls × (answer ≡ Some (fault_in_trouble stopped trouble)))
 
+-- the last call is a completion in trouble
+abbrev pub LeavesOpen : {E : Type 0} → ℕ → OutletCall E → Type 0
+LeavesOpen upto (CompletesBelow n (Err trouble)) = n ≡ upto
+LeavesOpen upto other = ⊥
+
+-- each batch that these calls handed out is completed before the next one, but for the last where its completion is in trouble
+abbrev pub AreCompleted : {E : Type 0} → List (OutletCall E) → Type 0
+AreCompleted calls =
+    (advances_in calls ≡ each_completed (batches_in calls))
+    ⊎ ((upto : ℕ) × EndsIn (LeavesOpen upto) calls × (advances_in calls ++ CompletedBelow upto ∷ [] ≡ each_completed (batches_in calls)))
+
 -- a handler was shown the batches that these calls handed out, and its worker came to its gate with each of them
-pub record Serves {E A : Type 0} (goes : Relation E A) (before after : A) (old new : Option (Received E)) (may_stop : Type 0) (must_stop : ℕ → Type 0) (answer : Option WorkFault) (calls : List (OutletCall E)) : Type 0 where
+pub record Serves {E A : Type 0} (goes : Relation E A) (before after : A) (old new : Option (Received E)) (may_stop must_stop : ℕ → Type 0) (answer : Option WorkFault) (calls : List (OutletCall E)) : Type 0 where
   pub works : Works goes before after old new (batches_in calls)
   pub gate : Stops may_stop must_stop (length (batches_in calls)) (λ stopped. ConsumerEnds stopped calls answer)
+  pub completes : AreCompleted calls
 
 -- The producer's side.
 
@@ -63,7 +75,8 @@ ProducerEnds all stopped calls produced =
     ((produced.sent ≡ all) × (produced.fault ≡ fault_at_end stopped))
     ⊎ ((trouble : Trouble) × EndsIn (GivesUp trouble) calls × (produced.fault ≡ Some (fault_in_trouble stopped trouble)))
 
--- these calls claimed parts of a script of so many events, each as long as the cut allows, and a worker came to its gate with each of them
-pub record Sends {E : Type 0} (cut all : ℕ) (may_stop : Type 0) (must_stop : ℕ → Type 0) (produced : Produced) (calls : List (InletCall E)) : Type 0 where
-  pub cuts : AreCut cut all (claims_in calls)
-  pub gate : Stops may_stop must_stop (length (claims_in calls)) (λ stopped. ProducerEnds all stopped calls produced)
+-- these calls claimed parts of a script, each as long as the cut allows, a worker came to its gate with each of them, and sent as much of the script as it says
+pub record Sends {E : Type 0} (cut : ℕ) (script : List E) (may_stop must_stop : ℕ → Type 0) (produced : Produced) (calls : List (InletCall E)) : Type 0 where
+  pub cuts : AreCut cut (length script) (claims_in calls)
+  pub gate : Stops may_stop must_stop (length (claims_in calls)) (λ stopped. ProducerEnds (length script) stopped calls produced)
+  pub sends : IsSent script produced.sent (accepted_in calls)

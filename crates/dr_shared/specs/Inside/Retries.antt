@@ -1,34 +1,61 @@
 -- What calls a worker makes of its end at one step of its work.
-use Rattle.std.specs.Prelude.{◌≡◌, ◌⊎◌, ℕ, List, [], ◌∷◌, ◌++◌, length, replicate, Option, Result, Ok, Err}
+use Rattle.std.specs.Prelude.{◌≡◌, ◌⊎◌, ℕ, ◌<◌, List, [], ◌∷◌, ◌++◌, length, take, replicate, Option, Result, Ok, Err}
+use Rattle.dr_core.specs.declared.command.Claimed.{Claimed}
 use Rattle.dr_core.specs.declared.ends.Trouble.{Trouble}
-use Rattle.dr_core.specs.Calls.Calling.{InletCall, OutletCall}
+use Rattle.dr_core.specs.Calls.Calling.{InletCall, OutletCall, PublishesStretch, each_written}
 use Rattle.dr_core.specs.Calls.Ends.{Received}
 use Rattle.dr_core.specs.Calls.Handling.{Relation}
 use Rattle.dr_shared.specs.declared.consumer.Progress.{Progress}
 use Rattle.dr_shared.specs.declared.consumer.Progress.TheVariants.{Drained}
 use Rattle.dr_shared.specs.declared.turns.Turns.{Turns}
-use Rattle.dr_shared.specs.Calls.Serving.{EndsIn, GivesUp, IsInTrouble, IsTold}
+use Rattle.dr_shared.specs.Calls.Serving.{AreCompleted, EndsIn, GivesUp, IsInTrouble, IsTold}
 use Rattle.dr_shared.specs.Calls.Stops.{Passes}
-use Rattle.dr_shared.specs.Meaning.Work.{Works, batches_in, claims_in}
+use Rattle.dr_shared.specs.Meaning.Work.{Part, Works, accepted_in, advances_in, batches_in, claims_in, each_completed, sending_of, writing_of}
 
 -- a call is made again while its answer is one to wait at
 abbrev pub Retries : {C : Type 0} → C → C → List C → Type 0
 Retries waits answered calls = (times : ℕ) × (calls ≡ replicate times waits ++ answered ∷ [])
 
+-- the accepted calls that write events to the sequences from lo on, all of them or, in trouble, the first
+abbrev pub AreEachWritten : {E : Type 0} → ℕ → List E → Result (Unit {0}) Trouble → List (InletCall E) → Type 0
+AreEachWritten lo events (Ok done) accepted = accepted ≡ each_written lo events
+AreEachWritten lo events (Err trouble) accepted = (k : ℕ) × (accepted ≡ take k (each_written lo events))
+
 -- many writes, up to one that is refused
-pub record AreWrites {E : Type 0} (result : Result (Unit {0}) Trouble) (calls : List (InletCall E)) : Type 0 where
+pub record WriteCalls {E : Type 0} (lo : ℕ) (events : List E) (result : Result (Unit {0}) Trouble) (calls : List (InletCall E)) : Type 0 where
   pub claims : claims_in calls ≡ []
   pub trouble : (trouble : Trouble) → result ≡ Err trouble → EndsIn (GivesUp trouble) calls
+  pub accepted : AreEachWritten lo events result (accepted_in calls)
 
--- a claim of so many with its writes and its publication, and the worker's passage of its gate with it
-pub record SendsPart {E : Type 0} (n : ℕ) (may_stop : ℕ → Type 0) (must_stop : ℕ → ℕ → Type 0) (turns turns' : Turns) (result : Result (Unit {0}) Trouble) (calls : List (InletCall E)) : Type 0 where
-  pub claims : (claims_in calls ≡ n ∷ []) ⊎ ((claims_in calls ≡ []) × ((trouble : Trouble) × (result ≡ Err trouble)))
+-- the accepted calls after a part's claim: its writes and its publication or, in trouble, the first of its writes
+abbrev pub AreWrittenOut : {E : Type 0} → Part E → Result (Unit {0}) Trouble → List (InletCall E) → Type 0
+AreWrittenOut part (Ok done) accepted = accepted ≡ each_written part.stretch.lo part.events ++ PublishesStretch part.stretch.lo part.stretch.hi (Ok tt) ∷ []
+AreWrittenOut part (Err trouble) accepted = (k : ℕ) × (accepted ≡ take k (each_written part.stretch.lo part.events))
+
+-- a part's writes and its publication, up to one that is refused
+pub record AfterClaim {E : Type 0} (part : Part E) (result : Result (Unit {0}) Trouble) (calls : List (InletCall E)) : Type 0 where
+  pub claims : claims_in calls ≡ []
+  pub trouble : (trouble : Trouble) → result ≡ Err trouble → EndsIn (GivesUp trouble) calls
+  pub accepted : AreWrittenOut part result (accepted_in calls)
+
+-- what is accepted of some events' claim, writes and publication: all or, in trouble, the first
+abbrev pub IsPartSent : {E : Type 0} → List E → Result (Unit {0}) Trouble → List (InletCall E) → Type 0
+IsPartSent events (Ok done) accepted = (stretch : Claimed) × (accepted ≡ sending_of (record { stretch = stretch; events = events }))
+IsPartSent events (Err trouble) accepted =
+    (accepted ≡ []) ⊎ ((stretch : Claimed) × (k : ℕ) × (0 < length events) × (accepted ≡ take k (writing_of (record { stretch = stretch; events = events }))))
+
+-- a claim with its writes and its publication, and the worker's passage of its gate with it
+pub record SendsPart {E : Type 0} (events : List E) (may_stop must_stop : ℕ → ℕ → Type 0) (turns turns' : Turns) (result : Result (Unit {0}) Trouble) (calls : List (InletCall E)) : Type 0 where
+  pub claims : (claims_in calls ≡ length events ∷ []) ⊎ ((claims_in calls ≡ []) × ((trouble : Trouble) × (result ≡ Err trouble)))
   pub passes : Passes may_stop must_stop (length (claims_in calls)) turns turns'
   pub trouble : (trouble : Trouble) → result ≡ Err trouble → EndsIn (GivesUp trouble) calls
+  pub accepted : IsPartSent events result (accepted_in calls)
 
 -- a poll and, for a batch, the worker's passage of its gate and the completion
-pub record TakesBatch {E A : Type 0} (goes : Relation E A) (before after : A) (old new : Option (Received E)) (may_stop : ℕ → Type 0) (must_stop : ℕ → ℕ → Type 0) (turns turns' : Turns) (result : Result Progress Trouble) (calls : List (OutletCall E)) : Type 0 where
+pub record TakesBatch {E A : Type 0} (goes : Relation E A) (before after : A) (old new : Option (Received E)) (may_stop must_stop : ℕ → ℕ → Type 0) (turns turns' : Turns) (result : Result Progress Trouble) (calls : List (OutletCall E)) : Type 0 where
   pub works : Works goes before after old new (batches_in calls)
   pub passes : Passes may_stop must_stop (length (batches_in calls)) turns turns'
   pub told : result ≡ Ok Drained → EndsIn IsTold calls
   pub trouble : (trouble : Trouble) → result ≡ Err trouble → EndsIn (IsInTrouble trouble) calls
+  pub completes : AreCompleted calls
+  pub whole : (progress : Progress) → result ≡ Ok progress → advances_in calls ≡ each_completed (batches_in calls)

@@ -1,8 +1,9 @@
 -- What workers do at their ends.
-use Rattle.std.specs.Prelude.{◌≡◌, ℕ, ◌+◌, ◌-◌, ◌<◌, ◌⊎◌, min, Bool, List, [], ◌∷◌, ◌++◌, length, map, take, replicate, Option, None, Some, Ok}
+use Rattle.std.specs.Prelude.{◌≡◌, ℕ, ◌+◌, ◌-◌, ◌<◌, ◌⊎◌, min, Bool, List, [], ◌∷◌, ◌++◌, length, map, flat_map, take, drop, replicate, Option, None, Some, Ok}
 use Rattle.std.specs.List.{filter_map}
+use Rattle.dr_core.specs.declared.command.Claimed.{Claimed}
 use Rattle.dr_core.specs.declared.command.Polled.TheVariants.{Batch}
-use Rattle.dr_core.specs.Calls.Calling.{InletCall, OutletCall, TriesClaim, PollsInto}
+use Rattle.dr_core.specs.Calls.Calling.{InletCall, OutletCall, TriesClaim, WritesOne, WritesMany, PublishesStretch, PollsInto, CompletesBelow, each_written}
 use Rattle.dr_core.specs.Calls.Ends.{Sent, Received, WhereShown}
 use Rattle.dr_core.specs.Calls.Handling.{GoesThrough, Relation, Showing, showings}
 
@@ -27,6 +28,25 @@ batches_in calls = filter_map batch_of calls
 abbrev pub shown_of : {E : Type 0} → List (Dealt E) → List (Showing E)
 shown_of [] = []
 shown_of (b ∷ batches) = showings b.events b.first b.end ++ shown_of batches
+
+-- how a call takes a handler on: a batch is handed out, or all events below a sequence are completed
+pub data Advance (E : Type 0) : Type 0 where
+  HandedOut : Dealt E → Advance E
+  CompletedBelow : ℕ → Advance E
+
+abbrev pub advance_of : {E : Type 0} → OutletCall E → Option (Advance E)
+advance_of (PollsInto before after (Ok (Batch first count end))) = Some (HandedOut (record { first = first; events = take count after; end = end }))
+advance_of (CompletesBelow upto (Ok done)) = Some (CompletedBelow upto)
+advance_of other = None
+
+-- what calls handed out and completed, in their order
+abbrev pub advances_in : {E : Type 0} → List (OutletCall E) → List (Advance E)
+advances_in calls = filter_map advance_of calls
+
+-- each batch is completed, and nothing else, before the next one is handed out
+abbrev pub each_completed : {E : Type 0} → List (Dealt E) → List (Advance E)
+each_completed [] = []
+each_completed (b ∷ batches) = HandedOut b ∷ CompletedBelow (b.first + length b.events) ∷ each_completed batches
 
 -- the events of batches, joined
 abbrev pub dealt_events : {E : Type 0} → List (Dealt E) → List E
@@ -66,6 +86,43 @@ claims_in calls = filter_map claim_of calls
 abbrev pub AreCut : ℕ → ℕ → List ℕ → Type 0
 AreCut cut left [] = Unit {0}
 AreCut cut left (n ∷ claims) = (n ≡ min left cut) × AreCut cut (left - n) claims
+
+-- the calls among some that were accepted, each of many writes as a call of its own
+abbrev pub accepted_of : {E : Type 0} → InletCall E → List (InletCall E)
+accepted_of (TriesClaim n (Ok claimed)) = TriesClaim n (Ok claimed) ∷ []
+accepted_of (WritesOne s event (Ok done)) = WritesOne s event (Ok tt) ∷ []
+accepted_of (WritesMany lo events wrote) = each_written lo (take wrote.count events)
+accepted_of (PublishesStretch lo hi (Ok done)) = PublishesStretch lo hi (Ok tt) ∷ []
+accepted_of other = []
+
+abbrev pub accepted_in : {E : Type 0} → List (InletCall E) → List (InletCall E)
+accepted_in calls = flat_map accepted_of calls
+
+-- a part of a script, and the stretch that is claimed for it
+pub record Part (E : Type 0) : Type 0 where
+  pub stretch : Claimed
+  pub events : List E
+
+-- a part's claim, and the write of each of its events, in order, to the sequences of its stretch
+abbrev pub writing_of : {E : Type 0} → Part E → List (InletCall E)
+writing_of part = TriesClaim (length part.events) (Ok part.stretch) ∷ each_written part.stretch.lo part.events
+
+-- and the stretch's publication
+abbrev pub sending_of : {E : Type 0} → Part E → List (InletCall E)
+sending_of part = writing_of part ++ PublishesStretch part.stretch.lo part.stretch.hi (Ok tt) ∷ []
+
+-- nothing, or the claim of the next part of a script and the first of its writes
+abbrev pub BeginsPart : {E : Type 0} → List E → List (InletCall E) → Type 0
+BeginsPart {E} rest calls =
+    (calls ≡ []) ⊎ ((part : Part E) × (k : ℕ) × (part.events ≡ take (length part.events) rest) × (0 < length part.events) × (calls ≡ take k (writing_of part)))
+
+-- the first events of a script are sent, as many as this, part by part, and at most a claim and writes of the next part are made
+pub record IsSent {E : Type 0} (script : List E) (sent : ℕ) (accepted : List (InletCall E)) : Type 0 where
+  pub parts : List (Part E)
+  pub next : List (InletCall E)
+  pub calls : accepted ≡ flat_map sending_of parts ++ next
+  pub events : flat_map (λ part. part.events) parts ≡ take sent script
+  pub begins : BeginsPart (drop sent script) next
 
 -- what an end published is more by these events
 abbrev pub Adds : {E : Type 0} → List E → Sent E → Sent E → Type 0

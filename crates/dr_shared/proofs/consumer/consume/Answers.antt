@@ -38,7 +38,7 @@ loop-preserved-in-Ok-Batch g c = (
   c.turn.ensures.takes.holds.passes.who ∙ c.loop.invariant.3,
   stopped_more (g.G.Gate.may_stop c.args.gate.now) (g.G.Gate.must_stop c.args.gate.now) _ c.args.who _ _ c.loop.invariant.3 c.loop.invariant.4 c.turn.ensures.takes.holds.passes,
   serving_more g.O.Outlet.does g.H.Handler.goes c.args.handler.now c.loop.handler c.turn.new.handler c.args.outlet.now c.loop.outlet c.turn.new.outlet _ _ _
-      (g.G.Gate.may_stop c.args.gate.now) (g.G.Gate.must_stop c.args.gate.now) c.args.who _ _ _ c.loop.invariant.5 c.turn.ensures.takes,
+      (g.G.Gate.may_stop c.args.gate.now) (g.G.Gate.must_stop c.args.gate.now) c.args.who _ _ _ _ c.in-Ok-Batch.is c.loop.invariant.5 c.turn.ensures.takes,
   done_more _ _ _ c.loop.invariant.6 c.in-Ok-Batch.ensures.done,
 )
 
@@ -50,7 +50,7 @@ loop-preserved g c = (
   c.turn.ensures.takes.holds.passes.who ∙ c.loop.invariant.3,
   stopped_more (g.G.Gate.may_stop c.args.gate.now) (g.G.Gate.must_stop c.args.gate.now) _ c.args.who _ _ c.loop.invariant.3 c.loop.invariant.4 c.turn.ensures.takes.holds.passes,
   serving_more g.O.Outlet.does g.H.Handler.goes c.args.handler.now c.loop.handler c.turn.new.handler c.args.outlet.now c.loop.outlet c.turn.new.outlet _ _ _
-      (g.G.Gate.may_stop c.args.gate.now) (g.G.Gate.must_stop c.args.gate.now) c.args.who _ _ _ c.loop.invariant.5 c.turn.ensures.takes,
+      (g.G.Gate.may_stop c.args.gate.now) (g.G.Gate.must_stop c.args.gate.now) c.args.who _ _ _ _ c.in-Ok-Nothing.is c.loop.invariant.5 c.turn.ensures.takes,
   done_more _ _ _ c.loop.invariant.6 c.in-Ok-Nothing.ensures.done,
 )
 

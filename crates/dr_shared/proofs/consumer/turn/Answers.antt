@@ -1,4 +1,5 @@
-use Rattle.std.proofs.Common.{◌≡◌, ◌+◌, ◌∙◌, ap, refl, rules, subst, Ok, Err}
+use Rattle.std.proofs.Common.{◌≡◌, ◌+◌, ◌∙◌, ap, refl, rules, subst, sym, Ok, Err}
+use Rattle.std.proofs.lemmas.List.{length-take-le}
 use Rattle.std.proofs.lemmas.Result.{err_from_is_err_and}
 use Rattle.dr_core.specs.declared.command.Polled.TheVariants as polled
 use Rattle.dr_core.specs.Calls.Calling.{PollsInto}
@@ -20,7 +21,7 @@ returns-in_err-complete-in-Ok-Batch-clause-takes g c =
     let same = p.1 in
     let why = p.2 in
     turned_batch g.O.Outlet.does g.H.Handler.goes c.args.handler.now c.show.new.handler _ _ _ _ _ (g.G.Gate.may_stop c.args.gate.now) (g.G.Gate.must_stop c.args.gate.now) _ _ c.from_residual.result
-    c.args.buf.now out b.first b.count (b.first + b.count) b.end c.complete.result call c.complete.ensures.called works c.pass.ensures (λ is. cc) (λ fault is. cc)
+    c.args.buf.now out b.first b.count (b.first + b.count) b.end c.complete.result call c.complete.ensures.called works c.pass.ensures (ap (λ n. b.first + n) (sym (length-take-le b.count out deal.within))) (λ is. cc) (λ fault is. cc) (λ progress is. cc)
 
 pub returns-in_ok-complete-in-Ok-Batch-clause-takes : goal.returns-in_ok-complete-in-Ok-Batch-clause-takes
 returns-in_ok-complete-in-Ok-Batch-clause-takes g c =
@@ -30,7 +31,7 @@ returns-in_ok-complete-in-Ok-Batch-clause-takes g c =
     let works = works_batch g.H.Handler.goes c.args.handler.now c.show.new.handler out b.first b.count _ b.end _ _ _ deal c.show.ensures c.in_ok-complete-in-Ok-Batch.ensures.completed in
     let call = subst (λ r. g.O.Outlet.does c.args.outlet.now (PollsInto c.args.buf.now out r) c.poll_into.new.self) (b.is ∙ ap (λ x. Ok x) b.field-0-is) c.poll_into.ensures.called in
     turned_batch g.O.Outlet.does g.H.Handler.goes c.args.handler.now c.show.new.handler _ _ _ _ _ (g.G.Gate.may_stop c.args.gate.now) (g.G.Gate.must_stop c.args.gate.now) _ _ (Ok (Batch b.count))
-    c.args.buf.now out b.first b.count (b.first + b.count) b.end c.complete.result call c.complete.ensures.called works c.pass.ensures (λ is. cc) (λ fault is. cc)
+    c.args.buf.now out b.first b.count (b.first + b.count) b.end c.complete.result call c.complete.ensures.called works c.pass.ensures (ap (λ n. b.first + n) (sym (length-take-le b.count out deal.within))) (λ is. cc) (λ fault is. cc) (λ progress is. c.in_ok-complete-in-Ok-Batch.was)
 
 pub returns-in-Ok-Drained-clause-takes : goal.returns-in-Ok-Drained-clause-takes
 returns-in-Ok-Drained-clause-takes g c =

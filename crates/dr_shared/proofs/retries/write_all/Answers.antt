@@ -1,6 +1,6 @@
 use Rattle.std.proofs.Common.{ap, subst, ◌≡◌, ◌≤◌, ◌+◌, ◌-◌, ◌∙◌, arith, drop, length, rules, take}
 use Rattle.dr_core.specs.Calls.Ends.{StopsAt}
-use Rattle.dr_shared.proofs.Calling.{all_accepted, claim_nothing, last_refused, many_writes}
+use Rattle.dr_shared.proofs.Calling.{all_accepted, first_more, last_refused, many_writes}
 use Rattle.dr_shared.proofs.Closing.{trouble_of, write_refused}
 use Rattle.dr_shared.proofs.Writings.{all_written, length-rest, more_written, only_written, stops_before, stops_nowhere, stops_within}
 use Rattle.dr_shared.proofs.retries.write_all.Goals as goal
@@ -18,7 +18,7 @@ loop-preserved g c =
       c.write_all-wrote.ensures.kept ∙ c.loop.invariant.2,
       omega arith,
       more_written c.args.lo done c.write_all-wrote.result.count events front _ _ _ c.loop.invariant.4 c.write_all-wrote.ensures.sent,
-      claim_nothing g.I.Inlet.does _ _ _ c.write_all-wrote.result.trouble c.loop.invariant.5
+      first_more g.I.Inlet.does _ _ _ c.args.lo done events c.write_all-wrote.result front c.loop.invariant.5
           (many_writes g.I.Inlet.does (c.args.lo + done) (take (length events - done) (drop done events)) c.write_all-wrote.result _ _ (λ r is. stops_before _ _ _ _ _ _ is c.write_all-wrote.ensures.answer.stops) c.write_all-wrote.ensures.called),
     )
 
@@ -55,12 +55,16 @@ pub returns-in-None-trouble-clause-called : goal.returns-in-None-trouble-clause-
 returns-in-None-trouble-clause-called g c =
     let done = c.loop.done in
     let events = c.args.events.now in
-    all_accepted g.I.Inlet.does _ _ _ c.write_all-wrote.result.trouble c.loop.invariant.5
-    (many_writes g.I.Inlet.does (c.args.lo + done) (take (length events - done) (drop done events)) c.write_all-wrote.result _ _ (λ r is. stops_before _ _ _ _ _ _ is c.write_all-wrote.ensures.answer.stops) c.write_all-wrote.ensures.called)
+    let count = c.write_all-wrote.result.count in
+    let left : length (take (length events - done) (drop done events)) ≡ length events - done = length-rest events done in
+    let all : count ≡ length (take (length events - done) (drop done events)) = stops_nowhere _ _ _ _ _ c.in-None-trouble.is c.write_all-wrote.ensures.answer.stops in
+    all_accepted g.I.Inlet.does _ _ c.args.lo (done + count) events (omega arith)
+    (first_more g.I.Inlet.does _ _ _ c.args.lo done events c.write_all-wrote.result c.loop.invariant.3 c.loop.invariant.5
+    (many_writes g.I.Inlet.does (c.args.lo + done) (take (length events - done) (drop done events)) c.write_all-wrote.result _ _ (λ r is. stops_before _ _ _ _ _ _ is c.write_all-wrote.ensures.answer.stops) c.write_all-wrote.ensures.called))
 
 pub returns-in-Some-trouble-clause-called : goal.returns-in-Some-trouble-clause-called
 returns-in-Some-trouble-clause-called g c =
     let done = c.loop.done in
     let events = c.args.events.now in
-    last_refused g.I.Inlet.does _ _ _ c.write_all-wrote.result.trouble _ c.in-Some-trouble.is (search rules) c.loop.invariant.5
+    last_refused g.I.Inlet.does _ _ _ c.args.lo done events c.write_all-wrote.result _ c.in-Some-trouble.is (search rules) c.loop.invariant.3 c.loop.invariant.5
     (many_writes g.I.Inlet.does (c.args.lo + done) (take (length events - done) (drop done events)) c.write_all-wrote.result _ _ (λ r is. stops_before _ _ _ _ _ _ is c.write_all-wrote.ensures.answer.stops) c.write_all-wrote.ensures.called)

@@ -1,7 +1,7 @@
-use Rattle.std.proofs.Common.{◌≡◌, ◌≤◌, [], length, take}
+use Rattle.std.proofs.Common.{◌≡◌, ◌≤◌, length, take}
 use Rattle.dr_core.specs.Calls.Calling.{SomeCalls}
 use Rattle.dr_core.specs.Calls.Ends.{WhereShown, WritesAll}
-use Rattle.dr_shared.specs.Meaning.Work.{claims_in}
+use Rattle.dr_shared.proofs.Calling.{AreFirst}
 use Rattle.dr_shared.proofs.retries.write_all.Given as goal
 
 abbrev pub invariant-loop : goal.invariant-loop
@@ -9,4 +9,4 @@ invariant-loop g l =
     (goal.iterator-loop g).can_next l.iterator' × (goal.iterator-loop g).is_finite l.iterator'
     × (g.I.Inlet.kept l.inlet ≡ g.I.Inlet.kept l.fn.inlet) × (l.done ≤ length l.events)
     × WhereShown (WritesAll l.lo (take l.done l.events)) (g.I.Inlet.sent l.fn.inlet) (g.I.Inlet.sent l.inlet)
-    × SomeCalls g.I.Inlet.does l.fn.inlet l.inlet (λ calls. claims_in calls ≡ [])
+    × SomeCalls g.I.Inlet.does l.fn.inlet l.inlet (AreFirst l.lo l.events l.done)
