@@ -2,6 +2,7 @@
 use Rattle.std.specs.Prelude.{ℕ, ◌+◌, ◌==◌, Bool, false, List, filter}
 use Rattle.dr_ring.specs.declared.record.Step.{Step}
 use Rattle.dr_ring.specs.declared.record.Step.TheVariants.{SenderStoresFirst, SenderStoresSecond, SenderPublishes, SenderHalts, SenderCloses, ReceiverCompletes, HalterHalts}
+use Rattle.dr_ring.specs.declared.record.Step.TheVariants.{SenderLooksAtCount, SenderLooksAtHalt, ReceiverLooksAtClosed, ReceiverLooksAtCursor, ReceiverLooksAtCount, ReceiverLoadsFirst, ReceiverLoadsSecond}
 
 -- the sender is end 0, the halter end 1, and the receivers follow
 abbrev pub receiver_number : ℕ → ℕ
@@ -16,7 +17,14 @@ is_store_of end SenderHalts = end == 0
 is_store_of end SenderCloses = end == 0
 is_store_of end HalterHalts = end == 1
 is_store_of end (ReceiverCompletes h n) = end == receiver_number h
-is_store_of end _ = false
+-- and these are loads
+is_store_of end (SenderLooksAtCount h) = false
+is_store_of end (SenderLooksAtHalt more) = false
+is_store_of end (ReceiverLooksAtClosed h) = false
+is_store_of end (ReceiverLooksAtCursor h) = false
+is_store_of end (ReceiverLooksAtCount h u) = false
+is_store_of end (ReceiverLoadsFirst h) = false
+is_store_of end (ReceiverLoadsSecond h) = false
 
 -- what the sender stored in a run, in order
 abbrev pub stores_of_sender : List Step → List Step

@@ -2,6 +2,7 @@
 use Rattle.std.specs.Prelude.{ℕ, ◌+◌, ◌*◌, ◌==◌, Bool, false, List, filter}
 use Rattle.dr_senders.specs.declared.record.Step.{Step}
 use Rattle.dr_senders.specs.declared.record.Step.TheVariants.{SenderClaims, SenderStoresFirst, SenderStoresSecond, SenderPublishes, SenderHalts, ReceiverCompletes, HalterHalts}
+use Rattle.dr_senders.specs.declared.record.Step.TheVariants.{SenderLooksAtClaims, SenderLooksAtCount, SenderLooksAtMark, ReceiverLooksAtClaims, ReceiverLooksAtMark, ReceiverLooksAtCount, ReceiverLoadsFirst, ReceiverLoadsSecond}
 
 -- the halter is end 0, and senders and receivers take turns behind it
 abbrev pub sender_number : ℕ → ℕ
@@ -19,7 +20,15 @@ is_store_of end (SenderPublishes p s) = end == sender_number p
 is_store_of end (SenderHalts p) = end == sender_number p
 is_store_of end HalterHalts = end == 0
 is_store_of end (ReceiverCompletes h n) = end == receiver_number h
-is_store_of end _ = false
+-- and these are loads
+is_store_of end (SenderLooksAtClaims p) = false
+is_store_of end (SenderLooksAtCount p h) = false
+is_store_of end (SenderLooksAtMark p s) = false
+is_store_of end (ReceiverLooksAtClaims h) = false
+is_store_of end (ReceiverLooksAtMark h) = false
+is_store_of end (ReceiverLooksAtCount h u) = false
+is_store_of end (ReceiverLoadsFirst h) = false
+is_store_of end (ReceiverLoadsSecond h) = false
 
 -- what a sender stored in a run, in order
 abbrev pub stores_of_sender : ℕ → List Step → List Step
