@@ -19,7 +19,7 @@ abbrev pub AnswersFor : Option WorkFault → Option WorkFault → Type 0
 AnswersFor fault answer = (answer ≡ fault) ⊎ (answer ≡ Some Memory)
 
 -- a worker took a new handler through what its end handed out, came to its gate with each batch, and answers for what these calls came to: a refusal of the end, or a stop at the gate
-pub record IsServed {A : Type 0} (goes : Relation Event A) (IsNew : A → Type 0) (may_stop : Type 0) (must_stop : ℕ → Type 0) (given back : ReceiverEnd) (answer : Option WorkFault) : Type 0 where
+pub record IsServed {A : Type 0} (goes : Relation Event A) (IsNew : A → Type 0) (may_stop must_stop : ℕ → Type 0) (given back : ReceiverEnd) (answer : Option WorkFault) : Type 0 where
   pub start : A
   pub after : A
   pub fault : Option WorkFault
@@ -29,9 +29,9 @@ pub record IsServed {A : Type 0} (goes : Relation Event A) (IsNew : A → Type 0
 
 -- a worker gives back the end that it was given, and what it says is the part of the report of what that end received, which was told that the ring drained;
 -- that it was stopped it answers only where its gate may stop it
-pub record Keeps {A : Type 0} (goes : Relation Event A) (IsNew : A → Type 0) (part_of : List Event → List ℕ) (may_stop : Type 0) (must_stop : ℕ → Type 0) (given : ReceiverEnd) (back : Worked) : Type 0 where
+pub record Keeps {A : Type 0} (goes : Relation Event A) (IsNew : A → Type 0) (part_of : List Event → List ℕ) (may_stop must_stop : ℕ → Type 0) (given : ReceiverEnd) (back : Worked) : Type 0 where
   pub place : receiver_place back.receiver ≡ receiver_place given
   pub told : given.knows.received ≡ [] → IfOk back.part (λ text. back.receiver.knows.told ≡ true)
   pub says : given.knows.received ≡ [] → IfOk back.part (λ text. string_bytes text ≡ part_of back.receiver.knows.received)
-  pub stopped : back.part ≡ Err Stopped → may_stop
+  pub stopped : back.part ≡ Err Stopped → (turn : ℕ) × may_stop turn
   pub served : IsServed goes IsNew may_stop must_stop given back.receiver (error_of back.part)

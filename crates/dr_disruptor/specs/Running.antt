@@ -68,7 +68,7 @@ pub record IsSending (k : Shape) (script : List Event) (produced : Produced) : T
   pub given : SenderEnd
   pub back : SenderEnd
   pub fresh : given.knows ≡ fresh_sender k
-  pub calls : SomeCalls sender_does given back (worker.Sends (max (k.size / 4) 1) (length script) ⊥ (λ turn. ⊥) produced)
+  pub calls : SomeCalls sender_does given back (worker.Sends (max (k.size / 4) 1) script (λ turn. ⊥) (λ turn. ⊥) produced)
   pub published : back.knows.sent.published ≡ take produced.sent script
 
 -- what came of a script over a ring of this shape: the sender published the first of its events, all of them where it ended without a fault

@@ -30,7 +30,7 @@ fine_before : (fault answer : Option WorkFault) → AnswersFor fault answer → 
 fine_before fault answer answers fine = ⊎_elim (λ same. sym same ∙ fine) (λ memory. absurd (none-some Memory (sym fine ∙ memory))) answers
 
 -- a handler that received events
-heeds : {A : Type 0} (goes : Relation Event A) (IsNew : A → Type 0) (may_stop : Type 0) (must_stop : ℕ → Type 0) (given back : ReceiverEnd) (answer : Option WorkFault)
+heeds : {A : Type 0} (goes : Relation Event A) (IsNew : A → Type 0) (may_stop must_stop : ℕ → Type 0) (given back : ReceiverEnd) (answer : Option WorkFault)
     (event : Event) (events : List Event) → IsServed goes IsNew may_stop must_stop given back answer → given.knows.received ≡ [] → back.knows.received ≡ event ∷ events
     → answer ≡ None → must_stop 0 → ⊥
 heeds goes IsNew may_stop must_stop given back answer event events is none received fine must =
@@ -40,7 +40,7 @@ heeds goes IsNew may_stop must_stop given back answer event events is none recei
     let dealt : event ∷ events ≡ dealt_events batches = sym received ∙ handed.0 ∙ ap (λ (l : List Event). l ++ dealt_events batches) none in
     ends_unstopped gate.stopped is.calls.calls is.fault gate.answers (fine_before is.fault answer is.answers fine) (gate.must 0 (some_batch event events batches dealt) (omega arith) must)
 
-module _ (may_stop : ℕ → Type 0) (must_stop : ℕ → ℕ → Type 0) (size : ℕ) where
+module _ (may_stop must_stop : ℕ → ℕ → Type 0) (size : ℕ) where
   pub run_heeds : (events : List Event) (s : SenderEnd) (j r b : ReceiverEnd) (ran : Ran) → IsRun may_stop must_stop size events s j r b ran
       → j.knows.received ≡ [] → r.knows.received ≡ [] → b.knows.received ≡ [] → AreThrough events ran → NoneHadToStop must_stop events
   run_heeds [] s j r b ran is first second third through = tt

@@ -3,6 +3,7 @@ use Rattle.std.proofs.Common.{◌≡◌, ◌+◌, ◌<◌, ℕ, suc, List, [], �
 use Rattle.std.proofs.lemmas.List.Elements.{All-nil, All-cons}
 use Rattle.dr_seq.specs.declared.event.Event.{Event}
 use Rattle.dr_ring.specs.Calls.Ends.{SenderEnd, ReceiverEnd}
+use Rattle.dr_shared.specs.Calls.Stops.{MayStop}
 use Rattle.dr_shared.specs.declared.ended.Ended.{Ended}
 use Rattle.dr_shared.specs.declared.fault.WorkFault.{WorkFault}
 use Rattle.dr_shared.specs.declared.fault.WorkFault.TheVariants.{Stopped}
@@ -24,18 +25,6 @@ module _ (may_stop : ℕ → Type 0) where
       → AreStopped may_stop (record { who = who; fault = fault } ∷ others)
   more who fault others one rest = All-cons IsStopped (record { who = who; fault = fault }) others one rest
 
-  -- over a ring
-  pub run_stopped : {must_stop : ℕ → ℕ → Type 0} {size : ℕ} (events : List Event) (s : SenderEnd) (j r b : ReceiverEnd) (ran : Ran) → IsRun may_stop must_stop size events s j r b ran
-      → AreStopped may_stop (endings_of ran)
-  run_stopped events s j r b ran is =
-      let sender : List Ended = record { who = 16; fault = ran.produced.fault } ∷ [] in
-      let later : List Ended = record { who = 2; fault = error_of ran.business.part } ∷ sender in
-      let others : List Ended = record { who = 1; fault = error_of ran.replica.part } ∷ later in
-      more 0 (error_of ran.journal.part) others (λ e. is.journal.stopped (stopped_of ran.journal.part e))
-      (more 1 (error_of ran.replica.part) later (λ e. is.replica.stopped (stopped_of ran.replica.part e))
-      (more 2 (error_of ran.business.part) sender (λ e. is.business.stopped (stopped_of ran.business.part e))
-      (more 16 ran.produced.fault [] is.sending.stopped (All-nil IsStopped))))
-
   -- producers' workers that each were stopped by their gate alone
   pub numbered_stopped : {X : Type 0} (fault_of : X → Option WorkFault) (who : ℕ) (given : List X)
       → ((k : ℕ) (d : X) → k < length given → fault_of (get_or given k d) ≡ Some Stopped → may_stop (who + k)) → AreStopped may_stop (numbered who (map fault_of given))
@@ -56,3 +45,22 @@ module _ (may_stop : ℕ → Type 0) where
       let later : List Ended = record { who = 2; fault = business } ∷ sent in
       let others : List Ended = record { who = 1; fault = replica } ∷ later in
       more 0 journal others first (more 1 replica later second (more 2 business sent third rest))
+
+-- over a ring, each at one of the turns at which its gate may stop it
+pub run_stopped : (may_stop : ℕ → ℕ → Type 0) {must_stop : ℕ → ℕ → Type 0} {size : ℕ} (events : List Event) (s : SenderEnd) (j r b : ReceiverEnd) (ran : Ran)
+    → IsRun may_stop must_stop size events s j r b ran → AreStopped (λ who. (turn : ℕ) × may_stop who turn) (endings_of ran)
+run_stopped may_stop events s j r b ran is =
+    let at_some_turn : ℕ → Type 0 = λ who. (turn : ℕ) × may_stop who turn in
+    let sender : List Ended = record { who = 16; fault = ran.produced.fault } ∷ [] in
+    let later : List Ended = record { who = 2; fault = error_of ran.business.part } ∷ sender in
+    let others : List Ended = record { who = 1; fault = error_of ran.replica.part } ∷ later in
+    more at_some_turn 0 (error_of ran.journal.part) others (λ e. is.journal.stopped (stopped_of ran.journal.part e))
+    (more at_some_turn 1 (error_of ran.replica.part) later (λ e. is.replica.stopped (stopped_of ran.replica.part e))
+    (more at_some_turn 2 (error_of ran.business.part) sender (λ e. is.business.stopped (stopped_of ran.business.part e))
+    (more at_some_turn 16 ran.produced.fault [] is.sending.stopped (All-nil (λ (e : Ended). e.fault ≡ Some Stopped → at_some_turn e.who)))))
+
+-- what a promise says that was given a gate and a number
+pub stopped_there : {G : Type 0} (may_stop : G → ℕ → ℕ → Type 0) (gate given : G) (who number : ℕ) (fault : Option WorkFault) → gate ≡ given → who ≡ number
+    → (fault ≡ Some Stopped → MayStop may_stop gate who) → fault ≡ Some Stopped → MayStop may_stop given number
+stopped_there may_stop gate given who number fault same counted kept stopped =
+    subst (λ n. MayStop may_stop given n) counted (subst (λ v. MayStop may_stop v who) same (kept stopped))

@@ -3,6 +3,7 @@
 ghost use Rattle.std.specs.Prelude.{◌≡◌, Some};
 ghost use Rattle.dr_accounts.specs.Keeping.{error_of};
 ghost use Rattle.dr_shared.specs.declared.fault.WorkFault.TheVariants.{Stopped};
+ghost use Rattle.dr_shared.specs.Calls.Stops.{MayStop};
 
 use crate::part::Part;
 use dr_accounts::Reporter;
@@ -53,9 +54,9 @@ impl<G> Drop for StoppedBy<G> {
 }
 
 impl<G: Gate, L: Ledger, P: Reporter> Promise<Handled<L, P>> for StoppedBy<G> {
-    ghost kept_by = { λ p back. error_of back.part ≡ Some Stopped → G.may_stop p.gate.value p.who };
+    ghost kept_by = { λ p back. error_of back.part ≡ Some Stopped → MayStop G.may_stop p.gate.value p.who };
 }
 
 impl<G: Gate, L: Ledger> Promise<Sent<L>> for StoppedBy<G> {
-    ghost kept_by = { λ p back. back.fault ≡ Some Stopped → G.may_stop p.gate.value p.who };
+    ghost kept_by = { λ p back. back.fault ≡ Some Stopped → MayStop G.may_stop p.gate.value p.who };
 }

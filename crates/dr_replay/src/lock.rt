@@ -7,6 +7,7 @@ ghost use Rattle.dr_replay.specs.Meaning.EventFile.{events_of as events_in};
 ghost use Rattle.dr_accounts.specs.Keeping.{error_of};
 ghost use Rattle.dr_shared.specs.Meaning.FirstFault.{first_fault as first_of};
 ghost use Rattle.dr_shared.specs.Meaning.History.{halts_in};
+ghost use Rattle.dr_shared.specs.Calls.Stops.{MayStop};
 ghost use Rattle.dr_replay.specs.Calls.Replayed.{IsReportOfMerge, LockWrites, ReplayCounts, ReplayFaultKeeps};
 ghost use Rattle.dr_replay.specs.Calls.Workers.{IsFirstOf, IsFirstOfLock, IsOfAudit, IsOfLock, IsOfMerge, lock_endings};
 ghost use Rattle.dr_replay.specs.Meaning.Exchange.{lock_setup, setup_for};
@@ -227,7 +228,7 @@ fn report<L: Exchange<Event> + Send + Sync, R: Threads + Wait + Sync, G: Gate + 
     ensures text { (sent : List Event) → map (λ v. v.items) scripts.now ≡ scripts_in sent
         → IfOk result (λ t. IsReportOfMerge recorded.history.core.setup sent (string_bytes t)) }
     ensures first { (sent : List Event) → map (λ v. v.items) scripts.now ≡ scripts_in sent
-        → IfErr result (IsOfMerge (G.may_stop gate.now) recorded.history.core.setup sent) }
+        → IfErr result (IsOfMerge (MayStop G.may_stop gate.now) recorded.history.core.setup sent) }
 {
     let mut shared = Shared::<Event, L>::new(recorded, blank);
     let ends = make_ends(alloc, &mut shared, scripts.len())?;
@@ -251,7 +252,7 @@ fn merged<R: Threads + Wait + Sync, G: Gate + Sync>(
     gate: &G,
 ) -> Result<String, ReplayFault>
     ensures text { IfOk result (λ text. IsReportOfMerge (lock_setup size events.now) events.now (string_bytes text)) }
-    ensures first { IfErr result (IsOfMerge (G.may_stop gate.now) (lock_setup size events.now) events.now) }
+    ensures first { IfErr result (IsOfMerge (MayStop G.may_stop gate.now) (lock_setup size events.now) events.now) }
 {
     let scripts = scripts(alloc, events)?;
     let recorded = opened(alloc, size, scripts.len(), events.len())?;
@@ -277,11 +278,11 @@ pub fn replay_lock<S: Threads + Wait + Sync, R: Read, W: Write, G: Gate + Sync>(
     requires writes { faults_of writer.old < 2 ^ 64 - 1 }
     // Where the input's bytes are known, what is written is the report of a merge of its producers' events, and the fault of the file is its first bad record.
     ensures bytes { IfSome (R.remaining (inner_of reader.old)) (λ input.
-        LockWrites (G.may_stop gate.now) size result (W.contents (inner_of writer.old)) (W.contents (inner_of writer.new)) (events_in input)) }
+        LockWrites (MayStop G.may_stop gate.now) size result (W.contents (inner_of writer.old)) (W.contents (inner_of writer.new)) (events_in input)) }
     // Any fault but a failed write leaves nothing written, whether or not the input's bytes are known.
     ensures unwritten { IfErr result (λ e. ReplayFaultKeeps e (W.contents (inner_of writer.old)) (W.contents (inner_of writer.new))) }
     // Where several workers have faults, the first is answered: a stop before a refusal, and then the least worker's. Only the gate stops a worker.
-    ensures first { IfErr result (IsFirstOfLock (G.may_stop gate.now) size) }
+    ensures first { IfErr result (IsFirstOfLock (MayStop G.may_stop gate.now) size) }
     // A failed read or write is answered where one failed, and nowhere else.
     ensures counted { ReplayCounts result (faults_of reader.old) (faults_of reader.new) (faults_of writer.old) (faults_of writer.new) }
 {

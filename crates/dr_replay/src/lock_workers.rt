@@ -4,6 +4,7 @@ ghost use Rattle.std.specs.Prelude.{◌≡◌, ◌+◌, ◌^◌, ◌<◌, ◌≤
 ghost use denote.Param.Send.{IsSync};
 ghost use Rattle.dr_accounts.specs.Keeping.{error_of};
 ghost use Rattle.dr_shared.specs.declared.fault.WorkFault.TheVariants.{Stopped};
+ghost use Rattle.dr_shared.specs.Calls.Stops.{MayStop};
 ghost use Rattle.dr_replay.specs.Calls.Workers.{AreStopped, lock_endings, numbered};
 
 use crate::given_back::{Handled, Sent, StoppedBy};
@@ -114,7 +115,7 @@ fn handle<L: Exchange<Event>, R: Wait, G: Gate, P: Reporter>(
     who: usize,
     end: End<Event, L>,
 ) -> Handled<L, P>
-    ensures { error_of result.part ≡ Some Stopped → G.may_stop around.now.gate.now who }
+    ensures { error_of result.part ≡ Some Stopped → MayStop G.may_stop around.now.gate.now who }
 {
     let mut outlet = LockedOutlet::new(around.rt, around.shared, end, who);
     let mut listing = Listing::<P>::new(around.alloc);
@@ -142,7 +143,7 @@ fn send<L: Exchange<Event>, R: Wait, G: Gate>(
     task: Task<'_, L>,
 ) -> Sent<L>
     requires few { task.p ≤ 2 ^ 62 }
-    ensures stopped { result.fault ≡ Some Stopped → G.may_stop around.now.gate.now (16 + task.entry.p) }
+    ensures stopped { result.fault ≡ Some Stopped → MayStop G.may_stop around.now.gate.now (16 + task.entry.p) }
 {
     let Task { p, end, script } = task;
     let mut inlet = LockedInlet::new(around.rt, around.shared, end, p as u64);
@@ -172,7 +173,7 @@ fn send_all<L: Exchange<Event> + Send + Sync, R: Threads + Wait + Sync, G: Gate 
 ) -> Result<Vec<Sent<L>>, AllocError>
     requires { length ends.items ≡ length scripts.now }
     ensures sent { IfOk result (λ sent. length sent.items ≡ length scripts.now) }
-    ensures stopped { IfOk result (λ sent. AreStopped (G.may_stop around.now.gate.now) (numbered 16 (map (λ s. s.fault) sent.items))) }
+    ensures stopped { IfOk result (λ sent. AreStopped (MayStop G.may_stop around.now.gate.now) (numbered 16 (map (λ s. s.fault) sent.items))) }
 {
     thread::scope(
         thread::scope_env(),
@@ -183,7 +184,7 @@ fn send_all<L: Exchange<Event> + Send + Sync, R: Threads + Wait + Sync, G: Gate 
             requires gates { IsSync G.row }
             requires ends { length ends.items ≡ length scripts.now }
             ensures sent { IfOk result (λ sent. length sent.items ≡ length scripts.entry.now) }
-            ensures stopped { IfOk result (λ sent. AreStopped (G.may_stop around.entry.now.gate.now) (numbered 16 (map (λ s. s.fault) sent.items))) }
+            ensures stopped { IfOk result (λ sent. AreStopped (MayStop G.may_stop around.entry.now.gate.now) (numbered 16 (map (λ s. s.fault) sent.items))) }
         {
             let mut started = Vec::with_capacity(around.alloc, scripts.len())?;
             for end in ends {
@@ -217,7 +218,7 @@ fn served<
 ) -> Result<Joined<L>, AllocError>
     requires { length producers.items ≡ length scripts.now }
     ensures sent { IfOk result (λ joined. length joined.producers.items ≡ length scripts.now) }
-    ensures stopped { IfOk result (λ joined. AreStopped (G.may_stop around.now.gate.now) (numbered 16 (map (λ s. s.fault) joined.producers.items))) }
+    ensures stopped { IfOk result (λ joined. AreStopped (MayStop G.may_stop around.now.gate.now) (numbered 16 (map (λ s. s.fault) joined.producers.items))) }
     ensures halted { IfOk result (λ joined. 0 < joined.halter.halts) }
     ensures journal { IfOk result (λ joined. J.kept_by journal.promise joined.journal) }
     ensures replica { IfOk result (λ joined. K.kept_by replica.promise joined.replica) }
@@ -259,7 +260,7 @@ pub fn exchange<L: Exchange<Event> + Send + Sync, R: Threads + Wait + Sync, G: G
     requires { length ends.producers.items ≡ length scripts.now }
     ensures sent { IfOk result (λ joined. length joined.producers.items ≡ length scripts.now) }
     ensures halted { IfOk result (λ joined. 0 < joined.halter.halts) }
-    ensures stopped { IfOk result (λ joined. AreStopped (G.may_stop around.now.gate.now) (lock_endings
+    ensures stopped { IfOk result (λ joined. AreStopped (MayStop G.may_stop around.now.gate.now) (lock_endings
         (error_of joined.journal.part) (error_of joined.replica.part) (error_of joined.business.part) (map (λ s. s.fault) joined.producers.items))) }
 {
     thread::scope(
@@ -272,7 +273,7 @@ pub fn exchange<L: Exchange<Event> + Send + Sync, R: Threads + Wait + Sync, G: G
             requires ends { length ends.producers.items ≡ length scripts.now }
             ensures sent { IfOk result (λ joined. length joined.producers.items ≡ length scripts.entry.now) }
             ensures halted { IfOk result (λ joined. 0 < joined.halter.halts) }
-            ensures stopped { IfOk result (λ joined. AreStopped (G.may_stop around.entry.now.gate.now) (lock_endings
+            ensures stopped { IfOk result (λ joined. AreStopped (MayStop G.may_stop around.entry.now.gate.now) (lock_endings
                 (error_of joined.journal.part) (error_of joined.replica.part) (error_of joined.business.part) (map (λ s. s.fault) joined.producers.items))) }
         {
             let Ends {

@@ -11,6 +11,7 @@ ghost use Rattle.dr_files.specs.Counting.{faults_of, inner_of};
 ghost use Rattle.dr_replay.specs.Calls.Replayed.{ReplayCounts, ReplayFaultKeeps, ReplayWrites, replay_text};
 ghost use Rattle.dr_accounts.specs.Report.{report_of};
 ghost use Rattle.dr_shared.specs.Calls.Serving.{Sends};
+ghost use Rattle.dr_shared.specs.Calls.Stops.{MayStop};
 ghost use Rattle.dr_shared.specs.Meaning.FirstFault.{first_fault as first_of};
 ghost use Rattle.dr_shared.specs.Meaning.Work.{LeavesNothingOpen};
 ghost use Rattle.dr_shared.specs.declared.fault.WorkFault.TheVariants.{Stopped};
@@ -88,8 +89,8 @@ fn sent<R: Wait, G: Gate>(
     ensures published { sender.new.knows.sent.published ≡ sender.old.knows.sent.published ++ take result.sent events.now }
     ensures open { LeavesNothingOpen sender.old.knows.sent sender.new.knows.sent }
     ensures all { result.fault ≡ None → result.sent ≡ length events.now }
-    ensures stopped { result.fault ≡ Some Stopped → G.may_stop gate.now 16 }
-    ensures calls { SomeCalls sender_does sender.old sender.new (Sends (max (size / 4) 1) (length events.now) (G.may_stop gate.now 16) (G.must_stop gate.now 16) result) }
+    ensures stopped { result.fault ≡ Some Stopped → MayStop G.may_stop gate.now 16 }
+    ensures calls { SomeCalls sender_does sender.old sender.new (Sends (max (size / 4) 1) events.now (G.may_stop gate.now 16) (G.must_stop gate.now 16) result) }
 {
     // With less than the ring in a claim the handlers have events while the sender writes.
     let cut = (size.get() / 4).max(1);
@@ -241,7 +242,7 @@ fn report<R: Threads + Wait + Sync, G: Gate + Sync>(
 ) -> Result<String, ReplayFault>
     ensures text { IfOk result (λ text. string_bytes text ≡ report_of events.now) }
     ensures stops { IfOk result (λ text. NoneHadToStop (G.must_stop gate.now) events.now) }
-    ensures first { IfErr result (IsOfWorkers (G.may_stop gate.now) ring_workers) }
+    ensures first { IfErr result (IsOfWorkers (MayStop G.may_stop gate.now) ring_workers) }
 {
     let graph = graph(alloc)?;
     let Ok((sender, receivers, _halter)) = ring(alloc, &graph, size, MAX_LIMIT) else {
@@ -275,7 +276,7 @@ pub fn replay_ring<S: Threads + Wait + Sync, R: Read, W: Write, G: Gate + Sync>(
     // Any fault but a failed write leaves nothing written, whether or not the input's bytes are known.
     ensures unwritten { IfErr result (λ e. ReplayFaultKeeps e (W.contents (inner_of writer.old)) (W.contents (inner_of writer.new))) }
     // Where several workers have faults, the first is answered: a stop before a refusal, and then the least worker's. Only the gate stops a worker.
-    ensures first { IfErr result (IsFirstOfSome (G.may_stop gate.now) ring_workers) }
+    ensures first { IfErr result (IsFirstOfSome (MayStop G.may_stop gate.now) ring_workers) }
     // A handler's gate that has to stop it at its first turn, where there is an event, leaves no report.
     ensures stops { IfSome (R.remaining (inner_of reader.old)) (λ input. IfOk result (λ _. IfOk (events_in input) (NoneHadToStop (G.must_stop gate.now)))) }
     // A failed read or write is answered where one failed, and nowhere else.

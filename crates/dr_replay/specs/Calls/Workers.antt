@@ -30,28 +30,28 @@ use Rattle.dr_accounts.specs.declared.worker.Worked.{Worked}
 use Rattle.dr_accounts.specs.Report.{journal_part, replica_part, business_part}
 
 -- a sender sent the first of some events in such claims, came to its gate with each, and answers what these calls came to; after them, and not before, it closed the ring
-pub record IsSending (cut : ℕ) (events : List Event) (may_stop : Type 0) (must_stop : ℕ → Type 0) (given back : SenderEnd) (produced : Produced) : Type 0 where
+pub record IsSending (cut : ℕ) (events : List Event) (may_stop must_stop : ℕ → Type 0) (given back : SenderEnd) (produced : Produced) : Type 0 where
   pub place : sender_place back ≡ sender_place given
   pub published : back.knows.sent.published ≡ given.knows.sent.published ++ take produced.sent events
   pub all : produced.fault ≡ None → produced.sent ≡ length events
-  pub stopped : produced.fault ≡ Some work.Stopped → may_stop
+  pub stopped : produced.fault ≡ Some work.Stopped → (turn : ℕ) × may_stop turn
   pub done : SenderEnd
-  pub calls : SomeCalls sender_does given done (Sends cut (length events) may_stop must_stop produced)
+  pub calls : SomeCalls sender_does given done (Sends cut events may_stop must_stop produced)
   pub closes : ClosesOnceDone done back
 
 -- the promises of the three handlers' workers
 
-abbrev pub KeepsJournal : Type 0 → (ℕ → Type 0) → ReceiverEnd → Worked → Type 0
+abbrev pub KeepsJournal : (ℕ → Type 0) → (ℕ → Type 0) → ReceiverEnd → Worked → Type 0
 KeepsJournal may_stop must_stop given back = Keeps (λ old event s end new. Journals old event new) (λ j. IsJournalOf j []) journal_part may_stop must_stop given back
 
-abbrev pub KeepsReplica : Type 0 → (ℕ → Type 0) → ReceiverEnd → Worked → Type 0
+abbrev pub KeepsReplica : (ℕ → Type 0) → (ℕ → Type 0) → ReceiverEnd → Worked → Type 0
 KeepsReplica may_stop must_stop given back = Keeps (λ old event s end new. Copies old event new) (λ r. IsReplicaOf r []) replica_part may_stop must_stop given back
 
-abbrev pub KeepsBusiness : Type 0 → (ℕ → Type 0) → ReceiverEnd → Worked → Type 0
+abbrev pub KeepsBusiness : (ℕ → Type 0) → (ℕ → Type 0) → ReceiverEnd → Worked → Type 0
 KeepsBusiness may_stop must_stop given back = Keeps (λ old event s end new. Books old event new) (λ b. IsBusinessOf b []) business_part may_stop must_stop given back
 
 -- what came of an exchange: the sender published the first of the events, all of them where it has no fault, and closed, and each worker keeps its promise
-pub record IsRun (may_stop : ℕ → Type 0) (must_stop : ℕ → ℕ → Type 0) (size : ℕ) (events : List Event) (s : SenderEnd) (j r b : ReceiverEnd) (ran : Ran) : Type 0 where
+pub record IsRun (may_stop must_stop : ℕ → ℕ → Type 0) (size : ℕ) (events : List Event) (s : SenderEnd) (j r b : ReceiverEnd) (ran : Ran) : Type 0 where
   pub sending : IsSending (max (size / 4) 1) events (may_stop 16) (must_stop 16) s ran.sender ran.produced
   pub closed : s.knows.sent.pending ≡ [] → ran.sender.knows.closed ≡ true
   pub journal : KeepsJournal (may_stop 0) (must_stop 0) j ran.journal

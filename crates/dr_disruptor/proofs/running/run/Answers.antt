@@ -24,7 +24,7 @@ returns-clause-run g c =
       given = made.sender;
       back = produced.new.inlet;
       fresh = ready.begins;
-      calls = subst (λ (n : ℕ). SomeCalls sender_does made.sender produced.new.inlet (worker.Sends {E = Event} n (length script) ⊥ (λ turn. ⊥) produced.result)) cut produced.ensures.sends;
+      calls = subst (λ (n : ℕ). SomeCalls sender_does made.sender produced.new.inlet (worker.Sends {E = Event} n script (λ turn. ⊥) (λ turn. ⊥) produced.result)) cut produced.ensures.sends;
       published = produced.ensures.sent ∙ ap (λ (l : List Event). l ++ take produced.result.sent script) none;
     }
     in

@@ -5,6 +5,6 @@ returns g c = record {
   place = c.consume-fault.ensures.kept;
   calls = c.consume-fault.ensures.serves;
   drained = c.consume-fault.ensures.drained;
-  stopped = c.consume-fault.ensures.stopped;
+  stopped = λ e. (c.consume-fault.ensures.stopped e).1;
   memory = c.consume-fault.ensures.waits;
 }

@@ -4,6 +4,7 @@ use Rattle.dr_seq.specs.declared.event.Event.{Event}
 use Rattle.dr_replay.specs.Meaning.Scripts.{scripts_in}
 use Rattle.dr_replay.proofs.Endings.{fault_of_setup, of_setup, opened_for}
 use Rattle.dr_replay.proofs.lock.merged.Goals as goal
+use Rattle.dr_shared.specs.Calls.Stops.{MayStop}
 
 -- the scripts that are settled are the producers' events
 same : (all now : List (Vec Event Global)) (events : List Event) → now ≡ all → map (λ v. v.items) all ≡ scripts_in events
@@ -22,4 +23,4 @@ returns-clause-first g c =
     let events = c.args.events.now in
     let many = c.len.ensures ∙ c.in_ok-scripts.scripts.ok.0 ∙ sym (length-map c.in_ok-scripts.scripts.items (λ v. v.items)) in
     let opened = c.in_ok-recorded.ensures ∙ opened_for c.args.size c.len.result events _ many c.in_ok-scripts.ensures in
-    fault_of_setup (g.G.Gate.may_stop c.args.gate.now) events c.report.result opened (c.report.ensures.first events (same _ _ events c.as_slice.ensures.value c.in_ok-scripts.ensures))
+    fault_of_setup (MayStop g.G.Gate.may_stop c.args.gate.now) events c.report.result opened (c.report.ensures.first events (same _ _ events c.as_slice.ensures.value c.in_ok-scripts.ensures))

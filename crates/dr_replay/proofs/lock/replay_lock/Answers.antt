@@ -9,6 +9,7 @@ use Rattle.dr_replay.specs.Meaning.Exchange.{lock_setup}
 use Rattle.dr_replay.specs.declared.fault.ReplayFault.TheVariants as fault
 use Rattle.dr_replay.proofs.Reporting.{at_exit, cut_merge, kept_merge}
 use Rattle.dr_replay.proofs.lock.replay_lock.Goals as goal
+use Rattle.dr_shared.specs.Calls.Stops.{MayStop}
 
 -- the bytes that are written are a report of a merge of the file's events
 is_of_merge : (size : ℕ) {given events : List Event} {text bytes : List ℕ} → given ≡ events → bytes ≡ text → IsReportOfMerge (lock_setup size given) given text
@@ -23,12 +24,12 @@ returns-in_err-write_text-clause-bytes g c =
     let new = g.W.Write.contents (inner_of c.write_text.new.writer) in
     let said = is_of_merge c.args.size c.as_slice.ensures.value c.as_bytes.ensures.value c.in_ok-text.ensures.text in
     at_exit c.from_residual-in_err-write_text.result (fault.File file.Write)
-    (λ r. IfSome input (λ bytes. LockWrites (g.G.Gate.may_stop c.args.gate.now) c.args.size r old new (events_of bytes)))
+    (λ r. IfSome input (λ bytes. LockWrites (MayStop g.G.Gate.may_stop c.args.gate.now) c.args.size r old new (events_of bytes)))
     c.from_residual-in_err-write_text.ensures.1
     (cut_merge c.args.size old new input c.in_ok-events.events.items c.as_bytes.result.now c.in_ok-events.ensures.file said c.in_err-write_text.ensures.0)
 
 pub returns-in_err-text-clause-bytes : goal.returns-in_err-text-clause-bytes
 returns-in_err-text-clause-bytes g c =
     let p = err_from_is_err_and c.from_residual-in_err-text.result c.from_residual-in_err-text.ensures.1 in
-    rw (p.1, p.2) (kept_merge (g.G.Gate.may_stop c.args.gate.now) c.args.size (g.W.Write.contents (inner_of c.args.writer.now)) (g.R.Read.remaining (inner_of c.args.reader.now)) c.as_slice.result.now
+    rw (p.1, p.2) (kept_merge (MayStop g.G.Gate.may_stop c.args.gate.now) c.args.size (g.W.Write.contents (inner_of c.args.writer.now)) (g.R.Read.remaining (inner_of c.args.reader.now)) c.as_slice.result.now
     c.in_ok-events.events.items c.in_err-text.field-0.0 c.as_slice.ensures.value c.in_ok-events.ensures.file c.in_err-text.ensures.first)

@@ -1,5 +1,6 @@
 use Rattle.std.proofs.Common.{◌≡◌, [], ap}
 use Rattle.dr_ring.specs.declared.record.SenderRecord.{SenderRecord}
+use Rattle.dr_shared.specs.Calls.Stops.{MayStop}
 use Rattle.dr_replay.proofs.Endings.{ends_of_workers}
 use Rattle.dr_replay.proofs.Heeding.{run_heeds, where_ok}
 use Rattle.dr_replay.proofs.Settled.{AreThree, are_three, run_says}
@@ -30,4 +31,4 @@ pub returns-clause-first : goal.returns-clause-first
 returns-clause-first g c =
     let ran = c.in_ok-ran.ran in
     let may_stop = g.G.Gate.may_stop c.args.gate.now in
-    ends_of_workers may_stop ran _ (run_stopped may_stop _ _ _ _ _ ran c.in_ok-ran.ensures) c.finish.ensures.first
+    ends_of_workers (MayStop g.G.Gate.may_stop c.args.gate.now) ran _ (run_stopped may_stop _ _ _ _ _ ran c.in_ok-ran.ensures) c.finish.ensures.first

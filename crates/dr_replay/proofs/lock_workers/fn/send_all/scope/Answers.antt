@@ -8,6 +8,7 @@ use Rattle.dr_replay.proofs.Crossing.{crosses, gives}
 use Rattle.dr_replay.proofs.Promising.{counts_more, promised_more}
 use Rattle.dr_replay.proofs.Stopping.{numbered_stopped}
 use Rattle.dr_replay.proofs.lock_workers.fn.send_all.scope.Goals as goal
+use Rattle.dr_shared.specs.Calls.Stops.{MayStop}
 
 -- a worker's closure may go to another thread: it has a reference to what all share, and its task
 pub spawn_with-requires-send-F : goal.spawn_with-requires-send-F
@@ -44,11 +45,11 @@ returns g c =
     let same = c.in_ok-join_promised.ensures.len in
     record {
       sent = omega arith;
-      stopped = numbered_stopped (g.G.Gate.may_stop c.captures.around.now.gate.now) (λ (s : Sent g.row.L.Denot). s.fault) 16 c.in_ok-join_promised.field-0.items
+      stopped = numbered_stopped (MayStop g.G.Gate.may_stop c.captures.around.now.gate.now) (λ (s : Sent g.row.L.Denot). s.fault) 16 c.in_ok-join_promised.field-0.items
           (λ k d below e.
           let kept = (c.in_ok-join_promised.ensures.each k d (omega arith)).1 in
           let place = c.loop-end.invariant.1 k kept.handle (omega arith) in
           let gate = ap (λ (h : PromisedHandle (Sent g.row.L.Denot) (StoppedBy g.row.G.Denot)). h.promise.gate.value) kept.handle_is ∙ place.0 in
           let who = ap (λ (h : PromisedHandle (Sent g.row.L.Denot) (StoppedBy g.row.G.Denot)). h.promise.who) kept.handle_is ∙ place.1 in
-          subst (λ n. g.G.Gate.may_stop c.captures.around.now.gate.now n) who (subst (λ v. g.G.Gate.may_stop v kept.handle.promise.who) gate (kept.kept e)));
+          subst (λ n. MayStop g.G.Gate.may_stop c.captures.around.now.gate.now n) who (subst (λ v. MayStop g.G.Gate.may_stop v kept.handle.promise.who) gate (kept.kept e)));
     }
