@@ -1,20 +1,27 @@
 -- No worker of an exchange was stopped but by its gate.
-use Rattle.std.proofs.Common.{◌≡◌, ◌+◌, ◌<◌, ℕ, suc, List, [], ◌∷◌, length, map, get_or, Option, Some, Result, Ok, Err, subst, arith}
+use Rattle.std.proofs.Common.{◌≡◌, ◌+◌, ◌<◌, ℕ, suc, List, [], ◌∷◌, length, map, get_or, Option, Some, Result, Ok, Err, Vec, subst, arith}
 use Rattle.std.proofs.lemmas.List.Elements.{All-nil, All-cons}
 use Rattle.dr_seq.specs.declared.event.Event.{Event}
 use Rattle.dr_ring.specs.Calls.Ends.{SenderEnd, ReceiverEnd}
-use Rattle.dr_shared.specs.Calls.Stops.{MayStop}
 use Rattle.dr_shared.specs.declared.ended.Ended.{Ended}
+use Rattle.dr_shared.specs.Meaning.History.{History}
 use Rattle.dr_shared.specs.declared.fault.WorkFault.{WorkFault}
 use Rattle.dr_shared.specs.declared.fault.WorkFault.TheVariants.{Stopped}
 use Rattle.dr_accounts.specs.Keeping.{error_of}
+use Rattle.dr_replay.specs.declared.lock_workers.Joined.{Joined}
 use Rattle.dr_replay.specs.declared.ring.Ran.{Ran}
+use Rattle.dr_replay.specs.Inside.LockWorkers.{IsJoined}
 use Rattle.dr_replay.specs.Calls.Workers.{AreStopped, IsRun, endings_of, lock_endings, numbered}
 
 -- a worker that ended stopped
 stopped_of : {A : Type 0} (part : Result A WorkFault) → error_of part ≡ Some Stopped → part ≡ Err Stopped
 stopped_of (Ok x) is = cc
 stopped_of (Err f) is = cc
+
+-- one of some things
+pub some_of : {X : Type 0} (xs : List X) (k : ℕ) → k < length xs → X
+some_of [] k below = absurd (omega arith)
+some_of (x ∷ xs) k below = x
 
 module _ (may_stop : ℕ → Type 0) where
   abbrev IsStopped : Ended → Type 0
@@ -59,8 +66,14 @@ run_stopped may_stop events s j r b ran is =
     (more at_some_turn 2 (error_of ran.business.part) sender (λ e. is.business.stopped (stopped_of ran.business.part e))
     (more at_some_turn 16 ran.produced.fault [] is.sending.stopped (All-nil (λ (e : Ended). e.fault ≡ Some Stopped → at_some_turn e.who)))))
 
--- what a promise says that was given a gate and a number
-pub stopped_there : {G : Type 0} (may_stop : G → ℕ → ℕ → Type 0) (gate given : G) (who number : ℕ) (fault : Option WorkFault) → gate ≡ given → who ≡ number
-    → (fault ≡ Some Stopped → MayStop may_stop gate who) → fault ≡ Some Stopped → MayStop may_stop given number
-stopped_there may_stop gate given who number fault same counted kept stopped =
-    subst (λ n. MayStop may_stop given n) counted (subst (λ v. MayStop may_stop v who) same (kept stopped))
+-- so behind a lock
+pub joined_stopped : {L Z : Type 0} (begun : History Event) (may_stop must_stop : ℕ → ℕ → Type 0) (size : ℕ) (scripts : List (Vec Event Z)) (joined : Joined L)
+    → IsJoined begun may_stop must_stop size scripts joined
+    → AreStopped (λ who. (turn : ℕ) × may_stop who turn)
+    (lock_endings (error_of joined.journal.part) (error_of joined.replica.part) (error_of joined.business.part) (map (λ s. s.fault) joined.producers.items))
+joined_stopped begun may_stop must_stop size scripts joined is =
+    let at_some_turn : ℕ → Type 0 = λ who. (turn : ℕ) × may_stop who turn in
+    lock_stopped at_some_turn (error_of joined.journal.part) (error_of joined.replica.part) (error_of joined.business.part) (map (λ s. s.fault) joined.producers.items)
+    is.journal.stopped is.replica.stopped is.business.stopped
+    (numbered_stopped at_some_turn (λ s. s.fault) 16 joined.producers.items
+    (λ k d below. (is.producers.each k d (some_of scripts k (subst (λ n. k < n) is.producers.many below)) below).stopped))

@@ -1,2 +1,3 @@
 -- What the functions inside promise one another.
 pub mod Parts
+pub mod LockWorkers

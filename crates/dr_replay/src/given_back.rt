@@ -1,14 +1,13 @@
 //! What the workers of a replay behind a lock give back, and what they promise of it.
 
-ghost use Rattle.std.specs.Prelude.{◌≡◌, Some};
+ghost use Rattle.std.specs.Prelude.{◌≡◌};
 ghost use Rattle.dr_accounts.specs.Keeping.{error_of};
-ghost use Rattle.dr_shared.specs.declared.fault.WorkFault.TheVariants.{Stopped};
-ghost use Rattle.dr_shared.specs.Calls.Stops.{MayStop};
+ghost use Rattle.dr_replay.specs.Inside.LockWorkers.{HasHandled, HasSent};
 
 use crate::part::Part;
 use dr_accounts::Reporter;
 use dr_seq::Event;
-use dr_shared::{End, Gate, WorkFault};
+use dr_shared::{End, Exchange, Gate, WorkFault};
 use std::snapshot::Snapshot;
 use std::sync::ledger::Ledger;
 use std::thread::Promise;
@@ -28,35 +27,70 @@ pub struct Sent<L: Ledger> {
     pub fault: Option<WorkFault>,
 }
 
-/// The promise of the worker `who` that passes a gate: it answers that it was stopped only where that
-/// gate may stop it.
-pub struct StoppedBy<G> {
+/// The promise of the handler's worker `who`, which passes a gate.
+pub struct HandledBy<G> {
     gate: Snapshot<G>,
     who: usize,
 }
 
-impl<G> StoppedBy<G> {
-    pub fn of(gate: &G, who: usize) -> StoppedBy<G>
+impl<G> HandledBy<G> {
+    pub fn of(gate: &G, who: usize) -> HandledBy<G>
         ensures gate { result.gate.value ≡ gate.now }
         ensures who { result.who ≡ who }
     {
-        StoppedBy {
+        HandledBy {
             gate: Snapshot::of(gate),
             who,
         }
     }
 }
 
-impl<G> Drop for StoppedBy<G> {
+impl<G> Drop for HandledBy<G> {
     fn drop(self) {
-        let StoppedBy { gate: _, who: _ } = self;
+        let HandledBy { gate: _, who: _ } = self;
     }
 }
 
-impl<G: Gate, L: Ledger, P: Reporter> Promise<Handled<L, P>> for StoppedBy<G> {
-    ghost kept_by = { λ p back. error_of back.part ≡ Some Stopped → MayStop G.may_stop p.gate.value p.who };
+impl<G: Gate, L: Exchange<Event>, P: Reporter> Promise<Handled<L, P>> for HandledBy<G> {
+    ghost kept_by = { λ p back. HasHandled L.begun (G.may_stop p.gate.value p.who) (G.must_stop p.gate.value p.who) back.end (error_of back.part) };
 }
 
-impl<G: Gate, L: Ledger> Promise<Sent<L>> for StoppedBy<G> {
-    ghost kept_by = { λ p back. back.fault ≡ Some Stopped → MayStop G.may_stop p.gate.value p.who };
+/// The promise of the producer's worker `who`, which passes a gate and sends a script in claims of up
+/// to `cut`.
+pub struct SentBy<'a, G> {
+    gate: Snapshot<G>,
+    who: usize,
+    script: &'a [Event],
+    cut: u64,
+}
+
+impl<'a, G> SentBy<'a, G> {
+    pub fn of(gate: &G, who: usize, script: &'a [Event], cut: u64) -> SentBy<'a, G>
+        ensures gate { result.gate.value ≡ gate.now }
+        ensures who { result.who ≡ who }
+        ensures script { result.script.now ≡ script.now }
+        ensures cut { result.cut ≡ cut }
+    {
+        SentBy {
+            gate: Snapshot::of(gate),
+            who,
+            script,
+            cut,
+        }
+    }
+}
+
+impl<G> Drop for SentBy<'_, G> {
+    fn drop(self) {
+        let SentBy {
+            gate: _,
+            who: _,
+            script: _,
+            cut: _,
+        } = self;
+    }
+}
+
+impl<G: Gate, L: Exchange<Event>> Promise<Sent<L>> for SentBy<'_, G> {
+    ghost kept_by = { λ p back. HasSent L.begun p.cut p.script.now (G.may_stop p.gate.value p.who) (G.must_stop p.gate.value p.who) back.end back.fault };
 }

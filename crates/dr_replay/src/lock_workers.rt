@@ -1,13 +1,14 @@
 //! The workers of a replay behind a lock: a thread for each producer, and one for each handler.
 
-ghost use Rattle.std.specs.Prelude.{◌≡◌, ◌+◌, ◌^◌, ◌<◌, ◌≤◌, IfOk, Some, length, map};
+ghost use Rattle.std.specs.Prelude.{◌≡◌, ◌+◌, ◌/◌, ◌^◌, ◌≤◌, All, IfOk, Some, length, max};
 ghost use denote.Param.Send.{IsSync};
 ghost use Rattle.dr_accounts.specs.Keeping.{error_of};
-ghost use Rattle.dr_shared.specs.declared.fault.WorkFault.TheVariants.{Stopped};
-ghost use Rattle.dr_shared.specs.Calls.Stops.{MayStop};
-ghost use Rattle.dr_replay.specs.Calls.Workers.{AreStopped, lock_endings, numbered};
+ghost use Rattle.dr_shared.specs.Calls.Lock.{after_call, no_calls};
+ghost use Rattle.dr_core.specs.declared.command.Command.TheVariants.{Halt};
+ghost use Rattle.dr_core.specs.declared.command.Reply.TheVariants.{Halting};
+ghost use Rattle.dr_replay.specs.Inside.LockWorkers.{AreSent, AreUnused, HasHandled, HasSent, IsJoined, halted_once};
 
-use crate::given_back::{Handled, Sent, StoppedBy};
+use crate::given_back::{Handled, HandledBy, Sent, SentBy};
 use crate::outcome::{BUSINESS, JOURNAL, PRODUCER, REPLICA};
 use crate::part::Listing;
 use dr_accounts::{Business, Journal, Replica, Reporter};
@@ -62,9 +63,10 @@ pub struct Joined<L: Ledger> {
     pub producers: Vec<Sent<L>>,
 }
 
-// One end more.
+// One end more, through which nobody has called.
 fn new_end<L: Exchange<Event>>(shared: &mut Shared<Event, L>) -> Result<End<Event, L>, AllocError>
-    ensures { IfOk result (λ end. shared.new.given ≡ shared.old.given + 1) }
+    ensures given { IfOk result (λ end. shared.new.given ≡ shared.old.given + 1) }
+    ensures unused { IfOk result (λ end. end ≡ no_calls) }
 {
     shared.end().ok_or(AllocError)
 }
@@ -77,6 +79,7 @@ fn list_of_ends<L: Exchange<Event>>(
 ) -> Result<Vec<End<Event, L>>, AllocError>
     ensures given { IfOk result (λ ends. shared.new.given ≡ shared.old.given + length ends.items) }
     ensures producers { IfOk result (λ ends. length ends.items ≡ producers) }
+    ensures unused { IfOk result (λ ends. All (λ end. end ≡ no_calls) ends.items) }
 {
     let mut list = Vec::with_capacity(alloc, producers)?;
     for _p in 0..producers {
@@ -93,6 +96,7 @@ pub fn make_ends<L: Exchange<Event>>(
 ) -> Result<Ends<L>, AllocError>
     ensures given { IfOk result (λ ends. shared.new.given ≡ shared.old.given + 4 + length ends.producers.items) }
     ensures producers { IfOk result (λ ends. length ends.producers.items ≡ producers) }
+    ensures unused { IfOk result (λ ends. AreUnused ends.halter ends.journal ends.replica ends.business ends.producers.items) }
 {
     let halter = new_end(shared)?;
     let journal = new_end(shared)?;
@@ -115,19 +119,14 @@ fn handle<L: Exchange<Event>, R: Wait, G: Gate, P: Reporter>(
     who: usize,
     end: End<Event, L>,
 ) -> Handled<L, P>
-    ensures { error_of result.part ≡ Some Stopped → MayStop G.may_stop around.now.gate.now who }
+    requires unused { end ≡ no_calls }
+    ensures { HasHandled L.begun (G.may_stop around.now.gate.now who) (G.must_stop around.now.gate.now who) result.end (error_of result.part) }
 {
     let mut outlet = LockedOutlet::new(around.rt, around.shared, end, who);
     let mut listing = Listing::<P>::new(around.alloc);
     let mut buf = [Event::NONE; BATCH];
-    let fault = consume(
-        around.rt,
-        &mut outlet,
-        around.gate,
-        who,
-        &mut listing,
-        &mut buf,
-    );
+    let (rt, gate) = (around.rt, around.gate);
+    let fault = consume(rt, &mut outlet, gate, who, &mut listing, &mut buf);
     let part = match (listing.part(around.alloc), fault) {
         (Err(_), _) => Err(WorkFault::Memory),
         (Ok(_), Some(fault)) => Err(fault),
@@ -137,26 +136,26 @@ fn handle<L: Exchange<Event>, R: Wait, G: Gate, P: Reporter>(
     Handled { end, part }
 }
 
+// How many events a claim has: with less than the ring in it the handlers have events meanwhile.
+fn quarter(size: Size) -> u64
+    ensures { result ≡ max (size / 4) 1 }
+{
+    (size.get() / 4).max(1)
+}
+
 // Sends a producer's script.
 fn send<L: Exchange<Event>, R: Wait, G: Gate>(
     around: &Around<'_, L, R, G>,
     task: Task<'_, L>,
 ) -> Sent<L>
     requires few { task.p ≤ 2 ^ 62 }
-    ensures stopped { result.fault ≡ Some Stopped → MayStop G.may_stop around.now.gate.now (16 + task.entry.p) }
+    requires unused { task.end ≡ no_calls }
+    ensures { HasSent L.begun (max (around.now.size / 4) 1) task.entry.script.now (G.may_stop around.now.gate.now (16 + task.entry.p)) (G.must_stop around.now.gate.now (16 + task.entry.p)) result.end result.fault }
 {
     let Task { p, end, script } = task;
     let mut inlet = LockedInlet::new(around.rt, around.shared, end, p as u64);
-    // With less than the ring in a claim the handlers have events meanwhile.
-    let cut = (around.size.get() / 4).max(1);
-    let produced = produce(
-        around.rt,
-        &mut inlet,
-        around.gate,
-        PRODUCER + p,
-        script,
-        cut,
-    );
+    let (rt, gate, cut) = (around.rt, around.gate, quarter(around.size));
+    let produced = produce(rt, &mut inlet, gate, PRODUCER + p, script, cut);
     let end = inlet.into_end();
     Sent {
         end,
@@ -164,16 +163,18 @@ fn send<L: Exchange<Event>, R: Wait, G: Gate>(
     }
 }
 
-// Starts a thread for each producer, and joins them. An error is that memory ran out or that a
-// thread could not be started: those before it send their scripts all the same.
+// Starts a thread for each producer, and joins them, before the halter has halted. An error is that
+// memory ran out or that a thread could not be started: those before it send their scripts all the same.
 fn send_all<L: Exchange<Event> + Send + Sync, R: Threads + Wait + Sync, G: Gate + Sync>(
     around: &Around<'_, L, R, G>,
     scripts: &[Vec<Event>],
     ends: Vec<End<Event, L>>,
+    _halter: &End<Event, L>,
 ) -> Result<Vec<Sent<L>>, AllocError>
-    requires { length ends.items ≡ length scripts.now }
-    ensures sent { IfOk result (λ sent. length sent.items ≡ length scripts.now) }
-    ensures stopped { IfOk result (λ sent. AreStopped (MayStop G.may_stop around.now.gate.now) (numbered 16 (map (λ s. s.fault) sent.items))) }
+    requires many { length ends.items ≡ length scripts.now }
+    requires unused { All (λ end. end ≡ no_calls) ends.items }
+    requires before { _halter.now ≡ no_calls }
+    ensures { IfOk result (λ sent. AreSent L.begun (G.may_stop around.now.gate.now) (G.must_stop around.now.gate.now) around.now.size scripts.now sent.items) }
 {
     thread::scope(
         thread::scope_env(),
@@ -182,16 +183,17 @@ fn send_all<L: Exchange<Event> + Send + Sync, R: Threads + Wait + Sync, G: Gate 
             requires shared { IsSync L.row }
             requires workers { IsSync R.row }
             requires gates { IsSync G.row }
-            requires ends { length ends.items ≡ length scripts.now }
-            ensures sent { IfOk result (λ sent. length sent.items ≡ length scripts.entry.now) }
-            ensures stopped { IfOk result (λ sent. AreStopped (MayStop G.may_stop around.entry.now.gate.now) (numbered 16 (map (λ s. s.fault) sent.items))) }
+            requires many { length ends.items ≡ length scripts.now }
+            requires unused { All (λ end. end ≡ no_calls) ends.items }
+            ensures { IfOk result (λ sent. AreSent L.begun (G.may_stop around.entry.now.gate.now) (G.must_stop around.entry.now.gate.now) around.entry.now.size scripts.entry.now sent.items) }
         {
+            let cut = quarter(around.size);
             let mut started = Vec::with_capacity(around.alloc, scripts.len())?;
             for end in ends {
                 let p = started.len();
                 let script = scripts[p].as_slice();
                 let task = Task { p, end, script };
-                let promise = StoppedBy::of(around.gate, PRODUCER + p);
+                let promise = SentBy::of(around.gate, PRODUCER + p, script, cut);
                 started.push(scope.spawn_with(promise, move || send(around, task))?)?;
             }
             Ok(thread::join_promised(around.rt, started)?)
@@ -216,15 +218,16 @@ fn served<
     replica: PromisedHandle<Handled<L, Replica>, K>,
     business: PromisedHandle<Handled<L, Business>, B>,
 ) -> Result<Joined<L>, AllocError>
-    requires { length producers.items ≡ length scripts.now }
-    ensures sent { IfOk result (λ joined. length joined.producers.items ≡ length scripts.now) }
-    ensures stopped { IfOk result (λ joined. AreStopped (MayStop G.may_stop around.now.gate.now) (numbered 16 (map (λ s. s.fault) joined.producers.items))) }
-    ensures halted { IfOk result (λ joined. 0 < joined.halter.halts) }
+    requires many { length producers.items ≡ length scripts.now }
+    requires unused { All (λ end. end ≡ no_calls) producers.items }
+    requires before { halter ≡ no_calls }
+    ensures sent { IfOk result (λ joined. AreSent L.begun (G.may_stop around.now.gate.now) (G.must_stop around.now.gate.now) around.now.size scripts.now joined.producers.items) }
+    ensures halted { IfOk result (λ joined. joined.halter ≡ halted_once) }
     ensures journal { IfOk result (λ joined. J.kept_by journal.promise joined.journal) }
     ensures replica { IfOk result (λ joined. K.kept_by replica.promise joined.replica) }
     ensures business { IfOk result (λ joined. B.kept_by business.promise joined.business) }
 {
-    let sent = send_all(around, scripts, producers);
+    let sent = send_all(around, scripts, producers, &halter);
     halt(around.rt, around.shared, &mut halter);
     let journal = journal.join(around.rt);
     let replica = replica.join(around.rt);
@@ -242,26 +245,25 @@ fn served<
 // end with their scope.
 fn abandoned<L: Exchange<Event>, R: Wait, G>(
     around: &Around<'_, L, R, G>,
-    mut halter: End<Event, L>,
-) -> AllocError {
-    halt(around.rt, around.shared, &mut halter);
+    halter: &mut End<Event, L>,
+) -> AllocError
+    ensures { halter.new ≡ after_call Halt (Some Halting) halter.old }
+{
+    halt(around.rt, around.shared, halter);
     AllocError
 }
 
 /// Starts a thread for each handler, then one for each producer; joins the producers, halts the core,
 /// and joins the handlers. An error is that memory ran out or that a thread could not be started:
 /// where it was a handler's, nothing is sent.
-#[tactic(auto, using(crate::proofs::Stopping::lock_stopped))]
 pub fn exchange<L: Exchange<Event> + Send + Sync, R: Threads + Wait + Sync, G: Gate + Sync>(
     around: &Around<'_, L, R, G>,
     scripts: &[Vec<Event>],
     ends: Ends<L>,
 ) -> Result<Joined<L>, AllocError>
-    requires { length ends.producers.items ≡ length scripts.now }
-    ensures sent { IfOk result (λ joined. length joined.producers.items ≡ length scripts.now) }
-    ensures halted { IfOk result (λ joined. 0 < joined.halter.halts) }
-    ensures stopped { IfOk result (λ joined. AreStopped (MayStop G.may_stop around.now.gate.now) (lock_endings
-        (error_of joined.journal.part) (error_of joined.replica.part) (error_of joined.business.part) (map (λ s. s.fault) joined.producers.items))) }
+    requires many { length ends.producers.items ≡ length scripts.now }
+    requires unused { AreUnused ends.halter ends.journal ends.replica ends.business ends.producers.items }
+    ensures { IfOk result (IsJoined L.begun (G.may_stop around.now.gate.now) (G.must_stop around.now.gate.now) around.now.size scripts.now) }
 {
     thread::scope(
         thread::scope_env(),
@@ -270,40 +272,38 @@ pub fn exchange<L: Exchange<Event> + Send + Sync, R: Threads + Wait + Sync, G: G
             requires shared { IsSync L.row }
             requires workers { IsSync R.row }
             requires gates { IsSync G.row }
-            requires ends { length ends.producers.items ≡ length scripts.now }
-            ensures sent { IfOk result (λ joined. length joined.producers.items ≡ length scripts.entry.now) }
-            ensures halted { IfOk result (λ joined. 0 < joined.halter.halts) }
-            ensures stopped { IfOk result (λ joined. AreStopped (MayStop G.may_stop around.entry.now.gate.now) (lock_endings
-                (error_of joined.journal.part) (error_of joined.replica.part) (error_of joined.business.part) (map (λ s. s.fault) joined.producers.items))) }
+            requires many { length ends.producers.items ≡ length scripts.now }
+            requires unused { AreUnused ends.halter ends.journal ends.replica ends.business ends.producers.items }
+            ensures { IfOk result (IsJoined L.begun (G.may_stop around.entry.now.gate.now) (G.must_stop around.entry.now.gate.now) around.entry.now.size scripts.entry.now) }
         {
             let Ends {
-                halter,
+                mut halter,
                 journal,
                 replica,
                 business,
                 producers,
             } = ends;
-            let promise = StoppedBy::of(around.gate, JOURNAL);
+            let promise = HandledBy::of(around.gate, JOURNAL);
             let Ok(journal) = scope.spawn_with(promise, move || {
                 handle::<L, R, G, Journal>(around, JOURNAL, journal)
             }) else {
-                return Err(abandoned(around, halter));
+                return Err(abandoned(around, &mut halter));
             };
-            let promise = StoppedBy::of(around.gate, REPLICA);
+            let promise = HandledBy::of(around.gate, REPLICA);
             let Ok(replica) = scope.spawn_with(promise, move || {
                 handle::<L, R, G, Replica>(around, REPLICA, replica)
             }) else {
-                return Err(abandoned(around, halter));
+                return Err(abandoned(around, &mut halter));
             };
-            let promise = StoppedBy::of(around.gate, BUSINESS);
+            let promise = HandledBy::of(around.gate, BUSINESS);
             let Ok(business) = scope.spawn_with(promise, move || {
                 handle::<L, R, G, Business>(around, BUSINESS, business)
             }) else {
-                return Err(abandoned(around, halter));
+                return Err(abandoned(around, &mut halter));
             };
-            Ok(served(
+            served(
                 around, scripts, halter, producers, journal, replica, business,
-            )?)
+            )
         },
     )
 }

@@ -4,6 +4,7 @@ use Rattle.dr_seq.specs.declared.event.Event.{Event}
 use Rattle.dr_shared.specs.Meaning.History.{History}
 use Rattle.dr_accounts.specs.Keeping.{error_of}
 use Rattle.dr_replay.proofs.Endings.{ends_of_merge, of_setup}
+use Rattle.dr_replay.proofs.Stopping.{joined_stopped}
 use Rattle.dr_replay.proofs.lock.report.Goals as goal
 use Rattle.dr_shared.specs.Calls.Stops.{MayStop}
 
@@ -16,5 +17,5 @@ returns-clause-first g c = λ sent are.
     let ran = c.in_ok-ran.ran in
     ends_of_merge (MayStop g.G.Gate.may_stop c.args.gate.now) sent _ (error_of ran.journal.part) (error_of ran.replica.part) (error_of ran.business.part)
     (map (λ s. s.fault) ran.producers.items) c.settled.result (ap (λ (h : History Event). h.core.setup) (sym c.requires.begun)) are
-    (length-map ran.producers.items (λ s. s.fault) ∙ c.in_ok-ran.ensures.sent ∙ sym (length-map c.args.scripts.now (λ v. v.items)))
-    c.in_ok-ran.ensures.stopped c.settled.ensures.first
+    (length-map ran.producers.items (λ s. s.fault) ∙ c.in_ok-ran.ensures.producers.many ∙ sym (length-map c.args.scripts.now (λ v. v.items)))
+    (joined_stopped _ (g.G.Gate.may_stop c.args.gate.now) _ _ _ ran c.in_ok-ran.ensures) c.settled.ensures.first

@@ -1,14 +1,13 @@
-use Rattle.std.proofs.Common.{◌≡◌, ◌∙◌, ℕ, ap, arith, subst}
+use Rattle.std.proofs.Common.{◌≡◌, ◌∙◌, ◌+◌, ◌/◌, ◌<◌, max, ℕ, Vec, Global, get_or, length, ap, arith, subst, sym}
+use Rattle.dr_seq.specs.declared.event.Event.{Event}
 use denote.Param.Send.{IsSync}
 use Rattle.dr_shared.proofs.Sent.{of_param}
 use Rattle.std.specs.declared.thread.PromisedHandle.{PromisedHandle}
 use Rattle.dr_replay.specs.declared.given_back.Sent.{Sent}
-use Rattle.dr_replay.specs.declared.given_back.StoppedBy.{StoppedBy}
+use Rattle.dr_replay.specs.declared.given_back.SentBy.{SentBy}
 use Rattle.dr_replay.proofs.Crossing.{crosses, gives}
-use Rattle.dr_replay.proofs.Promising.{counts_more, promised_more}
-use Rattle.dr_replay.proofs.Stopping.{numbered_stopped}
+use Rattle.dr_replay.proofs.Promising.{IsPromised, counts_more, promised_more, rest_unused, same_at, sent_by}
 use Rattle.dr_replay.proofs.lock_workers.fn.send_all.scope.Goals as goal
-use Rattle.dr_shared.specs.Calls.Stops.{MayStop}
 
 -- a worker's closure may go to another thread: it has a reference to what all share, and its task
 pub spawn_with-requires-send-F : goal.spawn_with-requires-send-F
@@ -26,13 +25,29 @@ pub loop-end-preserved : goal.loop-end-preserved
 loop-end-preserved g c =
     let was = c.loop-end.invariant in
     let promise = c.in_ok-spawn_with.ensures.ok in
+    let of = c.of-promise.ensures in
+    let scripts = c.captures.scripts.now in
     let started = c.loop-end.started.ok in
     let many = c.len-p.ensures in
-    let who = ap (λ (p : StoppedBy g.row.G.Denot). p.who) promise ∙ c.of-promise.ensures.who in
-    let gate = ap (λ (p : StoppedBy g.row.G.Denot). p.gate.value) promise ∙ c.of-promise.ensures.gate in (
+    let place : c.len-p.result ≡ length c.loop-end.started.items = omega arith in
+    let who : c.of-promise.result.who ≡ 16 + length c.loop-end.started.items = omega (arith, of.who) in
+    let script = c.index-scripts-p in
+    let taken = ap length c.in-Some.ensures.steps.0 in
+    let below : length c.loop-end.started.items < length scripts = omega (arith, was.0) in
+    let events = λ (d : Vec Event Global).
+    of.script ∙ c.as_slice-script.ensures.value
+    ∙ ap (λ (v : Vec Event Global). v.items) (script.is ∙ ap (λ (n : ℕ). get_or scripts n script.result) place ∙ same_at scripts (length c.loop-end.started.items) script.result d below)
+    in (
       counts_more _ _ _ _ _ _ _ was.0 c.in_ok-push.ensures.items c.in-Some.ensures.steps.0,
-      promised_more (λ (h : PromisedHandle (Sent g.row.L.Denot) (StoppedBy g.row.G.Denot)) (n : ℕ). (h.promise.gate.value ≡ c.captures.around.now.gate.now) × (h.promise.who ≡ n))
-          16 c.loop-end.started.items c.push.new.self.items c.in_ok-spawn_with.field-0 c.in_ok-push.ensures.items was.1 (gate, omega arith),
+      rest_unused _ _ _ c.in-Some.ensures.steps.0 was.1,
+      promised_more (λ (h : PromisedHandle (Sent g.row.L.Denot) (SentBy g.row.G.Denot)) (p : ℕ). IsPromised c.captures.around.now.gate.now (max (c.captures.around.now.size / 4) 1) scripts h.promise p)
+          c.loop-end.started.items c.push.new.self.items c.in_ok-spawn_with.field-0 c.in_ok-push.ensures.items was.2
+          (record {
+            gate = ap (λ (p : SentBy g.row.G.Denot). p.gate.value) promise ∙ of.gate;
+            who = ap (λ (p : SentBy g.row.G.Denot). p.who) promise ∙ who;
+            events = λ d. ap (λ (p : SentBy g.row.G.Denot). p.script.now) promise ∙ events d;
+            cut = ap (λ (p : SentBy g.row.G.Denot). p.cut) promise ∙ of.cut ∙ c.quarter-cut.ensures;
+          }),
     )
 
 pub returns : goal.returns
@@ -44,12 +59,10 @@ returns g c =
     let joined = c.in_ok-join_promised.field-0.ok in
     let same = c.in_ok-join_promised.ensures.len in
     record {
-      sent = omega arith;
-      stopped = numbered_stopped (MayStop g.G.Gate.may_stop c.captures.around.now.gate.now) (λ (s : Sent g.row.L.Denot). s.fault) 16 c.in_ok-join_promised.field-0.items
-          (λ k d below e.
-          let kept = (c.in_ok-join_promised.ensures.each k d (omega arith)).1 in
-          let place = c.loop-end.invariant.1 k kept.handle (omega arith) in
-          let gate = ap (λ (h : PromisedHandle (Sent g.row.L.Denot) (StoppedBy g.row.G.Denot)). h.promise.gate.value) kept.handle_is ∙ place.0 in
-          let who = ap (λ (h : PromisedHandle (Sent g.row.L.Denot) (StoppedBy g.row.G.Denot)). h.promise.who) kept.handle_is ∙ place.1 in
-          subst (λ n. MayStop g.G.Gate.may_stop c.captures.around.now.gate.now n) who (subst (λ v. MayStop g.G.Gate.may_stop v kept.handle.promise.who) gate (kept.kept e)));
+      many = omega arith;
+      each = λ p s script below.
+          let kept = (c.in_ok-join_promised.ensures.each p s (omega arith)).1 in
+          let place = c.loop-end.invariant.2 p kept.handle (omega arith) in
+          sent_by g.L.Exchange.begun g.G.Gate.may_stop g.G.Gate.must_stop c.captures.around.now.gate.now (max (c.captures.around.now.size / 4) 1) c.captures.scripts.now kept.handle.promise p script
+          _ _ (subst (λ (h : PromisedHandle (Sent g.row.L.Denot) (SentBy g.row.G.Denot)). IsPromised c.captures.around.now.gate.now (max (c.captures.around.now.size / 4) 1) c.captures.scripts.now h.promise p) (sym kept.handle_is) place) kept.kept;
     }

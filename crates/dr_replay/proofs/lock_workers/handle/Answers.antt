@@ -1,0 +1,36 @@
+use Rattle.std.proofs.Common.{◌≡◌, None, ap, inl, inr, sym, ◌∙◌}
+use Rattle.dr_shared.specs.Calls.Asking.{OutletAsks}
+use Rattle.dr_shared.specs.Calls.Lock.{no_calls}
+use Rattle.dr_shared.specs.Calls.Serving.{Serves}
+use Rattle.dr_accounts.specs.Keeping.{AnswersFor, error_of}
+use Rattle.dr_replay.specs.Inside.LockWorkers.{HandlerAsks}
+use Rattle.dr_replay.specs.Inside.Parts.{Lists}
+use Rattle.dr_replay.proofs.Asking.{asked, stopped_by}
+use Rattle.dr_replay.proofs.lock_workers.handle.Goals.{in-Err-default, in-Ok-Some+in-Ok-this-2, in-Ok-Some+in-Err-1, in-Ok-None}
+use Rattle.dr_replay.proofs.lock_workers.handle.Goals as goal
+
+pub returns : goal.returns
+returns g c =
+    let run = c.consume-fault in
+    let begun = g.L.Exchange.begun in
+    let gate = c.args.around.now.gate.now in
+    let answers : AnswersFor run.result (error_of c.match-part.part) = elim c.match-part.branch [
+      | in-Err-default w ↦ inr (ap error_of w.part-is)
+      | in-Ok-Some+in-Ok-this-2 w ↦ inl (ap error_of w.part-is ∙ sym w.in-Ok-Some.is-1)
+      | in-Ok-Some+in-Err-1 w ↦ inl (ap error_of w.part-is ∙ sym w.in-Ok-Some.is-1)
+      | in-Ok-None w ↦ inl (ap error_of w.part-is ∙ sym w.in-Ok-None.is-1)
+    ]
+    in
+    let begins : c.new-outlet.result.end ≡ no_calls = c.new-outlet.ensures.end ∙ c.requires.unused in
+    let ends : c.into_end-end.result ≡ run.new.outlet.end = c.into_end-end.ensures in
+    record {
+      start = c.new-listing.result;
+      after = run.new.handler;
+      fault = run.result;
+      new = c.new-listing.ensures;
+      calls = asked {Holds = Serves Lists c.new-listing.result run.new.handler None None (g.G.Gate.may_stop gate c.args.who) (g.G.Gate.must_stop gate c.args.who) run.result}
+          (λ old call new. OutletAsks begun old.h old.end call new.end) (HandlerAsks begun) (λ outlet. outlet.end) (λ old new call is. (old.h, is))
+          c.new-outlet.result run.new.outlet no_calls c.into_end-end.result begins ends run.ensures.serves;
+      answers = answers;
+      stopped = stopped_by run.result (error_of c.match-part.part) answers run.ensures.stopped;
+    }

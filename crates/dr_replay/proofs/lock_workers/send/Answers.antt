@@ -1,0 +1,26 @@
+use Rattle.std.proofs.Common.{◌+◌, refl, subst, ◌∙◌}
+use Rattle.dr_seq.specs.declared.event.Event.{Event}
+use Rattle.dr_shared.specs.Calls.Asking.{InletAsks}
+use Rattle.dr_shared.specs.Calls.Lock.{no_calls}
+use Rattle.dr_shared.specs.Calls.Serving.{Sends}
+use Rattle.dr_replay.specs.Inside.LockWorkers.{HasSent, ProducerAsks}
+use Rattle.dr_replay.proofs.Asking.{asked}
+use Rattle.dr_replay.proofs.lock_workers.send.Goals as goal
+
+pub returns : goal.returns
+returns g c =
+    let run = c.produce-produced in
+    let begun = g.L.Exchange.begun in
+    let task = c.args.task in
+    let may_stop = g.G.Gate.may_stop c.args.around.now.gate.now (16 + task.p) in
+    let must_stop = g.G.Gate.must_stop c.args.around.now.gate.now (16 + task.p) in
+    let sent : HasSent begun c.quarter-cut.result task.script.now may_stop must_stop c.into_end-end.result run.result.fault = record {
+      produced = run.result;
+      calls = asked {Holds = Sends {E = Event} c.quarter-cut.result task.script.now may_stop must_stop run.result}
+          (λ old call new. InletAsks begun old.p old.end call new.end) (ProducerAsks begun) (λ inlet. inlet.end) (λ old new call is. (old.p, is))
+          c.new-inlet.result run.new.inlet no_calls c.into_end-end.result (c.new-inlet.ensures.end ∙ c.requires.unused) c.into_end-end.ensures run.ensures.sends;
+      answers = refl;
+      stopped = run.ensures.stopped;
+    }
+    in
+    subst (λ n. HasSent begun n task.script.now may_stop must_stop c.into_end-end.result run.result.fault) c.quarter-cut.ensures sent
