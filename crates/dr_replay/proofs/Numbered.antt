@@ -1,6 +1,7 @@
--- How producers' workers ended, one more of them.
-use Rattle.std.proofs.Common.{◌≡◌, ◌<◌, ◌+◌, ℕ, suc, List, [], ◌∷◌, ◌++◌, length, take, get_or, Option, ap, ◌∙◌, arith}
+-- How producers' workers ended: one more of them, and all without a fault.
+use Rattle.std.proofs.Common.{◌≡◌, ◌<◌, ◌+◌, ℕ, suc, List, [], ◌∷◌, ◌++◌, length, take, get_or, All, Option, None, ap, ◌∙◌, arith}
 use Rattle.std.proofs.lemmas.List.{length-take-le, take_more}
+use Rattle.std.proofs.lemmas.List.Elements.{All-cons, All-head, All-nil, All-tail}
 use Rattle.dr_shared.specs.declared.ended.Ended.{Ended}
 use Rattle.dr_shared.specs.declared.fault.WorkFault.{WorkFault}
 use Rattle.dr_replay.specs.Calls.Workers.{lock_endings, numbered}
@@ -23,3 +24,20 @@ lock_more journal replica business producers p d less =
     (ap (numbered 16) (take_more producers p d less)
     ∙ numbered_more 16 (take p producers) (get_or producers p d)
     ∙ ap (λ n. numbered 16 (take p producers) ++ end (16 + n) (get_or producers p d) ∷ []) many)
+
+abbrev IsFine : Ended → Type 0
+IsFine e = e.fault ≡ None
+
+numbered_fine : (who : ℕ) (faults : List (Option WorkFault)) → All IsFine (numbered who faults) → All (λ (f : Option WorkFault). f ≡ None) faults
+numbered_fine who [] fine = All-nil (λ (f : Option WorkFault). f ≡ None)
+numbered_fine who (f ∷ faults) fine =
+    let rest : List Ended = numbered (who + 1) faults in
+    All-cons (λ (f : Option WorkFault). f ≡ None) f faults (All-head IsFine (end who f) rest fine) (numbered_fine (who + 1) faults (All-tail IsFine (end who f) rest fine))
+
+pub lock_fine : (journal replica business : Option WorkFault) (producers : List (Option WorkFault)) → All IsFine (lock_endings journal replica business producers)
+    → All (λ (f : Option WorkFault). f ≡ None) producers
+lock_fine journal replica business producers fine =
+    let sent : List Ended = numbered 16 producers in
+    let later : List Ended = end 2 business ∷ sent in
+    let others : List Ended = end 1 replica ∷ later in
+    numbered_fine 16 producers (All-tail IsFine (end 2 business) sent (All-tail IsFine (end 1 replica) later (All-tail IsFine (end 0 journal) others fine)))

@@ -1,6 +1,6 @@
 //! The replay behind a lock, a thread a producer and a thread a handler.
 
-ghost use Rattle.std.specs.Prelude.{◌≡◌, ◌+◌, ◌-◌, ◌^◌, ◌<◌, ◌≤◌, IfErr, IfOk, IfSome, List, None, OnOk, length, map, string_bytes, sum_by};
+ghost use Rattle.std.specs.Prelude.{◌≡◌, ◌+◌, ◌-◌, ◌^◌, ◌<◌, ◌≤◌, All, IfErr, IfOk, IfSome, List, None, OnOk, length, map, string_bytes, sum_by};
 ghost use Rattle.dr_seq.specs.declared.event.Event.{Event};
 ghost use Rattle.dr_files.specs.Counting.{faults_of, inner_of};
 ghost use Rattle.dr_replay.specs.Meaning.EventFile.{events_of as events_in};
@@ -9,7 +9,7 @@ ghost use Rattle.dr_shared.specs.Meaning.FirstFault.{first_fault as first_of};
 ghost use Rattle.dr_shared.specs.Meaning.History.{halts_in};
 ghost use Rattle.dr_shared.specs.Calls.Stops.{MayStop};
 ghost use Rattle.dr_replay.specs.Calls.Replayed.{IsReportOfMerge, LockWrites, ReplayCounts, ReplayFaultKeeps};
-ghost use Rattle.dr_replay.specs.Calls.Workers.{IsFirstOf, IsFirstOfLock, IsOfAudit, IsOfLock, IsOfMerge, lock_endings};
+ghost use Rattle.dr_replay.specs.Calls.Workers.{IsFirstOf, IsFirstOfLock, IsOfAudit, IsOfLock, IsOfMerge, NoProducerHadToStop, lock_endings};
 ghost use Rattle.dr_replay.specs.Meaning.Exchange.{lock_setup, setup_for};
 ghost use Rattle.dr_replay.specs.Meaning.Scripts.{scripts_in};
 
@@ -68,6 +68,7 @@ fn check(
     requires { length producers.now ≤ 2 ^ 62 }
     ensures fine { OnOk result (first_of (lock_endings journal replica business producers.now) ≡ None) }
     ensures handlers { OnOk result ((journal ≡ None) × (replica ≡ None) × (business ≡ None)) }
+    ensures producers { OnOk result (All (λ fault. fault ≡ None) producers.now) }
     ensures first { IfErr result (IsFirstOf (lock_endings journal replica business producers.now)) }
 {
     let endings = endings(alloc, journal, replica, business, producers)?;
@@ -150,6 +151,7 @@ fn settled<L: Exchange<Event>>(
     ensures text { (sent : List Event) → map (λ v. v.items) scripts.now ≡ scripts_in sent → IfOk result (λ t. IsReportOfMerge L.begun.core.setup sent (string_bytes t)) }
     ensures fine { OnOk result (first_of (lock_endings (error_of ran.journal.part) (error_of ran.replica.part) (error_of ran.business.part)
         (map (λ s. s.fault) ran.producers.items)) ≡ None) }
+    ensures producers { OnOk result (All (λ fault. fault ≡ None) (map (λ s. s.fault) ran.producers.items)) }
     ensures first { IfErr result (IsOfLock (lock_endings (error_of ran.journal.part) (error_of ran.replica.part) (error_of ran.business.part)
         (map (λ s. s.fault) ran.producers.items)) L.begun.core.setup (map (λ v. v.items) scripts.now)) }
 {
@@ -162,14 +164,11 @@ fn settled<L: Exchange<Event>>(
     } = ran;
     let ends = [halter, journal.end, replica.end, business.end];
     let (recorded, faults) = gathered(alloc, shared, ends, producers)?;
-    let journal_fault = fault_in(&journal.part);
-    let replica_fault = fault_in(&replica.part);
-    let business_fault = fault_in(&business.part);
     check(
         alloc,
-        journal_fault,
-        replica_fault,
-        business_fault,
+        fault_in(&journal.part),
+        fault_in(&replica.part),
+        fault_in(&business.part),
         faults.as_slice(),
     )?;
     match (journal.part, replica.part, business.part) {
@@ -229,6 +228,7 @@ fn report<L: Exchange<Event> + Send + Sync, R: Threads + Wait + Sync, G: Gate + 
         → IfOk result (λ t. IsReportOfMerge recorded.history.core.setup sent (string_bytes t)) }
     ensures first { (sent : List Event) → map (λ v. v.items) scripts.now ≡ scripts_in sent
         → IfErr result (IsOfMerge (MayStop G.may_stop gate.now) recorded.history.core.setup sent) }
+    ensures stops { (sent : List Event) → map (λ v. v.items) scripts.now ≡ scripts_in sent → IfOk result (λ t. NoProducerHadToStop (G.must_stop gate.now) sent) }
 {
     let mut shared = Shared::<Event, L>::new(recorded, blank);
     let ends = make_ends(alloc, &mut shared, scripts.len())?;
@@ -253,6 +253,7 @@ fn merged<R: Threads + Wait + Sync, G: Gate + Sync>(
 ) -> Result<String, ReplayFault>
     ensures text { IfOk result (λ text. IsReportOfMerge (lock_setup size events.now) events.now (string_bytes text)) }
     ensures first { IfErr result (IsOfMerge (MayStop G.may_stop gate.now) (lock_setup size events.now) events.now) }
+    ensures stops { IfOk result (λ text. NoProducerHadToStop (G.must_stop gate.now) events.now) }
 {
     let scripts = scripts(alloc, events)?;
     let recorded = opened(alloc, size, scripts.len(), events.len())?;
@@ -283,6 +284,8 @@ pub fn replay_lock<S: Threads + Wait + Sync, R: Read, W: Write, G: Gate + Sync>(
     ensures unwritten { IfErr result (λ e. ReplayFaultKeeps e (W.contents (inner_of writer.old)) (W.contents (inner_of writer.new))) }
     // Where several workers have faults, the first is answered: a stop before a refusal, and then the least worker's. Only the gate stops a worker.
     ensures first { IfErr result (IsFirstOfLock (MayStop G.may_stop gate.now) size) }
+    // A gate that has to stop a producer at its first turn, where that has an event, leaves no report.
+    ensures stops { IfSome (R.remaining (inner_of reader.old)) (λ input. IfOk result (λ _. IfOk (events_in input) (NoProducerHadToStop (G.must_stop gate.now)))) }
     // A failed read or write is answered where one failed, and nowhere else.
     ensures counted { ReplayCounts result (faults_of reader.old) (faults_of reader.new) (faults_of writer.old) (faults_of writer.new) }
 {

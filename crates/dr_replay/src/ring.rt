@@ -277,7 +277,7 @@ pub fn replay_ring<S: Threads + Wait + Sync, R: Read, W: Write, G: Gate + Sync>(
     ensures unwritten { IfErr result (λ e. ReplayFaultKeeps e (W.contents (inner_of writer.old)) (W.contents (inner_of writer.new))) }
     // Where several workers have faults, the first is answered: a stop before a refusal, and then the least worker's. Only the gate stops a worker.
     ensures first { IfErr result (IsFirstOfSome (MayStop G.may_stop gate.now) ring_workers) }
-    // A handler's gate that has to stop it at its first turn, where there is an event, leaves no report.
+    // A gate that has to stop a worker at its first turn, where there is an event, leaves no report.
     ensures stops { IfSome (R.remaining (inner_of reader.old)) (λ input. IfOk result (λ _. IfOk (events_in input) (NoneHadToStop (G.must_stop gate.now)))) }
     // A failed read or write is answered where one failed, and nowhere else.
     ensures counted { ReplayCounts result (faults_of reader.old) (faults_of reader.new) (faults_of writer.old) (faults_of writer.new) }

@@ -1,5 +1,5 @@
 -- What the workers of a replay give back, and what they promise.
-use Rattle.std.specs.Prelude.{◌≡◌, ◌⊎◌, ℕ, ◌+◌, ◌/◌, ◌<◌, max, ◌++◌, true, List, [], ◌∷◌, length, map, take, Option, None, Some, All, IfOk, string_bytes}
+use Rattle.std.specs.Prelude.{◌≡◌, ◌≢◌, ◌⊎◌, ℕ, ◌+◌, ◌/◌, ◌<◌, max, ◌++◌, true, List, [], ◌∷◌, length, map, take, Option, None, Some, All, IfOk, string_bytes}
 use Rattle.dr_seq.specs.declared.event.Event.{Event}
 use Rattle.dr_core.specs.Calls.Calling.{SomeCalls}
 use Rattle.dr_ring.specs.Calls.Ends.{SenderEnd, ReceiverEnd, sender_place}
@@ -20,7 +20,7 @@ use Rattle.dr_core.specs.Meaning.Machine.{Setup, handlers}
 use Rattle.dr_files.specs.declared.fault.FileFault.{FileFault}
 use Rattle.dr_files.specs.declared.fault.FileFault.TheVariants as file
 use Rattle.dr_replay.specs.Meaning.Exchange.{IsHalted, lock_setup}
-use Rattle.dr_replay.specs.Meaning.Scripts.{producers_in, scripts_in}
+use Rattle.dr_replay.specs.Meaning.Scripts.{producers_in, script_in, scripts_in}
 use Rattle.dr_replay.specs.declared.fault.ReplayFault.{ReplayFault}
 use Rattle.dr_replay.specs.declared.fault.ReplayFault.TheVariants as fault
 use Rattle.dr_accounts.specs.Keeping.{Keeps, error_of}
@@ -69,22 +69,23 @@ pub record Says (events : List Event) (ran : Ran) : Type 0 where
 abbrev pub ends_of : Ran → List ReceiverEnd
 ends_of ran = ran.journal.receiver ∷ ran.replica.receiver ∷ ran.business.receiver ∷ []
 
--- each handler's end received these events, and its worker has no fault
+-- each handler's end received these events, and no worker has a fault
 pub record AreThrough (events : List Event) (ran : Ran) : Type 0 where
+  pub sender : ran.produced.fault ≡ None
   pub journal : (ran.journal.receiver.knows.received ≡ events) × (error_of ran.journal.part ≡ None)
   pub replica : (ran.replica.receiver.knows.received ≡ events) × (error_of ran.replica.part ≡ None)
   pub business : (ran.business.receiver.knows.received ≡ events) × (error_of ran.business.part ≡ None)
-
--- where there is an event, no handler was one that its gate has to stop at its first turn
-abbrev pub NoneHadToStop : (ℕ → ℕ → Type 0) → List Event → Type 0
-NoneHadToStop must_stop [] = Unit {0}
-NoneHadToStop must_stop (event ∷ events) = (who : ℕ) → who < 3 → must_stop who 0 → ⊥
 
 -- Which fault of the workers a replay answers.
 
 -- the numbers of the workers of a replay over the ring: the journal's, the replica's, the business handler's, and the sender's
 abbrev pub ring_workers : List ℕ
 ring_workers = 0 ∷ 1 ∷ 2 ∷ 16 ∷ []
+
+-- where there is an event, none of them was one that its gate has to stop at its first turn
+abbrev pub NoneHadToStop : (ℕ → ℕ → Type 0) → List Event → Type 0
+NoneHadToStop must_stop [] = Unit {0}
+NoneHadToStop must_stop (event ∷ events) = All (λ who. must_stop who 0 → ⊥) ring_workers
 
 -- how the workers of an exchange ended
 abbrev pub endings_of : Ran → List Ended
@@ -141,6 +142,10 @@ numbered who (f ∷ faults) = record { who = who; fault = f } ∷ numbered (who 
 abbrev pub lock_endings : Option WorkFault → Option WorkFault → Option WorkFault → List (Option WorkFault) → List Ended
 lock_endings journal replica business producers =
     record { who = 0; fault = journal } ∷ record { who = 1; fault = replica } ∷ record { who = 2; fault = business } ∷ numbered 16 producers
+
+-- no producer that has an event was one that its gate has to stop at its first turn
+abbrev pub NoProducerHadToStop : (ℕ → ℕ → Type 0) → List Event → Type 0
+NoProducerHadToStop must_stop events = (p : ℕ) → p < producers_in events → script_in events p ≢ [] → must_stop (16 + p) 0 → ⊥
 
 -- what an audit answers of some history that an exchange of this setup went through, since no contract above the lock can name it: the least producer that did not send its script, and where each did, the least handler that lacks events
 abbrev pub AuditFinds : Setup → List (List Event) → AuditFault → Type 0

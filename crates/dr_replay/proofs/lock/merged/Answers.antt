@@ -24,3 +24,8 @@ returns-clause-first g c =
     let many = c.len.ensures ∙ c.in_ok-scripts.scripts.ok.0 ∙ sym (length-map c.in_ok-scripts.scripts.items (λ v. v.items)) in
     let opened = c.in_ok-recorded.ensures ∙ opened_for c.args.size c.len.result events _ many c.in_ok-scripts.ensures in
     fault_of_setup (MayStop g.G.Gate.may_stop c.args.gate.now) events c.report.result opened (c.report.ensures.first events (same _ _ events c.as_slice.ensures.value c.in_ok-scripts.ensures))
+
+pub returns-clause-stops : goal.returns-clause-stops
+returns-clause-stops g c =
+    let events = c.args.events.now in
+    c.report.ensures.stops events (same _ _ events c.as_slice.ensures.value c.in_ok-scripts.ensures)

@@ -4,6 +4,7 @@ use Rattle.dr_seq.specs.declared.event.Event.{Event}
 use Rattle.dr_shared.specs.Meaning.History.{History}
 use Rattle.dr_accounts.specs.Keeping.{error_of}
 use Rattle.dr_replay.proofs.Endings.{ends_of_merge, of_setup}
+use Rattle.dr_replay.proofs.Heeding.{joined_heeds, where_ok}
 use Rattle.dr_replay.proofs.Stopping.{joined_stopped}
 use Rattle.dr_replay.proofs.lock.report.Goals as goal
 use Rattle.dr_shared.specs.Calls.Stops.{MayStop}
@@ -19,3 +20,7 @@ returns-clause-first g c = λ sent are.
     (map (λ s. s.fault) ran.producers.items) c.settled.result (ap (λ (h : History Event). h.core.setup) (sym c.requires.begun)) are
     (length-map ran.producers.items (λ s. s.fault) ∙ c.in_ok-ran.ensures.producers.many ∙ sym (length-map c.args.scripts.now (λ v. v.items)))
     (joined_stopped _ (g.G.Gate.may_stop c.args.gate.now) _ _ _ ran c.in_ok-ran.ensures) c.settled.ensures.first
+
+pub returns-clause-stops : goal.returns-clause-stops
+returns-clause-stops g c = λ sent are.
+    where_ok c.settled.result (λ fine. joined_heeds _ _ (g.G.Gate.must_stop c.args.gate.now) _ c.args.scripts.now c.in_ok-ran.ran sent c.in_ok-ran.ensures fine are) c.settled.ensures.producers

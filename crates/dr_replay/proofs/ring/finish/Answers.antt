@@ -33,6 +33,7 @@ returns-clause-received c = λ events says.
     let second = rw parts.is-1 at says.replica in
     let third = rw parts.is-2 at says.business in
     record {
+      sender = fine;
       journal = ((settled.each 0 ran.journal.receiver.knows refl).drained first.0 ∙ says.all fine, ap error_of parts.is-0);
       replica = ((settled.each 1 ran.replica.receiver.knows refl).drained second.0 ∙ says.all fine, ap error_of parts.is-1);
       business = ((settled.each 2 ran.business.receiver.knows refl).drained third.0 ∙ says.all fine, ap error_of parts.is-2);
