@@ -5,6 +5,13 @@ use lib.ListN.{get_elem?}
 use Rattle.atomic_table.specs.Table.{Act, keeps, takes, gives, chain, carried_after, homes_after, Valid}
 use Rattle.atomic_table.proofs.Lists.{set_here, set_else}
 
+-- an element of two lists is one of the first or one of the second
+pub at_either : {X : Type 0} (xs ys : List X) (i : ℕ) (y : X) → get_elem? (xs ++ ys) i ≡ some y
+    → ((j : ℕ) × (get_elem? xs j ≡ some y)) ⊎ ((j : ℕ) × (get_elem? ys j ≡ some y))
+at_either [] ys i y at = inr (i, at)
+at_either (x ∷ xs) ys zero y at = inl (0, at)
+at_either (x ∷ xs) ys (suc i) y at = elim (at_either xs ys i y at) [ inl t ↦ inl (suc t.0, t.1) | inr t ↦ inr t ]
+
 module _ {C : Type 0} where
   -- some slots, each with what lies in it, are taken one after another, from the last on
   abbrev pub take_all : List (ℕ × C) → Act C
@@ -96,12 +103,6 @@ module _ {C : Type 0} where
   pub apart_of : (xs : List (ℕ × C)) → ((i j : ℕ) (x y : ℕ × C) → i < j → get_elem? xs i ≡ some x → get_elem? xs j ≡ some y → y.0 ≢ x.0) → Apart xs
   apart_of [] all = tt
   apart_of (x ∷ xs) all = (λ j y at. all 0 (suc j) x y (omega arith) refl at, apart_of xs (λ i j y z lt a b. all (suc i) (suc j) y z (omega arith) a b))
-
-  pub at_either : (xs ys : List (ℕ × C)) (i : ℕ) (y : ℕ × C) → get_elem? (xs ++ ys) i ≡ some y
-      → ((j : ℕ) × (get_elem? xs j ≡ some y)) ⊎ ((j : ℕ) × (get_elem? ys j ≡ some y))
-  at_either [] ys i y at = inr (i, at)
-  at_either (x ∷ xs) ys zero y at = inl (0, at)
-  at_either (x ∷ xs) ys (suc i) y at = elim (at_either xs ys i y at) [ inl t ↦ inl (suc t.0, t.1) | inr t ↦ inr t ]
 
   pub apart_both : (xs ys : List (ℕ × C)) → Apart xs → Apart ys → ((i : ℕ) (x : ℕ × C) → get_elem? xs i ≡ some x → Lacks ys x.0) → Apart (xs ++ ys)
   apart_both [] ys a b lacks = b

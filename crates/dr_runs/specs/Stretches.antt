@@ -1,17 +1,13 @@
--- Slots in lanes, of which an end takes or gives many at once.
+-- What an end takes or gives at once: something for each of many sequences, in one lane or in several.
 use Rattle.std.specs.Prelude.{ℕ, ◌+◌, List, [], ◌∷◌, ◌++◌, replicate}
 
-module _ {C : Type 0} where
-  -- the slots of the sequences from s on in one lane, each with what lies in it
-  abbrev pub stretch : (ℕ → ℕ) → ℕ → List C → List (ℕ × C)
-  stretch slot s [] = []
-  stretch slot s (c ∷ cs) = (slot s, c) ∷ stretch slot (s + 1) cs
+module _ {A X : Type 0} where
+  -- what stands for each of the sequences from s on
+  abbrev pub stretch : (ℕ → A → X) → ℕ → List A → List X
+  stretch place s [] = []
+  stretch place s (a ∷ xs) = place s a ∷ stretch place (s + 1) xs
 
-  -- the slots of one sequence in n lanes, each with the same in it
-  abbrev pub row : (ℕ → ℕ → ℕ) → ℕ → ℕ → C → List (ℕ × C)
-  row slot n s c = stretch (λ h. slot h s) 0 (replicate n c)
-
-  -- the slots of the sequences from s on in n lanes
-  abbrev pub rows : (ℕ → ℕ → ℕ) → ℕ → ℕ → List C → List (ℕ × C)
-  rows slot n s [] = []
-  rows slot n s (c ∷ cs) = row slot n s c ++ rows slot n (s + 1) cs
+  -- the same in the first n lanes, a sequence after another
+  abbrev pub rows : (ℕ → ℕ → A → X) → ℕ → ℕ → List A → List X
+  rows place n s [] = []
+  rows place n s (a ∷ xs) = stretch (λ h b. place h s b) 0 (replicate n a) ++ rows place n (s + 1) xs
