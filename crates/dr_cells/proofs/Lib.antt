@@ -1,0 +1,4 @@
+pub mod Crosses
+pub mod Lending
+pub mod Rights
+pub mod Walk

@@ -1,0 +1,4 @@
+pub mod Hold
+pub mod Lends
+pub mod Owned
+pub mod Tokens

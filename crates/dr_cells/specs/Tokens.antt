@@ -1,0 +1,17 @@
+-- What a clause says of a whole token.
+use Rattle.std.specs.Prelude.{◌≡◌, ℕ}
+use denote.RawPtr.{Ptr}
+use Rattle.dr_cells.specs.Hold.{Hold}
+use Rattle.dr_cells.specs.declared.token.Token.{Token}
+
+module _ {X : Type 0} where
+  abbrev pub with_hold : Token X → Hold X → Token X
+  with_hold t h = record { mark = t.mark; strip = t.strip; cell = t.cell; hold = h }
+
+  -- the token is one of the cell i of the strip s
+  abbrev pub IsOf : Ptr → ℕ → Token X → Type 0
+  IsOf s i t = (t.strip ≡ s) × (t.cell ≡ i)
+
+  -- the token of the cell i of the strip s that says h
+  abbrev pub token_at : Ptr → ℕ → Hold X → Token X
+  token_at s i h = record { mark = record {}; strip = s; cell = i; hold = h }

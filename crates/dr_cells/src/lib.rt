@@ -1,0 +1,10 @@
+//! Memory that is lent by tokens of no bytes. A [`Cells`] says where a strip of cells lies and owns
+//! nothing, so each thread may have a copy. The right to a cell is a [`Token`], which is ghost data
+//! alone: who holds a cell whole may write it, and may lend it as parts, each of which reads it in place.
+#![tactic(auto)]
+
+pub mod cells;
+pub mod token;
+
+pub use cells::Cells;
+pub use token::Token;
