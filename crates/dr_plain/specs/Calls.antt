@@ -1,0 +1,2 @@
+-- What public contracts cite: what an end is, and what its calls answer and leave.
+pub mod Plans

@@ -1,0 +1,2 @@
+-- How it is kept: seats at a table, fields, and what private functions promise.
+pub mod Plans

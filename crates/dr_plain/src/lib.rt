@@ -1,0 +1,7 @@
+//! The ring over plain memory.
+#![tactic(auto)]
+
+mod plan;
+pub mod record;
+
+pub use plan::Plan;
