@@ -1,3 +1,6 @@
 pub mod Lists
 pub mod Lanes
 pub mod Moving
+pub mod Keeps
+pub mod Barriers
+pub mod Stores
