@@ -1,2 +1,3 @@
 -- What public contracts cite: what an end is, and what its calls answer and leave.
 pub mod Plans
+pub mod Finds

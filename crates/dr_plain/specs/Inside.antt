@@ -1,2 +1,3 @@
 -- How it is kept: seats at a table, fields, and what private functions promise.
 pub mod Plans
+pub mod Seats

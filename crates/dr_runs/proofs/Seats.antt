@@ -147,43 +147,48 @@ pub record Moves {T C E S W : Type 0} (X : Exchange T C E S W) (u : W) (hand : L
   pub valid : Valid homes hand act
   pub lies : X.Lies u (homes_after homes hand act)
 
+-- what a step of an end with this record does to a world in whose slots this lies, and what it tells the end
+pub record Acts {T C E S W : Type 0} (X : Exchange T C E S W) (step : S) (w : W) (i n : ℕ) (e : E) (hand : List (ℕ × C)) (homes : List (Option C)) (told : End C E → Type 0) : Type 0 where
+  pub mine : E
+  pub same : X.ends.number_of mine ≡ X.ends.number_of e
+  pub does : Does X step w i n mine
+  pub moves : Moves X does.after hand homes
+  pub tells : told (holding mine (carried_after hand moves.act))
+
 -- a step of one end, which keeps its number
-pub by_end : {T C E S W : Type 0} (X : Exchange T C E S W) (slots id : ℕ) (step : S) (grow : List S → List S) (pasts : List (List S)) (e : E) (hand : List (ℕ × C)) (i : ℕ) (f : ℕ → ℕ) (g : ℕ → E) (told : ℕ → End C E → Type 0)
+pub by_end : {T C E S W : Type 0} (X : Exchange T C E S W) (slots id : ℕ) (step : S) (grow : List S → List S) (pasts : List (List S)) (e : E) (hand : List (ℕ × C)) (i : ℕ) (f : ℕ → ℕ) (told : ℕ → End C E → Type 0)
     → Adds X.ends (X.ends.number_of e) step grow
-    → ((n : ℕ) → X.ends.number_of (g n) ≡ X.ends.number_of e)
-    → ((w : W) → X.Stands w e → IsReached X w → get_or (X.words_of w) i 0 < 18446744073709551616 → (hs : List (Option C)) → X.Lies w hs
-    → (does : Does X step w i (f (get_or (X.words_of w) i 0)) (g (get_or (X.words_of w) i 0))) × (moves : Moves X does.after hand hs)
-    × told (get_or (X.words_of w) i 0) (holding (g (get_or (X.words_of w) i 0)) (carried_after hand moves.act)))
+    → ((w : W) → X.Stands w e → IsReached X w → get_or (X.words_of w) i 0 < 18446744073709551616 → (homes : List (Option C)) → X.Lies w homes
+    → Acts X step w i (f (get_or (X.words_of w) i 0)) e hand homes (told (get_or (X.words_of w) i 0)))
     → Allows (Ruled X) slots id (seat_at (holding e hand) pasts) i f (λ n me'. told n (end_of me') × IsBeginning (first_past pasts) (past_of me'.0)
     × (stored_of X.ends me'.0 ≡ grow (stores_of X.ends (X.ends.number_of e) (first_past pasts))))
-by_end {T = T} {C = C} {E = E} {S = S} {W = W} X slots id step grow pasts e hand i f g told adds same does s R _ at small =
+by_end {E = E} {S = S} X slots id step grow pasts e hand i f told adds acts s R _ at small =
     let w = R.world in let n = get_or s.words i 0 in let mine_view : View E S = record { ends = e ∷ []; pasts = pasts } in
     let before = R.reached.steps in
     let here : get_or (X.words_of w) i 0 ≡ n = ap (λ (us : List ℕ). get_or us i 0) R.words in
     let mine : StandsAt X R.place w id 0 e = R.each_end id mine_view at 0 e refl in
     let saw : Saw X before e (first_past pasts) = first_saw (Saw X before) e pasts (R.each_past id mine_view at) in
-    let both : (D : Does X step w i (f n) (g n)) × (M : Moves X D.after hand s.homes) × told n (holding (g n) (carried_after hand M.act)) =
-    subst (λ (m : ℕ). (D : Does X step w i (f m) (g m)) × (M : Moves X D.after hand s.homes) × told m (holding (g m) (carried_after hand M.act))) here
-    (does w mine.1 R.reached (subst (λ (m : ℕ). m < 18446744073709551616) (sym here) small) s.homes R.lies) in
-    let D = both.0 in let steps = before ++ step ∷ [] in let entries = R.reached.entries ++ X.entries_of step w in
+    let A : Acts X step w i (f n) e hand s.homes (told n) = subst (λ (m : ℕ). Acts X step w i (f m) e hand s.homes (told m)) here
+    (acts w mine.1 R.reached (subst (λ (m : ℕ). m < 18446744073709551616) (sym here) small) s.homes R.lies) in
+    let D = A.does in let steps = before ++ step ∷ [] in let entries = R.reached.entries ++ X.entries_of step w in
     let runs = runs_more X.Happens X.entries_of before R.reached.entries X.opening w D.after step R.reached.runs D.happens in (
-      record { ends = g n ∷ []; pasts = steps ∷ [] },
-      both.1.act,
-      both.1.valid,
+      record { ends = A.mine ∷ []; pasts = steps ∷ [] },
+      A.moves.act,
+      A.moves.valid,
       record {
         world = D.after;
         words = D.words ∙ ap (λ (us : List ℕ). set us i (f n)) R.words;
-        lies = both.1.lies;
+        lies = A.moves.lies;
         reached = record { made = R.reached.made; steps = steps; entries = entries; runs = runs };
         place = R.place;
-        each_end = views_change X s.views R.place w D.after id (g n) steps (ap R.place (same n) ∙ mine.0) D.stands D.others R.each_end;
-        each_past = pasts_change X s.views before step id (X.ends.number_of e) (g n) entries D.after runs D.stands adds.other
+        each_end = views_change X s.views R.place w D.after id A.mine steps (ap R.place A.same ∙ mine.0) D.stands D.others R.each_end;
+        each_past = pasts_change X s.views before step id (X.ends.number_of e) A.mine entries D.after runs D.stands adds.other
             (apart X s.views R.place w id (X.ends.number_of e) mine.0 R.each_end) R.each_past;
       },
       (
-        both.2,
+        A.tells,
         begins_more (first_past pasts) before step saw.begins,
-        ap (λ (m : ℕ). stores_of X.ends m steps) (same n) ∙ adds.own before
+        ap (λ (m : ℕ). stores_of X.ends m steps) A.same ∙ adds.own before
             ∙ ap grow (sym saw.stores),
       ),
     )
@@ -198,5 +203,6 @@ pub by_bare_end : {T C E S W : Type 0} (X : Exchange T C E S W) → ((w : W) (hs
     → Allows (Ruled X) slots id (seat_at (alone e) pasts) i f (λ n me'. told n (end_of me') × IsBeginning (first_past pasts) (past_of me'.0)
     × (stored_of X.ends me'.0 ≡ grow (stores_of X.ends (X.ends.number_of e) (first_past pasts))))
 by_bare_end X nothing slots id step grow pasts e i f g told adds same does =
-    by_end X slots id step grow pasts e [] i f g told adds same
-    (λ w at reached small hs _. let d = does w at reached small in (d.0, record { act = keeps; valid = tt; lies = nothing d.0.after hs }, d.1))
+    by_end X slots id step grow pasts e [] i f told adds
+    (λ w at reached small homes _. let d = does w at reached small in let n = get_or (X.words_of w) i 0 in
+    record { mine = g n; same = same n; does = d.0; moves = record { act = keeps; valid = tt; lies = nothing d.0.after homes }; tells = d.1 })
