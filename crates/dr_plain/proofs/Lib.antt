@@ -4,3 +4,5 @@ pub mod Moving
 pub mod Keeps
 pub mod Barriers
 pub mod Stores
+pub mod Beginning
+pub mod Seats

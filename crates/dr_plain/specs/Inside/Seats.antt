@@ -46,6 +46,12 @@ Tells T = TableStep (Token T) → End T → ℕ → End T → Type 0
 abbrev pub no_shape : Shape
 no_shape = record { upstreams = []; size = 0; limit = 0; strip = null_ptr }
 
+-- a seat at a table with the words and the slots of a ring
+pub record IsAtTable (seat table : TableId) (k : Shape) : Type 0 where
+  pub same : seat ≡ table
+  pub words : table.words ≡ words_of k
+  pub slots : table.slots ≡ slots_of k
+
 module _ {T : Type 0} where
   abbrev pub end_number : EndRecord T → ℕ
   end_number (Sends r) = 0
@@ -185,9 +191,3 @@ module _ {T : Type 0} where
 
   abbrev pub HalterHalted : Tells T
   HalterHalted s me n me' = me' ≡ as_halter (halter_halted (halter_of me.0))
-
-  -- a seat at a table with the words and the slots of a ring
-  pub record IsAtTable (seat table : TableId) (k : Shape) : Type 0 where
-    pub same : seat ≡ table
-    pub words : table.words ≡ words_of k
-    pub slots : table.slots ≡ slots_of k
