@@ -6,3 +6,4 @@ pub mod Barriers
 pub mod Stores
 pub mod Beginning
 pub mod Seats
+pub mod Parts

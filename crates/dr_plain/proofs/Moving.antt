@@ -30,6 +30,13 @@ at_first [] ys q a lt at = absurd (omega arith)
 at_first (x ∷ xs) ys zero a lt at = at
 at_first (x ∷ xs) ys (suc q) a lt at = at_first xs ys q a (omega arith) at
 
+-- a receiver's counts, where what is claimed is not more than a round ahead
+pub record Stretches {T : Type 0} (k : Shape) (lents : List (Lent T)) (claims : ℕ) (r : ReceiverRecord T) : Type 0 where
+  pub held : r.completed ≤ length r.received
+  pub sent : k.size + length r.received ≤ length lents
+  pub near : length lents ≤ claims + k.size
+  pub room : claims ≤ k.size + r.completed
+
 module _ {T : Type 0} (k : Shape) (some_slot : 0 < k.size) where
   part_later : (s : ℕ) (l : Lent T) → part_of k (k.size + s) l ≡ part_of k s l
   part_later s l = ap (λ (c : ℕ). token_at k.strip c (part l.round l.event)) (cell_later k s)
@@ -109,13 +116,6 @@ module _ {T : Type 0} (k : Shape) (some_slot : 0 < k.size) where
         ];
       }
 
-  -- a receiver's counts, where its claims are not more than a round ahead
-  pub record Stretches (lents : List (Lent T)) (claims : ℕ) (r : ReceiverRecord T) : Type 0 where
-    pub held : r.completed ≤ length r.received
-    pub sent : k.size + length r.received ≤ length lents
-    pub near : length lents ≤ claims + k.size
-    pub room : claims ≤ k.size + r.completed
-
   -- what lies at home stays there for the other receivers
   others_lie : (receivers : List (ReceiverRecord T)) (lents : List (Lent T)) (claims g : ℕ) (r' : ReceiverRecord T) (homes homes' : List (Option (Token T)))
       → LiesBy k receivers lents claims homes → length homes' ≡ length homes
@@ -134,7 +134,7 @@ module _ {T : Type 0} (k : Shape) (some_slot : 0 < k.size) where
 
   -- a receiver takes its parts of the next events
   pub receiver_takes : (receivers : List (ReceiverRecord T)) (lents more : List (Lent T)) (claims g : ℕ) (r r' : ReceiverRecord T) (homes : List (Option (Token T)))
-      → LiesBy k receivers lents claims homes → Stretches lents claims r → get_elem? receivers g ≡ some r
+      → LiesBy k receivers lents claims homes → Stretches k lents claims r → get_elem? receivers g ≡ some r
       → ((i : ℕ) (l : Lent T) → get_elem? more i ≡ some l → get_elem? lents (k.size + length r.received + i) ≡ some l)
       → r'.completed ≡ r.completed → length r'.received ≡ length r.received + length more
       → AreHome homes (stretch (placed k g) (length r.received) more) × Apart (stretch (placed k g) (length r.received) more)
@@ -161,7 +161,7 @@ module _ {T : Type 0} (k : Shape) (some_slot : 0 < k.size) where
 
   -- a receiver gives its parts of the events that it completes
   pub receiver_gives : (receivers : List (ReceiverRecord T)) (lents done : List (Lent T)) (claims g : ℕ) (r r' : ReceiverRecord T) (homes : List (Option (Token T)))
-      → LiesBy k receivers lents claims homes → Stretches lents claims r → get_elem? receivers g ≡ some r → length receivers ≡ handlers_of k
+      → LiesBy k receivers lents claims homes → Stretches k lents claims r → get_elem? receivers g ≡ some r → length receivers ≡ handlers_of k
       → ((i : ℕ) (l : Lent T) → get_elem? lents (k.size + r.completed + i) ≡ some l → i < length done → get_elem? done i ≡ some l)
       → length r'.received ≡ length r.received → r'.completed ≡ r.completed + length done → r'.completed ≤ length r.received
       → LiesBy k (set receivers g r') lents claims (filled homes (stretch (placed k g) r.completed done))
