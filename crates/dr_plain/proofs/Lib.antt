@@ -7,3 +7,4 @@ pub mod Stores
 pub mod Beginning
 pub mod Seats
 pub mod Parts
+pub mod Allowed
