@@ -1,11 +1,12 @@
 -- Each kind of step is allowed.
-use Rattle.std.proofs.Common.{◌≡◌, ℕ, ◌+◌, ◌-◌, ◌<◌, ◌≤◌, ◌==◌, if◌then◌else◌, true, List, [], ◌∷◌, ◌++◌, length, get_or, set, take, drop, sym, refl, ap, ◌∙◌, subst, arith, append_assoc}
+use Rattle.std.proofs.Common.{◌≡◌, ℕ, ◌+◌, ◌-◌, ◌<◌, ◌≤◌, ◌==◌, ◌⊎◌, inl, inr, if◌then◌else◌, true, List, [], ◌∷◌, ◌++◌, length, get_or, set, take, drop, sym, refl, ap, ◌∙◌, subst, arith, append_assoc}
 use Rattle.std.specs.Prelude.{Contains}
 use Rattle.std.proofs.lemmas.List.{length-append}
 use Rattle.std.proofs.Math.Seq.{drop-append_seam}
 use mathlib.Core.Option.{Option, some, none}
 use lib.ListN.{get_elem?}
 use lib.Seq.{set-get_or}
+use Rattle.atomic_table.proofs.Lists.{at_set}
 use Rattle.atomic_table.specs.Table.{step, keeps, Allows}
 use Rattle.dr_cells.specs.declared.token.Token.{Token}
 use Rattle.dr_graph.specs.Meaning.Graph.{upstreams_of, finals}
@@ -147,3 +148,143 @@ module _ {T : Type 0} where
         tells = ap (λ (c : Hand T). as_sender (published_more r lents) c) (sym (drop-append_seam given rest));
       })))
 
+  pub sender_halts : (k : Shape) {slots : ℕ} (id : ℕ) (me : Sitting T) → IsSender (end_of me)
+      → MayStore k slots id me halt_word 1 (λ _ _. SenderHalts) SenderHalted
+  sender_halts k {slots = slots} id me is = let r = sender_of me.0.ends in along_sender (λ m. MayStore k slots id m halt_word 1 (λ _ _. SenderHalts) SenderHalted) me is
+      (by_sender k slots id SenderHalts (λ stores. stores ++ SenderHalts ∷ []) me.0.pasts r me.1 halt_word (λ _. 1) (λ _. SenderHalted (step slots halt_word 1 0 none) (as_sender r me.1) 1)
+      (adds_one ring_ends 0 SenderHalts (λ n. refl))
+      (λ w e K homes lies. record {
+        mine = sender_halted r;
+        happens = subst (λ (q : SenderRecord T). Happens k SenderHalts w (world_of (set w.words halt_word 1) (sender_halted q) w.receivers w.halter)) e refl;
+        hand_after = me.1;
+        moves = stays k (world_of (set w.words halt_word 1) (sender_halted r) w.receivers w.halter) me.1 homes (lies_by k w r homes e lies);
+        tells = refl;
+      }))
+
+  pub sender_closes : (k : Shape) {slots : ℕ} (id : ℕ) (me : Sitting T) → IsSender (end_of me) → (sender_of me.0.ends).halted ≡ true
+      → (sender_of me.0.ends).pending ≡ 0
+      → MayStore k slots id me closed_word 1 (λ _ _. SenderCloses) SenderClosed
+  sender_closes k {slots = slots} id me is halted all = let r = sender_of me.0.ends in along_sender (λ m. MayStore k slots id m closed_word 1 (λ _ _. SenderCloses) SenderClosed) me is
+      (by_sender k slots id SenderCloses (λ stores. stores ++ SenderCloses ∷ []) me.0.pasts r me.1 closed_word (λ _. 1) (λ _. SenderClosed (step slots closed_word 1 0 none) (as_sender r me.1) 1)
+      (adds_one ring_ends 0 SenderCloses (λ n. refl))
+      (λ w e K homes lies. record {
+        mine = sender_closed r;
+        happens = subst (λ (q : SenderRecord T). q.halted ≡ true → q.pending ≡ 0 → Happens k SenderCloses w (world_of (set w.words closed_word 1) (sender_closed q) w.receivers w.halter)) e (λ halted all. (halted, all, refl)) halted all;
+        hand_after = me.1;
+        moves = stays k (world_of (set w.words closed_word 1) (sender_closed r) w.receivers w.halter) me.1 homes (lies_by k w r homes e lies);
+        tells = refl;
+      }))
+
+  -- a receiver that neither takes nor completes: what lies at home stays
+  lies_for : (k : Shape) (w : World T) (h : ℕ) (r q : ReceiverRecord T) (homes : List (Option (Token T))) → get_elem? w.receivers h ≡ some r
+      → q.completed ≡ r.completed → length q.received ≡ length r.received → Lies k w homes → LiesBy k (set w.receivers h q) (laid w.sender) (claimed w.sender) homes
+  lies_for k w h r q homes at completed received lies = record {
+    deep = lies.deep;
+    lies = λ j x there s l at_s past away. elim (at_set w.receivers h j q x there) [
+      | inl y ↦ lies.lies j r (ap (λ (g : ℕ). get_elem? w.receivers g) y.0 ∙ at) s l at_s past
+          (subst (λ (n : ℕ × ℕ). (s < k.size + n.0) ⊎ (k.size + n.1 ≤ s)) (λ i. (completed i, received i))
+          (subst (λ (z : ReceiverRecord T). (s < k.size + z.completed) ⊎ (k.size + length z.received ≤ s)) (sym y.1) away))
+      | inr y ↦ lies.lies j x y.1 s l at_s past away
+    ];
+  }
+
+  pub receiver_looks_at_closed : (k : Shape) {slots : ℕ} (id : ℕ) (me : Sitting T) → IsReceiver (end_of me)
+      → MayLoad k slots id me closed_word ReceiverLookedAtClosed
+  receiver_looks_at_closed k {slots = slots} id me is = let r = receiver_of me.0.ends in along_receiver (λ m. MayLoad k slots id m closed_word ReceiverLookedAtClosed) me is
+      (by_receiver k slots id (ReceiverLooksAtClosed r.number) (λ stores. stores) me.0.pasts r me.1 closed_word (λ n. n) (ReceiverLookedAtClosed (step slots closed_word 0 0 none) (as_receiver r me.1))
+      (adds_nothing ring_ends (r.number + 2) (ReceiverLooksAtClosed r.number) (λ n. refl))
+      (λ w at K homes lies. let n = get_or w.words closed_word 0 in let was = K.received r.number r at in record {
+        mine = closed_looked r n;
+        same = refl;
+        happens = same_words k (ReceiverLooksAtClosed r.number) w closed_word w.sender (set w.receivers r.number (closed_looked r n)) w.halter (r, at, refl);
+        hand_after = me.1;
+        moves = stays k (world_of (set w.words closed_word n) w.sender (set w.receivers r.number (closed_looked r n)) w.halter) me.1 homes
+            (lies_for k w r.number r (closed_looked r n) homes at refl refl lies);
+        tells = (refl, (last_look_le k w.words 0 r.looks closed_word (omega arith) was.looks, K.flags.close, λ told. (was.told told).0));
+      }))
+
+  -- what a receiver makes of a look at which it takes events
+  receiver_acts : (k : Shape) (w : World T) (i room : ℕ) (s : Step T) (r q : ReceiverRecord T) (hand : Hand T) (homes : List (Option (Token T))) (told : End T → Type 0)
+      → i < words_of k → get_elem? w.receivers r.number ≡ some r → KeepsRule k w → Lies k w homes
+      → (let n = get_or w.words i 0 in let more = next_of w r (taken_at r i n room) in
+      q ≡ record r { received = r.received ++ more; told = q.told; looks = q.looks } → Happens k s w (world_of w.words w.sender (set w.receivers r.number q) w.halter)
+      → (length more ≡ taken_at r i n room → told (as_receiver q (taken_by_poll r more ++ hand)))
+      → ReceiverActs k s w i n r.number hand homes told)
+  receiver_acts k w i room s r q hand homes told lt at K lies is happens tells =
+      let n = get_or w.words i 0 in let m = taken_at r i n room in let more = next_of w r m in let was = K.received r.number r at in
+      let offer = offers_taken k w r.number i room r lt at K in let u = world_of (set w.words i n) w.sender (set w.receivers r.number q) w.halter in record {
+        mine = q;
+        same = ap (λ (x : ReceiverRecord T). x.number) is;
+        happens = same_words k s w i w.sender (set w.receivers r.number q) w.halter happens;
+        hand_after = taken_by_poll r more ++ hand;
+        moves = poll_moves k r.plan w u r.number r.number m r q hand homes was.plan refl at K lies refl refl (ap (λ (x : ReceiverRecord T). x.completed) is)
+            (ap (λ (x : ReceiverRecord T). length x.received) is ∙ length-append r.received more);
+        tells = tells (next_count w r m offer.published);
+      }
+
+  pub receiver_looks_at_cursor : (k : Shape) {slots : ℕ} (id : ℕ) (me : Sitting T) (room m : ℕ) → room ≡ m → IsReceiver (end_of me)
+      → MayLoad k slots id me cursor_word (ReceiverLookedAtCursor m)
+  receiver_looks_at_cursor k {slots = slots} id me room m named is =
+      subst (λ (m : ℕ). MayLoad k slots id me cursor_word (ReceiverLookedAtCursor m)) named
+      (let r = receiver_of me.0.ends in along_receiver (λ x. MayLoad k slots id x cursor_word (ReceiverLookedAtCursor room)) me is
+      (by_receiver k slots id (ReceiverLooksAtCursor r.number room) (λ stores. stores) me.0.pasts r me.1 cursor_word (λ n. n) (ReceiverLookedAtCursor room (step slots cursor_word 0 0 none) (as_receiver r me.1))
+      (adds_nothing ring_ends (r.number + 2) (ReceiverLooksAtCursor r.number room) (λ n. refl))
+      (λ w at K homes lies. let n = get_or w.words cursor_word 0 in let more = next_of w r (taken_at r cursor_word n room) in
+      let was = K.received r.number r at in let t = was.taken in let c = K.counts.cursor in
+      receiver_acts k w cursor_word room (ReceiverLooksAtCursor r.number room) r (cursor_looked r n more) me.1 homes
+      (ReceiverLookedAtCursor room (step slots cursor_word 0 0 none) (as_receiver r me.1) n) (omega arith) at K lies refl (r, at, refl)
+      (λ count. (more, count, refl, (last_look_le k w.words 0 r.looks cursor_word (omega arith) was.looks, omega arith, λ told. (let d = (was.told told).1 in omega arith)))))))
+
+  -- what a look at an upstream's count tells
+  tells_count : (k : Shape) (w : World T) (r : ReceiverRecord T) (u : ℕ) → get_elem? w.receivers r.number ≡ some r
+      → Contains (upstreams_of k.upstreams r.number) u → KeepsRule k w
+      → (u < handlers_of k) × FindsEvents r (count_word u) (get_or w.words (count_word u) 0)
+  tells_count k w r u at has K =
+      let was = K.received r.number r at in let inside = upstream_inside k K.graph r.number u (inside_of k w r.number r at K) has in
+      let t = receiver_of_handler k w K u inside in let a = t.2.count in let b = t.2.completed in let c = t.2.taken in
+      (inside, (last_look_le k w.words 0 r.looks (count_word u) (omega arith) was.looks, was.after u has, λ told. (let d = (was.told told).1 in omega arith)))
+
+  pub receiver_looks_at_count : (k : Shape) {slots : ℕ} (id : ℕ) (me : Sitting T) (i u room m : ℕ) → room ≡ m → i ≡ count_word u → IsReceiver (end_of me)
+      → (let r : ReceiverRecord T = receiver_of me.0.ends in Contains (upstreams_of r.plan.upstreams r.number) u)
+      → MayLoad k slots id me i (ReceiverLookedAtCount m)
+  receiver_looks_at_count k {slots = slots} id me i u room m named here is has =
+      subst (λ (m : ℕ). MayLoad k slots id me i (ReceiverLookedAtCount m)) named
+      (subst (λ (i : ℕ). MayLoad k slots id me i (ReceiverLookedAtCount room)) (sym here)
+      (let i = count_word u in let r = receiver_of me.0.ends in along_receiver (λ x. MayLoad k slots id x i (ReceiverLookedAtCount room)) me is
+      (by_receiver k slots id (ReceiverLooksAtCount r.number u room) (λ stores. stores) me.0.pasts r me.1 i (λ n. n) (ReceiverLookedAtCount room (step slots i 0 0 none) (as_receiver r me.1))
+      (adds_nothing ring_ends (r.number + 2) (ReceiverLooksAtCount r.number u room) (λ n. refl))
+      (λ w at K homes lies. let n = get_or w.words i 0 in let more = next_of w r (taken_at r i n room) in let was = K.received r.number r at in
+      let mine : Contains (upstreams_of k.upstreams r.number) u = subst (λ (p : Shape). Contains (upstreams_of p.upstreams r.number) u) was.plan has in
+      let t = tells_count k w r u at mine K in let inside = t.0 in
+      receiver_acts k w i room (ReceiverLooksAtCount r.number u room) r (receiver_looked r i n more) me.1 homes
+      (ReceiverLookedAtCount room (step slots i 0 0 none) (as_receiver r me.1) n) (omega arith) at K lies refl (r, at, (mine, refl))
+      (λ count. (more, count, refl, t.1))))))
+
+  pub receiver_completes : (k : Shape) {slots : ℕ} (id : ℕ) (me : Sitting T) (i h n : ℕ) (rest : Hand T) → i ≡ count_word h → IsReceiver (end_of me)
+      → (receiver_of me.0.ends).number ≡ h → (receiver_of me.0.ends).completed ≤ n → n ≤ length (receiver_of me.0.ends).received
+      → me.1 ≡ given_by_completion (receiver_of me.0.ends) n ++ rest
+      → MayStore k slots id me i n (λ me n. ReceiverCompletes (receiver_of me.0).number n) ReceiverCompleted
+  receiver_completes k {slots = slots} id me i h n rest here is number rise le hand =
+      subst (λ (i : ℕ). MayStore k slots id me i n (λ me n. ReceiverCompletes (receiver_of me.0).number n) ReceiverCompleted) (sym (here ∙ ap count_word (sym number)))
+      (let r = receiver_of me.0.ends in let i = count_word r.number in let given = given_by_completion r n in
+      along_receiver (λ m. MayStore k slots id m i n (λ me n. ReceiverCompletes (receiver_of me.0).number n) ReceiverCompleted) me is
+      (subst (λ (c : Hand T). MayStore k slots id (seat_at (as_receiver r c) me.0.pasts) i n (λ me n. ReceiverCompletes (receiver_of me.0).number n) ReceiverCompleted) (sym hand)
+      (by_receiver k slots id (ReceiverCompletes r.number n) (λ stores. stores ++ ReceiverCompletes r.number n ∷ []) me.0.pasts r (given ++ rest) i (λ _. n)
+      (λ _. ReceiverCompleted (step slots i n 0 none) (as_receiver r (given ++ rest)) n)
+      (adds_one ring_ends (r.number + 2) (ReceiverCompletes r.number n) (λ n. refl))
+      (λ w at K homes lies. let was = K.received r.number r at in record {
+        mine = completed_to r n;
+        same = refl;
+        happens = (r, at, (rise, le, refl));
+        hand_after = rest;
+        moves = completion_moves k r.plan w (world_of (set w.words i n) w.sender (set w.receivers r.number (completed_to r n)) w.halter) r.number r.number n r (completed_to r n) rest homes
+            was.plan refl at rise le K lies refl refl refl refl;
+        tells = ap (λ (c : Hand T). as_receiver (completed_to r n) c) (sym (drop-append_seam given rest));
+      }))))
+
+  pub halter_halts : (k : Shape) {slots : ℕ} (id : ℕ) (me : Sitting T) → IsHalter (end_of me)
+      → MayStore k slots id me halt_word 1 (λ _ _. HalterHalts) HalterHalted
+  halter_halts k {slots = slots} id me is = let r = halter_of me.0.ends in along_halter (λ m. MayStore k slots id m halt_word 1 (λ _ _. HalterHalts) HalterHalted) me is
+      (by_halter k slots id HalterHalts (λ stores. stores ++ HalterHalts ∷ []) me.0.pasts r halt_word (λ _. 1) (λ _. halter_halted r) (λ _. HalterHalted (step slots halt_word 1 0 none) (as_halter r) 1)
+      (adds_one ring_ends 1 HalterHalts (λ n. refl))
+      (λ w e K. (subst (λ (q : HalterRecord T). Happens k HalterHalts w (world_of (set w.words halt_word 1) w.sender w.receivers (halter_halted q))) e refl, refl)))
