@@ -1,7 +1,7 @@
 -- What a clause says of a whole token.
 use Rattle.std.specs.Prelude.{◌≡◌, ℕ}
-use denote.RawPtr.{Ptr}
-use Rattle.dr_cells.specs.Hold.{Hold}
+use denote.RawPtr.{Ptr, null_ptr}
+use Rattle.dr_cells.specs.Hold.{Hold, blank}
 use Rattle.dr_cells.specs.declared.token.Token.{Token}
 
 module _ {X : Type 0} where
@@ -15,3 +15,7 @@ module _ {X : Type 0} where
   -- the token of the cell i of the strip s that says h
   abbrev pub token_at : Ptr → ℕ → Hold X → Token X
   token_at s i h = record { mark = record {}; strip = s; cell = i; hold = h }
+
+  -- the token that says nothing, of no cell
+  abbrev pub no_token : Token X
+  no_token = token_at null_ptr 0 blank

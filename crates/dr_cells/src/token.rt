@@ -25,11 +25,11 @@ impl<T> Model for Token<T> {
 }
 
 impl<T> Token<T> {
-    ghost use Rattle.dr_cells.specs.Tokens.{with_hold};
+    ghost use Rattle.dr_cells.specs.Tokens.{with_hold, no_token};
 
     /// A token with no right at all.
     pub fn blank() -> Token<T>
-        ensures { result.hold ≡ blank }
+        ensures { result ≡ no_token }
     {
         Token { mark: PhantomData }
     }

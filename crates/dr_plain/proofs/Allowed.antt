@@ -1,9 +1,10 @@
 -- Each kind of step is allowed.
-use Rattle.std.proofs.Common.{◌≡◌, ℕ, ◌+◌, ◌-◌, ◌<◌, ◌≤◌, ◌==◌, ◌⊎◌, inl, inr, if◌then◌else◌, true, List, [], ◌∷◌, ◌++◌, length, get_or, set, take, drop, sym, refl, ap, ◌∙◌, subst, arith, append_assoc}
+use Rattle.std.proofs.Common.{◌≡◌, ℕ, ◌+◌, ◌<◌, ◌≤◌, ◌==◌, ◌⊎◌, inl, inr, if◌then◌else◌, true, List, [], ◌∷◌, ◌++◌, length, get_or, set, replicate, Option, None, Some, sym, refl, ap, ◌∙◌, subst, arith, append_assoc}
 use Rattle.std.specs.Prelude.{Contains}
-use Rattle.std.proofs.lemmas.List.{length-append}
+use Rattle.std.proofs.lemmas.List.{length-append, map-append}
 use Rattle.std.proofs.Math.Seq.{drop-append_seam}
-use mathlib.Core.Option.{Option, some, none}
+use mathlib.Core.Option.{some, none}
+use mathlib.Core.Option as maybe
 use lib.ListN.{get_elem?}
 use lib.Seq.{set-get_or}
 use Rattle.atomic_table.proofs.Lists.{at_set}
@@ -21,21 +22,21 @@ use Rattle.dr_plain.specs.declared.record.HalterRecord.{HalterRecord}
 use Rattle.dr_plain.specs.declared.record.Step.{Step}
 use Rattle.dr_plain.specs.declared.record.Step.TheVariants.{SenderLooksAtCount, SenderLooksAtHalt, SenderPublishes, SenderHalts, SenderCloses}
 use Rattle.dr_plain.specs.declared.record.Step.TheVariants.{ReceiverLooksAtClosed, ReceiverLooksAtCursor, ReceiverLooksAtCount, ReceiverCompletes, HalterHalts}
-use Rattle.dr_plain.specs.Meaning.Records.{events_of, claimed, laid, last_look, sender_looked, halt_looked, published_more, sender_halted, sender_closed}
+use Rattle.dr_plain.specs.Meaning.Records.{events_of, claimed, laid, sender_looked, halt_looked, published_more, sender_halted, sender_closed}
 use Rattle.dr_plain.specs.Meaning.Records.{closed_looked, receiver_looked, taken_at, cursor_looked, completed_to, halter_halted, SeesRoom}
 use Rattle.dr_plain.specs.Meaning.Rule.{World, KeepsRule}
 use Rattle.dr_plain.specs.Meaning.Lying.{LiesBy, Lies}
 use Rattle.dr_plain.specs.Meaning.Steps.{Happens, next_of}
 use Rattle.dr_plain.specs.Calls.Finds.{FindsCompleted, FindsHalt, FindsEvents}
 use Rattle.dr_plain.specs.Inside.Seats.{End, Hand, Sitting, Tells, ring_ends, Loads, Stores, world_of, Ruled, as_sender, as_receiver, as_halter, sender_of, receiver_of, halter_of, IsSender, IsReceiver, IsHalter}
-use Rattle.dr_plain.specs.Inside.Seats.{taken_by_claim, given_by_publication, taken_by_poll, given_by_completion, SenderLookedAtCount, SenderLookedAtHalt, SenderPublished, SenderHalted, SenderClosed}
+use Rattle.dr_plain.specs.Inside.Seats.{lent_all, taken_by_claim, given_by_publication, taken_by_poll, given_by_completion, SenderLookedAtCount, SenderLookedAtHalt, SenderPublished, SenderHalted, SenderClosed}
 use Rattle.dr_plain.specs.Inside.Seats.{ReceiverLookedAtClosed, ReceiverLookedAtCursor, ReceiverLookedAtCount, ReceiverCompleted, HalterHalted}
 use Rattle.dr_plain.proofs.Lists.{at_below, final_inside, last_look_le}
 use Rattle.dr_plain.proofs.Keeps.{receiver_of_handler, upstream_inside}
 use Rattle.dr_plain.proofs.Barriers.{next_count}
 use Rattle.dr_plain.proofs.Stores.{offers_taken}
 use Rattle.dr_plain.proofs.Parts.{MovesTo, claim_moves, publication_moves, poll_moves, completion_moves}
-use Rattle.dr_plain.proofs.Seats.{SenderActs, ReceiverActs, by_sender, by_receiver, by_halter}
+use Rattle.dr_plain.proofs.Seats.{ReceiverActs, by_sender, by_receiver, by_halter}
 
 module _ {T : Type 0} where
   -- a load of a word is allowed, and tells this
@@ -70,11 +71,11 @@ module _ {T : Type 0} where
   inside_of k w h r at K = let b = at_below w.receivers h r at in let e = K.ends in omega arith
 
   -- nothing moves
-  stays : (k : Shape) (u : World T) (hand : Hand T) (homes : List (Option (Token T))) → Lies k u homes → MovesTo k u hand homes hand
-  stays k u hand homes lies initial = (record { act = keeps; valid = tt; lies = lies }, refl)
+  stays : (k : Shape) (u : World T) (hand : Hand T) (homes : List (maybe.Option (Token T))) → Lies k u homes → MovesTo k u hand homes hand
+  stays k u hand homes lies = (record { act = keeps; valid = tt; lies = lies }, refl)
 
   -- what lies at home says nothing of what the sender's record has besides
-  lies_by : (k : Shape) (w : World T) (r : SenderRecord T) (homes : List (Option (Token T))) → w.sender ≡ r → Lies k w homes → LiesBy k w.receivers (laid r) (claimed r) homes
+  lies_by : (k : Shape) (w : World T) (r : SenderRecord T) (homes : List (maybe.Option (Token T))) → w.sender ≡ r → Lies k w homes → LiesBy k w.receivers (laid r) (claimed r) homes
   lies_by k w r homes e lies = subst (λ (q : SenderRecord T). LiesBy k w.receivers (laid q) (claimed q) homes) e lies
 
   look_at_final : (k : Shape) (w : World T) (r : SenderRecord T) (f : ℕ) → w.sender ≡ r → Contains (finals k.upstreams) f → KeepsRule k w
@@ -119,10 +120,13 @@ module _ {T : Type 0} where
             (subst (λ (q : SenderRecord T). (0 < n → SeesRoom k q n) → Happens k (SenderLooksAtHalt n) w (world_of w.words (halt_looked q n found) w.receivers w.halter)) e
             (λ room. (room, refl)) seen);
         hand_after = taken_by_claim r n found ++ me.1;
-        moves = subst (λ (q : SenderRecord T). laid u.sender ≡ laid q → claimed u.sender ≡ claimed q + (if found == 0 then n else 0) → MovesTo k u me.1 homes (taken_by_claim (record q { plan = r.plan }) n found ++ me.1)) e
-            (λ same_laid same_claims. claim_moves k r.plan w u n found me.1 homes plan refl theirs K lies refl same_laid same_claims) refl (omega arith);
-        tells = (refl, subst (λ (q : SenderRecord T). FindsHalt q found) e
-            (last_look_le k w.words 0 w.sender.looks halt_word (omega arith) K.looks, K.flags.halt, K.flags.by_sender));
+        moves = subst (λ (q : SenderRecord T). laid u.sender ≡ laid q → claimed u.sender ≡ claimed q + (if found == 0 then n else 0) → MovesTo k u me.1 homes (taken_by_claim q n found ++ me.1)) e
+            (λ same_laid same_claims. claim_moves k w.sender.plan w u n found me.1 homes K.sender_plan refl theirs K lies refl same_laid same_claims) refl (omega arith);
+        tells = (
+          refl,
+          subst (λ (q : SenderRecord T). FindsHalt q found) e
+              (last_look_le k w.words 0 w.sender.looks halt_word (omega arith) K.looks, K.flags.halt, K.flags.by_sender),
+        );
       })))
 
   pub sender_publishes : (k : Shape) {slots : ℕ} (id : ℕ) (me : Sitting T) (n : ℕ) (lents : List (Lent T)) (rest : Hand T) → IsSender (end_of me)
@@ -142,9 +146,9 @@ module _ {T : Type 0} where
             (subst (λ (q : SenderRecord T). length lents ≤ q.pending → Happens k event_step w (world_of (set w.words cursor_word (length q.published + length lents)) (published_more q lents) w.receivers w.halter)) e
             (λ within. (lents, refl, some_one, within, refl)) within);
         hand_after = rest;
-        moves = subst (λ (q : SenderRecord T). length lents ≤ q.pending → laid u.sender ≡ laid q ++ lents → claimed u.sender ≡ claimed q → MovesTo k u (given_by_publication (record q { plan = r.plan }) lents ++ rest) homes rest) e
-            (λ within same_laid same_claims. publication_moves k r.plan w u lents rest homes (sender_plan k w r e K) within K lies refl same_laid same_claims)
-            within (sym (append_assoc r.initial r.published lents)) (let a = length-append r.published lents in omega arith);
+        moves = subst (λ (q : SenderRecord T). length lents ≤ q.pending → laid u.sender ≡ laid q ++ lent_all lents → claimed u.sender ≡ claimed q → MovesTo k u (given_by_publication q lents ++ rest) homes rest) e
+            (λ within same_laid same_claims. publication_moves k w.sender.plan w u lents rest homes K.sender_plan within K lies refl same_laid same_claims)
+            within (ap (λ (xs : List (Option (Lent T))). replicate r.plan.size None ++ xs) (map-append (λ (l : Lent T). Some l) r.published lents) ∙ sym (append_assoc (replicate r.plan.size None) (lent_all r.published) (lent_all lents))) (let a = length-append r.published lents in omega arith);
         tells = ap (λ (c : Hand T). as_sender (published_more r lents) c) (sym (drop-append_seam given rest));
       })))
 
@@ -176,7 +180,7 @@ module _ {T : Type 0} where
       }))
 
   -- a receiver that neither takes nor completes: what lies at home stays
-  lies_for : (k : Shape) (w : World T) (h : ℕ) (r q : ReceiverRecord T) (homes : List (Option (Token T))) → get_elem? w.receivers h ≡ some r
+  lies_for : (k : Shape) (w : World T) (h : ℕ) (r q : ReceiverRecord T) (homes : List (maybe.Option (Token T))) → get_elem? w.receivers h ≡ some r
       → q.completed ≡ r.completed → length q.received ≡ length r.received → Lies k w homes → LiesBy k (set w.receivers h q) (laid w.sender) (claimed w.sender) homes
   lies_for k w h r q homes at completed received lies = record {
     deep = lies.deep;
@@ -204,7 +208,7 @@ module _ {T : Type 0} where
       }))
 
   -- what a receiver makes of a look at which it takes events
-  receiver_acts : (k : Shape) (w : World T) (i room : ℕ) (s : Step T) (r q : ReceiverRecord T) (hand : Hand T) (homes : List (Option (Token T))) (told : End T → Type 0)
+  receiver_acts : (k : Shape) (w : World T) (i room : ℕ) (s : Step T) (r q : ReceiverRecord T) (hand : Hand T) (homes : List (maybe.Option (Token T))) (told : End T → Type 0)
       → i < words_of k → get_elem? w.receivers r.number ≡ some r → KeepsRule k w → Lies k w homes
       → (let n = get_or w.words i 0 in let more = next_of w r (taken_at r i n room) in
       q ≡ record r { received = r.received ++ more; told = q.told; looks = q.looks } → Happens k s w (world_of w.words w.sender (set w.receivers r.number q) w.halter)

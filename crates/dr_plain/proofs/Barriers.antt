@@ -1,10 +1,8 @@
 -- How far a barrier lets events through, and which events a receiver takes.
-use Rattle.std.proofs.Common.{◌≡◌, ℕ, zero, suc, ◌+◌, ◌-◌, ◌<◌, ◌≤◌, min, List, [], ◌∷◌, ◌++◌, map, length, get_or, take, drop, sym, refl, ap, ◌∙◌, subst, arith}
+use Rattle.std.proofs.Common.{◌≡◌, ℕ, zero, suc, ◌+◌, ◌<◌, ◌≤◌, List, [], ◌∷◌, ◌++◌, map, length, get_or, take, drop, sym, refl, ap, ◌∙◌, subst, arith}
 use Rattle.std.specs.Prelude.{Contains}
 use Rattle.std.proofs.Math.Seq.{take-add}
 use Rattle.std.proofs.lemmas.List.{length-take, length-drop}
-use mathlib.Core.Option.{some}
-use lib.ListN.{get_elem?}
 use Rattle.dr_graph.specs.Meaning.Graph.{upstreams_of, least_of}
 use Rattle.dr_plain.specs.Meaning.Shape.{Shape, handlers_of}
 use Rattle.dr_plain.specs.Meaning.Words.{cursor_word, count_word}
@@ -12,9 +10,9 @@ use Rattle.dr_plain.specs.declared.record.Look.{Look}
 use Rattle.dr_plain.specs.declared.record.Lent.{Lent}
 use Rattle.dr_plain.specs.declared.record.ReceiverRecord.{ReceiverRecord}
 use Rattle.dr_plain.specs.Meaning.Records.{look, last_look, offered_by, barrier_seen, taken_at}
-use Rattle.dr_plain.specs.Meaning.Rule.{World, ArePast, ReceiverKept, KeepsRule}
+use Rattle.dr_plain.specs.Meaning.Rule.{World, ArePast, KeepsRule}
 use Rattle.dr_plain.specs.Meaning.Steps.{next_of}
-use Rattle.dr_plain.proofs.Lists.{at_below, last_look_le}
+use Rattle.dr_plain.proofs.Lists.{last_look_le}
 use Rattle.dr_plain.proofs.Keeps.{word_at, receiver_of_handler, upstream_inside}
 
 offered_at : (cursor : ℕ) (f : ℕ → ℕ) (us : List ℕ) (u i : ℕ) → i < length us → get_or us i u ≡ u → offered_by cursor (map f us) ≤ f u
@@ -62,4 +60,4 @@ module _ {T : Type 0} where
       → length r.received + taken_at r i v room ≤ barrier_seen k h (r.looks ++ look i v ∷ [])
   takes_below k r h i v room plan number some_one =
       let seen : barrier_seen r.plan r.number (r.looks ++ look i v ∷ []) ≡ barrier_seen k h (r.looks ++ look i v ∷ []) =
-          λ j. barrier_seen (plan j) (number j) (r.looks ++ look i v ∷ []) in omega arith
+      λ j. barrier_seen (plan j) (number j) (r.looks ++ look i v ∷ []) in omega arith

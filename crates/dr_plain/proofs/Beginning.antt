@@ -11,7 +11,6 @@ use Rattle.dr_core.specs.Meaning.Machine as machine
 use Rattle.dr_core.specs.Meaning.Transcript.{Transcript}
 use Rattle.dr_plain.specs.Meaning.Shape.{Shape, handlers_of, ring_setup}
 use Rattle.dr_plain.specs.Meaning.Words.{cursor_word, closed_word, halt_word, count_word, words_of}
-use Rattle.dr_plain.specs.declared.record.Lent.{Lent}
 use Rattle.dr_plain.specs.declared.record.ReceiverRecord.{ReceiverRecord}
 use Rattle.dr_plain.specs.declared.record.Step.{Step}
 use Rattle.dr_plain.specs.declared.record.Step.TheVariants.{SenderLooksAtCount, SenderLooksAtHalt, SenderPublishes, SenderHalts, SenderCloses}
@@ -52,42 +51,42 @@ module _ {T : Type 0} where
   fresh_at k h (suc n) zero r e = sym (some-injective _ r e) ∙ (let z : h ≡ h + 0 = omega arith in ap (λ (g : ℕ). fresh_receiver k g) z)
   fresh_at k h (suc n) (suc i) r e = fresh_at k (suc h) n i r e ∙ (let s : suc h + i ≡ h + suc i = omega arith in ap (λ (g : ℕ). fresh_receiver k g) s)
 
-  pub kept_opening : (k : Shape) (initial : List (Lent T)) → IsGraph k.upstreams → 0 < k.size → length initial ≡ k.size → KeepsRule k (new_world k initial)
-  kept_opening k initial graph some_slot cells = let n = words_of k in let ws = zeros n in let halt = all_zero n halt_word in let close = all_zero n closed_word in record {
-    graph = graph;
-    some_slot = some_slot;
-    wide = (let z : ℕ = 0 in length-replicate n z);
-    cells = cells;
-    ends = fresh_count T k 0 (handlers_of k);
-    sender_plan = refl;
-    halter_plan = refl;
-    counts = record { cursor = all_zero n cursor_word; limit = omega arith };
-    received = λ h r at. (let e : r ≡ fresh_receiver k h = fresh_at k 0 (handlers_of k) h r at ∙ (let z : 0 + h ≡ h = omega arith in ap (λ (g : ℕ). fresh_receiver k g) z) in
-        subst (λ (q : ReceiverRecord T). ReceiverKept k ws [] h q) (sym e)
-        (record {
-          plan = refl;
-          number = refl;
-          count = all_zero n (count_word h);
-          completed = omega arith;
-          taken = omega arith;
-          after = λ u up. omega arith;
-          beginning = refl;
-          told = λ y. absurd (cc);
-          looks = λ i x there. absurd (some-ne-none x (sym there));
-        }));
-    room = λ f final. omega arith;
-    flags = record { halt = omega arith; close = omega arith; by_sender = λ y. absurd (cc); by_halter = λ y. absurd (cc); closed = λ y. absurd (cc); known_halt = λ y. absurd (omega arith); known_close = λ y. absurd (omega arith); complete = λ y. absurd (omega arith) };
-    looks = λ i x there. absurd (some-ne-none x (sym there));
-  }
+pub kept_opening : (T : Type 0) (k : Shape) → IsGraph k.upstreams → 0 < k.size → KeepsRule {T = T} k (new_world k)
+kept_opening T k graph some_slot = let n = words_of k in let ws = zeros n in let halt = all_zero n halt_word in let close = all_zero n closed_word in record {
+  graph = graph;
+  some_slot = some_slot;
+  wide = (let z : ℕ = 0 in length-replicate n z);
+  ends = fresh_count T k 0 (handlers_of k);
+  sender_plan = refl;
+  halter_plan = refl;
+  counts = record { cursor = all_zero n cursor_word; limit = omega arith };
+  received = λ h r at. (let e : r ≡ fresh_receiver k h = fresh_at k 0 (handlers_of k) h r at ∙ (let z : 0 + h ≡ h = omega arith in ap (λ (g : ℕ). fresh_receiver k g) z) in
+      subst (λ (q : ReceiverRecord T). ReceiverKept k ws [] h q) (sym e)
+      (record {
+        plan = refl;
+        number = refl;
+        count = all_zero n (count_word h);
+        completed = omega arith;
+        taken = omega arith;
+        after = λ u up. omega arith;
+        beginning = refl;
+        told = λ y. absurd (cc);
+        looks = λ i x there. absurd (some-ne-none x (sym there));
+      }));
+  room = λ f final. omega arith;
+  flags = record { halt = omega arith; close = omega arith; by_sender = λ y. absurd (cc); by_halter = λ y. absurd (cc); closed = λ y. absurd (cc); known_halt = λ y. absurd (omega arith); known_close = λ y. absurd (omega arith); complete = λ y. absurd (omega arith) };
+  looks = λ i x there. absurd (some-ne-none x (sym there));
+}
 
-  pub opens : (k : Shape) (initial : List (Lent T)) → picture_of k (new_world k initial) ≡ machine.opening (ring_setup k)
-  opens k initial = let n = words_of k in λ i. record (machine.opening (ring_setup k)) {
-    published = λ s. (ap (nat_lt s) (all_zero n cursor_word) ∙ le-ltb s 0 (omega arith)) i;
-    taken = none_taken T k 0 (handlers_of k) i;
-    completed = no_counts n 0 (handlers_of k) i;
-    halted = (ap (λ (x : ℕ). x == 1) (all_zero n halt_word)) i;
-  }
+pub opens : (T : Type 0) (k : Shape) → picture_of {T = T} k (new_world k) ≡ machine.opening (ring_setup k)
+opens T k = let n = words_of k in λ i. record (machine.opening (ring_setup k)) {
+  published = λ s. (ap (nat_lt s) (all_zero n cursor_word) ∙ le-ltb s 0 (omega arith)) i;
+  taken = none_taken T k 0 (handlers_of k) i;
+  completed = no_counts n 0 (handlers_of k) i;
+  halted = (ap (λ (x : ℕ). x == 1) (all_zero n halt_word)) i;
+}
 
+module _ {T : Type 0} where
   pub keeps_step : (k : Shape) (s : Step T) (w u : World T) → Happens k s w u → KeepsRule k w → KeepsRule k u
   keeps_step k (SenderLooksAtCount f) w u H K = let i = final_inside k.upstreams f H.0 in
       subst (KeepsRule k) (sym H.1) (keeps_sender_looks k w (count_word f) (omega arith) K)

@@ -1,6 +1,6 @@
 -- What the rule gives, and the sender's looks keep it.
 use Rattle.std.proofs.Common.{◌≡◌, ℕ, ◌+◌, ◌<◌, ◌≤◌, inl, inr, Bool, ◌==◌, if◌then◌else◌, List, [], ◌∷◌, ◌++◌, length, get_or}
-use Rattle.std.proofs.Common.{sym, refl, ap, ◌∙◌, subst, arith}
+use Rattle.std.proofs.Common.{sym, refl, ◌∙◌, subst, arith}
 use Rattle.std.specs.Prelude.{Contains}
 use Rattle.std.proofs.lemmas.Bool.{cases_eq, cases_lt, eq-eqb, ne_eqb}
 use Rattle.std.proofs.lemmas.List.{get_or_past}
@@ -8,10 +8,9 @@ use mathlib.Core.Option.{some}
 use lib.ListN.{get_elem?}
 use Rattle.dr_graph.specs.Meaning.Graph.{nobody, upstreams_of, IsOrderly, IsGated, IsGraph}
 use Rattle.dr_plain.specs.Meaning.Shape.{Shape, handlers_of}
-use Rattle.dr_plain.specs.Meaning.Words.{cursor_word, closed_word, halt_word, count_word, words_of}
+use Rattle.dr_plain.specs.Meaning.Words.{closed_word, halt_word, count_word, words_of}
 use Rattle.dr_plain.specs.declared.record.Look.{Look}
 use Rattle.dr_plain.specs.declared.record.Lent.{Lent}
-use Rattle.dr_plain.specs.declared.record.SenderRecord.{SenderRecord}
 use Rattle.dr_plain.specs.declared.record.ReceiverRecord.{ReceiverRecord}
 use Rattle.dr_plain.specs.Meaning.Records.{claimed, look, sender_looked, halt_looked, SeesRoom}
 use Rattle.dr_plain.specs.Meaning.Rule.{World, Room, HaltAndClose, ArePast, ReceiverKept, KeepsRule}
@@ -119,7 +118,6 @@ module _ {T : Type 0} where
     graph = K.graph;
     some_slot = K.some_slot;
     wide = K.wide;
-    cells = K.cells;
     ends = K.ends;
     sender_plan = K.sender_plan;
     halter_plan = K.halter_plan;
@@ -143,8 +141,8 @@ module _ {T : Type 0} where
       let past = past_more k w.words halt_word w.sender.looks (omega arith) K.looks in
       let P : ℕ → Type 0 = λ pending. KeepsRule k (sender_knows w (record w.sender { pending = pending; looks = w.sender.looks ++ look halt_word found ∷ [] })) in
       let nothing : (found ≡ 0 → n ≡ 0) → P (old + (if found == 0 then n else 0)) = λ none.
-          (let z = claims_none found n none in let e : old ≡ old + (if found == 0 then n else 0) = omega arith in
-          subst P e (sender_learns k w old (w.sender.looks ++ look halt_word found ∷ []) K.counts.limit K.room F past K)) in
+      (let z = claims_none found n none in let e : old ≡ old + (if found == 0 then n else 0) = omega arith in
+      subst P e (sender_learns k w old (w.sender.looks ++ look halt_word found ∷ []) K.counts.limit K.room F past K)) in
       elim (cases_eq found 0) [
         | inr over ↦ nothing (λ e. absurd (over e))
         | inl going ↦ elim (cases_lt 0 n) [

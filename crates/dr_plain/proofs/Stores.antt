@@ -3,19 +3,17 @@ use Rattle.std.proofs.Common.{◌⊎◌, ◌≡◌, ◌≢◌, ℕ, ◌+◌, ◌
 use Rattle.std.proofs.Common.{take, sym, refl, ap, ◌∙◌, subst, arith, length-set, get_or-set_same, get_or-set_other}
 use Rattle.std.specs.Prelude.{Contains}
 use Rattle.std.proofs.lemmas.Bool.{cases_eq, cases_lt, or_cases, and_parts, eqb-true}
-use Rattle.std.proofs.lemmas.List.{length-append, append-nil, take-append-le}
+use Rattle.std.proofs.lemmas.List.{length-append, take-append-le}
 use mathlib.Core.Option.{some}
 use lib.ListN.{get_elem?}
 use Rattle.dr_graph.specs.Meaning.Graph.{upstreams_of}
 use Rattle.dr_plain.specs.Meaning.Shape.{Shape, handlers_of}
 use Rattle.dr_plain.specs.Meaning.Words.{cursor_word, closed_word, halt_word, count_word, words_of}
-use Rattle.dr_plain.specs.declared.record.Look.{Look}
 use Rattle.dr_plain.specs.declared.record.Lent.{Lent}
-use Rattle.dr_plain.specs.declared.record.SenderRecord.{SenderRecord}
 use Rattle.dr_plain.specs.declared.record.ReceiverRecord.{ReceiverRecord}
-use Rattle.dr_plain.specs.Meaning.Records.{claimed, look, last_look, barrier_seen, taken_at, published_more, sender_halted, sender_closed, closed_looked}
+use Rattle.dr_plain.specs.Meaning.Records.{claimed, look, last_look, taken_at, published_more, sender_halted, sender_closed, closed_looked}
 use Rattle.dr_plain.specs.Meaning.Records.{receiver_looked, tells_drained, cursor_looked, completed_to, halter_halted}
-use Rattle.dr_plain.specs.Meaning.Rule.{World, Room, HaltAndClose, ArePast, ReceiverKept, KeepsRule}
+use Rattle.dr_plain.specs.Meaning.Rule.{World, Room, HaltAndClose, ReceiverKept, KeepsRule}
 use Rattle.dr_plain.specs.Meaning.Steps.{sender_stores, receiver_knows, receiver_stores, next_of}
 use Rattle.dr_plain.proofs.Lists.{at_below, each_set, past_set, past_more, last_look_le}
 use Rattle.dr_plain.proofs.Keeps.{word_at, upstream_inside, room_stays, flags_stay, receiver_stays}
@@ -37,7 +35,6 @@ module _ {T : Type 0} where
         graph = K.graph;
         some_slot = K.some_slot;
         wide = length-set w.words cursor_word n ∙ K.wide;
-        cells = K.cells;
         ends = K.ends;
         sender_plan = K.sender_plan;
         halter_plan = K.halter_plan;
@@ -80,7 +77,6 @@ module _ {T : Type 0} where
         graph = K.graph;
         some_slot = K.some_slot;
         wide = length-set w.words i 1 ∙ K.wide;
-        cells = K.cells;
         ends = K.ends;
         sender_plan = K.sender_plan;
         halter_plan = K.halter_plan;
@@ -130,7 +126,6 @@ module _ {T : Type 0} where
     graph = K.graph;
     some_slot = K.some_slot;
     wide = K.wide;
-    cells = K.cells;
     ends = length-set w.receivers h q ∙ K.ends;
     sender_plan = K.sender_plan;
     halter_plan = K.halter_plan;
@@ -236,7 +231,6 @@ module _ {T : Type 0} where
         graph = K.graph;
         some_slot = K.some_slot;
         wide = length-set w.words i n ∙ K.wide;
-        cells = K.cells;
         ends = length-set w.receivers h (completed_to r n) ∙ K.ends;
         sender_plan = K.sender_plan;
         halter_plan = K.halter_plan;

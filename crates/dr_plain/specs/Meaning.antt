@@ -7,4 +7,3 @@ pub mod Lying
 pub mod Steps
 pub mod Stores
 pub mod Moments
-

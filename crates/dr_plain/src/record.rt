@@ -15,12 +15,10 @@ pub struct Lent<T> {
     pub event: T,
 }
 
-/// What the sender knows: what lay in the cells at the start and which events it published, each as
-/// it was lent, how many sequences it claimed past them, whether it halted or closed the ring, and
+/// What the sender knows: which events it published, each as it was lent, how many sequences it claimed past them, whether it halted or closed the ring, and
 /// what it saw.
 pub struct SenderRecord<T> {
     pub plan: Plan<T>,
-    pub initial: LinkedList<Lent<T>>,
     pub published: LinkedList<Lent<T>>,
     pub pending: u64,
     pub halted: bool,
@@ -55,20 +53,38 @@ pub enum EndRecord<T> {
 /// A step of a ring: one load or one store of one word, with what no record tells of it.
 pub enum Step<T> {
     /// The sender looks at the count of a final handler.
-    SenderLooksAtCount { handler: u64 },
+    SenderLooksAtCount {
+        handler: u64,
+    },
     /// The sender looks at halt and, where it finds 0, claims so many sequences more.
-    SenderLooksAtHalt { more: u64 },
+    SenderLooksAtHalt {
+        more: u64,
+    },
     /// The sender stores the cursor, and so publishes these events.
-    SenderPublishes { events: LinkedList<T> },
+    SenderPublishes {
+        events: LinkedList<T>,
+    },
     SenderHalts,
     SenderCloses,
-    ReceiverLooksAtClosed { handler: u64 },
+    ReceiverLooksAtClosed {
+        handler: u64,
+    },
     /// A receiver looks at the cursor and takes what its barrier then lets through, at most so many.
-    ReceiverLooksAtCursor { handler: u64, room: u64 },
+    ReceiverLooksAtCursor {
+        handler: u64,
+        room: u64,
+    },
     /// A receiver looks at an upstream's count, and takes as at the cursor.
-    ReceiverLooksAtCount { handler: u64, upstream: u64, room: u64 },
+    ReceiverLooksAtCount {
+        handler: u64,
+        upstream: u64,
+        room: u64,
+    },
     /// A receiver stores its count.
-    ReceiverCompletes { handler: u64, upto: u64 },
+    ReceiverCompletes {
+        handler: u64,
+        upto: u64,
+    },
     HalterHalts,
 }
 

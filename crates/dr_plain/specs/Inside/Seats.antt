@@ -1,5 +1,5 @@
 -- The seats that stand for the ends of a ring, the rule that its table keeps, and what each kind of step tells.
-use Rattle.std.specs.Prelude.{◌≡◌, ℕ, ◌-◌, ◌<◌, ◌==◌, if◌then◌else◌, List, [], ◌∷◌, ◌++◌, map, length, take, drop}
+use Rattle.std.specs.Prelude.{◌≡◌, ℕ, ◌-◌, ◌<◌, ◌==◌, if◌then◌else◌, List, [], ◌∷◌, ◌++◌, map, length, take, drop, Option, Some}
 use mathlib.Core.Option.{some}
 use denote.RawPtr.{null_ptr}
 use lib.ListN.{get_elem?}
@@ -19,10 +19,9 @@ use Rattle.dr_plain.specs.declared.record.HalterRecord.{HalterRecord}
 use Rattle.dr_plain.specs.declared.record.EndRecord.{EndRecord}
 use Rattle.dr_plain.specs.declared.record.EndRecord.TheVariants.{Receives, Sends, Halts}
 use Rattle.dr_plain.specs.declared.record.Step.{Step}
-use Rattle.dr_plain.specs.declared.record.Step.TheVariants.{SenderPublishes, SenderHalts, SenderCloses, ReceiverCompletes, HalterHalts}
 use Rattle.dr_plain.specs.Meaning.Shape.{Shape, handlers_of}
 use Rattle.dr_plain.specs.Meaning.Words.{words_of, slots_of}
-use Rattle.dr_plain.specs.Meaning.Records.{events_of, claimed, laid, sender_looked, halt_looked, published_more, sender_halted, sender_closed, closed_looked, receiver_looked, taken_at, cursor_looked, completed_to, halter_halted}
+use Rattle.dr_plain.specs.Meaning.Records.{claimed, laid, sender_looked, halt_looked, published_more, sender_halted, sender_closed, closed_looked, receiver_looked, taken_at, cursor_looked, completed_to, halter_halted}
 use Rattle.dr_plain.specs.Meaning.Rule.{World}
 use Rattle.dr_plain.specs.Meaning.Lying.{placed, Lies}
 use Rattle.dr_plain.specs.Meaning.Steps.{Happens}
@@ -43,14 +42,16 @@ Hand T = List (ℕ × Token T)
 abbrev pub Tells : Type 0 → Type 1
 Tells T = TableStep (Token T) → End T → ℕ → End T → Type 0
 
+-- a graph of handlers, and some slots
+abbrev pub IsMade : Shape → Type 0
+IsMade k = IsGraph k.upstreams × (0 < k.size)
+
 abbrev pub no_shape : Shape
 no_shape = record { upstreams = []; size = 0; limit = 0; strip = null_ptr }
 
 -- a seat at a table with the words and the slots of a ring
-pub record IsAtTable (seat table : TableId) (k : Shape) : Type 0 where
-  pub same : seat ≡ table
-  pub words : table.words ≡ words_of k
-  pub slots : table.slots ≡ slots_of k
+abbrev pub IsAtTable : TableId → TableId → Shape → Type 0
+IsAtTable own at k = (own ≡ at) × (at.words ≡ words_of k) × (at.slots ≡ slots_of k)
 
 module _ {T : Type 0} where
   abbrev pub end_number : EndRecord T → ℕ
@@ -75,18 +76,12 @@ module _ {T : Type 0} where
   abbrev pub world_of : List ℕ → SenderRecord T → List (ReceiverRecord T) → HalterRecord T → World T
   world_of words sender receivers halter = record { words = words; sender = sender; receivers = receivers; halter = halter }
 
-  -- a graph of handlers, some slots, and something in each cell
-  pub record IsMade (k : Shape) (initial : List (Lent T)) : Type 0 where
-    pub graph : IsGraph k.upstreams
-    pub some_slot : 0 < k.size
-    pub cells : length initial ≡ k.size
-
   -- a ring by its steps
-  abbrev pub exchange : Shape → List (Lent T) → Exchange T (Token T) (EndRecord T) (Step T) (World T)
-  exchange k initial = record {
+  abbrev pub exchange : Shape → Exchange T (Token T) (EndRecord T) (Step T) (World T)
+  exchange k = record {
     ends = ring_ends;
-    IsMade = IsMade k initial;
-    opening = new_world k initial;
+    IsMade = IsMade k;
+    opening = new_world k;
     words_of = λ w. w.words;
     Lies = Lies k;
     Stands = Stands;
@@ -94,9 +89,20 @@ module _ {T : Type 0} where
     entries_of = entries_of k;
   }
 
-  -- the rule of a ring as its table's: something lay in its cells at the start
+  -- the rule of a ring as its table's
   abbrev pub Ruled : Shape → State (Token T) (View (EndRecord T) (Step T)) → Type 0
-  Ruled k s = (initial : List (Lent T)) × seats.Ruled (exchange k initial) s
+  Ruled k s = seats.Ruled (exchange k) s
+
+  -- the ends of a new ring: the sender, the halter, and the receivers
+  abbrev pub known_receivers : Shape → ℕ → ℕ → List (EndRecord T)
+  known_receivers k h n = map (λ r. Receives r) (fresh_receivers k h n)
+
+  abbrev pub fresh_ends : Shape → List (EndRecord T)
+  fresh_ends k = Sends (fresh_sender k) ∷ Halts (fresh_halter k) ∷ known_receivers k 0 (handlers_of k)
+
+  -- the view that has them all
+  abbrev pub all_ends : Shape → View (EndRecord T) (Step T)
+  all_ends k = fresh_view (fresh_ends k)
 
   -- a seat that stands for one end alone, with the slots that it has in hand
   abbrev pub as_sender : SenderRecord T → Hand T → End T
@@ -111,7 +117,7 @@ module _ {T : Type 0} where
   -- the first record of a view
   abbrev pub sender_of : List (EndRecord T) → SenderRecord T
   sender_of (Sends r ∷ es) = r
-  sender_of _ = fresh_sender no_shape []
+  sender_of _ = fresh_sender no_shape
 
   abbrev pub receiver_of : List (EndRecord T) → ReceiverRecord T
   receiver_of (Receives r ∷ es) = r
@@ -137,6 +143,10 @@ module _ {T : Type 0} where
   abbrev pub Stores : (End T → ℕ → Step T) → Tells T → TableStep (Token T) → Sitting T → ℕ → Sitting T → Type 0
   Stores step tells s me n me' = seats.Stores ring_ends (λ s. step) tells s me n me'
 
+  -- something is lent for each
+  abbrev pub lent_all : List (Lent T) → List (Option (Lent T))
+  lent_all lents = map (λ (l : Lent T). Some l) lents
+
   -- the parts that a claim of n takes, where it finds this at halt: of what lay in their cells, one for each handler
   abbrev pub taken_by_claim : SenderRecord T → ℕ → ℕ → Hand T
   taken_by_claim r n found =
@@ -144,14 +154,14 @@ module _ {T : Type 0} where
 
   -- the parts that a publication gives
   abbrev pub given_by_publication : SenderRecord T → List (Lent T) → Hand T
-  given_by_publication r lents = rows (placed r.plan) (handlers_of r.plan) (length r.published) lents
+  given_by_publication r lents = rows (placed r.plan) (handlers_of r.plan) (length r.published) (lent_all lents)
 
   -- the parts that a receiver takes with these events, and those that it gives once it completes all below n
   abbrev pub taken_by_poll : ReceiverRecord T → List (Lent T) → Hand T
-  taken_by_poll r lents = stretch (placed r.plan r.number) (length r.received) lents
+  taken_by_poll r lents = stretch (placed r.plan r.number) (length r.received) (lent_all lents)
 
   abbrev pub given_by_completion : ReceiverRecord T → ℕ → Hand T
-  given_by_completion r n = stretch (placed r.plan r.number) r.completed (take (n - r.completed) (drop r.completed r.received))
+  given_by_completion r n = stretch (placed r.plan r.number) r.completed (lent_all (take (n - r.completed) (drop r.completed r.received)))
 
   -- What each kind of step tells: of the seat before and the word found or stored, the seat after.
   abbrev pub SenderLookedAtCount : Tells T

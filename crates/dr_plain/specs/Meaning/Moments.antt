@@ -11,7 +11,6 @@ use Rattle.dr_core.specs.Meaning.Transcript.{Transcript}
 use Rattle.dr_runs.specs.Runs as runs
 use Rattle.dr_plain.specs.Meaning.Shape.{Shape, handlers_of, ring_setup}
 use Rattle.dr_plain.specs.Meaning.Words.{cursor_word, halt_word, count_word, words_of}
-use Rattle.dr_plain.specs.declared.record.Lent.{Lent}
 use Rattle.dr_plain.specs.declared.record.SenderRecord.{SenderRecord}
 use Rattle.dr_plain.specs.declared.record.ReceiverRecord.{ReceiverRecord}
 use Rattle.dr_plain.specs.declared.record.HalterRecord.{HalterRecord}
@@ -22,9 +21,9 @@ use Rattle.dr_plain.specs.declared.record.Step.TheVariants.{SenderLooksAtCount, 
 use Rattle.dr_plain.specs.Meaning.Steps.{Happens, next_of}
 
 module _ {T : Type 0} where
-  -- the ends of a new ring, in whose cells these lie
-  abbrev pub fresh_sender : Shape → List (Lent T) → SenderRecord T
-  fresh_sender k initial = record { plan = k; initial = initial; published = []; pending = 0; halted = false; closed = false; looks = [] }
+  -- the ends of a new ring
+  abbrev pub fresh_sender : Shape → SenderRecord T
+  fresh_sender k = record { plan = k; published = []; pending = 0; halted = false; closed = false; looks = [] }
 
   abbrev pub fresh_receiver : Shape → ℕ → ReceiverRecord T
   fresh_receiver k h = record { plan = k; number = h; received = []; completed = 0; told = false; looks = [] }
@@ -38,9 +37,9 @@ module _ {T : Type 0} where
   fresh_halter k = record { plan = k; halted = false }
 
   -- a new ring: each word is 0
-  abbrev pub new_world : Shape → List (Lent T) → World T
-  new_world k initial =
-      record { words = replicate (words_of k) 0; sender = fresh_sender k initial; receivers = fresh_receivers k 0 (handlers_of k); halter = fresh_halter k }
+  abbrev pub new_world : Shape → World T
+  new_world k =
+      record { words = replicate (words_of k) 0; sender = fresh_sender k; receivers = fresh_receivers k 0 (handlers_of k); halter = fresh_halter k }
 
   abbrev pub taken_of : ReceiverRecord T → ℕ
   taken_of r = length r.received

@@ -1,5 +1,5 @@
 -- What each kind of step makes of the record of its end.
-use Rattle.std.specs.Prelude.{◌≡◌, ℕ, ◌+◌, ◌-◌, ◌<◌, ◌≤◌, ◌==◌, ◌&&◌, ◌||◌, if◌then◌else◌, Bool, true, min, List, [], ◌∷◌, ◌++◌, map, take, drop, length, Contains}
+use Rattle.std.specs.Prelude.{ℕ, ◌+◌, ◌-◌, ◌≤◌, ◌==◌, ◌&&◌, ◌||◌, if◌then◌else◌, Bool, true, min, List, [], ◌∷◌, ◌++◌, map, replicate, length, Option, Some, None, Contains}
 use Rattle.dr_graph.specs.Meaning.Graph.{upstreams_of, finals, least_of}
 use Rattle.dr_plain.specs.Meaning.Shape.{Shape}
 use Rattle.dr_plain.specs.Meaning.Words.{cursor_word, closed_word, halt_word, count_word}
@@ -35,9 +35,9 @@ module _ {T : Type 0} where
   abbrev pub claimed : SenderRecord T → ℕ
   claimed r = length r.published + r.pending
 
-  -- What was lent, in order: before the first event of a cell, what lay there at the start. So what a claimed sequence takes the cell of is laid at its number, and its own event a round later.
-  abbrev pub laid : SenderRecord T → List (Lent T)
-  laid r = r.initial ++ r.published
+  -- What was lent, in order, after a round of nothing: what lies in the cell that a sequence claims stands at its number, and its own event a round later.
+  abbrev pub laid : SenderRecord T → List (Option (Lent T))
+  laid r = replicate r.plan.size None ++ map (λ (l : Lent T). Some l) r.published
 
   -- the sender has looked at a word
   abbrev pub sender_looked : SenderRecord T → ℕ → ℕ → SenderRecord T

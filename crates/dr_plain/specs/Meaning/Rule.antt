@@ -65,7 +65,6 @@ pub record KeepsRule {T : Type 0} (k : Shape) (w : World T) : Type 0 where
   pub graph : IsGraph k.upstreams
   pub some_slot : 0 < k.size
   pub wide : length w.words ≡ words_of k
-  pub cells : length w.sender.initial ≡ k.size
   pub ends : length w.receivers ≡ handlers_of k
   pub sender_plan : w.sender.plan ≡ k
   pub halter_plan : w.halter.plan ≡ k

@@ -10,7 +10,7 @@ use Rattle.dr_plain.specs.declared.record.Step.TheVariants.{SenderLooksAtCount, 
 use Rattle.dr_plain.specs.declared.record.Lent.{Lent}
 use Rattle.dr_plain.specs.declared.record.SenderRecord.{SenderRecord}
 use Rattle.dr_plain.specs.declared.record.ReceiverRecord.{ReceiverRecord}
-use Rattle.dr_plain.specs.Meaning.Records.{events_of, claimed, sender_looked, halt_looked, published_more, sender_halted, sender_closed, closed_looked, receiver_looked, taken_at, cursor_looked, completed_to, halter_halted, SeesRoom}
+use Rattle.dr_plain.specs.Meaning.Records.{events_of, sender_looked, halt_looked, published_more, sender_halted, sender_closed, closed_looked, receiver_looked, taken_at, cursor_looked, completed_to, halter_halted, SeesRoom}
 use Rattle.dr_plain.specs.Meaning.Rule.{World}
 
 module _ {T : Type 0} where
