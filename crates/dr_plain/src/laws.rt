@@ -7,6 +7,7 @@
 
 mod halter;
 mod plays;
+mod receiver;
 mod sender;
 
 ghost use Rattle.std.specs.Prelude.{List, ℕ};
@@ -17,6 +18,7 @@ use crate::record::View;
 use atomic_table::{Seat, Shared, Table, TableRule};
 use dr_cells::Token;
 pub use halter::Halter;
+pub use receiver::ReceiverStation;
 pub use sender::SenderStation;
 use std::alloc::Global;
 use std::marker::Brand;
