@@ -8,3 +8,10 @@ pub mod Beginning
 pub mod Seats
 pub mod Parts
 pub mod Allowed
+pub mod Machine
+pub mod Pictures
+pub mod Halting
+pub mod Rising
+pub mod Replies
+pub mod Later
+pub mod Writings
