@@ -4,3 +4,4 @@ pub mod Cuts
 pub mod Gathering
 pub mod Stretches
 pub mod Rows
+pub mod Exact
