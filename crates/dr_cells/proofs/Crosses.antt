@@ -1,6 +1,5 @@
--- A token may go to another thread where its cell's value may be owned there, and may be shared where the value may. Assumes nothing.
-use Rattle.std.specs.Prelude.{ℕ, [], ◌∷◌}
-use base.Fraction.{full_share}
+-- A token may go to another thread where its cell's value may be owned there, and may be shared where the value may. A row goes where the values go. Assumes nothing.
+use Rattle.std.specs.Prelude.{ℕ, ◌+◌, List, [], ◌∷◌}
 use base.Shift.{Keyless}
 use denote.RattleType.{RattleType}
 use denote.RawPtr.{Ptr}
@@ -10,7 +9,8 @@ use denote.Param.Send.{IsSend, IsSync, Common, AllSend, owning_send, struct_send
 use Rattle.core.specs.Ptr.{ptr_add}
 use Rattle.std_alloc.proofs.SendSync.{quiet, lies, seen}
 use Rattle.dr_cells.specs.Hold.{Hold, blank, whole, part, kept}
-use Rattle.dr_cells.specs.Owned.{hold_owns, hold_shares}
+use Rattle.dr_cells.specs.Owned.{hold_owns, hold_shares, row_owns}
+use Rattle.dr_cells.specs.contracts.row.Row as Row
 use Rattle.dr_cells.specs.contracts.token.Token as Token
 
 module _ (R : RattleType) where
@@ -34,3 +34,12 @@ module _ (R : RattleType) where
   pub Token-sync : IsSync R → IsSync (Token.the_row R)
   Token-sync y = let O = Token.the_type R in
       record { shared = λ d b o κ. ((struct_sync (shape O) (search sendable, tt)).shared (to O d) b o κ, hold-Common y d.cell (ptr_add R d.cell d.strip) d.hold κ) }
+
+  row-Keyless : IsSend R → (s : Ptr) (i : ℕ) (xs : List R.Denot) → Keyless (row_owns R s i xs)
+  row-Keyless g s i [] = tt
+  row-Keyless g s i (x ∷ xs) = ((tt, lies R g (ptr_add R i s) x), row-Keyless g s (i + 1) xs)
+
+  pub Row-send : IsSend R → IsSend (Row.the_row R)
+  Row-send g =
+      let O = Row.the_type R in let all : AllSend (fields O) = (search sendable, tt) in
+      owning_send O all (λ d. row-Keyless g d.strip d.from d.items) (λ k. quiet (to O) (exits_of k (fields O)) ((struct_send (shape O) all).leaving k))

@@ -4,10 +4,10 @@ use mathlib.Core.Path.{refl}
 use seplogic.Ra.Ura.{Ura}
 use base.Fraction.{full_share}
 use base.Logic.{ent, sep}
-use base.Fml.{Lft, Fml, Incl, ftrue, fsep, flent, flt}
+use base.Fml.{Lft, Incl, ftrue, fsep, flent, flt}
 use mathlib.Core.List.{[], ◌∷◌}
 use types.Logic.{Logic, sem}
-use types.Kit.{‵, ◌⊛◌, ◌$◌, ◌∵◌, !, qed, by, move, keep, use1, split, fsplit, done}
+use types.Kit.{‵, ◌$◌, ◌∵◌, !, qed, move, keep, use1, fsplit, done}
 use denote.RattleType.{RattleType, RowLaws}
 use denote.Param.Laws.{Laws}
 use denote.RawPtr.{Ptr, lies_at}
@@ -45,7 +45,8 @@ module _ (R : RattleType) (i : ℕ) (p : Ptr) where
           (Lends-lies 𝓛 R l p x (λ κ ts. Shares-less 𝓛 R R.lives l inc (L.shares 𝓛) x κ ts))
       Lends-hold (part r x) = Lends-both 𝓛 (fits R i) (part_owns R p x r 1) (said (fits R i)) (part_shares R p x r) l Fits (Part r 1 x)
       Lends-hold (kept r k x) =
-          let few = flt k (2 ^ 63) in let mine = part_owns R p x r (2 ^ 63 - k) in let rest = flent (r ∷ []) (lies_at R full_share p x) in let seen = part_shares R p x r in
+          let few = flt k (2 ^ 63) in let mine = part_owns R p x r (2 ^ 63 - k) in let rest = flent (r ∷ []) (lies_at R full_share p x) in
+          let seen = part_shares R p x r in
           Lends-both 𝓛 (fits R i) (fsep (fsep few mine) rest) (said (fits R i)) (beside (beside nothing seen) nothing) l Fits
           (Lends-both 𝓛 (fsep few mine) rest (beside nothing seen) nothing l (Lends-both 𝓛 few mine nothing seen l (Lends-nothing 𝓛 few l) (Part r (2 ^ 63 - k) x)) (Lends-nothing 𝓛 rest l))
 
@@ -54,8 +55,19 @@ module _ (R : RattleType) (i : ℕ) (p : Ptr) where
       sees r x = part_sees (lent_at R p x) (lent_at_shr_laws R L p x) 𝓛 r κ
 
       -- whatever a token holds that is not blank, a `&` to it is a `&` to the cell's value
-      pub shown : (h : Hold R.Denot) → IsHeld h → (x : R.Denot) × (held h ≡ Some x) × ent 𝓤 (sem 𝓛 (hold_shares R i p h κ)) (sep 𝓤 (sem 𝓛 (fits R i)) (sem 𝓛 (lent_at R p x κ)))
+      pub shown : (h : Hold R.Denot) → IsHeld h
+          → (x : R.Denot) × (held h ≡ Some x) × ent 𝓤 (sem 𝓛 (hold_shares R i p h κ)) (sep 𝓤 (sem 𝓛 (fits R i)) (sem 𝓛 (lent_at R p x κ)))
       shown blank void = absurd void
       shown (whole x) is = (x, refl, qed 𝓛 (‵ (hold_shares R i p (whole x) κ) ∷ []) ∵ fsplit ! $ done !)
-      shown (part r x) is = (x, refl, qed 𝓛 (‵ (hold_shares R i p (part r x) κ) ∷ []) ∵ fsplit ! $ move ! (1 ∷ []) $ use1 𝓛 (‵ (lent_at R p x κ)) (sees r x) $ move ! (1 ∷ []) $ done !)
-      shown (kept r k x) is = (x, refl, qed 𝓛 (‵ (hold_shares R i p (kept r k x) κ) ∷ []) ∵ fsplit ! $ move ! (1 ∷ []) $ fsplit ! $ fsplit ! $ move ! (1 ∷ []) $ use1 𝓛 (‵ (lent_at R p x κ)) (sees r x) $ keep ! (3 ∷ 0 ∷ []) $ done !)
+      shown (part r x) is = (
+        x,
+        refl,
+        qed 𝓛 (‵ (hold_shares R i p (part r x) κ) ∷ []) ∵ fsplit ! $ move ! (1 ∷ []) $
+            use1 𝓛 (‵ (lent_at R p x κ)) (sees r x) $ move ! (1 ∷ []) $ done !,
+      )
+      shown (kept r k x) is = (
+        x,
+        refl,
+        qed 𝓛 (‵ (hold_shares R i p (kept r k x) κ) ∷ []) ∵ fsplit ! $ move ! (1 ∷ []) $ fsplit ! $ fsplit ! $
+            move ! (1 ∷ []) $ use1 𝓛 (‵ (lent_at R p x κ)) (sees r x) $ keep ! (3 ∷ 0 ∷ []) $ done !,
+      )

@@ -4,9 +4,8 @@
 --     part r x        one part of the lending r: the cell holds x for as long as the part is out
 --     kept r k x      what the lender keeps of the lending r while k of its parts are out
 use Rattle.std.specs.Prelude.{◌≡◌, ℕ, ◌+◌, ◌-◌, ◌^◌, ◌<◌, ⊤, Option, Some, None, ◌⊎◌}
-use mathlib.Core.Path.{refl, ap}
+use mathlib.Core.Path.{refl}
 use mathlib.Core.Logic.{inl, inr}
-use Prim.Native.Nat.{zero, suc}
 use base.Stored.{coded_unit}
 use Rattle.std.specs.Coded.{Coded, code_by, coded×, coded⊎, coded_ℕ}
 
@@ -118,30 +117,3 @@ module _ {X : Type 0} where
   regained (whole x) = whole x
   regained (part r x) = part r x
   regained (kept r k x) = whole x
-
-  pub whole_of : (h : Hold X) → IsWhole h → (x : X) × (h ≡ whole x)
-  whole_of blank void = absurd void
-  whole_of (whole x) is = (x, refl)
-  whole_of (part r x) void = absurd void
-  whole_of (kept r k x) void = absurd void
-
-  pub back_of : (h : Hold X) → IsBack h → (r : ℕ) × (x : X) × (h ≡ kept r 0 x)
-  back_of blank void = absurd void
-  back_of (whole x) void = absurd void
-  back_of (part r x) void = absurd void
-  back_of (kept r k x) is = (r, x, ap (λ (n : ℕ). kept r n x) is)
-
-  pub kept_of : (h : Hold X) → CanSplit h → (r : ℕ) × (k : ℕ) × (x : X) × (h ≡ kept r k x) × (k + 1 < 2 ^ 63)
-  kept_of blank void = absurd void
-  kept_of (whole x) void = absurd void
-  kept_of (part r x) void = absurd void
-  kept_of (kept r k x) few = (r, k, x, refl, few)
-
-  pub pair_of : (h g : Hold X) → CanJoin h g → (r : ℕ) × (k : ℕ) × (x : X) × (y : X) × (h ≡ kept r k x) × (g ≡ part r y) × (0 < k)
-  pair_of blank g void = absurd void
-  pair_of (whole x) g void = absurd void
-  pair_of (part r x) g void = absurd void
-  pair_of (kept r k x) blank is = absurd is.0
-  pair_of (kept r k x) (whole y) is = absurd is.0
-  pair_of (kept r k x) (part s y) is = (r, k, x, y, refl, ap (λ (n : ℕ). part n y) is.0, is.1)
-  pair_of (kept r k x) (kept s j y) is = absurd is.0

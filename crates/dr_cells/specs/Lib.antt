@@ -1,4 +1,5 @@
 pub mod Hold
+pub mod Left
 pub mod Lends
 pub mod Owned
 pub mod Tokens

@@ -4,7 +4,14 @@
 #![tactic(auto)]
 
 pub mod cells;
+mod deed;
+pub mod row;
+pub mod strip;
 pub mod token;
+pub mod values;
 
 pub use cells::Cells;
+pub use row::Row;
+pub use strip::Strip;
 pub use token::Token;
+pub use values::Values;
