@@ -8,3 +8,6 @@ pub mod Beginning
 pub mod Seats
 pub mod Parts
 pub mod Allowed
+pub mod Making
+pub mod Opened
+pub mod Dealing
