@@ -11,3 +11,4 @@ pub mod Allowed
 pub mod Making
 pub mod Opened
 pub mod Dealing
+pub mod Trading

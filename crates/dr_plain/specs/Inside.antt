@@ -7,3 +7,4 @@ pub mod Fits
 pub mod Views
 pub mod Making
 pub mod Hands
+pub mod Trades
