@@ -12,3 +12,4 @@ pub mod Making
 pub mod Opened
 pub mod Dealing
 pub mod Trading
+pub mod Stations

@@ -6,3 +6,4 @@ pub mod Fault
 pub mod Making
 pub mod Settling
 pub mod Sending
+pub mod Receiving

@@ -1,0 +1,234 @@
+-- What a claim comes to.
+use Rattle.std.proofs.Common.{◌≡◌, ℕ, zero, suc, ◌+◌, ◌-◌, ◌^◌, ◌<◌, ◌≤◌, ◌==◌, ◌||◌, false, inl, inr, ◌⊎◌, if◌then◌else◌, List, []}
+use Rattle.std.proofs.Common.{◌∷◌, ◌++◌, length, replicate, Option, Some, None, sym, refl, ap, ◌∙◌, subst, arith, append_assoc}
+use Rattle.std.specs.Prelude.{nat_lt, Ok, Err}
+use Rattle.std.proofs.lemmas.Bool.{ne_eqb, le-ltb, ltb-false}
+use Rattle.std.proofs.lemmas.List.{length-append, length-replicate, append-nil}
+use Rattle.dr_seq.specs.Size.{IsSize}
+use Rattle.dr_seq.specs.declared.event.Event.{Event}
+use Rattle.dr_core.specs.declared.refusal.Refusal.TheVariants.{NoRoom, Halted}
+use Rattle.dr_core.specs.declared.command.Claimed.{Claimed}
+use Rattle.dr_core.specs.declared.refusal.Refusal.{Refusal}
+use Rattle.dr_core.specs.Meaning.Refusals.{claim_causes, IsFirst, NoneHolds}
+use Rattle.dr_core.specs.Calls.Ends.{Sent, MayHold, MayFail, claim_tests, with_claimed}
+use Rattle.dr_core.proofs.BadCounts.{bad_is_not_one, good_is_never_bad}
+use Rattle.dr_graph.specs.Meaning.Graph.{finals}
+use Rattle.dr_plain.specs.Meaning.Shape.{Shape}
+use Rattle.dr_plain.specs.Meaning.Words.{halt_word, count_word}
+use Rattle.dr_plain.specs.declared.record.Look.{Look}
+use Rattle.dr_plain.specs.declared.record.SenderRecord.{SenderRecord}
+use Rattle.dr_plain.specs.Meaning.Records.{claimed, look, last_look, halt_looked}
+use Rattle.dr_plain.specs.Calls.Ends.{count_looks}
+use Rattle.dr_plain.specs.Calls.Sending.{gate_looks, tests_of_claim, FoundRoom, TriesToClaim}
+use Rattle.dr_plain.specs.Inside.Scans.{sender_saw, more_claimed, LooksAtFinals, IsEnough, IsShort}
+use Rattle.dr_plain.specs.Inside.Fits.{IsSeenLeast, SenderFields, SenderFits}
+use Rattle.dr_plain.proofs.Lists.{last_look_else}
+use Rattle.dr_plain.proofs.Noting.{noted_claim}
+
+saw_both : (r : SenderRecord T) (xs ys : List Look) → sender_saw (sender_saw r xs) ys ≡ sender_saw r (xs ++ ys)
+saw_both r xs ys = ap (λ (zs : List Look). record r { looks = zs }) (append_assoc r.looks xs ys)
+
+no_more : (v n : ℕ) → (v ≡ 0 → n ≡ 0) → (let nothing : Option Event = None in (if v == 0 then replicate n nothing else []) ≡ [])
+no_more zero n none = ap (λ (m : ℕ). let xs : List (Option Event) = replicate m None in xs) (none refl)
+no_more (suc v) n none = rw (ne_eqb (suc v) 0 (λ (e : suc v ≡ 0). omega arith)) refl
+
+-- a look at halt that claims nothing
+halt_saw : (r : SenderRecord T) (n v : ℕ) → (v ≡ 0 → n ≡ 0) → halt_looked r n v ≡ sender_saw r (look halt_word v ∷ [])
+halt_saw r n v none = ap (λ (xs : List (Option Event)). record r { sent = record r.sent { pending = xs }; looks = r.looks ++ look halt_word v ∷ [] })
+    (ap (λ (ys : List (Option Event)). r.sent.pending ++ ys) (no_more v n none) ∙ append-nil r.sent.pending)
+
+-- looks after looks
+pub saw_then : (r s s' : SenderRecord T) (xs ys : List Look) → LooksAtFinals r xs s → LooksAtFinals s ys s' → LooksAtFinals r (xs ++ ys) s'
+saw_then r s s' xs ys A B = record {
+  is = B.is ∙ ap (λ (q : SenderRecord T). sender_saw q ys) A.is ∙ saw_both r xs ys;
+  rises = λ g. (let a = A.rises g in
+      let b : last_look 0 (r.looks ++ xs) (count_word g) ≤ last_look 0 ((r.looks ++ xs) ++ ys) (count_word g) = subst (λ (q : SenderRecord T). last_look 0 q.looks (count_word g) ≤ last_look 0 (q.looks ++ ys) (count_word g)) A.is (B.rises g) in
+      let e : last_look 0 ((r.looks ++ xs) ++ ys) (count_word g) ≡ last_look 0 (r.looks ++ (xs ++ ys)) (count_word g) = ap (λ (zs : List Look). last_look 0 zs (count_word g)) (append_assoc r.looks xs ys) in omega arith);
+}
+
+-- a look at halt, as a list of looks
+pub saw_halt : (r s : SenderRecord T) (n v : ℕ) → s ≡ halt_looked r n v → (v ≡ 0 → n ≡ 0) → LooksAtFinals r (look halt_word v ∷ []) s
+saw_halt r s n v is none = record {
+  is = is ∙ halt_saw r n v none;
+  rises = λ g. (let e : last_look 0 (r.looks ++ look halt_word v ∷ []) (count_word g) ≡ last_look 0 r.looks (count_word g) = last_look_else 0 r.looks halt_word (count_word g) v (λ (z : halt_word ≡ count_word g). omega arith) in omega arith);
+}
+
+-- a sender that has only looked
+pub fits_saw : {r s : SenderRecord T} {f : SenderFields} (xs : List Look) → SenderFits r f → LooksAtFinals r xs s → SenderFits s f
+fits_saw {f = f} xs F S = subst (λ (q : SenderRecord T). SenderFits q f) (sym S.is) (record {
+  made = F.made;
+  whole = F.whole;
+  next = F.next;
+  front = F.front;
+  limit = F.limit;
+  near = F.near;
+  least = F.least;
+  seen = λ h has. (let a = F.seen h has in let b = S.rises h in omega arith);
+  written = record { slots = F.written.slots; upto = F.written.upto; fresh = F.written.fresh; each = F.written.each };
+  places = F.places;
+})
+
+-- a sender that has looked at halt, and claimed nothing
+pub fits_halt : {r s : SenderRecord T} {f : SenderFields} (q v : ℕ) → SenderFits r f → s ≡ halt_looked r q v → (v ≡ 0 → q ≡ 0) → SenderFits s f
+fits_halt {r = r} {s = s} q v F is none = fits_saw (look halt_word v ∷ []) F (saw_halt r s q v is none)
+
+-- a sender that has found room, and remembers how many events every final completed
+pub fits_room : {r s : SenderRecord T} {f : SenderFields} {xs : List Look} {needed found : ℕ} (kept : ℕ) → SenderFits r f → LooksAtFinals r xs s
+    → IsEnough r xs needed found
+    → kept ≡ found → SenderFits s (record f { remembered = kept })
+fits_room {s = s} {xs = xs} {found = found} kept F S E raised = let seen = fits_saw xs F S in record {
+  made = seen.made;
+  whole = seen.whole;
+  next = seen.next;
+  front = seen.front;
+  limit = seen.limit;
+  near = seen.near;
+  least = let a = E.front in let b = F.front in omega arith;
+  seen = subst (λ (m : ℕ). IsSeenLeast s m) (sym raised) (subst (λ (q : SenderRecord T). IsSeenLeast q found) (sym S.is) E.seen);
+  written = seen.written;
+  places = seen.places;
+}
+
+-- the look at halt that claims
+pub fits_claim : {r s : SenderRecord T} {f : SenderFields} (q needed : ℕ) → SenderFits r f → s ≡ halt_looked r q 0 → f.claimed + q ≤ r.plan.limit
+    → needed ≡ f.claimed + q - r.plan.size → needed ≤ f.remembered → SenderFits s (record f { claimed = f.claimed + q })
+fits_claim {r = r} {f = f} q needed F is limit need enough =
+    let nothing : Option Event = None in let low = F.least in let next = F.next in
+    let longer : length (r.sent.pending ++ replicate q nothing) ≡ length r.sent.pending + q =
+    omega (arith, length-append r.sent.pending (replicate q nothing), length-replicate q nothing) in
+    subst (λ (t : SenderRecord T). SenderFits t (record f { claimed = f.claimed + q })) (sym is) (record {
+      made = F.made;
+      whole = F.whole;
+      next = omega arith;
+      front = F.front;
+      limit = limit;
+      near = omega arith;
+      least = F.least;
+      seen = λ h has. (
+          let a = F.seen h has in
+          let b : last_look 0 (r.looks ++ look halt_word 0 ∷ []) (count_word h) ≡ last_look 0 r.looks (count_word h) =
+          last_look_else 0 r.looks halt_word (count_word h) 0 (λ (z : halt_word ≡ count_word h). omega arith) in omega arith);
+      written = noted_claim r f.written (look halt_word 0 ∷ []) q F.written;
+      places = F.places;
+    })
+
+-- a count is a size
+bad_count_fails : (n size : ℕ) → (0 < n) × (n ≤ size) → ((n == 0) || nat_lt size n) ≡ false
+bad_count_fails n size is = rw (ne_eqb n 0 (λ z. let some = is.0 in absurd (omega arith)), le-ltb size n is.1) refl
+
+-- What a claim answers, once it has found no halt: the scan's looks follow the first one, and what is said of the sender before is said of its end.
+pub record Scanned (r s t e : SenderRecord T) (xs : List Look) (n q needed : ℕ) : Type 0 where
+  pub same : r ≡ e
+  pub first : s ≡ halt_looked r 0 0
+  pub scan : LooksAtFinals s xs t
+  pub next : n ≡ claimed r
+  pub need : needed ≡ n + q - r.plan.size
+  pub size : (0 < q) × (q ≤ r.plan.size)
+  pub limit : n + q ≤ r.plan.limit
+  pub few : r.plan.limit ≤ 2 ^ 62
+  pub made : IsSize r.plan.size
+
+module _ {r s t e : SenderRecord T} {xs : List Look} {n q needed : ℕ} (S : Scanned r s t e xs n q needed) where
+  scanned : LooksAtFinals r (look halt_word 0 ∷ xs) t
+  scanned = saw_then r s t (look halt_word 0 ∷ []) xs (saw_halt r s 0 0 S.first (λ z. refl)) S.scan
+
+  plan : s.plan ≡ r.plan
+  plan = ap (λ (x : SenderRecord T). x.plan) S.first
+
+  room : (least : ℕ) (E : IsEnough s xs needed least) → FoundRoom r q E.counts
+  room least E = record {
+    all = subst (λ (k : Shape). (E.counts ≡ []) ⊎ (length E.counts ≡ length (finals k.upstreams))) plan E.all;
+    room = λ i lt. (let high = E.high i lt in let next = S.next in let need = S.need in omega arith);
+  }
+
+  gated : (least : ℕ) (E : IsEnough s xs needed least) → xs ≡ gate_looks r E.counts
+  gated least E = E.are ∙ ap (λ (k : Shape). count_looks (finals k.upstreams) E.counts) plan
+
+  within : nat_lt r.plan.limit (claimed r + q) ≡ false
+  within = le-ltb r.plan.limit (claimed r + q) (let next = S.next in let limit = S.limit in omega arith)
+
+  -- a final was too far behind
+  pub claim_no_room : IsShort s.plan xs needed → TriesToClaim e q t (Err NoRoom)
+  claim_no_room short =
+      let H = subst (λ (k : Shape). IsShort k xs needed) plan short in
+      let only : t ≡ sender_saw r (look halt_word 0 ∷ gate_looks r H.counts) = scanned.is ∙ ap (λ (ys : List Look). sender_saw r (look halt_word 0 ∷ ys)) H.are in
+      let sent : t.sent ≡ r.sent = ap (λ (x : SenderRecord T). x.sent) only in
+      subst (λ (x : SenderRecord T). TriesToClaim x q t (Err NoRoom)) S.same (record {
+        answer = inr (refl, inr (bad_count_fails q r.plan.size S.size, inr (refl, inr (within, inl (tt, refl)))));
+        stretch = tt;
+        sent = sent;
+        seen = look halt_word 0 ∷ gate_looks r H.counts;
+        looks = (
+          H.counts,
+          record {
+            before = H.before;
+            last = H.last;
+            among = H.among;
+            room = λ i lt. (let high = H.high i lt in let next = S.next in let need = S.need in omega arith);
+            behind = let low = H.low in let next = S.next in let need = S.need in omega arith;
+          },
+          refl,
+        );
+        only = only ∙ ap (λ (x : Sent Event). record r { sent = x; looks = r.looks ++ look halt_word 0 ∷ gate_looks r H.counts }) (sym sent);
+        few = S.few;
+        size = S.made;
+      })
+
+  -- the last look found the ring halted
+  pub claim_halted_late : (u : SenderRecord T) (least : ℕ) → IsEnough s xs needed least → u ≡ halt_looked t q 1 → TriesToClaim e q u (Err Halted)
+  claim_halted_late u least E last =
+      let seen = look halt_word 0 ∷ gate_looks r E.counts ++ look halt_word 1 ∷ [] in
+      let only : u ≡ sender_saw r seen =
+      (saw_then r t u (look halt_word 0 ∷ xs) (look halt_word 1 ∷ []) scanned (saw_halt t u q 1 last (λ z. absurd (omega arith)))).is
+      ∙ ap (λ (ys : List Look). sender_saw r (look halt_word 0 ∷ ys ++ look halt_word 1 ∷ [])) (gated least E) in
+      let sent : u.sent ≡ r.sent = ap (λ (x : SenderRecord T). x.sent) only in
+      subst (λ (x : SenderRecord T). TriesToClaim x q u (Err Halted)) S.same (record {
+        answer = inr (refl, inr (bad_count_fails q r.plan.size S.size, inl (tt, refl)));
+        stretch = tt;
+        sent = sent;
+        seen = seen;
+        looks = inr (record { limit = (let next = S.next in let limit = S.limit in omega arith); counts = E.counts; room = room least E; saw = refl });
+        only = only ∙ ap (λ (x : Sent Event). record r { sent = x; looks = r.looks ++ seen }) (sym sent);
+        few = S.few;
+        size = S.made;
+      })
+
+  pub claim_accepted : (u : SenderRecord T) (least : ℕ) (c : Claimed) → IsEnough s xs needed least → u ≡ halt_looked t q 0 → c ≡ record { lo = n; hi = n + q - 1 }
+      → TriesToClaim e q u (Ok c)
+  claim_accepted u least c E last gives =
+      let seen = look halt_word 0 ∷ gate_looks r E.counts ++ look halt_word 0 ∷ [] in
+      let lo : c.lo ≡ n = ap (λ (x : Claimed). x.lo) gives in
+      let hi : c.hi ≡ n + q - 1 = ap (λ (x : Claimed). x.hi) gives in
+      let some = S.size.0 in let limit = S.limit in let few = S.few in
+      let only : u ≡ more_claimed (sender_saw r seen) q =
+      last ∙ ap (λ (x : SenderRecord T). halt_looked x q 0) scanned.is
+      ∙ ap (λ (ys : List Look). more_claimed (record r { looks = ys }) q) (append_assoc r.looks (look halt_word 0 ∷ xs) (look halt_word 0 ∷ []))
+      ∙ ap (λ (ys : List Look). more_claimed (sender_saw r (look halt_word 0 ∷ ys ++ look halt_word 0 ∷ [])) q) (gated least E) in
+      let sent : u.sent ≡ with_claimed r.sent q = ap (λ (x : SenderRecord T). x.sent) only in
+      subst (λ (x : SenderRecord T). TriesToClaim x q u (Ok c)) S.same (record {
+        answer = (refl, (bad_count_fails q r.plan.size S.size, (refl, (within, (refl, tt)))));
+        stretch = (omega arith, omega arith, omega arith);
+        sent = (lo ∙ S.next, sent);
+        seen = seen;
+        looks = (E.counts, room least E, refl);
+        only = only ∙ ap (λ (x : Sent Event). record r { sent = x; looks = r.looks ++ seen }) (sym sent);
+        few = S.few;
+        size = S.made;
+      })
+
+-- What a claim answers is what every end's claim answers.
+
+pub claim_of_end : (r : SenderRecord T) (n : ℕ) (refusal : Refusal) → r.plan.limit ≤ 2 ^ 62 → IsSize r.plan.size → IsFirst MayHold MayFail refusal (claim_causes (tests_of_claim r n))
+    → IsFirst MayHold MayFail refusal (claim_causes (claim_tests (Some r.sent) n))
+claim_of_end r n refusal few is (inl h) = inl h
+claim_of_end r n refusal few is (inr (a, inl h)) = inr (a, inl (bad_is_not_one n r.plan.size is h.0, h.1))
+claim_of_end r n refusal few is (inr (a, inr (b, inl h))) = inr (a, inr (good_is_never_bad n r.plan.size is b, inl h))
+claim_of_end r n refusal few is (inr (a, inr (b, inr (c, inl h)))) = inr (a, inr (good_is_never_bad n r.plan.size is b, inr (c, inl (tt, h.1))))
+claim_of_end r n refusal few is (inr (a, inr (b, inr (c, inr (d, inl h))))) =
+    inr (a, inr (good_is_never_bad n r.plan.size is b, inr (c, inr (le-ltb (2 ^ 62) (claimed r + n) (let within = ltb-false r.plan.limit (claimed r + n) d in omega arith), inl h))))
+claim_of_end r n refusal few is (inr (a, inr (b, inr (c, inr (d, inr h))))) = absurd h.1
+
+pub claim_given : (r : SenderRecord T) (n : ℕ) → r.plan.limit ≤ 2 ^ 62 → IsSize r.plan.size → NoneHolds MayFail (claim_causes (tests_of_claim r n))
+    → NoneHolds MayFail (claim_causes (claim_tests (Some r.sent) n))
+claim_given r n few is (a, (b, (c, (d, e)))) =
+    (a, (good_is_never_bad n r.plan.size is b, (c, (le-ltb (2 ^ 62) (claimed r + n) (let within = ltb-false r.plan.limit (claimed r + n) d in omega arith), e))))
