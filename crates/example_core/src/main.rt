@@ -21,7 +21,7 @@ enum Fault {
 }
 
 /// What this program's producer sends. An event may be of any type that is `Copy`.
-#[derive(Clone, Copy, Debug, PartialEq, Eq)]
+#[derive(Clone, Copy)]
 struct Order {
     account: u64,
     instrument: u64,
@@ -96,33 +96,38 @@ fn turns(core: &mut Core<Order>, sums: &mut [Sum; 3]) -> Result<(), Refusal> {
     Ok(())
 }
 
-fn exchange(alloc: Global) -> Result<[Sum; 3], Fault> {
-    let mut core = Core::open(
-        alloc,
-        graph(alloc)?,
-        Size::new(8)?,
-        Mode::Single,
-        MAX_LIMIT,
-        Order::NONE,
-    )?;
-    let mut sums = [Sum { total: 0 }, Sum { total: 0 }, Sum { total: 0 }];
+/// Sends a hundred orders, for which the handlers make room, and halts.
+fn exchange(core: &mut Core<Order>, sums: &mut [Sum; 3]) -> Result<(), Refusal> {
     for quantity in 1..=100 {
         let order = Order::to_buy(quantity);
-        match send(&mut core, order) {
+        match send(core, order) {
             Err(Refusal::NoRoom) => {
-                turns(&mut core, &mut sums)?;
-                send(&mut core, order)?;
+                turns(core, sums)?;
+                send(core, order)?;
             }
             sent => sent?,
         }
     }
     core.halt();
-    turns(&mut core, &mut sums)?;
+    turns(core, sums)
+}
+
+/// A core of eight slots.
+fn open(alloc: Global) -> Result<Core<Order>, Fault> {
+    let size = Size::new(8)?;
+    let graph = graph(alloc)?;
+    Ok(Core::open(alloc, graph, size, Mode::Single, MAX_LIMIT, Order::NONE)?)
+}
+
+fn run(alloc: Global) -> Result<[Sum; 3], Fault> {
+    let mut core = open(alloc)?;
+    let mut sums = [Sum { total: 0 }, Sum { total: 0 }, Sum { total: 0 }];
+    exchange(&mut core, &mut sums)?;
     Ok(sums)
 }
 
 fn main(rt: HostRuntime) -> ExitCode {
-    match exchange(rt.alloc()) {
+    match run(rt.alloc()) {
         Ok([journal, replica, business]) => {
             let _printed = rt.println(&journal.total);
             let _printed = rt.println(&replica.total);
