@@ -106,6 +106,29 @@ fn names_of(alloc: Global, row: &ByteRecord) -> Result<Vec<&str>, AllocError>
     Ok(names)
 }
 
+// Takes a record that declares or connects handlers, with its names.
+fn declare_named(
+    declaring: Declaring,
+    row: &ByteRecord,
+    names: &[&str],
+) -> Result<Declaring, RecordFault>
+    requires names { AreNames declaring.builder.names }
+    requires given { given names.now ≡ map legible (names_after (fields_of row.now)) }
+    ensures { DeclaresAs result (declared_by (declared_of declaring) (fields_of row.now)) }
+{
+    if is_list(row, b"with".as_slice()) {
+        declaring.with(names)
+    } else if is_list(row, b"then".as_slice()) {
+        declaring.then(names)
+    } else if is_list(row, b"after".as_slice()) {
+        declaring.after(names)
+    } else if is_record(row, b"edge".as_slice(), 3) {
+        declaring.edge(text_of(field(row, 1)), text_of(field(row, 2)))
+    } else {
+        Err(RecordFault::Cause(Cause::BadRecord))
+    }
+}
+
 /// Takes a record that declares or connects handlers. A refused record ends the setup.
 pub fn declare(
     alloc: Global,
@@ -115,15 +138,6 @@ pub fn declare(
     requires { AreNames declaring.builder.names }
     ensures { DeclaresAs result (declared_by (declared_of declaring) (fields_of row.now)) }
 {
-    if is_list(row, b"with".as_slice()) {
-        declaring.with(names_of(alloc, row)?.as_slice())
-    } else if is_list(row, b"then".as_slice()) {
-        declaring.then(names_of(alloc, row)?.as_slice())
-    } else if is_list(row, b"after".as_slice()) {
-        declaring.after(names_of(alloc, row)?.as_slice())
-    } else if is_record(row, b"edge".as_slice(), 3) {
-        declaring.edge(text_of(field(row, 1)), text_of(field(row, 2)))
-    } else {
-        Err(RecordFault::Cause(Cause::BadRecord))
-    }
+    let names = names_of(alloc, row)?;
+    declare_named(declaring, row, names.as_slice())
 }
