@@ -65,19 +65,19 @@ fn command<W: Write>(
 // Obeys all records that are left, the first of them being the k-th.
 fn commands<W: Write>(
     alloc: Global,
-    mut exchange: Exchange,
+    exchange: &mut Exchange,
     mut k: u64,
     rows: &mut Rows<'_>,
     writer: &mut Counted<W>,
 ) -> Result<(), FileFault>
     requires faults { faults_of writer.old < 2 ^ 64 - 1 }
     requires fits { k + length (rows_left rows.old) < 2 ^ 64 }
-    ensures bytes { (phase : Phase) → ShowsPhase exchange phase → RunWrites result (W.contents (inner_of writer.old)) (W.contents (inner_of writer.new)) (text_from k phase (rows_left rows.old)) }
+    ensures bytes { (phase : Phase) → ShowsPhase exchange.old phase → RunWrites result (W.contents (inner_of writer.old)) (W.contents (inner_of writer.new)) (text_from k phase (rows_left rows.old)) }
     ensures counted { CountsFaults result 0 0 (faults_of writer.old) (faults_of writer.new) }
 {
     let mut line = String::new(alloc);
     while let Some(row) = rows.next()? {
-        command(&mut exchange, k, row, &mut line, writer)?;
+        command(exchange, k, row, &mut line, writer)?;
         k += 1;
     }
     Ok(())
@@ -103,6 +103,6 @@ pub fn drive<R: Read, W: Write>(
 {
     let text = read_all(alloc, reader)?;
     let mut rows = Rows::new(alloc, text.as_slice());
-    let Opened { exchange, k } = set_up(alloc, &mut rows)?;
-    commands(alloc, exchange, k, &mut rows, writer)
+    let Opened { mut exchange, k } = set_up(alloc, &mut rows)?;
+    commands(alloc, &mut exchange, k, &mut rows, writer)
 }
