@@ -101,16 +101,24 @@ fn shows_nothing_taken(rt: &impl Abort, settled: &Settled) {
     }
 }
 
+/// Claims that stay open, so that handlers are given nothing.
+fn claim_only(rt: &impl Abort, ends: &mut Ends)
+    requires { AreAllEnds ends.old.senders.items ends.old.receivers.items ends.old.halter }
+    ensures { AreAllEnds ends.new.senders.items ends.new.receivers.items ends.new.halter }
+{
+    let mut out = [Event::NONE; 4];
+    assert_eq!(rt; claim(rt, ends, 1, 2), Ok(Claimed { lo: 0, hi: 1 }));
+    assert_eq!(rt; claim(rt, ends, 0, 1), Ok(Claimed { lo: 2, hi: 2 }));
+    assert_eq!(rt; poll(rt, ends, 0, &mut out), Ok(Polled::Gating));
+    assert_eq!(rt; poll(rt, ends, 1, &mut out), Ok(Polled::Gating));
+    assert_eq!(rt; complete(rt, ends, 0, 0), Ok(()));
+    assert_eq!(rt; complete(rt, ends, 1, 1), Err(Refusal::NotTaken));
+}
+
 #[test]
 fn settle_after_open_claims(rt: HostRuntime) -> Result<(), Fail> {
-    let mut out = [Event::NONE; 4];
     let mut ends = open(rt.alloc(), &chain(rt.alloc())?)?;
-    assert_eq!(rt; claim(&rt, &mut ends, 1, 2), Ok(Claimed { lo: 0, hi: 1 }));
-    assert_eq!(rt; claim(&rt, &mut ends, 0, 1), Ok(Claimed { lo: 2, hi: 2 }));
-    assert_eq!(rt; poll(&rt, &mut ends, 0, &mut out), Ok(Polled::Gating));
-    assert_eq!(rt; poll(&rt, &mut ends, 1, &mut out), Ok(Polled::Gating));
-    assert_eq!(rt; complete(&rt, &mut ends, 0, 0), Ok(()));
-    assert_eq!(rt; complete(&rt, &mut ends, 1, 1), Err(Refusal::NotTaken));
+    claim_only(&rt, &mut ends);
     let settled = settle(ends.senders, ends.receivers, ends.halter);
     assert_eq!(rt; settled.claimed(), 3);
     assert!(rt; !settled.is_halted());
@@ -118,18 +126,24 @@ fn settle_after_open_claims(rt: HostRuntime) -> Result<(), Fail> {
     Ok(())
 }
 
+/// A halt before anything was claimed.
+fn halt_only(rt: &impl Abort, ends: &mut Ends)
+    requires { AreAllEnds ends.old.senders.items ends.old.receivers.items ends.old.halter }
+    ensures { AreAllEnds ends.new.senders.items ends.new.receivers.items ends.new.halter }
+{
+    let mut out = [Event::NONE; 4];
+    let halted = Err(ClaimFault::Refused(Refusal::Halted));
+    assert_eq!(rt; poll(rt, ends, 1, &mut out), Ok(Polled::Idle));
+    halt(ends);
+    assert_eq!(rt; claim(rt, ends, 0, 1), halted);
+    assert_eq!(rt; poll(rt, ends, 0, &mut out), Ok(Polled::Drained));
+    assert_eq!(rt; poll(rt, ends, 1, &mut out), Ok(Polled::Drained));
+}
+
 #[test]
 fn settle_after_a_halt(rt: HostRuntime) -> Result<(), Fail> {
-    let mut out = [Event::NONE; 4];
     let mut ends = open(rt.alloc(), &side_by_side(rt.alloc())?)?;
-    assert_eq!(rt; poll(&rt, &mut ends, 1, &mut out), Ok(Polled::Idle));
-    halt(&mut ends);
-    assert_eq!(rt;
-        claim(&rt, &mut ends, 0, 1),
-        Err(ClaimFault::Refused(Refusal::Halted))
-    );
-    assert_eq!(rt; poll(&rt, &mut ends, 0, &mut out), Ok(Polled::Drained));
-    assert_eq!(rt; poll(&rt, &mut ends, 1, &mut out), Ok(Polled::Drained));
+    halt_only(&rt, &mut ends);
     let settled = settle(ends.senders, ends.receivers, ends.halter);
     assert_eq!(rt; settled.claimed(), 0);
     assert!(rt; settled.is_halted());
@@ -137,27 +151,45 @@ fn settle_after_a_halt(rt: HostRuntime) -> Result<(), Fail> {
     Ok(())
 }
 
+const THREE: Polled = Polled::Batch {
+    first: 0,
+    count: 3,
+    end: true,
+};
+
+/// Three events, which the first handler completes.
+fn send_three(rt: &impl Abort, ends: &mut Ends)
+    requires { AreAllEnds ends.old.senders.items ends.old.receivers.items ends.old.halter }
+    ensures { AreAllEnds ends.new.senders.items ends.new.receivers.items ends.new.halter }
+{
+    let mut out = [Event::NONE; 4];
+    send(rt, ends, 1, 7);
+    send(rt, ends, 0, 8);
+    send(rt, ends, 1, 9);
+    assert_eq!(rt; poll(rt, ends, 1, &mut out), Ok(Polled::Gating));
+    assert_eq!(rt; poll(rt, ends, 0, &mut out), Ok(THREE));
+    assert_eq!(rt; &out[..3], &[word(7), word(8), word(9)][..]);
+    assert_eq!(rt; complete(rt, ends, 0, 3), Ok(()));
+}
+
+/// A halt, after which the second handler takes all, and completes two.
+fn drain(rt: &impl Abort, ends: &mut Ends)
+    requires { AreAllEnds ends.old.senders.items ends.old.receivers.items ends.old.halter }
+    ensures { AreAllEnds ends.new.senders.items ends.new.receivers.items ends.new.halter }
+{
+    let mut out = [Event::NONE; 4];
+    halt(ends);
+    assert_eq!(rt; poll(rt, ends, 0, &mut out), Ok(Polled::Drained));
+    assert_eq!(rt; poll(rt, ends, 1, &mut out), Ok(THREE));
+    assert_eq!(rt; complete(rt, ends, 1, 2), Ok(()));
+    assert_eq!(rt; poll(rt, ends, 1, &mut out), Ok(Polled::Drained));
+}
+
 #[test]
 fn settle_after_a_run(rt: HostRuntime) -> Result<(), Fail> {
-    let mut out = [Event::NONE; 4];
     let mut ends = open(rt.alloc(), &chain(rt.alloc())?)?;
-    send(&rt, &mut ends, 1, 7);
-    send(&rt, &mut ends, 0, 8);
-    send(&rt, &mut ends, 1, 9);
-    assert_eq!(rt; poll(&rt, &mut ends, 1, &mut out), Ok(Polled::Gating));
-    let all = Ok(Polled::Batch {
-        first: 0,
-        count: 3,
-        end: true,
-    });
-    assert_eq!(rt; poll(&rt, &mut ends, 0, &mut out), all);
-    assert_eq!(rt; &out[..3], &[word(7), word(8), word(9)][..]);
-    assert_eq!(rt; complete(&rt, &mut ends, 0, 3), Ok(()));
-    halt(&mut ends);
-    assert_eq!(rt; poll(&rt, &mut ends, 0, &mut out), Ok(Polled::Drained));
-    assert_eq!(rt; poll(&rt, &mut ends, 1, &mut out), all);
-    assert_eq!(rt; complete(&rt, &mut ends, 1, 2), Ok(()));
-    assert_eq!(rt; poll(&rt, &mut ends, 1, &mut out), Ok(Polled::Drained));
+    send_three(&rt, &mut ends);
+    drain(&rt, &mut ends);
     let settled = settle(ends.senders, ends.receivers, ends.halter);
     assert_eq!(rt; settled.claimed(), 3);
     assert!(rt; settled.is_halted() && settled.handlers() == 2);
