@@ -1,7 +1,8 @@
 //! What no clause says: that a report over memory succeeds, and its text, by the rules of the format.
 
 use dr_accounts::{Movement, Operation, report_by_core};
-use dr_seq::Size;
+use dr_seq::{Event, Size};
+use std::alloc::{AllocError, Global};
 use std::process::Abort;
 use std::test::Fail;
 
@@ -44,22 +45,41 @@ const REPORT: [&str; 11] = [
     "7,30,1\n",
 ];
 
-#[test]
-fn three_operations(rt: HostRuntime) -> Result<(), Fail> {
-    let alloc = rt.alloc();
+fn events(rt: &impl Abort, alloc: Global) -> Result<Vec<Event>, AllocError> {
     let mut events = Vec::new(alloc);
     for operation in OPERATIONS {
         let event = operation.event();
         assert!(rt; Operation::of(event) == operation);
         events.push(event)?;
     }
+    Ok(events)
+}
+
+fn report(alloc: Global) -> Result<String, AllocError> {
     let mut report = String::new(alloc);
     for line in REPORT {
         report.push_str(line)?;
     }
+    Ok(report)
+}
+
+fn check_report(
+    rt: &impl Abort,
+    alloc: Global,
+    events: &[Event],
+    report: &str,
+) -> Result<(), Fail> {
     for slots in [1, 2, 65536] {
-        let text = report_by_core(alloc, events.as_slice(), Size::new(slots)?)?;
-        assert_eq!(rt; text, report, "a ring of {slots} slots");
+        let size = Size::new(slots)?;
+        let text = report_by_core(alloc, events, size)?;
+        assert_eq!(rt; text.as_str(), report, "a ring of {slots} slots");
     }
     Ok(())
+}
+
+#[test]
+fn three_operations(rt: HostRuntime) -> Result<(), Fail> {
+    let events = events(&rt, rt.alloc())?;
+    let report = report(rt.alloc())?;
+    check_report(&rt, rt.alloc(), events.as_slice(), report.as_str())
 }
