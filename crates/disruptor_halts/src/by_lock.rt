@@ -19,9 +19,9 @@ use std::marker::Brand;
 use std::sync::Wait;
 use std::sync::ledger::{Blank, Ledger};
 use std::thread::Threads;
-use workers::{Around, Handler, Joined, Parties, Producer, exchange};
+use workers::{Around, Handled, Handler, Joined, Parties, Producer, Sent, exchange};
 
-fn producers<L: Exchange<Event>>(
+fn producers_of<L: Exchange<Event>>(
     alloc: Global,
     shared: &mut Shared<Event, L>,
     mode: Mode,
@@ -34,9 +34,10 @@ fn producers<L: Exchange<Event>>(
         Mode::Multi(count) => (count, false),
     };
     for p in 0..count {
+        let end = shared.end().ok_or(Fault::Ends)?;
         all.push(Producer {
             p,
-            end: shared.end().ok_or(Fault::Ends)?,
+            end,
             random: random.split(),
             sending: Sending::new(alloc, p, size, in_order, random.split()),
         })?;
@@ -44,7 +45,25 @@ fn producers<L: Exchange<Event>>(
     Ok(all)
 }
 
-fn handlers<L: Exchange<Event>>(
+fn handler<L: Exchange<Event>>(
+    alloc: Global,
+    shared: &mut Shared<Event, L>,
+    h: usize,
+    random: &mut Random,
+) -> Result<Handler<L>, Fault> {
+    let end = shared.end().ok_or(Fault::Ends)?;
+    let own = random.split();
+    let receiving = Receiving::new(alloc, random)?;
+    Ok(Handler {
+        h,
+        end,
+        random: own,
+        receiving,
+        leaves: random.below(4) == 0,
+    })
+}
+
+fn handlers_of<L: Exchange<Event>>(
     alloc: Global,
     shared: &mut Shared<Event, L>,
     count: usize,
@@ -52,13 +71,7 @@ fn handlers<L: Exchange<Event>>(
 ) -> Result<Vec<Handler<L>>, Fault> {
     let mut all = Vec::new(alloc);
     for h in 0..count {
-        all.push(Handler {
-            h,
-            end: shared.end().ok_or(Fault::Ends)?,
-            random: random.split(),
-            receiving: Receiving::new(alloc, random)?,
-            leaves: random.below(4) == 0,
-        })?;
+        all.push(handler(alloc, shared, h, random)?)?;
     }
     Ok(all)
 }
@@ -71,24 +84,39 @@ struct Gathered<L: Ledger> {
     received: Vec<Received>,
 }
 
+impl<L: Ledger> Gathered<L> {
+    fn add_producers(&mut self, sent: Vec<Sent<L>>) -> Result<(), Fault> {
+        for Sent { end, script } in sent {
+            self.ends.push(end)?;
+            self.scripts.push(script?)?;
+        }
+        Ok(())
+    }
+
+    fn add_handlers(&mut self, handled: Vec<Handled<L>>) -> Result<(), Fault> {
+        for Handled { end, received } in handled {
+            self.ends.push(end)?;
+            self.received.push(received?)?;
+        }
+        Ok(())
+    }
+}
+
 fn gather<L: Ledger>(alloc: Global, joined: Joined<L>) -> Result<Gathered<L>, Fault> {
-    let mut ends = Vec::new(alloc);
-    ends.push(joined.halter)?;
-    let mut scripts = Vec::new(alloc);
-    for sent in joined.sent {
-        ends.push(sent.end)?;
-        scripts.push(sent.script?)?;
-    }
-    let mut received = Vec::new(alloc);
-    for handled in joined.handled {
-        ends.push(handled.end)?;
-        received.push(handled.received?)?;
-    }
-    Ok(Gathered {
-        ends,
-        scripts,
-        received,
-    })
+    let Joined {
+        halter,
+        sent,
+        handled,
+    } = joined;
+    let mut all = Gathered {
+        ends: Vec::new(alloc),
+        scripts: Vec::new(alloc),
+        received: Vec::new(alloc),
+    };
+    all.ends.push(halter)?;
+    all.add_producers(sent)?;
+    all.add_handlers(handled)?;
+    Ok(all)
 }
 
 fn views<'a>(alloc: Global, scripts: &'a [Vec<Event>]) -> Result<Vec<&'a [Event]>, AllocError> {
@@ -99,19 +127,32 @@ fn views<'a>(alloc: Global, scripts: &'a [Vec<Event>]) -> Result<Vec<&'a [Event]
     Ok(all)
 }
 
+fn told(
+    alloc: Global,
+    recorded: &Recorded<Event>,
+    scripts: &[Vec<Event>],
+    received: &[Received],
+) -> Result<Told, Fault> {
+    let views = views(alloc, scripts)?;
+    let list = audit(alloc, recorded, views.as_slice())?;
+    Told::of(list.as_slice(), received)
+}
+
 /// Compares what each handler received with the one list of the audit.
 fn audited<L: Exchange<Event>>(
     alloc: Global,
     shared: Shared<Event, L>,
-    joined: Joined<L>,
+    gathered: Gathered<L>,
 ) -> Result<Told, Fault> {
-    let gathered = gather(alloc, joined)?;
-    let Ok(recorded) = finish(shared, gathered.ends) else {
-        return Err(Fault::Ends);
-    };
-    let views = views(alloc, gathered.scripts.as_slice())?;
-    let list = audit(alloc, &recorded, views.as_slice())?;
-    Told::of(list.as_slice(), gathered.received.as_slice())
+    let Gathered {
+        ends,
+        scripts,
+        received,
+    } = gathered;
+    match finish(shared, ends) {
+        Ok(recorded) => told(alloc, &recorded, scripts.as_slice(), received.as_slice()),
+        Err(_) => Err(Fault::Ends),
+    }
 }
 
 /// A core with a random graph and up to three producers, their mode, and its slots.
@@ -125,6 +166,40 @@ fn opened(alloc: Global, random: &mut Random) -> Result<(Recorded<Event>, Mode, 
     let size = Size::new(slots)?;
     let recorded = Recorded::open(alloc, graph, size, mode, MAX_LIMIT, Event::NONE, 0, 0)?;
     Ok((recorded, mode, slots))
+}
+
+fn parties<L: Exchange<Event>>(
+    alloc: Global,
+    shared: &mut Shared<Event, L>,
+    mode: Mode,
+    slots: u64,
+    handlers: usize,
+    random: &mut Random,
+) -> Result<Parties<L>, Fault> {
+    Ok(Parties {
+        producers: producers_of(alloc, shared, mode, slots, random)?,
+        handlers: handlers_of(alloc, shared, handlers, random)?,
+        halter: shared.end().ok_or(Fault::Ends)?,
+        random: random.split(),
+    })
+}
+
+/// Runs an exchange with threads of their own for each producer and each handler, and gathers what came of it.
+fn played<L: Exchange<Event> + Send + Sync, R: Threads + Wait + Sync>(
+    rt: &R,
+    alloc: Global,
+    shared: &Shared<Event, L>,
+    parties: Parties<L>,
+) -> Result<Gathered<L>, Fault> {
+    let signs = Signs::new();
+    let around = Around {
+        rt,
+        alloc,
+        shared,
+        signs: &signs,
+    };
+    let joined = exchange(&around, parties)?;
+    gather(alloc, joined)
 }
 
 /// Runs an exchange over a ledger, and compares what each handler received with the list of the audit.
@@ -142,23 +217,11 @@ fn round_over<L: Exchange<Event> + Send + Sync, R: Threads + Wait + Sync>(
     requires ends { blank.parts ≡ 65 }
     requires begun { recorded.history ≡ L.begun }
 {
-    let count = recorded.graph().len();
+    let handlers = recorded.graph().len();
     let mut shared = Shared::<Event, L>::new(recorded, blank);
-    let parties = Parties {
-        producers: producers(alloc, &mut shared, mode, slots, random)?,
-        handlers: handlers(alloc, &mut shared, count, random)?,
-        halter: shared.end().ok_or(Fault::Ends)?,
-        random: random.split(),
-    };
-    let signs = Signs::new();
-    let around = Around {
-        rt,
-        alloc,
-        shared: &shared,
-        signs: &signs,
-    };
-    let joined = exchange(&around, parties)?;
-    audited(alloc, shared, joined)
+    let parties = parties(alloc, &mut shared, mode, slots, handlers, random)?;
+    let gathered = played(rt, alloc, &shared, parties)?;
+    audited(alloc, shared, gathered)
 }
 
 /// Runs an exchange with threads of their own for each producer and each handler, any of which may

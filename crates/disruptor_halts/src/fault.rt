@@ -6,61 +6,71 @@ use dr_ring::RingFault;
 use dr_seq::SizeFault;
 use dr_shared::AuditFault;
 use std::alloc::{AllocError, AllocFailed};
-use std::io;
-use thiserror::Error;
+use std::{fmt, io};
 
 /// Why the program ends early. Its text is the line that it prints.
-#[derive(Debug, Drop, Error)]
+#[derive(Clone, Copy)]
 pub enum Fault {
-    #[error("usage: disruptor_halts SEED ROUNDS")]
     Usage,
-    #[error("no-memory")]
     Memory,
-    #[error("cannot write")]
     Outside,
-    #[error("no thread")]
     Thread,
-    #[error("{0}")]
     Graph(GraphFault),
-    #[error("{0}")]
     Ring(RingFault),
-    #[error("{0}")]
     Open(OpenFault),
     /// An end is missing.
-    #[error("no end of the exchange")]
     Ends,
     /// The history is not what the producers sent, or a handler that is not retired lacks some of it.
-    #[error("{0}")]
     Audit(AuditFault),
     /// A call was refused that was to succeed.
-    #[error("{0}")]
     Refused(Refusal),
     /// A call had a reply that it never has.
-    #[error("wrong reply")]
     WrongReply,
     /// Two producers sent at one sequence, or none did.
-    #[error("wrong sequence")]
     WrongSequence,
     /// A handler received an event that was not published at its sequence, or out of order.
-    #[error("wrong event")]
     WrongEvent,
     /// A handler was told `Drained` with less than was published.
-    #[error("wrong count")]
     WrongCount,
     /// A loop had more turns than there are.
-    #[error("a loop with no end")]
     NoEnd,
 }
 
 impl Fault {
     /// The status with which the program ends.
-    pub fn status(&self) -> u8 {
+    pub fn status(self) -> u8 {
         match self {
             Fault::Usage => 1,
             Fault::Memory | Fault::Graph(_) | Fault::Ring(_) | Fault::Open(_) => 3,
             Fault::Outside | Fault::Thread => 4,
             _ => 5,
         }
+    }
+
+    fn line(self) -> &'static str {
+        match self {
+            Fault::Usage => "usage: disruptor_halts SEED ROUNDS",
+            Fault::Memory => "no-memory",
+            Fault::Outside => "cannot write",
+            Fault::Thread => "no thread",
+            Fault::Graph(fault) => fault.name(),
+            Fault::Ring(fault) => fault.name(),
+            Fault::Open(fault) => fault.name(),
+            Fault::Ends => "no end of the exchange",
+            Fault::Audit(fault) => fault.name(),
+            Fault::Refused(refusal) => refusal.name(),
+            Fault::WrongReply => "wrong reply",
+            Fault::WrongSequence => "wrong sequence",
+            Fault::WrongEvent => "wrong event",
+            Fault::WrongCount => "wrong count",
+            Fault::NoEnd => "a loop with no end",
+        }
+    }
+}
+
+impl fmt::Display for Fault {
+    fn fmt<W: fmt::Write>(&self, f: &mut fmt::Formatter<W>) -> fmt::Result {
+        f.write_str(self.line())
     }
 }
 
@@ -106,18 +116,18 @@ impl From<AuditFault> for Fault {
     }
 }
 
+impl From<Refusal> for Fault {
+    fn from(refusal: Refusal) -> Fault {
+        Fault::Refused(refusal)
+    }
+}
+
 impl From<Trouble> for Fault {
     fn from(trouble: Trouble) -> Fault {
         match trouble {
             Trouble::Refused(refusal) => Fault::Refused(refusal),
             Trouble::Memory => Fault::Memory,
         }
-    }
-}
-
-impl From<Refusal> for Fault {
-    fn from(refusal: Refusal) -> Fault {
-        Fault::Refused(refusal)
     }
 }
 

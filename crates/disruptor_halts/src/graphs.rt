@@ -5,7 +5,7 @@ use dr_graph::{Graph, GraphBuilder, GraphFault};
 use std::alloc::Global;
 
 /// Handlers, and which comes after which.
-#[derive(Clone, Copy, Debug)]
+#[derive(Clone, Copy)]
 struct Shape {
     names: &'static [&'static str],
     edges: &'static [(&'static str, &'static str)],
@@ -22,12 +22,17 @@ fn any_shape(random: &mut Random) -> Shape {
     Shape { names, edges }
 }
 
-pub fn graph(alloc: Global, random: &mut Random) -> Result<Graph, GraphFault> {
-    let Shape { names, edges } = any_shape(random);
-    let mut builder = GraphBuilder::new(alloc);
-    builder.handle_with(names)?;
-    for (up, down) in edges {
+fn declare(builder: &mut GraphBuilder, shape: Shape) -> Result<(), GraphFault> {
+    builder.handle_with(shape.names)?;
+    for (up, down) in shape.edges {
         builder.edge(up, down)?;
     }
+    Ok(())
+}
+
+pub fn graph(alloc: Global, random: &mut Random) -> Result<Graph, GraphFault> {
+    let shape = any_shape(random);
+    let mut builder = GraphBuilder::new(alloc);
+    declare(&mut builder, shape)?;
     builder.build()
 }

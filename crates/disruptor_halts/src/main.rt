@@ -12,6 +12,7 @@ ghost use Rattle.std.specs.Prelude.{◌≡◌};
 mod by_lock;
 mod fault;
 mod graphs;
+mod joining;
 mod over_ring;
 mod random;
 mod receiving;
@@ -72,17 +73,27 @@ impl Way {
 }
 
 fn number(word: &str) -> Result<u64, Fault> {
-    word.parse().map_err(|_| Fault::Usage)
+    match word.parse() {
+        Ok(number) => Ok(number),
+        Err(_) => Err(Fault::Usage),
+    }
+}
+
+/// The seed, and how many rounds.
+fn numbers(words: &[String]) -> Result<(u64, u64), Fault> {
+    match words {
+        [seed, count] => Ok((number(seed.as_str())?, number(count.as_str())?)),
+        _ => Err(Fault::Usage),
+    }
 }
 
 fn run<R: Runtime + Alloc<A = Global> + Threads + Wait + Sync>(rt: &R) -> Result<(), Fault> {
     let alloc = rt.alloc();
-    let words: Vec<String> = env::args(rt)?.skip(1).collect(alloc)?;
-    let [seed, count] = words.as_slice() else {
-        return Err(Fault::Usage);
+    let numbers = {
+        let words: Vec<String> = env::args(rt)?.skip(1).collect(alloc)?;
+        numbers(words.as_slice())
     };
-    let seed = number(seed.as_str())?;
-    let count = number(count.as_str())?;
+    let (seed, count) = numbers?;
     let ring = Way::Ring.rounds(rt, alloc, seed, count)?;
     let senders = Way::Senders.rounds(rt, alloc, seed, count)?;
     let lock = Way::Lock.rounds(rt, alloc, seed, count)?;

@@ -13,7 +13,7 @@ use crate::sending::Sending;
 use crate::signs::Signs;
 use crate::told::Told;
 use dr_core::{MAX_LIMIT, Outlet};
-use dr_ring::ring;
+use dr_ring::{Halter, Receiver, Sender, ring};
 use dr_senders::senders_ring;
 use dr_seq::{Event, Size};
 use ends::{Halting, Producing};
@@ -25,6 +25,19 @@ use workers::{Around, Handler, Parties, Producer, exchange};
 /// The most senders of a ring.
 const MOST_SENDERS: u64 = 4;
 
+fn handler<O: Outlet<Event> + Drop>(
+    alloc: Global,
+    outlet: O,
+    random: &mut Random,
+) -> Result<Handler<O>, AllocError> {
+    Ok(Handler {
+        outlet,
+        random: random.split(),
+        receiving: Receiving::new(alloc, random)?,
+        leaves: random.below(4) == 0,
+    })
+}
+
 fn handlers<O: Outlet<Event> + Drop>(
     alloc: Global,
     outlets: Vec<O>,
@@ -32,13 +45,7 @@ fn handlers<O: Outlet<Event> + Drop>(
 ) -> Result<Vec<Handler<O>>, AllocError> {
     let mut all = Vec::with_capacity(alloc, outlets.len())?;
     for outlet in outlets {
-        let handler = Handler {
-            outlet,
-            random: random.split(),
-            receiving: Receiving::new(alloc, random)?,
-            leaves: random.below(4) == 0,
-        };
-        all.push(handler)?;
+        all.push(handler(alloc, outlet, random)?)?;
     }
     Ok(all)
 }
@@ -62,13 +69,45 @@ fn producers<I: Producing>(
     Ok(all)
 }
 
+/// The ends of a ring of so many slots.
+#[derive(Drop)]
+struct Opened<I, O, H> {
+    senders: Vec<I>,
+    receivers: Vec<O>,
+    halter: H,
+    slots: u64,
+}
+
+fn parties<I: Producing, O: Outlet<Event> + Drop, H: Halting>(
+    alloc: Global,
+    opened: Opened<I, O, H>,
+    random: &mut Random,
+) -> Result<Parties<I, O, H>, AllocError> {
+    let Opened {
+        senders,
+        receivers,
+        halter,
+        slots,
+    } = opened;
+    let producers = producers(alloc, senders, slots, random)?;
+    let handlers = handlers(alloc, receivers, random)?;
+    Ok(Parties {
+        producers,
+        handlers,
+        halter,
+        random: random.split(),
+    })
+}
+
 /// Runs a ring with a thread for each end, and compares what each handler received with what was
 /// published.
 fn run<I: Producing, O: Outlet<Event> + Drop + Send, H: Halting, R: Threads + Wait + Sync>(
     rt: &R,
     alloc: Global,
-    parties: Parties<I, O, H>,
+    opened: Opened<I, O, H>,
+    random: &mut Random,
 ) -> Result<Told, Fault> {
+    let parties = parties(alloc, opened, random)?;
     let signs = Signs::new();
     let around = Around {
         rt,
@@ -79,24 +118,49 @@ fn run<I: Producing, O: Outlet<Event> + Drop + Send, H: Halting, R: Threads + Wa
     Told::of(joined.published.as_slice(), joined.received.as_slice())
 }
 
+fn open_with_one(
+    alloc: Global,
+    random: &mut Random,
+) -> Result<Opened<Sender, Receiver, Halter>, Fault> {
+    let graph = graph(alloc, random)?;
+    let slots = 1 << random.below(11);
+    let size = Size::new(slots)?;
+    let (sender, receivers, halter) = ring(alloc, &graph, size, MAX_LIMIT)?;
+    let mut senders = Vec::new(alloc);
+    senders.push(sender)?;
+    Ok(Opened {
+        senders,
+        receivers,
+        halter,
+        slots,
+    })
+}
+
+fn open_with_several(
+    alloc: Global,
+    random: &mut Random,
+) -> Result<Opened<dr_senders::Sender, dr_senders::Receiver, dr_senders::Halter>, Fault> {
+    let graph = graph(alloc, random)?;
+    let slots = 1 << random.below(11);
+    let count = random.below(MOST_SENDERS).saturating_add(1) as usize;
+    let size = Size::new(slots)?;
+    let (senders, receivers, halter) = senders_ring(alloc, &graph, size, MAX_LIMIT, count)?;
+    Ok(Opened {
+        senders,
+        receivers,
+        halter,
+        slots,
+    })
+}
+
 /// Runs a ring of one sender.
 pub fn one_sender<R: Threads + Wait + Sync>(
     rt: &R,
     alloc: Global,
     random: &mut Random,
 ) -> Result<Told, Fault> {
-    let graph = graph(alloc, random)?;
-    let slots = 1 << random.below(11);
-    let (sender, receivers, halter) = ring(alloc, &graph, Size::new(slots)?, MAX_LIMIT)?;
-    let mut senders = Vec::new(alloc);
-    senders.push(sender)?;
-    let parties = Parties {
-        producers: producers(alloc, senders, slots, random)?,
-        handlers: handlers(alloc, receivers, random)?,
-        halter,
-        random: random.split(),
-    };
-    run(rt, alloc, parties)
+    let opened = open_with_one(alloc, random)?;
+    run(rt, alloc, opened, random)
 }
 
 /// Runs a ring of several senders, which may halt it too.
@@ -105,16 +169,6 @@ pub fn several_senders<R: Threads + Wait + Sync>(
     alloc: Global,
     random: &mut Random,
 ) -> Result<Told, Fault> {
-    let graph = graph(alloc, random)?;
-    let slots = 1 << random.below(11);
-    let count = random.below(MOST_SENDERS).saturating_add(1) as usize;
-    let size = Size::new(slots)?;
-    let (senders, receivers, halter) = senders_ring(alloc, &graph, size, MAX_LIMIT, count)?;
-    let parties = Parties {
-        producers: producers(alloc, senders, slots, random)?,
-        handlers: handlers(alloc, receivers, random)?,
-        halter,
-        random: random.split(),
-    };
-    run(rt, alloc, parties)
+    let opened = open_with_several(alloc, random)?;
+    run(rt, alloc, opened, random)
 }

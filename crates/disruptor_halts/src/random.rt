@@ -6,7 +6,7 @@ use std::hint::spin_loop;
 use std::thread::yield_now;
 
 /// A generator of numbers: SplitMix64.
-#[derive(Clone, Copy, Debug, PartialEq, Eq)]
+#[derive(Clone, Copy)]
 pub struct Random {
     state: u64,
 }

@@ -108,7 +108,7 @@ impl Receiving {
         for _ in 0..TURNS {
             self.random.pause();
             let stretch = self.turn(outlet, signs)?;
-            if stretch != Stretch::Goes {
+            if !matches!(stretch, Stretch::Goes) {
                 return Ok(stretch);
             }
         }

@@ -5,10 +5,10 @@ use crate::random::Random;
 use crate::stretch::{Stretch, TURNS};
 use dr_core::{Claimed, Inlet, Refusal, Trouble};
 use dr_seq::Event;
-use std::alloc::{AllocError, Global};
+use std::alloc::Global;
 
 /// An event with its sequence.
-#[derive(Clone, Copy, Debug, PartialEq, Eq)]
+#[derive(Clone, Copy)]
 pub struct Sent {
     pub sequence: u64,
     pub event: Event,
@@ -76,7 +76,7 @@ impl Sending {
     }
 
     /// The events that it sent, in the order of its claims.
-    pub fn script(&self, alloc: Global) -> Result<Vec<Event>, AllocError> {
+    pub fn script(&self, alloc: Global) -> Result<Vec<Event>, Fault> {
         let mut events = Vec::with_capacity(alloc, self.sent.len())?;
         for sent in &self.sent {
             events.push(sent.event)?;

@@ -4,7 +4,7 @@
 pub const TURNS: u64 = 64;
 
 /// What a stretch of turns came to.
-#[derive(Clone, Copy, Debug, PartialEq, Eq)]
+#[derive(Clone, Copy)]
 pub enum Stretch {
     /// There may be more to do.
     Goes,

@@ -6,7 +6,7 @@ use dr_seq::Event;
 use std::fmt;
 
 /// What rounds came to.
-#[derive(Clone, Copy, Debug, PartialEq, Eq)]
+#[derive(Clone, Copy)]
 pub struct Told {
     published: u64,
     received: u64,

@@ -4,6 +4,7 @@ ghost use denote.Param.Send.{IsSync};
 
 use crate::MOST_TURNS;
 use crate::fault::Fault;
+use crate::joining::join;
 use crate::random::Random;
 use crate::receiving::{Received, Receiving};
 use crate::sending::Sending;
@@ -11,7 +12,7 @@ use crate::signs::Signs;
 use crate::stretch::Stretch;
 use dr_core::{Command, Refusal, Reply};
 use dr_seq::Event;
-use dr_shared::{End, Exchange, LockedInlet, LockedOutlet, Shared, halt, join_all};
+use dr_shared::{End, Exchange, LockedInlet, LockedOutlet, Shared, halt};
 use std::alloc::Global;
 use std::sync::Wait;
 use std::sync::ledger::Ledger;
@@ -125,7 +126,7 @@ impl<L: Exchange<Event>> Producer<L> {
             }
         }
         let script = match ended {
-            Ok(_) => sending.script(around.alloc).map_err(Fault::from),
+            Ok(_) => sending.script(around.alloc),
             Err(fault) => {
                 // What it claimed may stay unpublished.
                 around.signs.leave();
@@ -166,7 +167,7 @@ impl<L: Exchange<Event>> Handler<L> {
             }
         }
         let received = match ended {
-            Ok(stretch) => Ok(receiving.into_received(stretch == Stretch::Drained)),
+            Ok(stretch) => Ok(receiving.into_received(matches!(stretch, Stretch::Drained))),
             Err(fault) => {
                 // Those after it may wait for it for ever.
                 around.signs.leave();
@@ -203,10 +204,7 @@ fn publish<L: Exchange<Event> + Send + Sync, R: Threads + Wait + Sync>(
                 random.pause();
             }
             halt(around.rt, around.shared, &mut halter);
-            let sent = join_all(around.rt, around.alloc, started)?;
-            if sent.len() < count {
-                return Err(Fault::Thread);
-            }
+            let sent = join(around.rt, around.alloc, started, count)?;
             Ok(Published { halter, sent })
         },
     )
@@ -242,10 +240,7 @@ pub fn exchange<L: Exchange<Event> + Send + Sync, R: Threads + Wait + Sync>(
             if published.is_err() || started.len() < count {
                 around.signs.leave();
             }
-            let handled = join_all(around.rt, around.alloc, started)?;
-            if handled.len() < count {
-                return Err(Fault::Thread);
-            }
+            let handled = join(around.rt, around.alloc, started, count)?;
             let Published { halter, sent } = published?;
             Ok(Joined {
                 halter,

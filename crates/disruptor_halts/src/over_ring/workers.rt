@@ -5,6 +5,7 @@ ghost use denote.Param.Send.{IsSend, IsSync};
 use super::ends::{Halting, Producing};
 use crate::MOST_TURNS;
 use crate::fault::Fault;
+use crate::joining::join;
 use crate::random::Random;
 use crate::receiving::{Received, Receiving};
 use crate::sending::{Sending, Sent, by_sequence};
@@ -64,7 +65,8 @@ pub struct Joined {
 impl<I: Producing> Producer<I> {
     fn send_all(&mut self) -> Result<(), Fault> {
         for _ in 0..MOST_TURNS {
-            if self.sending.send(&mut self.inlet)? != Stretch::Goes {
+            let stretch = self.sending.send(&mut self.inlet)?;
+            if !matches!(stretch, Stretch::Goes) {
                 return Ok(());
             }
             if self.random.below(MOST_BEFORE_LEAVING) == 0 {
@@ -127,6 +129,15 @@ fn halt<H: Halting>(halter: &mut H, random: &mut Random) {
     }
 }
 
+/// What threads came to, where each did its work.
+fn all_of<T: Drop>(alloc: Global, ended: Vec<Result<T, Fault>>) -> Result<Vec<T>, Fault> {
+    let mut all = Vec::with_capacity(alloc, ended.len())?;
+    for one in ended {
+        all.push(one?)?;
+    }
+    Ok(all)
+}
+
 /// Starts a thread for each producer, halts after a while, and joins them.
 fn publish<I: Producing, H: Halting, R: Threads + Wait + Sync>(
     around: &Around<'_, R>,
@@ -149,13 +160,7 @@ fn publish<I: Producing, H: Halting, R: Threads + Wait + Sync>(
                 }
             }
             halt(&mut halter, &mut random);
-            let mut sent = Vec::with_capacity(around.alloc, count)?;
-            for worker in started {
-                sent.push(worker.join(around.rt)?)?;
-            }
-            if sent.len() < count {
-                return Err(Fault::Thread);
-            }
+            let sent = all_of(around.alloc, join(around.rt, around.alloc, started, count)?)?;
             by_sequence(around.alloc, sent.as_slice())
         },
     )
@@ -192,13 +197,7 @@ pub fn exchange<I: Producing, O: Outlet<Event> + Drop + Send, H: Halting, R: Thr
             if published.is_err() || started.len() < count {
                 around.signs.leave();
             }
-            let mut received = Vec::with_capacity(around.alloc, count)?;
-            for worker in started {
-                received.push(worker.join(around.rt)?)?;
-            }
-            if received.len() < count {
-                return Err(Fault::Thread);
-            }
+            let received = all_of(around.alloc, join(around.rt, around.alloc, started, count)?)?;
             Ok(Joined {
                 published: published?,
                 received,
