@@ -5,7 +5,7 @@ ghost use Rattle.std.specs.Prelude.{◌≡◌};
 use crate::histories::{Shape, between_two, word};
 use dr_core::{Claimed, Command, Inlet, Outlet, Polled, Refusal, Trouble};
 use dr_seq::Event;
-use dr_shared::{Exchange, LockedInlet, LockedOutlet, Recorded, Shared};
+use dr_shared::{End, Exchange, LockedInlet, LockedOutlet, Recorded, Shared};
 use std::marker::Brand;
 use std::process::Abort;
 use std::sync::Wait;
@@ -46,6 +46,26 @@ fn complete_one(rt: &impl Abort, outlet: &mut impl Outlet<Event>) {
 }
 
 /// An event goes in and out, and the outlet is told of the halt.
+fn check_ends<L: Exchange<Event>, R: Wait + Abort>(
+    rt: &R,
+    shared: &Shared<Event, L>,
+    one: End<Event, L>,
+    two: End<Event, L>,
+    halter: &mut End<Event, L>,
+) {
+    let mut inlet = LockedInlet::new(rt, shared, one, 1);
+    let mut outlet = LockedOutlet::new(rt, shared, two, 0);
+    pass_between(rt, &mut inlet, &mut outlet);
+    complete_one(rt, &mut outlet);
+    assert!(rt; shared.call(rt, halter, Command::Halt, &mut []).is_ok());
+    assert_eq!(rt; inlet.try_claim(1), Err(Trouble::Refused(Refusal::Halted)));
+    assert_eq!(rt; outlet.poll_into(&mut [Event::NONE]), Ok(Polled::Drained));
+    assert_eq!(rt; inlet.into_end().calls(), 3);
+    assert_eq!(rt; outlet.into_end().calls(), 3);
+    assert_eq!(rt; (halter.calls(), halter.halts()), (1, 1));
+}
+
+/// The ends of a new lock.
 fn by_inlet_and_outlet<L: Exchange<Event>, R: Wait + Abort>(
     rt: &R,
     recorded: Recorded<Event>,
@@ -60,15 +80,6 @@ fn by_inlet_and_outlet<L: Exchange<Event>, R: Wait + Abort>(
     let one = shared.end().ok_or("an end")?;
     let two = shared.end().ok_or("an end")?;
     let mut halter = shared.end().ok_or("an end")?;
-    let mut inlet = LockedInlet::new(rt, &shared, one, 1);
-    let mut outlet = LockedOutlet::new(rt, &shared, two, 0);
-    pass_between(rt, &mut inlet, &mut outlet);
-    complete_one(rt, &mut outlet);
-    shared.call(rt, &mut halter, Command::Halt, &mut [])?;
-    assert_eq!(rt; inlet.try_claim(1), Err(Trouble::Refused(Refusal::Halted)));
-    assert_eq!(rt; outlet.poll_into(&mut [Event::NONE]), Ok(Polled::Drained));
-    assert_eq!(rt; inlet.into_end().calls(), 3);
-    assert_eq!(rt; outlet.into_end().calls(), 3);
-    assert_eq!(rt; (halter.calls(), halter.halts()), (1, 1));
+    check_ends(rt, &shared, one, two, &mut halter);
     Ok(())
 }

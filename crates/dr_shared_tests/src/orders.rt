@@ -5,7 +5,9 @@ ghost use Rattle.std.specs.Prelude.{◌≡◌};
 use crate::histories::{Shape, graph};
 use dr_core::{Inlet, MAX_LIMIT, Mode, Outlet, Polled, Wrote};
 use dr_seq::{Same, Size};
-use dr_shared::{AuditFault, Exchange, LockedInlet, LockedOutlet, Recorded, Shared, audit, finish};
+use dr_shared::{
+    AuditFault, End, Exchange, LockedInlet, LockedOutlet, Recorded, Shared, audit, finish,
+};
 use std::alloc::Global;
 use std::marker::Brand;
 use std::process::Abort;
@@ -73,6 +75,24 @@ fn pass<I: Inlet<Order>, O: Outlet<Order>>(
     Ok(())
 }
 
+/// Two ends, once orders went in and out by them.
+fn passed_through<L: Exchange<Order>, R: Wait + Abort>(
+    rt: &R,
+    alloc: Global,
+    shared: &Shared<Order, L>,
+    one: End<Order, L>,
+    two: End<Order, L>,
+    orders: &[Order; 2],
+) -> Result<Vec<End<Order, L>>, Fail> {
+    let mut inlet = LockedInlet::new(rt, shared, one, 0);
+    let mut outlet = LockedOutlet::new(rt, shared, two, 0);
+    pass(rt, &mut inlet, &mut outlet, orders)?;
+    let mut ends = Vec::new(alloc);
+    ends.push(inlet.into_end())?;
+    ends.push(outlet.into_end())?;
+    Ok(ends)
+}
+
 fn by_lock<L: Exchange<Order>, R: Wait + Abort>(
     rt: &R,
     alloc: Global,
@@ -88,16 +108,11 @@ fn by_lock<L: Exchange<Order>, R: Wait + Abort>(
     let mut shared = Shared::<Order, L>::new(recorded, blank);
     let one = shared.end().ok_or("an end")?;
     let two = shared.end().ok_or("an end")?;
-    let mut inlet = LockedInlet::new(rt, &shared, one, 0);
-    let mut outlet = LockedOutlet::new(rt, &shared, two, 0);
-    pass(rt, &mut inlet, &mut outlet, &orders)?;
-    let mut ends = Vec::new(alloc);
-    ends.push(inlet.into_end())?;
-    ends.push(outlet.into_end())?;
-    let Ok(recorded) = finish(shared, ends) else {
-        return Err("the ends are back".into());
-    };
-    check_audits(rt, alloc, &recorded, &orders)
+    let ends = passed_through(rt, alloc, &shared, one, two, &orders)?;
+    match finish(shared, ends) {
+        Ok(recorded) => check_audits(rt, alloc, &recorded, &orders),
+        Err(_) => Err("the ends are back".into()),
+    }
 }
 
 /// The audit gives the orders, and finds one that differs in its flag alone.
