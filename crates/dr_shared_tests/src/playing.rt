@@ -71,6 +71,22 @@ fn check_kept(rt: &impl Abort, recorded: &Recorded<Event>, kept: &[Entry<Event>]
     }
 }
 
+/// The one end, once a run's calls were made through it.
+fn played<L: Exchange<Event>, R: Wait + Abort>(
+    rt: &R,
+    alloc: Global,
+    shared: &mut Shared<Event, L>,
+    rows: &[(Call, Answer)],
+    kept: &mut Vec<Entry<Event>>,
+) -> Result<Vec<End<Event, L>>, Fail> {
+    let mut end = shared.end().ok_or("an end")?;
+    play_rows(rt, alloc, shared, &mut end, rows, kept)?;
+    assert_eq!(rt; end.calls(), kept.len() as u64);
+    let mut ends = Vec::new(alloc);
+    ends.push(end)?;
+    Ok(ends)
+}
+
 /// Plays a run through one end of a new lock.
 fn play_in<L: Exchange<Event>, R: Wait + Abort>(
     rt: &R,
@@ -85,18 +101,16 @@ fn play_in<L: Exchange<Event>, R: Wait + Abort>(
     requires ends { blank.parts ≡ 65 }
     requires begun { recorded.history ≡ L.begun }
 {
-    let mut shared = Shared::<Event, L>::new(recorded, blank);
-    let mut end = shared.end().ok_or("an end")?;
     let mut kept = Vec::new(alloc);
-    play_rows(rt, alloc, &shared, &mut end, rows, &mut kept)?;
-    assert_eq!(rt; end.calls(), kept.len() as u64);
-    let mut ends = Vec::new(alloc);
-    ends.push(end)?;
-    let Ok(recorded) = finish(shared, ends) else {
-        return Err("the end is back".into());
-    };
-    check_kept(rt, &recorded, kept.as_slice(), values);
-    Ok(())
+    let mut shared = Shared::<Event, L>::new(recorded, blank);
+    let ends = played(rt, alloc, &mut shared, rows, &mut kept)?;
+    match finish(shared, ends) {
+        Ok(recorded) => {
+            check_kept(rt, &recorded, kept.as_slice(), values);
+            Ok(())
+        }
+        Err(_) => Err("the end is back".into()),
+    }
 }
 
 /// Plays a run over a lock of its own.
