@@ -86,9 +86,9 @@ fn check_round(
     name: &str,
 ) -> Result<(), Fault> {
     let Some(Request::Measure(order)) = asked(alloc, name, ["64", "0", "1"])? else {
-        return Err(Fault::Usage);
+        return Err(Fault::USAGE);
     };
-    let events = measure(rt, alloc, order)?.median.events;
+    let events = measure(rt, alloc, &order)?.events;
     let topology = order.topology;
     println!(rt; "{topology} {events}")?;
     Ok(())
@@ -139,13 +139,15 @@ fn check_wrong(rt: &impl Runtime, alloc: Global) -> Result<(), Fault> {
 /// Prints the line of three rounds, the second of which is in the middle by events a second.
 fn check_line(rt: &impl Runtime, alloc: Global) -> Result<(), Fault> {
     let Some(Request::Measure(order)) = asked(alloc, "diamond", ["64", "0.25", "3"])? else {
-        return Err(Fault::Usage);
+        return Err(Fault::USAGE);
     };
-    let mut rounds = [30, 20, 10].map(|events| Round {
-        events,
-        time: Duration::from_millis(1500),
-    });
-    let median = median(&mut rounds).ok_or(Fault::Usage)?;
+    let time = Duration::from_millis(1500);
+    let mut rounds = [
+        Round { events: 30, time },
+        Round { events: 20, time },
+        Round { events: 10, time },
+    ];
+    let median = median(&mut rounds).ok_or(Fault::USAGE)?;
     Ok(rt.println(Measured { order, median })?)
 }
 

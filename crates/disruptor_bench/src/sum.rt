@@ -5,7 +5,7 @@ use dr_core::{Handler, InPlaceHandler};
 use dr_seq::Event;
 
 /// A handler that adds up the first words, as the LMAX measurements' does.
-#[derive(Clone, Copy, Debug, PartialEq, Eq)]
+#[derive(Clone, Copy)]
 pub struct Sum {
     pub total: u64,
 }

@@ -7,8 +7,8 @@ use crate::measured::Round;
 use crate::sum::{event_at, sum_of_first};
 use crate::{MOST_TURNS, STRETCH};
 use dr_core::{Claimed, Inlet, MAX_LIMIT, Outlet, Polled, Refusal, Trouble};
-use dr_ring::{Sender, ring};
-use dr_seq::Event;
+use dr_ring::{Halter, Receiver, Sender, ring};
+use dr_seq::{Event, Size};
 use dr_shared::Waiting;
 use std::alloc::Global;
 use std::rt::Clock;
@@ -19,7 +19,7 @@ use std::time::{Duration, Instant};
 pub type Handler = JoinHandle<Result<u64, Fault>>;
 
 /// The most events that a handler takes at once.
-pub const MOST_AT_ONCE: u64 = 1024;
+const MOST_AT_ONCE: u64 = 1024;
 
 /// Adds up what is received, until the ring is drained.
 fn receive<O: Outlet<Event> + Drop>(mut receiver: O, mut room: Vec<Event>) -> Result<u64, Fault> {
@@ -36,7 +36,7 @@ fn receive<O: Outlet<Event> + Drop>(mut receiver: O, mut room: Vec<Event>) -> Re
             Polled::Gating | Polled::Idle => waiting.wait(),
         }
     }
-    Err(Fault::NoEnd)
+    Err(Fault::NO_END)
 }
 
 /// The sum of the first events of a batch, as it wraps.
@@ -58,7 +58,7 @@ fn claim<I: Inlet<Event>>(sender: &mut I, n: u64) -> Result<Claimed, Fault> {
             Err(trouble) => return Err(trouble.into()),
         }
     }
-    Err(Fault::NoEnd)
+    Err(Fault::NO_END)
 }
 
 /// Claims, writes and publishes once.
@@ -92,7 +92,20 @@ fn send_for(clock: &impl Clock, sender: &mut Sender, n: u64, time: Duration) -> 
             return Ok(events);
         }
     }
-    Err(Fault::NoEnd)
+    Err(Fault::NO_END)
+}
+
+fn start_one<O: Outlet<Event> + Drop + Send + 'static>(
+    rt: &impl Threads,
+    alloc: Global,
+    receiver: O,
+    room: usize,
+) -> Result<Handler, Fault> {
+    let room = vec![in alloc; Event::NONE; room]?;
+    match thread::spawn(rt, move || receive(receiver, room)) {
+        Ok(handler) => Ok(handler),
+        Err(_) => Err(Fault::THREAD),
+    }
 }
 
 /// Starts a thread for each handler.
@@ -100,15 +113,12 @@ pub fn start<O: Outlet<Event> + Drop + Send + 'static>(
     rt: &impl Threads,
     alloc: Global,
     receivers: Vec<O>,
-    room: usize,
+    size: Size,
 ) -> Result<Vec<Handler>, Fault> {
+    let room = size.get().min(MOST_AT_ONCE) as usize;
     let mut handlers = Vec::new(alloc);
     for receiver in receivers {
-        let room = vec![in alloc; Event::NONE; room]?;
-        let Ok(handler) = thread::spawn(rt, move || receive(receiver, room)) else {
-            return Err(Fault::Thread);
-        };
-        handlers.push(handler)?;
+        handlers.push(start_one(rt, alloc, receiver, room)?)?;
     }
     Ok(handlers)
 }
@@ -118,21 +128,35 @@ pub fn finish(rt: &impl Threads, handlers: Vec<Handler>, events: u64) -> Result<
     let total = sum_of_first(events);
     for handler in handlers {
         if handler.join(rt)? != total {
-            return Err(Fault::WrongSum);
+            return Err(Fault::WRONG_SUM);
         }
     }
     Ok(())
 }
 
-/// One round over a ring of its own, from the first claim until the last handler has drained it.
-pub fn round(rt: &(impl Clock + Threads), alloc: Global, order: &Order) -> Result<Round, Fault> {
+fn ends(alloc: Global, order: &Order) -> Result<(Sender, Vec<Receiver>, Halter), Fault> {
     let graph = order.topology.shape.graph(alloc)?;
-    let (mut sender, receivers, _halter) = ring(alloc, &graph, order.size, MAX_LIMIT)?;
-    let room = order.size.get().min(MOST_AT_ONCE) as usize;
-    let handlers = start(rt, alloc, receivers, room)?;
+    Ok(ring(alloc, &graph, order.size, MAX_LIMIT)?)
+}
+
+/// A round from the first claim until the last handler has drained the ring.
+fn measured(
+    rt: &(impl Clock + Threads),
+    alloc: Global,
+    order: &Order,
+    sender: &mut Sender,
+    receivers: Vec<Receiver>,
+) -> Result<Round, Fault> {
+    let handlers = start(rt, alloc, receivers, order.size)?;
     let begun = Instant::now(rt)?;
-    let events = send_for(rt, &mut sender, order.claim(), order.time)?;
+    let events = send_for(rt, sender, order.claim(), order.time)?;
     finish(rt, handlers, events)?;
     let time = begun.elapsed(rt)?;
     Ok(Round { events, time })
+}
+
+/// One round over a ring of its own.
+pub fn round(rt: &(impl Clock + Threads), alloc: Global, order: &Order) -> Result<Round, Fault> {
+    let (mut sender, receivers, _halter) = ends(alloc, order)?;
+    measured(rt, alloc, order, &mut sender, receivers)
 }

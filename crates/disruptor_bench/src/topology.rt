@@ -6,7 +6,7 @@ use std::alloc::Global;
 use std::fmt;
 
 /// What the events go through.
-#[derive(Clone, Copy, Debug, PartialEq, Eq)]
+#[derive(Clone, Copy)]
 pub enum Exchange {
     /// The core of events of such a width, with all on one thread.
     Core(Width),
@@ -27,7 +27,7 @@ const NAMES: [&str; MOST_HANDLERS] = [
 ];
 
 /// The graphs of the LMAX paper's measurements, and two that grow.
-#[derive(Clone, Copy, Debug, PartialEq, Eq)]
+#[derive(Clone, Copy)]
 pub enum Shape {
     /// One handler.
     Unicast,
@@ -44,7 +44,7 @@ pub enum Shape {
 }
 
 /// How the producer sends.
-#[derive(Clone, Copy, Debug, PartialEq, Eq)]
+#[derive(Clone, Copy)]
 pub enum Pace {
     /// Claims of one; on one thread until the ring is full.
     Ones,
@@ -55,7 +55,7 @@ pub enum Pace {
 }
 
 /// What is measured. Its text is its name on the command line.
-#[derive(Clone, Copy, Debug, PartialEq, Eq)]
+#[derive(Clone, Copy)]
 pub struct Topology {
     pub exchange: Exchange,
     pub shape: Shape,
@@ -100,7 +100,7 @@ impl Exchange {
 
     /// Whether a producer can send to it so: threads have no steps.
     fn has(self, pace: Pace) -> bool {
-        matches!(self, Exchange::Core(_)) || pace != Pace::Step
+        matches!(self, Exchange::Core(_)) || !matches!(pace, Pace::Step)
     }
 }
 
@@ -134,15 +134,34 @@ fn handlers_of(word: &str) -> Option<usize> {
     Some(count_of(word, MOST_HANDLERS as u64)? as usize)
 }
 
+/// Which comes after which in a chain.
+const STEPS: [(&str, &str); 15] = [
+    ("a", "b"),
+    ("b", "c"),
+    ("c", "d"),
+    ("d", "e"),
+    ("e", "f"),
+    ("f", "g"),
+    ("g", "h"),
+    ("h", "i"),
+    ("i", "j"),
+    ("j", "k"),
+    ("k", "l"),
+    ("l", "m"),
+    ("m", "n"),
+    ("n", "o"),
+    ("o", "p"),
+];
+
+/// Connects the first handlers one after another.
 fn chain(builder: &mut GraphBuilder, handlers: usize) -> Result<(), GraphFault> {
-    let mut last = builder.handle_with(&["a"])?;
-    for name in NAMES.iter().take(handlers).skip(1) {
-        last = builder.then(&last, &[*name])?;
+    for (up, down) in STEPS.iter().take(handlers.saturating_sub(1)) {
+        builder.edge(*up, *down)?;
     }
     Ok(())
 }
 
-fn side(builder: &mut GraphBuilder, handlers: usize) -> Result<(), GraphFault> {
+fn declare(builder: &mut GraphBuilder, handlers: usize) -> Result<(), GraphFault> {
     for name in NAMES.iter().take(handlers) {
         builder.handle_with(&[*name])?;
     }
@@ -175,20 +194,30 @@ impl Shape {
         }
     }
 
+    fn handlers(self) -> usize {
+        match self {
+            Shape::Unicast => 1,
+            Shape::Pipeline | Shape::Multicast | Shape::Diamond => 3,
+            Shape::Chain(handlers) | Shape::Side(handlers) => handlers,
+        }
+    }
+
+    fn connect(self, builder: &mut GraphBuilder) -> Result<(), GraphFault> {
+        match self {
+            Shape::Unicast | Shape::Multicast | Shape::Side(_) => Ok(()),
+            Shape::Pipeline | Shape::Chain(_) => chain(builder, self.handlers()),
+            Shape::Diamond => {
+                builder.edge("a", "c")?;
+                builder.edge("b", "c")
+            }
+        }
+    }
+
     /// The graph of its handlers.
     pub fn graph(self, alloc: Global) -> Result<Graph, GraphFault> {
         let mut builder = GraphBuilder::new(alloc);
-        match self {
-            Shape::Unicast => side(&mut builder, 1)?,
-            Shape::Pipeline => chain(&mut builder, 3)?,
-            Shape::Multicast => side(&mut builder, 3)?,
-            Shape::Diamond => {
-                let both = builder.handle_with(&["a", "b"])?;
-                builder.then(&both, &["c"])?;
-            }
-            Shape::Chain(handlers) => chain(&mut builder, handlers)?,
-            Shape::Side(handlers) => side(&mut builder, handlers)?,
-        }
+        declare(&mut builder, self.handlers())?;
+        self.connect(&mut builder)?;
         builder.build()
     }
 }

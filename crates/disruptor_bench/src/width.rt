@@ -3,7 +3,7 @@
 use std::fmt;
 
 /// How many words an event has.
-#[derive(Clone, Copy, Debug, PartialEq, Eq)]
+#[derive(Clone, Copy)]
 pub enum Width {
     One,
     Two,
@@ -39,7 +39,7 @@ impl fmt::Display for Width {
 }
 
 /// An event of one word and so many more.
-#[derive(Clone, Copy, Debug, PartialEq, Eq)]
+#[derive(Clone, Copy)]
 pub struct Words<const MORE: usize> {
     pub first: u64,
     pub more: [u64; MORE],
