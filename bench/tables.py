@@ -1,5 +1,5 @@
 #!/usr/bin/env python3
-"""Writes what was measured as tables: docs/FIGURES.md, from the files of bench/measured.
+"""Writes what was measured as tables: bench/FIGURES.md, from the files of bench/measured.
 
 `--measured FOLDER` and `--figures FILE` name other places, as for a machine of your own.
 """
@@ -13,7 +13,7 @@ from records import read
 HEAD = """# Figures
 
 The tables of what was measured, from the records in `bench/measured`, as `make bench-plots` writes them.
-[BENCHMARKS.md](BENCHMARKS.md) says how each was measured, what the programs are, and what the figures show.
+[BENCHMARKS.md](../docs/BENCHMARKS.md) says how each was measured, what the programs are, and what the figures show.
 """
 RATES = "Millions of events a second."
 
@@ -75,7 +75,7 @@ def section(title, unit, head, records):
 def main():
     parser = argparse.ArgumentParser(description=__doc__, formatter_class=argparse.RawDescriptionHelpFormatter)
     parser.add_argument("--measured", default=os.path.join(TOP, "bench", "measured"))
-    parser.add_argument("--figures", default=os.path.join(TOP, "docs", "FIGURES.md"))
+    parser.add_argument("--figures", default=os.path.join(TOP, "bench", "FIGURES.md"))
     given = parser.parse_args()
     lines = [HEAD]
     for name, (title, unit) in FILES.items():
