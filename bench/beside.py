@@ -11,9 +11,10 @@
     bench/beside.py few                two topologies on threads, for fewer processors than ends (`taskset`)
 
 The others are the rings of bench/plain/exchanges, which `rustc` builds, and LMAX's own, where `javac` and
-the library are there (Debian's package libdisruptor-java; `--lmax JAR` names another place). All run in
-turns, `--turns N` times (three without it), each for `--rounds N` rounds of one short stretch, of which the
-one in the middle counts; the best of a program's turns is taken. `--under WORDS` starts each run by these
+the library are there (Debian's package libdisruptor-java; `--lmax JAR` names another place): `lmax` claims
+by `next`, which parks where there is no room, and `lmax-try` by `tryNext`, again and again. All run in
+turns, `--turns N` times (three without it), each for `--rounds N` rounds of `--seconds S`, of which the one
+in the middle counts; the best of a program's turns is taken. `--under WORDS` starts each run by these
 words, as 'chrt -r 10' (other work on the machine then counts for less) or 'taskset -c 0,1'.
 `--record FILE` also writes the rates to a file, as those of bench/measured, which bench/plots.py draws.
 """
@@ -33,7 +34,7 @@ LMAX = os.path.join(TOP, "bench", "lmax", "Lmax.java")
 SHAPES = ("unicast", "pipeline", "multicast", "diamond")
 SIZES = (64, 1024, 65536)
 ONE_THREAD = ("ours", "ring", "deque", "lmax")
-THREADS = ("ours", "words", "mutex", "lmax")
+THREADS = ("ours", "words", "mutex", "lmax", "lmax-try")
 
 
 class Programs:
@@ -41,7 +42,8 @@ class Programs:
 
     def __init__(self, given, folder):
         self.given = given
-        manner = f"{given.under}, {given.rounds} rounds, the best of {given.turns} turns".removeprefix(", ")
+        rounds = f"{given.rounds} rounds of {given.seconds} seconds"
+        manner = f"{given.under}, {rounds}, the best of {given.turns} turns".removeprefix(", ")
         self.records = Records(given.record, RATES, manner)
         self.words = {"ours": [given.program]}
         plain = os.path.join(folder, "exchanges")
@@ -50,7 +52,8 @@ class Programs:
             self.words[kind] = [plain, kind]
         if shutil.which("javac") and os.path.exists(given.lmax):
             subprocess.run(["javac", "-cp", given.lmax, "-d", folder, LMAX], check=True)
-            self.words["lmax"] = ["java", "-cp", f"{given.lmax}{os.pathsep}{folder}", "Lmax"]
+            java = ["java", "-cp", f"{given.lmax}{os.pathsep}{folder}", "Lmax"]
+            self.words |= {"lmax": [*java, "next"], "lmax-try": [*java, "try"]}
 
     def of(self, kinds):
         return [kind for kind in kinds if kind in self.words]
@@ -58,7 +61,7 @@ class Programs:
     def rate(self, kind, topology, size):
         """Millions of events a second, or None where it takes too long."""
         words = self.given.under.split() + self.words[kind]
-        words += [topology, str(size), "0", str(self.given.rounds)]
+        words += [topology, str(size), str(self.given.seconds), str(self.given.rounds)]
         try:
             ran = subprocess.run(words, stdout=subprocess.PIPE, text=True, timeout=self.given.patience)
         except subprocess.TimeoutExpired:
@@ -106,7 +109,7 @@ def table(programs):
 def grow(programs, word, steps):
     """A row a step, which is what it is called, a topology and a size."""
     for prefix, kinds in (("core-", ONE_THREAD), ("", THREADS)):
-        kinds = [kind for kind in programs.of(kinds) if kind != "lmax"]
+        kinds = [kind for kind in programs.of(kinds) if not kind.startswith("lmax")]
         print_head([word] + kinds)
         for name, topology, size in steps:
             print_row(name, programs, kinds, prefix + topology, size)
@@ -131,7 +134,7 @@ def producers(programs):
 
 def senders(programs):
     """The ring with several senders beside plain words, and LMAX's with several producers."""
-    kinds = programs.of(("ours", "words", "lmax"))
+    kinds = programs.of(("ours", "words", "lmax", "lmax-try"))
     print_head(["senders", "events a claim"] + kinds)
     for count in (1, 2, 3, 4, 8, 16):
         for claim in (1, 10, 100):
@@ -161,7 +164,8 @@ def main():
     parser.add_argument("--program", default=PROGRAM)
     parser.add_argument("--lmax", default="/usr/share/java/disruptor.jar")
     parser.add_argument("--under", default="")
-    parser.add_argument("--rounds", type=int, default=101)
+    parser.add_argument("--seconds", type=float, default=0.2, help="of a round")
+    parser.add_argument("--rounds", type=int, default=5)
     parser.add_argument("--turns", type=int, default=3)
     parser.add_argument("--patience", type=float, default=60, help="seconds that a run has")
     parser.add_argument("--record", metavar="FILE")

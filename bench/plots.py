@@ -60,6 +60,7 @@ LOOKS = {
     "words": Look("plain words", "#00795A", "s"),
     "plain": Look("plain Rust", "#5B4A9E", "s"),
     "lmax": Look("LMAX", "#A3326F", "D"),
+    "lmax-try": Look("LMAX tryNext", "#C77BA4", "d"),
     "deque": Look("deques", "#707070", "^"),
     "mutex": Look("mutex", "#8A6D00", "v"),
 }

@@ -1,6 +1,7 @@
 import com.lmax.disruptor.BatchEventProcessor;
 import com.lmax.disruptor.EventHandler;
 import com.lmax.disruptor.EventPoller;
+import com.lmax.disruptor.InsufficientCapacityException;
 import com.lmax.disruptor.RingBuffer;
 import com.lmax.disruptor.Sequence;
 import com.lmax.disruptor.SequenceBarrier;
@@ -11,14 +12,23 @@ import java.util.Comparator;
 import java.util.List;
 
 /**
- * LMAX's own ring, to measure the exchanges against: {@code Lmax TOPOLOGY SIZE SECONDS ROUNDS} prints a
- * line as {@code disruptor_bench} does. On one thread (topologies that begin with {@code core-}) the
+ * LMAX's own ring, to measure the exchanges against: {@code Lmax CLAIMS TOPOLOGY SIZE SECONDS ROUNDS} prints
+ * a line as {@code disruptor_bench} does. On one thread (topologies that begin with {@code core-}) the
  * handlers are pollers; else each is a batch processor on a thread of its own that waits by yielding.
  * {@code sendersP-} before a shape stands for P producers, each on a thread of its own too.
+ *
+ * <p>CLAIMS is {@code next}, which parks where there is no room, or {@code try}, which tries again and yields
+ * now and then, as the yielding strategy does.
  */
 public final class Lmax {
     /** How many events go through between two looks at the clock, about. */
     private static final long STRETCH = 65_536;
+
+    /** Rounds before those that count, until the machine code is there. */
+    private static final int WARM = 2;
+
+    /** Failed claims before the first that yields: as many as the yielding strategy looks. */
+    private static final int SPINS = 100;
 
     static final class Event {
         long first;
@@ -54,12 +64,14 @@ public final class Lmax {
 
     private final int[][] upstreams;
     private final int producers;
+    private final boolean tries;
     private final long claim;
     private final boolean step;
     private final int size;
     private final long nanos;
 
-    private Lmax(int producers, String shape, String pace, int size, double seconds) {
+    private Lmax(boolean tries, int producers, String shape, String pace, int size, double seconds) {
+        this.tries = tries;
         this.producers = producers;
         this.upstreams = upstreams(shape);
         this.step = pace.equals("step");
@@ -91,16 +103,31 @@ public final class Lmax {
         return Arrays.stream(handlers).mapToObj(h -> sequences[h]).toArray(Sequence[]::new);
     }
 
+    /** Claims by trying again as long as there is no room, and has the last sequence. */
+    private static long tried(RingBuffer<Event> ring, int claim) {
+        for (int failed = 0; ; failed++) {
+            try {
+                return ring.tryNext(claim);
+            } catch (InsufficientCapacityException full) {
+                if (failed < SPINS) {
+                    Thread.onSpinWait();
+                } else {
+                    Thread.yield();
+                }
+            }
+        }
+    }
+
     private void send(RingBuffer<Event> ring) {
         if (claim == 1) {
-            long s = ring.next();
+            long s = tries ? tried(ring, 1) : ring.next();
             Event event = ring.get(s);
             event.first = s;
             event.second = 0;
             ring.publish(s);
             return;
         }
-        long hi = ring.next((int) claim);
+        long hi = tries ? tried(ring, (int) claim) : ring.next((int) claim);
         long lo = hi - claim + 1;
         for (long s = lo; s <= hi; s++) {
             Event event = ring.get(s);
@@ -226,16 +253,20 @@ public final class Lmax {
     }
 
     public static void main(String[] words) throws Exception {
-        boolean oneThread = words[0].startsWith("core-");
-        List<String> parts = new ArrayList<>(List.of(words[0].split("-")));
+        boolean tries = words[0].equals("try");
+        String topology = words[1];
+        boolean oneThread = topology.startsWith("core-");
+        List<String> parts = new ArrayList<>(List.of(topology.split("-")));
         String exchange = parts.get(0);
         int producers = exchange.startsWith("senders") ? Integer.parseInt(exchange.substring(7)) : 0;
         if (oneThread || producers > 0) {
             parts.remove(0);
         }
-        int rounds = Integer.parseInt(words[3]);
+        int size = Integer.parseInt(words[2]);
+        double seconds = Double.parseDouble(words[3]);
+        int rounds = WARM + Integer.parseInt(words[4]);
         String pace = parts.size() > 1 ? parts.get(1) : "";
-        Lmax lmax = new Lmax(producers, parts.get(0), pace, Integer.parseInt(words[1]), Double.parseDouble(words[2]));
+        Lmax lmax = new Lmax(tries, producers, parts.get(0), pace, size, seconds);
         List<Round> done = new ArrayList<>();
         if (oneThread) {
             done.addAll(lmax.oneThread(rounds));
@@ -244,8 +275,9 @@ public final class Lmax {
                 done.add(lmax.threads());
             }
         }
+        done.subList(0, WARM).clear();
         done.sort(Comparator.comparingDouble(Round::perSecond));
         Round median = done.get(done.size() / 2);
-        System.out.printf("lmax %s %s %d %.6f %.0f%n", words[0], words[1], median.events, median.nanos / 1e9, median.perSecond());
+        System.out.printf("lmax %s %d %d %.6f %.0f%n", topology, size, median.events, median.nanos / 1e9, median.perSecond());
     }
 }
