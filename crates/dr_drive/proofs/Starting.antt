@@ -2,9 +2,8 @@
 use Rattle.std.proofs.Common.{◌≡◌, ◌==◌, false, inl, inr, Option, List, [], ◌∷◌, Result, Ok, Err, refl, sym, ap, ◌∙◌, length, arith, if◌then◌else◌}
 use Rattle.std.proofs.lemmas.Bool.{ne_eqb}
 use Rattle.std.specs.Prelude.{◌⊎◌}
-use Rattle.dr_graph.specs.Meaning.Declaration.{Declaration}
+use Rattle.dr_graph.specs.Meaning.Declaration.{Declaration, IsDeclaration}
 use Rattle.dr_graph.specs.Meaning.Graph.{IsGraphOf, GraphView}
-use Rattle.dr_graph.specs.Inside.KeptBuilder.{IsDeclaration}
 use Rattle.dr_graph.specs.Meaning.Name.{Name}
 use Rattle.dr_graph.specs.Meaning.Order.{HasCycle}
 use Rattle.dr_graph.specs.Meaning.Placing.{FindsGraph, graph_of}

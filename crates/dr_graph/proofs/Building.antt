@@ -5,9 +5,8 @@ use Rattle.std.proofs.lemmas.List.{get_or-map, length-map}
 use Rattle.std.specs.Prelude.{slice_index_or}
 use Rattle.dr_graph.specs.Meaning.Name.{Name, AreDistinct}
 use Rattle.dr_graph.specs.Meaning.Order.{IsBuiltOrder}
-use Rattle.dr_graph.specs.Meaning.Declaration.{Declaration}
+use Rattle.dr_graph.specs.Meaning.Declaration.{Declaration, IsDeclaration}
 use Rattle.dr_graph.specs.Meaning.Graph.{IsGraph, IsGraphOf, AreLists, names_in}
-use Rattle.dr_graph.specs.Inside.KeptBuilder.{IsDeclaration}
 use Rattle.dr_graph.specs.Inside.KeptGraph.{IsShape}
 use Rattle.dr_graph.proofs.Orders.{once}
 use Rattle.dr_graph.proofs.Chosen.{upstreams_whole, layered_lists, rising_lists}

@@ -36,8 +36,7 @@ use Rattle.std.specs.List.{list_all, range_with_len}
 use Rattle.dr_graph.specs.declared.edge.Edge.{Edge}
 use Rattle.dr_graph.specs.Meaning.Name.{Name, texts, given, AreDistinct, is_named, index_of}
 use Rattle.dr_graph.specs.Meaning.Order.{is_upstream, AreWithin}
-use Rattle.dr_graph.specs.Meaning.Declaration.{Declaration, name_faults, edges_to, edges_between}
-use Rattle.dr_graph.specs.Inside.KeptBuilder.{IsDeclaration}
+use Rattle.dr_graph.specs.Meaning.Declaration.{Declaration, name_faults, edges_to, edges_between, IsDeclaration}
 use Rattle.dr_graph.proofs.Adding.{text}
 use Rattle.dr_graph.proofs.NewNames.{distinct_new, new_all}
 use Rattle.dr_graph.proofs.Places.{place_named}

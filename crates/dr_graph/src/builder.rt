@@ -4,9 +4,8 @@ ghost use Rattle.std.specs.Prelude.{◌≡◌, ◌⊎◌, ◌↔◌, ◌++◌, N
 ghost use Rattle.std.specs.Option.{option_or};
 ghost use Rattle.dr_graph.specs.Meaning.Name.{given, new_names};
 ghost use Rattle.dr_graph.specs.Meaning.Order.{HasCycle};
-ghost use Rattle.dr_graph.specs.Meaning.Declaration.{declaring_fault, stranger_fault, following_fault, grouping_fault, followed_by, connected};
+ghost use Rattle.dr_graph.specs.Meaning.Declaration.{declaring_fault, stranger_fault, following_fault, grouping_fault, followed_by, connected, IsDeclaration};
 ghost use Rattle.dr_graph.specs.Meaning.Graph.{IsGraph, IsGraphOf};
-ghost use Rattle.dr_graph.specs.Inside.KeptBuilder.{IsDeclaration};
 
 use crate::built::{Graph, build};
 use crate::edge::{Edge, is_upstream, with_followers};

@@ -1,17 +1,23 @@
 -- What is declared, and what each call of a builder answers and adds.
-use Rattle.std.specs.Prelude.{ℕ, ◌+◌, not, ◌==◌, nat_lt, if◌then◌else◌, Option, None, Some, List, [], ◌∷◌, ◌++◌, length, map}
+use Rattle.std.specs.Prelude.{ℕ, ◌+◌, ◌≤◌, not, ◌==◌, nat_lt, if◌then◌else◌, Option, None, Some, List, [], ◌∷◌, ◌++◌, length, map}
 use Rattle.std.specs.List.{list_all, flat_map, range_with_len}
 use Rattle.std.specs.Option.{option_or}
 use Rattle.dr_graph.specs.declared.edge.Edge.{Edge}
 use Rattle.dr_graph.specs.declared.fault.GraphFault.{GraphFault}
 use Rattle.dr_graph.specs.declared.fault.GraphFault.TheVariants.{BadName, Duplicate, Stranger, TooMany, EmptyGroup}
-use Rattle.dr_graph.specs.Meaning.Name.{Name, is_good_name, is_named, index_of}
-use Rattle.dr_graph.specs.Meaning.Order.{is_upstream}
+use Rattle.dr_graph.specs.Meaning.Name.{Name, AreDistinct, is_good_name, is_named, index_of}
+use Rattle.dr_graph.specs.Meaning.Order.{AreWithin, is_upstream}
 
 -- names in the order of their declaration, and edges between their places in it
 pub record Declaration : Type 0 where
   pub names : List Name
   pub edges : List Edge
+
+-- names are few and distinct, and both ends of each edge are declared
+pub record IsDeclaration (d : Declaration) : Type 0 where
+  pub few : length d.names ≤ 16
+  pub distinct : AreDistinct d.names
+  pub within : AreWithin (length d.names) d.edges
 
 -- what refuses to declare a name after others
 abbrev pub name_fault : List Name → Name → Option GraphFault
