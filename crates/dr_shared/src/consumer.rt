@@ -102,7 +102,7 @@ pub fn consume<E: Copy, R: Wait, O: Outlet<E>, G: Gate, H: Handler<E>>(
     buf: &mut [E],
 ) -> Option<WorkFault>
     ensures kept { O.kept outlet.new ≡ O.kept outlet.old }
-    ensures serves { SomeCalls O.does outlet.old outlet.new (Serves H.goes handler.old handler.new (O.received outlet.old) (O.received outlet.new) (G.may_stop gate.now who) (G.must_stop gate.now who) result) }
+    ensures serves { SomeCalls O.does outlet.old outlet.new (Serves (length buf.old) H.goes handler.old handler.new (O.received outlet.old) (O.received outlet.new) (G.may_stop gate.now who) (G.must_stop gate.now who) result) }
     ensures done { IfNone result (WhereShown IsDone (O.received outlet.old) (O.received outlet.new)) }
     ensures drained { IfNone result (O.told outlet.new ≡ true) }
     ensures waits { result ≢ Some Memory }
