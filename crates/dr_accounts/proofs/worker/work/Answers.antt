@@ -54,7 +54,7 @@ returns g c =
         | in-Ok-None w ↦
             let handed : HandsOut batches (received_of c.args.receiver.knows) (received_of run.new.outlet.knows) = serves.holds.works.handed in
             let all : dealt_events batches ≡ run.new.outlet.knows.received = shown_all c.args.receiver.knows.received run.new.outlet.knows.received (dealt_events batches) none handed.0 in
-            let says = c.part.ensures c.begin-handler.result batches c.begin-handler.ensures serves.holds.works.through in
+            let says = c.part.ensures c.begin-handler.result batches c.begin-handler.ensures.new serves.holds.works.through in
             subst (λ p. IfOk p (λ text. string_bytes text ≡ g.P.Reporter.part_of run.new.outlet.knows.received)) (sym w.part-is)
             (subst (λ p. IfOk p (λ text. string_bytes text ≡ g.P.Reporter.part_of run.new.outlet.knows.received)) w.in-Ok-None.is-0
             (subst (λ l. IfOk c.part.result (λ text. string_bytes text ≡ g.P.Reporter.part_of l)) all says))
@@ -67,7 +67,7 @@ returns g c =
         fault = run.result;
         room = _;
         some = some_room _ _ room (omega arith);
-        new = c.begin-handler.ensures;
+        new = c.begin-handler.ensures.new;
         calls = serves;
         answers = answers;
       };
