@@ -1,0 +1,11 @@
+-- What public contracts cite: what an end is, and what its calls answer and leave.
+pub mod Plans
+pub mod Finds
+pub mod Ends
+pub mod Fault
+pub mod Making
+pub mod Settling
+pub mod Sending
+pub mod Receiving
+pub mod Inlets
+pub mod Outlets

@@ -1,0 +1,31 @@
+//! The ring over plain memory: one sender hands events of any type to a graph of receivers, each end
+//! on a thread of its own. An event lies once in memory, and tokens of it travel.
+#![tactic(auto)]
+
+mod claiming;
+mod dealt;
+pub mod events;
+mod exchanges;
+pub mod fault;
+mod inlet;
+pub mod laws;
+mod lending;
+mod opening;
+mod outlets;
+mod plan;
+mod polling;
+pub mod receiver;
+pub mod record;
+pub mod sender;
+pub mod settled;
+mod updating;
+mod written;
+
+pub use events::Events;
+pub use fault::RingFault;
+pub use laws::Halter;
+pub use opening::ring;
+pub use plan::{Plan, copy_upstreams};
+pub use receiver::Receiver;
+pub use sender::Sender;
+pub use settled::{HandlerCounts, Settled, settle};
