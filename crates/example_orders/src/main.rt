@@ -1,0 +1,177 @@
+//! Orders from a feed go to a journal and a risk check side by side, and then to a matching engine, each on a
+//! thread of its own. An order lies once in the ring's plain memory: the feed fills it in place, and each handler
+//! reads it where it lies.
+#![tactic(auto)]
+
+use dr_core::{InPlaceHandler, MAX_LIMIT, Polled, Refusal};
+use dr_graph::{Graph, GraphBuilder, GraphFault};
+use dr_plain::{Receiver, Sender, ring};
+use dr_seq::Size;
+use dr_shared::Waiting;
+use std::alloc::Global;
+use std::process::ExitCode;
+use std::sync::Wait;
+use std::thread::{self, Threads};
+use thiserror::Error;
+
+/// The most orders that a handler reads at once.
+const BATCH: u64 = 64;
+
+/// How many orders the feed has.
+const ORDERS: u64 = 1000;
+
+#[derive(Clone, Copy)]
+struct Order {
+    account: u64,
+    price: u64,
+    quantity: u64,
+}
+
+#[derive(Debug, Drop, Error)]
+enum Fault {
+    #[error("the graph: {0}")]
+    Graph(GraphFault),
+    #[error("refused: {0}")]
+    Refused(Refusal),
+    #[error("no memory, or no thread")]
+    Memory,
+}
+
+/// Adds up the quantities of the orders that it is shown.
+#[derive(Drop)]
+struct Sum {
+    total: u64,
+}
+
+impl InPlaceHandler<Order> for Sum {
+    ghost use Rattle.std.specs.Prelude.{◌≡◌, ◌+◌, ◌%◌, ◌^◌};
+
+    ghost goes = { λ old order s end new. new.total ≡ (old.total + order.quantity) % 2 ^ 64 };
+
+    fn on_event_in_place(&mut self, order: &Order, _s: u64, _end: bool) {
+        self.total = self.total.wrapping_add(order.quantity);
+    }
+}
+
+/// Takes a handler through all orders, each where it lies, until the ring has drained.
+fn serve<R: Wait>(rt: &R, mut receiver: Receiver<Order>) -> Result<u64, Fault> {
+    let mut sum = Sum { total: 0 };
+    let mut waiting = Waiting::new(BATCH);
+    for _ in rt.forever() {
+        match receiver.poll(BATCH).map_err(Fault::Refused)? {
+            Polled::Batch { first, count, end } => {
+                for (k, order) in receiver.events().enumerate() {
+                    let s = first.wrapping_add(k as u64);
+                    sum.on_event_in_place(order, s, end);
+                }
+                receiver
+                    .complete(first.wrapping_add(count))
+                    .map_err(Fault::Refused)?;
+                waiting.found(count);
+            }
+            Polled::Drained => return Ok(sum.total),
+            Polled::Gating | Polled::Idle => waiting.wait(),
+        }
+    }
+    unreachable!()
+}
+
+/// Sends one order, once there is room for it.
+fn send<R: Wait>(rt: &R, sender: &mut Sender<Order>, order: Order) -> Result<(), Refusal> {
+    let mut waiting = Waiting::new(1);
+    for _ in rt.forever() {
+        match sender.try_claim(1) {
+            Ok(claimed) => {
+                sender.update(claimed.lo, |event| *event = order)?;
+                return sender.publish(claimed.lo, claimed.hi);
+            }
+            Err(Refusal::NoRoom) => waiting.wait(),
+            Err(refusal) => return Err(refusal),
+        }
+    }
+    unreachable!()
+}
+
+/// The feed's orders, one after another.
+fn feed<R: Wait>(rt: &R, sender: &mut Sender<Order>) -> Result<(), Fault> {
+    for number in 0..ORDERS {
+        let order = Order {
+            account: number % 7,
+            price: 100 + number % 10,
+            quantity: 1 + number % 3,
+        };
+        send(rt, sender, order).map_err(Fault::Refused)?;
+    }
+    Ok(())
+}
+
+fn graph(alloc: Global) -> Result<Graph, GraphFault> {
+    let mut builder = GraphBuilder::new(alloc);
+    let first = builder.handle_with(&["journal", "risk"])?;
+    let _last = builder.then(&first, &["matching"])?;
+    builder.build()
+}
+
+/// Sends the feed through the three handlers, and gives what each added up.
+fn exchange<R: Threads + Wait + Sync>(
+    rt: &R,
+    mut sender: Sender<Order>,
+    mut receivers: Vec<Receiver<Order>>,
+) -> Result<(u64, u64, u64), Fault> {
+    let (Some(matching), Some(risk), Some(journal)) =
+        (receivers.pop(), receivers.pop(), receivers.pop())
+    else {
+        return Err(Fault::Memory);
+    };
+    thread::scope(thread::scope_env(), rt, move |scope| -> Result<(u64, u64, u64), Fault> {
+        let journal = scope.spawn(move || serve(rt, journal));
+        let risk = scope.spawn(move || serve(rt, risk));
+        let matching = scope.spawn(move || serve(rt, matching));
+        let mut sent = Ok(());
+        if journal.is_ok() && risk.is_ok() && matching.is_ok() {
+            sent = feed(rt, &mut sender);
+        }
+        // The handlers end once the ring has drained, which it does only when it is closed.
+        let _closed = sender.close();
+        let (Ok(journal), Ok(risk), Ok(matching)) = (journal, risk, matching) else {
+            return Err(Fault::Memory);
+        };
+        let totals = (journal.join(rt)?, risk.join(rt)?, matching.join(rt)?);
+        sent?;
+        Ok(totals)
+    })
+}
+
+fn run<R: Threads + Wait + Sync>(rt: &R, alloc: Global) -> Result<(u64, u64, u64), Fault> {
+    let graph = graph(alloc).map_err(Fault::Graph)?;
+    let Ok(size) = Size::new(64) else {
+        return Err(Fault::Memory);
+    };
+    let blank = Order {
+        account: 0,
+        price: 0,
+        quantity: 0,
+    };
+    let Ok(orders) = vec![in alloc; blank; size.get() as usize] else {
+        return Err(Fault::Memory);
+    };
+    let Ok((sender, receivers, _halter)) = ring(alloc, &graph, size, MAX_LIMIT, orders) else {
+        return Err(Fault::Memory);
+    };
+    exchange(rt, sender, receivers)
+}
+
+fn main(rt: HostRuntime) -> ExitCode {
+    match run(&rt, rt.alloc()) {
+        Ok((journal, risk, matching)) => {
+            let _printed = rt.println(&journal);
+            let _printed = rt.println(&risk);
+            let _printed = rt.println(&matching);
+            ExitCode::SUCCESS
+        }
+        Err(fault) => {
+            let _printed = rt.eprintln(&fault);
+            ExitCode::FAILURE
+        }
+    }
+}
