@@ -1,5 +1,5 @@
 -- A receiver is offered at least what was there at any moment since it last looked.
-use Rattle.std.proofs.Common.{◌≡◌, ◌≢◌, ◌⊎◌, ℕ, zero, suc, ◌≤◌, inl, inr, ◌==◌, if◌then◌else◌, List, [], ◌∷◌, ◌++◌, get_or, set, map, sym, refl, ap, ◌∙◌, subst, arith, append_assoc}
+use Rattle.std.proofs.Common.{◌≡◌, ◌≢◌, ◌⊎◌, ℕ, zero, suc, ◌-◌, ◌≤◌, min, length, inl, inr, ◌==◌, if◌then◌else◌, List, [], ◌∷◌, ◌++◌, get_or, set, map, sym, refl, ap, ◌∙◌, subst, arith, append_assoc}
 use Rattle.std.specs.Prelude.{All, Contains}
 use Rattle.std.proofs.lemmas.Bool.{cases_eq, eq-eqb, ne_eqb}
 use Rattle.std.proofs.lemmas.List.{append-nil, append_cancel_left}
@@ -8,9 +8,11 @@ use mathlib.Core.Option.{some, some-injective, some-ne-none}
 use lib.ListN.{get_elem?}
 use Rattle.atomic_table.proofs.Lists.{set_here, set_else}
 use Rattle.dr_graph.specs.Meaning.Graph.{least_of, upstreams_of}
-use Rattle.dr_core.specs.Meaning.Machine.{State, front, offered}
+use Rattle.dr_core.specs.declared.command.Polled.{Polled}
+use Rattle.dr_core.specs.declared.command.Polled.TheVariants.{Batch, Drained, Gating, Idle}
+use Rattle.dr_core.specs.Meaning.Machine.{State, front, offered, available}
 use Rattle.dr_core.specs.Meaning.Transcript.{Transcript}
-use Rattle.dr_plain.specs.Meaning.Shape.{Shape}
+use Rattle.dr_plain.specs.Meaning.Shape.{Shape, ring_setup}
 use Rattle.dr_plain.specs.Meaning.Words.{cursor_word, closed_word, count_word}
 use Rattle.dr_plain.specs.declared.record.Look.{Look}
 use Rattle.dr_plain.specs.declared.record.ReceiverRecord.{ReceiverRecord}
@@ -22,6 +24,9 @@ use Rattle.dr_plain.specs.Meaning.Rule.{World, KeepsRule}
 use Rattle.dr_plain.specs.Meaning.Steps.{Happens, next_of}
 use Rattle.dr_plain.specs.Meaning.Moments.{Runs, picture_of}
 use Rattle.dr_plain.specs.Meaning.Replies.{LooksAt, OffersWhatWasThere}
+use Rattle.dr_plain.specs.Calls.Ends.{count_looks}
+use Rattle.dr_plain.specs.Calls.Receiving.{PollLooks, Answers, offer}
+use Rattle.dr_plain.specs.Calls.Handing.{handed, HandsWhatWasThere}
 use Rattle.dr_plain.proofs.Lists.{at_below}
 use Rattle.dr_plain.proofs.Keeps.{word_at, upstream_inside}
 use Rattle.dr_plain.proofs.Beginning.{keeps_step}
@@ -165,3 +170,58 @@ module _ {T : Type 0} where
       offered_later m ups (last_look 0 r'.looks cursor_word) (λ v. last_look 0 r'.looks (count_word v))
       (λ none. (let c = found cursor_word (saw.0 none) in omega arith))
       (λ v has. (let c = count_at k w.words v (upstream_inside k K.graph h v inside has) in let f = found (count_word v) (saw.1 v has) in omega arith))
+
+-- the least of some counts is no less than the least of what was there before
+least_found : (f : ℕ → ℕ) (words : List ℕ) (u : ℕ) (us counts : List ℕ) → length counts ≡ length (u ∷ us)
+    → ((v : ℕ) → Contains (u ∷ us) v → f v ≤ word_at words (count_word v)) → All (FoundLater words) (count_looks (u ∷ us) counts)
+    → least_of (map f (u ∷ us)) ≤ least_of counts
+least_found f words u us [] len low all = absurd (omega arith)
+least_found f words u [] (n ∷ []) len low all =
+    let x : word_at words (count_word u) ≤ n = all 0 (look 0 0) (omega arith) in let y = low u (0, omega arith, refl) in omega arith
+least_found f words u [] (n ∷ m ∷ ns) len low all = absurd (omega arith)
+least_found f words u (v ∷ vs) (n ∷ []) len low all = absurd (omega arith)
+least_found f words u (v ∷ vs) (n ∷ m ∷ ns) len low all =
+    let x : word_at words (count_word u) ≤ n = all 0 (look 0 0) (omega arith) in let y = low u (0, omega arith, refl) in
+    let rest = least_found f words v vs (m ∷ ns) (omega arith) (λ x has. low x (suc has.0, (let l = has.1 in omega arith), has.2)) (λ i d l. all (suc i) d (omega arith)) in
+    omega arith
+
+module _ {T : Type 0} where
+  offered_found : (m : State T) (words ups counts : List ℕ) (found : ℕ) → length counts ≡ length ups
+      → ((v : ℕ) → Contains ups v → get_or m.completed v 0 ≤ word_at words (count_word v)) → All (FoundLater words) (count_looks ups counts) → front m ≤ found
+      → offered m ups ≤ offered_by found counts
+  offered_found m words [] [] found len low all le = le
+  offered_found m words [] (n ∷ ns) found len low all le = absurd (omega arith)
+  offered_found m words (u ∷ us) [] found len low all le = absurd (omega arith)
+  offered_found m words (u ∷ us) (n ∷ ns) found len low all le = least_found (λ h. get_or m.completed h 0) words u us (n ∷ ns) len low all
+
+  -- a poll hands over what it is offered, as far as there is room
+  hands : (r r' : ReceiverRecord T) (room : ℕ) (seen : PollLooks) (polled : Polled) (n : ℕ) → Answers r room r' seen polled → n ≤ offer seen
+      → min (n - length r.received) room ≤ handed polled
+  hands r r' room seen (Batch first count last) n A le = let first_is = A.0 in let least = A.2 in omega arith
+  hands r r' room seen Drained n A le = let level = A.2 in omega arith
+  hands r r' room seen Gating n A le = let level = A.2 in omega arith
+  hands r r' room seen Idle n A le = let level = A.2 in omega arith
+
+  -- and what looks it made
+  looks_of : (r r' : ReceiverRecord T) (room : ℕ) (seen : PollLooks) (polled : Polled) → Answers r room r' seen polled
+      → r'.looks ≡ r.looks ++ look closed_word seen.closed ∷ look cursor_word seen.cursor ∷ count_looks (upstreams_of r.plan.upstreams r.number) seen.counts
+  looks_of r r' room seen (Batch first count last) A = ap (λ (q : ReceiverRecord T). q.looks) A.5.2
+  looks_of r r' room seen Drained A = ap (λ (q : ReceiverRecord T). q.looks) A.3
+  looks_of r r' room seen Gating A = ap (λ (q : ReceiverRecord T). q.looks) A.3
+  looks_of r r' room seen Idle A = ap (λ (q : ReceiverRecord T). q.looks) A.3
+
+  pub hands_what_was_there : (k : Shape) (steps : List (Step T)) (es : Transcript T) (w u : World T) → Runs k steps es w u → KeepsRule k w → HandsWhatWasThere k w u
+  hands_what_was_there k steps es w u R K h room r r' polled at there P =
+      let seen = P.0 in let answer = P.2 in let was = K.received h r at in let ups = upstreams_of r.plan.upstreams r.number in
+      let same : ups ≡ upstreams_of k.upstreams h = λ i. upstreams_of (was.plan i).upstreams (was.number i) in
+      let stood = seen_runs k steps es w u h r R K at in let later = stood.2 in
+      let is : stood.0 ≡ r' = some-injective stood.0 r' (sym stood.1 ∙ there) in
+      let xs = look closed_word seen.closed ∷ look cursor_word seen.cursor ∷ count_looks ups seen.counts in
+      let all : All (FoundLater w.words) xs =
+      subst (All (FoundLater w.words)) (append_cancel_left r.looks later.0 xs (sym later.1 ∙ ap (λ (q : ReceiverRecord T). q.looks) is ∙ looks_of r r' room seen polled answer)) later.2 in
+      let cursor : word_at w.words cursor_word ≤ seen.cursor = all 1 (look 0 0) (omega arith) in
+      let published = at_front k w K in let kept = K.counts.cursor in let m = picture_of k w in
+      let low : (v : ℕ) → Contains ups v → get_or m.completed v 0 ≤ word_at w.words (count_word v) = λ v has.
+      (let c = count_at k w.words v (upstream_inside k K.graph h v (inside_of k w h r K at) (subst (λ (vs : List ℕ). Contains vs v) same has)) in omega arith) in
+      let more = offered_found m w.words ups seen.counts seen.cursor P.1 low (λ i d lt. all (suc (suc i)) d (omega arith)) (omega arith) in
+      hands r r' room seen polled (available (ring_setup k) m h) answer (subst (λ (vs : List ℕ). offered m vs ≤ offer seen) same more)

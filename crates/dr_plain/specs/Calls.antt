@@ -7,5 +7,6 @@ pub mod Making
 pub mod Settling
 pub mod Sending
 pub mod Receiving
+pub mod Handing
 pub mod Inlets
 pub mod Outlets

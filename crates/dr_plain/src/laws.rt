@@ -23,6 +23,7 @@ ghost use Rattle.dr_plain.specs.Meaning.Rule.{World, KeepsRule};
 ghost use Rattle.dr_plain.specs.declared.record.Step.{Step};
 ghost use Rattle.dr_plain.specs.Meaning.Moments.{Runs, new_world, picture_of};
 ghost use Rattle.dr_plain.specs.Meaning.Replies.{picture_with, open_writes, OffersWhatWasThere, RepliesAsAnswered};
+ghost use Rattle.dr_plain.specs.Calls.Handing.{HandsWhatWasThere};
 ghost use Rattle.dr_plain.specs.declared.record.Lent.{Lent};
 
 use crate::plan::Plan;
@@ -93,7 +94,8 @@ impl<T> Lends<T> for Brand {
 /// transcript has the five laws. Whatever the sender wrote besides and did not publish, those writes
 /// lead the machine on to the picture with them. What an end answers by what it knows, and by what
 /// the deciding look finds, is what the machine then replies. A receiver that looked at all that its
-/// barrier goes by is offered at least what was there before. No word falls, so what the last look
+/// barrier goes by is offered at least what was there before, and a poll hands over at least what was
+/// there at any moment since its receiver last stepped. No word falls, so what the last look
 /// of a claim without room finds was so already at its first. Once a ring is halted, nothing more is
 /// claimed. It does nothing when it runs: the contract is the theorem.
 pub fn moments<T>()
@@ -104,6 +106,7 @@ pub fn moments<T>()
     ensures progress { (k : Shape) (steps : List (Step T)) (entries : Transcript T) (w : World T) → IsGraph k.upstreams → 0 < k.size → Runs k steps entries (new_world k) w → NobodyIsStuck (ring_setup k) (picture_of k w) }
     ensures replies { (k : Shape) (steps : List (Step T)) (entries : Transcript T) (w : World T) → IsGraph k.upstreams → 0 < k.size → Runs k steps entries (new_world k) w → RepliesAsAnswered k w }
     ensures offers { (k : Shape) (steps more : List (Step T)) (entries rest : Transcript T) (w u : World T) → IsGraph k.upstreams → 0 < k.size → Runs k steps entries (new_world k) w → Runs k more rest w u → OffersWhatWasThere k w u }
+    ensures hands { (k : Shape) (steps more : List (Step T)) (entries rest : Transcript T) (w u : World T) → IsGraph k.upstreams → 0 < k.size → Runs k steps entries (new_world k) w → Runs k more rest w u → HandsWhatWasThere k w u }
     ensures rises { (k : Shape) (steps more : List (Step T)) (entries rest : Transcript T) (w u : World T) → IsGraph k.upstreams → 0 < k.size → Runs k steps entries (new_world k) w → Runs k more rest w u → (word : ℕ) → slice_index w.words word ≤ slice_index u.words word }
     ensures halted { (k : Shape) (steps more : List (Step T)) (entries rest : Transcript T) (w u : World T) → IsGraph k.upstreams → 0 < k.size → Runs k steps entries (new_world k) w → Runs k more rest w u → slice_index w.words halt_word ≡ 1 → claimed u.sender ≡ claimed w.sender }
 {

@@ -15,7 +15,7 @@ use Rattle.dr_plain.proofs.Pictures.{lead_runs}
 use Rattle.dr_plain.proofs.Writings.{lead_open_writes}
 use Rattle.dr_plain.proofs.Replies.{replies}
 use Rattle.dr_plain.proofs.Rising.{rises_runs}
-use Rattle.dr_plain.proofs.Later.{offers_what_was_there}
+use Rattle.dr_plain.proofs.Later.{offers_what_was_there, hands_what_was_there}
 use Rattle.dr_plain.proofs.Halting.{halted_runs}
 use Rattle.dr_plain.proofs.laws.moments.Goals as goal
 
@@ -58,6 +58,10 @@ returns-clause-replies g c k steps entries w graph some_slot runs = replies k w 
 pub returns-clause-offers : goal.returns-clause-offers
 returns-clause-offers g c k steps more entries rest w u graph some_slot runs on =
     offers_what_was_there k more rest w u on (keeps k steps entries w graph some_slot runs)
+
+pub returns-clause-hands : goal.returns-clause-hands
+returns-clause-hands g c k steps more entries rest w u graph some_slot runs on =
+    hands_what_was_there k more rest w u on (keeps k steps entries w graph some_slot runs)
 
 pub returns-clause-rises : goal.returns-clause-rises
 returns-clause-rises g c k steps more entries rest w u graph some_slot runs on word =
