@@ -4,8 +4,8 @@ ghost use Rattle.std.specs.Prelude.{◌≡◌, ◌+◌, ◌<◌, ◌≤◌, ◌^
 ghost use Rattle.dr_core.specs.Calls.Ends.{IsEndsAnswer, PollAnswers, CompleteAnswers, is_drained, Takes, Completes};
 ghost use Rattle.dr_plain.specs.Meaning.Records.{events_of};
 ghost use Rattle.dr_plain.specs.Calls.Ends.{receiver_place, received_of};
-ghost use Rattle.dr_plain.specs.Calls.Receiving.{PollCall, CompleteCall};
-ghost use Rattle.dr_plain.specs.Calls.Outlets.{receiver_does};
+ghost use Rattle.dr_plain.specs.Calls.Receiving.{CompleteCall};
+ghost use Rattle.dr_plain.specs.Calls.Outlets.{PollIntoCall, receiver_does};
 
 use crate::receiver::Receiver;
 use dr_core::{Outlet, Polled, Trouble};
@@ -43,7 +43,7 @@ impl<T: Copy> Outlet<T> for Receiver<T> {
         ensures answer { PollAnswers (Some (received_of self.old)) out.old out.new result }
         ensures told { self.new.knows.told ≡ (self.old.knows.told || is_drained result) }
         ensures received { Takes out.new result (received_of self.old) (received_of self.new) }
-        ensures own { IsEndsAnswer (PollCall self.old (length out.old) self.new) result }
+        ensures own { IsEndsAnswer (PollIntoCall self.old out.old self.new out.new) result }
     {
         let _taken = &self.taken;
         let polled = self.poll(out.len() as u64)?;
