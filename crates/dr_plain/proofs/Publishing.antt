@@ -3,13 +3,13 @@ use Rattle.std.proofs.Common.{◌≡◌, ℕ, suc, ◌+◌, ◌-◌, ◌*◌, �
 use Rattle.std.proofs.Common.{Some, None, sym, refl, ap, ◌∙◌, subst, arith, append_assoc}
 use Rattle.std.specs.Prelude.{Ok, Err}
 use Rattle.std.proofs.Math.Nat.{mod-lt}
-use Rattle.std.proofs.lemmas.Bool.{cases_lt, le-ltb, le-leb}
+use Rattle.std.proofs.lemmas.Bool.{cases_lt, lt-ltb, le-ltb, le-leb}
 use Rattle.std.proofs.lemmas.List.{length-append, length-map, map-append}
 use mathlib.Core.Option.{some, some-injective}
 use lib.ListN.{get_elem?}
 use Rattle.dr_seq.proofs.Apart.{slots_differ}
 use Rattle.dr_seq.proofs.Sizes.{size_positive}
-use Rattle.dr_core.specs.declared.refusal.Refusal.TheVariants.{NotClaimed, AlreadyPublished, NotWritten, OutOfOrder}
+use Rattle.dr_core.specs.declared.refusal.Refusal.TheVariants.{BadCount, NotClaimed, AlreadyPublished, NotWritten, OutOfOrder}
 use Rattle.dr_core.specs.Calls.Ends.{Sent, claimed_in, written_of, published_below}
 use Rattle.dr_cells.specs.declared.token.Token.{Token}
 use Rattle.dr_cells.specs.Hold.{held, kept}
@@ -89,16 +89,24 @@ module _ {T : Type 0} {e : SenderStand T} {f : SenderFields T} {lo hi : ℕ} (F 
         let first = front_is in let all = all_is in
         let nothing = open_is has.0 has.1 has.2 ∙ unwritten_at f.written (cells_of f.tokens) has.0 has.3 in
         subst (λ (q : SenderEnd T). TriesToPublish q lo hi q (Err NotWritten)) same
-        (record { answer = unwritten x lo hi has.0 (omega arith) (omega arith) has.1 has.2 nothing; sent = refl; cells = refl; only = refl; more = begins_same r.published })
+        (record { answer = unwritten x lo hi has.0 (omega arith) (omega arith) has.1 has.2 nothing; sent = refl; cells = refl; only = refl; counted = sym (writes_count f.written (cells_of f.tokens) (length r.published) r.pending); more = begins_same r.published })
 
     pub publish_late : AreNoted f.written lo hi → f.published_to < lo → TriesToPublish E lo hi E (Err OutOfOrder)
     publish_late all after =
         let first = front_is in let count = all_is in
         subst (λ (q : SenderEnd T). TriesToPublish q lo hi q (Err OutOfOrder)) same
-        (record { answer = out_of_order x lo hi order (omega arith) (omega arith) (all_ready all); sent = refl; cells = refl; only = refl; more = begins_same r.published })
+        (record { answer = out_of_order x lo hi order (omega arith) (omega arith) (all_ready all); sent = refl; cells = refl; only = refl; counted = sym (writes_count f.written (cells_of f.tokens) (length r.published) r.pending); more = begins_same r.published })
 
 pub blanks_long : (T : Type 0) (k : Shape) (s n : ℕ) → length (lanes {T = T} k s (no_lents n)) ≡ handlers_of k * n
 blanks_long T k s n = length_rows (placed {T = T} k) (handlers_of k) s (no_lents n) ∙ ap (λ (j : ℕ). handlers_of k * j) (blanks_count T n)
+
+-- A publication of none.
+pub publish_none : {T : Type 0} {e : SenderStand T} {f : SenderFields T} → SenderFits e f → {E : SenderEnd T} → sender_end e f.written (cells_of f.tokens) ≡ E
+    → (lo hi : ℕ) → hi < lo → TriesToPublish E lo hi E (Err BadCount)
+publish_none {T} {e} {f} F same lo hi over =
+    let b = writes_count f.written (cells_of f.tokens) (length e.knows.published) e.knows.pending in
+    subst (λ (q : SenderEnd T). TriesToPublish q lo hi q (Err BadCount)) same
+    (record { answer = inr (refl, inl (lt-ltb hi lo over, refl)); sent = refl; cells = refl; only = refl; counted = sym b; more = begins_same e.knows.published })
 
 -- A publication that is refused before.
 module _ {T : Type 0} {e : SenderStand T} {f : SenderFields T} (F : SenderFits e f) {E : SenderEnd T} (same : sender_end e f.written (cells_of f.tokens) ≡ E) (lo hi : ℕ) (order : lo ≤ hi) where
@@ -114,6 +122,7 @@ module _ {T : Type 0} {e : SenderStand T} {f : SenderFields T} (F : SenderFits e
         sent = refl;
         cells = refl;
         only = refl;
+        counted = sym b;
         more = begins_same e.knows.published;
       })
 
@@ -122,7 +131,7 @@ module _ {T : Type 0} {e : SenderStand T} {f : SenderFields T} (F : SenderFits e
       let next = F.next in let front = F.front in
       let a = length-map e.knows.published (λ (l : Lent T). l.event) in let b = writes_count f.written (cells_of f.tokens) (length e.knows.published) e.knows.pending in
       subst (λ (q : SenderEnd T). TriesToPublish q lo hi q (Err AlreadyPublished)) same
-      (record { answer = published_before was lo hi order (omega arith) (omega arith); sent = refl; cells = refl; only = refl; more = begins_same e.knows.published })
+      (record { answer = published_before was lo hi order (omega arith) (omega arith); sent = refl; cells = refl; only = refl; counted = sym b; more = begins_same e.knows.published })
 
 -- The next n sequences are lent, and all of them are written.
 module _ {T : Type 0} where
@@ -335,6 +344,7 @@ module _ {T : Type 0} {e : SenderStand T} (e3 : SenderStand T) {f : SenderFields
         sent = sent;
         cells = S.cells;
         only = knows ∙ ap (λ (q : SenderRecord T). record sends { published = q.published; pending = q.pending }) (sym knows);
+        counted = sym (writes_count w (cells_of tokens) (length e3.knows.published) e3.knows.pending);
         more = (lents, ap (λ (q : SenderRecord T). q.published) knows);
       })
 

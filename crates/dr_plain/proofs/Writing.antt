@@ -10,7 +10,8 @@ use Rattle.atomic_table.proofs.Lists.{set_here, set_else}
 use Rattle.dr_seq.proofs.Apart.{slots_differ}
 use Rattle.dr_seq.proofs.Sizes.{size_positive}
 use Rattle.dr_core.specs.declared.refusal.Refusal.TheVariants.{NotClaimed, AlreadyPublished}
-use Rattle.dr_core.specs.Calls.Ends.{Sent, claimed_in}
+use Rattle.dr_core.specs.declared.ends.Trouble.TheVariants.{Refused}
+use Rattle.dr_core.specs.Calls.Ends.{Sent, claimed_in, WriteAnswers}
 use Rattle.dr_cells.specs.declared.token.Token.{Token}
 use Rattle.dr_cells.specs.Hold.{whole, held}
 use Rattle.dr_cells.specs.Tokens.{token_at}
@@ -131,17 +132,20 @@ module _ {T : Type 0} {e : SenderStand T} {f : SenderFields T} {w : Written} {to
       })
 
 -- A write that is refused.
-module _ {T : Type 0} {e : SenderStand T} {f : SenderFields T} (F : SenderFits e f) {E : SenderEnd T} (same : sender_end e f.written (cells_of f.tokens) ≡ E) (s : ℕ) (v : T) where
-  pub write_unclaimed : f.claimed_to ≤ s → TriesToWrite E s v E (Err NotClaimed)
-  write_unclaimed over =
+module _ {T : Type 0} {e : SenderStand T} {f : SenderFields T} (F : SenderFits e f) {E : SenderEnd T} (same : sender_end e f.written (cells_of f.tokens) ≡ E) (s : ℕ) where
+  pub answers_unclaimed : f.claimed_to ≤ s → WriteAnswers (Some (sent_of E)) s (Err (Refused NotClaimed))
+  answers_unclaimed over =
       let x = sent_of (sender_end e f.written (cells_of f.tokens)) in let next = F.next in
       let mapped = length-map e.knows.published (λ (l : Lent T). l.event) in let count = writes_count f.written (cells_of f.tokens) (length e.knows.published) e.knows.pending in
-      subst (λ (q : SenderEnd T). TriesToWrite q s v q (Err NotClaimed)) same
-      (record { answer = inr (refl, inl (le-leb (claimed_in x) s (omega arith), refl)); sent = refl; cells = refl; only = refl })
+      subst (λ (q : SenderEnd T). WriteAnswers (Some (sent_of q)) s (Err (Refused NotClaimed))) same
+      (inr (refl, inl (le-leb (claimed_in x) s (omega arith), refl)))
 
-  pub write_published : s < f.claimed_to → s < f.published_to → TriesToWrite E s v E (Err AlreadyPublished)
-  write_published within early =
+  pub answers_published : s < f.claimed_to → s < f.published_to → WriteAnswers (Some (sent_of E)) s (Err (Refused AlreadyPublished))
+  answers_published within early =
       let x = sent_of (sender_end e f.written (cells_of f.tokens)) in let next = F.next in let front = F.front in
       let mapped = length-map e.knows.published (λ (l : Lent T). l.event) in let count = writes_count f.written (cells_of f.tokens) (length e.knows.published) e.knows.pending in
-      subst (λ (q : SenderEnd T). TriesToWrite q s v q (Err AlreadyPublished)) same
-      (record { answer = inr (refl, inr (lt-leb (claimed_in x) s (omega arith), inl (lt-ltb s (length x.published) (omega arith), refl))); sent = refl; cells = refl; only = refl })
+      subst (λ (q : SenderEnd T). WriteAnswers (Some (sent_of q)) s (Err (Refused AlreadyPublished))) same
+      (inr (refl, inr (lt-leb (claimed_in x) s (omega arith), inl (lt-ltb s (length x.published) (omega arith), refl))))
+
+  pub write_unclaimed : (v : T) → f.claimed_to ≤ s → TriesToWrite E s v E (Err NotClaimed)
+  write_unclaimed v over = record { answer = answers_unclaimed over; sent = refl; cells = refl; only = refl }

@@ -88,6 +88,7 @@ impl<T> Sender<T> {
     pub fn publish(&mut self, lo: u64, hi: u64) -> Result<(), Refusal>
         ensures { PublishCall self.old lo hi self.new result }
     {
+        let _claimed = &self.claimed;
         if lo > hi {
             return Err(Refusal::BadCount);
         }

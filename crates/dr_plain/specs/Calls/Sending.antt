@@ -95,6 +95,8 @@ module _ {T : Type 0} where
     pub sent : Publishes lo hi (as_end result) (sent_of e) (sent_of e')
     pub cells : e'.cells ≡ e.cells
     pub only : e'.knows ≡ record e.knows { published = e'.knows.published; pending = e'.knows.pending }
+    -- it knows how many sequences are open
+    pub counted : e'.knows.pending ≡ length e'.writes
     -- each lending stays as it was
     pub more : IsBeginning e.knows.published e'.knows.published
 
@@ -114,11 +116,11 @@ module _ {T : Type 0} where
   abbrev pub WriteCall : SenderEnd T → ℕ → T → SenderEnd T → Result (Unit {0}) Refusal → Type 0
   WriteCall e s event e' result = Call e e' × TriesToWrite e s event e' result × (e'.stored ≡ e.stored)
 
-  -- a change in place: what it leaves of what lay in the cell of the sequence is what is written
+  -- a change in place: what it leaves of what lay in the cell of the sequence is what is written, and a refused one leaves all as it was
   abbrev pub UpdateCall : (T → T → Type 0) → SenderEnd T → ℕ → SenderEnd T → Result (Unit {0}) Refusal → Type 0
   UpdateCall Changes e s e' (Ok done) =
       (was : T) × (now : T) × (slice_index_or e.cells (s % length e.cells) None ≡ Some was) × Changes was now × WriteCall e s now e' (Ok done)
-  UpdateCall Changes e s e' (Err refusal) = (event : T) → WriteCall e s event e' (Err refusal)
+  UpdateCall Changes e s e' (Err refusal) = WriteAnswers (Some (sent_of e)) s (as_end (Err refusal)) × (e' ≡ e)
 
   -- a publication stores the events that it publishes
   abbrev pub PublishCall : SenderEnd T → ℕ → ℕ → SenderEnd T → Result (Unit {0}) Refusal → Type 0

@@ -12,9 +12,12 @@ use Rattle.dr_plain.specs.Inside.Lending.{lents_of}
 use Rattle.dr_plain.specs.Inside.Views.{sender_end}
 use Rattle.dr_plain.proofs.Claims.{collected_many}
 use Rattle.dr_plain.proofs.Stations.{begins_same}
-use Rattle.dr_plain.proofs.Publishing.{publish_unclaimed, publish_early, publish_unwritten, publish_late, publish_done, publish_stores, lend_hand, turn_room, publish_order, publish_lents, publish_hand, published_knows, turned_knows, fits_publish}
+use Rattle.dr_plain.proofs.Publishing.{publish_none, publish_unclaimed, publish_early, publish_unwritten, publish_late, publish_done, publish_stores, lend_hand, turn_room, publish_order, publish_lents, publish_hand, published_knows, turned_knows, fits_publish}
 use Rattle.dr_plain.proofs.sender.Sender.publish.Goals as goal
 use Rattle.dr_plain.proofs.sender.Sender.publish.Goals.{After-has_all}
+
+pub returns-then-lo-hi : goal.returns-then-lo-hi
+returns-then-lo-hi g c = ((refl, begins_same _), publish_none c.self.invariant c.self.view_is c.args.lo c.args.hi c.if-lo-hi.true, refl)
 
 pub returns-then-hi-self : goal.returns-then-hi-self
 returns-then-hi-self g c = ((refl, begins_same _), publish_unclaimed c.self.invariant c.self.view_is c.args.lo c.args.hi c.if-lo-hi.false c.if-hi-self.true, refl)

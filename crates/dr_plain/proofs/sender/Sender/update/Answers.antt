@@ -13,19 +13,15 @@ use Rattle.dr_plain.specs.Calls.Sending.{UpdateCall}
 use Rattle.dr_plain.specs.Inside.Fits.{cells_of}
 use Rattle.dr_plain.specs.Inside.Views.{sender_end}
 use Rattle.dr_plain.proofs.Stations.{begins_same}
-use Rattle.dr_plain.proofs.Writing.{fits_write, write_done, write_unclaimed, write_published}
+use Rattle.dr_plain.proofs.Writing.{fits_write, write_done, answers_unclaimed, answers_published}
 use Rattle.dr_plain.proofs.sender.Sender.update.Goals as goal
 use Rattle.dr_plain.proofs.sender.Sender.update.Goals.{After-put_at}
 
 pub returns-then-sequence-self : goal.returns-then-sequence-self
-returns-then-sequence-self g c event = ((refl, begins_same _), write_unclaimed c.self.invariant c.self.view_is c.args.sequence event c.if-sequence-self.true, refl)
+returns-then-sequence-self g c = (answers_unclaimed c.self.invariant c.self.view_is c.args.sequence c.if-sequence-self.true, refl)
 
 pub returns-then-sequence-self-2 : goal.returns-then-sequence-self-2
-returns-then-sequence-self-2 g c event = (
-  (refl, begins_same _),
-  write_published c.self.invariant c.self.view_is c.args.sequence event c.if-sequence-self.false c.if-sequence-self-2.true,
-  refl,
-)
+returns-then-sequence-self-2 g c = (answers_published c.self.invariant c.self.view_is c.args.sequence c.if-sequence-self.false c.if-sequence-self-2.true, refl)
 
 -- the token goes back to its place
 put : (g : _) (c : After-put_at g) → (let place = c.place-place.result in
