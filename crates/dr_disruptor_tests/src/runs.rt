@@ -1,7 +1,7 @@
 //! Runs in one call: a diamond, another number of handlers, and a closure that sends.
 
 use crate::work::Work;
-use dr_disruptor::{RunFault, run, run_with};
+use dr_disruptor::{RunFault, WaitStrategy, run, run_waiting, run_with};
 use dr_graph::{Graph, GraphBuilder, GraphFault};
 use dr_seq::{Event, Size};
 use dr_shared::{OpenGate, produce};
@@ -88,7 +88,8 @@ fn sent_by_a_closure<R: Threads + Wait + Copy + Send + 'static>(
 ) -> Result<Vec<Work>, Fail> {
     let size = Size::new(2)?;
     let handlers = vec![in alloc; Work::Sum(0), Work::Keep(0), Work::Sum(0)]?;
-    let ran = run_with(rt, alloc, graph, size, handlers, |sender| {
+    let way = WaitStrategy::Spinning;
+    let ran = run_with(rt, alloc, graph, size, handlers, way, |sender| {
         produce(&rt, sender, &OpenGate, 16, &[event; 5], 1).fault
     })?;
     Ok(ran.finished()?)
@@ -103,6 +104,33 @@ fn events_by_a_closure(rt: HostRuntime) -> Result<(), Fail> {
     let graph = diamond(rt.alloc())?;
     let handlers = sent_by_a_closure(rt, rt.alloc(), &graph, event)?;
     let wanted = [Work::Sum(35), Work::Keep(7), Work::Sum(35)];
+    check(&rt, handlers.as_slice(), &wanted[..]);
+    Ok(())
+}
+
+/// What the handlers of a diamond come to by yielding.
+fn yielded<R: Threads + Wait + Copy + Send + 'static>(
+    rt: R,
+    alloc: Global,
+    graph: &Graph,
+    event: Event,
+) -> Result<Vec<Work>, Fail> {
+    let size = Size::new(8)?;
+    let handlers = vec![in alloc; Work::Sum(0), Work::Keep(0), Work::Sum(0)]?;
+    let way = WaitStrategy::Yielding;
+    let ran = run_waiting(rt, alloc, graph, size, handlers, &[event; 100], way)?;
+    Ok(ran.finished()?)
+}
+
+#[test]
+fn a_script_by_yielding(rt: HostRuntime) -> Result<(), Fail> {
+    let event = Event {
+        first: 3,
+        second: 0,
+    };
+    let graph = diamond(rt.alloc())?;
+    let handlers = yielded(rt, rt.alloc(), &graph, event)?;
+    let wanted = [Work::Sum(300), Work::Keep(3), Work::Sum(300)];
     check(&rt, handlers.as_slice(), &wanted[..]);
     Ok(())
 }
