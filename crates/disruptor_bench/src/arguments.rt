@@ -5,7 +5,7 @@ use dr_seq::Size;
 use std::time::Duration;
 
 /// What the command line asks for.
-#[derive(Clone, Copy, Debug, PartialEq, Eq)]
+#[derive(Clone, Copy)]
 pub enum Request {
     /// The names of all topologies.
     List,
@@ -17,7 +17,7 @@ pub enum Request {
 
 /// A measurement: how many slots the ring has, about how long a round takes, and how many rounds
 /// there are.
-#[derive(Clone, Copy, Debug, PartialEq, Eq)]
+#[derive(Clone, Copy)]
 pub struct Order {
     pub topology: Topology,
     pub size: Size,
@@ -54,17 +54,30 @@ fn rounds_of(word: &str) -> Option<u32> {
     Some(rounds)
 }
 
+fn order_of(topology: &str, size: &str, seconds: &str, rounds: &str) -> Option<Order> {
+    Some(Order {
+        topology: Topology::named(topology)?,
+        size: size_of(size)?,
+        time: time_of(seconds)?,
+        rounds: rounds_of(rounds)?,
+    })
+}
+
 /// Reads the words after the program's own name.
 pub fn read_request(words: &[String]) -> Option<Request> {
     match words {
-        [only] if only.as_str() == "--list" => Some(Request::List),
-        [only] if only.as_str() == "--check" => Some(Request::Check),
-        [topology, size, seconds, rounds] => Some(Request::Measure(Order {
-            topology: Topology::named(topology.as_str())?,
-            size: size_of(size.as_str())?,
-            time: time_of(seconds.as_str())?,
-            rounds: rounds_of(rounds.as_str())?,
-        })),
+        [only] => match only.as_str() {
+            "--list" => Some(Request::List),
+            "--check" => Some(Request::Check),
+            _ => None,
+        },
+        [topology, size, seconds, rounds] => {
+            let (topology, size) = (topology.as_str(), size.as_str());
+            match order_of(topology, size, seconds.as_str(), rounds.as_str()) {
+                Some(order) => Some(Request::Measure(order)),
+                None => None,
+            }
+        }
         _ => None,
     }
 }

@@ -8,7 +8,8 @@ use crate::STRETCH;
 use crate::arguments::Order;
 use crate::fault::Fault;
 use crate::measured::Round;
-use crate::sum::{event_at, sum_of_first};
+use crate::sum::sum_of_first;
+use crate::width::Made;
 use dr_core::{MAX_LIMIT, Mode};
 use dr_seq::Event;
 use dr_shared::{End, Exchange, Recorded, Shared, finish};
@@ -16,16 +17,16 @@ use std::alloc::Global;
 use std::marker::Brand;
 use std::rt::Clock;
 use std::sync::Wait;
-use std::sync::ledger::Blank;
+use std::sync::ledger::{Blank, Ledger};
 use std::thread::Threads;
-use std::time::Instant;
-use workers::{Around, Joined, Parties, exchange};
+use std::time::{Duration, Instant};
+use workers::{Around, Handled, Joined, Parties, exchange};
 
 /// What each producer sends: as many events as all together make a stretch.
 fn script(alloc: Global, producers: u64) -> Result<Vec<Event>, Fault> {
     let mut events = Vec::new(alloc);
     for k in 0..STRETCH.checked_div(producers).unwrap_or(0) {
-        events.push(event_at(k))?;
+        events.push(Event::at(k))?;
     }
     Ok(events)
 }
@@ -37,7 +38,7 @@ fn ends<L: Exchange<Event>>(
 ) -> Result<Vec<End<Event, L>>, Fault> {
     let mut ends = Vec::with_capacity(alloc, count)?;
     for _end in 0..count {
-        ends.push(shared.end().ok_or(Fault::Ends)?)?;
+        ends.push(shared.end().ok_or(Fault::ENDS)?)?;
     }
     Ok(ends)
 }
@@ -71,28 +72,84 @@ fn open(
     )?)
 }
 
-/// Checks that all ends are back and what the handlers added up.
-fn check<L: Exchange<Event>>(
-    alloc: Global,
-    shared: Shared<Event, L>,
-    joined: Joined<L>,
+fn add_producers<L: Ledger>(
+    ends: &mut Vec<End<Event, L>>,
+    producers: Vec<End<Event, L>>,
+) -> Result<(), Fault> {
+    for end in producers {
+        ends.push(end)?;
+    }
+    Ok(())
+}
+
+/// Adds the ends of handlers, each of which added up so much.
+fn add_handlers<L: Ledger>(
+    ends: &mut Vec<End<Event, L>>,
+    handled: Vec<Handled<L>>,
     total: u64,
 ) -> Result<(), Fault> {
-    let mut ends = Vec::new(alloc);
-    ends.push(joined.halter)?;
-    for sent in joined.sent {
-        ends.push(sent.end)?;
-    }
-    for handled in joined.handled {
-        ends.push(handled.end)?;
-        if handled.total != total {
-            return Err(Fault::WrongSum);
+    for Handled { end, total: sum } in handled {
+        ends.push(end)?;
+        if sum != total {
+            return Err(Fault::WRONG_SUM);
         }
     }
+    Ok(())
+}
+
+/// All ends, where each handler added up so much.
+fn ends_of<L: Ledger>(
+    alloc: Global,
+    joined: Joined<L>,
+    total: u64,
+) -> Result<Vec<End<Event, L>>, Fault> {
+    let Joined {
+        halter,
+        producers,
+        handled,
+    } = joined;
+    let mut ends = Vec::new(alloc);
+    ends.push(halter)?;
+    add_producers(&mut ends, producers)?;
+    add_handlers(&mut ends, handled, total)?;
+    Ok(ends)
+}
+
+/// Checks that all ends are back.
+fn check<L: Exchange<Event>>(
+    shared: Shared<Event, L>,
+    ends: Vec<End<Event, L>>,
+) -> Result<(), Fault> {
     match finish(shared, ends) {
         Ok(_) => Ok(()),
-        Err(_) => Err(Fault::Ends),
+        Err(_) => Err(Fault::ENDS),
     }
+}
+
+fn parties<L: Exchange<Event>>(
+    alloc: Global,
+    shared: &mut Shared<Event, L>,
+    producers: usize,
+    handlers: usize,
+) -> Result<Parties<L>, Fault> {
+    Ok(Parties {
+        halter: shared.end().ok_or(Fault::ENDS)?,
+        producers: ends(alloc, shared, producers)?,
+        handlers: ends(alloc, shared, handlers)?,
+    })
+}
+
+/// All ends, where each handler added up so much, and how long it took.
+fn timed<L: Exchange<Event> + Send + Sync, R: Clock + Threads + Wait + Sync>(
+    around: &Around<'_, L, R>,
+    parties: Parties<L>,
+    total: u64,
+) -> Result<(Vec<End<Event, L>>, Duration), Fault> {
+    let begun = Instant::now(around.rt)?;
+    let joined = exchange(around, parties)?;
+    let time = begun.elapsed(around.rt)?;
+    let ends = ends_of(around.alloc, joined, total)?;
+    Ok((ends, time))
 }
 
 fn measured<L: Exchange<Event> + Send + Sync, R: Clock + Threads + Wait + Sync>(
@@ -111,13 +168,10 @@ fn measured<L: Exchange<Event> + Send + Sync, R: Clock + Threads + Wait + Sync>(
 {
     let count = script.len() as u64;
     let events = count.saturating_mul(producers);
+    let total = sum_of_first(count).wrapping_mul(producers);
     let handlers = recorded.graph().len();
     let mut shared = Shared::<Event, L>::new(recorded, blank);
-    let parties = Parties {
-        halter: shared.end().ok_or(Fault::Ends)?,
-        producers: ends(alloc, &mut shared, producers as usize)?,
-        handlers: ends(alloc, &mut shared, handlers)?,
-    };
+    let parties = parties(alloc, &mut shared, producers as usize, handlers)?;
     let around = Around {
         rt,
         alloc,
@@ -126,11 +180,8 @@ fn measured<L: Exchange<Event> + Send + Sync, R: Clock + Threads + Wait + Sync>(
         cut: order.claim().max(1),
         slots: order.size.get() as usize,
     };
-    let begun = Instant::now(rt)?;
-    let joined = exchange(&around, parties)?;
-    let time = begun.elapsed(rt)?;
-    let total = sum_of_first(count).wrapping_mul(producers);
-    check(alloc, shared, joined, total)?;
+    let (ends, time) = timed(&around, parties, total)?;
+    check(shared, ends)?;
     Ok(Round { events, time })
 }
 

@@ -13,11 +13,12 @@ use std::thread::Threads;
 use std::time::Duration;
 
 /// What stands before and after a shape's name in the topologies that are checked.
-const WAYS: [(&str, &str); 8] = [
+const WAYS: [(&str, &str); 9] = [
     ("core-", ""),
     ("core-", "-step"),
     ("core-", "-b10"),
     ("", "-b10"),
+    ("plain-", "-b10"),
     ("senders1-", "-b10"),
     ("senders3-", "-b10"),
     ("lock1-", "-b10"),
@@ -25,22 +26,27 @@ const WAYS: [(&str, &str); 8] = [
 ];
 
 /// Further topologies that are checked.
-const OTHERS: [&str; 6] = [
+const OTHERS: [&str; 8] = [
     "core1-unicast",
     "core8-diamond-b7",
     "core16-unicast-step",
     "core-chain1",
     "core-side16-b1000",
     "side2-b7",
+    "plain8-diamond",
+    "plain16-side3-b7",
 ];
 
 /// Names of no topology.
-const UNKNOWN: [&str; 21] = [
+const UNKNOWN: [&str; 24] = [
     "",
     "core",
     "core-",
     "core2-unicast",
     "unicast-step",
+    "plain",
+    "plain2-unicast",
+    "plain-unicast-step",
     "core-unicast-b0",
     "core-unicast-b1001",
     "chain",
@@ -86,9 +92,9 @@ fn check_round(
     name: &str,
 ) -> Result<(), Fault> {
     let Some(Request::Measure(order)) = asked(alloc, name, ["64", "0", "1"])? else {
-        return Err(Fault::Usage);
+        return Err(Fault::USAGE);
     };
-    let events = measure(rt, alloc, order)?.median.events;
+    let events = measure(rt, alloc, &order)?.events;
     let topology = order.topology;
     println!(rt; "{topology} {events}")?;
     Ok(())
@@ -139,13 +145,15 @@ fn check_wrong(rt: &impl Runtime, alloc: Global) -> Result<(), Fault> {
 /// Prints the line of three rounds, the second of which is in the middle by events a second.
 fn check_line(rt: &impl Runtime, alloc: Global) -> Result<(), Fault> {
     let Some(Request::Measure(order)) = asked(alloc, "diamond", ["64", "0.25", "3"])? else {
-        return Err(Fault::Usage);
+        return Err(Fault::USAGE);
     };
-    let mut rounds = [30, 20, 10].map(|events| Round {
-        events,
-        time: Duration::from_millis(1500),
-    });
-    let median = median(&mut rounds).ok_or(Fault::Usage)?;
+    let time = Duration::from_millis(1500);
+    let mut rounds = [
+        Round { events: 30, time },
+        Round { events: 20, time },
+        Round { events: 10, time },
+    ];
+    let median = median(&mut rounds).ok_or(Fault::USAGE)?;
     Ok(rt.println(Measured { order, median })?)
 }
 

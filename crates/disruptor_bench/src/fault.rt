@@ -2,100 +2,132 @@
 
 use dr_core::{OpenFault, Refusal, Trouble};
 use dr_graph::GraphFault;
+use dr_plain::RingFault as PlainFault;
 use dr_ring::RingFault;
 use std::alloc::{AllocError, AllocFailed};
-use std::io;
-use thiserror::Error;
+use std::{fmt, io};
 
-/// Why the program ends early. Its text is the line that it prints.
-#[derive(Debug, Drop, Error)]
-pub enum Fault {
-    #[error("usage: disruptor_bench TOPOLOGY SIZE SECONDS ROUNDS, or disruptor_bench --list, or disruptor_bench --check")]
-    Usage,
-    #[error("no-memory")]
-    Memory,
-    #[error("no clock, or cannot write")]
-    Outside,
-    #[error("no thread")]
-    Thread,
-    #[error("{0}")]
-    Graph(GraphFault),
-    #[error("{0}")]
-    Core(OpenFault),
-    #[error("{0}")]
-    Ring(RingFault),
-    #[error("{0}")]
-    Refused(Refusal),
-    /// An end behind the lock was not given out, or not given back.
-    #[error("ends")]
-    Ends,
-    /// A handler did not add up all that was published.
-    #[error("wrong sum")]
-    WrongSum,
-    /// The clock stood still for more turns than any round has.
-    #[error("no end")]
-    NoEnd,
+/// Why the program ends early: the line that it prints, and the status with which it ends.
+#[derive(Clone, Copy)]
+pub struct Fault {
+    line: &'static str,
+    pub status: u8,
 }
 
 impl Fault {
-    /// The status with which the program ends.
-    pub fn status(&self) -> u8 {
-        match self {
-            Fault::Usage => 1,
-            Fault::Memory | Fault::Graph(_) | Fault::Core(_) | Fault::Ring(_) => 3,
-            Fault::Outside | Fault::Thread => 4,
-            Fault::Refused(_) | Fault::Ends | Fault::WrongSum | Fault::NoEnd => 5,
-        }
+    pub const USAGE: Fault = Fault {
+        line: "usage: disruptor_bench TOPOLOGY SIZE SECONDS ROUNDS, or disruptor_bench --list, or disruptor_bench --check",
+        status: 1,
+    };
+
+    pub const MEMORY: Fault = Fault {
+        line: "no-memory",
+        status: 3,
+    };
+
+    pub const OUTSIDE: Fault = Fault {
+        line: "no clock, or cannot write",
+        status: 4,
+    };
+
+    pub const THREAD: Fault = Fault {
+        line: "no thread",
+        status: 4,
+    };
+
+    /// An end behind the lock was not given out, or not given back.
+    pub const ENDS: Fault = Fault {
+        line: "ends",
+        status: 5,
+    };
+
+    /// A handler did not add up all that was published.
+    pub const WRONG_SUM: Fault = Fault {
+        line: "wrong sum",
+        status: 5,
+    };
+
+    /// The clock stood still for more turns than any round has.
+    pub const NO_END: Fault = Fault {
+        line: "no end",
+        status: 5,
+    };
+}
+
+impl fmt::Display for Fault {
+    fn fmt<W: fmt::Write>(&self, f: &mut fmt::Formatter<W>) -> fmt::Result {
+        f.write_str(self.line)
     }
 }
 
 impl From<AllocError> for Fault {
     fn from(_: AllocError) -> Fault {
-        Fault::Memory
+        Fault::MEMORY
     }
 }
 
 impl<T: Drop> From<AllocFailed<T>> for Fault {
     fn from(_: AllocFailed<T>) -> Fault {
-        Fault::Memory
+        Fault::MEMORY
     }
 }
 
 impl From<io::Error> for Fault {
     fn from(_: io::Error) -> Fault {
-        Fault::Outside
+        Fault::OUTSIDE
     }
 }
 
 impl From<GraphFault> for Fault {
     fn from(fault: GraphFault) -> Fault {
-        Fault::Graph(fault)
+        Fault {
+            line: fault.name(),
+            status: 3,
+        }
     }
 }
 
 impl From<OpenFault> for Fault {
     fn from(fault: OpenFault) -> Fault {
-        Fault::Core(fault)
+        Fault {
+            line: fault.name(),
+            status: 3,
+        }
     }
 }
 
 impl From<RingFault> for Fault {
     fn from(fault: RingFault) -> Fault {
-        Fault::Ring(fault)
+        Fault {
+            line: fault.name(),
+            status: 3,
+        }
+    }
+}
+
+impl From<PlainFault> for Fault {
+    fn from(fault: PlainFault) -> Fault {
+        Fault {
+            line: fault.name(),
+            status: 3,
+        }
     }
 }
 
 impl From<Refusal> for Fault {
     fn from(refusal: Refusal) -> Fault {
-        Fault::Refused(refusal)
+        Fault {
+            line: refusal.name(),
+            status: 5,
+        }
     }
 }
 
 impl From<Trouble> for Fault {
     fn from(trouble: Trouble) -> Fault {
         match trouble {
-            Trouble::Refused(refusal) => Fault::Refused(refusal),
-            Trouble::Memory => Fault::Memory,
+            Trouble::Refused(refusal) => Fault::from(refusal),
+            Trouble::Memory => Fault::MEMORY,
         }
     }
 }

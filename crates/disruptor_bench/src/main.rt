@@ -1,6 +1,6 @@
 //! Measures the exchanges: events a second through a core on one thread, through a ring with a thread
-//! for each end, of one sender or of several, and through a core behind a lock with a thread for each
-//! producer and each handler.
+//! for each end, over atomic words with one sender or several or over plain memory, and through a core
+//! behind a lock with a thread for each producer and each handler.
 //!
 //! `disruptor_bench TOPOLOGY SIZE SECONDS ROUNDS` runs a topology over a ring of SIZE slots for about
 //! SECONDS in each of ROUNDS rounds, and prints the round in the middle:
@@ -14,6 +14,7 @@ mod check;
 mod fault;
 mod measured;
 mod one_thread;
+mod plain;
 mod senders;
 mod sum;
 mod threads;
@@ -61,17 +62,23 @@ fn print_exchange(rt: &impl Runtime, exchange: Exchange) -> Result<(), Fault> {
     Ok(())
 }
 
-/// A row for each further width of an event.
+fn print_width(rt: &impl Runtime, exchange: Exchange) -> Result<(), Fault> {
+    println!(rt;
+        "{}",
+        Topology {
+            exchange,
+            shape: Shape::Unicast,
+            pace: Pace::Ones
+        }
+    )?;
+    Ok(())
+}
+
+/// Rows for each further width of an event.
 fn print_widths(rt: &impl Runtime) -> Result<(), Fault> {
     for width in Width::OTHERS {
-        println!(rt;
-            "{}",
-            Topology {
-                exchange: Exchange::Core(width),
-                shape: Shape::Unicast,
-                pace: Pace::Ones
-            }
-        )?;
+        print_width(rt, Exchange::Core(width))?;
+        print_width(rt, Exchange::Plain(width))?;
     }
     Ok(())
 }
@@ -89,94 +96,71 @@ fn core_rounds(
     alloc: Global,
     order: &Order,
     width: Width,
-) -> Result<Vec<Round>, Fault> {
+    rounds: &mut Vec<Round>,
+) -> Result<(), Fault> {
     match width {
-        Width::One => rounds_of(rt, alloc, order, OneThread::<0>::open(alloc, order)?),
-        Width::Two => rounds_of(rt, alloc, order, OneThread::<1>::open(alloc, order)?),
-        Width::Eight => rounds_of(rt, alloc, order, OneThread::<7>::open(alloc, order)?),
-        Width::Sixteen => rounds_of(rt, alloc, order, OneThread::<15>::open(alloc, order)?),
+        Width::One => OneThread::<0>::open(alloc, order)?.rounds(rt, order, rounds),
+        Width::Two => OneThread::<1>::open(alloc, order)?.rounds(rt, order, rounds),
+        Width::Eight => OneThread::<7>::open(alloc, order)?.rounds(rt, order, rounds),
+        Width::Sixteen => OneThread::<15>::open(alloc, order)?.rounds(rt, order, rounds),
     }
 }
 
-/// The same with events of one word and so many more.
-fn rounds_of<const MORE: usize>(
-    rt: &impl Runtime,
-    alloc: Global,
-    order: &Order,
-    mut all: OneThread<MORE>,
-) -> Result<Vec<Round>, Fault> {
-    let mut rounds = Vec::new(alloc);
-    for _ in 0..order.rounds {
-        rounds.push(all.round(rt)?)?;
-    }
-    all.check()?;
-    Ok(rounds)
-}
-
-fn ring_rounds(
-    rt: &(impl Runtime + Threads),
-    alloc: Global,
-    order: &Order,
-) -> Result<Vec<Round>, Fault> {
-    let mut rounds = Vec::new(alloc);
-    for _ in 0..order.rounds {
-        rounds.push(threads::round(rt, alloc, order)?)?;
-    }
-    Ok(rounds)
-}
-
-fn senders_rounds(
-    rt: &(impl Runtime + Threads),
-    alloc: Global,
-    order: &Order,
-    senders: u64,
-) -> Result<Vec<Round>, Fault> {
-    let mut rounds = Vec::new(alloc);
-    for _ in 0..order.rounds {
-        rounds.push(senders::round(rt, alloc, order, senders)?)?;
-    }
-    Ok(rounds)
-}
-
-fn lock_rounds(
+/// One round over an exchange of its own with a thread for each end.
+fn round(
     rt: &(impl Runtime + Threads + Wait + Sync),
     alloc: Global,
     order: &Order,
-    producers: u64,
-) -> Result<Vec<Round>, Fault> {
-    let mut rounds = Vec::new(alloc);
-    for _ in 0..order.rounds {
-        rounds.push(behind_lock::round(rt, alloc, order, producers)?)?;
+) -> Result<Round, Fault> {
+    match order.topology.exchange {
+        Exchange::Core(_) => Err(Fault::USAGE),
+        Exchange::Ring => threads::round(rt, alloc, order),
+        Exchange::Plain(width) => plain::round(rt, alloc, order, width),
+        Exchange::Senders(senders) => senders::round(rt, alloc, order, senders),
+        Exchange::Lock(producers) => behind_lock::round(rt, alloc, order, producers),
     }
-    Ok(rounds)
 }
 
+fn add_rounds(
+    rt: &(impl Runtime + Threads + Wait + Sync),
+    alloc: Global,
+    order: &Order,
+    rounds: &mut Vec<Round>,
+) -> Result<(), Fault> {
+    if let Exchange::Core(width) = order.topology.exchange {
+        return core_rounds(rt, alloc, order, width, rounds);
+    }
+    for _ in 0..order.rounds {
+        rounds.push(round(rt, alloc, order)?)?;
+    }
+    Ok(())
+}
+
+/// The round in the middle.
 fn measure(
     rt: &(impl Runtime + Threads + Wait + Sync),
     alloc: Global,
-    order: Order,
-) -> Result<Measured, Fault> {
-    let mut rounds = match order.topology.exchange {
-        Exchange::Core(width) => core_rounds(rt, alloc, &order, width)?,
-        Exchange::Ring => ring_rounds(rt, alloc, &order)?,
-        Exchange::Senders(senders) => senders_rounds(rt, alloc, &order, senders)?,
-        Exchange::Lock(producers) => lock_rounds(rt, alloc, &order, producers)?,
-    };
-    let median = median(&mut rounds).ok_or(Fault::Usage)?;
-    Ok(Measured { order, median })
+    order: &Order,
+) -> Result<Round, Fault> {
+    let mut rounds = Vec::new(alloc);
+    add_rounds(rt, alloc, order, &mut rounds)?;
+    median(&mut rounds).ok_or(Fault::USAGE)
 }
 
 fn run(rt: &(impl Runtime + Alloc<A = Global> + Threads + Wait + Sync)) -> Result<(), Fault> {
     let alloc = rt.alloc();
-    let words: Vec<String> = env::args(rt)?.skip(1).collect(alloc)?;
-    match read_request(&words) {
+    let request = {
+        let words: Vec<String> = env::args(rt)?.skip(1).collect(alloc)?;
+        read_request(&words)
+    };
+    match request {
         Some(Request::List) => print_list(rt),
         Some(Request::Check) => check(rt, alloc),
         Some(Request::Measure(order)) => {
-            let measured = measure(rt, alloc, order)?;
-            Ok(rt.println(measured)?)
+            let median = measure(rt, alloc, &order)?;
+            Ok(rt.println(Measured { order, median })?)
         }
-        None => Err(Fault::Usage),
+        None => Err(Fault::USAGE),
     }
 }
 
@@ -186,7 +170,7 @@ fn main(rt: HostRuntime) -> ExitCode {
         Err(fault) => {
             // Where even this cannot be written, the exit status alone says what went wrong.
             let _printed = rt.eprintln(&fault);
-            ExitCode::from(fault.status())
+            ExitCode::from(fault.status)
         }
     }
 }

@@ -5,7 +5,7 @@ use std::fmt;
 use std::time::Duration;
 
 /// One round: how many events went through, and how long they took.
-#[derive(Clone, Copy, Debug, PartialEq, Eq)]
+#[derive(Clone, Copy)]
 pub struct Round {
     pub events: u64,
     pub time: Duration,
@@ -25,7 +25,7 @@ pub fn median(rounds: &mut [Round]) -> Option<Round> {
 }
 
 /// The line of a measurement, which `bench/exchanges.py` reads.
-#[derive(Clone, Copy, Debug, PartialEq, Eq)]
+#[derive(Clone, Copy)]
 pub struct Measured {
     pub order: Order,
     pub median: Round,

@@ -5,7 +5,7 @@ use crate::fault::Fault;
 use crate::measured::Round;
 use crate::sum::{Sum, sum_of_first};
 use crate::topology::Pace;
-use crate::width::Words;
+use crate::width::{Made, Words};
 use crate::{MOST_TURNS, STRETCH};
 use dr_core::{Core, MAX_LIMIT, Mode, Refusal};
 use std::alloc::Global;
@@ -13,7 +13,7 @@ use std::rt::Clock;
 use std::time::{Duration, Instant};
 
 /// How events go through: so many claims, and then a turn for each handler.
-#[derive(Clone, Copy, Debug, PartialEq, Eq)]
+#[derive(Clone, Copy)]
 struct Lap {
     claims: u64,
     claim: u64,
@@ -100,8 +100,21 @@ impl<const MORE: usize> OneThread<MORE> {
         Ok(())
     }
 
+    /// Adds the rounds that are ordered, and checks what the handlers added up in all of them.
+    pub fn rounds(
+        &mut self,
+        clock: &impl Clock,
+        order: &Order,
+        rounds: &mut Vec<Round>,
+    ) -> Result<(), Fault> {
+        for _ in 0..order.rounds {
+            rounds.push(self.round(clock)?)?;
+        }
+        self.check()
+    }
+
     /// Runs for about the round's time, a stretch of events at least.
-    pub fn round(&mut self, clock: &impl Clock) -> Result<Round, Fault> {
+    fn round(&mut self, clock: &impl Clock) -> Result<Round, Fault> {
         let before = self.core.next();
         let begun = Instant::now(clock)?;
         for _ in 0..MOST_TURNS {
@@ -112,16 +125,17 @@ impl<const MORE: usize> OneThread<MORE> {
                 return Ok(Round { events, time });
             }
         }
-        Err(Fault::NoEnd)
+        Err(Fault::NO_END)
     }
 
     /// Whether each handler added up all that was ever published.
-    pub fn check(&self) -> Result<(), Fault> {
+    fn check(&self) -> Result<(), Fault> {
         let total = sum_of_first(self.core.next());
-        if self.sums.iter().all(|sum| sum.total == total) {
-            Ok(())
-        } else {
-            Err(Fault::WrongSum)
+        for sum in &self.sums {
+            if sum.total != total {
+                return Err(Fault::WRONG_SUM);
+            }
         }
+        Ok(())
     }
 }

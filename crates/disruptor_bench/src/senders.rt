@@ -3,9 +3,10 @@
 use crate::arguments::Order;
 use crate::fault::Fault;
 use crate::measured::Round;
-use crate::threads::{MOST_AT_ONCE, finish, start, stretch};
+use crate::threads::{finish, start, stretch};
 use dr_core::MAX_LIMIT;
-use dr_senders::{Sender, senders_ring};
+use dr_seq::Event;
+use dr_senders::{Halter, Receiver, Sender, senders_ring};
 use std::alloc::Global;
 use std::rt::Clock;
 use std::thread::{self, JoinHandle, Threads};
@@ -23,8 +24,10 @@ fn start_senders(
 ) -> Result<Vec<Producer>, Fault> {
     let mut producers = Vec::new(alloc);
     for mut sender in senders {
-        let Ok(producer) = thread::spawn(rt, move || stretch(&mut sender, n)) else {
-            return Err(Fault::Thread);
+        let Ok(producer) = thread::spawn(rt, move || {
+            stretch::<Event, Sender>(&mut sender, n)
+        }) else {
+            return Err(Fault::THREAD);
         };
         producers.push(producer)?;
     }
@@ -40,29 +43,46 @@ fn join_senders(rt: &impl Threads, producers: Vec<Producer>) -> Result<u64, Faul
     Ok(events)
 }
 
-/// One round of a stretch for each sender over a ring of its own, from the first sender's start until
-/// the last handler has drained it.
+/// Sends a stretch from each sender, and answers how many events there were.
+fn send_all(rt: &impl Threads, alloc: Global, senders: Vec<Sender>, n: u64) -> Result<u64, Fault> {
+    let producers = start_senders(rt, alloc, senders, n)?;
+    join_senders(rt, producers)
+}
+
+fn ends(
+    alloc: Global,
+    order: &Order,
+    senders: u64,
+) -> Result<(Vec<Sender>, Vec<Receiver>, Halter), Fault> {
+    let graph = order.topology.shape.graph(alloc)?;
+    Ok(senders_ring(alloc, &graph, order.size, MAX_LIMIT, senders as usize)?)
+}
+
+/// A round from the first sender's start until the last handler has drained the ring.
+fn measured(
+    rt: &(impl Clock + Threads),
+    alloc: Global,
+    order: &Order,
+    senders: Vec<Sender>,
+    receivers: Vec<Receiver>,
+    halter: &mut Halter,
+) -> Result<Round, Fault> {
+    let handlers = start(rt, alloc, receivers, order.size)?;
+    let begun = Instant::now(rt)?;
+    let events = send_all(rt, alloc, senders, order.claim())?;
+    halter.halt();
+    finish(rt, handlers, events)?;
+    let time = begun.elapsed(rt)?;
+    Ok(Round { events, time })
+}
+
+/// One round of a stretch for each sender over a ring of its own.
 pub fn round(
     rt: &(impl Clock + Threads),
     alloc: Global,
     order: &Order,
     senders: u64,
 ) -> Result<Round, Fault> {
-    let graph = order.topology.shape.graph(alloc)?;
-    let (senders, receivers, mut halter) = senders_ring(
-        alloc,
-        &graph,
-        order.size,
-        MAX_LIMIT,
-        senders as usize,
-    )?;
-    let room = order.size.get().min(MOST_AT_ONCE) as usize;
-    let handlers = start(rt, alloc, receivers, room)?;
-    let begun = Instant::now(rt)?;
-    let producers = start_senders(rt, alloc, senders, order.claim())?;
-    let events = join_senders(rt, producers)?;
-    halter.halt();
-    finish(rt, handlers, events)?;
-    let time = begun.elapsed(rt)?;
-    Ok(Round { events, time })
+    let (senders, receivers, mut halter) = ends(alloc, order, senders)?;
+    measured(rt, alloc, order, senders, receivers, &mut halter)
 }

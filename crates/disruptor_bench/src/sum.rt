@@ -5,7 +5,7 @@ use dr_core::{Handler, InPlaceHandler};
 use dr_seq::Event;
 
 /// A handler that adds up the first words, as the LMAX measurements' does.
-#[derive(Clone, Copy, Debug, PartialEq, Eq)]
+#[derive(Clone, Copy)]
 pub struct Sum {
     pub total: u64,
 }
@@ -28,14 +28,6 @@ impl<const MORE: usize> InPlaceHandler<Words<MORE>> for Sum {
     #[inline]
     fn on_event_in_place(&mut self, event: &Words<MORE>, _s: u64, _end: bool) {
         self.total = self.total.wrapping_add(event.first);
-    }
-}
-
-/// The event that the producer sends at a sequence.
-pub fn event_at(sequence: u64) -> Event {
-    Event {
-        first: sequence,
-        second: 0,
     }
 }
 

@@ -4,11 +4,12 @@
 use crate::arguments::Order;
 use crate::fault::Fault;
 use crate::measured::Round;
-use crate::sum::{event_at, sum_of_first};
+use crate::sum::sum_of_first;
+use crate::width::Made;
 use crate::{MOST_TURNS, STRETCH};
 use dr_core::{Claimed, Inlet, MAX_LIMIT, Outlet, Polled, Refusal, Trouble};
-use dr_ring::{Sender, ring};
-use dr_seq::Event;
+use dr_ring::{Halter, Receiver, Sender, ring};
+use dr_seq::{Event, Size};
 use dr_shared::Waiting;
 use std::alloc::Global;
 use std::rt::Clock;
@@ -36,7 +37,7 @@ fn receive<O: Outlet<Event> + Drop>(mut receiver: O, mut room: Vec<Event>) -> Re
             Polled::Gating | Polled::Idle => waiting.wait(),
         }
     }
-    Err(Fault::NoEnd)
+    Err(Fault::NO_END)
 }
 
 /// The sum of the first events of a batch, as it wraps.
@@ -49,7 +50,7 @@ fn sum_of(room: &[Event], count: u64) -> u64 {
 }
 
 /// Claims once there is room.
-fn claim<I: Inlet<Event>>(sender: &mut I, n: u64) -> Result<Claimed, Fault> {
+fn claim<E: Copy, I: Inlet<E>>(sender: &mut I, n: u64) -> Result<Claimed, Fault> {
     let mut waiting = Waiting::new(n);
     for _ in 0..MOST_TURNS {
         match sender.try_claim(n) {
@@ -58,41 +59,58 @@ fn claim<I: Inlet<Event>>(sender: &mut I, n: u64) -> Result<Claimed, Fault> {
             Err(trouble) => return Err(trouble.into()),
         }
     }
-    Err(Fault::NoEnd)
+    Err(Fault::NO_END)
 }
 
 /// Claims, writes and publishes once.
 #[inline]
-fn send<I: Inlet<Event>>(sender: &mut I, n: u64) -> Result<(), Fault> {
-    let claimed = claim(sender, n)?;
+fn send<E: Made, I: Inlet<E>>(sender: &mut I, n: u64) -> Result<(), Fault> {
+    let claimed = claim::<E, I>(sender, n)?;
     for k in 0..n {
         let s = claimed.lo.wrapping_add(k);
-        sender.write(s, event_at(s))?;
+        sender.write(s, E::at(s))?;
     }
     Ok(sender.publish(claimed.lo, claimed.hi)?)
 }
 
 /// Sends a stretch of events, and answers how many there were.
-pub fn stretch<I: Inlet<Event>>(sender: &mut I, n: u64) -> Result<u64, Fault> {
+pub fn stretch<E: Made, I: Inlet<E>>(sender: &mut I, n: u64) -> Result<u64, Fault> {
     let claims = STRETCH.checked_div(n).unwrap_or(1);
     for _ in 0..claims {
-        send(sender, n)?;
+        send::<E, I>(sender, n)?;
     }
     Ok(claims.wrapping_mul(n))
 }
 
 /// Sends for about so long, and answers how many events there were.
-fn send_for(clock: &impl Clock, sender: &mut Sender, n: u64, time: Duration) -> Result<u64, Fault> {
+pub fn send_for<E: Made, I: Inlet<E>>(
+    clock: &impl Clock,
+    sender: &mut I,
+    n: u64,
+    time: Duration,
+) -> Result<u64, Fault> {
     let mut events = 0u64;
     let begun = Instant::now(clock)?;
     for _ in 0..MOST_TURNS {
-        events = events.wrapping_add(stretch(sender, n)?);
+        events = events.wrapping_add(stretch::<E, I>(sender, n)?);
         if begun.elapsed(clock)? >= time {
-            sender.close()?;
             return Ok(events);
         }
     }
-    Err(Fault::NoEnd)
+    Err(Fault::NO_END)
+}
+
+fn start_one<O: Outlet<Event> + Drop + Send + 'static>(
+    rt: &impl Threads,
+    alloc: Global,
+    receiver: O,
+    room: usize,
+) -> Result<Handler, Fault> {
+    let room = vec![in alloc; Event::NONE; room]?;
+    match thread::spawn(rt, move || receive(receiver, room)) {
+        Ok(handler) => Ok(handler),
+        Err(_) => Err(Fault::THREAD),
+    }
 }
 
 /// Starts a thread for each handler.
@@ -100,15 +118,12 @@ pub fn start<O: Outlet<Event> + Drop + Send + 'static>(
     rt: &impl Threads,
     alloc: Global,
     receivers: Vec<O>,
-    room: usize,
+    size: Size,
 ) -> Result<Vec<Handler>, Fault> {
+    let room = size.get().min(MOST_AT_ONCE) as usize;
     let mut handlers = Vec::new(alloc);
     for receiver in receivers {
-        let room = vec![in alloc; Event::NONE; room]?;
-        let Ok(handler) = thread::spawn(rt, move || receive(receiver, room)) else {
-            return Err(Fault::Thread);
-        };
-        handlers.push(handler)?;
+        handlers.push(start_one(rt, alloc, receiver, room)?)?;
     }
     Ok(handlers)
 }
@@ -118,21 +133,36 @@ pub fn finish(rt: &impl Threads, handlers: Vec<Handler>, events: u64) -> Result<
     let total = sum_of_first(events);
     for handler in handlers {
         if handler.join(rt)? != total {
-            return Err(Fault::WrongSum);
+            return Err(Fault::WRONG_SUM);
         }
     }
     Ok(())
 }
 
-/// One round over a ring of its own, from the first claim until the last handler has drained it.
-pub fn round(rt: &(impl Clock + Threads), alloc: Global, order: &Order) -> Result<Round, Fault> {
+fn ends(alloc: Global, order: &Order) -> Result<(Sender, Vec<Receiver>, Halter), Fault> {
     let graph = order.topology.shape.graph(alloc)?;
-    let (mut sender, receivers, _halter) = ring(alloc, &graph, order.size, MAX_LIMIT)?;
-    let room = order.size.get().min(MOST_AT_ONCE) as usize;
-    let handlers = start(rt, alloc, receivers, room)?;
+    Ok(ring(alloc, &graph, order.size, MAX_LIMIT)?)
+}
+
+/// A round from the first claim until the last handler has drained the ring.
+fn measured(
+    rt: &(impl Clock + Threads),
+    alloc: Global,
+    order: &Order,
+    sender: &mut Sender,
+    receivers: Vec<Receiver>,
+) -> Result<Round, Fault> {
+    let handlers = start(rt, alloc, receivers, order.size)?;
     let begun = Instant::now(rt)?;
-    let events = send_for(rt, &mut sender, order.claim(), order.time)?;
+    let events = send_for::<Event, Sender>(rt, sender, order.claim(), order.time)?;
+    sender.close()?;
     finish(rt, handlers, events)?;
     let time = begun.elapsed(rt)?;
     Ok(Round { events, time })
+}
+
+/// One round over a ring of its own.
+pub fn round(rt: &(impl Clock + Threads), alloc: Global, order: &Order) -> Result<Round, Fault> {
+    let (mut sender, receivers, _halter) = ends(alloc, order)?;
+    measured(rt, alloc, order, &mut sender, receivers)
 }

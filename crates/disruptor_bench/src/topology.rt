@@ -6,12 +6,14 @@ use std::alloc::Global;
 use std::fmt;
 
 /// What the events go through.
-#[derive(Clone, Copy, Debug, PartialEq, Eq)]
+#[derive(Clone, Copy)]
 pub enum Exchange {
     /// The core of events of such a width, with all on one thread.
     Core(Width),
     /// The ring over atomic words, with a thread for each end.
     Ring,
+    /// The ring over plain memory, of events of such a width, with a thread for each end.
+    Plain(Width),
     /// The ring with so many senders, and a thread for each end.
     Senders(u64),
     /// The core behind a lock, with so many producers, and a thread for each of them and for each handler.
@@ -27,7 +29,7 @@ const NAMES: [&str; MOST_HANDLERS] = [
 ];
 
 /// The graphs of the LMAX paper's measurements, and two that grow.
-#[derive(Clone, Copy, Debug, PartialEq, Eq)]
+#[derive(Clone, Copy)]
 pub enum Shape {
     /// One handler.
     Unicast,
@@ -44,7 +46,7 @@ pub enum Shape {
 }
 
 /// How the producer sends.
-#[derive(Clone, Copy, Debug, PartialEq, Eq)]
+#[derive(Clone, Copy)]
 pub enum Pace {
     /// Claims of one; on one thread until the ring is full.
     Ones,
@@ -55,7 +57,7 @@ pub enum Pace {
 }
 
 /// What is measured. Its text is its name on the command line.
-#[derive(Clone, Copy, Debug, PartialEq, Eq)]
+#[derive(Clone, Copy)]
 pub struct Topology {
     pub exchange: Exchange,
     pub shape: Shape,
@@ -67,13 +69,21 @@ const MOST_PRODUCERS: u64 = 16;
 
 impl Exchange {
     /// The exchanges of the measurements that are listed.
-    pub const ALL: [Exchange; 2] = [Exchange::Core(Width::Two), Exchange::Ring];
+    pub const ALL: [Exchange; 3] = [
+        Exchange::Core(Width::Two),
+        Exchange::Ring,
+        Exchange::Plain(Width::Two),
+    ];
 
     /// Reads the beginning of a topology's name, and gives the rest with it.
     fn before(name: &str) -> Option<(Exchange, &str)> {
         if let Some(rest) = name.strip_prefix("core") {
             let (width, rest) = rest.split_once('-')?;
             return Some((Exchange::Core(Width::named(width)?), rest));
+        }
+        if let Some(rest) = name.strip_prefix("plain") {
+            let (width, rest) = rest.split_once('-')?;
+            return Some((Exchange::Plain(Width::named(width)?), rest));
         }
         if let Some(rest) = name.strip_prefix("lock") {
             let (producers, rest) = producers_before(rest)?;
@@ -90,7 +100,7 @@ impl Exchange {
     pub fn paces(self) -> [Pace; 3] {
         match self {
             Exchange::Core(_) => [Pace::Ones, Pace::Step, Pace::Claims(10)],
-            Exchange::Ring | Exchange::Senders(_) | Exchange::Lock(_) => [
+            Exchange::Ring | Exchange::Plain(_) | Exchange::Senders(_) | Exchange::Lock(_) => [
                 Pace::Ones,
                 Pace::Claims(10),
                 Pace::Claims(100),
@@ -100,7 +110,7 @@ impl Exchange {
 
     /// Whether a producer can send to it so: threads have no steps.
     fn has(self, pace: Pace) -> bool {
-        matches!(self, Exchange::Core(_)) || pace != Pace::Step
+        matches!(self, Exchange::Core(_)) || !matches!(pace, Pace::Step)
     }
 }
 
@@ -109,6 +119,7 @@ impl fmt::Display for Exchange {
         f.write_str(match self {
             Exchange::Core(_) => "core",
             Exchange::Ring => "ring",
+            Exchange::Plain(_) => "plain",
             Exchange::Senders(_) => "senders",
             Exchange::Lock(_) => "lock",
         })
@@ -134,15 +145,34 @@ fn handlers_of(word: &str) -> Option<usize> {
     Some(count_of(word, MOST_HANDLERS as u64)? as usize)
 }
 
+/// Which comes after which in a chain.
+const STEPS: [(&str, &str); 15] = [
+    ("a", "b"),
+    ("b", "c"),
+    ("c", "d"),
+    ("d", "e"),
+    ("e", "f"),
+    ("f", "g"),
+    ("g", "h"),
+    ("h", "i"),
+    ("i", "j"),
+    ("j", "k"),
+    ("k", "l"),
+    ("l", "m"),
+    ("m", "n"),
+    ("n", "o"),
+    ("o", "p"),
+];
+
+/// Connects the first handlers one after another.
 fn chain(builder: &mut GraphBuilder, handlers: usize) -> Result<(), GraphFault> {
-    let mut last = builder.handle_with(&["a"])?;
-    for name in NAMES.iter().take(handlers).skip(1) {
-        last = builder.then(&last, &[*name])?;
+    for (up, down) in STEPS.iter().take(handlers.saturating_sub(1)) {
+        builder.edge(*up, *down)?;
     }
     Ok(())
 }
 
-fn side(builder: &mut GraphBuilder, handlers: usize) -> Result<(), GraphFault> {
+fn declare(builder: &mut GraphBuilder, handlers: usize) -> Result<(), GraphFault> {
     for name in NAMES.iter().take(handlers) {
         builder.handle_with(&[*name])?;
     }
@@ -175,20 +205,30 @@ impl Shape {
         }
     }
 
+    fn handlers(self) -> usize {
+        match self {
+            Shape::Unicast => 1,
+            Shape::Pipeline | Shape::Multicast | Shape::Diamond => 3,
+            Shape::Chain(handlers) | Shape::Side(handlers) => handlers,
+        }
+    }
+
+    fn connect(self, builder: &mut GraphBuilder) -> Result<(), GraphFault> {
+        match self {
+            Shape::Unicast | Shape::Multicast | Shape::Side(_) => Ok(()),
+            Shape::Pipeline | Shape::Chain(_) => chain(builder, self.handlers()),
+            Shape::Diamond => {
+                builder.edge("a", "c")?;
+                builder.edge("b", "c")
+            }
+        }
+    }
+
     /// The graph of its handlers.
     pub fn graph(self, alloc: Global) -> Result<Graph, GraphFault> {
         let mut builder = GraphBuilder::new(alloc);
-        match self {
-            Shape::Unicast => side(&mut builder, 1)?,
-            Shape::Pipeline => chain(&mut builder, 3)?,
-            Shape::Multicast => side(&mut builder, 3)?,
-            Shape::Diamond => {
-                let both = builder.handle_with(&["a", "b"])?;
-                builder.then(&both, &["c"])?;
-            }
-            Shape::Chain(handlers) => chain(&mut builder, handlers)?,
-            Shape::Side(handlers) => side(&mut builder, handlers)?,
-        }
+        declare(&mut builder, self.handlers())?;
+        self.connect(&mut builder)?;
         builder.build()
     }
 }
@@ -260,6 +300,7 @@ impl fmt::Display for Topology {
         match self.exchange {
             Exchange::Core(width) => write!(f, "core{width}-")?,
             Exchange::Ring => {}
+            Exchange::Plain(width) => write!(f, "plain{width}-")?,
             Exchange::Senders(senders) => write!(f, "senders{senders}-")?,
             Exchange::Lock(producers) => write!(f, "lock{producers}-")?,
         }

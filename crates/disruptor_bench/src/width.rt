@@ -1,9 +1,10 @@
-//! How large the events on one thread are.
+//! How large the events are that go through one thread, or plain memory.
 
+use dr_seq::Event;
 use std::fmt;
 
 /// How many words an event has.
-#[derive(Clone, Copy, Debug, PartialEq, Eq)]
+#[derive(Clone, Copy)]
 pub enum Width {
     One,
     Two,
@@ -15,7 +16,7 @@ impl Width {
     /// The widths with a row of their own. All other rows are of two words, as the tools' events.
     pub const OTHERS: [Width; 3] = [Width::One, Width::Eight, Width::Sixteen];
 
-    /// The width of which a topology's name tells after `core`.
+    /// The width of which a topology's name tells after `core` or `plain`.
     pub fn named(word: &str) -> Option<Width> {
         match word {
             "1" => Some(Width::One),
@@ -39,19 +40,46 @@ impl fmt::Display for Width {
 }
 
 /// An event of one word and so many more.
-#[derive(Clone, Copy, Debug, PartialEq, Eq)]
+#[derive(Clone, Copy)]
 pub struct Words<const MORE: usize> {
     pub first: u64,
     pub more: [u64; MORE],
 }
 
-impl<const MORE: usize> Words<MORE> {
-    /// The event that the producer sends at a sequence.
+/// An event that a producer makes for its sequence.
+pub trait Made: Copy {
+    fn at(sequence: u64) -> Self;
+
+    /// The word that the handlers add up.
+    fn first(&self) -> u64;
+}
+
+impl<const MORE: usize> Made for Words<MORE> {
     #[inline]
-    pub fn at(sequence: u64) -> Words<MORE> {
+    fn at(sequence: u64) -> Words<MORE> {
         Words {
             first: sequence,
             more: [0; MORE],
         }
+    }
+
+    #[inline]
+    fn first(&self) -> u64 {
+        self.first
+    }
+}
+
+impl Made for Event {
+    #[inline]
+    fn at(sequence: u64) -> Event {
+        Event {
+            first: sequence,
+            second: 0,
+        }
+    }
+
+    #[inline]
+    fn first(&self) -> u64 {
+        self.first
     }
 }

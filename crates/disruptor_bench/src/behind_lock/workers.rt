@@ -7,9 +7,9 @@ use crate::fault::Fault;
 use crate::sum::Sum;
 use dr_seq::Event;
 use dr_shared::{
-    End, Exchange, LockedInlet, LockedOutlet, OpenGate, Shared, consume, halt, join_all, produce,
+    End, Exchange, LockedInlet, LockedOutlet, OpenGate, Shared, consume, halt, produce,
 };
-use std::alloc::{AllocError, Global};
+use std::alloc::Global;
 use std::sync::Wait;
 use std::sync::ledger::Ledger;
 use std::thread::{self, JoinHandle, Threads};
@@ -39,19 +39,6 @@ pub struct Parties<L: Ledger> {
     pub handlers: Vec<End<Event, L>>,
 }
 
-/// A worker's number among those of its kind, and its end.
-#[derive(Drop)]
-struct Task<L: Ledger> {
-    k: usize,
-    end: End<Event, L>,
-}
-
-/// What a producer gives back. That it sent all is seen by what the handlers added up.
-#[derive(Drop)]
-pub struct Sent<L: Ledger> {
-    pub end: End<Event, L>,
-}
-
 /// What a handler gives back.
 #[derive(Drop)]
 pub struct Handled<L: Ledger> {
@@ -63,21 +50,27 @@ pub struct Handled<L: Ledger> {
 #[derive(Drop)]
 pub struct Joined<L: Ledger> {
     pub halter: End<Event, L>,
-    pub sent: Vec<Sent<L>>,
+    pub producers: Vec<End<Event, L>>,
     pub handled: Vec<Handled<L>>,
 }
 
-fn send<L: Exchange<Event>, R: Wait>(around: &Around<'_, L, R>, task: Task<L>) -> Sent<L> {
-    let Task { k, end } = task;
+/// That a producer sent all is seen by what the handlers added up.
+fn send<L: Exchange<Event>, R: Wait>(
+    around: &Around<'_, L, R>,
+    k: usize,
+    end: End<Event, L>,
+) -> End<Event, L> {
     let mut inlet = LockedInlet::new(around.rt, around.shared, end, k as u64);
     let cut = around.cut.max(1);
     let _sent = produce(around.rt, &mut inlet, &OpenGate, k, around.script, cut);
-    let end = inlet.into_end();
-    Sent { end }
+    inlet.into_end()
 }
 
-fn handle<L: Exchange<Event>, R: Wait>(around: &Around<'_, L, R>, task: Task<L>) -> Handled<L> {
-    let Task { k, end } = task;
+fn handle<L: Exchange<Event>, R: Wait>(
+    around: &Around<'_, L, R>,
+    k: usize,
+    end: End<Event, L>,
+) -> Handled<L> {
     let mut outlet = LockedOutlet::new(around.rt, around.shared, end, k);
     let mut buffer = [Event::NONE; MOST_AT_ONCE];
     let room = around.slots.min(MOST_AT_ONCE);
@@ -90,22 +83,24 @@ fn handle<L: Exchange<Event>, R: Wait>(around: &Around<'_, L, R>, task: Task<L>)
         &mut sum,
         &mut buffer[..room],
     );
-    let end = outlet.into_end();
     Handled {
-        end,
+        end: outlet.into_end(),
         total: sum.total,
     }
 }
 
 /// What threads give back, where so many could be started.
-fn gather<T: Drop, L: Exchange<Event>, R: Threads + Wait>(
+fn gather<T: Drop, L: Exchange<Event>, R: Threads>(
     around: &Around<'_, L, R>,
     started: Vec<JoinHandle<T>>,
     count: usize,
 ) -> Result<Vec<T>, Fault> {
-    let all = join_all(around.rt, around.alloc, started)?;
+    let mut all = Vec::with_capacity(around.alloc, count)?;
+    for worker in started {
+        all.push(worker.join(around.rt))?;
+    }
     if all.len() < count {
-        return Err(Fault::Thread);
+        return Err(Fault::THREAD);
     }
     Ok(all)
 }
@@ -114,19 +109,18 @@ fn gather<T: Drop, L: Exchange<Event>, R: Threads + Wait>(
 fn send_all<L: Exchange<Event> + Send + Sync, R: Threads + Wait + Sync>(
     around: &Around<'_, L, R>,
     ends: Vec<End<Event, L>>,
-) -> Result<Vec<Sent<L>>, Fault> {
+) -> Result<Vec<End<Event, L>>, Fault> {
     thread::scope(
         thread::scope_env(),
         around.rt,
-        move |scope| -> Result<Vec<Sent<L>>, Fault>
+        move |scope| -> Result<Vec<End<Event, L>>, Fault>
             requires shared { IsSync L.row }
             requires workers { IsSync R.row }
         {
             let count = ends.len();
             let mut started = Vec::with_capacity(around.alloc, count)?;
             for (k, end) in ends.into_iter().enumerate() {
-                let task = Task { k, end };
-                if let Ok(worker) = scope.spawn(move || send(around, task)) {
+                if let Ok(worker) = scope.spawn(move || send(around, k, end)) {
                     started.push(worker)?;
                 }
             }
@@ -155,8 +149,7 @@ pub fn exchange<L: Exchange<Event> + Send + Sync, R: Threads + Wait + Sync>(
             let count = handlers.len();
             let mut started = Vec::with_capacity(around.alloc, count)?;
             for (k, end) in handlers.into_iter().enumerate() {
-                let task = Task { k, end };
-                if let Ok(worker) = scope.spawn(move || handle(around, task)) {
+                if let Ok(worker) = scope.spawn(move || handle(around, k, end)) {
                     started.push(worker)?;
                 }
             }
@@ -164,13 +157,13 @@ pub fn exchange<L: Exchange<Event> + Send + Sync, R: Threads + Wait + Sync>(
             let sent = if started.len() == count {
                 send_all(around, producers)
             } else {
-                Err(Fault::Thread)
+                Err(Fault::THREAD)
             };
             halt(around.rt, around.shared, &mut halter);
             let handled = gather(around, started, count)?;
             Ok(Joined {
                 halter,
-                sent: sent?,
+                producers: sent?,
                 handled,
             })
         },

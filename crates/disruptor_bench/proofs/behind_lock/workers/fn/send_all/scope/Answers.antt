@@ -3,7 +3,7 @@ use Rattle.dr_shared.proofs.Sent.{of_param}
 use Rattle.disruptor_bench.proofs.Crossing.{crosses, gives}
 use Rattle.disruptor_bench.proofs.behind_lock.workers.fn.send_all.scope.Goals as goal
 
--- a worker's closure may go to another thread: it has a reference to what all share, and its task
+-- a worker's closure may go to another thread: it has a reference to what all share, its number, and its end
 pub spawn-requires-send-F : goal.spawn-requires-send-F
 spawn-requires-send-F g c κs within =
     let ledger : IsSync g.row.L = of_param _ g.row.L c.requires.shared in
@@ -11,6 +11,5 @@ spawn-requires-send-F g c κs within =
     search crosses depth 40 fits 20000
 
 -- what it gives back may be sent: its end, and what came of its work
-
 pub spawn-requires-send-T : goal.spawn-requires-send-T
 spawn-requires-send-T g c κs within = search gives depth 60 fits 20000
