@@ -21,7 +21,8 @@ others_in() {
         $0 ~ stores && !told { print FILENAME ":" FNR ":" $0 }' {} +
 }
 
-others=$(others_in crates/dr_ring/src; others_in crates/dr_senders/src)
+# (dr_plain's tokens are exchanged in slots that an end has in hand, which is no step.)
+others=$(others_in crates/dr_ring/src; others_in crates/dr_senders/src; others_in crates/dr_plain/src | grep -v '[.]exchange(')
 if [ -n "$others" ]; then
     printf 'a load or store that is no step of the laws, or a store that its contract does not tell:\n%s\n' "$others"
     exit 1
