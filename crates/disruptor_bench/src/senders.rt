@@ -5,8 +5,8 @@ use crate::fault::Fault;
 use crate::measured::Round;
 use crate::threads::{finish, start, stretch};
 use dr_core::MAX_LIMIT;
-use dr_seq::Event;
 use dr_senders::{Halter, Receiver, Sender, senders_ring};
+use dr_seq::Event;
 use std::alloc::Global;
 use std::rt::Clock;
 use std::thread::{self, JoinHandle, Threads};
@@ -24,9 +24,8 @@ fn start_senders(
 ) -> Result<Vec<Producer>, Fault> {
     let mut producers = Vec::new(alloc);
     for mut sender in senders {
-        let Ok(producer) = thread::spawn(rt, move || {
-            stretch::<Event, Sender>(&mut sender, n)
-        }) else {
+        let Ok(producer) = thread::spawn(rt, move || { stretch::<Event, Sender>(&mut sender, n) })
+        else {
             return Err(Fault::THREAD);
         };
         producers.push(producer)?;

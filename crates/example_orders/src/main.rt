@@ -118,28 +118,34 @@ fn exchange<R: Threads + Wait + Sync>(
     mut sender: Sender<Order>,
     mut receivers: Vec<Receiver<Order>>,
 ) -> Result<(u64, u64, u64), Fault> {
-    let (Some(matching), Some(risk), Some(journal)) =
-        (receivers.pop(), receivers.pop(), receivers.pop())
-    else {
+    let (Some(matching), Some(risk), Some(journal)) = (
+        receivers.pop(),
+        receivers.pop(),
+        receivers.pop(),
+    ) else {
         return Err(Fault::Memory);
     };
-    thread::scope(thread::scope_env(), rt, move |scope| -> Result<(u64, u64, u64), Fault> {
-        let journal = scope.spawn(move || serve(rt, journal));
-        let risk = scope.spawn(move || serve(rt, risk));
-        let matching = scope.spawn(move || serve(rt, matching));
-        let mut sent = Ok(());
-        if journal.is_ok() && risk.is_ok() && matching.is_ok() {
-            sent = feed(rt, &mut sender);
-        }
-        // The handlers end once the ring has drained, which it does only when it is closed.
-        let _closed = sender.close();
-        let (Ok(journal), Ok(risk), Ok(matching)) = (journal, risk, matching) else {
-            return Err(Fault::Memory);
-        };
-        let totals = (journal.join(rt)?, risk.join(rt)?, matching.join(rt)?);
-        sent?;
-        Ok(totals)
-    })
+    thread::scope(
+        thread::scope_env(),
+        rt,
+        move |scope| -> Result<(u64, u64, u64), Fault> {
+            let journal = scope.spawn(move || serve(rt, journal));
+            let risk = scope.spawn(move || serve(rt, risk));
+            let matching = scope.spawn(move || serve(rt, matching));
+            let mut sent = Ok(());
+            if journal.is_ok() && risk.is_ok() && matching.is_ok() {
+                sent = feed(rt, &mut sender);
+            }
+            // The handlers end once the ring has drained, which it does only when it is closed.
+            let _closed = sender.close();
+            let (Ok(journal), Ok(risk), Ok(matching)) = (journal, risk, matching) else {
+                return Err(Fault::Memory);
+            };
+            let totals = (journal.join(rt)?, risk.join(rt)?, matching.join(rt)?);
+            sent?;
+            Ok(totals)
+        },
+    )
 }
 
 fn run<R: Threads + Wait + Sync>(rt: &R, alloc: Global) -> Result<(u64, u64, u64), Fault> {
