@@ -164,6 +164,9 @@ def is_running(number):
 def ends_all(number):
     """Whether a command, and what that started, ends with the process that started it where that gets this signal."""
     words = [f"{wrong_bodies.TOP}/tools/together.py", "sh", "-c", "sleep 600 & echo $$ $!; wait"]
+    # Whoever runs this may ignore the signal, as nohup does, and commands inherit that.
+    if number != signal.SIGKILL:
+        signal.signal(number, signal.SIG_DFL)
     with subprocess.Popen(words, stdout=subprocess.PIPE, text=True) as begun:
         started = begun.stdout.readline().split()
         begun.send_signal(number)
@@ -171,6 +174,7 @@ def ends_all(number):
             if not any(is_running(it) for it in started):
                 return len(started) == 2
             time.sleep(0.1)
+        begun.kill()
     return False
 
 
