@@ -1,6 +1,7 @@
 -- What workers call of their ends.
-use Rattle.std.proofs.Common.{◌≡◌, ◌≢◌, ◌<◌, ◌≤◌, ◌+◌, ◌-◌, ℕ, zero, suc, List, [], ◌∷◌, ◌++◌, length, take, drop, replicate, Option, None, Some, Result, Ok, Err, inl, inr, refl, sym, ap, ◌∙◌, subst, arith, add-zero, drop-cons}
-use Rattle.std.specs.List.{cons_option, filter_map}
+use Rattle.std.proofs.Common.{◌≡◌, ◌≢◌, ◌<◌, ◌≤◌, ◌+◌, ◌-◌, ℕ, zero, suc, List, [], ◌∷◌, ◌++◌, length, take, drop, replicate, Option, None, Some, Result, Ok, Err, inl, inr, refl, sym, ap, ◌∙◌, subst, arith, add-zero, zero-add, drop-cons}
+use Rattle.std.specs.List.{cons_option, filter_map, slice_get}
+use Rattle.std.proofs.Math.Seq.{drop-nil}
 use Rattle.std.proofs.lemmas.Grind.{flat_map-append}
 use Rattle.std.proofs.lemmas.List.{append-nil, length-take-le, replicate-append-replicate, take_all}
 use Rattle.std.proofs.lemmas.List.Elements.{filter_map-append}
@@ -9,9 +10,9 @@ use Rattle.dr_core.specs.declared.ends.Trouble.{Trouble}
 use Rattle.dr_core.specs.declared.ends.Trouble.TheVariants.{Memory, Refused}
 use Rattle.dr_core.specs.declared.ends.Wrote.{Wrote}
 use Rattle.dr_core.specs.declared.refusal.Refusal.{Refusal}
-use Rattle.dr_core.specs.Calls.Calling.{InletCall, WritesMany, WritesOne, CallsLead, SomeCalls, WritesBy, each_written, first_in_trouble, writes_of}
+use Rattle.dr_core.specs.Calls.Calling.{InletCall, PublishesStretch, TriesClaim, WritesMany, WritesOne, CallsLead, SomeCalls, WritesBy, each_written, first_in_trouble, writes_of}
 use Rattle.dr_core.proofs.Calling.{lead_more}
-use Rattle.dr_shared.specs.Calls.Serving.{EndsIn, GivesUp}
+use Rattle.dr_shared.specs.Calls.Serving.{EndsIn, WriteFails}
 use Rattle.dr_shared.specs.Inside.Retries.{Retries, WriteCalls}
 use Rattle.dr_shared.specs.Meaning.Work.{accepted_in, accepted_of, claim_of, claims_in}
 use Rattle.dr_shared.proofs.Picks.{there}
@@ -29,6 +30,11 @@ ends_after IsSuch [] calls h = h
 ends_after IsSuch (x ∷ []) [] h = absurd h
 ends_after IsSuch (x ∷ []) (y ∷ calls) h = h
 ends_after IsSuch (x ∷ y ∷ before) calls h = ends_after IsSuch (y ∷ before) calls h
+
+pub ends_as : {C : Type 0} (IsSuch IsOther : C → Type 0) → ((call : C) → IsSuch call → IsOther call) → (calls : List C) → EndsIn IsSuch calls → EndsIn IsOther calls
+ends_as IsSuch IsOther implies [] h = h
+ends_as IsSuch IsOther implies (x ∷ []) h = implies x h
+ends_as IsSuch IsOther implies (x ∷ y ∷ calls) h = ends_as IsSuch IsOther implies (y ∷ calls) h
 
 -- What a result says.
 
@@ -115,18 +121,18 @@ each_written-take (suc k) lo (event ∷ events) = ap (λ l. WritesOne lo event (
 pub record AreTried {E : Type 0} (lo : ℕ) (events : List E) (wrote : Wrote) (calls : List (InletCall E)) : Type 0 where
   pub claims : claims_in calls ≡ []
   pub accepted : accepted_in calls ≡ each_written lo (take wrote.count events)
-  pub refused : (r : Refusal) → wrote.trouble ≡ Some (Refused r) → EndsIn (GivesUp (Refused r)) calls
+  pub refused : (r : Refusal) → wrote.trouble ≡ Some (Refused r) → EndsIn (WriteFails lo events (Refused r)) calls
 
-one_refused : {E : Type 0} (s : ℕ) (trouble : Option Trouble) (r : Refusal) (event : E) (rest : List E) → trouble ≡ Some (Refused r)
-    → EndsIn (GivesUp (Refused r)) (first_in_trouble s trouble (event ∷ rest))
-one_refused s None r event rest is = absurd (none-some (Refused r) is)
-one_refused s (Some trouble) r event rest is = (cc, tt)
+one_refused : {E : Type 0} (lo k : ℕ) (events : List E) (trouble : Option Trouble) (r : Refusal) (event : E) (rest : List E) → slice_get events k ≡ Some event
+    → trouble ≡ Some (Refused r) → EndsIn (WriteFails lo events (Refused r)) (first_in_trouble (lo + k) trouble (event ∷ rest))
+one_refused lo k events None r event rest at is = absurd (none-some (Refused r) is)
+one_refused lo k events (Some trouble) r event rest at is = (k, at, refl, cc, tt)
 
 pub many_writes : {S E : Type 0} (does : S → InletCall E → S → Type 0) (lo : ℕ) (events : List E) (wrote : Wrote) (a b : S)
     → ((r : Refusal) → wrote.trouble ≡ Some (Refused r) → wrote.count < length events) → WritesBy a b does lo events wrote
     → SomeCalls does a b (AreTried lo events wrote)
 many_writes does lo events wrote a b stops (inl once) =
-    record { calls = WritesMany lo events wrote ∷ []; lead = (b, once, refl); holds = record { claims = refl; accepted = append-nil (each_written lo (take wrote.count events)); refused = λ r is. (is, tt) } }
+    record { calls = WritesMany lo events wrote ∷ []; lead = (b, once, refl); holds = record { claims = refl; accepted = append-nil (each_written lo (take wrote.count events)); refused = λ r is. (0, refl, sym (add-zero lo), is, tt) } }
 many_writes {S} {E} does lo events wrote a b stops (inr each) =
     let first = each_written lo (take wrote.count events) in
     let rest = first_in_trouble (lo + wrote.count) wrote.trouble (drop wrote.count events) in record {
@@ -138,7 +144,7 @@ many_writes {S} {E} does lo events wrote a b stops (inr each) =
             ∙ ap (λ l. first ++ l) (none_accepted (lo + wrote.count) wrote.trouble (drop wrote.count events)) ∙ append-nil first;
         refused = λ r is.
             let at = there events wrote.count (stops r is) in
-            ends_after (GivesUp (Refused r)) first rest (rw (drop-cons events wrote.count at.0 (stops r is)) (one_refused (lo + wrote.count) wrote.trouble r _ _ is));
+            ends_after (WriteFails lo events (Refused r)) first rest (rw (drop-cons events wrote.count at.0 (stops r is)) (one_refused lo wrote.count events wrote.trouble r _ _ (at.1 ∙ ap (λ x. Some x) (sym at.2)) is));
       };
     }
 
@@ -189,6 +195,27 @@ all_accepted does a b lo done events all h = record {
   };
 }
 
+-- a write of the events that are left is one of all
+event_later : {E : Type 0} (done k : ℕ) (events : List E) → slice_get (drop done events) k ≡ slice_get events (done + k)
+event_later zero k events = ap (slice_get events) (sym (zero-add k))
+event_later (suc done) k [] = refl
+event_later (suc done) k (x ∷ events) = (let at : suc (done + k) ≡ suc done + k = omega arith in event_later done k events ∙ ap (slice_get (x ∷ events)) at)
+
+rest_later : {E : Type 0} (done k : ℕ) (events : List E) → drop k (drop done events) ≡ drop (done + k) events
+rest_later zero k events = ap (λ n. drop n events) (sym (zero-add k))
+rest_later (suc done) k [] = drop-nil k ∙ sym (drop-nil (suc done + k))
+rest_later (suc done) k (x ∷ events) = (let at : suc (done + k) ≡ suc done + k = omega arith in rest_later done k events ∙ ap (λ n. drop n (x ∷ events)) at)
+
+add_later : (lo done k : ℕ) → lo + done + k ≡ lo + (done + k)
+add_later lo done k = omega arith
+
+fails_later : {E : Type 0} (lo done : ℕ) (events : List E) (trouble : Trouble) (call : InletCall E) → WriteFails (lo + done) (drop done events) trouble call → WriteFails lo events trouble call
+fails_later lo done events trouble (WritesOne s event (Err fault)) (k, at, is, same, refusal) = (done + k, sym (event_later done k events) ∙ at, is ∙ add_later lo done k, same, refusal)
+fails_later lo done events trouble (WritesMany s some wrote) (k, at, is, same, refusal) = (done + k, at ∙ rest_later done k events, is ∙ add_later lo done k, same, refusal)
+fails_later lo done events trouble (WritesOne s event (Ok fine)) h = h
+fails_later lo done events trouble (TriesClaim n answer) h = h
+fails_later lo done events trouble (PublishesStretch from to answer) h = h
+
 -- the last one is
 pub last_refused : {S E : Type 0} (does : S → InletCall E → S → Type 0) (a b c : S) (lo done : ℕ) (events : List E) (wrote : Wrote) (why : Trouble)
     → wrote.trouble ≡ Some why → why ≢ Memory → done ≤ length events
@@ -202,7 +229,11 @@ last_refused {S} {E} does a b c lo done events wrote (Refused r) is other within
       lead = both.lead;
       holds = record {
         claims = both.holds.claims;
-        trouble = λ fault same. subst (λ f. EndsIn (GivesUp {E = E} f) (h.calls ++ k.calls)) (same_trouble (Err (Refused r)) (Refused r) fault refl same) (ends_after (GivesUp (Refused r)) h.calls k.calls (k.holds.refused r is));
+        trouble = λ fault same.
+            let later = ends_as (WriteFails (lo + done) (drop done events) (Refused r)) (WriteFails lo events (Refused r)) (fails_later lo done events (Refused r)) k.calls
+            (subst (λ l. EndsIn (WriteFails (lo + done) l (Refused r)) k.calls) (rest_of events done) (k.holds.refused r is)) in
+            subst (λ f. EndsIn (WriteFails lo events f) (h.calls ++ k.calls)) (same_trouble (Err (Refused r)) (Refused r) fault refl same)
+            (ends_after (WriteFails lo events (Refused r)) h.calls k.calls later);
         accepted = (done + wrote.count, both.holds.accepted ∙ each_written-take (done + wrote.count) lo events);
       };
     }

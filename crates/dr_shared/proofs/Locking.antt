@@ -37,7 +37,7 @@ pub stopped : {E : Type 0} (counted now : ℕ) (a b c : RecordedView E) (p lo k 
 stopped {E} counted now a b c p lo k s events event trouble counts at is all call = record {
   between = b;
   written = all;
-  stops = (
+  hindered = (
     event,
     is,
     subst (λ (n : ℕ). IsWrite n b p (lo + k) event c (Err trouble)) counts (subst (λ (n : ℕ). IsWrite now b p n event c (Err trouble)) at call),
@@ -50,7 +50,7 @@ pub all_done : {E : Type 0} (counted : ℕ) (a b : RecordedView E) (p lo k : ℕ
 all_done {E} counted a b p lo k events over all = record {
   between = b;
   written = subst (λ (xs : List E). AreCalls a p lo xs b) (take_all k events over ∙ sym (take_all (length events) events (omega arith))) all;
-  stops = (refl, refl);
+  hindered = (refl, refl);
 }
 
 -- what the machine answers to each

@@ -21,7 +21,7 @@ use Rattle.dr_core.specs.Meaning.Machine.{Setup, State, Outcome, next, available
 use Rattle.dr_core.specs.Meaning.Transcript.{Transcript, LeadsTo}
 use Rattle.dr_core.proofs.Steps.{NoneHold}
 use Rattle.dr_core.proofs.BadCounts.{bad_in_every, bad_is_not_one}
-use Rattle.dr_shared.specs.Calls.Lock.{AreWritten, IsAnswer, IsWritten, StopsBy}
+use Rattle.dr_shared.specs.Calls.Lock.{AreWritten, IsAnswer, IsWritten, IsHindered}
 use Rattle.dr_shared.specs.Meaning.History.{History, transcript}
 use Rattle.dr_shared.proofs.Picks.{there}
 use Rattle.dr_shared.proofs.Reached.{held, available_claimed}
@@ -208,23 +208,23 @@ written_tells b p s e (Ok done) is = write_tells b p s e Written [] is
 written_tells b p s e (Err (Refused refusal)) is = write_tells b p s e (RefusedReply refusal) [] is
 written_tells b p s e (Err Memory) is = tt
 
-stops_tells : {E : Type 0} (b : History E) (p lo : ℕ) (events : List E) (count : ℕ) (trouble : Option Trouble) → StopsBy b p lo events count trouble
+hindered_tells : {E : Type 0} (b : History E) (p lo : ℕ) (events : List E) (count : ℕ) (trouble : Option Trouble) → IsHindered b p lo events count trouble
     → StopsAt {E = E} None lo (length events) count trouble
-stops_tells b p lo events count None is = is
-stops_tells b p lo events count (Some trouble) is = (slice_get_within events count is.0 is.1, written_tells b p (lo + count) is.0 (Err trouble) is.2)
+hindered_tells b p lo events count None is = is
+hindered_tells b p lo events count (Some trouble) is = (slice_get_within events count is.0 is.1, written_tells b p (lo + count) is.0 (Err trouble) is.2)
 
-stops_within : {E : Type 0} (b : History E) (p lo : ℕ) (events : List E) (count : ℕ) (trouble : Option Trouble) → StopsBy b p lo events count trouble
+hindered_within : {E : Type 0} (b : History E) (p lo : ℕ) (events : List E) (count : ℕ) (trouble : Option Trouble) → IsHindered b p lo events count trouble
     → count ≤ length events
-stops_within b p lo events count None is = omega arith
-stops_within b p lo events count (Some trouble) is = (let less : count < length events = slice_get_within events count is.0 is.1 in omega arith)
+hindered_within b p lo events count None is = omega arith
+hindered_within b p lo events count (Some trouble) is = (let less : count < length events = slice_get_within events count is.0 is.1 in omega arith)
 
 pub write_all_tells : {E : Type 0} (b : History E) (p lo : ℕ) (events : List E) (wrote : Wrote) → AreWritten b p lo events wrote → WriteAllAnswers {E = E} None lo (length events) wrote
 write_all_tells {E} b p lo events wrote is = record {
   written = λ k less.
-      let within : wrote.count ≤ length events = stops_within b p lo events wrote.count wrote.trouble is.stops in
+      let within : wrote.count ≤ length events = hindered_within b p lo events wrote.count wrote.trouble is.hindered in
       let at = there events k (omega arith) in
       written_tells b p (lo + k) at.0 (Ok tt) (is.written k at.0 less at.1);
-  stops = stops_tells b p lo events wrote.count wrote.trouble is.stops;
+  stops = hindered_tells b p lo events wrote.count wrote.trouble is.hindered;
 }
 
 pub publish_tells : {E : Type 0} (b : History E) (p lo hi : ℕ) (reply : Reply) (values : List E) → IsAnswer b (Publish p lo hi) reply values

@@ -1,5 +1,5 @@
 -- A producer's worker, part after part of its script.
-use Rattle.std.proofs.Common.{◌≡◌, ◌≢◌, ◌+◌, ◌-◌, ◌<◌, ℕ, zero, suc, min, take, drop, List, [], ◌∷◌, ◌++◌, length, Some, Result, Ok, Err, inl, inr, refl, sym, ap, ◌∙◌, subst, arith, add-one, length-append, length-drop}
+use Rattle.std.proofs.Common.{◌≡◌, ◌≢◌, ◌+◌, ◌-◌, ◌<◌, ℕ, zero, suc, min, take, drop, List, [], ◌∷◌, ◌++◌, length, Some, Result, Ok, Err, inl, inr, refl, sym, ap, ◌∙◌, subst, arith, add-one, append_assoc, length-append, length-drop}
 use Rattle.std.specs.Prelude.{flat_map}
 use Rattle.std.proofs.lemmas.Grind.{flat_map-append}
 use Rattle.std.proofs.lemmas.List.{append-nil, length-take-le, take_all}
@@ -12,11 +12,11 @@ use Rattle.dr_core.specs.Calls.Calling.{InletCall, TriesClaim, PublishesStretch,
 use Rattle.dr_core.proofs.Calling.{lead_more}
 use Rattle.dr_shared.specs.declared.producer.Produced.{Produced}
 use Rattle.dr_shared.specs.declared.turns.Turns.{Turns}
-use Rattle.dr_shared.specs.Calls.Serving.{EndsIn, GivesUp, IsRefusal, ProducerEnds, Sends}
+use Rattle.dr_shared.specs.Calls.Serving.{ClaimFails, EndsIn, GivesUp, IsOpen, IsRefusal, PartFails, ProducerEnds, PublicationFails, Sends, WriteFails}
 use Rattle.dr_shared.specs.Calls.Stops.{Passes, begins, fault_at_end, fault_in_trouble}
-use Rattle.dr_shared.specs.Inside.Retries.{AfterClaim, AreWrittenOut, IsPartSent, Retries, SendsPart, WriteCalls}
-use Rattle.dr_shared.specs.Meaning.Work.{AreCut, BeginsPart, IsSent, Part, accepted_in, accepted_of, claim_of, claims_in, sending_of}
-use Rattle.dr_shared.proofs.Calling.{accepted_in-append, accepted_last, ends_after, ends_retried, picked, same_trouble}
+use Rattle.dr_shared.specs.Inside.Retries.{AfterClaim, AreWrittenOut, IsInTroubleWith, IsPartSent, Retries, SendsPart, WriteCalls}
+use Rattle.dr_shared.specs.Meaning.Work.{AreCut, BeginsPart, IsSent, Part, accepted_in, accepted_of, claim_of, claims_in, sending_of, writing_of}
+use Rattle.dr_shared.proofs.Calling.{accepted_in-append, accepted_last, ends_after, ends_as, ends_retried, picked, same_trouble}
 use Rattle.dr_shared.proofs.Stopping.{passes_more, passes_none, stops_after}
 use Rattle.dr_shared.proofs.Writings.{first_and_next}
 
@@ -60,7 +60,8 @@ part_unclaimed does events a b may_stop must_stop t trouble other h =
       holds = record {
         claims = inr (none, (trouble, refl));
         passes = subst (λ l. Passes may_stop must_stop (length l) t t) (sym none) (passes_none may_stop must_stop t);
-        trouble = λ fault is. subst (λ f. EndsIn (GivesUp f) h.calls) (same_trouble (Err trouble) trouble fault refl is) (ends_retried (GivesUp trouble) (TriesClaim n (Err (Refused NoRoom))) (TriesClaim n (Err trouble)) h.calls h.holds (refl, other));
+        trouble = λ fault is. inl (subst (λ f. EndsIn (ClaimFails n f) h.calls) (same_trouble (Err trouble) trouble fault refl is)
+            (ends_retried (ClaimFails n trouble) (TriesClaim n (Err (Refused NoRoom))) (TriesClaim n (Err trouble)) h.calls h.holds (refl, refl, other)));
         accepted = inl (accepts_claim n (Err trouble) h.calls h.holds);
       };
     }
@@ -78,20 +79,35 @@ accepts_part events stretch (Err trouble) first rest some is written =
           ∙ ap (λ n. take n (TriesClaim (length events) (Ok stretch) ∷ each_written stretch.lo events)) (sym (add-one written.0)),
     )
 
+-- what is accepted of a claim and of the first of its writes
+opened : {E : Type 0} (events : List E) (stretch : Claimed) (trouble : Trouble) (first rest : List (InletCall E)) → accepted_in first ≡ TriesClaim (length events) (Ok stretch) ∷ []
+    → AreWrittenOut (record { stretch = stretch; events = events }) (Err trouble) (accepted_in rest) → IsOpen (record { stretch = stretch; events = events }) (first ++ rest)
+opened events stretch trouble first rest is written = (
+  [],
+  written.0,
+  accepted_in-append first rest ∙ ap (λ l. l ++ accepted_in rest) is ∙ ap (λ l. TriesClaim (length events) (Ok stretch) ∷ l) written.1
+      ∙ ap (λ n. take n (TriesClaim (length events) (Ok stretch) ∷ each_written stretch.lo events)) (sym (add-one written.0)),
+)
+
 -- after the claim the writes and the publication
 pub part_claimed : {S E : Type 0} (does : S → InletCall E → S → Type 0) (events : List E) (claimed : Claimed) (a b c : S) (may_stop must_stop : ℕ → ℕ → Type 0)
     (t t' : Turns) (result : Result (Unit {0}) Trouble) → 0 < length events → SomeCalls does a b (IsClaimed (length events) (Ok claimed))
     → SomeCalls does b c (AfterClaim (record { stretch = claimed; events = events }) result) → Passes may_stop must_stop 1 t t'
     → SomeCalls does a c (SendsPart events may_stop must_stop t t' result)
-part_claimed does events claimed a b c may_stop must_stop t t' result some h k passes =
+part_claimed {S} {E} does events claimed a b c may_stop must_stop t t' result some h k passes =
     let n = length events in
+    let part : Part E = record { stretch = claimed; events = events } in
     let one : claims_in (h.calls ++ k.calls) ≡ n ∷ [] = claims_in-append h.calls k.calls ∙ ap (λ l. l ++ claims_in k.calls) (claims_one n claimed h.calls h.holds) ∙ ap (λ l. n ∷ l) k.holds.claims in record {
       calls = h.calls ++ k.calls;
       lead = lead_more does a b c h.calls k.calls h.lead k.lead;
       holds = record {
         claims = inl one;
         passes = subst (λ l. Passes may_stop must_stop (length l) t t') (sym one) passes;
-        trouble = λ fault is. ends_after (GivesUp fault) h.calls k.calls (k.holds.trouble fault is);
+        trouble = λ fault is. inr (
+          claimed,
+          opened events claimed fault h.calls k.calls (accepts_claim n (Ok claimed) h.calls h.holds) (subst (λ r. AreWrittenOut part r (accepted_in k.calls)) is k.holds.accepted),
+          ends_after (PartFails part fault) h.calls k.calls (k.holds.trouble fault is),
+        );
         accepted = subst (IsPartSent events result) (sym (accepted_in-append h.calls k.calls))
             (accepts_part events claimed result (accepted_in h.calls) (accepted_in k.calls) some (accepts_claim n (Ok claimed) h.calls h.holds) k.holds.accepted);
       };
@@ -105,7 +121,15 @@ a_refusal (Refused refusal) other = tt
 pub written_in_part : {S E : Type 0} (does : S → InletCall E → S → Type 0) (part : Part E) (a b : S) (trouble : Trouble)
     → SomeCalls does a b (WriteCalls part.stretch.lo part.events (Err trouble)) → SomeCalls does a b (AfterClaim part (Err trouble))
 written_in_part does part a b trouble h =
-    record { calls = h.calls; lead = h.lead; holds = record { claims = h.holds.claims; trouble = h.holds.trouble; accepted = h.holds.accepted } }
+    record {
+      calls = h.calls;
+      lead = h.lead;
+      holds = record {
+        claims = h.holds.claims;
+        trouble = λ fault is. ends_as (WriteFails part.stretch.lo part.events fault) (PartFails part fault) (λ call fails. inl fails) h.calls (h.holds.trouble fault is);
+        accepted = h.holds.accepted;
+      };
+    }
 
 -- what is accepted of all writes and of a publication
 accepts_rest : {E : Type 0} (part : Part E) (result : Result (Unit {0}) Trouble) (xs ys : List (InletCall E)) → xs ≡ each_written part.stretch.lo part.events
@@ -127,8 +151,9 @@ written_and_published {S} {E} does part a b c result waits h k =
       holds = record {
         claims = claims_in-append h.calls k.calls ∙ ap (λ l. l ++ claims_in k.calls) h.holds.claims ∙ publishes_none lo hi result k.calls k.holds;
         trouble = λ fault is.
-            let refused : GivesUp {E = E} fault (PublishesStretch lo hi (Err fault)) = (refl, a_refusal fault (λ out. waits (is ∙ ap Err out))) in
-            ends_after (GivesUp fault) h.calls k.calls (ends_retried (GivesUp fault) (PublishesStretch lo hi (Err Memory)) (PublishesStretch lo hi result) k.calls k.holds (subst (λ r. GivesUp {E = E} fault (PublishesStretch lo hi r)) (sym is) refused));
+            let refused : PublicationFails {E = E} part.stretch fault (PublishesStretch lo hi (Err fault)) = (refl, refl, refl, a_refusal fault (λ out. waits (is ∙ ap Err out))) in
+            let last = ends_retried (PublicationFails part.stretch fault) (PublishesStretch lo hi (Err Memory)) (PublishesStretch lo hi result) k.calls k.holds (subst (λ r. PublicationFails {E = E} part.stretch fault (PublishesStretch lo hi r)) (sym is) refused) in
+            ends_after (PartFails part fault) h.calls k.calls (ends_as (PublicationFails part.stretch fault) (PartFails part fault) (λ call fails. inr fails) k.calls last);
         accepted = subst (AreWrittenOut part result) (sym (accepted_in-append h.calls k.calls))
             (accepts_rest part result (accepted_in h.calls) (accepted_in k.calls) h.holds.accepted (accepts_publication lo hi result k.calls k.holds));
       };
@@ -251,7 +276,7 @@ sends_all does a b cut script may_stop must_stop who sent t produced whole same 
   lead = h.lead;
   holds = record {
     cuts = h.holds.cuts;
-    gate = stops_after may_stop must_stop (length (claims_in h.calls)) who t (λ stopped. ProducerEnds (length script) stopped h.calls produced) h.holds.passes (inl (whole, is));
+    gate = stops_after may_stop must_stop (length (claims_in h.calls)) who t (λ stopped. ProducerEnds cut script stopped h.calls produced) h.holds.passes (inl (whole, is));
     sends = subst (λ n. IsSent script n (accepted_in h.calls)) (sym same) (record {
       parts = h.holds.sends.parts;
       next = [];
@@ -262,13 +287,33 @@ sends_all does a b cut script may_stop must_stop who sent t produced whole same 
   };
 }
 
+-- the next part is in trouble, after others
+gives_up : {E : Type 0} (cut : ℕ) (script : List E) (sent n : ℕ) (trouble : Trouble) (xs ys : List (InletCall E)) → sent < length script → n ≡ min (length script - sent) cut
+    → IsInTroubleWith (take n (drop sent script)) trouble ys → GivesUp cut (drop sent script) trouble (xs ++ ys)
+gives_up {E} cut script sent n trouble xs ys more size h =
+    let rest : List E = drop sent script in
+    let left : length rest ≡ length script - sent = length-drop sent script in
+    let long : length (take n rest) ≡ n = part_length script sent n cut size in
+    let next : n ≡ min (length rest) cut = size ∙ ap (λ l. min l cut) (sym left) in (
+      omega arith,
+      elim h [
+        | inl claim ↦ inl (subst (λ m. EndsIn (ClaimFails m trouble) (xs ++ ys)) (long ∙ next) (ends_after (ClaimFails (length (take n rest)) trouble) xs ys claim))
+        | inr part ↦ inr (
+          record { stretch = part.0; events = take n rest },
+          ap (λ m. take m rest) next,
+          (accepted_in xs ++ part.1.0, part.1.1, accepted_in-append xs ys ∙ ap (λ l. accepted_in xs ++ l) part.1.2 ∙ sym (append_assoc (accepted_in xs) part.1.0 (take (part.1.1 + 1) (writing_of (record { stretch = part.0; events = take n rest }))))),
+          ends_after (PartFails (record { stretch = part.0; events = take n rest }) trouble) xs ys part.2,
+        )
+      ],
+    )
+
 -- a part is in trouble
 pub sends_in_trouble : {S E : Type 0} (does : S → InletCall E → S → Type 0) (a b c : S) (cut : ℕ) (script : List E) (may_stop must_stop : ℕ → ℕ → Type 0)
     (who sent n : ℕ) (t t' : Turns) (result : Result (Unit {0}) Trouble) (trouble : Trouble) (produced : Produced)
-    → n ≡ min (length script - sent) cut → result ≡ Err trouble → produced.sent ≡ sent → produced.fault ≡ Some (fault_in_trouble t'.stopped trouble)
+    → sent < length script → n ≡ min (length script - sent) cut → result ≡ Err trouble → produced.sent ≡ sent → produced.fault ≡ Some (fault_in_trouble t'.stopped trouble)
     → SomeCalls does a b (Sending cut script may_stop must_stop who sent t) → SomeCalls does b c (SendsPart (take n (drop sent script)) may_stop must_stop t t' result)
     → SomeCalls does a c (Sends cut script (may_stop who) (must_stop who) produced)
-sends_in_trouble does a b c cut script may_stop must_stop who sent n t t' result trouble produced size fails same is h k =
+sends_in_trouble does a b c cut script may_stop must_stop who sent n t t' result trouble produced more size fails same is h k =
     let all = length script in
     let part = take n (drop sent script) in record {
       calls = h.calls ++ k.calls;
@@ -280,9 +325,9 @@ sends_in_trouble does a b c cut script may_stop must_stop who sent n t t' result
               (cut_more cut all (claims_in h.calls) n h.holds.cuts (size ∙ ap (λ l. min l cut) (sym h.holds.left)))
           | inr none ↦ subst (λ l. AreCut cut all l) (sym (claims_in-append h.calls k.calls ∙ ap (λ l. claims_in h.calls ++ l) none.0 ∙ append-nil (claims_in h.calls))) h.holds.cuts
         ];
-        gate = stops_after may_stop must_stop (length (claims_in (h.calls ++ k.calls))) who t' (λ stopped. ProducerEnds all stopped (h.calls ++ k.calls) produced)
+        gate = stops_after may_stop must_stop (length (claims_in (h.calls ++ k.calls))) who t' (λ stopped. ProducerEnds cut script stopped (h.calls ++ k.calls) produced)
             (passes_both may_stop must_stop h.calls k.calls (begins who) t t' h.holds.passes k.holds.passes)
-            (inr (trouble, ends_after (GivesUp trouble) h.calls k.calls (k.holds.trouble trouble fails), is));
+            (inr (trouble, subst (λ m. GivesUp cut (drop m script) trouble (h.calls ++ k.calls)) (sym same) (gives_up cut script sent n trouble h.calls k.calls more size (k.holds.trouble trouble fails)), is));
         sends = subst (λ m. IsSent script m (accepted_in (h.calls ++ k.calls))) (sym same) (record {
           parts = h.holds.sends.parts;
           next = accepted_in k.calls;

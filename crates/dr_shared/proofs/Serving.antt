@@ -1,5 +1,5 @@
 -- A handler's worker, turn after turn.
-use Rattle.std.proofs.Common.{◌≡◌, ◌+◌, ℕ, Bool, List, [], ◌∷◌, ◌++◌, length, take, Option, None, Some, Result, Ok, Err, inl, inr, refl, sym, ap, ◌∙◌, subst, append_assoc, length-append}
+use Rattle.std.proofs.Common.{◌≡◌, ◌+◌, ℕ, zero, suc, Bool, List, [], ◌∷◌, ◌++◌, length, take, replicate, Option, None, Some, Result, Ok, Err, inl, inr, refl, sym, ap, ◌∙◌, subst, append_assoc, length-append}
 use Rattle.std.specs.List.{cons_option}
 use Rattle.std.proofs.lemmas.List.{append-nil}
 use Rattle.std.proofs.lemmas.List.Elements.{filter_map-append}
@@ -15,9 +15,9 @@ use Rattle.dr_shared.specs.declared.consumer.Progress.{Progress}
 use Rattle.dr_shared.specs.declared.consumer.Progress.TheVariants.{Drained}
 use Rattle.dr_shared.specs.declared.fault.WorkFault.{WorkFault}
 use Rattle.dr_shared.specs.declared.turns.Turns.{Turns}
-use Rattle.dr_shared.specs.Calls.Serving.{AreCompleted, ConsumerEnds, IsInTrouble, IsTold, LeavesOpen, Serves}
+use Rattle.dr_shared.specs.Calls.Serving.{AreCompleted, ConsumerEnds, InTurn, IsInTrouble, IsTold, LeavesOpen, Serves, due_after}
 use Rattle.dr_shared.specs.Calls.Stops.{Passes, begins, fault_at_end, fault_in_trouble}
-use Rattle.dr_shared.specs.Inside.Retries.{Retries, TakesBatch}
+use Rattle.dr_shared.specs.Inside.Retries.{Retries, TakesBatch, due_at_end}
 use Rattle.dr_shared.specs.Meaning.Work.{Advance, CompletedBelow, Dealt, HandedOut, HandsOut, Works, advance_of, advances_in, batch_of, batches_in, each_completed}
 use Rattle.dr_shared.proofs.Calling.{ends_after, ends_retried, picked}
 use Rattle.dr_shared.proofs.Showing.{shown_as}
@@ -33,6 +33,27 @@ advances_in-append xs ys = filter_map-append advance_of xs ys
 each_completed-append : {E : Type 0} (bs cs : List (Dealt E)) → each_completed (bs ++ cs) ≡ each_completed bs ++ each_completed cs
 each_completed-append [] cs = refl
 each_completed-append (b ∷ bs) cs = ap (λ l. HandedOut b ∷ CompletedBelow (b.first + length b.events) ∷ l) (each_completed-append bs cs)
+
+-- Call after call.
+
+in_turn_more : {E : Type 0} (room : ℕ) (due : Option ℕ) (xs ys : List (OutletCall E)) → InTurn room due xs → InTurn room (due_at_end due xs) ys → InTurn room due (xs ++ ys)
+in_turn_more room due [] ys h k = k
+in_turn_more room due (x ∷ xs) ys h k = (h.0, in_turn_more room (due_after due x) xs ys h.1 k)
+
+due_more : {E : Type 0} (due : Option ℕ) (xs ys : List (OutletCall E)) → due_at_end due (xs ++ ys) ≡ due_at_end (due_at_end due xs) ys
+due_more due [] ys = refl
+due_more due (x ∷ xs) ys = due_more (due_after due x) xs ys
+
+-- a completion that is tried until memory suffices
+tries_in_turn : (E : Type 0) (room upto times : ℕ) (completed : Result (Unit {0}) Trouble)
+    → InTurn {E = E} room (Some upto) (replicate times (CompletesBelow upto (Err Memory)) ++ CompletesBelow upto completed ∷ [])
+tries_in_turn E room upto zero completed = (refl, tt)
+tries_in_turn E room upto (suc times) completed = (refl, tries_in_turn E room upto times completed)
+
+tries_due : (E : Type 0) (upto times : ℕ) (completed : Result (Unit {0}) Trouble)
+    → due_at_end {E = E} (Some upto) (replicate times (CompletesBelow upto (Err Memory)) ++ CompletesBelow upto completed ∷ []) ≡ due_after {E = E} (Some upto) (CompletesBelow upto completed)
+tries_due E upto zero completed = refl
+tries_due E upto (suc times) completed = tries_due E upto times completed
 
 -- A poll that hands nothing out.
 
@@ -52,14 +73,22 @@ advances_none out out' (Ok polled.Idle) is = refl
 advances_none out out' (Ok polled.Drained) is = refl
 advances_none out out' (Err trouble) is = refl
 
+-- and leaves nothing to complete
+dues_none : {E : Type 0} (out out' : List E) (answer : Result Polled Trouble) → batch_of (PollsInto out out' answer) ≡ None → due_after None (PollsInto out out' answer) ≡ None
+dues_none out out' (Ok (polled.Batch first count end)) is = absurd (cc)
+dues_none out out' (Ok polled.Gating) is = refl
+dues_none out out' (Ok polled.Idle) is = refl
+dues_none out out' (Ok polled.Drained) is = refl
+dues_none out out' (Err trouble) is = refl
+
 pub turned_nothing : {S E A : Type 0} (does : S → OutletCall E → S → Type 0) (goes : Relation E A) (before : A) (a b : S) (o p : Option (Received E))
     (may_stop must_stop : ℕ → ℕ → Type 0) (t : Turns) (result : Result Progress Trouble)
-    (out out' : List E) (answer : Result Polled Trouble) → does a (PollsInto out out' answer) b → batch_of (PollsInto out out' answer) ≡ None
+    (out out' : List E) (answer : Result Polled Trouble) → does a (PollsInto out out' answer) b → batch_of (PollsInto out out' answer) ≡ None → length out' ≡ length out
     → WhereShown (Takes out' answer) o p
     → (result ≡ Ok Drained → IsTold (PollsInto out out' answer)) →
     ((trouble : Trouble) → result ≡ Err trouble → IsInTrouble trouble (PollsInto out out' answer))
-    → SomeCalls does a b (TakesBatch goes before before o p may_stop must_stop t t result)
-turned_nothing does goes before a b o p may_stop must_stop t result out out' answer call is takes told trouble =
+    → SomeCalls does a b (TakesBatch (length out) goes before before o p may_stop must_stop t t result)
+turned_nothing does goes before a b o p may_stop must_stop t result out out' answer call is same takes told trouble =
     let none : batches_in (PollsInto out out' answer ∷ []) ≡ [] = ap (λ x. cons_option x []) is in
     let completed : advances_in (PollsInto out out' answer ∷ []) ≡ each_completed (batches_in (PollsInto out out' answer ∷ [])) =
     ap (λ x. cons_option x []) (advances_none out out' answer is) ∙ ap each_completed (sym none) in record {
@@ -72,6 +101,8 @@ turned_nothing does goes before a b o p may_stop must_stop t result out out' ans
         trouble = trouble;
         completes = inl completed;
         whole = λ progress is. completed;
+        order = ((refl, same), tt);
+        closed = λ progress ok. dues_none out out' answer is;
       };
     }
 
@@ -95,10 +126,10 @@ pub turned_batch : {S E A : Type 0} (does : S → OutletCall E → S → Type 0)
     (out out' : List E) (first count upto : ℕ) (end : Bool) (completed : Result (Unit {0}) Trouble)
     → does a (PollsInto out out' (Ok (polled.Batch first count end))) b
     → SomeCalls does b c (Retries (CompletesBelow upto (Err Memory)) (CompletesBelow upto completed))
-    → Works goes before after o q (one out' first count end ∷ []) → Passes may_stop must_stop 1 t t' → upto ≡ first + length (take count out')
+    → Works goes before after o q (one out' first count end ∷ []) → Passes may_stop must_stop 1 t t' → upto ≡ first + length (take count out') → upto ≡ first + count → length out' ≡ length out
     → (result ≡ Ok Drained → ⊥) → ((trouble : Trouble) → result ≡ Err trouble → completed ≡ Err trouble) → ((progress : Progress) → result ≡ Ok progress → completed ≡ Ok tt)
-    → SomeCalls does a c (TakesBatch goes before after o q may_stop must_stop t t' result)
-turned_batch does goes before after a b c o q may_stop must_stop t t' result out out' first count upto end completed call rest works passes last told trouble fine =
+    → SomeCalls does a c (TakesBatch (length out) goes before after o q may_stop must_stop t t' result)
+turned_batch {S} {E} does goes before after a b c o q may_stop must_stop t t' result out out' first count upto end completed call rest works passes last whole same told trouble fine =
     let deal = one out' first count end in
     let none : batches_in rest.calls ≡ [] = picked batch_of (CompletesBelow upto (Err Memory)) (CompletesBelow upto completed) rest.calls rest.holds refl in
     let batches : batches_in (PollsInto out out' (Ok (polled.Batch first count end)) ∷ rest.calls) ≡ deal ∷ [] = ap (λ bs. deal ∷ bs) none in
@@ -118,24 +149,30 @@ turned_batch does goes before after a b c o q may_stop must_stop t t' result out
         whole = λ progress is.
             advances ∙ ap (λ r. HandedOut deal ∷ cons_option (advance_of (CompletesBelow upto r)) []) (fine progress is)
             ∙ ap (λ n. HandedOut deal ∷ CompletedBelow n ∷ []) last ∙ ap each_completed (sym batches);
+        order = ((refl, same), subst (λ n. InTurn (length out) (Some n) rest.calls) whole (subst (InTurn (length out) (Some upto)) (sym rest.holds.1) (tries_in_turn E (length out) upto rest.holds.0 completed)));
+        closed = λ progress is.
+            ap (λ n. due_at_end (Some n) rest.calls) (sym whole) ∙ ap (due_at_end (Some upto)) rest.holds.1 ∙ tries_due E upto rest.holds.0 completed
+            ∙ ap (λ r. due_after {E = E} (Some upto) (CompletesBelow upto r)) (fine progress is);
       };
     }
 
 -- Turn after turn.
 
 -- the work so far, and the worker's passages of its gate
-pub record Serving {E A : Type 0} (goes : Relation E A) (before after : A) (old new : Option (Received E)) (may_stop must_stop : ℕ → ℕ → Type 0) (who : ℕ) (turns : Turns) (calls : List (OutletCall E)) : Type 0 where
+pub record Serving {E A : Type 0} (room : ℕ) (goes : Relation E A) (before after : A) (old new : Option (Received E)) (may_stop must_stop : ℕ → ℕ → Type 0) (who : ℕ) (turns : Turns) (calls : List (OutletCall E)) : Type 0 where
   pub works : Works goes before after old new (batches_in calls)
   pub passes : Passes may_stop must_stop (length (batches_in calls)) (begins who) turns
   pub whole : advances_in calls ≡ each_completed (batches_in calls)
+  pub order : InTurn room None calls
+  pub closed : due_at_end None calls ≡ None
 
-pub serving_none : {S E A : Type 0} (does : S → OutletCall E → S → Type 0) (goes : Relation E A) (before : A) (a : S) (o : Option (Received E))
+pub serving_none : {S E A : Type 0} (does : S → OutletCall E → S → Type 0) (room : ℕ) (goes : Relation E A) (before : A) (a : S) (o : Option (Received E))
     (may_stop must_stop : ℕ → ℕ → Type 0) (who : ℕ) (turns : Turns) → turns ≡ begins who
-    → SomeCalls does a a (Serving goes before before o o may_stop must_stop who turns)
-serving_none does goes before a o may_stop must_stop who turns is = record {
+    → SomeCalls does a a (Serving room goes before before o o may_stop must_stop who turns)
+serving_none does room goes before a o may_stop must_stop who turns is = record {
   calls = [];
   lead = refl;
-  holds = record { works = works_none goes before o; passes = subst (λ t. Passes may_stop must_stop 0 (begins who) t) (sym is) (passes_none may_stop must_stop (begins who)); whole = refl };
+  holds = record { works = works_none goes before o; passes = subst (λ t. Passes may_stop must_stop 0 (begins who) t) (sym is) (passes_none may_stop must_stop (begins who)); whole = refl; order = tt; closed = refl };
 }
 
 -- the batches of one turn more
@@ -166,30 +203,35 @@ completes_more : {E : Type 0} (xs ys : List (OutletCall E)) → advances_in xs �
 completes_more xs ys h (inl all) = inl (whole_more xs ys h all)
 completes_more xs ys h (inr (upto, last, but)) = inr (upto, ends_after (LeavesOpen upto) xs ys last, completed_more xs ys (CompletedBelow upto ∷ []) h but)
 
+order_more : {E : Type 0} (room : ℕ) (xs ys : List (OutletCall E)) → InTurn room None xs → due_at_end None xs ≡ None → InTurn room None ys → InTurn room None (xs ++ ys)
+order_more room xs ys h closed k = in_turn_more room None xs ys h (subst (λ o. InTurn room o ys) (sym closed) k)
+
 -- one turn more
-pub serving_more : {S E A : Type 0} (does : S → OutletCall E → S → Type 0) (goes : Relation E A) (before between after : A) (a b c : S)
+pub serving_more : {S E A : Type 0} (does : S → OutletCall E → S → Type 0) (room : ℕ) (goes : Relation E A) (before between after : A) (a b c : S)
     (o p q : Option (Received E)) (may_stop must_stop : ℕ → ℕ → Type 0) (who : ℕ) (t t' : Turns) (result : Result Progress Trouble) (progress : Progress) → result ≡ Ok progress
-    → SomeCalls does a b (Serving goes before between o p may_stop must_stop who t)
-    → SomeCalls does b c (TakesBatch goes between after p q may_stop must_stop t t' result)
-    → SomeCalls does a c (Serving goes before after o q may_stop must_stop who t')
-serving_more does goes before between after a b c o p q may_stop must_stop who t t' result progress is h k = record {
+    → SomeCalls does a b (Serving room goes before between o p may_stop must_stop who t)
+    → SomeCalls does b c (TakesBatch room goes between after p q may_stop must_stop t t' result)
+    → SomeCalls does a c (Serving room goes before after o q may_stop must_stop who t')
+serving_more does room goes before between after a b c o p q may_stop must_stop who t t' result progress is h k = record {
   calls = h.calls ++ k.calls;
   lead = lead_more does a b c h.calls k.calls h.lead k.lead;
   holds = record {
     works = batches_more goes before between after o p q h.calls k.calls h.holds.works k.holds.works;
     passes = passes_both may_stop must_stop h.calls k.calls (begins who) t t' h.holds.passes k.holds.passes;
     whole = whole_more h.calls k.calls h.holds.whole (k.holds.whole progress is);
+    order = order_more room h.calls k.calls h.holds.order h.holds.closed k.holds.order;
+    closed = due_more None h.calls k.calls ∙ ap (λ o. due_at_end o k.calls) h.holds.closed ∙ k.holds.closed progress is;
   };
 }
 
 -- the last turn
-serving_ends : {S E A : Type 0} (does : S → OutletCall E → S → Type 0) (goes : Relation E A) (before between after : A) (a b c : S)
+serving_ends : {S E A : Type 0} (does : S → OutletCall E → S → Type 0) (room : ℕ) (goes : Relation E A) (before between after : A) (a b c : S)
     (o p q : Option (Received E)) (may_stop must_stop : ℕ → ℕ → Type 0) (who : ℕ) (t t' : Turns) (result : Result Progress Trouble)
     (answer : Option WorkFault)
-    → (h : SomeCalls does a b (Serving goes before between o p may_stop must_stop who t))
-    (k : SomeCalls does b c (TakesBatch goes between after p q may_stop must_stop t t' result))
-    → ConsumerEnds t'.stopped (h.calls ++ k.calls) answer → SomeCalls does a c (Serves goes before after o q (may_stop who) (must_stop who) answer)
-serving_ends does goes before between after a b c o p q may_stop must_stop who t t' result answer h k ends = record {
+    → (h : SomeCalls does a b (Serving room goes before between o p may_stop must_stop who t))
+    (k : SomeCalls does b c (TakesBatch room goes between after p q may_stop must_stop t t' result))
+    → ConsumerEnds t'.stopped (h.calls ++ k.calls) answer → SomeCalls does a c (Serves room goes before after o q (may_stop who) (must_stop who) answer)
+serving_ends does room goes before between after a b c o p q may_stop must_stop who t t' result answer h k ends = record {
   calls = h.calls ++ k.calls;
   lead = lead_more does a b c h.calls k.calls h.lead k.lead;
   holds = record {
@@ -197,24 +239,32 @@ serving_ends does goes before between after a b c o p q may_stop must_stop who t
     gate = stops_after may_stop must_stop (length (batches_in (h.calls ++ k.calls))) who t' (λ stopped. ConsumerEnds stopped (h.calls ++ k.calls) answer)
         (passes_both may_stop must_stop h.calls k.calls (begins who) t t' h.holds.passes k.holds.passes) ends;
     completes = completes_more h.calls k.calls h.holds.whole k.holds.completes;
+    order = order_more room h.calls k.calls h.holds.order h.holds.closed k.holds.order;
   };
 }
 
-pub serves_told : {S E A : Type 0} (does : S → OutletCall E → S → Type 0) (goes : Relation E A) (before between after : A) (a b c : S)
+pub serves_told : {S E A : Type 0} (does : S → OutletCall E → S → Type 0) (room : ℕ) (goes : Relation E A) (before between after : A) (a b c : S)
     (o p q : Option (Received E)) (may_stop must_stop : ℕ → ℕ → Type 0) (who : ℕ) (t t' : Turns) (result : Result Progress Trouble)
     (answer : Option WorkFault)
-    → SomeCalls does a b (Serving goes before between o p may_stop must_stop who t)
-    → SomeCalls does b c (TakesBatch goes between after p q may_stop must_stop t t' result)
-    → result ≡ Ok Drained → answer ≡ fault_at_end t'.stopped → SomeCalls does a c (Serves goes before after o q (may_stop who) (must_stop who) answer)
-serves_told does goes before between after a b c o p q may_stop must_stop who t t' result answer h k told is =
-    serving_ends does goes before between after a b c o p q may_stop must_stop who t t' result answer h k (inl (ends_after IsTold h.calls k.calls (k.holds.told told), is))
+    → SomeCalls does a b (Serving room goes before between o p may_stop must_stop who t)
+    → SomeCalls does b c (TakesBatch room goes between after p q may_stop must_stop t t' result)
+    → result ≡ Ok Drained → answer ≡ fault_at_end t'.stopped → SomeCalls does a c (Serves room goes before after o q (may_stop who) (must_stop who) answer)
+serves_told does room goes before between after a b c o p q may_stop must_stop who t t' result answer h k told is =
+    serving_ends does room goes before between after a b c o p q may_stop must_stop who t t' result answer h k (inl (ends_after IsTold h.calls k.calls (k.holds.told told), is))
 
-pub serves_in_trouble : {S E A : Type 0} (does : S → OutletCall E → S → Type 0) (goes : Relation E A) (before between after : A) (a b c : S)
+pub serves_in_trouble : {S E A : Type 0} (does : S → OutletCall E → S → Type 0) (room : ℕ) (goes : Relation E A) (before between after : A) (a b c : S)
     (o p q : Option (Received E)) (may_stop must_stop : ℕ → ℕ → Type 0) (who : ℕ) (t t' : Turns) (result : Result Progress Trouble)
     (answer : Option WorkFault) (trouble : Trouble)
-    → SomeCalls does a b (Serving goes before between o p may_stop must_stop who t)
-    → SomeCalls does b c (TakesBatch goes between after p q may_stop must_stop t t' result)
+    → SomeCalls does a b (Serving room goes before between o p may_stop must_stop who t)
+    → SomeCalls does b c (TakesBatch room goes between after p q may_stop must_stop t t' result)
     → result ≡ Err trouble → answer ≡ Some (fault_in_trouble t'.stopped trouble)
-    → SomeCalls does a c (Serves goes before after o q (may_stop who) (must_stop who) answer)
-serves_in_trouble does goes before between after a b c o p q may_stop must_stop who t t' result answer trouble h k fails is =
-    serving_ends does goes before between after a b c o p q may_stop must_stop who t t' result answer h k (inr (trouble, ends_after (IsInTrouble trouble) h.calls k.calls (k.holds.trouble trouble fails), is))
+    → SomeCalls does a c (Serves room goes before after o q (may_stop who) (must_stop who) answer)
+serves_in_trouble does room goes before between after a b c o p q may_stop must_stop who t t' result answer trouble h k fails is =
+    serving_ends does room goes before between after a b c o p q may_stop must_stop who t t' result answer h k (inr (trouble, ends_after (IsInTrouble trouble) h.calls k.calls (k.holds.trouble trouble fails), is))
+
+-- a room of the same length
+pub of_room : {S E A : Type 0} {does : S → OutletCall E → S → Type 0} {goes : Relation E A} {before after : A} {a b : S} {o p : Option (Received E)}
+    {may_stop must_stop : ℕ → ℕ → Type 0} {t t' : Turns} {result : Result Progress Trouble} {room whole : ℕ} → room ≡ whole
+    → SomeCalls does a b (TakesBatch room goes before after o p may_stop must_stop t t' result) → SomeCalls does a b (TakesBatch whole goes before after o p may_stop must_stop t t' result)
+of_room {does = does} {goes = goes} {before = before} {after = after} {a = a} {b = b} {o = o} {p = p} {may_stop = may_stop} {must_stop = must_stop} {t = t} {t' = t'} {result = result} same takes =
+    subst (λ n. SomeCalls does a b (TakesBatch n goes before after o p may_stop must_stop t t' result)) same takes

@@ -1,6 +1,6 @@
 //! The worker of a handler.
 
-ghost use Rattle.std.specs.Prelude.{◌≡◌, ◌≢◌, true, Err, IfNone, IfOk, OnOk, Some};
+ghost use Rattle.std.specs.Prelude.{◌≡◌, ◌≢◌, true, Err, IfNone, IfOk, OnOk, Some, length};
 ghost use Rattle.dr_core.specs.Calls.Calling.{SomeCalls};
 ghost use Rattle.dr_core.specs.Calls.Ends.{WhereShown};
 ghost use Rattle.dr_shared.specs.declared.consumer.Progress.TheVariants.{Drained};
@@ -38,7 +38,7 @@ fn turn<E: Copy, R: Wait, O: Outlet<E>, G: Gate, H: Handler<E>>(
     buf: &mut [E],
 ) -> Result<Progress, Trouble>
     ensures kept { O.kept outlet.new ≡ O.kept outlet.old }
-    ensures takes { SomeCalls O.does outlet.old outlet.new (TakesBatch H.goes handler.old handler.new (O.received outlet.old) (O.received outlet.new) (G.may_stop gate.now) (G.must_stop gate.now) turns.old turns.new result) }
+    ensures takes { SomeCalls O.does outlet.old outlet.new (TakesBatch (length buf.old) H.goes handler.old handler.new (O.received outlet.old) (O.received outlet.new) (G.may_stop gate.now) (G.must_stop gate.now) turns.old turns.new result) }
     ensures done { OnOk result (WhereShown IsDone (O.received outlet.old) (O.received outlet.new)) }
     ensures waits { result ≢ Err Trouble.Memory }
     ensures drained { IfOk result (λ progress. progress ≡ Drained → O.told outlet.new ≡ true) }
@@ -70,8 +70,9 @@ pub fn consume<E: Copy, R: Wait, O: Outlet<E>, G: Gate, H: Handler<E>>(
 ) -> Option<WorkFault>
     ensures kept { O.kept outlet.new ≡ O.kept outlet.old }
     // The handler was shown all events that the end handed out, in order, batch by batch, with the
-    // marks that it gave, and the answer is that of the last call, or that the gate stopped the worker.
-    ensures serves { SomeCalls O.does outlet.old outlet.new (Serves H.goes handler.old handler.new (O.received outlet.old) (O.received outlet.new) (G.may_stop gate.now who) (G.must_stop gate.now who) result) }
+    // marks that it gave, each poll had the whole buffer's room, and the answer is that of the last call, or
+    // that the gate stopped the worker.
+    ensures serves { SomeCalls O.does outlet.old outlet.new (Serves (length buf.old) H.goes handler.old handler.new (O.received outlet.old) (O.received outlet.new) (G.may_stop gate.now who) (G.must_stop gate.now who) result) }
     ensures done { IfNone result (WhereShown IsDone (O.received outlet.old) (O.received outlet.new)) }
     ensures drained { IfNone result (O.told outlet.new ≡ true) }
     ensures waits { result ≢ Some Memory }

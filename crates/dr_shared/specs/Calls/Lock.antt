@@ -71,14 +71,14 @@ abbrev pub IsAt : {E : Type 0} → List E → ℕ → E → Type 0
 IsAt events k event = slice_get events k ≡ Some event
 
 -- what kept the next event from being written: nothing where all are
-abbrev pub StopsBy : {E : Type 0} → History E → ℕ → ℕ → List E → ℕ → Option Trouble → Type 0
-StopsBy begun p lo events count None = count ≡ length events
-StopsBy {E} begun p lo events count (Some trouble) = (event : E) × IsAt events count event × IsWritten begun p (lo + count) event (Err trouble)
+abbrev pub IsHindered : {E : Type 0} → History E → ℕ → ℕ → List E → ℕ → Option Trouble → Type 0
+IsHindered begun p lo events count None = count ≡ length events
+IsHindered {E} begun p lo events count (Some trouble) = (event : E) × IsAt events count event × IsWritten begun p (lo + count) event (Err trouble)
 
 -- the first of some events, as many as are answered, were written to the sequences from lo on
 pub record AreWritten {E : Type 0} (begun : History E) (p lo : ℕ) (events : List E) (wrote : Wrote) : Type 0 where
   pub written : (k : ℕ) (event : E) → k < wrote.count → IsAt events k event → IsWritten begun p (lo + k) event (Ok tt)
-  pub stops : StopsBy begun p lo events wrote.count wrote.trouble
+  pub hindered : IsHindered begun p lo events wrote.count wrote.trouble
 
 -- the answer to the last of some writes
 abbrev pub last_answer : Option Trouble → Result (Unit {0}) Trouble

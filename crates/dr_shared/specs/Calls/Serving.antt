@@ -1,6 +1,7 @@
 -- What workers called of their ends, and how they came to their answers.
-use Rattle.std.specs.Prelude.{◌≡◌, ◌≢◌, ◌⊎◌, ℕ, Bool, List, [], ◌∷◌, ◌++◌, length, Option, Some, Ok, Err}
-use Rattle.dr_core.specs.declared.command.Polled.TheVariants.{Drained}
+use Rattle.std.specs.Prelude.{◌≡◌, ◌≢◌, ◌⊎◌, ℕ, ◌+◌, ◌<◌, min, Bool, List, [], ◌∷◌, ◌++◌, length, take, drop, slice_get, Option, None, Some, Ok, Err}
+use Rattle.dr_core.specs.declared.command.Claimed.{Claimed}
+use Rattle.dr_core.specs.declared.command.Polled.TheVariants.{Batch, Drained}
 use Rattle.dr_core.specs.declared.ends.Trouble.{Trouble}
 use Rattle.dr_core.specs.declared.ends.Trouble.TheVariants.{Refused, Memory}
 use Rattle.dr_core.specs.declared.refusal.Refusal.TheVariants.{NoRoom}
@@ -10,7 +11,7 @@ use Rattle.dr_core.specs.Calls.Handling.{Relation}
 use Rattle.dr_shared.specs.declared.fault.WorkFault.{WorkFault}
 use Rattle.dr_shared.specs.declared.producer.Produced.{Produced}
 use Rattle.dr_shared.specs.Calls.Stops.{Stops, fault_at_end, fault_in_trouble}
-use Rattle.dr_shared.specs.Meaning.Work.{AreCut, CompletedBelow, IsSent, Works, accepted_in, advances_in, batches_in, claims_in, each_completed}
+use Rattle.dr_shared.specs.Meaning.Work.{AreCut, CompletedBelow, IsSent, Part, Works, accepted_in, advances_in, batches_in, claims_in, each_completed, writing_of}
 
 -- the last call is such a one
 abbrev pub EndsIn : {C : Type 0} → (C → Type 0) → List C → Type 0
@@ -48,11 +49,29 @@ AreCompleted calls =
     (advances_in calls ≡ each_completed (batches_in calls))
     ⊎ ((upto : ℕ) × EndsIn (LeavesOpen upto) calls × (advances_in calls ++ CompletedBelow upto ∷ [] ≡ each_completed (batches_in calls)))
 
--- a handler was shown the batches that these calls handed out, and its worker came to its gate with each of them
-pub record Serves {E A : Type 0} (goes : Relation E A) (before after : A) (old new : Option (Received E)) (may_stop must_stop : ℕ → Type 0) (answer : Option WorkFault) (calls : List (OutletCall E)) : Type 0 where
+-- up to where events are to be completed after a call, if any are
+abbrev pub due_after : {E : Type 0} → Option ℕ → OutletCall E → Option ℕ
+due_after due (PollsInto before after (Ok (Batch first count end))) = Some (first + count)
+due_after due (CompletesBelow upto (Ok done)) = None
+due_after due other = due
+
+-- the next call: a poll with so much room where nothing is to be completed, and else the completion of just that
+abbrev pub IsNextCall : {E : Type 0} → ℕ → Option ℕ → OutletCall E → Type 0
+IsNextCall room None (PollsInto before after answer) = (length before ≡ room) × (length after ≡ room)
+IsNextCall room (Some end) (CompletesBelow upto answer) = upto ≡ end
+IsNextCall room due other = ⊥
+
+-- poll after poll, each with so much room, and each batch is completed before the next poll
+abbrev pub InTurn : {E : Type 0} → ℕ → Option ℕ → List (OutletCall E) → Type 0
+InTurn room due [] = Unit {0}
+InTurn room due (call ∷ calls) = IsNextCall room due call × InTurn room (due_after due call) calls
+
+-- a handler was shown the batches that these calls handed out to a buffer of so much room, and its worker came to its gate with each of them
+pub record Serves {E A : Type 0} (room : ℕ) (goes : Relation E A) (before after : A) (old new : Option (Received E)) (may_stop must_stop : ℕ → Type 0) (answer : Option WorkFault) (calls : List (OutletCall E)) : Type 0 where
   pub works : Works goes before after old new (batches_in calls)
   pub gate : Stops may_stop must_stop (length (batches_in calls)) (λ stopped. ConsumerEnds stopped calls answer)
   pub completes : AreCompleted calls
+  pub order : InTurn room None calls
 
 -- The producer's side.
 
@@ -61,22 +80,45 @@ abbrev pub IsRefusal : Trouble → Type 0
 IsRefusal (Refused refusal) = Unit {0}
 IsRefusal Memory = ⊥
 
--- a producer's worker gives up in this trouble of a call: a claim's, unless it only has no room, or the refusal of a write or a publication
-abbrev pub GivesUp : {E : Type 0} → Trouble → InletCall E → Type 0
-GivesUp trouble (TriesClaim n (Err fault)) = (fault ≡ trouble) × (trouble ≢ Refused NoRoom)
-GivesUp trouble (WritesOne s event (Err fault)) = (fault ≡ trouble) × IsRefusal trouble
-GivesUp trouble (WritesMany lo events wrote) = (wrote.trouble ≡ Some trouble) × IsRefusal trouble
-GivesUp trouble (PublishesStretch lo hi (Err fault)) = (fault ≡ trouble) × IsRefusal trouble
-GivesUp trouble other = ⊥
+-- the claim of so many sequences is in this trouble, which is more than a lack of room
+abbrev pub ClaimFails : {E : Type 0} → ℕ → Trouble → InletCall E → Type 0
+ClaimFails n trouble (TriesClaim m (Err fault)) = (m ≡ n) × (fault ≡ trouble) × (trouble ≢ Refused NoRoom)
+ClaimFails n trouble other = ⊥
+
+-- one of the writes of some events to the sequences from lo on is refused
+abbrev pub WriteFails : {E : Type 0} → ℕ → List E → Trouble → InletCall E → Type 0
+WriteFails lo events trouble (WritesOne s event (Err fault)) = (k : ℕ) × (slice_get events k ≡ Some event) × (s ≡ lo + k) × (fault ≡ trouble) × IsRefusal trouble
+WriteFails lo events trouble (WritesMany s some wrote) = (k : ℕ) × (some ≡ drop k events) × (s ≡ lo + k) × (wrote.trouble ≡ Some trouble) × IsRefusal trouble
+WriteFails lo events trouble other = ⊥
+
+-- the publication of a stretch is refused
+abbrev pub PublicationFails : {E : Type 0} → Claimed → Trouble → InletCall E → Type 0
+PublicationFails stretch trouble (PublishesStretch lo hi (Err fault)) = (lo ≡ stretch.lo) × (hi ≡ stretch.hi) × (fault ≡ trouble) × IsRefusal trouble
+PublicationFails stretch trouble other = ⊥
+
+-- one of the writes of a part, or its publication, is refused
+abbrev pub PartFails : {E : Type 0} → Part E → Trouble → InletCall E → Type 0
+PartFails part trouble call = WriteFails part.stretch.lo part.events trouble call ⊎ PublicationFails part.stretch trouble call
+
+-- the last of what was accepted of these calls is the claim of a part, and the first of its writes
+abbrev pub IsOpen : {E : Type 0} → Part E → List (InletCall E) → Type 0
+IsOpen {E} part calls = (before : List (InletCall E)) × (k : ℕ) × (accepted_in calls ≡ before ++ take (k + 1) (writing_of part))
+
+-- a producer's worker gives up while events of its script are left: the claim of the next part is in trouble or, once that is claimed, one of its writes or its publication is refused
+abbrev pub GivesUp : {E : Type 0} → ℕ → List E → Trouble → List (InletCall E) → Type 0
+GivesUp {E} cut rest trouble calls =
+    (0 < length rest)
+    × (EndsIn (ClaimFails (min (length rest) cut) trouble) calls
+    ⊎ ((part : Part E) × (part.events ≡ take (min (length rest) cut) rest) × IsOpen part calls × EndsIn (PartFails part trouble) calls))
 
 -- a producer's worker ends once all is sent, or in the trouble of a call
-abbrev pub ProducerEnds : {E : Type 0} → ℕ → Bool → List (InletCall E) → Produced → Type 0
-ProducerEnds all stopped calls produced =
-    ((produced.sent ≡ all) × (produced.fault ≡ fault_at_end stopped))
-    ⊎ ((trouble : Trouble) × EndsIn (GivesUp trouble) calls × (produced.fault ≡ Some (fault_in_trouble stopped trouble)))
+abbrev pub ProducerEnds : {E : Type 0} → ℕ → List E → Bool → List (InletCall E) → Produced → Type 0
+ProducerEnds cut script stopped calls produced =
+    ((produced.sent ≡ length script) × (produced.fault ≡ fault_at_end stopped))
+    ⊎ ((trouble : Trouble) × GivesUp cut (drop produced.sent script) trouble calls × (produced.fault ≡ Some (fault_in_trouble stopped trouble)))
 
 -- these calls claimed parts of a script, each as long as the cut allows, a worker came to its gate with each of them, and sent as much of the script as it says
 pub record Sends {E : Type 0} (cut : ℕ) (script : List E) (may_stop must_stop : ℕ → Type 0) (produced : Produced) (calls : List (InletCall E)) : Type 0 where
   pub cuts : AreCut cut (length script) (claims_in calls)
-  pub gate : Stops may_stop must_stop (length (claims_in calls)) (λ stopped. ProducerEnds (length script) stopped calls produced)
+  pub gate : Stops may_stop must_stop (length (claims_in calls)) (λ stopped. ProducerEnds cut script stopped calls produced)
   pub sends : IsSent script produced.sent (accepted_in calls)

@@ -46,13 +46,13 @@ AreCalls {E} old p lo (event ∷ events) new =
     (between : RecordedView E) × IsCall old (Write p lo event) Written [] between × AreCalls between p (lo + 1) events new
 
 -- what keeps the next event from being written: nothing where all are
-abbrev pub StopsWith : {E : Type 0} → ℕ → RecordedView E → ℕ → ℕ → List E → ℕ → RecordedView E → Option Trouble → Type 0
-StopsWith counted old p lo events count new None = (new ≡ old) × (count ≡ length events)
-StopsWith {E} counted old p lo events count new (Some trouble) =
+abbrev pub IsHinderedIn : {E : Type 0} → ℕ → RecordedView E → ℕ → ℕ → List E → ℕ → RecordedView E → Option Trouble → Type 0
+IsHinderedIn counted old p lo events count new None = (new ≡ old) × (count ≡ length events)
+IsHinderedIn {E} counted old p lo events count new (Some trouble) =
     (event : E) × IsAt events count event × IsWrite (counted + count) old p (lo + count) event new (Err trouble)
 
 -- the first of some events, as many as are answered, are written to a history, and the next one is not
 pub record AreWrites {E : Type 0} (counted : ℕ) (old : RecordedView E) (p lo : ℕ) (events : List E) (new : RecordedView E) (wrote : Wrote) : Type 0 where
   pub between : RecordedView E
   pub written : AreCalls old p lo (take wrote.count events) between
-  pub stops : StopsWith counted between p lo events wrote.count new wrote.trouble
+  pub hindered : IsHinderedIn counted between p lo events wrote.count new wrote.trouble

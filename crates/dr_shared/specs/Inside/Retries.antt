@@ -1,5 +1,5 @@
 -- What calls a worker makes of its end at one step of its work.
-use Rattle.std.specs.Prelude.{◌≡◌, ◌⊎◌, ℕ, ◌<◌, List, [], ◌∷◌, ◌++◌, length, take, replicate, Option, Result, Ok, Err}
+use Rattle.std.specs.Prelude.{◌≡◌, ◌⊎◌, ℕ, ◌<◌, List, [], ◌∷◌, ◌++◌, length, take, replicate, Option, None, Result, Ok, Err}
 use Rattle.dr_core.specs.declared.command.Claimed.{Claimed}
 use Rattle.dr_core.specs.declared.ends.Trouble.{Trouble}
 use Rattle.dr_core.specs.Calls.Calling.{InletCall, OutletCall, PublishesStretch, each_written}
@@ -8,7 +8,7 @@ use Rattle.dr_core.specs.Calls.Handling.{Relation}
 use Rattle.dr_shared.specs.declared.consumer.Progress.{Progress}
 use Rattle.dr_shared.specs.declared.consumer.Progress.TheVariants.{Drained}
 use Rattle.dr_shared.specs.declared.turns.Turns.{Turns}
-use Rattle.dr_shared.specs.Calls.Serving.{AreCompleted, EndsIn, GivesUp, IsInTrouble, IsTold}
+use Rattle.dr_shared.specs.Calls.Serving.{AreCompleted, ClaimFails, EndsIn, InTurn, IsInTrouble, IsOpen, IsTold, PartFails, WriteFails, due_after}
 use Rattle.dr_shared.specs.Calls.Stops.{Passes}
 use Rattle.dr_shared.specs.Meaning.Work.{Part, Works, accepted_in, advances_in, batches_in, claims_in, each_completed, sending_of, writing_of}
 
@@ -24,7 +24,7 @@ AreEachWritten lo events (Err trouble) accepted = (k : ℕ) × (accepted ≡ tak
 -- many writes, up to one that is refused
 pub record WriteCalls {E : Type 0} (lo : ℕ) (events : List E) (result : Result (Unit {0}) Trouble) (calls : List (InletCall E)) : Type 0 where
   pub claims : claims_in calls ≡ []
-  pub trouble : (trouble : Trouble) → result ≡ Err trouble → EndsIn (GivesUp trouble) calls
+  pub trouble : (trouble : Trouble) → result ≡ Err trouble → EndsIn (WriteFails lo events trouble) calls
   pub accepted : AreEachWritten lo events result (accepted_in calls)
 
 -- the accepted calls after a part's claim: its writes and its publication or, in trouble, the first of its writes
@@ -35,8 +35,14 @@ AreWrittenOut part (Err trouble) accepted = (k : ℕ) × (accepted ≡ take k (e
 -- a part's writes and its publication, up to one that is refused
 pub record AfterClaim {E : Type 0} (part : Part E) (result : Result (Unit {0}) Trouble) (calls : List (InletCall E)) : Type 0 where
   pub claims : claims_in calls ≡ []
-  pub trouble : (trouble : Trouble) → result ≡ Err trouble → EndsIn (GivesUp trouble) calls
+  pub trouble : (trouble : Trouble) → result ≡ Err trouble → EndsIn (PartFails part trouble) calls
   pub accepted : AreWrittenOut part result (accepted_in calls)
+
+-- the claim for some events is in trouble or, once it is accepted, one of their writes or their publication is
+abbrev pub IsInTroubleWith : {E : Type 0} → List E → Trouble → List (InletCall E) → Type 0
+IsInTroubleWith events trouble calls =
+    EndsIn (ClaimFails (length events) trouble) calls
+    ⊎ ((stretch : Claimed) × IsOpen (record { stretch = stretch; events = events }) calls × EndsIn (PartFails (record { stretch = stretch; events = events }) trouble) calls)
 
 -- what is accepted of some events' claim, writes and publication: all or, in trouble, the first
 abbrev pub IsPartSent : {E : Type 0} → List E → Result (Unit {0}) Trouble → List (InletCall E) → Type 0
@@ -48,14 +54,21 @@ IsPartSent events (Err trouble) accepted =
 pub record SendsPart {E : Type 0} (events : List E) (may_stop must_stop : ℕ → ℕ → Type 0) (turns turns' : Turns) (result : Result (Unit {0}) Trouble) (calls : List (InletCall E)) : Type 0 where
   pub claims : (claims_in calls ≡ length events ∷ []) ⊎ ((claims_in calls ≡ []) × ((trouble : Trouble) × (result ≡ Err trouble)))
   pub passes : Passes may_stop must_stop (length (claims_in calls)) turns turns'
-  pub trouble : (trouble : Trouble) → result ≡ Err trouble → EndsIn (GivesUp trouble) calls
+  pub trouble : (trouble : Trouble) → result ≡ Err trouble → IsInTroubleWith events trouble calls
   pub accepted : IsPartSent events result (accepted_in calls)
 
+-- up to where events are to be completed after some calls, if any are
+abbrev pub due_at_end : {E : Type 0} → Option ℕ → List (OutletCall E) → Option ℕ
+due_at_end due [] = due
+due_at_end due (call ∷ calls) = due_at_end (due_after due call) calls
+
 -- a poll and, for a batch, the worker's passage of its gate and the completion
-pub record TakesBatch {E A : Type 0} (goes : Relation E A) (before after : A) (old new : Option (Received E)) (may_stop must_stop : ℕ → ℕ → Type 0) (turns turns' : Turns) (result : Result Progress Trouble) (calls : List (OutletCall E)) : Type 0 where
+pub record TakesBatch {E A : Type 0} (room : ℕ) (goes : Relation E A) (before after : A) (old new : Option (Received E)) (may_stop must_stop : ℕ → ℕ → Type 0) (turns turns' : Turns) (result : Result Progress Trouble) (calls : List (OutletCall E)) : Type 0 where
   pub works : Works goes before after old new (batches_in calls)
   pub passes : Passes may_stop must_stop (length (batches_in calls)) turns turns'
   pub told : result ≡ Ok Drained → EndsIn IsTold calls
   pub trouble : (trouble : Trouble) → result ≡ Err trouble → EndsIn (IsInTrouble trouble) calls
   pub completes : AreCompleted calls
   pub whole : (progress : Progress) → result ≡ Ok progress → advances_in calls ≡ each_completed (batches_in calls)
+  pub order : InTurn room None calls
+  pub closed : (progress : Progress) → result ≡ Ok progress → due_at_end None calls ≡ None
