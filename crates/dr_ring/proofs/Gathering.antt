@@ -8,7 +8,7 @@ use Rattle.dr_graph.specs.Meaning.Graph.{IsGraph}
 use Rattle.dr_core.specs.Meaning.Transcript.{Transcript, LeadsTo}
 use Rattle.dr_core.specs.Meaning.Laws.{Laws}
 use Rattle.dr_runs.specs.declared.view.View.{View}
-use Rattle.dr_runs.specs.Gathering.{IsInView, Gathers, ViewRan}
+use Rattle.dr_runs.specs.Gathering.{IsInView, Gathers, HasPart, ViewRan}
 use Rattle.dr_runs.proofs.Gathering.{InRun, in_run}
 use Rattle.dr_runs.proofs.Lists.{same_lists, at_map, map_there}
 use Rattle.dr_ring.specs.declared.record.SenderRecord.{SenderRecord}
@@ -23,7 +23,7 @@ use Rattle.dr_ring.specs.Meaning.Settling.{Settles}
 use Rattle.dr_ring.specs.Inside.Seats.{ring_ends, exchange}
 use Rattle.dr_ring.specs.Inside.Stations.{sender_known, receiver_known}
 use Rattle.dr_ring.specs.Calls.Ends.{SenderEnd, ReceiverEnd}
-use Rattle.dr_ring.specs.Calls.Settling.{AreAllEnds, HasPart, HasRun}
+use Rattle.dr_ring.specs.Calls.Settling.{AreAllEnds, HasRun}
 use Rattle.dr_ring.proofs.Seats.{kept_of}
 use Rattle.dr_ring.proofs.Settling.{settles}
 
@@ -42,8 +42,8 @@ record AllStand (k : Shape) (w : World) (steps : List Step) (s : SenderEnd) (es 
   rule : KeepsRule k w
   sender : w.sender ≡ s.knows
   receivers : w.receivers ≡ map knows_of es
-  sends : HasPart s (stores_of_sender steps) steps
-  receives : (h : ℕ) (e : ReceiverEnd) → get_elem? es h ≡ some e → HasPart e (stores_of_receiver h steps) steps
+  sends : HasPart s.past s.stored (stores_of_sender steps) steps
+  receives : (h : ℕ) (e : ReceiverEnd) → get_elem? es h ≡ some e → HasPart e.past e.stored (stores_of_receiver h steps) steps
 
 all_stand : (k : Shape) (v now : View EndRecord Step) (s : SenderEnd) (es : List ReceiverEnd) (T : Together k v now s es)
     → AllStand k T.ran.world T.ran.reached.steps s es

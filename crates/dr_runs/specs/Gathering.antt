@@ -5,7 +5,7 @@ use lib.ListN.{get_elem?}
 use Rattle.atomic_table.specs.Table.{Step as TableStep}
 use Rattle.atomic_table.specs.Seated.{TableId}
 use Rattle.dr_runs.specs.declared.view.View.{View}
-use Rattle.dr_runs.specs.Runs.{Ends, Exchange, IsReached}
+use Rattle.dr_runs.specs.Runs.{Ends, Exchange, IsBeginning, IsReached}
 use Rattle.dr_runs.specs.Seats.{Sitting, EachPast, Saw, with_pasts, stores_of}
 
 -- these are of one table
@@ -36,3 +36,7 @@ pub record ViewRan {E S W : Type 0} (X : Exchange E S W) (v : View E S) : Type 0
 -- a load that changes nothing, and tells what run came to the records of its seat's view and to the word that it found
 abbrev pub Compares : {E S W : Type 0} → Exchange E S W → TableStep ℕ → Sitting E S → ℕ → Sitting E S → Type 0
 Compares X s me n me' = (me' ≡ me) × (ran : ViewRan X me.0) × (slice_index (X.words_of ran.world) s.word ≡ n)
+
+-- an end has its part in a run: what it saw is a beginning of it, and what it stored are its stores there
+abbrev pub HasPart : {S : Type 0} → List S → List S → List S → List S → Type 0
+HasPart past stored stores steps = IsBeginning past steps × (stores ≡ stored)

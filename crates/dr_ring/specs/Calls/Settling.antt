@@ -8,21 +8,17 @@ use Rattle.dr_ring.specs.declared.record.Step.{Step}
 use Rattle.dr_seq.specs.declared.event.Event.{Event}
 use Rattle.dr_core.specs.Meaning.Transcript.{Transcript, LeadsTo}
 use Rattle.dr_core.specs.Meaning.Laws.{Laws}
-use Rattle.dr_runs.specs.Runs.{IsBeginning}
+use Rattle.dr_runs.specs.Gathering.{HasPart}
 use Rattle.dr_ring.specs.Meaning.Shape.{handlers_of, ring_setup}
 use Rattle.dr_ring.specs.Meaning.Stores.{stores_of_sender, stores_of_receiver}
 use Rattle.dr_ring.specs.Meaning.Rule.{World}
 use Rattle.dr_ring.specs.Meaning.Moments.{new_world, picture_of, Runs}
-use Rattle.dr_ring.specs.Calls.Ends.{EndOf, SenderEnd, ReceiverEnd}
+use Rattle.dr_ring.specs.Calls.Ends.{SenderEnd, ReceiverEnd}
 
 -- these are the receivers of a sender's ring, in the graph's order
 pub record AreAllEnds (s : SenderEnd) (rs : List ReceiverEnd) : Type 0 where
   pub all : length rs ≡ handlers_of s.knows.plan
   pub each : (h : ℕ) (e : ReceiverEnd) → get_elem? rs h ≡ some e → (e.ring ≡ s.ring) × (e.knows.number ≡ h)
-
--- an end saw the beginning of a run, and these are its stores there: exactly what it stored, in its order
-abbrev pub HasPart : {K : Type 0} → EndOf K → List Step → List Step → Type 0
-HasPart e stores steps = IsBeginning e.past steps × (stores ≡ e.stored)
 
 -- The run of a ring, which came to what its ends know, and in which each of them stored exactly what it did.
 -- Its transcript leads the machine to the ring's picture, and has the five laws.
@@ -33,8 +29,8 @@ pub record HasRun (s : SenderEnd) (rs : List ReceiverEnd) : Type 0 where
   pub runs : Runs s.knows.plan steps entries (new_world s.knows.plan) world
   pub sender : world.sender ≡ s.knows
   pub receivers : world.receivers ≡ map (λ e. e.knows) rs
-  pub sends : HasPart s (stores_of_sender steps) steps
-  pub receives : (h : ℕ) (e : ReceiverEnd) → get_elem? rs h ≡ some e → HasPart e (stores_of_receiver h steps) steps
+  pub sends : HasPart s.past s.stored (stores_of_sender steps) steps
+  pub receives : (h : ℕ) (e : ReceiverEnd) → get_elem? rs h ≡ some e → HasPart e.past e.stored (stores_of_receiver h steps) steps
   pub leads : LeadsTo (ring_setup s.knows.plan) entries (picture_of s.knows.plan world)
   pub laws : Laws (ring_setup s.knows.plan) entries
 
