@@ -9,3 +9,4 @@ pub mod Rounds
 pub mod Sending
 pub mod Shown
 pub mod Turning
+pub mod Refusing

@@ -10,7 +10,7 @@ use Rattle.dr_core.specs.declared.refusal.Refusal.{Refusal}
 use Rattle.dr_core.specs.Calls.CoreView.{CoreView}
 use Rattle.dr_core.specs.Calls.Shows.{IsStep, Shows, unit_reply}
 use Rattle.dr_accounts.specs.Passing.{each, passed, replay_setup}
-use Rattle.dr_accounts.specs.Turns.{Rests, Sends}
+use Rattle.dr_accounts.specs.Turns.{Rests, SendsStretch}
 use Rattle.dr_accounts.proofs.Passing.{claims, publishes, stepped, writes}
 
 -- a stretch is claimed, and some of it written
@@ -58,6 +58,6 @@ module _ (old new : CoreView Event) (size : ℕ) (events : List Event) (at n : �
       (let clash : ⊥ = cc in clash)
 
   pub publish_any : (result : Result (Unit {0}) Refusal) (hi : ℕ) → hi ≡ at + n - 1 → InHand size events (at + n) (at + n) at old → 0 < n
-      → IsStep old (Publish 0 at hi) (unit_reply Published result) [] new → Sends result size events at n new
+      → IsStep old (Publish 0 at hi) (unit_reply Published result) [] new → SendsStretch result size events at n new
   publish_any (Ok done) hi high hand some is = publish_ok hi high hand some is
   publish_any (Err r) hi high hand some is = absurd (publish_err hi r high hand some is)

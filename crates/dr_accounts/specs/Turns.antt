@@ -14,9 +14,9 @@ pub record Rests (size : ℕ) (events : List Event) (sent : ℕ) (counts : List 
   pub shows : Shows v (passed events sent sent sent counts counts)
 
 -- no call is refused, and the next events are in the exchange
-abbrev pub Sends : {A : Type 0} → Result A Refusal → ℕ → List Event → ℕ → ℕ → CoreView Event → Type 0
-Sends (Ok done) size events at n v = Rests size events (at + n) (each at) v
-Sends (Err refusal) size events at n v = ⊥
+abbrev pub SendsStretch : {A : Type 0} → Result A Refusal → ℕ → List Event → ℕ → ℕ → CoreView Event → Type 0
+SendsStretch (Ok done) size events at n v = Rests size events (at + n) (each at) v
+SendsStretch (Err refusal) size events at n v = ⊥
 
 -- the three handlers were shown these events
 pub record AreShown (h : Handlers) (events : List Event) : Type 0 where

@@ -3,7 +3,7 @@
 ghost use Rattle.std.specs.Prelude.{◌≡◌, ◌<◌, ◌≤◌, ◌+◌, ◌^◌, [], IfOk, length, string_bytes};
 ghost use Rattle.dr_accounts.specs.Passing.{each};
 ghost use Rattle.dr_accounts.specs.Report.{report_of};
-ghost use Rattle.dr_accounts.specs.Turns.{AreShown, ShowsAll, Rests, Sends};
+ghost use Rattle.dr_accounts.specs.Turns.{AreShown, ShowsAll, Rests, SendsStretch};
 
 use crate::handlers::Handlers;
 use crate::topology::open;
@@ -19,7 +19,7 @@ fn send(core: &mut Core<Event>, events: &[Event], at: usize, n: usize) -> Result
     requires fits { n ≤ core.old.setup.size }
     requires within { at + n ≤ length events.now }
     requires limit { at + n ≤ 2 ^ 62 }
-    ensures { Sends result core.old.setup.size events.now at n core.new }
+    ensures { SendsStretch result core.old.setup.size events.now at n core.new }
 {
     let Claimed { lo, hi } = core.claim(0, n as u64)?;
     for s in at..at + n {

@@ -73,7 +73,7 @@ impl<P: Reporter, G: Gate> Promise<Worked> for PartOf<P, G> {
     ghost kept_by = { λ p r. Keeps P.goes P.is_new P.part_of (G.may_stop p.gate.value p.who) (G.must_stop p.gate.value p.who) p.end.value r };
 }
 
-/// Takes a new handler through all events of an end, at most `room` of them and 256 at once. A
+/// Takes a new handler through all events of an end, at most `room` of them and 256 at once, and at least one. A
 /// handler that finds no memory holds up no other worker: it goes on without taking any more.
 pub fn work<R: Wait, G: Gate, P: Reporter>(
     rt: &R,
@@ -87,7 +87,7 @@ pub fn work<R: Wait, G: Gate, P: Reporter>(
 {
     let mut handler = P::begin(alloc);
     let mut buf = [Event::NONE; BATCH];
-    let room = room.min(BATCH);
+    let room = room.min(BATCH).max(1);
     let fault = consume(rt, &mut receiver, gate, who, &mut handler, &mut buf[..room]);
     let part = match (part(&handler, alloc), fault) {
         (Err(_), _) => Err(WorkFault::Memory),

@@ -1,0 +1,74 @@
+use Rattle.std.proofs.Common.{◌≡◌, ◌<◌, ◌∙◌, ◌++◌, ℕ, zero, suc, List, [], ◌∷◌, Option, Some, Result, Err, IfOk, ap, arith, inl, inr, length, string_bytes, subst, sym, take, true}
+use Rattle.dr_seq.specs.declared.event.Event.{Event}
+use Rattle.dr_ring.specs.Calls.Ends.{received_of}
+use Rattle.dr_shared.specs.Meaning.Work.{HandsOut, batches_in, dealt_events}
+use Rattle.dr_shared.specs.declared.fault.WorkFault.{WorkFault}
+use Rattle.dr_shared.specs.declared.fault.WorkFault.TheVariants.{Stopped}
+use Rattle.dr_accounts.specs.Keeping.{AnswersFor, error_of}
+use Rattle.dr_accounts.proofs.Refusing.{never_refused}
+use Rattle.dr_accounts.proofs.worker.work.Goals.{in-Err-default, in-Ok-Some+in-Ok-this-2, in-Ok-Some+in-Err-1, in-Ok-None}
+use Rattle.dr_accounts.proofs.worker.work.Goals as goal
+
+where_none : {A E : Type 0} (part : Result A E) (e : E) (Says : A → Type 0) → part ≡ Err e → IfOk part Says
+where_none part e Says is = subst (λ p. IfOk p Says) (sym is) tt
+
+stopped_by : {May : Type 0} (fault answer : Option WorkFault) → AnswersFor fault answer → (fault ≡ Some Stopped → May) → answer ≡ Some Stopped → May
+stopped_by fault answer (inl same) may is = may (sym same ∙ is)
+stopped_by fault answer (inr memory) may is = absurd (cc)
+
+-- the front of a buffer has some room, where as much is asked for
+some_room : {X : Type 0} (room : ℕ) (buffer : List X) → 0 < room → 0 < length buffer → 0 < length (take room buffer)
+some_room room [] some there = absurd (omega arith)
+some_room zero (x ∷ buffer) some there = absurd (omega arith)
+some_room (suc room) (x ∷ buffer) some there = omega arith
+
+shown_all : (old new : List Event) (dealt : List Event) → old ≡ [] → new ≡ old ++ dealt → dealt ≡ new
+shown_all old new dealt none is = sym (is ∙ ap (λ l. l ++ dealt) none)
+
+pub returns : goal.returns
+returns g c =
+    let run = c.consume-fault in
+    let part = c.match-part.part in
+    let serves = run.ensures.serves in
+    let batches = batches_in serves.calls in
+    let answers : AnswersFor run.result (error_of part) = elim c.match-part.branch [
+      | in-Err-default w ↦ inr (ap error_of w.part-is)
+      | in-Ok-Some+in-Ok-this-2 w ↦ inl (ap error_of w.part-is ∙ sym w.in-Ok-Some.is-1)
+      | in-Ok-Some+in-Err-1 w ↦ inl (ap error_of w.part-is ∙ sym w.in-Ok-Some.is-1)
+      | in-Ok-None w ↦ inl (ap error_of w.part-is ∙ sym w.in-Ok-None.is-1)
+    ]
+    in
+    let room : 0 < c.max-room.result = omega (arith, c.max-room.ensures) in
+    record {
+      place = run.ensures.kept;
+      told = λ none. elim c.match-part.branch [
+        | in-Err-default w ↦ where_none part _ _ w.part-is
+        | in-Ok-Some+in-Ok-this-2 w ↦ where_none part _ _ w.part-is
+        | in-Ok-Some+in-Err-1 w ↦ where_none part _ _ w.part-is
+        | in-Ok-None w ↦ subst (λ p. IfOk p (λ text. run.new.outlet.knows.told ≡ true)) (sym w.part-is) (rw w.in-Ok-None.is-1 at run.ensures.drained)
+      ];
+      says = λ none. elim c.match-part.branch [
+        | in-Err-default w ↦ where_none part _ _ w.part-is
+        | in-Ok-Some+in-Ok-this-2 w ↦ where_none part _ _ w.part-is
+        | in-Ok-Some+in-Err-1 w ↦ where_none part _ _ w.part-is
+        | in-Ok-None w ↦
+            let handed : HandsOut batches (received_of c.args.receiver.knows) (received_of run.new.outlet.knows) = serves.holds.works.handed in
+            let all : dealt_events batches ≡ run.new.outlet.knows.received = shown_all c.args.receiver.knows.received run.new.outlet.knows.received (dealt_events batches) none handed.0 in
+            let says = c.part.ensures c.begin-handler.result batches c.begin-handler.ensures serves.holds.works.through in
+            subst (λ p. IfOk p (λ text. string_bytes text ≡ g.P.Reporter.part_of run.new.outlet.knows.received)) (sym w.part-is)
+            (subst (λ p. IfOk p (λ text. string_bytes text ≡ g.P.Reporter.part_of run.new.outlet.knows.received)) w.in-Ok-None.is-0
+            (subst (λ l. IfOk c.part.result (λ text. string_bytes text ≡ g.P.Reporter.part_of l)) all says))
+      ];
+      stopped = λ is. stopped_by run.result (error_of part) answers run.ensures.stopped (ap error_of is);
+      refused = never_refused _ _ _ _ _ _ _ _ run.result part (some_room _ _ room (omega arith)) answers serves;
+      served = record {
+        start = c.begin-handler.result;
+        after = run.new.handler;
+        fault = run.result;
+        room = _;
+        some = some_room _ _ room (omega arith);
+        new = c.begin-handler.ensures;
+        calls = serves;
+        answers = answers;
+      };
+    }
