@@ -1,3 +1,4 @@
 pub mod Settled
 pub mod Whole
 pub mod Ready
+pub mod Fine

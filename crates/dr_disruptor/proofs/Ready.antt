@@ -14,7 +14,7 @@ use Rattle.dr_disruptor.specs.Serving.{AreReady, BeginsAt, Worker, given_end, gi
 
 all_begin : (k : Shape) (t : TableId) (h n : ℕ) → All (BeginsAt k) (map (at_ring t) (fresh_receivers k h n))
 all_begin k t h zero = All-nil (BeginsAt k)
-all_begin k t h (suc n) = All-cons (BeginsAt k) (at_ring t (fresh_receiver k h)) (map (at_ring t) (fresh_receivers k (suc h) n)) (refl, refl) (all_begin k t (suc h) n)
+all_begin k t h (suc n) = All-cons (BeginsAt k) (at_ring t (fresh_receiver k h)) (map (at_ring t) (fresh_receivers k (suc h) n)) (refl, refl, refl) (all_begin k t (suc h) n)
 
 pub are_ready : {A : Type 0} (k : Shape) (s : SenderEnd) (rs : List ReceiverEnd) (t : HalterEnd) (starts : List A) (ws : List (Worker A)) → AreFreshEnds k s rs t → AreAllEnds s rs
     → map given_end ws ≡ rs → map given_handler ws ≡ starts → AreReady k starts s ws

@@ -1,13 +1,13 @@
 -- What workers gave back, once the ends of their ring came together.
-use Rattle.std.proofs.Common.{◌≡◌, ℕ, zero, suc, ◌+◌, ◌<◌, true, List, [], ◌∷◌, ◌++◌, length, map, take, drop, All, Contains, Option, None, refl, sym, subst, ap, ◌∙◌, arith}
+use Rattle.std.proofs.Common.{◌≡◌, ℕ, zero, suc, ◌+◌, ◌<◌, true, List, [], ◌∷◌, ◌++◌, length, map, drop, All, Option, None, ⊎_elim, refl, sym, subst, ap, ◌∙◌, arith}
 use Rattle.std.proofs.lemmas.List.Elements.{All-get_or}
 use mathlib.Core.Option.{some, some-injective, some-ne-none}
 use lib.ListN.{get_elem?, length-map}
 use Rattle.atomic_table.proofs.Lists.{at_map}
 use Rattle.dr_seq.specs.declared.event.Event.{Event}
-use Rattle.dr_graph.specs.Meaning.Graph.{upstreams_of}
 use Rattle.dr_core.specs.Calls.Handling.{Relation}
-use Rattle.dr_shared.specs.Meaning.Work.{FollowFrom, HandsOut, batches_in, dealt_events}
+use Rattle.dr_core.specs.Calls.Ends.{Received}
+use Rattle.dr_shared.specs.Meaning.Work.{FollowFrom, HandsOut, IsDone, batches_in, dealt_events}
 use Rattle.dr_shared.specs.declared.ended.Ended.{Ended}
 use Rattle.dr_shared.specs.declared.fault.WorkFault.{WorkFault}
 use Rattle.dr_ring.specs.declared.record.SenderRecord.{SenderRecord}
@@ -29,27 +29,45 @@ all_moved s s' rs same all = record {
   each = λ h e at. let a = all.each h e at in (a.0 ∙ ap (λ (p : SenderPlace). p.0) (sym same), a.1);
 }
 
--- a handler whose end had received nothing went through what that received, which is a beginning of what was sent
-pub went : {A : Type 0} (goes : Relation Event A) (s : SenderRecord) (start : A) (given : ReceiverEnd) (back : Served A) → Serving goes start given back
-    → given.knows.received ≡ [] → HasBeginning s back.receiver.knows
-    → WentThrough goes start back.handler (take (length back.receiver.knows.received) s.sent.published)
-went goes s start given back serving none has =
+-- a new end refuses its worker nothing
+no_fault : {A : Type 0} (goes : Relation Event A) (k : Shape) (start : A) (given : ReceiverEnd) (back : Served A) → Serving goes start given back → BeginsAt k given → back.fault ≡ None
+no_fault goes k start given back serving begins = (let none = ap length begins.0 in let zero = begins.1 in serving.fine (omega arith))
+
+-- so it took all that was sent
+took_all : {A : Type 0} (goes : Relation Event A) (k : Shape) (s : SenderRecord) (start : A) (given : ReceiverEnd) (back : Served A) → Serving goes start given back → BeginsAt k given
+    → HasBeginning s back.receiver.knows → back.receiver.knows.received ≡ s.sent.published
+took_all goes k s start given back serving begins has =
+    let told : back.receiver.knows.told ≡ true = rw (no_fault goes k start given back serving begins) at serving.drained in
+    has.drained told
+
+-- and completed it
+completed_all : {A : Type 0} (goes : Relation Event A) (k : Shape) (start : A) (given : ReceiverEnd) (back : Served A) → Serving goes start given back → BeginsAt k given
+    → back.receiver.knows.completed ≡ length back.receiver.knows.received
+completed_all goes k start given back serving begins =
+    let done : IsDone (received_of given.knows) (received_of back.receiver.knows) = rw (no_fault goes k start given back serving begins) at serving.done in
+    ⊎_elim (λ all. all)
+    (λ same.
+    let none = ap length begins.0 in
+    let zero = begins.1 in
+    let completed = ap (λ (r : Received Event). r.completed) same in
+    let received = ap (λ (r : Received Event). length r.events) same in
+    omega arith)
+    done
+
+-- and its handler went through all of it
+went : {A : Type 0} (goes : Relation Event A) (k : Shape) (s : SenderRecord) (start : A) (given : ReceiverEnd) (back : Served A) → Serving goes start given back → BeginsAt k given
+    → HasBeginning s back.receiver.knows → WentThrough goes start back.handler s.sent.published
+went goes k s start given back serving begins has =
     let works = serving.calls.holds.works in
     let batches = batches_in serving.calls.calls in
+    let none : given.knows.received ≡ [] = begins.0 in
     let handed : HandsOut batches (received_of given.knows) (received_of back.receiver.knows) = works.handed in
     record {
       batches = batches;
       through = works.through;
       order = subst (λ (l : List Event). FollowFrom (length l) batches) none handed.1;
-      dealt = sym (handed.0 ∙ ap (λ (l : List Event). l ++ dealt_events batches) none) ∙ has.beginning;
+      dealt = sym (handed.0 ∙ ap (λ (l : List Event). l ++ dealt_events batches) none) ∙ took_all goes k s start given back serving begins has;
     }
-
--- without a fault it went through all
-took_all : {A : Type 0} (goes : Relation Event A) (s : SenderRecord) (start : A) (given : ReceiverEnd) (back : Served A) → Serving goes start given back
-    → HasBeginning s back.receiver.knows → back.fault ≡ None → length back.receiver.knows.received ≡ length s.sent.published
-took_all goes s start given back serving has fine =
-    let told : back.receiver.knows.told ≡ true = rw fine at serving.drained in
-    ap length (has.drained told)
 
 ending_at : {A : Type 0} (who : ℕ) (served : List (Served A)) (last : List Ended) (h : ℕ) (back : Served A) → get_elem? served h ≡ some back
     → get_elem? (endings_from who served ++ last) h ≡ some (record { who = who + h; fault = back.fault })
@@ -95,12 +113,9 @@ module _ {A : Type 0} (goes : Relation Event A) (s : SenderEnd) (ws : List (Work
       back : Served A
       at_worker : get_elem? ws h ≡ some worker
       at_back : get_elem? ss h ≡ some back
-      at_record : get_elem? (map (λ (e : ReceiverEnd). e.knows) receivers) h ≡ some back.receiver.knows
       serving : Serving goes (given_handler worker) (given_end worker) back
       begins : BeginsAt s.knows.plan (given_end worker)
       has : HasBeginning s.knows back.receiver.knows
-      number : back.receiver.knows.number ≡ h
-      plan : back.receiver.knows.plan ≡ s.knows.plan
       taken : taken_in ran h ≡ length back.receiver.knows.received
       completed : completed_in ran h ≡ back.receiver.knows.completed
 
@@ -122,54 +137,45 @@ module _ {A : Type 0} (goes : Relation Event A) (s : SenderEnd) (ws : List (Work
           back = p.0;
           at_worker = k.1;
           at_back = p.1;
-          at_record = known;
           serving = k.2;
           begins = begins;
           has = settles.each h p.0.receiver.knows known;
-          number = ap (λ (q : ReceiverPlace). q.2) k.2.place ∙ (all.each h (given_end k.0) given).1;
-          plan = ap (λ (q : ReceiverPlace). q.1) k.2.place ∙ begins.1;
           taken = ap (λ (c : HandlerCounts). c.taken) counted;
           completed = ap (λ (c : HandlerCounts). c.completed) counted;
         }
 
     pub is_ran : (fault : Option WorkFault) → ran.settled.published ≡ length s.knows.sent.published → ran.handlers.items ≡ map (λ b. b.handler) ss
         → ran.endings.items ≡ endings_from 0 ss ++ record { who = 16; fault = fault } ∷ []
-        → IsRan goes s.knows.plan.upstreams (map given_handler ws) s.knows.sent.published fault ran
+        → IsRan goes (map given_handler ws) s.knows.sent.published fault ran
     is_ran fault published handlers endings =
         let many : length (map given_handler ws) ≡ length ss = length-map ws given_handler ∙ sym kept.many in
         record {
           published = published;
-          many = ap length handlers ∙ length-map ss (λ b. b.handler) ∙ kept.many ∙ sym (length-map ws given_handler);
+          through = record {
+            many = ap length handlers ∙ length-map ss (λ b. b.handler) ∙ kept.many ∙ sym (length-map ws given_handler);
+            each = λ h start after at_start at_after.
+                let inside : h < length (map given_handler ws) = at_below (map given_handler ws) h start at_start in
+                let p = place h (omega arith) in
+                let one : given_handler p.worker ≡ start = some-injective (given_handler p.worker) start (sym (at_map given_handler ws h p.worker p.at_worker) ∙ at_start) in
+                let other : p.back.handler ≡ after = some-injective p.back.handler after (sym (at_map (λ b. b.handler) ss h p.back p.at_back) ∙ subst (λ (l : List A). get_elem? l h ≡ some after) handlers at_after) in
+                subst (λ (x : A). WentThrough goes x after s.knows.sent.published) one
+                (subst (λ (x : A). WentThrough goes (given_handler p.worker) x s.knows.sent.published) other
+                (went goes s.knows.plan s.knows (given_handler p.worker) (given_end p.worker) p.back p.serving p.begins p.has));
+          };
           counted = ap length counts ∙ length-map receivers (λ (e : ReceiverEnd). handler_counts e.knows) ∙ length-map ss (λ b. b.receiver) ∙ kept.many ∙ sym (length-map ws given_handler);
-          each = λ h start after at_start at_after.
-              let inside : h < length (map given_handler ws) = at_below (map given_handler ws) h start at_start in
+          taken = λ h below.
               let p = place h (omega arith) in
-              let one : given_handler p.worker ≡ start = some-injective (given_handler p.worker) start (sym (at_map given_handler ws h p.worker p.at_worker) ∙ at_start) in
-              let other : p.back.handler ≡ after = some-injective p.back.handler after (sym (at_map (λ b. b.handler) ss h p.back p.at_back) ∙ subst (λ (l : List A). get_elem? l h ≡ some after) handlers at_after) in
-              let through = went goes s.knows (given_handler p.worker) (given_end p.worker) p.back p.serving p.begins.0 p.has in
-              subst (λ (x : A). WentThrough goes x after (take (taken_in ran h) s.knows.sent.published)) one
-              (subst (λ (x : A). WentThrough goes (given_handler p.worker) x (take (taken_in ran h) s.knows.sent.published)) other
-              (subst (λ (n : ℕ). WentThrough goes (given_handler p.worker) p.back.handler (take n s.knows.sent.published)) (sym p.taken) through));
-          taken = λ h below. let p = place h (omega arith) in rw p.taken p.has.taken;
-          follow = λ h u below inside has.
+              p.taken ∙ ap length (took_all goes s.knows.plan s.knows (given_handler p.worker) (given_end p.worker) p.back p.serving p.begins p.has);
+          completed = λ h below.
               let p = place h (omega arith) in
-              let q = place u (omega arith) in
-              let follows = settles.follow h u p.back.receiver.knows q.back.receiver.knows p.at_record q.at_record in
-              let upstream : Contains (upstreams_of p.back.receiver.knows.plan.upstreams p.back.receiver.knows.number) q.back.receiver.knows.number =
-              subst (λ (x : ℕ). Contains (upstreams_of p.back.receiver.knows.plan.upstreams p.back.receiver.knows.number) x) (sym q.number)
-              (subst (λ (x : ℕ). Contains (upstreams_of p.back.receiver.knows.plan.upstreams x) u) (sym p.number)
-              (subst (λ (k : Shape). Contains (upstreams_of k.upstreams h) u) (sym p.plan) has))
-              in
-              rw (p.taken, q.completed) (follows upstream);
+              p.completed ∙ completed_all goes s.knows.plan (given_handler p.worker) (given_end p.worker) p.back p.serving p.begins
+              ∙ ap length (took_all goes s.knows.plan s.knows (given_handler p.worker) (given_end p.worker) p.back p.serving p.begins p.has);
           ended = λ h e below at.
               let p = place h (omega arith) in
               let stands = ending_at 0 ss (record { who = 16; fault = fault } ∷ []) h p.back p.at_back in
               let same : record { who = 0 + h; fault = p.back.fault } ≡ e = some-injective _ e (sym stands ∙ subst (λ (l : List Ended). get_elem? l h ≡ some e) endings at) in
-              let who : h ≡ 0 + h = omega arith in (
-                sym (who ∙ ap (λ (x : Ended). x.who) same),
-                λ fine. p.taken ∙ took_all goes s.knows (given_handler p.worker) (given_end p.worker) p.back p.serving p.has (ap (λ (x : Ended). x.fault) same ∙ fine),
-                λ stopped. p.serving.stopped (ap (λ (x : Ended). x.fault) same ∙ stopped),
-                λ memory. p.serving.memory (ap (λ (x : Ended). x.fault) same ∙ memory),
-              );
+              let who : h ≡ 0 + h = omega arith in
+              let fine : p.back.fault ≡ None = no_fault goes s.knows.plan (given_handler p.worker) (given_end p.worker) p.back p.serving p.begins in
+              sym same ∙ ap (λ (f : Option WorkFault). record { who = 0 + h; fault = f }) fine ∙ ap (λ (n : ℕ). record { who = n; fault = None }) (sym who);
           last = ap (λ (n : ℕ). drop n ran.endings.items) many ∙ ap (drop (length ss)) endings ∙ last_ending 0 ss (record { who = 16; fault = fault } ∷ []);
         }

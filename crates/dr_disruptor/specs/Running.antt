@@ -1,16 +1,14 @@
 -- What came of a run: what each handler went through, and how the workers ended.
-use Rattle.std.specs.Prelude.{◌≡◌, ◌≢◌, ℕ, ◌<◌, ◌≤◌, ◌/◌, max, List, [], ◌∷◌, length, take, drop, Option, None, Some, All, Contains}
+use Rattle.std.specs.Prelude.{◌≡◌, ℕ, ◌<◌, ◌≤◌, ◌/◌, max, List, [], ◌∷◌, length, take, drop, Option, None, Some, All}
 use mathlib.Core.Option.{some}
 use lib.ListN.{get_elem?}
 use Rattle.dr_seq.specs.declared.event.Event.{Event}
-use Rattle.dr_graph.specs.Meaning.Graph.{upstreams_of}
 use Rattle.dr_core.specs.Calls.Calling.{SomeCalls}
 use Rattle.dr_core.specs.Calls.Handling.{GoesThrough, Relation}
 use Rattle.dr_shared.specs.Calls.Serving as worker
 use Rattle.dr_shared.specs.declared.producer.Produced.{Produced}
 use Rattle.dr_shared.specs.Meaning.Work.{Dealt, FollowFrom, dealt_events, shown_of}
 use Rattle.dr_shared.specs.declared.fault.WorkFault.{WorkFault}
-use Rattle.dr_shared.specs.declared.fault.WorkFault.TheVariants as work
 use Rattle.dr_shared.specs.declared.ended.Ended.{Ended}
 use Rattle.dr_shared.specs.declared.ended.WorkerFault.{WorkerFault}
 use Rattle.dr_shared.specs.Meaning.FirstFault.{first_fault}
@@ -46,20 +44,15 @@ completed_in ran h = (counts_at ran.settled.handlers.items h).completed
 abbrev pub AreFine : List Ended → Type 0
 AreFine endings = All (λ e. e.fault ≡ None) endings
 
--- what came of a ring of this graph over which these events were sent, by a sender's worker that ended so
-pub record IsRan {A : Type 0} (goes : Relation Event A) (upstreams : List (List ℕ)) (starts : List A) (sent : List Event) (sender : Option WorkFault) (ran : Ran A) : Type 0 where
+-- what came of a new ring over which these events were sent, by a sender's worker that ended so: each handler went through all of them, and completed them
+pub record IsRan {A : Type 0} (goes : Relation Event A) (starts : List A) (sent : List Event) (sender : Option WorkFault) (ran : Ran A) : Type 0 where
   pub published : ran.settled.published ≡ length sent
-  pub many : length ran.handlers.items ≡ length starts
+  pub through : AllWentThrough goes sent starts ran.handlers.items
   pub counted : length ran.settled.handlers.items ≡ length starts
-  -- each handler went through the first of the events, as many as it took
-  pub each : (h : ℕ) (start after : A) → get_elem? starts h ≡ some start → get_elem? ran.handlers.items h ≡ some after
-      → WentThrough goes start after (take (taken_in ran h) sent)
-  pub taken : (h : ℕ) → h < length starts → taken_in ran h ≤ length sent
-  -- and took no more than each handler that it follows completed
-  pub follow : (h u : ℕ) → h < length starts → u < length starts → Contains (upstreams_of upstreams h) u → taken_in ran h ≤ completed_in ran u
-  -- a handler's ending stands at its number; without a fault it took all, and only a refusal of its end is a fault
-  pub ended : (h : ℕ) (e : Ended) → h < length starts → get_elem? ran.endings.items h ≡ some e
-      → (e.who ≡ h) × (e.fault ≡ None → taken_in ran h ≡ length sent) × (e.fault ≢ Some work.Stopped) × (e.fault ≢ Some work.Memory)
+  pub taken : (h : ℕ) → h < length starts → taken_in ran h ≡ length sent
+  pub completed : (h : ℕ) → h < length starts → completed_in ran h ≡ length sent
+  -- a handler's ending stands at its number, without a fault
+  pub ended : (h : ℕ) (e : Ended) → h < length starts → get_elem? ran.endings.items h ≡ some e → e ≡ record { who = h; fault = None }
   -- and the sender's after those
   pub last : drop (length starts) ran.endings.items ≡ record { who = 16; fault = sender } ∷ []
 
@@ -78,7 +71,7 @@ pub record IsRun {A : Type 0} (goes : Relation Event A) (k : Shape) (starts : Li
   pub sent : ran.settled.published ≡ produced.sent
   pub within : produced.sent ≤ length script
   pub all : produced.fault ≡ None → produced.sent ≡ length script
-  pub came : IsRan goes k.upstreams starts (take produced.sent script) produced.fault ran
+  pub came : IsRan goes starts (take produced.sent script) produced.fault ran
 
 -- what came of a closure's sending: it went from the sender of a new ring of this shape to one that published what was sent
 pub record IsRanBy {A : Type 0} (sends : SenderEnd → Option WorkFault → SenderEnd → Type 0) (goes : Relation Event A) (k : Shape) (starts : List A) (ran : Ran A) : Type 0 where
@@ -87,7 +80,7 @@ pub record IsRanBy {A : Type 0} (sends : SenderEnd → Option WorkFault → Send
   pub fault : Option WorkFault
   pub fresh : given.knows ≡ fresh_sender k
   pub sending : sends given fault back
-  pub came : IsRan goes k.upstreams starts back.knows.sent.published fault ran
+  pub came : IsRan goes starts back.knows.sent.published fault ran
 
 -- the fault that is the first of the workers'
 abbrev pub IsFirst : List Ended → RunFault → Type 0

@@ -1,5 +1,5 @@
 -- What a handler's worker promises, and what workers gave back.
-use Rattle.std.specs.Prelude.{◌≡◌, ◌≢◌, ℕ, ◌+◌, ◌^◌, true, List, [], ◌∷◌, length, map, All, Some, IfNone}
+use Rattle.std.specs.Prelude.{◌≡◌, ◌≢◌, ℕ, ◌+◌, ◌^◌, ◌≤◌, true, List, [], ◌∷◌, length, map, All, None, Some, IfNone}
 use mathlib.Core.Option.{some}
 use lib.ListN.{get_elem?}
 use Rattle.std.specs.declared.thread.PromisedHandle.{PromisedHandle}
@@ -12,23 +12,27 @@ use Rattle.dr_ring.specs.Calls.Ends.{SenderEnd, ReceiverEnd, receiver_place, rec
 use Rattle.dr_ring.specs.Calls.Settling.{AreAllEnds}
 use Rattle.dr_ring.specs.Calls.Telling.{receiver_does}
 use Rattle.dr_ring.specs.Meaning.Moments.{fresh_sender}
+use Rattle.dr_shared.specs.Meaning.Work.{IsDone}
 use Rattle.dr_shared.specs.declared.ended.Ended.{Ended}
 use Rattle.dr_shared.specs.declared.fault.WorkFault.TheVariants.{Memory, Stopped}
 use Rattle.dr_disruptor.specs.declared.served.Served.{Served}
-use Rattle.dr_disruptor.specs.declared.served.Serves.{Serves}
+use Rattle.dr_disruptor.specs.declared.served.ServesPromise.{ServesPromise}
 
--- a worker's calls took a handler through exactly what its end handed out, and it gave both back with the fault that these calls came to; without one the end was told that the ring drained. With an open gate nobody stops it, and a ring's end takes no memory
+-- a worker's calls, each poll with room for 256 events, took a handler through exactly what its end handed out, and it gave both back with the fault that these calls came to; without one the end was told that the ring drained, and all that it took is completed. With an open gate nobody stops it, and a ring's end takes no memory
 pub record Serving {A : Type 0} (goes : Relation Event A) (start : A) (given : ReceiverEnd) (back : Served A) : Type 0 where
   pub place : receiver_place back.receiver ≡ receiver_place given
   pub calls : SomeCalls receiver_does given back.receiver
-      (worker.Serves goes start back.handler (Some (received_of given.knows)) (Some (received_of back.receiver.knows)) (λ turn. ⊥) (λ turn. ⊥) back.fault)
+      (worker.Serves 256 goes start back.handler (Some (received_of given.knows)) (Some (received_of back.receiver.knows)) (λ turn. ⊥) (λ turn. ⊥) back.fault)
   pub drained : IfNone back.fault (back.receiver.knows.told ≡ true)
+  pub done : IfNone back.fault (IsDone (received_of given.knows) (received_of back.receiver.knows))
   pub stopped : back.fault ≢ Some Stopped
   pub memory : back.fault ≢ Some Memory
+  -- an end that completed no more than it took refuses no call of such a worker
+  pub fine : given.knows.completed ≤ length given.knows.received → back.fault ≡ None
 
 -- a handler's thread
 abbrev pub Worker : Type 0 → Type 0
-Worker A = PromisedHandle (Served A) (Serves A)
+Worker A = PromisedHandle (Served A) (ServesPromise A)
 
 -- the end that it was given, and the handler
 abbrev pub given_end : {A : Type 0} → Worker A → ReceiverEnd
@@ -39,7 +43,7 @@ given_handler w = w.promise.start.value
 
 -- an end of a ring of this shape that received nothing yet
 abbrev pub BeginsAt : Shape → ReceiverEnd → Type 0
-BeginsAt k e = (e.knows.received ≡ []) × (e.knows.plan ≡ k)
+BeginsAt k e = (e.knows.received ≡ []) × (e.knows.completed ≡ 0) × (e.knows.plan ≡ k)
 
 -- each worker gave back what it promised, in their order
 pub record AreKept {A : Type 0} (goes : Relation Event A) (workers : List (Worker A)) (served : List (Served A)) : Type 0 where

@@ -12,4 +12,4 @@ mod workers;
 
 pub use fault::RunFault;
 pub use running::{Ran, run, run_with};
-pub use served::{Served, Serves, serve};
+pub use served::{Served, ServesPromise, serve};

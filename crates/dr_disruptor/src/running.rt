@@ -65,7 +65,7 @@ fn finish<R: Threads, H: Handler<Event> + Drop>(
 ) -> Result<Ran<H>, RunFault>
     requires ends { AreAllEnds sender (map given_end workers.items) }
     requires fresh { All (BeginsAt sender.knows.plan) (map given_end workers.items) }
-    ensures ran { IfOk result (IsRan H.goes sender.knows.plan.upstreams (map given_handler workers.items) sender.knows.sent.published fault) }
+    ensures ran { IfOk result (IsRan H.goes (map given_handler workers.items) sender.knows.sent.published fault) }
     ensures memory { IfErr result (λ e. e ≡ Memory) }
 {
     let served = joined(rt, &mut sender, workers)?;
@@ -99,7 +99,7 @@ pub fn run<R: Threads + Wait + Copy + Send + 'static, H: Handler<Event> + Drop +
 ) -> Result<Ran<H>, RunFault>
     // Where no worker has a fault, each handler went through exactly the script.
     ensures whole { IfOk result (λ ran. AreFine ran.endings.items → AllWentThrough H.goes script.now handlers.items ran.handlers.items) }
-    // And where one has, each went through a beginning of what was sent.
+    // Only the sender's may have one: then each went through all that was sent.
     ensures run { IfOk result (IsRun H.goes (shape_of graph.now.upstreams size) handlers.items script.now) }
     ensures refused { IfErr result (λ e. e ≡ refusal_of (length graph.now.upstreams) (length handlers.items)) }
 {

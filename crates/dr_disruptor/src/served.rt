@@ -23,30 +23,30 @@ pub struct Served<H> {
 }
 
 /// The promise of the worker that is given an end and a handler.
-pub struct Serves<H> {
+pub struct ServesPromise<H> {
     end: Snapshot<Receiver>,
     start: Snapshot<H>,
 }
 
-impl<H> Serves<H> {
-    pub fn of(end: &Receiver, handler: &H) -> Serves<H>
+impl<H> ServesPromise<H> {
+    pub fn of(end: &Receiver, handler: &H) -> ServesPromise<H>
         ensures end { result.end.value ≡ end.now }
         ensures start { result.start.value ≡ handler.now }
     {
-        Serves {
+        ServesPromise {
             end: Snapshot::of(end),
             start: Snapshot::of(handler),
         }
     }
 }
 
-impl<H> Drop for Serves<H> {
+impl<H> Drop for ServesPromise<H> {
     fn drop(self) {
-        let Serves { end: _, start: _ } = self;
+        let ServesPromise { end: _, start: _ } = self;
     }
 }
 
-impl<H: Handler<Event>> Promise<Served<H>> for Serves<H> {
+impl<H: Handler<Event>> Promise<Served<H>> for ServesPromise<H> {
     ghost kept_by = { λ p r. Serving H.goes p.start.value p.end.value r };
 }
 

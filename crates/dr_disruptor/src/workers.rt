@@ -7,7 +7,7 @@ ghost use Rattle.dr_disruptor.specs.Refused.{refusal_of};
 ghost use Rattle.dr_disruptor.specs.Serving.{AreKept, AreReady, endings_from, given_end, given_handler, shape_of};
 
 use crate::fault::RunFault;
-use crate::served::{Served, Serves, serve};
+use crate::served::{Served, ServesPromise, serve};
 use dr_core::{Handler, MAX_LIMIT};
 use dr_graph::Graph;
 use dr_ring::{Receiver, Sender, ring};
@@ -21,7 +21,7 @@ use std::thread::{self, PromisedHandle, Threads, join_promised};
 pub(crate) const SENDER: usize = 16;
 
 /// A handler's thread.
-pub(crate) type Worker<H> = PromisedHandle<Served<H>, Serves<H>>;
+pub(crate) type Worker<H> = PromisedHandle<Served<H>, ServesPromise<H>>;
 
 // Starts a thread for each handler with the end at its place. Where one cannot be started the earlier ones are in `started`.
 fn start<R: Threads + Wait + Copy + Send + 'static, H: Handler<Event> + Drop + Send + 'static>(
@@ -40,7 +40,7 @@ fn start<R: Threads + Wait + Copy + Send + 'static, H: Handler<Event> + Drop + S
         let Some(handler) = handlers.next() else {
             unreachable!();
         };
-        let promise = Serves::of(&receiver, &handler);
+        let promise = ServesPromise::of(&receiver, &handler);
         let who = started.len();
         let Ok(worker) = thread::spawn_with(
             &rt,

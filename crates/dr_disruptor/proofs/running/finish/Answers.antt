@@ -36,5 +36,4 @@ returns-clause-ran g c =
     in
     let ran : Ran g.row.H.Denot = record { handlers = back.handlers; settled = c.settle-settled.result; endings = back.endings } in
     let is = is_ran g.H.Handler.goes sender workers served c.in_ok-served.ensures.kept ran all fresh settles counts c.args.fault c.settle-settled.ensures.published c.in_ok-back.ensures.handlers c.in_ok-back.ensures.endings in
-    subst (λ (k : Shape). IsRan g.H.Handler.goes k.upstreams (map given_handler workers) c.args.sender.knows.sent.published c.args.fault ran) plan
-    (subst (λ (l : List Event). IsRan g.H.Handler.goes sender.knows.plan.upstreams (map given_handler workers) l c.args.fault ran) c.joined.ensures.closes.published is)
+    subst (λ (l : List Event). IsRan g.H.Handler.goes (map given_handler workers) l c.args.fault ran) c.joined.ensures.closes.published is

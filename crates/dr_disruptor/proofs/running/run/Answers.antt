@@ -3,7 +3,6 @@ use Rattle.dr_seq.specs.declared.event.Event.{Event}
 use Rattle.dr_core.specs.Calls.Calling.{SomeCalls}
 use Rattle.dr_shared.specs.Calls.Serving as worker
 use Rattle.dr_ring.specs.declared.record.SenderRecord.{SenderRecord}
-use Rattle.dr_ring.specs.Calls.Ends.{SenderPlace}
 use Rattle.dr_ring.specs.Calls.Telling.{sender_does}
 use Rattle.dr_disruptor.specs.Running.{IsSending}
 use Rattle.dr_disruptor.specs.Serving.{given_handler, shape_of}
@@ -18,7 +17,6 @@ returns-clause-run g c =
     let upstreams = c.args.graph.now.upstreams in
     let script = c.args.script.now in
     let none = ap (λ (r : SenderRecord). r.sent.published) ready.begins in
-    let graph = ap (λ (p : SenderPlace). p.1.upstreams) produced.ensures.kept ∙ ap (λ (r : SenderRecord). r.plan.upstreams) ready.begins in
     let cut = c.max-cut.ensures ∙ ap (λ (n : ℕ). max (n / 4) 1) c.get.ensures.value in
     let sending : IsSending (shape_of upstreams c.args.size) script produced.result = record {
       given = made.sender;
@@ -29,8 +27,8 @@ returns-clause-run g c =
     }
     in
     let all : produced.result.fault ≡ None → produced.result.sent ≡ length script = λ fine. rw fine at produced.ensures.all in
-    run_of g.H.Handler.goes (shape_of upstreams c.args.size) c.args.handlers.items script produced.result produced.new.inlet.knows.plan.upstreams (map given_handler made.workers.items)
-    c.finish.result graph ready.handlers sending produced.ensures.within all c.finish.ensures.ran
+    run_of g.H.Handler.goes (shape_of upstreams c.args.size) c.args.handlers.items script produced.result (map given_handler made.workers.items)
+    c.finish.result ready.handlers sending produced.ensures.within all c.finish.ensures.ran
 
 pub returns-clause-whole : goal.returns-clause-whole
 returns-clause-whole g c =

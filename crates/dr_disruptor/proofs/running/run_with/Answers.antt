@@ -1,8 +1,7 @@
-use Rattle.std.proofs.Common.{map, All, refl, sym, subst, ap, ◌∙◌}
+use Rattle.std.proofs.Common.{map, All, refl, sym, subst, ap}
 use Rattle.std.specs.Fn.{FnOnceReturnsAtMut}
 use Rattle.dr_ring.specs.Meaning.Shape.{Shape}
 use Rattle.dr_ring.specs.Calls.Ends.{SenderPlace}
-use Rattle.dr_ring.specs.declared.record.SenderRecord.{SenderRecord}
 use Rattle.dr_disruptor.specs.Serving.{BeginsAt, given_end, given_handler, shape_of}
 use Rattle.dr_disruptor.proofs.Settled.{all_moved}
 use Rattle.dr_disruptor.proofs.Whole.{run_by}
@@ -29,6 +28,5 @@ returns-clause-ran g c =
     let ready = made.ensures.ready in
     let sent = c.send-fault in
     let gave : FnOnceReturnsAtMut g.F.FnOnce c.args.send made.sender sent.result sent.new.arg2 = record { shown = _; shows = refl; left = _; met = sent.ensures; leaves = refl } in
-    let place = c.requires.place made.sender sent.result sent.new.arg2 gave in
-    run_by g.H.Handler.goes (shape_of c.args.graph.now.upstreams c.args.size) c.args.handlers.items (FnOnceReturnsAtMut g.F.FnOnce c.args.send) made.sender sent.new.arg2 sent.result sent.new.arg2.knows.plan.upstreams
-    (map given_handler made.workers.items) c.finish.result (ap (λ (p : SenderPlace). p.1.upstreams) place ∙ ap (λ (r : SenderRecord). r.plan.upstreams) ready.begins) ready.handlers ready.begins gave c.finish.ensures.ran
+    run_by g.H.Handler.goes (shape_of c.args.graph.now.upstreams c.args.size) c.args.handlers.items (FnOnceReturnsAtMut g.F.FnOnce c.args.send) made.sender sent.new.arg2 sent.result
+    (map given_handler made.workers.items) c.finish.result ready.handlers ready.begins gave c.finish.ensures.ran
