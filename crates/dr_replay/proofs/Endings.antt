@@ -21,7 +21,7 @@ use Rattle.dr_replay.specs.Meaning.Exchange.{IsHalted, lock_setup, setup_for}
 use Rattle.dr_replay.specs.Meaning.Scripts.{producers_in, script_in, scripts_in}
 use Rattle.dr_accounts.specs.Report.{report_of}
 use Rattle.dr_replay.specs.Calls.Replayed.{IsReportOfMerge}
-use Rattle.dr_replay.specs.Calls.Workers.{AreStopped, IsFirstOf, IsMemory, IsOfAudit, IsOfLock, IsOfMerge, IsOfWorkers, audit_fault}
+use Rattle.dr_replay.specs.Calls.Workers.{AreStopped, HandlersAreServed, IsFirstOf, IsMemory, IsOfAudit, IsOfLock, IsOfMerge, IsOfWorkers, audit_fault}
 use Rattle.dr_replay.specs.Calls.Workers.{endings_of, lock_endings, replay_fault, ring_workers}
 
 -- whether a fault may be answered for workers
@@ -48,16 +48,16 @@ only_memory endings (file.Input k cause) is = no_other endings (fault.File (file
 only_memory endings file.Read is = no_other endings (fault.File file.Read) refl is
 only_memory endings file.Write is = no_other endings (fault.File file.Write) refl is
 
-of_workers : (may_stop : ℕ → Type 0) (ran : Ran) (e : ReplayFault) → AreStopped may_stop (endings_of ran) → IsFirstOf (endings_of ran) e
+of_workers : (may_stop : ℕ → Type 0) (ran : Ran) (e : ReplayFault) → AreStopped may_stop (endings_of ran) → HandlersAreServed (endings_of ran) → IsFirstOf (endings_of ran) e
     → IsOfWorkers may_stop ring_workers e
-of_workers may_stop ran (fault.File f) stopped is = only_memory (endings_of ran) f is
-of_workers may_stop ran (fault.Worker who f) stopped is = (endings_of ran, refl, record { stopped = stopped; first = is })
-of_workers may_stop ran (fault.Audit f) stopped is = no_other (endings_of ran) (fault.Audit f) refl is
+of_workers may_stop ran (fault.File f) stopped served is = only_memory (endings_of ran) f is
+of_workers may_stop ran (fault.Worker who f) stopped served is = (endings_of ran, refl, served, record { stopped = stopped; first = is })
+of_workers may_stop ran (fault.Audit f) stopped served is = no_other (endings_of ran) (fault.Audit f) refl is
 
-pub ends_of_workers : {A : Type 0} (may_stop : ℕ → Type 0) (ran : Ran) (r : Result A ReplayFault) → AreStopped may_stop (endings_of ran)
+pub ends_of_workers : {A : Type 0} (may_stop : ℕ → Type 0) (ran : Ran) (r : Result A ReplayFault) → AreStopped may_stop (endings_of ran) → HandlersAreServed (endings_of ran)
     → IfErr r (IsFirstOf (endings_of ran)) → IfErr r (IsOfWorkers may_stop ring_workers)
-ends_of_workers may_stop ran (Ok x) stopped is = tt
-ends_of_workers may_stop ran (Err e) stopped is = of_workers may_stop ran e stopped is
+ends_of_workers may_stop ran (Ok x) stopped served is = tt
+ends_of_workers may_stop ran (Err e) stopped served is = of_workers may_stop ran e stopped served is
 
 -- behind a lock
 

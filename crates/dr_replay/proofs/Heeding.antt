@@ -20,7 +20,7 @@ use Rattle.dr_shared.specs.declared.producer.Produced.{Produced}
 use Rattle.dr_shared.specs.declared.fault.WorkFault.{WorkFault}
 use Rattle.dr_shared.specs.declared.fault.WorkFault.TheVariants.{Memory, Stopped}
 use Rattle.dr_accounts.specs.Keeping.{AnswersFor, IsServed}
-use Rattle.dr_replay.specs.declared.given_back.Sent.{Sent}
+use Rattle.dr_replay.specs.declared.given_back.Delivered.{Delivered}
 use Rattle.dr_replay.specs.declared.lock_workers.Joined.{Joined}
 use Rattle.dr_replay.specs.declared.ring.Ran.{Ran}
 use Rattle.dr_replay.specs.Inside.LockWorkers.{HasSent, IsJoined}
@@ -76,11 +76,11 @@ some_part calls next events [] sends are some = let none : 0 ≡ length events =
 some_part calls next events (part ∷ parts) sends are some = claims_some (length part.events) part.stretch calls _ sends
 
 -- a producer's worker without a fault sent all and was not stopped
-sent_unstopped : (all : ℕ) (stopped : Bool) (calls : List (InletCall Event)) (produced : Produced) → ProducerEnds all stopped calls produced → produced.fault ≡ None
-    → (produced.sent ≡ all) × (stopped ≢ true)
-sent_unstopped all true calls produced ends fine =
+sent_unstopped : (cut : ℕ) (script : List Event) (stopped : Bool) (calls : List (InletCall Event)) (produced : Produced) → ProducerEnds cut script stopped calls produced → produced.fault ≡ None
+    → (produced.sent ≡ length script) × (stopped ≢ true)
+sent_unstopped cut script true calls produced ends fine =
     ⊎_elim (λ told. absurd (none-some Stopped (sym fine ∙ told.1))) (λ trouble. absurd (none-some (fault_in_trouble true trouble.0) (sym fine ∙ trouble.2))) ends
-sent_unstopped all false calls produced ends fine =
+sent_unstopped cut script false calls produced ends fine =
     ⊎_elim (λ told. (told.0, false≢true)) (λ trouble. absurd (none-some (fault_in_trouble false trouble.0) (sym fine ∙ trouble.2))) ends
 
 -- a producer's worker that had an event to send
@@ -88,7 +88,7 @@ sends_heed : (cut : ℕ) (event : Event) (events : List Event) (may_stop must_st
     → Sends cut (event ∷ events) may_stop must_stop produced calls → produced.fault ≡ None → must_stop 0 → ⊥
 sends_heed cut event events may_stop must_stop produced calls is fine must =
     let script : List Event = event ∷ events in
-    let ended = sent_unstopped (length script) is.gate.stopped calls produced is.gate.answers fine in
+    let ended = sent_unstopped cut script is.gate.stopped calls produced is.gate.answers fine in
     let some : 0 < length (take produced.sent script) = subst (λ n. 0 < length (take n (event ∷ events))) (sym ended.0) (one_more event (take (length events) events)) in
     ended.1 (is.gate.must 0 (some_part calls is.sends.next (take produced.sent script) is.sends.parts is.sends.calls is.sends.events some) (omega arith) must)
 
@@ -112,15 +112,15 @@ where_ok (Err e) then is = tt
 
 -- behind a lock
 
-sent_heeds : (begun : History Event) (cut : ℕ) (script : List Event) (may_stop must_stop : ℕ → Type 0) (back : EndView Event) (answer : Option WorkFault)
-    → HasSent begun cut script may_stop must_stop back answer → answer ≡ None → script ≢ [] → must_stop 0 → ⊥
-sent_heeds begun cut [] may_stop must_stop back answer is fine some must = some refl
-sent_heeds begun cut (event ∷ events) may_stop must_stop back answer is fine some must =
+sent_heeds : (begun : History Event) (p cut : ℕ) (script : List Event) (may_stop must_stop : ℕ → Type 0) (back : EndView Event) (answer : Option WorkFault)
+    → HasSent begun p cut script may_stop must_stop back answer → answer ≡ None → script ≢ [] → must_stop 0 → ⊥
+sent_heeds begun p cut [] may_stop must_stop back answer is fine some must = some refl
+sent_heeds begun p cut (event ∷ events) may_stop must_stop back answer is fine some must =
     sends_heed cut event events may_stop must_stop is.produced is.calls.calls is.calls.holds (sym is.answers ∙ fine) must
 
 -- of several producers' workers without a fault, none had to stop that had an event to send
 pub joined_heeds : {L Z : Type 0} (begun : History Event) (may_stop must_stop : ℕ → ℕ → Type 0) (size : ℕ) (scripts : List (Vec Event Z)) (joined : Joined L) (events : List Event)
-    → IsJoined begun may_stop must_stop size scripts joined → All (λ (f : Option WorkFault). f ≡ None) (map (λ (s : Sent L). s.fault) joined.producers.items)
+    → IsJoined begun may_stop must_stop size scripts joined → All (λ (f : Option WorkFault). f ≡ None) (map (λ (s : Delivered L). s.fault) joined.producers.items)
     → map (λ (v : Vec Event Z). v.items) scripts ≡ scripts_in events → NoProducerHadToStop must_stop events
 joined_heeds {L} {Z} begun may_stop must_stop size scripts joined events is fine are = λ p below some must.
     let sent = joined.producers.items in
@@ -134,5 +134,5 @@ joined_heeds {L} {Z} begun may_stop must_stop size scripts joined events is fine
     sym (get_or-map (λ (v : Vec Event Z). v.items) scripts p script [] within) ∙ ap (λ l. get_or l p []) are
     ∙ get_or-map-range_with_len (script_in events) 0 (producers_in events) p p [] below (omega arith) in
     let unfaulted : (get_or sent p s).fault ≡ None =
-    sym (get_or-map (λ (s : Sent L). s.fault) sent p s None inside) ∙ fine p None (subst (λ n. p < n) (sym (length-map sent (λ (s : Sent L). s.fault))) inside) in
-    sent_heeds begun _ (get_or scripts p script).items _ _ _ _ kept unfaulted (λ none. some (sym listed ∙ none)) must
+    sym (get_or-map (λ (s : Delivered L). s.fault) sent p s None inside) ∙ fine p None (subst (λ n. p < n) (sym (length-map sent (λ (s : Delivered L). s.fault))) inside) in
+    sent_heeds begun p _ (get_or scripts p script).items _ _ _ _ kept unfaulted (λ none. some (sym listed ∙ none)) must

@@ -41,7 +41,7 @@ same_at (x ∷ xs) (suc k) d e below = same_at xs k d e (omega arith)
 -- the promise of the worker that sends the script at a place
 pub record IsPromised {G Z : Type 0} (given : G) (each : ℕ) (scripts : List (Vec Event Z)) (promise : SentBy G) (p : ℕ) : Type 0 where
   pub gate : promise.gate.value ≡ given
-  pub who : promise.who ≡ 16 + p
+  pub number : promise.p ≡ p
   pub events : (script : Vec Event Z) → promise.script.now ≡ (get_or scripts p script).items
   pub cut : promise.cut ≡ each
 
@@ -49,10 +49,10 @@ pub record IsPromised {G Z : Type 0} (given : G) (each : ℕ) (scripts : List (V
 module _ {G Z : Type 0} (begun : History Event) (may_stop must_stop : G → ℕ → ℕ → Type 0) where
   pub sent_by : (given : G) (each : ℕ) (scripts : List (Vec Event Z)) (promise : SentBy G) (p : ℕ) (script : Vec Event Z) (back : EndView Event) (fault : Option WorkFault)
       → IsPromised given each scripts promise p
-      → HasSent begun promise.cut promise.script.now (may_stop promise.gate.value promise.who) (must_stop promise.gate.value promise.who) back fault
-      → HasSent begun each (get_or scripts p script).items (may_stop given (16 + p)) (must_stop given (16 + p)) back fault
+      → HasSent begun promise.p promise.cut promise.script.now (may_stop promise.gate.value (16 + promise.p)) (must_stop promise.gate.value (16 + promise.p)) back fault
+      → HasSent begun p each (get_or scripts p script).items (may_stop given (16 + p)) (must_stop given (16 + p)) back fault
   sent_by given each scripts promise p script back fault is kept =
-      subst (λ c. HasSent begun c (get_or scripts p script).items (may_stop given (16 + p)) (must_stop given (16 + p)) back fault) is.cut
-      (subst (λ l. HasSent begun promise.cut l (may_stop given (16 + p)) (must_stop given (16 + p)) back fault) (is.events script)
-      (subst (λ w. HasSent begun promise.cut promise.script.now (may_stop given w) (must_stop given w) back fault) is.who
-      (subst (λ x. HasSent begun promise.cut promise.script.now (may_stop x promise.who) (must_stop x promise.who) back fault) is.gate kept)))
+      subst (λ c. HasSent begun p c (get_or scripts p script).items (may_stop given (16 + p)) (must_stop given (16 + p)) back fault) is.cut
+      (subst (λ l. HasSent begun p promise.cut l (may_stop given (16 + p)) (must_stop given (16 + p)) back fault) (is.events script)
+      (subst (λ n. HasSent begun n promise.cut promise.script.now (may_stop given (16 + n)) (must_stop given (16 + n)) back fault) is.number
+      (subst (λ x. HasSent begun promise.p promise.cut promise.script.now (may_stop x (16 + promise.p)) (must_stop x (16 + promise.p)) back fault) is.gate kept)))

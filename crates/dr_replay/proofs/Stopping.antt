@@ -1,22 +1,23 @@
 -- No worker of an exchange was stopped but by its gate.
-use Rattle.std.proofs.Common.{◌≡◌, ◌+◌, ◌<◌, ℕ, suc, List, [], ◌∷◌, length, map, get_or, Option, Some, Result, Ok, Err, Vec, subst, arith}
+use Rattle.std.proofs.Common.{◌≡◌, ◌+◌, ◌<◌, ℕ, suc, List, [], ◌∷◌, length, map, get_or, Option, Some, Result, Ok, Err, Vec, refl, subst, arith}
 use Rattle.std.proofs.lemmas.List.Elements.{All-nil, All-cons}
 use Rattle.dr_seq.specs.declared.event.Event.{Event}
+use Rattle.dr_core.specs.declared.refusal.Refusal.{Refusal}
 use Rattle.dr_ring.specs.Calls.Ends.{SenderEnd, ReceiverEnd}
 use Rattle.dr_shared.specs.declared.ended.Ended.{Ended}
 use Rattle.dr_shared.specs.Meaning.History.{History}
 use Rattle.dr_shared.specs.declared.fault.WorkFault.{WorkFault}
-use Rattle.dr_shared.specs.declared.fault.WorkFault.TheVariants.{Stopped}
+use Rattle.dr_shared.specs.declared.fault.WorkFault.TheVariants.{Refused, Stopped}
 use Rattle.dr_accounts.specs.Keeping.{error_of}
 use Rattle.dr_replay.specs.declared.lock_workers.Joined.{Joined}
 use Rattle.dr_replay.specs.declared.ring.Ran.{Ran}
 use Rattle.dr_replay.specs.Inside.LockWorkers.{IsJoined}
-use Rattle.dr_replay.specs.Calls.Workers.{AreStopped, IsRun, endings_of, lock_endings, numbered}
+use Rattle.dr_replay.specs.Calls.Workers.{AreStopped, HandlersAreServed, IsRun, endings_of, lock_endings, numbered}
 
--- a worker that ended stopped
-stopped_of : {A : Type 0} (part : Result A WorkFault) → error_of part ≡ Some Stopped → part ≡ Err Stopped
-stopped_of (Ok x) is = cc
-stopped_of (Err f) is = cc
+-- a worker that ended with a fault
+ended_with : {A : Type 0} (part : Result A WorkFault) (f : WorkFault) → error_of part ≡ Some f → part ≡ Err f
+ended_with (Ok x) f is = cc
+ended_with (Err e) f is = cc
 
 -- one of some things
 pub some_of : {X : Type 0} (xs : List X) (k : ℕ) → k < length xs → X
@@ -61,10 +62,26 @@ run_stopped may_stop events s j r b ran is =
     let sender : List Ended = record { who = 16; fault = ran.produced.fault } ∷ [] in
     let later : List Ended = record { who = 2; fault = error_of ran.business.part } ∷ sender in
     let others : List Ended = record { who = 1; fault = error_of ran.replica.part } ∷ later in
-    more at_some_turn 0 (error_of ran.journal.part) others (λ e. is.journal.stopped (stopped_of ran.journal.part e))
-    (more at_some_turn 1 (error_of ran.replica.part) later (λ e. is.replica.stopped (stopped_of ran.replica.part e))
-    (more at_some_turn 2 (error_of ran.business.part) sender (λ e. is.business.stopped (stopped_of ran.business.part e))
+    more at_some_turn 0 (error_of ran.journal.part) others (λ e. is.journal.stopped (ended_with ran.journal.part Stopped e))
+    (more at_some_turn 1 (error_of ran.replica.part) later (λ e. is.replica.stopped (ended_with ran.replica.part Stopped e))
+    (more at_some_turn 2 (error_of ran.business.part) sender (λ e. is.business.stopped (ended_with ran.business.part Stopped e))
     (more at_some_turn 16 ran.produced.fault [] is.sending.stopped (All-nil (λ (e : Ended). e.fault ≡ Some Stopped → at_some_turn e.who)))))
+
+-- and over a new ring no handler was refused a call
+pub run_served : {may_stop must_stop : ℕ → ℕ → Type 0} {size : ℕ} (events : List Event) (s : SenderEnd) (j r b : ReceiverEnd) (ran : Ran)
+    → IsRun may_stop must_stop size events s j r b ran → j.knows.completed ≡ 0 → r.knows.completed ≡ 0 → b.knows.completed ≡ 0 → HandlersAreServed (endings_of ran)
+run_served events s j r b ran is first second third =
+    let IsServed : Ended → Type 0 = λ e. (refusal : Refusal) → e.fault ≡ Some (Refused refusal) → e.who ≡ 16 in
+    let sender : List Ended = record { who = 16; fault = ran.produced.fault } ∷ [] in
+    let later : List Ended = record { who = 2; fault = error_of ran.business.part } ∷ sender in
+    let others : List Ended = record { who = 1; fault = error_of ran.replica.part } ∷ later in
+    All-cons IsServed (record { who = 0; fault = error_of ran.journal.part }) others
+    (λ refusal same. absurd (is.journal.refused (omega (arith, first)) refusal (ended_with ran.journal.part (Refused refusal) same)))
+    (All-cons IsServed (record { who = 1; fault = error_of ran.replica.part }) later
+    (λ refusal same. absurd (is.replica.refused (omega (arith, second)) refusal (ended_with ran.replica.part (Refused refusal) same)))
+    (All-cons IsServed (record { who = 2; fault = error_of ran.business.part }) sender
+    (λ refusal same. absurd (is.business.refused (omega (arith, third)) refusal (ended_with ran.business.part (Refused refusal) same)))
+    (All-cons IsServed (record { who = 16; fault = ran.produced.fault }) [] (λ refusal same. refl) (All-nil IsServed))))
 
 -- so behind a lock
 pub joined_stopped : {L Z : Type 0} (begun : History Event) (may_stop must_stop : ℕ → ℕ → Type 0) (size : ℕ) (scripts : List (Vec Event Z)) (joined : Joined L)

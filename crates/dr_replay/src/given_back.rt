@@ -1,6 +1,6 @@
 //! What the workers of a replay behind a lock give back, and what they promise of it.
 
-ghost use Rattle.std.specs.Prelude.{◌≡◌};
+ghost use Rattle.std.specs.Prelude.{◌≡◌, ◌+◌};
 ghost use Rattle.dr_accounts.specs.Keeping.{error_of};
 ghost use Rattle.dr_replay.specs.Inside.LockWorkers.{HasHandled, HasSent};
 
@@ -22,12 +22,12 @@ pub struct Handled<L: Ledger, P: Reporter> {
 
 /// What a producer's worker gives back.
 #[derive(Drop)]
-pub struct Sent<L: Ledger> {
+pub struct Delivered<L: Ledger> {
     pub end: End<Event, L>,
     pub fault: Option<WorkFault>,
 }
 
-/// The promise of the handler's worker `who`, which passes a gate.
+/// The promise of the worker of the handler `who`, which passes a gate by that number.
 pub struct HandledBy<G> {
     gate: Snapshot<G>,
     who: usize,
@@ -52,28 +52,28 @@ impl<G> Drop for HandledBy<G> {
 }
 
 impl<G: Gate, L: Exchange<Event>, P: Reporter> Promise<Handled<L, P>> for HandledBy<G> {
-    ghost kept_by = { λ p back. HasHandled L.begun (G.may_stop p.gate.value p.who) (G.must_stop p.gate.value p.who) back.end (error_of back.part) };
+    ghost kept_by = { λ p back. HasHandled L.begun p.who (G.may_stop p.gate.value p.who) (G.must_stop p.gate.value p.who) back.end (error_of back.part) };
 }
 
-/// The promise of the producer's worker `who`, which passes a gate and sends a script in claims of up
-/// to `cut`.
+/// The promise of the worker of the producer `p`, which passes a gate as number 16 + `p` and sends a script in
+/// claims of up to `cut`.
 pub struct SentBy<'a, G> {
     gate: Snapshot<G>,
-    who: usize,
+    p: usize,
     script: &'a [Event],
     cut: u64,
 }
 
 impl<'a, G> SentBy<'a, G> {
-    pub fn of(gate: &G, who: usize, script: &'a [Event], cut: u64) -> SentBy<'a, G>
+    pub fn of(gate: &G, p: usize, script: &'a [Event], cut: u64) -> SentBy<'a, G>
         ensures gate { result.gate.value ≡ gate.now }
-        ensures who { result.who ≡ who }
+        ensures number { result.p ≡ p }
         ensures script { result.script.now ≡ script.now }
         ensures cut { result.cut ≡ cut }
     {
         SentBy {
             gate: Snapshot::of(gate),
-            who,
+            p,
             script,
             cut,
         }
@@ -84,13 +84,13 @@ impl<G> Drop for SentBy<'_, G> {
     fn drop(self) {
         let SentBy {
             gate: _,
-            who: _,
+            p: _,
             script: _,
             cut: _,
         } = self;
     }
 }
 
-impl<G: Gate, L: Exchange<Event>> Promise<Sent<L>> for SentBy<'_, G> {
-    ghost kept_by = { λ p back. HasSent L.begun p.cut p.script.now (G.may_stop p.gate.value p.who) (G.must_stop p.gate.value p.who) back.end back.fault };
+impl<G: Gate, L: Exchange<Event>> Promise<Delivered<L>> for SentBy<'_, G> {
+    ghost kept_by = { λ of back. HasSent L.begun of.p of.cut of.script.now (G.may_stop of.gate.value (16 + of.p)) (G.must_stop of.gate.value (16 + of.p)) back.end back.fault };
 }

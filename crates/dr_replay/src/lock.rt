@@ -15,7 +15,7 @@ ghost use Rattle.dr_replay.specs.Meaning.Scripts.{scripts_in};
 
 use crate::event_file::read_events;
 use crate::fault::ReplayFault;
-use crate::given_back::Sent;
+use crate::given_back::Delivered;
 use crate::lock_workers::{Around, Joined, exchange, make_ends};
 use crate::outcome::{
     BUSINESS, JOURNAL, PRODUCER, REPLICA, audit_fault, ended, joined, replay_fault,
@@ -118,7 +118,7 @@ fn gathered<L: Exchange<Event>>(
     alloc: Global,
     shared: Shared<Event, L>,
     handlers: [End<Event, L>; 4],
-    producers: Vec<Sent<L>>,
+    producers: Vec<Delivered<L>>,
 ) -> Result<(Recorded<Event>, Vec<Option<WorkFault>>), AllocError>
     requires given { shared.given ≡ 4 + length producers.items }
     requires halted { 0 < sum_by (λ end. end.halts) handlers }

@@ -8,7 +8,7 @@ ghost use Rattle.dr_core.specs.declared.command.Command.TheVariants.{Halt};
 ghost use Rattle.dr_core.specs.declared.command.Reply.TheVariants.{Halting};
 ghost use Rattle.dr_replay.specs.Inside.LockWorkers.{AreSent, AreUnused, HasHandled, HasSent, IsJoined, halted_once};
 
-use crate::given_back::{Handled, HandledBy, Sent, SentBy};
+use crate::given_back::{Delivered, Handled, HandledBy, SentBy};
 use crate::outcome::{BUSINESS, JOURNAL, PRODUCER, REPLICA};
 use crate::part::Listing;
 use dr_accounts::{Business, Journal, Replica, Reporter};
@@ -60,7 +60,7 @@ pub struct Joined<L: Ledger> {
     pub journal: Handled<L, Journal>,
     pub replica: Handled<L, Replica>,
     pub business: Handled<L, Business>,
-    pub producers: Vec<Sent<L>>,
+    pub producers: Vec<Delivered<L>>,
 }
 
 // One end more, through which nobody has called.
@@ -120,7 +120,7 @@ fn handle<L: Exchange<Event>, R: Wait, G: Gate, P: Reporter>(
     end: End<Event, L>,
 ) -> Handled<L, P>
     requires unused { end ≡ no_calls }
-    ensures { HasHandled L.begun (G.may_stop around.now.gate.now who) (G.must_stop around.now.gate.now who) result.end (error_of result.part) }
+    ensures { HasHandled L.begun who (G.may_stop around.now.gate.now who) (G.must_stop around.now.gate.now who) result.end (error_of result.part) }
 {
     let mut outlet = LockedOutlet::new(around.rt, around.shared, end, who);
     let mut listing = Listing::<P>::new(around.alloc);
@@ -147,17 +147,17 @@ fn quarter(size: Size) -> u64
 fn send<L: Exchange<Event>, R: Wait, G: Gate>(
     around: &Around<'_, L, R, G>,
     task: Task<'_, L>,
-) -> Sent<L>
+) -> Delivered<L>
     requires few { task.p ≤ 2 ^ 62 }
     requires unused { task.end ≡ no_calls }
-    ensures { HasSent L.begun (max (around.now.size / 4) 1) task.entry.script.now (G.may_stop around.now.gate.now (16 + task.entry.p)) (G.must_stop around.now.gate.now (16 + task.entry.p)) result.end result.fault }
+    ensures { HasSent L.begun task.entry.p (max (around.now.size / 4) 1) task.entry.script.now (G.may_stop around.now.gate.now (16 + task.entry.p)) (G.must_stop around.now.gate.now (16 + task.entry.p)) result.end result.fault }
 {
     let Task { p, end, script } = task;
     let mut inlet = LockedInlet::new(around.rt, around.shared, end, p as u64);
     let (rt, gate, cut) = (around.rt, around.gate, quarter(around.size));
     let produced = produce(rt, &mut inlet, gate, PRODUCER + p, script, cut);
     let end = inlet.into_end();
-    Sent {
+    Delivered {
         end,
         fault: produced.fault,
     }
@@ -170,7 +170,7 @@ fn send_all<L: Exchange<Event> + Send + Sync, R: Threads + Wait + Sync, G: Gate 
     scripts: &[Vec<Event>],
     ends: Vec<End<Event, L>>,
     _halter: &End<Event, L>,
-) -> Result<Vec<Sent<L>>, AllocError>
+) -> Result<Vec<Delivered<L>>, AllocError>
     requires many { length ends.items ≡ length scripts.now }
     requires unused { All (λ end. end ≡ no_calls) ends.items }
     requires before { _halter.now ≡ no_calls }
@@ -179,7 +179,7 @@ fn send_all<L: Exchange<Event> + Send + Sync, R: Threads + Wait + Sync, G: Gate 
     thread::scope(
         thread::scope_env(),
         around.rt,
-        move |scope| -> Result<Vec<Sent<L>>, AllocError>
+        move |scope| -> Result<Vec<Delivered<L>>, AllocError>
             requires shared { IsSync L.row }
             requires workers { IsSync R.row }
             requires gates { IsSync G.row }
@@ -193,7 +193,7 @@ fn send_all<L: Exchange<Event> + Send + Sync, R: Threads + Wait + Sync, G: Gate 
                 let p = started.len();
                 let script = scripts[p].as_slice();
                 let task = Task { p, end, script };
-                let promise = SentBy::of(around.gate, PRODUCER + p, script, cut);
+                let promise = SentBy::of(around.gate, p, script, cut);
                 started.push(scope.spawn_with(promise, move || send(around, task))?)?;
             }
             Ok(thread::join_promised(around.rt, started)?)

@@ -1,6 +1,7 @@
 -- What the workers of a replay give back, and what they promise.
 use Rattle.std.specs.Prelude.{◌≡◌, ◌≢◌, ◌⊎◌, ℕ, ◌+◌, ◌/◌, ◌<◌, max, ◌++◌, true, List, [], ◌∷◌, length, map, take, Option, None, Some, All, IfOk, string_bytes}
 use Rattle.dr_seq.specs.declared.event.Event.{Event}
+use Rattle.dr_core.specs.declared.refusal.Refusal.{Refusal}
 use Rattle.dr_core.specs.Calls.Calling.{SomeCalls}
 use Rattle.dr_ring.specs.Calls.Ends.{SenderEnd, ReceiverEnd, sender_place}
 use Rattle.dr_ring.specs.Calls.Sending.{ClosesOnceDone}
@@ -119,10 +120,15 @@ pub record Ends (may_stop : ℕ → Type 0) (endings : List Ended) (e : ReplayFa
   pub stopped : AreStopped may_stop endings
   pub first : IsFirstOf endings e
 
--- a lack of memory, or the first fault of those that workers with these numbers ended with
+-- no handler was refused a call: only the sender may be
+abbrev pub HandlersAreServed : List Ended → Type 0
+HandlersAreServed endings = All (λ (e : Ended). (refusal : Refusal) → e.fault ≡ Some (work.Refused refusal) → e.who ≡ 16) endings
+
+-- a lack of memory, or the first fault of those that workers of a ring with these numbers ended with
 abbrev pub IsOfWorkers : (ℕ → Type 0) → List ℕ → ReplayFault → Type 0
 IsOfWorkers may_stop whos (fault.File f) = IsMemory f
-IsOfWorkers may_stop whos (fault.Worker who f) = (endings : List Ended) × (map (λ (e : Ended). e.who) endings ≡ whos) × Ends may_stop endings (fault.Worker who f)
+IsOfWorkers may_stop whos (fault.Worker who f) =
+    (endings : List Ended) × (map (λ (e : Ended). e.who) endings ≡ whos) × HandlersAreServed endings × Ends may_stop endings (fault.Worker who f)
 IsOfWorkers may_stop whos (fault.Audit f) = ⊥
 
 -- where a worker's fault is answered, it is the first of theirs; there is no audit

@@ -3,7 +3,7 @@ use Rattle.std.specs.Prelude.{◌≡◌, ℕ, ◌+◌, ◌<◌, ◌/◌, max, Li
 use Rattle.dr_seq.specs.declared.event.Event.{Event}
 use Rattle.dr_core.specs.declared.command.Command.TheVariants.{Halt}
 use Rattle.dr_core.specs.declared.command.Reply.TheVariants.{Halting}
-use Rattle.dr_core.specs.Calls.Calling.{InletCall, OutletCall, SomeCalls}
+use Rattle.dr_core.specs.Calls.Calling.{SomeCalls}
 use Rattle.dr_shared.specs.declared.fault.WorkFault.{WorkFault}
 use Rattle.dr_shared.specs.declared.fault.WorkFault.TheVariants.{Stopped}
 use Rattle.dr_shared.specs.declared.producer.Produced.{Produced}
@@ -13,39 +13,32 @@ use Rattle.dr_shared.specs.Calls.Serving.{Sends, Serves}
 use Rattle.dr_shared.specs.Meaning.History.{History}
 use Rattle.dr_accounts.specs.Keeping.{AnswersFor, error_of}
 use Rattle.dr_replay.specs.Inside.Parts.{Listed, Lists}
-use Rattle.dr_replay.specs.declared.given_back.Sent.{Sent}
+use Rattle.dr_replay.specs.declared.given_back.Delivered.{Delivered}
 use Rattle.dr_replay.specs.declared.lock_workers.Joined.{Joined}
 
--- an end asks a handler's call of an exchange that began so, and one asks a producer's
-abbrev pub HandlerAsks : History Event → EndView Event → OutletCall Event → EndView Event → Type 0
-HandlerAsks begun old call new = (h : ℕ) × OutletAsks begun h old call new
-
-abbrev pub ProducerAsks : History Event → EndView Event → InletCall Event → EndView Event → Type 0
-ProducerAsks begun old call new = (p : ℕ) × InletAsks begun p old call new
-
--- a handler's worker began with an unused end, listed what that handed out, came to its gate with each batch, and answers for what these calls came to;
+-- the worker of the handler h began with an unused end, listed what that handed out to room for 256 events, came to its gate with each batch, and answers for what these calls came to, each a call of that handler;
 -- that it was stopped it answers only where its gate may stop it
-pub record HasHandled (begun : History Event) (may_stop must_stop : ℕ → Type 0) (back : EndView Event) (answer : Option WorkFault) : Type 0 where
+pub record HasHandled (begun : History Event) (h : ℕ) (may_stop must_stop : ℕ → Type 0) (back : EndView Event) (answer : Option WorkFault) : Type 0 where
   pub start : Listed
   pub after : Listed
   pub fault : Option WorkFault
   pub new : start.list ≡ []
-  pub calls : SomeCalls (HandlerAsks begun) no_calls back (Serves Lists start after None None may_stop must_stop fault)
+  pub calls : SomeCalls (OutletAsks begun h) no_calls back (Serves 256 Lists start after None None may_stop must_stop fault)
   pub answers : AnswersFor fault answer
   pub stopped : answer ≡ Some Stopped → (turn : ℕ) × may_stop turn
 
--- a producer's worker began with an unused end, sent the first of a script in such claims, came to its gate with each, and answers what these calls came to
-pub record HasSent (begun : History Event) (cut : ℕ) (script : List Event) (may_stop must_stop : ℕ → Type 0) (back : EndView Event) (answer : Option WorkFault) : Type 0 where
+-- the worker of the producer p began with an unused end, sent the first of a script in such claims, came to its gate with each, and answers what these calls came to, each a call of that producer
+pub record HasSent (begun : History Event) (p cut : ℕ) (script : List Event) (may_stop must_stop : ℕ → Type 0) (back : EndView Event) (answer : Option WorkFault) : Type 0 where
   pub produced : Produced
-  pub calls : SomeCalls (ProducerAsks begun) no_calls back (Sends cut script may_stop must_stop produced)
+  pub calls : SomeCalls (InletAsks begun p) no_calls back (Sends cut script may_stop must_stop produced)
   pub answers : answer ≡ produced.fault
   pub stopped : answer ≡ Some Stopped → (turn : ℕ) × may_stop turn
 
--- so did each producer's worker with its script, in claims of a quarter of the slots; they are numbered from 16 on
-pub record AreSent {L Z : Type 0} (begun : History Event) (may_stop must_stop : ℕ → ℕ → Type 0) (size : ℕ) (scripts : List (Vec Event Z)) (sent : List (Sent L)) : Type 0 where
+-- so did each producer's worker with its script, in claims of a quarter of the slots; as workers they are numbered from 16 on
+pub record AreSent {L Z : Type 0} (begun : History Event) (may_stop must_stop : ℕ → ℕ → Type 0) (size : ℕ) (scripts : List (Vec Event Z)) (sent : List (Delivered L)) : Type 0 where
   pub many : length sent ≡ length scripts
-  pub each : (p : ℕ) (s : Sent L) (script : Vec Event Z) → p < length sent
-      → HasSent begun (max (size / 4) 1) (slice_index_or scripts p script).items (may_stop (16 + p)) (must_stop (16 + p)) (slice_index_or sent p s).end (slice_index_or sent p s).fault
+  pub each : (p : ℕ) (s : Delivered L) (script : Vec Event Z) → p < length sent
+      → HasSent begun p (max (size / 4) 1) (slice_index_or scripts p script).items (may_stop (16 + p)) (must_stop (16 + p)) (slice_index_or sent p s).end (slice_index_or sent p s).fault
 
 -- ends through which nobody has called
 pub record AreUnused (halter journal replica business : EndView Event) (producers : List (EndView Event)) : Type 0 where
@@ -62,7 +55,7 @@ halted_once = after_call Halt (Some Halting) no_calls
 -- what came of an exchange that began so, all of whose workers began with unused ends
 pub record IsJoined {L Z : Type 0} (begun : History Event) (may_stop must_stop : ℕ → ℕ → Type 0) (size : ℕ) (scripts : List (Vec Event Z)) (joined : Joined L) : Type 0 where
   pub halter : joined.halter ≡ halted_once
-  pub journal : HasHandled begun (may_stop 0) (must_stop 0) joined.journal.end (error_of joined.journal.part)
-  pub replica : HasHandled begun (may_stop 1) (must_stop 1) joined.replica.end (error_of joined.replica.part)
-  pub business : HasHandled begun (may_stop 2) (must_stop 2) joined.business.end (error_of joined.business.part)
+  pub journal : HasHandled begun 0 (may_stop 0) (must_stop 0) joined.journal.end (error_of joined.journal.part)
+  pub replica : HasHandled begun 1 (may_stop 1) (must_stop 1) joined.replica.end (error_of joined.replica.part)
+  pub business : HasHandled begun 2 (may_stop 2) (must_stop 2) joined.business.end (error_of joined.business.part)
   pub producers : AreSent begun may_stop must_stop size scripts joined.producers.items

@@ -1,9 +1,9 @@
-use Rattle.std.proofs.Common.{◌≡◌, None, ap, inl, inr, sym, ◌∙◌}
+use Rattle.std.proofs.Common.{◌≡◌, None, ap, inl, inr, subst, sym, ◌∙◌}
 use Rattle.dr_shared.specs.Calls.Asking.{OutletAsks}
 use Rattle.dr_shared.specs.Calls.Lock.{no_calls}
 use Rattle.dr_shared.specs.Calls.Serving.{Serves}
 use Rattle.dr_accounts.specs.Keeping.{AnswersFor, error_of}
-use Rattle.dr_replay.specs.Inside.LockWorkers.{HandlerAsks}
+use Rattle.dr_shared.specs.declared.locked.LockedOutlet.{LockedOutlet}
 use Rattle.dr_replay.specs.Inside.Parts.{Lists}
 use Rattle.dr_replay.proofs.Asking.{asked, stopped_by}
 use Rattle.dr_replay.proofs.lock_workers.handle.Goals.{in-Err-default, in-Ok-Some+in-Ok-this-2, in-Ok-Some+in-Err-1, in-Ok-None}
@@ -28,9 +28,10 @@ returns g c =
       after = run.new.handler;
       fault = run.result;
       new = c.new-listing.ensures;
-      calls = asked {Holds = Serves Lists c.new-listing.result run.new.handler None None (g.G.Gate.may_stop gate c.args.who) (g.G.Gate.must_stop gate c.args.who) run.result}
-          (λ old call new. OutletAsks begun old.h old.end call new.end) (HandlerAsks begun) (λ outlet. outlet.end) (λ old new call is. (old.h, is))
-          c.new-outlet.result run.new.outlet no_calls c.into_end-end.result begins ends run.ensures.serves;
+      calls = asked (λ (old : LockedOutlet _ _ _) call (new : LockedOutlet _ _ _). (new.h ≡ old.h) × OutletAsks begun old.h old.end call new.end) (OutletAsks begun c.args.who) (λ outlet. outlet.end) (λ outlet. outlet.h ≡ c.args.who)
+          (λ old new call here is. (is.0 ∙ here, subst (λ n. OutletAsks begun n old.end call new.end) here is.1))
+          {Holds = Serves 256 Lists c.new-listing.result run.new.handler None None (g.G.Gate.may_stop gate c.args.who) (g.G.Gate.must_stop gate c.args.who) run.result}
+          c.new-outlet.result run.new.outlet no_calls c.into_end-end.result c.new-outlet.ensures.number begins ends run.ensures.serves;
       answers = answers;
       stopped = stopped_by run.result (error_of c.match-part.part) answers run.ensures.stopped;
     }

@@ -1,9 +1,10 @@
-use Rattle.std.proofs.Common.{◌+◌, refl, subst, ◌∙◌}
+use Rattle.std.proofs.Common.{◌≡◌, ◌+◌, refl, subst, ◌∙◌}
 use Rattle.dr_seq.specs.declared.event.Event.{Event}
 use Rattle.dr_shared.specs.Calls.Asking.{InletAsks}
 use Rattle.dr_shared.specs.Calls.Lock.{no_calls}
 use Rattle.dr_shared.specs.Calls.Serving.{Sends}
-use Rattle.dr_replay.specs.Inside.LockWorkers.{HasSent, ProducerAsks}
+use Rattle.dr_shared.specs.declared.locked.LockedInlet.{LockedInlet}
+use Rattle.dr_replay.specs.Inside.LockWorkers.{HasSent}
 use Rattle.dr_replay.proofs.Asking.{asked}
 use Rattle.dr_replay.proofs.lock_workers.send.Goals as goal
 
@@ -14,13 +15,14 @@ returns g c =
     let task = c.args.task in
     let may_stop = g.G.Gate.may_stop c.args.around.now.gate.now (16 + task.p) in
     let must_stop = g.G.Gate.must_stop c.args.around.now.gate.now (16 + task.p) in
-    let sent : HasSent begun c.quarter-cut.result task.script.now may_stop must_stop c.into_end-end.result run.result.fault = record {
+    let sent : HasSent begun task.p c.quarter-cut.result task.script.now may_stop must_stop c.into_end-end.result run.result.fault = record {
       produced = run.result;
-      calls = asked {Holds = Sends {E = Event} c.quarter-cut.result task.script.now may_stop must_stop run.result}
-          (λ old call new. InletAsks begun old.p old.end call new.end) (ProducerAsks begun) (λ inlet. inlet.end) (λ old new call is. (old.p, is))
-          c.new-inlet.result run.new.inlet no_calls c.into_end-end.result (c.new-inlet.ensures.end ∙ c.requires.unused) c.into_end-end.ensures run.ensures.sends;
+      calls = asked (λ (old : LockedInlet _ _ _) call (new : LockedInlet _ _ _). (new.p ≡ old.p) × InletAsks begun old.p old.end call new.end) (InletAsks begun task.p) (λ inlet. inlet.end) (λ inlet. inlet.p ≡ task.p)
+          (λ old new call here is. (is.0 ∙ here, subst (λ n. InletAsks begun n old.end call new.end) here is.1))
+          {Holds = Sends {E = Event} c.quarter-cut.result task.script.now may_stop must_stop run.result}
+          c.new-inlet.result run.new.inlet no_calls c.into_end-end.result c.new-inlet.ensures.number (c.new-inlet.ensures.end ∙ c.requires.unused) c.into_end-end.ensures run.ensures.sends;
       answers = refl;
       stopped = run.ensures.stopped;
     }
     in
-    subst (λ n. HasSent begun n task.script.now may_stop must_stop c.into_end-end.result run.result.fault) c.quarter-cut.ensures sent
+    subst (λ n. HasSent begun task.p n task.script.now may_stop must_stop c.into_end-end.result run.result.fault) c.quarter-cut.ensures sent

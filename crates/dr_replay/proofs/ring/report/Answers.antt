@@ -4,7 +4,7 @@ use Rattle.dr_shared.specs.Calls.Stops.{MayStop}
 use Rattle.dr_replay.proofs.Endings.{ends_of_workers}
 use Rattle.dr_replay.proofs.Heeding.{run_heeds, where_ok}
 use Rattle.dr_replay.proofs.Settled.{AreThree, are_three, run_says}
-use Rattle.dr_replay.proofs.Stopping.{run_stopped}
+use Rattle.dr_replay.proofs.Stopping.{run_served, run_stopped}
 use Rattle.dr_replay.proofs.ring.report.Goals as goal
 
 pub returns-clause-text : goal.returns-clause-text
@@ -31,4 +31,7 @@ pub returns-clause-first : goal.returns-clause-first
 returns-clause-first g c =
     let ran = c.in_ok-ran.ran in
     let may_stop = g.G.Gate.may_stop c.args.gate.now in
-    ends_of_workers (MayStop g.G.Gate.may_stop c.args.gate.now) ran _ (run_stopped may_stop _ _ _ _ _ ran c.in_ok-ran.ensures) c.finish.ensures.first
+    let ends = c.three-journal.result in
+    let three : AreThree ends.0 ends.1 ends.2 = are_three _ _ _ _ ends.0 ends.1 ends.2 c.in_ok-graph.ensures.graph c.in-Ok.ensures.made c.three-journal.ensures in
+    ends_of_workers (MayStop g.G.Gate.may_stop c.args.gate.now) ran _ (run_stopped may_stop _ _ _ _ _ ran c.in_ok-ran.ensures)
+    (run_served _ _ _ _ _ ran c.in_ok-ran.ensures three.journal_from three.replica_from three.business_from) c.finish.ensures.first

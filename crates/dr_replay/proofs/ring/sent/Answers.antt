@@ -1,4 +1,4 @@
-use Rattle.std.proofs.Common.{ℕ, ◌/◌, max, length, ap, subst, ◌∙◌}
+use Rattle.std.proofs.Common.{ℕ, ◌/◌, max, ap, subst, ◌∙◌}
 use Rattle.dr_seq.specs.declared.event.Event.{Event}
 use Rattle.dr_core.specs.Calls.Calling.{SomeCalls}
 use Rattle.dr_ring.specs.Calls.Telling.{sender_does}

@@ -1,9 +1,9 @@
-use Rattle.std.proofs.Common.{◌≡◌, ◌∙◌, ◌+◌, ◌/◌, ◌<◌, max, ℕ, Vec, Global, get_or, length, ap, arith, subst, sym}
+use Rattle.std.proofs.Common.{◌≡◌, ◌∙◌, ◌/◌, ◌<◌, max, ℕ, Vec, Global, get_or, length, ap, arith, subst, sym}
 use Rattle.dr_seq.specs.declared.event.Event.{Event}
 use denote.Param.Send.{IsSync}
 use Rattle.dr_shared.proofs.Sent.{of_param}
 use Rattle.std.specs.declared.thread.PromisedHandle.{PromisedHandle}
-use Rattle.dr_replay.specs.declared.given_back.Sent.{Sent}
+use Rattle.dr_replay.specs.declared.given_back.Delivered.{Delivered}
 use Rattle.dr_replay.specs.declared.given_back.SentBy.{SentBy}
 use Rattle.dr_replay.proofs.Crossing.{crosses, gives}
 use Rattle.dr_replay.proofs.Promising.{IsPromised, counts_more, promised_more, rest_unused, same_at, sent_by}
@@ -30,7 +30,7 @@ loop-end-preserved g c =
     let started = c.loop-end.started.ok in
     let many = c.len-p.ensures in
     let place : c.len-p.result ≡ length c.loop-end.started.items = omega arith in
-    let who : c.of-promise.result.who ≡ 16 + length c.loop-end.started.items = omega (arith, of.who) in
+    let number : c.of-promise.result.p ≡ length c.loop-end.started.items = of.number ∙ place in
     let script = c.index-scripts-p in
     let taken = ap length c.in-Some.ensures.steps.0 in
     let below : length c.loop-end.started.items < length scripts = omega (arith, was.0) in
@@ -40,11 +40,11 @@ loop-end-preserved g c =
     in (
       counts_more _ _ _ _ _ _ _ was.0 c.in_ok-push.ensures.items c.in-Some.ensures.steps.0,
       rest_unused _ _ _ c.in-Some.ensures.steps.0 was.1,
-      promised_more (λ (h : PromisedHandle (Sent g.row.L.Denot) (SentBy g.row.G.Denot)) (p : ℕ). IsPromised c.captures.around.now.gate.now (max (c.captures.around.now.size / 4) 1) scripts h.promise p)
+      promised_more (λ (h : PromisedHandle (Delivered g.row.L.Denot) (SentBy g.row.G.Denot)) (p : ℕ). IsPromised c.captures.around.now.gate.now (max (c.captures.around.now.size / 4) 1) scripts h.promise p)
           c.loop-end.started.items c.push.new.self.items c.in_ok-spawn_with.field-0 c.in_ok-push.ensures.items was.2
           (record {
             gate = ap (λ (p : SentBy g.row.G.Denot). p.gate.value) promise ∙ of.gate;
-            who = ap (λ (p : SentBy g.row.G.Denot). p.who) promise ∙ who;
+            number = ap (λ (p : SentBy g.row.G.Denot). p.p) promise ∙ number;
             events = λ d. ap (λ (p : SentBy g.row.G.Denot). p.script.now) promise ∙ events d;
             cut = ap (λ (p : SentBy g.row.G.Denot). p.cut) promise ∙ of.cut ∙ c.quarter-cut.ensures;
           }),
@@ -64,5 +64,5 @@ returns g c =
           let kept = (c.in_ok-join_promised.ensures.each p s (omega arith)).1 in
           let place = c.loop-end.invariant.2 p kept.handle (omega arith) in
           sent_by g.L.Exchange.begun g.G.Gate.may_stop g.G.Gate.must_stop c.captures.around.now.gate.now (max (c.captures.around.now.size / 4) 1) c.captures.scripts.now kept.handle.promise p script
-          _ _ (subst (λ (h : PromisedHandle (Sent g.row.L.Denot) (SentBy g.row.G.Denot)). IsPromised c.captures.around.now.gate.now (max (c.captures.around.now.size / 4) 1) c.captures.scripts.now h.promise p) (sym kept.handle_is) place) kept.kept;
+          _ _ (subst (λ (h : PromisedHandle (Delivered g.row.L.Denot) (SentBy g.row.G.Denot)). IsPromised c.captures.around.now.gate.now (max (c.captures.around.now.size / 4) 1) c.captures.scripts.now h.promise p) (sym kept.handle_is) place) kept.kept;
     }
