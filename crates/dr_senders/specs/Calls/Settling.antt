@@ -8,13 +8,13 @@ use Rattle.dr_senders.specs.declared.record.Step.{Step}
 use Rattle.dr_seq.specs.declared.event.Event.{Event}
 use Rattle.dr_core.specs.Meaning.Transcript.{Transcript, LeadsTo}
 use Rattle.dr_core.specs.Meaning.Laws.{Laws}
-use Rattle.dr_runs.specs.Runs.{IsBeginning}
+use Rattle.dr_runs.specs.Gathering.{HasPart}
 use Rattle.dr_senders.specs.Meaning.Shape.{handlers_of, ring_setup}
 use Rattle.dr_senders.specs.Meaning.Stores.{stores_of_sender, stores_of_receiver, stores_of_halter}
 use Rattle.dr_senders.specs.Meaning.Rule.{World}
 use Rattle.dr_senders.specs.Meaning.Moments.{new_world, picture_of, Runs}
 use Rattle.dr_senders.specs.Meaning.Settling.{CameTo, Settles}
-use Rattle.dr_senders.specs.Calls.Ends.{EndOf, SenderEnd, ReceiverEnd, HalterEnd}
+use Rattle.dr_senders.specs.Calls.Ends.{SenderEnd, ReceiverEnd, HalterEnd}
 
 -- these are the senders of the halter's ring by their numbers, and its receivers in the graph's order
 pub record AreAllEnds (ss : List SenderEnd) (rs : List ReceiverEnd) (t : HalterEnd) : Type 0 where
@@ -22,10 +22,6 @@ pub record AreAllEnds (ss : List SenderEnd) (rs : List ReceiverEnd) (t : HalterE
   pub receivers : length rs ≡ handlers_of t.plan
   pub each_sender : (p : ℕ) (e : SenderEnd) → get_elem? ss p ≡ some e → (e.ring ≡ t.ring) × (e.knows.number ≡ p)
   pub each_receiver : (h : ℕ) (e : ReceiverEnd) → get_elem? rs h ≡ some e → (e.ring ≡ t.ring) × (e.knows.number ≡ h)
-
--- an end saw the beginning of a run, and these are its stores there: exactly what it stored, in its order
-abbrev pub HasPart : {K : Type 0} → EndOf K → List Step → List Step → Type 0
-HasPart e stores steps = IsBeginning e.past steps × (stores ≡ e.stored)
 
 -- The run of a ring, which came so far, and to what its ends know, and in which each of them stored exactly what it did.
 -- Its transcript leads the machine to the ring's picture, and has the five laws.
@@ -38,9 +34,9 @@ pub record HasRun (ss : List SenderEnd) (rs : List ReceiverEnd) (t : HalterEnd) 
   pub senders : world.senders ≡ map (λ e. e.knows) ss
   pub receivers : world.receivers ≡ map (λ e. e.knows) rs
   pub halter : world.halter ≡ t.knows
-  pub sends : (p : ℕ) (e : SenderEnd) → get_elem? ss p ≡ some e → HasPart e (stores_of_sender p steps) steps
-  pub receives : (h : ℕ) (e : ReceiverEnd) → get_elem? rs h ≡ some e → HasPart e (stores_of_receiver h steps) steps
-  pub halts : HasPart t (stores_of_halter steps) steps
+  pub sends : (p : ℕ) (e : SenderEnd) → get_elem? ss p ≡ some e → HasPart e.past e.stored (stores_of_sender p steps) steps
+  pub receives : (h : ℕ) (e : ReceiverEnd) → get_elem? rs h ≡ some e → HasPart e.past e.stored (stores_of_receiver h steps) steps
+  pub halts : HasPart t.past t.stored (stores_of_halter steps) steps
   pub leads : LeadsTo (ring_setup t.plan) entries (picture_of t.plan world)
   pub laws : Laws (ring_setup t.plan) entries
   pub settles : Settles t.plan world
