@@ -5,14 +5,15 @@ ghost use denote.Param.Send.{IsSync};
 
 use crate::fault::Fault;
 use crate::sum::Sum;
+use core::thread::Anything;
 use dr_seq::Event;
 use dr_shared::{
-    End, Exchange, LockedInlet, LockedOutlet, OpenGate, Shared, consume, halt, join_all, produce,
+    End, Exchange, LockedInlet, LockedOutlet, OpenGate, Shared, consume, halt, produce,
 };
 use std::alloc::{AllocError, Global};
 use std::sync::Wait;
 use std::sync::ledger::Ledger;
-use std::thread::{self, JoinHandle, Threads};
+use std::thread::{self, PromisedHandle, Threads, join_promised};
 
 /// The most events that a handler takes at once.
 const MOST_AT_ONCE: usize = 1024;
@@ -100,10 +101,10 @@ fn handle<L: Exchange<Event>, R: Wait>(around: &Around<'_, L, R>, task: Task<L>)
 /// What threads give back, where so many could be started.
 fn gather<T: Drop, L: Exchange<Event>, R: Threads + Wait>(
     around: &Around<'_, L, R>,
-    started: Vec<JoinHandle<T>>,
+    started: Vec<PromisedHandle<T, Anything>>,
     count: usize,
 ) -> Result<Vec<T>, Fault> {
-    let all = join_all(around.rt, around.alloc, started)?;
+    let all = join_promised(around.rt, started)?;
     if all.len() < count {
         return Err(Fault::Thread);
     }
@@ -126,7 +127,7 @@ fn send_all<L: Exchange<Event> + Send + Sync, R: Threads + Wait + Sync>(
             let mut started = Vec::with_capacity(around.alloc, count)?;
             for (k, end) in ends.into_iter().enumerate() {
                 let task = Task { k, end };
-                if let Ok(worker) = scope.spawn(move || send(around, task)) {
+                if let Ok(worker) = scope.spawn_with(Anything, move || send(around, task)) {
                     started.push(worker)?;
                 }
             }
@@ -156,7 +157,7 @@ pub fn exchange<L: Exchange<Event> + Send + Sync, R: Threads + Wait + Sync>(
             let mut started = Vec::with_capacity(around.alloc, count)?;
             for (k, end) in handlers.into_iter().enumerate() {
                 let task = Task { k, end };
-                if let Ok(worker) = scope.spawn(move || handle(around, task)) {
+                if let Ok(worker) = scope.spawn_with(Anything, move || handle(around, task)) {
                     started.push(worker)?;
                 }
             }
