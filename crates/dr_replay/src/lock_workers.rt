@@ -45,6 +45,30 @@ pub struct Ends<L: Ledger> {
     producers: Vec<End<Event, L>>,
 }
 
+impl<L: Ledger> Ends<L> {
+    // The halter's, those of the journal, the replica and the business handler, and the producers'.
+    fn apart(
+        self,
+    ) -> (
+        End<Event, L>,
+        End<Event, L>,
+        End<Event, L>,
+        End<Event, L>,
+        Vec<End<Event, L>>,
+    )
+        ensures { result ≡ (self.halter, self.journal, self.replica, self.business, self.producers) }
+    {
+        let Ends {
+            halter,
+            journal,
+            replica,
+            business,
+            producers,
+        } = self;
+        (halter, journal, replica, business, producers)
+    }
+}
+
 // What a producer's worker is given.
 #[derive(Drop)]
 struct Task<'a, L: Ledger> {
@@ -276,29 +300,17 @@ pub fn exchange<L: Exchange<Event> + Send + Sync, R: Threads + Wait + Sync, G: G
             requires unused { AreUnused ends.halter ends.journal ends.replica ends.business ends.producers.items }
             ensures { IfOk result (IsJoined L.begun (G.may_stop around.entry.now.gate.now) (G.must_stop around.entry.now.gate.now) around.entry.now.size scripts.entry.now) }
         {
-            let Ends {
-                mut halter,
-                journal,
-                replica,
-                business,
-                producers,
-            } = ends;
-            let promise = HandledBy::of(around.gate, JOURNAL);
-            let Ok(journal) = scope.spawn_with(promise, move || {
+            let (mut halter, journal, replica, business, producers) = ends.apart();
+            let journal = scope.spawn_with(HandledBy::of(around.gate, JOURNAL), move || {
                 handle::<L, R, G, Journal>(around, JOURNAL, journal)
-            }) else {
-                return Err(abandoned(around, &mut halter));
-            };
-            let promise = HandledBy::of(around.gate, REPLICA);
-            let Ok(replica) = scope.spawn_with(promise, move || {
+            });
+            let replica = scope.spawn_with(HandledBy::of(around.gate, REPLICA), move || {
                 handle::<L, R, G, Replica>(around, REPLICA, replica)
-            }) else {
-                return Err(abandoned(around, &mut halter));
-            };
-            let promise = HandledBy::of(around.gate, BUSINESS);
-            let Ok(business) = scope.spawn_with(promise, move || {
+            });
+            let business = scope.spawn_with(HandledBy::of(around.gate, BUSINESS), move || {
                 handle::<L, R, G, Business>(around, BUSINESS, business)
-            }) else {
+            });
+            let (Ok(journal), Ok(replica), Ok(business)) = (journal, replica, business) else {
                 return Err(abandoned(around, &mut halter));
             };
             served(
