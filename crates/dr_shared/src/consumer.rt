@@ -12,6 +12,7 @@ ghost use Rattle.dr_shared.specs.Meaning.Work.{IsDone};
 
 use crate::fault::WorkFault;
 use crate::gate::Gate;
+use crate::patience::Patience;
 use crate::retries::complete;
 use crate::turns::Turns;
 use crate::waiting::Waiting;
@@ -58,15 +59,16 @@ fn turn<E: Copy, R: Wait, O: Outlet<E>, G: Gate, H: Handler<E>>(
 
 /// Takes a handler through the events that its end hands out, until that is told that the exchange
 /// drained: each batch goes to the handler, then the worker passes its gate, then it completes the
-/// batch. A refusal ends the work. A worker that the gate stops goes on without it, and answers
-/// `Stopped` at its end.
-pub fn consume<E: Copy, R: Wait, O: Outlet<E>, G: Gate, H: Handler<E>>(
+/// batch. Where nothing came it waits as `patience` does. A refusal ends the work. A worker that the
+/// gate stops goes on without it, and answers `Stopped` at its end.
+pub fn consume_with<E: Copy, R: Wait, O: Outlet<E>, G: Gate, H: Handler<E>, P: Patience>(
     rt: &R,
     outlet: &mut O,
     gate: &G,
     who: usize,
     handler: &mut H,
     buf: &mut [E],
+    patience: &mut P,
 ) -> Option<WorkFault>
     ensures kept { O.kept outlet.new ≡ O.kept outlet.old }
     // The handler was shown all events that the end handed out, in order, batch by batch, with the
@@ -78,14 +80,33 @@ pub fn consume<E: Copy, R: Wait, O: Outlet<E>, G: Gate, H: Handler<E>>(
     ensures stopped { result ≡ Some Stopped → MayStop G.may_stop gate.now who }
 {
     let mut turns = Turns::new(who);
-    let mut waiting = Waiting::new(buf.len() as u64);
     for _ in rt.forever() {
         match turn(rt, outlet, gate, &mut turns, handler, buf) {
-            Ok(Progress::Batch(count)) => waiting.found(count),
-            Ok(Progress::Nothing) => waiting.wait(),
+            Ok(Progress::Batch(count)) => patience.found(count),
+            Ok(Progress::Nothing) => patience.wait(),
             Ok(Progress::Drained) => return turns.at_end(),
             Err(trouble) => return Some(turns.in_trouble(trouble)),
         }
     }
     unreachable!()
+}
+
+/// As [`consume_with`], waiting as [`Waiting`] does.
+pub fn consume<E: Copy, R: Wait, O: Outlet<E>, G: Gate, H: Handler<E>>(
+    rt: &R,
+    outlet: &mut O,
+    gate: &G,
+    who: usize,
+    handler: &mut H,
+    buf: &mut [E],
+) -> Option<WorkFault>
+    ensures kept { O.kept outlet.new ≡ O.kept outlet.old }
+    ensures serves { SomeCalls O.does outlet.old outlet.new (Serves H.goes handler.old handler.new (O.received outlet.old) (O.received outlet.new) (G.may_stop gate.now who) (G.must_stop gate.now who) result) }
+    ensures done { IfNone result (WhereShown IsDone (O.received outlet.old) (O.received outlet.new)) }
+    ensures drained { IfNone result (O.told outlet.new ≡ true) }
+    ensures waits { result ≢ Some Memory }
+    ensures stopped { result ≡ Some Stopped → MayStop G.may_stop gate.now who }
+{
+    let mut waiting = Waiting::new(buf.len() as u64);
+    consume_with(rt, outlet, gate, who, handler, buf, &mut waiting)
 }

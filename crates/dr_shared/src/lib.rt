@@ -25,19 +25,24 @@ pub mod sequences;
 pub mod shared;
 
 // Workers.
+mod bell;
 mod consumer;
 mod ended;
 pub mod fault;
 pub mod gate;
 mod joining;
+mod parking;
+mod patience;
 mod producer;
 mod retries;
+mod ringing;
 mod turns;
 mod waiting;
 
 pub use audit_fault::AuditFault;
 pub use auditing::audit;
-pub use consumer::consume;
+pub use bell::{Bell, Rings};
+pub use consumer::{consume, consume_with};
 pub use ended::{Ended, WorkerFault, first_fault};
 pub use entry::Entry;
 pub use exchange::Exchange;
@@ -46,7 +51,10 @@ pub use gate::{Gate, GateAnswer, OpenGate};
 pub use halting::halt;
 pub use joining::join_all;
 pub use locked::{LockedInlet, LockedOutlet};
-pub use producer::{Produced, produce};
+pub use parking::Parking;
+pub use patience::{Patience, Spinning};
+pub use producer::{Produced, produce, produce_with};
 pub use recorded::Recorded;
+pub use ringing::Ringing;
 pub use shared::{End, MAX_ENDS, Shared, Unfinished, finish};
 pub use waiting::Waiting;

@@ -11,8 +11,10 @@ ghost use Rattle.dr_shared.specs.Meaning.Work.{Adds, LeavesNothingOpen};
 
 use crate::fault::WorkFault;
 use crate::gate::Gate;
+use crate::patience::Patience;
 use crate::retries::{claim, publish, write_all};
 use crate::turns::Turns;
+use crate::waiting::Waiting;
 use dr_core::{Claimed, Inlet, Trouble};
 use std::sync::Wait;
 
@@ -26,12 +28,14 @@ pub struct Produced {
 }
 
 // Claims, passes the gate, writes and publishes some events.
-fn send<E: Copy, R: Wait, I: Inlet<E>, G: Gate>(
+fn send<E: Copy, R: Wait, I: Inlet<E>, G: Gate, P: Patience>(
     rt: &R,
     inlet: &mut I,
     gate: &G,
     turns: &mut Turns,
     events: &[E],
+    patience: &mut P,
+    room: &mut u64,
 ) -> Result<(), Trouble>
     ensures kept { I.kept inlet.new ≡ I.kept inlet.old }
     ensures sent { OnOk result (WhereShown (Adds events.now) (I.sent inlet.old) (I.sent inlet.new)) }
@@ -39,7 +43,9 @@ fn send<E: Copy, R: Wait, I: Inlet<E>, G: Gate>(
     ensures open { WhereShown LeavesNothingOpen (I.sent inlet.old) (I.sent inlet.new) }
     ensures sends { SomeCalls I.does inlet.old inlet.new (SendsPart events.now (G.may_stop gate.now) (G.must_stop gate.now) turns.old turns.new result) }
 {
-    let Claimed { lo, hi } = claim(rt, inlet, events.len() as u64)?;
+    let n = events.len() as u64;
+    let Claimed { lo, hi } = claim(rt, inlet, n, patience, room)?;
+    *room = room.saturating_add(n);
     turns.pass(gate);
     write_all(rt, inlet, lo, events)?;
     publish(rt, inlet, lo, hi)
@@ -47,15 +53,17 @@ fn send<E: Copy, R: Wait, I: Inlet<E>, G: Gate>(
 
 /// Sends a script in claims of up to `cut` events, each once there is room: a claim, the worker's
 /// gate, the writes, and the publication. A refusal ends the work, and so does running out of memory for a
-/// claim: the fault is what the last call answered. A worker that the gate stops goes on without it,
-/// and answers `Stopped` at its end.
-pub fn produce<E: Copy, R: Wait, I: Inlet<E>, G: Gate>(
+/// claim: the fault is what the last call answered. It waits for room as `patience` does, which it tells
+/// before each wait how many events found room since the one before. A worker that the gate stops goes
+/// on without it, and answers `Stopped` at its end.
+pub fn produce_with<E: Copy, R: Wait, I: Inlet<E>, G: Gate, P: Patience>(
     rt: &R,
     inlet: &mut I,
     gate: &G,
     who: usize,
     script: &[E],
     cut: u64,
+    patience: &mut P,
 ) -> Produced
     requires cut { 0 < cut }
     ensures kept { I.kept inlet.new ≡ I.kept inlet.old }
@@ -69,10 +77,12 @@ pub fn produce<E: Copy, R: Wait, I: Inlet<E>, G: Gate>(
 {
     let mut turns = Turns::new(who);
     let mut sent = 0;
+    // How many events found room since it last waited.
+    let mut room = 0;
     while sent < script.len() {
         let n = ((script.len() - sent) as u64).min(cut) as usize;
         let part = &script[sent..sent + n];
-        match send(rt, inlet, gate, &mut turns, part) {
+        match send(rt, inlet, gate, &mut turns, part, patience, &mut room) {
             Ok(()) => sent += n,
             Err(trouble) => {
                 let fault = Some(turns.in_trouble(trouble));
@@ -87,4 +97,26 @@ pub fn produce<E: Copy, R: Wait, I: Inlet<E>, G: Gate>(
         sent: sent as u64,
         fault: turns.at_end(),
     }
+}
+
+/// As [`produce_with`], waiting as [`Waiting`] does.
+pub fn produce<E: Copy, R: Wait, I: Inlet<E>, G: Gate>(
+    rt: &R,
+    inlet: &mut I,
+    gate: &G,
+    who: usize,
+    script: &[E],
+    cut: u64,
+) -> Produced
+    requires cut { 0 < cut }
+    ensures kept { I.kept inlet.new ≡ I.kept inlet.old }
+    ensures sent { WhereShown (Adds (take result.sent script.now)) (I.sent inlet.old) (I.sent inlet.new) }
+    ensures open { WhereShown LeavesNothingOpen (I.sent inlet.old) (I.sent inlet.new) }
+    ensures within { result.sent ≤ length script.now }
+    ensures all { IfNone result.fault (result.sent ≡ length script.now) }
+    ensures stopped { result.fault ≡ Some Stopped → MayStop G.may_stop gate.now who }
+    ensures sends { SomeCalls I.does inlet.old inlet.new (Sends cut script.now (G.may_stop gate.now who) (G.must_stop gate.now who) result) }
+{
+    let mut waiting = Waiting::new(cut);
+    produce_with(rt, inlet, gate, who, script, cut, &mut waiting)
 }

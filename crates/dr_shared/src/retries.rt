@@ -7,15 +7,18 @@ ghost use Rattle.dr_shared.specs.Meaning.Work.{Adds};
 ghost use Rattle.dr_shared.specs.Inside.Retries.{Retries, WriteCalls};
 ghost use Rattle.dr_shared.specs.Inside.Writes.{MayRefuse};
 
+use crate::patience::{Patience, wait_for_room};
 use crate::waiting::Waiting;
 use dr_core::{Claimed, Inlet, Outlet, Refusal, Trouble};
 use std::sync::Wait;
 
-/// Claims the next `n` sequences, once there is room.
-pub(crate) fn claim<E: Copy, R: Wait, I: Inlet<E>>(
+/// Claims the next `n` sequences, once there is room. `room` is how many events found room since the last wait.
+pub(crate) fn claim<E: Copy, R: Wait, I: Inlet<E>, P: Patience>(
     rt: &R,
     inlet: &mut I,
     n: u64,
+    patience: &mut P,
+    room: &mut u64,
 ) -> Result<Claimed, Trouble>
     ensures kept { I.kept inlet.new ≡ I.kept inlet.old }
     ensures stretch { IfOk result (λ c. GivesStretch n (Ok c)) }
@@ -24,10 +27,9 @@ pub(crate) fn claim<E: Copy, R: Wait, I: Inlet<E>>(
     ensures waits { result ≢ Err (Trouble.Refused Refusal.NoRoom) }
     ensures called { SomeCalls I.does inlet.old inlet.new (Retries (TriesClaim n (Err (Trouble.Refused Refusal.NoRoom))) (TriesClaim n result)) }
 {
-    let mut waiting = Waiting::new(n);
     for _ in rt.forever() {
         match inlet.try_claim(n) {
-            Err(Trouble::Refused(Refusal::NoRoom)) => waiting.wait(),
+            Err(Trouble::Refused(Refusal::NoRoom)) => wait_for_room(patience, room),
             answer => return answer,
         }
     }

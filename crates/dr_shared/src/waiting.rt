@@ -1,8 +1,9 @@
 //! How a thread waits for others.
 
 ghost use Rattle.std.specs.Prelude.{◌≡◌, false, true, if◌then◌else◌};
-ghost use Rattle.dr_shared.specs.Calls.Waits.{longer as longer_of, pauses_after, shorter as shorter_of, tuned as tuned_of};
+ghost use Rattle.dr_shared.specs.Calls.Waits.{found_from, longer as longer_of, pauses_after, shorter as shorter_of, tuned as tuned_of, waited_from};
 
+use crate::patience::Patience;
 use std::hint::spin_loop;
 use std::thread::yield_now;
 
@@ -98,5 +99,20 @@ impl Waiting {
             self.pauses = tuned(self.room, count, self.pauses);
         }
         self.paused = false;
+    }
+}
+
+/// Pauses once, and then yields its processor to others: LMAX's `YieldingWaitStrategy`.
+impl Patience for Waiting {
+    fn wait(&mut self)
+        ensures { self.new ≡ waited_from self.old }
+    {
+        Waiting::wait(self)
+    }
+
+    fn found(&mut self, count: u64)
+        ensures { self.new ≡ found_from self.old count }
+    {
+        Waiting::found(self, count)
     }
 }

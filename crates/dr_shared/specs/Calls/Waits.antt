@@ -1,5 +1,6 @@
 -- How long a thread waits.
-use Rattle.std.specs.Prelude.{ℕ, ◌*◌, ◌/◌, Bool, ◌||◌, ◌&&◌, nat_lt, nat_le, if◌then◌else◌}
+use Rattle.std.specs.Prelude.{ℕ, ◌+◌, ◌*◌, ◌/◌, Bool, true, false, not, ◌||◌, ◌&&◌, nat_lt, nat_le, Option, is_none, if◌then◌else◌}
+use Rattle.dr_shared.specs.declared.waiting.Waiting.{Waiting}
 
 -- the most pauses of one wait
 abbrev pub most_pauses : ℕ
@@ -28,3 +29,32 @@ is_too_short room count pauses = nat_lt count (room / 4) && nat_le (pauses / 32)
 -- how many pauses serve from then on
 abbrev pub tuned : ℕ → ℕ → ℕ → ℕ
 tuned room count pauses = if is_too_long room count pauses then shorter pauses else if is_too_short room count pauses then longer pauses else pauses
+
+-- a thread that has room for so many events, and waited for nothing yet
+abbrev pub begun : ℕ → Waiting
+begun room = record { room = room; pauses = 1; paused = false }
+
+-- it waited once more, or found so many events
+abbrev pub waited_from : Waiting → Waiting
+waited_from w = record w { paused = true }
+
+abbrev pub found_from : Waiting → ℕ → Waiting
+found_from w count = record { room = w.room; pauses = if w.paused then tuned w.room count w.pauses else w.pauses; paused = false }
+
+-- Of a thread that sleeps in the end.
+
+-- after how many looks in a row that find nothing it sleeps
+abbrev pub most_looks : ℕ
+most_looks = 200
+
+-- whether it still waits as one that does not sleep
+abbrev pub is_early : ℕ → Bool
+is_early looks = nat_lt looks most_looks
+
+-- how many looks it counts after one more
+abbrev pub looks_after : ℕ → ℕ
+looks_after looks = if is_early looks then looks + 1 else looks
+
+-- whether its next wait sleeps: it listens since a look that came late
+abbrev pub is_asleep_next : ℕ → Option ℕ → Bool
+is_asleep_next looks heard = not (is_early looks) && not (is_none heard)

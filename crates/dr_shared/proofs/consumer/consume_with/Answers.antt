@@ -5,7 +5,7 @@ use Rattle.dr_shared.proofs.Stopping.{stopped_more, waited, waited_in}
 use Rattle.dr_shared.specs.declared.fault.WorkFault.{WorkFault}
 use Rattle.dr_shared.specs.declared.turns.Turns.{Turns}
 use Rattle.dr_shared.proofs.Working.{done_first, done_more}
-use Rattle.dr_shared.proofs.consumer.consume.Goals as goal
+use Rattle.dr_shared.proofs.consumer.consume_with.Goals as goal
 
 whatever : {P : Type 0} (r : Option WorkFault) → P → IfNone r P
 whatever (Some fault) is = tt
