@@ -8,13 +8,19 @@ use std::time::Duration;
 /// The most milliseconds of one sleep: so late comes what nobody rang for.
 const MOST_MILLIS: u64 = 10;
 
+/// The words of two cache lines, but for one.
+const LINE: usize = 15;
+
 /// What wakes those who sleep: LMAX's condition of its blocking strategies. Who is about to sleep listens first,
 /// and then looks once more. Who changed what others look at rings afterwards, which is one load where nobody
 /// listens. So either that look sees the change, or the ring comes after the listening, and wakes.
 #[derive(Drop)]
 pub struct Bell {
+    // So that what others store beside it takes no cache line from those who look whether somebody listens.
+    _before: [u64; LINE],
     // Odd while somebody listens. A ring makes it even, and each change is a number more.
     word: AtomicU64,
+    _after: [u64; LINE],
 }
 
 /// What can be rung: a bell behind a reference or an `Arc`.
@@ -27,7 +33,9 @@ impl Bell {
     /// Nobody listens.
     pub fn new() -> Bell {
         Bell {
+            _before: [0; LINE],
             word: AtomicU64::new(0),
+            _after: [0; LINE],
         }
     }
 
