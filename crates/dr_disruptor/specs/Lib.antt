@@ -1,3 +1,4 @@
 pub mod Serving
 pub mod Running
 pub mod Refused
+pub mod Waits

@@ -13,12 +13,13 @@ ghost use Rattle.dr_disruptor.specs.Serving.{BeginsAt, given_end, given_handler,
 ghost use Rattle.dr_disruptor.specs.declared.fault.RunFault.TheVariants.{Memory};
 
 use crate::fault::RunFault;
-use crate::workers::{Back, SENDER, Worker, apart, begin, joined};
+use crate::strategy::WaitStrategy;
+use crate::workers::{Back, LiveSender, SENDER, Worker, apart, begin, joined};
 use dr_core::Handler;
 use dr_graph::Graph;
-use dr_ring::{Sender, Settled, settle};
+use dr_ring::{Settled, settle};
 use dr_seq::{Event, Size};
-use dr_shared::{Ended, OpenGate, WorkFault, WorkerFault, first_fault, produce};
+use dr_shared::{Ended, OpenGate, WorkFault, WorkerFault, first_fault, produce_with};
 use std::alloc::Global;
 use std::sync::Wait;
 use std::thread::Threads;
@@ -59,7 +60,7 @@ impl<H: Drop> Ran<H> {
 fn finish<R: Threads, H: Handler<Event> + Drop>(
     rt: &R,
     alloc: Global,
-    mut sender: Sender,
+    mut sender: LiveSender,
     workers: Vec<Worker<H>>,
     fault: Option<WorkFault>,
 ) -> Result<Ran<H>, RunFault>
@@ -75,7 +76,7 @@ fn finish<R: Threads, H: Handler<Event> + Drop>(
         handlers,
         endings,
     } = back;
-    let settled = settle(sender, receivers);
+    let settled = settle(sender.into_end(), receivers);
     Ok(Ran {
         handlers,
         settled,
@@ -89,6 +90,33 @@ fn finish<R: Threads, H: Handler<Event> + Drop>(
 ///
 /// It is refused with `Handlers` where there are not as many handlers as the graph has, and with `Memory` where
 /// a thread could not be started: then nothing was sent. Where memory runs out after that, what was done is lost.
+pub fn run_waiting<
+    R: Threads + Wait + Copy + Send + 'static,
+    H: Handler<Event> + Drop + Send + 'static,
+>(
+    rt: R,
+    alloc: Global,
+    graph: &Graph,
+    size: Size,
+    handlers: Vec<H>,
+    script: &[Event],
+    strategy: WaitStrategy,
+) -> Result<Ran<H>, RunFault>
+    // Where no worker has a fault, each handler went through exactly the script.
+    ensures whole { IfOk result (λ ran. AreFine ran.endings.items → AllWentThrough H.goes script.now handlers.items ran.handlers.items) }
+    // And where one has, each went through a beginning of what was sent.
+    ensures run { IfOk result (IsRun H.goes (shape_of graph.now.upstreams size) handlers.items script.now) }
+    ensures refused { IfErr result (λ e. e ≡ refusal_of (length graph.now.upstreams) (length handlers.items)) }
+{
+    let (mut sender, workers, bell) = begin(rt, alloc, graph, size, handlers, strategy)?;
+    // With less than the ring in a claim the handlers have events while the sender writes.
+    let cut = (size.get() / 4).max(1);
+    let mut waits = strategy.begin(&rt, &bell, size.get());
+    let produced = produce_with(&rt, &mut sender, &OpenGate, SENDER, script, cut, &mut waits);
+    finish(&rt, alloc, sender, workers, produced.fault)
+}
+
+/// As [`run_waiting`], by parking: an idle thread takes next to nothing of its processor.
 pub fn run<R: Threads + Wait + Copy + Send + 'static, H: Handler<Event> + Drop + Send + 'static>(
     rt: R,
     alloc: Global,
@@ -97,31 +125,35 @@ pub fn run<R: Threads + Wait + Copy + Send + 'static, H: Handler<Event> + Drop +
     handlers: Vec<H>,
     script: &[Event],
 ) -> Result<Ran<H>, RunFault>
-    // Where no worker has a fault, each handler went through exactly the script.
     ensures whole { IfOk result (λ ran. AreFine ran.endings.items → AllWentThrough H.goes script.now handlers.items ran.handlers.items) }
-    // And where one has, each went through a beginning of what was sent.
     ensures run { IfOk result (IsRun H.goes (shape_of graph.now.upstreams size) handlers.items script.now) }
     ensures refused { IfErr result (λ e. e ≡ refusal_of (length graph.now.upstreams) (length handlers.items)) }
 {
-    let (mut sender, workers) = begin(rt, alloc, graph, size, handlers)?;
-    // With less than the ring in a claim the handlers have events while the sender writes.
-    let cut = (size.get() / 4).max(1);
-    let produced = produce(&rt, &mut sender, &OpenGate, SENDER, script, cut);
-    finish(&rt, alloc, sender, workers, produced.fault)
+    run_waiting(
+        rt,
+        alloc,
+        graph,
+        size,
+        handlers,
+        script,
+        WaitStrategy::Parking,
+    )
 }
 
-/// As [`run`], with the sending by a closure, which is given the ring's sender and claims, writes and publishes
-/// what it likes, and answers its fault, if it has one. It leaves no claim open, or the handlers wait for ever.
+/// As [`run_waiting`], with the sending by a closure, which is given the ring's sender and claims, writes and
+/// publishes what it likes, and answers its fault, if it has one. It leaves no claim open, or the handlers
+/// wait for ever.
 pub fn run_with<
     R: Threads + Wait + Copy + Send + 'static,
     H: Handler<Event> + Drop + Send + 'static,
-    F: FnOnce(&mut Sender) -> Option<WorkFault> + Drop,
+    F: FnOnce(&mut LiveSender) -> Option<WorkFault> + Drop,
 >(
     rt: R,
     alloc: Global,
     graph: &Graph,
     size: Size,
     handlers: Vec<H>,
+    strategy: WaitStrategy,
     send: F,
 ) -> Result<Ran<H>, RunFault>
     requires callable { F.IsAlwaysCallable send }
@@ -130,7 +162,7 @@ pub fn run_with<
     ensures ran { IfOk result (IsRanBy (FnOnceReturnsAtMut F.FnOnce send) H.goes (shape_of graph.now.upstreams size) handlers.items) }
     ensures refused { IfErr result (λ e. e ≡ refusal_of (length graph.now.upstreams) (length handlers.items)) }
 {
-    let (mut sender, workers) = begin(rt, alloc, graph, size, handlers)?;
+    let (mut sender, workers, _bell) = begin(rt, alloc, graph, size, handlers, strategy)?;
     let fault = send(&mut sender);
     finish(&rt, alloc, sender, workers, fault)
 }

@@ -3,10 +3,11 @@
 ghost use Rattle.std.specs.Prelude.{◌≡◌};
 ghost use Rattle.dr_disruptor.specs.Serving.{Serving};
 
+use crate::strategy::WaitStrategy;
 use dr_core::Handler;
 use dr_ring::Receiver;
 use dr_seq::Event;
-use dr_shared::{OpenGate, WorkFault, consume};
+use dr_shared::{Bell, OpenGate, Ringing, WorkFault, consume_with};
 use std::snapshot::Snapshot;
 use std::sync::Wait;
 use std::thread::Promise;
@@ -50,19 +51,32 @@ impl<H: Handler<Event>> Promise<Served<H>> for Serves<H> {
     ghost kept_by = { λ p r. Serving H.goes p.start.value p.end.value r };
 }
 
-/// Takes a handler through all events of an end, up to 256 at once. `who` is the handler's number.
+/// Takes a handler through all events of an end, up to 256 at once, and rings the bell with each completion.
+/// `who` is the handler's number.
 pub fn serve<R: Wait, H: Handler<Event>>(
     rt: &R,
     who: usize,
-    mut receiver: Receiver,
+    receiver: Receiver,
     mut handler: H,
+    bell: &Bell,
+    strategy: WaitStrategy,
 ) -> Served<H>
     ensures { Serving H.goes handler receiver result }
 {
     let mut buffer = [Event::NONE; BATCH];
-    let fault = consume(rt, &mut receiver, &OpenGate, who, &mut handler, &mut buffer);
+    let mut outlet = Ringing::new(receiver, bell);
+    let mut waits = strategy.begin(rt, bell, BATCH as u64);
+    let fault = consume_with(
+        rt,
+        &mut outlet,
+        &OpenGate,
+        who,
+        &mut handler,
+        &mut buffer,
+        &mut waits,
+    );
     Served {
-        receiver,
+        receiver: outlet.into_end(),
         handler,
         fault,
     }

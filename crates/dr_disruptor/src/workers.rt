@@ -8,17 +8,21 @@ ghost use Rattle.dr_disruptor.specs.Serving.{AreKept, AreReady, endings_from, gi
 
 use crate::fault::RunFault;
 use crate::served::{Served, Serves, serve};
+use crate::strategy::WaitStrategy;
 use dr_core::{Handler, MAX_LIMIT};
 use dr_graph::Graph;
 use dr_ring::{Receiver, Sender, ring};
 use dr_seq::{Event, Size};
-use dr_shared::{Ended, WorkFault};
+use dr_shared::{Bell, Ended, Ringing, WorkFault};
 use std::alloc::{AllocError, Global};
-use std::sync::Wait;
+use std::sync::{Arc, Wait};
 use std::thread::{self, PromisedHandle, Threads, join_promised};
 
 /// The number of the sender's worker. Those of the handlers are below it.
 pub(crate) const SENDER: usize = 16;
+
+/// A run's sender, which wakes the handlers' threads.
+pub type LiveSender = Ringing<Sender, Arc<Bell, Global>>;
 
 /// A handler's thread.
 pub(crate) type Worker<H> = PromisedHandle<Served<H>, Serves<H>>;
@@ -29,6 +33,8 @@ fn start<R: Threads + Wait + Copy + Send + 'static, H: Handler<Event> + Drop + S
     started: &mut Vec<Worker<H>>,
     receivers: Vec<Receiver>,
     handlers: Vec<H>,
+    bell: &Arc<Bell, Global>,
+    strategy: WaitStrategy,
 ) -> Result<(), AllocError>
     requires none { started.old.items ≡ [] }
     requires many { length receivers.items ≡ length handlers.items }
@@ -40,12 +46,13 @@ fn start<R: Threads + Wait + Copy + Send + 'static, H: Handler<Event> + Drop + S
         let Some(handler) = handlers.next() else {
             unreachable!();
         };
+        let bell = Arc::try_clone(bell)?;
         let promise = Serves::of(&receiver, &handler);
         let who = started.len();
         let Ok(worker) = thread::spawn_with(
             &rt,
             promise,
-            move || serve(&rt, who, receiver, handler),
+            move || serve(&rt, who, receiver, handler, &bell, strategy),
         ) else {
             return Err(AllocError);
         };
@@ -64,17 +71,17 @@ fn wait_for<R: Threads, H: Handler<Event> + Drop>(rt: &R, workers: Vec<Worker<H>
 // Closes a ring before anything was sent, and waits for those of its threads that were started.
 fn abandon<R: Threads, H: Handler<Event> + Drop>(
     rt: &R,
-    sender: &mut Sender,
+    sender: &mut LiveSender,
     workers: Vec<Worker<H>>,
 )
     ensures { ClosesOnceDone sender.old sender.new }
 {
-    let _closed = sender.close();
+    let _closed = sender.call(|end| end.close());
     wait_for(rt, workers);
 }
 
-/// A ring's sender, and a thread for each handler with its end of the ring. Where a thread cannot be
-/// started, nothing is sent, and those that were started are joined.
+/// A ring's sender, a thread for each handler with its end of the ring, and the bell that wakes those who
+/// park. Where a thread cannot be started, nothing is sent, and those that were started are joined.
 pub(crate) fn begin<
     R: Threads + Wait + Copy + Send + 'static,
     H: Handler<Event> + Drop + Send + 'static,
@@ -84,7 +91,8 @@ pub(crate) fn begin<
     graph: &Graph,
     size: Size,
     handlers: Vec<H>,
-) -> Result<(Sender, Vec<Worker<H>>), RunFault>
+    strategy: WaitStrategy,
+) -> Result<(LiveSender, Vec<Worker<H>>, Arc<Bell, Global>), RunFault>
     ensures ready { IfOk result (λ r. AreReady (shape_of graph.now.upstreams size) handlers.items r.0 r.1.items) }
     ensures refused { IfErr result (λ e. e ≡ refusal_of (length graph.now.upstreams) (length handlers.items)) }
 {
@@ -96,27 +104,30 @@ pub(crate) fn begin<
         });
     }
     let mut started = Vec::with_capacity(alloc, given)?;
-    let Ok((mut sender, receivers, _halter)) = ring(alloc, graph, size, MAX_LIMIT) else {
+    let bell = Arc::new(alloc, Bell::new())?;
+    let theirs = Arc::try_clone(&bell)?;
+    let Ok((sender, receivers, _halter)) = ring(alloc, graph, size, MAX_LIMIT) else {
         return Err(RunFault::Memory);
     };
-    if start(rt, &mut started, receivers, handlers).is_err() {
+    let mut sender = Ringing::new(sender, theirs);
+    if start(rt, &mut started, receivers, handlers, &bell, strategy).is_err() {
         abandon(&rt, &mut sender, started);
         return Err(RunFault::Memory);
     }
-    Ok((sender, started))
+    Ok((sender, started, bell))
 }
 
 // Closes the ring, unless the sender left a claim open, and has what each thread gives back. Where memory
 // runs out all threads end too, and what they give back is lost.
 pub(crate) fn joined<R: Threads, H: Handler<Event> + Drop>(
     rt: &R,
-    sender: &mut Sender,
+    sender: &mut LiveSender,
     workers: Vec<Worker<H>>,
 ) -> Result<Vec<Served<H>>, AllocError>
     ensures closes { ClosesOnceDone sender.old sender.new }
     ensures kept { IfOk result (λ served. AreKept H.goes workers.items served.items) }
 {
-    let _done = sender.close();
+    let _done = sender.call(|end| end.close());
     match join_promised(rt, workers) {
         Ok(served) => Ok(served),
         Err(failed) => {

@@ -1,8 +1,8 @@
-use Rattle.std.proofs.Common.{◌≡◌, List, map, All, sym, subst, ap, ◌∙◌}
+use Rattle.std.proofs.Common.{◌≡◌, List, length, map, All, sym, subst, ap, ◌∙◌}
 use Rattle.dr_seq.specs.declared.event.Event.{Event}
 use Rattle.dr_ring.specs.Meaning.Shape.{Shape}
 use Rattle.dr_ring.specs.Meaning.Settling.{Settles}
-use Rattle.dr_ring.specs.Calls.Ends.{ReceiverEnd, SenderPlace}
+use Rattle.dr_ring.specs.Calls.Ends.{ReceiverEnd, SenderEnd, SenderPlace}
 use Rattle.dr_ring.specs.Calls.Settling.{AreAllEnds, handler_counts}
 use Rattle.dr_disruptor.specs.declared.running.Ran.{Ran}
 use Rattle.dr_disruptor.specs.Running.{IsRan}
@@ -15,8 +15,9 @@ settle-settled-requires g c =
     let sender = c.joined.new.sender in
     let workers = c.args.workers.items in
     let all : AreAllEnds sender (map given_end workers) = all_moved c.args.sender sender (map given_end workers) c.joined.ensures.closes.place c.requires.ends in
-    subst (AreAllEnds sender) (sym c.in_ok-back.ensures.receivers)
-    (all_back g.H.Handler.goes sender workers c.in_ok-served.served.items c.in_ok-served.ensures.kept all)
+    subst (λ (e : SenderEnd). AreAllEnds e c.in_ok-back.back.receivers.items) (sym c.into_end.ensures)
+    (subst (AreAllEnds sender) (sym c.in_ok-back.ensures.receivers)
+    (all_back g.H.Handler.goes sender workers c.in_ok-served.served.items c.in_ok-served.ensures.kept all))
 
 pub returns-clause-ran : goal.returns-clause-ran
 returns-clause-ran g c =
@@ -29,12 +30,13 @@ returns-clause-ran g c =
     let all : AreAllEnds sender (map given_end workers) = all_moved c.args.sender sender (map given_end workers) c.joined.ensures.closes.place c.requires.ends in
     let fresh : All (BeginsAt sender.knows.plan) (map given_end workers) = subst (λ (k : Shape). All (BeginsAt k) (map given_end workers)) (sym plan) c.requires.fresh in
     let settles : Settles sender.knows (map (λ (e : ReceiverEnd). e.knows) receivers) =
-    subst (λ (l : List ReceiverEnd). Settles sender.knows (map (λ (e : ReceiverEnd). e.knows) l)) c.in_ok-back.ensures.receivers c.settle-settled.ensures.lists
+    subst (λ (l : List ReceiverEnd). Settles sender.knows (map (λ (e : ReceiverEnd). e.knows) l)) c.in_ok-back.ensures.receivers
+    (subst (λ (e : SenderEnd). Settles e.knows (map (λ (r : ReceiverEnd). r.knows) c.in_ok-back.back.receivers.items)) c.into_end.ensures c.settle-settled.ensures.lists)
     in
     let counts : c.settle-settled.result.handlers.items ≡ map (λ (e : ReceiverEnd). handler_counts e.knows) receivers =
     c.settle-settled.ensures.handlers ∙ ap (map (λ (e : ReceiverEnd). handler_counts e.knows)) c.in_ok-back.ensures.receivers
     in
     let ran : Ran g.row.H.Denot = record { handlers = back.handlers; settled = c.settle-settled.result; endings = back.endings } in
-    let is = is_ran g.H.Handler.goes sender workers served c.in_ok-served.ensures.kept ran all fresh settles counts c.args.fault c.settle-settled.ensures.published c.in_ok-back.ensures.handlers c.in_ok-back.ensures.endings in
+    let is = is_ran g.H.Handler.goes sender workers served c.in_ok-served.ensures.kept ran all fresh settles counts c.args.fault (c.settle-settled.ensures.published ∙ ap (λ (e : SenderEnd). length e.knows.sent.published) c.into_end.ensures) c.in_ok-back.ensures.handlers c.in_ok-back.ensures.endings in
     subst (λ (k : Shape). IsRan g.H.Handler.goes k.upstreams (map given_handler workers) c.args.sender.knows.sent.published c.args.fault ran) plan
     (subst (λ (l : List Event). IsRan g.H.Handler.goes sender.knows.plan.upstreams (map given_handler workers) l c.args.fault ran) c.joined.ensures.closes.published is)

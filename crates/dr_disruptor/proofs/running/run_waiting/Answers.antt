@@ -8,13 +8,13 @@ use Rattle.dr_ring.specs.Calls.Telling.{sender_does}
 use Rattle.dr_disruptor.specs.Running.{IsSending}
 use Rattle.dr_disruptor.specs.Serving.{given_handler, shape_of}
 use Rattle.dr_disruptor.proofs.Whole.{run_of, whole_of}
-use Rattle.dr_disruptor.proofs.running.run.Goals as goal
+use Rattle.dr_disruptor.proofs.running.run_waiting.Goals as goal
 
 pub returns-clause-run : goal.returns-clause-run
 returns-clause-run g c =
     let made = c.in_ok-sender in
     let ready = made.ensures.ready in
-    let produced = c.produce-produced in
+    let produced = c.produce_with-produced in
     let upstreams = c.args.graph.now.upstreams in
     let script = c.args.script.now in
     let none = ap (λ (r : SenderRecord). r.sent.published) ready.begins in
