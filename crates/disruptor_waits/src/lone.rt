@@ -1,0 +1,147 @@
+//! Events that are sent one by one, each once the one before was taken.
+
+ghost use Rattle.std.specs.Prelude.{◌≡◌};
+ghost use Rattle.dr_ring.specs.Calls.Ends.{sender_place};
+
+use crate::fault::Fault;
+use crate::pair::{graph, takers};
+use crate::times::Times;
+use dr_core::Inlet;
+use dr_disruptor::{LiveSender, WaitStrategy, run_with};
+use dr_seq::{Event, Size};
+use dr_shared::{OpenGate, Patience, WorkFault, produce_with};
+use std::alloc::Global;
+use std::sync::atomic::{AtomicU64, Ordering};
+use std::sync::{Arc, Wait};
+use std::thread::Threads;
+use std::time::{Clock, Instant};
+
+/// The number of the sender's worker.
+const SENDER: usize = 16;
+
+/// The slots of the ring.
+const SLOTS: u64 = 64;
+
+// Waits until an event was taken.
+fn await_taken<R: Wait, P: Patience>(rt: &R, patience: &mut P, taken: &AtomicU64, number: u64) {
+    for _ in rt.forever() {
+        if taken.load(Ordering::SeqCst) == number {
+            patience.found(1);
+            return;
+        }
+        patience.wait();
+    }
+    unreachable!()
+}
+
+// How many microseconds have gone since then, and the most where no clock tells it.
+fn micros_since(clock: &impl Clock, begun: Option<Instant>) -> u64 {
+    let Some(begun) = begun else {
+        return u64::MAX;
+    };
+    match begun.elapsed(clock) {
+        Ok(time) => {
+            let seconds = time.as_secs().saturating_mul(1_000_000);
+            seconds.saturating_add(u64::from(time.subsec_micros()))
+        }
+        Err(_) => u64::MAX,
+    }
+}
+
+// Lets up to 255 microseconds go by, other ones for each number, in which the threads that look for the next event
+// go to sleep, or are about to, or not yet.
+fn pause(clock: &impl Clock, number: u64) {
+    let begun = Instant::now(clock).ok();
+    let micros = number.wrapping_mul(0x9e37_79b9_7f4a_7c15) >> 56;
+    for _ in 0..u64::MAX {
+        if micros_since(clock, begun) >= micros {
+            return;
+        }
+    }
+}
+
+// Sends an event, waits until it was taken, and notes how long that took.
+fn send_one<R: Wait + Clock, I: Inlet<Event>, P: Patience>(
+    rt: &R,
+    inlet: &mut I,
+    patience: &mut P,
+    taken: &AtomicU64,
+    number: u64,
+    times: &Times,
+) -> Option<WorkFault>
+    ensures kept { I.kept inlet.new ≡ I.kept inlet.old }
+{
+    let begun = Instant::now(rt).ok();
+    let event = Event {
+        first: number,
+        second: 0,
+    };
+    let produced = produce_with(rt, inlet, &OpenGate, SENDER, &[event], 1, patience);
+    if produced.fault.is_none() {
+        await_taken(rt, patience, taken, number);
+        times.note(micros_since(rt, begun));
+    }
+    produced.fault
+}
+
+// Sends so many events, up to one that is refused.
+fn send_each<R: Wait + Clock, I: Inlet<Event>, P: Patience>(
+    rt: &R,
+    inlet: &mut I,
+    patience: &mut P,
+    taken: &AtomicU64,
+    events: u64,
+    times: &Times,
+) -> Option<WorkFault>
+    ensures kept { I.kept inlet.new ≡ I.kept inlet.old }
+{
+    for number in 1..=events {
+        pause(rt, number);
+        let fault = send_one(rt, inlet, patience, taken, number, times);
+        if fault.is_some() {
+            return fault;
+        }
+    }
+    None
+}
+
+// The same over a run's sender, whose thread waits for the bell that it rings itself.
+fn send_by<R: Wait + Clock>(
+    rt: &R,
+    sender: &mut LiveSender,
+    strategy: WaitStrategy,
+    taken: &AtomicU64,
+    events: u64,
+    times: &Times,
+) -> Option<WorkFault>
+    ensures place { sender_place sender.new ≡ sender_place sender.old }
+{
+    let Ok(bell) = Arc::try_clone(sender.bell()) else {
+        return Some(WorkFault::Memory);
+    };
+    let mut waits = strategy.begin(rt, &bell, 1);
+    send_each(rt, sender, &mut waits, taken, events, times)
+}
+
+/// Sends so many events through two handlers, and tells how long each took until the second had it.
+pub fn send<R: Threads + Wait + Clock + Copy + Send + 'static>(
+    rt: R,
+    alloc: Global,
+    strategy: WaitStrategy,
+    events: u64,
+) -> Result<Times, Fault> {
+    let taken = Arc::new(alloc, AtomicU64::new(0))?;
+    let handlers = takers(alloc, &taken)?;
+    let times = Times::new();
+    let ran = run_with(
+        rt,
+        alloc,
+        &graph(alloc)?,
+        Size::new(SLOTS)?,
+        handlers,
+        strategy,
+        |sender| send_by(&rt, sender, strategy, &taken, events, &times),
+    )?;
+    let _handlers = ran.finished()?;
+    Ok(times)
+}

@@ -1,0 +1,61 @@
+//! How long events took.
+
+use std::fmt;
+use std::sync::atomic::{AtomicU64, Ordering};
+
+/// What a thread may sleep at most, in microseconds, less what a clock may err by: an event that took longer may have
+/// come to a thread that was not woken.
+const NEARLY_A_SLEEP: u64 = 9_000;
+
+/// No event may take more microseconds.
+const MOST: u64 = 1_000_000;
+
+/// How long events took, in microseconds.
+#[derive(Drop)]
+pub struct Times {
+    events: AtomicU64,
+    total: AtomicU64,
+    most: AtomicU64,
+    slept_through: AtomicU64,
+}
+
+impl Times {
+    pub fn new() -> Times {
+        Times {
+            events: AtomicU64::new(0),
+            total: AtomicU64::new(0),
+            most: AtomicU64::new(0),
+            slept_through: AtomicU64::new(0),
+        }
+    }
+
+    /// Notes an event that took so long. One thread alone does so.
+    pub fn note(&self, micros: u64) {
+        self.events.fetch_add(1, Ordering::SeqCst);
+        self.total.fetch_add(micros, Ordering::SeqCst);
+        if micros > self.most.load(Ordering::SeqCst) {
+            self.most.store(micros, Ordering::SeqCst);
+        }
+        if micros >= NEARLY_A_SLEEP {
+            self.slept_through.fetch_add(1, Ordering::SeqCst);
+        }
+    }
+
+    /// Whether an event took too long.
+    pub fn are_late(&self) -> bool {
+        self.most.load(Ordering::SeqCst) > MOST
+    }
+}
+
+impl fmt::Display for Times {
+    fn fmt<W: fmt::Write>(&self, f: &mut fmt::Formatter<W>) -> fmt::Result {
+        let events = self.events.load(Ordering::SeqCst);
+        let mean = self.total.load(Ordering::SeqCst) / events.max(1);
+        let most = self.most.load(Ordering::SeqCst);
+        let slept = self.slept_through.load(Ordering::SeqCst);
+        write!(
+            f,
+            "{events} events, {mean} microseconds each, {most} at most, {slept} of 9000 or more"
+        )
+    }
+}
