@@ -4,13 +4,15 @@
     tests/long_runs.py                         some minutes
     tests/long_runs.py --events 1000000000     as many events as asked, through all topologies of the ring together
     tests/long_runs.py --rounds 100000         as many exchanges of each kind that are halted at a random time
+    tests/long_runs.py --lone 1000000          as many lone events
     tests/long_runs.py --seed 7                other exchanges
 
 First `disruptor_bench` passes events through each topology at three sizes; each handler adds up what it is shown, and a
 wrong sum fails. Then `disruptor_halts` runs exchanges over the ring, with one sender and with several, and behind the
 lock, whose claims, polls, completions and halt fall at random times, and compares what each handler received with the
-beginning of what was published. The script prints a line for each run, and its status is 1 where one failed. Both
-programs are built by `rt run` in their crates' folders.
+beginning of what was published. At last `disruptor_waits` sends lone events through two handlers that park, and tells
+how many took so long that a wake-up may have been lost. The script prints a line for each run, and its status is 1 where
+one failed. The programs are built by `rt run` in their crates' folders.
 """
 
 import argparse
@@ -21,6 +23,7 @@ import sys
 TOP = os.path.dirname(os.path.dirname(os.path.abspath(__file__)))
 BENCH = os.path.join(TOP, "crates", "disruptor_bench", "out", "disruptor_bench")
 HALTS = os.path.join(TOP, "crates", "disruptor_halts", "out", "disruptor_halts")
+WAITS = os.path.join(TOP, "crates", "disruptor_waits", "out", "disruptor_waits")
 SIZES = (64, 1024, 65536)
 ROUNDS_AT_ONCE = 200
 
@@ -72,17 +75,23 @@ def halt_exchanges(seed, rounds):
         print(f"{handlers} handlers, each with a beginning of what was published, {drained} with all of it", flush=True)
 
 
+def send_lone(events):
+    print(f"by parking: {run([WAITS, 'lone', 'parking', events]).stderr.strip()}", flush=True)
+
+
 def main():
     parser = argparse.ArgumentParser(description=__doc__, formatter_class=argparse.RawDescriptionHelpFormatter)
     parser.add_argument("--events", type=int, default=200_000_000)
     parser.add_argument("--rounds", type=int, default=2000)
+    parser.add_argument("--lone", type=int, default=20_000)
     parser.add_argument("--seed", type=int, default=1)
     given = parser.parse_args()
-    for program in (BENCH, HALTS):
+    for program in (BENCH, HALTS, WAITS):
         if not os.path.exists(program):
             sys.exit(f"{program} is not built: run `rt run` in {os.path.dirname(os.path.dirname(program))}")
     pass_events(given.events)
     halt_exchanges(given.seed, given.rounds)
+    send_lone(given.lone)
 
 
 if __name__ == "__main__":
