@@ -13,6 +13,8 @@ mod histories;
 #[cfg(test)]
 mod orders;
 #[cfg(test)]
+mod patience;
+#[cfg(test)]
 mod playing;
 #[cfg(test)]
 mod rows;
