@@ -1,7 +1,7 @@
 //! Runs in one call: a diamond, another number of handlers, and a closure that sends.
 
 use crate::work::Work;
-use dr_disruptor::{RunFault, run, run_with};
+use dr_disruptor::{RunFault, WaitStrategy, run, run_waiting, run_with};
 use dr_graph::{Graph, GraphBuilder, GraphFault};
 use dr_seq::{Event, Size};
 use dr_shared::{OpenGate, produce};
@@ -74,12 +74,38 @@ fn events_by_a_closure(rt: HostRuntime) -> Result<(), Fail> {
         &diamond(alloc)?,
         Size::new(2)?,
         handlers,
+        WaitStrategy::Spinning,
         |sender| { produce(&rt, sender, &OpenGate, 16, &[event; 5], 1).fault },
     )?;
     let handlers = ran.finished()?;
     assert_eq!(rt;
         handlers.as_slice(),
         [Work::Sum(35), Work::Keep(7), Work::Sum(35)].as_slice()
+    );
+    Ok(())
+}
+
+#[test]
+fn a_script_by_yielding(rt: HostRuntime) -> Result<(), Fail> {
+    let alloc = rt.alloc();
+    let handlers = vec![in alloc; Work::Sum(0), Work::Keep(0), Work::Sum(0)]?;
+    let script = [Event {
+        first: 3,
+        second: 0,
+    }; 100];
+    let ran = run_waiting(
+        rt,
+        alloc,
+        &diamond(alloc)?,
+        Size::new(8)?,
+        handlers,
+        &script,
+        WaitStrategy::Yielding,
+    )?;
+    let handlers = ran.finished()?;
+    assert_eq!(rt;
+        handlers.as_slice(),
+        [Work::Sum(300), Work::Keep(3), Work::Sum(300)].as_slice()
     );
     Ok(())
 }
