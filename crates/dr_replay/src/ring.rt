@@ -26,12 +26,15 @@ use dr_core::MAX_LIMIT;
 use dr_files::{Counted, FileFault, write_text};
 use dr_ring::{Receiver, Sender, ring, settle};
 use dr_seq::{Event, Size};
-use dr_shared::{Ended, Gate, Produced, first_fault, produce};
+use dr_shared::{Bell, Ended, Gate, Parking, Produced, Ringing, first_fault, produce_with};
 use std::alloc::{AllocError, Global};
 use std::io::{Read, Write};
 use std::sync::Wait;
 use std::thread;
 use std::thread::{Promise, PromisedHandle, Threads};
+
+// A sender that wakes the handlers' threads.
+type LiveSender<'a> = Ringing<Sender, &'a Bell>;
 
 /// What came of an exchange.
 #[derive(Drop)]
@@ -60,16 +63,23 @@ fn three(mut receivers: Vec<Receiver>) -> (Receiver, Receiver, Receiver)
     (journal, replica, business)
 }
 
+// Closes a ring, unless a claim was left open, and wakes the handlers' threads.
+fn close(sender: &mut LiveSender)
+    ensures { ClosesOnceDone sender.old sender.new }
+{
+    let _done = sender.call(|end| end.close());
+}
+
 // Closes a ring before anything was sent, and joins those of its handlers' threads that were started.
 fn abandoned<R: Threads, G: Gate>(
     rt: &R,
-    sender: &mut Sender,
+    sender: &mut LiveSender,
     journal: PromisedHandle<Worked, PartOf<Journal, G>>,
     replica: Option<PromisedHandle<Worked, PartOf<Replica, G>>>,
 ) -> AllocError
     ensures { ClosesOnceDone sender.old sender.new }
 {
-    let _closed = sender.close();
+    close(sender);
     let _journal = journal.join(rt);
     if let Some(replica) = replica {
         let _replica = replica.join(rt);
@@ -83,7 +93,8 @@ fn sent<R: Wait, G: Gate>(
     gate: &G,
     events: &[Event],
     size: Size,
-    sender: &mut Sender,
+    sender: &mut LiveSender,
+    bell: &Bell,
 ) -> Produced
     ensures place { sender_place sender.new ≡ sender_place sender.old }
     ensures published { sender.new.knows.sent.published ≡ sender.old.knows.sent.published ++ take result.sent events.now }
@@ -94,7 +105,8 @@ fn sent<R: Wait, G: Gate>(
 {
     // With less than the ring in a claim the handlers have events while the sender writes.
     let cut = (size.get() / 4).max(1);
-    produce(rt, sender, gate, PRODUCER, events, cut)
+    let mut parking = Parking::new(rt, bell, size.get());
+    produce_with(rt, sender, gate, PRODUCER, events, cut, &mut parking)
 }
 
 // Sends the events, then closes, unless the sender was refused a call while a claim was open, and joins
@@ -104,7 +116,8 @@ fn served<R: Threads + Wait, G: Gate, J: Promise<Worked>, K: Promise<Worked>, B:
     gate: &G,
     events: &[Event],
     size: Size,
-    mut sender: Sender,
+    mut sender: LiveSender,
+    bell: &Bell,
     journal: PromisedHandle<Worked, J>,
     replica: PromisedHandle<Worked, K>,
     business: PromisedHandle<Worked, B>,
@@ -115,13 +128,13 @@ fn served<R: Threads + Wait, G: Gate, J: Promise<Worked>, K: Promise<Worked>, B:
     ensures replica { K.kept_by replica.promise result.replica }
     ensures business { B.kept_by business.promise result.business }
 {
-    let produced = sent(rt, gate, events, size, &mut sender);
-    let _done = sender.close();
+    let produced = sent(rt, gate, events, size, &mut sender, bell);
+    close(&mut sender);
     let journal = journal.join(rt);
     let replica = replica.join(rt);
     let business = business.join(rt);
     Ran {
-        sender,
+        sender: sender.into_end(),
         produced,
         journal,
         replica,
@@ -137,7 +150,8 @@ fn exchange<R: Threads + Wait + Sync, G: Gate + Sync>(
     gate: &G,
     events: &[Event],
     size: Size,
-    mut sender: Sender,
+    sender: Sender,
+    bell: &Bell,
     journal: Receiver,
     replica: Receiver,
     business: Receiver,
@@ -150,26 +164,29 @@ fn exchange<R: Threads + Wait + Sync, G: Gate + Sync>(
         move |scope| -> Result<Ran, AllocError>
             ensures { IfOk result (λ ran. IsRun (G.may_stop gate.entry.now) (G.must_stop gate.entry.now) size events.entry.now sender journal replica business ran) }
         {
+            let mut sender = Ringing::new(sender, bell);
             let room = size.get() as usize;
             let promise = PartOf::<Journal, G>::of(&journal, gate, JOURNAL);
             let Ok(journal) = scope.spawn_with(promise, move || {
-                work::<R, G, Journal>(rt, gate, JOURNAL, journal, room, alloc)
+                work::<R, G, Journal>(rt, gate, JOURNAL, journal, room, alloc, bell)
             }) else {
                 return Err(AllocError);
             };
             let promise = PartOf::<Replica, G>::of(&replica, gate, REPLICA);
             let Ok(replica) = scope.spawn_with(promise, move || {
-                work::<R, G, Replica>(rt, gate, REPLICA, replica, room, alloc)
+                work::<R, G, Replica>(rt, gate, REPLICA, replica, room, alloc, bell)
             }) else {
                 return Err(abandoned(rt, &mut sender, journal, None));
             };
             let promise = PartOf::<Business, G>::of(&business, gate, BUSINESS);
             let Ok(business) = scope.spawn_with(promise, move || {
-                work::<R, G, Business>(rt, gate, BUSINESS, business, room, alloc)
+                work::<R, G, Business>(rt, gate, BUSINESS, business, room, alloc, bell)
             }) else {
                 return Err(abandoned(rt, &mut sender, journal, Some(replica)));
             };
-            let ran = served(rt, gate, events, size, sender, journal, replica, business);
+            let ran = served(
+                rt, gate, events, size, sender, bell, journal, replica, business,
+            );
             Ok(ran)
         },
     )
@@ -249,8 +266,9 @@ fn report<R: Threads + Wait + Sync, G: Gate + Sync>(
         return Err(ReplayFault::File(FileFault::Memory));
     };
     let (journal, replica, business) = three(receivers);
+    let bell = Bell::new();
     let ran = exchange(
-        rt, alloc, gate, events, size, sender, journal, replica, business,
+        rt, alloc, gate, events, size, sender, &bell, journal, replica, business,
     )?;
     finish(alloc, ran)
 }
