@@ -39,7 +39,7 @@ stands_fresh k (suc (suc j)) e at =
 
 -- a new ring keeps the rule
 pub ruled_new : (k : Shape) (ws : List ℕ) → ws ≡ replicate (words_of k) 0 → IsGraph k.upstreams → 0 < k.size → Ruled k (table_opening ws [] (all_ends k))
-ruled_new k ws is graph some_slot = ruled_fresh (exchange k) (fresh_ends k) (λ n. n) ws (sym is) (graph, some_slot) (stands_fresh k)
+ruled_new k ws is graph some_slot = ruled_fresh (exchange k) (fresh_ends k) (λ n. n) ws [] (sym is) tt (graph, some_slot) (stands_fresh k)
 
 -- the next of the receivers
 fresh_next : (k : Shape) (h n : ℕ) → h < n → fresh_receivers k h (n - h) ≡ fresh_receiver k h ∷ fresh_receivers k (h + 1) (n - (h + 1))

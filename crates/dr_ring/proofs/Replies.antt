@@ -1,9 +1,9 @@
 -- The machine replies on a ring's picture as an end of the ring answers.
-use Rattle.std.proofs.Common.{◌≡◌, ℕ, zero, suc, ◌+◌, ◌-◌, ◌<◌, ◌≤◌, inl, inr, Bool, true, false, not, ◌==◌, ◌||◌, ◌&&◌, if◌then◌else◌, List, [], ◌∷◌, ◌++◌, length, get_or, map}
+use Rattle.std.proofs.Common.{◌≡◌, ℕ, zero, suc, ◌+◌, ◌-◌, ◌<◌, ◌≤◌, inl, inr, Bool, true, false, not, ◌==◌, ◌||◌, ◌&&◌, length, get_or, map}
 use Rattle.std.proofs.Common.{Option, Some, None, is_none, Result, Ok, Err, sym, refl, ap, ◌∙◌, subst, arith}
 use Rattle.std.specs.Prelude.{nat_lt, nat_le, Contains, flat_map}
 use Rattle.std.specs.List.{range_with_len}
-use Rattle.std.proofs.lemmas.Bool.{cases_eq, eq-eqb, ne_eqb, lt-ltb, le-ltb, lt-leb, ltb-false}
+use Rattle.std.proofs.lemmas.Bool.{cases_eq, eq-eqb, ne_eqb, lt-ltb, lt-leb, ltb-false}
 use Rattle.std.proofs.lemmas.List.{length-replicate, length-map, get_or-append_right}
 use mathlib.Core.Option.{some}
 use lib.ListN.{get_elem?}
@@ -12,17 +12,18 @@ use Rattle.dr_core.specs.declared.refusal.Refusal.{Refusal}
 use Rattle.dr_core.specs.declared.refusal.Refusal.TheVariants.{NoRoom, Halted, Exhausted}
 use Rattle.dr_core.specs.declared.command.Claimed.{Claimed as Stretch}
 use Rattle.dr_core.specs.declared.command.Command.TheVariants.{Claim, Write, Publish, Poll, Complete}
-use Rattle.dr_core.specs.declared.command.Reply.TheVariants.{Claimed, Written, Published, Completed, Drained as RepliedDrained, Gating as RepliedGating, Idle as RepliedIdle}
+use Rattle.dr_core.specs.declared.command.Reply.TheVariants.{Claimed, Written, Published, Completed}
 use Rattle.dr_core.specs.declared.command.Polled.{Polled}
 use Rattle.dr_core.specs.declared.command.Polled.TheVariants.{Batch, Drained, Gating, Idle}
-use Rattle.dr_core.specs.Meaning.Refusals.{NoneHolds, IsFirst, claim_causes, sequence_causes, publish_causes, write_causes, poll_causes, complete_causes}
+use Rattle.dr_core.specs.Meaning.Refusals.{IsFirst, claim_causes, sequence_causes, publish_causes, write_causes, poll_causes, complete_causes}
 use Rattle.dr_core.specs.Meaning.Machine as machine
 use Rattle.dr_core.specs.Meaning.Machine.{Setup, State, Outcome, next, front, cursor, offered, available, unchanged, least_completed, refusals, accepted, publish_faults, unless}
 use Rattle.dr_core.specs.Calls.Shows.{claim_reply, unit_reply, poll_reply}
-use Rattle.dr_core.specs.Calls.Ends.{Verdict, Exactly, MayHold, MayFail, IsAnswerOf, WriteAnswers, PublishAnswers, as_end, write_tests, end_sequence_tests, publish_tests}
-use Rattle.dr_core.proofs.Steps.{NoneHold, Refuses, unless-none, unless-refused}
+use Rattle.dr_core.specs.Calls.Ends.{Exactly, MayHold, MayFail, IsAnswerOf, WriteAnswers, PublishAnswers, as_end, write_tests, end_sequence_tests, publish_tests}
+use Rattle.dr_core.proofs.Steps.{Refuses, unless-none, unless-refused}
 use Rattle.dr_core.proofs.Leasts.{least_of-member}
 use Rattle.dr_graph.specs.Meaning.Graph.{upstreams_of, finals}
+use Rattle.dr_runs.proofs.Exact.{AreExact, none_exact, first_exact, exact_join, exact_stretch, unit_replies, offered_low, drained_reply, gating_reply, idle_reply}
 use Rattle.dr_ring.specs.Meaning.Shape.{Shape, handlers_of, ring_setup}
 use Rattle.dr_ring.specs.Meaning.Words.{cursor_word, halt_word, count_word}
 use Rattle.dr_ring.specs.declared.record.ReceiverRecord.{ReceiverRecord}
@@ -37,64 +38,6 @@ use Rattle.dr_ring.proofs.Beginning.{all_zero}
 use Rattle.dr_ring.proofs.Keeps.{word_at, receiver_of_handler, upstream_inside}
 use Rattle.dr_ring.proofs.Machine.{shown, shown_front, claim_step, offered_at_most}
 use Rattle.dr_ring.proofs.Pictures.{values_of, counts_of, count_at, taken_at, inside_of, claim_room, claim_fits}
-
--- Tests of which an end knows what the machine knows, as far as they are asked.
-abbrev AreExact : List (Verdict × Refusal) → List (Bool × Refusal) → Type 0
-AreExact [] [] = Unit {0}
-AreExact [] (b ∷ bs) = ⊥
-AreExact (v ∷ vs) [] = ⊥
-AreExact (v ∷ vs) (b ∷ bs) = (v.0 ≡ Exactly b.0) × (v.1 ≡ b.1) × (b.0 ≡ false → AreExact vs bs)
-
-none_exact : (vs : List (Verdict × Refusal)) (bs : List (Bool × Refusal)) → AreExact vs bs → NoneHolds MayFail vs → NoneHold bs
-none_exact [] [] E N = tt
-none_exact [] (b ∷ bs) E N = absurd E
-none_exact (v ∷ vs) [] E N = absurd E
-none_exact (v ∷ vs) (b ∷ bs) E N = let off : b.0 ≡ false = subst MayFail E.0 N.0 in (off, none_exact vs bs (E.2 off) N.1)
-
-first_exact : (r : Refusal) (vs : List (Verdict × Refusal)) (bs : List (Bool × Refusal)) → AreExact vs bs → IsFirst MayHold MayFail r vs → Refuses r bs
-first_exact r [] [] E F = absurd F
-first_exact r [] (b ∷ bs) E F = absurd E
-first_exact r (v ∷ vs) [] E F = absurd E
-first_exact r (v ∷ vs) (b ∷ bs) E (inl here) = inl (subst MayHold E.0 here.0, sym E.1 ∙ here.1)
-first_exact r (v ∷ vs) (b ∷ bs) E (inr later) = let off : b.0 ≡ false = subst MayFail E.0 later.0 in inr (off, first_exact r vs bs (E.2 off) later.1)
-
-exact_join : (vs us : List (Verdict × Refusal)) (bs cs : List (Bool × Refusal)) → AreExact vs bs → AreExact us cs → AreExact (vs ++ us) (bs ++ cs)
-exact_join [] us [] cs E F = F
-exact_join [] us (b ∷ bs) cs E F = absurd E
-exact_join (v ∷ vs) us [] cs E F = absurd E
-exact_join (v ∷ vs) us (b ∷ bs) cs E F = (E.0, E.1, λ off. exact_join vs us bs cs (E.2 off) F)
-
-exact_stretch : (vs : ℕ → List (Verdict × Refusal)) (bs : ℕ → List (Bool × Refusal)) (lo n : ℕ) → ((s : ℕ) → AreExact (vs s) (bs s))
-    → AreExact (flat_map vs (range_with_len lo n)) (flat_map bs (range_with_len lo n))
-exact_stretch vs bs lo zero each = tt
-exact_stretch vs bs lo (suc n) each = exact_join (vs lo) _ (bs lo) _ (each lo) (exact_stretch vs bs (lo + 1) n each)
-
-unit_replies : (vs : List (Verdict × Refusal)) (bs : List (Bool × Refusal)) (m : State Event) (o : Outcome Event) (result : Result (Unit {0}) Refusal)
-    → AreExact vs bs → IsAnswerOf vs (as_end result) → (unless bs m o).reply ≡ unit_reply o.reply result
-unit_replies vs bs m o (Ok done) E N = ap (λ (x : Outcome Event). x.reply) (unless-none bs m o (none_exact vs bs E N))
-unit_replies vs bs m o (Err r) E F = ap (λ (x : Outcome Event). x.reply) (unless-refused r bs m o (first_exact r vs bs E F))
-
--- A poll that takes nothing, in any state of the machine.
-module _ (c : Setup) (m : State Event) (h room : ℕ) (level : available c m h ≤ get_or m.taken h 0) where
-  abbrev answered : Bool → Bool → Outcome Event
-  answered all ahead = if all then unchanged RepliedDrained m else if ahead then unchanged RepliedGating m else unchanged RepliedIdle m
-
-  takes_none : accepted c m (Poll h room) ≡ answered (m.halted && (get_or m.taken h 0 == next m)) (nat_lt (get_or m.taken h 0) (cursor c m))
-  takes_none = rw (le-ltb (get_or m.taken h 0) (available c m h) level) refl
-
-  drained_reply : m.halted ≡ true → get_or m.taken h 0 ≡ next m → (accepted c m (Poll h room)).reply ≡ RepliedDrained
-  drained_reply on all = ap (λ (x : Outcome Event). x.reply) takes_none ∙ rw (on, eq-eqb (get_or m.taken h 0) (next m) all) refl
-
-  gating_reply : (m.halted && (get_or m.taken h 0 == next m)) ≡ false → get_or m.taken h 0 < cursor c m → (accepted c m (Poll h room)).reply ≡ RepliedGating
-  gating_reply part ahead = ap (λ (x : Outcome Event). x.reply) takes_none ∙ rw (part, lt-ltb (get_or m.taken h 0) (cursor c m) ahead) refl
-
-  idle_reply : (m.halted && (get_or m.taken h 0 == next m)) ≡ false → cursor c m ≤ get_or m.taken h 0 → (accepted c m (Poll h room)).reply ≡ RepliedIdle
-  idle_reply part none = ap (λ (x : Outcome Event). x.reply) takes_none ∙ rw (part, le-ltb (get_or m.taken h 0) (cursor c m) none) refl
-
--- what is offered is at most what each upstream completed
-offered_low : (m : State Event) (ups : List ℕ) (u : ℕ) → Contains ups u → offered m ups ≤ get_or m.completed u 0
-offered_low m [] u has = absurd (let lt = has.1 in omega arith)
-offered_low m (up ∷ ups) u has = least_of-member (λ h. get_or m.completed h 0) (up ∷ ups) u has
 
 and_false : (b : Bool) → (b && false) ≡ false
 and_false true = refl

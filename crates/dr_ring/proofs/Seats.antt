@@ -6,7 +6,7 @@ use Rattle.atomic_table.specs.Table.{Allows}
 use Rattle.atomic_table.proofs.Lists.{set_here, set_else}
 use Rattle.dr_runs.specs.Runs.{IsBeginning, IsReached}
 use Rattle.dr_runs.specs.Seats.{end_of, seat_at, first_past, past_of, stores_of}
-use Rattle.dr_runs.proofs.Seats.{Adds, OthersStand, by_end}
+use Rattle.dr_runs.proofs.Seats.{Adds, OthersStand, by_bare_end}
 use Rattle.dr_ring.specs.Meaning.Shape.{Shape}
 use Rattle.dr_ring.specs.declared.record.SenderRecord.{SenderRecord}
 use Rattle.dr_ring.specs.declared.record.ReceiverRecord.{ReceiverRecord}
@@ -53,7 +53,7 @@ pub by_sender : (k : Shape) (slots id : ℕ) (step : Step) (grow : List Step →
     → ((w : World) → w.sender ≡ r → KeepsRule k w → told (get_or w.words i 0) (as_sender (g (get_or w.words i 0))))
     → Allows (Ruled k) slots id (seat_at (as_sender r) pasts) i f (Tells 0 grow pasts told)
 by_sender k slots id step grow pasts r i f g told adds does tells =
-    by_end (exchange k) slots id step grow pasts (Sends r) i f (λ n. Sends (g n)) told adds (λ n. refl)
+    by_bare_end (exchange k) (λ w homes. tt) slots id step grow pasts (Sends r) i f (λ n. Sends (g n)) told adds (λ n. refl)
     (λ w at reached small. let n = get_or w.words i 0 in let K = kept_of k w reached in let us = set w.words i (f n) in (
       record {
         after = world_of us (g n) w.receivers w.halter;
@@ -72,7 +72,7 @@ pub by_halter : (k : Shape) (slots id : ℕ) (step : Step) (grow : List Step →
     → ((w : World) → w.halter ≡ r → KeepsRule k w → told (get_or w.words i 0) (as_halter (g (get_or w.words i 0))))
     → Allows (Ruled k) slots id (seat_at (as_halter r) pasts) i f (Tells 1 grow pasts told)
 by_halter k slots id step grow pasts r i f g told adds does tells =
-    by_end (exchange k) slots id step grow pasts (Halts r) i f (λ n. Halts (g n)) told adds (λ n. refl)
+    by_bare_end (exchange k) (λ w homes. tt) slots id step grow pasts (Halts r) i f (λ n. Halts (g n)) told adds (λ n. refl)
     (λ w at reached small. let n = get_or w.words i 0 in let K = kept_of k w reached in let us = set w.words i (f n) in (
       record {
         after = world_of us w.sender w.receivers (g n);
@@ -92,7 +92,7 @@ pub by_receiver : (k : Shape) (slots id : ℕ) (step : Step) (grow : List Step �
     → ((w : World) → get_elem? w.receivers r.number ≡ some r → KeepsRule k w → told (get_or w.words i 0) (as_receiver (g (get_or w.words i 0))))
     → Allows (Ruled k) slots id (seat_at (as_receiver r) pasts) i f (Tells (r.number + 2) grow pasts told)
 by_receiver k slots id step grow pasts r i f g told same adds does tells =
-    by_end (exchange k) slots id step grow pasts (Receives r) i f (λ n. Receives (g n)) told adds (λ n. ap (λ (m : ℕ). m + 2) (same n))
+    by_bare_end (exchange k) (λ w homes. tt) slots id step grow pasts (Receives r) i f (λ n. Receives (g n)) told adds (λ n. ap (λ (m : ℕ). m + 2) (same n))
     (λ w at reached small. let n = get_or w.words i 0 in let K = kept_of k w reached in let us = set w.words i (f n) in let h = r.number in
     let rs = set w.receivers h (g n) in (
       record {

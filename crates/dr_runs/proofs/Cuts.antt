@@ -23,12 +23,14 @@ each_fresh P [] all = tt
 each_fresh P (e ∷ es) all = (all 0 e refl, each_fresh P es (λ j x at. all (suc j) x at))
 
 -- the first view has all ends, each at a place of its own
-pub ruled_fresh : {E S W : Type 0} (X : Exchange E S W) (es : List E) (index : ℕ → ℕ) (ws : List ℕ) → X.words_of X.opening ≡ ws → X.IsMade
+pub ruled_fresh : {T C E S W : Type 0} (X : Exchange T C E S W) (es : List E) (index : ℕ → ℕ) (ws : List ℕ) (cs : List C) → X.words_of X.opening ≡ ws
+    → X.Lies X.opening (map (λ c. some c) cs) → X.IsMade
     → ((j : ℕ) (e : E) → get_elem? es j ≡ some e → (index (X.ends.number_of e) ≡ j) × X.Stands X.opening e)
-    → Ruled X (table_opening ws [] (fresh_view es))
-ruled_fresh {E = E} {S = S} X es index ws words made stand = let view : View E S = fresh_view es in record {
+    → Ruled X (table_opening ws cs (fresh_view es))
+ruled_fresh {E = E} {S = S} X es index ws cs words lies made stand = let view : View E S = fresh_view es in record {
   world = X.opening;
   words = words;
+  lies = lies;
   reached = record { made = made; steps = []; entries = []; runs = (refl, refl) };
   place = λ n. (0, index n);
   each_end = one_view (λ id v. (j : ℕ) (e : E) → get_elem? v.ends j ≡ some e → ((0, index (X.ends.number_of e)) ≡ (id, j)) × X.Stands X.opening e) view
@@ -103,13 +105,14 @@ each_with P [] ps A = tt
 each_with P (e ∷ es) [] A = absurd A
 each_with P (e ∷ es) (p ∷ ps) A = (A.0, each_with P es ps A.1)
 
-pub cuts : {E S W : Type 0} (X : Exchange E S W) (id : ℕ) (v : View E S)
+pub cuts : {T C E S W : Type 0} (X : Exchange T C E S W) (id : ℕ) (v : View E S)
     → Splits (Ruled X) id v (first_view v) (rest_view v)
 cuts {E = E} {S = S} X id v s R mine = let new = length s.views in let place' : ℕ → ℕ × ℕ = λ e. moved id new (R.place e) in let w = R.world in
     let left : View E S = first_view v in let right : View E S = rest_view v in
     let P : ℕ → View E S → Type 0 = λ id' u. (j : ℕ) (e : E) → get_elem? u.ends j ≡ some e → StandsAt X place' w id' j e in record {
       world = R.world;
       words = R.words;
+      lies = R.lies;
       reached = R.reached;
       place = place';
       each_end = λ id' u at. elim (last_or (set s.views id left) right u id' at) [
@@ -148,7 +151,7 @@ at_both [] w j e at = inr (j, omega arith, at)
 at_both (x ∷ xs) w zero e at = inl at
 at_both (x ∷ xs) w (suc j) e at = elim (at_both xs w j e at) [ inl y ↦ inl y | inr t ↦ (let f = t.1 in inr (t.0, omega arith, t.2)) ]
 
-pub joins : {E S W : Type 0} (X : Exchange E S W) (id : ℕ) (v : View E S) (other : ℕ) (w : View E S)
+pub joins : {T C E S W : Type 0} (X : Exchange T C E S W) (id : ℕ) (v : View E S) (other : ℕ) (w : View E S)
     → Joins (Ruled X) id v other w (both_views v w) no_view
 joins {E = E} {S = S} X id v other w s R mine apart theirs =
     let was : get_elem? s.views other ≡ some w = elim (at_set s.views id other (both_views v w) w theirs) [ inl x ↦ absurd (apart x.0) | inr x ↦ x.1 ] in
@@ -157,6 +160,7 @@ joins {E = E} {S = S} X id v other w s R mine apart theirs =
     let P : ℕ → View E S → Type 0 = λ id' u. (j : ℕ) (e : E) → get_elem? u.ends j ≡ some e → StandsAt X place' wd id' j e in record {
       world = R.world;
       words = R.words;
+      lies = R.lies;
       reached = R.reached;
       place = place';
       each_end = λ id' u at. elim (at_set (set s.views id (both_views v w)) other id' none u at) [

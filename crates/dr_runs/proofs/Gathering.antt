@@ -44,8 +44,8 @@ module _ {E S : Type 0} (ends : Ends E S) where
   )
 
   -- a seat that stands for one end alone has it in its view
-  pub in_own : (me : Sitting E S) (x : Known E S) → end_of me ≡ alone x.knows → past_of me.0 ≡ x.past → stored_of ends me.0 ≡ x.stored → IsInView ends me.0 x
-  in_own me x is past stored = let one : me.0.ends ≡ x.knows ∷ [] = ap (λ (m : End E). m.0) is in (
+  pub in_own : {C : Type 0} (me : Sitting C E S) (x : Known E S) → end_of me ≡ alone x.knows → past_of me.0 ≡ x.past → stored_of ends me.0 ≡ x.stored → IsInView ends me.0 x
+  in_own {C = C} me x is past stored = let one : me.0.ends ≡ x.knows ∷ [] = ap (λ (m : End C E). m.0) is in (
     0,
     subst (λ (es : List E). get_elem? (with_pasts es me.0.pasts) 0 ≡ some (x.knows, x.past)) (sym one)
         (ap (λ (p : List S). let y : E × List S = (x.knows, p) in some y) past),
@@ -61,12 +61,12 @@ each_there P (e ∷ es) (p ∷ ps) zero x A at = subst (λ (y : _). P y.0 y.1) (
 each_there P (e ∷ es) (p ∷ ps) (suc j) x A at = each_there P es ps j x A.1 at
 
 -- what the run that a view came to says of an end: its record stands, it saw a beginning, and it stored what it says
-pub record InRun {E S W : Type 0} (X : Exchange E S W) (w : W) (steps : List S) (x : Known E S) : Type 0 where
+pub record InRun {T C E S W : Type 0} (X : Exchange T C E S W) (w : W) (steps : List S) (x : Known E S) : Type 0 where
   pub stands : X.Stands w x.knows
   pub begins : IsBeginning x.past steps
   pub stores : stores_of X.ends (X.ends.number_of x.knows) steps ≡ x.stored
 
-pub in_run : {E S W : Type 0} (X : Exchange E S W) (v : View E S) (V : ViewRan X v) (x : Known E S) → IsInView X.ends v x
+pub in_run : {T C E S W : Type 0} (X : Exchange T C E S W) (v : View E S) (V : ViewRan X v) (x : Known E S) → IsInView X.ends v x
     → InRun X V.world V.reached.steps x
 in_run X v V x I =
     let both = each_there (λ e past. Saw X V.reached.steps e past × X.Stands V.world e) v.ends v.pasts I.0 (x.knows, x.past) V.each I.1 in
@@ -142,7 +142,7 @@ last_of table_of table old new seen all a of is popped =
     of (length new) a (subst (λ (xs : List _). get_elem? xs (length new) ≡ some a) is (at_longer old seen (length new) a last))
 
 -- a load that changes nothing keeps the rule
-pub compares : {E S W : Type 0} (X : Exchange E S W) (slots id word : ℕ) (me : Sitting E S)
+pub compares : {T C E S W : Type 0} (X : Exchange T C E S W) (slots id word : ℕ) (me : Sitting C E S)
     → Allows (Ruled X) slots id me word (λ n. n) (Compares X (step slots word 0 0 none) me)
 compares {E = E} {S = S} X slots id word me s R _ at _ =
     let us = set s.words word (get_or s.words word 0) in let same : us ≡ s.words = set-get_or s.words word 0 in
@@ -154,6 +154,7 @@ compares {E = E} {S = S} X slots id word me s R _ at _ =
       record {
         world = R.world;
         words = R.words ∙ sym same;
+        lies = R.lies;
         reached = R.reached;
         place = R.place;
         each_end = λ id' u there. elim (at_set s.views id id' me.0 u there) [

@@ -1,7 +1,22 @@
 -- Elements of lists, by their places.
-use Rattle.std.proofs.Common.{◌≡◌, ℕ, zero, suc, ◌+◌, ◌<◌, ◌≤◌, List, [], ◌∷◌, ◌++◌, map, length, set, take, drop, refl, sym, ap, ◌∙◌, arith}
+use Rattle.std.proofs.Common.{◌≡◌, ◌≢◌, ℕ, zero, suc, ◌+◌, ◌<◌, ◌≤◌, List, [], ◌∷◌, ◌++◌, map, length, set, take, drop, refl, sym, ap, ◌∙◌, arith}
+use Rattle.std.specs.List.{range_with_len}
 use mathlib.Core.Option.{some, some-injective, some-ne-none}
 use lib.ListN.{get_elem?}
+
+-- what stands for each of some numbers
+pub map_same : (f g : ℕ → ℕ) (a n : ℕ) → ((j : ℕ) → a ≤ j → j < a + n → f j ≡ g j) → map f (range_with_len a n) ≡ map g (range_with_len a n)
+map_same f g a zero same = refl
+map_same f g a (suc n) same = λ i. same a (omega arith) (omega arith) i ∷ map_same f g (a + 1) n (λ j low high. same j (omega arith) (omega arith)) i
+
+pub map_but : (f g : ℕ → ℕ) (a n i v : ℕ) → i < n → g (a + i) ≡ v → ((j : ℕ) → j ≢ a + i → g j ≡ f j)
+    → map g (range_with_len a n) ≡ set (map f (range_with_len a n)) i v
+map_but f g a zero i v lt here same = absurd (omega arith)
+map_but f g a (suc n) zero v lt here same = λ i.
+    (ap g (let z : a ≡ a + 0 = omega arith in z) ∙ here) i ∷ map_same g f (a + 1) n (λ j low high. same j (λ (e : j ≡ a + 0). omega arith)) i
+map_but f g a (suc n) (suc j) v lt here same = let at : a + 1 + j ≡ a + suc j = omega arith in
+    λ i. same a (λ (e : a ≡ a + suc j). omega arith) i ∷ map_but f g (a + 1) n j v (omega arith) (ap g at ∙ here)
+    (λ q ne. same q (λ (e : q ≡ a + suc j). ne (omega arith))) i
 
 module _ {A : Type 0} where
   pub no_elements : (xs : List A) → length xs ≡ 0 → xs ≡ []

@@ -1,17 +1,16 @@
 -- A step of one end keeps the rule of the table.
-use Rattle.dr_seq.specs.declared.event.Event.{Event}
 use Rattle.std.proofs.Common.{◌≡◌, ◌≢◌, ℕ, zero, suc, ◌<◌, inl, inr, ◌==◌, Bool, true, false, cond, List, [], ◌∷◌, ◌++◌, get_or, set, sym, refl, ap, ◌∙◌, subst, append_assoc}
 use Rattle.std.proofs.lemmas.Bool.{eq-eqb, ne_eqb}
 use Rattle.std.proofs.lemmas.List.{append-nil}
 use Rattle.std.proofs.lemmas.List.Elements.{filter-append}
-use mathlib.Core.Option.{some, some-injective, some-ne-none}
+use mathlib.Core.Option.{Option, some, some-injective, some-ne-none}
 use lib.ListN.{get_elem?}
-use Rattle.atomic_table.specs.Table.{keeps, Allows}
+use Rattle.atomic_table.specs.Table.{Act, keeps, carried_after, homes_after, Valid, Allows}
 use Rattle.atomic_table.proofs.Lists.{at_set}
 use Rattle.dr_core.specs.Meaning.Transcript.{Transcript}
 use Rattle.dr_runs.specs.declared.view.View.{View}
 use Rattle.dr_runs.specs.Runs.{Ends, Exchange, Runs, IsBeginning, IsReached}
-use Rattle.dr_runs.specs.Seats.{End, alone, first_past, EachPast, end_of, seat_at, past_of, stores_of, stored_of, Saw, Ruled}
+use Rattle.dr_runs.specs.Seats.{End, holding, alone, first_past, EachPast, end_of, seat_at, past_of, stores_of, stored_of, Saw, Ruled}
 
 -- what is so of each end's past
 pub each_map : {E S : Type 0} (P Q : E → List S → Type 0) (es : List E) (pasts : List (List S))
@@ -34,21 +33,21 @@ one P e p (suc j) x at = absurd (some-ne-none x (sym at))
 begins_more : {S : Type 0} (past steps : List S) (step : S) → IsBeginning past steps → IsBeginning past (steps ++ step ∷ [])
 begins_more past steps step B = (B.0 ++ step ∷ [], ap (λ (xs : List _). xs ++ step ∷ []) B.1 ∙ append_assoc past B.0 (step ∷ []))
 
-module _ {S W : Type 0} (Happens : S → W → W → Type 0) (entries_of : S → W → Transcript Event) where
-  pub runs_more : (steps : List S) (es : Transcript Event) (w u v : W) (step : S) → Runs Happens entries_of steps es w u → Happens step u v
+module _ {T S W : Type 0} (Happens : S → W → W → Type 0) (entries_of : S → W → Transcript T) where
+  pub runs_more : (steps : List S) (es : Transcript T) (w u v : W) (step : S) → Runs Happens entries_of steps es w u → Happens step u v
       → Runs Happens entries_of (steps ++ step ∷ []) (es ++ entries_of step u) w v
   runs_more [] es w u v step R H = (
     v,
     [],
     subst (λ (x : W). Happens step x v) (sym R.1) H,
-    ap (λ (xs : Transcript Event). xs ++ entries_of step u) R.0 ∙ ap (entries_of step) (sym R.1) ∙ sym (append-nil (entries_of step w)),
+    ap (λ (xs : Transcript T). xs ++ entries_of step u) R.0 ∙ ap (entries_of step) (sym R.1) ∙ sym (append-nil (entries_of step w)),
     (refl, refl),
   )
   runs_more (s ∷ steps) es w u v step R H = (
     R.0,
     R.1 ++ entries_of step u,
     R.2,
-    ap (λ (xs : Transcript Event). xs ++ entries_of step u) R.3 ∙ append_assoc (entries_of s w) R.1 (entries_of step u),
+    ap (λ (xs : Transcript T). xs ++ entries_of step u) R.3 ∙ append_assoc (entries_of s w) R.1 (entries_of step u),
     runs_more steps R.1 R.0 u v step R.4 H,
   )
 
@@ -76,7 +75,7 @@ module _ {E S : Type 0} (ends : Ends E S) where
     other = λ n ne steps. no_store_there n steps step (is n ∙ ne_eqb n end ne);
   }
 
-module _ {E S W : Type 0} (X : Exchange E S W) where
+module _ {T C E S W : Type 0} (X : Exchange T C E S W) where
   -- the place of an end, with what it stands for
   abbrev pub StandsAt : (ℕ → ℕ × ℕ) → W → ℕ → ℕ → E → Type 0
   StandsAt place w id j e = (place (X.ends.number_of e) ≡ (id, j)) × X.Stands w e
@@ -119,7 +118,7 @@ module _ {E S W : Type 0} (X : Exchange E S W) where
       λ (e : X.ends.number_of x ≡ end). ne (ap (λ (p : ℕ × ℕ). p.0) (sym (each id' v there j x at).0 ∙ ap place e ∙ here))
 
   -- and the end whose step it is has seen it, and the others what they saw
-  pasts_change : (views : List (View E S)) (steps : List S) (step : S) (id end : ℕ) (e : E) (es : Transcript Event) (u : W)
+  pasts_change : (views : List (View E S)) (steps : List S) (step : S) (id end : ℕ) (e : E) (es : Transcript T) (u : W)
       → Runs X.Happens X.entries_of (steps ++ step ∷ []) es X.opening u → X.Stands u e
       → ((n : ℕ) → n ≢ end → (steps : List S) → stores_of X.ends n (steps ++ step ∷ []) ≡ stores_of X.ends n steps)
       → ((id' : ℕ) (v : View E S) → id' ≢ id → get_elem? views id' ≡ some v → (j : ℕ) (x : E) → get_elem? v.ends j ≡ some x → X.ends.number_of x ≢ end)
@@ -135,47 +134,75 @@ module _ {E S W : Type 0} (X : Exchange E S W) where
       ]
 
 -- what a step of an end does to the world: the word i becomes n, the end's record is new, and the other ends stand
-pub record Does {E S W : Type 0} (X : Exchange E S W) (step : S) (w : W) (i n : ℕ) (e : E) : Type 0 where
+pub record Does {T C E S W : Type 0} (X : Exchange T C E S W) (step : S) (w : W) (i n : ℕ) (e : E) : Type 0 where
   pub after : W
   pub happens : X.Happens step w after
   pub words : X.words_of after ≡ set (X.words_of w) i n
   pub stands : X.Stands after e
   pub others : OthersStand X w after (X.ends.number_of e)
 
+-- and what it takes or gives of the slots
+pub record Moves {T C E S W : Type 0} (X : Exchange T C E S W) (u : W) (hand : List (ℕ × C)) (homes : List (Option C)) : Type 0 where
+  pub act : Act C
+  pub valid : Valid homes hand act
+  pub lies : X.Lies u (homes_after homes hand act)
+
+-- what a step of an end with this record does to a world in whose slots this lies, and what it tells the end
+pub record Acts {T C E S W : Type 0} (X : Exchange T C E S W) (step : S) (w : W) (i n : ℕ) (e : E) (hand : List (ℕ × C)) (homes : List (Option C)) (told : End C E → Type 0) : Type 0 where
+  pub mine : E
+  pub same : X.ends.number_of mine ≡ X.ends.number_of e
+  pub does : Does X step w i n mine
+  pub moves : Moves X does.after hand homes
+  pub tells : told (holding mine (carried_after hand moves.act))
+
 -- a step of one end, which keeps its number
-pub by_end : {E S W : Type 0} (X : Exchange E S W) (slots id : ℕ) (step : S) (grow : List S → List S) (pasts : List (List S)) (e : E) (i : ℕ) (f : ℕ → ℕ) (g : ℕ → E) (told : ℕ → End E → Type 0)
+pub by_end : {T C E S W : Type 0} (X : Exchange T C E S W) (slots id : ℕ) (step : S) (grow : List S → List S) (pasts : List (List S)) (e : E) (hand : List (ℕ × C)) (i : ℕ) (f : ℕ → ℕ) (told : ℕ → End C E → Type 0)
+    → Adds X.ends (X.ends.number_of e) step grow
+    → ((w : W) → X.Stands w e → IsReached X w → get_or (X.words_of w) i 0 < 18446744073709551616 → (homes : List (Option C)) → X.Lies w homes
+    → Acts X step w i (f (get_or (X.words_of w) i 0)) e hand homes (told (get_or (X.words_of w) i 0)))
+    → Allows (Ruled X) slots id (seat_at (holding e hand) pasts) i f (λ n me'. told n (end_of me') × IsBeginning (first_past pasts) (past_of me'.0)
+    × (stored_of X.ends me'.0 ≡ grow (stores_of X.ends (X.ends.number_of e) (first_past pasts))))
+by_end {E = E} {S = S} X slots id step grow pasts e hand i f told adds acts s R _ at small =
+    let w = R.world in let n = get_or s.words i 0 in let mine_view : View E S = record { ends = e ∷ []; pasts = pasts } in
+    let before = R.reached.steps in
+    let here : get_or (X.words_of w) i 0 ≡ n = ap (λ (us : List ℕ). get_or us i 0) R.words in
+    let mine : StandsAt X R.place w id 0 e = R.each_end id mine_view at 0 e refl in
+    let saw : Saw X before e (first_past pasts) = first_saw (Saw X before) e pasts (R.each_past id mine_view at) in
+    let A : Acts X step w i (f n) e hand s.homes (told n) = subst (λ (m : ℕ). Acts X step w i (f m) e hand s.homes (told m)) here
+    (acts w mine.1 R.reached (subst (λ (m : ℕ). m < 18446744073709551616) (sym here) small) s.homes R.lies) in
+    let D = A.does in let steps = before ++ step ∷ [] in let entries = R.reached.entries ++ X.entries_of step w in
+    let runs = runs_more X.Happens X.entries_of before R.reached.entries X.opening w D.after step R.reached.runs D.happens in (
+      record { ends = A.mine ∷ []; pasts = steps ∷ [] },
+      A.moves.act,
+      A.moves.valid,
+      record {
+        world = D.after;
+        words = D.words ∙ ap (λ (us : List ℕ). set us i (f n)) R.words;
+        lies = A.moves.lies;
+        reached = record { made = R.reached.made; steps = steps; entries = entries; runs = runs };
+        place = R.place;
+        each_end = views_change X s.views R.place w D.after id A.mine steps (ap R.place A.same ∙ mine.0) D.stands D.others R.each_end;
+        each_past = pasts_change X s.views before step id (X.ends.number_of e) A.mine entries D.after runs D.stands adds.other
+            (apart X s.views R.place w id (X.ends.number_of e) mine.0 R.each_end) R.each_past;
+      },
+      (
+        A.tells,
+        begins_more (first_past pasts) before step saw.begins,
+        ap (λ (m : ℕ). stores_of X.ends m steps) A.same ∙ adds.own before
+            ∙ ap grow (sym saw.stores),
+      ),
+    )
+
+-- the same where nothing is said of slots
+pub by_bare_end : {T C E S W : Type 0} (X : Exchange T C E S W) → ((w : W) (hs : List (Option C)) → X.Lies w hs)
+    → (slots id : ℕ) (step : S) (grow : List S → List S) (pasts : List (List S)) (e : E) (i : ℕ) (f : ℕ → ℕ) (g : ℕ → E) (told : ℕ → End C E → Type 0)
     → Adds X.ends (X.ends.number_of e) step grow
     → ((n : ℕ) → X.ends.number_of (g n) ≡ X.ends.number_of e)
     → ((w : W) → X.Stands w e → IsReached X w → get_or (X.words_of w) i 0 < 18446744073709551616
     → Does X step w i (f (get_or (X.words_of w) i 0)) (g (get_or (X.words_of w) i 0)) × told (get_or (X.words_of w) i 0) (alone (g (get_or (X.words_of w) i 0))))
     → Allows (Ruled X) slots id (seat_at (alone e) pasts) i f (λ n me'. told n (end_of me') × IsBeginning (first_past pasts) (past_of me'.0)
     × (stored_of X.ends me'.0 ≡ grow (stores_of X.ends (X.ends.number_of e) (first_past pasts))))
-by_end {E = E} {S = S} {W = W} X slots id step grow pasts e i f g told adds same does s R _ at small =
-    let w = R.world in let n = get_or s.words i 0 in let mine_view : View E S = record { ends = e ∷ []; pasts = pasts } in
-    let before = R.reached.steps in
-    let here : get_or (X.words_of w) i 0 ≡ n = ap (λ (us : List ℕ). get_or us i 0) R.words in
-    let mine : StandsAt X R.place w id 0 e = R.each_end id mine_view at 0 e refl in
-    let saw : Saw X before e (first_past pasts) = first_saw (Saw X before) e pasts (R.each_past id mine_view at) in
-    let both : Does X step w i (f n) (g n) × told n (alone (g n)) =
-    subst (λ (m : ℕ). Does X step w i (f m) (g m) × told m (alone (g m))) here (does w mine.1 R.reached (subst (λ (m : ℕ). m < 18446744073709551616) (sym here) small)) in
-    let D = both.0 in let steps = before ++ step ∷ [] in let entries = R.reached.entries ++ X.entries_of step w in
-    let runs = runs_more X.Happens X.entries_of before R.reached.entries X.opening w D.after step R.reached.runs D.happens in (
-      record { ends = g n ∷ []; pasts = steps ∷ [] },
-      keeps,
-      tt,
-      record {
-        world = D.after;
-        words = D.words ∙ ap (λ (us : List ℕ). set us i (f n)) R.words;
-        reached = record { made = R.reached.made; steps = steps; entries = entries; runs = runs };
-        place = R.place;
-        each_end = views_change X s.views R.place w D.after id (g n) steps (ap R.place (same n) ∙ mine.0) D.stands D.others R.each_end;
-        each_past = pasts_change X s.views before step id (X.ends.number_of e) (g n) entries D.after runs D.stands adds.other
-            (apart X s.views R.place w id (X.ends.number_of e) mine.0 R.each_end) R.each_past;
-      },
-      (
-        both.1,
-        begins_more (first_past pasts) before step saw.begins,
-        ap (λ (m : ℕ). stores_of X.ends m steps) (same n) ∙ adds.own before
-            ∙ ap grow (sym saw.stores),
-      ),
-    )
+by_bare_end X nothing slots id step grow pasts e i f g told adds same does =
+    by_end X slots id step grow pasts e [] i f told adds
+    (λ w at reached small homes _. let d = does w at reached small in let n = get_or (X.words_of w) i 0 in
+    record { mine = g n; same = same n; does = d.0; moves = record { act = keeps; valid = tt; lies = nothing d.0.after homes }; tells = d.1 })

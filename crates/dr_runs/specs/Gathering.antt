@@ -28,11 +28,11 @@ pub record Gathers {E S : Type 0} (ends : Ends E S) (v : View E S) (xs : List (K
   pub come : (i : ℕ) (x : Known E S) → get_elem? xs i ≡ some x → IsInView ends v' x
 
 -- the world that one run came to, of which each end of a view saw a beginning with all that it stored, and in which its record stands
-pub record ViewRan {E S W : Type 0} (X : Exchange E S W) (v : View E S) : Type 0 where
+pub record ViewRan {T C E S W : Type 0} (X : Exchange T C E S W) (v : View E S) : Type 0 where
   pub world : W
   pub reached : IsReached X world
   pub each : EachPast (λ e past. Saw X reached.steps e past × X.Stands world e) v.ends v.pasts
 
 -- a load that changes nothing, and tells what run came to the records of its seat's view and to the word that it found
-abbrev pub Compares : {E S W : Type 0} → Exchange E S W → TableStep ℕ → Sitting E S → ℕ → Sitting E S → Type 0
+abbrev pub Compares : {T C E S W : Type 0} → Exchange T C E S W → TableStep C → Sitting C E S → ℕ → Sitting C E S → Type 0
 Compares X s me n me' = (me' ≡ me) × (ran : ViewRan X me.0) × (slice_index (X.words_of ran.world) s.word ≡ n)

@@ -1,3 +1,4 @@
 pub mod Runs
 pub mod Seats
 pub mod Gathering
+pub mod Stretches

@@ -1,6 +1,6 @@
 -- An exchange by its steps, and what lists of them come to.
-use Rattle.dr_seq.specs.declared.event.Event.{Event}
 use Rattle.std.specs.Prelude.{◌≡◌, ℕ, Bool, List, [], ◌∷◌, ◌++◌}
+use mathlib.Core.Option.{Option}
 use Rattle.dr_core.specs.Meaning.Transcript.{Transcript}
 
 -- the ends of an exchange: each has a number, which its record tells, and a step may be a store by one of them
@@ -8,32 +8,34 @@ pub record Ends (E S : Type 0) : Type 0 where
   pub number_of : E → ℕ
   pub is_store_of : ℕ → S → Bool
 
--- An exchange: E is what one of its ends knows, S a step, and W a world, which is the words with what all ends know.
-pub record Exchange (E S W : Type 0) : Type 1 where
+-- An exchange of events T: C is what a slot of its table holds, E what one of its ends knows, S a step, and W a world, which is the words with what all ends know.
+pub record Exchange (T C E S W : Type 0) : Type 1 where
   pub ends : Ends E S
   -- what it was made for serves
   pub IsMade : Type 0
   pub opening : W
   pub words_of : W → List ℕ
+  -- what lies in the slots that are with no end
+  pub Lies : W → List (Option C) → Type 0
   -- the record is that of its end in the world
   pub Stands : W → E → Type 0
   -- a step leads from one world to another, and these are the entries of its events
   pub Happens : S → W → W → Type 0
-  pub entries_of : S → W → Transcript Event
+  pub entries_of : S → W → Transcript T
 
 -- a list of steps, with the entries of their events
-abbrev pub Runs : {S W : Type 0} → (S → W → W → Type 0) → (S → W → Transcript Event) → List S → Transcript Event → W → W → Type 0
+abbrev pub Runs : {T S W : Type 0} → (S → W → W → Type 0) → (S → W → Transcript T) → List S → Transcript T → W → W → Type 0
 Runs Happens entries_of [] entries w w' = (entries ≡ []) × (w ≡ w')
 Runs Happens entries_of (step ∷ steps) entries w w' =
-    (between : _) × (rest : Transcript Event) × Happens step w between × (entries ≡ entries_of step w ++ rest) × Runs Happens entries_of steps rest between w'
+    (between : _) × (rest : Transcript _) × Happens step w between × (entries ≡ entries_of step w ++ rest) × Runs Happens entries_of steps rest between w'
 
 -- some steps are the beginning of others
 abbrev pub IsBeginning : {S : Type 0} → List S → List S → Type 0
 IsBeginning past steps = (rest : List _) × (steps ≡ past ++ rest)
 
 -- some steps lead from the opening of an exchange to a world
-pub record IsReached {E S W : Type 0} (X : Exchange E S W) (w : W) : Type 0 where
+pub record IsReached {T C E S W : Type 0} (X : Exchange T C E S W) (w : W) : Type 0 where
   pub made : X.IsMade
   pub steps : List S
-  pub entries : Transcript Event
+  pub entries : Transcript T
   pub runs : Runs X.Happens X.entries_of steps entries X.opening w

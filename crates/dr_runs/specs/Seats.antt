@@ -1,5 +1,4 @@
 -- The seats that stand for the ends of an exchange, and the rule that the table of its words keeps.
-use Rattle.dr_seq.specs.declared.event.Event.{Event}
 use Rattle.std.specs.Prelude.{◌≡◌, ℕ, List, [], ◌∷◌, ◌++◌, map, filter, take, drop}
 use mathlib.Core.Option.{some}
 use lib.ListN.{get_elem?}
@@ -9,17 +8,20 @@ use Rattle.dr_core.specs.Meaning.Transcript.{Transcript}
 use Rattle.dr_runs.specs.declared.view.View.{View}
 use Rattle.dr_runs.specs.Runs.{Ends, Exchange, Runs, IsBeginning, IsReached}
 
--- what is known of the ends that a seat stands for
-abbrev pub End : Type 0 → Type 0
-End E = Me ℕ (List E)
+-- what is known of the ends that a seat stands for, with the slots that the seat has in hand
+abbrev pub End : Type 0 → Type 0 → Type 0
+End C E = Me C (List E)
 
 -- a seat: its view has the records of its ends and, for each, the run as it was at the end's last step
-abbrev pub Sitting : Type 0 → Type 0 → Type 0
-Sitting E S = Me ℕ (View E S)
+abbrev pub Sitting : Type 0 → Type 0 → Type 0 → Type 0
+Sitting C E S = Me C (View E S)
 
--- a seat that stands for one end alone
-abbrev pub alone : {E : Type 0} → E → End E
-alone e = (e ∷ [], [])
+-- a seat that stands for one end alone, and has some slots in hand or none
+abbrev pub holding : {C E : Type 0} → E → List (ℕ × C) → End C E
+holding e hand = (e ∷ [], hand)
+
+abbrev pub alone : {C E : Type 0} → E → End C E
+alone e = holding e []
 
 -- what the first end of a view saw of the run
 abbrev pub first_past : {S : Type 0} → List (List S) → List S
@@ -38,13 +40,14 @@ EachPast P [] (past ∷ pasts) = ⊥
 EachPast P (e ∷ es) [] = ⊥
 EachPast P (e ∷ es) (past ∷ pasts) = P e past × EachPast P es pasts
 
-module _ {E S : Type 0} where
-  abbrev pub end_of : Sitting E S → End E
+module _ {C E S : Type 0} where
+  abbrev pub end_of : Sitting C E S → End C E
   end_of m = (m.0.ends, m.1)
 
-  abbrev pub seat_at : End E → List (List S) → Sitting E S
+  abbrev pub seat_at : End C E → List (List S) → Sitting C E S
   seat_at e pasts = (record { ends = e.0; pasts = pasts }, e.1)
 
+module _ {E S : Type 0} where
   abbrev pub past_of : View E S → List S
   past_of v = first_past v.pasts
 
@@ -55,7 +58,7 @@ module _ {E S : Type 0} where
   abbrev pub fresh_view : List E → View E S
   fresh_view es = record { ends = es; pasts = map (λ e. []) es }
 
-  abbrev pub fresh_seat : List E → Sitting E S
+  abbrev pub fresh_seat : {C : Type 0} → List E → Sitting C E S
   fresh_seat es = (fresh_view es, [])
 
   -- a view is cut: its first record stays, and the others go to another seat
@@ -86,27 +89,28 @@ module _ {E S : Type 0} (ends : Ends E S) where
   stored_of v = stores_of (first_number v.ends) (past_of v)
 
   -- a load's play: what it tells of the end, and that it comes after all that its end saw and stored
-  abbrev pub Loads : (TableStep ℕ → End E → ℕ → End E → Type 0) → TableStep ℕ → Sitting E S → ℕ → Sitting E S → Type 0
+  abbrev pub Loads : {C : Type 0} → (TableStep C → End C E → ℕ → End C E → Type 0) → TableStep C → Sitting C E S → ℕ → Sitting C E S → Type 0
   Loads Tells s me n me' = Tells s (end_of me) n (end_of me') × IsBeginning (past_of me.0) (past_of me'.0) × (stored_of me'.0 ≡ stored_of me.0)
 
   -- a store's play: the end has stored one thing more
-  abbrev pub Stores : (TableStep ℕ → End E → ℕ → S) → (TableStep ℕ → End E → ℕ → End E → Type 0) → TableStep ℕ → Sitting E S → ℕ → Sitting E S → Type 0
+  abbrev pub Stores : {C : Type 0} → (TableStep C → End C E → ℕ → S) → (TableStep C → End C E → ℕ → End C E → Type 0) → TableStep C → Sitting C E S → ℕ → Sitting C E S → Type 0
   Stores step Tells s me n me' =
       Tells s (end_of me) n (end_of me') × IsBeginning (past_of me.0) (past_of me'.0) × (stored_of me'.0 ≡ stored_of me.0 ++ step s (end_of me) n ∷ [])
 
 -- what an end saw is the beginning of the run, came to its record, and has all that it stored
-pub record Saw {E S W : Type 0} (X : Exchange E S W) (steps : List S) (e : E) (past : List S) : Type 0 where
+pub record Saw {T C E S W : Type 0} (X : Exchange T C E S W) (steps : List S) (e : E) (past : List S) : Type 0 where
   pub begins : IsBeginning past steps
-  pub entries : Transcript Event
+  pub entries : Transcript T
   pub world : W
   pub runs : Runs X.Happens X.entries_of past entries X.opening world
   pub stands : X.Stands world e
   pub stores : stores_of X.ends (X.ends.number_of e) past ≡ stores_of X.ends (X.ends.number_of e) steps
 
--- some steps lead from the opening to a world with the table's words, and each record in each view is that of its end, which stands there alone
-pub record Ruled {E S W : Type 0} (X : Exchange E S W) (s : State ℕ (View E S)) : Type 0 where
+-- some steps lead from the opening to a world with the table's words and what lies in its slots, and each record in each view is that of its end, which stands there alone
+pub record Ruled {T C E S W : Type 0} (X : Exchange T C E S W) (s : State C (View E S)) : Type 0 where
   pub world : W
   pub words : X.words_of world ≡ s.words
+  pub lies : X.Lies world s.homes
   pub reached : IsReached X world
   -- the seat of each end, and its place in the seat's view
   pub place : ℕ → ℕ × ℕ

@@ -61,4 +61,4 @@ stands_fresh k (suc j) e at =
 
 -- a new ring keeps the rule
 pub ruled_new : (k : Shape) (ws : List ℕ) → ws ≡ replicate (words_of k) 0 → IsShape k → Ruled k (table_opening ws [] (all_ends k))
-ruled_new k ws is shape = ruled_fresh (exchange k) (fresh_ends k) (index k.senders) ws (sym is) shape (stands_fresh k)
+ruled_new k ws is shape = ruled_fresh (exchange k) (fresh_ends k) (index k.senders) ws [] (sym is) tt shape (stands_fresh k)

@@ -21,6 +21,7 @@ use Rattle.dr_core.specs.Meaning.Transcript.{Transcript, LeadsFrom}
 use Rattle.dr_ring.specs.Meaning.Moments.{entry, poll_of}
 use Rattle.dr_ring.proofs.Lists.{at_below, value_at, final_inside, there}
 use Rattle.dr_ring.proofs.Machine.{counts_below, offered_at_most, offered_more}
+use Rattle.dr_runs.proofs.Lists.{map_same, map_but}
 use Rattle.dr_senders.specs.Meaning.Shape.{Shape, handlers_of, ring_setup}
 use Rattle.dr_senders.specs.Meaning.Words.{claim_word, claimed_in, is_halted, halted_from, halt_bit, count_word, mark_start, mark_word, payload_word}
 use Rattle.dr_senders.specs.declared.record.Stage.{Stage}
@@ -78,19 +79,6 @@ keeps_runs k [] es w u R K = subst (KeepsRule k) R.1 K
 keeps_runs k (s ∷ steps) es w u R K = keeps_runs k steps R.1 R.0 u R.4 (keeps_step k s w R.0 R.2 K)
 
 -- counts by their words
-map_same : (f g : ℕ → ℕ) (a n : ℕ) → ((j : ℕ) → a ≤ j → j < a + n → f j ≡ g j) → map f (range_with_len a n) ≡ map g (range_with_len a n)
-map_same f g a zero same = refl
-map_same f g a (suc n) same = λ i. same a (omega arith) (omega arith) i ∷ map_same f g (a + 1) n (λ j low high. same j (omega arith) (omega arith)) i
-
-map_but : (f g : ℕ → ℕ) (a n i v : ℕ) → i < n → g (a + i) ≡ v → ((j : ℕ) → j ≢ a + i → g j ≡ f j)
-    → map g (range_with_len a n) ≡ set (map f (range_with_len a n)) i v
-map_but f g a zero i v lt here same = absurd (omega arith)
-map_but f g a (suc n) zero v lt here same =
-    λ i. (ap g (let z : a ≡ a + 0 = omega arith in z) ∙ here) i ∷ map_same g f (a + 1) n (λ j low high. same j (λ (e : j ≡ a + 0). omega arith)) i
-map_but f g a (suc n) (suc j) v lt here same = let at : a + 1 + j ≡ a + suc j = omega arith in
-    λ i. same a (λ (e : a ≡ a + suc j). omega arith) i ∷ map_but f g (a + 1) n j v (omega arith) (ap g at ∙ here)
-    (λ q ne. same q (λ (e : q ≡ a + suc j). ne (omega arith))) i
-
 abbrev pub counts_of : Shape → List ℕ → List ℕ
 counts_of k words = map (λ h. word_at words (count_word h)) (range_with_len 0 (handlers_of k))
 

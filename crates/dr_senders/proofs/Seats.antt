@@ -41,7 +41,7 @@ pub by_end : (k : Shape) (slots id : ℕ) (step : Step) (grow : List Step → Li
     → Allows (Ruled k) slots id (seat_at (alone e) pasts) i f (λ n me'. told n (end_of me') × IsBeginning (first_past pasts) (past_of me'.0)
     × (stored_of me'.0 ≡ grow (stores_of ring_ends (end_number e) (first_past pasts))))
 by_end k slots id step grow pasts e i f g told adds same does =
-    runs.by_end (exchange k) slots id step grow pasts e i f g told adds same (λ w at reached small. does w at (kept_of k w reached) small)
+    runs.by_bare_end (exchange k) (λ w homes. tt) slots id step grow pasts e i f g told adds same (λ w at reached small. does w at (kept_of k w reached) small)
 
 -- the other ends stand where the record of one changes
 pub but_sender : (w u : World) (r q : SenderRecord) → u.senders ≡ set w.senders r.number q → u.receivers ≡ w.receivers → u.halter ≡ w.halter

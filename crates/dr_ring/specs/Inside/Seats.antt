@@ -1,5 +1,6 @@
 -- The seats that stand for the ends of a ring, the rule that the words' table keeps, and what each kind of step tells.
 use Rattle.std.specs.Prelude.{◌≡◌, ℕ, List, [], map, ◌<◌, ◌∷◌, Some}
+use Rattle.dr_seq.specs.declared.event.Event.{Event}
 use Rattle.atomic_table.specs.Seated.{TableId}
 use Rattle.dr_ring.specs.declared.record.ReceiverRecord.{ReceiverRecord}
 use Rattle.dr_ring.specs.declared.record.EndRecord.TheVariants.{Receives, Sends, Halts}
@@ -27,10 +28,10 @@ use Rattle.dr_ring.specs.declared.record.Step.{Step}
 
 -- a seat: what is known of its ends and, with it, the run as it was at each end's last step
 abbrev pub End : Type 0
-End = seats.End EndRecord
+End = seats.End ℕ EndRecord
 
 abbrev pub Sitting : Type 0
-Sitting = seats.Sitting EndRecord Step
+Sitting = seats.Sitting ℕ EndRecord Step
 
 abbrev pub end_number : EndRecord → ℕ
 end_number (Sends r) = 0
@@ -59,12 +60,13 @@ abbrev pub IsMade : Shape → Type 0
 IsMade k = IsGraph k.upstreams × (0 < k.size)
 
 -- a ring by its steps
-abbrev pub exchange : Shape → Exchange EndRecord Step World
+abbrev pub exchange : Shape → Exchange Event ℕ EndRecord Step World
 exchange k = record {
   ends = ring_ends;
   IsMade = IsMade k;
   opening = new_world k;
   words_of = λ w. w.words;
+  Lies = λ w homes. Unit {0};
   Stands = Stands;
   Happens = Happens k;
   entries_of = entries_of k;

@@ -1,5 +1,6 @@
 -- The seats that stand for the ends of a ring, the rule that the words' table keeps, and what each kind of step tells.
 use Rattle.std.specs.Prelude.{◌≡◌, ℕ, ◌-◌, List, [], ◌∷◌, ◌++◌, map, Some}
+use Rattle.dr_seq.specs.declared.event.Event.{Event}
 use mathlib.Core.Option.{some}
 use lib.ListN.{get_elem?}
 use Rattle.atomic_table.specs.Table.{State}
@@ -27,10 +28,10 @@ use Rattle.dr_senders.specs.Meaning.Moments.{fresh_sender, fresh_senders, fresh_
 
 -- a seat: what is known of its ends and, with it, the run as it was at each end's last step
 abbrev pub End : Type 0
-End = seats.End EndRecord
+End = seats.End ℕ EndRecord
 
 abbrev pub Sitting : Type 0
-Sitting = seats.Sitting EndRecord Step
+Sitting = seats.Sitting ℕ EndRecord Step
 
 abbrev pub end_number : EndRecord → ℕ
 end_number (Halts r) = 0
@@ -51,12 +52,13 @@ Stands w (Receives r) = get_elem? w.receivers r.number ≡ some r
 Stands w (Halts r) = w.halter ≡ r
 
 -- a ring by its steps
-abbrev pub exchange : Shape → Exchange EndRecord Step World
+abbrev pub exchange : Shape → Exchange Event ℕ EndRecord Step World
 exchange k = record {
   ends = ring_ends;
   IsMade = IsShape k;
   opening = new_world k;
   words_of = λ w. w.words;
+  Lies = λ w homes. Unit {0};
   Stands = Stands;
   Happens = Happens k;
   entries_of = entries_of k;

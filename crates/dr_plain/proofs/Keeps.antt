@@ -1,0 +1,166 @@
+-- What the rule gives, and the sender's looks keep it.
+use Rattle.std.proofs.Common.{◌≡◌, ℕ, ◌+◌, ◌<◌, ◌≤◌, inl, inr, Bool, ◌==◌, if◌then◌else◌, List, [], ◌∷◌, ◌++◌, length, get_or}
+use Rattle.std.proofs.Common.{sym, refl, ◌∙◌, subst, arith}
+use Rattle.std.specs.Prelude.{Contains}
+use Rattle.std.proofs.lemmas.Bool.{cases_eq, cases_lt, eq-eqb, ne_eqb}
+use Rattle.std.proofs.lemmas.List.{get_or_past}
+use mathlib.Core.Option.{some}
+use lib.ListN.{get_elem?}
+use Rattle.dr_graph.specs.Meaning.Graph.{nobody, upstreams_of, IsOrderly, IsGated, IsGraph}
+use Rattle.dr_plain.specs.Meaning.Shape.{Shape, handlers_of}
+use Rattle.dr_plain.specs.Meaning.Words.{closed_word, halt_word, count_word, words_of}
+use Rattle.dr_plain.specs.declared.record.Look.{Look}
+use Rattle.dr_plain.specs.declared.record.Lent.{Lent}
+use Rattle.dr_plain.specs.declared.record.ReceiverRecord.{ReceiverRecord}
+use Rattle.dr_plain.specs.Meaning.Records.{claimed, look, sender_looked, halt_looked, SeesRoom}
+use Rattle.dr_plain.specs.Meaning.Rule.{World, Room, HaltAndClose, ArePast, ReceiverKept, KeepsRule}
+use Rattle.dr_plain.specs.Meaning.Steps.{sender_knows}
+use Rattle.dr_plain.proofs.Lists.{there, final_inside, contains_none, past_more, last_look_le}
+
+abbrev pub word_at : List ℕ → ℕ → ℕ
+word_at words i = get_or words i 0
+
+pub upstream_inside : (k : Shape) → IsGraph k.upstreams → (h u : ℕ) → h < handlers_of k → Contains (upstreams_of k.upstreams h) u → u < handlers_of k
+upstream_inside k graph h u lt has = let l : u < h = graph.layered h u has in omega arith
+
+-- where the words that a part speaks of stay, it stays
+pub room_stays : (k : Shape) (words us : List ℕ) (n : ℕ) → ((h : ℕ) → h < handlers_of k → word_at words (count_word h) ≤ word_at us (count_word h))
+    → Room k words n → Room k us n
+room_stays k words us n rises room f final = let a = rises f (final_inside k.upstreams f final) in let b = room f final in omega arith
+
+pub flags_stay : (words us : List ℕ) (n : ℕ) (a b c : Bool) → word_at us halt_word ≡ word_at words halt_word
+    → word_at us closed_word ≡ word_at words closed_word → HaltAndClose words n a b c → HaltAndClose us n a b c
+flags_stay words us n a b c halt close F = record {
+  halt = let f = F.halt in omega arith;
+  close = let f = F.close in omega arith;
+  by_sender = λ y. halt ∙ F.by_sender y;
+  by_halter = λ y. halt ∙ F.by_halter y;
+  closed = λ y. close ∙ F.closed y;
+  known_halt = λ y. F.known_halt (sym halt ∙ y);
+  known_close = λ y. F.known_close (sym close ∙ y);
+  complete = λ y. let d = F.complete (sym close ∙ y) in (halt ∙ d.0, d.1);
+}
+
+-- how many more are claimed at a look at halt
+pub claims_some : (found n : ℕ) → found ≡ 0 → (if found == 0 then n else 0) ≡ n
+claims_some found n e = rw (eq-eqb found 0 e) refl
+
+pub claims_none : (found n : ℕ) → (found ≡ 0 → n ≡ 0) → (if found == 0 then n else 0) ≡ 0
+claims_none found n none = elim (cases_eq found 0) [ inl e ↦ claims_some found n e ∙ none e | inr ne ↦ rw (ne_eqb found 0 ne) refl ]
+
+module _ {T : Type 0} where
+  -- what a handler completed, by its word
+  pub receiver_of_handler : (k : Shape) (w : World T) → KeepsRule k w → (h : ℕ) → h < handlers_of k
+      → (r : ReceiverRecord T) × (get_elem? w.receivers h ≡ some r) × ReceiverKept k w.words w.sender.published h r
+  receiver_of_handler k w K h lt = let count = K.ends in let t = there w.receivers h (omega arith) in (t.0, t.1, K.received h t.0 t.1)
+
+  -- completed counts fall along the graph
+  pub orderly : (k : Shape) (w : World T) → KeepsRule k w → IsOrderly k.upstreams (λ h. word_at w.words (count_word h))
+  orderly k w K h u has =
+      elim (cases_lt h (handlers_of k)) [
+        | inl lt ↦
+            let t : (r : ReceiverRecord T) × (get_elem? w.receivers h ≡ some r) × ReceiverKept k w.words w.sender.published h r = receiver_of_handler k w K h lt in
+            let c : word_at w.words (count_word h) ≡ t.0.completed = t.2.count in
+            let d : t.0.completed ≤ length t.0.received = t.2.completed in
+            let a : length t.0.received ≤ word_at w.words (count_word u) = t.2.after u has in omega arith
+        | inr past ↦ absurd (contains_none u (let e : upstreams_of k.upstreams h ≡ [] = get_or_past k.upstreams h [] past in subst (λ (ups : List ℕ). Contains ups u) e has))
+      ]
+
+  -- what leaves room for each final handler is not more than a round ahead of any handler
+  pub ahead_of_all : (k : Shape) (w : World T) (n : ℕ) → KeepsRule k w → Room k w.words n → (h : ℕ) → h < handlers_of k → n ≤ k.size + word_at w.words (count_word h)
+  ahead_of_all k w n K room h lt =
+      let g : IsGated k.upstreams nobody (λ h. word_at w.words (count_word h)) h = K.graph.gate nobody (λ h. word_at w.words (count_word h)) (orderly k w K) h lt refl in
+      let r : n ≤ k.size + word_at w.words (count_word g.last) = room g.last g.final in
+      let b : word_at w.words (count_word g.last) ≤ word_at w.words (count_word h) = g.behind in omega arith
+
+  pub above : (k : Shape) (w : World T) → KeepsRule k w → (h : ℕ) → h < handlers_of k → claimed w.sender ≤ k.size + word_at w.words (count_word h)
+  above k w K h lt = ahead_of_all k w (claimed w.sender) K K.room h lt
+
+  -- and not more than a round ahead of what is published
+  pub near_front : (k : Shape) (w : World T) (n : ℕ) → KeepsRule k w → Room k w.words n → n ≤ k.size + length w.sender.published
+  near_front k w n K room =
+      let some_one = K.graph.some in let a = ahead_of_all k w n K room 0 some_one in let t = receiver_of_handler k w K 0 some_one in
+      let d = t.2.count in let c = t.2.completed in let b = t.2.taken in omega arith
+
+  pub near : (k : Shape) (w : World T) → KeepsRule k w → claimed w.sender ≤ k.size + length w.sender.published
+  near k w K = near_front k w (claimed w.sender) K K.room
+
+  -- what the sender saw room for has room
+  pub room_seen : (k : Shape) (w : World T) (n : ℕ) → SeesRoom k w.sender n → KeepsRule k w → Room k w.words (claimed w.sender + n)
+  room_seen k w n room K f final =
+      let a = room.completed f final in let i = final_inside k.upstreams f final in
+      let b = last_look_le k w.words 0 w.sender.looks (count_word f) (omega arith) K.looks in omega arith
+
+  pub receiver_stays : (k : Shape) (words us : List ℕ) (published : List (Lent T)) (h : ℕ) (r : ReceiverRecord T) → IsGraph k.upstreams → h < handlers_of k
+      → word_at us (count_word h) ≡ word_at words (count_word h)
+      → ((u : ℕ) → u < handlers_of k → word_at words (count_word u) ≤ word_at us (count_word u))
+      → (word_at words closed_word ≡ 1 → word_at us closed_word ≡ 1) → ArePast k us r.looks
+      → ReceiverKept k words published h r → ReceiverKept k us published h r
+  receiver_stays k words us published h r graph inside same rises closes past was = record {
+    plan = was.plan;
+    number = was.number;
+    count = same ∙ was.count;
+    completed = was.completed;
+    taken = was.taken;
+    after = λ u up. (let a = was.after u up in let b = rises u (upstream_inside k graph h u inside up) in omega arith);
+    beginning = was.beginning;
+    told = λ y. (closes (was.told y).0, (was.told y).1);
+    looks = past;
+  }
+
+  -- the sender claims or looks, and stores no word
+  sender_learns : (k : Shape) (w : World T) (pending : ℕ) (looks : List Look) → length w.sender.published + pending ≤ k.limit
+      → Room k w.words (length w.sender.published + pending)
+      → HaltAndClose w.words pending w.sender.halted w.sender.closed w.halter.halted
+      → ArePast k w.words looks → KeepsRule k w
+      → KeepsRule k (sender_knows w (record w.sender { pending = pending; looks = looks }))
+  sender_learns k w pending looks limit room flags past K = record {
+    graph = K.graph;
+    some_slot = K.some_slot;
+    wide = K.wide;
+    ends = K.ends;
+    sender_plan = K.sender_plan;
+    halter_plan = K.halter_plan;
+    counts = record { cursor = K.counts.cursor; limit = limit };
+    received = K.received;
+    room = room;
+    flags = flags;
+    looks = past;
+  }
+
+  pub keeps_sender_looks : (k : Shape) (w : World T) (i : ℕ) → i < words_of k → KeepsRule k w
+      → KeepsRule k (sender_knows w (sender_looked w.sender i (word_at w.words i)))
+  keeps_sender_looks k w i lt K =
+      sender_learns k w w.sender.pending (sender_looked w.sender i (word_at w.words i)).looks K.counts.limit K.room K.flags
+      (past_more k w.words i w.sender.looks lt K.looks) K
+
+  pub keeps_halt_look : (k : Shape) (w : World T) (n : ℕ) → (0 < n → SeesRoom k w.sender n) → KeepsRule k w
+      → KeepsRule k (sender_knows w (halt_looked w.sender n (word_at w.words halt_word)))
+  keeps_halt_look k w n room K =
+      let found = word_at w.words halt_word in let F = K.flags in let old = w.sender.pending in
+      let past = past_more k w.words halt_word w.sender.looks (omega arith) K.looks in
+      let P : ℕ → Type 0 = λ pending. KeepsRule k (sender_knows w (record w.sender { pending = pending; looks = w.sender.looks ++ look halt_word found ∷ [] })) in
+      let nothing : (found ≡ 0 → n ≡ 0) → P (old + (if found == 0 then n else 0)) = λ none.
+      (let z = claims_none found n none in let e : old ≡ old + (if found == 0 then n else 0) = omega arith in
+      subst P e (sender_learns k w old (w.sender.looks ++ look halt_word found ∷ []) K.counts.limit K.room F past K)) in
+      elim (cases_eq found 0) [
+        | inr over ↦ nothing (λ e. absurd (over e))
+        | inl going ↦ elim (cases_lt 0 n) [
+          | inr none_asked ↦ nothing (λ _. omega arith)
+          | inl some_one ↦ (let r = room some_one in let z = claims_some found n going in let e : old + n ≡ old + (if found == 0 then n else 0) = omega arith in
+              let all : length w.sender.published + (old + n) ≡ claimed w.sender + n = omega arith in
+              subst P e (sender_learns k w (old + n) (w.sender.looks ++ look halt_word found ∷ []) (let l = r.limit in omega arith)
+              (subst (Room k w.words) (sym all) (room_seen k w n r K))
+              (record {
+                halt = F.halt;
+                close = F.close;
+                by_sender = F.by_sender;
+                by_halter = F.by_halter;
+                closed = F.closed;
+                known_halt = F.known_halt;
+                known_close = F.known_close;
+                complete = λ c. absurd (let h = (F.complete c).0 in omega arith);
+              })
+              past K))
+        ]
+      ]

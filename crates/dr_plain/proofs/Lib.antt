@@ -1,0 +1,17 @@
+pub mod Lists
+pub mod Lanes
+pub mod Moving
+pub mod Keeps
+pub mod Barriers
+pub mod Stores
+pub mod Beginning
+pub mod Seats
+pub mod Parts
+pub mod Allowed
+pub mod Machine
+pub mod Pictures
+pub mod Halting
+pub mod Rising
+pub mod Replies
+pub mod Later
+pub mod Writings

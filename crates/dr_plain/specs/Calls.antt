@@ -1,0 +1,4 @@
+-- What public contracts cite: what an end is, and what its calls answer and leave.
+pub mod Plans
+pub mod Finds
+pub mod Ends

@@ -1,0 +1,40 @@
+-- What an end of a ring is to its caller, and what one of its steps leaves of it.
+use Rattle.std.specs.Prelude.{◌≡◌, ℕ, min, List, [], ◌∷◌, ◌++◌, length}
+use Rattle.atomic_table.specs.Seated.{TableId}
+use Rattle.dr_cells.specs.declared.token.Token.{Token}
+use Rattle.dr_runs.specs.Runs.{IsBeginning}
+use Rattle.dr_plain.specs.declared.record.Look.{Look}
+use Rattle.dr_plain.specs.declared.record.Step.{Step}
+use Rattle.dr_plain.specs.declared.record.SenderRecord.{SenderRecord}
+use Rattle.dr_plain.specs.declared.record.ReceiverRecord.{ReceiverRecord}
+use Rattle.dr_plain.specs.declared.record.HalterRecord.{HalterRecord}
+
+-- an end: of which ring it is, what it knows, the slots that it has in hand, the run as it was at its last step, and what it has stored since the ring's opening
+pub record EndOf (T K : Type 0) : Type 0 where
+  pub ring : TableId
+  pub knows : K
+  pub hand : List (ℕ × Token T)
+  pub past : List (Step T)
+  pub stored : List (Step T)
+
+abbrev pub SenderStand : Type 0 → Type 0
+SenderStand T = EndOf T (SenderRecord T)
+
+abbrev pub ReceiverStand : Type 0 → Type 0
+ReceiverStand T = EndOf T (ReceiverRecord T)
+
+abbrev pub HalterStand : Type 0 → Type 0
+HalterStand T = EndOf T (HalterRecord T)
+
+module _ {T K : Type 0} where
+  -- an end has loaded words, knows this and has this in hand: all that it saw comes before, and it has stored nothing
+  abbrev pub HasLoaded : EndOf T K → K → List (ℕ × Token T) → EndOf T K → Type 0
+  HasLoaded e knows hand e' = (e'.ring ≡ e.ring) × (e'.knows ≡ knows) × (e'.hand ≡ hand) × IsBeginning e.past e'.past × (e'.stored ≡ e.stored)
+
+  -- an end has stored a word, knows this and has this in hand
+  abbrev pub HasStored : EndOf T K → Step T → K → List (ℕ × Token T) → EndOf T K → Type 0
+  HasStored e step knows hand e' = (e'.ring ≡ e.ring) × (e'.knows ≡ knows) × (e'.hand ≡ hand) × IsBeginning e.past e'.past × (e'.stored ≡ e.stored ++ step ∷ [])
+
+-- how many looks an end counts
+abbrev pub looks_counted : List Look → ℕ
+looks_counted looks = min (length looks) 18446744073709551615

@@ -1,0 +1,4 @@
+-- How it is kept: seats at a table, fields, and what private functions promise.
+pub mod Plans
+pub mod Seats
+pub mod Stations

@@ -1,0 +1,75 @@
+-- The rule of a ring, which holds between any two steps.
+use Rattle.std.specs.Prelude.{◌≡◌, ℕ, ◌+◌, ◌<◌, ◌≤◌, ◌⊎◌, Bool, true, List, length, take, slice_index, Contains}
+use mathlib.Core.Option.{some}
+use lib.ListN.{get_elem?}
+use Rattle.dr_graph.specs.Meaning.Graph.{upstreams_of, finals, IsGraph}
+use Rattle.dr_plain.specs.Meaning.Shape.{Shape, handlers_of}
+use Rattle.dr_plain.specs.Meaning.Words.{cursor_word, closed_word, halt_word, count_word, words_of}
+use Rattle.dr_plain.specs.Meaning.Records.{claimed}
+use Rattle.dr_plain.specs.declared.record.Look.{Look}
+use Rattle.dr_plain.specs.declared.record.Lent.{Lent}
+use Rattle.dr_plain.specs.declared.record.SenderRecord.{SenderRecord}
+use Rattle.dr_plain.specs.declared.record.ReceiverRecord.{ReceiverRecord}
+use Rattle.dr_plain.specs.declared.record.HalterRecord.{HalterRecord}
+
+-- the words of a ring, and what each end knows
+pub record World (T : Type 0) : Type 0 where
+  pub words : List ℕ
+  pub sender : SenderRecord T
+  pub receivers : List (ReceiverRecord T)
+  pub halter : HalterRecord T
+
+-- counts: the cursor is the number of published events, and what is claimed is within the limit
+pub record CountsFit (k : Shape) (words : List ℕ) (published claimed : ℕ) : Type 0 where
+  pub cursor : slice_index words cursor_word ≡ published
+  pub limit : claimed ≤ k.limit
+
+-- room: what is claimed is at most a round beyond what each final handler completed
+abbrev pub Room : Shape → List ℕ → ℕ → Type 0
+Room k words claimed = (f : ℕ) → Contains (finals k.upstreams) f → claimed ≤ k.size + slice_index words (count_word f)
+
+-- halt and close: who halted or closed the ring finds it so, and a closed ring is halted, with every claimed sequence published
+pub record HaltAndClose (words : List ℕ) (pending : ℕ) (sender_halted sender_closed halter_halted : Bool) : Type 0 where
+  pub halt : slice_index words halt_word ≤ 1
+  pub close : slice_index words closed_word ≤ 1
+  pub by_sender : sender_halted ≡ true → slice_index words halt_word ≡ 1
+  pub by_halter : halter_halted ≡ true → slice_index words halt_word ≡ 1
+  pub closed : sender_closed ≡ true → slice_index words closed_word ≡ 1
+  -- and where it is so, one of them knows it
+  pub known_halt : slice_index words halt_word ≡ 1 → (sender_halted ≡ true) ⊎ (halter_halted ≡ true)
+  pub known_close : slice_index words closed_word ≡ 1 → sender_closed ≡ true
+  pub complete : slice_index words closed_word ≡ 1 → (slice_index words halt_word ≡ 1) × (pending ≡ 0)
+
+-- looks: what was seen of a word that never falls, which is each, is not above what it is now
+pub record IsPast (k : Shape) (words : List ℕ) (x : Look) : Type 0 where
+  pub rises : x.word < words_of k
+  pub before : x.value ≤ slice_index words x.word
+
+abbrev pub ArePast : Shape → List ℕ → List Look → Type 0
+ArePast k words looks = (i : ℕ) (x : Look) → get_elem? looks i ≡ some x → IsPast k words x
+
+-- received lists: what a receiver received is the beginning of what is published; it took no more than each upstream completed, and completed no more than it took
+pub record ReceiverKept {T : Type 0} (k : Shape) (words : List ℕ) (published : List (Lent T)) (h : ℕ) (r : ReceiverRecord T) : Type 0 where
+  pub plan : r.plan ≡ k
+  pub number : r.number ≡ h
+  pub count : slice_index words (count_word h) ≡ r.completed
+  pub completed : r.completed ≤ length r.received
+  pub taken : length r.received ≤ length published
+  pub after : (u : ℕ) → Contains (upstreams_of k.upstreams h) u → length r.received ≤ slice_index words (count_word u)
+  pub beginning : r.received ≡ take (length r.received) published
+  -- who was told that the ring drained has all of it
+  pub told : r.told ≡ true → (slice_index words closed_word ≡ 1) × (length published ≤ length r.received)
+  pub looks : ArePast k words r.looks
+
+pub record KeepsRule {T : Type 0} (k : Shape) (w : World T) : Type 0 where
+  pub graph : IsGraph k.upstreams
+  pub some_slot : 0 < k.size
+  pub wide : length w.words ≡ words_of k
+  pub ends : length w.receivers ≡ handlers_of k
+  pub sender_plan : w.sender.plan ≡ k
+  pub halter_plan : w.halter.plan ≡ k
+  pub counts : CountsFit k w.words (length w.sender.published) (claimed w.sender)
+  pub received : (h : ℕ) (r : ReceiverRecord T) → get_elem? w.receivers h ≡ some r → ReceiverKept k w.words w.sender.published h r
+  pub room : Room k w.words (claimed w.sender)
+  pub flags : HaltAndClose w.words w.sender.pending w.sender.halted w.sender.closed w.halter.halted
+  pub looks : ArePast k w.words w.sender.looks

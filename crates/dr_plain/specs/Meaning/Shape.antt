@@ -1,0 +1,19 @@
+-- What a ring is made for.
+use Rattle.std.specs.Prelude.{ℕ, List, length}
+use denote.RawPtr.{Ptr}
+use Rattle.dr_core.specs.declared.mode.Mode.TheVariants.{Single}
+use Rattle.dr_core.specs.Meaning.Machine.{Setup}
+
+-- each handler's direct upstreams, the number of slots, the limit of sequences, and where the cells lie
+pub record Shape : Type 0 where
+  pub upstreams : List (List ℕ)
+  pub size : ℕ
+  pub limit : ℕ
+  pub strip : Ptr
+
+abbrev pub handlers_of : Shape → ℕ
+handlers_of k = length k.upstreams
+
+-- the machine that a ring does the work of: it has one producer
+abbrev pub ring_setup : Shape → Setup
+ring_setup k = record { upstreams = k.upstreams; size = k.size; mode = Single; limit = k.limit }

@@ -1,0 +1,111 @@
+//! The steps of a ring over its table, and what every list of them comes to.
+//!
+//! Each end has a station, which is what its steps need, and each kind of step is one function of
+//! a station (the halter's is [`halt`](crate::Halter::halt)): one load or one store of one word. Its
+//! contract gives what the end knows afterwards, and which slots it then has in hand, from what it
+//! knew before and the word loaded or stored.
+
+mod halter;
+mod plays;
+mod receiver;
+mod sender;
+
+ghost use Rattle.std.specs.Prelude.{List, Option, ℕ, ◌≡◌, ◌<◌, ◌≤◌, ◌++◌, length, slice_index};
+ghost use Rattle.dr_graph.specs.Meaning.Graph.{IsGraph};
+ghost use Rattle.dr_core.specs.Meaning.Transcript.{Transcript, LeadsTo};
+ghost use Rattle.dr_core.specs.Meaning.Laws.{Laws};
+ghost use Rattle.dr_core.specs.Meaning.Progress.{NobodyIsStuck};
+ghost use Rattle.dr_plain.specs.Meaning.Shape.{Shape, ring_setup};
+ghost use Rattle.dr_plain.specs.Meaning.Words.{halt_word};
+ghost use Rattle.dr_plain.specs.Meaning.Records.{claimed};
+ghost use Rattle.dr_plain.specs.Meaning.Rule.{World, KeepsRule};
+ghost use Rattle.dr_plain.specs.declared.record.Step.{Step};
+ghost use Rattle.dr_plain.specs.Meaning.Moments.{Runs, new_world, picture_of};
+ghost use Rattle.dr_plain.specs.Meaning.Replies.{picture_with, open_writes, OffersWhatWasThere, RepliesAsAnswered};
+ghost use Rattle.dr_plain.specs.declared.record.Lent.{Lent};
+
+use crate::plan::Plan;
+use crate::record::View;
+use atomic_table::{Seat, Shared, Table, TableRule};
+use dr_cells::Token;
+use dr_core::{every_transcript_is_lawful, nobody_is_stuck};
+pub use halter::Halter;
+pub use receiver::ReceiverStation;
+pub use sender::SenderStation;
+use std::alloc::Global;
+use std::marker::Brand;
+
+/// The rule that every step keeps.
+pub struct RingRule;
+
+impl<T> TableRule<Token<T>, View<T>, Plan<T>> for RingRule {
+    ghost use Rattle.dr_plain.specs.Inside.Seats.{Ruled, all_ends};
+
+    ghost holds = { Ruled };
+
+    ghost first = { all_ends };
+}
+
+/// The words and slots of a ring, as its ends share them.
+pub type Words<T> = Shared<Token<T>, View<T>, Plan<T>, RingRule>;
+
+/// The words and slots of a ring with their memory.
+pub type RingTable<T> = Table<Token<T>, View<T>, Plan<T>, RingRule, Global>;
+
+/// What an end steps with.
+pub type RingSeat<T> = Seat<Token<T>, View<T>>;
+
+/// What all ends of a ring share: its table, and what it was made for.
+#[derive(Drop)]
+pub(crate) struct RingBody<T> {
+    pub(crate) table: RingTable<T>,
+    pub(crate) plan: Plan<T>,
+}
+
+/// A number that a step names, for its proof alone.
+pub trait Names {
+    ghost number: { ℕ };
+
+    ghost use Rattle.std.specs.Prelude.{ℕ};
+}
+
+impl Names for Brand {
+    ghost number = { 0 };
+}
+
+/// The lendings of what a publication publishes, for its proof alone.
+pub trait Lends<T> {
+    ghost lents: { List (Lent T) };
+
+    ghost use Rattle.std.specs.Prelude.{List};
+    ghost use Rattle.dr_plain.specs.declared.record.Lent.{Lent};
+}
+
+impl<T> Lends<T> for Brand {
+    ghost use Rattle.std.specs.Prelude.{[]};
+
+    ghost lents = { [] };
+}
+
+/// Whatever steps fall in whatever order: between any two of them the rule holds, the entries of
+/// their events lead the machine to the ring's picture, in which nobody is stuck, and the
+/// transcript has the five laws. Whatever the sender wrote besides and did not publish, those writes
+/// lead the machine on to the picture with them. What an end answers by what it knows, and by what
+/// the deciding look finds, is what the machine then replies. A receiver that looked at all that its
+/// barrier goes by is offered at least what was there before. No word falls, so what the last look
+/// of a claim without room finds was so already at its first. Once a ring is halted, nothing more is
+/// claimed. It does nothing when it runs: the contract is the theorem.
+pub fn moments<T>()
+    ensures rule { (k : Shape) (steps : List (Step T)) (entries : Transcript T) (w : World T) → IsGraph k.upstreams → 0 < k.size → Runs k steps entries (new_world k) w → KeepsRule k w }
+    ensures leads { (k : Shape) (steps : List (Step T)) (entries : Transcript T) (w : World T) → IsGraph k.upstreams → 0 < k.size → Runs k steps entries (new_world k) w → LeadsTo (ring_setup k) entries (picture_of k w) }
+    ensures writes { (k : Shape) (steps : List (Step T)) (entries : Transcript T) (w : World T) → IsGraph k.upstreams → 0 < k.size → Runs k steps entries (new_world k) w → (wrote : List (Option T)) → length wrote ≡ w.sender.pending → LeadsTo (ring_setup k) (entries ++ open_writes (length w.sender.published) wrote) (picture_with k w wrote) }
+    ensures laws { (k : Shape) (steps : List (Step T)) (entries : Transcript T) (w : World T) → IsGraph k.upstreams → 0 < k.size → Runs k steps entries (new_world k) w → Laws (ring_setup k) entries }
+    ensures progress { (k : Shape) (steps : List (Step T)) (entries : Transcript T) (w : World T) → IsGraph k.upstreams → 0 < k.size → Runs k steps entries (new_world k) w → NobodyIsStuck (ring_setup k) (picture_of k w) }
+    ensures replies { (k : Shape) (steps : List (Step T)) (entries : Transcript T) (w : World T) → IsGraph k.upstreams → 0 < k.size → Runs k steps entries (new_world k) w → RepliesAsAnswered k w }
+    ensures offers { (k : Shape) (steps more : List (Step T)) (entries rest : Transcript T) (w u : World T) → IsGraph k.upstreams → 0 < k.size → Runs k steps entries (new_world k) w → Runs k more rest w u → OffersWhatWasThere k w u }
+    ensures rises { (k : Shape) (steps more : List (Step T)) (entries rest : Transcript T) (w u : World T) → IsGraph k.upstreams → 0 < k.size → Runs k steps entries (new_world k) w → Runs k more rest w u → (word : ℕ) → slice_index w.words word ≤ slice_index u.words word }
+    ensures halted { (k : Shape) (steps more : List (Step T)) (entries rest : Transcript T) (w u : World T) → IsGraph k.upstreams → 0 < k.size → Runs k steps entries (new_world k) w → Runs k more rest w u → slice_index w.words halt_word ≡ 1 → claimed u.sender ≡ claimed w.sender }
+{
+    every_transcript_is_lawful::<T>();
+    nobody_is_stuck::<T>();
+}

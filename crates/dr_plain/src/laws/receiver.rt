@@ -1,0 +1,96 @@
+//! A receiver's steps.
+
+ghost use Rattle.std.specs.Prelude.{◌≡◌, ◌≤◌, ◌++◌, List, ℕ, length, drop, Contains};
+ghost use Rattle.dr_cells.specs.declared.token.Token.{Token};
+ghost use Rattle.dr_graph.specs.Meaning.Graph.{upstreams_of};
+ghost use Rattle.dr_plain.specs.declared.record.Lent.{Lent};
+ghost use Rattle.dr_plain.specs.declared.record.Step.TheVariants.{ReceiverCompletes};
+ghost use Rattle.dr_plain.specs.Meaning.Words.{cursor_word, closed_word, count_word as count_word_of};
+ghost use Rattle.dr_plain.specs.Meaning.Records.{closed_looked, cursor_looked, receiver_looked, taken_at, completed_to};
+ghost use Rattle.dr_plain.specs.Calls.Finds.{FindsClosed, FindsEvents};
+ghost use Rattle.dr_plain.specs.Calls.Ends.{HasLoaded, HasStored};
+ghost use Rattle.dr_plain.specs.Inside.Seats.{taken_by_poll, given_by_completion};
+
+use super::plays::{Complete, LookAtClosed, LookAtCursor, LookAtUpstream};
+use super::{Names, RingBody, RingSeat};
+use crate::plan::{CLOSED_WORD, CURSOR_WORD, count_word};
+use std::alloc::Global;
+use std::marker::Model;
+use std::sync::Arc;
+
+/// What each step of a receiver needs, and how many words it looked at.
+#[derive(Drop)]
+pub struct ReceiverStation<T> {
+    pub(crate) ring: Arc<RingBody<T>, Global>,
+    pub(crate) seat: RingSeat<T>,
+    pub(crate) number: usize,
+    pub(crate) looks: u64,
+}
+
+impl<T> Model for ReceiverStation<T> {
+    ghost use Rattle.std.specs.Arc.{arc_value};
+    ghost use Rattle.dr_runs.specs.Seats.{end_of};
+    ghost use Rattle.dr_plain.specs.Calls.Ends.{ReceiverStand};
+    ghost use Rattle.dr_plain.specs.Inside.Stations.{receiver_stand, ReceiverSits};
+
+    ghost Value = { ReceiverStand T };
+
+    ghost view = { λ s. receiver_stand s.seat.table_id s.seat.me };
+
+    ghost invariant = { λ s. ReceiverSits (arc_value s.ring).table.shared.table_id s.seat.table_id (arc_value s.ring).plan (end_of s.seat.me) s.number s.looks };
+}
+
+impl<T> ReceiverStation<T> {
+    /// The direct upstreams of the handler.
+    pub fn upstreams(&self) -> &[usize]
+        ensures { result.now ≡ upstreams_of self.now.knows.plan.upstreams self.now.knows.number }
+    {
+        self.ring.plan.upstreams(self.number)
+    }
+
+    /// A receiver looks at closed.
+    pub fn look_at_closed(&mut self) -> u64
+        ensures step { HasLoaded self.old (closed_looked self.old.knows result) self.old.hand self.new }
+        ensures finds { FindsClosed self.old.knows closed_word result }
+    {
+        self.looks = self.looks.saturating_add(1);
+        let words = &self.ring.table.shared;
+        words.load::<LookAtClosed>(&mut self.seat, CLOSED_WORD)
+    }
+
+    /// A receiver looks at the cursor, by which it may be told that the ring drained, and takes
+    /// what its barrier then lets through, as far as it saw, at most `room` events.
+    pub fn look_at_cursor<J: Names>(&mut self, room: u64) -> u64
+        requires named { room ≡ J.number }
+        ensures step { (lents : List (Lent T)) × (length lents ≡ taken_at self.old.knows cursor_word result room) × HasLoaded self.old (cursor_looked self.old.knows result lents) (taken_by_poll self.old.knows lents ++ self.old.hand) self.new }
+        ensures finds { FindsEvents self.old.knows cursor_word result }
+    {
+        self.looks = self.looks.saturating_add(1);
+        let words = &self.ring.table.shared;
+        words.load::<LookAtCursor<J>>(&mut self.seat, CURSOR_WORD)
+    }
+
+    /// A receiver looks at the count of one of its upstreams, and takes as at the cursor.
+    pub fn look_at_count<J: Names>(&mut self, upstream: usize, room: u64) -> u64
+        requires named { room ≡ J.number }
+        requires upstream { Contains (upstreams_of self.old.knows.plan.upstreams self.old.knows.number) upstream }
+        ensures step { (lents : List (Lent T)) × (length lents ≡ taken_at self.old.knows (count_word_of upstream) result room) × HasLoaded self.old (receiver_looked self.old.knows (count_word_of upstream) result lents) (taken_by_poll self.old.knows lents ++ self.old.hand) self.new }
+        ensures finds { FindsEvents self.old.knows (count_word_of upstream) result }
+    {
+        self.looks = self.looks.saturating_add(1);
+        let words = &self.ring.table.shared;
+        words.load::<LookAtUpstream<J>>(&mut self.seat, count_word(upstream))
+    }
+
+    /// A receiver stores its count, and gives back its parts of the events that it has completed
+    /// with it, which it has in hand in front of all else.
+    pub fn complete(&mut self, upto: u64)
+        requires rises { self.old.knows.completed ≤ upto }
+        requires taken { upto ≤ length self.old.knows.received }
+        requires hand { (rest : List (ℕ × Token T)) × (self.old.hand ≡ given_by_completion self.old.knows upto ++ rest) }
+        ensures { HasStored self.old (ReceiverCompletes self.old.knows.number upto) (completed_to self.old.knows upto) (drop (length (given_by_completion self.old.knows upto)) self.old.hand) self.new }
+    {
+        let words = &self.ring.table.shared;
+        words.store::<Complete>(&mut self.seat, count_word(self.number), upto);
+    }
+}

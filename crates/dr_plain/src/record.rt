@@ -1,0 +1,92 @@
+//! What the ends of a ring know. No value of a record is ever made: they stand in proofs alone.
+
+use crate::plan::Plan;
+use std::collections::LinkedList;
+
+/// A load of a word that another end stores: which word, and what was found.
+pub struct Look {
+    pub word: u64,
+    pub value: u64,
+}
+
+/// An event as it was lent to all handlers: which lending of its cell, and the event.
+pub struct Lent<T> {
+    pub round: u64,
+    pub event: T,
+}
+
+/// What the sender knows: which events it published, each as it was lent, how many sequences it claimed past them, whether it halted or closed the ring, and
+/// what it saw.
+pub struct SenderRecord<T> {
+    pub plan: Plan<T>,
+    pub published: LinkedList<Lent<T>>,
+    pub pending: u64,
+    pub halted: bool,
+    pub closed: bool,
+    pub looks: LinkedList<Look>,
+}
+
+/// What a receiver knows: its number, the events that it received, each as it was lent, how many it
+/// completed, whether it was told that the ring drained, and what it saw.
+pub struct ReceiverRecord<T> {
+    pub plan: Plan<T>,
+    pub number: u64,
+    pub received: LinkedList<Lent<T>>,
+    pub completed: u64,
+    pub told: bool,
+    pub looks: LinkedList<Look>,
+}
+
+/// What the halter knows: whether it halted the ring.
+pub struct HalterRecord<T> {
+    pub plan: Plan<T>,
+    pub halted: bool,
+}
+
+/// What one of the ends knows.
+pub enum EndRecord<T> {
+    Sends(SenderRecord<T>),
+    Receives(ReceiverRecord<T>),
+    Halts(HalterRecord<T>),
+}
+
+/// A step of a ring: one load or one store of one word, with what no record tells of it.
+pub enum Step<T> {
+    /// The sender looks at the count of a final handler.
+    SenderLooksAtCount {
+        handler: u64,
+    },
+    /// The sender looks at halt and, where it finds 0, claims so many sequences more.
+    SenderLooksAtHalt {
+        more: u64,
+    },
+    /// The sender stores the cursor, and so publishes these events.
+    SenderPublishes {
+        events: LinkedList<T>,
+    },
+    SenderHalts,
+    SenderCloses,
+    ReceiverLooksAtClosed {
+        handler: u64,
+    },
+    /// A receiver looks at the cursor and takes what its barrier then lets through, at most so many.
+    ReceiverLooksAtCursor {
+        handler: u64,
+        room: u64,
+    },
+    /// A receiver looks at an upstream's count, and takes as at the cursor.
+    ReceiverLooksAtCount {
+        handler: u64,
+        upstream: u64,
+        room: u64,
+    },
+    /// A receiver stores its count.
+    ReceiverCompletes {
+        handler: u64,
+        upto: u64,
+    },
+    HalterHalts,
+}
+
+/// What a seat of a ring stands for.
+pub type View<T> = dr_runs::View<EndRecord<T>, Step<T>>;
