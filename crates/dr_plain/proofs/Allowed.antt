@@ -32,7 +32,7 @@ use Rattle.dr_plain.specs.Inside.Seats.{End, Hand, Sitting, Tells, ring_ends, Lo
 use Rattle.dr_plain.specs.Inside.Seats.{lent_all, taken_by_claim, given_by_publication, taken_by_poll, given_by_completion, SenderLookedAtCount, SenderLookedAtHalt, SenderPublished, SenderHalted, SenderClosed}
 use Rattle.dr_plain.specs.Inside.Seats.{ReceiverLookedAtClosed, ReceiverLookedAtCursor, ReceiverLookedAtCount, ReceiverCompleted, HalterHalted}
 use Rattle.dr_plain.proofs.Lists.{at_below, final_inside, last_look_le}
-use Rattle.dr_plain.proofs.Keeps.{receiver_of_handler, upstream_inside}
+use Rattle.dr_plain.proofs.Keeps.{receiver_of_handler, upstream_inside, above}
 use Rattle.dr_plain.proofs.Barriers.{next_count}
 use Rattle.dr_plain.proofs.Stores.{offers_taken}
 use Rattle.dr_plain.proofs.Parts.{MovesTo, claim_moves, publication_moves, poll_moves, completion_moves}
@@ -226,6 +226,12 @@ module _ {T : Type 0} where
         tells = tells (next_count w r m offer.published);
       }
 
+  -- nothing is published more than a round beyond what a receiver completed
+  round_ahead : (k : Shape) (w : World T) (r : ReceiverRecord T) → get_elem? w.receivers r.number ≡ some r → KeepsRule k w → length w.sender.published ≤ r.plan.size + r.completed
+  round_ahead k w r at K =
+      let was = K.received r.number r at in let a = above k w K r.number (inside_of k w r.number r at K) in let count = was.count in
+      let size = ap (λ (p : Shape). p.size) was.plan in omega arith
+
   pub receiver_looks_at_cursor : (k : Shape) {slots : ℕ} (id : ℕ) (me : Sitting T) (room m : ℕ) → room ≡ m → IsReceiver (end_of me)
       → MayLoad k slots id me cursor_word (ReceiverLookedAtCursor m)
   receiver_looks_at_cursor k {slots = slots} id me room m named is =
@@ -237,7 +243,7 @@ module _ {T : Type 0} where
       let was = K.received r.number r at in let t = was.taken in let c = K.counts.cursor in
       receiver_acts k w cursor_word room (ReceiverLooksAtCursor r.number room) r (cursor_looked r n more) me.1 homes
       (ReceiverLookedAtCursor room (step slots cursor_word 0 0 none) (as_receiver r me.1) n) (omega arith) at K lies refl (r, at, refl)
-      (λ count. (more, count, refl, (last_look_le k w.words 0 r.looks cursor_word (omega arith) was.looks, omega arith, λ told. (let d = (was.told told).1 in omega arith)))))))
+      (λ count. (more, count, refl, (last_look_le k w.words 0 r.looks cursor_word (omega arith) was.looks, omega arith, λ told. (let d = (was.told told).1 in omega arith), (let near = round_ahead k w r at K in omega arith)))))))
 
   -- what a look at an upstream's count tells
   tells_count : (k : Shape) (w : World T) (r : ReceiverRecord T) (u : ℕ) → get_elem? w.receivers r.number ≡ some r
@@ -246,7 +252,7 @@ module _ {T : Type 0} where
   tells_count k w r u at has K =
       let was = K.received r.number r at in let inside = upstream_inside k K.graph r.number u (inside_of k w r.number r at K) has in
       let t = receiver_of_handler k w K u inside in let a = t.2.count in let b = t.2.completed in let c = t.2.taken in
-      (inside, (last_look_le k w.words 0 r.looks (count_word u) (omega arith) was.looks, was.after u has, λ told. (let d = (was.told told).1 in omega arith)))
+      (inside, (last_look_le k w.words 0 r.looks (count_word u) (omega arith) was.looks, was.after u has, λ told. (let d = (was.told told).1 in omega arith), (let near = round_ahead k w r at K in omega arith)))
 
   pub receiver_looks_at_count : (k : Shape) {slots : ℕ} (id : ℕ) (me : Sitting T) (i u room m : ℕ) → room ≡ m → i ≡ count_word u → IsReceiver (end_of me)
       → (let r : ReceiverRecord T = receiver_of me.0.ends in Contains (upstreams_of r.plan.upstreams r.number) u)

@@ -15,3 +15,8 @@ pub mod Rising
 pub mod Replies
 pub mod Later
 pub mod Writings
+pub mod Making
+pub mod Opened
+pub mod Dealing
+pub mod Trading
+pub mod Stations

@@ -1,6 +1,6 @@
 -- Lists, words and looks.
 use Rattle.std.proofs.Common.{◌≡◌, ◌≢◌, ℕ, zero, suc, ◌<◌, ◌≤◌, inl, inr, List, [], ◌∷◌, ◌++◌, length, get_or}
-use Rattle.std.proofs.Common.{set, sym, refl, subst, arith, get_or-set_same, get_or-set_other, ◌==◌, if◌then◌else◌}
+use Rattle.std.proofs.Common.{set, sym, refl, ap, ◌∙◌, subst, arith, get_or-set_same, get_or-set_other, ◌==◌, if◌then◌else◌}
 use Rattle.std.specs.Prelude.{Contains}
 use Rattle.std.proofs.lemmas.Bool.{cases_eq, eq-eqb, ne_eqb}
 use mathlib.Core.Option.{some, some-injective, some-ne-none}
@@ -28,6 +28,10 @@ pub value_at : {A : Type 0} (l : List A) (i : ℕ) (a d : A) → get_elem? l i �
 value_at [] i a d e = absurd (some-ne-none a (sym e))
 value_at (x ∷ xs) zero a d e = some-injective x a e
 value_at (x ∷ xs) (suc i) a d e = value_at xs i a d e
+
+-- an element inside a list is there whatever stands for one past its end
+pub at_index : {A : Type 0} (l : List A) (i : ℕ) (a : A) → i < length l → a ≡ get_or l i a → get_elem? l i ≡ some a
+at_index l i a lt e = let t = there l i lt in t.1 ∙ ap some (sym (e ∙ value_at l i t.0 a t.1))
 
 pub each_set : {A : Type 0} (P : ℕ → A → Type 0) (l : List A) (h : ℕ) (r : A) → P h r → ((j : ℕ) (q : A) → j ≢ h → get_elem? l j ≡ some q → P j q)
     → (j : ℕ) (q : A) → get_elem? (set l h r) j ≡ some q → P j q

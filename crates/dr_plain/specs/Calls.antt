@@ -2,3 +2,8 @@
 pub mod Plans
 pub mod Finds
 pub mod Ends
+pub mod Fault
+pub mod Making
+pub mod Settling
+pub mod Sending
+pub mod Receiving

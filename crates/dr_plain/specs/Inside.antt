@@ -2,3 +2,9 @@
 pub mod Plans
 pub mod Seats
 pub mod Stations
+pub mod Noted
+pub mod Fits
+pub mod Views
+pub mod Making
+pub mod Hands
+pub mod Trades

@@ -2,9 +2,22 @@
 //! on a thread of its own. An event lies once in memory, and tokens of it travel.
 #![tactic(auto)]
 
+mod dealt;
+mod exchanges;
+pub mod fault;
 pub mod laws;
+mod opening;
 mod plan;
+pub mod receiver;
 pub mod record;
+pub mod sender;
+pub mod settled;
+mod written;
 
+pub use fault::RingFault;
 pub use laws::Halter;
+pub use opening::ring;
 pub use plan::{Plan, copy_upstreams};
+pub use receiver::Receiver;
+pub use sender::Sender;
+pub use settled::HandlerCounts;

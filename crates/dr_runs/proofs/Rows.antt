@@ -14,12 +14,12 @@ module _ {A : Type 0} where
   at_within (x ∷ xs) zero a at = omega arith
   at_within (x ∷ xs) (suc i) a at = let lt = at_within xs i a at in omega arith
 
-  at_replicate : (n i : ℕ) (a b : A) → get_elem? (replicate n a) i ≡ some b → a ≡ b
+  pub at_replicate : (n i : ℕ) (a b : A) → get_elem? (replicate n a) i ≡ some b → a ≡ b
   at_replicate zero i a b at = absurd (some-ne-none b (sym at))
   at_replicate (suc n) zero a b at = some-injective a b at
   at_replicate (suc n) (suc i) a b at = at_replicate n i a b at
 
-  replicate_at : (n i : ℕ) (a : A) → i < n → get_elem? (replicate n a) i ≡ some a
+  pub replicate_at : (n i : ℕ) (a : A) → i < n → get_elem? (replicate n a) i ≡ some a
   replicate_at zero i a lt = absurd (omega arith)
   replicate_at (suc n) zero a lt = refl
   replicate_at (suc n) (suc i) a lt = replicate_at n i a (omega arith)

@@ -1,8 +1,12 @@
 -- What an end of a ring is to its caller, and what one of its steps leaves of it.
-use Rattle.std.specs.Prelude.{◌≡◌, ℕ, min, List, [], ◌∷◌, ◌++◌, length}
+use Rattle.std.specs.Prelude.{◌≡◌, ℕ, min, Option, List, [], ◌∷◌, ◌++◌, length, Result, Ok, Err}
 use Rattle.atomic_table.specs.Seated.{TableId}
 use Rattle.dr_cells.specs.declared.token.Token.{Token}
+use Rattle.dr_core.specs.Calls.Ends.{Sent, Received}
 use Rattle.dr_runs.specs.Runs.{IsBeginning}
+use Rattle.dr_plain.specs.Meaning.Shape.{Shape}
+use Rattle.dr_plain.specs.Meaning.Words.{count_word}
+use Rattle.dr_plain.specs.Meaning.Records.{look, events_of}
 use Rattle.dr_plain.specs.declared.record.Look.{Look}
 use Rattle.dr_plain.specs.declared.record.Step.{Step}
 use Rattle.dr_plain.specs.declared.record.SenderRecord.{SenderRecord}
@@ -35,6 +39,58 @@ module _ {T K : Type 0} where
   abbrev pub HasStored : EndOf T K → Step T → K → List (ℕ × Token T) → EndOf T K → Type 0
   HasStored e step knows hand e' = (e'.ring ≡ e.ring) × (e'.knows ≡ knows) × (e'.hand ≡ hand) × IsBeginning e.past e'.past × (e'.stored ≡ e.stored ++ step ∷ [])
 
+-- the sender as its caller sees it: with what was written of each sequence that is claimed and not published, and what lies in each cell
+pub record SenderEnd (T : Type 0) : Type 0 where
+  pub ring : TableId
+  pub knows : SenderRecord T
+  pub writes : List (Option T)
+  pub cells : List (Option T)
+  pub past : List (Step T)
+  pub stored : List (Step T)
+
+-- a receiver as its caller sees it
+pub record ReceiverEnd (T : Type 0) : Type 0 where
+  pub ring : TableId
+  pub knows : ReceiverRecord T
+  pub past : List (Step T)
+  pub stored : List (Step T)
+
 -- how many looks an end counts
 abbrev pub looks_counted : List Look → ℕ
 looks_counted looks = min (length looks) 18446744073709551615
+
+-- looks at words of some handlers, in their order, as far as there are values
+abbrev pub looks_at : (ℕ → ℕ) → List ℕ → List ℕ → List Look
+looks_at word_of [] values = []
+looks_at word_of (h ∷ hs) [] = []
+looks_at word_of (h ∷ hs) (n ∷ values) = look (word_of h) n ∷ looks_at word_of hs values
+
+-- looks at the counts of some handlers
+abbrev pub count_looks : List ℕ → List ℕ → List Look
+count_looks hs counts = looks_at count_word hs counts
+
+-- a call that is not refused stores this and nothing else, and a refused one nothing
+abbrev pub StoresWhereOk : {A E S : Type 0} → List S → List S → List S → Result A E → Type 0
+StoresWhereOk stored steps stored' (Ok _) = stored' ≡ stored ++ steps
+StoresWhereOk stored steps stored' (Err _) = stored' ≡ stored
+
+-- which end it is: of which ring, made for what, and a receiver's number
+abbrev pub SenderPlace : Type 0
+SenderPlace = TableId × Shape
+
+abbrev pub ReceiverPlace : Type 0
+ReceiverPlace = TableId × Shape × ℕ
+
+module _ {T : Type 0} where
+  abbrev pub sender_place : SenderEnd T → SenderPlace
+  sender_place e = (e.ring, e.knows.plan)
+
+  abbrev pub receiver_place : ReceiverEnd T → ReceiverPlace
+  receiver_place e = (e.ring, e.knows.plan, e.knows.number)
+
+  -- what a sender sent, and what a receiver received
+  abbrev pub sent_of : SenderEnd T → Sent T
+  sent_of e = record { published = events_of e.knows.published; pending = e.writes }
+
+  abbrev pub received_of : ReceiverEnd T → Received T
+  received_of e = record { events = events_of e.knows.received; completed = e.knows.completed }

@@ -1,0 +1,24 @@
+use Rattle.std.proofs.Common.{ℕ, ◌+◌, arith, refl, ap, ◌∙◌}
+use Rattle.dr_plain.proofs.Lists.{at_below}
+use Rattle.dr_plain.proofs.Dealing.{dealt_none, dealt_more, token_is}
+use Rattle.dr_plain.proofs.dealt.deal.Goals as goal
+
+pub loop-place-init : goal.loop-place-init
+loop-place-init g c = (c.requires.0, c.requires.1, dealt_none _ _ _ _ refl c.requires.2)
+
+pub take-requires : goal.take-requires
+take-requires g c = let D = c.loop-place.invariant.2 in let many = D.many in let lt = c.loop-place-test.true in let end = c.loop-place.auto.place-end in omega arith
+
+pub loop-place-preserved : goal.loop-place-preserved
+loop-place-preserved g c =
+    let inv = c.loop-place.invariant in let first = c.take.ensures.first in (
+      c.take.ensures.rest.0 ∙ inv.0,
+      c.take.ensures.rest.1 ∙ ap (λ (n : ℕ). n + 1) inv.1,
+      dealt_more _ _ c.loop-place.place _ _ _ _ _ _ first.0 inv.2 first.1
+          (token_is _ _ _ _ (first.2.0 ∙ inv.0, first.2.1 ∙ inv.1) first.3) c.put_at.ensures.row,
+    )
+
+pub returns-clause-each : goal.returns-clause-each
+returns-clause-each g c i x at =
+    let D = c.loop-place.invariant.2 in let lt = at_below c.args.row.items i x at in let many = c.requires.2 in
+    let done = c.loop-place-test.false in let end = c.loop-place.auto.place-end in D.each i x (omega arith) at

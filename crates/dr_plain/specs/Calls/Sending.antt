@@ -1,0 +1,122 @@
+-- What each call of the sender answers, and what it leaves of what the sender knows.
+use Rattle.std.specs.Prelude.{◌≡◌, ℕ, ◌+◌, ◌%◌, ◌^◌, ◌<◌, ◌≤◌, ◌⊎◌, ◌==◌, ◌||◌, nat_lt, List, [], ◌∷◌, ◌++◌, length, drop, slice_index, slice_set, Option, Some, Result, Ok, Err}
+use Rattle.dr_seq.specs.Size.{IsSize}
+use Rattle.dr_core.specs.declared.refusal.Refusal.{Refusal}
+use Rattle.dr_core.specs.declared.refusal.Refusal.TheVariants.{NoRoom, Halted, BadCount, Exhausted, OpenClaim}
+use Rattle.dr_core.specs.declared.command.Claimed.{Claimed}
+use Rattle.dr_core.specs.Meaning.Refusals.{ClaimTests, claim_causes}
+use Rattle.dr_core.specs.Calls.Ends.{Verdict, Exactly, IsAnswerOf, claim_tests, GivesStretch, WriteAnswers, PublishAnswers, Claims, Writes, Publishes, as_end}
+use Rattle.dr_graph.specs.Meaning.Graph.{finals}
+use Rattle.dr_plain.specs.Meaning.Words.{halt_word}
+use Rattle.dr_plain.specs.declared.record.Look.{Look}
+use Rattle.dr_plain.specs.declared.record.SenderRecord.{SenderRecord}
+use Rattle.dr_plain.specs.declared.record.Step.TheVariants.{SenderPublishes, SenderHalts, SenderCloses}
+use Rattle.dr_runs.specs.Runs.{IsBeginning}
+use Rattle.dr_plain.specs.Calls.Ends.{SenderEnd, sender_place, sent_of, count_looks, StoresWhereOk}
+use Rattle.dr_plain.specs.Meaning.Records.{claimed, events_of, look, sender_halted, sender_closed}
+
+module _ {T : Type 0} where
+  -- a claim looks at the finals' counts in rising order
+  abbrev pub gate_looks : SenderRecord T → List ℕ → List Look
+  gate_looks r counts = count_looks (finals r.plan.upstreams) counts
+
+  -- a count leaves room for n more
+  abbrev pub LeavesRoom : SenderRecord T → ℕ → ℕ → Type 0
+  LeavesRoom r n count = claimed r + n ≤ r.plan.size + count
+
+  -- there is room for n more: the sender looked at no final, since what it remembered leaves room, or at each of them, and each leaves room
+  pub record FoundRoom (r : SenderRecord T) (n : ℕ) (counts : List ℕ) : Type 0 where
+    pub all : (counts ≡ []) ⊎ (length counts ≡ length (finals r.plan.upstreams))
+    pub room : (i : ℕ) → i < length counts → LeavesRoom r n (slice_index counts i)
+
+  -- there is none: the last count at which the sender looked is the first that leaves no room
+  pub record FoundNoRoom (r : SenderRecord T) (n : ℕ) (counts : List ℕ) : Type 0 where
+    pub before : ℕ
+    pub last : length counts ≡ before + 1
+    pub among : length counts ≤ length (finals r.plan.upstreams)
+    pub room : (i : ℕ) → i < before → LeavesRoom r n (slice_index counts i)
+    pub behind : r.plan.size + slice_index counts before < claimed r + n
+
+  -- the last look found the ring halted, though the first did not, and though limit and room allow the claim
+  pub record HaltedLate (r : SenderRecord T) (n : ℕ) (seen : List Look) : Type 0 where
+    pub limit : claimed r + n ≤ r.plan.limit
+    pub counts : List ℕ
+    pub room : FoundRoom r n counts
+    pub saw : seen ≡ look halt_word 0 ∷ gate_looks r counts ++ look halt_word 1 ∷ []
+
+  -- The refusals of each call are the machine's, in its order. There is one producer, and no handler retires, so all tests are known but those that rest on what a claim finds at its looks.
+
+  -- a ring tells more of a claim's tests than an end: its size and its limit are known
+  abbrev pub tests_of_claim : SenderEnd T → ℕ → ClaimTests Verdict
+  tests_of_claim e n = record (claim_tests (Some (sent_of e)) n) {
+    bad_count = Exactly ((n == 0) || nat_lt e.knows.plan.size n);
+    exhausted = Exactly (nat_lt e.knows.plan.limit (claimed e.knows + n));
+  }
+
+  -- where a claim looked, and what it found: at halt first, then at the finals' counts where what it remembers leaves no room, and at halt again, by which it is decided
+  abbrev pub LooksToClaim : SenderRecord T → ℕ → List Look → Result Claimed Refusal → Type 0
+  LooksToClaim r n seen (Ok c) = (counts : List ℕ) × FoundRoom r n counts × (seen ≡ look halt_word 0 ∷ gate_looks r counts ++ look halt_word 0 ∷ [])
+  LooksToClaim r n seen (Err BadCount) = seen ≡ []
+  LooksToClaim r n seen (Err Halted) = (seen ≡ look halt_word 1 ∷ []) ⊎ HaltedLate r n seen
+  LooksToClaim r n seen (Err Exhausted) = seen ≡ look halt_word 0 ∷ []
+  LooksToClaim r n seen (Err NoRoom) = (counts : List ℕ) × FoundNoRoom r n counts × (seen ≡ look halt_word 0 ∷ gate_looks r counts)
+  LooksToClaim r n seen (Err other) = ⊥
+
+  -- the call changes what is sent, and what was looked at
+  pub record TriesToClaim (e : SenderEnd T) (n : ℕ) (e' : SenderEnd T) (result : Result Claimed Refusal) : Type 0 where
+    pub answer : IsAnswerOf (claim_causes (tests_of_claim e n)) (as_end result)
+    pub stretch : GivesStretch n (as_end result)
+    pub sent : Claims n (as_end result) (sent_of e) (sent_of e')
+    pub seen : List Look
+    pub looks : LooksToClaim e.knows n seen result
+    pub only : e'.knows ≡ record e.knows { pending = e'.knows.pending; looks = e.knows.looks ++ seen }
+    pub counted : e'.knows.pending ≡ length e'.writes
+    pub cells : e'.cells ≡ e.cells
+    -- so no sequence reaches 2^62, and no claim is of more than 65,536
+    pub few : e.knows.plan.limit ≤ 2 ^ 62
+    pub size : IsSize e.knows.plan.size
+
+  -- what lies in the cells once an event is written
+  abbrev pub written_where_ok : List (Option T) → ℕ → T → Result (Unit {0}) Refusal → List (Option T)
+  written_where_ok cells s event (Ok _) = slice_set cells (s % length cells) (Some event)
+  written_where_ok cells s event (Err _) = cells
+
+  -- what is written of open sequences changes, and what lies in their cells
+  pub record TriesToWrite (e : SenderEnd T) (s : ℕ) (event : T) (e' : SenderEnd T) (result : Result (Unit {0}) Refusal) : Type 0 where
+    pub answer : WriteAnswers (Some (sent_of e)) s (as_end result)
+    pub sent : Writes s event (as_end result) (sent_of e) (sent_of e')
+    pub cells : e'.cells ≡ written_where_ok e.cells s event result
+    pub only : e'.knows ≡ e.knows
+
+  pub record TriesToPublish (e : SenderEnd T) (lo hi : ℕ) (e' : SenderEnd T) (result : Result (Unit {0}) Refusal) : Type 0 where
+    pub answer : PublishAnswers (Some (sent_of e)) lo hi (as_end result)
+    pub sent : Publishes lo hi (as_end result) (sent_of e) (sent_of e')
+    pub cells : e'.cells ≡ e.cells
+    pub only : e'.knows ≡ record e.knows { published = e'.knows.published; pending = e'.knows.pending }
+    -- each lending stays as it was
+    pub more : IsBeginning e.knows.published e'.knows.published
+
+  -- a ring is closed once every claimed sequence is published; halt is stored first
+  abbrev pub TriesToClose : SenderRecord T → SenderRecord T → Result (Unit {0}) Refusal → Type 0
+  TriesToClose r r' (Ok _) = (r.pending ≡ 0) × (r' ≡ sender_closed (sender_halted r))
+  TriesToClose r r' (Err OpenClaim) = (0 < r.pending) × (r' ≡ r)
+  TriesToClose r r' (Err _) = ⊥
+
+  -- Each call whole: the end stays where it is, answers by what it knows, and stores this where it is not refused and nothing else, and all that it saw before comes first.
+  abbrev pub Call : SenderEnd T → SenderEnd T → Type 0
+  Call e e' = (sender_place e' ≡ sender_place e) × IsBeginning e.past e'.past
+
+  abbrev pub ClaimCall : SenderEnd T → ℕ → SenderEnd T → Result Claimed Refusal → Type 0
+  ClaimCall e n e' result = Call e e' × TriesToClaim e n e' result × (e'.stored ≡ e.stored)
+
+  abbrev pub WriteCall : SenderEnd T → ℕ → T → SenderEnd T → Result (Unit {0}) Refusal → Type 0
+  WriteCall e s event e' result = Call e e' × TriesToWrite e s event e' result × (e'.stored ≡ e.stored)
+
+  -- a publication stores the events that it publishes
+  abbrev pub PublishCall : SenderEnd T → ℕ → ℕ → SenderEnd T → Result (Unit {0}) Refusal → Type 0
+  PublishCall e lo hi e' result =
+      Call e e' × TriesToPublish e lo hi e' result × StoresWhereOk e.stored (SenderPublishes (drop (length e.knows.published) (events_of e'.knows.published)) ∷ []) e'.stored result
+
+  abbrev pub CloseCall : SenderEnd T → SenderEnd T → Result (Unit {0}) Refusal → Type 0
+  CloseCall e e' result =
+      Call e e' × TriesToClose e.knows e'.knows result × (e'.writes ≡ e.writes) × (e'.cells ≡ e.cells) × StoresWhereOk e.stored (SenderHalts ∷ SenderCloses ∷ []) e'.stored result
