@@ -20,3 +20,4 @@ pub mod Opened
 pub mod Dealing
 pub mod Trading
 pub mod Stations
+pub mod Taken
