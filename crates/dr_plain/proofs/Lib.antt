@@ -21,3 +21,13 @@ pub mod Dealing
 pub mod Trading
 pub mod Stations
 pub mod Taken
+pub mod Looking
+pub mod Rounds
+pub mod Rowing
+pub mod Tokens
+pub mod Collecting
+pub mod Claims
+pub mod Noting
+pub mod Answering
+pub mod Publishing
+pub mod Writing

@@ -8,3 +8,5 @@ pub mod Views
 pub mod Making
 pub mod Hands
 pub mod Trades
+pub mod Scans
+pub mod Lending

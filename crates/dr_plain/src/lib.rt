@@ -2,10 +2,12 @@
 //! on a thread of its own. An event lies once in memory, and tokens of it travel.
 #![tactic(auto)]
 
+mod claiming;
 mod dealt;
 mod exchanges;
 pub mod fault;
 pub mod laws;
+mod lending;
 mod opening;
 mod plan;
 pub mod receiver;
