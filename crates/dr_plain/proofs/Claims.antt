@@ -15,6 +15,7 @@ use Rattle.dr_core.specs.Meaning.Refusals.{claim_causes, IsFirst, NoneHolds}
 use Rattle.dr_core.specs.Calls.Ends.{Sent, MayHold, MayFail, IsAnswerOf, as_end, claim_tests, claimed_in, with_claimed}
 use Rattle.dr_core.proofs.BadCounts.{bad_is_not_one, good_is_never_bad}
 use Rattle.dr_cells.specs.declared.token.Token.{Token}
+use Rattle.dr_cells.specs.Hold.{held}
 use Rattle.dr_graph.specs.Meaning.Graph.{finals}
 use Rattle.dr_runs.specs.Runs.{IsBeginning}
 use Rattle.dr_plain.specs.Meaning.Shape.{Shape, handlers_of}
@@ -30,6 +31,7 @@ use Rattle.dr_plain.specs.Calls.Plans.{IsPlan}
 use Rattle.dr_plain.specs.Calls.Sending.{gate_looks, tests_of_claim, FoundRoom, LooksToClaim, TriesToClaim, ClaimCall}
 use Rattle.dr_plain.specs.Inside.Scans.{sender_saw, more_claimed, LooksAtFinals, IsEnough, IsShort}
 use Rattle.dr_plain.specs.Inside.Fits.{IsSeenLeast, SenderFields, SenderFits, TokensFit, no_lents, open_slots}
+use Rattle.dr_plain.specs.Inside.Hands.{with_hand}
 use Rattle.dr_plain.specs.Inside.Lending.{lanes, laid_between, AreKept, AreWhole, SameBut}
 use Rattle.dr_plain.specs.Inside.Noted.{Noted, writes_from}
 use Rattle.dr_plain.specs.Inside.Seats.{Hand, taken_by_claim}
@@ -42,6 +44,10 @@ use Rattle.dr_plain.proofs.Rowing.{dropped, length_rows, replicate_both, rows_bo
 no_more : (p v n : ℕ) → (v ≡ 0 → n ≡ 0) → p + (if v == 0 then n else 0) ≡ p
 no_more p zero n none = let e = none refl in omega arith
 no_more p (suc v) n none = rw (ne_eqb (suc v) 0 (λ (e : suc v ≡ 0). omega arith)) (omega arith)
+
+take_none : {A : Type 0} (xs : List A) → take 0 xs ≡ []
+take_none [] = refl
+take_none (x ∷ xs) = refl
 
 module _ {T : Type 0} where
   saw_both : (r : SenderRecord T) (xs ys : List Look) → sender_saw (sender_saw r xs) ys ≡ sender_saw r (xs ++ ys)
@@ -219,6 +225,32 @@ module _ {T : Type 0} {e : SenderStand T} (e' : SenderStand T) {f : SenderFields
             ∙ ap (λ (x : SenderRecord T). lanes x.plan lo (laid_between x lo upto) ++ e.hand) (sym is),
       )
 
+  -- and once it is collected
+  pub collected_hand : (c : SenderStand T) → e'.hand ≡ taken_by_claim before q 0 ++ e.hand
+      → c ≡ with_hand e' (drop (handlers_of e'.knows.plan * (upto - lo)) e'.hand ++ lanes e'.knows.plan lo (no_lents (upto - lo)))
+      → c.hand ≡ drop (handlers_of before.plan * q) (taken_by_claim before q 0 ++ e.hand) ++ lanes before.plan (claimed before) (no_lents q)
+  collected_hand c has collects =
+      let same : upto - lo ≡ q = omega arith in let knows : e'.knows.plan ≡ before.plan = ap (λ (x : SenderRecord T). x.plan) is in
+      ap (λ (x : SenderStand T). x.hand) collects
+      ∙ (λ i. drop (handlers_of (knows i) * same i) (has i) ++ lanes (knows i) (sym from_is i) (no_lents (same i)))
+
+  pub collected_whole : (tokens : List (Token T)) → AreWhole e'.knows.plan lo upto tokens → AreWhole before.plan (claimed before) (claimed before + q) tokens
+  collected_whole tokens W = let knows : e'.knows.plan ≡ before.plan = ap (λ (x : SenderRecord T). x.plan) is in
+      subst (λ (x : Shape × ℕ × ℕ). AreWhole x.0 x.1 x.2 tokens) (λ i. (knows i, sym from_is i, sym to_is i)) W
+
+  pub collected_same : (tokens : List (Token T)) → SameBut e'.knows.plan lo upto f.tokens tokens → SameBut before.plan (claimed before) (claimed before + q) f.tokens tokens
+  collected_same tokens S = let knows : e'.knows.plan ≡ before.plan = ap (λ (x : SenderRecord T). x.plan) is in
+      subst (λ (x : Shape × ℕ × ℕ). SameBut x.0 x.1 x.2 f.tokens tokens) (λ i. (knows i, sym from_is i, sym to_is i)) S
+
+module _ {T : Type 0} where
+  pub collected_many : (k : Shape) (first upto : ℕ) (tokens tokens' : List (Token T)) → SameBut k first upto tokens tokens' → length tokens' ≡ length tokens
+  collected_many k first upto tokens tokens' S = let hold = λ (t : Token T). held t.hold in
+      sym (length-map tokens' hold) ∙ ap length S.cells ∙ length-map tokens hold
+
+  -- where it finds the ring halted, it takes nothing
+  pub none_taken : (r : SenderRecord T) (n : ℕ) (hand : Hand T) → taken_by_claim r n 1 ++ hand ≡ hand
+  none_taken r n hand = ap (λ (ls : List (Option (Lent T))). lanes r.plan (claimed r) ls ++ hand) (take_none (drop (claimed r) (laid r)))
+
 -- a count is a size
 bad_count_fails : (n size : ℕ) → (0 < n) × (n ≤ size) → ((n == 0) || nat_lt size n) ≡ false
 bad_count_fails n size is = rw (ne_eqb n 0 (λ z. let some_one = is.0 in absurd (omega arith)), le-ltb size n is.1) refl
@@ -276,33 +308,33 @@ pub record Tried {T : Type 0} (r s t : SenderRecord T) (xs : List Look) (n q nee
 
 module _ {T : Type 0} (e : SenderStand T) (w : Written) (cells : List (Option T)) {s t : SenderRecord T} {xs : List Look} {n q needed : ℕ} (made : IsPlan e.knows.plan)
     (S : Tried e.knows s t xs n q needed) where
-  abbrev before : SenderRecord T
-  before = e.knows
+  abbrev began : SenderRecord T
+  began = e.knows
 
-  scanned : LooksAtFinals before (look halt_word 0 ∷ xs) t
-  scanned = saw_then before s t (look halt_word 0 ∷ []) xs (saw_halt before s 0 0 S.first (λ z. refl)) S.scan
+  scanned : LooksAtFinals began (look halt_word 0 ∷ xs) t
+  scanned = saw_then began s t (look halt_word 0 ∷ []) xs (saw_halt began s 0 0 S.first (λ z. refl)) S.scan
 
-  plan : s.plan ≡ before.plan
+  plan : s.plan ≡ began.plan
   plan = ap (λ (x : SenderRecord T). x.plan) S.first
 
-  room : (least : ℕ) (E : IsEnough s xs needed least) → FoundRoom before q E.counts
+  room : (least : ℕ) (E : IsEnough s xs needed least) → FoundRoom began q E.counts
   room least E = record {
     all = subst (λ (k : Shape). (E.counts ≡ []) ⊎ (length E.counts ≡ length (finals k.upstreams))) plan E.all;
     room = λ i lt. (let high = E.high i lt in let next = S.next in let need = S.need in omega arith);
   }
 
-  gated : (least : ℕ) (E : IsEnough s xs needed least) → xs ≡ gate_looks before E.counts
+  gated : (least : ℕ) (E : IsEnough s xs needed least) → xs ≡ gate_looks began E.counts
   gated least E = E.are ∙ ap (λ (k : Shape). count_looks (finals k.upstreams) E.counts) plan
 
-  within : nat_lt before.plan.limit (claimed before + q) ≡ false
-  within = le-ltb before.plan.limit (claimed before + q) (let next = S.next in let limit = S.limit in omega arith)
+  within : nat_lt began.plan.limit (claimed began + q) ≡ false
+  within = le-ltb began.plan.limit (claimed began + q) (let next = S.next in let limit = S.limit in omega arith)
 
   -- a final was too far behind
   pub claim_no_room : (e' : SenderStand T) → e'.knows ≡ t → IsShort s.plan xs needed → TriesToClaim (sender_end e w cells) q (sender_end e' w cells) (Err NoRoom)
   claim_no_room e' is short =
       let H = subst (λ (k : Shape). IsShort k xs needed) plan short in
-      refused e w cells q made e' NoRoom (look halt_word 0 ∷ gate_looks before H.counts)
-      (inr (refl, inr (bad_count_fails q before.plan.size S.size, inr (refl, inr (within, inl (tt, refl))))))
+      refused e w cells q made e' NoRoom (look halt_word 0 ∷ gate_looks began H.counts)
+      (inr (refl, inr (bad_count_fails q began.plan.size S.size, inr (refl, inr (within, inl (tt, refl))))))
       (
         H.counts,
         record {
@@ -314,47 +346,47 @@ module _ {T : Type 0} (e : SenderStand T) (w : Written) (cells : List (Option T)
         },
         refl,
       )
-      (is ∙ scanned.is ∙ ap (λ (ys : List Look). sender_saw before (look halt_word 0 ∷ ys)) H.are)
+      (is ∙ scanned.is ∙ ap (λ (ys : List Look). sender_saw began (look halt_word 0 ∷ ys)) H.are)
 
   -- the last look found the ring halted
   pub claim_halted_late : (e' : SenderStand T) (least : ℕ) → IsEnough s xs needed least → e'.knows ≡ halt_looked t q 1
       → TriesToClaim (sender_end e w cells) q (sender_end e' w cells) (Err Halted)
   claim_halted_late e' least E last =
-      refused e w cells q made e' Halted (look halt_word 0 ∷ gate_looks before E.counts ++ look halt_word 1 ∷ [])
-      (inr (refl, inr (bad_count_fails q before.plan.size S.size, inl (tt, refl))))
+      refused e w cells q made e' Halted (look halt_word 0 ∷ gate_looks began E.counts ++ look halt_word 1 ∷ [])
+      (inr (refl, inr (bad_count_fails q began.plan.size S.size, inl (tt, refl))))
       (inr (record { limit = (let next = S.next in let limit = S.limit in omega arith); counts = E.counts; room = room least E; saw = refl }))
-      ((saw_then before t e'.knows (look halt_word 0 ∷ xs) (look halt_word 1 ∷ []) scanned (saw_halt t e'.knows q 1 last (λ z. absurd (omega arith)))).is
-      ∙ ap (λ (ys : List Look). sender_saw before (look halt_word 0 ∷ ys ++ look halt_word 1 ∷ [])) (gated least E))
+      ((saw_then began t e'.knows (look halt_word 0 ∷ xs) (look halt_word 1 ∷ []) scanned (saw_halt t e'.knows q 1 last (λ z. absurd (omega arith)))).is
+      ∙ ap (λ (ys : List Look). sender_saw began (look halt_word 0 ∷ ys ++ look halt_word 1 ∷ [])) (gated least E))
 
   -- what was written of the open sequences, once q more are claimed
-  more_writes : Noted before.plan.size (claimed before) w → shown e w cells q made (more_claimed before q) ≡ with_claimed (shown e w cells q made before) q
-  more_writes N = let nothing : Option T = None in let front = length before.published in
-      ap (λ (ws : List (Option T)). let x : Sent T = record { published = events_of before.published; pending = ws } in x)
-      (writes_both w cells front before.pending q
-      ∙ ap (λ (ws : List (Option T)). writes_from w cells front before.pending ++ ws)
-      (writes_none w cells (front + before.pending) q (λ k le. unclaimed before.plan.size (claimed before) w k N le)))
+  more_writes : Noted began.plan.size (claimed began) w → shown e w cells q made (more_claimed began q) ≡ with_claimed (shown e w cells q made began) q
+  more_writes N = let nothing : Option T = None in let front = length began.published in
+      ap (λ (ws : List (Option T)). let x : Sent T = record { published = events_of began.published; pending = ws } in x)
+      (writes_both w cells front began.pending q
+      ∙ ap (λ (ws : List (Option T)). writes_from w cells front began.pending ++ ws)
+      (writes_none w cells (front + began.pending) q (λ k le. unclaimed began.plan.size (claimed began) w k N le)))
 
-  claimed_shown : claimed before ≡ claimed_in (shown e w cells q made before)
-  claimed_shown = let a = length-map before.published (λ (l : Lent T). l.event) in let b = writes_count w cells (length before.published) before.pending in omega arith
+  claimed_shown : claimed began ≡ claimed_in (shown e w cells q made began)
+  claimed_shown = let a = length-map began.published (λ (l : Lent T). l.event) in let b = writes_count w cells (length began.published) began.pending in omega arith
 
-  pub claim_accepted : (e' : SenderStand T) (cells' : List (Option T)) (least : ℕ) (c : Claimed) → Noted before.plan.size (claimed before) w → cells' ≡ cells → IsEnough s xs needed least
+  pub claim_accepted : (e' : SenderStand T) (cells' : List (Option T)) (least : ℕ) (c : Claimed) → Noted began.plan.size (claimed began) w → cells' ≡ cells → IsEnough s xs needed least
       → e'.knows ≡ halt_looked t q 0 → c ≡ record { lo = n; hi = n + q - 1 } → TriesToClaim (sender_end e w cells) q (sender_end e' w cells') (Ok c)
   claim_accepted e' cells' least c N same E last gives =
-      let seen = look halt_word 0 ∷ gate_looks before E.counts ++ look halt_word 0 ∷ [] in
+      let seen = look halt_word 0 ∷ gate_looks began E.counts ++ look halt_word 0 ∷ [] in
       let lo : c.lo ≡ n = ap (λ (x : Claimed). x.lo) gives in
       let hi : c.hi ≡ n + q - 1 = ap (λ (x : Claimed). x.hi) gives in
       let some_one = S.size.0 in let limit = S.limit in let few = made.limit in
-      let only : e'.knows ≡ more_claimed (sender_saw before seen) q =
+      let only : e'.knows ≡ more_claimed (sender_saw began seen) q =
       last ∙ ap (λ (x : SenderRecord T). halt_looked x q 0) scanned.is
-      ∙ ap (λ (ys : List Look). more_claimed (record before { looks = ys }) q) (append_assoc before.looks (look halt_word 0 ∷ xs) (look halt_word 0 ∷ []))
-      ∙ ap (λ (ys : List Look). more_claimed (sender_saw before (look halt_word 0 ∷ ys ++ look halt_word 0 ∷ [])) q) (gated least E) in
+      ∙ ap (λ (ys : List Look). more_claimed (record began { looks = ys }) q) (append_assoc began.looks (look halt_word 0 ∷ xs) (look halt_word 0 ∷ []))
+      ∙ ap (λ (ys : List Look). more_claimed (sender_saw began (look halt_word 0 ∷ ys ++ look halt_word 0 ∷ [])) q) (gated least E) in
       subst (λ (os : List (Option T)). TriesToClaim (sender_end e w cells) q (sender_end e' w os) (Ok c)) (sym same) (record {
-        answer = (refl, (bad_count_fails q before.plan.size S.size, (refl, (within, (refl, tt)))));
+        answer = (refl, (bad_count_fails q began.plan.size S.size, (refl, (within, (refl, tt)))));
         stretch = (omega arith, omega arith, omega arith);
         sent = (lo ∙ S.next ∙ claimed_shown, ap (shown e w cells q made) only ∙ more_writes N);
         seen = seen;
         looks = (E.counts, room least E, refl);
-        only = only ∙ ap (λ (p : ℕ). record before { pending = p; looks = before.looks ++ seen }) (sym (ap (λ (x : SenderRecord T). x.pending) only));
+        only = only ∙ ap (λ (p : ℕ). record began { pending = p; looks = began.looks ++ seen }) (sym (ap (λ (x : SenderRecord T). x.pending) only));
         counted = sym (writes_count w cells (length e'.knows.published) e'.knows.pending);
         cells = refl;
         few = made.limit;

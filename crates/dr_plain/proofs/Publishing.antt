@@ -3,13 +3,13 @@ use Rattle.std.proofs.Common.{◌≡◌, ◌≢◌, ℕ, zero, suc, ◌+◌, ◌
 use Rattle.std.proofs.Common.{Some, None, sym, refl, ap, ◌∙◌, subst, arith, append_assoc}
 use Rattle.std.specs.Prelude.{Ok, Err}
 use Rattle.std.proofs.Math.Nat.{mod-lt}
-use Rattle.std.proofs.lemmas.Bool.{cases_lt}
+use Rattle.std.proofs.lemmas.Bool.{cases_lt, le-ltb, le-leb}
 use Rattle.std.proofs.lemmas.List.{length-append, length-map, map-append}
 use mathlib.Core.Option.{some, some-injective}
 use lib.ListN.{get_elem?}
 use Rattle.dr_seq.proofs.Apart.{slots_differ}
 use Rattle.dr_seq.proofs.Sizes.{size_positive}
-use Rattle.dr_core.specs.declared.refusal.Refusal.TheVariants.{NotWritten, OutOfOrder}
+use Rattle.dr_core.specs.declared.refusal.Refusal.TheVariants.{NotClaimed, AlreadyPublished, NotWritten, OutOfOrder}
 use Rattle.dr_core.specs.Calls.Ends.{Sent, claimed_in, written_of, published_below}
 use Rattle.dr_cells.specs.declared.token.Token.{Token}
 use Rattle.dr_cells.specs.Hold.{held, kept}
@@ -30,7 +30,7 @@ use Rattle.dr_plain.specs.Inside.Hands.{with_hand}
 use Rattle.dr_plain.specs.Inside.Noted.{Noted, AreNoted, HasUnnoted, is_noted, writes_from}
 use Rattle.dr_plain.specs.Inside.Seats.{Hand, lent_all, given_by_publication}
 use Rattle.dr_plain.specs.Inside.Views.{sender_end}
-use Rattle.dr_plain.proofs.Answering.{open_at, AllWritten, accepted, unwritten, out_of_order}
+use Rattle.dr_plain.proofs.Answering.{open_at, AllWritten, accepted, unwritten, out_of_order, published_before}
 use Rattle.dr_plain.proofs.Claims.{fits_as}
 use Rattle.dr_plain.proofs.Collecting.{at_after, first_at, laid_count, laid_later, blanks_count}
 use Rattle.dr_plain.proofs.Lanes.{cell_later}
@@ -101,6 +101,33 @@ module _ {T : Type 0} {e : SenderStand T} {f : SenderFields T} {lo hi : ℕ} (F 
         subst (λ (q : SenderEnd T). TriesToPublish q lo hi q (Err OutOfOrder)) same
         (record { answer = out_of_order x lo hi order (omega arith) (omega arith) (all_ready all); sent = refl; cells = refl; only = refl; more = begins_same r.published })
 
+pub blanks_long : (T : Type 0) (k : Shape) (s n : ℕ) → length (lanes {T = T} k s (no_lents n)) ≡ handlers_of k * n
+blanks_long T k s n = length_rows (placed {T = T} k) (handlers_of k) s (no_lents n) ∙ ap (λ (j : ℕ). handlers_of k * j) (blanks_count T n)
+
+-- A publication that is refused before.
+module _ {T : Type 0} {e : SenderStand T} {f : SenderFields T} (F : SenderFits e f) {E : SenderEnd T} (same : sender_end e f.written (cells_of f.tokens) ≡ E) (lo hi : ℕ) (order : lo ≤ hi) where
+  abbrev was : Sent T
+  was = sent_of (sender_end e f.written (cells_of f.tokens))
+
+  pub publish_unclaimed : f.claimed_to ≤ hi → TriesToPublish E lo hi E (Err NotClaimed)
+  publish_unclaimed over =
+      let next = F.next in let a = length-map e.knows.published (λ (l : Lent T). l.event) in let b = writes_count f.written (cells_of f.tokens) (length e.knows.published) e.knows.pending in
+      subst (λ (q : SenderEnd T). TriesToPublish q lo hi q (Err NotClaimed)) same
+      (record {
+        answer = inr (refl, inr (le-ltb hi lo order, inl (le-leb (claimed_in was) hi (omega arith), refl)));
+        sent = refl;
+        cells = refl;
+        only = refl;
+        more = begins_same e.knows.published;
+      })
+
+  pub publish_early : hi < f.claimed_to → lo < f.published_to → TriesToPublish E lo hi E (Err AlreadyPublished)
+  publish_early within early =
+      let next = F.next in let front = F.front in
+      let a = length-map e.knows.published (λ (l : Lent T). l.event) in let b = writes_count f.written (cells_of f.tokens) (length e.knows.published) e.knows.pending in
+      subst (λ (q : SenderEnd T). TriesToPublish q lo hi q (Err AlreadyPublished)) same
+      (record { answer = published_before was lo hi order (omega arith) (omega arith); sent = refl; cells = refl; only = refl; more = begins_same e.knows.published })
+
 -- The next n sequences are lent, and all of them are written.
 module _ {T : Type 0} where
   pub events_lent : (k : Shape) (w : Written) (tokens : List (Token T)) (s : ℕ) (lents : List (Lent T)) → length tokens ≡ k.size
@@ -159,9 +186,6 @@ module _ {T : Type 0} where
       ∙ rows_both (placed k) (handlers_of k) s (no_lents n) (no_lents m)
       ∙ ap (λ (j : ℕ). lanes k s (no_lents n) ++ lanes k (s + j) (no_lents m)) (blanks_count T n)
 
-  pub blanks_long : (k : Shape) (s n : ℕ) → length (lanes {T = T} k s (no_lents n)) ≡ handlers_of k * n
-  blanks_long k s n = length_rows (placed k) (handlers_of k) s (no_lents n) ∙ ap (λ (j : ℕ). handlers_of k * j) (blanks_count T n)
-
   pub lents_long : (k : Shape) (s : ℕ) (lents : List (Lent T)) → length (lanes k s (lent_all lents)) ≡ handlers_of k * length lents
   lents_long k s lents = length_rows (placed k) (handlers_of k) s (lent_all lents) ∙ ap (λ (j : ℕ). handlers_of k * j) (length-map lents (λ (l : Lent T). Some l))
 
@@ -201,14 +225,14 @@ module _ {T : Type 0} {e : SenderStand T} {f : SenderFields T} (tokens : List (T
     lent_hand = let k = before.plan in
         ap (λ (x : SenderStand T). x.hand) lends
         ∙ ap (λ (h : Hand T). drop (handlers_of k * (upto - lo)) h ++ lanes k lo (lent_all next_lents)) hand_split
-        ∙ ap (λ (h : Hand T). h ++ lanes k lo (lent_all next_lents)) (dropped (lanes k lo (no_lents (upto - lo))) others (handlers_of k * (upto - lo)) (blanks_long k lo (upto - lo)))
+        ∙ ap (λ (h : Hand T). h ++ lanes k lo (lent_all next_lents)) (dropped (lanes k lo (no_lents (upto - lo))) others (handlers_of k * (upto - lo)) (blanks_long T k lo (upto - lo)))
 
     knows_is : e1.knows ≡ before
     knows_is = ap (λ (x : SenderStand T). x.knows) lends
 
     pub turn_room : (n : ℕ) → n ≡ f.claimed_to - upto → n ≤ 65536 → (n ≤ 65536) × (handlers_of e1.knows.plan * n ≤ length e1.hand)
     turn_room n is few =
-        let k = before.plan in let long = blanks_long {T = T} k (lo + (upto - lo)) (f.claimed_to - upto) in
+        let k = before.plan in let long = blanks_long T k (lo + (upto - lo)) (f.claimed_to - upto) in
         let all = ap length lent_hand ∙ length-append others (lanes k lo (lent_all next_lents)) in
         let same : handlers_of e1.knows.plan * n ≡ handlers_of k * (f.claimed_to - upto) = (λ i. handlers_of (knows_is i).plan * is i) in
         (few, omega arith)
@@ -218,28 +242,42 @@ module _ {T : Type 0} {e : SenderStand T} {f : SenderFields T} (tokens : List (T
       turned_hand = let k = before.plan in
           ap (λ (x : SenderStand T). x.hand) turns
           ∙ (λ i. drop (handlers_of (knows_is i).plan * is i) (lent_hand i) ++ take (handlers_of (knows_is i).plan * is i) (lent_hand i))
-          ∙ (λ i. dropped others (lanes k lo (lent_all next_lents)) (handlers_of k * (f.claimed_to - upto)) (blanks_long k (lo + (upto - lo)) (f.claimed_to - upto)) i
-          ++ taken others (lanes k lo (lent_all next_lents)) (handlers_of k * (f.claimed_to - upto)) (blanks_long k (lo + (upto - lo)) (f.claimed_to - upto)) i)
+          ∙ (λ i. dropped others (lanes k lo (lent_all next_lents)) (handlers_of k * (f.claimed_to - upto)) (blanks_long T k (lo + (upto - lo)) (f.claimed_to - upto)) i
+          ++ taken others (lanes k lo (lent_all next_lents)) (handlers_of k * (f.claimed_to - upto)) (blanks_long T k (lo + (upto - lo)) (f.claimed_to - upto)) i)
 
       pub turned_knows : e2.knows ≡ before
       turned_knows = ap (λ (x : SenderStand T). x.knows) turns ∙ knows_is
 
-      pub publish_hand : (rest : Hand T) × (e2.hand ≡ given_by_publication e2.knows next_lents ++ rest)
+      -- the lendings, as the tokens tell them at the publication
+      abbrev told : SenderRecord T → List (Lent T)
+      told x = lents_of x.plan tokens lo (upto - lo)
+
+      pub publish_order : (lo ≡ length e2.knows.published) × (lo < upto) × (upto ≤ claimed e2.knows)
+      publish_order = let next = F.next in
+          subst (λ (x : SenderRecord T). (lo ≡ length x.published) × (lo < upto) × (upto ≤ claimed x)) (sym turned_knows) (from_is, some_one, omega arith)
+
+      pub publish_lents : AreLent before.plan tokens lo (upto - lo) → AreLent e2.knows.plan tokens lo (upto - lo)
+      publish_lents L = subst (λ (x : SenderRecord T). AreLent x.plan tokens lo (upto - lo)) (sym turned_knows) L
+
+      pub publish_hand : (o : Hand T) × (e2.hand ≡ given_by_publication e2.knows (told e2.knows) ++ o)
       publish_hand = (
         others,
         turned_hand ∙ ap (λ (m : ℕ). lanes before.plan m (lent_all next_lents) ++ others) from_is
-            ∙ ap (λ (x : SenderRecord T). given_by_publication x next_lents ++ others) (sym turned_knows),
+            ∙ ap (λ (x : SenderRecord T). given_by_publication x (told x) ++ others) (sym turned_knows),
       )
 
-      pub fits_publish : (e3 : SenderStand T) (w : Written) → e3.knows ≡ published_more e2.knows next_lents → e3.hand ≡ drop (length (given_by_publication e2.knows next_lents)) e2.hand
+      pub published_knows : (e3 : SenderStand T) → e3.knows ≡ published_more e2.knows (told e2.knows) → e3.knows ≡ published_more before next_lents
+      published_knows e3 knows = knows ∙ ap (λ (x : SenderRecord T). published_more x (told x)) turned_knows
+
+      pub fits_publish : (e3 : SenderStand T) (w : Written) → e3.knows ≡ published_more e2.knows (told e2.knows) → e3.hand ≡ drop (length (given_by_publication e2.knows (told e2.knows))) e2.hand
           → w ≡ record f.written { upto = max f.written.upto upto } → AreLent before.plan tokens lo (upto - lo) → SameBut before.plan lo upto f.tokens tokens
           → length tokens ≡ length f.tokens → SenderFits e3 (record f { published_to = upto; written = w; tokens = tokens })
       fits_publish e3 w knows has new L S many =
           let k = before.plan in let a = from_is in let next = F.next in let near = F.near in let low = F.least in let count = L.count in
           let longer = length-append before.published next_lents in
-          let e3_knows : e3.knows ≡ published_more before next_lents = knows ∙ ap (λ (x : SenderRecord T). published_more x next_lents) turned_knows in
-          let given : given_by_publication e2.knows next_lents ≡ lanes k lo (lent_all next_lents) =
-              (λ i. given_by_publication (turned_knows i) next_lents) ∙ ap (λ (m : ℕ). lanes k m (lent_all next_lents)) (sym from_is) in
+          let e3_knows = published_knows e3 knows in
+          let given : given_by_publication e2.knows (told e2.knows) ≡ lanes k lo (lent_all next_lents) =
+              ap (λ (x : SenderRecord T). given_by_publication x (told x)) turned_knows ∙ ap (λ (m : ℕ). lanes k m (lent_all next_lents)) (sym from_is) in
           let hand : e3.hand ≡ open_slots (published_more before next_lents) =
               has ∙ (λ i. drop (length (given i)) (turned_hand i)) ∙ dropped (lanes k lo (lent_all next_lents)) others (length (lanes k lo (lent_all next_lents))) refl
               ∙ (λ i. lanes k ((let z : lo + (upto - lo) ≡ length (before.published ++ next_lents) = omega arith in z) i) (no_lents ((let z : f.claimed_to - upto ≡ before.pending - length next_lents = omega arith in z) i))) in

@@ -1,7 +1,7 @@
 -- What a write leaves of the sender's fields.
 use Rattle.std.proofs.Common.{◌≡◌, ◌≢◌, ℕ, ◌+◌, ◌-◌, ◌%◌, ◌<◌, ◌≤◌, inl, inr, List, map, length, get_or, set, Option, Some, None, sym, refl, ap, ◌∙◌, subst, arith, length-set, get_or-set_other, if◌then◌else◌}
-use Rattle.std.specs.Prelude.{Ok}
-use Rattle.std.proofs.lemmas.Bool.{cases_eq, le-ltb, lt-leb}
+use Rattle.std.specs.Prelude.{Ok, Err}
+use Rattle.std.proofs.lemmas.Bool.{cases_eq, lt-ltb, le-ltb, le-leb, lt-leb}
 use Rattle.std.proofs.lemmas.List.{length-map, map-set}
 use Rattle.std.proofs.Math.Nat.{mod-lt}
 use mathlib.Core.Option.{some, some-injective}
@@ -9,6 +9,7 @@ use lib.ListN.{get_elem?}
 use Rattle.atomic_table.proofs.Lists.{set_here, set_else}
 use Rattle.dr_seq.proofs.Apart.{slots_differ}
 use Rattle.dr_seq.proofs.Sizes.{size_positive}
+use Rattle.dr_core.specs.declared.refusal.Refusal.TheVariants.{NotClaimed, AlreadyPublished}
 use Rattle.dr_core.specs.Calls.Ends.{Sent, claimed_in, with_event}
 use Rattle.dr_cells.specs.declared.token.Token.{Token}
 use Rattle.dr_cells.specs.Hold.{whole, held}
@@ -30,7 +31,7 @@ use Rattle.dr_plain.proofs.Noting.{notes_one, noted_write, write_at, written_at,
 use Rattle.dr_plain.proofs.Publishing.{cell_at}
 
 -- The sender writes v to the open sequence s, whose cell lies at c.
-module _ {T : Type 0} {e : SenderStand T} {f : SenderFields T} {w : Written} {tokens : List (Token T)} {between : Token T} (s c : ℕ) (v : T) (F : SenderFits e f) (low : f.published_to ≤ s)
+module _ {T : Type 0} {e : SenderStand T} {f : SenderFields T} {w : Written} {tokens : List (Token T)} (between : Token T) (s c : ℕ) (v : T) (F : SenderFits e f) (low : f.published_to ≤ s)
     (lt : s < f.claimed_to) (notes : Notes f.written s w) (place : c ≡ cell_of e.knows.plan s)
     (put : tokens ≡ set (set f.tokens c between) c (token_at e.knows.plan.strip c (whole v))) where
   abbrev r : SenderRecord T
@@ -55,8 +56,8 @@ module _ {T : Type 0} {e : SenderStand T} {f : SenderFields T} {w : Written} {to
   here = let inside = mod-lt s some_slot in let count = F.tokens.count in
       ap (λ (ts : List (Token T)). get_elem? ts (cell_of k s)) once ∙ set_here f.tokens (cell_of k s) (token_at k.strip (cell_of k s) (whole v)) (omega arith)
 
-  else : (q : ℕ) → q ≢ s → q < s + k.size → s < q + k.size → get_elem? tokens (cell_of k q) ≡ get_elem? f.tokens (cell_of k q)
-  else q ne up down = ap (λ (ts : List (Token T)). get_elem? ts (cell_of k q)) once
+  beside : (q : ℕ) → q ≢ s → q < s + k.size → s < q + k.size → get_elem? tokens (cell_of k q) ≡ get_elem? f.tokens (cell_of k q)
+  beside q ne up down = ap (λ (ts : List (Token T)). get_elem? ts (cell_of k q)) once
       ∙ set_else f.tokens (cell_of k s) (cell_of k q) (token_at k.strip (cell_of k s) (whole v)) (slots_differ k.size q s ne up down)
 
   tokens_written : TokensFit r tokens
@@ -65,10 +66,10 @@ module _ {T : Type 0} {e : SenderStand T} {f : SenderFields T} {w : Written} {to
     opened = λ q t from to at. elim (cases_eq q s) [
       | inl same ↦ (v, sym (some-injective (token_at k.strip (cell_of k q) (whole v)) t
           (sym (subst (λ (j : ℕ). get_elem? tokens (cell_of k j) ≡ some (token_at k.strip (cell_of k j) (whole v))) (sym same) here) ∙ at)))
-      | inr ne ↦ F.tokens.opened q t from to (sym (else q ne (omega arith) (omega arith)) ∙ at)
+      | inr ne ↦ F.tokens.opened q t from to (sym (beside q ne (omega arith) (omega arith)) ∙ at)
     ];
     others = λ q l t from laid_at at. (let all = laid_count r in let deep = at_below (laid r) q l laid_at in
-        F.tokens.others q l t from laid_at (sym (else q (λ (same : q ≡ s). omega arith) (omega arith) (omega arith)) ∙ at));
+        F.tokens.others q l t from laid_at (sym (beside q (λ (same : q ≡ s). omega arith) (omega arith) (omega arith)) ∙ at));
   }
 
   pub fits_write : SenderFits e (record f { written = w; tokens = tokens })
@@ -125,3 +126,19 @@ module _ {T : Type 0} {e : SenderStand T} {f : SenderFields T} {w : Written} {to
         cells = cells_are;
         only = refl;
       })
+
+-- A write that is refused.
+module _ {T : Type 0} {e : SenderStand T} {f : SenderFields T} (F : SenderFits e f) {E : SenderEnd T} (same : sender_end e f.written (cells_of f.tokens) ≡ E) (s : ℕ) (v : T) where
+  pub write_unclaimed : f.claimed_to ≤ s → TriesToWrite E s v E (Err NotClaimed)
+  write_unclaimed over =
+      let x = sent_of (sender_end e f.written (cells_of f.tokens)) in let next = F.next in
+      let mapped = length-map e.knows.published (λ (l : Lent T). l.event) in let count = writes_count f.written (cells_of f.tokens) (length e.knows.published) e.knows.pending in
+      subst (λ (q : SenderEnd T). TriesToWrite q s v q (Err NotClaimed)) same
+      (record { answer = inr (refl, inl (le-leb (claimed_in x) s (omega arith), refl)); sent = refl; cells = refl; only = refl })
+
+  pub write_published : s < f.claimed_to → s < f.published_to → TriesToWrite E s v E (Err AlreadyPublished)
+  write_published within early =
+      let x = sent_of (sender_end e f.written (cells_of f.tokens)) in let next = F.next in let front = F.front in
+      let mapped = length-map e.knows.published (λ (l : Lent T). l.event) in let count = writes_count f.written (cells_of f.tokens) (length e.knows.published) e.knows.pending in
+      subst (λ (q : SenderEnd T). TriesToWrite q s v q (Err AlreadyPublished)) same
+      (record { answer = inr (refl, inr (lt-leb (claimed_in x) s (omega arith), inl (lt-ltb s (length x.published) (omega arith), refl))); sent = refl; cells = refl; only = refl })

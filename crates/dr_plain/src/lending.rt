@@ -6,13 +6,15 @@ ghost use Rattle.dr_plain.specs.Meaning.Shape.{handlers_of};
 ghost use Rattle.dr_plain.specs.Meaning.Words.{cell_of, slot_of};
 ghost use Rattle.dr_plain.specs.Inside.Fits.{Keeps, no_lents};
 ghost use Rattle.dr_plain.specs.Inside.Hands.{with_hand, row, lent_by};
-ghost use Rattle.dr_plain.specs.Inside.Seats.{Hand, lent_all};
-ghost use Rattle.dr_plain.specs.Inside.Lending.{lanes, laid_between, lents_of, IsKept, AreKept, IsLending, AreLent, AreWhole, SameBut};
+ghost use Rattle.dr_plain.specs.Inside.Seats.{Hand, lent_all, given_by_publication};
+ghost use Rattle.dr_plain.specs.Meaning.Records.{claimed};
+ghost use Rattle.dr_plain.specs.Inside.Lending.{lanes, laid_between, lents_of, IsKept, AreKept, IsLending, AreLent, AreWhole, SameBut, HasPublished};
 ghost use Rattle.atomic_table.specs.Table.{turned};
 
 use crate::dealt::put_at;
 use crate::laws::SenderStation;
 use dr_cells::Token;
+use std::marker::Brand;
 
 impl<T> SenderStation<T> {
     // The slot of a handler's part of a sequence.
@@ -147,5 +149,17 @@ impl<T> SenderStation<T> {
             self.lend_row(sequence, &mut kept);
             put_at(tokens, place, kept);
         }
+    }
+
+    /// Publishes the events up to `upto`, which are lent, as the tokens of their cells tell. Their
+    /// slots are first in hand.
+    pub(crate) fn publish_lent(&mut self, first: u64, upto: u64, tokens: &Vec<Token<T>>)
+        requires order { (first ≡ length self.old.knows.published) × (first < upto) × (upto ≤ claimed self.old.knows) }
+        requires lent { AreLent self.old.knows.plan tokens.now.items first (upto - first) }
+        requires hand { (others : Hand T) × (self.old.hand ≡ given_by_publication self.old.knows (lents_of self.old.knows.plan tokens.now.items first (upto - first)) ++ others) }
+        ensures { HasPublished self.old (lents_of self.old.knows.plan tokens.now.items first (upto - first)) self.new }
+    {
+        let _ = tokens;
+        self.publish::<Brand>(upto);
     }
 }

@@ -10,11 +10,13 @@ use Rattle.dr_runs.specs.Stretches.{rows}
 use Rattle.dr_plain.specs.Meaning.Shape.{Shape, handlers_of}
 use Rattle.dr_plain.specs.Meaning.Words.{cell_of}
 use Rattle.dr_plain.specs.Meaning.Lying.{placed}
-use Rattle.dr_plain.specs.Meaning.Records.{laid}
+use Rattle.dr_plain.specs.Meaning.Records.{events_of, laid, published_more}
 use Rattle.dr_plain.specs.declared.record.Lent.{Lent}
 use Rattle.dr_plain.specs.declared.record.SenderRecord.{SenderRecord}
+use Rattle.dr_plain.specs.declared.record.Step.TheVariants.{SenderPublishes}
+use Rattle.dr_plain.specs.Calls.Ends.{SenderStand, HasStored}
 use Rattle.dr_plain.specs.Inside.Fits.{Keeps, cells_of}
-use Rattle.dr_plain.specs.Inside.Seats.{Hand}
+use Rattle.dr_plain.specs.Inside.Seats.{Hand, given_by_publication}
 
 module _ {T : Type 0} where
   -- the slots of the sequences from first on, in every lane, each with its part of what is lent
@@ -67,3 +69,8 @@ module _ {T : Type 0} where
     pub count : length (lents_of k tokens s n) ≡ n
     pub each : (i : ℕ) (l : Lent T) → get_elem? (lents_of k tokens s n) i ≡ some l
         → get_elem? tokens (cell_of k (s + i)) ≡ some (token_at k.strip (cell_of k (s + i)) (kept l.round (handlers_of k) l.event))
+
+  -- the sender has published these
+  abbrev pub HasPublished : SenderStand T → List (Lent T) → SenderStand T → Type 0
+  HasPublished e lents e' =
+      HasStored e (SenderPublishes (events_of lents)) (published_more e.knows lents) (drop (length (given_by_publication e.knows lents)) e.hand) e'
