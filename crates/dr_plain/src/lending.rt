@@ -12,9 +12,8 @@ ghost use Rattle.dr_plain.specs.Inside.Lending.{lanes, laid_between, lents_of, I
 ghost use Rattle.atomic_table.specs.Table.{turned};
 
 use crate::dealt::put_at;
-use crate::laws::SenderStation;
+use crate::laws::{Lends, SenderStation};
 use dr_cells::Token;
-use std::marker::Brand;
 
 impl<T> SenderStation<T> {
     // The slot of a handler's part of a sequence.
@@ -153,13 +152,19 @@ impl<T> SenderStation<T> {
 
     /// Publishes the events up to `upto`, which are lent, as the tokens of their cells tell. Their
     /// slots are first in hand.
-    pub(crate) fn publish_lent(&mut self, first: u64, upto: u64, tokens: &Vec<Token<T>>)
+    pub(crate) fn publish_lent<J: Lends<T>>(
+        &mut self,
+        first: u64,
+        upto: u64,
+        tokens: &Vec<Token<T>>,
+    )
+        requires named { J.lents ≡ lents_of self.old.knows.plan tokens.now.items first (upto - first) }
         requires order { (first ≡ length self.old.knows.published) × (first < upto) × (upto ≤ claimed self.old.knows) }
         requires lent { AreLent self.old.knows.plan tokens.now.items first (upto - first) }
         requires hand { (others : Hand T) × (self.old.hand ≡ given_by_publication self.old.knows (lents_of self.old.knows.plan tokens.now.items first (upto - first)) ++ others) }
         ensures { HasPublished self.old (lents_of self.old.knows.plan tokens.now.items first (upto - first)) self.new }
     {
         let _ = tokens;
-        self.publish::<Brand>(upto);
+        self.publish::<J>(upto);
     }
 }

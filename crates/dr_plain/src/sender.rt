@@ -11,7 +11,7 @@ use crate::written::Written;
 use dr_cells::{Strip, Token};
 use dr_core::{Claimed, Refusal};
 use dr_seq::GateCache;
-use std::marker::Model;
+use std::marker::{Brand, Model};
 
 /// The one end that claims, writes and publishes. No call waits or takes memory.
 #[derive(Drop)]
@@ -106,7 +106,8 @@ impl<T> Sender<T> {
         let upto = hi + 1;
         self.station.lend(lo, upto, &mut self.tokens);
         self.station.turn_rows(self.claimed - upto);
-        self.station.publish_lent(lo, upto, &self.tokens);
+        self.station
+            .publish_lent::<Brand>(lo, upto, &self.tokens);
         self.published = upto;
         self.written.upto = self.written.upto.max(upto);
         Ok(())
