@@ -154,7 +154,7 @@ module _ {T : Type 0} where
       let count : length xs ≡ n = between_count r (claimed r) (claimed r + n) (omega arith) ∙ sym same in
       let taken : taken_by_claim r n 0 ≡ lanes k (claimed r) xs = ap (λ (m : ℕ). lanes k (claimed r) (take m (drop (claimed r) (laid r)))) same in
       let long : length (taken_by_claim r n 0) ≡ handlers_of k * n =
-          ap length taken ∙ length_rows (placed k) (handlers_of k) (claimed r) xs ∙ ap (λ (m : ℕ). handlers_of k * m) count in
+      ap length taken ∙ length_rows (placed k) (handlers_of k) (claimed r) xs ∙ ap (λ (m : ℕ). handlers_of k * m) count in
       let nothing : Option (Lent T) = None in let first : length r.published + length (no_lents {T = T} r.pending) ≡ claimed r = ap (λ (m : ℕ). length r.published + m) (blanks_count T r.pending) in
       ap (λ (h : Hand T). h ++ lanes k (claimed r) (no_lents n)) (dropped (taken_by_claim r n 0) hand (handlers_of k * n) long ∙ is)
       ∙ ap (λ (m : ℕ). open_slots r ++ lanes k m (no_lents n)) (sym first)
@@ -218,8 +218,7 @@ module _ {T : Type 0} {e : SenderStand T} (e' : SenderStand T) {f : SenderFields
 
   pub collect_hand : e'.hand ≡ taken_by_claim before q 0 ++ e.hand → (others : Hand T) × (e'.hand ≡ lanes e'.knows.plan lo (laid_between e'.knows lo upto) ++ others)
   collect_hand has =
-      let same : q ≡ upto - lo = omega arith in
-      (
+      let same : q ≡ upto - lo = omega arith in (
         e.hand,
         has ∙ (λ i. lanes before.plan (from_is i) (take (same i) (drop (from_is i) (laid before))) ++ e.hand)
             ∙ ap (λ (x : SenderRecord T). lanes x.plan lo (laid_between x lo upto) ++ e.hand) (sym is),
@@ -278,6 +277,7 @@ module _ {T : Type 0} (e : SenderStand T) (w : Written) (cells : List (Option T)
     seen = seen;
     looks = looks;
     only = only ∙ ap (λ (p : ℕ). record r { pending = p; looks = r.looks ++ seen }) (sym (ap (λ (x : SenderRecord T). x.pending) only));
+    known = sym (writes_count w cells (length r.published) r.pending);
     counted = sym (writes_count w cells (length e'.knows.published) e'.knows.pending);
     cells = refl;
     few = made.limit;
@@ -334,8 +334,7 @@ module _ {T : Type 0} (e : SenderStand T) (w : Written) (cells : List (Option T)
   claim_no_room e' is short =
       let H = subst (λ (k : Shape). IsShort k xs needed) plan short in
       refused e w cells q made e' NoRoom (look halt_word 0 ∷ gate_looks began H.counts)
-      (inr (refl, inr (bad_count_fails q began.plan.size S.size, inr (refl, inr (within, inl (tt, refl))))))
-      (
+      (inr (refl, inr (bad_count_fails q began.plan.size S.size, inr (refl, inr (within, inl (tt, refl)))))) (
         H.counts,
         record {
           before = H.before;
@@ -387,6 +386,7 @@ module _ {T : Type 0} (e : SenderStand T) (w : Written) (cells : List (Option T)
         seen = seen;
         looks = (E.counts, room least E, refl);
         only = only ∙ ap (λ (p : ℕ). record began { pending = p; looks = began.looks ++ seen }) (sym (ap (λ (x : SenderRecord T). x.pending) only));
+        known = sym (writes_count w cells (length began.published) began.pending);
         counted = sym (writes_count w cells (length e'.knows.published) e'.knows.pending);
         cells = refl;
         few = made.limit;
@@ -402,12 +402,12 @@ claim_call e e' w w' cells cells' q result ring past stored tries = (((λ i. (ri
 -- What a claim answers is what every end's claim answers.
 
 module _ {T : Type 0} where
-  within_all : (e : SenderEnd T) (n : ℕ) → e.knows.plan.limit ≤ 2 ^ 62 → length e.writes ≡ e.knows.pending → nat_lt e.knows.plan.limit (claimed e.knows + n) ≡ false
+  within_all : (e : SenderEnd T) (n : ℕ) → e.knows.plan.limit ≤ 2 ^ 62 → e.knows.pending ≡ length e.writes → nat_lt e.knows.plan.limit (claimed e.knows + n) ≡ false
       → nat_lt (2 ^ 62) (claimed_in (sent_of e) + n) ≡ false
   within_all e n few many d = let within = ltb-false e.knows.plan.limit (claimed e.knows + n) d in let a = length-map e.knows.published (λ (l : Lent T). l.event) in
       le-ltb (2 ^ 62) (claimed_in (sent_of e) + n) (omega arith)
 
-  pub claim_of_end : (e : SenderEnd T) (n : ℕ) (refusal : Refusal) → e.knows.plan.limit ≤ 2 ^ 62 → IsSize e.knows.plan.size → length e.writes ≡ e.knows.pending
+  pub claim_of_end : (e : SenderEnd T) (n : ℕ) (refusal : Refusal) → e.knows.plan.limit ≤ 2 ^ 62 → IsSize e.knows.plan.size → e.knows.pending ≡ length e.writes
       → IsFirst MayHold MayFail refusal (claim_causes (tests_of_claim e n)) → IsFirst MayHold MayFail refusal (claim_causes (claim_tests (Some (sent_of e)) n))
   claim_of_end e n refusal few is many (inl h) = inl h
   claim_of_end e n refusal few is many (inr (a, inl h)) = inr (a, inl (bad_is_not_one n e.knows.plan.size is h.0, h.1))
@@ -417,6 +417,6 @@ module _ {T : Type 0} where
       inr (a, inr (good_is_never_bad n e.knows.plan.size is b, inr (c, inr (within_all e n few many d, inl h))))
   claim_of_end e n refusal few is many (inr (a, inr (b, inr (c, inr (d, inr h))))) = absurd h.1
 
-  pub claim_given : (e : SenderEnd T) (n : ℕ) → e.knows.plan.limit ≤ 2 ^ 62 → IsSize e.knows.plan.size → length e.writes ≡ e.knows.pending
+  pub claim_given : (e : SenderEnd T) (n : ℕ) → e.knows.plan.limit ≤ 2 ^ 62 → IsSize e.knows.plan.size → e.knows.pending ≡ length e.writes
       → NoneHolds MayFail (claim_causes (tests_of_claim e n)) → NoneHolds MayFail (claim_causes (claim_tests (Some (sent_of e)) n))
   claim_given e n few is many (a, (b, (c, (d, x)))) = (a, (good_is_never_bad n e.knows.plan.size is b, (c, (within_all e n few many d, x))))

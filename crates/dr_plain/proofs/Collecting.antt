@@ -61,7 +61,7 @@ module _ {T : Type 0} where
   laid_later r s l le at =
       let nothing : Option (Lent T) = None in let count : length (replicate r.plan.size nothing) ≡ r.plan.size = length-replicate r.plan.size nothing in
       let t = at_map (λ (m : Lent T). Some m) r.published (s - length (replicate r.plan.size nothing)) l
-              (at_after (replicate r.plan.size nothing) (map (λ (m : Lent T). Some m) r.published) s l (omega arith) at) in
+      (at_after (replicate r.plan.size nothing) (map (λ (m : Lent T). Some m) r.published) s l (omega arith) at) in
       (t.0, ap (λ (n : ℕ). get_elem? r.published (s - n)) (sym count) ∙ t.1, sym t.2)
 
   pub laid_count : (r : SenderRecord T) → length (laid r) ≡ r.plan.size + length r.published

@@ -31,3 +31,4 @@ pub mod Noting
 pub mod Answering
 pub mod Publishing
 pub mod Writing
+pub mod ManyWrites

@@ -139,7 +139,7 @@ module _ {T : Type 0} where
       let e : s + 0 ≡ s = omega arith in
       let at : get_elem? tokens (cell_of k s) ≡ some (out k s (handlers_of k) m) = subst (λ (q : ℕ). get_elem? tokens (cell_of k q) ≡ some (out k q (handlers_of k) m)) e (L 0 m refl) in
       let here : write_at w (cells_of tokens) s ≡ Some m.event =
-          written_at w (cells_of tokens) s (Some m.event) (noted s (omega arith) (omega arith)) (cell_at tokens k.size s (out k s (handlers_of k) m) count at) in
+      written_at w (cells_of tokens) s (Some m.event) (noted s (omega arith) (omega arith)) (cell_at tokens k.size s (out k s (handlers_of k) m) count at) in
       ap (λ (o : Option T). written_of (o ∷ writes_from w (cells_of tokens) (s + 1) (length lents))) here
       ∙ ap (λ (xs : List T). m.event ∷ xs)
       (events_lent k w tokens (s + 1) lents count (λ q low lt. noted q (omega arith) (omega arith))
@@ -172,9 +172,9 @@ module _ {T : Type 0} where
               let i = s - k.size - length r.published in
               let mine : get_elem? lents i ≡ some m.0 = at_after r.published lents (s - k.size) m.0 (omega arith) m.1 in
               let cell : cell_of k (length r.published + i) ≡ cell_of k s =
-                  (let e : s ≡ k.size + (length r.published + i) = omega arith in sym (ap (cell_of k) e ∙ cell_later k (length r.published + i))) in
+              (let e : s ≡ k.size + (length r.published + i) = omega arith in sym (ap (cell_of k) e ∙ cell_later k (length r.published + i))) in
               let token : out k (length r.published + i) (handlers_of k) m.0 ≡ t =
-                  some-injective (out k (length r.published + i) (handlers_of k) m.0) t (sym (L i m.0 mine) ∙ ap (λ (c : ℕ). get_elem? tokens' c) cell ∙ at) in
+              some-injective (out k (length r.published + i) (handlers_of k) m.0) t (sym (L i m.0 mine) ∙ ap (λ (c : ℕ). get_elem? tokens' c) cell ∙ at) in
               subst (λ (o : Option (Lent T)). Keeps k s o t) (sym m.2) (sym token ∙ out_later k (length r.published + i) s m.0 cell))
         ]);
       }
@@ -277,10 +277,10 @@ module _ {T : Type 0} {e : SenderStand T} {f : SenderFields T} (tokens : List (T
           let longer = length-append before.published next_lents in
           let e3_knows = published_knows e3 knows in
           let given : given_by_publication e2.knows (told e2.knows) ≡ lanes k lo (lent_all next_lents) =
-              ap (λ (x : SenderRecord T). given_by_publication x (told x)) turned_knows ∙ ap (λ (m : ℕ). lanes k m (lent_all next_lents)) (sym from_is) in
+          ap (λ (x : SenderRecord T). given_by_publication x (told x)) turned_knows ∙ ap (λ (m : ℕ). lanes k m (lent_all next_lents)) (sym from_is) in
           let hand : e3.hand ≡ open_slots (published_more before next_lents) =
-              has ∙ (λ i. drop (length (given i)) (turned_hand i)) ∙ dropped (lanes k lo (lent_all next_lents)) others (length (lanes k lo (lent_all next_lents))) refl
-              ∙ (λ i. lanes k ((let z : lo + (upto - lo) ≡ length (before.published ++ next_lents) = omega arith in z) i) (no_lents ((let z : f.claimed_to - upto ≡ before.pending - length next_lents = omega arith in z) i))) in
+          has ∙ (λ i. drop (length (given i)) (turned_hand i)) ∙ dropped (lanes k lo (lent_all next_lents)) others (length (lanes k lo (lent_all next_lents))) refl
+          ∙ (λ i. lanes k ((let z : lo + (upto - lo) ≡ length (before.published ++ next_lents) = omega arith in z) i) (no_lents ((let z : f.claimed_to - upto ≡ before.pending - length next_lents = omega arith in z) i))) in
           fits_as e3 (record f { published_to = upto; written = w; tokens = tokens }) (published_more before next_lents) (open_slots (published_more before next_lents)) e3_knows hand (record {
             made = F.made;
             next = omega arith;
@@ -314,14 +314,14 @@ module _ {T : Type 0} where
       let split : writes_from w cells front r.pending ≡ first ++ left = ap (λ (j : ℕ). writes_from w cells front j) (sym all) ∙ writes_both w cells front n m in
       let many : upto - length (events_of r.published) ≡ n = omega arith in
       let published : events_of (r.published ++ lents) ≡ events_of r.published ++ written_of (take (upto - length (events_of r.published)) (writes_from w cells front r.pending)) =
-          map-append (λ (l : Lent T). l.event) r.published lents
-          ∙ ap (λ (es : List T). events_of r.published ++ es)
-          (sym events ∙ ap written_of (sym (taken first left n (writes_count w cells front n)) ∙ (λ i. take (sym many i) (sym split i)))) in
+      map-append (λ (l : Lent T). l.event) r.published lents
+      ∙ ap (λ (es : List T). events_of r.published ++ es)
+      (sym events ∙ ap written_of (sym (taken first left n (writes_count w cells front n)) ∙ (λ i. take (sym many i) (sym split i)))) in
       let pending : writes_from w' cells (length (r.published ++ lents)) (r.pending - length lents) ≡ drop (upto - length (events_of r.published)) (writes_from w cells front r.pending) =
-          (λ i. writes_from w' cells ((let z : length (r.published ++ lents) ≡ front + n = omega arith in z) i) ((let z : r.pending - length lents ≡ m = omega arith in z) i))
-          ∙ writes_same w w' cells cells (front + n) m (λ k low lt.
-          ap (λ b. if b then get_or cells (k % length cells) None else None) (ap (λ (v : Written). is_noted v k) new ∙ noted_later w upto k (omega arith)))
-          ∙ sym (dropped first left n (writes_count w cells front n)) ∙ (λ i. drop (sym many i) (sym split i)) in
+      (λ i. writes_from w' cells ((let z : length (r.published ++ lents) ≡ front + n = omega arith in z) i) ((let z : r.pending - length lents ≡ m = omega arith in z) i))
+      ∙ writes_same w w' cells cells (front + n) m (λ k low lt.
+      ap (λ b. if b then get_or cells (k % length cells) None else None) (ap (λ (v : Written). is_noted v k) new ∙ noted_later w upto k (omega arith)))
+      ∙ sym (dropped first left n (writes_count w cells front n)) ∙ (λ i. drop (sym many i) (sym split i)) in
       λ i. record { published = published i; pending = pending i }
 
 module _ {T : Type 0} {e : SenderStand T} (e3 : SenderStand T) {f : SenderFields T} {lo hi : ℕ} (F : SenderFits e f) (order : lo ≤ hi) (within : hi < f.claimed_to) (fresh : f.published_to ≤ lo)
@@ -338,11 +338,11 @@ module _ {T : Type 0} {e : SenderStand T} (e3 : SenderStand T) {f : SenderFields
       let x = sent_of (sender_end e f.written (cells_of f.tokens)) in
       let mapped = length-map sends.published (λ (l : Lent T). l.event) in let written = writes_count f.written (cells_of f.tokens) (length sends.published) sends.pending in
       let events : written_of (writes_from f.written (cells_of f.tokens) (length sends.published) (hi + 1 - lo)) ≡ events_of lents =
-          (λ i. written_of (writes_from f.written (sym S.cells i) (sym at i) (sym L.count i)))
-          ∙ events_lent k f.written tokens lo lents (many ∙ F.tokens.count) (λ q low lt. all q low (omega arith)) L.each in
+      (λ i. written_of (writes_from f.written (sym S.cells i) (sym at i) (sym L.count i)))
+      ∙ events_lent k f.written tokens lo lents (many ∙ F.tokens.count) (λ q low lt. all q low (omega arith)) L.each in
       let sent : shown e3.knows w (cells_of tokens) ≡ published_below x (hi + 1) =
-          (λ i. shown (knows i) w (S.cells i))
-          ∙ sent_published sends lents f.written w (cells_of f.tokens) (hi + 1 - lo) (sends.pending - (hi + 1 - lo)) (hi + 1) (omega arith) L.count (omega arith) new events in
+      (λ i. shown (knows i) w (S.cells i))
+      ∙ sent_published sends lents f.written w (cells_of f.tokens) (hi + 1 - lo) (sends.pending - (hi + 1 - lo)) (hi + 1) (omega arith) L.count (omega arith) new events in
       subst (λ (q : SenderEnd T). TriesToPublish q lo hi (sender_end e3 w (cells_of tokens)) (Ok tt)) same (record {
         answer = accepted x lo hi (omega arith) order (omega arith) (all_ready F order within fresh all);
         sent = sent;

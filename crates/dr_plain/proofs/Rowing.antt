@@ -95,8 +95,7 @@ module _ {T K : Type 0} (e : EndOf T K) (k : Shape) (first : ℕ) (xs : List (Op
   pub rowed_row : (s : ℕ) (ys : List (Option (Lent T))) (now : EndOf T K) (l : Option (Lent T)) → Rowed s ys now → get_elem? xs (s - first) ≡ some l
       → (o : Hand T) × (now.hand ≡ row k s l ++ o)
   rowed_row s ys now l is at =
-      let left = lanes k (s + 1) (drop (s - first + 1) xs) in
-      (
+      let left = lanes k (s + 1) (drop (s - first + 1) xs) in (
         left ++ (others ++ lanes k first ys),
         hand_of s ys now is ∙ ap (λ (zs : List (Option (Lent T))). lanes k s zs ++ (others ++ lanes k first ys)) (dropped_next xs (s - first) l at)
             ∙ append_assoc (row k s l) left (others ++ lanes k first ys),
@@ -109,12 +108,12 @@ module _ {T K : Type 0} (e : EndOf T K) (k : Shape) (first : ℕ) (xs : List (Op
       let later : s - first + 1 ≡ s + 1 - first = omega arith in
       let r = rowed_row s ys now l is at in let left = lanes k (s + 1) (drop (s - first + 1) xs) in
       let hand : drop (handlers_of k) now.hand ++ row k s m ≡ lanes k (s + 1) (drop (s + 1 - first) xs) ++ (others ++ lanes k first (ys ++ m ∷ [])) =
-          ap (λ (h : Hand T). drop (handlers_of k) h ++ row k s m) r.1
-          ∙ ap (λ (h : Hand T). h ++ row k s m) (dropped (row k s l) r.0 (handlers_of k) (row_count k s l))
-          ∙ append_assoc left (others ++ lanes k first ys) (row k s m)
-          ∙ ap (λ (h : Hand T). left ++ h) (append_assoc others (lanes k first ys) (row k s m))
-          ∙ ap (λ (h : Hand T). left ++ (others ++ h)) (rows_more (placed k) (handlers_of k) first s ys m (omega arith))
-          ∙ ap (λ (n : ℕ). lanes k (s + 1) (drop n xs) ++ (others ++ lanes k first (ys ++ m ∷ []))) later in
+      ap (λ (h : Hand T). drop (handlers_of k) h ++ row k s m) r.1
+      ∙ ap (λ (h : Hand T). h ++ row k s m) (dropped (row k s l) r.0 (handlers_of k) (row_count k s l))
+      ∙ append_assoc left (others ++ lanes k first ys) (row k s m)
+      ∙ ap (λ (h : Hand T). left ++ h) (append_assoc others (lanes k first ys) (row k s m))
+      ∙ ap (λ (h : Hand T). left ++ (others ++ h)) (rows_more (placed k) (handlers_of k) first s ys m (omega arith))
+      ∙ ap (λ (n : ℕ). lanes k (s + 1) (drop n xs) ++ (others ++ lanes k first (ys ++ m ∷ []))) later in
       new ∙ ap (λ (q : EndOf T K). with_hand q (drop (handlers_of k) now.hand ++ row k s m)) is ∙ ap (λ (h : Hand T). with_hand e h) hand
 
   pub rowed_all : (s : ℕ) (ys : List (Option (Lent T))) (now : EndOf T K) → Rowed s ys now → s - first ≡ length xs → now ≡ with_hand e (others ++ lanes k first ys)

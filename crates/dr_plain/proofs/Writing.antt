@@ -64,8 +64,11 @@ module _ {T : Type 0} {e : SenderStand T} {f : SenderFields T} {w : Written} {to
   tokens_written = let next = F.next in let front = F.front in let near = F.near in record {
     count = many;
     opened = λ q t from to at. elim (cases_eq q s) [
-      | inl same ↦ (v, sym (some-injective (token_at k.strip (cell_of k q) (whole v)) t
-          (sym (subst (λ (j : ℕ). get_elem? tokens (cell_of k j) ≡ some (token_at k.strip (cell_of k j) (whole v))) (sym same) here) ∙ at)))
+      | inl same ↦ (
+        v,
+        sym (some-injective (token_at k.strip (cell_of k q) (whole v)) t
+            (sym (subst (λ (j : ℕ). get_elem? tokens (cell_of k j) ≡ some (token_at k.strip (cell_of k j) (whole v))) (sym same) here) ∙ at)),
+      )
       | inr ne ↦ F.tokens.opened q t from to (sym (beside q ne (omega arith) (omega arith)) ∙ at)
     ];
     others = λ q l t from laid_at at. (let all = laid_count r in let deep = at_below (laid r) q l laid_at in
@@ -109,9 +112,9 @@ module _ {T : Type 0} {e : SenderStand T} {f : SenderFields T} {w : Written} {to
       (ap (write_at w (cells_of tokens)) at ∙ written_at w (cells_of tokens) s (Some v) one.here (cell_at tokens k.size s _ many here))
       (λ q from to ne. (
       let cell : get_or (cells_of tokens) (q % length (cells_of tokens)) None ≡ get_or (cells_of f.tokens) (q % length (cells_of f.tokens)) None =
-          ap (λ (n : ℕ). get_or (cells_of tokens) (q % n) None) count ∙ ap (λ (os : List (Option T)). get_or os (q % length (cells_of f.tokens)) None) cells_are
-          ∙ get_or-set_other (cells_of f.tokens) (s % length (cells_of f.tokens)) (q % length (cells_of f.tokens)) (Some v) None
-          (subst (λ (n : ℕ). q % n ≢ s % n) (sym cells_many) (slots_differ k.size q s (λ (z : q ≡ s). ne (omega arith)) (omega arith) (omega arith))) in
+      ap (λ (n : ℕ). get_or (cells_of tokens) (q % n) None) count ∙ ap (λ (os : List (Option T)). get_or os (q % length (cells_of f.tokens)) None) cells_are
+      ∙ get_or-set_other (cells_of f.tokens) (s % length (cells_of f.tokens)) (q % length (cells_of f.tokens)) (Some v) None
+      (subst (λ (n : ℕ). q % n ≢ s % n) (sym cells_many) (slots_differ k.size q s (λ (z : q ≡ s). ne (omega arith)) (omega arith) (omega arith))) in
       λ i. if one.others q (λ (z : q ≡ s). ne (omega arith)) (omega arith) (omega arith) i then cell i else None))
 
   pub write_done : {E : SenderEnd T} → sender_end e f.written (cells_of f.tokens) ≡ E → TriesToWrite E s v (sender_end e w (cells_of tokens)) (Ok tt)

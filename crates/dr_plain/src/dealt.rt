@@ -1,5 +1,6 @@
 //! Rows of tokens, one a cell or a slot. None has any bytes.
 
+ghost use Rattle.std.specs.Fn.{FnOnceReturnsAtMut};
 ghost use Rattle.std.specs.Prelude.{◌≡◌, ◌<◌, ℕ, replicate, length, slice_set, IfOk};
 ghost use mathlib.Core.Option.{some};
 ghost use lib.ListN.{get_elem?};
@@ -48,4 +49,18 @@ pub(crate) fn write_in<T: Drop>(token: &mut Token<T>, cells: Cells<T>, place: us
     ensures { token.new ≡ token_at cells.ptr place (whole event) }
 {
     drop(replace(token.get_mut(cells, place), event));
+}
+
+/// Changes what lies in a whole cell, where it lies.
+pub(crate) fn change_in<T, F: FnOnce(&mut T)>(
+    token: &mut Token<T>,
+    cells: Cells<T>,
+    place: usize,
+    change: F,
+)
+    requires cell { IsOf cells.ptr place token.old × IsWhole token.old.hold }
+    requires callable { F.IsAlwaysCallable change }
+    ensures { (was : T) × (now : T) × (token.old.hold ≡ whole was) × (token.new ≡ token_at cells.ptr place (whole now)) × FnOnceReturnsAtMut F.FnOnce change was tt now }
+{
+    change(token.get_mut(cells, place));
 }

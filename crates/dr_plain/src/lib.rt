@@ -6,6 +6,7 @@ mod claiming;
 mod dealt;
 mod exchanges;
 pub mod fault;
+mod inlet;
 pub mod laws;
 mod lending;
 mod opening;
@@ -14,6 +15,7 @@ pub mod receiver;
 pub mod record;
 pub mod sender;
 pub mod settled;
+mod updating;
 mod written;
 
 pub use fault::RingFault;

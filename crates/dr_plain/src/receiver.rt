@@ -48,7 +48,8 @@ impl<T> Receiver<T> {
         if upto > self.taken {
             return Err(Refusal::NotTaken);
         }
-        self.station.give_back(self.completed, upto, &mut self.parts);
+        self.station
+            .give_back(self.completed, upto, &mut self.parts);
         self.station.turn_all(self.taken - upto);
         self.station.complete(upto);
         self.completed = upto;

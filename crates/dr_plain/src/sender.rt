@@ -106,8 +106,7 @@ impl<T> Sender<T> {
         let upto = hi + 1;
         self.station.lend(lo, upto, &mut self.tokens);
         self.station.turn_rows(self.claimed - upto);
-        self.station
-            .publish_lent::<Brand>(lo, upto, &self.tokens);
+        self.station.publish_lent::<Brand>(lo, upto, &self.tokens);
         self.published = upto;
         self.written.upto = self.written.upto.max(upto);
         Ok(())

@@ -1,5 +1,5 @@
 -- What each call of the sender answers, and what it leaves of what the sender knows.
-use Rattle.std.specs.Prelude.{◌≡◌, ℕ, ◌+◌, ◌%◌, ◌^◌, ◌<◌, ◌≤◌, ◌⊎◌, ◌==◌, ◌||◌, nat_lt, List, [], ◌∷◌, ◌++◌, length, drop, slice_index, slice_set, Option, Some, Result, Ok, Err}
+use Rattle.std.specs.Prelude.{◌≡◌, ℕ, ◌+◌, ◌%◌, ◌^◌, ◌<◌, ◌≤◌, ◌⊎◌, ◌==◌, ◌||◌, nat_lt, List, [], ◌∷◌, ◌++◌, length, drop, slice_index, slice_index_or, slice_set, Option, None, Some, Result, Ok, Err}
 use Rattle.dr_seq.specs.Size.{IsSize}
 use Rattle.dr_core.specs.declared.refusal.Refusal.{Refusal}
 use Rattle.dr_core.specs.declared.refusal.Refusal.TheVariants.{NoRoom, Halted, BadCount, Exhausted, OpenClaim}
@@ -70,6 +70,8 @@ module _ {T : Type 0} where
     pub seen : List Look
     pub looks : LooksToClaim e.knows n seen result
     pub only : e'.knows ≡ record e.knows { pending = e'.knows.pending; looks = e.knows.looks ++ seen }
+    -- it knows how many sequences are open, before and after
+    pub known : e.knows.pending ≡ length e.writes
     pub counted : e'.knows.pending ≡ length e'.writes
     pub cells : e'.cells ≡ e.cells
     -- so no sequence reaches 2^62, and no claim is of more than 65,536
@@ -111,6 +113,12 @@ module _ {T : Type 0} where
 
   abbrev pub WriteCall : SenderEnd T → ℕ → T → SenderEnd T → Result (Unit {0}) Refusal → Type 0
   WriteCall e s event e' result = Call e e' × TriesToWrite e s event e' result × (e'.stored ≡ e.stored)
+
+  -- a change in place: what it leaves of what lay in the cell of the sequence is what is written
+  abbrev pub UpdateCall : (T → T → Type 0) → SenderEnd T → ℕ → SenderEnd T → Result (Unit {0}) Refusal → Type 0
+  UpdateCall Changes e s e' (Ok done) =
+      (was : T) × (now : T) × (slice_index_or e.cells (s % length e.cells) None ≡ Some was) × Changes was now × WriteCall e s now e' (Ok done)
+  UpdateCall Changes e s e' (Err refusal) = (event : T) → WriteCall e s event e' (Err refusal)
 
   -- a publication stores the events that it publishes
   abbrev pub PublishCall : SenderEnd T → ℕ → ℕ → SenderEnd T → Result (Unit {0}) Refusal → Type 0

@@ -16,8 +16,7 @@ returns g c =
     let H = c.halt.ensures in let C = c.close.ensures in let e = c.self.inside.station in let w = c.self.inside.written in let cells = cells_of c.self.inside.tokens.items in
     let knows : c.close.new.self.knows ≡ sender_closed (sender_halted e.knows) = C.1 ∙ ap sender_closed H.1 in
     let next = c.self.invariant.next in let front = c.self.invariant.front in let all = c.if-self.false in
-    subst (λ (E : SenderEnd g.row.T.Denot). CloseCall E (sender_end c.close.new.self w cells) (Ok tt)) c.self.view_is
-    (
+    subst (λ (E : SenderEnd g.row.T.Denot). CloseCall E (sender_end c.close.new.self w cells) (Ok tt)) c.self.view_is (
       ((λ i. ((C.0 ∙ H.0) i, (knows i).plan)), begins_on e.past _ _ H.3 C.3),
       (omega arith, knows),
       ap (λ (r : SenderRecord g.row.T.Denot). writes_from w cells (length r.published) r.pending) knows,

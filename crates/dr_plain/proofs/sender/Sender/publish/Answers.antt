@@ -97,9 +97,8 @@ returns g c =
     let turned = turned_knows tokens lo upto c.self.invariant (front g a c.if-lo-self-2.false) (before_end g a) (claimed_all g a) c.lend.ensures.hand _ refl c.turn_rows.ensures in
     let lents = lents_of e.knows.plan tokens lo (upto - lo) in
     let event_stored : c.publish_lent.new.self.stored ≡ e.stored ++ SenderPublishes (events_of lents) ∷ [] =
-        P.4 ∙ (λ i. stored i ++ SenderPublishes (events_of (lents_of (turned i).plan tokens lo (upto - lo))) ∷ []) in
-    subst (λ (E : SenderEnd g.row.T.Denot). PublishCall E lo c.args.hi E' (Ok tt)) c.self.view_is
-    (
+    P.4 ∙ (λ i. stored i ++ SenderPublishes (events_of (lents_of (turned i).plan tokens lo (upto - lo))) ∷ []) in
+    subst (λ (E : SenderEnd g.row.T.Denot). PublishCall E lo c.args.hi E' (Ok tt)) c.self.view_is (
       ((λ i. (ring i, (knows i).plan)), subst (λ (p : List (Step g.row.T.Denot)). IsBeginning p c.publish_lent.new.self.past) past P.3),
       publish_done c.publish_lent.new.self c.self.invariant c.if-lo-hi.false c.if-hi-self.false c.if-lo-self.false refl tokens w' c.if-not-has_all.ensures c.if-lo-self-2.false
           c.lend.ensures.lent c.lend.ensures.others (collected_many _ _ _ _ _ c.lend.ensures.others) knows

@@ -28,9 +28,9 @@ pub returns-then-n-eq0 : goal.returns-then-n-eq0
 returns-then-n-eq0 g c =
     let e = c.self.inside.station in let size = size_is g (goal.at.returns-then-n-eq0 g c).After-limit-limit in
     let bad : (c.args.n ≡ 0) ⊎ (e.knows.plan.size < c.args.n) = elim c.then-n-eq0.branch [
-          | then-n-eq0-via-then-n-eq0 w ↦ inl w.if-n-eq0.true
-          | then-n-eq0-via-else-n-eq0+then-n-size w ↦ inr (let over = w.if-n-size.true in omega arith)
-        ] in
+      | then-n-eq0-via-then-n-eq0 w ↦ inl w.if-n-eq0.true
+      | then-n-eq0-via-else-n-eq0+then-n-size w ↦ inr (let over = w.if-n-size.true in omega arith)
+    ] in
     subst (λ (E : SenderEnd g.row.T.Denot). ClaimCall E c.args.n E (Err BadCount)) c.self.view_is
     (claim_call e e c.self.inside.written c.self.inside.written (cells_of c.self.inside.tokens.items) _ c.args.n (Err BadCount) refl (begins_same e.past) refl
     (claim_bad e c.self.inside.written (cells_of c.self.inside.tokens.items) c.args.n c.self.invariant.made bad))

@@ -31,8 +31,7 @@ invariant_of-self g c =
 
 pub returns : goal.returns
 returns g c =
-    subst (λ (E : SenderEnd g.row.T.Denot). WriteCall E c.args.sequence c.args.event (sender_end c.self.inside.station c.note.new.self (cells_of c.put_at.new.row.items)) (Ok tt)) c.self.view_is
-    (
+    subst (λ (E : SenderEnd g.row.T.Denot). WriteCall E c.args.sequence c.args.event (sender_end c.self.inside.station c.note.new.self (cells_of c.put_at.new.row.items)) (Ok tt)) c.self.view_is (
       (refl, begins_same c.self.inside.station.past),
       write_done c.blank.result c.args.sequence c.place-place.result c.args.event c.self.invariant c.if-sequence-self-2.false c.if-sequence-self.false c.note.ensures c.place-place.ensures.place
           (put g (goal.at.returns g c).After-put_at) refl,

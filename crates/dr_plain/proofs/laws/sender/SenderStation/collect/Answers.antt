@@ -24,7 +24,7 @@ loop-sequence-init g c =
     let others = others_of e k first (upto - first) xs o c.requires.hand.1 count in
     let none : 0 ≡ first - first = omega arith in (
       rowed_none e k first xs (drop (handlers_of k * (upto - first)) e.hand) (c.requires.hand.1 ∙ ap (λ (h : Hand g.row.T.Denot). lanes k first xs ++ h) others)
-      ∙ ap (λ (n : ℕ). with_hand e (lanes k first (drop (first - first) xs) ++ (drop (handlers_of k * (upto - first)) e.hand ++ lanes k first (no_lents n)))) none,
+          ∙ ap (λ (n : ℕ). with_hand e (lanes k first (drop (first - first) xs) ++ (drop (handlers_of k * (upto - first)) e.hand ++ lanes k first (no_lents n)))) none,
       omega arith,
       whole_none k first _,
       same_none k first _,
@@ -63,8 +63,8 @@ loop-sequence-preserved g c =
     let whole = subst (λ (p : Shape). Keeps p s nothing c.collect_one.new.kept) plan c.collect_one.ensures.whole in
     let hand = c.collect_one.ensures.hand ∙ ap (λ (p : Shape). with_hand c.loop-sequence.self (drop (handlers_of p) c.loop-sequence.self.hand ++ row p s nothing)) plan in (
       rowed_next e k first xs (drop (handlers_of k * (upto - first)) e.hand) s _ _ _ K.0 nothing inv.1 inv.0 (between_at r first upto s K.0 inv.1 lt K.1) (blanks_count g.row.T.Denot (s - first)) hand
-      ∙ ap (λ (ys : List (Option (Lent g.row.T.Denot))). with_hand e (lanes k (s + 1) (drop (s + 1 - first) xs) ++ (drop (handlers_of k * (upto - first)) e.hand ++ lanes k first ys)))
-      (blanks_more (s - first) (s + 1 - first) (omega arith)),
+          ∙ ap (λ (ys : List (Option (Lent g.row.T.Denot))). with_hand e (lanes k (s + 1) (drop (s + 1 - first) xs) ++ (drop (handlers_of k * (upto - first)) e.hand ++ lanes k first ys)))
+          (blanks_more (s - first) (s + 1 - first) (omega arith)),
       omega arith,
       whole_more k first s c.place-place.result _ _ _ _ inv.2 inv.1 (omega arith) place (search rules) whole put,
       same_more k first s c.place-place.result _ _ _ c.put_at-kept.result _ _ inv.3 inv.1 place c.put_at-kept.ensures.was c.collect_one.ensures.same put,

@@ -33,7 +33,7 @@ returns-then-sequence-get-clause-hand g c =
     let l = lent_by c.args.kept.now.hold in let nothing : Option (Lent g.row.T.Denot) = None in
     let none : l ≡ nothing = keeps_by k s K.0 _ K.2 ∙ laid_first e.knows s K.0 (omega arith) K.1 in
     let first : take (handlers_of k) e.hand ≡ row k s nothing =
-        ap (λ (hand : Hand g.row.T.Denot). take (handlers_of k) hand) h.1 ∙ taken (row k s l) h.0 (handlers_of k) (row_count k s l) ∙ ap (λ (o : Option (Lent g.row.T.Denot)). row k s o) none in
+    ap (λ (hand : Hand g.row.T.Denot). take (handlers_of k) hand) h.1 ∙ taken (row k s l) h.0 (handlers_of k) (row_count k s l) ∙ ap (λ (o : Option (Lent g.row.T.Denot)). row k s o) none in
     c.turn_all.ensures ∙ ap (λ (n : ℕ). with_hand e (drop n e.hand ++ take n e.hand)) count ∙ ap (λ (hand : Hand g.row.T.Denot). with_hand e (drop (handlers_of k) e.hand ++ hand)) first
 
 pub returns-then-sequence-get-clause-whole : goal.returns-then-sequence-get-clause-whole

@@ -58,13 +58,13 @@ loop-sequence-preserved g c =
     let place = c.place-place.ensures.place ∙ ap (λ (p : Shape). cell_of p s) plan in
     let put = c.put_at.ensures.row ∙ ap (λ (ts : List (Token g.row.T.Denot)). set ts c.place-place.result kept) c.put_at-kept.ensures.row in
     let hand = c.lend_row.ensures.hand ∙ ap (λ (p : Shape). with_hand c.loop-sequence.self (drop (handlers_of p) c.loop-sequence.self.hand ++ row p s (lent_by kept.hold))) plan
-        ∙ ap (λ (l : Option (Lent g.row.T.Denot)). with_hand c.loop-sequence.self (drop (handlers_of k) c.loop-sequence.self.hand ++ row k s l)) (lending_by k s kept (handlers_of k) m lent.1) in
+    ∙ ap (λ (l : Option (Lent g.row.T.Denot)). with_hand c.loop-sequence.self (drop (handlers_of k) c.loop-sequence.self.hand ++ row k s l)) (lending_by k s kept (handlers_of k) m lent.1) in
     let longer = length-append inv.0 (m ∷ []) in let many = inv.1 in let counted = length-map inv.0 (λ (l : Lent g.row.T.Denot). Some l) in (
       inv.0 ++ m ∷ [],
       omega arith,
       rowed_next e k first (no_lents n) (drop (handlers_of k * n) e.hand) s _ _ _ nothing (Some m) inv.3 inv.2 (blanks_at n (s - first) (omega arith)) (omega arith) hand
-      ∙ ap (λ (ys : List (Option (Lent g.row.T.Denot))). with_hand e (lanes k (s + 1) (drop (s + 1 - first) (no_lents n)) ++ (drop (handlers_of k * n) e.hand ++ lanes k first ys)))
-      (sym (map-append (λ (l : Lent g.row.T.Denot). Some l) inv.0 (m ∷ []))),
+          ∙ ap (λ (ys : List (Option (Lent g.row.T.Denot))). with_hand e (lanes k (s + 1) (drop (s + 1 - first) (no_lents n)) ++ (drop (handlers_of k * n) e.hand ++ lanes k first ys)))
+          (sym (map-append (λ (l : Lent g.row.T.Denot). Some l) inv.0 (m ∷ []))),
       omega arith,
       lent_more k first s c.place-place.result inv.0 _ _ _ kept m inv.4 inv.1 inv.3 (omega arith) place (search rules) lent.1 put,
       same_more k first s c.place-place.result _ _ _ c.put_at-kept.result _ _ inv.5 inv.3 place c.put_at-kept.ensures.was c.lend_row.ensures.same put,

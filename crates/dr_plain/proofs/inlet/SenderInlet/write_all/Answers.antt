@@ -1,0 +1,42 @@
+use Rattle.std.proofs.Common.{◌≡◌, ◌+◌, Err, Some, arith, inl, length, refl, take, ◌∙◌}
+use Rattle.dr_core.proofs.ManyWrites.{answer_before}
+use Rattle.dr_core.specs.declared.ends.Trouble.TheVariants.{Refused}
+use Rattle.dr_plain.specs.Calls.Ends.{sent_of}
+use Rattle.dr_plain.proofs.ManyWrites.{wrote_each, wrote_more, wrote_none, wrote_refused}
+use Rattle.dr_plain.proofs.inlet.SenderInlet.write_all.Goals as goal
+
+pub loop-k-init : goal.loop-k-init
+loop-k-init g c = wrote_none _ _ _
+
+pub loop-k-preserved : goal.loop-k-preserved
+loop-k-preserved g c = wrote_more c.args.self.now c.loop-k.self c.write.new.self c.args.lo c.loop-k.k _ c.args.events.now _ _ c.loop-k-test.true refl refl c.loop-k.invariant c.in-Ok.ensures
+
+pub returns-in-Err-clause-kept : goal.returns-in-Err-clause-kept
+returns-in-Err-clause-kept g c = c.in-Err.ensures.0.0 ∙ c.loop-k.invariant.call.0
+
+pub returns-in-Err-clause-answer : goal.returns-in-Err-clause-answer
+returns-in-Err-clause-answer g c =
+    let W = c.loop-k.invariant in record {
+      written = W.answers;
+      stops = (
+        c.loop-k-test.true,
+        answer_before c.args.lo (c.args.lo + c.loop-k.k) (take c.loop-k.k c.args.events.now) (Err (Refused c.in-Err.refusal)) (Some (sent_of c.args.self.now)) (Some (sent_of c.loop-k.self))
+            W.sent c.in-Err.ensures.1.answer,
+      );
+    }
+
+pub returns-in-Err-clause-sent : goal.returns-in-Err-clause-sent
+returns-in-Err-clause-sent g c = c.in-Err.ensures.1.sent ∙ c.loop-k.invariant.sent
+
+pub returns-in-Err-clause-own : goal.returns-in-Err-clause-own
+returns-in-Err-clause-own g c = wrote_refused _ c.loop-k.self _ c.args.lo c.loop-k.k c.args.events.now _ _ c.in-Err.refusal c.loop-k.invariant c.in-Err.ensures
+
+pub returns-in-Err-clause-called : goal.returns-in-Err-clause-called
+returns-in-Err-clause-called g c = inl (wrote_refused _ c.loop-k.self _ c.args.lo c.loop-k.k c.args.events.now _ _ c.in-Err.refusal c.loop-k.invariant c.in-Err.ensures)
+
+pub returns-clause-called : goal.returns-clause-called
+returns-clause-called g c =
+    let all = c.loop-k-test.false in
+    let end = c.loop-k.auto.k-end in
+    let same : c.loop-k.k ≡ length c.args.events.now = omega arith in
+    inl (wrote_each _ _ c.args.lo c.loop-k.k (length c.args.events.now) c.args.events.now same c.loop-k.invariant)

@@ -1,0 +1,28 @@
+-- What each call of the sender tells as that of an exchange's end, for who does not know which exchange it is.
+use Rattle.std.specs.Prelude.{◌≡◌, ◌≢◌, ℕ, ◌+◌, ◌%◌, List, [], ◌∷◌, length, take, slice_set, Option, Some}
+use Rattle.dr_core.specs.declared.ends.Trouble.TheVariants.{Memory}
+use Rattle.dr_core.specs.declared.ends.Wrote.{Wrote}
+use Rattle.dr_core.specs.Calls.Calling.{InletCall, TriesClaim, WritesOne, WritesMany, PublishesStretch}
+use Rattle.dr_core.specs.Calls.Ends.{IsEndsAnswer}
+use Rattle.dr_plain.specs.Calls.Ends.{SenderEnd}
+use Rattle.dr_plain.specs.Calls.Sending.{Call, ClaimCall, WriteCall, PublishCall}
+
+module _ {T : Type 0} where
+  -- what lies in the cells once events are written to the sequences from lo on
+  abbrev pub cells_with : ℕ → List T → List (Option T) → List (Option T)
+  cells_with lo [] cells = cells
+  cells_with lo (event ∷ events) cells = cells_with (lo + 1) events (slice_set cells (lo % length cells) (Some event))
+
+  -- many writes: those events lie in their cells that are written, nothing is stored, and memory is never wanting
+  pub record WriteAllCall (e : SenderEnd T) (lo : ℕ) (events : List T) (e' : SenderEnd T) (answer : Wrote) : Type 0 where
+    pub call : Call e e'
+    pub only : e'.knows ≡ e.knows
+    pub cells : e'.cells ≡ cells_with lo (take answer.count events) e.cells
+    pub stored : e'.stored ≡ e.stored
+    pub memory : answer.trouble ≢ Some Memory
+
+  abbrev pub sender_does : SenderEnd T → InletCall T → SenderEnd T → Type 0
+  sender_does e (TriesClaim n answer) e' = IsEndsAnswer (ClaimCall e n e') answer
+  sender_does e (WritesOne s event answer) e' = IsEndsAnswer (WriteCall e s event e') answer
+  sender_does e (WritesMany lo events wrote) e' = WriteAllCall e lo events e' wrote
+  sender_does e (PublishesStretch lo hi answer) e' = IsEndsAnswer (PublishCall e lo hi e') answer
