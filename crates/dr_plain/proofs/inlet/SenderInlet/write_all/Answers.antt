@@ -1,4 +1,4 @@
-use Rattle.std.proofs.Common.{◌≡◌, ◌+◌, Err, Some, arith, inl, length, refl, take, ◌∙◌}
+use Rattle.std.proofs.Common.{◌≡◌, ◌+◌, Err, Some, arith, inl, length, refl, sym, take, ◌∙◌}
 use Rattle.dr_core.proofs.ManyWrites.{answer_before}
 use Rattle.dr_core.specs.declared.ends.Trouble.TheVariants.{Refused}
 use Rattle.dr_plain.specs.Calls.Ends.{sent_of}
@@ -9,7 +9,10 @@ pub loop-k-init : goal.loop-k-init
 loop-k-init g c = wrote_none _ _ _
 
 pub loop-k-preserved : goal.loop-k-preserved
-loop-k-preserved g c = wrote_more c.args.self.now c.loop-k.self c.write.new.self c.args.lo c.loop-k.k _ c.args.events.now _ _ c.loop-k-test.true refl refl c.loop-k.invariant c.in-Ok.ensures
+loop-k-preserved g c =
+    let event = c.index-events-k.result in
+    wrote_more c.args.self.now c.loop-k.self c.write.new.self c.args.lo c.loop-k.k _ c.args.events.now event event c.loop-k-test.true refl (sym c.index-events-k.ensures) c.loop-k.invariant
+    c.in-Ok.ensures
 
 pub returns-in-Err-clause-kept : goal.returns-in-Err-clause-kept
 returns-in-Err-clause-kept g c = c.in-Err.ensures.0.0 ∙ c.loop-k.invariant.call.0
