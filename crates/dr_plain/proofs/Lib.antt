@@ -21,3 +21,6 @@ pub mod Dealing
 pub mod Trading
 pub mod Stations
 pub mod Taken
+pub mod Looking
+pub mod Offers
+pub mod Polls

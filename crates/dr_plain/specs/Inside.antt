@@ -8,3 +8,4 @@ pub mod Views
 pub mod Making
 pub mod Hands
 pub mod Trades
+pub mod Polling

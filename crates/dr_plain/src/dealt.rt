@@ -41,3 +41,11 @@ pub(crate) fn deal<T>(mut row: Row<T>, cells: Cells<T>, tokens: &mut Vec<Token<T
         put_at(tokens, place, row.take());
     }
 }
+
+/// One of a row, where it lies.
+pub(crate) fn at<S>(row: &Vec<S>, place: usize) -> &S
+    requires { place < length row.now.items }
+    ensures { get_elem? row.now.items place ≡ some result.now }
+{
+    &row[place]
+}

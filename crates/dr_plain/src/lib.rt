@@ -8,6 +8,7 @@ pub mod fault;
 pub mod laws;
 mod opening;
 mod plan;
+mod polling;
 pub mod receiver;
 pub mod record;
 pub mod sender;
