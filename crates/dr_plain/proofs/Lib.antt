@@ -24,3 +24,6 @@ pub mod Taken
 pub mod Looking
 pub mod Offers
 pub mod Polls
+pub mod Leaving
+pub mod Settling
+pub mod Gathering

@@ -9,3 +9,4 @@ pub mod Making
 pub mod Hands
 pub mod Trades
 pub mod Polling
+pub mod Gathering

@@ -21,4 +21,4 @@ pub use opening::ring;
 pub use plan::{Plan, copy_upstreams};
 pub use receiver::Receiver;
 pub use sender::Sender;
-pub use settled::HandlerCounts;
+pub use settled::{HandlerCounts, Settled, settle};
