@@ -25,5 +25,6 @@ pub mod Looking
 pub mod Offers
 pub mod Polls
 pub mod Leaving
+pub mod Copying
 pub mod Settling
 pub mod Gathering

@@ -7,3 +7,4 @@ pub mod Making
 pub mod Settling
 pub mod Sending
 pub mod Receiving
+pub mod Outlets

@@ -3,10 +3,12 @@
 #![tactic(auto)]
 
 mod dealt;
+pub mod events;
 mod exchanges;
 pub mod fault;
 pub mod laws;
 mod opening;
+mod outlets;
 mod plan;
 mod polling;
 pub mod receiver;
@@ -15,6 +17,7 @@ pub mod sender;
 pub mod settled;
 mod written;
 
+pub use events::Events;
 pub use fault::RingFault;
 pub use laws::Halter;
 pub use opening::ring;

@@ -91,8 +91,10 @@ impl<T> Receiver<T> {
     pub fn event(&self, sequence: u64) -> Option<&T>
         ensures some { IfSome result (λ event. ReadsInHand self.now.knows sequence event.now) }
         ensures none { IfNone result (IsNotInHand self.now.knows sequence) }
+        ensures fits { length self.now.knows.received < 2 ^ 64 }
     {
-        if sequence < self.completed || sequence >= self.taken {
+        let upto = self.taken;
+        if sequence < self.completed || sequence >= upto {
             return None;
         }
         Some(self.station.read(sequence, &self.parts))
