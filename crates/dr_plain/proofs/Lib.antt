@@ -32,3 +32,9 @@ pub mod Answering
 pub mod Publishing
 pub mod Writing
 pub mod ManyWrites
+pub mod Offers
+pub mod Polls
+pub mod Leaving
+pub mod Copying
+pub mod Settling
+pub mod Gathering

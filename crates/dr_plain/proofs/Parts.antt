@@ -38,7 +38,7 @@ taken_there [] (suc n) i a lt at = at
 taken_there (x ∷ xs) (suc n) zero a lt at = at
 taken_there (x ∷ xs) (suc n) (suc i) a lt at = taken_there xs n i a (omega arith) at
 
-dropped_at : {A : Type 0} (xs : List A) (m i : ℕ) → get_elem? (drop m xs) i ≡ get_elem? xs (m + i)
+pub dropped_at : {A : Type 0} (xs : List A) (m i : ℕ) → get_elem? (drop m xs) i ≡ get_elem? xs (m + i)
 dropped_at xs zero i = let e : i ≡ 0 + i = omega arith in ap (λ (n : ℕ). get_elem? xs n) e
 dropped_at [] (suc m) i = refl
 dropped_at (x ∷ xs) (suc m) i = let e : suc (m + i) ≡ suc m + i = omega arith in dropped_at xs m i ∙ ap (λ (n : ℕ). get_elem? (x ∷ xs) n) e

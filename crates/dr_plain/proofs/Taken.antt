@@ -23,10 +23,10 @@ use Rattle.dr_plain.specs.Inside.Trades.{parts_between, blanks_between, SamePlac
 use Rattle.dr_plain.proofs.Lists.{at_below}
 use Rattle.dr_plain.proofs.Trading.{parts_count, blanks_count}
 
-drop_seam : {A : Type 0} (xs ys : List A) (n : ℕ) → length xs ≡ n → drop n (xs ++ ys) ≡ ys
+pub drop_seam : {A : Type 0} (xs ys : List A) (n : ℕ) → length xs ≡ n → drop n (xs ++ ys) ≡ ys
 drop_seam xs ys n len = ap (λ (m : ℕ). drop m (xs ++ ys)) (sym len) ∙ drop-append_seam xs ys
 
-take_seam : {A : Type 0} (xs ys : List A) (n : ℕ) → length xs ≡ n → take n (xs ++ ys) ≡ xs
+pub take_seam : {A : Type 0} (xs ys : List A) (n : ℕ) → length xs ≡ n → take n (xs ++ ys) ≡ xs
 take_seam xs ys n len = ap (λ (m : ℕ). take m (xs ++ ys)) (sym len) ∙ take-append_seam xs ys
 
 module _ {T : Type 0} where

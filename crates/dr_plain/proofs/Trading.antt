@@ -23,12 +23,12 @@ use Rattle.dr_plain.proofs.Lists.{there}
 use Rattle.dr_plain.proofs.Parts.{at_slice}
 
 module _ {X : Type 0} where
-  drop_at : (xs : List X) (i : ℕ) (x : X) → get_elem? xs i ≡ some x → drop i xs ≡ x ∷ drop (i + 1) xs
+  pub drop_at : (xs : List X) (i : ℕ) (x : X) → get_elem? xs i ≡ some x → drop i xs ≡ x ∷ drop (i + 1) xs
   drop_at [] i x at = absurd (some-ne-none x (sym at))
   drop_at (y ∷ xs) zero x at = ap (λ (z : X). z ∷ xs) (some-injective y x at)
   drop_at (y ∷ xs) (suc i) x at = let e : suc (i + 1) ≡ suc i + 1 = omega arith in drop_at xs i x at ∙ ap (λ (n : ℕ). x ∷ drop n (y ∷ xs)) e
 
-  take_more : (ys : List X) (i : ℕ) (y : X) → get_elem? ys i ≡ some y → take i ys ++ y ∷ [] ≡ take (i + 1) ys
+  pub take_more : (ys : List X) (i : ℕ) (y : X) → get_elem? ys i ≡ some y → take i ys ++ y ∷ [] ≡ take (i + 1) ys
   take_more [] i y at = absurd (some-ne-none y (sym at))
   take_more (z ∷ ys) zero y at = ap (λ (x : X). x ∷ []) (sym (some-injective z y at))
   take_more (z ∷ ys) (suc i) y at = let e : suc (i + 1) ≡ suc i + 1 = omega arith in ap (λ (xs : List X). z ∷ xs) (take_more ys i y at) ∙ ap (λ (n : ℕ). take n (z ∷ ys)) e

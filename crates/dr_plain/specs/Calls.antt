@@ -8,3 +8,4 @@ pub mod Settling
 pub mod Sending
 pub mod Receiving
 pub mod Inlets
+pub mod Outlets

@@ -8,3 +8,4 @@ pub mod Steps
 pub mod Stores
 pub mod Moments
 pub mod Replies
+pub mod Settling

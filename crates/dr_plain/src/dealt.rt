@@ -64,3 +64,11 @@ pub(crate) fn change_in<T, F: FnOnce(&mut T)>(
 {
     change(token.get_mut(cells, place));
 }
+
+/// One of a row, where it lies.
+pub(crate) fn at<S>(row: &Vec<S>, place: usize) -> &S
+    requires { place < length row.now.items }
+    ensures { get_elem? row.now.items place ≡ some result.now }
+{
+    &row[place]
+}

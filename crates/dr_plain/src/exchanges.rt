@@ -7,11 +7,12 @@ ghost use Rattle.atomic_table.specs.Table.{rest, turned};
 ghost use Rattle.dr_cells.specs.declared.token.Token.{Token as TokenValue};
 ghost use Rattle.dr_plain.specs.Meaning.Words.{cell_of, slot_of};
 ghost use Rattle.dr_plain.specs.Meaning.Lying.{part_of};
+ghost use Rattle.dr_plain.specs.declared.record.Lent.{Lent};
 ghost use Rattle.dr_plain.specs.Inside.Hands.{with_hand};
 ghost use Rattle.dr_plain.specs.Inside.Seats.{Hand};
 ghost use Rattle.dr_plain.specs.Inside.Trades.{parts_between, blanks_between, PartsTaken, SamePlaces, ArePartsBetween};
 
-use crate::dealt::put_at;
+use crate::dealt::{at, put_at};
 use crate::laws::{ReceiverStation, SenderStation};
 use dr_cells::Token;
 
@@ -50,8 +51,8 @@ impl<T> ReceiverStation<T> {
         self.ring.plan.slot(self.number, sequence)
     }
 
-    // The place of the cell of a sequence.
-    fn place(&self, sequence: u64) -> usize
+    /// The place of the cell of a sequence.
+    pub(crate) fn place(&self, sequence: u64) -> usize
         ensures place { result ≡ cell_of self.now.knows.plan sequence }
         ensures inside { result < self.now.knows.plan.size }
     {
@@ -63,6 +64,15 @@ impl<T> ReceiverStation<T> {
         ensures { self.new ≡ with_hand self.old (turned self.old.hand) }
     {
         self.seat.turn();
+    }
+
+    /// The event that a part of a sequence lets read.
+    pub(crate) fn read<'a>(&self, sequence: u64, parts: &'a Vec<Token<T>>) -> &'a T
+        requires { (l : Lent T) × (get_elem? parts.now.items (cell_of self.now.knows.plan sequence) ≡ some (part_of self.now.knows.plan sequence (Some l))) }
+        ensures { (l : Lent T) → get_elem? parts.now.items (cell_of self.now.knows.plan sequence) ≡ some (part_of self.now.knows.plan sequence (Some l)) → result.now ≡ l.event }
+    {
+        let place = self.place(sequence);
+        at(parts, place).get(self.ring.plan.cells(), place)
     }
 
     /// So many slots that are first in hand go behind all others, in their order.

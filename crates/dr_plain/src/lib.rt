@@ -4,13 +4,16 @@
 
 mod claiming;
 mod dealt;
+pub mod events;
 mod exchanges;
 pub mod fault;
 mod inlet;
 pub mod laws;
 mod lending;
 mod opening;
+mod outlets;
 mod plan;
+mod polling;
 pub mod receiver;
 pub mod record;
 pub mod sender;
@@ -18,10 +21,11 @@ pub mod settled;
 mod updating;
 mod written;
 
+pub use events::Events;
 pub use fault::RingFault;
 pub use laws::Halter;
 pub use opening::ring;
 pub use plan::{Plan, copy_upstreams};
 pub use receiver::Receiver;
 pub use sender::Sender;
-pub use settled::HandlerCounts;
+pub use settled::{HandlerCounts, Settled, settle};

@@ -1,12 +1,13 @@
 //! An end that receives every event.
 
-ghost use Rattle.std.specs.Prelude.{◌≡◌};
+ghost use Rattle.std.specs.Prelude.{◌≡◌, ◌<◌, ◌^◌, length, IfSome, IfNone};
 ghost use Rattle.dr_plain.specs.Calls.Ends.{looks_counted};
-ghost use Rattle.dr_plain.specs.Calls.Receiving.{CompleteCall};
+ghost use Rattle.dr_plain.specs.Calls.Receiving.{PollCall, CompleteCall, ReadsInHand, IsNotInHand};
 
 use crate::laws::ReceiverStation;
+use crate::polling::nothing_offered;
 use dr_cells::Token;
-use dr_core::Refusal;
+use dr_core::{Polled, Refusal};
 use std::marker::Model;
 
 /// The end of one handler, which receives every event after its upstreams. No call waits or takes
@@ -33,6 +34,35 @@ impl<T> Model for Receiver<T> {
 }
 
 impl<T> Receiver<T> {
+    /// Takes the next events, as many as the barrier offers and there is room for. It looks at
+    /// closed, then at the cursor, then at the count of each upstream. It may read what it took until
+    /// it completes it.
+    ///
+    /// It is refused with `BadCount`, and changes nothing, where there is no room.
+    #[tactic(auto, using(crate::proofs::Stations::begins_same, crate::proofs::Stations::begins_on))]
+    pub fn poll(&mut self, room: u64) -> Result<Polled, Refusal>
+        ensures call { PollCall self.old room self.new result }
+        ensures fits { length self.new.knows.received < 2 ^ 64 }
+    {
+        let first = self.taken;
+        if room == 0 {
+            return Err(Refusal::BadCount);
+        }
+        let closed = self.station.look_at_closed();
+        let (cursor, available) = self.station.look_round(room);
+        if available <= first {
+            return Ok(nothing_offered(closed, cursor, first));
+        }
+        let count = (available - first).min(room);
+        self.station.take_in(first, first + count, &mut self.parts);
+        self.taken = first + count;
+        Ok(Polled::Batch {
+            first,
+            count,
+            end: first + count == available,
+        })
+    }
+
     /// Completes all events below `upto`: the handlers that follow may take them, and the sender
     /// may use their cells again once all final handlers have completed them. Its parts of them
     /// are gone.
@@ -54,6 +84,20 @@ impl<T> Receiver<T> {
         self.station.complete(upto);
         self.completed = upto;
         Ok(())
+    }
+
+    /// An event that it took and did not complete, where it lies. Of any other sequence it gives
+    /// nothing.
+    pub fn event(&self, sequence: u64) -> Option<&T>
+        ensures some { IfSome result (λ event. ReadsInHand self.now.knows sequence event.now) }
+        ensures none { IfNone result (IsNotInHand self.now.knows sequence) }
+        ensures fits { length self.now.knows.received < 2 ^ 64 }
+    {
+        let upto = self.taken;
+        if sequence < self.completed || sequence >= upto {
+            return None;
+        }
+        Some(self.station.read(sequence, &self.parts))
     }
 
     /// How many words the receiver has loaded that other ends store, up to the greatest `u64`.

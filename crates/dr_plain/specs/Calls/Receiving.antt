@@ -1,14 +1,71 @@
 -- What each call of a receiver answers, and what it leaves of what the receiver knows.
-use Rattle.std.specs.Prelude.{◌≡◌, ℕ, false, List, [], ◌∷◌, Some, Result}
+use Rattle.std.specs.Prelude.{◌≡◌, ◌↔◌, ℕ, ◌+◌, ◌-◌, ◌<◌, ◌≤◌, ◌⊎◌, ◌==◌, ◌&&◌, ◌||◌, nat_lt, Bool, if◌then◌else◌, IsTrue, true, false, min, List, [], ◌∷◌, ◌++◌, length, Option, Some, None, Result, Ok, Err, Contains}
+use mathlib.Core.Option.{some}
+use lib.ListN.{get_elem?}
 use Rattle.dr_core.specs.declared.refusal.Refusal.{Refusal}
-use Rattle.dr_core.specs.Meaning.Refusals.{CompleteTests, complete_causes}
-use Rattle.dr_core.specs.Calls.Ends.{Verdict, Exactly, IsAnswerOf, complete_tests, Completes, as_end}
+use Rattle.dr_core.specs.declared.command.Polled.{Polled}
+use Rattle.dr_core.specs.declared.command.Polled.TheVariants.{Batch, Drained, Gating, Idle}
+use Rattle.dr_core.specs.Meaning.Refusals.{PollTests, CompleteTests, poll_causes, complete_causes}
+use Rattle.dr_core.specs.Calls.Ends.{Verdict, Exactly, IsAnswerOf, poll_tests, complete_tests, Completes, as_end}
+use Rattle.dr_graph.specs.Meaning.Graph.{upstreams_of}
 use Rattle.dr_runs.specs.Runs.{IsBeginning}
+use Rattle.dr_plain.specs.Meaning.Words.{cursor_word, closed_word}
+use Rattle.dr_plain.specs.declared.record.Lent.{Lent}
+use Rattle.dr_plain.specs.declared.record.ReceiverRecord.{ReceiverRecord}
 use Rattle.dr_plain.specs.declared.record.Step.TheVariants.{ReceiverCompletes}
-use Rattle.dr_plain.specs.Calls.Ends.{ReceiverEnd, received_of, receiver_place, StoresWhereOk}
+use Rattle.dr_plain.specs.Meaning.Records.{look, offered_by, events_of}
+use Rattle.dr_plain.specs.Calls.Ends.{ReceiverEnd, received_of, receiver_place, count_looks, StoresWhereOk}
+
+-- the lesser of a count and those seen before, or the count where it is the first
+abbrev pub lesser_of : Bool → ℕ → ℕ → ℕ
+lesser_of first count seen = if first || nat_lt count seen then count else seen
+
+-- what a poll saw: closed, then the cursor, then the count of each upstream
+pub record PollLooks : Type 0 where
+  pub closed : ℕ
+  pub cursor : ℕ
+  pub counts : List ℕ
+
+-- what the barrier offered: the least count that was seen or, without upstreams, the cursor
+abbrev pub offer : PollLooks → ℕ
+offer seen = offered_by seen.cursor seen.counts
 
 module _ {T : Type 0} where
+  -- what a receiver knows once it has looked so
+  abbrev pub looked_round : ReceiverRecord T → PollLooks → ReceiverRecord T
+  looked_round r seen = record r {
+    told = r.told || ((seen.closed == 1) && (seen.cursor == length r.received));
+    looks = r.looks ++ look closed_word seen.closed ∷ look cursor_word seen.cursor ∷ count_looks (upstreams_of r.plan.upstreams r.number) seen.counts;
+  }
+
+  -- a receiver has taken these events more, each as it was lent
+  abbrev pub received_all : ReceiverRecord T → List (Lent T) → ReceiverRecord T
+  received_all r lents = record r { received = r.received ++ lents }
+
+  -- what a poll with room for so many answers, where it saw this; who was told that the ring drained gets no batch any more
+  abbrev pub Answers : ReceiverRecord T → ℕ → ReceiverRecord T → PollLooks → Polled → Type 0
+  Answers r room r' seen (Batch first count last) =
+      (first ≡ length r.received) × (first < offer seen) × (count ≡ min (offer seen - first) room) × (IsTrue last ↔ (first + count ≡ offer seen)) × (r'.told ≡ false)
+      × ((lents : List (Lent T)) × (length lents ≡ count) × (r' ≡ received_all (looked_round r seen) lents))
+  Answers r room r' seen Drained =
+      (seen.closed ≡ 1) × (seen.cursor ≡ length r.received) × (offer seen ≡ length r.received) × (r' ≡ looked_round r seen) × (r'.told ≡ true)
+  Answers r room r' seen Gating =
+      (length r.received < seen.cursor) × Contains seen.counts (length r.received) × (offer seen ≡ length r.received) × (r' ≡ looked_round r seen)
+  Answers r room r' seen Idle =
+      (seen.closed ≡ 0) × (seen.cursor ≡ length r.received) × (offer seen ≡ length r.received) × (r' ≡ looked_round r seen)
+
+  -- a poll that is not refused answers by what it saw
+  abbrev pub PollSees : ReceiverRecord T → ℕ → ReceiverRecord T → Result Polled Refusal → Type 0
+  PollSees r room r' (Ok polled) = (seen : PollLooks) × (length seen.counts ≡ length (upstreams_of r.plan.upstreams r.number)) × Answers r room r' seen polled
+  PollSees r room r' (Err refusal) = r' ≡ r
+
   -- a receiver knows all of its own tests
+  abbrev pub tests_of_poll : ReceiverEnd T → ℕ → PollTests Verdict
+  tests_of_poll e room = record (poll_tests (Some (received_of e)) room) { retired = Exactly false }
+
+  abbrev pub Polls : ReceiverEnd T → ℕ → ReceiverEnd T → Result Polled Refusal → Type 0
+  Polls e room e' result = IsAnswerOf (poll_causes (tests_of_poll e room)) (as_end result) × PollSees e.knows room e'.knows result
+
   abbrev pub tests_of_completion : ReceiverEnd T → ℕ → CompleteTests Verdict
   tests_of_completion e upto = record (complete_tests (Some (received_of e)) upto) { retired = Exactly false }
 
@@ -16,6 +73,17 @@ module _ {T : Type 0} where
   TriesToComplete e n e' result =
       IsAnswerOf (complete_causes (tests_of_completion e n)) (as_end result)
       × Completes n (as_end result) (received_of e) (received_of e') × (e'.knows ≡ record e.knows { completed = e'.knows.completed })
+
+  -- a receiver reads the event of a sequence that it took and did not complete, and of no other
+  abbrev pub ReadsInHand : ReceiverRecord T → ℕ → T → Type 0
+  ReadsInHand r s event = (r.completed ≤ s) × (get_elem? (events_of r.received) s ≡ some event)
+
+  abbrev pub IsNotInHand : ReceiverRecord T → ℕ → Type 0
+  IsNotInHand r s = (s < r.completed) ⊎ (length r.received ≤ s)
+
+  -- a poll stores nothing
+  abbrev pub PollCall : ReceiverEnd T → ℕ → ReceiverEnd T → Result Polled Refusal → Type 0
+  PollCall e room e' result = (receiver_place e' ≡ receiver_place e) × Polls e room e' result × (e'.stored ≡ e.stored) × IsBeginning e.past e'.past
 
   -- the call whole: the end stays where it is, answers by what it knows, and stores its count where it is not refused and nothing else, and all that it saw before comes first
   abbrev pub CompleteCall : ReceiverEnd T → ℕ → ReceiverEnd T → Result (Unit {0}) Refusal → Type 0

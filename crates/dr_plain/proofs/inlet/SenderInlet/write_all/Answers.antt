@@ -11,7 +11,7 @@ loop-k-init g c = wrote_none _ _ _
 pub loop-k-preserved : goal.loop-k-preserved
 loop-k-preserved g c =
     let event = c.index-events-k.result in
-    wrote_more c.args.self.now c.loop-k.self c.write.new.self c.args.lo c.loop-k.k _ c.args.events.now event event c.loop-k-test.true refl (sym c.index-events-k.ensures) c.loop-k.invariant
+    wrote_more c.args.self.now c.loop-k.self c.write.new.self c.args.lo c.loop-k.k _ c.args.events.now event event c.loop-k-test.true refl (sym c.index-events-k.is) c.loop-k.invariant
     c.in-Ok.ensures
 
 pub returns-in-Err-clause-kept : goal.returns-in-Err-clause-kept

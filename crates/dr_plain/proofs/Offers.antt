@@ -1,0 +1,199 @@
+-- What a receiver is offered, by the counts that it finds one after another.
+use Rattle.std.proofs.Common.{◌≡◌, ◌≢◌, ◌⊎◌, ℕ, zero, suc, ◌+◌, ◌-◌, ◌<◌, ◌≤◌, inl, inr, Bool, true, false, ◌==◌, ◌&&◌, ◌||◌, if◌then◌else◌, min}
+use Rattle.std.proofs.Common.{List, [], ◌∷◌, ◌++◌, map, length, get_or, take, sym, refl, ap, ◌∙◌, subst, arith, append_assoc}
+use Rattle.std.specs.Prelude.{Contains}
+use Rattle.std.specs.List.{AllPairs}
+use Rattle.std.specs.List.Sorted.{IsStrictlyIncreasing}
+use Rattle.std.proofs.lemmas.Bool.{cases_lt, eq-eqb, ne_eqb, lt-ltb, le-ltb, eqb-true}
+use Rattle.std.proofs.lemmas.List.{length-append, append-nil}
+use Rattle.std.proofs.lemmas.List.Kept.{AllPairs-from_increasing}
+use Rattle.dr_graph.specs.Meaning.Graph.{upstreams_of, least_of}
+use Rattle.dr_plain.specs.Meaning.Shape.{Shape}
+use Rattle.dr_plain.specs.Meaning.Words.{cursor_word, closed_word, count_word}
+use Rattle.dr_plain.specs.declared.record.Look.{Look}
+use Rattle.dr_plain.specs.declared.record.Lent.{Lent}
+use Rattle.dr_plain.specs.declared.record.ReceiverRecord.{ReceiverRecord}
+use Rattle.dr_plain.specs.Meaning.Records.{look, last_look, offered_by, barrier_seen, taken_at, tells_drained, receiver_looked, cursor_looked}
+use Rattle.dr_plain.specs.Calls.Ends.{looks_at, count_looks}
+use Rattle.dr_plain.specs.Calls.Finds.{FindsEvents}
+use Rattle.dr_plain.specs.Calls.Receiving.{lesser_of, received_all}
+use Rattle.dr_plain.specs.Inside.Polling.{ups_of, receiver_saw, cursor_seen, IsNear, LooksAtFirst, LooksRound}
+use Rattle.dr_plain.specs.Inside.Seats.{Hand, taken_by_poll}
+use Rattle.dr_runs.proofs.Lists.{no_elements, take_whole}
+use Rattle.dr_plain.proofs.Lists.{last_look_more}
+use Rattle.dr_plain.proofs.Looking.{looks_more, contains_more, contains_last}
+
+-- the least of one count more
+least_more : (counts : List ℕ) (v : ℕ) → 0 < length counts → least_of (counts ++ v ∷ []) ≡ min (least_of counts) v
+least_more [] v lt = absurd (omega arith)
+least_more (n ∷ []) v lt = refl
+least_more (n ∷ m ∷ ms) v lt = let e : least_of ((m ∷ ms) ++ v ∷ []) ≡ min (least_of (m ∷ ms)) v = least_more (m ∷ ms) v (omega arith) in omega arith
+
+-- what a list of counts offers, once one more is seen
+offers_more : (cursor v available available' : ℕ) (counts : List ℕ) (first : Bool) → first ≡ (length counts == 0)
+    → available ≡ offered_by cursor counts → available' ≡ lesser_of first v available
+    → (available' ≡ offered_by cursor (counts ++ v ∷ [])) × ((available' ≡ v) ⊎ ((0 < length counts) × (available' ≡ available)))
+    × (available' ≤ v)
+offers_more cursor v available available' [] first start offered new =
+    let e : available' ≡ v = new ∙ rw (start) refl in (e, inl e, omega arith)
+offers_more cursor v available available' (n ∷ counts) first start offered new =
+    let least : least_of ((n ∷ counts) ++ v ∷ []) ≡ min (least_of (n ∷ counts)) v = least_more (n ∷ counts) v (omega arith) in
+    let first_no : first ≡ false = start ∙ ne_eqb (length (n ∷ counts)) 0 (λ (z : length (n ∷ counts) ≡ 0). omega arith) in
+    elim (cases_lt v available) [
+      | inl lt ↦ (let e : available' ≡ v = new ∙ rw (first_no, lt-ltb v available lt) refl in (omega arith, inl e, omega arith))
+      | inr ge ↦ (let e : available' ≡ available = new ∙ rw (first_no, le-ltb v available ge) refl in (omega arith, inr (omega arith, e), omega arith))
+    ]
+
+-- no number stands in a list twice
+AreDistinct : List ℕ → Type 0
+AreDistinct [] = Unit {0}
+AreDistinct (u ∷ us) = ((g : ℕ) → Contains us g → u ≢ g) × AreDistinct us
+
+distinct_of : (us : List ℕ) → AllPairs (λ x y. x < y) us → AreDistinct us
+unfolding AreDistinct
+distinct_of [] all = tt
+distinct_of (u ∷ us) all = (
+  λ g has e. (let inside = has.1 in let lt : u < get_or us has.0 g = all 0 (suc has.0) g (omega arith) (omega arith) in let at = has.2 in omega arith),
+  distinct_of us (λ i j d lt inside. all (suc i) (suc j) d (omega arith) (omega arith)),
+)
+
+last_look_both : (d : ℕ) (xs ys : List Look) (word : ℕ) → last_look d (xs ++ ys) word ≡ last_look (last_look d xs word) ys word
+last_look_both d [] ys word = refl
+last_look_both d (x ∷ xs) ys word = last_look_both (if x.word == word then x.value else d) xs ys word
+
+-- the counts of other handlers
+not_looked : (d : ℕ) (us counts : List ℕ) (w : ℕ) → ((g : ℕ) → Contains us g → count_word g ≢ w) → last_look d (looks_at count_word us counts) w ≡ d
+not_looked d [] counts w others = refl
+not_looked d (u ∷ us) [] w others = refl
+not_looked d (u ∷ us) (n ∷ counts) w others =
+    ap (λ (b : Bool). last_look (if b then n else d) (looks_at count_word us counts) w) (ne_eqb (count_word u) w (others u (0, omega arith, refl)))
+    ∙ not_looked d us counts w (λ g has. others g (suc has.0, (let inside = has.1 in omega arith), has.2))
+
+seen_from : (d : ℕ → ℕ) (us counts : List ℕ) → AreDistinct us → length counts ≡ length us
+    → map (λ u. last_look (d u) (looks_at count_word us counts) (count_word u)) us ≡ counts
+unfolding AreDistinct
+seen_from d [] [] apart e = refl
+seen_from d [] (n ∷ counts) apart e = absurd (omega arith)
+seen_from d (u ∷ us) [] apart e = absurd (omega arith)
+seen_from d (u ∷ us) (n ∷ counts) apart e =
+    let head : last_look (if count_word u == count_word u then n else d u) (looks_at count_word us counts) (count_word u) ≡ n =
+    ap (λ (b : Bool). last_look (if b then n else d u) (looks_at count_word us counts) (count_word u)) (eq-eqb (count_word u) (count_word u) refl)
+    ∙ not_looked n us counts (count_word u) (λ g has same. apart.0 g has (omega arith)) in
+    let tail : map (λ g. last_look (if count_word u == count_word g then n else d g) (looks_at count_word us counts) (count_word g)) us ≡ counts =
+    seen_from (λ g. if count_word u == count_word g then n else d g) us counts apart.1 (omega arith) in
+    λ i. head i ∷ tail i
+
+-- each of some handlers' counts was seen last as it was found
+seen_counts : (looks : List Look) (us counts : List ℕ) → IsStrictlyIncreasing us → length counts ≡ length us
+    → map (λ u. last_look 0 (looks ++ looks_at count_word us counts) (count_word u)) us ≡ counts
+seen_counts looks us counts rising e =
+    (λ i. map (λ u. last_look_both 0 looks (looks_at count_word us counts) (count_word u) i) us)
+    ∙ seen_from (λ u. last_look 0 looks (count_word u)) us counts (distinct_of us (AllPairs-from_increasing us rising)) e
+
+-- where there is a count, the cursor offers nothing
+offered_same : (a b : ℕ) (counts : List ℕ) → 0 < length counts → offered_by a counts ≡ offered_by b counts
+offered_same a b [] lt = absurd (omega arith)
+offered_same a b (n ∷ counts) lt = refl
+
+-- what a barrier lets through, once all upstreams' counts were looked at
+barrier_is : (k : Shape) (h cursor : ℕ) (looks : List Look) (counts : List ℕ) → (let us = upstreams_of k.upstreams h in
+    IsStrictlyIncreasing us → length counts ≡ length us → 0 < length us → barrier_seen k h (looks ++ count_looks us counts) ≡ offered_by cursor counts)
+barrier_is k h cursor looks counts rising e some =
+    let us = upstreams_of k.upstreams h in let c = last_look 0 (looks ++ count_looks us counts) cursor_word in
+    ap (λ (ns : List ℕ). offered_by c ns) (seen_counts looks us counts rising e) ∙ offered_same c cursor counts (omega arith)
+
+either_true : (a b : Bool) → (a || b) ≡ true → (a ≡ true) ⊎ (b ≡ true)
+either_true true b e = inl refl
+either_true false b e = inr e
+
+second_true : (a b : Bool) → (a && b) ≡ true → b ≡ true
+second_true true b e = e
+second_true false b e = absurd (cc)
+
+module _ {T : Type 0} where
+  pub first_none : (r : ReceiverRecord T) (cursor : ℕ) → IsNear r cursor → LooksAtFirst r cursor 0 r cursor
+  first_none r cursor near = record {
+    counts = [];
+    each = refl;
+    is = ap (λ (ys : List Look). record r { looks = ys }) (sym (append-nil r.looks));
+    offered = refl;
+    near = near;
+    found = λ lt. absurd (omega arith);
+    told = λ told lt. absurd (omega arith);
+  }
+
+  pub first_more : (r s s' : ReceiverRecord T) (cursor least least' i u v : ℕ) → LooksAtFirst r cursor i s least → i < length (ups_of r)
+      → get_or (ups_of r) i 0 ≡ u → s' ≡ receiver_saw s (look (count_word u) v ∷ []) → FindsEvents s (count_word u) v
+      → least' ≡ lesser_of (i == 0) v least → LooksAtFirst r cursor (i + 1) s' least'
+  first_more r s s' cursor least least' i u v L lt at is finds new =
+      let ups = ups_of r in let xs = count_looks (take i ups) L.counts in let len = L.each in
+      let next : count_looks (take (i + 1) ups) (L.counts ++ v ∷ []) ≡ xs ++ look (count_word u) v ∷ [] =
+      looks_more count_word ups L.counts i v L.each lt ∙ ap (λ (w : ℕ). xs ++ look (count_word w) v ∷ []) at in
+      let offer = offers_more cursor v least least' L.counts (i == 0) (ap (λ (m : ℕ). m == 0) (sym len)) L.offered new in
+      let near : IsNear r v = subst (λ (q : ReceiverRecord T). IsNear q v) L.is (finds.1, finds.3) in
+      let told : r.told ≡ true → v ≤ length r.received = subst (λ (q : ReceiverRecord T). q.told ≡ true → v ≤ length q.received) L.is finds.2 in record {
+        counts = L.counts ++ v ∷ [];
+        each = omega (arith, length-append L.counts (v ∷ []));
+        is = is ∙ ap (λ (q : ReceiverRecord T). receiver_saw q (look (count_word u) v ∷ [])) L.is
+            ∙ ap (λ (ys : List Look). record r { looks = ys }) (append_assoc r.looks xs (look (count_word u) v ∷ [])) ∙ ap (receiver_saw r) (sym next);
+        offered = offer.0;
+        near = elim offer.1 [ inl this ↦ subst (IsNear r) (sym this) near | inr old ↦ subst (IsNear r) (sym old.1) L.near ];
+        found = λ _. elim offer.1 [
+          | inl this ↦ subst (λ (m : ℕ). Contains (L.counts ++ v ∷ []) m) (sym this) (contains_last L.counts v)
+          | inr old ↦ subst (λ (m : ℕ). Contains (L.counts ++ v ∷ []) m) (sym old.1) (contains_more L.counts least v (L.found (let z = old.0 in omega arith)))
+        ];
+        told = λ y _. (let a = told y in let low = offer.2 in omega arith);
+      }
+
+  -- at the last upstream it takes
+  pub round_last : (r s s' : ReceiverRecord T) (room cursor least available i u v : ℕ) (hand hand' : Hand T) (lents : List (Lent T)) → IsStrictlyIncreasing (ups_of r)
+      → FindsEvents r cursor_word cursor → LooksAtFirst (cursor_seen r cursor) cursor i s least → i + 1 ≡ length (ups_of r) → get_or (ups_of r) i 0 ≡ u
+      → length lents ≡ taken_at s (count_word u) v room → s' ≡ receiver_looked s (count_word u) v lents → hand' ≡ taken_by_poll s lents ++ hand
+      → FindsEvents s (count_word u) v → available ≡ lesser_of (i == 0) v least → LooksRound r room cursor available hand s' hand'
+  round_last r s s' room cursor least available i u v hand hand' lents rising saw L last at many is in_hand finds new =
+      let ups = ups_of r in let q = cursor_seen r cursor in let x = receiver_saw s (look (count_word u) v ∷ []) in
+      let A = first_more q s x cursor least available i u v L (omega arith) at refl finds new in
+      let each : length A.counts ≡ length ups = A.each ∙ last in
+      let whole : take (i + 1) ups ≡ ups = take_whole ups (i + 1) (omega arith) in
+      let now : x ≡ receiver_saw q (count_looks ups A.counts) = A.is ∙ ap (λ (us : List ℕ). receiver_saw q (count_looks us A.counts)) whole in
+      let offer : barrier_seen r.plan r.number (q.looks ++ count_looks ups A.counts) ≡ available =
+      barrier_is r.plan r.number cursor q.looks A.counts rising each (omega arith) ∙ sym A.offered in record {
+        counts = A.counts;
+        each = each;
+        lents = lents;
+        many = many ∙ ap (λ (y : ReceiverRecord T). min room (barrier_seen y.plan y.number y.looks - length y.received)) now
+            ∙ ap (λ (n : ℕ). min room (n - length r.received)) offer;
+        is = is ∙ ap (λ (y : ReceiverRecord T). received_all y lents) now;
+        in_hand = in_hand ∙ ap (λ (y : ReceiverRecord T). taken_by_poll y lents ++ hand) L.is;
+        offered = A.offered;
+        near = A.near;
+        ahead = saw.1;
+        found = λ _. A.found (omega arith);
+        told = λ told. A.told told (omega arith);
+      }
+
+  -- without upstreams it takes at the cursor
+  pub round_alone : (r s' : ReceiverRecord T) (room cursor : ℕ) (hand hand' : Hand T) (lents : List (Lent T)) → length (ups_of r) ≡ 0
+      → FindsEvents r cursor_word cursor → length lents ≡ taken_at r cursor_word cursor room → s' ≡ cursor_looked r cursor lents → hand' ≡ taken_by_poll r lents ++ hand
+      → LooksRound r room cursor cursor hand s' hand'
+  round_alone r s' room cursor hand hand' lents none finds many is in_hand =
+      let q = cursor_seen r cursor in let ups = ups_of r in let empty : ups ≡ [] = no_elements ups none in
+      let seen : receiver_saw q (count_looks ups []) ≡ q =
+      ap (λ (us : List ℕ). receiver_saw q (count_looks us [])) empty ∙ ap (λ (ys : List Look). record q { looks = ys }) (append-nil q.looks) in
+      let offer : barrier_seen r.plan r.number q.looks ≡ cursor =
+      ap (λ (us : List ℕ). offered_by (last_look 0 q.looks cursor_word) (map (λ u. last_look 0 q.looks (count_word u)) us)) empty ∙ last_look_more 0 r.looks cursor_word cursor in record {
+        counts = [];
+        each = sym none;
+        lents = lents;
+        many = many ∙ ap (λ (n : ℕ). min room (n - length r.received)) offer;
+        is = is ∙ ap (λ (y : ReceiverRecord T). received_all y lents) (sym seen);
+        in_hand = in_hand;
+        offered = refl;
+        near = (finds.1, finds.3);
+        ahead = finds.1;
+        found = λ some. absurd (omega arith);
+        told = λ told. elim (either_true r.told (tells_drained r cursor) told) [
+          | inl old ↦ finds.2 old
+          | inr now ↦ (let all = eqb-true cursor (length r.received) (second_true (last_look 0 r.looks closed_word == 1) (cursor == length r.received) now) in omega arith)
+        ];
+      }

@@ -1,0 +1,19 @@
+-- What is known of the ends that come together.
+use Rattle.std.specs.Prelude.{List}
+use Rattle.atomic_table.specs.Seated.{TableId}
+use Rattle.dr_runs.specs.Gathering.{AreOf, Known}
+use Rattle.dr_plain.specs.declared.record.EndRecord.{EndRecord}
+use Rattle.dr_plain.specs.declared.record.EndRecord.TheVariants.{Sends, Receives}
+use Rattle.dr_plain.specs.declared.record.Step.{Step}
+use Rattle.dr_plain.specs.Calls.Ends.{SenderEnd, ReceiverEnd}
+
+module _ {T : Type 0} where
+  -- the receivers are of this ring
+  abbrev pub AreOfRing : TableId → List (ReceiverEnd T) → Type 0
+  AreOfRing ring es = AreOf (λ (e : ReceiverEnd T). e.ring) ring es
+
+  abbrev pub sender_known : SenderEnd T → Known (EndRecord T) (Step T)
+  sender_known e = record { knows = Sends e.knows; past = e.past; stored = e.stored }
+
+  abbrev pub receiver_known : ReceiverEnd T → Known (EndRecord T) (Step T)
+  receiver_known e = record { knows = Receives e.knows; past = e.past; stored = e.stored }

@@ -1,0 +1,78 @@
+//! How seats come together, at the end. No step of these changes a word, a slot or a record.
+
+ghost use Rattle.std.specs.Prelude.{◌≡◌, ◌<◌};
+ghost use Rattle.dr_runs.specs.Seats.{both_views};
+ghost use Rattle.dr_runs.specs.Gathering.{Compares, ViewRan};
+ghost use Rattle.dr_plain.specs.Meaning.Shape.{Shape};
+ghost use Rattle.dr_plain.specs.Inside.Seats.{exchange};
+
+use super::{RingSeat, Words};
+use crate::plan::CURSOR_WORD;
+use crate::record::View;
+use atomic_table::{Join, Play, Split};
+use dr_cells::Token;
+use std::marker::{Brand, PhantomData};
+
+// A view leaves its seat, which keeps the slots that it has in hand.
+struct Leave;
+
+impl<T> Split<View<T>> for Leave {
+    ghost use Rattle.dr_runs.specs.Seats.{no_view};
+
+    ghost left = { λ _. no_view };
+
+    ghost right = { λ v. v };
+}
+
+struct Together;
+
+impl<T> Join<View<T>> for Together {
+    ghost use Rattle.dr_runs.specs.Seats.{both_views, no_view};
+
+    ghost both = { both_views };
+
+    ghost spent = { no_view };
+}
+
+/// What the ring of a seat is made for, for a proof alone.
+pub trait Plans {
+    ghost plan: { Shape };
+
+    ghost use Rattle.dr_plain.specs.Meaning.Shape.{Shape};
+}
+
+impl Plans for Brand {
+    ghost use Rattle.dr_plain.specs.Inside.Seats.{no_shape};
+
+    ghost plan = { no_shape };
+}
+
+/// A load that tells which run came to what the ends of its seat know.
+pub struct TellsRun<J> {
+    plan: PhantomData<J>,
+}
+
+impl<T, J: Plans> Play<Token<T>, View<T>> for TellsRun<J> {
+    ghost then = { Compares (exchange J.plan) };
+}
+
+/// A seat takes in what another stands for. What slots that other has in hand stay in no seat.
+pub fn take_in<T>(words: &Words<T>, seat: &mut RingSeat<T>, mut other: RingSeat<T>)
+    requires table { (seat.old.table_id ≡ words.now.table_id) × (other.table_id ≡ words.now.table_id) × (0 < words.now.table_id.words) }
+    ensures seat { (seat.new.table_id ≡ seat.old.table_id) × (seat.new.id ≡ seat.old.id) }
+    ensures view { seat.new.me ≡ (both_views seat.old.me.0 other.me.0, seat.old.me.1) }
+{
+    let view = words.split_seat::<Leave>(&mut other);
+    words.join_seat::<Together>(seat, view);
+}
+
+/// One run came to what the ends that a seat stands for know. It costs one load, whose value says
+/// nothing.
+pub fn compare<T, J: Plans>(words: &Words<T>, seat: &mut RingSeat<T>)
+    requires table { (seat.old.table_id ≡ words.now.table_id) × (0 < words.now.table_id.words) }
+    requires plan { words.now.key ≡ J.plan }
+    ensures seat { (seat.new.table_id ≡ seat.old.table_id) × (seat.new.me ≡ seat.old.me) }
+    ensures ran { ViewRan (exchange J.plan) seat.old.me.0 }
+{
+    words.load::<TellsRun<J>>(seat, CURSOR_WORD);
+}
