@@ -27,4 +27,14 @@ pub mod Polls
 pub mod Leaving
 pub mod Copying
 pub mod Settling
+pub mod Keeping
 pub mod Gathering
+pub mod Rounds
+pub mod Rowing
+pub mod Tokens
+pub mod Collecting
+pub mod Claims
+pub mod Noting
+pub mod Answering
+pub mod Publishing
+pub mod Writing

@@ -10,3 +10,5 @@ pub mod Hands
 pub mod Trades
 pub mod Polling
 pub mod Gathering
+pub mod Scans
+pub mod Lending

@@ -3,8 +3,8 @@
 ghost use Rattle.std.specs.Prelude.{◌≡◌, ◌<◌, ℕ, replicate, length, slice_set, IfOk};
 ghost use mathlib.Core.Option.{some};
 ghost use lib.ListN.{get_elem?};
-ghost use Rattle.dr_cells.specs.Hold.{whole};
-ghost use Rattle.dr_cells.specs.Tokens.{no_token, token_at, IsAll};
+ghost use Rattle.dr_cells.specs.Hold.{whole, IsWhole};
+ghost use Rattle.dr_cells.specs.Tokens.{no_token, token_at, IsAll, IsOf};
 
 use dr_cells::{Cells, Row, Token};
 use std::alloc::{AllocError, Global};
@@ -48,4 +48,12 @@ pub(crate) fn at<S>(row: &Vec<S>, place: usize) -> &S
     ensures { get_elem? row.now.items place ≡ some result.now }
 {
     &row[place]
+}
+
+/// Writes an event in place of what lies in a whole cell.
+pub(crate) fn write_in<T: Drop>(token: &mut Token<T>, cells: Cells<T>, place: usize, event: T)
+    requires { IsOf cells.ptr place token.old × IsWhole token.old.hold }
+    ensures { token.new ≡ token_at cells.ptr place (whole event) }
+{
+    drop(replace(token.get_mut(cells, place), event));
 }

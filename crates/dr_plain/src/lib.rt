@@ -2,11 +2,13 @@
 //! on a thread of its own. An event lies once in memory, and tokens of it travel.
 #![tactic(auto)]
 
+mod claiming;
 mod dealt;
 pub mod events;
 mod exchanges;
 pub mod fault;
 pub mod laws;
+mod lending;
 mod opening;
 mod outlets;
 mod plan;

@@ -2,13 +2,16 @@
 
 ghost use Rattle.std.specs.Prelude.{◌≡◌};
 ghost use Rattle.dr_plain.specs.Calls.Ends.{looks_counted};
+ghost use Rattle.dr_plain.specs.Calls.Sending.{ClaimCall, WriteCall, PublishCall, CloseCall};
 
+use crate::dealt::{put_at, write_in};
 use crate::laws::SenderStation;
 use crate::settled::HandlerCounts;
 use crate::written::Written;
 use dr_cells::{Strip, Token};
+use dr_core::{Claimed, Refusal};
 use dr_seq::GateCache;
-use std::marker::Model;
+use std::marker::{Brand, Model};
 
 /// The one end that claims, writes and publishes. No call waits or takes memory.
 #[derive(Drop)]
@@ -39,10 +42,121 @@ impl<T> Model for Sender<T> {
 }
 
 impl<T> Sender<T> {
+    /// Claims the next `n` sequences. It looks at halt first, then at the final handlers' counts
+    /// where those that it remembers leave no room, and at halt once more.
+    ///
+    /// The causes of a refusal in their order: `BadCount` (none, or more than the size), `Halted`,
+    /// `Exhausted`, `NoRoom`, and `Halted` once more. A refused claim may have looked, and changes
+    /// nothing else.
+    #[tactic(auto, using(crate::proofs::Stations::begins_same, crate::proofs::Stations::begins_on))]
+    pub fn try_claim(&mut self, n: u64) -> Result<Claimed, Refusal>
+        ensures { ClaimCall self.old n self.new result }
+    {
+        let size = self.station.plan().size().get();
+        let limit = self.station.plan().limit();
+        if n == 0 || n > size {
+            return Err(Refusal::BadCount);
+        }
+        if self.station.finds_halt() {
+            return Err(Refusal::Halted);
+        }
+        let lo = self.claimed;
+        if n > limit - lo {
+            return Err(Refusal::Exhausted);
+        }
+        let upto = lo + n;
+        let need = upto.saturating_sub(size);
+        let seen = self.gate.seen();
+        let Some(least) = self.station.make_room(self.published, seen, need) else {
+            return Err(Refusal::NoRoom);
+        };
+        self.gate.raise(least);
+        if !self.station.claims(n) {
+            return Err(Refusal::Halted);
+        }
+        self.station.collect(lo, upto, &mut self.tokens);
+        self.claimed = upto;
+        Ok(Claimed { lo, hi: upto - 1 })
+    }
+
+    /// Publishes the sequences from `lo` to `hi`, both in the stretch: every receiver without
+    /// upstreams may take them from then on. One producer publishes in order.
+    ///
+    /// Refusals in their order: `BadCount` (`lo` above `hi`), `NotClaimed`, `AlreadyPublished`,
+    /// `NotWritten`, `OutOfOrder`. They change nothing.
+    #[tactic(auto, using(crate::proofs::Stations::begins_same, crate::proofs::Stations::begins_on))]
+    pub fn publish(&mut self, lo: u64, hi: u64) -> Result<(), Refusal>
+        ensures { PublishCall self.old lo hi self.new result }
+    {
+        if lo > hi {
+            return Err(Refusal::BadCount);
+        }
+        if hi >= self.claimed {
+            return Err(Refusal::NotClaimed);
+        }
+        if lo < self.published {
+            return Err(Refusal::AlreadyPublished);
+        }
+        if !self.written.has_all(lo, hi) {
+            return Err(Refusal::NotWritten);
+        }
+        if lo > self.published {
+            return Err(Refusal::OutOfOrder);
+        }
+        let upto = hi + 1;
+        self.station.lend(lo, upto, &mut self.tokens);
+        self.station.turn_rows(self.claimed - upto);
+        self.station
+            .publish_lent::<Brand>(lo, upto, &self.tokens);
+        self.published = upto;
+        self.written.upto = self.written.upto.max(upto);
+        Ok(())
+    }
+
+    /// Closes the ring: it is halted, and no event will come any more, so that a receiver that took
+    /// all of them is told `Drained`. It may be repeated.
+    ///
+    /// It is refused with `OpenClaim`, and changes nothing, while a claimed sequence is unpublished.
+    #[tactic(auto, using(crate::proofs::Stations::begins_same, crate::proofs::Stations::begins_on))]
+    pub fn close(&mut self) -> Result<(), Refusal>
+        ensures { CloseCall self.old self.new result }
+    {
+        if self.published != self.claimed {
+            return Err(Refusal::OpenClaim);
+        }
+        self.station.halt();
+        self.station.close();
+        Ok(())
+    }
+
     /// How many words the sender has loaded that other ends store, up to the greatest `u64`.
     pub fn looks(&self) -> u64
         ensures { result ≡ looks_counted self.now.knows.looks }
     {
         self.station.looks
+    }
+}
+
+impl<T: Drop> Sender<T> {
+    /// Writes the event of a sequence that is claimed and not published, in place of one that was
+    /// written before, or of what an earlier sequence left in its cell, which is dropped.
+    ///
+    /// Refusals in their order: `NotClaimed`, `AlreadyPublished`. They change nothing.
+    #[tactic(auto, using(crate::proofs::Stations::begins_same, crate::proofs::Stations::begins_on))]
+    pub fn write(&mut self, sequence: u64, event: T) -> Result<(), Refusal>
+        ensures { WriteCall self.old sequence event self.new result }
+    {
+        if sequence >= self.claimed {
+            return Err(Refusal::NotClaimed);
+        }
+        if sequence < self.published {
+            return Err(Refusal::AlreadyPublished);
+        }
+        self.written.note(sequence);
+        let place = self.station.place(sequence);
+        let mut token = put_at(&mut self.tokens, place, Token::blank());
+        write_in(&mut token, self.strip.cells, place, event);
+        put_at(&mut self.tokens, place, token);
+        Ok(())
     }
 }

@@ -1,0 +1,4 @@
+use Rattle.dr_plain.proofs.laws.sender.SenderStation.claims.Given as goal
+
+abbrev pub ghosts-look_at_halt : goal.ghosts-look_at_halt
+ghosts-look_at_halt g a = record { number = a.more }
