@@ -22,6 +22,13 @@ pub mod Trading
 pub mod Stations
 pub mod Taken
 pub mod Looking
+pub mod Offers
+pub mod Polls
+pub mod Leaving
+pub mod Copying
+pub mod Settling
+pub mod Keeping
+pub mod Gathering
 pub mod Rounds
 pub mod Rowing
 pub mod Tokens
@@ -32,9 +39,3 @@ pub mod Answering
 pub mod Publishing
 pub mod Writing
 pub mod ManyWrites
-pub mod Offers
-pub mod Polls
-pub mod Leaving
-pub mod Copying
-pub mod Settling
-pub mod Gathering

@@ -1,12 +1,10 @@
 -- What a poll comes to.
-use Rattle.std.proofs.Common.{◌≡◌, ◌≢◌, ℕ, ◌+◌, ◌-◌, ◌<◌, ◌≤◌, ◌⊎◌, inl, inr, Bool, true, false, ◌==◌, ◌&&◌, ◌||◌, min}
-use Rattle.std.proofs.Common.{List, [], ◌∷◌, ◌++◌, length, take, drop, Some, sym, refl, ap, ◌∙◌, subst, arith, append_assoc}
+use Rattle.std.proofs.Common.{◌≡◌, ◌≢◌, ℕ, ◌+◌, ◌-◌, ◌<◌, ◌≤◌, inl, inr, Bool, true, false, ◌==◌, ◌&&◌, ◌||◌, min}
+use Rattle.std.proofs.Common.{List, [], ◌∷◌, ◌++◌, length, take, drop, sym, refl, ap, ◌∙◌, subst, arith, append_assoc}
 use Rattle.std.specs.Prelude.{Contains, IsTrue, ◌↔◌}
-use Rattle.std.proofs.Math.Seq.{drop-append_seam}
 use Rattle.std.proofs.lemmas.Bool.{cases_eq, cases_lt, eq-eqb, ne_eqb, lt-ltb, le-ltb, eqb-true}
 use Rattle.std.proofs.lemmas.List.{length-append, append-nil}
-use mathlib.Core.Option.{some, some-injective}
-use lib.ListN.{get_elem?}
+use mathlib.Core.Option.{some}
 use Rattle.atomic_table.proofs.Lists.{at_longer}
 use Rattle.dr_cells.specs.declared.token.Token.{Token}
 use Rattle.dr_core.specs.declared.command.Polled.{Polled}
@@ -15,16 +13,16 @@ use Rattle.dr_seq.proofs.Apart.{slots_differ}
 use Rattle.dr_runs.specs.Stretches.{stretch}
 use Rattle.dr_runs.proofs.Lists.{no_elements, take_whole}
 use Rattle.dr_plain.specs.Meaning.Words.{cursor_word, closed_word, cell_of}
-use Rattle.dr_plain.specs.Meaning.Lying.{part_of, placed}
+use Rattle.dr_plain.specs.Meaning.Lying.{placed}
 use Rattle.dr_plain.specs.declared.record.Look.{Look}
 use Rattle.dr_plain.specs.declared.record.Lent.{Lent}
 use Rattle.dr_plain.specs.declared.record.ReceiverRecord.{ReceiverRecord}
-use Rattle.dr_plain.specs.Meaning.Records.{look, last_look, offered_by, closed_looked}
+use Rattle.dr_plain.specs.Meaning.Records.{look, offered_by, closed_looked}
 use Rattle.dr_plain.specs.Calls.Ends.{ReceiverStand, count_looks}
 use Rattle.dr_plain.specs.Calls.Receiving.{PollLooks, looked_round, received_all, Answers}
 use Rattle.dr_plain.specs.Inside.Fits.{taken_slots, ReceiverFits}
 use Rattle.dr_plain.specs.Inside.Hands.{with_hand}
-use Rattle.dr_plain.specs.Inside.Polling.{ups_of, receiver_saw, cursor_seen, IsNear, LooksRound, nothing_offered}
+use Rattle.dr_plain.specs.Inside.Polling.{ups_of, receiver_saw, cursor_seen, LooksRound, nothing_offered}
 use Rattle.dr_plain.specs.Inside.Seats.{Hand, lent_all, taken_by_poll}
 use Rattle.dr_plain.specs.Inside.Trades.{parts_between, blanks_between, PartsTaken}
 use Rattle.dr_plain.proofs.Lists.{there, at_below, last_look_more}

@@ -1,27 +1,24 @@
 -- What a receiver has in hand, and its parts, as it takes events and completes them.
-use Rattle.std.proofs.Common.{◌≡◌, ◌≢◌, ℕ, ◌+◌, ◌-◌, ◌<◌, ◌≤◌, inl, inr, List, [], ◌++◌, length, take, drop, replicate, Option, Some, None, sym, refl, ap, ◌∙◌, subst, arith}
+use Rattle.std.proofs.Common.{◌≡◌, ℕ, ◌+◌, ◌-◌, ◌≤◌, List, ◌++◌, length, take, drop, replicate, Option, None, sym, refl, ap, ◌∙◌, subst, arith}
 use Rattle.std.proofs.Math.Seq.{take-append_seam, drop-append_seam}
-use Rattle.std.proofs.lemmas.Bool.{cases_lt}
 use Rattle.std.proofs.lemmas.List.{replicate-append-replicate, length-replicate, length-append}
-use mathlib.Core.Option.{some}
-use lib.ListN.{get_elem?}
 use Rattle.dr_cells.specs.declared.token.Token.{Token}
 use Rattle.dr_seq.proofs.Apart.{slots_differ}
 use Rattle.dr_runs.specs.Stretches.{stretch}
 use Rattle.dr_runs.proofs.Rows.{stretch_both}
 use Rattle.dr_plain.specs.Meaning.Words.{cell_of}
-use Rattle.dr_plain.specs.Meaning.Lying.{part_of, placed}
+use Rattle.dr_plain.specs.Meaning.Lying.{placed}
 use Rattle.dr_plain.specs.Meaning.Records.{completed_to}
 use Rattle.dr_plain.specs.declared.record.Lent.{Lent}
 use Rattle.dr_plain.specs.declared.record.ReceiverRecord.{ReceiverRecord}
 use Rattle.dr_plain.specs.declared.record.Step.{Step}
 use Rattle.dr_plain.specs.Calls.Ends.{ReceiverStand, HasStored}
-use Rattle.dr_plain.specs.Inside.Fits.{no_lents, taken_slots, PartsFit, ReceiverFits}
+use Rattle.dr_plain.specs.Inside.Fits.{no_lents, ReceiverFits}
 use Rattle.dr_plain.specs.Inside.Hands.{with_hand}
 use Rattle.dr_plain.specs.Inside.Seats.{Hand, given_by_completion}
 use Rattle.dr_plain.specs.Inside.Trades.{parts_between, blanks_between, SamePlaces, ArePartsBetween}
 use Rattle.dr_plain.proofs.Lists.{at_below}
-use Rattle.dr_plain.proofs.Trading.{parts_count, blanks_count}
+use Rattle.dr_plain.proofs.Trading.{blanks_count}
 
 pub drop_seam : {A : Type 0} (xs ys : List A) (n : ℕ) → length xs ≡ n → drop n (xs ++ ys) ≡ ys
 drop_seam xs ys n len = ap (λ (m : ℕ). drop m (xs ++ ys)) (sym len) ∙ drop-append_seam xs ys

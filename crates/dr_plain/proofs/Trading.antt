@@ -1,5 +1,5 @@
 -- The slots that are first in hand, as a token goes in and out of each.
-use Rattle.std.proofs.Common.{◌≡◌, ◌≢◌, ℕ, zero, suc, ◌+◌, ◌-◌, ◌<◌, ◌≤◌, inl, inr, List, [], ◌∷◌, ◌++◌, length, set, take, drop, replicate, Option, Some, None, sym, refl, ap, ◌∙◌, subst, arith, append_assoc, length-set}
+use Rattle.std.proofs.Common.{◌≡◌, ℕ, zero, suc, ◌+◌, ◌-◌, ◌<◌, ◌≤◌, inl, inr, List, [], ◌∷◌, ◌++◌, length, set, take, drop, Option, Some, None, sym, refl, ap, ◌∙◌, arith, append_assoc, length-set}
 use Rattle.std.proofs.lemmas.Bool.{cases_eq}
 use Rattle.std.proofs.lemmas.List.{append-nil, length-map, length-take, length-drop, length-replicate}
 use mathlib.Core.Option.{some, some-injective, some-ne-none}

@@ -1,4 +1,4 @@
-use Rattle.std.proofs.Common.{◌≡◌, ℕ, ◌+◌, ◌≤◌, List, take, drop, length, arith, sym, ap, ◌∙◌, subst}
+use Rattle.std.proofs.Common.{◌≤◌, List, take, drop, length, arith, sym, ap, ◌∙◌, subst}
 use Rattle.std.proofs.lemmas.List.{length-append, length-map}
 use Rattle.dr_plain.specs.declared.record.Lent.{Lent}
 use Rattle.dr_plain.specs.Meaning.Records.{events_of}

@@ -1,4 +1,4 @@
-use Rattle.std.proofs.Common.{ℕ, ◌<◌, ◌≤◌, arith, ap, sym, ◌∙◌, set, Some, None}
+use Rattle.std.proofs.Common.{ℕ, arith, ap, sym, ◌∙◌, set, Some, None}
 use lib.ListN.{get_elem?}
 use Rattle.dr_plain.specs.Calls.Ends.{ReceiverStand}
 use Rattle.dr_plain.specs.Meaning.Words.{cell_of, slot_of}

@@ -1,4 +1,4 @@
-use Rattle.std.proofs.Common.{ℕ, List, arith, refl, sym, ap, ◌∙◌, length, get_or}
+use Rattle.std.proofs.Common.{ℕ, List, arith, refl, sym, ap, ◌∙◌, get_or}
 use Rattle.dr_plain.specs.declared.record.ReceiverRecord.{ReceiverRecord}
 use Rattle.dr_plain.specs.Inside.Polling.{ups_of}
 use Rattle.dr_plain.proofs.Stations.{begins_on}

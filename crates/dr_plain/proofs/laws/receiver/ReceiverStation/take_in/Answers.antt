@@ -1,4 +1,4 @@
-use Rattle.std.proofs.Common.{ℕ, ◌<◌, ◌≤◌, arith, ap, ◌∙◌, set, Some, None}
+use Rattle.std.proofs.Common.{ℕ, arith, ap, ◌∙◌, set, Some, None}
 use Rattle.dr_plain.specs.Calls.Ends.{ReceiverStand}
 use Rattle.dr_plain.specs.Meaning.Words.{cell_of, slot_of}
 use Rattle.dr_plain.specs.Meaning.Lying.{placed}
