@@ -1,11 +1,9 @@
 -- What a claim comes to.
 use Rattle.std.proofs.Common.{◌≡◌, ℕ, zero, suc, ◌+◌, ◌-◌, ◌*◌, ◌^◌, ◌<◌, ◌≤◌, ◌==◌, ◌||◌, true, false, inl, inr, ◌⊎◌, if◌then◌else◌, List, []}
-use Rattle.std.proofs.Common.{◌∷◌, ◌++◌, length, take, drop, replicate, Option, Some, None, sym, refl, ap, ◌∙◌, subst, arith, append_assoc}
+use Rattle.std.proofs.Common.{◌∷◌, ◌++◌, length, take, drop, Option, Some, None, sym, refl, ap, ◌∙◌, subst, arith, append_assoc}
 use Rattle.std.specs.Prelude.{nat_lt, Result, Ok, Err}
 use Rattle.std.proofs.lemmas.Bool.{cases_lt, eq-eqb, ne_eqb, lt-ltb, le-ltb, ltb-false, or_left, or_right}
 use Rattle.std.proofs.lemmas.List.{append-nil, length-map}
-use lib.ListN.{get_elem?}
-use mathlib.Core.Option.{some}
 use Rattle.dr_seq.specs.Size.{IsSize}
 use Rattle.dr_seq.proofs.Apart.{slots_differ}
 use Rattle.dr_core.specs.declared.refusal.Refusal.TheVariants.{BadCount, NoRoom, Halted, Exhausted}
@@ -203,13 +201,6 @@ module _ {T : Type 0} {e : SenderStand T} (e' : SenderStand T) {f : SenderFields
 
   to_is : claimed before + q ≡ upto
   to_is = let next = F.next in omega arith
-
-  pub collect_order : (lo ≤ upto) × (upto ≤ length e'.knows.published + e'.knows.plan.size) × (upto ≤ lo + e'.knows.plan.size)
-  collect_order = subst (λ (x : SenderRecord T). (lo ≤ upto) × (upto ≤ length x.published + x.plan.size) × (upto ≤ lo + x.plan.size)) (sym is)
-      (let next = F.next in let a = near in (omega arith, omega arith, omega arith))
-
-  pub collect_room : length f.tokens ≡ e'.knows.plan.size
-  collect_room = F.tokens.count ∙ ap (λ (x : SenderRecord T). x.plan.size) (sym is)
 
   pub collect_kept : AreKept e'.knows lo upto f.tokens
   collect_kept =

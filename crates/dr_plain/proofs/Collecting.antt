@@ -1,12 +1,11 @@
 -- The sender's tokens, as those of a stretch of sequences are collected or lent one after another.
-use Rattle.std.proofs.Common.{◌≡◌, ◌≢◌, ℕ, zero, suc, ◌+◌, ◌-◌, ◌<◌, ◌≤◌, inl, inr, List, [], ◌∷◌, ◌++◌, map, length, set, take, drop, replicate, Option, None, Some, sym, refl, ap, ◌∙◌, subst, arith, length-set}
-use Rattle.std.proofs.Math.Nat.{mod-lt}
+use Rattle.std.proofs.Common.{◌≡◌, ℕ, zero, suc, ◌+◌, ◌-◌, ◌<◌, ◌≤◌, inl, inr, List, [], ◌∷◌, ◌++◌, map, length, set, drop, replicate, Option, None, Some, sym, refl, ap, ◌∙◌, subst, arith}
 use Rattle.std.proofs.lemmas.Bool.{cases_eq}
-use Rattle.std.proofs.lemmas.List.{append-nil, length-append, length-map, length-take, length-drop, length-replicate}
+use Rattle.std.proofs.lemmas.List.{length-append, length-map, length-take, length-drop, length-replicate}
 use mathlib.Core.Option.{some, some-injective, some-ne-none}
 use mathlib.Core.Option as maybe
 use lib.ListN.{get_elem?}
-use Rattle.atomic_table.proofs.Lists.{set_here, set_else, at_longer, at_snoc}
+use Rattle.atomic_table.proofs.Lists.{set_here, set_else, at_longer}
 use Rattle.dr_cells.specs.declared.token.Token.{Token}
 use Rattle.dr_cells.specs.Hold.{held}
 use Rattle.dr_seq.proofs.Apart.{slots_differ}
@@ -19,10 +18,9 @@ use Rattle.dr_plain.specs.declared.record.Lent.{Lent}
 use Rattle.dr_plain.specs.declared.record.SenderRecord.{SenderRecord}
 use Rattle.dr_plain.specs.Inside.Fits.{Keeps, no_lents, cells_of}
 use Rattle.dr_plain.specs.Inside.Hands.{lent_by}
-use Rattle.dr_plain.specs.Inside.Lending.{laid_between, IsKept, AreKept, IsLending, AreLent, AreWhole, SameBut, lents_of, lent_at}
-use Rattle.dr_plain.specs.Inside.Seats.{lent_all}
+use Rattle.dr_plain.specs.Inside.Lending.{laid_between, AreLent, AreWhole, SameBut, lents_of, lent_at}
 use Rattle.dr_plain.proofs.Tokens.{out}
-use Rattle.dr_plain.proofs.Lists.{there, at_below}
+use Rattle.dr_plain.proofs.Lists.{at_below}
 use Rattle.dr_plain.proofs.Parts.{at_slice}
 use Rattle.dr_plain.proofs.Rowing.{replicate_more}
 

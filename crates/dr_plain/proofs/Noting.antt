@@ -1,8 +1,8 @@
 -- What is noted as written, what a write, a claim and a publication leave of that, and what the writes of open sequences then are.
-use Rattle.std.proofs.Common.{◌≡◌, ◌≢◌, ℕ, zero, suc, ◌+◌, ◌-◌, ◌%◌, ◌<◌, ◌≤◌, inl, inr, true, false, Bool, if◌then◌else◌, List, [], ◌∷◌, ◌++◌, length, get_or, set, drop, replicate, max}
-use Rattle.std.proofs.Common.{Option, Some, None, sym, refl, ap, ◌∙◌, subst, arith, length-set}
+use Rattle.std.proofs.Common.{◌≡◌, ◌≢◌, ℕ, zero, suc, ◌+◌, ◌%◌, ◌<◌, ◌≤◌, inl, inr, true, false, if◌then◌else◌, List, ◌∷◌, ◌++◌, length, get_or, set, replicate, max}
+use Rattle.std.proofs.Common.{Option, None, sym, refl, ap, ◌∙◌, subst, arith, length-set}
 use Rattle.std.specs.Prelude.{◌||◌, nat_lt}
-use Rattle.std.proofs.lemmas.Bool.{cases_eq, cases_lt, lt-ltb, le-ltb, or_left, or_right, or_from}
+use Rattle.std.proofs.lemmas.Bool.{cases_lt, lt-ltb, le-ltb, or_left, or_right, or_from}
 use Rattle.dr_seq.specs.Rounds.{entry_of, is_marked}
 use Rattle.dr_core.specs.Calls.Stamped.{stamped}
 use Rattle.dr_core.proofs.Stamped.{mark_is, marked-in, marked-out, marks_none_after}

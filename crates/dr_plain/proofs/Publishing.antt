@@ -1,5 +1,5 @@
 -- What a publication leaves of the sender's fields, and what it answers.
-use Rattle.std.proofs.Common.{◌≡◌, ◌≢◌, ℕ, zero, suc, ◌+◌, ◌-◌, ◌*◌, ◌%◌, ◌<◌, ◌≤◌, inl, inr, true, List, [], ◌∷◌, ◌++◌, map, length, get_or, take, drop, max, replicate, if◌then◌else◌, Option}
+use Rattle.std.proofs.Common.{◌≡◌, ℕ, suc, ◌+◌, ◌-◌, ◌*◌, ◌%◌, ◌<◌, ◌≤◌, inl, inr, true, List, [], ◌∷◌, ◌++◌, length, get_or, take, drop, max, replicate, if◌then◌else◌, Option}
 use Rattle.std.proofs.Common.{Some, None, sym, refl, ap, ◌∙◌, subst, arith, append_assoc}
 use Rattle.std.specs.Prelude.{Ok, Err}
 use Rattle.std.proofs.Math.Nat.{mod-lt}
@@ -25,7 +25,7 @@ use Rattle.dr_plain.specs.declared.written.Written.{Written}
 use Rattle.dr_plain.specs.Calls.Ends.{SenderStand, SenderEnd, sent_of}
 use Rattle.dr_plain.specs.Calls.Sending.{TriesToPublish}
 use Rattle.dr_plain.specs.Inside.Fits.{Keeps, SenderFields, SenderFits, TokensFit, cells_of, no_lents, open_slots}
-use Rattle.dr_plain.specs.Inside.Lending.{lanes, lents_of, AreLent, AreWhole, SameBut}
+use Rattle.dr_plain.specs.Inside.Lending.{lanes, lents_of, AreLent, SameBut}
 use Rattle.dr_plain.specs.Inside.Hands.{with_hand}
 use Rattle.dr_plain.specs.Inside.Noted.{Noted, AreNoted, HasUnnoted, is_noted, writes_from}
 use Rattle.dr_plain.specs.Inside.Seats.{Hand, lent_all, given_by_publication}
@@ -35,7 +35,7 @@ use Rattle.dr_plain.proofs.Claims.{fits_as}
 use Rattle.dr_plain.proofs.Collecting.{at_after, first_at, laid_count, laid_later, blanks_count}
 use Rattle.dr_plain.proofs.Lanes.{cell_later}
 use Rattle.dr_plain.proofs.Tokens.{out}
-use Rattle.dr_plain.proofs.Lists.{there, at_below, value_at}
+use Rattle.dr_plain.proofs.Lists.{there, value_at}
 use Rattle.dr_plain.proofs.Noting.{write_at, writes_at, written_at, unwritten_at, writes_both, writes_same, writes_count, noted_published, noted_later}
 use Rattle.dr_plain.proofs.Rowing.{dropped, taken, length_rows, replicate_both, rows_both}
 use Rattle.dr_plain.proofs.Stations.{begins_same}
@@ -56,10 +56,6 @@ module _ {T : Type 0} where
       let size = e.knows.plan.size in let inside = mod-lt s (size_positive size F.made.size) in let count = F.tokens.count in
       let t = there f.tokens (cell_of e.knows.plan s) (omega arith) in let whole = F.tokens.opened s t.0 low lt t.1 in
       (whole.0, cell_at f.tokens size s t.0 F.tokens.count t.1 ∙ ap (λ (x : Token T). held x.hold) whole.1)
-
-  pub whole_opened : (e : SenderStand T) (f : SenderFields T) (first upto : ℕ) → SenderFits e f → length e.knows.published ≤ first → upto ≤ claimed e.knows
-      → AreWhole e.knows.plan first upto f.tokens
-  whole_opened e f first upto F low high s t from to at = F.tokens.opened s t (omega arith) (omega arith) at
 
 -- A sender that publishes from lo to hi.
 module _ {T : Type 0} {e : SenderStand T} {f : SenderFields T} {lo hi : ℕ} (F : SenderFits e f) (order : lo ≤ hi) (within : hi < f.claimed_to) (fresh : f.published_to ≤ lo) where
@@ -186,9 +182,6 @@ module _ {T : Type 0} where
       ∙ rows_both (placed k) (handlers_of k) s (no_lents n) (no_lents m)
       ∙ ap (λ (j : ℕ). lanes k s (no_lents n) ++ lanes k (s + j) (no_lents m)) (blanks_count T n)
 
-  pub lents_long : (k : Shape) (s : ℕ) (lents : List (Lent T)) → length (lanes k s (lent_all lents)) ≡ handlers_of k * length lents
-  lents_long k s lents = length_rows (placed k) (handlers_of k) s (lent_all lents) ∙ ap (λ (j : ℕ). handlers_of k * j) (length-map lents (λ (l : Lent T). Some l))
-
 -- What a publication of the next n sequences does to the fields, step by step.
 module _ {T : Type 0} {e : SenderStand T} {f : SenderFields T} (tokens : List (Token T)) (lo upto : ℕ) (F : SenderFits e f) (front : lo ≡ f.published_to) (some_one : lo < upto)
     (within : upto ≤ f.claimed_to) where
@@ -203,12 +196,6 @@ module _ {T : Type 0} {e : SenderStand T} {f : SenderFields T} (tokens : List (T
 
   left_is : (upto - lo) + (f.claimed_to - upto) ≡ before.pending
   left_is = let next = F.next in let a = from_is in omega arith
-
-  pub lend_order : (lo ≤ upto) × (upto ≤ lo + before.plan.size)
-  lend_order = let near = F.near in (omega arith, omega arith)
-
-  pub lend_whole : AreWhole before.plan lo upto f.tokens
-  lend_whole = let next = F.next in let a = from_is in whole_opened e f lo upto F (omega arith) (omega arith)
 
   abbrev others : Hand T
   others = lanes before.plan (lo + (upto - lo)) (no_lents (f.claimed_to - upto))

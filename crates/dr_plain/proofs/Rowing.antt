@@ -1,17 +1,15 @@
 -- The sender's slots in hand, a row for each sequence.
-use Rattle.std.proofs.Common.{◌≡◌, ℕ, zero, suc, ◌+◌, ◌-◌, ◌*◌, ◌<◌, ◌≤◌, List, [], ◌∷◌, ◌++◌, length, take, drop, replicate, Option, None, sym, refl, ap, ◌∙◌, subst, arith, append_assoc}
+use Rattle.std.proofs.Common.{◌≡◌, ℕ, zero, suc, ◌+◌, ◌-◌, ◌*◌, ◌<◌, ◌≤◌, List, [], ◌∷◌, ◌++◌, length, take, drop, replicate, Option, sym, refl, ap, ◌∙◌, arith, append_assoc}
 use Rattle.std.proofs.lemmas.List.{append-nil, length-append, length-replicate}
 use Rattle.std.proofs.Math.Nat.{mul-suc}
 use mathlib.Core.Option.{some}
 use lib.ListN.{get_elem?}
-use Rattle.dr_cells.specs.declared.token.Token.{Token}
 use Rattle.dr_runs.specs.Stretches.{stretch, rows}
 use Rattle.dr_runs.proofs.Rows.{length_stretch, stretch_at, replicate_at}
 use Rattle.dr_plain.specs.Meaning.Shape.{Shape, handlers_of}
 use Rattle.dr_plain.specs.Meaning.Lying.{placed}
 use Rattle.dr_plain.specs.declared.record.Lent.{Lent}
 use Rattle.dr_plain.specs.Calls.Ends.{EndOf}
-use Rattle.dr_plain.specs.Inside.Fits.{no_lents}
 use Rattle.dr_plain.specs.Inside.Hands.{with_hand, row}
 use Rattle.dr_plain.specs.Inside.Lending.{lanes}
 use Rattle.dr_plain.specs.Inside.Seats.{Hand}

@@ -1,15 +1,14 @@
 -- The sender's token of a cell, as its parts come back one after another, and as they go out.
-use Rattle.std.proofs.Common.{◌≡◌, ℕ, ◌+◌, ◌-◌, ◌^◌, ◌<◌, ◌≤◌, Option, None, Some, sym, refl, ap, ◌∙◌, subst, arith}
+use Rattle.std.proofs.Common.{◌≡◌, ℕ, ◌+◌, ◌-◌, ◌^◌, ◌<◌, None, Some, sym, refl, ap, ◌∙◌, subst}
 use Rattle.dr_cells.specs.declared.token.Token.{Token}
-use Rattle.dr_cells.specs.Hold.{whole, part, kept, held, IsWhole, lent, CanSplit, split, one_part, CanJoin, joined, IsBack, regained}
+use Rattle.dr_cells.specs.Hold.{whole, kept, held, IsWhole, lent, CanSplit, split, one_part, CanJoin, joined, IsBack, regained}
 use Rattle.dr_cells.specs.Tokens.{token_at, with_hold}
-use Rattle.dr_plain.specs.Meaning.Shape.{Shape, handlers_of}
+use Rattle.dr_plain.specs.Meaning.Shape.{Shape}
 use Rattle.dr_plain.specs.Meaning.Words.{cell_of}
 use Rattle.dr_plain.specs.Meaning.Lying.{part_of}
 use Rattle.dr_plain.specs.declared.record.Lent.{Lent}
 use Rattle.dr_plain.specs.Inside.Fits.{Keeps}
 use Rattle.dr_plain.specs.Inside.Hands.{lent_by}
-use Rattle.dr_plain.specs.Inside.Lending.{IsLending}
 
 module _ {T : Type 0} where
   -- n parts of a lending are out
@@ -19,9 +18,6 @@ module _ {T : Type 0} where
   module _ (k : Shape) (s : ℕ) where
     pub lending_by : (t : Token T) (n : ℕ) (m : Lent T) → t ≡ out k s n m → lent_by t.hold ≡ Some m
     lending_by t n m is = ap (λ (x : Token T). lent_by x.hold) is
-
-    pub whole_by : (t : Token T) → Keeps k s None t → lent_by t.hold ≡ None
-    whole_by t is = ap (λ (x : Token T). lent_by x.hold) is.1
 
     pub held_by : (t : Token T) (n : ℕ) (m : Lent T) → t ≡ out k s n m → held t.hold ≡ Some m.event
     held_by t n m is = ap (λ (x : Token T). held x.hold) is

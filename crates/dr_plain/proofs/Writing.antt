@@ -1,5 +1,5 @@
 -- What a write leaves of the sender's fields.
-use Rattle.std.proofs.Common.{◌≡◌, ◌≢◌, ℕ, ◌+◌, ◌-◌, ◌%◌, ◌<◌, ◌≤◌, inl, inr, List, map, length, get_or, set, Option, Some, None, sym, refl, ap, ◌∙◌, subst, arith, length-set, get_or-set_other, if◌then◌else◌}
+use Rattle.std.proofs.Common.{◌≡◌, ◌≢◌, ℕ, ◌+◌, ◌-◌, ◌%◌, ◌<◌, ◌≤◌, inl, inr, List, length, get_or, set, Option, Some, None, sym, refl, ap, ◌∙◌, subst, arith, length-set, get_or-set_other, if◌then◌else◌}
 use Rattle.std.specs.Prelude.{Ok, Err}
 use Rattle.std.proofs.lemmas.Bool.{cases_eq, lt-ltb, le-ltb, le-leb, lt-leb}
 use Rattle.std.proofs.lemmas.List.{length-map, map-set}
@@ -10,7 +10,7 @@ use Rattle.atomic_table.proofs.Lists.{set_here, set_else}
 use Rattle.dr_seq.proofs.Apart.{slots_differ}
 use Rattle.dr_seq.proofs.Sizes.{size_positive}
 use Rattle.dr_core.specs.declared.refusal.Refusal.TheVariants.{NotClaimed, AlreadyPublished}
-use Rattle.dr_core.specs.Calls.Ends.{Sent, claimed_in, with_event}
+use Rattle.dr_core.specs.Calls.Ends.{Sent, claimed_in}
 use Rattle.dr_cells.specs.declared.token.Token.{Token}
 use Rattle.dr_cells.specs.Hold.{whole, held}
 use Rattle.dr_cells.specs.Tokens.{token_at}
@@ -23,7 +23,7 @@ use Rattle.dr_plain.specs.declared.written.Written.{Written}
 use Rattle.dr_plain.specs.Calls.Ends.{SenderStand, SenderEnd, sent_of}
 use Rattle.dr_plain.specs.Calls.Sending.{TriesToWrite}
 use Rattle.dr_plain.specs.Inside.Fits.{SenderFields, SenderFits, TokensFit, cells_of}
-use Rattle.dr_plain.specs.Inside.Noted.{Notes, is_noted, writes_from}
+use Rattle.dr_plain.specs.Inside.Noted.{Notes, writes_from}
 use Rattle.dr_plain.specs.Inside.Views.{sender_end}
 use Rattle.dr_plain.proofs.Collecting.{laid_count, set_twice}
 use Rattle.dr_plain.proofs.Lists.{at_below}

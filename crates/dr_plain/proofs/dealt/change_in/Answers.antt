@@ -1,5 +1,4 @@
-use Rattle.std.proofs.Common.{refl, of_calls}
-use Rattle.dr_cells.specs.Hold.{whole}
+use Rattle.std.proofs.Common.{refl}
 use Rattle.dr_plain.proofs.Dealing.{token_is}
 use Rattle.dr_plain.proofs.dealt.change_in.Goals as goal
 

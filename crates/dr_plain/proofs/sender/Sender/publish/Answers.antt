@@ -1,8 +1,7 @@
-use Rattle.std.proofs.Common.{rules, ◌≡◌, ℕ, ◌+◌, ◌-◌, ◌≤◌, ◌<◌, List, [], ◌∷◌, ◌++◌, length, Ok, arith, refl, sym, ap, ◌∙◌, subst}
+use Rattle.std.proofs.Common.{◌≡◌, ℕ, ◌+◌, ◌-◌, ◌≤◌, ◌<◌, List, [], ◌∷◌, ◌++◌, Ok, arith, refl, sym, ap, ◌∙◌, subst}
 use Rattle.dr_seq.proofs.Sizes.{size_at_most}
 use Rattle.dr_runs.specs.Runs.{IsBeginning}
 use Rattle.dr_plain.specs.Meaning.Records.{events_of}
-use Rattle.dr_plain.specs.declared.record.SenderRecord.{SenderRecord}
 use Rattle.dr_plain.specs.declared.record.Step.{Step}
 use Rattle.dr_plain.specs.declared.record.Step.TheVariants.{SenderPublishes}
 use Rattle.dr_plain.specs.Calls.Ends.{SenderEnd, SenderStand}
@@ -12,7 +11,7 @@ use Rattle.dr_plain.specs.declared.written.Written.{Written}
 use Rattle.dr_plain.specs.Inside.Lending.{lents_of}
 use Rattle.dr_plain.specs.Inside.Views.{sender_end}
 use Rattle.dr_plain.proofs.Claims.{collected_many}
-use Rattle.dr_plain.proofs.Stations.{begins_same, begins_on}
+use Rattle.dr_plain.proofs.Stations.{begins_same}
 use Rattle.dr_plain.proofs.Publishing.{publish_unclaimed, publish_early, publish_unwritten, publish_late, publish_done, publish_stores, lend_hand, turn_room, publish_order, publish_lents, publish_hand, published_knows, turned_knows, fits_publish}
 use Rattle.dr_plain.proofs.sender.Sender.publish.Goals as goal
 use Rattle.dr_plain.proofs.sender.Sender.publish.Goals.{After-has_all}

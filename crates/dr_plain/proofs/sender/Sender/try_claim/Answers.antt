@@ -1,22 +1,18 @@
-use Rattle.std.proofs.Common.{rules, ◌≡◌, ℕ, ◌+◌, ◌-◌, ◌*◌, ◌^◌, ◌≤◌, ◌<◌, ◌⊎◌, inl, inr, ◌++◌, List, length, drop, Err, Ok, arith, refl, sym, ap, ◌∙◌, subst}
+use Rattle.std.proofs.Common.{rules, ◌≡◌, ◌+◌, ◌-◌, ◌≤◌, ◌<◌, ◌⊎◌, inl, inr, List, Err, Ok, arith, refl, sym, ap, ◌∙◌, subst}
 use Rattle.dr_core.specs.declared.command.Claimed.{Claimed}
 use Rattle.dr_core.specs.declared.refusal.Refusal.TheVariants.{BadCount, NoRoom, Halted, Exhausted}
-use Rattle.dr_plain.specs.Meaning.Shape.{Shape, handlers_of}
+use Rattle.dr_plain.specs.Meaning.Shape.{Shape}
 use Rattle.dr_plain.specs.declared.record.Look.{Look}
 use Rattle.dr_plain.specs.declared.record.SenderRecord.{SenderRecord}
-use Rattle.dr_plain.specs.Meaning.Records.{claimed, halt_looked}
 use Rattle.dr_plain.specs.Calls.Ends.{SenderEnd, SenderStand}
 use Rattle.dr_plain.specs.Calls.Sending.{ClaimCall}
-use Rattle.dr_plain.specs.Inside.Fits.{SenderFields, SenderFits, no_lents, cells_of}
-use Rattle.dr_plain.specs.Inside.Hands.{with_hand}
-use Rattle.dr_plain.specs.Inside.Lending.{lanes, AreWhole, SameBut}
+use Rattle.dr_plain.specs.Inside.Fits.{SenderFits, cells_of}
 use Rattle.dr_plain.specs.Inside.Scans.{LooksAtFinals}
-use Rattle.dr_plain.specs.Inside.Seats.{Hand, taken_by_claim}
 use Rattle.dr_plain.specs.Inside.Views.{sender_end}
 use Rattle.dr_plain.specs.declared.record.Step.{Step}
 use Rattle.dr_runs.specs.Runs.{IsBeginning}
 use Rattle.dr_plain.proofs.Stations.{begins_same, begins_on}
-use Rattle.dr_plain.proofs.Claims.{Tried, fits_saw, fits_halt, fits_room, fits_claim, collect_order, collect_room, collect_kept, collect_hand, collected_hand, collected_whole, collected_same, collected_many, none_taken, claim_bad, claim_halted, claim_exhausted, claim_no_room, claim_halted_late, claim_accepted, claim_call}
+use Rattle.dr_plain.proofs.Claims.{Tried, fits_saw, fits_halt, fits_room, fits_claim, collect_kept, collect_hand, collected_hand, collected_whole, collected_same, collected_many, none_taken, claim_bad, claim_halted, claim_exhausted, claim_no_room, claim_halted_late, claim_accepted, claim_call}
 use Rattle.dr_plain.proofs.sender.Sender.try_claim.Goals as goal
 use Rattle.dr_plain.proofs.sender.Sender.try_claim.Goals.{After-limit-limit, After-saturating_sub-need, After-raise, then-n-eq0-via-then-n-eq0, then-n-eq0-via-else-n-eq0+then-n-size}
 

@@ -1,4 +1,4 @@
-use Rattle.std.proofs.Common.{rules, ◌≡◌, ℕ, ◌+◌, ◌≤◌, ◌<◌, ◌%◌, inl, inr, List, length, set, Err, Ok, arith, refl, sym, ap, ◌∙◌, subst}
+use Rattle.std.proofs.Common.{◌≡◌, ℕ, set, Ok, refl, sym, ap, ◌∙◌, subst}
 use denote.RawPtr.{Ptr}
 use Rattle.std.specs.Fn.{FnOnceReturnsAtMut}
 use mathlib.Core.Option.{some}
@@ -8,7 +8,6 @@ use Rattle.dr_plain.proofs.Publishing.{cell_at}
 use Rattle.dr_cells.specs.declared.token.Token.{Token}
 use Rattle.dr_cells.specs.Hold.{Hold, whole, held}
 use Rattle.dr_cells.specs.Tokens.{token_at}
-use Rattle.dr_core.specs.declared.refusal.Refusal.TheVariants.{NotClaimed, AlreadyPublished}
 use Rattle.dr_plain.specs.Calls.Ends.{SenderEnd}
 use Rattle.dr_plain.specs.Calls.Sending.{UpdateCall}
 use Rattle.dr_plain.specs.Inside.Fits.{cells_of}

@@ -1,15 +1,14 @@
-use Rattle.std.proofs.Common.{rules, ◌≡◌, ℕ, ◌+◌, ◌≤◌, ◌<◌, ◌%◌, inl, inr, List, length, set, Err, Ok, arith, refl, sym, ap, ◌∙◌, subst}
+use Rattle.std.proofs.Common.{◌≡◌, set, Ok, refl, ap, ◌∙◌, subst}
 use denote.RawPtr.{Ptr}
 use Rattle.dr_cells.specs.declared.token.Token.{Token}
 use Rattle.dr_cells.specs.Hold.{whole}
 use Rattle.dr_cells.specs.Tokens.{token_at}
-use Rattle.dr_core.specs.declared.refusal.Refusal.TheVariants.{NotClaimed, AlreadyPublished}
 use Rattle.dr_plain.specs.Calls.Ends.{SenderEnd}
 use Rattle.dr_plain.specs.Calls.Sending.{WriteCall}
 use Rattle.dr_plain.specs.Inside.Fits.{cells_of}
 use Rattle.dr_plain.specs.Inside.Views.{sender_end}
 use Rattle.dr_plain.proofs.Stations.{begins_same}
-use Rattle.dr_plain.proofs.Writing.{fits_write, write_done, write_unclaimed, write_published}
+use Rattle.dr_plain.proofs.Writing.{fits_write, write_done, write_unclaimed}
 use Rattle.dr_plain.proofs.sender.Sender.write.Goals as goal
 use Rattle.dr_plain.proofs.sender.Sender.write.Goals.{After-put_at}
 

@@ -1,14 +1,11 @@
-use Rattle.std.proofs.Common.{rules, ◌≡◌, ℕ, ◌+◌, ◌-◌, ◌*◌, ◌<◌, ◌≤◌, ◌++◌, List, [], Option, None, Some, arith, ap, sym, ◌∙◌, subst, length, set, refl, drop}
-use mathlib.Core.Option.{some}
-use lib.ListN.{get_elem?}
+use Rattle.std.proofs.Common.{rules, ◌≡◌, ℕ, ◌+◌, ◌-◌, ◌*◌, ◌++◌, List, Option, None, arith, ap, sym, ◌∙◌, subst, length, set, drop}
 use Rattle.dr_cells.specs.declared.token.Token.{Token}
 use Rattle.dr_plain.specs.Meaning.Shape.{Shape, handlers_of}
 use Rattle.dr_plain.specs.Meaning.Words.{cell_of}
 use Rattle.dr_plain.specs.declared.record.Lent.{Lent}
-use Rattle.dr_plain.specs.declared.record.SenderRecord.{SenderRecord}
 use Rattle.dr_plain.specs.Calls.Ends.{SenderStand}
 use Rattle.dr_plain.specs.Inside.Fits.{no_lents, Keeps}
-use Rattle.dr_plain.specs.Inside.Hands.{row, with_hand, lent_by}
+use Rattle.dr_plain.specs.Inside.Hands.{row, with_hand}
 use Rattle.dr_plain.specs.Inside.Lending.{laid_between, lanes, IsKept}
 use Rattle.dr_plain.specs.Inside.Seats.{Hand}
 use Rattle.dr_plain.proofs.Collecting.{between_count, between_at, blanks_count, blanks_more, keeps_by, same_none, same_more, same_next, whole_none, whole_more}

@@ -1,4 +1,4 @@
-use Rattle.std.proofs.Common.{rules, ◌≡◌, ℕ, ◌≤◌, ◌++◌, Option, None, Some, arith, ap, sym, ◌∙◌, subst, length, take, drop}
+use Rattle.std.proofs.Common.{◌≡◌, ℕ, ◌++◌, Option, None, arith, ap, ◌∙◌, subst, length, take, drop}
 use Rattle.std.proofs.lemmas.List.{length-append}
 use Rattle.dr_plain.specs.Meaning.Shape.{Shape, handlers_of}
 use Rattle.dr_plain.specs.declared.record.Lent.{Lent}

@@ -1,4 +1,4 @@
-use Rattle.std.proofs.Common.{◌≡◌, ℕ, ◌-◌, ◌<◌, ◌≤◌, ◌++◌, Option, None, Some, arith, ap, sym, ◌∙◌}
+use Rattle.std.proofs.Common.{◌++◌, Option, None, Some, arith, ap, sym, ◌∙◌}
 use Rattle.dr_cells.specs.Hold.{held}
 use Rattle.dr_cells.specs.declared.token.Token.{Token}
 use Rattle.dr_plain.specs.Meaning.Shape.{handlers_of}

@@ -1,4 +1,4 @@
-use Rattle.std.proofs.Common.{rules, ◌≡◌, ℕ, ◌+◌, ◌-◌, ◌*◌, ◌<◌, ◌≤◌, ◌++◌, List, [], ◌∷◌, Option, None, Some, arith, ap, sym, ◌∙◌, subst, length, set, refl, drop}
+use Rattle.std.proofs.Common.{rules, ◌+◌, ◌-◌, ◌*◌, ◌++◌, List, [], ◌∷◌, Option, None, Some, arith, ap, sym, ◌∙◌, subst, set, drop}
 use Rattle.std.proofs.lemmas.List.{length-append, length-map, map-append}
 use Rattle.dr_cells.specs.declared.token.Token.{Token}
 use Rattle.dr_plain.specs.Meaning.Shape.{Shape, handlers_of}
@@ -7,7 +7,7 @@ use Rattle.dr_plain.specs.declared.record.Lent.{Lent}
 use Rattle.dr_plain.specs.Calls.Ends.{SenderStand}
 use Rattle.dr_plain.specs.Inside.Fits.{no_lents, Keeps}
 use Rattle.dr_plain.specs.Inside.Hands.{row, with_hand, lent_by}
-use Rattle.dr_plain.specs.Inside.Lending.{lanes, lents_of, AreLent, IsLending}
+use Rattle.dr_plain.specs.Inside.Lending.{lanes, IsLending}
 use Rattle.dr_plain.specs.Inside.Seats.{Hand, lent_all}
 use Rattle.dr_plain.proofs.Collecting.{blanks_at, blanks_count, same_none, same_more, same_next, lent_none, lent_more, lents_told, lent_told}
 use Rattle.dr_plain.proofs.Rowing.{rowed_none, rowed_row, rowed_next, rowed_all, others_of}

@@ -1,4 +1,4 @@
-use Rattle.std.proofs.Common.{◌≡◌, ℕ, ◌-◌, ◌<◌, ◌≤◌, ◌++◌, drop, Option, None, Some, arith, ap, sym, ◌∙◌}
+use Rattle.std.proofs.Common.{◌++◌, drop, Option, None, Some, arith, ap, sym, ◌∙◌}
 use Rattle.dr_cells.specs.Hold.{held}
 use Rattle.dr_cells.specs.declared.token.Token.{Token}
 use Rattle.dr_plain.specs.Meaning.Shape.{handlers_of}
@@ -8,7 +8,7 @@ use Rattle.dr_plain.specs.declared.record.Lent.{Lent}
 use Rattle.dr_plain.specs.Calls.Ends.{SenderStand}
 use Rattle.dr_plain.specs.Inside.Hands.{row, with_hand}
 use Rattle.dr_plain.specs.Inside.Seats.{Hand}
-use Rattle.dr_plain.proofs.Tokens.{lending_by, whole_by, held_by, out_is, is_whole, lent_is, can_split, split_is, part_is_of}
+use Rattle.dr_plain.proofs.Tokens.{lending_by, held_by, out_is, is_whole, lent_is, can_split, split_is, part_is_of}
 use Rattle.dr_plain.proofs.Rowing.{row_at, row_count}
 use Rattle.dr_plain.proofs.Trading.{trade_begins, trade_slot, trade_next, trade_ends}
 use Rattle.dr_plain.proofs.laws.sender.SenderStation.lend_row.Goals as goal

@@ -1,4 +1,4 @@
-use Rattle.std.proofs.Common.{◌≡◌, List, length, ◌++◌, arith, sym, ap, ◌∙◌, subst}
+use Rattle.std.proofs.Common.{List, length, ◌++◌, arith, sym, ap, ◌∙◌, subst}
 use Rattle.dr_plain.specs.declared.record.Lent.{Lent}
 use Rattle.dr_plain.specs.Inside.Lending.{HasPublished}
 use Rattle.dr_plain.specs.Inside.Seats.{Hand, given_by_publication}

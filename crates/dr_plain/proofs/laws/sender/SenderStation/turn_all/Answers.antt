@@ -1,4 +1,4 @@
-use Rattle.std.proofs.Common.{ap, ◌∙◌, ◌++◌, take, drop, ◌<◌, arith}
+use Rattle.std.proofs.Common.{ap, ◌∙◌, arith}
 use Rattle.atomic_table.specs.Table.{turned}
 use Rattle.dr_plain.specs.Calls.Ends.{SenderStand}
 use Rattle.dr_plain.specs.Inside.Hands.{with_hand}
