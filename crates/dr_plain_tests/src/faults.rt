@@ -1,0 +1,15 @@
+//! The printed text of each fault of making a ring.
+
+use dr_plain::RingFault;
+use std::test::Fail;
+
+#[test]
+fn faults_print_their_names(rt: HostRuntime) -> Result<(), Fail> {
+    for (fault, name) in [
+        (RingFault::BadLimit, "bad-limit"),
+        (RingFault::NoMemory, "no-memory"),
+    ] {
+        assert_eq!(rt; fault.to_string(rt.alloc())?.as_str(), name);
+    }
+    Ok(())
+}
