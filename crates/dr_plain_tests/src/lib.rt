@@ -13,6 +13,8 @@ mod play;
 #[cfg(test)]
 mod rows;
 #[cfg(test)]
+mod sending;
+#[cfg(test)]
 mod texts;
 #[cfg(test)]
 mod threads;
