@@ -59,13 +59,13 @@ by_mark : (b : Bool) (refusal : Refusal) → refusal ≡ (if b then AlreadyPubli
 by_mark true refusal is = inr (refl, inr (refl, inl (refl, sym is)))
 by_mark false refusal is = inr (refl, inl (tt, sym is))
 
-pub write_refused : (e e' : SenderEnd) (o : Owned) (s : ℕ) (event : Event) (refusal : Refusal) → SenderFits e.plan e.knows o
+pub write_refused : (e e' : SenderEnd) (o : Owned) (s : ℕ) (event : Event) (refusal : Refusal) → SenderFits e.plan e.knows o → s < e.plan.limit
     → is_marked o.claimed s ≡ false → RefusesBy e s e' refusal
     → WriteCall e s event e' (Err refusal)
-write_refused e e' o s event refusal F unmarked R = record {
+write_refused e e' o s event refusal F below unmarked R = record {
   stays = R.1.0;
   sight = Found R.0;
-  sees = λ t own. (let shown = F.old s t own unmarked in (shown, R.2 t own shown));
+  sees = (below, λ t own. (let shown = F.old s t own unmarked in (shown, R.2 t own shown)));
   asked = tt;
   answer = by_mark (nat_le (entry_of e.plan.size s) R.0) refusal R.3;
   knows = R.1.1;
@@ -139,7 +139,7 @@ pub publish_bad : (e : SenderEnd) (lo hi : ℕ) → hi < lo → PublishCall e lo
 publish_bad e lo hi lt = record {
   stays = (refl, refl);
   seen = record { reach = Outside; ready = 0; stop = Unasked };
-  sees = record { reach = λ le. absurd (omega arith); ready = λ s low high. absurd (omega arith); stop = tt; empty = λ none. (refl, refl) };
+  sees = record { reach = λ le. absurd (omega arith); ready = λ s low high. absurd (omega arith); stop = tt; empty = λ none. (refl, refl); nobodys = λ nobody. refl };
   answer = inr (refl, inl (lt-ltb hi lo lt, refl));
   all = tt;
   knows = looked_nowhere e.knows;
@@ -151,7 +151,7 @@ pub publish_never : (e : SenderEnd) (lo hi : ℕ) → lo ≤ hi → e.plan.limit
 publish_never e lo hi order past = record {
   stays = (refl, refl);
   seen = record { reach = Outside; ready = 0; stop = Unasked };
-  sees = record { reach = λ le. past; ready = λ s low high. absurd (omega arith); stop = tt; empty = λ none. absurd (omega arith) };
+  sees = record { reach = λ le. past; ready = λ s low high. absurd (omega arith); stop = tt; empty = λ none. absurd (omega arith); nobodys = λ nobody. refl };
   answer = inr (refl, inr (le-ltb hi lo order, inl (refl, refl)));
   all = tt;
   knows = looked_nowhere e.knows;
@@ -188,7 +188,7 @@ reached e e' o hi true is F mine below R = record {
 }
 reached e e' o hi false is F mine below R = record {
   reach = Looked R.0;
-  sees = below;
+  sees = (below, λ t own. F.old hi t own (sym mine));
   stays = R.1.0;
   knows = R.1.1;
   stored = R.1.3;
@@ -200,7 +200,7 @@ pub publish_unclaimed : (e e' : SenderEnd) (lo hi : ℕ) → lo ≤ hi → Reach
 publish_unclaimed e e' lo hi order R = record {
   stays = R.stays;
   seen = record { reach = R.reach; ready = 0; stop = Unasked };
-  sees = record { reach = λ le. R.sees; ready = λ s low high. absurd (omega arith); stop = tt; empty = λ none. absurd (omega arith) };
+  sees = record { reach = λ le. R.sees; ready = λ s low high. absurd (omega arith); stop = tt; empty = λ none. absurd (omega arith); nobodys = λ nobody. refl };
   answer = inr (refl, inr (le-ltb hi lo order, inl (subst MayHold (sym R.unclaimed) refl, refl)));
   all = tt;
   knows = R.knows ∙ (let r : SenderRecord = record e.knows { looks = e.knows.looks ++ reach_looks R.reach } in found_nothing r);
@@ -260,7 +260,7 @@ publish_stops e a e' lo hi stop x refusal low high R ready sight first stays kno
     let at : lo + (stop - lo) ≡ stop = omega arith in let seen : PublishLooks = record { reach = R.reach; ready = stop - lo; stop = x } in record {
       stays = (stays.0 ∙ R.stays.0, stays.1 ∙ R.stays.1);
       seen = seen;
-      sees = record { reach = λ le. R.sees; ready = λ s below above. ready s below (omega arith); stop = subst (λ (s : ℕ). IsSight e.plan e.knows s x) (sym at) sight; empty = λ none. absurd (omega arith) };
+      sees = record { reach = λ le. R.sees; ready = λ s below above. ready s below (omega arith); stop = subst (λ (s : ℕ). IsSight e.plan e.knows s x) (sym at) sight; empty = λ none. absurd (omega arith); nobodys = λ nobody. absurd (let no = sym R.unclaimed ∙ nobody in cc) };
       answer = refuses e.plan lo seen hi refusal (omega arith) (omega arith) (subst MayFail (sym R.unclaimed) refl)
           (subst (λ (s : ℕ). IsFirst MayHold MayFail refusal (sequence_causes (sight_tests e.plan s x))) (sym at) first);
       all = tt;
@@ -309,13 +309,15 @@ module _ (e a : SenderEnd) (o : Owned) (lo hi stop : ℕ) (F : SenderFits e.plan
   before : (s : ℕ) → lo ≤ s → s < stop → IsReady e.knows s
   before s low lt = ready_is e.plan e.knows o s F (front.below s low lt)
 
-  pub publish_foreign : (e' : SenderEnd) (refusal : Refusal) → is_marked o.claimed stop ≡ false → RefusesBy a stop e' refusal
+  pub publish_foreign : (e' : SenderEnd) (refusal : Refusal) → hi < e.plan.limit → is_marked o.claimed stop ≡ false → RefusesBy a stop e' refusal
       → PublishCall e lo hi e' (Err refusal)
-  publish_foreign e' refusal unmarked B =
+  publish_foreign e' refusal limit unmarked B =
       let plan = R.stays.1 in let own : a.knows.own ≡ e.knows.own = ap (λ (q : SenderRecord). q.own) R.knows in
-      publish_stops e a e' lo hi stop (Found B.0) refusal front.low high R before
-      (λ t mine. let shown = F.old stop t mine unmarked in
-      (shown, subst (λ (k : Shape). entry_of k.size stop ≤ B.0) plan (B.2 t (owns_same e.knows a.knows stop t own mine) shown)))
+      publish_stops e a e' lo hi stop (Found B.0) refusal front.low high R before (
+        omega arith,
+        λ t mine. let shown = F.old stop t mine unmarked in
+            (shown, subst (λ (k : Shape). entry_of k.size stop ≤ B.0) plan (B.2 t (owns_same e.knows a.knows stop t own mine) shown)),
+      )
       (by_sequence_mark (nat_le (entry_of e.plan.size stop) B.0) refusal (B.3 ∙ ap (λ (k : Shape). if nat_le (entry_of k.size stop) B.0 then AlreadyPublished else NotClaimed) plan))
       B.1.0 (B.1.1 ∙ ap (λ (k : Shape). mark_found a.knows (mark_word k stop) B.0) plan) B.1.3 B.1.2
 
@@ -345,7 +347,7 @@ publish_done e a e' o lo hi stop F L front order past P =
     let seen : PublishLooks = record { reach = Inside; ready = n; stop = Unasked } in record {
       stays = (P.0.0 ∙ L.0.0, P.0.1 ∙ L.0.1);
       seen = seen;
-      sees = record { reach = λ le. (let x = ready hi order (omega arith) in (x.0, x.2)); ready = ready; stop = tt; empty = λ none. absurd (omega arith) };
+      sees = record { reach = λ le. (let x = ready hi order (omega arith) in (x.0, x.2)); ready = ready; stop = tt; empty = λ none. absurd (omega arith); nobodys = λ nobody. refl };
       answer = accepts e.plan lo seen hi order (omega arith) refl;
       all = omega arith;
       knows = P.1 ∙ ap (λ (q : SenderRecord). published_between q lo (hi + 1)) L.1;

@@ -140,7 +140,7 @@ module _ (k : Shape) (w : World) (K : KeepsRule k w) (p lo hi : ℕ) (r : Sender
   another : stop < length w.stages → (found : ℕ) → IsSight k r stop (Found found) → nat_le (entry_of k.size stop) found ≡ false → not (get_or m.owners stop 0 == p) ≡ true
   another inside found sight gt = let x = there w.stages stop inside in elim (cases_eq (get_or m.owners stop 0) p) [
     | inl mine ↦ absurd (let own = (K.sent p r at).all stop x.0 x.1 (sym (owner_at w.stages stop x.0 x.1) ∙ mine) in
-        let low = (sight x.0 own).1 in let yes = le-leb (entry_of k.size stop) found low in cc)
+        let low = (sight.1 x.0 own).1 in let yes = le-leb (entry_of k.size stop) found low in cc)
     | inr other ↦ ap not (ne_eqb (get_or m.owners stop 0) p other)
   ]
 

@@ -30,10 +30,10 @@ pub data Sight : Type 0 where
   Never : Sight
   Unasked : Sight
 
--- it may look at the mark of its own sequence too, where that is published, and finds it
+-- it looks at no mark of a sequence that is never claimed, and at that of its own only where it is published, and finds it
 abbrev pub IsSight : Shape → SenderRecord → ℕ → Sight → Type 0
 IsSight k r s (Has t) = Owns r s t
-IsSight k r s (Found m) = (t : Stage) → Owns r s t → (t.published ≡ true) × (entry_of k.size s ≤ m)
+IsSight k r s (Found m) = (s < k.limit) × ((t : Stage) → Owns r s t → (t.published ≡ true) × (entry_of k.size s ≤ m))
 IsSight k r s Never = k.limit ≤ s
 IsSight k r s Unasked = Unit {0}
 
@@ -89,7 +89,7 @@ WriteAllCall e lo (event ∷ events) e' count trouble =
     ((between : SenderEnd) × (rest : ℕ) × WriteCall e lo event between (Ok tt) × (count ≡ rest + 1) × WriteAllCall between (lo + 1) events e' rest trouble)
     ⊎ ((first : Trouble) × IsEndsAnswer (WriteCall e lo event e') (Err first) × (count ≡ 0) × (trouble ≡ Some first))
 
--- how a sender knows whether the last sequence of a stretch is claimed: it is its own, or never claimed, or it looked at the claim word
+-- how a sender knows whether the last sequence of a stretch is claimed: it is its own, or never claimed, or it looked at the claim word, for one that is not its own, or published
 pub data Reach : Type 0 where
   Inside : Reach
   Outside : Reach
@@ -98,7 +98,7 @@ pub data Reach : Type 0 where
 abbrev pub IsReach : Shape → SenderRecord → ℕ → Reach → Type 0
 IsReach k r hi Inside = (t : Stage) × Owns r hi t
 IsReach k r hi Outside = k.limit ≤ hi
-IsReach k r hi (Looked found) = hi < k.limit
+IsReach k r hi (Looked found) = (hi < k.limit) × ((t : Stage) → Owns r hi t → t.published ≡ true)
 
 abbrev pub reach_looks : Reach → List Look
 reach_looks (Looked found) = look claim_word found ∷ []
@@ -125,6 +125,8 @@ pub record PublishSees (k : Shape) (r : SenderRecord) (lo hi : ℕ) (seen : Publ
   pub stop : IsSight k r (lo + seen.ready) seen.stop
   -- a stretch that ends before it begins is looked at nowhere
   pub empty : hi < lo → (reach_looks seen.reach ≡ []) × (seen.stop ≡ Unasked)
+  -- and where its last sequence is nobody's, no other is asked of
+  pub nobodys : reach_unclaimed hi seen.reach ≡ Exactly true → seen.stop ≡ Unasked
 
 abbrev pub stretch_tests : Shape → ℕ → PublishLooks → ℕ → SequenceTests Verdict
 stretch_tests k lo seen s = sight_tests k s (if s == lo + seen.ready then seen.stop else Unasked)

@@ -74,9 +74,10 @@ invariant_of-self-then-not-has c =
 pub returns-then-not-has-clause-call : goal.returns-then-not-has-clause-call
 returns-then-not-has-clause-call c =
     let R = subst (Reached c.self.inside.station c.args.hi c.reaches.new.self) c.if-not-reaches.false (found (goal.at.returns-then-not-has-clause-call c).After-reaches) in
+    let limit = c.limit.ensures.limit ∙ ap (λ (k : Shape). k.limit) c.plan.ensures.plan in let below = c.if-hi-limit.false in
     subst (λ (e : SenderEnd). PublishCall e c.args.lo c.args.hi c.refusal.new.self (Err c.refusal.result)) c.self.view_is
     (publish_foreign c.self.inside.station c.reaches.new.self _ c.args.lo c.args.hi c.first_unready-stop.result c.self.invariant R c.first_unready-stop.ensures c.if-stop-hi.false
-    c.refusal.new.self _ (sym c.if-not-has.ensures) c.refusal.ensures)
+    c.refusal.new.self _ (omega arith) (sym c.if-not-has.ensures) c.refusal.ensures)
 
 pub invariant_of-self-then-is_published : goal.invariant_of-self-then-is_published
 invariant_of-self-then-is_published c =

@@ -1,4 +1,4 @@
-use Rattle.std.proofs.Common.{sym, ap, ◌∙◌, subst, ◌<◌, Ok, Err}
+use Rattle.std.proofs.Common.{arith, sym, ap, ◌∙◌, subst, ◌<◌, Ok, Err}
 use Rattle.dr_core.specs.declared.refusal.Refusal.TheVariants.{AlreadyPublished}
 use Rattle.dr_seq.proofs.Sizes.{size_positive}
 use Rattle.dr_senders.specs.Meaning.Shape.{Shape}
@@ -16,8 +16,9 @@ invariant_of-self c =
 
 pub returns-then-not-has-clause-call : goal.returns-then-not-has-clause-call
 returns-then-not-has-clause-call c =
+    let limit = c.limit.ensures.limit ∙ ap (λ (k : Shape). k.limit) c.plan.ensures.plan in let below = c.if-sequence-limit.false in
     subst (λ (e : SenderEnd). WriteCall e c.args.sequence c.args.event c.refusal.new.self (Err c.refusal.result)) c.self.view_is
-    (write_refused c.self.inside.station c.refusal.new.self _ c.args.sequence c.args.event _ c.self.invariant (sym c.if-not-has.ensures) c.refusal.ensures)
+    (write_refused c.self.inside.station c.refusal.new.self _ c.args.sequence c.args.event _ c.self.invariant (omega arith) (sym c.if-not-has.ensures) c.refusal.ensures)
 
 pub returns-then-is_published-clause-call : goal.returns-then-is_published-clause-call
 returns-then-is_published-clause-call c =
