@@ -46,7 +46,7 @@ abbrev pub Turns : {A : Type 0} → Result A Refusal → ℕ → List Event → 
 Turns (Ok done) size events sent v h = Turned size events sent v h
 Turns (Err refusal) size events sent v h = ⊥
 
--- no call is refused, and each handler was shown all events
-abbrev pub ShowsAll : {A : Type 0} → Result A Refusal → List Event → Handlers → Type 0
-ShowsAll (Ok done) events h = AreShown h events
-ShowsAll (Err refusal) events h = ⊥
+-- no call is refused, all events went through the exchange, and each handler was shown them
+abbrev pub ShowsAll : {A : Type 0} → Result A Refusal → ℕ → List Event → CoreView Event → Handlers → Type 0
+ShowsAll (Ok done) size events v h = Rests size events (length events) (each (length events)) v × AreShown h events
+ShowsAll (Err refusal) size events v h = ⊥

@@ -25,7 +25,8 @@ pub trait Reporter: Handler<Event> + Drop {
 
     /// One that was shown nothing yet.
     fn begin(alloc: Global) -> Self
-        ensures { is_new result };
+        ensures new { is_new result }
+        ensures well { failed result ≡ false };
 
     /// Whether it found no memory for an event.
     fn has_failed(&self) -> bool

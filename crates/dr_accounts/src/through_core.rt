@@ -34,7 +34,7 @@ fn pass(core: &mut Core<Event>, handlers: &mut Handlers, events: &[Event]) -> Re
     requires rests { Rests core.old.setup.size events.now 0 (each 0) core.old }
     requires shown { AreShown handlers.old [] }
     requires limit { length events.now ≤ 2 ^ 62 }
-    ensures { ShowsAll result events.now handlers.new }
+    ensures { ShowsAll result core.old.setup.size events.now core.new handlers.new }
 {
     let size = core.size().get() as usize;
     let mut at = 0;
