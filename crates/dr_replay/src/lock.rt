@@ -1,6 +1,6 @@
 //! The replay behind a lock, a thread a producer and a thread a handler.
 
-ghost use Rattle.std.specs.Prelude.{◌≡◌, ◌+◌, ◌-◌, ◌^◌, ◌<◌, ◌≤◌, All, IfErr, IfOk, IfSome, List, None, OnOk, length, map, string_bytes, sum_by};
+ghost use Rattle.std.specs.Prelude.{◌≡◌, ◌+◌, ◌-◌, ◌^◌, ◌<◌, ◌≤◌, [], All, IfErr, IfOk, IfSome, List, None, OnOk, length, map, string_bytes, sum_by};
 ghost use Rattle.dr_seq.specs.declared.event.Event.{Event};
 ghost use Rattle.dr_files.specs.Counting.{faults_of, inner_of};
 ghost use Rattle.dr_replay.specs.Meaning.EventFile.{events_of as events_in};
@@ -186,7 +186,8 @@ fn opened(
     producers: usize,
     events: usize,
 ) -> Result<Recorded<Event>, AllocError>
-    ensures { IfOk result (λ recorded. recorded.history.core.setup ≡ setup_for size producers) }
+    ensures setup { IfOk result (λ recorded. recorded.history.core.setup ≡ setup_for size producers) }
+    ensures fresh { IfOk result (λ recorded. recorded.history.entries ≡ []) }
 {
     let graph = graph(alloc)?;
     let mode = Mode::Multi(producers as u64);
@@ -224,6 +225,7 @@ fn report<L: Exchange<Event> + Send + Sync, R: Threads + Wait + Sync, G: Gate + 
     requires parts { blank.parts ≡ L.parts }
     requires ends { blank.parts ≡ 65 }
     requires begun { recorded.history ≡ L.begun }
+    requires fresh { recorded.history.entries ≡ [] }
     ensures text { (sent : List Event) → map (λ v. v.items) scripts.now ≡ scripts_in sent
         → IfOk result (λ t. IsReportOfMerge recorded.history.core.setup sent (string_bytes t)) }
     ensures first { (sent : List Event) → map (λ v. v.items) scripts.now ≡ scripts_in sent

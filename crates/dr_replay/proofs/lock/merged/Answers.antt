@@ -15,14 +15,14 @@ pub returns-clause-text : goal.returns-clause-text
 returns-clause-text g c =
     let events = c.args.events.now in
     let many = c.len.ensures ∙ c.in_ok-scripts.scripts.ok.0 ∙ sym (length-map c.in_ok-scripts.scripts.items (λ v. v.items)) in
-    let opened = c.in_ok-recorded.ensures ∙ opened_for c.args.size c.len.result events _ many c.in_ok-scripts.ensures in
+    let opened = c.in_ok-recorded.ensures.setup ∙ opened_for c.args.size c.len.result events _ many c.in_ok-scripts.ensures in
     of_setup events (λ t. string_bytes t) c.report.result opened (c.report.ensures.text events (same _ _ events c.as_slice.ensures.value c.in_ok-scripts.ensures))
 
 pub returns-clause-first : goal.returns-clause-first
 returns-clause-first g c =
     let events = c.args.events.now in
     let many = c.len.ensures ∙ c.in_ok-scripts.scripts.ok.0 ∙ sym (length-map c.in_ok-scripts.scripts.items (λ v. v.items)) in
-    let opened = c.in_ok-recorded.ensures ∙ opened_for c.args.size c.len.result events _ many c.in_ok-scripts.ensures in
+    let opened = c.in_ok-recorded.ensures.setup ∙ opened_for c.args.size c.len.result events _ many c.in_ok-scripts.ensures in
     fault_of_setup (MayStop g.G.Gate.may_stop c.args.gate.now) events c.report.result opened (c.report.ensures.first events (same _ _ events c.as_slice.ensures.value c.in_ok-scripts.ensures))
 
 pub returns-clause-stops : goal.returns-clause-stops

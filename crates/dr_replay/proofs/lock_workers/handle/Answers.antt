@@ -27,7 +27,7 @@ returns g c =
       start = c.new-listing.result;
       after = run.new.handler;
       fault = run.result;
-      new = c.new-listing.ensures;
+      new = c.new-listing.ensures.empty;
       calls = asked {Holds = Serves Lists c.new-listing.result run.new.handler None None (g.G.Gate.may_stop gate c.args.who) (g.G.Gate.must_stop gate c.args.who) run.result}
           (λ old call new. OutletAsks begun old.h old.end call new.end) (HandlerAsks begun) (λ outlet. outlet.end) (λ old new call is. (old.h, is))
           c.new-outlet.result run.new.outlet no_calls c.into_end-end.result begins ends run.ensures.serves;
