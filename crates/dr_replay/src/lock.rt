@@ -6,7 +6,7 @@ ghost use Rattle.dr_files.specs.Counting.{faults_of, inner_of};
 ghost use Rattle.dr_replay.specs.Meaning.EventFile.{events_of as events_in};
 ghost use Rattle.dr_accounts.specs.Keeping.{error_of};
 ghost use Rattle.dr_shared.specs.Meaning.FirstFault.{first_fault as first_of};
-ghost use Rattle.dr_shared.specs.Meaning.History.{halts_in};
+ghost use Rattle.dr_shared.specs.Meaning.History.{GoesOn, halts_in};
 ghost use Rattle.dr_shared.specs.Calls.Stops.{MayStop};
 ghost use Rattle.dr_replay.specs.Calls.Replayed.{IsReportOfMerge, LockWrites, ReplayCounts, ReplayFaultKeeps};
 ghost use Rattle.dr_replay.specs.Calls.Workers.{IsFirstOf, IsFirstOfLock, IsOfAudit, IsOfLock, IsOfMerge, NoProducerHadToStop, lock_endings};
@@ -125,6 +125,8 @@ fn gathered<L: Exchange<Event>>(
     ensures faults { IfOk result (λ got. got.1.items ≡ map (λ s. s.fault) producers.items) }
     ensures setup { IfOk result (λ got. got.0.history.core.setup ≡ L.begun.core.setup) }
     ensures halted { IfOk result (λ got. 0 < halts_in got.0.history.entries) }
+    ensures goes_on { IfOk result (λ got. GoesOn L.begun got.0.history) }
+    ensures entries { IfOk result (λ got. length got.0.history.entries ≡ shared.begun + (sum_by (λ end. end.calls) handlers + sum_by (λ s. s.end.calls) producers.items)) }
 {
     let mut ends = Vec::from_array(alloc, handlers)?;
     let mut faults = Vec::with_capacity(alloc, producers.len())?;

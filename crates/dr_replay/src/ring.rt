@@ -24,7 +24,7 @@ use crate::outcome::{BUSINESS, JOURNAL, PRODUCER, REPLICA, ended, joined, replay
 use dr_accounts::{Business, Journal, PartOf, Replica, Worked, graph, work};
 use dr_core::MAX_LIMIT;
 use dr_files::{Counted, FileFault, write_text};
-use dr_ring::{Receiver, Sender, ring, settle};
+use dr_ring::{Halter, Receiver, Sender, ring, settle};
 use dr_seq::{Event, Size};
 use dr_shared::{Ended, Gate, Produced, first_fault, produce};
 use std::alloc::{AllocError, Global};
@@ -129,8 +129,8 @@ fn served<R: Threads + Wait, G: Gate, J: Promise<Worked>, K: Promise<Worked>, B:
     }
 }
 
-// Starts a thread a handler, sends the events, closes, and joins. An error is that a thread could not
-// be started: then nothing is sent.
+// Starts a thread a handler, sends the events, closes, and joins, of a ring that nobody has halted. An
+// error is that a thread could not be started: then nothing is sent.
 fn exchange<R: Threads + Wait + Sync, G: Gate + Sync>(
     rt: &R,
     alloc: Global,
@@ -141,7 +141,9 @@ fn exchange<R: Threads + Wait + Sync, G: Gate + Sync>(
     journal: Receiver,
     replica: Receiver,
     business: Receiver,
+    _halter: &Halter,
 ) -> Result<Ran, AllocError>
+    requires before { _halter.now.stored ≡ [] }
     ensures { IfOk result (λ ran. IsRun (G.may_stop gate.now) (G.must_stop gate.now) size events.now sender journal replica business ran) }
 {
     thread::scope(
@@ -245,12 +247,12 @@ fn report<R: Threads + Wait + Sync, G: Gate + Sync>(
     ensures first { IfErr result (IsOfWorkers (MayStop G.may_stop gate.now) ring_workers) }
 {
     let graph = graph(alloc)?;
-    let Ok((sender, receivers, _halter)) = ring(alloc, &graph, size, MAX_LIMIT) else {
+    let Ok((sender, receivers, halter)) = ring(alloc, &graph, size, MAX_LIMIT) else {
         return Err(ReplayFault::File(FileFault::Memory));
     };
     let (journal, replica, business) = three(receivers);
     let ran = exchange(
-        rt, alloc, gate, events, size, sender, journal, replica, business,
+        rt, alloc, gate, events, size, sender, journal, replica, business, &halter,
     )?;
     finish(alloc, ran)
 }
