@@ -7,6 +7,8 @@ mod answers;
 #[cfg(test)]
 mod ends;
 #[cfg(test)]
+mod faults;
+#[cfg(test)]
 mod rows;
 #[cfg(test)]
 mod settling;
