@@ -2,12 +2,14 @@
 # The whole gate: every proof and every test's proof from nothing and each program's run (`rt ci`), then the program, as both
 # compilers built it, from outside; and, on what processors that leaves, the wrong bodies, over the libraries that `rt ci`
 # proves. The last line, `N passed, M failed`, counts what `rt ci` counts, each wrong body, and one failure more for each
-# script that fails on a build.
+# script that fails on a build. All that it starts ends with it, also where it is killed or interrupted.
 set -u
 cd "$(dirname "$0")/.." || exit 2
+[ -n "${GATE_IS_HELD-}" ] || GATE_IS_HELD=yes exec tools/together.py tests/gate.sh
 last=$(mktemp) || exit 2
 bodies=$(mktemp) || exit 2
 words=$(mktemp) || exit 2
+trap 'rm -f "$last" "$bodies" "$words"' EXIT
 passed=0 failed=0
 
 # Runs a command, shows its lines but the last, and adds the two numbers of the last one to what passed and what failed. Its
@@ -29,7 +31,6 @@ whole() { # COMMAND..
 
 nice -n 10 tests/wrong_bodies.py --over "$words" > "$bodies" 2>&1 &
 trying=$!
-trap 'kill "$trying" 2> /dev/null; rm -f "$last" "$bodies" "$words"' EXIT
 # One job for each proof takes the least of the processors' time, and there are always other proofs.
 RT_JOBS=$(nproc) counted rt ci
 echo '0 passed, 0 failed: rt ci ended' >> "$words"

@@ -13,13 +13,14 @@ import argparse
 import os
 import re
 import shutil
-import subprocess
 import sys
-import tempfile
 import time
 from concurrent.futures import FIRST_COMPLETED, ThreadPoolExecutor, wait
 
 TOP = os.path.dirname(os.path.dirname(os.path.abspath(__file__)))
+sys.path.insert(0, f"{TOP}/tools")
+import together  # noqa: E402
+
 SOURCES = ("src", "specs", "proofs")
 # What rt says of each thing that it proved or read, which nobody wants to see where something failed.
 QUIET = re.compile(r": proved$|^checked |^(library|statements|crate|logic|axioms|by-macro:) |^rt: ")
@@ -88,15 +89,15 @@ def copy_of(top, room, names, below):
 
 def prove(top, name, below, jobs, priority, words):
     """Proves one crate in a copy, puts what it left in its place, and returns the status and what `rt` said."""
-    with tempfile.TemporaryDirectory(prefix="prove-") as room:
+    with together.folder("prove-") as room:
         copy_of(top, room, [name], below)
         folder = f"{room}/crates/{name}"
         call = ["nice", "-n", str(priority), "rt", *words[:1], "--jobs", str(jobs), *words[1:]]
-        ran = subprocess.run(call, cwd=folder, stdin=subprocess.DEVNULL, stdout=subprocess.PIPE, stderr=subprocess.STDOUT)
+        status, said = together.said_by(call, folder)
         if os.path.isdir(f"{folder}/out"):
             shutil.rmtree(f"{top}/crates/{name}/out", ignore_errors=True)
             shutil.move(f"{folder}/out", f"{top}/crates/{name}/out")
-    return ran.returncode, ran.stdout.decode(errors="replace")
+    return status, said
 
 
 def size_of(top, name):
