@@ -1,14 +1,18 @@
 #!/usr/bin/env python3
-"""Tests of `wrong_bodies.py` over a crate of four functions, made in a folder of its own: which edits it takes as refused, over
-what `rt lib` keeps, and some from nothing, beside an `rt ci` whose words are written here."""
+"""Tests of `wrong_bodies.py` over a crate of five functions, made in a folder of its own: which edits it takes as refused, over
+what `rt lib` keeps, by `rt must-fail` alone, and from nothing, beside an `rt ci` whose words are written here. And of what it
+stands on: which errors are a name's, and that commands end with the process that started them."""
 
 import os
+import signal
+import subprocess
 import sys
-import tempfile
+import time
 
 sys.dont_write_bytecode = True
 sys.path.insert(0, os.path.dirname(os.path.abspath(__file__)))
 import wrong_bodies  # noqa: E402
+from wrong_bodies import together, verdicts  # noqa: E402
 
 SOURCE = """#![tactic(auto)]
 
@@ -36,6 +40,13 @@ pub fn four_times(n: u16) -> u64
     half + half
 }
 
+pub fn six_times(n: u16) -> u64
+    ensures { result ≡ n + n + (n + n) + (n + n) }
+{
+    let double = twice(n as u32);
+    double + double + double
+}
+
 pub fn same(n: u8) -> u8 ensures { result ≡ n } {
     let same = n;
     same
@@ -53,51 +64,87 @@ fn doubles(rt: HostRuntime) -> Result<(), Fail> {
     Ok(())
 }
 """
-# Each edit by its name: the file, the old text, the new one, and what the last lines have to say of it.
+LEMMAS = """use Rattle.std.proofs.Common.{◌≡◌, ℕ, ◌+◌, arith}
+
+pub thrice : (d n : ℕ) → d ≡ n + n → d + d + d ≡ n + n + (n + n) + (n + n)
+thrice d n same = omega arith
+"""
+ANSWERS = """use Rattle.toy.proofs.Sums.{thrice}
+use Rattle.toy.proofs.six_times.Goals as goal
+
+pub returns : goal.returns
+returns c = thrice c.twice-double.result c.args.n c.twice-double.ensures
+"""
+# Each edit by its name: the file, the old text, the new one, and what its line has to say.
 EDITS = {
-    "adds_one": ("src/lib.rt", "    n + n", "    n + n + 1", "refused by twice"),
-    "leaves_all": ("src/lib.rt", "rest = n - m", "rest = n", "refused by rest_of"),
-    "means_the_same": ("src/lib.rt", "half + half", "2 * half", "NOT REFUSED"),
-    "begins_with_a_return": ("src/lib.rt", "result ≡ n } {", "result ≡ n } { if n > 100 { return 0; }", "refused by same"),
-    "says_less": ("src/lib.rt\njudge: four_times", "    ensures { result ≡ n + n }", "    ensures { n ≤ result }", "refused by four_times"),
-    "is_of_a_test": ("src/tests.rt", "8);", "9);", "NOT REFUSED"),
-    "is_not_there": ("src/lib.rt", "n * n", "n", "BAD EDIT"),
-    "stands_twice": ("src/lib.rt", "n: u", "m: u", "BAD EDIT"),
+    "adds_one": ("src/lib.rt", "    n + n", "    n + n + 1", "refused by twice, goal"),
+    "leaves_all": ("src/lib.rt", "rest = n - m", "rest = n", "refused by rest_of, goal"),
+    # Refused only in company, since its function calls another wrong body there.
+    "means_the_same": ("src/lib.rt", "half + half", "2 * half", "NOT REFUSED: toy/means_the_same: NOT REFUSED: the crate is still proved"),
+    "begins_with_a_return": ("src/lib.rt", "result ≡ n } {", "result ≡ n } { if n > 100 { return 0; }", "refused by same, goal"),
+    "says_less": ("src/lib.rt\njudge: four_times", "    ensures { result ≡ n + n }", "    ensures { n ≤ result }", "refused by four_times, goal"),
+    "changes_a_lemma": ("proofs/Sums.antt", "d ≡ n + n → d", "d ≡ n → d", "refused by rt must-fail: ./proofs/Sums.antt"),
+    "takes_a_name_away": (
+        "src/lib.rt",
+        "let double = twice(n as u32);",
+        "let pair = twice(n as u32); let double = pair;",
+        "NOT REFUSED: toy/takes_a_name_away: only a file of proofs",
+    ),
+    "is_of_a_test": ("src/tests.rt", "8);", "9);", "NOT REFUSED: the crate is still proved"),
+    "is_not_there": ("src/lib.rt", "n * n", "n", "BAD EDIT: its old text stands in src/lib.rt 0 times"),
+    "stands_twice": ("src/lib.rt", "n as u32", "n as u32 + 1", "BAD EDIT: its old text stands in src/lib.rt 2 times"),
 }
+# Errors that only a name's being gone explains, and others.
+NAMES = [
+    "`returns`: record `Rattle.toy.proofs.f.Lts.After-t13` has no field `min-head` (nearest: .min-most)",
+    "`returns`: `goal.returns`: module `Rattle.toy.proofs.f.Goals` has no `returns` that can be named from here",
+    "module `Rattle.toy.proofs.Sums` has no `thrice` that can be named from here (names in it that begin alike: `three`)",
+    "1 declaration that depends on `thrice`, which was not admitted, was not checked: returns",
+    "4 declarations that depend on `thrice`, which was rejected, were not checked: a, b, c and 1 more",
+    "`returns`: `thrice` is not in scope (did you mean `three`?)",
+    "`toy` has no function `f` for this file to be the proof of: help: delete the folder `./proofs/f`",
+]
+OTHERS = [
+    "`returns`: computed as far as they go, the two types differ only where one has `1` (expected) and the other has `2`",
+    "`thrice`: expected type `n ≡ n`, but this has type `m ≡ m`, which depends on `n`, and `x` has no field",
+    "`returns`: `omega` found no proof: it has no `≡` that says so",
+]
 
 
 def made_in(top, names):
     """Makes the crate with these edits."""
-    for it in ("src", "wrong"):
-        os.makedirs(f"{top}/crates/toy/{it}")
-    texts = {"crates.txt": "toy:\n", "HANDLES": "Handles allowed: none.\n", "crates/toy/src/lib.rt": SOURCE, "crates/toy/src/tests.rt": TESTS}
+    crate = f"{top}/crates/toy"
+    files = {f"{top}/crates.txt": "toy:\n", f"{top}/HANDLES": "Handles allowed: none.\n"}
+    files |= {f"{crate}/src/lib.rt": SOURCE, f"{crate}/src/tests.rt": TESTS}
+    files |= {f"{crate}/proofs/Lib.antt": "mod Sums\n", f"{crate}/proofs/Sums.antt": LEMMAS, f"{crate}/proofs/six_times/Answers.antt": ANSWERS}
     for name in names:
         file, old, new, _ = EDITS[name]
-        texts[f"crates/toy/wrong/{name}.edit"] = f"file: {file}\nold: {old}\nnew: {new}\n"
-    for path, text in texts.items():
-        with open(f"{top}/{path}", "w", encoding="utf-8") as it:
+        files[f"{crate}/wrong/{name}.edit"] = f"file: {file}\nold: {old}\nnew: {new}\n"
+    for path, text in files.items():
+        os.makedirs(os.path.dirname(path), exist_ok=True)
+        with open(path, "w", encoding="utf-8") as it:
             it.write(text)
 
 
-def tried(names, words):
+def tried(names, words, is_alone):
     """Tries these edits, over what `rt lib` proves or beside an `rt ci` that says these words, and returns the status and the lines."""
     lines = []
-    with tempfile.TemporaryDirectory() as top:
+    with together.folder("toy-") as top:
         made_in(top, names)
         file = f"{top}/words" if words else None
         if file:
             with open(file, "w", encoding="utf-8") as it:
                 it.write(words)
-        return wrong_bodies.run(top, None, False, lines.append, file), lines
+        return wrong_bodies.run(top, None, is_alone, lines.append, file), lines
 
 
-def failures(wanted, last, words=None):
+def failures(wanted, last, words=None, is_alone=False):
     """Returns how much came otherwise: what is said of each edit, and the last line."""
     failed = 0
-    status, lines = tried(wanted, words)
+    status, lines = tried(wanted, words, is_alone)
     for name, text in wanted.items():
         said = [it for it in lines if f"toy/{name}:" in it]
-        if not any(text in it for it in said):
+        if not said or text not in said[-1]:
             failed += 1
             print(f"FAILED: {name}: {text} was to come, and {said} came")
     if bool(status) == last.endswith(" 0 not") or lines[-1] != last:
@@ -106,9 +153,40 @@ def failures(wanted, last, words=None):
     return failed
 
 
+def is_running(number):
+    """Whether a process runs, and is not only left for its parent to see."""
+    try:
+        return open(f"/proc/{number}/stat", encoding="utf-8").read().rpartition(")")[2].split()[0] not in "ZX"
+    except OSError:
+        return False
+
+
+def ends_all(number):
+    """Whether a command, and what that started, ends with the process that started it where that gets this signal."""
+    words = [f"{wrong_bodies.TOP}/tools/together.py", "sh", "-c", "sleep 600 & echo $$ $!; wait"]
+    with subprocess.Popen(words, stdout=subprocess.PIPE, text=True) as begun:
+        started = begun.stdout.readline().split()
+        begun.send_signal(number)
+        for _ in range(100):
+            if not any(is_running(it) for it in started):
+                return len(started) == 2
+            time.sleep(0.1)
+    return False
+
+
 def main():
-    # The edit that changes nothing is tried beside a wrong body of what its function calls, so it is not proved there.
-    failed = failures({name: it[3] for name, it in EDITS.items()}, "4 refused, 4 not")
+    failed = 0
+    for text in [*NAMES, *OTHERS]:
+        if verdicts.is_of_a_name(text) != (text in NAMES):
+            failed += 1
+            print(f"FAILED: whether this is of a name: {text}")
+    for number in (signal.SIGINT, signal.SIGTERM, signal.SIGHUP, signal.SIGKILL):
+        if not ends_all(number):
+            failed += 1
+            print(f"FAILED: what was started goes on after signal {number}")
+    failed += failures({name: it[3] for name, it in EDITS.items()}, "5 refused, 5 not")
+    alone = {"adds_one": "refused by rt must-fail: ", "takes_a_name_away": "NOT REFUSED: toy/takes_a_name_away: refused, as it must be (only"}
+    failed += failures(alone, "1 refused, 1 not", is_alone=True)
     failed += failures({"adds_one": "refused by twice", "leaves_all": "refused by rest_of"}, "2 refused, 0 not", "rt: toy proved\n")
     failed += failures({"adds_one": "toy is not proved"}, "0 refused, 1 not", "rt: toy NOT PROVED\n0 passed, 1 failed\n")
     print(f"wrong_bodies.py: {len(EDITS)} edits of a small crate, {failed} failed")

@@ -1,0 +1,160 @@
+"""The edits of `crates/*/wrong`: how they are read, what they change, and which of them one check can try."""
+
+import os
+import re
+from dataclasses import dataclass, field
+
+FUNCTION = re.compile(r"^([ \t]*)(?:pub(?:\([\w: ]+\))? )?(?:(?:const|unsafe) )*fn (\w+)", re.M)
+OWNER = re.compile(r"^(?:pub )?(?:unsafe )?(?:impl|trait)\b[^\n{]*", re.M)
+# What an edit may not touch if it is to be one of a body.
+STATED = re.compile(r"\b(requires|ensures|ghost|struct|enum|fn|impl|trait|const|use|mod)\b")
+
+
+@dataclass
+class Edit:
+    """A wrong body: the texts that it changes, and the functions in which these stand, as files, owners and names."""
+
+    crate: str
+    name: str
+    pairs: list = field(default_factory=list)
+    functions: list = field(default_factory=list)
+    is_of_a_body: bool = True
+    judge: str = ""
+
+    def __hash__(self):
+        return hash((self.crate, self.name))
+
+    @property
+    def label(self):
+        return f"{self.crate}/{self.name}"
+
+
+def read_edit(crate, path):
+    """Reads an edit: lines `file: PATH`, and pairs of lines `old: TEXT` and `new: TEXT`. A line `judge: PATH` names the function
+    that has to refuse an edit of no body."""
+    edit, file, old = Edit(crate, os.path.basename(path).removesuffix(".edit")), None, None
+    for line in open(path, encoding="utf-8").read().split("\n"):
+        word, _, text = line.partition(": ")
+        if word == "file":
+            file = text.strip()
+        elif word == "judge":
+            edit.judge = text.strip()
+        elif word == "old":
+            old = text
+        elif word in ("new", "new:"):
+            edit.pairs.append((file, old, text))
+            old = None
+    return edit
+
+
+def fault_of(edit, folder):
+    """Returns why the edit cannot be applied, or None."""
+    texts = {}
+    for file, old, new in edit.pairs:
+        if not file or not old:
+            return "a line `new:` stands before any `file:` or `old:`"
+        if file not in texts:
+            if not os.path.isfile(f"{folder}/{file}"):
+                return f"there is no file {file}"
+            texts[file] = open(f"{folder}/{file}", encoding="utf-8").read()
+        if texts[file].count(old) != 1:
+            return f"its old text stands in {file} {texts[file].count(old)} times, and not once"
+        texts[file] = texts[file].replace(old, new)
+    return None if edit.pairs else "it has no pair of lines `old:` and `new:`"
+
+
+def applied(edit, folder):
+    for file, old, new in edit.pairs:
+        text = open(f"{folder}/{file}", encoding="utf-8").read()
+        os.remove(f"{folder}/{file}")  # (it may be a link)
+        with open(f"{folder}/{file}", "w", encoding="utf-8") as it:
+            it.write(text.replace(old, new))
+
+
+def owner_of(head):
+    """Returns the name by which `rt` tells the methods of an `impl` or a trait: that of the type and then, of the trait and the
+    types that it is at, each name but those of parameters. A type that is itself a parameter is `Any`."""
+    head = re.sub(r"'\w+|\bwhere\b.*|^(?:pub )?(?:unsafe )?", "", head).strip()
+    if head.startswith("trait"):
+        return re.match(r"trait\s+(\w+)", head)[1]
+    generics, head = generics_of(head.removeprefix("impl").strip())
+    parameters = re.findall(r"(?:^|,)\s*(?:const )?(\w+)", without_arguments(generics))
+    trait, _, kind = head.rpartition(" for ")
+    kind = "Array" if kind.startswith("[") else name_of(re.match(r"(?:&\s*(?:mut )?)?([\w:]+)", kind)[1])
+    return ("Any" if kind in parameters else kind) + "".join(name_of(it) for it in re.findall(r"[\w:]+", trait) if it not in parameters)
+
+
+def generics_of(text):
+    """Parts a text after the `<..>` that it begins with, where it does."""
+    depth = 0
+    for at, sign in enumerate(text):
+        depth += (sign == "<") - (sign == ">")
+        if not depth:
+            return (text[1:at], text[at + 1 :].strip()) if at else ("", text)
+    return "", text
+
+
+def without_arguments(text):
+    while re.search(r"<[^<>]*>", text):
+        text = re.sub(r"<[^<>]*>", "", text)
+    return text
+
+
+def name_of(path):
+    """Returns the last word of a path, with a capital letter."""
+    word = path.rpartition("::")[2]
+    return word[:1].upper() + word[1:]
+
+
+def function_at(text, at):
+    """Returns the owner and the name of the function whose body has this place, or None."""
+    found = [it for it in FUNCTION.finditer(text) if it.start() < at]
+    if not found:
+        return None
+    last = found[-1]
+    end = re.compile(rf"^{last[1]}\}}", re.M).search(text, last.end())
+    if not end or end.start() < at:
+        return None
+    heads = [it for it in OWNER.finditer(text) if it.start() < last.start()] if last[1] else []
+    return owner_of(heads[-1][0]) if heads else "", last[2]
+
+
+def place(edit, folder):
+    """Notes the functions that the edit changes, and whether it changes the body of one and nothing else."""
+    texts = {it[0]: open(f"{folder}/{it[0]}", encoding="utf-8").read() for it in edit.pairs}
+    for file, old, new in edit.pairs:
+        # What is added to a line begins where that ends, as in a body after `fn .. {`.
+        goes_on = old.endswith("{") and new.startswith(old)
+        at = texts[file].find(old) + len(old) * goes_on
+        # A check knows no function of a test.
+        function = function_at(texts[file], at) if file.startswith("src/") and "tests" not in re.split("[/.]", file) else None
+        if function and (file, *function) not in edit.functions:
+            edit.functions.append((file, *function))
+        edit.is_of_a_body &= bool(function) and (goes_on or not STATED.search(old))
+        texts[file] = texts[file].replace(old, new)
+    edit.is_of_a_body &= len(edit.functions) == 1 and not edit.judge
+
+
+def companies(edits):
+    """Parts the edits into lists that one check each can try, the longest first: in none are two of one function."""
+    groups = []
+    for edit in edits:
+        group = next((it for it in groups if edit.functions not in [one.functions for one in it]), None)
+        if group is None:
+            groups.append([edit])
+        else:
+            group.append(edit)
+    return groups
+
+
+def path_of(function):
+    """Returns the end of a function's path that `rattle check --only` knows it by: a method stands below its type, wherever the impl is."""
+    file, owner, name = function
+    module = file.removeprefix("src/").removesuffix(".rt").removesuffix("/mod").replace("/", "::")
+    return "::".join(it for it in (owner or (module if module != "lib" else ""), name) if it)
+
+
+def only(edits):
+    """Returns the words with which a check looks at the functions of these edits alone, or at all where an edit is of none."""
+    paths = [[it.judge] if it.judge else [path_of(one) for one in it.functions] for it in edits]
+    return [word for it in sorted({it for one in paths for it in one}) for word in ("--only", it)] if all(paths) else []
