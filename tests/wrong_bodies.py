@@ -267,7 +267,7 @@ class Trial:
         else:
             self.prove_what_is_ready(is_alone)
         self.lanes.run()
-        for crate in [it for it in self.crates.values() if it.untold]:
+        for crate in [it for name, it in self.crates.items() if it.untold and name in self.proved]:
             self.judge(crate)
         refused, failed = 0, 0
         for name, crate in self.crates.items():

@@ -144,6 +144,7 @@ class Work:
 def prove_all(top, names, words=lambda name: ["lib"], told=print, log=None):
     """Proves the crates and those below them, and returns what `rt` said of the first that was not proved, or None."""
     work, most, running = Work(top, names), lanes(), {}
+    together.begun()
     with ThreadPoolExecutor(2 * most) as pool:
         while work.left or running:
             for name in work.ready():

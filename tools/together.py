@@ -19,7 +19,7 @@ SHELL = 'trap "" HUP INT TERM; read -r _; kill -TERM 0; sleep 1; rm -rf "$0"; ki
 
 @functools.lru_cache(maxsize=None)
 def begun():
-    """Starts the shell, at the first call, and returns the room and the group."""
+    """Starts the shell, at the first call, which is the main thread's, and returns the room and the group."""
     # Python would wait at an interrupt for its threads, and so for their commands.
     if signal.getsignal(signal.SIGINT) is signal.default_int_handler:
         signal.signal(signal.SIGINT, signal.SIG_DFL)
