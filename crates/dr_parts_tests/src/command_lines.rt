@@ -1,5 +1,6 @@
 //! Command lines.
 
+use crate::checks::check;
 use dr_command_line::{By, LineFault, Plan, plan};
 use std::alloc::Global;
 use std::process::Abort;
@@ -27,35 +28,47 @@ fn help(rt: HostRuntime) -> Result<(), Fail> {
     Ok(())
 }
 
+fn check_line(
+    rt: &impl Abort,
+    alloc: Global,
+    fault: &LineFault,
+    line: &str,
+    status: u8,
+) -> Result<(), Fail> {
+    let said = fault.to_string(alloc)?;
+    check(rt, said.as_str(), line);
+    check(rt, fault.status(), status);
+    Ok(())
+}
+
+fn check_refused(rt: &impl Abort, alloc: Global, words: &[&str], line: &str) -> Result<(), Fail> {
+    match planned(alloc, words)? {
+        Err(fault) => check_line(rt, alloc, &fault, line, 1),
+        Ok(_) => Err("a plan".into()),
+    }
+}
+
+fn check_usage(rt: &impl Abort, alloc: Global, words: &[&str]) -> Result<(), Fail> {
+    let asked = planned(alloc, words)?;
+    assert!(rt; matches!(&asked, Err(LineFault::Usage(_))));
+    Ok(())
+}
+
 #[test]
 fn no_command(rt: HostRuntime) -> Result<(), Fail> {
     let alloc = rt.alloc();
-    match planned(alloc, &["disruptor", "drive"])? {
-        Err(fault) => {
-            let text =
-                "error: the following required arguments were not provided:\n  <FILE>\n\nUsage: disruptor drive <FILE>\n\nFor more information, try '--help'.";
-            assert_eq!(rt; fault.to_string(alloc)?.as_str(), text);
-            assert_eq!(rt; fault.status(), 1);
-        }
-        Ok(_) => assert!(rt; false),
-    }
-    assert!(rt; matches!(&planned(alloc, &["disruptor"])?, Err(LineFault::Usage(_))));
-    assert!(rt;
-        matches!(
-            &planned(alloc, &["disruptor", "replay"])?,
-            Err(LineFault::Usage(_))
-        )
-    );
-    assert!(rt;
-        matches!(
-            &planned(alloc, &["disruptor", "drive", "x", "y"])?,
-            Err(LineFault::Usage(_))
-        )
-    );
-    let memory = LineFault::Memory;
-    assert_eq!(rt; memory.to_string(alloc)?.as_str(), "no-memory");
-    assert!(rt; memory.status() == 3 && LineFault::NotUtf8.status() == 1);
-    Ok(())
+    let text =
+        "error: the following required arguments were not provided:\n  <FILE>\n\nUsage: disruptor drive <FILE>\n\nFor more information, try '--help'.";
+    check_refused(&rt, alloc, &["disruptor", "drive"], text)?;
+    check_usage(&rt, alloc, &["disruptor"])?;
+    check_usage(&rt, alloc, &["disruptor", "replay"])?;
+    check_usage(&rt, alloc, &["disruptor", "drive", "x", "y"])
+}
+
+#[test]
+fn other_faults(rt: HostRuntime) -> Result<(), Fail> {
+    check(&rt, LineFault::NotUtf8.status(), 1);
+    check_line(&rt, rt.alloc(), &LineFault::Memory, "no-memory", 3)
 }
 
 fn check_replay(rt: &impl Abort, alloc: Global, words: &[&str], slots: u64) -> Result<(), Fail> {
@@ -94,20 +107,12 @@ fn a_file_to_replay(rt: HostRuntime) -> Result<(), Fail> {
 fn sizes_of_no_ring(rt: HostRuntime) -> Result<(), Fail> {
     let alloc = rt.alloc();
     for size in ["0", "3", "1000", "131072"] {
-        match planned(alloc, &["disruptor", "replay", "--size", size, "day.csv"])? {
-            Err(fault) => {
-                assert_eq!(rt; fault.to_string(alloc)?.as_str(), "bad-size");
-                assert_eq!(rt; fault.status(), 1);
-            }
-            Ok(_) => assert!(rt; false),
-        }
+        let words = ["disruptor", "replay", "--size", size, "day.csv"];
+        check_refused(&rt, alloc, &words, "bad-size")?;
     }
     for words in [["--size", "x"], ["--size", "-1"], ["--by", "post"]] {
-        let asked = planned(
-            alloc,
-            &["disruptor", "replay", words[0], words[1], "day.csv"],
-        )?;
-        assert!(rt; matches!(&asked, Err(LineFault::Usage(_))));
+        let words = ["disruptor", "replay", words[0], words[1], "day.csv"];
+        check_usage(&rt, alloc, &words)?;
     }
     Ok(())
 }

@@ -1,5 +1,6 @@
 //! What no clause says: that the calls over memory succeed, and the printed texts.
 
+use crate::checks::check;
 use dr_core::Reply;
 use dr_files::{Cause, Counted, FileFault, number_of, put_line, read_all, write_text};
 use dr_graph::GraphFault;
@@ -29,7 +30,11 @@ fn a_text_is_copied(rt: HostRuntime) -> Result<(), Fail> {
     let mut writer = Counted::new(Vec::new(alloc));
     let text = read_all(alloc, &mut reader)?;
     write_text(&mut writer, text.as_slice())?;
-    assert_eq!(rt; writer.into_inner().as_slice(), b"some\nlines\n".as_slice());
+    check(
+        &rt,
+        writer.into_inner().as_slice(),
+        b"some\nlines\n".as_slice(),
+    );
     Ok(())
 }
 
@@ -52,7 +57,7 @@ fn lines(rt: HostRuntime) -> Result<(), Fail> {
         },
     ];
     put_line(&mut line, reply, events.as_slice())?;
-    assert_eq!(rt; line.as_str(), "batch 3 end 5 6:1\n");
+    check(&rt, line.as_str(), "batch 3 end 5 6:1\n");
     Ok(())
 }
 
@@ -72,7 +77,7 @@ fn faults(rt: HostRuntime) -> Result<(), Fail> {
         (FileFault::Write, "cannot write", 4),
     ];
     for (fault, line, status) in &rows {
-        assert_eq!(rt; fault.to_string(rt.alloc())?.as_str(), *line);
+        check(&rt, fault.to_string(rt.alloc())?.as_str(), *line);
         assert_eq!(rt; fault.status(), *status, "{line}");
     }
     Ok(())

@@ -1,6 +1,7 @@
 //! What no clause says: that the records of a small text are read, whose values come from the rules
 //! of the format and not from a run.
 
+use crate::checks::check;
 use dr_records::{Rows, count_of, field, is_list, is_named, is_record, number_at};
 use std::test::Fail;
 
@@ -12,8 +13,8 @@ fn rows_of_a_text(rt: HostRuntime) -> Result<(), Fail> {
         assert!(rt; false);
         return Ok(());
     };
-    assert_eq!(rt; count_of(row), 3);
-    assert_eq!(rt; field(row, 2), b"a,b".as_slice());
+    check(&rt, count_of(row), 3);
+    check(&rt, field(row, 2), b"a,b".as_slice());
     assert!(rt; field(row, 3).is_empty());
     assert!(rt; is_named(row, b"claim".as_slice()) && is_list(row, b"claim".as_slice()));
     assert!(rt; is_record(row, b"claim".as_slice(), 3) && !is_record(row, b"claim".as_slice(), 2));

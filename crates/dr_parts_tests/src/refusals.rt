@@ -1,5 +1,6 @@
 //! The printed text of each fault.
 
+use crate::checks::check;
 use dr_core::{OpenFault, Refusal, Trouble};
 use std::test::Fail;
 
@@ -32,13 +33,13 @@ const OPEN_FAULTS: [(OpenFault, &str); 3] = [
 fn faults_print_their_names(rt: HostRuntime) -> Result<(), Fail> {
     let alloc = rt.alloc();
     for (refusal, name) in REFUSALS {
-        assert_eq!(rt; refusal.to_string(alloc)?.as_str(), name);
+        check(&rt, refusal.to_string(alloc)?.as_str(), name);
         let trouble = Trouble::Refused(refusal);
-        assert_eq!(rt; trouble.to_string(alloc)?.as_str(), name);
+        check(&rt, trouble.to_string(alloc)?.as_str(), name);
     }
-    assert_eq!(rt; Trouble::Memory.to_string(alloc)?.as_str(), "no-memory");
+    check(&rt, Trouble::Memory.to_string(alloc)?.as_str(), "no-memory");
     for (fault, name) in OPEN_FAULTS {
-        assert_eq!(rt; fault.to_string(alloc)?.as_str(), name);
+        check(&rt, fault.to_string(alloc)?.as_str(), name);
     }
     Ok(())
 }

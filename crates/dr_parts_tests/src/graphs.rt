@@ -1,6 +1,8 @@
 //! Graphs that calls of a builder make.
 
-use crate::rows::{BUILT, Call, Row};
+mod rows;
+
+use crate::graphs::rows::{BUILT, Call, Row};
 use dr_graph::{Graph, GraphBuilder, GraphFault, Group};
 use std::alloc::Global;
 use std::process::Abort;
