@@ -5,6 +5,8 @@ use dr_graph::{Graph, GraphBuilder, GraphFault};
 use dr_seq::{Event, Size};
 use dr_shared::Recorded;
 use std::alloc::Global;
+use std::fmt::Debug;
+use std::process::Abort;
 use std::test::Fail;
 
 /// How the handlers of an exchange stand to each other.
@@ -18,6 +20,11 @@ pub enum Shape {
     Chain,
     /// Two handlers without upstreams, and a third after both.
     Diamond,
+}
+
+/// Two values are the same. A call of this costs a proof less than an assertion in its place.
+pub fn check<T: Copy + PartialEq + Debug>(rt: &impl Abort, found: T, wanted: T) {
+    assert_eq!(rt; found, wanted);
 }
 
 pub const fn word(first: u64) -> Event {

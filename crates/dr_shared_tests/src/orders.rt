@@ -2,10 +2,12 @@
 
 ghost use Rattle.std.specs.Prelude.{◌≡◌};
 
-use crate::histories::{Shape, graph};
+use crate::histories::{Shape, check, graph};
 use dr_core::{Inlet, MAX_LIMIT, Mode, Outlet, Polled, Wrote};
 use dr_seq::{Same, Size};
-use dr_shared::{AuditFault, Exchange, LockedInlet, LockedOutlet, Recorded, Shared, audit, finish};
+use dr_shared::{
+    AuditFault, End, Exchange, LockedInlet, LockedOutlet, Recorded, Shared, audit, finish,
+};
 use std::alloc::Global;
 use std::marker::Brand;
 use std::process::Abort;
@@ -57,8 +59,8 @@ fn pass<I: Inlet<Order>, O: Outlet<Order>>(
         count: 2,
         trouble: None,
     };
-    assert_eq!(rt; claimed.lo, 0);
-    assert_eq!(rt; inlet.write_all(0, &orders[..]), wrote);
+    check(rt, claimed.lo, 0);
+    check(rt, inlet.write_all(0, &orders[..]), wrote);
     inlet.publish(claimed.lo, claimed.hi)?;
     let mut out = [order_of(0, false); 4];
     let batch = Polled::Batch {
@@ -66,11 +68,29 @@ fn pass<I: Inlet<Order>, O: Outlet<Order>>(
         count: 2,
         end: true,
     };
-    assert_eq!(rt; outlet.poll_into(&mut out)?, batch);
-    assert_eq!(rt; out[0], orders[0]);
-    assert_eq!(rt; out[1], orders[1]);
+    check(rt, outlet.poll_into(&mut out)?, batch);
+    check(rt, out[0], orders[0]);
+    check(rt, out[1], orders[1]);
     outlet.complete(2)?;
     Ok(())
+}
+
+/// Two ends, once orders went in and out by them.
+fn passed_through<L: Exchange<Order>, R: Wait + Abort>(
+    rt: &R,
+    alloc: Global,
+    shared: &Shared<Order, L>,
+    one: End<Order, L>,
+    two: End<Order, L>,
+    orders: &[Order; 2],
+) -> Result<Vec<End<Order, L>>, Fail> {
+    let mut inlet = LockedInlet::new(rt, shared, one, 0);
+    let mut outlet = LockedOutlet::new(rt, shared, two, 0);
+    pass(rt, &mut inlet, &mut outlet, orders)?;
+    let mut ends = Vec::new(alloc);
+    ends.push(inlet.into_end())?;
+    ends.push(outlet.into_end())?;
+    Ok(ends)
 }
 
 fn by_lock<L: Exchange<Order>, R: Wait + Abort>(
@@ -88,16 +108,11 @@ fn by_lock<L: Exchange<Order>, R: Wait + Abort>(
     let mut shared = Shared::<Order, L>::new(recorded, blank);
     let one = shared.end().ok_or("an end")?;
     let two = shared.end().ok_or("an end")?;
-    let mut inlet = LockedInlet::new(rt, &shared, one, 0);
-    let mut outlet = LockedOutlet::new(rt, &shared, two, 0);
-    pass(rt, &mut inlet, &mut outlet, &orders)?;
-    let mut ends = Vec::new(alloc);
-    ends.push(inlet.into_end())?;
-    ends.push(outlet.into_end())?;
-    let Ok(recorded) = finish(shared, ends) else {
-        return Err("the ends are back".into());
-    };
-    check_audits(rt, alloc, &recorded, &orders)
+    let ends = passed_through(rt, alloc, &shared, one, two, &orders)?;
+    match finish(shared, ends) {
+        Ok(recorded) => check_audits(rt, alloc, &recorded, &orders),
+        Err(_) => Err("the ends are back".into()),
+    }
 }
 
 /// The audit gives the orders, and finds one that differs in its flag alone.
@@ -108,7 +123,7 @@ fn check_audits(
     orders: &[Order; 2],
 ) -> Result<(), Fail> {
     let list = audit(alloc, recorded, &[&orders[..]])?;
-    assert_eq!(rt; list.as_slice(), &orders[..]);
+    check(rt, list.as_slice(), &orders[..]);
     let other = [order_of(5, true), order_of(6, true)];
     let fault = audit(alloc, recorded, &[&other[..]]).err();
     assert!(rt; fault == Some(AuditFault::ScriptDiffers(0)));

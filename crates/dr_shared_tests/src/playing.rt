@@ -3,15 +3,15 @@
 ghost use Rattle.std.specs.Prelude.{◌≡◌};
 ghost use Rattle.dr_shared.specs.Meaning.History.{asked};
 
-use crate::histories::{opened, word};
+use crate::histories::{check, opened, word};
 use crate::rows::RUNS;
 use crate::words::{Answer, Call};
-use dr_core::Command;
 use dr_core::Command::Poll;
 use dr_core::Reply::{Gating, Idle, Refused};
+use dr_core::{Command, Reply};
 use dr_seq::Event;
-use dr_shared::{Entry, Exchange, Recorded, Shared, finish};
-use std::alloc::Global;
+use dr_shared::{End, Entry, Exchange, Recorded, Shared, finish};
+use std::alloc::{AllocError, Global};
 use std::marker::Brand;
 use std::process::Abort;
 use std::sync::Wait;
@@ -28,7 +28,66 @@ fn room(command: Command<Event>) -> usize
     }
 }
 
-/// Plays a run through one end of a new lock. A call whose allocation fails is made again.
+/// A call, which is made again where its allocation fails.
+fn reply_of<L: Exchange<Event>, R: Wait>(
+    rt: &R,
+    alloc: Global,
+    shared: &Shared<Event, L>,
+    end: &mut End<Event, L>,
+    command: Command<Event>,
+) -> Result<Reply, AllocError> {
+    let mut out = vec![in alloc; Event::NONE; room(command)]?;
+    match shared.call(rt, end, command, &mut out) {
+        Ok(answered) => Ok(answered),
+        Err(_) => shared.call(rt, end, command, &mut out),
+    }
+}
+
+/// Makes a run's calls through an end, and adds those that are to be kept.
+fn play_rows<L: Exchange<Event>, R: Wait + Abort>(
+    rt: &R,
+    alloc: Global,
+    shared: &Shared<Event, L>,
+    end: &mut End<Event, L>,
+    rows: &[(Call, Answer)],
+    kept: &mut Vec<Entry<Event>>,
+) -> Result<(), Fail> {
+    for (call, answer) in rows {
+        let command = call.command();
+        let reply = answer.reply();
+        check(rt, reply_of(rt, alloc, shared, end, command)?, reply);
+        if !matches!(reply, Refused(_) | Gating | Idle) {
+            kept.push(Entry { command, reply })?;
+        }
+    }
+    Ok(())
+}
+
+fn check_kept(rt: &impl Abort, recorded: &Recorded<Event>, kept: &[Entry<Event>], values: &[u64]) {
+    check(rt, recorded.history(), kept);
+    check(rt, recorded.values().len(), values.len());
+    for (value, first) in recorded.values().iter().zip(values) {
+        check(rt, *value, word(*first));
+    }
+}
+
+/// The one end, once a run's calls were made through it.
+fn played<L: Exchange<Event>, R: Wait + Abort>(
+    rt: &R,
+    alloc: Global,
+    shared: &mut Shared<Event, L>,
+    rows: &[(Call, Answer)],
+    kept: &mut Vec<Entry<Event>>,
+) -> Result<Vec<End<Event, L>>, Fail> {
+    let mut end = shared.end().ok_or("an end")?;
+    play_rows(rt, alloc, shared, &mut end, rows, kept)?;
+    check(rt, end.calls(), kept.len() as u64);
+    let mut ends = Vec::new(alloc);
+    ends.push(end)?;
+    Ok(ends)
+}
+
+/// Plays a run through one end of a new lock.
 fn play_in<L: Exchange<Event>, R: Wait + Abort>(
     rt: &R,
     alloc: Global,
@@ -42,34 +101,16 @@ fn play_in<L: Exchange<Event>, R: Wait + Abort>(
     requires ends { blank.parts ≡ 65 }
     requires begun { recorded.history ≡ L.begun }
 {
-    let mut shared = Shared::<Event, L>::new(recorded, blank);
-    let mut end = shared.end().ok_or("an end")?;
     let mut kept = Vec::new(alloc);
-    for (call, answer) in rows {
-        let command = call.command();
-        let reply = answer.reply();
-        let mut out = vec![in alloc; Event::NONE; room(command)]?;
-        let answered = match shared.call(rt, &mut end, command, &mut out) {
-            Ok(answered) => answered,
-            Err(_) => shared.call(rt, &mut end, command, &mut out)?,
-        };
-        assert_eq!(rt; answered, reply);
-        if !matches!(reply, Refused(_) | Gating | Idle) {
-            kept.push(Entry { command, reply })?;
+    let mut shared = Shared::<Event, L>::new(recorded, blank);
+    let ends = played(rt, alloc, &mut shared, rows, &mut kept)?;
+    match finish(shared, ends) {
+        Ok(recorded) => {
+            check_kept(rt, &recorded, kept.as_slice(), values);
+            Ok(())
         }
+        Err(_) => Err("the end is back".into()),
     }
-    assert_eq!(rt; end.calls(), kept.len() as u64);
-    let mut ends = Vec::new(alloc);
-    ends.push(end)?;
-    let Ok(recorded) = finish(shared, ends) else {
-        return Err("the end is back".into());
-    };
-    assert_eq!(rt; recorded.history(), kept.as_slice());
-    assert_eq!(rt; recorded.values().len(), values.len());
-    for (value, first) in recorded.values().iter().zip(values) {
-        assert_eq!(rt; *value, word(*first));
-    }
-    Ok(())
 }
 
 /// Plays a run over a lock of its own.

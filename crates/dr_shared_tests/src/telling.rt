@@ -1,5 +1,6 @@
 //! The order in which a worker shows and completes.
 
+use crate::histories::check;
 use dr_core::{Handler, Outlet, Polled, Refusal, Trouble};
 use dr_seq::Event;
 use dr_shared::{OpenGate, consume};
@@ -70,10 +71,11 @@ fn a_batch_is_shown_before_it_is_completed(rt: HostRuntime) -> Result<(), Fail> 
     };
     let mut handler = Telling { shown: &shown };
     let mut buf = [Event::NONE; 4];
-    assert_eq!(rt;
+    check(
+        &rt,
         consume(&rt, &mut outlet, &OpenGate, 0, &mut handler, &mut buf),
-        None
+        None,
     );
-    assert_eq!(rt; shown.load(Ordering::SeqCst), 3);
+    check(&rt, shown.load(Ordering::SeqCst), 3);
     Ok(())
 }

@@ -1,5 +1,6 @@
 //! Workers over ends of the tests' own, which no exchange stands behind.
 
+use crate::histories::check;
 use dr_core::{Claimed, Handler, Inlet, Outlet, Polled, Refusal, Trouble};
 use dr_seq::{Event, Size};
 use dr_shared::{
@@ -118,16 +119,17 @@ fn producers(rt: HostRuntime) -> Result<(), Fail> {
         sent: 5,
         fault: None,
     };
-    assert_eq!(rt; produce(&rt, &mut inlet, &OpenGate, 16, script, 2), all);
+    check(&rt, produce(&rt, &mut inlet, &OpenGate, 16, script, 2), all);
     // Five writes and three publications, each made twice.
-    assert_eq!(rt; inlet.calls, 16);
+    check(&rt, inlet.calls, 16);
     let refused = Produced {
         sent: 4,
         fault: Some(WorkFault::Refused(Refusal::Exhausted)),
     };
-    assert_eq!(rt;
+    check(
+        &rt,
         produce(&rt, &mut scarce_end(4), &OpenGate, 16, script, 2),
-        refused
+        refused,
     );
     let mut hoarding = scarce_end(5);
     hoarding.hoards = true;
@@ -135,9 +137,10 @@ fn producers(rt: HostRuntime) -> Result<(), Fail> {
         sent: 0,
         fault: Some(WorkFault::Memory),
     };
-    assert_eq!(rt;
+    check(
+        &rt,
         produce(&rt, &mut hoarding, &OpenGate, 16, script, 2),
-        memory
+        memory,
     );
     Ok(())
 }
@@ -150,26 +153,28 @@ fn stopped_producers(rt: HostRuntime) -> Result<(), Fail> {
         sent: 5,
         fault: stopped,
     };
-    assert_eq!(rt;
+    check(
+        &rt,
         produce(&rt, &mut scarce_end(5), &gate, 16, SCRIPT.as_slice(), 1),
-        all
+        all,
     );
-    assert_eq!(rt; gate.passed.load(Ordering::SeqCst), 2);
+    check(&rt, gate.passed.load(Ordering::SeqCst), 2);
     // A refusal does not hide that it was stopped.
     let most = Produced {
         sent: 4,
         fault: stopped,
     };
-    assert_eq!(rt;
+    check(
+        &rt,
         produce(
             &rt,
             &mut scarce_end(4),
             &stops_at_one(),
             16,
             SCRIPT.as_slice(),
-            1
+            1,
         ),
-        most
+        most,
     );
     Ok(())
 }
@@ -263,23 +268,26 @@ fn consumers(rt: HostRuntime) -> Result<(), Fail> {
         marks: 0,
         sum: 0,
     };
-    assert_eq!(rt;
+    check(
+        &rt,
         consume(&rt, &mut dealing_end(5), &OpenGate, 0, &mut adder, &mut buf),
-        None
+        None,
     );
     assert!(rt; adder.count == 5 && adder.marks == 1 && adder.sum == 10);
     let gate = stops_at_one();
     let stopped = Some(WorkFault::Stopped);
-    assert_eq!(rt;
+    check(
+        &rt,
         consume(&rt, &mut dealing_end(5), &gate, 0, &mut adder, &mut buf),
-        stopped
+        stopped,
     );
     assert!(rt; adder.count == 10 && adder.marks == 2);
-    assert_eq!(rt; gate.passed.load(Ordering::SeqCst), 2);
+    check(&rt, gate.passed.load(Ordering::SeqCst), 2);
     let refused = Some(WorkFault::Refused(Refusal::BadCount));
-    assert_eq!(rt;
+    check(
+        &rt,
         consume(&rt, &mut dealing_end(5), &gate, 0, &mut adder, &mut []),
-        refused
+        refused,
     );
     Ok(())
 }
@@ -306,8 +314,8 @@ fn first_of_several_faults(rt: HostRuntime) -> Result<(), Fail> {
         assert!(rt; matches!(&first, Some(first) if first.who == who));
         assert!(rt; matches!(&first, Some(first) if first.fault.number() == number));
     }
-    assert_eq!(rt; first_fault(&all[5..]), None);
-    assert_eq!(rt; first_fault(&[]), None);
+    check(&rt, first_fault(&all[5..]), None);
+    check(&rt, first_fault(&[]), None);
     Ok(())
 }
 
@@ -315,9 +323,9 @@ fn first_of_several_faults(rt: HostRuntime) -> Result<(), Fail> {
 // many come.
 fn pauses_where(rt: &impl Abort, waiting: &mut Waiting, come: u64, wanted: &[u32]) {
     for pauses in wanted {
-        assert_eq!(rt; waiting.pauses(), *pauses);
+        check(rt, waiting.pauses(), *pauses);
         waiting.wait();
-        assert_eq!(rt; waiting.pauses(), 0);
+        check(rt, waiting.pauses(), 0);
         waiting.wait();
         waiting.found(come);
     }
