@@ -5,8 +5,17 @@ use dr_disruptor::{RunFault, run, run_with};
 use dr_graph::{Graph, GraphBuilder, GraphFault};
 use dr_seq::{Event, Size};
 use dr_shared::{OpenGate, produce};
-use std::alloc::Global;
+use std::alloc::{AllocError, Global};
+use std::fmt::Debug;
+use std::process::Abort;
+use std::sync::Wait;
 use std::test::Fail;
+use std::thread::Threads;
+
+/// Two values are the same. A call of this costs a proof less than an assertion in its place.
+fn check<T: Copy + PartialEq + Debug>(rt: &impl Abort, found: T, wanted: T) {
+    assert_eq!(rt; found, wanted);
+}
 
 /// Two handlers, and one after both.
 fn diamond(alloc: Global) -> Result<Graph, GraphFault> {
@@ -16,70 +25,84 @@ fn diamond(alloc: Global) -> Result<Graph, GraphFault> {
     builder.build()
 }
 
+fn script(alloc: Global) -> Result<Vec<Event>, AllocError> {
+    let mut events = Vec::new(alloc);
+    for first in 0..1000 {
+        events.push(Event { first, second: 0 })?;
+    }
+    Ok(events)
+}
+
+/// What the handlers of a diamond come to, where all is done.
+fn worked<R: Threads + Wait + Abort + Copy + Send + 'static>(
+    rt: R,
+    alloc: Global,
+    graph: &Graph,
+    script: &[Event],
+) -> Result<Vec<Work>, Fail> {
+    let size = Size::new(8)?;
+    let handlers = vec![in alloc; Work::Sum(0), Work::Keep(0), Work::Sum(1)]?;
+    let ran = run(rt, alloc, graph, size, handlers, script)?;
+    check(&rt, ran.settled.published(), script.len() as u64);
+    Ok(ran.finished()?)
+}
+
 #[test]
 fn a_script_through_a_diamond(rt: HostRuntime) -> Result<(), Fail> {
-    let alloc = rt.alloc();
-    let mut script = Vec::new(alloc);
-    for k in 0..1000 {
-        script.push(Event {
-            first: k,
-            second: 0,
-        })?;
-    }
-    let handlers = vec![in alloc; Work::Sum(0), Work::Keep(0), Work::Sum(1)]?;
-    let ran = run(
+    let graph = diamond(rt.alloc())?;
+    let script = script(rt.alloc())?;
+    let handlers = worked(rt, rt.alloc(), &graph, script.as_slice())?;
+    let wanted = [Work::Sum(499_500), Work::Keep(999), Work::Sum(499_501)];
+    check(&rt, handlers.as_slice(), &wanted[..]);
+    Ok(())
+}
+
+fn check_handlers(rt: &impl Abort, alloc: Global, fault: &RunFault) -> Result<(), Fail> {
+    let said = format!(in alloc; "{fault}")?;
+    check(
         rt,
-        alloc,
-        &diamond(alloc)?,
-        Size::new(8)?,
-        handlers,
-        script.as_slice(),
-    )?;
-    assert_eq!(rt; ran.settled.published(), 1000);
-    let handlers = ran.finished()?;
-    assert_eq!(rt;
-        handlers.as_slice(),
-        [Work::Sum(499_500), Work::Keep(999), Work::Sum(499_501)].as_slice()
+        said.as_str(),
+        "the graph has 3 handlers, and 2 were given",
     );
+    assert!(rt; matches!(fault, RunFault::Handlers { graph: 3, given: 2 }));
     Ok(())
 }
 
 #[test]
 fn a_handler_too_few(rt: HostRuntime) -> Result<(), Fail> {
-    let alloc = rt.alloc();
-    let handlers = vec![in alloc; Work::Sum(0), Work::Keep(0)]?;
-    let ran = run(rt, alloc, &diamond(alloc)?, Size::new(8)?, handlers, &[]);
-    match ran {
-        Err(fault) => {
-            let said = format!(in alloc; "{fault}")?;
-            assert_eq!(rt; said.as_str(), "the graph has 3 handlers, and 2 were given");
-            assert!(rt; matches!(&fault, RunFault::Handlers { graph: 3, given: 2 }));
-        }
-        Ok(_) => assert!(rt; false),
+    let size = Size::new(8)?;
+    let graph = diamond(rt.alloc())?;
+    let handlers = vec![in rt.alloc(); Work::Sum(0), Work::Keep(0)]?;
+    match run(rt, rt.alloc(), &graph, size, handlers, &[]) {
+        Err(fault) => check_handlers(&rt, rt.alloc(), &fault),
+        Ok(_) => Err("it ran".into()),
     }
-    Ok(())
+}
+
+/// What the handlers of a diamond come to, where a closure sends an event five times.
+fn sent_by_a_closure<R: Threads + Wait + Copy + Send + 'static>(
+    rt: R,
+    alloc: Global,
+    graph: &Graph,
+    event: Event,
+) -> Result<Vec<Work>, Fail> {
+    let size = Size::new(2)?;
+    let handlers = vec![in alloc; Work::Sum(0), Work::Keep(0), Work::Sum(0)]?;
+    let ran = run_with(rt, alloc, graph, size, handlers, |sender| {
+        produce(&rt, sender, &OpenGate, 16, &[event; 5], 1).fault
+    })?;
+    Ok(ran.finished()?)
 }
 
 #[test]
 fn events_by_a_closure(rt: HostRuntime) -> Result<(), Fail> {
-    let alloc = rt.alloc();
-    let handlers = vec![in alloc; Work::Sum(0), Work::Keep(0), Work::Sum(0)]?;
     let event = Event {
         first: 7,
         second: 0,
     };
-    let ran = run_with(
-        rt,
-        alloc,
-        &diamond(alloc)?,
-        Size::new(2)?,
-        handlers,
-        |sender| { produce(&rt, sender, &OpenGate, 16, &[event; 5], 1).fault },
-    )?;
-    let handlers = ran.finished()?;
-    assert_eq!(rt;
-        handlers.as_slice(),
-        [Work::Sum(35), Work::Keep(7), Work::Sum(35)].as_slice()
-    );
+    let graph = diamond(rt.alloc())?;
+    let handlers = sent_by_a_closure(rt, rt.alloc(), &graph, event)?;
+    let wanted = [Work::Sum(35), Work::Keep(7), Work::Sum(35)];
+    check(&rt, handlers.as_slice(), &wanted[..]);
     Ok(())
 }
