@@ -4,7 +4,7 @@ ghost use Rattle.std.specs.Prelude.{◌≡◌, IfOk};
 ghost use Rattle.dr_senders.specs.Calls.Ends.{Stays};
 ghost use Rattle.dr_senders.specs.Calls.Settling.{AreAllEnds};
 
-use crate::ends::{Ends, LIMIT, chain};
+use crate::ends::{Ends, LIMIT, chain, check};
 use dr_core::{Claimed, Polled, Refusal};
 use dr_graph::{Graph, GraphBuilder, GraphFault};
 use dr_senders::{ClaimFault, Sender, Settled, senders_ring, settle};
@@ -107,12 +107,12 @@ fn claim_only(rt: &impl Abort, ends: &mut Ends)
     ensures { AreAllEnds ends.new.senders.items ends.new.receivers.items ends.new.halter }
 {
     let mut out = [Event::NONE; 4];
-    assert_eq!(rt; claim(rt, ends, 1, 2), Ok(Claimed { lo: 0, hi: 1 }));
-    assert_eq!(rt; claim(rt, ends, 0, 1), Ok(Claimed { lo: 2, hi: 2 }));
-    assert_eq!(rt; poll(rt, ends, 0, &mut out), Ok(Polled::Gating));
-    assert_eq!(rt; poll(rt, ends, 1, &mut out), Ok(Polled::Gating));
-    assert_eq!(rt; complete(rt, ends, 0, 0), Ok(()));
-    assert_eq!(rt; complete(rt, ends, 1, 1), Err(Refusal::NotTaken));
+    check(rt, claim(rt, ends, 1, 2), Ok(Claimed { lo: 0, hi: 1 }));
+    check(rt, claim(rt, ends, 0, 1), Ok(Claimed { lo: 2, hi: 2 }));
+    check(rt, poll(rt, ends, 0, &mut out), Ok(Polled::Gating));
+    check(rt, poll(rt, ends, 1, &mut out), Ok(Polled::Gating));
+    check(rt, complete(rt, ends, 0, 0), Ok(()));
+    check(rt, complete(rt, ends, 1, 1), Err(Refusal::NotTaken));
 }
 
 #[test]
@@ -120,7 +120,7 @@ fn settle_after_open_claims(rt: HostRuntime) -> Result<(), Fail> {
     let mut ends = open(rt.alloc(), &chain(rt.alloc())?)?;
     claim_only(&rt, &mut ends);
     let settled = settle(ends.senders, ends.receivers, ends.halter);
-    assert_eq!(rt; settled.claimed(), 3);
+    check(&rt, settled.claimed(), 3);
     assert!(rt; !settled.is_halted());
     shows_nothing_taken(&rt, &settled);
     Ok(())
@@ -133,11 +133,11 @@ fn halt_only(rt: &impl Abort, ends: &mut Ends)
 {
     let mut out = [Event::NONE; 4];
     let halted = Err(ClaimFault::Refused(Refusal::Halted));
-    assert_eq!(rt; poll(rt, ends, 1, &mut out), Ok(Polled::Idle));
+    check(rt, poll(rt, ends, 1, &mut out), Ok(Polled::Idle));
     halt(ends);
-    assert_eq!(rt; claim(rt, ends, 0, 1), halted);
-    assert_eq!(rt; poll(rt, ends, 0, &mut out), Ok(Polled::Drained));
-    assert_eq!(rt; poll(rt, ends, 1, &mut out), Ok(Polled::Drained));
+    check(rt, claim(rt, ends, 0, 1), halted);
+    check(rt, poll(rt, ends, 0, &mut out), Ok(Polled::Drained));
+    check(rt, poll(rt, ends, 1, &mut out), Ok(Polled::Drained));
 }
 
 #[test]
@@ -145,7 +145,7 @@ fn settle_after_a_halt(rt: HostRuntime) -> Result<(), Fail> {
     let mut ends = open(rt.alloc(), &side_by_side(rt.alloc())?)?;
     halt_only(&rt, &mut ends);
     let settled = settle(ends.senders, ends.receivers, ends.halter);
-    assert_eq!(rt; settled.claimed(), 0);
+    check(&rt, settled.claimed(), 0);
     assert!(rt; settled.is_halted());
     shows_nothing_taken(&rt, &settled);
     Ok(())
@@ -166,10 +166,10 @@ fn send_three(rt: &impl Abort, ends: &mut Ends)
     send(rt, ends, 1, 7);
     send(rt, ends, 0, 8);
     send(rt, ends, 1, 9);
-    assert_eq!(rt; poll(rt, ends, 1, &mut out), Ok(Polled::Gating));
-    assert_eq!(rt; poll(rt, ends, 0, &mut out), Ok(THREE));
-    assert_eq!(rt; &out[..3], &[word(7), word(8), word(9)][..]);
-    assert_eq!(rt; complete(rt, ends, 0, 3), Ok(()));
+    check(rt, poll(rt, ends, 1, &mut out), Ok(Polled::Gating));
+    check(rt, poll(rt, ends, 0, &mut out), Ok(THREE));
+    check(rt, &out[..3], &[word(7), word(8), word(9)][..]);
+    check(rt, complete(rt, ends, 0, 3), Ok(()));
 }
 
 /// A halt, after which the second handler takes all, and completes two.
@@ -179,10 +179,10 @@ fn drain(rt: &impl Abort, ends: &mut Ends)
 {
     let mut out = [Event::NONE; 4];
     halt(ends);
-    assert_eq!(rt; poll(rt, ends, 0, &mut out), Ok(Polled::Drained));
-    assert_eq!(rt; poll(rt, ends, 1, &mut out), Ok(THREE));
-    assert_eq!(rt; complete(rt, ends, 1, 2), Ok(()));
-    assert_eq!(rt; poll(rt, ends, 1, &mut out), Ok(Polled::Drained));
+    check(rt, poll(rt, ends, 0, &mut out), Ok(Polled::Drained));
+    check(rt, poll(rt, ends, 1, &mut out), Ok(THREE));
+    check(rt, complete(rt, ends, 1, 2), Ok(()));
+    check(rt, poll(rt, ends, 1, &mut out), Ok(Polled::Drained));
 }
 
 #[test]
@@ -191,7 +191,7 @@ fn settle_after_a_run(rt: HostRuntime) -> Result<(), Fail> {
     send_three(&rt, &mut ends);
     drain(&rt, &mut ends);
     let settled = settle(ends.senders, ends.receivers, ends.halter);
-    assert_eq!(rt; settled.claimed(), 3);
+    check(&rt, settled.claimed(), 3);
     assert!(rt; settled.is_halted() && settled.handlers() == 2);
     for (handler, completed) in [(0, 3), (1, 2)] {
         assert_eq!(rt; settled.taken(handler), 3, "at {handler}");
