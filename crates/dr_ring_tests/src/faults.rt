@@ -1,5 +1,6 @@
 //! The printed text of each fault of making a ring.
 
+use crate::checks::check;
 use dr_ring::RingFault;
 use std::test::Fail;
 
@@ -9,7 +10,7 @@ fn faults_print_their_names(rt: HostRuntime) -> Result<(), Fail> {
         (RingFault::BadLimit, "bad-limit"),
         (RingFault::NoMemory, "no-memory"),
     ] {
-        assert_eq!(rt; fault.to_string(rt.alloc())?.as_str(), name);
+        check(&rt, fault.to_string(rt.alloc())?.as_str(), name);
     }
     Ok(())
 }

@@ -1,5 +1,6 @@
 //! How often a poll looks at a word of the ring.
 
+use crate::checks::{check, check_at};
 use crate::graphs::{Shape, open};
 use dr_core::{MAX_LIMIT, Polled};
 use dr_seq::Event;
@@ -13,13 +14,9 @@ fn looks_of_a_poll(rt: HostRuntime) -> Result<(), Fail> {
         assert!(rt; h < receivers.len());
         let mut out = [Event::NONE; 1];
         let before = receivers[h].looks();
-        assert_eq!(rt;
-            receivers[h].poll_into(&mut out),
-            Ok(Polled::Idle),
-            "at {h}"
-        );
-        assert_eq!(rt; receivers[h].looks(), before.wrapping_add(looks), "at {h}");
+        check_at(&rt, receivers[h].poll_into(&mut out), Ok(Polled::Idle), h);
+        check_at(&rt, receivers[h].looks(), before.wrapping_add(looks), h);
     }
-    assert_eq!(rt; ends.sender.looks(), 0);
+    check(&rt, ends.sender.looks(), 0);
     Ok(())
 }

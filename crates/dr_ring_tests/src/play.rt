@@ -2,6 +2,7 @@
 
 ghost use Rattle.dr_ring.specs.Calls.Settling.{AreAllEnds};
 
+use crate::checks::check_at;
 use crate::graphs::{Ends, Shape, open};
 use dr_core::Polled::{Batch, Drained, Gating, Idle};
 use dr_core::{Claimed, Polled, Refusal, Reply};
@@ -102,22 +103,22 @@ fn play(rt: &impl Abort, ends: &mut Ends, run: &Run)
     for (call, reply, events) in run.rows {
         let mut out = [Event::NONE; 8];
         let given = answer(rt, ends, *call, &mut out);
-        assert_eq!(rt; given, *reply, "at {call:?} of {name}");
+        check_at(rt, given, *reply, (*call, name));
         assert!(rt; events.len() <= 8);
-        assert_eq!(rt; &out[..events.len()], *events, "at {call:?} of {name}");
+        check_at(rt, &out[..events.len()], *events, (*call, name));
     }
 }
 
 fn check_settled(rt: &impl Abort, settled: &Settled, run: &Run) {
     let name = run.name;
-    assert_eq!(rt; settled.claimed(), run.claimed, "{name}");
-    assert_eq!(rt; settled.published(), run.published, "{name}");
-    assert_eq!(rt; settled.handlers(), run.handlers.len(), "{name}");
+    check_at(rt, settled.claimed(), run.claimed, name);
+    check_at(rt, settled.published(), run.published, name);
+    check_at(rt, settled.handlers(), run.handlers.len(), name);
     for h in 0..settled.handlers() {
         assert!(rt; h < run.handlers.len());
         let (taken, completed) = run.handlers[h];
-        assert_eq!(rt; settled.taken(h), taken, "{h} of {name}");
-        assert_eq!(rt; settled.completed(h), completed, "{h} of {name}");
+        check_at(rt, settled.taken(h), taken, (h, name));
+        check_at(rt, settled.completed(h), completed, (h, name));
     }
 }
 

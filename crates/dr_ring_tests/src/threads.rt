@@ -1,5 +1,6 @@
 //! Threads hand all events over by the traits of ends, each in order, and end by themselves.
 
+use crate::checks::check;
 use crate::graphs::{Shape, open};
 use dr_core::Polled::{Batch, Drained};
 use dr_core::{Inlet, MAX_LIMIT, Outlet, Refusal, Trouble};
@@ -82,9 +83,9 @@ fn a_million_through_a_diamond(rt: HostRuntime) -> Result<(), Fail> {
         || thread::join(&rt, move || send(sender, 1_000_000, 64), || receive(c)),
         || thread::join(&rt, || receive(a), || receive(b)),
     );
-    assert_eq!(rt; sent, 1_000_000);
+    check(&rt, sent, 1_000_000);
     for received in [first, second, last] {
-        assert_eq!(rt; received, Some(1_000_000));
+        check(&rt, received, Some(1_000_000));
     }
     Ok(())
 }
