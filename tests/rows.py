@@ -112,6 +112,7 @@ def main():
         drive_sixteen(bench)
         replay_rows(bench, "files.txt", SIZES)
         replay_rows(bench, "faults.txt", [SIZE_AT_FAULT])
+        replay_rows(bench, "usual.txt", [SIZE_AT_FAULT])
         replay_many(bench)
     print(f"{sys.argv[1]}: {bench.cases} rows, {bench.failed} failed")
     return 1 if bench.failed else 0
