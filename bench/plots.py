@@ -63,6 +63,12 @@ LOOKS = {
     "lmax-try": Look("LMAX tryNext", "#C77BA4", "d"),
     "deque": Look("deques", "#707070", "^"),
     "mutex": Look("mutex", "#8A6D00", "v"),
+    "plain spinning": Look("plain spinning", "#0B5FA5", "o"),
+    "plain parking": Look("plain parking", "#5B9BD0", "o"),
+    "lmax spinning": Look("LMAX spinning", "#A3326F", "D"),
+    "lmax blocking": Look("LMAX blocking", "#C77BA4", "d"),
+    "array queue": Look("array queue", "#707070", "^"),
+    "channels": Look("channels", "#8A6D00", "v"),
 }
 
 
@@ -244,6 +250,22 @@ def producers(records):
     return line_picture(panels, f"producers, {SLOTS}", [1, 2, 4, 8, 16], RATE)
 
 
+def latency(records):
+    """What events take on the average, and most of them at most, a panel for each gap between two events."""
+    columns = {"mean": "mean", "99%": "99 of 100", "99.9%": "999 of 1000"}
+    panels = {}
+    for record in sorted(records, key=lambda record: [*LOOKS, record["program"]].index(record["program"])):
+        if record["program"] in LOOKS:
+            groups = panels.setdefault(int(record["gap_micros"]), {name: {} for name in columns.values()})
+            for column, name in columns.items():
+                groups[name][record["program"]] = float(record[column])
+    figure = bar_picture([(f"an event each {gap} µs", panels[gap]) for gap in sorted(panels)], "nanoseconds")
+    for axes in figure.axes:
+        axes.set_xscale("log")
+        axes.margins(x=0.3)
+    return figure
+
+
 def lengths(records):
     """Seconds by a file's records, a panel for each tool."""
     panels = []
@@ -266,6 +288,7 @@ PICTURES = {
     "claims": {"claims": claims},
     "senders": {"senders": producers},
     "producers": {"producers": producers},
+    "latency": {"latency": latency},
     "lengths": {"lengths": lengths},
 }
 

@@ -27,14 +27,17 @@ FILES = {
     "producers": ("By the number of producers, behind a lock, 1024 slots", RATES),
     "senders": ("By the number of senders of one ring, 1024 slots", RATES),
     "few": ("With two processors for all threads", RATES),
+    "latency": ("How long an event takes through a pipeline of three threads", "Nanoseconds."),
     "lengths": ("The tools, by the records of a file", "Processor seconds."),
 }
 
 
 def kind(record):
-    """A table of its own for one thread, for threads, and for each tool."""
+    """A table of its own for one thread, for threads, for each gap between events, and for each tool."""
     if "tool" in record:
         return record["tool"]
+    if "gap_micros" in record:
+        return f"an event each {record['gap_micros']} µs"
     return "one thread" if record["topology"].startswith("core") else "a thread for each end"
 
 
@@ -59,6 +62,15 @@ def table(records, first):
         yield f"| {' | '.join(name)} | {' | '.join(figures.get(program, '') for program in programs)} |"
 
 
+def latencies(records, first):
+    """A line a program, a column for each of its figures."""
+    columns = [column for column in records[0] if column not in ("program", "gap_micros")]
+    yield f"| {first} | {' | '.join(columns)} |"
+    yield f"|---|{'---:|' * len(columns)}"
+    for record in records:
+        yield f"| {record['program']} | {' | '.join(f'{int(record[column]):,}' for column in columns)} |"
+
+
 def section(title, unit, head, records):
     yield f"## {title}"
     yield ""
@@ -68,7 +80,10 @@ def section(title, unit, head, records):
         kinds.setdefault(kind(record), []).append(record)
     for name, those in kinds.items():
         yield ""
-        yield from table(those, f"{name}: records" if "tool" in those[0] else name)
+        if "gap_micros" in those[0]:
+            yield from latencies(those, name)
+        else:
+            yield from table(those, f"{name}: records" if "tool" in those[0] else name)
     yield ""
 
 

@@ -1,0 +1,109 @@
+//! The handlers' threads.
+
+use crate::clock::nanos_since;
+use crate::fault::Fault;
+use crate::request::Order;
+use dr_core::{Handler, Outlet};
+use dr_seq::Event;
+use dr_shared::{Bell, OpenGate, Ringing, consume_with};
+use std::alloc::Global;
+use std::rt::Clock;
+use std::sync::{Arc, Wait};
+use std::thread::{self, JoinHandle, Threads};
+use std::time::Instant;
+
+/// How many events a handler takes at once, at most.
+const BATCH: usize = 256;
+
+/// A handler's thread: how many nanoseconds each event took, if it notes that.
+pub type Handling = JoinHandle<Result<Vec<u64>, Fault>>;
+
+/// A handler that notes of each event for which it has room how long it took.
+#[derive(Drop)]
+struct Noting<'a, R> {
+    clock: &'a R,
+    begun: Instant,
+    took: Vec<u64>,
+}
+
+impl<'a, R: Clock> Handler<Event> for Noting<'a, R> {
+    ghost use Rattle.std.specs.Prelude.{⊤};
+
+    ghost goes = { λ old event s end new. ⊤ };
+
+    fn on_event(&mut self, event: Event, s: u64, _end: bool) {
+        if let Some(took) = self.took.get_mut(s as usize) {
+            *took = nanos_since(self.clock, self.begun)
+                .saturating_sub(event.first)
+                .max(1);
+        }
+    }
+}
+
+/// Takes what comes, until the exchange has drained.
+fn handle<R: Clock + Wait, O: Outlet<Event> + Drop>(
+    rt: &R,
+    who: usize,
+    outlet: O,
+    bell: &Bell,
+    order: Order,
+    begun: Instant,
+    took: Vec<u64>,
+) -> Result<Vec<u64>, Fault> {
+    let mut noting = Noting {
+        clock: rt,
+        begun,
+        took,
+    };
+    let mut buffer = [Event::NONE; BATCH];
+    let mut outlet = Ringing::new(outlet, bell);
+    let mut waits = order.strategy.begin(rt, bell, BATCH as u64);
+    match consume_with(
+        rt,
+        &mut outlet,
+        &OpenGate,
+        who,
+        &mut noting,
+        &mut buffer,
+        &mut waits,
+    ) {
+        None => Ok(noting.took),
+        Some(fault) => Err(Fault::from(fault)),
+    }
+}
+
+/// Starts a thread for each handler, of which the last notes how long each event took since then.
+pub fn start<
+    R: Threads + Clock + Wait + Copy + Send + 'static,
+    O: Outlet<Event> + Drop + Send + 'static,
+>(
+    rt: R,
+    alloc: Global,
+    outlets: Vec<O>,
+    bell: &Arc<Bell, Global>,
+    order: Order,
+    begun: Instant,
+) -> Result<Vec<Handling>, Fault> {
+    let last = outlets.len().wrapping_sub(1);
+    let mut started = Vec::new(alloc);
+    for (who, outlet) in outlets.into_iter().enumerate() {
+        let room = if who == last { order.events } else { 0 };
+        let took = vec![in alloc; 0u64; room]?;
+        let bell = Arc::try_clone(bell)?;
+        let work = move || handle(&rt, who, outlet, &bell, order, begun, took);
+        let Ok(handling) = thread::spawn(&rt, work) else {
+            return Err(Fault::THREAD);
+        };
+        started.push(handling)?;
+    }
+    Ok(started)
+}
+
+/// Waits for all handlers, and gives what the last one noted.
+pub fn noted<R: Threads>(rt: &R, alloc: Global, started: Vec<Handling>) -> Result<Vec<u64>, Fault> {
+    let mut last = Vec::new(alloc);
+    for handling in started {
+        last = handling.join(rt)?;
+    }
+    Ok(last)
+}
