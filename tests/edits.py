@@ -6,6 +6,9 @@ from dataclasses import dataclass, field
 
 FUNCTION = re.compile(r"^([ \t]*)(?:pub(?:\([\w: ]+\))? )?(?:(?:const|unsafe) )*fn (\w+)", re.M)
 OWNER = re.compile(r"^(?:pub )?(?:unsafe )?(?:impl|trait)\b[^\n{]*", re.M)
+TYPE = re.compile(r"^(?:pub(?:\([\w: ]+\))? )?(?:struct|enum|union|trait) (\w+)", re.M)
+# What no check admits, since it cites what nothing declares: an error of a name, which refuses no edit.
+NOWHERE = "\nno-offers : nowhere\nno-offers = nothing\n"
 # What an edit may not touch if it is to be one of a body.
 STATED = re.compile(r"\b(requires|ensures|ghost|struct|enum|fn|impl|trait|const|use|mod)\b")
 
@@ -80,8 +83,14 @@ def owner_of(head):
     generics, head = generics_of(head.removeprefix("impl").strip())
     parameters = re.findall(r"(?:^|,)\s*(?:const )?(\w+)", without_arguments(generics))
     trait, _, kind = head.rpartition(" for ")
-    kind = "Array" if kind.startswith("[") else name_of(re.match(r"(?:&\s*(?:mut )?)?([\w:]+)", kind)[1])
-    return ("Any" if kind in parameters else kind) + "".join(name_of(it) for it in re.findall(r"[\w:]+", trait) if it not in parameters)
+    of = re.match(r"(&\s*(?:mut )?)?(.*)", "Array" if kind.startswith("[") else kind)
+    kind = "Any" if of[2] in parameters else "Ref" * bool(of[1]) + names_in(of[2], parameters)
+    # What drops a value stands with the type's own methods.
+    return kind + names_in(trait, ["Drop", *parameters])
+
+
+def names_in(text, but):
+    return "".join(name_of(it) for it in re.findall(r"[\w:]+", text) if it not in but)
 
 
 def generics_of(text):
@@ -147,6 +156,20 @@ def companies(edits):
     return groups
 
 
+def texts_of(folder):
+    """Returns the text of each file of a crate that a check reads."""
+    found = [os.path.relpath(f"{at}/{it}", folder) for at, _, names in os.walk(f"{folder}/src") for it in names if it.endswith(".rt")]
+    return {it: open(f"{folder}/{it}", encoding="utf-8").read() for it in sorted(found) if "tests" not in re.split("[/.]", it)}
+
+
+def proof_of(function, texts):
+    """Returns the folder of a function's proof: a method of no trait has it below its type's module, wherever the impl is."""
+    file, owner, name = function
+    at = [file, *(it for it, text in texts.items() if owner and owner in TYPE.findall(text))][-1]
+    module = at.removeprefix("src/").removesuffix(".rt").removesuffix("/mod")
+    return "/".join(it for it in ("proofs", module if module != "lib" else "", owner, name) if it)
+
+
 def path_of(function):
     """Returns the end of a function's path that `rattle check --only` knows it by: a method stands below its type, wherever the impl is."""
     file, owner, name = function
@@ -158,3 +181,14 @@ def only(edits):
     """Returns the words with which a check looks at the functions of these edits alone, or at all where an edit is of none."""
     paths = [[it.judge] if it.judge else [path_of(one) for one in it.functions] for it in edits]
     return [word for it in sorted({it for one in paths for it in one}) for word in ("--only", it)] if all(paths) else []
+
+
+def offers_nothing(edits, folder):
+    """Has a check of the copy not offer answers for these edits' functions, for which it would search once more: the files of their
+    proofs get an error, as long as which stands there it does not. What each goal comes to it says all the same."""
+    texts = texts_of(folder)
+    for it in {proof_of(one, texts) for edit in edits for one in edit.functions}:
+        if not os.path.isfile(f"{folder}/{it}/Proof.antt"):
+            os.makedirs(f"{folder}/{it}", exist_ok=True)
+            with open(f"{folder}/{it}/Answers.antt", "a", encoding="utf-8") as file:
+                file.write(NOWHERE)

@@ -70,6 +70,16 @@ def is_by_names(output):
     return bool(errors) and of_names and not re.search(OPEN.pattern, output, re.M) and not SOUGHT.search(output)
 
 
+def of_all(output):
+    """Returns what a check of a whole crate says: why it refuses it, by its first error that is no name's or else its first goal, or
+    None; and else what is the matter."""
+    last = output.rstrip().rpartition("\n")[2]
+    errors = [f"{file}: {text}" for file, text in ERROR.findall(output) if not is_of_a_name(text)]
+    goals = [f"goal {it}" for it in [*re.findall(OPEN.pattern, output, re.M), *SOUGHT.findall(output)]]
+    why = next(iter([*errors, *goals]), None) if last.startswith("logic=not-proved") else None
+    return why, "the crate is still proved" if last.startswith("logic=proved") else output.strip()[-300:]
+
+
 def judged(output):
     """Returns what `rt must-fail` says of each edit: why it is refused, or None, and the whole."""
     found = {}

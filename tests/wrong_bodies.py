@@ -9,9 +9,8 @@
 A function is proved against its own contract and the contracts of what it calls, and never against a body. So wrong
 bodies of different functions can stand in one copy of a crate, and one check of these functions refuses each by its own.
 An edit counts as refused where that function is told as not proved, for a goal of its own. What is not told so is tried
-once more, alone; and what that does not tell, nor that a proof file which cites a name is all that refuses it, goes into
-`must-fail/` of a copy, where `rt must-fail` has the last word. Each edit has a line that names the goal that refused it,
-and the last line is `N refused, M not`.
+once more, alone; and what that does not tell, nor that a proof file which cites a name is all that refuses it, is judged by
+a check of the whole crate. Each edit has a line that names the goal that refused it, and the last line is `N refused, M not`.
 
 First each crate is proved as it is, over what earlier runs kept. With `--over` that is `rt ci`'s part: a crate's edits are
 tried as soon as the libraries below it stand, and none of them counts unless `rt ci` proves the crate.
@@ -34,8 +33,10 @@ sys.path[:0] = [f"{TOP}/tools", f"{TOP}/tests"]
 import prove  # noqa: E402
 import together  # noqa: E402
 import verdicts  # noqa: E402
-from edits import applied, companies, fault_of, only, place, read_edit  # noqa: E402
+from edits import applied, companies, fault_of, offers_nothing, only, place, read_edit  # noqa: E402
 
+# A list has fewer edits.
+MANY = 1000
 # So much memory, in kB, is free before a further check begins: others go on beside it.
 ROOM = 6_000_000
 # What `rt ci` says once a library stands, or a program is proved, and at its end.
@@ -55,8 +56,9 @@ class Libraries:
         """Gives the library that stands in the crate's folder `out` a second name, since an `rt` may replace it there."""
         shutil.copytree(f"{self.top}/crates/{name}/out/rlib", f"{self.room}/{name}", copy_function=prove.link)
 
-    def check(self, edits, kept, keeps=None):
-        """Checks the functions of these edits in a copy of their crate, over what is kept, and returns what is said. What it kept goes to keeps."""
+    def check(self, edits, kept, keeps=None, applies=True, is_short=False, is_of_all=False):
+        """Checks the functions of these edits in a copy of their crate to which it applies them, over what is kept, and returns what is
+        said. What it kept goes to keeps. A short check offers no answers; one of all looks at every function of the crate."""
         name = edits[0].crate
         with together.folder("wrong-") as room:
             for it in prove.SOURCES:
@@ -64,9 +66,14 @@ class Libraries:
                     shutil.copytree(f"{self.top}/crates/{name}/{it}", f"{room}/{it}")
             if kept and os.path.isdir(kept):
                 shutil.copytree(kept, f"{room}/kept", copy_function=prove.link)
-            for it in edits:
+            for it in edits * applies:
                 applied(it, room)
-            said = together.said_by([*self.words(name), *only(edits)], room)[1]
+            if is_short:
+                offers_nothing(edits, room)
+            said = together.said_by([*self.words(name), *([] if is_of_all else only(edits))], room)[1]
+            # (where a file of these is of no function that it knows)
+            if is_short and "error: rattle does not read this file" in said:
+                return self.check(edits, kept, keeps)
             if keeps and os.path.isdir(f"{room}/kept"):
                 shutil.move(f"{room}/kept", keeps)
         return said
@@ -173,7 +180,7 @@ class Trial:
         """Proves each as it is, those with the most above them first, and then tries its edits over what that kept."""
         for name in self.ready():
             above = sum(name in self.below[it] for it in self.all)
-            self.lanes.add(-above, functools.partial(self.prove, name, is_alone))
+            self.lanes.add(-above - MANY, functools.partial(self.prove, name, is_alone))
 
     def prove(self, name, is_alone):
         status, said = prove.prove(self.top, name, self.below[name], 1, 0, ["lib"])
@@ -211,40 +218,53 @@ class Trial:
             self.lanes.release()
 
     def begin(self, crate):
-        """Tries the first list of a crate's edits from nothing, and then the others over what that kept."""
+        """Tries a crate's edits, where there are many lists over what all but the first need of the crate as it is: none finds what
+        another changed among what is kept."""
         groups = [*companies(crate.bodies), *([it] for it in crate.others)]
 
         def first():
-            self.attempt(groups[0], None, crate.kept)
-            self.add(groups[1:], crate.kept)
+            self.libraries.check([it for one in groups[1:] for it in one], None, crate.kept, applies=False)
+            self.add(groups, crate.kept)
 
-        if groups:
-            self.lanes.add(0, first)
+        if len(groups) > 2:
+            self.lanes.add(-sum(map(len, groups)), first)
+        else:
+            self.add(groups, None)
 
-    def add(self, groups, kept):
+    def add(self, groups, kept, is_short=True):
         for it in groups:
-            self.lanes.add(1, functools.partial(self.attempt, it, kept))
+            self.lanes.add(-len(it), functools.partial(self.attempt, it, kept, is_short))
 
-    def attempt(self, edits, kept, keeps=None):
-        """Has one check judge these edits, and each of which it does not tell one of its own."""
-        said = self.libraries.check(edits, kept, keeps)
+    def attempt(self, edits, kept, is_short):
+        """Has one short check judge these edits, and then each of which it does not tell a whole one of its own."""
+        said = self.libraries.check(edits, kept, is_short=is_short)
         for edit in edits:
-            crate = self.crates[edit.crate]
             if goal := verdicts.verdict(said, edit):
                 self.note(edit, goal)
-            elif len(edits) > 1:
-                self.add([[edit]], kept or keeps)
-            elif verdicts.is_by_names(said):
-                crate.failed[edit] = BY_A_NAME
+            elif is_short and edit.functions:
+                self.add([[edit]], kept, is_short=False)
+            elif verdicts.is_by_names(said) or not only(edits):
+                self.judge(edit, said)
             else:
-                crate.untold.append(edit)
+                self.lanes.add(-1, functools.partial(self.try_whole, edit, kept))
+
+    def try_whole(self, edit, kept):
+        self.judge(edit, self.libraries.check([edit], kept, is_of_all=True))
+
+    def judge(self, edit, said):
+        """Has the last check of an edit judge it, which is one of the whole crate if that of its functions did not tell."""
+        why, text = verdicts.of_all(said)
+        if why:
+            self.note(edit, f"a check of the crate: {why[:200]}")
+        else:
+            self.crates[edit.crate].failed[edit] = BY_A_NAME if verdicts.is_by_names(said) else text
 
     def note(self, edit, why):
         self.crates[edit.crate].refused[edit] = why
         self.told(f"{edit.label}: refused by {why}")
 
-    def judge(self, crate):
-        """Has `rt must-fail` judge the crate's edits of which no check told."""
+    def judge_alone(self, crate):
+        """Has `rt must-fail` judge the crate's edits, one by one."""
         name = crate.untold[0].crate
         said = self.libraries.judged(name, crate.untold, crate.kept)
         found = verdicts.judged(said)
@@ -268,7 +288,7 @@ class Trial:
             self.prove_what_is_ready(is_alone)
         self.lanes.run()
         for crate in [it for name, it in self.crates.items() if it.untold and name in self.proved]:
-            self.judge(crate)
+            self.judge_alone(crate)
         refused, failed = 0, 0
         for name, crate in self.crates.items():
             for edit in [*crate.bodies, *crate.others]:
