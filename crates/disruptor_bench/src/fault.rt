@@ -2,7 +2,6 @@
 
 use dr_core::{OpenFault, Refusal, Trouble};
 use dr_graph::GraphFault;
-use dr_plain::RingFault as PlainFault;
 use dr_ring::RingFault;
 use std::alloc::{AllocError, AllocFailed};
 use std::{fmt, io};
@@ -98,15 +97,6 @@ impl From<OpenFault> for Fault {
 
 impl From<RingFault> for Fault {
     fn from(fault: RingFault) -> Fault {
-        Fault {
-            line: fault.name(),
-            status: 3,
-        }
-    }
-}
-
-impl From<PlainFault> for Fault {
-    fn from(fault: PlainFault) -> Fault {
         Fault {
             line: fault.name(),
             status: 3,

@@ -2,7 +2,6 @@
 
 use dr_core::{OpenFault, Refusal};
 use dr_graph::GraphFault;
-use dr_plain::RingFault as PlainFault;
 use dr_ring::RingFault;
 use dr_seq::SizeFault;
 use dr_shared::WorkFault;
@@ -94,12 +93,6 @@ impl From<OpenFault> for Fault {
 
 impl From<RingFault> for Fault {
     fn from(_: RingFault) -> Fault {
-        Fault::MEMORY
-    }
-}
-
-impl From<PlainFault> for Fault {
-    fn from(_: PlainFault) -> Fault {
         Fault::MEMORY
     }
 }

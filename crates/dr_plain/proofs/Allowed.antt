@@ -14,7 +14,8 @@ use Rattle.dr_graph.specs.Meaning.Graph.{upstreams_of, finals}
 use Rattle.dr_runs.specs.Seats.{end_of, seat_at}
 use Rattle.dr_runs.proofs.Seats.{adds_nothing, adds_one}
 use Rattle.dr_plain.specs.Meaning.Shape.{Shape, handlers_of}
-use Rattle.dr_plain.specs.Meaning.Words.{cursor_word, closed_word, halt_word, count_word, words_of}
+use Rattle.dr_plain.specs.Meaning.Words.{words_of}
+use Rattle.dr_runs.specs.Words.{cursor_word, closed_word, halt_word, count_word}
 use Rattle.dr_plain.specs.declared.record.Lent.{Lent}
 use Rattle.dr_plain.specs.declared.record.SenderRecord.{SenderRecord}
 use Rattle.dr_plain.specs.declared.record.ReceiverRecord.{ReceiverRecord}
@@ -31,7 +32,9 @@ use Rattle.dr_plain.specs.Calls.Finds.{FindsCompleted, FindsHalt, FindsEvents}
 use Rattle.dr_plain.specs.Inside.Seats.{End, Hand, Sitting, Tells, ring_ends, Loads, Stores, world_of, Ruled, as_sender, as_receiver, as_halter, sender_of, receiver_of, halter_of, IsSender, IsReceiver, IsHalter}
 use Rattle.dr_plain.specs.Inside.Seats.{lent_all, taken_by_claim, given_by_publication, taken_by_poll, given_by_completion, SenderLookedAtCount, SenderLookedAtHalt, SenderPublished, SenderHalted, SenderClosed}
 use Rattle.dr_plain.specs.Inside.Seats.{ReceiverLookedAtClosed, ReceiverLookedAtCursor, ReceiverLookedAtCount, ReceiverCompleted, HalterHalted}
-use Rattle.dr_plain.proofs.Lists.{at_below, final_inside, last_look_le}
+use Rattle.dr_runs.proofs.Elements.{at_below}
+use Rattle.dr_runs.proofs.Offers.{final_inside}
+use Rattle.dr_runs.proofs.Looks.{last_look_le}
 use Rattle.dr_plain.proofs.Keeps.{receiver_of_handler, upstream_inside, above}
 use Rattle.dr_plain.proofs.Barriers.{next_count}
 use Rattle.dr_plain.proofs.Stores.{offers_taken}
@@ -84,7 +87,7 @@ module _ {T : Type 0} where
       let i = count_word f in let n = get_or w.words i 0 in let inside = final_inside k.upstreams f has in let t = receiver_of_handler k w K f inside in
       let a = t.2.count in let b = t.2.completed in let c = t.2.taken in
       subst (λ (q : SenderRecord T). Happens k (SenderLooksAtCount f) w (world_of w.words (sender_looked q i n) w.receivers w.halter) × FindsCompleted q i n) e
-      ((has, refl), (last_look_le k w.words 0 w.sender.looks i (omega arith) K.looks, omega arith))
+      ((has, refl), (last_look_le (words_of k) w.words 0 w.sender.looks i (omega arith) K.looks, omega arith))
 
   pub sender_looks_at_count : (k : Shape) {slots : ℕ} (id : ℕ) (me : Sitting T) (i f : ℕ) → i ≡ count_word f → IsSender (end_of me)
       → Contains (finals (sender_of me.0.ends).plan.upstreams) f
@@ -125,7 +128,7 @@ module _ {T : Type 0} where
         tells = (
           refl,
           subst (λ (q : SenderRecord T). FindsHalt q found) e
-              (last_look_le k w.words 0 w.sender.looks halt_word (omega arith) K.looks, K.flags.halt, K.flags.by_sender),
+              (last_look_le (words_of k) w.words 0 w.sender.looks halt_word (omega arith) K.looks, K.flags.halt, K.flags.by_sender),
         );
       })))
 
@@ -204,7 +207,7 @@ module _ {T : Type 0} where
         hand_after = me.1;
         moves = stays k (world_of (set w.words closed_word n) w.sender (set w.receivers r.number (closed_looked r n)) w.halter) me.1 homes
             (lies_for k w r.number r (closed_looked r n) homes at refl refl lies);
-        tells = (refl, (last_look_le k w.words 0 r.looks closed_word (omega arith) was.looks, K.flags.close, λ told. (was.told told).0));
+        tells = (refl, (last_look_le (words_of k) w.words 0 r.looks closed_word (omega arith) was.looks, K.flags.close, λ told. (was.told told).0));
       }))
 
   -- what a receiver makes of a look at which it takes events
@@ -243,7 +246,7 @@ module _ {T : Type 0} where
       let was = K.received r.number r at in let t = was.taken in let c = K.counts.cursor in
       receiver_acts k w cursor_word room (ReceiverLooksAtCursor r.number room) r (cursor_looked r n more) me.1 homes
       (ReceiverLookedAtCursor room (step slots cursor_word 0 0 none) (as_receiver r me.1) n) (omega arith) at K lies refl (r, at, refl)
-      (λ count. (more, count, refl, (last_look_le k w.words 0 r.looks cursor_word (omega arith) was.looks, omega arith, λ told. (let d = (was.told told).1 in omega arith), (let near = round_ahead k w r at K in omega arith)))))))
+      (λ count. (more, count, refl, (last_look_le (words_of k) w.words 0 r.looks cursor_word (omega arith) was.looks, omega arith, λ told. (let d = (was.told told).1 in omega arith), (let near = round_ahead k w r at K in omega arith)))))))
 
   -- what a look at an upstream's count tells
   tells_count : (k : Shape) (w : World T) (r : ReceiverRecord T) (u : ℕ) → get_elem? w.receivers r.number ≡ some r
@@ -252,7 +255,7 @@ module _ {T : Type 0} where
   tells_count k w r u at has K =
       let was = K.received r.number r at in let inside = upstream_inside k K.graph r.number u (inside_of k w r.number r at K) has in
       let t = receiver_of_handler k w K u inside in let a = t.2.count in let b = t.2.completed in let c = t.2.taken in
-      (inside, (last_look_le k w.words 0 r.looks (count_word u) (omega arith) was.looks, was.after u has, λ told. (let d = (was.told told).1 in omega arith), (let near = round_ahead k w r at K in omega arith)))
+      (inside, (last_look_le (words_of k) w.words 0 r.looks (count_word u) (omega arith) was.looks, was.after u has, λ told. (let d = (was.told told).1 in omega arith), (let near = round_ahead k w r at K in omega arith)))
 
   pub receiver_looks_at_count : (k : Shape) {slots : ℕ} (id : ℕ) (me : Sitting T) (i u room m : ℕ) → room ≡ m → i ≡ count_word u → IsReceiver (end_of me)
       → (let r : ReceiverRecord T = receiver_of me.0.ends in Contains (upstreams_of r.plan.upstreams r.number) u)

@@ -5,14 +5,16 @@ use Rattle.std.proofs.Math.Seq.{take-add}
 use Rattle.std.proofs.lemmas.List.{length-take, length-drop}
 use Rattle.dr_graph.specs.Meaning.Graph.{upstreams_of, least_of}
 use Rattle.dr_plain.specs.Meaning.Shape.{Shape, handlers_of}
-use Rattle.dr_plain.specs.Meaning.Words.{cursor_word, count_word}
-use Rattle.dr_plain.specs.declared.record.Look.{Look}
+use Rattle.dr_plain.specs.Meaning.Words.{words_of}
+use Rattle.dr_runs.specs.Words.{cursor_word, count_word}
+use Rattle.dr_runs.specs.declared.look.Look.{Look}
 use Rattle.dr_plain.specs.declared.record.Lent.{Lent}
 use Rattle.dr_plain.specs.declared.record.ReceiverRecord.{ReceiverRecord}
-use Rattle.dr_plain.specs.Meaning.Records.{look, last_look, offered_by, barrier_seen, taken_at}
+use Rattle.dr_plain.specs.Meaning.Records.{barrier_seen, taken_at}
+use Rattle.dr_runs.specs.Looks.{look, last_look, offered_by}
 use Rattle.dr_plain.specs.Meaning.Rule.{World, ArePast, KeepsRule}
 use Rattle.dr_plain.specs.Meaning.Steps.{next_of}
-use Rattle.dr_plain.proofs.Lists.{last_look_le}
+use Rattle.dr_runs.proofs.Looks.{last_look_le}
 use Rattle.dr_plain.proofs.Keeps.{word_at, receiver_of_handler, upstream_inside}
 
 offered_at : (cursor : ℕ) (f : ℕ → ℕ) (us : List ℕ) (u i : ℕ) → i < length us → get_or us i u ≡ u → offered_by cursor (map f us) ≤ f u
@@ -33,7 +35,7 @@ module _ {T : Type 0} where
       → barrier_seen k h looks ≤ word_at w.words (count_word u)
   below_upstream k w h u looks past up =
       let a = offered_at (last_look 0 looks cursor_word) (λ u. last_look 0 looks (count_word u)) (upstreams_of k.upstreams h) u up.0 up.1 up.2 in
-      let b = last_look_le k w.words 0 looks (count_word u) (omega arith) past in omega arith
+      let b = last_look_le (words_of k) w.words 0 looks (count_word u) (omega arith) past in omega arith
 
   -- and it is published
   pub below_front : (k : Shape) (w : World T) (h : ℕ) (looks : List Look) → h < handlers_of k → ArePast k w.words looks → KeepsRule k w
@@ -41,7 +43,7 @@ module _ {T : Type 0} where
   below_front k w h looks inside past K =
       let cursor = K.counts.cursor in
       first_upstream (upstreams_of k.upstreams h)
-      (λ none. (let b = last_look_le k w.words 0 looks cursor_word (omega arith) past in
+      (λ none. (let b = last_look_le (words_of k) w.words 0 looks cursor_word (omega arith) past in
       let e : barrier_seen k h looks ≡ last_look 0 looks cursor_word = ap (λ (us : List ℕ). offered_by (last_look 0 looks cursor_word) (map (λ u. last_look 0 looks (count_word u)) us)) none in omega arith))
       (λ u up. (let a = below_upstream k w h u looks past up in let t = receiver_of_handler k w K u (upstream_inside k K.graph h u inside up) in
       let d = t.2.count in let e = t.2.completed in let f = t.2.taken in omega arith))

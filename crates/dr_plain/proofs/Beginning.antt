@@ -1,16 +1,17 @@
 -- A ring at its opening, and what every list of steps keeps.
-use Rattle.std.proofs.Common.{◌≡◌, ℕ, zero, suc, ◌+◌, ◌<◌, inl, inr, ◌==◌, List, [], ◌∷◌, length, get_or, map, replicate, sym, refl, ap, ◌∙◌, subst, arith}
+use Rattle.std.proofs.Common.{◌≡◌, ℕ, zero, suc, ◌+◌, ◌<◌, ◌==◌, List, [], ◌∷◌, length, get_or, map, replicate, sym, refl, ap, ◌∙◌, subst, arith}
 use Rattle.std.specs.Prelude.{nat_lt}
 use Rattle.std.specs.List.{range_with_len}
-use Rattle.std.proofs.lemmas.Bool.{cases_lt, le-ltb}
-use Rattle.std.proofs.lemmas.List.{length-replicate, get_or-replicate, get_or_past}
+use Rattle.std.proofs.lemmas.Bool.{le-ltb}
+use Rattle.std.proofs.lemmas.List.{length-replicate}
 use mathlib.Core.Option.{some, some-injective, some-ne-none}
 use lib.ListN.{get_elem?}
 use Rattle.dr_graph.specs.Meaning.Graph.{IsGraph}
 use Rattle.dr_core.specs.Meaning.Machine as machine
 use Rattle.dr_core.specs.Meaning.Transcript.{Transcript}
 use Rattle.dr_plain.specs.Meaning.Shape.{Shape, handlers_of, ring_setup}
-use Rattle.dr_plain.specs.Meaning.Words.{cursor_word, closed_word, halt_word, count_word, words_of}
+use Rattle.dr_plain.specs.Meaning.Words.{words_of}
+use Rattle.dr_runs.specs.Words.{cursor_word, closed_word, halt_word, count_word}
 use Rattle.dr_plain.specs.declared.record.ReceiverRecord.{ReceiverRecord}
 use Rattle.dr_plain.specs.declared.record.Step.{Step}
 use Rattle.dr_plain.specs.declared.record.Step.TheVariants.{SenderLooksAtCount, SenderLooksAtHalt, SenderPublishes, SenderHalts, SenderCloses}
@@ -18,20 +19,10 @@ use Rattle.dr_plain.specs.declared.record.Step.TheVariants.{ReceiverLooksAtClose
 use Rattle.dr_plain.specs.Meaning.Rule.{World, KeepsRule, ReceiverKept}
 use Rattle.dr_plain.specs.Meaning.Steps.{Happens}
 use Rattle.dr_plain.specs.Meaning.Moments.{fresh_receiver, fresh_receivers, new_world, taken_of, picture_of, Runs}
-use Rattle.dr_plain.proofs.Lists.{at_below, final_inside}
+use Rattle.dr_runs.proofs.Elements.{at_below, zeros, all_zero}
+use Rattle.dr_runs.proofs.Offers.{final_inside}
 use Rattle.dr_plain.proofs.Keeps.{upstream_inside, keeps_sender_looks, keeps_halt_look}
 use Rattle.dr_plain.proofs.Stores.{keeps_publishes, keeps_sender_halts, keeps_halter_halts, keeps_closes, keeps_closed_look, keeps_receiver_looks, keeps_cursor_look, keeps_completes}
-
-abbrev pub zeros : ℕ → List ℕ
-zeros n = replicate n 0
-
-pub all_zero : (n i : ℕ) → ◌≡◌ {A = ℕ} (get_or (zeros n) i 0) 0
-all_zero n i =
-    let z : ℕ = 0 in
-    elim (cases_lt i n) [
-      | inl lt ↦ get_or-replicate n i z z lt
-      | inr past ↦ get_or_past (zeros n) i 0 (omega (arith, length-replicate n z))
-    ]
 
 no_counts : (m a n : ℕ) → map (λ h. get_or (zeros m) (count_word h) 0) (range_with_len a n) ≡ replicate n 0
 no_counts m a zero = refl

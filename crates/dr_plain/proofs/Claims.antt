@@ -17,16 +17,18 @@ use Rattle.dr_cells.specs.Hold.{held}
 use Rattle.dr_graph.specs.Meaning.Graph.{finals}
 use Rattle.dr_runs.specs.Runs.{IsBeginning}
 use Rattle.dr_plain.specs.Meaning.Shape.{Shape, handlers_of}
-use Rattle.dr_plain.specs.Meaning.Words.{halt_word, count_word, cell_of}
-use Rattle.dr_plain.specs.declared.record.Look.{Look}
+use Rattle.dr_plain.specs.Meaning.Words.{cell_of}
+use Rattle.dr_runs.specs.Words.{halt_word, count_word}
+use Rattle.dr_runs.specs.declared.look.Look.{Look}
 use Rattle.dr_plain.specs.declared.record.Lent.{Lent}
 use Rattle.dr_plain.specs.declared.record.SenderRecord.{SenderRecord}
-use Rattle.dr_plain.specs.declared.written.Written.{Written}
+use Rattle.dr_runs.specs.declared.written.Written.{Written}
 use Rattle.dr_plain.specs.Meaning.Lying.{placed}
-use Rattle.dr_plain.specs.Meaning.Records.{events_of, claimed, laid, look, last_look, halt_looked}
+use Rattle.dr_plain.specs.Meaning.Records.{events_of, claimed, laid, halt_looked}
+use Rattle.dr_runs.specs.Looks.{look, last_look}
 use Rattle.dr_plain.specs.Calls.Ends.{SenderStand, SenderEnd, sent_of, count_looks}
 use Rattle.dr_plain.specs.Calls.Plans.{IsPlan}
-use Rattle.dr_plain.specs.Calls.Sending.{gate_looks, tests_of_claim, FoundRoom, LooksToClaim, TriesToClaim, ClaimCall}
+use Rattle.dr_plain.specs.Calls.Sending.{gate_looks, FoundRoom, LooksToClaim, TriesToClaim, ClaimCall}
 use Rattle.dr_plain.specs.Inside.Scans.{sender_saw, more_claimed, LooksAtFinals, IsEnough, IsShort}
 use Rattle.dr_plain.specs.Inside.Fits.{IsSeenLeast, SenderFields, SenderFits, TokensFit, no_lents, open_slots}
 use Rattle.dr_plain.specs.Inside.Hands.{with_hand}
@@ -35,9 +37,11 @@ use Rattle.dr_plain.specs.Inside.Noted.{Noted, writes_from}
 use Rattle.dr_plain.specs.Inside.Seats.{Hand, taken_by_claim}
 use Rattle.dr_plain.specs.Inside.Views.{sender_end}
 use Rattle.dr_plain.proofs.Collecting.{between_count, blanks_count, laid_count}
-use Rattle.dr_plain.proofs.Lists.{last_look_else, at_below, there}
+use Rattle.dr_runs.proofs.Looks.{last_look_else}
+use Rattle.dr_runs.proofs.Elements.{at_below, there}
 use Rattle.dr_plain.proofs.Noting.{noted_more, unclaimed, writes_both, writes_none, writes_count}
 use Rattle.dr_plain.proofs.Rowing.{dropped, length_rows, replicate_both, rows_both}
+use Rattle.dr_plain.specs.Meaning.Replies.{tests_of_claim}
 
 no_more : (p v n : ℕ) → (v ≡ 0 → n ≡ 0) → p + (if v == 0 then n else 0) ≡ p
 no_more p zero n none = let e = none refl in omega arith
@@ -259,7 +263,7 @@ module _ {T : Type 0} (e : SenderStand T) (w : Written) (cells : List (Option T)
 
   -- a call that is refused has only looked
   pub refused : (e' : SenderStand T) (refusal : Refusal) (seen : List Look) → (let result : Result Claimed Refusal = Err refusal in
-      IsAnswerOf (claim_causes (tests_of_claim (sender_end e w cells) q)) (as_end result) → LooksToClaim r q seen result → e'.knows ≡ sender_saw r seen
+      IsAnswerOf (claim_causes (tests_of_claim e.knows q)) (as_end result) → LooksToClaim r q seen result → e'.knows ≡ sender_saw r seen
       → TriesToClaim (sender_end e w cells) q (sender_end e' w cells) result)
   refused e' refusal seen answer looks only = record {
     answer = answer;
@@ -399,7 +403,7 @@ module _ {T : Type 0} where
       le-ltb (2 ^ 62) (claimed_in (sent_of e) + n) (omega arith)
 
   pub claim_of_end : (e : SenderEnd T) (n : ℕ) (refusal : Refusal) → e.knows.plan.limit ≤ 2 ^ 62 → IsSize e.knows.plan.size → e.knows.pending ≡ length e.writes
-      → IsFirst MayHold MayFail refusal (claim_causes (tests_of_claim e n)) → IsFirst MayHold MayFail refusal (claim_causes (claim_tests (Some (sent_of e)) n))
+      → IsFirst MayHold MayFail refusal (claim_causes (tests_of_claim e.knows n)) → IsFirst MayHold MayFail refusal (claim_causes (claim_tests (Some (sent_of e)) n))
   claim_of_end e n refusal few is many (inl h) = inl h
   claim_of_end e n refusal few is many (inr (a, inl h)) = inr (a, inl (bad_is_not_one n e.knows.plan.size is h.0, h.1))
   claim_of_end e n refusal few is many (inr (a, inr (b, inl h))) = inr (a, inr (good_is_never_bad n e.knows.plan.size is b, inl h))
@@ -409,5 +413,5 @@ module _ {T : Type 0} where
   claim_of_end e n refusal few is many (inr (a, inr (b, inr (c, inr (d, inr h))))) = absurd h.1
 
   pub claim_given : (e : SenderEnd T) (n : ℕ) → e.knows.plan.limit ≤ 2 ^ 62 → IsSize e.knows.plan.size → e.knows.pending ≡ length e.writes
-      → NoneHolds MayFail (claim_causes (tests_of_claim e n)) → NoneHolds MayFail (claim_causes (claim_tests (Some (sent_of e)) n))
+      → NoneHolds MayFail (claim_causes (tests_of_claim e.knows n)) → NoneHolds MayFail (claim_causes (claim_tests (Some (sent_of e)) n))
   claim_given e n few is many (a, (b, (c, (d, x)))) = (a, (good_is_never_bad n e.knows.plan.size is b, (c, (within_all e n few many d, x))))

@@ -20,7 +20,7 @@ use Rattle.dr_plain.specs.Inside.Fits.{Keeps, no_lents, cells_of}
 use Rattle.dr_plain.specs.Inside.Hands.{lent_by}
 use Rattle.dr_plain.specs.Inside.Lending.{laid_between, AreLent, AreWhole, SameBut, lents_of, lent_at}
 use Rattle.dr_plain.proofs.Tokens.{out}
-use Rattle.dr_plain.proofs.Lists.{at_below}
+use Rattle.dr_runs.proofs.Elements.{at_below}
 use Rattle.dr_plain.proofs.Parts.{at_slice}
 use Rattle.dr_plain.proofs.Rowing.{replicate_more}
 

@@ -21,8 +21,8 @@ use Rattle.dr_plain.specs.Meaning.Moments.{new_world, picture_of, Runs}
 use Rattle.dr_plain.specs.Meaning.Stores.{stores_of_sender, stores_of_receiver}
 use Rattle.dr_plain.specs.Meaning.Settling.{Settles}
 use Rattle.dr_plain.specs.Inside.Seats.{ring_ends, exchange}
-use Rattle.dr_plain.specs.Inside.Gathering.{sender_known, receiver_known}
-use Rattle.dr_plain.specs.Calls.Ends.{SenderEnd, ReceiverEnd}
+use Rattle.dr_plain.specs.Inside.Gathering.{sender_known, receiver_known, halter_known}
+use Rattle.dr_plain.specs.Calls.Ends.{SenderEnd, ReceiverEnd, HalterStand}
 use Rattle.dr_plain.specs.Calls.Settling.{AreAllEnds, HasRun}
 use Rattle.dr_plain.proofs.Beginning.{kept_opening, keeps_runs}
 use Rattle.dr_plain.proofs.Settling.{settles}
@@ -42,14 +42,14 @@ module _ {T : Type 0} where
     pub all : AreAllEnds s es
 
   -- the ends are in the run, and the records of all of them stand in the world that it came to
-  record AllStand (k : Shape) (w : World T) (steps : List (Step T)) (s : SenderEnd T) (es : List (ReceiverEnd T)) : Type 0 where
-    rule : KeepsRule k w
-    sender : w.sender ≡ s.knows
-    receivers : w.receivers ≡ map knows_of es
+  pub record AllStand (k : Shape) (w : World T) (steps : List (Step T)) (s : SenderEnd T) (es : List (ReceiverEnd T)) : Type 0 where
+    pub rule : KeepsRule k w
+    pub sender : w.sender ≡ s.knows
+    pub receivers : w.receivers ≡ map knows_of es
     sends : HasPart s.past s.stored (stores_of_sender steps) steps
     receives : (h : ℕ) (e : ReceiverEnd T) → get_elem? es h ≡ some e → HasPart e.past e.stored (stores_of_receiver h steps) steps
 
-  all_stand : (k : Shape) (v now : View (EndRecord T) (Step T)) (s : SenderEnd T) (es : List (ReceiverEnd T)) (G : Together k v now s es)
+  pub all_stand : (k : Shape) (v now : View (EndRecord T) (Step T)) (s : SenderEnd T) (es : List (ReceiverEnd T)) (G : Together k v now s es)
       → AllStand k G.ran.world G.ran.reached.steps s es
   all_stand k v now s es G =
       let w = G.ran.world in let steps = G.ran.reached.steps in let K = kept_of k w G.ran.reached in
@@ -81,10 +81,12 @@ module _ {T : Type 0} where
   Moments P = (k : Shape) (steps : List (Step T)) (entries : Transcript T) (w : World T) → IsGraph k.upstreams → 0 < k.size → Runs k steps entries (new_world k) w → P k steps entries w
 
   -- the run of the ends that came together
-  pub has_run : (k : Shape) (v now : View (EndRecord T) (Step T)) (s : SenderEnd T) (es : List (ReceiverEnd T)) → Together k v now s es
+  pub has_run : (k : Shape) (v now : View (EndRecord T) (Step T)) (s : SenderEnd T) (es : List (ReceiverEnd T)) (t : HalterStand T) → IsInView ring_ends now (halter_known t)
+      → Together k v now s es
       → Moments (λ k steps entries w. LeadsTo (ring_setup k) entries (picture_of k w)) → Moments (λ k steps entries w. Laws (ring_setup k) entries)
-      → HasRun s es
-  has_run k v now s es G leads laws =
+      → HasRun s es t
+  has_run k v now s es t I G leads laws =
+      let H : InRun (exchange k) G.ran.world G.ran.reached.steps (halter_known t) = in_run (exchange k) now G.ran (halter_known t) I in
       let A = all_stand k v now s es G in let R = G.ran.reached in let w = G.ran.world in
       let plan : k ≡ s.knows.plan = sym A.rule.sender_plan ∙ ap (λ (q : SenderRecord T). q.plan) A.sender in
       let P : Shape → Type 0 = λ p. Runs p R.steps R.entries (new_world p) w × LeadsTo (ring_setup p) R.entries (picture_of p w) × Laws (ring_setup p) R.entries in
@@ -95,8 +97,10 @@ module _ {T : Type 0} where
         runs = all.0;
         sender = A.sender;
         receivers = A.receivers;
+        halter = H.stands;
         sends = A.sends;
         receives = A.receives;
+        halts = (H.begins, H.stores);
         leads = all.1;
         laws = all.2;
       }

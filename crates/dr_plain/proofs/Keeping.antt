@@ -5,14 +5,15 @@ use mathlib.Core.Option.{some}
 use lib.ListN.{get_elem?}
 use Rattle.dr_plain.specs.Calls.Ends.{SenderEnd, ReceiverEnd}
 use Rattle.dr_plain.specs.Calls.Settling.{AreAllEnds}
-use Rattle.dr_plain.proofs.Lists.{there, value_at, each_set}
+use Rattle.dr_runs.proofs.Elements.{there, value_at, each_set}
 
 module _ {T : Type 0} where
   pub all_receiver : (s : SenderEnd T) (rs : List (ReceiverEnd T)) (h : ℕ) (e e' : ReceiverEnd T) → AreAllEnds s rs → get_elem? rs h ≡ some e → e'.ring ≡ e.ring
       → e'.knows.number ≡ e.knows.number → AreAllEnds s (set rs h e')
   all_receiver s rs h e e' A here ring number = record {
     all = length-set rs h e' ∙ A.all;
-    each = each_set (λ j x. (x.ring ≡ s.ring) × (x.knows.number ≡ j)) rs h e' (let t = A.each h e here in (ring ∙ t.0, number ∙ t.1)) (λ j x ne at. A.each j x at);
+    each = each_set (λ j x. (x.ring ≡ s.ring) × (x.knows.number ≡ j)) rs h e'
+        (let t = A.each h e here in (ring ∙ t.0, number ∙ t.1)) (λ j x ne at. A.each j x at);
   }
 
   set_past : (rs : List (ReceiverEnd T)) (h : ℕ) (e : ReceiverEnd T) → length rs ≤ h → set rs h e ≡ rs

@@ -1,5 +1,5 @@
 -- What the rule gives, and the sender's looks keep it.
-use Rattle.std.proofs.Common.{◌≡◌, ℕ, ◌+◌, ◌<◌, ◌≤◌, inl, inr, Bool, ◌==◌, if◌then◌else◌, List, [], ◌∷◌, ◌++◌, length, get_or}
+use Rattle.std.proofs.Common.{◌≡◌, ℕ, ◌+◌, ◌<◌, ◌≤◌, inl, inr, ◌==◌, if◌then◌else◌, List, [], ◌∷◌, ◌++◌, length, get_or}
 use Rattle.std.proofs.Common.{sym, refl, ◌∙◌, subst, arith}
 use Rattle.std.specs.Prelude.{Contains}
 use Rattle.std.proofs.lemmas.Bool.{cases_eq, cases_lt, eq-eqb, ne_eqb}
@@ -8,14 +8,18 @@ use mathlib.Core.Option.{some}
 use lib.ListN.{get_elem?}
 use Rattle.dr_graph.specs.Meaning.Graph.{nobody, upstreams_of, IsOrderly, IsGated, IsGraph}
 use Rattle.dr_plain.specs.Meaning.Shape.{Shape, handlers_of}
-use Rattle.dr_plain.specs.Meaning.Words.{closed_word, halt_word, count_word, words_of}
-use Rattle.dr_plain.specs.declared.record.Look.{Look}
+use Rattle.dr_plain.specs.Meaning.Words.{words_of}
+use Rattle.dr_runs.specs.Words.{closed_word, halt_word, count_word, HaltAndClose}
+use Rattle.dr_runs.specs.declared.look.Look.{Look}
 use Rattle.dr_plain.specs.declared.record.Lent.{Lent}
 use Rattle.dr_plain.specs.declared.record.ReceiverRecord.{ReceiverRecord}
-use Rattle.dr_plain.specs.Meaning.Records.{claimed, look, sender_looked, halt_looked, SeesRoom}
-use Rattle.dr_plain.specs.Meaning.Rule.{World, Room, HaltAndClose, ArePast, ReceiverKept, KeepsRule}
+use Rattle.dr_plain.specs.Meaning.Records.{claimed, sender_looked, halt_looked, SeesRoom}
+use Rattle.dr_runs.specs.Looks.{look}
+use Rattle.dr_plain.specs.Meaning.Rule.{World, Room, ArePast, ReceiverKept, KeepsRule}
 use Rattle.dr_plain.specs.Meaning.Steps.{sender_knows}
-use Rattle.dr_plain.proofs.Lists.{there, final_inside, contains_none, past_more, last_look_le}
+use Rattle.dr_runs.proofs.Elements.{there, contains_none}
+use Rattle.dr_runs.proofs.Offers.{final_inside}
+use Rattle.dr_runs.proofs.Looks.{past_more, last_look_le}
 
 abbrev pub word_at : List ℕ → ℕ → ℕ
 word_at words i = get_or words i 0
@@ -27,19 +31,6 @@ upstream_inside k graph h u lt has = let l : u < h = graph.layered h u has in om
 pub room_stays : (k : Shape) (words us : List ℕ) (n : ℕ) → ((h : ℕ) → h < handlers_of k → word_at words (count_word h) ≤ word_at us (count_word h))
     → Room k words n → Room k us n
 room_stays k words us n rises room f final = let a = rises f (final_inside k.upstreams f final) in let b = room f final in omega arith
-
-pub flags_stay : (words us : List ℕ) (n : ℕ) (a b c : Bool) → word_at us halt_word ≡ word_at words halt_word
-    → word_at us closed_word ≡ word_at words closed_word → HaltAndClose words n a b c → HaltAndClose us n a b c
-flags_stay words us n a b c halt close F = record {
-  halt = let f = F.halt in omega arith;
-  close = let f = F.close in omega arith;
-  by_sender = λ y. halt ∙ F.by_sender y;
-  by_halter = λ y. halt ∙ F.by_halter y;
-  closed = λ y. close ∙ F.closed y;
-  known_halt = λ y. F.known_halt (sym halt ∙ y);
-  known_close = λ y. F.known_close (sym close ∙ y);
-  complete = λ y. let d = F.complete (sym close ∙ y) in (halt ∙ d.0, d.1);
-}
 
 -- how many more are claimed at a look at halt
 pub claims_some : (found n : ℕ) → found ≡ 0 → (if found == 0 then n else 0) ≡ n
@@ -89,7 +80,7 @@ module _ {T : Type 0} where
   pub room_seen : (k : Shape) (w : World T) (n : ℕ) → SeesRoom k w.sender n → KeepsRule k w → Room k w.words (claimed w.sender + n)
   room_seen k w n room K f final =
       let a = room.completed f final in let i = final_inside k.upstreams f final in
-      let b = last_look_le k w.words 0 w.sender.looks (count_word f) (omega arith) K.looks in omega arith
+      let b = last_look_le (words_of k) w.words 0 w.sender.looks (count_word f) (omega arith) K.looks in omega arith
 
   pub receiver_stays : (k : Shape) (words us : List ℕ) (published : List (Lent T)) (h : ℕ) (r : ReceiverRecord T) → IsGraph k.upstreams → h < handlers_of k
       → word_at us (count_word h) ≡ word_at words (count_word h)
@@ -132,13 +123,13 @@ module _ {T : Type 0} where
       → KeepsRule k (sender_knows w (sender_looked w.sender i (word_at w.words i)))
   keeps_sender_looks k w i lt K =
       sender_learns k w w.sender.pending (sender_looked w.sender i (word_at w.words i)).looks K.counts.limit K.room K.flags
-      (past_more k w.words i w.sender.looks lt K.looks) K
+      (past_more (words_of k) w.words i (word_at w.words i) w.sender.looks lt (omega arith) K.looks) K
 
   pub keeps_halt_look : (k : Shape) (w : World T) (n : ℕ) → (0 < n → SeesRoom k w.sender n) → KeepsRule k w
       → KeepsRule k (sender_knows w (halt_looked w.sender n (word_at w.words halt_word)))
   keeps_halt_look k w n room K =
       let found = word_at w.words halt_word in let F = K.flags in let old = w.sender.pending in
-      let past = past_more k w.words halt_word w.sender.looks (omega arith) K.looks in
+      let past = past_more (words_of k) w.words halt_word (word_at w.words halt_word) w.sender.looks (omega arith) (omega arith) K.looks in
       let P : ℕ → Type 0 = λ pending. KeepsRule k (sender_knows w (record w.sender { pending = pending; looks = w.sender.looks ++ look halt_word found ∷ [] })) in
       let nothing : (found ≡ 0 → n ≡ 0) → P (old + (if found == 0 then n else 0)) = λ none.
       (let z = claims_none found n none in let e : old ≡ old + (if found == 0 then n else 0) = omega arith in

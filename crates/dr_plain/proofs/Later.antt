@@ -13,21 +13,23 @@ use Rattle.dr_core.specs.declared.command.Polled.TheVariants.{Batch, Drained, Ga
 use Rattle.dr_core.specs.Meaning.Machine.{State, front, offered, available}
 use Rattle.dr_core.specs.Meaning.Transcript.{Transcript}
 use Rattle.dr_plain.specs.Meaning.Shape.{Shape, ring_setup}
-use Rattle.dr_plain.specs.Meaning.Words.{cursor_word, closed_word, count_word}
-use Rattle.dr_plain.specs.declared.record.Look.{Look}
+use Rattle.dr_runs.specs.Words.{cursor_word, closed_word, count_word}
+use Rattle.dr_runs.specs.declared.look.Look.{Look}
 use Rattle.dr_plain.specs.declared.record.ReceiverRecord.{ReceiverRecord}
 use Rattle.dr_plain.specs.declared.record.Step.{Step}
 use Rattle.dr_plain.specs.declared.record.Step.TheVariants.{SenderLooksAtCount, SenderLooksAtHalt, SenderPublishes, SenderHalts, SenderCloses}
 use Rattle.dr_plain.specs.declared.record.Step.TheVariants.{ReceiverLooksAtClosed, ReceiverLooksAtCursor, ReceiverLooksAtCount, ReceiverCompletes, HalterHalts}
-use Rattle.dr_plain.specs.Meaning.Records.{look, last_look, offered_by, closed_looked, receiver_looked, taken_at, cursor_looked, completed_to}
+use Rattle.dr_plain.specs.Meaning.Records.{closed_looked, receiver_looked, taken_at, cursor_looked, completed_to}
+use Rattle.dr_runs.specs.Looks.{look, last_look, offered_by}
 use Rattle.dr_plain.specs.Meaning.Rule.{World, KeepsRule}
 use Rattle.dr_plain.specs.Meaning.Steps.{Happens, next_of}
 use Rattle.dr_plain.specs.Meaning.Moments.{Runs, picture_of}
 use Rattle.dr_plain.specs.Meaning.Replies.{LooksAt, OffersWhatWasThere}
 use Rattle.dr_plain.specs.Calls.Ends.{count_looks}
-use Rattle.dr_plain.specs.Calls.Receiving.{PollLooks, Answers, offer}
+use Rattle.dr_plain.specs.Calls.Receiving.{Answers}
+use Rattle.dr_runs.specs.Polls.{PollLooks, offer}
 use Rattle.dr_plain.specs.Calls.Handing.{handed, HandsWhatWasThere}
-use Rattle.dr_plain.proofs.Lists.{at_below}
+use Rattle.dr_runs.proofs.Elements.{at_below}
 use Rattle.dr_plain.proofs.Keeps.{word_at, upstream_inside}
 use Rattle.dr_plain.proofs.Beginning.{keeps_step}
 use Rattle.dr_plain.proofs.Pictures.{count_at, inside_of}

@@ -1,10 +1,10 @@
-pub mod Lists
 pub mod Lanes
 pub mod Moving
 pub mod Keeps
 pub mod Barriers
 pub mod Stores
 pub mod Beginning
+pub mod Going
 pub mod Seats
 pub mod Parts
 pub mod Allowed
@@ -21,7 +21,6 @@ pub mod Dealing
 pub mod Trading
 pub mod Stations
 pub mod Taken
-pub mod Looking
 pub mod Offers
 pub mod Polls
 pub mod Leaving
@@ -29,6 +28,9 @@ pub mod Copying
 pub mod Settling
 pub mod Keeping
 pub mod Gathering
+pub mod Ending
+pub mod Returning
+pub mod Handed
 pub mod Rounds
 pub mod Rowing
 pub mod Tokens

@@ -1,5 +1,5 @@
 -- A new ring's ends.
-use Rattle.std.proofs.Common.{◌≡◌, ℕ, zero, suc, ◌+◌, ◌-◌, ◌<◌, List, [], ◌∷◌, ◌++◌, map, length}
+use Rattle.std.proofs.Common.{inl, ◌≡◌, ℕ, zero, suc, ◌+◌, ◌-◌, ◌<◌, List, [], ◌∷◌, ◌++◌, map, length}
 use Rattle.std.proofs.Common.{replicate, Option, None, sym, refl, ap, ◌∙◌, subst, arith, append_assoc}
 use Rattle.std.proofs.lemmas.List.{length-map, length-replicate, append-nil}
 use mathlib.Core.Option.{some, some-injective, some-ne-none}
@@ -30,7 +30,7 @@ use Rattle.dr_plain.specs.Inside.Views.{receiver_end}
 use Rattle.dr_plain.specs.Calls.Ends.{SenderEnd, ReceiverEnd, HalterStand}
 use Rattle.dr_plain.specs.Calls.Settling.{AreAllEnds}
 use Rattle.dr_plain.specs.Calls.Making.{at_ring, AreFreshEnds}
-use Rattle.dr_plain.proofs.Lists.{at_below}
+use Rattle.dr_runs.proofs.Elements.{at_below}
 use Rattle.dr_plain.proofs.Lanes.{inside_lanes}
 use Rattle.dr_plain.proofs.Beginning.{fresh_at, fresh_count}
 
@@ -62,7 +62,7 @@ module _ {T : Type 0} where
   pub ruled_new : (k : Shape) (ws : List ℕ) (cs : List (Token T)) → ws ≡ replicate (words_of k) 0 → cs ≡ replicate (slots_of k) no_token → IsGraph k.upstreams → 0 < k.size
       → Ruled {T = T} k (table_opening ws cs (all_ends k))
   ruled_new k ws cs is blank graph some_slot =
-      ruled_fresh (exchange k) (fresh_ends k) (λ n. n) ws cs (sym is) (lies_fresh k cs blank some_slot) (graph, some_slot) (stands_fresh k)
+      inl (ruled_fresh (exchange k) (fresh_ends k) (λ n. n) ws cs (sym is) (lies_fresh k cs blank some_slot) (graph, some_slot) (stands_fresh k))
 
   -- the next of the receivers
   fresh_next : (k : Shape) (h n : ℕ) → h < n → fresh_receivers {T = T} k h (n - h) ≡ fresh_receiver k h ∷ fresh_receivers k (h + 1) (n - (h + 1))

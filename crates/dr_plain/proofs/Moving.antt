@@ -16,7 +16,7 @@ use Rattle.dr_plain.specs.Meaning.Words.{slot_of}
 use Rattle.dr_plain.specs.declared.record.Lent.{Lent}
 use Rattle.dr_plain.specs.declared.record.ReceiverRecord.{ReceiverRecord}
 use Rattle.dr_plain.specs.Meaning.Lying.{part_of, placed, LiesBy}
-use Rattle.dr_plain.proofs.Lists.{there, at_below}
+use Rattle.dr_runs.proofs.Elements.{there, at_below}
 use Rattle.dr_plain.proofs.Lanes.{inside_lanes, other_lane, slots_apart, cell_later, slot_later}
 
 -- an element of two lists, where it is past the first
@@ -39,7 +39,7 @@ pub record Stretches {T : Type 0} (k : Shape) (lents : List (Option (Lent T))) (
   pub room : claims ≤ k.size + r.completed
 
 module _ {T : Type 0} (k : Shape) (some_slot : 0 < k.size) where
-  part_later : (s : ℕ) (l : Option (Lent T)) → part_of k (k.size + s) l ≡ part_of k s l
+  pub part_later : (s : ℕ) (l : Option (Lent T)) → part_of k (k.size + s) l ≡ part_of k s l
   part_later s None = refl
   part_later s (Some l) = ap (λ (c : ℕ). token_at k.strip c (part l.round l.event)) (cell_later k s)
 

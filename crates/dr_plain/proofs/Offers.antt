@@ -1,48 +1,29 @@
 -- What a receiver is offered, by the counts that it finds one after another.
-use Rattle.std.proofs.Common.{◌≡◌, ◌≢◌, ◌⊎◌, ℕ, suc, ◌+◌, ◌-◌, ◌<◌, ◌≤◌, inl, inr, Bool, true, false, ◌==◌, ◌&&◌, ◌||◌, if◌then◌else◌, min}
+use Rattle.std.proofs.Common.{◌≡◌, ◌≢◌, ℕ, suc, ◌+◌, ◌-◌, ◌<◌, ◌≤◌, inl, inr, Bool, true, ◌==◌, if◌then◌else◌, min}
 use Rattle.std.proofs.Common.{List, [], ◌∷◌, ◌++◌, map, length, get_or, take, sym, refl, ap, ◌∙◌, subst, arith, append_assoc}
 use Rattle.std.specs.Prelude.{Contains}
 use Rattle.std.specs.List.{AllPairs}
 use Rattle.std.specs.List.Sorted.{IsStrictlyIncreasing}
-use Rattle.std.proofs.lemmas.Bool.{cases_lt, eq-eqb, ne_eqb, lt-ltb, le-ltb, eqb-true}
+use Rattle.std.proofs.lemmas.Bool.{eq-eqb, ne_eqb, eqb-true}
 use Rattle.std.proofs.lemmas.List.{length-append, append-nil}
 use Rattle.std.proofs.lemmas.List.Kept.{AllPairs-from_increasing}
-use Rattle.dr_graph.specs.Meaning.Graph.{upstreams_of, least_of}
+use Rattle.dr_graph.specs.Meaning.Graph.{upstreams_of}
 use Rattle.dr_plain.specs.Meaning.Shape.{Shape}
-use Rattle.dr_plain.specs.Meaning.Words.{cursor_word, closed_word, count_word}
-use Rattle.dr_plain.specs.declared.record.Look.{Look}
+use Rattle.dr_runs.specs.Words.{cursor_word, closed_word, count_word}
+use Rattle.dr_runs.specs.declared.look.Look.{Look}
 use Rattle.dr_plain.specs.declared.record.Lent.{Lent}
 use Rattle.dr_plain.specs.declared.record.ReceiverRecord.{ReceiverRecord}
-use Rattle.dr_plain.specs.Meaning.Records.{look, last_look, offered_by, barrier_seen, taken_at, tells_drained, receiver_looked, cursor_looked}
-use Rattle.dr_plain.specs.Calls.Ends.{looks_at, count_looks}
+use Rattle.dr_plain.specs.Meaning.Records.{barrier_seen, taken_at, tells_drained, receiver_looked, cursor_looked}
+use Rattle.dr_runs.specs.Looks.{look, last_look, offered_by, looks_at, lesser_of}
+use Rattle.dr_plain.specs.Calls.Ends.{count_looks}
 use Rattle.dr_plain.specs.Calls.Finds.{FindsEvents}
-use Rattle.dr_plain.specs.Calls.Receiving.{lesser_of, received_all}
+use Rattle.dr_plain.specs.Calls.Receiving.{received_all}
 use Rattle.dr_plain.specs.Inside.Polling.{ups_of, receiver_saw, cursor_seen, IsNear, LooksAtFirst, LooksRound}
 use Rattle.dr_plain.specs.Inside.Seats.{Hand, taken_by_poll}
 use Rattle.dr_runs.proofs.Lists.{no_elements, take_whole}
-use Rattle.dr_plain.proofs.Lists.{last_look_more}
-use Rattle.dr_plain.proofs.Looking.{looks_more, contains_more, contains_last}
-
--- the least of one count more
-least_more : (counts : List ℕ) (v : ℕ) → 0 < length counts → least_of (counts ++ v ∷ []) ≡ min (least_of counts) v
-least_more [] v lt = absurd (omega arith)
-least_more (n ∷ []) v lt = refl
-least_more (n ∷ m ∷ ms) v lt = let e : least_of ((m ∷ ms) ++ v ∷ []) ≡ min (least_of (m ∷ ms)) v = least_more (m ∷ ms) v (omega arith) in omega arith
-
--- what a list of counts offers, once one more is seen
-offers_more : (cursor v available available' : ℕ) (counts : List ℕ) (first : Bool) → first ≡ (length counts == 0)
-    → available ≡ offered_by cursor counts → available' ≡ lesser_of first v available
-    → (available' ≡ offered_by cursor (counts ++ v ∷ [])) × ((available' ≡ v) ⊎ ((0 < length counts) × (available' ≡ available)))
-    × (available' ≤ v)
-offers_more cursor v available available' [] first start offered new =
-    let e : available' ≡ v = new ∙ rw (start) refl in (e, inl e, omega arith)
-offers_more cursor v available available' (n ∷ counts) first start offered new =
-    let least : least_of ((n ∷ counts) ++ v ∷ []) ≡ min (least_of (n ∷ counts)) v = least_more (n ∷ counts) v (omega arith) in
-    let first_no : first ≡ false = start ∙ ne_eqb (length (n ∷ counts)) 0 (λ (z : length (n ∷ counts) ≡ 0). omega arith) in
-    elim (cases_lt v available) [
-      | inl lt ↦ (let e : available' ≡ v = new ∙ rw (first_no, lt-ltb v available lt) refl in (omega arith, inl e, omega arith))
-      | inr ge ↦ (let e : available' ≡ available = new ∙ rw (first_no, le-ltb v available ge) refl in (omega arith, inr (omega arith, e), omega arith))
-    ]
+use Rattle.dr_runs.proofs.Looks.{last_look_more, looks_more}
+use Rattle.dr_runs.proofs.Elements.{contains_more, contains_last}
+use Rattle.dr_runs.proofs.Offers.{offers_more, either_true, second_true}
 
 -- no number stands in a list twice
 AreDistinct : List ℕ → Type 0
@@ -102,14 +83,6 @@ barrier_is k h cursor looks counts rising e some =
     let us = upstreams_of k.upstreams h in let c = last_look 0 (looks ++ count_looks us counts) cursor_word in
     ap (λ (ns : List ℕ). offered_by c ns) (seen_counts looks us counts rising e) ∙ offered_same c cursor counts (omega arith)
 
-either_true : (a b : Bool) → (a || b) ≡ true → (a ≡ true) ⊎ (b ≡ true)
-either_true true b e = inl refl
-either_true false b e = inr e
-
-second_true : (a b : Bool) → (a && b) ≡ true → b ≡ true
-second_true true b e = e
-second_true false b e = absurd (cc)
-
 module _ {T : Type 0} where
   pub first_none : (r : ReceiverRecord T) (cursor : ℕ) → IsNear r cursor → LooksAtFirst r cursor 0 r cursor
   first_none r cursor near = record {
@@ -137,16 +110,17 @@ module _ {T : Type 0} where
         is = is ∙ ap (λ (q : ReceiverRecord T). receiver_saw q (look (count_word u) v ∷ [])) L.is
             ∙ ap (λ (ys : List Look). record r { looks = ys }) (append_assoc r.looks xs (look (count_word u) v ∷ [])) ∙ ap (receiver_saw r) (sym next);
         offered = offer.0;
-        near = elim offer.1 [ inl this ↦ subst (IsNear r) (sym this) near | inr old ↦ subst (IsNear r) (sym old.1) L.near ];
-        found = λ _. elim offer.1 [
+        near = elim offer.3 [ inl this ↦ subst (IsNear r) (sym this) near | inr old ↦ subst (IsNear r) (sym old.1) L.near ];
+        found = λ _. elim offer.3 [
           | inl this ↦ subst (λ (m : ℕ). Contains (L.counts ++ v ∷ []) m) (sym this) (contains_last L.counts v)
           | inr old ↦ subst (λ (m : ℕ). Contains (L.counts ++ v ∷ []) m) (sym old.1) (contains_more L.counts least v (L.found (let z = old.0 in omega arith)))
         ];
-        told = λ y _. (let a = told y in let low = offer.2 in omega arith);
+        told = λ y _. (let a = told y in let low = offer.1 in omega arith);
       }
 
   -- at the last upstream it takes
-  pub round_last : (r s s' : ReceiverRecord T) (room cursor least available i u v : ℕ) (hand hand' : Hand T) (lents : List (Lent T)) → IsStrictlyIncreasing (ups_of r)
+  pub round_last : (r s s' : ReceiverRecord T) (room cursor least available i u v : ℕ) (hand hand' : Hand T) (lents : List (Lent T))
+      → IsStrictlyIncreasing (ups_of r)
       → FindsEvents r cursor_word cursor → LooksAtFirst (cursor_seen r cursor) cursor i s least → i + 1 ≡ length (ups_of r) → get_or (ups_of r) i 0 ≡ u
       → length lents ≡ taken_at s (count_word u) v room → s' ≡ receiver_looked s (count_word u) v lents → hand' ≡ taken_by_poll s lents ++ hand
       → FindsEvents s (count_word u) v → available ≡ lesser_of (i == 0) v least → LooksRound r room cursor available hand s' hand'
@@ -174,14 +148,16 @@ module _ {T : Type 0} where
 
   -- without upstreams it takes at the cursor
   pub round_alone : (r s' : ReceiverRecord T) (room cursor : ℕ) (hand hand' : Hand T) (lents : List (Lent T)) → length (ups_of r) ≡ 0
-      → FindsEvents r cursor_word cursor → length lents ≡ taken_at r cursor_word cursor room → s' ≡ cursor_looked r cursor lents → hand' ≡ taken_by_poll r lents ++ hand
+      → FindsEvents r cursor_word cursor → length lents ≡ taken_at r cursor_word cursor room
+      → s' ≡ cursor_looked r cursor lents → hand' ≡ taken_by_poll r lents ++ hand
       → LooksRound r room cursor cursor hand s' hand'
   round_alone r s' room cursor hand hand' lents none finds many is in_hand =
       let q = cursor_seen r cursor in let ups = ups_of r in let empty : ups ≡ [] = no_elements ups none in
       let seen : receiver_saw q (count_looks ups []) ≡ q =
       ap (λ (us : List ℕ). receiver_saw q (count_looks us [])) empty ∙ ap (λ (ys : List Look). record q { looks = ys }) (append-nil q.looks) in
       let offer : barrier_seen r.plan r.number q.looks ≡ cursor =
-      ap (λ (us : List ℕ). offered_by (last_look 0 q.looks cursor_word) (map (λ u. last_look 0 q.looks (count_word u)) us)) empty ∙ last_look_more 0 r.looks cursor_word cursor in record {
+      ap (λ (us : List ℕ). offered_by (last_look 0 q.looks cursor_word) (map (λ u. last_look 0 q.looks (count_word u)) us)) empty
+      ∙ last_look_more 0 r.looks cursor_word cursor in record {
         counts = [];
         each = sym none;
         lents = lents;
@@ -194,6 +170,7 @@ module _ {T : Type 0} where
         found = λ some. absurd (omega arith);
         told = λ told. elim (either_true r.told (tells_drained r cursor) told) [
           | inl old ↦ finds.2 old
-          | inr now ↦ (let all = eqb-true cursor (length r.received) (second_true (last_look 0 r.looks closed_word == 1) (cursor == length r.received) now) in omega arith)
+          | inr now ↦ (let all = eqb-true cursor (length r.received)
+              (second_true (last_look 0 r.looks closed_word == 1) (cursor == length r.received) now) in omega arith)
         ];
       }

@@ -16,13 +16,13 @@ use Rattle.dr_runs.proofs.Rows.{at_replicate}
 use Rattle.dr_plain.specs.Meaning.Shape.{Shape, handlers_of}
 use Rattle.dr_plain.specs.Meaning.Words.{cell_of}
 use Rattle.dr_plain.specs.declared.record.Lent.{Lent}
-use Rattle.dr_plain.specs.declared.written.Written.{Written}
+use Rattle.dr_runs.specs.declared.written.Written.{Written}
 use Rattle.dr_plain.specs.declared.settled.HandlerCounts.{HandlerCounts}
 use Rattle.dr_plain.specs.Meaning.Moments.{fresh_sender}
 use Rattle.dr_plain.specs.Calls.Plans.{IsPlan}
 use Rattle.dr_plain.specs.Calls.Ends.{SenderStand}
 use Rattle.dr_plain.specs.Inside.Fits.{Keeps, TokensFit, SenderFits, cells_of}
-use Rattle.dr_plain.proofs.Lists.{there}
+use Rattle.dr_runs.proofs.Elements.{there}
 
 module _ {T : Type 0} where
   -- each cell is whole, and holds its event
@@ -52,12 +52,12 @@ module _ {T : Type 0} where
   fresh_stand ring k = record { ring = ring; knows = fresh_sender k; hand = []; past = []; stored = [] }
 
   -- the fields of a new ring's sender
-  pub fits_new : (k : Shape) (e : SenderStand T) (events : List T) (w : Written) (tokens : List (Token T)) (rooms : List HandlerCounts) (p : Ptr) (cells gate : ℕ) → IsPlan k → gate ≡ 0
+  pub fits_new : (k : Shape) (e : SenderStand T) (events : List T) (w : Written) (tokens : List (Token T)) (rooms : List HandlerCounts) (hands : ℕ) (p : Ptr) (cells gate : ℕ) → IsPlan k → gate ≡ 0
       → e ≡ fresh_stand e.ring k → w ≡ record { upto = 0; ahead = replicate k.size 0 } → length tokens ≡ k.size → length events ≡ k.size → AreWhole p events tokens
-      → p ≡ k.strip → cells ≡ k.size → length rooms ≡ handlers_of k
-      → SenderFits e (record { claimed_to = 0; published_to = 0; remembered = gate; written = w; tokens = tokens; rooms = rooms; strip = p; cells = cells })
-  fits_new k e events w tokens rooms p cells gate made none is written count many each here size places =
-      subst (λ (x : SenderStand T × (Written × ℕ)). SenderFits x.0 (record { claimed_to = 0; published_to = 0; remembered = x.1.1; written = x.1.0; tokens = tokens; rooms = rooms; strip = p; cells = cells }))
+      → p ≡ k.strip → cells ≡ k.size → length rooms ≡ handlers_of k → hands ≡ handlers_of k
+      → SenderFits e (record { claimed_to = 0; published_to = 0; remembered = gate; written = w; tokens = tokens; rooms = rooms; hands = hands; strip = p; cells = cells })
+  fits_new k e events w tokens rooms hands p cells gate made none is written count many each here size places room =
+      subst (λ (x : SenderStand T × (Written × ℕ)). SenderFits x.0 (record { claimed_to = 0; published_to = 0; remembered = x.1.1; written = x.1.0; tokens = tokens; rooms = rooms; hands = hands; strip = p; cells = cells }))
       (λ i. (sym is i, (sym written i, sym none i)))
       (record {
         made = made;
@@ -72,5 +72,5 @@ module _ {T : Type 0} where
         hand = refl;
         strip = here;
         cells = size;
-        places = places;
+        places = (places, room);
       })

@@ -12,7 +12,7 @@ use Rattle.dr_runs.proofs.Lists.{at_behind}
 use Rattle.dr_runs.proofs.Stretches.{Apart, AreHome, take_all, give_all, emptied, filled, take_carried, take_homes, take_valid, give_carried, give_homes, give_valid}
 use Rattle.dr_runs.proofs.Seats.{Moves}
 use Rattle.dr_plain.specs.Meaning.Shape.{Shape, handlers_of}
-use Rattle.dr_plain.specs.Meaning.Words.{halt_word}
+use Rattle.dr_runs.specs.Words.{halt_word}
 use Rattle.dr_plain.specs.declared.record.Lent.{Lent}
 use Rattle.dr_plain.specs.declared.record.SenderRecord.{SenderRecord}
 use Rattle.dr_plain.specs.declared.record.ReceiverRecord.{ReceiverRecord}
@@ -21,7 +21,7 @@ use Rattle.dr_plain.specs.Meaning.Rule.{World, Room, KeepsRule}
 use Rattle.dr_plain.specs.Meaning.Lying.{placed, LiesBy, Lies}
 use Rattle.dr_plain.specs.Meaning.Steps.{next_of}
 use Rattle.dr_plain.specs.Inside.Seats.{Hand, exchange, lent_all}
-use Rattle.dr_plain.proofs.Lists.{at_below}
+use Rattle.dr_runs.proofs.Elements.{at_below}
 use Rattle.dr_plain.proofs.Keeps.{word_at, ahead_of_all, above, near, room_seen, claims_some, claims_none}
 use Rattle.dr_plain.proofs.Moving.{Stretches, claims_take, publishes_give, receiver_takes, receiver_gives}
 
@@ -79,7 +79,7 @@ module _ {T : Type 0} where
       ∙ (λ i. nothing_laid T w.sender.plan.size i + length-map w.sender.published (λ (l : Lent T). Some l) i)
       ∙ ap (λ (p : Shape). p.size + length w.sender.published) K.sender_plan
 
-  laid_later : (k : Shape) (w : World T) (i : ℕ) (l : Option (Lent T)) → KeepsRule k w → get_elem? (lent_all w.sender.published) i ≡ some l
+  pub laid_later : (k : Shape) (w : World T) (i : ℕ) (l : Option (Lent T)) → KeepsRule k w → get_elem? (lent_all w.sender.published) i ≡ some l
       → get_elem? (laid w.sender) (k.size + i) ≡ some l
   laid_later k w i l K at =
       let e : length (replicate w.sender.plan.size (nothing_lent T)) ≡ k.size = nothing_laid T w.sender.plan.size ∙ ap (λ (p : Shape). p.size) K.sender_plan in

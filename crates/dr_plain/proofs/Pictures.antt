@@ -17,25 +17,30 @@ use Rattle.dr_core.specs.Meaning.Machine.{State, Outcome, front, available, leas
 use Rattle.dr_core.specs.Meaning.Transcript.{Transcript}
 use Rattle.dr_runs.proofs.Lists.{map_same, map_but}
 use Rattle.dr_plain.specs.Meaning.Shape.{Shape, handlers_of, ring_setup}
-use Rattle.dr_plain.specs.Meaning.Words.{cursor_word, closed_word, halt_word, count_word, words_of}
-use Rattle.dr_plain.specs.declared.record.Look.{Look}
+use Rattle.dr_plain.specs.Meaning.Words.{words_of}
+use Rattle.dr_runs.specs.Words.{cursor_word, closed_word, halt_word, count_word}
+use Rattle.dr_runs.specs.declared.look.Look.{Look}
 use Rattle.dr_plain.specs.declared.record.Lent.{Lent}
 use Rattle.dr_plain.specs.declared.record.ReceiverRecord.{ReceiverRecord}
-use Rattle.dr_plain.specs.Meaning.Records.{events_of, claimed, look, barrier_seen, halt_looked, published_more, closed_looked, receiver_looked}
+use Rattle.dr_plain.specs.Meaning.Records.{events_of, claimed, barrier_seen, halt_looked, published_more, closed_looked, receiver_looked}
+use Rattle.dr_runs.specs.Looks.{look}
 use Rattle.dr_plain.specs.Meaning.Records.{taken_at, tells_drained, cursor_looked, completed_to, SeesRoom}
 use Rattle.dr_plain.specs.Meaning.Rule.{World, KeepsRule, ArePast}
 use Rattle.dr_plain.specs.declared.record.Step.{Step}
 use Rattle.dr_plain.specs.declared.record.Step.TheVariants.{SenderLooksAtCount, SenderLooksAtHalt, SenderPublishes, SenderHalts, SenderCloses}
 use Rattle.dr_plain.specs.declared.record.Step.TheVariants.{ReceiverLooksAtClosed, ReceiverLooksAtCursor, ReceiverLooksAtCount, ReceiverCompletes, HalterHalts}
 use Rattle.dr_plain.specs.Meaning.Steps.{Happens, sender_knows, sender_stores, receiver_knows, receiver_stores, next_of}
-use Rattle.dr_plain.specs.Meaning.Moments.{fresh_receiver, taken_of, picture_of, entry, writes_of, poll_of, receiver_at, entries_of, Runs}
-use Rattle.dr_plain.proofs.Lists.{at_below, value_at, final_inside, past_more, last_look_le}
+use Rattle.dr_plain.specs.Meaning.Moments.{fresh_receiver, taken_of, picture_of, writes_of, poll_of, receiver_at, entries_of, Runs}
+use Rattle.dr_runs.specs.Entries.{entry}
+use Rattle.dr_runs.proofs.Elements.{at_below, value_at}
+use Rattle.dr_runs.proofs.Offers.{final_inside, counts_below, offered_at_most, offered_at_least}
+use Rattle.dr_runs.proofs.Looks.{past_more, last_look_le}
 use Rattle.dr_plain.proofs.Keeps.{word_at, receiver_of_handler, orderly, upstream_inside, claims_some, claims_none}
 use Rattle.dr_plain.proofs.Barriers.{below_upstream, below_front, next_count, takes_below}
 use Rattle.dr_plain.proofs.Stores.{tells_truth}
 use Rattle.dr_plain.proofs.Beginning.{keeps_step}
-use Rattle.dr_plain.proofs.Machine.{Leads, leads_one, lead_writes, shown, shown_front, written_to}
-use Rattle.dr_plain.proofs.Machine.{claim_step, publish_step, take_step, drained_step, complete_step, counts_below, offered_at_most, offered_at_least}
+use Rattle.dr_plain.proofs.Machine.{Leads, lead_writes, shown, written_to, values_of, all_written}
+use Rattle.dr_runs.proofs.OneSender.{shown_front, claim_step, publish_step, take_step, drained_step, complete_step, leads_one}
 
 -- counts by their words
 abbrev pub counts_of : Shape → List ℕ → List ℕ
@@ -98,7 +103,7 @@ module _ {T : Type 0} where
   claim_room k w n m same room K =
       counts_below m (finals k.upstreams) k.size (claimed w.sender + n) (some_final k K.graph)
       (λ f has. (let i = final_inside k.upstreams f has in let a = room.completed f has in
-      let b = last_look_le k w.words 0 w.sender.looks (count_word f) (omega arith) K.looks in
+      let b = last_look_le (words_of k) w.words 0 w.sender.looks (count_word f) (omega arith) K.looks in
       let c : get_or m.completed f 0 ≡ word_at w.words (count_word f) = ap (λ (d : List ℕ). get_or d f 0) same ∙ count_at k w.words f i in omega arith))
 
   -- a claim is of the size at most
@@ -108,7 +113,7 @@ module _ {T : Type 0} where
       let g : IsGated k.upstreams nobody (λ h. word_at w.words (count_word h)) 0 =
       K.graph.gate nobody (λ h. word_at w.words (count_word h)) (orderly k w K) 0 some_one refl in
       let i = final_inside k.upstreams g.last g.final in let a = room.completed g.last g.final in
-      let b = last_look_le k w.words 0 w.sender.looks (count_word g.last) (omega arith) K.looks in
+      let b = last_look_le (words_of k) w.words 0 w.sender.looks (count_word g.last) (omega arith) K.looks in
       let d : word_at w.words (count_word g.last) ≤ word_at w.words (count_word 0) = g.behind in
       let t = receiver_of_handler k w K 0 some_one in let e = t.2.count in let f = t.2.completed in let h = t.2.taken in omega arith
 
@@ -136,8 +141,8 @@ module _ {T : Type 0} where
               let off : (found == 1) ≡ false = ne_eqb found 1 (λ (e : found ≡ 1). omega arith) in
               let going_on : Leads k rest (S (claimed s + n) false) end =
               subst (λ (x : State T). Leads k rest x end) (λ i. S (whole i) (off i)) (more n (claims_some found n going)) in
-              let one = leads_one k (Claim 0 n) (Claimed (claimed s) (claimed s + n - 1)) [] rest m (S (claimed s + n) false) end
-              (claim_step k (claimed s) n vs f t d some_one (claim_fits k w n r K) r.limit (claim_room k w n m refl r K)) going_on in
+              let one = leads_one (ring_setup k) (Claim 0 n) (Claimed (claimed s) (claimed s + n - 1)) [] rest m (S (claimed s + n) false) end
+              (claim_step k.upstreams k.size k.limit (claimed s) n (values_of vs) (values_of vs) f t d (λ _. refl) some_one (claim_fits k w n r K) r.limit (claim_room k w n m refl r K)) going_on in
               let here : Leads k (entry (Claim 0 n) (Claimed (claimed s) (claimed s + n - 1)) [] ++ rest) (parts k w) end =
               subst (λ (b : Bool). Leads k (entry (Claim 0 n) (Claimed (claimed s) (claimed s + n - 1)) [] ++ rest) (S (claimed s) b) end) (sym off) one in
               let both : (not (n == 0) && (found == 0)) ≡ true = rw (ne_eqb n 0 (λ (e : n ≡ 0). omega arith)) (eq-eqb found 0 going) in
@@ -165,8 +170,8 @@ module _ {T : Type 0} where
       let going_on : Leads k rest (shown k (claimed s) (sent w ++ es) (f + c) t d b) end =
       subst (λ (y : State T). Leads k rest y end) (λ i. shown k (whole i) (same i) (one i) t (counts i) (two i == 1)) leads in
       let publication : Leads k (entry (Publish 0 f (f + c - 1)) Published [] ++ rest) (shown k (claimed s) (sent w ++ es) f t d b) end =
-      leads_one k (Publish 0 f (f + c - 1)) Published [] rest (shown k (claimed s) (sent w ++ es) f t d b) (shown k (claimed s) (sent w ++ es) (f + c) t d b) end
-      (publish_step k (claimed s) (sent w ++ es) f t d b (f + c) (omega arith) (omega arith) (omega arith)) going_on in
+      leads_one (ring_setup k) (Publish 0 f (f + c - 1)) Published [] rest (shown k (claimed s) (sent w ++ es) f t d b) (shown k (claimed s) (sent w ++ es) (f + c) t d b) end
+      (publish_step k.upstreams k.size k.limit (claimed s) (values_of (sent w ++ es)) f t d b (f + c) (omega arith) (omega arith) (λ j a l. all_written (sent w ++ es) j (omega arith))) going_on in
       subst (λ (es : Transcript T). Leads k es (parts k w) end) (sym (append_assoc (writes_of f es) (entry (Publish 0 f (f + c - 1)) Published []) rest))
       (lead_writes k (claimed s) es (sent w) f t d b f (entry (Publish 0 f (f + c - 1)) Published [] ++ rest) end (omega arith) (omega arith) (omega arith) publication)
 
@@ -179,13 +184,13 @@ module _ {T : Type 0} where
       let on : true ≡ (word_at w.words halt_word == 1) = sym (eq-eqb (word_at w.words halt_word) 1 closed.0) in
       let inside = inside_of k w h r K at in
       let S : Bool → State T = λ b. shown k (claimed s) (sent w) (word_at w.words cursor_word) ts d b in
-      let seen : front (S true) ≡ word_at w.words cursor_word = shown_front k (claimed s) (sent w) (word_at w.words cursor_word) ts d true (omega arith) in
+      let seen : front (S true) ≡ word_at w.words cursor_word = shown_front k.upstreams k.size k.limit (claimed s) (values_of (sent w)) (word_at w.words cursor_word) ts d true (omega arith) in
       let offer : available (ring_setup k) (S true) h ≤ claimed s = offered_at_most (S true) (upstreams_of k.upstreams h) (claimed s) (omega arith)
       (λ u has. (let i = upstream_inside k K.graph h u inside has in let c = count_at k w.words u i in let o = receiver_of_handler k w K u i in
       let a = o.2.count in let b = o.2.completed in let e = o.2.taken in omega arith)) in
-      let step = drained_step k (claimed s) (sent w) (word_at w.words cursor_word) ts d h inside offer (took_at w h r at ∙ omega arith) in
+      let step = drained_step k.upstreams k.size k.limit (claimed s) (values_of (sent w)) (word_at w.words cursor_word) ts d h inside offer (took_at w h r at ∙ omega arith) in
       subst (λ (b : Bool). Leads k (entry (Poll h 1) Drained [] ++ rest) (S b) end) on
-      (leads_one k (Poll h 1) Drained [] rest (S true) (S true) end step (subst (λ (b : Bool). Leads k rest (S b) end) (sym on) leads))
+      (leads_one (ring_setup k) (Poll h 1) Drained [] rest (S true) (S true) end step (subst (λ (b : Bool). Leads k rest (S b) end) (sym on) leads))
 
   -- the events of a stretch
   slice_events : (lents : List (Lent T)) (a n : ℕ) → take n (drop a (events_of lents)) ≡ events_of (take n (drop a lents))
@@ -227,7 +232,7 @@ module _ {T : Type 0} where
   offer_seen k w h looks n inside past K below =
       let m = parts k w in let cursor = K.counts.cursor in
       let seen : front m ≡ word_at w.words cursor_word =
-      shown_front k (claimed w.sender) (sent w) (word_at w.words cursor_word) (map taken_of w.receivers) (counts_of k w.words) (word_at w.words halt_word == 1) (omega arith) in
+      shown_front k.upstreams k.size k.limit (claimed w.sender) (values_of (sent w)) (word_at w.words cursor_word) (map taken_of w.receivers) (counts_of k w.words) (word_at w.words halt_word == 1) (omega arith) in
       let low = below_front k w h looks inside past K in
       offered_at_least m (upstreams_of k.upstreams h) n (λ none. omega arith)
       (λ u has. (let i = upstream_inside k K.graph h u inside has in let c = count_at k w.words u i in let a = below_upstream k w h u looks past has in omega arith))
@@ -246,7 +251,7 @@ module _ {T : Type 0} where
             let same : taken_of q ≡ taken_of r = ap length (takes ∙ ap (λ (xs : List (Lent T)). r.received ++ xs) empty ∙ append-nil r.received) in
             subst (λ (x : Transcript T). Leads k (x ++ rest) m end) (sym (poll_none h a es to (count ∙ ap length empty)))
             (subst (λ (x : State T). Leads k rest x end) (same_picture k w h r q at same) leads))
-        | inl some_one ↦ (let looks = r.looks ++ look i (word_at w.words i) ∷ [] in let past = past_more k w.words i r.looks lt was.looks in
+        | inl some_one ↦ (let looks = r.looks ++ look i (word_at w.words i) ∷ [] in let past = past_more (words_of k) w.words i (word_at w.words i) r.looks lt (omega arith) was.looks in
             let below = takes_below k r h i (word_at w.words i) room was.plan was.number some_one in
             let low = below_front k w h looks inside past K in
             let published : length r.received + n ≤ length w.sender.published = omega arith in
@@ -257,7 +262,7 @@ module _ {T : Type 0} where
             let are : filter_map m.written (range_with_len (get_or ts h 0) n) ≡ es =
             ap (λ (x : ℕ). filter_map m.written (range_with_len x n)) is ∙ written_to (sent w) a n (omega arith)
             ∙ slice_events w.sender.published a n in
-            let step = take_step k m h n es inside refl some_one (omega arith) are in
+            let step = take_step k.upstreams k.size k.limit m h n es inside refl some_one (omega arith) are in
             let exact : machine.step (ring_setup k) m (Poll h n) ≡ record { reply = Batch a n (a + n == to); values = es; state = record m { taken = set ts h (a + n) } } =
             step ∙ ap (λ (x : ℕ). let o : Outcome T = record { reply = Batch x n (x + n == to); values = es; state = record m { taken = set ts h (x + n) } } in o) is in
             let longer : length q.received ≡ a + n = ap length takes ∙ length-append r.received lents ∙ ap (λ (x : ℕ). a + x) whole in
@@ -265,7 +270,7 @@ module _ {T : Type 0} where
             let going_on : Leads k rest (record m { taken = set ts h (a + n) }) end =
             subst (λ (xs : List ℕ). Leads k rest (record m { taken = xs }) end) set_taken leads in
             subst (λ (x : Transcript T). Leads k (x ++ rest) m end) (sym (poll_some h a es to n (count ∙ whole) some_one))
-            (leads_one k (Poll h n) (Batch a n (a + n == to)) es rest m (record m { taken = set ts h (a + n) }) end exact going_on))
+            (leads_one (ring_setup k) (Poll h n) (Batch a n (a + n == to)) es rest m (record m { taken = set ts h (a + n) }) end exact going_on))
       ]
 
   lead_cursor_look : (k : Shape) (w : World T) (h room : ℕ) (r : ReceiverRecord T) (rest : Transcript T) (end : State T) → get_elem? w.receivers h ≡ some r
@@ -299,8 +304,8 @@ module _ {T : Type 0} where
       let going_on : Leads k rest (record m { completed = set (counts_of k w.words) h n }) end =
       subst (λ (y : State T). Leads k rest y end)
       (λ i. shown k (claimed w.sender) (sent w) (one i) (same_taken w h r (completed_to r n) at refl i) (counts i) (two i == 1)) leads in
-      leads_one k (Complete h n) Completed [] rest m (record m { completed = set (counts_of k w.words) h n }) end
-      (complete_step k m h n inside refl (omega arith) (omega arith)) going_on
+      leads_one (ring_setup k) (Complete h n) Completed [] rest m (record m { completed = set (counts_of k w.words) h n }) end
+      (complete_step k.upstreams k.size k.limit m h n inside refl (omega arith) (omega arith)) going_on
 
   -- halt or closed is stored: nothing else shows
   lead_flag : (k : Shape) (w : World T) (i : ℕ) (rest : Transcript T) (end : State T) (b : Bool) → 0 < i → i < 32 → (word_at (set w.words i 1) halt_word == 1) ≡ b
@@ -326,7 +331,7 @@ module _ {T : Type 0} where
       subst (λ (es : List T). Leads k (entries_of k (SenderPublishes es) w ++ rest) (picture_of k w) end) H.1
       (lead_publish k w H.0 rest end H.2 H.3 K (subst (λ (x : World T). Leads k rest (picture_of k x) end) H.4 L))
   lead_step k SenderHalts w u rest end H K L =
-      leads_one k Halt Halting [] rest (parts k w) (record (parts k w) { halted = true }) end refl
+      leads_one (ring_setup k) Halt Halting [] rest (parts k w) (record (parts k w) { halted = true }) end refl
       (lead_flag k w halt_word rest end true (omega arith) (omega arith) (halt_on k w K) (subst (λ (x : World T). Leads k rest (picture_of k x) end) H L))
   lead_step k SenderCloses w u rest end H K L =
       lead_flag k w closed_word rest end (word_at w.words halt_word == 1) (omega arith) (omega arith)
@@ -348,7 +353,7 @@ module _ {T : Type 0} where
   lead_step k (ReceiverCompletes h n) w u rest end H K L =
       lead_complete k w h n H.0 rest end H.1 H.2.0 H.2.1 K (subst (λ (x : World T). Leads k rest (picture_of k x) end) H.2.2 L)
   lead_step k HalterHalts w u rest end H K L =
-      leads_one k Halt Halting [] rest (parts k w) (record (parts k w) { halted = true }) end refl
+      leads_one (ring_setup k) Halt Halting [] rest (parts k w) (record (parts k w) { halted = true }) end refl
       (lead_flag k w halt_word rest end true (omega arith) (omega arith) (halt_on k w K) (subst (λ (x : World T). Leads k rest (picture_of k x) end) H L))
 
   pub lead_runs : (k : Shape) (steps : List (Step T)) (es : Transcript T) (w u : World T) → Runs k steps es w u → KeepsRule k w

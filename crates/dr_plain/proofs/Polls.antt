@@ -1,65 +1,41 @@
 -- What a poll comes to.
-use Rattle.std.proofs.Common.{◌≡◌, ◌≢◌, ℕ, ◌+◌, ◌-◌, ◌<◌, ◌≤◌, inl, inr, Bool, true, false, ◌==◌, ◌&&◌, ◌||◌, min}
+use Rattle.std.proofs.Common.{◌≡◌, ℕ, ◌+◌, ◌-◌, ◌<◌, ◌≤◌, inl, inr, Bool, true, ◌==◌, ◌&&◌, ◌||◌, min}
 use Rattle.std.proofs.Common.{List, [], ◌∷◌, ◌++◌, length, take, drop, sym, refl, ap, ◌∙◌, subst, arith, append_assoc}
 use Rattle.std.specs.Prelude.{Contains, IsTrue, ◌↔◌}
-use Rattle.std.proofs.lemmas.Bool.{cases_eq, cases_lt, eq-eqb, ne_eqb, lt-ltb, le-ltb, eqb-true}
+use Rattle.std.proofs.lemmas.Bool.{cases_eq, cases_lt, eq-eqb}
 use Rattle.std.proofs.lemmas.List.{length-append, append-nil}
 use mathlib.Core.Option.{some}
 use Rattle.atomic_table.proofs.Lists.{at_longer}
 use Rattle.dr_cells.specs.declared.token.Token.{Token}
 use Rattle.dr_core.specs.declared.command.Polled.{Polled}
-use Rattle.dr_core.specs.declared.command.Polled.TheVariants.{Batch, Drained, Gating, Idle}
+use Rattle.dr_core.specs.declared.command.Polled.TheVariants.{Batch}
 use Rattle.dr_seq.proofs.Apart.{slots_differ}
 use Rattle.dr_runs.specs.Stretches.{stretch}
 use Rattle.dr_runs.proofs.Lists.{no_elements, take_whole}
-use Rattle.dr_plain.specs.Meaning.Words.{cursor_word, closed_word, cell_of}
+use Rattle.dr_plain.specs.Meaning.Words.{cell_of}
+use Rattle.dr_runs.specs.Words.{cursor_word, closed_word}
 use Rattle.dr_plain.specs.Meaning.Lying.{placed}
-use Rattle.dr_plain.specs.declared.record.Look.{Look}
+use Rattle.dr_runs.specs.declared.look.Look.{Look}
 use Rattle.dr_plain.specs.declared.record.Lent.{Lent}
 use Rattle.dr_plain.specs.declared.record.ReceiverRecord.{ReceiverRecord}
-use Rattle.dr_plain.specs.Meaning.Records.{look, offered_by, closed_looked}
+use Rattle.dr_plain.specs.Meaning.Records.{closed_looked}
+use Rattle.dr_runs.specs.Looks.{look}
 use Rattle.dr_plain.specs.Calls.Ends.{ReceiverStand, count_looks}
-use Rattle.dr_plain.specs.Calls.Receiving.{PollLooks, looked_round, received_all, Answers}
+use Rattle.dr_plain.specs.Calls.Receiving.{looked_round, received_all, Answers}
+use Rattle.dr_runs.specs.Polls.{PollLooks, nothing_offered}
 use Rattle.dr_plain.specs.Inside.Fits.{taken_slots, ReceiverFits}
 use Rattle.dr_plain.specs.Inside.Hands.{with_hand}
-use Rattle.dr_plain.specs.Inside.Polling.{ups_of, receiver_saw, cursor_seen, LooksRound, nothing_offered}
+use Rattle.dr_plain.specs.Inside.Polling.{ups_of, receiver_saw, cursor_seen, LooksRound}
 use Rattle.dr_plain.specs.Inside.Seats.{Hand, lent_all, taken_by_poll}
 use Rattle.dr_plain.specs.Inside.Trades.{parts_between, blanks_between, PartsTaken}
-use Rattle.dr_plain.proofs.Lists.{there, at_below, last_look_more}
+use Rattle.dr_runs.proofs.Elements.{there, at_below}
+use Rattle.dr_runs.proofs.Looks.{last_look_more}
 use Rattle.dr_plain.proofs.Trading.{parts_count}
 use Rattle.dr_plain.proofs.Taken.{blanks_both, drop_seam}
+use Rattle.dr_runs.proofs.Offers.{drains, idles, gates, or_true, not_true, only_cursor}
 
 abbrev pub saw : ℕ → ℕ → List ℕ → PollLooks
 saw closed cursor counts = record { closed = closed; cursor = cursor; counts = counts }
-
-drains : (closed cursor taken : ℕ) → closed ≡ 1 → cursor ≡ taken → nothing_offered closed cursor taken ≡ Drained
-drains closed cursor taken one all = rw (eq-eqb closed 1 one, eq-eqb cursor taken all) refl
-
-idles : (closed cursor taken : ℕ) → closed ≢ 1 → cursor ≤ taken → nothing_offered closed cursor taken ≡ Idle
-idles closed cursor taken still le = rw (ne_eqb closed 1 still, le-ltb taken cursor le) refl
-
-and_false : (b : Bool) → (b && false) ≡ false
-and_false true = refl
-and_false false = refl
-
-gates : (closed cursor taken : ℕ) → cursor ≢ taken → taken < cursor → nothing_offered closed cursor taken ≡ Gating
-gates closed cursor taken more lt = rw (ne_eqb cursor taken more, and_false (closed == 1), lt-ltb taken cursor lt) refl
-
-or_true : (b : Bool) → (b || true) ≡ true
-or_true true = refl
-or_true false = refl
-
-not_true : (b : Bool) → (b ≡ true → ⊥) → b ≡ false
-not_true true never = absurd (never refl)
-not_true false never = refl
-
-pub of_count : (n m : ℕ) (b : Bool) → b ≡ (n == m) → IsTrue b ↔ (n ≡ m)
-of_count n m b e = ((λ y. eqb-true n m (sym e ∙ y)), (λ y. e ∙ eq-eqb n m y))
-
--- without counts the cursor is offered
-only_cursor : (counts : List ℕ) (cursor : ℕ) → length counts ≡ 0 → offered_by cursor counts ≡ cursor
-only_cursor [] cursor e = refl
-only_cursor (n ∷ counts) cursor e = absurd (omega arith)
 
 module _ {T : Type 0} where
   -- the three rounds of looks, as one

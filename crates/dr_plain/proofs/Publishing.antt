@@ -21,13 +21,14 @@ use Rattle.dr_plain.specs.Meaning.Lying.{placed}
 use Rattle.dr_plain.specs.Meaning.Records.{events_of, claimed, laid, published_more}
 use Rattle.dr_plain.specs.declared.record.Lent.{Lent}
 use Rattle.dr_plain.specs.declared.record.SenderRecord.{SenderRecord}
-use Rattle.dr_plain.specs.declared.written.Written.{Written}
+use Rattle.dr_runs.specs.declared.written.Written.{Written}
 use Rattle.dr_plain.specs.Calls.Ends.{SenderStand, SenderEnd, sent_of}
 use Rattle.dr_plain.specs.Calls.Sending.{TriesToPublish}
 use Rattle.dr_plain.specs.Inside.Fits.{Keeps, SenderFields, SenderFits, TokensFit, cells_of, no_lents, open_slots}
 use Rattle.dr_plain.specs.Inside.Lending.{lanes, lents_of, AreLent, SameBut}
 use Rattle.dr_plain.specs.Inside.Hands.{with_hand}
-use Rattle.dr_plain.specs.Inside.Noted.{Noted, AreNoted, HasUnnoted, is_noted, writes_from}
+use Rattle.dr_plain.specs.Inside.Noted.{Noted, writes_from}
+use Rattle.dr_runs.specs.Noted.{AreNoted, HasUnnoted, is_noted}
 use Rattle.dr_plain.specs.Inside.Seats.{Hand, lent_all, given_by_publication}
 use Rattle.dr_plain.specs.Inside.Views.{sender_end}
 use Rattle.dr_plain.proofs.Answering.{open_at, AllWritten, accepted, unwritten, out_of_order, published_before}
@@ -35,7 +36,7 @@ use Rattle.dr_plain.proofs.Claims.{fits_as}
 use Rattle.dr_plain.proofs.Collecting.{at_after, first_at, laid_count, laid_later, blanks_count}
 use Rattle.dr_plain.proofs.Lanes.{cell_later}
 use Rattle.dr_plain.proofs.Tokens.{out}
-use Rattle.dr_plain.proofs.Lists.{there, value_at}
+use Rattle.dr_runs.proofs.Elements.{there, value_at}
 use Rattle.dr_plain.proofs.Noting.{write_at, writes_at, written_at, unwritten_at, writes_both, writes_same, writes_count, noted_published, noted_later}
 use Rattle.dr_plain.proofs.Rowing.{dropped, taken, length_rows, replicate_both, rows_both}
 use Rattle.dr_plain.proofs.Stations.{begins_same}

@@ -1,5 +1,5 @@
 -- The machine replies on a ring's picture as an end of the ring answers.
-use Rattle.std.proofs.Common.{◌≡◌, ℕ, zero, suc, ◌+◌, ◌-◌, ◌<◌, ◌≤◌, inl, inr, Bool, true, false, not, ◌==◌, ◌||◌, ◌&&◌, List, length, get_or, map}
+use Rattle.std.proofs.Common.{◌≡◌, ℕ, zero, suc, ◌+◌, ◌-◌, ◌<◌, ◌≤◌, inl, inr, Bool, true, false, not, ◌==◌, ◌||◌, List, length, get_or, map}
 use Rattle.std.proofs.Common.{Option, Some, None, is_none, Result, Ok, Err, sym, refl, ap, ◌∙◌, subst, arith}
 use Rattle.std.specs.Prelude.{nat_lt, nat_le, Contains, flat_map}
 use Rattle.std.specs.List.{range_with_len}
@@ -25,21 +25,19 @@ use Rattle.dr_core.proofs.Leasts.{least_of-member}
 use Rattle.dr_graph.specs.Meaning.Graph.{upstreams_of, finals}
 use Rattle.dr_runs.proofs.Exact.{AreExact, none_exact, first_exact, exact_join, exact_stretch, unit_replies, offered_low, drained_reply, gating_reply, idle_reply}
 use Rattle.dr_plain.specs.Meaning.Shape.{Shape, handlers_of, ring_setup}
-use Rattle.dr_plain.specs.Meaning.Words.{cursor_word, halt_word, count_word}
+use Rattle.dr_runs.specs.Words.{cursor_word, halt_word, count_word}
 use Rattle.dr_plain.specs.declared.record.ReceiverRecord.{ReceiverRecord}
 use Rattle.dr_plain.specs.Meaning.Records.{events_of, claimed}
 use Rattle.dr_plain.specs.Meaning.Rule.{World, KeepsRule}
 use Rattle.dr_plain.specs.Meaning.Moments.{picture_of, taken_of}
 use Rattle.dr_plain.specs.Meaning.Replies.{picture_with, sent_with, tests_of_claim, tests_of_poll, tests_of_completion, Replies, DecidesClaim, DecidesPoll, RepliesAsAnswered}
-use Rattle.dr_plain.proofs.Lists.{final_inside}
-use Rattle.dr_plain.proofs.Beginning.{all_zero}
+use Rattle.dr_runs.proofs.Offers.{final_inside, offered_at_most}
+use Rattle.dr_runs.proofs.Elements.{all_zero}
 use Rattle.dr_plain.proofs.Keeps.{word_at, receiver_of_handler, upstream_inside}
-use Rattle.dr_plain.proofs.Machine.{shown, shown_front, values_of, claim_step, offered_at_most}
+use Rattle.dr_plain.proofs.Machine.{shown, values_of}
 use Rattle.dr_plain.proofs.Pictures.{sent, sent_count, counts_of, count_at, took_at, inside_of, claim_room, claim_fits}
-
-and_false : (b : Bool) → (b && false) ≡ false
-and_false true = refl
-and_false false = refl
+use Rattle.std.proofs.Math.Bool.{and-false}
+use Rattle.dr_runs.proofs.OneSender.{shown_front, claim_step}
 
 module _ {T : Type 0} (k : Shape) (w : World T) (K : KeepsRule k w) where
   abbrev m : State T
@@ -54,7 +52,7 @@ module _ {T : Type 0} (k : Shape) (w : World T) (K : KeepsRule k w) where
   pub at_front : front m ≡ length w.sender.published
   at_front =
       let cursor = K.counts.cursor in
-      shown_front k (claimed w.sender) (sent w) (word_at w.words cursor_word) (map taken_of w.receivers)
+      shown_front k.upstreams k.size k.limit (claimed w.sender) (values_of (sent w)) (word_at w.words cursor_word) (map taken_of w.receivers)
       (counts_of k w.words) (word_at w.words halt_word == 1) (omega arith) ∙ cursor
 
   -- what the sender wrote and did not publish shows in no other call
@@ -199,7 +197,7 @@ module _ {T : Type 0} (k : Shape) (w : World T) (K : KeepsRule k w) where
   claim_replies n (Ok stretch) answer D =
       let room = D.1 in let vs = sent w in let f = word_at w.words cursor_word in
       let t = map taken_of w.receivers in let d = counts_of k w.words in
-      let step = claim_step k (claimed w.sender) n vs f t d (some_claimed n answer.1.0) (claim_fits k w n room K) room.limit
+      let step = claim_step k.upstreams k.size k.limit (claimed w.sender) n (values_of vs) (values_of vs) f t d (λ _. refl) (some_claimed n answer.1.0) (claim_fits k w n room K) room.limit
       (claim_room k w n (shown k (claimed w.sender) vs f t d false) refl room K) in
       subst (λ (b : Bool). (machine.step (ring_setup k) (shown k (claimed w.sender) vs f t d b) (Claim 0 n)).reply ≡ claim_reply (Ok stretch)) (sym (going D.0))
       (ap (λ (x : Outcome T). x.reply) step ∙ ap (λ (c : Stretch). Claimed c.lo c.hi) (sym D.2))
@@ -259,12 +257,12 @@ module _ {T : Type 0} (k : Shape) (w : World T) (K : KeepsRule k w) where
       let has : Contains (upstreams_of k.upstreams h) u = subst (λ (n : ℕ). Contains (upstreams_of k.upstreams n) u) was.number D.1.1 in
       let low = offered_low m (upstreams_of k.upstreams h) u has in let c = count_at k w.words u (upstream_inside k K.graph h u inside has) in
       let found = D.1.2 in let more = D.0 in let taken = took_at w h r at in let front = at_front in let cursor = K.counts.cursor in let all = owned in
-      gating_reply (ring_setup k) m h room (omega arith) (rw (ne_eqb (get_or m.taken h 0) (length m.owners) (λ e. omega arith)) (and_false m.halted)) (omega arith)
+      gating_reply (ring_setup k) m h room (omega arith) (rw (ne_eqb (get_or m.taken h 0) (length m.owners) (λ e. omega arith)) (and-false m.halted)) (omega arith)
   nothing_taken h room r Idle at D =
       let found = D.0 in let cursor = K.counts.cursor in let taken = took_at w h r at in let front = at_front in let all = owned in
       let most = offered_all h r at in
       idle_reply (ring_setup k) m h room (omega arith) (elim (cases_eq (word_at w.words halt_word) 1) [
-        | inl on ↦ (let claimed_more = D.1 on in rw (ne_eqb (get_or m.taken h 0) (length m.owners) (λ e. omega arith)) (and_false m.halted))
+        | inl on ↦ (let claimed_more = D.1 on in rw (ne_eqb (get_or m.taken h 0) (length m.owners) (λ e. omega arith)) (and-false m.halted))
         | inr off ↦ rw (ne_eqb (word_at w.words halt_word) 1 off) refl
       ]) (omega arith)
 

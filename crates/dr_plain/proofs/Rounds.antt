@@ -6,15 +6,16 @@ use Rattle.std.proofs.lemmas.List.{length-append, append-nil, get_or_append_left
 use Rattle.dr_graph.specs.Meaning.Graph.{finals}
 use Rattle.dr_plain.specs.Meaning.Shape.{Shape}
 use Rattle.dr_plain.specs.Calls.Plans.{IsPlan}
-use Rattle.dr_plain.specs.Meaning.Words.{count_word}
-use Rattle.dr_plain.specs.declared.record.Look.{Look}
+use Rattle.dr_runs.specs.Words.{count_word}
+use Rattle.dr_runs.specs.declared.look.Look.{Look}
 use Rattle.dr_plain.specs.declared.record.SenderRecord.{SenderRecord}
-use Rattle.dr_plain.specs.Meaning.Records.{look, last_look, sender_looked}
+use Rattle.dr_plain.specs.Meaning.Records.{sender_looked}
+use Rattle.dr_runs.specs.Looks.{look, last_look}
 use Rattle.dr_plain.specs.Calls.Ends.{count_looks}
 use Rattle.dr_plain.specs.Inside.Fits.{IsSeenLeast}
 use Rattle.dr_plain.specs.Inside.Scans.{sender_saw, LooksAtFinals, IsEnough, IsShort}
-use Rattle.dr_plain.proofs.Lists.{last_look_more}
-use Rattle.dr_plain.proofs.Looking.{get_any, last_rises, last_least, looks_more, looks_few, no_looks_at, number_at}
+use Rattle.dr_runs.proofs.Looks.{last_look_more, last_rises, last_least, looks_more, looks_few, no_looks_at}
+use Rattle.dr_runs.proofs.Elements.{get_any, number_at}
 use Rattle.dr_plain.proofs.Pictures.{some_final}
 
 -- one look more, in the finals' order

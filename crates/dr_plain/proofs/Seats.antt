@@ -20,7 +20,8 @@ use Rattle.dr_plain.specs.Meaning.Lying.{Lies}
 use Rattle.dr_plain.specs.Meaning.Moments.{new_world}
 use Rattle.dr_plain.specs.Meaning.Steps.{Happens}
 use Rattle.dr_plain.specs.Inside.Seats.{End, Hand, Sitting, ring_ends, exchange, stored_of, world_of, Ruled, as_sender, as_receiver, as_halter}
-use Rattle.dr_plain.proofs.Lists.{at_below}
+use Rattle.dr_runs.proofs.Elements.{at_below}
+use Rattle.dr_plain.proofs.Going.{goes_on, some_end_of}
 use Rattle.dr_plain.proofs.Beginning.{kept_opening, keeps_runs}
 
 module _ {T : Type 0} where
@@ -72,7 +73,7 @@ module _ {T : Type 0} where
       → SenderActs k step w i (f (get_or w.words i 0)) hand homes (told (get_or w.words i 0)))
       → Allows (Ruled k) slots id (seat_at (as_sender r hand) pasts) i f (TellsOn 0 grow pasts told)
   by_sender k slots id step grow pasts r hand i f told adds acts =
-      by_end (exchange k) slots id step grow pasts (Sends r) hand i f told adds
+      goes_on k slots id _ i f (TellsOn 0 grow pasts told) (some_end_of (Sends r) []) (by_end (exchange k) slots id step grow pasts (Sends r) hand i f told adds
       (λ w at reached small homes lies. let n = get_or w.words i 0 in let a = acts w at (kept_of k w reached) homes lies in let m = a.moves in record {
         mine = Sends a.mine;
         same = refl;
@@ -85,7 +86,7 @@ module _ {T : Type 0} where
         };
         moves = m.0;
         tells = subst (λ (c : Hand T). told n (as_sender a.mine c)) (sym m.1) a.tells;
-      })
+      }))
 
   -- a step of the halter, which has nothing in hand
   pub by_halter : (k : Shape) (slots id : ℕ) (step : Step T) (grow : List (Step T) → List (Step T)) (pasts : List (List (Step T))) (r : HalterRecord T) (i : ℕ) (f : ℕ → ℕ) (g : ℕ → HalterRecord T) (told : ℕ → End T → Type 0)
@@ -94,7 +95,7 @@ module _ {T : Type 0} where
       × told (get_or w.words i 0) (as_halter (g (get_or w.words i 0))))
       → Allows (Ruled k) slots id (seat_at (as_halter r) pasts) i f (TellsOn 1 grow pasts told)
   by_halter k slots id step grow pasts r i f g told adds acts =
-      by_end (exchange k) slots id step grow pasts (Halts r) [] i f told adds
+      goes_on k slots id _ i f (TellsOn 1 grow pasts told) (some_end_of (Halts r) []) (by_end (exchange k) slots id step grow pasts (Halts r) [] i f told adds
       (λ w at reached small homes lies. let n = get_or w.words i 0 in let a = acts w at (kept_of k w reached) in record {
         mine = Halts (g n);
         same = refl;
@@ -107,7 +108,7 @@ module _ {T : Type 0} where
         };
         moves = record { act = keeps; valid = tt; lies = lies };
         tells = a.1;
-      })
+      }))
 
   -- a step of a receiver, which keeps its number
   pub by_receiver : (k : Shape) (slots id : ℕ) (step : Step T) (grow : List (Step T) → List (Step T)) (pasts : List (List (Step T))) (r : ReceiverRecord T) (hand : Hand T) (i : ℕ) (f : ℕ → ℕ) (told : ℕ → End T → Type 0)
@@ -116,7 +117,7 @@ module _ {T : Type 0} where
       → ReceiverActs k step w i (f (get_or w.words i 0)) r.number hand homes (told (get_or w.words i 0)))
       → Allows (Ruled k) slots id (seat_at (as_receiver r hand) pasts) i f (TellsOn (r.number + 2) grow pasts told)
   by_receiver k slots id step grow pasts r hand i f told adds acts =
-      by_end (exchange k) slots id step grow pasts (Receives r) hand i f told adds
+      goes_on k slots id _ i f (TellsOn (r.number + 2) grow pasts told) (some_end_of (Receives r) []) (by_end (exchange k) slots id step grow pasts (Receives r) hand i f told adds
       (λ w at reached small homes lies. let n = get_or w.words i 0 in let h = r.number in let a = acts w at (kept_of k w reached) homes lies in let m = a.moves in
       let rs = set w.receivers h a.mine in let us = set w.words i (f n) in record {
         mine = Receives a.mine;
@@ -130,4 +131,4 @@ module _ {T : Type 0} where
         };
         moves = m.0;
         tells = subst (λ (c : Hand T). told n (as_receiver a.mine c)) (sym m.1) a.tells;
-      })
+      }))

@@ -1,5 +1,5 @@
 -- The stores of the sender and the halter, and the receivers' steps, keep the rule.
-use Rattle.std.proofs.Common.{◌⊎◌, ◌≡◌, ◌≢◌, ℕ, ◌+◌, ◌-◌, ◌<◌, ◌≤◌, inl, inr, Bool, true, ◌==◌, List, [], ◌∷◌, ◌++◌, length, set}
+use Rattle.std.proofs.Common.{◌≡◌, ◌≢◌, ℕ, ◌+◌, ◌-◌, ◌<◌, ◌≤◌, inl, inr, Bool, true, ◌==◌, List, [], ◌∷◌, ◌++◌, length, set}
 use Rattle.std.proofs.Common.{take, sym, refl, ap, ◌∙◌, subst, arith, length-set, get_or-set_same, get_or-set_other}
 use Rattle.std.specs.Prelude.{Contains}
 use Rattle.std.proofs.lemmas.Bool.{cases_eq, cases_lt, or_cases, and_parts, eqb-true}
@@ -8,16 +8,20 @@ use mathlib.Core.Option.{some}
 use lib.ListN.{get_elem?}
 use Rattle.dr_graph.specs.Meaning.Graph.{upstreams_of}
 use Rattle.dr_plain.specs.Meaning.Shape.{Shape, handlers_of}
-use Rattle.dr_plain.specs.Meaning.Words.{cursor_word, closed_word, halt_word, count_word, words_of}
+use Rattle.dr_plain.specs.Meaning.Words.{words_of}
+use Rattle.dr_runs.specs.Words.{cursor_word, closed_word, halt_word, count_word, HaltAndClose}
 use Rattle.dr_plain.specs.declared.record.Lent.{Lent}
 use Rattle.dr_plain.specs.declared.record.ReceiverRecord.{ReceiverRecord}
-use Rattle.dr_plain.specs.Meaning.Records.{claimed, look, last_look, taken_at, published_more, sender_halted, sender_closed, closed_looked}
+use Rattle.dr_plain.specs.Meaning.Records.{claimed, taken_at, published_more, sender_halted, sender_closed, closed_looked}
+use Rattle.dr_runs.specs.Looks.{look, last_look}
 use Rattle.dr_plain.specs.Meaning.Records.{receiver_looked, tells_drained, cursor_looked, completed_to, halter_halted}
-use Rattle.dr_plain.specs.Meaning.Rule.{World, Room, HaltAndClose, ReceiverKept, KeepsRule}
+use Rattle.dr_plain.specs.Meaning.Rule.{World, Room, ReceiverKept, KeepsRule}
 use Rattle.dr_plain.specs.Meaning.Steps.{sender_stores, receiver_knows, receiver_stores, next_of}
-use Rattle.dr_plain.proofs.Lists.{at_below, each_set, past_set, past_more, last_look_le}
-use Rattle.dr_plain.proofs.Keeps.{word_at, upstream_inside, room_stays, flags_stay, receiver_stays}
+use Rattle.dr_runs.proofs.Elements.{at_below, each_set}
+use Rattle.dr_runs.proofs.Looks.{past_set, past_more, last_look_le}
+use Rattle.dr_plain.proofs.Keeps.{word_at, upstream_inside, room_stays, receiver_stays}
 use Rattle.dr_plain.proofs.Barriers.{below_upstream, below_front, next_count, next_are, takes_below}
+use Rattle.dr_runs.proofs.Flags.{flags_stay, flags_open, halts_flags, closes_flags}
 
 module _ {T : Type 0} where
   pub keeps_publishes : (k : Shape) (w : World T) (lents : List (Lent T)) → 0 < length lents → length lents ≤ w.sender.pending → KeepsRule k w
@@ -48,20 +52,11 @@ module _ {T : Type 0} where
           after = λ u up. (let b = was.after u up in let e = stays (count_word u) (omega arith) in omega arith);
           beginning = was.beginning ∙ sym (take-append-le (length r.received) old lents was.taken);
           told = λ yes. absurd (not_closed (was.told yes).0);
-          looks = past_set k w.words cursor_word n r.looks inside rises was.looks;
+          looks = past_set (words_of k) w.words cursor_word n r.looks inside rises was.looks;
         });
         room = subst (Room k us) (sym whole) (room_stays k w.words us (claimed w.sender) (λ h lt'. (let e = stays (count_word h) (omega arith) in omega arith)) K.room);
-        flags = record {
-          halt = let f = F.halt in omega arith;
-          close = let f = F.close in omega arith;
-          by_sender = λ y. one ∙ F.by_sender y;
-          by_halter = λ y. one ∙ F.by_halter y;
-          closed = λ y. two ∙ F.closed y;
-          known_halt = λ y. F.known_halt (sym one ∙ y);
-          known_close = λ y. F.known_close (sym two ∙ y);
-          complete = λ c. absurd (not_closed (sym two ∙ c));
-        };
-        looks = past_set k w.words cursor_word n w.sender.looks inside rises K.looks;
+        flags = flags_open us w.sender.pending (w.sender.pending - length lents) w.sender.halted w.sender.closed w.halter.halted (λ y. not_closed (sym two ∙ y)) (flags_stay w.words us w.sender.pending w.sender.halted w.sender.closed w.halter.halted one two K.flags);
+        looks = past_set (words_of k) w.words cursor_word n w.sender.looks inside rises K.looks;
       }
 
   -- halt or closed becomes 1: what speaks of neither stays
@@ -82,42 +77,23 @@ module _ {T : Type 0} where
         halter_plan = K.halter_plan;
         counts = record { cursor = stays cursor_word (λ e. omega arith) ∙ K.counts.cursor; limit = K.counts.limit };
         received = λ h r there. (let inside_h : h < handlers_of k = (let b = at_below w.receivers h r there in let c = K.ends in omega arith) in let was = K.received h r there in
-            receiver_stays k w.words us w.sender.published h r K.graph inside_h (stays (count_word h) (λ e. omega arith)) (λ u lt'. (let e = stays (count_word u) (λ e. omega arith) in omega arith)) (up closed_word) (past_set k w.words i 1 r.looks inside rises was.looks) was);
+            receiver_stays k w.words us w.sender.published h r K.graph inside_h (stays (count_word h) (λ e. omega arith)) (λ u lt'. (let e = stays (count_word u) (λ e. omega arith) in omega arith)) (up closed_word) (past_set (words_of k) w.words i 1 r.looks inside rises was.looks) was);
         room = room_stays k w.words us (claimed w.sender) (λ h lt'. (let e = stays (count_word h) (λ e. omega arith) in omega arith)) K.room;
         flags = flags;
-        looks = past_set k w.words i 1 w.sender.looks inside rises K.looks;
-      }
-
-  -- the flags once halt is stored
-  halts_flags : (k : Shape) (w : World T) (a c : Bool) → (a ≡ true) ⊎ (c ≡ true) → KeepsRule k w
-      → HaltAndClose (set w.words halt_word 1) w.sender.pending a w.sender.closed c
-  halts_flags k w a c who K = let F = K.flags in let wide = K.wide in
-      let here : word_at (set w.words halt_word 1) halt_word ≡ 1 = get_or-set_same w.words halt_word 1 0 (omega arith) in
-      let other : word_at (set w.words halt_word 1) closed_word ≡ word_at w.words closed_word = get_or-set_other w.words halt_word closed_word 1 0 (λ (e : closed_word ≡ halt_word). omega arith) in record {
-        halt = omega arith;
-        close = let f = F.close in omega arith;
-        by_sender = λ y. here;
-        by_halter = λ y. here;
-        closed = λ y. other ∙ F.closed y;
-        known_halt = λ y. who;
-        known_close = λ y. F.known_close (sym other ∙ y);
-        complete = λ y. (here, (F.complete (sym other ∙ y)).1);
+        looks = past_set (words_of k) w.words i 1 w.sender.looks inside rises K.looks;
       }
 
   pub keeps_sender_halts : (k : Shape) (w : World T) → KeepsRule k w → KeepsRule k (sender_stores w halt_word 1 (sender_halted w.sender))
-  keeps_sender_halts k w K = flagged k w halt_word (omega arith) (omega arith) K.flags.halt true w.sender.closed w.halter.halted (halts_flags k w true w.halter.halted (inl refl) K) K
+  keeps_sender_halts k w K = flagged k w halt_word (omega arith) (omega arith) K.flags.halt true w.sender.closed w.halter.halted (halts_flags w.words w.sender.pending w.sender.halted w.sender.closed w.halter.halted true w.halter.halted (let wide = K.wide in omega arith) (inl refl) K.flags) K
 
   pub keeps_halter_halts : (k : Shape) (w : World T) → KeepsRule k w → KeepsRule k (record w { words = set w.words halt_word 1; halter = halter_halted w.halter })
-  keeps_halter_halts k w K = flagged k w halt_word (omega arith) (omega arith) K.flags.halt w.sender.halted w.sender.closed true (halts_flags k w w.sender.halted true (inr refl) K) K
+  keeps_halter_halts k w K = flagged k w halt_word (omega arith) (omega arith) K.flags.halt w.sender.halted w.sender.closed true (halts_flags w.words w.sender.pending w.sender.halted w.sender.closed w.halter.halted w.sender.halted true (let wide = K.wide in omega arith) (inr refl) K.flags) K
 
   pub keeps_closes : (k : Shape) (w : World T) → w.sender.halted ≡ true → w.sender.pending ≡ 0 → KeepsRule k w
       → KeepsRule k (sender_stores w closed_word 1 (sender_closed w.sender))
-  keeps_closes k w halted all K = let F = K.flags in let wide = K.wide in
-      let here : word_at (set w.words closed_word 1) closed_word ≡ 1 = get_or-set_same w.words closed_word 1 0 (omega arith) in
-      let other : word_at (set w.words closed_word 1) halt_word ≡ word_at w.words halt_word = get_or-set_other w.words closed_word halt_word 1 0 (λ (e : halt_word ≡ closed_word). omega arith) in
-      let halt : word_at (set w.words closed_word 1) halt_word ≡ 1 = other ∙ F.by_sender halted in
-      flagged k w closed_word (omega arith) (omega arith) F.close w.sender.halted true w.halter.halted
-      (record { halt = omega arith; close = omega arith; by_sender = λ y. halt; by_halter = λ y. halt; closed = λ y. here; known_halt = λ y. inl halted; known_close = λ y. refl; complete = λ y. (halt, all) }) K
+  keeps_closes k w halted all K =
+      flagged k w closed_word (omega arith) (omega arith) K.flags.close w.sender.halted true w.halter.halted
+      (closes_flags w.words w.sender.pending w.sender.halted w.sender.closed w.halter.halted (let wide = K.wide in omega arith) halted all K.flags) K
 
   -- one receiver's record changes, and no word
   receiver_changes : (k : Shape) (w : World T) (h : ℕ) (q : ReceiverRecord T) → ReceiverKept k w.words w.sender.published h q → KeepsRule k w
@@ -150,7 +126,7 @@ module _ {T : Type 0} where
     after = was.after;
     beginning = was.beginning;
     told = was.told;
-    looks = past_more k w.words closed_word r.looks (omega arith) was.looks;
+    looks = past_more (words_of k) w.words closed_word (word_at w.words closed_word) r.looks (omega arith) (omega arith) was.looks;
   }) K
 
   -- what a receiver takes at a look is published, and completed by each upstream
@@ -162,7 +138,7 @@ module _ {T : Type 0} where
       → Offers k w h r (taken_at r i (word_at w.words i) room)
   offers_taken k w h i room r lt at K =
       let was = K.received h r at in let n = taken_at r i (word_at w.words i) room in let looks = r.looks ++ look i (word_at w.words i) ∷ [] in
-      let past = past_more k w.words i r.looks lt was.looks in elim (cases_lt 0 n) [
+      let past = past_more (words_of k) w.words i (word_at w.words i) r.looks lt (omega arith) was.looks in elim (cases_lt 0 n) [
         | inl some_one ↦ (let low = takes_below k r h i (word_at w.words i) room was.plan was.number some_one in record {
           published = let b = below_front k w h looks (inside_of k w h r K at) past K in omega arith;
           completed = λ u up. (let b = below_upstream k w h u looks past up in omega arith);
@@ -187,7 +163,7 @@ module _ {T : Type 0} where
         after = λ u up. (let a = O.completed u up in omega arith);
         beginning = next_are all r.received n was.beginning ∙ ap (λ (m : ℕ). take m all) (sym longer);
         told = λ yes. (let d = drained yes in let e = d.1 in (d.0, omega arith));
-        looks = past_more k w.words i r.looks lt was.looks;
+        looks = past_more (words_of k) w.words i (word_at w.words i) r.looks lt (omega arith) was.looks;
       }) K
 
   pub keeps_receiver_looks : (k : Shape) (w : World T) (h i room : ℕ) (r : ReceiverRecord T) → i < words_of k → get_elem? w.receivers h ≡ some r → KeepsRule k w
@@ -202,7 +178,7 @@ module _ {T : Type 0} where
   tells_truth k w h r at tells K =
       let both : ((last_look 0 r.looks closed_word == 1) ≡ true) × ((word_at w.words cursor_word == length r.received) ≡ true) = and_parts _ _ tells in
       let a : last_look 0 r.looks closed_word ≡ 1 = eqb-true _ _ both.0 in let b : word_at w.words cursor_word ≡ length r.received = eqb-true _ _ both.1 in
-      let seen = last_look_le k w.words 0 r.looks closed_word (omega arith) (K.received h r at).looks in let flag = K.flags.close in
+      let seen = last_look_le (words_of k) w.words 0 r.looks closed_word (omega arith) (K.received h r at).looks in let flag = K.flags.close in
       let cursor = K.counts.cursor in (omega arith, omega arith)
 
   pub keeps_cursor_look : (k : Shape) (w : World T) (h room : ℕ) (r : ReceiverRecord T) → get_elem? w.receivers h ≡ some r → KeepsRule k w
@@ -245,11 +221,11 @@ module _ {T : Type 0} where
               after = λ u isup. (let a = was.after u isup in let b = up u (upstream_inside k K.graph h u lt isup) in omega arith);
               beginning = was.beginning;
               told = λ yes. (two ∙ (was.told yes).0, (was.told yes).1);
-              looks = past_set k w.words i n r.looks inside rises was.looks;
+              looks = past_set (words_of k) w.words i n r.looks inside rises was.looks;
             })
             (λ j q ne there. (let old = K.received j q there in let inside_j : j < handlers_of k = inside_of k w j q K there in
-            receiver_stays k w.words us w.sender.published j q K.graph inside_j (stays (count_word j) (λ e. ne (omega arith))) up (λ c. two ∙ c) (past_set k w.words i n q.looks inside rises old.looks) old));
+            receiver_stays k w.words us w.sender.published j q K.graph inside_j (stays (count_word j) (λ e. ne (omega arith))) up (λ c. two ∙ c) (past_set (words_of k) w.words i n q.looks inside rises old.looks) old));
         room = room_stays k w.words us (claimed w.sender) up K.room;
         flags = flags_stay w.words us w.sender.pending w.sender.halted w.sender.closed w.halter.halted one two K.flags;
-        looks = past_set k w.words i n w.sender.looks inside rises K.looks;
+        looks = past_set (words_of k) w.words i n w.sender.looks inside rises K.looks;
       }

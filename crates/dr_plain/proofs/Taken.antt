@@ -17,7 +17,7 @@ use Rattle.dr_plain.specs.Inside.Fits.{no_lents, ReceiverFits}
 use Rattle.dr_plain.specs.Inside.Hands.{with_hand}
 use Rattle.dr_plain.specs.Inside.Seats.{Hand, given_by_completion}
 use Rattle.dr_plain.specs.Inside.Trades.{parts_between, blanks_between, SamePlaces, ArePartsBetween}
-use Rattle.dr_plain.proofs.Lists.{at_below}
+use Rattle.dr_runs.proofs.Elements.{at_below}
 use Rattle.dr_plain.proofs.Trading.{blanks_count}
 
 pub drop_seam : {A : Type 0} (xs ys : List A) (n : ℕ) → length xs ≡ n → drop n (xs ++ ys) ≡ ys
@@ -34,7 +34,8 @@ module _ {T : Type 0} where
       let both : no_lents (c - a) ≡ no_lents (b - a) ++ no_lents (c - b) =
       ap (λ (n : ℕ). replicate n nothing) (sym whole) ∙ sym (replicate-append-replicate (b - a) (c - b) nothing) in
       let at : a + length (no_lents (b - a)) ≡ b = omega (arith, length-replicate (b - a) nothing) in
-      ap (λ (xs : List (Option (Lent T))). stretch (placed r.plan r.number) a xs) both ∙ stretch_both (placed r.plan r.number) a (no_lents (b - a)) (no_lents (c - b))
+      ap (λ (xs : List (Option (Lent T))). stretch (placed r.plan r.number) a xs) both
+      ∙ stretch_both (placed r.plan r.number) a (no_lents (b - a)) (no_lents (c - b))
       ∙ ap (λ (n : ℕ). blanks_between r a b ++ stretch (placed r.plan r.number) n (no_lents (c - b))) at
 
 -- a completion of all below n
@@ -79,7 +80,8 @@ module _ {T : Type 0} (e : ReceiverStand T) (n t c : ℕ) (parts : List (Token T
       fits_completed step e' parts' stored same =
           let knows : e'.knows ≡ completed_to e.knows n = stored.1 ∙ ap (λ (x : ReceiverStand T). completed_to x.knows n) in_front in
           let hand : e'.hand ≡ blanks_between e.knows n t =
-          stored.2 ∙ ap (λ (h : Hand T). drop (length (given_by_completion u.knows n)) h) may_give ∙ drop-append_seam (given_by_completion u.knows n) (blanks_between e.knows n t) in
+          stored.2 ∙ ap (λ (h : Hand T). drop (length (given_by_completion u.knows n)) h) may_give
+          ∙ drop-append_seam (given_by_completion u.knows n) (blanks_between e.knows n t) in
           let done = F.completed in let near = F.near in let all = F.taken in
           subst (λ (x : ReceiverRecord T × Hand T). ReceiverFits (record e' { knows = x.0; hand = x.1 }) t n parts') (λ i. (sym knows i, sym hand i)) (record {
             taken = F.taken;
@@ -89,7 +91,8 @@ module _ {T : Type 0} (e : ReceiverStand T) (n t c : ℕ) (parts : List (Token T
             parts = record {
               count = same.count ∙ F.parts.count;
               held = λ s l low at. (let inside = at_below e.knows.received s l at in
-                  same.others (cell_of e.knows.plan s) (λ q from to. slots_differ e.knows.plan.size q s (λ (z : q ≡ s). omega arith) (omega arith) (omega arith))
+                  same.others (cell_of e.knows.plan s)
+                  (λ q from to. slots_differ e.knows.plan.size q s (λ (z : q ≡ s). omega arith) (omega arith) (omega arith))
                   ∙ F.parts.held s l (omega arith) at);
             };
             hand = ap (λ (m : ℕ). blanks_between e.knows n m) F.taken;

@@ -19,7 +19,7 @@ use Rattle.dr_plain.specs.Inside.Fits.{no_lents}
 use Rattle.dr_plain.specs.Inside.Hands.{with_hand}
 use Rattle.dr_plain.specs.Inside.Seats.{Hand, lent_all}
 use Rattle.dr_plain.specs.Inside.Trades.{parts_between, blanks_between, PartsTaken, SamePlaces, ArePartsBetween}
-use Rattle.dr_plain.proofs.Lists.{there}
+use Rattle.dr_runs.proofs.Elements.{there}
 use Rattle.dr_plain.proofs.Parts.{at_slice}
 
 module _ {X : Type 0} where

@@ -9,14 +9,15 @@ use Rattle.dr_core.specs.declared.command.Reply.TheVariants.{Written}
 use Rattle.dr_core.specs.Meaning.Machine.{State, refusals, accepted, step}
 use Rattle.dr_core.proofs.Steps.{unless-none}
 use Rattle.dr_plain.specs.Meaning.Shape.{Shape, ring_setup}
-use Rattle.dr_plain.specs.Meaning.Words.{cursor_word}
+use Rattle.dr_runs.specs.Words.{cursor_word}
 use Rattle.dr_plain.specs.Meaning.Records.{claimed}
 use Rattle.dr_plain.specs.Meaning.Rule.{World, KeepsRule}
 use Rattle.dr_plain.specs.Meaning.Moments.{picture_of}
 use Rattle.dr_plain.specs.Meaning.Replies.{picture_with, open_writes}
 use Rattle.dr_plain.proofs.Keeps.{word_at}
-use Rattle.dr_plain.proofs.Machine.{Leads, leads_one, owner_is, values_of, next_place}
+use Rattle.dr_plain.proofs.Machine.{Leads, values_of, next_place}
 use Rattle.dr_plain.proofs.Pictures.{sent, sent_count}
+use Rattle.dr_runs.proofs.OneSender.{leads_one, owner_is}
 
 abbrev no_value : (T : Type 0) → Option T
 no_value T = None
@@ -53,7 +54,7 @@ module _ {T : Type 0} where
         (subst (λ (xs : List (Option T)). Leads k (open_writes (s + 1) ws) (wrote (vs ++ None ∷ [])) (wrote xs)) (append_assoc vs (None ∷ []) ws) rest)
     lead_open (Some e ∷ ws) vs s count le within =
         let rest = lead_open ws (vs ++ Some e ∷ []) (s + 1) (let l = length_push vs (Some e) in omega arith) (omega arith) (omega arith) in
-        leads_one k (Write 0 s e) Written [] (open_writes (s + 1) ws) (wrote vs) (wrote (vs ++ Some e ∷ [])) (wrote (vs ++ Some e ∷ ws))
+        leads_one (ring_setup k) (Write 0 s e) Written [] (open_writes (s + 1) ws) (wrote vs) (wrote (vs ++ Some e ∷ [])) (wrote (vs ++ Some e ∷ ws))
         (write_one vs s e count le (omega arith))
         (subst (λ (xs : List (Option T)). Leads k (open_writes (s + 1) ws) (wrote (vs ++ Some e ∷ [])) (wrote xs)) (append_assoc vs (Some e ∷ []) ws) rest)
 

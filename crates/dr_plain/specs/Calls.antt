@@ -2,7 +2,6 @@
 pub mod Plans
 pub mod Finds
 pub mod Ends
-pub mod Fault
 pub mod Making
 pub mod Settling
 pub mod Sending

@@ -12,3 +12,4 @@ pub mod Scans
 pub mod Lending
 pub mod Polling
 pub mod Gathering
+pub mod Finishing

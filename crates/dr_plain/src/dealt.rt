@@ -1,11 +1,14 @@
 //! Rows of tokens, one a cell or a slot. None has any bytes.
 
 ghost use Rattle.std.specs.Fn.{FnOnceReturnsAtMut};
-ghost use Rattle.std.specs.Prelude.{◌≡◌, ◌<◌, ℕ, replicate, length, slice_set, IfOk};
+ghost use Rattle.std.specs.Prelude.{◌≡◌, ◌<◌, ℕ, replicate, length, map, slice_set, Some, IfOk};
 ghost use mathlib.Core.Option.{some};
 ghost use lib.ListN.{get_elem?};
-ghost use Rattle.dr_cells.specs.Hold.{whole, IsWhole};
-ghost use Rattle.dr_cells.specs.Tokens.{no_token, token_at, IsAll, IsOf};
+ghost use Rattle.dr_cells.specs.declared.token.Token.{Token as TokenValue};
+ghost use Rattle.dr_cells.specs.Hold.{whole, IsWhole, CanJoin, joined, IsBack, regained};
+ghost use Rattle.dr_cells.specs.Tokens.{no_token, token_at, with_hold, IsAll, IsOf};
+ghost use Rattle.dr_plain.specs.Inside.Fits.{cells_of};
+ghost use Rattle.dr_plain.specs.Inside.Finishing.{AreAllWhole};
 
 use dr_cells::{Cells, Row, Token};
 use std::alloc::{AllocError, Global};
@@ -71,4 +74,49 @@ pub(crate) fn at<S>(row: &Vec<S>, place: usize) -> &S
     ensures { get_elem? row.now.items place ≡ some result.now }
 {
     &row[place]
+}
+
+/// As many empty rows of tokens.
+pub(crate) fn empty_hands<T>(alloc: Global, count: usize) -> Result<Vec<Vec<Token<T>>>, AllocError>
+    ensures { IfOk result (λ hands. length hands.items ≡ count) }
+{
+    let mut hands = Vec::with_capacity(alloc, count)?;
+    for made in 0..count {
+        hands.push(Vec::new(alloc))?;
+    }
+    Ok(hands)
+}
+
+/// A part comes back to the token of its cell.
+pub(crate) fn join_at<T>(tokens: &mut Vec<Token<T>>, place: usize, part: Token<T>)
+    requires { (t : TokenValue T) × (get_elem? tokens.old.items place ≡ some t) × CanJoin t.hold part.hold }
+    ensures { (t : TokenValue T) × (get_elem? tokens.old.items place ≡ some t) × (tokens.new.items ≡ slice_set tokens.old.items place (with_hold t (joined t.hold))) }
+{
+    let mut token = put_at(tokens, place, Token::blank());
+    token.join(part);
+    put_at(tokens, place, token);
+}
+
+/// A cell is whole again, since each part of it is back.
+pub(crate) fn regain_at<T>(tokens: &mut Vec<Token<T>>, place: usize)
+    requires { (t : TokenValue T) × (get_elem? tokens.old.items place ≡ some t) × IsBack t.hold }
+    ensures { (t : TokenValue T) × (get_elem? tokens.old.items place ≡ some t) × (tokens.new.items ≡ slice_set tokens.old.items place (with_hold t (regained t.hold))) }
+{
+    let mut token = put_at(tokens, place, Token::blank());
+    token.regain();
+    put_at(tokens, place, token);
+}
+
+/// The row of all cells of a strip, from their tokens.
+pub(crate) fn whole_row<T>(cells: Cells<T>, mut tokens: Vec<Token<T>>) -> Row<T>
+    requires { AreAllWhole cells.ptr tokens.items }
+    ensures all { IsAll cells.ptr (length tokens.items) result }
+    ensures items { map (λ x. Some x) result.items ≡ cells_of tokens.items }
+{
+    let mut row = Row::none(cells);
+    for place in 0..tokens.len() {
+        let token = put_at(&mut tokens, place, Token::blank());
+        row.give(token);
+    }
+    row
 }

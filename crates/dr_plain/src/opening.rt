@@ -11,22 +11,21 @@ ghost use Rattle.dr_plain.specs.Meaning.Moments.{fresh_receivers};
 ghost use Rattle.dr_runs.specs.Seats.{fresh_seat};
 ghost use Rattle.dr_plain.specs.Inside.Seats.{IsAtTable, known_receivers};
 ghost use Rattle.dr_plain.specs.Inside.Making.{AreFreshStands, IsPrepared};
-ghost use Rattle.dr_plain.specs.Calls.Settling.{AreAllEnds};
+ghost use Rattle.dr_plain.specs.Calls.Settling.{AreAllEnds, IsHalterOf};
 ghost use Rattle.dr_plain.specs.Calls.Making.{at_ring, AreFreshEnds, fault_of};
 
-use crate::dealt::{blanks, deal};
-use crate::fault::RingFault;
+use crate::dealt::{blanks, deal, empty_hands};
 use crate::laws::{Halter, ReceiverStation, RingBody, RingSeat, RingTable, SenderStation};
 use crate::plan::Plan;
 use crate::receiver::Receiver;
 use crate::record::View;
 use crate::sender::Sender;
 use crate::settled::HandlerCounts;
-use crate::written::Written;
 use atomic_table::Split;
 use dr_cells::{Cells, Row, Strip, Token};
 use dr_core::is_valid_limit;
 use dr_graph::Graph;
+use dr_runs::{RingFault, Written};
 use dr_seq::{GateCache, Size};
 use std::alloc::{AllocError, Global};
 use std::sync::Arc;
@@ -113,6 +112,7 @@ struct Prepared<T> {
     written: Written,
     tokens: Vec<Token<T>>,
     counts: Vec<HandlerCounts>,
+    hands: Vec<Vec<Token<T>>>,
 }
 
 fn prepare<T>(
@@ -129,6 +129,7 @@ fn prepare<T>(
     let written = Written::new(alloc, size)?;
     let tokens = blanks(alloc, size.get() as usize)?;
     let counts = vec![in alloc; HandlerCounts::NONE; plan.handlers()]?;
+    let hands = empty_hands(alloc, plan.handlers())?;
     let (station, receivers, halter) = stations(alloc, plan)?;
     Ok(Prepared {
         station,
@@ -137,6 +138,7 @@ fn prepare<T>(
         written,
         tokens,
         counts,
+        hands,
     })
 }
 
@@ -157,6 +159,7 @@ fn ends<T>(
         written,
         mut tokens,
         counts,
+        hands,
     } = prepared;
     deal(row, strip.cells, &mut tokens);
     let sender = Sender {
@@ -167,6 +170,7 @@ fn ends<T>(
         written,
         tokens,
         counts,
+        hands,
         strip,
     };
     (sender, receivers, halter)
@@ -189,6 +193,7 @@ pub fn ring<T: Drop>(
     requires events { length events.items ≡ size }
     ensures made { IfOk result (λ made. (strip : Ptr) × AreFreshEnds (record { upstreams = graph.now.upstreams; size = size; limit = limit; strip = strip }) events.items made.0 made.1.items made.2) }
     ensures all { IfOk result (λ made. AreAllEnds made.0 made.1.items) }
+    ensures halter { IfOk result (λ made. IsHalterOf made.0 made.2) }
     ensures fits { IsOk result → is_bad_limit limit ≡ false }
     ensures refused { IfErr result (λ fault. fault ≡ fault_of limit) }
 {

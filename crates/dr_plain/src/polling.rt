@@ -1,24 +1,15 @@
-//! What a poll is made of: the looks, at the last of which it takes, and the answer where nothing is
-//! offered.
+//! What a poll is made of: the looks, at the last of which it takes.
 
 ghost use Rattle.std.specs.Prelude.{◌≡◌, ◌<◌, ◌≤◌, [], ◌∷◌, length, Contains};
-ghost use Rattle.dr_plain.specs.Meaning.Words.{cursor_word, count_word as count_word_of};
-ghost use Rattle.dr_plain.specs.Meaning.Records.{look};
+ghost use Rattle.dr_runs.specs.Words.{cursor_word, count_word as count_word_of};
+ghost use Rattle.dr_runs.specs.Looks.{look};
 ghost use Rattle.dr_plain.specs.Calls.Ends.{HasLoaded};
 ghost use Rattle.dr_plain.specs.Calls.Finds.{FindsEvents};
-ghost use Rattle.dr_plain.specs.Calls.Receiving.{lesser_of};
-ghost use Rattle.dr_plain.specs.Inside.Polling.{ups_of, receiver_saw, cursor_seen, IsNear, LooksAtFirst, LooksRound, nothing_offered as answer_of};
+ghost use Rattle.dr_plain.specs.Inside.Polling.{ups_of, receiver_saw, cursor_seen, IsNear, LooksAtFirst, LooksRound};
 
 use crate::laws::ReceiverStation;
-use dr_core::Polled;
+use dr_runs::lesser;
 use std::marker::Brand;
-
-// The lesser of a count and those seen before, or the count where it is the first.
-fn lesser(first: bool, count: u64, seen: u64) -> u64
-    ensures { result ≡ lesser_of first count seen }
-{
-    if first || count < seen { count } else { seen }
-}
 
 impl<T> ReceiverStation<T> {
     // Looks at the cursor, and takes nothing.
@@ -82,18 +73,5 @@ impl<T> ReceiverStation<T> {
         }
         let cursor = self.look_at_cursor::<Brand>(room);
         (cursor, cursor)
-    }
-}
-
-/// What a poll answers where its barrier offers nothing.
-pub(crate) fn nothing_offered(closed: u64, cursor: u64, taken: u64) -> Polled
-    ensures { result ≡ answer_of closed cursor taken }
-{
-    if closed == 1 && cursor == taken {
-        Polled::Drained
-    } else if cursor > taken {
-        Polled::Gating
-    } else {
-        Polled::Idle
     }
 }

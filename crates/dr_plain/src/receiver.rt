@@ -1,13 +1,13 @@
 //! An end that receives every event.
 
 ghost use Rattle.std.specs.Prelude.{◌≡◌, ◌<◌, ◌^◌, length, IfSome, IfNone};
-ghost use Rattle.dr_plain.specs.Calls.Ends.{looks_counted};
+ghost use Rattle.dr_runs.specs.Looks.{looks_counted};
 ghost use Rattle.dr_plain.specs.Calls.Receiving.{PollCall, CompleteCall, ReadsInHand, IsNotInHand};
 
 use crate::laws::ReceiverStation;
-use crate::polling::nothing_offered;
 use dr_cells::Token;
 use dr_core::{Polled, Refusal};
+use dr_runs::nothing_offered;
 use std::marker::Model;
 
 /// The end of one handler, which receives every event after its upstreams. No call waits or takes

@@ -1,13 +1,8 @@
 //! What the ends of a ring know. No value of a record is ever made: they stand in proofs alone.
 
 use crate::plan::Plan;
+use dr_runs::Look;
 use std::collections::LinkedList;
-
-/// A load of a word that another end stores: which word, and what was found.
-pub struct Look {
-    pub word: u64,
-    pub value: u64,
-}
 
 /// An event as it was lent to all handlers: which lending of its cell, and the event.
 pub struct Lent<T> {

@@ -1,15 +1,15 @@
 //! The one end that claims, writes and publishes.
 
 ghost use Rattle.std.specs.Prelude.{◌≡◌};
-ghost use Rattle.dr_plain.specs.Calls.Ends.{looks_counted};
+ghost use Rattle.dr_runs.specs.Looks.{looks_counted};
 ghost use Rattle.dr_plain.specs.Calls.Sending.{ClaimCall, WriteCall, PublishCall, CloseCall};
 
 use crate::dealt::{put_at, write_in};
 use crate::laws::SenderStation;
 use crate::settled::HandlerCounts;
-use crate::written::Written;
 use dr_cells::{Strip, Token};
 use dr_core::{Claimed, Refusal};
+use dr_runs::Written;
 use dr_seq::GateCache;
 use std::marker::{Brand, Model};
 
@@ -24,12 +24,14 @@ pub struct Sender<T> {
     pub(crate) written: Written,
     // What the sender has of each cell.
     pub(crate) tokens: Vec<Token<T>>,
-    // Room for each handler's counts, since the ends come together without taking memory.
+    // Room for each handler's counts and tokens, since the ends come together without taking memory.
     pub(crate) counts: Vec<HandlerCounts>,
+    pub(crate) hands: Vec<Vec<Token<T>>>,
     pub(crate) strip: Strip<T>,
 }
 
 impl<T> Model for Sender<T> {
+    ghost use Rattle.std.specs.Prelude.{length};
     ghost use Rattle.dr_plain.specs.Calls.Ends.{SenderEnd};
     ghost use Rattle.dr_plain.specs.Inside.Fits.{SenderFits, cells_of};
     ghost use Rattle.dr_plain.specs.Inside.Views.{sender_end};
@@ -38,7 +40,7 @@ impl<T> Model for Sender<T> {
 
     ghost view = { λ s. sender_end s.station s.written (cells_of s.tokens.items) };
 
-    ghost invariant = { λ s. SenderFits s.station (record { claimed_to = s.claimed; published_to = s.published; remembered = s.gate; written = s.written; tokens = s.tokens.items; rooms = s.counts.items; strip = s.strip.cells.ptr; cells = s.strip.len }) };
+    ghost invariant = { λ s. SenderFits s.station (record { claimed_to = s.claimed; published_to = s.published; remembered = s.gate; written = s.written; tokens = s.tokens.items; rooms = s.counts.items; hands = length s.hands.items; strip = s.strip.cells.ptr; cells = s.strip.len }) };
 }
 
 impl<T> Sender<T> {

@@ -1,20 +1,7 @@
-//! All ends of a ring come together.
+//! How far a ring came.
 
-ghost use Rattle.std.specs.Prelude.{◌≡◌, ◌<◌, length, map};
-ghost use Rattle.std.specs.Arc.{arc_value};
-ghost use Rattle.dr_runs.specs.Gathering.{Gathers};
-ghost use Rattle.dr_plain.specs.Meaning.Records.{claimed as claimed_of};
-ghost use Rattle.dr_plain.specs.Meaning.Settling.{Settles};
-ghost use Rattle.dr_plain.specs.Calls.Settling.{AreAllEnds, HasRun, handler_counts, counts_at};
-ghost use Rattle.dr_plain.specs.Inside.Seats.{IsAtTable, ring_ends};
-ghost use Rattle.dr_plain.specs.Inside.Gathering.{AreOfRing, receiver_known};
-
-use crate::laws::{RingBody, RingSeat, moments, settling};
-use crate::receiver::Receiver;
-use crate::sender::Sender;
-use std::alloc::Global;
-use std::marker::Brand;
-use std::sync::Arc;
+ghost use Rattle.std.specs.Prelude.{◌≡◌, ◌<◌, length};
+ghost use Rattle.dr_plain.specs.Calls.Settling.{counts_at};
 
 /// How many events a handler took and completed.
 #[derive(Clone, Copy, Debug, PartialEq, Eq)]
@@ -36,9 +23,9 @@ const _: () = prove!(HandlerCounts::NONE.taken == 0 && HandlerCounts::NONE.compl
 /// How far a ring came.
 #[derive(Drop)]
 pub struct Settled {
-    claimed: u64,
-    published: u64,
-    handlers: Vec<HandlerCounts>,
+    pub(crate) claimed: u64,
+    pub(crate) published: u64,
+    pub(crate) handlers: Vec<HandlerCounts>,
 }
 
 impl Settled {
@@ -77,57 +64,5 @@ impl Settled {
         ensures { result ≡ (counts_at self.now.handlers.items handler).completed }
     {
         self.handlers[handler].completed
-    }
-}
-
-// A receiver's seat comes to the sender's, and its counts to their place.
-fn gather<T>(
-    ring: &Arc<RingBody<T>, Global>,
-    seat: &mut RingSeat<T>,
-    mut receivers: Vec<Receiver<T>>,
-    counts: &mut Vec<HandlerCounts>,
-)
-    requires table { IsAtTable seat.old.table_id (arc_value ring.now).table.shared.table_id (arc_value ring.now).plan }
-    requires receivers { AreOfRing seat.old.table_id receivers.items }
-    requires places { length counts.old.items ≡ length receivers.items }
-    ensures seat { seat.new.table_id ≡ seat.old.table_id }
-    ensures view { Gathers ring_ends seat.old.me.0 (map receiver_known receivers.items) seat.new.me.0 }
-    ensures counts { counts.new.items ≡ map (λ e. handler_counts e.knows) receivers.items }
-{
-    while let Some(receiver) = receivers.pop() {
-        counts[receivers.len()] = HandlerCounts {
-            taken: receiver.taken,
-            completed: receiver.completed,
-        };
-        let station = receiver.station;
-        settling::take_in(&ring.table.shared, seat, station.seat);
-    }
-}
-
-/// Brings all ends of a ring together, but for the halter. It takes no memory. The events stay where
-/// they are: they are never dropped, and their memory is not freed.
-///
-/// Each receiver has the beginning of what the sender published, all of it where it was told that
-/// the ring drained; no handler took more than its upstreams completed; and no more is claimed
-/// than a round beyond what each final handler completed. There is one run of all ends that came
-/// to what they know, in which each end stored exactly what it did, and its transcript is lawful.
-pub fn settle<T>(sender: Sender<T>, receivers: Vec<Receiver<T>>) -> Settled
-    requires { AreAllEnds sender receivers.items }
-    ensures claimed { result.claimed ≡ claimed_of sender.knows }
-    ensures published { result.published ≡ length sender.knows.published }
-    ensures handlers { result.handlers.items ≡ map (λ e. handler_counts e.knows) receivers.items }
-    ensures lists { Settles sender.knows (map (λ e. e.knows) receivers.items) }
-    ensures run { HasRun sender receivers.items }
-{
-    let station = sender.station;
-    let mut seat = station.seat;
-    let mut counts = sender.counts;
-    gather(&station.ring, &mut seat, receivers, &mut counts);
-    settling::compare::<T, Brand>(&station.ring.table.shared, &mut seat);
-    moments::<T>();
-    Settled {
-        claimed: sender.claimed,
-        published: sender.published,
-        handlers: counts,
     }
 }

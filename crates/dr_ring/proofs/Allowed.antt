@@ -10,12 +10,14 @@ use Rattle.dr_graph.specs.Meaning.Graph.{upstreams_of, finals}
 use Rattle.dr_runs.specs.Seats.{end_of, seat_at}
 use Rattle.dr_runs.proofs.Seats.{adds_nothing, adds_one}
 use Rattle.dr_ring.specs.Meaning.Shape.{Shape, handlers_of}
-use Rattle.dr_ring.specs.Meaning.Words.{cursor_word, closed_word, halt_word, count_word, payload_word}
+use Rattle.dr_ring.specs.Meaning.Words.{payload_word, payload_start}
+use Rattle.dr_runs.specs.Words.{cursor_word, closed_word, halt_word, count_word}
 use Rattle.dr_ring.specs.declared.record.HalfWrite.{HalfWrite}
 use Rattle.dr_ring.specs.declared.record.SenderRecord.{SenderRecord}
 use Rattle.dr_ring.specs.declared.record.ReceiverRecord.{ReceiverRecord}
 use Rattle.dr_ring.specs.declared.record.HalterRecord.{HalterRecord}
-use Rattle.dr_ring.specs.Meaning.Records.{claimed, last_look, sender_looked, halt_looked, half_written, written, published_to, sender_halted, sender_closed, receiver_looked, cursor_looked, half_taken, took, completed_to, halter_halted, SeesRoom, IsOpen, AreWritten, IsBelowBarrier}
+use Rattle.dr_ring.specs.Meaning.Records.{claimed, sender_looked, halt_looked, half_written, written, published_to, sender_halted, sender_closed, receiver_looked, cursor_looked, half_taken, took, completed_to, halter_halted, SeesRoom, IsOpen, AreWritten, IsBelowBarrier}
+use Rattle.dr_runs.specs.Looks.{last_look}
 use Rattle.dr_ring.specs.Meaning.Rule.{World, KeepsRule}
 use Rattle.dr_ring.specs.declared.record.Step.{Step}
 use Rattle.dr_ring.specs.declared.record.Step.TheVariants.{SenderLooksAtCount, SenderLooksAtHalt, SenderStoresFirst, SenderStoresSecond, SenderPublishes}
@@ -24,7 +26,9 @@ use Rattle.dr_ring.specs.declared.record.Step.TheVariants.{ReceiverLoadsFirst, R
 use Rattle.dr_ring.specs.Meaning.Steps.{Happens}
 use Rattle.dr_ring.specs.Calls.Finds.{FindsHalt}
 use Rattle.dr_ring.specs.Inside.Seats.{End, Sitting, ring_ends, Loads, Stores, world_of, Ruled, as_sender, as_receiver, as_halter, sender_of, receiver_of, halter_of, IsSender, IsReceiver, IsHalter, SenderLookedAtCount, SenderLookedAtHalt, SenderStoredFirst, SenderStoredSecond, SenderPublished, SenderHalted, SenderClosed, ReceiverLookedAtClosed, ReceiverLookedAtCursor, ReceiverLookedAtCount, ReceiverLoadedFirst, ReceiverLoadedSecond, ReceiverCompleted, HalterHalted}
-use Rattle.dr_ring.proofs.Lists.{at_below, final_inside, last_look_le}
+use Rattle.dr_runs.proofs.Elements.{at_below}
+use Rattle.dr_runs.proofs.Offers.{final_inside}
+use Rattle.dr_runs.proofs.Looks.{last_look_le}
 use Rattle.dr_ring.proofs.Keeps.{receiver_of_handler, upstream_inside}
 use Rattle.dr_ring.proofs.Seats.{by_sender, by_receiver, by_halter}
 
@@ -68,7 +72,7 @@ look_at_final k w r f e has K =
     let i = count_word f in let n = get_or w.words i 0 in let inside = final_inside k.upstreams f has in let t = receiver_of_handler k w K f inside in
     let a = t.2.count in let b = t.2.completed in let c = t.2.taken in
     subst (λ (q : SenderRecord). Happens k (SenderLooksAtCount f) w (world_of w.words (sender_looked q i n) w.receivers w.halter) × (last_look 0 q.looks i ≤ n) × (n ≤ length q.sent.published)) e
-    ((has, refl), last_look_le k w.words 0 w.sender.looks i (omega arith) K.looks, omega arith)
+    ((has, refl), last_look_le (payload_start k) w.words 0 w.sender.looks i (omega arith) K.looks, omega arith)
 
 pub sender_looks_at_count : (k : Shape) {sh : Shape} {slots : ℕ} (id : ℕ) (me : Sitting) (i f : ℕ) → i ≡ count_word f → IsSender (end_of me)
     → (sender_of me.0.ends).plan ≡ sh → Contains (finals sh.upstreams) f
@@ -96,7 +100,7 @@ sender_looks_at_halt k {sh = sh} {slots = slots} id me n m named is plan room =
     (subst (λ (q : SenderRecord). (0 < n → SeesRoom k q n) → Happens k (SenderLooksAtHalt n) w (world_of w.words (halt_looked q n found) w.receivers w.halter)) e
     (λ room. (room, refl)) (subst (λ (p : Shape). 0 < n → SeesRoom p r n) (sender_plan k sh w r e plan K) room))))
     (λ w e K. subst (λ (q : SenderRecord). (as_sender (halt_looked r n (get_or w.words halt_word 0)) ≡ as_sender (halt_looked r n (get_or w.words halt_word 0))) × FindsHalt q (get_or w.words halt_word 0)) e
-    (refl, (last_look_le k w.words 0 w.sender.looks halt_word (omega arith) K.looks, K.flags.halt, K.flags.by_sender)))))
+    (refl, (last_look_le (payload_start k) w.words 0 w.sender.looks halt_word (omega arith) K.looks, K.flags.halt, K.flags.by_sender)))))
 
 pub sender_stores_first : (k : Shape) {sh : Shape} {slots : ℕ} (id : ℕ) (me : Sitting) (i s m v : ℕ) → s ≡ m → i ≡ payload_word sh s 0 → IsSender (end_of me)
     → (sender_of me.0.ends).plan ≡ sh → IsOpen (sender_of me.0.ends) s → (sender_of me.0.ends).half ≡ None
@@ -167,7 +171,7 @@ receiver_looks_at_closed k {slots = slots} id me is = along_receiver (λ m. MayL
     by_receiver k slots id (ReceiverLooksAtClosed r.number) (λ stores. stores) me.0.pasts r closed_word (λ n. n) (λ n. receiver_looked r closed_word n) (ReceiverLookedAtClosed (step slots closed_word 0 0 none) (as_receiver r)) (λ n. refl) (adds_nothing ring_ends (r.number + 2) (ReceiverLooksAtClosed r.number) (λ n. refl))
     (λ w at K. same_words k (ReceiverLooksAtClosed r.number) w closed_word w.sender (set w.receivers r.number (receiver_looked r closed_word (get_or w.words closed_word 0))) w.halter (r, at, refl))
     (λ w at K. (let was = K.received r.number r at in
-    (refl, (last_look_le k w.words 0 r.looks closed_word (omega arith) was.looks, K.flags.close, λ told. (was.told told).0)))))
+    (refl, (last_look_le (payload_start k) w.words 0 r.looks closed_word (omega arith) was.looks, K.flags.close, λ told. (was.told told).0)))))
 
 pub receiver_looks_at_cursor : (k : Shape) {slots : ℕ} (id : ℕ) (me : Sitting) → IsReceiver (end_of me)
     → MayLoad k slots id me cursor_word ReceiverLookedAtCursor
@@ -176,7 +180,7 @@ receiver_looks_at_cursor k {slots = slots} id me is = along_receiver (λ m. MayL
     by_receiver k slots id (ReceiverLooksAtCursor r.number) (λ stores. stores) me.0.pasts r cursor_word (λ n. n) (λ n. cursor_looked r n) (ReceiverLookedAtCursor (step slots cursor_word 0 0 none) (as_receiver r)) (λ n. refl) (adds_nothing ring_ends (r.number + 2) (ReceiverLooksAtCursor r.number) (λ n. refl))
     (λ w at K. same_words k (ReceiverLooksAtCursor r.number) w cursor_word w.sender (set w.receivers r.number (cursor_looked r (get_or w.words cursor_word 0))) w.halter (r, at, refl))
     (λ w at K. (let was = K.received r.number r at in let t = was.taken in let c = K.counts.cursor in
-    (refl, (last_look_le k w.words 0 r.looks cursor_word (omega arith) was.looks, omega arith, λ told. (let d = (was.told told).1 in omega arith))))))
+    (refl, (last_look_le (payload_start k) w.words 0 r.looks cursor_word (omega arith) was.looks, omega arith, λ told. (let d = (was.told told).1 in omega arith))))))
 
 -- what a look at an upstream's count tells
 tells_count : (k : Shape) (w : World) (r : ReceiverRecord) (u : ℕ) → get_elem? w.receivers r.number ≡ some r
@@ -199,7 +203,7 @@ receiver_looks_at_count k {sh = sh} {slots = slots} id me i h u here is plan num
     (λ w at K. same_words k (ReceiverLooksAtCount r.number u) w i w.sender (set w.receivers r.number (receiver_looked r i (get_or w.words i 0))) w.halter
     (r, at, (subst (λ (p : Shape). Contains (upstreams_of p.upstreams r.number) u) (receiver_plan k sh w r.number r at plan K) mine, refl)))
     (λ w at K. (let t = tells_count k w r u at (subst (λ (p : Shape). Contains (upstreams_of p.upstreams r.number) u) (receiver_plan k sh w r.number r at plan K) mine) K in
-    let inside = t.0 in (refl, (last_look_le k w.words 0 r.looks i (omega arith) (K.received r.number r at).looks, t.1, t.2))))))
+    let inside = t.0 in (refl, (last_look_le (payload_start k) w.words 0 r.looks i (omega arith) (K.received r.number r at).looks, t.1, t.2))))))
 
 pub receiver_loads_first : (k : Shape) {sh : Shape} {slots : ℕ} (id : ℕ) (me : Sitting) (i h n : ℕ) → i ≡ payload_word sh n 0 → IsReceiver (end_of me)
     → (receiver_of me.0.ends).plan ≡ sh → (receiver_of me.0.ends).number ≡ h → n ≡ length (receiver_of me.0.ends).received

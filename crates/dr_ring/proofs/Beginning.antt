@@ -1,18 +1,20 @@
 -- A ring at its opening.
-use Rattle.std.proofs.Common.{◌≡◌, ℕ, zero, suc, ◌+◌, ◌<◌, inl, inr, ◌==◌, List, [], ◌∷◌, length, get_or, map, replicate, sym, refl, ap, ◌∙◌, subst, arith}
+use Rattle.std.proofs.Common.{◌≡◌, ℕ, zero, suc, ◌+◌, ◌<◌, ◌==◌, List, [], ◌∷◌, length, get_or, map, replicate, sym, refl, ap, ◌∙◌, subst, arith}
 use Rattle.std.specs.Prelude.{nat_lt}
 use Rattle.std.specs.List.{range_with_len}
-use Rattle.std.proofs.lemmas.Bool.{cases_lt, le-ltb}
-use Rattle.std.proofs.lemmas.List.{length-replicate, get_or-replicate, get_or_past}
+use Rattle.std.proofs.lemmas.Bool.{le-ltb}
+use Rattle.std.proofs.lemmas.List.{length-replicate}
 use mathlib.Core.Option.{some, some-injective, some-ne-none}
 use lib.ListN.{get_elem?}
 use Rattle.dr_graph.specs.Meaning.Graph.{IsGraph}
 use Rattle.dr_core.specs.Meaning.Machine as machine
 use Rattle.dr_ring.specs.Meaning.Shape.{Shape, handlers_of, ring_setup}
-use Rattle.dr_ring.specs.Meaning.Words.{cursor_word, closed_word, halt_word, count_word, words_of}
+use Rattle.dr_ring.specs.Meaning.Words.{words_of}
+use Rattle.dr_runs.specs.Words.{cursor_word, closed_word, halt_word, count_word}
 use Rattle.dr_ring.specs.declared.record.ReceiverRecord.{ReceiverRecord}
 use Rattle.dr_ring.specs.Meaning.Rule.{KeepsRule, ReceiverKept}
 use Rattle.dr_ring.specs.Meaning.Moments.{fresh_receiver, fresh_receivers, new_world, taken_of, picture_of}
+use Rattle.dr_runs.proofs.Elements.{zeros, all_zero}
 
 pub fresh_at : (k : Shape) (h n i : ℕ) (r : ReceiverRecord) → get_elem? (fresh_receivers k h n) i ≡ some r → r ≡ fresh_receiver k (h + i)
 fresh_at k h zero i r e = absurd (some-ne-none r (sym e))
@@ -22,17 +24,6 @@ fresh_at k h (suc n) (suc i) r e = fresh_at k (suc h) n i r e ∙ (let s : suc h
 pub fresh_count : (k : Shape) (h n : ℕ) → length (fresh_receivers k h n) ≡ n
 fresh_count k h zero = refl
 fresh_count k h (suc n) = ap suc (fresh_count k (suc h) n)
-
-abbrev pub zeros : ℕ → List ℕ
-zeros n = replicate n 0
-
-pub all_zero : (n i : ℕ) → ◌≡◌ {A = ℕ} (get_or (zeros n) i 0) 0
-all_zero n i =
-    let z : ℕ = 0 in
-    elim (cases_lt i n) [
-      | inl lt ↦ get_or-replicate n i z z lt
-      | inr past ↦ get_or_past (zeros n) i 0 (omega (arith, length-replicate n z))
-    ]
 
 pub kept_opening : (k : Shape) → IsGraph k.upstreams → 0 < k.size → KeepsRule k (new_world k)
 kept_opening k graph some_slot = let n = words_of k in let ws = zeros n in let halt = all_zero n halt_word in let close = all_zero n closed_word in record {

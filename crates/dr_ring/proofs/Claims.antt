@@ -14,15 +14,16 @@ use Rattle.dr_core.specs.Calls.Ends.{Sent, MayHold, MayFail, claim_tests, with_c
 use Rattle.dr_core.proofs.BadCounts.{bad_is_not_one, good_is_never_bad}
 use Rattle.dr_graph.specs.Meaning.Graph.{finals}
 use Rattle.dr_ring.specs.Meaning.Shape.{Shape}
-use Rattle.dr_ring.specs.Meaning.Words.{halt_word, count_word}
-use Rattle.dr_ring.specs.declared.record.Look.{Look}
+use Rattle.dr_runs.specs.Words.{halt_word, count_word}
+use Rattle.dr_runs.specs.declared.look.Look.{Look}
 use Rattle.dr_ring.specs.declared.record.SenderRecord.{SenderRecord}
-use Rattle.dr_ring.specs.Meaning.Records.{claimed, look, last_look, halt_looked}
+use Rattle.dr_ring.specs.Meaning.Records.{claimed, halt_looked}
+use Rattle.dr_runs.specs.Looks.{look, last_look}
 use Rattle.dr_ring.specs.Calls.Ends.{count_looks}
 use Rattle.dr_ring.specs.Calls.Sending.{gate_looks, tests_of_claim, FoundRoom, TriesToClaim}
 use Rattle.dr_ring.specs.Inside.Parts.{sender_saw, more_claimed, LooksAtFinals, IsEnough, IsShort}
 use Rattle.dr_ring.specs.Inside.Fits.{IsSeenLeast, SenderFields, SenderFits}
-use Rattle.dr_ring.proofs.Lists.{last_look_else}
+use Rattle.dr_runs.proofs.Looks.{last_look_else}
 use Rattle.dr_ring.proofs.Noting.{noted_claim}
 
 saw_both : (r : SenderRecord) (xs ys : List Look) → sender_saw (sender_saw r xs) ys ≡ sender_saw r (xs ++ ys)

@@ -6,10 +6,11 @@ use Rattle.std.proofs.lemmas.List.{length-append, length-drop, get_or-drop}
 use Rattle.dr_seq.specs.declared.event.Event.{Event}
 use Rattle.dr_seq.specs.Rounds.{is_marked}
 use Rattle.dr_core.specs.Calls.Ends.{written_of}
-use Rattle.dr_ring.specs.declared.written.Written.{Written}
+use Rattle.dr_runs.specs.declared.written.Written.{Written}
 use Rattle.dr_ring.specs.declared.record.SenderRecord.{SenderRecord}
 use Rattle.dr_ring.specs.Meaning.Records.{claimed, published_to, AreWritten}
-use Rattle.dr_ring.specs.Inside.Noted.{Noted, is_noted}
+use Rattle.dr_ring.specs.Inside.Noted.{Noted}
+use Rattle.dr_runs.specs.Noted.{is_noted}
 use Rattle.dr_ring.specs.Inside.Fits.{SenderFields, SenderFits}
 use Rattle.dr_ring.proofs.Events.{open_events, written_count}
 use Rattle.dr_ring.proofs.Halting.{still_claimed}

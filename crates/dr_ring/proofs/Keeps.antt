@@ -1,5 +1,5 @@
 -- Each step keeps the rule.
-use Rattle.std.proofs.Common.{◌≡◌, ◌≢◌, ℕ, ◌+◌, ◌-◌, ◌<◌, ◌≤◌, inl, inr, Bool, ◌==◌, if◌then◌else◌, List, [], ◌∷◌, ◌++◌, length, get_or, set}
+use Rattle.std.proofs.Common.{◌≡◌, ◌≢◌, ℕ, ◌+◌, ◌-◌, ◌%◌, ◌<◌, ◌≤◌, inl, inr, ◌==◌, if◌then◌else◌, List, [], ◌∷◌, ◌++◌, length, get_or, set}
 use Rattle.std.proofs.Common.{replicate, Option, Some, None, sym, refl, ap, ◌∙◌, subst, arith, length-set, get_or-set_same, get_or-set_other}
 use Rattle.std.specs.Prelude.{Contains}
 use Rattle.std.proofs.lemmas.Bool.{cases_eq, cases_lt, eq-eqb, ne_eqb}
@@ -10,15 +10,25 @@ use Rattle.dr_seq.specs.declared.event.Event.{Event}
 use Rattle.dr_graph.specs.Meaning.Graph.{nobody, upstreams_of, IsOrderly, IsGated, IsGraph}
 use Rattle.dr_core.specs.Calls.Ends.{with_claimed}
 use Rattle.dr_ring.specs.Meaning.Shape.{Shape, handlers_of}
-use Rattle.dr_ring.specs.Meaning.Words.{cursor_word, closed_word, halt_word, count_word, payload_start, payload_word, words_of}
+use Rattle.dr_ring.specs.Meaning.Words.{payload_start, payload_word, words_of}
+use Rattle.dr_runs.specs.Words.{cursor_word, closed_word, halt_word, count_word, HaltAndClose}
 use Rattle.dr_ring.specs.declared.record.HalfWrite.{HalfWrite}
-use Rattle.dr_ring.specs.declared.record.Look.{Look}
+use Rattle.dr_runs.specs.declared.look.Look.{Look}
 use Rattle.dr_ring.specs.declared.record.SenderRecord.{SenderRecord}
 use Rattle.dr_ring.specs.declared.record.ReceiverRecord.{ReceiverRecord}
-use Rattle.dr_ring.specs.Meaning.Records.{claimed, look, sender_looked, halt_looked, half_written, written, SeesRoom, IsOpen}
-use Rattle.dr_ring.specs.Meaning.Rule.{World, Room, first_stored, Payload, HaltAndClose, ArePast, ReceiverKept, KeepsRule}
+use Rattle.dr_ring.specs.Meaning.Records.{claimed, sender_looked, halt_looked, half_written, written, SeesRoom, IsOpen}
+use Rattle.dr_runs.specs.Looks.{look}
+use Rattle.dr_ring.specs.Meaning.Rule.{World, Room, first_stored, Payload, ArePast, ReceiverKept, KeepsRule}
 use Rattle.dr_ring.specs.Meaning.Steps.{sender_knows, sender_stores}
-use Rattle.dr_ring.proofs.Lists.{there, at_below, final_inside, contains_none, past_set, past_more, last_look_le, apart}
+use Rattle.dr_seq.proofs.Apart.{slots_differ}
+use Rattle.dr_runs.proofs.Elements.{there, at_below, contains_none}
+use Rattle.dr_runs.proofs.Offers.{final_inside}
+use Rattle.dr_runs.proofs.Looks.{past_set, past_more, last_look_le}
+use Rattle.dr_runs.proofs.Flags.{flags_stay}
+
+-- two sequences less than a round apart have payload words of their own
+pub apart : (k : Shape) (a b i j : ℕ) → a ≢ b → b < a + k.size → a < b + k.size → i < 2 → j < 2 → payload_word k a i ≢ payload_word k b j
+apart k a b i j ne up down low high e = let same : a % k.size ≡ b % k.size = omega arith in slots_differ k.size a b ne down up same
 
 abbrev pub word_at : List ℕ → ℕ → ℕ
 word_at words i = get_or words i 0
@@ -76,19 +86,6 @@ payload_stays k words us published pending half same P = record {
   halves = λ x e. (let d = P.halves x e in (d.0, d.1, same (payload_word k x.sequence 0) (omega arith) ∙ d.2));
 }
 
-pub flags_stay : (words us : List ℕ) (n : ℕ) (a b c : Bool) → word_at us halt_word ≡ word_at words halt_word
-    → word_at us closed_word ≡ word_at words closed_word → HaltAndClose words n a b c → HaltAndClose us n a b c
-flags_stay words us n a b c halt close F = record {
-  halt = let f = F.halt in omega arith;
-  close = let f = F.close in omega arith;
-  by_sender = λ y. halt ∙ F.by_sender y;
-  by_halter = λ y. halt ∙ F.by_halter y;
-  closed = λ y. close ∙ F.closed y;
-  known_halt = λ y. F.known_halt (sym halt ∙ y);
-  known_close = λ y. F.known_close (sym close ∙ y);
-  complete = λ y. let d = F.complete (sym close ∙ y) in (halt ∙ d.0, d.1);
-}
-
 pub receiver_stays : (k : Shape) (words us : List ℕ) (published : List Event) (h : ℕ) (r : ReceiverRecord) → IsGraph k.upstreams → h < handlers_of k
     → word_at us (count_word h) ≡ word_at words (count_word h)
     → ((u : ℕ) → u < handlers_of k → word_at words (count_word u) ≤ word_at us (count_word u))
@@ -130,7 +127,7 @@ sender_learns k w pending looks limit room payload flags past K = record {
 
 pub keeps_sender_looks : (k : Shape) (w : World) (i : ℕ) → i < payload_start k → KeepsRule k w
     → KeepsRule k (sender_knows w (sender_looked w.sender i (word_at w.words i)))
-keeps_sender_looks k w i lt K = sender_learns k w w.sender.sent.pending (sender_looked w.sender i (word_at w.words i)).looks K.counts.limit K.room K.payload K.flags (past_more k w.words i w.sender.looks lt K.looks) K
+keeps_sender_looks k w i lt K = sender_learns k w w.sender.sent.pending (sender_looked w.sender i (word_at w.words i)).looks K.counts.limit K.room K.payload K.flags (past_more (payload_start k) w.words i (word_at w.words i) w.sender.looks lt (omega arith) K.looks) K
 
 payload_claims : (k : Shape) (words : List ℕ) (published : List Event) (pending : List (Option Event)) (half : Option HalfWrite) (n : ℕ)
     → Payload k words published pending half → Payload k words published (pending ++ replicate n None) half
@@ -154,7 +151,7 @@ claims_more k w n room going K =
     let pending = w.sender.sent.pending in let nothing : Option Event = None in let more = pending ++ replicate n nothing in let F = K.flags in
     let longer : length more ≡ length pending + n = omega (arith, length-append pending (replicate n nothing), length-replicate n nothing) in
     sender_learns k w more (w.sender.looks ++ look halt_word (word_at w.words halt_word) ∷ []) (let l = room.limit in omega arith)
-    (λ f final. (let a = room.completed f final in let i = final_inside k.upstreams f final in let b = last_look_le k w.words 0 w.sender.looks (count_word f) (omega arith) K.looks in omega arith))
+    (λ f final. (let a = room.completed f final in let i = final_inside k.upstreams f final in let b = last_look_le (payload_start k) w.words 0 w.sender.looks (count_word f) (omega arith) K.looks in omega arith))
     (payload_claims k w.words w.sender.sent.published pending w.sender.half n K.payload)
     (record {
       halt = F.halt;
@@ -167,7 +164,7 @@ claims_more k w n room going K =
       complete = λ c. absurd (let h = (F.complete c).0 in
           omega arith);
     })
-    (past_more k w.words halt_word w.sender.looks (omega arith) K.looks) K
+    (past_more (payload_start k) w.words halt_word (word_at w.words halt_word) w.sender.looks (omega arith) (omega arith) K.looks) K
 
 abbrev opens : ℕ → ℕ → List (Option Event)
 opens n found = if found == 0 then replicate n None else []
@@ -207,11 +204,11 @@ payload_kept k w i v r low high p1 p2 p3 p4 p5 p6 payload K =
       received = λ h q at. (let inside_h : h < handlers_of k = (let b = at_below w.receivers h q at in let c = K.ends in omega arith) in
           let was = K.received h q at in
           receiver_stays k w.words us w.sender.sent.published h q K.graph inside_h (stays (count_word h) (omega arith)) (λ u lt. (let e = stays (count_word u) (omega arith) in omega arith)) (λ c. close ∙ c)
-          (past_set k w.words i v q.looks inside (λ h. absurd (omega arith)) was.looks) was);
+          (past_set (payload_start k) w.words i v q.looks inside (λ h. absurd (omega arith)) was.looks) was);
       room = (let same : length w.sender.sent.published + length r.sent.pending ≡ claimed w.sender = omega arith in subst (Room k us) (sym same) (room_stays k w.words us (claimed w.sender) (λ h lt. (let e = stays (count_word h) (omega arith) in omega arith)) K.room));
       payload = payload;
       flags = subst (λ (n : ℕ). HaltAndClose us n w.sender.halted w.sender.closed w.halter.halted) (sym p3) (flags_stay w.words us (length w.sender.sent.pending) w.sender.halted w.sender.closed w.halter.halted halt close K.flags);
-      looks = past_set k w.words i v w.sender.looks inside (λ h. absurd (omega arith)) K.looks;
+      looks = past_set (payload_start k) w.words i v w.sender.looks inside (λ h. absurd (omega arith)) K.looks;
     }
 
 stored_here : (s v : ℕ) (event : Event) (t : ℕ) → t ≡ s → first_stored (Some record { sequence = s; first = v }) t event ≡ v

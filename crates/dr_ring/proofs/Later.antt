@@ -14,21 +14,24 @@ use Rattle.dr_core.specs.declared.command.Polled.TheVariants.{Batch, Drained, Ga
 use Rattle.dr_core.specs.Meaning.Machine.{front, offered, available, least_completed}
 use Rattle.dr_core.specs.Meaning.Transcript.{Transcript}
 use Rattle.dr_ring.specs.Meaning.Shape.{Shape, handlers_of, ring_setup}
-use Rattle.dr_ring.specs.Meaning.Words.{cursor_word, closed_word, count_word, payload_start, payload_word}
-use Rattle.dr_ring.specs.declared.record.Look.{Look}
+use Rattle.dr_ring.specs.Meaning.Words.{payload_start, payload_word}
+use Rattle.dr_runs.specs.Words.{cursor_word, closed_word, count_word}
+use Rattle.dr_runs.specs.declared.look.Look.{Look}
 use Rattle.dr_ring.specs.declared.record.ReceiverRecord.{ReceiverRecord}
 use Rattle.dr_ring.specs.declared.record.Step.{Step}
 use Rattle.dr_ring.specs.declared.record.Step.TheVariants.{SenderLooksAtCount, SenderLooksAtHalt, SenderStoresFirst, SenderStoresSecond, SenderPublishes}
 use Rattle.dr_ring.specs.declared.record.Step.TheVariants.{SenderHalts, SenderCloses, ReceiverLooksAtClosed, ReceiverLooksAtCursor, ReceiverLooksAtCount}
 use Rattle.dr_ring.specs.declared.record.Step.TheVariants.{ReceiverLoadsFirst, ReceiverLoadsSecond, ReceiverCompletes, HalterHalts}
-use Rattle.dr_ring.specs.Meaning.Records.{look, receiver_looked, cursor_looked, half_taken, took, completed_to}
+use Rattle.dr_ring.specs.Meaning.Records.{receiver_looked, cursor_looked, half_taken, took, completed_to}
+use Rattle.dr_runs.specs.Looks.{look, offered_by}
 use Rattle.dr_ring.specs.Meaning.Rule.{World, KeepsRule}
 use Rattle.dr_ring.specs.Meaning.Steps.{Happens}
 use Rattle.dr_ring.specs.Meaning.Moments.{Runs, picture_of}
 use Rattle.dr_ring.specs.Calls.Ends.{count_looks}
-use Rattle.dr_ring.specs.Calls.Receiving.{PollLooks, offer, offered_by, Answers}
-use Rattle.dr_ring.specs.Calls.Replies.{handed, HandsWhatWasThere}
-use Rattle.dr_ring.proofs.Lists.{at_below}
+use Rattle.dr_ring.specs.Calls.Receiving.{Answers}
+use Rattle.dr_runs.specs.Polls.{PollLooks, offer, handed}
+use Rattle.dr_ring.specs.Calls.Replies.{HandsWhatWasThere}
+use Rattle.dr_runs.proofs.Elements.{at_below}
 use Rattle.dr_ring.proofs.Keeps.{word_at, upstream_inside}
 use Rattle.dr_ring.proofs.Pictures.{keeps_step, count_at, inside_of}
 use Rattle.dr_ring.proofs.Replies.{at_front}

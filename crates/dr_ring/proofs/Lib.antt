@@ -1,4 +1,3 @@
-pub mod Lists
 pub mod Keeps
 pub mod Events
 pub mod Stores
@@ -9,7 +8,6 @@ pub mod Seats
 pub mod Allowed
 pub mod Plans
 pub mod Stations
-pub mod Looking
 pub mod Rounds
 pub mod Noting
 pub mod Writing

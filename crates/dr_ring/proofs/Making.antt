@@ -20,7 +20,7 @@ use Rattle.dr_ring.specs.Inside.Seats.{End, Sitting, end_number, Stands, exchang
 use Rattle.dr_ring.specs.Calls.Ends.{SenderEnd, ReceiverEnd, HalterEnd}
 use Rattle.dr_ring.specs.Inside.Stations.{receiver_end, ReceiverSits}
 use Rattle.dr_ring.specs.Calls.Settling.{AreAllEnds}
-use Rattle.dr_ring.proofs.Lists.{there, value_at, each_set}
+use Rattle.dr_runs.proofs.Elements.{there, value_at, each_set}
 use Rattle.std.proofs.lemmas.Bool.{cases_lt}
 use Rattle.dr_ring.proofs.Beginning.{fresh_at, fresh_count}
 use mathlib.Core.Option.{some, some-injective}

@@ -3,7 +3,7 @@ use Rattle.std.proofs.Common.{◌≡◌, ◌≢◌, ℕ, ◌+◌, ◌-◌, ◌<�
 use Rattle.std.proofs.Common.{[], ◌∷◌, ◌++◌, length, get_or, set, map, take, drop, replicate, Option, Some, None, is_none}
 use Rattle.std.proofs.Common.{sym, refl, ap, ◌∙◌, subst, arith, length-set, get_or-set_same, get_or-set_other, append_assoc}
 use Rattle.std.specs.Prelude.{Contains, not}
-use Rattle.std.specs.List.{range_with_len}
+use Rattle.std.specs.List.{range_with_len, cons_option}
 use Rattle.std.proofs.lemmas.Bool.{cases_eq, cases_lt, cases_Bool, eq-eqb, ne_eqb}
 use Rattle.std.proofs.lemmas.List.{length-append, length-replicate, length-map, length-drop, length_push, map-append}
 use Rattle.std.proofs.lemmas.List.{get_or_append_left, get_or-append_right, get_or-map, set-append_right, append-nil}
@@ -13,9 +13,7 @@ use mathlib.Core.Option.{some}
 use lib.ListN.{get_elem?}
 use Rattle.dr_seq.specs.declared.event.Event.{Event}
 use Rattle.dr_seq.specs.Event.{no_event}
-use Rattle.dr_core.specs.declared.command.Command.{Command}
 use Rattle.dr_core.specs.declared.command.Command.TheVariants.{Claim, Write, Publish, Poll, Complete, Halt}
-use Rattle.dr_core.specs.declared.command.Reply.{Reply}
 use Rattle.dr_core.specs.declared.command.Reply.TheVariants.{Claimed, Written, Published, Batch, Drained, Completed, Halting}
 use Rattle.dr_graph.specs.Meaning.Graph.{nobody, upstreams_of, finals, IsGated, IsGraph}
 use Rattle.dr_core.specs.Meaning.Machine as machine
@@ -24,10 +22,12 @@ use Rattle.dr_core.specs.Meaning.Transcript.{Transcript, LeadsFrom}
 use Rattle.dr_core.specs.Calls.Ends.{written_of}
 use Rattle.dr_runs.proofs.Lists.{map_same, map_but}
 use Rattle.dr_ring.specs.Meaning.Shape.{Shape, handlers_of, ring_setup}
-use Rattle.dr_ring.specs.Meaning.Words.{cursor_word, closed_word, halt_word, count_word, payload_start, payload_word}
+use Rattle.dr_ring.specs.Meaning.Words.{payload_start, payload_word}
+use Rattle.dr_runs.specs.Words.{cursor_word, closed_word, halt_word, count_word}
 use Rattle.dr_ring.specs.declared.record.HalfWrite.{HalfWrite}
 use Rattle.dr_ring.specs.declared.record.ReceiverRecord.{ReceiverRecord}
-use Rattle.dr_ring.specs.Meaning.Records.{claimed, look, halt_looked, half_written, written, published_to, receiver_looked, tells_drained}
+use Rattle.dr_ring.specs.Meaning.Records.{claimed, halt_looked, half_written, written, published_to, receiver_looked, tells_drained}
+use Rattle.dr_runs.specs.Looks.{look}
 use Rattle.dr_ring.specs.Meaning.Records.{cursor_looked, half_taken, took, completed_to, SeesRoom, AreWritten, IsBelowBarrier}
 use Rattle.dr_ring.specs.Meaning.Rule.{World, KeepsRule}
 use Rattle.dr_ring.specs.declared.record.Step.{Step}
@@ -35,14 +35,17 @@ use Rattle.dr_ring.specs.declared.record.Step.TheVariants.{SenderLooksAtCount, S
 use Rattle.dr_ring.specs.declared.record.Step.TheVariants.{SenderHalts, SenderCloses, ReceiverLooksAtClosed, ReceiverLooksAtCursor, ReceiverLooksAtCount}
 use Rattle.dr_ring.specs.declared.record.Step.TheVariants.{ReceiverLoadsFirst, ReceiverLoadsSecond, ReceiverCompletes, HalterHalts}
 use Rattle.dr_ring.specs.Meaning.Steps.{Happens, sender_knows, sender_stores, receiver_knows, receiver_stores}
-use Rattle.dr_ring.specs.Meaning.Moments.{fresh_receiver, taken_of, picture_of, entry, write_of, poll_of, receiver_at, entries_of, Runs}
-use Rattle.dr_ring.proofs.Lists.{at_below, value_at, final_inside, last_look_le}
+use Rattle.dr_ring.specs.Meaning.Moments.{fresh_receiver, taken_of, picture_of, write_of, receiver_at, entries_of, Runs}
+use Rattle.dr_runs.specs.Entries.{entry, poll_of}
+use Rattle.dr_runs.proofs.Elements.{at_below, value_at}
+use Rattle.dr_runs.proofs.Offers.{final_inside, counts_below, offered_at_most, offered_more}
+use Rattle.dr_runs.proofs.Looks.{last_look_le}
 use Rattle.dr_ring.proofs.Events.{open_events, written_count, published_same}
 use Rattle.dr_ring.proofs.Keeps.{word_at, receiver_of_handler, orderly, upstream_inside, keeps_sender_looks, keeps_halt_look, keeps_first, keeps_second}
 use Rattle.dr_ring.proofs.Stores.{keeps_publishes, keeps_sender_halts, keeps_halter_halts, keeps_closes, keeps_receiver_looks, tells_truth}
 use Rattle.dr_ring.proofs.Stores.{keeps_cursor_look, early, keeps_half_taken, taken_event, keeps_takes, keeps_completes}
-use Rattle.dr_ring.proofs.Machine.{shown, shown_front, claim_step, write_step, publish_step, take_step, drained_step}
-use Rattle.dr_ring.proofs.Machine.{complete_step, counts_below, offered_at_most, offered_more}
+use Rattle.dr_ring.proofs.Machine.{shown, write_step, same_written}
+use Rattle.dr_runs.proofs.OneSender.{shown_front, claim_step, publish_step, take_step, drained_step, complete_step, leads_one}
 
 pub keeps_step : (k : Shape) (s : Step) (w u : World) → Happens k s w u → KeepsRule k w → KeepsRule k u
 keeps_step k (SenderLooksAtCount f) w u H K = let i = final_inside k.upstreams f H.0 in
@@ -94,12 +97,6 @@ values_count : (published : List Event) (pending : List (Option Event)) → leng
 values_count published pending =
     length-append (map (λ event. Some event) published) pending ∙ ap (λ (n : ℕ). n + length pending) (length-map published (λ event. Some event))
 
-leads_one : (k : Shape) (command : Command Event) (reply : Reply) (values : List Event) (rest : Transcript Event) (m n end : State Event)
-    → machine.step (ring_setup k) m command ≡ record { reply = reply; values = values; state = n } → LeadsFrom (ring_setup k) n rest end
-    → LeadsFrom (ring_setup k) m (entry command reply values ++ rest) end
-leads_one k command reply values rest m n end is leads =
-    (ap (λ (o : Outcome Event). o.reply) is, ap (λ (o : Outcome Event). o.values) is, subst (λ (x : State Event). LeadsFrom (ring_setup k) x rest end) (sym (ap (λ (o : Outcome Event). o.state) is)) leads)
-
 -- the picture, by its parts
 abbrev parts : Shape → World → State Event
 parts k w =
@@ -133,7 +130,7 @@ pub claim_room : (k : Shape) (w : World) (n : ℕ) (t : List ℕ) (m : State Eve
 claim_room k w n t m same room K =
     counts_below m (finals k.upstreams) k.size (claimed w.sender + n) (some_final k K.graph)
     (λ f has. (let i = final_inside k.upstreams f has in let a = room.completed f has in
-    let b = last_look_le k w.words 0 w.sender.looks (count_word f) (omega arith) K.looks in
+    let b = last_look_le (payload_start k) w.words 0 w.sender.looks (count_word f) (omega arith) K.looks in
     let c : get_or m.completed f 0 ≡ word_at w.words (count_word f) = ap (λ (d : List ℕ). get_or d f 0) same ∙ count_at k w.words f i in omega arith))
 
 -- a claim is of the size at most
@@ -143,7 +140,7 @@ claim_fits k w n room K =
     let g : IsGated k.upstreams nobody (λ h. word_at w.words (count_word h)) 0 =
     K.graph.gate nobody (λ h. word_at w.words (count_word h)) (orderly k w K) 0 some_one refl in
     let i = final_inside k.upstreams g.last g.final in let a = room.completed g.last g.final in
-    let b = last_look_le k w.words 0 w.sender.looks (count_word g.last) (omega arith) K.looks in
+    let b = last_look_le (payload_start k) w.words 0 w.sender.looks (count_word g.last) (omega arith) K.looks in
     let d : word_at w.words (count_word g.last) ≤ word_at w.words (count_word 0) = g.behind in
     let t = receiver_of_handler k w K 0 some_one in let e = t.2.count in let f = t.2.completed in let h = t.2.taken in omega arith
 
@@ -188,8 +185,8 @@ lead_claim k w n rest end room K leads =
             let going_on : Leads k rest (shown k (claimed s + n) (vs ++ replicate n None) (word_at w.words cursor_word) (map taken_of w.receivers) (counts_of k w.words) false) end =
             subst (λ (x : State Event). Leads k rest x end)
             (λ i. shown k (longer i) (joined i) (word_at w.words cursor_word) (map taken_of w.receivers) (counts_of k w.words) (off i)) more in
-            let one = leads_one k (Claim 0 n) (Claimed (claimed s) (claimed s + n - 1)) [] rest m _ end
-            (claim_step k (claimed s) n vs (word_at w.words cursor_word) (map taken_of w.receivers) (counts_of k w.words) some_one (claim_fits k w n r K) r.limit (claim_room k w n (map taken_of w.receivers) m refl r K)) going_on in
+            let one = leads_one (ring_setup k) (Claim 0 n) (Claimed (claimed s) (claimed s + n - 1)) [] rest m _ end
+            (claim_step k.upstreams k.size k.limit (claimed s) n vs (vs ++ replicate n None) (word_at w.words cursor_word) (map taken_of w.receivers) (counts_of k w.words) (same_written vs n) some_one (claim_fits k w n r K) r.limit (claim_room k w n (map taken_of w.receivers) m refl r K)) going_on in
             let here : Leads k (entry (Claim 0 n) (Claimed (claimed s) (claimed s + n - 1)) [] ++ rest) (parts k w) end =
             subst (λ (b : Bool). Leads k (entry (Claim 0 n) (Claimed (claimed s) (claimed s + n - 1)) [] ++ rest) (shown k (claimed s) vs (word_at w.words cursor_word) (map taken_of w.receivers) (counts_of k w.words) b) end) (sym off) one in
             let both : (not (n == 0) && (found == 0)) ≡ true = rw (ne_eqb n 0 (λ (e : n ≡ 0). omega arith)) halt in
@@ -227,7 +224,7 @@ lead_write k w x v rest end has K leads =
     subst (λ (y : State Event). Leads k rest y end)
     (λ i. shown k (length s.sent.published + same i) (place i) (one i) (map taken_of w.receivers) (counts i) (two i == 1)) leads in
     subst (λ (h : Option HalfWrite). Leads k (write_of h v ++ rest) (parts k w) end) (sym has)
-    (leads_one k (Write 0 x.sequence event) Written [] rest (parts k w) _ end
+    (leads_one (ring_setup k) (Write 0 x.sequence event) Written [] rest (parts k w) _ end
     (write_step k (claimed s) vs (word_at w.words cursor_word) (map taken_of w.receivers) (counts_of k w.words) (word_at w.words halt_word == 1) x.sequence event count (omega arith) lt) going_on)
 
 lead_publish : (k : Shape) (w : World) (n : ℕ) (rest : Transcript Event) (end : State Event) → length w.sender.sent.published < n → n ≤ claimed w.sender
@@ -251,8 +248,8 @@ lead_publish k w n rest end lt le all K leads =
     let one : word_at us cursor_word ≡ n = get_or-set_same w.words cursor_word n 0 (omega arith) in let two = stays halt_word (omega arith) in
     let going_on : Leads k rest (shown k (claimed s) vs n (map taken_of w.receivers) (counts_of k w.words) (word_at w.words halt_word == 1)) end =
     subst (λ (y : State Event). Leads k rest y end) (λ i. shown k (whole i) (same i) (one i) (map taken_of w.receivers) (counts i) (two i == 1)) leads in
-    leads_one k (Publish 0 (word_at w.words cursor_word) (n - 1)) Published [] rest (parts k w) _ end
-    (publish_step k (claimed s) vs (word_at w.words cursor_word) (map taken_of w.receivers) (counts_of k w.words) (word_at w.words halt_word == 1) n (omega arith) le
+    leads_one (ring_setup k) (Publish 0 (word_at w.words cursor_word) (n - 1)) Published [] rest (parts k w) _ end
+    (publish_step k.upstreams k.size k.limit (claimed s) vs (word_at w.words cursor_word) (map taken_of w.receivers) (counts_of k w.words) (word_at w.words halt_word == 1) n (omega arith) le
     (λ q low high. (let a = all q (omega arith) high in
     let e : get_or vs q None ≡ Some a.0 =
     get_or-append_right (map (λ event. Some event) old) pending (length old) q None (length-map old (λ event. Some event)) (omega arith) ∙ a.1 in
@@ -267,12 +264,12 @@ lead_drained k w h r rest end at tells K leads =
     let on : true ≡ (word_at w.words halt_word == 1) = sym (eq-eqb (word_at w.words halt_word) 1 closed.0) in
     let inside = inside_of k w h r K at in
     let S : Bool → State Event = λ b. shown k (claimed s) vs (word_at w.words cursor_word) ts d b in
-    let seen : front (S true) ≡ word_at w.words cursor_word = shown_front k (claimed s) vs (word_at w.words cursor_word) ts d true (omega arith) in
+    let seen : front (S true) ≡ word_at w.words cursor_word = shown_front k.upstreams k.size k.limit (claimed s) vs (word_at w.words cursor_word) ts d true (omega arith) in
     let offer : available (ring_setup k) (S true) h ≤ claimed s = offered_at_most (S true) (upstreams_of k.upstreams h) (claimed s) (omega arith)
     (λ u has. (let i = upstream_inside k K.graph h u inside has in let c = count_at k w.words u i in let o = receiver_of_handler k w K u i in let a = o.2.count in let b = o.2.completed in let e = o.2.taken in omega arith)) in
-    let step = drained_step k (claimed s) vs (word_at w.words cursor_word) ts d h inside offer (taken_at w h r at ∙ omega arith) in
+    let step = drained_step k.upstreams k.size k.limit (claimed s) vs (word_at w.words cursor_word) ts d h inside offer (taken_at w h r at ∙ omega arith) in
     subst (λ (b : Bool). Leads k (entry (Poll h 1) Drained [] ++ rest) (S b) end) on
-    (leads_one k (Poll h 1) Drained [] rest (S true) (S true) end step (subst (λ (b : Bool). Leads k rest (S b) end) (sym on) leads))
+    (leads_one (ring_setup k) (Poll h 1) Drained [] rest (S true) (S true) end step (subst (λ (b : Bool). Leads k rest (S b) end) (sym on) leads))
 
 lead_cursor_look : (k : Shape) (w : World) (h : ℕ) (r : ReceiverRecord) (rest : Transcript Event) (end : State Event) → get_elem? w.receivers h ≡ some r → KeepsRule k w
     → Leads k rest (parts k w) end
@@ -295,14 +292,14 @@ lead_take k w h first r rest end at half low K leads =
     let inside = inside_of k w h r K at in let was = K.received h r at in let cursor = K.counts.cursor in
     let is : get_or ts h 0 ≡ n = taken_at w h r at in
     let seen : front m ≡ word_at w.words cursor_word =
-    shown_front k (claimed s) (values_of s.sent.published s.sent.pending) (word_at w.words cursor_word) ts (counts_of k w.words)
+    shown_front k.upstreams k.size k.limit (claimed s) (values_of s.sent.published s.sent.pending) (word_at w.words cursor_word) ts (counts_of k w.words)
     (word_at w.words halt_word == 1) (omega arith) in
     let more : n < available (ring_setup k) m h = offered_more m (upstreams_of k.upstreams h) n (λ none. omega arith)
-    (λ u has. (let i = upstream_inside k K.graph h u inside has in let c = count_at k w.words u i in let a = low.completed u has in let b = last_look_le k w.words 0 r.looks (count_word u) (omega arith) was.looks in omega arith)) in
+    (λ u has. (let i = upstream_inside k K.graph h u inside has in let c = count_at k w.words u i in let a = low.completed u has in let b = last_look_le (payload_start k) w.words 0 r.looks (count_word u) (omega arith) was.looks in omega arith)) in
     let value : m.written n ≡ Some found =
     get_or_append_left (map (λ event. Some event) s.sent.published) s.sent.pending None n (omega (arith, length-map s.sent.published (λ (event : Event). Some event)))
     ∙ get_or-map (λ event. Some event) s.sent.published n no_event None below ∙ ap (λ (e : Event). Some e) (sym event) in
-    let step = take_step k m h found inside refl (ap m.written is ∙ value) (omega arith) in
+    let step = take_step k.upstreams k.size k.limit m h 1 (found ∷ []) inside refl (omega arith) (omega arith) (λ i. cons_option ((ap m.written is ∙ value) i) []) in
     let set_taken : map taken_of (set w.receivers h (took r found)) ≡ set ts h (n + 1) =
     map-set taken_of w.receivers h (took r found) ∙ ap (λ (j : ℕ). set ts h j) (length_push r.received found) in
     let going_on : Leads k rest (record m { taken = set ts h (n + 1) }) end =
@@ -311,7 +308,7 @@ lead_take k w h first r rest end at half low K leads =
     step
     ∙ ap (λ (j : ℕ). let o : Outcome Event = record { reply = Batch j 1 (j + 1 == available (ring_setup k) m h); values = found ∷ []; state = record m { taken = set ts h (j + 1) } } in o) is in
     subst (λ (o : Option ℕ). Leads k (poll_of h o (word_at w.words (payload_word k n 1)) n (available (ring_setup k) m h) ++ rest) m end) (sym half)
-    (leads_one k (Poll h 1) (Batch n 1 (n + 1 == available (ring_setup k) m h)) (found ∷ []) rest m _ end exact going_on)
+    (leads_one (ring_setup k) (Poll h 1) (Batch n 1 (n + 1 == available (ring_setup k) m h)) (found ∷ []) rest m _ end exact going_on)
 
 lead_complete : (k : Shape) (w : World) (h n : ℕ) (r : ReceiverRecord) (rest : Transcript Event) (end : State Event) → get_elem? w.receivers h ≡ some r
     → r.completed ≤ n → n ≤ length r.received → KeepsRule k w
@@ -327,7 +324,7 @@ lead_complete k w h n r rest end at rise le K leads =
     let going_on : Leads k rest (record m { completed = set (counts_of k w.words) h n }) end =
     subst (λ (y : State Event). Leads k rest y end)
     (λ i. shown k (claimed s) (values_of s.sent.published s.sent.pending) (one i) (same_taken w h r (completed_to r n) at refl i) (counts i) (two i == 1)) leads in
-    leads_one k (Complete h n) Completed [] rest m _ end (complete_step k m h n inside refl (omega arith) (omega arith)) going_on
+    leads_one (ring_setup k) (Complete h n) Completed [] rest m _ end (complete_step k.upstreams k.size k.limit m h n inside refl (omega arith) (omega arith)) going_on
 
 -- halt or closed is stored: nothing else shows
 lead_flag : (k : Shape) (w : World) (i : ℕ) (rest : Transcript Event) (end : State Event) (b : Bool) → 0 < i → i < 32 → (word_at (set w.words i 1) halt_word == 1) ≡ b
@@ -362,7 +359,7 @@ lead_step k (SenderStoresFirst s v) w u rest end H K L =
 lead_step k (SenderStoresSecond v) w u rest end H K L = lead_write k w H.0 v rest end H.1 K (subst (λ (x : World). Leads k rest (picture_of k x) end) H.2 L)
 lead_step k (SenderPublishes n) w u rest end H K L = lead_publish k w n rest end H.0 H.1 H.2 K (subst (λ (x : World). Leads k rest (picture_of k x) end) H.4 L)
 lead_step k SenderHalts w u rest end H K L =
-    leads_one k Halt Halting [] rest (parts k w) (record (parts k w) { halted = true }) end refl
+    leads_one (ring_setup k) Halt Halting [] rest (parts k w) (record (parts k w) { halted = true }) end refl
     (lead_flag k w halt_word rest end true (omega arith) (omega arith) (halt_on k w K) (subst (λ (x : World). Leads k rest (picture_of k x) end) H L))
 lead_step k SenderCloses w u rest end H K L =
     lead_flag k w closed_word rest end (word_at w.words halt_word == 1) (omega arith) (omega arith)
@@ -390,7 +387,7 @@ lead_step k (ReceiverLoadsSecond h) w u rest end H K L =
 lead_step k (ReceiverCompletes h n) w u rest end H K L =
     lead_complete k w h n H.0 rest end H.1 H.2.0 H.2.1 K (subst (λ (x : World). Leads k rest (picture_of k x) end) H.2.2 L)
 lead_step k HalterHalts w u rest end H K L =
-    leads_one k Halt Halting [] rest (parts k w) (record (parts k w) { halted = true }) end refl
+    leads_one (ring_setup k) Halt Halting [] rest (parts k w) (record (parts k w) { halted = true }) end refl
     (lead_flag k w halt_word rest end true (omega arith) (omega arith) (halt_on k w K) (subst (λ (x : World). Leads k rest (picture_of k x) end) H L))
 
 pub lead_runs : (k : Shape) (steps : List Step) (es : Transcript Event) (w u : World) → Runs k steps es w u → KeepsRule k w

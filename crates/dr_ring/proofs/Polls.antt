@@ -1,21 +1,25 @@
 -- What a poll comes to.
-use Rattle.std.proofs.Common.{◌≡◌, ◌≢◌, ℕ, ◌+◌, ◌-◌, ◌<◌, ◌≤◌, ◌⊎◌, inl, inr, Bool, true, false, ◌==◌, ◌&&◌, ◌||◌, min}
+use Rattle.std.proofs.Common.{◌≡◌, ◌≢◌, ℕ, ◌+◌, ◌-◌, ◌<◌, ◌≤◌, ◌⊎◌, inl, inr, Bool, true, ◌==◌, ◌&&◌, ◌||◌, min}
 use Rattle.std.proofs.Common.{List, [], ◌∷◌, ◌++◌, length, take, drop, sym, refl, ap, ◌∙◌, subst, arith, append_assoc}
 use Rattle.std.specs.Prelude.{Contains, IsTrue, ◌↔◌}
-use Rattle.std.proofs.lemmas.Bool.{cases_eq, eqb-true, eq-eqb, ne_eqb, lt-ltb, le-ltb}
+use Rattle.std.proofs.lemmas.Bool.{cases_eq, eqb-true, eq-eqb}
 use Rattle.std.proofs.lemmas.List.{length-append, append-nil}
 use Rattle.dr_seq.specs.declared.event.Event.{Event}
 use Rattle.dr_core.specs.declared.command.Polled.{Polled}
-use Rattle.dr_core.specs.declared.command.Polled.TheVariants.{Batch, Drained, Gating, Idle}
-use Rattle.dr_ring.specs.Meaning.Words.{cursor_word, closed_word}
-use Rattle.dr_ring.specs.declared.record.Look.{Look}
+use Rattle.dr_core.specs.declared.command.Polled.TheVariants.{Batch}
+use Rattle.dr_runs.specs.Words.{cursor_word, closed_word}
+use Rattle.dr_runs.specs.declared.look.Look.{Look}
 use Rattle.dr_ring.specs.declared.record.ReceiverRecord.{ReceiverRecord}
-use Rattle.dr_ring.specs.Meaning.Records.{look, last_look, receiver_looked, cursor_looked}
-use Rattle.dr_ring.specs.Calls.Receiving.{PollLooks, looked_round, offered_by, received_all, Answers}
+use Rattle.dr_ring.specs.Meaning.Records.{receiver_looked, cursor_looked}
+use Rattle.dr_runs.specs.Looks.{look, last_look, offered_by}
+use Rattle.dr_ring.specs.Calls.Receiving.{looked_round, received_all, Answers}
+use Rattle.dr_runs.specs.Polls.{PollLooks, nothing_offered}
 use Rattle.dr_ring.specs.Calls.Ends.{count_looks}
-use Rattle.dr_ring.specs.Inside.Parts.{receiver_saw, ups_of, IsOfferedUpTo, LooksAtUpstreams, nothing_offered}
+use Rattle.dr_ring.specs.Inside.Parts.{receiver_saw, ups_of, IsOfferedUpTo, LooksAtUpstreams}
 use Rattle.dr_ring.specs.Inside.Fits.{ReceiverFits}
-use Rattle.dr_ring.proofs.Lists.{last_look_more}
+use Rattle.dr_runs.proofs.Looks.{last_look_more}
+use Rattle.dr_runs.proofs.Lists.{no_elements}
+use Rattle.dr_runs.proofs.Offers.{drains, idles, gates, or_true, not_true, either_true, second_true}
 
 -- a receiver that has looked at closed and at the cursor
 abbrev pub looked_twice : ReceiverRecord → ℕ → ℕ → ReceiverRecord
@@ -36,31 +40,10 @@ pub round_of : (r s : ReceiverRecord) (closed cursor available : ℕ) → (L : L
     → s ≡ looked_round r (saw closed cursor L.counts)
 round_of r s closed cursor available L = L.is ∙ round_is r closed cursor (count_looks (ups_of r) L.counts)
 
-no_counts : (counts : List ℕ) → length counts ≡ 0 → counts ≡ []
-no_counts [] e = refl
-no_counts (x ∷ xs) e = absurd (omega arith)
-
 -- without upstreams the cursor is offered
 only_cursor : (r s : ReceiverRecord) (cursor available : ℕ) → ups_of r ≡ [] → LooksAtUpstreams r cursor s available → available ≡ cursor
 only_cursor r s cursor available e L =
-    let none : L.counts ≡ [] = no_counts L.counts (L.each ∙ ap length e) in L.offered ∙ ap (offered_by cursor) none
-
-drains : (closed cursor taken : ℕ) → closed ≡ 1 → cursor ≡ taken → nothing_offered closed cursor taken ≡ Drained
-drains closed cursor taken one all = rw (eq-eqb closed 1 one, eq-eqb cursor taken all) refl
-
-idles : (closed cursor taken : ℕ) → closed ≢ 1 → cursor ≤ taken → nothing_offered closed cursor taken ≡ Idle
-idles closed cursor taken still le = rw (ne_eqb closed 1 still, le-ltb taken cursor le) refl
-
-and_false : (b : Bool) → (b && false) ≡ false
-and_false true = refl
-and_false false = refl
-
-gates : (closed cursor taken : ℕ) → cursor ≢ taken → taken < cursor → nothing_offered closed cursor taken ≡ Gating
-gates closed cursor taken more lt = rw (ne_eqb cursor taken more, and_false (closed == 1), lt-ltb taken cursor lt) refl
-
-or_true : (b : Bool) → (b || true) ≡ true
-or_true true = refl
-or_true false = refl
+    let none : L.counts ≡ [] = no_elements L.counts (L.each ∙ ap length e) in L.offered ∙ ap (offered_by cursor) none
 
 is_told : (r : ReceiverRecord) (closed cursor : ℕ) → closed ≡ 1 → cursor ≡ length r.received
     → (r.told || ((closed == 1) && (cursor == length r.received))) ≡ true
@@ -107,18 +90,6 @@ fits_batch r s t n done count closed cursor available xs F L is many =
     subst (λ (q : ReceiverRecord). ReceiverFits q (n + count) done) (sym (is ∙ ap (λ (q : ReceiverRecord). received_all q xs) L.is))
     (record { half = F.half; taken = (let e = F.taken in omega (arith, length-append r.received xs)); completed = F.completed })
 
-pub not_true : (b : Bool) → (b ≡ true → ⊥) → b ≡ false
-not_true true never = absurd (never refl)
-not_true false never = refl
-
-pub either_true : (a b : Bool) → (a || b) ≡ true → (a ≡ true) ⊎ (b ≡ true)
-either_true true b e = inl refl
-either_true false b e = inr e
-
-pub second_true : (a b : Bool) → (a && b) ≡ true → b ≡ true
-second_true true b e = e
-second_true false b e = absurd (cc)
-
 pub some_or_none : (ups : List ℕ) → (ups ≡ []) ⊎ (ups ≢ [])
 some_or_none [] = inl refl
 some_or_none (u ∷ ups) = inr (λ (e : u ∷ ups ≡ []). cc)
@@ -158,6 +129,3 @@ poll_batch r s t out out' closed cursor available taken count last next L before
 pub seen_round : (r q s t : ReceiverRecord) (closed cursor available : ℕ) → q ≡ receiver_looked r closed_word closed → s ≡ cursor_looked q cursor
     → LooksAtUpstreams s cursor t available → LooksAtUpstreams (looked_twice r closed cursor) cursor t available
 seen_round r q s t closed cursor available first second L = subst (λ (x : ReceiverRecord). LooksAtUpstreams x cursor t available) (second ∙ ap (λ (x : ReceiverRecord). cursor_looked x cursor) first) L
-
-pub of_count : (n m : ℕ) (b : Bool) → b ≡ (n == m) → IsTrue b ↔ (n ≡ m)
-of_count n m b e = ((λ y. eqb-true n m (sym e ∙ y)), (λ y. e ∙ eq-eqb n m y))

@@ -14,7 +14,7 @@ use Rattle.dr_core.proofs.Causes.{none_join, first_left, first_right, none_of_st
 use Rattle.dr_ring.specs.declared.record.SenderRecord.{SenderRecord}
 use Rattle.dr_ring.specs.Meaning.Records.{claimed, published_to, AreWritten}
 use Rattle.dr_ring.specs.Calls.Sending.{TriesToPublish}
-use Rattle.dr_ring.specs.Inside.Noted.{AreNoted, HasUnnoted}
+use Rattle.dr_runs.specs.Noted.{AreNoted, HasUnnoted}
 use Rattle.dr_ring.specs.Inside.Fits.{SenderFields, SenderFits}
 use Rattle.dr_ring.proofs.Noting.{noted_written, unnoted_open}
 

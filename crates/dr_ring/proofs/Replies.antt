@@ -1,5 +1,5 @@
 -- The machine replies on a ring's picture as an end of the ring answers.
-use Rattle.std.proofs.Common.{◌≡◌, ℕ, zero, suc, ◌+◌, ◌-◌, ◌<◌, ◌≤◌, inl, inr, Bool, true, false, not, ◌==◌, ◌||◌, ◌&&◌, length, get_or, map}
+use Rattle.std.proofs.Common.{◌≡◌, ℕ, zero, suc, ◌+◌, ◌-◌, ◌<◌, ◌≤◌, inl, inr, Bool, true, false, not, ◌++◌, ◌==◌, ◌||◌, length, get_or, map, replicate}
 use Rattle.std.proofs.Common.{Option, Some, None, is_none, Result, Ok, Err, sym, refl, ap, ◌∙◌, subst, arith}
 use Rattle.std.specs.Prelude.{nat_lt, nat_le, Contains, flat_map}
 use Rattle.std.specs.List.{range_with_len}
@@ -25,7 +25,7 @@ use Rattle.dr_core.proofs.Leasts.{least_of-member}
 use Rattle.dr_graph.specs.Meaning.Graph.{upstreams_of, finals}
 use Rattle.dr_runs.proofs.Exact.{AreExact, none_exact, first_exact, exact_join, exact_stretch, unit_replies, offered_low, drained_reply, gating_reply, idle_reply}
 use Rattle.dr_ring.specs.Meaning.Shape.{Shape, handlers_of, ring_setup}
-use Rattle.dr_ring.specs.Meaning.Words.{cursor_word, halt_word, count_word}
+use Rattle.dr_runs.specs.Words.{cursor_word, halt_word, count_word}
 use Rattle.dr_ring.specs.declared.record.ReceiverRecord.{ReceiverRecord}
 use Rattle.dr_ring.specs.Meaning.Records.{claimed}
 use Rattle.dr_ring.specs.Meaning.Rule.{World, KeepsRule}
@@ -33,15 +33,13 @@ use Rattle.dr_ring.specs.Meaning.Moments.{picture_of, taken_of}
 use Rattle.dr_ring.specs.Calls.Sending.{tests_of_claim}
 use Rattle.dr_ring.specs.Calls.Receiving.{tests_of_poll, tests_of_completion}
 use Rattle.dr_ring.specs.Calls.Replies.{Replies, DecidesClaim, DecidesPoll, RepliesAsAnswered}
-use Rattle.dr_ring.proofs.Lists.{final_inside}
-use Rattle.dr_ring.proofs.Beginning.{all_zero}
+use Rattle.dr_runs.proofs.Offers.{final_inside, offered_at_most}
+use Rattle.dr_runs.proofs.Elements.{all_zero}
 use Rattle.dr_ring.proofs.Keeps.{word_at, receiver_of_handler, upstream_inside}
-use Rattle.dr_ring.proofs.Machine.{shown, shown_front, claim_step, offered_at_most}
+use Rattle.dr_ring.proofs.Machine.{shown, same_written}
 use Rattle.dr_ring.proofs.Pictures.{values_of, counts_of, count_at, taken_at, inside_of, claim_room, claim_fits}
-
-and_false : (b : Bool) → (b && false) ≡ false
-and_false true = refl
-and_false false = refl
+use Rattle.std.proofs.Math.Bool.{and-false}
+use Rattle.dr_runs.proofs.OneSender.{shown_front, claim_step}
 
 module _ (k : Shape) (w : World) (K : KeepsRule k w) where
   abbrev m : State Event
@@ -97,7 +95,7 @@ module _ (k : Shape) (w : World) (K : KeepsRule k w) where
   pub at_front : front m ≡ length w.sender.sent.published
   at_front =
       let cursor = K.counts.cursor in
-      shown_front k (claimed w.sender) (values_of w.sender.sent.published w.sender.sent.pending) (word_at w.words cursor_word) (map taken_of w.receivers)
+      shown_front k.upstreams k.size k.limit (claimed w.sender) (values_of w.sender.sent.published w.sender.sent.pending) (word_at w.words cursor_word) (map taken_of w.receivers)
       (counts_of k w.words) (word_at w.words halt_word == 1) (omega arith) ∙ cursor
 
   publish_exact : (lo hi : ℕ) → AreExact (publish_causes lo hi (publish_tests (Some w.sender.sent) lo hi)) (refusals (ring_setup k) m (Publish 0 lo hi))
@@ -187,7 +185,7 @@ module _ (k : Shape) (w : World) (K : KeepsRule k w) where
   claim_replies n (Ok stretch) answer D =
       let room = D.1 in let vs = values_of w.sender.sent.published w.sender.sent.pending in let f = word_at w.words cursor_word in
       let t = map taken_of w.receivers in let d = counts_of k w.words in
-      let step = claim_step k (claimed w.sender) n vs f t d (some_claimed n answer.1.0) (claim_fits k w n room K) room.limit
+      let step = claim_step k.upstreams k.size k.limit (claimed w.sender) n vs (vs ++ replicate n None) f t d (same_written vs n) (some_claimed n answer.1.0) (claim_fits k w n room K) room.limit
       (claim_room k w n t (shown k (claimed w.sender) vs f t d false) refl room K) in
       subst (λ (b : Bool). (machine.step (ring_setup k) (shown k (claimed w.sender) vs f t d b) (Claim 0 n)).reply ≡ claim_reply (Ok stretch)) (sym (going D.0))
       (ap (λ (x : Outcome Event). x.reply) step ∙ ap (λ (c : Stretch). Claimed c.lo c.hi) (sym D.2))
@@ -247,12 +245,12 @@ module _ (k : Shape) (w : World) (K : KeepsRule k w) where
       let has : Contains (upstreams_of k.upstreams h) u = subst (λ (n : ℕ). Contains (upstreams_of k.upstreams n) u) was.number D.1.1 in
       let low = offered_low m (upstreams_of k.upstreams h) u has in let c = count_at k w.words u (upstream_inside k K.graph h u inside has) in
       let found = D.1.2 in let more = D.0 in let taken = taken_at w h r at in let front = at_front in let cursor = K.counts.cursor in let all = owned in
-      gating_reply (ring_setup k) m h room (omega arith) (rw (ne_eqb (get_or m.taken h 0) (length m.owners) (λ e. omega arith)) (and_false m.halted)) (omega arith)
+      gating_reply (ring_setup k) m h room (omega arith) (rw (ne_eqb (get_or m.taken h 0) (length m.owners) (λ e. omega arith)) (and-false m.halted)) (omega arith)
   nothing_taken h room r Idle at D =
       let found = D.0 in let cursor = K.counts.cursor in let taken = taken_at w h r at in let front = at_front in let all = owned in
       let most = offered_all h r at in
       idle_reply (ring_setup k) m h room (omega arith) (elim (cases_eq (word_at w.words halt_word) 1) [
-        | inl on ↦ (let claimed_more = D.1 on in rw (ne_eqb (get_or m.taken h 0) (length m.owners) (λ e. omega arith)) (and_false m.halted))
+        | inl on ↦ (let claimed_more = D.1 on in rw (ne_eqb (get_or m.taken h 0) (length m.owners) (λ e. omega arith)) (and-false m.halted))
         | inr off ↦ rw (ne_eqb (word_at w.words halt_word) 1 off) refl
       ]) (omega arith)
 

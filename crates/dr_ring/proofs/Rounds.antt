@@ -7,18 +7,19 @@ use Rattle.std.proofs.lemmas.List.{length-append, append-nil, get_or_append_left
 use Rattle.dr_graph.specs.Meaning.Graph.{finals}
 use Rattle.dr_ring.specs.Meaning.Shape.{Shape}
 use Rattle.dr_ring.specs.Calls.Plans.{IsPlan}
-use Rattle.dr_ring.specs.Meaning.Words.{count_word}
-use Rattle.dr_ring.specs.declared.record.Look.{Look}
+use Rattle.dr_runs.specs.Words.{count_word}
+use Rattle.dr_runs.specs.declared.look.Look.{Look}
 use Rattle.dr_ring.specs.declared.record.SenderRecord.{SenderRecord}
 use Rattle.dr_ring.specs.declared.record.ReceiverRecord.{ReceiverRecord}
-use Rattle.dr_ring.specs.Meaning.Records.{look, last_look, sender_looked, receiver_looked}
+use Rattle.dr_ring.specs.Meaning.Records.{sender_looked, receiver_looked}
+use Rattle.dr_runs.specs.Looks.{look, last_look, offered_by, lesser_of}
 use Rattle.dr_ring.specs.Calls.Ends.{count_looks}
-use Rattle.dr_ring.specs.Calls.Receiving.{offered_by, lesser_of}
 use Rattle.dr_ring.specs.Inside.Fits.{IsSeenLeast}
 use Rattle.dr_ring.specs.Inside.Parts.{sender_saw, LooksAtFinals, IsEnough, IsShort, receiver_saw, ups_of, LooksAtUpstreams}
 use Rattle.dr_runs.proofs.Lists.{no_elements, take_whole}
-use Rattle.dr_ring.proofs.Lists.{last_look_more}
-use Rattle.dr_ring.proofs.Looking.{get_any, last_rises, last_least, looks_more, looks_few, no_looks_at, number_at, offers_more, contains_more, contains_last}
+use Rattle.dr_runs.proofs.Looks.{last_look_more, last_rises, last_least, looks_more, looks_few, no_looks_at}
+use Rattle.dr_runs.proofs.Elements.{get_any, number_at, contains_more, contains_last}
+use Rattle.dr_runs.proofs.Offers.{offers_more}
 use Rattle.dr_ring.proofs.Pictures.{some_final}
 
 -- one look more

@@ -17,7 +17,7 @@ use Rattle.dr_ring.specs.Meaning.Rule.{World, KeepsRule}
 use Rattle.dr_ring.specs.Meaning.Moments.{new_world}
 use Rattle.dr_ring.specs.Meaning.Steps.{Happens}
 use Rattle.dr_ring.specs.Inside.Seats.{End, Sitting, ring_ends, exchange, stored_of, world_of, Ruled, as_sender, as_receiver, as_halter}
-use Rattle.dr_ring.proofs.Lists.{at_below}
+use Rattle.dr_runs.proofs.Elements.{at_below}
 use Rattle.dr_ring.proofs.Pictures.{keeps_runs}
 use Rattle.dr_ring.proofs.Beginning.{kept_opening}
 

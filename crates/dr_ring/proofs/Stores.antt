@@ -1,5 +1,5 @@
 -- Stores of words that are no payload, and the receivers' steps, keep the rule.
-use Rattle.std.proofs.Common.{◌⊎◌, ◌≡◌, ◌≢◌, ℕ, ◌+◌, ◌-◌, ◌<◌, ◌≤◌, inl, inr, Bool, true, ◌==◌, List, [], ◌∷◌, ◌++◌, length, get_or, set}
+use Rattle.std.proofs.Common.{◌≡◌, ◌≢◌, ℕ, ◌+◌, ◌-◌, ◌<◌, ◌≤◌, inl, inr, Bool, true, ◌==◌, List, [], ◌∷◌, ◌++◌, length, get_or, set}
 use Rattle.std.proofs.Common.{take, drop, Option, Some, None, sym, refl, ap, ◌∙◌, subst, arith, length-set, get_or-set_same, get_or-set_other}
 use Rattle.std.specs.Prelude.{Contains}
 use Rattle.std.proofs.lemmas.Bool.{cases_eq, cases_lt, or_cases, and_parts, eqb-true}
@@ -12,17 +12,21 @@ use Rattle.dr_seq.specs.Event.{no_event}
 use Rattle.dr_graph.specs.Meaning.Graph.{upstreams_of}
 use Rattle.dr_core.specs.Calls.Ends.{written_of}
 use Rattle.dr_ring.specs.Meaning.Shape.{Shape, handlers_of}
-use Rattle.dr_ring.specs.Meaning.Words.{cursor_word, closed_word, halt_word, count_word, payload_start, payload_word}
-use Rattle.dr_ring.specs.declared.record.Look.{Look}
+use Rattle.dr_ring.specs.Meaning.Words.{payload_start, payload_word}
+use Rattle.dr_runs.specs.Words.{cursor_word, closed_word, halt_word, count_word, HaltAndClose}
+use Rattle.dr_runs.specs.declared.look.Look.{Look}
 use Rattle.dr_ring.specs.declared.record.SenderRecord.{SenderRecord}
 use Rattle.dr_ring.specs.declared.record.ReceiverRecord.{ReceiverRecord}
-use Rattle.dr_ring.specs.Meaning.Records.{claimed, last_look, published_to, sender_halted, sender_closed, receiver_looked, tells_drained}
+use Rattle.dr_ring.specs.Meaning.Records.{claimed, published_to, sender_halted, sender_closed, receiver_looked, tells_drained}
+use Rattle.dr_runs.specs.Looks.{last_look}
 use Rattle.dr_ring.specs.Meaning.Records.{cursor_looked, half_taken, took, completed_to, halter_halted, AreWritten, IsBelowBarrier}
-use Rattle.dr_ring.specs.Meaning.Rule.{World, Room, Payload, HaltAndClose, ArePast, ReceiverKept, KeepsRule}
+use Rattle.dr_ring.specs.Meaning.Rule.{World, Room, Payload, ArePast, ReceiverKept, KeepsRule}
 use Rattle.dr_ring.specs.Meaning.Steps.{sender_stores, receiver_knows, receiver_stores}
-use Rattle.dr_ring.proofs.Lists.{at_below, each_set, past_set, past_more, last_look_le}
+use Rattle.dr_runs.proofs.Elements.{at_below, each_set}
+use Rattle.dr_runs.proofs.Looks.{past_set, past_more, last_look_le}
 use Rattle.dr_ring.proofs.Events.{open_events, written_count, written_at}
-use Rattle.dr_ring.proofs.Keeps.{word_at, receiver_of_handler, above, upstream_inside, room_stays, payload_stays, flags_stay, receiver_stays}
+use Rattle.dr_ring.proofs.Keeps.{word_at, receiver_of_handler, above, upstream_inside, room_stays, payload_stays, receiver_stays}
+use Rattle.dr_runs.proofs.Flags.{flags_stay, flags_open, halts_flags, closes_flags}
 
 payload_publishes : (k : Shape) (words : List ℕ) (r : SenderRecord) (n : ℕ) → length r.sent.published < n → n ≤ claimed r → AreWritten r n
     → Payload k words r.sent.published r.sent.pending None → Payload k words (published_to r n).sent.published (published_to r n).sent.pending None
@@ -80,21 +84,12 @@ keeps_publishes k w n lt le all free K =
         beginning = was.beginning ∙ sym (take-append-le (length r.received) old new was.taken);
         half = λ v e. (let d = was.half v e in let below = d.0 in (omega arith, d.1 ∙ ap (λ (o : Event). o.first) (sym (get_or_append_left old new no_event (length r.received) below))));
         told = λ yes. absurd (not_closed (was.told yes).0);
-        looks = past_set k w.words cursor_word n r.looks inside rises was.looks;
+        looks = past_set (payload_start k) w.words cursor_word n r.looks inside rises was.looks;
       });
       room = subst (Room k us) (sym whole) (room_stays k w.words us (claimed w.sender) (λ h lt'. (let e = stays (count_word h) (omega arith) in omega arith)) K.room);
       payload = subst (Payload k us (old ++ new) (drop m pending)) (sym free) (payload_publishes k us w.sender n lt le all (payload_stays k w.words us old pending None (λ i big. stays i (omega arith)) (subst (Payload k w.words old pending) free K.payload)));
-      flags = record {
-        halt = let f = F.halt in omega arith;
-        close = let f = F.close in omega arith;
-        by_sender = λ y. one ∙ F.by_sender y;
-        by_halter = λ y. one ∙ F.by_halter y;
-        closed = λ y. two ∙ F.closed y;
-        known_halt = λ y. F.known_halt (sym one ∙ y);
-        known_close = λ y. F.known_close (sym two ∙ y);
-        complete = λ c. absurd (not_closed (sym two ∙ c));
-      };
-      looks = past_set k w.words cursor_word n w.sender.looks inside rises K.looks;
+      flags = flags_open us (length w.sender.sent.pending) (length (drop m pending)) w.sender.halted w.sender.closed w.halter.halted (λ y. not_closed (sym two ∙ y)) (flags_stay w.words us (length w.sender.sent.pending) w.sender.halted w.sender.closed w.halter.halted one two K.flags);
+      looks = past_set (payload_start k) w.words cursor_word n w.sender.looks inside rises K.looks;
     }
 
 -- halt or closed becomes 1: what speaks of neither stays
@@ -115,43 +110,24 @@ flagged k w i pos lt flag a b c flags K =
       halter_plan = K.halter_plan;
       counts = record { cursor = stays cursor_word (λ e. omega arith) ∙ K.counts.cursor; limit = K.counts.limit };
       received = λ h r there. (let inside_h : h < handlers_of k = (let b = at_below w.receivers h r there in let c = K.ends in omega arith) in let was = K.received h r there in
-          receiver_stays k w.words us w.sender.sent.published h r K.graph inside_h (stays (count_word h) (λ e. omega arith)) (λ u lt'. (let e = stays (count_word u) (λ e. omega arith) in omega arith)) (up closed_word) (past_set k w.words i 1 r.looks inside rises was.looks) was);
+          receiver_stays k w.words us w.sender.sent.published h r K.graph inside_h (stays (count_word h) (λ e. omega arith)) (λ u lt'. (let e = stays (count_word u) (λ e. omega arith) in omega arith)) (up closed_word) (past_set (payload_start k) w.words i 1 r.looks inside rises was.looks) was);
       room = room_stays k w.words us (claimed w.sender) (λ h lt'. (let e = stays (count_word h) (λ e. omega arith) in omega arith)) K.room;
       payload = payload_stays k w.words us w.sender.sent.published w.sender.sent.pending w.sender.half (λ j big. stays j (λ e. omega arith)) K.payload;
       flags = flags;
-      looks = past_set k w.words i 1 w.sender.looks inside rises K.looks;
-    }
-
--- the flags once halt is stored
-halts_flags : (k : Shape) (w : World) (a c : Bool) → (a ≡ true) ⊎ (c ≡ true) → KeepsRule k w
-    → HaltAndClose (set w.words halt_word 1) (length w.sender.sent.pending) a w.sender.closed c
-halts_flags k w a c who K = let F = K.flags in let wide = K.wide in
-    let here : word_at (set w.words halt_word 1) halt_word ≡ 1 = get_or-set_same w.words halt_word 1 0 (omega arith) in
-    let other : word_at (set w.words halt_word 1) closed_word ≡ word_at w.words closed_word = get_or-set_other w.words halt_word closed_word 1 0 (λ (e : closed_word ≡ halt_word). omega arith) in record {
-      halt = omega arith;
-      close = let f = F.close in omega arith;
-      by_sender = λ y. here;
-      by_halter = λ y. here;
-      closed = λ y. other ∙ F.closed y;
-      known_halt = λ y. who;
-      known_close = λ y. F.known_close (sym other ∙ y);
-      complete = λ y. (here, (F.complete (sym other ∙ y)).1);
+      looks = past_set (payload_start k) w.words i 1 w.sender.looks inside rises K.looks;
     }
 
 pub keeps_sender_halts : (k : Shape) (w : World) → KeepsRule k w → KeepsRule k (sender_stores w halt_word 1 (sender_halted w.sender))
-keeps_sender_halts k w K = flagged k w halt_word (omega arith) (omega arith) K.flags.halt true w.sender.closed w.halter.halted (halts_flags k w true w.halter.halted (inl refl) K) K
+keeps_sender_halts k w K = flagged k w halt_word (omega arith) (omega arith) K.flags.halt true w.sender.closed w.halter.halted (halts_flags w.words (length w.sender.sent.pending) w.sender.halted w.sender.closed w.halter.halted true w.halter.halted (let wide = K.wide in omega arith) (inl refl) K.flags) K
 
 pub keeps_halter_halts : (k : Shape) (w : World) → KeepsRule k w → KeepsRule k (record w { words = set w.words halt_word 1; halter = halter_halted w.halter })
-keeps_halter_halts k w K = flagged k w halt_word (omega arith) (omega arith) K.flags.halt w.sender.halted w.sender.closed true (halts_flags k w w.sender.halted true (inr refl) K) K
+keeps_halter_halts k w K = flagged k w halt_word (omega arith) (omega arith) K.flags.halt w.sender.halted w.sender.closed true (halts_flags w.words (length w.sender.sent.pending) w.sender.halted w.sender.closed w.halter.halted w.sender.halted true (let wide = K.wide in omega arith) (inr refl) K.flags) K
 
 pub keeps_closes : (k : Shape) (w : World) → w.sender.halted ≡ true → w.sender.sent.pending ≡ [] → KeepsRule k w
     → KeepsRule k (sender_stores w closed_word 1 (sender_closed w.sender))
-keeps_closes k w halted all K = let F = K.flags in let wide = K.wide in
-    let here : word_at (set w.words closed_word 1) closed_word ≡ 1 = get_or-set_same w.words closed_word 1 0 (omega arith) in
-    let other : word_at (set w.words closed_word 1) halt_word ≡ word_at w.words halt_word = get_or-set_other w.words closed_word halt_word 1 0 (λ (e : halt_word ≡ closed_word). omega arith) in
-    let halt : word_at (set w.words closed_word 1) halt_word ≡ 1 = other ∙ F.by_sender halted in
-    flagged k w closed_word (omega arith) (omega arith) F.close w.sender.halted true w.halter.halted
-    (record { halt = omega arith; close = omega arith; by_sender = λ y. halt; by_halter = λ y. halt; closed = λ y. here; known_halt = λ y. inl halted; known_close = λ y. refl; complete = λ y. (halt, ap length all) }) K
+keeps_closes k w halted all K =
+    flagged k w closed_word (omega arith) (omega arith) K.flags.close w.sender.halted true w.halter.halted
+    (closes_flags w.words (length w.sender.sent.pending) w.sender.halted w.sender.closed w.halter.halted (let wide = K.wide in omega arith) halted (ap length all) K.flags) K
 
 -- one receiver's record changes, and no word
 receiver_changes : (k : Shape) (w : World) (h : ℕ) (q : ReceiverRecord) → ReceiverKept k w.words w.sender.sent.published h q → KeepsRule k w
@@ -192,7 +168,7 @@ receiver_learns k w h r half told looks at next drained past K = let was = K.rec
 pub keeps_receiver_looks : (k : Shape) (w : World) (h i : ℕ) (r : ReceiverRecord) → i < payload_start k → get_elem? w.receivers h ≡ some r → KeepsRule k w
     → KeepsRule k (receiver_knows w h (receiver_looked r i (word_at w.words i)))
 keeps_receiver_looks k w h i r lt at K = let was = K.received h r at in
-    receiver_learns k w h r r.half r.told (receiver_looked r i (word_at w.words i)).looks at was.half was.told (past_more k w.words i r.looks lt was.looks) K
+    receiver_learns k w h r r.half r.told (receiver_looked r i (word_at w.words i)).looks at was.half was.told (past_more (payload_start k) w.words i (word_at w.words i) r.looks lt (omega arith) was.looks) K
 
 -- a look that tells a receiver that the ring drained tells the truth
 pub tells_truth : (k : Shape) (w : World) (h : ℕ) (r : ReceiverRecord) → get_elem? w.receivers h ≡ some r
@@ -201,7 +177,7 @@ pub tells_truth : (k : Shape) (w : World) (h : ℕ) (r : ReceiverRecord) → get
 tells_truth k w h r at tells K =
     let both : ((last_look 0 r.looks closed_word == 1) ≡ true) × ((word_at w.words cursor_word == length r.received) ≡ true) = and_parts _ _ tells in
     let a : last_look 0 r.looks closed_word ≡ 1 = eqb-true _ _ both.0 in let b : word_at w.words cursor_word ≡ length r.received = eqb-true _ _ both.1 in
-    let seen = last_look_le k w.words 0 r.looks closed_word (omega arith) (K.received h r at).looks in let flag = K.flags.close in
+    let seen = last_look_le (payload_start k) w.words 0 r.looks closed_word (omega arith) (K.received h r at).looks in let flag = K.flags.close in
     let cursor = K.counts.cursor in (omega arith, omega arith)
 
 pub keeps_cursor_look : (k : Shape) (w : World) (h : ℕ) (r : ReceiverRecord) → get_elem? w.receivers h ≡ some r → KeepsRule k w
@@ -212,18 +188,18 @@ keeps_cursor_look k w h r at K = let was = K.received h r at in let seen = curso
       | inl before ↦ was.told before
       | inr now ↦ (let t = tells_truth k w h r at now K in let e = t.1 in (t.0, omega arith))
     ])
-    (past_more k w.words cursor_word r.looks (omega arith) was.looks) K
+    (past_more (payload_start k) w.words cursor_word (word_at w.words cursor_word) r.looks (omega arith) (omega arith) was.looks) K
 
 early_by : (k : Shape) (w : World) (h : ℕ) (r : ReceiverRecord) (ups : List ℕ) → get_elem? w.receivers h ≡ some r
     → ((u : ℕ) → Contains ups u → length r.received < last_look 0 r.looks (count_word u)) → (ups ≡ [] → length r.received < last_look 0 r.looks cursor_word)
     → ups ≡ upstreams_of k.upstreams h → KeepsRule k w → length r.received < length w.sender.sent.published
 early_by k w h r [] at completed published same K =
-    let was = K.received h r at in let a = published refl in let b = last_look_le k w.words 0 r.looks cursor_word (omega arith) was.looks in
+    let was = K.received h r at in let a = published refl in let b = last_look_le (payload_start k) w.words 0 r.looks cursor_word (omega arith) was.looks in
     let c = K.counts.cursor in omega arith
 early_by k w h r (u ∷ ups) at completed published same K =
     let was = K.received h r at in let has : Contains (u ∷ ups) u = (0, omega arith, refl) in let a = completed u has in
     let inside : h < handlers_of k = (let b = at_below w.receivers h r at in let c = K.ends in omega arith) in
-    let b = last_look_le k w.words 0 r.looks (count_word u) (omega arith) was.looks in
+    let b = last_look_le (payload_start k) w.words 0 r.looks (count_word u) (omega arith) was.looks in
     let t = receiver_of_handler k w K u (upstream_inside k K.graph h u inside (subst (λ (xs : List ℕ). Contains xs u) same has)) in
     let d = t.2.count in let e = t.2.completed in let f = t.2.taken in omega arith
 
@@ -269,7 +245,7 @@ keeps_takes k w h first r at half low K =
       count = was.count;
       completed = let c = was.completed in omega arith;
       taken = omega arith;
-      after = λ u up. (let a = low.completed u up in let b = last_look_le k w.words 0 r.looks (count_word u) (omega arith) was.looks in omega arith);
+      after = λ u up. (let a = low.completed u up in let b = last_look_le (payload_start k) w.words 0 r.looks (count_word u) (omega arith) was.looks in omega arith);
       beginning = ap (λ (xs : List Event). xs ++ found ∷ []) was.beginning ∙ ap (λ (x : Event). take n all ++ x ∷ []) event ∙ sym (take_more all n no_event below) ∙ ap (λ (m : ℕ). take m all) (sym longer);
       half = λ v e. absurd (cc);
       told = λ yes. absurd (let t = (was.told yes).1 in omega arith);
@@ -307,12 +283,12 @@ keeps_completes k w h n r at rise le K =
             beginning = was.beginning;
             half = was.half;
             told = λ yes. (two ∙ (was.told yes).0, (was.told yes).1);
-            looks = past_set k w.words i n r.looks inside rises was.looks;
+            looks = past_set (payload_start k) w.words i n r.looks inside rises was.looks;
           })
           (λ j q ne there. (let old = K.received j q there in let inside_j : j < handlers_of k = (let b = at_below w.receivers j q there in let c = K.ends in omega arith) in
-          receiver_stays k w.words us w.sender.sent.published j q K.graph inside_j (stays (count_word j) (λ e. ne (omega arith))) up (λ c. two ∙ c) (past_set k w.words i n q.looks inside rises old.looks) old));
+          receiver_stays k w.words us w.sender.sent.published j q K.graph inside_j (stays (count_word j) (λ e. ne (omega arith))) up (λ c. two ∙ c) (past_set (payload_start k) w.words i n q.looks inside rises old.looks) old));
       room = room_stays k w.words us (claimed w.sender) up K.room;
       payload = payload_stays k w.words us w.sender.sent.published w.sender.sent.pending w.sender.half (λ j big. stays j (λ e. omega arith)) K.payload;
       flags = flags_stay w.words us (length w.sender.sent.pending) w.sender.halted w.sender.closed w.halter.halted one two K.flags;
-      looks = past_set k w.words i n w.sender.looks inside rises K.looks;
+      looks = past_set (payload_start k) w.words i n w.sender.looks inside rises K.looks;
     }

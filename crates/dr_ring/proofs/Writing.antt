@@ -2,10 +2,10 @@
 use Rattle.std.proofs.Common.{◌≡◌, ℕ, ◌-◌, ◌<◌, ◌≤◌, length, set, Some, sym, refl, arith, subst, length-set}
 use Rattle.dr_seq.specs.declared.event.Event.{Event}
 use Rattle.dr_seq.proofs.Sizes.{size_positive}
-use Rattle.dr_ring.specs.declared.written.Written.{Written}
+use Rattle.dr_runs.specs.declared.written.Written.{Written}
 use Rattle.dr_ring.specs.declared.record.SenderRecord.{SenderRecord}
 use Rattle.dr_ring.specs.Meaning.Records.{written}
-use Rattle.dr_ring.specs.Inside.Noted.{Notes}
+use Rattle.dr_runs.specs.Noted.{Notes}
 use Rattle.dr_ring.specs.Inside.Fits.{SenderFields, SenderFits}
 use Rattle.dr_ring.proofs.Noting.{noted_write}
 

@@ -1,7 +1,6 @@
 -- What public contracts cite: what an end is, and what its calls answer and leave.
 pub mod Settling
 pub mod Plans
-pub mod Fault
 pub mod Ends
 pub mod Finds
 pub mod Sending

@@ -18,7 +18,7 @@ ghost use Rattle.dr_core.specs.Meaning.Transcript.{Transcript, LeadsTo};
 ghost use Rattle.dr_core.specs.Meaning.Laws.{Laws};
 ghost use Rattle.dr_core.specs.Meaning.Progress.{NobodyIsStuck};
 ghost use Rattle.dr_ring.specs.Meaning.Shape.{Shape, ring_setup, handlers_of};
-ghost use Rattle.dr_ring.specs.Meaning.Words.{halt_word, count_word};
+ghost use Rattle.dr_runs.specs.Words.{halt_word, count_word};
 ghost use Rattle.dr_ring.specs.Meaning.Records.{claimed};
 ghost use Rattle.dr_ring.specs.Meaning.Rule.{World, KeepsRule};
 ghost use Rattle.dr_ring.specs.declared.record.Step.{Step};

@@ -9,7 +9,6 @@
 #![tactic(auto)]
 
 mod claiming;
-mod fault;
 pub mod laws;
 mod opening;
 mod plan;
@@ -18,12 +17,11 @@ mod receiver;
 pub mod record;
 mod sender;
 mod settled;
-mod written;
 
-pub use fault::RingFault;
+pub use dr_runs::{HandlerCounts, RingFault};
 pub use laws::Halter;
 pub use opening::ring;
-pub use plan::{Plan, copy_upstreams};
+pub use plan::Plan;
 pub use receiver::Receiver;
 pub use sender::Sender;
-pub use settled::{HandlerCounts, Settled, settle};
+pub use settled::{Settled, settle};

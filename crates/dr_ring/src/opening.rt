@@ -11,17 +11,15 @@ ghost use Rattle.dr_ring.specs.Inside.Seats.{IsAtTable, known_receivers};
 ghost use Rattle.dr_ring.specs.Calls.Settling.{AreAllEnds};
 ghost use Rattle.dr_ring.specs.Calls.Making.{at_ring, AreFreshEnds, fault_of};
 
-use crate::fault::RingFault;
 use crate::laws::{Halter, ReceiverStation, RingBody, RingSeat, RingTable, SenderStation};
 use crate::plan::Plan;
 use crate::receiver::Receiver;
 use crate::record::View;
 use crate::sender::Sender;
-use crate::settled::HandlerCounts;
-use crate::written::Written;
 use atomic_table::Split;
 use dr_core::is_valid_limit;
 use dr_graph::Graph;
+use dr_runs::{HandlerCounts, RingFault, Written};
 use dr_seq::{GateCache, Size};
 use std::alloc::{AllocError, Global};
 use std::sync::Arc;

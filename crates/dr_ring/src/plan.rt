@@ -3,28 +3,15 @@
 ghost use Rattle.std.specs.Prelude.{◌≡◌, ◌^◌, ◌<◌, ◌≤◌, map, IfOk};
 ghost use Rattle.dr_graph.specs.Meaning.Graph.{upstreams_of, finals as finals_of};
 ghost use Rattle.dr_ring.specs.Meaning.Shape.{handlers_of};
-ghost use Rattle.dr_ring.specs.Meaning.Words.{cursor_word, closed_word, halt_word, count_word as count_word_of, payload_word as payload_word_of, words_of};
+ghost use Rattle.dr_ring.specs.Meaning.Words.{payload_word as payload_word_of, words_of};
+ghost use Rattle.dr_runs.specs.Words.{cursor_word, closed_word, halt_word, count_word as count_word_of};
 ghost use Rattle.dr_ring.specs.Calls.Plans.{IsPlan};
 
 use dr_graph::Graph;
+use dr_runs::copy_upstreams;
 use dr_seq::Size;
 use std::alloc::{AllocError, Global};
 use std::marker::Model;
-
-/// The place of the word that counts the published events.
-pub const CURSOR_WORD: usize = 0;
-/// The place of the word that is 1 once the sender has closed.
-pub const CLOSED_WORD: usize = 1;
-/// The place of the word that is 1 once the ring is halted.
-pub const HALT_WORD: usize = 16;
-
-/// The place of the word that counts what a handler completed.
-pub fn count_word(handler: usize) -> usize
-    requires { handler < 65536 }
-    ensures { result ≡ count_word_of handler }
-{
-    32 + 16 * handler
-}
 
 /// The graph of a ring's handlers, by each handler's direct upstreams, with its final handlers, the
 /// size, the limit of sequences and the number of words.
@@ -47,19 +34,6 @@ impl Model for Plan {
     ghost view = { λ p. record { upstreams = map (λ v. v.items) p.upstreams.items; size = p.size; limit = p.limit } };
 
     ghost invariant = { λ p. PlanFits (record { upstreams = map (λ v. v.items) p.upstreams.items; size = p.size; limit = p.limit }) p.finals.items p.words };
-}
-
-/// The direct upstreams of each handler of a graph, copied.
-pub fn copy_upstreams(alloc: Global, graph: &Graph) -> Result<Vec<Vec<usize>>, AllocError>
-    ensures { IfOk result (λ v. map (λ ups. ups.items) v.items ≡ graph.now.upstreams) }
-{
-    let handlers = graph.len();
-    let mut upstreams = Vec::with_capacity(alloc, handlers)?;
-    for handler in 0..handlers {
-        let own = Vec::from_slice(alloc, graph.upstreams(handler))?;
-        upstreams.push(own)?;
-    }
-    Ok(upstreams)
 }
 
 impl Plan {

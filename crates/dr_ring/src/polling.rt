@@ -1,20 +1,13 @@
-//! What a poll is made of: the barrier's offer, the events, and the answer where there are none.
+//! What a poll is made of: the barrier's offer, and the events.
 
 ghost use Rattle.std.specs.Prelude.{◌≡◌, ◌+◌, ◌^◌, ◌<◌, ◌≤◌, None, length};
-ghost use Rattle.dr_ring.specs.Calls.Receiving.{lesser_of, received_all};
+ghost use Rattle.dr_ring.specs.Calls.Receiving.{received_all};
 ghost use Rattle.dr_ring.specs.Calls.Ends.{HasLoaded};
-ghost use Rattle.dr_ring.specs.Inside.Parts.{LooksAtUpstreams, IsOfferedUpTo, nothing_offered as answer_of};
+ghost use Rattle.dr_ring.specs.Inside.Parts.{LooksAtUpstreams, IsOfferedUpTo};
 
 use crate::laws::ReceiverStation;
-use dr_core::Polled;
+use dr_runs::lesser;
 use dr_seq::Event;
-
-// The lesser of a count and those seen before, or the count where it is the first.
-fn lesser(first: bool, count: u64, seen: u64) -> u64
-    ensures { result ≡ lesser_of first count seen }
-{
-    if first || count < seen { count } else { seen }
-}
 
 impl ReceiverStation {
     /// Looks at the count of each upstream, and gives what the barrier offers: the least of them,
@@ -51,18 +44,5 @@ impl ReceiverStation {
             *event = self.load_second(word + 1, first);
             sequence += 1;
         }
-    }
-}
-
-/// What a poll answers where its barrier offers nothing.
-pub(crate) fn nothing_offered(closed: u64, cursor: u64, taken: u64) -> Polled
-    ensures { result ≡ answer_of closed cursor taken }
-{
-    if closed == 1 && cursor == taken {
-        Polled::Drained
-    } else if cursor > taken {
-        Polled::Gating
-    } else {
-        Polled::Idle
     }
 }

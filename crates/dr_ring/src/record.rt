@@ -1,15 +1,10 @@
 //! What the ends of a ring know. No value of a record is ever made: they stand in proofs alone.
 
 use crate::plan::Plan;
+use dr_runs::Look;
 use dr_seq::Event;
 use std::collections::LinkedList;
 use std::marker::Model;
-
-/// A load of a word that another end stores: which word, and what was found.
-pub struct Look {
-    pub word: u64,
-    pub value: u64,
-}
 
 /// A write of which the first word is stored, and the second not yet.
 pub struct HalfWrite {

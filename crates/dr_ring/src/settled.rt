@@ -4,33 +4,17 @@ ghost use Rattle.std.specs.Prelude.{◌≡◌, ◌<◌, length, map};
 ghost use Rattle.std.specs.Arc.{arc_value};
 ghost use Rattle.dr_ring.specs.Inside.Seats.{IsAtTable, ring_ends};
 ghost use Rattle.dr_ring.specs.Meaning.Records.{claimed as claimed_of};
-ghost use Rattle.dr_runs.specs.Gathering.{Gathers};
+ghost use Rattle.dr_runs.specs.Gathering.{Gathers, counts_at};
 ghost use Rattle.dr_ring.specs.Inside.Stations.{AreOfRing, receiver_known};
 ghost use Rattle.dr_ring.specs.Meaning.Settling.{Settles};
-ghost use Rattle.dr_ring.specs.Calls.Settling.{AreAllEnds, HasRun, handler_counts, counts_at};
+ghost use Rattle.dr_ring.specs.Calls.Settling.{AreAllEnds, HasRun, handler_counts};
 
 use crate::laws::{RingBody, RingSeat, moments, settling};
 use crate::receiver::Receiver;
 use crate::sender::Sender;
+use dr_runs::HandlerCounts;
 use std::alloc::Global;
 use std::sync::Arc;
-
-/// How many events a handler took and completed.
-#[derive(Clone, Copy, Debug, PartialEq, Eq)]
-pub struct HandlerCounts {
-    pub taken: u64,
-    pub completed: u64,
-}
-
-impl HandlerCounts {
-    /// Before the first event.
-    pub const NONE: HandlerCounts = HandlerCounts {
-        taken: 0,
-        completed: 0,
-    };
-}
-
-const _: () = prove!(HandlerCounts::NONE.taken == 0 && HandlerCounts::NONE.completed == 0);
 
 /// How far a ring came.
 #[derive(Drop)]

@@ -5,3 +5,9 @@ pub mod Gathering
 pub mod Stretches
 pub mod Rows
 pub mod Exact
+pub mod Elements
+pub mod Looks
+pub mod Offers
+pub mod Noting
+pub mod Flags
+pub mod OneSender

@@ -1,9 +1,10 @@
 -- How the seats of an exchange's ends come together in one.
-use Rattle.std.specs.Prelude.{◌≡◌, ℕ, List, slice_index}
+use Rattle.std.specs.Prelude.{◌≡◌, ℕ, List, slice_index, slice_index_or}
 use mathlib.Core.Option.{some}
 use lib.ListN.{get_elem?}
 use Rattle.atomic_table.specs.Table.{Step as TableStep}
 use Rattle.atomic_table.specs.Seated.{TableId}
+use Rattle.dr_runs.specs.declared.counts.HandlerCounts.{HandlerCounts}
 use Rattle.dr_runs.specs.declared.view.View.{View}
 use Rattle.dr_runs.specs.Runs.{Ends, Exchange, IsBeginning, IsReached}
 use Rattle.dr_runs.specs.Seats.{Sitting, EachPast, Saw, with_pasts, stores_of}
@@ -40,3 +41,7 @@ Compares X s me n me' = (me' ≡ me) × (ran : ViewRan X me.0) × (slice_index (
 -- an end has its part in a run: what it saw is a beginning of it, and what it stored are its stores there
 abbrev pub HasPart : {S : Type 0} → List S → List S → List S → List S → Type 0
 HasPart past stored stores steps = IsBeginning past steps × (stores ≡ stored)
+
+-- the counts of one of some handlers
+abbrev pub counts_at : List HandlerCounts → ℕ → HandlerCounts
+counts_at counts h = slice_index_or counts h record { taken = 0; completed = 0 }

@@ -2,3 +2,10 @@ pub mod Runs
 pub mod Seats
 pub mod Gathering
 pub mod Stretches
+pub mod Looks
+pub mod Entries
+pub mod Polls
+pub mod Words
+pub mod Fault
+pub mod Noted
+pub mod Replies

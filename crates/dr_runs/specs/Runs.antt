@@ -1,5 +1,5 @@
 -- An exchange by its steps, and what lists of them come to.
-use Rattle.std.specs.Prelude.{◌≡◌, ℕ, Bool, List, [], ◌∷◌, ◌++◌}
+use Rattle.std.specs.Prelude.{◌≡◌, ℕ, Bool, List, [], ◌∷◌, ◌++◌, Result, Ok, Err}
 use mathlib.Core.Option.{Option}
 use Rattle.dr_core.specs.Meaning.Transcript.{Transcript}
 
@@ -39,3 +39,8 @@ pub record IsReached {T C E S W : Type 0} (X : Exchange T C E S W) (w : W) : Typ
   pub steps : List S
   pub entries : Transcript T
   pub runs : Runs X.Happens X.entries_of steps entries X.opening w
+
+-- a call that is not refused stores this and nothing else, and a refused one nothing
+abbrev pub StoresWhereOk : {A E S : Type 0} → List S → List S → List S → Result A E → Type 0
+StoresWhereOk stored steps stored' (Ok _) = stored' ≡ stored ++ steps
+StoresWhereOk stored steps stored' (Err _) = stored' ≡ stored

@@ -1,14 +1,29 @@
-//! Runs of an exchange over atomic words, and what each of its ends saw of them.
+//! What all rings have: runs of their steps, what each of their ends saw of them, and what their
+//! ends keep.
 //!
-//! The ends of such an exchange, which are its senders, its receivers and its halter, stand on
-//! threads of their own and share a table of words. A step is one atomic change of one word by one
-//! end, and a run is a list of steps from the exchange's opening. Here stands what every such
-//! exchange has, whatever its words and its steps are: `specs/Runs.antt` says what a run is,
+//! The ends of a ring, which are its senders, its receivers and its halter, stand on threads of
+//! their own and share a table of words. A step is one atomic change of one word by one end, and a
+//! run is a list of steps from the ring's opening. `specs/Runs.antt` says what a run is,
 //! `specs/Seats.antt` which rule the table keeps, by which each end knows the run as it was at its
-//! last step, and `specs/Gathering.antt` what is known once ends come together. The rings of
-//! `dr_ring` and `dr_senders` are two such exchanges. Nothing of this crate runs.
+//! last step, `specs/Gathering.antt` what is known once ends come together, and `specs/Looks.antt`
+//! what looks at words come to. A ring with one sender also has the places of its words
+//! (`specs/Words.antt`) and a note of which open sequences are written (`specs/Noted.antt`).
 #![tactic(auto)]
 
+mod counts;
+mod fault;
+mod look;
+mod plan;
+mod polling;
 mod view;
+mod words;
+mod written;
 
+pub use counts::HandlerCounts;
+pub use fault::RingFault;
+pub use look::Look;
+pub use plan::copy_upstreams;
+pub use polling::{lesser, nothing_offered};
 pub use view::View;
+pub use words::{CLOSED_WORD, CURSOR_WORD, HALT_WORD, count_word};
+pub use written::Written;

@@ -12,10 +12,11 @@ use Rattle.atomic_table.specs.Table.{step, Allows}
 use Rattle.dr_seq.specs.declared.event.Event.{Event}
 use Rattle.dr_seq.specs.Rounds.{entry_of}
 use Rattle.dr_graph.specs.Meaning.Graph.{upstreams_of, finals}
-use Rattle.dr_ring.specs.Meaning.Records.{last_look}
-use Rattle.dr_ring.proofs.Lists.{at_below, final_inside}
+use Rattle.dr_runs.specs.Looks.{last_look}
+use Rattle.dr_runs.proofs.Elements.{at_below}
+use Rattle.dr_runs.proofs.Offers.{final_inside}
 use Rattle.dr_senders.specs.Meaning.Shape.{Shape, handlers_of}
-use Rattle.dr_senders.specs.Meaning.Words.{claim_word, halted_from, halt_bit, count_word, mark_word, payload_word, claimed_in}
+use Rattle.dr_senders.specs.Meaning.Words.{claim_word, halted_from, halt_bit, count_word, mark_word, payload_word, claimed_in, mark_start}
 use Rattle.dr_senders.specs.declared.record.Stage.{Stage}
 use Rattle.dr_senders.specs.declared.record.SenderRecord.{SenderRecord}
 use Rattle.dr_senders.specs.declared.record.ReceiverRecord.{ReceiverRecord}
@@ -31,7 +32,8 @@ use Rattle.dr_runs.specs.Seats.{end_of, seat_at, alone}
 use Rattle.dr_senders.specs.Inside.Seats.{End, Sitting, ring_ends, Loads, Stores, Ruled, end_number, Stands, sender_of, receiver_of, halter_of, IsSender, IsReceiver, IsHalter, SenderLooked, SenderClaimed, SenderStoredFirst, SenderStoredSecond, SenderPublished, SenderHalted, ReceiverLookedAtClaims, ReceiverLookedAtMark, ReceiverLookedAtCount, ReceiverLoadedFirst, ReceiverLoadedSecond, ReceiverCompleted, HalterHalted, SenderLookedAtMark}
 use Rattle.dr_senders.specs.Calls.Finds.{FindsEvents, IsEarlier, FindsMark}
 use Rattle.atomic_table.proofs.Lists.{set_here, at_longer}
-use Rattle.dr_senders.proofs.Places.{word_at, last_look_le, claimed_low}
+use Rattle.dr_senders.proofs.Places.{word_at, claimed_low}
+use Rattle.dr_runs.proofs.Looks.{last_look_le}
 use Rattle.dr_senders.proofs.Facts.{taken_claimed, handler_inside, upstream_inside, receiver_of_handler, near_open, owned}
 use Rattle.dr_runs.proofs.Seats.{adds_nothing, adds_one}
 use Rattle.dr_senders.proofs.Seats.{Does, OthersStand, by_end, but_sender, but_receiver, but_halter}
@@ -49,7 +51,7 @@ along P me e is p = subst (λ (x : End). P (seat_at x me.0.pasts)) (sym is) p
 -- a sender's look
 sender_sees : (k : Shape) (w : World) (r : SenderRecord) (i : ℕ) → get_elem? w.senders r.number ≡ some r → i < 16 + 16 * handlers_of k → KeepsRule k w
     → last_look 0 r.looks i ≤ word_at w.words i
-sender_sees k w r i at low K = last_look_le k w.words 0 r.looks i (omega arith) (K.sent r.number r at).looks
+sender_sees k w r i at low K = last_look_le (mark_start k) w.words 0 r.looks i (omega arith) (K.sent r.number r at).looks
 
 -- what a step does that changes a sender's record, and no word
 sender_learns : (k : Shape) (kind : Step) (w : World) (r q : SenderRecord) (i : ℕ) → get_elem? w.senders r.number ≡ some r → q.number ≡ r.number
@@ -339,7 +341,7 @@ receiver_looks_at_claims k slots id me is =
       (
         refl,
         (
-          last_look_le k w.words 0 r.looks claim_word (omega arith) was.looks,
+          last_look_le (mark_start k) w.words 0 r.looks claim_word (omega arith) was.looks,
           omega arith,
           (let m = seen_claimed k w r at K in omega arith),
           λ told.
@@ -368,7 +370,7 @@ finds_events : (k : Shape) (w : World) (r : ReceiverRecord) (u : ℕ) → get_el
 finds_events k w r u at has K =
     let was = K.received r.number r at in let inside = upstream_inside k K.shape.graph r.number u (handler_inside k w r.number r at K) has in
     let o = receiver_of_handler k w K u inside in let a = o.2.count in let b = o.2.completed in let c = taken_claimed k w u o.0 o.1 K in
-    (last_look_le k w.words 0 r.looks (count_word u) (omega arith) was.looks, was.after u has, λ told. (let t = was.told told in let e = t.1 in omega arith))
+    (last_look_le (mark_start k) w.words 0 r.looks (count_word u) (omega arith) was.looks, was.after u has, λ told. (let t = was.told told in let e = t.1 in omega arith))
 
 pub receiver_looks_at_count : (k : Shape) {sh : Shape} (slots id : ℕ) (me : Sitting) (i u : ℕ) → k ≡ sh → i ≡ count_word u → IsReceiver (end_of me)
     → Contains (upstreams_of sh.upstreams (receiver_of me.0.ends).number) u

@@ -13,7 +13,7 @@ use Rattle.dr_core.specs.Meaning.Refusals.{write_causes, sequence_causes, publis
 use Rattle.dr_core.specs.declared.ends.Trouble.TheVariants.{Refused}
 use Rattle.dr_core.specs.Calls.Ends.{Verdict, Exactly, unknown, MayHold, MayFail, IsAnswerOf}
 use Rattle.dr_core.proofs.Causes.{none_join, first_left, none_of_stretch, first_of_stretch}
-use Rattle.dr_ring.specs.declared.record.Look.{Look}
+use Rattle.dr_runs.specs.declared.look.Look.{Look}
 use Rattle.dr_senders.specs.Meaning.Shape.{Shape}
 use Rattle.dr_senders.specs.Meaning.Words.{claimed_in, mark_word}
 use Rattle.dr_senders.specs.declared.record.Stage.{Stage}

@@ -12,7 +12,7 @@ use Rattle.dr_senders.specs.declared.record.ReceiverRecord.{ReceiverRecord}
 use Rattle.dr_senders.specs.Meaning.Rule.{KeepsRule, SenderKept, ReceiverKept}
 use Rattle.dr_senders.specs.Meaning.Moments.{fresh_sender, fresh_senders, fresh_receiver, fresh_receivers, new_world, taken_of, picture_of}
 use Rattle.dr_core.specs.Meaning.Machine as machine
-use Rattle.dr_ring.proofs.Beginning.{zeros, all_zero}
+use Rattle.dr_runs.proofs.Elements.{zeros, all_zero}
 
 pub receiver_fresh : (h n i : ℕ) (r : ReceiverRecord) → get_elem? (fresh_receivers h n) i ≡ some r → r ≡ fresh_receiver (h + i)
 receiver_fresh h zero i r e = absurd (some-ne-none r (sym e))

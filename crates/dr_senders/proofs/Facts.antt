@@ -7,16 +7,17 @@ use mathlib.Core.Option.{some}
 use lib.ListN.{get_elem?}
 use Rattle.dr_seq.specs.declared.event.Event.{Event}
 use Rattle.dr_graph.specs.Meaning.Graph.{nobody, upstreams_of, IsOrderly, IsGated, IsGraph}
-use Rattle.dr_ring.specs.Meaning.Records.{last_look}
-use Rattle.dr_ring.proofs.Lists.{there, at_below, contains_none}
+use Rattle.dr_runs.specs.Looks.{last_look}
+use Rattle.dr_runs.proofs.Elements.{there, at_below, contains_none}
 use Rattle.dr_senders.specs.Meaning.Shape.{Shape, handlers_of}
-use Rattle.dr_senders.specs.Meaning.Words.{count_word, payload_word}
+use Rattle.dr_senders.specs.Meaning.Words.{count_word, payload_word, mark_start}
 use Rattle.dr_senders.specs.declared.record.Stage.{Stage}
 use Rattle.dr_senders.specs.declared.record.SenderRecord.{SenderRecord}
 use Rattle.dr_senders.specs.declared.record.ReceiverRecord.{ReceiverRecord}
 use Rattle.dr_senders.specs.Meaning.Records.{IsBelowBarrier}
 use Rattle.dr_senders.specs.Meaning.Rule.{World, IsOut, IsOutWith, ReceiverKept, KeepsRule}
-use Rattle.dr_senders.proofs.Places.{word_at, one_value, last_look_le}
+use Rattle.dr_senders.proofs.Places.{word_at, one_value}
+use Rattle.dr_runs.proofs.Looks.{last_look_le}
 
 pub receiver_of_handler : (k : Shape) (w : World) → KeepsRule k w → (h : ℕ) → h < handlers_of k
     → (r : ReceiverRecord) × (get_elem? w.receivers h ≡ some r) × ReceiverKept k w.words w.stages h r
@@ -75,7 +76,7 @@ early_by k w h r (u ∷ ups) at completed published same K =
     let was = K.received h r at in let has : Contains (u ∷ ups) u = (0, omega arith, refl) in let a = completed u has in
     let inside = handler_inside k w h r at K in
     let up : u < handlers_of k = upstream_inside k K.shape.graph h u inside (subst (λ (xs : List ℕ). Contains xs u) same has) in
-    let b = last_look_le k w.words 0 r.looks (count_word u) (omega arith) was.looks in
+    let b = last_look_le (mark_start k) w.words 0 r.looks (count_word u) (omega arith) was.looks in
     let t = receiver_of_handler k w K u up in
     let d = t.2.count in let e =
     t.2.completed in out w.stages (length r.received) (get_or t.0.received (length r.received) record { first = 0; second = 0 })

@@ -3,7 +3,8 @@ use Rattle.std.proofs.Common.{◌≡◌, ℕ, zero, suc, ◌+◌, ◌<◌, inl, 
 use Rattle.std.proofs.lemmas.List.{length-append, length-replicate}
 use mathlib.Core.Option.{some, some-injective, some-ne-none}
 use lib.ListN.{get_elem?}
-use Rattle.dr_ring.proofs.Lists.{at_below, each_set, final_inside}
+use Rattle.dr_runs.proofs.Elements.{at_below, each_set}
+use Rattle.dr_runs.proofs.Offers.{final_inside}
 use Rattle.dr_senders.specs.Meaning.Shape.{Shape}
 use Rattle.dr_senders.specs.Meaning.Words.{claim_word, claimed_in, is_halted, halted_from, halt_bit, count_word, mark_start, mark_word, payload_word}
 use Rattle.dr_senders.specs.declared.record.Stage.{Stage}
@@ -14,7 +15,8 @@ use Rattle.dr_senders.specs.Meaning.Records.{fresh_stage, fresh_own, sender_look
 use Rattle.dr_senders.specs.Meaning.Rule.{World, StageKept, ArePast, SenderKept, KeepsRule}
 use Rattle.dr_senders.specs.Meaning.Steps.{sender_knows, sender_claims, halted_words}
 use Rattle.atomic_table.proofs.Lists.{at_longer}
-use Rattle.dr_senders.proofs.Places.{word_at, more_right, more_cases, at_replicate, in_replicate, claimed_low, halted_low, claimed_halted, halted_rises, is_halted_from, Rises, rises_set, past_rises, past_more, last_look_le}
+use Rattle.dr_senders.proofs.Places.{word_at, more_right, more_cases, at_replicate, in_replicate, claimed_low, halted_low, claimed_halted, halted_rises, is_halted_from, Rises, rises_set, past_rises}
+use Rattle.dr_runs.proofs.Looks.{past_more, last_look_le}
 use Rattle.dr_senders.proofs.Facts.{handler_inside}
 use Rattle.dr_senders.proofs.Stays.{Lasts, out_lasts, room_stays, receiver_stays, sender_stays, stage_stays}
 
@@ -41,7 +43,7 @@ pub keeps_sender_looks : (k : Shape) (w : World) (p i : ℕ) (r : SenderRecord) 
     → KeepsRule k (sender_knows w p (sender_looked r i (word_at w.words i)))
 keeps_sender_looks k w p i r low at K = let was = K.sent p r at in
     sender_changes k w p (sender_looked r i (word_at w.words i))
-    (record { number = was.number; own = was.own; all = was.all; looks = past_more k w.words i (word_at w.words i) r.looks low (omega arith) was.looks }) K
+    (record { number = was.number; own = was.own; all = was.all; looks = past_more (mark_start k) w.words i (word_at w.words i) r.looks low (omega arith) was.looks }) K
 
 -- it looks at a mark
 pub keeps_mark_found : (k : Shape) (w : World) (p word found : ℕ) (r : SenderRecord) → get_elem? w.senders p ≡ some r → KeepsRule k w
@@ -102,7 +104,7 @@ keeps_claims k w p c n r at some_one room found K =
       claim = ap claimed_in here ∙ claimed_low (c + n) (omega arith) ∙ sym longer;
       limit = omega arith;
       room = λ f final. (let i = final_inside k.upstreams f final in let a = room.completed f final in
-          let b = last_look_le k w.words 0 r.looks (count_word f) (omega arith) was.looks in let e = stays (count_word f) (omega arith) in omega arith);
+          let b = last_look_le (mark_start k) w.words 0 r.looks (count_word f) (omega arith) was.looks in let e = stays (count_word f) (omega arith) in omega arith);
       stages = λ s t there. elim (more_cases w.stages new s t there) [
         | inl old ↦ (let S = K.stages s t old in record {
           whole = S.whole;
@@ -140,7 +142,7 @@ keeps_claims k w p c n r at some_one room found K =
               | inl old ↦ (let x = was.all s t old mine in (x.0, at_longer r.own (fresh_own r.number c n) x.0 (record { sequence = s; stage = t }) x.1))
               | inr y ↦ claimed_own r p c n s y.0 t (was.number) (let at = y.1 in omega arith) y.2
             ];
-            looks = past_more k us claim_word (c + n) r.looks (omega arith) (omega arith) (past_rises k w.words us r.looks rises was.looks);
+            looks = past_more (mark_start k) us claim_word (c + n) r.looks (omega arith) (omega arith) (past_rises k w.words us r.looks rises was.looks);
           })
           (λ q x ne there. sender_stays k w.words us w.stages more q x rises (λ s t old _. at_longer w.stages new s t old)
           (λ s t at_more mine. elim (more_cases w.stages new s t at_more) [
@@ -200,7 +202,7 @@ keeps_sender_halts k w p r at K =
       own = was.own;
       all = was.all;
       looks =
-          past_more k us claim_word (halted_from n) r.looks (omega arith) (omega arith) (past_rises k w.words us r.looks rises was.looks);
+          past_more (mark_start k) us claim_word (halted_from n) r.looks (omega arith) (omega arith) (past_rises k w.words us r.looks rises was.looks);
     })
     (λ q x ne there. sender_stays k w.words us w.stages w.stages q x rises (λ s t old _. old) (λ s t old _. old) (K.sent q x there)))
     (past_rises k w.words us w.halter.looks rises K.halter) K
@@ -211,4 +213,4 @@ keeps_halter_halts k w K =
     let n = word_at w.words claim_word in let us = halted_words w in let rises = halt_rises k w K in let here = halt_here k w K in
     halting k w w.senders (halter_halted w.halter n) K.inlets
     (λ p x there. sender_stays k w.words us w.stages w.stages p x rises (λ s t old _. old) (λ s t old _. old) (K.sent p x there))
-    (past_more k us claim_word (halted_from n) w.halter.looks (omega arith) (omega arith) (past_rises k w.words us w.halter.looks rises K.halter)) K
+    (past_more (mark_start k) us claim_word (halted_from n) w.halter.looks (omega arith) (omega arith) (past_rises k w.words us w.halter.looks rises K.halter)) K

@@ -7,14 +7,15 @@ use lib.ListN.{get_elem?}
 use Rattle.dr_seq.specs.declared.event.Event.{Event}
 use Rattle.dr_seq.specs.Event.{no_event}
 use Rattle.dr_seq.specs.Rounds.{entry_of}
-use Rattle.dr_ring.proofs.Lists.{at_below, each_set, last_look_more, last_look_else}
+use Rattle.dr_runs.proofs.Elements.{at_below, each_set}
+use Rattle.dr_runs.proofs.Looks.{last_look_more, last_look_else, past_more, last_look_le}
 use Rattle.dr_senders.specs.Meaning.Shape.{Shape, handlers_of}
 use Rattle.dr_senders.specs.Meaning.Words.{claim_word, claimed_in, is_halted, count_word, mark_start, mark_word, payload_word}
 use Rattle.dr_senders.specs.declared.record.ReceiverRecord.{ReceiverRecord}
 use Rattle.dr_senders.specs.Meaning.Records.{receiver_looked, tells_drained, claims_looked, mark_looked, half_taken, took, completed_to, IsBelowBarrier}
 use Rattle.dr_senders.specs.Meaning.Rule.{World, IsOut, IsOutWith, ReceiverKept, KeepsRule}
 use Rattle.dr_senders.specs.Meaning.Steps.{receiver_knows}
-use Rattle.dr_senders.proofs.Places.{word_at, Rises, rises_set, past_rises, past_more, last_look_le}
+use Rattle.dr_senders.proofs.Places.{word_at, Rises, rises_set, past_rises}
 use Rattle.dr_senders.proofs.Facts.{handler_inside, upstream_inside, out_with, early, next_event}
 use Rattle.dr_senders.proofs.Stays.{room_stays, receiver_stays, sender_stays, stage_stays}
 
@@ -51,7 +52,7 @@ keeps_receiver_looks k w h i r pos low at K = let was = K.received h r at in rec
   told = was.told;
   claims = let a = was.claims in let b = last_look_else 0 r.looks i claim_word (word_at w.words i) (λ (e : i ≡ claim_word). omega arith) in
       let c = ap claimed_in b in omega arith;
-  looks = past_more k w.words i (word_at w.words i) r.looks low (omega arith) was.looks;
+  looks = past_more (mark_start k) w.words i (word_at w.words i) r.looks low (omega arith) was.looks;
 }) K
 
 -- a look that tells a receiver that the ring drained tells the truth
@@ -76,7 +77,7 @@ keeps_claims_look k w h r at K = let was = K.received h r at in let n = word_at 
     | inr now ↦ (let t = tells_truth k w r now K in let e = t.1 in (t.0, omega arith))
   ];
   claims = let a = ap claimed_in (last_look_more 0 r.looks claim_word n) in let b = K.claim in omega arith;
-  looks = past_more k w.words claim_word n r.looks (omega arith) (omega arith) was.looks;
+  looks = past_more (mark_start k) w.words claim_word n r.looks (omega arith) (omega arith) was.looks;
 }) K
 
 -- a mark that is found is of a published sequence
@@ -144,7 +145,7 @@ keeps_takes k w h first r at half low K =
       count = was.count;
       completed = let c = was.completed in omega arith;
       after = λ u up. (let i = upstream_inside k K.shape.graph h u (handler_inside k w h r at K) up in let a = low.completed u up in
-          let b = last_look_le k w.words 0 r.looks (count_word u) (omega arith) was.looks in omega arith);
+          let b = last_look_le (mark_start k) w.words 0 r.looks (count_word u) (omega arith) was.looks in omega arith);
       beginning = λ s lt. elim (cases_lt s n) [
         | inl old ↦ subst (IsOutWith w.stages s) (sym (get_or_append_left r.received (found ∷ []) no_event s old)) (was.beginning s old)
         | inr new ↦ (let same : n ≡ s = omega arith in let z : s - n ≡ 0 = omega arith in

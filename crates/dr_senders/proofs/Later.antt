@@ -15,11 +15,10 @@ use Rattle.dr_core.specs.declared.command.Polled.{Polled}
 use Rattle.dr_core.specs.declared.command.Polled.TheVariants.{Batch, Drained, Gating, Idle}
 use Rattle.dr_core.specs.Meaning.Machine.{front, offered, available, least_completed}
 use Rattle.dr_core.specs.Meaning.Transcript.{Transcript}
-use Rattle.dr_ring.specs.declared.record.Look.{Look}
-use Rattle.dr_ring.specs.Meaning.Records.{look}
-use Rattle.dr_ring.specs.Calls.Receiving.{offered_by}
-use Rattle.dr_ring.specs.Calls.Replies.{handed}
-use Rattle.dr_ring.proofs.Lists.{there, at_below}
+use Rattle.dr_runs.specs.declared.look.Look.{Look}
+use Rattle.dr_runs.specs.Looks.{look, offered_by}
+use Rattle.dr_runs.specs.Polls.{handed}
+use Rattle.dr_runs.proofs.Elements.{there, at_below}
 use Rattle.dr_senders.specs.Meaning.Shape.{Shape, handlers_of, ring_setup}
 use Rattle.dr_senders.specs.Meaning.Words.{claim_word, claimed_in, count_word, mark_word, payload_word}
 use Rattle.dr_senders.specs.declared.record.Stage.{Stage}

@@ -14,7 +14,7 @@ use Rattle.dr_graph.specs.Meaning.Graph.{finals}
 use Rattle.dr_core.specs.Meaning.Machine.{Setup, State, opening, handlers, front, next, is_single, available, least_completed, publish_faults, refusals, accepted, step}
 use Rattle.dr_core.proofs.Leasts.{IsLeast, least_is}
 use Rattle.dr_core.proofs.Steps.{NoneHold, NoneHold-join, unless-none}
-use Rattle.dr_ring.proofs.Lists.{at_below, value_at}
+use Rattle.dr_runs.proofs.Elements.{at_below, value_at}
 use Rattle.dr_senders.specs.Meaning.Shape.{Shape, ring_setup}
 use Rattle.dr_senders.specs.declared.record.Stage.{Stage}
 use Rattle.dr_senders.specs.Meaning.Records.{fresh_stage, written, published}

@@ -15,7 +15,7 @@ use Rattle.dr_senders.specs.declared.record.SenderRecord.{SenderRecord}
 use Rattle.dr_senders.specs.Meaning.Records.{Owns, published, own_after, brought}
 use Rattle.dr_senders.specs.Calls.Writing.{own_between, published_between}
 use Rattle.dr_runs.proofs.Lists.{at_map, map_there}
-use Rattle.dr_ring.proofs.Beginning.{all_zero}
+use Rattle.dr_runs.proofs.Elements.{all_zero}
 
 -- the sequences of a set are brought further
 abbrev pub staged : (ℕ → Bool) → (Stage → Stage) → Own → Own

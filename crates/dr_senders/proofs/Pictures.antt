@@ -1,5 +1,5 @@
 -- Each list of steps keeps the rule, and the entries of its events lead the machine to the ring's picture.
-use Rattle.dr_ring.specs.Meaning.Records.{last_look}
+use Rattle.dr_runs.specs.Looks.{last_look}
 use Rattle.std.proofs.Common.{◌≡◌, ◌≢◌, ℕ, zero, suc, ◌+◌, ◌-◌, ◌<◌, ◌≤◌, inl, inr, Bool, true, false, ◌==◌, if◌then◌else◌, List, [], ◌∷◌, ◌++◌, length, get_or, set, map, replicate, Option, Some, sym, refl, ap, ◌∙◌, subst, arith, get_or-set_same, get_or-set_other, ◌&&◌}
 use Rattle.std.specs.Prelude.{Contains, not, nat_le, nat_lt}
 use Rattle.std.specs.List.{range_with_len}
@@ -18,9 +18,9 @@ use Rattle.dr_core.specs.declared.command.Reply.TheVariants.{Claimed, Written, P
 use Rattle.dr_graph.specs.Meaning.Graph.{nobody, upstreams_of, finals, IsGated, least_of}
 use Rattle.dr_core.specs.Meaning.Machine.{Setup, State, Outcome, front, available, least_completed}
 use Rattle.dr_core.specs.Meaning.Transcript.{Transcript, LeadsFrom}
-use Rattle.dr_ring.specs.Meaning.Moments.{entry, poll_of}
-use Rattle.dr_ring.proofs.Lists.{at_below, value_at, final_inside, there}
-use Rattle.dr_ring.proofs.Machine.{counts_below, offered_at_most, offered_more}
+use Rattle.dr_runs.specs.Entries.{entry, poll_of}
+use Rattle.dr_runs.proofs.Elements.{at_below, value_at, there}
+use Rattle.dr_runs.proofs.Offers.{final_inside, counts_below, offered_at_most, offered_more}
 use Rattle.dr_runs.proofs.Lists.{map_same, map_but}
 use Rattle.dr_senders.specs.Meaning.Shape.{Shape, handlers_of, ring_setup}
 use Rattle.dr_senders.specs.Meaning.Words.{claim_word, claimed_in, is_halted, halted_from, halt_bit, count_word, mark_start, mark_word, payload_word}
@@ -33,7 +33,8 @@ use Rattle.dr_senders.specs.Meaning.Records.{fresh_stage, half_written, written,
 use Rattle.dr_senders.specs.Meaning.Rule.{World, IsOutWith, KeepsRule}
 use Rattle.dr_senders.specs.Meaning.Steps.{Happens, sender_knows, sender_claims, sender_brings, receiver_knows, halted_words}
 use Rattle.dr_senders.specs.Meaning.Moments.{fresh_receiver, taken_of, stage_at, picture_of, write_of, receiver_at, entries_of, Runs, told_by_claims, told_gated, is_unmarked}
-use Rattle.dr_senders.proofs.Places.{word_at, claimed_low, halted_low, is_halted_from, last_look_le}
+use Rattle.dr_senders.proofs.Places.{word_at, claimed_low, halted_low, is_halted_from}
+use Rattle.dr_runs.proofs.Looks.{last_look_le}
 use Rattle.dr_senders.proofs.Facts.{receiver_of_handler, handler_inside, orderly, upstream_inside, early, taken_claimed, owned, above}
 use Rattle.dr_senders.proofs.KeepsClaims.{keeps_sender_looks, keeps_mark_found, keeps_claims, keeps_sender_halts, keeps_halter_halts}
 use Rattle.dr_senders.proofs.KeepsWrites.{keeps_first, keeps_second, keeps_publishes}
@@ -140,7 +141,7 @@ claim_room k w p c n r m same at room K =
     let has : Contains (finals k.upstreams) g.last = g.final in
     counts_below m (finals k.upstreams) k.size (c + n) (let lt = has.1 in omega arith)
     (λ f has. (let i = final_inside k.upstreams f has in let a = room.completed f has in
-    let b = last_look_le k w.words 0 r.looks (count_word f) (omega arith) (K.sent p r at).looks in
+    let b = last_look_le (mark_start k) w.words 0 r.looks (count_word f) (omega arith) (K.sent p r at).looks in
     let e : get_or m.completed f 0 ≡ word_at w.words (count_word f) = ap (λ (d : List ℕ). get_or d f 0) same ∙ count_at k w.words f i in omega arith))
 
 -- a claim is of the size at most
@@ -151,7 +152,7 @@ claim_fits k w p n r at room K =
     let g : IsGated k.upstreams nobody (λ h. word_at w.words (count_word h)) 0 =
     K.shape.graph.gate nobody (λ h. word_at w.words (count_word h)) (orderly k w K) 0 some_one refl in
     let i = final_inside k.upstreams g.last g.final in let a = room.completed g.last g.final in
-    let b = last_look_le k w.words 0 r.looks (count_word g.last) (omega arith) (K.sent p r at).looks in
+    let b = last_look_le (mark_start k) w.words 0 r.looks (count_word g.last) (omega arith) (K.sent p r at).looks in
     let d : word_at w.words (count_word g.last) ≤ word_at w.words (count_word 0) = g.behind in
     let t = receiver_of_handler k w K 0 some_one in let e = t.2.count in let f = t.2.completed in let h = taken_claimed k w 0 t.0 t.1 K in omega arith
 
@@ -352,7 +353,7 @@ offered_next k w h r at low K =
     (λ none. front_beyond k w.stages (takens w) (counts_of k w.words) (halted w.words) n claimed
     (λ s le. was.seen s (let a = low.published none in omega arith)))
     (λ u has. (let i = upstream_inside k K.shape.graph h u inside has in let c = count_at k w.words u i in let a = low.completed u has in
-    let b = last_look_le k w.words 0 r.looks (count_word u) (omega arith) was.looks in omega arith))
+    let b = last_look_le (mark_start k) w.words 0 r.looks (count_word u) (omega arith) was.looks in omega arith))
 
 lead_take : (k : Shape) (w : World) (h first : ℕ) (r : ReceiverRecord) → get_elem? w.receivers h ≡ some r → r.half ≡ Some first → IsBelowBarrier k h r
     → KeepsRule k w

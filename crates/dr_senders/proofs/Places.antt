@@ -1,6 +1,6 @@
 -- Places of lists, words and looks.
 use Rattle.std.proofs.Common.{◌≡◌, ◌≢◌, ℕ, zero, suc, ◌+◌, ◌*◌, ◌/◌, ◌%◌, ◌<◌, ◌≤◌, ◌⊎◌, inl, inr, true, false, List, [], ◌∷◌, ◌++◌}
-use Rattle.std.proofs.Common.{length, get_or, set, replicate, sym, refl, ap, ◌∙◌, subst, arith, get_or-set_same, get_or-set_other}
+use Rattle.std.proofs.Common.{length, get_or, set, replicate, sym, refl, ap, ◌∙◌, arith, get_or-set_same, get_or-set_other}
 use Rattle.std.proofs.lemmas.Bool.{cases_eq, cases_lt, lt-ltb, le-ltb, le-leb, lt-leb}
 use Rattle.std.proofs.lemmas.Nat.{div-add-mod'}
 use Rattle.std.proofs.Math.Nat.{mod-lt, mul-le-mul_right}
@@ -9,12 +9,10 @@ use lib.ListN.{get_elem?}
 use Rattle.atomic_table.proofs.Lists as lists
 use Rattle.atomic_table.proofs.Lists.{at_longer, at_snoc, one_turn}
 use Rattle.dr_seq.specs.Rounds.{entry_of}
-use Rattle.dr_ring.proofs.Lists.{last_look_below}
-use Rattle.dr_ring.specs.declared.record.Look.{Look}
-use Rattle.dr_ring.specs.Meaning.Records.{look, last_look}
+use Rattle.dr_runs.specs.declared.look.Look.{Look}
 use Rattle.dr_senders.specs.Meaning.Shape.{Shape}
 use Rattle.dr_senders.specs.Meaning.Words.{claimed_in, is_halted, halted_from, halt_bit, mark_start, mark_word, payload_word}
-use Rattle.dr_senders.specs.Meaning.Rule.{IsPast, ArePast}
+use Rattle.dr_senders.specs.Meaning.Rule.{ArePast}
 
 abbrev pub word_at : List ℕ → ℕ → ℕ
 word_at words i = get_or words i 0
@@ -86,18 +84,6 @@ rises_set k words i n inside up j low = elim (cases_eq j i) [
 pub past_rises : (k : Shape) (words us : List ℕ) (looks : List Look) → Rises k words us → ArePast k words looks → ArePast k us looks
 past_rises k words us looks up all j x at =
     let d = all j x at in record { rises = d.rises; before = let a = d.before in let b = up x.word d.rises in omega arith }
-
-pub past_more : (k : Shape) (words : List ℕ) (i v : ℕ) (looks : List Look) → i < mark_start k → v ≤ word_at words i → ArePast k words looks
-    → ArePast k words (looks ++ look i v ∷ [])
-past_more k words i v looks lt le all j x at =
-    elim (at_snoc looks (look i v) x j at) [
-      | inl old ↦ all j x old
-      | inr new ↦ subst (IsPast k words) new (record { rises = lt; before = le })
-    ]
-
-pub last_look_le : (k : Shape) (words : List ℕ) (d : ℕ) (looks : List Look) (word : ℕ) → d ≤ word_at words word → ArePast k words looks
-    → last_look d looks word ≤ word_at words word
-last_look_le k words d looks word le all = last_look_below words d looks word le (λ i x at. (all i x at).before)
 
 -- two sequences less than a round apart have slots of their own
 pub own_slot : (k : Shape) (a b : ℕ) → a ≢ b → b < a + k.size → a < b + k.size → a % k.size ≢ b % k.size

@@ -7,19 +7,18 @@ use Rattle.std.proofs.lemmas.List.{length-append, append-nil}
 use Rattle.dr_seq.specs.declared.event.Event.{Event}
 use Rattle.dr_core.specs.declared.command.Polled.{Polled}
 use Rattle.dr_core.specs.declared.command.Polled.TheVariants.{Batch, Drained, Gating, Idle}
-use Rattle.dr_ring.specs.declared.record.Look.{Look}
-use Rattle.dr_ring.specs.Meaning.Records.{look}
+use Rattle.dr_runs.specs.declared.look.Look.{Look}
+use Rattle.dr_runs.specs.Looks.{look, offered_by}
 use Rattle.dr_senders.specs.Meaning.Shape.{Shape}
 use Rattle.dr_senders.specs.Meaning.Words.{claim_word, claimed_in, count_word, is_halted}
 use Rattle.dr_senders.specs.declared.record.ReceiverRecord.{ReceiverRecord}
 use Rattle.dr_senders.specs.Meaning.Records.{claims_looked}
 use Rattle.dr_senders.specs.Calls.Ends.{count_looks}
-use Rattle.dr_ring.specs.Calls.Receiving.{offered_by}
 use Rattle.dr_senders.specs.Calls.Receiving.{ups_of, walked, WalksTo, PollLooks, LooksInOrder, looked_round, received_all, offer, Answers}
 use Rattle.dr_senders.specs.Inside.Parts.{Walked, receiver_saw, IsOfferedUpTo, LooksAtUpstreams, Offered, nothing_offered}
 use Rattle.dr_senders.specs.Inside.Fits.{ReceiverFits}
-use Rattle.dr_ring.proofs.Looking.{no_looks_at}
-use Rattle.dr_ring.proofs.Polls.{not_true, either_true, second_true}
+use Rattle.dr_runs.proofs.Looks.{no_looks_at}
+use Rattle.dr_runs.proofs.Offers.{not_true, either_true, second_true}
 
 -- a walk ends between where it begins and what is claimed
 walk_within : (size claimed s upto : ℕ) (ms : List ℕ) → WalksTo size claimed s ms upto → s ≤ claimed → (s ≤ upto) × (upto ≤ claimed)

@@ -17,7 +17,7 @@ use Rattle.dr_core.specs.Meaning.Machine.{State, Outcome, refusals, accepted, pu
 use Rattle.dr_core.specs.Calls.Shows.{unit_reply}
 use Rattle.dr_core.specs.Calls.Ends.{Verdict, Exactly, MayHold, MayFail, IsAnswerOf, as_end}
 use Rattle.dr_core.proofs.Steps.{NoneHold, NoneHold-join, NoneHold-stretch, Refuses, unless-none, unless-refused}
-use Rattle.dr_ring.proofs.Lists.{there, at_below}
+use Rattle.dr_runs.proofs.Elements.{there, at_below}
 use Rattle.dr_senders.specs.Meaning.Shape.{Shape, ring_setup}
 use Rattle.dr_senders.specs.Meaning.Words.{mark_word}
 use Rattle.dr_senders.specs.declared.record.Stage.{Stage}

@@ -17,7 +17,8 @@ use Rattle.dr_core.specs.Calls.Ends.{IsAnswerOf, as_end}
 use Rattle.dr_core.proofs.Steps.{Refuses, unless-none, unless-refused}
 use Rattle.dr_core.proofs.Leasts.{least_of-member}
 use Rattle.dr_graph.specs.Meaning.Graph.{finals}
-use Rattle.dr_ring.proofs.Lists.{at_below, final_inside}
+use Rattle.dr_runs.proofs.Elements.{at_below}
+use Rattle.dr_runs.proofs.Offers.{final_inside}
 use Rattle.dr_senders.specs.Meaning.Shape.{Shape, handlers_of, ring_setup}
 use Rattle.dr_senders.specs.declared.record.Stage.{Stage}
 use Rattle.dr_senders.specs.declared.record.SenderRecord.{SenderRecord}

@@ -4,19 +4,19 @@ use Rattle.std.proofs.Common.{sym, refl, ap, ◌∙◌, subst, arith, append_ass
 use Rattle.std.specs.Prelude.{Contains}
 use Rattle.std.proofs.lemmas.Bool.{cases_lt}
 use Rattle.std.proofs.lemmas.List.{length-append, append-nil}
-use Rattle.dr_ring.specs.declared.record.Look.{Look}
-use Rattle.dr_ring.specs.Meaning.Records.{look, last_look}
-use Rattle.dr_ring.proofs.Lists.{last_look_more}
+use Rattle.dr_runs.specs.declared.look.Look.{Look}
+use Rattle.dr_runs.specs.Looks.{look, last_look, offered_by, lesser_of}
+use Rattle.dr_runs.proofs.Looks.{last_look_more, last_least, looks_more, no_looks_at}
 use Rattle.dr_senders.specs.Meaning.Shape.{Shape}
 use Rattle.dr_senders.specs.Meaning.Words.{count_word}
 use Rattle.dr_senders.specs.declared.record.ReceiverRecord.{ReceiverRecord}
 use Rattle.dr_senders.specs.Meaning.Records.{receiver_looked}
 use Rattle.dr_senders.specs.Calls.Ends.{count_looks}
-use Rattle.dr_ring.specs.Calls.Receiving.{offered_by, lesser_of}
 use Rattle.dr_senders.specs.Calls.Receiving.{ups_of}
 use Rattle.dr_senders.specs.Inside.Parts.{receiver_saw, LooksAtUpstreams}
 use Rattle.dr_runs.proofs.Lists.{no_elements, take_whole}
-use Rattle.dr_ring.proofs.Looking.{get_any, last_least, looks_more, no_looks_at, offers_more, contains_more, contains_last}
+use Rattle.dr_runs.proofs.Elements.{get_any, contains_more, contains_last}
+use Rattle.dr_runs.proofs.Offers.{offers_more}
 
 -- the counts of the first i upstreams were looked at
 pub record Round (ups : List ℕ) (r : ReceiverRecord) (cursor available i : ℕ) (s : ReceiverRecord) : Type 0 where

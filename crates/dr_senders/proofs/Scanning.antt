@@ -3,10 +3,10 @@ use Rattle.std.proofs.Common.{◌≡◌, ℕ, zero, suc, ◌+◌, ◌<◌, ◌�
 use Rattle.std.proofs.lemmas.Bool.{cases_lt}
 use Rattle.std.proofs.lemmas.List.{length-append, append-nil, get_or_append_left}
 use Rattle.dr_graph.specs.Meaning.Graph.{finals}
-use Rattle.dr_ring.specs.declared.record.Look.{Look}
-use Rattle.dr_ring.specs.Meaning.Records.{look, last_look}
-use Rattle.dr_ring.proofs.Lists.{last_look_more}
-use Rattle.dr_ring.proofs.Looking.{last_least, looks_more, looks_few, no_looks_at, number_at}
+use Rattle.dr_runs.specs.declared.look.Look.{Look}
+use Rattle.dr_runs.specs.Looks.{look, last_look}
+use Rattle.dr_runs.proofs.Looks.{last_look_more, last_least, looks_more, looks_few, no_looks_at}
+use Rattle.dr_runs.proofs.Elements.{number_at}
 use Rattle.dr_senders.specs.Meaning.Shape.{Shape}
 use Rattle.dr_senders.specs.Meaning.Words.{count_word}
 use Rattle.dr_senders.specs.declared.record.SenderRecord.{SenderRecord}

@@ -10,7 +10,7 @@ use lib.ListN.{get_elem?}
 use Rattle.dr_seq.specs.declared.event.Event.{Event}
 use Rattle.dr_seq.specs.Event.{no_event}
 use Rattle.dr_graph.specs.Meaning.Graph.{upstreams_of}
-use Rattle.dr_ring.proofs.Lists.{at_below, value_at}
+use Rattle.dr_runs.proofs.Elements.{at_below, value_at}
 use Rattle.dr_senders.specs.Meaning.Shape.{Shape}
 use Rattle.dr_senders.specs.Meaning.Words.{count_word}
 use Rattle.dr_senders.specs.declared.record.Stage.{Stage}

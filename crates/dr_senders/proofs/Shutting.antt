@@ -11,7 +11,7 @@ use Rattle.dr_core.specs.declared.command.Command.TheVariants.{Write}
 use Rattle.dr_core.specs.declared.command.Reply.TheVariants.{Refused}
 use Rattle.dr_core.specs.declared.refusal.Refusal.TheVariants.{NoProducer, NotClaimed, AlreadyPublished}
 use Rattle.dr_core.specs.Meaning.Machine.{State, Outcome, unless, unchanged, accepted}
-use Rattle.dr_ring.proofs.Lists.{there, at_below}
+use Rattle.dr_runs.proofs.Elements.{there, at_below}
 use Rattle.dr_senders.specs.Meaning.Shape.{Shape, ring_setup}
 use Rattle.dr_senders.specs.Meaning.Words.{mark_word}
 use Rattle.dr_senders.specs.declared.record.Stage.{Stage}

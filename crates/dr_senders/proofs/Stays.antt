@@ -5,7 +5,7 @@ use lib.ListN.{get_elem?}
 use Rattle.dr_seq.specs.declared.event.Event.{Event}
 use Rattle.dr_seq.specs.Event.{no_event}
 use Rattle.dr_graph.specs.Meaning.Graph.{IsGraph}
-use Rattle.dr_ring.proofs.Lists.{final_inside}
+use Rattle.dr_runs.proofs.Offers.{final_inside}
 use Rattle.dr_senders.specs.Meaning.Shape.{Shape, handlers_of}
 use Rattle.dr_senders.specs.Meaning.Words.{claim_word, is_halted, count_word, mark_word, payload_word}
 use Rattle.dr_senders.specs.declared.record.Stage.{Stage}

@@ -12,8 +12,8 @@ use Rattle.dr_core.specs.declared.refusal.Refusal.{Refusal}
 use Rattle.dr_core.specs.declared.command.Claimed.{Claimed}
 use Rattle.dr_core.specs.declared.command.Polled.{Polled}
 use Rattle.dr_core.specs.declared.command.Polled.TheVariants.{Batch, Drained, Gating, Idle}
-use Rattle.dr_ring.specs.declared.record.Look.{Look}
-use Rattle.dr_ring.proofs.Lists.{there, value_at, each_set}
+use Rattle.dr_runs.specs.declared.look.Look.{Look}
+use Rattle.dr_runs.proofs.Elements.{there, value_at, each_set}
 use Rattle.dr_senders.specs.Meaning.Shape.{Shape, handlers_of}
 use Rattle.dr_senders.specs.declared.record.SenderRecord.{SenderRecord}
 use Rattle.dr_senders.specs.declared.record.ReceiverRecord.{ReceiverRecord}

@@ -22,7 +22,7 @@ use crate::sender::Sender;
 use atomic_table::Split;
 use dr_core::{Mode, OpenFault, is_valid_limit};
 use dr_graph::Graph;
-use dr_ring::HandlerCounts;
+use dr_runs::HandlerCounts;
 use dr_seq::Size;
 use std::alloc::{AllocError, Global};
 use std::sync::Arc;

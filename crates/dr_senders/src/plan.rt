@@ -8,7 +8,7 @@ ghost use Rattle.dr_senders.specs.Calls.Plans.{IsPlan};
 ghost use Rattle.dr_senders.specs.Meaning.Words.{count_word as count_word_of, mark_word as mark_word_of, payload_word as payload_word_of, words_of};
 
 use dr_graph::Graph;
-use dr_ring::copy_upstreams;
+use dr_runs::copy_upstreams;
 use dr_seq::Size;
 use std::alloc::{AllocError, Global};
 use std::marker::Model;

@@ -4,12 +4,12 @@ ghost use Rattle.std.specs.Prelude.{◌≡◌, ◌+◌, ◌^◌, ◌<◌, ◌≤
 ghost use Rattle.dr_senders.specs.Meaning.Words.{claimed_in as claimed_in_word};
 ghost use Rattle.dr_senders.specs.Calls.Receiving.{ups_of, received_all};
 ghost use Rattle.dr_senders.specs.Calls.Ends.{HasLoaded};
-ghost use Rattle.dr_ring.specs.Calls.Receiving.{lesser_of};
 ghost use Rattle.dr_senders.specs.Inside.Parts.{Walked, LooksAtUpstreams, IsOfferedUpTo, Offered, nothing_offered as answer_of};
 
 use crate::laws::ReceiverStation;
 use crate::plan::HALT_BIT;
 use dr_core::Polled;
+use dr_runs::lesser;
 use dr_seq::Event;
 
 /// How many sequences are claimed, by the claim word.
@@ -21,13 +21,6 @@ pub(crate) fn claimed_in(found: u64) -> u64
     } else {
         found - HALT_BIT
     }
-}
-
-// The lesser of a count and those seen before, or the count where it is the first.
-fn lesser(first: bool, count: u64, seen: u64) -> u64
-    ensures { result ≡ lesser_of first count seen }
-{
-    if first || count < seen { count } else { seen }
 }
 
 impl ReceiverStation {

@@ -2,7 +2,7 @@
 
 ghost use Rattle.std.specs.Prelude.{◌≡◌, ◌<◌, ◌^◌, ◌||◌, length, Some};
 ghost use Rattle.dr_core.specs.Calls.Ends.{IsEndsAnswer, PollAnswers, CompleteAnswers, is_drained, Takes, Completes};
-ghost use Rattle.dr_ring.specs.Calls.Ends.{looks_counted};
+ghost use Rattle.dr_runs.specs.Looks.{looks_counted};
 ghost use Rattle.dr_senders.specs.Calls.Ends.{receiver_place};
 ghost use Rattle.dr_senders.specs.Calls.Receiving.{received_of, PollCall, CompleteCall};
 ghost use Rattle.dr_senders.specs.Calls.Telling.{receiver_does};

@@ -1,6 +1,6 @@
 //! What the ends know. No value of a record is ever made: they stand in proofs alone.
 
-use dr_ring::record::Look;
+use dr_runs::Look;
 use dr_seq::Event;
 use std::collections::LinkedList;
 

@@ -8,7 +8,7 @@ ghost use Rattle.dr_core.specs.Calls.Ends.{IsEndsAnswer, ClaimAnswers, WriteAnsw
 ghost use Rattle.dr_senders.specs.Meaning.Words.{claim_word, halted_from};
 ghost use Rattle.dr_senders.specs.Meaning.Records.{sender_looked};
 ghost use Rattle.dr_senders.specs.declared.record.Step.TheVariants.{SenderHalts};
-ghost use Rattle.dr_ring.specs.Calls.Ends.{looks_counted};
+ghost use Rattle.dr_runs.specs.Looks.{looks_counted};
 ghost use Rattle.dr_senders.specs.Calls.Ends.{HasStored, sender_place};
 ghost use Rattle.dr_senders.specs.Calls.Sending.{ClaimCall, ClaimsAsEnd};
 ghost use Rattle.dr_senders.specs.Calls.Writing.{WriteCall, WriteAllCall, PublishCall};

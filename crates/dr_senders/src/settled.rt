@@ -2,9 +2,8 @@
 
 ghost use Rattle.std.specs.Prelude.{◌≡◌, ◌<◌, length, map};
 ghost use Rattle.std.specs.Arc.{arc_value};
-ghost use Rattle.dr_ring.specs.Calls.Settling.{counts_at};
 ghost use Rattle.dr_senders.specs.Inside.Seats.{IsAtTable, ring_ends};
-ghost use Rattle.dr_runs.specs.Gathering.{Gathers};
+ghost use Rattle.dr_runs.specs.Gathering.{Gathers, counts_at};
 ghost use Rattle.dr_senders.specs.Inside.Stations.{AreOfRing, sender_known, receiver_known};
 ghost use Rattle.dr_senders.specs.Calls.Settling.{AreAllEnds, HasRun, handler_counts};
 
@@ -13,7 +12,7 @@ use crate::plan::HALT_BIT;
 use crate::polling::claimed_in;
 use crate::receiver::Receiver;
 use crate::sender::Sender;
-use dr_ring::HandlerCounts;
+use dr_runs::HandlerCounts;
 use std::alloc::Global;
 use std::sync::Arc;
 

@@ -1,19 +1,21 @@
 -- What an end of a ring is to its caller, and what one of its steps leaves of it.
-use Rattle.std.specs.Prelude.{◌≡◌, ℕ, min, Option, List, [], ◌∷◌, ◌++◌, length, Result, Ok, Err}
+use Rattle.std.specs.Prelude.{◌≡◌, ℕ, Option, List, [], ◌∷◌, ◌++◌}
 use Rattle.atomic_table.specs.Seated.{TableId}
 use Rattle.dr_cells.specs.declared.token.Token.{Token}
 use Rattle.dr_core.specs.Calls.Ends.{Sent, Received}
 use Rattle.dr_runs.specs.Runs.{IsBeginning}
 use Rattle.dr_plain.specs.Meaning.Shape.{Shape}
-use Rattle.dr_plain.specs.Meaning.Words.{count_word}
-use Rattle.dr_plain.specs.Meaning.Records.{look, events_of}
-use Rattle.dr_plain.specs.declared.record.Look.{Look}
+use Rattle.dr_runs.specs.Words.{count_word}
+use Rattle.dr_plain.specs.Meaning.Records.{events_of}
+use Rattle.dr_runs.specs.Looks.{looks_at}
+use Rattle.dr_runs.specs.declared.look.Look.{Look}
 use Rattle.dr_plain.specs.declared.record.Step.{Step}
 use Rattle.dr_plain.specs.declared.record.SenderRecord.{SenderRecord}
 use Rattle.dr_plain.specs.declared.record.ReceiverRecord.{ReceiverRecord}
 use Rattle.dr_plain.specs.declared.record.HalterRecord.{HalterRecord}
 
--- an end: of which ring it is, what it knows, the slots that it has in hand, the run as it was at its last step, and what it has stored since the ring's opening
+-- an end: of which ring it is, what it knows, the slots that it has in hand,
+-- the run as it was at its last step, and what it has stored since the ring's opening
 pub record EndOf (T K : Type 0) : Type 0 where
   pub ring : TableId
   pub knows : K
@@ -55,24 +57,9 @@ pub record ReceiverEnd (T : Type 0) : Type 0 where
   pub past : List (Step T)
   pub stored : List (Step T)
 
--- how many looks an end counts
-abbrev pub looks_counted : List Look → ℕ
-looks_counted looks = min (length looks) 18446744073709551615
-
--- looks at words of some handlers, in their order, as far as there are values
-abbrev pub looks_at : (ℕ → ℕ) → List ℕ → List ℕ → List Look
-looks_at word_of [] values = []
-looks_at word_of (h ∷ hs) [] = []
-looks_at word_of (h ∷ hs) (n ∷ values) = look (word_of h) n ∷ looks_at word_of hs values
-
 -- looks at the counts of some handlers
 abbrev pub count_looks : List ℕ → List ℕ → List Look
 count_looks hs counts = looks_at count_word hs counts
-
--- a call that is not refused stores this and nothing else, and a refused one nothing
-abbrev pub StoresWhereOk : {A E S : Type 0} → List S → List S → List S → Result A E → Type 0
-StoresWhereOk stored steps stored' (Ok _) = stored' ≡ stored ++ steps
-StoresWhereOk stored steps stored' (Err _) = stored' ≡ stored
 
 -- which end it is: of which ring, made for what, and a receiver's number
 abbrev pub SenderPlace : Type 0

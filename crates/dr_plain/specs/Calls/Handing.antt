@@ -16,7 +16,8 @@ abbrev pub handed : Polled → ℕ
 handed (Batch first count last) = count
 handed _ = 0
 
--- A poll hands over at least what the picture had for its handler at any earlier moment at which its receiver stood as the poll found it, as far as there is room; so where that was more than the handler took, it answers a batch.
+-- A poll hands over at least what the picture had for its handler at any earlier moment at which its receiver stood as the poll found it,
+-- as far as there is room; so where that was more than the handler took, it answers a batch.
 abbrev pub HandsWhatWasThere : {T : Type 0} → Shape → World T → World T → Type 0
 HandsWhatWasThere {T} k w u =
     (h room : ℕ) (r r' : ReceiverRecord T) (polled : Polled) → get_elem? w.receivers h ≡ some r → get_elem? u.receivers h ≡ some r'

@@ -3,8 +3,8 @@ use Rattle.std.specs.Prelude.{◌≡◌, ℕ, if◌then◌else◌, List, [], map
 use Rattle.dr_core.specs.Calls.OpenFault.{is_bad_limit}
 use Rattle.atomic_table.specs.Seated.{TableId}
 use Rattle.dr_plain.specs.declared.record.ReceiverRecord.{ReceiverRecord}
-use Rattle.dr_plain.specs.declared.fault.RingFault.{RingFault}
-use Rattle.dr_plain.specs.declared.fault.RingFault.TheVariants.{BadLimit, NoMemory}
+use Rattle.dr_runs.specs.declared.fault.RingFault.{RingFault}
+use Rattle.dr_runs.specs.declared.fault.RingFault.TheVariants.{BadLimit, NoMemory}
 use Rattle.dr_plain.specs.Meaning.Shape.{Shape, handlers_of}
 use Rattle.dr_plain.specs.Meaning.Moments.{fresh_sender, fresh_receivers, fresh_halter}
 use Rattle.dr_plain.specs.Calls.Ends.{SenderEnd, ReceiverEnd, HalterStand}
@@ -13,7 +13,8 @@ use Rattle.dr_plain.specs.Calls.Ends.{SenderEnd, ReceiverEnd, HalterStand}
 abbrev pub at_ring : {T : Type 0} → TableId → ReceiverRecord T → ReceiverEnd T
 at_ring ring r = record { ring = ring; knows = r; past = []; stored = [] }
 
--- the ends of a new ring: nothing is claimed, received or halted, and no end has stored anything, the events lie in the cells, and the receivers stand in the graph's order
+-- the ends of a new ring: nothing is claimed, received or halted, and no end has stored anything,
+-- the events lie in the cells, and the receivers stand in the graph's order
 pub record AreFreshEnds {T : Type 0} (k : Shape) (events : List T) (s : SenderEnd T) (rs : List (ReceiverEnd T)) (t : HalterStand T) : Type 0 where
   pub sender : s.knows ≡ fresh_sender k
   pub writes : s.writes ≡ []

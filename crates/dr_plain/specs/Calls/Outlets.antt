@@ -1,5 +1,5 @@
 -- What each call of a receiver tells, for who does not know which exchange it is of.
-use Rattle.std.specs.Prelude.{List, length, Some, Result}
+use Rattle.std.specs.Prelude.{List, length, Result}
 use Rattle.dr_core.specs.declared.refusal.Refusal.{Refusal}
 use Rattle.dr_core.specs.declared.command.Polled.{Polled}
 use Rattle.dr_core.specs.Calls.Calling.{OutletCall, PollsInto, CompletesBelow}

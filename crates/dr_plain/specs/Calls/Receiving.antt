@@ -1,34 +1,24 @@
 -- What each call of a receiver answers, and what it leaves of what the receiver knows.
-use Rattle.std.specs.Prelude.{◌≡◌, ◌↔◌, ℕ, ◌+◌, ◌-◌, ◌<◌, ◌≤◌, ◌⊎◌, ◌==◌, ◌&&◌, ◌||◌, nat_lt, Bool, if◌then◌else◌, IsTrue, true, false, min, List, [], ◌∷◌, ◌++◌, length, Some, Result, Ok, Err, Contains}
+use Rattle.std.specs.Prelude.{◌≡◌, ◌↔◌, ℕ, ◌+◌, ◌-◌, ◌<◌, ◌≤◌, ◌⊎◌, ◌==◌, ◌&&◌, ◌||◌, IsTrue, true, false, min, List, []}
+use Rattle.std.specs.Prelude.{◌∷◌, ◌++◌, length, Result, Ok, Err, Contains}
 use mathlib.Core.Option.{some}
 use lib.ListN.{get_elem?}
 use Rattle.dr_core.specs.declared.refusal.Refusal.{Refusal}
 use Rattle.dr_core.specs.declared.command.Polled.{Polled}
 use Rattle.dr_core.specs.declared.command.Polled.TheVariants.{Batch, Drained, Gating, Idle}
-use Rattle.dr_core.specs.Meaning.Refusals.{PollTests, CompleteTests, poll_causes, complete_causes}
-use Rattle.dr_core.specs.Calls.Ends.{Verdict, Exactly, IsAnswerOf, poll_tests, complete_tests, Completes, as_end}
+use Rattle.dr_core.specs.Meaning.Refusals.{poll_causes, complete_causes}
+use Rattle.dr_core.specs.Calls.Ends.{IsAnswerOf, Completes, as_end}
 use Rattle.dr_graph.specs.Meaning.Graph.{upstreams_of}
-use Rattle.dr_runs.specs.Runs.{IsBeginning}
-use Rattle.dr_plain.specs.Meaning.Words.{cursor_word, closed_word}
+use Rattle.dr_runs.specs.Runs.{IsBeginning, StoresWhereOk}
+use Rattle.dr_runs.specs.Words.{cursor_word, closed_word}
 use Rattle.dr_plain.specs.declared.record.Lent.{Lent}
 use Rattle.dr_plain.specs.declared.record.ReceiverRecord.{ReceiverRecord}
 use Rattle.dr_plain.specs.declared.record.Step.TheVariants.{ReceiverCompletes}
-use Rattle.dr_plain.specs.Meaning.Records.{look, offered_by, events_of}
-use Rattle.dr_plain.specs.Calls.Ends.{ReceiverEnd, received_of, receiver_place, count_looks, StoresWhereOk}
-
--- the lesser of a count and those seen before, or the count where it is the first
-abbrev pub lesser_of : Bool → ℕ → ℕ → ℕ
-lesser_of first count seen = if first || nat_lt count seen then count else seen
-
--- what a poll saw: closed, then the cursor, then the count of each upstream
-pub record PollLooks : Type 0 where
-  pub closed : ℕ
-  pub cursor : ℕ
-  pub counts : List ℕ
-
--- what the barrier offered: the least count that was seen or, without upstreams, the cursor
-abbrev pub offer : PollLooks → ℕ
-offer seen = offered_by seen.cursor seen.counts
+use Rattle.dr_plain.specs.Meaning.Records.{events_of}
+use Rattle.dr_runs.specs.Looks.{look}
+use Rattle.dr_plain.specs.Meaning.Replies.{tests_of_poll, tests_of_completion}
+use Rattle.dr_plain.specs.Calls.Ends.{ReceiverEnd, received_of, receiver_place, count_looks}
+use Rattle.dr_runs.specs.Polls.{PollLooks, offer}
 
 module _ {T : Type 0} where
   -- what a receiver knows once it has looked so
@@ -45,7 +35,8 @@ module _ {T : Type 0} where
   -- what a poll with room for so many answers, where it saw this; who was told that the ring drained gets no batch any more
   abbrev pub Answers : ReceiverRecord T → ℕ → ReceiverRecord T → PollLooks → Polled → Type 0
   Answers r room r' seen (Batch first count last) =
-      (first ≡ length r.received) × (first < offer seen) × (count ≡ min (offer seen - first) room) × (IsTrue last ↔ (first + count ≡ offer seen)) × (r'.told ≡ false)
+      (first ≡ length r.received) × (first < offer seen) × (count ≡ min (offer seen - first) room)
+      × (IsTrue last ↔ (first + count ≡ offer seen)) × (r'.told ≡ false)
       × ((lents : List (Lent T)) × (length lents ≡ count) × (r' ≡ received_all (looked_round r seen) lents))
   Answers r room r' seen Drained =
       (seen.closed ≡ 1) × (seen.cursor ≡ length r.received) × (offer seen ≡ length r.received) × (r' ≡ looked_round r seen) × (r'.told ≡ true)
@@ -59,19 +50,12 @@ module _ {T : Type 0} where
   PollSees r room r' (Ok polled) = (seen : PollLooks) × (length seen.counts ≡ length (upstreams_of r.plan.upstreams r.number)) × Answers r room r' seen polled
   PollSees r room r' (Err refusal) = r' ≡ r
 
-  -- a receiver knows all of its own tests
-  abbrev pub tests_of_poll : ReceiverEnd T → ℕ → PollTests Verdict
-  tests_of_poll e room = record (poll_tests (Some (received_of e)) room) { retired = Exactly false }
-
   abbrev pub Polls : ReceiverEnd T → ℕ → ReceiverEnd T → Result Polled Refusal → Type 0
-  Polls e room e' result = IsAnswerOf (poll_causes (tests_of_poll e room)) (as_end result) × PollSees e.knows room e'.knows result
-
-  abbrev pub tests_of_completion : ReceiverEnd T → ℕ → CompleteTests Verdict
-  tests_of_completion e upto = record (complete_tests (Some (received_of e)) upto) { retired = Exactly false }
+  Polls e room e' result = IsAnswerOf (poll_causes (tests_of_poll e.knows room)) (as_end result) × PollSees e.knows room e'.knows result
 
   abbrev pub TriesToComplete : ReceiverEnd T → ℕ → ReceiverEnd T → Result (Unit {0}) Refusal → Type 0
   TriesToComplete e n e' result =
-      IsAnswerOf (complete_causes (tests_of_completion e n)) (as_end result)
+      IsAnswerOf (complete_causes (tests_of_completion e.knows n)) (as_end result)
       × Completes n (as_end result) (received_of e) (received_of e') × (e'.knows ≡ record e.knows { completed = e'.knows.completed })
 
   -- a receiver reads the event of a sequence that it took and did not complete, and of no other
@@ -85,7 +69,8 @@ module _ {T : Type 0} where
   abbrev pub PollCall : ReceiverEnd T → ℕ → ReceiverEnd T → Result Polled Refusal → Type 0
   PollCall e room e' result = (receiver_place e' ≡ receiver_place e) × Polls e room e' result × (e'.stored ≡ e.stored) × IsBeginning e.past e'.past
 
-  -- the call whole: the end stays where it is, answers by what it knows, and stores its count where it is not refused and nothing else, and all that it saw before comes first
+  -- the call whole: the end stays where it is, answers by what it knows,
+  -- and stores its count where it is not refused and nothing else, and all that it saw before comes first
   abbrev pub CompleteCall : ReceiverEnd T → ℕ → ReceiverEnd T → Result (Unit {0}) Refusal → Type 0
   CompleteCall e n e' result =
       (receiver_place e' ≡ receiver_place e) × TriesToComplete e n e' result × StoresWhereOk e.stored (ReceiverCompletes e.knows.number n ∷ []) e'.stored result

@@ -1,19 +1,22 @@
 -- What each call of the sender answers, and what it leaves of what the sender knows.
-use Rattle.std.specs.Prelude.{◌≡◌, ℕ, ◌+◌, ◌%◌, ◌^◌, ◌<◌, ◌≤◌, ◌⊎◌, ◌==◌, ◌||◌, nat_lt, List, [], ◌∷◌, ◌++◌, length, drop, slice_index, slice_index_or, slice_set, Option, None, Some, Result, Ok, Err}
+use Rattle.std.specs.Prelude.{◌≡◌, ℕ, ◌+◌, ◌%◌, ◌^◌, ◌<◌, ◌≤◌, ◌⊎◌, List, [], ◌∷◌, ◌++◌, length, drop, slice_index, slice_index_or}
+use Rattle.std.specs.Prelude.{slice_set, Option, None, Some, Result, Ok, Err}
 use Rattle.dr_seq.specs.Size.{IsSize}
 use Rattle.dr_core.specs.declared.refusal.Refusal.{Refusal}
 use Rattle.dr_core.specs.declared.refusal.Refusal.TheVariants.{NoRoom, Halted, BadCount, Exhausted, OpenClaim}
 use Rattle.dr_core.specs.declared.command.Claimed.{Claimed}
-use Rattle.dr_core.specs.Meaning.Refusals.{ClaimTests, claim_causes}
-use Rattle.dr_core.specs.Calls.Ends.{Verdict, Exactly, IsAnswerOf, claim_tests, GivesStretch, WriteAnswers, PublishAnswers, Claims, Writes, Publishes, as_end}
+use Rattle.dr_core.specs.Meaning.Refusals.{claim_causes}
+use Rattle.dr_core.specs.Calls.Ends.{IsAnswerOf, GivesStretch, WriteAnswers, PublishAnswers, Claims, Writes, Publishes, as_end}
 use Rattle.dr_graph.specs.Meaning.Graph.{finals}
-use Rattle.dr_plain.specs.Meaning.Words.{halt_word}
-use Rattle.dr_plain.specs.declared.record.Look.{Look}
+use Rattle.dr_runs.specs.Words.{halt_word}
+use Rattle.dr_runs.specs.declared.look.Look.{Look}
 use Rattle.dr_plain.specs.declared.record.SenderRecord.{SenderRecord}
 use Rattle.dr_plain.specs.declared.record.Step.TheVariants.{SenderPublishes, SenderHalts, SenderCloses}
-use Rattle.dr_runs.specs.Runs.{IsBeginning}
-use Rattle.dr_plain.specs.Calls.Ends.{SenderEnd, sender_place, sent_of, count_looks, StoresWhereOk}
-use Rattle.dr_plain.specs.Meaning.Records.{claimed, events_of, look, sender_halted, sender_closed}
+use Rattle.dr_runs.specs.Runs.{IsBeginning, StoresWhereOk}
+use Rattle.dr_plain.specs.Meaning.Replies.{tests_of_claim}
+use Rattle.dr_plain.specs.Calls.Ends.{SenderEnd, sender_place, sent_of, count_looks}
+use Rattle.dr_plain.specs.Meaning.Records.{claimed, events_of, sender_halted, sender_closed}
+use Rattle.dr_runs.specs.Looks.{look}
 
 module _ {T : Type 0} where
   -- a claim looks at the finals' counts in rising order
@@ -44,16 +47,8 @@ module _ {T : Type 0} where
     pub room : FoundRoom r n counts
     pub saw : seen ≡ look halt_word 0 ∷ gate_looks r counts ++ look halt_word 1 ∷ []
 
-  -- The refusals of each call are the machine's, in its order. There is one producer, and no handler retires, so all tests are known but those that rest on what a claim finds at its looks.
-
-  -- a ring tells more of a claim's tests than an end: its size and its limit are known
-  abbrev pub tests_of_claim : SenderEnd T → ℕ → ClaimTests Verdict
-  tests_of_claim e n = record (claim_tests (Some (sent_of e)) n) {
-    bad_count = Exactly ((n == 0) || nat_lt e.knows.plan.size n);
-    exhausted = Exactly (nat_lt e.knows.plan.limit (claimed e.knows + n));
-  }
-
-  -- where a claim looked, and what it found: at halt first, then at the finals' counts where what it remembers leaves no room, and at halt again, by which it is decided
+  -- where a claim looked, and what it found: at halt first,
+  -- then at the finals' counts where what it remembers leaves no room, and at halt again, by which it is decided
   abbrev pub LooksToClaim : SenderRecord T → ℕ → List Look → Result Claimed Refusal → Type 0
   LooksToClaim r n seen (Ok c) = (counts : List ℕ) × FoundRoom r n counts × (seen ≡ look halt_word 0 ∷ gate_looks r counts ++ look halt_word 0 ∷ [])
   LooksToClaim r n seen (Err BadCount) = seen ≡ []
@@ -64,7 +59,7 @@ module _ {T : Type 0} where
 
   -- the call changes what is sent, and what was looked at
   pub record TriesToClaim (e : SenderEnd T) (n : ℕ) (e' : SenderEnd T) (result : Result Claimed Refusal) : Type 0 where
-    pub answer : IsAnswerOf (claim_causes (tests_of_claim e n)) (as_end result)
+    pub answer : IsAnswerOf (claim_causes (tests_of_claim e.knows n)) (as_end result)
     pub stretch : GivesStretch n (as_end result)
     pub sent : Claims n (as_end result) (sent_of e) (sent_of e')
     pub seen : List Look
@@ -106,7 +101,8 @@ module _ {T : Type 0} where
   TriesToClose r r' (Err OpenClaim) = (0 < r.pending) × (r' ≡ r)
   TriesToClose r r' (Err _) = ⊥
 
-  -- Each call whole: the end stays where it is, answers by what it knows, and stores this where it is not refused and nothing else, and all that it saw before comes first.
+  -- Each call whole: the end stays where it is, answers by what it knows,
+  -- and stores this where it is not refused and nothing else, and all that it saw before comes first.
   abbrev pub Call : SenderEnd T → SenderEnd T → Type 0
   Call e e' = (sender_place e' ≡ sender_place e) × IsBeginning e.past e'.past
 
@@ -125,8 +121,10 @@ module _ {T : Type 0} where
   -- a publication stores the events that it publishes
   abbrev pub PublishCall : SenderEnd T → ℕ → ℕ → SenderEnd T → Result (Unit {0}) Refusal → Type 0
   PublishCall e lo hi e' result =
-      Call e e' × TriesToPublish e lo hi e' result × StoresWhereOk e.stored (SenderPublishes (drop (length e.knows.published) (events_of e'.knows.published)) ∷ []) e'.stored result
+      Call e e' × TriesToPublish e lo hi e' result
+      × StoresWhereOk e.stored (SenderPublishes (drop (length e.knows.published) (events_of e'.knows.published)) ∷ []) e'.stored result
 
   abbrev pub CloseCall : SenderEnd T → SenderEnd T → Result (Unit {0}) Refusal → Type 0
   CloseCall e e' result =
-      Call e e' × TriesToClose e.knows e'.knows result × (e'.writes ≡ e.writes) × (e'.cells ≡ e.cells) × StoresWhereOk e.stored (SenderHalts ∷ SenderCloses ∷ []) e'.stored result
+      Call e e' × TriesToClose e.knows e'.knows result × (e'.writes ≡ e.writes) × (e'.cells ≡ e.cells)
+      × StoresWhereOk e.stored (SenderHalts ∷ SenderCloses ∷ []) e'.stored result

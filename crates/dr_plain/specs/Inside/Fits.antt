@@ -9,12 +9,14 @@ use Rattle.dr_cells.specs.Tokens.{token_at}
 use Rattle.dr_graph.specs.Meaning.Graph.{finals}
 use Rattle.dr_runs.specs.Stretches.{stretch, rows}
 use Rattle.dr_plain.specs.Meaning.Shape.{Shape, handlers_of}
-use Rattle.dr_plain.specs.Meaning.Words.{count_word, cell_of}
+use Rattle.dr_plain.specs.Meaning.Words.{cell_of}
+use Rattle.dr_runs.specs.Words.{count_word}
 use Rattle.dr_plain.specs.Meaning.Lying.{part_of, placed}
-use Rattle.dr_plain.specs.Meaning.Records.{claimed, laid, last_look}
+use Rattle.dr_plain.specs.Meaning.Records.{claimed, laid}
+use Rattle.dr_runs.specs.Looks.{last_look}
 use Rattle.dr_plain.specs.Calls.Plans.{IsPlan}
 use Rattle.dr_plain.specs.Calls.Ends.{SenderStand, ReceiverStand}
-use Rattle.dr_plain.specs.declared.written.Written.{Written}
+use Rattle.dr_runs.specs.declared.written.Written.{Written}
 use Rattle.dr_plain.specs.declared.settled.HandlerCounts.{HandlerCounts}
 use Rattle.dr_plain.specs.declared.record.Lent.{Lent}
 use Rattle.dr_plain.specs.declared.record.SenderRecord.{SenderRecord}
@@ -22,7 +24,8 @@ use Rattle.dr_plain.specs.declared.record.ReceiverRecord.{ReceiverRecord}
 use Rattle.dr_plain.specs.Inside.Noted.{Noted}
 use Rattle.dr_plain.specs.Inside.Seats.{Hand}
 
--- a sender's numbers of claimed and published sequences, the least count that it remembers, what it noted as written, its tokens, the strip of its cells and their number, and room for the handlers' counts, for when the ends come together
+-- a sender's numbers of claimed and published sequences, the least count that it remembers, what it noted as written,
+-- its tokens, the strip of its cells and their number, and room for the handlers' counts and tokens, for when the ends come together
 pub record SenderFields (T : Type 0) : Type 0 where
   pub claimed_to : ℕ
   pub published_to : ℕ
@@ -30,6 +33,7 @@ pub record SenderFields (T : Type 0) : Type 0 where
   pub written : Written
   pub tokens : List (Token T)
   pub rooms : List HandlerCounts
+  pub hands : ℕ
   pub strip : Ptr
   pub cells : ℕ
 
@@ -70,7 +74,7 @@ module _ {T : Type 0} where
     pub hand : e.hand ≡ open_slots e.knows
     pub strip : f.strip ≡ e.knows.plan.strip
     pub cells : f.cells ≡ e.knows.plan.size
-    pub places : length f.rooms ≡ handlers_of e.knows.plan
+    pub places : (length f.rooms ≡ handlers_of e.knows.plan) × (f.hands ≡ handlers_of e.knows.plan)
 
   -- a receiver has in hand the slots of what it took and did not complete, with nothing in them, and the parts themselves
   abbrev pub taken_slots : ReceiverRecord T → Hand T

@@ -3,9 +3,9 @@ use Rattle.std.specs.Prelude.{List}
 use Rattle.atomic_table.specs.Seated.{TableId}
 use Rattle.dr_runs.specs.Gathering.{AreOf, Known}
 use Rattle.dr_plain.specs.declared.record.EndRecord.{EndRecord}
-use Rattle.dr_plain.specs.declared.record.EndRecord.TheVariants.{Sends, Receives}
+use Rattle.dr_plain.specs.declared.record.EndRecord.TheVariants.{Sends, Receives, Halts}
 use Rattle.dr_plain.specs.declared.record.Step.{Step}
-use Rattle.dr_plain.specs.Calls.Ends.{SenderEnd, ReceiverEnd}
+use Rattle.dr_plain.specs.Calls.Ends.{SenderEnd, ReceiverEnd, HalterStand}
 
 module _ {T : Type 0} where
   -- the receivers are of this ring
@@ -17,3 +17,6 @@ module _ {T : Type 0} where
 
   abbrev pub receiver_known : ReceiverEnd T → Known (EndRecord T) (Step T)
   receiver_known e = record { knows = Receives e.knows; past = e.past; stored = e.stored }
+
+  abbrev pub halter_known : HalterStand T → Known (EndRecord T) (Step T)
+  halter_known e = record { knows = Halts e.knows; past = e.past; stored = e.stored }

@@ -19,3 +19,4 @@ pub record IsPrepared {T : Type 0} (k : Shape) (p : Prepared T) : Type 0 where
   pub written : p.written ≡ record { upto = 0; ahead = replicate k.size 0 }
   pub tokens : length p.tokens.items ≡ k.size
   pub counts : length p.counts.items ≡ handlers_of k
+  pub hands : length p.hands.items ≡ handlers_of k

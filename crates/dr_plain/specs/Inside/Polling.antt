@@ -1,20 +1,15 @@
 -- What the looks of a poll come to.
-use Rattle.std.specs.Prelude.{◌≡◌, ℕ, ◌+◌, ◌-◌, ◌<◌, ◌≤◌, ◌==◌, ◌&&◌, ◌||◌, nat_lt, if◌then◌else◌, true, min, List, [], ◌∷◌, ◌++◌, length, take, Contains}
-use Rattle.dr_core.specs.declared.command.Polled.{Polled}
-use Rattle.dr_core.specs.declared.command.Polled.TheVariants.{Drained, Gating, Idle}
+use Rattle.std.specs.Prelude.{◌≡◌, ℕ, ◌+◌, ◌-◌, ◌<◌, ◌≤◌, ◌||◌, true, min, List, [], ◌∷◌, ◌++◌, length, take, Contains}
 use Rattle.dr_graph.specs.Meaning.Graph.{upstreams_of}
-use Rattle.dr_plain.specs.Meaning.Words.{cursor_word}
-use Rattle.dr_plain.specs.declared.record.Look.{Look}
+use Rattle.dr_runs.specs.Words.{cursor_word}
+use Rattle.dr_runs.specs.declared.look.Look.{Look}
 use Rattle.dr_plain.specs.declared.record.Lent.{Lent}
 use Rattle.dr_plain.specs.declared.record.ReceiverRecord.{ReceiverRecord}
-use Rattle.dr_plain.specs.Meaning.Records.{look, offered_by, tells_drained}
+use Rattle.dr_plain.specs.Meaning.Records.{tells_drained}
+use Rattle.dr_runs.specs.Looks.{look, offered_by}
 use Rattle.dr_plain.specs.Calls.Ends.{count_looks}
 use Rattle.dr_plain.specs.Calls.Receiving.{received_all}
 use Rattle.dr_plain.specs.Inside.Seats.{Hand, taken_by_poll}
-
--- what a poll answers where nothing is offered
-abbrev pub nothing_offered : ℕ → ℕ → ℕ → Polled
-nothing_offered closed cursor taken = if (closed == 1) && (cursor == taken) then Drained else if nat_lt taken cursor then Gating else Idle
 
 module _ {T : Type 0} where
   abbrev pub ups_of : ReceiverRecord T → List ℕ

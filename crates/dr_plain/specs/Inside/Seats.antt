@@ -1,5 +1,5 @@
 -- The seats that stand for the ends of a ring, the rule that its table keeps, and what each kind of step tells.
-use Rattle.std.specs.Prelude.{◌≡◌, ℕ, ◌-◌, ◌<◌, ◌==◌, if◌then◌else◌, List, [], ◌∷◌, ◌++◌, map, length, take, drop, Option, Some}
+use Rattle.std.specs.Prelude.{◌⊎◌, ◌≡◌, ℕ, ◌-◌, ◌<◌, ◌==◌, if◌then◌else◌, List, [], ◌∷◌, ◌++◌, map, length, take, drop, Option, Some}
 use mathlib.Core.Option.{some}
 use denote.RawPtr.{null_ptr}
 use lib.ListN.{get_elem?}
@@ -21,7 +21,8 @@ use Rattle.dr_plain.specs.declared.record.EndRecord.TheVariants.{Receives, Sends
 use Rattle.dr_plain.specs.declared.record.Step.{Step}
 use Rattle.dr_plain.specs.Meaning.Shape.{Shape, handlers_of}
 use Rattle.dr_plain.specs.Meaning.Words.{words_of, slots_of}
-use Rattle.dr_plain.specs.Meaning.Records.{claimed, laid, sender_looked, halt_looked, published_more, sender_halted, sender_closed, closed_looked, receiver_looked, taken_at, cursor_looked, completed_to, halter_halted}
+use Rattle.dr_plain.specs.Meaning.Records.{claimed, laid, sender_looked, halt_looked, published_more, sender_halted, sender_closed, closed_looked}
+use Rattle.dr_plain.specs.Meaning.Records.{receiver_looked, taken_at, cursor_looked, completed_to, halter_halted}
 use Rattle.dr_plain.specs.Meaning.Rule.{World}
 use Rattle.dr_plain.specs.Meaning.Lying.{placed, Lies}
 use Rattle.dr_plain.specs.Meaning.Steps.{Happens}
@@ -89,9 +90,12 @@ module _ {T : Type 0} where
     entries_of = entries_of k;
   }
 
-  -- the rule of a ring as its table's
+  -- the rule of a ring as its table's: its ends keep it, or it is over, and no seat stands for an end any more
+  abbrev pub IsOver : State (Token T) (View (EndRecord T) (Step T)) → Type 0
+  IsOver s = (seat : ℕ) (view : View (EndRecord T) (Step T)) → get_elem? s.views seat ≡ some view → view.ends ≡ []
+
   abbrev pub Ruled : Shape → State (Token T) (View (EndRecord T) (Step T)) → Type 0
-  Ruled k s = seats.Ruled (exchange k) s
+  Ruled k s = seats.Ruled (exchange k) s ⊎ IsOver s
 
   -- the ends of a new ring: the sender, the halter, and the receivers
   abbrev pub known_receivers : Shape → ℕ → ℕ → List (EndRecord T)

@@ -4,7 +4,8 @@ use Rattle.atomic_table.specs.Seated.{TableId}
 use Rattle.dr_runs.specs.Seats.{past_of}
 use Rattle.dr_plain.specs.Meaning.Shape.{Shape, handlers_of}
 use Rattle.dr_plain.specs.Calls.Plans.{IsPlan}
-use Rattle.dr_plain.specs.Calls.Ends.{SenderStand, ReceiverStand, HalterStand, looks_counted}
+use Rattle.dr_plain.specs.Calls.Ends.{SenderStand, ReceiverStand, HalterStand}
+use Rattle.dr_runs.specs.Looks.{looks_counted}
 use Rattle.dr_plain.specs.Inside.Seats.{End, Sitting, IsAtTable, stored_of, sender_of, receiver_of, halter_of, IsSender, IsReceiver, IsHalter}
 
 module _ {T : Type 0} where

@@ -22,7 +22,8 @@ module _ {T : Type 0} where
   -- the parts of the events of some sequences stand in the places of their cells, and all others as before
   pub record PartsTaken (r : ReceiverRecord T) (first upto : ℕ) (parts parts' : List (Token T)) : Type 0 where
     pub count : length parts' ≡ length parts
-    pub taken : (s : ℕ) (l : Lent T) → first ≤ s → s < upto → get_elem? r.received s ≡ some l → get_elem? parts' (cell_of r.plan s) ≡ some (part_of r.plan s (Some l))
+    pub taken : (s : ℕ) (l : Lent T) → first ≤ s → s < upto → get_elem? r.received s ≡ some l
+        → get_elem? parts' (cell_of r.plan s) ≡ some (part_of r.plan s (Some l))
     pub others : (i : ℕ) → ((s : ℕ) → first ≤ s → s < upto → cell_of r.plan s ≢ i) → get_elem? parts' i ≡ get_elem? parts i
 
   -- the parts of the events of some sequences stand in the places of their cells

@@ -1,6 +1,6 @@
 -- How an end's caller sees it.
 use Rattle.std.specs.Prelude.{List, length, Option}
-use Rattle.dr_plain.specs.declared.written.Written.{Written}
+use Rattle.dr_runs.specs.declared.written.Written.{Written}
 use Rattle.dr_plain.specs.Calls.Ends.{SenderStand, ReceiverStand, SenderEnd, ReceiverEnd}
 use Rattle.dr_plain.specs.Inside.Noted.{writes_from}
 

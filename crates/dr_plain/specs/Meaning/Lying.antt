@@ -23,8 +23,10 @@ module _ {T : Type 0} where
   abbrev pub placed : Shape → ℕ → ℕ → Option (Lent T) → ℕ × Token T
   placed k h s l = (slot_of k h s, part_of k s l)
 
-  -- A part is with the sender from the claim of its slot to the publication there, and with its handler from the poll that takes it to the completion. Else it lies in its slot.
-  pub record LiesBy (k : Shape) (receivers : List (ReceiverRecord T)) (lents : List (Option (Lent T))) (claims : ℕ) (homes : List (maybe.Option (Token T))) : Type 0 where
+  -- A part is with the sender from the claim of its slot to the publication there,
+  -- and with its handler from the poll that takes it to the completion. Else it lies in its slot.
+  pub record LiesBy (k : Shape) (receivers : List (ReceiverRecord T)) (lents : List (Option (Lent T))) (claims : ℕ)
+      (homes : List (maybe.Option (Token T))) : Type 0 where
     pub deep : length homes ≡ slots_of k
     pub lies : (h : ℕ) (r : ReceiverRecord T) → get_elem? receivers h ≡ some r → (q : ℕ) (l : Option (Lent T)) → get_elem? lents q ≡ some l
         → claims ≤ q → (q < k.size + r.completed) ⊎ (k.size + length r.received ≤ q) → get_elem? homes (slot_of k h q) ≡ some (some (part_of k q l))

@@ -1,24 +1,27 @@
 -- What each list of steps comes to, from a ring's opening.
-use Rattle.std.specs.Prelude.{ℕ, zero, suc, ◌+◌, ◌-◌, ◌==◌, ◌&&◌, not, nat_lt, if◌then◌else◌, false, List, [], ◌∷◌, ◌++◌, map, length, replicate, slice_index, slice_index_or, Some, None}
+use Rattle.std.specs.Prelude.{ℕ, zero, suc, ◌+◌, ◌-◌, ◌==◌, ◌&&◌, not, nat_lt, if◌then◌else◌, false, List, [], ◌∷◌, ◌++◌, map, length, replicate}
+use Rattle.std.specs.Prelude.{slice_index, slice_index_or, Some, None}
 use Rattle.std.specs.List.{range_with_len}
-use Rattle.dr_core.specs.declared.command.Command.{Command}
 use Rattle.dr_core.specs.declared.command.Command.TheVariants.{Claim, Write, Publish, Poll, Complete, Halt}
-use Rattle.dr_core.specs.declared.command.Reply.{Reply}
 use Rattle.dr_core.specs.declared.command.Reply.TheVariants.{Claimed, Written, Published, Batch, Drained, Completed, Halting}
 use Rattle.dr_core.specs.Meaning.Machine as machine
 use Rattle.dr_core.specs.Meaning.Machine.{State, available}
 use Rattle.dr_core.specs.Meaning.Transcript.{Transcript}
 use Rattle.dr_runs.specs.Runs as runs
 use Rattle.dr_plain.specs.Meaning.Shape.{Shape, handlers_of, ring_setup}
-use Rattle.dr_plain.specs.Meaning.Words.{cursor_word, halt_word, count_word, words_of}
+use Rattle.dr_plain.specs.Meaning.Words.{words_of}
+use Rattle.dr_runs.specs.Words.{cursor_word, halt_word, count_word}
 use Rattle.dr_plain.specs.declared.record.SenderRecord.{SenderRecord}
 use Rattle.dr_plain.specs.declared.record.ReceiverRecord.{ReceiverRecord}
 use Rattle.dr_plain.specs.declared.record.HalterRecord.{HalterRecord}
 use Rattle.dr_plain.specs.Meaning.Records.{events_of, claimed, taken_at, tells_drained}
 use Rattle.dr_plain.specs.Meaning.Rule.{World}
 use Rattle.dr_plain.specs.declared.record.Step.{Step}
-use Rattle.dr_plain.specs.declared.record.Step.TheVariants.{SenderLooksAtCount, SenderLooksAtHalt, SenderPublishes, SenderHalts, SenderCloses, ReceiverLooksAtClosed, ReceiverLooksAtCursor, ReceiverLooksAtCount, ReceiverCompletes, HalterHalts}
+use Rattle.dr_plain.specs.declared.record.Step.TheVariants.{SenderLooksAtCount, SenderLooksAtHalt, SenderPublishes, SenderHalts, SenderCloses}
+use Rattle.dr_plain.specs.declared.record.Step.TheVariants.{ReceiverLooksAtClosed, ReceiverLooksAtCursor, ReceiverLooksAtCount, ReceiverCompletes}
+use Rattle.dr_plain.specs.declared.record.Step.TheVariants.{HalterHalts}
 use Rattle.dr_plain.specs.Meaning.Steps.{Happens, next_of}
+use Rattle.dr_runs.specs.Entries.{entry}
 
 module _ {T : Type 0} where
   -- the ends of a new ring
@@ -55,9 +58,6 @@ module _ {T : Type 0} where
     halted = slice_index w.words halt_word == 1;
   }
 
-  abbrev pub entry : Command T → Reply → List T → Transcript T
-  entry command reply values = record { command = command; reply = reply; values = values } ∷ []
-
   -- the writes of events to the sequences from s on
   abbrev pub writes_of : ℕ → List T → Transcript T
   writes_of s [] = []
@@ -78,7 +78,8 @@ module _ {T : Type 0} where
       let r : ReceiverRecord T = receiver_at k w h in
       poll_of h (length r.received) (events_of (next_of w r (taken_at r word (slice_index w.words word) room))) (available (ring_setup k) (picture_of k w) h)
 
-  -- the events of a step: a claim is decided by the sender's look at halt, its writes and a publication by the store of the cursor, a poll by its last look, and `Drained` is told by a look at the cursor
+  -- the events of a step: a claim is decided by the sender's look at halt,
+  -- its writes and a publication by the store of the cursor, a poll by its last look, and `Drained` is told by a look at the cursor
   abbrev pub entries_of : Shape → Step T → World T → Transcript T
   entries_of k (SenderLooksAtCount f) w = []
   entries_of k (SenderLooksAtHalt n) w =

@@ -1,26 +1,15 @@
 -- What each kind of step makes of the record of its end.
-use Rattle.std.specs.Prelude.{ℕ, ◌+◌, ◌-◌, ◌≤◌, ◌==◌, ◌&&◌, ◌||◌, if◌then◌else◌, Bool, true, min, List, [], ◌∷◌, ◌++◌, map, replicate, length, Option, Some, None, Contains}
-use Rattle.dr_graph.specs.Meaning.Graph.{upstreams_of, finals, least_of}
+use Rattle.std.specs.Prelude.{ℕ, ◌+◌, ◌-◌, ◌≤◌, ◌==◌, ◌&&◌, ◌||◌, if◌then◌else◌, Bool, true, min, List, [], ◌∷◌, ◌++◌, map, replicate, length, Option}
+use Rattle.std.specs.Prelude.{Some, None, Contains}
+use Rattle.dr_graph.specs.Meaning.Graph.{upstreams_of, finals}
 use Rattle.dr_plain.specs.Meaning.Shape.{Shape}
-use Rattle.dr_plain.specs.Meaning.Words.{cursor_word, closed_word, halt_word, count_word}
-use Rattle.dr_plain.specs.declared.record.Look.{Look}
+use Rattle.dr_runs.specs.Words.{cursor_word, closed_word, halt_word, count_word}
+use Rattle.dr_runs.specs.declared.look.Look.{Look}
 use Rattle.dr_plain.specs.declared.record.Lent.{Lent}
 use Rattle.dr_plain.specs.declared.record.SenderRecord.{SenderRecord}
 use Rattle.dr_plain.specs.declared.record.ReceiverRecord.{ReceiverRecord}
 use Rattle.dr_plain.specs.declared.record.HalterRecord.{HalterRecord}
-
-abbrev pub look : ℕ → ℕ → Look
-look word value = record { word = word; value = value }
-
--- the value of the last look at a word, or d where there is none
-abbrev pub last_look : ℕ → List Look → ℕ → ℕ
-last_look d [] word = d
-last_look d (x ∷ xs) word = last_look (if x.word == word then x.value else d) xs word
-
--- the least of some counts or, where there is none, the cursor
-abbrev pub offered_by : ℕ → List ℕ → ℕ
-offered_by cursor [] = cursor
-offered_by cursor (n ∷ counts) = least_of (n ∷ counts)
+use Rattle.dr_runs.specs.Looks.{look, last_look, offered_by}
 
 -- up to where the barrier of a handler lets events through, as far as it saw
 abbrev pub barrier_seen : Shape → ℕ → List Look → ℕ

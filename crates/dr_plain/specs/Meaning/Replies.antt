@@ -1,32 +1,32 @@
 -- What an end of a ring answers is what the machine replies on the ring's picture.
-use Rattle.std.specs.Prelude.{◌≡◌, ℕ, ◌+◌, ◌-◌, ◌<◌, ◌≤◌, ◌==◌, ◌||◌, nat_lt, false, List, [], ◌∷◌, ◌++◌, map, length, slice_index}
-use Rattle.std.specs.Prelude.{slice_index_or, Option, Some, None, Result, Ok, Err, Contains}
+use Rattle.std.specs.Prelude.{◌≡◌, ℕ, ◌+◌, ◌≤◌, false, List, [], ◌∷◌, ◌++◌, map, length}
+use Rattle.std.specs.Prelude.{slice_index_or, Option, Some, None, Result, Contains}
 use mathlib.Core.Option.{some}
 use lib.ListN.{get_elem?}
 use Rattle.dr_core.specs.declared.refusal.Refusal.{Refusal}
-use Rattle.dr_core.specs.declared.refusal.Refusal.TheVariants.{NoRoom, Halted, Exhausted}
 use Rattle.dr_core.specs.declared.command.Claimed.{Claimed}
 use Rattle.dr_core.specs.declared.command.Command.{Command}
 use Rattle.dr_core.specs.declared.command.Command.TheVariants.{Claim, Write, Publish, Poll, Complete}
 use Rattle.dr_core.specs.declared.command.Reply.{Reply}
 use Rattle.dr_core.specs.declared.command.Reply.TheVariants.{Written, Published, Completed}
 use Rattle.dr_core.specs.declared.command.Polled.{Polled}
-use Rattle.dr_core.specs.declared.command.Polled.TheVariants.{Batch, Drained, Gating, Idle}
 use Rattle.dr_core.specs.Meaning.Refusals.{ClaimTests, PollTests, CompleteTests, claim_causes, poll_causes, complete_causes}
 use Rattle.dr_core.specs.Meaning.Machine as machine
 use Rattle.dr_core.specs.Meaning.Machine.{State, available}
 use Rattle.dr_core.specs.Meaning.Transcript.{Transcript}
 use Rattle.dr_core.specs.Calls.Shows.{claim_reply, unit_reply, poll_reply}
-use Rattle.dr_core.specs.Calls.Ends.{Verdict, Exactly, unknown, Sent, Received, IsAnswerOf, WriteAnswers, PublishAnswers, poll_tests, complete_tests, as_end}
-use Rattle.dr_graph.specs.Meaning.Graph.{upstreams_of, finals}
+use Rattle.dr_core.specs.Calls.Ends.{Verdict, Exactly, Sent, Received, IsAnswerOf, WriteAnswers, PublishAnswers, poll_tests, complete_tests, as_end}
+use Rattle.dr_graph.specs.Meaning.Graph.{upstreams_of}
 use Rattle.dr_plain.specs.Meaning.Shape.{Shape, ring_setup}
-use Rattle.dr_plain.specs.Meaning.Words.{cursor_word, closed_word, halt_word, count_word}
-use Rattle.dr_plain.specs.declared.record.Look.{Look}
+use Rattle.dr_runs.specs.Words.{cursor_word, count_word}
+use Rattle.dr_runs.specs.declared.look.Look.{Look}
 use Rattle.dr_plain.specs.declared.record.SenderRecord.{SenderRecord}
 use Rattle.dr_plain.specs.declared.record.ReceiverRecord.{ReceiverRecord}
 use Rattle.dr_plain.specs.Meaning.Records.{events_of, claimed, barrier_seen, SeesRoom}
 use Rattle.dr_plain.specs.Meaning.Rule.{World}
-use Rattle.dr_plain.specs.Meaning.Moments.{picture_of, entry}
+use Rattle.dr_plain.specs.Meaning.Moments.{picture_of}
+use Rattle.dr_runs.specs.Entries.{entry}
+use Rattle.dr_runs.specs.Replies.{claim_tests_of, DecidesClaimOf, DecidesPollOf}
 
 -- among some looks is one at a word
 abbrev pub LooksAt : List Look → ℕ → Type 0
@@ -57,15 +57,10 @@ module _ {T : Type 0} where
   abbrev pub received_of : ReceiverRecord T → Received T
   received_of r = record { events = events_of r.received; completed = r.completed }
 
-  -- The tests of each call, as far as its end knows them: there is one producer, no handler retires, and only what a claim finds at its looks is not known before.
+  -- The tests of each call, as far as its end knows them. The refusals are the machine's, in its order:
+  -- there is one producer, no handler retires, and only what a claim finds at its looks is not known before.
   abbrev pub tests_of_claim : SenderRecord T → ℕ → ClaimTests Verdict
-  tests_of_claim r n = record {
-    no_producer = Exactly false;
-    bad_count = Exactly ((n == 0) || nat_lt r.plan.size n);
-    halted = unknown;
-    exhausted = Exactly (nat_lt r.plan.limit (claimed r + n));
-    no_room = unknown;
-  }
+  tests_of_claim r n = claim_tests_of r.plan.size r.plan.limit (claimed r) n
 
   abbrev pub tests_of_poll : ReceiverRecord T → ℕ → PollTests Verdict
   tests_of_poll r room = record (poll_tests (Some (received_of r)) room) { retired = Exactly false }
@@ -77,27 +72,13 @@ module _ {T : Type 0} where
   abbrev pub Replies : Shape → State T → Command T → Reply → Type 0
   Replies k m command reply = (machine.step (ring_setup k) m command).reply ≡ reply
 
-  -- what the look by which a claim is decided finds: for an accepted one, and for one halted late, the last look at halt, and else the first
+  -- what the look finds by which a claim is decided
   abbrev pub DecidesClaim : Shape → World T → ℕ → Result Claimed Refusal → Type 0
-  DecidesClaim k w n (Ok stretch) =
-      (slice_index w.words halt_word ≡ 0) × SeesRoom k w.sender n × (stretch ≡ record { lo = claimed w.sender; hi = claimed w.sender + n - 1 })
-  DecidesClaim k w n (Err Halted) = slice_index w.words halt_word ≡ 1
-  DecidesClaim k w n (Err Exhausted) = slice_index w.words halt_word ≡ 0
-  DecidesClaim k w n (Err NoRoom) =
-      (slice_index w.words halt_word ≡ 0)
-      × ((f : ℕ) × Contains (finals k.upstreams) f × (k.size + slice_index w.words (count_word f) < claimed w.sender + n))
-  DecidesClaim k w n (Err other) = Unit {0}
+  DecidesClaim k w n = DecidesClaimOf k.upstreams w.words k.size (claimed w.sender) (SeesRoom k w.sender n) n
 
-  -- what the look finds by which a poll takes nothing: at the cursor or, for `Gating`, at an upstream's count; a batch is an entry of the run, at its last look
+  -- and that by which a poll takes nothing; a batch is an entry of the run, at its last look
   abbrev pub DecidesPoll : Shape → World T → ReceiverRecord T → Result Polled Refusal → Type 0
-  DecidesPoll k w r (Ok (Batch first count last)) = ⊥
-  DecidesPoll k w r (Ok Drained) = (slice_index w.words closed_word ≡ 1) × (slice_index w.words cursor_word ≡ length r.received)
-  DecidesPoll k w r (Ok Gating) =
-      (length r.received < slice_index w.words cursor_word)
-      × ((u : ℕ) × Contains (upstreams_of k.upstreams r.number) u × (slice_index w.words (count_word u) ≡ length r.received))
-  -- and the machine tells nobody that it drained
-  DecidesPoll k w r (Ok Idle) = (slice_index w.words cursor_word ≡ length r.received) × (slice_index w.words halt_word ≡ 1 → 0 < w.sender.pending)
-  DecidesPoll k w r (Err refusal) = Unit {0}
+  DecidesPoll k w r = DecidesPollOf k.upstreams w.words r.number (length r.received) w.sender.pending
 
   -- Once a receiver looked at all that its barrier goes by, it is offered at least what the picture had for its handler before those looks.
   -- Of that it takes at its last look as much as there is room for.
@@ -113,8 +94,10 @@ module _ {T : Type 0} where
     pub write : (writes : List (Option T)) (s : ℕ) (event : T) (result : Result (Unit {0}) Refusal) → length writes ≡ w.sender.pending
         → WriteAnswers (Some (sent_with w.sender writes)) s (as_end result) → Replies k (picture_with k w writes) (Write 0 s event) (unit_reply Written result)
     pub publish : (writes : List (Option T)) (lo hi : ℕ) (result : Result (Unit {0}) Refusal) → length writes ≡ w.sender.pending
-        → PublishAnswers (Some (sent_with w.sender writes)) lo hi (as_end result) → Replies k (picture_with k w writes) (Publish 0 lo hi) (unit_reply Published result)
+        → PublishAnswers (Some (sent_with w.sender writes)) lo hi (as_end result)
+        → Replies k (picture_with k w writes) (Publish 0 lo hi) (unit_reply Published result)
     pub poll : (h room : ℕ) (r : ReceiverRecord T) (result : Result Polled Refusal) → get_elem? w.receivers h ≡ some r
-        → IsAnswerOf (poll_causes (tests_of_poll r room)) (as_end result) → DecidesPoll k w r result → Replies k (picture_of k w) (Poll h room) (poll_reply result)
+        → IsAnswerOf (poll_causes (tests_of_poll r room)) (as_end result) → DecidesPoll k w r result
+        → Replies k (picture_of k w) (Poll h room) (poll_reply result)
     pub complete : (h upto : ℕ) (r : ReceiverRecord T) (result : Result (Unit {0}) Refusal) → get_elem? w.receivers h ≡ some r
         → IsAnswerOf (complete_causes (tests_of_completion r upto)) (as_end result) → Replies k (picture_of k w) (Complete h upto) (unit_reply Completed result)

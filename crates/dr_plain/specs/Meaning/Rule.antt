@@ -1,12 +1,14 @@
 -- The rule of a ring, which holds between any two steps.
-use Rattle.std.specs.Prelude.{◌≡◌, ℕ, ◌+◌, ◌<◌, ◌≤◌, ◌⊎◌, Bool, true, List, length, take, slice_index, Contains}
+use Rattle.std.specs.Prelude.{◌≡◌, ℕ, ◌+◌, ◌<◌, ◌≤◌, true, List, length, take, slice_index, Contains}
 use mathlib.Core.Option.{some}
 use lib.ListN.{get_elem?}
 use Rattle.dr_graph.specs.Meaning.Graph.{upstreams_of, finals, IsGraph}
 use Rattle.dr_plain.specs.Meaning.Shape.{Shape, handlers_of}
-use Rattle.dr_plain.specs.Meaning.Words.{cursor_word, closed_word, halt_word, count_word, words_of}
+use Rattle.dr_plain.specs.Meaning.Words.{words_of}
+use Rattle.dr_runs.specs.Words.{cursor_word, closed_word, count_word, HaltAndClose}
 use Rattle.dr_plain.specs.Meaning.Records.{claimed}
-use Rattle.dr_plain.specs.declared.record.Look.{Look}
+use Rattle.dr_runs.specs.Looks as past
+use Rattle.dr_runs.specs.declared.look.Look.{Look}
 use Rattle.dr_plain.specs.declared.record.Lent.{Lent}
 use Rattle.dr_plain.specs.declared.record.SenderRecord.{SenderRecord}
 use Rattle.dr_plain.specs.declared.record.ReceiverRecord.{ReceiverRecord}
@@ -28,27 +30,12 @@ pub record CountsFit (k : Shape) (words : List ℕ) (published claimed : ℕ) : 
 abbrev pub Room : Shape → List ℕ → ℕ → Type 0
 Room k words claimed = (f : ℕ) → Contains (finals k.upstreams) f → claimed ≤ k.size + slice_index words (count_word f)
 
--- halt and close: who halted or closed the ring finds it so, and a closed ring is halted, with every claimed sequence published
-pub record HaltAndClose (words : List ℕ) (pending : ℕ) (sender_halted sender_closed halter_halted : Bool) : Type 0 where
-  pub halt : slice_index words halt_word ≤ 1
-  pub close : slice_index words closed_word ≤ 1
-  pub by_sender : sender_halted ≡ true → slice_index words halt_word ≡ 1
-  pub by_halter : halter_halted ≡ true → slice_index words halt_word ≡ 1
-  pub closed : sender_closed ≡ true → slice_index words closed_word ≡ 1
-  -- and where it is so, one of them knows it
-  pub known_halt : slice_index words halt_word ≡ 1 → (sender_halted ≡ true) ⊎ (halter_halted ≡ true)
-  pub known_close : slice_index words closed_word ≡ 1 → sender_closed ≡ true
-  pub complete : slice_index words closed_word ≡ 1 → (slice_index words halt_word ≡ 1) × (pending ≡ 0)
-
 -- looks: what was seen of a word that never falls, which is each, is not above what it is now
-pub record IsPast (k : Shape) (words : List ℕ) (x : Look) : Type 0 where
-  pub rises : x.word < words_of k
-  pub before : x.value ≤ slice_index words x.word
-
 abbrev pub ArePast : Shape → List ℕ → List Look → Type 0
-ArePast k words looks = (i : ℕ) (x : Look) → get_elem? looks i ≡ some x → IsPast k words x
+ArePast k words looks = past.ArePast (words_of k) words looks
 
--- received lists: what a receiver received is the beginning of what is published; it took no more than each upstream completed, and completed no more than it took
+-- received lists: what a receiver received is the beginning of what is published;
+-- it took no more than each upstream completed, and completed no more than it took
 pub record ReceiverKept {T : Type 0} (k : Shape) (words : List ℕ) (published : List (Lent T)) (h : ℕ) (r : ReceiverRecord T) : Type 0 where
   pub plan : r.plan ≡ k
   pub number : r.number ≡ h

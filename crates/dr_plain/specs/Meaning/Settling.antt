@@ -8,7 +8,8 @@ use Rattle.dr_plain.specs.declared.record.ReceiverRecord.{ReceiverRecord}
 use Rattle.dr_plain.specs.Meaning.Records.{claimed}
 
 module _ {T : Type 0} where
-  -- a receiver has the beginning of what its sender published, all of it where it was told that the ring drained, and a final handler leaves room for all that is claimed
+  -- a receiver has the beginning of what its sender published,
+  -- all of it where it was told that the ring drained, and a final handler leaves room for all that is claimed
   pub record HasBeginning (s : SenderRecord T) (r : ReceiverRecord T) : Type 0 where
     pub beginning : r.received ≡ take (length r.received) s.published
     pub taken : length r.received ≤ length s.published

@@ -4,13 +4,16 @@ use mathlib.Core.Option.{some}
 use lib.ListN.{get_elem?}
 use Rattle.dr_graph.specs.Meaning.Graph.{upstreams_of, finals}
 use Rattle.dr_plain.specs.Meaning.Shape.{Shape}
-use Rattle.dr_plain.specs.Meaning.Words.{cursor_word, closed_word, halt_word, count_word}
+use Rattle.dr_runs.specs.Words.{cursor_word, closed_word, halt_word, count_word}
 use Rattle.dr_plain.specs.declared.record.Step.{Step}
-use Rattle.dr_plain.specs.declared.record.Step.TheVariants.{SenderLooksAtCount, SenderLooksAtHalt, SenderPublishes, SenderHalts, SenderCloses, ReceiverLooksAtClosed, ReceiverLooksAtCursor, ReceiverLooksAtCount, ReceiverCompletes, HalterHalts}
+use Rattle.dr_plain.specs.declared.record.Step.TheVariants.{SenderLooksAtCount, SenderLooksAtHalt, SenderPublishes, SenderHalts, SenderCloses}
+use Rattle.dr_plain.specs.declared.record.Step.TheVariants.{ReceiverLooksAtClosed, ReceiverLooksAtCursor, ReceiverLooksAtCount, ReceiverCompletes}
+use Rattle.dr_plain.specs.declared.record.Step.TheVariants.{HalterHalts}
 use Rattle.dr_plain.specs.declared.record.Lent.{Lent}
 use Rattle.dr_plain.specs.declared.record.SenderRecord.{SenderRecord}
 use Rattle.dr_plain.specs.declared.record.ReceiverRecord.{ReceiverRecord}
-use Rattle.dr_plain.specs.Meaning.Records.{events_of, sender_looked, halt_looked, published_more, sender_halted, sender_closed, closed_looked, receiver_looked, taken_at, cursor_looked, completed_to, halter_halted, SeesRoom}
+use Rattle.dr_plain.specs.Meaning.Records.{events_of, sender_looked, halt_looked, published_more, sender_halted, sender_closed, closed_looked}
+use Rattle.dr_plain.specs.Meaning.Records.{receiver_looked, taken_at, cursor_looked, completed_to, halter_halted, SeesRoom}
 use Rattle.dr_plain.specs.Meaning.Rule.{World}
 
 module _ {T : Type 0} where
@@ -54,7 +57,8 @@ module _ {T : Type 0} where
       w' ≡ receiver_knows w h (cursor_looked r found (next_of w r (taken_at r cursor_word found room))))
   Happens k (ReceiverLooksAtCount h u room) w w' =
       ByReceiver w h (λ r. let found : ℕ = slice_index w.words (count_word u) in
-      Contains (upstreams_of k.upstreams h) u × (w' ≡ receiver_knows w h (receiver_looked r (count_word u) found (next_of w r (taken_at r (count_word u) found room)))))
+      Contains (upstreams_of k.upstreams h) u
+      × (w' ≡ receiver_knows w h (receiver_looked r (count_word u) found (next_of w r (taken_at r (count_word u) found room)))))
   Happens k (ReceiverCompletes h n) w w' =
       ByReceiver w h (λ r. (r.completed ≤ n) × (n ≤ length r.received) × (w' ≡ receiver_stores w h (completed_to r n) (count_word h) n))
   Happens k HalterHalts w w' = w' ≡ record w { words = slice_set w.words halt_word 1; halter = halter_halted w.halter }

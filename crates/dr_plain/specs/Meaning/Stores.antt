@@ -21,6 +21,10 @@ module _ {T : Type 0} where
   abbrev pub stores_of_sender : List (Step T) → List (Step T)
   stores_of_sender steps = filter (is_store_of 0) steps
 
+  -- what the halter stored in a run, in order
+  abbrev pub stores_of_halter : List (Step T) → List (Step T)
+  stores_of_halter steps = filter (is_store_of 1) steps
+
   -- what the receiver of a handler stored in a run, in order
   abbrev pub stores_of_receiver : ℕ → List (Step T) → List (Step T)
   stores_of_receiver h steps = filter (is_store_of (receiver_number h)) steps

@@ -1,22 +1,7 @@
--- Where each word of a ring lies, and each slot of its lanes. Words that different ends store are 16 words or more apart, so that no two ends write to one cache line; the words between are never touched.
+-- Where each word of a ring lies, and each slot of its lanes. Words that different ends store are 16 words or more apart,
+-- so that no two ends write to one cache line; the words between are never touched.
 use Rattle.std.specs.Prelude.{ℕ, ◌+◌, ◌*◌, ◌%◌}
 use Rattle.dr_plain.specs.Meaning.Shape.{Shape, handlers_of}
-
--- how many events are published; the sender stores it
-abbrev pub cursor_word : ℕ
-cursor_word = 0
-
--- 1 once the sender has closed; the sender stores it
-abbrev pub closed_word : ℕ
-closed_word = 1
-
--- 1 once the ring is halted; the sender and the halter store it
-abbrev pub halt_word : ℕ
-halt_word = 16
-
--- how many events a handler completed; its receiver stores it
-abbrev pub count_word : ℕ → ℕ
-count_word h = 32 + 16 * h
 
 -- how many words there are
 abbrev pub words_of : Shape → ℕ

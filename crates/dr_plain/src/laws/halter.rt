@@ -6,7 +6,7 @@ ghost use Rattle.dr_plain.specs.Calls.Ends.{HasStored};
 
 use super::plays::Halt;
 use super::{RingBody, RingSeat};
-use crate::plan::HALT_WORD;
+use dr_runs::HALT_WORD;
 use std::alloc::Global;
 use std::marker::Model;
 use std::sync::Arc;

@@ -1,16 +1,19 @@
-//! How seats come together, at the end. No step of these changes a word, a slot or a record.
+//! How seats come together, at the end, and one of them takes all that lies in the slots. No step of
+//! these changes a word or a record.
 
-ghost use Rattle.std.specs.Prelude.{◌≡◌, ◌<◌};
+ghost use Rattle.std.specs.Prelude.{◌≡◌, ◌<◌, ◌++◌, List};
 ghost use Rattle.dr_runs.specs.Seats.{both_views};
-ghost use Rattle.dr_runs.specs.Gathering.{Compares, ViewRan};
+ghost use Rattle.dr_runs.specs.Gathering.{ViewRan};
 ghost use Rattle.dr_plain.specs.Meaning.Shape.{Shape};
+ghost use Rattle.dr_plain.specs.Calls.Ends.{SenderEnd, ReceiverEnd, HalterStand};
 ghost use Rattle.dr_plain.specs.Inside.Seats.{exchange};
+ghost use Rattle.dr_plain.specs.Inside.Finishing.{HasAllEnds, TookAll, left_of};
 
 use super::{RingSeat, Words};
-use crate::plan::CURSOR_WORD;
 use crate::record::View;
 use atomic_table::{Join, Play, Split};
 use dr_cells::Token;
+use dr_runs::CURSOR_WORD;
 use std::marker::{Brand, PhantomData};
 
 // A view leaves its seat, which keeps the slots that it has in hand.
@@ -47,13 +50,14 @@ impl Plans for Brand {
     ghost plan = { no_shape };
 }
 
-/// A load that tells which run came to what the ends of its seat know.
-pub struct TellsRun<J> {
+/// A load by which its seat takes each part that lies in a slot of the events that still lie lent in
+/// their cells, and stands for no end any more. It tells which run came to what the ends knew.
+pub struct TakesAll<J> {
     plan: PhantomData<J>,
 }
 
-impl<T, J: Plans> Play<Token<T>, View<T>> for TellsRun<J> {
-    ghost then = { Compares (exchange J.plan) };
+impl<T, J: Plans> Play<Token<T>, View<T>> for TakesAll<J> {
+    ghost then = { TookAll J.plan };
 }
 
 /// A seat takes in what another stands for. What slots that other has in hand stay in no seat.
@@ -66,13 +70,16 @@ pub fn take_in<T>(words: &Words<T>, seat: &mut RingSeat<T>, mut other: RingSeat<
     words.join_seat::<Together>(seat, view);
 }
 
-/// One run came to what the ends that a seat stands for know. It costs one load, whose value says
+/// The seat that stands for all ends ends the ring: it takes each part that lies in a slot, and
+/// stands for no end any more. One run came to what the ends knew. It costs one load, whose value says
 /// nothing.
-pub fn compare<T, J: Plans>(words: &Words<T>, seat: &mut RingSeat<T>)
+pub fn take_all<T, J: Plans>(words: &Words<T>, seat: &mut RingSeat<T>)
     requires table { (seat.old.table_id ≡ words.now.table_id) × (0 < words.now.table_id.words) }
     requires plan { words.now.key ≡ J.plan }
-    ensures seat { (seat.new.table_id ≡ seat.old.table_id) × (seat.new.me ≡ seat.old.me) }
+    requires ends { (s : SenderEnd T) × (es : List (ReceiverEnd T)) × (t : HalterStand T) × HasAllEnds seat.old.me.0 s es t }
+    ensures seat { seat.new.table_id ≡ seat.old.table_id }
     ensures ran { ViewRan (exchange J.plan) seat.old.me.0 }
+    ensures hand { (s : SenderEnd T) (es : List (ReceiverEnd T)) (t : HalterStand T) → HasAllEnds seat.old.me.0 s es t → seat.new.me.1 ≡ left_of s es ++ seat.old.me.1 }
 {
-    words.load::<TellsRun<J>>(seat, CURSOR_WORD);
+    words.load::<TakesAll<J>>(seat, CURSOR_WORD);
 }

@@ -1,17 +1,17 @@
 -- What an end of a ring is to its caller, and what one of its steps leaves of it.
 use Rattle.dr_seq.specs.declared.event.Event.{Event}
-use Rattle.std.specs.Prelude.{◌≡◌, ℕ, min, List, [], ◌∷◌, ◌++◌, length, Result, Ok, Err}
+use Rattle.std.specs.Prelude.{◌≡◌, ℕ, List, [], ◌∷◌, ◌++◌}
 use Rattle.atomic_table.specs.Seated.{TableId}
 use Rattle.dr_ring.specs.Meaning.Shape.{Shape}
-use Rattle.dr_ring.specs.declared.record.Look.{Look}
+use Rattle.dr_runs.specs.declared.look.Look.{Look}
 use Rattle.dr_ring.specs.declared.record.Step.{Step}
 use Rattle.dr_ring.specs.declared.record.SenderRecord.{SenderRecord}
 use Rattle.dr_ring.specs.declared.record.ReceiverRecord.{ReceiverRecord}
 use Rattle.dr_ring.specs.declared.record.HalterRecord.{HalterRecord}
 use Rattle.dr_runs.specs.Runs.{IsBeginning}
 use Rattle.dr_core.specs.Calls.Ends.{Received}
-use Rattle.dr_ring.specs.Meaning.Words.{count_word}
-use Rattle.dr_ring.specs.Meaning.Records.{look}
+use Rattle.dr_runs.specs.Words.{count_word}
+use Rattle.dr_runs.specs.Looks.{looks_at}
 
 -- an end: of which ring it is, what it knows, the run as it was at its last step, and what it has stored since the ring's opening
 pub record EndOf (K : Type 0) : Type 0 where
@@ -37,10 +37,6 @@ HasLoaded e knows e' = (e'.ring ≡ e.ring) × (e'.knows ≡ knows) × IsBeginni
 abbrev pub HasStored : {K : Type 0} → EndOf K → Step → K → EndOf K → Type 0
 HasStored e step knows e' = (e'.ring ≡ e.ring) × (e'.knows ≡ knows) × IsBeginning e.past e'.past × (e'.stored ≡ e.stored ++ step ∷ [])
 
--- how many looks an end counts
-abbrev pub looks_counted : List Look → ℕ
-looks_counted looks = min (length looks) 18446744073709551615
-
 abbrev pub received_of : ReceiverRecord → Received Event
 received_of r = record { events = r.received; completed = r.completed }
 
@@ -56,17 +52,6 @@ ReceiverPlace = TableId × Shape × ℕ
 
 abbrev pub receiver_place : ReceiverEnd → ReceiverPlace
 receiver_place e = (e.ring, e.knows.plan, e.knows.number)
-
--- a call that is not refused stores this and nothing else, and a refused one nothing
-abbrev pub StoresWhereOk : {A E S : Type 0} → List S → List S → List S → Result A E → Type 0
-StoresWhereOk stored steps stored' (Ok _) = stored' ≡ stored ++ steps
-StoresWhereOk stored steps stored' (Err _) = stored' ≡ stored
-
--- looks at words of some handlers, in their order, as far as there are values
-abbrev pub looks_at : (ℕ → ℕ) → List ℕ → List ℕ → List Look
-looks_at word_of [] values = []
-looks_at word_of (h ∷ hs) [] = []
-looks_at word_of (h ∷ hs) (n ∷ values) = look (word_of h) n ∷ looks_at word_of hs values
 
 -- looks at the counts of some handlers
 abbrev pub count_looks : List ℕ → List ℕ → List Look

@@ -1,9 +1,9 @@
 -- What a look may find: no word that is looked at falls.
 use Rattle.std.specs.Prelude.{◌≡◌, ℕ, ◌≤◌, true, length}
-use Rattle.dr_ring.specs.Meaning.Words.{halt_word}
+use Rattle.dr_runs.specs.Words.{halt_word}
 use Rattle.dr_ring.specs.declared.record.SenderRecord.{SenderRecord}
 use Rattle.dr_ring.specs.declared.record.ReceiverRecord.{ReceiverRecord}
-use Rattle.dr_ring.specs.Meaning.Records.{last_look}
+use Rattle.dr_runs.specs.Looks.{last_look}
 
 -- no more is completed than is published
 abbrev pub FindsCompleted : SenderRecord → ℕ → ℕ → Type 0

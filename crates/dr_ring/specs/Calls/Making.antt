@@ -3,8 +3,8 @@ use Rattle.std.specs.Prelude.{◌≡◌, ℕ, if◌then◌else◌, List, [], map
 use Rattle.dr_core.specs.Calls.OpenFault.{is_bad_limit}
 use Rattle.atomic_table.specs.Seated.{TableId}
 use Rattle.dr_ring.specs.declared.record.ReceiverRecord.{ReceiverRecord}
-use Rattle.dr_ring.specs.declared.fault.RingFault.{RingFault}
-use Rattle.dr_ring.specs.declared.fault.RingFault.TheVariants.{BadLimit, NoMemory}
+use Rattle.dr_runs.specs.declared.fault.RingFault.{RingFault}
+use Rattle.dr_runs.specs.declared.fault.RingFault.TheVariants.{BadLimit, NoMemory}
 use Rattle.dr_ring.specs.Meaning.Shape.{Shape, handlers_of}
 use Rattle.dr_ring.specs.Meaning.Moments.{fresh_sender, fresh_receivers, fresh_halter}
 use Rattle.dr_ring.specs.Calls.Ends.{SenderEnd, ReceiverEnd, HalterEnd}

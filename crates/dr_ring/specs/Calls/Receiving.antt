@@ -1,18 +1,19 @@
 -- What each call of a receiver answers, and what it leaves of what the receiver knows.
-use Rattle.std.specs.Prelude.{◌≡◌, ◌↔◌, ℕ, ◌+◌, ◌-◌, ◌<◌, ◌==◌, ◌&&◌, ◌||◌, Bool, nat_lt, if◌then◌else◌, IsTrue, true, false, min, List, [], ◌∷◌, ◌++◌, length, take, drop, Some, Result, Ok, Err, Contains}
+use Rattle.std.specs.Prelude.{◌≡◌, ◌↔◌, ℕ, ◌+◌, ◌-◌, ◌<◌, ◌==◌, ◌&&◌, ◌||◌, IsTrue, true, false, min, List, [], ◌∷◌, ◌++◌, length, take, drop, Some, Result, Ok, Err, Contains}
 use Rattle.dr_seq.specs.declared.event.Event.{Event}
 use Rattle.dr_core.specs.declared.refusal.Refusal.{Refusal}
 use Rattle.dr_core.specs.declared.command.Polled.{Polled}
 use Rattle.dr_core.specs.declared.command.Polled.TheVariants.{Batch, Drained, Gating, Idle}
 use Rattle.dr_core.specs.Meaning.Refusals.{PollTests, CompleteTests, poll_causes, complete_causes}
 use Rattle.dr_core.specs.Calls.Ends.{Verdict, Exactly, IsAnswerOf, poll_tests, complete_tests, Completes, as_end}
-use Rattle.dr_graph.specs.Meaning.Graph.{upstreams_of, least_of}
-use Rattle.dr_ring.specs.Meaning.Words.{cursor_word, closed_word}
+use Rattle.dr_graph.specs.Meaning.Graph.{upstreams_of}
+use Rattle.dr_runs.specs.Words.{cursor_word, closed_word}
 use Rattle.dr_ring.specs.declared.record.ReceiverRecord.{ReceiverRecord}
 use Rattle.dr_ring.specs.declared.record.Step.TheVariants.{ReceiverCompletes}
-use Rattle.dr_runs.specs.Runs.{IsBeginning}
-use Rattle.dr_ring.specs.Calls.Ends.{ReceiverEnd, received_of, receiver_place, count_looks, StoresWhereOk}
-use Rattle.dr_ring.specs.Meaning.Records.{look}
+use Rattle.dr_runs.specs.Runs.{IsBeginning, StoresWhereOk}
+use Rattle.dr_ring.specs.Calls.Ends.{ReceiverEnd, received_of, receiver_place, count_looks}
+use Rattle.dr_runs.specs.Looks.{look}
+use Rattle.dr_runs.specs.Polls.{PollLooks, offer}
 
 -- a receiver knows all of its own tests
 abbrev pub tests_of_poll : ReceiverRecord → ℕ → PollTests Verdict
@@ -21,24 +22,9 @@ tests_of_poll r room = record (poll_tests (Some (received_of r)) room) { retired
 abbrev pub tests_of_completion : ReceiverRecord → ℕ → CompleteTests Verdict
 tests_of_completion r upto = record (complete_tests (Some (received_of r)) upto) { retired = Exactly false }
 
--- what the barrier offered: the least count that was seen or, without upstreams, the cursor
-abbrev pub offered_by : ℕ → List ℕ → ℕ
-offered_by cursor [] = cursor
-offered_by cursor (n ∷ counts) = least_of (n ∷ counts)
-
--- the lesser of a count and those seen before, or the count where it is the first
-abbrev pub lesser_of : Bool → ℕ → ℕ → ℕ
-lesser_of first count seen = if first || nat_lt count seen then count else seen
-
 -- a receiver has taken these events more
 abbrev pub received_all : ReceiverRecord → List Event → ReceiverRecord
 received_all r events = record r { received = r.received ++ events }
-
--- what a poll saw: closed, then the cursor, then the count of each upstream
-pub record PollLooks : Type 0 where
-  pub closed : ℕ
-  pub cursor : ℕ
-  pub counts : List ℕ
 
 -- what a receiver knows once it has looked so
 abbrev pub looked_round : ReceiverRecord → PollLooks → ReceiverRecord
@@ -46,10 +32,6 @@ looked_round r seen = record r {
   told = r.told || ((seen.closed == 1) && (seen.cursor == length r.received));
   looks = r.looks ++ look closed_word seen.closed ∷ look cursor_word seen.cursor ∷ count_looks (upstreams_of r.plan.upstreams r.number) seen.counts;
 }
-
--- what its barrier offered
-abbrev pub offer : PollLooks → ℕ
-offer seen = offered_by seen.cursor seen.counts
 
 -- what a poll answers, where it saw this; who was told that the ring drained gets no batch any more
 abbrev pub Answers : ReceiverRecord → List Event → ReceiverRecord → List Event → PollLooks → Polled → Type 0

@@ -1,61 +1,41 @@
 -- What an end of a ring answers is what the machine replies on the ring's picture.
-use Rattle.std.specs.Prelude.{◌≡◌, ℕ, ◌+◌, ◌-◌, ◌<◌, ◌≤◌, min, List, length, slice_index, Some, Result, Ok, Err, Contains}
+use Rattle.std.specs.Prelude.{◌≡◌, ℕ, ◌-◌, ◌≤◌, min, List, length, Some, Result, Ok}
 use mathlib.Core.Option.{some}
 use lib.ListN.{get_elem?}
 use Rattle.dr_seq.specs.declared.event.Event.{Event}
 use Rattle.dr_core.specs.declared.refusal.Refusal.{Refusal}
-use Rattle.dr_core.specs.declared.refusal.Refusal.TheVariants.{NoRoom, Halted, Exhausted}
 use Rattle.dr_core.specs.declared.command.Claimed.{Claimed}
 use Rattle.dr_core.specs.declared.command.Command.{Command}
 use Rattle.dr_core.specs.declared.command.Command.TheVariants.{Claim, Write, Publish, Poll, Complete}
 use Rattle.dr_core.specs.declared.command.Reply.{Reply}
 use Rattle.dr_core.specs.declared.command.Reply.TheVariants.{Written, Published, Completed}
 use Rattle.dr_core.specs.declared.command.Polled.{Polled}
-use Rattle.dr_core.specs.declared.command.Polled.TheVariants.{Batch, Drained, Gating, Idle}
 use Rattle.dr_core.specs.Meaning.Refusals.{claim_causes, poll_causes, complete_causes}
 use Rattle.dr_core.specs.Meaning.Machine as machine
 use Rattle.dr_core.specs.Meaning.Machine.{available}
 use Rattle.dr_core.specs.Calls.Shows.{claim_reply, unit_reply, poll_reply}
 use Rattle.dr_core.specs.Calls.Ends.{IsAnswerOf, WriteAnswers, PublishAnswers, as_end}
-use Rattle.dr_graph.specs.Meaning.Graph.{upstreams_of, finals}
 use Rattle.dr_ring.specs.Meaning.Shape.{Shape, ring_setup}
-use Rattle.dr_ring.specs.Meaning.Words.{cursor_word, closed_word, halt_word, count_word}
 use Rattle.dr_ring.specs.declared.record.ReceiverRecord.{ReceiverRecord}
 use Rattle.dr_ring.specs.Meaning.Records.{claimed, SeesRoom}
 use Rattle.dr_ring.specs.Meaning.Rule.{World}
 use Rattle.dr_ring.specs.Meaning.Moments.{picture_of}
 use Rattle.dr_ring.specs.Calls.Sending.{tests_of_claim}
 use Rattle.dr_ring.specs.Calls.Receiving.{tests_of_poll, tests_of_completion, Polls}
+use Rattle.dr_runs.specs.Polls.{handed}
+use Rattle.dr_runs.specs.Replies.{DecidesClaimOf, DecidesPollOf}
 
 -- on the ring's picture the machine replies so
 abbrev pub Replies : Shape → World → Command Event → Reply → Type 0
 Replies k w command reply = (machine.step (ring_setup k) (picture_of k w) command).reply ≡ reply
 
--- what the look by which a claim is decided finds: for an accepted one, and for one halted late, the last look at halt, and else the first
+-- what the look finds by which a claim is decided
 abbrev pub DecidesClaim : Shape → World → ℕ → Result Claimed Refusal → Type 0
-DecidesClaim k w n (Ok stretch) =
-    (slice_index w.words halt_word ≡ 0) × SeesRoom k w.sender n × (stretch ≡ record { lo = claimed w.sender; hi = claimed w.sender + n - 1 })
-DecidesClaim k w n (Err Halted) = slice_index w.words halt_word ≡ 1
-DecidesClaim k w n (Err Exhausted) = slice_index w.words halt_word ≡ 0
-DecidesClaim k w n (Err NoRoom) =
-    (slice_index w.words halt_word ≡ 0) × ((f : ℕ) × Contains (finals k.upstreams) f × (k.size + slice_index w.words (count_word f) < claimed w.sender + n))
-DecidesClaim k w n (Err other) = Unit {0}
+DecidesClaim k w n = DecidesClaimOf k.upstreams w.words k.size (claimed w.sender) (SeesRoom k w.sender n) n
 
--- what the look finds by which a poll takes nothing: at the cursor or, for `Gating`, at an upstream's count; of a batch each event is an entry of the run
+-- and that by which a poll takes nothing; of a batch each event is an entry of the run
 abbrev pub DecidesPoll : Shape → World → ReceiverRecord → Result Polled Refusal → Type 0
-DecidesPoll k w r (Ok (Batch first count last)) = ⊥
-DecidesPoll k w r (Ok Drained) = (slice_index w.words closed_word ≡ 1) × (slice_index w.words cursor_word ≡ length r.received)
-DecidesPoll k w r (Ok Gating) =
-    (length r.received < slice_index w.words cursor_word) × ((u : ℕ) × Contains (upstreams_of k.upstreams r.number) u × (slice_index w.words (count_word u) ≡ length r.received))
--- and the machine tells nobody that it drained
-DecidesPoll k w r (Ok Idle) =
-    (slice_index w.words cursor_word ≡ length r.received) × (slice_index w.words halt_word ≡ 1 → 0 < length w.sender.sent.pending)
-DecidesPoll k w r (Err refusal) = Unit {0}
-
--- how many events an answer hands over
-abbrev pub handed : Polled → ℕ
-handed (Batch first count last) = count
-handed _ = 0
+DecidesPoll k w r = DecidesPollOf k.upstreams w.words r.number (length r.received) (length w.sender.sent.pending)
 
 -- A poll hands over at least what the picture had for its handler at any earlier moment at which its receiver stood as the poll found it, as far as there is room; so where that was more than the handler took, it answers a batch.
 abbrev pub HandsWhatWasThere : Shape → World → World → Type 0

@@ -1,5 +1,5 @@
 -- What each call of the sender answers, and what it leaves of what the sender knows.
-use Rattle.std.specs.Prelude.{◌≡◌, ◌≢◌, ℕ, ◌+◌, ◌^◌, ◌<◌, ◌≤◌, ◌⊎◌, ◌==◌, ◌||◌, nat_lt, true, List, [], ◌∷◌, ◌++◌, length, take, slice_index, Some, Result, Ok, Err}
+use Rattle.std.specs.Prelude.{◌≡◌, ◌≢◌, ℕ, ◌+◌, ◌^◌, ◌<◌, ◌≤◌, ◌⊎◌, true, List, [], ◌∷◌, ◌++◌, length, take, slice_index, Some, Result, Ok, Err}
 use Rattle.dr_seq.specs.Size.{IsSize}
 use Rattle.dr_seq.specs.declared.event.Event.{Event}
 use Rattle.dr_core.specs.declared.refusal.Refusal.{Refusal}
@@ -8,16 +8,18 @@ use Rattle.dr_core.specs.declared.command.Claimed.{Claimed}
 use Rattle.dr_core.specs.declared.ends.Trouble.TheVariants.{Memory}
 use Rattle.dr_core.specs.declared.ends.Wrote.{Wrote}
 use Rattle.dr_core.specs.Meaning.Refusals.{ClaimTests, claim_causes}
-use Rattle.dr_core.specs.Calls.Ends.{Verdict, Exactly, IsAnswerOf, claim_tests, GivesStretch, WriteAnswers, PublishAnswers, Claims, Writes, Publishes, as_end}
+use Rattle.dr_core.specs.Calls.Ends.{Verdict, IsAnswerOf, GivesStretch, WriteAnswers, PublishAnswers, Claims, Writes, Publishes, as_end}
 use Rattle.dr_graph.specs.Meaning.Graph.{finals}
-use Rattle.dr_ring.specs.Meaning.Words.{halt_word}
-use Rattle.dr_ring.specs.declared.record.Look.{Look}
+use Rattle.dr_runs.specs.Words.{halt_word}
+use Rattle.dr_runs.specs.declared.look.Look.{Look}
 use Rattle.dr_ring.specs.declared.record.SenderRecord.{SenderRecord}
 use Rattle.dr_ring.specs.declared.record.Step.{Step}
 use Rattle.dr_ring.specs.declared.record.Step.TheVariants.{SenderStoresFirst, SenderStoresSecond, SenderPublishes, SenderHalts, SenderCloses}
-use Rattle.dr_runs.specs.Runs.{IsBeginning}
-use Rattle.dr_ring.specs.Calls.Ends.{SenderEnd, sender_place, count_looks, StoresWhereOk}
-use Rattle.dr_ring.specs.Meaning.Records.{claimed, look, sender_halted, sender_closed}
+use Rattle.dr_runs.specs.Runs.{IsBeginning, StoresWhereOk}
+use Rattle.dr_ring.specs.Calls.Ends.{SenderEnd, sender_place, count_looks}
+use Rattle.dr_ring.specs.Meaning.Records.{claimed, sender_halted, sender_closed}
+use Rattle.dr_runs.specs.Looks.{look}
+use Rattle.dr_runs.specs.Replies.{claim_tests_of}
 
 -- a claim looks at the finals' counts in rising order
 abbrev pub gate_looks : SenderRecord → List ℕ → List Look
@@ -51,10 +53,7 @@ pub record HaltedLate (r : SenderRecord) (n : ℕ) (seen : List Look) : Type 0 w
 
 -- a ring tells more of a claim's tests than an end: its size and its limit are known
 abbrev pub tests_of_claim : SenderRecord → ℕ → ClaimTests Verdict
-tests_of_claim r n = record (claim_tests (Some r.sent) n) {
-  bad_count = Exactly ((n == 0) || nat_lt r.plan.size n);
-  exhausted = Exactly (nat_lt r.plan.limit (claimed r + n));
-}
+tests_of_claim r n = claim_tests_of r.plan.size r.plan.limit (claimed r) n
 
 -- where a claim looked, and what it found: at halt first, then at the finals' counts where what it remembers leaves no room, and at halt again, by which it is decided
 abbrev pub LooksToClaim : SenderRecord → ℕ → List Look → Result Claimed Refusal → Type 0

@@ -1,9 +1,9 @@
 -- Which ends come together, which run came to them, and what is counted of them.
-use Rattle.std.specs.Prelude.{◌≡◌, ℕ, List, length, map, slice_index_or}
+use Rattle.std.specs.Prelude.{◌≡◌, ℕ, List, length, map}
 use mathlib.Core.Option.{some}
 use lib.ListN.{get_elem?}
 use Rattle.dr_ring.specs.declared.record.ReceiverRecord.{ReceiverRecord}
-use Rattle.dr_ring.specs.declared.settled.HandlerCounts.{HandlerCounts}
+use Rattle.dr_runs.specs.declared.counts.HandlerCounts.{HandlerCounts}
 use Rattle.dr_ring.specs.declared.record.Step.{Step}
 use Rattle.dr_seq.specs.declared.event.Event.{Event}
 use Rattle.dr_core.specs.Meaning.Transcript.{Transcript, LeadsTo}
@@ -37,6 +37,3 @@ pub record HasRun (s : SenderEnd) (rs : List ReceiverEnd) : Type 0 where
 -- how many events a receiver took and completed
 abbrev pub handler_counts : ReceiverRecord → HandlerCounts
 handler_counts r = record { taken = length r.received; completed = r.completed }
-
-abbrev pub counts_at : List HandlerCounts → ℕ → HandlerCounts
-counts_at counts h = slice_index_or counts h record { taken = 0; completed = 0 }

@@ -3,12 +3,13 @@ use Rattle.std.specs.Prelude.{◌≡◌, ℕ, ◌+◌, ◌≤◌, List, length, 
 use Rattle.dr_graph.specs.Meaning.Graph.{finals}
 use Rattle.dr_ring.specs.Meaning.Shape.{handlers_of}
 use Rattle.dr_ring.specs.Calls.Plans.{IsPlan}
-use Rattle.dr_ring.specs.Meaning.Words.{count_word}
-use Rattle.dr_ring.specs.declared.written.Written.{Written}
-use Rattle.dr_ring.specs.declared.settled.HandlerCounts.{HandlerCounts}
+use Rattle.dr_runs.specs.Words.{count_word}
+use Rattle.dr_runs.specs.declared.written.Written.{Written}
+use Rattle.dr_runs.specs.declared.counts.HandlerCounts.{HandlerCounts}
 use Rattle.dr_ring.specs.declared.record.SenderRecord.{SenderRecord}
 use Rattle.dr_ring.specs.declared.record.ReceiverRecord.{ReceiverRecord}
-use Rattle.dr_ring.specs.Meaning.Records.{claimed, last_look}
+use Rattle.dr_ring.specs.Meaning.Records.{claimed}
+use Rattle.dr_runs.specs.Looks.{last_look}
 use Rattle.dr_ring.specs.Inside.Noted.{Noted}
 
 -- each final handler was seen to have completed so many

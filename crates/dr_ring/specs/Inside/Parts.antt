@@ -1,17 +1,14 @@
 -- What the loops of the ends' calls come to.
-use Rattle.std.specs.Prelude.{◌≡◌, ◌≢◌, ℕ, ◌+◌, ◌<◌, ◌≤◌, ◌==◌, ◌&&◌, ◌⊎◌, nat_lt, if◌then◌else◌, true, List, [], ◌++◌, length, slice_index, Option, Some, None, Contains}
-use Rattle.dr_core.specs.declared.command.Polled.{Polled}
-use Rattle.dr_core.specs.declared.command.Polled.TheVariants.{Drained, Gating, Idle}
+use Rattle.std.specs.Prelude.{◌≡◌, ◌≢◌, ℕ, ◌+◌, ◌<◌, ◌≤◌, ◌⊎◌, true, List, [], ◌++◌, length, slice_index, Option, Some, None, Contains}
 use Rattle.dr_graph.specs.Meaning.Graph.{upstreams_of, finals}
 use Rattle.dr_ring.specs.Meaning.Shape.{Shape}
-use Rattle.dr_ring.specs.Meaning.Words.{cursor_word, count_word}
-use Rattle.dr_ring.specs.declared.record.Look.{Look}
+use Rattle.dr_runs.specs.Words.{cursor_word, count_word}
+use Rattle.dr_runs.specs.declared.look.Look.{Look}
 use Rattle.dr_ring.specs.declared.record.SenderRecord.{SenderRecord}
 use Rattle.dr_ring.specs.declared.record.ReceiverRecord.{ReceiverRecord}
-use Rattle.dr_ring.specs.Meaning.Records.{last_look}
+use Rattle.dr_runs.specs.Looks.{last_look, offered_by}
 use Rattle.dr_core.specs.Calls.Ends.{with_claimed}
 use Rattle.dr_ring.specs.Calls.Ends.{count_looks}
-use Rattle.dr_ring.specs.Calls.Receiving.{offered_by}
 use Rattle.dr_ring.specs.Inside.Fits.{IsSeenLeast}
 
 -- the sender has made these looks more
@@ -73,7 +70,3 @@ pub record LooksAtUpstreams (r : ReceiverRecord) (cursor : ℕ) (r' : ReceiverRe
   pub found : ups_of r ≢ [] → Contains counts available
   pub completed : (u : ℕ) → Contains (ups_of r) u → available ≤ last_look 0 (r.looks ++ count_looks (ups_of r) counts) (count_word u)
   pub told : r.told ≡ true → ups_of r ≢ [] → available ≤ length r.received
-
--- what a poll answers where nothing is offered
-abbrev pub nothing_offered : ℕ → ℕ → ℕ → Polled
-nothing_offered closed cursor taken = if (closed == 1) && (cursor == taken) then Drained else if nat_lt taken cursor then Gating else Idle

@@ -9,7 +9,8 @@ use Rattle.dr_runs.specs.Gathering.{AreOf, Known}
 use Rattle.dr_ring.specs.declared.record.EndRecord.{EndRecord}
 use Rattle.dr_ring.specs.declared.record.EndRecord.TheVariants.{Sends, Receives}
 use Rattle.dr_ring.specs.declared.record.Step.{Step}
-use Rattle.dr_ring.specs.Calls.Ends.{EndOf, SenderEnd, ReceiverEnd, HalterEnd, looks_counted}
+use Rattle.dr_ring.specs.Calls.Ends.{EndOf, SenderEnd, ReceiverEnd, HalterEnd}
+use Rattle.dr_runs.specs.Looks.{looks_counted}
 
 -- the ends are of this ring
 abbrev pub AreOfRing : {K : Type 0} → TableId → List (EndOf K) → Type 0

@@ -2,16 +2,15 @@
 use Rattle.std.specs.Prelude.{ℕ, zero, suc, ◌+◌, ◌-◌, ◌==◌, ◌&&◌, not, nat_lt, if◌then◌else◌, false, List, [], ◌∷◌, ◌++◌, map, length, replicate, slice_index, slice_index_or, Option, Some, None}
 use Rattle.std.specs.List.{range_with_len}
 use Rattle.dr_seq.specs.declared.event.Event.{Event}
-use Rattle.dr_core.specs.declared.command.Command.{Command}
 use Rattle.dr_core.specs.declared.command.Command.TheVariants.{Claim, Write, Publish, Poll, Complete, Halt}
-use Rattle.dr_core.specs.declared.command.Reply.{Reply}
-use Rattle.dr_core.specs.declared.command.Reply.TheVariants.{Claimed, Written, Published, Batch, Drained, Completed, Halting}
+use Rattle.dr_core.specs.declared.command.Reply.TheVariants.{Claimed, Written, Published, Drained, Completed, Halting}
 use Rattle.dr_core.specs.Meaning.Machine as machine
 use Rattle.dr_core.specs.Meaning.Machine.{State, available}
 use Rattle.dr_core.specs.Meaning.Transcript.{Transcript}
 use Rattle.dr_runs.specs.Runs as runs
 use Rattle.dr_ring.specs.Meaning.Shape.{Shape, handlers_of, ring_setup}
-use Rattle.dr_ring.specs.Meaning.Words.{cursor_word, halt_word, count_word, payload_word, words_of}
+use Rattle.dr_ring.specs.Meaning.Words.{payload_word, words_of}
+use Rattle.dr_runs.specs.Words.{cursor_word, halt_word, count_word}
 use Rattle.dr_ring.specs.declared.record.HalfWrite.{HalfWrite}
 use Rattle.dr_ring.specs.declared.record.SenderRecord.{SenderRecord}
 use Rattle.dr_ring.specs.declared.record.ReceiverRecord.{ReceiverRecord}
@@ -21,6 +20,7 @@ use Rattle.dr_ring.specs.Meaning.Rule.{World}
 use Rattle.dr_ring.specs.declared.record.Step.{Step}
 use Rattle.dr_ring.specs.declared.record.Step.TheVariants.{SenderLooksAtCount, SenderLooksAtHalt, SenderStoresFirst, SenderStoresSecond, SenderPublishes, SenderHalts, SenderCloses, ReceiverLooksAtClosed, ReceiverLooksAtCursor, ReceiverLooksAtCount, ReceiverLoadsFirst, ReceiverLoadsSecond, ReceiverCompletes, HalterHalts}
 use Rattle.dr_ring.specs.Meaning.Steps.{Happens}
+use Rattle.dr_runs.specs.Entries.{entry, poll_of}
 
 -- the ends of a new ring
 abbrev pub fresh_sender : Shape → SenderRecord
@@ -55,19 +55,10 @@ picture_of k w = record (machine.opening (ring_setup k)) {
   halted = slice_index w.words halt_word == 1;
 }
 
-abbrev pub entry : Command Event → Reply → List Event → Transcript Event
-entry command reply values = record { command = command; reply = reply; values = values } ∷ []
-
 -- the write that a half stored one comes to
 abbrev pub write_of : Option HalfWrite → ℕ → Transcript Event
 write_of None second = []
 write_of (Some x) second = entry (Write 0 x.sequence record { first = x.first; second = second }) Written []
-
--- the poll that a half loaded event comes to
-abbrev pub poll_of : ℕ → Option ℕ → ℕ → ℕ → ℕ → Transcript Event
-poll_of h None second taken available = []
-poll_of h (Some first) second taken available =
-    entry (Poll h 1) (Batch taken 1 (taken + 1 == available)) (record { first = first; second = second } ∷ [])
 
 abbrev pub receiver_at : Shape → World → ℕ → ReceiverRecord
 receiver_at k w h = slice_index_or w.receivers h (fresh_receiver k h)

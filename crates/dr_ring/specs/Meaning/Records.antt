@@ -1,26 +1,18 @@
 -- What each kind of step makes of the record of its end.
-use Rattle.std.specs.Prelude.{◌≡◌, ℕ, ◌+◌, ◌-◌, ◌<◌, ◌≤◌, ◌==◌, ◌&&◌, ◌||◌, if◌then◌else◌, Bool, true, List, [], ◌∷◌, ◌++◌, length, slice_index_or, replicate, Some, None, Contains}
+use Rattle.std.specs.Prelude.{◌≡◌, ℕ, ◌+◌, ◌-◌, ◌<◌, ◌≤◌, ◌==◌, ◌&&◌, ◌||◌, if◌then◌else◌, Bool, true, [], ◌∷◌, ◌++◌, length, slice_index_or, replicate, Some, None, Contains}
 use Rattle.dr_seq.specs.declared.event.Event.{Event}
 use Rattle.dr_core.specs.Calls.Ends.{claimed_in, with_event, published_below}
 use Rattle.dr_graph.specs.Meaning.Graph.{upstreams_of, finals}
 use Rattle.dr_ring.specs.Meaning.Shape.{Shape}
-use Rattle.dr_ring.specs.Meaning.Words.{cursor_word, closed_word, halt_word, count_word}
-use Rattle.dr_ring.specs.declared.record.Look.{Look}
+use Rattle.dr_runs.specs.Words.{cursor_word, closed_word, halt_word, count_word}
 use Rattle.dr_ring.specs.declared.record.SenderRecord.{SenderRecord}
 use Rattle.dr_ring.specs.declared.record.ReceiverRecord.{ReceiverRecord}
 use Rattle.dr_ring.specs.declared.record.HalterRecord.{HalterRecord}
+use Rattle.dr_runs.specs.Looks.{look, last_look}
 
 -- how many sequences the sender claimed
 abbrev pub claimed : SenderRecord → ℕ
 claimed r = claimed_in r.sent
-
-abbrev pub look : ℕ → ℕ → Look
-look word value = record { word = word; value = value }
-
--- the value of the last look at a word, or d where there is none
-abbrev pub last_look : ℕ → List Look → ℕ → ℕ
-last_look d [] word = d
-last_look d (x ∷ xs) word = last_look (if x.word == word then x.value else d) xs word
 
 -- the sender has looked at a word
 abbrev pub sender_looked : SenderRecord → ℕ → ℕ → SenderRecord

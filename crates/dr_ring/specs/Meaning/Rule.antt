@@ -1,14 +1,16 @@
 -- The rule of a ring, which holds between any two steps.
-use Rattle.std.specs.Prelude.{◌≡◌, ℕ, ◌+◌, ◌<◌, ◌≤◌, ◌⊎◌, ◌==◌, if◌then◌else◌, Bool, true, List, length, take, slice_index, slice_index_or, Option, Some, None, Contains}
+use Rattle.std.specs.Prelude.{◌≡◌, ℕ, ◌+◌, ◌<◌, ◌≤◌, ◌==◌, if◌then◌else◌, true, List, length, take, slice_index, slice_index_or, Option, Some, None, Contains}
 use mathlib.Core.Option.{some}
 use lib.ListN.{get_elem?}
 use Rattle.dr_seq.specs.declared.event.Event.{Event}
 use Rattle.dr_seq.specs.Event.{no_event}
 use Rattle.dr_graph.specs.Meaning.Graph.{upstreams_of, finals, IsGraph}
 use Rattle.dr_ring.specs.Meaning.Shape.{Shape, handlers_of}
-use Rattle.dr_ring.specs.Meaning.Words.{cursor_word, closed_word, halt_word, count_word, payload_start, payload_word, words_of}
+use Rattle.dr_ring.specs.Meaning.Words.{payload_start, payload_word, words_of}
+use Rattle.dr_runs.specs.Words.{cursor_word, closed_word, count_word, HaltAndClose}
 use Rattle.dr_ring.specs.Meaning.Records.{claimed}
-use Rattle.dr_ring.specs.declared.record.Look.{Look}
+use Rattle.dr_runs.specs.Looks as past
+use Rattle.dr_runs.specs.declared.look.Look.{Look}
 use Rattle.dr_ring.specs.declared.record.HalfWrite.{HalfWrite}
 use Rattle.dr_ring.specs.declared.record.SenderRecord.{SenderRecord}
 use Rattle.dr_ring.specs.declared.record.ReceiverRecord.{ReceiverRecord}
@@ -43,25 +45,9 @@ pub record Payload (k : Shape) (words : List ℕ) (published : List Event) (pend
       → (slice_index words (payload_word k (length published + i) 0) ≡ first_stored half (length published + i) event) × (slice_index words (payload_word k (length published + i) 1) ≡ event.second)
   pub halves : (x : HalfWrite) → half ≡ Some x → (length published ≤ x.sequence) × (x.sequence < length published + length pending) × (slice_index words (payload_word k x.sequence 0) ≡ x.first)
 
--- halt and close: who halted or closed the ring finds it so, and a closed ring is halted, with every claimed sequence published
-pub record HaltAndClose (words : List ℕ) (pending : ℕ) (sender_halted sender_closed halter_halted : Bool) : Type 0 where
-  pub halt : slice_index words halt_word ≤ 1
-  pub close : slice_index words closed_word ≤ 1
-  pub by_sender : sender_halted ≡ true → slice_index words halt_word ≡ 1
-  pub by_halter : halter_halted ≡ true → slice_index words halt_word ≡ 1
-  pub closed : sender_closed ≡ true → slice_index words closed_word ≡ 1
-  -- and where it is so, one of them knows it
-  pub known_halt : slice_index words halt_word ≡ 1 → (sender_halted ≡ true) ⊎ (halter_halted ≡ true)
-  pub known_close : slice_index words closed_word ≡ 1 → sender_closed ≡ true
-  pub complete : slice_index words closed_word ≡ 1 → (slice_index words halt_word ≡ 1) × (pending ≡ 0)
-
 -- looks: each was at a word that only rises, and found at most what is there now
-pub record IsPast (k : Shape) (words : List ℕ) (x : Look) : Type 0 where
-  pub rises : x.word < payload_start k
-  pub before : x.value ≤ slice_index words x.word
-
 abbrev pub ArePast : Shape → List ℕ → List Look → Type 0
-ArePast k words looks = (i : ℕ) (x : Look) → get_elem? looks i ≡ some x → IsPast k words x
+ArePast k words looks = past.ArePast (payload_start k) words looks
 
 -- received lists: what a receiver received is the beginning of what is published; it took no more than each upstream completed, and completed no more than it took
 pub record ReceiverKept (k : Shape) (words : List ℕ) (published : List Event) (h : ℕ) (r : ReceiverRecord) : Type 0 where

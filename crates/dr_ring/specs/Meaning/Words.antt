@@ -2,22 +2,6 @@
 use Rattle.std.specs.Prelude.{ℕ, ◌+◌, ◌*◌, ◌%◌}
 use Rattle.dr_ring.specs.Meaning.Shape.{Shape, handlers_of}
 
--- how many events are published; the sender stores it
-abbrev pub cursor_word : ℕ
-cursor_word = 0
-
--- 1 once the sender has closed; the sender stores it
-abbrev pub closed_word : ℕ
-closed_word = 1
-
--- 1 once the ring is halted; the sender and the halter store it
-abbrev pub halt_word : ℕ
-halt_word = 16
-
--- how many events a handler completed; its receiver stores it
-abbrev pub count_word : ℕ → ℕ
-count_word h = 32 + 16 * h
-
 -- the payload words lie behind the counts
 abbrev pub payload_start : Shape → ℕ
 payload_start k = 32 + 16 * handlers_of k

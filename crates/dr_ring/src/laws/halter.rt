@@ -5,7 +5,7 @@ ghost use Rattle.dr_ring.specs.declared.record.Step.TheVariants.{HalterHalts};
 ghost use Rattle.dr_ring.specs.Calls.Ends.{HasStored};
 
 use super::{RingBody, RingSeat};
-use crate::plan::HALT_WORD;
+use dr_runs::HALT_WORD;
 use std::alloc::Global;
 use std::marker::{Brand, Model};
 use std::sync::Arc;

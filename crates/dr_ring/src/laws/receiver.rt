@@ -2,14 +2,15 @@
 
 ghost use Rattle.std.specs.Prelude.{◌≡◌, ◌<◌, ◌≤◌, true, None, Some, length, Contains};
 ghost use Rattle.dr_graph.specs.Meaning.Graph.{upstreams_of};
-ghost use Rattle.dr_ring.specs.Meaning.Words.{cursor_word, closed_word, count_word as count_word_of, payload_word};
+ghost use Rattle.dr_ring.specs.Meaning.Words.{payload_word};
+ghost use Rattle.dr_runs.specs.Words.{cursor_word, closed_word, count_word as count_word_of};
 ghost use Rattle.dr_ring.specs.Meaning.Records.{receiver_looked, cursor_looked, half_taken, took, completed_to, IsBelowBarrier};
 ghost use Rattle.dr_ring.specs.declared.record.Step.TheVariants.{ReceiverCompletes};
 ghost use Rattle.dr_ring.specs.Calls.Finds.{FindsClosed, FindsEvents};
 ghost use Rattle.dr_ring.specs.Calls.Ends.{HasLoaded, HasStored};
 
 use super::{RingBody, RingSeat};
-use crate::plan::{CLOSED_WORD, CURSOR_WORD, count_word};
+use dr_runs::{CLOSED_WORD, CURSOR_WORD, count_word};
 use dr_seq::Event;
 use std::alloc::Global;
 use std::marker::{Brand, Model};

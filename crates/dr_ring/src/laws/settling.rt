@@ -6,9 +6,9 @@ ghost use Rattle.dr_runs.specs.Gathering.{ViewRan};
 ghost use Rattle.dr_ring.specs.Inside.Seats.{exchange};
 
 use super::{RingSeat, Words};
-use crate::plan::CURSOR_WORD;
 use crate::record::View;
 use atomic_table::Join;
+use dr_runs::CURSOR_WORD;
 use std::marker::Brand;
 
 struct Together;

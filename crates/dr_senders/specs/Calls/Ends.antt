@@ -1,8 +1,8 @@
 -- What an end of a ring is to its caller, and what one of its steps leaves of it.
 use Rattle.std.specs.Prelude.{◌≡◌, ℕ, List, [], ◌∷◌, ◌++◌}
 use Rattle.atomic_table.specs.Seated.{TableId}
-use Rattle.dr_ring.specs.declared.record.Look.{Look}
-use Rattle.dr_ring.specs.Calls.Ends.{looks_at}
+use Rattle.dr_runs.specs.declared.look.Look.{Look}
+use Rattle.dr_runs.specs.Looks.{looks_at}
 use Rattle.dr_senders.specs.Meaning.Shape.{Shape}
 use Rattle.dr_senders.specs.Meaning.Words.{count_word}
 use Rattle.dr_senders.specs.declared.record.Step.{Step}

@@ -8,14 +8,12 @@ use Rattle.dr_core.specs.declared.command.Polled.TheVariants.{Batch, Drained, Ga
 use Rattle.dr_core.specs.Meaning.Refusals.{PollTests, CompleteTests, poll_causes, complete_causes}
 use Rattle.dr_core.specs.Calls.Ends.{Received, Verdict, Exactly, IsAnswerOf, poll_tests, complete_tests, Completes, as_end}
 use Rattle.dr_graph.specs.Meaning.Graph.{upstreams_of}
-use Rattle.dr_ring.specs.Meaning.Records.{look}
-use Rattle.dr_ring.specs.Calls.Receiving.{offered_by}
+use Rattle.dr_runs.specs.Looks.{look, offered_by}
 use Rattle.dr_senders.specs.Meaning.Shape.{Shape}
 use Rattle.dr_senders.specs.Meaning.Words.{claim_word, claimed_in, is_halted}
 use Rattle.dr_senders.specs.declared.record.ReceiverRecord.{ReceiverRecord}
 use Rattle.dr_senders.specs.declared.record.Step.TheVariants.{ReceiverCompletes}
-use Rattle.dr_ring.specs.Calls.Ends.{StoresWhereOk}
-use Rattle.dr_runs.specs.Runs.{IsBeginning}
+use Rattle.dr_runs.specs.Runs.{IsBeginning, StoresWhereOk}
 use Rattle.dr_senders.specs.Calls.Ends.{ReceiverEnd, Stays, count_looks}
 
 -- what a receiver shows as received

@@ -16,7 +16,7 @@ use Rattle.dr_core.specs.Meaning.Machine.{available}
 use Rattle.dr_core.specs.Calls.Shows.{unit_reply}
 use Rattle.dr_core.specs.Calls.Ends.{IsAnswerOf, as_end}
 use Rattle.dr_graph.specs.Meaning.Graph.{finals}
-use Rattle.dr_ring.specs.Calls.Replies.{handed}
+use Rattle.dr_runs.specs.Polls.{handed}
 use Rattle.dr_senders.specs.Meaning.Shape.{Shape, handlers_of, ring_setup}
 use Rattle.dr_senders.specs.Meaning.Words.{claim_word, count_word, mark_word, claimed_in, is_halted}
 use Rattle.dr_senders.specs.declared.record.Stage.{Stage}

@@ -7,8 +7,8 @@ use Rattle.dr_core.specs.declared.refusal.Refusal.{Refusal}
 use Rattle.dr_core.specs.Meaning.Refusals.{WriteTests, SequenceTests, PublishTests, write_causes, publish_causes}
 use Rattle.dr_core.specs.declared.ends.Trouble.{Trouble}
 use Rattle.dr_core.specs.Calls.Ends.{Verdict, Exactly, unknown, IsAnswerOf, IsEndsAnswer, as_end}
-use Rattle.dr_ring.specs.declared.record.Look.{Look}
-use Rattle.dr_ring.specs.Meaning.Records.{look}
+use Rattle.dr_runs.specs.declared.look.Look.{Look}
+use Rattle.dr_runs.specs.Looks.{look}
 use Rattle.dr_senders.specs.Meaning.Shape.{Shape}
 use Rattle.dr_senders.specs.Meaning.Words.{claim_word, claimed_in, mark_word}
 use Rattle.dr_senders.specs.declared.record.Stage.{Stage}
@@ -17,8 +17,7 @@ use Rattle.dr_senders.specs.declared.record.SenderRecord.{SenderRecord}
 use Rattle.dr_senders.specs.declared.record.Step.{Step}
 use Rattle.dr_senders.specs.declared.record.Step.TheVariants.{SenderStoresFirst, SenderStoresSecond, SenderPublishes}
 use Rattle.dr_senders.specs.Meaning.Records.{Owns, written, published, brought}
-use Rattle.dr_ring.specs.Calls.Ends.{StoresWhereOk}
-use Rattle.dr_runs.specs.Runs.{IsBeginning}
+use Rattle.dr_runs.specs.Runs.{IsBeginning, StoresWhereOk}
 use Rattle.dr_senders.specs.Calls.Ends.{SenderEnd, Stays}
 
 -- The refusals of each call are the machine's, in its order. What a sender knows of its own sequences is exact. Of another's it learns by a look at the mark in its slot whether it is published, which the mark tells exactly; all that is then left of the machine's tests is answered `NotClaimed`, as the machine answers it at that moment (`moments`). A sequence at the limit or beyond is never claimed.

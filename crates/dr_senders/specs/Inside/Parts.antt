@@ -7,8 +7,8 @@ use Rattle.dr_core.specs.declared.refusal.Refusal.TheVariants.{NotClaimed, Alrea
 use Rattle.dr_core.specs.declared.command.Polled.{Polled}
 use Rattle.dr_core.specs.declared.command.Polled.TheVariants.{Drained, Gating, Idle}
 use Rattle.dr_graph.specs.Meaning.Graph.{finals}
-use Rattle.dr_ring.specs.declared.record.Look.{Look}
-use Rattle.dr_ring.specs.Meaning.Records.{last_look}
+use Rattle.dr_runs.specs.declared.look.Look.{Look}
+use Rattle.dr_runs.specs.Looks.{last_look, offered_by}
 use Rattle.dr_senders.specs.Meaning.Shape.{Shape}
 use Rattle.dr_senders.specs.Meaning.Words.{claim_word, claimed_in, count_word, mark_word}
 use Rattle.dr_senders.specs.declared.record.Stage.{Stage}
@@ -19,7 +19,6 @@ use Rattle.dr_senders.specs.Meaning.Records.{Owns, half_written, written, brough
 use Rattle.dr_runs.specs.Runs.{IsBeginning}
 use Rattle.dr_senders.specs.Calls.Ends.{SenderEnd, Stays, HasLoaded, count_looks}
 use Rattle.dr_senders.specs.Calls.Writing.{published_between, publications}
-use Rattle.dr_ring.specs.Calls.Receiving.{offered_by}
 use Rattle.dr_senders.specs.Calls.Receiving.{walked, WalksTo, ups_of}
 use Rattle.dr_senders.specs.Calls.Finds.{FindsMark, IsEarlier}
 

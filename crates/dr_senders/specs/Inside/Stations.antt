@@ -1,7 +1,7 @@
 -- The ends of a ring, each at its station, with the seat that stands for it.
 use Rattle.std.specs.Prelude.{◌≡◌, ℕ, ◌<◌, List, length}
 use Rattle.atomic_table.specs.Seated.{TableId}
-use Rattle.dr_ring.specs.declared.settled.HandlerCounts.{HandlerCounts}
+use Rattle.dr_runs.specs.declared.counts.HandlerCounts.{HandlerCounts}
 use Rattle.dr_senders.specs.Meaning.Shape.{Shape, handlers_of}
 use Rattle.dr_senders.specs.Calls.Plans.{IsPlan}
 use Rattle.dr_runs.specs.Seats.{past_of}
@@ -10,7 +10,7 @@ use Rattle.dr_runs.specs.Gathering.{AreOf, Known}
 use Rattle.dr_senders.specs.declared.record.EndRecord.{EndRecord}
 use Rattle.dr_senders.specs.declared.record.EndRecord.TheVariants.{Sends, Receives, Halts}
 use Rattle.dr_senders.specs.declared.record.Step.{Step}
-use Rattle.dr_ring.specs.Calls.Ends.{looks_counted}
+use Rattle.dr_runs.specs.Looks.{looks_counted}
 use Rattle.dr_senders.specs.Calls.Ends.{EndOf, SenderEnd, ReceiverEnd, HalterEnd}
 
 -- the ends are of this ring

@@ -11,8 +11,8 @@ use Rattle.dr_core.specs.Meaning.Machine as machine
 use Rattle.dr_core.specs.Meaning.Machine.{State, available}
 use Rattle.dr_core.specs.Meaning.Transcript.{Transcript}
 use Rattle.dr_runs.specs.Runs as runs
-use Rattle.dr_ring.specs.Meaning.Moments.{entry, poll_of}
-use Rattle.dr_ring.specs.Meaning.Records.{last_look}
+use Rattle.dr_runs.specs.Entries.{entry, poll_of}
+use Rattle.dr_runs.specs.Looks.{last_look}
 use Rattle.dr_graph.specs.Meaning.Graph.{upstreams_of}
 use Rattle.dr_seq.specs.Rounds.{entry_of}
 use Rattle.dr_senders.specs.Meaning.Shape.{Shape, handlers_of, ring_setup}

@@ -5,7 +5,7 @@ use lib.ListN.{get_elem?}
 use Rattle.dr_seq.specs.declared.event.Event.{Event}
 use Rattle.dr_seq.specs.Rounds.{entry_of}
 use Rattle.dr_graph.specs.Meaning.Graph.{upstreams_of, finals}
-use Rattle.dr_ring.specs.Meaning.Records.{look, last_look}
+use Rattle.dr_runs.specs.Looks.{look, last_look}
 use Rattle.dr_senders.specs.Meaning.Shape.{Shape}
 use Rattle.dr_senders.specs.Meaning.Words.{claim_word, claimed_in, is_halted, halted_from, count_word}
 use Rattle.dr_senders.specs.declared.record.Stage.{Stage}

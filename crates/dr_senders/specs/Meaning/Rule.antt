@@ -6,8 +6,9 @@ use Rattle.dr_seq.specs.declared.event.Event.{Event}
 use Rattle.dr_seq.specs.Event.{no_event}
 use Rattle.dr_seq.specs.Rounds.{entry_of}
 use Rattle.dr_graph.specs.Meaning.Graph.{upstreams_of, finals}
-use Rattle.dr_ring.specs.declared.record.Look.{Look}
-use Rattle.dr_ring.specs.Meaning.Records.{last_look}
+use Rattle.dr_runs.specs.Looks as past
+use Rattle.dr_runs.specs.declared.look.Look.{Look}
+use Rattle.dr_runs.specs.Looks.{last_look}
 use Rattle.dr_senders.specs.Meaning.Shape.{Shape, IsShape, handlers_of}
 use Rattle.dr_senders.specs.Meaning.Words.{claim_word, claimed_in, is_halted, count_word, mark_start, mark_word, payload_word, words_of}
 use Rattle.dr_senders.specs.declared.record.Stage.{Stage}
@@ -46,12 +47,8 @@ pub record StageKept (k : Shape) (words : List ℕ) (claimed s : ℕ) (t : Stage
   pub marked : claimed ≤ s + k.size → t.published ≡ true → slice_index words (mark_word k s) ≡ entry_of k.size s
 
 -- looks: each was at a word that only rises, and found at most what is there now
-pub record IsPast (k : Shape) (words : List ℕ) (x : Look) : Type 0 where
-  pub rises : x.word < mark_start k
-  pub before : x.value ≤ slice_index words x.word
-
 abbrev pub ArePast : Shape → List ℕ → List Look → Type 0
-ArePast k words looks = (i : ℕ) (x : Look) → get_elem? looks i ≡ some x → IsPast k words x
+ArePast k words looks = past.ArePast (mark_start k) words looks
 
 -- a sender: the sequences that it has are those that it claimed, each as far as it knows
 pub record SenderKept (k : Shape) (words : List ℕ) (stages : List Stage) (p : ℕ) (r : SenderRecord) : Type 0 where

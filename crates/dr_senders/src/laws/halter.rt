@@ -7,7 +7,7 @@ ghost use Rattle.dr_senders.specs.Calls.Ends.{HasStored};
 
 use super::{RingBody, RingSeat};
 use crate::plan::{CLAIM_WORD, HALT_BIT};
-use dr_ring::HandlerCounts;
+use dr_runs::HandlerCounts;
 use std::alloc::Global;
 use std::marker::{Brand, Model};
 use std::sync::Arc;

@@ -1,4 +1,4 @@
-use Rattle.dr_plain.proofs.Lists.{at_index}
+use Rattle.dr_runs.proofs.Elements.{at_index}
 use Rattle.dr_plain.proofs.dealt.at.Goals as goal
 
 pub returns : goal.returns

@@ -1,5 +1,5 @@
 use Rattle.std.proofs.Common.{ℕ, ◌+◌, arith, refl, ap, ◌∙◌}
-use Rattle.dr_plain.proofs.Lists.{at_below}
+use Rattle.dr_runs.proofs.Elements.{at_below}
 use Rattle.dr_plain.proofs.Dealing.{dealt_none, dealt_more, token_is}
 use Rattle.dr_plain.proofs.dealt.deal.Goals as goal
 

@@ -1,6 +1,6 @@
 use Rattle.std.proofs.Common.{sym, ap, ◌∙◌}
 use mathlib.Core.Option.{some}
-use Rattle.dr_plain.proofs.Lists.{at_index}
+use Rattle.dr_runs.proofs.Elements.{at_index}
 use Rattle.dr_plain.proofs.dealt.put_at.Goals as goal
 
 pub returns-clause-was : goal.returns-clause-was

@@ -8,7 +8,7 @@ use Rattle.dr_plain.proofs.opening.ends.Goals as goal
 pub invariant_of-sender : goal.invariant_of-sender
 invariant_of-sender g c =
     let P = c.requires.prepared in let S = c.requires.strip in
-    fits_new _ _ c.args.row.items _ _ _ _ _ _ P.made c.new.ensures P.stands.sender P.written (c.deal.ensures.count ∙ P.tokens) (S.2.2 ∙ sym S.1) c.deal.ensures.each (sym S.0) (sym S.1) P.counts
+    fits_new _ _ c.args.row.items _ _ _ _ _ _ _ P.made c.new.ensures P.stands.sender P.written (c.deal.ensures.count ∙ P.tokens) (S.2.2 ∙ sym S.1) c.deal.ensures.each (sym S.0) (sym S.1) P.counts P.hands
 
 pub returns : goal.returns
 returns g c =

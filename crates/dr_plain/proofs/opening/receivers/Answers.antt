@@ -5,7 +5,7 @@ use Rattle.dr_plain.specs.Meaning.Shape.{handlers_of}
 use Rattle.dr_runs.specs.Seats.{end_of}
 use Rattle.dr_plain.specs.Inside.Seats.{Sitting}
 use Rattle.dr_plain.specs.Inside.Stations.{ReceiverSits}
-use Rattle.dr_runs.proofs.Cuts.{cuts}
+use Rattle.dr_plain.proofs.Going.{cut_on}
 use Rattle.dr_plain.proofs.Making.{cut_own, cut_rest, sits_fresh, fits_fresh, listed_next, view_fresh}
 use Rattle.dr_plain.proofs.opening.receivers.Goals as goal
 
@@ -13,7 +13,7 @@ pub split_seat-next-requires : goal.split_seat-next-requires
 split_seat-next-requires g c = let t = c.requires.table in (
   c.loop-number.invariant.0 ∙ t.0 ∙ ap (λ r. r.table.shared.table_id) (sym c.deref-in-loop-number-2.ensures),
   subst (λ r. 0 < r.table.shared.table_id.words) (sym c.deref-in-loop-number-2.ensures) (omega arith),
-  cuts _ _ _,
+  cut_on _ _ _,
 )
 
 pub invariant_of-station : goal.invariant_of-station

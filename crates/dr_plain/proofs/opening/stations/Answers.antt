@@ -1,7 +1,7 @@
 use Rattle.std.proofs.Common.{ℕ, ◌<◌, ap, sym, subst, ◌∙◌, replicate}
 use Rattle.dr_seq.proofs.Sizes.{size_positive}
 use Rattle.dr_cells.specs.Tokens.{no_token}
-use Rattle.dr_runs.proofs.Cuts.{cuts}
+use Rattle.dr_plain.proofs.Going.{cut_on}
 use Rattle.dr_plain.proofs.Making.{ruled_new, some_words}
 use Rattle.dr_plain.proofs.opening.stations.Goals as goal
 
@@ -16,7 +16,7 @@ split_seat-second-requires g c =
       told.2 ∙ ap (λ r. r.table.shared.table_id) (sym (c.deref.ensures ∙ same)),
       subst (λ r. 0 < r.table.shared.table_id.words) (sym (c.deref.ensures ∙ same))
           (some_words c.args.plan _ _ told.0 (c.as_slice.ensures.value ∙ c.in_ok-words.ensures.items_if_clones_equal (λ y same. same) ∙ ap (λ (n : ℕ). replicate n 0) c.words.ensures)),
-      cuts _ _ _,
+      cut_on _ _ _,
     )
 
 pub split_seat-others-requires : goal.split_seat-others-requires
@@ -25,5 +25,5 @@ split_seat-others-requires g c =
       c.split_seat-second.ensures.3 ∙ told.2 ∙ ap (λ r. r.table.shared.table_id) (sym (c.deref-2.ensures ∙ same)),
       subst (λ r. 0 < r.table.shared.table_id.words) (sym (c.deref-2.ensures ∙ same))
           (some_words c.args.plan _ _ told.0 (c.as_slice.ensures.value ∙ c.in_ok-words.ensures.items_if_clones_equal (λ y same. same) ∙ ap (λ (n : ℕ). replicate n 0) c.words.ensures)),
-      cuts _ _ _,
+      cut_on _ _ _,
     )

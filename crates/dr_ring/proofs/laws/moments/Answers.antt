@@ -1,6 +1,6 @@
 use Rattle.dr_seq.specs.declared.event.Event.{Event}
 use Rattle.std.proofs.Common.{subst, refl, arith}
-use Rattle.dr_ring.specs.Meaning.Words.{count_word}
+use Rattle.dr_runs.specs.Words.{count_word}
 use Rattle.dr_ring.specs.Meaning.Records.{claimed}
 use Rattle.dr_ring.proofs.Halting.{halted_runs}
 use Rattle.dr_core.specs.Meaning.Machine.{State}

@@ -5,7 +5,7 @@ use Rattle.dr_runs.proofs.Lists.{map_there}
 use Rattle.dr_plain.specs.declared.record.Lent.{Lent}
 use Rattle.dr_plain.specs.Meaning.Records.{events_of}
 use Rattle.dr_plain.specs.Calls.Ends.{ReceiverEnd}
-use Rattle.dr_plain.proofs.Lists.{there}
+use Rattle.dr_runs.proofs.Elements.{there}
 use Rattle.dr_plain.proofs.Copying.{copied_more}
 use Rattle.dr_plain.proofs.receiver.Receiver.copy_events.Goals as goal
 

@@ -4,7 +4,7 @@ use Rattle.dr_runs.proofs.Lists.{map_there}
 use Rattle.dr_plain.specs.declared.record.Lent.{Lent}
 use Rattle.dr_plain.specs.Calls.Ends.{ReceiverEnd}
 use Rattle.dr_plain.specs.Calls.Receiving.{ReadsInHand}
-use Rattle.dr_plain.proofs.Lists.{there}
+use Rattle.dr_runs.proofs.Elements.{there}
 use Rattle.dr_plain.proofs.receiver.Receiver.event.Goals as goal
 
 pub read-requires : goal.read-requires

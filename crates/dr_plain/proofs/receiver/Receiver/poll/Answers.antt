@@ -7,7 +7,8 @@ use Rattle.dr_plain.specs.declared.record.ReceiverRecord.{ReceiverRecord}
 use Rattle.dr_plain.specs.Calls.Ends.{ReceiverEnd, ReceiverStand}
 use Rattle.dr_plain.specs.Calls.Receiving.{Answers}
 use Rattle.dr_plain.proofs.Stations.{begins_on}
-use Rattle.dr_plain.proofs.Polls.{saw, seen_round, poll_nothing, poll_batch, of_count, fits_nothing, fits_batch, new_in_hand}
+use Rattle.dr_plain.proofs.Polls.{saw, seen_round, poll_nothing, poll_batch, fits_nothing, fits_batch, new_in_hand}
+use Rattle.dr_runs.proofs.Offers.{of_count}
 use Rattle.dr_plain.proofs.receiver.Receiver.poll.Goals as goal
 
 pub invariant_of-self : goal.invariant_of-self

@@ -7,7 +7,7 @@ use Rattle.dr_plain.specs.declared.record.Step.TheVariants.{SenderPublishes}
 use Rattle.dr_plain.specs.Calls.Ends.{SenderEnd, SenderStand}
 use Rattle.dr_plain.specs.Calls.Sending.{PublishCall}
 use Rattle.dr_plain.specs.Inside.Fits.{cells_of}
-use Rattle.dr_plain.specs.declared.written.Written.{Written}
+use Rattle.dr_runs.specs.declared.written.Written.{Written}
 use Rattle.dr_plain.specs.Inside.Lending.{lents_of}
 use Rattle.dr_plain.specs.Inside.Views.{sender_end}
 use Rattle.dr_plain.proofs.Claims.{collected_many}

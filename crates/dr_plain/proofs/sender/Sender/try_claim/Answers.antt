@@ -1,8 +1,8 @@
-use Rattle.std.proofs.Common.{rules, ◌≡◌, ◌+◌, ◌-◌, ◌≤◌, ◌<◌, ◌⊎◌, inl, inr, List, Err, Ok, arith, refl, sym, ap, ◌∙◌, subst}
+use Rattle.std.proofs.Common.{rules, ◌≡◌, ◌+◌, ◌-◌, ◌≤◌, ◌<◌, ◌⊎◌, inl, inr, List, length, Err, Ok, arith, refl, sym, ap, ◌∙◌, subst}
 use Rattle.dr_core.specs.declared.command.Claimed.{Claimed}
 use Rattle.dr_core.specs.declared.refusal.Refusal.TheVariants.{BadCount, NoRoom, Halted, Exhausted}
 use Rattle.dr_plain.specs.Meaning.Shape.{Shape}
-use Rattle.dr_plain.specs.declared.record.Look.{Look}
+use Rattle.dr_runs.specs.declared.look.Look.{Look}
 use Rattle.dr_plain.specs.declared.record.SenderRecord.{SenderRecord}
 use Rattle.dr_plain.specs.Calls.Ends.{SenderEnd, SenderStand}
 use Rattle.dr_plain.specs.Calls.Sending.{ClaimCall}
@@ -99,6 +99,7 @@ with_room : (g : _) (c : After-raise g) → SenderFits c.make_room.new.self (rec
   written = c.self.inside.written;
   tokens = c.self.inside.tokens.items;
   rooms = c.self.inside.counts.items;
+  hands = length c.self.inside.hands.items;
   strip = c.self.inside.strip.cells.ptr;
   cells = c.self.inside.strip.len;
 })

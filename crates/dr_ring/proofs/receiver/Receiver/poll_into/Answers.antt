@@ -3,13 +3,14 @@ use Rattle.std.proofs.lemmas.List.{take_at, drop_at}
 use Rattle.dr_seq.specs.declared.event.Event.{Event}
 use Rattle.dr_core.specs.declared.command.Polled.{Polled}
 use Rattle.dr_ring.specs.declared.record.ReceiverRecord.{ReceiverRecord}
-use Rattle.dr_ring.specs.Meaning.Words.{closed_word}
+use Rattle.dr_runs.specs.Words.{closed_word}
 use Rattle.dr_ring.specs.Meaning.Records.{receiver_looked}
 use Rattle.dr_ring.specs.Calls.Ends.{ReceiverEnd}
 use Rattle.dr_ring.specs.Calls.Receiving.{Answers, received_all}
 use Rattle.dr_runs.specs.Runs.{IsBeginning}
 use Rattle.dr_ring.proofs.Stations.{begins_on}
-use Rattle.dr_ring.proofs.Polls.{saw, seen_round, poll_nothing, poll_batch, offers, of_count}
+use Rattle.dr_ring.proofs.Polls.{saw, seen_round, poll_nothing, poll_batch, offers}
+use Rattle.dr_runs.proofs.Offers.{of_count}
 use Rattle.dr_ring.proofs.receiver.Receiver.poll_into.Goals as goal
 
 pub returns-then-available-first-clause-call : goal.returns-then-available-first-clause-call

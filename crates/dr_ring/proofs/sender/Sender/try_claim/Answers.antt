@@ -1,6 +1,6 @@
 use Rattle.std.proofs.Common.{rules, List, arith, refl, ap, ◌∙◌, subst}
 use Rattle.dr_ring.specs.Meaning.Shape.{Shape}
-use Rattle.dr_ring.specs.declared.record.Look.{Look}
+use Rattle.dr_runs.specs.declared.look.Look.{Look}
 use Rattle.dr_ring.specs.declared.record.SenderRecord.{SenderRecord}
 use Rattle.dr_ring.specs.Calls.Ends.{SenderEnd}
 use Rattle.dr_ring.specs.Inside.Parts.{LooksAtFinals}

@@ -4,7 +4,7 @@ use lib.ListN.{get_elem?}
 use Rattle.dr_cells.specs.declared.token.Token.{Token}
 use Rattle.dr_cells.specs.Hold.{held}
 use Rattle.dr_plain.specs.Meaning.Lying.{part_of}
-use Rattle.dr_plain.proofs.Lists.{at_below}
+use Rattle.dr_runs.proofs.Elements.{at_below}
 use Rattle.dr_plain.proofs.laws.receiver.ReceiverStation.read.Goals as goal
 
 pub at-requires : goal.at-requires

@@ -4,7 +4,7 @@ use Rattle.dr_graph.specs.Meaning.Graph.{finals}
 use Rattle.dr_plain.specs.Meaning.Shape.{Shape, handlers_of}
 use Rattle.dr_plain.specs.Calls.Ends.{SenderStand}
 use Rattle.dr_plain.specs.Inside.Seats.{sender_of}
-use Rattle.dr_plain.proofs.Lists.{final_inside}
+use Rattle.dr_runs.proofs.Offers.{final_inside}
 use Rattle.dr_plain.proofs.Allowed.{sender_looks_at_count}
 use Rattle.dr_plain.proofs.laws.sender.SenderStation.look_at_count.Goals as goal
 

@@ -4,7 +4,7 @@ use Rattle.dr_graph.specs.Meaning.Graph.{finals}
 use Rattle.dr_ring.specs.Meaning.Shape.{Shape, handlers_of}
 use Rattle.dr_ring.specs.Calls.Ends.{SenderEnd}
 use Rattle.dr_ring.specs.Inside.Seats.{sender_of}
-use Rattle.dr_ring.proofs.Lists.{final_inside}
+use Rattle.dr_runs.proofs.Offers.{final_inside}
 use Rattle.dr_ring.proofs.Allowed.{sender_looks_at_count}
 use Rattle.dr_ring.proofs.laws.sender.SenderStation.look_at_count.Goals as goal
 

@@ -2,7 +2,7 @@ use Rattle.std.proofs.Common.{rules, arith, sym, subst, ap, ◌∙◌, ◌<◌}
 use Rattle.std.specs.Arc.{arc_value}
 use Rattle.std.specs.Prelude.{Contains}
 use Rattle.dr_graph.specs.Meaning.Graph.{finals}
-use Rattle.dr_ring.proofs.Lists.{final_inside}
+use Rattle.dr_runs.proofs.Offers.{final_inside}
 use Rattle.dr_senders.specs.Calls.Ends.{SenderEnd}
 use Rattle.dr_senders.proofs.Allowed.{looks_at_count}
 use Rattle.dr_senders.proofs.laws.sender.SenderStation.look_at_count.Goals as goal

@@ -1,5 +1,0 @@
-use Rattle.std.proofs.Common.{◌≡◌, map, take}
-use Rattle.dr_plain.proofs.plan.copy_upstreams.Given as goal
-
-abbrev pub invariant-loop-handler : goal.invariant-loop-handler
-invariant-loop-handler l = map (λ ups. ups.items) l.upstreams.items ≡ take l.handler l.graph.upstreams

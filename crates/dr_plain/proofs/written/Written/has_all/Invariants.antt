@@ -1,6 +1,0 @@
-use Rattle.std.specs.Prelude.{◌≡◌, ℕ, ◌<◌, ◌≤◌, true}
-use Rattle.dr_plain.specs.Inside.Noted.{is_noted}
-use Rattle.dr_plain.proofs.written.Written.has_all.Given as goal
-
-abbrev pub invariant-loop-sequence : goal.invariant-loop-sequence
-invariant-loop-sequence l = (s : ℕ) → l.lo ≤ s → s < l.sequence → is_noted l.self s ≡ true

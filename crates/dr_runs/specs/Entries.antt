@@ -1,0 +1,17 @@
+-- The entries that the steps of a ring come to.
+use Rattle.std.specs.Prelude.{ℕ, ◌+◌, ◌==◌, List, [], ◌∷◌, Option, Some, None}
+use Rattle.dr_seq.specs.declared.event.Event.{Event}
+use Rattle.dr_core.specs.declared.command.Command.{Command}
+use Rattle.dr_core.specs.declared.command.Command.TheVariants.{Poll}
+use Rattle.dr_core.specs.declared.command.Reply.{Reply}
+use Rattle.dr_core.specs.declared.command.Reply.TheVariants.{Batch}
+use Rattle.dr_core.specs.Meaning.Transcript.{Transcript}
+
+abbrev pub entry : {T : Type 0} → Command T → Reply → List T → Transcript T
+entry command reply values = record { command = command; reply = reply; values = values } ∷ []
+
+-- the poll that an event comes to of which the first word was loaded before
+abbrev pub poll_of : ℕ → Option ℕ → ℕ → ℕ → ℕ → Transcript Event
+poll_of h None second taken available = []
+poll_of h (Some first) second taken available =
+    entry (Poll h 1) (Batch taken 1 (taken + 1 == available)) (record { first = first; second = second } ∷ [])
