@@ -14,9 +14,10 @@ use Rattle.dr_ring.specs.declared.record.SenderRecord.{SenderRecord}
 use Rattle.dr_ring.specs.Meaning.Shape.{Shape, handlers_of}
 use Rattle.dr_ring.specs.Meaning.Settling.{HasBeginning, Settles}
 use Rattle.dr_ring.specs.Calls.Ends.{ReceiverEnd, ReceiverPlace, SenderEnd, SenderPlace, received_of, sender_place}
-use Rattle.dr_ring.specs.Calls.Settling.{AreAllEnds, counts_at, handler_counts}
-use Rattle.dr_ring.specs.declared.settled.HandlerCounts.{HandlerCounts}
-use Rattle.dr_ring.proofs.Lists.{there, at_below, value_at}
+use Rattle.dr_ring.specs.Calls.Settling.{AreAllEnds, handler_counts}
+use Rattle.dr_runs.specs.Gathering.{counts_at}
+use Rattle.dr_runs.specs.declared.counts.HandlerCounts.{HandlerCounts}
+use Rattle.dr_runs.proofs.Elements.{there, at_below, value_at}
 use Rattle.dr_disruptor.specs.declared.running.Ran.{Ran}
 use Rattle.dr_disruptor.specs.declared.served.Served.{Served}
 use Rattle.dr_disruptor.specs.Running.{IsRan, WentThrough, completed_in, taken_in}

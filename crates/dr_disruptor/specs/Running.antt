@@ -16,7 +16,7 @@ use Rattle.dr_ring.specs.Calls.Ends.{SenderEnd}
 use Rattle.dr_ring.specs.Calls.Telling.{sender_does}
 use Rattle.dr_ring.specs.Meaning.Moments.{fresh_sender}
 use Rattle.dr_ring.specs.Meaning.Shape.{Shape}
-use Rattle.dr_ring.specs.Calls.Settling.{counts_at}
+use Rattle.dr_runs.specs.Gathering.{counts_at}
 use Rattle.dr_disruptor.specs.declared.running.Ran.{Ran}
 use Rattle.dr_disruptor.specs.declared.fault.RunFault.{RunFault}
 use Rattle.dr_disruptor.specs.declared.fault.RunFault.TheVariants.{Worker}

@@ -106,6 +106,7 @@ pub fn run_waiting<
     ensures whole { IfOk result (λ ran. AreFine ran.endings.items → AllWentThrough H.goes script.now handlers.items ran.handlers.items) }
     // And where one has, each went through a beginning of what was sent.
     ensures run { IfOk result (IsRun H.goes (shape_of graph.now.upstreams size) handlers.items script.now) }
+    ensures many { IfOk result (λ _. length handlers.items ≡ length graph.now.upstreams) }
     ensures refused { IfErr result (λ e. e ≡ refusal_of (length graph.now.upstreams) (length handlers.items)) }
 {
     let (mut sender, workers, bell) = begin(rt, alloc, graph, size, handlers, strategy)?;
@@ -128,6 +129,7 @@ pub fn run<R: Threads + Wait + Copy + Send + 'static, H: Handler<Event> + Drop +
     ensures whole { IfOk result (λ ran. AreFine ran.endings.items → AllWentThrough H.goes script.now handlers.items ran.handlers.items) }
     // Only the sender's may have one: then each went through all that was sent.
     ensures run { IfOk result (IsRun H.goes (shape_of graph.now.upstreams size) handlers.items script.now) }
+    ensures many { IfOk result (λ _. length handlers.items ≡ length graph.now.upstreams) }
     ensures refused { IfErr result (λ e. e ≡ refusal_of (length graph.now.upstreams) (length handlers.items)) }
 {
     run_waiting(
@@ -161,6 +163,7 @@ pub fn run_with<
     // The closure does not put another ring's sender in the place of the one that it is given.
     requires place { (given : SenderEnd) (fault : Option WorkFault) (back : SenderEnd) → FnOnceReturnsAtMut F.FnOnce send given fault back → sender_place back ≡ sender_place given }
     ensures ran { IfOk result (IsRanBy (FnOnceReturnsAtMut F.FnOnce send) H.goes (shape_of graph.now.upstreams size) handlers.items) }
+    ensures many { IfOk result (λ _. length handlers.items ≡ length graph.now.upstreams) }
     ensures refused { IfErr result (λ e. e ≡ refusal_of (length graph.now.upstreams) (length handlers.items)) }
 {
     let (mut sender, workers, _bell) = begin(rt, alloc, graph, size, handlers, strategy)?;

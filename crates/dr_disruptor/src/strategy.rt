@@ -1,7 +1,6 @@
 //! How the workers of a run wait for one another.
 
-ghost use Rattle.std.specs.Prelude.{◌≡◌};
-ghost use Rattle.dr_disruptor.specs.Waits.{strategy_of};
+ghost use Rattle.dr_disruptor.specs.Waits.{Begins, HasCome, HasWaited};
 
 use dr_shared::{Bell, Parking, Patience, Spinning, Waiting};
 use std::sync::Wait;
@@ -33,7 +32,7 @@ impl WaitStrategy {
     /// The way of waiting of a worker that has room for so many events at once. One that parks is woken by
     /// the bell.
     pub fn begin<'a, R: Wait>(self, rt: &'a R, bell: &'a Bell, room: u64) -> Waits<'a, R>
-        ensures { strategy_of result ≡ self }
+        ensures { Begins self room result }
     {
         match self {
             WaitStrategy::Yielding => Waits::Yielding(Waiting::new(room)),
@@ -44,9 +43,11 @@ impl WaitStrategy {
 }
 
 impl<R: Wait> Patience for Waits<'_, R> {
-    fn wait(&mut self)
-        ensures { strategy_of self.new ≡ strategy_of self.old }
-    {
+    ghost waits = { HasWaited };
+
+    ghost finds = { HasCome };
+
+    fn wait(&mut self) {
         match self {
             Waits::Yielding(waiting) => waiting.wait(),
             Waits::Spinning(spinning) => spinning.wait(),
@@ -54,9 +55,7 @@ impl<R: Wait> Patience for Waits<'_, R> {
         }
     }
 
-    fn found(&mut self, count: u64)
-        ensures { strategy_of self.new ≡ strategy_of self.old }
-    {
+    fn found(&mut self, count: u64) {
         match self {
             Waits::Yielding(waiting) => waiting.found(count),
             Waits::Spinning(spinning) => spinning.found(count),

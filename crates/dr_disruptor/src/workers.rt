@@ -94,6 +94,7 @@ pub(crate) fn begin<
     strategy: WaitStrategy,
 ) -> Result<(LiveSender, Vec<Worker<H>>, Arc<Bell, Global>), RunFault>
     ensures ready { IfOk result (λ r. AreReady (shape_of graph.now.upstreams size) handlers.items r.0 r.1.items) }
+    ensures many { IfOk result (λ _. length handlers.items ≡ length graph.now.upstreams) }
     ensures refused { IfErr result (λ e. e ≡ refusal_of (length graph.now.upstreams) (length handlers.items)) }
 {
     let (expected, given) = (graph.len(), handlers.len());

@@ -13,7 +13,7 @@ use Rattle.dr_core.specs.declared.refusal.Refusal.{Refusal}
 use Rattle.dr_core.specs.Calls.Calling.{InletCall, PublishesStretch, TriesClaim, WritesMany, WritesOne, CallsLead, SomeCalls, WritesBy, each_written, first_in_trouble, writes_of}
 use Rattle.dr_core.proofs.Calling.{lead_more}
 use Rattle.dr_shared.specs.Calls.Serving.{EndsIn, WriteFails}
-use Rattle.dr_shared.specs.Inside.Retries.{Retries, WriteCalls}
+use Rattle.dr_shared.specs.Inside.Retries.{Retries, WriteCalls, tried_of, tries_in}
 use Rattle.dr_shared.specs.Meaning.Work.{accepted_in, accepted_of, claim_of, claims_in}
 use Rattle.dr_shared.proofs.Picks.{there}
 use Rattle.dr_shared.proofs.Writings.{first_and_next, rest_of}
@@ -91,6 +91,15 @@ no_claims : {E : Type 0} (lo : ℕ) (events : List E) → claims_in (each_writte
 no_claims lo [] = refl
 no_claims lo (event ∷ events) = no_claims (lo + 1) events
 
+no_tries : {E : Type 0} (lo : ℕ) (events : List E) → tries_in (each_written lo events) ≡ []
+no_tries lo [] = refl
+no_tries lo (event ∷ events) = no_tries (lo + 1) events
+
+no_try : {E : Type 0} (s : ℕ) (trouble : Option Trouble) (events : List E) → tries_in (first_in_trouble s trouble events) ≡ []
+no_try s None events = refl
+no_try s (Some trouble) [] = refl
+no_try s (Some trouble) (event ∷ events) = refl
+
 no_claim : {E : Type 0} (s : ℕ) (trouble : Option Trouble) (events : List E) → claims_in (first_in_trouble s trouble events) ≡ []
 no_claim s None events = refl
 no_claim s (Some trouble) [] = refl
@@ -119,6 +128,7 @@ each_written-take (suc k) lo (event ∷ events) = ap (λ l. WritesOne lo event (
 
 -- writes claim nothing, those that are accepted are of the first events, as many as are answered, and where one is refused it is the last
 pub record AreTried {E : Type 0} (lo : ℕ) (events : List E) (wrote : Wrote) (calls : List (InletCall E)) : Type 0 where
+  pub tries : tries_in calls ≡ []
   pub claims : claims_in calls ≡ []
   pub accepted : accepted_in calls ≡ each_written lo (take wrote.count events)
   pub refused : (r : Refusal) → wrote.trouble ≡ Some (Refused r) → EndsIn (WriteFails lo events (Refused r)) calls
@@ -132,13 +142,14 @@ pub many_writes : {S E : Type 0} (does : S → InletCall E → S → Type 0) (lo
     → ((r : Refusal) → wrote.trouble ≡ Some (Refused r) → wrote.count < length events) → WritesBy a b does lo events wrote
     → SomeCalls does a b (AreTried lo events wrote)
 many_writes does lo events wrote a b stops (inl once) =
-    record { calls = WritesMany lo events wrote ∷ []; lead = (b, once, refl); holds = record { claims = refl; accepted = append-nil (each_written lo (take wrote.count events)); refused = λ r is. (0, refl, sym (add-zero lo), is, tt) } }
+    record { calls = WritesMany lo events wrote ∷ []; lead = (b, once, refl); holds = record { tries = refl; claims = refl; accepted = append-nil (each_written lo (take wrote.count events)); refused = λ r is. (0, refl, sym (add-zero lo), is, tt) } }
 many_writes {S} {E} does lo events wrote a b stops (inr each) =
     let first = each_written lo (take wrote.count events) in
     let rest = first_in_trouble (lo + wrote.count) wrote.trouble (drop wrote.count events) in record {
       calls = writes_of lo events wrote;
       lead = each;
       holds = record {
+        tries = filter_map-append tried_of first rest ∙ ap (λ l. l ++ tries_in rest) (no_tries lo (take wrote.count events)) ∙ no_try (lo + wrote.count) wrote.trouble (drop wrote.count events);
         claims = filter_map-append claim_of first rest ∙ ap (λ l. l ++ claims_in rest) (no_claims lo (take wrote.count events)) ∙ no_claim (lo + wrote.count) wrote.trouble (drop wrote.count events);
         accepted = accepted_in-append first rest ∙ ap (λ l. l ++ accepted_in rest) (all_written lo (take wrote.count events))
             ∙ ap (λ l. first ++ l) (none_accepted (lo + wrote.count) wrote.trouble (drop wrote.count events)) ∙ append-nil first;
@@ -153,13 +164,17 @@ many_writes {S} {E} does lo events wrote a b stops (inr each) =
 none_more : {E : Type 0} (xs ys : List (InletCall E)) → claims_in xs ≡ [] → claims_in ys ≡ [] → claims_in (xs ++ ys) ≡ []
 none_more xs ys h k = filter_map-append claim_of xs ys ∙ ap (λ l. l ++ claims_in ys) h ∙ k
 
+untried_more : {E : Type 0} (xs ys : List (InletCall E)) → tries_in xs ≡ [] → tries_in ys ≡ [] → tries_in (xs ++ ys) ≡ []
+untried_more xs ys h k = filter_map-append tried_of xs ys ∙ ap (λ l. l ++ tries_in ys) h ∙ k
+
 -- the first events are written
 pub record AreFirst {E : Type 0} (lo : ℕ) (events : List E) (done : ℕ) (calls : List (InletCall E)) : Type 0 where
+  pub tries : tries_in calls ≡ []
   pub claims : claims_in calls ≡ []
   pub accepted : accepted_in calls ≡ each_written lo (take done events)
 
 pub first_none : {S E : Type 0} (does : S → InletCall E → S → Type 0) (a : S) (lo : ℕ) (events : List E) → SomeCalls does a a (AreFirst lo events 0)
-first_none does a lo events = record { calls = []; lead = refl; holds = record { claims = refl; accepted = refl } }
+first_none does a lo events = record { calls = []; lead = refl; holds = record { tries = refl; claims = refl; accepted = refl } }
 
 -- the first of some events, and then the first of those that are left
 first_of_rest : {E : Type 0} (done n : ℕ) (events : List E) → take done events ++ take n (take (length events - done) (drop done events)) ≡ take (done + n) events
@@ -175,6 +190,7 @@ first_more does a b c lo done events wrote within h k =
       calls = h.calls ++ k.calls;
       lead = lead_more does a b c h.calls k.calls h.lead k.lead;
       holds = record {
+        tries = untried_more h.calls k.calls h.holds.tries k.holds.tries;
         claims = none_more h.calls k.calls h.holds.claims k.holds.claims;
         accepted = accepted_in-append h.calls k.calls ∙ ap (λ l. l ++ accepted_in k.calls) h.holds.accepted
             ∙ ap (λ l. each_written lo (take done events) ++ l) (k.holds.accepted ∙ ap (λ n. each_written (lo + n) part) (sym many))
@@ -189,6 +205,7 @@ all_accepted does a b lo done events all h = record {
   calls = h.calls;
   lead = h.lead;
   holds = record {
+    tries = h.holds.tries;
     claims = h.holds.claims;
     trouble = λ fault is. absurd (is_ok (Ok tt) fault refl is);
     accepted = h.holds.accepted ∙ ap (each_written lo) (take_all done events all);
@@ -228,6 +245,7 @@ last_refused {S} {E} does a b c lo done events wrote (Refused r) is other within
       calls = h.calls ++ k.calls;
       lead = both.lead;
       holds = record {
+        tries = both.holds.tries;
         claims = both.holds.claims;
         trouble = λ fault same.
             let later = ends_as (WriteFails (lo + done) (drop done events) (Refused r)) (WriteFails lo events (Refused r)) (fails_later lo done events (Refused r)) k.calls

@@ -1,7 +1,7 @@
 //! Waiting that costs nothing.
 
-ghost use Rattle.std.specs.Prelude.{◌≡◌, ◌≢◌, false, true, None, if◌then◌else◌};
-ghost use Rattle.dr_shared.specs.Calls.Waits.{begun, found_from, is_asleep_next, is_early, looks_after, waited_from};
+ghost use Rattle.std.specs.Prelude.{◌≡◌, None};
+ghost use Rattle.dr_shared.specs.Calls.Waits.{HasFound, HasParked, begun, is_asleep_next};
 
 use crate::bell::Bell;
 use crate::patience::Patience;
@@ -51,12 +51,11 @@ impl<'a, R: Wait> Parking<'a, R> {
 }
 
 impl<R: Wait> Patience for Parking<'_, R> {
-    fn wait(&mut self)
-        ensures looks { self.new.looks ≡ looks_after self.old.looks }
-        ensures waiting { self.new.waiting ≡ (if is_early self.old.looks then waited_from self.old.waiting else self.old.waiting) }
-        ensures early { is_early self.old.looks ≡ true → self.new.heard ≡ self.old.heard }
-        ensures listens { is_early self.old.looks ≡ false → self.new.heard ≢ None }
-    {
+    ghost waits = { HasParked };
+
+    ghost finds = { HasFound };
+
+    fn wait(&mut self) {
         if self.looks < MOST_LOOKS {
             self.looks += 1;
             self.waiting.wait();
@@ -69,11 +68,7 @@ impl<R: Wait> Patience for Parking<'_, R> {
         self.heard = Some(self.bell.listen());
     }
 
-    fn found(&mut self, count: u64)
-        ensures looks { self.new.looks ≡ 0 }
-        ensures heard { self.new.heard ≡ None }
-        ensures waiting { self.new.waiting ≡ found_from self.old.waiting count }
-    {
+    fn found(&mut self, count: u64) {
         self.looks = 0;
         self.heard = None;
         self.waiting.found(count);

@@ -1,11 +1,12 @@
 //! The worker of a producer.
 
-ghost use Rattle.std.specs.Prelude.{◌≡◌, ◌<◌, ◌≤◌, [], length, take, IfNone, OnErr, OnOk, Some};
+ghost use Rattle.std.specs.Prelude.{◌≡◌, ℕ, ◌<◌, ◌≤◌, [], length, take, IfNone, OnErr, OnOk, Some};
 ghost use Rattle.dr_core.specs.Calls.Calling.{SomeCalls};
 ghost use Rattle.dr_core.specs.Calls.Ends.{WhereShown};
 ghost use Rattle.dr_shared.specs.declared.fault.WorkFault.TheVariants.{Stopped};
 ghost use Rattle.dr_shared.specs.Calls.Serving.{Sends};
 ghost use Rattle.dr_shared.specs.Calls.Stops.{MayStop};
+ghost use Rattle.dr_shared.specs.Calls.Waits.{Provides};
 ghost use Rattle.dr_shared.specs.Inside.Retries.{SendsPart};
 ghost use Rattle.dr_shared.specs.Meaning.Work.{Adds, LeavesNothingOpen};
 
@@ -41,11 +42,10 @@ fn send<E: Copy, R: Wait, I: Inlet<E>, G: Gate, P: Patience>(
     ensures sent { OnOk result (WhereShown (Adds events.now) (I.sent inlet.old) (I.sent inlet.new)) }
     ensures fault { OnErr result (WhereShown (Adds []) (I.sent inlet.old) (I.sent inlet.new)) }
     ensures open { WhereShown LeavesNothingOpen (I.sent inlet.old) (I.sent inlet.new) }
-    ensures sends { SomeCalls I.does inlet.old inlet.new (SendsPart events.now (G.may_stop gate.now) (G.must_stop gate.now) turns.old turns.new result) }
+    ensures sends { SomeCalls (Provides I.does P.waits P.finds) (record { end = inlet.old; patience = patience.old; room = room.old }) (record { end = inlet.new; patience = patience.new; room = room.new }) (SendsPart events.now (G.may_stop gate.now) (G.must_stop gate.now) turns.old turns.new result) }
 {
     let n = events.len() as u64;
     let Claimed { lo, hi } = claim(rt, inlet, n, patience, room)?;
-    *room = room.saturating_add(n);
     turns.pass(gate);
     write_all(rt, inlet, lo, events)?;
     publish(rt, inlet, lo, hi)
@@ -66,6 +66,8 @@ pub fn produce_with<E: Copy, R: Wait, I: Inlet<E>, G: Gate, P: Patience>(
     patience: &mut P,
 ) -> Produced
     requires cut { 0 < cut }
+    // At each claim without room the patience was told how many events found room since the last one, and asked to wait.
+    ensures bides { (room : ℕ) × SomeCalls (Provides I.does P.waits P.finds) (record { end = inlet.old; patience = patience.old; room = 0 }) (record { end = inlet.new; patience = patience.new; room = room }) (Sends cut script.now (G.may_stop gate.now who) (G.must_stop gate.now who) result) }
     ensures kept { I.kept inlet.new ≡ I.kept inlet.old }
     ensures sent { WhereShown (Adds (take result.sent script.now)) (I.sent inlet.old) (I.sent inlet.new) }
     // Whatever the answer, each claim that an end shows was published.

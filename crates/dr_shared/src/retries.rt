@@ -4,6 +4,7 @@ ghost use Rattle.std.specs.Prelude.{◌≡◌, ◌≢◌, ◌+◌, ◌^◌, ◌�
 ghost use Rattle.dr_core.specs.Calls.Calling.{SomeCalls, TriesClaim, PublishesStretch, CompletesBelow};
 ghost use Rattle.dr_core.specs.Calls.Ends.{Claims, Completes, GivesStretch, PublishAnswers, Publishes, WhereShown, WritesAll};
 ghost use Rattle.dr_shared.specs.Meaning.Work.{Adds};
+ghost use Rattle.dr_shared.specs.Calls.Waits.{Provides};
 ghost use Rattle.dr_shared.specs.Inside.Retries.{Retries, WriteCalls};
 ghost use Rattle.dr_shared.specs.Inside.Writes.{MayRefuse};
 
@@ -12,7 +13,8 @@ use crate::waiting::Waiting;
 use dr_core::{Claimed, Inlet, Outlet, Refusal, Trouble};
 use std::sync::Wait;
 
-/// Claims the next `n` sequences, once there is room. `room` is how many events found room since the last wait.
+/// Claims the next `n` sequences, once there is room. `room` is how many events found room since the last wait, these too
+/// once they are claimed.
 pub(crate) fn claim<E: Copy, R: Wait, I: Inlet<E>, P: Patience>(
     rt: &R,
     inlet: &mut I,
@@ -25,12 +27,16 @@ pub(crate) fn claim<E: Copy, R: Wait, I: Inlet<E>, P: Patience>(
     ensures claimed { IfOk result (λ c. WhereShown (Claims n (Ok c)) (I.sent inlet.old) (I.sent inlet.new)) }
     ensures fault { OnErr result (I.sent inlet.new ≡ I.sent inlet.old) }
     ensures waits { result ≢ Err (Trouble.Refused Refusal.NoRoom) }
-    ensures called { SomeCalls I.does inlet.old inlet.new (Retries (TriesClaim n (Err (Trouble.Refused Refusal.NoRoom))) (TriesClaim n result)) }
+    ensures called { SomeCalls (Provides I.does P.waits P.finds) (record { end = inlet.old; patience = patience.old; room = room.old }) (record { end = inlet.new; patience = patience.new; room = room.new }) (Retries (TriesClaim n (Err (Trouble.Refused Refusal.NoRoom))) (TriesClaim n result)) }
 {
     for _ in rt.forever() {
         match inlet.try_claim(n) {
+            Ok(claimed) => {
+                *room = room.saturating_add(n);
+                return Ok(claimed);
+            }
             Err(Trouble::Refused(Refusal::NoRoom)) => wait_for_room(patience, room),
-            answer => return answer,
+            Err(trouble) => return Err(trouble),
         }
     }
     unreachable!()

@@ -104,15 +104,15 @@ impl Waiting {
 
 /// Pauses once, and then yields its processor to others: LMAX's `YieldingWaitStrategy`.
 impl Patience for Waiting {
-    fn wait(&mut self)
-        ensures { self.new ≡ waited_from self.old }
-    {
+    ghost waits = { λ old new. new ≡ waited_from old };
+
+    ghost finds = { λ old count new. new ≡ found_from old count };
+
+    fn wait(&mut self) {
         Waiting::wait(self)
     }
 
-    fn found(&mut self, count: u64)
-        ensures { self.new ≡ found_from self.old count }
-    {
+    fn found(&mut self, count: u64) {
         Waiting::found(self, count)
     }
 }

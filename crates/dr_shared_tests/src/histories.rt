@@ -1,7 +1,7 @@
 //! Histories of small exchanges.
 
 use dr_core::{MAX_LIMIT, Mode};
-use dr_graph::{Graph, GraphBuilder, GraphFault};
+use dr_graph::{Graph, GraphBuilder, GraphFault, Group};
 use dr_seq::{Event, Size};
 use dr_shared::Recorded;
 use std::alloc::Global;
@@ -31,16 +31,29 @@ pub const fn word(first: u64) -> Event {
     Event { first, second: 0 }
 }
 
+fn declare_first(builder: &mut GraphBuilder, shape: Shape) -> Result<Group, GraphFault> {
+    match shape {
+        Shape::Alone | Shape::Chain => builder.handle_with(&["a"]),
+        Shape::SideBySide | Shape::Diamond => builder.handle_with(&["a", "b"]),
+    }
+}
+
+fn declare_last(builder: &mut GraphBuilder, first: &Group) -> Result<(), GraphFault> {
+    builder.then(first, &["c"])?;
+    Ok(())
+}
+
+fn declare(builder: &mut GraphBuilder, shape: Shape) -> Result<(), GraphFault> {
+    let first = declare_first(builder, shape)?;
+    match shape {
+        Shape::Alone | Shape::SideBySide => Ok(()),
+        Shape::Chain | Shape::Diamond => declare_last(builder, &first),
+    }
+}
+
 pub fn graph(alloc: Global, shape: Shape) -> Result<Graph, GraphFault> {
     let mut builder = GraphBuilder::new(alloc);
-    let sides: &[&str] = match shape {
-        Shape::Alone | Shape::Chain => &["a"],
-        Shape::SideBySide | Shape::Diamond => &["a", "b"],
-    };
-    let first = builder.handle_with(sides)?;
-    if matches!(shape, Shape::Chain | Shape::Diamond) {
-        builder.then(&first, &["c"])?;
-    }
+    declare(&mut builder, shape)?;
     builder.build()
 }
 

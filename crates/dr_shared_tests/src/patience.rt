@@ -1,5 +1,6 @@
 //! Workers that wait in each way, and a bell between two threads.
 
+use crate::histories::check;
 use dr_core::{Claimed, Inlet, Refusal, Trouble};
 use dr_seq::Event;
 use dr_shared::{
@@ -90,6 +91,10 @@ impl Rings for &Strokes {
     }
 }
 
+fn strokes_of(strokes: &Strokes) -> u64 {
+    strokes.count.load(Ordering::SeqCst)
+}
+
 // Sends six events through a crowded end that rings, and waits so.
 fn send_six<R: Wait + Abort, P: Patience>(rt: &R, patience: &mut P) {
     let strokes = Strokes {
@@ -101,20 +106,21 @@ fn send_six<R: Wait + Abort, P: Patience>(rt: &R, patience: &mut P) {
         published: 0,
     };
     let mut inlet = Ringing::new(crowded, &strokes);
-    let script = [Event::NONE; 6];
     let all = Produced {
         sent: 6,
         fault: None,
     };
-    assert_eq!(rt;
+    let script = [Event::NONE; 6];
+    check(
+        rt,
         produce_with(rt, &mut inlet, &OpenGate, 16, &script, 1, patience),
-        all
+        all,
     );
-    assert_eq!(rt; inlet.end().published, 6);
-    assert_eq!(rt; strokes.count.load(Ordering::SeqCst), 6);
+    check(rt, inlet.end().published, 6);
+    check(rt, strokes_of(&strokes), 6);
     inlet.call(|end| end.published = 0);
-    assert_eq!(rt; strokes.count.load(Ordering::SeqCst), 7);
-    assert_eq!(rt; inlet.into_end().published, 0);
+    check(rt, strokes_of(&strokes), 7);
+    check(rt, inlet.into_end().published, 0);
 }
 
 #[test]

@@ -1,8 +1,9 @@
 -- What calls a worker makes of its end at one step of its work.
-use Rattle.std.specs.Prelude.{◌≡◌, ◌⊎◌, ℕ, ◌<◌, List, [], ◌∷◌, ◌++◌, length, take, replicate, Option, None, Result, Ok, Err}
+use Rattle.std.specs.Prelude.{◌≡◌, ◌⊎◌, ℕ, ◌<◌, List, [], ◌∷◌, ◌++◌, length, take, replicate, Option, None, Some, Result, Ok, Err}
+use Rattle.std.specs.List.{filter_map}
 use Rattle.dr_core.specs.declared.command.Claimed.{Claimed}
 use Rattle.dr_core.specs.declared.ends.Trouble.{Trouble}
-use Rattle.dr_core.specs.Calls.Calling.{InletCall, OutletCall, PublishesStretch, each_written}
+use Rattle.dr_core.specs.Calls.Calling.{InletCall, OutletCall, TriesClaim, PublishesStretch, each_written}
 use Rattle.dr_core.specs.Calls.Ends.{Received}
 use Rattle.dr_core.specs.Calls.Handling.{Relation}
 use Rattle.dr_shared.specs.declared.consumer.Progress.{Progress}
@@ -21,8 +22,17 @@ abbrev pub AreEachWritten : {E : Type 0} → ℕ → List E → Result (Unit {0}
 AreEachWritten lo events (Ok done) accepted = accepted ≡ each_written lo events
 AreEachWritten lo events (Err trouble) accepted = (k : ℕ) × (accepted ≡ take k (each_written lo events))
 
+-- how many sequences a call tries to claim
+abbrev pub tried_of : {E : Type 0} → InletCall E → Option ℕ
+tried_of (TriesClaim n answer) = Some n
+tried_of other = None
+
+abbrev pub tries_in : {E : Type 0} → List (InletCall E) → List ℕ
+tries_in calls = filter_map tried_of calls
+
 -- many writes, up to one that is refused
 pub record WriteCalls {E : Type 0} (lo : ℕ) (events : List E) (result : Result (Unit {0}) Trouble) (calls : List (InletCall E)) : Type 0 where
+  pub tries : tries_in calls ≡ []
   pub claims : claims_in calls ≡ []
   pub trouble : (trouble : Trouble) → result ≡ Err trouble → EndsIn (WriteFails lo events trouble) calls
   pub accepted : AreEachWritten lo events result (accepted_in calls)

@@ -1,7 +1,7 @@
 use Rattle.std.proofs.Common.{rules, ◌≡◌, ◌<◌, length, subst, arith}
 use Rattle.std.specs.Prelude.{vec_len}
 use Rattle.atomic_table.proofs.Lists.{at_index}
-use Rattle.dr_ring.proofs.Lists.{at_below, value_at}
+use Rattle.dr_runs.proofs.Elements.{at_below, value_at}
 use Rattle.dr_disruptor.specs.Serving.{Serving, given_end, given_handler}
 use Rattle.dr_disruptor.proofs.workers.joined.Goals as goal
 

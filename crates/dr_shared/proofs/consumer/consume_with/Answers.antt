@@ -5,7 +5,12 @@ use Rattle.dr_shared.proofs.Stopping.{stopped_more, waited, waited_in}
 use Rattle.dr_shared.specs.declared.fault.WorkFault.{WorkFault}
 use Rattle.dr_shared.specs.declared.turns.Turns.{Turns}
 use Rattle.dr_shared.proofs.Working.{done_first, done_more}
+use Rattle.dr_shared.specs.Calls.Waits.{Attended, Attends}
+use Rattle.dr_shared.proofs.Biding.{end_alone}
 use Rattle.dr_shared.proofs.consumer.consume_with.Goals as goal
+
+abbrev at : {S P : Type 0} → S → P → Attended S P
+at e p = record { end = e; patience = p }
 
 whatever : {P : Type 0} (r : Option WorkFault) → P → IfNone r P
 whatever (Some fault) is = tt
@@ -18,31 +23,22 @@ loop-init g c = (
   refl,
   ap (λ (t : Turns). t.who) c.new-turns.ensures,
   λ is. absurd (false≢true (sym (ap (λ (t : Turns). t.stopped) c.new-turns.ensures) ∙ is)),
-  serving_none g.O.Outlet.does (length c.args.buf.now) g.H.Handler.goes c.args.handler.now c.args.outlet.now (g.O.Outlet.received c.args.outlet.now) (g.G.Gate.may_stop c.args.gate.now) (g.G.Gate.must_stop c.args.gate.now) c.args.who c.new-turns.result c.new-turns.ensures,
+  serving_none (Attends g.O.Outlet.does g.P.Patience.waits g.P.Patience.finds) (length c.args.buf.now) g.H.Handler.goes c.args.handler.now (at c.args.outlet.now c.args.patience.now) (g.O.Outlet.received c.args.outlet.now) (g.G.Gate.may_stop c.args.gate.now) (g.G.Gate.must_stop c.args.gate.now) c.args.who c.new-turns.result c.new-turns.ensures,
   refl,
   done_first _,
 )
 
+pub returns-in-Ok-Drained-clause-bides : goal.returns-in-Ok-Drained-clause-bides
+returns-in-Ok-Drained-clause-bides g c =
+    serves_told (Attends g.O.Outlet.does g.P.Patience.waits g.P.Patience.finds) (length c.args.buf.now) g.H.Handler.goes c.args.handler.now c.loop.handler c.turn.new.handler (at c.args.outlet.now c.args.patience.now) (at c.loop.outlet c.loop.patience) (at c.turn.new.outlet c.turn.new.patience) _ _ _
+    (g.G.Gate.may_stop c.args.gate.now) (g.G.Gate.must_stop c.args.gate.now) c.args.who _ _ _ _ c.loop.invariant.5 (of_room c.loop.invariant.6 c.turn.ensures.takes) (c.in-Ok-Drained.is ∙ ap (λ x. Ok x) c.in-Ok-Drained.field-0-is) c.at_end.ensures
+
 pub returns-in-Ok-Drained-clause-serves : goal.returns-in-Ok-Drained-clause-serves
 returns-in-Ok-Drained-clause-serves g c =
-    serves_told g.O.Outlet.does (length c.args.buf.now) g.H.Handler.goes c.args.handler.now c.loop.handler c.turn.new.handler c.args.outlet.now c.loop.outlet c.turn.new.outlet _ _ _
-    (g.G.Gate.may_stop c.args.gate.now) (g.G.Gate.must_stop c.args.gate.now) c.args.who _ _ _ _ c.loop.invariant.5 (of_room c.loop.invariant.6 c.turn.ensures.takes) (c.in-Ok-Drained.is ∙ ap (λ x. Ok x) c.in-Ok-Drained.field-0-is) c.at_end.ensures
+    end_alone g.O.Outlet.does g.P.Patience.waits g.P.Patience.finds (at c.args.outlet.now c.args.patience.now) (at c.turn.new.outlet c.turn.new.patience) _ (returns-in-Ok-Drained-clause-bides g c)
 
 pub returns-in-Ok-Drained-clause-done : goal.returns-in-Ok-Drained-clause-done
 returns-in-Ok-Drained-clause-done g c = whatever c.at_end.result (done_more _ _ _ c.loop.invariant.7 c.in-Ok-Drained.ensures.done)
-
-pub loop-preserved-in-Ok-Batch : goal.loop-preserved-in-Ok-Batch
-loop-preserved-in-Ok-Batch g c = (
-  tt,
-  tt,
-  c.turn.ensures.kept ∙ c.loop.invariant.2,
-  c.turn.ensures.takes.holds.passes.who ∙ c.loop.invariant.3,
-  stopped_more (g.G.Gate.may_stop c.args.gate.now) (g.G.Gate.must_stop c.args.gate.now) _ c.args.who _ _ c.loop.invariant.3 c.loop.invariant.4 c.turn.ensures.takes.holds.passes,
-  serving_more g.O.Outlet.does (length c.args.buf.now) g.H.Handler.goes c.args.handler.now c.loop.handler c.turn.new.handler c.args.outlet.now c.loop.outlet c.turn.new.outlet _ _ _
-      (g.G.Gate.may_stop c.args.gate.now) (g.G.Gate.must_stop c.args.gate.now) c.args.who _ _ _ _ c.in-Ok-Batch.is c.loop.invariant.5 (of_room c.loop.invariant.6 c.turn.ensures.takes),
-  c.turn.auto.buf ∙ c.loop.invariant.6,
-  done_more _ _ _ c.loop.invariant.7 c.in-Ok-Batch.ensures.done,
-)
 
 pub loop-preserved : goal.loop-preserved
 loop-preserved g c = (
@@ -51,16 +47,20 @@ loop-preserved g c = (
   c.turn.ensures.kept ∙ c.loop.invariant.2,
   c.turn.ensures.takes.holds.passes.who ∙ c.loop.invariant.3,
   stopped_more (g.G.Gate.may_stop c.args.gate.now) (g.G.Gate.must_stop c.args.gate.now) _ c.args.who _ _ c.loop.invariant.3 c.loop.invariant.4 c.turn.ensures.takes.holds.passes,
-  serving_more g.O.Outlet.does (length c.args.buf.now) g.H.Handler.goes c.args.handler.now c.loop.handler c.turn.new.handler c.args.outlet.now c.loop.outlet c.turn.new.outlet _ _ _
-      (g.G.Gate.may_stop c.args.gate.now) (g.G.Gate.must_stop c.args.gate.now) c.args.who _ _ _ _ c.in-Ok-Nothing.is c.loop.invariant.5 (of_room c.loop.invariant.6 c.turn.ensures.takes),
+  serving_more (Attends g.O.Outlet.does g.P.Patience.waits g.P.Patience.finds) (length c.args.buf.now) g.H.Handler.goes c.args.handler.now c.loop.handler c.turn.new.handler (at c.args.outlet.now c.args.patience.now) (at c.loop.outlet c.loop.patience) (at c.turn.new.outlet c.turn.new.patience) _ _ _
+      (g.G.Gate.may_stop c.args.gate.now) (g.G.Gate.must_stop c.args.gate.now) c.args.who _ _ _ _ c.in-Ok-GoesOn.is c.loop.invariant.5 (of_room c.loop.invariant.6 c.turn.ensures.takes),
   c.turn.auto.buf ∙ c.loop.invariant.6,
-  done_more _ _ _ c.loop.invariant.7 c.in-Ok-Nothing.ensures.done,
+  done_more _ _ _ c.loop.invariant.7 c.in-Ok-GoesOn.ensures.done,
 )
+
+pub returns-in-Err-clause-bides : goal.returns-in-Err-clause-bides
+returns-in-Err-clause-bides g c =
+    serves_in_trouble (Attends g.O.Outlet.does g.P.Patience.waits g.P.Patience.finds) (length c.args.buf.now) g.H.Handler.goes c.args.handler.now c.loop.handler c.turn.new.handler (at c.args.outlet.now c.args.patience.now) (at c.loop.outlet c.loop.patience) (at c.turn.new.outlet c.turn.new.patience) _ _ _
+    (g.G.Gate.may_stop c.args.gate.now) (g.G.Gate.must_stop c.args.gate.now) c.args.who _ _ _ _ c.in-Err.trouble c.loop.invariant.5 (of_room c.loop.invariant.6 c.turn.ensures.takes) c.in-Err.is (ap Some c.in_trouble.ensures)
 
 pub returns-in-Err-clause-serves : goal.returns-in-Err-clause-serves
 returns-in-Err-clause-serves g c =
-    serves_in_trouble g.O.Outlet.does (length c.args.buf.now) g.H.Handler.goes c.args.handler.now c.loop.handler c.turn.new.handler c.args.outlet.now c.loop.outlet c.turn.new.outlet _ _ _
-    (g.G.Gate.may_stop c.args.gate.now) (g.G.Gate.must_stop c.args.gate.now) c.args.who _ _ _ _ c.in-Err.trouble c.loop.invariant.5 (of_room c.loop.invariant.6 c.turn.ensures.takes) c.in-Err.is (ap Some c.in_trouble.ensures)
+    end_alone g.O.Outlet.does g.P.Patience.waits g.P.Patience.finds (at c.args.outlet.now c.args.patience.now) (at c.turn.new.outlet c.turn.new.patience) _ (returns-in-Err-clause-bides g c)
 
 pub returns-in-Ok-Drained-clause-waits : goal.returns-in-Ok-Drained-clause-waits
 returns-in-Ok-Drained-clause-waits g c is = waited _ (sym c.at_end.ensures ∙ is)

@@ -1,14 +1,18 @@
-use Rattle.std.proofs.Common.{ℕ, ◌≡◌, ◌≤◌, ◌<◌, ◌+◌, ◌∙◌, ap, arith, Result, Ok, Err, Option, OnErr, OnOk, List, [], length, subst}
+use Rattle.std.proofs.Common.{ℕ, ◌≡◌, ◌≤◌, ◌<◌, ◌+◌, ◌∙◌, ap, arith, Result, Ok, Err, Option, OnErr, OnOk, List, [], length, refl, subst}
 use Rattle.std.proofs.lemmas.Result.{err_from_is_err_and}
 use Rattle.dr_core.specs.declared.command.Claimed.{Claimed}
-use Rattle.dr_core.specs.Calls.Calling.{SomeCalls}
+use Rattle.dr_core.specs.Calls.Calling.{PublishesStretch, SomeCalls}
 use Rattle.dr_core.specs.Calls.Ends.{Sent, WhereShown, WritesAll, PublishAnswers, Publishes}
 use Rattle.dr_core.specs.declared.ends.Trouble.{Trouble}
+use Rattle.dr_core.specs.declared.ends.Trouble.TheVariants.{Memory}
 use Rattle.dr_shared.specs.Meaning.Work.{Adds, Part, Writing}
 use Rattle.dr_shared.proofs.Closing.{leaves_nothing_open, publishing}
-use Rattle.dr_shared.specs.Inside.Retries.{AfterClaim, SendsPart, WriteCalls}
+use Rattle.dr_shared.specs.Inside.Retries.{AfterClaim, SendsPart, WriteCalls, tried_of}
 use Rattle.dr_shared.proofs.Sending.{IsClaimed, part_claimed, part_unclaimed, written_and_published, written_in_part}
 use Rattle.dr_shared.proofs.Writings.{Opens, adds_nothing, claim_adds, sends, writes_as}
+use Rattle.dr_shared.specs.Calls.Waits.{Provides}
+use Rattle.dr_shared.proofs.Biding.{with_patience, with_room}
+use Rattle.dr_shared.proofs.Calling.{picked}
 use Rattle.dr_shared.proofs.producer.send.Goals as goal
 
 -- where the publication succeeds
@@ -53,7 +57,9 @@ some_claimed events c ordered long = omega arith
 
 pub returns-in_err-lo-clause-sends : goal.returns-in_err-lo-clause-sends
 returns-in_err-lo-clause-sends g c =
-    let does = g.I.Inlet.does in
+    let does = Provides g.I.Inlet.does g.P.Patience.waits g.P.Patience.finds in
+    let a = with_room c.args.inlet.now c.args.patience.now c.args.room.now in
+    let b = with_room c.claim.new.inlet c.claim.new.patience c.claim.new.room in
     let may = g.G.Gate.may_stop c.args.gate.now in
     let must = g.G.Gate.must_stop c.args.gate.now in
     let events = c.args.events.now in
@@ -61,12 +67,15 @@ returns-in_err-lo-clause-sends g c =
     let failed : c.claim.result ≡ Err why = c.in_err-lo.was in
     let p = err_from_is_err_and c.from_residual.result c.from_residual.ensures.1 in
     let same : Err why ≡ c.from_residual.result = (let e = p.1 in let f = p.2 in cc) in
-    subst (λ r. SomeCalls does c.args.inlet.now c.claim.new.inlet (SendsPart events may must c.args.turns.now c.args.turns.now r)) same
-    (part_unclaimed does events _ _ may must _ why (λ full. c.claim.ensures.waits (failed ∙ ap (λ t. Err t) full)) (subst (λ r. SomeCalls does c.args.inlet.now c.claim.new.inlet (IsClaimed (length events) r)) c.in_err-lo.was c.claim.ensures.called))
+    subst (λ r. SomeCalls does a b (SendsPart events may must c.args.turns.now c.args.turns.now r)) same
+    (part_unclaimed does events a b may must _ why (λ full. c.claim.ensures.waits (failed ∙ ap (λ t. Err t) full)) (subst (λ r. SomeCalls does a b (IsClaimed (length events) r)) c.in_err-lo.was c.claim.ensures.called))
 
 pub returns-in_err-write_all-clause-sends : goal.returns-in_err-write_all-clause-sends
 returns-in_err-write_all-clause-sends g c =
-    let does = g.I.Inlet.does in
+    let does = Provides g.I.Inlet.does g.P.Patience.waits g.P.Patience.finds in
+    let a = with_room c.args.inlet.now c.args.patience.now c.args.room.now in
+    let b = with_room c.claim.new.inlet c.claim.new.patience c.claim.new.room in
+    let d = with_room c.write_all.new.inlet c.claim.new.patience c.claim.new.room in
     let events = c.args.events.now in
     let claim = c.in_ok-lo in
     let why = c.in_err-write_all.field-0.0 in
@@ -74,21 +83,29 @@ returns-in_err-write_all-clause-sends g c =
     let failed : c.write_all.result ≡ Err why = c.in_err-write_all.was in
     let same : Err why ≡ c.from_residual-in_err-write_all.result = (let e = p.1 in let f = p.2 in cc) in
     let part : Part _ = record { stretch = claim.field-0; events = events } in
-    part_claimed does events claim.field-0 _ _ _ (g.G.Gate.may_stop c.args.gate.now) (g.G.Gate.must_stop c.args.gate.now) _ _ c.from_residual-in_err-write_all.result
+    part_claimed does events claim.field-0 a b d (g.G.Gate.may_stop c.args.gate.now) (g.G.Gate.must_stop c.args.gate.now) _ _ c.from_residual-in_err-write_all.result
     (some_claimed events claim.field-0 claim.ensures.stretch.0 claim.ensures.stretch.1)
-    (subst (λ r. SomeCalls does c.args.inlet.now c.claim.new.inlet (IsClaimed (length events) r)) claim.was c.claim.ensures.called)
-    (subst (λ r. SomeCalls does c.claim.new.inlet c.write_all.new.inlet (AfterClaim part r)) same
-    (written_in_part does part _ _ why (subst (λ r. SomeCalls does c.claim.new.inlet c.write_all.new.inlet (WriteCalls claim.field-0.lo events r)) failed c.write_all.ensures.called))) c.pass.ensures
+    (subst (λ r. SomeCalls does a b (IsClaimed (length events) r)) claim.was c.claim.ensures.called)
+    (subst (λ r. SomeCalls does b d (AfterClaim part r)) same
+    (written_in_part does part b d why (subst (λ r. SomeCalls does b d (WriteCalls claim.field-0.lo events r)) failed
+    (with_patience g.I.Inlet.does g.P.Patience.waits g.P.Patience.finds c.claim.new.patience c.claim.new.room c.claim.new.inlet c.write_all.new.inlet (WriteCalls claim.field-0.lo events c.write_all.result) c.write_all.ensures.called c.write_all.ensures.called.holds.tries)))) c.pass.ensures
 
 pub returns-clause-sends : goal.returns-clause-sends
 returns-clause-sends g c =
-    let does = g.I.Inlet.does in
+    let does = Provides g.I.Inlet.does g.P.Patience.waits g.P.Patience.finds in
+    let a = with_room c.args.inlet.now c.args.patience.now c.args.room.now in
+    let b = with_room c.claim.new.inlet c.claim.new.patience c.claim.new.room in
+    let d = with_room c.write_all.new.inlet c.claim.new.patience c.claim.new.room in
+    let e = with_room c.publish.new.inlet c.claim.new.patience c.claim.new.room in
     let events = c.args.events.now in
     let claim = c.in_ok-lo in
     let part : Part _ = record { stretch = claim.field-0; events = events } in
-    part_claimed does events claim.field-0 _ _ _ (g.G.Gate.may_stop c.args.gate.now) (g.G.Gate.must_stop c.args.gate.now) _ _ c.publish.result
+    part_claimed does events claim.field-0 a b e (g.G.Gate.may_stop c.args.gate.now) (g.G.Gate.must_stop c.args.gate.now) _ _ c.publish.result
     (some_claimed events claim.field-0 claim.ensures.stretch.0 claim.ensures.stretch.1)
-    (subst (λ r. SomeCalls does c.args.inlet.now c.claim.new.inlet (IsClaimed (length events) r)) claim.was c.claim.ensures.called)
-    (written_and_published does part _ _ _ c.publish.result c.publish.ensures.waits
-    (subst (λ r. SomeCalls does c.claim.new.inlet c.write_all.new.inlet (WriteCalls claim.field-0.lo events r)) c.in_ok-write_all.was c.write_all.ensures.called) c.publish.ensures.called)
+    (subst (λ r. SomeCalls does a b (IsClaimed (length events) r)) claim.was c.claim.ensures.called)
+    (written_and_published does part b d e c.publish.result c.publish.ensures.waits
+    (subst (λ r. SomeCalls does b d (WriteCalls claim.field-0.lo events r)) c.in_ok-write_all.was
+    (with_patience g.I.Inlet.does g.P.Patience.waits g.P.Patience.finds c.claim.new.patience c.claim.new.room c.claim.new.inlet c.write_all.new.inlet (WriteCalls claim.field-0.lo events c.write_all.result) c.write_all.ensures.called c.write_all.ensures.called.holds.tries))
+    (with_patience g.I.Inlet.does g.P.Patience.waits g.P.Patience.finds c.claim.new.patience c.claim.new.room c.write_all.new.inlet c.publish.new.inlet _ c.publish.ensures.called
+    (picked tried_of (PublishesStretch claim.field-0.lo claim.field-0.hi (Err Memory)) (PublishesStretch claim.field-0.lo claim.field-0.hi c.publish.result) c.publish.ensures.called.calls c.publish.ensures.called.holds refl)))
     c.pass.ensures
