@@ -50,3 +50,10 @@ Turns (Err refusal) size events sent v h = ⊥
 abbrev pub ShowsAll : {A : Type 0} → Result A Refusal → ℕ → List Event → CoreView Event → Handlers → Type 0
 ShowsAll (Ok done) size events v h = Rests size events (length events) (each (length events)) v × AreShown h events
 ShowsAll (Err refusal) size events v h = ⊥
+
+-- some events, and no others, went through an exchange of this size to three handlers
+pub record WentThrough (size : ℕ) (events : List Event) : Type 0 where
+  pub core : CoreView Event
+  pub handlers : Handlers
+  pub rests : Rests size events (length events) (each (length events)) core
+  pub shown : AreShown handlers events

@@ -3,7 +3,7 @@
 ghost use Rattle.std.specs.Prelude.{◌≡◌, ◌<◌, ◌≤◌, ◌+◌, ◌^◌, [], IfOk, length, string_bytes};
 ghost use Rattle.dr_accounts.specs.Passing.{each};
 ghost use Rattle.dr_accounts.specs.Report.{report_of};
-ghost use Rattle.dr_accounts.specs.Turns.{AreShown, ShowsAll, Rests, SendsStretch};
+ghost use Rattle.dr_accounts.specs.Turns.{AreShown, ShowsAll, Rests, SendsStretch, WentThrough};
 
 use crate::handlers::Handlers;
 use crate::topology::open;
@@ -50,7 +50,8 @@ fn pass(core: &mut Core<Event>, handlers: &mut Handlers, events: &[Event]) -> Re
 /// The report of events that went through a core of this size, on one thread. An error is that memory
 /// ran out, which more events than there are sequences are answered with too.
 pub fn report_by_core(alloc: Global, events: &[Event], size: Size) -> Result<String, AllocError>
-    ensures { IfOk result (λ text. string_bytes text ≡ report_of events.now) }
+    ensures text { IfOk result (λ text. string_bytes text ≡ report_of events.now) }
+    ensures through { IfOk result (λ text. WentThrough size events.now) }
 {
     if events.len() as u64 > MAX_LIMIT {
         return Err(AllocError);

@@ -6,7 +6,7 @@ ghost use Rattle.dr_accounts.specs.Keeping.{Keeps, error_of};
 use crate::reporter::{Reporter, part};
 use dr_ring::Receiver;
 use dr_seq::Event;
-use dr_shared::{Gate, WorkFault, consume};
+use dr_shared::{Bell, Gate, Parking, Ringing, WorkFault, consume_with};
 use std::alloc::Global;
 use std::marker::PhantomData;
 use std::snapshot::Snapshot;
@@ -74,25 +74,40 @@ impl<P: Reporter, G: Gate> Promise<Worked> for PartOf<P, G> {
 }
 
 /// Takes a new handler through all events of an end, at most `room` of them and 256 at once, and at least one. A
-/// handler that finds no memory holds up no other worker: it goes on without taking any more.
+/// handler that finds no memory holds up no other worker: it goes on without taking any more. It parks
+/// where nothing comes, and rings the bell with each completion.
 pub fn work<R: Wait, G: Gate, P: Reporter>(
     rt: &R,
     gate: &G,
     who: usize,
-    mut receiver: Receiver,
+    receiver: Receiver,
     room: usize,
     alloc: Global,
+    bell: &Bell,
 ) -> Worked
     ensures { Keeps P.goes P.is_new P.part_of (G.may_stop gate.now who) (G.must_stop gate.now who) receiver result }
 {
     let mut handler = P::begin(alloc);
     let mut buf = [Event::NONE; BATCH];
     let room = room.min(BATCH).max(1);
-    let fault = consume(rt, &mut receiver, gate, who, &mut handler, &mut buf[..room]);
+    let mut outlet = Ringing::new(receiver, bell);
+    let mut parking = Parking::new(rt, bell, room as u64);
+    let fault = consume_with(
+        rt,
+        &mut outlet,
+        gate,
+        who,
+        &mut handler,
+        &mut buf[..room],
+        &mut parking,
+    );
     let part = match (part(&handler, alloc), fault) {
         (Err(_), _) => Err(WorkFault::Memory),
         (Ok(_), Some(fault)) => Err(fault),
         (Ok(text), None) => Ok(text),
     };
-    Worked { receiver, part }
+    Worked {
+        receiver: outlet.into_end(),
+        part,
+    }
 }

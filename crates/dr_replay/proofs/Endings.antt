@@ -1,14 +1,15 @@
 -- How the workers of an exchange ended, and what a replay answers of it.
-use Rattle.std.proofs.Common.{◌≡◌, ◌<◌, List, Option, Result, Ok, Err, IfErr, IfOk, ⊎_elim, refl, sym, subst, ap, ◌∙◌, length}
+use Rattle.std.proofs.Common.{◌≡◌, List, Option, None, Result, Ok, Err, IfErr, IfOk, ⊎_elim, refl, sym, ap, ◌∙◌, length}
 use Rattle.std.proofs.lemmas.Bool.{false≢true}
 use Rattle.std.specs.Prelude.{Bool, ℕ, true, false}
 use Rattle.std.proofs.lemmas.List.FromFn.{length-map-range_with_len}
 use Rattle.dr_seq.specs.declared.event.Event.{Event}
-use Rattle.dr_core.specs.Meaning.Machine.{Setup, handlers}
+use Rattle.dr_core.specs.Meaning.Machine.{handlers}
 use Rattle.dr_shared.specs.Meaning.Audit.{Faults, IsAudited}
-use Rattle.dr_shared.specs.Meaning.History.{History, IsRecorded, halts_in, transcript}
+use Rattle.dr_shared.specs.Meaning.History.{History, transcript}
 use Rattle.dr_shared.specs.declared.audit_fault.AuditFault.{AuditFault}
 use Rattle.dr_shared.specs.declared.audit_fault.AuditFault.TheVariants as audit
+use Rattle.dr_shared.specs.Meaning.FirstFault.{first_fault}
 use Rattle.dr_shared.specs.declared.ended.Ended.{Ended}
 use Rattle.dr_shared.specs.declared.fault.WorkFault.{WorkFault}
 use Rattle.dr_shared.specs.declared.fault.WorkFault.TheVariants as work
@@ -17,11 +18,11 @@ use Rattle.dr_files.specs.declared.fault.FileFault.TheVariants as file
 use Rattle.dr_replay.specs.declared.fault.ReplayFault.{ReplayFault}
 use Rattle.dr_replay.specs.declared.fault.ReplayFault.TheVariants as fault
 use Rattle.dr_replay.specs.declared.ring.Ran.{Ran}
-use Rattle.dr_replay.specs.Meaning.Exchange.{IsHalted, lock_setup, setup_for}
+use Rattle.dr_replay.specs.Meaning.Exchange.{lock_setup, setup_for}
 use Rattle.dr_replay.specs.Meaning.Scripts.{producers_in, script_in, scripts_in}
 use Rattle.dr_accounts.specs.Report.{report_of}
 use Rattle.dr_replay.specs.Calls.Replayed.{IsReportOfMerge}
-use Rattle.dr_replay.specs.Calls.Workers.{AreStopped, HandlersAreServed, IsFirstOf, IsMemory, IsOfAudit, IsOfLock, IsOfMerge, IsOfWorkers, audit_fault}
+use Rattle.dr_replay.specs.Calls.Workers.{AreStopped, AuditFinds, HandlersAreServed, IsFirstOf, IsMemory, IsOfAudit, IsOfLock, IsOfMerge, IsOfWorkers, audit_fault}
 use Rattle.dr_replay.specs.Calls.Workers.{endings_of, lock_endings, replay_fault, ring_workers}
 
 -- whether a fault may be answered for workers
@@ -61,67 +62,94 @@ ends_of_workers may_stop ran (Err e) stopped served is = of_workers may_stop ran
 
 -- behind a lock
 
--- a history of its own setup
-pub went_through : {h : History Event} → IsRecorded h → 0 < halts_in h.entries → IsHalted h.core.setup h
-went_through recorded halted = record { recorded = recorded; setup = refl; halted = halted }
+-- as many scripts as producers
+pub many_scripts : (events : List Event) → length (scripts_in events) ≡ producers_in events
+many_scripts events = length-map-range_with_len (script_in events) 0 (producers_in events)
 
-finds : {c : Setup} {h : History Event} → IsHalted c h → (scripts : List (List Event)) (f : AuditFault)
-    → Faults (transcript h) (handlers h.core.setup) scripts f → IsOfAudit c scripts (audit_fault f)
-finds went scripts audit.NoMemory is = tt
-finds {h = h} went scripts (audit.ScriptDiffers p) is = (h, went, is)
-finds {h = h} went scripts (audit.NotDrained k) is = (h, went, is)
+-- what is said of histories is said of those of which more is known
+module _ {P Q : History Event → Type 0} (more : (h : History Event) → P h → Q h) where
+  report_more : (events : List Event) (text : List ℕ) → IsReportOfMerge P events text → IsReportOfMerge Q events text
+  report_more events text is = record { history = is.history; such = more is.history is.such; list = is.list; audited = is.audited; says = is.says }
 
--- an audit's fault of what an exchange went through
-pub audit_finds : {c : Setup} {h : History Event} → IsHalted c h → (given scripts : List (List Event)) (f : AuditFault) → given ≡ scripts
-    → Faults (transcript h) (handlers h.core.setup) given f → IsOfAudit c scripts (audit_fault f)
-audit_finds went given scripts f same is = finds went scripts f (rw same at is)
+  pub reports_more : {A : Type 0} (events : List Event) (text_of : A → List ℕ) (r : Result A ReplayFault)
+      → IfOk r (λ t. IsReportOfMerge P events (text_of t)) → IfOk r (λ t. IsReportOfMerge Q events (text_of t))
+  reports_more events text_of (Ok t) is = report_more events (text_of t) is
+  reports_more events text_of (Err e) is = tt
 
-after_workers : (endings : List Ended) (c : Setup) (scripts : List (List Event)) (e : ReplayFault) → IsFirstOf endings e → IsOfLock endings c scripts e
-after_workers endings c scripts (fault.File f) is = only_memory endings f is
-after_workers endings c scripts (fault.Worker who f) is = is
-after_workers endings c scripts (fault.Audit f) is = absurd (no_other endings (fault.Audit f) refl is)
+  finds_more : (scripts : List (List Event)) (f : AuditFault) → AuditFinds P scripts f → AuditFinds Q scripts f
+  finds_more scripts audit.NoMemory is = is
+  finds_more scripts (audit.ScriptDiffers p) is = (is.0, more is.0 is.1, is.2)
+  finds_more scripts (audit.NotDrained k) is = (is.0, more is.0 is.1, is.2)
+
+  fault_more : (may_stop : ℕ → Type 0) (events : List Event) (e : ReplayFault) → IsOfMerge may_stop P events e → IsOfMerge may_stop Q events e
+  fault_more may_stop events (fault.File f) is = is
+  fault_more may_stop events (fault.Worker who f) is = is
+  fault_more may_stop events (fault.Audit f) is = finds_more (scripts_in events) f is
+
+  pub faults_more : {A : Type 0} (may_stop : ℕ → Type 0) (events : List Event) (r : Result A ReplayFault)
+      → IfErr r (IsOfMerge may_stop P events) → IfErr r (IsOfMerge may_stop Q events)
+  faults_more may_stop events (Ok t) is = tt
+  faults_more may_stop events (Err e) is = fault_more may_stop events e is
+
+  audit_more : (endings : List Ended) (scripts : List (List Event)) (e : ReplayFault) → first_fault endings ≡ None → IsOfAudit P scripts e → IsOfLock endings Q scripts e
+  audit_more endings scripts (fault.File f) none is = is
+  audit_more endings scripts (fault.Worker who f) none is = absurd is
+  audit_more endings scripts (fault.Audit f) none is = (none, finds_more scripts f is)
+
+  -- an audit comes after workers that had no fault
+  pub ends_of_audit : {A : Type 0} (endings : List Ended) (scripts : List (List Event)) (r : Result A ReplayFault) → first_fault endings ≡ None
+      → IfErr r (IsOfAudit P scripts) → IfErr r (IsOfLock endings Q scripts)
+  ends_of_audit endings scripts (Ok x) none is = tt
+  ends_of_audit endings scripts (Err e) none is = audit_more endings scripts e none is
+
+  of_merge : (may_stop : ℕ → Type 0) (events : List Event) (journal replica business : Option WorkFault) (producers : List (Option WorkFault)) (e : ReplayFault)
+      → length producers ≡ producers_in events → AreStopped may_stop (lock_endings journal replica business producers)
+      → IsOfLock (lock_endings journal replica business producers) P (scripts_in events) e → IsOfMerge may_stop Q events e
+  of_merge may_stop events journal replica business producers (fault.File f) many stopped is = is
+  of_merge may_stop events journal replica business producers (fault.Worker who f) many stopped is =
+      (journal, replica, business, producers, many, record { stopped = stopped; first = is })
+  of_merge may_stop events journal replica business producers (fault.Audit f) many stopped is = finds_more (scripts_in events) f is.1
+
+  pub ends_of_merge : {A : Type 0} (may_stop : ℕ → Type 0) (events : List Event) (scripts : List (List Event))
+      (journal replica business : Option WorkFault) (producers : List (Option WorkFault)) (r : Result A ReplayFault) → scripts ≡ scripts_in events
+      → length producers ≡ length scripts → AreStopped may_stop (lock_endings journal replica business producers)
+      → IfErr r (IsOfLock (lock_endings journal replica business producers) P scripts) → IfErr r (IsOfMerge may_stop Q events)
+  ends_of_merge may_stop events scripts journal replica business producers (Ok x) same many stopped is = tt
+  ends_of_merge may_stop events scripts journal replica business producers (Err e) same many stopped is =
+      of_merge may_stop events journal replica business producers e (many ∙ ap length same ∙ many_scripts events) stopped (rw same at is)
+
+finds : (h : History Event) (scripts : List (List Event)) (f : AuditFault)
+    → Faults (transcript h) (handlers h.core.setup) scripts f → IsOfAudit (λ k. k ≡ h) scripts (audit_fault f)
+finds h scripts audit.NoMemory is = tt
+finds h scripts (audit.ScriptDiffers p) is = (h, refl, is)
+finds h scripts (audit.NotDrained k) is = (h, refl, is)
+
+-- an audit's fault of a history
+pub audit_finds : (h : History Event) (given scripts : List (List Event)) (f : AuditFault) → given ≡ scripts
+    → Faults (transcript h) (handlers h.core.setup) given f → IsOfAudit (λ k. k ≡ h) scripts (audit_fault f)
+audit_finds h given scripts f same is = finds h scripts f (rw same at is)
+
+-- a report of what an audit finds of it
+pub reports : (h : History Event) (given : List (List Event)) (events list : List Event) (text : List ℕ) → given ≡ scripts_in events
+    → IsAudited (transcript h) (handlers h.core.setup) given list → text ≡ report_of list → IsReportOfMerge (λ k. k ≡ h) events text
+reports h given events list text same is says = record { history = h; such = refl; list = list; audited = rw same at is; says = says }
+
+after_workers : (P : History Event → Type 0) (endings : List Ended) (scripts : List (List Event)) (e : ReplayFault) → IsFirstOf endings e → IsOfLock endings P scripts e
+after_workers P endings scripts (fault.File f) is = only_memory endings f is
+after_workers P endings scripts (fault.Worker who f) is = is
+after_workers P endings scripts (fault.Audit f) is = absurd (no_other endings (fault.Audit f) refl is)
 
 -- the endings that a check was given are those of the parts
-pub first_of_parts : {j j2 r r2 b b2 : Option WorkFault} {p p2 : List (Option WorkFault)} (c : Setup) (scripts : List (List Event)) (e : ReplayFault)
-    → j ≡ j2 → r ≡ r2 → b ≡ b2 → p ≡ p2 → IsFirstOf (lock_endings j r b p) e → IsOfLock (lock_endings j2 r2 b2 p2) c scripts e
-first_of_parts {j2 = j2} {r2 = r2} {b2 = b2} {p2 = p2} c scripts e journal replica business producers is =
-    after_workers (lock_endings j2 r2 b2 p2) c scripts e (rw (journal, replica, business, producers) at is)
+pub first_of_parts : (P : History Event → Type 0) {j j2 r r2 b b2 : Option WorkFault} {p p2 : List (Option WorkFault)} (scripts : List (List Event)) (e : ReplayFault)
+    → j ≡ j2 → r ≡ r2 → b ≡ b2 → p ≡ p2 → IsFirstOf (lock_endings j r b p) e → IsOfLock (lock_endings j2 r2 b2 p2) P scripts e
+first_of_parts P {j2 = j2} {r2 = r2} {b2 = b2} {p2 = p2} scripts e journal replica business producers is =
+    after_workers P (lock_endings j2 r2 b2 p2) scripts e (rw (journal, replica, business, producers) at is)
 
-of_merge : (may_stop : ℕ → Type 0) (c : Setup) (events : List Event) (journal replica business : Option WorkFault) (producers : List (Option WorkFault)) (e : ReplayFault)
-    → length producers ≡ producers_in events → AreStopped may_stop (lock_endings journal replica business producers)
-    → IsOfLock (lock_endings journal replica business producers) c (scripts_in events) e → IsOfMerge may_stop c events e
-of_merge may_stop c events journal replica business producers (fault.File f) many stopped is = is
-of_merge may_stop c events journal replica business producers (fault.Worker who f) many stopped is =
-    (journal, replica, business, producers, many, record { stopped = stopped; first = is })
-of_merge may_stop c events journal replica business producers (fault.Audit f) many stopped is = is.1
-
--- as many scripts as producers
-many_scripts : (events : List Event) → length (scripts_in events) ≡ producers_in events
-many_scripts events = length-map-range_with_len (script_in events) 0 (producers_in events)
+pub none_of_parts : {j j2 r r2 b b2 : Option WorkFault} {p p2 : List (Option WorkFault)} → j ≡ j2 → r ≡ r2 → b ≡ b2 → p ≡ p2
+    → first_fault (lock_endings j r b p) ≡ None → first_fault (lock_endings j2 r2 b2 p2) ≡ None
+none_of_parts journal replica business producers none = rw (journal, replica, business, producers) at none
 
 -- the setup of an exchange with a producer for each script
 pub opened_for : (size producers : ℕ) (events : List Event) (scripts : List (List Event)) → producers ≡ length scripts → scripts ≡ scripts_in events
     → setup_for size producers ≡ lock_setup size events
 opened_for size producers events scripts many are = ap (setup_for size) (many ∙ ap length are ∙ many_scripts events)
-
--- setups that are the same
-pub of_setup : {A : Type 0} {c d : Setup} (events : List Event) (text_of : A → List ℕ) (r : Result A ReplayFault) → c ≡ d
-    → IfOk r (λ t. IsReportOfMerge c events (text_of t)) → IfOk r (λ t. IsReportOfMerge d events (text_of t))
-of_setup events text_of r same is = subst (λ k. IfOk r (λ t. IsReportOfMerge k events (text_of t))) same is
-
-pub fault_of_setup : {A : Type 0} {c d : Setup} (may_stop : ℕ → Type 0) (events : List Event) (r : Result A ReplayFault) → c ≡ d
-    → IfErr r (IsOfMerge may_stop c events) → IfErr r (IsOfMerge may_stop d events)
-fault_of_setup may_stop events r same is = subst (λ k. IfErr r (IsOfMerge may_stop k events)) same is
-
-pub ends_of_merge : {A : Type 0} (may_stop : ℕ → Type 0) {begun c : Setup} (events : List Event) (scripts : List (List Event))
-    (journal replica business : Option WorkFault) (producers : List (Option WorkFault)) (r : Result A ReplayFault) → begun ≡ c → scripts ≡ scripts_in events
-    → length producers ≡ length scripts → AreStopped may_stop (lock_endings journal replica business producers)
-    → IfErr r (IsOfLock (lock_endings journal replica business producers) begun scripts) → IfErr r (IsOfMerge may_stop c events)
-ends_of_merge may_stop events scripts journal replica business producers (Ok x) opened same many stopped is = tt
-ends_of_merge may_stop {c = c} events scripts journal replica business producers (Err e) opened same many stopped is =
-    of_merge may_stop c events journal replica business producers e (many ∙ ap length same ∙ many_scripts events) stopped (rw (opened, same) at is)
-
--- a report of what an audit finds of what an exchange went through
-pub reports : {c : Setup} {h : History Event} → IsHalted c h → (given : List (List Event)) (events list : List Event) (text : List ℕ) → given ≡ scripts_in events
-    → IsAudited (transcript h) (handlers h.core.setup) given list → text ≡ report_of list → IsReportOfMerge c events text
-reports {h = h} went given events list text same is says = record { history = h; went = went; list = list; audited = rw same at is; says = says }

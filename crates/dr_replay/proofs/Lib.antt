@@ -1,4 +1,5 @@
 pub mod Asking
+pub mod Coming
 pub mod Crossing
 pub mod Endings
 pub mod EventFiles

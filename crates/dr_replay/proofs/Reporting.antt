@@ -10,7 +10,7 @@ use Rattle.dr_files.specs.declared.fault.FileFault.TheVariants as file
 use Rattle.dr_replay.specs.declared.fault.ReplayFault.{ReplayFault}
 use Rattle.dr_replay.specs.declared.fault.ReplayFault.TheVariants as fault
 use Rattle.dr_replay.specs.Calls.Workers.{IsOfMerge}
-use Rattle.dr_replay.specs.Meaning.Exchange.{lock_setup}
+use Rattle.dr_replay.specs.Meaning.Exchange.{IsOfReplay}
 use Rattle.dr_replay.specs.Calls.Replayed.{IsReportOfMerge, LockFaultWrites, replay_text, reported}
 
 -- what holds where a fault is answered that came from a call
@@ -38,8 +38,8 @@ cut_report old new (Some bytes) events text is same (start, begins, wrote) =
 
 -- a beginning of the report of a merge was written
 pub cut_merge : (size : ℕ) (old new input : Option (List ℕ)) (events : List Event) (text : List ℕ)
-    → IfSome input (λ bytes. events_of bytes ≡ Ok events) → IsReportOfMerge (lock_setup size events) events text → AppendsFront old new text
-    → IfSome input (λ bytes. (found : List Event) × (said : List ℕ) × (events_of bytes ≡ Ok found) × IsReportOfMerge (lock_setup size found) found said × AppendsFront old new said)
+    → IfSome input (λ bytes. events_of bytes ≡ Ok events) → IsReportOfMerge (IsOfReplay size events) events text → AppendsFront old new text
+    → IfSome input (λ bytes. (found : List Event) × (said : List ℕ) × (events_of bytes ≡ Ok found) × IsReportOfMerge (IsOfReplay size found) found said × AppendsFront old new said)
 cut_merge size old new None events text is of_merge wrote = tt
 cut_merge size old new (Some bytes) events text is of_merge wrote = (events, text, is, of_merge, wrote)
 
@@ -53,7 +53,7 @@ adds_none : (old : Option (List ℕ)) → Appends old old []
 adds_none None = tt
 adds_none (Some xs) = sym (append-nil xs)
 
-kept : (may_stop : ℕ → Type 0) (size : ℕ) (old : Option (List ℕ)) (events : List Event) (e : ReplayFault) → IsOfMerge may_stop (lock_setup size events) events e
+kept : (may_stop : ℕ → Type 0) (size : ℕ) (old : Option (List ℕ)) (events : List Event) (e : ReplayFault) → IsOfMerge may_stop (IsOfReplay size events) events e
     → LockFaultWrites may_stop size e old old (Ok events)
 kept may_stop size old events (fault.File file.Memory) is = (0, adds_none old)
 kept may_stop size old events (fault.File (file.Input k cause)) is = absurd is
@@ -63,9 +63,9 @@ kept may_stop size old events (fault.Worker who f) is = (events, refl, is, keeps
 kept may_stop size old events (fault.Audit f) is = (events, refl, is, keeps_all old)
 
 pub kept_merge : (may_stop : ℕ → Type 0) (size : ℕ) (old input : Option (List ℕ)) (given events : List Event) (e : ReplayFault) → given ≡ events
-    → IfSome input (λ bytes. events_of bytes ≡ Ok events) → IsOfMerge may_stop (lock_setup size given) given e
+    → IfSome input (λ bytes. events_of bytes ≡ Ok events) → IsOfMerge may_stop (IsOfReplay size given) given e
     → IfSome input (λ bytes. LockFaultWrites may_stop size e old old (events_of bytes))
 kept_merge may_stop size old None given events e same is of_merge = tt
 kept_merge may_stop size old (Some bytes) given events e same is of_merge =
     let P : Result (List Event) ℕ → Type 0 = λ r. LockFaultWrites may_stop size e old old r in
-    subst P (sym is) (kept may_stop size old events e (subst (λ (l : List Event). IsOfMerge may_stop (lock_setup size l) l e) same of_merge))
+    subst P (sym is) (kept may_stop size old events e (subst (λ (l : List Event). IsOfMerge may_stop (IsOfReplay size l) l e) same of_merge))

@@ -1,16 +1,16 @@
 //! The replay behind a lock, a thread a producer and a thread a handler.
 
-ghost use Rattle.std.specs.Prelude.{◌≡◌, ◌+◌, ◌-◌, ◌^◌, ◌<◌, ◌≤◌, [], All, IfErr, IfOk, IfSome, List, None, OnOk, length, map, string_bytes, sum_by};
+ghost use Rattle.std.specs.Prelude.{◌≡◌, ◌+◌, ◌-◌, ◌++◌, ◌^◌, ◌<◌, ◌≤◌, [], All, IfErr, IfOk, IfSome, List, None, OnOk, length, map, string_bytes};
 ghost use Rattle.dr_seq.specs.declared.event.Event.{Event};
 ghost use Rattle.dr_files.specs.Counting.{faults_of, inner_of};
 ghost use Rattle.dr_replay.specs.Meaning.EventFile.{events_of as events_in};
 ghost use Rattle.dr_accounts.specs.Keeping.{error_of};
 ghost use Rattle.dr_shared.specs.Meaning.FirstFault.{first_fault as first_of};
-ghost use Rattle.dr_shared.specs.Meaning.History.{GoesOn, halts_in};
 ghost use Rattle.dr_shared.specs.Calls.Stops.{MayStop};
 ghost use Rattle.dr_replay.specs.Calls.Replayed.{IsReportOfMerge, LockWrites, ReplayCounts, ReplayFaultKeeps};
 ghost use Rattle.dr_replay.specs.Calls.Workers.{IsFirstOf, IsFirstOfLock, IsOfAudit, IsOfLock, IsOfMerge, NoProducerHadToStop, lock_endings};
-ghost use Rattle.dr_replay.specs.Meaning.Exchange.{lock_setup, setup_for};
+ghost use Rattle.dr_replay.specs.Inside.LockWorkers.{ends_of};
+ghost use Rattle.dr_replay.specs.Meaning.Exchange.{CameTo, GoesOnBy, IsOfReplay, setup_for};
 ghost use Rattle.dr_replay.specs.Meaning.Scripts.{scripts_in};
 
 use crate::event_file::read_events;
@@ -87,13 +87,11 @@ fn audited(
     replica: Part<Replica>,
     business: Part<Business>,
 ) -> Result<String, ReplayFault>
-    requires halted { 0 < halts_in recorded.now.history.entries }
     ensures text { (sent : List Event) → map (λ v. v.items) scripts.now ≡ scripts_in sent
-        → IfOk result (λ t. IsReportOfMerge recorded.now.history.core.setup sent (string_bytes t)) }
-    ensures fault { IfErr result (IsOfAudit recorded.now.history.core.setup (map (λ v. v.items) scripts.now)) }
+        → IfOk result (λ t. IsReportOfMerge (λ h. h ≡ recorded.now.history) sent (string_bytes t)) }
+    ensures fault { IfErr result (IsOfAudit (λ h. h ≡ recorded.now.history) (map (λ v. v.items) scripts.now)) }
 {
     let views = views(alloc, scripts)?;
-    let _history = recorded.history();
     let list = match audit(alloc, recorded, views.as_slice()) {
         Ok(list) => list,
         Err(found) => return Err(audit_fault(found)),
@@ -121,12 +119,8 @@ fn gathered<L: Exchange<Event>>(
     producers: Vec<Delivered<L>>,
 ) -> Result<(Recorded<Event>, Vec<Option<WorkFault>>), AllocError>
     requires given { shared.given ≡ 4 + length producers.items }
-    requires halted { 0 < sum_by (λ end. end.halts) handlers }
     ensures faults { IfOk result (λ got. got.1.items ≡ map (λ s. s.fault) producers.items) }
-    ensures setup { IfOk result (λ got. got.0.history.core.setup ≡ L.begun.core.setup) }
-    ensures halted { IfOk result (λ got. 0 < halts_in got.0.history.entries) }
-    ensures goes_on { IfOk result (λ got. GoesOn L.begun got.0.history) }
-    ensures entries { IfOk result (λ got. length got.0.history.entries ≡ shared.begun + (sum_by (λ end. end.calls) handlers + sum_by (λ s. s.end.calls) producers.items)) }
+    ensures history { IfOk result (λ got. GoesOnBy L.begun shared.begun (handlers ++ map (λ s. s.end) producers.items) got.0.history) }
 {
     let mut ends = Vec::from_array(alloc, handlers)?;
     let mut faults = Vec::with_capacity(alloc, producers.len())?;
@@ -135,7 +129,10 @@ fn gathered<L: Exchange<Event>>(
         faults.push(producer.fault)?;
     }
     match finish(shared, ends) {
-        Ok(recorded) => Ok((recorded, faults)),
+        Ok(recorded) => {
+            let _history = recorded.history();
+            Ok((recorded, faults))
+        }
         Err(_) => unreachable!(),
     }
 }
@@ -149,13 +146,13 @@ fn settled<L: Exchange<Event>>(
 ) -> Result<String, ReplayFault>
     requires given { shared.given ≡ 4 + length ran.producers.items }
     requires few { length ran.producers.items ≤ 2 ^ 62 }
-    requires halted { 0 < ran.halter.halts }
-    ensures text { (sent : List Event) → map (λ v. v.items) scripts.now ≡ scripts_in sent → IfOk result (λ t. IsReportOfMerge L.begun.core.setup sent (string_bytes t)) }
+    ensures text { (sent : List Event) → map (λ v. v.items) scripts.now ≡ scripts_in sent
+        → IfOk result (λ t. IsReportOfMerge (GoesOnBy L.begun shared.begun (ends_of ran)) sent (string_bytes t)) }
     ensures fine { OnOk result (first_of (lock_endings (error_of ran.journal.part) (error_of ran.replica.part) (error_of ran.business.part)
         (map (λ s. s.fault) ran.producers.items)) ≡ None) }
     ensures producers { OnOk result (All (λ fault. fault ≡ None) (map (λ s. s.fault) ran.producers.items)) }
     ensures first { IfErr result (IsOfLock (lock_endings (error_of ran.journal.part) (error_of ran.replica.part) (error_of ran.business.part)
-        (map (λ s. s.fault) ran.producers.items)) L.begun.core.setup (map (λ v. v.items) scripts.now)) }
+        (map (λ s. s.fault) ran.producers.items)) (GoesOnBy L.begun shared.begun (ends_of ran)) (map (λ v. v.items) scripts.now)) }
 {
     let Joined {
         halter,
@@ -229,9 +226,9 @@ fn report<L: Exchange<Event> + Send + Sync, R: Threads + Wait + Sync, G: Gate + 
     requires begun { recorded.history ≡ L.begun }
     requires fresh { recorded.history.entries ≡ [] }
     ensures text { (sent : List Event) → map (λ v. v.items) scripts.now ≡ scripts_in sent
-        → IfOk result (λ t. IsReportOfMerge recorded.history.core.setup sent (string_bytes t)) }
+        → IfOk result (λ t. IsReportOfMerge (CameTo recorded.history (length scripts.now)) sent (string_bytes t)) }
     ensures first { (sent : List Event) → map (λ v. v.items) scripts.now ≡ scripts_in sent
-        → IfErr result (IsOfMerge (MayStop G.may_stop gate.now) recorded.history.core.setup sent) }
+        → IfErr result (IsOfMerge (MayStop G.may_stop gate.now) (CameTo recorded.history (length scripts.now)) sent) }
     ensures stops { (sent : List Event) → map (λ v. v.items) scripts.now ≡ scripts_in sent → IfOk result (λ t. NoProducerHadToStop (G.must_stop gate.now) sent) }
 {
     let mut shared = Shared::<Event, L>::new(recorded, blank);
@@ -255,8 +252,8 @@ fn merged<R: Threads + Wait + Sync, G: Gate + Sync>(
     size: Size,
     gate: &G,
 ) -> Result<String, ReplayFault>
-    ensures text { IfOk result (λ text. IsReportOfMerge (lock_setup size events.now) events.now (string_bytes text)) }
-    ensures first { IfErr result (IsOfMerge (MayStop G.may_stop gate.now) (lock_setup size events.now) events.now) }
+    ensures text { IfOk result (λ text. IsReportOfMerge (IsOfReplay size events.now) events.now (string_bytes text)) }
+    ensures first { IfErr result (IsOfMerge (MayStop G.may_stop gate.now) (IsOfReplay size events.now) events.now) }
     ensures stops { IfOk result (λ text. NoProducerHadToStop (G.must_stop gate.now) events.now) }
 {
     let scripts = scripts(alloc, events)?;

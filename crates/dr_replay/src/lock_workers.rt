@@ -6,7 +6,8 @@ ghost use Rattle.dr_accounts.specs.Keeping.{error_of};
 ghost use Rattle.dr_shared.specs.Calls.Lock.{after_call, no_calls};
 ghost use Rattle.dr_core.specs.declared.command.Command.TheVariants.{Halt};
 ghost use Rattle.dr_core.specs.declared.command.Reply.TheVariants.{Halting};
-ghost use Rattle.dr_replay.specs.Inside.LockWorkers.{AreSent, AreUnused, HasHandled, HasSent, IsJoined, halted_once};
+ghost use Rattle.dr_replay.specs.Inside.LockWorkers.{AreSent, AreUnused, HasHandled, HasSent, IsJoined};
+ghost use Rattle.dr_replay.specs.Meaning.Exchange.{halted_once};
 
 use crate::given_back::{Delivered, Handled, HandledBy, SentBy};
 use crate::outcome::{BUSINESS, JOURNAL, PRODUCER, REPLICA};
@@ -45,6 +46,30 @@ pub struct Ends<L: Ledger> {
     producers: Vec<End<Event, L>>,
 }
 
+impl<L: Ledger> Ends<L> {
+    // The halter's, those of the journal, the replica and the business handler, and the producers'.
+    fn apart(
+        self,
+    ) -> (
+        End<Event, L>,
+        End<Event, L>,
+        End<Event, L>,
+        End<Event, L>,
+        Vec<End<Event, L>>,
+    )
+        ensures { result ≡ (self.halter, self.journal, self.replica, self.business, self.producers) }
+    {
+        let Ends {
+            halter,
+            journal,
+            replica,
+            business,
+            producers,
+        } = self;
+        (halter, journal, replica, business, producers)
+    }
+}
+
 // What a producer's worker is given.
 #[derive(Drop)]
 struct Task<'a, L: Ledger> {
@@ -65,7 +90,7 @@ pub struct Joined<L: Ledger> {
 
 // One end more, through which nobody has called.
 fn new_end<L: Exchange<Event>>(shared: &mut Shared<Event, L>) -> Result<End<Event, L>, AllocError>
-    ensures given { IfOk result (λ end. shared.new.given ≡ shared.old.given + 1) }
+    ensures given { IfOk result (λ end. shared.new ≡ record shared.old { given = shared.old.given + 1 }) }
     ensures unused { IfOk result (λ end. end ≡ no_calls) }
 {
     shared.end().ok_or(AllocError)
@@ -77,6 +102,7 @@ fn list_of_ends<L: Exchange<Event>>(
     shared: &mut Shared<Event, L>,
     producers: usize,
 ) -> Result<Vec<End<Event, L>>, AllocError>
+    ensures begun { IfOk result (λ ends. shared.new.begun ≡ shared.old.begun) }
     ensures given { IfOk result (λ ends. shared.new.given ≡ shared.old.given + length ends.items) }
     ensures producers { IfOk result (λ ends. length ends.items ≡ producers) }
     ensures unused { IfOk result (λ ends. All (λ end. end ≡ no_calls) ends.items) }
@@ -94,6 +120,7 @@ pub fn make_ends<L: Exchange<Event>>(
     shared: &mut Shared<Event, L>,
     producers: usize,
 ) -> Result<Ends<L>, AllocError>
+    ensures begun { IfOk result (λ ends. shared.new.begun ≡ shared.old.begun) }
     ensures given { IfOk result (λ ends. shared.new.given ≡ shared.old.given + 4 + length ends.producers.items) }
     ensures producers { IfOk result (λ ends. length ends.producers.items ≡ producers) }
     ensures unused { IfOk result (λ ends. AreUnused ends.halter ends.journal ends.replica ends.business ends.producers.items) }
@@ -276,29 +303,17 @@ pub fn exchange<L: Exchange<Event> + Send + Sync, R: Threads + Wait + Sync, G: G
             requires unused { AreUnused ends.halter ends.journal ends.replica ends.business ends.producers.items }
             ensures { IfOk result (IsJoined L.begun (G.may_stop around.entry.now.gate.now) (G.must_stop around.entry.now.gate.now) around.entry.now.size scripts.entry.now) }
         {
-            let Ends {
-                mut halter,
-                journal,
-                replica,
-                business,
-                producers,
-            } = ends;
-            let promise = HandledBy::of(around.gate, JOURNAL);
-            let Ok(journal) = scope.spawn_with(promise, move || {
+            let (mut halter, journal, replica, business, producers) = ends.apart();
+            let journal = scope.spawn_with(HandledBy::of(around.gate, JOURNAL), move || {
                 handle::<L, R, G, Journal>(around, JOURNAL, journal)
-            }) else {
-                return Err(abandoned(around, &mut halter));
-            };
-            let promise = HandledBy::of(around.gate, REPLICA);
-            let Ok(replica) = scope.spawn_with(promise, move || {
+            });
+            let replica = scope.spawn_with(HandledBy::of(around.gate, REPLICA), move || {
                 handle::<L, R, G, Replica>(around, REPLICA, replica)
-            }) else {
-                return Err(abandoned(around, &mut halter));
-            };
-            let promise = HandledBy::of(around.gate, BUSINESS);
-            let Ok(business) = scope.spawn_with(promise, move || {
+            });
+            let business = scope.spawn_with(HandledBy::of(around.gate, BUSINESS), move || {
                 handle::<L, R, G, Business>(around, BUSINESS, business)
-            }) else {
+            });
+            let (Ok(journal), Ok(replica), Ok(business)) = (journal, replica, business) else {
                 return Err(abandoned(around, &mut halter));
             };
             served(

@@ -1,9 +1,11 @@
 //! The replay on one thread.
 
-ghost use Rattle.std.specs.Prelude.{◌<◌, ◌-◌, ◌^◌, IfErr, IfSome};
+ghost use Rattle.std.specs.Prelude.{◌<◌, ◌-◌, ◌^◌, IfErr, IfOk, IfSome};
+ghost use Rattle.dr_accounts.specs.Turns.{WentThrough};
 ghost use Rattle.dr_files.specs.Counting.{faults_of, inner_of};
 ghost use Rattle.dr_files.specs.Outcome.{CountsFaults, FaultKeeps, RunWrites};
 ghost use Rattle.dr_replay.specs.Calls.Replayed.{replay_text};
+ghost use Rattle.dr_replay.specs.Meaning.EventFile.{events_of as events_in};
 
 use crate::event_file::read_events;
 use dr_accounts::report_by_core;
@@ -28,6 +30,8 @@ pub fn replay_plain<R: Read, W: Write>(
         RunWrites result (W.contents (inner_of writer.old)) (W.contents (inner_of writer.new)) (replay_text input)) }
     // Any fault but a failed write leaves nothing written, whether or not the input's bytes are known.
     ensures unwritten { IfErr result (λ e. FaultKeeps e (W.contents (inner_of writer.old)) (W.contents (inner_of writer.new))) }
+    // Where it succeeds, these events went through an exchange of this size.
+    ensures through { IfSome (R.remaining (inner_of reader.old)) (λ input. IfOk result (λ _. IfOk (events_in input) (WentThrough size))) }
     // A failed read or write is answered where one failed, and nowhere else.
     ensures counted { CountsFaults result (faults_of reader.old) (faults_of reader.new) (faults_of writer.old) (faults_of writer.new) }
 {

@@ -20,13 +20,13 @@ ghost use Rattle.dr_replay.specs.Calls.Workers.{AreThrough, IsFirstOf, IsFirstOf
 
 use crate::event_file::read_events;
 use crate::fault::ReplayFault;
-use crate::outcome::{BUSINESS, JOURNAL, PRODUCER, REPLICA, ended, joined, replay_fault};
+use crate::outcome::{BUSINESS, JOURNAL, PRODUCER, REPLICA, joined, replay_fault};
 use dr_accounts::{Business, Journal, PartOf, Replica, Worked, graph, work};
 use dr_core::MAX_LIMIT;
 use dr_files::{Counted, FileFault, write_text};
 use dr_ring::{Halter, Receiver, Sender, ring, settle};
 use dr_seq::{Event, Size};
-use dr_shared::{Ended, Gate, Produced, first_fault, produce};
+use dr_shared::{Bell, Ended, Gate, Parking, Produced, Ringing, first_fault, produce_with};
 use std::alloc::{AllocError, Global};
 use std::io::{Read, Write};
 use std::sync::Wait;
@@ -60,16 +60,25 @@ fn three(mut receivers: Vec<Receiver>) -> (Receiver, Receiver, Receiver)
     (journal, replica, business)
 }
 
+// Closes a ring, unless a claim was left open, and wakes the handlers' threads.
+fn close(sender: &mut Sender, bell: &Bell)
+    ensures { ClosesOnceDone sender.old sender.new }
+{
+    let _done = sender.close();
+    bell.ring();
+}
+
 // Closes a ring before anything was sent, and joins those of its handlers' threads that were started.
 fn abandoned<R: Threads, G: Gate>(
     rt: &R,
     sender: &mut Sender,
+    bell: &Bell,
     journal: PromisedHandle<Worked, PartOf<Journal, G>>,
     replica: Option<PromisedHandle<Worked, PartOf<Replica, G>>>,
 ) -> AllocError
     ensures { ClosesOnceDone sender.old sender.new }
 {
-    let _closed = sender.close();
+    close(sender, bell);
     let _journal = journal.join(rt);
     if let Some(replica) = replica {
         let _replica = replica.join(rt);
@@ -83,7 +92,8 @@ fn sent<R: Wait, G: Gate>(
     gate: &G,
     events: &[Event],
     size: Size,
-    sender: &mut Sender,
+    sender: &mut Ringing<Sender, &Bell>,
+    bell: &Bell,
 ) -> Produced
     ensures place { sender_place sender.new ≡ sender_place sender.old }
     ensures published { sender.new.knows.sent.published ≡ sender.old.knows.sent.published ++ take result.sent events.now }
@@ -94,7 +104,8 @@ fn sent<R: Wait, G: Gate>(
 {
     // With less than the ring in a claim the handlers have events while the sender writes.
     let cut = (size.get() / 4).max(1);
-    produce(rt, sender, gate, PRODUCER, events, cut)
+    let mut parking = Parking::new(rt, bell, size.get());
+    produce_with(rt, sender, gate, PRODUCER, events, cut, &mut parking)
 }
 
 // Sends the events, then closes, unless the sender was refused a call while a claim was open, and joins
@@ -104,7 +115,8 @@ fn served<R: Threads + Wait, G: Gate, J: Promise<Worked>, K: Promise<Worked>, B:
     gate: &G,
     events: &[Event],
     size: Size,
-    mut sender: Sender,
+    sender: Sender,
+    bell: &Bell,
     journal: PromisedHandle<Worked, J>,
     replica: PromisedHandle<Worked, K>,
     business: PromisedHandle<Worked, B>,
@@ -115,8 +127,10 @@ fn served<R: Threads + Wait, G: Gate, J: Promise<Worked>, K: Promise<Worked>, B:
     ensures replica { K.kept_by replica.promise result.replica }
     ensures business { B.kept_by business.promise result.business }
 {
-    let produced = sent(rt, gate, events, size, &mut sender);
-    let _done = sender.close();
+    let mut live = Ringing::new(sender, bell);
+    let produced = sent(rt, gate, events, size, &mut live, bell);
+    let mut sender = live.into_end();
+    close(&mut sender, bell);
     let journal = journal.join(rt);
     let replica = replica.join(rt);
     let business = business.join(rt);
@@ -138,6 +152,7 @@ fn exchange<R: Threads + Wait + Sync, G: Gate + Sync>(
     events: &[Event],
     size: Size,
     mut sender: Sender,
+    bell: &Bell,
     journal: Receiver,
     replica: Receiver,
     business: Receiver,
@@ -155,23 +170,25 @@ fn exchange<R: Threads + Wait + Sync, G: Gate + Sync>(
             let room = size.get() as usize;
             let promise = PartOf::<Journal, G>::of(&journal, gate, JOURNAL);
             let Ok(journal) = scope.spawn_with(promise, move || {
-                work::<R, G, Journal>(rt, gate, JOURNAL, journal, room, alloc)
+                work::<R, G, Journal>(rt, gate, JOURNAL, journal, room, alloc, bell)
             }) else {
                 return Err(AllocError);
             };
             let promise = PartOf::<Replica, G>::of(&replica, gate, REPLICA);
             let Ok(replica) = scope.spawn_with(promise, move || {
-                work::<R, G, Replica>(rt, gate, REPLICA, replica, room, alloc)
+                work::<R, G, Replica>(rt, gate, REPLICA, replica, room, alloc, bell)
             }) else {
-                return Err(abandoned(rt, &mut sender, journal, None));
+                return Err(abandoned(rt, &mut sender, bell, journal, None));
             };
             let promise = PartOf::<Business, G>::of(&business, gate, BUSINESS);
             let Ok(business) = scope.spawn_with(promise, move || {
-                work::<R, G, Business>(rt, gate, BUSINESS, business, room, alloc)
+                work::<R, G, Business>(rt, gate, BUSINESS, business, room, alloc, bell)
             }) else {
-                return Err(abandoned(rt, &mut sender, journal, Some(replica)));
+                return Err(abandoned(rt, &mut sender, bell, journal, Some(replica)));
             };
-            let ran = served(rt, gate, events, size, sender, journal, replica, business);
+            let ran = served(
+                rt, gate, events, size, sender, bell, journal, replica, business,
+            );
             Ok(ran)
         },
     )
@@ -182,10 +199,22 @@ fn endings(ran: &Ran) -> [Ended; 4]
     ensures { result ≡ endings_of ran.now }
 {
     [
-        ended(JOURNAL, ran.journal.fault()),
-        ended(REPLICA, ran.replica.fault()),
-        ended(BUSINESS, ran.business.fault()),
-        ended(PRODUCER, ran.produced.fault),
+        Ended {
+            who: JOURNAL,
+            fault: ran.journal.fault(),
+        },
+        Ended {
+            who: REPLICA,
+            fault: ran.replica.fault(),
+        },
+        Ended {
+            who: BUSINESS,
+            fault: ran.business.fault(),
+        },
+        Ended {
+            who: PRODUCER,
+            fault: ran.produced.fault,
+        },
     ]
 }
 
@@ -251,8 +280,9 @@ fn report<R: Threads + Wait + Sync, G: Gate + Sync>(
         return Err(ReplayFault::File(FileFault::Memory));
     };
     let (journal, replica, business) = three(receivers);
+    let bell = Bell::new();
     let ran = exchange(
-        rt, alloc, gate, events, size, sender, journal, replica, business, &halter,
+        rt, alloc, gate, events, size, sender, &bell, journal, replica, business, &halter,
     )?;
     finish(alloc, ran)
 }

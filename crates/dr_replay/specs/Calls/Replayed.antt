@@ -2,7 +2,7 @@
 use Rattle.std.specs.Prelude.{◌≡◌, ℕ, Result, Ok, Err, List, [], ◌∷◌, Option, None, Some, Vec}
 use Rattle.std.specs.Io.KnownBytes.{Appends, Keeps}
 use Rattle.dr_seq.specs.declared.event.Event.{Event}
-use Rattle.dr_core.specs.Meaning.Machine.{Setup, handlers}
+use Rattle.dr_core.specs.Meaning.Machine.{handlers}
 use Rattle.dr_shared.specs.Meaning.Audit.{IsAudited}
 use Rattle.dr_shared.specs.Meaning.History.{History, transcript}
 use Rattle.dr_accounts.specs.Report.{report_of}
@@ -13,7 +13,7 @@ use Rattle.dr_files.specs.declared.fault.FileFault.{FileFault}
 use Rattle.dr_files.specs.declared.fault.FileFault.TheVariants as file
 use Rattle.dr_replay.specs.Meaning.EventFile.{events_in, events_of}
 use Rattle.dr_records.specs.Records.{Record}
-use Rattle.dr_replay.specs.Meaning.Exchange.{IsHalted, lock_setup}
+use Rattle.dr_replay.specs.Meaning.Exchange.{IsOfReplay}
 use Rattle.dr_replay.specs.Meaning.Scripts.{scripts_in}
 use Rattle.dr_replay.specs.Calls.Workers.{AuditFinds, IsOfMerge}
 use Rattle.dr_replay.specs.declared.fault.ReplayFault.{ReplayFault}
@@ -74,10 +74,10 @@ ReplayCounts (Err e) reads reads2 writes writes2 = ReplayFaultCounts e reads rea
 
 -- Behind a lock: the same, but that the report is of a merge.
 
--- a report of the list that an audit finds of some history that an exchange of this setup went through: all events that were published, a merge of what the producers were to send, which each handler received that was not retired
-pub record IsReportOfMerge (c : Setup) (events : List Event) (text : List ℕ) : Type 0 where
+-- a report of the list that an audit finds of some such history: all events that were published, a merge of what the producers were to send, which each handler received that was not retired
+pub record IsReportOfMerge (IsSuch : History Event → Type 0) (events : List Event) (text : List ℕ) : Type 0 where
   pub history : History Event
-  pub went : IsHalted c history
+  pub such : IsSuch history
   pub list : List Event
   pub audited : IsAudited (transcript history) (handlers history.core.setup) (scripts_in events) list
   pub says : text ≡ report_of list
@@ -85,14 +85,14 @@ pub record IsReportOfMerge (c : Setup) (events : List Event) (text : List ℕ) :
 -- at a failed write a beginning of such a report is written; a worker's fault is one of the handlers or of these producers, and an audit's is one of these producers and their events
 abbrev pub LockFaultWrites : (ℕ → Type 0) → ℕ → ReplayFault → Option (List ℕ) → Option (List ℕ) → Result (List Event) ℕ → Type 0
 LockFaultWrites may_stop size (fault.File file.Write) old new events =
-    (found : List Event) × (text : List ℕ) × (events ≡ Ok found) × IsReportOfMerge (lock_setup size found) found text × AppendsFront old new text
+    (found : List Event) × (text : List ℕ) × (events ≡ Ok found) × IsReportOfMerge (IsOfReplay size found) found text × AppendsFront old new text
 LockFaultWrites may_stop size (fault.Worker who f) old new events =
-    (found : List Event) × (events ≡ Ok found) × IsOfMerge may_stop (lock_setup size found) found (fault.Worker who f) × Keeps old new
-LockFaultWrites may_stop size (fault.Audit f) old new events = (found : List Event) × (events ≡ Ok found) × AuditFinds (lock_setup size found) (scripts_in found) f × Keeps old new
+    (found : List Event) × (events ≡ Ok found) × IsOfMerge may_stop (IsOfReplay size found) found (fault.Worker who f) × Keeps old new
+LockFaultWrites may_stop size (fault.Audit f) old new events = (found : List Event) × (events ≡ Ok found) × AuditFinds (IsOfReplay size found) (scripts_in found) f × Keeps old new
 LockFaultWrites may_stop size other old new events = ReplayFaultWrites other old new (reported events)
 
 -- workers that these may stop, over an exchange of this size
 abbrev pub LockWrites : {A : Type 0} → (ℕ → Type 0) → ℕ → Result A ReplayFault → Option (List ℕ) → Option (List ℕ) → Result (List Event) ℕ → Type 0
 LockWrites may_stop size (Ok done) old new events =
-    (found : List Event) × (text : List ℕ) × (events ≡ Ok found) × IsReportOfMerge (lock_setup size found) found text × Appends old new text
+    (found : List Event) × (text : List ℕ) × (events ≡ Ok found) × IsReportOfMerge (IsOfReplay size found) found text × Appends old new text
 LockWrites may_stop size (Err e) old new events = LockFaultWrites may_stop size e old new events

@@ -17,10 +17,10 @@ use Rattle.dr_shared.specs.declared.audit_fault.AuditFault.{AuditFault}
 use Rattle.dr_shared.specs.declared.audit_fault.AuditFault.TheVariants as audit
 use Rattle.dr_shared.specs.Meaning.Audit.{Faults}
 use Rattle.dr_shared.specs.Meaning.History.{History, transcript}
-use Rattle.dr_core.specs.Meaning.Machine.{Setup, handlers}
+use Rattle.dr_core.specs.Meaning.Machine.{handlers}
 use Rattle.dr_files.specs.declared.fault.FileFault.{FileFault}
 use Rattle.dr_files.specs.declared.fault.FileFault.TheVariants as file
-use Rattle.dr_replay.specs.Meaning.Exchange.{IsHalted, lock_setup}
+use Rattle.dr_replay.specs.Meaning.Exchange.{IsOfReplay}
 use Rattle.dr_replay.specs.Meaning.Scripts.{producers_in, script_in, scripts_in}
 use Rattle.dr_replay.specs.declared.fault.ReplayFault.{ReplayFault}
 use Rattle.dr_replay.specs.declared.fault.ReplayFault.TheVariants as fault
@@ -153,10 +153,10 @@ lock_endings journal replica business producers =
 abbrev pub NoProducerHadToStop : (ℕ → ℕ → Type 0) → List Event → Type 0
 NoProducerHadToStop must_stop events = (p : ℕ) → p < producers_in events → script_in events p ≢ [] → must_stop (16 + p) 0 → ⊥
 
--- what an audit answers of some history that an exchange of this setup went through, since no contract above the lock can name it: the least producer that did not send its script, and where each did, the least handler that lacks events
-abbrev pub AuditFinds : Setup → List (List Event) → AuditFault → Type 0
-AuditFinds c scripts audit.NoMemory = ⊥
-AuditFinds c scripts f = (h : History Event) × IsHalted c h × Faults (transcript h) (handlers h.core.setup) scripts f
+-- what an audit answers of some such history, since no contract above the lock can name it: the least producer that did not send its script, and where each did, the least handler that lacks events
+abbrev pub AuditFinds : (History Event → Type 0) → List (List Event) → AuditFault → Type 0
+AuditFinds IsSuch scripts audit.NoMemory = ⊥
+AuditFinds IsSuch scripts f = (h : History Event) × IsSuch h × Faults (transcript h) (handlers h.core.setup) scripts f
 
 -- an audit that ran out of memory makes the replay answer so, and any other fault is told as it is
 abbrev pub audit_fault : AuditFault → ReplayFault
@@ -164,27 +164,27 @@ audit_fault audit.NoMemory = fault.File file.Memory
 audit_fault other = fault.Audit other
 
 -- after workers that had no fault: a lack of memory, or what an audit finds
-abbrev pub IsOfAudit : Setup → List (List Event) → ReplayFault → Type 0
-IsOfAudit c scripts (fault.File f) = IsMemory f
-IsOfAudit c scripts (fault.Worker who f) = ⊥
-IsOfAudit c scripts (fault.Audit f) = AuditFinds c scripts f
+abbrev pub IsOfAudit : (History Event → Type 0) → List (List Event) → ReplayFault → Type 0
+IsOfAudit IsSuch scripts (fault.File f) = IsMemory f
+IsOfAudit IsSuch scripts (fault.Worker who f) = ⊥
+IsOfAudit IsSuch scripts (fault.Audit f) = AuditFinds IsSuch scripts f
 
 -- after the join: a lack of memory, or the workers' first fault, and where none has a fault, what an audit finds
-abbrev pub IsOfLock : List Ended → Setup → List (List Event) → ReplayFault → Type 0
-IsOfLock endings c scripts (fault.File f) = IsMemory f
-IsOfLock endings c scripts (fault.Worker who f) = IsFirstOf endings (fault.Worker who f)
-IsOfLock endings c scripts (fault.Audit f) = (first_fault endings ≡ None) × AuditFinds c scripts f
+abbrev pub IsOfLock : List Ended → (History Event → Type 0) → List (List Event) → ReplayFault → Type 0
+IsOfLock endings IsSuch scripts (fault.File f) = IsMemory f
+IsOfLock endings IsSuch scripts (fault.Worker who f) = IsFirstOf endings (fault.Worker who f)
+IsOfLock endings IsSuch scripts (fault.Audit f) = (first_fault endings ≡ None) × AuditFinds IsSuch scripts f
 
 -- a lack of memory, or the first fault of such workers, one of each producer of these events, or what an audit finds of each producer's events
-abbrev pub IsOfMerge : (ℕ → Type 0) → Setup → List Event → ReplayFault → Type 0
-IsOfMerge may_stop c events (fault.File f) = IsMemory f
-IsOfMerge may_stop c events (fault.Worker who f) =
+abbrev pub IsOfMerge : (ℕ → Type 0) → (History Event → Type 0) → List Event → ReplayFault → Type 0
+IsOfMerge may_stop IsSuch events (fault.File f) = IsMemory f
+IsOfMerge may_stop IsSuch events (fault.Worker who f) =
     (journal : Option WorkFault) × (replica : Option WorkFault) × (business : Option WorkFault) × (producers : List (Option WorkFault))
     × (length producers ≡ producers_in events) × Ends may_stop (lock_endings journal replica business producers) (fault.Worker who f)
-IsOfMerge may_stop c events (fault.Audit f) = AuditFinds c (scripts_in events) f
+IsOfMerge may_stop IsSuch events (fault.Audit f) = AuditFinds IsSuch (scripts_in events) f
 
 -- where a fault of the workers or of an audit is answered, it is one that comes first
 abbrev pub IsFirstOfLock : (ℕ → Type 0) → ℕ → ReplayFault → Type 0
 IsFirstOfLock may_stop size (fault.File f) = Unit {0}
-IsFirstOfLock may_stop size (fault.Worker who f) = (events : List Event) × IsOfMerge may_stop (lock_setup size events) events (fault.Worker who f)
-IsFirstOfLock may_stop size (fault.Audit f) = (events : List Event) × IsOfMerge may_stop (lock_setup size events) events (fault.Audit f)
+IsFirstOfLock may_stop size (fault.Worker who f) = (events : List Event) × IsOfMerge may_stop (IsOfReplay size events) events (fault.Worker who f)
+IsFirstOfLock may_stop size (fault.Audit f) = (events : List Event) × IsOfMerge may_stop (IsOfReplay size events) events (fault.Audit f)

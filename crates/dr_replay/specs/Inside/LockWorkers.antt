@@ -1,18 +1,17 @@
 -- What the workers of a replay behind a lock promise, and what comes of its exchange.
-use Rattle.std.specs.Prelude.{◌≡◌, ℕ, ◌+◌, ◌<◌, ◌/◌, max, List, [], length, Option, None, Some, Vec, slice_index_or, All}
+use Rattle.std.specs.Prelude.{◌≡◌, ℕ, ◌+◌, ◌<◌, ◌/◌, max, List, [], ◌∷◌, length, map, Option, None, Some, Vec, slice_index_or, All}
 use Rattle.dr_seq.specs.declared.event.Event.{Event}
-use Rattle.dr_core.specs.declared.command.Command.TheVariants.{Halt}
-use Rattle.dr_core.specs.declared.command.Reply.TheVariants.{Halting}
 use Rattle.dr_core.specs.Calls.Calling.{SomeCalls}
 use Rattle.dr_shared.specs.declared.fault.WorkFault.{WorkFault}
 use Rattle.dr_shared.specs.declared.fault.WorkFault.TheVariants.{Stopped}
 use Rattle.dr_shared.specs.declared.producer.Produced.{Produced}
 use Rattle.dr_shared.specs.Calls.Asking.{InletAsks, OutletAsks}
-use Rattle.dr_shared.specs.Calls.Lock.{EndView, after_call, no_calls}
+use Rattle.dr_shared.specs.Calls.Lock.{EndView, no_calls}
 use Rattle.dr_shared.specs.Calls.Serving.{Sends, Serves}
 use Rattle.dr_shared.specs.Meaning.History.{History}
 use Rattle.dr_accounts.specs.Keeping.{AnswersFor, error_of}
 use Rattle.dr_replay.specs.Inside.Parts.{Listed, Lists}
+use Rattle.dr_replay.specs.Meaning.Exchange.{halted_once}
 use Rattle.dr_replay.specs.declared.given_back.Delivered.{Delivered}
 use Rattle.dr_replay.specs.declared.lock_workers.Joined.{Joined}
 
@@ -48,10 +47,6 @@ pub record AreUnused (halter journal replica business : EndView Event) (producer
   pub business_is : business ≡ no_calls
   pub producers_are : All (λ (end : EndView Event). end ≡ no_calls) producers
 
--- an end that halted the exchange and did nothing else
-abbrev pub halted_once : EndView Event
-halted_once = after_call Halt (Some Halting) no_calls
-
 -- what came of an exchange that began so, all of whose workers began with unused ends
 pub record IsJoined {L Z : Type 0} (begun : History Event) (may_stop must_stop : ℕ → ℕ → Type 0) (size : ℕ) (scripts : List (Vec Event Z)) (joined : Joined L) : Type 0 where
   pub halter : joined.halter ≡ halted_once
@@ -59,3 +54,7 @@ pub record IsJoined {L Z : Type 0} (begun : History Event) (may_stop must_stop :
   pub replica : HasHandled begun 1 (may_stop 1) (must_stop 1) joined.replica.end (error_of joined.replica.part)
   pub business : HasHandled begun 2 (may_stop 2) (must_stop 2) joined.business.end (error_of joined.business.part)
   pub producers : AreSent begun may_stop must_stop size scripts joined.producers.items
+
+-- the ends of an exchange, as they came back
+abbrev pub ends_of : {L : Type 0} → Joined L → List (EndView Event)
+ends_of joined = joined.halter ∷ joined.journal.end ∷ joined.replica.end ∷ joined.business.end ∷ map (λ s. s.end) joined.producers.items

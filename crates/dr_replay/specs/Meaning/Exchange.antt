@@ -1,10 +1,15 @@
 -- The exchange that a replay behind a lock opens, and what it goes through.
-use Rattle.std.specs.Prelude.{◌≡◌, ◌<◌, ℕ, ◌^◌, List}
+use Rattle.std.specs.Prelude.{◌≡◌, ◌<◌, ℕ, ◌+◌, ◌^◌, List, [], ◌∷◌, Some, length, slice_index_or, sum_by}
 use Rattle.dr_seq.specs.declared.event.Event.{Event}
+use Rattle.dr_core.specs.declared.command.Command.TheVariants.{Halt}
+use Rattle.dr_core.specs.declared.command.Reply.TheVariants.{Halting}
+use Rattle.dr_core.specs.Calls.Calling.{SomeCalls}
 use Rattle.dr_core.specs.Meaning.Machine.{Setup, setup_of}
 use Rattle.dr_core.specs.declared.mode.Mode.TheVariants.{Multi}
 use Rattle.dr_accounts.specs.Passing.{replay_graph}
-use Rattle.dr_shared.specs.Meaning.History.{History, IsRecorded, halts_in}
+use Rattle.dr_shared.specs.Calls.Asking.{InletAsks, OutletAsks}
+use Rattle.dr_shared.specs.Calls.Lock.{EndView, after_call, no_calls}
+use Rattle.dr_shared.specs.Meaning.History.{GoesOn, History, IsRecorded, entries_since, halts_in}
 use Rattle.dr_replay.specs.Meaning.Scripts.{producers_in}
 
 -- the graph of the accounts' handlers, some producers, and as many sequences as there may be
@@ -15,8 +20,41 @@ setup_for size producers = setup_of replay_graph size (Multi producers) (2 ^ 62)
 abbrev pub lock_setup : ℕ → List Event → Setup
 lock_setup size events = setup_for size (producers_in events)
 
--- what an exchange of this setup went through, from its opening on, once it was halted
-pub record IsHalted (c : Setup) (h : History Event) : Type 0 where
+-- a history that goes on from one which had so many entries, by as many calls as these ends had kept, and as many halts among them
+pub record GoesOnBy (begun : History Event) (had : ℕ) (ends : List (EndView Event)) (h : History Event) : Type 0 where
   pub recorded : IsRecorded h
-  pub setup : h.core.setup ≡ c
-  pub halted : 0 < halts_in h.entries
+  pub goes_on : GoesOn begun h
+  pub calls : length h.entries ≡ had + sum_by (λ (end : EndView Event). end.calls) ends
+  pub halts : halts_in (entries_since begun h) ≡ sum_by (λ (end : EndView Event). end.halts) ends
+
+-- an end through which the handler h called, and nobody else
+abbrev pub IsHandlers : History Event → ℕ → EndView Event → Type 0
+IsHandlers begun h end = SomeCalls (OutletAsks begun h) no_calls end (λ calls. Unit {0})
+
+-- an end through which the producer p called, and nobody else
+abbrev pub IsProducers : History Event → ℕ → EndView Event → Type 0
+IsProducers begun p end = SomeCalls (InletAsks begun p) no_calls end (λ calls. Unit {0})
+
+-- an end that halted the exchange and did nothing else
+abbrev pub halted_once : EndView Event
+halted_once = after_call Halt (Some Halting) no_calls
+
+-- what an exchange with so many producers came to that began so: its one halt, and the calls of the three handlers and of the producers, each through an end of its own
+pub record CameTo (begun : History Event) (producers : ℕ) (h : History Event) : Type 0 where
+  pub journal : EndView Event
+  pub replica : EndView Event
+  pub business : EndView Event
+  pub senders : List (EndView Event)
+  pub journal_called : IsHandlers begun 0 journal
+  pub replica_called : IsHandlers begun 1 replica
+  pub business_called : IsHandlers begun 2 business
+  pub many : length senders ≡ producers
+  pub each_called : (p : ℕ) (end : EndView Event) → p < producers → IsProducers begun p (slice_index_or senders p end)
+  pub went : GoesOnBy begun (length begun.entries) (halted_once ∷ journal ∷ replica ∷ business ∷ senders) h
+
+-- so from its opening on, for a replay of these events
+pub record IsOfReplay (size : ℕ) (events : List Event) (h : History Event) : Type 0 where
+  pub begun : History Event
+  pub setup : begun.core.setup ≡ lock_setup size events
+  pub fresh : begun.entries ≡ []
+  pub came : CameTo begun (producers_in events) h

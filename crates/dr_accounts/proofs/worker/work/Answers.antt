@@ -1,10 +1,14 @@
 use Rattle.std.proofs.Common.{◌≡◌, ◌<◌, ◌∙◌, ◌++◌, ℕ, zero, suc, List, [], ◌∷◌, Option, Some, Result, Err, IfOk, ap, arith, inl, inr, length, string_bytes, subst, sym, take, true}
 use Rattle.dr_seq.specs.declared.event.Event.{Event}
-use Rattle.dr_ring.specs.Calls.Ends.{received_of}
+use Rattle.dr_core.specs.Calls.Calling.{SomeCalls}
+use Rattle.dr_core.specs.Calls.Handling.{Relation}
+use Rattle.dr_ring.specs.Calls.Ends.{ReceiverEnd, received_of}
+use Rattle.dr_ring.specs.Calls.Telling.{receiver_does}
+use Rattle.dr_shared.specs.Calls.Serving.{Serves}
 use Rattle.dr_shared.specs.Meaning.Work.{HandsOut, batches_in, dealt_events}
 use Rattle.dr_shared.specs.declared.fault.WorkFault.{WorkFault}
 use Rattle.dr_shared.specs.declared.fault.WorkFault.TheVariants.{Stopped}
-use Rattle.dr_accounts.specs.Keeping.{AnswersFor, error_of}
+use Rattle.dr_accounts.specs.Keeping.{AnswersFor, IsServed, error_of}
 use Rattle.dr_accounts.proofs.Refusing.{never_refused}
 use Rattle.dr_accounts.proofs.worker.work.Goals.{in-Err-default, in-Ok-Some+in-Ok-this-2, in-Ok-Some+in-Err-1, in-Ok-None}
 use Rattle.dr_accounts.proofs.worker.work.Goals as goal
@@ -25,9 +29,16 @@ some_room (suc room) (x ∷ buffer) some there = omega arith
 shown_all : (old new : List Event) (dealt : List Event) → old ≡ [] → new ≡ old ++ dealt → dealt ≡ new
 shown_all old new dealt none is = sym (is ∙ ap (λ l. l ++ dealt) none)
 
+served_by : {A : Type 0} {goes : Relation Event A} {IsNew : A → Type 0} {may_stop must_stop : ℕ → Type 0} {given back : ReceiverEnd} {answer : Option WorkFault}
+    (start after : A) (fault : Option WorkFault) (room : ℕ) → 0 < room → IsNew start → AnswersFor fault answer
+    → SomeCalls receiver_does given back (Serves room goes start after (Some (received_of given.knows)) (Some (received_of back.knows)) may_stop must_stop fault)
+    → IsServed goes IsNew may_stop must_stop given back answer
+served_by start after fault room some new answers calls = record { start = start; after = after; fault = fault; room = room; some = some; new = new; calls = calls; answers = answers }
+
 pub returns : goal.returns
 returns g c =
-    let run = c.consume-fault in
+    let given = c.new-outlet.result in
+    let run = c.consume_with-fault in
     let part = c.match-part.part in
     let serves = run.ensures.serves in
     let batches = batches_in serves.calls in
@@ -39,7 +50,7 @@ returns g c =
     ]
     in
     let room : 0 < c.max-room.result = omega (arith, c.max-room.ensures) in
-    record {
+    rw (c.into_end.ensures, ← c.new-outlet.ensures) (record {
       place = run.ensures.kept;
       told = λ none. elim c.match-part.branch [
         | in-Err-default w ↦ where_none part _ _ w.part-is
@@ -52,8 +63,8 @@ returns g c =
         | in-Ok-Some+in-Ok-this-2 w ↦ where_none part _ _ w.part-is
         | in-Ok-Some+in-Err-1 w ↦ where_none part _ _ w.part-is
         | in-Ok-None w ↦
-            let handed : HandsOut batches (received_of c.args.receiver.knows) (received_of run.new.outlet.knows) = serves.holds.works.handed in
-            let all : dealt_events batches ≡ run.new.outlet.knows.received = shown_all c.args.receiver.knows.received run.new.outlet.knows.received (dealt_events batches) none handed.0 in
+            let handed : HandsOut batches (received_of given.knows) (received_of run.new.outlet.knows) = serves.holds.works.handed in
+            let all : dealt_events batches ≡ run.new.outlet.knows.received = shown_all given.knows.received run.new.outlet.knows.received (dealt_events batches) none handed.0 in
             let says = c.part.ensures c.begin-handler.result batches c.begin-handler.ensures.new serves.holds.works.through in
             subst (λ p. IfOk p (λ text. string_bytes text ≡ g.P.Reporter.part_of run.new.outlet.knows.received)) (sym w.part-is)
             (subst (λ p. IfOk p (λ text. string_bytes text ≡ g.P.Reporter.part_of run.new.outlet.knows.received)) w.in-Ok-None.is-0
@@ -61,14 +72,5 @@ returns g c =
       ];
       stopped = λ is. stopped_by run.result (error_of part) answers run.ensures.stopped (ap error_of is);
       refused = never_refused _ _ _ _ _ _ _ _ run.result part (some_room _ _ room (omega arith)) answers serves;
-      served = record {
-        start = c.begin-handler.result;
-        after = run.new.handler;
-        fault = run.result;
-        room = _;
-        some = some_room _ _ room (omega arith);
-        new = c.begin-handler.ensures.new;
-        calls = serves;
-        answers = answers;
-      };
-    }
+      served = served_by c.begin-handler.result run.new.handler run.result _ (some_room _ _ room (omega arith)) c.begin-handler.ensures.new answers serves;
+    })

@@ -1,8 +1,8 @@
-use Rattle.std.proofs.Common.{◌≡◌, ◌∙◌, List, Vec, Global, map, ap, string_bytes, sym}
-use Rattle.std.proofs.lemmas.List.{length-map}
+use Rattle.std.proofs.Common.{◌≡◌, ◌∙◌, List, Vec, Global, map, ap, string_bytes}
 use Rattle.dr_seq.specs.declared.event.Event.{Event}
 use Rattle.dr_replay.specs.Meaning.Scripts.{scripts_in}
-use Rattle.dr_replay.proofs.Endings.{fault_of_setup, of_setup, opened_for}
+use Rattle.dr_replay.proofs.Coming.{of_replay}
+use Rattle.dr_replay.proofs.Endings.{faults_more, reports_more}
 use Rattle.dr_replay.proofs.lock.merged.Goals as goal
 use Rattle.dr_shared.specs.Calls.Stops.{MayStop}
 
@@ -14,16 +14,16 @@ same all now events are is = ap (λ l. map (λ v. v.items) l) are ∙ is
 pub returns-clause-text : goal.returns-clause-text
 returns-clause-text g c =
     let events = c.args.events.now in
-    let many = c.len.ensures ∙ c.in_ok-scripts.scripts.ok.0 ∙ sym (length-map c.in_ok-scripts.scripts.items (λ v. v.items)) in
-    let opened = c.in_ok-recorded.ensures.setup ∙ opened_for c.args.size c.len.result events _ many c.in_ok-scripts.ensures in
-    of_setup events (λ t. string_bytes t) c.report.result opened (c.report.ensures.text events (same _ _ events c.as_slice.ensures.value c.in_ok-scripts.ensures))
+    reports_more (of_replay c.args.size c.len.result events c.in_ok-recorded.recorded.history _ _ c.as_slice.ensures.value c.in_ok-scripts.ensures c.in_ok-recorded.ensures.setup
+    (c.len.ensures ∙ c.in_ok-scripts.scripts.ok.0) c.in_ok-recorded.ensures.fresh)
+    events (λ t. string_bytes t) c.report.result (c.report.ensures.text events (same _ _ events c.as_slice.ensures.value c.in_ok-scripts.ensures))
 
 pub returns-clause-first : goal.returns-clause-first
 returns-clause-first g c =
     let events = c.args.events.now in
-    let many = c.len.ensures ∙ c.in_ok-scripts.scripts.ok.0 ∙ sym (length-map c.in_ok-scripts.scripts.items (λ v. v.items)) in
-    let opened = c.in_ok-recorded.ensures.setup ∙ opened_for c.args.size c.len.result events _ many c.in_ok-scripts.ensures in
-    fault_of_setup (MayStop g.G.Gate.may_stop c.args.gate.now) events c.report.result opened (c.report.ensures.first events (same _ _ events c.as_slice.ensures.value c.in_ok-scripts.ensures))
+    faults_more (of_replay c.args.size c.len.result events c.in_ok-recorded.recorded.history _ _ c.as_slice.ensures.value c.in_ok-scripts.ensures c.in_ok-recorded.ensures.setup
+    (c.len.ensures ∙ c.in_ok-scripts.scripts.ok.0) c.in_ok-recorded.ensures.fresh)
+    (MayStop g.G.Gate.may_stop c.args.gate.now) events c.report.result (c.report.ensures.first events (same _ _ events c.as_slice.ensures.value c.in_ok-scripts.ensures))
 
 pub returns-clause-stops : goal.returns-clause-stops
 returns-clause-stops g c =

@@ -5,17 +5,17 @@ use Rattle.dr_files.specs.Counting.{inner_of}
 use Rattle.dr_files.specs.declared.fault.FileFault.TheVariants as file
 use Rattle.dr_replay.specs.Meaning.EventFile.{events_of}
 use Rattle.dr_replay.specs.Calls.Replayed.{IsReportOfMerge, LockWrites}
-use Rattle.dr_replay.specs.Meaning.Exchange.{lock_setup}
+use Rattle.dr_replay.specs.Meaning.Exchange.{IsOfReplay}
 use Rattle.dr_replay.specs.declared.fault.ReplayFault.TheVariants as fault
 use Rattle.dr_replay.proofs.Reporting.{at_exit, cut_merge, kept_merge}
 use Rattle.dr_replay.proofs.lock.replay_lock.Goals as goal
 use Rattle.dr_shared.specs.Calls.Stops.{MayStop}
 
 -- the bytes that are written are a report of a merge of the file's events
-is_of_merge : (size : ℕ) {given events : List Event} {text bytes : List ℕ} → given ≡ events → bytes ≡ text → IsReportOfMerge (lock_setup size given) given text
-    → IsReportOfMerge (lock_setup size events) events bytes
+is_of_merge : (size : ℕ) {given events : List Event} {text bytes : List ℕ} → given ≡ events → bytes ≡ text → IsReportOfMerge (IsOfReplay size given) given text
+    → IsReportOfMerge (IsOfReplay size events) events bytes
 is_of_merge size {events} {text} same are is =
-    subst (λ l. IsReportOfMerge (lock_setup size events) events l) (sym are) (subst (λ l. IsReportOfMerge (lock_setup size l) l text) same is)
+    subst (λ l. IsReportOfMerge (IsOfReplay size events) events l) (sym are) (subst (λ l. IsReportOfMerge (IsOfReplay size l) l text) same is)
 
 pub returns-in_err-write_text-clause-bytes : goal.returns-in_err-write_text-clause-bytes
 returns-in_err-write_text-clause-bytes g c =

@@ -1,9 +1,11 @@
-use Rattle.std.proofs.Common.{◌∙◌, ap, map, string_bytes, sym}
+use Rattle.std.proofs.Common.{◌∙◌, ap, length, map, string_bytes, subst, sym}
 use Rattle.std.proofs.lemmas.List.{length-map}
 use Rattle.dr_seq.specs.declared.event.Event.{Event}
 use Rattle.dr_shared.specs.Meaning.History.{History}
 use Rattle.dr_accounts.specs.Keeping.{error_of}
-use Rattle.dr_replay.proofs.Endings.{ends_of_merge, of_setup}
+use Rattle.dr_replay.specs.Meaning.Exchange.{CameTo}
+use Rattle.dr_replay.proofs.Coming.{came}
+use Rattle.dr_replay.proofs.Endings.{ends_of_merge, reports_more}
 use Rattle.dr_replay.proofs.Heeding.{joined_heeds, where_ok}
 use Rattle.dr_replay.proofs.Stopping.{joined_stopped}
 use Rattle.dr_replay.proofs.lock.report.Goals as goal
@@ -11,13 +13,17 @@ use Rattle.dr_shared.specs.Calls.Stops.{MayStop}
 
 pub returns-clause-text : goal.returns-clause-text
 returns-clause-text g c = λ sent are.
-    of_setup sent (λ t. string_bytes t) c.settled.result (ap (λ (h : History Event). h.core.setup) (sym c.requires.begun)) (c.settled.ensures.text sent are)
+    let had = c.in_ok-ends.ensures.begun ∙ c.new-shared.ensures.begun ∙ ap (λ (h : History Event). length h.entries) c.requires.begun in
+    reports_more (λ h went. subst (λ b. CameTo b (length c.args.scripts.now) h) (sym c.requires.begun) (came _ _ _ _ c.args.scripts.now c.in_ok-ran.ran c.in_ok-ran.ensures _ had h went))
+    sent (λ t. string_bytes t) c.settled.result (c.settled.ensures.text sent are)
 
 pub returns-clause-first : goal.returns-clause-first
 returns-clause-first g c = λ sent are.
     let ran = c.in_ok-ran.ran in
-    ends_of_merge (MayStop g.G.Gate.may_stop c.args.gate.now) sent _ (error_of ran.journal.part) (error_of ran.replica.part) (error_of ran.business.part)
-    (map (λ s. s.fault) ran.producers.items) c.settled.result (ap (λ (h : History Event). h.core.setup) (sym c.requires.begun)) are
+    let had = c.in_ok-ends.ensures.begun ∙ c.new-shared.ensures.begun ∙ ap (λ (h : History Event). length h.entries) c.requires.begun in
+    ends_of_merge (λ h went. subst (λ b. CameTo b (length c.args.scripts.now) h) (sym c.requires.begun) (came _ _ _ _ c.args.scripts.now ran c.in_ok-ran.ensures _ had h went))
+    (MayStop g.G.Gate.may_stop c.args.gate.now) sent _ (error_of ran.journal.part) (error_of ran.replica.part) (error_of ran.business.part)
+    (map (λ s. s.fault) ran.producers.items) c.settled.result are
     (length-map ran.producers.items (λ s. s.fault) ∙ c.in_ok-ran.ensures.producers.many ∙ sym (length-map c.args.scripts.now (λ v. v.items)))
     (joined_stopped _ (g.G.Gate.may_stop c.args.gate.now) _ _ _ ran c.in_ok-ran.ensures) c.settled.ensures.first
 

@@ -1,6 +1,10 @@
-use Rattle.std.proofs.Common.{◌∙◌, string_bytes}
+use Rattle.std.proofs.Common.{◌∙◌, map, string_bytes, subst, sym}
 use Rattle.std.proofs.lemmas.Result.{err_from_is_err_and}
-use Rattle.dr_replay.proofs.Endings.{first_of_parts, of_setup}
+use Rattle.dr_accounts.specs.Keeping.{error_of}
+use Rattle.dr_replay.specs.Calls.Workers.{lock_endings}
+use Rattle.dr_replay.specs.Inside.LockWorkers.{ends_of}
+use Rattle.dr_replay.specs.Meaning.Exchange.{GoesOnBy}
+use Rattle.dr_replay.proofs.Endings.{ends_of_audit, first_of_parts, none_of_parts, reports_more}
 use Rattle.dr_replay.proofs.lock.settled.Goals as goal
 
 pub returns-in_err-check-clause-first : goal.returns-in_err-check-clause-first
@@ -10,4 +14,14 @@ returns-in_err-check-clause-first g c =
     c.fault_in-3.ensures (c.as_slice.ensures.value ∙ c.in_ok-recorded.ensures.faults) c.in_err-check.ensures.first)
 
 pub returns-clause-text : goal.returns-clause-text
-returns-clause-text g c = λ sent are. of_setup sent (λ t. string_bytes t) c.audited.result c.in_ok-recorded.ensures.setup (c.audited.ensures.text sent are)
+returns-clause-text g c = λ sent are.
+    reports_more (λ h same. subst (GoesOnBy g.L.Exchange.begun c.args.shared.begun (ends_of c.args.ran)) (sym same) c.in_ok-recorded.ensures.history)
+    sent (λ t. string_bytes t) c.audited.result (c.audited.ensures.text sent are)
+
+pub returns-clause-first : goal.returns-clause-first
+returns-clause-first g c =
+    ends_of_audit (λ h same. subst (GoesOnBy g.L.Exchange.begun c.args.shared.begun (ends_of c.args.ran)) (sym same) c.in_ok-recorded.ensures.history)
+    (lock_endings (error_of c.args.ran.journal.part) (error_of c.args.ran.replica.part) (error_of c.args.ran.business.part) (map (λ s. s.fault) c.args.ran.producers.items))
+    (map (λ v. v.items) c.args.scripts.now) c.audited.result
+    (none_of_parts c.fault_in.ensures c.fault_in-2.ensures c.fault_in-3.ensures (c.as_slice.ensures.value ∙ c.in_ok-recorded.ensures.faults) c.in_ok-check.ensures.fine)
+    c.audited.ensures.fault

@@ -12,7 +12,7 @@ returns-in_err-write_text-clause-bytes g c =
     let input = g.R.Read.remaining (inner_of c.args.reader.now) in
     let old = g.W.Write.contents (inner_of c.args.writer.now) in
     let new = g.W.Write.contents (inner_of c.write_text.new.writer) in
-    let same = c.as_bytes.ensures.value ∙ c.in_ok-text.ensures ∙ ap report_of c.as_slice.ensures.value in
+    let same = c.as_bytes.ensures.value ∙ c.in_ok-text.ensures.text ∙ ap report_of c.as_slice.ensures.value in
     at_exit c.from_residual-in_err-write_text.result file.Write
     (λ r. IfSome input (λ bytes. RunWrites r old new (replay_text bytes)))
     c.from_residual-in_err-write_text.ensures.1

@@ -4,13 +4,13 @@ use Rattle.dr_replay.proofs.ring.served.Goals as goal
 pub returns-clause-sending : goal.returns-clause-sending
 returns-clause-sending g c =
     let sent = c.sent-produced in
-    let close = c.close-done in
-    record {
-      place = close.ensures.done.place ∙ sent.ensures.place;
-      published = close.ensures.done.published ∙ sent.ensures.published;
+    let close = rw c.into_end-sender.ensures at c.close.ensures in
+    rw (← c.new-live.ensures) (record {
+      place = close.place ∙ sent.ensures.place;
+      published = close.published ∙ sent.ensures.published;
       all = sent.ensures.all;
       stopped = sent.ensures.stopped;
       done = sent.new.sender;
       calls = sent.ensures.calls;
-      closes = close.ensures.done;
-    }
+      closes = close;
+    })

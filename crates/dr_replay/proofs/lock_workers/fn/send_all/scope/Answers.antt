@@ -64,5 +64,6 @@ returns g c =
           let kept = (c.in_ok-join_promised.ensures.each p s (omega arith)).1 in
           let place = c.loop-end.invariant.2 p kept.handle (omega arith) in
           sent_by g.L.Exchange.begun g.G.Gate.may_stop g.G.Gate.must_stop c.captures.around.now.gate.now (max (c.captures.around.now.size / 4) 1) c.captures.scripts.now kept.handle.promise p script
-          _ _ (subst (λ (h : PromisedHandle (Delivered g.row.L.Denot) (SentBy g.row.G.Denot)). IsPromised c.captures.around.now.gate.now (max (c.captures.around.now.size / 4) 1) c.captures.scripts.now h.promise p) (sym kept.handle_is) place) kept.kept;
+          _ _ (subst (λ (h : PromisedHandle (Delivered g.row.L.Denot) (SentBy g.row.G.Denot)). IsPromised c.captures.around.now.gate.now (max (c.captures.around.now.size / 4) 1) c.captures.scripts.now h.promise p)
+          {x = get_or c.loop-end.started.items p kept.handle} {y = kept.handle} (sym {b = get_or c.loop-end.started.items p kept.handle} kept.handle_is) place) kept.kept;
     }
