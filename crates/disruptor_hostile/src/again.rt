@@ -5,7 +5,7 @@ macro_rules! again {
     ($rt:expr, $no_memory:pat, $call:expr) => {
         match $call {
             $no_memory => {
-                println!($rt; "no-memory")?;
+                crate::telling::tell_words($rt, "no-memory")?;
                 $call
             }
             answered => answered,

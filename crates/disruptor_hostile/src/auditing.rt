@@ -4,6 +4,7 @@ use crate::again::again;
 use crate::core_calls::write;
 use crate::fault::Fault;
 use crate::recording::{call, recorded};
+use crate::telling::{tell_value, tell_words};
 use dr_core::Command;
 use dr_core::Command::{Claim, Poll, Publish};
 use dr_seq::Event;
@@ -57,11 +58,6 @@ fn sent(alloc: Global) -> Result<Recorded<Event>, Fault> {
     Ok(recorded)
 }
 
-fn tell_list<R: Print>(rt: &R, list: &[Event]) -> Result<(), Fault> {
-    println!(rt; "{list:?}")?;
-    Ok(())
-}
-
 fn tell_audit<R: Print>(
     rt: &R,
     alloc: Global,
@@ -73,12 +69,9 @@ fn tell_audit<R: Print>(
         Err(AuditFault::NoMemory),
         audit(alloc, recorded, scripts)
     ) {
-        Ok(list) => tell_list(rt, list.as_slice()),
+        Ok(list) => tell_value(rt, list.as_slice()),
         Err(AuditFault::NoMemory) => Err(Fault::Memory),
-        Err(fault) => {
-            println!(rt; "{fault}")?;
-            Ok(())
-        }
+        Err(fault) => tell_words(rt, fault.name()),
     }
 }
 

@@ -3,6 +3,7 @@
 use crate::again::again;
 use crate::fault::Fault;
 use crate::graphs::{diamond, side_by_side};
+use crate::telling::{tell_both, tell_value};
 use dr_core::Command::{Claim, Poll, Publish, Write};
 use dr_core::{Command, Core, MAX_LIMIT, Mode, Ran, run};
 use dr_seq::{Event, Size};
@@ -29,14 +30,14 @@ pub fn opened(alloc: Global, mode: Mode) -> Result<Core<Event>, Fault> {
 fn tell_core_of<R: Print>(rt: &R, core: &mut Core<Event>) -> Result<(), Fault> {
     let mut out = [Event::NONE; 4];
     let claimed = core.claim(0, 3)?;
-    println!(rt; "{claimed:?}")?;
+    tell_value(rt, claimed)?;
     for s in 0..3 {
         core.write(0, s, word(s))?;
     }
     core.publish(0, 0, 2)?;
     for h in [0, 1, 2] {
         let polled = core.poll_into(h, &mut out)?;
-        println!(rt; "{polled:?} {out:?}")?;
+        tell_both(rt, polled, out)?;
     }
     Ok(())
 }
@@ -75,11 +76,9 @@ fn commands() -> [Command<Event>; 9] {
 
 fn tell_ran<R: Print>(rt: &R, ran: &Ran<Event>) -> Result<(), Fault> {
     for reply in &ran.replies {
-        println!(rt; "{reply:?}")?;
+        tell_value(rt, *reply)?;
     }
-    let values = ran.values.as_slice();
-    println!(rt; "{values:?}")?;
-    Ok(())
+    tell_value(rt, ran.values.as_slice())
 }
 
 fn tell_run_over<R: Print>(rt: &R, alloc: Global, core: &mut Core<Event>) -> Result<(), Fault> {

@@ -15,6 +15,7 @@ mod parts;
 mod recording;
 mod ring_calls;
 mod taking_none;
+mod telling;
 
 use cases::{Case, tell};
 use fault::Fault;

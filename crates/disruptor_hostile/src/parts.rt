@@ -7,6 +7,7 @@ use crate::core_calls::word;
 use crate::fault::Fault;
 use crate::graphs::{diamond, tell_graph};
 use crate::taking_none::tell_memory;
+use crate::telling::{tell_both, tell_value, tell_words};
 use dr_graph::Graph;
 use dr_seq::{Event, GateCache, Rounds, Size, Slots};
 use std::alloc::Global;
@@ -17,13 +18,12 @@ fn tell_slots<R: Print>(rt: &R, slots: &mut Slots<Event>) -> Result<(), Fault>
     slots.put(2, word(2));
     slots.put(3, word(3));
     slots.put(4, word(4));
-    println!(rt; "{:?}", slots.get(6))?;
+    tell_value(rt, slots.get(6))?;
     let (head, rest) = slots.slices(2, 3);
-    println!(rt; "{head:?} {rest:?}")?;
+    tell_both(rt, head, rest)?;
     let mut out = [Event::NONE; 3];
     slots.copy_to(3, &mut out);
-    println!(rt; "{out:?}")?;
-    Ok(())
+    tell_value(rt, out)
 }
 
 fn tell_rounds<R: Print>(rt: &R, rounds: &mut Rounds) -> Result<(), Fault>
@@ -31,7 +31,7 @@ fn tell_rounds<R: Print>(rt: &R, rounds: &mut Rounds) -> Result<(), Fault>
 {
     rounds.mark(2);
     rounds.mark(3);
-    println!(rt; "{} {}", rounds.is_marked(2), rounds.is_marked(6))?;
+    tell_both(rt, rounds.is_marked(2), rounds.is_marked(6))?;
     println!(rt; "marked from 2 up to {}", rounds.front(2, 6))?;
     Ok(())
 }
@@ -45,14 +45,13 @@ fn tell_gate<R: Print>(rt: &R) -> Result<(), Fault> {
 
 fn tell_finals<R: Print>(rt: &R, graph: &Graph) -> Result<(), Fault> {
     for h in 0..graph.len() {
-        println!(rt; "{}", graph.is_final(h))?;
+        tell_value(rt, graph.is_final(h))?;
     }
     let gone = [false, true, false];
     if graph.len() == gone.len() {
-        println!(rt; "{}", graph.is_final_without(2, &gone))?;
+        tell_value(rt, graph.is_final_without(2, &gone))?;
     }
-    println!(rt; "{:?}", graph.position("b"))?;
-    Ok(())
+    tell_value(rt, graph.position("b"))
 }
 
 fn tell_all<R: Print>(
@@ -65,7 +64,7 @@ fn tell_all<R: Print>(
     requires slots { length slots.old ≡ 4 }
     requires rounds { length rounds.old ≡ 4 }
 {
-    println!(rt; "open")?;
+    tell_words(rt, "open")?;
     println!(rt;
         "slot {} in round {} of {}",
         size.slot(6),

@@ -7,6 +7,7 @@ use crate::again::again;
 use crate::core_calls::write;
 use crate::fault::Fault;
 use crate::graphs::side_by_side;
+use crate::telling::{tell_both, tell_value};
 use dr_core::Command::{Claim, Complete, Halt, Poll, Publish, Retire};
 use dr_core::{Command, MAX_LIMIT, Mode, Reply};
 use dr_seq::{Event, Size};
@@ -83,8 +84,7 @@ fn tell_beginning<R: Print>(rt: &R, recorded: &mut Recorded<Event>) -> Result<()
     println!(rt; "{entries} entries, {producers} producers, {handlers} handlers")?;
     let mut out = [Event::NONE; 8];
     let reply = call(recorded, Claim { p: 1, n: 4 }, &mut out)?;
-    println!(rt; "{reply:?}")?;
-    Ok(())
+    tell_value(rt, reply)
 }
 
 /// Opens a history, whose graph is spent each time, and tells how it begins.
@@ -100,9 +100,7 @@ fn tell_call<R: Print>(
 ) -> Result<(), Fault> {
     let mut out = [Event::NONE; 8];
     let reply = again!(rt, Err(Fault::Memory), call(recorded, command, &mut out))?;
-    let kept = recorded.history().len();
-    println!(rt; "{reply:?} {kept}")?;
-    Ok(())
+    tell_both(rt, reply, recorded.history().len())
 }
 
 fn tell_calls_of<R: Print>(rt: &R, recorded: &mut Recorded<Event>) -> Result<(), Fault> {
@@ -110,11 +108,9 @@ fn tell_calls_of<R: Print>(rt: &R, recorded: &mut Recorded<Event>) -> Result<(),
         tell_call(rt, recorded, command)?;
     }
     for entry in recorded.history() {
-        println!(rt; "{entry:?}")?;
+        tell_value(rt, *entry)?;
     }
-    let values = recorded.values();
-    println!(rt; "{values:?}")?;
-    Ok(())
+    tell_value(rt, recorded.values())
 }
 
 /// Makes calls of a history that has no room to begin with, and tells what it kept.

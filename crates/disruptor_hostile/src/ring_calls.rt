@@ -4,6 +4,7 @@ use crate::again::again;
 use crate::core_calls::word;
 use crate::fault::Fault;
 use crate::graphs::{diamond, tell_graph};
+use crate::telling::{tell_both, tell_value};
 use dr_core::MAX_LIMIT;
 use dr_graph::{Graph, GraphFault};
 use dr_ring::{Halter, Receiver, RingFault, Sender, ring};
@@ -12,7 +13,7 @@ use std::alloc::Global;
 
 fn send<R: Print>(rt: &R, sender: &mut Sender) -> Result<(), Fault> {
     let claimed = sender.try_claim(2)?;
-    println!(rt; "{claimed:?}")?;
+    tell_value(rt, claimed)?;
     sender.write(0, word(4))?;
     sender.write(1, word(5))?;
     sender.publish(0, 1)?;
@@ -22,14 +23,14 @@ fn send<R: Print>(rt: &R, sender: &mut Sender) -> Result<(), Fault> {
 fn receive<R: Print>(rt: &R, receiver: &mut Receiver) -> Result<(), Fault> {
     let mut out = [Event::NONE; 4];
     let polled = receiver.poll_into(&mut out)?;
-    println!(rt; "{polled:?} {out:?}")?;
+    tell_both(rt, polled, out)?;
     receiver.complete(2)?;
     Ok(())
 }
 
 fn tell_polls<R: Print>(rt: &R, receivers: &mut [Receiver]) -> Result<(), Fault> {
     for receiver in receivers.iter_mut() {
-        println!(rt; "{:?}", receiver.poll_into(&mut [Event::NONE]))?;
+        tell_value(rt, receiver.poll_into(&mut [Event::NONE]))?;
     }
     Ok(())
 }
@@ -45,7 +46,7 @@ fn send_and_close<R: Print>(
         receive(rt, receiver)?;
     }
     halter.halt();
-    println!(rt; "{:?}", sender.try_claim(1))?;
+    tell_value(rt, sender.try_claim(1))?;
     sender.close()?;
     tell_polls(rt, receivers)
 }

@@ -5,6 +5,7 @@ use crate::core_calls::{opened, word};
 use crate::fault::Fault;
 use crate::graphs::diamond;
 use crate::recording::{call, commands, recorded};
+use crate::telling::{tell_both, tell_value, tell_words};
 use dr_core::{Command, Core, Handler, MAX_LIMIT, Mode, processor_turn};
 use dr_ring::{Halter, Receiver, Sender, ring};
 use dr_seq::{Event, Size};
@@ -30,51 +31,47 @@ impl Handler<Event> for Count {
 /// Asks for memory, and tells whether there was any.
 pub fn tell_memory<R: Print>(rt: &R, alloc: Global) -> Result<(), Fault> {
     match Vec::<u64>::with_capacity(alloc, 1) {
-        Ok(_) => println!(rt; "memory")?,
-        Err(_) => println!(rt; "no-memory")?,
+        Ok(_) => tell_words(rt, "memory"),
+        Err(_) => tell_words(rt, "no-memory"),
     }
-    Ok(())
 }
 
 fn tell_sending<R: Print>(rt: &R, core: &mut Core<Event>) -> Result<(), Fault> {
-    println!(rt; "{:?}", core.claim(0, 2))?;
-    println!(rt; "{:?}", core.claim(1, 3))?;
-    println!(rt; "{:?}", core.claim(2, 1))?;
-    println!(rt; "{:?}", core.write(0, 0, word(4)))?;
-    println!(rt; "{:?}", core.write(1, 1, word(5)))?;
-    println!(rt; "{:?}", core.write(0, 1, word(5)))?;
-    println!(rt; "{:?}", core.publish(0, 0, 1))?;
-    println!(rt; "{:?}", core.publish(0, 0, 1))?;
+    tell_value(rt, core.claim(0, 2))?;
+    tell_value(rt, core.claim(1, 3))?;
+    tell_value(rt, core.claim(2, 1))?;
+    tell_value(rt, core.write(0, 0, word(4)))?;
+    tell_value(rt, core.write(1, 1, word(5)))?;
+    tell_value(rt, core.write(0, 1, word(5)))?;
+    tell_value(rt, core.publish(0, 0, 1))?;
+    tell_value(rt, core.publish(0, 0, 1))?;
     Ok(())
 }
 
 fn tell_receiving<R: Print>(rt: &R, core: &mut Core<Event>) -> Result<(), Fault> {
     let mut out = [Event::NONE; 4];
-    println!(rt; "{:?}", core.ready(0))?;
-    println!(rt; "{:?}", core.poll_into(0, &mut out))?;
-    println!(rt; "{:?}", core.poll_into(2, &mut out))?;
-    println!(rt; "{:?}", core.complete(0, 2))?;
-    println!(rt; "{:?}", core.complete(0, 3))?;
+    tell_value(rt, core.ready(0))?;
+    tell_value(rt, core.poll_into(0, &mut out))?;
+    tell_value(rt, core.poll_into(2, &mut out))?;
+    tell_value(rt, core.complete(0, 2))?;
+    tell_value(rt, core.complete(0, 3))?;
     let mut count = Count { shown: 0 };
-    println!(rt; "{:?}", processor_turn(core, 1, &mut count, &mut out))?;
-    println!(rt; "{count:?}")?;
-    println!(rt;
-        "{:?}",
-        core.execute(Command::Poll { h: 2, max: 4 }, &mut out)
-    )?;
-    println!(rt; "{out:?}")?;
-    println!(rt; "{:?}", core.retire(0))?;
-    println!(rt; "{:?}", core.retire(2))?;
+    tell_value(rt, processor_turn(core, 1, &mut count, &mut out))?;
+    tell_value(rt, count)?;
+    tell_value(rt, core.execute(Command::Poll { h: 2, max: 4 }, &mut out))?;
+    tell_value(rt, out)?;
+    tell_value(rt, core.retire(0))?;
+    tell_value(rt, core.retire(2))?;
     core.halt();
-    println!(rt; "{:?}", core.claim(0, 1))?;
-    println!(rt; "{:?}", core.poll_into(1, &mut out))?;
+    tell_value(rt, core.claim(0, 1))?;
+    tell_value(rt, core.poll_into(1, &mut out))?;
     Ok(())
 }
 
 fn tell_counts<R: Print>(rt: &R, core: &Core<Event>) -> Result<(), Fault> {
     println!(rt; "{} of {} claimed", core.next(), core.size().get())?;
     println!(rt; "{} in front of {}", core.front(), core.producers())?;
-    println!(rt; "{}", core.is_halted())?;
+    tell_value(rt, core.is_halted())?;
     for h in 0..core.graph().len() {
         println!(rt;
             "{} {} {}",
@@ -83,12 +80,11 @@ fn tell_counts<R: Print>(rt: &R, core: &Core<Event>) -> Result<(), Fault> {
             core.is_retired(h)
         )?;
     }
-    println!(rt; "{:?}", core.graph().position("c"))?;
-    Ok(())
+    tell_value(rt, core.graph().position("c"))
 }
 
 fn tell_calls_of_core<R: Print>(rt: &R, core: &mut Core<Event>) -> Result<(), Fault> {
-    println!(rt; "open")?;
+    tell_words(rt, "open")?;
     tell_sending(rt, core)?;
     tell_receiving(rt, core)?;
     tell_counts(rt, core)
@@ -102,26 +98,26 @@ pub fn tell_core<R: Print>(rt: &R, alloc: Global) -> Result<(), Fault> {
 }
 
 fn tell_sender<R: Print>(rt: &R, sender: &mut Sender) -> Result<(), Fault> {
-    println!(rt; "{:?}", sender.try_claim(2))?;
-    println!(rt; "{:?}", sender.try_claim(3))?;
-    println!(rt; "{:?}", sender.close())?;
-    println!(rt; "{:?}", sender.write(0, word(4)))?;
-    println!(rt; "{:?}", sender.write(1, word(5)))?;
-    println!(rt; "{:?}", sender.write(2, word(6)))?;
-    println!(rt; "{:?}", sender.publish(1, 1))?;
-    println!(rt; "{:?}", sender.publish(0, 1))?;
+    tell_value(rt, sender.try_claim(2))?;
+    tell_value(rt, sender.try_claim(3))?;
+    tell_value(rt, sender.close())?;
+    tell_value(rt, sender.write(0, word(4)))?;
+    tell_value(rt, sender.write(1, word(5)))?;
+    tell_value(rt, sender.write(2, word(6)))?;
+    tell_value(rt, sender.publish(1, 1))?;
+    tell_value(rt, sender.publish(0, 1))?;
     println!(rt; "looked {}", sender.looks() > 0)?;
     Ok(())
 }
 
 fn tell_receiver<R: Print>(rt: &R, receiver: &mut Receiver) -> Result<(), Fault> {
     let mut out = [Event::NONE; 4];
-    println!(rt; "{:?}", receiver.poll_into(&mut []))?;
-    println!(rt; "{:?}", receiver.poll_into(&mut out[..1]))?;
-    println!(rt; "{:?}", receiver.poll_into(&mut out))?;
-    println!(rt; "{:?}", receiver.complete(3))?;
-    println!(rt; "{:?}", receiver.complete(2))?;
-    println!(rt; "{:?}", receiver.poll_into(&mut out))?;
+    tell_value(rt, receiver.poll_into(&mut []))?;
+    tell_value(rt, receiver.poll_into(&mut out[..1]))?;
+    tell_value(rt, receiver.poll_into(&mut out))?;
+    tell_value(rt, receiver.complete(3))?;
+    tell_value(rt, receiver.complete(2))?;
+    tell_value(rt, receiver.poll_into(&mut out))?;
     println!(rt; "{out:?} looked {}", receiver.looks() > 0)?;
     Ok(())
 }
@@ -133,10 +129,10 @@ fn tell_end<R: Print>(
     halter: &mut Halter,
 ) -> Result<(), Fault> {
     halter.halt();
-    println!(rt; "{:?}", sender.try_claim(1))?;
-    println!(rt; "{:?}", sender.close())?;
+    tell_value(rt, sender.try_claim(1))?;
+    tell_value(rt, sender.close())?;
     for receiver in receivers.iter_mut() {
-        println!(rt; "{:?}", receiver.poll_into(&mut [Event::NONE]))?;
+        tell_value(rt, receiver.poll_into(&mut [Event::NONE]))?;
     }
     Ok(())
 }
@@ -147,7 +143,7 @@ fn tell_calls_of_ends<R: Print>(
     receivers: &mut [Receiver],
     halter: &mut Halter,
 ) -> Result<(), Fault> {
-    println!(rt; "open")?;
+    tell_words(rt, "open")?;
     tell_sender(rt, sender)?;
     for receiver in receivers.iter_mut() {
         tell_receiver(rt, receiver)?;
@@ -165,14 +161,14 @@ pub fn tell_ends<R: Print>(rt: &R, alloc: Global) -> Result<(), Fault> {
 }
 
 fn tell_calls_kept<R: Print>(rt: &R, recorded: &mut Recorded<Event>) -> Result<(), Fault> {
-    println!(rt; "open")?;
+    tell_words(rt, "open")?;
     for command in commands() {
         let mut out = [Event::NONE; 8];
         let reply = call(recorded, command, &mut out)?;
-        println!(rt; "{reply:?}")?;
+        tell_value(rt, reply)?;
     }
     let kept = recorded.history().len();
-    println!(rt; "{kept} {:?}", recorded.values())?;
+    tell_both(rt, kept, recorded.values())?;
     Ok(())
 }
 

@@ -1,12 +1,29 @@
-//! Tests of `dr_drive` and `dr_replay` by their public calls, of what no clause says: that runs over streams that fail, and
-//! replays whose workers are stopped, end as they are to.
+//! Tests of `dr_drive`, `dr_replay` and the small crates by their public calls, of what no clause says: that calls succeed
+//! with ample memory, printed texts, worked rows, and that runs over streams that fail, and replays whose workers are
+//! stopped, end as they are to.
 #![tactic(auto)]
 
+#[cfg(test)]
+mod accounts;
+#[cfg(test)]
+mod checks;
+#[cfg(test)]
+mod command_lines;
 #[cfg(test)]
 mod drive;
 #[cfg(test)]
 mod ended;
 #[cfg(test)]
+mod files;
+#[cfg(test)]
+mod graphs;
+#[cfg(test)]
+mod records;
+#[cfg(test)]
+mod refusals;
+#[cfg(test)]
 mod replay;
+#[cfg(test)]
+mod slots;
 #[cfg(test)]
 mod streams;

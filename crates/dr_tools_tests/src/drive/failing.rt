@@ -1,5 +1,6 @@
 //! Runs whose reader or writer fails at its k-th call, for every k until a run meets no failure.
 
+use crate::checks::check_at;
 use crate::ended::Ended;
 use crate::streams::{Slow, ends_as, failing_at, is_left, is_left_whole, slow_at, whole_at};
 use dr_drive::drive;
@@ -25,10 +26,8 @@ fn read_ends_so(alloc: Global, fails_at: u64, meets: bool) -> bool {
 #[test]
 fn reads_that_fail(rt: HostRuntime) {
     for fails_at in 1..6 {
-        assert!(rt;
-            read_ends_so(rt.alloc(), fails_at, fails_at < 5),
-            "at {fails_at}"
-        );
+        let is_right = read_ends_so(rt.alloc(), fails_at, fails_at < 5);
+        check_at(&rt, is_right, fails_at);
     }
 }
 
@@ -48,17 +47,24 @@ fn write_ends_so(alloc: Global, fails_at: u64, takes_nothing: bool) -> bool {
 #[test]
 fn writes_that_fail(rt: HostRuntime) {
     for fails_at in 1..22 {
-        assert!(rt; write_ends_so(rt.alloc(), fails_at, false), "at {fails_at}");
-        assert!(rt; write_ends_so(rt.alloc(), fails_at, true), "at {fails_at}");
+        check_at(&rt, write_ends_so(rt.alloc(), fails_at, false), fails_at);
+        check_at(&rt, write_ends_so(rt.alloc(), fails_at, true), fails_at);
     }
+}
+
+fn whole_write_ends_so(alloc: Global, fails_at: u64, taken: &str) -> bool {
+    let (ended, writer) = drive_into(alloc, whole_at(alloc, fails_at));
+    is_left_whole(ended, writer, taken.as_bytes(), taken == OUTPUT)
 }
 
 // A writer that takes whole pieces is called once a line, and not after it failed. The third call is the flush.
 #[test]
 fn whole_writes_that_fail(rt: HostRuntime) {
     for (fails_at, taken) in [(1, ""), (2, "claimed 0 0\n"), (3, OUTPUT)] {
-        let (ended, writer) = drive_into(rt.alloc(), whole_at(rt.alloc(), fails_at));
-        let is_right = is_left_whole(ended, writer, taken.as_bytes(), taken == OUTPUT);
-        assert!(rt; is_right, "at {fails_at}");
+        check_at(
+            &rt,
+            whole_write_ends_so(rt.alloc(), fails_at, taken),
+            fails_at,
+        );
     }
 }

@@ -1,14 +1,18 @@
 //! Replays with threads, over the ring and behind the lock: workers that run at the same time, and workers
 //! that are stopped.
 
-use crate::replay::ways::{Replayed, WITH_THREADS, by_plain, replay_by};
+use crate::replay::ways::{Replayed, WITH_THREADS, Way, by_plain, replay_by};
 use dr_core::Refusal;
 use dr_files::FileFault;
 use dr_replay::ReplayFault;
+use dr_seq::Size;
 use dr_shared::{AuditFault, Gate, GateAnswer, WorkFault};
+use std::alloc::Global;
+use std::process::Abort;
+use std::sync::Wait;
 use std::sync::atomic::{AtomicU64, Ordering};
 use std::test::Fail;
-use std::thread;
+use std::thread::{self, Threads};
 
 // Ten deposits, on the accounts 1 to 10.
 const TEN: &str =
@@ -51,16 +55,27 @@ impl Gate for Both {
     }
 }
 
+fn check_both(
+    rt: &(impl Threads + Wait + Sync + Abort),
+    alloc: Global,
+    by: Way,
+    size: Size,
+    wanted: &[u8],
+) {
+    let gate = Both {
+        journal: AtomicU64::new(0),
+        replica: AtomicU64::new(0),
+    };
+    let replayed = replay_by(rt, alloc, by, TEN, size, &gate);
+    assert!(rt; replayed.result.is_ok() && replayed.output.as_slice() == wanted);
+}
+
 #[test]
 fn both_at_once(rt: HostRuntime) -> Result<(), Fail> {
+    let size = Size::new(2)?;
+    let wanted = by_plain(rt.alloc(), TEN, size)?;
     for by in WITH_THREADS {
-        let gate = Both {
-            journal: AtomicU64::new(0),
-            replica: AtomicU64::new(0),
-        };
-        let replayed = replay_by(&rt, rt.alloc(), by, TEN, 2, &gate)?;
-        replayed.result?;
-        assert!(rt; replayed.output == by_plain(rt.alloc(), TEN, 2)?);
+        check_both(&rt, rt.alloc(), by, size, wanted.as_slice());
     }
     Ok(())
 }
@@ -87,6 +102,12 @@ impl Gate for StopsAt {
     }
 }
 
+impl StopsAt {
+    fn has_passed(&self, times: u64) -> bool {
+        self.passed.load(Ordering::SeqCst) == times
+    }
+}
+
 fn stops_at(who: usize, turn: u64) -> StopsAt {
     StopsAt {
         who,
@@ -101,14 +122,25 @@ fn is_stopped(replayed: &Replayed, at: usize) -> bool {
     is_answered && replayed.output.is_empty()
 }
 
+fn check_stopped(
+    rt: &(impl Threads + Wait + Sync + Abort),
+    alloc: Global,
+    by: Way,
+    size: Size,
+    at: usize,
+    turn: u64,
+) {
+    let gate = stops_at(at, turn);
+    let replayed = replay_by(rt, alloc, by, TEN, size, &gate);
+    assert!(rt; is_stopped(&replayed, at) && gate.has_passed(turn.wrapping_add(1)));
+}
+
 #[test]
 fn workers_that_are_stopped(rt: HostRuntime) -> Result<(), Fail> {
+    let size = Size::new(2)?;
     for by in WITH_THREADS {
         for (at, turn) in [(0, 0), (0, 1), (1, 1), (2, 1), (16, 1)] {
-            let gate = stops_at(at, turn);
-            let replayed = replay_by(&rt, rt.alloc(), by, TEN, 2, &gate)?;
-            assert!(rt; is_stopped(&replayed, at));
-            assert_eq!(rt; gate.passed.load(Ordering::SeqCst), turn + 1);
+            check_stopped(&rt, rt.alloc(), by, size, at, turn);
         }
     }
     Ok(())
@@ -130,9 +162,10 @@ impl Gate for StopsFrom {
 
 #[test]
 fn several_that_are_stopped(rt: HostRuntime) -> Result<(), Fail> {
+    let size = Size::new(4)?;
     for by in WITH_THREADS {
         for least in [0, 1, 2] {
-            let replayed = replay_by(&rt, rt.alloc(), by, TEN, 4, &StopsFrom(least))?;
+            let replayed = replay_by(&rt, rt.alloc(), by, TEN, size, &StopsFrom(least));
             assert!(rt; is_stopped(&replayed, least));
         }
     }
@@ -152,18 +185,41 @@ impl Gate for StopsTwo {
     }
 }
 
+fn check_least(
+    rt: &(impl Threads + Wait + Sync + Abort),
+    alloc: Global,
+    by: Way,
+    size: Size,
+    who: usize,
+    least: usize,
+) {
+    let gate = StopsTwo(stops_at(who, 0), stops_at(least, 4));
+    let replayed = replay_by(rt, alloc, by, TEN, size, &gate);
+    assert!(rt; is_stopped(&replayed, least) && gate.0.has_passed(1) && gate.1.has_passed(5));
+}
+
 // The least worker is answered, also where it was stopped long after the other.
 #[test]
 fn two_that_are_stopped(rt: HostRuntime) -> Result<(), Fail> {
+    let size = Size::new(2)?;
     for by in WITH_THREADS {
         for (who, least) in [(16, 0), (2, 1)] {
-            let gate = StopsTwo(stops_at(who, 0), stops_at(least, 4));
-            let replayed = replay_by(&rt, rt.alloc(), by, TEN, 2, &gate)?;
-            assert!(rt; is_stopped(&replayed, least));
-            assert_eq!(rt; gate.0.passed.load(Ordering::SeqCst), 1);
-            assert_eq!(rt; gate.1.passed.load(Ordering::SeqCst), 5);
+            check_least(&rt, rt.alloc(), by, size, who, least);
         }
     }
+    Ok(())
+}
+
+fn check_fault(
+    rt: &impl Abort,
+    alloc: Global,
+    fault: &ReplayFault,
+    line: &str,
+    status: u8,
+) -> Result<(), Fail> {
+    let text = fault.to_string(alloc)?;
+    let is_right = text.as_str() == line && fault.status() == status;
+    assert!(rt; is_right, "{line}");
     Ok(())
 }
 
@@ -190,11 +246,7 @@ fn lines_of_faults(rt: HostRuntime) -> Result<(), Fail> {
         ),
     ];
     for (fault, line, status) in &rows {
-        let text = fault.to_string(rt.alloc())?;
-        assert!(rt;
-            text.as_str() == *line && fault.status() == *status,
-            "{line}"
-        );
+        check_fault(&rt, rt.alloc(), fault, *line, *status)?;
     }
     Ok(())
 }

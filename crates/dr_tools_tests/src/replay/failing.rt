@@ -1,9 +1,11 @@
 //! Replays, by each way, whose reader or writer fails at its k-th call, for every k until a replay meets no
 //! failure.
 
+use crate::checks::check_at;
 use crate::ended::Ended;
 use crate::replay::ways::{ALL, Streamed, Way, replay_streams};
 use crate::streams::{ends_as, failing_at, is_left, is_left_whole, slow_at, whole_at};
+use dr_seq::Size;
 use dr_shared::OpenGate;
 use std::alloc::Global;
 use std::process::Abort;
@@ -26,31 +28,33 @@ fn meets_failed_read(
     rt: &(impl Threads + Wait + Sync),
     alloc: Global,
     by: Way,
+    size: Size,
     fails_at: u64,
-) -> Result<Option<bool>, Fail> {
+) -> Option<bool> {
     let input = failing_at(INPUT, fails_at);
     let Streamed {
         reader,
         writer,
         result,
-    } = replay_streams(rt, alloc, by, input, Vec::new(alloc), 2, &OpenGate)?;
+    } = replay_streams(rt, alloc, by, input, Vec::new(alloc), size, &OpenGate);
     let ended = Ended::of_replay(result);
     let meets = !ended.is_well();
     let wanted = if meets { "" } else { OUTPUT };
     let output = writer.into_inner();
     let is_written = output.as_slice() == wanted.as_bytes();
     let is_right = is_written && ended.is_read() == meets && is_left(reader, meets);
-    Ok(if is_right { Some(meets) } else { None })
+    if is_right { Some(meets) } else { None }
 }
 
 fn check_reads(
     rt: &(impl Abort + Threads + Wait + Sync),
     alloc: Global,
     by: Way,
+    size: Size,
 ) -> Result<(), Fail> {
     for fails_at in 1..MOST_CALLS {
-        let meets = meets_failed_read(rt, alloc, by, fails_at)?;
-        assert!(rt; meets.is_some(), "at {fails_at}");
+        let meets = meets_failed_read(rt, alloc, by, size, fails_at);
+        check_at(rt, meets.is_some(), fails_at);
         if meets == Some(false) {
             // One call for each record, and one that finds the end.
             assert!(rt; fails_at == 4);
@@ -62,8 +66,9 @@ fn check_reads(
 
 #[test]
 fn reads_that_fail(rt: HostRuntime) -> Result<(), Fail> {
+    let size = Size::new(2)?;
     for by in ALL {
-        check_reads(&rt, rt.alloc(), by)?;
+        check_reads(&rt, rt.alloc(), by, size)?;
     }
     Ok(())
 }
@@ -74,9 +79,10 @@ fn meets_failed_write(
     rt: &(impl Threads + Wait + Sync),
     alloc: Global,
     by: Way,
+    size: Size,
     fails_at: u64,
     takes_nothing: bool,
-) -> Result<Option<bool>, Fail> {
+) -> Option<bool> {
     let output = slow_at(alloc, fails_at, takes_nothing);
     let Streamed { writer, result, .. } = replay_streams(
         rt,
@@ -84,21 +90,22 @@ fn meets_failed_write(
         by,
         INPUT.as_bytes(),
         output,
-        2,
+        size,
         &OpenGate,
-    )?;
-    Ok(ends_as(Ended::of_replay(result), writer, OUTPUT.as_bytes()))
+    );
+    ends_as(Ended::of_replay(result), writer, OUTPUT.as_bytes())
 }
 
 fn check_writes(
     rt: &(impl Abort + Threads + Wait + Sync),
     alloc: Global,
     by: Way,
+    size: Size,
 ) -> Result<(), Fail> {
     for fails_at in 1..MOST_CALLS {
-        let fails = meets_failed_write(rt, alloc, by, fails_at, false)?;
-        let takes_nothing = meets_failed_write(rt, alloc, by, fails_at, true)?;
-        assert!(rt; fails.is_some() && fails == takes_nothing, "at {fails_at}");
+        let fails = meets_failed_write(rt, alloc, by, size, fails_at, false);
+        let takes_nothing = meets_failed_write(rt, alloc, by, size, fails_at, true);
+        check_at(rt, fails.is_some() && fails == takes_nothing, fails_at);
         if fails == Some(false) {
             return Ok(());
         }
@@ -108,8 +115,9 @@ fn check_writes(
 
 #[test]
 fn writes_that_fail(rt: HostRuntime) -> Result<(), Fail> {
+    let size = Size::new(2)?;
     for by in ALL {
-        check_writes(&rt, rt.alloc(), by)?;
+        check_writes(&rt, rt.alloc(), by, size)?;
     }
     Ok(())
 }
@@ -119,8 +127,9 @@ fn whole_write_ends_so(
     rt: &(impl Threads + Wait + Sync),
     alloc: Global,
     by: Way,
+    size: Size,
     fails_at: u64,
-) -> Result<bool, Fail> {
+) -> bool {
     let output = whole_at(alloc, fails_at);
     let Streamed { writer, result, .. } = replay_streams(
         rt,
@@ -128,22 +137,21 @@ fn whole_write_ends_so(
         by,
         INPUT.as_bytes(),
         output,
-        2,
+        size,
         &OpenGate,
-    )?;
+    );
     let is_whole = fails_at > 1;
     let taken = if is_whole { OUTPUT } else { "" };
-    Ok(is_left_whole(Ended::of_replay(result), writer, taken.as_bytes(), is_whole))
+    is_left_whole(Ended::of_replay(result), writer, taken.as_bytes(), is_whole)
 }
 
 #[test]
 fn whole_writes_that_fail(rt: HostRuntime) -> Result<(), Fail> {
+    let size = Size::new(2)?;
     for by in ALL {
         for fails_at in [1, 2] {
-            assert!(rt;
-                whole_write_ends_so(&rt, rt.alloc(), by, fails_at)?,
-                "at {fails_at}"
-            );
+            let is_right = whole_write_ends_so(&rt, rt.alloc(), by, size, fails_at);
+            check_at(&rt, is_right, fails_at);
         }
     }
     Ok(())

@@ -1,13 +1,12 @@
 //! A replay by each of its ways.
 
-use dr_files::Counted;
+use dr_files::{Counted, FileFault};
 use dr_replay::{ReplayFault, replay_lock, replay_plain, replay_ring};
 use dr_seq::Size;
 use dr_shared::Gate;
 use std::alloc::Global;
 use std::io::{Read, Write};
 use std::sync::Wait;
-use std::test::Fail;
 use std::thread::Threads;
 
 // By which exchange a replay goes.
@@ -38,12 +37,11 @@ pub fn replay_streams<R: Threads + Wait + Sync, I: Read + Drop, O: Write + Drop,
     by: Way,
     input: I,
     output: O,
-    size: u64,
+    size: Size,
     gate: &G,
-) -> Result<Streamed<I, O>, Fail> {
+) -> Streamed<I, O> {
     let mut reader = Counted::new(input);
     let mut writer = Counted::new(output);
-    let size = Size::new(size)?;
     let result = match by {
         Way::Plain => {
             replay_plain(alloc, &mut reader, &mut writer, size).map_err(ReplayFault::File)
@@ -51,11 +49,11 @@ pub fn replay_streams<R: Threads + Wait + Sync, I: Read + Drop, O: Write + Drop,
         Way::Lock => replay_lock(rt, alloc, &mut reader, &mut writer, size, gate),
         Way::Ring => replay_ring(rt, alloc, &mut reader, &mut writer, size, gate),
     };
-    Ok(Streamed {
+    Streamed {
         reader,
         writer,
         result,
-    })
+    }
 }
 
 // What a replay wrote, and how it ended.
@@ -70,9 +68,9 @@ pub fn replay_by<R: Threads + Wait + Sync, G: Gate + Sync>(
     alloc: Global,
     by: Way,
     input: &str,
-    size: u64,
+    size: Size,
     gate: &G,
-) -> Result<Replayed, Fail> {
+) -> Replayed {
     let output = Vec::new(alloc);
     let Streamed { writer, result, .. } = replay_streams(
         rt,
@@ -82,14 +80,14 @@ pub fn replay_by<R: Threads + Wait + Sync, G: Gate + Sync>(
         output,
         size,
         gate,
-    )?;
+    );
     let output = writer.into_inner();
-    Ok(Replayed { output, result })
+    Replayed { output, result }
 }
 
-pub fn by_plain(alloc: Global, input: &str, size: u64) -> Result<Vec<u8>, Fail> {
+pub fn by_plain(alloc: Global, input: &str, size: Size) -> Result<Vec<u8>, FileFault> {
     let mut reader = Counted::new(input.as_bytes());
     let mut writer = Counted::new(Vec::new(alloc));
-    replay_plain(alloc, &mut reader, &mut writer, Size::new(size)?)?;
+    replay_plain(alloc, &mut reader, &mut writer, size)?;
     Ok(writer.into_inner())
 }

@@ -1,0 +1,24 @@
+//! Tests of `dr_ring`, `dr_plain`, `dr_senders` and `dr_disruptor` by their public calls, of what no clause says: that the
+//! calls succeed with ample memory and threads, worked runs by their answers, printed texts, and that threads hand all
+//! events over.
+#![tactic(auto)]
+
+#[cfg(test)]
+mod calls;
+#[cfg(test)]
+mod checks;
+#[cfg(test)]
+mod faults;
+#[cfg(test)]
+mod graphs;
+#[cfg(test)]
+mod in_one_call;
+#[cfg(test)]
+mod plain;
+#[cfg(test)]
+mod rows;
+#[cfg(test)]
+mod senders;
+#[cfg(test)]
+mod words;
+pub mod work;

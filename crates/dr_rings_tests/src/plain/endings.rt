@@ -1,0 +1,242 @@
+//! Events that own memory come back once each when the ends are brought together, whatever these have in hand.
+
+ghost use Rattle.std.specs.Prelude.{◌≡◌, IfOk};
+ghost use Rattle.dr_plain.specs.Calls.Ends.{sender_place};
+ghost use Rattle.dr_plain.specs.Calls.Settling.{AreAllEnds, IsHalterOf};
+
+use super::{Ends, open};
+use crate::checks::{check, check_at};
+use crate::graphs::Shape;
+use dr_core::{Claimed, MAX_LIMIT};
+use dr_plain::{Sender, Values, finish};
+use dr_seq::Size;
+use std::alloc::{AllocError, Global};
+use std::process::Abort;
+use std::sync::Arc;
+use std::test::Fail;
+
+// An event, and a share of what tells how many events there are.
+#[derive(Drop)]
+struct Counted {
+    number: u64,
+    _alive: Arc<u64>,
+}
+
+fn event(alive: &Arc<u64>, number: u64) -> Result<Counted, AllocError> {
+    Ok(Counted {
+        number,
+        _alive: Arc::try_clone(alive)?,
+    })
+}
+
+// How far the ends came in a ring of four cells with two handlers: the sender, and how many events each handler took and
+// completed.
+struct Moment {
+    name: &'static str,
+    claimed: u64,
+    written: u64,
+    published: u64,
+    handlers: [(u64, u64); 2],
+    halted: bool,
+    // The numbers of the events in the cells: that of a sequence is its own and one more.
+    lying: [u64; 4],
+}
+
+const MOMENTS: [Moment; 6] = [
+    Moment {
+        name: "nothing was claimed",
+        claimed: 0,
+        written: 0,
+        published: 0,
+        handlers: [(0, 0), (0, 0)],
+        halted: false,
+        lying: [0, 0, 0, 0],
+    },
+    Moment {
+        name: "a claim was half written at a halt",
+        claimed: 3,
+        written: 2,
+        published: 0,
+        handlers: [(0, 0), (0, 0)],
+        halted: true,
+        lying: [1, 2, 0, 0],
+    },
+    Moment {
+        name: "one handler never took anything",
+        claimed: 4,
+        written: 4,
+        published: 4,
+        handlers: [(4, 4), (0, 0)],
+        halted: true,
+        lying: [1, 2, 3, 4],
+    },
+    Moment {
+        name: "both are in the middle of a batch",
+        claimed: 4,
+        written: 4,
+        published: 3,
+        handlers: [(3, 1), (2, 0)],
+        halted: false,
+        lying: [1, 2, 3, 4],
+    },
+    Moment {
+        name: "one handler stopped early",
+        claimed: 3,
+        written: 3,
+        published: 3,
+        handlers: [(3, 3), (1, 1)],
+        halted: false,
+        lying: [1, 2, 3, 0],
+    },
+    Moment {
+        name: "all was completed",
+        claimed: 4,
+        written: 4,
+        published: 4,
+        handlers: [(4, 4), (4, 4)],
+        halted: true,
+        lying: [1, 2, 3, 4],
+    },
+];
+
+fn begin(rt: &impl Abort, alloc: Global, alive: &Arc<u64>) -> Result<Ends<Counted>, Fail>
+    ensures { IfOk result (λ ends. AreAllEnds ends.sender ends.receivers.items × IsHalterOf ends.sender ends.halter) }
+{
+    let size = Size::new(4)?;
+    let mut events = Vec::new(alloc);
+    for _ in 0..4 {
+        let one = event(alive, 0)?;
+        events.push(one)?;
+    }
+    assert!(rt; events.len() as u64 == size.get());
+    open(alloc, Shape::SideBySide, size, MAX_LIMIT, events)
+}
+
+// Events are written from one sequence on.
+fn write(
+    rt: &impl Abort,
+    alive: &Arc<u64>,
+    sender: &mut Sender<Counted>,
+    first: u64,
+    upto: u64,
+) -> Result<(), Fail>
+    ensures { sender_place sender.new ≡ sender_place sender.old }
+{
+    for s in first..upto {
+        let one = event(alive, s.wrapping_add(1))?;
+        check(rt, sender.write(s, one), Ok(()));
+    }
+    Ok(())
+}
+
+fn send(
+    rt: &impl Abort,
+    alive: &Arc<u64>,
+    sender: &mut Sender<Counted>,
+    moment: &Moment,
+) -> Result<(), Fail>
+    ensures { sender_place sender.new ≡ sender_place sender.old }
+{
+    let name = moment.name;
+    if moment.claimed > 0 {
+        let hi = moment.claimed.wrapping_sub(1);
+        check_at(
+            rt,
+            sender.try_claim(moment.claimed),
+            Ok(Claimed { lo: 0, hi }),
+            name,
+        );
+    }
+    write(rt, alive, sender, 0, moment.written)?;
+    if moment.published > 0 {
+        let hi = moment.published.wrapping_sub(1);
+        check_at(rt, sender.publish(0, hi), Ok(()), name);
+    }
+    Ok(())
+}
+
+// A handler takes so many, and completes so many of them.
+fn receive(rt: &impl Abort, ends: &mut Ends<Counted>, handler: usize, taken: u64, completed: u64)
+    requires { AreAllEnds ends.old.sender ends.old.receivers.items × IsHalterOf ends.old.sender ends.old.halter }
+    ensures { AreAllEnds ends.new.sender ends.new.receivers.items × IsHalterOf ends.new.sender ends.new.halter }
+{
+    assert!(rt; handler < ends.receivers.len());
+    let receiver = &mut ends.receivers[handler];
+    // Without room it is refused, and takes nothing.
+    let _ = receiver.poll(taken);
+    check(rt, receiver.complete(completed), Ok(()));
+}
+
+fn come_to(
+    rt: &impl Abort,
+    alive: &Arc<u64>,
+    ends: &mut Ends<Counted>,
+    moment: &Moment,
+) -> Result<(), Fail>
+    requires { AreAllEnds ends.old.sender ends.old.receivers.items × IsHalterOf ends.old.sender ends.old.halter }
+    ensures { AreAllEnds ends.new.sender ends.new.receivers.items × IsHalterOf ends.new.sender ends.new.halter }
+{
+    send(rt, alive, &mut ends.sender, moment)?;
+    let [(taken, completed), (second_taken, second_completed)] = moment.handlers;
+    receive(rt, ends, 0, taken, completed);
+    receive(rt, ends, 1, second_taken, second_completed);
+    if moment.halted {
+        ends.halter.halt();
+    }
+    Ok(())
+}
+
+fn next_number(events: &mut Values<Counted>) -> u64 {
+    match events.next() {
+        Some(one) => one.number,
+        None => u64::MAX,
+    }
+}
+
+// So many of the events are used, in the cells' order, and the others are dropped with the rest.
+fn use_some(
+    rt: &impl Abort,
+    alive: &Arc<u64>,
+    mut events: Values<Counted>,
+    moment: &Moment,
+    count: usize,
+) {
+    let name = moment.name;
+    check_at(rt, Arc::strong_count(alive) as u64, 5, name);
+    for number in moment.lying.iter().take(count) {
+        check_at(rt, next_number(&mut events), *number, name);
+    }
+    let left = 5usize.wrapping_sub(count);
+    check_at(rt, Arc::strong_count(alive) as u64, left as u64, name);
+}
+
+fn end(
+    rt: &impl Abort,
+    alloc: Global,
+    alive: &Arc<u64>,
+    moment: &Moment,
+) -> Result<Values<Counted>, Fail> {
+    let mut ends = begin(rt, alloc, alive)?;
+    come_to(rt, alive, &mut ends, moment)?;
+    let (settled, events) = finish(ends.sender, ends.receivers, ends.halter);
+    check_at(rt, settled.published(), moment.published, moment.name);
+    assert!(rt; settled.handlers() == 2);
+    check_at(rt, settled.taken(0), moment.handlers[0].0, moment.name);
+    check_at(rt, settled.taken(1), moment.handlers[1].0, moment.name);
+    Ok(events)
+}
+
+#[test]
+fn each_event_comes_back_once(rt: HostRuntime) -> Result<(), Fail> {
+    let Ok(alive) = Arc::new(rt.alloc(), 0u64) else {
+        return Ok(());
+    };
+    for moment in &MOMENTS {
+        let events = end(&rt, rt.alloc(), &alive, moment)?;
+        use_some(&rt, &alive, events, moment, 2);
+        check_at(&rt, Arc::strong_count(&alive) as u64, 1, moment.name);
+        let events = end(&rt, rt.alloc(), &alive, moment)?;
+        use_some(&rt, &alive, events, moment, 4);
+    }
+    Ok(())
+}

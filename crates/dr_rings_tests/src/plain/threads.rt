@@ -1,0 +1,103 @@
+//! Threads hand all events over, each in order, and end by themselves.
+
+use super::Ends;
+use super::texts::open_texts;
+use crate::checks::check;
+use crate::graphs::Shape;
+use dr_core::Polled::{Batch, Drained};
+use dr_core::Refusal;
+use dr_plain::{Receiver, Sender};
+use std::alloc::Global;
+use std::process::Abort;
+use std::test::Fail;
+use std::thread::{self, Threads};
+
+/// Sends texts in claims of up to `cut`, until there are so many or a claim is refused for another
+/// cause than want of room, closes, and tells how many it sent.
+fn send(mut sender: Sender<String>, alloc: Global, count: u64, cut: u64) -> u64 {
+    let mut next = 0;
+    for _ in 0..u64::MAX {
+        if next >= count {
+            break;
+        }
+        let left = count - next;
+        match sender.try_claim(if left < cut { left } else { cut }) {
+            Ok(claim) => {
+                for s in claim.lo..claim.hi + 1 {
+                    if let Ok(text) = format!(in alloc; "event {s}") {
+                        let _ = sender.write(s, text);
+                    }
+                }
+                let _ = sender.publish(claim.lo, claim.hi);
+                next = claim.hi + 1;
+            }
+            Err(Refusal::NoRoom) => thread::yield_now(),
+            Err(_) => break,
+        }
+    }
+    let _ = sender.close();
+    next
+}
+
+// Whether the texts in hand are those of the sequences from `first` on.
+fn are_texts(receiver: &Receiver<String>, alloc: Global, first: u64) -> bool {
+    let mut next = first;
+    for text in receiver.events() {
+        let Ok(wanted) = format!(in alloc; "event {next}") else {
+            return false;
+        };
+        if text.as_str() != wanted.as_str() {
+            return false;
+        }
+        next = next.wrapping_add(1);
+    }
+    true
+}
+
+/// Receives until it is told that the ring drained, and tells how many texts came, or nothing where
+/// one came out of order.
+fn receive(mut receiver: Receiver<String>, alloc: Global) -> Option<u64> {
+    let mut next = 0u64;
+    for _ in 0..u64::MAX {
+        match receiver.poll(64) {
+            Ok(Batch { first, count, .. }) => {
+                if first != next || !are_texts(&receiver, alloc, first) {
+                    return None;
+                }
+                next = next.wrapping_add(count);
+                let _ = receiver.complete(next);
+            }
+            Ok(Drained) => return Some(next),
+            _ => thread::yield_now(),
+        }
+    }
+    None
+}
+
+fn check_all<R: Threads + Abort + Sync>(rt: &R, alloc: Global, ends: Ends<String>) {
+    let sender = ends.sender;
+    let mut receivers = ends.receivers;
+    let c = receivers.pop().expect(rt, "three receivers");
+    let b = receivers.pop().expect(rt, "three receivers");
+    let a = receivers.pop().expect(rt, "three receivers");
+    let ((sent, last), (first, second)) = thread::join(
+        rt,
+        || {
+            thread::join(
+                rt,
+                move || send(sender, alloc, 100_000, 16),
+                move || receive(c, alloc),
+            )
+        },
+        || thread::join(rt, move || receive(a, alloc), move || receive(b, alloc)),
+    );
+    check(rt, sent, 100_000);
+    check(rt, [first, second, last], [Some(100_000); 3]);
+}
+
+#[test]
+fn texts_through_a_diamond_of_threads(rt: HostRuntime) -> Result<(), Fail> {
+    let ends = open_texts(&rt, rt.alloc(), Shape::Diamond, 64)?;
+    check_all(&rt, rt.alloc(), ends);
+    Ok(())
+}

@@ -1,0 +1,24 @@
+//! Handlers of several kinds in one list.
+
+use dr_core::Handler;
+use dr_seq::Event;
+
+/// Handlers of two kinds in one list: the sum of the first words, and the last one.
+#[derive(Clone, Copy, Debug, PartialEq, Eq)]
+pub enum Work {
+    Sum(u64),
+    Keep(u64),
+}
+
+impl Handler<Event> for Work {
+    ghost use Rattle.dr_rings_tests.specs.Goes.{WorkGoes};
+
+    ghost goes = { λ old event s end new. WorkGoes old event new };
+
+    fn on_event(&mut self, event: Event, _s: u64, _end: bool) {
+        *self = match *self {
+            Work::Sum(total) => Work::Sum(total.wrapping_add(event.first)),
+            Work::Keep(_) => Work::Keep(event.first),
+        };
+    }
+}
