@@ -3,7 +3,7 @@ program := crates/disruptor
 log := make.log
 sources = $(shell find crates \( -name '*.rt' -o -name '*.antt' \) -not -path '*/out/*')
 
-.PHONY: all run try test check bench bench-plots hello clean help
+.PHONY: all run try test check lib install bench bench-plots hello clean help
 
 ifneq ($(filter-out help clean bench-plots,$(or $(MAKECMDGOALS),all)),)
 ifeq ($(shell command -v rt),)
@@ -33,6 +33,21 @@ check:
 	$(if $(wildcard crates/$(or $(CRATE),none)/src),,$(error name a crate, as in: make check CRATE=dr_core))
 	cd crates/$(CRATE) && rt check
 
+PREFIX ?= /usr/local
+
+# What programs in other languages link.
+lib:
+	@tools/prove.py --log $(log) dr_c
+	@tools/library.sh out $(PREFIX)
+
+install: disruptor lib
+	install -d $(DESTDIR)$(PREFIX)/bin $(DESTDIR)$(PREFIX)/lib/pkgconfig $(DESTDIR)$(PREFIX)/include
+	install -m 755 disruptor $(DESTDIR)$(PREFIX)/bin
+	install -m 644 out/libdisruptor.a $(DESTDIR)$(PREFIX)/lib
+	install -m 755 out/libdisruptor.so $(DESTDIR)$(PREFIX)/lib
+	install -m 644 out/disruptor.pc $(DESTDIR)$(PREFIX)/lib/pkgconfig
+	install -m 644 include/disruptor.h include/disruptor.hpp $(DESTDIR)$(PREFIX)/include
+
 bench:
 	@tools/prove.py --log $(log) disruptor_bench -- --list
 	bench/exchanges.py table
@@ -45,7 +60,7 @@ hello:
 	examples/hello.sh $(DIR)
 
 clean:
-	rm -rf disruptor $(log) crates/*/out
+	rm -rf disruptor $(log) out crates/*/out
 
 help:
 	@echo 'On a machine of four processors:'
@@ -55,6 +70,8 @@ help:
 	@echo '  make try                  runs the shipped example before any proof: a minute or two'
 	@echo '  make check CRATE=dr_core  proves one crate over what is kept: seconds, 1 to 5 minutes from nothing'
 	@echo '  make test                 the whole gate, from nothing: up to an hour and a half'
+	@echo '  make lib                  proves and builds out/libdisruptor.a and .so, for C, C++, Rust and Python: some minutes'
+	@echo '  make install PREFIX=/opt  installs program, libraries and headers there: /usr/local where no PREFIX is given'
 	@echo '  make bench                events a second of core and ring: some minutes, and many where other work runs'
 	@echo '  make bench-plots          draws what bench/measured holds, as docs/pictures, and writes its tables: seconds'
 	@echo '  make hello DIR=../hello   starts a repository of your own in that folder, with a program over the'

@@ -2,6 +2,7 @@
 
 /// An event of two words, whose meaning is its producers' and handlers' own.
 #[derive(Clone, Copy, Debug, PartialEq, Eq)]
+#[repr(C)]
 pub struct Event {
     pub first: u64,
     pub second: u64,

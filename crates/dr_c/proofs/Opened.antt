@@ -1,0 +1,45 @@
+-- Handles that are not open.
+use Rattle.std.proofs.Common.{◌≡◌, ℕ, suc, ◌+◌, ◌-◌, ◌≤◌, Bool, false, List, [], ◌∷◌, length, drop, set, ap, refl, sym, subst, ◌∙◌, arith}
+use Rattle.std.specs.Prelude.{◌||◌, Option, None, Some, is_some, replicate}
+use Rattle.std.specs.List.{list_any}
+use Rattle.std.proofs.lemmas.Bool.{or_parts, false≢true}
+use Rattle.dr_runs.proofs.Lists.{drop_set}
+use Rattle.dr_c.specs.declared.end.End.{End}
+use Rattle.dr_c.specs.declared.handle.Handle.{Handle}
+use Rattle.dr_c.specs.declared.open_fault.OpenFault.{OpenFault}
+use Rattle.dr_c.specs.OpenFault.{IsWhy}
+use Rattle.dr_c.specs.Opening.{are_open, ends_in}
+
+none_of : (o : Option End) → is_some o ≡ false → o ≡ None
+none_of None no_end = refl
+none_of (Some e) no_end = absurd (false≢true (sym no_end))
+
+pub none_in : (hs : List Handle) → list_any (λ h. is_some h.held.value) hs ≡ false → ends_in hs ≡ replicate (length hs) None
+none_in [] none = refl
+none_in (h ∷ hs) none =
+    let both = or_parts (is_some h.held.value) (list_any (λ k. is_some k.held.value) hs) none in
+    ap (λ (o : Option End). o ∷ ends_in hs) (none_of h.held.value both.0) ∙ ap (λ (os : List (Option End)). None ∷ os) (none_in hs both.1)
+
+-- one more, before those that are freed already
+pub freed_more : (os : List (Option End)) (left left' n : ℕ) → left ≡ left' + 1 → left ≤ n → length os ≡ n → drop left os ≡ replicate (n - left) None
+    → drop left' (set os left' None) ≡ replicate (n - left') None
+freed_more os left left' n next within many freed =
+    drop_set os left' None (replicate (n - left) None) (omega arith) (ap (λ (k : ℕ). drop k os) (sym next) ∙ freed)
+    ∙ ap (λ (k : ℕ). replicate k None) (let e : suc (n - left) ≡ n - left' = omega arith in e)
+
+-- a ring's own fault is what keeps handles from having it, where none of them is open and there are enough
+pub why_here : (b : Bool) (count size limit : ℕ) (masks : List ℕ) (fault : OpenFault) → b ≡ false → count ≡ length masks
+    → IsWhy false (length masks) size limit masks fault → IsWhy b count size limit masks fault
+why_here b count size limit masks fault closed same why =
+    subst (λ (x : Bool). IsWhy x count size limit masks fault) (sym closed) (subst (λ (n : ℕ). IsWhy false n size limit masks fault) (sym same) why)
+
+-- none of the receivers' handles is open
+pub none_before : (s : Handle) (hs : List Handle) (h : Handle) → are_open s hs h ≡ false → ends_in hs ≡ replicate (length hs) None
+none_before s hs h closed =
+    let p = is_some s.held.value in let q = list_any (λ k. is_some k.held.value) hs in
+    none_in hs (or_parts p q (or_parts (p || q) (is_some h.held.value) closed).0).1
+
+-- once all are freed that were not open, the handles have what they had
+pub freed_again : (s : Handle) (hs freed : List Handle) (h : Handle) (n : ℕ) → are_open s hs h ≡ false → n ≡ length hs
+    → ends_in freed ≡ replicate n None → ends_in freed ≡ ends_in hs
+freed_again s hs freed h n closed same none = none ∙ ap (λ (k : ℕ). replicate k None) same ∙ sym (none_before s hs h closed)

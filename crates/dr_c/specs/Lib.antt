@@ -1,0 +1,6 @@
+pub mod Calls
+pub mod Handles
+pub mod Names
+pub mod Numbers
+pub mod OpenFault
+pub mod Opening

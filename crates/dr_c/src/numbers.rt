@@ -1,0 +1,20 @@
+//! The numbers that C is told.
+
+ghost use Rattle.std.specs.Prelude.{◌≡◌};
+ghost use Rattle.dr_c.specs.Numbers.{told};
+
+use dr_core::Refusal;
+
+/// The handle is zero or closed.
+pub const NOT_OPEN: u32 = 61;
+/// The handle has another end than the call is of.
+pub const WRONG_END: u32 = 62;
+/// 0, or the number of a refusal.
+pub fn number(answer: Result<(), Refusal>) -> u32
+    ensures { result ≡ told answer }
+{
+    match answer {
+        Ok(()) => 0,
+        Err(refusal) => refusal.number(),
+    }
+}

@@ -1,0 +1,66 @@
+//! The calls of a receiver and of a halter.
+
+ghost use Rattle.std.specs.Prelude.{◌≡◌};
+ghost use Rattle.dr_c.specs.Calls.{PollsBy, CompletesBy, HaltsBy, offer_of as offer_of_polled};
+
+use crate::batch::Offer;
+use crate::end::End;
+use crate::numbers::{WRONG_END, number};
+use dr_core::Polled;
+use dr_seq::Event;
+
+fn offer_of(polled: Polled) -> Offer
+    ensures { result ≡ offer_of_polled polled }
+{
+    let (kind, first, count, end) = match polled {
+        Polled::Batch { first, count, end } => (0, first, count, u32::from(end)),
+        Polled::Gating => (1, 0, 0, 0),
+        Polled::Idle => (2, 0, 0, 0),
+        Polled::Drained => (3, 0, 0, 0),
+    };
+    Offer {
+        kind,
+        end,
+        first,
+        count,
+    }
+}
+
+/// Takes the next events.
+pub fn poll(end: &mut End, out: &mut [Event], offer: &mut Offer) -> u32
+    ensures { PollsBy out.old out.new offer.old offer.new result end.old end.new }
+{
+    match end {
+        End::Receiver(receiver) => match receiver.poll_into(out) {
+            Ok(polled) => {
+                *offer = offer_of(polled);
+                0
+            }
+            Err(refusal) => refusal.number(),
+        },
+        _ => WRONG_END,
+    }
+}
+
+/// Completes events.
+pub fn complete(end: &mut End, upto: u64) -> u32
+    ensures { CompletesBy upto result end.old end.new }
+{
+    match end {
+        End::Receiver(receiver) => number(receiver.complete(upto)),
+        _ => WRONG_END,
+    }
+}
+
+/// Halts the ring.
+pub fn halt(end: &mut End) -> u32
+    ensures { HaltsBy end.old end.new result }
+{
+    match end {
+        End::Halter(halter) => {
+            halter.halt();
+            0
+        }
+        _ => WRONG_END,
+    }
+}

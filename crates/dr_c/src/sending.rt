@@ -1,0 +1,55 @@
+//! The calls of a sender.
+
+ghost use Rattle.std.specs.Prelude.{◌≡◌};
+ghost use Rattle.dr_c.specs.Calls.{ClaimsBy, WritesBy, PublishesBy, ClosesBy};
+ghost use Rattle.dr_c.specs.Numbers.{told};
+
+use crate::end::End;
+use crate::numbers::{WRONG_END, number};
+use dr_seq::Event;
+
+/// Claims, and gives the first sequence.
+pub fn claim(end: &mut End, n: u64, lo: &mut u64) -> u32
+    ensures { ClaimsBy n lo.old lo.new result end.old end.new }
+{
+    match end {
+        End::Sender(sender) => match sender.try_claim(n) {
+            Ok(claimed) => {
+                *lo = claimed.lo;
+                0
+            }
+            Err(refusal) => refusal.number(),
+        },
+        _ => WRONG_END,
+    }
+}
+
+/// Writes an event.
+pub fn write(end: &mut End, sequence: u64, event: Event) -> u32
+    ensures { WritesBy sequence event result end.old end.new }
+{
+    match end {
+        End::Sender(sender) => number(sender.write(sequence, event)),
+        _ => WRONG_END,
+    }
+}
+
+/// Publishes a stretch.
+pub fn publish(end: &mut End, lo: u64, hi: u64) -> u32
+    ensures { PublishesBy lo hi result end.old end.new }
+{
+    match end {
+        End::Sender(sender) => number(sender.publish(lo, hi)),
+        _ => WRONG_END,
+    }
+}
+
+/// Closes the ring.
+pub fn close(end: &mut End) -> u32
+    ensures { ClosesBy result end.old end.new }
+{
+    match end {
+        End::Sender(sender) => number(sender.close()),
+        _ => WRONG_END,
+    }
+}

@@ -1,0 +1,124 @@
+/* Each number that a call may answer, had by a misuse of the library; a misuse changes nothing. */
+#include "disruptor.h"
+#include <stdio.h>
+#include <stdlib.h>
+#include <string.h>
+
+static void expect(const char *call, uint32_t is, uint32_t wanted) {
+    if (is == wanted) return;
+    printf("%s: %u (%s), and not %u (%s)\n", call, is, disruptor_text(is), wanted, disruptor_text(wanted));
+    exit(1);
+}
+
+static disruptor_sender sender;
+static disruptor_receiver receivers[17];
+static disruptor_halter halter;
+
+static uint32_t open_ring(uint64_t size, uint64_t limit, size_t handlers, size_t count, uint64_t mask_of_second) {
+    uint64_t upstreams[17] = {0, mask_of_second};
+    return disruptor_open(size, limit, upstreams, handlers, &sender, receivers, count, &halter);
+}
+
+static void free_all(void) {
+    disruptor_free(&sender);
+    for (size_t k = 0; k < 17; k++) disruptor_free(&receivers[k]);
+    disruptor_free(&halter);
+}
+
+static void try_opening(void) {
+    expect("a size of 3", open_ring(3, 10, 2, 2, 1), DISRUPTOR_BAD_SIZE);
+    expect("a size of 2^17", open_ring(131072, 10, 2, 2, 1), DISRUPTOR_BAD_SIZE);
+    expect("a limit of 0", open_ring(4, 0, 2, 2, 1), DISRUPTOR_BAD_LIMIT);
+    expect("a limit past the greatest", open_ring(4, DISRUPTOR_MAX_LIMIT + 1, 2, 2, 1), DISRUPTOR_BAD_LIMIT);
+    expect("no handler", open_ring(4, 10, 0, 0, 0), DISRUPTOR_NO_HANDLERS);
+    expect("17 handlers", open_ring(4, 10, 17, 17, 0), DISRUPTOR_TOO_MANY);
+    expect("fewer receivers", open_ring(4, 10, 2, 1, 1), DISRUPTOR_BAD_COUNT);
+    expect("a handler before itself", open_ring(4, 10, 2, 2, 2), DISRUPTOR_BAD_ORDER);
+    expect("no such upstream", open_ring(4, 10, 2, 2, UINT64_C(1) << 63), DISRUPTOR_BAD_ORDER);
+}
+
+static void try_closed_handles(void) {
+    uint64_t lo = 7;
+    disruptor_event event = {1, 2};
+    disruptor_offer offer = {9, 9, 9, 9};
+    expect("a claim by nothing", disruptor_claim(&sender, 1, &lo), DISRUPTOR_NOT_OPEN);
+    expect("a write by nothing", disruptor_write(&sender, 0, &event), DISRUPTOR_NOT_OPEN);
+    expect("a publication by nothing", disruptor_publish(&sender, 0, 0), DISRUPTOR_NOT_OPEN);
+    expect("a close by nothing", disruptor_close(&sender), DISRUPTOR_NOT_OPEN);
+    expect("a poll by nothing", disruptor_poll(&receivers[0], &event, 1, &offer), DISRUPTOR_NOT_OPEN);
+    expect("a completion by nothing", disruptor_complete(&receivers[0], 0), DISRUPTOR_NOT_OPEN);
+    expect("a halt by nothing", disruptor_halt(&halter), DISRUPTOR_NOT_OPEN);
+    expect("what a refused claim left", lo == 7 && event.first == 1 && offer.kind == 9, 1);
+}
+
+static void try_sending(void) {
+    uint64_t lo;
+    disruptor_event event = {5, 6};
+    expect("a claim of none", disruptor_claim(&sender, 0, &lo), DISRUPTOR_BAD_COUNT);
+    expect("a claim of more than the size", disruptor_claim(&sender, 5, &lo), DISRUPTOR_BAD_COUNT);
+    expect("a write of what is not claimed", disruptor_write(&sender, 0, &event), DISRUPTOR_NOT_CLAIMED);
+    expect("a claim", disruptor_claim(&sender, 4, &lo), DISRUPTOR_OK);
+    expect("its first sequence", (uint32_t)lo, 0);
+    expect("a claim of full slots", disruptor_claim(&sender, 1, &lo), DISRUPTOR_NO_ROOM);
+    expect("a claim past the limit", disruptor_claim(&sender, 3, &lo), DISRUPTOR_EXHAUSTED);
+    expect("a publication of what is not written", disruptor_publish(&sender, 0, 0), DISRUPTOR_NOT_WRITTEN);
+    for (uint64_t k = 0; k < 4; k++) expect("a write", disruptor_write(&sender, k, &event), DISRUPTOR_OK);
+    expect("a publication out of order", disruptor_publish(&sender, 1, 1), DISRUPTOR_OUT_OF_ORDER);
+    expect("a publication backwards", disruptor_publish(&sender, 1, 0), DISRUPTOR_BAD_COUNT);
+    expect("a publication past the claim", disruptor_publish(&sender, 0, 4), DISRUPTOR_NOT_CLAIMED);
+    expect("a close over a claim", disruptor_close(&sender), DISRUPTOR_OPEN_CLAIM);
+    expect("a publication", disruptor_publish(&sender, 0, 2), DISRUPTOR_OK);
+    expect("a second one", disruptor_publish(&sender, 0, 2), DISRUPTOR_ALREADY_PUBLISHED);
+    expect("a write after it", disruptor_write(&sender, 2, &event), DISRUPTOR_ALREADY_PUBLISHED);
+}
+
+static void try_receiving(void) {
+    disruptor_event events[4] = {{0, 0}};
+    disruptor_offer offer;
+    expect("a poll without room", disruptor_poll(&receivers[0], events, 0, &offer), DISRUPTOR_BAD_COUNT);
+    expect("a poll behind another", disruptor_poll(&receivers[1], events, 4, &offer), DISRUPTOR_OK);
+    expect("its kind", offer.kind, DISRUPTOR_GATING);
+    expect("a poll", disruptor_poll(&receivers[0], events, 2, &offer), DISRUPTOR_OK);
+    expect("its kind", offer.kind, DISRUPTOR_BATCH);
+    expect("its count", (uint32_t)offer.count, 2);
+    expect("its end", offer.end, 0);
+    expect("its events", events[1].first == 5 && events[1].second == 6 && events[2].first == 0, 1);
+    expect("a completion of what is not taken", disruptor_complete(&receivers[0], 3), DISRUPTOR_NOT_TAKEN);
+    expect("a completion", disruptor_complete(&receivers[0], 2), DISRUPTOR_OK);
+    expect("a completion backwards", disruptor_complete(&receivers[0], 1), DISRUPTOR_BEHIND);
+}
+
+static void try_the_end(void) {
+    disruptor_event events[4];
+    disruptor_offer offer;
+    uint64_t lo;
+    expect("another opening", open_ring(4, 10, 2, 2, 1), DISRUPTOR_STILL_OPEN);
+    expect("a receiver's claim", disruptor_claim((disruptor_sender *)(void *)&receivers[0], 1, &lo), DISRUPTOR_WRONG_END);
+    expect("a sender's poll", disruptor_poll((disruptor_receiver *)(void *)&sender, events, 4, &offer), DISRUPTOR_WRONG_END);
+    expect("a halt", disruptor_halt(&halter), DISRUPTOR_OK);
+    expect("a claim after it", disruptor_claim(&sender, 1, &lo), DISRUPTOR_HALTED);
+    expect("a publication after it", disruptor_publish(&sender, 3, 3), DISRUPTOR_OK);
+    expect("a close", disruptor_close(&sender), DISRUPTOR_OK);
+    expect("the last events", disruptor_poll(&receivers[0], events, 4, &offer), DISRUPTOR_OK);
+    expect("their end", offer.end, 1);
+    expect("no events", disruptor_poll(&receivers[0], events, 4, &offer), DISRUPTOR_OK);
+    expect("why", offer.kind, DISRUPTOR_DRAINED);
+}
+
+int main(void) {
+    char name[16] = "";
+    expect("the length of a name", (uint32_t)disruptor_name(DISRUPTOR_NO_ROOM, name, sizeof name), 7);
+    expect("a name", strcmp(name, "no-room") == 0, 1);
+    try_opening();
+    try_closed_handles();
+    expect("an opening", open_ring(4, 6, 2, 2, 1), DISRUPTOR_OK);
+    try_sending();
+    try_receiving();
+    try_the_end();
+    free_all();
+    try_closed_handles();
+    expect("an opening anew", open_ring(4, 6, 2, 2, 1), DISRUPTOR_OK);
+    free_all();
+    puts("every misuse is refused by its number");
+    return 0;
+}

@@ -1,0 +1,142 @@
+// The proved ring for C++ (17 or later): the calls of disruptor.h with ends that free themselves. A refusal that a caller
+// waits out, as no-room, is answered; each other one is thrown.
+#ifndef DISRUPTOR_HPP
+#define DISRUPTOR_HPP
+
+#include "disruptor.h"
+#include <cstddef>
+#include <cstdint>
+#include <memory>
+#include <optional>
+#include <stdexcept>
+#include <utility>
+#include <vector>
+
+namespace disruptor {
+
+using event = disruptor_event;
+using offer = disruptor_offer;
+
+// A call was refused.
+class refusal : public std::runtime_error {
+public:
+    explicit refusal(std::uint32_t number) : std::runtime_error(disruptor_text(number)), number_(number) {}
+    std::uint32_t number() const noexcept { return number_; }
+
+private:
+    std::uint32_t number_;
+};
+
+inline void check(std::uint32_t number) {
+    if (number != DISRUPTOR_OK) throw refusal(number);
+}
+
+// How a thread waits that looks again and again for what others do.
+class waiting {
+public:
+    explicit waiting(std::uint64_t room) noexcept : state_(disruptor_waits(room)) {}
+    void wait() noexcept { disruptor_wait(&state_); }
+    void found(std::uint64_t count) noexcept { disruptor_found(&state_, count); }
+
+private:
+    disruptor_waiting state_;
+};
+
+// A handle that frees what it has. It may be moved, and one that was moved from answers not-open.
+template <typename Handle>
+class end {
+public:
+    end() noexcept = default;
+    end(end &&other) noexcept : handle_(std::exchange(other.handle_, Handle DISRUPTOR_NEW)) {}
+    end &operator=(end &&other) noexcept {
+        if (this != &other) {
+            disruptor_free(&handle_);
+            handle_ = std::exchange(other.handle_, Handle DISRUPTOR_NEW);
+        }
+        return *this;
+    }
+    end(const end &) = delete;
+    end &operator=(const end &) = delete;
+    ~end() { disruptor_free(&handle_); }
+    Handle *get() noexcept { return &handle_; }
+
+private:
+    Handle handle_ DISRUPTOR_NEW;
+};
+
+class sender : public end<disruptor_sender> {
+public:
+    // The first of n sequences, or nothing where there is no room.
+    std::optional<std::uint64_t> try_claim(std::uint64_t n) {
+        std::uint64_t lo = 0;
+        const std::uint32_t number = disruptor_claim(get(), n, &lo);
+        if (number == DISRUPTOR_NO_ROOM) return std::nullopt;
+        check(number);
+        return lo;
+    }
+    // Waits for room.
+    std::uint64_t claim(std::uint64_t n, waiting &how) {
+        for (;;) {
+            if (const std::optional<std::uint64_t> lo = try_claim(n)) {
+                how.found(n);
+                return *lo;
+            }
+            how.wait();
+        }
+    }
+    void write(std::uint64_t sequence, const event &what) { check(disruptor_write(get(), sequence, &what)); }
+    void publish(std::uint64_t lo, std::uint64_t hi) { check(disruptor_publish(get(), lo, hi)); }
+    void close() { check(disruptor_close(get())); }
+};
+
+class receiver : public end<disruptor_receiver> {
+public:
+    offer poll(event *events, std::size_t room) {
+        offer found = {};
+        check(disruptor_poll(get(), events, room, &found));
+        return found;
+    }
+    void complete(std::uint64_t upto) { check(disruptor_complete(get(), upto)); }
+    // Hands each event to `handle(event, sequence, is_last_of_batch)` until the ring is drained.
+    template <typename Handler>
+    void run(std::size_t room, Handler &&handle) {
+        std::vector<event> events(room);
+        waiting how(room);
+        for (;;) {
+            const offer found = poll(events.data(), room);
+            if (found.kind == DISRUPTOR_DRAINED) return;
+            if (found.kind != DISRUPTOR_BATCH) {
+                how.wait();
+                continue;
+            }
+            how.found(found.count);
+            for (std::uint64_t k = 0; k < found.count; k++) handle(events[k], found.first + k, k + 1 == found.count);
+            complete(found.first + found.count);
+        }
+    }
+};
+
+class halter : public end<disruptor_halter> {
+public:
+    void halt() { check(disruptor_halt(get())); }
+};
+
+struct ring {
+    disruptor::sender sender;
+    std::vector<receiver> receivers;
+    disruptor::halter halter;
+};
+
+// Opens a ring: handler k follows those whose bits are in the mask upstreams[k].
+inline ring open(std::uint64_t size, const std::vector<std::uint64_t> &upstreams, std::uint64_t limit = DISRUPTOR_MAX_LIMIT) {
+    ring made;
+    std::vector<disruptor_receiver> receivers(upstreams.size(), disruptor_receiver DISRUPTOR_NEW);
+    made.receivers = std::vector<receiver>(upstreams.size());
+    check(disruptor_open(size, limit, upstreams.data(), upstreams.size(), made.sender.get(), receivers.data(), receivers.size(),
+                         made.halter.get()));
+    for (std::size_t k = 0; k < receivers.size(); k++) *made.receivers[k].get() = receivers[k];
+    return made;
+}
+
+} // namespace disruptor
+#endif

@@ -1,0 +1,90 @@
+#!/usr/bin/env bash
+# Builds and runs a program of each language over libdisruptor, in a new folder, and compares what it prints: C by the static
+# library, and under the sanitizers of addresses and of undefined behaviour where the compiler has them; C++ and Rust by the
+# static library; Python by the shared one. A language whose compiler is not here is skipped, and named. It prints a line
+# for each failure, and then a count; its status is 0 where none failed.
+#
+#   tests/other_languages.sh FOLDER      that of `make lib`, with libdisruptor.a and libdisruptor.so
+set -u
+library=$(realpath "$1") || exit 2
+top=$(cd "$(dirname "$0")/.." && pwd) || exit 2
+room=$(mktemp -d) || exit 2
+trap 'rm -rf "$room"' EXIT
+cases=0 failed=0 skipped=
+
+# Whether a compiler is here and makes a program with these words.
+has() { # COMPILER SUFFIX WORD..
+    local compiler=$1 suffix=$2
+    shift 2
+    command -v "$compiler" > "$room/null" 2>&1 || return 1
+    printf 'int main(void) { return 0; }\n' > "$room/empty.$suffix"
+    "$compiler" "$@" -o "$room/empty" "$room/empty.$suffix" > "$room/null" 2>&1 && "$room/empty"
+}
+
+skip() { # NAME
+    skipped="$skipped $1"
+}
+
+# Builds a program, and compares what it prints with the text beside its source.
+try() { # NAME EXPECTED COMMAND-THAT-BUILDS.. -- COMMAND-THAT-RUNS..
+    local name=$1 expected=$2 build=()
+    shift 2
+    while [ "$1" != -- ]; do build+=("$1"); shift; done
+    shift
+    cases=$((cases + 1))
+    if [ ${#build[@]} -gt 0 ] && ! "${build[@]}" > "$room/said" 2>&1; then
+        failed=$((failed + 1))
+        printf 'FAILED: %s is not built: %s\n' "$name" "$(head -c 600 "$room/said")"
+        return
+    fi
+    timeout 120 "$@" > "$room/out" 2> "$room/err"
+    local status=$?
+    if [ $status -ne 0 ] || ! printf '%s\n' "$expected" | cmp -s - "$room/out"; then
+        failed=$((failed + 1))
+        printf 'FAILED: %s: status %s, %s%s\n' "$name" $status "$(head -c 600 "$room/out")" "$(head -c 600 "$room/err")"
+    fi
+}
+
+all='each handler had every event'
+size='a ring of 1000 slots: bad-size'
+warns=(-Wall -Wextra -Werror -I"$top/include")
+c=(-std=c11 -O2 "${warns[@]}")
+guard=(-g -fsanitize=address,undefined -fno-sanitize-recover=all)
+
+if has cc c; then
+    for program in ring refusals; do
+        try "C $program" "$([ $program = ring ] && echo "$all" || echo 'every misuse is refused by its number')" \
+            cc "${c[@]}" -o "$room/$program" "$top/examples/c/$program.c" "$library/libdisruptor.a" -lpthread -- "$room/$program"
+    done
+    if has cc c "${guard[@]}"; then
+        for program in ring refusals; do
+            try "C $program, with sanitizers" "$([ $program = ring ] && echo "$all" || echo 'every misuse is refused by its number')" \
+                cc "${c[@]}" "${guard[@]}" -o "$room/$program" "$top/examples/c/$program.c" "$library/libdisruptor.a" -lpthread -- "$room/$program"
+        done
+    else
+        skip 'C with sanitizers'
+    fi
+else
+    skip C
+fi
+if has c++ cpp; then
+    try C++ "$size: the size is no power of two from 1 to 65536"$'\n'"$all" \
+        c++ -std=c++17 -O2 "${warns[@]}" -o "$room/cpp" "$top/examples/cpp/ring.cpp" "$library/libdisruptor.a" -lpthread -- "$room/cpp"
+else
+    skip C++
+fi
+if command -v rustc > "$room/null" 2>&1; then
+    try Rust "$size"$'\n''a claim after the halt: halted'$'\n'"$all" \
+        rustc --edition 2024 -O -L "$library" -l static=disruptor -o "$room/rust" "$top/examples/rust/ring.rs" -- "$room/rust"
+else
+    skip Rust
+fi
+if command -v python3 > "$room/null" 2>&1 && python3 -c 'import ctypes' 2> "$room/null"; then
+    try Python "$size"$'\n''a claim after the halt: halted'$'\n'"$all" \
+        -- env PYTHONDONTWRITEBYTECODE=1 python3 "$top/examples/python/ring.py" "$library/libdisruptor.so"
+else
+    skip Python
+fi
+[ -z "$skipped" ] || printf 'not here, and skipped:%s\n' "$skipped"
+printf 'other languages: %s programs, %s failed\n' $cases $failed
+[ $failed -eq 0 ]

@@ -1,0 +1,160 @@
+#!/usr/bin/env python3
+"""Makes random calls twice, as the commands of `disruptor drive` and from C over libdisruptor.so, and compares each reply.
+
+    tests/over_c.py PROGRAM LIBRARY [RUNS [FIRST]]
+
+Every run is of a graph, a size, a limit and calls of its own, by the seeds FIRST, FIRST + 1 and so on. Many calls are refused.
+A ring says that it drained only once it is closed, so a run halts at its end, where all that is claimed is published.
+"""
+
+import ctypes
+import os
+import random
+import subprocess
+import sys
+import tempfile
+
+sys.dont_write_bytecode = True
+TOP = os.path.dirname(os.path.dirname(os.path.abspath(__file__)))
+sys.path.insert(0, f"{TOP}/examples/python")
+import disruptor  # noqa: E402
+
+CALLS = 200
+
+
+class Exchange:
+    """A ring over C, which says what each call answered as `drive` does, beside the records of a command file."""
+
+    def __init__(self, library, chance):
+        self.chance, self.library = chance, library
+        self.size = 1 << chance.randrange(6)
+        self.limit = chance.choice([1, 40, disruptor.MAX_LIMIT])
+        handlers = chance.randrange(1, 6)
+        masks = [sum(1 << up for up in range(k) if chance.random() < 0.4) for k in range(handlers)]
+        self.sender, self.receivers, self.halter = disruptor.open(library, self.size, masks, self.limit)
+        self.claimed = self.published = 0
+        self.taken, self.completed = [0] * handlers, [0] * handlers
+        self.records = [f"ring,{self.size},single", f"limit,{self.limit}", "with," + ",".join(f"h{k}" for k in range(handlers))]
+        self.records += [f"edge,h{up},h{k}" for k in range(handlers) for up in range(k) if masks[k] >> up & 1]
+        self.records += ["start"]
+        self.replies = []
+
+    def call(self, record, line, call, *arguments):
+        """Makes a call, and notes its record and what `drive` says of it. Returns the answer, or None where it was refused."""
+        self.records.append(record)
+        try:
+            answer = call(*arguments)
+        except disruptor.Refusal as refusal:
+            self.replies.append(f"refused {refusal.number} {refusal}")
+            return None
+        self.replies.append(line(answer))
+        return answer
+
+    def near(self, count):
+        """A number that is mostly near one that matters, and rarely far from all."""
+        if self.chance.random() < 0.02:
+            return self.chance.choice([0, (1 << 62) + 1, (1 << 64) - 1])
+        return min(max(0, count + self.chance.choice([-1, 0, 0, 0, 1, 2])), (1 << 64) - 1)
+
+    def claim(self, n):
+        lo = self.call(f"claim,0,{n}", lambda lo: f"claimed {lo} {lo + n - 1}", self.sender.claim, n)
+        if lo is not None:
+            self.claimed = lo + n
+
+    def write(self, sequence):
+        first, second = self.chance.randrange(1 << 64), self.chance.choice([0, 1, (1 << 64) - 1])
+        self.call(f"write,0,{sequence},{first},{second}", lambda _: "written", self.sender.write, sequence, first, second)
+
+    def publish(self, lo, hi):
+        self.call(f"publish,0,{lo},{hi}", lambda _: "published", self.sender.publish, lo, hi)
+        if self.replies[-1] == "published":
+            self.published = hi + 1
+
+    def poll(self, k, room):
+        events = (disruptor.Event * room)()
+
+        def line(offer):
+            if offer.kind != disruptor.BATCH:
+                return {disruptor.GATING: "gating", disruptor.IDLE: "idle", disruptor.DRAINED: "drained"}[offer.kind]
+            shown = [f"{it.first}:{it.second}" if it.second else f"{it.first}" for it in events[: offer.count]]
+            return " ".join([f"batch {offer.first}", "end" if offer.end else "more", *shown])
+
+        offer = self.call(f"poll,h{k},{room}", line, self.receivers[k].poll, events)
+        if offer is not None and offer.kind == disruptor.BATCH:
+            self.taken[k] = offer.first + offer.count
+
+    def complete(self, k, upto):
+        self.call(f"complete,h{k},{upto}", lambda _: "completed", self.receivers[k].complete, upto)
+        if self.replies[-1] == "completed":
+            self.completed[k] = upto
+
+    def step(self):
+        """Makes one random call."""
+        k = self.chance.randrange(len(self.receivers))
+        kind = self.chance.randrange(8)
+        if kind == 0:
+            self.claim(self.near(self.chance.randrange(self.size + 1)))
+        elif kind < 4:
+            self.write(self.near(self.chance.choice([self.published, self.claimed])))
+        elif kind == 4:
+            lo = self.near(self.published)
+            self.publish(lo, self.near(self.chance.randrange(lo, max(self.claimed, lo + 1))))
+        elif kind < 7:
+            self.poll(k, self.chance.choice([0, 1, 2, self.size, 64]))
+        else:
+            self.complete(k, self.near(self.taken[k]))
+
+    def end(self):
+        """Publishes what is claimed, halts, and polls each handler to the end, upstreams first."""
+        for sequence in range(self.published, self.claimed):
+            self.write(sequence)
+        if self.published < self.claimed:
+            self.publish(self.published, self.claimed - 1)
+        self.sender.close()
+        self.records.append("halt")
+        self.replies.append("halting")
+        self.claim(1)
+        for k in range(len(self.receivers)):
+            self.poll(k, 3)
+            while self.replies[-1] != "drained":
+                self.complete(k, self.taken[k])
+                self.poll(k, 3)
+            self.complete(k, self.taken[k])
+
+
+def said(program, records, folder):
+    """Returns what `drive` says of records."""
+    path = os.path.join(folder, "calls.csv")
+    with open(path, "w", encoding="utf-8") as file:
+        file.write("".join(f"{it}\n" for it in records))
+    ran = subprocess.run([program, "drive", path], stdout=subprocess.PIPE, stderr=subprocess.PIPE, timeout=60, check=False)
+    return ran.stdout.decode().splitlines() + ran.stderr.decode().splitlines()
+
+
+def main():
+    if len(sys.argv) < 3:
+        sys.exit("usage: tests/over_c.py PROGRAM LIBRARY [RUNS [FIRST]]")
+    program, library = os.path.abspath(sys.argv[1]), os.path.abspath(sys.argv[2])
+    runs = int(sys.argv[3]) if len(sys.argv) > 3 else 200
+    first = int(sys.argv[4]) if len(sys.argv) > 4 else 1
+    failed = calls = refused = 0
+    with tempfile.TemporaryDirectory() as folder:
+        for seed in range(first, first + runs):
+            exchange = Exchange(library, random.Random(seed))
+            for _ in range(CALLS):
+                exchange.step()
+            exchange.end()
+            wanted = said(program, exchange.records, folder)
+            calls += len(exchange.replies)
+            refused += sum(it.startswith("refused") for it in exchange.replies)
+            if wanted != exchange.replies:
+                failed += 1
+                at = next((k for k, (one, other) in enumerate(zip(wanted, exchange.replies)) if one != other), len(wanted))
+                made = exchange.records[len(exchange.records) - len(exchange.replies) + at]
+                print(f"FAILED: seed {seed}: {made}: C says {exchange.replies[at:at + 1]}, drive {wanted[at:at + 1]}")
+    print(f"over C and by drive: {runs} runs, {calls} calls, {refused} of them refused, {failed} runs differ")
+    sys.exit(failed > 0)
+
+
+if __name__ == "__main__":
+    main()

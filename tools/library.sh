@@ -1,0 +1,33 @@
+#!/usr/bin/env bash
+# Makes of the proved crate dr_c what programs in other languages link: in the folder OUT libdisruptor.a, libdisruptor.so
+# and disruptor.pc for pkg-config, whose prefix is PREFIX.
+#
+#   tools/library.sh OUT PREFIX
+set -eu
+top=$(cd "$(dirname "$0")/.." && pwd)
+mkdir -p "$1"
+out=$(cd "$1" && pwd) prefix=$2
+proved=$top/crates/dr_c/out/libdr_c.a
+# (allocations of the library go through the kit's heap.c, which calls malloc and free)
+kit=$(dirname "$(rt doc)")
+version=$(sed -n 's/^const VERSION: &str = "\([^,"]*\).*/\1/p' "$top/crates/dr_command_line/src/words.rt")
+[ -f "$proved" ] || { echo "$proved is not there: make lib proves it"; exit 1; }
+
+rm -f "$out/libdisruptor.a"
+printf '%s\n' "CREATE $out/libdisruptor.a" "ADDLIB $proved" "ADDLIB $kit/c/liblibc_c.a" SAVE END | ar -M
+printf '{ global: disruptor_*; local: *; };\n' > "$out/exports.map"
+"${CC:-cc}" -shared -o "$out/libdisruptor.so" -Wl,-soname,libdisruptor.so -Wl,--version-script="$out/exports.map" \
+    -Wl,--whole-archive "$out/libdisruptor.a" -Wl,--no-whole-archive
+rm "$out/exports.map"
+cat > "$out/disruptor.pc" <<END
+prefix=$prefix
+libdir=\${prefix}/lib
+includedir=\${prefix}/include
+
+Name: disruptor
+Description: The proved ring of one sender and a graph of handlers
+Version: ${version:-0}
+Libs: -L\${libdir} -ldisruptor
+Libs.private: -lpthread
+Cflags: -I\${includedir}
+END
