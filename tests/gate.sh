@@ -1,9 +1,8 @@
 #!/usr/bin/env bash
 # The whole gate: every proof and every test's proof from nothing and each program's run (`rt ci`), then the program, as both
-# compilers built it, from outside, and programs in other languages over the library; and, on what processors that leaves, the
-# wrong bodies, over the libraries that `rt ci` proves. The last line, `N passed, M failed`, counts what `rt ci` counts, each
-# wrong body, and one failure more for each script that fails on a build. All that it starts ends with it, also where it is
-# killed or interrupted.
+# compilers built it, from outside; and, on what processors that leaves, the wrong bodies, over the libraries that `rt ci`
+# proves. The last line, `N passed, M failed`, counts what `rt ci` counts, each wrong body, and one failure more for each
+# script that fails on a build. All that it starts ends with it, also where it is killed or interrupted.
 set -u
 cd "$(dirname "$0")/.." || exit 2
 [ -n "${GATE_IS_HELD-}" ] || GATE_IS_HELD=yes exec tools/together.py tests/gate.sh
@@ -50,14 +49,6 @@ for build in '' .by-rattle; do
         failed=1
     fi
 done
-if ! command -v cc > "$last"; then
-    echo 'programs in other languages: not run, since there is no C compiler'
-elif tools/library.sh out /usr/local; then
-    whole tests/other_languages.sh out
-    whole tests/over_c.py crates/disruptor/out/disruptor out/libdisruptor.so 400
-else
-    failed=$((failed + 1))
-fi
 wait "$trying"
 counted cat "$bodies"
 echo "$passed passed, $failed failed"
