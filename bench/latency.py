@@ -1,14 +1,15 @@
 #!/usr/bin/env python3
 """How long an event takes through a pipeline of three threads, from before its claim until the third has it, in
-nanoseconds: the least, the mean, of a hundred, a thousand and ten thousand events the last but one, and the most.
+nanoseconds: the least, the mean, the median, of a hundred, a thousand and ten thousand events the last but one, and the most.
 
     bench/latency.py                   an event each microsecond, each 10 and each 100
     bench/latency.py --gaps 50         an event each 50 microseconds
 
 Each program runs for about `--seconds S` a gap (two without it), in turns, `--turns N` times (three without it), of
 which the one with the middle mean counts. The first tenth of the events does not count; LMAX's programs and the queue
-have sent twice as many before, to be warm. `--under WORDS` starts each run by these words, as 'chrt -r 10', and
-`--record FILE` also writes the figures to a file, as that of bench/measured.
+have sent twice as many before, to be warm. `--under WORDS` starts each run by these words, and `--record FILE` also writes
+the figures to a file, as that of bench/measured. (Not by `chrt -r`: where threads spin on all processors, Linux stops such
+threads for a twentieth of each second.)
 
 Build ours first, by `rt run -- --check` in `crates/disruptor_latency`. LMAX's and the ArrayBlockingQueue's are there where
 `javac` and the library are, as for bench/beside.py.
@@ -28,7 +29,7 @@ OURS = os.path.join(TOP, "crates", "disruptor_latency", "out", "disruptor_latenc
 LMAX = os.path.join(TOP, "bench", "lmax", "Latency.java")
 CHANNELS = os.path.join(TOP, "bench", "plain", "latency", "main.rs")
 # The parts of the events that take at most so long.
-PARTS = (0.99, 0.999, 0.9999)
+PARTS = (0.5, 0.99, 0.999, 0.9999)
 MOST_EVENTS = 1_000_000
 
 

@@ -251,18 +251,19 @@ def producers(records):
 
 
 def latency(records):
-    """What events take on the average, and most of them at most, a panel for each gap between two events."""
-    columns = {"mean": "mean", "99%": "99 of 100", "99.9%": "999 of 1000"}
+    """What most events take at most, a panel for each gap between two events."""
+    columns = {"50%": "1 of 2", "99%": "99 of 100"}
     panels = {}
     for record in sorted(records, key=lambda record: [*LOOKS, record["program"]].index(record["program"])):
         if record["program"] in LOOKS:
             groups = panels.setdefault(int(record["gap_micros"]), {name: {} for name in columns.values()})
             for column, name in columns.items():
                 groups[name][record["program"]] = float(record[column])
-    figure = bar_picture([(f"an event each {gap} µs", panels[gap]) for gap in sorted(panels)], "nanoseconds")
+    figure = bar_picture([(f"an event each {gap} µs", panels[gap]) for gap in sorted(panels)], "beside the bars: nanoseconds")
     for axes in figure.axes:
         axes.set_xscale("log")
-        axes.margins(x=0.3)
+        axes.set_xlim(100, 1e12)
+        axes.set_xticks([1e3, 1e6], ["1 µs", "1 ms"])
     return figure
 
 

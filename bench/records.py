@@ -11,7 +11,7 @@ import platform
 
 RATES = ("topology", "size", "program", "million_events_a_second")
 SECONDS = ("tool", "size", "records", "program", "seconds")
-LATENCIES = ("program", "gap_micros", "least", "mean", "99%", "99.9%", "99.99%", "most")
+LATENCIES = ("program", "gap_micros", "least", "mean", "50%", "99%", "99.9%", "99.99%", "most")
 
 
 def machine():
