@@ -1,5 +1,6 @@
-/* The proved ring for C, and for every language that calls C: one sender hands events of two words to a graph of handlers,
- * each end on a thread of its own. No call waits, and none but disruptor_open and disruptor_free takes or gives memory.
+/* The proved ring for C, and for every language that calls C: one sender or several hand events of two words to a graph of
+ * handlers, each end on a thread of its own. No call waits, and none but the openings and disruptor_free takes memory or gives
+ * it back.
  *
  * Each call answers DISRUPTOR_OK or the number of a refusal (DISRUPTOR_REFUSALS). A refused call changes nothing, except
  * that a claim or a poll may have looked at what other ends stored.
@@ -9,11 +10,13 @@
  *     bytes may go elsewhere if the old ones are not used again. It may lie where you like.
  *   - One call at a time has a handle. An open handle may go from one thread to another by what orders the two: a thread's
  *     start or join, a lock, or an atomic of sequential consistency. Handles of one ring may be used at the same time.
- *   - A pointer is not null, is aligned for its type, and points to as much as the call says, which no other call or thread
- *     has meanwhile; an array of no elements needs a pointer too.
+ *   - A pointer that is neither null nor misaligned points to as much as the call says, which no other pointer of the call, no
+ *     other call and no other thread has meanwhile.
  *   - No call is made in a signal handler, or in a process that was forked from one with several threads.
  *   - malloc and free are of one allocator, and malloc aligns as C says.
- * All else is checked: every number, a handle that is zero or was freed, and one of another kind. */
+ * All else is checked: every number, a handle that is zero or was freed, and one of another kind. A pointer that is null or
+ * not aligned for what it leads to is refused with BAD_POINTER by each call, and so is an array longer than memory; an array
+ * of no elements may be null. */
 #ifndef DISRUPTOR_H
 #define DISRUPTOR_H
 
@@ -33,7 +36,7 @@ extern "C" {
 
 /* Two handles that two threads use lie in cache lines of their own: in one line they cost three quarters of the speed. */
 #define DISRUPTOR_HANDLE { DISRUPTOR_ALIGNED void *at; uint64_t state; uint64_t rest[14]; }
-/* The one end that claims, writes, publishes and closes. */
+/* An end that claims, writes and publishes; the one of a ring of one sender also closes it. */
 typedef struct disruptor_sender DISRUPTOR_HANDLE disruptor_sender;
 /* The end of one handler, which receives every event after its upstreams. */
 typedef struct disruptor_receiver DISRUPTOR_HANDLE disruptor_receiver;
@@ -71,61 +74,148 @@ DISRUPTOR_HOLDS(sizeof(disruptor_event) == 16 && sizeof(disruptor_offer) == 24 &
     of(8, OUT_OF_ORDER, "out-of-order", "an earlier sequence is not published") \
     of(9, NOT_TAKEN, "not-taken", "the handler has not taken so many events") \
     of(10, BEHIND, "behind", "the handler has completed more already") \
+    of(16, CONTENDED, "contended", "another sender claimed meanwhile: claim again") \
     of(25, TOO_MANY, "too-many", "there would be more than 16 handlers") \
     of(26, NO_HANDLERS, "no-handlers", "there would be no handler") \
     of(31, BAD_SIZE, "bad-size", "the size is no power of two from 1 to 65536") \
+    of(32, BAD_PRODUCERS, "bad-producers", "there would be no senders, or more than 16") \
     of(33, BAD_LIMIT, "bad-limit", "the limit of sequences is 0 or above 2^62") \
     of(40, NO_MEMORY, "no-memory", "an allocation failed") \
     of(41, OPEN_CLAIM, "open-claim", "a claimed sequence is not published") \
     of(61, NOT_OPEN, "not-open", "the handle is zero, or was freed") \
     of(62, WRONG_END, "wrong-end", "the handle has an end of another kind") \
     of(63, STILL_OPEN, "still-open", "a handle that would be opened is open: free it first") \
-    of(64, BAD_ORDER, "bad-order", "a handler's mask names itself, or one after it")
+    of(64, BAD_ORDER, "bad-order", "a handler's mask names itself, or one after it") \
+    of(65, BAD_POINTER, "bad-pointer", "a pointer is null or not aligned, or an array is longer than memory")
 #define DISRUPTOR_NUMBER(number, name, text, why) DISRUPTOR_##name = number,
 enum { DISRUPTOR_OK = 0, DISRUPTOR_REFUSALS(DISRUPTOR_NUMBER) };
 /* The greatest limit of sequences. */
 #define DISRUPTOR_MAX_LIMIT (UINT64_C(1) << 62)
 
+/* What the library exports. A pointer comes with how many things lie there, 1 or none; `handlers`, `count` and `room` say how
+ * long an array was said to be. A pointer that leads to nothing is refused with BAD_POINTER. It may not be null itself: for
+ * none pass any aligned address that stands. The calls below do so; other languages call these. */
+uint32_t disruptor_open_at(uint64_t size, uint64_t limit, const uint64_t *upstreams, size_t masks, size_t handlers,
+                           disruptor_sender *sender, size_t senders, disruptor_receiver *receivers, size_t places,
+                           size_t count, disruptor_halter *halter, size_t halters);
+uint32_t disruptor_open_several_at(uint64_t size, uint64_t limit, const uint64_t *upstreams, size_t masks, size_t handlers,
+                                   disruptor_sender *senders, size_t ends, size_t count, disruptor_receiver *receivers,
+                                   size_t places, size_t rooms, disruptor_halter *halter, size_t halters);
+void disruptor_free_at(void *handles, size_t count);
+uint32_t disruptor_claim_at(disruptor_sender *sender, size_t senders, uint64_t n, uint64_t *lo, size_t numbers);
+uint32_t disruptor_write_at(disruptor_sender *sender, size_t senders, uint64_t sequence, const disruptor_event *event, size_t events);
+uint32_t disruptor_publish_at(disruptor_sender *sender, size_t senders, uint64_t lo, uint64_t hi);
+uint32_t disruptor_close_at(disruptor_sender *sender, size_t senders);
+uint32_t disruptor_poll_at(disruptor_receiver *receiver, size_t receivers, disruptor_event *events, size_t places, size_t room,
+                           disruptor_offer *offer, size_t offers);
+uint32_t disruptor_complete_at(disruptor_receiver *receiver, size_t receivers, uint64_t upto);
+uint32_t disruptor_halt_at(disruptor_halter *halter, size_t halters);
+size_t disruptor_name_at(uint32_t number, char *text, size_t room);
+
+/* So many things, if they can lie there, or none. */
+static inline size_t disruptor_there(const void *at, size_t alignment, size_t size, size_t count) {
+    return at && (uintptr_t)at % alignment == 0 && count <= (size_t)PTRDIFF_MAX / size ? count : 0;
+}
+
+/* A pointer to something that stands, in place of one to nothing. */
+static inline void *disruptor_or_nothing(const void *at, size_t there) {
+    static uint64_t nothing;
+    return there ? (void *)(uintptr_t)at : (void *)&nothing;
+}
+/* A pointer and how many things of its type lie there; eight bytes is what the library asks of the alignment of any but text. */
+#define DISRUPTOR_THERE(at, count) disruptor_there(at, sizeof *(at) == 1 ? 1 : 8, sizeof *(at), count)
+#define DISRUPTOR_ARRAY(type, at, count) (type *)disruptor_or_nothing(at, DISRUPTOR_THERE(at, count)), DISRUPTOR_THERE(at, count)
+#define DISRUPTOR_ONE(type, at) DISRUPTOR_ARRAY(type, at, 1)
+
 /* Opens a ring of `size` slots in which `limit` sequences may be claimed. Handler k follows those handlers whose bits are
  * in the mask upstreams[k], all of them before k, and its receiver comes to receivers[k]. There are as many receivers as
- * masks, 1 to 16. Refusals: STILL_OPEN, BAD_COUNT, BAD_SIZE, NO_HANDLERS, TOO_MANY, BAD_ORDER, BAD_LIMIT, NO_MEMORY; then
- * no handle is opened. */
-uint32_t disruptor_open(uint64_t size, uint64_t limit, const uint64_t *upstreams, size_t handlers,
-                        disruptor_sender *sender, disruptor_receiver *receivers, size_t count, disruptor_halter *halter);
+ * masks, 1 to 16. Refusals: BAD_POINTER, STILL_OPEN, BAD_COUNT, BAD_SIZE, NO_HANDLERS, TOO_MANY, BAD_ORDER, BAD_LIMIT,
+ * NO_MEMORY; then no handle is opened. */
+static inline uint32_t disruptor_open(uint64_t size, uint64_t limit, const uint64_t *upstreams, size_t handlers,
+                                      disruptor_sender *sender, disruptor_receiver *receivers, size_t count,
+                                      disruptor_halter *halter) {
+    return disruptor_open_at(size, limit, DISRUPTOR_ARRAY(const uint64_t, upstreams, handlers), handlers,
+                             DISRUPTOR_ONE(disruptor_sender, sender), DISRUPTOR_ARRAY(disruptor_receiver, receivers, count),
+                             count, DISRUPTOR_ONE(disruptor_halter, halter));
+}
 
-/* Frees what a handle of any kind has, and leaves it as before it was opened. A ring is let go with its last end. */
-void disruptor_free(void *handle);
+/* Opens a ring of `count` senders, 1 to 16, whose ends come to senders[0] and on; else as disruptor_open, with as many receivers
+ * as handlers. Any of the senders may claim at any time. The ring ends with a halt: a handler that took all that is claimed is
+ * told DRAINED then. Refusals: those of disruptor_open, and BAD_PRODUCERS. */
+static inline uint32_t disruptor_open_several(uint64_t size, uint64_t limit, const uint64_t *upstreams, size_t handlers,
+                                              disruptor_sender *senders, size_t count, disruptor_receiver *receivers,
+                                              size_t rooms, disruptor_halter *halter) {
+    return disruptor_open_several_at(size, limit, DISRUPTOR_ARRAY(const uint64_t, upstreams, handlers), handlers,
+                                     DISRUPTOR_ARRAY(disruptor_sender, senders, count), count,
+                                     DISRUPTOR_ARRAY(disruptor_receiver, receivers, rooms), rooms,
+                                     DISRUPTOR_ONE(disruptor_halter, halter));
+}
 
-/* Claims the next n sequences, from *lo on. Refusals: BAD_COUNT (none, or more than the size), HALTED, EXHAUSTED, NO_ROOM;
- * then *lo stays as it was. */
-uint32_t disruptor_claim(disruptor_sender *sender, uint64_t n, uint64_t *lo);
+/* In masks for so many handlers, puts handler `upstream` before `handler`: the upstreams of a graph, pair by pair. The masks
+ * begin as zeros. Refusals: BAD_POINTER, BAD_ORDER (it does not come before, or there is no such handler). */
+static inline uint32_t disruptor_before(uint64_t *upstreams, size_t handlers, size_t upstream, size_t handler) {
+    if (!DISRUPTOR_THERE(upstreams, handlers)) return DISRUPTOR_BAD_POINTER;
+    if (upstream >= handler || handler >= handlers || upstream >= 64) return DISRUPTOR_BAD_ORDER;
+    upstreams[handler] |= UINT64_C(1) << upstream;
+    return DISRUPTOR_OK;
+}
+
+/* Frees what a handle of any kind has, and leaves it as before it was opened. A ring is let go with its last end. A null
+ * pointer is let be. */
+static inline void disruptor_free(void *handle) {
+    size_t there = disruptor_there(handle, 8, sizeof(disruptor_sender), 1);
+    disruptor_free_at(disruptor_or_nothing(handle, there), there);
+}
+
+/* Claims the next n sequences, from *lo on. Refusals: BAD_POINTER (of either), NOT_OPEN, WRONG_END, BAD_COUNT (none, or more
+ * than the size), HALTED, EXHAUSTED, NO_ROOM, and of several senders CONTENDED; then *lo stays as it was. */
+static inline uint32_t disruptor_claim(disruptor_sender *sender, uint64_t n, uint64_t *lo) {
+    return disruptor_claim_at(DISRUPTOR_ONE(disruptor_sender, sender), n, DISRUPTOR_ONE(uint64_t, lo));
+}
 
 /* Writes the event of a sequence that is claimed and not published, in place of one that was written before. Refusals:
- * NOT_CLAIMED, ALREADY_PUBLISHED. */
-uint32_t disruptor_write(disruptor_sender *sender, uint64_t sequence, const disruptor_event *event);
+ * BAD_POINTER (of either), NOT_OPEN, WRONG_END, NOT_CLAIMED (or claimed by another sender), ALREADY_PUBLISHED. */
+static inline uint32_t disruptor_write(disruptor_sender *sender, uint64_t sequence, const disruptor_event *event) {
+    return disruptor_write_at(DISRUPTOR_ONE(disruptor_sender, sender), sequence, DISRUPTOR_ONE(const disruptor_event, event));
+}
 
-/* Publishes the sequences from lo to hi, both among them. Refusals: BAD_COUNT (lo is above hi), NOT_CLAIMED,
- * ALREADY_PUBLISHED, NOT_WRITTEN, OUT_OF_ORDER. */
-uint32_t disruptor_publish(disruptor_sender *sender, uint64_t lo, uint64_t hi);
+/* Publishes the sequences from lo to hi, both among them. Refusals: BAD_POINTER, NOT_OPEN, WRONG_END, BAD_COUNT (lo is above
+ * hi), NOT_CLAIMED, ALREADY_PUBLISHED, NOT_WRITTEN, and of one sender OUT_OF_ORDER. */
+static inline uint32_t disruptor_publish(disruptor_sender *sender, uint64_t lo, uint64_t hi) {
+    return disruptor_publish_at(DISRUPTOR_ONE(disruptor_sender, sender), lo, hi);
+}
 
-/* Closes the ring: no event will come any more, and a receiver that took all of them is told DRAINED. It may be repeated.
- * Refusal: OPEN_CLAIM. */
-uint32_t disruptor_close(disruptor_sender *sender);
+/* Closes the ring of one sender: no event comes from then on, and a receiver that took all of them is told DRAINED. It may be
+ * repeated. Refusals: BAD_POINTER, NOT_OPEN, WRONG_END (also a sender of several), OPEN_CLAIM. */
+static inline uint32_t disruptor_close(disruptor_sender *sender) {
+    return disruptor_close_at(DISRUPTOR_ONE(disruptor_sender, sender));
+}
 
 /* Takes the next events to the front of `events`, `room` at most, and says in *offer what came. What lies past the batch
- * stays as it was. Refusal: BAD_COUNT (no room). */
-uint32_t disruptor_poll(disruptor_receiver *receiver, disruptor_event *events, size_t room, disruptor_offer *offer);
+ * stays as it was. Refusals: BAD_POINTER (of any of the three), NOT_OPEN, WRONG_END, BAD_COUNT (no room); then *offer stays
+ * as it was. */
+static inline uint32_t disruptor_poll(disruptor_receiver *receiver, disruptor_event *events, size_t room, disruptor_offer *offer) {
+    return disruptor_poll_at(DISRUPTOR_ONE(disruptor_receiver, receiver), DISRUPTOR_ARRAY(disruptor_event, events, room), room,
+                             DISRUPTOR_ONE(disruptor_offer, offer));
+}
 
 /* Completes all events below the sequence `upto`: those who follow may take them, and after a final handler their slots may
- * be claimed again. Refusals: BEHIND, NOT_TAKEN. */
-uint32_t disruptor_complete(disruptor_receiver *receiver, uint64_t upto);
+ * be claimed again. Refusals: BAD_POINTER, NOT_OPEN, WRONG_END, BEHIND, NOT_TAKEN. */
+static inline uint32_t disruptor_complete(disruptor_receiver *receiver, uint64_t upto) {
+    return disruptor_complete_at(DISRUPTOR_ONE(disruptor_receiver, receiver), upto);
+}
 
-/* Halts the ring: its sender claims no more. Handlers are told DRAINED only once the sender has closed. */
-uint32_t disruptor_halt(disruptor_halter *halter);
+/* Halts the ring: nobody claims from then on. Handlers of one sender are told DRAINED only once it has closed, those of several
+ * once they took all that is claimed. Refusals: BAD_POINTER, NOT_OPEN, WRONG_END. */
+static inline uint32_t disruptor_halt(disruptor_halter *halter) {
+    return disruptor_halt_at(DISRUPTOR_ONE(disruptor_halter, halter));
+}
 
 /* The name of a number, as in "no-room", to the front of `text`, `room` bytes at most and without a zero at its end.
- * Answers how many bytes it has, or 0 where there is no such number. */
-size_t disruptor_name(uint32_t number, char *text, size_t room);
+ * Answers how many bytes it has, or 0 where there is no such number. A null `text` is no room. */
+static inline size_t disruptor_name(uint32_t number, char *text, size_t room) {
+    return disruptor_name_at(number, DISRUPTOR_ARRAY(char, text, room));
+}
 
 /* What a number means. */
 static inline const char *disruptor_text(uint32_t number) {

@@ -66,11 +66,11 @@ private:
 
 class sender : public end<disruptor_sender> {
 public:
-    // The first of n sequences, or nothing where there is no room.
+    // The first of n sequences, or nothing where there is no room, or another sender came first.
     std::optional<std::uint64_t> try_claim(std::uint64_t n) {
         std::uint64_t lo = 0;
         const std::uint32_t number = disruptor_claim(get(), n, &lo);
-        if (number == DISRUPTOR_NO_ROOM) return std::nullopt;
+        if (number == DISRUPTOR_NO_ROOM || number == DISRUPTOR_CONTENDED) return std::nullopt;
         check(number);
         return lo;
     }
@@ -126,6 +126,33 @@ struct ring {
     std::vector<receiver> receivers;
     disruptor::halter halter;
 };
+
+struct ring_of_several {
+    std::vector<disruptor::sender> senders;
+    std::vector<receiver> receivers;
+    disruptor::halter halter;
+};
+
+// Has each handle of a list in an end of its own.
+template <typename End, typename Handle>
+std::vector<End> owned(const std::vector<Handle> &handles) {
+    std::vector<End> ends(handles.size());
+    for (std::size_t k = 0; k < handles.size(); k++) *ends[k].get() = handles[k];
+    return ends;
+}
+
+// Opens a ring of several senders.
+inline ring_of_several open_several(std::uint64_t size, const std::vector<std::uint64_t> &upstreams, std::size_t senders,
+                                    std::uint64_t limit = DISRUPTOR_MAX_LIMIT) {
+    ring_of_several made;
+    std::vector<disruptor_sender> sending(senders, disruptor_sender DISRUPTOR_NEW);
+    std::vector<disruptor_receiver> receiving(upstreams.size(), disruptor_receiver DISRUPTOR_NEW);
+    check(disruptor_open_several(size, limit, upstreams.data(), upstreams.size(), sending.data(), senders, receiving.data(),
+                                 receiving.size(), made.halter.get()));
+    made.senders = owned<disruptor::sender>(sending);
+    made.receivers = owned<receiver>(receiving);
+    return made;
+}
 
 // Opens a ring: handler k follows those whose bits are in the mask upstreams[k].
 inline ring open(std::uint64_t size, const std::vector<std::uint64_t> &upstreams, std::uint64_t limit = DISRUPTOR_MAX_LIMIT) {

@@ -37,6 +37,17 @@ static void try_opening(void) {
     expect("no such upstream", open_ring(4, 10, 2, 2, UINT64_C(1) << 63), DISRUPTOR_BAD_ORDER);
 }
 
+static void try_pairs(void) {
+    uint64_t upstreams[3] = {0};
+    expect("a pair", disruptor_before(upstreams, 3, 0, 2), DISRUPTOR_OK);
+    expect("another", disruptor_before(upstreams, 3, 1, 2), DISRUPTOR_OK);
+    expect("the masks", upstreams[0] == 0 && upstreams[1] == 0 && upstreams[2] == 3, 1);
+    expect("a pair of one", disruptor_before(upstreams, 3, 1, 1), DISRUPTOR_BAD_ORDER);
+    expect("a pair backwards", disruptor_before(upstreams, 3, 2, 1), DISRUPTOR_BAD_ORDER);
+    expect("no such handler", disruptor_before(upstreams, 3, 0, 3), DISRUPTOR_BAD_ORDER);
+    expect("no masks", disruptor_before(NULL, 3, 0, 1), DISRUPTOR_BAD_POINTER);
+}
+
 static void try_closed_handles(void) {
     uint64_t lo = 7;
     disruptor_event event = {1, 2};
@@ -49,6 +60,42 @@ static void try_closed_handles(void) {
     expect("a completion by nothing", disruptor_complete(&receivers[0], 0), DISRUPTOR_NOT_OPEN);
     expect("a halt by nothing", disruptor_halt(&halter), DISRUPTOR_NOT_OPEN);
     expect("what a refused claim left", lo == 7 && event.first == 1 && offer.kind == 9, 1);
+}
+
+/* Each pointer of each call, null and misaligned, on open handles. */
+static void try_pointers(void) {
+    static const uint64_t upstreams[2] = {0, 1};
+    static disruptor_sender other;
+    static disruptor_receiver others[2];
+    static disruptor_halter third;
+    uint64_t lo = 7;
+    disruptor_event event = {1, 2};
+    disruptor_offer offer = {9, 9, 9, 9};
+    void *crooked = (char *)&lo + 1;
+    expect("an opening without masks", disruptor_open(4, 6, NULL, 2, &other, others, 2, &third), DISRUPTOR_BAD_POINTER);
+    expect("without a sender", disruptor_open(4, 6, upstreams, 2, NULL, others, 2, &third), DISRUPTOR_BAD_POINTER);
+    expect("without receivers", disruptor_open(4, 6, upstreams, 2, &other, NULL, 2, &third), DISRUPTOR_BAD_POINTER);
+    expect("without a halter", disruptor_open(4, 6, upstreams, 2, &other, others, 2, NULL), DISRUPTOR_BAD_POINTER);
+    expect("of no handlers", disruptor_open(4, 6, NULL, 0, &other, NULL, 0, &third), DISRUPTOR_NO_HANDLERS);
+    expect("of more than memory has", disruptor_open(4, 6, upstreams, SIZE_MAX, &other, others, 2, &third), DISRUPTOR_BAD_POINTER);
+    expect("a claim by null", disruptor_claim(NULL, 1, &lo), DISRUPTOR_BAD_POINTER);
+    expect("a claim to null", disruptor_claim(&sender, 1, NULL), DISRUPTOR_BAD_POINTER);
+    expect("a claim to no number's place", disruptor_claim(&sender, 1, crooked), DISRUPTOR_BAD_POINTER);
+    expect("a write by null", disruptor_write(NULL, 0, &event), DISRUPTOR_BAD_POINTER);
+    expect("a write of null", disruptor_write(&sender, 0, NULL), DISRUPTOR_BAD_POINTER);
+    expect("a publication by null", disruptor_publish(NULL, 0, 0), DISRUPTOR_BAD_POINTER);
+    expect("a close by null", disruptor_close(NULL), DISRUPTOR_BAD_POINTER);
+    expect("a poll by null", disruptor_poll(NULL, &event, 1, &offer), DISRUPTOR_BAD_POINTER);
+    expect("a poll to null", disruptor_poll(&receivers[0], NULL, 1, &offer), DISRUPTOR_BAD_POINTER);
+    expect("a poll that tells null", disruptor_poll(&receivers[0], &event, 1, NULL), DISRUPTOR_BAD_POINTER);
+    expect("a poll to more than memory has", disruptor_poll(&receivers[0], &event, SIZE_MAX / 2, &offer), DISRUPTOR_BAD_POINTER);
+    expect("a poll to null, of no room", disruptor_poll(&receivers[0], NULL, 0, &offer), DISRUPTOR_BAD_COUNT);
+    expect("a completion by null", disruptor_complete(NULL, 0), DISRUPTOR_BAD_POINTER);
+    expect("a halt by null", disruptor_halt(NULL), DISRUPTOR_BAD_POINTER);
+    expect("a name to null", (uint32_t)disruptor_name(DISRUPTOR_NO_ROOM, NULL, 16), 7);
+    disruptor_free(NULL);
+    expect("what all these left", lo == 7 && event.first == 1 && offer.kind == 9, 1);
+    expect("and that nothing is open", disruptor_halt(&third), DISRUPTOR_NOT_OPEN);
 }
 
 static void try_sending(void) {
@@ -105,13 +152,55 @@ static void try_the_end(void) {
     expect("why", offer.kind, DISRUPTOR_DRAINED);
 }
 
+static void try_several(void) {
+    static const uint64_t upstreams[1] = {0};
+    static disruptor_sender senders[17];
+    static disruptor_receiver one[1];
+    static disruptor_halter last;
+    disruptor_event event = {3, 4}, taken[4];
+    disruptor_offer offer;
+    uint64_t lo = 7, other = 7;
+    expect("no senders", disruptor_open_several(4, 9, upstreams, 1, senders, 0, one, 1, &last), DISRUPTOR_BAD_PRODUCERS);
+    expect("17 senders", disruptor_open_several(4, 9, upstreams, 1, senders, 17, one, 1, &last), DISRUPTOR_BAD_PRODUCERS);
+    expect("a limit of 0, of several", disruptor_open_several(4, 0, upstreams, 1, senders, 2, one, 1, &last), DISRUPTOR_BAD_LIMIT);
+    expect("no receivers", disruptor_open_several(4, 9, upstreams, 1, senders, 2, one, 0, &last), DISRUPTOR_BAD_COUNT);
+    expect("null senders", disruptor_open_several(4, 9, upstreams, 1, NULL, 2, one, 1, &last), DISRUPTOR_BAD_POINTER);
+    expect("a null halter", disruptor_open_several(4, 9, upstreams, 1, senders, 2, one, 1, NULL), DISRUPTOR_BAD_POINTER);
+    expect("two senders", disruptor_open_several(4, 9, upstreams, 1, senders, 2, one, 1, &last), DISRUPTOR_OK);
+    expect("two senders again", disruptor_open_several(4, 9, upstreams, 1, senders, 2, one, 1, &last), DISRUPTOR_STILL_OPEN);
+    expect("the first's claim", disruptor_claim(&senders[0], 2, &lo), DISRUPTOR_OK);
+    expect("the second's", disruptor_claim(&senders[1], 2, &other), DISRUPTOR_OK);
+    expect("their sequences", lo == 0 && other == 2, 1);
+    expect("a claim of full slots, of several", disruptor_claim(&senders[0], 1, &lo), DISRUPTOR_NO_ROOM);
+    expect("a write to another's sequence", disruptor_write(&senders[0], 2, &event), DISRUPTOR_NOT_CLAIMED);
+    for (uint64_t k = 0; k < 4; k++) expect("a write of several", disruptor_write(&senders[k / 2], k, &event), DISRUPTOR_OK);
+    expect("a publication before the first's", disruptor_publish(&senders[1], 2, 3), DISRUPTOR_OK);
+    expect("a poll before it", disruptor_poll(&one[0], taken, 4, &offer), DISRUPTOR_OK);
+    expect("its kind", offer.kind, DISRUPTOR_GATING);
+    expect("the first's publication", disruptor_publish(&senders[0], 0, 1), DISRUPTOR_OK);
+    expect("a poll of all", disruptor_poll(&one[0], taken, 4, &offer), DISRUPTOR_OK);
+    expect("its count", (uint32_t)offer.count, 4);
+    expect("a completion of all", disruptor_complete(&one[0], 4), DISRUPTOR_OK);
+    expect("a close of one of several", disruptor_close(&senders[0]), DISRUPTOR_WRONG_END);
+    expect("a receiver's halt", disruptor_halt((disruptor_halter *)(void *)&one[0]), DISRUPTOR_WRONG_END);
+    expect("a halt of several", disruptor_halt(&last), DISRUPTOR_OK);
+    expect("a claim after the halt", disruptor_claim(&senders[1], 1, &lo), DISRUPTOR_HALTED);
+    expect("a poll of none", disruptor_poll(&one[0], taken, 4, &offer), DISRUPTOR_OK);
+    expect("its kind", offer.kind, DISRUPTOR_DRAINED);
+    for (int k = 0; k < 2; k++) disruptor_free(&senders[k]);
+    disruptor_free(&one[0]);
+    disruptor_free(&last);
+}
+
 int main(void) {
     char name[16] = "";
     expect("the length of a name", (uint32_t)disruptor_name(DISRUPTOR_NO_ROOM, name, sizeof name), 7);
     expect("a name", strcmp(name, "no-room") == 0, 1);
+    try_pairs();
     try_opening();
     try_closed_handles();
     expect("an opening", open_ring(4, 6, 2, 2, 1), DISRUPTOR_OK);
+    try_pointers();
     try_sending();
     try_receiving();
     try_the_end();
@@ -119,6 +208,7 @@ int main(void) {
     try_closed_handles();
     expect("an opening anew", open_ring(4, 6, 2, 2, 1), DISRUPTOR_OK);
     free_all();
+    try_several();
     puts("every misuse is refused by its number");
     return 0;
 }

@@ -7,6 +7,7 @@ import ctypes
 import time
 
 NO_ROOM = 1
+CONTENDED = 16
 BATCH, GATING, IDLE, DRAINED = range(4)
 MAX_LIMIT = 1 << 62
 
@@ -28,7 +29,7 @@ class Refusal(Exception):
 
     def __init__(self, library, number):
         text = ctypes.create_string_buffer(64)
-        length = library.disruptor_name(number, text, 64)
+        length = library.disruptor_name_at(number, text, 64)
         super().__init__(text.raw[:length].decode())
         self.number = number
 
@@ -37,20 +38,22 @@ def load(path):
     """Returns the library, with the types of its calls."""
     library = ctypes.CDLL(path)
     handle, number, size = ctypes.POINTER(Handle), ctypes.c_uint64, ctypes.c_size_t
+    # (a pointer comes with how many things lie there)
     for name, *types in (
-        ("open", number, number, ctypes.POINTER(number), size, handle, handle, size, handle),
-        ("claim", handle, number, ctypes.POINTER(number)),
-        ("write", handle, number, ctypes.POINTER(Event)),
-        ("publish", handle, number, number),
-        ("close", handle),
-        ("poll", handle, ctypes.POINTER(Event), size, ctypes.POINTER(Offer)),
-        ("complete", handle, number),
-        ("halt", handle),
+        ("open", number, number, ctypes.POINTER(number), size, size, handle, size, handle, size, size, handle, size),
+        ("open_several", number, number, ctypes.POINTER(number), size, size, handle, size, size, handle, size, size, handle, size),
+        ("claim", handle, size, number, ctypes.POINTER(number), size),
+        ("write", handle, size, number, ctypes.POINTER(Event), size),
+        ("publish", handle, size, number, number),
+        ("close", handle, size),
+        ("poll", handle, size, ctypes.POINTER(Event), size, size, ctypes.POINTER(Offer), size),
+        ("complete", handle, size, number),
+        ("halt", handle, size),
     ):
-        call = getattr(library, f"disruptor_{name}")
+        call = getattr(library, f"disruptor_{name}_at")
         call.argtypes, call.restype = types, ctypes.c_uint32
-    library.disruptor_free.argtypes, library.disruptor_free.restype = [handle], None
-    library.disruptor_name.argtypes, library.disruptor_name.restype = [ctypes.c_uint32, ctypes.c_char_p, size], size
+    library.disruptor_free_at.argtypes, library.disruptor_free_at.restype = [handle, size], None
+    library.disruptor_name_at.argtypes, library.disruptor_name_at.restype = [ctypes.c_uint32, ctypes.c_char_p, size], size
     return library
 
 
@@ -62,12 +65,12 @@ class End:
         self.library, self.handle, self.owner = library, handle, owner
 
     def call(self, name, *arguments):
-        number = getattr(self.library, f"disruptor_{name}")(self.handle, *arguments)
+        number = getattr(self.library, f"disruptor_{name}_at")(self.handle, 1, *arguments)
         if number:
             raise Refusal(self.library, number)
 
     def free(self):
-        self.library.disruptor_free(self.handle)
+        self.library.disruptor_free_at(self.handle, 1)
 
     def __del__(self):
         self.free()
@@ -77,11 +80,11 @@ class Sender(End):
     def claim(self, n):
         """Claims n sequences, and returns the first."""
         lo = ctypes.c_uint64()
-        self.call("claim", n, ctypes.byref(lo))
+        self.call("claim", n, ctypes.byref(lo), 1)
         return lo.value
 
     def write(self, sequence, first, second=0):
-        self.call("write", sequence, ctypes.byref(Event(first, second)))
+        self.call("write", sequence, ctypes.byref(Event(first, second)), 1)
 
     def publish(self, lo, hi):
         self.call("publish", lo, hi)
@@ -96,7 +99,7 @@ class Sender(End):
                 lo = self.claim(len(events))
                 break
             except Refusal as refusal:
-                if refusal.number != NO_ROOM:
+                if refusal.number not in (NO_ROOM, CONTENDED):
                     raise
                 time.sleep(0)
         for k, (first, second) in enumerate(events):
@@ -108,7 +111,7 @@ class Receiver(End):
     def poll(self, events):
         """Takes events into an array of `Event`, and returns the offer."""
         offer = Offer()
-        self.call("poll", events, len(events), ctypes.byref(offer))
+        self.call("poll", events, len(events), len(events), ctypes.byref(offer), 1)
         return offer
 
     def complete(self, upto):
@@ -138,10 +141,25 @@ def open(path, size, upstreams, limit=MAX_LIMIT):
     library = load(path)
     sender, receivers, halter = Handle(), (Handle * len(upstreams))(), Handle()
     masks = (ctypes.c_uint64 * len(upstreams))(*upstreams)
-    number = library.disruptor_open(
-        size, limit, masks, len(masks), ctypes.byref(sender), receivers, len(receivers), ctypes.byref(halter)
+    count = len(upstreams)
+    number = library.disruptor_open_at(
+        size, limit, masks, count, count, ctypes.byref(sender), 1, receivers, count, count, ctypes.byref(halter), 1
     )
     if number:
         raise Refusal(library, number)
     own = [Receiver(library, ctypes.pointer(receivers[k]), receivers) for k in range(len(receivers))]
     return Sender(library, ctypes.pointer(sender)), own, Halter(library, ctypes.pointer(halter))
+
+
+def open_several(path, size, upstreams, senders, limit=MAX_LIMIT):
+    """Opens a ring of several senders, and returns them, its receivers and its halter."""
+    library, count = load(path), len(upstreams)
+    sending, receiving, halter = (Handle * senders)(), (Handle * count)(), Handle()
+    masks = (ctypes.c_uint64 * count)(*upstreams)
+    number = library.disruptor_open_several_at(
+        size, limit, masks, count, count, sending, senders, senders, receiving, count, count, ctypes.byref(halter), 1
+    )
+    if number:
+        raise Refusal(library, number)
+    own = [Receiver(library, ctypes.pointer(receiving[k]), receiving) for k in range(count)]
+    return [Sender(library, ctypes.pointer(sending[k]), sending) for k in range(senders)], own, Halter(library, ctypes.pointer(halter))

@@ -37,24 +37,26 @@ impl Handle {
 
 impl Drop for Handle {
     fn drop(&mut self) {
-        unsafe { disruptor_free(self) }
+        unsafe { disruptor_free_at(self, 1) }
     }
 }
 
 // That an end may move to another thread is proved in the library.
 unsafe impl Send for Handle {}
 
+// A pointer comes with how many things lie there.
 unsafe extern "C" {
-    fn disruptor_open(size: u64, limit: u64, upstreams: *const u64, handlers: usize, sender: *mut Handle, receivers: *mut Handle, count: usize, halter: *mut Handle) -> u32;
-    fn disruptor_free(handle: *mut Handle);
-    fn disruptor_claim(sender: *mut Handle, n: u64, lo: *mut u64) -> u32;
-    fn disruptor_write(sender: *mut Handle, sequence: u64, event: *const Event) -> u32;
-    fn disruptor_publish(sender: *mut Handle, lo: u64, hi: u64) -> u32;
-    fn disruptor_close(sender: *mut Handle) -> u32;
-    fn disruptor_poll(receiver: *mut Handle, events: *mut Event, room: usize, offer: *mut Offer) -> u32;
-    fn disruptor_complete(receiver: *mut Handle, upto: u64) -> u32;
-    fn disruptor_halt(halter: *mut Handle) -> u32;
-    fn disruptor_name(number: u32, text: *mut u8, room: usize) -> usize;
+    fn disruptor_open_at(size: u64, limit: u64, upstreams: *const u64, masks: usize, handlers: usize, sender: *mut Handle, senders: usize, receivers: *mut Handle, places: usize, count: usize, halter: *mut Handle, halters: usize) -> u32;
+    fn disruptor_open_several_at(size: u64, limit: u64, upstreams: *const u64, masks: usize, handlers: usize, senders: *mut Handle, ends: usize, count: usize, receivers: *mut Handle, places: usize, rooms: usize, halter: *mut Handle, halters: usize) -> u32;
+    fn disruptor_free_at(handle: *mut Handle, count: usize);
+    fn disruptor_claim_at(sender: *mut Handle, senders: usize, n: u64, lo: *mut u64, numbers: usize) -> u32;
+    fn disruptor_write_at(sender: *mut Handle, senders: usize, sequence: u64, event: *const Event, events: usize) -> u32;
+    fn disruptor_publish_at(sender: *mut Handle, senders: usize, lo: u64, hi: u64) -> u32;
+    fn disruptor_close_at(sender: *mut Handle, senders: usize) -> u32;
+    fn disruptor_poll_at(receiver: *mut Handle, receivers: usize, events: *mut Event, places: usize, room: usize, offer: *mut Offer, offers: usize) -> u32;
+    fn disruptor_complete_at(receiver: *mut Handle, receivers: usize, upto: u64) -> u32;
+    fn disruptor_halt_at(halter: *mut Handle, halters: usize) -> u32;
+    fn disruptor_name_at(number: u32, text: *mut u8, room: usize) -> usize;
 }
 
 /// Why a call was refused: its number, which stays the same in every release.
@@ -66,13 +68,15 @@ impl Refusal {
     /// A final handler has not completed the events in the slots: wait, and claim again.
     pub const NO_ROOM: Refusal = Refusal(1);
     pub const HALTED: Refusal = Refusal(2);
+    /// Another sender claimed meanwhile: claim again.
+    pub const CONTENDED: Refusal = Refusal(16);
     pub const BAD_SIZE: Refusal = Refusal(31);
 }
 
 impl fmt::Display for Refusal {
     fn fmt(&self, f: &mut fmt::Formatter<'_>) -> fmt::Result {
         let mut text = [0; 32];
-        let length = unsafe { disruptor_name(self.0, text.as_mut_ptr(), text.len()) };
+        let length = unsafe { disruptor_name_at(self.0, text.as_mut_ptr(), text.len()) };
         f.write_str(&String::from_utf8_lossy(&text[..length.min(text.len())]))
     }
 }
@@ -100,20 +104,20 @@ impl Sender {
     /// Claims `n` sequences, and gives the first.
     pub fn claim(&mut self, n: u64) -> Result<u64, Refusal> {
         let mut lo = 0;
-        answer(unsafe { disruptor_claim(&mut self.0, n, &mut lo) })?;
+        answer(unsafe { disruptor_claim_at(&mut self.0, 1, n, &mut lo, 1) })?;
         Ok(lo)
     }
 
     pub fn write(&mut self, sequence: u64, event: Event) -> Result<(), Refusal> {
-        answer(unsafe { disruptor_write(&mut self.0, sequence, &event) })
+        answer(unsafe { disruptor_write_at(&mut self.0, 1, sequence, &event, 1) })
     }
 
     pub fn publish(&mut self, lo: u64, hi: u64) -> Result<(), Refusal> {
-        answer(unsafe { disruptor_publish(&mut self.0, lo, hi) })
+        answer(unsafe { disruptor_publish_at(&mut self.0, 1, lo, hi) })
     }
 
     pub fn close(&mut self) -> Result<(), Refusal> {
-        answer(unsafe { disruptor_close(&mut self.0) })
+        answer(unsafe { disruptor_close_at(&mut self.0, 1) })
     }
 }
 
@@ -124,7 +128,7 @@ impl Receiver {
     /// Takes the next events to the front of `out`.
     pub fn poll(&mut self, out: &mut [Event]) -> Result<Polled, Refusal> {
         let mut offer = Offer::default();
-        answer(unsafe { disruptor_poll(&mut self.0, out.as_mut_ptr(), out.len(), &mut offer) })?;
+        answer(unsafe { disruptor_poll_at(&mut self.0, 1, out.as_mut_ptr(), out.len(), out.len(), &mut offer, 1) })?;
         Ok(match offer.kind {
             0 => Polled::Batch { first: offer.first, count: offer.count, end: offer.end == 1 },
             1 => Polled::Gating,
@@ -135,7 +139,7 @@ impl Receiver {
 
     /// Completes all events below `upto`.
     pub fn complete(&mut self, upto: u64) -> Result<(), Refusal> {
-        answer(unsafe { disruptor_complete(&mut self.0, upto) })
+        answer(unsafe { disruptor_complete_at(&mut self.0, 1, upto) })
     }
 }
 
@@ -144,7 +148,7 @@ pub struct Halter(Handle);
 
 impl Halter {
     pub fn halt(&mut self) -> Result<(), Refusal> {
-        answer(unsafe { disruptor_halt(&mut self.0) })
+        answer(unsafe { disruptor_halt_at(&mut self.0, 1) })
     }
 }
 
@@ -153,6 +157,18 @@ pub fn open(size: u64, limit: u64, upstreams: &[u64]) -> Result<(Sender, Vec<Rec
     let (mut sender, mut halter) = (Handle::NEW, Handle::NEW);
     let mut receivers: Vec<Handle> = upstreams.iter().map(|_| Handle::NEW).collect();
     let (masks, count) = (upstreams.as_ptr(), upstreams.len());
-    answer(unsafe { disruptor_open(size, limit, masks, count, &mut sender, receivers.as_mut_ptr(), count, &mut halter) })?;
+    let places = receivers.as_mut_ptr();
+    answer(unsafe { disruptor_open_at(size, limit, masks, count, count, &mut sender, 1, places, count, count, &mut halter, 1) })?;
     Ok((Sender(sender), receivers.into_iter().map(Receiver).collect(), Halter(halter)))
+}
+
+/// Opens a ring of several senders.
+#[allow(dead_code)]
+pub fn open_several(size: u64, limit: u64, upstreams: &[u64], senders: usize) -> Result<(Vec<Sender>, Vec<Receiver>, Halter), Refusal> {
+    let mut halter = Handle::NEW;
+    let mut sending: Vec<Handle> = (0..senders).map(|_| Handle::NEW).collect();
+    let mut receiving: Vec<Handle> = upstreams.iter().map(|_| Handle::NEW).collect();
+    let (masks, count, ends, places) = (upstreams.as_ptr(), upstreams.len(), sending.as_mut_ptr(), receiving.as_mut_ptr());
+    answer(unsafe { disruptor_open_several_at(size, limit, masks, count, count, ends, senders, senders, places, count, count, &mut halter, 1) })?;
+    Ok((sending.into_iter().map(Sender).collect(), receiving.into_iter().map(Receiver).collect(), Halter(halter)))
 }

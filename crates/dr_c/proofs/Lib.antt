@@ -1,3 +1,4 @@
 pub mod Values
 pub mod Upto
 pub mod Opened
+pub mod Placed

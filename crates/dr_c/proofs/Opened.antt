@@ -9,6 +9,7 @@ use Rattle.dr_c.specs.declared.handle.Handle.{Handle}
 use Rattle.dr_c.specs.declared.open_fault.OpenFault.{OpenFault}
 use Rattle.dr_c.specs.OpenFault.{IsWhy}
 use Rattle.dr_c.specs.Opening.{are_open, ends_in}
+use Rattle.dr_c.specs.OpeningSeveral.{are_all_open}
 
 none_of : (o : Option End) → is_some o ≡ false → o ≡ None
 none_of None no_end = refl
@@ -28,10 +29,10 @@ freed_more os left left' n next within many freed =
     ∙ ap (λ (k : ℕ). replicate k None) (let e : suc (n - left) ≡ n - left' = omega arith in e)
 
 -- a ring's own fault is what keeps handles from having it, where none of them is open and there are enough
-pub why_here : (b : Bool) (count size limit : ℕ) (masks : List ℕ) (fault : OpenFault) → b ≡ false → count ≡ length masks
-    → IsWhy false (length masks) size limit masks fault → IsWhy b count size limit masks fault
-why_here b count size limit masks fault closed same why =
-    subst (λ (x : Bool). IsWhy x count size limit masks fault) (sym closed) (subst (λ (n : ℕ). IsWhy false n size limit masks fault) (sym same) why)
+pub why_here : (b : Bool) (count senders size limit : ℕ) (masks : List ℕ) (fault : OpenFault) → b ≡ false → count ≡ length masks
+    → IsWhy false (length masks) senders size limit masks fault → IsWhy b count senders size limit masks fault
+why_here b count senders size limit masks fault closed same why =
+    subst (λ (x : Bool). IsWhy x count senders size limit masks fault) (sym closed) (subst (λ (n : ℕ). IsWhy false n senders size limit masks fault) (sym same) why)
 
 -- none of the receivers' handles is open
 pub none_before : (s : Handle) (hs : List Handle) (h : Handle) → are_open s hs h ≡ false → ends_in hs ≡ replicate (length hs) None
@@ -43,3 +44,15 @@ none_before s hs h closed =
 pub freed_again : (s : Handle) (hs freed : List Handle) (h : Handle) (n : ℕ) → are_open s hs h ≡ false → n ≡ length hs
     → ends_in freed ≡ replicate n None → ends_in freed ≡ ends_in hs
 freed_again s hs freed h n closed same none = none ∙ ap (λ (k : ℕ). replicate k None) same ∙ sym (none_before s hs h closed)
+
+-- none of the handles of several senders is open, nor one of their receivers'
+pub none_among : (ss rs : List Handle) (h : Handle) → are_all_open ss rs h ≡ false → (ends_in ss ≡ replicate (length ss) None) × (ends_in rs ≡ replicate (length rs) None)
+none_among ss rs h closed =
+    let p = list_any (λ k. is_some k.held.value) ss in let q = list_any (λ k. is_some k.held.value) rs in
+    let both = or_parts p q (or_parts (p || q) (is_some h.held.value) closed).0 in (none_in ss both.0, none_in rs both.1)
+
+pub senders_again : (ss rs freed : List Handle) (h : Handle) (n : ℕ) → are_all_open ss rs h ≡ false → n ≡ length ss → ends_in freed ≡ replicate n None → ends_in freed ≡ ends_in ss
+senders_again ss rs freed h n closed same none = none ∙ ap (λ (k : ℕ). replicate k None) same ∙ sym (none_among ss rs h closed).0
+
+pub receivers_again : (ss rs freed : List Handle) (h : Handle) (n : ℕ) → are_all_open ss rs h ≡ false → n ≡ length rs → ends_in freed ≡ replicate n None → ends_in freed ≡ ends_in rs
+receivers_again ss rs freed h n closed same none = none ∙ ap (λ (k : ℕ). replicate k None) same ∙ sym (none_among ss rs h closed).1

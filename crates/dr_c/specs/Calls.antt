@@ -10,45 +10,63 @@ use Rattle.dr_ring.specs.Meaning.Records.{halter_halted}
 use Rattle.dr_ring.specs.Calls.Ends.{SenderEnd, ReceiverEnd, HalterEnd, HasStored}
 use Rattle.dr_ring.specs.Calls.Sending.{ClaimCall, WriteCall, PublishCall, CloseCall, ClosesOnceDone}
 use Rattle.dr_ring.specs.Calls.Receiving.{PollCall, CompleteCall}
+use Rattle.dr_senders.specs.declared.claiming.ClaimFault.{ClaimFault}
+use Rattle.dr_senders.specs.declared.record.Step.TheVariants as steps_of_several
+use Rattle.dr_senders.specs.Meaning.Records as records_of_several
+use Rattle.dr_senders.specs.Calls.Ends as several
+use Rattle.dr_senders.specs.Calls.Sending as claims_of_several
+use Rattle.dr_senders.specs.Calls.Writing as writes_of_several
+use Rattle.dr_senders.specs.Calls.Receiving as polls_of_several
 use Rattle.dr_c.specs.declared.end.End.{End}
-use Rattle.dr_c.specs.declared.end.End.TheVariants.{Sender, Receiver, Halter}
+use Rattle.dr_c.specs.declared.end.End.TheVariants.{Sender, Receiver, Halter, SenderOfSeveral, ReceiverOfSeveral, HalterOfSeveral}
 use Rattle.dr_c.specs.declared.batch.Offer.{Offer}
-use Rattle.dr_c.specs.Numbers.{told, wrong_end}
+use Rattle.dr_c.specs.Numbers.{told, told_of_claim, wrong_end}
 
 -- A call of a sender, which answers C by the number of its own answer; another end is refused, and stays as it was.
-abbrev pub OfSender : {A : Type 0} → End → End → ℕ → Type 0 → (SenderEnd → SenderEnd → Result A Refusal → Type 0) → Type 0
-OfSender {A} (Sender s) end' number Same Call = (s' : SenderEnd) × (answer : Result A Refusal) × (end' ≡ Sender s') × (number ≡ told answer) × Call s s' answer
-OfSender (Receiver r) end' number Same Call = (end' ≡ Receiver r) × (number ≡ wrong_end) × Same
-OfSender (Halter h) end' number Same Call = (end' ≡ Halter h) × (number ≡ wrong_end) × Same
+abbrev pub OfSender : {A F : Type 0} → (Result A F → ℕ) → End → End → ℕ → Type 0 → (SenderEnd → SenderEnd → Result A Refusal → Type 0)
+    → (several.SenderEnd → several.SenderEnd → Result A F → Type 0) → Type 0
+OfSender {A} number_of (Sender s) end' number Same Call OfSeveral = (s' : SenderEnd) × (answer : Result A Refusal) × (end' ≡ Sender s') × (number ≡ told answer) × Call s s' answer
+OfSender {A} {F} number_of (SenderOfSeveral s) end' number Same Call OfSeveral =
+    (s' : several.SenderEnd) × (answer : Result A F) × (end' ≡ SenderOfSeveral s') × (number ≡ number_of answer) × OfSeveral s s' answer
+OfSender number_of other end' number Same Call OfSeveral = (end' ≡ other) × (number ≡ wrong_end) × Same
 
 -- the same of a receiver
-abbrev pub OfReceiver : {A : Type 0} → End → End → ℕ → Type 0 → (ReceiverEnd → ReceiverEnd → Result A Refusal → Type 0) → Type 0
-OfReceiver (Sender s) end' number Same Call = (end' ≡ Sender s) × (number ≡ wrong_end) × Same
-OfReceiver {A} (Receiver r) end' number Same Call = (r' : ReceiverEnd) × (answer : Result A Refusal) × (end' ≡ Receiver r') × (number ≡ told answer) × Call r r' answer
-OfReceiver (Halter h) end' number Same Call = (end' ≡ Halter h) × (number ≡ wrong_end) × Same
+abbrev pub OfReceiver : {A : Type 0} → End → End → ℕ → Type 0 → (ReceiverEnd → ReceiverEnd → Result A Refusal → Type 0)
+    → (several.ReceiverEnd → several.ReceiverEnd → Result A Refusal → Type 0) → Type 0
+OfReceiver {A} (Receiver r) end' number Same Call OfSeveral = (r' : ReceiverEnd) × (answer : Result A Refusal) × (end' ≡ Receiver r') × (number ≡ told answer) × Call r r' answer
+OfReceiver {A} (ReceiverOfSeveral r) end' number Same Call OfSeveral =
+    (r' : several.ReceiverEnd) × (answer : Result A Refusal) × (end' ≡ ReceiverOfSeveral r') × (number ≡ told answer) × OfSeveral r r' answer
+OfReceiver other end' number Same Call OfSeveral = (end' ≡ other) × (number ≡ wrong_end) × Same
 
 -- a halt is never refused
 abbrev pub HaltsBy : End → End → ℕ → Type 0
-HaltsBy (Sender s) end' number = (end' ≡ Sender s) × (number ≡ wrong_end)
-HaltsBy (Receiver r) end' number = (end' ≡ Receiver r) × (number ≡ wrong_end)
 HaltsBy (Halter h) end' number = (h' : HalterEnd) × (end' ≡ Halter h') × (number ≡ 0) × HasStored h HalterHalts (halter_halted h.knows) h'
+HaltsBy (HalterOfSeveral h) end' number =
+    (h' : several.HalterEnd) × (found : ℕ) × (end' ≡ HalterOfSeveral h') × (number ≡ 0) × several.HasStored h steps_of_several.HalterHalts (records_of_several.halter_halted h.knows found) h'
+HaltsBy other end' number = (end' ≡ other) × (number ≡ wrong_end)
 
 -- the first sequence of a claim; a refused one leaves the place as it was
-abbrev pub IsFirst : Result Claimed Refusal → ℕ → ℕ → Type 0
+abbrev pub IsFirst : {F : Type 0} → Result Claimed F → ℕ → ℕ → Type 0
 IsFirst (Ok c) lo lo' = lo' ≡ c.lo
-IsFirst (Err refusal) lo lo' = lo' ≡ lo
+IsFirst (Err fault) lo lo' = lo' ≡ lo
 
 abbrev pub ClaimsBy : ℕ → ℕ → ℕ → ℕ → End → End → Type 0
-ClaimsBy n lo lo' number end end' = OfSender end end' number (lo' ≡ lo) (λ s s' answer. ClaimCall s n s' answer × IsFirst answer lo lo')
+ClaimsBy n lo lo' number end end' =
+    OfSender {F = ClaimFault} told_of_claim end end' number (lo' ≡ lo) (λ s s' answer. ClaimCall s n s' answer × IsFirst answer lo lo')
+    (λ s s' answer. claims_of_several.ClaimCall s n s' answer × IsFirst answer lo lo')
 
 abbrev pub WritesBy : ℕ → Event → ℕ → End → End → Type 0
-WritesBy sequence event number end end' = OfSender end end' number (Unit {0}) (λ s s' answer. WriteCall s sequence event s' answer)
+WritesBy sequence event number end end' =
+    OfSender {F = Refusal} told end end' number (Unit {0}) (λ s s' answer. WriteCall s sequence event s' answer) (λ s s' answer. writes_of_several.WriteCall s sequence event s' answer)
 
 abbrev pub PublishesBy : ℕ → ℕ → ℕ → End → End → Type 0
-PublishesBy lo hi number end end' = OfSender end end' number (Unit {0}) (λ s s' answer. PublishCall s lo hi s' answer)
+PublishesBy lo hi number end end' =
+    OfSender {F = Refusal} told end end' number (Unit {0}) (λ s s' answer. PublishCall s lo hi s' answer) (λ s s' answer. writes_of_several.PublishCall s lo hi s' answer)
 
+-- only the ring of one sender is closed: one of several ends with its halt
 abbrev pub ClosesBy : ℕ → End → End → Type 0
-ClosesBy number end end' = OfSender end end' number (Unit {0}) (λ s s' answer. CloseCall s s' answer × ClosesOnceDone s s')
+ClosesBy number (Sender s) end' = (s' : SenderEnd) × (answer : Result (Unit {0}) Refusal) × (end' ≡ Sender s') × (number ≡ told answer) × CloseCall s s' answer × ClosesOnceDone s s'
+ClosesBy number other end' = (end' ≡ other) × (number ≡ wrong_end)
 
 -- what a poll tells C
 abbrev pub offer_of : Polled → Offer
@@ -65,6 +83,8 @@ IsOffer (Err refusal) offer offer' = offer' ≡ offer
 abbrev pub PollsBy : List Event → List Event → Offer → Offer → ℕ → End → End → Type 0
 PollsBy out out' offer offer' number end end' =
     OfReceiver end end' number ((out' ≡ out) × (offer' ≡ offer)) (λ r r' answer. PollCall r out r' out' answer × IsOffer answer offer offer')
+    (λ r r' answer. polls_of_several.PollCall r out r' out' answer × IsOffer answer offer offer')
 
 abbrev pub CompletesBy : ℕ → ℕ → End → End → Type 0
-CompletesBy upto number end end' = OfReceiver end end' number (Unit {0}) (λ r r' answer. CompleteCall r upto r' answer)
+CompletesBy upto number end end' =
+    OfReceiver end end' number (Unit {0}) (λ r r' answer. CompleteCall r upto r' answer) (λ r r' answer. polls_of_several.CompleteCall r upto r' answer)

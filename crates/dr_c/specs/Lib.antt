@@ -4,3 +4,5 @@ pub mod Names
 pub mod Numbers
 pub mod OpenFault
 pub mod Opening
+pub mod OpeningSeveral
+pub mod Places

@@ -7,12 +7,14 @@ opening_name n =
     if n == 25 then codes "too-many" else
     if n == 26 then codes "no-handlers" else
     if n == 31 then codes "bad-size" else
+    if n == 32 then codes "bad-producers" else
     if n == 33 then codes "bad-limit" else
     if n == 40 then codes "no-memory" else
     if n == 61 then codes "not-open" else
     if n == 62 then codes "wrong-end" else
     if n == 63 then codes "still-open" else
     if n == 64 then codes "bad-order" else
+    if n == 65 then codes "bad-pointer" else
     []
 
 -- those of an end's calls, and the others
@@ -28,5 +30,6 @@ name_by n =
     if n == 8 then codes "out-of-order" else
     if n == 9 then codes "not-taken" else
     if n == 10 then codes "behind" else
+    if n == 16 then codes "contended" else
     if n == 41 then codes "open-claim" else
     opening_name n

@@ -2,6 +2,8 @@
 use Rattle.std.specs.Prelude.{ℕ, Result, Ok, Err}
 use Rattle.dr_core.specs.declared.refusal.Refusal.{Refusal}
 use Rattle.dr_core.specs.Calls.Refusal.{number_of}
+use Rattle.dr_senders.specs.declared.claiming.ClaimFault.{ClaimFault}
+use Rattle.dr_senders.specs.Calls.ClaimFault as claim_fault
 
 -- the handle is zero or closed
 abbrev pub not_open : ℕ
@@ -10,6 +12,15 @@ not_open = 61
 -- the handle has another end than the call is of
 abbrev pub wrong_end : ℕ
 wrong_end = 62
+
+-- a pointer leads to nothing, or to less than the call says
+abbrev pub bad_pointer : ℕ
+bad_pointer = 65
+
+-- of a claim of one of several senders
+abbrev pub told_of_claim : {A : Type 0} → Result A ClaimFault → ℕ
+told_of_claim (Ok a) = 0
+told_of_claim (Err fault) = claim_fault.number_of fault
 
 abbrev pub told : {A : Type 0} → Result A Refusal → ℕ
 told (Ok a) = 0

@@ -32,8 +32,8 @@ pub record AreOpened (size limit : ℕ) (masks : List ℕ) (s : SenderEnd) (rs :
 abbrev pub ends_in : List Handle → List (Option End)
 ends_in handles = map (λ h. h.held.value) handles
 
-abbrev pub received : ReceiverEnd → Option End
-received r = Some (Receiver r)
+abbrev pub has : End → Option End
+has end = Some end
 
 -- a new ring's ends are in handles
 pub record OpensBy (size limit : ℕ) (masks : List ℕ) (sender : Option End) (receivers : List (Option End)) (halter : Option End) : Type 0 where
@@ -42,7 +42,7 @@ pub record OpensBy (size limit : ℕ) (masks : List ℕ) (sender : Option End) (
   pub h : HalterEnd
   pub opened : AreOpened size limit masks s rs h
   pub sends : sender ≡ Some (Sender s)
-  pub receives : receivers ≡ map received rs
+  pub receives : receivers ≡ map has (map Receiver rs)
   pub halts : halter ≡ Some (Halter h)
 
 -- one of the handles is open
@@ -53,7 +53,7 @@ are_open sender receivers halter = is_some sender.held.value || list_any (λ h. 
 abbrev pub Opens : ℕ → ℕ → List ℕ → Handle → List Handle → Handle → Handle → List Handle → Handle → Result (Unit {0}) OpenFault → Type 0
 Opens size limit masks sender receivers halter sender' receivers' halter' (Ok _) = OpensBy size limit masks sender'.held.value (ends_in receivers') halter'.held.value
 Opens size limit masks sender receivers halter sender' receivers' halter' (Err fault) =
-    IsWhy (are_open sender receivers halter) (length receivers) size limit masks fault
+    IsWhy (are_open sender receivers halter) (length receivers) 1 size limit masks fault
     × (sender'.held.value ≡ sender.held.value) × (ends_in receivers' ≡ ends_in receivers) × (halter'.held.value ≡ halter.held.value)
 
 -- the number that tells of it

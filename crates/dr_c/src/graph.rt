@@ -105,7 +105,7 @@ fn follows_masks(alloc: Global, graph: &Graph, masks: &[u64]) -> Result<bool, Al
 pub fn graph(alloc: Global, masks: &[u64]) -> Result<Graph, OpenFault>
     ensures all { IfOk result (λ graph. length graph.upstreams ≡ length masks.now) }
     ensures follows { IfOk result (λ graph. FollowsMasks graph.upstreams masks.now) }
-    ensures refused { (size limit : ℕ) → IfErr result (λ fault. IsWhy false (length masks.now) size limit masks.now fault) }
+    ensures refused { (senders size limit : ℕ) → IfErr result (λ fault. IsWhy false (length masks.now) senders size limit masks.now fault) }
 {
     if masks.is_empty() {
         return Err(OpenFault::NoHandlers);

@@ -2,16 +2,21 @@
 //!
 //! Each call answers 0, or the number of the refusal. No call waits. A handle may move from one thread to another, and
 //! one call at a time may have it.
+//!
+//! A pointer comes with how many things lie there, so that a null one is told as none.
 #![tactic(auto)]
 
-ghost use Rattle.std.specs.Prelude.{◌≡◌, ◌++◌, None, length, take, drop};
+ghost use Rattle.std.specs.Prelude.{◌≡◌, ◌==◌, ◌&&◌, ◌++◌, None, length, take, drop, replicate};
 ghost use Rattle.dr_c.specs.Calls.{ClaimsBy, WritesBy, PublishesBy, ClosesBy, PollsBy, CompletesBy, HaltsBy};
 ghost use Rattle.dr_c.specs.Handles.{OnHandle};
 ghost use Rattle.dr_c.specs.Names.{name_by};
-ghost use Rattle.dr_c.specs.Numbers.{not_open};
-ghost use Rattle.dr_c.specs.Opening.{OpenedBy};
+ghost use Rattle.dr_c.specs.Numbers.{bad_pointer, not_open};
+ghost use Rattle.dr_c.specs.Opening.{OpenedBy, ends_in};
+ghost use Rattle.dr_c.specs.OpeningSeveral.{OpenedBy as OpenedSeveralBy};
+ghost use Rattle.dr_c.specs.Places.{AtPlace, AtPlaces, ReadsAt, Whether};
 
 mod batch;
+mod calls;
 mod end;
 mod graph;
 mod handle;
@@ -19,6 +24,8 @@ mod loose;
 mod numbers;
 mod open_fault;
 mod opening;
+mod opening_several;
+mod places;
 mod receiving;
 mod sending;
 mod texts;
@@ -26,148 +33,163 @@ mod texts;
 use batch::Offer;
 use dr_seq::Event;
 use handle::Handle;
-use numbers::NOT_OPEN;
+use numbers::BAD_POINTER;
 use std::alloc::Global;
 
-/// Opens a ring of `size` slots in which `limit` sequences may be claimed. Handler `k` follows those handlers whose bits are
-/// in the mask `upstreams[k]`, and its receiver comes to `receivers[k]`. A refused call opens no handle.
+/// Opens a ring of `size` slots in which `limit` sequences may be claimed. Handler `k` of `handlers` follows those whose bits
+/// are in the mask `upstreams[k]`, and its receiver comes to `receivers[k]` of `count`. A refused call opens no handle.
 #[unsafe(no_mangle)]
-pub extern "C" fn disruptor_open(
+pub extern "C" fn disruptor_open_at(
     alloc: Global,
     size: u64,
     limit: u64,
     upstreams: &[u64],
-    sender: &mut Handle,
+    handlers: usize,
+    sender: &mut [Handle],
     receivers: &mut [Handle],
-    halter: &mut Handle,
+    count: usize,
+    halter: &mut [Handle],
 ) -> u32
-    ensures { OpenedBy size limit upstreams.now sender.old receivers.old halter.old sender.new receivers.new halter.new result }
+    ensures { Whether ((length upstreams.now == handlers) && (length receivers.old == count)) (AtPlaces sender.old sender.new halter.old halter.new ((receivers.new ≡ receivers.old) × (result ≡ bad_pointer)) (λ s s' h h'. OpenedBy size limit upstreams.now s receivers.old h s' receivers.new h' result)) ((sender.new ≡ sender.old) × (receivers.new ≡ receivers.old) × (halter.new ≡ halter.old) × (result ≡ bad_pointer)) }
 {
-    match opening::open(alloc, size, limit, upstreams, sender, receivers, halter) {
-        Ok(()) => 0,
-        Err(fault) => fault.number(),
+    if upstreams.len() != handlers || receivers.len() != count {
+        return BAD_POINTER;
     }
+    places::open(alloc, size, limit, upstreams, sender, receivers, halter)
+}
+
+/// Opens a ring of `count` senders as [`disruptor_open_at`] does one of a single sender. Their ends come to `senders`, and the
+/// receivers, of which there are as many as handlers, to `receivers`. It ends with a halt, and is never closed.
+#[unsafe(no_mangle)]
+pub extern "C" fn disruptor_open_several_at(
+    alloc: Global,
+    size: u64,
+    limit: u64,
+    upstreams: &[u64],
+    handlers: usize,
+    senders: &mut [Handle],
+    count: usize,
+    receivers: &mut [Handle],
+    rooms: usize,
+    halter: &mut [Handle],
+) -> u32
+    ensures { Whether ((length upstreams.now == handlers) && (length senders.old == count) && (length receivers.old == rooms)) (AtPlace halter.old halter.new ((senders.new ≡ senders.old) × (receivers.new ≡ receivers.old) × (result ≡ bad_pointer)) (λ h h'. OpenedSeveralBy size limit upstreams.now senders.old receivers.old h senders.new receivers.new h' result)) ((senders.new ≡ senders.old) × (receivers.new ≡ receivers.old) × (halter.new ≡ halter.old) × (result ≡ bad_pointer)) }
+{
+    if upstreams.len() != handlers || senders.len() != count || receivers.len() != rooms {
+        return BAD_POINTER;
+    }
+    places::open_several(alloc, size, limit, upstreams, senders, receivers, halter)
 }
 
 /// Claims the next `n` sequences, and gives the first of them.
 #[unsafe(no_mangle)]
-pub extern "C" fn disruptor_claim(alloc: Global, sender: &mut Handle, n: u64, lo: &mut u64) -> u32
-    ensures { OnHandle sender.old.held.value sender.new.held.value ((lo.new ≡ lo.old) × (result ≡ not_open)) (ClaimsBy n lo.old lo.new result) }
+pub extern "C" fn disruptor_claim_at(
+    alloc: Global,
+    sender: &mut [Handle],
+    n: u64,
+    lo: &mut [u64],
+) -> u32
+    ensures { AtPlaces sender.old sender.new lo.old lo.new (result ≡ bad_pointer) (λ s s' lo lo'. OnHandle s.held.value s'.held.value ((lo' ≡ lo) × (result ≡ not_open)) (ClaimsBy n lo lo' result)) }
 {
-    if !sender.is_open() {
-        return NOT_OPEN;
+    if sender.len() != 1 || lo.len() != 1 {
+        return BAD_POINTER;
     }
-    let mut end = sender.take(alloc);
-    let number = sending::claim(&mut end, n, lo);
-    sender.keep(end);
-    number
+    calls::claim(alloc, &mut sender[0], n, &mut lo[0])
 }
 
 /// Writes the event of a claimed sequence.
 #[unsafe(no_mangle)]
-pub extern "C" fn disruptor_write(
+pub extern "C" fn disruptor_write_at(
     alloc: Global,
-    sender: &mut Handle,
+    sender: &mut [Handle],
     sequence: u64,
-    event: &Event,
+    event: &[Event],
 ) -> u32
-    ensures { OnHandle sender.old.held.value sender.new.held.value (result ≡ not_open) (WritesBy sequence event.now result) }
+    ensures { ReadsAt event.now ((sender.new ≡ sender.old) × (result ≡ bad_pointer)) (λ event. AtPlace sender.old sender.new (result ≡ bad_pointer) (λ s s'. OnHandle s.held.value s'.held.value (result ≡ not_open) (WritesBy sequence event result))) }
 {
-    if !sender.is_open() {
-        return NOT_OPEN;
+    if event.len() != 1 {
+        return BAD_POINTER;
     }
-    let mut end = sender.take(alloc);
-    let number = sending::write(&mut end, sequence, *event);
-    sender.keep(end);
-    number
+    places::write(alloc, sender, sequence, &event[0])
 }
 
 /// Publishes the sequences from `lo` to `hi`.
 #[unsafe(no_mangle)]
-pub extern "C" fn disruptor_publish(alloc: Global, sender: &mut Handle, lo: u64, hi: u64) -> u32
-    ensures { OnHandle sender.old.held.value sender.new.held.value (result ≡ not_open) (PublishesBy lo hi result) }
+pub extern "C" fn disruptor_publish_at(
+    alloc: Global,
+    sender: &mut [Handle],
+    lo: u64,
+    hi: u64,
+) -> u32
+    ensures { AtPlace sender.old sender.new (result ≡ bad_pointer) (λ s s'. OnHandle s.held.value s'.held.value (result ≡ not_open) (PublishesBy lo hi result)) }
 {
-    if !sender.is_open() {
-        return NOT_OPEN;
+    if sender.len() != 1 {
+        return BAD_POINTER;
     }
-    let mut end = sender.take(alloc);
-    let number = sending::publish(&mut end, lo, hi);
-    sender.keep(end);
-    number
+    calls::publish(alloc, &mut sender[0], lo, hi)
 }
 
 /// Closes the ring.
 #[unsafe(no_mangle)]
-pub extern "C" fn disruptor_close(alloc: Global, sender: &mut Handle) -> u32
-    ensures { OnHandle sender.old.held.value sender.new.held.value (result ≡ not_open) (ClosesBy result) }
+pub extern "C" fn disruptor_close_at(alloc: Global, sender: &mut [Handle]) -> u32
+    ensures { AtPlace sender.old sender.new (result ≡ bad_pointer) (λ s s'. OnHandle s.held.value s'.held.value (result ≡ not_open) (ClosesBy result)) }
 {
-    if !sender.is_open() {
-        return NOT_OPEN;
+    if sender.len() != 1 {
+        return BAD_POINTER;
     }
-    let mut end = sender.take(alloc);
-    let number = sending::close(&mut end);
-    sender.keep(end);
-    number
+    calls::close(alloc, &mut sender[0])
 }
 
-/// Takes the next events, as many as `out` has room for.
+/// Takes the next events, as many as `out` has room for, which is asked to be `room`.
 #[unsafe(no_mangle)]
-pub extern "C" fn disruptor_poll(
+pub extern "C" fn disruptor_poll_at(
     alloc: Global,
-    receiver: &mut Handle,
+    receiver: &mut [Handle],
     out: &mut [Event],
-    offer: &mut Offer,
+    room: usize,
+    offer: &mut [Offer],
 ) -> u32
-    ensures { OnHandle receiver.old.held.value receiver.new.held.value ((out.new ≡ out.old) × (offer.new ≡ offer.old) × (result ≡ not_open)) (PollsBy out.old out.new offer.old offer.new result) }
+    ensures { Whether (length out.old == room) (AtPlaces receiver.old receiver.new offer.old offer.new ((out.new ≡ out.old) × (result ≡ bad_pointer)) (λ r r' offer offer'. OnHandle r.held.value r'.held.value ((out.new ≡ out.old) × (offer' ≡ offer) × (result ≡ not_open)) (PollsBy out.old out.new offer offer' result))) ((receiver.new ≡ receiver.old) × (out.new ≡ out.old) × (offer.new ≡ offer.old) × (result ≡ bad_pointer)) }
 {
-    if !receiver.is_open() {
-        return NOT_OPEN;
+    if out.len() != room {
+        return BAD_POINTER;
     }
-    let mut end = receiver.take(alloc);
-    let number = receiving::poll(&mut end, out, offer);
-    receiver.keep(end);
-    number
+    places::poll(alloc, receiver, out, offer)
 }
 
 /// Completes all events below `upto`.
 #[unsafe(no_mangle)]
-pub extern "C" fn disruptor_complete(alloc: Global, receiver: &mut Handle, upto: u64) -> u32
-    ensures { OnHandle receiver.old.held.value receiver.new.held.value (result ≡ not_open) (CompletesBy upto result) }
+pub extern "C" fn disruptor_complete_at(alloc: Global, receiver: &mut [Handle], upto: u64) -> u32
+    ensures { AtPlace receiver.old receiver.new (result ≡ bad_pointer) (λ r r'. OnHandle r.held.value r'.held.value (result ≡ not_open) (CompletesBy upto result)) }
 {
-    if !receiver.is_open() {
-        return NOT_OPEN;
+    if receiver.len() != 1 {
+        return BAD_POINTER;
     }
-    let mut end = receiver.take(alloc);
-    let number = receiving::complete(&mut end, upto);
-    receiver.keep(end);
-    number
+    calls::complete(alloc, &mut receiver[0], upto)
 }
 
 /// Halts the ring.
 #[unsafe(no_mangle)]
-pub extern "C" fn disruptor_halt(alloc: Global, halter: &mut Handle) -> u32
-    ensures { OnHandle halter.old.held.value halter.new.held.value (result ≡ not_open) (λ end end'. HaltsBy end end' result) }
+pub extern "C" fn disruptor_halt_at(alloc: Global, halter: &mut [Handle]) -> u32
+    ensures { AtPlace halter.old halter.new (result ≡ bad_pointer) (λ h h'. OnHandle h.held.value h'.held.value (result ≡ not_open) (λ end end'. HaltsBy end end' result)) }
 {
-    if !halter.is_open() {
-        return NOT_OPEN;
+    if halter.len() != 1 {
+        return BAD_POINTER;
     }
-    let mut end = halter.take(alloc);
-    let number = receiving::halt(&mut end);
-    halter.keep(end);
-    number
+    calls::halt(alloc, &mut halter[0])
 }
 
-/// Frees what a handle has, of whatever kind, and leaves it as before it was opened.
+/// Frees what handles have, of whatever kind, and leaves each as before it was opened.
 #[unsafe(no_mangle)]
-pub extern "C" fn disruptor_free(alloc: Global, handle: &mut Handle)
-    ensures { handle.new.held.value ≡ None }
+pub extern "C" fn disruptor_free_at(alloc: Global, handles: &mut [Handle])
+    ensures { ends_in handles.new ≡ replicate (length handles.old) None }
 {
-    handle.free(alloc);
+    opening::free_all(alloc, handles);
 }
 
 /// Puts the name of a number to the front of `text`, as far as there is room, and gives how many bytes it has.
 #[unsafe(no_mangle)]
-pub extern "C" fn disruptor_name(number: u32, text: &mut [u8]) -> usize
+pub extern "C" fn disruptor_name_at(number: u32, text: &mut [u8]) -> usize
     ensures length { result ≡ length (name_by number) }
     ensures text { text.new ≡ take (length text.old) (name_by number) ++ drop (length (name_by number)) text.old }
 {

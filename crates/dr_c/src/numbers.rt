@@ -9,6 +9,9 @@ use dr_core::Refusal;
 pub const NOT_OPEN: u32 = 61;
 /// The handle has another end than the call is of.
 pub const WRONG_END: u32 = 62;
+/// A pointer is null.
+pub const BAD_POINTER: u32 = 65;
+
 /// 0, or the number of a refusal.
 pub fn number(answer: Result<(), Refusal>) -> u32
     ensures { result ≡ told answer }

@@ -18,6 +18,8 @@ pub enum OpenFault {
     TooMany,
     /// A handler's mask names itself, or one after it.
     BadOrder,
+    /// There would be no senders, or more than 16.
+    BadProducers,
     /// The limit of sequences is 0 or above 2^62.
     BadLimit,
     /// An allocation failed.
@@ -36,6 +38,7 @@ impl OpenFault {
             OpenFault::NoHandlers => 26,
             OpenFault::TooMany => 25,
             OpenFault::BadOrder => 64,
+            OpenFault::BadProducers => 32,
             OpenFault::BadLimit => 33,
             OpenFault::NoMemory => 40,
         }

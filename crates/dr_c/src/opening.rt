@@ -3,7 +3,8 @@
 ghost use Rattle.std.specs.Prelude.{◌≡◌, false, None, length, map, replicate, is_some, IfErr, IfOk, OnOk};
 ghost use Rattle.std.specs.List.{list_any};
 ghost use Rattle.dr_c.specs.OpenFault.{IsWhy};
-ghost use Rattle.dr_c.specs.Opening.{AreOpened, Opens, are_open as are_open_of, ends_in, received};
+ghost use Rattle.dr_c.specs.Opening.{AreOpened, Opens, are_open as are_open_of, ends_in, has};
+ghost use Rattle.dr_c.specs.declared.end.End.TheVariants.{Receiver as IsReceiver};
 
 use crate::end::End;
 use crate::graph::graph;
@@ -11,7 +12,7 @@ use crate::handle::Handle;
 use crate::open_fault::OpenFault;
 use dr_ring::{Halter, Receiver, RingFault, Sender, ring};
 use dr_seq::Size;
-use std::alloc::Global;
+use std::alloc::{AllocError, Global};
 
 // The ends of a ring, or what refuses it.
 fn ends(
@@ -21,7 +22,7 @@ fn ends(
     masks: &[u64],
 ) -> Result<(Sender, Vec<Receiver>, Halter), OpenFault>
     ensures made { IfOk result (λ made. AreOpened size limit masks.now made.0 made.1.items made.2) }
-    ensures refused { IfErr result (λ fault. IsWhy false (length masks.now) size limit masks.now fault) }
+    ensures refused { IfErr result (λ fault. IsWhy false (length masks.now) 1 size limit masks.now fault) }
 {
     let size = match Size::new(size) {
         Ok(size) => size,
@@ -38,8 +39,8 @@ fn ends(
     }
 }
 
-// An end that C may move to another thread: it is proved that its type may be sent.
-fn boxed<T: Send + Drop>(alloc: Global, end: T) -> Result<Box<T, Global>, OpenFault>
+/// An end that C may move to another thread: it is proved that its type may be sent.
+pub fn boxed<T: Send + Drop>(alloc: Global, end: T) -> Result<Box<T, Global>, OpenFault>
     ensures { IfOk result (λ boxed. boxed.value ≡ end) }
 {
     match Box::new(alloc, end) {
@@ -48,7 +49,8 @@ fn boxed<T: Send + Drop>(alloc: Global, end: T) -> Result<Box<T, Global>, OpenFa
     }
 }
 
-fn are_open(handles: &[Handle]) -> bool
+/// Whether one of the handles is open.
+pub fn are_open(handles: &[Handle]) -> bool
     ensures { result ≡ list_any (λ h. is_some h.held.value) handles.now }
 {
     handles.iter().any(|handle| handle.is_open())
@@ -60,23 +62,41 @@ fn is_one_open(sender: &Handle, receivers: &[Handle], halter: &Handle) -> bool
     sender.is_open() || are_open(receivers) || halter.is_open()
 }
 
-// Each receiver comes into the handle of its number.
-fn fill(
+// The ends of receivers, if there are so many.
+fn receivers_as_ends(
     alloc: Global,
-    handles: &mut [Handle],
-    mut receivers: Vec<Receiver>,
-) -> Result<(), OpenFault>
-    requires { length handles.old ≡ length receivers.items }
-    ensures { OnOk result (ends_in handles.new ≡ map received receivers.items) }
+    receivers: Vec<Receiver>,
+    count: usize,
+) -> Result<Vec<End>, OpenFault>
+    ensures { IfOk result (λ ends. (ends.items ≡ map IsReceiver receivers.items) × (length ends.items ≡ count)) }
 {
-    while let Some(receiver) = receivers.pop() {
-        let end = boxed(alloc, End::Receiver(receiver))?;
-        handles[receivers.len()].keep(end);
+    let ends: Result<Vec<End>, AllocError> = receivers
+        .into_iter()
+        .map(End::Receiver)
+        .collect(alloc);
+    let Ok(ends) = ends else {
+        return Err(OpenFault::NoMemory);
+    };
+    if ends.len() != count {
+        return Err(OpenFault::NoMemory);
+    }
+    Ok(ends)
+}
+
+/// Each end comes into the handle of its number.
+pub fn fill(alloc: Global, handles: &mut [Handle], mut ends: Vec<End>) -> Result<(), OpenFault>
+    requires { length handles.old ≡ length ends.items }
+    ensures { OnOk result (ends_in handles.new ≡ map has ends.items) }
+{
+    while let Some(end) = ends.pop() {
+        let own = boxed(alloc, end)?;
+        handles[ends.len()].keep(own);
     }
     Ok(())
 }
 
-fn free_all(alloc: Global, handles: &mut [Handle])
+/// Frees what each handle has.
+pub fn free_all(alloc: Global, handles: &mut [Handle])
     ensures { ends_in handles.new ≡ replicate (length handles.old) None }
 {
     let mut left = handles.len();
@@ -109,11 +129,10 @@ pub fn open(
         Ok(ends) => ends,
         Err(fault) => return Err(fault),
     };
-    // (there are as many receivers as handlers)
-    if rs.len() != receivers.len() {
-        return Err(OpenFault::NoMemory);
-    }
     let (Ok(s), Ok(h)) = (boxed(alloc, End::Sender(s)), boxed(alloc, End::Halter(h))) else {
+        return Err(OpenFault::NoMemory);
+    };
+    let Ok(rs) = receivers_as_ends(alloc, rs, receivers.len()) else {
         return Err(OpenFault::NoMemory);
     };
     match fill(alloc, receivers, rs) {

@@ -38,6 +38,13 @@ pub fn poll(end: &mut End, out: &mut [Event], offer: &mut Offer) -> u32
             }
             Err(refusal) => refusal.number(),
         },
+        End::ReceiverOfSeveral(receiver) => match receiver.poll_into(out) {
+            Ok(polled) => {
+                *offer = offer_of(polled);
+                0
+            }
+            Err(refusal) => refusal.number(),
+        },
         _ => WRONG_END,
     }
 }
@@ -48,6 +55,7 @@ pub fn complete(end: &mut End, upto: u64) -> u32
 {
     match end {
         End::Receiver(receiver) => number(receiver.complete(upto)),
+        End::ReceiverOfSeveral(receiver) => number(receiver.complete(upto)),
         _ => WRONG_END,
     }
 }
@@ -59,6 +67,10 @@ pub fn halt(end: &mut End) -> u32
     match end {
         End::Halter(halter) => {
             halter.halt();
+            0
+        }
+        End::HalterOfSeveral(halter_of_several) => {
+            halter_of_several.halt();
             0
         }
         _ => WRONG_END,

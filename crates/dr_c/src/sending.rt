@@ -20,6 +20,13 @@ pub fn claim(end: &mut End, n: u64, lo: &mut u64) -> u32
             }
             Err(refusal) => refusal.number(),
         },
+        End::SenderOfSeveral(sender) => match sender.try_claim(n) {
+            Ok(stretch) => {
+                *lo = stretch.lo;
+                0
+            }
+            Err(fault) => fault.number(),
+        },
         _ => WRONG_END,
     }
 }
@@ -30,6 +37,7 @@ pub fn write(end: &mut End, sequence: u64, event: Event) -> u32
 {
     match end {
         End::Sender(sender) => number(sender.write(sequence, event)),
+        End::SenderOfSeveral(sender) => number(sender.write(sequence, event)),
         _ => WRONG_END,
     }
 }
@@ -40,6 +48,7 @@ pub fn publish(end: &mut End, lo: u64, hi: u64) -> u32
 {
     match end {
         End::Sender(sender) => number(sender.publish(lo, hi)),
+        End::SenderOfSeveral(sender) => number(sender.publish(lo, hi)),
         _ => WRONG_END,
     }
 }

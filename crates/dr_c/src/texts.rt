@@ -14,6 +14,8 @@ fn opening_name(number: u32) -> &'static str
         "no-handlers"
     } else if number == 31 {
         "bad-size"
+    } else if number == 32 {
+        "bad-producers"
     } else if number == 33 {
         "bad-limit"
     } else if number == 40 {
@@ -26,6 +28,8 @@ fn opening_name(number: u32) -> &'static str
         "still-open"
     } else if number == 64 {
         "bad-order"
+    } else if number == 65 {
+        "bad-pointer"
     } else {
         ""
     }
@@ -56,6 +60,8 @@ pub fn name(number: u32) -> &'static str
         "not-taken"
     } else if number == 10 {
         "behind"
+    } else if number == 16 {
+        "contended"
     } else if number == 41 {
         "open-claim"
     } else {

@@ -1,0 +1,5 @@
+use Rattle.dr_c.proofs.Placed.{at_place}
+use Rattle.dr_c.proofs.places.open_several.Goals as goal
+
+pub returns : goal.returns
+returns c = at_place _ _ c.args.halter.now c.open_several.new.halter c.index-halter-0.result c.if-halter-ne1.false c.open_several.ensures

@@ -1,0 +1,140 @@
+//! A ring of several senders is opened, and its ends are put into handles.
+
+ghost use Rattle.std.specs.Prelude.{◌≡◌, false, length, map, IfErr, IfOk, OnOk};
+ghost use Rattle.dr_c.specs.OpenFault.{IsWhy};
+ghost use Rattle.dr_c.specs.Opening.{ends_in, has};
+ghost use Rattle.dr_c.specs.OpeningSeveral.{AreOpened, Opens, are_all_open};
+ghost use Rattle.dr_c.specs.declared.end.End.TheVariants.{SenderOfSeveral, ReceiverOfSeveral};
+
+use crate::end::End;
+use crate::graph::graph;
+use crate::handle::Handle;
+use crate::open_fault::OpenFault;
+use crate::opening::{are_open, boxed, fill, free_all};
+use dr_senders::{Halter, Receiver, Sender, senders_ring};
+use dr_seq::Size;
+use std::alloc::{AllocError, Global};
+
+// The ends of a ring, or what refuses it.
+fn ends(
+    alloc: Global,
+    size: u64,
+    limit: u64,
+    masks: &[u64],
+    senders: usize,
+) -> Result<(Vec<Sender>, Vec<Receiver>, Halter), OpenFault>
+    ensures made { IfOk result (λ made. AreOpened size limit masks.now senders made.0.items made.1.items made.2) }
+    ensures refused { IfErr result (λ fault. IsWhy false (length masks.now) senders size limit masks.now fault) }
+{
+    let size = match Size::new(size) {
+        Ok(size) => size,
+        Err(_) => return Err(OpenFault::BadSize),
+    };
+    let graph = match graph(alloc, masks) {
+        Ok(graph) => graph,
+        Err(fault) => return Err(fault),
+    };
+    match senders_ring(alloc, &graph, size, limit, senders) {
+        Ok(ends) => Ok(ends),
+        Err(dr_core::OpenFault::BadProducers) => Err(OpenFault::BadProducers),
+        Err(dr_core::OpenFault::BadLimit) => Err(OpenFault::BadLimit),
+        Err(dr_core::OpenFault::NoMemory) => Err(OpenFault::NoMemory),
+    }
+}
+
+// The ends of senders and receivers, if there are so many.
+fn senders_as_ends(alloc: Global, senders: Vec<Sender>, count: usize) -> Result<Vec<End>, OpenFault>
+    ensures { IfOk result (λ ends. (ends.items ≡ map SenderOfSeveral senders.items) × (length ends.items ≡ count)) }
+{
+    let ends: Result<Vec<End>, AllocError> = senders
+        .into_iter()
+        .map(End::SenderOfSeveral)
+        .collect(alloc);
+    let Ok(ends) = ends else {
+        return Err(OpenFault::NoMemory);
+    };
+    if ends.len() != count {
+        return Err(OpenFault::NoMemory);
+    }
+    Ok(ends)
+}
+
+fn receivers_as_ends(
+    alloc: Global,
+    receivers: Vec<Receiver>,
+    count: usize,
+) -> Result<Vec<End>, OpenFault>
+    ensures { IfOk result (λ ends. (ends.items ≡ map ReceiverOfSeveral receivers.items) × (length ends.items ≡ count)) }
+{
+    let ends: Result<Vec<End>, AllocError> = receivers
+        .into_iter()
+        .map(End::ReceiverOfSeveral)
+        .collect(alloc);
+    let Ok(ends) = ends else {
+        return Err(OpenFault::NoMemory);
+    };
+    if ends.len() != count {
+        return Err(OpenFault::NoMemory);
+    }
+    Ok(ends)
+}
+
+fn is_one_open(senders: &[Handle], receivers: &[Handle], halter: &Handle) -> bool
+    ensures { result ≡ are_all_open senders.now receivers.now halter.now }
+{
+    are_open(senders) || are_open(receivers) || halter.is_open()
+}
+
+fn fill_both(
+    alloc: Global,
+    senders: &mut [Handle],
+    ss: Vec<Sender>,
+    receivers: &mut [Handle],
+    rs: Vec<Receiver>,
+) -> Result<(), OpenFault>
+    ensures { OnOk result ((ends_in senders.new ≡ map has (map SenderOfSeveral ss.items)) × (ends_in receivers.new ≡ map has (map ReceiverOfSeveral rs.items))) }
+{
+    let ss = senders_as_ends(alloc, ss, senders.len())?;
+    let rs = receivers_as_ends(alloc, rs, receivers.len())?;
+    fill(alloc, senders, ss)?;
+    fill(alloc, receivers, rs)
+}
+
+/// Opens a ring into handles, one for each sender, or says what refuses it.
+#[tactic(auto, using(crate::proofs::Opened::why_here, crate::proofs::Opened::senders_again, crate::proofs::Opened::receivers_again))]
+pub fn open(
+    alloc: Global,
+    size: u64,
+    limit: u64,
+    masks: &[u64],
+    senders: &mut [Handle],
+    receivers: &mut [Handle],
+    halter: &mut Handle,
+) -> Result<(), OpenFault>
+    ensures { Opens size limit masks.now senders.old receivers.old halter.old senders.new receivers.new halter.new result }
+{
+    if is_one_open(senders, receivers, halter) {
+        return Err(OpenFault::StillOpen);
+    }
+    if receivers.len() != masks.len() {
+        return Err(OpenFault::BadCount);
+    }
+    let (ss, rs, h) = match ends(alloc, size, limit, masks, senders.len()) {
+        Ok(ends) => ends,
+        Err(fault) => return Err(fault),
+    };
+    let Ok(h) = boxed(alloc, End::HalterOfSeveral(h)) else {
+        return Err(OpenFault::NoMemory);
+    };
+    match fill_both(alloc, senders, ss, receivers, rs) {
+        Ok(()) => {
+            halter.keep(h);
+            Ok(())
+        }
+        Err(_) => {
+            free_all(alloc, senders);
+            free_all(alloc, receivers);
+            Err(OpenFault::NoMemory)
+        }
+    }
+}
