@@ -34,19 +34,21 @@ check:
 	cd crates/$(CRATE) && rt check
 
 PREFIX ?= /usr/local
+into = $(DESTDIR)$(abspath $(PREFIX))
 
 # What programs in other languages link.
 lib:
 	@tools/prove.py --log $(log) dr_c
-	@tools/library.sh out $(PREFIX)
+	@tools/library.sh out $(abspath $(PREFIX))
 
 install: disruptor lib
-	install -d $(DESTDIR)$(PREFIX)/bin $(DESTDIR)$(PREFIX)/lib/pkgconfig $(DESTDIR)$(PREFIX)/include
-	install -m 755 disruptor $(DESTDIR)$(PREFIX)/bin
-	install -m 644 out/libdisruptor.a $(DESTDIR)$(PREFIX)/lib
-	install -m 755 out/libdisruptor.so $(DESTDIR)$(PREFIX)/lib
-	install -m 644 out/disruptor.pc $(DESTDIR)$(PREFIX)/lib/pkgconfig
-	install -m 644 include/disruptor.h include/disruptor.hpp $(DESTDIR)$(PREFIX)/include
+	install -d $(into)/bin $(into)/lib/pkgconfig $(into)/include
+	install -m 755 disruptor $(into)/bin
+	install -m 644 out/libdisruptor.a $(into)/lib
+	install -m 755 out/libdisruptor.so $(into)/lib
+	install -m 644 out/disruptor.pc $(into)/lib/pkgconfig
+	install -m 644 include/disruptor.h include/disruptor.hpp $(into)/include
+	find share -type f -exec install -D -m 644 '{}' '$(into)/{}' ';'
 
 bench:
 	@tools/prove.py --log $(log) disruptor_bench -- --list
@@ -71,7 +73,7 @@ help:
 	@echo '  make check CRATE=dr_core  proves one crate over what is kept: seconds, 1 to 5 minutes from nothing'
 	@echo '  make test                 the whole gate, from nothing: up to an hour and a half'
 	@echo '  make lib                  proves and builds out/libdisruptor.a and .so, for C, C++, Rust and Python: some minutes'
-	@echo '  make install PREFIX=/opt  installs program, libraries and headers there: /usr/local where no PREFIX is given'
+	@echo '  make install PREFIX=/opt  installs program, libraries, headers and man page there, or else in /usr/local'
 	@echo '  make bench                events a second of core and ring: some minutes, and many where other work runs'
 	@echo '  make bench-plots          draws what bench/measured holds, as docs/pictures, and writes its tables: seconds'
 	@echo '  make hello DIR=../hello   starts a repository of your own in that folder, with a program over the'

@@ -1,8 +1,9 @@
 #!/usr/bin/env bash
 # The whole gate: every proof and every test's proof from nothing and each program's run (`rt ci`), then the program, as both
-# compilers built it, from outside; and, on what processors that leaves, the wrong bodies, over the libraries that `rt ci`
-# proves. The last line, `N passed, M failed`, counts what `rt ci` counts, each wrong body, and one failure more for each
-# script that fails on a build. All that it starts ends with it, also where it is killed or interrupted.
+# compilers built it, from outside; the library for other languages, and instructions an event; and, on what processors that
+# leaves, the wrong bodies, over the libraries that `rt ci` proves. The last line, `N passed, M failed`, counts what `rt ci`
+# counts, each wrong body, and one failure more for each script that fails. All that it starts ends with it, also where it is
+# killed or interrupted.
 set -u
 cd "$(dirname "$0")/.." || exit 2
 [ -n "${GATE_IS_HELD-}" ] || GATE_IS_HELD=yes exec tools/together.py tests/gate.sh
@@ -49,6 +50,10 @@ for build in '' .by-rattle; do
         failed=1
     fi
 done
+if [ "$failed" = 0 ]; then
+    whole tests/library.py crates/disruptor/out/disruptor
+    whole tests/instructions.py crates/disruptor_bench/out/disruptor_bench crates/disruptor/out/disruptor
+fi
 wait "$trying"
 counted cat "$bodies"
 echo "$passed passed, $failed failed"

@@ -52,13 +52,13 @@ c=(-std=c11 -O2 "${warns[@]}")
 guard=(-g -fsanitize=address,undefined -fno-sanitize-recover=all)
 
 if has cc c; then
-    for program in ring refusals; do
-        try "C $program" "$([ $program = ring ] && echo "$all" || echo 'every misuse is refused by its number')" \
+    for program in ring senders refusals; do
+        try "C $program" "$([ $program = refusals ] && echo 'every misuse is refused by its number' || echo "$all")" \
             cc "${c[@]}" -o "$room/$program" "$top/examples/c/$program.c" "$library/libdisruptor.a" -lpthread -- "$room/$program"
     done
     if has cc c "${guard[@]}"; then
-        for program in ring refusals; do
-            try "C $program, with sanitizers" "$([ $program = ring ] && echo "$all" || echo 'every misuse is refused by its number')" \
+        for program in ring senders refusals; do
+            try "C $program, with sanitizers" "$([ $program = refusals ] && echo 'every misuse is refused by its number' || echo "$all")" \
                 cc "${c[@]}" "${guard[@]}" -o "$room/$program" "$top/examples/c/$program.c" "$library/libdisruptor.a" -lpthread -- "$room/$program"
         done
     else

@@ -3,8 +3,9 @@
 
     tests/over_c.py PROGRAM LIBRARY [RUNS [FIRST]]
 
-Every run is of a graph, a size, a limit and calls of its own, by the seeds FIRST, FIRST + 1 and so on. Many calls are refused.
-A ring says that it drained only once it is closed, so a run halts at its end, where all that is claimed is published.
+Every run is of one sender or of several, of a graph, a size, a limit and calls of its own, by the seeds FIRST, FIRST + 1 and so
+on. Many calls are refused. A ring of one sender says that it drained only once it is closed, so a run halts at its end, where all
+that is claimed is published.
 """
 
 import ctypes
@@ -31,10 +32,19 @@ class Exchange:
         self.limit = chance.choice([1, 40, disruptor.MAX_LIMIT])
         handlers = chance.randrange(1, 6)
         masks = [sum(1 << up for up in range(k) if chance.random() < 0.4) for k in range(handlers)]
-        self.sender, self.receivers, self.halter = disruptor.open(library, self.size, masks, self.limit)
-        self.claimed = self.published = 0
+        self.is_single = chance.random() < 0.5
+        if self.is_single:
+            sender, self.receivers, self.halter = disruptor.open(library, self.size, masks, self.limit)
+            self.senders, mode = [sender], "single"
+        else:
+            several = chance.randrange(1, 5)
+            self.senders, self.receivers, self.halter = disruptor.open_several(library, self.size, masks, several, self.limit)
+            mode = f"multi,{several}"
+        self.claimed = 0
+        # (the sender of each sequence that is claimed and not published)
+        self.owner = {}
         self.taken, self.completed = [0] * handlers, [0] * handlers
-        self.records = [f"ring,{self.size},single", f"limit,{self.limit}", "with," + ",".join(f"h{k}" for k in range(handlers))]
+        self.records = [f"ring,{self.size},{mode}", f"limit,{self.limit}", "with," + ",".join(f"h{k}" for k in range(handlers))]
         self.records += [f"edge,h{up},h{k}" for k in range(handlers) for up in range(k) if masks[k] >> up & 1]
         self.records += ["start"]
         self.replies = []
@@ -56,19 +66,25 @@ class Exchange:
             return self.chance.choice([0, (1 << 62) + 1, (1 << 64) - 1])
         return min(max(0, count + self.chance.choice([-1, 0, 0, 0, 1, 2])), (1 << 64) - 1)
 
-    def claim(self, n):
-        lo = self.call(f"claim,0,{n}", lambda lo: f"claimed {lo} {lo + n - 1}", self.sender.claim, n)
+    def claim(self, p, n):
+        lo = self.call(f"claim,{p},{n}", lambda lo: f"claimed {lo} {lo + n - 1}", self.senders[p].claim, n)
         if lo is not None:
             self.claimed = lo + n
+            self.owner.update(dict.fromkeys(range(lo, lo + n), p))
 
-    def write(self, sequence):
+    def write(self, p, sequence):
         first, second = self.chance.randrange(1 << 64), self.chance.choice([0, 1, (1 << 64) - 1])
-        self.call(f"write,0,{sequence},{first},{second}", lambda _: "written", self.sender.write, sequence, first, second)
+        self.call(f"write,{p},{sequence},{first},{second}", lambda _: "written", self.senders[p].write, sequence, first, second)
 
-    def publish(self, lo, hi):
-        self.call(f"publish,0,{lo},{hi}", lambda _: "published", self.sender.publish, lo, hi)
+    def publish(self, p, lo, hi):
+        self.call(f"publish,{p},{lo},{hi}", lambda _: "published", self.senders[p].publish, lo, hi)
         if self.replies[-1] == "published":
-            self.published = hi + 1
+            for sequence in range(lo, hi + 1):
+                del self.owner[sequence]
+
+    def first_of(self, p):
+        """The first sequence that a sender claimed and did not publish, or the next to be claimed."""
+        return min((it for it, owner in self.owner.items() if owner == p), default=self.claimed)
 
     def poll(self, k, room):
         events = (disruptor.Event * room)()
@@ -90,15 +106,15 @@ class Exchange:
 
     def step(self):
         """Makes one random call."""
-        k = self.chance.randrange(len(self.receivers))
+        k, p = self.chance.randrange(len(self.receivers)), self.chance.randrange(len(self.senders))
         kind = self.chance.randrange(8)
         if kind == 0:
-            self.claim(self.near(self.chance.randrange(self.size + 1)))
+            self.claim(p, self.near(self.chance.randrange(self.size + 1)))
         elif kind < 4:
-            self.write(self.near(self.chance.choice([self.published, self.claimed])))
+            self.write(p, self.near(self.chance.choice([self.first_of(p), self.first_of(p) + 1, self.claimed])))
         elif kind == 4:
-            lo = self.near(self.published)
-            self.publish(lo, self.near(self.chance.randrange(lo, max(self.claimed, lo + 1))))
+            lo = self.near(self.first_of(p))
+            self.publish(p, lo, self.near(self.chance.randrange(lo, max(self.claimed, lo + 1))))
         elif kind < 7:
             self.poll(k, self.chance.choice([0, 1, 2, self.size, 64]))
         else:
@@ -106,14 +122,16 @@ class Exchange:
 
     def end(self):
         """Publishes what is claimed, halts, and polls each handler to the end, upstreams first."""
-        for sequence in range(self.published, self.claimed):
-            self.write(sequence)
-        if self.published < self.claimed:
-            self.publish(self.published, self.claimed - 1)
-        self.sender.close()
+        for sequence, p in sorted(self.owner.items()):
+            self.write(p, sequence)
+            self.publish(p, sequence, sequence)
+        if self.is_single:
+            self.senders[0].close()
+        else:
+            self.halter.halt()
         self.records.append("halt")
         self.replies.append("halting")
-        self.claim(1)
+        self.claim(0, 1)
         for k in range(len(self.receivers)):
             self.poll(k, 3)
             while self.replies[-1] != "drained":

@@ -78,9 +78,9 @@ class Libraries:
                 shutil.move(f"{room}/kept", keeps)
         return said
 
-    def words(self, name):
+    def words(self, name, verb="check"):
         libraries = [f"{it}={f'{self.room}/{it}' if it in self.below else f'{self.kit}/rlibs'}/{it}.rlib" for it in ("std", *self.uses[name])]
-        words = ["rattle", "check", "--crate-name", name, "src/lib.rt", "--jobs", "1", "--incremental", "kept", "--links", f"{name}="]
+        words = ["rattle", verb, "--crate-name", name, "src/lib.rt", "--jobs", "1", "--incremental", "kept", "--links", f"{name}="]
         words += [word for it in libraries for word in ("--extern", it)]
         folders = [f"{self.kit}/rlibs", *(f"{self.room}/{it}" for it in self.below[name])]
         words += [word for it in folders for word in ("-L", f"dependency={it}")]

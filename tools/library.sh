@@ -1,13 +1,13 @@
 #!/usr/bin/env bash
 # Makes of the proved crate dr_c what programs in other languages link: in the folder OUT libdisruptor.a, libdisruptor.so
-# and disruptor.pc for pkg-config, whose prefix is PREFIX.
+# and disruptor.pc for pkg-config, whose prefix is PREFIX. ARCHIVE is the crate's, where `make lib` did not leave it.
 #
-#   tools/library.sh OUT PREFIX
+#   tools/library.sh OUT PREFIX [ARCHIVE]
 set -eu
 top=$(cd "$(dirname "$0")/.." && pwd)
 mkdir -p "$1"
 out=$(cd "$1" && pwd) prefix=$2
-proved=$top/crates/dr_c/out/libdr_c.a
+proved=${3:-$top/crates/dr_c/out/libdr_c.a}
 # (allocations of the library go through the kit's heap.c, which calls malloc and free)
 kit=$(dirname "$(rt doc)")
 version=$(sed -n 's/^const VERSION: &str = "\([^,"]*\).*/\1/p' "$top/crates/dr_command_line/src/words.rt")
@@ -25,7 +25,7 @@ libdir=\${prefix}/lib
 includedir=\${prefix}/include
 
 Name: disruptor
-Description: The proved ring of one sender and a graph of handlers
+Description: The proved rings of one sender or several and a graph of handlers
 Version: ${version:-0}
 Libs: -L\${libdir} -ldisruptor
 Libs.private: -lpthread
