@@ -129,8 +129,8 @@ static inline void *disruptor_or_nothing(const void *at, size_t there) {
 
 /* Opens a ring of `size` slots in which `limit` sequences may be claimed. Handler k follows those handlers whose bits are
  * in the mask upstreams[k], all of them before k, and its receiver comes to receivers[k]. There are as many receivers as
- * masks, 1 to 16. Refusals: BAD_POINTER, STILL_OPEN, BAD_COUNT, BAD_SIZE, NO_HANDLERS, TOO_MANY, BAD_ORDER, BAD_LIMIT,
- * NO_MEMORY; then no handle is opened. */
+ * masks, 1 to 16. Refusals, the first for which there is cause: BAD_POINTER, STILL_OPEN, BAD_COUNT, BAD_SIZE, NO_HANDLERS,
+ * TOO_MANY, BAD_ORDER, BAD_LIMIT; after BAD_ORDER also NO_MEMORY. Then no handle is opened. */
 static inline uint32_t disruptor_open(uint64_t size, uint64_t limit, const uint64_t *upstreams, size_t handlers,
                                       disruptor_sender *sender, disruptor_receiver *receivers, size_t count,
                                       disruptor_halter *halter) {
@@ -141,7 +141,7 @@ static inline uint32_t disruptor_open(uint64_t size, uint64_t limit, const uint6
 
 /* Opens a ring of `count` senders, 1 to 16, whose ends come to senders[0] and on; else as disruptor_open, with as many receivers
  * as handlers. Any of the senders may claim at any time. The ring ends with a halt: a handler that took all that is claimed is
- * told DRAINED then. Refusals: those of disruptor_open, and BAD_PRODUCERS. */
+ * told DRAINED then. Refusals: those of disruptor_open, and BAD_PRODUCERS, before BAD_LIMIT. */
 static inline uint32_t disruptor_open_several(uint64_t size, uint64_t limit, const uint64_t *upstreams, size_t handlers,
                                               disruptor_sender *senders, size_t count, disruptor_receiver *receivers,
                                               size_t rooms, disruptor_halter *halter) {

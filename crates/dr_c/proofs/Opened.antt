@@ -1,13 +1,17 @@
 -- Handles that are not open.
-use Rattle.std.proofs.Common.{◌≡◌, ℕ, suc, ◌+◌, ◌-◌, ◌≤◌, Bool, false, List, [], ◌∷◌, length, drop, set, ap, refl, sym, subst, ◌∙◌, arith}
+use Rattle.std.proofs.Common.{◌≡◌, ◌≢◌, ℕ, suc, ◌+◌, ◌-◌, ◌<◌, ◌≤◌, Bool, true, false, List, [], ◌∷◌, length, drop, set, ap, refl, sym, subst, ◌∙◌, arith}
 use Rattle.std.specs.Prelude.{◌||◌, Option, None, Some, is_some, replicate}
 use Rattle.std.specs.List.{list_any}
 use Rattle.std.proofs.lemmas.Bool.{or_parts, false≢true}
 use Rattle.dr_runs.proofs.Lists.{drop_set}
 use Rattle.dr_c.specs.declared.end.End.{End}
 use Rattle.dr_c.specs.declared.handle.Handle.{Handle}
+use Rattle.dr_seq.specs.Size.{IsSize}
+use Rattle.dr_core.specs.declared.mode.Mode.TheVariants.{Multi}
+use Rattle.dr_core.specs.Calls.OpenFault.{has_bad_producers, is_bad_limit}
 use Rattle.dr_c.specs.declared.open_fault.OpenFault.{OpenFault}
-use Rattle.dr_c.specs.OpenFault.{IsWhy}
+use Rattle.dr_c.specs.declared.open_fault.OpenFault.TheVariants.{StillOpen, BadCount, BadSize, NoHandlers, TooMany, BadOrder, BadProducers, BadLimit, NoMemory}
+use Rattle.dr_c.specs.OpenFault.{AreInOrder, IsFine, IsWhy, NoneIsAmiss, before_making}
 use Rattle.dr_c.specs.Opening.{are_open, ends_in}
 use Rattle.dr_c.specs.OpeningSeveral.{are_all_open}
 
@@ -33,6 +37,63 @@ pub why_here : (b : Bool) (count senders size limit : ℕ) (masks : List ℕ) (f
     → IsWhy false (length masks) senders size limit masks fault → IsWhy b count senders size limit masks fault
 why_here b count senders size limit masks fault closed same why =
     subst (λ (x : Bool). IsWhy x count senders size limit masks fault) (sym closed) (subst (λ (n : ℕ). IsWhy false n senders size limit masks fault) (sym same) why)
+
+-- and nothing is amiss where nothing is with the ring
+pub fine_here : (b : Bool) (count senders size limit : ℕ) (masks : List ℕ) → b ≡ false → count ≡ length masks
+    → IsFine false (length masks) senders size limit masks → IsFine b count senders size limit masks
+fine_here b count senders size limit masks closed same fine =
+    subst (λ (x : Bool). IsFine x count senders size limit masks) (sym closed) (subst (λ (n : ℕ). IsFine false n senders size limit masks) (sym same) fine)
+
+pub no_memory_here : (b : Bool) (count senders size limit : ℕ) (masks : List ℕ) → b ≡ false → count ≡ length masks
+    → IsFine false (length masks) senders size limit masks → IsWhy b count senders size limit masks NoMemory
+no_memory_here b count senders size limit masks closed same fine = (tt, (fine_here b count senders size limit masks closed same fine).1.1)
+
+pub still_open : (b : Bool) (count senders size limit : ℕ) (masks : List ℕ) → b ≡ true → IsWhy b count senders size limit masks StillOpen
+still_open b count senders size limit masks is = (is, tt)
+
+pub bad_count : (b : Bool) (count senders size limit : ℕ) (masks : List ℕ) → b ≡ false → count ≢ length masks → IsWhy b count senders size limit masks BadCount
+bad_count b count senders size limit masks closed other = (other, ((λ is. false≢true (sym closed ∙ is)), tt))
+
+-- Of a ring for handles that are not open, and are enough.
+
+pub bad_size : (senders size limit : ℕ) (masks : List ℕ) → (IsSize size → ⊥) → IsWhy false (length masks) senders size limit masks BadSize
+bad_size senders size limit masks bad = (bad, (false≢true, ((λ other. other refl), tt)))
+
+pub no_handlers : (senders size limit : ℕ) (masks : List ℕ) → IsSize size → length masks ≡ 0 → IsWhy false (length masks) senders size limit masks NoHandlers
+no_handlers senders size limit masks fits none = (none, (false≢true, ((λ other. other refl), ((λ bad. bad fits), tt))))
+
+pub too_many : (senders size limit : ℕ) (masks : List ℕ) → IsSize size → length masks ≢ 0 → 16 < length masks → IsWhy false (length masks) senders size limit masks TooMany
+too_many senders size limit masks fits some many = (many, (false≢true, ((λ other. other refl), ((λ bad. bad fits), (some, tt)))))
+
+few : (n : ℕ) → n ≤ 16 → 16 < n → ⊥
+few n within many = omega arith
+
+pub bad_order : (senders size limit : ℕ) (masks : List ℕ) → IsSize size → length masks ≢ 0 → length masks ≤ 16 → (AreInOrder masks → ⊥)
+    → IsWhy false (length masks) senders size limit masks BadOrder
+bad_order senders size limit masks fits some within bad = (bad, (false≢true, ((λ other. other refl), ((λ no. no fits), (some, (few (length masks) within, tt))))))
+
+masks_fine : (senders size limit : ℕ) (masks : List ℕ) → IsSize size → length masks ≢ 0 → length masks ≤ 16 → AreInOrder masks
+    → NoneIsAmiss false (length masks) senders size limit masks before_making
+masks_fine senders size limit masks fits some within order =
+    (false≢true, ((λ other. other refl), ((λ no. no fits), (some, (few (length masks) within, ((λ bad. bad order), tt))))))
+
+pub no_memory : (senders size limit : ℕ) (masks : List ℕ) → IsSize size → length masks ≢ 0 → length masks ≤ 16 → AreInOrder masks
+    → IsWhy false (length masks) senders size limit masks NoMemory
+no_memory senders size limit masks fits some within order = (tt, masks_fine senders size limit masks fits some within order)
+
+pub bad_producers : (senders size limit : ℕ) (masks : List ℕ) → IsSize size → length masks ≢ 0 → length masks ≤ 16 → AreInOrder masks
+    → has_bad_producers (Multi senders) ≡ true → IsWhy false (length masks) senders size limit masks BadProducers
+bad_producers senders size limit masks fits some within order bad = (bad, masks_fine senders size limit masks fits some within order)
+
+pub bad_limit : (senders size limit : ℕ) (masks : List ℕ) → IsSize size → length masks ≢ 0 → length masks ≤ 16 → AreInOrder masks
+    → has_bad_producers (Multi senders) ≡ false → is_bad_limit limit ≡ true → IsWhy false (length masks) senders size limit masks BadLimit
+bad_limit senders size limit masks fits some within order enough bad =
+    (bad, ((λ no. false≢true (sym enough ∙ no)), masks_fine senders size limit masks fits some within order))
+
+pub all_fine : (senders size limit : ℕ) (masks : List ℕ) → IsSize size → length masks ≢ 0 → length masks ≤ 16 → AreInOrder masks
+    → has_bad_producers (Multi senders) ≡ false → is_bad_limit limit ≡ false → IsFine false (length masks) senders size limit masks
+all_fine senders size limit masks fits some within order enough good =
+    ((λ bad. false≢true (sym good ∙ bad)), ((λ no. false≢true (sym enough ∙ no)), masks_fine senders size limit masks fits some within order))
 
 -- none of the receivers' handles is open
 pub none_before : (s : Handle) (hs : List Handle) (h : Handle) → are_open s hs h ≡ false → ends_in hs ≡ replicate (length hs) None

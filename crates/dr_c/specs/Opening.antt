@@ -8,7 +8,7 @@ use Rattle.dr_c.specs.declared.end.End.{End}
 use Rattle.dr_c.specs.declared.end.End.TheVariants.{Sender, Receiver, Halter}
 use Rattle.dr_c.specs.declared.handle.Handle.{Handle}
 use Rattle.dr_c.specs.declared.open_fault.OpenFault.{OpenFault}
-use Rattle.dr_c.specs.OpenFault.{number_of, IsWhy}
+use Rattle.dr_c.specs.OpenFault.{number_of, IsFine, IsWhy}
 
 -- the handlers whose bits are in a mask
 abbrev pub has_bit : ℕ → ℕ → Bool
@@ -51,7 +51,8 @@ are_open sender receivers halter = is_some sender.held.value || list_any (λ h. 
 
 -- what an opening that is not refused, or is, leaves in the handles
 abbrev pub Opens : ℕ → ℕ → List ℕ → Handle → List Handle → Handle → Handle → List Handle → Handle → Result (Unit {0}) OpenFault → Type 0
-Opens size limit masks sender receivers halter sender' receivers' halter' (Ok _) = OpensBy size limit masks sender'.held.value (ends_in receivers') halter'.held.value
+Opens size limit masks sender receivers halter sender' receivers' halter' (Ok _) =
+    IsFine (are_open sender receivers halter) (length receivers) 1 size limit masks × OpensBy size limit masks sender'.held.value (ends_in receivers') halter'.held.value
 Opens size limit masks sender receivers halter sender' receivers' halter' (Err fault) =
     IsWhy (are_open sender receivers halter) (length receivers) 1 size limit masks fault
     × (sender'.held.value ≡ sender.held.value) × (ends_in receivers' ≡ ends_in receivers) × (halter'.held.value ≡ halter.held.value)

@@ -7,7 +7,7 @@ use Rattle.dr_c.specs.declared.end.End.{End}
 use Rattle.dr_c.specs.declared.end.End.TheVariants.{SenderOfSeveral, ReceiverOfSeveral, HalterOfSeveral}
 use Rattle.dr_c.specs.declared.handle.Handle.{Handle}
 use Rattle.dr_c.specs.declared.open_fault.OpenFault.{OpenFault}
-use Rattle.dr_c.specs.OpenFault.{IsWhy}
+use Rattle.dr_c.specs.OpenFault.{IsFine, IsWhy}
 use Rattle.dr_c.specs.Opening.{FollowsMasks, ends_in, has, told_of_opening}
 
 -- the ends of a new ring of a size, a limit, masks and so many senders
@@ -34,7 +34,8 @@ are_all_open senders receivers halter = list_any (λ h. is_some h.held.value) se
 -- what an opening that is not refused, or is, leaves in the handles
 abbrev pub Opens : ℕ → ℕ → List ℕ → List Handle → List Handle → Handle → List Handle → List Handle → Handle → Result (Unit {0}) OpenFault → Type 0
 Opens size limit masks senders receivers halter senders' receivers' halter' (Ok _) =
-    OpensBy size limit masks (length senders) (ends_in senders') (ends_in receivers') halter'.held.value
+    IsFine (are_all_open senders receivers halter) (length receivers) (length senders) size limit masks
+    × OpensBy size limit masks (length senders) (ends_in senders') (ends_in receivers') halter'.held.value
 Opens size limit masks senders receivers halter senders' receivers' halter' (Err fault) =
     IsWhy (are_all_open senders receivers halter) (length receivers) (length senders) size limit masks fault
     × (ends_in senders' ≡ ends_in senders) × (ends_in receivers' ≡ ends_in receivers) × (halter'.held.value ≡ halter.held.value)

@@ -1,7 +1,8 @@
 //! The graph that C asks for, by masks.
 
-ghost use Rattle.std.specs.Prelude.{◌≡◌, ℕ, false, true, length, IfErr, IfOk};
-ghost use Rattle.dr_c.specs.OpenFault.{IsWhy};
+ghost use Rattle.std.specs.Prelude.{◌≡◌, ◌≢◌, ◌↔◌, ◌^◌, ◌<◌, ◌≤◌, ℕ, false, true, length, IfErr, IfOk, IsTrue};
+ghost use Rattle.dr_seq.specs.Size.{IsSize};
+ghost use Rattle.dr_c.specs.OpenFault.{AreInOrder, IsWhy};
 ghost use Rattle.dr_c.specs.Opening.{handlers_in as handlers_in_mask, FollowsMasks};
 
 use crate::open_fault::OpenFault;
@@ -75,9 +76,25 @@ fn built(alloc: Global, masks: &[u64]) -> Result<Graph, GraphFault> {
     builder.build()
 }
 
-// Whether each mask names handlers before its own alone.
-fn are_in_order(masks: &[u64]) -> bool {
-    masks.iter().enumerate().all(|(handler, mask)| handler < MAX_HANDLERS && mask >> handler == 0)
+// Whether a mask names handlers before its own alone.
+fn is_in_order(mask: u64, handler: usize) -> bool
+    requires { handler < 16 }
+    ensures { IsTrue result ↔ (mask < 2 ^ handler) }
+{
+    mask >> handler == 0
+}
+
+// Whether each mask does.
+fn are_in_order(masks: &[u64]) -> bool
+    requires { length masks.now ≤ 16 }
+    ensures { IsTrue result ↔ AreInOrder masks.now }
+{
+    for k in 0..masks.len() {
+        if !is_in_order(masks[k], k) {
+            return false;
+        }
+    }
+    true
 }
 
 fn are_equal(one: &[usize], other: &[usize]) -> bool
@@ -86,7 +103,7 @@ fn are_equal(one: &[usize], other: &[usize]) -> bool
     one == other
 }
 
-// Whether handlers have the numbers of their masks. They do wherever masks are in order, and no other graph is opened.
+// Whether handlers have the numbers of their masks. They do wherever masks are in order, which is not proved: no other graph is opened.
 fn follows_masks(alloc: Global, graph: &Graph, masks: &[u64]) -> Result<bool, AllocError>
     requires { length graph.now.upstreams ≡ length masks.now }
     ensures { IfOk result (λ follows. follows ≡ true → FollowsMasks graph.now.upstreams masks.now) }
@@ -100,12 +117,14 @@ fn follows_masks(alloc: Global, graph: &Graph, masks: &[u64]) -> Result<bool, Al
     Ok(true)
 }
 
-/// The graph of as many handlers as there are masks, in which handler `k` follows those whose bits are in mask `k`; or the
-/// what refuses it.
+/// The graph of as many handlers as there are masks, in which handler `k` follows those whose bits are in mask `k`; or what
+/// refuses it.
+#[tactic(auto, using(crate::proofs::Opened::no_handlers, crate::proofs::Opened::too_many, crate::proofs::Opened::bad_order, crate::proofs::Opened::no_memory))]
 pub fn graph(alloc: Global, masks: &[u64]) -> Result<Graph, OpenFault>
     ensures all { IfOk result (λ graph. length graph.upstreams ≡ length masks.now) }
     ensures follows { IfOk result (λ graph. FollowsMasks graph.upstreams masks.now) }
-    ensures refused { (senders size limit : ℕ) → IfErr result (λ fault. IsWhy false (length masks.now) senders size limit masks.now fault) }
+    ensures fine { IfOk result (λ graph. (length masks.now ≢ 0) × (length masks.now ≤ 16) × AreInOrder masks.now) }
+    ensures refused { (senders size limit : ℕ) → IsSize size → IfErr result (λ fault. IsWhy false (length masks.now) senders size limit masks.now fault) }
 {
     if masks.is_empty() {
         return Err(OpenFault::NoHandlers);
@@ -124,7 +143,6 @@ pub fn graph(alloc: Global, masks: &[u64]) -> Result<Graph, OpenFault>
     }
     match follows_masks(alloc, &graph, masks) {
         Ok(true) => Ok(graph),
-        Ok(false) => Err(OpenFault::BadOrder),
-        Err(_) => Err(OpenFault::NoMemory),
+        _ => Err(OpenFault::NoMemory),
     }
 }

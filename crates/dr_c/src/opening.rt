@@ -2,7 +2,7 @@
 
 ghost use Rattle.std.specs.Prelude.{◌≡◌, false, None, length, map, replicate, is_some, IfErr, IfOk, OnOk};
 ghost use Rattle.std.specs.List.{list_any};
-ghost use Rattle.dr_c.specs.OpenFault.{IsWhy};
+ghost use Rattle.dr_c.specs.OpenFault.{IsFine, IsWhy};
 ghost use Rattle.dr_c.specs.Opening.{AreOpened, Opens, are_open as are_open_of, ends_in, has};
 ghost use Rattle.dr_c.specs.declared.end.End.TheVariants.{Receiver as IsReceiver};
 
@@ -15,6 +15,7 @@ use dr_seq::Size;
 use std::alloc::{AllocError, Global};
 
 // The ends of a ring, or what refuses it.
+#[tactic(auto, using(crate::proofs::Opened::bad_size, crate::proofs::Opened::no_memory, crate::proofs::Opened::bad_limit, crate::proofs::Opened::all_fine))]
 fn ends(
     alloc: Global,
     size: u64,
@@ -22,6 +23,7 @@ fn ends(
     masks: &[u64],
 ) -> Result<(Sender, Vec<Receiver>, Halter), OpenFault>
     ensures made { IfOk result (λ made. AreOpened size limit masks.now made.0 made.1.items made.2) }
+    ensures fine { IfOk result (λ made. IsFine false (length masks.now) 1 size limit masks.now) }
     ensures refused { IfErr result (λ fault. IsWhy false (length masks.now) 1 size limit masks.now fault) }
 {
     let size = match Size::new(size) {
@@ -107,7 +109,7 @@ pub fn free_all(alloc: Global, handles: &mut [Handle])
 }
 
 /// Opens a ring into handles, or says what refuses it.
-#[tactic(auto, using(crate::proofs::Opened::why_here, crate::proofs::Opened::freed_again))]
+#[tactic(auto, using(crate::proofs::Opened::still_open, crate::proofs::Opened::bad_count, crate::proofs::Opened::why_here, crate::proofs::Opened::fine_here, crate::proofs::Opened::no_memory_here, crate::proofs::Opened::freed_again))]
 pub fn open(
     alloc: Global,
     size: u64,

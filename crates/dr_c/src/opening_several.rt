@@ -1,7 +1,7 @@
 //! A ring of several senders is opened, and its ends are put into handles.
 
 ghost use Rattle.std.specs.Prelude.{◌≡◌, false, length, map, IfErr, IfOk, OnOk};
-ghost use Rattle.dr_c.specs.OpenFault.{IsWhy};
+ghost use Rattle.dr_c.specs.OpenFault.{IsFine, IsWhy};
 ghost use Rattle.dr_c.specs.Opening.{ends_in, has};
 ghost use Rattle.dr_c.specs.OpeningSeveral.{AreOpened, Opens, are_all_open};
 ghost use Rattle.dr_c.specs.declared.end.End.TheVariants.{SenderOfSeveral, ReceiverOfSeveral};
@@ -16,6 +16,7 @@ use dr_seq::Size;
 use std::alloc::{AllocError, Global};
 
 // The ends of a ring, or what refuses it.
+#[tactic(auto, using(crate::proofs::Opened::bad_size, crate::proofs::Opened::no_memory, crate::proofs::Opened::bad_producers, crate::proofs::Opened::bad_limit, crate::proofs::Opened::all_fine))]
 fn ends(
     alloc: Global,
     size: u64,
@@ -24,6 +25,7 @@ fn ends(
     senders: usize,
 ) -> Result<(Vec<Sender>, Vec<Receiver>, Halter), OpenFault>
     ensures made { IfOk result (λ made. AreOpened size limit masks.now senders made.0.items made.1.items made.2) }
+    ensures fine { IfOk result (λ made. IsFine false (length masks.now) senders size limit masks.now) }
     ensures refused { IfErr result (λ fault. IsWhy false (length masks.now) senders size limit masks.now fault) }
 {
     let size = match Size::new(size) {
@@ -101,7 +103,7 @@ fn fill_both(
 }
 
 /// Opens a ring into handles, one for each sender, or says what refuses it.
-#[tactic(auto, using(crate::proofs::Opened::why_here, crate::proofs::Opened::senders_again, crate::proofs::Opened::receivers_again))]
+#[tactic(auto, using(crate::proofs::Opened::still_open, crate::proofs::Opened::bad_count, crate::proofs::Opened::why_here, crate::proofs::Opened::fine_here, crate::proofs::Opened::no_memory_here, crate::proofs::Opened::senders_again, crate::proofs::Opened::receivers_again))]
 pub fn open(
     alloc: Global,
     size: u64,

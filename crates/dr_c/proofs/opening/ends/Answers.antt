@@ -1,4 +1,5 @@
+use Rattle.std.proofs.Common.{refl}
 use Rattle.dr_c.proofs.opening.ends.Goals as goal
 
 pub returns-in-Err-graph-clause-refused : goal.returns-in-Err-graph-clause-refused
-returns-in-Err-graph-clause-refused c = c.in-Err-graph.ensures.refused 1 c.args.size c.args.limit
+returns-in-Err-graph-clause-refused c = c.in-Err-graph.ensures.refused 1 c.args.size c.args.limit (c.in-Ok.ensures.accepted refl)
