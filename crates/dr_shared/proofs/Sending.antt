@@ -2,7 +2,8 @@
 use Rattle.std.proofs.Common.{◌≡◌, ◌≢◌, ◌+◌, ◌-◌, ◌<◌, ℕ, zero, suc, min, take, drop, List, [], ◌∷◌, ◌++◌, length, Some, Result, Ok, Err, inl, inr, refl, sym, ap, ◌∙◌, subst, arith, add-one, append_assoc, length-append, length-drop}
 use Rattle.std.specs.Prelude.{flat_map}
 use Rattle.std.proofs.lemmas.Grind.{flat_map-append}
-use Rattle.std.proofs.lemmas.List.{append-nil, length-take-le, take_all}
+use Rattle.std.proofs.Math.Seq.{drop-append_seam, take-append_seam}
+use Rattle.std.proofs.lemmas.List.{append-nil, length-take-le, take-append-drop, take_all}
 use Rattle.std.proofs.lemmas.List.Elements.{filter_map-append}
 use Rattle.dr_core.specs.declared.command.Claimed.{Claimed}
 use Rattle.dr_core.specs.declared.ends.Trouble.{Trouble}
@@ -12,11 +13,12 @@ use Rattle.dr_core.specs.Calls.Calling.{InletCall, TriesClaim, PublishesStretch,
 use Rattle.dr_core.proofs.Calling.{lead_more}
 use Rattle.dr_shared.specs.declared.producer.Produced.{Produced}
 use Rattle.dr_shared.specs.declared.turns.Turns.{Turns}
-use Rattle.dr_shared.specs.Calls.Serving.{ClaimFails, EndsIn, GivesUp, IsOpen, IsRefusal, PartFails, ProducerEnds, PublicationFails, Sends, WriteFails}
+use Rattle.dr_shared.specs.Calls.Serving.{ClaimFails, EndsIn, GivesUp, InOrder, IsNextStep, IsOpen, IsRefusal, PartFails, ProducerEnds, PublicationFails, Sends, Task, ToClaim, ToSend, WriteFails, task_after}
 use Rattle.dr_shared.specs.Calls.Stops.{Passes, begins, fault_at_end, fault_in_trouble}
-use Rattle.dr_shared.specs.Inside.Retries.{AfterClaim, AreWrittenOut, IsInTroubleWith, IsPartSent, Retries, SendsPart, WriteCalls}
+use Rattle.dr_shared.specs.Inside.Retries.{AfterClaim, AreWrittenOut, IsInTroubleWith, IsPartSent, Retries, SendsPart, WriteCalls, task_at_end}
 use Rattle.dr_shared.specs.Meaning.Work.{AreCut, BeginsPart, IsSent, Part, accepted_in, accepted_of, claim_of, claims_in, sending_of, writing_of}
-use Rattle.dr_shared.proofs.Calling.{accepted_in-append, accepted_last, ends_after, ends_as, ends_retried, picked, same_trouble}
+use Rattle.dr_shared.proofs.Calling.{accepted_in-append, accepted_last, ends_after, ends_as, ends_retried, picked, rest_later, same_trouble}
+use Rattle.dr_shared.proofs.Ordering.{in_order_more, retried_at_end, retried_in_order, task_more}
 use Rattle.dr_shared.proofs.Stopping.{passes_more, passes_none, stops_after}
 use Rattle.dr_shared.proofs.Writings.{first_and_next}
 
@@ -48,6 +50,28 @@ accepts_publication : {E : Type 0} (lo hi : ℕ) (answer : Result (Unit {0}) Tro
     → accepted_in calls ≡ accepted_of (PublishesStretch lo hi answer)
 accepts_publication lo hi answer calls h = accepted_last (PublishesStretch lo hi (Err Memory)) (PublishesStretch lo hi answer) calls h refl
 
+-- the claim is the next call
+claim_next : {E : Type 0} (cut : ℕ) (events rest : List E) (answer : Result Claimed Trouble) → 0 < length events → length events ≡ min (length (events ++ rest)) cut
+    → IsNextStep cut (ToClaim (events ++ rest)) (TriesClaim (length events) answer)
+claim_next cut events rest answer some size = (let long : length (events ++ rest) ≡ length events + length rest = length-append events rest in omega arith, size)
+
+claim_in_order : {E : Type 0} (cut : ℕ) (events rest : List E) (answer : Result Claimed Trouble) (calls : List (InletCall E)) → 0 < length events
+    → length events ≡ min (length (events ++ rest)) cut → IsClaimed (length events) answer calls → InOrder cut (ToClaim (events ++ rest)) calls
+claim_in_order cut events rest answer calls some size h =
+    retried_in_order cut (ToClaim (events ++ rest)) (TriesClaim (length events) (Err (Refused NoRoom))) (TriesClaim (length events) answer) calls h refl
+    (claim_next cut events rest (Err (Refused NoRoom)) some size) (claim_next cut events rest answer some size)
+
+-- and then the writes are
+claim_at_end : {E : Type 0} (events rest : List E) (stretch : Claimed) (calls : List (InletCall E)) → IsClaimed (length events) (Ok stretch) calls
+    → task_at_end (ToClaim (events ++ rest)) calls ≡ ToSend stretch stretch.lo events rest
+claim_at_end events rest stretch calls h =
+    retried_at_end (ToClaim (events ++ rest)) (TriesClaim (length events) (Err (Refused NoRoom))) (TriesClaim (length events) (Ok stretch)) calls h refl
+    ∙ ap (λ l. ToSend stretch stretch.lo l (drop (length events) (events ++ rest))) (take-append_seam events rest)
+    ∙ ap (λ l. ToSend stretch stretch.lo events l) (drop-append_seam events rest)
+
+failed : (result : Result (Unit {0}) Trouble) (trouble : Trouble) → result ≡ Err trouble → result ≡ Ok tt → ⊥
+failed result trouble is fine = cc
+
 -- the claim is refused
 pub part_unclaimed : {S E : Type 0} (does : S → InletCall E → S → Type 0) (events : List E) (a b : S) (may_stop must_stop : ℕ → ℕ → Type 0)
     (t : Turns) (trouble : Trouble) → trouble ≢ Refused NoRoom → SomeCalls does a b (IsClaimed (length events) (Err trouble))
@@ -63,6 +87,8 @@ part_unclaimed does events a b may_stop must_stop t trouble other h =
         trouble = λ fault is. inl (subst (λ f. EndsIn (ClaimFails n f) h.calls) (same_trouble (Err trouble) trouble fault refl is)
             (ends_retried (ClaimFails n trouble) (TriesClaim n (Err (Refused NoRoom))) (TriesClaim n (Err trouble)) h.calls h.holds (refl, refl, other)));
         accepted = inl (accepts_claim n (Err trouble) h.calls h.holds);
+        order = λ cut rest some size. claim_in_order cut events rest (Err trouble) h.calls some size h.holds;
+        end = λ rest fine. absurd (failed (Err trouble) trouble refl fine);
       };
     }
 
@@ -110,6 +136,11 @@ part_claimed {S} {E} does events claimed a b c may_stop must_stop t t' result so
         );
         accepted = subst (IsPartSent events result) (sym (accepted_in-append h.calls k.calls))
             (accepts_part events claimed result (accepted_in h.calls) (accepted_in k.calls) some (accepts_claim n (Ok claimed) h.calls h.holds) k.holds.accepted);
+        order = λ cut rest more size.
+            in_order_more cut (ToClaim (events ++ rest)) h.calls k.calls (claim_in_order cut events rest (Ok claimed) h.calls more size h.holds)
+            (subst (λ t. InOrder cut t k.calls) (sym (claim_at_end events rest claimed h.calls h.holds)) (k.holds.order cut rest some));
+        end = λ rest fine.
+            task_more (ToClaim (events ++ rest)) h.calls k.calls ∙ ap (λ t. task_at_end t k.calls) (claim_at_end events rest claimed h.calls h.holds) ∙ k.holds.end rest fine;
       };
     }
 
@@ -128,6 +159,8 @@ written_in_part does part a b trouble h =
         claims = h.holds.claims;
         trouble = λ fault is. ends_as (WriteFails part.stretch.lo part.events fault) (PartFails part fault) (λ call fails. inl fails) h.calls (h.holds.trouble fault is);
         accepted = h.holds.accepted;
+        order = λ cut rest some. h.holds.order cut part.stretch rest some;
+        end = λ rest fine. absurd (failed (Err trouble) trouble refl fine);
       };
     }
 
@@ -156,6 +189,16 @@ written_and_published {S} {E} does part a b c result waits h k =
             ends_after (PartFails part fault) h.calls k.calls (ends_as (PublicationFails part.stretch fault) (PartFails part fault) (λ call fails. inr fails) k.calls last);
         accepted = subst (AreWrittenOut part result) (sym (accepted_in-append h.calls k.calls))
             (accepts_rest part result (accepted_in h.calls) (accepted_in k.calls) h.holds.accepted (accepts_publication lo hi result k.calls k.holds));
+        order = λ cut rest some.
+            let written = ToSend part.stretch (lo + length part.events) [] rest in
+            in_order_more cut (ToSend part.stretch lo part.events rest) h.calls k.calls (h.holds.order cut part.stretch rest some)
+            (subst (λ t. InOrder cut t k.calls) (sym (h.holds.end part.stretch rest refl))
+            (retried_in_order cut written (PublishesStretch lo hi (Err Memory)) (PublishesStretch lo hi result) k.calls k.holds refl (refl, refl, refl) (refl, refl, refl)));
+        end = λ rest fine.
+            let written : Task E = ToSend part.stretch (lo + length part.events) [] rest in
+            task_more (ToSend part.stretch lo part.events rest) h.calls k.calls ∙ ap (λ t. task_at_end t k.calls) (h.holds.end part.stretch rest refl)
+            ∙ retried_at_end written (PublishesStretch lo hi (Err Memory)) (PublishesStretch lo hi result) k.calls k.holds refl
+            ∙ ap (λ r. task_after written (PublishesStretch lo hi r)) fine;
       };
     }
 
@@ -212,6 +255,8 @@ pub record Sending {E : Type 0} (cut : ℕ) (script : List E) (may_stop must_sto
   pub left : left_after (length script) (claims_in calls) ≡ length script - sent
   pub passes : Passes may_stop must_stop (length (claims_in calls)) (begins who) turns
   pub sends : InParts script sent (accepted_in calls)
+  pub order : InOrder cut (ToClaim script) calls
+  pub end : task_at_end (ToClaim script) calls ≡ ToClaim (drop sent script)
 
 pub sending_none : {S E : Type 0} (does : S → InletCall E → S → Type 0) (a : S) (cut : ℕ) (script : List E) (may_stop must_stop : ℕ → ℕ → Type 0)
     (who : ℕ) (turns : Turns) → turns ≡ begins who
@@ -224,6 +269,8 @@ sending_none does a cut script may_stop must_stop who turns is = record {
     left = omega arith;
     passes = subst (λ t. Passes may_stop must_stop 0 (begins who) t) (sym is) (passes_none may_stop must_stop (begins who));
     sends = record { parts = []; calls = refl; events = refl };
+    order = tt;
+    end = refl;
   };
 }
 
@@ -247,12 +294,33 @@ passes_both may_stop must_stop xs ys t t' t'' h k =
 went_well : {P : Type 0} (result : Result (Unit {0}) Trouble) (trouble : Trouble) → result ≡ Ok tt → result ≡ Err trouble → P
 went_well result trouble is is' = absurd (cc)
 
+-- the order of one part more
+parts_in_order : {E : Type 0} (cut : ℕ) (script : List E) (sent n : ℕ) (xs ys : List (InletCall E)) → n ≡ min (length script - sent) cut → 0 < n
+    → InOrder cut (ToClaim script) xs → task_at_end (ToClaim script) xs ≡ ToClaim (drop sent script)
+    → ((rest : List E) → 0 < length (take n (drop sent script)) → length (take n (drop sent script)) ≡ min (length (take n (drop sent script) ++ rest)) cut → InOrder cut (ToClaim (take n (drop sent script) ++ rest)) ys)
+    → InOrder cut (ToClaim script) (xs ++ ys)
+parts_in_order cut script sent n xs ys size some h end k =
+    let left = drop sent script in
+    let long : length (take n left) ≡ n = part_length script sent n cut size in
+    let all : length left ≡ length script - sent = length-drop sent script in
+    let whole : length (take n left ++ drop n left) ≡ length left = ap length (take-append-drop n left) in
+    let next : InOrder cut (ToClaim (take n left ++ drop n left)) ys = k (drop n left) (omega arith) (long ∙ size ∙ ap (λ l. min l cut) (sym all ∙ sym whole)) in
+    in_order_more cut (ToClaim script) xs ys h (subst (λ t. InOrder cut t ys) (sym end) (subst (λ l. InOrder cut (ToClaim l) ys) (take-append-drop n left) next))
+
+parts_at_end : {E : Type 0} (script : List E) (sent n : ℕ) (xs ys : List (InletCall E)) → task_at_end (ToClaim script) xs ≡ ToClaim (drop sent script)
+    → ((rest : List E) → task_at_end (ToClaim (take n (drop sent script) ++ rest)) ys ≡ ToClaim rest)
+    → task_at_end (ToClaim script) (xs ++ ys) ≡ ToClaim (drop (sent + n) script)
+parts_at_end script sent n xs ys end k =
+    let left = drop sent script in
+    task_more (ToClaim script) xs ys ∙ ap (λ t. task_at_end t ys) end ∙ ap (λ l. task_at_end (ToClaim l) ys) (sym (take-append-drop n left)) ∙ k (drop n left)
+    ∙ ap (λ l. ToClaim l) (rest_later sent n script)
+
 -- one part more
 pub sending_more : {S E : Type 0} (does : S → InletCall E → S → Type 0) (a b c : S) (cut : ℕ) (script : List E) (may_stop must_stop : ℕ → ℕ → Type 0)
-    (who sent n : ℕ) (t t' : Turns) (result : Result (Unit {0}) Trouble) → result ≡ Ok tt → n ≡ min (length script - sent) cut
+    (who sent n : ℕ) (t t' : Turns) (result : Result (Unit {0}) Trouble) → result ≡ Ok tt → n ≡ min (length script - sent) cut → 0 < n
     → SomeCalls does a b (Sending cut script may_stop must_stop who sent t) → SomeCalls does b c (SendsPart (take n (drop sent script)) may_stop must_stop t t' result)
     → SomeCalls does a c (Sending cut script may_stop must_stop who (sent + n) t')
-sending_more does a b c cut script may_stop must_stop who sent n t t' result is size h k =
+sending_more does a b c cut script may_stop must_stop who sent n t t' result is size some h k =
     let all = length script in
     let one : claims_in k.calls ≡ n ∷ [] = elim k.holds.claims [ inl one ↦ one ∙ ap (λ m. m ∷ []) (part_length script sent n cut size) | inr none ↦ went_well result none.1.0 is none.1.1 ] in
     let whole = claims_both n h.calls k.calls one in record {
@@ -264,6 +332,8 @@ sending_more does a b c cut script may_stop must_stop who sent n t t' result is 
         passes = passes_both may_stop must_stop h.calls k.calls (begins who) t t' h.holds.passes k.holds.passes;
         sends = subst (InParts script (sent + n)) (sym (accepted_in-append h.calls k.calls))
             (parts_more script sent n (accepted_in h.calls) (accepted_in k.calls) h.holds.sends (subst (λ r. IsPartSent (take n (drop sent script)) r (accepted_in k.calls)) is k.holds.accepted));
+        order = parts_in_order cut script sent n h.calls k.calls size some h.holds.order h.holds.end (λ rest. k.holds.order cut rest);
+        end = parts_at_end script sent n h.calls k.calls h.holds.end (λ rest. k.holds.end rest is);
       };
     }
 
@@ -284,6 +354,7 @@ sends_all does a b cut script may_stop must_stop who sent t produced whole same 
       events = h.holds.sends.events;
       begins = inl refl;
     });
+    order = h.holds.order;
   };
 }
 
@@ -310,10 +381,10 @@ gives_up {E} cut script sent n trouble xs ys more size h =
 -- a part is in trouble
 pub sends_in_trouble : {S E : Type 0} (does : S → InletCall E → S → Type 0) (a b c : S) (cut : ℕ) (script : List E) (may_stop must_stop : ℕ → ℕ → Type 0)
     (who sent n : ℕ) (t t' : Turns) (result : Result (Unit {0}) Trouble) (trouble : Trouble) (produced : Produced)
-    → sent < length script → n ≡ min (length script - sent) cut → result ≡ Err trouble → produced.sent ≡ sent → produced.fault ≡ Some (fault_in_trouble t'.stopped trouble)
+    → sent < length script → n ≡ min (length script - sent) cut → 0 < n → result ≡ Err trouble → produced.sent ≡ sent → produced.fault ≡ Some (fault_in_trouble t'.stopped trouble)
     → SomeCalls does a b (Sending cut script may_stop must_stop who sent t) → SomeCalls does b c (SendsPart (take n (drop sent script)) may_stop must_stop t t' result)
     → SomeCalls does a c (Sends cut script (may_stop who) (must_stop who) produced)
-sends_in_trouble does a b c cut script may_stop must_stop who sent n t t' result trouble produced more size fails same is h k =
+sends_in_trouble does a b c cut script may_stop must_stop who sent n t t' result trouble produced more size some fails same is h k =
     let all = length script in
     let part = take n (drop sent script) in record {
       calls = h.calls ++ k.calls;
@@ -335,5 +406,6 @@ sends_in_trouble does a b c cut script may_stop must_stop who sent n t t' result
           events = h.holds.sends.events;
           begins = begins_part (drop sent script) n trouble (accepted_in k.calls) (subst (λ r. IsPartSent part r (accepted_in k.calls)) fails k.holds.accepted);
         });
+        order = parts_in_order cut script sent n h.calls k.calls size some h.holds.order h.holds.end (λ rest. k.holds.order cut rest);
       };
     }

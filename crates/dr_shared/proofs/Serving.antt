@@ -12,10 +12,10 @@ use Rattle.dr_core.specs.Calls.Ends.{Received, WhereShown, Takes}
 use Rattle.dr_core.specs.Calls.Handling.{Relation}
 use Rattle.dr_core.proofs.Calling.{lead_more}
 use Rattle.dr_shared.specs.declared.consumer.Progress.{Progress}
-use Rattle.dr_shared.specs.declared.consumer.Progress.TheVariants.{Drained}
+use Rattle.dr_shared.specs.declared.consumer.Progress.TheVariants.{Drained, GoesOn}
 use Rattle.dr_shared.specs.declared.fault.WorkFault.{WorkFault}
 use Rattle.dr_shared.specs.declared.turns.Turns.{Turns}
-use Rattle.dr_shared.specs.Calls.Serving.{AreCompleted, ConsumerEnds, InTurn, IsInTrouble, IsTold, LeavesOpen, Serves, due_after}
+use Rattle.dr_shared.specs.Calls.Serving.{AreCompleted, ConsumerEnds, Due, InTurn, IsInTrouble, IsTold, LeavesOpen, Serves, ToComplete, ToPoll, due_after}
 use Rattle.dr_shared.specs.Calls.Stops.{Passes, begins, fault_at_end, fault_in_trouble}
 use Rattle.dr_shared.specs.Inside.Retries.{Retries, TakesBatch, due_at_end}
 use Rattle.dr_shared.specs.Meaning.Work.{Advance, CompletedBelow, Dealt, HandedOut, HandsOut, Works, advance_of, advances_in, batch_of, batches_in, each_completed}
@@ -36,22 +36,22 @@ each_completed-append (b ∷ bs) cs = ap (λ l. HandedOut b ∷ CompletedBelow (
 
 -- Call after call.
 
-in_turn_more : {E : Type 0} (room : ℕ) (due : Option ℕ) (xs ys : List (OutletCall E)) → InTurn room due xs → InTurn room (due_at_end due xs) ys → InTurn room due (xs ++ ys)
+in_turn_more : {E : Type 0} (room : ℕ) (due : Due) (xs ys : List (OutletCall E)) → InTurn room due xs → InTurn room (due_at_end due xs) ys → InTurn room due (xs ++ ys)
 in_turn_more room due [] ys h k = k
 in_turn_more room due (x ∷ xs) ys h k = (h.0, in_turn_more room (due_after due x) xs ys h.1 k)
 
-due_more : {E : Type 0} (due : Option ℕ) (xs ys : List (OutletCall E)) → due_at_end due (xs ++ ys) ≡ due_at_end (due_at_end due xs) ys
+due_more : {E : Type 0} (due : Due) (xs ys : List (OutletCall E)) → due_at_end due (xs ++ ys) ≡ due_at_end (due_at_end due xs) ys
 due_more due [] ys = refl
 due_more due (x ∷ xs) ys = due_more (due_after due x) xs ys
 
 -- a completion that is tried until memory suffices
 tries_in_turn : (E : Type 0) (room upto times : ℕ) (completed : Result (Unit {0}) Trouble)
-    → InTurn {E = E} room (Some upto) (replicate times (CompletesBelow upto (Err Memory)) ++ CompletesBelow upto completed ∷ [])
+    → InTurn {E = E} room (ToComplete upto) (replicate times (CompletesBelow upto (Err Memory)) ++ CompletesBelow upto completed ∷ [])
 tries_in_turn E room upto zero completed = (refl, tt)
 tries_in_turn E room upto (suc times) completed = (refl, tries_in_turn E room upto times completed)
 
 tries_due : (E : Type 0) (upto times : ℕ) (completed : Result (Unit {0}) Trouble)
-    → due_at_end {E = E} (Some upto) (replicate times (CompletesBelow upto (Err Memory)) ++ CompletesBelow upto completed ∷ []) ≡ due_after {E = E} (Some upto) (CompletesBelow upto completed)
+    → due_at_end {E = E} (ToComplete upto) (replicate times (CompletesBelow upto (Err Memory)) ++ CompletesBelow upto completed ∷ []) ≡ due_after {E = E} (ToComplete upto) (CompletesBelow upto completed)
 tries_due E upto zero completed = refl
 tries_due E upto (suc times) completed = tries_due E upto times completed
 
@@ -73,22 +73,14 @@ advances_none out out' (Ok polled.Idle) is = refl
 advances_none out out' (Ok polled.Drained) is = refl
 advances_none out out' (Err trouble) is = refl
 
--- and leaves nothing to complete
-dues_none : {E : Type 0} (out out' : List E) (answer : Result Polled Trouble) → batch_of (PollsInto out out' answer) ≡ None → due_after None (PollsInto out out' answer) ≡ None
-dues_none out out' (Ok (polled.Batch first count end)) is = absurd (cc)
-dues_none out out' (Ok polled.Gating) is = refl
-dues_none out out' (Ok polled.Idle) is = refl
-dues_none out out' (Ok polled.Drained) is = refl
-dues_none out out' (Err trouble) is = refl
-
 pub turned_nothing : {S E A : Type 0} (does : S → OutletCall E → S → Type 0) (goes : Relation E A) (before : A) (a b : S) (o p : Option (Received E))
     (may_stop must_stop : ℕ → ℕ → Type 0) (t : Turns) (result : Result Progress Trouble)
     (out out' : List E) (answer : Result Polled Trouble) → does a (PollsInto out out' answer) b → batch_of (PollsInto out out' answer) ≡ None → length out' ≡ length out
     → WhereShown (Takes out' answer) o p
-    → (result ≡ Ok Drained → IsTold (PollsInto out out' answer)) →
+    → (result ≡ Ok GoesOn → due_after ToPoll (PollsInto out out' answer) ≡ ToPoll) → (result ≡ Ok Drained → IsTold (PollsInto out out' answer)) →
     ((trouble : Trouble) → result ≡ Err trouble → IsInTrouble trouble (PollsInto out out' answer))
     → SomeCalls does a b (TakesBatch (length out) goes before before o p may_stop must_stop t t result)
-turned_nothing does goes before a b o p may_stop must_stop t result out out' answer call is same takes told trouble =
+turned_nothing does goes before a b o p may_stop must_stop t result out out' answer call is same takes again told trouble =
     let none : batches_in (PollsInto out out' answer ∷ []) ≡ [] = ap (λ x. cons_option x []) is in
     let completed : advances_in (PollsInto out out' answer ∷ []) ≡ each_completed (batches_in (PollsInto out out' answer ∷ [])) =
     ap (λ x. cons_option x []) (advances_none out out' answer is) ∙ ap each_completed (sym none) in record {
@@ -102,7 +94,7 @@ turned_nothing does goes before a b o p may_stop must_stop t result out out' ans
         completes = inl completed;
         whole = λ progress is. completed;
         order = ((refl, same), tt);
-        closed = λ progress ok. dues_none out out' answer is;
+        closed = again;
       };
     }
 
@@ -149,10 +141,10 @@ turned_batch {S} {E} does goes before after a b c o q may_stop must_stop t t' re
         whole = λ progress is.
             advances ∙ ap (λ r. HandedOut deal ∷ cons_option (advance_of (CompletesBelow upto r)) []) (fine progress is)
             ∙ ap (λ n. HandedOut deal ∷ CompletedBelow n ∷ []) last ∙ ap each_completed (sym batches);
-        order = ((refl, same), subst (λ n. InTurn (length out) (Some n) rest.calls) whole (subst (InTurn (length out) (Some upto)) (sym rest.holds.1) (tries_in_turn E (length out) upto rest.holds.0 completed)));
-        closed = λ progress is.
-            ap (λ n. due_at_end (Some n) rest.calls) (sym whole) ∙ ap (due_at_end (Some upto)) rest.holds.1 ∙ tries_due E upto rest.holds.0 completed
-            ∙ ap (λ r. due_after {E = E} (Some upto) (CompletesBelow upto r)) (fine progress is);
+        order = ((refl, same), subst (λ n. InTurn (length out) (ToComplete n) rest.calls) whole (subst (InTurn (length out) (ToComplete upto)) (sym rest.holds.1) (tries_in_turn E (length out) upto rest.holds.0 completed)));
+        closed = λ is.
+            ap (λ n. due_at_end (ToComplete n) rest.calls) (sym whole) ∙ ap (due_at_end (ToComplete upto)) rest.holds.1 ∙ tries_due E upto rest.holds.0 completed
+            ∙ ap (λ r. due_after {E = E} (ToComplete upto) (CompletesBelow upto r)) (fine GoesOn is);
       };
     }
 
@@ -163,8 +155,8 @@ pub record Serving {E A : Type 0} (room : ℕ) (goes : Relation E A) (before aft
   pub works : Works goes before after old new (batches_in calls)
   pub passes : Passes may_stop must_stop (length (batches_in calls)) (begins who) turns
   pub whole : advances_in calls ≡ each_completed (batches_in calls)
-  pub order : InTurn room None calls
-  pub closed : due_at_end None calls ≡ None
+  pub order : InTurn room ToPoll calls
+  pub closed : due_at_end ToPoll calls ≡ ToPoll
 
 pub serving_none : {S E A : Type 0} (does : S → OutletCall E → S → Type 0) (room : ℕ) (goes : Relation E A) (before : A) (a : S) (o : Option (Received E))
     (may_stop must_stop : ℕ → ℕ → Type 0) (who : ℕ) (turns : Turns) → turns ≡ begins who
@@ -203,24 +195,24 @@ completes_more : {E : Type 0} (xs ys : List (OutletCall E)) → advances_in xs �
 completes_more xs ys h (inl all) = inl (whole_more xs ys h all)
 completes_more xs ys h (inr (upto, last, but)) = inr (upto, ends_after (LeavesOpen upto) xs ys last, completed_more xs ys (CompletedBelow upto ∷ []) h but)
 
-order_more : {E : Type 0} (room : ℕ) (xs ys : List (OutletCall E)) → InTurn room None xs → due_at_end None xs ≡ None → InTurn room None ys → InTurn room None (xs ++ ys)
-order_more room xs ys h closed k = in_turn_more room None xs ys h (subst (λ o. InTurn room o ys) (sym closed) k)
+order_more : {E : Type 0} (room : ℕ) (xs ys : List (OutletCall E)) → InTurn room ToPoll xs → due_at_end ToPoll xs ≡ ToPoll → InTurn room ToPoll ys → InTurn room ToPoll (xs ++ ys)
+order_more room xs ys h closed k = in_turn_more room ToPoll xs ys h (subst (λ o. InTurn room o ys) (sym closed) k)
 
 -- one turn more
 pub serving_more : {S E A : Type 0} (does : S → OutletCall E → S → Type 0) (room : ℕ) (goes : Relation E A) (before between after : A) (a b c : S)
-    (o p q : Option (Received E)) (may_stop must_stop : ℕ → ℕ → Type 0) (who : ℕ) (t t' : Turns) (result : Result Progress Trouble) (progress : Progress) → result ≡ Ok progress
+    (o p q : Option (Received E)) (may_stop must_stop : ℕ → ℕ → Type 0) (who : ℕ) (t t' : Turns) (result : Result Progress Trouble) → result ≡ Ok GoesOn
     → SomeCalls does a b (Serving room goes before between o p may_stop must_stop who t)
     → SomeCalls does b c (TakesBatch room goes between after p q may_stop must_stop t t' result)
     → SomeCalls does a c (Serving room goes before after o q may_stop must_stop who t')
-serving_more does room goes before between after a b c o p q may_stop must_stop who t t' result progress is h k = record {
+serving_more does room goes before between after a b c o p q may_stop must_stop who t t' result is h k = record {
   calls = h.calls ++ k.calls;
   lead = lead_more does a b c h.calls k.calls h.lead k.lead;
   holds = record {
     works = batches_more goes before between after o p q h.calls k.calls h.holds.works k.holds.works;
     passes = passes_both may_stop must_stop h.calls k.calls (begins who) t t' h.holds.passes k.holds.passes;
-    whole = whole_more h.calls k.calls h.holds.whole (k.holds.whole progress is);
+    whole = whole_more h.calls k.calls h.holds.whole (k.holds.whole GoesOn is);
     order = order_more room h.calls k.calls h.holds.order h.holds.closed k.holds.order;
-    closed = due_more None h.calls k.calls ∙ ap (λ o. due_at_end o k.calls) h.holds.closed ∙ k.holds.closed progress is;
+    closed = due_more ToPoll h.calls k.calls ∙ ap (λ o. due_at_end o k.calls) h.holds.closed ∙ k.holds.closed is;
   };
 }
 

@@ -49,20 +49,29 @@ AreCompleted calls =
     (advances_in calls ≡ each_completed (batches_in calls))
     ⊎ ((upto : ℕ) × EndsIn (LeavesOpen upto) calls × (advances_in calls ++ CompletedBelow upto ∷ [] ≡ each_completed (batches_in calls)))
 
--- up to where events are to be completed after a call, if any are
-abbrev pub due_after : {E : Type 0} → Option ℕ → OutletCall E → Option ℕ
-due_after due (PollsInto before after (Ok (Batch first count end))) = Some (first + count)
-due_after due (CompletesBelow upto (Ok done)) = None
+-- what a handler's worker is to call next: a poll, the completion of all events below a sequence, or nothing
+pub data Due : Type 0 where
+  ToPoll : Due
+  ToComplete : ℕ → Due
+  NoCall : Due
+
+-- what is due after a call: a batch is completed, and then polled for the next one; where nothing came, or memory ran out, the same is called again; and nothing once the end is told that the exchange drained, or refuses a call
+abbrev pub due_after : {E : Type 0} → Due → OutletCall E → Due
+due_after due (PollsInto before after (Ok (Batch first count end))) = ToComplete (first + count)
+due_after due (PollsInto before after (Ok Drained)) = NoCall
+due_after due (PollsInto before after (Err (Refused refusal))) = NoCall
+due_after due (CompletesBelow upto (Ok done)) = ToPoll
+due_after due (CompletesBelow upto (Err (Refused refusal))) = NoCall
 due_after due other = due
 
--- the next call: a poll with so much room where nothing is to be completed, and else the completion of just that
-abbrev pub IsNextCall : {E : Type 0} → ℕ → Option ℕ → OutletCall E → Type 0
-IsNextCall room None (PollsInto before after answer) = (length before ≡ room) × (length after ≡ room)
-IsNextCall room (Some end) (CompletesBelow upto answer) = upto ≡ end
+-- the next call: a poll with so much room, or the completion of just what is due
+abbrev pub IsNextCall : {E : Type 0} → ℕ → Due → OutletCall E → Type 0
+IsNextCall room ToPoll (PollsInto before after answer) = (length before ≡ room) × (length after ≡ room)
+IsNextCall room (ToComplete end) (CompletesBelow upto answer) = upto ≡ end
 IsNextCall room due other = ⊥
 
--- poll after poll, each with so much room, and each batch is completed before the next poll
-abbrev pub InTurn : {E : Type 0} → ℕ → Option ℕ → List (OutletCall E) → Type 0
+-- poll after poll, each with so much room, each batch is completed before the next poll, and the call is the last at which the work ends
+abbrev pub InTurn : {E : Type 0} → ℕ → Due → List (OutletCall E) → Type 0
 InTurn room due [] = Unit {0}
 InTurn room due (call ∷ calls) = IsNextCall room due call × InTurn room (due_after due call) calls
 
@@ -71,7 +80,7 @@ pub record Serves {E A : Type 0} (room : ℕ) (goes : Relation E A) (before afte
   pub works : Works goes before after old new (batches_in calls)
   pub gate : Stops may_stop must_stop (length (batches_in calls)) (λ stopped. ConsumerEnds stopped calls answer)
   pub completes : AreCompleted calls
-  pub order : InTurn room None calls
+  pub order : InTurn room ToPoll calls
 
 -- The producer's side.
 
@@ -117,8 +126,45 @@ ProducerEnds cut script stopped calls produced =
     ((produced.sent ≡ length script) × (produced.fault ≡ fault_at_end stopped))
     ⊎ ((trouble : Trouble) × GivesUp cut (drop produced.sent script) trouble calls × (produced.fault ≡ Some (fault_in_trouble stopped trouble)))
 
+-- what a producer's worker is to call next: the claim of a part of what is left of its script; for a claimed stretch the writes of some events to its sequences from s on, then its publication, and then what is left of the script; or nothing
+pub data Task (E : Type 0) : Type 0 where
+  ToClaim : List E → Task E
+  ToSend : Claimed → ℕ → List E → List E → Task E
+  Ended : Task E
+
+-- the next call: a claim as long as the cut allows; a write of the next event, or one of all that are left; and the stretch's publication once none is
+abbrev pub IsNextStep : {E : Type 0} → ℕ → Task E → InletCall E → Type 0
+IsNextStep cut (ToClaim rest) (TriesClaim n answer) = (0 < length rest) × (n ≡ min (length rest) cut)
+IsNextStep cut (ToSend stretch s events rest) (WritesOne at event answer) = (slice_get events 0 ≡ Some event) × (at ≡ s)
+IsNextStep cut (ToSend stretch s events rest) (WritesMany lo some wrote) = (0 < length events) × (some ≡ events) × (lo ≡ s)
+IsNextStep cut (ToSend stretch s events rest) (PublishesStretch lo hi answer) = (events ≡ []) × (lo ≡ stretch.lo) × (hi ≡ stretch.hi)
+IsNextStep cut task other = ⊥
+
+-- writes that came so far go on, also where memory ran out; a refused one ends the work
+abbrev pub sent_on : {E : Type 0} → Claimed → ℕ → List E → List E → Option Trouble → Task E
+sent_on stretch s events rest None = ToSend stretch s events rest
+sent_on stretch s events rest (Some Memory) = ToSend stretch s events rest
+sent_on stretch s events rest (Some (Refused refusal)) = Ended
+
+-- what is to be called after a call: the same again where a claim finds no room, or where memory runs out while a claim is open; nothing after any other trouble
+abbrev pub task_after : {E : Type 0} → Task E → InletCall E → Task E
+task_after (ToClaim rest) (TriesClaim n (Ok stretch)) = ToSend stretch stretch.lo (take n rest) (drop n rest)
+task_after (ToClaim rest) (TriesClaim n (Err (Refused NoRoom))) = ToClaim rest
+task_after (ToSend stretch s events rest) (WritesOne at event (Ok done)) = ToSend stretch (s + 1) (drop 1 events) rest
+task_after (ToSend stretch s events rest) (WritesOne at event (Err Memory)) = ToSend stretch s events rest
+task_after (ToSend stretch s events rest) (WritesMany lo some wrote) = sent_on stretch (s + wrote.count) (drop wrote.count events) rest wrote.trouble
+task_after (ToSend stretch s events rest) (PublishesStretch lo hi (Ok done)) = ToClaim rest
+task_after (ToSend stretch s events rest) (PublishesStretch lo hi (Err Memory)) = ToSend stretch s events rest
+task_after task other = Ended
+
+-- each call is the next one, so a call in trouble is made again next, or is the last
+abbrev pub InOrder : {E : Type 0} → ℕ → Task E → List (InletCall E) → Type 0
+InOrder cut task [] = Unit {0}
+InOrder cut task (call ∷ calls) = IsNextStep cut task call × InOrder cut (task_after task call) calls
+
 -- these calls claimed parts of a script, each as long as the cut allows, a worker came to its gate with each of them, and sent as much of the script as it says
 pub record Sends {E : Type 0} (cut : ℕ) (script : List E) (may_stop must_stop : ℕ → Type 0) (produced : Produced) (calls : List (InletCall E)) : Type 0 where
   pub cuts : AreCut cut (length script) (claims_in calls)
   pub gate : Stops may_stop must_stop (length (claims_in calls)) (λ stopped. ProducerEnds cut script stopped calls produced)
   pub sends : IsSent script produced.sent (accepted_in calls)
+  pub order : InOrder cut (ToClaim script) calls

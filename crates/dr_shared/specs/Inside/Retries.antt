@@ -1,5 +1,5 @@
 -- What calls a worker makes of its end at one step of its work.
-use Rattle.std.specs.Prelude.{◌≡◌, ◌⊎◌, ℕ, ◌<◌, List, [], ◌∷◌, ◌++◌, length, take, replicate, Option, None, Some, Result, Ok, Err}
+use Rattle.std.specs.Prelude.{◌≡◌, ◌⊎◌, ℕ, ◌+◌, ◌<◌, min, List, [], ◌∷◌, ◌++◌, length, take, replicate, Option, None, Some, Result, Ok, Err}
 use Rattle.std.specs.List.{filter_map}
 use Rattle.dr_core.specs.declared.command.Claimed.{Claimed}
 use Rattle.dr_core.specs.declared.ends.Trouble.{Trouble}
@@ -7,9 +7,9 @@ use Rattle.dr_core.specs.Calls.Calling.{InletCall, OutletCall, TriesClaim, Publi
 use Rattle.dr_core.specs.Calls.Ends.{Received}
 use Rattle.dr_core.specs.Calls.Handling.{Relation}
 use Rattle.dr_shared.specs.declared.consumer.Progress.{Progress}
-use Rattle.dr_shared.specs.declared.consumer.Progress.TheVariants.{Drained}
+use Rattle.dr_shared.specs.declared.consumer.Progress.TheVariants.{Drained, GoesOn}
 use Rattle.dr_shared.specs.declared.turns.Turns.{Turns}
-use Rattle.dr_shared.specs.Calls.Serving.{AreCompleted, ClaimFails, EndsIn, InTurn, IsInTrouble, IsOpen, IsTold, PartFails, WriteFails, due_after}
+use Rattle.dr_shared.specs.Calls.Serving.{AreCompleted, ClaimFails, Due, EndsIn, InOrder, InTurn, IsInTrouble, IsOpen, IsTold, PartFails, Task, ToClaim, ToPoll, ToSend, WriteFails, due_after, task_after}
 use Rattle.dr_shared.specs.Calls.Stops.{Passes}
 use Rattle.dr_shared.specs.Meaning.Work.{Part, Works, accepted_in, advances_in, batches_in, claims_in, each_completed, sending_of, writing_of}
 
@@ -30,12 +30,19 @@ tried_of other = None
 abbrev pub tries_in : {E : Type 0} → List (InletCall E) → List ℕ
 tries_in calls = filter_map tried_of calls
 
+-- what a producer's worker is to call after some calls
+abbrev pub task_at_end : {E : Type 0} → Task E → List (InletCall E) → Task E
+task_at_end task [] = task
+task_at_end task (call ∷ calls) = task_at_end (task_after task call) calls
+
 -- many writes, up to one that is refused
 pub record WriteCalls {E : Type 0} (lo : ℕ) (events : List E) (result : Result (Unit {0}) Trouble) (calls : List (InletCall E)) : Type 0 where
   pub tries : tries_in calls ≡ []
   pub claims : claims_in calls ≡ []
   pub trouble : (trouble : Trouble) → result ≡ Err trouble → EndsIn (WriteFails lo events trouble) calls
   pub accepted : AreEachWritten lo events result (accepted_in calls)
+  pub order : (cut : ℕ) (stretch : Claimed) (rest : List E) → 0 < length events → InOrder cut (ToSend stretch lo events rest) calls
+  pub end : (stretch : Claimed) (rest : List E) → result ≡ Ok tt → task_at_end (ToSend stretch lo events rest) calls ≡ ToSend stretch (lo + length events) [] rest
 
 -- the accepted calls after a part's claim: its writes and its publication or, in trouble, the first of its writes
 abbrev pub AreWrittenOut : {E : Type 0} → Part E → Result (Unit {0}) Trouble → List (InletCall E) → Type 0
@@ -47,6 +54,8 @@ pub record AfterClaim {E : Type 0} (part : Part E) (result : Result (Unit {0}) T
   pub claims : claims_in calls ≡ []
   pub trouble : (trouble : Trouble) → result ≡ Err trouble → EndsIn (PartFails part trouble) calls
   pub accepted : AreWrittenOut part result (accepted_in calls)
+  pub order : (cut : ℕ) (rest : List E) → 0 < length part.events → InOrder cut (ToSend part.stretch part.stretch.lo part.events rest) calls
+  pub end : (rest : List E) → result ≡ Ok tt → task_at_end (ToSend part.stretch part.stretch.lo part.events rest) calls ≡ ToClaim rest
 
 -- the claim for some events is in trouble or, once it is accepted, one of their writes or their publication is
 abbrev pub IsInTroubleWith : {E : Type 0} → List E → Trouble → List (InletCall E) → Type 0
@@ -66,9 +75,11 @@ pub record SendsPart {E : Type 0} (events : List E) (may_stop must_stop : ℕ �
   pub passes : Passes may_stop must_stop (length (claims_in calls)) turns turns'
   pub trouble : (trouble : Trouble) → result ≡ Err trouble → IsInTroubleWith events trouble calls
   pub accepted : IsPartSent events result (accepted_in calls)
+  pub order : (cut : ℕ) (rest : List E) → 0 < length events → length events ≡ min (length (events ++ rest)) cut → InOrder cut (ToClaim (events ++ rest)) calls
+  pub end : (rest : List E) → result ≡ Ok tt → task_at_end (ToClaim (events ++ rest)) calls ≡ ToClaim rest
 
--- up to where events are to be completed after some calls, if any are
-abbrev pub due_at_end : {E : Type 0} → Option ℕ → List (OutletCall E) → Option ℕ
+-- what a handler's worker is to call after some calls
+abbrev pub due_at_end : {E : Type 0} → Due → List (OutletCall E) → Due
 due_at_end due [] = due
 due_at_end due (call ∷ calls) = due_at_end (due_after due call) calls
 
@@ -80,5 +91,5 @@ pub record TakesBatch {E A : Type 0} (room : ℕ) (goes : Relation E A) (before 
   pub trouble : (trouble : Trouble) → result ≡ Err trouble → EndsIn (IsInTrouble trouble) calls
   pub completes : AreCompleted calls
   pub whole : (progress : Progress) → result ≡ Ok progress → advances_in calls ≡ each_completed (batches_in calls)
-  pub order : InTurn room None calls
-  pub closed : (progress : Progress) → result ≡ Ok progress → due_at_end None calls ≡ None
+  pub order : InTurn room ToPoll calls
+  pub closed : result ≡ Ok GoesOn → due_at_end ToPoll calls ≡ ToPoll

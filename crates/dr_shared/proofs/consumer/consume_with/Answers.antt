@@ -48,7 +48,7 @@ loop-preserved g c = (
   c.turn.ensures.takes.holds.passes.who ∙ c.loop.invariant.3,
   stopped_more (g.G.Gate.may_stop c.args.gate.now) (g.G.Gate.must_stop c.args.gate.now) _ c.args.who _ _ c.loop.invariant.3 c.loop.invariant.4 c.turn.ensures.takes.holds.passes,
   serving_more (Attends g.O.Outlet.does g.P.Patience.waits g.P.Patience.finds) (length c.args.buf.now) g.H.Handler.goes c.args.handler.now c.loop.handler c.turn.new.handler (at c.args.outlet.now c.args.patience.now) (at c.loop.outlet c.loop.patience) (at c.turn.new.outlet c.turn.new.patience) _ _ _
-      (g.G.Gate.may_stop c.args.gate.now) (g.G.Gate.must_stop c.args.gate.now) c.args.who _ _ _ _ c.in-Ok-GoesOn.is c.loop.invariant.5 (of_room c.loop.invariant.6 c.turn.ensures.takes),
+      (g.G.Gate.may_stop c.args.gate.now) (g.G.Gate.must_stop c.args.gate.now) c.args.who _ _ _ (c.in-Ok-GoesOn.is ∙ ap (λ x. Ok x) c.in-Ok-GoesOn.field-0-is) c.loop.invariant.5 (of_room c.loop.invariant.6 c.turn.ensures.takes),
   c.turn.auto.buf ∙ c.loop.invariant.6,
   done_more _ _ _ c.loop.invariant.7 c.in-Ok-GoesOn.ensures.done,
 )

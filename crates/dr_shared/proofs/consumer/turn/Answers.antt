@@ -52,7 +52,7 @@ returns-in-Ok-Drained-clause-takes g c =
     let is = c.in-Ok-Drained.is ∙ ap (λ x. Ok x) c.in-Ok-Drained.field-0-is in
     turned_nothing (Attends g.O.Outlet.does g.P.Patience.waits g.P.Patience.finds) g.H.Handler.goes _ (at c.args.outlet.now c.args.patience.now) (at c.poll_into.new.self c.args.patience.now) _ _ (g.G.Gate.may_stop c.args.gate.now) (g.G.Gate.must_stop c.args.gate.now) _ (Ok Drained) c.args.buf.now c.poll_into.new.out (Ok polled.Drained)
     (subst (λ r. g.O.Outlet.does c.args.outlet.now (PollsInto c.args.buf.now c.poll_into.new.out r) c.poll_into.new.self) is c.poll_into.ensures.called, refl) refl c.poll_into.auto.out
-    (subst (λ r. WhereShown (Takes c.poll_into.new.out r) (g.O.Outlet.received c.args.outlet.now) (g.O.Outlet.received c.poll_into.new.self)) is c.poll_into.ensures.received) (λ told. tt) (λ fault fails. absurd (cc))
+    (subst (λ r. WhereShown (Takes c.poll_into.new.out r) (g.O.Outlet.received c.args.outlet.now) (g.O.Outlet.received c.poll_into.new.self)) is c.poll_into.ensures.received) (λ goes. absurd (cc)) (λ told. tt) (λ fault fails. absurd (cc))
 
 pub returns-in-Err-Refused-clause-takes : goal.returns-in-Err-Refused-clause-takes
 returns-in-Err-Refused-clause-takes g c =
@@ -60,28 +60,28 @@ returns-in-Err-Refused-clause-takes g c =
     let is = no.is ∙ ap (λ x. Err x) no.field-0-is in
     turned_nothing (Attends g.O.Outlet.does g.P.Patience.waits g.P.Patience.finds) g.H.Handler.goes _ (at c.args.outlet.now c.args.patience.now) (at c.poll_into.new.self c.args.patience.now) _ _ (g.G.Gate.may_stop c.args.gate.now) (g.G.Gate.must_stop c.args.gate.now) _ (Err (Refused no.refusal)) c.args.buf.now c.poll_into.new.out (Err (Refused no.refusal))
     (subst (λ r. g.O.Outlet.does c.args.outlet.now (PollsInto c.args.buf.now c.poll_into.new.out r) c.poll_into.new.self) is c.poll_into.ensures.called, refl) refl c.poll_into.auto.out
-    (subst (λ r. WhereShown (Takes c.poll_into.new.out r) (g.O.Outlet.received c.args.outlet.now) (g.O.Outlet.received c.poll_into.new.self)) is c.poll_into.ensures.received) (λ told. absurd (cc)) (λ fault fails. cc)
+    (subst (λ r. WhereShown (Takes c.poll_into.new.out r) (g.O.Outlet.received c.args.outlet.now) (g.O.Outlet.received c.poll_into.new.self)) is c.poll_into.ensures.received) (λ goes. absurd (cc)) (λ told. absurd (cc)) (λ fault fails. cc)
 
 pub returns-in-Ok-Gating-clause-takes : goal.returns-in-Ok-Gating-clause-takes
 returns-in-Ok-Gating-clause-takes g c =
     let is = c.in-Ok-Gating.is ∙ ap (λ x. Ok x) c.in-Ok-Gating.field-0-is in
     turned_nothing (Attends g.O.Outlet.does g.P.Patience.waits g.P.Patience.finds) g.H.Handler.goes _ (at c.args.outlet.now c.args.patience.now) (at c.poll_into.new.self c.waited.new.patience) _ _ (g.G.Gate.may_stop c.args.gate.now) (g.G.Gate.must_stop c.args.gate.now) _ (Ok c.waited.result) c.args.buf.now c.poll_into.new.out (Ok polled.Gating)
     (subst (λ r. g.O.Outlet.does c.args.outlet.now (PollsInto c.args.buf.now c.poll_into.new.out r) c.poll_into.new.self) is c.poll_into.ensures.called, c.waited.ensures.waits) refl c.poll_into.auto.out
-    (subst (λ r. WhereShown (Takes c.poll_into.new.out r) (g.O.Outlet.received c.args.outlet.now) (g.O.Outlet.received c.poll_into.new.self)) is c.poll_into.ensures.received) (λ told. absurd (cc)) (λ fault fails. absurd (cc))
+    (subst (λ r. WhereShown (Takes c.poll_into.new.out r) (g.O.Outlet.received c.args.outlet.now) (g.O.Outlet.received c.poll_into.new.self)) is c.poll_into.ensures.received) (λ goes. refl) (λ told. absurd (cc)) (λ fault fails. absurd (cc))
 
 pub returns-in-Ok-Idle-clause-takes : goal.returns-in-Ok-Idle-clause-takes
 returns-in-Ok-Idle-clause-takes g c =
     let is = c.in-Ok-Idle.is ∙ ap (λ x. Ok x) c.in-Ok-Idle.field-0-is in
     turned_nothing (Attends g.O.Outlet.does g.P.Patience.waits g.P.Patience.finds) g.H.Handler.goes _ (at c.args.outlet.now c.args.patience.now) (at c.poll_into.new.self c.waited-in-Ok-Idle.new.patience) _ _ (g.G.Gate.may_stop c.args.gate.now) (g.G.Gate.must_stop c.args.gate.now) _ (Ok c.waited-in-Ok-Idle.result) c.args.buf.now c.poll_into.new.out (Ok polled.Idle)
     (subst (λ r. g.O.Outlet.does c.args.outlet.now (PollsInto c.args.buf.now c.poll_into.new.out r) c.poll_into.new.self) is c.poll_into.ensures.called, c.waited-in-Ok-Idle.ensures.waits) refl c.poll_into.auto.out
-    (subst (λ r. WhereShown (Takes c.poll_into.new.out r) (g.O.Outlet.received c.args.outlet.now) (g.O.Outlet.received c.poll_into.new.self)) is c.poll_into.ensures.received) (λ told. absurd (cc)) (λ fault fails. absurd (cc))
+    (subst (λ r. WhereShown (Takes c.poll_into.new.out r) (g.O.Outlet.received c.args.outlet.now) (g.O.Outlet.received c.poll_into.new.self)) is c.poll_into.ensures.received) (λ goes. refl) (λ told. absurd (cc)) (λ fault fails. absurd (cc))
 
 pub returns-in-Err-Memory-clause-takes : goal.returns-in-Err-Memory-clause-takes
 returns-in-Err-Memory-clause-takes g c =
     let is = c.in-Err-Memory.is ∙ ap (λ x. Err x) c.in-Err-Memory.field-0-is in
     turned_nothing (Attends g.O.Outlet.does g.P.Patience.waits g.P.Patience.finds) g.H.Handler.goes _ (at c.args.outlet.now c.args.patience.now) (at c.poll_into.new.self c.waited-in-Err-Memory.new.patience) _ _ (g.G.Gate.may_stop c.args.gate.now) (g.G.Gate.must_stop c.args.gate.now) _ (Ok c.waited-in-Err-Memory.result) c.args.buf.now c.poll_into.new.out (Err Memory)
     (subst (λ r. g.O.Outlet.does c.args.outlet.now (PollsInto c.args.buf.now c.poll_into.new.out r) c.poll_into.new.self) is c.poll_into.ensures.called, c.waited-in-Err-Memory.ensures.waits) refl c.poll_into.auto.out
-    (subst (λ r. WhereShown (Takes c.poll_into.new.out r) (g.O.Outlet.received c.args.outlet.now) (g.O.Outlet.received c.poll_into.new.self)) is c.poll_into.ensures.received) (λ told. absurd (cc)) (λ fault fails. absurd (cc))
+    (subst (λ r. WhereShown (Takes c.poll_into.new.out r) (g.O.Outlet.received c.args.outlet.now) (g.O.Outlet.received c.poll_into.new.self)) is c.poll_into.ensures.received) (λ goes. refl) (λ told. absurd (cc)) (λ fault fails. absurd (cc))
 
 pub returns-in_ok-complete-in-Ok-Batch-clause-done : goal.returns-in_ok-complete-in-Ok-Batch-clause-done
 returns-in_ok-complete-in-Ok-Batch-clause-done g c =

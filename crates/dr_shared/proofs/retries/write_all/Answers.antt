@@ -1,9 +1,18 @@
-use Rattle.std.proofs.Common.{ap, subst, ◌≡◌, ◌≤◌, ◌+◌, ◌-◌, ◌∙◌, arith, drop, length, rules, take}
+use Rattle.std.proofs.Common.{ap, subst, sym, ◌≡◌, ◌<◌, ◌≤◌, ◌+◌, ◌-◌, ◌∙◌, Option, None, Some, arith, drop, length, rules, take}
+use Rattle.dr_core.specs.declared.ends.Trouble.{Trouble}
+use Rattle.dr_core.specs.declared.ends.Trouble.TheVariants.{Memory}
 use Rattle.dr_core.specs.Calls.Ends.{StopsAt}
 use Rattle.dr_shared.proofs.Calling.{all_accepted, first_more, last_refused, many_writes}
 use Rattle.dr_shared.proofs.Closing.{trouble_of, write_refused}
+use Rattle.dr_shared.proofs.Ordering.{WritesGoOn}
 use Rattle.dr_shared.proofs.Writings.{all_written, length-rest, more_written, only_written, stops_before, stops_nowhere, stops_within}
 use Rattle.dr_shared.proofs.retries.write_all.Goals as goal
+
+goes_on_with_none : (trouble : Option Trouble) → trouble ≡ None → WritesGoOn trouble
+goes_on_with_none trouble is = subst WritesGoOn (sym is) tt
+
+goes_on_at : (trouble : Option Trouble) → trouble ≡ Some Memory → WritesGoOn trouble
+goes_on_at trouble is = subst WritesGoOn (sym is) tt
 
 pub loop-preserved : goal.loop-preserved
 loop-preserved g c =
@@ -12,14 +21,16 @@ loop-preserved g c =
     let left : length (take (length events - done) (drop done events)) ≡ length events - done = length-rest events done in
     let some : c.write_all-wrote.result.count ≤ length (take (length events - done) (drop done events))
     = stops_within _ _ _ _ _ c.write_all-wrote.ensures.answer.stops in
+    let is : c.write_all-wrote.result.trouble ≡ Some Memory = c.in-Some-Memory.is ∙ ap (λ t. Some t) (rw c.in-Some-Memory.is at c.in-Some-Memory.field-0-is) in
     let front = c.loop.invariant.3 in (
       tt,
       tt,
       c.write_all-wrote.ensures.kept ∙ c.loop.invariant.2,
       omega arith,
       more_written c.args.lo done c.write_all-wrote.result.count events front _ _ _ c.loop.invariant.4 c.write_all-wrote.ensures.sent,
-      first_more g.I.Inlet.does _ _ _ c.args.lo done events c.write_all-wrote.result front c.loop.invariant.5
-          (many_writes g.I.Inlet.does (c.args.lo + done) (take (length events - done) (drop done events)) c.write_all-wrote.result _ _ (λ r is. stops_before _ _ _ _ _ _ is c.write_all-wrote.ensures.answer.stops) c.write_all-wrote.ensures.called),
+      first_more g.I.Inlet.does _ _ _ c.args.lo done events c.write_all-wrote.result front c.loop.invariant.6 (goes_on_at c.write_all-wrote.result.trouble is) c.loop.invariant.5
+          (many_writes g.I.Inlet.does (c.args.lo + done) (take (length events - done) (drop done events)) c.write_all-wrote.result _ _ (λ r is. stops_before _ _ _ _ _ _ is c.write_all-wrote.ensures.answer.stops) (stops_within _ _ _ _ _ c.write_all-wrote.ensures.answer.stops) c.write_all-wrote.ensures.called),
+      λ some. let fewer : c.write_all-wrote.result.count < length (take (length events - done) (drop done events)) = stops_before _ _ _ _ _ Memory is c.write_all-wrote.ensures.answer.stops in omega arith,
     )
 
 pub returns-in-None-trouble-clause-written : goal.returns-in-None-trouble-clause-written
@@ -59,12 +70,12 @@ returns-in-None-trouble-clause-called g c =
     let left : length (take (length events - done) (drop done events)) ≡ length events - done = length-rest events done in
     let all : count ≡ length (take (length events - done) (drop done events)) = stops_nowhere _ _ _ _ _ c.in-None-trouble.is c.write_all-wrote.ensures.answer.stops in
     all_accepted g.I.Inlet.does _ _ c.args.lo (done + count) events (omega arith)
-    (first_more g.I.Inlet.does _ _ _ c.args.lo done events c.write_all-wrote.result c.loop.invariant.3 c.loop.invariant.5
-    (many_writes g.I.Inlet.does (c.args.lo + done) (take (length events - done) (drop done events)) c.write_all-wrote.result _ _ (λ r is. stops_before _ _ _ _ _ _ is c.write_all-wrote.ensures.answer.stops) c.write_all-wrote.ensures.called))
+    (first_more g.I.Inlet.does _ _ _ c.args.lo done events c.write_all-wrote.result c.loop.invariant.3 c.loop.invariant.6 (goes_on_with_none c.write_all-wrote.result.trouble c.in-None-trouble.is) c.loop.invariant.5
+    (many_writes g.I.Inlet.does (c.args.lo + done) (take (length events - done) (drop done events)) c.write_all-wrote.result _ _ (λ r is. stops_before _ _ _ _ _ _ is c.write_all-wrote.ensures.answer.stops) (stops_within _ _ _ _ _ c.write_all-wrote.ensures.answer.stops) c.write_all-wrote.ensures.called))
 
 pub returns-in-Some-trouble-clause-called : goal.returns-in-Some-trouble-clause-called
 returns-in-Some-trouble-clause-called g c =
     let done = c.loop.done in
     let events = c.args.events.now in
-    last_refused g.I.Inlet.does _ _ _ c.args.lo done events c.write_all-wrote.result _ c.in-Some-trouble.is (search rules) c.loop.invariant.3 c.loop.invariant.5
-    (many_writes g.I.Inlet.does (c.args.lo + done) (take (length events - done) (drop done events)) c.write_all-wrote.result _ _ (λ r is. stops_before _ _ _ _ _ _ is c.write_all-wrote.ensures.answer.stops) c.write_all-wrote.ensures.called)
+    last_refused g.I.Inlet.does _ _ _ c.args.lo done events c.write_all-wrote.result _ c.in-Some-trouble.is (search rules) c.loop.invariant.3 c.loop.invariant.6 c.loop.invariant.5
+    (many_writes g.I.Inlet.does (c.args.lo + done) (take (length events - done) (drop done events)) c.write_all-wrote.result _ _ (λ r is. stops_before _ _ _ _ _ _ is c.write_all-wrote.ensures.answer.stops) (stops_within _ _ _ _ _ c.write_all-wrote.ensures.answer.stops) c.write_all-wrote.ensures.called)

@@ -1,4 +1,4 @@
-use Rattle.std.proofs.Common.{◌≡◌, ◌≤◌, length, take}
+use Rattle.std.proofs.Common.{◌≡◌, ◌<◌, ◌≤◌, length, take}
 use Rattle.dr_core.specs.Calls.Calling.{SomeCalls}
 use Rattle.dr_core.specs.Calls.Ends.{WhereShown, WritesAll}
 use Rattle.dr_shared.proofs.Calling.{AreFirst}
@@ -10,3 +10,4 @@ invariant-loop g l =
     × (g.I.Inlet.kept l.inlet ≡ g.I.Inlet.kept l.fn.inlet) × (l.done ≤ length l.events)
     × WhereShown (WritesAll l.lo (take l.done l.events)) (g.I.Inlet.sent l.fn.inlet) (g.I.Inlet.sent l.inlet)
     × SomeCalls g.I.Inlet.does l.fn.inlet l.inlet (AreFirst l.lo l.events l.done)
+    × (0 < length l.events → l.done < length l.events)
