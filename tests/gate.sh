@@ -42,6 +42,7 @@ for build in '' .by-rattle; do
         whole tests/program.sh "$built"
         whole tests/examples.py "$built"
         whole tests/rows.py "$built"
+        whole tests/checks.py "$built"
         whole tests/words.py "$built"
         whole tests/hostile/run.py "$built"
         whole tests/hostile/refused.py "$built" "$calls"

@@ -95,6 +95,15 @@ done
 run 0 "$(printf '%s\n' 'journal 3' 0,0,deposit,1,100 1,0,withdraw,1,40 2,0,withdraw,1,500 \
     'replica 3' 0001000100000064 0002000100000028 00020001000001f4 'business 3' 1,60,1)"$'\n' '' replay three_events.csv
 
+# A check of a file; tests/checks.py has the others.
+run 0 $'6 records\n' '' check replay accounts.csv
+run_text 'check replay' $'0,deposit,1,1\n' 0 $'1 record\n' ''
+run_text 'check drive' $'ring,4,single\n\nwith,a b\n' 2 '' "record 2: bad-name
+line 3, field 2: found \"a b\", expected a handler's name: 1 to 32 letters, digits, _ or -
+"
+run 1 '' $'error: invalid value \'post\' for \'<TOOL>\'*' check post accounts.csv
+run 1 '' $'error: the following required arguments were not provided:\n  <FILE>\n*' check drive
+
 # The version names the kit that proved the program, and so do the pages. A kit of the same logic checks the same proofs.
 kit=$("$program" --version | sed -n 's/^disruptor 0\.1\.0, proved with \(rattle-kit-[0-9a-z]* logic [0-9a-f]*\)$/\1/p')
 here=$(rt version)
@@ -109,6 +118,29 @@ run 0 $'A verified LMAX Disruptor: producers and handlers over one ring of slots
 run 0 $'Run a file of commands, and print one line a command\n\nUsage: disruptor drive <FILE>\n*' '' drive --help
 run 0 $'Replay a file of account movements, and print a report of them\n\nUsage: disruptor replay [OPTIONS] <FILE>\n*' '' replay --help
 run 0 $'Replay a file of account movements, and print a report of them\n*' '' help replay
+run 0 $'Check a file for drive or replay, and say where it is at fault\n*' '' check --help
+
+# The examples of the help can be copied as they stand.
+copied() { # TOOL FIRST-WORD-OF-THE-OUTPUT
+    "$program" "$1" --help > "$room/help"
+    sed -n '/^\(ring\|0\),/,/^$/p' "$room/help" | sed '/^$/,$d' > "$room/help.csv"
+    run 0 "$(sed -n "/^$2/,/^\$/p" "$room/help")"$'\n' '' "$1" "$room/help.csv"
+}
+copied drive claimed
+copied replay journal
+
+# The file `-` is standard input, also where a file has that name.
+printf 'jump\n' > "$room/-"
+run_input() { # STATUS OUT ERR INPUT WORD..
+    local status=$1 out=$2 err=$3 input=$4
+    shift 4
+    (cd "$room" && { sleep 0.1; printf '%s' "$input"; } | "$program" "$@" > out 2> err)
+    judge "$* of a pipe" $? "$status" "$out" "$err"
+}
+run_input 2 '' $'record 2: no start\n' $'ring,4,single\n' drive -
+run_input 2 '' $'record 1: no ring\n' '' drive ./-
+run_input 0 'journal 1*' '' $'0,deposit,1,1\n' replay --by ring -
+run_input 0 $'1 record\n' '' $'0,deposit,1,1\n' check replay -
 
 # Faults of the command line.
 run 1 '' $'error: \'disruptor\' requires a subcommand but one was not provided\n*'
@@ -118,8 +150,8 @@ run 1 '' $'error: the following required arguments were not provided:\n  <FILE>\
 run 1 '' $'error: unexpected argument \'y\' found\n*' drive x y
 run 1 '' $'error: invalid value \'post\' for \'--by <WAY>\'\n*' replay --by post accounts.csv
 run 1 '' $'error: invalid value \'x\' for \'--size <N>\'*' replay --size x accounts.csv
-run 1 '' $'bad-size\n' replay --size 3 accounts.csv
-run 1 '' $'bad-size\n' replay --size 0 no-such-file.csv
+run 1 '' $'bad-size\n--size is a power of two from 1 to 65536\n' replay --size 3 accounts.csv
+run 1 '' $'bad-size\n--size is a power of two from 1 to 65536\n' replay --size 0 no-such-file.csv
 run 1 '' $'error: a word of the command line is not UTF-8\n' drive $'a\xff.csv'
 run 1 '' $'error: a word of the command line is not UTF-8\n' $'\xff'
 
@@ -154,21 +186,32 @@ run 4 '' $'cannot read\n' drive no-such-file.csv
 run 4 '' $'cannot read\n' replay no-such-file.csv
 run 4 '' $'cannot read\n' drive .
 run 4 '' $'cannot read\n' replay .
+run 4 '' $'cannot read\n' check drive no-such-file.csv
+run 4 '' $'cannot read\n' check replay .
 head -c 67108864 /dev/zero | tr '\0' '\n' > "$room/long.csv"
-for tool in drive replay; do
-    (ulimit -v 32768 && exec "$program" "$tool" "$room/long.csv") > "$room/out" 2> "$room/err" < /dev/null
+for tool in drive replay 'check drive' 'check replay'; do
+    # shellcheck disable=SC2086 # the words are apart
+    (ulimit -v 32768 && exec "$program" $tool "$room/long.csv") > "$room/out" 2> "$room/err" < /dev/null
     judge "$tool of more than there is memory for" $? 3 '' $'no-memory\n'
 done
 
 # Output that cannot be written: at the last flush, in the midst of a run, and where it is help.
 { printf 'ring,4,single\nwith,a\nstart\n'; yes claim,0,9 | head -n 10000; } > "$room/many.csv"
 { yes 0,deposit,1,100 | head -n 10000; } > "$room/deposits.csv"
-for words in 'drive first_event.csv' "drive $room/many.csv" 'replay accounts.csv' "replay $room/deposits.csv" --help 'drive --help'; do
+for words in 'drive first_event.csv' "drive $room/many.csv" 'replay accounts.csv' "replay $room/deposits.csv" 'check replay accounts.csv' --help 'drive --help'; do
     # shellcheck disable=SC2086 # the words are apart
     run_full 4 $'cannot write\n' $words
     # shellcheck disable=SC2086
     run_closed 4 $'cannot write\n' $words
 done
+# Where the reader of its output has gone, it ends with 4 and says nothing.
+for words in "drive $room/many.csv" "replay $room/deposits.csv" 'check replay accounts.csv' --help; do
+    # shellcheck disable=SC2086 # the words are apart
+    { sleep 0.3; "$program" $words 2> "$room/err" < /dev/null; echo $? > "$room/status"; } | true
+    : > "$room/out"
+    judge "$words | true" "$(cat "$room/status")" 4 '' ''
+done
+
 # A fault of the input is told, although its lines cannot be written.
 printf 'ring,4,single\nwith,a\nstart\nclaim,0,1\njump\n' > "$room/jump.csv"
 run_full 2 $'record 5: bad record\n' drive "$room/jump.csv"

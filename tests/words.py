@@ -21,8 +21,11 @@ FISH = os.path.join(TOP, "share", "fish", "vendor_completions.d", "disruptor.fis
 SIZES = {str(2**k) for k in range(17)}
 # Command lines of which the last word is to be completed, and what bash makes of them.
 LINES = {
-    ("",): {"drive", "replay", "help", "--help", "--version"},
+    ("",): {"drive", "replay", "check", "help", "--help", "--version"},
     ("re",): {"replay"},
+    ("check", ""): {"drive", "replay", "--help"},
+    ("check", "-"): {"--help"},
+    ("check", "replay", "README"): {"README.md"},
     ("help", "d"): {"drive"},
     ("replay", "--"): {"--size", "--by", "--help"},
     ("replay", "--by", ""): {"plain", "lock", "ring"},
@@ -39,7 +42,7 @@ def said(*words):
 
 def words_of_help(program):
     """The commands, the long options, and the ways of a replay."""
-    texts = [said(program, *words) for words in (["--help"], ["drive", "--help"], ["replay", "--help"])]
+    texts = [said(program, *words, "--help") for words in ([], ["drive"], ["replay"], ["check"])]
     commands = set(re.findall(r"^  ([a-z]+)  ", texts[0].partition("Commands:")[2].partition("Options:")[0], re.MULTILINE))
     options = {option for text in texts for option in re.findall(r"^ .*?(--[a-z]+)", text.partition("Options:")[2], re.MULTILINE)}
     ways = re.search(r"\[possible values: ([^\]]*)\]", texts[2])[1].split(", ")
@@ -71,7 +74,7 @@ def main():
         if found != wanted:
             failures.append(f"FAILED: {name}: {found}, not {wanted}")
 
-    judge("the help's commands", commands, {"drive", "replay", "help"})
+    judge("the help's commands", commands, {"drive", "replay", "check", "help"})
     for path in (MAN, BASH, ZSH, FISH):
         text, found = options_of(path)
         judge(f"options of {os.path.relpath(path, TOP)}", found, options)

@@ -33,6 +33,8 @@ Ran = namedtuple("Ran", "status out err")
 NO_MEMORY = Ran(3, b"", b"no-memory\n")
 CANNOT_READ = Ran(4, b"", b"cannot read\n")
 CANNOT_WRITE = Ran(4, b"", b"cannot write\n")
+# Where the reader of its output has gone, it says nothing.
+GONE = Ran(4, b"", b"")
 
 
 def text_of(lines):
@@ -168,6 +170,7 @@ def run_with_closed_streams(bench):
     for redirection, path, wanted in (
         ("<&-", good, done),
         ("<&-", "/dev/stdin", CANNOT_READ),
+        ("<&-", "-", CANNOT_READ),
         ("2>&-", good, done),
         ("<&- >&-", good, CANNOT_WRITE),
         ("2>/dev/full", bad, Ran(2, b"halting\n", b"")),
@@ -184,7 +187,7 @@ def run_with_closed_streams(bench):
 def run_from_slow_pipe(bench):
     """Its input comes through a pipe a byte at a time."""
     with subprocess.Popen(
-        [bench.program, "replay", "/dev/stdin"], stdin=subprocess.PIPE, stdout=subprocess.PIPE, bufsize=0
+        [bench.program, "replay", "-"], stdin=subprocess.PIPE, stdout=subprocess.PIPE, bufsize=0
     ) as program:
         with suppress(BrokenPipeError):
             for byte in b"0,deposit,1,2\n":
@@ -209,7 +212,7 @@ def run_into_pipe(bench, name, words, taken):
             os.close(reader)
         err = program.stderr.read()
         ran = Ran(program.wait(timeout=60), b"", err)
-    bench.judge(f"{name} into a pipe whose reader takes {taken} bytes", ran, CANNOT_WRITE)
+    bench.judge(f"{name} into a pipe whose reader takes {taken} bytes", ran, GONE)
 
 
 def run_into_pipes(bench):

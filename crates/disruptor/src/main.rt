@@ -5,13 +5,15 @@
 ghost use Rattle.std.specs.Prelude.{◌≡◌, Some};
 ghost use Rattle.disruptor.specs.Faults.{program_line, program_status};
 
-use dr_command_line::{By, LineFault, Plan, plan};
+use dr_check::{CheckFault, check_drive, check_replay};
+use dr_command_line::{By, LineFault, Plan, Tool, plan};
 use dr_drive::drive;
 use dr_replay::{Counted, FileFault, ReplayFault, replay_lock, replay_plain, replay_ring};
 use dr_seq::Size;
 use dr_shared::OpenGate;
+use std::alloc::Global;
 use std::fs::File;
-use std::io::{BufWriter, Write};
+use std::io::{BufWriter, Read, Write};
 use std::process::ExitCode;
 use std::sync::Wait;
 use std::thread::Threads;
@@ -22,10 +24,14 @@ use std::{env, fmt, io};
 enum Fault {
     /// The command line is refused.
     Line(LineFault),
-    /// The help could not be printed.
-    Help,
+    /// A text, the help or how many records a file has, could not be printed.
+    Print,
+    /// A file is not well, or could not be checked.
+    Check(CheckFault),
     /// A file, or a worker that took part in its run.
     File(ReplayFault),
+    /// The reader of standard output has gone. Nothing is printed of it.
+    Gone,
 }
 
 impl fmt::Display for Fault {
@@ -34,8 +40,10 @@ impl fmt::Display for Fault {
     fn fmt<W: fmt::Write>(&self, f: &mut fmt::Formatter<W>) -> fmt::Result {
         match self {
             Fault::Line(refused) => write!(f, "{refused}"),
-            Fault::Help => write!(f, "cannot write"),
+            Fault::Print => write!(f, "cannot write"),
+            Fault::Check(fault) => write!(f, "{fault}"),
             Fault::File(fault) => write!(f, "{fault}"),
+            Fault::Gone => Ok(()),
         }
     }
 }
@@ -47,8 +55,10 @@ impl Fault {
     {
         match self {
             Fault::Line(fault) => fault.status(),
-            Fault::Help => 4,
+            Fault::Print => 4,
+            Fault::Check(fault) => fault.status(),
             Fault::File(fault) => fault.status(),
+            Fault::Gone => 4,
         }
     }
 }
@@ -67,32 +77,57 @@ fn read_plan(rt: &HostRuntime) -> Result<Plan, LineFault> {
 
 /// What is run over a file.
 #[derive(Drop)]
-enum Tool {
+enum Task {
     Drive,
     Replay { size: Size, by: By },
 }
 
-// Runs a tool over a file; `workers` starts and joins the threads. Standard output is counted below
-// its buffer too, so that the buffer, which writes out what it still holds when it is let go, leaves
-// it alone once it failed.
-fn run_file<T: Threads + Wait + Sync>(
-    rt: &HostRuntime,
+/// Standard output, and whether a write to it found that its reader has gone.
+#[derive(Drop)]
+struct Output<'a> {
+    to: &'a HostRuntime,
+    is_gone: bool,
+}
+
+impl Write for Output<'_> {
+    fn write(&mut self, buf: &[u8]) -> io::Result<usize> {
+        match io::writer(self.to).write(buf) {
+            Ok(count) => Ok(count),
+            Err(error) => {
+                self.is_gone = is_gone(&error);
+                Err(error)
+            }
+        }
+    }
+
+    fn flush(&mut self) -> io::Result<()> {
+        Ok(())
+    }
+}
+
+// Whether a write failed since nobody reads any longer.
+fn is_gone(error: &io::Error) -> bool {
+    error.kind() == io::ErrorKind::BrokenPipe
+}
+
+// Runs a tool over an input; `workers` starts and joins the threads. The output is counted below its
+// buffer too, so that the buffer, which writes out what it still holds when it is let go, leaves it
+// alone once it failed.
+fn run_over<R: Read + Drop, W: Write + Drop, T: Threads + Wait + Sync>(
     workers: &T,
-    file: &str,
-    tool: Tool,
+    alloc: Global,
+    input: R,
+    output: W,
+    task: Task,
 ) -> Result<(), ReplayFault> {
-    let alloc = rt.alloc();
-    let Ok(file) = File::open(rt, file) else {
-        return Err(ReplayFault::File(FileFault::Read));
-    };
-    let Ok(output) = BufWriter::new(alloc, Counted::new(io::writer(rt))) else {
+    let Ok(output) = BufWriter::new(alloc, Counted::new(output)) else {
         return Err(ReplayFault::File(FileFault::Memory));
     };
-    let mut reader = Counted::new(file);
+    let mut reader = Counted::new(input);
     let mut writer = Counted::new(output);
-    let ran = match tool {
-        Tool::Drive => drive(alloc, &mut reader, &mut writer).map_err(ReplayFault::File),
-        Tool::Replay { size, by } => match by {
+    let ran = match task {
+        Task::Drive => drive(alloc, &mut reader, &mut writer).map_err(ReplayFault::File),
+        Task::Replay { size, by } => match by {
             By::Plain => {
                 replay_plain(alloc, &mut reader, &mut writer, size).map_err(ReplayFault::File)
             }
@@ -108,23 +143,81 @@ fn run_file<T: Threads + Wait + Sync>(
     Ok(())
 }
 
-fn run<T: Threads + Wait + Sync>(rt: &HostRuntime, workers: &T) -> Result<(), Fault> {
-    let (file, tool) = match read_plan(rt).map_err(Fault::Line)? {
-        Plan::Help(text) => {
-            return match rt.print(text) {
-                Ok(()) => Ok(()),
-                Err(_) => Err(Fault::Help),
-            };
-        }
-        Plan::Drive { file } => (file, Tool::Drive),
-        Plan::Replay { file, size, by } => (file, Tool::Replay { size, by }),
+// Runs a tool over a file, or over standard input where its name is `-`.
+fn run_file<T: Threads + Wait + Sync>(
+    rt: &HostRuntime,
+    workers: &T,
+    file: &str,
+    task: Task,
+) -> Result<(), Fault> {
+    let mut output = Output {
+        to: rt,
+        is_gone: false,
     };
-    run_file(rt, workers, file.as_str(), tool).map_err(Fault::File)
+    let ran = if file == "-" {
+        run_over(workers, rt.alloc(), rt.stdin(), &mut output, task)
+    } else {
+        match File::open(rt, file) {
+            Ok(file) => run_over(workers, rt.alloc(), file, &mut output, task),
+            Err(_) => Err(ReplayFault::File(FileFault::Read)),
+        }
+    };
+    match ran {
+        Ok(()) => Ok(()),
+        Err(ReplayFault::File(FileFault::Write)) if output.is_gone => Err(Fault::Gone),
+        Err(fault) => Err(Fault::File(fault)),
+    }
+}
+
+// Prints a text, and nothing else.
+fn print<D: fmt::Display + Drop>(rt: &HostRuntime, text: D) -> Result<(), Fault> {
+    match rt.print(text) {
+        Ok(()) => Ok(()),
+        Err(error) if is_gone(&error) => Err(Fault::Gone),
+        Err(_) => Err(Fault::Print),
+    }
+}
+
+fn check_over<R: Read + Drop>(alloc: Global, tool: Tool, input: R) -> Result<u64, CheckFault> {
+    let mut reader = Counted::new(input);
+    match tool {
+        Tool::Drive => check_drive(alloc, &mut reader),
+        Tool::Replay => check_replay(alloc, &mut reader),
+    }
+}
+
+// Looks whether a file, or standard input where its name is `-`, is at fault, and prints how many
+// records it has where it is not.
+fn check_file(rt: &HostRuntime, tool: Tool, file: &str) -> Result<(), Fault> {
+    let found = if file == "-" {
+        check_over(rt.alloc(), tool, rt.stdin())
+    } else {
+        match File::open(rt, file) {
+            Ok(file) => check_over(rt.alloc(), tool, file),
+            Err(_) => Err(CheckFault::Read),
+        }
+    };
+    match found {
+        Ok(1) => print(rt, "1 record\n"),
+        Ok(count) => print(rt, format_args!("{count} records\n")),
+        Err(fault) => Err(Fault::Check(fault)),
+    }
+}
+
+fn run<T: Threads + Wait + Sync>(rt: &HostRuntime, workers: &T) -> Result<(), Fault> {
+    let (file, task) = match read_plan(rt).map_err(Fault::Line)? {
+        Plan::Help(text) => return print(rt, text),
+        Plan::Check { tool, file } => return check_file(rt, tool, file.as_str()),
+        Plan::Drive { file } => (file, Task::Drive),
+        Plan::Replay { file, size, by } => (file, Task::Replay { size, by }),
+    };
+    run_file(rt, workers, file.as_str(), task)
 }
 
 fn main(rt: HostRuntime) -> ExitCode {
     match run(&rt, &rt) {
         Ok(()) => ExitCode::SUCCESS,
+        Err(Fault::Gone) => ExitCode::from(Fault::Gone.status()),
         Err(fault) => {
             // Where even this cannot be written, the exit status alone says what went wrong.
             let _printed = rt.eprintln(&fault);

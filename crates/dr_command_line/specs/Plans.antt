@@ -13,6 +13,6 @@ line_status refused.Memory = 3
 -- what it prints: of the words, what the reader of command lines has to say
 abbrev pub line_text : LineFault → List ℕ
 line_text (refused.Usage text) = string_bytes text
-line_text refused.BadSize = codes "bad-size"
+line_text refused.BadSize = codes "bad-size\n--size is a power of two from 1 to 65536"
 line_text refused.NotUtf8 = codes "error: a word of the command line is not UTF-8"
 line_text refused.Memory = codes "no-memory"

@@ -19,11 +19,22 @@ pub enum By {
     Ring,
 }
 
+/// For which tool a file is.
+#[derive(Clone, Copy, Debug, PartialEq, Eq)]
+pub enum Tool {
+    /// A file of commands.
+    Drive,
+    /// A file of operations.
+    Replay,
+}
+
 /// What a command line asks for.
 #[derive(Debug, Drop)]
 pub enum Plan {
     /// Print this text, and nothing else.
     Help(String),
+    /// Look whether a file for this tool is at fault.
+    Check { tool: Tool, file: String },
     /// Run the commands of a file.
     Drive { file: String },
     /// Replay the operations of a file, through a ring of this size.
@@ -63,7 +74,7 @@ impl fmt::Display for LineFault {
     fn fmt<W: fmt::Write>(&self, f: &mut fmt::Formatter<W>) -> fmt::Result {
         match self {
             LineFault::Usage(text) => write!(f, "{text}"),
-            LineFault::BadSize => write!(f, "bad-size"),
+            LineFault::BadSize => write!(f, "bad-size\n--size is a power of two from 1 to 65536"),
             LineFault::NotUtf8 => write!(f, "error: a word of the command line is not UTF-8"),
             LineFault::Memory => write!(f, "no-memory"),
         }

@@ -1,6 +1,6 @@
 //! The words of a command line, read.
 
-use crate::plans::{By, LineFault, Plan};
+use crate::plans::{By, LineFault, Plan, Tool};
 use clap::error::ErrorKind;
 use clap::{Arg, ArgMatches, Command, Error, value_parser};
 use dr_seq::Size;
@@ -13,10 +13,39 @@ const VERSION: &str = "0.1.0, proved with rattle-kit-13f logic dac8208d650f15bf"
 
 const DRIVE: &str = "Run a file of commands, and print one line a command";
 
-const FILE: &str = "The file of commands, one record a line";
+const FILE: &str = "The file of commands, one record a line; - is standard input";
 
 const EXAMPLE: &str = "\
-A file sets up a ring, its limit and its handlers, and then gives commands:
+A file sets up a ring, its limit and its handlers, and then gives commands. This
+one can be copied as it stands:
+
+ring,4,single
+limit,1000
+with,a,b
+then,c
+after,a
+then,d
+edge,d,c
+start
+claim,0,1
+write,0,0,42
+publish,0,0,0
+poll,a,8
+complete,a,1
+retire,c
+halt
+
+It prints:
+
+claimed 0 0
+written
+published
+batch 0 end 42
+completed
+retired
+halting
+
+Its records, in turn:
 
   ring,4,single       a ring of 4 slots and one producer; ring,4,multi,2 has two
   limit,1000          at most 1000 sequences (may be left out)
@@ -34,22 +63,12 @@ A file sets up a ring, its limit and its handlers, and then gives commands:
   retire,c            handler c takes no more, and claims do not wait for it
   halt                no more claims
 
-It prints:
-
-  claimed 0 0
-  written
-  published
-  batch 0 end 42
-  completed
-  retired
-  halting
-
 It ends with 0 where all is done, 1 where the command line is at fault, 2 where
 the file is at fault, 3 if memory runs out and 4 where reading or writing failed.";
 
 const REPLAY: &str = "Replay a file of account movements, and print a report of them";
 
-const EVENTS: &str = "The file of movements, one record a line";
+const EVENTS: &str = "The file of movements, one record a line; - is standard input";
 
 const SIZE: &str = "How many slots the ring has: a power of two from 1 to 65536";
 
@@ -64,7 +83,27 @@ const USUAL_SIZE: u64 = 1024;
 
 const REPLAY_EXAMPLE: &str = "\
 A record is a producer from 0 to 15, what it does, the account or accounts, and
-the amount:
+the amount. This file can be copied as it stands:
+
+0,deposit,1,100
+0,withdraw,1,40
+2,transfer,1,7,30
+
+It prints:
+
+journal 3
+0,0,deposit,1,100
+1,0,withdraw,1,40
+2,2,transfer,1,7,30
+replica 3
+0001000100000064
+0002000100000028
+0203000100000000000700000000001e
+business 3
+1,30,0
+7,30,0
+
+Its records, in turn:
 
   0,deposit,1,100     100 is added to account 1
   0,withdraw,1,40     40 is taken from account 1, where it has that much
@@ -75,21 +114,50 @@ Accounts are below 65536, amounts below 4294967296, and those of a transfer belo
 its sequence, the replica its words, and business has a line for each account:
 its number, its balance, and how many movements it was refused.
 
-  journal 3
-  0,0,deposit,1,100
-  1,0,withdraw,1,40
-  2,2,transfer,1,7,30
-  replica 3
-  0001000100000064
-  0002000100000028
-  0203000100000000000700000000001e
-  business 3
-  1,30,0
-  7,30,0
-
 It ends with 0 where all is done, 1 where the command line is at fault, 2 where
 the file is at fault, 3 if memory runs out, 4 where reading or writing failed and
 5 where a worker was refused or stopped, or an audit found the history amiss.";
+
+const CHECK: &str = "Check a file for drive or replay, and say where it is at fault";
+
+const TOOL: &str = "For which of them the file is";
+
+const CHECKED: &str = "The file, one record a line; - is standard input";
+
+/// The tools whose files are checked.
+const TOOLS: &[&str] = &["drive", "replay"];
+
+const CHECK_EXAMPLE: &str = "\
+It prints how many records the file has. Where drive or replay would end with a
+fault of the file, it says on standard error what they would say, in which line
+and at which field the first such record is at fault, what stands there and what
+may, and for what is often wrong a hint:
+
+  record 2: bad record
+  line 3, field 4: found \"10.50\", expected an amount from 0 to 4294967295
+  hint: write digits alone, and amounts in the least unit, as 1050 for 10.50
+
+Records, lines and fields are counted from 1; an empty line is a line, but no
+record. It ends with 0 where all is well, 1 where the command line is at fault,
+2 where the file is at fault, 3 if memory runs out and 4 where reading or writing
+failed.";
+
+fn check_command<'a>(alloc: Global) -> Result<Command<'a>, AllocError> {
+    let tool = Arg::new(alloc, "tool")
+        .value_name("TOOL")
+        .help(TOOL)
+        .value_parser(TOOLS)
+        .required(true);
+    let file = Arg::new(alloc, "file")
+        .value_name("FILE")
+        .help(CHECKED)
+        .required(true);
+    Command::new(alloc, "check")
+        .about(CHECK)
+        .after_help(CHECK_EXAMPLE)
+        .arg(tool)?
+        .arg(file)
+}
 
 fn replay_command<'a>(alloc: Global) -> Result<Command<'a>, AllocError> {
     let size = Arg::new(alloc, "size")
@@ -133,7 +201,8 @@ fn command<'a>(alloc: Global) -> Result<Command<'a>, AllocError> {
         )
         .subcommand_required(true)
         .subcommand(drive)?
-        .subcommand(replay_command(alloc)?)
+        .subcommand(replay_command(alloc)?)?
+        .subcommand(check_command(alloc)?)
 }
 
 // The text of a fault, without the line feed at its end.
@@ -174,6 +243,15 @@ fn replay_plan(alloc: Global, matches: &ArgMatches<'_>) -> Result<Plan, LineFaul
     Ok(Plan::Replay { file, size, by })
 }
 
+fn check_plan(alloc: Global, matches: &ArgMatches<'_>) -> Result<Plan, AllocError> {
+    let tool = match matches.get_str("tool") {
+        Some("replay") => Tool::Replay,
+        _ => Tool::Drive,
+    };
+    let file = file_of(alloc, matches)?;
+    Ok(Plan::Check { tool, file })
+}
+
 /// Reads a command line, of which the first word is the program's own name.
 pub fn plan(alloc: Global, words: &[String]) -> Result<Plan, LineFault> {
     let matches = match command(alloc)?.try_get_matches_from(words) {
@@ -182,6 +260,9 @@ pub fn plan(alloc: Global, words: &[String]) -> Result<Plan, LineFault> {
     };
     if let Some(matches) = matches.subcommand_matches("replay") {
         return replay_plan(alloc, matches);
+    }
+    if let Some(matches) = matches.subcommand_matches("check") {
+        return Ok(check_plan(alloc, matches)?);
     }
     let file = match matches.subcommand_matches("drive") {
         Some(matches) => file_of(alloc, matches)?,

@@ -19,6 +19,7 @@ mod ring;
 mod scripts;
 
 pub use dr_files::{Cause, Counted, FileFault};
+pub use event_file::read_events;
 pub use fault::ReplayFault;
 pub use lock::replay_lock;
 pub use one_thread::replay_plain;

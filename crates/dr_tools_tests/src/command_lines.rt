@@ -113,7 +113,8 @@ fn sizes_of_no_ring(rt: HostRuntime) -> Result<(), Fail> {
     let alloc = rt.alloc();
     for size in ["0", "3", "1000", "131072"] {
         let words = ["disruptor", "replay", "--size", size, "day.csv"];
-        check_refused(&rt, alloc, &words, "bad-size")?;
+        let text = "bad-size\n--size is a power of two from 1 to 65536";
+        check_refused(&rt, alloc, &words, text)?;
     }
     for words in [["--size", "x"], ["--size", "-1"], ["--by", "post"]] {
         let words = ["disruptor", "replay", words[0], words[1], "day.csv"];
