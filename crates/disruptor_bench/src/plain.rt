@@ -13,7 +13,6 @@ use dr_shared::Waiting;
 use std::alloc::Global;
 use std::rt::Clock;
 use std::thread::{self, Threads};
-use std::time::Instant;
 
 /// The sum of the first words of a batch, as it wraps.
 fn sum_of<E: Made>(receiver: &Receiver<E>, first: u64, count: u64) -> u64 {
@@ -70,12 +69,9 @@ fn measured<E: Made + Send + Sync + 'static>(
     receivers: Vec<Receiver<E>>,
 ) -> Result<Round, Fault> {
     let handlers = start(rt, alloc, receivers, order.size.get().min(MOST_AT_ONCE))?;
-    let begun = Instant::now(rt)?;
-    let events = send_for::<E, Sender<E>>(rt, sender, order.claim(), order.time)?;
+    let (begun, events) = send_for::<E, Sender<E>>(rt, sender, order.claim(), order.time)?;
     sender.close()?;
-    finish(rt, handlers, events)?;
-    let time = begun.elapsed(rt)?;
-    Ok(Round { events, time })
+    finish(rt, handlers, begun, events)
 }
 
 /// One round over a ring of its own, of such events.

@@ -70,9 +70,7 @@ fn measured(
     let begun = Instant::now(rt)?;
     let events = send_all(rt, alloc, senders, order.claim())?;
     halter.halt();
-    finish(rt, handlers, events)?;
-    let time = begun.elapsed(rt)?;
-    Ok(Round { events, time })
+    finish(rt, handlers, begun, events)
 }
 
 /// One round of a stretch for each sender over a ring of its own.

@@ -82,19 +82,19 @@ pub fn stretch<E: Made, I: Inlet<E>>(sender: &mut I, n: u64) -> Result<u64, Faul
     Ok(claims.wrapping_mul(n))
 }
 
-/// Sends for about so long, and answers how many events there were.
+/// Sends for about so long, and answers since when it did, and how many events there were.
 pub fn send_for<E: Made, I: Inlet<E>>(
     clock: &impl Clock,
     sender: &mut I,
     n: u64,
     time: Duration,
-) -> Result<u64, Fault> {
+) -> Result<(Instant, u64), Fault> {
     let mut events = 0u64;
     let begun = Instant::now(clock)?;
     for _ in 0..MOST_TURNS {
         events = events.wrapping_add(stretch::<E, I>(sender, n)?);
         if begun.elapsed(clock)? >= time {
-            return Ok(events);
+            return Ok((begun, events));
         }
     }
     Err(Fault::NO_END)
@@ -129,14 +129,25 @@ pub fn start<O: Outlet<Event> + Drop + Send + 'static>(
 }
 
 /// Waits until all handlers are told that the ring drained, and checks what they added up.
-pub fn finish(rt: &impl Threads, handlers: Vec<Handler>, events: u64) -> Result<(), Fault> {
-    let total = sum_of_first(events);
+fn join(rt: &impl Threads, handlers: Vec<Handler>, total: u64) -> Result<(), Fault> {
     for handler in handlers {
         if handler.join(rt)? != total {
             return Err(Fault::WRONG_SUM);
         }
     }
     Ok(())
+}
+
+/// Ends a round of so many events, once all handlers have drained the ring.
+pub fn finish(
+    rt: &(impl Clock + Threads),
+    handlers: Vec<Handler>,
+    begun: Instant,
+    events: u64,
+) -> Result<Round, Fault> {
+    join(rt, handlers, sum_of_first(events))?;
+    let time = begun.elapsed(rt)?;
+    Ok(Round { events, time })
 }
 
 fn ends(alloc: Global, order: &Order) -> Result<(Sender, Vec<Receiver>, Halter), Fault> {
@@ -153,12 +164,9 @@ fn measured(
     receivers: Vec<Receiver>,
 ) -> Result<Round, Fault> {
     let handlers = start(rt, alloc, receivers, order.size)?;
-    let begun = Instant::now(rt)?;
-    let events = send_for::<Event, Sender>(rt, sender, order.claim(), order.time)?;
+    let (begun, events) = send_for::<Event, Sender>(rt, sender, order.claim(), order.time)?;
     sender.close()?;
-    finish(rt, handlers, events)?;
-    let time = begun.elapsed(rt)?;
-    Ok(Round { events, time })
+    finish(rt, handlers, begun, events)
 }
 
 /// One round over a ring of its own.

@@ -205,7 +205,8 @@ impl Shape {
         }
     }
 
-    fn handlers(self) -> usize {
+    /// How many handlers it has.
+    pub fn handlers(self) -> usize {
         match self {
             Shape::Unicast => 1,
             Shape::Pipeline | Shape::Multicast | Shape::Diamond => 3,
