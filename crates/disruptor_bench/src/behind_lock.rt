@@ -104,9 +104,9 @@ fn exchanged<L: Exchange<Event> + Send + Sync, R: Threads + Wait + Sync>(
     alloc: Global,
     mut ends: Vec<End<Event, L>>,
 ) -> Result<Vec<End<Event, L>>, Fault> {
-    let back = Vec::with_capacity(alloc, ends.len())?;
-    let halter = ends.pop().ok_or(Fault::ENDS)?;
-    exchange(around, alloc, halter, ends, back)
+    let mut back = Vec::with_capacity(alloc, ends.len())?;
+    back.push(ends.pop().ok_or(Fault::ENDS)?)?;
+    exchange(around, alloc, ends, back)
 }
 
 /// Sends and handles all, and answers the ends, and how long it took.

@@ -106,16 +106,17 @@ fn join<L: Exchange<Event>, R: Threads>(
     if all { Ok(()) } else { Err(Fault::WRONG_SUM) }
 }
 
-/// Joins the producers, halts, and joins the handlers.
+/// Joins the producers, halts by the end that is back from the beginning, and joins the handlers.
 fn join_all<L: Exchange<Event>, R: Threads + Wait>(
     around: &Around<'_, L, R>,
     workers: &mut Vec<Worker<L>>,
-    halter: &mut End<Event, L>,
     back: &mut Vec<End<Event, L>>,
 ) -> Result<(), Fault> {
     let producers = workers.len().saturating_sub(around.handlers);
     let sent = join(around, workers, producers, back);
-    halt(around.rt, around.shared, halter);
+    if let Some(halter) = back.first_mut() {
+        halt(around.rt, around.shared, halter);
+    }
     join(around, workers, around.handlers, back)?;
     if (producers as u64) < around.producers {
         return Err(Fault::THREAD);
@@ -127,20 +128,17 @@ fn join_all<L: Exchange<Event>, R: Threads + Wait>(
 fn ends<L: Exchange<Event>, R: Threads + Wait>(
     around: &Around<'_, L, R>,
     mut workers: Vec<Worker<L>>,
-    mut halter: End<Event, L>,
     mut back: Vec<End<Event, L>>,
 ) -> Result<Vec<End<Event, L>>, Fault> {
-    join_all(around, &mut workers, &mut halter, &mut back)?;
-    back.push(halter)?;
+    join_all(around, &mut workers, &mut back)?;
     Ok(back)
 }
 
 /// Starts a thread for each handler, then one for each producer, and joins them all. The ends go to those that are back,
-/// for which there is room, since no thread would be halted where memory ran out.
+/// for which there is room, since no thread would be halted where memory ran out. The first one there halts.
 pub fn exchange<L: Exchange<Event> + Send + Sync, R: Threads + Wait + Sync>(
     around: &Around<'_, L, R>,
     alloc: Global,
-    halter: End<Event, L>,
     ends_of_threads: Vec<End<Event, L>>,
     back: Vec<End<Event, L>>,
 ) -> Result<Vec<End<Event, L>>, Fault> {
@@ -159,7 +157,7 @@ pub fn exchange<L: Exchange<Event> + Send + Sync, R: Threads + Wait + Sync>(
                 };
                 workers.push(worker)?;
             }
-            ends(around, workers, halter, back)
+            ends(around, workers, back)
         },
     )
 }
