@@ -2,3 +2,4 @@ pub mod Serving
 pub mod Running
 pub mod Refused
 pub mod Waits
+pub mod OneThread

@@ -2,17 +2,20 @@
 //!
 //! [`run`] makes the ring of a graph, starts a thread for each handler, sends a script from the calling thread,
 //! and hands back the handlers with how far each came ([`Ran`]). [`run_with`] leaves the sending to a closure,
-//! for events that come up while it runs. A [`WaitStrategy`] says how they wait for one another. Begin with
-//! `specs/Running`: it says what each handler went through.
+//! for events that come up while it runs. A [`WaitStrategy`] says how they wait for one another. [`run_here`] takes
+//! the handlers through a script on the calling thread alone. Begin with `specs/Running`: it says what each handler
+//! went through.
 #![tactic(auto)]
 
 mod fault;
+mod one_thread;
 mod running;
 mod served;
 mod strategy;
 mod workers;
 
 pub use fault::RunFault;
+pub use one_thread::run_here;
 pub use running::{Ran, run, run_waiting, run_with};
 pub use served::{Served, ServesPromise, serve};
 pub use strategy::{WaitStrategy, Waits};

@@ -1,0 +1,15 @@
+use Rattle.std.proofs.Common.{◌≤◌, ◌-◌, ◌≡◌, length}
+use Rattle.dr_core.specs.Calls.CoreView.{CoreView}
+use Rattle.dr_disruptor.specs.OneThread.{Along, Rests}
+use Rattle.dr_disruptor.proofs.one_thread.pass.Given as goal
+
+abbrev pub decreases-loop-at : goal.decreases-loop-at
+decreases-loop-at g l = length l.script - l.at
+
+-- the handlers went through the events before a place
+abbrev pub invariant-loop-at : goal.invariant-loop-at
+invariant-loop-at g l = record {
+  within : l.at ≤ length l.script;
+  rests : Rests l.fn.core.setup.upstreams l.fn.core.setup.size l.script 0 l.at l.at l.core;
+  along : Along g.H.Handler.goes l.script l.fn.handlers 0 l.at l.at l.handlers;
+}

@@ -1,0 +1,25 @@
+use Rattle.std.proofs.Common.{◌≡◌, List, ap, arith, length, sym, subst}
+use Rattle.std.proofs.lemmas.List.{with_items_is}
+use Rattle.dr_core.specs.Meaning.Machine.{Setup}
+use Rattle.dr_disruptor.specs.OneThread.{Rests}
+use Rattle.dr_disruptor.specs.Running.{AllWentThrough}
+use Rattle.dr_disruptor.proofs.Along.{rests_first}
+use Rattle.dr_disruptor.proofs.one_thread.run_here.Goals as goal
+
+pub pass-requires-clause-rests : goal.pass-requires-clause-rests
+pass-requires-clause-rests g c =
+    let script = c.args.script.now in
+    let core = c.in_ok-core.core in
+    let setup = c.in_ok-core.ensures.setup in
+    subst (λ (s : Setup). Rests s.upstreams s.size script 0 0 0 core) (sym setup) (rests_first c.args.graph.upstreams c.args.size script core setup c.in_ok-core.ensures.shows)
+
+pub returns-clause-whole : goal.returns-clause-whole
+returns-clause-whole g c =
+    let went = c.in-Ok.ensures in
+    let same = c.as_mut_slice.ensures.value in
+    let long = ap length same in
+    let kept = c.args.handlers.ok.0 in
+    let many = went.many in
+    let len : length c.pass.new.handlers ≡ c.args.handlers.len = omega arith in
+    subst (λ (l : List g.row.H.Denot). AllWentThrough g.H.Handler.goes c.args.script.now c.args.handlers.items l) (sym (with_items_is c.args.handlers c.pass.new.handlers len))
+    (subst (λ (l : List g.row.H.Denot). AllWentThrough g.H.Handler.goes c.args.script.now l c.pass.new.handlers) same went)

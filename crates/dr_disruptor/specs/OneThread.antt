@@ -1,0 +1,88 @@
+-- A run on one thread: how far the core and the handlers are, and why there was no run.
+use Rattle.std.specs.Prelude.{◌≡◌, ℕ, ◌+◌, ◌^◌, ◌<◌, ◌≤◌, ◌==◌, nat_lt, false, if◌then◌else◌, List, length, take, replicate, Option, None, Some, slice_index, slice_index_or, Result, Ok, Err}
+use mathlib.Core.Option.{some}
+use lib.ListN.{get_elem?}
+use Rattle.dr_seq.specs.declared.event.Event.{Event}
+use Rattle.dr_seq.specs.Event.{no_event}
+use Rattle.dr_graph.specs.Meaning.Graph.{nobody}
+use Rattle.dr_core.specs.Calls.CoreView.{CoreView}
+use Rattle.dr_core.specs.Calls.Handling.{Relation}
+use Rattle.dr_core.specs.Calls.Shows.{Shows}
+use Rattle.dr_core.specs.Meaning.Machine.{Setup, State}
+use Rattle.dr_core.specs.declared.mode.Mode.TheVariants.{Single}
+use Rattle.dr_core.specs.declared.refusal.Refusal.{Refusal}
+use Rattle.dr_core.specs.declared.refusal.Refusal.TheVariants.{Exhausted}
+use Rattle.dr_shared.specs.declared.fault.WorkFault.TheVariants.{Refused}
+use Rattle.dr_disruptor.specs.Running.{AllWentThrough, WentThrough}
+use Rattle.dr_disruptor.specs.declared.fault.RunFault.{RunFault}
+use Rattle.dr_disruptor.specs.declared.fault.RunFault.TheVariants.{Handlers, Memory, Worker}
+
+-- of a graph of so many handlers, where so many were given, and a script of so many events: that the handlers differ, then that there are not so many sequences, and else a lack of memory
+abbrev pub refusal_here : ℕ → ℕ → ℕ → RunFault
+refusal_here graph given script =
+    if graph == given then (if nat_lt (2 ^ 62) script then Worker 16 (Refused Exhausted) else Memory) else Handlers graph given
+
+-- one producer, and as many sequences as there may be
+abbrev pub setup_here : List (List ℕ) → ℕ → Setup
+setup_here graph size = record { upstreams = graph; size = size; mode = Single; limit = 2 ^ 62 }
+
+-- the first events of a list, each written to the sequence that is its place
+abbrev pub written_below : List Event → ℕ → ℕ → Option Event
+written_below events n s = if nat_lt s n then Some (slice_index_or events s no_event) else None
+
+-- the state after the first events of a list were claimed, written and published
+abbrev pub passed : List Event → ℕ → ℕ → ℕ → List ℕ → List ℕ → State Event
+passed events claimed written published taken completed = record {
+  owners = replicate claimed 0;
+  written = written_below events written;
+  published = λ s. nat_lt s published;
+  taken = taken;
+  completed = completed;
+  halted = false;
+  retired = nobody;
+}
+
+-- how far a handler is, where the first so many had their turn, which took them from one count to another
+abbrev pub far : ℕ → ℕ → ℕ → ℕ → ℕ
+far turned at sent h = if nat_lt h turned then sent else at
+
+-- the first events of a list, as many as were sent, are in a core, and each handler completed what it took, the first so many of them all
+pub record Rests (graph : List (List ℕ)) (size : ℕ) (events : List Event) (turned at sent : ℕ) (core : CoreView Event) : Type 0 where
+  pub counts : List ℕ
+  pub many : length counts ≡ length graph
+  pub each : (h : ℕ) → h < length graph → slice_index counts h ≡ far turned at sent h
+  pub setup : core.setup ≡ setup_here graph size
+  pub shows : Shows core (passed events sent sent sent counts counts)
+
+-- each handler went through what it took
+pub record Along {A : Type 0} (goes : Relation Event A) (events : List Event) (starts : List A) (turned at sent : ℕ) (handlers : List A) : Type 0 where
+  pub many : length handlers ≡ length starts
+  pub each : (h : ℕ) (start now : A) → get_elem? starts h ≡ some start → get_elem? handlers h ≡ some now
+      → WentThrough goes start now (take (far turned at sent h) events)
+
+-- some events are in a core that no handler took, and there was room for them
+pub record AreOffered {A : Type 0} (goes : Relation Event A) (events : List Event) (starts : List A) (at sent : ℕ) (core : CoreView Event) (handlers : List A) : Type 0 where
+  pub rests : Rests core.setup.upstreams core.setup.size events 0 at sent core
+  pub along : Along goes events starts 0 at sent handlers
+  pub some : at < sent
+  pub fits : sent ≤ at + core.setup.size
+  pub within : sent ≤ length events
+
+-- no call is refused, and the next events are in the core
+abbrev pub SendsPart : {T : Type 0} → Result T Refusal → List (List ℕ) → ℕ → List Event → ℕ → ℕ → CoreView Event → Type 0
+SendsPart (Ok done) graph size events at sent core = Rests graph size events 0 at sent core
+SendsPart (Err refusal) graph size events at sent core = ⊥
+
+-- no turn is refused, and each handler went through all that was sent
+pub record Turned {A : Type 0} (goes : Relation Event A) (graph : List (List ℕ)) (size : ℕ) (events : List Event) (starts : List A) (sent : ℕ) (core : CoreView Event) (handlers : List A) : Type 0 where
+  pub rests : Rests graph size events 0 sent sent core
+  pub along : Along goes events starts 0 sent sent handlers
+
+abbrev pub Turns : {A T : Type 0} → Result T Refusal → Relation Event A → List (List ℕ) → ℕ → List Event → List A → ℕ → CoreView Event → List A → Type 0
+Turns (Ok done) goes graph size events starts sent core handlers = Turned goes graph size events starts sent core handlers
+Turns (Err refusal) goes graph size events starts sent core handlers = ⊥
+
+-- no call is refused, and each handler went through all events
+abbrev pub PassesAll : {A T : Type 0} → Result T Refusal → Relation Event A → List Event → List A → List A → Type 0
+PassesAll (Ok done) goes events starts handlers = AllWentThrough goes events starts handlers
+PassesAll (Err refusal) goes events starts handlers = ⊥
