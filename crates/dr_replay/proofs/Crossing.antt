@@ -3,10 +3,12 @@ use denote.RattleType.{RattleType}
 use denote.Ref.{NamedLft}
 use denote.Param.Send.{IsSend, IsSync, sendable}
 use Rattle.std.proofs.Crossing as std
+use Rattle.std.proofs.sync.atomic.AtomicU64.TheSendSync.{the_sync as atomic_sync}
 use Rattle.std.specs.declared.sync.ledger.Ledger.{Ghosts}
 use Rattle.dr_shared.specs.declared.exchange.Exchange.{Ghosts as Begun}
 use Rattle.dr_seq.specs.contracts.event.Event as Event
 use Rattle.dr_seq.specs.contracts.size.Size as Size
+use Rattle.dr_shared.specs.contracts.bell.Bell as Bell
 use Rattle.dr_shared.proofs.Sent.{end_send, shared_sync}
 use Rattle.dr_replay.specs.contracts.lock_workers.Around as Around
 use Rattle.dr_replay.specs.contracts.lock_workers.Task as Task
@@ -20,7 +22,10 @@ event_sync = search sendable depth 30
 pub event_send : IsSend Event.the_row
 event_send = search sendable depth 30
 
-pub ruleset shares = (sendable, std.sync, size_sync, event_send, shared_sync)
+pub bell_sync : IsSync Bell.the_row
+bell_sync = search (sendable, atomic_sync) depth 30
+
+pub ruleset shares = (sendable, std.sync, size_sync, event_send, bell_sync, shared_sync)
 
 pub around_sync : (a : NamedLft) (L R G : RattleType) (b : Begun L.Denot Event.the_row.Denot) (g : Ghosts L.Denot) → IsSync L → IsSync R → IsSync G → IsSync (Around.the_row a L R G b g)
 around_sync a L R G b g ledger workers gates = search shares depth 60 fits 20000

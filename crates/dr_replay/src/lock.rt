@@ -27,7 +27,7 @@ use dr_core::{MAX_LIMIT, Mode};
 use dr_files::{Counted, write_text};
 use dr_seq::{Event, Size};
 use dr_shared::{
-    End, Ended, Exchange, Gate, Recorded, Shared, WorkFault, audit, finish, first_fault,
+    Bell, End, Ended, Exchange, Gate, Recorded, Shared, WorkFault, audit, finish, first_fault,
 };
 use std::alloc::{AllocError, Global};
 use std::io::{Read, Write};
@@ -233,11 +233,13 @@ fn report<L: Exchange<Event> + Send + Sync, R: Threads + Wait + Sync, G: Gate + 
 {
     let mut shared = Shared::<Event, L>::new(recorded, blank);
     let ends = make_ends(alloc, &mut shared, scripts.len())?;
+    let bell = Bell::new();
     let around = Around {
         rt,
         alloc,
         gate,
         shared: &shared,
+        bell: &bell,
         size,
     };
     let ran = exchange(&around, scripts, ends)?;

@@ -15,7 +15,8 @@ use crate::part::Listing;
 use dr_accounts::{Business, Journal, Replica, Reporter};
 use dr_seq::{Event, Size};
 use dr_shared::{
-    End, Exchange, Gate, LockedInlet, LockedOutlet, Shared, WorkFault, consume, halt, produce,
+    Bell, End, Exchange, Gate, LockedInlet, LockedOutlet, Parking, Ringing, Shared, WorkFault,
+    consume_with, halt, produce_with,
 };
 use std::alloc::{AllocError, Global};
 use std::sync::Wait;
@@ -33,6 +34,7 @@ pub struct Around<'a, L: Exchange<Event>, R, G> {
     pub alloc: Global,
     pub gate: &'a G,
     pub shared: &'a Shared<Event, L>,
+    pub bell: &'a Bell,
     pub size: Size,
 }
 
@@ -140,7 +142,8 @@ pub fn make_ends<L: Exchange<Event>>(
 }
 
 // Takes a new handler through all events that an end is given. A handler that finds no memory holds
-// up no other worker: it goes on without taking any more.
+// up no other worker: it goes on without taking any more. It parks where nothing comes, and rings the
+// bell with each completion.
 fn handle<L: Exchange<Event>, R: Wait, G: Gate, P: Reporter>(
     around: &Around<'_, L, R, G>,
     who: usize,
@@ -149,17 +152,28 @@ fn handle<L: Exchange<Event>, R: Wait, G: Gate, P: Reporter>(
     requires unused { end ≡ no_calls }
     ensures { HasHandled L.begun who (G.may_stop around.now.gate.now who) (G.must_stop around.now.gate.now who) result.end (error_of result.part) }
 {
-    let mut outlet = LockedOutlet::new(around.rt, around.shared, end, who);
+    let (rt, gate, bell) = (around.rt, around.gate, around.bell);
+    let locked = LockedOutlet::new(rt, around.shared, end, who);
+    let mut outlet = Ringing::new(locked, bell);
     let mut listing = Listing::<P>::new(around.alloc);
     let mut buf = [Event::NONE; BATCH];
-    let (rt, gate) = (around.rt, around.gate);
-    let fault = consume(rt, &mut outlet, gate, who, &mut listing, &mut buf);
+    let mut parking = Parking::new(rt, bell, BATCH as u64);
+    let fault = consume_with(
+        rt,
+        &mut outlet,
+        gate,
+        who,
+        &mut listing,
+        &mut buf,
+        &mut parking,
+    );
     let part = match (listing.part(around.alloc), fault) {
         (Err(_), _) => Err(WorkFault::Memory),
         (Ok(_), Some(fault)) => Err(fault),
         (Ok(part), None) => Ok(part),
     };
-    let end = outlet.into_end();
+    let back = outlet.into_end();
+    let end = back.into_end();
     Handled { end, part }
 }
 
@@ -170,7 +184,7 @@ fn quarter(size: Size) -> u64
     (size.get() / 4).max(1)
 }
 
-// Sends a producer's script.
+// Sends a producer's script. It parks where there is no room, and rings the bell with each publication.
 fn send<L: Exchange<Event>, R: Wait, G: Gate>(
     around: &Around<'_, L, R, G>,
     task: Task<'_, L>,
@@ -180,10 +194,21 @@ fn send<L: Exchange<Event>, R: Wait, G: Gate>(
     ensures { HasSent L.begun task.entry.p (max (around.now.size / 4) 1) task.entry.script.now (G.may_stop around.now.gate.now (16 + task.entry.p)) (G.must_stop around.now.gate.now (16 + task.entry.p)) result.end result.fault }
 {
     let Task { p, end, script } = task;
-    let mut inlet = LockedInlet::new(around.rt, around.shared, end, p as u64);
-    let (rt, gate, cut) = (around.rt, around.gate, quarter(around.size));
-    let produced = produce(rt, &mut inlet, gate, PRODUCER + p, script, cut);
-    let end = inlet.into_end();
+    let (rt, gate, bell, cut) = (around.rt, around.gate, around.bell, quarter(around.size));
+    let locked = LockedInlet::new(rt, around.shared, end, p as u64);
+    let mut inlet = Ringing::new(locked, bell);
+    let mut parking = Parking::new(rt, bell, cut);
+    let produced = produce_with(
+        rt,
+        &mut inlet,
+        gate,
+        PRODUCER + p,
+        script,
+        cut,
+        &mut parking,
+    );
+    let back = inlet.into_end();
+    let end = back.into_end();
     Delivered {
         end,
         fault: produced.fault,
@@ -228,6 +253,14 @@ fn send_all<L: Exchange<Event> + Send + Sync, R: Threads + Wait + Sync, G: Gate 
     )
 }
 
+// Halts the core, and wakes the handlers' threads.
+fn halted<L: Exchange<Event>, R: Wait, G>(around: &Around<'_, L, R, G>, halter: &mut End<Event, L>)
+    ensures { halter.new ≡ after_call Halt (Some Halting) halter.old }
+{
+    halt(around.rt, around.shared, halter);
+    around.bell.ring();
+}
+
 // Sends all scripts, halts the core, and joins the handlers' threads.
 fn served<
     L: Exchange<Event> + Send + Sync,
@@ -255,7 +288,7 @@ fn served<
     ensures business { IfOk result (λ joined. B.kept_by business.promise joined.business) }
 {
     let sent = send_all(around, scripts, producers, &halter);
-    halt(around.rt, around.shared, &mut halter);
+    halted(around, &mut halter);
     let journal = journal.join(around.rt);
     let replica = replica.join(around.rt);
     let business = business.join(around.rt);
@@ -276,7 +309,7 @@ fn abandoned<L: Exchange<Event>, R: Wait, G>(
 ) -> AllocError
     ensures { halter.new ≡ after_call Halt (Some Halting) halter.old }
 {
-    halt(around.rt, around.shared, halter);
+    halted(around, halter);
     AllocError
 }
 

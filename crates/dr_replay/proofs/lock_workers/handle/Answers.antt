@@ -11,7 +11,7 @@ use Rattle.dr_replay.proofs.lock_workers.handle.Goals as goal
 
 pub returns : goal.returns
 returns g c =
-    let run = c.consume-fault in
+    let run = c.consume_with-fault in
     let begun = g.L.Exchange.begun in
     let gate = c.args.around.now.gate.now in
     let answers : AnswersFor run.result (error_of c.match-part.part) = elim c.match-part.branch [
@@ -21,8 +21,9 @@ returns g c =
       | in-Ok-None w ↦ inl (ap error_of w.part-is ∙ sym w.in-Ok-None.is-1)
     ]
     in
-    let begins : c.new-outlet.result.end ≡ no_calls = c.new-outlet.ensures.end ∙ c.requires.unused in
-    let ends : c.into_end-end.result ≡ run.new.outlet.end = c.into_end-end.ensures in
+    let number : c.new-outlet.result.h ≡ c.args.who = ap (λ (outlet : LockedOutlet _ _ _). outlet.h) c.new-outlet.ensures ∙ c.new-locked.ensures.number in
+    let begins : c.new-outlet.result.end ≡ no_calls = ap (λ (outlet : LockedOutlet _ _ _). outlet.end) c.new-outlet.ensures ∙ c.new-locked.ensures.end ∙ c.requires.unused in
+    let ends : c.into_end-end.result ≡ run.new.outlet.end = c.into_end-end.ensures ∙ ap (λ (outlet : LockedOutlet _ _ _). outlet.end) c.into_end-back.ensures in
     record {
       start = c.new-listing.result;
       after = run.new.handler;
@@ -31,7 +32,7 @@ returns g c =
       calls = asked (λ (old : LockedOutlet _ _ _) call (new : LockedOutlet _ _ _). (new.h ≡ old.h) × OutletAsks begun old.h old.end call new.end) (OutletAsks begun c.args.who) (λ outlet. outlet.end) (λ outlet. outlet.h ≡ c.args.who)
           (λ old new call here is. (is.0 ∙ here, subst (λ n. OutletAsks begun n old.end call new.end) here is.1))
           {Holds = Serves 256 Lists c.new-listing.result run.new.handler None None (g.G.Gate.may_stop gate c.args.who) (g.G.Gate.must_stop gate c.args.who) run.result}
-          c.new-outlet.result run.new.outlet no_calls c.into_end-end.result c.new-outlet.ensures.number begins ends run.ensures.serves;
+          c.new-outlet.result run.new.outlet no_calls c.into_end-end.result number begins ends run.ensures.serves;
       answers = answers;
       stopped = stopped_by run.result (error_of c.match-part.part) answers run.ensures.stopped;
     }
