@@ -1,5 +1,5 @@
 -- Many events, written one after another.
-use Rattle.std.proofs.Common.{◌≡◌, ℕ, ◌+◌, ◌<◌, List, [], ◌∷◌, ◌++◌, length, take, get_or, None, Some, Ok, sym, refl, ap, ◌∙◌, subst, arith, append_assoc}
+use Rattle.std.proofs.Common.{◌≡◌, ℕ, ◌+◌, ◌<◌, List, [], ◌∷◌, ◌++◌, length, take, get_or, None, Some, Ok, Err, sym, refl, ap, ◌∙◌, subst, arith, append_assoc}
 use Rattle.std.proofs.lemmas.List.{length-take-le, take_more, append-nil}
 use Rattle.dr_seq.specs.declared.event.Event.{Event}
 use Rattle.dr_core.specs.declared.refusal.Refusal.{Refusal}
@@ -59,10 +59,16 @@ wrote_more e a b lo k s events d event less at is W C =
     }
 
 -- the next one is refused
-pub wrote_refused : (e a b : SenderEnd) (lo k : ℕ) (events : List Event) (refusal : Refusal) → WroteFirst e lo events k a → sender_place b ≡ sender_place a → OnlySends a.knows b.knows → b.stored ≡ a.stored
+pub wrote_refused : (e a b : SenderEnd) (lo k : ℕ) (events : List Event) (refusal : Refusal) → k < length events → WroteFirst e lo events k a → sender_place b ≡ sender_place a
+    → WriteAnswers (Some a.knows.sent) (lo + k) (Err (Refused refusal)) → b.knows.sent ≡ a.knows.sent → OnlySends a.knows b.knows → b.stored ≡ a.stored
     → IsBeginning a.past b.past → WriteAllCall e lo events b (record { count = k; trouble = Some (Refused refusal) })
-wrote_refused e a b lo k events refusal W place only stored past = record {
+wrote_refused e a b lo k events refusal less W place answer sent only stored past = record {
   place = place ∙ W.place;
+  answers = record {
+    written = W.answers;
+    stops = (less, answer_before lo (lo + k) (take k events) (Err (Refused refusal)) (Some e.knows.sent) (Some a.knows.sent) W.sent answer);
+  };
+  sent = sent ∙ W.sent;
   only = only_more e.knows a.knows b.knows W.only only;
   stored = stored ∙ W.stored;
   memory = λ is. cc;
@@ -70,5 +76,14 @@ wrote_refused e a b lo k events refusal W place only stored past = record {
 }
 
 -- all are written
-pub wrote_each : (e a : SenderEnd) (lo k n : ℕ) (events : List Event) → k ≡ n → WroteFirst e lo events k a → WriteAllCall e lo events a (record { count = n; trouble = None })
-wrote_each e a lo k n events same W = record { place = W.place; only = W.only; stored = subst (λ m. a.stored ≡ e.stored ++ writes_from lo (take m events)) same W.stored; memory = λ is. cc; past = W.past }
+pub wrote_each : (e a : SenderEnd) (lo k n : ℕ) (events : List Event) → k ≡ n → n ≡ length events → WroteFirst e lo events k a
+    → WriteAllCall e lo events a (record { count = n; trouble = None })
+wrote_each e a lo k n events same all W = record {
+  place = W.place;
+  answers = record { written = subst (λ m. (j : ℕ) → j < m → WriteAnswers (Some e.knows.sent) (lo + j) (Ok tt)) same W.answers; stops = all };
+  sent = subst (λ m. WritesAll lo (take m events) e.knows.sent a.knows.sent) same W.sent;
+  only = W.only;
+  stored = subst (λ m. a.stored ≡ e.stored ++ writes_from lo (take m events)) same W.stored;
+  memory = λ is. cc;
+  past = W.past;
+}

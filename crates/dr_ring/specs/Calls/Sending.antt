@@ -8,7 +8,7 @@ use Rattle.dr_core.specs.declared.command.Claimed.{Claimed}
 use Rattle.dr_core.specs.declared.ends.Trouble.TheVariants.{Memory}
 use Rattle.dr_core.specs.declared.ends.Wrote.{Wrote}
 use Rattle.dr_core.specs.Meaning.Refusals.{ClaimTests, claim_causes}
-use Rattle.dr_core.specs.Calls.Ends.{Verdict, IsAnswerOf, GivesStretch, WriteAnswers, PublishAnswers, Claims, Writes, Publishes, as_end}
+use Rattle.dr_core.specs.Calls.Ends.{Verdict, IsAnswerOf, GivesStretch, WriteAnswers, WriteAllAnswers, PublishAnswers, Claims, Writes, WritesAll, Publishes, as_end}
 use Rattle.dr_graph.specs.Meaning.Graph.{finals}
 use Rattle.dr_runs.specs.Words.{halt_word}
 use Rattle.dr_runs.specs.declared.look.Look.{Look}
@@ -106,9 +106,11 @@ abbrev pub writes_from : ℕ → List Event → List Step
 writes_from lo [] = []
 writes_from lo (event ∷ events) = SenderStoresFirst lo event.first ∷ SenderStoresSecond event.second ∷ writes_from (lo + 1) events
 
--- many writes: those events are stored that are written, and nothing else, and memory is never wanting
+-- many writes: each is answered by what the end knows, those events are stored that are written, and nothing else, and memory is never wanting
 pub record WriteAllCall (e : SenderEnd) (lo : ℕ) (events : List Event) (e' : SenderEnd) (answer : Wrote) : Type 0 where
   pub place : sender_place e' ≡ sender_place e
+  pub answers : WriteAllAnswers (Some e.knows.sent) lo (length events) answer
+  pub sent : WritesAll lo (take answer.count events) e.knows.sent e'.knows.sent
   pub only : OnlySends e.knows e'.knows
   pub stored : e'.stored ≡ e.stored ++ writes_from lo (take answer.count events)
   pub memory : answer.trouble ≢ Some Memory
