@@ -22,7 +22,8 @@ use Rattle.dr_replay.specs.Meaning.Exchange.{lock_setup, setup_for}
 use Rattle.dr_replay.specs.Meaning.Scripts.{producers_in, script_in, scripts_in}
 use Rattle.dr_accounts.specs.Report.{report_of}
 use Rattle.dr_replay.specs.Calls.Replayed.{IsReportOfMerge}
-use Rattle.dr_replay.specs.Calls.Workers.{AreStopped, AuditFinds, HandlersAreServed, IsFirstOf, IsMemory, IsOfAudit, IsOfLock, IsOfMerge, IsOfWorkers, audit_fault}
+use Rattle.dr_replay.specs.Calls.RingRuns.{CameOf, RunOver}
+use Rattle.dr_replay.specs.Calls.Workers.{AreStopped, AreThrough, AuditFinds, HandlersAreServed, IsFirstOf, IsMemory, IsOfAudit, IsOfLock, IsOfMerge, IsOfWorkers, audit_fault}
 use Rattle.dr_replay.specs.Calls.Workers.{endings_of, lock_endings, replay_fault, ring_workers}
 
 -- whether a fault may be answered for workers
@@ -54,6 +55,14 @@ of_workers : (may_stop : ℕ → Type 0) (ran : Ran) (e : ReplayFault) → AreSt
 of_workers may_stop ran (fault.File f) stopped served is = only_memory (endings_of ran) f is
 of_workers may_stop ran (fault.Worker who f) stopped served is = (endings_of ran, refl, served, record { stopped = stopped; first = is })
 of_workers may_stop ran (fault.Audit f) stopped served is = no_other (endings_of ran) (fault.Audit f) refl is
+
+-- what a run over a new ring came to is what is answered
+pub came_of : {A : Type 0} {may_stop must_stop : ℕ → ℕ → Type 0} {size : ℕ} (events : List Event) (over : RunOver may_stop must_stop size events) (r : Result A ReplayFault)
+    → IfOk r (λ x. AreThrough events over.ran) → IfErr r (IsFirstOf (endings_of over.ran)) → CameOf may_stop must_stop size r events
+came_of events over (Ok x) through first = (over, through)
+came_of events over (Err (fault.Worker who f)) through first = (over, first)
+came_of events over (Err (fault.Audit f)) through first = no_other (endings_of over.ran) (fault.Audit f) refl first
+came_of events over (Err (fault.File f)) through first = tt
 
 pub ends_of_workers : {A : Type 0} (may_stop : ℕ → Type 0) (ran : Ran) (r : Result A ReplayFault) → AreStopped may_stop (endings_of ran) → HandlersAreServed (endings_of ran)
     → IfErr r (IsFirstOf (endings_of ran)) → IfErr r (IsOfWorkers may_stop ring_workers)

@@ -16,6 +16,7 @@ ghost use Rattle.dr_shared.specs.Meaning.FirstFault.{first_fault as first_of};
 ghost use Rattle.dr_shared.specs.Meaning.Work.{LeavesNothingOpen};
 ghost use Rattle.dr_shared.specs.declared.fault.WorkFault.TheVariants.{Stopped};
 ghost use Rattle.dr_replay.specs.Meaning.EventFile.{events_of as events_in};
+ghost use Rattle.dr_replay.specs.Calls.RingRuns.{CameOf};
 ghost use Rattle.dr_replay.specs.Calls.Workers.{AreThrough, IsFirstOf, IsFirstOfSome, IsOfWorkers, IsRun, IsSending, NoneHadToStop, Says, endings_of, ends_of, ring_workers};
 
 use crate::event_file::read_events;
@@ -274,6 +275,7 @@ fn report<R: Threads + Wait + Sync, G: Gate + Sync>(
     ensures text { IfOk result (λ text. string_bytes text ≡ report_of events.now) }
     ensures stops { IfOk result (λ text. NoneHadToStop (G.must_stop gate.now) events.now) }
     ensures first { IfErr result (IsOfWorkers (MayStop G.may_stop gate.now) ring_workers) }
+    ensures ran { CameOf (G.may_stop gate.now) (G.must_stop gate.now) size result events.now }
 {
     let graph = graph(alloc)?;
     let Ok((sender, receivers, halter)) = ring(alloc, &graph, size, MAX_LIMIT) else {
@@ -311,6 +313,8 @@ pub fn replay_ring<S: Threads + Wait + Sync, R: Read, W: Write, G: Gate + Sync>(
     ensures first { IfErr result (IsFirstOfSome (MayStop G.may_stop gate.now) ring_workers) }
     // A gate that has to stop a worker at its first turn, where there is an event, leaves no report.
     ensures stops { IfSome (R.remaining (inner_of reader.old)) (λ input. IfOk result (λ _. IfOk (events_in input) (NoneHadToStop (G.must_stop gate.now)))) }
+    // The file's events went through a new ring of this size by workers that passed this gate, and a worker's fault is the first of such workers'.
+    ensures ran { IfSome (R.remaining (inner_of reader.old)) (λ input. IfOk (events_in input) (CameOf (G.may_stop gate.now) (G.must_stop gate.now) size result)) }
     // A failed read or write is answered where one failed, and nowhere else.
     ensures counted { ReplayCounts result (faults_of reader.old) (faults_of reader.new) (faults_of writer.old) (faults_of writer.new) }
 {

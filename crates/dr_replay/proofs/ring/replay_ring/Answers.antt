@@ -4,7 +4,7 @@ use Rattle.dr_files.specs.Counting.{inner_of}
 use Rattle.dr_files.specs.declared.fault.FileFault.TheVariants as file
 use Rattle.dr_replay.specs.Calls.Replayed.{ReplayWrites, replay_text}
 use Rattle.dr_replay.specs.declared.fault.ReplayFault.TheVariants as fault
-use Rattle.dr_replay.proofs.Reporting.{at_exit, cut_report}
+use Rattle.dr_replay.proofs.Reporting.{at_exit, came_of_file, cut_report}
 use Rattle.dr_replay.proofs.ring.replay_ring.Goals as goal
 
 pub returns-in_err-write_text-clause-bytes : goal.returns-in_err-write_text-clause-bytes
@@ -17,3 +17,9 @@ returns-in_err-write_text-clause-bytes g c =
     (λ r. IfSome input (λ bytes. ReplayWrites r old new (replay_text bytes)))
     c.from_residual-in_err-write_text.ensures.1
     (cut_report old new input c.in_ok-events.events.items c.as_bytes.result.now c.in_ok-events.ensures.file same c.in_err-write_text.ensures.0)
+
+pub returns-clause-ran : goal.returns-clause-ran
+returns-clause-ran g c =
+    let gate = c.args.gate.now in
+    came_of_file (g.G.Gate.may_stop gate) (g.G.Gate.must_stop gate) c.args.size (g.R.Read.remaining (inner_of c.args.reader.now)) c.as_slice.result.now c.in_ok-events.events.items
+    c.in_ok-text.text c.as_slice.ensures.value c.in_ok-events.ensures.file c.in_ok-text.ensures.ran

@@ -2,13 +2,14 @@ use Rattle.std.proofs.Common.{◌≡◌, [], ap}
 use Rattle.dr_ring.specs.declared.record.SenderRecord.{SenderRecord}
 use Rattle.dr_shared.specs.Calls.Stops.{MayStop}
 use Rattle.dr_replay.specs.Calls.Workers.{Says}
-use Rattle.dr_replay.proofs.Endings.{ends_of_workers}
+use Rattle.dr_replay.proofs.Endings.{came_of, ends_of_workers}
 use Rattle.dr_replay.proofs.Heeding.{run_heeds, where_ok}
-use Rattle.dr_replay.proofs.Settled.{AreThree, are_three, run_says}
+use Rattle.dr_replay.proofs.Settled.{AreThree, are_three, run_over, run_says}
 use Rattle.dr_replay.proofs.Stopping.{run_served, run_stopped}
 use Rattle.dr_replay.proofs.ring.report.Goals as goal
 
 pub returns : goal.returns
+unfolding run_over
 returns g c =
     let ran = c.in_ok-ran.ran in
     let is = c.in_ok-ran.ensures in
@@ -23,4 +24,6 @@ returns g c =
       stops = where_ok c.finish.result (run_heeds _ _ _ events _ _ _ _ ran is three.journal three.replica three.business) (c.finish.ensures.received events says);
       first = ends_of_workers (MayStop g.G.Gate.may_stop c.args.gate.now) ran _ (run_stopped (g.G.Gate.may_stop c.args.gate.now) _ _ _ _ _ ran is)
           (run_served _ _ _ _ _ ran is three.journal_from three.replica_from three.business_from) c.finish.ensures.first;
+      ran = came_of events (run_over _ events _ _ _ ends.0 ends.1 ends.2 ran c.in_ok-graph.ensures.graph made c.three-journal.ensures is) c.finish.result
+          (c.finish.ensures.received events says) c.finish.ensures.first;
     }
