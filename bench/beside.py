@@ -12,7 +12,8 @@
 
 The others are the rings of bench/plain/exchanges, which `rustc` builds, and LMAX's own, where `javac` and
 the library are there (Debian's package libdisruptor-java; `--lmax JAR` names another place): `lmax` claims
-by `next`, which parks where there is no room, and `lmax-try` by `tryNext`, again and again. All run in
+by `next`, which parks where there is no room, and `lmax-try` by `tryNext`, again and again. `c` is our
+rings of words from C, where `--library FOLDER` names what `make lib` left. All run in
 turns, `--turns N` times (three without it), each for `--rounds N` rounds of `--seconds S`, of which the one
 in the middle counts; the best of a program's turns is taken. `--under WORDS` starts each run by these
 words, as 'chrt -r 10' (other work on the machine then counts for less) or 'taskset -c 0,1'.
@@ -31,10 +32,11 @@ from records import RATES, Records
 
 PLAIN = os.path.join(TOP, "bench", "plain", "exchanges", "main.rs")
 LMAX = os.path.join(TOP, "bench", "lmax", "Lmax.java")
+RATES_OF_C = os.path.join(TOP, "bench", "c", "rates.c")
 SHAPES = ("unicast", "pipeline", "multicast", "diamond")
 SIZES = (64, 1024, 65536)
 ONE_THREAD = ("ours", "ring", "deque", "lmax")
-THREADS = ("ours", "words", "mutex", "lmax", "lmax-try")
+THREADS = ("ours", "c", "words", "mutex", "lmax", "lmax-try")
 
 
 class Programs:
@@ -50,6 +52,12 @@ class Programs:
         subprocess.run(["rustc", "--edition", "2021", "-O", "-o", plain, PLAIN], check=True)
         for kind in ("ring", "deque", "words", "mutex"):
             self.words[kind] = [plain, kind]
+        if given.library:
+            over_c = os.path.join(folder, "rates")
+            library = os.path.join(given.library, "libdisruptor.a")
+            flags = ["-std=c11", "-O2", "-I", os.path.join(TOP, "include")]
+            subprocess.run(["cc", *flags, "-o", over_c, RATES_OF_C, library, "-lpthread"], check=True)
+            self.words["c"] = [over_c]
         if shutil.which("javac") and os.path.exists(given.lmax):
             subprocess.run(["javac", "-cp", given.lmax, "-d", folder, LMAX], check=True)
             java = ["java", "-cp", f"{given.lmax}{os.pathsep}{folder}", "Lmax"]
@@ -109,7 +117,7 @@ def table(programs):
 def grow(programs, word, steps):
     """A row a step, which is what it is called, a topology and a size."""
     for prefix, kinds in (("core-", ONE_THREAD), ("", THREADS)):
-        kinds = [kind for kind in programs.of(kinds) if not kind.startswith("lmax")]
+        kinds = [kind for kind in programs.of(kinds) if kind != "c" and not kind.startswith("lmax")]
         print_head([word] + kinds)
         for name, topology, size in steps:
             print_row(name, programs, kinds, prefix + topology, size)
@@ -134,7 +142,7 @@ def producers(programs):
 
 def senders(programs):
     """The ring with several senders beside plain words, and LMAX's with several producers."""
-    kinds = programs.of(("ours", "words", "lmax", "lmax-try"))
+    kinds = programs.of(("ours", "c", "words", "lmax", "lmax-try"))
     print_head(["senders", "events a claim"] + kinds)
     for count in (1, 2, 3, 4, 8, 16):
         for claim in (1, 10, 100):
@@ -163,6 +171,7 @@ def main():
     parser.add_argument("what", choices=["table", "sizes", "handlers", "claims", "widths", "producers", "senders", "few"])
     parser.add_argument("--program", default=PROGRAM)
     parser.add_argument("--lmax", default="/usr/share/java/disruptor.jar")
+    parser.add_argument("--library", metavar="FOLDER")
     parser.add_argument("--under", default="")
     parser.add_argument("--seconds", type=float, default=0.2, help="of a round")
     parser.add_argument("--rounds", type=int, default=5)
