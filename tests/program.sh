@@ -115,7 +115,7 @@ done
 
 # Help.
 run 0 $'A verified LMAX Disruptor: producers and handlers over one ring of slots\n\nUsage: disruptor <COMMAND>\n*' '' --help
-run 0 $'Run a file of commands, and print one line a command\n\nUsage: disruptor drive <FILE>\n*' '' drive --help
+run 0 $'Run a file of commands, and print one line a command\n\nUsage: disruptor drive [OPTIONS] <FILE>\n*' '' drive --help
 run 0 $'Replay a file of account movements, and print a report of them\n\nUsage: disruptor replay [OPTIONS] <FILE>\n*' '' replay --help
 run 0 $'Replay a file of account movements, and print a report of them\n*' '' help replay
 run 0 $'Check a file for drive or replay, and say where it is at fault\n*' '' check --help
@@ -212,8 +212,39 @@ for words in "drive $room/many.csv" "replay $room/deposits.csv" 'check replay ac
     judge "$words | true" "$(cat "$room/status")" 4 '' ''
 done
 
-# A fault of the input is told, although its lines cannot be written.
+# Output to a file, which is written whole or not at all, and leaves nothing beside it.
+run_into() { # STATUS ERR TEXT-THAT-IS-LEFT WORD..
+    local status=$1 err=$2 left=$3
+    shift 3
+    mkdir "$room/into"
+    printf 'old' > "$room/into/text"
+    "$program" "$@" --output "$room/into/text" > "$room/out" 2> "$room/err" < /dev/null
+    judge "$* --output" $? "$status" '' "$err"
+    holds "$* --output" "left $(head -c 300 "$room/into/text")" matches "$room/into/text" "$left"
+    holds "$* --output" "left $(ls "$room/into")" [ "$(ls "$room/into")" = text ]
+    rm -r "$room/into"
+}
+run_into 0 '' $'claimed 0 0\nwritten\npublished\nbatch 0 end 42\ncompleted\n' drive first_event.csv
+for way in plain ring lock; do
+    run_into 0 '' 'journal 6*' replay --by $way accounts.csv
+    run_into 4 $'cannot read\n' old replay --by $way no-such-file.csv
+done
 printf 'ring,4,single\nwith,a\nstart\nclaim,0,1\njump\n' > "$room/jump.csv"
+run_into 2 $'record 5: bad record\n' old drive "$room/jump.csv"
+run 4 '' $'cannot write\n' drive --output no-such-folder/text first_event.csv
+run 4 '' $'cannot write\n' drive --output "$room" first_event.csv
+run_into_limited() { # WORD..
+    mkdir "$room/into"
+    printf 'old' > "$room/into/text"
+    (trap '' XFSZ && ulimit -f 1 && exec "$program" "$@" --output "$room/into/text") > "$room/out" 2> "$room/err" < /dev/null
+    judge "$* --output, where a file may not grow" $? 4 '' $'cannot write\n'
+    holds "$* --output, where a file may not grow" "left $(ls "$room/into")" [ "$(cat "$room/into/text") $(ls "$room/into")" = 'old text' ]
+    rm -r "$room/into"
+}
+run_into_limited drive "$room/many.csv"
+run_into_limited replay "$room/deposits.csv"
+
+# A fault of the input is told, although its lines cannot be written.
 run_full 2 $'record 5: bad record\n' drive "$room/jump.csv"
 # Where standard error is closed, the status tells the fault.
 "$program" drive no-such-file.csv > "$room/out" 2>&- < /dev/null

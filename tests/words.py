@@ -27,11 +27,12 @@ LINES = {
     ("check", "-"): {"--help"},
     ("check", "replay", "README"): {"README.md"},
     ("help", "d"): {"drive"},
-    ("replay", "--"): {"--size", "--by", "--help"},
+    ("replay", "--"): {"--size", "--by", "--output", "--help"},
     ("replay", "--by", ""): {"plain", "lock", "ring"},
     ("replay", "--size", ""): SIZES,
     ("replay", "--size", "4"): {size for size in SIZES if size.startswith("4")},
-    ("drive", "-"): {"--help"},
+    ("drive", "-"): {"--output", "--help"},
+    ("drive", "--output", "README"): {"README.md"},
     ("drive", "README"): {"README.md"},
 }
 

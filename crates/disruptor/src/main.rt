@@ -1,10 +1,13 @@
 //! The program: it reads its command line, opens what that names, and hands it to a tool. Output
-//! goes to standard output, and the line of a fault to standard error.
+//! goes to standard output or the file that is asked for, and the line of a fault to standard error.
 #![tactic(auto)]
 
 ghost use Rattle.std.specs.Prelude.{◌≡◌, Some};
 ghost use Rattle.disruptor.specs.Faults.{program_line, program_status};
 
+mod output;
+
+use crate::output::{Printed, is_gone, part_of, put_in_place};
 use dr_check::{CheckFault, check_drive, check_replay};
 use dr_command_line::{By, LineFault, Plan, Tool, plan};
 use dr_drive::drive;
@@ -12,7 +15,7 @@ use dr_replay::{Counted, FileFault, ReplayFault, replay_lock, replay_plain, repl
 use dr_seq::Size;
 use dr_shared::OpenGate;
 use std::alloc::Global;
-use std::fs::File;
+use std::fs::{self, File};
 use std::io::{BufWriter, Read, Write};
 use std::process::ExitCode;
 use std::sync::Wait;
@@ -82,34 +85,6 @@ enum Task {
     Replay { size: Size, by: By },
 }
 
-/// Standard output, and whether a write to it found that its reader has gone.
-#[derive(Drop)]
-struct Output<'a> {
-    to: &'a HostRuntime,
-    is_gone: bool,
-}
-
-impl Write for Output<'_> {
-    fn write(&mut self, buf: &[u8]) -> io::Result<usize> {
-        match io::writer(self.to).write(buf) {
-            Ok(count) => Ok(count),
-            Err(error) => {
-                self.is_gone = is_gone(&error);
-                Err(error)
-            }
-        }
-    }
-
-    fn flush(&mut self) -> io::Result<()> {
-        Ok(())
-    }
-}
-
-// Whether a write failed since nobody reads any longer.
-fn is_gone(error: &io::Error) -> bool {
-    error.kind() == io::ErrorKind::BrokenPipe
-}
-
 // Runs a tool over an input; `workers` starts and joins the threads. The output is counted below its
 // buffer too, so that the buffer, which writes out what it still holds when it is let go, leaves it
 // alone once it failed.
@@ -143,29 +118,75 @@ fn run_over<R: Read + Drop, W: Write + Drop, T: Threads + Wait + Sync>(
     Ok(())
 }
 
+// Runs a tool over an input, and prints what it says.
+fn print_run<R: Read + Drop, T: Threads + Wait + Sync>(
+    rt: &HostRuntime,
+    workers: &T,
+    input: R,
+    task: Task,
+) -> Result<(), Fault> {
+    let mut output = Printed::new(rt);
+    match run_over(workers, rt.alloc(), input, &mut output, task) {
+        Ok(()) => Ok(()),
+        Err(ReplayFault::File(FileFault::Write)) if output.is_gone() => Err(Fault::Gone),
+        Err(fault) => Err(Fault::File(fault)),
+    }
+}
+
+// Runs a tool over an input, and writes what it says to a file beside the named one, which takes its
+// place once all is written. Where it is not, that file is removed.
+fn write_run<R: Read + Drop, T: Threads + Wait + Sync>(
+    rt: &HostRuntime,
+    workers: &T,
+    input: R,
+    path: &str,
+    task: Task,
+) -> Result<(), ReplayFault> {
+    let Ok(part) = part_of(rt.alloc(), path) else {
+        return Err(ReplayFault::File(FileFault::Memory));
+    };
+    let Ok(mut output) = File::create(rt, part.as_str()) else {
+        return Err(ReplayFault::File(FileFault::Write));
+    };
+    let mut ran = run_over(workers, rt.alloc(), input, &mut output, task);
+    if ran.is_ok() && put_in_place(rt, &output, part.as_str(), path).is_err() {
+        ran = Err(ReplayFault::File(FileFault::Write));
+    }
+    if ran.is_err() {
+        // Where even this fails, the file stays beside the named one, which is as it was.
+        let _removed = fs::remove_file(rt, part.as_str());
+    }
+    ran
+}
+
+// Runs a tool over an input, and says it where the command line asks for it.
+fn run_input<R: Read + Drop, T: Threads + Wait + Sync>(
+    rt: &HostRuntime,
+    workers: &T,
+    input: R,
+    output: Option<String>,
+    task: Task,
+) -> Result<(), Fault> {
+    match output {
+        None => print_run(rt, workers, input, task),
+        Some(path) => write_run(rt, workers, input, path.as_str(), task).map_err(Fault::File),
+    }
+}
+
 // Runs a tool over a file, or over standard input where its name is `-`.
 fn run_file<T: Threads + Wait + Sync>(
     rt: &HostRuntime,
     workers: &T,
     file: &str,
+    output: Option<String>,
     task: Task,
 ) -> Result<(), Fault> {
-    let mut output = Output {
-        to: rt,
-        is_gone: false,
-    };
-    let ran = if file == "-" {
-        run_over(workers, rt.alloc(), rt.stdin(), &mut output, task)
-    } else {
-        match File::open(rt, file) {
-            Ok(file) => run_over(workers, rt.alloc(), file, &mut output, task),
-            Err(_) => Err(ReplayFault::File(FileFault::Read)),
-        }
-    };
-    match ran {
-        Ok(()) => Ok(()),
-        Err(ReplayFault::File(FileFault::Write)) if output.is_gone => Err(Fault::Gone),
-        Err(fault) => Err(Fault::File(fault)),
+    if file == "-" {
+        return run_input(rt, workers, rt.stdin(), output, task);
+    }
+    match File::open(rt, file) {
+        Ok(file) => run_input(rt, workers, file, output, task),
+        Err(_) => Err(Fault::File(ReplayFault::File(FileFault::Read))),
     }
 }
 
@@ -205,13 +226,18 @@ fn check_file(rt: &HostRuntime, tool: Tool, file: &str) -> Result<(), Fault> {
 }
 
 fn run<T: Threads + Wait + Sync>(rt: &HostRuntime, workers: &T) -> Result<(), Fault> {
-    let (file, task) = match read_plan(rt).map_err(Fault::Line)? {
+    let (file, output, task) = match read_plan(rt).map_err(Fault::Line)? {
         Plan::Help(text) => return print(rt, text),
         Plan::Check { tool, file } => return check_file(rt, tool, file.as_str()),
-        Plan::Drive { file } => (file, Task::Drive),
-        Plan::Replay { file, size, by } => (file, Task::Replay { size, by }),
+        Plan::Drive { file, output } => (file, output, Task::Drive),
+        Plan::Replay {
+            file,
+            size,
+            by,
+            output,
+        } => (file, output, Task::Replay { size, by }),
     };
-    run_file(rt, workers, file.as_str(), task)
+    run_file(rt, workers, file.as_str(), output, task)
 }
 
 fn main(rt: HostRuntime) -> ExitCode {

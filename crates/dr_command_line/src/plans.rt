@@ -35,10 +35,18 @@ pub enum Plan {
     Help(String),
     /// Look whether a file for this tool is at fault.
     Check { tool: Tool, file: String },
-    /// Run the commands of a file.
-    Drive { file: String },
-    /// Replay the operations of a file, through a ring of this size.
-    Replay { file: String, size: Size, by: By },
+    /// Run the commands of a file, and write to the named file or else to standard output.
+    Drive {
+        file: String,
+        output: Option<String>,
+    },
+    /// Replay the operations of a file, through a ring of this size, and write likewise.
+    Replay {
+        file: String,
+        size: Size,
+        by: By,
+        output: Option<String>,
+    },
 }
 
 /// Why a command line is refused. Its text is the line that a program prints.

@@ -15,6 +15,8 @@ const DRIVE: &str = "Run a file of commands, and print one line a command";
 
 const FILE: &str = "The file of commands, one record a line; - is standard input";
 
+const OUTPUT: &str = "Write to this file, whole or not at all, and not to standard output";
+
 const EXAMPLE: &str = "\
 A file sets up a ring, its limit and its handlers, and then gives commands. This
 one can be copied as it stands:
@@ -142,6 +144,14 @@ record. It ends with 0 where all is well, 1 where the command line is at fault,
 2 where the file is at fault, 3 if memory runs out and 4 where reading or writing
 failed.";
 
+// The option that names where a tool writes to.
+fn output_option<'a>(alloc: Global) -> Arg<'a> {
+    Arg::new(alloc, "output")
+        .long("output")
+        .value_name("FILE")
+        .help(OUTPUT)
+}
+
 fn check_command<'a>(alloc: Global) -> Result<Command<'a>, AllocError> {
     let tool = Arg::new(alloc, "tool")
         .value_name("TOOL")
@@ -181,6 +191,7 @@ fn replay_command<'a>(alloc: Global) -> Result<Command<'a>, AllocError> {
         .after_help(REPLAY_EXAMPLE)
         .arg(size)?
         .arg(by)?
+        .arg(output_option(alloc))?
         .arg(file)
 }
 
@@ -192,6 +203,7 @@ fn command<'a>(alloc: Global) -> Result<Command<'a>, AllocError> {
     let drive = Command::new(alloc, "drive")
         .about(DRIVE)
         .after_help(EXAMPLE)
+        .arg(output_option(alloc))?
         .arg(file)?;
     Command::new(alloc, "disruptor")
         .about(ABOUT)
@@ -229,6 +241,14 @@ fn file_of(alloc: Global, matches: &ArgMatches<'_>) -> Result<String, AllocError
     }
 }
 
+// The word of `--output`, if the command line has it.
+fn output_of(alloc: Global, matches: &ArgMatches<'_>) -> Result<Option<String>, AllocError> {
+    match matches.get_str("output") {
+        Some(output) => Ok(Some(String::from_str(alloc, output)?)),
+        None => Ok(None),
+    }
+}
+
 fn replay_plan(alloc: Global, matches: &ArgMatches<'_>) -> Result<Plan, LineFault> {
     let slots: Option<u64> = matches.get_one("size");
     let Ok(size) = Size::new(slots.unwrap_or(USUAL_SIZE)) else {
@@ -240,7 +260,13 @@ fn replay_plan(alloc: Global, matches: &ArgMatches<'_>) -> Result<Plan, LineFaul
         Some("ring") => By::Ring,
         _ => By::Plain,
     };
-    Ok(Plan::Replay { file, size, by })
+    let output = output_of(alloc, matches)?;
+    Ok(Plan::Replay {
+        file,
+        size,
+        by,
+        output,
+    })
 }
 
 fn check_plan(alloc: Global, matches: &ArgMatches<'_>) -> Result<Plan, AllocError> {
@@ -264,9 +290,9 @@ pub fn plan(alloc: Global, words: &[String]) -> Result<Plan, LineFault> {
     if let Some(matches) = matches.subcommand_matches("check") {
         return Ok(check_plan(alloc, matches)?);
     }
-    let file = match matches.subcommand_matches("drive") {
-        Some(matches) => file_of(alloc, matches)?,
-        None => String::new(alloc),
+    let (file, output) = match matches.subcommand_matches("drive") {
+        Some(matches) => (file_of(alloc, matches)?, output_of(alloc, matches)?),
+        None => (String::new(alloc), None),
     };
-    Ok(Plan::Drive { file })
+    Ok(Plan::Drive { file, output })
 }

@@ -22,7 +22,7 @@ fn planned(alloc: Global, words: &[&str]) -> Result<Result<Plan, LineFault>, Fai
 #[test]
 fn a_file_to_drive(rt: HostRuntime) -> Result<(), Fail> {
     let asked = planned(rt.alloc(), &["disruptor", "drive", "a file.csv"])?;
-    assert!(rt; matches!(&asked, Ok(Plan::Drive { file }) if file.as_str() == "a file.csv"));
+    assert!(rt; matches!(&asked, Ok(Plan::Drive { file, output: None }) if file.as_str() == "a file.csv"));
     Ok(())
 }
 
@@ -30,6 +30,16 @@ fn a_file_to_drive(rt: HostRuntime) -> Result<(), Fail> {
 fn help(rt: HostRuntime) -> Result<(), Fail> {
     let asked = planned(rt.alloc(), &["disruptor", "drive", "--help"])?;
     assert!(rt; matches!(&asked, Ok(Plan::Help(text)) if text.as_str().contains("claimed 0 0")));
+    Ok(())
+}
+
+#[test]
+fn an_output(rt: HostRuntime) -> Result<(), Fail> {
+    let alloc = rt.alloc();
+    let driven = planned(alloc, &["disruptor", "drive", "--output", "said", "a.csv"])?;
+    assert!(rt; matches!(&driven, Ok(Plan::Drive { file, output: Some(output) }) if file.as_str() == "a.csv" && output.as_str() == "said"));
+    let replayed = planned(alloc, &["disruptor", "replay", "--output=said", "a.csv"])?;
+    assert!(rt; matches!(&replayed, Ok(Plan::Replay { output: Some(output), .. }) if output.as_str() == "said"));
     Ok(())
 }
 
@@ -81,7 +91,7 @@ fn check_replay(rt: &impl Abort, alloc: Global, words: &[&str], slots: u64) -> R
     assert!(rt;
         matches!(
             &asked,
-            Ok(Plan::Replay { file, size, by: By::Plain })
+            Ok(Plan::Replay { file, size, by: By::Plain, output: None })
                 if file.as_str() == "day.csv" && size.get() == slots
         )
     );

@@ -7,6 +7,7 @@ complete -c disruptor -n __fish_use_subcommand -s V -l version -d 'Print the ver
 complete -c disruptor -s h -l help -d 'Print help'
 complete -c disruptor -n '__fish_seen_subcommand_from replay' -l size -x -d 'Slots of the ring' \
     -a '1 2 4 8 16 32 64 128 256 512 1024 2048 4096 8192 16384 32768 65536'
+complete -c disruptor -n '__fish_seen_subcommand_from drive replay' -l output -r -d 'Write to this file'
 complete -c disruptor -n '__fish_seen_subcommand_from replay' -l by -x -d 'By which exchange' -a 'plain lock ring'
 complete -c disruptor -n '__fish_seen_subcommand_from check; and not __fish_seen_subcommand_from drive replay' -f -a 'drive replay'
 complete -c disruptor -n '__fish_seen_subcommand_from help' -f -a 'drive replay check help'
