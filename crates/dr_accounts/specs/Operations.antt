@@ -40,9 +40,13 @@ movement_of e =
     else if code_of e == 3 then Transfer (account_of e) (e.second / 2 ^ 48 % 65536) (e.second % 2 ^ 48)
     else Deposit (account_of e) (e.first % 2 ^ 32)
 
+-- the producer of an event
+abbrev pub producer_of : Event → ℕ
+producer_of e = e.first / 2 ^ 56
+
 -- the operation that an event carries
 abbrev pub operation_of : Event → Operation
-operation_of e = record { producer = e.first / 2 ^ 56; movement = movement_of e }
+operation_of e = record { producer = producer_of e; movement = movement_of e }
 
 -- a movement in the words of the event file
 abbrev pub movement_text : Movement → List ℕ

@@ -19,7 +19,7 @@ mod worker;
 
 pub use business::Business;
 pub use journal::Journal;
-pub use operation::{Movement, Operation};
+pub use operation::{Movement, Operation, producer_of};
 pub use replica::Replica;
 pub use reporter::{Reporter, part};
 pub use through_core::report_by_core;

@@ -1,7 +1,7 @@
 //! What an event of the replay says: a producer moves an amount between accounts.
 
 ghost use Rattle.std.specs.Prelude.{◌≡◌};
-ghost use Rattle.dr_accounts.specs.Operations.{IsOperation, event_for as event_in, operation_of as operation_in};
+ghost use Rattle.dr_accounts.specs.Operations.{IsOperation, event_for as event_in, operation_of as operation_in, producer_of as producer_in};
 
 use dr_seq::Event;
 
@@ -41,6 +41,13 @@ const WITHDRAW: u64 = 2;
 
 const TRANSFER: u64 = 3;
 
+/// The producer of the operation that an event carries.
+pub fn producer_of(event: Event) -> u8
+    ensures { result ≡ producer_in event }
+{
+    (event.first / PRODUCER) as u8
+}
+
 impl Operation {
     /// The event that carries an operation. The places in its words are this project's own.
     pub fn event(self) -> Event
@@ -69,7 +76,7 @@ impl Operation {
     pub fn of(event: Event) -> Operation
         ensures { result ≡ operation_in event }
     {
-        let producer = (event.first / PRODUCER) as u8;
+        let producer = producer_of(event);
         let account = (event.first / ACCOUNT % 65536) as u16;
         let amount = event.first % ACCOUNT;
         let movement = match event.first / CODE % 256 {
