@@ -2,6 +2,7 @@
 
 use dr_graph::{Graph, GraphBuilder, GraphFault, Group};
 use std::alloc::Global;
+use std::process::Abort;
 
 /// Who follows whom.
 #[derive(Clone, Copy)]
@@ -34,8 +35,12 @@ fn declare(builder: &mut GraphBuilder, shape: Shape) -> Result<(), GraphFault> {
     }
 }
 
-pub fn graph(alloc: Global, shape: Shape) -> Result<Graph, GraphFault> {
+fn built(alloc: Global, shape: Shape) -> Result<Graph, GraphFault> {
     let mut builder = GraphBuilder::new(alloc);
     declare(&mut builder, shape)?;
     builder.build()
+}
+
+pub fn graph(rt: &impl Abort, alloc: Global, shape: Shape) -> Graph {
+    built(alloc, shape).expect(rt, "a graph")
 }

@@ -7,18 +7,23 @@ use dr_disruptor::{RunFault, WaitStrategy, run, run_waiting, run_with};
 use dr_graph::Graph;
 use dr_seq::{Event, Size};
 use dr_shared::{OpenGate, produce};
-use std::alloc::{AllocError, Global};
+use std::alloc::Global;
 use std::process::Abort;
 use std::sync::Wait;
-use std::test::Fail;
 use std::thread::Threads;
 
-fn script(alloc: Global) -> Result<Vec<Event>, AllocError> {
+fn script(rt: &impl Abort, alloc: Global) -> Vec<Event> {
     let mut events = Vec::new(alloc);
     for first in 0..1000 {
-        events.push(Event { first, second: 0 })?;
+        let pushed = events.push(Event { first, second: 0 });
+        pushed.expect(rt, "memory");
     }
-    Ok(events)
+    events
+}
+
+/// The handlers of a diamond at their beginning.
+fn handlers(rt: &impl Abort, alloc: Global, last: u64) -> Vec<Work> {
+    vec![in alloc; Work::Sum(0), Work::Keep(0), Work::Sum(last)].expect(rt, "memory")
 }
 
 /// What the handlers of a diamond come to, where all is done.
@@ -27,98 +32,94 @@ fn worked<R: Threads + Wait + Abort + Copy + Send + 'static>(
     alloc: Global,
     graph: &Graph,
     script: &[Event],
-) -> Result<Vec<Work>, Fail> {
-    let size = Size::new(8)?;
-    let handlers = vec![in alloc; Work::Sum(0), Work::Keep(0), Work::Sum(1)]?;
-    let ran = run(rt, alloc, graph, size, handlers, script)?;
+) -> Vec<Work> {
+    let size = Size::new(8).expect(&rt, "a size");
+    let ran = run(rt, alloc, graph, size, handlers(&rt, alloc, 1), script).expect(&rt, "a run");
     check(&rt, ran.settled.published(), script.len() as u64);
-    Ok(ran.finished()?)
+    ran.finished().expect(&rt, "handlers")
 }
 
 #[test]
-fn a_script_through_a_diamond(rt: HostRuntime) -> Result<(), Fail> {
-    let graph = graph(rt.alloc(), Shape::Diamond)?;
-    let script = script(rt.alloc())?;
-    let handlers = worked(rt, rt.alloc(), &graph, script.as_slice())?;
+fn a_script_through_a_diamond(rt: HostRuntime) {
+    let graph = graph(&rt, rt.alloc(), Shape::Diamond);
+    let script = script(&rt, rt.alloc());
+    let handlers = worked(rt, rt.alloc(), &graph, script.as_slice());
     let wanted = [Work::Sum(499_500), Work::Keep(999), Work::Sum(499_501)];
     check(&rt, handlers.as_slice(), &wanted[..]);
-    Ok(())
 }
 
-fn check_handlers(rt: &impl Abort, alloc: Global, fault: &RunFault) -> Result<(), Fail> {
-    let said = format!(in alloc; "{fault}")?;
+fn check_handlers(rt: &impl Abort, alloc: Global, fault: &RunFault) {
+    let said = fault.to_string(alloc).expect(rt, "memory");
     check(
         rt,
         said.as_str(),
         "the graph has 3 handlers, and 2 were given",
     );
     assert!(rt; matches!(fault, RunFault::Handlers { graph: 3, given: 2 }));
-    Ok(())
 }
 
 #[test]
-fn a_handler_too_few(rt: HostRuntime) -> Result<(), Fail> {
-    let size = Size::new(8)?;
-    let graph = graph(rt.alloc(), Shape::Diamond)?;
-    let handlers = vec![in rt.alloc(); Work::Sum(0), Work::Keep(0)]?;
-    match run(rt, rt.alloc(), &graph, size, handlers, &[]) {
-        Err(fault) => check_handlers(&rt, rt.alloc(), &fault),
-        Ok(_) => Err("it ran".into()),
-    }
+fn a_handler_too_few(rt: HostRuntime) {
+    let size = Size::new(8).expect(&rt, "a size");
+    let graph = graph(&rt, rt.alloc(), Shape::Diamond);
+    let handlers = vec![in rt.alloc(); Work::Sum(0), Work::Keep(0)].expect(&rt, "memory");
+    let ran = run(rt, rt.alloc(), &graph, size, handlers, &[]);
+    let fault = ran.err().expect(&rt, "a fault");
+    check_handlers(&rt, rt.alloc(), &fault);
 }
 
 /// What the handlers of a diamond come to, where a closure sends an event five times.
-fn sent_by_a_closure<R: Threads + Wait + Copy + Send + 'static>(
+fn sent_by_a_closure<R: Threads + Wait + Abort + Copy + Send + 'static>(
     rt: R,
     alloc: Global,
     graph: &Graph,
     event: Event,
-) -> Result<Vec<Work>, Fail> {
-    let size = Size::new(2)?;
-    let handlers = vec![in alloc; Work::Sum(0), Work::Keep(0), Work::Sum(0)]?;
+) -> Vec<Work> {
+    let size = Size::new(2).expect(&rt, "a size");
+    let handlers = handlers(&rt, alloc, 0);
     let way = WaitStrategy::Spinning;
     let ran = run_with(rt, alloc, graph, size, handlers, way, |sender| {
         produce(&rt, sender, &OpenGate, 16, &[event; 5], 1).fault
-    })?;
-    Ok(ran.finished()?)
+    });
+    let ran = ran.expect(&rt, "a run");
+    ran.finished().expect(&rt, "handlers")
 }
 
 #[test]
-fn events_by_a_closure(rt: HostRuntime) -> Result<(), Fail> {
+fn events_by_a_closure(rt: HostRuntime) {
     let event = Event {
         first: 7,
         second: 0,
     };
-    let graph = graph(rt.alloc(), Shape::Diamond)?;
-    let handlers = sent_by_a_closure(rt, rt.alloc(), &graph, event)?;
+    let graph = graph(&rt, rt.alloc(), Shape::Diamond);
+    let handlers = sent_by_a_closure(rt, rt.alloc(), &graph, event);
     let wanted = [Work::Sum(35), Work::Keep(7), Work::Sum(35)];
     check(&rt, handlers.as_slice(), &wanted[..]);
-    Ok(())
 }
 
 /// What the handlers of a diamond come to by yielding.
-fn yielded<R: Threads + Wait + Copy + Send + 'static>(
+fn yielded<R: Threads + Wait + Abort + Copy + Send + 'static>(
     rt: R,
     alloc: Global,
     graph: &Graph,
     event: Event,
-) -> Result<Vec<Work>, Fail> {
-    let size = Size::new(8)?;
-    let handlers = vec![in alloc; Work::Sum(0), Work::Keep(0), Work::Sum(0)]?;
+) -> Vec<Work> {
+    let size = Size::new(8).expect(&rt, "a size");
+    let handlers = handlers(&rt, alloc, 0);
     let way = WaitStrategy::Yielding;
-    let ran = run_waiting(rt, alloc, graph, size, handlers, &[event; 100], way)?;
-    Ok(ran.finished()?)
+    let ran = run_waiting(rt, alloc, graph, size, handlers, &[event; 100], way);
+    let ran = ran.expect(&rt, "a run");
+    ran.finished().expect(&rt, "handlers")
 }
 
 #[test]
-fn a_script_by_yielding(rt: HostRuntime) -> Result<(), Fail> {
+fn a_script_by_yielding(rt: HostRuntime) {
     let event = Event {
         first: 3,
         second: 0,
     };
-    let graph = graph(rt.alloc(), Shape::Diamond)?;
-    let handlers = yielded(rt, rt.alloc(), &graph, event)?;
+    let graph = graph(&rt, rt.alloc(), Shape::Diamond);
+    let handlers = yielded(rt, rt.alloc(), &graph, event);
     let wanted = [Work::Sum(300), Work::Keep(3), Work::Sum(300)];
     check(&rt, handlers.as_slice(), &wanted[..]);
-    Ok(())
 }

@@ -20,5 +20,7 @@ mod rows;
 #[cfg(test)]
 mod senders;
 #[cfg(test)]
+mod threads;
+#[cfg(test)]
 mod words;
 pub mod work;

@@ -1,6 +1,6 @@
 //! The ring over plain memory, with one sender.
 
-ghost use Rattle.std.specs.Prelude.{◌≡◌, length, IfOk};
+ghost use Rattle.std.specs.Prelude.{◌≡◌, length};
 ghost use Rattle.dr_plain.specs.Calls.Settling.{AreAllEnds, IsHalterOf};
 
 mod endings;
@@ -14,7 +14,7 @@ use crate::graphs::{Shape, graph};
 use dr_plain::{Halter, Receiver, Sender, ring};
 use dr_seq::{Event, Size};
 use std::alloc::Global;
-use std::test::Fail;
+use std::process::Abort;
 
 #[derive(Drop)]
 pub struct Ends<T> {
@@ -25,29 +25,37 @@ pub struct Ends<T> {
 
 /// A ring over some events, as many as its slots.
 pub fn open<T: Drop>(
+    rt: &impl Abort,
     alloc: Global,
     shape: Shape,
     size: Size,
     limit: u64,
     events: Vec<T>,
-) -> Result<Ends<T>, Fail>
+) -> Ends<T>
     requires { length events.items ≡ size }
-    ensures { IfOk result (λ ends. AreAllEnds ends.sender ends.receivers.items × IsHalterOf ends.sender ends.halter) }
+    ensures { AreAllEnds result.sender result.receivers.items × IsHalterOf result.sender result.halter }
 {
-    let graph = graph(alloc, shape)?;
-    let (sender, receivers, halter) = ring(alloc, &graph, size, limit, events)?;
-    Ok(Ends {
+    let graph = graph(rt, alloc, shape);
+    let made = ring(alloc, &graph, size, limit, events);
+    let (sender, receivers, halter) = made.expect(rt, "a ring");
+    Ends {
         sender,
         receivers,
         halter,
-    })
+    }
 }
 
 /// A ring over events of two words.
-pub fn open_words(alloc: Global, shape: Shape, size: u64, limit: u64) -> Result<Ends<Event>, Fail>
-    ensures { IfOk result (λ ends. AreAllEnds ends.sender ends.receivers.items × IsHalterOf ends.sender ends.halter) }
+pub fn open_words(
+    rt: &impl Abort,
+    alloc: Global,
+    shape: Shape,
+    size: u64,
+    limit: u64,
+) -> Ends<Event>
+    ensures { AreAllEnds result.sender result.receivers.items × IsHalterOf result.sender result.halter }
 {
-    let size = Size::new(size)?;
-    let events = vec![in alloc; Event::NONE; size.get() as usize]?;
-    open(alloc, shape, size, limit, events)
+    let size = Size::new(size).expect(rt, "a size");
+    let events = vec![in alloc; Event::NONE; size.get() as usize].expect(rt, "memory");
+    open(rt, alloc, shape, size, limit, events)
 }

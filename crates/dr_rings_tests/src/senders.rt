@@ -1,8 +1,8 @@
 //! The ring over atomic words, with several senders.
 
-mod answers;
+mod opening;
+mod play;
 mod rows;
-mod settling;
 
 use dr_senders::{Halter, Receiver, Sender};
 

@@ -1,6 +1,5 @@
 //! The ring over atomic words, with one sender.
 
-ghost use Rattle.std.specs.Prelude.{IfOk};
 ghost use Rattle.dr_ring.specs.Calls.Settling.{AreAllEnds};
 
 mod looks;
@@ -11,7 +10,7 @@ use crate::graphs::{Shape, graph};
 use dr_ring::{Halter, Receiver, Sender, ring};
 use dr_seq::Size;
 use std::alloc::Global;
-use std::test::Fail;
+use std::process::Abort;
 
 #[derive(Drop)]
 pub struct Ends {
@@ -20,14 +19,16 @@ pub struct Ends {
     pub halter: Halter,
 }
 
-pub fn open(alloc: Global, shape: Shape, size: u64, limit: u64) -> Result<Ends, Fail>
-    ensures { IfOk result (λ ends. AreAllEnds ends.sender ends.receivers.items) }
+pub fn open(rt: &impl Abort, alloc: Global, shape: Shape, size: u64, limit: u64) -> Ends
+    ensures { AreAllEnds result.sender result.receivers.items }
 {
-    let graph = graph(alloc, shape)?;
-    let (sender, receivers, halter) = ring(alloc, &graph, Size::new(size)?, limit)?;
-    Ok(Ends {
+    let size = Size::new(size).expect(rt, "a size");
+    let graph = graph(rt, alloc, shape);
+    let made = ring(alloc, &graph, size, limit);
+    let (sender, receivers, halter) = made.expect(rt, "a ring");
+    Ends {
         sender,
         receivers,
         halter,
-    })
+    }
 }

@@ -1,6 +1,6 @@
 //! Events that own memory come back once each when the ends are brought together, whatever these have in hand.
 
-ghost use Rattle.std.specs.Prelude.{◌≡◌, IfOk};
+ghost use Rattle.std.specs.Prelude.{◌≡◌};
 ghost use Rattle.dr_plain.specs.Calls.Ends.{sender_place};
 ghost use Rattle.dr_plain.specs.Calls.Settling.{AreAllEnds, IsHalterOf};
 
@@ -8,12 +8,11 @@ use super::{Ends, open};
 use crate::checks::{check, check_at};
 use crate::graphs::Shape;
 use dr_core::{Claimed, MAX_LIMIT};
-use dr_plain::{Sender, Values, finish};
+use dr_plain::{Sender, Settled, Values, finish};
 use dr_seq::Size;
-use std::alloc::{AllocError, Global};
+use std::alloc::Global;
 use std::process::Abort;
 use std::sync::Arc;
-use std::test::Fail;
 
 // An event, and a share of what tells how many events there are.
 #[derive(Drop)]
@@ -22,11 +21,11 @@ struct Counted {
     _alive: Arc<u64>,
 }
 
-fn event(alive: &Arc<u64>, number: u64) -> Result<Counted, AllocError> {
-    Ok(Counted {
+fn event(rt: &impl Abort, alive: &Arc<u64>, number: u64) -> Counted {
+    Counted {
         number,
-        _alive: Arc::try_clone(alive)?,
-    })
+        _alive: Arc::try_clone(alive).expect(rt, "memory"),
+    }
 }
 
 // How far the ends came in a ring of four cells with two handlers: the sender, and how many events each handler took and
@@ -99,42 +98,34 @@ const MOMENTS: [Moment; 6] = [
     },
 ];
 
-fn begin(rt: &impl Abort, alloc: Global, alive: &Arc<u64>) -> Result<Ends<Counted>, Fail>
-    ensures { IfOk result (λ ends. AreAllEnds ends.sender ends.receivers.items × IsHalterOf ends.sender ends.halter) }
-{
-    let size = Size::new(4)?;
+fn four(rt: &impl Abort, alloc: Global, alive: &Arc<u64>) -> Vec<Counted> {
     let mut events = Vec::new(alloc);
     for _ in 0..4 {
-        let one = event(alive, 0)?;
-        events.push(one)?;
+        events.push(event(rt, alive, 0)).expect(rt, "memory");
     }
+    events
+}
+
+fn begin(rt: &impl Abort, alloc: Global, alive: &Arc<u64>) -> Ends<Counted>
+    ensures { AreAllEnds result.sender result.receivers.items × IsHalterOf result.sender result.halter }
+{
+    let size = Size::new(4).expect(rt, "a size");
+    let events = four(rt, alloc, alive);
     assert!(rt; events.len() as u64 == size.get());
-    open(alloc, Shape::SideBySide, size, MAX_LIMIT, events)
+    open(rt, alloc, Shape::SideBySide, size, MAX_LIMIT, events)
 }
 
 // Events are written from one sequence on.
-fn write(
-    rt: &impl Abort,
-    alive: &Arc<u64>,
-    sender: &mut Sender<Counted>,
-    first: u64,
-    upto: u64,
-) -> Result<(), Fail>
+fn write(rt: &impl Abort, alive: &Arc<u64>, sender: &mut Sender<Counted>, first: u64, upto: u64)
     ensures { sender_place sender.new ≡ sender_place sender.old }
 {
     for s in first..upto {
-        let one = event(alive, s.wrapping_add(1))?;
+        let one = event(rt, alive, s.wrapping_add(1));
         check(rt, sender.write(s, one), Ok(()));
     }
-    Ok(())
 }
 
-fn send(
-    rt: &impl Abort,
-    alive: &Arc<u64>,
-    sender: &mut Sender<Counted>,
-    moment: &Moment,
-) -> Result<(), Fail>
+fn send(rt: &impl Abort, alive: &Arc<u64>, sender: &mut Sender<Counted>, moment: &Moment)
     ensures { sender_place sender.new ≡ sender_place sender.old }
 {
     let name = moment.name;
@@ -147,12 +138,11 @@ fn send(
             name,
         );
     }
-    write(rt, alive, sender, 0, moment.written)?;
+    write(rt, alive, sender, 0, moment.written);
     if moment.published > 0 {
         let hi = moment.published.wrapping_sub(1);
         check_at(rt, sender.publish(0, hi), Ok(()), name);
     }
-    Ok(())
 }
 
 // A handler takes so many, and completes so many of them.
@@ -167,23 +157,17 @@ fn receive(rt: &impl Abort, ends: &mut Ends<Counted>, handler: usize, taken: u64
     check(rt, receiver.complete(completed), Ok(()));
 }
 
-fn come_to(
-    rt: &impl Abort,
-    alive: &Arc<u64>,
-    ends: &mut Ends<Counted>,
-    moment: &Moment,
-) -> Result<(), Fail>
+fn come_to(rt: &impl Abort, alive: &Arc<u64>, ends: &mut Ends<Counted>, moment: &Moment)
     requires { AreAllEnds ends.old.sender ends.old.receivers.items × IsHalterOf ends.old.sender ends.old.halter }
     ensures { AreAllEnds ends.new.sender ends.new.receivers.items × IsHalterOf ends.new.sender ends.new.halter }
 {
-    send(rt, alive, &mut ends.sender, moment)?;
+    send(rt, alive, &mut ends.sender, moment);
     let [(taken, completed), (second_taken, second_completed)] = moment.handlers;
     receive(rt, ends, 0, taken, completed);
     receive(rt, ends, 1, second_taken, second_completed);
     if moment.halted {
         ends.halter.halt();
     }
-    Ok(())
 }
 
 fn next_number(events: &mut Values<Counted>) -> u64 {
@@ -210,33 +194,33 @@ fn use_some(
     check_at(rt, Arc::strong_count(alive) as u64, left as u64, name);
 }
 
-fn end(
-    rt: &impl Abort,
-    alloc: Global,
-    alive: &Arc<u64>,
-    moment: &Moment,
-) -> Result<Values<Counted>, Fail> {
-    let mut ends = begin(rt, alloc, alive)?;
-    come_to(rt, alive, &mut ends, moment)?;
-    let (settled, events) = finish(ends.sender, ends.receivers, ends.halter);
+fn check_settled(rt: &impl Abort, settled: &Settled, moment: &Moment) {
     check_at(rt, settled.published(), moment.published, moment.name);
     assert!(rt; settled.handlers() == 2);
     check_at(rt, settled.taken(0), moment.handlers[0].0, moment.name);
     check_at(rt, settled.taken(1), moment.handlers[1].0, moment.name);
-    Ok(events)
+}
+
+fn end(rt: &impl Abort, alloc: Global, alive: &Arc<u64>, moment: &Moment) -> Values<Counted> {
+    let mut ends = begin(rt, alloc, alive);
+    come_to(rt, alive, &mut ends, moment);
+    let (settled, events) = finish(ends.sender, ends.receivers, ends.halter);
+    check_settled(rt, &settled, moment);
+    events
+}
+
+// Ends in a moment, and uses so many of the events: none is there after that.
+fn check_moment(rt: &impl Abort, alloc: Global, alive: &Arc<u64>, moment: &Moment, count: usize) {
+    let events = end(rt, alloc, alive, moment);
+    use_some(rt, alive, events, moment, count);
+    check_at(rt, Arc::strong_count(alive) as u64, 1, moment.name);
 }
 
 #[test]
-fn each_event_comes_back_once(rt: HostRuntime) -> Result<(), Fail> {
-    let Ok(alive) = Arc::new(rt.alloc(), 0u64) else {
-        return Ok(());
-    };
+fn each_event_comes_back_once(rt: HostRuntime) {
+    let alive = Arc::new(rt.alloc(), 0u64).expect(&rt, "memory");
     for moment in &MOMENTS {
-        let events = end(&rt, rt.alloc(), &alive, moment)?;
-        use_some(&rt, &alive, events, moment, 2);
-        check_at(&rt, Arc::strong_count(&alive) as u64, 1, moment.name);
-        let events = end(&rt, rt.alloc(), &alive, moment)?;
-        use_some(&rt, &alive, events, moment, 4);
+        check_moment(&rt, rt.alloc(), &alive, moment, 2);
+        check_moment(&rt, rt.alloc(), &alive, moment, 4);
     }
-    Ok(())
 }

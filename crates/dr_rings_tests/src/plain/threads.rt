@@ -1,16 +1,15 @@
 //! Threads hand all events over, each in order, and end by themselves.
 
-use super::Ends;
 use super::texts::open_texts;
 use crate::checks::check;
 use crate::graphs::Shape;
+use crate::threads::{Receive, check_received, start};
 use dr_core::Polled::{Batch, Drained};
 use dr_core::Refusal;
 use dr_plain::{Receiver, Sender};
 use std::alloc::Global;
-use std::process::Abort;
-use std::test::Fail;
-use std::thread::{self, Threads};
+use std::sync::Wait;
+use std::thread;
 
 /// Sends texts in claims of up to `cut`, until there are so many or a claim is refused for another
 /// cause than want of room, closes, and tells how many it sent.
@@ -54,8 +53,6 @@ fn are_texts(receiver: &Receiver<String>, alloc: Global, first: u64) -> bool {
     true
 }
 
-/// Receives until it is told that the ring drained, and tells how many texts came, or nothing where
-/// one came out of order.
 fn receive(mut receiver: Receiver<String>, alloc: Global) -> Option<u64> {
     let mut next = 0u64;
     for _ in 0..u64::MAX {
@@ -74,30 +71,16 @@ fn receive(mut receiver: Receiver<String>, alloc: Global) -> Option<u64> {
     None
 }
 
-fn check_all<R: Threads + Abort + Sync>(rt: &R, alloc: Global, ends: Ends<String>) {
-    let sender = ends.sender;
-    let mut receivers = ends.receivers;
-    let c = receivers.pop().expect(rt, "three receivers");
-    let b = receivers.pop().expect(rt, "three receivers");
-    let a = receivers.pop().expect(rt, "three receivers");
-    let ((sent, last), (first, second)) = thread::join(
-        rt,
-        || {
-            thread::join(
-                rt,
-                move || send(sender, alloc, 100_000, 16),
-                move || receive(c, alloc),
-            )
-        },
-        || thread::join(rt, move || receive(a, alloc), move || receive(b, alloc)),
-    );
-    check(rt, sent, 100_000);
-    check(rt, [first, second, last], [Some(100_000); 3]);
+impl Receive for Receiver<String> {
+    fn receive<R: Wait>(self, _rt: &R, alloc: Global, _who: usize) -> Option<u64> {
+        receive(self, alloc)
+    }
 }
 
 #[test]
-fn texts_through_a_diamond_of_threads(rt: HostRuntime) -> Result<(), Fail> {
-    let ends = open_texts(&rt, rt.alloc(), Shape::Diamond, 64)?;
-    check_all(&rt, rt.alloc(), ends);
-    Ok(())
+fn texts_through_a_diamond_of_threads(rt: HostRuntime) {
+    let ends = open_texts(&rt, rt.alloc(), Shape::Diamond, 64);
+    let started = start(rt, rt.alloc(), ends.receivers);
+    check(&rt, send(ends.sender, rt.alloc(), 100_000, 16), 100_000);
+    check_received(&rt, started, 100_000);
 }

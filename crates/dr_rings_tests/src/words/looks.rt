@@ -7,7 +7,6 @@ use dr_core::{MAX_LIMIT, Polled};
 use dr_ring::Receiver;
 use dr_seq::Event;
 use std::process::Abort;
-use std::test::Fail;
 
 fn check_looks(rt: &impl Abort, receivers: &mut [Receiver]) {
     for (h, looks) in [(0, 2), (1, 2), (2, 4)] {
@@ -24,9 +23,8 @@ fn check_looks(rt: &impl Abort, receivers: &mut [Receiver]) {
 }
 
 #[test]
-fn looks_of_a_poll(rt: HostRuntime) -> Result<(), Fail> {
-    let mut ends = open(rt.alloc(), Shape::Diamond, 4, MAX_LIMIT)?;
+fn looks_of_a_poll(rt: HostRuntime) {
+    let mut ends = open(&rt, rt.alloc(), Shape::Diamond, 4, MAX_LIMIT);
     check_looks(&rt, ends.receivers.as_mut_slice());
     check(&rt, ends.sender.looks(), 0);
-    Ok(())
 }

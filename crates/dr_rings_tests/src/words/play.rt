@@ -12,7 +12,6 @@ use dr_ring::{Settled, settle};
 use dr_seq::Event;
 use std::alloc::Global;
 use std::process::Abort;
-use std::test::Fail;
 
 /// A call's answer, as the machine would give it; a close that succeeds is `Halting`.
 fn answer(rt: &impl Abort, ends: &mut Ends, call: Call, out: &mut [Event; 8]) -> Reply
@@ -69,18 +68,16 @@ fn check_settled(rt: &impl Abort, settled: &Settled, run: &Run) {
     }
 }
 
-fn check_run(rt: &impl Abort, alloc: Global, run: &Run) -> Result<(), Fail> {
-    let mut ends = open(alloc, run.shape, run.size, run.limit)?;
+fn check_run(rt: &impl Abort, alloc: Global, run: &Run) {
+    let mut ends = open(rt, alloc, run.shape, run.size, run.limit);
     play(rt, &mut ends, run);
     let settled = settle(ends.sender, ends.receivers);
     check_settled(rt, &settled, run);
-    Ok(())
 }
 
 #[test]
-fn worked_rows(rt: HostRuntime) -> Result<(), Fail> {
+fn worked_rows(rt: HostRuntime) {
     for run in &RUNS {
-        check_run(&rt, rt.alloc(), run)?;
+        check_run(&rt, rt.alloc(), run);
     }
-    Ok(())
 }

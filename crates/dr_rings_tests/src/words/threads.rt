@@ -1,15 +1,16 @@
 //! Threads hand all events over by the traits of ends, each in order, and end by themselves.
 
-use super::{Ends, open};
+use super::open;
 use crate::checks::check;
 use crate::graphs::Shape;
+use crate::threads::{Receive, check_received, start};
 use dr_core::Polled::{Batch, Drained};
 use dr_core::{Inlet, MAX_LIMIT, Outlet, Refusal, Trouble};
-use dr_ring::Sender;
+use dr_ring::{Receiver, Sender};
 use dr_seq::Event;
-use std::process::Abort;
-use std::test::Fail;
-use std::thread::{self, Threads};
+use std::alloc::Global;
+use std::sync::Wait;
+use std::thread;
 
 /// Sends events in claims of up to `cut`, until there are so many or a claim is refused for another
 /// cause than want of room, and tells how many it sent.
@@ -46,8 +47,6 @@ fn send(mut sender: Sender, count: u64, cut: u64) -> u64 {
     sent
 }
 
-/// Receives until it is told that the ring drained, and tells how many events came, or nothing
-/// where one came out of order.
 fn receive<O: Outlet<Event> + Drop>(mut outlet: O) -> Option<u64> {
     let mut next = 0u64;
     let mut out = [Event::NONE; 64];
@@ -72,24 +71,16 @@ fn receive<O: Outlet<Event> + Drop>(mut outlet: O) -> Option<u64> {
     None
 }
 
-fn check_million<R: Threads + Abort + Sync>(rt: &R, ends: Ends) {
-    let sender = ends.sender;
-    let mut receivers = ends.receivers;
-    let c = receivers.pop().expect(rt, "three receivers");
-    let b = receivers.pop().expect(rt, "three receivers");
-    let a = receivers.pop().expect(rt, "three receivers");
-    let ((sent, last), (first, second)) = thread::join(
-        rt,
-        || thread::join(rt, move || send(sender, 1_000_000, 64), || receive(c)),
-        || thread::join(rt, || receive(a), || receive(b)),
-    );
-    check(rt, sent, 1_000_000);
-    check(rt, [first, second, last], [Some(1_000_000); 3]);
+impl Receive for Receiver {
+    fn receive<R: Wait>(self, _rt: &R, _alloc: Global, _who: usize) -> Option<u64> {
+        receive(self)
+    }
 }
 
 #[test]
-fn a_million_through_a_diamond(rt: HostRuntime) -> Result<(), Fail> {
-    let ends = open(rt.alloc(), Shape::Diamond, 1024, MAX_LIMIT)?;
-    check_million(&rt, ends);
-    Ok(())
+fn a_million_through_a_diamond(rt: HostRuntime) {
+    let ends = open(&rt, rt.alloc(), Shape::Diamond, 1024, MAX_LIMIT);
+    let started = start(rt, rt.alloc(), ends.receivers);
+    check(&rt, send(ends.sender, 1_000_000, 64), 1_000_000);
+    check_received(&rt, started, 1_000_000);
 }
