@@ -1,14 +1,25 @@
 //! A call that is made again where memory ran out.
 
-/// Makes a call. Where its answer is the one that memory ran out, a line says so, and the call is made again.
+use crate::fault::Fault;
+use crate::telling::tell_words;
+
+/// Whether memory ran out in a call, which a line then says.
+pub fn ran_out<R: Print>(rt: &R, told: Result<(), Fault>) -> Result<bool, Fault> {
+    match told {
+        Ok(()) => Ok(false),
+        Err(Fault::Memory) => {
+            tell_words(rt, "no-memory")?;
+            Ok(true)
+        }
+        Err(fault) => Err(fault),
+    }
+}
+
+/// Makes a call, and makes it again where memory ran out.
 macro_rules! again {
-    ($rt:expr, $no_memory:pat, $call:expr) => {
-        match $call {
-            $no_memory => {
-                crate::telling::tell_words($rt, "no-memory")?;
-                $call
-            }
-            answered => answered,
+    ($rt:expr, $call:expr) => {
+        if crate::again::ran_out($rt, $call)? {
+            $call?;
         }
     };
 }

@@ -62,26 +62,31 @@ fn tell_audit<R: Print>(
     rt: &R,
     alloc: Global,
     recorded: &Recorded<Event>,
-    scripts: &[&[Event]],
+    too_short: bool,
 ) -> Result<(), Fault> {
-    match again!(
-        rt,
-        Err(AuditFault::NoMemory),
-        audit(alloc, recorded, scripts)
-    ) {
+    let scripts = if too_short { &TOO_SHORT } else { &SCRIPTS };
+    match audit(alloc, recorded, scripts) {
         Ok(list) => tell_value(rt, list.as_slice()),
         Err(AuditFault::NoMemory) => Err(Fault::Memory),
         Err(fault) => tell_words(rt, fault.name()),
     }
 }
 
-fn poll<R: Print>(rt: &R, recorded: &mut Recorded<Event>, h: usize) -> Result<(), Fault> {
+fn poll(recorded: &mut Recorded<Event>, h: usize) -> Result<(), Fault> {
     let mut out = [Event::NONE; 8];
-    again!(
-        rt,
-        Err(Fault::Memory),
-        call(recorded, Poll { h, max: 8 }, &mut out)
-    )?;
+    call(recorded, Poll { h, max: 8 }, &mut out)?;
+    Ok(())
+}
+
+/// An audit after a handler took what there is.
+fn tell_audit_after<R: Print>(
+    rt: &R,
+    alloc: Global,
+    recorded: &mut Recorded<Event>,
+    h: usize,
+) -> Result<(), Fault> {
+    again!(rt, poll(recorded, h));
+    again!(rt, tell_audit(rt, alloc, recorded, false));
     Ok(())
 }
 
@@ -91,17 +96,14 @@ fn tell_audits_of<R: Print>(
     alloc: Global,
     recorded: &mut Recorded<Event>,
 ) -> Result<(), Fault> {
-    tell_audit(rt, alloc, recorded, &TOO_SHORT)?;
-    tell_audit(rt, alloc, recorded, &SCRIPTS)?;
-    for h in 0..2 {
-        poll(rt, recorded, h)?;
-        tell_audit(rt, alloc, recorded, &SCRIPTS)?;
-    }
-    Ok(())
+    again!(rt, tell_audit(rt, alloc, recorded, true));
+    again!(rt, tell_audit(rt, alloc, recorded, false));
+    tell_audit_after(rt, alloc, recorded, 0)?;
+    tell_audit_after(rt, alloc, recorded, 1)
 }
 
 /// The same, of a history of its own.
 pub fn tell_audits<R: Print>(rt: &R, alloc: Global) -> Result<(), Fault> {
-    let mut recorded = again!(rt, Err(Fault::Memory), sent(alloc))?;
+    let mut recorded = sent(alloc)?;
     tell_audits_of(rt, alloc, &mut recorded)
 }

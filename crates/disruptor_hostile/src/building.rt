@@ -2,8 +2,9 @@
 
 use crate::again::again;
 use crate::fault::Fault;
-use crate::graphs::tell_graph;
-use dr_graph::{Graph, GraphBuilder, GraphFault, Group};
+use crate::graphs::{TWO, declare, tell_graph};
+use crate::telling::tell_about;
+use dr_graph::{GraphBuilder, GraphFault, Group};
 use std::alloc::Global;
 
 /// A call of a builder. There is a current group, which each call but `Edge` makes anew.
@@ -39,12 +40,11 @@ fn tell_call<R: Print>(
     current: &mut Group,
     call: &Call,
 ) -> Result<(), Fault> {
-    match again!(rt, Err(GraphFault::NoMemory), make(builder, current, call)) {
-        Ok(()) => println!(rt; "done {call:?}")?,
-        Err(GraphFault::NoMemory) => return Err(Fault::Memory),
-        Err(fault) => println!(rt; "{fault} {call:?}")?,
+    match make(builder, current, call) {
+        Ok(()) => tell_about(rt, "done", *call),
+        Err(GraphFault::NoMemory) => Err(Fault::Memory),
+        Err(fault) => tell_about(rt, fault.name(), *call),
     }
-    Ok(())
 }
 
 const CALLS: [Call; 15] = [
@@ -65,43 +65,48 @@ const CALLS: [Call; 15] = [
     Call::With(&["q"]),
 ];
 
-fn tell_calls<R: Print>(rt: &R, builder: &mut GraphBuilder) -> Result<(), Fault> {
-    let mut current = again!(
-        rt,
-        Err(GraphFault::NoMemory),
-        builder.handle_with(&["a", "b"])
-    )?;
+fn tell_calls<R: Print>(
+    rt: &R,
+    builder: &mut GraphBuilder,
+    current: &mut Group,
+) -> Result<(), Fault> {
     for call in &CALLS {
-        tell_call(rt, builder, &mut current, call)?;
+        again!(rt, tell_call(rt, builder, current, call));
     }
     Ok(())
+}
+
+fn tell_all_calls<R: Print>(rt: &R, builder: &mut GraphBuilder) -> Result<(), Fault> {
+    let mut current = builder.handle_with(&TWO)?;
+    tell_calls(rt, builder, &mut current)
+}
+
+fn tell_build<R: Print>(rt: &R, builder: GraphBuilder) -> Result<(), Fault> {
+    let graph = builder.build()?;
+    tell_graph(rt, &graph)
 }
 
 /// Makes each call of a builder, and refused ones between them, which change nothing.
 pub fn tell_builder<R: Print>(rt: &R, alloc: Global) -> Result<(), Fault> {
     let mut builder = GraphBuilder::new(alloc);
-    tell_calls(rt, &mut builder)?;
-    let graph = builder.build()?;
-    tell_graph(rt, &graph)
+    tell_all_calls(rt, &mut builder)?;
+    tell_build(rt, builder)
 }
 
+const FOUR: [&str; 4] = ["a", "b", "c", "d"];
+
+const FIFTH: [&str; 1] = ["e"];
+
 /// Declares some handlers with edges between them.
-fn declare(builder: &mut GraphBuilder) -> Result<(), GraphFault> {
-    let all = builder.handle_with(&["a", "b", "c", "d"])?;
-    builder.then(&all, &["e"])?;
+fn declare_edges(builder: &mut GraphBuilder) -> Result<(), GraphFault> {
+    declare(builder, &FOUR, &FIFTH)?;
     builder.edge("d", "a")?;
     builder.edge("c", "b")
 }
 
-/// Declares them, and builds.
-fn built(alloc: Global) -> Result<Graph, GraphFault> {
-    let mut builder = GraphBuilder::new(alloc);
-    declare(&mut builder)?;
-    builder.build()
-}
-
 /// Builds, with a builder of its own each time.
 pub fn tell_built<R: Print>(rt: &R, alloc: Global) -> Result<(), Fault> {
-    let graph = again!(rt, Err(GraphFault::NoMemory), built(alloc))?;
-    tell_graph(rt, &graph)
+    let mut builder = GraphBuilder::new(alloc);
+    declare_edges(&mut builder)?;
+    tell_build(rt, builder)
 }

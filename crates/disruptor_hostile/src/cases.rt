@@ -1,5 +1,6 @@
 //! The cases, by their names.
 
+use crate::again::again;
 use crate::auditing::tell_audits;
 use crate::building::{tell_builder, tell_built};
 use crate::core_calls::{tell_opened, tell_run};
@@ -79,8 +80,7 @@ impl Case {
     }
 }
 
-/// Makes the calls of a case.
-pub fn tell<R: Print>(rt: &R, alloc: Global, case: Case) -> Result<(), Fault> {
+fn tell_once<R: Print>(rt: &R, alloc: Global, case: Case) -> Result<(), Fault> {
     match case {
         Case::Builder => tell_builder(rt, alloc),
         Case::Build => tell_built(rt, alloc),
@@ -95,4 +95,10 @@ pub fn tell<R: Print>(rt: &R, alloc: Global, case: Case) -> Result<(), Fault> {
         Case::Kept => tell_kept(rt, alloc),
         Case::Parts => tell_parts(rt, alloc),
     }
+}
+
+/// Makes the calls of a case. Where memory runs out before the first line, a line says so, and they are made again.
+pub fn tell<R: Print>(rt: &R, alloc: Global, case: Case) -> Result<(), Fault> {
+    again!(rt, tell_once(rt, alloc, case));
+    Ok(())
 }

@@ -2,12 +2,12 @@
 
 use crate::again::again;
 use crate::fault::Fault;
-use crate::graphs::{diamond, side_by_side};
+use crate::graphs::{ONE, diamond, graph};
 use crate::telling::{tell_both, tell_value};
 use dr_core::Command::{Claim, Poll, Publish, Write};
-use dr_core::{Command, Core, MAX_LIMIT, Mode, Ran, run};
+use dr_core::{Claimed, Command, Core, MAX_LIMIT, Mode, Ran, Refusal, run};
 use dr_seq::{Event, Size};
-use std::alloc::{AllocError, Global};
+use std::alloc::Global;
 
 pub const fn word(first: u64) -> Event {
     Event { first, second: 0 }
@@ -27,35 +27,45 @@ pub fn opened(alloc: Global, mode: Mode) -> Result<Core<Event>, Fault> {
     Ok(Core::open(alloc, diamond(alloc)?, size, mode, MAX_LIMIT, Event::NONE)?)
 }
 
-fn tell_core_of<R: Print>(rt: &R, core: &mut Core<Event>) -> Result<(), Fault> {
-    let mut out = [Event::NONE; 4];
+fn send_three(core: &mut Core<Event>) -> Result<Claimed, Refusal> {
     let claimed = core.claim(0, 3)?;
-    tell_value(rt, claimed)?;
     for s in 0..3 {
         core.write(0, s, word(s))?;
     }
     core.publish(0, 0, 2)?;
-    for h in [0, 1, 2] {
+    Ok(claimed)
+}
+
+fn tell_polls<R: Print>(rt: &R, core: &mut Core<Event>) -> Result<(), Fault> {
+    let mut out = [Event::NONE; 4];
+    for h in 0..3 {
         let polled = core.poll_into(h, &mut out)?;
         tell_both(rt, polled, out)?;
     }
     Ok(())
 }
 
+fn tell_core_of<R: Print>(rt: &R, core: &mut Core<Event>) -> Result<(), Fault> {
+    tell_value(rt, send_three(core)?)?;
+    tell_polls(rt, core)
+}
+
+/// Opens a core, whose graph is spent each time, and sends three events through it.
 fn tell_opened_in<R: Print>(rt: &R, alloc: Global, mode: Mode) -> Result<(), Fault> {
-    let mut core = again!(rt, Err(Fault::Memory), opened(alloc, mode))?;
+    let mut core = opened(alloc, mode)?;
     tell_core_of(rt, &mut core)
 }
 
-/// Opens cores, whose graph is spent each time, and sends three events through each.
+/// Opens cores of one producer and of two.
 pub fn tell_opened<R: Print>(rt: &R, alloc: Global) -> Result<(), Fault> {
-    tell_opened_in(rt, alloc, Mode::Single)?;
-    tell_opened_in(rt, alloc, Mode::Multi(2))
+    again!(rt, tell_opened_in(rt, alloc, Mode::Single));
+    again!(rt, tell_opened_in(rt, alloc, Mode::Multi(2)));
+    Ok(())
 }
 
 fn open_for_two(alloc: Global) -> Result<Core<Event>, Fault> {
     let size = Size::new(4)?;
-    let graph = side_by_side(alloc, &["a"])?;
+    let graph = graph(alloc, &ONE, &[])?;
     Ok(Core::open(alloc, graph, size, Mode::Multi(2), MAX_LIMIT, Event::NONE)?)
 }
 
@@ -82,13 +92,17 @@ fn tell_ran<R: Print>(rt: &R, ran: &Ran<Event>) -> Result<(), Fault> {
 }
 
 fn tell_run_over<R: Print>(rt: &R, alloc: Global, core: &mut Core<Event>) -> Result<(), Fault> {
-    let commands = commands();
-    let ran = again!(rt, Err(AllocError), run(alloc, core, &commands))?;
+    let ran = run(alloc, core, &commands())?;
     tell_ran(rt, &ran)
+}
+
+fn tell_run_again<R: Print>(rt: &R, alloc: Global, core: &mut Core<Event>) -> Result<(), Fault> {
+    again!(rt, tell_run_over(rt, alloc, core));
+    Ok(())
 }
 
 /// A run of these commands.
 pub fn tell_run<R: Print>(rt: &R, alloc: Global) -> Result<(), Fault> {
-    let mut core = again!(rt, Err(Fault::Memory), open_for_two(alloc))?;
-    tell_run_over(rt, alloc, &mut core)
+    let mut core = open_for_two(alloc)?;
+    tell_run_again(rt, alloc, &mut core)
 }

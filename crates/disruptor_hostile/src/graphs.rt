@@ -1,37 +1,56 @@
 //! The graphs that the cases open exchanges for.
 
 use crate::fault::Fault;
-use dr_graph::{Graph, GraphBuilder, GraphFault};
+use crate::telling::tell_about;
+use dr_graph::{Graph, GraphBuilder, GraphFault, Group};
 use std::alloc::Global;
 
-/// Handlers side by side.
-pub fn side_by_side(alloc: Global, names: &[&str]) -> Result<Graph, GraphFault> {
-    let mut builder = GraphBuilder::new(alloc);
-    builder.handle_with(names)?;
-    builder.build()
-}
-
-fn declare_diamond(builder: &mut GraphBuilder) -> Result<(), GraphFault> {
-    let both = builder.handle_with(&["a", "b"])?;
-    builder.then(&both, &["c"])?;
+fn follow(builder: &mut GraphBuilder, all: &Group, then: &[&str]) -> Result<(), GraphFault> {
+    builder.then(all, then)?;
     Ok(())
 }
 
+/// Declares handlers side by side, and those after all of them, if there are any.
+pub fn declare(
+    builder: &mut GraphBuilder,
+    first: &[&str],
+    then: &[&str],
+) -> Result<(), GraphFault> {
+    let all = builder.handle_with(first)?;
+    if then.is_empty() {
+        return Ok(());
+    }
+    follow(builder, &all, then)
+}
+
+/// Handlers side by side, and those after all of them.
+pub fn graph(alloc: Global, first: &[&str], then: &[&str]) -> Result<Graph, GraphFault> {
+    let mut builder = GraphBuilder::new(alloc);
+    declare(&mut builder, first, then)?;
+    builder.build()
+}
+
+/// Names of handlers.
+pub const ONE: [&str; 1] = ["a"];
+
+pub const TWO: [&str; 2] = ["a", "b"];
+
+const THIRD: [&str; 1] = ["c"];
+
 /// Two handlers, and one after both.
 pub fn diamond(alloc: Global) -> Result<Graph, GraphFault> {
-    let mut builder = GraphBuilder::new(alloc);
-    declare_diamond(&mut builder)?;
-    builder.build()
+    graph(alloc, &TWO, &THIRD)
+}
+
+fn tell_handler<R: Print>(rt: &R, name: &str, upstreams: &[usize]) -> Result<(), Fault> {
+    println!(rt; "{name} after {upstreams:?}")?;
+    Ok(())
 }
 
 /// Tells each handler of a graph, with its upstreams.
 pub fn tell_graph<R: Print>(rt: &R, graph: &Graph) -> Result<(), Fault> {
     for h in 0..graph.len() {
-        let name = graph.name(h);
-        let upstreams = graph.upstreams(h);
-        println!(rt; "{name} after {upstreams:?}")?;
+        tell_handler(rt, graph.name(h), graph.upstreams(h))?;
     }
-    let finals = graph.finals();
-    println!(rt; "finals {finals:?}")?;
-    Ok(())
+    tell_about(rt, "finals", graph.finals())
 }

@@ -7,7 +7,7 @@ use crate::core_calls::word;
 use crate::fault::Fault;
 use crate::graphs::{diamond, tell_graph};
 use crate::taking_none::tell_memory;
-use crate::telling::{tell_both, tell_value, tell_words};
+use crate::telling::{tell_about, tell_both, tell_value, tell_words};
 use dr_graph::Graph;
 use dr_seq::{Event, GateCache, Rounds, Size, Slots};
 use std::alloc::Global;
@@ -32,15 +32,13 @@ fn tell_rounds<R: Print>(rt: &R, rounds: &mut Rounds) -> Result<(), Fault>
     rounds.mark(2);
     rounds.mark(3);
     tell_both(rt, rounds.is_marked(2), rounds.is_marked(6))?;
-    println!(rt; "marked from 2 up to {}", rounds.front(2, 6))?;
-    Ok(())
+    tell_about(rt, "marked from 2 up to", rounds.front(2, 6))
 }
 
 fn tell_gate<R: Print>(rt: &R) -> Result<(), Fault> {
     let mut gate = GateCache::new();
     gate.raise(3);
-    println!(rt; "seen {}", gate.seen())?;
-    Ok(())
+    tell_about(rt, "seen", gate.seen())
 }
 
 fn tell_finals<R: Print>(rt: &R, graph: &Graph) -> Result<(), Fault> {
@@ -54,6 +52,12 @@ fn tell_finals<R: Print>(rt: &R, graph: &Graph) -> Result<(), Fault> {
     tell_value(rt, graph.position("b"))
 }
 
+fn tell_places<R: Print>(rt: &R, size: Size) -> Result<(), Fault> {
+    let (slot, round, all) = (size.slot(6), size.round(6), size.get());
+    println!(rt; "slot {slot} in round {round} of {all}")?;
+    Ok(())
+}
+
 fn tell_all<R: Print>(
     rt: &R,
     size: Size,
@@ -65,12 +69,7 @@ fn tell_all<R: Print>(
     requires rounds { length rounds.old ≡ 4 }
 {
     tell_words(rt, "open")?;
-    println!(rt;
-        "slot {} in round {} of {}",
-        size.slot(6),
-        size.round(6),
-        size.get()
-    )?;
+    tell_places(rt, size)?;
     tell_slots(rt, slots)?;
     tell_rounds(rt, rounds)?;
     tell_gate(rt)?;

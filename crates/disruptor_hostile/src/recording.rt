@@ -6,7 +6,7 @@ ghost use Rattle.dr_shared.specs.Meaning.History.{asked};
 use crate::again::again;
 use crate::core_calls::write;
 use crate::fault::Fault;
-use crate::graphs::side_by_side;
+use crate::graphs::{TWO, graph};
 use crate::telling::{tell_both, tell_value};
 use dr_core::Command::{Claim, Complete, Halt, Poll, Publish, Retire};
 use dr_core::{Command, MAX_LIMIT, Mode, Reply};
@@ -27,7 +27,7 @@ fn room(command: Command<Event>) -> usize
 /// Two handlers and two producers, over four slots, with room for so many entries and events.
 pub fn recorded(alloc: Global, entries: usize, events: usize) -> Result<Recorded<Event>, Fault> {
     let size = Size::new(4)?;
-    let graph = side_by_side(alloc, &["a", "b"])?;
+    let graph = graph(alloc, &TWO, &[])?;
     let mode = Mode::Multi(2);
     Ok(Recorded::open(
         alloc,
@@ -77,19 +77,28 @@ pub fn commands() -> [Command<Event>; 17] {
     ]
 }
 
+fn tell_counts<R: Print>(
+    rt: &R,
+    entries: usize,
+    producers: u64,
+    handlers: usize,
+) -> Result<(), Fault> {
+    println!(rt; "{entries} entries, {producers} producers, {handlers} handlers")?;
+    Ok(())
+}
+
 fn tell_beginning<R: Print>(rt: &R, recorded: &mut Recorded<Event>) -> Result<(), Fault> {
     let entries = recorded.history().len();
     let producers = recorded.producers();
     let handlers = recorded.graph().len();
-    println!(rt; "{entries} entries, {producers} producers, {handlers} handlers")?;
+    tell_counts(rt, entries, producers, handlers)?;
     let mut out = [Event::NONE; 8];
-    let reply = call(recorded, Claim { p: 1, n: 4 }, &mut out)?;
-    tell_value(rt, reply)
+    tell_value(rt, call(recorded, Claim { p: 1, n: 4 }, &mut out)?)
 }
 
 /// Opens a history, whose graph is spent each time, and tells how it begins.
 pub fn tell_recorded<R: Print>(rt: &R, alloc: Global) -> Result<(), Fault> {
-    let mut recorded = again!(rt, Err(Fault::Memory), recorded(alloc, 4, 2))?;
+    let mut recorded = recorded(alloc, 4, 2)?;
     tell_beginning(rt, &mut recorded)
 }
 
@@ -99,13 +108,13 @@ fn tell_call<R: Print>(
     command: Command<Event>,
 ) -> Result<(), Fault> {
     let mut out = [Event::NONE; 8];
-    let reply = again!(rt, Err(Fault::Memory), call(recorded, command, &mut out))?;
+    let reply = call(recorded, command, &mut out)?;
     tell_both(rt, reply, recorded.history().len())
 }
 
 fn tell_calls_of<R: Print>(rt: &R, recorded: &mut Recorded<Event>) -> Result<(), Fault> {
     for command in commands() {
-        tell_call(rt, recorded, command)?;
+        again!(rt, tell_call(rt, recorded, command));
     }
     for entry in recorded.history() {
         tell_value(rt, *entry)?;
@@ -115,6 +124,6 @@ fn tell_calls_of<R: Print>(rt: &R, recorded: &mut Recorded<Event>) -> Result<(),
 
 /// Makes calls of a history that has no room to begin with, and tells what it kept.
 pub fn tell_calls<R: Print>(rt: &R, alloc: Global) -> Result<(), Fault> {
-    let mut recorded = again!(rt, Err(Fault::Memory), recorded(alloc, 0, 0))?;
+    let mut recorded = recorded(alloc, 0, 0)?;
     tell_calls_of(rt, &mut recorded)
 }

@@ -6,8 +6,8 @@ use crate::fault::Fault;
 use crate::graphs::{diamond, tell_graph};
 use crate::telling::{tell_both, tell_value};
 use dr_core::MAX_LIMIT;
-use dr_graph::{Graph, GraphFault};
-use dr_ring::{Halter, Receiver, RingFault, Sender, ring};
+use dr_graph::Graph;
+use dr_ring::{Halter, Receiver, Sender, ring};
 use dr_seq::{Event, Size};
 use std::alloc::Global;
 
@@ -35,6 +35,19 @@ fn tell_polls<R: Print>(rt: &R, receivers: &mut [Receiver]) -> Result<(), Fault>
     Ok(())
 }
 
+fn receive_all<R: Print>(rt: &R, receivers: &mut [Receiver]) -> Result<(), Fault> {
+    for receiver in receivers.iter_mut() {
+        receive(rt, receiver)?;
+    }
+    Ok(())
+}
+
+fn close<R: Print>(rt: &R, sender: &mut Sender, halter: &mut Halter) -> Result<(), Fault> {
+    halter.halt();
+    tell_value(rt, sender.try_claim(1))?;
+    Ok(sender.close()?)
+}
+
 fn send_and_close<R: Print>(
     rt: &R,
     sender: &mut Sender,
@@ -42,28 +55,24 @@ fn send_and_close<R: Print>(
     halter: &mut Halter,
 ) -> Result<(), Fault> {
     send(rt, sender)?;
-    for receiver in receivers.iter_mut() {
-        receive(rt, receiver)?;
-    }
-    halter.halt();
-    tell_value(rt, sender.try_claim(1))?;
-    sender.close()?;
+    receive_all(rt, receivers)?;
+    close(rt, sender, halter)?;
     tell_polls(rt, receivers)
 }
 
 fn tell_ring_over<R: Print>(rt: &R, alloc: Global, graph: &Graph) -> Result<(), Fault> {
     let size = Size::new(4)?;
-    let (mut sender, mut receivers, mut halter) = again!(
-        rt,
-        Err(RingFault::NoMemory),
-        ring(alloc, graph, size, MAX_LIMIT)
-    )?;
+    let (mut sender, mut receivers, mut halter) = ring(alloc, graph, size, MAX_LIMIT)?;
     send_and_close(rt, &mut sender, receivers.as_mut_slice(), &mut halter)
+}
+
+fn tell_ring_of<R: Print>(rt: &R, alloc: Global, graph: &Graph) -> Result<(), Fault> {
+    again!(rt, tell_ring_over(rt, alloc, graph));
+    tell_graph(rt, graph)
 }
 
 /// Makes a ring, sends two events through it, and closes.
 pub fn tell_ring<R: Print>(rt: &R, alloc: Global) -> Result<(), Fault> {
-    let graph = again!(rt, Err(GraphFault::NoMemory), diamond(alloc))?;
-    tell_ring_over(rt, alloc, &graph)?;
-    tell_graph(rt, &graph)
+    let graph = diamond(alloc)?;
+    tell_ring_of(rt, alloc, &graph)
 }

@@ -5,7 +5,7 @@ use crate::core_calls::{opened, word};
 use crate::fault::Fault;
 use crate::graphs::diamond;
 use crate::recording::{call, commands, recorded};
-use crate::telling::{tell_both, tell_value, tell_words};
+use crate::telling::{tell_about, tell_both, tell_value, tell_words};
 use dr_core::{Command, Core, Handler, MAX_LIMIT, Mode, processor_turn};
 use dr_ring::{Halter, Receiver, Sender, ring};
 use dr_seq::{Event, Size};
@@ -54,39 +54,64 @@ fn tell_receiving<R: Print>(rt: &R, core: &mut Core<Event>) -> Result<(), Fault>
     tell_value(rt, core.poll_into(0, &mut out))?;
     tell_value(rt, core.poll_into(2, &mut out))?;
     tell_value(rt, core.complete(0, 2))?;
-    tell_value(rt, core.complete(0, 3))?;
+    tell_value(rt, core.complete(0, 3))
+}
+
+fn tell_turn<R: Print>(rt: &R, core: &mut Core<Event>) -> Result<(), Fault> {
+    let mut out = [Event::NONE; 4];
     let mut count = Count { shown: 0 };
     tell_value(rt, processor_turn(core, 1, &mut count, &mut out))?;
     tell_value(rt, count)?;
     tell_value(rt, core.execute(Command::Poll { h: 2, max: 4 }, &mut out))?;
-    tell_value(rt, out)?;
+    tell_value(rt, out)
+}
+
+fn tell_ending<R: Print>(rt: &R, core: &mut Core<Event>) -> Result<(), Fault> {
+    let mut out = [Event::NONE; 4];
     tell_value(rt, core.retire(0))?;
     tell_value(rt, core.retire(2))?;
     core.halt();
     tell_value(rt, core.claim(0, 1))?;
-    tell_value(rt, core.poll_into(1, &mut out))?;
+    tell_value(rt, core.poll_into(1, &mut out))
+}
+
+fn tell_claims<R: Print>(rt: &R, core: &Core<Event>) -> Result<(), Fault> {
+    let (next, size) = (core.next(), core.size().get());
+    println!(rt; "{next} of {size} claimed")?;
     Ok(())
 }
 
-fn tell_counts<R: Print>(rt: &R, core: &Core<Event>) -> Result<(), Fault> {
-    println!(rt; "{} of {} claimed", core.next(), core.size().get())?;
-    println!(rt; "{} in front of {}", core.front(), core.producers())?;
-    tell_value(rt, core.is_halted())?;
+fn tell_front<R: Print>(rt: &R, core: &Core<Event>) -> Result<(), Fault> {
+    let (front, producers) = (core.front(), core.producers());
+    println!(rt; "{front} in front of {producers}")?;
+    Ok(())
+}
+
+fn tell_handler<R: Print>(rt: &R, taken: u64, completed: u64, retired: bool) -> Result<(), Fault> {
+    println!(rt; "{taken} {completed} {retired}")?;
+    Ok(())
+}
+
+fn tell_handlers<R: Print>(rt: &R, core: &Core<Event>) -> Result<(), Fault> {
     for h in 0..core.graph().len() {
-        println!(rt;
-            "{} {} {}",
-            core.taken(h),
-            core.completed(h),
-            core.is_retired(h)
-        )?;
+        tell_handler(rt, core.taken(h), core.completed(h), core.is_retired(h))?;
     }
     tell_value(rt, core.graph().position("c"))
+}
+
+fn tell_counts<R: Print>(rt: &R, core: &Core<Event>) -> Result<(), Fault> {
+    tell_claims(rt, core)?;
+    tell_front(rt, core)?;
+    tell_value(rt, core.is_halted())?;
+    tell_handlers(rt, core)
 }
 
 fn tell_calls_of_core<R: Print>(rt: &R, core: &mut Core<Event>) -> Result<(), Fault> {
     tell_words(rt, "open")?;
     tell_sending(rt, core)?;
     tell_receiving(rt, core)?;
+    tell_turn(rt, core)?;
+    tell_ending(rt, core)?;
     tell_counts(rt, core)
 }
 
@@ -106,8 +131,7 @@ fn tell_sender<R: Print>(rt: &R, sender: &mut Sender) -> Result<(), Fault> {
     tell_value(rt, sender.write(2, word(6)))?;
     tell_value(rt, sender.publish(1, 1))?;
     tell_value(rt, sender.publish(0, 1))?;
-    println!(rt; "looked {}", sender.looks() > 0)?;
-    Ok(())
+    tell_about(rt, "looked", sender.looks() > 0)
 }
 
 fn tell_receiver<R: Print>(rt: &R, receiver: &mut Receiver) -> Result<(), Fault> {

@@ -19,6 +19,12 @@ pub fn tell_both<R: Print, T: Copy + Debug, U: Copy + Debug>(
     Ok(())
 }
 
+/// A line with words, and a value.
+pub fn tell_about<R: Print, T: Copy + Debug>(rt: &R, words: &str, value: T) -> Result<(), Fault> {
+    println!(rt; "{words} {value:?}")?;
+    Ok(())
+}
+
 /// A line of words.
 pub fn tell_words<R: Print>(rt: &R, words: &str) -> Result<(), Fault> {
     println!(rt; "{words}")?;
