@@ -127,6 +127,10 @@ module _ {P Q : History Event → Type 0} (more : (h : History Event) → P h �
   ends_of_merge may_stop events scripts journal replica business producers (Err e) same many stopped is =
       of_merge may_stop events journal replica business producers e (many ∙ ap length same ∙ many_scripts events) stopped (rw same at is)
 
+-- of the same scripts, and of histories that are such
+pub finds_as : {P Q : History Event → Type 0} → ((h : History Event) → P h → Q h) → (given scripts : List (List Event)) (f : AuditFault) → given ≡ scripts → AuditFinds P given f → AuditFinds Q scripts f
+finds_as more given scripts f same is = finds_more more scripts f (rw same at is)
+
 finds : (h : History Event) (scripts : List (List Event)) (f : AuditFault)
     → Faults (transcript h) (handlers h.core.setup) scripts f → IsOfAudit (λ k. k ≡ h) scripts (audit_fault f)
 finds h scripts audit.NoMemory is = tt

@@ -5,6 +5,7 @@ pub mod Endings
 pub mod EventFiles
 pub mod Heeding
 pub mod Listing
+pub mod LockRuns
 pub mod Numbered
 pub mod Promising
 pub mod Reporting

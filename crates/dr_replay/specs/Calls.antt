@@ -1,4 +1,5 @@
 -- What the contracts of the public calls cite, beside the meaning.
+pub mod LockRuns
 pub mod Replayed
 pub mod ReplayFaults
 pub mod RingRuns

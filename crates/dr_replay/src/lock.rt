@@ -7,10 +7,11 @@ ghost use Rattle.dr_replay.specs.Meaning.EventFile.{events_of as events_in};
 ghost use Rattle.dr_accounts.specs.Keeping.{error_of};
 ghost use Rattle.dr_shared.specs.Meaning.FirstFault.{first_fault as first_of};
 ghost use Rattle.dr_shared.specs.Calls.Stops.{MayStop};
+ghost use Rattle.dr_replay.specs.Calls.LockRuns.{CameOfLock};
 ghost use Rattle.dr_replay.specs.Calls.Replayed.{IsReportOfMerge, LockWrites, ReplayCounts, ReplayFaultKeeps};
 ghost use Rattle.dr_replay.specs.Calls.Workers.{IsFirstOf, IsFirstOfLock, IsOfAudit, IsOfLock, IsOfMerge, NoProducerHadToStop, lock_endings};
 ghost use Rattle.dr_replay.specs.Inside.LockWorkers.{ends_of};
-ghost use Rattle.dr_replay.specs.Meaning.Exchange.{CameTo, GoesOnBy, IsOfReplay, setup_for};
+ghost use Rattle.dr_replay.specs.Meaning.Exchange.{CameTo, GoesOnBy, IsOfReplay, lock_setup, setup_for};
 ghost use Rattle.dr_replay.specs.Meaning.Scripts.{scripts_in};
 
 use crate::event_file::read_events;
@@ -230,6 +231,8 @@ fn report<L: Exchange<Event> + Send + Sync, R: Threads + Wait + Sync, G: Gate + 
     ensures first { (sent : List Event) → map (λ v. v.items) scripts.now ≡ scripts_in sent
         → IfErr result (IsOfMerge (MayStop G.may_stop gate.now) (CameTo recorded.history (length scripts.now)) sent) }
     ensures stops { (sent : List Event) → map (λ v. v.items) scripts.now ≡ scripts_in sent → IfOk result (λ t. NoProducerHadToStop (G.must_stop gate.now) sent) }
+    ensures ran { (sent : List Event) → map (λ v. v.items) scripts.now ≡ scripts_in sent → recorded.history.core.setup ≡ lock_setup size sent
+        → CameOfLock (G.may_stop gate.now) (G.must_stop gate.now) size result sent }
 {
     let mut shared = Shared::<Event, L>::new(recorded, blank);
     let ends = make_ends(alloc, &mut shared, scripts.len())?;
@@ -257,6 +260,7 @@ fn merged<R: Threads + Wait + Sync, G: Gate + Sync>(
     ensures text { IfOk result (λ text. IsReportOfMerge (IsOfReplay size events.now) events.now (string_bytes text)) }
     ensures first { IfErr result (IsOfMerge (MayStop G.may_stop gate.now) (IsOfReplay size events.now) events.now) }
     ensures stops { IfOk result (λ text. NoProducerHadToStop (G.must_stop gate.now) events.now) }
+    ensures ran { CameOfLock (G.may_stop gate.now) (G.must_stop gate.now) size result events.now }
 {
     let scripts = scripts(alloc, events)?;
     let recorded = opened(alloc, size, scripts.len(), events.len())?;
@@ -289,6 +293,8 @@ pub fn replay_lock<S: Threads + Wait + Sync, R: Read, W: Write, G: Gate + Sync>(
     ensures first { IfErr result (IsFirstOfLock (MayStop G.may_stop gate.now) size) }
     // A gate that has to stop a producer at its first turn, where that has an event, leaves no report.
     ensures stops { IfSome (R.remaining (inner_of reader.old)) (λ input. IfOk result (λ _. IfOk (events_in input) (NoProducerHadToStop (G.must_stop gate.now)))) }
+    // The file's events went through a new exchange of this size by workers that passed this gate, and a worker's fault is the first of such workers'.
+    ensures ran { IfSome (R.remaining (inner_of reader.old)) (λ input. IfOk (events_in input) (CameOfLock (G.may_stop gate.now) (G.must_stop gate.now) size result)) }
     // A failed read or write is answered where one failed, and nowhere else.
     ensures counted { ReplayCounts result (faults_of reader.old) (faults_of reader.new) (faults_of writer.old) (faults_of writer.new) }
 {

@@ -1,8 +1,9 @@
-use Rattle.std.proofs.Common.{◌≡◌, ◌∙◌, List, Vec, Global, map, ap, string_bytes}
+use Rattle.std.proofs.Common.{◌≡◌, ◌∙◌, List, Vec, Global, map, ap, sym, string_bytes}
+use Rattle.std.proofs.lemmas.List.{length-map}
 use Rattle.dr_seq.specs.declared.event.Event.{Event}
 use Rattle.dr_replay.specs.Meaning.Scripts.{scripts_in}
 use Rattle.dr_replay.proofs.Coming.{of_replay}
-use Rattle.dr_replay.proofs.Endings.{faults_more, reports_more}
+use Rattle.dr_replay.proofs.Endings.{faults_more, opened_for, reports_more}
 use Rattle.dr_replay.proofs.lock.merged.Goals as goal
 use Rattle.dr_shared.specs.Calls.Stops.{MayStop}
 
@@ -29,3 +30,11 @@ pub returns-clause-stops : goal.returns-clause-stops
 returns-clause-stops g c =
     let events = c.args.events.now in
     c.report.ensures.stops events (same _ _ events c.as_slice.ensures.value c.in_ok-scripts.ensures)
+
+pub returns-clause-ran : goal.returns-clause-ran
+returns-clause-ran g c =
+    let events = c.args.events.now in
+    let all = c.in_ok-scripts.scripts.items in
+    let whole = sym (length-map all (λ v. v.items)) in
+    let opened = c.in_ok-recorded.ensures.setup ∙ opened_for c.args.size c.len.result events (map (λ v. v.items) all) (c.len.ensures ∙ c.in_ok-scripts.scripts.ok.0 ∙ whole) c.in_ok-scripts.ensures in
+    c.report.ensures.ran events (same _ _ events c.as_slice.ensures.value c.in_ok-scripts.ensures) opened

@@ -7,6 +7,7 @@ use Rattle.dr_replay.specs.Meaning.EventFile.{events_of}
 use Rattle.dr_replay.specs.Calls.Replayed.{IsReportOfMerge, LockWrites}
 use Rattle.dr_replay.specs.Meaning.Exchange.{IsOfReplay}
 use Rattle.dr_replay.specs.declared.fault.ReplayFault.TheVariants as fault
+use Rattle.dr_replay.proofs.LockRuns.{came_of_locked_file}
 use Rattle.dr_replay.proofs.Reporting.{at_exit, cut_merge, kept_merge}
 use Rattle.dr_replay.proofs.lock.replay_lock.Goals as goal
 use Rattle.dr_shared.specs.Calls.Stops.{MayStop}
@@ -33,3 +34,9 @@ returns-in_err-text-clause-bytes g c =
     let p = err_from_is_err_and c.from_residual-in_err-text.result c.from_residual-in_err-text.ensures.1 in
     rw (p.1, p.2) (kept_merge (MayStop g.G.Gate.may_stop c.args.gate.now) c.args.size (g.W.Write.contents (inner_of c.args.writer.now)) (g.R.Read.remaining (inner_of c.args.reader.now)) c.as_slice.result.now
     c.in_ok-events.events.items c.in_err-text.field-0.0 c.as_slice.ensures.value c.in_ok-events.ensures.file c.in_err-text.ensures.first)
+
+pub returns-clause-ran : goal.returns-clause-ran
+returns-clause-ran g c =
+    let gate = c.args.gate.now in
+    came_of_locked_file (g.G.Gate.may_stop gate) (g.G.Gate.must_stop gate) c.args.size (g.R.Read.remaining (inner_of c.args.reader.now)) c.as_slice.result.now c.in_ok-events.events.items
+    c.in_ok-text.text c.as_slice.ensures.value c.in_ok-events.ensures.file c.in_ok-text.ensures.ran

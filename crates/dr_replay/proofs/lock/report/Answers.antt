@@ -6,6 +6,7 @@ use Rattle.dr_accounts.specs.Keeping.{error_of}
 use Rattle.dr_replay.specs.Meaning.Exchange.{CameTo}
 use Rattle.dr_replay.proofs.Coming.{came}
 use Rattle.dr_replay.proofs.Endings.{ends_of_merge, reports_more}
+use Rattle.dr_replay.proofs.LockRuns.{came_of_lock, history_of, joined_over}
 use Rattle.dr_replay.proofs.Heeding.{joined_heeds, where_ok}
 use Rattle.dr_replay.proofs.Stopping.{joined_stopped}
 use Rattle.dr_replay.proofs.lock.report.Goals as goal
@@ -30,3 +31,16 @@ returns-clause-first g c = λ sent are.
 pub returns-clause-stops : goal.returns-clause-stops
 returns-clause-stops g c = λ sent are.
     where_ok c.settled.result (λ fine. joined_heeds _ _ (g.G.Gate.must_stop c.args.gate.now) _ c.args.scripts.now c.in_ok-ran.ran sent c.in_ok-ran.ensures fine are) c.settled.ensures.producers
+
+pub returns-clause-ran : goal.returns-clause-ran
+returns-clause-ran g c = λ sent are setup.
+    let ran = c.in_ok-ran.ran in
+    let may = g.G.Gate.may_stop c.args.gate.now in
+    let must = g.G.Gate.must_stop c.args.gate.now in
+    let begun = g.L.Exchange.begun in
+    let is = c.in_ok-ran.ensures in
+    let had = c.in_ok-ends.ensures.begun ∙ c.new-shared.ensures.begun ∙ ap (λ (h : History Event). length h.entries) c.requires.begun in
+    let opened = sym (ap (λ (h : History Event). h.core.setup) c.requires.begun) ∙ setup in
+    let fresh = sym (ap (λ (h : History Event). h.entries) c.requires.begun) ∙ c.requires.fresh in
+    came_of_lock (joined_over begun may must c.args.size c.args.scripts.now ran sent is are opened fresh) c.settled.result (map (λ v. v.items) c.args.scripts.now) are
+    (history_of begun may must c.args.size c.args.scripts.now ran sent is are opened fresh _ had) c.settled.ensures.fine c.settled.ensures.first

@@ -1,0 +1,86 @@
+-- What a replay behind a lock came of, by what its workers promised.
+use Rattle.std.proofs.Common.{◌≡◌, ◌<◌, ℕ, List, [], ◌∷◌, length, map, get_or, Vec, Option, None, Some, Result, Ok, Err, IfErr, IfOk, IfSome, OnOk, ap, subst, sym, ◌∙◌, arith}
+use Rattle.std.proofs.lemmas.List.{get_or-map, length-map}
+use Rattle.std.proofs.lemmas.List.FromFn.{get_or-map-range_with_len}
+use Rattle.dr_seq.specs.declared.event.Event.{Event}
+use Rattle.dr_accounts.specs.Keeping.{error_of}
+use Rattle.dr_shared.specs.Calls.Lock.{EndView, no_calls}
+use Rattle.dr_shared.specs.Meaning.FirstFault.{first_fault}
+use Rattle.dr_shared.specs.Meaning.History.{History}
+use Rattle.dr_replay.specs.declared.fault.ReplayFault.{ReplayFault}
+use Rattle.dr_replay.specs.declared.fault.ReplayFault.TheVariants as fault
+use Rattle.dr_replay.specs.declared.given_back.Delivered.{Delivered}
+use Rattle.dr_replay.specs.declared.lock_workers.Joined.{Joined}
+use Rattle.dr_replay.specs.Inside.LockWorkers.{IsJoined, ends_of}
+use Rattle.dr_replay.specs.Meaning.EventFile.{events_of}
+use Rattle.dr_replay.specs.Meaning.Exchange.{GoesOnBy, halted_once, lock_setup}
+use Rattle.dr_replay.specs.Meaning.Scripts.{producers_in, script_in, scripts_in}
+use Rattle.dr_replay.specs.Calls.LockRuns.{CameOfLock, IsHistoryOf, JoinedOver, endings_over}
+use Rattle.dr_replay.specs.Calls.Workers.{IsOfLock}
+use Rattle.dr_replay.proofs.Endings.{finds_as, many_scripts}
+use Rattle.dr_replay.proofs.Stopping.{some_of}
+
+module _ {L Z : Type 0} (begun : History Event) (may_stop must_stop : ℕ → ℕ → Type 0) (size : ℕ) (scripts : List (Vec Event Z)) (joined : Joined L) (events : List Event)
+    (is : IsJoined begun may_stop must_stop size scripts joined) (are : map (λ (v : Vec Event Z). v.items) scripts ≡ scripts_in events)
+    (setup : begun.core.setup ≡ lock_setup size events) (fresh : begun.entries ≡ []) where
+  abbrev delivered : List (Delivered L)
+  delivered = joined.producers.items
+
+  pub as_many : length scripts ≡ producers_in events
+  as_many = sym (length-map scripts (λ (v : Vec Event Z). v.items)) ∙ ap length are ∙ many_scripts events
+
+  -- what came of an exchange is a run
+  abbrev pub joined_over : JoinedOver may_stop must_stop size events
+  joined_over = record {
+    begun = begun;
+    setup = setup;
+    fresh = fresh;
+    journal = joined.journal.end;
+    replica = joined.replica.end;
+    business = joined.business.end;
+    senders = map (λ (s : Delivered L). s.end) delivered;
+    of_journal = error_of joined.journal.part;
+    of_replica = error_of joined.replica.part;
+    of_business = error_of joined.business.part;
+    of_senders = map (λ (s : Delivered L). s.fault) delivered;
+    journal_handled = is.journal;
+    replica_handled = is.replica;
+    business_handled = is.business;
+    many = length-map delivered (λ (s : Delivered L). s.end) ∙ is.producers.many ∙ as_many;
+    all = length-map delivered (λ (s : Delivered L). s.fault) ∙ is.producers.many ∙ as_many;
+    each_sent = λ p below.
+        let within : p < length scripts = omega (arith, as_many) in
+        let inside : p < length delivered = omega (arith, is.producers.many) in
+        let script = some_of scripts p within in
+        let s = some_of delivered p inside in
+        let listed : (get_or scripts p script).items ≡ script_in events p =
+        sym (get_or-map (λ (v : Vec Event Z). v.items) scripts p script [] within) ∙ ap (λ l. get_or l p []) are
+        ∙ get_or-map-range_with_len (script_in events) 0 (producers_in events) p p [] below (omega arith) in
+        let back : get_or (map (λ (d : Delivered L). d.end) delivered) p no_calls ≡ (get_or delivered p s).end = get_or-map (λ (d : Delivered L). d.end) delivered p s no_calls inside in
+        let ended : get_or (map (λ (d : Delivered L). d.fault) delivered) p None ≡ (get_or delivered p s).fault = get_or-map (λ (d : Delivered L). d.fault) delivered p s None inside in
+        rw (listed, sym back, sym ended) at (is.producers.each p s script inside);
+  }
+
+  -- and so is the history
+  pub history_of : (had : ℕ) → had ≡ length begun.entries → (h : History Event) → GoesOnBy begun had (ends_of joined) h → IsHistoryOf joined_over h
+  history_of had same h went =
+      let workers : List (EndView Event) = joined.journal.end ∷ joined.replica.end ∷ joined.business.end ∷ map (λ (s : Delivered L). s.end) delivered in
+      subst (λ n. GoesOnBy begun n (halted_once ∷ workers) h) same (subst (λ e. GoesOnBy begun had (e ∷ workers) h) is.halter went)
+
+-- what is answered
+pub came_of_lock : {A : Type 0} {may_stop must_stop : ℕ → ℕ → Type 0} {size : ℕ} {events : List Event} {P : History Event → Type 0} (over : JoinedOver may_stop must_stop size events) (r : Result A ReplayFault)
+    (scripts : List (List Event)) → scripts ≡ scripts_in events → ((h : History Event) → P h → IsHistoryOf over h)
+    → OnOk r (first_fault (endings_over over) ≡ None) → IfErr r (IsOfLock (endings_over over) P scripts) → CameOfLock may_stop must_stop size r events
+came_of_lock over (Ok x) scripts same more fine first = (over, fine)
+came_of_lock over (Err (fault.Worker who f)) scripts same more fine first = (over, first)
+came_of_lock over (Err (fault.Audit f)) scripts same more fine first = (over, first.0, finds_as more scripts _ f same first.1)
+came_of_lock over (Err (fault.File f)) scripts same more fine first = tt
+
+-- of the file's events
+pub came_of_locked_file : {A : Type 0} (may_stop must_stop : ℕ → ℕ → Type 0) (size : ℕ) (input : Option (List ℕ)) (given events : List Event) (text : A) → given ≡ events
+    → IfSome input (λ bytes. events_of bytes ≡ Ok events) → CameOfLock may_stop must_stop size (Ok text) given
+    → IfSome input (λ bytes. IfOk (events_of bytes) (CameOfLock {A = Unit {0}} may_stop must_stop size (Ok tt)))
+came_of_locked_file may_stop must_stop size None given events text same is came = tt
+came_of_locked_file may_stop must_stop size (Some bytes) given events text same is came =
+    let P : Result (List Event) ℕ → Type 0 = λ r. IfOk r (CameOfLock {A = Unit {0}} may_stop must_stop size (Ok tt)) in
+    subst P (sym is) (subst (λ (l : List Event). CameOfLock may_stop must_stop size (Ok text) l) same came)

@@ -1,0 +1,52 @@
+-- What a replay behind a lock came of.
+use Rattle.std.specs.Prelude.{◌≡◌, ℕ, ◌+◌, ◌/◌, ◌<◌, max, List, [], ◌∷◌, length, Option, None, Result, Ok, Err, slice_index_or}
+use Rattle.dr_seq.specs.declared.event.Event.{Event}
+use Rattle.dr_shared.specs.Calls.Lock.{EndView, no_calls}
+use Rattle.dr_shared.specs.Meaning.FirstFault.{first_fault}
+use Rattle.dr_shared.specs.Meaning.History.{History}
+use Rattle.dr_shared.specs.declared.ended.Ended.{Ended}
+use Rattle.dr_shared.specs.declared.fault.WorkFault.{WorkFault}
+use Rattle.dr_replay.specs.Inside.LockWorkers.{HasHandled, HasSent}
+use Rattle.dr_replay.specs.Meaning.Exchange.{GoesOnBy, halted_once, lock_setup}
+use Rattle.dr_replay.specs.Meaning.Scripts.{producers_in, script_in, scripts_in}
+use Rattle.dr_replay.specs.Calls.Workers.{AuditFinds, IsFirstOf, lock_endings}
+use Rattle.dr_replay.specs.declared.fault.ReplayFault.{ReplayFault}
+use Rattle.dr_replay.specs.declared.fault.ReplayFault.TheVariants as fault
+
+-- a run of the three handlers' workers and of each producer's with its events, through ends of an exchange of this size whose history was empty, each of which came to its gate with each batch or claim
+pub record JoinedOver (may_stop must_stop : ℕ → ℕ → Type 0) (size : ℕ) (events : List Event) : Type 0 where
+  pub begun : History Event
+  pub setup : begun.core.setup ≡ lock_setup size events
+  pub fresh : begun.entries ≡ []
+  -- the ends as they came back, and how their workers ended
+  pub journal : EndView Event
+  pub replica : EndView Event
+  pub business : EndView Event
+  pub senders : List (EndView Event)
+  pub of_journal : Option WorkFault
+  pub of_replica : Option WorkFault
+  pub of_business : Option WorkFault
+  pub of_senders : List (Option WorkFault)
+  pub journal_handled : HasHandled begun 0 (may_stop 0) (must_stop 0) journal of_journal
+  pub replica_handled : HasHandled begun 1 (may_stop 1) (must_stop 1) replica of_replica
+  pub business_handled : HasHandled begun 2 (may_stop 2) (must_stop 2) business of_business
+  pub many : length senders ≡ producers_in events
+  pub all : length of_senders ≡ producers_in events
+  pub each_sent : (p : ℕ) → p < producers_in events
+      → HasSent begun p (max (size / 4) 1) (script_in events p) (may_stop (16 + p)) (must_stop (16 + p)) (slice_index_or senders p no_calls) (slice_index_or of_senders p None)
+
+-- how its workers ended
+abbrev pub endings_over : {may_stop must_stop : ℕ → ℕ → Type 0} {size : ℕ} {events : List Event} → JoinedOver may_stop must_stop size events → List Ended
+endings_over over = lock_endings over.of_journal over.of_replica over.of_business over.of_senders
+
+-- a history that goes on by one halt and by the calls of its workers
+abbrev pub IsHistoryOf : {may_stop must_stop : ℕ → ℕ → Type 0} {size : ℕ} {events : List Event} → JoinedOver may_stop must_stop size events → History Event → Type 0
+IsHistoryOf over h = GoesOnBy over.begun (length over.begun.entries) (halted_once ∷ over.journal ∷ over.replica ∷ over.business ∷ over.senders) h
+
+-- a report comes of a run in which no worker had a fault; a worker's fault is the first of those of a run, and an audit's is found in a history of a run without such a fault; of a file's own faults and of memory nothing is said
+abbrev pub CameOfLock : {A : Type 0} → (ℕ → ℕ → Type 0) → (ℕ → ℕ → Type 0) → ℕ → Result A ReplayFault → List Event → Type 0
+CameOfLock may_stop must_stop size (Ok done) events = (over : JoinedOver may_stop must_stop size events) × (first_fault (endings_over over) ≡ None)
+CameOfLock may_stop must_stop size (Err (fault.Worker who f)) events = (over : JoinedOver may_stop must_stop size events) × IsFirstOf (endings_over over) (fault.Worker who f)
+CameOfLock may_stop must_stop size (Err (fault.Audit f)) events =
+    (over : JoinedOver may_stop must_stop size events) × (first_fault (endings_over over) ≡ None) × AuditFinds (IsHistoryOf over) (scripts_in events) f
+CameOfLock may_stop must_stop size (Err (fault.File f)) events = Unit {0}
