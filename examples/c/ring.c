@@ -63,9 +63,10 @@ static uint32_t send_all(disruptor_sender *sender, uint64_t events, uint64_t cla
 int main(int argc, char **argv) {
     uint64_t events = argc > 1 ? strtoull(argv[1], NULL, 10) : 1000000, claim = argc > 2 ? strtoull(argv[2], NULL, 10) : 10;
     static uint64_t upstreams[HANDLERS];
-    static disruptor_sender sender;
-    static disruptor_receiver receivers[HANDLERS];
-    static disruptor_halter halter;
+    /* Not static: a sanitizer takes what a static handle once had for still in use. */
+    disruptor_sender sender = DISRUPTOR_NEW;
+    disruptor_receiver receivers[HANDLERS] = {DISRUPTOR_NEW};
+    disruptor_halter halter = DISRUPTOR_NEW;
     disruptor_before(upstreams, HANDLERS, 0, 1);
     disruptor_before(upstreams, HANDLERS, 0, 2);
     uint32_t refused = disruptor_open(SIZE, DISRUPTOR_MAX_LIMIT, upstreams, HANDLERS, &sender, receivers, HANDLERS, &halter);

@@ -65,9 +65,10 @@ int main(int argc, char **argv) {
     if (argc > 1) events = strtoull(argv[1], NULL, 10);
     if (argc > 2) claim = strtoull(argv[2], NULL, 10);
     static const uint64_t upstreams[HANDLERS] = {0, 1};
-    static disruptor_sender senders[SENDERS];
-    static disruptor_receiver receivers[HANDLERS];
-    static disruptor_halter halter;
+    /* Not static: a sanitizer takes what a static handle once had for still in use. */
+    disruptor_sender senders[SENDERS] = {DISRUPTOR_NEW};
+    disruptor_receiver receivers[HANDLERS] = {DISRUPTOR_NEW};
+    disruptor_halter halter = DISRUPTOR_NEW;
     uint32_t refused = disruptor_open_several(SIZE, DISRUPTOR_MAX_LIMIT, upstreams, HANDLERS, senders, SENDERS, receivers, HANDLERS, &halter);
     if (refused) {
         fprintf(stderr, "open: %s\n", disruptor_text(refused));
