@@ -46,8 +46,8 @@ impl Held {
     }
 }
 
-/// A handle of C: all zeros before it is opened, and again once it is freed. The rest of a cache line and its neighbour
-/// keeps two handles that two threads use apart.
+/// A handle of C: all zeros before it is first opened. Once it is freed its state is 0 again. The rest of a cache line
+/// and its neighbour keeps two handles that two threads use apart.
 #[repr(C)]
 #[derive(Drop)]
 pub struct Handle {
