@@ -51,10 +51,15 @@ module _ {T : Type 0} where
       }
 
   -- the next one is refused
-  pub wrote_refused : (e a b : SenderEnd T) (lo k : ℕ) (events : List T) (event : T) (s : ℕ) (refusal : Refusal) → WroteFirst e lo events k a → WriteCall a s event b (Err refusal)
-      → WriteAllCall e lo events b (record { count = k; trouble = Some (Refused refusal) })
-  wrote_refused e a b lo k events event s refusal W C = record {
+  pub wrote_refused : (e a b : SenderEnd T) (lo k : ℕ) (events : List T) (event : T) (refusal : Refusal) → k < length events → WroteFirst e lo events k a
+      → WriteCall a (lo + k) event b (Err refusal) → WriteAllCall e lo events b (record { count = k; trouble = Some (Refused refusal) })
+  wrote_refused e a b lo k events event refusal less W C = record {
     call = call_on e a b W.call C.0;
+    answers = record {
+      written = W.answers;
+      stops = (less, answer_before lo (lo + k) (take k events) (Err (Refused refusal)) (Some (sent_of e)) (Some (sent_of a)) W.sent C.1.answer);
+    };
+    sent = C.1.sent ∙ W.sent;
     only = C.1.only ∙ W.only;
     cells = C.1.cells ∙ W.cells;
     stored = C.2 ∙ W.stored;
@@ -62,6 +67,14 @@ module _ {T : Type 0} where
   }
 
   -- all are written
-  pub wrote_each : (e a : SenderEnd T) (lo k n : ℕ) (events : List T) → k ≡ n → WroteFirst e lo events k a → WriteAllCall e lo events a (record { count = n; trouble = None })
-  wrote_each e a lo k n events same W =
-      record { call = W.call; only = W.only; cells = subst (λ (m : ℕ). a.cells ≡ cells_with lo (take m events) e.cells) same W.cells; stored = W.stored; memory = λ is. cc }
+  pub wrote_each : (e a : SenderEnd T) (lo k n : ℕ) (events : List T) → k ≡ n → n ≡ length events → WroteFirst e lo events k a
+      → WriteAllCall e lo events a (record { count = n; trouble = None })
+  wrote_each e a lo k n events same all W = record {
+    call = W.call;
+    answers = record { written = subst (λ (m : ℕ). (j : ℕ) → j < m → WriteAnswers (Some (sent_of e)) (lo + j) (Ok tt)) same W.answers; stops = all };
+    sent = subst (λ (m : ℕ). WritesAll lo (take m events) (sent_of e) (sent_of a)) same W.sent;
+    only = W.only;
+    cells = subst (λ (m : ℕ). a.cells ≡ cells_with lo (take m events) e.cells) same W.cells;
+    stored = W.stored;
+    memory = λ is. cc;
+  }

@@ -3,8 +3,8 @@ use Rattle.std.specs.Prelude.{◌≡◌, ◌≢◌, ℕ, ◌+◌, ◌%◌, List,
 use Rattle.dr_core.specs.declared.ends.Trouble.TheVariants.{Memory}
 use Rattle.dr_core.specs.declared.ends.Wrote.{Wrote}
 use Rattle.dr_core.specs.Calls.Calling.{InletCall, TriesClaim, WritesOne, WritesMany, PublishesStretch}
-use Rattle.dr_core.specs.Calls.Ends.{IsEndsAnswer}
-use Rattle.dr_plain.specs.Calls.Ends.{SenderEnd}
+use Rattle.dr_core.specs.Calls.Ends.{IsEndsAnswer, WriteAllAnswers, WritesAll}
+use Rattle.dr_plain.specs.Calls.Ends.{SenderEnd, sent_of}
 use Rattle.dr_plain.specs.Calls.Sending.{Call, ClaimCall, WriteCall, PublishCall}
 
 module _ {T : Type 0} where
@@ -13,9 +13,11 @@ module _ {T : Type 0} where
   cells_with lo [] cells = cells
   cells_with lo (event ∷ events) cells = cells_with (lo + 1) events (slice_set cells (lo % length cells) (Some event))
 
-  -- many writes: those events lie in their cells that are written, nothing is stored, and memory is never wanting
+  -- many writes: each is answered by what the end knows, those events lie in their cells that are written, nothing is stored, and memory is never wanting
   pub record WriteAllCall (e : SenderEnd T) (lo : ℕ) (events : List T) (e' : SenderEnd T) (answer : Wrote) : Type 0 where
     pub call : Call e e'
+    pub answers : WriteAllAnswers (Some (sent_of e)) lo (length events) answer
+    pub sent : WritesAll lo (take answer.count events) (sent_of e) (sent_of e')
     pub only : e'.knows ≡ e.knows
     pub cells : e'.cells ≡ cells_with lo (take answer.count events) e.cells
     pub stored : e'.stored ≡ e.stored

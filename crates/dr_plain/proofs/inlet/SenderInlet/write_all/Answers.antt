@@ -1,7 +1,4 @@
-use Rattle.std.proofs.Common.{◌≡◌, ◌+◌, Err, Some, arith, inl, length, refl, sym, take, ◌∙◌}
-use Rattle.dr_core.proofs.ManyWrites.{answer_before}
-use Rattle.dr_core.specs.declared.ends.Trouble.TheVariants.{Refused}
-use Rattle.dr_plain.specs.Calls.Ends.{sent_of}
+use Rattle.std.proofs.Common.{◌≡◌, arith, inl, length, refl, sym, ◌∙◌}
 use Rattle.dr_plain.proofs.ManyWrites.{wrote_each, wrote_more, wrote_none, wrote_refused}
 use Rattle.dr_plain.proofs.inlet.SenderInlet.write_all.Goals as goal
 
@@ -17,29 +14,25 @@ loop-k-preserved g c =
 pub returns-in-Err-clause-kept : goal.returns-in-Err-clause-kept
 returns-in-Err-clause-kept g c = c.in-Err.ensures.0.0 ∙ c.loop-k.invariant.call.0
 
+pub returns-in-Err-clause-own : goal.returns-in-Err-clause-own
+returns-in-Err-clause-own g c =
+    wrote_refused c.args.self.now c.loop-k.self c.write.new.self c.args.lo c.loop-k.k c.args.events.now c.index-events-k.result c.in-Err.refusal c.loop-k-test.true c.loop-k.invariant c.in-Err.ensures
+
 pub returns-in-Err-clause-answer : goal.returns-in-Err-clause-answer
-returns-in-Err-clause-answer g c =
-    let W = c.loop-k.invariant in record {
-      written = W.answers;
-      stops = (
-        c.loop-k-test.true,
-        answer_before c.args.lo (c.args.lo + c.loop-k.k) (take c.loop-k.k c.args.events.now) (Err (Refused c.in-Err.refusal)) (Some (sent_of c.args.self.now)) (Some (sent_of c.loop-k.self))
-            W.sent c.in-Err.ensures.1.answer,
-      );
-    }
+returns-in-Err-clause-answer g c = (returns-in-Err-clause-own g c).answers
 
 pub returns-in-Err-clause-sent : goal.returns-in-Err-clause-sent
-returns-in-Err-clause-sent g c = c.in-Err.ensures.1.sent ∙ c.loop-k.invariant.sent
-
-pub returns-in-Err-clause-own : goal.returns-in-Err-clause-own
-returns-in-Err-clause-own g c = wrote_refused _ c.loop-k.self _ c.args.lo c.loop-k.k c.args.events.now _ _ c.in-Err.refusal c.loop-k.invariant c.in-Err.ensures
+returns-in-Err-clause-sent g c = (returns-in-Err-clause-own g c).sent
 
 pub returns-in-Err-clause-called : goal.returns-in-Err-clause-called
-returns-in-Err-clause-called g c = inl (wrote_refused _ c.loop-k.self _ c.args.lo c.loop-k.k c.args.events.now _ _ c.in-Err.refusal c.loop-k.invariant c.in-Err.ensures)
+returns-in-Err-clause-called g c = inl (returns-in-Err-clause-own g c)
 
-pub returns-clause-called : goal.returns-clause-called
-returns-clause-called g c =
+pub returns-clause-own : goal.returns-clause-own
+returns-clause-own g c =
     let all = c.loop-k-test.false in
     let end = c.loop-k.auto.k-end in
     let same : c.loop-k.k ≡ length c.args.events.now = omega arith in
-    inl (wrote_each _ _ c.args.lo c.loop-k.k (length c.args.events.now) c.args.events.now same c.loop-k.invariant)
+    wrote_each _ _ c.args.lo c.loop-k.k (length c.args.events.now) c.args.events.now same refl c.loop-k.invariant
+
+pub returns-clause-called : goal.returns-clause-called
+returns-clause-called g c = inl (returns-clause-own g c)
