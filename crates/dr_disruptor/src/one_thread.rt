@@ -23,7 +23,7 @@ fn send(core: &mut Core<Event>, script: &[Event], at: usize, n: usize) -> Result
     requires limit { at + n ≤ 2 ^ 62 }
     ensures { SendsPart result core.old.setup.upstreams core.old.setup.size script.now at (at + n) core.new }
 {
-    // So says its contract that the core has a final handler.
+    // By this call's contract every graph has a final handler, which the claim's room goes by.
     let _handlers = core.graph().len();
     let Claimed { lo, hi } = core.claim(0, n as u64)?;
     for s in at..at + n {
@@ -38,7 +38,7 @@ fn turns<H: Handler<Event>>(core: &mut Core<Event>, handlers: &mut [H]) -> Resul
     ensures { (events : List Event) (starts : List H) (at sent : ℕ) → AreOffered H.goes events starts at sent core.old handlers.old
         → Turns result H.goes core.old.setup.upstreams core.old.setup.size events starts sent core.new handlers.new }
 {
-    // So says its contract that each handler comes after its upstreams.
+    // By this call's contract each handler comes after its upstreams.
     let many = core.graph().len();
     for h in 0..many {
         core.turn_in_place(h, &mut handlers[h])?;
