@@ -1,9 +1,9 @@
 -- A handler's turn, where events are there that it has not taken.
-use Rattle.std.proofs.Common.{◌≡◌, ◌≢◌, ◌≤◌, ◌<◌, ◌+◌, ◌-◌, ℕ, Bool, true, List, [], ◌∷◌, ◌++◌, length, take, drop, map, inl, inr, Option, Some}
-use Rattle.std.proofs.Common.{slice_index, Result, Ok, Err, refl, sym, ap, ◌∙◌, subst, arith, take-add, length-append, get_or-set_same}
+use Rattle.std.proofs.Common.{◌≡◌, ◌≢◌, ◌≤◌, ◌<◌, ◌+◌, ◌-◌, ℕ, Bool, true, List, [], ◌∷◌, ◌++◌, length, take, drop, map, inl, inr, Some}
+use Rattle.std.proofs.Common.{slice_index, Result, Ok, Err, refl, sym, ap, ◌∙◌, subst, arith, get_or-set_same}
 use Rattle.std.specs.Prelude.{Contains, slice_set}
 use Rattle.std.proofs.lemmas.Bool.{cases_lt}
-use Rattle.std.proofs.lemmas.List.{append-nil, get_or-set_other, length-set, length-take-le}
+use Rattle.std.proofs.lemmas.List.{append-nil, get_or-set_other, length-set}
 use Rattle.dr_seq.specs.declared.event.Event.{Event}
 use Rattle.dr_graph.specs.Meaning.Graph.{IsGraph, least_of, upstreams_of}
 use Rattle.dr_graph.proofs.Gating.{least_above_some}
@@ -19,9 +19,9 @@ use Rattle.dr_core.specs.Calls.Handling.{GoesThrough, Relation, TakesTurn, showi
 use Rattle.dr_core.specs.Calls.Shows.{IsStep}
 use Rattle.dr_core.specs.Meaning.Machine.{State, available, front, offered}
 use Rattle.dr_core.proofs.Leasts.{least_of-member}
-use Rattle.dr_shared.specs.Meaning.Work.{Dealt, FollowFrom, HandsOut, Works, dealt_events, shown_of}
+use Rattle.dr_shared.specs.Meaning.Work.{Dealt, Works}
 use Rattle.dr_shared.proofs.Working.{works_more}
-use Rattle.dr_disruptor.specs.OneThread.{Along, Rests, far, passed, setup_here}
+use Rattle.dr_disruptor.specs.OneThread.{Rests, far, passed, setup_here}
 use Rattle.dr_disruptor.specs.Running.{WentThrough}
 use Rattle.dr_disruptor.proofs.Passing.{Stepped, completes, front_below, next_is, polls, stepped}
 use Rattle.dr_disruptor.proofs.Sending.{far_not, far_turned}

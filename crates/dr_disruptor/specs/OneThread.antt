@@ -1,5 +1,5 @@
--- A run on one thread: how far the core and the handlers are, and why there was no run.
-use Rattle.std.specs.Prelude.{◌≡◌, ℕ, ◌+◌, ◌^◌, ◌<◌, ◌≤◌, ◌==◌, nat_lt, false, if◌then◌else◌, List, length, take, replicate, Option, None, Some, slice_index, slice_index_or, Result, Ok, Err}
+-- A run on one thread: how far the core and the handlers are.
+use Rattle.std.specs.Prelude.{◌≡◌, ℕ, ◌+◌, ◌^◌, ◌<◌, ◌≤◌, nat_lt, false, if◌then◌else◌, List, length, take, replicate, Option, None, Some, slice_index, slice_index_or, Result, Ok, Err}
 use mathlib.Core.Option.{some}
 use lib.ListN.{get_elem?}
 use Rattle.dr_seq.specs.declared.event.Event.{Event}
@@ -11,16 +11,7 @@ use Rattle.dr_core.specs.Calls.Shows.{Shows}
 use Rattle.dr_core.specs.Meaning.Machine.{Setup, State}
 use Rattle.dr_core.specs.declared.mode.Mode.TheVariants.{Single}
 use Rattle.dr_core.specs.declared.refusal.Refusal.{Refusal}
-use Rattle.dr_core.specs.declared.refusal.Refusal.TheVariants.{Exhausted}
-use Rattle.dr_shared.specs.declared.fault.WorkFault.TheVariants.{Refused}
 use Rattle.dr_disruptor.specs.Running.{AllWentThrough, WentThrough}
-use Rattle.dr_disruptor.specs.declared.fault.RunFault.{RunFault}
-use Rattle.dr_disruptor.specs.declared.fault.RunFault.TheVariants.{Handlers, Memory, Worker}
-
--- of a graph of so many handlers, where so many were given, and a script of so many events: that the handlers differ, then that there are not so many sequences, and else a lack of memory
-abbrev pub refusal_here : ℕ → ℕ → ℕ → RunFault
-refusal_here graph given script =
-    if graph == given then (if nat_lt (2 ^ 62) script then Worker 16 (Refused Exhausted) else Memory) else Handlers graph given
 
 -- one producer, and as many sequences as there may be
 abbrev pub setup_here : List (List ℕ) → ℕ → Setup

@@ -2,15 +2,14 @@
 
 ghost use Rattle.std.specs.Prelude.{◌≡◌, ◌<◌, ◌≤◌, ◌+◌, ◌^◌, ℕ, List, IfErr, IfOk, length};
 ghost use Rattle.dr_seq.specs.declared.event.Event.{Event};
-ghost use Rattle.dr_disruptor.specs.OneThread.{AreOffered, PassesAll, Rests, SendsPart, Turns, refusal_here};
+ghost use Rattle.dr_disruptor.specs.OneThread.{AreOffered, PassesAll, Rests, SendsPart, Turns};
+ghost use Rattle.dr_disruptor.specs.Refused.{refusal_of};
 ghost use Rattle.dr_disruptor.specs.Running.{AllWentThrough};
 
 use crate::fault::RunFault;
-use crate::workers::SENDER;
 use dr_core::{Claimed, Core, Handler, MAX_LIMIT, Mode, Refusal};
 use dr_graph::Graph;
 use dr_seq::{Event, Size};
-use dr_shared::WorkFault;
 use std::alloc::Global;
 
 // Puts the next `n` events into the core, from the place `at` on: the event at a place goes to the sequence
@@ -72,9 +71,8 @@ fn pass<H: Handler<Event>>(
 /// this size: events are claimed, written and published as many at a time as there are slots, and then each handler
 /// has its turn. It starts no thread, and waits for nobody.
 ///
-/// It is refused with `Handlers` where there are not as many handlers as the graph has, with the sender's refusal
-/// where the script has more events than there are sequences, and with `Memory` where there is none for the core.
-/// Then no handler was called.
+/// It is refused with `Handlers` where there are not as many handlers as the graph has, and with `Memory` where there
+/// is none for the core. Then no handler was called.
 pub fn run_here<H: Handler<Event> + Drop>(
     alloc: Global,
     graph: Graph,
@@ -85,20 +83,13 @@ pub fn run_here<H: Handler<Event> + Drop>(
     // Each handler went through exactly the script, and stands at its place.
     ensures whole { IfOk result (λ after. AllWentThrough H.goes script.now handlers.items after.items) }
     ensures many { IfOk result (λ _. length handlers.items ≡ length graph.upstreams) }
-    ensures few { IfOk result (λ _. length script.now ≤ 2 ^ 62) }
-    ensures refused { IfErr result (λ e. e ≡ refusal_here (length graph.upstreams) (length handlers.items) (length script.now)) }
+    ensures refused { IfErr result (λ e. e ≡ refusal_of (length graph.upstreams) (length handlers.items)) }
 {
     let (expected, given) = (graph.len(), handlers.len());
     if given != expected {
         return Err(RunFault::Handlers {
             graph: expected,
             given,
-        });
-    }
-    if script.len() as u64 > MAX_LIMIT {
-        return Err(RunFault::Worker {
-            who: SENDER,
-            fault: WorkFault::Refused(Refusal::Exhausted),
         });
     }
     let mut core = Core::open_valid(alloc, graph, size, Mode::Single, MAX_LIMIT, Event::NONE)?;

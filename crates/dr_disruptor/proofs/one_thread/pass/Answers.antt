@@ -1,4 +1,4 @@
-use Rattle.std.proofs.Common.{◌≡◌, ◌+◌, ◌≤◌, ◌<◌, ap, arith, length, subst, ◌∙◌}
+use Rattle.std.proofs.Common.{◌≡◌, ◌+◌, ap, arith, subst, ◌∙◌}
 use Rattle.dr_core.specs.Meaning.Machine.{Setup}
 use Rattle.dr_seq.proofs.Sizes.{size_positive}
 use Rattle.dr_disruptor.specs.OneThread.{Rests, setup_here}

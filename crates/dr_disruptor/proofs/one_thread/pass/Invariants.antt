@@ -1,5 +1,4 @@
-use Rattle.std.proofs.Common.{◌≤◌, ◌-◌, ◌≡◌, length}
-use Rattle.dr_core.specs.Calls.CoreView.{CoreView}
+use Rattle.std.proofs.Common.{◌≤◌, ◌-◌, length}
 use Rattle.dr_disruptor.specs.OneThread.{Along, Rests}
 use Rattle.dr_disruptor.proofs.one_thread.pass.Given as goal
 

@@ -1,4 +1,4 @@
-use Rattle.std.proofs.Common.{◌≤◌, ◌≡◌, ℕ, List, length}
+use Rattle.std.proofs.Common.{◌≡◌, ℕ, List, length}
 use Rattle.dr_seq.specs.declared.event.Event.{Event}
 use Rattle.dr_disruptor.specs.OneThread.{Along, AreOffered, Rests}
 use Rattle.dr_disruptor.proofs.one_thread.turns.Given as goal
