@@ -1,205 +1,212 @@
-//! One exchange behind the lock, from its opening to the audit of its history.
+//! Rounds behind the lock, from the opening of an exchange to the audit of its history.
 
 ghost use Rattle.std.specs.Prelude.{◌≡◌};
 
-mod workers;
+mod seat;
 
 use crate::fault::Fault;
-use crate::graphs::graph;
+use crate::graphs::{any_size, graph};
 use crate::random::Random;
-use crate::receiving::{Received, Receiving};
-use crate::sending::Sending;
-use crate::signs::Signs;
+use crate::receiving::Received;
+use crate::round::{Came, Opened, play};
+use crate::sending::Sent;
 use crate::told::Told;
 use dr_core::{MAX_LIMIT, Mode};
-use dr_seq::{Event, Size};
+use dr_seq::Event;
 use dr_shared::{End, Exchange, Recorded, Shared, audit, finish};
+use seat::Seat;
 use std::alloc::{AllocError, Global};
 use std::marker::Brand;
 use std::sync::Wait;
 use std::sync::ledger::{Blank, Ledger};
 use std::thread::Threads;
-use workers::{Around, Handled, Handler, Joined, Parties, Producer, Sent, exchange};
 
-fn producers_of<L: Exchange<Event>>(
+/// How many ends a round has at most: of three producers, of three handlers, and of who halts.
+const MOST_ENDS: usize = 7;
+
+/// What an exchange is opened with.
+#[derive(Clone, Copy)]
+struct Setup {
+    producers: u64,
+    handlers: u64,
+    slots: u64,
+    in_order: bool,
+}
+
+fn ends_of<L: Exchange<Event>>(
     alloc: Global,
     shared: &mut Shared<Event, L>,
-    mode: Mode,
-    size: u64,
-    random: &mut Random,
-) -> Result<Vec<Producer<L>>, Fault> {
+) -> Result<Vec<End<Event, L>>, Fault> {
     let mut all = Vec::new(alloc);
-    let (count, in_order) = match mode {
-        Mode::Single => (1, true),
-        Mode::Multi(count) => (count, false),
-    };
-    for p in 0..count {
-        let end = shared.end().ok_or(Fault::Ends)?;
-        all.push(Producer {
-            p,
+    for _ in 0..MOST_ENDS {
+        all.push(shared.end().ok_or(Fault::Ends)?)?;
+    }
+    Ok(all)
+}
+
+/// Seats with the last of these ends, numbered from 0.
+fn seats_of<'a, L: Exchange<Event>, R>(
+    rt: &'a R,
+    alloc: Global,
+    shared: &'a Shared<Event, L>,
+    ends: &mut Vec<End<Event, L>>,
+    count: u64,
+) -> Result<Vec<Seat<'a, L, R>>, AllocError> {
+    let mut all = Vec::new(alloc);
+    for number in 0..count {
+        let end = ends.pop();
+        all.push(Seat {
+            rt,
+            shared,
             end,
-            random: random.split(),
-            sending: Sending::new(alloc, p, size, in_order, random.split()),
+            number,
         })?;
     }
     Ok(all)
 }
 
-fn handler<L: Exchange<Event>>(
-    alloc: Global,
-    shared: &mut Shared<Event, L>,
-    h: usize,
-    random: &mut Random,
-) -> Result<Handler<L>, Fault> {
-    let end = shared.end().ok_or(Fault::Ends)?;
-    let own = random.split();
-    let receiving = Receiving::new(alloc, random)?;
-    Ok(Handler {
-        h,
-        end,
-        random: own,
-        receiving,
-        leaves: random.below(4) == 0,
-    })
-}
-
-fn handlers_of<L: Exchange<Event>>(
-    alloc: Global,
-    shared: &mut Shared<Event, L>,
-    count: usize,
-    random: &mut Random,
-) -> Result<Vec<Handler<L>>, Fault> {
-    let mut all = Vec::new(alloc);
-    for h in 0..count {
-        all.push(handler(alloc, shared, h, random)?)?;
-    }
-    Ok(all)
-}
-
-/// What came of an exchange, with the ends apart.
-#[derive(Drop)]
-struct Gathered<L: Ledger> {
-    ends: Vec<End<Event, L>>,
-    scripts: Vec<Vec<Event>>,
-    received: Vec<Received>,
-}
-
-impl<L: Ledger> Gathered<L> {
-    fn add_producers(&mut self, sent: Vec<Sent<L>>) -> Result<(), Fault> {
-        for Sent { end, script } in sent {
-            self.ends.push(end)?;
-            self.scripts.push(script?)?;
+/// The ends of these seats.
+fn take_ends<L: Exchange<Event>, R>(
+    ends: &mut Vec<End<Event, L>>,
+    seats: Vec<Seat<'_, L, R>>,
+) -> Result<(), AllocError> {
+    for seat in seats {
+        if let Some(end) = seat.end {
+            ends.push(end)?;
         }
-        Ok(())
     }
-
-    fn add_handlers(&mut self, handled: Vec<Handled<L>>) -> Result<(), Fault> {
-        for Handled { end, received } in handled {
-            self.ends.push(end)?;
-            self.received.push(received?)?;
-        }
-        Ok(())
-    }
+    Ok(())
 }
 
-fn gather<L: Ledger>(alloc: Global, joined: Joined<L>) -> Result<Gathered<L>, Fault> {
-    let Joined {
-        halter,
-        sent,
-        handled,
-    } = joined;
-    let mut all = Gathered {
-        ends: Vec::new(alloc),
-        scripts: Vec::new(alloc),
-        received: Vec::new(alloc),
-    };
-    all.ends.push(halter)?;
-    all.add_producers(sent)?;
-    all.add_handlers(handled)?;
-    Ok(all)
-}
-
-fn views<'a>(alloc: Global, scripts: &'a [Vec<Event>]) -> Result<Vec<&'a [Event]>, AllocError> {
-    let mut all = Vec::with_capacity(alloc, scripts.len())?;
-    for script in scripts {
-        all.push(script.as_slice())?;
+/// The events that each producer sent.
+fn scripts_of<'a>(alloc: Global, all: &'a [Sent]) -> Result<Vec<&'a [Event]>, AllocError> {
+    let mut scripts = Vec::new(alloc);
+    for sent in all {
+        scripts.push(sent.events.as_slice())?;
     }
-    Ok(all)
-}
-
-fn told(
-    alloc: Global,
-    recorded: &Recorded<Event>,
-    scripts: &[Vec<Event>],
-    received: &[Received],
-) -> Result<Told, Fault> {
-    let views = views(alloc, scripts)?;
-    let list = audit(alloc, recorded, views.as_slice())?;
-    Told::of(list.as_slice(), received)
+    Ok(scripts)
 }
 
 /// Compares what each handler received with the one list of the audit.
+fn told(
+    alloc: Global,
+    recorded: &Recorded<Event>,
+    sent: &[Sent],
+    received: &[Received],
+) -> Result<Told, Fault> {
+    let scripts = scripts_of(alloc, sent)?;
+    let list = audit(alloc, recorded, scripts.as_slice())?;
+    Told::of(list.as_slice(), received)
+}
+
+/// What came of a round, with all ends.
+#[derive(Drop)]
+struct Played<L: Ledger> {
+    ends: Vec<End<Event, L>>,
+    sent: Vec<Sent>,
+    received: Vec<Received>,
+}
+
+/// Brings the ends back to the lock, and audits.
 fn audited<L: Exchange<Event>>(
     alloc: Global,
     shared: Shared<Event, L>,
-    gathered: Gathered<L>,
+    played: Played<L>,
 ) -> Result<Told, Fault> {
-    let Gathered {
+    let Played {
         ends,
-        scripts,
+        sent,
         received,
-    } = gathered;
+    } = played;
     match finish(shared, ends) {
-        Ok(recorded) => told(alloc, &recorded, scripts.as_slice(), received.as_slice()),
+        Ok(recorded) => told(alloc, &recorded, sent.as_slice(), received.as_slice()),
         Err(_) => Err(Fault::Ends),
     }
 }
 
-/// A core with a random graph and up to three producers, their mode, and its slots.
-fn opened(alloc: Global, random: &mut Random) -> Result<(Recorded<Event>, Mode, u64), Fault> {
-    let graph = graph(alloc, random)?;
-    let slots = 1 << random.below(11);
-    let mode = match random.below(4) {
-        0 => Mode::Single,
-        producers => Mode::Multi(producers),
-    };
-    let size = Size::new(slots)?;
-    let recorded = Recorded::open(alloc, graph, size, mode, MAX_LIMIT, Event::NONE, 0, 0)?;
-    Ok((recorded, mode, slots))
-}
-
-fn parties<L: Exchange<Event>>(
+/// A seat for each producer, for each handler, and for who halts.
+fn seated<'a, L: Exchange<Event>, R>(
+    rt: &'a R,
     alloc: Global,
-    shared: &mut Shared<Event, L>,
-    mode: Mode,
-    slots: u64,
-    handlers: usize,
-    random: &mut Random,
-) -> Result<Parties<L>, Fault> {
-    Ok(Parties {
-        producers: producers_of(alloc, shared, mode, slots, random)?,
-        handlers: handlers_of(alloc, shared, handlers, random)?,
-        halter: shared.end().ok_or(Fault::Ends)?,
-        random: random.split(),
+    shared: &'a Shared<Event, L>,
+    ends: &mut Vec<End<Event, L>>,
+    setup: Setup,
+) -> Result<Opened<Seat<'a, L, R>, Seat<'a, L, R>, Seat<'a, L, R>>, AllocError> {
+    let halter = Seat {
+        rt,
+        shared,
+        end: ends.pop(),
+        number: 0,
+    };
+    let inlets = seats_of(rt, alloc, shared, ends, setup.producers)?;
+    let outlets = seats_of(rt, alloc, shared, ends, setup.handlers)?;
+    Ok(Opened {
+        inlets,
+        outlets,
+        halter,
+        slots: setup.slots,
+        in_order: setup.in_order,
     })
 }
 
-/// Runs an exchange with threads of their own for each producer and each handler, and gathers what came of it.
-fn played<L: Exchange<Event> + Send + Sync, R: Threads + Wait + Sync>(
+fn take_all<L: Exchange<Event>, R>(
+    ends: &mut Vec<End<Event, L>>,
+    inlets: Vec<Seat<'_, L, R>>,
+    outlets: Vec<Seat<'_, L, R>>,
+    halters: Vec<Seat<'_, L, R>>,
+) -> Result<(), AllocError> {
+    take_ends(ends, inlets)?;
+    take_ends(ends, outlets)?;
+    take_ends(ends, halters)
+}
+
+/// Puts all ends with those that nobody sat at.
+fn gathered<L: Exchange<Event>, R>(
+    mut ends: Vec<End<Event, L>>,
+    came: Came<Seat<'_, L, R>, Seat<'_, L, R>, Seat<'_, L, R>>,
+) -> Result<Played<L>, Fault> {
+    let Came {
+        inlets,
+        outlets,
+        halters,
+        sent,
+        received,
+    } = came;
+    match take_all(&mut ends, inlets, outlets, halters) {
+        Ok(()) => Ok(Played {
+            ends,
+            sent,
+            received,
+        }),
+        Err(_) => Err(Fault::Memory),
+    }
+}
+
+/// Runs an exchange with threads of their own for each producer and each handler.
+fn run<L: Exchange<Event> + Send + Sync, R: Threads + Wait + Sync>(
     rt: &R,
     alloc: Global,
     shared: &Shared<Event, L>,
-    parties: Parties<L>,
-) -> Result<Gathered<L>, Fault> {
-    let signs = Signs::new();
-    let around = Around {
-        rt,
-        alloc,
-        shared,
-        signs: &signs,
-    };
-    let joined = exchange(&around, parties)?;
-    gather(alloc, joined)
+    mut ends: Vec<End<Event, L>>,
+    setup: Setup,
+    random: &mut Random,
+) -> Result<Played<L>, Fault> {
+    let opened = seated(rt, alloc, shared, &mut ends, setup)?;
+    match play(rt, alloc, opened, random) {
+        Ok(came) => gathered(ends, came),
+        Err(fault) => Err(fault),
+    }
+}
+
+fn run_over<L: Exchange<Event> + Send + Sync, R: Threads + Wait + Sync>(
+    rt: &R,
+    alloc: Global,
+    shared: &mut Shared<Event, L>,
+    setup: Setup,
+    random: &mut Random,
+) -> Result<Played<L>, Fault> {
+    let ends = ends_of(alloc, shared)?;
+    run(rt, alloc, shared, ends, setup, random)
 }
 
 /// Runs an exchange over a ledger, and compares what each handler received with the list of the audit.
@@ -208,8 +215,7 @@ fn round_over<L: Exchange<Event> + Send + Sync, R: Threads + Wait + Sync>(
     alloc: Global,
     blank: Blank,
     recorded: Recorded<Event>,
-    mode: Mode,
-    slots: u64,
+    setup: Setup,
     random: &mut Random,
 ) -> Result<Told, Fault>
     requires name { blank.name ≡ L.name }
@@ -217,11 +223,30 @@ fn round_over<L: Exchange<Event> + Send + Sync, R: Threads + Wait + Sync>(
     requires ends { blank.parts ≡ 65 }
     requires begun { recorded.history ≡ L.begun }
 {
-    let handlers = recorded.graph().len();
     let mut shared = Shared::<Event, L>::new(recorded, blank);
-    let parties = parties(alloc, &mut shared, mode, slots, handlers, random)?;
-    let gathered = played(rt, alloc, &shared, parties)?;
-    audited(alloc, shared, gathered)
+    match run_over(rt, alloc, &mut shared, setup, random) {
+        Ok(played) => audited(alloc, shared, played),
+        Err(fault) => Err(fault),
+    }
+}
+
+/// A core with a random graph and up to three producers, and what it was opened with.
+fn recorded(alloc: Global, random: &mut Random) -> Result<(Recorded<Event>, Setup), Fault> {
+    let graph = graph(alloc, random)?;
+    let handlers = graph.len() as u64;
+    let size = any_size(random)?;
+    let (mode, producers) = match random.below(4) {
+        0 => (Mode::Single, 1),
+        producers => (Mode::Multi(producers), producers),
+    };
+    let setup = Setup {
+        producers,
+        handlers,
+        slots: size.get(),
+        in_order: matches!(mode, Mode::Single),
+    };
+    let recorded = Recorded::open(alloc, graph, size, mode, MAX_LIMIT, Event::NONE, 0, 0)?;
+    Ok((recorded, setup))
 }
 
 /// Runs an exchange with threads of their own for each producer and each handler, any of which may
@@ -231,7 +256,6 @@ pub fn round<R: Threads + Wait + Sync>(
     alloc: Global,
     random: &mut Random,
 ) -> Result<Told, Fault> {
-    let (recorded, mode, slots) = opened(alloc, random)?;
-    let blank = Blank::new(65);
-    round_over::<Brand, R>(rt, alloc, blank, recorded, mode, slots, random)
+    let (recorded, setup) = recorded(alloc, random)?;
+    round_over::<Brand, R>(rt, alloc, Blank::new(65), recorded, setup, random)
 }

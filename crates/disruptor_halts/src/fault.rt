@@ -3,7 +3,6 @@
 use dr_core::{OpenFault, Refusal, Trouble};
 use dr_graph::GraphFault;
 use dr_ring::RingFault;
-use dr_seq::SizeFault;
 use dr_shared::AuditFault;
 use std::alloc::{AllocError, AllocFailed};
 use std::{fmt, io};
@@ -116,23 +115,11 @@ impl From<AuditFault> for Fault {
     }
 }
 
-impl From<Refusal> for Fault {
-    fn from(refusal: Refusal) -> Fault {
-        Fault::Refused(refusal)
-    }
-}
-
 impl From<Trouble> for Fault {
     fn from(trouble: Trouble) -> Fault {
         match trouble {
             Trouble::Refused(refusal) => Fault::Refused(refusal),
             Trouble::Memory => Fault::Memory,
         }
-    }
-}
-
-impl From<SizeFault> for Fault {
-    fn from(_: SizeFault) -> Fault {
-        Fault::Usage
     }
 }

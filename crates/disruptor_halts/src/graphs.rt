@@ -1,7 +1,9 @@
-//! The graphs that exchanges are opened for.
+//! The graphs and the sizes that exchanges are opened for.
 
+use crate::fault::Fault;
 use crate::random::Random;
 use dr_graph::{Graph, GraphBuilder, GraphFault};
+use dr_seq::Size;
 use std::alloc::Global;
 
 /// Handlers, and which comes after which.
@@ -35,4 +37,12 @@ pub fn graph(alloc: Global, random: &mut Random) -> Result<Graph, GraphFault> {
     let mut builder = GraphBuilder::new(alloc);
     declare(&mut builder, shape)?;
     builder.build()
+}
+
+/// Up to 1024 slots.
+pub fn any_size(random: &mut Random) -> Result<Size, Fault> {
+    match Size::new(1 << random.below(11)) {
+        Ok(size) => Ok(size),
+        Err(_) => Err(Fault::WrongReply),
+    }
 }

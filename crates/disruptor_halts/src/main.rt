@@ -10,12 +10,14 @@
 ghost use Rattle.std.specs.Prelude.{◌≡◌};
 
 mod by_lock;
+mod ends;
 mod fault;
 mod graphs;
-mod joining;
 mod over_ring;
+mod parties;
 mod random;
 mod receiving;
+mod round;
 mod sending;
 mod signs;
 mod stretch;

@@ -22,6 +22,7 @@ pub struct Receiving {
     room: Vec<Event>,
     taken: Vec<Event>,
     completed: u64,
+    leaves: bool,
 }
 
 impl Receiving {
@@ -33,7 +34,18 @@ impl Receiving {
             room: vec![in alloc; Event::NONE; most as usize]?,
             taken: Vec::new(alloc),
             completed: 0,
+            leaves: random.below(4) == 0,
         })
+    }
+
+    /// What decides its turns.
+    pub fn random(&mut self) -> &mut Random {
+        &mut self.random
+    }
+
+    /// Whether it takes no more at some time, whatever there is.
+    pub fn leaves(&self) -> bool {
+        self.leaves
     }
 
     /// What it received, at its end.

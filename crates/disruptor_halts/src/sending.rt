@@ -7,36 +7,25 @@ use dr_core::{Claimed, Inlet, Refusal, Trouble};
 use dr_seq::Event;
 use std::alloc::Global;
 
-/// An event with its sequence.
-#[derive(Clone, Copy)]
+/// The events that a producer sent, in the order of its claims, and the sequence of each.
+#[derive(Drop)]
 pub struct Sent {
-    pub sequence: u64,
-    pub event: Event,
+    pub sequences: Vec<u64>,
+    pub events: Vec<Event>,
 }
 
 // How many events several producers sent.
-fn how_many(all: &[Vec<Sent>]) -> usize {
+fn how_many(all: &[Sent]) -> usize {
     let mut count: usize = 0;
     for sent in all {
-        count = count.saturating_add(sent.len());
+        count = count.saturating_add(sent.events.len());
     }
     count
 }
 
-/// What several producers sent, by the sequences. Each sequence below their number is to be there once.
-pub fn by_sequence(alloc: Global, all: &[Vec<Sent>]) -> Result<Vec<Event>, Fault> {
-    let count = how_many(all);
-    let mut found = vec![in alloc; false; count]?;
-    let mut events = vec![in alloc; Event::NONE; count]?;
-    for sent in all {
-        place(sent.as_slice(), &mut found, &mut events)?;
-    }
-    Ok(events)
-}
-
 /// Puts each event in its place, where no other is.
-fn place(sent: &[Sent], found: &mut [bool], events: &mut [Event]) -> Result<(), Fault> {
-    for Sent { sequence, event } in sent {
+fn place(sent: &Sent, found: &mut [bool], events: &mut [Event]) -> Result<(), Fault> {
+    for (sequence, event) in sent.sequences.iter().zip(&sent.events) {
         let place = *sequence as usize;
         if place >= found.len() || place >= events.len() || found[place] {
             return Err(Fault::WrongSequence);
@@ -47,6 +36,25 @@ fn place(sent: &[Sent], found: &mut [bool], events: &mut [Event]) -> Result<(), 
     Ok(())
 }
 
+/// Puts the events of several producers in their places.
+fn place_all(all: &[Sent], found: &mut [bool], events: &mut [Event]) -> Result<(), Fault> {
+    for sent in all {
+        place(sent, found, events)?;
+    }
+    Ok(())
+}
+
+/// What several producers sent, by the sequences. Each sequence below their number is to be there once.
+pub fn by_sequence(alloc: Global, all: &[Sent]) -> Result<Vec<Event>, Fault> {
+    let count = how_many(all);
+    let mut found = vec![in alloc; false; count]?;
+    let mut events = vec![in alloc; Event::NONE; count]?;
+    match place_all(all, &mut found, &mut events) {
+        Ok(()) => Ok(events),
+        Err(fault) => Err(fault),
+    }
+}
+
 /// A producer with what it sent so far. Its events have its number, and 0, 1, 2 and so on.
 #[derive(Drop)]
 pub struct Sending {
@@ -55,7 +63,7 @@ pub struct Sending {
     /// Whether publications are to come in the order of their sequences.
     in_order: bool,
     random: Random,
-    sent: Vec<Sent>,
+    sent: Sent,
 }
 
 impl Sending {
@@ -66,31 +74,31 @@ impl Sending {
             size,
             in_order,
             random,
-            sent: Vec::new(alloc),
+            sent: Sent {
+                sequences: Vec::new(alloc),
+                events: Vec::new(alloc),
+            },
         }
     }
 
-    /// What it sent, in the order of its claims.
-    pub fn into_sent(self) -> Vec<Sent> {
+    pub fn into_sent(self) -> Sent {
         self.sent
     }
 
-    /// The events that it sent, in the order of its claims.
-    pub fn script(&self, alloc: Global) -> Result<Vec<Event>, Fault> {
-        let mut events = Vec::with_capacity(alloc, self.sent.len())?;
-        for sent in &self.sent {
-            events.push(sent.event)?;
-        }
-        Ok(events)
+    /// What decides its turns.
+    pub fn random(&mut self) -> &mut Random {
+        &mut self.random
     }
 
     fn write<I: Inlet<Event>>(&mut self, inlet: &mut I, s: u64) -> Result<(), Fault> {
         let event = Event {
             first: self.number,
-            second: self.sent.len() as u64,
+            second: self.sent.events.len() as u64,
         };
         inlet.write(s, event)?;
-        Ok(self.sent.push(Sent { sequence: s, event })?)
+        self.sent.sequences.push(s)?;
+        self.sent.events.push(event)?;
+        Ok(())
     }
 
     fn write_all<I: Inlet<Event>>(&mut self, inlet: &mut I, claimed: Claimed) -> Result<(), Fault> {

@@ -81,6 +81,11 @@ fn tell_all_calls<R: Print>(rt: &R, builder: &mut GraphBuilder) -> Result<(), Fa
     tell_calls(rt, builder, &mut current)
 }
 
+fn tell_all_again<R: Print>(rt: &R, builder: &mut GraphBuilder) -> Result<(), Fault> {
+    again!(rt, tell_all_calls(rt, builder));
+    Ok(())
+}
+
 fn tell_build<R: Print>(rt: &R, builder: GraphBuilder) -> Result<(), Fault> {
     let graph = builder.build()?;
     tell_graph(rt, &graph)
@@ -89,7 +94,7 @@ fn tell_build<R: Print>(rt: &R, builder: GraphBuilder) -> Result<(), Fault> {
 /// Makes each call of a builder, and refused ones between them, which change nothing.
 pub fn tell_builder<R: Print>(rt: &R, alloc: Global) -> Result<(), Fault> {
     let mut builder = GraphBuilder::new(alloc);
-    tell_all_calls(rt, &mut builder)?;
+    tell_all_again(rt, &mut builder)?;
     tell_build(rt, builder)
 }
 

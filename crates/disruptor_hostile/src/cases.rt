@@ -97,8 +97,12 @@ fn tell_once<R: Print>(rt: &R, alloc: Global, case: Case) -> Result<(), Fault> {
     }
 }
 
-/// Makes the calls of a case. Where memory runs out before the first line, a line says so, and they are made again.
+/// Makes the calls of a case. But for the builder's, which ends by a call that spends the builder, they are made again
+/// where memory runs out: it can do so before the first line alone.
 pub fn tell<R: Print>(rt: &R, alloc: Global, case: Case) -> Result<(), Fault> {
+    if matches!(case, Case::Builder) {
+        return tell_once(rt, alloc, case);
+    }
     again!(rt, tell_once(rt, alloc, case));
     Ok(())
 }
