@@ -17,6 +17,8 @@ mod patience;
 #[cfg(test)]
 mod playing;
 #[cfg(test)]
+mod ringing;
+#[cfg(test)]
 mod rows;
 #[cfg(test)]
 mod telling;
