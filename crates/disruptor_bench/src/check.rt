@@ -73,15 +73,20 @@ const WRONG: [[&str; 3]; 4] = [
     ["64", "0", "1001"],
 ];
 
-fn asked(
+fn owned(
     alloc: Global,
     name: &str,
     [size, seconds, rounds]: [&str; 3],
-) -> Result<Option<Request>, AllocError> {
+) -> Result<Vec<String>, AllocError> {
     let mut words = Vec::new(alloc);
     for word in [name, size, seconds, rounds] {
         words.push(String::from_str(alloc, word)?)?;
     }
+    Ok(words)
+}
+
+fn asked(alloc: Global, name: &str, rest: [&str; 3]) -> Result<Option<Request>, AllocError> {
+    let words = owned(alloc, name, rest)?;
     Ok(read_request(&words))
 }
 
@@ -105,7 +110,7 @@ fn check_shape(
     alloc: Global,
     shape: Shape,
 ) -> Result<(), Fault> {
-    for (before, after) in WAYS {
+    for (before, after) in &WAYS {
         let name = format!(in alloc; "{before}{shape}{after}")?;
         check_round(rt, alloc, name.as_str())?;
     }
@@ -113,53 +118,72 @@ fn check_shape(
 }
 
 fn check_rounds(rt: &(impl Runtime + Threads + Wait + Sync), alloc: Global) -> Result<(), Fault> {
-    for shape in Shape::ALL {
-        check_shape(rt, alloc, shape)?;
-    }
-    for name in OTHERS {
-        check_round(rt, alloc, name)?;
+    for shape in &Shape::ALL {
+        check_shape(rt, alloc, *shape)?;
     }
     Ok(())
 }
 
-fn print_wrong(rt: &impl Runtime, alloc: Global, name: &str, rest: [&str; 3]) -> Result<(), Fault> {
-    let [size, seconds, rounds] = rest;
-    let what = match asked(alloc, name, rest)? {
+fn check_others(rt: &(impl Runtime + Threads + Wait + Sync), alloc: Global) -> Result<(), Fault> {
+    for name in &OTHERS {
+        check_round(rt, alloc, *name)?;
+    }
+    Ok(())
+}
+
+fn verdict(alloc: Global, name: &str, rest: [&str; 3]) -> Result<&'static str, AllocError> {
+    Ok(match asked(alloc, name, rest)? {
         Some(_) => "is read",
         None => "is wrong",
-    };
-    println!(rt; "'{name} {size} {seconds} {rounds}' {what}")?;
+    })
+}
+
+fn print_wrong(rt: &impl Runtime, alloc: Global, name: &str, rest: [&str; 3]) -> Result<(), Fault> {
+    let verdict = verdict(alloc, name, rest)?;
+    let [size, seconds, rounds] = rest;
+    println!(rt; "'{name} {size} {seconds} {rounds}' {verdict}")?;
+    Ok(())
+}
+
+fn check_unknown(rt: &impl Runtime, alloc: Global) -> Result<(), Fault> {
+    for name in &UNKNOWN {
+        print_wrong(rt, alloc, *name, ["64", "0", "1"])?;
+    }
     Ok(())
 }
 
 fn check_wrong(rt: &impl Runtime, alloc: Global) -> Result<(), Fault> {
-    for name in UNKNOWN {
-        print_wrong(rt, alloc, name, ["64", "0", "1"])?;
-    }
-    for rest in WRONG {
-        print_wrong(rt, alloc, "unicast", rest)?;
+    for rest in &WRONG {
+        print_wrong(rt, alloc, "unicast", *rest)?;
     }
     Ok(())
 }
 
-/// Prints the line of three rounds, the second of which is in the middle by events a second.
-fn check_line(rt: &impl Runtime, alloc: Global) -> Result<(), Fault> {
-    let Some(Request::Measure(order)) = asked(alloc, "diamond", ["64", "0.25", "3"])? else {
-        return Err(Fault::USAGE);
-    };
+/// The round in the middle of three by events a second.
+fn middle() -> Option<Round> {
     let time = Duration::from_millis(1500);
     let mut rounds = [
         Round { events: 30, time },
         Round { events: 20, time },
         Round { events: 10, time },
     ];
-    let median = median(&mut rounds).ok_or(Fault::USAGE)?;
+    median(&mut rounds)
+}
+
+/// Prints the line of three rounds.
+fn check_line(rt: &impl Runtime, alloc: Global) -> Result<(), Fault> {
+    let Some(Request::Measure(order)) = asked(alloc, "diamond", ["64", "0.25", "3"])? else {
+        return Err(Fault::USAGE);
+    };
+    let median = middle().ok_or(Fault::USAGE)?;
     Ok(rt.println(Measured { order, median })?)
 }
 
 /// Prints what the gate compares.
 pub fn check(rt: &(impl Runtime + Threads + Wait + Sync), alloc: Global) -> Result<(), Fault> {
     check_line(rt, alloc)?;
+    check_unknown(rt, alloc)?;
     check_wrong(rt, alloc)?;
-    check_rounds(rt, alloc)
+    check_rounds(rt, alloc)?;
+    check_others(rt, alloc)
 }

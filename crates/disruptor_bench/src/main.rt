@@ -25,7 +25,6 @@ use arguments::{Order, Request, read_request};
 use check::check;
 use fault::Fault;
 use measured::{Measured, Round, median};
-use one_thread::OneThread;
 use std::alloc::Global;
 use std::env;
 use std::process::ExitCode;
@@ -43,67 +42,45 @@ const MOST_TURNS: u64 = u64::MAX;
 
 fn print_shape(rt: &impl Runtime, exchange: Exchange, shape: Shape) -> Result<(), Fault> {
     for pace in exchange.paces() {
-        println!(rt;
-            "{}",
-            Topology {
-                exchange,
-                shape,
-                pace
-            }
-        )?;
+        rt.println(Topology {
+            exchange,
+            shape,
+            pace,
+        })?;
     }
     Ok(())
 }
 
 fn print_exchange(rt: &impl Runtime, exchange: Exchange) -> Result<(), Fault> {
-    for shape in Shape::ALL {
-        print_shape(rt, exchange, shape)?;
+    for shape in &Shape::ALL {
+        print_shape(rt, exchange, *shape)?;
     }
     Ok(())
 }
 
 fn print_width(rt: &impl Runtime, exchange: Exchange) -> Result<(), Fault> {
-    println!(rt;
-        "{}",
-        Topology {
-            exchange,
-            shape: Shape::Unicast,
-            pace: Pace::Ones
-        }
-    )?;
-    Ok(())
+    let (shape, pace) = (Shape::Unicast, Pace::Ones);
+    Ok(rt.println(Topology {
+        exchange,
+        shape,
+        pace,
+    })?)
 }
 
 /// Rows for each further width of an event.
 fn print_widths(rt: &impl Runtime) -> Result<(), Fault> {
-    for width in Width::OTHERS {
-        print_width(rt, Exchange::Core(width))?;
-        print_width(rt, Exchange::Plain(width))?;
+    for width in &Width::OTHERS {
+        print_width(rt, Exchange::Core(*width))?;
+        print_width(rt, Exchange::Plain(*width))?;
     }
     Ok(())
 }
 
 fn print_list(rt: &impl Runtime) -> Result<(), Fault> {
-    for exchange in Exchange::ALL {
-        print_exchange(rt, exchange)?;
+    for exchange in &Exchange::ALL {
+        print_exchange(rt, *exchange)?;
     }
     print_widths(rt)
-}
-
-/// The core's rounds with events of a width.
-fn core_rounds(
-    rt: &impl Runtime,
-    alloc: Global,
-    order: &Order,
-    width: Width,
-    rounds: &mut Vec<Round>,
-) -> Result<(), Fault> {
-    match width {
-        Width::One => OneThread::<0>::open(alloc, order)?.rounds(rt, order, rounds),
-        Width::Two => OneThread::<1>::open(alloc, order)?.rounds(rt, order, rounds),
-        Width::Eight => OneThread::<7>::open(alloc, order)?.rounds(rt, order, rounds),
-        Width::Sixteen => OneThread::<15>::open(alloc, order)?.rounds(rt, order, rounds),
-    }
 }
 
 /// One round over an exchange of its own with a thread for each end.
@@ -121,19 +98,28 @@ fn round(
     }
 }
 
+fn add_rounds_of_threads(
+    rt: &(impl Runtime + Threads + Wait + Sync),
+    alloc: Global,
+    order: &Order,
+    rounds: &mut Vec<Round>,
+) -> Result<(), Fault> {
+    for _ in 0..order.rounds {
+        rounds.push(round(rt, alloc, order)?)?;
+    }
+    Ok(())
+}
+
 fn add_rounds(
     rt: &(impl Runtime + Threads + Wait + Sync),
     alloc: Global,
     order: &Order,
     rounds: &mut Vec<Round>,
 ) -> Result<(), Fault> {
-    if let Exchange::Core(width) = order.topology.exchange {
-        return core_rounds(rt, alloc, order, width, rounds);
+    match order.topology.exchange {
+        Exchange::Core(width) => one_thread::rounds(rt, alloc, order, width, rounds),
+        _ => add_rounds_of_threads(rt, alloc, order, rounds),
     }
-    for _ in 0..order.rounds {
-        rounds.push(round(rt, alloc, order)?)?;
-    }
-    Ok(())
 }
 
 /// The round in the middle.
@@ -147,21 +133,36 @@ fn measure(
     median(&mut rounds).ok_or(Fault::USAGE)
 }
 
-fn run(rt: &(impl Runtime + Alloc<A = Global> + Threads + Wait + Sync)) -> Result<(), Fault> {
-    let alloc = rt.alloc();
-    let request = {
-        let words: Vec<String> = env::args(rt)?.skip(1).collect(alloc)?;
-        read_request(&words)
-    };
+/// The round in the middle, as a line.
+fn print_measured(
+    rt: &(impl Runtime + Threads + Wait + Sync),
+    alloc: Global,
+    order: Order,
+) -> Result<(), Fault> {
+    let median = measure(rt, alloc, &order)?;
+    Ok(rt.println(Measured { order, median })?)
+}
+
+fn words(rt: &(impl Runtime + Alloc<A = Global>)) -> Result<Vec<String>, Fault> {
+    Ok(env::args(rt)?.skip(1).collect(rt.alloc())?)
+}
+
+fn answer(
+    rt: &(impl Runtime + Threads + Wait + Sync),
+    alloc: Global,
+    request: Option<Request>,
+) -> Result<(), Fault> {
     match request {
         Some(Request::List) => print_list(rt),
         Some(Request::Check) => check(rt, alloc),
-        Some(Request::Measure(order)) => {
-            let median = measure(rt, alloc, &order)?;
-            Ok(rt.println(Measured { order, median })?)
-        }
+        Some(Request::Measure(order)) => print_measured(rt, alloc, order),
         None => Err(Fault::USAGE),
     }
+}
+
+fn run(rt: &(impl Runtime + Alloc<A = Global> + Threads + Wait + Sync)) -> Result<(), Fault> {
+    let words = words(rt)?;
+    answer(rt, rt.alloc(), read_request(&words))
 }
 
 fn main(rt: HostRuntime) -> ExitCode {

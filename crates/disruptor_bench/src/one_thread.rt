@@ -5,12 +5,12 @@ use crate::fault::Fault;
 use crate::measured::Round;
 use crate::sum::{Sum, sum_of_first};
 use crate::topology::Pace;
-use crate::width::{Made, Words};
+use crate::width::{Made, Width, Words};
 use crate::{MOST_TURNS, STRETCH};
 use dr_core::{Core, MAX_LIMIT, Mode, Refusal};
 use std::alloc::Global;
 use std::rt::Clock;
-use std::time::{Duration, Instant};
+use std::time::Instant;
 
 /// How events go through: so many claims, and then a turn for each handler.
 #[derive(Clone, Copy)]
@@ -36,106 +36,138 @@ impl Lap {
     }
 }
 
-/// A core of events of one word and so many more, with its handlers.
-#[derive(Drop)]
-pub struct OneThread<const MORE: usize> {
-    core: Core<Words<MORE>>,
-    sums: Vec<Sum>,
-    lap: Lap,
-    time: Duration,
+/// Claims, writes and publishes once.
+#[inline]
+fn send<const MORE: usize>(core: &mut Core<Words<MORE>>, claim: u64) -> Result<(), Refusal> {
+    let claimed = core.claim(0, claim)?;
+    for k in 0..claim {
+        let s = claimed.lo.wrapping_add(k);
+        core.write(0, s, Words::at(s))?;
+    }
+    core.publish(0, claimed.lo, claimed.hi)
 }
 
-impl<const MORE: usize> OneThread<MORE> {
-    pub fn open(alloc: Global, order: &Order) -> Result<OneThread<MORE>, Fault> {
-        let graph = order.topology.shape.graph(alloc)?;
-        let handlers = graph.len();
-        let core = Core::open(
-            alloc,
-            graph,
-            order.size,
-            Mode::Single,
-            MAX_LIMIT,
-            Words::at(0),
-        )?;
-        let sums = vec![in alloc; Sum { total: 0 }; handlers]?;
-        Ok(OneThread {
-            core,
-            sums,
-            lap: Lap::of(order),
-            time: order.time,
-        })
+fn send_all<const MORE: usize>(core: &mut Core<Words<MORE>>, lap: Lap) -> Result<(), Refusal> {
+    for _ in 0..lap.claims {
+        send(core, lap.claim)?;
     }
+    Ok(())
+}
 
-    /// Claims, writes and publishes once.
-    #[inline]
-    fn send(&mut self) -> Result<(), Refusal> {
-        let claimed = self.core.claim(0, self.lap.claim)?;
-        for k in 0..self.lap.claim {
-            let s = claimed.lo.wrapping_add(k);
-            self.core.write(0, s, Words::at(s))?;
-        }
-        self.core.publish(0, claimed.lo, claimed.hi)
+/// Each handler is shown all that it is offered, where it lies.
+fn take_all<const MORE: usize>(
+    core: &mut Core<Words<MORE>>,
+    sums: &mut [Sum],
+) -> Result<(), Refusal> {
+    for (h, sum) in sums.iter_mut().enumerate() {
+        core.turn_in_place(h, sum)?;
     }
+    Ok(())
+}
 
-    fn send_all(&mut self) -> Result<(), Refusal> {
-        for _ in 0..self.lap.claims {
-            self.send()?;
-        }
-        Ok(())
+fn stretch<const MORE: usize>(
+    core: &mut Core<Words<MORE>>,
+    sums: &mut [Sum],
+    lap: Lap,
+) -> Result<(), Refusal> {
+    for _ in 0..lap.in_stretch() {
+        send_all(core, lap)?;
+        take_all(core, sums)?;
     }
+    Ok(())
+}
 
-    /// Each handler is shown all that it is offered, where it lies.
-    fn take_all(&mut self) -> Result<(), Refusal> {
-        for (h, sum) in self.sums.iter_mut().enumerate() {
-            self.core.turn_in_place(h, sum)?;
+/// Runs for about the round's time, a stretch of events at least.
+fn round<const MORE: usize>(
+    clock: &impl Clock,
+    order: &Order,
+    core: &mut Core<Words<MORE>>,
+    sums: &mut [Sum],
+) -> Result<Round, Fault> {
+    let lap = Lap::of(order);
+    let before = core.next();
+    let begun = Instant::now(clock)?;
+    for _ in 0..MOST_TURNS {
+        stretch(core, sums, lap)?;
+        let time = begun.elapsed(clock)?;
+        if time >= order.time {
+            let events = core.next().saturating_sub(before);
+            return Ok(Round { events, time });
         }
-        Ok(())
     }
+    Err(Fault::NO_END)
+}
 
-    fn stretch(&mut self) -> Result<(), Refusal> {
-        for _ in 0..self.lap.in_stretch() {
-            self.send_all()?;
-            self.take_all()?;
+/// Whether each handler added up all that was ever published.
+fn check(sums: &[Sum], events: u64) -> Result<(), Fault> {
+    let total = sum_of_first(events);
+    for sum in sums {
+        if sum.total != total {
+            return Err(Fault::WRONG_SUM);
         }
-        Ok(())
     }
+    Ok(())
+}
 
-    /// Adds the rounds that are ordered, and checks what the handlers added up in all of them.
-    pub fn rounds(
-        &mut self,
-        clock: &impl Clock,
-        order: &Order,
-        rounds: &mut Vec<Round>,
-    ) -> Result<(), Fault> {
-        for _ in 0..order.rounds {
-            rounds.push(self.round(clock)?)?;
-        }
-        self.check()
+/// Adds the rounds that are ordered, and checks what the handlers added up in all of them.
+fn add_rounds<const MORE: usize>(
+    clock: &impl Clock,
+    order: &Order,
+    core: &mut Core<Words<MORE>>,
+    sums: &mut [Sum],
+    rounds: &mut Vec<Round>,
+) -> Result<(), Fault> {
+    for _ in 0..order.rounds {
+        rounds.push(round(clock, order, core, sums)?)?;
     }
+    check(sums, core.next())
+}
 
-    /// Runs for about the round's time, a stretch of events at least.
-    fn round(&mut self, clock: &impl Clock) -> Result<Round, Fault> {
-        let before = self.core.next();
-        let begun = Instant::now(clock)?;
-        for _ in 0..MOST_TURNS {
-            self.stretch()?;
-            let time = begun.elapsed(clock)?;
-            if time >= self.time {
-                let events = self.core.next().saturating_sub(before);
-                return Ok(Round { events, time });
-            }
-        }
-        Err(Fault::NO_END)
-    }
+fn open<const MORE: usize>(
+    alloc: Global,
+    order: &Order,
+    first: Words<MORE>,
+) -> Result<Core<Words<MORE>>, Fault> {
+    let graph = order.topology.shape.graph(alloc)?;
+    Ok(Core::open(alloc, graph, order.size, Mode::Single, MAX_LIMIT, first)?)
+}
 
-    /// Whether each handler added up all that was ever published.
-    fn check(&self) -> Result<(), Fault> {
-        let total = sum_of_first(self.core.next());
-        for sum in &self.sums {
-            if sum.total != total {
-                return Err(Fault::WRONG_SUM);
-            }
-        }
-        Ok(())
+/// The rounds of a core, with handlers of their own.
+fn rounds_over<const MORE: usize>(
+    clock: &impl Clock,
+    alloc: Global,
+    order: &Order,
+    core: &mut Core<Words<MORE>>,
+    rounds: &mut Vec<Round>,
+) -> Result<(), Fault> {
+    let mut sums = vec![in alloc; Sum { total: 0 }; core.graph().len()]?;
+    add_rounds(clock, order, core, sums.as_mut_slice(), rounds)
+}
+
+/// The rounds of a core of their own, whose slots begin with such an event.
+fn rounds_with<const MORE: usize>(
+    clock: &impl Clock,
+    alloc: Global,
+    order: &Order,
+    first: Words<MORE>,
+    rounds: &mut Vec<Round>,
+) -> Result<(), Fault> {
+    let mut core = open(alloc, order, first)?;
+    rounds_over(clock, alloc, order, &mut core, rounds)
+}
+
+/// The rounds of a core of their own, with events of a width.
+pub fn rounds(
+    clock: &impl Clock,
+    alloc: Global,
+    order: &Order,
+    width: Width,
+    rounds: &mut Vec<Round>,
+) -> Result<(), Fault> {
+    match width {
+        Width::One => rounds_with(clock, alloc, order, Words::<0>::at(0), rounds),
+        Width::Two => rounds_with(clock, alloc, order, Words::<1>::at(0), rounds),
+        Width::Eight => rounds_with(clock, alloc, order, Words::<7>::at(0), rounds),
+        Width::Sixteen => rounds_with(clock, alloc, order, Words::<15>::at(0), rounds),
     }
 }

@@ -8,12 +8,12 @@ use crate::measured::Round;
 use crate::threads::{Handler, MOST_AT_ONCE, finish, send_for};
 use crate::width::{Made, Width, Words};
 use dr_core::{MAX_LIMIT, Polled};
-use dr_plain::{Receiver, Sender, ring};
+use dr_graph::Graph;
+use dr_plain::{Halter, Receiver, Sender, ring};
 use dr_shared::Waiting;
 use std::alloc::Global;
 use std::rt::Clock;
 use std::thread::{self, Threads};
-use std::time::Instant;
 
 /// The sum of the first words of a batch, as it wraps.
 fn sum_of<E: Made>(receiver: &Receiver<E>, first: u64, count: u64) -> u64 {
@@ -27,13 +27,13 @@ fn sum_of<E: Made>(receiver: &Receiver<E>, first: u64, count: u64) -> u64 {
 }
 
 /// Adds up what is received, until the ring is drained.
-fn receive<E: Made>(mut receiver: Receiver<E>, room: u64) -> Result<u64, Fault> {
+fn add_up<E: Made>(receiver: &mut Receiver<E>, room: u64) -> Result<u64, Fault> {
     let mut total = 0u64;
     let mut waiting = Waiting::new(room);
     for _ in 0..MOST_TURNS {
         match receiver.poll(room)? {
             Polled::Batch { first, count, .. } => {
-                total = total.wrapping_add(sum_of(&receiver, first, count));
+                total = total.wrapping_add(sum_of(receiver, first, count));
                 receiver.complete(first.wrapping_add(count))?;
                 waiting.found(count);
             }
@@ -42,6 +42,22 @@ fn receive<E: Made>(mut receiver: Receiver<E>, room: u64) -> Result<u64, Fault> 
         }
     }
     Err(Fault::NO_END)
+}
+
+fn receive<E: Made>(mut receiver: Receiver<E>, room: u64) -> Result<u64, Fault> {
+    add_up(&mut receiver, room)
+}
+
+fn start_one<E: Made + Send + Sync + 'static>(
+    rt: &impl Threads,
+    receiver: Receiver<E>,
+    room: u64,
+    handlers: &mut Vec<Handler>,
+) -> Result<(), Fault> {
+    match thread::spawn(rt, move || receive(receiver, room)) {
+        Ok(handler) => Ok(handlers.push(handler)?),
+        Err(_) => Err(Fault::THREAD),
+    }
 }
 
 /// Starts a thread for each handler.
@@ -53,10 +69,7 @@ fn start<E: Made + Send + Sync + 'static>(
 ) -> Result<Vec<Handler>, Fault> {
     let mut handlers = Vec::new(alloc);
     for receiver in receivers {
-        let Ok(handler) = thread::spawn(rt, move || receive(receiver, room)) else {
-            return Err(Fault::THREAD);
-        };
-        handlers.push(handler)?;
+        start_one(rt, receiver, room, &mut handlers)?;
     }
     Ok(handlers)
 }
@@ -70,12 +83,21 @@ fn measured<E: Made + Send + Sync + 'static>(
     receivers: Vec<Receiver<E>>,
 ) -> Result<Round, Fault> {
     let handlers = start(rt, alloc, receivers, order.size.get().min(MOST_AT_ONCE))?;
-    let begun = Instant::now(rt)?;
-    let events = send_for::<E, Sender<E>>(rt, sender, order.claim(), order.time)?;
+    let (begun, events) = send_for::<E, Sender<E>>(rt, sender, order.claim(), order.time)?;
     sender.close()?;
-    finish(rt, handlers, events)?;
-    let time = begun.elapsed(rt)?;
-    Ok(Round { events, time })
+    finish(rt, handlers, begun, events)
+}
+
+type Ends<E> = (Sender<E>, Vec<Receiver<E>>, Halter<E>);
+
+fn ends_of<E: Made>(alloc: Global, graph: &Graph, order: &Order) -> Result<Ends<E>, Fault> {
+    let events = vec![in alloc; E::at(0); order.size.get() as usize]?;
+    Ok(ring(alloc, graph, order.size, MAX_LIMIT, events)?)
+}
+
+fn ends<E: Made>(alloc: Global, order: &Order) -> Result<Ends<E>, Fault> {
+    let graph = order.topology.shape.graph(alloc)?;
+    ends_of(alloc, &graph, order)
 }
 
 /// One round over a ring of its own, of such events.
@@ -84,9 +106,7 @@ fn round_with<E: Made + Send + Sync + 'static>(
     alloc: Global,
     order: &Order,
 ) -> Result<Round, Fault> {
-    let graph = order.topology.shape.graph(alloc)?;
-    let events = vec![in alloc; E::at(0); order.size.get() as usize]?;
-    let (mut sender, receivers, _halter) = ring(alloc, &graph, order.size, MAX_LIMIT, events)?;
+    let (mut sender, receivers, _halter) = ends::<E>(alloc, order)?;
     measured(rt, alloc, order, &mut sender, receivers)
 }
 

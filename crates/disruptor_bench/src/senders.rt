@@ -15,7 +15,20 @@ use std::time::Instant;
 /// How many events a sender's thread sent.
 type Producer = JoinHandle<Result<u64, Fault>>;
 
-/// Starts a thread for each sender, which sends a stretch in claims of `n`.
+/// Starts a thread that sends a stretch in claims of `n`.
+fn start_sender(
+    rt: &impl Threads,
+    mut sender: Sender,
+    n: u64,
+    producers: &mut Vec<Producer>,
+) -> Result<(), Fault> {
+    match thread::spawn(rt, move || { stretch::<Event, Sender>(&mut sender, n) }) {
+        Ok(producer) => Ok(producers.push(producer)?),
+        Err(_) => Err(Fault::THREAD),
+    }
+}
+
+/// Starts a thread for each sender.
 fn start_senders(
     rt: &impl Threads,
     alloc: Global,
@@ -23,12 +36,8 @@ fn start_senders(
     n: u64,
 ) -> Result<Vec<Producer>, Fault> {
     let mut producers = Vec::new(alloc);
-    for mut sender in senders {
-        let Ok(producer) = thread::spawn(rt, move || { stretch::<Event, Sender>(&mut sender, n) })
-        else {
-            return Err(Fault::THREAD);
-        };
-        producers.push(producer)?;
+    for sender in senders {
+        start_sender(rt, sender, n, &mut producers)?;
     }
     Ok(producers)
 }
@@ -70,9 +79,7 @@ fn measured(
     let begun = Instant::now(rt)?;
     let events = send_all(rt, alloc, senders, order.claim())?;
     halter.halt();
-    finish(rt, handlers, events)?;
-    let time = begun.elapsed(rt)?;
-    Ok(Round { events, time })
+    finish(rt, handlers, begun, events)
 }
 
 /// One round of a stretch for each sender over a ring of its own.

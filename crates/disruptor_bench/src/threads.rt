@@ -23,13 +23,13 @@ pub type Handler = JoinHandle<Result<u64, Fault>>;
 pub const MOST_AT_ONCE: u64 = 1024;
 
 /// Adds up what is received, until the ring is drained.
-fn receive<O: Outlet<Event> + Drop>(mut receiver: O, mut room: Vec<Event>) -> Result<u64, Fault> {
+fn add_up<O: Outlet<Event>>(receiver: &mut O, room: &mut [Event]) -> Result<u64, Fault> {
     let mut total = 0u64;
     let mut waiting = Waiting::new(room.len() as u64);
     for _ in 0..MOST_TURNS {
-        match receiver.poll_into(&mut room)? {
+        match receiver.poll_into(room)? {
             Polled::Batch { first, count, .. } => {
-                total = total.wrapping_add(sum_of(&room, count));
+                total = total.wrapping_add(sum_of(room, count));
                 receiver.complete(first.wrapping_add(count))?;
                 waiting.found(count);
             }
@@ -38,6 +38,10 @@ fn receive<O: Outlet<Event> + Drop>(mut receiver: O, mut room: Vec<Event>) -> Re
         }
     }
     Err(Fault::NO_END)
+}
+
+fn receive<O: Outlet<Event> + Drop>(mut receiver: O, mut room: Vec<Event>) -> Result<u64, Fault> {
+    add_up(&mut receiver, &mut room)
 }
 
 /// The sum of the first events of a batch, as it wraps.
@@ -82,19 +86,19 @@ pub fn stretch<E: Made, I: Inlet<E>>(sender: &mut I, n: u64) -> Result<u64, Faul
     Ok(claims.wrapping_mul(n))
 }
 
-/// Sends for about so long, and answers how many events there were.
+/// Sends for about so long, and answers since when it did, and how many events there were.
 pub fn send_for<E: Made, I: Inlet<E>>(
     clock: &impl Clock,
     sender: &mut I,
     n: u64,
     time: Duration,
-) -> Result<u64, Fault> {
+) -> Result<(Instant, u64), Fault> {
     let mut events = 0u64;
     let begun = Instant::now(clock)?;
     for _ in 0..MOST_TURNS {
         events = events.wrapping_add(stretch::<E, I>(sender, n)?);
         if begun.elapsed(clock)? >= time {
-            return Ok(events);
+            return Ok((begun, events));
         }
     }
     Err(Fault::NO_END)
@@ -105,10 +109,11 @@ fn start_one<O: Outlet<Event> + Drop + Send + 'static>(
     alloc: Global,
     receiver: O,
     room: usize,
-) -> Result<Handler, Fault> {
+    handlers: &mut Vec<Handler>,
+) -> Result<(), Fault> {
     let room = vec![in alloc; Event::NONE; room]?;
     match thread::spawn(rt, move || receive(receiver, room)) {
-        Ok(handler) => Ok(handler),
+        Ok(handler) => Ok(handlers.push(handler)?),
         Err(_) => Err(Fault::THREAD),
     }
 }
@@ -123,20 +128,36 @@ pub fn start<O: Outlet<Event> + Drop + Send + 'static>(
     let room = size.get().min(MOST_AT_ONCE) as usize;
     let mut handlers = Vec::new(alloc);
     for receiver in receivers {
-        handlers.push(start_one(rt, alloc, receiver, room)?)?;
+        start_one(rt, alloc, receiver, room, &mut handlers)?;
     }
     Ok(handlers)
 }
 
-/// Waits until all handlers are told that the ring drained, and checks what they added up.
-pub fn finish(rt: &impl Threads, handlers: Vec<Handler>, events: u64) -> Result<(), Fault> {
-    let total = sum_of_first(events);
-    for handler in handlers {
-        if handler.join(rt)? != total {
-            return Err(Fault::WRONG_SUM);
-        }
+fn check_sum(sum: Result<u64, Fault>, total: u64) -> Result<(), Fault> {
+    if sum? != total {
+        return Err(Fault::WRONG_SUM);
     }
     Ok(())
+}
+
+/// Waits until all handlers are told that the ring drained, and checks what they added up.
+fn join(rt: &impl Threads, handlers: Vec<Handler>, total: u64) -> Result<(), Fault> {
+    for handler in handlers {
+        check_sum(handler.join(rt), total)?;
+    }
+    Ok(())
+}
+
+/// Ends a round of so many events, once all handlers have drained the ring.
+pub fn finish(
+    rt: &(impl Clock + Threads),
+    handlers: Vec<Handler>,
+    begun: Instant,
+    events: u64,
+) -> Result<Round, Fault> {
+    join(rt, handlers, sum_of_first(events))?;
+    let time = begun.elapsed(rt)?;
+    Ok(Round { events, time })
 }
 
 fn ends(alloc: Global, order: &Order) -> Result<(Sender, Vec<Receiver>, Halter), Fault> {
@@ -153,12 +174,9 @@ fn measured(
     receivers: Vec<Receiver>,
 ) -> Result<Round, Fault> {
     let handlers = start(rt, alloc, receivers, order.size)?;
-    let begun = Instant::now(rt)?;
-    let events = send_for::<Event, Sender>(rt, sender, order.claim(), order.time)?;
+    let (begun, events) = send_for::<Event, Sender>(rt, sender, order.claim(), order.time)?;
     sender.close()?;
-    finish(rt, handlers, events)?;
-    let time = begun.elapsed(rt)?;
-    Ok(Round { events, time })
+    finish(rt, handlers, begun, events)
 }
 
 /// One round over a ring of its own.

@@ -96,6 +96,17 @@ impl Exchange {
         Some((Exchange::Ring, name))
     }
 
+    /// Writes the beginning of a topology's name.
+    fn write_before<W: fmt::Write>(self, f: &mut fmt::Formatter<W>) -> fmt::Result {
+        match self {
+            Exchange::Core(width) => write!(f, "core{width}-"),
+            Exchange::Ring => Ok(()),
+            Exchange::Plain(width) => write!(f, "plain{width}-"),
+            Exchange::Senders(senders) => write!(f, "senders{senders}-"),
+            Exchange::Lock(producers) => write!(f, "lock{producers}-"),
+        }
+    }
+
     /// How a producer sends to it in the measurements that are listed.
     pub fn paces(self) -> [Pace; 3] {
         match self {
@@ -205,7 +216,8 @@ impl Shape {
         }
     }
 
-    fn handlers(self) -> usize {
+    /// How many handlers it has.
+    pub fn handlers(self) -> usize {
         match self {
             Shape::Unicast => 1,
             Shape::Pipeline | Shape::Multicast | Shape::Diamond => 3,
@@ -297,13 +309,7 @@ impl Topology {
 
 impl fmt::Display for Topology {
     fn fmt<W: fmt::Write>(&self, f: &mut fmt::Formatter<W>) -> fmt::Result {
-        match self.exchange {
-            Exchange::Core(width) => write!(f, "core{width}-")?,
-            Exchange::Ring => {}
-            Exchange::Plain(width) => write!(f, "plain{width}-")?,
-            Exchange::Senders(senders) => write!(f, "senders{senders}-")?,
-            Exchange::Lock(producers) => write!(f, "lock{producers}-")?,
-        }
+        self.exchange.write_before(f)?;
         let shape = self.shape;
         let pace = self.pace;
         write!(f, "{shape}{pace}")

@@ -4,7 +4,7 @@ ghost use Rattle.std.specs.Prelude.{◌<◌};
 ghost use denote.Param.Send.{IsSync};
 
 use crate::fault::Fault;
-use crate::sum::Sum;
+use crate::sum::{Sum, sum_of_first};
 use dr_seq::Event;
 use dr_shared::{
     End, Exchange, LockedInlet, LockedOutlet, OpenGate, Shared, consume, halt, produce,
@@ -21,94 +21,126 @@ const MOST_AT_ONCE: usize = 1024;
 #[derive(Drop)]
 pub struct Around<'a, L: Exchange<Event>, R> {
     pub rt: &'a R,
-    pub alloc: Global,
     pub shared: &'a Shared<Event, L>,
     /// What each producer sends.
     pub script: &'a [Event],
+    pub handlers: usize,
+    pub producers: u64,
     /// The most events of a claim.
     pub cut: u64,
     /// The slots of the ring.
     pub slots: usize,
 }
 
-/// The ends of a round.
+/// What a thread gives back: its end, and whether it saw all that was sent.
 #[derive(Drop)]
-pub struct Parties<L: Ledger> {
-    pub halter: End<Event, L>,
-    pub producers: Vec<End<Event, L>>,
-    pub handlers: Vec<End<Event, L>>,
+struct Worked<L: Ledger> {
+    end: End<Event, L>,
+    saw_all: bool,
 }
 
-/// What a handler gives back.
-#[derive(Drop)]
-pub struct Handled<L: Ledger> {
-    pub end: End<Event, L>,
-    pub total: u64,
-}
-
-/// What all threads gave back.
-#[derive(Drop)]
-pub struct Joined<L: Ledger> {
-    pub halter: End<Event, L>,
-    pub producers: Vec<End<Event, L>>,
-    pub handled: Vec<Handled<L>>,
-}
+type Worker<L> = JoinHandle<Worked<L>>;
 
 /// That a producer sent all is seen by what the handlers added up.
 fn send<L: Exchange<Event>, R: Wait>(
     around: &Around<'_, L, R>,
     k: usize,
     end: End<Event, L>,
-) -> End<Event, L> {
+) -> Worked<L> {
     let mut inlet = LockedInlet::new(around.rt, around.shared, end, k as u64);
     let cut = around.cut.max(1);
     let _sent = produce(around.rt, &mut inlet, &OpenGate, k, around.script, cut);
-    inlet.into_end()
+    Worked {
+        end: inlet.into_end(),
+        saw_all: true,
+    }
+}
+
+/// What each handler adds up.
+fn total<L: Exchange<Event>, R>(around: &Around<'_, L, R>) -> u64 {
+    sum_of_first(around.script.len() as u64).wrapping_mul(around.producers)
 }
 
 fn handle<L: Exchange<Event>, R: Wait>(
     around: &Around<'_, L, R>,
     k: usize,
     end: End<Event, L>,
-) -> Handled<L> {
+) -> Worked<L> {
     let mut outlet = LockedOutlet::new(around.rt, around.shared, end, k);
     let mut buffer = [Event::NONE; MOST_AT_ONCE];
-    let room = around.slots.min(MOST_AT_ONCE);
+    let room = &mut buffer[..around.slots.min(MOST_AT_ONCE)];
     let mut sum = Sum { total: 0 };
-    let _fault = consume(
-        around.rt,
-        &mut outlet,
-        &OpenGate,
-        k,
-        &mut sum,
-        &mut buffer[..room],
-    );
-    Handled {
+    let _fault = consume(around.rt, &mut outlet, &OpenGate, k, &mut sum, room);
+    Worked {
         end: outlet.into_end(),
-        total: sum.total,
+        saw_all: sum.total == total(around),
     }
 }
 
-/// What threads give back, where so many could be started.
-fn gather<T: Drop, L: Exchange<Event>, R: Threads>(
+/// The work of a thread: the first ones handle, and the others send.
+fn work<L: Exchange<Event>, R: Wait>(
     around: &Around<'_, L, R>,
-    started: Vec<JoinHandle<T>>,
-    count: usize,
-) -> Result<Vec<T>, Fault> {
-    let mut all = Vec::with_capacity(around.alloc, count)?;
-    for worker in started {
-        all.push(worker.join(around.rt))?;
+    k: usize,
+    end: End<Event, L>,
+) -> Worked<L> {
+    match k.checked_sub(around.handlers) {
+        None => handle(around, k, end),
+        Some(producer) => send(around, producer, end),
     }
-    if all.len() < count {
+}
+
+/// Joins so many of the workers, those that were started last, whose ends go to the others that are back.
+fn join<L: Exchange<Event>, R: Threads>(
+    around: &Around<'_, L, R>,
+    workers: &mut Vec<Worker<L>>,
+    count: usize,
+    back: &mut Vec<End<Event, L>>,
+) -> Result<(), Fault> {
+    let mut all = true;
+    for _ in 0..count {
+        let worker = workers.pop().ok_or(Fault::THREAD)?;
+        let Worked { end, saw_all } = worker.join(around.rt);
+        back.push(end)?;
+        all = all && saw_all;
+    }
+    if all { Ok(()) } else { Err(Fault::WRONG_SUM) }
+}
+
+/// Joins the producers, halts by the end that is back from the beginning, and joins the handlers.
+fn join_all<L: Exchange<Event>, R: Threads + Wait>(
+    around: &Around<'_, L, R>,
+    workers: &mut Vec<Worker<L>>,
+    back: &mut Vec<End<Event, L>>,
+) -> Result<(), Fault> {
+    let producers = workers.len().saturating_sub(around.handlers);
+    let sent = join(around, workers, producers, back);
+    if let Some(halter) = back.first_mut() {
+        halt(around.rt, around.shared, halter);
+    }
+    join(around, workers, around.handlers, back)?;
+    if (producers as u64) < around.producers {
         return Err(Fault::THREAD);
     }
-    Ok(all)
+    sent
 }
 
-/// Starts a thread for each producer, and joins them.
-fn send_all<L: Exchange<Event> + Send + Sync, R: Threads + Wait + Sync>(
+/// All ends, when the threads are joined.
+fn ends<L: Exchange<Event>, R: Threads + Wait>(
     around: &Around<'_, L, R>,
-    ends: Vec<End<Event, L>>,
+    mut workers: Vec<Worker<L>>,
+    mut back: Vec<End<Event, L>>,
+) -> Result<Vec<End<Event, L>>, Fault> {
+    join_all(around, &mut workers, &mut back)?;
+    Ok(back)
+}
+
+/// Starts a thread for each handler, then one for each producer, and joins them all. The ends go to those that are back,
+/// for which there is room, since no thread would be halted where memory ran out. The first one there halts.
+pub fn exchange<L: Exchange<Event> + Send + Sync, R: Threads + Wait + Sync>(
+    around: &Around<'_, L, R>,
+    alloc: Global,
+    ends_of_threads: Vec<End<Event, L>>,
+    back: Vec<End<Event, L>>,
 ) -> Result<Vec<End<Event, L>>, Fault> {
     thread::scope(
         thread::scope_env(),
@@ -117,55 +149,15 @@ fn send_all<L: Exchange<Event> + Send + Sync, R: Threads + Wait + Sync>(
             requires shared { IsSync L.row }
             requires workers { IsSync R.row }
         {
-            let count = ends.len();
-            let mut started = Vec::with_capacity(around.alloc, count)?;
-            for (k, end) in ends.into_iter().enumerate() {
-                if let Ok(worker) = scope.spawn(move || send(around, k, end)) {
-                    started.push(worker)?;
-                }
+            let mut workers = Vec::with_capacity(alloc, ends_of_threads.len())?;
+            for (k, end) in ends_of_threads.into_iter().enumerate() {
+                // Without one of the handlers nobody would make room for the producers.
+                let Ok(worker) = scope.spawn(move || work(around, k, end)) else {
+                    break;
+                };
+                workers.push(worker)?;
             }
-            gather(around, started, count)
-        },
-    )
-}
-
-/// Starts a thread for each handler, then one for each producer; joins the producers, halts, and joins the handlers.
-pub fn exchange<L: Exchange<Event> + Send + Sync, R: Threads + Wait + Sync>(
-    around: &Around<'_, L, R>,
-    parties: Parties<L>,
-) -> Result<Joined<L>, Fault> {
-    thread::scope(
-        thread::scope_env(),
-        around.rt,
-        move |scope| -> Result<Joined<L>, Fault>
-            requires shared { IsSync L.row }
-            requires workers { IsSync R.row }
-        {
-            let Parties {
-                mut halter,
-                producers,
-                handlers,
-            } = parties;
-            let count = handlers.len();
-            let mut started = Vec::with_capacity(around.alloc, count)?;
-            for (k, end) in handlers.into_iter().enumerate() {
-                if let Ok(worker) = scope.spawn(move || handle(around, k, end)) {
-                    started.push(worker)?;
-                }
-            }
-            // Without one of the handlers nobody would make room for the producers.
-            let sent = if started.len() == count {
-                send_all(around, producers)
-            } else {
-                Err(Fault::THREAD)
-            };
-            halt(around.rt, around.shared, &mut halter);
-            let handled = gather(around, started, count)?;
-            Ok(Joined {
-                halter,
-                producers: sent?,
-                handled,
-            })
+            ends(around, workers, back)
         },
     )
 }
