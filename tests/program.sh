@@ -81,6 +81,7 @@ accounts="$(printf '%s\n' 'journal 6' 0,0,deposit,1,1000 1,1,deposit,2,500 2,0,t
     0102000200000064 00030003000000000001000000000005 'business 6' 1,750,0 2,50,1 3,0,1)"$'\n'
 run 0 "$accounts" '' replay accounts.csv
 run 0 "$accounts" '' replay --size 1 accounts.csv
+run 0 "$accounts" '' replay --size 0016 accounts.csv
 run 0 "$accounts" '' replay --size=65536 --by plain accounts.csv
 for size in 1 2 4 1024; do
     run 0 "$accounts" '' replay --by ring --size $size accounts.csv
@@ -129,6 +130,13 @@ copied() { # TOOL FIRST-WORD-OF-THE-OUTPUT
 copied drive claimed
 copied replay journal
 
+# What is taken where no option says otherwise, and a file whose name is two words.
+for default in 1024 plain; do
+    holds 'replay --help' "does not name the default $default" grep -qF "[default: $default]" <("$program" replay --help)
+done
+printf 'ring,4,single\nwith,a\nstart\nclaim,0,1\n' > "$room/a file.csv"
+run 0 $'claimed 0 0\n' '' drive "$room/a file.csv"
+
 # The file `-` is standard input, also where a file has that name.
 printf 'jump\n' > "$room/-"
 run_input() { # STATUS OUT ERR INPUT WORD..
@@ -145,12 +153,21 @@ run_input 0 $'1 record\n' '' $'0,deposit,1,1\n' check replay -
 # Faults of the command line.
 run 1 '' $'error: \'disruptor\' requires a subcommand but one was not provided\n*'
 run 1 '' $'error: unrecognized subcommand \'sail\'\n*' sail
-run 1 '' $'error: the following required arguments were not provided:\n  <FILE>\n*' drive
+run 1 '' "error: the following required arguments were not provided:
+  <FILE>
+
+Usage: disruptor drive <FILE>
+
+For more information, try '--help'.
+" drive
 run 1 '' $'error: the following required arguments were not provided:\n  <FILE>\n*' replay
 run 1 '' $'error: unexpected argument \'y\' found\n*' drive x y
 run 1 '' $'error: invalid value \'post\' for \'--by <WAY>\'\n*' replay --by post accounts.csv
 run 1 '' $'error: invalid value \'x\' for \'--size <N>\'*' replay --size x accounts.csv
-run 1 '' $'bad-size\n--size is a power of two from 1 to 65536\n' replay --size 3 accounts.csv
+run 1 '' $'error: unexpected argument \'-1\' found\n*' replay --size -1 accounts.csv
+for size in 3 1000 131072; do
+    run 1 '' $'bad-size\n--size is a power of two from 1 to 65536\n' replay --size $size accounts.csv
+done
 run 1 '' $'bad-size\n--size is a power of two from 1 to 65536\n' replay --size 0 no-such-file.csv
 run 1 '' $'error: a word of the command line is not UTF-8\n' drive $'a\xff.csv'
 run 1 '' $'error: a word of the command line is not UTF-8\n' $'\xff'

@@ -3,7 +3,6 @@
 use std::alloc::Global;
 use std::fmt::{Debug, Display};
 use std::process::Abort;
-use std::test::Fail;
 
 /// Two values are the same. A call of this costs a proof less than an assertion in its place.
 pub fn check<T: Copy + PartialEq + Debug>(rt: &impl Abort, found: T, wanted: T) {
@@ -11,15 +10,9 @@ pub fn check<T: Copy + PartialEq + Debug>(rt: &impl Abort, found: T, wanted: T) 
 }
 
 /// A value prints this text.
-pub fn check_text<T: Copy + Display>(
-    rt: &impl Abort,
-    alloc: Global,
-    value: T,
-    text: &str,
-) -> Result<(), Fail> {
-    let said = value.to_string(alloc)?;
+pub fn check_text<T: Copy + Display>(rt: &impl Abort, alloc: Global, value: T, text: &str) {
+    let said = value.to_string(alloc).expect(rt, "memory");
     check(rt, said.as_str(), text);
-    Ok(())
 }
 
 /// A run ended as it is to, whose reader or writer was to fail at this call.

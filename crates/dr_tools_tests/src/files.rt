@@ -1,26 +1,28 @@
-//! What no clause says: that the calls over memory succeed, and the printed texts.
+//! What no clause says: that the calls over memory succeed.
 
 use crate::checks::check;
 use dr_core::Reply;
-use dr_files::{Cause, Counted, FileFault, number_of, put_line, read_all, write_text};
-use dr_graph::GraphFault;
+use dr_files::{Counted, number_of, put_line, read_all, write_text};
 use dr_seq::Event;
-use std::alloc::Global;
-use std::process::Abort;
 use std::test::Fail;
+
+const NUMBERS: [(&str, Option<u64>); 6] = [
+    ("0", Some(0)),
+    ("007", Some(7)),
+    ("18446744073709551615", Some(u64::MAX)),
+    ("18446744073709551616", None),
+    ("", None),
+    ("+7", None),
+];
 
 #[test]
 fn numbers(rt: HostRuntime) {
-    let rows: [(&str, Option<u64>); 6] = [
-        ("0", Some(0)),
-        ("007", Some(7)),
-        ("18446744073709551615", Some(u64::MAX)),
-        ("18446744073709551616", None),
-        ("", None),
-        ("+7", None),
-    ];
-    for (field, number) in rows {
-        check(&rt, (field, number_of(field.as_bytes())), (field, number));
+    for (field, number) in &NUMBERS {
+        check(
+            &rt,
+            (*field, number_of(field.as_bytes())),
+            (*field, *number),
+        );
     }
 }
 
@@ -59,36 +61,5 @@ fn lines(rt: HostRuntime) -> Result<(), Fail> {
     ];
     put_line(&mut line, reply, events.as_slice())?;
     check(&rt, line.as_str(), "batch 3 end 5 6:1\n");
-    Ok(())
-}
-
-fn check_fault(
-    rt: &impl Abort,
-    alloc: Global,
-    fault: &FileFault,
-    line: &str,
-    status: u8,
-) -> Result<(), Fail> {
-    let said = fault.to_string(alloc)?;
-    check(rt, said.as_str(), line);
-    check(rt, fault.status(), status);
-    Ok(())
-}
-
-#[test]
-fn faults(rt: HostRuntime) -> Result<(), Fail> {
-    let cycle = FileFault::Input {
-        k: 3,
-        cause: Cause::Graph(GraphFault::Cycle),
-    };
-    let rows = [
-        (cycle, "record 3: cycle", 2),
-        (FileFault::Memory, "no-memory", 3),
-        (FileFault::Read, "cannot read", 4),
-        (FileFault::Write, "cannot write", 4),
-    ];
-    for (fault, line, status) in &rows {
-        check_fault(&rt, rt.alloc(), fault, *line, *status)?;
-    }
     Ok(())
 }

@@ -6,13 +6,11 @@
 #[cfg(test)]
 mod accounts;
 #[cfg(test)]
+mod by_threads;
+#[cfg(test)]
 mod checks;
 #[cfg(test)]
-mod command_lines;
-#[cfg(test)]
-mod drive;
-#[cfg(test)]
-mod ended;
+mod failing;
 #[cfg(test)]
 mod files;
 #[cfg(test)]
@@ -22,8 +20,8 @@ mod records;
 #[cfg(test)]
 mod refusals;
 #[cfg(test)]
-mod replay;
-#[cfg(test)]
 mod slots;
 #[cfg(test)]
 mod streams;
+#[cfg(test)]
+mod ways;

@@ -2,9 +2,6 @@
 
 use crate::checks::check_text;
 use dr_core::{OpenFault, Refusal, Trouble};
-use std::alloc::Global;
-use std::process::Abort;
-use std::test::Fail;
 
 const REFUSALS: [(Refusal, &str); 16] = [
     (Refusal::NoRoom, "no-room"),
@@ -31,23 +28,18 @@ const OPEN_FAULTS: [(OpenFault, &str); 3] = [
     (OpenFault::NoMemory, "no-memory"),
 ];
 
-fn check_refusal(rt: &impl Abort, alloc: Global, refusal: Refusal, name: &str) -> Result<(), Fail> {
-    check_text(rt, alloc, refusal, name)?;
-    check_text(rt, alloc, Trouble::Refused(refusal), name)
+#[test]
+fn refusals_print_their_names(rt: HostRuntime) {
+    for (refusal, name) in &REFUSALS {
+        check_text(&rt, rt.alloc(), *refusal, *name);
+        check_text(&rt, rt.alloc(), Trouble::Refused(*refusal), *name);
+    }
+    check_text(&rt, rt.alloc(), Trouble::Memory, "no-memory");
 }
 
 #[test]
-fn refusals_print_their_names(rt: HostRuntime) -> Result<(), Fail> {
-    for (refusal, name) in REFUSALS {
-        check_refusal(&rt, rt.alloc(), refusal, name)?;
+fn faults_of_opening_print_their_names(rt: HostRuntime) {
+    for (fault, name) in &OPEN_FAULTS {
+        check_text(&rt, rt.alloc(), *fault, *name);
     }
-    check_text(&rt, rt.alloc(), Trouble::Memory, "no-memory")
-}
-
-#[test]
-fn faults_of_opening_print_their_names(rt: HostRuntime) -> Result<(), Fail> {
-    for (fault, name) in OPEN_FAULTS {
-        check_text(&rt, rt.alloc(), fault, name)?;
-    }
-    Ok(())
 }

@@ -1,7 +1,7 @@
 //! A reader and a writer that fail at their k-th call, and count their calls.
 
-use crate::ended::Ended;
-use dr_files::Counted;
+use dr_files::{Counted, FileFault};
+use dr_replay::ReplayFault;
 use std::alloc::Global;
 use std::io;
 use std::io::{Read, Write};
@@ -101,43 +101,48 @@ pub fn call_on(mut writer: Counted<Slow>) -> Option<Slow> {
     }
 }
 
+/// Whether a run met its reader's failure.
+pub fn is_read(ended: &Result<(), ReplayFault>) -> bool {
+    matches!(ended, Err(ReplayFault::File(FileFault::Read)))
+}
+
+/// Whether a run met its writer's failure.
+fn is_write(ended: &Result<(), ReplayFault>) -> bool {
+    matches!(ended, Err(ReplayFault::File(FileFault::Write)))
+}
+
 // Whether a writer that failed took all bytes before its failure, and was called no more.
 fn stopped_there(slow: &Slow, whole: &[u8]) -> bool {
     slow.calls == slow.fails_at
+        && slow.fails_at <= whole.len() as u64
         && whole.starts_with(slow.taken.as_slice())
         && slow.taken.len() as u64 == slow.fails_at.saturating_sub(1)
 }
 
-/// Whether a run that writes this text, and ended so, meets the writer's failure. If so the writer took all bytes before that,
-/// and was called no more; if not, all: there is no answer where it is otherwise.
-pub fn ends_as(ended: Ended, writer: Counted<Slow>, whole: &[u8]) -> Option<bool> {
+/// Whether a run that writes this text ended as it is to. If it met the writer's failure, the writer took all bytes before
+/// that, and was called no more; if not, all.
+pub fn ends_as(ended: &Result<(), ReplayFault>, writer: Counted<Slow>, whole: &[u8]) -> bool {
     if writer.faults() == 0 {
         let slow = writer.into_inner();
-        let took_all = slow.taken.as_slice() == whole && slow.fails_at > whole.len() as u64;
-        return if took_all && ended.is_well() {
-            Some(false)
-        } else {
-            None
-        };
+        return ended.is_ok()
+            && slow.taken.as_slice() == whole
+            && slow.fails_at > whole.len() as u64;
     }
-    let slow = call_on(writer)?;
-    let stopped = stopped_there(&slow, whole) && slow.fails_at <= whole.len() as u64;
-    if stopped && ended.is_write() {
-        Some(true)
-    } else {
-        None
+    match call_on(writer) {
+        Some(slow) => is_write(ended) && stopped_there(&slow, whole),
+        None => false,
     }
 }
 
 /// Whether a writer that takes whole pieces, and fails at its k-th call, took these bytes and was called so often. A run that
 /// `is_whole` ended well, and meets the failure when it is flushed once more.
 pub fn is_left_whole(
-    ended: Ended,
+    ended: &Result<(), ReplayFault>,
     mut writer: Counted<Slow>,
     taken: &[u8],
     is_whole: bool,
 ) -> bool {
-    if ended.is_well() != is_whole || ended.is_write() == is_whole {
+    if ended.is_ok() != is_whole || is_write(ended) == is_whole {
         return false;
     }
     if is_whole && writer.flush().is_ok() {

@@ -1,12 +1,10 @@
 //! Replays with threads, over the ring and behind the lock: workers that run at the same time, and workers
 //! that are stopped.
 
-use crate::replay::ways::{Replayed, WITH_THREADS, Way, by_plain, replay_by};
-use dr_core::Refusal;
-use dr_files::FileFault;
+use crate::ways::{Way, replay_text};
 use dr_replay::ReplayFault;
 use dr_seq::Size;
-use dr_shared::{AuditFault, Gate, GateAnswer, WorkFault};
+use dr_shared::{Gate, GateAnswer, OpenGate, WorkFault};
 use std::alloc::Global;
 use std::process::Abort;
 use std::sync::Wait;
@@ -66,17 +64,17 @@ fn check_both(
         journal: AtomicU64::new(0),
         replica: AtomicU64::new(0),
     };
-    let replayed = replay_by(rt, alloc, by, TEN, size, &gate);
-    assert!(rt; replayed.result.is_ok() && replayed.output.as_slice() == wanted);
+    let (output, result) = replay_text(rt, alloc, by, TEN, size, &gate);
+    assert!(rt; result.is_ok() && output.as_slice() == wanted);
 }
 
 #[test]
 fn both_at_once(rt: HostRuntime) -> Result<(), Fail> {
     let size = Size::new(2)?;
-    let wanted = by_plain(rt.alloc(), TEN, size)?;
-    for by in WITH_THREADS {
-        check_both(&rt, rt.alloc(), by, size, wanted.as_slice());
-    }
+    let (wanted, result) = replay_text(&rt, rt.alloc(), Way::Plain, TEN, size, &OpenGate);
+    assert!(rt; result.is_ok());
+    check_both(&rt, rt.alloc(), Way::Lock, size, wanted.as_slice());
+    check_both(&rt, rt.alloc(), Way::Ring, size, wanted.as_slice());
     Ok(())
 }
 
@@ -116,34 +114,47 @@ fn stops_at(who: usize, turn: u64) -> StopsAt {
     }
 }
 
-fn is_stopped(replayed: &Replayed, at: usize) -> bool {
+fn is_stopped(output: &[u8], ended: &Result<(), ReplayFault>, at: usize) -> bool {
     let is_answered =
-        matches!(&replayed.result, Err(ReplayFault::Worker { who, fault: WorkFault::Stopped }) if *who == at);
-    is_answered && replayed.output.is_empty()
+        matches!(ended, Err(ReplayFault::Worker { who, fault: WorkFault::Stopped }) if *who == at);
+    is_answered && output.is_empty()
 }
 
+// A replay writes nothing, and answers that this worker was stopped.
 fn check_stopped(
     rt: &(impl Threads + Wait + Sync + Abort),
     alloc: Global,
     by: Way,
-    size: Size,
+    slots: u64,
+    gate: &(impl Gate + Sync),
+    at: usize,
+) {
+    let size = Size::new(slots).expect(rt, "a size");
+    let (output, result) = replay_text(rt, alloc, by, TEN, size, gate);
+    assert!(rt; is_stopped(output.as_slice(), &result, at));
+}
+
+fn check_one(
+    rt: &(impl Threads + Wait + Sync + Abort),
+    alloc: Global,
+    by: Way,
     at: usize,
     turn: u64,
 ) {
     let gate = stops_at(at, turn);
-    let replayed = replay_by(rt, alloc, by, TEN, size, &gate);
-    assert!(rt; is_stopped(&replayed, at) && gate.has_passed(turn.wrapping_add(1)));
+    check_stopped(rt, alloc, by, 2, &gate, at);
+    assert!(rt; gate.has_passed(turn.wrapping_add(1)));
 }
 
+// Which worker is stopped, at which of its turns.
+const ONE: [(usize, u64); 5] = [(0, 0), (0, 1), (1, 1), (2, 1), (16, 1)];
+
 #[test]
-fn workers_that_are_stopped(rt: HostRuntime) -> Result<(), Fail> {
-    let size = Size::new(2)?;
-    for by in WITH_THREADS {
-        for (at, turn) in [(0, 0), (0, 1), (1, 1), (2, 1), (16, 1)] {
-            check_stopped(&rt, rt.alloc(), by, size, at, turn);
-        }
+fn workers_that_are_stopped(rt: HostRuntime) {
+    for (at, turn) in &ONE {
+        check_one(&rt, rt.alloc(), Way::Lock, *at, *turn);
+        check_one(&rt, rt.alloc(), Way::Ring, *at, *turn);
     }
-    Ok(())
 }
 
 // A gate that stops all workers from a number on.
@@ -161,15 +172,12 @@ impl Gate for StopsFrom {
 }
 
 #[test]
-fn several_that_are_stopped(rt: HostRuntime) -> Result<(), Fail> {
-    let size = Size::new(4)?;
-    for by in WITH_THREADS {
-        for least in [0, 1, 2] {
-            let replayed = replay_by(&rt, rt.alloc(), by, TEN, size, &StopsFrom(least));
-            assert!(rt; is_stopped(&replayed, least));
-        }
+fn several_that_are_stopped(rt: HostRuntime) {
+    for least in 0..3 {
+        let gate = StopsFrom(least);
+        check_stopped(&rt, rt.alloc(), Way::Lock, 4, &gate, least);
+        check_stopped(&rt, rt.alloc(), Way::Ring, 4, &gate, least);
     }
-    Ok(())
 }
 
 // A gate that stops two workers.
@@ -189,68 +197,22 @@ fn check_least(
     rt: &(impl Threads + Wait + Sync + Abort),
     alloc: Global,
     by: Way,
-    size: Size,
     who: usize,
     least: usize,
 ) {
     let gate = StopsTwo(stops_at(who, 0), stops_at(least, 4));
-    let replayed = replay_by(rt, alloc, by, TEN, size, &gate);
-    assert!(rt; is_stopped(&replayed, least) && gate.0.has_passed(1) && gate.1.has_passed(5));
+    check_stopped(rt, alloc, by, 2, &gate, least);
+    assert!(rt; gate.0.has_passed(1) && gate.1.has_passed(5));
 }
+
+// Two workers that are stopped, the least of them last.
+const TWO: [(usize, usize); 2] = [(16, 0), (2, 1)];
 
 // The least worker is answered, also where it was stopped long after the other.
 #[test]
-fn two_that_are_stopped(rt: HostRuntime) -> Result<(), Fail> {
-    let size = Size::new(2)?;
-    for by in WITH_THREADS {
-        for (who, least) in [(16, 0), (2, 1)] {
-            check_least(&rt, rt.alloc(), by, size, who, least);
-        }
+fn two_that_are_stopped(rt: HostRuntime) {
+    for (who, least) in &TWO {
+        check_least(&rt, rt.alloc(), Way::Lock, *who, *least);
+        check_least(&rt, rt.alloc(), Way::Ring, *who, *least);
     }
-    Ok(())
-}
-
-fn check_fault(
-    rt: &impl Abort,
-    alloc: Global,
-    fault: &ReplayFault,
-    line: &str,
-    status: u8,
-) -> Result<(), Fail> {
-    let text = fault.to_string(alloc)?;
-    let is_right = text.as_str() == line && fault.status() == status;
-    assert!(rt; is_right, "{line}");
-    Ok(())
-}
-
-// The text and the status of the faults of workers, of one of the file, and of what an audit finds.
-#[test]
-fn lines_of_faults(rt: HostRuntime) -> Result<(), Fail> {
-    let rows = [
-        (worker_fault(16, WorkFault::Stopped), "stopped 16", 5),
-        (
-            worker_fault(2, WorkFault::Refused(Refusal::Halted)),
-            "worker-refused 2",
-            5,
-        ),
-        (ReplayFault::File(FileFault::Read), "cannot read", 4),
-        (
-            ReplayFault::Audit(AuditFault::ScriptDiffers(3)),
-            "script-differs 3",
-            5,
-        ),
-        (
-            ReplayFault::Audit(AuditFault::NotDrained(2)),
-            "not-drained 2",
-            5,
-        ),
-    ];
-    for (fault, line, status) in &rows {
-        check_fault(&rt, rt.alloc(), fault, *line, *status)?;
-    }
-    Ok(())
-}
-
-fn worker_fault(who: usize, fault: WorkFault) -> ReplayFault {
-    ReplayFault::Worker { who, fault }
 }

@@ -1,6 +1,7 @@
-//! A replay by each of its ways.
+//! The tools over streams: `drive`, and a replay by each of its ways.
 
-use dr_files::{Counted, FileFault};
+use dr_drive::drive;
+use dr_files::Counted;
 use dr_replay::{ReplayFault, replay_lock, replay_plain, replay_ring};
 use dr_seq::Size;
 use dr_shared::Gate;
@@ -9,20 +10,16 @@ use std::io::{Read, Write};
 use std::sync::Wait;
 use std::thread::Threads;
 
-// By which exchange a replay goes.
+// Which tool runs, and a replay by which exchange.
 #[derive(Clone, Copy)]
 pub enum Way {
+    Drive,
     Plain,
     Lock,
     Ring,
 }
 
-// Every way, and those with threads.
-pub const ALL: [Way; 3] = [Way::Plain, Way::Lock, Way::Ring];
-
-pub const WITH_THREADS: [Way; 2] = [Way::Lock, Way::Ring];
-
-// What a replay left of its reader and its writer, and how it ended.
+// What a run left of its reader and its writer, and how it ended.
 #[derive(Drop)]
 pub struct Streamed<I, O> {
     pub reader: Counted<I>,
@@ -30,8 +27,8 @@ pub struct Streamed<I, O> {
     pub result: Result<(), ReplayFault>,
 }
 
-// Replays from a reader to a writer. On one thread there is no gate to pass.
-pub fn replay_streams<R: Threads + Wait + Sync, I: Read + Drop, O: Write + Drop, G: Gate + Sync>(
+// Runs from a reader to a writer. On one thread there is no gate to pass, and `drive` has a size of its own.
+pub fn run_streams<R: Threads + Wait + Sync, I: Read + Drop, O: Write + Drop, G: Gate + Sync>(
     rt: &R,
     alloc: Global,
     by: Way,
@@ -43,6 +40,7 @@ pub fn replay_streams<R: Threads + Wait + Sync, I: Read + Drop, O: Write + Drop,
     let mut reader = Counted::new(input);
     let mut writer = Counted::new(output);
     let result = match by {
+        Way::Drive => drive(alloc, &mut reader, &mut writer).map_err(ReplayFault::File),
         Way::Plain => {
             replay_plain(alloc, &mut reader, &mut writer, size).map_err(ReplayFault::File)
         }
@@ -56,23 +54,17 @@ pub fn replay_streams<R: Threads + Wait + Sync, I: Read + Drop, O: Write + Drop,
     }
 }
 
-// What a replay wrote, and how it ended.
-#[derive(Drop)]
-pub struct Replayed {
-    pub output: Vec<u8>,
-    pub result: Result<(), ReplayFault>,
-}
-
-pub fn replay_by<R: Threads + Wait + Sync, G: Gate + Sync>(
+// What a replay of a text wrote, and how it ended.
+pub fn replay_text<R: Threads + Wait + Sync, G: Gate + Sync>(
     rt: &R,
     alloc: Global,
     by: Way,
     input: &str,
     size: Size,
     gate: &G,
-) -> Replayed {
+) -> (Vec<u8>, Result<(), ReplayFault>) {
     let output = Vec::new(alloc);
-    let Streamed { writer, result, .. } = replay_streams(
+    let Streamed { writer, result, .. } = run_streams(
         rt,
         alloc,
         by,
@@ -81,13 +73,5 @@ pub fn replay_by<R: Threads + Wait + Sync, G: Gate + Sync>(
         size,
         gate,
     );
-    let output = writer.into_inner();
-    Replayed { output, result }
-}
-
-pub fn by_plain(alloc: Global, input: &str, size: Size) -> Result<Vec<u8>, FileFault> {
-    let mut reader = Counted::new(input.as_bytes());
-    let mut writer = Counted::new(Vec::new(alloc));
-    replay_plain(alloc, &mut reader, &mut writer, size)?;
-    Ok(writer.into_inner())
+    (writer.into_inner(), result)
 }

@@ -1,3 +1,0 @@
-//! Runs of `drive` over memory.
-
-mod failing;
