@@ -72,6 +72,25 @@ fn handle<R: Clock + Wait, O: Outlet<Event> + Drop>(
     }
 }
 
+fn start_one<
+    R: Threads + Clock + Wait + Copy + Send + 'static,
+    O: Outlet<Event> + Drop + Send + 'static,
+>(
+    rt: R,
+    who: usize,
+    outlet: O,
+    bell: Arc<Bell, Global>,
+    order: Order,
+    begun: Instant,
+    took: Vec<u64>,
+) -> Result<Handling, Fault> {
+    let work = move || handle(&rt, who, outlet, &bell, order, begun, took);
+    match thread::spawn(&rt, work) {
+        Ok(handling) => Ok(handling),
+        Err(_) => Err(Fault::Thread),
+    }
+}
+
 /// Starts a thread for each handler, of which the last notes how long each event took since then.
 pub fn start<
     R: Threads + Clock + Wait + Copy + Send + 'static,
@@ -90,11 +109,7 @@ pub fn start<
         let room = if who == last { order.events } else { 0 };
         let took = vec![in alloc; 0u64; room]?;
         let bell = Arc::try_clone(bell)?;
-        let work = move || handle(&rt, who, outlet, &bell, order, begun, took);
-        let Ok(handling) = thread::spawn(&rt, work) else {
-            return Err(Fault::THREAD);
-        };
-        started.push(handling)?;
+        started.push(start_one(rt, who, outlet, bell, order, begun, took)?)?;
     }
     Ok(started)
 }

@@ -51,7 +51,7 @@ fn check_exchange<R: Runtime + Threads + Wait + Copy + Send + 'static>(
             gap,
         };
         if pass(rt, alloc, order)?.contains(&0) {
-            return Err(Fault::LOST);
+            return Err(Fault::Lost);
         }
     }
     println!(rt; "{exchange}: {events} events by each strategy")?;
@@ -82,9 +82,9 @@ fn run<R: Runtime + Alloc<A = Global> + Threads + Wait + Copy + Send + 'static>(
                 events.as_str(),
                 gap.as_str(),
             ];
-            measure(rt, alloc, read_order(words).ok_or(Fault::USAGE)?)
+            measure(rt, alloc, read_order(words).ok_or(Fault::Usage)?)
         }
-        _ => Err(Fault::USAGE),
+        _ => Err(Fault::Usage),
     }
 }
 
@@ -94,7 +94,7 @@ fn main(rt: HostRuntime) -> ExitCode {
         Err(fault) => {
             // Where even this cannot be written, the status tells it.
             let _printed = rt.eprintln(&fault);
-            ExitCode::from(fault.status)
+            ExitCode::from(fault.status())
         }
     }
 }

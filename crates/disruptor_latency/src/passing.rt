@@ -3,13 +3,13 @@
 use crate::fault::Fault;
 use crate::handling::{noted, start};
 use crate::request::{Exchange, Order};
-use crate::sending::send;
-use dr_core::MAX_LIMIT;
+use crate::sending::{Ends, send_all};
+use dr_core::{MAX_LIMIT, Outlet};
 use dr_graph::{Graph, GraphBuilder, GraphFault};
 use dr_ring::ring;
 use dr_senders::senders_ring;
 use dr_seq::{Event, Size};
-use dr_shared::{Bell, Ringing};
+use dr_shared::Bell;
 use std::alloc::Global;
 use std::rt::Clock;
 use std::sync::{Arc, Wait};
@@ -19,79 +19,74 @@ use std::time::Instant;
 /// The slots of the ring.
 const SLOTS: u64 = 1024;
 
+/// The names of the handlers, of which each follows the one before it.
+const FIRST: [&str; 1] = ["first"];
+
+const SECOND: [&str; 1] = ["second"];
+
+const THIRD: [&str; 1] = ["third"];
+
+fn declare(builder: &mut GraphBuilder) -> Result<(), GraphFault> {
+    let first = builder.handle_with(&FIRST)?;
+    let second = builder.then(&first, &SECOND)?;
+    builder.then(&second, &THIRD)?;
+    Ok(())
+}
+
 fn pipeline(alloc: Global) -> Result<Graph, GraphFault> {
     let mut builder = GraphBuilder::new(alloc);
-    let first = builder.handle_with(&["first"])?;
-    let second = builder.then(&first, &["second"])?;
-    let _third = builder.then(&second, &["third"])?;
+    declare(&mut builder)?;
     builder.build()
+}
+
+/// Sends through an exchange with these ends.
+fn through<
+    R: Threads + Clock + Wait + Copy + Send + 'static,
+    I: Ends,
+    O: Outlet<Event> + Drop + Send + 'static,
+>(rt: R, alloc: Global, order: Order, sender: I, receivers: Vec<O>) -> Result<Vec<u64>, Fault> {
+    let begun = Instant::now(&rt)?;
+    let bell = Arc::new(alloc, Bell::new())?;
+    let started = start(rt, alloc, receivers, &bell, order, begun)?;
+    send_all(&rt, sender, &bell, order, begun)?;
+    noted(&rt, alloc, started)
 }
 
 fn through_ring<R: Threads + Clock + Wait + Copy + Send + 'static>(
     rt: R,
     alloc: Global,
     order: Order,
+    graph: &Graph,
+    size: Size,
 ) -> Result<Vec<u64>, Fault> {
-    let (begun, bell) = (Instant::now(&rt)?, Arc::new(alloc, Bell::new())?);
-    let (sender, receivers, _halter) = ring(
-        alloc,
-        &pipeline(alloc)?,
-        Size::new(SLOTS)?,
-        MAX_LIMIT,
-    )?;
-    let started = start(rt, alloc, receivers, &bell, order, begun)?;
-    let mut sender = Ringing::new(sender, &*bell);
-    let mut waits = order.strategy.begin(&rt, &bell, 1);
-    let sent = send(&rt, &mut sender, &mut waits, order, begun);
-    sender.call(|end| end.close())?;
-    sent?;
-    noted(&rt, alloc, started)
+    let (sender, receivers, _halter) = ring(alloc, graph, size, MAX_LIMIT)?;
+    through(rt, alloc, order, sender, receivers)
 }
 
 fn through_plain<R: Threads + Clock + Wait + Copy + Send + 'static>(
     rt: R,
     alloc: Global,
     order: Order,
+    graph: &Graph,
+    size: Size,
 ) -> Result<Vec<u64>, Fault> {
-    let (begun, bell) = (Instant::now(&rt)?, Arc::new(alloc, Bell::new())?);
-    let events = vec![in alloc; Event::NONE; SLOTS as usize]?;
-    let (sender, receivers, _halter) = dr_plain::ring(
-        alloc,
-        &pipeline(alloc)?,
-        Size::new(SLOTS)?,
-        MAX_LIMIT,
-        events,
-    )?;
-    let started = start(rt, alloc, receivers, &bell, order, begun)?;
-    let mut sender = Ringing::new(sender, &*bell);
-    let mut waits = order.strategy.begin(&rt, &bell, 1);
-    let sent = send(&rt, &mut sender, &mut waits, order, begun);
-    sender.call(|end| end.close())?;
-    sent?;
-    noted(&rt, alloc, started)
+    let events = vec![in alloc; Event::NONE; size.get() as usize]?;
+    let (sender, receivers, _halter) = dr_plain::ring(alloc, graph, size, MAX_LIMIT, events)?;
+    through(rt, alloc, order, sender, receivers)
 }
 
 fn through_senders<R: Threads + Clock + Wait + Copy + Send + 'static>(
     rt: R,
     alloc: Global,
     order: Order,
+    graph: &Graph,
+    size: Size,
 ) -> Result<Vec<u64>, Fault> {
-    let (begun, bell) = (Instant::now(&rt)?, Arc::new(alloc, Bell::new())?);
-    let (mut senders, receivers, _halter) = senders_ring(
-        alloc,
-        &pipeline(alloc)?,
-        Size::new(SLOTS)?,
-        MAX_LIMIT,
-        1,
-    )?;
-    let sender = senders.pop().ok_or(Fault::THREAD)?;
-    let started = start(rt, alloc, receivers, &bell, order, begun)?;
-    let mut sender = Ringing::new(sender, &*bell);
-    let mut waits = order.strategy.begin(&rt, &bell, 1);
-    let sent = send(&rt, &mut sender, &mut waits, order, begun);
-    sender.call(|end| end.halt());
-    sent?;
-    noted(&rt, alloc, started)
+    let (mut senders, receivers, _halter) = senders_ring(alloc, graph, size, MAX_LIMIT, 1)?;
+    match senders.pop() {
+        Some(sender) => through(rt, alloc, order, sender, receivers),
+        None => Err(Fault::Refused),
+    }
 }
 
 /// Sends the events of a measurement through three handlers, and tells how many nanoseconds each took.
@@ -100,9 +95,11 @@ pub fn pass<R: Threads + Clock + Wait + Copy + Send + 'static>(
     alloc: Global,
     order: Order,
 ) -> Result<Vec<u64>, Fault> {
+    let size = Size::new(SLOTS)?;
+    let graph = pipeline(alloc)?;
     match order.exchange {
-        Exchange::Ring => through_ring(rt, alloc, order),
-        Exchange::Plain => through_plain(rt, alloc, order),
-        Exchange::Senders => through_senders(rt, alloc, order),
+        Exchange::Ring => through_ring(rt, alloc, order, &graph, size),
+        Exchange::Plain => through_plain(rt, alloc, order, &graph, size),
+        Exchange::Senders => through_senders(rt, alloc, order, &graph, size),
     }
 }

@@ -3,9 +3,9 @@
 use crate::clock::{await_nanos, nanos_since};
 use crate::fault::Fault;
 use crate::request::Order;
-use dr_core::Inlet;
+use dr_core::{Inlet, Refusal};
 use dr_seq::Event;
-use dr_shared::{OpenGate, Patience, produce_with};
+use dr_shared::{Bell, OpenGate, Patience, Ringing, produce_with};
 use std::rt::Clock;
 use std::sync::Wait;
 use std::time::Instant;
@@ -13,8 +13,32 @@ use std::time::Instant;
 /// The number of the sender's worker.
 const SENDER: usize = 16;
 
+/// A sender's end, which tells the handlers when there is no more to come.
+pub trait Ends: Inlet<Event> + Drop {
+    fn end(&mut self) -> Result<(), Refusal>;
+}
+
+impl Ends for dr_ring::Sender {
+    fn end(&mut self) -> Result<(), Refusal> {
+        self.close()
+    }
+}
+
+impl Ends for dr_plain::Sender<Event> {
+    fn end(&mut self) -> Result<(), Refusal> {
+        self.close()
+    }
+}
+
+impl Ends for dr_senders::Sender {
+    fn end(&mut self) -> Result<(), Refusal> {
+        self.halt();
+        Ok(())
+    }
+}
+
 /// Sends the events, each as its time has come, and with the time at which its claim began.
-pub fn send<R: Wait + Clock, I: Inlet<Event>, P: Patience>(
+fn send<R: Wait + Clock, I: Inlet<Event>, P: Patience>(
     rt: &R,
     inlet: &mut I,
     patience: &mut P,
@@ -34,4 +58,22 @@ pub fn send<R: Wait + Clock, I: Inlet<Event>, P: Patience>(
         }
     }
     Ok(())
+}
+
+/// Sends them through an end that rings, and ends.
+pub fn send_all<R: Wait + Clock, I: Ends>(
+    rt: &R,
+    sender: I,
+    bell: &Bell,
+    order: Order,
+    begun: Instant,
+) -> Result<(), Fault> {
+    let mut inlet = Ringing::new(sender, bell);
+    let mut waits = order.strategy.begin(rt, bell, 1);
+    let sent = send(rt, &mut inlet, &mut waits, order, begun);
+    let mut sender = inlet.into_end();
+    let ended = sender.end();
+    bell.ring();
+    sent?;
+    Ok(ended?)
 }
