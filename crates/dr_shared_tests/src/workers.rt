@@ -1,14 +1,17 @@
 //! Workers over ends of the tests' own, which no exchange stands behind.
 
+ghost use Rattle.std.specs.Prelude.{◌<◌};
+
 use crate::histories::check;
 use dr_core::{Claimed, Handler, Inlet, Outlet, Polled, Refusal, Trouble};
 use dr_seq::{Event, Size};
 use dr_shared::{
-    Ended, Gate, GateAnswer, OpenGate, Produced, Waiting, WorkFault, consume, first_fault, produce,
+    Ended, Gate, GateAnswer, OpenGate, Produced, Waiting, WorkFault, WorkerFault, consume,
+    first_fault, produce,
 };
 use std::process::Abort;
+use std::sync::Wait;
 use std::sync::atomic::{AtomicU64, Ordering};
-use std::test::Fail;
 
 // An end with room for so many events, of which each second call finds no memory.
 #[derive(Drop)]
@@ -111,72 +114,43 @@ fn stops_at_one() -> StopsAtOne {
 
 const SCRIPT: [Event; 5] = [Event::NONE; 5];
 
-#[test]
-fn producers(rt: HostRuntime) -> Result<(), Fail> {
-    let script = SCRIPT.as_slice();
-    let mut inlet = scarce_end(5);
-    let all = Produced {
-        sent: 5,
-        fault: None,
-    };
-    check(&rt, produce(&rt, &mut inlet, &OpenGate, 16, script, 2), all);
-    // Five writes and three publications, each made twice.
-    check(&rt, inlet.calls, 16);
-    let refused = Produced {
-        sent: 4,
-        fault: Some(WorkFault::Refused(Refusal::Exhausted)),
-    };
-    check(
-        &rt,
-        produce(&rt, &mut scarce_end(4), &OpenGate, 16, script, 2),
-        refused,
-    );
-    let mut hoarding = scarce_end(5);
-    hoarding.hoards = true;
-    let memory = Produced {
-        sent: 0,
-        fault: Some(WorkFault::Memory),
-    };
-    check(
-        &rt,
-        produce(&rt, &mut hoarding, &OpenGate, 16, script, 2),
-        memory,
-    );
-    Ok(())
+// What the worker of a producer answers that sends the script through an end, at most so many events a claim.
+fn check_sent<R: Wait + Abort, G: Gate>(
+    rt: &R,
+    inlet: &mut Scarce,
+    gate: &G,
+    cut: u64,
+    sent: u64,
+    fault: Option<WorkFault>,
+)
+    requires { 0 < cut }
+{
+    let wanted = Produced { sent, fault };
+    check(rt, produce(rt, inlet, gate, 16, &SCRIPT, cut), wanted);
 }
 
 #[test]
-fn stopped_producers(rt: HostRuntime) -> Result<(), Fail> {
+fn producers(rt: HostRuntime) {
+    let mut inlet = scarce_end(5);
+    check_sent(&rt, &mut inlet, &OpenGate, 2, 5, None);
+    // Five writes and three publications, each made twice.
+    check(&rt, inlet.calls, 16);
+    let refused = Some(WorkFault::Refused(Refusal::Exhausted));
+    check_sent(&rt, &mut scarce_end(4), &OpenGate, 2, 4, refused);
+    let mut hoarding = scarce_end(5);
+    hoarding.hoards = true;
+    check_sent(&rt, &mut hoarding, &OpenGate, 2, 0, Some(WorkFault::Memory));
+}
+
+#[test]
+fn stopped_producers(rt: HostRuntime) {
     let gate = stops_at_one();
     let stopped = Some(WorkFault::Stopped);
-    let all = Produced {
-        sent: 5,
-        fault: stopped,
-    };
-    check(
-        &rt,
-        produce(&rt, &mut scarce_end(5), &gate, 16, SCRIPT.as_slice(), 1),
-        all,
-    );
+    check_sent(&rt, &mut scarce_end(5), &gate, 1, 5, stopped);
     check(&rt, gate.passed.load(Ordering::SeqCst), 2);
     // A refusal does not hide that it was stopped.
-    let most = Produced {
-        sent: 4,
-        fault: stopped,
-    };
-    check(
-        &rt,
-        produce(
-            &rt,
-            &mut scarce_end(4),
-            &stops_at_one(),
-            16,
-            SCRIPT.as_slice(),
-            1,
-        ),
-        most,
-    );
-    Ok(())
+    check_sent(&rt, &mut scarce_end(4), &gate, 1, 4, stopped);
+    check(&rt, gate.passed.load(Ordering::SeqCst), 4);
 }
 
 // An end that hands out so many batches of one event, of which it marks the last alone, and finds no
@@ -260,63 +234,87 @@ impl Handler<Event> for Adder {
     }
 }
 
+// What the worker of a handler answers over an end with five events.
+fn check_taken<R: Wait + Abort, G: Gate>(
+    rt: &R,
+    gate: &G,
+    adder: &mut Adder,
+    buf: &mut [Event],
+    wanted: Option<WorkFault>,
+) {
+    let answer = consume(rt, &mut dealing_end(5), gate, 0, adder, buf);
+    check(rt, answer, wanted);
+}
+
+fn check_shown(rt: &impl Abort, adder: &Adder, count: u64, marks: u64, sum: u64) {
+    check(rt, adder.count, count);
+    check(rt, adder.marks, marks);
+    check(rt, adder.sum, sum);
+}
+
 #[test]
-fn consumers(rt: HostRuntime) -> Result<(), Fail> {
+fn consumers(rt: HostRuntime) {
     let mut buf = [Event::NONE; 4];
     let mut adder = Adder {
         count: 0,
         marks: 0,
         sum: 0,
     };
-    check(
-        &rt,
-        consume(&rt, &mut dealing_end(5), &OpenGate, 0, &mut adder, &mut buf),
-        None,
-    );
-    assert!(rt; adder.count == 5 && adder.marks == 1 && adder.sum == 10);
+    check_taken(&rt, &OpenGate, &mut adder, &mut buf, None);
+    check_shown(&rt, &adder, 5, 1, 10);
     let gate = stops_at_one();
     let stopped = Some(WorkFault::Stopped);
-    check(
-        &rt,
-        consume(&rt, &mut dealing_end(5), &gate, 0, &mut adder, &mut buf),
-        stopped,
-    );
-    assert!(rt; adder.count == 10 && adder.marks == 2);
+    check_taken(&rt, &gate, &mut adder, &mut buf, stopped);
+    check_shown(&rt, &adder, 10, 2, 20);
     check(&rt, gate.passed.load(Ordering::SeqCst), 2);
     let refused = Some(WorkFault::Refused(Refusal::BadCount));
-    check(
-        &rt,
-        consume(&rt, &mut dealing_end(5), &gate, 0, &mut adder, &mut []),
-        refused,
-    );
-    Ok(())
+    check_taken(&rt, &gate, &mut adder, &mut [], refused);
 }
 
-fn ended(who: usize, fault: Option<WorkFault>) -> Ended {
-    Ended { who, fault }
+const REFUSED: Option<WorkFault> = Some(WorkFault::Refused(Refusal::Exhausted));
+
+const ALL: [Ended; 6] = [
+    Ended {
+        who: 16,
+        fault: Some(WorkFault::Memory),
+    },
+    Ended {
+        who: 3,
+        fault: REFUSED,
+    },
+    Ended {
+        who: 9,
+        fault: Some(WorkFault::Stopped),
+    },
+    Ended {
+        who: 2,
+        fault: REFUSED,
+    },
+    Ended {
+        who: 4,
+        fault: Some(WorkFault::Stopped),
+    },
+    Ended {
+        who: 0,
+        fault: None,
+    },
+];
+
+// The first fault of these workers is this one's, with this number.
+fn check_first(rt: &impl Abort, ended: &[Ended], who: usize, fault: WorkFault, number: u32) {
+    check(rt, first_fault(ended), Some(WorkerFault { who, fault }));
+    check(rt, fault.number(), number);
 }
 
 #[test]
-fn first_of_several_faults(rt: HostRuntime) -> Result<(), Fail> {
-    let refused = Some(WorkFault::Refused(Refusal::Exhausted));
-    let stopped = Some(WorkFault::Stopped);
-    let memory = Some(WorkFault::Memory);
-    let all = [
-        ended(16, memory),
-        ended(3, refused),
-        ended(9, stopped),
-        ended(2, refused),
-        ended(4, stopped),
-        ended(0, None),
-    ];
-    for (from, to, who, number) in [(0, 6, 16, 40), (1, 6, 4, 54), (1, 3, 9, 54), (1, 2, 3, 53)] {
-        let first = first_fault(&all[from..to]);
-        assert!(rt; matches!(&first, Some(first) if first.who == who));
-        assert!(rt; matches!(&first, Some(first) if first.fault.number() == number));
-    }
-    check(&rt, first_fault(&all[5..]), None);
+fn first_of_several_faults(rt: HostRuntime) {
+    let refused = WorkFault::Refused(Refusal::Exhausted);
+    check_first(&rt, &ALL, 16, WorkFault::Memory, 40);
+    check_first(&rt, &ALL[1..], 4, WorkFault::Stopped, 54);
+    check_first(&rt, &ALL[1..3], 9, WorkFault::Stopped, 54);
+    check_first(&rt, &ALL[1..2], 3, refused, 53);
+    check(&rt, first_fault(&ALL[5..]), None);
     check(&rt, first_fault(&[]), None);
-    Ok(())
 }
 
 // The pauses of the waits that follow, where the thread has room for 64 events and each wait lets so
@@ -331,14 +329,21 @@ fn pauses_where(rt: &impl Abort, waiting: &mut Waiting, come: u64, wanted: &[u32
     }
 }
 
+// How many events each wait lets come, and the pauses of the waits.
+const WAITS: [(u64, &[u32]); 7] = [
+    (15, &[1, 2, 4, 8]),
+    (16, &[16, 16]),
+    (32, &[16, 16]),
+    (33, &[16, 8, 4, 2, 1, 1]),
+    (1, &[1, 2, 4, 8, 16, 32, 64, 64]),
+    (15, &[64, 128, 256, 512, 512]),
+    (7, &[512, 256, 256]),
+];
+
 #[test]
 fn waits_become_longer_and_shorter(rt: HostRuntime) {
     let mut waiting = Waiting::new(64);
-    pauses_where(&rt, &mut waiting, 15, &[1, 2, 4, 8]);
-    pauses_where(&rt, &mut waiting, 16, &[16, 16]);
-    pauses_where(&rt, &mut waiting, 32, &[16, 16]);
-    pauses_where(&rt, &mut waiting, 33, &[16, 8, 4, 2, 1, 1]);
-    pauses_where(&rt, &mut waiting, 1, &[1, 2, 4, 8, 16, 32, 64, 64]);
-    pauses_where(&rt, &mut waiting, 15, &[64, 128, 256, 512, 512]);
-    pauses_where(&rt, &mut waiting, 7, &[512, 256, 256]);
+    for (come, wanted) in WAITS {
+        pauses_where(&rt, &mut waiting, come, wanted);
+    }
 }
