@@ -1,4 +1,4 @@
-//! The waiting of `dr_shared`: pauses after the first look that finds nothing, as many as let about a
+//! The waiting of `dr_workers`: pauses after the first look that finds nothing, as many as let about a
 //! quarter to a half of the room fill, and then yields.
 
 use std::hint::spin_loop;

@@ -13,7 +13,7 @@ use dr_command_line::{By, LineFault, Plan, Tool, plan};
 use dr_drive::drive;
 use dr_replay::{Counted, FileFault, ReplayFault, replay_lock, replay_plain, replay_ring};
 use dr_seq::Size;
-use dr_shared::OpenGate;
+use dr_workers::OpenGate;
 use std::alloc::Global;
 use std::fs::{self, File};
 use std::io::{BufWriter, Read, Write};

@@ -1,7 +1,7 @@
 //! Why nothing is measured.
 
-use dr_core::{OpenFault, Refusal, Trouble};
 use dr_graph::GraphFault;
+use dr_meaning::{OpenFault, Refusal, Trouble};
 use dr_ring::RingFault;
 use std::alloc::{AllocError, AllocFailed};
 use std::{fmt, io};

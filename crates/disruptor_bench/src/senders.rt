@@ -4,7 +4,7 @@ use crate::arguments::Order;
 use crate::fault::Fault;
 use crate::measured::Round;
 use crate::threads::{finish, start, stretch};
-use dr_core::MAX_LIMIT;
+use dr_meaning::MAX_LIMIT;
 use dr_senders::{Halter, Receiver, Sender, senders_ring};
 use dr_seq::Event;
 use std::alloc::Global;

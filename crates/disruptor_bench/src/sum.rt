@@ -1,7 +1,7 @@
 //! The work of the handlers: they add up what they are shown.
 
 use crate::width::Words;
-use dr_core::{Handler, InPlaceHandler};
+use dr_meaning::{Handler, InPlaceHandler};
 use dr_seq::Event;
 
 /// A handler that adds up the first words, as the LMAX measurements' does.

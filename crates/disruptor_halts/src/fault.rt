@@ -1,9 +1,9 @@
 //! Why a round fails, or is not run.
 
-use dr_core::{OpenFault, Refusal, Trouble};
 use dr_graph::GraphFault;
+use dr_lock::AuditFault;
+use dr_meaning::{OpenFault, Refusal, Trouble};
 use dr_ring::RingFault;
-use dr_shared::AuditFault;
 use std::alloc::{AllocError, AllocFailed};
 use std::{fmt, io};
 

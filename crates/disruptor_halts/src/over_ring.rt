@@ -10,7 +10,7 @@ use crate::sending::Sending;
 use crate::signs::Signs;
 use crate::stretch::Stretch;
 use crate::told::Told;
-use dr_core::MAX_LIMIT;
+use dr_meaning::MAX_LIMIT;
 use dr_ring::{Halter, Receiver, Sender, ring};
 use dr_senders::senders_ring;
 use dr_seq::Event;

@@ -4,7 +4,7 @@ use crate::fault::Fault;
 use crate::random::Random;
 use crate::signs::Signs;
 use crate::stretch::{Stretch, TURNS};
-use dr_core::{Outlet, Polled};
+use dr_meaning::{Outlet, Polled};
 use dr_seq::Event;
 use std::alloc::{AllocError, Global};
 

@@ -3,7 +3,7 @@
 use crate::fault::Fault;
 use crate::random::Random;
 use crate::stretch::{Stretch, TURNS};
-use dr_core::{Claimed, Inlet, Refusal, Trouble};
+use dr_meaning::{Claimed, Inlet, Refusal, Trouble};
 use dr_seq::Event;
 use std::alloc::Global;
 

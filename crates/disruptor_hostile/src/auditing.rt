@@ -5,10 +5,10 @@ use crate::core_calls::write;
 use crate::fault::Fault;
 use crate::recording::{call, recorded};
 use crate::telling::{tell_value, tell_words};
-use dr_core::Command;
-use dr_core::Command::{Claim, Poll, Publish};
+use dr_lock::{AuditFault, Recorded, audit};
+use dr_meaning::Command;
+use dr_meaning::Command::{Claim, Poll, Publish};
 use dr_seq::Event;
-use dr_shared::{AuditFault, Recorded, audit};
 use std::alloc::Global;
 
 /// Producer 1 sends 5 and 6, and producer 0 then 4.

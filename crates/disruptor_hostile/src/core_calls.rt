@@ -4,8 +4,9 @@ use crate::again::again;
 use crate::fault::Fault;
 use crate::graphs::{ONE, diamond, graph};
 use crate::telling::{tell_both, tell_value};
-use dr_core::Command::{Claim, Poll, Publish, Write};
-use dr_core::{Claimed, Command, Core, MAX_LIMIT, Mode, Ran, Refusal, run};
+use dr_core::{Core, Ran, run};
+use dr_meaning::Command::{Claim, Poll, Publish, Write};
+use dr_meaning::{Claimed, Command, MAX_LIMIT, Mode, Refusal};
 use dr_seq::{Event, Size};
 use std::alloc::Global;
 

@@ -1,10 +1,10 @@
 //! Why the program ends early.
 
-use dr_core::{OpenFault, Refusal};
 use dr_graph::GraphFault;
+use dr_lock::AuditFault;
+use dr_meaning::{OpenFault, Refusal};
 use dr_ring::RingFault;
 use dr_seq::SizeFault;
-use dr_shared::AuditFault;
 use std::alloc::AllocError;
 use std::{fmt, io};
 

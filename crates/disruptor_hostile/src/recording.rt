@@ -1,17 +1,17 @@
 //! A history, and the calls that it keeps.
 
 ghost use Rattle.std.specs.Prelude.{◌≡◌};
-ghost use Rattle.dr_shared.specs.Meaning.History.{asked};
+ghost use Rattle.dr_lock.specs.Meaning.History.{asked};
 
 use crate::again::again;
 use crate::core_calls::write;
 use crate::fault::Fault;
 use crate::graphs::{TWO, graph};
 use crate::telling::{tell_both, tell_value};
-use dr_core::Command::{Claim, Complete, Halt, Poll, Publish, Retire};
-use dr_core::{Command, MAX_LIMIT, Mode, Reply};
+use dr_lock::Recorded;
+use dr_meaning::Command::{Claim, Complete, Halt, Poll, Publish, Retire};
+use dr_meaning::{Command, MAX_LIMIT, Mode, Reply};
 use dr_seq::{Event, Size};
-use dr_shared::Recorded;
 use std::alloc::Global;
 
 /// The room that a command asks for.

@@ -6,10 +6,11 @@ use crate::fault::Fault;
 use crate::graphs::diamond;
 use crate::recording::{call, commands, recorded};
 use crate::telling::{tell_about, tell_both, tell_value, tell_words};
-use dr_core::{Command, Core, Handler, MAX_LIMIT, Mode, processor_turn};
+use dr_core::{Core, processor_turn};
+use dr_lock::Recorded;
+use dr_meaning::{Command, Handler, MAX_LIMIT, Mode};
 use dr_ring::{Halter, Receiver, Sender, ring};
 use dr_seq::{Event, Size};
-use dr_shared::Recorded;
 use std::alloc::Global;
 
 /// Counts the events that it is shown.

@@ -1,10 +1,10 @@
 //! Why nothing is measured.
 
-use dr_core::{OpenFault, Refusal};
 use dr_graph::GraphFault;
+use dr_meaning::{OpenFault, Refusal};
 use dr_ring::RingFault;
 use dr_seq::SizeFault;
-use dr_shared::WorkFault;
+use dr_workers::WorkFault;
 use std::alloc::{AllocError, AllocFailed};
 use std::{fmt, io};
 

@@ -3,9 +3,9 @@
 use crate::clock::nanos_since;
 use crate::fault::Fault;
 use crate::request::Order;
-use dr_core::{Handler, Outlet};
+use dr_meaning::{Handler, Outlet};
 use dr_seq::Event;
-use dr_shared::{Bell, OpenGate, Ringing, consume_with};
+use dr_workers::{Bell, OpenGate, Ringing, consume_with};
 use std::alloc::Global;
 use std::rt::Clock;
 use std::sync::{Arc, Wait};

@@ -3,9 +3,9 @@
 use crate::clock::{await_nanos, nanos_since};
 use crate::fault::Fault;
 use crate::request::Order;
-use dr_core::{Inlet, Refusal};
+use dr_meaning::{Inlet, Refusal};
 use dr_seq::Event;
-use dr_shared::{Bell, OpenGate, Patience, Ringing, produce_with};
+use dr_workers::{Bell, OpenGate, Patience, Ringing, produce_with};
 use std::rt::Clock;
 use std::sync::Wait;
 use std::time::Instant;

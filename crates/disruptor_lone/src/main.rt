@@ -10,11 +10,11 @@ mod stopwatch;
 ghost use Rattle.std.specs.Prelude.{◌≡◌};
 ghost use Rattle.dr_ring.specs.Calls.Ends.{sender_place};
 
-use dr_core::Handler;
 use dr_disruptor::{LiveSender, RunFault, WaitStrategy, run_with};
 use dr_graph::GraphBuilder;
+use dr_meaning::Handler;
 use dr_seq::{Event, Size};
-use dr_shared::{WorkFault, produce_with};
+use dr_workers::{WorkFault, produce_with};
 use std::alloc::Global;
 use std::env;
 use std::process::ExitCode;

@@ -1,6 +1,6 @@
 //! How long events take until the next one finds room.
 
-use dr_shared::{Gate, GateAnswer};
+use dr_workers::{Gate, GateAnswer};
 use std::sync::atomic::{AtomicU64, Ordering};
 use std::time::{Clock, Instant};
 

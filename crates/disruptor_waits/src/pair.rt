@@ -1,8 +1,8 @@
 //! Two handlers, of which the second follows the first.
 
 use crate::fault::Fault;
-use dr_core::Handler;
 use dr_graph::{Graph, GraphBuilder, GraphFault};
+use dr_meaning::Handler;
 use dr_seq::Event;
 use std::alloc::Global;
 use std::sync::Arc;

@@ -1,8 +1,8 @@
 -- A handler's part of the report, after all batches that it was shown.
 use Rattle.std.proofs.Common.{ℕ, Bool, List, [], ◌∷◌, ◌++◌, refl, subst, append-nil, append_assoc}
 use Rattle.dr_seq.specs.declared.event.Event.{Event}
-use Rattle.dr_core.specs.Calls.Handling.{GoesThrough, Relation, Showing, showings}
-use Rattle.dr_shared.specs.Meaning.Work.{Dealt, dealt_events, shown_of}
+use Rattle.dr_meaning.specs.Calls.Handling.{GoesThrough, Relation, Showing, showings}
+use Rattle.dr_workers.specs.Meaning.Work.{Dealt, dealt_events, shown_of}
 use Rattle.dr_accounts.specs.declared.business.Business.{Business}
 use Rattle.dr_accounts.specs.declared.journal.Journal.{Journal}
 use Rattle.dr_accounts.specs.declared.replica.Replica.{Replica}

@@ -1,14 +1,14 @@
 -- A handler's worker is refused nothing, where its end completed no more than it took.
 use Rattle.std.proofs.Common.{◌≡◌, ◌≢◌, ◌≤◌, ◌<◌, ℕ, Bool, true, false, length, Option, Some, Result, Err, inl, inr, ⊎_elim, ap, sym, ◌∙◌}
 use Rattle.dr_seq.specs.declared.event.Event.{Event}
-use Rattle.dr_core.specs.declared.refusal.Refusal.{Refusal}
-use Rattle.dr_core.specs.Calls.Calling.{SomeCalls}
-use Rattle.dr_core.specs.Calls.Handling.{Relation}
-use Rattle.dr_shared.specs.Calls.Serving.{Serves}
-use Rattle.dr_shared.specs.Calls.Stops.{fault_at_end}
-use Rattle.dr_shared.specs.declared.fault.WorkFault.{WorkFault}
-use Rattle.dr_shared.specs.declared.fault.WorkFault.TheVariants.{Refused}
-use Rattle.dr_shared.proofs.Untroubled.{Answers, untroubled}
+use Rattle.dr_meaning.specs.declared.refusal.Refusal.{Refusal}
+use Rattle.dr_meaning.specs.Calls.Calling.{SomeCalls}
+use Rattle.dr_meaning.specs.Calls.Handling.{Relation}
+use Rattle.dr_workers.specs.Calls.Serving.{Serves}
+use Rattle.dr_workers.specs.Calls.Stops.{fault_at_end}
+use Rattle.dr_workers.specs.declared.fault.WorkFault.{WorkFault}
+use Rattle.dr_workers.specs.declared.fault.WorkFault.TheVariants.{Refused}
+use Rattle.dr_workers.proofs.Untroubled.{Answers, untroubled}
 use Rattle.dr_ring.specs.Calls.Ends.{ReceiverEnd, received_of}
 use Rattle.dr_ring.specs.Calls.Telling.{receiver_does}
 use Rattle.dr_ring.proofs.Untroubled as ring

@@ -2,7 +2,7 @@
 use Rattle.std.proofs.Common.{◌≤◌, ◌<◌, ◌+◌, ◌-◌, ℕ, List, [], ◌∷◌, ◌++◌, Bool, true, length, take, drop, refl, subst, arith}
 use Rattle.dr_seq.specs.declared.event.Event.{Event}
 use Rattle.dr_core.specs.Calls.CoreView.{CoreView}
-use Rattle.dr_core.specs.Calls.Handling.{Relation}
+use Rattle.dr_meaning.specs.Calls.Handling.{Relation}
 use Rattle.dr_accounts.specs.Passing.{each}
 use Rattle.dr_accounts.specs.Turns.{Rests}
 use Rattle.dr_accounts.proofs.Shown.{along}

@@ -3,12 +3,13 @@ use Rattle.std.proofs.Common.{◌≡◌, ◌≤◌, ◌<◌, ◌+◌, ◌-◌, �
 use Rattle.std.specs.Prelude.{slice_index_or}
 use Rattle.dr_seq.specs.declared.event.Event.{Event}
 use Rattle.dr_seq.specs.Event.{no_event}
-use Rattle.dr_core.specs.declared.command.Command.TheVariants.{Claim, Write, Publish}
-use Rattle.dr_core.specs.declared.command.Reply.{Reply}
-use Rattle.dr_core.specs.declared.command.Reply.TheVariants.{Claimed, Published, Refused, Written}
-use Rattle.dr_core.specs.declared.refusal.Refusal.{Refusal}
+use Rattle.dr_meaning.specs.declared.command.Command.TheVariants.{Claim, Write, Publish}
+use Rattle.dr_meaning.specs.declared.command.Reply.{Reply}
+use Rattle.dr_meaning.specs.declared.command.Reply.TheVariants.{Claimed, Published, Refused, Written}
+use Rattle.dr_meaning.specs.declared.refusal.Refusal.{Refusal}
 use Rattle.dr_core.specs.Calls.CoreView.{CoreView}
-use Rattle.dr_core.specs.Calls.Shows.{IsStep, Shows, unit_reply}
+use Rattle.dr_core.specs.Calls.Shows.{IsStep, Shows}
+use Rattle.dr_meaning.specs.Calls.Replies.{unit_reply}
 use Rattle.dr_accounts.specs.Passing.{each, passed, replay_setup}
 use Rattle.dr_accounts.specs.Turns.{Rests, SendsStretch}
 use Rattle.dr_accounts.proofs.Passing.{claims, publishes, stepped, writes}

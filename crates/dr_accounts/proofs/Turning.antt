@@ -3,15 +3,16 @@ use Rattle.std.proofs.Common.{◌≡◌, ◌≤◌, ◌<◌, ◌+◌, ◌-◌, �
 use Rattle.std.proofs.Common.{take, drop, slice_index, Result, Ok, Err, sym, ap, ◌∙◌, subst, arith, take-add}
 use Rattle.std.specs.Prelude.{slice_set}
 use Rattle.dr_seq.specs.declared.event.Event.{Event}
-use Rattle.dr_core.specs.declared.command.Command.TheVariants.{Complete, Poll}
-use Rattle.dr_core.specs.declared.command.Reply.{Reply}
-use Rattle.dr_core.specs.declared.command.Reply.TheVariants.{Batch, Completed, Drained, Gating, Idle, Refused}
-use Rattle.dr_core.specs.declared.command.Polled.{Polled}
-use Rattle.dr_core.specs.declared.command.Polled.TheVariants as answer
-use Rattle.dr_core.specs.declared.refusal.Refusal.{Refusal}
+use Rattle.dr_meaning.specs.declared.command.Command.TheVariants.{Complete, Poll}
+use Rattle.dr_meaning.specs.declared.command.Reply.{Reply}
+use Rattle.dr_meaning.specs.declared.command.Reply.TheVariants.{Batch, Completed, Drained, Gating, Idle, Refused}
+use Rattle.dr_meaning.specs.declared.command.Polled.{Polled}
+use Rattle.dr_meaning.specs.declared.command.Polled.TheVariants as answer
+use Rattle.dr_meaning.specs.declared.refusal.Refusal.{Refusal}
 use Rattle.dr_core.specs.Calls.CoreView.{CoreView}
-use Rattle.dr_core.specs.Calls.Handling.{GoesThrough, Relation, TakesTurn, showings}
-use Rattle.dr_core.specs.Meaning.Machine.{available}
+use Rattle.dr_meaning.specs.Calls.Handling.{GoesThrough, Relation, showings}
+use Rattle.dr_core.specs.Calls.Turning.{TakesTurn}
+use Rattle.dr_meaning.specs.Meaning.Machine.{available}
 use Rattle.dr_core.specs.Calls.Shows.{IsStep}
 use Rattle.dr_accounts.specs.Passing.{passed, replay_setup}
 use Rattle.dr_accounts.specs.Turns.{Rests}

@@ -1,14 +1,14 @@
 -- What the worker of a handler gives back.
 use Rattle.std.specs.Prelude.{◌≡◌, ◌≢◌, ◌⊎◌, ◌<◌, ◌≤◌, ℕ, true, List, [], length, Option, None, Some, Result, Ok, Err, IfOk, string_bytes}
 use Rattle.dr_seq.specs.declared.event.Event.{Event}
-use Rattle.dr_core.specs.declared.refusal.Refusal.{Refusal}
-use Rattle.dr_core.specs.Calls.Calling.{SomeCalls}
-use Rattle.dr_core.specs.Calls.Handling.{Relation}
+use Rattle.dr_meaning.specs.declared.refusal.Refusal.{Refusal}
+use Rattle.dr_meaning.specs.Calls.Calling.{SomeCalls}
+use Rattle.dr_meaning.specs.Calls.Handling.{Relation}
 use Rattle.dr_ring.specs.Calls.Ends.{ReceiverEnd, receiver_place, received_of}
 use Rattle.dr_ring.specs.Calls.Telling.{receiver_does}
-use Rattle.dr_shared.specs.Calls.Serving.{Serves}
-use Rattle.dr_shared.specs.declared.fault.WorkFault.{WorkFault}
-use Rattle.dr_shared.specs.declared.fault.WorkFault.TheVariants.{Memory, Refused, Stopped}
+use Rattle.dr_workers.specs.Calls.Serving.{Serves}
+use Rattle.dr_workers.specs.declared.fault.WorkFault.{WorkFault}
+use Rattle.dr_workers.specs.declared.fault.WorkFault.TheVariants.{Memory, Refused, Stopped}
 use Rattle.dr_accounts.specs.declared.worker.Worked.{Worked}
 
 abbrev pub error_of : {A E : Type 0} → Result A E → Option E

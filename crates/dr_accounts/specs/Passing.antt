@@ -2,8 +2,8 @@
 use Rattle.std.specs.Prelude.{ℕ, ◌^◌, nat_lt, if◌then◌else◌, List, [], ◌∷◌, codes, replicate, Option, Some, None, slice_index_or}
 use Rattle.dr_seq.specs.declared.event.Event.{Event}
 use Rattle.dr_seq.specs.Event.{no_event}
-use Rattle.dr_core.specs.Meaning.Machine.{Setup, State, opening}
-use Rattle.dr_core.specs.declared.mode.Mode.TheVariants.{Single}
+use Rattle.dr_meaning.specs.Meaning.Machine.{Setup, State, opening}
+use Rattle.dr_meaning.specs.declared.mode.Mode.TheVariants.{Single}
 
 -- journal, which is 0, and replica, which is 1, have no upstreams; business follows both
 abbrev pub replay_graph : List (List ℕ)

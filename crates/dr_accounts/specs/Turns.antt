@@ -3,7 +3,7 @@ use Rattle.std.specs.Prelude.{◌≡◌, ◌<◌, ◌≤◌, ◌+◌, ℕ, false
 use Rattle.dr_seq.specs.declared.event.Event.{Event}
 use Rattle.dr_core.specs.Calls.CoreView.{CoreView}
 use Rattle.dr_core.specs.Calls.Shows.{Shows}
-use Rattle.dr_core.specs.declared.refusal.Refusal.{Refusal}
+use Rattle.dr_meaning.specs.declared.refusal.Refusal.{Refusal}
 use Rattle.dr_accounts.specs.declared.handlers.Handlers.{Handlers}
 use Rattle.dr_accounts.specs.Handlers.{IsBusinessOf, IsJournalOf, IsReplicaOf}
 use Rattle.dr_accounts.specs.Passing.{each, passed, replay_setup}

@@ -8,7 +8,8 @@ ghost use Rattle.dr_accounts.specs.Turns.{AreShown, AreWell, AreOffered, Turns};
 use crate::business::Business;
 use crate::journal::Journal;
 use crate::replica::Replica;
-use dr_core::{Core, Refusal};
+use dr_core::Core;
+use dr_meaning::Refusal;
 use dr_seq::Event;
 use std::alloc::{AllocError, Global};
 

@@ -6,7 +6,7 @@ ghost use Rattle.dr_accounts.specs.Operations.{movement_text, operation_text};
 ghost use Rattle.dr_accounts.specs.Report.{journal_line};
 
 use crate::operation::{Movement, Operation};
-use dr_core::Handler;
+use dr_meaning::Handler;
 use dr_seq::Event;
 use itoa::Buffer;
 use std::alloc::{AllocError, Global};

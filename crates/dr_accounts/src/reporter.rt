@@ -2,13 +2,13 @@
 
 ghost use Rattle.std.specs.Prelude.{◌≡◌, ◌++◌, ℕ, [], Bool, false, List, IfOk, OnOk, string_bytes};
 ghost use Rattle.dr_seq.specs.declared.event.Event.{Event};
-ghost use Rattle.dr_core.specs.Calls.Handling.{GoesThrough};
-ghost use Rattle.dr_shared.specs.Meaning.Work.{Dealt, dealt_events, shown_of};
+ghost use Rattle.dr_meaning.specs.Calls.Handling.{GoesThrough};
+ghost use Rattle.dr_workers.specs.Meaning.Work.{Dealt, dealt_events, shown_of};
 
 use crate::business::Business;
 use crate::journal::Journal;
 use crate::replica::Replica;
-use dr_core::Handler;
+use dr_meaning::Handler;
 use dr_seq::Event;
 use std::alloc::{AllocError, Global};
 

@@ -7,7 +7,8 @@ ghost use Rattle.dr_accounts.specs.Turns.{AreShown, ShowsAll, Rests, SendsStretc
 
 use crate::handlers::Handlers;
 use crate::topology::open;
-use dr_core::{Claimed, Core, MAX_LIMIT, Refusal};
+use dr_core::Core;
+use dr_meaning::{Claimed, MAX_LIMIT, Refusal};
 use dr_seq::{Event, Size};
 use std::alloc::{AllocError, Global};
 

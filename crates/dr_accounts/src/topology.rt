@@ -1,13 +1,14 @@
 //! The exchange of the replay: journal and replica, and business after both.
 
 ghost use Rattle.std.specs.Prelude.{◌≡◌, IfOk};
-ghost use Rattle.dr_core.specs.Meaning.Machine.{opening};
+ghost use Rattle.dr_meaning.specs.Meaning.Machine.{opening};
 ghost use Rattle.dr_core.specs.Calls.Shows.{Shows};
 ghost use Rattle.dr_accounts.specs.Passing.{replay_graph, replay_names, replay_setup};
 
-use dr_core::{Core, MAX_LIMIT, Mode};
+use dr_core::Core;
 use dr_graph::laws::one_graph;
 use dr_graph::{Graph, GraphBuilder};
+use dr_meaning::{MAX_LIMIT, Mode};
 use dr_seq::{Event, Size};
 use std::alloc::{AllocError, Global};
 

@@ -6,7 +6,7 @@ ghost use Rattle.dr_accounts.specs.Keeping.{Keeps, error_of};
 use crate::reporter::{Reporter, part};
 use dr_ring::Receiver;
 use dr_seq::Event;
-use dr_shared::{Bell, Gate, Parking, Ringing, WorkFault, consume_with};
+use dr_workers::{Bell, Gate, Parking, Ringing, WorkFault, consume_with};
 use std::alloc::Global;
 use std::marker::PhantomData;
 use std::snapshot::Snapshot;

@@ -7,8 +7,8 @@ use Rattle.dr_runs.proofs.Lists.{drop_set}
 use Rattle.dr_c.specs.declared.end.End.{End}
 use Rattle.dr_c.specs.declared.handle.Handle.{Handle}
 use Rattle.dr_seq.specs.Size.{IsSize}
-use Rattle.dr_core.specs.declared.mode.Mode.TheVariants.{Multi}
-use Rattle.dr_core.specs.Calls.OpenFault.{has_bad_producers, is_bad_limit}
+use Rattle.dr_meaning.specs.declared.mode.Mode.TheVariants.{Multi}
+use Rattle.dr_meaning.specs.Calls.OpenFault.{has_bad_producers, is_bad_limit}
 use Rattle.dr_c.specs.declared.open_fault.OpenFault.{OpenFault}
 use Rattle.dr_c.specs.declared.open_fault.OpenFault.TheVariants.{StillOpen, BadCount, BadSize, NoHandlers, TooMany, BadOrder, BadProducers, BadLimit, NoMemory}
 use Rattle.dr_c.specs.OpenFault.{AreInOrder, IsFine, IsWhy, NoneIsAmiss, before_making}

@@ -1,7 +1,7 @@
 -- The numbers that C is told: 0, or that of a refusal.
 use Rattle.std.specs.Prelude.{ℕ, Result, Ok, Err}
-use Rattle.dr_core.specs.declared.refusal.Refusal.{Refusal}
-use Rattle.dr_core.specs.Calls.Refusal.{number_of}
+use Rattle.dr_meaning.specs.declared.refusal.Refusal.{Refusal}
+use Rattle.dr_meaning.specs.Calls.Refusal.{number_of}
 use Rattle.dr_senders.specs.declared.claiming.ClaimFault.{ClaimFault}
 use Rattle.dr_senders.specs.Calls.ClaimFault as claim_fault
 

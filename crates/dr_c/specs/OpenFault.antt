@@ -1,8 +1,8 @@
 -- The numbers of what keeps a ring from being opened, and what each of them says.
 use Rattle.std.specs.Prelude.{◌≡◌, ◌≢◌, ◌<◌, ◌^◌, ℕ, Bool, true, List, [], ◌∷◌, length, slice_index}
 use Rattle.dr_seq.specs.Size.{IsSize}
-use Rattle.dr_core.specs.declared.mode.Mode.TheVariants.{Multi}
-use Rattle.dr_core.specs.Calls.OpenFault.{has_bad_producers, is_bad_limit}
+use Rattle.dr_meaning.specs.declared.mode.Mode.TheVariants.{Multi}
+use Rattle.dr_meaning.specs.Calls.OpenFault.{has_bad_producers, is_bad_limit}
 use Rattle.dr_c.specs.declared.open_fault.OpenFault.{OpenFault}
 use Rattle.dr_c.specs.declared.open_fault.OpenFault.TheVariants.{StillOpen, BadCount, BadSize, NoHandlers, TooMany, BadOrder, BadProducers, BadLimit, NoMemory}
 

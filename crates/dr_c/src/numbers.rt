@@ -3,7 +3,7 @@
 ghost use Rattle.std.specs.Prelude.{◌≡◌};
 ghost use Rattle.dr_c.specs.Numbers.{told};
 
-use dr_core::Refusal;
+use dr_meaning::Refusal;
 
 /// The handle is zero or closed.
 pub const NOT_OPEN: u32 = 61;

@@ -38,9 +38,9 @@ fn ends(
     };
     match senders_ring(alloc, &graph, size, limit, senders) {
         Ok(ends) => Ok(ends),
-        Err(dr_core::OpenFault::BadProducers) => Err(OpenFault::BadProducers),
-        Err(dr_core::OpenFault::BadLimit) => Err(OpenFault::BadLimit),
-        Err(dr_core::OpenFault::NoMemory) => Err(OpenFault::NoMemory),
+        Err(dr_meaning::OpenFault::BadProducers) => Err(OpenFault::BadProducers),
+        Err(dr_meaning::OpenFault::BadLimit) => Err(OpenFault::BadLimit),
+        Err(dr_meaning::OpenFault::NoMemory) => Err(OpenFault::NoMemory),
     }
 }
 

@@ -6,7 +6,7 @@ ghost use Rattle.dr_c.specs.Calls.{PollsBy, CompletesBy, HaltsBy, offer_of as of
 use crate::batch::Offer;
 use crate::end::End;
 use crate::numbers::{WRONG_END, number};
-use dr_core::Polled;
+use dr_meaning::Polled;
 use dr_seq::Event;
 
 fn offer_of(polled: Polled) -> Offer

@@ -34,7 +34,10 @@ pub enum Plan {
     /// Print this text, and nothing else.
     Help(String),
     /// Look whether a file for this tool is at fault.
-    Check { tool: Tool, file: String },
+    Check {
+        tool: Tool,
+        file: String,
+    },
     /// Run the commands of a file, and write to the named file or else to standard output.
     Drive {
         file: String,

@@ -5,21 +5,21 @@ use Rattle.std.proofs.lemmas.Bool.{cond_both, eqb-true, or_from, cases_lt, lt-le
 use Rattle.std.proofs.lemmas.List.{length-append, length-replicate, get_or_append_left, get_or-append_right, get_or-replicate}
 use Rattle.std.specs.Prelude.{◌==◌}
 use Rattle.std.proofs.lemmas.List.FromFn.{get_or-map-range_with_len}
-use Rattle.dr_core.specs.declared.command.Command.{Command}
-use Rattle.dr_core.specs.declared.command.Command.TheVariants.{Claim, Complete, Halt}
-use Rattle.dr_core.specs.declared.command.Reply.{Reply}
-use Rattle.dr_core.specs.declared.command.Reply.TheVariants.{Claimed, Completed, Halting, Refused}
-use Rattle.dr_core.specs.declared.refusal.Refusal.{Refusal}
+use Rattle.dr_meaning.specs.declared.command.Command.{Command}
+use Rattle.dr_meaning.specs.declared.command.Command.TheVariants.{Claim, Complete, Halt}
+use Rattle.dr_meaning.specs.declared.command.Reply.{Reply}
+use Rattle.dr_meaning.specs.declared.command.Reply.TheVariants.{Claimed, Completed, Halting, Refused}
+use Rattle.dr_meaning.specs.declared.refusal.Refusal.{Refusal}
 use Rattle.dr_graph.specs.Meaning.Graph.{finals_without, least_of}
 use Rattle.dr_graph.proofs.Gating.{finals_agree, least_gates}
-use Rattle.dr_core.specs.Meaning.Machine.{Setup, State, least_outside, handlers, producers, next, front, gating, least_completed, refusals, accepted}
+use Rattle.dr_meaning.specs.Meaning.Machine.{Setup, State, least_outside, handlers, producers, next, front, gating, least_completed, refusals, accepted}
 use Rattle.dr_core.specs.Calls.CoreView.{Known, Nothing, ClaimedBy, CoreView, recent_of, known_at, retired_in, gate_of}
 use Rattle.dr_core.specs.Calls.Shows.{KnowsRecents, Shows, IsStep, CanComplete}
 use Rattle.dr_core.specs.Inside.Fields.{IsWhole}
 use Rattle.dr_core.proofs.Shown.{same_next, same_front, same_taken, same_completed, same_halted, same_retired}
-use Rattle.dr_core.proofs.Leasts.{IsLeast, least_is, least_one}
-use Rattle.dr_core.proofs.Sound.{orderly, set_count}
-use Rattle.dr_core.proofs.Steps.{NoneHold, Refuses, unless-none, unless-refused}
+use Rattle.dr_meaning.proofs.Leasts.{IsLeast, least_is, least_one}
+use Rattle.dr_meaning.proofs.Sound.{orderly, set_count}
+use Rattle.dr_meaning.proofs.Steps.{NoneHold, Refuses, unless-none, unless-refused}
 
 -- in a state the machine accepts a command with this reply and these events, and what it leaves is shown
 pub record Accepts {E : Type 0} (c : Setup) (m : State E) (command : Command E) (reply : Reply) (values : List E) (new : CoreView E) : Type 0 where

@@ -10,18 +10,18 @@ use Rattle.dr_seq.proofs.Sizes.{size_at_most}
 use Rattle.dr_graph.specs.Meaning.Graph.{flagged, is_final_without, finals_without, least_of, least_without, IsGated}
 use Rattle.dr_graph.proofs.Gating.{filter_more, final_left, least_above_some}
 use Rattle.dr_core.specs.Calls.CoreView.{CoreView, AreGating, retired_in, gate_of}
-use Rattle.dr_core.specs.declared.command.Command.TheVariants.{Claim}
-use Rattle.dr_core.specs.declared.command.Reply.TheVariants.{Refused}
-use Rattle.dr_core.specs.declared.refusal.Refusal.{Refusal}
-use Rattle.dr_core.specs.declared.refusal.Refusal.TheVariants.{Halted, Exhausted, NoRoom}
-use Rattle.dr_core.specs.Meaning.Machine.{State, producers, next, gate, refusals}
+use Rattle.dr_meaning.specs.declared.command.Command.TheVariants.{Claim}
+use Rattle.dr_meaning.specs.declared.command.Reply.TheVariants.{Refused}
+use Rattle.dr_meaning.specs.declared.refusal.Refusal.{Refusal}
+use Rattle.dr_meaning.specs.declared.refusal.Refusal.TheVariants.{Halted, Exhausted, NoRoom}
+use Rattle.dr_meaning.specs.Meaning.Machine.{State, producers, next, gate, refusals}
 use Rattle.dr_core.specs.Calls.Shows.{Shows, IsStep}
 use Rattle.dr_core.specs.Inside.Availability.{claim_fault}
 use Rattle.dr_core.specs.Inside.Fields.{IsWhole, IsClaimable}
-use Rattle.dr_core.proofs.Steps.{Refuses}
+use Rattle.dr_meaning.proofs.Steps.{Refuses}
 use Rattle.dr_core.proofs.CoreSteps.{refused_step, finals_least, gate_same}
 use Rattle.dr_core.proofs.Shown.{same_next, same_halted}
-use Rattle.dr_core.proofs.Leasts.{least_of-member}
+use Rattle.dr_meaning.proofs.Leasts.{least_of-member}
 
 -- two tests that agree on the handlers keep the same ones
 filter_within : (p q : ℕ → Bool) (n : ℕ) → ((k : ℕ) → k < n → p k ≡ q k) → filter p (range_with_len 0 n) ≡ filter q (range_with_len 0 n)

@@ -1,15 +1,15 @@
 -- Nobody is stuck in a state that a core shows, and what it sees settles what it answers.
 use Rattle.std.proofs.Common.{◌≡◌, List, sym, ◌∙◌}
-use Rattle.dr_core.specs.declared.command.Command.{Command}
-use Rattle.dr_core.specs.declared.command.Reply.{Reply}
-use Rattle.dr_core.specs.Meaning.Machine.{State}
-use Rattle.dr_core.specs.Meaning.Runs.{IsReached}
+use Rattle.dr_meaning.specs.declared.command.Command.{Command}
+use Rattle.dr_meaning.specs.declared.command.Reply.{Reply}
+use Rattle.dr_meaning.specs.Meaning.Machine.{State}
+use Rattle.dr_core.specs.Calls.Reached.{IsReached}
 use Rattle.dr_core.specs.Calls.CoreView.{CoreView}
 use Rattle.dr_core.specs.Calls.Shows.{Shows, IsStep}
 use Rattle.dr_core.specs.Calls.Going.{IsNeverStuck}
 use Rattle.dr_core.specs.Inside.Fields.{IsWhole}
-use Rattle.dr_core.proofs.Progress.{nobody_is_stuck}
-use Rattle.dr_core.proofs.Finishing.{can_finish}
+use Rattle.dr_meaning.proofs.Progress.{nobody_is_stuck}
+use Rattle.dr_meaning.proofs.Finishing.{can_finish}
 
 pub never_stuck : {E : Type 0} (v : CoreView E) → IsWhole v → IsNeverStuck v
 never_stuck v whole =

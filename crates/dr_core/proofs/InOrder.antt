@@ -2,10 +2,10 @@
 use Rattle.std.proofs.Common.{◌≡◌, ℕ, ◌+◌, ◌-◌, ◌<◌, ◌≤◌, [], true, false, not, arith, refl, ap, max, None}
 use Rattle.std.proofs.lemmas.Bool.{and_right, eq-eqb, lt-ltb, le-ltb, or_left, or_from}
 use Rattle.dr_seq.proofs.Sizes.{size_positive}
-use Rattle.dr_core.specs.declared.command.Command.TheVariants.{Publish}
-use Rattle.dr_core.specs.declared.command.Reply.TheVariants.{Published}
+use Rattle.dr_meaning.specs.declared.command.Command.TheVariants.{Publish}
+use Rattle.dr_meaning.specs.declared.command.Reply.TheVariants.{Published}
 use Rattle.dr_core.specs.declared.engine.Core.TheInside.{Inside}
-use Rattle.dr_core.specs.Meaning.Machine.{producers, is_single}
+use Rattle.dr_meaning.specs.Meaning.Machine.{producers, is_single}
 use Rattle.dr_core.specs.Calls.CoreView.{CoreView, known_at}
 use Rattle.dr_core.specs.Calls.Shows.{IsStep}
 use Rattle.dr_core.specs.Inside.Availability.{published_after, IsNewFront, publish_fault}

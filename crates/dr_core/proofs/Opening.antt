@@ -4,15 +4,16 @@ use Rattle.std.specs.List.{range_with_len}
 use Rattle.std.proofs.lemmas.Bool.{or_parts, ltb-false}
 use Rattle.std.proofs.lemmas.List.{length-replicate}
 use Rattle.dr_graph.specs.Meaning.Name.{Name}
-use Rattle.dr_core.specs.Meaning.Machine.{Setup, handlers, opening, least_outside}
+use Rattle.dr_meaning.specs.Meaning.Machine.{Setup, handlers, opening, least_outside}
 use Rattle.dr_graph.specs.Meaning.Graph.{flagged}
 use Rattle.dr_core.specs.Calls.CoreView.{Known, CoreView, opened, recent_of}
 use Rattle.dr_core.specs.Calls.Shows.{Shows}
-use Rattle.dr_core.specs.Calls.OpenFault.{is_bad_limit}
-use Rattle.dr_core.specs.Meaning.Runs.{IsReached}
+use Rattle.dr_meaning.specs.Calls.OpenFault.{is_bad_limit}
+use Rattle.dr_core.specs.Calls.Reached.{IsReached}
 use Rattle.dr_core.proofs.Running.{run_none}
 use Rattle.dr_core.proofs.Whole.{reached_whole}
-use Rattle.dr_core.specs.Inside.Fields.{IsSetup, IsWhole}
+use Rattle.dr_meaning.specs.Meaning.Counts.{IsSetup}
+use Rattle.dr_core.specs.Inside.Fields.{IsWhole}
 
 -- a valid limit lets no sum of counts wrap
 pub limit_fits : (limit : ℕ) → is_bad_limit limit ≡ false → limit ≤ 2 ^ 62

@@ -4,31 +4,32 @@ use Rattle.std.proofs.Common.{◌++◌, arith, refl, ap, sym, ◌∙◌, length,
 use Rattle.std.specs.Prelude.{◌==◌, nat_le, nat_lt, if◌then◌else◌, Contains}
 use Rattle.std.specs.List.{range_with_len, filter_map}
 use Rattle.std.proofs.lemmas.Bool.{cond-true, cond-false, cases_Bool, false≢true, cases_eq, cases_lt, lt-leb, lt-ltb, le-ltb, ne_eqb, eq-eqb, and_from}
-use Rattle.dr_core.specs.declared.command.Command.TheVariants.{Poll}
-use Rattle.dr_core.specs.declared.command.Reply.{Reply}
-use Rattle.dr_core.specs.declared.command.Reply.TheVariants.{Batch, Drained, Gating, Idle}
+use Rattle.dr_meaning.specs.declared.command.Command.TheVariants.{Poll}
+use Rattle.dr_meaning.specs.declared.command.Reply.{Reply}
+use Rattle.dr_meaning.specs.declared.command.Reply.TheVariants.{Batch, Drained, Gating, Idle}
 use Rattle.dr_seq.proofs.Sizes.{size_positive}
 use Rattle.dr_graph.specs.Meaning.Graph.{upstreams_of, IsGraph, least_of}
-use Rattle.dr_core.specs.Meaning.Machine.{State, Outcome, handlers, is_single, next, available, offered, cursor, batch, unchanged, accepted, step}
+use Rattle.dr_meaning.specs.Meaning.Machine.{State, Outcome, handlers, is_single, next, available, offered, cursor, batch, unchanged, accepted, step}
 use Rattle.dr_core.specs.Calls.CoreView.{Known, Nothing, ClaimedBy, WrittenBy, PublishedWith, CoreView, known_at, retired_in}
 use Rattle.dr_core.specs.Inside.Availability.{is_shown, event_known}
-use Rattle.dr_core.specs.Calls.Shows.{Shows, Agrees, IsStep, TakesIfBatch, offered_to, poll_reply, polled}
-use Rattle.dr_core.specs.Meaning.Runs.{count_in}
-use Rattle.dr_core.specs.declared.refusal.Refusal.{Refusal}
-use Rattle.dr_core.specs.declared.command.Polled.{Polled}
-use Rattle.dr_core.specs.declared.command.Polled.TheVariants as answer
+use Rattle.dr_core.specs.Calls.Shows.{Shows, Agrees, IsStep, TakesIfBatch, offered_to}
+use Rattle.dr_meaning.specs.Calls.Replies.{poll_reply, polled}
+use Rattle.dr_meaning.specs.Meaning.Runs.{count_in}
+use Rattle.dr_meaning.specs.declared.refusal.Refusal.{Refusal}
+use Rattle.dr_meaning.specs.declared.command.Polled.{Polled}
+use Rattle.dr_meaning.specs.declared.command.Polled.TheVariants as answer
 use Rattle.std.proofs.Common.{Result, Ok, Err}
 use Rattle.std.proofs.lemmas.List.{take-append-le, length-take-le}
 use Rattle.dr_core.specs.Inside.Fields.{IsWhole, IsNothing}
 use Rattle.dr_core.proofs.CoreSteps.{accepted_step}
 use Rattle.dr_core.proofs.Shown.{same_next, same_front, same_taken, same_completed, same_halted, same_retired}
-use Rattle.dr_core.proofs.Leasts.{least_of-le, least_of-member}
+use Rattle.dr_meaning.proofs.Leasts.{least_of-le, least_of-member}
 use Rattle.std.proofs.lemmas.Bool.{leb-false}
 use Rattle.dr_core.proofs.Writing.{below_front}
 use Rattle.std.specs.Prelude.{All, is_none}
 use Rattle.std.proofs.lemmas.Bool.{cond_both}
 use Rattle.std.proofs.lemmas.Bool.Decides.{nat_tests}
-use Rattle.dr_core.proofs.Sound.{given}
+use Rattle.dr_meaning.proofs.Sound.{given}
 use Rattle.std.proofs.lemmas.List.Elements.{Contains-get_or}
 use Rattle.std.proofs.lemmas.List.{get_or_past, get_or_read}
 

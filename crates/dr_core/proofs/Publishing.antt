@@ -4,20 +4,20 @@ use Rattle.std.proofs.Common.{[], ◌∷◌, ◌++◌, arith, refl, ap, sym, ◌
 use Rattle.std.specs.Prelude.{◌==◌, nat_le, is_none, flat_map}
 use Rattle.std.specs.List.{range_with_len}
 use Rattle.std.proofs.lemmas.Bool.{cases_Bool, cases_lt, lt-leb, le-leb, le-ltb, ne_eqb, and_left, and_right, and_from, or_right, or_left, or_from}
-use Rattle.dr_core.specs.declared.command.Command.TheVariants.{Publish}
-use Rattle.dr_core.specs.declared.command.Reply.TheVariants.{Published, Refused}
-use Rattle.dr_core.specs.declared.refusal.Refusal.{Refusal}
-use Rattle.dr_core.specs.declared.refusal.Refusal.TheVariants.{NotClaimed, AlreadyPublished, NotWritten, OutOfOrder}
+use Rattle.dr_meaning.specs.declared.command.Command.TheVariants.{Publish}
+use Rattle.dr_meaning.specs.declared.command.Reply.TheVariants.{Published, Refused}
+use Rattle.dr_meaning.specs.declared.refusal.Refusal.{Refusal}
+use Rattle.dr_meaning.specs.declared.refusal.Refusal.TheVariants.{NotClaimed, AlreadyPublished, NotWritten, OutOfOrder}
 use Rattle.dr_seq.specs.Rounds.{IsFront}
-use Rattle.dr_core.specs.Meaning.Machine.{State, producers, is_single, next, front, least_outside, refusals, publish_faults}
+use Rattle.dr_meaning.specs.Meaning.Machine.{State, producers, is_single, next, front, least_outside, refusals, publish_faults}
 use Rattle.dr_core.specs.Calls.CoreView.{Known, Nothing, ClaimedBy, WrittenBy, PublishedWith, CoreView, recent_of, known_at}
 use Rattle.dr_core.specs.Inside.Availability.{publish_fault, event_known, is_shown}
 use Rattle.dr_core.specs.Calls.Shows.{KnowsRecents, Shows, Agrees, IsStep}
 use Rattle.dr_core.specs.Inside.Fields.{IsWhole}
 use Rattle.dr_core.proofs.Shown.{same_next, same_front}
-use Rattle.dr_core.proofs.Leasts.{least_is, least_one}
-use Rattle.dr_core.proofs.Causes.{first_left, first_right, first_of_stretch}
-use Rattle.dr_core.proofs.Steps.{IsHolding, IsFailing, NoneHold, NoneHold-join, NoneHold-stretch, Refuses}
+use Rattle.dr_meaning.proofs.Leasts.{least_is, least_one}
+use Rattle.dr_meaning.proofs.Causes.{first_left, first_right, first_of_stretch}
+use Rattle.dr_meaning.proofs.Steps.{IsHolding, IsFailing, NoneHold, NoneHold-join, NoneHold-stretch, Refuses}
 use Rattle.dr_core.proofs.CoreSteps.{refused_step, accepted_step, known_at-recent}
 use Rattle.dr_core.proofs.Writing.{below_front, near, disowned, owned, unwritten_refused}
 

@@ -8,18 +8,17 @@ use Rattle.std.proofs.lemmas.List.{length-set, get_or-set_same, get_or-set_other
 use Rattle.dr_seq.specs.Rounds.{entry_of, is_marked, IsFront}
 use Rattle.dr_seq.specs.Slots.{event_at}
 use Rattle.dr_seq.proofs.Apart.{slots_differ}
-use Rattle.dr_core.specs.declared.mode.Mode.{Mode}
-use Rattle.dr_core.specs.declared.mode.Mode.TheVariants.{Single, Multi}
-use Rattle.dr_core.specs.declared.refusal.Refusal.TheVariants.{NotClaimed, NotWritten, AlreadyPublished}
+use Rattle.dr_meaning.specs.declared.mode.Mode.{Mode}
+use Rattle.dr_meaning.specs.declared.mode.Mode.TheVariants.{Single, Multi}
+use Rattle.dr_meaning.specs.declared.refusal.Refusal.TheVariants.{NotClaimed, NotWritten, AlreadyPublished}
 use Rattle.dr_core.specs.declared.engine.Core.TheInside.{Inside}
-use Rattle.dr_core.specs.Meaning.Machine.{producers, is_single}
+use Rattle.dr_meaning.specs.Meaning.Machine.{producers, is_single}
 use Rattle.dr_core.specs.Calls.CoreView.{CoreView, known_at}
 use Rattle.dr_core.specs.Inside.Availability.{KeptBySlot, owner_at, is_published_at, is_written_at, is_ahead, IsNoted, published_after, IsNewFront, known_of}
 use Rattle.dr_core.specs.Inside.Availability.{slot_known, owners_after, HasOwners, write_fault, publish_fault, is_shown, event_known}
-use Rattle.dr_core.specs.Calls.Stamped.{stamped}
+use Rattle.dr_seq.specs.Stamped.{stamped}
 use Rattle.dr_core.specs.Inside.Fields.{kept_of, view_of, IsAvailable}
-use Rattle.dr_core.proofs.Stamped.{length-stamped, stamped-in, stamped-out, marks_none_after, marked-in, marked-out, mark_is}
-use Rattle.dr_core.proofs.Keeps.{zeros}
+use Rattle.dr_seq.proofs.Stamped.{none_marked, length-stamped, stamped-in, stamped-out, marks_none_after, marked-in, marked-out, mark_is}
 use Rattle.dr_core.proofs.CoreSteps.{ClaimsKnown, known_at-recent}
 use Rattle.dr_core.proofs.Writing.{WritesKnown, unwritten_refused}
 use Rattle.dr_core.proofs.Publishing.{PublishesKnown}
@@ -88,9 +87,6 @@ one_producer Single p l same = omega arith
 one_producer (Multi n) p l same = absurd (cc)
 
 -- at first nothing is marked
-pub none_marked : (n s : ℕ) → is_marked (replicate n 0) s ≡ false
-none_marked n s = rw zeros (ne_eqb 0 (entry_of (length (replicate n 0)) s) (λ e. absurd (omega arith)))
-
 pub none_ahead : (mode : Mode) (n s : ℕ) → is_ahead mode (replicate n 0) s ≡ false
 none_ahead Single n s = refl
 none_ahead (Multi p) n s = none_marked n s

@@ -5,20 +5,20 @@ use Rattle.std.specs.Prelude.{◌==◌}
 use Rattle.std.specs.List.{range_with_len}
 use Rattle.std.proofs.lemmas.Bool.{cases_eq, eq-eqb, ne_eqb, or_parts, not-true, not-false, lt-leb, and_parts, or_right}
 use Rattle.std.proofs.lemmas.List.{get_or_read, get_or-set_same, get_or-set_other}
-use Rattle.dr_core.specs.declared.command.Command.TheVariants.{Retire}
-use Rattle.dr_core.specs.declared.command.Reply.TheVariants.{Retired, Refused}
-use Rattle.dr_core.specs.declared.refusal.Refusal.TheVariants.{NotFinal, LastHandler}
+use Rattle.dr_meaning.specs.declared.command.Command.TheVariants.{Retire}
+use Rattle.dr_meaning.specs.declared.command.Reply.TheVariants.{Retired, Refused}
+use Rattle.dr_meaning.specs.declared.refusal.Refusal.TheVariants.{NotFinal, LastHandler}
 use Rattle.dr_graph.specs.Meaning.Graph.{flagged, is_some_left, is_followed, is_final_without}
 use Rattle.dr_graph.proofs.Gating.{found_in, any_agree, followed_agree, final_left, least_rises}
-use Rattle.dr_core.specs.Meaning.Machine.{State, handlers, retired_with}
+use Rattle.dr_meaning.specs.Meaning.Machine.{State, handlers, retired_with}
 use Rattle.dr_core.specs.Calls.CoreView.{CoreView, retired_in, gate_of}
 use Rattle.dr_core.specs.Calls.Shows.{Shows, IsStep}
 use Rattle.dr_core.specs.Inside.Fields.{IsWhole, IsClaimable}
 use Rattle.dr_core.proofs.CoreSteps.{accepted_step, refused_step, finals_least}
 use Rattle.dr_core.proofs.Gating.{claimable_room}
 use Rattle.dr_core.proofs.Shown.{same_retired}
-use Rattle.dr_core.proofs.Sound.{orderly}
-use Rattle.dr_core.proofs.Pushes.{or-false}
+use Rattle.dr_meaning.proofs.Sound.{orderly}
+use Rattle.dr_meaning.proofs.Pushes.{or-false}
 
 -- a flag that was read
 pub told : {E : Type 0} (v : CoreView E) (h : ℕ) (r b : Bool) → IsWhole v → h < handlers v.setup → r ≡ get_or v.retired h r → r ≡ b → retired_in v h ≡ b

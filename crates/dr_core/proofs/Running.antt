@@ -2,15 +2,16 @@
 use Rattle.std.proofs.Common.{◌≡◌, ℕ, ◌+◌, ◌<◌, ◌≤◌, List, [], ◌∷◌, ◌++◌, arith, refl, ap, sym, subst, ◌∙◌, length, take, drop, get_or, append_assoc}
 use Rattle.std.proofs.lemmas.List.{drop_more, take_more, length-take-le, nil_from_length, take_all, append-nil}
 use Rattle.std.proofs.lemmas.List.{take-append-le, drop-append-le, length-append, length-drop}
-use Rattle.dr_core.specs.declared.command.Command.{Command}
-use Rattle.dr_core.specs.declared.command.Command.TheVariants.{Claim, Write, Publish, Poll, Complete, Halt, Retire}
-use Rattle.dr_core.specs.declared.command.Reply.{Reply}
-use Rattle.dr_core.specs.Meaning.Machine.{Setup, State, step, opening}
-use Rattle.dr_core.specs.Meaning.Transcript.{Transcript, entry_with, LeadsTo}
+use Rattle.dr_meaning.specs.declared.command.Command.{Command}
+use Rattle.dr_meaning.specs.declared.command.Command.TheVariants.{Claim, Write, Publish, Poll, Complete, Halt, Retire}
+use Rattle.dr_meaning.specs.declared.command.Reply.{Reply}
+use Rattle.dr_meaning.specs.Meaning.Machine.{Setup, State, step, opening}
+use Rattle.dr_meaning.specs.Meaning.Transcript.{Transcript, entry_with, LeadsTo}
 use Rattle.dr_core.specs.Calls.CoreView.{CoreView}
 use Rattle.dr_core.specs.Calls.Shows.{Shows, IsStep}
-use Rattle.dr_core.specs.Meaning.Runs.{RunsTo, IsReached, transcript_of, count_in, counts_of, offers, needed}
-use Rattle.dr_core.proofs.FiveLaws.{lawful, leads_append}
+use Rattle.dr_core.specs.Calls.Reached.{RunsTo, IsReached}
+use Rattle.dr_meaning.specs.Meaning.Runs.{transcript_of, count_in, counts_of, offers, needed}
+use Rattle.dr_meaning.proofs.FiveLaws.{lawful, leads_append}
 
 -- one more command, reply and values are one more entry
 pub transcript_push : {E : Type 0} (commands : List (Command E)) (replies : List Reply) (values : List E) (command : Command E) (reply : Reply) (more : List E)

@@ -1,6 +1,6 @@
 -- What a core and a state that it shows have in common.
 use Rattle.std.proofs.Common.{◌≡◌, ℕ, ap}
-use Rattle.dr_core.specs.Meaning.Machine.{State, next, front}
+use Rattle.dr_meaning.specs.Meaning.Machine.{State, next, front}
 use Rattle.dr_core.specs.Calls.CoreView.{CoreView, retired_in}
 use Rattle.dr_core.specs.Calls.Shows.{Shows}
 

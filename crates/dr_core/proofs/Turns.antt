@@ -4,17 +4,19 @@ use Rattle.std.specs.Prelude.{◌==◌}
 use Rattle.std.specs.List.{range_with_len}
 use Rattle.std.proofs.lemmas.Bool.{eq-eqb}
 use Rattle.std.proofs.lemmas.List.{get_or-set_same}
-use Rattle.dr_core.specs.declared.command.Command.TheVariants.{Poll, Complete}
-use Rattle.dr_core.specs.declared.command.Reply.TheVariants.{Batch, Completed}
+use Rattle.dr_meaning.specs.declared.command.Command.TheVariants.{Poll, Complete}
+use Rattle.dr_meaning.specs.declared.command.Reply.TheVariants.{Batch, Completed}
 use Rattle.dr_graph.specs.Meaning.Graph.{upstreams_of}
-use Rattle.dr_core.specs.Meaning.Machine.{handlers}
+use Rattle.dr_meaning.specs.Meaning.Machine.{handlers}
 use Rattle.dr_core.specs.Calls.CoreView.{CoreView, known_at}
 use Rattle.dr_core.specs.Inside.Availability.{is_shown, event_known}
 use Rattle.dr_core.specs.Inside.Fields.{IsWhole, IsNothing}
-use Rattle.dr_core.specs.Calls.Shows.{IsStep, CanComplete, offered_to, poll_reply}
-use Rattle.dr_core.specs.Calls.Handling.{Relation, TakesTurn}
-use Rattle.dr_core.specs.declared.command.Polled.{Polled}
-use Rattle.dr_core.specs.declared.command.Polled.TheVariants as answer
+use Rattle.dr_core.specs.Calls.Shows.{IsStep, CanComplete, offered_to}
+use Rattle.dr_meaning.specs.Calls.Replies.{poll_reply}
+use Rattle.dr_meaning.specs.Calls.Handling.{Relation}
+use Rattle.dr_core.specs.Calls.Turning.{TakesTurn}
+use Rattle.dr_meaning.specs.declared.command.Polled.{Polled}
+use Rattle.dr_meaning.specs.declared.command.Polled.TheVariants as answer
 use Rattle.dr_core.proofs.CoreSteps.{complete_step, completed_grows}
 use Rattle.dr_core.proofs.Polling.{PollsAt, batch_step, offered_front}
 use Rattle.dr_core.proofs.Whole.{step_whole}

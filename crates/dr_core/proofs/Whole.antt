@@ -1,16 +1,17 @@
 -- What holds of every core: it is reached, so that its counts are those of a state that some transcript leads to.
 use Rattle.std.proofs.Common.{◌≡◌, ◌≤◌, ◌∙◌, List, ap, sym, subst, length}
-use Rattle.dr_core.specs.declared.command.Command.{Command}
-use Rattle.dr_core.specs.declared.command.Reply.{Reply}
-use Rattle.dr_core.specs.Meaning.Machine.{State, handlers, next, front}
+use Rattle.dr_meaning.specs.declared.command.Command.{Command}
+use Rattle.dr_meaning.specs.declared.command.Reply.{Reply}
+use Rattle.dr_meaning.specs.Meaning.Machine.{State, handlers, next, front}
 use Rattle.dr_core.specs.Calls.CoreView.{CoreView}
 use Rattle.dr_core.specs.Calls.Shows.{Counts, Flags, Shows, IsStep}
-use Rattle.dr_core.specs.Meaning.Runs.{RunsTo, IsReached}
-use Rattle.dr_core.specs.Inside.Fields.{IsSetup, AreInOrder, AreInBounds, IsWhole}
-use Rattle.dr_core.proofs.Leasts.{least_is}
-use Rattle.dr_core.proofs.Sound.{IsSound}
-use Rattle.dr_core.proofs.FiveLaws.{reached}
-use Rattle.dr_core.proofs.Bounds.{IsBounded, bounded}
+use Rattle.dr_core.specs.Calls.Reached.{RunsTo, IsReached}
+use Rattle.dr_meaning.specs.Meaning.Counts.{IsSetup, AreInOrder, AreInBounds}
+use Rattle.dr_core.specs.Inside.Fields.{IsWhole}
+use Rattle.dr_meaning.proofs.Leasts.{least_is}
+use Rattle.dr_meaning.proofs.Sound.{IsSound}
+use Rattle.dr_meaning.proofs.FiveLaws.{reached}
+use Rattle.dr_meaning.proofs.Bounds.{IsBounded, bounded}
 use Rattle.dr_core.proofs.Running.{step_reached}
 use Rattle.dr_core.proofs.Shown.{same_next, same_front}
 

@@ -3,18 +3,18 @@ use Rattle.std.proofs.Common.{◌≡◌, ℕ, ◌+◌, ◌<◌, ◌≤◌, ◌�
 use Rattle.std.proofs.Common.{[], ◌∷◌, arith, refl, ap, ◌∙◌, slice_index, Option, Some, None}
 use Rattle.std.specs.Prelude.{if◌then◌else◌, ◌==◌}
 use Rattle.std.proofs.lemmas.Bool.{cond-true, cond-false, cases_Bool, cases_eq, lt-leb, ne_eqb, eq-eqb, eqb-true}
-use Rattle.dr_core.specs.declared.command.Command.TheVariants.{Write}
-use Rattle.dr_core.specs.declared.command.Reply.TheVariants.{Written, Refused}
-use Rattle.dr_core.specs.declared.refusal.Refusal.{Refusal}
-use Rattle.dr_core.specs.declared.refusal.Refusal.TheVariants.{NotClaimed, AlreadyPublished, NotWritten}
-use Rattle.dr_core.specs.Meaning.Machine.{State, producers, next, front, accepted}
+use Rattle.dr_meaning.specs.declared.command.Command.TheVariants.{Write}
+use Rattle.dr_meaning.specs.declared.command.Reply.TheVariants.{Written, Refused}
+use Rattle.dr_meaning.specs.declared.refusal.Refusal.{Refusal}
+use Rattle.dr_meaning.specs.declared.refusal.Refusal.TheVariants.{NotClaimed, AlreadyPublished, NotWritten}
+use Rattle.dr_meaning.specs.Meaning.Machine.{State, producers, next, front, accepted}
 use Rattle.dr_core.specs.Calls.CoreView.{Known, Nothing, ClaimedBy, WrittenBy, PublishedWith, CoreView, recent_of, known_at}
 use Rattle.dr_core.specs.Inside.Availability.{write_fault}
 use Rattle.dr_core.specs.Calls.Shows.{KnowsRecents, Shows, Agrees, IsStep}
 use Rattle.dr_core.specs.Inside.Fields.{IsWhole}
 use Rattle.dr_core.proofs.Shown.{same_next, same_front}
-use Rattle.dr_core.proofs.Leasts.{least_is}
-use Rattle.dr_core.proofs.Steps.{Refuses}
+use Rattle.dr_meaning.proofs.Leasts.{least_is}
+use Rattle.dr_meaning.proofs.Steps.{Refuses}
 use Rattle.dr_core.proofs.CoreSteps.{refused_step, accepted_step, known_at-recent}
 
 -- all below the front is published

@@ -1,11 +1,6 @@
--- What public contracts cite: what a core and an end show, and what their calls answer and leave.
+-- What public contracts cite: what a core shows, and what its calls leave.
 pub mod CoreView
-pub mod Stamped
 pub mod Shows
+pub mod Reached
 pub mod Going
-pub mod Refusal
-pub mod OpenFault
-pub mod Trouble
-pub mod Handling
-pub mod Calling
-pub mod Ends
+pub mod Turning

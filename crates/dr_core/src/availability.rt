@@ -3,10 +3,10 @@
 ghost use Rattle.std.specs.Prelude.{◌≡◌, ◌+◌, ◌-◌, ◌^◌, ◌<◌, ◌≤◌, ◌||◌, ◌&&◌, ◌==◌, nat_lt, nat_le, length};
 ghost use Rattle.dr_seq.specs.Rounds.{entry_of, is_marked};
 ghost use Rattle.dr_core.specs.Inside.Availability.{HasOwners, owner_at, owners_after, is_ahead as is_ahead_of, IsNoted, published_after, IsNewFront};
-ghost use Rattle.dr_core.specs.Calls.Stamped.{stamped};
-ghost use Rattle.dr_core.specs.Meaning.Machine.{is_single};
+ghost use Rattle.dr_seq.specs.Stamped.{stamped};
+ghost use Rattle.dr_meaning.specs.Meaning.Machine.{is_single};
 
-use crate::mode::Mode;
+use dr_meaning::Mode;
 use dr_seq::{Rounds, Size};
 
 /// The producer of a claimed sequence.

@@ -1,19 +1,18 @@
 //! The core: the exchange on one thread.
 
-ghost use Rattle.std.specs.Prelude.{◌≡◌, ◌↔◌, ◌^◌, ◌<◌, Err, IfOk, IfErr, ◌≤◌, true, false, not, slice_index};
+ghost use Rattle.std.specs.Prelude.{◌≡◌, ◌↔◌, ◌<◌, Err, IfOk, ◌≤◌, true, false, not, slice_index};
 ghost use Rattle.dr_core.specs.Inside.Availability.{HasOwners};
 ghost use Rattle.dr_core.specs.Calls.CoreView.{opened, retired_in};
 ghost use Rattle.dr_core.specs.Calls.Going.{IsNeverStuck};
 ghost use Rattle.dr_core.specs.Calls.Shows.{IsOpened};
-ghost use Rattle.dr_core.specs.Meaning.Machine.{opening, handlers, producers as producers_of, setup_of};
-ghost use Rattle.dr_core.specs.Calls.OpenFault.{has_bad_producers, is_bad_limit};
-ghost use Rattle.dr_core.specs.Meaning.Runs.{IsReached};
+ghost use Rattle.dr_meaning.specs.Meaning.Machine.{opening, handlers, producers as producers_of, setup_of};
+ghost use Rattle.dr_meaning.specs.Calls.OpenFault.{has_bad_producers, is_bad_limit};
+ghost use Rattle.dr_core.specs.Calls.Reached.{IsReached};
 ghost use Rattle.dr_core.specs.Calls.Shows.{Shows};
 
 use crate::engine::retiring::flag_gating;
-use crate::mode::Mode;
-use crate::open_fault::OpenFault;
 use dr_graph::Graph;
+use dr_meaning::{Mode, OpenFault, is_valid_limit};
 use dr_seq::{Rounds, Size, Slots};
 use std::alloc::{AllocError, Global};
 use std::marker::Model;
@@ -22,16 +21,6 @@ mod execute;
 mod polling;
 mod publishing;
 mod retiring;
-
-/// The greatest limit of sequences, 2^62, so that no count of sequences ever wraps.
-pub const MAX_LIMIT: u64 = 1 << 62;
-
-/// Whether so many sequences can be a limit: 1 to [`MAX_LIMIT`].
-pub fn is_valid_limit(limit: u64) -> bool
-    ensures { result ≡ not (is_bad_limit limit) }
-{
-    0 < limit && limit <= MAX_LIMIT
-}
 
 /// The exchange on one thread: slots that are used again, a graph of handlers, and counts.
 ///

@@ -1,34 +1,18 @@
-//! The exchange of events: what it means, and the core that does it on one thread.
+//! The exchange of events on one thread.
 //!
-//! Begin with the room `specs/Meaning`: `Machine` says what each call answers and leaves, `Transcript` what a list
-//! of calls and answers says of each sequence and each handler, and `Laws` what holds of every
-//! transcript. [`every_transcript_is_lawful`] is that theorem, and [`run`] has it for a [`Core`].
-//! [`every_transcript_tells_its_state`] ties what transcripts say to the machine's state, and
-//! [`every_step_leads_on`] the steps of a core to transcripts.
+//! A [`Core`] is the machine of `dr_meaning` over slots that are used again: each of its calls is the
+//! machine's step on every state that the core shows (`specs/Calls/Shows`). [`every_step_leads_on`] ties its
+//! steps to transcripts, and [`run`] has the five laws for a whole list of commands.
 #![tactic(auto)]
 
 mod availability;
-pub mod command;
-pub mod ends;
 pub mod engine;
-pub mod handler;
 pub mod lawful;
 mod least;
-pub mod mode;
-pub mod open_fault;
-pub mod refusal;
 pub mod runs;
+pub mod turning;
 
-pub use command::{Claimed, Command, Polled, Reply};
-pub use ends::{Inlet, Outlet, Trouble, Wrote};
-pub use engine::{Core, MAX_LIMIT, is_valid_limit};
-pub use handler::{Handler, InPlaceHandler, processor_turn, show, show_in_place};
-pub use lawful::{
-    every_answer_is_settled, every_state_can_finish, every_step_leads_on,
-    every_transcript_is_lawful, every_transcript_tells_its_state, handlers_come_to_rest,
-    laws_refuse_a_step_too_far, nobody_is_stuck, retirement_keeps_the_gate,
-};
-pub use mode::{MAX_PRODUCERS, Mode};
-pub use open_fault::OpenFault;
-pub use refusal::Refusal;
+pub use engine::Core;
+pub use lawful::{every_answer_is_settled, every_step_leads_on};
 pub use runs::{Ran, run};
+pub use turning::processor_turn;

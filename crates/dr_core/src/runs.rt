@@ -1,13 +1,14 @@
 //! Whole lists of commands.
 
 ghost use Rattle.std.specs.Prelude.{◌≡◌, ◌++◌, ◌^◌, ◌≤◌, length, OnErr, IfOk, MatchOption};
-ghost use Rattle.dr_core.specs.Meaning.Machine.{State};
-ghost use Rattle.dr_core.specs.Meaning.Transcript.{Transcript, LeadsTo};
-ghost use Rattle.dr_core.specs.Meaning.Runs.{RunsTo, transcript_of, counts_of, needed, offers};
+ghost use Rattle.dr_meaning.specs.Meaning.Machine.{State};
+ghost use Rattle.dr_meaning.specs.Meaning.Transcript.{Transcript, LeadsTo};
+ghost use Rattle.dr_core.specs.Calls.Reached.{RunsTo};
+ghost use Rattle.dr_meaning.specs.Meaning.Runs.{transcript_of, counts_of, needed, offers};
 ghost use Rattle.dr_core.specs.Calls.Shows.{Shows};
 
-use crate::command::{Command, Reply};
 use crate::engine::Core;
+use dr_meaning::{Command, Reply};
 use std::alloc::{AllocError, Global};
 
 /// The replies to a list of commands, one a command, and the events of the batches, joined.

@@ -8,9 +8,9 @@ use lib.ListN.{get_elem?}
 use Rattle.dr_runs.proofs.Elements.{at_below, each_set}
 use Rattle.dr_seq.specs.declared.event.Event.{Event}
 use Rattle.dr_core.specs.Calls.CoreView.{CoreView}
-use Rattle.dr_core.specs.Calls.Handling.{GoesThrough, Relation, showings}
+use Rattle.dr_meaning.specs.Calls.Handling.{GoesThrough, Relation, showings}
 use Rattle.dr_core.specs.Calls.Shows.{Shows}
-use Rattle.dr_core.specs.Meaning.Machine.{Setup, State, opening}
+use Rattle.dr_meaning.specs.Meaning.Machine.{Setup, State, opening}
 use Rattle.dr_disruptor.specs.OneThread.{Along, AreOffered, Rests, far, setup_here, written_below}
 use Rattle.dr_disruptor.specs.Running.{AllWentThrough, WentThrough}
 use Rattle.dr_disruptor.proofs.Passing.{funext}

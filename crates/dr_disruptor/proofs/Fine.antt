@@ -1,12 +1,12 @@
 -- A handler's worker over an end of a ring has no fault, where that completed no more than it took.
 use Rattle.std.proofs.Common.{◌≡◌, ◌≤◌, Bool, true, false, length, Option, None, Some, ⊎_elim, refl, arith, ◌∙◌}
 use Rattle.dr_seq.specs.declared.event.Event.{Event}
-use Rattle.dr_core.specs.Calls.Calling.{SomeCalls}
-use Rattle.dr_core.specs.Calls.Handling.{Relation}
-use Rattle.dr_shared.specs.Calls.Serving as worker
-use Rattle.dr_shared.specs.Calls.Stops.{fault_at_end}
-use Rattle.dr_shared.specs.declared.fault.WorkFault.{WorkFault}
-use Rattle.dr_shared.proofs.Untroubled.{Answers, untroubled}
+use Rattle.dr_meaning.specs.Calls.Calling.{SomeCalls}
+use Rattle.dr_meaning.specs.Calls.Handling.{Relation}
+use Rattle.dr_workers.specs.Calls.Serving as worker
+use Rattle.dr_workers.specs.Calls.Stops.{fault_at_end}
+use Rattle.dr_workers.specs.declared.fault.WorkFault.{WorkFault}
+use Rattle.dr_workers.proofs.Untroubled.{Answers, untroubled}
 use Rattle.dr_ring.specs.Calls.Ends.{ReceiverEnd, received_of}
 use Rattle.dr_ring.specs.Calls.Telling.{receiver_does}
 use Rattle.dr_ring.proofs.Untroubled as ring

@@ -6,16 +6,16 @@ use Rattle.std.proofs.lemmas.Bool.{cases_eq, cases_lt, cond-true, eq-eqb, le-leb
 use Rattle.std.proofs.lemmas.List.{get_or-replicate, length-replicate, replicate-append-replicate}
 use Rattle.dr_seq.specs.declared.event.Event.{Event}
 use Rattle.dr_seq.specs.Event.{no_event}
-use Rattle.dr_core.specs.declared.command.Command.TheVariants.{Claim, Write, Publish, Poll, Complete}
-use Rattle.dr_core.specs.declared.command.Command.{Command}
-use Rattle.dr_core.specs.declared.command.Reply.{Reply}
-use Rattle.dr_core.specs.declared.command.Reply.TheVariants.{Claimed, Written, Published, Batch, Completed}
+use Rattle.dr_meaning.specs.declared.command.Command.TheVariants.{Claim, Write, Publish, Poll, Complete}
+use Rattle.dr_meaning.specs.declared.command.Command.{Command}
+use Rattle.dr_meaning.specs.declared.command.Reply.{Reply}
+use Rattle.dr_meaning.specs.declared.command.Reply.TheVariants.{Claimed, Written, Published, Batch, Completed}
 use Rattle.dr_graph.specs.Meaning.Graph.{finals_without, nobody}
-use Rattle.dr_core.specs.Meaning.Machine.{Outcome, Setup, State, accepted, available, front, gate, least_completed, next, least_outside, publish_faults, refusals, step}
+use Rattle.dr_meaning.specs.Meaning.Machine.{Outcome, Setup, State, accepted, available, front, gate, least_completed, next, least_outside, publish_faults, refusals, step}
 use Rattle.dr_core.specs.Calls.CoreView.{CoreView}
 use Rattle.dr_core.specs.Calls.Shows.{IsStep, Shows}
-use Rattle.dr_core.proofs.Leasts.{least_is, least_one}
-use Rattle.dr_core.proofs.Steps.{NoneHold, NoneHold-join, NoneHold-stretch, unless-none}
+use Rattle.dr_meaning.proofs.Leasts.{least_is, least_one}
+use Rattle.dr_meaning.proofs.Steps.{NoneHold, NoneHold-join, NoneHold-stretch, unless-none}
 use Rattle.dr_disruptor.specs.OneThread.{passed, setup_here, written_below}
 
 pub funext : {A B : Type 0} (f g : A → B) → ((x : A) → f x ≡ g x) → f ≡ g

@@ -6,13 +6,14 @@ use Rattle.dr_seq.specs.declared.event.Event.{Event}
 use Rattle.dr_seq.specs.Event.{no_event}
 use Rattle.dr_graph.specs.Meaning.Graph.{IsGraph, finals_without, nobody}
 use Rattle.dr_graph.proofs.Gating.{final_left, least_above_some}
-use Rattle.dr_core.specs.declared.command.Command.TheVariants.{Claim, Publish, Write}
-use Rattle.dr_core.specs.declared.command.Reply.{Reply}
-use Rattle.dr_core.specs.declared.command.Reply.TheVariants.{Claimed, Published, Refused, Written}
-use Rattle.dr_core.specs.declared.refusal.Refusal.{Refusal}
+use Rattle.dr_meaning.specs.declared.command.Command.TheVariants.{Claim, Publish, Write}
+use Rattle.dr_meaning.specs.declared.command.Reply.{Reply}
+use Rattle.dr_meaning.specs.declared.command.Reply.TheVariants.{Claimed, Published, Refused, Written}
+use Rattle.dr_meaning.specs.declared.refusal.Refusal.{Refusal}
 use Rattle.dr_core.specs.Calls.CoreView.{CoreView}
-use Rattle.dr_core.specs.Calls.Shows.{IsStep, Shows, unit_reply}
-use Rattle.dr_core.specs.Meaning.Machine.{least_completed}
+use Rattle.dr_core.specs.Calls.Shows.{IsStep, Shows}
+use Rattle.dr_meaning.specs.Calls.Replies.{unit_reply}
+use Rattle.dr_meaning.specs.Meaning.Machine.{least_completed}
 use Rattle.dr_disruptor.specs.OneThread.{Rests, SendsPart, far, passed, setup_here}
 use Rattle.dr_disruptor.proofs.Passing.{claims, publishes, stepped, writes}
 

@@ -7,20 +7,21 @@ use Rattle.std.proofs.lemmas.List.{append-nil, get_or-set_other, length-set}
 use Rattle.dr_seq.specs.declared.event.Event.{Event}
 use Rattle.dr_graph.specs.Meaning.Graph.{IsGraph, least_of, upstreams_of}
 use Rattle.dr_graph.proofs.Gating.{least_above_some}
-use Rattle.dr_core.specs.declared.command.Command.TheVariants.{Complete, Poll}
-use Rattle.dr_core.specs.declared.command.Reply.{Reply}
-use Rattle.dr_core.specs.declared.command.Reply.TheVariants.{Batch, Completed, Drained, Gating, Idle, Refused}
-use Rattle.dr_core.specs.declared.command.Polled.{Polled}
-use Rattle.dr_core.specs.declared.command.Polled.TheVariants as answer
-use Rattle.dr_core.specs.declared.refusal.Refusal.{Refusal}
+use Rattle.dr_meaning.specs.declared.command.Command.TheVariants.{Complete, Poll}
+use Rattle.dr_meaning.specs.declared.command.Reply.{Reply}
+use Rattle.dr_meaning.specs.declared.command.Reply.TheVariants.{Batch, Completed, Drained, Gating, Idle, Refused}
+use Rattle.dr_meaning.specs.declared.command.Polled.{Polled}
+use Rattle.dr_meaning.specs.declared.command.Polled.TheVariants as answer
+use Rattle.dr_meaning.specs.declared.refusal.Refusal.{Refusal}
 use Rattle.dr_core.specs.Calls.CoreView.{CoreView}
-use Rattle.dr_core.specs.Calls.Ends.{Received}
-use Rattle.dr_core.specs.Calls.Handling.{GoesThrough, Relation, TakesTurn, showings}
+use Rattle.dr_meaning.specs.Calls.Ends.{Received}
+use Rattle.dr_meaning.specs.Calls.Handling.{GoesThrough, Relation, showings}
+use Rattle.dr_core.specs.Calls.Turning.{TakesTurn}
 use Rattle.dr_core.specs.Calls.Shows.{IsStep}
-use Rattle.dr_core.specs.Meaning.Machine.{State, available, front, offered}
-use Rattle.dr_core.proofs.Leasts.{least_of-member}
-use Rattle.dr_shared.specs.Meaning.Work.{Dealt, Works}
-use Rattle.dr_shared.proofs.Working.{works_more}
+use Rattle.dr_meaning.specs.Meaning.Machine.{State, available, front, offered}
+use Rattle.dr_meaning.proofs.Leasts.{least_of-member}
+use Rattle.dr_workers.specs.Meaning.Work.{Dealt, Works}
+use Rattle.dr_workers.proofs.Working.{works_more}
 use Rattle.dr_disruptor.specs.OneThread.{Rests, far, passed, setup_here}
 use Rattle.dr_disruptor.specs.Running.{WentThrough}
 use Rattle.dr_disruptor.proofs.Passing.{Stepped, completes, front_below, next_is, polls, stepped}

@@ -3,13 +3,13 @@ use Rattle.std.proofs.Common.{◌≡◌, ℕ, ◌≤◌, List, [], ◌∷◌, le
 use Rattle.std.proofs.lemmas.List.Elements.{All-drop, All-head}
 use Rattle.std.proofs.lemmas.List.{length-take-le, take_all}
 use Rattle.dr_seq.specs.declared.event.Event.{Event}
-use Rattle.dr_core.specs.Calls.Handling.{Relation}
-use Rattle.dr_shared.specs.declared.ended.Ended.{Ended}
-use Rattle.dr_shared.specs.declared.fault.WorkFault.{WorkFault}
+use Rattle.dr_meaning.specs.Calls.Handling.{Relation}
+use Rattle.dr_workers.specs.declared.ended.Ended.{Ended}
+use Rattle.dr_workers.specs.declared.fault.WorkFault.{WorkFault}
 use Rattle.dr_ring.specs.Calls.Ends.{SenderEnd}
 use Rattle.dr_ring.specs.Meaning.Moments.{fresh_sender}
 use Rattle.dr_ring.specs.Meaning.Shape.{Shape}
-use Rattle.dr_shared.specs.declared.producer.Produced.{Produced}
+use Rattle.dr_workers.specs.declared.producer.Produced.{Produced}
 use Rattle.dr_disruptor.specs.declared.running.Ran.{Ran}
 use Rattle.dr_disruptor.specs.declared.fault.RunFault.{RunFault}
 use Rattle.dr_disruptor.specs.Running.{AllWentThrough, AreFine, IsRan, IsRanBy, IsRun, IsSending}

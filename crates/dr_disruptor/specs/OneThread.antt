@@ -6,11 +6,11 @@ use Rattle.dr_seq.specs.declared.event.Event.{Event}
 use Rattle.dr_seq.specs.Event.{no_event}
 use Rattle.dr_graph.specs.Meaning.Graph.{nobody}
 use Rattle.dr_core.specs.Calls.CoreView.{CoreView}
-use Rattle.dr_core.specs.Calls.Handling.{Relation}
+use Rattle.dr_meaning.specs.Calls.Handling.{Relation}
 use Rattle.dr_core.specs.Calls.Shows.{Shows}
-use Rattle.dr_core.specs.Meaning.Machine.{Setup, State}
-use Rattle.dr_core.specs.declared.mode.Mode.TheVariants.{Single}
-use Rattle.dr_core.specs.declared.refusal.Refusal.{Refusal}
+use Rattle.dr_meaning.specs.Meaning.Machine.{Setup, State}
+use Rattle.dr_meaning.specs.declared.mode.Mode.TheVariants.{Single}
+use Rattle.dr_meaning.specs.declared.refusal.Refusal.{Refusal}
 use Rattle.dr_disruptor.specs.Running.{AllWentThrough, WentThrough}
 
 -- one producer, and as many sequences as there may be

@@ -3,15 +3,15 @@ use Rattle.std.specs.Prelude.{◌≡◌, ℕ, ◌<◌, ◌≤◌, ◌/◌, max, 
 use mathlib.Core.Option.{some}
 use lib.ListN.{get_elem?}
 use Rattle.dr_seq.specs.declared.event.Event.{Event}
-use Rattle.dr_core.specs.Calls.Calling.{SomeCalls}
-use Rattle.dr_core.specs.Calls.Handling.{GoesThrough, Relation}
-use Rattle.dr_shared.specs.Calls.Serving as worker
-use Rattle.dr_shared.specs.declared.producer.Produced.{Produced}
-use Rattle.dr_shared.specs.Meaning.Work.{Dealt, FollowFrom, dealt_events, shown_of}
-use Rattle.dr_shared.specs.declared.fault.WorkFault.{WorkFault}
-use Rattle.dr_shared.specs.declared.ended.Ended.{Ended}
-use Rattle.dr_shared.specs.declared.ended.WorkerFault.{WorkerFault}
-use Rattle.dr_shared.specs.Meaning.FirstFault.{first_fault}
+use Rattle.dr_meaning.specs.Calls.Calling.{SomeCalls}
+use Rattle.dr_meaning.specs.Calls.Handling.{GoesThrough, Relation}
+use Rattle.dr_workers.specs.Calls.Serving as worker
+use Rattle.dr_workers.specs.declared.producer.Produced.{Produced}
+use Rattle.dr_workers.specs.Meaning.Work.{Dealt, FollowFrom, dealt_events, shown_of}
+use Rattle.dr_workers.specs.declared.fault.WorkFault.{WorkFault}
+use Rattle.dr_workers.specs.declared.ended.Ended.{Ended}
+use Rattle.dr_workers.specs.declared.ended.WorkerFault.{WorkerFault}
+use Rattle.dr_workers.specs.Meaning.FirstFault.{first_fault}
 use Rattle.dr_ring.specs.Calls.Ends.{SenderEnd}
 use Rattle.dr_ring.specs.Calls.Telling.{sender_does}
 use Rattle.dr_ring.specs.Meaning.Moments.{fresh_sender}

@@ -4,17 +4,17 @@ use mathlib.Core.Option.{some}
 use lib.ListN.{get_elem?}
 use Rattle.std.specs.declared.thread.PromisedHandle.{PromisedHandle}
 use Rattle.dr_seq.specs.declared.event.Event.{Event}
-use Rattle.dr_core.specs.Calls.Calling.{SomeCalls}
-use Rattle.dr_core.specs.Calls.Handling.{Relation}
-use Rattle.dr_shared.specs.Calls.Serving as worker
+use Rattle.dr_meaning.specs.Calls.Calling.{SomeCalls}
+use Rattle.dr_meaning.specs.Calls.Handling.{Relation}
+use Rattle.dr_workers.specs.Calls.Serving as worker
 use Rattle.dr_ring.specs.Meaning.Shape.{Shape}
 use Rattle.dr_ring.specs.Calls.Ends.{SenderEnd, ReceiverEnd, receiver_place, received_of}
 use Rattle.dr_ring.specs.Calls.Settling.{AreAllEnds}
 use Rattle.dr_ring.specs.Calls.Telling.{receiver_does}
 use Rattle.dr_ring.specs.Meaning.Moments.{fresh_sender}
-use Rattle.dr_shared.specs.Meaning.Work.{IsDone}
-use Rattle.dr_shared.specs.declared.ended.Ended.{Ended}
-use Rattle.dr_shared.specs.declared.fault.WorkFault.TheVariants.{Memory, Stopped}
+use Rattle.dr_workers.specs.Meaning.Work.{IsDone}
+use Rattle.dr_workers.specs.declared.ended.Ended.{Ended}
+use Rattle.dr_workers.specs.declared.fault.WorkFault.TheVariants.{Memory, Stopped}
 use Rattle.dr_disruptor.specs.declared.served.Served.{Served}
 use Rattle.dr_disruptor.specs.declared.served.ServesPromise.{ServesPromise}
 

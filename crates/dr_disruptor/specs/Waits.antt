@@ -1,6 +1,6 @@
 -- How the workers of a run wait.
 use Rattle.std.specs.Prelude.{◌≡◌, ℕ, None}
-use Rattle.dr_shared.specs.Calls.Waits.{HasFound, HasParked, begun, found_from, waited_from}
+use Rattle.dr_workers.specs.Calls.Waits.{HasFound, HasParked, begun, found_from, waited_from}
 use Rattle.dr_disruptor.specs.declared.strategy.WaitStrategy.{WaitStrategy}
 use Rattle.dr_disruptor.specs.declared.strategy.WaitStrategy.TheVariants as strategy
 use Rattle.dr_disruptor.specs.declared.strategy.Waits.{Waits}

@@ -6,7 +6,7 @@ ghost use Rattle.dr_disruptor.specs.declared.fault.RunFault.TheVariants as fault
 use dr_graph::GraphFault;
 use dr_ring::RingFault;
 use dr_seq::SizeFault;
-use dr_shared::{WorkFault, WorkerFault};
+use dr_workers::{WorkFault, WorkerFault};
 use std::alloc::{AllocError, AllocFailed};
 use thiserror::Error;
 

@@ -7,8 +7,9 @@ ghost use Rattle.dr_disruptor.specs.Refused.{refusal_of};
 ghost use Rattle.dr_disruptor.specs.Running.{AllWentThrough};
 
 use crate::fault::RunFault;
-use dr_core::{Claimed, Core, Handler, MAX_LIMIT, Mode, Refusal};
+use dr_core::Core;
 use dr_graph::Graph;
+use dr_meaning::{Claimed, Handler, MAX_LIMIT, Mode, Refusal};
 use dr_seq::{Event, Size};
 use std::alloc::Global;
 

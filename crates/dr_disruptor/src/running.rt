@@ -3,8 +3,8 @@
 ghost use Rattle.std.specs.Prelude.{◌≡◌, List, Option, None, All, IfErr, IfOk, length, map, take};
 ghost use Rattle.std.specs.Fn.{FnOnceReturnsAtMut};
 ghost use Rattle.dr_seq.specs.declared.event.Event.{Event};
-ghost use Rattle.dr_shared.specs.Meaning.FirstFault.{first_fault as first_of};
-ghost use Rattle.dr_shared.specs.declared.fault.WorkFault.{WorkFault};
+ghost use Rattle.dr_workers.specs.Meaning.FirstFault.{first_fault as first_of};
+ghost use Rattle.dr_workers.specs.declared.fault.WorkFault.{WorkFault};
 ghost use Rattle.dr_ring.specs.Calls.Ends.{SenderEnd, sender_place};
 ghost use Rattle.dr_ring.specs.Calls.Settling.{AreAllEnds};
 ghost use Rattle.dr_disruptor.specs.Refused.{refusal_of};
@@ -15,11 +15,11 @@ ghost use Rattle.dr_disruptor.specs.declared.fault.RunFault.TheVariants.{Memory}
 use crate::fault::RunFault;
 use crate::strategy::WaitStrategy;
 use crate::workers::{Back, LiveSender, SENDER, Worker, apart, begin, joined};
-use dr_core::Handler;
 use dr_graph::Graph;
+use dr_meaning::Handler;
 use dr_ring::{Settled, settle};
 use dr_seq::{Event, Size};
-use dr_shared::{Ended, OpenGate, WorkFault, WorkerFault, first_fault, produce_with};
+use dr_workers::{Ended, OpenGate, WorkFault, WorkerFault, first_fault, produce_with};
 use std::alloc::Global;
 use std::sync::Wait;
 use std::thread::Threads;

@@ -4,10 +4,10 @@ ghost use Rattle.std.specs.Prelude.{◌≡◌};
 ghost use Rattle.dr_disruptor.specs.Serving.{Serving};
 
 use crate::strategy::WaitStrategy;
-use dr_core::Handler;
+use dr_meaning::Handler;
 use dr_ring::Receiver;
 use dr_seq::Event;
-use dr_shared::{Bell, OpenGate, Ringing, WorkFault, consume_with};
+use dr_workers::{Bell, OpenGate, Ringing, WorkFault, consume_with};
 use std::snapshot::Snapshot;
 use std::sync::Wait;
 use std::thread::Promise;

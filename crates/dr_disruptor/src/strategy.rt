@@ -2,7 +2,7 @@
 
 ghost use Rattle.dr_disruptor.specs.Waits.{Begins, HasCome, HasWaited};
 
-use dr_shared::{Bell, Parking, Patience, Spinning, Waiting};
+use dr_workers::{Bell, Parking, Patience, Spinning, Waiting};
 use std::sync::Wait;
 
 /// How the workers of a run wait for one another: LMAX's `WaitStrategy`.

@@ -9,11 +9,11 @@ ghost use Rattle.dr_disruptor.specs.Serving.{AreKept, AreReady, endings_from, gi
 use crate::fault::RunFault;
 use crate::served::{Served, ServesPromise, serve};
 use crate::strategy::WaitStrategy;
-use dr_core::{Handler, MAX_LIMIT};
 use dr_graph::Graph;
+use dr_meaning::{Handler, MAX_LIMIT};
 use dr_ring::{Receiver, Sender, ring};
 use dr_seq::{Event, Size};
-use dr_shared::{Bell, Ended, Ringing, WorkFault};
+use dr_workers::{Bell, Ended, Ringing, WorkFault};
 use std::alloc::{AllocError, Global};
 use std::sync::{Arc, Wait};
 use std::thread::{self, PromisedHandle, Threads, join_promised};

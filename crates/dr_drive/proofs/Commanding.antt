@@ -3,7 +3,7 @@ use Rattle.std.proofs.Common.{◌≡◌, ◌+◌, ◌∷◌, ℕ, List, [], Opti
 use Rattle.std.specs.Prelude.{option_to_list}
 use Rattle.std.specs.Io.KnownBytes.{Appends, Keeps}
 use Rattle.dr_seq.specs.declared.event.Event.{Event}
-use Rattle.dr_core.specs.Meaning.Machine.{Setup, State}
+use Rattle.dr_meaning.specs.Meaning.Machine.{Setup, State}
 use Rattle.dr_records.specs.Records.{Field, Record}
 use Rattle.dr_drive.specs.Meaning.Commands.{command_of}
 use Rattle.dr_drive.specs.Meaning.DriveText.{Phase, Preparing, Running, Taken, end_fault, obeys, taken, text_from}

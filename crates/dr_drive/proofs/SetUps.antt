@@ -1,6 +1,6 @@
 -- What the records of a setup say of the whole file.
 use Rattle.std.proofs.Common.{◌≡◌, ◌+◌, ℕ, List, [], ◌∷◌, None, Some, Ok, ap, ◌∙◌}
-use Rattle.dr_core.specs.Meaning.Machine.{Setup, opening}
+use Rattle.dr_meaning.specs.Meaning.Machine.{Setup, opening}
 use Rattle.dr_records.specs.Records.{Field, Record}
 use Rattle.dr_drive.specs.Meaning.Setup.{Empty, Goes, Opens, Stage, missing, prepared}
 use Rattle.dr_drive.specs.Meaning.DriveText.{Preparing, Running, prepares, text_from}

@@ -5,8 +5,8 @@ ghost use Rattle.csv.specs.Records.{fields_of};
 ghost use Rattle.dr_drive.specs.Meaning.Commands.{claim as claim_in, command_of as command_in, complete as complete_in, handler_of as handler_in, poll as poll_in, publish as publish_in, retire as retire_in, write_one as write_one_in, write_two as write_two_in};
 
 use csv::ByteRecord;
-use dr_core::Command;
 use dr_graph::Graph;
+use dr_meaning::Command;
 use dr_records::{field, is_record, number_at};
 use dr_seq::Event;
 

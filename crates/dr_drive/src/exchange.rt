@@ -23,7 +23,7 @@ pub struct Exchange {
 impl Exchange {
     ghost use Rattle.std.specs.Prelude.{List, string_bytes};
     ghost use Rattle.csv.specs.Records.{fields_of};
-    ghost use Rattle.dr_core.specs.Meaning.Machine.{Setup, State, opening};
+    ghost use Rattle.dr_meaning.specs.Meaning.Machine.{Setup, State, opening};
     ghost use Rattle.dr_records.specs.Records.{Field};
     ghost use Rattle.dr_drive.specs.Meaning.Commands.{command_of as command_in};
     ghost use Rattle.dr_drive.specs.Meaning.DriveText.{obeys};

@@ -1,9 +1,9 @@
 -- The line of each reply. Parts are separated by one space, and each line ends with a line feed.
 use Rattle.std.specs.Prelude.{ℕ, Bool, ◌==◌, if◌then◌else◌, List, ◌++◌, flat_map, codes, decimal}
 use Rattle.dr_seq.specs.declared.event.Event.{Event}
-use Rattle.dr_core.specs.declared.command.Reply.{Reply}
-use Rattle.dr_core.specs.declared.command.Reply.TheVariants.{Claimed, Written, Published, Batch, Drained, Gating, Idle, Completed, Halting, Retired, Refused}
-use Rattle.dr_core.specs.Calls.Refusal.{number_of, name_of}
+use Rattle.dr_meaning.specs.declared.command.Reply.{Reply}
+use Rattle.dr_meaning.specs.declared.command.Reply.TheVariants.{Claimed, Written, Published, Batch, Drained, Gating, Idle, Completed, Halting, Retired, Refused}
+use Rattle.dr_meaning.specs.Calls.Refusal.{number_of, name_of}
 
 abbrev pub Line : Type 0
 Line = List ℕ

@@ -1,10 +1,10 @@
 //! The line of each reply.
 
 ghost use Rattle.std.specs.Prelude.{◌≡◌, ◌++◌, OnOk, codes, decimal, flat_map, string_bytes};
-ghost use Rattle.dr_core.specs.Calls.Refusal.{name_of, number_of};
+ghost use Rattle.dr_meaning.specs.Calls.Refusal.{name_of, number_of};
 ghost use Rattle.dr_files.specs.Lines.{end_text as end_in, event_text as event_in, line_of as line_in};
 
-use dr_core::{Refusal, Reply};
+use dr_meaning::{Refusal, Reply};
 use dr_seq::Event;
 use std::alloc::AllocError;
 

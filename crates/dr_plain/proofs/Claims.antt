@@ -6,12 +6,12 @@ use Rattle.std.proofs.lemmas.Bool.{cases_lt, eq-eqb, ne_eqb, lt-ltb, le-ltb, ltb
 use Rattle.std.proofs.lemmas.List.{append-nil, length-map}
 use Rattle.dr_seq.specs.Size.{IsSize}
 use Rattle.dr_seq.proofs.Apart.{slots_differ}
-use Rattle.dr_core.specs.declared.refusal.Refusal.TheVariants.{BadCount, NoRoom, Halted, Exhausted}
-use Rattle.dr_core.specs.declared.command.Claimed.{Claimed}
-use Rattle.dr_core.specs.declared.refusal.Refusal.{Refusal}
-use Rattle.dr_core.specs.Meaning.Refusals.{claim_causes, IsFirst, NoneHolds}
-use Rattle.dr_core.specs.Calls.Ends.{Sent, MayHold, MayFail, IsAnswerOf, as_end, claim_tests, claimed_in, with_claimed}
-use Rattle.dr_core.proofs.BadCounts.{bad_is_not_one, good_is_never_bad}
+use Rattle.dr_meaning.specs.declared.refusal.Refusal.TheVariants.{BadCount, NoRoom, Halted, Exhausted}
+use Rattle.dr_meaning.specs.declared.command.Claimed.{Claimed}
+use Rattle.dr_meaning.specs.declared.refusal.Refusal.{Refusal}
+use Rattle.dr_meaning.specs.Meaning.Refusals.{claim_causes, IsFirst, NoneHolds}
+use Rattle.dr_meaning.specs.Calls.Ends.{Sent, MayHold, MayFail, IsAnswerOf, as_end, claim_tests, claimed_in, with_claimed}
+use Rattle.dr_meaning.proofs.BadCounts.{bad_is_not_one, good_is_never_bad}
 use Rattle.dr_cells.specs.declared.token.Token.{Token}
 use Rattle.dr_cells.specs.Hold.{held}
 use Rattle.dr_graph.specs.Meaning.Graph.{finals}

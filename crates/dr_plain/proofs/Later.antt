@@ -8,10 +8,10 @@ use mathlib.Core.Option.{some, some-injective, some-ne-none}
 use lib.ListN.{get_elem?}
 use Rattle.atomic_table.proofs.Lists.{set_here, set_else}
 use Rattle.dr_graph.specs.Meaning.Graph.{least_of, upstreams_of}
-use Rattle.dr_core.specs.declared.command.Polled.{Polled}
-use Rattle.dr_core.specs.declared.command.Polled.TheVariants.{Batch, Drained, Gating, Idle}
-use Rattle.dr_core.specs.Meaning.Machine.{State, front, offered, available}
-use Rattle.dr_core.specs.Meaning.Transcript.{Transcript}
+use Rattle.dr_meaning.specs.declared.command.Polled.{Polled}
+use Rattle.dr_meaning.specs.declared.command.Polled.TheVariants.{Batch, Drained, Gating, Idle}
+use Rattle.dr_meaning.specs.Meaning.Machine.{State, front, offered, available}
+use Rattle.dr_meaning.specs.Meaning.Transcript.{Transcript}
 use Rattle.dr_plain.specs.Meaning.Shape.{Shape, ring_setup}
 use Rattle.dr_runs.specs.Words.{cursor_word, closed_word, count_word}
 use Rattle.dr_runs.specs.declared.look.Look.{Look}

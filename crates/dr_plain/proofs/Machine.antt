@@ -5,11 +5,11 @@ use Rattle.std.specs.Prelude.{not}
 use Rattle.std.specs.List.{range_with_len, filter_map, cons_option}
 use Rattle.std.proofs.lemmas.Bool.{cases_eq, cases_lt, eq-eqb, ne_eqb, le-ltb, lt-leb}
 use Rattle.std.proofs.lemmas.List.{length-map, length_push, map-append, get_or_append_left, get_or_past, append-nil}
-use Rattle.dr_core.specs.declared.command.Command.TheVariants.{Write}
-use Rattle.dr_core.specs.declared.command.Reply.TheVariants.{Written}
-use Rattle.dr_core.specs.Meaning.Machine.{State, refusals, accepted, step}
-use Rattle.dr_core.specs.Meaning.Transcript.{Transcript, LeadsFrom}
-use Rattle.dr_core.proofs.Steps.{unless-none}
+use Rattle.dr_meaning.specs.declared.command.Command.TheVariants.{Write}
+use Rattle.dr_meaning.specs.declared.command.Reply.TheVariants.{Written}
+use Rattle.dr_meaning.specs.Meaning.Machine.{State, refusals, accepted, step}
+use Rattle.dr_meaning.specs.Meaning.Transcript.{Transcript, LeadsFrom}
+use Rattle.dr_meaning.proofs.Steps.{unless-none}
 use Rattle.dr_plain.specs.Meaning.Shape.{Shape, ring_setup}
 use Rattle.dr_plain.specs.Meaning.Moments.{writes_of}
 use Rattle.dr_runs.proofs.OneSender as one

@@ -1,10 +1,10 @@
 -- Many events, written one after another.
 use Rattle.std.proofs.Common.{◌≡◌, ℕ, ◌+◌, ◌%◌, ◌<◌, List, [], ◌∷◌, ◌++◌, length, take, get_or, set, Option, None, Some, Ok, Err, sym, refl, ap, ◌∙◌, subst, arith}
 use Rattle.std.proofs.lemmas.List.{length-take-le, take_more}
-use Rattle.dr_core.specs.declared.refusal.Refusal.{Refusal}
-use Rattle.dr_core.specs.declared.ends.Trouble.TheVariants.{Refused}
-use Rattle.dr_core.specs.Calls.Ends.{WriteAnswers, WritesAll}
-use Rattle.dr_core.proofs.ManyWrites.{below_more, answer_before, written_more}
+use Rattle.dr_meaning.specs.declared.refusal.Refusal.{Refusal}
+use Rattle.dr_meaning.specs.declared.ends.Trouble.TheVariants.{Refused}
+use Rattle.dr_meaning.specs.Calls.Ends.{WriteAnswers, WritesAll}
+use Rattle.dr_meaning.proofs.ManyWrites.{below_more, answer_before, written_more}
 use Rattle.dr_plain.specs.Calls.Ends.{SenderEnd, sent_of}
 use Rattle.dr_plain.specs.Calls.Sending.{Call, WriteCall}
 use Rattle.dr_plain.specs.Calls.Inlets.{cells_with, WriteAllCall}

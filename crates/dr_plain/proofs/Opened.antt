@@ -7,7 +7,7 @@ use lib.ListN.{get_elem?}
 use denote.RawPtr.{Ptr}
 use Rattle.atomic_table.specs.Seated.{TableId}
 use Rattle.dr_seq.proofs.Sizes.{size_positive}
-use Rattle.dr_core.proofs.Recents.{none_marked}
+use Rattle.dr_seq.proofs.Stamped.{none_marked}
 use Rattle.dr_cells.specs.declared.token.Token.{Token}
 use Rattle.dr_cells.specs.Hold.{whole, held}
 use Rattle.dr_cells.specs.Tokens.{token_at}

@@ -7,8 +7,8 @@ use Rattle.std.proofs.lemmas.List.{length-append, append-nil}
 use mathlib.Core.Option.{some}
 use Rattle.atomic_table.proofs.Lists.{at_longer}
 use Rattle.dr_cells.specs.declared.token.Token.{Token}
-use Rattle.dr_core.specs.declared.command.Polled.{Polled}
-use Rattle.dr_core.specs.declared.command.Polled.TheVariants.{Batch}
+use Rattle.dr_meaning.specs.declared.command.Polled.{Polled}
+use Rattle.dr_meaning.specs.declared.command.Polled.TheVariants.{Batch}
 use Rattle.dr_seq.proofs.Apart.{slots_differ}
 use Rattle.dr_runs.specs.Stretches.{stretch}
 use Rattle.dr_runs.proofs.Lists.{no_elements, take_whole}

@@ -9,8 +9,8 @@ use mathlib.Core.Option.{some, some-injective}
 use lib.ListN.{get_elem?}
 use Rattle.dr_seq.proofs.Apart.{slots_differ}
 use Rattle.dr_seq.proofs.Sizes.{size_positive}
-use Rattle.dr_core.specs.declared.refusal.Refusal.TheVariants.{BadCount, NotClaimed, AlreadyPublished, NotWritten, OutOfOrder}
-use Rattle.dr_core.specs.Calls.Ends.{Sent, claimed_in, written_of, published_below}
+use Rattle.dr_meaning.specs.declared.refusal.Refusal.TheVariants.{BadCount, NotClaimed, AlreadyPublished, NotWritten, OutOfOrder}
+use Rattle.dr_meaning.specs.Calls.Ends.{Sent, claimed_in, written_of, published_below}
 use Rattle.dr_cells.specs.declared.token.Token.{Token}
 use Rattle.dr_cells.specs.Hold.{held, kept}
 use Rattle.dr_cells.specs.Tokens.{token_at}

@@ -9,9 +9,9 @@ use lib.ListN.{get_elem?}
 use Rattle.atomic_table.proofs.Lists.{set_here, set_else}
 use Rattle.dr_seq.proofs.Apart.{slots_differ}
 use Rattle.dr_seq.proofs.Sizes.{size_positive}
-use Rattle.dr_core.specs.declared.refusal.Refusal.TheVariants.{NotClaimed, AlreadyPublished}
-use Rattle.dr_core.specs.declared.ends.Trouble.TheVariants.{Refused}
-use Rattle.dr_core.specs.Calls.Ends.{Sent, claimed_in, WriteAnswers}
+use Rattle.dr_meaning.specs.declared.refusal.Refusal.TheVariants.{NotClaimed, AlreadyPublished}
+use Rattle.dr_meaning.specs.declared.ends.Trouble.TheVariants.{Refused}
+use Rattle.dr_meaning.specs.Calls.Ends.{Sent, claimed_in, WriteAnswers}
 use Rattle.dr_cells.specs.declared.token.Token.{Token}
 use Rattle.dr_cells.specs.Hold.{whole, held}
 use Rattle.dr_cells.specs.Tokens.{token_at}

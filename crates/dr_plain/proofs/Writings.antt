@@ -4,10 +4,10 @@ use Rattle.std.proofs.Common.{Option, Some, None, sym, refl, ap, ◌∙◌, subs
 use Rattle.std.specs.Prelude.{not}
 use Rattle.std.proofs.lemmas.Bool.{le-ltb, lt-leb}
 use Rattle.std.proofs.lemmas.List.{length_push, length-map, length-replicate, append-nil}
-use Rattle.dr_core.specs.declared.command.Command.TheVariants.{Write}
-use Rattle.dr_core.specs.declared.command.Reply.TheVariants.{Written}
-use Rattle.dr_core.specs.Meaning.Machine.{State, refusals, accepted, step}
-use Rattle.dr_core.proofs.Steps.{unless-none}
+use Rattle.dr_meaning.specs.declared.command.Command.TheVariants.{Write}
+use Rattle.dr_meaning.specs.declared.command.Reply.TheVariants.{Written}
+use Rattle.dr_meaning.specs.Meaning.Machine.{State, refusals, accepted, step}
+use Rattle.dr_meaning.proofs.Steps.{unless-none}
 use Rattle.dr_plain.specs.Meaning.Shape.{Shape, ring_setup}
 use Rattle.dr_runs.specs.Words.{cursor_word}
 use Rattle.dr_plain.specs.Meaning.Records.{claimed}

@@ -1,14 +1,14 @@
 //! The sender as an exchange's end, where its events are copied.
 
 ghost use Rattle.std.specs.Prelude.{◌≡◌, ◌+◌, ◌^◌, ◌≤◌, Some, length, take};
-ghost use Rattle.dr_core.specs.Calls.Calling.{WritesBy};
-ghost use Rattle.dr_core.specs.Calls.Ends.{IsEndsAnswer, ClaimAnswers, WriteAnswers, PublishAnswers, Claims, Writes, Publishes, WriteAllAnswers, WritesAll};
+ghost use Rattle.dr_meaning.specs.Calls.Calling.{WritesBy};
+ghost use Rattle.dr_meaning.specs.Calls.Ends.{IsEndsAnswer, ClaimAnswers, WriteAnswers, PublishAnswers, Claims, Writes, Publishes, WriteAllAnswers, WritesAll};
 ghost use Rattle.dr_plain.specs.Calls.Ends.{sender_place, sent_of};
 ghost use Rattle.dr_plain.specs.Calls.Sending.{ClaimCall, WriteCall, PublishCall};
 ghost use Rattle.dr_plain.specs.Calls.Inlets.{WriteAllCall, sender_does};
 
 use crate::sender::Sender;
-use dr_core::{Claimed, Inlet, Trouble, Wrote};
+use dr_meaning::{Claimed, Inlet, Trouble, Wrote};
 
 impl<T: Copy + Drop> Inlet<T> for Sender<T> {
     ghost use Rattle.dr_plain.specs.Calls.Ends.{SenderPlace};

@@ -4,7 +4,7 @@ ghost use Rattle.std.specs.Prelude.{◌≡◌, ◌<◌, ◌≤◌, ◌^◌, map,
 ghost use Rattle.dr_cells.specs.Tokens.{IsAll};
 ghost use Rattle.std.specs.Arc.{arc_value};
 ghost use denote.RawPtr.{Ptr};
-ghost use Rattle.dr_core.specs.Calls.OpenFault.{is_bad_limit};
+ghost use Rattle.dr_meaning.specs.Calls.OpenFault.{is_bad_limit};
 ghost use Rattle.dr_plain.specs.Meaning.Shape.{handlers_of};
 ghost use Rattle.dr_plain.specs.Calls.Plans.{IsPlan};
 ghost use Rattle.dr_plain.specs.Meaning.Moments.{fresh_receivers};
@@ -23,8 +23,8 @@ use crate::sender::Sender;
 use crate::settled::HandlerCounts;
 use atomic_table::Split;
 use dr_cells::{Cells, Row, Strip, Token};
-use dr_core::is_valid_limit;
 use dr_graph::Graph;
+use dr_meaning::is_valid_limit;
 use dr_runs::{RingFault, Written};
 use dr_seq::{GateCache, Size};
 use std::alloc::{AllocError, Global};
@@ -181,7 +181,7 @@ fn ends<T>(
 /// its own. The events are as many as the size: they are made once, and each is written again and
 /// again.
 ///
-/// It is refused with `BadLimit` where the limit is 0 or above [`dr_core::MAX_LIMIT`], and with
+/// It is refused with `BadLimit` where the limit is 0 or above [`dr_meaning::MAX_LIMIT`], and with
 /// `NoMemory` where an allocation failed. The events are then dropped.
 pub fn ring<T: Drop>(
     alloc: Global,

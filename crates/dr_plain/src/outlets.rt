@@ -1,14 +1,14 @@
 //! A receiver as who does not know which exchange it is of. It copies what it took.
 
 ghost use Rattle.std.specs.Prelude.{◌≡◌, ◌+◌, ◌<◌, ◌≤◌, ◌^◌, ◌||◌, take, drop, length, Some};
-ghost use Rattle.dr_core.specs.Calls.Ends.{IsEndsAnswer, PollAnswers, CompleteAnswers, is_drained, Takes, Completes};
+ghost use Rattle.dr_meaning.specs.Calls.Ends.{IsEndsAnswer, PollAnswers, CompleteAnswers, is_drained, Takes, Completes};
 ghost use Rattle.dr_plain.specs.Meaning.Records.{events_of};
 ghost use Rattle.dr_plain.specs.Calls.Ends.{receiver_place, received_of};
 ghost use Rattle.dr_plain.specs.Calls.Receiving.{CompleteCall};
 ghost use Rattle.dr_plain.specs.Calls.Outlets.{PollIntoCall, receiver_does};
 
 use crate::receiver::Receiver;
-use dr_core::{Outlet, Polled, Trouble};
+use dr_meaning::{Outlet, Polled, Trouble};
 
 impl<T: Copy> Receiver<T> {
     // Copies some events that it has in hand.

@@ -6,7 +6,7 @@ ghost use Rattle.dr_plain.specs.Calls.Receiving.{PollCall, CompleteCall, ReadsIn
 
 use crate::laws::ReceiverStation;
 use dr_cells::Token;
-use dr_core::{Polled, Refusal};
+use dr_meaning::{Polled, Refusal};
 use dr_runs::nothing_offered;
 use std::marker::Model;
 

@@ -8,7 +8,7 @@ use crate::dealt::{put_at, write_in};
 use crate::laws::SenderStation;
 use crate::settled::HandlerCounts;
 use dr_cells::{Strip, Token};
-use dr_core::{Claimed, Refusal};
+use dr_meaning::{Claimed, Refusal};
 use dr_runs::Written;
 use dr_seq::GateCache;
 use std::marker::{Brand, Model};

@@ -6,7 +6,7 @@ ghost use Rattle.dr_plain.specs.Calls.Sending.{UpdateCall};
 use crate::dealt::{change_in, put_at};
 use crate::sender::Sender;
 use dr_cells::Token;
-use dr_core::Refusal;
+use dr_meaning::Refusal;
 
 impl<T> Sender<T> {
     /// Changes the event of a sequence that is claimed and not published where it lies, and so

@@ -1,8 +1,8 @@
 -- What calls of the ends of a lock tell of the ends through which they went.
 use Rattle.std.proofs.Common.{◌≡◌, List, [], ◌∷◌, Option, Some, inl, inr, ap, sym, subst, ◌∙◌}
-use Rattle.dr_core.specs.Calls.Calling.{CallsLead, SomeCalls}
-use Rattle.dr_shared.specs.declared.fault.WorkFault.{WorkFault}
-use Rattle.dr_shared.specs.declared.fault.WorkFault.TheVariants.{Stopped}
+use Rattle.dr_meaning.specs.Calls.Calling.{CallsLead, SomeCalls}
+use Rattle.dr_workers.specs.declared.fault.WorkFault.{WorkFault}
+use Rattle.dr_workers.specs.declared.fault.WorkFault.TheVariants.{Stopped}
 use Rattle.dr_accounts.specs.Keeping.{AnswersFor}
 
 module _ {S T C : Type 0} (does : S → C → S → Type 0) (tells : T → C → T → Type 0) (end_of : S → T) (Is : S → Type 0)

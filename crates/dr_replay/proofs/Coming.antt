@@ -2,9 +2,9 @@
 use Rattle.std.proofs.Common.{◌≡◌, ◌<◌, ℕ, List, [], ◌∷◌, length, map, get_or, Vec, Option, ap, subst, sym, ◌∙◌}
 use Rattle.std.proofs.lemmas.List.{get_or-map, length-map}
 use Rattle.dr_seq.specs.declared.event.Event.{Event}
-use Rattle.dr_shared.specs.Calls.Lock.{EndView}
-use Rattle.dr_shared.specs.Meaning.History.{History}
-use Rattle.dr_shared.specs.declared.fault.WorkFault.{WorkFault}
+use Rattle.dr_lock.specs.Calls.Lock.{EndView}
+use Rattle.dr_lock.specs.Meaning.History.{History}
+use Rattle.dr_workers.specs.declared.fault.WorkFault.{WorkFault}
 use Rattle.dr_replay.specs.declared.given_back.Delivered.{Delivered}
 use Rattle.dr_replay.specs.declared.lock_workers.Joined.{Joined}
 use Rattle.dr_replay.specs.Inside.LockWorkers.{HasHandled, HasSent, IsJoined, ends_of}

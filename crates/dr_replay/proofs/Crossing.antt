@@ -5,11 +5,11 @@ use denote.Param.Send.{IsSend, IsSync, sendable}
 use Rattle.std.proofs.Crossing as std
 use Rattle.std.proofs.sync.atomic.AtomicU64.TheSendSync.{the_sync as atomic_sync}
 use Rattle.std.specs.declared.sync.ledger.Ledger.{Ghosts}
-use Rattle.dr_shared.specs.declared.exchange.Exchange.{Ghosts as Begun}
+use Rattle.dr_lock.specs.declared.exchange.Exchange.{Ghosts as Begun}
 use Rattle.dr_seq.specs.contracts.event.Event as Event
 use Rattle.dr_seq.specs.contracts.size.Size as Size
-use Rattle.dr_shared.specs.contracts.bell.Bell as Bell
-use Rattle.dr_shared.proofs.Sent.{end_send, shared_sync}
+use Rattle.dr_workers.specs.contracts.bell.Bell as Bell
+use Rattle.dr_lock.proofs.Sent.{end_send, shared_sync}
 use Rattle.dr_replay.specs.contracts.lock_workers.Around as Around
 use Rattle.dr_replay.specs.contracts.lock_workers.Task as Task
 

@@ -4,15 +4,15 @@ use Rattle.std.proofs.lemmas.Bool.{false≢true}
 use Rattle.std.specs.Prelude.{Bool, ℕ, true, false}
 use Rattle.std.proofs.lemmas.List.FromFn.{length-map-range_with_len}
 use Rattle.dr_seq.specs.declared.event.Event.{Event}
-use Rattle.dr_core.specs.Meaning.Machine.{handlers}
-use Rattle.dr_shared.specs.Meaning.Audit.{Faults, IsAudited}
-use Rattle.dr_shared.specs.Meaning.History.{History, transcript}
-use Rattle.dr_shared.specs.declared.audit_fault.AuditFault.{AuditFault}
-use Rattle.dr_shared.specs.declared.audit_fault.AuditFault.TheVariants as audit
-use Rattle.dr_shared.specs.Meaning.FirstFault.{first_fault}
-use Rattle.dr_shared.specs.declared.ended.Ended.{Ended}
-use Rattle.dr_shared.specs.declared.fault.WorkFault.{WorkFault}
-use Rattle.dr_shared.specs.declared.fault.WorkFault.TheVariants as work
+use Rattle.dr_meaning.specs.Meaning.Machine.{handlers}
+use Rattle.dr_lock.specs.Meaning.Audit.{Faults, IsAudited}
+use Rattle.dr_lock.specs.Meaning.History.{History, transcript}
+use Rattle.dr_lock.specs.declared.audit_fault.AuditFault.{AuditFault}
+use Rattle.dr_lock.specs.declared.audit_fault.AuditFault.TheVariants as audit
+use Rattle.dr_workers.specs.Meaning.FirstFault.{first_fault}
+use Rattle.dr_workers.specs.declared.ended.Ended.{Ended}
+use Rattle.dr_workers.specs.declared.fault.WorkFault.{WorkFault}
+use Rattle.dr_workers.specs.declared.fault.WorkFault.TheVariants as work
 use Rattle.dr_files.specs.declared.fault.FileFault.{FileFault}
 use Rattle.dr_files.specs.declared.fault.FileFault.TheVariants as file
 use Rattle.dr_replay.specs.declared.fault.ReplayFault.{ReplayFault}

@@ -7,18 +7,18 @@ use Rattle.std.proofs.lemmas.List.Elements.{All-nil, All-cons}
 use Rattle.std.proofs.lemmas.List.FromFn.{get_or-map-range_with_len, length-map-range_with_len}
 use Rattle.std.proofs.lemmas.Option.{none-some}
 use Rattle.dr_seq.specs.declared.event.Event.{Event}
-use Rattle.dr_core.specs.declared.command.Claimed.{Claimed}
-use Rattle.dr_core.specs.Calls.Calling.{InletCall, OutletCall, TriesClaim, WritesOne, WritesMany, PublishesStretch, each_written}
-use Rattle.dr_core.specs.Calls.Handling.{Relation}
+use Rattle.dr_meaning.specs.declared.command.Claimed.{Claimed}
+use Rattle.dr_meaning.specs.Calls.Calling.{InletCall, OutletCall, TriesClaim, WritesOne, WritesMany, PublishesStretch, each_written}
+use Rattle.dr_meaning.specs.Calls.Handling.{Relation}
 use Rattle.dr_ring.specs.Calls.Ends.{ReceiverEnd, SenderEnd, received_of}
-use Rattle.dr_shared.specs.Calls.Serving.{ConsumerEnds, ProducerEnds, Sends}
-use Rattle.dr_shared.specs.Calls.Stops.{fault_in_trouble}
-use Rattle.dr_shared.specs.Calls.Lock.{EndView}
-use Rattle.dr_shared.specs.Meaning.History.{History}
-use Rattle.dr_shared.specs.Meaning.Work.{Dealt, HandsOut, Part, accepted_in, batches_in, claims_in, dealt_events, sending_of}
-use Rattle.dr_shared.specs.declared.producer.Produced.{Produced}
-use Rattle.dr_shared.specs.declared.fault.WorkFault.{WorkFault}
-use Rattle.dr_shared.specs.declared.fault.WorkFault.TheVariants.{Memory, Stopped}
+use Rattle.dr_workers.specs.Calls.Serving.{ConsumerEnds, ProducerEnds, Sends}
+use Rattle.dr_workers.specs.Calls.Stops.{fault_in_trouble}
+use Rattle.dr_lock.specs.Calls.Lock.{EndView}
+use Rattle.dr_lock.specs.Meaning.History.{History}
+use Rattle.dr_workers.specs.Meaning.Work.{Dealt, HandsOut, Part, accepted_in, batches_in, claims_in, dealt_events, sending_of}
+use Rattle.dr_workers.specs.declared.producer.Produced.{Produced}
+use Rattle.dr_workers.specs.declared.fault.WorkFault.{WorkFault}
+use Rattle.dr_workers.specs.declared.fault.WorkFault.TheVariants.{Memory, Stopped}
 use Rattle.dr_accounts.specs.Keeping.{AnswersFor, IsServed}
 use Rattle.dr_replay.specs.declared.given_back.Delivered.{Delivered}
 use Rattle.dr_replay.specs.declared.lock_workers.Joined.{Joined}

@@ -4,9 +4,9 @@ use Rattle.std.proofs.lemmas.List.{get_or-map, length-map}
 use Rattle.std.proofs.lemmas.List.FromFn.{get_or-map-range_with_len}
 use Rattle.dr_seq.specs.declared.event.Event.{Event}
 use Rattle.dr_accounts.specs.Keeping.{error_of}
-use Rattle.dr_shared.specs.Calls.Lock.{EndView, no_calls}
-use Rattle.dr_shared.specs.Meaning.FirstFault.{first_fault}
-use Rattle.dr_shared.specs.Meaning.History.{History}
+use Rattle.dr_lock.specs.Calls.Lock.{EndView, no_calls}
+use Rattle.dr_workers.specs.Meaning.FirstFault.{first_fault}
+use Rattle.dr_lock.specs.Meaning.History.{History}
 use Rattle.dr_replay.specs.declared.fault.ReplayFault.{ReplayFault}
 use Rattle.dr_replay.specs.declared.fault.ReplayFault.TheVariants as fault
 use Rattle.dr_replay.specs.declared.given_back.Delivered.{Delivered}

@@ -2,8 +2,8 @@
 use Rattle.std.proofs.Common.{◌≡◌, ◌<◌, ◌+◌, ℕ, suc, List, [], ◌∷◌, ◌++◌, length, take, get_or, All, Option, None, ap, ◌∙◌, arith}
 use Rattle.std.proofs.lemmas.List.{length-take-le, take_more}
 use Rattle.std.proofs.lemmas.List.Elements.{All-cons, All-head, All-nil, All-tail}
-use Rattle.dr_shared.specs.declared.ended.Ended.{Ended}
-use Rattle.dr_shared.specs.declared.fault.WorkFault.{WorkFault}
+use Rattle.dr_workers.specs.declared.ended.Ended.{Ended}
+use Rattle.dr_workers.specs.declared.fault.WorkFault.{WorkFault}
 use Rattle.dr_replay.specs.Calls.Workers.{lock_endings, numbered}
 
 abbrev end : ℕ → Option WorkFault → Ended

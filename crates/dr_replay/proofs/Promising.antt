@@ -3,9 +3,9 @@ use Rattle.std.proofs.Common.{◌≡◌, ◌+◌, ◌<◌, ℕ, zero, suc, List,
 use Rattle.std.proofs.lemmas.List.{get_or_append_left, get_or_push, length_push}
 use Rattle.std.proofs.lemmas.List.Elements.{All-tail}
 use Rattle.dr_seq.specs.declared.event.Event.{Event}
-use Rattle.dr_shared.specs.Calls.Lock.{EndView, no_calls}
-use Rattle.dr_shared.specs.Meaning.History.{History}
-use Rattle.dr_shared.specs.declared.fault.WorkFault.{WorkFault}
+use Rattle.dr_lock.specs.Calls.Lock.{EndView, no_calls}
+use Rattle.dr_lock.specs.Meaning.History.{History}
+use Rattle.dr_workers.specs.declared.fault.WorkFault.{WorkFault}
 use Rattle.dr_replay.specs.Inside.LockWorkers.{HasSent}
 use Rattle.dr_replay.specs.declared.given_back.SentBy.{SentBy}
 

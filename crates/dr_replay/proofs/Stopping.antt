@@ -2,12 +2,12 @@
 use Rattle.std.proofs.Common.{◌≡◌, ◌+◌, ◌<◌, ℕ, suc, List, [], ◌∷◌, length, map, get_or, Option, Some, Result, Ok, Err, Vec, refl, subst, arith}
 use Rattle.std.proofs.lemmas.List.Elements.{All-nil, All-cons}
 use Rattle.dr_seq.specs.declared.event.Event.{Event}
-use Rattle.dr_core.specs.declared.refusal.Refusal.{Refusal}
+use Rattle.dr_meaning.specs.declared.refusal.Refusal.{Refusal}
 use Rattle.dr_ring.specs.Calls.Ends.{SenderEnd, ReceiverEnd}
-use Rattle.dr_shared.specs.declared.ended.Ended.{Ended}
-use Rattle.dr_shared.specs.Meaning.History.{History}
-use Rattle.dr_shared.specs.declared.fault.WorkFault.{WorkFault}
-use Rattle.dr_shared.specs.declared.fault.WorkFault.TheVariants.{Refused, Stopped}
+use Rattle.dr_workers.specs.declared.ended.Ended.{Ended}
+use Rattle.dr_lock.specs.Meaning.History.{History}
+use Rattle.dr_workers.specs.declared.fault.WorkFault.{WorkFault}
+use Rattle.dr_workers.specs.declared.fault.WorkFault.TheVariants.{Refused, Stopped}
 use Rattle.dr_accounts.specs.Keeping.{error_of}
 use Rattle.dr_replay.specs.declared.lock_workers.Joined.{Joined}
 use Rattle.dr_replay.specs.declared.ring.Ran.{Ran}

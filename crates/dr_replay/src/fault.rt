@@ -4,7 +4,8 @@ ghost use Rattle.std.specs.Prelude.{◌≡◌, Some};
 ghost use Rattle.dr_replay.specs.Calls.ReplayFaults.{replay_line, replay_status};
 
 use dr_files::{FileFault, WriteFault};
-use dr_shared::{AuditFault, WorkFault};
+use dr_lock::AuditFault;
+use dr_workers::WorkFault;
 use std::alloc::{AllocError, AllocFailed};
 use std::error::Error;
 use std::fmt;

@@ -6,8 +6,9 @@ ghost use Rattle.dr_replay.specs.Inside.LockWorkers.{HasHandled, HasSent};
 
 use crate::part::Part;
 use dr_accounts::Reporter;
+use dr_lock::{End, Exchange};
 use dr_seq::Event;
-use dr_shared::{End, Exchange, Gate, WorkFault};
+use dr_workers::{Gate, WorkFault};
 use std::snapshot::Snapshot;
 use std::sync::ledger::Ledger;
 use std::thread::Promise;

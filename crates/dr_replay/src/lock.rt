@@ -5,8 +5,8 @@ ghost use Rattle.dr_seq.specs.declared.event.Event.{Event};
 ghost use Rattle.dr_files.specs.Counting.{faults_of, inner_of};
 ghost use Rattle.dr_replay.specs.Meaning.EventFile.{events_of as events_in};
 ghost use Rattle.dr_accounts.specs.Keeping.{error_of};
-ghost use Rattle.dr_shared.specs.Meaning.FirstFault.{first_fault as first_of};
-ghost use Rattle.dr_shared.specs.Calls.Stops.{MayStop};
+ghost use Rattle.dr_workers.specs.Meaning.FirstFault.{first_fault as first_of};
+ghost use Rattle.dr_workers.specs.Calls.Stops.{MayStop};
 ghost use Rattle.dr_replay.specs.Calls.LockRuns.{CameOfLock};
 ghost use Rattle.dr_replay.specs.Calls.Replayed.{IsReportOfMerge, LockWrites, ReplayCounts, ReplayFaultKeeps};
 ghost use Rattle.dr_replay.specs.Calls.Workers.{IsFirstOf, IsFirstOfLock, IsOfAudit, IsOfLock, IsOfMerge, NoProducerHadToStop, lock_endings};
@@ -24,12 +24,11 @@ use crate::outcome::{
 use crate::part::Part;
 use crate::scripts::{scripts, views};
 use dr_accounts::{Business, Journal, Replica, graph};
-use dr_core::{MAX_LIMIT, Mode};
 use dr_files::{Counted, write_text};
+use dr_lock::{End, Exchange, Recorded, Shared, audit, finish};
+use dr_meaning::{MAX_LIMIT, Mode};
 use dr_seq::{Event, Size};
-use dr_shared::{
-    Bell, End, Ended, Exchange, Gate, Recorded, Shared, WorkFault, audit, finish, first_fault,
-};
+use dr_workers::{Bell, Ended, Gate, WorkFault, first_fault};
 use std::alloc::{AllocError, Global};
 use std::io::{Read, Write};
 use std::marker::Brand;

@@ -3,9 +3,9 @@
 ghost use Rattle.std.specs.Prelude.{◌≡◌, ◌+◌, ◌/◌, ◌^◌, ◌≤◌, All, IfOk, Some, length, max};
 ghost use denote.Param.Send.{IsSync};
 ghost use Rattle.dr_accounts.specs.Keeping.{error_of};
-ghost use Rattle.dr_shared.specs.Calls.Lock.{after_call, no_calls};
-ghost use Rattle.dr_core.specs.declared.command.Command.TheVariants.{Halt};
-ghost use Rattle.dr_core.specs.declared.command.Reply.TheVariants.{Halting};
+ghost use Rattle.dr_lock.specs.Calls.Lock.{after_call, no_calls};
+ghost use Rattle.dr_meaning.specs.declared.command.Command.TheVariants.{Halt};
+ghost use Rattle.dr_meaning.specs.declared.command.Reply.TheVariants.{Halting};
 ghost use Rattle.dr_replay.specs.Inside.LockWorkers.{AreSent, AreUnused, HasHandled, HasSent, IsJoined};
 ghost use Rattle.dr_replay.specs.Meaning.Exchange.{halted_once};
 
@@ -13,11 +13,9 @@ use crate::given_back::{Delivered, Handled, HandledBy, SentBy};
 use crate::outcome::{BUSINESS, JOURNAL, PRODUCER, REPLICA};
 use crate::part::Listing;
 use dr_accounts::{Business, Journal, Replica, Reporter};
+use dr_lock::{End, Exchange, LockedInlet, LockedOutlet, Shared, halt};
 use dr_seq::{Event, Size};
-use dr_shared::{
-    Bell, End, Exchange, Gate, LockedInlet, LockedOutlet, Parking, Ringing, Shared, WorkFault,
-    consume_with, halt, produce_with,
-};
+use dr_workers::{Bell, Gate, Parking, Ringing, WorkFault, consume_with, produce_with};
 use std::alloc::{AllocError, Global};
 use std::sync::Wait;
 use std::sync::ledger::Ledger;

@@ -5,7 +5,8 @@ ghost use Rattle.dr_replay.specs.Calls.Workers.{audit_fault as audit_fault_of, r
 
 use crate::fault::ReplayFault;
 use dr_files::FileFault;
-use dr_shared::{AuditFault, Ended, WorkFault, WorkerFault};
+use dr_lock::AuditFault;
+use dr_workers::{Ended, WorkFault, WorkerFault};
 use std::alloc::AllocError;
 
 /// The number of the journal's worker.

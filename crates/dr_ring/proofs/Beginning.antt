@@ -7,7 +7,7 @@ use Rattle.std.proofs.lemmas.List.{length-replicate}
 use mathlib.Core.Option.{some, some-injective, some-ne-none}
 use lib.ListN.{get_elem?}
 use Rattle.dr_graph.specs.Meaning.Graph.{IsGraph}
-use Rattle.dr_core.specs.Meaning.Machine as machine
+use Rattle.dr_meaning.specs.Meaning.Machine as machine
 use Rattle.dr_ring.specs.Meaning.Shape.{Shape, handlers_of, ring_setup}
 use Rattle.dr_ring.specs.Meaning.Words.{words_of}
 use Rattle.dr_runs.specs.Words.{cursor_word, closed_word, halt_word, count_word}

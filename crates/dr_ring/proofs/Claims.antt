@@ -6,12 +6,12 @@ use Rattle.std.proofs.lemmas.Bool.{ne_eqb, le-ltb, ltb-false}
 use Rattle.std.proofs.lemmas.List.{length-append, length-replicate, append-nil}
 use Rattle.dr_seq.specs.Size.{IsSize}
 use Rattle.dr_seq.specs.declared.event.Event.{Event}
-use Rattle.dr_core.specs.declared.refusal.Refusal.TheVariants.{NoRoom, Halted}
-use Rattle.dr_core.specs.declared.command.Claimed.{Claimed}
-use Rattle.dr_core.specs.declared.refusal.Refusal.{Refusal}
-use Rattle.dr_core.specs.Meaning.Refusals.{claim_causes, IsFirst, NoneHolds}
-use Rattle.dr_core.specs.Calls.Ends.{Sent, MayHold, MayFail, claim_tests, with_claimed}
-use Rattle.dr_core.proofs.BadCounts.{bad_is_not_one, good_is_never_bad}
+use Rattle.dr_meaning.specs.declared.refusal.Refusal.TheVariants.{NoRoom, Halted}
+use Rattle.dr_meaning.specs.declared.command.Claimed.{Claimed}
+use Rattle.dr_meaning.specs.declared.refusal.Refusal.{Refusal}
+use Rattle.dr_meaning.specs.Meaning.Refusals.{claim_causes, IsFirst, NoneHolds}
+use Rattle.dr_meaning.specs.Calls.Ends.{Sent, MayHold, MayFail, claim_tests, with_claimed}
+use Rattle.dr_meaning.proofs.BadCounts.{bad_is_not_one, good_is_never_bad}
 use Rattle.dr_graph.specs.Meaning.Graph.{finals}
 use Rattle.dr_ring.specs.Meaning.Shape.{Shape}
 use Rattle.dr_runs.specs.Words.{halt_word, count_word}

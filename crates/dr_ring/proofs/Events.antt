@@ -4,7 +4,7 @@ use Rattle.std.proofs.Common.{sym, refl, ap, ◌∙◌, subst, arith}
 use Rattle.std.specs.List.{cons_option}
 use Rattle.std.proofs.lemmas.List.{length-map, length-take, get_or-map, get_or-take, take-append-drop}
 use Rattle.dr_seq.specs.declared.event.Event.{Event}
-use Rattle.dr_core.specs.Calls.Ends.{written_of}
+use Rattle.dr_meaning.specs.Calls.Ends.{written_of}
 use Rattle.dr_ring.specs.declared.record.SenderRecord.{SenderRecord}
 use Rattle.dr_ring.specs.Meaning.Records.{AreWritten}
 

@@ -5,7 +5,7 @@ use Rattle.std.proofs.lemmas.Bool.{cases_lt, le-ltb}
 use Rattle.std.proofs.lemmas.List.{length-append, length-drop, get_or-drop}
 use Rattle.dr_seq.specs.declared.event.Event.{Event}
 use Rattle.dr_seq.specs.Rounds.{is_marked}
-use Rattle.dr_core.specs.Calls.Ends.{written_of}
+use Rattle.dr_meaning.specs.Calls.Ends.{written_of}
 use Rattle.dr_runs.specs.declared.written.Written.{Written}
 use Rattle.dr_ring.specs.declared.record.SenderRecord.{SenderRecord}
 use Rattle.dr_ring.specs.Meaning.Records.{claimed, published_to, AreWritten}

@@ -5,8 +5,8 @@ use Rattle.std.proofs.lemmas.List.{length-map}
 use mathlib.Core.Option.{some}
 use lib.ListN.{get_elem?}
 use Rattle.dr_graph.specs.Meaning.Graph.{IsGraph}
-use Rattle.dr_core.specs.Meaning.Transcript.{Transcript, LeadsTo}
-use Rattle.dr_core.specs.Meaning.Laws.{Laws}
+use Rattle.dr_meaning.specs.Meaning.Transcript.{Transcript, LeadsTo}
+use Rattle.dr_meaning.specs.Meaning.Laws.{Laws}
 use Rattle.dr_runs.specs.declared.view.View.{View}
 use Rattle.dr_runs.specs.Gathering.{IsInView, Gathers, HasPart, ViewRan}
 use Rattle.dr_runs.proofs.Gathering.{InRun, in_run}

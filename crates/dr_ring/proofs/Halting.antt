@@ -4,8 +4,8 @@ use Rattle.std.proofs.Common.{Option, Some, None, sym, refl, ap, ◌∙◌, subs
 use Rattle.std.proofs.lemmas.Bool.{ne_eqb}
 use Rattle.std.proofs.lemmas.List.{length-append, length-drop, append-nil}
 use Rattle.dr_seq.specs.declared.event.Event.{Event}
-use Rattle.dr_core.specs.Meaning.Transcript.{Transcript}
-use Rattle.dr_core.specs.Calls.Ends.{written_of}
+use Rattle.dr_meaning.specs.Meaning.Transcript.{Transcript}
+use Rattle.dr_meaning.specs.Calls.Ends.{written_of}
 use Rattle.dr_ring.specs.Meaning.Shape.{Shape}
 use Rattle.dr_ring.specs.Meaning.Words.{payload_word}
 use Rattle.dr_runs.specs.Words.{cursor_word, closed_word, halt_word, count_word}

@@ -9,10 +9,10 @@ use lib.ListN.{get_elem?}
 use Rattle.atomic_table.proofs.Lists.{set_here, set_else}
 use Rattle.dr_seq.specs.declared.event.Event.{Event}
 use Rattle.dr_graph.specs.Meaning.Graph.{least_of, upstreams_of}
-use Rattle.dr_core.specs.declared.command.Polled.{Polled}
-use Rattle.dr_core.specs.declared.command.Polled.TheVariants.{Batch, Drained, Gating, Idle}
-use Rattle.dr_core.specs.Meaning.Machine.{front, offered, available, least_completed}
-use Rattle.dr_core.specs.Meaning.Transcript.{Transcript}
+use Rattle.dr_meaning.specs.declared.command.Polled.{Polled}
+use Rattle.dr_meaning.specs.declared.command.Polled.TheVariants.{Batch, Drained, Gating, Idle}
+use Rattle.dr_meaning.specs.Meaning.Machine.{front, offered, available, least_completed}
+use Rattle.dr_meaning.specs.Meaning.Transcript.{Transcript}
 use Rattle.dr_ring.specs.Meaning.Shape.{Shape, handlers_of, ring_setup}
 use Rattle.dr_ring.specs.Meaning.Words.{payload_start, payload_word}
 use Rattle.dr_runs.specs.Words.{cursor_word, closed_word, count_word}

@@ -4,10 +4,10 @@ use Rattle.std.specs.Prelude.{not}
 use Rattle.std.proofs.lemmas.Bool.{cases_eq, cases_lt, eq-eqb, ne_eqb, le-ltb, lt-leb}
 use Rattle.std.proofs.lemmas.List.{get_or_append_left, get_or-append_right, get_or_past}
 use Rattle.dr_seq.specs.declared.event.Event.{Event}
-use Rattle.dr_core.specs.declared.command.Command.TheVariants.{Write}
-use Rattle.dr_core.specs.declared.command.Reply.TheVariants.{Written}
-use Rattle.dr_core.specs.Meaning.Machine.{State, refusals, accepted, step}
-use Rattle.dr_core.proofs.Steps.{unless-none}
+use Rattle.dr_meaning.specs.declared.command.Command.TheVariants.{Write}
+use Rattle.dr_meaning.specs.declared.command.Reply.TheVariants.{Written}
+use Rattle.dr_meaning.specs.Meaning.Machine.{State, refusals, accepted, step}
+use Rattle.dr_meaning.proofs.Steps.{unless-none}
 use Rattle.dr_ring.specs.Meaning.Shape.{Shape, ring_setup}
 use Rattle.dr_runs.proofs.OneSender as one
 use Rattle.dr_runs.proofs.OneSender.{owners, count_owners, owner_is}

@@ -13,13 +13,13 @@ use mathlib.Core.Option.{some}
 use lib.ListN.{get_elem?}
 use Rattle.dr_seq.specs.declared.event.Event.{Event}
 use Rattle.dr_seq.specs.Event.{no_event}
-use Rattle.dr_core.specs.declared.command.Command.TheVariants.{Claim, Write, Publish, Poll, Complete, Halt}
-use Rattle.dr_core.specs.declared.command.Reply.TheVariants.{Claimed, Written, Published, Batch, Drained, Completed, Halting}
+use Rattle.dr_meaning.specs.declared.command.Command.TheVariants.{Claim, Write, Publish, Poll, Complete, Halt}
+use Rattle.dr_meaning.specs.declared.command.Reply.TheVariants.{Claimed, Written, Published, Batch, Drained, Completed, Halting}
 use Rattle.dr_graph.specs.Meaning.Graph.{nobody, upstreams_of, finals, IsGated, IsGraph}
-use Rattle.dr_core.specs.Meaning.Machine as machine
-use Rattle.dr_core.specs.Meaning.Machine.{State, Outcome, front, available, least_completed}
-use Rattle.dr_core.specs.Meaning.Transcript.{Transcript, LeadsFrom}
-use Rattle.dr_core.specs.Calls.Ends.{written_of}
+use Rattle.dr_meaning.specs.Meaning.Machine as machine
+use Rattle.dr_meaning.specs.Meaning.Machine.{State, Outcome, front, available, least_completed}
+use Rattle.dr_meaning.specs.Meaning.Transcript.{Transcript, LeadsFrom}
+use Rattle.dr_meaning.specs.Calls.Ends.{written_of}
 use Rattle.dr_runs.proofs.Lists.{map_same, map_but}
 use Rattle.dr_ring.specs.Meaning.Shape.{Shape, handlers_of, ring_setup}
 use Rattle.dr_ring.specs.Meaning.Words.{payload_start, payload_word}

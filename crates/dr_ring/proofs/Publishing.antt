@@ -5,12 +5,12 @@ use Rattle.std.specs.Prelude.{◌==◌, is_none, flat_map, slice_index_or, Ok, E
 use Rattle.std.specs.List.{range_with_len}
 use Rattle.std.proofs.lemmas.Bool.{cases_Bool, lt-ltb, le-ltb, lt-leb, eq-eqb, ne_eqb}
 use Rattle.dr_seq.specs.declared.event.Event.{Event}
-use Rattle.dr_core.specs.declared.refusal.Refusal.{Refusal}
-use Rattle.dr_core.specs.declared.refusal.Refusal.TheVariants.{AlreadyPublished, NotWritten, OutOfOrder}
-use Rattle.dr_core.specs.Meaning.Refusals.{sequence_causes, NoneHolds, IsFirst}
-use Rattle.dr_core.specs.declared.ends.Trouble.TheVariants.{Refused}
-use Rattle.dr_core.specs.Calls.Ends.{Verdict, Exactly, MayHold, MayFail, end_sequence_tests, PublishAnswers, Sent, published_below}
-use Rattle.dr_core.proofs.Causes.{none_join, first_left, first_right, none_of_stretch, first_of_stretch}
+use Rattle.dr_meaning.specs.declared.refusal.Refusal.{Refusal}
+use Rattle.dr_meaning.specs.declared.refusal.Refusal.TheVariants.{AlreadyPublished, NotWritten, OutOfOrder}
+use Rattle.dr_meaning.specs.Meaning.Refusals.{sequence_causes, NoneHolds, IsFirst}
+use Rattle.dr_meaning.specs.declared.ends.Trouble.TheVariants.{Refused}
+use Rattle.dr_meaning.specs.Calls.Ends.{Verdict, Exactly, MayHold, MayFail, end_sequence_tests, PublishAnswers, Sent, published_below}
+use Rattle.dr_meaning.proofs.Causes.{none_join, first_left, first_right, none_of_stretch, first_of_stretch}
 use Rattle.dr_ring.specs.declared.record.SenderRecord.{SenderRecord}
 use Rattle.dr_ring.specs.Meaning.Records.{claimed, published_to, AreWritten}
 use Rattle.dr_ring.specs.Calls.Sending.{TriesToPublish}

@@ -10,7 +10,7 @@ use lib.ListN.{get_elem?}
 use Rattle.dr_seq.specs.declared.event.Event.{Event}
 use Rattle.dr_seq.specs.Event.{no_event}
 use Rattle.dr_graph.specs.Meaning.Graph.{upstreams_of}
-use Rattle.dr_core.specs.Calls.Ends.{written_of}
+use Rattle.dr_meaning.specs.Calls.Ends.{written_of}
 use Rattle.dr_ring.specs.Meaning.Shape.{Shape, handlers_of}
 use Rattle.dr_ring.specs.Meaning.Words.{payload_start, payload_word}
 use Rattle.dr_runs.specs.Words.{cursor_word, closed_word, halt_word, count_word, HaltAndClose}

@@ -2,12 +2,12 @@
 use Rattle.std.proofs.Common.{◌≡◌, ◌<◌, ◌≤◌, ℕ, Bool, List, length, Ok, Err, ap, ⊎_elim, arith}
 use Rattle.std.proofs.lemmas.Bool.{eqb-true, false≢true, ltb-true}
 use Rattle.dr_seq.specs.declared.event.Event.{Event}
-use Rattle.dr_core.specs.declared.command.Polled.{Polled}
-use Rattle.dr_core.specs.declared.command.Polled.TheVariants.{Batch, Drained, Gating, Idle}
-use Rattle.dr_core.specs.declared.ends.Trouble.{Trouble}
-use Rattle.dr_core.specs.declared.ends.Trouble.TheVariants.{Memory, Refused}
-use Rattle.dr_core.specs.Calls.Calling.{PollsInto, CompletesBelow}
-use Rattle.dr_core.specs.Calls.Ends.{Completes, Takes}
+use Rattle.dr_meaning.specs.declared.command.Polled.{Polled}
+use Rattle.dr_meaning.specs.declared.command.Polled.TheVariants.{Batch, Drained, Gating, Idle}
+use Rattle.dr_meaning.specs.declared.ends.Trouble.{Trouble}
+use Rattle.dr_meaning.specs.declared.ends.Trouble.TheVariants.{Memory, Refused}
+use Rattle.dr_meaning.specs.Calls.Calling.{PollsInto, CompletesBelow}
+use Rattle.dr_meaning.specs.Calls.Ends.{Completes, Takes}
 use Rattle.dr_ring.specs.Calls.Ends.{ReceiverEnd, received_of}
 use Rattle.dr_ring.specs.Calls.Telling.{receiver_does}
 

@@ -2,7 +2,7 @@
 
 ghost use Rattle.std.specs.Prelude.{◌≡◌, [], map, IfOk, IfErr, IsOk, false};
 ghost use Rattle.std.specs.Arc.{arc_value};
-ghost use Rattle.dr_core.specs.Calls.OpenFault.{is_bad_limit};
+ghost use Rattle.dr_meaning.specs.Calls.OpenFault.{is_bad_limit};
 ghost use Rattle.dr_ring.specs.Meaning.Shape.{handlers_of};
 ghost use Rattle.dr_ring.specs.Calls.Plans.{IsPlan};
 ghost use Rattle.dr_ring.specs.Meaning.Moments.{fresh_receivers};
@@ -17,8 +17,8 @@ use crate::receiver::Receiver;
 use crate::record::View;
 use crate::sender::Sender;
 use atomic_table::Split;
-use dr_core::is_valid_limit;
 use dr_graph::Graph;
+use dr_meaning::is_valid_limit;
 use dr_runs::{HandlerCounts, RingFault, Written};
 use dr_seq::{GateCache, Size};
 use std::alloc::{AllocError, Global};
@@ -104,7 +104,7 @@ fn ends(alloc: Global, plan: Plan) -> Result<(Sender, Vec<Receiver>, Halter), Al
 /// sender, its receivers in the graph's order, and its halter. Each may be moved to a thread of
 /// its own.
 ///
-/// It is refused with `BadLimit` where the limit is 0 or above [`dr_core::MAX_LIMIT`], and with
+/// It is refused with `BadLimit` where the limit is 0 or above [`dr_meaning::MAX_LIMIT`], and with
 /// `NoMemory` where an allocation failed.
 pub fn ring(
     alloc: Global,

@@ -1,14 +1,14 @@
 //! An end that receives every event.
 
 ghost use Rattle.std.specs.Prelude.{◌≡◌, ◌<◌, ◌^◌, ◌||◌, [], ◌∷◌, length, Some};
-ghost use Rattle.dr_core.specs.Calls.Ends.{IsEndsAnswer, PollAnswers, CompleteAnswers, is_drained, Takes, Completes};
+ghost use Rattle.dr_meaning.specs.Calls.Ends.{IsEndsAnswer, PollAnswers, CompleteAnswers, is_drained, Takes, Completes};
 ghost use Rattle.dr_ring.specs.Calls.Ends.{receiver_place, received_of};
 ghost use Rattle.dr_runs.specs.Looks.{looks_counted};
 ghost use Rattle.dr_ring.specs.Calls.Receiving.{PollCall, CompleteCall};
 ghost use Rattle.dr_ring.specs.Calls.Telling.{receiver_does};
 
 use crate::laws::ReceiverStation;
-use dr_core::{Outlet, Polled, Refusal, Trouble};
+use dr_meaning::{Outlet, Polled, Refusal, Trouble};
 use dr_runs::nothing_offered;
 use dr_seq::Event;
 use std::marker::Model;

@@ -21,7 +21,7 @@ pub struct SentEvents {
 
 impl Model for SentEvents {
     ghost use Rattle.dr_seq.specs.declared.event.Event.{Event};
-    ghost use Rattle.dr_core.specs.Calls.Ends.{Sent};
+    ghost use Rattle.dr_meaning.specs.Calls.Ends.{Sent};
 
     ghost Value = { Sent Event };
 

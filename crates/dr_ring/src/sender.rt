@@ -1,15 +1,15 @@
 //! The one end that claims, writes and publishes.
 
 ghost use Rattle.std.specs.Prelude.{◌≡◌, ◌+◌, ◌^◌, ◌≤◌, Some, length, take};
-ghost use Rattle.dr_core.specs.Calls.Calling.{WritesBy};
-ghost use Rattle.dr_core.specs.Calls.Ends.{IsEndsAnswer, ClaimAnswers, WriteAnswers, PublishAnswers, Claims, Writes, Publishes, WriteAllAnswers, WritesAll};
+ghost use Rattle.dr_meaning.specs.Calls.Calling.{WritesBy};
+ghost use Rattle.dr_meaning.specs.Calls.Ends.{IsEndsAnswer, ClaimAnswers, WriteAnswers, PublishAnswers, Claims, Writes, Publishes, WriteAllAnswers, WritesAll};
 ghost use Rattle.dr_ring.specs.Calls.Ends.{sender_place};
 ghost use Rattle.dr_runs.specs.Looks.{looks_counted};
 ghost use Rattle.dr_ring.specs.Calls.Sending.{ClaimCall, WriteCall, WriteAllCall, PublishCall, CloseCall, ClosesOnceDone};
 ghost use Rattle.dr_ring.specs.Calls.Telling.{sender_does};
 
 use crate::laws::SenderStation;
-use dr_core::{Claimed, Inlet, Refusal, Trouble, Wrote};
+use dr_meaning::{Claimed, Inlet, Refusal, Trouble, Wrote};
 use dr_runs::{HandlerCounts, Written};
 use dr_seq::{Event, GateCache};
 use std::marker::{Brand, Model};

@@ -1,8 +1,8 @@
 //! Calls on the ends of a ring with one sender, their answers, and runs of them.
 
 use crate::graphs::Shape;
-use dr_core::Polled::{Batch, Drained, Gating, Idle};
-use dr_core::{Claimed, Polled, Refusal, Reply};
+use dr_meaning::Polled::{Batch, Drained, Gating, Idle};
+use dr_meaning::{Claimed, Polled, Refusal, Reply};
 use dr_seq::Event;
 
 /// A call on one of the ends; receivers go by number.

@@ -6,7 +6,7 @@ use crate::work::Work;
 use dr_disruptor::{RunFault, WaitStrategy, run, run_waiting, run_with};
 use dr_graph::Graph;
 use dr_seq::{Event, Size};
-use dr_shared::{OpenGate, produce};
+use dr_workers::{OpenGate, produce};
 use std::alloc::Global;
 use std::process::Abort;
 use std::sync::Wait;

@@ -3,12 +3,12 @@
 use crate::calls::Call::{Claim, Close, Complete, Halt, Poll, Publish, Write};
 use crate::calls::Run;
 use crate::graphs::Shape;
-use dr_core::MAX_LIMIT;
-use dr_core::Refusal::{
+use dr_meaning::MAX_LIMIT;
+use dr_meaning::Refusal::{
     AlreadyPublished, BadCount, Behind, Exhausted, Halted, NoRoom, NotClaimed, NotTaken,
     NotWritten, OpenClaim, OutOfOrder,
 };
-use dr_core::Reply::{
+use dr_meaning::Reply::{
     Batch, Claimed, Completed, Drained, Gating, Halting, Idle, Published, Refused, Written,
 };
 use dr_seq::Event;

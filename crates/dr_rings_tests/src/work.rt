@@ -1,6 +1,6 @@
 //! Handlers of several kinds in one list.
 
-use dr_core::Handler;
+use dr_meaning::Handler;
 use dr_seq::Event;
 
 /// Handlers of two kinds in one list: the sum of the first words, and the last one.

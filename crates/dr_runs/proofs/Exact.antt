@@ -4,15 +4,15 @@ use Rattle.std.proofs.Common.{Result, Ok, Err, sym, refl, ap, ◌∙◌, subst, 
 use Rattle.std.specs.Prelude.{nat_lt, Contains, flat_map}
 use Rattle.std.specs.List.{range_with_len}
 use Rattle.std.proofs.lemmas.Bool.{eq-eqb, lt-ltb, le-ltb}
-use Rattle.dr_core.specs.declared.refusal.Refusal.{Refusal}
-use Rattle.dr_core.specs.declared.command.Command.TheVariants.{Poll}
-use Rattle.dr_core.specs.declared.command.Reply.TheVariants.{Drained as RepliedDrained, Gating as RepliedGating, Idle as RepliedIdle}
-use Rattle.dr_core.specs.Meaning.Refusals.{NoneHolds, IsFirst}
-use Rattle.dr_core.specs.Meaning.Machine.{Setup, State, Outcome, next, cursor, offered, available, unchanged, accepted, unless}
-use Rattle.dr_core.specs.Calls.Shows.{unit_reply}
-use Rattle.dr_core.specs.Calls.Ends.{Verdict, Exactly, MayHold, MayFail, IsAnswerOf, as_end}
-use Rattle.dr_core.proofs.Steps.{NoneHold, Refuses, unless-none, unless-refused}
-use Rattle.dr_core.proofs.Leasts.{least_of-member}
+use Rattle.dr_meaning.specs.declared.refusal.Refusal.{Refusal}
+use Rattle.dr_meaning.specs.declared.command.Command.TheVariants.{Poll}
+use Rattle.dr_meaning.specs.declared.command.Reply.TheVariants.{Drained as RepliedDrained, Gating as RepliedGating, Idle as RepliedIdle}
+use Rattle.dr_meaning.specs.Meaning.Refusals.{NoneHolds, IsFirst}
+use Rattle.dr_meaning.specs.Meaning.Machine.{Setup, State, Outcome, next, cursor, offered, available, unchanged, accepted, unless}
+use Rattle.dr_meaning.specs.Calls.Replies.{unit_reply}
+use Rattle.dr_meaning.specs.Calls.Ends.{Verdict, Exactly, MayHold, MayFail, IsAnswerOf, as_end}
+use Rattle.dr_meaning.proofs.Steps.{NoneHold, Refuses, unless-none, unless-refused}
+use Rattle.dr_meaning.proofs.Leasts.{least_of-member}
 
 -- Tests of which an end knows what the machine knows, as far as they are asked.
 abbrev pub AreExact : List (Verdict × Refusal) → List (Bool × Refusal) → Type 0

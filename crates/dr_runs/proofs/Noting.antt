@@ -3,8 +3,8 @@ use Rattle.std.proofs.Common.{◌≡◌, ◌≢◌, ℕ, ◌+◌, ◌%◌, ◌<�
 use Rattle.std.specs.Prelude.{nat_lt, ◌||◌}
 use Rattle.std.proofs.lemmas.Bool.{cases_lt, lt-ltb, le-ltb, or_left, or_right}
 use Rattle.dr_seq.specs.Rounds.{entry_of, is_marked}
-use Rattle.dr_core.specs.Calls.Stamped.{stamped}
-use Rattle.dr_core.proofs.Stamped.{mark_is, marked-in, marked-out, marks_none_after}
+use Rattle.dr_seq.specs.Stamped.{stamped}
+use Rattle.dr_seq.proofs.Stamped.{mark_is, marked-in, marked-out, marks_none_after}
 use Rattle.dr_runs.specs.declared.written.Written.{Written}
 use Rattle.dr_runs.specs.Noted.{Notes, is_noted}
 

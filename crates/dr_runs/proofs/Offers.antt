@@ -7,8 +7,8 @@ use Rattle.std.proofs.lemmas.Bool.{cases_lt, eq-eqb, ne_eqb, lt-ltb, le-ltb, eqb
 use Rattle.std.proofs.lemmas.List.{length-map, get_or-map}
 use Rattle.dr_graph.specs.Meaning.Graph.{finals, nobody, least_of}
 use Rattle.dr_graph.proofs.Gating.{final_left}
-use Rattle.dr_core.specs.declared.command.Polled.TheVariants.{Drained, Gating, Idle}
-use Rattle.dr_core.specs.Meaning.Machine.{State, front, offered, least_completed}
+use Rattle.dr_meaning.specs.declared.command.Polled.TheVariants.{Drained, Gating, Idle}
+use Rattle.dr_meaning.specs.Meaning.Machine.{State, front, offered, least_completed}
 use Rattle.dr_runs.specs.Looks.{offered_by, lesser_of}
 use Rattle.dr_runs.specs.Polls.{nothing_offered}
 

@@ -7,15 +7,15 @@ use Rattle.std.proofs.Math.Bool.{and-false}
 use Rattle.std.proofs.Math.Nat.{suc-add, zero-add}
 use Rattle.std.proofs.lemmas.Bool.{cases_lt, eq-eqb, ne_eqb, lt-ltb, le-ltb, le-leb, lt-leb}
 use Rattle.std.proofs.lemmas.List.{length-replicate, get_or-replicate}
-use Rattle.dr_core.specs.declared.mode.Mode.TheVariants.{Single}
-use Rattle.dr_core.specs.declared.command.Command.{Command}
-use Rattle.dr_core.specs.declared.command.Command.TheVariants.{Claim, Publish, Poll, Complete}
-use Rattle.dr_core.specs.declared.command.Reply.{Reply}
-use Rattle.dr_core.specs.declared.command.Reply.TheVariants.{Claimed, Published, Batch, Drained, Completed}
+use Rattle.dr_meaning.specs.declared.mode.Mode.TheVariants.{Single}
+use Rattle.dr_meaning.specs.declared.command.Command.{Command}
+use Rattle.dr_meaning.specs.declared.command.Command.TheVariants.{Claim, Publish, Poll, Complete}
+use Rattle.dr_meaning.specs.declared.command.Reply.{Reply}
+use Rattle.dr_meaning.specs.declared.command.Reply.TheVariants.{Claimed, Published, Batch, Drained, Completed}
 use Rattle.dr_graph.specs.Meaning.Graph.{finals}
-use Rattle.dr_core.specs.Meaning.Machine.{Setup, State, Outcome, opening, least_outside, front, available, least_completed, publish_faults, refusals, accepted, step}
-use Rattle.dr_core.specs.Meaning.Transcript.{Transcript, LeadsFrom}
-use Rattle.dr_core.proofs.Steps.{NoneHold, NoneHold-join, unless-none}
+use Rattle.dr_meaning.specs.Meaning.Machine.{Setup, State, Outcome, opening, least_outside, front, available, least_completed, publish_faults, refusals, accepted, step}
+use Rattle.dr_meaning.specs.Meaning.Transcript.{Transcript, LeadsFrom}
+use Rattle.dr_meaning.proofs.Steps.{NoneHold, NoneHold-join, unless-none}
 use Rattle.dr_runs.specs.Entries.{entry}
 
 abbrev pub owners : ℕ → List ℕ

@@ -7,7 +7,7 @@ use mathlib.Core.Option.{Option, some, some-injective, some-ne-none}
 use lib.ListN.{get_elem?}
 use Rattle.atomic_table.specs.Table.{Act, keeps, carried_after, homes_after, Valid, Allows}
 use Rattle.atomic_table.proofs.Lists.{at_set}
-use Rattle.dr_core.specs.Meaning.Transcript.{Transcript}
+use Rattle.dr_meaning.specs.Meaning.Transcript.{Transcript}
 use Rattle.dr_runs.specs.declared.view.View.{View}
 use Rattle.dr_runs.specs.Runs.{Ends, Exchange, Runs, IsBeginning, IsReached}
 use Rattle.dr_runs.specs.Seats.{End, holding, alone, first_past, EachPast, end_of, seat_at, past_of, stores_of, stored_of, Saw, Ruled}

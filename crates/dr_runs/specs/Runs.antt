@@ -1,7 +1,7 @@
 -- An exchange by its steps, and what lists of them come to.
 use Rattle.std.specs.Prelude.{◌≡◌, ℕ, Bool, List, [], ◌∷◌, ◌++◌, Result, Ok, Err}
 use mathlib.Core.Option.{Option}
-use Rattle.dr_core.specs.Meaning.Transcript.{Transcript}
+use Rattle.dr_meaning.specs.Meaning.Transcript.{Transcript}
 
 -- the ends of an exchange: each has a number, which its record tells, and a step may be a store by one of them
 pub record Ends (E S : Type 0) : Type 0 where

@@ -10,7 +10,7 @@ use thiserror::Error;
 /// Why a ring is not made.
 #[derive(Clone, Copy, Debug, PartialEq, Eq, Error)]
 pub enum RingFault {
-    /// The limit of sequences is 1 to [`MAX_LIMIT`](dr_core::MAX_LIMIT).
+    /// The limit of sequences is 1 to [`MAX_LIMIT`](dr_meaning::MAX_LIMIT).
     #[error("bad-limit")]
     BadLimit,
     /// An allocation failed.

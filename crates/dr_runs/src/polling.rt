@@ -4,7 +4,7 @@ ghost use Rattle.std.specs.Prelude.{◌≡◌};
 ghost use Rattle.dr_runs.specs.Looks.{lesser_of};
 ghost use Rattle.dr_runs.specs.Polls.{nothing_offered as answer_of};
 
-use dr_core::Polled;
+use dr_meaning::Polled;
 
 /// The lesser of a count and those seen before, or the count where it is the first.
 #[inline]

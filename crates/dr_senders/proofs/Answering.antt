@@ -7,12 +7,12 @@ use Rattle.std.proofs.lemmas.List.{append-nil}
 use Rattle.std.proofs.lemmas.List.FromFn.{map-range_with_len_more}
 use Rattle.dr_seq.specs.declared.event.Event.{Event}
 use Rattle.dr_seq.specs.Rounds.{entry_of, is_marked, IsFront}
-use Rattle.dr_core.specs.declared.refusal.Refusal.{Refusal}
-use Rattle.dr_core.specs.declared.refusal.Refusal.TheVariants.{NotClaimed, AlreadyPublished, NotWritten, BadCount}
-use Rattle.dr_core.specs.Meaning.Refusals.{write_causes, sequence_causes, publish_causes, NoneHolds, IsFirst}
-use Rattle.dr_core.specs.declared.ends.Trouble.TheVariants.{Refused}
-use Rattle.dr_core.specs.Calls.Ends.{Verdict, Exactly, unknown, MayHold, MayFail, IsAnswerOf}
-use Rattle.dr_core.proofs.Causes.{none_join, first_left, none_of_stretch, first_of_stretch}
+use Rattle.dr_meaning.specs.declared.refusal.Refusal.{Refusal}
+use Rattle.dr_meaning.specs.declared.refusal.Refusal.TheVariants.{NotClaimed, AlreadyPublished, NotWritten, BadCount}
+use Rattle.dr_meaning.specs.Meaning.Refusals.{write_causes, sequence_causes, publish_causes, NoneHolds, IsFirst}
+use Rattle.dr_meaning.specs.declared.ends.Trouble.TheVariants.{Refused}
+use Rattle.dr_meaning.specs.Calls.Ends.{Verdict, Exactly, unknown, MayHold, MayFail, IsAnswerOf}
+use Rattle.dr_meaning.proofs.Causes.{none_join, first_left, none_of_stretch, first_of_stretch}
 use Rattle.dr_runs.specs.declared.look.Look.{Look}
 use Rattle.dr_senders.specs.Meaning.Shape.{Shape}
 use Rattle.dr_senders.specs.Meaning.Words.{claimed_in, mark_word}

@@ -4,14 +4,14 @@ use Rattle.std.specs.List.{range_with_len}
 use Rattle.std.proofs.lemmas.List.{length-replicate}
 use mathlib.Core.Option.{some, some-injective, some-ne-none}
 use lib.ListN.{get_elem?}
-use Rattle.dr_core.specs.Meaning.Machine.{State}
+use Rattle.dr_meaning.specs.Meaning.Machine.{State}
 use Rattle.dr_senders.specs.Meaning.Shape.{Shape, IsShape, handlers_of, ring_setup}
 use Rattle.dr_senders.specs.Meaning.Words.{claim_word, claimed_in, is_halted, count_word, mark_word, words_of}
 use Rattle.dr_senders.specs.declared.record.SenderRecord.{SenderRecord}
 use Rattle.dr_senders.specs.declared.record.ReceiverRecord.{ReceiverRecord}
 use Rattle.dr_senders.specs.Meaning.Rule.{KeepsRule, SenderKept, ReceiverKept}
 use Rattle.dr_senders.specs.Meaning.Moments.{fresh_sender, fresh_senders, fresh_receiver, fresh_receivers, new_world, taken_of, picture_of}
-use Rattle.dr_core.specs.Meaning.Machine as machine
+use Rattle.dr_meaning.specs.Meaning.Machine as machine
 use Rattle.dr_runs.proofs.Elements.{zeros, all_zero}
 
 pub receiver_fresh : (h n i : ℕ) (r : ReceiverRecord) → get_elem? (fresh_receivers h n) i ≡ some r → r ≡ fresh_receiver (h + i)

@@ -1,15 +1,15 @@
 -- A sender's marks fit what it knows after each of its calls.
 use Rattle.std.proofs.Common.{◌≡◌, ◌≢◌, ℕ, zero, suc, ◌+◌, ◌-◌, ◌%◌, ◌<◌, ◌≤◌, ◌⊎◌, inl, inr, Bool, true, false, not, ◌==◌, if◌then◌else◌, List, ◌++◌, length, set, replicate, sym, refl, ap, ◌∙◌, subst, arith, length-set}
 use Rattle.std.specs.Prelude.{is_none, Ok}
-use Rattle.dr_core.specs.declared.command.Claimed.{Claimed}
+use Rattle.dr_meaning.specs.declared.command.Claimed.{Claimed}
 use Rattle.std.proofs.lemmas.Bool.{cases_Bool, cases_eq, eq-eqb, ne_eqb}
 use Rattle.std.proofs.lemmas.List.{length-replicate}
 use mathlib.Core.Option.{some, some-ne-none}
 use lib.ListN.{get_elem?}
 use Rattle.dr_seq.specs.declared.event.Event.{Event}
 use Rattle.dr_seq.specs.Rounds.{entry_of, is_marked}
-use Rattle.dr_core.specs.Calls.Stamped.{stamped}
-use Rattle.dr_core.proofs.Stamped.{marked-in, marked-out, stamped-none, stamped-more, length-stamped}
+use Rattle.dr_seq.specs.Stamped.{stamped}
+use Rattle.dr_seq.proofs.Stamped.{marked-in, marked-out, stamped-none, stamped-more, length-stamped}
 use Rattle.dr_senders.specs.Meaning.Shape.{Shape}
 use Rattle.dr_senders.specs.declared.record.Stage.{Stage}
 use Rattle.dr_senders.specs.declared.record.Own.{Own}

@@ -2,7 +2,7 @@
 use Rattle.dr_seq.specs.declared.event.Event.{Event}
 use Rattle.std.proofs.Common.{◌≡◌, ◌≢◌, ℕ, true, ◌==◌, if◌then◌else◌, Bool, List, [], ◌∷◌, length, set, sym, ap, ◌∙◌, subst, arith, length-set, get_or-set_same, get_or-set_other}
 use Rattle.std.proofs.lemmas.Bool.{ne_eqb, leb-true}
-use Rattle.dr_core.specs.Meaning.Transcript.{Transcript}
+use Rattle.dr_meaning.specs.Meaning.Transcript.{Transcript}
 use Rattle.dr_seq.specs.Rounds.{entry_of}
 use Rattle.dr_senders.specs.Meaning.Shape.{Shape}
 use Rattle.dr_senders.specs.Meaning.Words.{claim_word, is_halted, halted_from, halt_bit, count_word, mark_word, payload_word}

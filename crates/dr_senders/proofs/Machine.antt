@@ -8,12 +8,12 @@ use lib.Seq.{map-set_same}
 use mathlib.Core.Option.{some}
 use lib.ListN.{get_elem?}
 use Rattle.dr_seq.specs.declared.event.Event.{Event}
-use Rattle.dr_core.specs.declared.command.Command.TheVariants.{Claim, Write, Publish, Poll, Complete}
-use Rattle.dr_core.specs.declared.command.Reply.TheVariants.{Claimed, Written, Published, Batch, Drained, Gating, Idle, Completed}
+use Rattle.dr_meaning.specs.declared.command.Command.TheVariants.{Claim, Write, Publish, Poll, Complete}
+use Rattle.dr_meaning.specs.declared.command.Reply.TheVariants.{Claimed, Written, Published, Batch, Drained, Gating, Idle, Completed}
 use Rattle.dr_graph.specs.Meaning.Graph.{finals}
-use Rattle.dr_core.specs.Meaning.Machine.{Setup, State, opening, handlers, front, next, is_single, available, least_completed, publish_faults, refusals, accepted, step}
-use Rattle.dr_core.proofs.Leasts.{IsLeast, least_is}
-use Rattle.dr_core.proofs.Steps.{NoneHold, NoneHold-join, unless-none}
+use Rattle.dr_meaning.specs.Meaning.Machine.{Setup, State, opening, handlers, front, next, is_single, available, least_completed, publish_faults, refusals, accepted, step}
+use Rattle.dr_meaning.proofs.Leasts.{IsLeast, least_is}
+use Rattle.dr_meaning.proofs.Steps.{NoneHold, NoneHold-join, unless-none}
 use Rattle.dr_runs.proofs.Elements.{at_below, value_at}
 use Rattle.dr_senders.specs.Meaning.Shape.{Shape, ring_setup}
 use Rattle.dr_senders.specs.declared.record.Stage.{Stage}

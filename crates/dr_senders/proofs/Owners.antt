@@ -8,7 +8,7 @@ use Rattle.std.proofs.lemmas.List.{length-replicate}
 use mathlib.Core.Option.{some, some-ne-none}
 use lib.ListN.{get_elem?}
 use Rattle.atomic_table.proofs.Lists.{at_set, at_longer, set_here}
-use Rattle.dr_core.specs.Meaning.Transcript.{Transcript}
+use Rattle.dr_meaning.specs.Meaning.Transcript.{Transcript}
 use Rattle.dr_runs.proofs.Elements.{at_below}
 use Rattle.dr_senders.specs.Meaning.Shape.{Shape, IsShape}
 use Rattle.dr_senders.specs.Meaning.Words.{claim_word, claimed_in, halt_bit}

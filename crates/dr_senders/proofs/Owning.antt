@@ -7,8 +7,8 @@ use Rattle.std.proofs.lemmas.Nat.{div-add-mod'}
 use mathlib.Core.Option.{some}
 use lib.ListN.{get_elem?}
 use Rattle.dr_seq.specs.Rounds.{entry_of, is_marked}
-use Rattle.dr_core.specs.Calls.Stamped.{stamped}
-use Rattle.dr_core.proofs.Stamped.{mark_is, marked-in, length-stamped, stamped-none, stamped-more}
+use Rattle.dr_seq.specs.Stamped.{stamped}
+use Rattle.dr_seq.proofs.Stamped.{mark_is, marked-in, length-stamped, stamped-none, stamped-more}
 use Rattle.dr_senders.specs.declared.record.Stage.{Stage}
 use Rattle.dr_senders.specs.declared.record.Own.{Own}
 use Rattle.dr_senders.specs.declared.record.SenderRecord.{SenderRecord}

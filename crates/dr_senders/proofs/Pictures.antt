@@ -11,13 +11,13 @@ use mathlib.Core.Option.{some}
 use lib.ListN.{get_elem?}
 use Rattle.dr_seq.specs.declared.event.Event.{Event}
 use Rattle.dr_seq.specs.Rounds.{entry_of}
-use Rattle.dr_core.specs.declared.command.Command.{Command}
-use Rattle.dr_core.specs.declared.command.Command.TheVariants.{Claim, Write, Publish, Poll, Complete, Halt}
-use Rattle.dr_core.specs.declared.command.Reply.{Reply}
-use Rattle.dr_core.specs.declared.command.Reply.TheVariants.{Claimed, Written, Published, Batch, Drained, Completed, Halting, Idle, Gating}
+use Rattle.dr_meaning.specs.declared.command.Command.{Command}
+use Rattle.dr_meaning.specs.declared.command.Command.TheVariants.{Claim, Write, Publish, Poll, Complete, Halt}
+use Rattle.dr_meaning.specs.declared.command.Reply.{Reply}
+use Rattle.dr_meaning.specs.declared.command.Reply.TheVariants.{Claimed, Written, Published, Batch, Drained, Completed, Halting, Idle, Gating}
 use Rattle.dr_graph.specs.Meaning.Graph.{nobody, upstreams_of, finals, IsGated, least_of}
-use Rattle.dr_core.specs.Meaning.Machine.{Setup, State, Outcome, front, available, least_completed}
-use Rattle.dr_core.specs.Meaning.Transcript.{Transcript, LeadsFrom}
+use Rattle.dr_meaning.specs.Meaning.Machine.{Setup, State, Outcome, front, available, least_completed}
+use Rattle.dr_meaning.specs.Meaning.Transcript.{Transcript, LeadsFrom}
 use Rattle.dr_runs.specs.Entries.{entry, poll_of}
 use Rattle.dr_runs.proofs.Elements.{at_below, value_at, there}
 use Rattle.dr_runs.proofs.Offers.{final_inside, counts_below, offered_at_most, offered_more}
@@ -40,7 +40,7 @@ use Rattle.dr_senders.proofs.KeepsClaims.{keeps_sender_looks, keeps_mark_found, 
 use Rattle.dr_senders.proofs.KeepsWrites.{keeps_first, keeps_second, keeps_publishes}
 use Rattle.dr_senders.proofs.KeepsReceiving.{keeps_receiver_looks, keeps_claims_look, keeps_mark_look, keeps_half_taken, taken_event, keeps_takes, keeps_completes}
 use Rattle.dr_senders.proofs.Machine.{shown, at_stage, same_owners, same_part, claim_step, write_step, publish_step, take_step, drained_step, complete_step, front_within, front_beyond, idle_step, gating_step, front_at_most}
-use Rattle.dr_core.specs.Meaning.Machine as machine
+use Rattle.dr_meaning.specs.Meaning.Machine as machine
 
 keeps_exchange : (k : Shape) (w : World) (p c n : ℕ) (r : SenderRecord) → get_elem? w.senders p ≡ some r → 0 < n → SeesRoom k r c n → KeepsRule k w
     → KeepsRule k (if word_at w.words claim_word == c then sender_claims w p r c n else sender_knows w p

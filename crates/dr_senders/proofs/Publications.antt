@@ -8,15 +8,15 @@ use mathlib.Core.Option.{some}
 use lib.ListN.{get_elem?}
 use Rattle.dr_seq.specs.declared.event.Event.{Event}
 use Rattle.dr_seq.specs.Rounds.{entry_of}
-use Rattle.dr_core.specs.declared.refusal.Refusal.{Refusal}
-use Rattle.dr_core.specs.declared.refusal.Refusal.TheVariants.{OutOfOrder}
-use Rattle.dr_core.specs.declared.command.Command.TheVariants.{Publish}
-use Rattle.dr_core.specs.declared.command.Reply.TheVariants.{Published}
-use Rattle.dr_core.specs.Meaning.Refusals.{SequenceTests, IsFirst, sequence_causes, publish_causes}
-use Rattle.dr_core.specs.Meaning.Machine.{State, Outcome, refusals, accepted, publish_faults}
-use Rattle.dr_core.specs.Calls.Shows.{unit_reply}
-use Rattle.dr_core.specs.Calls.Ends.{Verdict, Exactly, MayHold, MayFail, IsAnswerOf, as_end}
-use Rattle.dr_core.proofs.Steps.{NoneHold, NoneHold-join, NoneHold-stretch, Refuses, unless-none, unless-refused}
+use Rattle.dr_meaning.specs.declared.refusal.Refusal.{Refusal}
+use Rattle.dr_meaning.specs.declared.refusal.Refusal.TheVariants.{OutOfOrder}
+use Rattle.dr_meaning.specs.declared.command.Command.TheVariants.{Publish}
+use Rattle.dr_meaning.specs.declared.command.Reply.TheVariants.{Published}
+use Rattle.dr_meaning.specs.Meaning.Refusals.{SequenceTests, IsFirst, sequence_causes, publish_causes}
+use Rattle.dr_meaning.specs.Meaning.Machine.{State, Outcome, refusals, accepted, publish_faults}
+use Rattle.dr_meaning.specs.Calls.Replies.{unit_reply}
+use Rattle.dr_meaning.specs.Calls.Ends.{Verdict, Exactly, MayHold, MayFail, IsAnswerOf, as_end}
+use Rattle.dr_meaning.proofs.Steps.{NoneHold, NoneHold-join, NoneHold-stretch, Refuses, unless-none, unless-refused}
 use Rattle.dr_runs.proofs.Elements.{there, at_below}
 use Rattle.dr_senders.specs.Meaning.Shape.{Shape, ring_setup}
 use Rattle.dr_senders.specs.Meaning.Words.{mark_word}

@@ -6,16 +6,16 @@ use Rattle.std.proofs.lemmas.List.{length-map}
 use mathlib.Core.Option.{some}
 use lib.ListN.{get_elem?}
 use Rattle.dr_seq.specs.declared.event.Event.{Event}
-use Rattle.dr_core.specs.declared.refusal.Refusal.{Refusal}
-use Rattle.dr_core.specs.declared.refusal.Refusal.TheVariants.{BadCount, Halted, Exhausted, NoRoom, AlreadyPublished}
-use Rattle.dr_core.specs.declared.command.Command.TheVariants.{Claim, Write, Complete}
-use Rattle.dr_core.specs.declared.command.Reply.TheVariants.{Written, Completed, Refused}
-use Rattle.dr_core.specs.Meaning.Refusals.{complete_causes}
-use Rattle.dr_core.specs.Meaning.Machine.{State, Outcome, least_completed, refusals, accepted}
-use Rattle.dr_core.specs.Calls.Shows.{unit_reply}
-use Rattle.dr_core.specs.Calls.Ends.{IsAnswerOf, as_end}
-use Rattle.dr_core.proofs.Steps.{Refuses, unless-none, unless-refused}
-use Rattle.dr_core.proofs.Leasts.{least_of-member}
+use Rattle.dr_meaning.specs.declared.refusal.Refusal.{Refusal}
+use Rattle.dr_meaning.specs.declared.refusal.Refusal.TheVariants.{BadCount, Halted, Exhausted, NoRoom, AlreadyPublished}
+use Rattle.dr_meaning.specs.declared.command.Command.TheVariants.{Claim, Write, Complete}
+use Rattle.dr_meaning.specs.declared.command.Reply.TheVariants.{Written, Completed, Refused}
+use Rattle.dr_meaning.specs.Meaning.Refusals.{complete_causes}
+use Rattle.dr_meaning.specs.Meaning.Machine.{State, Outcome, least_completed, refusals, accepted}
+use Rattle.dr_meaning.specs.Calls.Replies.{unit_reply}
+use Rattle.dr_meaning.specs.Calls.Ends.{IsAnswerOf, as_end}
+use Rattle.dr_meaning.proofs.Steps.{Refuses, unless-none, unless-refused}
+use Rattle.dr_meaning.proofs.Leasts.{least_of-member}
 use Rattle.dr_graph.specs.Meaning.Graph.{finals}
 use Rattle.dr_runs.proofs.Elements.{at_below}
 use Rattle.dr_runs.proofs.Offers.{final_inside}

@@ -7,7 +7,7 @@ use lib.ListN.{get_elem?}
 use Rattle.atomic_table.proofs.Lists.{at_longer}
 use Rattle.dr_seq.specs.declared.event.Event.{Event}
 use Rattle.dr_seq.specs.Rounds.{entry_of}
-use Rattle.dr_core.specs.Meaning.Transcript.{Transcript}
+use Rattle.dr_meaning.specs.Meaning.Transcript.{Transcript}
 use Rattle.dr_runs.proofs.Elements.{at_below}
 use Rattle.dr_senders.specs.Meaning.Shape.{Shape}
 use Rattle.dr_senders.specs.Meaning.Words.{claim_word, halted_from, count_word, mark_start, mark_word, payload_word}

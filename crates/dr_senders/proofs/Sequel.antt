@@ -4,8 +4,8 @@ use Rattle.std.proofs.lemmas.List.{length-take-le, take_more, take-append-drop}
 use Rattle.std.proofs.Math.Seq.{drop-cons}
 use Rattle.dr_runs.proofs.Lists.{take_whole}
 use Rattle.dr_seq.specs.declared.event.Event.{Event}
-use Rattle.dr_core.specs.declared.ends.Trouble.{Trouble}
-use Rattle.dr_core.specs.Calls.Ends.{IsEndsAnswer}
+use Rattle.dr_meaning.specs.declared.ends.Trouble.{Trouble}
+use Rattle.dr_meaning.specs.Calls.Ends.{IsEndsAnswer}
 use Rattle.dr_senders.specs.Calls.Ends.{SenderEnd, sender_place}
 use Rattle.dr_senders.specs.Calls.Writing.{WriteCall, WriteAllCall}
 

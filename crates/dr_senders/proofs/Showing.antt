@@ -5,10 +5,10 @@ use Rattle.std.specs.Prelude.{flat_map, nat_le, nat_lt, None, Result, Ok, Err}
 use Rattle.std.specs.List.{range_with_len}
 use Rattle.std.proofs.lemmas.Bool.{true≢false}
 use Rattle.std.proofs.lemmas.Bool.Decides.{nat_tests}
-use Rattle.dr_core.specs.declared.refusal.Refusal.{Refusal}
-use Rattle.dr_core.specs.declared.refusal.Refusal.TheVariants.{NotClaimed}
-use Rattle.dr_core.specs.Meaning.Refusals.{WriteTests, PublishTests, sequence_causes, write_causes, publish_causes, NoneHolds, IsFirst}
-use Rattle.dr_core.specs.Calls.Ends.{Verdict, MayHold, MayFail, IsAnswerOf, write_tests, publish_tests, end_sequence_tests, WriteAnswers, PublishAnswers, as_end}
+use Rattle.dr_meaning.specs.declared.refusal.Refusal.{Refusal}
+use Rattle.dr_meaning.specs.declared.refusal.Refusal.TheVariants.{NotClaimed}
+use Rattle.dr_meaning.specs.Meaning.Refusals.{WriteTests, PublishTests, sequence_causes, write_causes, publish_causes, NoneHolds, IsFirst}
+use Rattle.dr_meaning.specs.Calls.Ends.{Verdict, MayHold, MayFail, IsAnswerOf, write_tests, publish_tests, end_sequence_tests, WriteAnswers, PublishAnswers, as_end}
 
 -- less is known of the same tests
 abbrev Weaker : List (Verdict × Refusal) → List (Verdict × Refusal) → Type 0

@@ -7,10 +7,10 @@ use mathlib.Core.Option.{some}
 use lib.ListN.{get_elem?}
 use Rattle.dr_seq.specs.declared.event.Event.{Event}
 use Rattle.dr_seq.specs.Rounds.{entry_of}
-use Rattle.dr_core.specs.declared.command.Command.TheVariants.{Write}
-use Rattle.dr_core.specs.declared.command.Reply.TheVariants.{Refused}
-use Rattle.dr_core.specs.declared.refusal.Refusal.TheVariants.{NoProducer, NotClaimed, AlreadyPublished}
-use Rattle.dr_core.specs.Meaning.Machine.{State, Outcome, unless, unchanged, accepted}
+use Rattle.dr_meaning.specs.declared.command.Command.TheVariants.{Write}
+use Rattle.dr_meaning.specs.declared.command.Reply.TheVariants.{Refused}
+use Rattle.dr_meaning.specs.declared.refusal.Refusal.TheVariants.{NoProducer, NotClaimed, AlreadyPublished}
+use Rattle.dr_meaning.specs.Meaning.Machine.{State, Outcome, unless, unchanged, accepted}
 use Rattle.dr_runs.proofs.Elements.{there, at_below}
 use Rattle.dr_senders.specs.Meaning.Shape.{Shape, ring_setup}
 use Rattle.dr_senders.specs.Meaning.Words.{mark_word}

@@ -8,7 +8,7 @@ ghost use Rattle.dr_senders.specs.Inside.Parts.{Scans, ClaimsApart};
 
 use crate::laws::SenderStation;
 use crate::plan::HALT_BIT;
-use dr_core::{Claimed, Refusal};
+use dr_meaning::{Claimed, Refusal};
 use thiserror::Error;
 
 /// Why a claim is refused.

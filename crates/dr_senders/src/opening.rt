@@ -2,8 +2,8 @@
 
 ghost use Rattle.std.specs.Prelude.{◌≡◌, ◌++◌, [], ◌<◌, map, IfOk, IfErr, IsOk, false};
 ghost use Rattle.std.specs.Arc.{arc_value};
-ghost use Rattle.dr_core.specs.declared.mode.Mode.TheVariants.{Multi};
-ghost use Rattle.dr_core.specs.Calls.OpenFault.{has_bad_producers, is_bad_limit};
+ghost use Rattle.dr_meaning.specs.declared.mode.Mode.TheVariants.{Multi};
+ghost use Rattle.dr_meaning.specs.Calls.OpenFault.{has_bad_producers, is_bad_limit};
 ghost use Rattle.dr_senders.specs.Meaning.Shape.{handlers_of};
 ghost use Rattle.dr_senders.specs.Meaning.Moments.{fresh_senders, fresh_receivers};
 ghost use Rattle.dr_senders.specs.Calls.Plans.{IsPlan};
@@ -20,8 +20,8 @@ use crate::receiver::Receiver;
 use crate::record::View;
 use crate::sender::Sender;
 use atomic_table::Split;
-use dr_core::{Mode, OpenFault, is_valid_limit};
 use dr_graph::Graph;
+use dr_meaning::{Mode, OpenFault, is_valid_limit};
 use dr_runs::HandlerCounts;
 use dr_seq::Size;
 use std::alloc::{AllocError, Global};
@@ -122,8 +122,8 @@ fn ends(alloc: Global, plan: Plan) -> Result<(Vec<Sender>, Vec<Receiver>, Halter
 /// may be moved to a thread of its own.
 ///
 /// It is refused with `BadProducers` where there are no senders or more than
-/// [`dr_core::MAX_PRODUCERS`], with `BadLimit` where the limit is 0 or above
-/// [`dr_core::MAX_LIMIT`], and with `NoMemory` where an allocation failed.
+/// [`dr_meaning::MAX_PRODUCERS`], with `BadLimit` where the limit is 0 or above
+/// [`dr_meaning::MAX_LIMIT`], and with `NoMemory` where an allocation failed.
 pub fn senders_ring(
     alloc: Global,
     graph: &Graph,

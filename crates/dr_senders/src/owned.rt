@@ -2,7 +2,7 @@
 
 ghost use Rattle.std.specs.Prelude.{◌≡◌, ◌-◌, ◌%◌, ◌^◌, ◌<◌, ◌≤◌, IfOk, length, replicate, slice_set};
 ghost use Rattle.dr_seq.specs.Rounds.{entry_of, is_marked, IsFront};
-ghost use Rattle.dr_core.specs.Calls.Stamped.{stamped};
+ghost use Rattle.dr_seq.specs.Stamped.{stamped};
 ghost use Rattle.dr_senders.specs.Inside.Fits.{is_ready as is_ready_by};
 
 use dr_seq::{Rounds, Size};

@@ -8,7 +8,7 @@ ghost use Rattle.dr_senders.specs.Inside.Parts.{Walked, LooksAtUpstreams, IsOffe
 
 use crate::laws::ReceiverStation;
 use crate::plan::HALT_BIT;
-use dr_core::Polled;
+use dr_meaning::Polled;
 use dr_runs::lesser;
 use dr_seq::Event;
 

@@ -1,7 +1,7 @@
 //! An end that receives every event.
 
 ghost use Rattle.std.specs.Prelude.{◌≡◌, ◌<◌, ◌^◌, ◌||◌, length, Some};
-ghost use Rattle.dr_core.specs.Calls.Ends.{IsEndsAnswer, PollAnswers, CompleteAnswers, is_drained, Takes, Completes};
+ghost use Rattle.dr_meaning.specs.Calls.Ends.{IsEndsAnswer, PollAnswers, CompleteAnswers, is_drained, Takes, Completes};
 ghost use Rattle.dr_runs.specs.Looks.{looks_counted};
 ghost use Rattle.dr_senders.specs.Calls.Ends.{receiver_place};
 ghost use Rattle.dr_senders.specs.Calls.Receiving.{received_of, PollCall, CompleteCall};
@@ -10,7 +10,7 @@ ghost use Rattle.dr_senders.specs.Calls.Telling.{receiver_does};
 use crate::laws::ReceiverStation;
 use crate::plan::HALT_BIT;
 use crate::polling::{claimed_in, nothing_offered};
-use dr_core::{Outlet, Polled, Refusal, Trouble};
+use dr_meaning::{Outlet, Polled, Refusal, Trouble};
 use dr_seq::Event;
 use std::marker::Model;
 

@@ -2,9 +2,9 @@
 
 ghost use Rattle.std.specs.Prelude.{◌≡◌, ◌+◌, ◌^◌, ◌≤◌, ℕ, None, Err, length};
 ghost use Rattle.dr_seq.specs.declared.event.Event.{Event};
-ghost use Rattle.dr_core.specs.declared.refusal.Refusal.TheVariants.{NotClaimed};
-ghost use Rattle.dr_core.specs.Calls.Calling.{WritesBy};
-ghost use Rattle.dr_core.specs.Calls.Ends.{IsEndsAnswer, ClaimAnswers, WriteAnswers, WriteAllAnswers, PublishAnswers};
+ghost use Rattle.dr_meaning.specs.declared.refusal.Refusal.TheVariants.{NotClaimed};
+ghost use Rattle.dr_meaning.specs.Calls.Calling.{WritesBy};
+ghost use Rattle.dr_meaning.specs.Calls.Ends.{IsEndsAnswer, ClaimAnswers, WriteAnswers, WriteAllAnswers, PublishAnswers};
 ghost use Rattle.dr_senders.specs.Meaning.Words.{claim_word, halted_from};
 ghost use Rattle.dr_senders.specs.Meaning.Records.{sender_looked};
 ghost use Rattle.dr_senders.specs.declared.record.Step.TheVariants.{SenderHalts};
@@ -17,7 +17,7 @@ ghost use Rattle.dr_senders.specs.Calls.Telling.{sender_does};
 use crate::claiming::ClaimFault;
 use crate::laws::SenderStation;
 use crate::owned::Owned;
-use dr_core::{Claimed, Inlet, Refusal, Trouble, Wrote};
+use dr_meaning::{Claimed, Inlet, Refusal, Trouble, Wrote};
 use dr_seq::Event;
 use std::marker::Model;
 

@@ -8,7 +8,7 @@ ghost use Rattle.dr_senders.specs.Inside.Parts.{HasWritten, HasPublished, Reache
 
 use crate::laws::SenderStation;
 use crate::polling::claimed_in;
-use dr_core::Refusal;
+use dr_meaning::Refusal;
 use dr_seq::Event;
 use std::marker::Brand;
 

@@ -2,3 +2,4 @@ pub mod Event
 pub mod Size
 pub mod Slots
 pub mod Rounds
+pub mod Stamped

@@ -4,7 +4,7 @@
 use crate::ways::{Way, replay_text};
 use dr_replay::ReplayFault;
 use dr_seq::Size;
-use dr_shared::{Gate, GateAnswer, OpenGate, WorkFault};
+use dr_workers::{Gate, GateAnswer, OpenGate, WorkFault};
 use std::alloc::Global;
 use std::process::Abort;
 use std::sync::Wait;

@@ -8,7 +8,7 @@ use crate::ways::{Streamed, Way, run_streams};
 use dr_files::Counted;
 use dr_replay::ReplayFault;
 use dr_seq::Size;
-use dr_shared::OpenGate;
+use dr_workers::OpenGate;
 use std::alloc::Global;
 use std::process::Abort;
 use std::sync::Wait;

@@ -1,7 +1,7 @@
 //! The printed text of each fault.
 
 use crate::checks::check_text;
-use dr_core::{OpenFault, Refusal, Trouble};
+use dr_meaning::{OpenFault, Refusal, Trouble};
 
 const REFUSALS: [(Refusal, &str); 16] = [
     (Refusal::NoRoom, "no-room"),

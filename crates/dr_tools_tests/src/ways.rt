@@ -4,7 +4,7 @@ use dr_drive::drive;
 use dr_files::Counted;
 use dr_replay::{ReplayFault, replay_lock, replay_plain, replay_ring};
 use dr_seq::Size;
-use dr_shared::Gate;
+use dr_workers::Gate;
 use std::alloc::Global;
 use std::io::{Read, Write};
 use std::sync::Wait;

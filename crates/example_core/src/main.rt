@@ -1,8 +1,9 @@
 //! One thread: a producer and three handlers over a core, and a handler of one's own.
 #![tactic(auto)]
 
-use dr_core::{Core, InPlaceHandler, MAX_LIMIT, Mode, OpenFault, Refusal};
+use dr_core::Core;
 use dr_graph::{Graph, GraphBuilder, GraphFault};
+use dr_meaning::{InPlaceHandler, MAX_LIMIT, Mode, OpenFault, Refusal};
 use dr_seq::{Size, SizeFault};
 use std::alloc::Global;
 use std::process::ExitCode;

@@ -5,13 +5,11 @@
 ghost use Rattle.std.specs.Prelude.{◌≡◌};
 ghost use denote.Param.Send.{IsSync};
 
-use dr_core::{Handler, MAX_LIMIT, Mode};
 use dr_graph::GraphBuilder;
+use dr_lock::{End, Exchange, LockedInlet, LockedOutlet, Recorded, Shared, audit, finish, halt};
+use dr_meaning::{Handler, MAX_LIMIT, Mode};
 use dr_seq::{Event, Size};
-use dr_shared::{
-    End, Exchange, LockedInlet, LockedOutlet, OpenGate, Recorded, Shared, audit, consume, finish,
-    halt, produce,
-};
+use dr_workers::{OpenGate, consume, produce};
 use std::alloc::Global;
 use std::marker::Brand;
 use std::process::ExitCode;

@@ -1,9 +1,9 @@
 //! Three handlers of a diamond, which go through a script on one thread.
 #![tactic(auto)]
 
-use dr_core::Handler;
 use dr_disruptor::{RunFault, run_here};
 use dr_graph::{Graph, GraphBuilder, GraphFault};
+use dr_meaning::Handler;
 use dr_seq::{Event, Size};
 use std::alloc::Global;
 

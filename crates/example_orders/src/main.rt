@@ -3,11 +3,11 @@
 //! reads it where it lies.
 #![tactic(auto)]
 
-use dr_core::{InPlaceHandler, MAX_LIMIT, Polled, Refusal};
 use dr_graph::{Graph, GraphBuilder, GraphFault};
+use dr_meaning::{InPlaceHandler, MAX_LIMIT, Polled, Refusal};
 use dr_plain::{Receiver, Sender, ring};
 use dr_seq::Size;
-use dr_shared::Waiting;
+use dr_workers::Waiting;
 use std::alloc::Global;
 use std::process::ExitCode;
 use std::sync::Wait;

@@ -1,9 +1,9 @@
 //! A sender and two handlers, each on a thread of its own, over a ring.
 #![tactic(auto)]
 
-use dr_core::Handler;
 use dr_disruptor::{RunFault, run};
 use dr_graph::GraphBuilder;
+use dr_meaning::Handler;
 use dr_seq::{Event, Size};
 
 /// Adds up the first words of what it is shown.

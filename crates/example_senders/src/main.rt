@@ -1,11 +1,11 @@
 //! Two senders and a handler, each on a thread of its own, over one ring and without a lock.
 #![tactic(auto)]
 
-use dr_core::{Handler, MAX_LIMIT};
 use dr_graph::{Graph, GraphBuilder, GraphFault};
+use dr_meaning::{Handler, MAX_LIMIT};
 use dr_senders::{Receiver, Sender, senders_ring};
 use dr_seq::{Event, Size};
-use dr_shared::{OpenGate, WorkFault, consume, produce};
+use dr_workers::{OpenGate, WorkFault, consume, produce};
 use std::alloc::Global;
 use std::process::ExitCode;
 use std::sync::Wait;

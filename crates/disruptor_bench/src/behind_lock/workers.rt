@@ -5,10 +5,9 @@ ghost use denote.Param.Send.{IsSync};
 
 use crate::fault::Fault;
 use crate::sum::{Sum, sum_of_first};
+use dr_lock::{End, Exchange, LockedInlet, LockedOutlet, Shared, halt};
 use dr_seq::Event;
-use dr_shared::{
-    End, Exchange, LockedInlet, LockedOutlet, OpenGate, Shared, consume, halt, produce,
-};
+use dr_workers::{OpenGate, consume, produce};
 use std::alloc::Global;
 use std::sync::Wait;
 use std::sync::ledger::Ledger;

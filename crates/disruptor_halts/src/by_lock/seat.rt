@@ -7,9 +7,9 @@ use crate::receiving::Receiving;
 use crate::sending::Sending;
 use crate::signs::Signs;
 use crate::stretch::Stretch;
-use dr_core::{Command, Refusal, Reply};
+use dr_lock::{End, Exchange, LockedInlet, LockedOutlet, Shared, halt};
+use dr_meaning::{Command, Refusal, Reply};
 use dr_seq::Event;
-use dr_shared::{End, Exchange, LockedInlet, LockedOutlet, Shared, halt};
 use std::sync::Wait;
 
 /// In one of how many stretches a thread halts the exchange.

@@ -3,7 +3,7 @@ use Rattle.std.specs.Prelude.{◌≡◌, ℕ, ◌-◌, ◌<◌, min, Bool, false
 use Rattle.std.specs.List.{range_with_len}
 use Rattle.dr_graph.specs.Meaning.Name.{Name}
 use Rattle.dr_graph.specs.Meaning.Graph.{flagged, is_final_without, least_without}
-use Rattle.dr_core.specs.Meaning.Machine.{Setup, handlers}
+use Rattle.dr_meaning.specs.Meaning.Machine.{Setup, handlers}
 
 -- what a core knows of a sequence: nothing, claimed by a producer, written by a producer with an event, published with an event
 pub data Known (E : Type 0) : Type 0 where

@@ -1,7 +1,7 @@
 -- That somebody can always go on, of each core.
-use Rattle.dr_core.specs.Meaning.Machine.{State}
-use Rattle.dr_core.specs.Meaning.Transcript.{Transcript, LeadsTo}
-use Rattle.dr_core.specs.Meaning.Progress.{NobodyIsStuck, CanFinish}
+use Rattle.dr_meaning.specs.Meaning.Machine.{State}
+use Rattle.dr_meaning.specs.Meaning.Transcript.{Transcript, LeadsTo}
+use Rattle.dr_meaning.specs.Meaning.Progress.{NobodyIsStuck, CanFinish}
 use Rattle.dr_core.specs.Calls.CoreView.{CoreView}
 use Rattle.dr_core.specs.Calls.Shows.{Shows}
 

@@ -1,15 +1,14 @@
 -- Which states of the machine a core shows. It has forgotten what lies further back than its slots.
-use Rattle.std.specs.Prelude.{◌≡◌, ℕ, ◌+◌, ◌^◌, ◌<◌, ◌≤◌, Bool, true, false, Option, None, Some, Result, Ok, Err, List, [], ◌∷◌, map, take, slice_index}
-use Rattle.dr_core.specs.declared.command.Command.{Command}
-use Rattle.dr_core.specs.declared.refusal.Refusal.{Refusal}
-use Rattle.dr_core.specs.declared.command.Reply.{Reply}
-use Rattle.dr_core.specs.declared.command.Reply.TheVariants.{Claimed, Batch, Drained, Gating, Idle, Refused}
-use Rattle.dr_core.specs.declared.command.Claimed.{Claimed as Stretch}
-use Rattle.dr_core.specs.declared.command.Polled.{Polled}
-use Rattle.dr_core.specs.declared.command.Polled.TheVariants as answer
+use Rattle.std.specs.Prelude.{◌≡◌, ℕ, ◌+◌, ◌^◌, ◌<◌, ◌≤◌, Bool, true, false, Option, None, Some, Result, Ok, List, [], ◌∷◌, map, take, slice_index}
+use Rattle.dr_meaning.specs.declared.command.Command.{Command}
+use Rattle.dr_meaning.specs.declared.refusal.Refusal.{Refusal}
+use Rattle.dr_meaning.specs.declared.command.Reply.{Reply}
+use Rattle.dr_meaning.specs.declared.command.Reply.TheVariants.{Claimed, Batch}
+use Rattle.dr_meaning.specs.declared.command.Polled.{Polled}
+use Rattle.dr_meaning.specs.declared.command.Polled.TheVariants as answer
 use Rattle.dr_graph.specs.Meaning.Graph.{least_of}
 use Rattle.dr_graph.specs.Meaning.Name.{Name}
-use Rattle.dr_core.specs.Meaning.Machine.{Setup, State, handlers, opening, step, next, front}
+use Rattle.dr_meaning.specs.Meaning.Machine.{Setup, State, handlers, opening, step, next, front}
 use Rattle.dr_core.specs.Calls.CoreView.{Known, Nothing, ClaimedBy, WrittenBy, PublishedWith, CoreView, known_at, opened, retired_in}
 
 -- what is known of a claimed sequence agrees with its owner, its publication mark and what is written to it
@@ -63,28 +62,6 @@ pub record IsStep {E : Type 0} (old : CoreView E) (command : Command E) (reply :
   pub replies : (m : State E) → Shows old m → (step old.setup m command).reply ≡ reply
   pub hands_out : (m : State E) → Shows old m → (step old.setup m command).values ≡ values
   pub shown : (m : State E) → Shows old m → Shows new (step old.setup m command).state
-
--- the machine's words for what the calls return
-
-abbrev pub claim_reply : Result Stretch Refusal → Reply
-claim_reply (Ok c) = Claimed c.lo c.hi
-claim_reply (Err r) = Refused r
-
-abbrev pub unit_reply : Reply → Result (Unit {0}) Refusal → Reply
-unit_reply reply (Ok done) = reply
-unit_reply reply (Err r) = Refused r
-
-abbrev pub poll_reply : Result Polled Refusal → Reply
-poll_reply (Ok (answer.Batch first count end)) = Batch first count end
-poll_reply (Ok answer.Drained) = Drained
-poll_reply (Ok answer.Gating) = Gating
-poll_reply (Ok answer.Idle) = Idle
-poll_reply (Err r) = Refused r
-
--- the events of a batch, at the front of the buffer
-abbrev pub polled : {E : Type 0} → Result Polled Refusal → List E → List E
-polled (Ok (answer.Batch first count end)) out = take count out
-polled other out = []
 
 -- what the barrier of a handler with these upstreams lets through
 abbrev pub offered_to : {E : Type 0} → CoreView E → List ℕ → ℕ

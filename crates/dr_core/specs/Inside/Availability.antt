@@ -2,12 +2,12 @@
 use Rattle.std.specs.Prelude.{◌≡◌, ◌⊎◌, ◌<◌, ℕ, ◌+◌, ◌%◌, Bool, true, false, ◌==◌, ◌||◌, nat_lt, nat_le, if◌then◌else◌, Option, Some, None, List, length, slice_index, slice_set}
 use Rattle.dr_seq.specs.Rounds.{entry_of, is_marked, IsFront}
 use Rattle.dr_seq.specs.Slots.{event_at}
-use Rattle.dr_core.specs.declared.mode.Mode.{Mode}
-use Rattle.dr_core.specs.declared.mode.Mode.TheVariants.{Single, Multi}
-use Rattle.dr_core.specs.declared.refusal.Refusal.{Refusal}
-use Rattle.dr_core.specs.declared.refusal.Refusal.TheVariants.{Halted, Exhausted, NoRoom, NotClaimed, AlreadyPublished, NotWritten}
+use Rattle.dr_meaning.specs.declared.mode.Mode.{Mode}
+use Rattle.dr_meaning.specs.declared.mode.Mode.TheVariants.{Single, Multi}
+use Rattle.dr_meaning.specs.declared.refusal.Refusal.{Refusal}
+use Rattle.dr_meaning.specs.declared.refusal.Refusal.TheVariants.{Halted, Exhausted, NoRoom, NotClaimed, AlreadyPublished, NotWritten}
 use Rattle.dr_core.specs.Calls.CoreView.{CoreView, gate_of, Known, Nothing, ClaimedBy, WrittenBy, PublishedWith}
-use Rattle.dr_core.specs.Calls.Stamped.{stamped}
+use Rattle.dr_seq.specs.Stamped.{stamped}
 
 -- what is kept by slot, and the front
 pub record KeptBySlot (E : Type 0) : Type 0 where

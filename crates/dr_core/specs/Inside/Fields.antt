@@ -1,15 +1,15 @@
 -- What a core's fields keep.
-use Rattle.std.specs.Prelude.{◌≡◌, ℕ, ◌+◌, ◌^◌, ◌<◌, ◌≤◌, Bool, true, false, ◌&&◌, ◌==◌, if◌then◌else◌, List, length, Contains, slice_index}
+use Rattle.std.specs.Prelude.{◌≡◌, ℕ, ◌+◌, ◌<◌, ◌≤◌, Bool, true, false, ◌&&◌, ◌==◌, if◌then◌else◌, List, length, Contains, slice_index}
 use Rattle.dr_seq.specs.Rounds.{is_marked}
-use Rattle.dr_seq.specs.Size.{IsSize}
 use Rattle.dr_core.specs.declared.engine.Core.TheInside.{Inside}
-use Rattle.dr_graph.specs.Meaning.Graph.{flagged, upstreams_of, finals_without, IsGraph}
-use Rattle.dr_core.specs.declared.command.Polled.{Polled}
-use Rattle.dr_core.specs.declared.command.Polled.TheVariants.{Batch, Drained, Gating, Idle}
-use Rattle.dr_core.specs.Meaning.Machine.{Setup, handlers, is_single, setup_of}
+use Rattle.dr_graph.specs.Meaning.Graph.{flagged, finals_without}
+use Rattle.dr_meaning.specs.declared.command.Polled.{Polled}
+use Rattle.dr_meaning.specs.declared.command.Polled.TheVariants.{Batch, Drained, Gating, Idle}
+use Rattle.dr_meaning.specs.Meaning.Machine.{Setup, handlers, is_single, setup_of}
 use Rattle.dr_core.specs.Calls.CoreView.{CoreView, AreGating, retired_in, recent_of}
-use Rattle.dr_core.specs.Meaning.Runs.{IsReached}
+use Rattle.dr_core.specs.Calls.Reached.{IsReached}
 use Rattle.dr_core.specs.Inside.Availability.{KeptBySlot, slot_known, HasOwners, is_ahead}
+use Rattle.dr_meaning.specs.Meaning.Counts.{IsSetup, AreInOrder, AreInBounds}
 
 abbrev pub kept_of : {E : Type 0} → Inside E → KeptBySlot E
 kept_of a = record { mode = a.mode; front = a.front; filled = a.filled; published = a.published; written = a.written; owners = a.owners.items; events = a.events; blank = a.blank }
@@ -26,26 +26,6 @@ view_of a = record {
   retired = a.retired.items;
   recent = recent_of (slot_known (kept_of a)) a.next a.size;
 }
-
--- every core's setup: a graph, a size, and a limit that lets no sum of counts wrap
-pub record IsSetup (c : Setup) : Type 0 where
-  pub graph : IsGraph c.upstreams
-  pub size : IsSize c.size
-  pub limit : c.limit ≤ 2 ^ 62
-
--- the counts of handlers: each took no more than lies before the front and than each of its upstreams completed, and completed no more than it took
-pub record AreInOrder (c : Setup) (upto : ℕ) (taken completed : List ℕ) : Type 0 where
-  pub taken_len : length taken ≡ handlers c
-  pub completed_len : length completed ≡ handlers c
-  pub in_front : (h : ℕ) → slice_index taken h ≤ upto
-  pub took : (h : ℕ) → slice_index completed h ≤ slice_index taken h
-  pub after : (h u : ℕ) → Contains (upstreams_of c.upstreams h) u → slice_index taken h ≤ slice_index completed u
-
--- the claims: they are within the limit, and at most a round beyond what each handler that is left completed; one is left
-pub record AreInBounds (c : Setup) (claims : ℕ) (completed : List ℕ) (gone : ℕ → Bool) : Type 0 where
-  pub claimed : claims ≤ c.limit
-  pub room : (h : ℕ) → h < handlers c → gone h ≡ false → claims ≤ c.size + slice_index completed h
-  pub left : (h : ℕ) × (h < handlers c) × (gone h ≡ false)
 
 -- what holds of every core, however it keeps the recent sequences; since it is reached, its counts are those of a state of the machine
 pub record IsWhole {E : Type 0} (v : CoreView E) : Type 0 where

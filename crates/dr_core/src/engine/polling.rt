@@ -5,17 +5,17 @@ ghost use Rattle.std.specs.List.{range_with_len};
 ghost use Rattle.dr_seq.specs.Slots.{event_at};
 ghost use Rattle.dr_graph.specs.Meaning.Graph.{upstreams_of};
 ghost use Rattle.dr_core.specs.Calls.CoreView.{retired_in};
-ghost use Rattle.dr_core.specs.Meaning.Machine.{State, available as available_of, handlers, is_single, step};
-ghost use Rattle.dr_core.specs.Meaning.Runs.{count_in};
+ghost use Rattle.dr_meaning.specs.Meaning.Machine.{State, available as available_of, handlers, is_single, step};
+ghost use Rattle.dr_meaning.specs.Meaning.Runs.{count_in};
 ghost use Rattle.dr_core.specs.Inside.Fields.{IsNothing};
-ghost use Rattle.dr_core.specs.Calls.Handling.{TakesTurn};
-ghost use Rattle.dr_core.specs.Calls.Shows.{Shows, IsStep, TakesIfBatch, CanComplete, offered_to, unit_reply, poll_reply, polled};
+ghost use Rattle.dr_core.specs.Calls.Turning.{TakesTurn};
+ghost use Rattle.dr_core.specs.Calls.Shows.{Shows, IsStep, TakesIfBatch, CanComplete, offered_to};
+ghost use Rattle.dr_meaning.specs.Calls.Replies.{unit_reply, poll_reply, polled};
 
-use crate::command::{Command, Polled, Reply};
 use crate::engine::Core;
-use crate::handler::{InPlaceHandler, show_stretch};
 use crate::least::least_count;
-use crate::refusal::Refusal;
+use crate::turning::show_stretch;
+use dr_meaning::{Command, InPlaceHandler, Polled, Refusal, Reply};
 use dr_seq::Slots;
 
 impl<E: Copy> Core<E> {

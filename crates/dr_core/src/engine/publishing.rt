@@ -3,13 +3,13 @@
 ghost use Rattle.std.specs.Prelude.{◌≡◌, ℕ, ◌+◌, ◌^◌, ◌<◌, ◌≤◌, ◌≢◌, nat_le, false, [], None, Some, MatchOption, OnErr};
 ghost use Rattle.dr_core.specs.Inside.Availability.{claim_fault as claim_fault_of, publish_fault as publish_fault_of};
 ghost use Rattle.dr_core.specs.Calls.CoreView.{known_at, gate_of};
-ghost use Rattle.dr_core.specs.Calls.Shows.{IsStep, claim_reply, unit_reply};
+ghost use Rattle.dr_core.specs.Calls.Shows.{IsStep};
+ghost use Rattle.dr_meaning.specs.Calls.Replies.{claim_reply, unit_reply};
 
 use crate::availability::{is_ahead, is_next_written, is_written, note, own, owner_of, show};
-use crate::command::{Claimed, Command, Reply};
 use crate::engine::Core;
 use crate::least::least_flagged;
-use crate::refusal::Refusal;
+use dr_meaning::{Claimed, Command, Refusal, Reply};
 
 impl<E: Copy> Core<E> {
     /// Whether a claim up to `wanted` has room, after a scan of the gating handlers. What it finds

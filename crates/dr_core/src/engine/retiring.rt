@@ -3,12 +3,12 @@
 ghost use Rattle.std.specs.Prelude.{◌≡◌, ◌≤◌, ◌==◌, ◌||◌, not, [], length, OnErr};
 ghost use Rattle.dr_graph.specs.Meaning.Graph.{flagged, is_some_left};
 ghost use Rattle.dr_core.specs.Calls.CoreView.{AreGating, gate_of};
-ghost use Rattle.dr_core.specs.Calls.Shows.{IsStep, unit_reply};
+ghost use Rattle.dr_core.specs.Calls.Shows.{IsStep};
+ghost use Rattle.dr_meaning.specs.Calls.Replies.{unit_reply};
 
-use crate::command::{Command, Reply};
 use crate::engine::Core;
-use crate::refusal::Refusal;
 use dr_graph::Graph;
+use dr_meaning::{Command, Refusal, Reply};
 
 impl<E: Copy> Core<E> {
     /// A handler takes no more events, and claims no longer wait for it. All its followers are

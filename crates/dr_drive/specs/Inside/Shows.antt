@@ -3,8 +3,8 @@ use Rattle.std.specs.Prelude.{◌≡◌, ℕ, false, true, if◌then◌else◌, 
 use Rattle.std.specs.List.{list_all}
 use Rattle.std.specs.Str.{is_utf8}
 use Rattle.dr_seq.specs.declared.event.Event.{Event}
-use Rattle.dr_core.specs.Meaning.Machine.{Setup, State, opening, setup_of}
-use Rattle.dr_core.specs.Calls.OpenFault.{has_bad_producers, is_bad_limit}
+use Rattle.dr_meaning.specs.Meaning.Machine.{Setup, State, opening, setup_of}
+use Rattle.dr_meaning.specs.Calls.OpenFault.{has_bad_producers, is_bad_limit}
 use Rattle.dr_core.specs.Calls.Shows.{Shows}
 use Rattle.dr_graph.specs.Meaning.Graph.{GraphView}
 use Rattle.dr_graph.specs.Meaning.Name.{Name, is_good_name}

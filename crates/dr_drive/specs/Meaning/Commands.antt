@@ -1,8 +1,8 @@
 -- The commands of a file, one a record.
 use Rattle.std.specs.Prelude.{ℕ, ◌+◌, min, if◌then◌else◌, List, [], ◌∷◌, Option, Some, None, bytes_eq, codes}
 use Rattle.dr_seq.specs.declared.event.Event.{Event}
-use Rattle.dr_core.specs.declared.command.Command.{Command}
-use Rattle.dr_core.specs.declared.command.Command.TheVariants.{Claim, Write, Publish, Poll, Complete, Halt, Retire}
+use Rattle.dr_meaning.specs.declared.command.Command.{Command}
+use Rattle.dr_meaning.specs.declared.command.Command.TheVariants.{Claim, Write, Publish, Poll, Complete, Halt, Retire}
 use Rattle.dr_records.specs.Records.{Field, Record, ◌>>=◌, field, is_record, number_at}
 
 -- the number of a handler by its name. A name that is no handler's has the number of handlers, which no handler has.

@@ -1,8 +1,8 @@
 -- The drive text: what a file says, line by line, and how it ends.
 use Rattle.std.specs.Prelude.{ℕ, ◌+◌, List, [], ◌∷◌, ◌++◌, Option, Some, None, option_to_list, Result, Ok, Err}
 use Rattle.dr_seq.specs.declared.event.Event.{Event}
-use Rattle.dr_core.specs.declared.command.Command.{Command}
-use Rattle.dr_core.specs.Meaning.Machine.{Setup, State, Outcome, opening, step}
+use Rattle.dr_meaning.specs.declared.command.Command.{Command}
+use Rattle.dr_meaning.specs.Meaning.Machine.{Setup, State, Outcome, opening, step}
 use Rattle.dr_files.specs.declared.fault.Cause.{Cause}
 use Rattle.dr_files.specs.declared.fault.Cause.TheVariants.{BadRecord}
 use Rattle.dr_records.specs.Records.{Field, Record, records_of}

@@ -1,10 +1,10 @@
 -- The setup of a file: its records up to `start`, and the exchange that they open.
 use Rattle.std.specs.Prelude.{ℕ, ◌^◌, Bool, not, ◌==◌, ◌&&◌, if◌then◌else◌, List, [], ◌∷◌, ◌++◌, length, drop, Option, Some, None, Result, Ok, Err, bytes_eq, codes, option_map}
 use Rattle.std.specs.List.{list_any, range_with_len}
-use Rattle.dr_core.specs.Meaning.Machine.{Setup, setup_of}
-use Rattle.dr_core.specs.Calls.OpenFault.{has_bad_producers, is_bad_limit}
-use Rattle.dr_core.specs.declared.mode.Mode.{Mode}
-use Rattle.dr_core.specs.declared.mode.Mode.TheVariants.{Single, Multi}
+use Rattle.dr_meaning.specs.Meaning.Machine.{Setup, setup_of}
+use Rattle.dr_meaning.specs.Calls.OpenFault.{has_bad_producers, is_bad_limit}
+use Rattle.dr_meaning.specs.declared.mode.Mode.{Mode}
+use Rattle.dr_meaning.specs.declared.mode.Mode.TheVariants.{Single, Multi}
 use Rattle.dr_graph.specs.Meaning.Declaration.{Declaration, connected, declaring_fault, followed_by, following_fault, grouping_fault, stranger_fault}
 use Rattle.dr_graph.specs.Meaning.Graph.{GraphView}
 use Rattle.dr_graph.specs.Meaning.Name.{Name, new_names}

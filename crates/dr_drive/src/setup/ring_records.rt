@@ -6,8 +6,8 @@ ghost use Rattle.dr_drive.specs.Meaning.Setup.{is_size, limit_of as limit_in, mo
 ghost use Rattle.dr_drive.specs.Inside.Shows.{IsRing};
 
 use csv::ByteRecord;
-use dr_core::{MAX_LIMIT, Mode, is_valid_limit};
 use dr_files::Cause;
+use dr_meaning::{MAX_LIMIT, Mode, is_valid_limit};
 use dr_records::{count_of, field, is_named, number_at};
 use dr_seq::Size;
 

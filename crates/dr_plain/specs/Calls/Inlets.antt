@@ -1,9 +1,9 @@
 -- What each call of the sender tells as that of an exchange's end, for who does not know which exchange it is.
 use Rattle.std.specs.Prelude.{◌≡◌, ◌≢◌, ℕ, ◌+◌, ◌%◌, List, [], ◌∷◌, length, take, slice_set, Option, Some}
-use Rattle.dr_core.specs.declared.ends.Trouble.TheVariants.{Memory}
-use Rattle.dr_core.specs.declared.ends.Wrote.{Wrote}
-use Rattle.dr_core.specs.Calls.Calling.{InletCall, TriesClaim, WritesOne, WritesMany, PublishesStretch}
-use Rattle.dr_core.specs.Calls.Ends.{IsEndsAnswer, WriteAllAnswers, WritesAll}
+use Rattle.dr_meaning.specs.declared.ends.Trouble.TheVariants.{Memory}
+use Rattle.dr_meaning.specs.declared.ends.Wrote.{Wrote}
+use Rattle.dr_meaning.specs.Calls.Calling.{InletCall, TriesClaim, WritesOne, WritesMany, PublishesStretch}
+use Rattle.dr_meaning.specs.Calls.Ends.{IsEndsAnswer, WriteAllAnswers, WritesAll}
 use Rattle.dr_plain.specs.Calls.Ends.{SenderEnd, sent_of}
 use Rattle.dr_plain.specs.Calls.Sending.{Call, ClaimCall, WriteCall, PublishCall}
 

@@ -1,6 +1,6 @@
 -- How the ends of a new ring begin.
 use Rattle.std.specs.Prelude.{◌≡◌, ℕ, if◌then◌else◌, List, [], map, Some}
-use Rattle.dr_core.specs.Calls.OpenFault.{is_bad_limit}
+use Rattle.dr_meaning.specs.Calls.OpenFault.{is_bad_limit}
 use Rattle.atomic_table.specs.Seated.{TableId}
 use Rattle.dr_plain.specs.declared.record.ReceiverRecord.{ReceiverRecord}
 use Rattle.dr_runs.specs.declared.fault.RingFault.{RingFault}

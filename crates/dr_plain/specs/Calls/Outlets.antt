@@ -1,9 +1,9 @@
 -- What each call of a receiver tells, for who does not know which exchange it is of.
 use Rattle.std.specs.Prelude.{List, length, Result}
-use Rattle.dr_core.specs.declared.refusal.Refusal.{Refusal}
-use Rattle.dr_core.specs.declared.command.Polled.{Polled}
-use Rattle.dr_core.specs.Calls.Calling.{OutletCall, PollsInto, CompletesBelow}
-use Rattle.dr_core.specs.Calls.Ends.{IsEndsAnswer, FillsFront, Takes, as_end}
+use Rattle.dr_meaning.specs.declared.refusal.Refusal.{Refusal}
+use Rattle.dr_meaning.specs.declared.command.Polled.{Polled}
+use Rattle.dr_meaning.specs.Calls.Calling.{OutletCall, PollsInto, CompletesBelow}
+use Rattle.dr_meaning.specs.Calls.Ends.{IsEndsAnswer, FillsFront, Takes, as_end}
 use Rattle.dr_plain.specs.Calls.Ends.{ReceiverEnd, received_of}
 use Rattle.dr_plain.specs.Calls.Receiving.{PollCall, CompleteCall}
 

@@ -2,11 +2,11 @@
 use Rattle.std.specs.Prelude.{◌≡◌, ℕ, ◌+◌, ◌%◌, ◌^◌, ◌<◌, ◌≤◌, ◌⊎◌, List, [], ◌∷◌, ◌++◌, length, drop, slice_index, slice_index_or}
 use Rattle.std.specs.Prelude.{slice_set, Option, None, Some, Result, Ok, Err}
 use Rattle.dr_seq.specs.Size.{IsSize}
-use Rattle.dr_core.specs.declared.refusal.Refusal.{Refusal}
-use Rattle.dr_core.specs.declared.refusal.Refusal.TheVariants.{NoRoom, Halted, BadCount, Exhausted, OpenClaim}
-use Rattle.dr_core.specs.declared.command.Claimed.{Claimed}
-use Rattle.dr_core.specs.Meaning.Refusals.{claim_causes}
-use Rattle.dr_core.specs.Calls.Ends.{IsAnswerOf, GivesStretch, WriteAnswers, PublishAnswers, Claims, Writes, Publishes, as_end}
+use Rattle.dr_meaning.specs.declared.refusal.Refusal.{Refusal}
+use Rattle.dr_meaning.specs.declared.refusal.Refusal.TheVariants.{NoRoom, Halted, BadCount, Exhausted, OpenClaim}
+use Rattle.dr_meaning.specs.declared.command.Claimed.{Claimed}
+use Rattle.dr_meaning.specs.Meaning.Refusals.{claim_causes}
+use Rattle.dr_meaning.specs.Calls.Ends.{IsAnswerOf, GivesStretch, WriteAnswers, PublishAnswers, Claims, Writes, Publishes, as_end}
 use Rattle.dr_graph.specs.Meaning.Graph.{finals}
 use Rattle.dr_runs.specs.Words.{halt_word}
 use Rattle.dr_runs.specs.declared.look.Look.{Look}

@@ -2,8 +2,8 @@
 use Rattle.std.specs.Prelude.{◌≡◌, ℕ, List, length, map, slice_index_or}
 use mathlib.Core.Option.{some}
 use lib.ListN.{get_elem?}
-use Rattle.dr_core.specs.Meaning.Transcript.{Transcript, LeadsTo}
-use Rattle.dr_core.specs.Meaning.Laws.{Laws}
+use Rattle.dr_meaning.specs.Meaning.Transcript.{Transcript, LeadsTo}
+use Rattle.dr_meaning.specs.Meaning.Laws.{Laws}
 use Rattle.dr_runs.specs.Gathering.{HasPart}
 use Rattle.dr_plain.specs.Meaning.Shape.{handlers_of, ring_setup}
 use Rattle.dr_plain.specs.Meaning.Stores.{stores_of_sender, stores_of_receiver, stores_of_halter}

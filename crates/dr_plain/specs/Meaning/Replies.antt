@@ -3,19 +3,19 @@ use Rattle.std.specs.Prelude.{◌≡◌, ℕ, ◌+◌, ◌≤◌, false, List, [
 use Rattle.std.specs.Prelude.{slice_index_or, Option, Some, None, Result, Contains}
 use mathlib.Core.Option.{some}
 use lib.ListN.{get_elem?}
-use Rattle.dr_core.specs.declared.refusal.Refusal.{Refusal}
-use Rattle.dr_core.specs.declared.command.Claimed.{Claimed}
-use Rattle.dr_core.specs.declared.command.Command.{Command}
-use Rattle.dr_core.specs.declared.command.Command.TheVariants.{Claim, Write, Publish, Poll, Complete}
-use Rattle.dr_core.specs.declared.command.Reply.{Reply}
-use Rattle.dr_core.specs.declared.command.Reply.TheVariants.{Written, Published, Completed}
-use Rattle.dr_core.specs.declared.command.Polled.{Polled}
-use Rattle.dr_core.specs.Meaning.Refusals.{ClaimTests, PollTests, CompleteTests, claim_causes, poll_causes, complete_causes}
-use Rattle.dr_core.specs.Meaning.Machine as machine
-use Rattle.dr_core.specs.Meaning.Machine.{State, available}
-use Rattle.dr_core.specs.Meaning.Transcript.{Transcript}
-use Rattle.dr_core.specs.Calls.Shows.{claim_reply, unit_reply, poll_reply}
-use Rattle.dr_core.specs.Calls.Ends.{Verdict, Exactly, Sent, Received, IsAnswerOf, WriteAnswers, PublishAnswers, poll_tests, complete_tests, as_end}
+use Rattle.dr_meaning.specs.declared.refusal.Refusal.{Refusal}
+use Rattle.dr_meaning.specs.declared.command.Claimed.{Claimed}
+use Rattle.dr_meaning.specs.declared.command.Command.{Command}
+use Rattle.dr_meaning.specs.declared.command.Command.TheVariants.{Claim, Write, Publish, Poll, Complete}
+use Rattle.dr_meaning.specs.declared.command.Reply.{Reply}
+use Rattle.dr_meaning.specs.declared.command.Reply.TheVariants.{Written, Published, Completed}
+use Rattle.dr_meaning.specs.declared.command.Polled.{Polled}
+use Rattle.dr_meaning.specs.Meaning.Refusals.{ClaimTests, PollTests, CompleteTests, claim_causes, poll_causes, complete_causes}
+use Rattle.dr_meaning.specs.Meaning.Machine as machine
+use Rattle.dr_meaning.specs.Meaning.Machine.{State, available}
+use Rattle.dr_meaning.specs.Meaning.Transcript.{Transcript}
+use Rattle.dr_meaning.specs.Calls.Replies.{claim_reply, unit_reply, poll_reply}
+use Rattle.dr_meaning.specs.Calls.Ends.{Verdict, Exactly, Sent, Received, IsAnswerOf, WriteAnswers, PublishAnswers, poll_tests, complete_tests, as_end}
 use Rattle.dr_graph.specs.Meaning.Graph.{upstreams_of}
 use Rattle.dr_plain.specs.Meaning.Shape.{Shape, ring_setup}
 use Rattle.dr_runs.specs.Words.{cursor_word, count_word}

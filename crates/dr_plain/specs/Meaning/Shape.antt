@@ -1,8 +1,8 @@
 -- What a ring is made for.
 use Rattle.std.specs.Prelude.{ℕ, List, length}
 use denote.RawPtr.{Ptr}
-use Rattle.dr_core.specs.declared.mode.Mode.TheVariants.{Single}
-use Rattle.dr_core.specs.Meaning.Machine.{Setup}
+use Rattle.dr_meaning.specs.declared.mode.Mode.TheVariants.{Single}
+use Rattle.dr_meaning.specs.Meaning.Machine.{Setup}
 
 -- each handler's direct upstreams, the number of slots, the limit of sequences, and where the cells lie
 pub record Shape : Type 0 where

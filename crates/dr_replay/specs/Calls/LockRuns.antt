@@ -1,11 +1,11 @@
 -- What a replay behind a lock came of.
 use Rattle.std.specs.Prelude.{◌≡◌, ℕ, ◌+◌, ◌/◌, ◌<◌, max, List, [], ◌∷◌, length, Option, None, Result, Ok, Err, slice_index_or}
 use Rattle.dr_seq.specs.declared.event.Event.{Event}
-use Rattle.dr_shared.specs.Calls.Lock.{EndView, no_calls}
-use Rattle.dr_shared.specs.Meaning.FirstFault.{first_fault}
-use Rattle.dr_shared.specs.Meaning.History.{History}
-use Rattle.dr_shared.specs.declared.ended.Ended.{Ended}
-use Rattle.dr_shared.specs.declared.fault.WorkFault.{WorkFault}
+use Rattle.dr_lock.specs.Calls.Lock.{EndView, no_calls}
+use Rattle.dr_workers.specs.Meaning.FirstFault.{first_fault}
+use Rattle.dr_lock.specs.Meaning.History.{History}
+use Rattle.dr_workers.specs.declared.ended.Ended.{Ended}
+use Rattle.dr_workers.specs.declared.fault.WorkFault.{WorkFault}
 use Rattle.dr_replay.specs.Inside.LockWorkers.{HasHandled, HasSent}
 use Rattle.dr_replay.specs.Meaning.Exchange.{GoesOnBy, halted_once, lock_setup}
 use Rattle.dr_replay.specs.Meaning.Scripts.{producers_in, script_in, scripts_in}

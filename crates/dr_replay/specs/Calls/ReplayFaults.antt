@@ -1,7 +1,7 @@
 -- How a replay ends early: the line of each fault, without its end, and the status.
 use Rattle.std.specs.Prelude.{ℕ, List, ◌++◌, codes, decimal}
-use Rattle.dr_shared.specs.Calls.Fault.{name_of}
-use Rattle.dr_shared.specs.declared.audit_fault.AuditFault.TheVariants as audit
+use Rattle.dr_workers.specs.Calls.Fault.{name_of}
+use Rattle.dr_lock.specs.declared.audit_fault.AuditFault.TheVariants as audit
 use Rattle.dr_files.specs.Faults.{fault_line, fault_status}
 use Rattle.dr_replay.specs.declared.fault.ReplayFault.{ReplayFault}
 use Rattle.dr_replay.specs.declared.fault.ReplayFault.TheVariants as fault

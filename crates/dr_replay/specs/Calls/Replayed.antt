@@ -2,9 +2,9 @@
 use Rattle.std.specs.Prelude.{◌≡◌, ℕ, Result, Ok, Err, List, [], ◌∷◌, Option, None, Some, Vec}
 use Rattle.std.specs.Io.KnownBytes.{Appends, Keeps}
 use Rattle.dr_seq.specs.declared.event.Event.{Event}
-use Rattle.dr_core.specs.Meaning.Machine.{handlers}
-use Rattle.dr_shared.specs.Meaning.Audit.{IsAudited}
-use Rattle.dr_shared.specs.Meaning.History.{History, transcript}
+use Rattle.dr_meaning.specs.Meaning.Machine.{handlers}
+use Rattle.dr_lock.specs.Meaning.Audit.{IsAudited}
+use Rattle.dr_lock.specs.Meaning.History.{History, transcript}
 use Rattle.dr_accounts.specs.Report.{report_of}
 use Rattle.dr_files.specs.Lines.{joined}
 use Rattle.dr_files.specs.Outcome.{AppendsFront, FaultCounts, FaultKeeps, FaultWrites, Said}

@@ -1,23 +1,23 @@
 -- What the workers of a replay give back, and what they promise.
 use Rattle.std.specs.Prelude.{◌≡◌, ◌≢◌, ◌⊎◌, ℕ, ◌+◌, ◌/◌, ◌<◌, max, ◌++◌, true, List, [], ◌∷◌, length, map, take, Option, None, Some, All, IfOk, string_bytes}
 use Rattle.dr_seq.specs.declared.event.Event.{Event}
-use Rattle.dr_core.specs.declared.refusal.Refusal.{Refusal}
-use Rattle.dr_core.specs.Calls.Calling.{SomeCalls}
+use Rattle.dr_meaning.specs.declared.refusal.Refusal.{Refusal}
+use Rattle.dr_meaning.specs.Calls.Calling.{SomeCalls}
 use Rattle.dr_ring.specs.Calls.Ends.{SenderEnd, ReceiverEnd, sender_place}
 use Rattle.dr_ring.specs.Calls.Sending.{ClosesOnceDone}
 use Rattle.dr_ring.specs.Calls.Telling.{sender_does}
-use Rattle.dr_shared.specs.Calls.Serving.{Sends}
-use Rattle.dr_shared.specs.declared.producer.Produced.{Produced}
-use Rattle.dr_shared.specs.declared.fault.WorkFault.{WorkFault}
-use Rattle.dr_shared.specs.declared.fault.WorkFault.TheVariants as work
-use Rattle.dr_shared.specs.declared.ended.Ended.{Ended}
-use Rattle.dr_shared.specs.declared.ended.WorkerFault.{WorkerFault}
-use Rattle.dr_shared.specs.Meaning.FirstFault.{first_fault}
-use Rattle.dr_shared.specs.declared.audit_fault.AuditFault.{AuditFault}
-use Rattle.dr_shared.specs.declared.audit_fault.AuditFault.TheVariants as audit
-use Rattle.dr_shared.specs.Meaning.Audit.{Faults}
-use Rattle.dr_shared.specs.Meaning.History.{History, transcript}
-use Rattle.dr_core.specs.Meaning.Machine.{handlers}
+use Rattle.dr_workers.specs.Calls.Serving.{Sends}
+use Rattle.dr_workers.specs.declared.producer.Produced.{Produced}
+use Rattle.dr_workers.specs.declared.fault.WorkFault.{WorkFault}
+use Rattle.dr_workers.specs.declared.fault.WorkFault.TheVariants as work
+use Rattle.dr_workers.specs.declared.ended.Ended.{Ended}
+use Rattle.dr_workers.specs.declared.ended.WorkerFault.{WorkerFault}
+use Rattle.dr_workers.specs.Meaning.FirstFault.{first_fault}
+use Rattle.dr_lock.specs.declared.audit_fault.AuditFault.{AuditFault}
+use Rattle.dr_lock.specs.declared.audit_fault.AuditFault.TheVariants as audit
+use Rattle.dr_lock.specs.Meaning.Audit.{Faults}
+use Rattle.dr_lock.specs.Meaning.History.{History, transcript}
+use Rattle.dr_meaning.specs.Meaning.Machine.{handlers}
 use Rattle.dr_files.specs.declared.fault.FileFault.{FileFault}
 use Rattle.dr_files.specs.declared.fault.FileFault.TheVariants as file
 use Rattle.dr_replay.specs.Meaning.Exchange.{IsOfReplay}

@@ -1,14 +1,14 @@
 -- What the workers of a replay behind a lock promise, and what comes of its exchange.
 use Rattle.std.specs.Prelude.{◌≡◌, ℕ, ◌+◌, ◌<◌, ◌/◌, max, List, [], ◌∷◌, length, map, Option, None, Some, Vec, slice_index_or, All}
 use Rattle.dr_seq.specs.declared.event.Event.{Event}
-use Rattle.dr_core.specs.Calls.Calling.{SomeCalls}
-use Rattle.dr_shared.specs.declared.fault.WorkFault.{WorkFault}
-use Rattle.dr_shared.specs.declared.fault.WorkFault.TheVariants.{Stopped}
-use Rattle.dr_shared.specs.declared.producer.Produced.{Produced}
-use Rattle.dr_shared.specs.Calls.Asking.{InletAsks, OutletAsks}
-use Rattle.dr_shared.specs.Calls.Lock.{EndView, no_calls}
-use Rattle.dr_shared.specs.Calls.Serving.{Sends, Serves}
-use Rattle.dr_shared.specs.Meaning.History.{History}
+use Rattle.dr_meaning.specs.Calls.Calling.{SomeCalls}
+use Rattle.dr_workers.specs.declared.fault.WorkFault.{WorkFault}
+use Rattle.dr_workers.specs.declared.fault.WorkFault.TheVariants.{Stopped}
+use Rattle.dr_workers.specs.declared.producer.Produced.{Produced}
+use Rattle.dr_lock.specs.Calls.Asking.{InletAsks, OutletAsks}
+use Rattle.dr_lock.specs.Calls.Lock.{EndView, no_calls}
+use Rattle.dr_workers.specs.Calls.Serving.{Sends, Serves}
+use Rattle.dr_lock.specs.Meaning.History.{History}
 use Rattle.dr_accounts.specs.Keeping.{AnswersFor, error_of}
 use Rattle.dr_replay.specs.Inside.Parts.{Listed, Lists}
 use Rattle.dr_replay.specs.Meaning.Exchange.{halted_once}

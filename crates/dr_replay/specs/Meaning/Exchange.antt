@@ -1,15 +1,15 @@
 -- The exchange that a replay behind a lock opens, and what it goes through.
 use Rattle.std.specs.Prelude.{◌≡◌, ◌<◌, ℕ, ◌+◌, ◌^◌, List, [], ◌∷◌, Some, length, slice_index_or, sum_by}
 use Rattle.dr_seq.specs.declared.event.Event.{Event}
-use Rattle.dr_core.specs.declared.command.Command.TheVariants.{Halt}
-use Rattle.dr_core.specs.declared.command.Reply.TheVariants.{Halting}
-use Rattle.dr_core.specs.Calls.Calling.{SomeCalls}
-use Rattle.dr_core.specs.Meaning.Machine.{Setup, setup_of}
-use Rattle.dr_core.specs.declared.mode.Mode.TheVariants.{Multi}
+use Rattle.dr_meaning.specs.declared.command.Command.TheVariants.{Halt}
+use Rattle.dr_meaning.specs.declared.command.Reply.TheVariants.{Halting}
+use Rattle.dr_meaning.specs.Calls.Calling.{SomeCalls}
+use Rattle.dr_meaning.specs.Meaning.Machine.{Setup, setup_of}
+use Rattle.dr_meaning.specs.declared.mode.Mode.TheVariants.{Multi}
 use Rattle.dr_accounts.specs.Passing.{replay_graph}
-use Rattle.dr_shared.specs.Calls.Asking.{InletAsks, OutletAsks}
-use Rattle.dr_shared.specs.Calls.Lock.{EndView, after_call, no_calls}
-use Rattle.dr_shared.specs.Meaning.History.{GoesOn, History, IsRecorded, entries_since, halts_in}
+use Rattle.dr_lock.specs.Calls.Asking.{InletAsks, OutletAsks}
+use Rattle.dr_lock.specs.Calls.Lock.{EndView, after_call, no_calls}
+use Rattle.dr_lock.specs.Meaning.History.{GoesOn, History, IsRecorded, entries_since, halts_in}
 use Rattle.dr_replay.specs.Meaning.Scripts.{producers_in}
 
 -- the graph of the accounts' handlers, some producers, and as many sequences as there may be

@@ -9,7 +9,7 @@ use Rattle.dr_ring.specs.declared.record.SenderRecord.{SenderRecord}
 use Rattle.dr_ring.specs.declared.record.ReceiverRecord.{ReceiverRecord}
 use Rattle.dr_ring.specs.declared.record.HalterRecord.{HalterRecord}
 use Rattle.dr_runs.specs.Runs.{IsBeginning}
-use Rattle.dr_core.specs.Calls.Ends.{Received}
+use Rattle.dr_meaning.specs.Calls.Ends.{Received}
 use Rattle.dr_runs.specs.Words.{count_word}
 use Rattle.dr_runs.specs.Looks.{looks_at}
 

@@ -1,11 +1,11 @@
 -- What each call of a receiver answers, and what it leaves of what the receiver knows.
 use Rattle.std.specs.Prelude.{◌≡◌, ◌↔◌, ℕ, ◌+◌, ◌-◌, ◌<◌, ◌==◌, ◌&&◌, ◌||◌, IsTrue, true, false, min, List, [], ◌∷◌, ◌++◌, length, take, drop, Some, Result, Ok, Err, Contains}
 use Rattle.dr_seq.specs.declared.event.Event.{Event}
-use Rattle.dr_core.specs.declared.refusal.Refusal.{Refusal}
-use Rattle.dr_core.specs.declared.command.Polled.{Polled}
-use Rattle.dr_core.specs.declared.command.Polled.TheVariants.{Batch, Drained, Gating, Idle}
-use Rattle.dr_core.specs.Meaning.Refusals.{PollTests, CompleteTests, poll_causes, complete_causes}
-use Rattle.dr_core.specs.Calls.Ends.{Verdict, Exactly, IsAnswerOf, poll_tests, complete_tests, Completes, as_end}
+use Rattle.dr_meaning.specs.declared.refusal.Refusal.{Refusal}
+use Rattle.dr_meaning.specs.declared.command.Polled.{Polled}
+use Rattle.dr_meaning.specs.declared.command.Polled.TheVariants.{Batch, Drained, Gating, Idle}
+use Rattle.dr_meaning.specs.Meaning.Refusals.{PollTests, CompleteTests, poll_causes, complete_causes}
+use Rattle.dr_meaning.specs.Calls.Ends.{Verdict, Exactly, IsAnswerOf, poll_tests, complete_tests, Completes, as_end}
 use Rattle.dr_graph.specs.Meaning.Graph.{upstreams_of}
 use Rattle.dr_runs.specs.Words.{cursor_word, closed_word}
 use Rattle.dr_ring.specs.declared.record.ReceiverRecord.{ReceiverRecord}

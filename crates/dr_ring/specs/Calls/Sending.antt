@@ -2,13 +2,13 @@
 use Rattle.std.specs.Prelude.{◌≡◌, ◌≢◌, ℕ, ◌+◌, ◌^◌, ◌<◌, ◌≤◌, ◌⊎◌, true, List, [], ◌∷◌, ◌++◌, length, take, slice_index, Some, Result, Ok, Err}
 use Rattle.dr_seq.specs.Size.{IsSize}
 use Rattle.dr_seq.specs.declared.event.Event.{Event}
-use Rattle.dr_core.specs.declared.refusal.Refusal.{Refusal}
-use Rattle.dr_core.specs.declared.refusal.Refusal.TheVariants.{NoRoom, Halted, BadCount, Exhausted, OpenClaim}
-use Rattle.dr_core.specs.declared.command.Claimed.{Claimed}
-use Rattle.dr_core.specs.declared.ends.Trouble.TheVariants.{Memory}
-use Rattle.dr_core.specs.declared.ends.Wrote.{Wrote}
-use Rattle.dr_core.specs.Meaning.Refusals.{ClaimTests, claim_causes}
-use Rattle.dr_core.specs.Calls.Ends.{Verdict, IsAnswerOf, GivesStretch, WriteAnswers, WriteAllAnswers, PublishAnswers, Claims, Writes, WritesAll, Publishes, as_end}
+use Rattle.dr_meaning.specs.declared.refusal.Refusal.{Refusal}
+use Rattle.dr_meaning.specs.declared.refusal.Refusal.TheVariants.{NoRoom, Halted, BadCount, Exhausted, OpenClaim}
+use Rattle.dr_meaning.specs.declared.command.Claimed.{Claimed}
+use Rattle.dr_meaning.specs.declared.ends.Trouble.TheVariants.{Memory}
+use Rattle.dr_meaning.specs.declared.ends.Wrote.{Wrote}
+use Rattle.dr_meaning.specs.Meaning.Refusals.{ClaimTests, claim_causes}
+use Rattle.dr_meaning.specs.Calls.Ends.{Verdict, IsAnswerOf, GivesStretch, WriteAnswers, WriteAllAnswers, PublishAnswers, Claims, Writes, WritesAll, Publishes, as_end}
 use Rattle.dr_graph.specs.Meaning.Graph.{finals}
 use Rattle.dr_runs.specs.Words.{halt_word}
 use Rattle.dr_runs.specs.declared.look.Look.{Look}

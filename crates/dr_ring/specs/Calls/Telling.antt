@@ -1,7 +1,7 @@
 -- What each call tells of an end of a ring, for who does not know which exchange it is.
 use Rattle.dr_seq.specs.declared.event.Event.{Event}
-use Rattle.dr_core.specs.Calls.Calling.{InletCall, OutletCall, TriesClaim, WritesOne, WritesMany, PublishesStretch, PollsInto, CompletesBelow}
-use Rattle.dr_core.specs.Calls.Ends.{IsEndsAnswer}
+use Rattle.dr_meaning.specs.Calls.Calling.{InletCall, OutletCall, TriesClaim, WritesOne, WritesMany, PublishesStretch, PollsInto, CompletesBelow}
+use Rattle.dr_meaning.specs.Calls.Ends.{IsEndsAnswer}
 use Rattle.dr_ring.specs.Calls.Ends.{SenderEnd, ReceiverEnd}
 use Rattle.dr_ring.specs.Calls.Sending.{ClaimCall, WriteCall, WriteAllCall, PublishCall}
 use Rattle.dr_ring.specs.Calls.Receiving.{PollCall, CompleteCall}

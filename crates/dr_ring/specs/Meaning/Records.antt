@@ -1,7 +1,7 @@
 -- What each kind of step makes of the record of its end.
 use Rattle.std.specs.Prelude.{◌≡◌, ℕ, ◌+◌, ◌-◌, ◌<◌, ◌≤◌, ◌==◌, ◌&&◌, ◌||◌, if◌then◌else◌, Bool, true, [], ◌∷◌, ◌++◌, length, slice_index_or, replicate, Some, None, Contains}
 use Rattle.dr_seq.specs.declared.event.Event.{Event}
-use Rattle.dr_core.specs.Calls.Ends.{claimed_in, with_event, published_below}
+use Rattle.dr_meaning.specs.Calls.Ends.{claimed_in, with_event, published_below}
 use Rattle.dr_graph.specs.Meaning.Graph.{upstreams_of, finals}
 use Rattle.dr_ring.specs.Meaning.Shape.{Shape}
 use Rattle.dr_runs.specs.Words.{cursor_word, closed_word, halt_word, count_word}

@@ -7,7 +7,7 @@ ghost use Rattle.dr_plain.specs.Calls.Settling.{AreAllEnds, IsHalterOf};
 use super::{Ends, open};
 use crate::checks::{check, check_at};
 use crate::graphs::Shape;
-use dr_core::{Claimed, MAX_LIMIT};
+use dr_meaning::{Claimed, MAX_LIMIT};
 use dr_plain::{Sender, Settled, Values, finish};
 use dr_seq::Size;
 use std::alloc::Global;

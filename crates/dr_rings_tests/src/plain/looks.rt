@@ -3,7 +3,7 @@
 use super::open_words;
 use crate::checks::{check, check_at};
 use crate::graphs::Shape;
-use dr_core::{MAX_LIMIT, Polled};
+use dr_meaning::{MAX_LIMIT, Polled};
 use dr_plain::Receiver;
 use dr_seq::Event;
 use std::process::Abort;

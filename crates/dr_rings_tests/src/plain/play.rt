@@ -7,7 +7,7 @@ use crate::calls::Call::{Claim, Close, Complete, Halt, Poll, Publish, Write};
 use crate::calls::{Call, Run, claimed, done, polled};
 use crate::checks::check_at;
 use crate::rows::RUNS;
-use dr_core::{Outlet, Polled, Refusal, Reply, Trouble};
+use dr_meaning::{Outlet, Polled, Refusal, Reply, Trouble};
 use dr_plain::{Receiver, Settled, finish};
 use dr_seq::Event;
 use std::alloc::Global;

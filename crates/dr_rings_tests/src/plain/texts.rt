@@ -3,8 +3,8 @@
 use super::{Ends, open};
 use crate::checks::{check, check_at};
 use crate::graphs::Shape;
-use dr_core::Polled::{Batch, Drained};
-use dr_core::{Claimed, MAX_LIMIT, Refusal};
+use dr_meaning::Polled::{Batch, Drained};
+use dr_meaning::{Claimed, MAX_LIMIT, Refusal};
 use dr_plain::{Receiver, Sender};
 use dr_seq::Size;
 use std::alloc::Global;

@@ -1,13 +1,13 @@
-//! The workers of `dr_shared` over a ring of plain memory.
+//! The workers of `dr_workers` over a ring of plain memory.
 
 use super::open_words;
 use crate::checks::check;
 use crate::graphs::Shape;
 use crate::threads::{Receive, check_received, start};
-use dr_core::{Handler, MAX_LIMIT};
+use dr_meaning::{Handler, MAX_LIMIT};
 use dr_plain::{Receiver, Sender};
 use dr_seq::Event;
-use dr_shared::{OpenGate, Produced, consume, produce};
+use dr_workers::{OpenGate, Produced, consume, produce};
 use std::alloc::Global;
 use std::sync::Wait;
 

@@ -3,8 +3,8 @@
 use super::LIMIT;
 use crate::checks::check;
 use crate::graphs::{Shape, graph};
-use dr_core::OpenFault;
 use dr_graph::Graph;
+use dr_meaning::OpenFault;
 use dr_senders::senders_ring;
 use dr_seq::Size;
 use std::alloc::Global;

@@ -9,7 +9,7 @@ use super::{Ends, LIMIT};
 use crate::calls::{done, polled};
 use crate::checks::check_at;
 use crate::graphs::graph;
-use dr_core::{Claimed, Refusal, Reply};
+use dr_meaning::{Claimed, Refusal, Reply};
 use dr_senders::{ClaimFault, Receiver, Sender, Settled, senders_ring, settle};
 use dr_seq::{Event, Size};
 use std::alloc::Global;

@@ -1,11 +1,11 @@
 //! Worked runs: calls of senders, handlers and the halter, each with its answer.
 
 use crate::graphs::Shape;
-use dr_core::Refusal::{
+use dr_meaning::Refusal::{
     AlreadyPublished, BadCount, Exhausted, Halted, NoRoom, NotClaimed, NotTaken, NotWritten,
 };
-use dr_core::Reply;
-use dr_core::Reply::{
+use dr_meaning::Reply;
+use dr_meaning::Reply::{
     Batch, Claimed, Completed, Drained, Gating, Halting, Idle, Published, Refused, Written,
 };
 

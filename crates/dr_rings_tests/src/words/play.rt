@@ -7,7 +7,7 @@ use crate::calls::Call::{Claim, Close, Complete, Halt, Poll, Publish, Write};
 use crate::calls::{Call, Run, claimed, done, polled};
 use crate::checks::check_at;
 use crate::rows::RUNS;
-use dr_core::Reply;
+use dr_meaning::Reply;
 use dr_ring::{Settled, settle};
 use dr_seq::Event;
 use std::alloc::Global;

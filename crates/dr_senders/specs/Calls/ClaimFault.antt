@@ -1,6 +1,6 @@
 -- The numbers and names of what refuses a claim, which stay the same in every release.
 use Rattle.std.specs.Prelude.{ℕ, List, codes}
-use Rattle.dr_core.specs.Calls.Refusal as refusal
+use Rattle.dr_meaning.specs.Calls.Refusal as refusal
 use Rattle.dr_senders.specs.declared.claiming.ClaimFault.{ClaimFault}
 use Rattle.dr_senders.specs.declared.claiming.ClaimFault.TheVariants.{Refused, Contended}
 

@@ -1,10 +1,10 @@
 -- How the ends of a new ring begin.
 use Rattle.std.specs.Prelude.{◌≡◌, ℕ, if◌then◌else◌, List, [], map}
 use Rattle.atomic_table.specs.Seated.{TableId}
-use Rattle.dr_core.specs.declared.mode.Mode.TheVariants.{Multi}
-use Rattle.dr_core.specs.declared.open_fault.OpenFault.{OpenFault}
-use Rattle.dr_core.specs.declared.open_fault.OpenFault.TheVariants.{BadProducers, BadLimit, NoMemory}
-use Rattle.dr_core.specs.Calls.OpenFault.{has_bad_producers, is_bad_limit}
+use Rattle.dr_meaning.specs.declared.mode.Mode.TheVariants.{Multi}
+use Rattle.dr_meaning.specs.declared.open_fault.OpenFault.{OpenFault}
+use Rattle.dr_meaning.specs.declared.open_fault.OpenFault.TheVariants.{BadProducers, BadLimit, NoMemory}
+use Rattle.dr_meaning.specs.Calls.OpenFault.{has_bad_producers, is_bad_limit}
 use Rattle.dr_senders.specs.Meaning.Shape.{Shape, handlers_of}
 use Rattle.dr_senders.specs.Meaning.Moments.{fresh_senders, fresh_receivers}
 use Rattle.dr_senders.specs.Calls.Ends.{EndOf, SenderEnd, ReceiverEnd, HalterEnd}

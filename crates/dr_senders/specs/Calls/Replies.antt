@@ -3,18 +3,18 @@ use Rattle.std.specs.Prelude.{◌≡◌, ℕ, ◌+◌, ◌<◌, ◌≤◌, ◌-�
 use mathlib.Core.Option.{some}
 use lib.ListN.{get_elem?}
 use Rattle.dr_seq.specs.declared.event.Event.{Event}
-use Rattle.dr_core.specs.declared.refusal.Refusal.{Refusal}
-use Rattle.dr_core.specs.declared.refusal.Refusal.TheVariants.{BadCount, Halted, Exhausted, NoRoom, AlreadyPublished}
-use Rattle.dr_core.specs.declared.command.Polled.{Polled}
-use Rattle.dr_core.specs.declared.command.Command.{Command}
-use Rattle.dr_core.specs.declared.command.Command.TheVariants.{Claim, Write, Publish, Complete}
-use Rattle.dr_core.specs.declared.command.Reply.{Reply}
-use Rattle.dr_core.specs.declared.command.Reply.TheVariants.{Written, Published, Completed, Refused}
-use Rattle.dr_core.specs.Meaning.Refusals.{publish_causes, complete_causes}
-use Rattle.dr_core.specs.Meaning.Machine as machine
-use Rattle.dr_core.specs.Meaning.Machine.{available}
-use Rattle.dr_core.specs.Calls.Shows.{unit_reply}
-use Rattle.dr_core.specs.Calls.Ends.{IsAnswerOf, as_end}
+use Rattle.dr_meaning.specs.declared.refusal.Refusal.{Refusal}
+use Rattle.dr_meaning.specs.declared.refusal.Refusal.TheVariants.{BadCount, Halted, Exhausted, NoRoom, AlreadyPublished}
+use Rattle.dr_meaning.specs.declared.command.Polled.{Polled}
+use Rattle.dr_meaning.specs.declared.command.Command.{Command}
+use Rattle.dr_meaning.specs.declared.command.Command.TheVariants.{Claim, Write, Publish, Complete}
+use Rattle.dr_meaning.specs.declared.command.Reply.{Reply}
+use Rattle.dr_meaning.specs.declared.command.Reply.TheVariants.{Written, Published, Completed, Refused}
+use Rattle.dr_meaning.specs.Meaning.Refusals.{publish_causes, complete_causes}
+use Rattle.dr_meaning.specs.Meaning.Machine as machine
+use Rattle.dr_meaning.specs.Meaning.Machine.{available}
+use Rattle.dr_meaning.specs.Calls.Replies.{unit_reply}
+use Rattle.dr_meaning.specs.Calls.Ends.{IsAnswerOf, as_end}
 use Rattle.dr_graph.specs.Meaning.Graph.{finals}
 use Rattle.dr_runs.specs.Polls.{handed}
 use Rattle.dr_senders.specs.Meaning.Shape.{Shape, handlers_of, ring_setup}

@@ -1,10 +1,10 @@
 -- What a sender's claim answers, and what it leaves of what the sender knows.
 use Rattle.std.specs.Prelude.{◌≡◌, ◌≢◌, ℕ, ◌+◌, ◌-◌, ◌^◌, ◌<◌, ◌≤◌, ◌⊎◌, true, false, List, [], ◌∷◌, ◌++◌, length, slice_index, Result, Ok, Err}
 use Rattle.dr_seq.specs.Size.{IsSize}
-use Rattle.dr_core.specs.declared.refusal.Refusal.TheVariants.{NoRoom, Halted, BadCount, Exhausted}
-use Rattle.dr_core.specs.declared.command.Claimed.{Claimed}
-use Rattle.dr_core.specs.declared.ends.Trouble.{Trouble}
-use Rattle.dr_core.specs.declared.ends.Trouble.TheVariants.{Refused as IsRefused, Memory}
+use Rattle.dr_meaning.specs.declared.refusal.Refusal.TheVariants.{NoRoom, Halted, BadCount, Exhausted}
+use Rattle.dr_meaning.specs.declared.command.Claimed.{Claimed}
+use Rattle.dr_meaning.specs.declared.ends.Trouble.{Trouble}
+use Rattle.dr_meaning.specs.declared.ends.Trouble.TheVariants.{Refused as IsRefused, Memory}
 use Rattle.dr_graph.specs.Meaning.Graph.{finals}
 use Rattle.dr_runs.specs.declared.look.Look.{Look}
 use Rattle.dr_runs.specs.Looks.{look}

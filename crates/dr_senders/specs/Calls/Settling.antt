@@ -6,8 +6,8 @@ use Rattle.dr_runs.specs.declared.counts.HandlerCounts.{HandlerCounts}
 use Rattle.dr_senders.specs.declared.record.ReceiverRecord.{ReceiverRecord}
 use Rattle.dr_senders.specs.declared.record.Step.{Step}
 use Rattle.dr_seq.specs.declared.event.Event.{Event}
-use Rattle.dr_core.specs.Meaning.Transcript.{Transcript, LeadsTo}
-use Rattle.dr_core.specs.Meaning.Laws.{Laws}
+use Rattle.dr_meaning.specs.Meaning.Transcript.{Transcript, LeadsTo}
+use Rattle.dr_meaning.specs.Meaning.Laws.{Laws}
 use Rattle.dr_runs.specs.Gathering.{HasPart}
 use Rattle.dr_senders.specs.Meaning.Shape.{handlers_of, ring_setup}
 use Rattle.dr_senders.specs.Meaning.Stores.{stores_of_sender, stores_of_receiver, stores_of_halter}

@@ -3,10 +3,10 @@ use Rattle.std.specs.Prelude.{◌≡◌, ◌⊎◌, ℕ, ◌+◌, ◌-◌, ◌<�
 use Rattle.std.specs.List.{range_with_len}
 use Rattle.dr_seq.specs.declared.event.Event.{Event}
 use Rattle.dr_seq.specs.Rounds.{entry_of}
-use Rattle.dr_core.specs.declared.refusal.Refusal.{Refusal}
-use Rattle.dr_core.specs.Meaning.Refusals.{WriteTests, SequenceTests, PublishTests, write_causes, publish_causes}
-use Rattle.dr_core.specs.declared.ends.Trouble.{Trouble}
-use Rattle.dr_core.specs.Calls.Ends.{Verdict, Exactly, unknown, IsAnswerOf, IsEndsAnswer, as_end}
+use Rattle.dr_meaning.specs.declared.refusal.Refusal.{Refusal}
+use Rattle.dr_meaning.specs.Meaning.Refusals.{WriteTests, SequenceTests, PublishTests, write_causes, publish_causes}
+use Rattle.dr_meaning.specs.declared.ends.Trouble.{Trouble}
+use Rattle.dr_meaning.specs.Calls.Ends.{Verdict, Exactly, unknown, IsAnswerOf, IsEndsAnswer, as_end}
 use Rattle.dr_runs.specs.declared.look.Look.{Look}
 use Rattle.dr_runs.specs.Looks.{look}
 use Rattle.dr_senders.specs.Meaning.Shape.{Shape}

@@ -4,12 +4,12 @@ use Rattle.std.specs.List.{range_with_len}
 use mathlib.Core.Option.{some}
 use lib.ListN.{get_elem?}
 use Rattle.dr_seq.specs.declared.event.Event.{Event}
-use Rattle.dr_core.specs.declared.command.Command.TheVariants.{Claim, Write, Publish, Poll, Complete, Halt}
-use Rattle.dr_core.specs.declared.refusal.Refusal.TheVariants.{NotClaimed, AlreadyPublished}
-use Rattle.dr_core.specs.declared.command.Reply.TheVariants.{Refused, Claimed, Written, Published, Drained, Completed, Halting, Idle, Gating}
-use Rattle.dr_core.specs.Meaning.Machine as machine
-use Rattle.dr_core.specs.Meaning.Machine.{State, available}
-use Rattle.dr_core.specs.Meaning.Transcript.{Transcript}
+use Rattle.dr_meaning.specs.declared.command.Command.TheVariants.{Claim, Write, Publish, Poll, Complete, Halt}
+use Rattle.dr_meaning.specs.declared.refusal.Refusal.TheVariants.{NotClaimed, AlreadyPublished}
+use Rattle.dr_meaning.specs.declared.command.Reply.TheVariants.{Refused, Claimed, Written, Published, Drained, Completed, Halting, Idle, Gating}
+use Rattle.dr_meaning.specs.Meaning.Machine as machine
+use Rattle.dr_meaning.specs.Meaning.Machine.{State, available}
+use Rattle.dr_meaning.specs.Meaning.Transcript.{Transcript}
 use Rattle.dr_runs.specs.Runs as runs
 use Rattle.dr_runs.specs.Entries.{entry, poll_of}
 use Rattle.dr_runs.specs.Looks.{last_look}

@@ -1,5 +1,5 @@
 use Rattle.std.proofs.Common.{◌++◌, ◌∙◌, ap}
-use Rattle.dr_shared.specs.Meaning.Work.{dealt_events}
+use Rattle.dr_workers.specs.Meaning.Work.{dealt_events}
 use Rattle.dr_accounts.proofs.reporter.part.Goals as goal
 
 pub returns : goal.returns

@@ -1,5 +1,5 @@
 use Rattle.std.proofs.Common.{◌≡◌, Result, Ok, Err, IfOk, ap, length, subst}
-use Rattle.dr_core.specs.Meaning.Machine.{Setup}
+use Rattle.dr_meaning.specs.Meaning.Machine.{Setup}
 use Rattle.dr_accounts.specs.Passing.{each}
 use Rattle.dr_accounts.specs.Turns.{Rests}
 use Rattle.dr_accounts.proofs.through_core.report_by_core.Goals as goal

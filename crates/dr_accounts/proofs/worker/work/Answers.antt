@@ -1,13 +1,13 @@
 use Rattle.std.proofs.Common.{◌≡◌, ◌<◌, ◌∙◌, ◌++◌, ℕ, zero, suc, List, [], ◌∷◌, Option, Some, Result, Err, IfOk, ap, arith, inl, inr, length, string_bytes, subst, sym, take, true}
 use Rattle.dr_seq.specs.declared.event.Event.{Event}
-use Rattle.dr_core.specs.Calls.Calling.{SomeCalls}
-use Rattle.dr_core.specs.Calls.Handling.{Relation}
+use Rattle.dr_meaning.specs.Calls.Calling.{SomeCalls}
+use Rattle.dr_meaning.specs.Calls.Handling.{Relation}
 use Rattle.dr_ring.specs.Calls.Ends.{ReceiverEnd, received_of}
 use Rattle.dr_ring.specs.Calls.Telling.{receiver_does}
-use Rattle.dr_shared.specs.Calls.Serving.{Serves}
-use Rattle.dr_shared.specs.Meaning.Work.{HandsOut, batches_in, dealt_events}
-use Rattle.dr_shared.specs.declared.fault.WorkFault.{WorkFault}
-use Rattle.dr_shared.specs.declared.fault.WorkFault.TheVariants.{Stopped}
+use Rattle.dr_workers.specs.Calls.Serving.{Serves}
+use Rattle.dr_workers.specs.Meaning.Work.{HandsOut, batches_in, dealt_events}
+use Rattle.dr_workers.specs.declared.fault.WorkFault.{WorkFault}
+use Rattle.dr_workers.specs.declared.fault.WorkFault.TheVariants.{Stopped}
 use Rattle.dr_accounts.specs.Keeping.{AnswersFor, IsServed, error_of}
 use Rattle.dr_accounts.proofs.Refusing.{never_refused}
 use Rattle.dr_accounts.proofs.worker.work.Goals.{in-Err-default, in-Ok-Some+in-Ok-this-2, in-Ok-Some+in-Err-1, in-Ok-None}

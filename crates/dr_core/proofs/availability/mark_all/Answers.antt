@@ -1,6 +1,6 @@
 use Rattle.std.proofs.Common.{sym, length}
 use Rattle.dr_seq.specs.Rounds.{entry_of}
-use Rattle.dr_core.proofs.Stamped.{stamped-none, stamped-more, length-stamped}
+use Rattle.dr_seq.proofs.Stamped.{stamped-none, stamped-more, length-stamped}
 use Rattle.dr_core.proofs.availability.mark_all.Goals as goal
 
 pub loop-k-init : goal.loop-k-init

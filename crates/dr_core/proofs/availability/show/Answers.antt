@@ -1,5 +1,5 @@
 use Rattle.std.proofs.Common.{◌≡◌, length, ap, ◌∙◌, arith}
-use Rattle.dr_core.proofs.Stamped.{length-stamped}
+use Rattle.dr_seq.proofs.Stamped.{length-stamped}
 use Rattle.dr_core.proofs.availability.show.Goals as goal
 
 pub front-requires-clause-round : goal.front-requires-clause-round

@@ -1,5 +1,5 @@
 use Rattle.std.proofs.Common.{sym}
-use Rattle.dr_core.proofs.Stamped.{stamped-none, stamped-more}
+use Rattle.dr_seq.proofs.Stamped.{stamped-none, stamped-more}
 use Rattle.dr_core.proofs.availability.stamp.Goals as goal
 
 pub loop-k-init : goal.loop-k-init

@@ -1,5 +1,5 @@
 use Rattle.std.proofs.Common.{◌≡◌}
-use Rattle.dr_core.specs.Calls.Stamped.{stamped}
+use Rattle.dr_seq.specs.Stamped.{stamped}
 use Rattle.dr_core.proofs.availability.stamp.Given as goal
 
 abbrev pub invariant-loop-k : goal.invariant-loop-k

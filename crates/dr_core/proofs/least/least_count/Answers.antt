@@ -2,7 +2,7 @@ use Rattle.std.proofs.Common.{◌≡◌, ◌+◌, sym, ap, ◌∙◌, map, take,
 use Rattle.dr_graph.specs.Meaning.Graph.{least_of}
 use Rattle.std.specs.Prelude.{◌==◌, if◌then◌else◌}
 use Rattle.std.proofs.lemmas.Bool.{cond-true, cond-false, eq-eqb, ne_eqb}
-use Rattle.dr_core.proofs.Leasts.{least_of-more}
+use Rattle.dr_meaning.proofs.Leasts.{least_of-more}
 use Rattle.dr_core.proofs.least.least_count.Goals as goal
 use Rattle.dr_core.proofs.least.least_count.Goals.{then-i-eq0, else-i-eq0}
 

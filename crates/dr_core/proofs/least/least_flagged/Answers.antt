@@ -1,6 +1,6 @@
 use Rattle.std.proofs.Common.{ℕ, Bool, slice_index}
 use Rattle.dr_graph.specs.Meaning.Graph.{flagged}
-use Rattle.dr_core.proofs.Leasts.{least_turn, least_skip}
+use Rattle.dr_meaning.proofs.Leasts.{least_turn, least_skip}
 use Rattle.dr_core.proofs.least.least_flagged.Goals as goal
 use Rattle.dr_core.proofs.least.least_flagged.Goals.{then-flags-h, else-flags-h}
 

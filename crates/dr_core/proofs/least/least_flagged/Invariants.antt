@@ -1,6 +1,6 @@
 use Rattle.std.proofs.Common.{slice_index}
 use Rattle.dr_graph.specs.Meaning.Graph.{flagged}
-use Rattle.dr_core.proofs.Leasts.{IsLeastOf}
+use Rattle.dr_meaning.proofs.Leasts.{IsLeastOf}
 use Rattle.dr_core.proofs.least.least_flagged.Given as goal
 
 abbrev pub invariant-loop-h : goal.invariant-loop-h

@@ -1,5 +1,5 @@
 use Rattle.std.proofs.Common.{◌≡◌, ◌+◌, drop}
-use Rattle.dr_core.specs.Meaning.Runs.{needed}
+use Rattle.dr_meaning.specs.Meaning.Runs.{needed}
 use Rattle.dr_core.proofs.runs.room_for.Given as goal
 
 abbrev pub invariant-loop-command : goal.invariant-loop-command

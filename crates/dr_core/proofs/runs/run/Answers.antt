@@ -4,7 +4,7 @@ use Rattle.std.specs.Vec.{with_items}
 use Rattle.std.proofs.Common.{Vec, Global, vec_capacity}
 use Rattle.std.proofs.Common.{get_or}
 use Rattle.dr_core.specs.Calls.Shows.{IsStep}
-use Rattle.dr_core.specs.Meaning.Runs.{counts_of, count_in, offers}
+use Rattle.dr_meaning.specs.Meaning.Runs.{counts_of, count_in, offers}
 use Rattle.dr_core.proofs.Running.{run_none, run_step, counts-push, offers-le, room-first, room-more}
 use Rattle.dr_core.proofs.runs.run.Goals as goal
 

@@ -1,8 +1,9 @@
 use Rattle.std.proofs.Common.{◌≡◌, ◌+◌, ◌≤◌, length, take, drop, ◌++◌, vec_capacity}
-use Rattle.dr_core.specs.Meaning.Machine.{State}
-use Rattle.dr_core.specs.Meaning.Transcript.{Transcript, LeadsTo}
+use Rattle.dr_meaning.specs.Meaning.Machine.{State}
+use Rattle.dr_meaning.specs.Meaning.Transcript.{Transcript, LeadsTo}
 use Rattle.dr_core.specs.Calls.Shows.{Shows}
-use Rattle.dr_core.specs.Meaning.Runs.{RunsTo, transcript_of, counts_of, needed}
+use Rattle.dr_core.specs.Calls.Reached.{RunsTo}
+use Rattle.dr_meaning.specs.Meaning.Runs.{transcript_of, counts_of, needed}
 use Rattle.dr_core.proofs.runs.run.Given as goal
 
 abbrev pub invariant-loop-command : goal.invariant-loop-command

@@ -1,5 +1,5 @@
 use Rattle.std.proofs.Common.{◌≡◌, ◌+◌, ap, arith, subst, ◌∙◌}
-use Rattle.dr_core.specs.Meaning.Machine.{Setup}
+use Rattle.dr_meaning.specs.Meaning.Machine.{Setup}
 use Rattle.dr_seq.proofs.Sizes.{size_positive}
 use Rattle.dr_disruptor.specs.OneThread.{Rests, setup_here}
 use Rattle.dr_disruptor.proofs.Along.{along_all, along_first, offered}

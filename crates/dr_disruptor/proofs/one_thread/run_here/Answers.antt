@@ -1,6 +1,6 @@
 use Rattle.std.proofs.Common.{◌≡◌, List, ap, arith, length, sym, subst}
 use Rattle.std.proofs.lemmas.List.{with_items_is}
-use Rattle.dr_core.specs.Meaning.Machine.{Setup}
+use Rattle.dr_meaning.specs.Meaning.Machine.{Setup}
 use Rattle.dr_disruptor.specs.OneThread.{Rests}
 use Rattle.dr_disruptor.specs.Running.{AllWentThrough}
 use Rattle.dr_disruptor.proofs.Along.{rests_first}

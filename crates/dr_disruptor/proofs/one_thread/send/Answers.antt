@@ -2,9 +2,10 @@ use Rattle.std.proofs.Common.{◌≤◌, ◌<◌, ◌+◌, ◌-◌, ◌≡◌, [
 use Rattle.std.proofs.lemmas.List.{get_or_default}
 use Rattle.dr_seq.specs.Event.{no_event}
 use Rattle.dr_graph.specs.Meaning.Graph.{IsGraph}
-use Rattle.dr_core.specs.declared.command.Command.TheVariants.{Publish}
-use Rattle.dr_core.specs.declared.command.Reply.TheVariants.{Published}
-use Rattle.dr_core.specs.Calls.Shows.{IsStep, unit_reply}
+use Rattle.dr_meaning.specs.declared.command.Command.TheVariants.{Publish}
+use Rattle.dr_meaning.specs.declared.command.Reply.TheVariants.{Published}
+use Rattle.dr_core.specs.Calls.Shows.{IsStep}
+use Rattle.dr_meaning.specs.Calls.Replies.{unit_reply}
 use Rattle.dr_disruptor.proofs.Sending.{InHand, claim_err, claim_ok, publish_any, write_err, write_ok}
 use Rattle.dr_disruptor.proofs.one_thread.send.Goals as goal
 use Rattle.dr_disruptor.proofs.one_thread.send.Goals.{After-write, In_ok-lo}

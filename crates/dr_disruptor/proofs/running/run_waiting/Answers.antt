@@ -1,7 +1,7 @@
 use Rattle.std.proofs.Common.{◌≡◌, ℕ, ◌/◌, max, List, ◌++◌, length, map, take, None, ap, subst, ◌∙◌}
 use Rattle.dr_seq.specs.declared.event.Event.{Event}
-use Rattle.dr_core.specs.Calls.Calling.{SomeCalls}
-use Rattle.dr_shared.specs.Calls.Serving as worker
+use Rattle.dr_meaning.specs.Calls.Calling.{SomeCalls}
+use Rattle.dr_workers.specs.Calls.Serving as worker
 use Rattle.dr_ring.specs.declared.record.SenderRecord.{SenderRecord}
 use Rattle.dr_ring.specs.Calls.Telling.{sender_does}
 use Rattle.dr_disruptor.specs.Running.{IsSending}

@@ -1,6 +1,6 @@
 use Rattle.std.proofs.Common.{ap, length, arith}
 use Rattle.csv.specs.Records.{fields_of}
-use Rattle.dr_core.specs.Meaning.Machine.{opening}
+use Rattle.dr_meaning.specs.Meaning.Machine.{opening}
 use Rattle.dr_drive.specs.Meaning.Setup.{Empty}
 use Rattle.dr_drive.specs.Meaning.DriveText.{Preparing, Running, text_from}
 use Rattle.dr_records.specs.Rows.{rows_left}

@@ -1,8 +1,8 @@
 use Rattle.std.proofs.Common.{subst, refl, ◌≡◌, ◌<◌, ◌++◌, List, Option, length}
-use Rattle.dr_core.specs.Meaning.Machine.{State}
-use Rattle.dr_core.specs.Meaning.Machine as machine
-use Rattle.dr_core.specs.Meaning.Transcript.{Transcript, LeadsFrom, LeadsTo}
-use Rattle.dr_core.proofs.FiveLaws.{leads_append}
+use Rattle.dr_meaning.specs.Meaning.Machine.{State}
+use Rattle.dr_meaning.specs.Meaning.Machine as machine
+use Rattle.dr_meaning.specs.Meaning.Transcript.{Transcript, LeadsFrom, LeadsTo}
+use Rattle.dr_meaning.proofs.FiveLaws.{leads_append}
 use Rattle.dr_graph.specs.Meaning.Graph.{IsGraph}
 use Rattle.dr_plain.specs.Meaning.Shape.{Shape, ring_setup}
 use Rattle.dr_plain.specs.Meaning.Records.{claimed}

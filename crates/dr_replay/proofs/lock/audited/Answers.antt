@@ -1,5 +1,5 @@
 use Rattle.std.proofs.Common.{◌∙◌, ap, rules}
-use Rattle.dr_shared.specs.Meaning.Audit.{scripts_of}
+use Rattle.dr_lock.specs.Meaning.Audit.{scripts_of}
 use Rattle.dr_replay.proofs.Endings.{audit_finds, reports}
 use Rattle.dr_replay.proofs.lock.audited.Goals as goal
 

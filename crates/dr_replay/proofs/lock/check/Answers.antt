@@ -1,5 +1,5 @@
 use Rattle.std.proofs.Common.{◌≡◌, None, All, subst, ◌∙◌}
-use Rattle.dr_shared.specs.declared.ended.Ended.{Ended}
+use Rattle.dr_workers.specs.declared.ended.Ended.{Ended}
 use Rattle.dr_replay.proofs.Numbered.{lock_fine}
 use Rattle.dr_replay.proofs.lock.check.Goals as goal
 

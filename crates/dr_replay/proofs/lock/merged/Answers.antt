@@ -5,7 +5,7 @@ use Rattle.dr_replay.specs.Meaning.Scripts.{scripts_in}
 use Rattle.dr_replay.proofs.Coming.{of_replay}
 use Rattle.dr_replay.proofs.Endings.{faults_more, opened_for, reports_more}
 use Rattle.dr_replay.proofs.lock.merged.Goals as goal
-use Rattle.dr_shared.specs.Calls.Stops.{MayStop}
+use Rattle.dr_workers.specs.Calls.Stops.{MayStop}
 
 -- the scripts that are settled are the producers' events
 same : (all now : List (Vec Event Global)) (events : List Event) → now ≡ all → map (λ v. v.items) all ≡ scripts_in events

@@ -10,7 +10,7 @@ use Rattle.dr_replay.specs.declared.fault.ReplayFault.TheVariants as fault
 use Rattle.dr_replay.proofs.LockRuns.{came_of_locked_file}
 use Rattle.dr_replay.proofs.Reporting.{at_exit, cut_merge, kept_merge}
 use Rattle.dr_replay.proofs.lock.replay_lock.Goals as goal
-use Rattle.dr_shared.specs.Calls.Stops.{MayStop}
+use Rattle.dr_workers.specs.Calls.Stops.{MayStop}
 
 -- the bytes that are written are a report of a merge of the file's events
 is_of_merge : (size : ℕ) {given events : List Event} {text bytes : List ℕ} → given ≡ events → bytes ≡ text → IsReportOfMerge (IsOfReplay size given) given text

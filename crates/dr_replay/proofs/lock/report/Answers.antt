@@ -1,7 +1,7 @@
 use Rattle.std.proofs.Common.{◌∙◌, ap, length, map, string_bytes, subst, sym}
 use Rattle.std.proofs.lemmas.List.{length-map}
 use Rattle.dr_seq.specs.declared.event.Event.{Event}
-use Rattle.dr_shared.specs.Meaning.History.{History}
+use Rattle.dr_lock.specs.Meaning.History.{History}
 use Rattle.dr_accounts.specs.Keeping.{error_of}
 use Rattle.dr_replay.specs.Meaning.Exchange.{CameTo}
 use Rattle.dr_replay.proofs.Coming.{came}
@@ -10,7 +10,7 @@ use Rattle.dr_replay.proofs.LockRuns.{came_of_lock, history_of, joined_over}
 use Rattle.dr_replay.proofs.Heeding.{joined_heeds, where_ok}
 use Rattle.dr_replay.proofs.Stopping.{joined_stopped}
 use Rattle.dr_replay.proofs.lock.report.Goals as goal
-use Rattle.dr_shared.specs.Calls.Stops.{MayStop}
+use Rattle.dr_workers.specs.Calls.Stops.{MayStop}
 
 pub returns-clause-text : goal.returns-clause-text
 returns-clause-text g c = λ sent are.

@@ -1,9 +1,9 @@
 use Rattle.std.proofs.Common.{◌≡◌, None, ap, inl, inr, subst, sym, ◌∙◌}
-use Rattle.dr_shared.specs.Calls.Asking.{OutletAsks}
-use Rattle.dr_shared.specs.Calls.Lock.{no_calls}
-use Rattle.dr_shared.specs.Calls.Serving.{Serves}
+use Rattle.dr_lock.specs.Calls.Asking.{OutletAsks}
+use Rattle.dr_lock.specs.Calls.Lock.{no_calls}
+use Rattle.dr_workers.specs.Calls.Serving.{Serves}
 use Rattle.dr_accounts.specs.Keeping.{AnswersFor, error_of}
-use Rattle.dr_shared.specs.declared.locked.LockedOutlet.{LockedOutlet}
+use Rattle.dr_lock.specs.declared.locked.LockedOutlet.{LockedOutlet}
 use Rattle.dr_replay.specs.Inside.Parts.{Lists}
 use Rattle.dr_replay.proofs.Asking.{asked, stopped_by}
 use Rattle.dr_replay.proofs.lock_workers.handle.Goals.{in-Err-default, in-Ok-Some+in-Ok-this-2, in-Ok-Some+in-Err-1, in-Ok-None}

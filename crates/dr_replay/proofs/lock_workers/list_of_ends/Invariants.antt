@@ -1,6 +1,6 @@
 use Rattle.std.proofs.Common.{◌≡◌, ◌+◌, All, length}
 use Rattle.dr_seq.specs.declared.event.Event.{Event}
-use Rattle.dr_shared.specs.Calls.Lock.{EndView, no_calls}
+use Rattle.dr_lock.specs.Calls.Lock.{EndView, no_calls}
 use Rattle.dr_replay.proofs.lock_workers.list_of_ends.Given as goal
 
 abbrev pub invariant-loop-p : goal.invariant-loop-p

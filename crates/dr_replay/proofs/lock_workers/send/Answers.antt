@@ -1,9 +1,9 @@
 use Rattle.std.proofs.Common.{◌≡◌, ◌+◌, refl, ap, subst, ◌∙◌}
 use Rattle.dr_seq.specs.declared.event.Event.{Event}
-use Rattle.dr_shared.specs.Calls.Asking.{InletAsks}
-use Rattle.dr_shared.specs.Calls.Lock.{no_calls}
-use Rattle.dr_shared.specs.Calls.Serving.{Sends}
-use Rattle.dr_shared.specs.declared.locked.LockedInlet.{LockedInlet}
+use Rattle.dr_lock.specs.Calls.Asking.{InletAsks}
+use Rattle.dr_lock.specs.Calls.Lock.{no_calls}
+use Rattle.dr_workers.specs.Calls.Serving.{Sends}
+use Rattle.dr_lock.specs.declared.locked.LockedInlet.{LockedInlet}
 use Rattle.dr_replay.specs.Inside.LockWorkers.{HasSent}
 use Rattle.dr_replay.proofs.Asking.{asked}
 use Rattle.dr_replay.proofs.lock_workers.send.Goals as goal

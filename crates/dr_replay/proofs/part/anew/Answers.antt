@@ -1,6 +1,6 @@
 use Rattle.std.proofs.Common.{◌≡◌, ◌++◌, ◌∷◌, [], IfOk, string_bytes, true}
 use Rattle.std.proofs.lemmas.List.{append-nil}
-use Rattle.dr_core.specs.Calls.Handling.{showings}
+use Rattle.dr_meaning.specs.Calls.Handling.{showings}
 use Rattle.dr_replay.proofs.part.anew.Goals as goal
 
 pub returns : goal.returns

@@ -1,6 +1,6 @@
 use Rattle.std.proofs.Common.{◌≡◌, [], ap}
 use Rattle.dr_ring.specs.declared.record.SenderRecord.{SenderRecord}
-use Rattle.dr_shared.specs.Calls.Stops.{MayStop}
+use Rattle.dr_workers.specs.Calls.Stops.{MayStop}
 use Rattle.dr_replay.specs.Calls.Workers.{Says}
 use Rattle.dr_replay.proofs.Endings.{came_of, ends_of_workers}
 use Rattle.dr_replay.proofs.Heeding.{run_heeds, where_ok}

@@ -1,8 +1,8 @@
 use Rattle.std.proofs.Common.{ℕ, ◌/◌, max, ap, subst, ◌∙◌}
 use Rattle.dr_seq.specs.declared.event.Event.{Event}
-use Rattle.dr_core.specs.Calls.Calling.{SomeCalls}
+use Rattle.dr_meaning.specs.Calls.Calling.{SomeCalls}
 use Rattle.dr_ring.specs.Calls.Telling.{sender_does}
-use Rattle.dr_shared.specs.Calls.Serving.{Sends}
+use Rattle.dr_workers.specs.Calls.Serving.{Sends}
 use Rattle.dr_replay.proofs.ring.sent.Goals as goal
 
 pub returns-clause-calls : goal.returns-clause-calls

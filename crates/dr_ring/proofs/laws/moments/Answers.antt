@@ -3,8 +3,8 @@ use Rattle.std.proofs.Common.{subst, refl, arith}
 use Rattle.dr_runs.specs.Words.{count_word}
 use Rattle.dr_ring.specs.Meaning.Records.{claimed}
 use Rattle.dr_ring.proofs.Halting.{halted_runs}
-use Rattle.dr_core.specs.Meaning.Machine.{State}
-use Rattle.dr_core.specs.Meaning.Transcript.{Transcript, LeadsFrom, LeadsTo}
+use Rattle.dr_meaning.specs.Meaning.Machine.{State}
+use Rattle.dr_meaning.specs.Meaning.Transcript.{Transcript, LeadsFrom, LeadsTo}
 use Rattle.dr_graph.specs.Meaning.Graph.{IsGraph}
 use Rattle.std.specs.Prelude.{◌<◌, List}
 use Rattle.dr_ring.specs.Meaning.Shape.{Shape, ring_setup}

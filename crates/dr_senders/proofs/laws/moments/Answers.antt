@@ -4,8 +4,8 @@ use Rattle.std.specs.Prelude.{List}
 use Rattle.std.proofs.lemmas.Bool.{cases_lt}
 use Rattle.std.proofs.lemmas.List.{get_or_past}
 use Rattle.dr_runs.proofs.Elements.{there, value_at}
-use Rattle.dr_core.specs.Meaning.Machine.{State}
-use Rattle.dr_core.specs.Meaning.Transcript.{Transcript, LeadsFrom, LeadsTo}
+use Rattle.dr_meaning.specs.Meaning.Machine.{State}
+use Rattle.dr_meaning.specs.Meaning.Transcript.{Transcript, LeadsFrom, LeadsTo}
 use Rattle.dr_senders.specs.Meaning.Shape.{Shape, IsShape, ring_setup}
 use Rattle.dr_senders.specs.Meaning.Words.{count_word}
 use Rattle.dr_senders.specs.declared.record.Stage.{Stage}

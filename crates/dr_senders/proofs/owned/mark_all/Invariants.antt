@@ -1,6 +1,6 @@
 use Rattle.std.proofs.Common.{◌≡◌, ◌-◌, length}
 use Rattle.dr_seq.specs.Rounds.{entry_of}
-use Rattle.dr_core.specs.Calls.Stamped.{stamped}
+use Rattle.dr_seq.specs.Stamped.{stamped}
 use Rattle.dr_senders.proofs.owned.mark_all.Given as goal
 
 abbrev pub invariant-loop-sequence : goal.invariant-loop-sequence

@@ -1,5 +1,5 @@
 use Rattle.std.proofs.Common.{◌++◌, ◌∙◌, ap, string_bytes}
-use Rattle.dr_shared.specs.Meaning.Work.{dealt_events}
+use Rattle.dr_workers.specs.Meaning.Work.{dealt_events}
 use Rattle.dr_accounts.proofs.Parts.{replica_shown}
 use Rattle.dr_accounts.proofs.Reports.{replica_says}
 use Rattle.dr_accounts.proofs.reporter.ReplicaReporter.push_part.Goals as goal

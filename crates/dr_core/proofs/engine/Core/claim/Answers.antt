@@ -3,13 +3,13 @@ use Rattle.std.specs.Vec.{with_items}
 use Rattle.std.proofs.lemmas.List.{with_items_is}
 use Rattle.std.specs.Prelude.{◌==◌, ◌||◌, nat_lt}
 use Rattle.std.proofs.lemmas.Bool.{or_left, or_right, eq-eqb, lt-ltb, lt-leb}
-use Rattle.dr_core.specs.declared.refusal.Refusal.TheVariants.{BadCount}
+use Rattle.dr_meaning.specs.declared.refusal.Refusal.TheVariants.{BadCount}
 use Rattle.dr_seq.proofs.Sizes.{size_positive}
-use Rattle.dr_core.specs.declared.mode.Mode.{Mode}
-use Rattle.dr_core.specs.declared.mode.Mode.TheVariants.{Single, Multi}
-use Rattle.dr_core.specs.declared.command.Command.TheVariants.{Claim}
-use Rattle.dr_core.specs.declared.command.Reply.TheVariants.{Claimed}
-use Rattle.dr_core.specs.Meaning.Machine.{producers}
+use Rattle.dr_meaning.specs.declared.mode.Mode.{Mode}
+use Rattle.dr_meaning.specs.declared.mode.Mode.TheVariants.{Single, Multi}
+use Rattle.dr_meaning.specs.declared.command.Command.TheVariants.{Claim}
+use Rattle.dr_meaning.specs.declared.command.Reply.TheVariants.{Claimed}
+use Rattle.dr_meaning.specs.Meaning.Machine.{producers}
 use Rattle.dr_core.specs.Calls.Shows.{IsStep}
 use Rattle.dr_core.specs.Calls.CoreView.{CoreView, gate_of}
 use Rattle.dr_core.specs.Inside.Availability.{owners_after, claim_fault}
@@ -18,7 +18,7 @@ use Rattle.dr_core.proofs.CoreSteps.{refused_step, claim_step}
 use Rattle.dr_core.proofs.Gating.{claim_refused, claim_accepted}
 use Rattle.dr_core.proofs.Recents.{claims_known, claims_available, known_there, one_producer}
 use Rattle.dr_core.proofs.Whole.{step_whole}
-use Rattle.dr_core.proofs.Stamped.{length-stamped}
+use Rattle.dr_seq.proofs.Stamped.{length-stamped}
 use Rattle.dr_core.proofs.engine.Core.claim.Goals as goal
 use Rattle.dr_core.proofs.engine.Core.claim.Given.{Over}
 use Rattle.dr_core.proofs.engine.Core.claim.Goals.{After-own, then-n-eq0-via-then-n-eq0, then-n-eq0-via-else-n-eq0+then-n-get}

@@ -1,6 +1,6 @@
 use Rattle.std.proofs.Common.{refl, ◌≡◌, ◌<◌, ◌≤◌, ◌+◌, slice_index, length, get_or, false, arith}
 use Rattle.std.proofs.lemmas.List.{get_or_read}
-use Rattle.dr_core.specs.Meaning.Machine.{handlers}
+use Rattle.dr_meaning.specs.Meaning.Machine.{handlers}
 use Rattle.dr_core.specs.Calls.CoreView.{CoreView}
 use Rattle.dr_core.specs.Calls.Shows.{CanComplete}
 use Rattle.dr_core.specs.Inside.Fields.{view_of}

@@ -1,7 +1,8 @@
 use Rattle.std.proofs.Common.{◌≡◌, refl, length, sym, ap, ◌∙◌, arith, replicate, false}
 use Rattle.std.proofs.lemmas.List.{length-replicate}
-use Rattle.dr_core.specs.Meaning.Machine.{Setup, setup_of}
-use Rattle.dr_core.proofs.Recents.{none_marked, none_ahead}
+use Rattle.dr_meaning.specs.Meaning.Machine.{Setup, setup_of}
+use Rattle.dr_seq.proofs.Stamped.{none_marked}
+use Rattle.dr_core.proofs.Recents.{none_ahead}
 use Rattle.dr_core.proofs.Opening.{limit_fits, none_recent, opening_seen, opening_shows, opening_whole}
 use Rattle.dr_core.proofs.Gating.{written_back}
 use Rattle.dr_core.proofs.engine.Core.open_valid.Goals as goal

@@ -9,8 +9,8 @@ use Rattle.dr_graph.specs.Meaning.Graph.{upstreams_of}
 use Rattle.dr_core.specs.Calls.CoreView.{CoreView}
 use Rattle.dr_core.specs.Inside.Fields.{view_of, IsNothing}
 use Rattle.dr_core.specs.Calls.Shows.{IsStep, offered_to}
-use Rattle.dr_core.specs.declared.command.Command.TheVariants.{Poll}
-use Rattle.dr_core.specs.declared.command.Reply.TheVariants.{Batch}
+use Rattle.dr_meaning.specs.declared.command.Command.TheVariants.{Poll}
+use Rattle.dr_meaning.specs.declared.command.Reply.TheVariants.{Batch}
 use Rattle.std.specs.Vec.{with_item}
 use Rattle.dr_core.proofs.Polling.{PollsAt, polls_at, batch_step, nothing_step, gives_nothing, takes_nothing}
 use Rattle.dr_core.proofs.Recents.{shown_event}

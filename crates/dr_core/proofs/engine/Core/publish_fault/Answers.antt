@@ -1,7 +1,7 @@
 use Rattle.std.proofs.Common.{◌≡◌, Bool, true, false, cond, Some, None, sym, ◌∙◌, refl}
 use Rattle.std.specs.Prelude.{◌==◌, nat_lt}
 use Rattle.std.proofs.lemmas.Bool.{eq-eqb, ne_eqb, lt-ltb, le-ltb, or_left, or_right, or_from}
-use Rattle.dr_core.specs.declared.refusal.Refusal.TheVariants.{NotClaimed, NotWritten}
+use Rattle.dr_meaning.specs.declared.refusal.Refusal.TheVariants.{NotClaimed, NotWritten}
 use Rattle.dr_core.specs.Calls.CoreView.{known_at}
 use Rattle.dr_core.specs.Inside.Fields.{kept_of}
 use Rattle.dr_core.specs.Inside.Availability.{is_ahead, is_published_at, is_written_at, owner_at, publish_fault}

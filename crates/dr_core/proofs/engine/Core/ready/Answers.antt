@@ -1,6 +1,6 @@
 use Rattle.std.proofs.Common.{◌≡◌, ◌<◌, ◌∙◌, ap, sym, min, false, length, slice_index, arith}
 use Rattle.std.proofs.lemmas.List.{get_or_read}
-use Rattle.dr_core.specs.Meaning.Machine.{handlers}
+use Rattle.dr_meaning.specs.Meaning.Machine.{handlers}
 use Rattle.dr_core.specs.Calls.CoreView.{CoreView, retired_in}
 use Rattle.dr_core.specs.Inside.Fields.{view_of}
 use Rattle.dr_core.proofs.Polling.{ready_is, poll_counts}

@@ -3,7 +3,7 @@ use Rattle.std.specs.Prelude.{◌==◌}
 use Rattle.std.proofs.lemmas.Bool.{not-true, not-false}
 use Rattle.std.proofs.lemmas.List.{length-set}
 use Rattle.dr_graph.specs.Meaning.Graph.{is_some_left, is_final_without}
-use Rattle.dr_core.specs.Meaning.Machine.{handlers}
+use Rattle.dr_meaning.specs.Meaning.Machine.{handlers}
 use Rattle.dr_core.specs.Calls.CoreView.{CoreView, retired_in}
 use Rattle.dr_core.specs.Inside.Fields.{view_of}
 use Rattle.dr_core.proofs.Retiring.{told, others_told, not_final_step, last_step, retire_step, retire_claimable, retire_room}

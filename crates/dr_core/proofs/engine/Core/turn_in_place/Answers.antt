@@ -1,9 +1,9 @@
 use Rattle.std.proofs.Common.{◌≡◌, ◌<◌, ◌≤◌, ◌+◌, ◌-◌, ◌∙◌, inl, inr, arith, refl, map, [], Ok, true, false, slice_index}
 use Rattle.std.specs.List.{range_with_len}
 use Rattle.std.proofs.lemmas.Bool.{le-leb, lt-leb}
-use Rattle.dr_core.specs.declared.command.Command.TheVariants.{Poll}
-use Rattle.dr_core.specs.declared.refusal.Refusal.TheVariants.{NoHandler, Retired}
-use Rattle.dr_core.specs.Meaning.Machine.{handlers}
+use Rattle.dr_meaning.specs.declared.command.Command.TheVariants.{Poll}
+use Rattle.dr_meaning.specs.declared.refusal.Refusal.TheVariants.{NoHandler, Retired}
+use Rattle.dr_meaning.specs.Meaning.Machine.{handlers}
 use Rattle.dr_core.proofs.CoreSteps.{refused_step}
 use Rattle.dr_core.proofs.Shown.{same_retired}
 use Rattle.dr_seq.specs.Slots.{event_at}
@@ -11,7 +11,8 @@ use Rattle.dr_seq.proofs.Sizes.{size_positive}
 use Rattle.dr_core.specs.Calls.CoreView.{CoreView, retired_in}
 use Rattle.dr_core.specs.Inside.Fields.{view_of, IsNothing}
 use Rattle.dr_core.proofs.Polling.{PollsAt, polls_at, nothing_step}
-use Rattle.dr_core.specs.Calls.Shows.{IsStep, poll_reply}
+use Rattle.dr_core.specs.Calls.Shows.{IsStep}
+use Rattle.dr_meaning.specs.Calls.Replies.{poll_reply}
 use Rattle.dr_core.proofs.Turns.{Turns, turns, nothing_turn}
 use Rattle.dr_core.proofs.Recents.{shown_event}
 use Rattle.dr_core.proofs.Retiring.{told}

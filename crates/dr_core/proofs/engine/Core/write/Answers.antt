@@ -2,9 +2,9 @@ use Rattle.std.proofs.Common.{◌≡◌, [], ◌+◌, ◌≤◌, sym, ◌∙◌,
 use Rattle.std.specs.Prelude.{◌==◌, nat_lt}
 use Rattle.std.proofs.lemmas.Bool.{eq-eqb, ne_eqb, le-ltb, or_right, or_from}
 use Rattle.dr_seq.proofs.Sizes.{size_positive}
-use Rattle.dr_core.specs.declared.refusal.Refusal.TheVariants.{NotClaimed}
-use Rattle.dr_core.specs.declared.command.Command.TheVariants.{Write}
-use Rattle.dr_core.specs.declared.command.Reply.TheVariants.{Written}
+use Rattle.dr_meaning.specs.declared.refusal.Refusal.TheVariants.{NotClaimed}
+use Rattle.dr_meaning.specs.declared.command.Command.TheVariants.{Write}
+use Rattle.dr_meaning.specs.declared.command.Reply.TheVariants.{Written}
 use Rattle.dr_core.specs.Calls.Shows.{IsStep}
 use Rattle.dr_core.specs.Calls.CoreView.{CoreView, known_at}
 use Rattle.dr_core.specs.Inside.Availability.{owner_at, is_published_at, write_fault}

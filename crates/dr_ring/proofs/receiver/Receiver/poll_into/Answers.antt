@@ -1,7 +1,7 @@
 use Rattle.std.proofs.Common.{List, length, rules, arith, refl, ap, sym, subst, ◌∙◌}
 use Rattle.std.proofs.lemmas.List.{take_at, drop_at}
 use Rattle.dr_seq.specs.declared.event.Event.{Event}
-use Rattle.dr_core.specs.declared.command.Polled.{Polled}
+use Rattle.dr_meaning.specs.declared.command.Polled.{Polled}
 use Rattle.dr_ring.specs.declared.record.ReceiverRecord.{ReceiverRecord}
 use Rattle.dr_runs.specs.Words.{closed_word}
 use Rattle.dr_ring.specs.Meaning.Records.{receiver_looked}

@@ -1,7 +1,7 @@
 use Rattle.std.proofs.Common.{List, ℕ, length, rules, arith, refl, ap, sym, subst, ◌∙◌}
 use Rattle.std.proofs.lemmas.List.{take_at, drop_at}
 use Rattle.dr_seq.specs.declared.event.Event.{Event}
-use Rattle.dr_core.specs.declared.command.Polled.{Polled}
+use Rattle.dr_meaning.specs.declared.command.Polled.{Polled}
 use Rattle.dr_senders.specs.Meaning.Words.{is_halted}
 use Rattle.dr_senders.specs.Meaning.Records.{claims_looked}
 use Rattle.dr_senders.specs.Calls.Ends.{ReceiverEnd}

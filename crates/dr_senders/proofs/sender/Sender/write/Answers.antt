@@ -1,5 +1,5 @@
 use Rattle.std.proofs.Common.{arith, sym, ap, ◌∙◌, subst, ◌<◌, Ok, Err}
-use Rattle.dr_core.specs.declared.refusal.Refusal.TheVariants.{AlreadyPublished}
+use Rattle.dr_meaning.specs.declared.refusal.Refusal.TheVariants.{AlreadyPublished}
 use Rattle.dr_seq.proofs.Sizes.{size_positive}
 use Rattle.dr_senders.specs.Meaning.Shape.{Shape}
 use Rattle.dr_senders.specs.declared.record.SenderRecord.{SenderRecord}

@@ -1,6 +1,6 @@
 use Rattle.std.proofs.Common.{◌≡◌, ◌+◌, ◌<◌, ◌/◌, max, ℕ, All, get_or, length}
 use Rattle.dr_seq.specs.declared.event.Event.{Event}
-use Rattle.dr_shared.specs.Calls.Lock.{EndView, no_calls}
+use Rattle.dr_lock.specs.Calls.Lock.{EndView, no_calls}
 use Rattle.dr_replay.proofs.Promising.{IsPromised}
 use Rattle.dr_replay.proofs.lock_workers.fn.send_all.scope.Given as goal
 

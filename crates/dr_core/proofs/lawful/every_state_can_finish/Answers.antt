@@ -1,5 +1,0 @@
-use Rattle.dr_core.proofs.Finishing.{can_finish}
-use Rattle.dr_core.proofs.lawful.every_state_can_finish.Goals as goal
-
-pub returns : goal.returns
-returns g c = can_finish

@@ -1,5 +1,0 @@
-use Rattle.dr_core.proofs.Progress.{nobody_is_stuck}
-use Rattle.dr_core.proofs.lawful.nobody_is_stuck.Goals as goal
-
-pub returns : goal.returns
-returns g c = nobody_is_stuck

@@ -1,5 +1,0 @@
-use Rattle.dr_core.proofs.FiveLaws.{retirement_keeps}
-use Rattle.dr_core.proofs.lawful.retirement_keeps_the_gate.Goals as goal
-
-pub returns : goal.returns
-returns g c = retirement_keeps

@@ -1,0 +1,11 @@
+pub mod Counts
+pub mod Going
+pub mod Recording
+pub mod Reached
+pub mod Following
+pub mod Audited
+pub mod Findings
+pub mod Replies
+pub mod Sent
+pub mod Locking
+pub mod Asking

@@ -1,0 +1,4 @@
+-- What public contracts cite besides: the lock, and what is answered.
+pub mod Lock
+pub mod AuditFault
+pub mod Asking

@@ -1,0 +1,97 @@
+-- A history behind a lock.
+use Rattle.std.specs.Prelude.{◌≡◌, ℕ, ◌+◌, ◌<◌, if◌then◌else◌, Option, None, Some, Result, Ok, Err, List, [], length, slice_get}
+use Rattle.dr_meaning.specs.declared.command.Command.{Command}
+use Rattle.dr_meaning.specs.declared.command.Command.TheVariants.{Halt, Write}
+use Rattle.dr_meaning.specs.declared.command.Reply.{Reply}
+use Rattle.dr_meaning.specs.declared.command.Reply.TheVariants.{Written}
+use Rattle.dr_meaning.specs.declared.refusal.Refusal.{Refusal}
+use Rattle.dr_meaning.specs.declared.ends.Trouble.{Trouble}
+use Rattle.dr_meaning.specs.declared.ends.Trouble.TheVariants.{Refused, Memory}
+use Rattle.dr_meaning.specs.declared.ends.Wrote.{Wrote}
+use Rattle.dr_meaning.specs.Calls.Replies.{unit_reply}
+use Rattle.dr_meaning.specs.Meaning.Machine.{step}
+use Rattle.dr_lock.specs.Meaning.History.{GoesOn, History, IsRecorded, is_kept}
+
+-- what contracts see of a history behind a lock
+pub record SharedView : Type 0 where
+  pub begun : ℕ  -- how many entries it had when it came there
+  pub given : ℕ  -- how many ends were given out
+
+-- what contracts see of an end
+pub record EndView (E : Type 0) : Type 0 where
+  pub calls : ℕ  -- how many of its calls were kept
+  pub halts : ℕ  -- how many of these were halts
+  pub asked : Option (Command E)  -- the last of all its calls
+  pub answered : Option Reply  -- what was answered to it, unless memory ran out
+
+-- an end that made no call
+abbrev pub no_calls : {E : Type 0} → EndView E
+no_calls = record { calls = 0; halts = 0; asked = None; answered = None }
+
+-- an end with so many calls more, none of which is a halt
+abbrev pub with_calls : {E : Type 0} → ℕ → EndView E → EndView E
+with_calls n end = record end { calls = end.calls + n }
+
+-- an end that counts one call more
+abbrev pub counted : {E : Type 0} → Command E → EndView E → EndView E
+counted Halt end = record end { calls = end.calls + 1; halts = end.halts + 1 }
+counted other end = with_calls 1 end
+
+-- an end after one call more, which it counts where its reply is kept; no reply is there where memory ran out
+abbrev pub after_call : {E : Type 0} → Command E → Option Reply → EndView E → EndView E
+after_call command None end = record end { asked = Some command; answered = None }
+after_call command (Some reply) end = record (if is_kept reply then counted command end else end) { asked = Some command; answered = Some reply }
+
+-- the reply to a call, as an end's own answer tells it
+abbrev pub told_by : {A : Type 0} → (Result A Refusal → Reply) → Result A Trouble → Option Reply
+told_by reply_of (Ok x) = Some (reply_of (Ok x))
+told_by reply_of (Err (Refused refusal)) = Some (reply_of (Err refusal))
+told_by reply_of (Err Memory) = None
+
+-- some history goes on from this one, and leads to a state in which the machine answers so
+pub record IsAnswer {E : Type 0} (begun : History E) (command : Command E) (reply : Reply) (values : List E) : Type 0 where
+  pub before : History E
+  pub goes_on : GoesOn begun before
+  pub recorded : IsRecorded before
+  pub replies : (step before.core.setup recorded.runs.state command).reply ≡ reply
+  pub gives : (step before.core.setup recorded.runs.state command).values ≡ values
+
+-- an end's answer, unless an allocation failed, is the exchange's: its refusal is trouble
+abbrev pub UnlessMemory : {A : Type 0} → (Result A Refusal → Type 0) → Result A Trouble → Type 0
+UnlessMemory Answers (Ok x) = Answers (Ok x)
+UnlessMemory Answers (Err (Refused refusal)) = Answers (Err refusal)
+UnlessMemory Answers (Err Memory) = Unit {0}
+
+-- a producer's write of an event
+abbrev pub IsWritten : {E : Type 0} → History E → ℕ → ℕ → E → Result (Unit {0}) Trouble → Type 0
+IsWritten begun p s event result = UnlessMemory (λ answer. IsAnswer begun (Write p s event) (unit_reply Written answer) []) result
+
+-- an event stands at a place of some events
+abbrev pub IsAt : {E : Type 0} → List E → ℕ → E → Type 0
+IsAt events k event = slice_get events k ≡ Some event
+
+-- what kept the next event from being written: nothing where all are
+abbrev pub IsHindered : {E : Type 0} → History E → ℕ → ℕ → List E → ℕ → Option Trouble → Type 0
+IsHindered begun p lo events count None = count ≡ length events
+IsHindered {E} begun p lo events count (Some trouble) = (event : E) × IsAt events count event × IsWritten begun p (lo + count) event (Err trouble)
+
+-- the first of some events, as many as are answered, were written to the sequences from lo on
+pub record AreWritten {E : Type 0} (begun : History E) (p lo : ℕ) (events : List E) (wrote : Wrote) : Type 0 where
+  pub written : (k : ℕ) (event : E) → k < wrote.count → IsAt events k event → IsWritten begun p (lo + k) event (Ok tt)
+  pub hindered : IsHindered begun p lo events wrote.count wrote.trouble
+
+-- the answer to the last of some writes
+abbrev pub last_answer : Option Trouble → Result (Unit {0}) Trouble
+last_answer None = Ok tt
+last_answer (Some trouble) = Err trouble
+
+-- how many of some writes were tried
+abbrev pub tried : ℕ → Option Trouble → ℕ
+tried count None = count
+tried count (Some trouble) = count + 1
+
+-- an end after writes of the first of some events to the sequences from lo on, one after another up to the first in trouble
+pub record AfterWrites {E : Type 0} (old : EndView E) (p lo : ℕ) (events : List E) (wrote : Wrote) (new : EndView E) : Type 0 where
+  pub nothing : events ≡ [] → new ≡ old
+  pub last : (k : ℕ) (event : E) → IsAt events k event → k + 1 ≡ tried wrote.count wrote.trouble
+      → new ≡ after_call (Write p (lo + k) event) (told_by (unit_reply Written) (last_answer wrote.trouble)) (with_calls k old)

@@ -1,0 +1,4 @@
+-- What a history and an audit are: read this first.
+pub mod History
+pub mod Merge
+pub mod Audit

@@ -1,0 +1,28 @@
+//! The exchange of events behind a lock, with its history.
+//!
+//! [`Recorded`] is the core of one thread with its history: the calls that changed something, and
+//! the events of their batches. [`Shared`] puts it behind one lock, and each thread calls through an
+//! [`End`] of its own, which counts. An [`Exchange`] says with which history it began.
+//! [`LockedInlet`] and [`LockedOutlet`] make an end a producer's or a handler's. [`halt`] halts the
+//! exchange. [`audit`] compares a history with what its producers were to send. Begin with
+//! `specs/Meaning/History`, then `Audit` beside it.
+#![tactic(auto)]
+
+pub mod audit_fault;
+pub mod auditing;
+pub mod entry;
+pub mod exchange;
+mod halting;
+pub mod locked;
+pub mod recorded;
+pub mod sequences;
+pub mod shared;
+
+pub use audit_fault::AuditFault;
+pub use auditing::audit;
+pub use entry::Entry;
+pub use exchange::Exchange;
+pub use halting::halt;
+pub use locked::{LockedInlet, LockedOutlet};
+pub use recorded::Recorded;
+pub use shared::{End, MAX_ENDS, Shared, Unfinished, finish};

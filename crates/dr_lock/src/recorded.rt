@@ -1,0 +1,172 @@
+//! A core with the history of the calls that it kept.
+
+ghost use Rattle.std.specs.Prelude.{◌≡◌, ◌+◌, ◌<◌, ◌≤◌, ◌↔◌, ◌^◌, ◌⊎◌, ◌++◌, [], Err, true, false, drop, length, take, IfOk, OnErr, slice_index, if◌then◌else◌};
+ghost use Rattle.dr_core.specs.Calls.CoreView.{retired_in};
+ghost use Rattle.dr_meaning.specs.Meaning.Machine.{State, handlers, opening, producers as producers_of, setup_of, step};
+ghost use Rattle.dr_meaning.specs.Calls.OpenFault.{has_bad_producers, is_bad_limit};
+ghost use Rattle.dr_meaning.specs.Meaning.Progress.{NobodyIsStuck};
+ghost use Rattle.dr_meaning.specs.Meaning.Runs.{count_in};
+ghost use Rattle.dr_core.specs.Calls.Shows.{Shows, IsStep};
+ghost use Rattle.dr_lock.specs.Meaning.History.{IsRecorded, asked, entries_after};
+ghost use Rattle.dr_lock.specs.Calls.Lock.{IsAnswer};
+
+use crate::entry::{Entry, is_kept};
+use dr_core::{Core, every_step_leads_on};
+use dr_graph::Graph;
+use dr_meaning::{Command, Mode, OpenFault, Reply, every_transcript_is_lawful, nobody_is_stuck};
+use dr_seq::Size;
+use std::alloc::{AllocError, Global};
+use std::marker::Model;
+
+/// A core and the history of the calls that it kept, which leads from the opening to what the core
+/// shows, and so has the five laws.
+#[derive(Drop)]
+pub struct Recorded<E> {
+    core: Core<E>,
+    entries: Vec<Entry<E>>,
+    values: Vec<E>,
+}
+
+impl<E> Model for Recorded<E> {
+    ghost use Rattle.dr_lock.specs.Meaning.History.{RecordedView, IsRecorded};
+    ghost use Rattle.std.specs.Prelude.{vec_capacity};
+
+    ghost Value = { RecordedView E };
+
+    ghost view = { λ a. record { history = record { core = a.core; entries = a.entries.items; values = a.values.items }; entry_room = vec_capacity a.entries; value_room = vec_capacity a.values } };
+
+    ghost invariant = { λ a. IsRecorded (record { core = a.core; entries = a.entries.items; values = a.values.items }) };
+}
+
+impl<E: Copy> Recorded<E> {
+    /// Opens a core with an empty history, which has room for so many entries and for so many
+    /// events of batches. It spends the graph, at a fault too. The limit is how many sequences
+    /// there will ever be. Until they are written to, the slots hold `blank`.
+    pub fn open(
+        alloc: Global,
+        graph: Graph,
+        size: Size,
+        mode: Mode,
+        limit: u64,
+        blank: E,
+        entries: usize,
+        events: usize,
+    ) -> Result<Recorded<E>, OpenFault>
+        ensures setup { IfOk result (λ recorded. recorded.history.core.setup ≡ setup_of graph.upstreams size mode limit) }
+        ensures names { IfOk result (λ recorded. recorded.history.core.names ≡ graph.names) }
+        ensures opening { IfOk result (λ recorded. Shows recorded.history.core (opening (setup_of graph.upstreams size mode limit))) }
+        ensures empty { IfOk result (λ recorded. (recorded.history.entries ≡ []) × (recorded.history.values ≡ [])) }
+        ensures room { IfOk result (λ recorded. (recorded.entry_room ≡ entries) × (recorded.value_room ≡ events)) }
+        ensures bad_producers { (result ≡ Err OpenFault.BadProducers) ↔ (has_bad_producers mode ≡ true) }
+        ensures bad_limit { (result ≡ Err OpenFault.BadLimit) ↔ (has_bad_producers mode ≡ false) × (is_bad_limit limit ≡ true) }
+    {
+        every_transcript_is_lawful::<E>();
+        let core = Core::open(alloc, graph, size, mode, limit, blank)?;
+        let entries = Vec::with_capacity(alloc, entries)?;
+        let values = Vec::with_capacity(alloc, events)?;
+        Ok(Recorded {
+            core,
+            entries,
+            values,
+        })
+    }
+
+    /// Who follows whom.
+    pub fn graph(&self) -> &Graph
+        ensures names { result.now.names ≡ self.now.history.core.names }
+        ensures upstreams { result.now.upstreams ≡ self.now.history.core.setup.upstreams }
+    {
+        self.core.graph()
+    }
+
+    /// How many producers there are, numbered from 0.
+    pub fn producers(&self) -> u64
+        ensures { result ≡ producers_of self.now.history.core.setup.mode }
+    {
+        self.core.producers()
+    }
+
+    /// How many events a handler took.
+    pub(crate) fn taken(&self, h: usize) -> u64
+        requires { h < handlers self.now.history.core.setup }
+        ensures { result ≡ slice_index self.now.history.core.taken h }
+    {
+        self.core.taken(h)
+    }
+
+    /// Whether a handler is retired.
+    pub(crate) fn is_retired(&self, h: usize) -> bool
+        requires { h < handlers self.now.history.core.setup }
+        ensures { result ≡ retired_in self.now.history.core h }
+    {
+        self.core.is_retired(h)
+    }
+
+    /// The calls that were kept, in order: those that changed something, and those that told a
+    /// handler that the exchange drained. With the events of their batches they lead from the
+    /// opening to what the core shows, and so they have the five laws.
+    pub fn history(&self) -> &[Entry<E>]
+        ensures entries { result.now ≡ self.now.history.entries }
+        ensures recorded { IsRecorded self.now.history }
+    {
+        &self.entries
+    }
+
+    /// That somebody can always go on from where the history leads. It does nothing when it runs: its
+    /// contract is the theorem.
+    pub fn is_never_stuck(&self)
+        ensures { (recorded : IsRecorded self.now.history) × NobodyIsStuck self.now.history.core.setup recorded.runs.state }
+    {
+        nobody_is_stuck::<E>();
+        let _handlers = self.core.graph().len();
+    }
+
+    /// The events of the kept batches, joined in order.
+    pub fn values(&self) -> &[E]
+        ensures values { result.now ≡ self.now.history.values }
+        ensures recorded { IsRecorded self.now.history }
+    {
+        &self.values
+    }
+
+    /// The core's call, kept in the history where it changed something or told a handler that the
+    /// exchange drained. For a poll `out` holds as many events as it asks for; a batch stands at
+    /// its front. Memory is taken first, and only where the history has no room left for one entry
+    /// and for the events of the reply. Where an allocation fails nothing has changed.
+    pub fn call(&mut self, command: Command<E>, out: &mut [E]) -> Result<Reply, AllocError>
+        requires { asked command ≤ length out.old }
+        ensures step { IfOk result (λ reply. IsStep self.old.history.core command reply (take (count_in reply) out.new) self.new.history.core) }
+        ensures answer { IfOk result (λ reply. IsAnswer self.old.history command reply (take (count_in reply) out.new)) }
+        ensures entries { IfOk result (λ reply. self.new.history.entries ≡ entries_after self.old.history.entries (record { command = command; reply = reply })) }
+        ensures values { IfOk result (λ reply. self.new.history.values ≡ self.old.history.values ++ take (count_in reply) out.new) }
+        ensures rest { IfOk result (λ reply. drop (count_in reply) out.new ≡ drop (count_in reply) out.old) }
+        ensures unchanged { OnErr result ((self.new.history ≡ self.old.history) × (out.new ≡ out.old)) }
+        ensures memory { OnErr result ((m : State E) → Shows self.old.history.core m → (self.old.entry_room < length self.old.history.entries + 1) ⊎ (self.old.value_room < length self.old.history.values + length (step self.old.history.core.setup m command).values)) }
+        ensures counted { length self.new.history.entries < 2 ^ 64 }
+        ensures room { (self.old.entry_room ≤ self.new.entry_room) × (self.old.value_room ≤ self.new.value_room) }
+    {
+        every_step_leads_on::<E>();
+        let room = self.batch_len_of(command);
+        self.entries.reserve(1)?;
+        self.values.reserve(room)?;
+        let reply = self.core.execute(command, out);
+        if is_kept(reply) {
+            self.entries.push_reserved(Entry { command, reply });
+            self.values.extend_from_slice(&out[..reply.count()])?;
+        }
+        Ok(reply)
+    }
+
+    /// How many events a command would be given now.
+    fn batch_len_of(&self, command: Command<E>) -> usize
+        ensures { (m : State E) → Shows self.now.history.core m → result ≡ length (step self.now.history.core.setup m command).values }
+    {
+        match command {
+            Command::Poll { h, max } => match self.core.ready(h) {
+                Ok(ready) => max.min(ready as usize),
+                Err(_) => 0,
+            },
+            _ => 0,
+        }
+    }
+}

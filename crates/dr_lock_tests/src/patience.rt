@@ -1,0 +1,191 @@
+//! Workers that wait in each way, and a bell between two threads.
+
+use crate::histories::check;
+use dr_meaning::{Claimed, Inlet, Refusal, Trouble};
+use dr_seq::Event;
+use dr_workers::{
+    Bell, OpenGate, Parking, Patience, Produced, Ringing, Rings, Spinning, Waiting, produce_with,
+};
+use std::alloc::{AllocError, Global};
+use std::process::Abort;
+use std::sync::atomic::{AtomicU64, Ordering};
+use std::sync::{Arc, Wait};
+use std::test::Fail;
+use std::thread::{Threads, join};
+
+// An end that has room for two claims, and then for none until it was asked two hundred times and some.
+#[derive(Drop)]
+struct Crowded {
+    claims: u64,
+    refusals: u64,
+    published: u64,
+}
+
+impl Inlet<Event> for Crowded {
+    ghost kept = { λ _. tt };
+
+    fn try_claim(&mut self, n: u64) -> Result<Claimed, Trouble> {
+        if n != 1 {
+            return Err(Trouble::Refused(Refusal::BadCount));
+        }
+        if self.claims >= 1000 {
+            return Err(Trouble::Refused(Refusal::Exhausted));
+        }
+        if self.claims % 2 == 0 && self.refusals % 205 != 204 {
+            self.refusals = self.refusals.wrapping_add(1);
+            return Err(Trouble::Refused(Refusal::NoRoom));
+        }
+        self.refusals = 0;
+        let lo = self.claims;
+        self.claims += 1;
+        Ok(Claimed { lo, hi: lo })
+    }
+
+    fn write(&mut self, s: u64, _event: Event) -> Result<(), Trouble> {
+        if s >= 1 << 62 {
+            return Err(Trouble::Refused(Refusal::NotClaimed));
+        }
+        Ok(())
+    }
+
+    fn publish(&mut self, lo: u64, hi: u64) -> Result<(), Trouble> {
+        if lo > hi {
+            return Err(Trouble::Refused(Refusal::BadCount));
+        }
+        if hi >= 1 << 62 {
+            return Err(Trouble::Refused(Refusal::NotClaimed));
+        }
+        self.published = self.published.wrapping_add(1);
+        Ok(())
+    }
+}
+
+// What a worker told its patience.
+#[derive(Drop)]
+struct Told {
+    waits: u64,
+    finds: u64,
+    found: u64,
+}
+
+impl Patience for Told {
+    fn wait(&mut self) {
+        self.waits = self.waits.wrapping_add(1);
+    }
+
+    fn found(&mut self, count: u64) {
+        self.finds = self.finds.wrapping_add(1);
+        self.found = self.found.wrapping_add(count);
+    }
+}
+
+// How often the bell was rung.
+#[derive(Drop)]
+struct Strokes {
+    count: AtomicU64,
+}
+
+impl Rings for &Strokes {
+    fn ring(&self) {
+        self.count.fetch_add(1, Ordering::SeqCst);
+    }
+}
+
+fn strokes_of(strokes: &Strokes) -> u64 {
+    strokes.count.load(Ordering::SeqCst)
+}
+
+// Sends six events through a crowded end that rings, and waits so.
+fn send_six<R: Wait + Abort, P: Patience>(rt: &R, patience: &mut P) {
+    let strokes = Strokes {
+        count: AtomicU64::new(0),
+    };
+    let crowded = Crowded {
+        claims: 0,
+        refusals: 0,
+        published: 0,
+    };
+    let mut inlet = Ringing::new(crowded, &strokes);
+    let all = Produced {
+        sent: 6,
+        fault: None,
+    };
+    let script = [Event::NONE; 6];
+    check(
+        rt,
+        produce_with(rt, &mut inlet, &OpenGate, 16, &script, 1, patience),
+        all,
+    );
+    check(rt, inlet.end().published, 6);
+    check(rt, strokes_of(&strokes), 6);
+    inlet.call(|end| end.published = 0);
+    check(rt, strokes_of(&strokes), 7);
+    check(rt, inlet.into_end().published, 0);
+}
+
+#[test]
+fn a_sender_by_each_way_of_waiting(rt: HostRuntime) -> Result<(), Fail> {
+    let bell = Bell::new();
+    send_six(&rt, &mut Waiting::new(1));
+    send_six(&rt, &mut Spinning);
+    let mut parking = Parking::new(&rt, &bell, 1);
+    send_six(&rt, &mut parking);
+    assert!(rt; parking.sleeps());
+    parking.found(2);
+    assert!(rt; !parking.sleeps());
+    // Two claims found room between two times of waiting.
+    let mut told = Told {
+        waits: 0,
+        finds: 0,
+        found: 0,
+    };
+    send_six(&rt, &mut told);
+    assert!(rt; told.waits == 612 && told.finds == 2 && told.found == 4);
+    Ok(())
+}
+
+// Tells that it goes to sleep, and parks until another thread has raised the flag.
+fn wait_for(rt: &impl Wait, bell: &Bell, asleep: &AtomicU64, flag: &AtomicU64) {
+    let mut parking = Parking::new(rt, bell, 1);
+    for _ in rt.forever() {
+        if flag.load(Ordering::SeqCst) == 1 {
+            return;
+        }
+        if parking.sleeps() {
+            asleep.store(1, Ordering::SeqCst);
+        }
+        parking.wait();
+    }
+    unreachable!()
+}
+
+// Raises the flag once the other thread sleeps, and rings.
+fn raise(rt: &impl Wait, bell: &Arc<Bell, Global>, asleep: &AtomicU64, flag: &AtomicU64) {
+    let mut waiting = Waiting::new(1);
+    for _ in rt.forever() {
+        if asleep.load(Ordering::SeqCst) == 1 {
+            flag.store(1, Ordering::SeqCst);
+            Rings::ring(bell);
+            return;
+        }
+        waiting.wait();
+    }
+    unreachable!()
+}
+
+fn by_two_threads<R: Wait + Threads + Sync>(rt: &R, alloc: Global) -> Result<(), AllocError> {
+    let bell = Arc::new(alloc, Bell::new())?;
+    let (asleep, flag) = (AtomicU64::new(0), AtomicU64::new(0));
+    let ((), ()) = join(
+        rt,
+        || wait_for(rt, &bell, &asleep, &flag),
+        || raise(rt, &bell, &asleep, &flag),
+    );
+    Ok(())
+}
+
+#[test]
+fn a_thread_sleeps_until_a_bell_rings(rt: HostRuntime) -> Result<(), Fail> {
+    by_two_threads(&rt, rt.alloc())?;
+    Ok(())
+}

@@ -1,0 +1,86 @@
+use Rattle.std.proofs.Common.{arith, ◌≡◌, ◌≤◌, ◌∷◌, ◌++◌, [], refl, false, true, Some, ap, unwrap_or}
+use Rattle.dr_meaning.specs.Meaning.Laws.{IsComplete, ReceivedInOrder, AfterUpstreams}
+use Rattle.dr_meaning.specs.Meaning.TooFar.{pair, claim_of, receipt_of, completion_of, halt, drain, written, published, taken, completed, taken_by_both}
+use Rattle.dr_meaning.proofs.lawful.laws_refuse_a_step_too_far.Goals as goal
+
+pub returns-clause-other_event : goal.returns-clause-other_event
+unfolding Rattle.dr_meaning.specs.Meaning.Machine.least_outside
+returns-clause-other_event c = record {
+  so_far = (_, (refl, refl, (refl, refl, (refl, refl, refl))));
+  unlawful = λ laws.
+      (let order : ReceivedInOrder (published ++ receipt_of 0 6 ∷ []) 0 = laws.received_in_order (published ++ receipt_of 0 6 ∷ []) [] refl 0 (omega arith) in
+      let same : Some 6 ≡ Some 5 = order.events 0 (omega arith) in
+      let numbers : 6 ≡ 5 = ap (λ o. unwrap_or o 5) same in
+      omega arith);
+}
+
+pub returns-clause-unpublished : goal.returns-clause-unpublished
+unfolding Rattle.dr_meaning.specs.Meaning.Machine.least_outside
+returns-clause-unpublished c = record {
+  so_far = (_, (refl, refl, (refl, refl, refl)));
+  unlawful = λ laws.
+      (let order : ReceivedInOrder (written ++ receipt_of 0 5 ∷ []) 0 = laws.received_in_order (written ++ receipt_of 0 5 ∷ []) [] refl 0 (omega arith) in
+      let front : 1 ≤ 0 = order.published in
+      omega arith);
+}
+
+pub returns-clause-taken_back : goal.returns-clause-taken_back
+unfolding Rattle.dr_meaning.specs.Meaning.Machine.least_outside
+returns-clause-taken_back c = record {
+  so_far = (_, (refl, refl, (refl, refl, (refl, refl, (refl, refl, (refl, refl, refl))))));
+  unlawful = λ laws.
+      (let order : AfterUpstreams pair (completed ++ completion_of 0 0 ∷ []) 0 = laws.after_upstreams (completed ++ completion_of 0 0 ∷ []) [] refl 0 (omega arith) in
+      let rises : 1 ≤ 0 = order.rises completed (completion_of 0 0 ∷ []) refl in
+      omega arith);
+}
+
+pub returns-clause-untaken : goal.returns-clause-untaken
+unfolding Rattle.dr_meaning.specs.Meaning.Machine.least_outside
+returns-clause-untaken c = record {
+  so_far = (_, (refl, refl, (refl, refl, (refl, refl, refl))));
+  unlawful = λ laws.
+      (let order : AfterUpstreams pair (published ++ completion_of 0 1 ∷ []) 0 = laws.after_upstreams (published ++ completion_of 0 1 ∷ []) [] refl 0 (omega arith) in
+      let took : 1 ≤ 0 = order.took in
+      omega arith);
+}
+
+pub returns-clause-before_upstream : goal.returns-clause-before_upstream
+unfolding Rattle.dr_meaning.specs.Meaning.Machine.least_outside
+returns-clause-before_upstream c = record {
+  so_far = (_, (refl, refl, (refl, refl, (refl, refl, (refl, refl, refl)))));
+  unlawful = λ laws.
+      (let order : AfterUpstreams pair (taken ++ receipt_of 1 5 ∷ []) 1 = laws.after_upstreams (taken ++ receipt_of 1 5 ∷ []) [] refl 1 (omega arith) in
+      let after : 1 ≤ 0 = order.after 0 (0, omega arith, refl) in
+      omega arith);
+}
+
+pub returns-clause-no_room : goal.returns-clause-no_room
+unfolding Rattle.dr_meaning.specs.Meaning.Machine.least_outside
+returns-clause-no_room c = record {
+  so_far = (_, (refl, refl, (refl, refl, (refl, refl, (refl, refl, (refl, refl, (refl, refl, refl)))))));
+  unlawful = λ laws.
+      (let room : 2 ≤ 1 = laws.has_room taken_by_both [] (claim_of 1) refl 1 1 1 refl (0, omega arith, refl) in
+      omega arith);
+}
+
+pub returns-clause-claimed_late : goal.returns-clause-claimed_late
+returns-clause-claimed_late c = record {
+  so_far = (_, (refl, refl, refl));
+  unlawful = λ laws. laws.no_claim_after_halt (halt ∷ []) [] (claim_of 0) refl 0 0 refl refl;
+}
+
+pub returns-clause-drained_before_halt : goal.returns-clause-drained_before_halt
+returns-clause-drained_before_halt c = record {
+  so_far = (_, refl);
+  unlawful = λ laws. (let complete : IsComplete [] 0 = laws.drained_is_complete [] [] drain refl 0 1 refl refl in let halted : false ≡ true = complete.halted in cc);
+}
+
+pub returns-clause-drained_early : goal.returns-clause-drained_early
+unfolding Rattle.dr_meaning.specs.Meaning.Machine.least_outside
+returns-clause-drained_early c = record {
+  so_far = (_, (refl, refl, (refl, refl, (refl, refl, (refl, refl, refl)))));
+  unlawful = λ laws.
+      (let complete : IsComplete (published ++ halt ∷ []) 0 = laws.drained_is_complete (published ++ halt ∷ []) [] drain refl 0 1 refl refl in
+      let all : 0 ≡ 1 = complete.taken in
+      omega arith);
+}

@@ -1,0 +1,50 @@
+-- One step too far: an entry after which a transcript of the machine is lawful no more. The events are numbers here.
+use Rattle.std.specs.Prelude.{ℕ, true, [], ◌∷◌, ◌++◌}
+use Rattle.dr_meaning.specs.declared.mode.Mode.TheVariants.{Single}
+use Rattle.dr_meaning.specs.declared.command.Command.TheVariants.{Claim, Write, Publish, Poll, Complete, Halt}
+use Rattle.dr_meaning.specs.declared.command.Reply.TheVariants.{Claimed, Written, Published, Batch, Drained, Completed, Halting}
+use Rattle.dr_meaning.specs.Meaning.Machine.{Setup, State, setup_of}
+use Rattle.dr_meaning.specs.Meaning.Transcript.{Entry, Transcript, entry_with, LeadsTo}
+use Rattle.dr_meaning.specs.Meaning.Laws.{Laws}
+
+-- a ring of one slot, and two handlers, of which the second follows the first
+abbrev pub pair : Setup
+pair = setup_of ([] ∷ (0 ∷ []) ∷ []) 1 Single 9
+
+abbrev pub claim_of : ℕ → Entry ℕ
+claim_of s = entry_with (Claim 0 1) (Claimed s s) []
+
+-- a handler receives an event as the first one
+abbrev pub receipt_of : ℕ → ℕ → Entry ℕ
+receipt_of h event = entry_with (Poll h 1) (Batch 0 1 true) (event ∷ [])
+
+abbrev pub completion_of : ℕ → ℕ → Entry ℕ
+completion_of h upto = entry_with (Complete h upto) Completed []
+
+abbrev pub halt : Entry ℕ
+halt = entry_with Halt Halting []
+
+-- the first handler is told that the ring drained
+abbrev pub drain : Entry ℕ
+drain = entry_with (Poll 0 1) Drained []
+
+-- the event 5 is written, then published, then taken by the first handler, then completed by it, then taken by the second
+abbrev pub written : Transcript ℕ
+written = claim_of 0 ∷ entry_with (Write 0 0 5) Written [] ∷ []
+
+abbrev pub published : Transcript ℕ
+published = written ++ entry_with (Publish 0 0 0) Published [] ∷ []
+
+abbrev pub taken : Transcript ℕ
+taken = published ++ receipt_of 0 5 ∷ []
+
+abbrev pub completed : Transcript ℕ
+completed = taken ++ completion_of 0 1 ∷ []
+
+abbrev pub taken_by_both : Transcript ℕ
+taken_by_both = completed ++ receipt_of 1 5 ∷ []
+
+-- a transcript leads to a state, and with one entry more it is lawful no more
+pub record IsTooFar (t : Transcript ℕ) (e : Entry ℕ) : Type 0 where
+  pub so_far : (m : State ℕ) × LeadsTo pair t m
+  pub unlawful : Laws pair (t ++ e ∷ []) → ⊥

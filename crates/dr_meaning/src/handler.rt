@@ -1,0 +1,61 @@
+//! Handlers of events.
+
+ghost use Rattle.std.specs.Prelude.{◌+◌, ◌^◌, ◌<◌, ℕ, Bool, true, length};
+ghost use Rattle.dr_meaning.specs.Calls.Handling.{GoesThrough, showings};
+
+/// A handler of events, LMAX's event handler. It cannot fail: what can go wrong in it, it keeps.
+pub trait Handler<E> {
+    /// How the handler's meaning goes from before a call to after it: a relation, since a handler
+    /// that grows may find no memory.
+    ghost goes: { Self → E → ℕ → Bool → Self → Type 0 };
+
+    /// Handles the event of a sequence. `end` marks the last event that was available, so that a
+    /// handler may put its work off until then, as LMAX's end of batch does.
+    fn on_event(&mut self, event: E, s: u64, end: bool)
+        ensures { goes self.old event s end self.new };
+}
+
+/// A handler that is shown events where they lie, so that none is copied. Each [`Handler`] is one;
+/// for large events write this one in its place.
+pub trait InPlaceHandler<E> {
+    /// How the handler's meaning goes from before a call to after it, as [`Handler`] has it.
+    ghost goes: { Self → E → ℕ → Bool → Self → Type 0 };
+
+    /// Handles the event of a sequence, as [`Handler::on_event`] does.
+    fn on_event_in_place(&mut self, event: &E, s: u64, end: bool)
+        ensures { goes self.old event.now s end self.new };
+}
+
+impl<E: Copy, H: Handler<E>> InPlaceHandler<E> for H {
+    ghost goes = { H.goes };
+
+    #[inline]
+    fn on_event_in_place(&mut self, event: &E, s: u64, end: bool) {
+        self.on_event(*event, s, end);
+    }
+}
+
+/// Shows the events of a batch to a handler, each once and in order. Their sequences begin with
+/// `first`, and where `end` is true the last one is marked.
+pub fn show<E: Copy, H: Handler<E>>(handler: &mut H, events: &[E], first: u64, end: bool)
+    requires { first + length events.now < 2 ^ 64 }
+    ensures { GoesThrough H.goes handler.old (showings events.now first end) handler.new }
+{
+    show_in_place(handler, events, first, end);
+}
+
+/// The same to a handler that is shown events where they lie.
+pub fn show_in_place<E: Copy, H: InPlaceHandler<E>>(
+    handler: &mut H,
+    events: &[E],
+    first: u64,
+    end: bool,
+)
+    requires { first + length events.now < 2 ^ 64 }
+    ensures { GoesThrough H.goes handler.old (showings events.now first end) handler.new }
+{
+    for (k, event) in events.iter().enumerate() {
+        let is_last = k + 1 == events.len();
+        handler.on_event_in_place(event, first + k as u64, end && is_last);
+    }
+}

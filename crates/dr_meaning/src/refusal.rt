@@ -1,0 +1,110 @@
+//! Why a call is refused.
+
+ghost use Rattle.std.specs.Prelude.{◌≡◌};
+ghost use Rattle.dr_meaning.specs.Calls.Refusal.{number_of, name_of};
+
+use thiserror::Error;
+
+/// Why an exchange refused a call. A refused call changes nothing.
+#[derive(Clone, Copy, Debug, PartialEq, Eq, Error)]
+pub enum Refusal {
+    /// The slots of the claim are still in use: a final handler has not completed their events.
+    #[error("no-room")]
+    NoRoom,
+    /// The exchange is halted, and gives no more sequences.
+    #[error("halted")]
+    Halted,
+    /// A claim of none or of more than the size, a publication that ends before it begins, or a
+    /// poll that offers no room.
+    #[error("bad-count")]
+    BadCount,
+    /// The claim goes past the limit of sequences.
+    #[error("exhausted")]
+    Exhausted,
+    /// The sequence was never claimed, or by another producer.
+    #[error("not-claimed")]
+    NotClaimed,
+    /// The sequence is published.
+    #[error("already-published")]
+    AlreadyPublished,
+    /// The sequence has no event yet.
+    #[error("not-written")]
+    NotWritten,
+    /// One producer publishes in order, and an earlier sequence is unpublished.
+    #[error("out-of-order")]
+    OutOfOrder,
+    /// The handler has not taken so many events.
+    #[error("not-taken")]
+    NotTaken,
+    /// The handler has completed more events.
+    #[error("behind")]
+    Behind,
+    /// There is no such producer.
+    #[error("no-producer")]
+    NoProducer,
+    /// There is no such handler.
+    #[error("no-handler")]
+    NoHandler,
+    /// The handler is retired.
+    #[error("retired")]
+    Retired,
+    /// A handler that is not retired follows this one.
+    #[error("not-final")]
+    NotFinal,
+    /// No other handler is left.
+    #[error("last-handler")]
+    LastHandler,
+    /// A ring cannot be closed while a claimed sequence is unpublished.
+    #[error("open-claim")]
+    OpenClaim,
+}
+
+impl Refusal {
+    /// The refusal's number, which stays the same in every release.
+    pub fn number(self) -> u32
+        ensures { result ≡ number_of self }
+    {
+        match self {
+            Refusal::NoRoom => 1,
+            Refusal::Halted => 2,
+            Refusal::BadCount => 3,
+            Refusal::Exhausted => 4,
+            Refusal::NotClaimed => 5,
+            Refusal::AlreadyPublished => 6,
+            Refusal::NotWritten => 7,
+            Refusal::OutOfOrder => 8,
+            Refusal::NotTaken => 9,
+            Refusal::Behind => 10,
+            Refusal::NoProducer => 11,
+            Refusal::NoHandler => 12,
+            Refusal::Retired => 13,
+            Refusal::NotFinal => 14,
+            Refusal::LastHandler => 15,
+            Refusal::OpenClaim => 41,
+        }
+    }
+
+    /// The refusal's name, as programs print it.
+    pub fn name(self) -> &'static str
+        ensures { result.now ≡ name_of self }
+    {
+        match self {
+            Refusal::NoRoom => "no-room",
+            Refusal::Halted => "halted",
+            Refusal::BadCount => "bad-count",
+            Refusal::Exhausted => "exhausted",
+            Refusal::NotClaimed => "not-claimed",
+            Refusal::AlreadyPublished => "already-published",
+            Refusal::NotWritten => "not-written",
+            Refusal::OutOfOrder => "out-of-order",
+            Refusal::NotTaken => "not-taken",
+            Refusal::Behind => "behind",
+            Refusal::NoProducer => "no-producer",
+            Refusal::NoHandler => "no-handler",
+            Refusal::Retired => "retired",
+            Refusal::NotFinal => "not-final",
+            Refusal::LastHandler => "last-handler",
+            Refusal::OpenClaim => "open-claim",
+        }
+    }
+}

@@ -1,7 +1,0 @@
-use Rattle.std.proofs.Common.{ℕ, ◌<◌}
-use Rattle.dr_shared.specs.Meaning.Audit.{scripts_of}
-use Rattle.dr_shared.specs.Inside.Auditing.{SentIn}
-use Rattle.dr_shared.proofs.auditing.check_scripts.Given as goal
-
-abbrev pub invariant-loop-p : goal.invariant-loop-p
-invariant-loop-p g l = (q : ℕ) → q < l.p → SentIn l.list (scripts_of l.scripts) q

@@ -1,5 +1,0 @@
-use Rattle.dr_shared.proofs.Replies.{write_all_tells}
-use Rattle.dr_shared.proofs.locked.LockedInletInlet.write_all.Goals as goal
-
-pub returns-clause-answer : goal.returns-clause-answer
-returns-clause-answer g c = write_all_tells _ _ _ _ _ c.write_all.ensures.answer

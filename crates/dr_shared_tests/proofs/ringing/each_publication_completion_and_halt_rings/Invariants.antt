@@ -1,9 +1,0 @@
-use Rattle.dr_shared_tests.proofs.ringing.each_publication_completion_and_halt_rings.Given as goal
-
--- the ledger of the blank
-abbrev pub ghosts-by_ends-L-Ledger : goal.ghosts-by_ends-L-Ledger
-ghosts-by_ends-L-Ledger g a = record { name = a.blank.name; parts = a.blank.parts }
-
--- the history that comes behind the lock
-abbrev pub ghosts-by_ends-L-Exchange : goal.ghosts-by_ends-L-Exchange
-ghosts-by_ends-L-Exchange g a = record { begun = a.recorded.history }

@@ -1,7 +1,0 @@
-use Rattle.std.proofs.Common.{arith}
-use Rattle.std.proofs.lemmas.Bool.Decides.{nat_tests}
-use Rattle.dr_shared_tests.proofs.Silent.{silent}
-use Rattle.dr_shared_tests.proofs.workers.ScarceInletEvent.publish.Goals as goal
-
-pub returns-then-finds_memory-clause-answer : goal.returns-then-finds_memory-clause-answer
-returns-then-finds_memory-clause-answer c = silent c.args.lo c.args.hi (grind (arith, nat_tests, c.if-lo-hi.false)) (grind (arith, nat_tests, c.if-hi.false))

@@ -1,0 +1,13 @@
+pub mod Picks
+pub mod Faults
+pub mod Showing
+pub mod Stopping
+pub mod Ordering
+pub mod Calling
+pub mod Working
+pub mod Serving
+pub mod Writings
+pub mod Sending
+pub mod Closing
+pub mod Untroubled
+pub mod Biding

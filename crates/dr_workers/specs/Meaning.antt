@@ -1,0 +1,3 @@
+-- What a worker is: read this first.
+pub mod Work
+pub mod FirstFault
