@@ -160,8 +160,8 @@ static inline uint32_t disruptor_before(uint64_t *upstreams, size_t handlers, si
     return DISRUPTOR_OK;
 }
 
-/* Frees what a handle of any kind has, and leaves it as before it was opened. A ring is let go with its last end. A null
- * pointer is let be. */
+/* Frees what a handle of any kind has. It is closed then, and may be opened again, though its bytes are not all zeros. A ring
+ * is let go with its last end. A null pointer is let be. */
 static inline void disruptor_free(void *handle) {
     size_t there = disruptor_there(handle, 8, sizeof(disruptor_sender), 1);
     disruptor_free_at(disruptor_or_nothing(handle, there), there);
