@@ -4,7 +4,7 @@ import os
 import re
 from dataclasses import dataclass, field
 
-FUNCTION = re.compile(r"^([ \t]*)(?:pub(?:\([\w: ]+\))? )?(?:(?:const|unsafe) )*fn (\w+)", re.M)
+FUNCTION = re.compile(r'^([ \t]*)(?:pub(?:\([\w: ]+\))? )?(?:(?:const|unsafe|extern "C") )*fn (\w+)', re.M)
 OWNER = re.compile(r"^(?:pub )?(?:unsafe )?(?:impl|trait)\b[^\n{]*", re.M)
 TYPE = re.compile(r"^(?:pub(?:\([\w: ]+\))? )?(?:struct|enum|union|trait) (\w+)", re.M)
 # What no check admits, since it cites what nothing declares: an error of a name, which refuses no edit.
@@ -162,19 +162,23 @@ def texts_of(folder):
     return {it: open(f"{folder}/{it}", encoding="utf-8").read() for it in sorted(found) if "tests" not in re.split("[/.]", it)}
 
 
+def module_of(file):
+    """Returns the module of a file, or nothing for the root of a library or a program."""
+    module = file.removeprefix("src/").removesuffix(".rt").removesuffix("/mod")
+    return "" if module in ("lib", "main") else module
+
+
 def proof_of(function, texts):
     """Returns the folder of a function's proof: a method of no trait has it below its type's module, wherever the impl is."""
     file, owner, name = function
     at = [file, *(it for it, text in texts.items() if owner and owner in TYPE.findall(text))][-1]
-    module = at.removeprefix("src/").removesuffix(".rt").removesuffix("/mod")
-    return "/".join(it for it in ("proofs", module if module != "lib" else "", owner, name) if it)
+    return "/".join(it for it in ("proofs", module_of(at), owner, name) if it)
 
 
 def path_of(function):
     """Returns the end of a function's path that `rattle check --only` knows it by: a method stands below its type, wherever the impl is."""
     file, owner, name = function
-    module = file.removeprefix("src/").removesuffix(".rt").removesuffix("/mod").replace("/", "::")
-    return "::".join(it for it in (owner or (module if module != "lib" else ""), name) if it)
+    return "::".join(it for it in (owner or module_of(file).replace("/", "::"), name) if it)
 
 
 def only(edits):

@@ -80,7 +80,8 @@ class Libraries:
 
     def words(self, name, verb="check"):
         libraries = [f"{it}={f'{self.room}/{it}' if it in self.below else f'{self.kit}/rlibs'}/{it}.rlib" for it in ("std", *self.uses[name])]
-        words = ["rattle", verb, "--crate-name", name, "src/lib.rt", "--jobs", "1", "--incremental", "kept", "--links", f"{name}="]
+        root = "main" if prove.is_program(self.top, name) else "lib"
+        words = ["rattle", verb, "--crate-name", name, f"src/{root}.rt", "--jobs", "1", "--incremental", "kept", "--links", f"{name}="]
         words += [word for it in libraries for word in ("--extern", it)]
         folders = [f"{self.kit}/rlibs", *(f"{self.room}/{it}" for it in self.below[name])]
         words += [word for it in folders for word in ("-L", f"dependency={it}")]
@@ -183,7 +184,7 @@ class Trial:
             self.lanes.add(-above - MANY, functools.partial(self.prove, name, is_alone))
 
     def prove(self, name, is_alone):
-        status, said = prove.prove(self.top, name, self.below[name], 1, 0, ["lib"])
+        status, said = prove.prove(self.top, name, self.below[name], 1, 0, ["check" if prove.is_program(self.top, name) else "lib"])
         if status:
             self.told(f"{said[-3000:]}\n{name} is not proved as it is")
             return
