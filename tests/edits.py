@@ -156,6 +156,15 @@ def companies(edits):
     return groups
 
 
+def forget(edits, kept):
+    """Removes from what is kept each file that has the name of a function that the edits change, whichever of that name it is of."""
+    names = {name for edit in edits for _, _, name in edit.functions}
+    for at, _, files in os.walk(kept):
+        for it in files:
+            if names.intersection(re.split("[.+-]+", it)):
+                os.remove(f"{at}/{it}")
+
+
 def texts_of(folder):
     """Returns the text of each file of a crate that a check reads."""
     found = [os.path.relpath(f"{at}/{it}", folder) for at, _, names in os.walk(f"{folder}/src") for it in names if it.endswith(".rt")]

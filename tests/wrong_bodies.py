@@ -33,7 +33,7 @@ sys.path[:0] = [f"{TOP}/tools", f"{TOP}/tests"]
 import prove  # noqa: E402
 import together  # noqa: E402
 import verdicts  # noqa: E402
-from edits import applied, companies, fault_of, offers_nothing, only, place, read_edit  # noqa: E402
+from edits import applied, companies, fault_of, forget, offers_nothing, only, place, read_edit  # noqa: E402
 
 # A list has fewer edits.
 MANY = 1000
@@ -56,25 +56,27 @@ class Libraries:
         """Gives the library that stands in the crate's folder `out` a second name, since an `rt` may replace it there."""
         shutil.copytree(f"{self.top}/crates/{name}/out/rlib", f"{self.room}/{name}", copy_function=prove.link)
 
-    def check(self, edits, kept, keeps=None, applies=True, is_short=False, is_of_all=False):
+    def check(self, edits, kept, keeps=None, beside=(), is_short=False, is_of_all=False):
         """Checks the functions of these edits in a copy of their crate to which it applies them, over what is kept, and returns what is
-        said. What it kept goes to keeps. A short check offers no answers; one of all looks at every function of the crate."""
-        name = edits[0].crate
+        said. It looks at those of the edits beside too, which it does not apply. What it kept goes to keeps, but nothing of a function
+        that it changed. A short check offers no answers; one of all looks at every function of the crate."""
+        name = [*edits, *beside][0].crate
         with together.folder("wrong-") as room:
             for it in prove.SOURCES:
                 if os.path.isdir(f"{self.top}/crates/{name}/{it}"):
                     shutil.copytree(f"{self.top}/crates/{name}/{it}", f"{room}/{it}")
             if kept and os.path.isdir(kept):
                 shutil.copytree(kept, f"{room}/kept", copy_function=prove.link)
-            for it in edits * applies:
+            for it in edits:
                 applied(it, room)
             if is_short:
                 offers_nothing(edits, room)
-            said = together.said_by([*self.words(name), *([] if is_of_all else only(edits))], room)[1]
+            said = together.said_by([*self.words(name), *([] if is_of_all else only([*edits, *beside]))], room)[1]
             # (where a file of these is of no function that it knows)
             if is_short and "error: rattle does not read this file" in said:
-                return self.check(edits, kept, keeps)
+                return self.check(edits, kept, keeps, beside)
             if keeps and os.path.isdir(f"{room}/kept"):
+                forget(edits, f"{room}/kept")
                 shutil.move(f"{room}/kept", keeps)
         return said
 
@@ -219,26 +221,33 @@ class Trial:
             self.lanes.release()
 
     def begin(self, crate):
-        """Tries a crate's edits, where there are many lists over what all but the first need of the crate as it is: none finds what
-        another changed among what is kept."""
-        groups = [*companies(crate.bodies), *([it] for it in crate.others)]
+        """Tries a crate's edits. Those of the second list come first, since it has the functions of all later ones; the others are then
+        tried over what that kept of the crate as it is. None finds there what another changed."""
+        groups = companies(crate.bodies)
+        others = [[it] for it in crate.others]
+        first, rest = groups[1:2], [*groups[:1], *groups[2:], *others]
+        beside = [it for it in crate.others if only([it])]
 
-        def first():
-            self.libraries.check([it for one in groups[1:] for it in one], None, crate.kept, applies=False)
-            self.add(groups, crate.kept)
+        def begins():
+            if first:
+                self.attempt(first[0], None, True, crate.kept, beside)
+            else:
+                self.libraries.check([], None, crate.kept, beside)
+            self.add(rest, crate.kept)
 
-        if len(groups) > 2:
-            self.lanes.add(-sum(map(len, groups)), first)
+        if first or len(beside) > 1:
+            self.lanes.add(-sum(map(len, groups)) - len(others), begins)
         else:
-            self.add(groups, None)
+            self.add(rest, None)
 
     def add(self, groups, kept, is_short=True):
         for it in groups:
             self.lanes.add(-len(it), functools.partial(self.attempt, it, kept, is_short))
 
-    def attempt(self, edits, kept, is_short):
+    def attempt(self, edits, kept, is_short, keeps=None, beside=()):
         """Has one short check judge these edits, and then each of which it does not tell a whole one of its own."""
-        said = self.libraries.check(edits, kept, is_short=is_short)
+        said = self.libraries.check(edits, kept, keeps, beside, is_short)
+        kept = kept or keeps
         for edit in edits:
             if goal := verdicts.verdict(said, edit):
                 self.note(edit, goal)

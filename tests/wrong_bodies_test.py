@@ -79,6 +79,7 @@ returns c = thrice c.twice-double.result c.args.n c.twice-double.ensures
 EDITS = {
     "adds_one": ("src/lib.rt", "    n + n", "    n + n + 1", "refused by twice, goal"),
     "leaves_all": ("src/lib.rt", "rest = n - m", "rest = n", "refused by rest_of, goal"),
+    "leaves_half": ("src/lib.rt", "rest = n - m", "rest = n - m / 2", "refused by rest_of, goal"),
     # Refused only in company, since its function calls another wrong body there.
     "means_the_same": ("src/lib.rt", "half + half", "2 * half", "NOT REFUSED: toy/means_the_same: the crate is still proved"),
     "begins_with_a_return": ("src/lib.rt", "result ≡ n } {", "result ≡ n } { if n > 100 { return 0; }", "refused by same, goal"),
@@ -188,13 +189,14 @@ def main():
         if not ends_all(number):
             failed += 1
             print(f"FAILED: what was started goes on after signal {number}")
-    failed += failures({name: it[3] for name, it in EDITS.items()}, "5 refused, 5 not")
+    failed += failures({name: it[3] for name, it in EDITS.items()}, "6 refused, 5 not")
     alone = {"adds_one": "refused by rt must-fail: ", "takes_a_name_away": "NOT REFUSED: toy/takes_a_name_away: refused, as it must be (only"}
     failed += failures(alone, "1 refused, 1 not", is_alone=True)
-    # What a short check adds to the second's files refuses nothing; the others are tried over what is kept of the crate as it is.
-    beside = {"leaves_all": "refused by rest_of", "means_the_same": "the crate is still proved", "says_less": "refused by four_times"}
+    # The second comes first, and the others over what it kept. What a short check adds to the third's files refuses nothing.
+    beside = {"leaves_all": "refused by rest_of", "leaves_half": "refused by rest_of"}
+    beside |= {"means_the_same": "the crate is still proved", "says_less": "refused by four_times"}
     beside["changes_a_lemma"] = EDITS["changes_a_lemma"][3]
-    failed += failures(beside, "3 refused, 1 not", "rt: toy proved\n")
+    failed += failures(beside, "4 refused, 1 not", "rt: toy proved\n")
     failed += failures({"adds_one": "toy is not proved"}, "0 refused, 1 not", "rt: toy NOT PROVED\n0 passed, 1 failed\n")
     print(f"wrong_bodies.py: {len(EDITS)} edits of a small crate, {failed} failed")
     return 1 if failed else 0
