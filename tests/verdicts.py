@@ -31,7 +31,9 @@ def path_in(said, edit):
         paths = [it for it in paths if it.split("::")[-2][:1].islower()]
     if len(paths) > 1:
         module = file.removeprefix("src/").removesuffix(".rt").removesuffix("/mod")
-        inside = [it for it in paths if "/".join(it.split("::")[1:-1]).startswith(module)]
+        places = {it: "/".join(it.split("::")[1:-1]) for it in paths}
+        exact = [it for it in paths if places[it] in (module, f"{module}/{owner}")]
+        inside = exact or [it for it in paths if places[it].startswith(module)]
         paths = inside or [it for it in paths if it.split("::")[1] == module.split("/")[0]]
     return paths[0] if len(paths) == 1 else None
 

@@ -12,6 +12,7 @@ import time
 sys.dont_write_bytecode = True
 sys.path.insert(0, os.path.dirname(os.path.abspath(__file__)))
 import wrong_bodies  # noqa: E402
+from edits import Edit  # noqa: E402
 from wrong_bodies import together, verdicts  # noqa: E402
 
 SOURCE = """#![tactic(auto)]
@@ -110,6 +111,8 @@ OTHERS = [
     "`thrice`: expected type `n ≡ n`, but this has type `m ≡ m`, which depends on `n`, and `x` has no field",
     "`returns`: `omega` found no proof: it has no `≡` that says so",
 ]
+# Functions of one name, where the name of a module begins that of another.
+ALIKE = {"toy::opening::open": "src/opening.rt", "toy::opening_several::open": "src/opening_several.rt"}
 
 
 def made_in(top, names):
@@ -185,6 +188,10 @@ def main():
         if verdicts.is_of_a_name(text) != (text in NAMES):
             failed += 1
             print(f"FAILED: whether this is of a name: {text}")
+    for path, file in ALIKE.items():
+        if verdicts.path_in(ALIKE, Edit("toy", "opens_nothing", functions=[(file, "", "open")])) != path:
+            failed += 1
+            print(f"FAILED: which of two functions of one name is in {file}")
     for number in (signal.SIGINT, signal.SIGTERM, signal.SIGHUP, signal.SIGKILL):
         if not ends_all(number):
             failed += 1
