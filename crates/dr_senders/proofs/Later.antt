@@ -257,11 +257,11 @@ polled_so k r r' out out' seen (Batch first count last) A = record {
   hands = λ more le. let a = A.0 in let b = A.2 in omega arith;
 }
 polled_so k r r' out out' seen Drained A = record {
-  looks = ap (λ (q : ReceiverRecord). q.looks) A.3;
-  marks = ap (λ (q : ReceiverRecord). q.marks) A.3;
-  completed = ap (λ (q : ReceiverRecord). q.completed) A.3;
-  level = let a = A.2 in omega arith;
-  hands = λ more le. let a = A.2 in omega arith;
+  looks = ap (λ (q : ReceiverRecord). q.looks) A.2;
+  marks = ap (λ (q : ReceiverRecord). q.marks) A.2;
+  completed = ap (λ (q : ReceiverRecord). q.completed) A.2;
+  level = let a = A.1 in omega arith;
+  hands = λ more le. let a = A.1 in omega arith;
 }
 polled_so k r r' out out' seen Gating A = record {
   looks = ap (λ (q : ReceiverRecord). q.looks) A.2;
@@ -271,11 +271,11 @@ polled_so k r r' out out' seen Gating A = record {
   hands = λ more le. let a = A.1 in omega arith;
 }
 polled_so k r r' out out' seen Idle A = record {
-  looks = ap (λ (q : ReceiverRecord). q.looks) A.3;
-  marks = ap (λ (q : ReceiverRecord). q.marks) A.3;
-  completed = ap (λ (q : ReceiverRecord). q.completed) A.3;
-  level = let a = A.2 in omega arith;
-  hands = λ more le. let a = A.2 in omega arith;
+  looks = ap (λ (q : ReceiverRecord). q.looks) A.2;
+  marks = ap (λ (q : ReceiverRecord). q.marks) A.2;
+  completed = ap (λ (q : ReceiverRecord). q.completed) A.2;
+  level = let a = A.1 in omega arith;
+  hands = λ more le. let a = A.1 in omega arith;
 }
 
 -- no further than what is not published, or claimed

@@ -253,7 +253,7 @@ lead_halt k w K =
     (leads_one k Halt Halting [] (picture_of k w) (shown k w.stages (takens w) (counts_of k w.words) true) refl)
 
 -- what is offered to a handler is claimed
-offer_claimed : (k : Shape) (w : World) (h : ℕ) → h < handlers_of k → KeepsRule k w → available (ring_setup k) (picture_of k w) h ≤ length w.stages
+pub offer_claimed : (k : Shape) (w : World) (h : ℕ) → h < handlers_of k → KeepsRule k w → available (ring_setup k) (picture_of k w) h ≤ length w.stages
 offer_claimed k w h inside K =
     offered_at_most (picture_of k w) (upstreams_of k.upstreams h) (length w.stages)
     (front_within k w.stages (takens w) (counts_of k w.words) (halted w.words))
@@ -304,25 +304,31 @@ not_true true e = absurd (cc)
 not_true false e = refl
 
 -- what is not marked is not published
-unmarked_offers : (k : Shape) (w : World) (h : ℕ) (r : ReceiverRecord) → get_elem? w.receivers h ≡ some r → KeepsRule k w
-    → is_unmarked k h r (word_at w.words (mark_word k r.seen)) ≡ true → available (ring_setup k) (picture_of k w) h ≤ length r.received
-unmarked_offers k w h r at K told =
-    let n = length r.received in let found = word_at w.words (mark_word k r.seen) in let m = picture_of k w in
-    let a : ((length (upstreams_of k.upstreams h) == 0) ≡ true) × (((r.seen == n) && not (found == entry_of k.size r.seen)) ≡ true) = and_parts _ _ told in
-    let b : ((r.seen == n) ≡ true) × (not (found == entry_of k.size r.seen) ≡ true) = and_parts _ _ a.1 in
-    let none : upstreams_of k.upstreams h ≡ [] = no_length (upstreams_of k.upstreams h) (eqb-true _ _ a.0) in
-    let next : r.seen ≡ n = eqb-true _ _ b.0 in let miss = eqb-false found (entry_of k.size r.seen) (not_true _ b.1) in
+pub unpublished_offers : (k : Shape) (w : World) (h : ℕ) (r : ReceiverRecord) → get_elem? w.receivers h ≡ some r → KeepsRule k w → upstreams_of k.upstreams h ≡ []
+    → word_at w.words (mark_word k (length r.received)) ≢ entry_of k.size (length r.received) → available (ring_setup k) (picture_of k w) h ≤ length r.received
+unpublished_offers k w h r at K none miss =
+    let n = length r.received in let m = picture_of k w in
     let was = K.received h r at in let room = above k w K h (handler_inside k w h r at K) in let d = was.count in let c = was.completed in
     let off : (stage_at w.stages n).published ≡ false = elim (cases_Bool (stage_at w.stages n).published) [
       | inl on ↦ absurd (elim (cases_lt n (length w.stages)) [
         | inl lt ↦ (let t = there w.stages n lt in
             let shown_it : t.0.published ≡ true = ap (λ (x : Stage). x.published) (sym (at_stage w.stages n t.0 t.1)) ∙ on in
-            miss (ap (λ (j : ℕ). word_at w.words (mark_word k j)) next ∙ (K.stages n t.0 t.1).marked (omega arith) shown_it ∙ ap (entry_of k.size) (sym next)))
+            miss ((K.stages n t.0 t.1).marked (omega arith) shown_it))
         | inr past ↦ (let e = ap (λ (x : Stage). x.published) (get_or_past w.stages n (fresh_stage 0) past) in cc)
       ])
       | inr still ↦ still
     ] in
     subst (λ (ups : List ℕ). machine.offered m ups ≤ n) (sym none) (front_at_most k w.stages (takens w) (counts_of k w.words) (halted w.words) n off)
+
+unmarked_offers : (k : Shape) (w : World) (h : ℕ) (r : ReceiverRecord) → get_elem? w.receivers h ≡ some r → KeepsRule k w
+    → is_unmarked k h r (word_at w.words (mark_word k r.seen)) ≡ true → available (ring_setup k) (picture_of k w) h ≤ length r.received
+unmarked_offers k w h r at K told =
+    let n = length r.received in let found = word_at w.words (mark_word k r.seen) in
+    let a : ((length (upstreams_of k.upstreams h) == 0) ≡ true) × (((r.seen == n) && not (found == entry_of k.size r.seen)) ≡ true) = and_parts _ _ told in
+    let b : ((r.seen == n) ≡ true) × (not (found == entry_of k.size r.seen) ≡ true) = and_parts _ _ a.1 in
+    let none : upstreams_of k.upstreams h ≡ [] = no_length (upstreams_of k.upstreams h) (eqb-true _ _ a.0) in
+    let next : r.seen ≡ n = eqb-true _ _ b.0 in let miss = eqb-false found (entry_of k.size r.seen) (not_true _ b.1) in
+    unpublished_offers k w h r at K none (subst (λ (s : ℕ). word_at w.words (mark_word k s) ≢ entry_of k.size s) next miss)
 
 -- the least of some counts is at most each
 least_low : (f : ℕ → ℕ) (us : List ℕ) (i u : ℕ) → i < length us → get_or us i u ≡ u → least_of (map f us) ≤ f u
@@ -336,7 +342,7 @@ offered_below : (m : State Event) (us : List ℕ) (u : ℕ) → Contains us u �
 offered_below m [] u has = absurd (let lt = has.1 in omega arith)
 offered_below m (x ∷ xs) u has = least_low (λ h. get_or m.completed h 0) (x ∷ xs) has.0 u has.1 has.2
 
-behind_offers : (k : Shape) (w : World) (h u : ℕ) (r : ReceiverRecord) → get_elem? w.receivers h ≡ some r → Contains (upstreams_of k.upstreams h) u
+pub behind_offers : (k : Shape) (w : World) (h u : ℕ) (r : ReceiverRecord) → get_elem? w.receivers h ≡ some r → Contains (upstreams_of k.upstreams h) u
     → KeepsRule k w → nat_le (word_at w.words (count_word u)) (length r.received) ≡ true → available (ring_setup k) (picture_of k w) h ≤ length r.received
 behind_offers k w h u r at has K told =
     let i = upstream_inside k K.shape.graph h u (handler_inside k w h r at K) has in let c = count_at k w.words u i in

@@ -125,8 +125,8 @@ poll_nothing k r s out found available upto taken next O ahead none =
           (omega arith, (let e = O.offered in let t = O.taken in omega arith), round, refl)
       | inr all ↦ elim (cases_Bool (is_halted found)) [
         | inl on ↦ subst P (sym (drains (is_halted found) (claimed_in found) taken on all))
-            (on, omega arith, level, round, ap (λ (q : ReceiverRecord). q.told) round ∙ is_told r found on (omega arith), refl)
-        | inr off ↦ subst P (sym (idles (is_halted found) (claimed_in found) taken off all)) (off, omega arith, level, round, refl)
+            ((on, omega arith), level, round, ap (λ (q : ReceiverRecord). q.told) round ∙ is_told r found on (omega arith), refl)
+        | inr off ↦ subst P (sym (idles (is_halted found) (claimed_in found) taken off all)) ((off, omega arith), level, round, refl)
       ]
     ]
 

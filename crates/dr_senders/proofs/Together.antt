@@ -108,9 +108,9 @@ claim_number r n seen (Err fault) = refl
 pub poll_number : (k : Shape) (r r' : ReceiverRecord) (out out' : List Event) (result : Result Polled Refusal) → PollSees k r out r' out' result
     → r'.number ≡ r.number
 poll_number k r r' out out' (Ok (Batch first count last)) x = ap (λ (q : ReceiverRecord). q.number) x.2.4
-poll_number k r r' out out' (Ok Drained) x = ap (λ (q : ReceiverRecord). q.number) x.2.3
+poll_number k r r' out out' (Ok Drained) x = ap (λ (q : ReceiverRecord). q.number) x.2.2
 poll_number k r r' out out' (Ok Gating) x = ap (λ (q : ReceiverRecord). q.number) x.2.2
-poll_number k r r' out out' (Ok Idle) x = ap (λ (q : ReceiverRecord). q.number) x.2.3
+poll_number k r r' out out' (Ok Idle) x = ap (λ (q : ReceiverRecord). q.number) x.2.2
 poll_number k r r' out out' (Err refusal) x = ap (λ (q : ReceiverRecord). q.number) x.0
 
 pub write_number : (k : Shape) (r : SenderRecord) (s : ℕ) (event : Event) (x : Sight) (result : Result (Unit {0}) Refusal)

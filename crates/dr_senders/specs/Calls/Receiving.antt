@@ -78,17 +78,24 @@ looked_round k r seen = record r {
 abbrev pub offer : PollLooks → ℕ
 offer seen = offered_by seen.upto seen.counts
 
+-- What the claim word tells a poll that takes nothing, by how many events its handler took. It is by this that the machine replies so (`moments`).
+abbrev pub TellsNothing : ℕ → ℕ → Polled → Type 0
+TellsNothing claims taken (Batch first count last) = ⊥
+TellsNothing claims taken Drained = (is_halted claims ≡ true) × (claimed_in claims ≡ taken)
+TellsNothing claims taken Gating = taken < claimed_in claims
+TellsNothing claims taken Idle = (is_halted claims ≡ false) × (claimed_in claims ≡ taken)
+
 -- what a poll answers, where it saw this; who was told that the ring drained gets no batch any more
 abbrev pub Answers : Shape → ReceiverRecord → List Event → ReceiverRecord → List Event → PollLooks → Polled → Type 0
 Answers k r out r' out' seen (Batch first count last) =
     (first ≡ length r.received) × (first < offer seen) × (count ≡ min (offer seen - first) (length out)) × (IsTrue last ↔ (first + count ≡ offer seen))
     × (r' ≡ received_all (looked_round k r seen) (take count out')) × (r'.told ≡ false) × (drop count out' ≡ drop count out)
 Answers k r out r' out' seen Drained =
-    (is_halted seen.claims ≡ true) × (claimed_in seen.claims ≡ length r.received) × (offer seen ≡ length r.received) × (r' ≡ looked_round k r seen) × (r'.told ≡ true) × (out' ≡ out)
+    TellsNothing seen.claims (length r.received) Drained × (offer seen ≡ length r.received) × (r' ≡ looked_round k r seen) × (r'.told ≡ true) × (out' ≡ out)
 Answers k r out r' out' seen Gating =
-    (length r.received < claimed_in seen.claims) × (offer seen ≡ length r.received) × (r' ≡ looked_round k r seen) × (out' ≡ out)
+    TellsNothing seen.claims (length r.received) Gating × (offer seen ≡ length r.received) × (r' ≡ looked_round k r seen) × (out' ≡ out)
 Answers k r out r' out' seen Idle =
-    (is_halted seen.claims ≡ false) × (claimed_in seen.claims ≡ length r.received) × (offer seen ≡ length r.received) × (r' ≡ looked_round k r seen) × (out' ≡ out)
+    TellsNothing seen.claims (length r.received) Idle × (offer seen ≡ length r.received) × (r' ≡ looked_round k r seen) × (out' ≡ out)
 
 -- a poll that is not refused answers by what it saw
 abbrev pub PollSees : Shape → ReceiverRecord → List Event → ReceiverRecord → List Event → Result Polled Refusal → Type 0

@@ -1,52 +1,71 @@
 -- What an end of a ring answers is what the machine replies on the ring's picture.
-use Rattle.std.specs.Prelude.{◌≡◌, ℕ, ◌+◌, ◌<◌, ◌≤◌, ◌-◌, ◌⊎◌, nat_le, min, true, false, if◌then◌else◌, List, length, slice_index, Result, Ok, Err, Contains}
+use Rattle.std.specs.Prelude.{◌≡◌, ◌≢◌, ℕ, ◌+◌, ◌<◌, ◌≤◌, ◌-◌, ◌⊎◌, nat_le, min, if◌then◌else◌, List, [], length, slice_index, Result, Ok, Err, Contains}
 use mathlib.Core.Option.{some}
 use lib.ListN.{get_elem?}
 use Rattle.dr_seq.specs.declared.event.Event.{Event}
 use Rattle.dr_meaning.specs.declared.refusal.Refusal.{Refusal}
-use Rattle.dr_meaning.specs.declared.refusal.Refusal.TheVariants.{BadCount, Halted, Exhausted, NoRoom, AlreadyPublished}
+use Rattle.dr_meaning.specs.declared.refusal.Refusal.TheVariants.{BadCount, NoRoom, AlreadyPublished}
+use Rattle.dr_meaning.specs.declared.command.Claimed.{Claimed}
 use Rattle.dr_meaning.specs.declared.command.Polled.{Polled}
+use Rattle.dr_meaning.specs.declared.command.Polled.TheVariants.{Gating}
 use Rattle.dr_meaning.specs.declared.command.Command.{Command}
-use Rattle.dr_meaning.specs.declared.command.Command.TheVariants.{Claim, Write, Publish, Complete}
+use Rattle.dr_meaning.specs.declared.command.Command.TheVariants.{Claim, Write, Publish, Poll, Complete}
 use Rattle.dr_meaning.specs.declared.command.Reply.{Reply}
 use Rattle.dr_meaning.specs.declared.command.Reply.TheVariants.{Written, Published, Completed, Refused}
-use Rattle.dr_meaning.specs.Meaning.Refusals.{publish_causes, complete_causes}
+use Rattle.dr_meaning.specs.Meaning.Refusals.{publish_causes, poll_causes, complete_causes}
 use Rattle.dr_meaning.specs.Meaning.Machine as machine
 use Rattle.dr_meaning.specs.Meaning.Machine.{available}
-use Rattle.dr_meaning.specs.Calls.Replies.{unit_reply}
+use Rattle.dr_meaning.specs.Calls.Replies.{claim_reply, unit_reply, poll_reply}
 use Rattle.dr_meaning.specs.Calls.Ends.{IsAnswerOf, as_end}
+use Rattle.dr_seq.specs.Rounds.{entry_of}
 use Rattle.dr_graph.specs.Meaning.Graph.{finals}
 use Rattle.dr_runs.specs.Polls.{handed}
 use Rattle.dr_senders.specs.Meaning.Shape.{Shape, handlers_of, ring_setup}
-use Rattle.dr_senders.specs.Meaning.Words.{claim_word, count_word, mark_word, claimed_in, is_halted}
+use Rattle.dr_senders.specs.Meaning.Words.{claim_word, count_word, mark_word, claimed_in}
 use Rattle.dr_senders.specs.declared.record.Stage.{Stage}
 use Rattle.dr_senders.specs.declared.record.SenderRecord.{SenderRecord}
 use Rattle.dr_senders.specs.declared.record.ReceiverRecord.{ReceiverRecord}
 use Rattle.dr_senders.specs.Meaning.Records.{Owns}
 use Rattle.dr_senders.specs.Meaning.Rule.{World}
 use Rattle.dr_senders.specs.Meaning.Moments.{picture_of}
-use Rattle.dr_senders.specs.Calls.Sending.{IsCount}
-use Rattle.dr_senders.specs.Calls.Receiving.{tests_of_completion, Polls}
+use Rattle.dr_senders.specs.Calls.Sending.{AnswersByTests, stretch_from}
+use Rattle.dr_senders.specs.Calls.Receiving.{ups_of, TellsNothing, tests_of_poll, tests_of_completion, Polls}
 use Rattle.dr_senders.specs.Calls.Writing.{Sight, Found, Reach, Looked, PublishLooks, PublishSees, tests_of_publication}
 
 -- on the ring's picture the machine replies so
 abbrev pub Replies : Shape → World → Command Event → Reply → Type 0
 Replies k w command reply = (machine.step (ring_setup k) (picture_of k w) command).reply ≡ reply
 
--- the claim word of a ring that goes on
-abbrev pub GoesOn : World → Type 0
-GoesOn w = is_halted (slice_index w.words claim_word) ≡ false
+-- the claim word, and how many events the handler at a place of a list completed, as they are now
+abbrev pub claims_now : World → ℕ
+claims_now w = slice_index w.words claim_word
 
--- what the look finds by which a claim is refused: at the claim word
-abbrev pub DecidesRefusal : Shape → World → ℕ → Refusal → Type 0
-DecidesRefusal k w n BadCount = (n ≡ 0) ⊎ (k.size < n)
-DecidesRefusal k w n Halted = IsCount k n × (is_halted (slice_index w.words claim_word) ≡ true)
-DecidesRefusal k w n Exhausted = IsCount k n × GoesOn w × (k.limit < claimed_in (slice_index w.words claim_word) + n)
--- and a final handler completed too little
-DecidesRefusal k w n NoRoom =
-    IsCount k n × GoesOn w × (claimed_in (slice_index w.words claim_word) + n ≤ k.limit)
-    × ((f : ℕ) × Contains (finals k.upstreams) f × (k.size + slice_index w.words (count_word f) < claimed_in (slice_index w.words claim_word) + n))
-DecidesRefusal k w n other = ⊥
+abbrev pub count_now : World → List ℕ → ℕ → ℕ
+count_now w hs i = slice_index w.words (count_word (slice_index hs i))
+
+-- What is there where a claim is decided, by what it found: nothing need be, where its count is bad, and else the claim word as it was found.
+-- A claim without room is decided by its first look, at which the finals' counts were no higher than it then found them.
+abbrev pub DecidesClaim : Shape → World → ℕ → ℕ → List ℕ → Result Claimed Refusal → Type 0
+DecidesClaim k w n claims counts (Err BadCount) = Unit {0}
+DecidesClaim k w n claims counts (Err NoRoom) =
+    (claims_now w ≡ claims) × (length counts ≤ length (finals k.upstreams))
+    × ((i : ℕ) → i < length counts → count_now w (finals k.upstreams) i ≤ slice_index counts i)
+DecidesClaim k w n claims counts (Err refusal) = claims_now w ≡ claims
+-- and one that is given by its exchange, at which they are no lower
+DecidesClaim k w n claims counts (Ok c) =
+    (claims_now w ≡ claims) × (length counts ≡ length (finals k.upstreams))
+    × ((i : ℕ) → i < length counts → slice_index counts i ≤ count_now w (finals k.upstreams) i) × (c ≡ stretch_from claims n)
+
+-- a handler's barrier offers nothing new: the mark of its next sequence is not there or, where it has upstreams, one of them completed no more than it took
+abbrev pub OffersNothing : Shape → World → ReceiverRecord → Type 0
+OffersNothing k w r =
+    ((ups_of k r ≡ []) × (slice_index w.words (mark_word k (length r.received)) ≢ entry_of k.size (length r.received)))
+    ⊎ ((u : ℕ) × Contains (ups_of k r) u × (slice_index w.words (count_word u) ≡ length r.received))
+
+-- what the look finds by which a poll takes nothing: at the claim word or, for `Gating`, at a mark or a count; of a batch each event is an entry of the run
+abbrev pub DecidesPoll : Shape → World → ReceiverRecord → Result Polled Refusal → Type 0
+DecidesPoll k w r (Ok polled) = TellsNothing (claims_now w) (length r.received) polled × (polled ≡ Gating → OffersNothing k w r)
+DecidesPoll k w r (Err refusal) = Unit {0}
 
 -- No handler's count falls, and no claim is taken back: so what the last look of a claim without room finds was so already at its first, and what is claimed stays so.
 abbrev pub NothingFalls : Shape → World → World → Type 0
@@ -74,9 +93,10 @@ abbrev pub DecidesPublication : Shape → World → ℕ → ℕ → PublishLooks
 DecidesPublication k w lo hi seen (Ok done) = lo + seen.ready ≡ hi + 1
 DecidesPublication k w lo hi seen (Err refusal) = ReachesNow w hi seen.reach × FoundNow k w (lo + seen.ready) seen.stop
 
--- a refused claim, by what the deciding look finds, and a write and a completion, by what the end knows
+-- each call of an end, by what the end knows and, where it looks, by what the deciding look finds
 pub record RepliesAsAnswered (k : Shape) (w : World) : Type 0 where
-  pub claim : (p n : ℕ) (refusal : Refusal) → p < k.senders → DecidesRefusal k w n refusal → Replies k w (Claim p n) (Refused refusal)
+  pub claim : (p n claims : ℕ) (counts : List ℕ) (result : Result Claimed Refusal) → p < k.senders → AnswersByTests k n claims counts result
+      → DecidesClaim k w n claims counts result → Replies k w (Claim p n) (claim_reply result)
   -- of a sequence of one's own; of another's the mark in its slot tells
   pub write : (p s : ℕ) (event : Event) (r : SenderRecord) (t : Stage) → get_elem? w.senders p ≡ some r → Owns r s t
       → Replies k w (Write p s event) (if t.published then Refused AlreadyPublished else Written)
@@ -84,5 +104,7 @@ pub record RepliesAsAnswered (k : Shape) (w : World) : Type 0 where
   pub publish : (p lo hi : ℕ) (r : SenderRecord) (seen : PublishLooks) (result : Result (Unit {0}) Refusal) → get_elem? w.senders p ≡ some r → PublishSees k r lo hi seen
       → IsAnswerOf (publish_causes lo hi (tests_of_publication k lo hi seen)) (as_end result) → DecidesPublication k w lo hi seen result
       → Replies k w (Publish p lo hi) (unit_reply Published result)
+  pub poll : (h room : ℕ) (r : ReceiverRecord) (result : Result Polled Refusal) → get_elem? w.receivers h ≡ some r
+      → IsAnswerOf (poll_causes (tests_of_poll r room)) (as_end result) → DecidesPoll k w r result → Replies k w (Poll h room) (poll_reply result)
   pub complete : (h upto : ℕ) (r : ReceiverRecord) (result : Result (Unit {0}) Refusal) → get_elem? w.receivers h ≡ some r
       → IsAnswerOf (complete_causes (tests_of_completion r upto)) (as_end result) → Replies k w (Complete h upto) (unit_reply Completed result)

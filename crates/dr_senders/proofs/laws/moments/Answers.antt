@@ -17,7 +17,10 @@ use Rattle.dr_senders.proofs.Pictures.{keeps_runs, lead_runs}
 use Rattle.dr_senders.proofs.Beginning.{kept_new_world, opens}
 use Rattle.dr_senders.proofs.Halting.{halted_runs}
 use Rattle.dr_senders.proofs.Shutting.{refused_by_mark}
-use Rattle.dr_senders.proofs.Replies.{replies}
+use Rattle.dr_senders.proofs.ClaimReplies.{claim_replies}
+use Rattle.dr_senders.proofs.WriteReplies.{write_replies}
+use Rattle.dr_senders.proofs.Publications.{publish_replies}
+use Rattle.dr_senders.proofs.PollReplies.{poll_replies, complete_replies}
 use Rattle.dr_senders.proofs.Rising.{rose_runs}
 use Rattle.dr_senders.proofs.Later.{hands_what_was_there}
 use Rattle.dr_senders.proofs.laws.moments.Goals as goal
@@ -43,7 +46,14 @@ returns-clause-progress c k steps entries w shape runs =
     c.nobody_is_stuck.ensures (ring_setup k) entries (picture_of k w) shape.graph (leads k steps entries w shape runs)
 
 pub returns-clause-replies : goal.returns-clause-replies
-returns-clause-replies c k steps entries w shape runs = replies k w (keeps_runs k steps entries (new_world k) w runs (kept_new_world k shape))
+returns-clause-replies c k steps entries w shape runs =
+    let K = keeps_runs k steps entries (new_world k) w runs (kept_new_world k shape) in record {
+      claim = λ p n claims counts result who answer decides. claim_replies k w K p n claims counts result who answer decides;
+      write = write_replies k w K;
+      publish = λ p lo hi r seen result at sees answer decides. publish_replies k w K p lo hi r seen at sees result answer decides;
+      poll = poll_replies k w K;
+      complete = complete_replies k w K;
+    }
 
 pub returns-clause-hands : goal.returns-clause-hands
 returns-clause-hands c k steps more entries rest w u shape runs on =
