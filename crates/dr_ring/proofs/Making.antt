@@ -93,19 +93,21 @@ fresh_end k t h (suc n) zero e at = subst (λ (x : ReceiverEnd). (x.ring ≡ t) 
 fresh_end k t h (suc n) (suc i) e at = let r = fresh_end k t (suc h) n i e at in let m = r.1 in (r.0, omega arith)
 
 -- the ends of a new ring are all of its ends
-pub all_fresh : (k : Shape) (s : SenderEnd) (rs : List ReceiverEnd) (t : HalterEnd) → AreFreshEnds k s rs t → AreAllEnds s rs
+pub all_fresh : (k : Shape) (s : SenderEnd) (rs : List ReceiverEnd) (t : HalterEnd) → AreFreshEnds k s rs t → AreAllEnds s rs t
 all_fresh k s rs t F = record {
   all = ap length F.receivers ∙ length-map (fresh_receivers k 0 (handlers_of k)) (at_ring s.ring) ∙ fresh_count k 0 (handlers_of k) ∙ sym (ap (λ (q : SenderRecord). handlers_of q.plan) F.sender);
   each = λ h e at. (
       let x : (e.ring ≡ s.ring) × (e.knows.number ≡ 0 + h) = fresh_end k s.ring 0 (handlers_of k) h e (subst (λ (xs : List ReceiverEnd). get_elem? xs h ≡ some e) F.receivers at) in
       let m = x.1 in (x.0, omega arith));
+  halter = ap (λ (x : HalterEnd). x.ring) F.halter;
 }
 
-pub all_receiver : (s : SenderEnd) (rs : List ReceiverEnd) (h : ℕ) (e e' : ReceiverEnd) → AreAllEnds s rs → get_elem? rs h ≡ some e → e'.ring ≡ e.ring
-    → e'.knows.number ≡ e.knows.number → AreAllEnds s (set rs h e')
-all_receiver s rs h e e' A here ring number = record {
+pub all_receiver : (s : SenderEnd) (rs : List ReceiverEnd) (t : HalterEnd) (h : ℕ) (e e' : ReceiverEnd) → AreAllEnds s rs t → get_elem? rs h ≡ some e → e'.ring ≡ e.ring
+    → e'.knows.number ≡ e.knows.number → AreAllEnds s (set rs h e') t
+all_receiver s rs t h e e' A here ring number = record {
   all = length-set rs h e' ∙ A.all;
-  each = each_set (λ j x. (x.ring ≡ s.ring) × (x.knows.number ≡ j)) rs h e' (let t = A.each h e here in (ring ∙ t.0, number ∙ t.1)) (λ j x ne at. A.each j x at);
+  each = each_set (λ j x. (x.ring ≡ s.ring) × (x.knows.number ≡ j)) rs h e' (let was = A.each h e here in (ring ∙ was.0, number ∙ was.1)) (λ j x ne at. A.each j x at);
+  halter = A.halter;
 }
 
 set_past : (rs : List ReceiverEnd) (h : ℕ) (e : ReceiverEnd) → length rs ≤ h → set rs h e ≡ rs
@@ -113,11 +115,11 @@ set_past [] h e le = refl
 set_past (r ∷ rs) zero e le = absurd (omega arith)
 set_past (r ∷ rs) (suc h) e le = ap (λ (xs : List ReceiverEnd). r ∷ xs) (set_past rs h e (omega arith))
 
-pub all_receiver_at : (s : SenderEnd) (rs : List ReceiverEnd) (h : ℕ) (e e' : ReceiverEnd) → AreAllEnds s rs → e ≡ get_or rs h e → e'.ring ≡ e.ring
-    → e'.knows.number ≡ e.knows.number → AreAllEnds s (set rs h e')
-all_receiver_at s rs h e e' A at ring number =
+pub all_receiver_at : (s : SenderEnd) (rs : List ReceiverEnd) (t : HalterEnd) (h : ℕ) (e e' : ReceiverEnd) → AreAllEnds s rs t → e ≡ get_or rs h e → e'.ring ≡ e.ring
+    → e'.knows.number ≡ e.knows.number → AreAllEnds s (set rs h e') t
+all_receiver_at s rs t h e e' A at ring number =
     elim (cases_lt h (length rs)) [
-      | inl lt ↦ (let t = there rs h lt in let same : t.0 ≡ e = sym (at ∙ value_at rs h t.0 e t.1) in
-          all_receiver s rs h e e' A (t.1 ∙ ap (λ (x : ReceiverEnd). some x) same) ring number)
-      | inr past ↦ subst (AreAllEnds s) (sym (set_past rs h e' past)) A
+      | inl lt ↦ (let x = there rs h lt in let same : x.0 ≡ e = sym (at ∙ value_at rs h x.0 e x.1) in
+          all_receiver s rs t h e e' A (x.1 ∙ ap (λ (y : ReceiverEnd). some y) same) ring number)
+      | inr past ↦ subst (λ (xs : List ReceiverEnd). AreAllEnds s xs t) (sym (set_past rs h e' past)) A
     ]

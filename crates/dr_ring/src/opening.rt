@@ -113,7 +113,7 @@ pub fn ring(
     limit: u64,
 ) -> Result<(Sender, Vec<Receiver>, Halter), RingFault>
     ensures made { IfOk result (λ made. AreFreshEnds (record { upstreams = graph.now.upstreams; size = size; limit = limit }) made.0 made.1.items made.2) }
-    ensures all { IfOk result (λ made. AreAllEnds made.0 made.1.items) }
+    ensures all { IfOk result (λ made. AreAllEnds made.0 made.1.items made.2) }
     ensures fits { IsOk result → is_bad_limit limit ≡ false }
     ensures refused { IfErr result (λ fault. fault ≡ fault_of limit) }
 {

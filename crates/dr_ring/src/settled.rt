@@ -9,7 +9,7 @@ ghost use Rattle.dr_ring.specs.Inside.Stations.{AreOfRing, receiver_known};
 ghost use Rattle.dr_ring.specs.Meaning.Settling.{Settles};
 ghost use Rattle.dr_ring.specs.Calls.Settling.{AreAllEnds, HasRun, handler_counts};
 
-use crate::laws::{RingBody, RingSeat, moments, settling};
+use crate::laws::{Halter, RingBody, RingSeat, moments, settling};
 use crate::receiver::Receiver;
 use crate::sender::Sender;
 use dr_runs::HandlerCounts;
@@ -87,23 +87,24 @@ fn gather(
     }
 }
 
-/// Brings all ends of a ring together, but for the halter. It takes no memory.
+/// Brings all ends of a ring together. It takes no memory.
 ///
 /// Each receiver has the beginning of what the sender published, all of it where it was told that
 /// the ring drained; no handler took more than its upstreams completed; and no more is claimed
 /// than a round beyond what each final handler completed. There is one run of all ends that came
 /// to what they know, in which each end stored exactly what it did, and its transcript is lawful.
-pub fn settle(sender: Sender, receivers: Vec<Receiver>) -> Settled
-    requires { AreAllEnds sender receivers.items }
+pub fn settle(sender: Sender, receivers: Vec<Receiver>, halter: Halter) -> Settled
+    requires { AreAllEnds sender receivers.items halter }
     ensures claimed { result.claimed ≡ claimed_of sender.knows }
     ensures published { result.published ≡ length sender.knows.sent.published }
     ensures handlers { result.handlers.items ≡ map (λ e. handler_counts e.knows) receivers.items }
     ensures lists { Settles sender.knows (map (λ e. e.knows) receivers.items) }
-    ensures run { HasRun sender receivers.items }
+    ensures run { HasRun sender receivers.items halter }
 {
     let station = sender.station;
     let mut seat = station.seat;
     let mut counts = sender.counts;
+    settling::take_in(&station.ring.table.shared, &mut seat, halter.seat);
     gather(&station.ring, &mut seat, receivers, &mut counts);
     settling::compare(&station.ring.table.shared, &mut seat);
     moments();

@@ -7,7 +7,7 @@ use Rattle.dr_runs.specs.Seats.{past_of}
 use Rattle.dr_ring.specs.Inside.Seats.{End, Sitting, IsAtTable, stored_of, sender_of, receiver_of, halter_of, IsSender, IsReceiver, IsHalter}
 use Rattle.dr_runs.specs.Gathering.{AreOf, Known}
 use Rattle.dr_ring.specs.declared.record.EndRecord.{EndRecord}
-use Rattle.dr_ring.specs.declared.record.EndRecord.TheVariants.{Sends, Receives}
+use Rattle.dr_ring.specs.declared.record.EndRecord.TheVariants.{Sends, Receives, Halts}
 use Rattle.dr_ring.specs.declared.record.Step.{Step}
 use Rattle.dr_ring.specs.Calls.Ends.{EndOf, SenderEnd, ReceiverEnd, HalterEnd}
 use Rattle.dr_runs.specs.Looks.{looks_counted}
@@ -32,6 +32,9 @@ sender_known e = record { knows = Sends e.knows; past = e.past; stored = e.store
 
 abbrev pub receiver_known : ReceiverEnd → Known EndRecord Step
 receiver_known e = record { knows = Receives e.knows; past = e.past; stored = e.stored }
+
+abbrev pub halter_known : HalterEnd → Known EndRecord Step
+halter_known e = record { knows = Halts e.knows; past = e.past; stored = e.stored }
 
 -- an end's seat is at the table of its ring and stands for that end alone, which knows the ring's plan and counts its looks
 pub record SenderSits (at seat : TableId) (k : Shape) (me : End) (looked : ℕ) : Type 0 where

@@ -33,3 +33,7 @@ stores_of_sender steps = filter (is_store_of 0) steps
 -- what the receiver of a handler stored in a run, in order
 abbrev pub stores_of_receiver : ℕ → List Step → List Step
 stores_of_receiver h steps = filter (is_store_of (receiver_number h)) steps
+
+-- what the halter stored in a run, in order
+abbrev pub stores_of_halter : List Step → List Step
+stores_of_halter steps = filter (is_store_of 1) steps
