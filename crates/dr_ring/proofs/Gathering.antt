@@ -1,6 +1,6 @@
 -- The run of a ring's ends, once the seats of its halter and its receivers have come to the sender's.
 use Rattle.dr_seq.specs.declared.event.Event.{Event}
-use Rattle.std.proofs.Common.{◌≡◌, ℕ, ◌<◌, List, [], ◌∷◌, map, refl, sym, ap, ◌∙◌, subst}
+use Rattle.std.proofs.Common.{◌≡◌, ℕ, ◌<◌, false, List, [], ◌∷◌, map, refl, sym, ap, ◌∙◌, subst}
 use Rattle.std.proofs.lemmas.List.{length-map}
 use mathlib.Core.Option.{some}
 use lib.ListN.{get_elem?}
@@ -15,19 +15,21 @@ use Rattle.dr_runs.proofs.Gathering.{InRun, in_own, in_run, gathering_none, gath
 use Rattle.dr_runs.proofs.Lists.{same_lists, at_map, map_there}
 use Rattle.dr_ring.specs.declared.record.SenderRecord.{SenderRecord}
 use Rattle.dr_ring.specs.declared.record.ReceiverRecord.{ReceiverRecord}
+use Rattle.dr_ring.specs.declared.record.HalterRecord.{HalterRecord}
 use Rattle.dr_ring.specs.declared.record.EndRecord.{EndRecord}
 use Rattle.dr_ring.specs.declared.record.Step.{Step}
 use Rattle.dr_ring.specs.Meaning.Shape.{Shape, handlers_of, ring_setup}
 use Rattle.dr_ring.specs.Meaning.Rule.{World, KeepsRule}
 use Rattle.dr_ring.specs.Meaning.Moments.{new_world, picture_of, Runs}
 use Rattle.dr_ring.specs.Meaning.Stores.{stores_of_sender, stores_of_receiver, stores_of_halter}
-use Rattle.dr_ring.specs.Meaning.Settling.{Settles}
+use Rattle.dr_ring.specs.Meaning.Settling.{FoundUnhalted, Settles}
 use Rattle.dr_ring.specs.Inside.Seats.{Sitting, ring_ends, exchange, as_sender, as_halter, IsSender, IsHalter}
 use Rattle.dr_ring.specs.Inside.Stations.{sender_end, halter_end, sender_known, receiver_known, halter_known}
 use Rattle.dr_ring.specs.Calls.Ends.{SenderEnd, ReceiverEnd, HalterEnd}
 use Rattle.dr_ring.specs.Calls.Settling.{AreAllEnds, HasRun}
 use Rattle.dr_ring.proofs.Seats.{kept_of}
 use Rattle.dr_ring.proofs.Settling.{settles}
+use Rattle.dr_ring.proofs.Unhalted.{unhalted_since}
 
 abbrev pub knows_of : ReceiverEnd → ReceiverRecord
 knows_of e = e.knows
@@ -101,6 +103,14 @@ all_settle k v after now s es t T =
     settles k w s.knows (map knows_of es) A.sender
     (λ h r at. (let here = ap (λ (xs : List ReceiverRecord). get_elem? xs h) A.receivers ∙ at in
     ap (λ (n : ℕ). get_elem? w.receivers n) (A.rule.received h r here).number ∙ here)) A.rule
+
+-- and where the halter never halted, the sender found no halt but its own
+pub all_unhalted : (k : Shape) (v after now : View EndRecord Step) (s : SenderEnd) (es : List ReceiverEnd) (t : HalterEnd) → Together k v after now s es t
+    → t.knows.halted ≡ false → FoundUnhalted s.knows
+all_unhalted k v after now s es t T off =
+    let A = all_stand k v after now s es t T in let R = T.ran.reached in
+    subst FoundUnhalted A.sender
+    (unhalted_since k R.steps R.entries T.ran.world R.made.0 R.made.1 R.runs (ap (λ (q : HalterRecord). q.halted) A.halter ∙ off))
 
 abbrev Moments : (Shape → List Step → Transcript Event → World → Type 0) → Type 0
 Moments P = (k : Shape) (steps : List Step) (entries : Transcript Event) (w : World) → IsGraph k.upstreams → 0 < k.size → Runs k steps entries (new_world k) w → P k steps entries w

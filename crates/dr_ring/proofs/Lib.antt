@@ -15,6 +15,7 @@ pub mod Claims
 pub mod Polls
 pub mod Making
 pub mod Settling
+pub mod Unhalted
 pub mod Gathering
 pub mod Publishing
 pub mod Halting

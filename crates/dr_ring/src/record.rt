@@ -29,7 +29,7 @@ impl Model for SentEvents {
 }
 
 /// What the sender knows: what it sent, the write of which it has stored the first word alone,
-/// whether it halted or closed the ring, and what it saw.
+/// whether it halted or closed the ring, what it saw and, once it halted, what of that it saw before.
 pub struct SenderRecord {
     pub plan: Plan,
     pub sent: SentEvents,
@@ -37,6 +37,7 @@ pub struct SenderRecord {
     pub halted: bool,
     pub closed: bool,
     pub looks: LinkedList<Look>,
+    pub before: LinkedList<Look>,
 }
 
 /// What a receiver knows: its number, the events that it received, the first word of the next one

@@ -1,12 +1,12 @@
 //! All ends of a ring come together.
 
-ghost use Rattle.std.specs.Prelude.{◌≡◌, ◌<◌, length, map};
+ghost use Rattle.std.specs.Prelude.{◌≡◌, ◌<◌, false, length, map};
 ghost use Rattle.std.specs.Arc.{arc_value};
 ghost use Rattle.dr_ring.specs.Inside.Seats.{IsAtTable, ring_ends};
 ghost use Rattle.dr_ring.specs.Meaning.Records.{claimed as claimed_of};
 ghost use Rattle.dr_runs.specs.Gathering.{Gathers, counts_at};
 ghost use Rattle.dr_ring.specs.Inside.Stations.{AreOfRing, receiver_known};
-ghost use Rattle.dr_ring.specs.Meaning.Settling.{Settles};
+ghost use Rattle.dr_ring.specs.Meaning.Settling.{FoundUnhalted, Settles};
 ghost use Rattle.dr_ring.specs.Calls.Settling.{AreAllEnds, HasRun, handler_counts};
 
 use crate::laws::{Halter, RingBody, RingSeat, moments, settling};
@@ -92,13 +92,15 @@ fn gather(
 /// Each receiver has the beginning of what the sender published, all of it where it was told that
 /// the ring drained; no handler took more than its upstreams completed; and no more is claimed
 /// than a round beyond what each final handler completed. There is one run of all ends that came
-/// to what they know, in which each end stored exactly what it did, and its transcript is lawful.
+/// to what they know, in which each end stored exactly what it did, and its transcript is lawful. So
+/// where the halter never halted, the sender found no halt but its own.
 pub fn settle(sender: Sender, receivers: Vec<Receiver>, halter: Halter) -> Settled
     requires { AreAllEnds sender receivers.items halter }
     ensures claimed { result.claimed ≡ claimed_of sender.knows }
     ensures published { result.published ≡ length sender.knows.sent.published }
     ensures handlers { result.handlers.items ≡ map (λ e. handler_counts e.knows) receivers.items }
     ensures lists { Settles sender.knows (map (λ e. e.knows) receivers.items) }
+    ensures unhalted { halter.knows.halted ≡ false → FoundUnhalted sender.knows }
     ensures run { HasRun sender receivers.items halter }
 {
     let station = sender.station;

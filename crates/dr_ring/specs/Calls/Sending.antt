@@ -17,7 +17,7 @@ use Rattle.dr_ring.specs.declared.record.Step.{Step}
 use Rattle.dr_ring.specs.declared.record.Step.TheVariants.{SenderStoresFirst, SenderStoresSecond, SenderPublishes, SenderHalts, SenderCloses}
 use Rattle.dr_runs.specs.Runs.{IsBeginning, StoresWhereOk}
 use Rattle.dr_ring.specs.Calls.Ends.{SenderEnd, sender_place, count_looks}
-use Rattle.dr_ring.specs.Meaning.Records.{claimed, sender_halted, sender_closed}
+use Rattle.dr_ring.specs.Meaning.Records.{claimed, seen_before, sender_halted, sender_closed}
 use Rattle.dr_runs.specs.Looks.{look}
 use Rattle.dr_runs.specs.Replies.{claim_tests_of}
 
@@ -122,8 +122,10 @@ PublishCall e lo hi e' result = (sender_place e' ≡ sender_place e) × TriesToP
 abbrev pub CloseCall : SenderEnd → SenderEnd → Result (Unit {0}) Refusal → Type 0
 CloseCall e e' result = (sender_place e' ≡ sender_place e) × TriesToClose e.knows e'.knows result × StoresWhereOk e.stored (SenderHalts ∷ SenderCloses ∷ []) e'.stored result × IsBeginning e.past e'.past
 
--- Whoever closes need not look at the answer: a sender that left nothing claimed unpublished has closed its ring, and any sender stays at its place and published what it did.
+-- Whoever closes need not look at the answer: a sender that left nothing claimed unpublished has closed its ring, and any sender stays at its place, sent what it did, and saw no more before a halt of its own.
 pub record ClosesOnceDone (e e' : SenderEnd) : Type 0 where
   pub place : sender_place e' ≡ sender_place e
   pub published : e'.knows.sent.published ≡ e.knows.sent.published
+  pub pending : e'.knows.sent.pending ≡ e.knows.sent.pending
+  pub saw : seen_before e'.knows ≡ seen_before e.knows
   pub closed : e.knows.sent.pending ≡ [] → e'.knows.closed ≡ true

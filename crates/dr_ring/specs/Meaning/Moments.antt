@@ -24,7 +24,7 @@ use Rattle.dr_runs.specs.Entries.{entry, poll_of}
 
 -- the ends of a new ring
 abbrev pub fresh_sender : Shape → SenderRecord
-fresh_sender k = record { plan = k; sent = record { published = []; pending = [] }; half = None; halted = false; closed = false; looks = [] }
+fresh_sender k = record { plan = k; sent = record { published = []; pending = [] }; half = None; halted = false; closed = false; looks = []; before = [] }
 
 abbrev pub fresh_receiver : Shape → ℕ → ReceiverRecord
 fresh_receiver k h = record { plan = k; number = h; received = []; half = None; completed = 0; told = false; looks = [] }

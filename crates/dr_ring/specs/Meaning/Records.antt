@@ -1,5 +1,5 @@
 -- What each kind of step makes of the record of its end.
-use Rattle.std.specs.Prelude.{◌≡◌, ℕ, ◌+◌, ◌-◌, ◌<◌, ◌≤◌, ◌==◌, ◌&&◌, ◌||◌, if◌then◌else◌, Bool, true, [], ◌∷◌, ◌++◌, length, slice_index_or, replicate, Some, None, Contains}
+use Rattle.std.specs.Prelude.{◌≡◌, ℕ, ◌+◌, ◌-◌, ◌<◌, ◌≤◌, ◌==◌, ◌&&◌, ◌||◌, if◌then◌else◌, Bool, true, List, [], ◌∷◌, ◌++◌, length, slice_index_or, replicate, Some, None, Contains}
 use Rattle.dr_seq.specs.declared.event.Event.{Event}
 use Rattle.dr_meaning.specs.Calls.Ends.{claimed_in, with_event, published_below}
 use Rattle.dr_graph.specs.Meaning.Graph.{upstreams_of, finals}
@@ -8,6 +8,7 @@ use Rattle.dr_runs.specs.Words.{cursor_word, closed_word, halt_word, count_word}
 use Rattle.dr_ring.specs.declared.record.SenderRecord.{SenderRecord}
 use Rattle.dr_ring.specs.declared.record.ReceiverRecord.{ReceiverRecord}
 use Rattle.dr_ring.specs.declared.record.HalterRecord.{HalterRecord}
+use Rattle.dr_runs.specs.declared.look.Look.{Look}
 use Rattle.dr_runs.specs.Looks.{look, last_look}
 
 -- how many sequences the sender claimed
@@ -37,8 +38,12 @@ written r s event = record r { sent = with_event r.sent s event; half = None }
 abbrev pub published_to : SenderRecord → ℕ → SenderRecord
 published_to r n = record r { sent = published_below r.sent n }
 
+-- what the sender saw before it halted the ring itself
+abbrev pub seen_before : SenderRecord → List Look
+seen_before r = if r.halted then r.before else r.looks
+
 abbrev pub sender_halted : SenderRecord → SenderRecord
-sender_halted r = record r { halted = true }
+sender_halted r = record r { halted = true; before = seen_before r }
 
 abbrev pub sender_closed : SenderRecord → SenderRecord
 sender_closed r = record r { closed = true }

@@ -3,9 +3,11 @@ use Rattle.std.specs.Prelude.{◌≡◌, ℕ, ◌+◌, ◌≤◌, true, List, le
 use mathlib.Core.Option.{some}
 use lib.ListN.{get_elem?}
 use Rattle.dr_graph.specs.Meaning.Graph.{upstreams_of, finals}
+use Rattle.dr_runs.specs.Looks.{last_look}
+use Rattle.dr_runs.specs.Words.{halt_word}
 use Rattle.dr_ring.specs.declared.record.SenderRecord.{SenderRecord}
 use Rattle.dr_ring.specs.declared.record.ReceiverRecord.{ReceiverRecord}
-use Rattle.dr_ring.specs.Meaning.Records.{claimed}
+use Rattle.dr_ring.specs.Meaning.Records.{claimed, seen_before}
 
 -- a receiver has the beginning of what its sender published, all of it where it was told that the ring drained, and a final handler leaves room for all that is claimed
 pub record HasBeginning (s : SenderRecord) (r : ReceiverRecord) : Type 0 where
@@ -14,6 +16,10 @@ pub record HasBeginning (s : SenderRecord) (r : ReceiverRecord) : Type 0 where
   pub drained : r.told ≡ true → r.received ≡ s.sent.published
   pub completed : r.completed ≤ length r.received
   pub room : Contains (finals s.plan.upstreams) r.number → claimed s ≤ s.plan.size + r.completed
+
+-- as far as the sender looked, nobody halted the ring before it did so itself
+abbrev pub FoundUnhalted : SenderRecord → Type 0
+FoundUnhalted s = last_look 0 (seen_before s) halt_word ≡ 0
 
 -- what a receiver took, each of its upstreams completed
 abbrev pub FollowsUpstream : ReceiverRecord → ReceiverRecord → Type 0
