@@ -23,11 +23,11 @@ use Rattle.dr_workers.proofs.Writings.{Opens, Shows, length-map, some}
 
 -- Where a write is refused.
 
-same_published : {E : Type 0} (lo : ℕ) (xs : List E) (e : Sent E) → (with_events lo xs e).published ≡ e.published
+pub same_published : {E : Type 0} (lo : ℕ) (xs : List E) (e : Sent E) → (with_events lo xs e).published ≡ e.published
 same_published lo [] e = refl
 same_published lo (x ∷ xs) e = same_published (lo + 1) xs (with_event e lo x)
 
-same_pending : {E : Type 0} (lo : ℕ) (xs : List E) (e : Sent E) → length (with_events lo xs e).pending ≡ length e.pending
+pub same_pending : {E : Type 0} (lo : ℕ) (xs : List E) (e : Sent E) → length (with_events lo xs e).pending ≡ length e.pending
 same_pending lo [] e = refl
 same_pending lo (x ∷ xs) e = same_pending (lo + 1) xs (with_event e lo x) ∙ length-set e.pending _ (Some x)
 
@@ -133,7 +133,7 @@ may_publish {E} events lo hi d r ordered is f refused =
 
 -- a claim, its writes and the publication
 
-drop_over : {A : Type 0} (xs : List A) (n : ℕ) → n ≡ length xs → drop n xs ≡ []
+pub drop_over : {A : Type 0} (xs : List A) (n : ℕ) → n ≡ length xs → drop n xs ≡ []
 drop_over xs n is = ap (λ k. drop k xs) is ∙ drop-length xs
 
 all_published : {E : Type 0} (events : List E) (c : Claimed) → c.hi + 1 ≡ c.lo + length events → (a b d e : Sent E) → Opens (length events) c a b

@@ -10,4 +10,5 @@ pub mod Writings
 pub mod Sending
 pub mod Closing
 pub mod Untroubled
+pub mod Unrefused
 pub mod Biding
