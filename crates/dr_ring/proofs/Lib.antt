@@ -25,3 +25,4 @@ pub mod Replies
 pub mod Rising
 pub mod Later
 pub mod Untroubled
+pub mod Unrefused

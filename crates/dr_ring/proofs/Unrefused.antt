@@ -1,0 +1,92 @@
+-- What a sender's calls change of what it knows; and a claim of what the ring's size and limit allow is refused for good only where the sender finds the ring halted.
+use Rattle.std.proofs.Common.{◌≡◌, ◌≢◌, ℕ, ◌+◌, ◌<◌, ◌≤◌, ◌==◌, ◌||◌, nat_lt, false, List, [], ◌∷◌, ◌++◌, take, Result, Ok, Err, ⊎_elim, refl, sym, ap, ◌∙◌, subst, arith, append_assoc}
+use Rattle.std.proofs.lemmas.Bool.{false≢true, le-ltb, ne_eqb}
+use Rattle.dr_seq.specs.declared.event.Event.{Event}
+use Rattle.dr_meaning.specs.declared.command.Claimed.{Claimed}
+use Rattle.dr_meaning.specs.declared.ends.Trouble.{Trouble}
+use Rattle.dr_meaning.specs.declared.ends.Trouble.TheVariants.{Memory, Refused}
+use Rattle.dr_meaning.specs.declared.ends.Wrote.{Wrote}
+use Rattle.dr_meaning.specs.declared.refusal.Refusal.{Refusal}
+use Rattle.dr_meaning.specs.declared.refusal.Refusal.TheVariants.{NoRoom, Halted}
+use Rattle.dr_meaning.specs.Meaning.Refusals.{IsFirst, claim_causes}
+use Rattle.dr_meaning.specs.Calls.Calling.{CallsLead, InletCall, TriesClaim, WritesOne, WritesMany, PublishesStretch}
+use Rattle.dr_meaning.specs.Calls.Ends.{Claims, GivesStretch, MayFail, MayHold, Publishes, Writes, WritesAll}
+use Rattle.dr_runs.specs.declared.look.Look.{Look}
+use Rattle.dr_runs.specs.Looks.{look, last_look}
+use Rattle.dr_runs.specs.Words.{halt_word}
+use Rattle.dr_runs.proofs.Looks.{last_look_more}
+use Rattle.dr_ring.specs.declared.record.SenderRecord.{SenderRecord}
+use Rattle.dr_ring.specs.Meaning.Records.{claimed}
+use Rattle.dr_ring.specs.Calls.Ends.{SenderEnd}
+use Rattle.dr_ring.specs.Calls.Sending.{LooksToClaim, gate_looks, tests_of_claim}
+use Rattle.dr_ring.specs.Calls.Telling.{sender_does}
+
+pub claims : (a b : SenderEnd) (n : ℕ) (answer : Result Claimed Trouble) → sender_does a (TriesClaim n answer) b
+    → Claims n answer a.knows.sent b.knows.sent × GivesStretch n answer
+claims a b n (Ok stretch) is = (is.1.sent, is.1.stretch)
+claims a b n (Err Memory) is = absurd is
+claims a b n (Err (Refused refusal)) is = (is.1.sent, is.1.stretch)
+
+pub writes : (a b : SenderEnd) (s : ℕ) (event : Event) (answer : Result (Unit {0}) Trouble) → sender_does a (WritesOne s event answer) b
+    → Writes s event answer a.knows.sent b.knows.sent
+writes a b s event (Ok done) is = is.1.1
+writes a b s event (Err Memory) is = absurd is
+writes a b s event (Err (Refused refusal)) is = is.1.1
+
+pub writes_all : (a b : SenderEnd) (lo : ℕ) (events : List Event) (wrote : Wrote) → sender_does a (WritesMany lo events wrote) b
+    → WritesAll lo (take wrote.count events) a.knows.sent b.knows.sent
+writes_all a b lo events wrote is = is.sent
+
+pub publishes : (a b : SenderEnd) (lo hi : ℕ) (answer : Result (Unit {0}) Trouble) → sender_does a (PublishesStretch lo hi answer) b
+    → Publishes lo hi answer a.knows.sent b.knows.sent
+publishes a b lo hi (Ok done) is = is.1.1
+publishes a b lo hi (Err Memory) is = absurd is
+publishes a b lo hi (Err (Refused refusal)) is = is.1.1
+
+-- no such call halts the ring
+halts_not : (a b : SenderEnd) (call : InletCall Event) → sender_does a call b → b.knows.halted ≡ a.knows.halted
+halts_not a b (TriesClaim n (Ok stretch)) is = ap (λ (r : SenderRecord). r.halted) is.1.only
+halts_not a b (TriesClaim n (Err Memory)) is = absurd is
+halts_not a b (TriesClaim n (Err (Refused refusal))) is = ap (λ (r : SenderRecord). r.halted) is.1.only
+halts_not a b (WritesOne s event (Ok done)) is = ap (λ (r : SenderRecord). r.halted) is.1.2
+halts_not a b (WritesOne s event (Err Memory)) is = absurd is
+halts_not a b (WritesOne s event (Err (Refused refusal))) is = ap (λ (r : SenderRecord). r.halted) is.1.2
+halts_not a b (WritesMany lo events wrote) is = ap (λ (r : SenderRecord). r.halted) is.only
+halts_not a b (PublishesStretch lo hi (Ok done)) is = ap (λ (r : SenderRecord). r.halted) is.1.2
+halts_not a b (PublishesStretch lo hi (Err Memory)) is = absurd is
+halts_not a b (PublishesStretch lo hi (Err (Refused refusal))) is = ap (λ (r : SenderRecord). r.halted) is.1.2
+
+pub never_halts : (a b : SenderEnd) (calls : List (InletCall Event)) → CallsLead sender_does a calls b → b.knows.halted ≡ a.knows.halted
+never_halts a b [] lead = ap (λ (e : SenderEnd). e.knows.halted) lead
+never_halts a b (call ∷ calls) lead = never_halts lead.0 b calls lead.2 ∙ halts_not a lead.0 call lead.1
+
+-- a claim of some within the size and the limit is refused for want of room, or since the ring is halted
+only_halted : (r : SenderRecord) (n : ℕ) (refusal : Refusal) → 0 < n → n ≤ r.plan.size → claimed r + n ≤ r.plan.limit → refusal ≢ NoRoom
+    → IsFirst MayHold MayFail refusal (claim_causes (tests_of_claim r n)) → Halted ≡ refusal
+only_halted r n refusal some size limit other first =
+    let no_count : (n == 0 || nat_lt r.plan.size n) ≡ false = rw (ne_eqb n 0 (λ (e : n ≡ 0). omega arith), le-ltb r.plan.size n size) refl in
+    let within : nat_lt r.plan.limit (claimed r + n) ≡ false = le-ltb r.plan.limit (claimed r + n) limit in
+    ⊎_elim (λ here. absurd (false≢true here.0))
+    (λ x. ⊎_elim (λ here. absurd (false≢true (sym no_count ∙ here.0)))
+    (λ y. ⊎_elim (λ here. here.1)
+    (λ z. ⊎_elim (λ here. absurd (false≢true (sym within ∙ here.0)))
+    (λ u. ⊎_elim (λ here. absurd (other (sym here.1))) (λ none. absurd none.1) u.1) z.1) y.1) x.1) first
+
+-- the last look of a claim that is refused so
+found : (before seen xs : List Look) → seen ≡ xs ++ look halt_word 1 ∷ [] → last_look 0 (before ++ seen) halt_word ≡ 1
+found before seen xs is =
+    ap (λ (ys : List Look). last_look 0 (before ++ ys) halt_word) is
+    ∙ ap (λ (ys : List Look). last_look 0 ys halt_word) (sym (append_assoc before xs (look halt_word 1 ∷ [])))
+    ∙ last_look_more 0 (before ++ xs) halt_word 1
+
+finds_halt : (r : SenderRecord) (n : ℕ) (seen : List Look) → LooksToClaim r n seen (Err Halted) → last_look 0 (r.looks ++ seen) halt_word ≡ 1
+finds_halt r n seen looks =
+    ⊎_elim (λ first. found r.looks seen [] first) (λ late. found r.looks seen (look halt_word 0 ∷ gate_looks r late.counts) late.saw) looks
+
+pub refused_by_halt : (a b : SenderEnd) (n : ℕ) (trouble : Trouble) → 0 < n → n ≤ a.knows.plan.size → claimed a.knows + n ≤ a.knows.plan.limit → trouble ≢ Refused NoRoom
+    → sender_does a (TriesClaim n (Err trouble)) b → last_look 0 b.knows.looks halt_word ≡ 1
+refused_by_halt a b n Memory some size limit other is = absurd is
+refused_by_halt a b n (Refused refusal) some size limit other is =
+    let halted : Halted ≡ refusal = only_halted a.knows n refusal some size limit (λ e. other (ap Refused e)) is.1.answer in
+    ap (λ (r : SenderRecord). last_look 0 r.looks halt_word) is.1.only
+    ∙ finds_halt a.knows n is.1.seen (subst (λ (x : Refusal). LooksToClaim a.knows n is.1.seen (Err x)) (sym halted) is.1.looks)
