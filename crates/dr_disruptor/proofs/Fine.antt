@@ -15,7 +15,7 @@ use Rattle.dr_ring.proofs.Untroubled as ring
 answers : Answers receiver_does (λ (e : ReceiverEnd). received_of e.knows)
 answers = record { polls = ring.polls; takes = ring.takes; fits = ring.fits; completes = ring.completes; completed = ring.completed }
 
-unstopped : (stopped : Bool) → (stopped ≡ true → ⊥) → fault_at_end stopped ≡ None
+pub unstopped : (stopped : Bool) → (stopped ≡ true → ⊥) → fault_at_end stopped ≡ None
 unstopped true not = absurd (not refl)
 unstopped false not = refl
 

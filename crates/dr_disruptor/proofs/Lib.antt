@@ -1,7 +1,8 @@
 pub mod Settled
-pub mod Whole
 pub mod Ready
 pub mod Fine
+pub mod Unrefused
+pub mod Whole
 pub mod Passing
 pub mod Sending
 pub mod Turning

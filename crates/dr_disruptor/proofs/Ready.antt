@@ -16,13 +16,14 @@ all_begin : (k : Shape) (t : TableId) (h n : ℕ) → All (BeginsAt k) (map (at_
 all_begin k t h zero = All-nil (BeginsAt k)
 all_begin k t h (suc n) = All-cons (BeginsAt k) (at_ring t (fresh_receiver k h)) (map (at_ring t) (fresh_receivers k (suc h) n)) (refl, refl, refl) (all_begin k t (suc h) n)
 
-pub are_ready : {A : Type 0} (k : Shape) (s : SenderEnd) (rs : List ReceiverEnd) (t : HalterEnd) (starts : List A) (ws : List (Worker A)) → AreFreshEnds k s rs t → AreAllEnds s rs
-    → map given_end ws ≡ rs → map given_handler ws ≡ starts → AreReady k starts s ws
+pub are_ready : {A : Type 0} (k : Shape) (s : SenderEnd) (rs : List ReceiverEnd) (t : HalterEnd) (starts : List A) (ws : List (Worker A)) → AreFreshEnds k s rs t → AreAllEnds s rs t
+    → map given_end ws ≡ rs → map given_handler ws ≡ starts → AreReady k starts s ws t
 are_ready k s rs t starts ws fresh all ends handlers =
     let plan : s.knows.plan ≡ k = ap (λ (r : SenderRecord). r.plan) fresh.sender in
     record {
       begins = fresh.sender;
-      ends = subst (AreAllEnds s) (sym ends) all;
+      ends = subst (λ (l : List ReceiverEnd). AreAllEnds s l t) (sym ends) all;
+      unhalted = (ap (λ (e : HalterEnd). e.knows) fresh.halter, ap (λ (e : HalterEnd). e.stored) fresh.halter);
       fresh = subst (λ (q : Shape). All (BeginsAt q) (map given_end ws)) (sym plan)
           (subst (All (BeginsAt k)) (sym (ends ∙ fresh.receivers)) (all_begin k s.ring 0 (handlers_of k)));
       handlers = handlers;

@@ -13,7 +13,7 @@ use Rattle.dr_workers.specs.declared.fault.WorkFault.{WorkFault}
 use Rattle.dr_ring.specs.declared.record.SenderRecord.{SenderRecord}
 use Rattle.dr_ring.specs.Meaning.Shape.{Shape, handlers_of}
 use Rattle.dr_ring.specs.Meaning.Settling.{HasBeginning, Settles}
-use Rattle.dr_ring.specs.Calls.Ends.{ReceiverEnd, ReceiverPlace, SenderEnd, SenderPlace, received_of, sender_place}
+use Rattle.dr_ring.specs.Calls.Ends.{HalterEnd, ReceiverEnd, ReceiverPlace, SenderEnd, SenderPlace, received_of, sender_place}
 use Rattle.dr_ring.specs.Calls.Settling.{AreAllEnds, handler_counts}
 use Rattle.dr_runs.specs.Gathering.{counts_at}
 use Rattle.dr_runs.specs.declared.counts.HandlerCounts.{HandlerCounts}
@@ -24,10 +24,11 @@ use Rattle.dr_disruptor.specs.Running.{IsRan, WentThrough, completed_in, taken_i
 use Rattle.dr_disruptor.specs.Serving.{AreKept, BeginsAt, Serving, Worker, endings_from, given_end, given_handler}
 
 -- a sender that stays at its place has the same ends beside it
-pub all_moved : (s s' : SenderEnd) (rs : List ReceiverEnd) → sender_place s' ≡ sender_place s → AreAllEnds s rs → AreAllEnds s' rs
-all_moved s s' rs same all = record {
+pub all_moved : (s s' : SenderEnd) (rs : List ReceiverEnd) (t : HalterEnd) → sender_place s' ≡ sender_place s → AreAllEnds s rs t → AreAllEnds s' rs t
+all_moved s s' rs t same all = record {
   all = all.all ∙ ap (λ (p : SenderPlace). handlers_of p.1) (sym same);
   each = λ h e at. let a = all.each h e at in (a.0 ∙ ap (λ (p : SenderPlace). p.0) (sym same), a.1);
+  halter = all.halter ∙ ap (λ (p : SenderPlace). p.0) (sym same);
 }
 
 -- a new end refuses its worker nothing
@@ -89,8 +90,8 @@ module _ {A : Type 0} (goes : Relation Event A) (s : SenderEnd) (ws : List (Work
   receivers = map (λ b. b.receiver) ss
 
   -- what workers gave back are all ends of the ring again
-  pub all_back : AreAllEnds s (map given_end ws) → AreAllEnds s (map (λ b. b.receiver) ss)
-  all_back all = record {
+  pub all_back : (t : HalterEnd) → AreAllEnds s (map given_end ws) t → AreAllEnds s (map (λ b. b.receiver) ss) t
+  all_back t all = record {
     all = length-map ss (λ b. b.receiver) ∙ kept.many ∙ sym (length-map ws given_end) ∙ all.all;
     each = λ h e at.
         let many : length receivers ≡ length ss = length-map ss (λ b. b.receiver) in
@@ -103,9 +104,10 @@ module _ {A : Type 0} (goes : Relation Event A) (s : SenderEnd) (ws : List (Work
         let ring = ap (λ (q : ReceiverPlace). q.0) k.2.place in
         let number = ap (λ (q : ReceiverPlace). q.2) k.2.place in
         subst (λ (x : ReceiverEnd). (x.ring ≡ s.ring) × (x.knows.number ≡ h)) same (ring ∙ given.0, number ∙ given.1);
+    halter = all.halter;
   }
 
-  module _ (ran : Ran A) (all : AreAllEnds s (map given_end ws)) (fresh : All (BeginsAt s.knows.plan) (map given_end ws))
+  module _ (ran : Ran A) (t : HalterEnd) (all : AreAllEnds s (map given_end ws) t) (fresh : All (BeginsAt s.knows.plan) (map given_end ws))
       (settles : Settles s.knows (map (λ (e : ReceiverEnd). e.knows) receivers))
       (counts : ran.settled.handlers.items ≡ map (λ (e : ReceiverEnd). handler_counts e.knows) receivers) where
     -- the worker at a place, what it gave back, and what is counted of it

@@ -1,61 +1,72 @@
--- A run without a fault took each handler through the whole script.
-use Rattle.std.proofs.Common.{◌≡◌, ℕ, ◌≤◌, List, [], ◌∷◌, length, take, drop, Option, None, Result, Ok, Err, IfOk, subst, ap, ◌∙◌, arith}
-use Rattle.std.proofs.lemmas.List.Elements.{All-drop, All-head}
+-- A run took each handler through the whole script.
+use Rattle.std.proofs.Common.{◌≡◌, ℕ, ◌^◌, ◌≤◌, List, length, take, Option, None, Result, Ok, Err, IfOk, subst, ap, ◌∙◌, arith}
 use Rattle.std.proofs.lemmas.List.{length-take-le, take_all}
 use Rattle.dr_seq.specs.declared.event.Event.{Event}
 use Rattle.dr_meaning.specs.Calls.Handling.{Relation}
-use Rattle.dr_workers.specs.declared.ended.Ended.{Ended}
 use Rattle.dr_workers.specs.declared.fault.WorkFault.{WorkFault}
 use Rattle.dr_ring.specs.Calls.Ends.{SenderEnd}
 use Rattle.dr_ring.specs.Meaning.Moments.{fresh_sender}
+use Rattle.dr_ring.specs.Meaning.Records.{claimed as claimed_of}
+use Rattle.dr_ring.specs.Meaning.Settling.{FoundUnhalted}
 use Rattle.dr_ring.specs.Meaning.Shape.{Shape}
 use Rattle.dr_workers.specs.declared.producer.Produced.{Produced}
 use Rattle.dr_disruptor.specs.declared.running.Ran.{Ran}
 use Rattle.dr_disruptor.specs.declared.fault.RunFault.{RunFault}
 use Rattle.dr_disruptor.specs.Running.{AllWentThrough, AreFine, IsRan, IsRanBy, IsRun, IsSending}
-
-abbrev IsFine : Ended → Type 0
-IsFine e = e.fault ≡ None
+use Rattle.dr_disruptor.proofs.Unrefused.{all_fine, sender_fine}
 
 module _ {A : Type 0} (goes : Relation Event A) (k : Shape) (starts : List A) where
-  -- without a fault the sender had none
-  sender_fine : (endings : List Ended) (n : ℕ) (fault : Option WorkFault) → AreFine endings → drop n endings ≡ record { who = 16; fault = fault } ∷ [] → fault ≡ None
-  sender_fine endings n fault fine last =
-      All-head IsFine (record { who = 16; fault = fault }) [] (subst (λ (l : List Ended). AreFine l) last (All-drop IsFine n endings fine))
+  -- no worker had a fault, and each handler went through the whole script
+  pub went_whole : (script : List Event) (ran : Ran A) → k.limit ≡ 2 ^ 62 → IsRun goes k starts script ran → length script ≤ 2 ^ 62
+      → AreFine ran.endings.items × AllWentThrough goes script starts ran.handlers.items
+  went_whole script ran limit is short =
+      let none = sender_fine k script is.produced is.sending limit short is.within is.unhalted in
+      let all : take is.produced.sent script ≡ script = ap (λ (n : ℕ). take n script) (is.all none) ∙ take_all (length script) script (omega arith) in (
+        all_fine goes starts (take is.produced.sent script) ran (subst (λ (f : Option WorkFault). IsRan goes starts (take is.produced.sent script) f ran) none is.came),
+        subst (λ (l : List Event). AllWentThrough goes l starts ran.handlers.items) all is.came.through,
+      )
 
-  pub went_whole : (script : List Event) (ran : Ran A) → IsRun goes k starts script ran → AreFine ran.endings.items
-      → AllWentThrough goes script starts ran.handlers.items
-  went_whole script ran is fine =
-      let none = sender_fine ran.endings.items (length starts) is.produced.fault fine is.came.last in
-      let all : take is.produced.sent script ≡ script = ap (λ (n : ℕ). take n script) (is.all none) ∙ take_all (length script) script (omega arith) in
-      subst (λ (l : List Event). AllWentThrough goes l starts ran.handlers.items) all is.came.through
+  -- what came of what this sender did
+  pub record Came (back : SenderEnd) (hs : List A) (fault : Option WorkFault) (ran : Ran A) : Type 0 where
+    pub is : IsRan goes hs back.knows.sent.published fault ran
+    pub claimed : ran.settled.claimed ≡ claimed_of back.knows
+    pub unhalted : FoundUnhalted back.knows
+
+  pub came : (back : SenderEnd) (hs : List A) (fault : Option WorkFault) (r : Result (Ran A) RunFault) → IfOk r (IsRan goes hs back.knows.sent.published fault)
+      → IfOk r (λ x. x.settled.claimed ≡ claimed_of back.knows) → IfOk r (λ _. FoundUnhalted back.knows) → IfOk r (Came back hs fault)
+  came back hs fault (Ok x) is claimed unhalted = record { is = is; claimed = claimed; unhalted = unhalted }
+  came back hs fault (Err e) is claimed unhalted = tt
 
   -- the first of a script, as many as were published
   of_script : (script : List Event) (produced : Produced) (ran : Ran A) (sending : IsSending k script produced) → produced.sent ≤ length script
-      → (produced.fault ≡ None → produced.sent ≡ length script) → IsRan goes starts sending.back.knows.sent.published produced.fault ran → IsRun goes k starts script ran
+      → (produced.fault ≡ None → produced.sent ≡ length script) → Came sending.back starts produced.fault ran → IsRun goes k starts script ran
   of_script script produced ran sending within all done = record {
     produced = produced;
     sending = sending;
-    sent = done.published ∙ ap length sending.published ∙ length-take-le produced.sent script within;
+    sent = done.is.published ∙ ap length sending.published ∙ length-take-le produced.sent script within;
     within = within;
     all = all;
-    came = subst (λ (l : List Event). IsRan goes starts l produced.fault ran) sending.published done;
+    claimed =
+        let published = ap length sending.published in let pending = ap length sending.complete in
+        let sent = length-take-le produced.sent script within in let is = done.claimed in omega arith;
+    unhalted = done.unhalted;
+    came = subst (λ (l : List Event). IsRan goes starts l produced.fault ran) sending.published done.is;
   }
 
   pub run_of : (script : List Event) (produced : Produced) (hs : List A) (r : Result (Ran A) RunFault) → hs ≡ starts
       → (sending : IsSending k script produced) → produced.sent ≤ length script → (produced.fault ≡ None → produced.sent ≡ length script)
-      → IfOk r (IsRan goes hs sending.back.knows.sent.published produced.fault) → IfOk r (IsRun goes k starts script)
+      → IfOk r (Came sending.back hs produced.fault) → IfOk r (IsRun goes k starts script)
   run_of script produced hs (Ok ran) given sending within all done =
-      of_script script produced ran sending within all (subst (λ (l : List A). IsRan goes l sending.back.knows.sent.published produced.fault ran) given done)
+      of_script script produced ran sending within all (subst (λ (l : List A). Came sending.back l produced.fault ran) given done)
   run_of script produced hs (Err e) given sending within all done = tt
 
-  pub whole_of : (script : List Event) (r : Result (Ran A) RunFault) → IfOk r (IsRun goes k starts script)
-      → IfOk r (λ ran. AreFine ran.endings.items → AllWentThrough goes script starts ran.handlers.items)
-  whole_of script (Ok ran) is = went_whole script ran is
-  whole_of script (Err e) is = tt
+  pub whole_of : (script : List Event) (r : Result (Ran A) RunFault) → k.limit ≡ 2 ^ 62 → length script ≤ 2 ^ 62 → IfOk r (IsRun goes k starts script)
+      → IfOk r (λ ran. AreFine ran.endings.items × AllWentThrough goes script starts ran.handlers.items)
+  whole_of script (Ok ran) limit short is = went_whole script ran limit is short
+  whole_of script (Err e) limit short is = tt
 
   pub run_by : (sends : SenderEnd → Option WorkFault → SenderEnd → Type 0) (s s' : SenderEnd) (fault : Option WorkFault) (hs : List A) (r : Result (Ran A) RunFault)
-      → hs ≡ starts → s.knows ≡ fresh_sender k → sends s fault s' → IfOk r (IsRan goes hs s'.knows.sent.published fault)
+      → hs ≡ starts → s.knows ≡ fresh_sender k → sends s fault s' → IfOk r (Came s' hs fault)
       → IfOk r (IsRanBy sends goes k starts)
   run_by sends s s' fault hs (Ok ran) given fresh gave done = record {
     given = s;
@@ -63,6 +74,8 @@ module _ {A : Type 0} (goes : Relation Event A) (k : Shape) (starts : List A) wh
     fault = fault;
     fresh = fresh;
     sending = gave;
-    came = subst (λ (l : List A). IsRan goes l s'.knows.sent.published fault ran) given done;
+    claimed = done.claimed;
+    unhalted = done.unhalted;
+    came = subst (λ (l : List A). IsRan goes l s'.knows.sent.published fault ran) given done.is;
   }
   run_by sends s s' fault hs (Err e) given fresh gave done = tt

@@ -15,6 +15,8 @@ use Rattle.dr_workers.specs.Meaning.FirstFault.{first_fault}
 use Rattle.dr_ring.specs.Calls.Ends.{SenderEnd}
 use Rattle.dr_ring.specs.Calls.Telling.{sender_does}
 use Rattle.dr_ring.specs.Meaning.Moments.{fresh_sender}
+use Rattle.dr_ring.specs.Meaning.Records.{claimed as claimed_of}
+use Rattle.dr_ring.specs.Meaning.Settling.{FoundUnhalted}
 use Rattle.dr_ring.specs.Meaning.Shape.{Shape}
 use Rattle.dr_runs.specs.Gathering.{counts_at}
 use Rattle.dr_disruptor.specs.declared.running.Ran.{Ran}
@@ -56,13 +58,14 @@ pub record IsRan {A : Type 0} (goes : Relation Event A) (starts : List A) (sent 
   -- and the sender's after those
   pub last : drop (length starts) ran.endings.items ≡ record { who = 16; fault = sender } ∷ []
 
--- the sender of a new ring of this shape sent a script in claims of a quarter of the ring, and its calls came to this
+-- the sender of a new ring of this shape sent a script in claims of a quarter of the ring, left no claim open, and its calls came to this
 pub record IsSending (k : Shape) (script : List Event) (produced : Produced) : Type 0 where
   pub given : SenderEnd
   pub back : SenderEnd
   pub fresh : given.knows ≡ fresh_sender k
   pub calls : SomeCalls sender_does given back (worker.Sends (max (k.size / 4) 1) script (λ turn. ⊥) (λ turn. ⊥) produced)
   pub published : back.knows.sent.published ≡ take produced.sent script
+  pub complete : back.knows.sent.pending ≡ []
 
 -- what came of a script over a ring of this shape: the sender published the first of its events, all of them where it ended without a fault
 pub record IsRun {A : Type 0} (goes : Relation Event A) (k : Shape) (starts : List A) (script : List Event) (ran : Ran A) : Type 0 where
@@ -71,6 +74,9 @@ pub record IsRun {A : Type 0} (goes : Relation Event A) (k : Shape) (starts : Li
   pub sent : ran.settled.published ≡ produced.sent
   pub within : produced.sent ≤ length script
   pub all : produced.fault ≡ None → produced.sent ≡ length script
+  pub claimed : ran.settled.claimed ≡ produced.sent
+  -- nobody halted the ring, as far as the sender looked
+  pub unhalted : FoundUnhalted sending.back.knows
   pub came : IsRan goes starts (take produced.sent script) produced.fault ran
 
 -- what came of a closure's sending: it went from the sender of a new ring of this shape to one that published what was sent
@@ -80,6 +86,9 @@ pub record IsRanBy {A : Type 0} (sends : SenderEnd → Option WorkFault → Send
   pub fault : Option WorkFault
   pub fresh : given.knows ≡ fresh_sender k
   pub sending : sends given fault back
+  pub claimed : ran.settled.claimed ≡ claimed_of back.knows
+  -- nobody halted the ring before its sender did so itself, as far as it looked
+  pub unhalted : FoundUnhalted back.knows
   pub came : IsRan goes starts back.knows.sent.published fault ran
 
 -- the fault that is the first of the workers'

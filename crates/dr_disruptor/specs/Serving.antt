@@ -8,10 +8,10 @@ use Rattle.dr_meaning.specs.Calls.Calling.{SomeCalls}
 use Rattle.dr_meaning.specs.Calls.Handling.{Relation}
 use Rattle.dr_workers.specs.Calls.Serving as worker
 use Rattle.dr_ring.specs.Meaning.Shape.{Shape}
-use Rattle.dr_ring.specs.Calls.Ends.{SenderEnd, ReceiverEnd, receiver_place, received_of}
+use Rattle.dr_ring.specs.Calls.Ends.{SenderEnd, ReceiverEnd, HalterEnd, receiver_place, received_of}
 use Rattle.dr_ring.specs.Calls.Settling.{AreAllEnds}
 use Rattle.dr_ring.specs.Calls.Telling.{receiver_does}
-use Rattle.dr_ring.specs.Meaning.Moments.{fresh_sender}
+use Rattle.dr_ring.specs.Meaning.Moments.{fresh_halter, fresh_sender}
 use Rattle.dr_workers.specs.Meaning.Work.{IsDone}
 use Rattle.dr_workers.specs.declared.ended.Ended.{Ended}
 use Rattle.dr_workers.specs.declared.fault.WorkFault.TheVariants.{Memory, Stopped}
@@ -60,9 +60,10 @@ endings_from who (s ∷ served) = record { who = who; fault = s.fault } ∷ endi
 abbrev pub shape_of : List (List ℕ) → ℕ → Shape
 shape_of upstreams size = record { upstreams = upstreams; size = size; limit = 2 ^ 62 }
 
--- the sender of a new ring of this shape, and a worker for each handler, each with the end at its place
-pub record AreReady {A : Type 0} (k : Shape) (starts : List A) (sender : SenderEnd) (workers : List (Worker A)) : Type 0 where
+-- the sender of a new ring of this shape, a worker for each handler, each with the end at its place, and the halter, which has stored nothing
+pub record AreReady {A : Type 0} (k : Shape) (starts : List A) (sender : SenderEnd) (workers : List (Worker A)) (halter : HalterEnd) : Type 0 where
   pub begins : sender.knows ≡ fresh_sender k
-  pub ends : AreAllEnds sender (map given_end workers)
+  pub ends : AreAllEnds sender (map given_end workers) halter
+  pub unhalted : (halter.knows ≡ fresh_halter k) × (halter.stored ≡ [])
   pub fresh : All (BeginsAt sender.knows.plan) (map given_end workers)
   pub handlers : map given_handler workers ≡ starts

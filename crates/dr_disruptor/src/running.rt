@@ -1,12 +1,14 @@
 //! A whole run over a ring.
 
-ghost use Rattle.std.specs.Prelude.{◌≡◌, List, Option, None, All, IfErr, IfOk, length, map, take};
+ghost use Rattle.std.specs.Prelude.{◌≡◌, false, List, Option, None, All, IfErr, IfOk, length, map, take};
 ghost use Rattle.std.specs.Fn.{FnOnceReturnsAtMut};
 ghost use Rattle.dr_seq.specs.declared.event.Event.{Event};
 ghost use Rattle.dr_workers.specs.Meaning.FirstFault.{first_fault as first_of};
 ghost use Rattle.dr_workers.specs.declared.fault.WorkFault.{WorkFault};
 ghost use Rattle.dr_ring.specs.Calls.Ends.{SenderEnd, sender_place};
 ghost use Rattle.dr_ring.specs.Calls.Settling.{AreAllEnds};
+ghost use Rattle.dr_ring.specs.Meaning.Records.{claimed as claimed_of};
+ghost use Rattle.dr_ring.specs.Meaning.Settling.{FoundUnhalted};
 ghost use Rattle.dr_disruptor.specs.Refused.{refusal_of};
 ghost use Rattle.dr_disruptor.specs.Running.{AllWentThrough, AreFine, IsFirst, IsRan, IsRanBy, IsRun};
 ghost use Rattle.dr_disruptor.specs.Serving.{BeginsAt, given_end, given_handler, shape_of};
@@ -17,7 +19,7 @@ use crate::strategy::WaitStrategy;
 use crate::workers::{Back, LiveSender, SENDER, Worker, apart, begin, joined};
 use dr_graph::Graph;
 use dr_meaning::Handler;
-use dr_ring::{Settled, settle};
+use dr_ring::{Halter, Settled, settle};
 use dr_seq::{Event, Size};
 use dr_workers::{Ended, OpenGate, WorkFault, WorkerFault, first_fault, produce_with};
 use std::alloc::Global;
@@ -62,11 +64,15 @@ fn finish<R: Threads, H: Handler<Event> + Drop>(
     alloc: Global,
     mut sender: LiveSender,
     workers: Vec<Worker<H>>,
+    halter: Halter,
     fault: Option<WorkFault>,
 ) -> Result<Ran<H>, RunFault>
-    requires ends { AreAllEnds sender (map given_end workers.items) }
+    requires ends { AreAllEnds sender (map given_end workers.items) halter }
+    requires unhalted { halter.knows.halted ≡ false }
     requires fresh { All (BeginsAt sender.knows.plan) (map given_end workers.items) }
     ensures ran { IfOk result (IsRan H.goes (map given_handler workers.items) sender.knows.sent.published fault) }
+    ensures claimed { IfOk result (λ ran. ran.settled.claimed ≡ claimed_of sender.knows) }
+    ensures unhalted { IfOk result (λ _. FoundUnhalted sender.knows) }
     ensures memory { IfErr result (λ e. e ≡ Memory) }
 {
     let served = joined(rt, &mut sender, workers)?;
@@ -76,7 +82,7 @@ fn finish<R: Threads, H: Handler<Event> + Drop>(
         handlers,
         endings,
     } = back;
-    let settled = settle(sender.into_end(), receivers);
+    let settled = settle(sender.into_end(), receivers, halter);
     Ok(Ran {
         handlers,
         settled,
@@ -102,19 +108,19 @@ pub fn run_waiting<
     script: &[Event],
     strategy: WaitStrategy,
 ) -> Result<Ran<H>, RunFault>
-    // Where no worker has a fault, each handler went through exactly the script.
-    ensures whole { IfOk result (λ ran. AreFine ran.endings.items → AllWentThrough H.goes script.now handlers.items ran.handlers.items) }
-    // And where one has, each went through a beginning of what was sent.
+    // No worker has a fault, and each handler went through exactly the script.
+    ensures whole { IfOk result (λ ran. AreFine ran.endings.items × AllWentThrough H.goes script.now handlers.items ran.handlers.items) }
+    // It went over a new ring of this graph and size.
     ensures run { IfOk result (IsRun H.goes (shape_of graph.now.upstreams size) handlers.items script.now) }
     ensures many { IfOk result (λ _. length handlers.items ≡ length graph.now.upstreams) }
     ensures refused { IfErr result (λ e. e ≡ refusal_of (length graph.now.upstreams) (length handlers.items)) }
 {
-    let (mut sender, workers, bell) = begin(rt, alloc, graph, size, handlers, strategy)?;
+    let (mut sender, workers, bell, halter) = begin(rt, alloc, graph, size, handlers, strategy)?;
     // With less than the ring in a claim the handlers have events while the sender writes.
     let cut = (size.get() / 4).max(1);
     let mut waits = strategy.begin(&rt, &bell, size.get());
     let produced = produce_with(&rt, &mut sender, &OpenGate, SENDER, script, cut, &mut waits);
-    finish(&rt, alloc, sender, workers, produced.fault)
+    finish(&rt, alloc, sender, workers, halter, produced.fault)
 }
 
 /// As [`run_waiting`], by parking: an idle thread takes next to nothing of its processor.
@@ -126,8 +132,7 @@ pub fn run<R: Threads + Wait + Copy + Send + 'static, H: Handler<Event> + Drop +
     handlers: Vec<H>,
     script: &[Event],
 ) -> Result<Ran<H>, RunFault>
-    ensures whole { IfOk result (λ ran. AreFine ran.endings.items → AllWentThrough H.goes script.now handlers.items ran.handlers.items) }
-    // Only the sender's may have one: then each went through all that was sent.
+    ensures whole { IfOk result (λ ran. AreFine ran.endings.items × AllWentThrough H.goes script.now handlers.items ran.handlers.items) }
     ensures run { IfOk result (IsRun H.goes (shape_of graph.now.upstreams size) handlers.items script.now) }
     ensures many { IfOk result (λ _. length handlers.items ≡ length graph.now.upstreams) }
     ensures refused { IfErr result (λ e. e ≡ refusal_of (length graph.now.upstreams) (length handlers.items)) }
@@ -166,7 +171,7 @@ pub fn run_with<
     ensures many { IfOk result (λ _. length handlers.items ≡ length graph.now.upstreams) }
     ensures refused { IfErr result (λ e. e ≡ refusal_of (length graph.now.upstreams) (length handlers.items)) }
 {
-    let (mut sender, workers, _bell) = begin(rt, alloc, graph, size, handlers, strategy)?;
+    let (mut sender, workers, _bell, halter) = begin(rt, alloc, graph, size, handlers, strategy)?;
     let fault = send(&mut sender);
-    finish(&rt, alloc, sender, workers, fault)
+    finish(&rt, alloc, sender, workers, halter, fault)
 }

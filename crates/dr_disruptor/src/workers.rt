@@ -11,7 +11,7 @@ use crate::served::{Served, ServesPromise, serve};
 use crate::strategy::WaitStrategy;
 use dr_graph::Graph;
 use dr_meaning::{Handler, MAX_LIMIT};
-use dr_ring::{Receiver, Sender, ring};
+use dr_ring::{Halter, Receiver, Sender, ring};
 use dr_seq::{Event, Size};
 use dr_workers::{Bell, Ended, Ringing, WorkFault};
 use std::alloc::{AllocError, Global};
@@ -80,8 +80,8 @@ fn abandon<R: Threads, H: Handler<Event> + Drop>(
     wait_for(rt, workers);
 }
 
-/// A ring's sender, a thread for each handler with its end of the ring, and the bell that wakes those who
-/// park. Where a thread cannot be started, nothing is sent, and those that were started are joined.
+/// A ring's sender, a thread for each handler with its end of the ring, the bell that wakes those who
+/// park, and the ring's halter, which nobody used. Where a thread cannot be started, nothing is sent, and those that were started are joined.
 pub(crate) fn begin<
     R: Threads + Wait + Copy + Send + 'static,
     H: Handler<Event> + Drop + Send + 'static,
@@ -92,8 +92,8 @@ pub(crate) fn begin<
     size: Size,
     handlers: Vec<H>,
     strategy: WaitStrategy,
-) -> Result<(LiveSender, Vec<Worker<H>>, Arc<Bell, Global>), RunFault>
-    ensures ready { IfOk result (λ r. AreReady (shape_of graph.now.upstreams size) handlers.items r.0 r.1.items) }
+) -> Result<(LiveSender, Vec<Worker<H>>, Arc<Bell, Global>, Halter), RunFault>
+    ensures ready { IfOk result (λ r. AreReady (shape_of graph.now.upstreams size) handlers.items r.0 r.1.items r.3) }
     ensures many { IfOk result (λ _. length handlers.items ≡ length graph.now.upstreams) }
     ensures refused { IfErr result (λ e. e ≡ refusal_of (length graph.now.upstreams) (length handlers.items)) }
 {
@@ -107,7 +107,7 @@ pub(crate) fn begin<
     let mut started = Vec::with_capacity(alloc, given)?;
     let bell = Arc::new(alloc, Bell::new())?;
     let theirs = Arc::try_clone(&bell)?;
-    let Ok((sender, receivers, _halter)) = ring(alloc, graph, size, MAX_LIMIT) else {
+    let Ok((sender, receivers, halter)) = ring(alloc, graph, size, MAX_LIMIT) else {
         return Err(RunFault::Memory);
     };
     let mut sender = Ringing::new(sender, theirs);
@@ -115,7 +115,7 @@ pub(crate) fn begin<
         abandon(&rt, &mut sender, started);
         return Err(RunFault::Memory);
     }
-    Ok((sender, started, bell))
+    Ok((sender, started, bell, halter))
 }
 
 // Closes the ring, unless the sender left a claim open, and has what each thread gives back. Where memory

@@ -1,7 +1,11 @@
-use Rattle.std.proofs.Common.{◌≡◌, List, length, map, All, sym, subst, ap, ◌∙◌}
+use Rattle.std.proofs.Common.{◌≡◌, ◌+◌, List, Option, length, map, All, sym, subst, ap, ◌∙◌}
 use Rattle.dr_seq.specs.declared.event.Event.{Event}
 use Rattle.dr_ring.specs.Meaning.Shape.{Shape}
-use Rattle.dr_ring.specs.Meaning.Settling.{Settles}
+use Rattle.dr_runs.specs.declared.look.Look.{Look}
+use Rattle.dr_runs.specs.Looks.{last_look}
+use Rattle.dr_runs.specs.Words.{halt_word}
+use Rattle.dr_ring.specs.Meaning.Records.{claimed as claimed_of}
+use Rattle.dr_ring.specs.Meaning.Settling.{FoundUnhalted, Settles}
 use Rattle.dr_ring.specs.Calls.Ends.{ReceiverEnd, SenderEnd, SenderPlace}
 use Rattle.dr_ring.specs.Calls.Settling.{AreAllEnds, handler_counts}
 use Rattle.dr_disruptor.specs.declared.running.Ran.{Ran}
@@ -14,10 +18,10 @@ pub settle-settled-requires : goal.settle-settled-requires
 settle-settled-requires g c =
     let sender = c.joined.new.sender in
     let workers = c.args.workers.items in
-    let all : AreAllEnds sender (map given_end workers) = all_moved c.args.sender sender (map given_end workers) c.joined.ensures.closes.place c.requires.ends in
-    subst (λ (e : SenderEnd). AreAllEnds e c.in_ok-back.back.receivers.items) (sym c.into_end.ensures)
-    (subst (AreAllEnds sender) (sym c.in_ok-back.ensures.receivers)
-    (all_back g.H.Handler.goes sender workers c.in_ok-served.served.items c.in_ok-served.ensures.kept all))
+    let all : AreAllEnds sender (map given_end workers) c.args.halter = all_moved c.args.sender sender (map given_end workers) c.args.halter c.joined.ensures.closes.place c.requires.ends in
+    subst (λ (e : SenderEnd). AreAllEnds e c.in_ok-back.back.receivers.items c.args.halter) (sym c.into_end.ensures)
+    (subst (λ (l : List ReceiverEnd). AreAllEnds sender l c.args.halter) (sym c.in_ok-back.ensures.receivers)
+    (all_back g.H.Handler.goes sender workers c.in_ok-served.served.items c.in_ok-served.ensures.kept c.args.halter all))
 
 pub returns-clause-ran : goal.returns-clause-ran
 returns-clause-ran g c =
@@ -27,7 +31,7 @@ returns-clause-ran g c =
     let back = c.in_ok-back.back in
     let receivers = map (λ b. b.receiver) served in
     let plan : sender.knows.plan ≡ c.args.sender.knows.plan = ap (λ (p : SenderPlace). p.1) c.joined.ensures.closes.place in
-    let all : AreAllEnds sender (map given_end workers) = all_moved c.args.sender sender (map given_end workers) c.joined.ensures.closes.place c.requires.ends in
+    let all : AreAllEnds sender (map given_end workers) c.args.halter = all_moved c.args.sender sender (map given_end workers) c.args.halter c.joined.ensures.closes.place c.requires.ends in
     let fresh : All (BeginsAt sender.knows.plan) (map given_end workers) = subst (λ (k : Shape). All (BeginsAt k) (map given_end workers)) (sym plan) c.requires.fresh in
     let settles : Settles sender.knows (map (λ (e : ReceiverEnd). e.knows) receivers) =
     subst (λ (l : List ReceiverEnd). Settles sender.knows (map (λ (e : ReceiverEnd). e.knows) l)) c.in_ok-back.ensures.receivers
@@ -37,5 +41,17 @@ returns-clause-ran g c =
     c.settle-settled.ensures.handlers ∙ ap (map (λ (e : ReceiverEnd). handler_counts e.knows)) c.in_ok-back.ensures.receivers
     in
     let ran : Ran g.row.H.Denot = record { handlers = back.handlers; settled = c.settle-settled.result; endings = back.endings } in
-    let is = is_ran g.H.Handler.goes sender workers served c.in_ok-served.ensures.kept ran all fresh settles counts c.args.fault (c.settle-settled.ensures.published ∙ ap (λ (e : SenderEnd). length e.knows.sent.published) c.into_end.ensures) c.in_ok-back.ensures.handlers c.in_ok-back.ensures.endings in
+    let is = is_ran g.H.Handler.goes sender workers served c.in_ok-served.ensures.kept ran c.args.halter all fresh settles counts c.args.fault (c.settle-settled.ensures.published ∙ ap (λ (e : SenderEnd). length e.knows.sent.published) c.into_end.ensures) c.in_ok-back.ensures.handlers c.in_ok-back.ensures.endings in
     subst (λ (l : List Event). IsRan g.H.Handler.goes (map given_handler workers) l c.args.fault ran) c.joined.ensures.closes.published is
+
+pub returns-clause-claimed : goal.returns-clause-claimed
+returns-clause-claimed g c =
+    let closes = c.joined.ensures.closes in
+    c.settle-settled.ensures.claimed ∙ ap (λ (e : SenderEnd). claimed_of e.knows) c.into_end.ensures
+    ∙ ap (λ (l : List Event). length l + length c.joined.new.sender.knows.sent.pending) closes.published
+    ∙ ap (λ (l : List (Option Event)). length c.args.sender.knows.sent.published + length l) closes.pending
+
+pub returns-clause-unhalted : goal.returns-clause-unhalted
+returns-clause-unhalted g c =
+    subst (λ (l : List Look). last_look 0 l halt_word ≡ 0) c.joined.ensures.closes.saw
+    (subst (λ (e : SenderEnd). FoundUnhalted e.knows) c.into_end.ensures (c.settle-settled.ensures.unhalted c.requires.unhalted))

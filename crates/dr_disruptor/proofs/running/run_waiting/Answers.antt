@@ -1,13 +1,17 @@
-use Rattle.std.proofs.Common.{◌≡◌, ℕ, ◌/◌, max, List, ◌++◌, length, map, take, None, ap, subst, ◌∙◌}
+use Rattle.std.proofs.Common.{rules, ◌<◌, ◌^◌, ◌≡◌, ℕ, ◌/◌, max, List, ◌++◌, length, map, take, None, ap, arith, refl, subst, ◌∙◌}
 use Rattle.dr_seq.specs.declared.event.Event.{Event}
 use Rattle.dr_meaning.specs.Calls.Calling.{SomeCalls}
 use Rattle.dr_workers.specs.Calls.Serving as worker
+use Rattle.dr_ring.specs.declared.record.HalterRecord.{HalterRecord}
 use Rattle.dr_ring.specs.declared.record.SenderRecord.{SenderRecord}
 use Rattle.dr_ring.specs.Calls.Telling.{sender_does}
 use Rattle.dr_disruptor.specs.Running.{IsSending}
 use Rattle.dr_disruptor.specs.Serving.{given_handler, shape_of}
-use Rattle.dr_disruptor.proofs.Whole.{run_of, whole_of}
+use Rattle.dr_disruptor.proofs.Whole.{came, run_of, whole_of}
 use Rattle.dr_disruptor.proofs.running.run_waiting.Goals as goal
+
+pub finish-requires-clause-unhalted : goal.finish-requires-clause-unhalted
+finish-requires-clause-unhalted g c = ap (λ (t : HalterRecord). t.halted) c.in_ok-sender.ensures.ready.unhalted.0
 
 pub returns-clause-run : goal.returns-clause-run
 returns-clause-run g c =
@@ -23,13 +27,16 @@ returns-clause-run g c =
       back = produced.new.inlet;
       fresh = ready.begins;
       calls = subst (λ (n : ℕ). SomeCalls sender_does made.sender produced.new.inlet (worker.Sends {E = Event} n script (λ turn. ⊥) (λ turn. ⊥) produced.result)) cut produced.ensures.sends;
+      complete = produced.ensures.open (ap (λ (r : SenderRecord). r.sent.pending) ready.begins);
       published = produced.ensures.sent ∙ ap (λ (l : List Event). l ++ take produced.result.sent script) none;
     }
     in
     let all : produced.result.fault ≡ None → produced.result.sent ≡ length script = λ fine. rw fine at produced.ensures.all in
     run_of g.H.Handler.goes (shape_of upstreams c.args.size) c.args.handlers.items script produced.result (map given_handler made.workers.items)
-    c.finish.result ready.handlers sending produced.ensures.within all c.finish.ensures.ran
+    c.finish.result ready.handlers sending produced.ensures.within all
+    (came g.H.Handler.goes (shape_of upstreams c.args.size) c.args.handlers.items produced.new.inlet (map given_handler made.workers.items) produced.result.fault c.finish.result c.finish.ensures.ran c.finish.ensures.claimed c.finish.ensures.unhalted)
 
 pub returns-clause-whole : goal.returns-clause-whole
 returns-clause-whole g c =
-    whole_of g.H.Handler.goes (shape_of c.args.graph.now.upstreams c.args.size) c.args.handlers.items c.args.script.now c.finish.result (returns-clause-run g c)
+    let short : length c.args.script.now < 2 ^ 62 = search rules in
+    whole_of g.H.Handler.goes (shape_of c.args.graph.now.upstreams c.args.size) c.args.handlers.items c.args.script.now c.finish.result refl (omega arith) (returns-clause-run g c)

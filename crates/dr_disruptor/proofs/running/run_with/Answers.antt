@@ -1,10 +1,11 @@
 use Rattle.std.proofs.Common.{map, All, refl, sym, subst, ap}
 use Rattle.std.specs.Fn.{FnOnceReturnsAtMut}
+use Rattle.dr_ring.specs.declared.record.HalterRecord.{HalterRecord}
 use Rattle.dr_ring.specs.Meaning.Shape.{Shape}
 use Rattle.dr_ring.specs.Calls.Ends.{SenderPlace}
 use Rattle.dr_disruptor.specs.Serving.{BeginsAt, given_end, given_handler, shape_of}
 use Rattle.dr_disruptor.proofs.Settled.{all_moved}
-use Rattle.dr_disruptor.proofs.Whole.{run_by}
+use Rattle.dr_disruptor.proofs.Whole.{came, run_by}
 use Rattle.dr_disruptor.proofs.running.run_with.Goals as goal
 
 pub finish-requires-clause-ends : goal.finish-requires-clause-ends
@@ -12,7 +13,7 @@ finish-requires-clause-ends g c =
     let made = c.in_ok-sender in
     let sent = c.send-fault in
     let gave : FnOnceReturnsAtMut g.F.FnOnce c.args.send made.sender sent.result sent.new.arg2 = record { shown = _; shows = refl; left = _; met = sent.ensures; leaves = refl } in
-    all_moved made.sender sent.new.arg2 (map given_end made.workers.items) (c.requires.place made.sender sent.result sent.new.arg2 gave) made.ensures.ready.ends
+    all_moved made.sender sent.new.arg2 (map given_end made.workers.items) made.halter (c.requires.place made.sender sent.result sent.new.arg2 gave) made.ensures.ready.ends
 
 pub finish-requires-clause-fresh : goal.finish-requires-clause-fresh
 finish-requires-clause-fresh g c =
@@ -22,6 +23,9 @@ finish-requires-clause-fresh g c =
     let plan = ap (λ (p : SenderPlace). p.1) (c.requires.place made.sender sent.result sent.new.arg2 gave) in
     subst (λ (k : Shape). All (BeginsAt k) (map given_end made.workers.items)) (sym plan) made.ensures.ready.fresh
 
+pub finish-requires-clause-unhalted : goal.finish-requires-clause-unhalted
+finish-requires-clause-unhalted g c = ap (λ (t : HalterRecord). t.halted) c.in_ok-sender.ensures.ready.unhalted.0
+
 pub returns-clause-ran : goal.returns-clause-ran
 returns-clause-ran g c =
     let made = c.in_ok-sender in
@@ -29,4 +33,5 @@ returns-clause-ran g c =
     let sent = c.send-fault in
     let gave : FnOnceReturnsAtMut g.F.FnOnce c.args.send made.sender sent.result sent.new.arg2 = record { shown = _; shows = refl; left = _; met = sent.ensures; leaves = refl } in
     run_by g.H.Handler.goes (shape_of c.args.graph.now.upstreams c.args.size) c.args.handlers.items (FnOnceReturnsAtMut g.F.FnOnce c.args.send) made.sender sent.new.arg2 sent.result
-    (map given_handler made.workers.items) c.finish.result ready.handlers ready.begins gave c.finish.ensures.ran
+    (map given_handler made.workers.items) c.finish.result ready.handlers ready.begins gave
+    (came g.H.Handler.goes (shape_of c.args.graph.now.upstreams c.args.size) c.args.handlers.items sent.new.arg2 (map given_handler made.workers.items) sent.result c.finish.result c.finish.ensures.ran c.finish.ensures.claimed c.finish.ensures.unhalted)
