@@ -1,6 +1,7 @@
 -- What a sender's calls change of what it knows; and a claim of what the ring's size and limit allow is refused for good only where the sender finds the ring halted.
 use Rattle.std.proofs.Common.{◌≡◌, ◌≢◌, ℕ, ◌+◌, ◌<◌, ◌≤◌, ◌==◌, ◌||◌, nat_lt, false, List, [], ◌∷◌, ◌++◌, take, Result, Ok, Err, ⊎_elim, refl, sym, ap, ◌∙◌, subst, arith, append_assoc}
 use Rattle.std.proofs.lemmas.Bool.{false≢true, le-ltb, ne_eqb}
+use Rattle.dr_seq.specs.Size.{IsSize}
 use Rattle.dr_seq.specs.declared.event.Event.{Event}
 use Rattle.dr_meaning.specs.declared.command.Claimed.{Claimed}
 use Rattle.dr_meaning.specs.declared.ends.Trouble.{Trouble}
@@ -17,7 +18,7 @@ use Rattle.dr_runs.specs.Words.{halt_word}
 use Rattle.dr_runs.proofs.Looks.{last_look_more}
 use Rattle.dr_ring.specs.declared.record.SenderRecord.{SenderRecord}
 use Rattle.dr_ring.specs.Meaning.Records.{claimed}
-use Rattle.dr_ring.specs.Calls.Ends.{SenderEnd}
+use Rattle.dr_ring.specs.Calls.Ends.{SenderEnd, sender_place}
 use Rattle.dr_ring.specs.Calls.Sending.{LooksToClaim, gate_looks, tests_of_claim}
 use Rattle.dr_ring.specs.Calls.Telling.{sender_does}
 
@@ -43,22 +44,32 @@ publishes a b lo hi (Ok done) is = is.1.1
 publishes a b lo hi (Err Memory) is = absurd is
 publishes a b lo hi (Err (Refused refusal)) is = is.1.1
 
--- no such call halts the ring
-halts_not : (a b : SenderEnd) (call : InletCall Event) → sender_does a call b → b.knows.halted ≡ a.knows.halted
-halts_not a b (TriesClaim n (Ok stretch)) is = ap (λ (r : SenderRecord). r.halted) is.1.only
-halts_not a b (TriesClaim n (Err Memory)) is = absurd is
-halts_not a b (TriesClaim n (Err (Refused refusal))) is = ap (λ (r : SenderRecord). r.halted) is.1.only
-halts_not a b (WritesOne s event (Ok done)) is = ap (λ (r : SenderRecord). r.halted) is.1.2
-halts_not a b (WritesOne s event (Err Memory)) is = absurd is
-halts_not a b (WritesOne s event (Err (Refused refusal))) is = ap (λ (r : SenderRecord). r.halted) is.1.2
-halts_not a b (WritesMany lo events wrote) is = ap (λ (r : SenderRecord). r.halted) is.only
-halts_not a b (PublishesStretch lo hi (Ok done)) is = ap (λ (r : SenderRecord). r.halted) is.1.2
-halts_not a b (PublishesStretch lo hi (Err Memory)) is = absurd is
-halts_not a b (PublishesStretch lo hi (Err (Refused refusal))) is = ap (λ (r : SenderRecord). r.halted) is.1.2
+-- no such call halts the ring, and the sender stays at its place
+abbrev pub Stays : SenderEnd → SenderEnd → Type 0
+Stays a b = (sender_place b ≡ sender_place a) × (b.knows.halted ≡ a.knows.halted)
 
-pub never_halts : (a b : SenderEnd) (calls : List (InletCall Event)) → CallsLead sender_does a calls b → b.knows.halted ≡ a.knows.halted
-never_halts a b [] lead = ap (λ (e : SenderEnd). e.knows.halted) lead
-never_halts a b (call ∷ calls) lead = never_halts lead.0 b calls lead.2 ∙ halts_not a lead.0 call lead.1
+pub stays : (a b : SenderEnd) (call : InletCall Event) → sender_does a call b → Stays a b
+stays a b (TriesClaim n (Ok stretch)) is = (is.0, ap (λ (r : SenderRecord). r.halted) is.1.only)
+stays a b (TriesClaim n (Err Memory)) is = absurd is
+stays a b (TriesClaim n (Err (Refused refusal))) is = (is.0, ap (λ (r : SenderRecord). r.halted) is.1.only)
+stays a b (WritesOne s event (Ok done)) is = (is.0, ap (λ (r : SenderRecord). r.halted) is.1.2)
+stays a b (WritesOne s event (Err Memory)) is = absurd is
+stays a b (WritesOne s event (Err (Refused refusal))) is = (is.0, ap (λ (r : SenderRecord). r.halted) is.1.2)
+stays a b (WritesMany lo events wrote) is = (is.place, ap (λ (r : SenderRecord). r.halted) is.only)
+stays a b (PublishesStretch lo hi (Ok done)) is = (is.0, ap (λ (r : SenderRecord). r.halted) is.1.2)
+stays a b (PublishesStretch lo hi (Err Memory)) is = absurd is
+stays a b (PublishesStretch lo hi (Err (Refused refusal))) is = (is.0, ap (λ (r : SenderRecord). r.halted) is.1.2)
+
+pub stays_all : (a b : SenderEnd) (calls : List (InletCall Event)) → CallsLead sender_does a calls b → Stays a b
+stays_all a b [] lead = (ap sender_place lead, ap (λ (e : SenderEnd). e.knows.halted) lead)
+stays_all a b (call ∷ calls) lead =
+    let first = stays a lead.0 call lead.1 in let rest = stays_all lead.0 b calls lead.2 in (rest.0 ∙ first.0, rest.1 ∙ first.1)
+
+-- a sender's ring has a size
+pub sized : (a b : SenderEnd) (n : ℕ) (answer : Result Claimed Trouble) → sender_does a (TriesClaim n answer) b → IsSize a.knows.plan.size
+sized a b n (Ok stretch) is = is.1.size
+sized a b n (Err Memory) is = absurd is
+sized a b n (Err (Refused refusal)) is = is.1.size
 
 -- a claim of some within the size and the limit is refused for want of room, or since the ring is halted
 only_halted : (r : SenderRecord) (n : ℕ) (refusal : Refusal) → 0 < n → n ≤ r.plan.size → claimed r + n ≤ r.plan.limit → refusal ≢ NoRoom
