@@ -1,7 +1,8 @@
 -- What a sender's calls change of what it knows; and a claim of what the ring's size and limit allow is refused for good only where the sender finds the ring halted.
-use Rattle.std.proofs.Common.{◌≡◌, ◌≢◌, ℕ, ◌+◌, ◌<◌, ◌≤◌, ◌==◌, ◌||◌, nat_lt, false, List, [], ◌∷◌, ◌++◌, take, Result, Ok, Err, ⊎_elim, refl, sym, ap, ◌∙◌, subst, arith, append_assoc}
+use Rattle.std.proofs.Common.{◌≡◌, ◌≢◌, ℕ, ◌+◌, ◌/◌, ◌<◌, ◌≤◌, max, if◌then◌else◌, ◌==◌, ◌||◌, nat_lt, Bool, false, List, [], ◌∷◌, ◌++◌, length, take, Result, Ok, Err, ⊎_elim, refl, sym, ap, ◌∙◌, subst, arith, append_assoc}
 use Rattle.std.proofs.lemmas.Bool.{false≢true, le-ltb, ne_eqb}
 use Rattle.dr_seq.specs.Size.{IsSize}
+use Rattle.dr_seq.proofs.Sizes.{size_positive}
 use Rattle.dr_seq.specs.declared.event.Event.{Event}
 use Rattle.dr_meaning.specs.declared.command.Claimed.{Claimed}
 use Rattle.dr_meaning.specs.declared.ends.Trouble.{Trouble}
@@ -11,14 +12,17 @@ use Rattle.dr_meaning.specs.declared.refusal.Refusal.{Refusal}
 use Rattle.dr_meaning.specs.declared.refusal.Refusal.TheVariants.{NoRoom, Halted}
 use Rattle.dr_meaning.specs.Meaning.Refusals.{IsFirst, claim_causes}
 use Rattle.dr_meaning.specs.Calls.Calling.{CallsLead, InletCall, TriesClaim, WritesOne, WritesMany, PublishesStretch}
-use Rattle.dr_meaning.specs.Calls.Ends.{Claims, GivesStretch, MayFail, MayHold, Publishes, Writes, WritesAll}
+use Rattle.dr_meaning.specs.Calls.Ends.{Claims, GivesStretch, Sent, MayFail, MayHold, Publishes, Writes, WritesAll}
 use Rattle.dr_runs.specs.declared.look.Look.{Look}
 use Rattle.dr_runs.specs.Looks.{look, last_look}
 use Rattle.dr_runs.specs.Words.{halt_word}
 use Rattle.dr_runs.proofs.Looks.{last_look_more}
 use Rattle.dr_ring.specs.declared.record.SenderRecord.{SenderRecord}
+use Rattle.dr_ring.specs.Meaning.Moments.{fresh_sender}
 use Rattle.dr_ring.specs.Meaning.Records.{claimed}
-use Rattle.dr_ring.specs.Calls.Ends.{SenderEnd, sender_place}
+use Rattle.dr_ring.specs.Meaning.Settling.{FoundUnhalted}
+use Rattle.dr_ring.specs.Meaning.Shape.{Shape}
+use Rattle.dr_ring.specs.Calls.Ends.{SenderEnd, SenderPlace, sender_place}
 use Rattle.dr_ring.specs.Calls.Sending.{LooksToClaim, gate_looks, tests_of_claim}
 use Rattle.dr_ring.specs.Calls.Telling.{sender_does}
 
@@ -101,3 +105,23 @@ refused_by_halt a b n (Refused refusal) some size limit other is =
     let halted : Halted ≡ refusal = only_halted a.knows n refusal some size limit (λ e. other (ap Refused e)) is.1.answer in
     ap (λ (r : SenderRecord). last_look 0 r.looks halt_word) is.1.only
     ∙ finds_halt a.knows n is.1.seen (subst (λ (x : Refusal). LooksToClaim a.knows n is.1.seen (Err x)) (sym halted) is.1.looks)
+
+-- where nobody else halted the ring, none is: of a new ring's sender that leaves nothing open, and claims a quarter of its slots or less, as its limit allows
+pub no_refusal : (k : Shape) (given last back : SenderEnd) (calls : List (InletCall Event)) (n : ℕ) (trouble : Trouble) → given.knows ≡ fresh_sender k → CallsLead sender_does given calls back
+    → back.knows.sent.pending ≡ [] → FoundUnhalted back.knows → 0 < n → n ≤ max (k.size / 4) 1 → length back.knows.sent.published + n ≤ k.limit → trouble ≢ Refused NoRoom
+    → sender_does last (TriesClaim n (Err trouble)) back → ⊥
+no_refusal k given last back calls n trouble fresh lead complete unhalted some cut fits other is =
+    let came = stays_all given back calls lead in
+    let here = (stays last back (TriesClaim n (Err trouble)) is).0 in
+    let plan : last.knows.plan ≡ k = ap (λ (p : SenderPlace). p.1) (sym here ∙ came.0) ∙ ap (λ (r : SenderRecord). r.plan) fresh in
+    let size : last.knows.plan.size ≡ k.size = ap (λ (p : Shape). p.size) plan in
+    let most : last.knows.plan.limit ≡ k.limit = ap (λ (p : Shape). p.limit) plan in
+    let slots : 0 < last.knows.plan.size = size_positive last.knows.plan.size (sized last back n (Err trouble) is) in
+    let same : back.knows.sent ≡ last.knows.sent = (claims last back n (Err trouble) is).0 in
+    let published : length back.knows.sent.published ≡ length last.knows.sent.published = ap (λ (e : Sent Event). length e.published) same in
+    let pending : 0 ≡ length last.knows.sent.pending = sym (ap length complete) ∙ ap (λ (e : Sent Event). length e.pending) same in
+    let off : back.knows.halted ≡ false = came.1 ∙ ap (λ (r : SenderRecord). r.halted) fresh in
+    let none : last_look 0 back.knows.looks halt_word ≡ 0 =
+    ap (λ (b : Bool). last_look 0 (if b then back.knows.before else back.knows.looks) halt_word) (sym off) ∙ unhalted in
+    let on = refused_by_halt last back n trouble some (omega arith) (omega arith) other is in
+    absurd (omega arith)
