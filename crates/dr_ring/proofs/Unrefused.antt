@@ -23,7 +23,7 @@ use Rattle.dr_ring.specs.Meaning.Records.{claimed}
 use Rattle.dr_ring.specs.Meaning.Settling.{FoundUnhalted}
 use Rattle.dr_ring.specs.Meaning.Shape.{Shape}
 use Rattle.dr_ring.specs.Calls.Ends.{SenderEnd, SenderPlace, sender_place}
-use Rattle.dr_ring.specs.Calls.Sending.{LooksToClaim, gate_looks, tests_of_claim}
+use Rattle.dr_ring.specs.Calls.Sending.{ClosesOnceDone, LooksToClaim, gate_looks, tests_of_claim}
 use Rattle.dr_ring.specs.Calls.Telling.{sender_does}
 
 pub claims : (a b : SenderEnd) (n : ℕ) (answer : Result Claimed Trouble) → sender_does a (TriesClaim n answer) b
@@ -105,6 +105,10 @@ refused_by_halt a b n (Refused refusal) some size limit other is =
     let halted : Halted ≡ refusal = only_halted a.knows n refusal some size limit (λ e. other (ap Refused e)) is.1.answer in
     ap (λ (r : SenderRecord). last_look 0 r.looks halt_word) is.1.only
     ∙ finds_halt a.knows n is.1.seen (subst (λ (x : Refusal). LooksToClaim a.knows n is.1.seen (Err x)) (sym halted) is.1.looks)
+
+-- a close finds no halt
+pub unhalted_before : (e e' : SenderEnd) → ClosesOnceDone e e' → FoundUnhalted e'.knows → FoundUnhalted e.knows
+unhalted_before e e' closes found = subst (λ (l : List Look). last_look 0 l halt_word ≡ 0) closes.saw found
 
 -- where nobody else halted the ring, none is: of a new ring's sender that leaves nothing open, and claims a quarter of its slots or less, as its limit allows
 pub no_refusal : (k : Shape) (given last back : SenderEnd) (calls : List (InletCall Event)) (n : ℕ) (trouble : Trouble) → given.knows ≡ fresh_sender k → CallsLead sender_does given calls back
