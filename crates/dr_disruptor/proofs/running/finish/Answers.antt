@@ -1,13 +1,11 @@
 use Rattle.std.proofs.Common.{◌≡◌, ◌+◌, List, Option, length, map, All, sym, subst, ap, ◌∙◌}
 use Rattle.dr_seq.specs.declared.event.Event.{Event}
 use Rattle.dr_ring.specs.Meaning.Shape.{Shape}
-use Rattle.dr_runs.specs.declared.look.Look.{Look}
-use Rattle.dr_runs.specs.Looks.{last_look}
-use Rattle.dr_runs.specs.Words.{halt_word}
 use Rattle.dr_ring.specs.Meaning.Records.{claimed as claimed_of}
 use Rattle.dr_ring.specs.Meaning.Settling.{FoundUnhalted, Settles}
 use Rattle.dr_ring.specs.Calls.Ends.{ReceiverEnd, SenderEnd, SenderPlace}
 use Rattle.dr_ring.specs.Calls.Settling.{AreAllEnds, handler_counts}
+use Rattle.dr_ring.proofs.Unrefused.{unhalted_before}
 use Rattle.dr_disruptor.specs.declared.running.Ran.{Ran}
 use Rattle.dr_disruptor.specs.Running.{IsRan}
 use Rattle.dr_disruptor.specs.Serving.{BeginsAt, given_end, given_handler}
@@ -53,5 +51,5 @@ returns-clause-claimed g c =
 
 pub returns-clause-unhalted : goal.returns-clause-unhalted
 returns-clause-unhalted g c =
-    subst (λ (l : List Look). last_look 0 l halt_word ≡ 0) c.joined.ensures.closes.saw
+    unhalted_before c.args.sender c.joined.new.sender c.joined.ensures.closes
     (subst (λ (e : SenderEnd). FoundUnhalted e.knows) c.into_end.ensures (c.settle-settled.ensures.unhalted c.requires.unhalted))
