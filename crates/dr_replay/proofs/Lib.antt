@@ -12,3 +12,4 @@ pub mod Reporting
 pub mod Scripting
 pub mod Settled
 pub mod Stopping
+pub mod Unrefused

@@ -1,18 +1,22 @@
 -- No worker of an exchange was stopped but by its gate.
-use Rattle.std.proofs.Common.{◌≡◌, ◌+◌, ◌<◌, ℕ, suc, List, [], ◌∷◌, length, map, get_or, Option, Some, Result, Ok, Err, Vec, refl, subst, arith}
+use Rattle.std.proofs.Common.{◌≡◌, ◌+◌, ◌^◌, ◌<◌, ◌≤◌, ℕ, suc, List, [], ◌∷◌, length, map, get_or, Option, Some, Result, Ok, Err, Vec, subst, arith}
 use Rattle.std.proofs.lemmas.List.Elements.{All-nil, All-cons}
 use Rattle.dr_seq.specs.declared.event.Event.{Event}
 use Rattle.dr_meaning.specs.declared.refusal.Refusal.{Refusal}
+use Rattle.dr_ring.specs.Meaning.Moments.{fresh_sender}
+use Rattle.dr_ring.specs.Meaning.Settling.{FoundUnhalted}
+use Rattle.dr_ring.specs.Meaning.Shape.{Shape}
 use Rattle.dr_ring.specs.Calls.Ends.{SenderEnd, ReceiverEnd}
 use Rattle.dr_workers.specs.declared.ended.Ended.{Ended}
 use Rattle.dr_lock.specs.Meaning.History.{History}
 use Rattle.dr_workers.specs.declared.fault.WorkFault.{WorkFault}
 use Rattle.dr_workers.specs.declared.fault.WorkFault.TheVariants.{Refused, Stopped}
 use Rattle.dr_accounts.specs.Keeping.{error_of}
+use Rattle.dr_replay.proofs.Unrefused.{sender_served}
 use Rattle.dr_replay.specs.declared.lock_workers.Joined.{Joined}
 use Rattle.dr_replay.specs.declared.ring.Ran.{Ran}
 use Rattle.dr_replay.specs.Inside.LockWorkers.{IsJoined}
-use Rattle.dr_replay.specs.Calls.Workers.{AreStopped, HandlersAreServed, IsRun, endings_of, lock_endings, numbered}
+use Rattle.dr_replay.specs.Calls.Workers.{AreServed, AreStopped, IsRun, endings_of, lock_endings, numbered}
 
 -- a worker that ended with a fault
 ended_with : {A : Type 0} (part : Result A WorkFault) (f : WorkFault) → error_of part ≡ Some f → part ≡ Err f
@@ -67,11 +71,12 @@ run_stopped may_stop events s j r b ran is =
     (more at_some_turn 2 (error_of ran.business.part) sender (λ e. is.business.stopped (ended_with ran.business.part Stopped e))
     (more at_some_turn 16 ran.produced.fault [] is.sending.stopped (All-nil (λ (e : Ended). e.fault ≡ Some Stopped → at_some_turn e.who)))))
 
--- and over a new ring no handler was refused a call
-pub run_served : {may_stop must_stop : ℕ → ℕ → Type 0} {size : ℕ} (events : List Event) (s : SenderEnd) (j r b : ReceiverEnd) (ran : Ran)
-    → IsRun may_stop must_stop size events s j r b ran → j.knows.completed ≡ 0 → r.knows.completed ≡ 0 → b.knows.completed ≡ 0 → HandlersAreServed (endings_of ran)
-run_served events s j r b ran is first second third =
-    let IsServed : Ended → Type 0 = λ e. (refusal : Refusal) → e.fault ≡ Some (Refused refusal) → e.who ≡ 16 in
+-- and over a new ring that nobody else halted none was refused a call
+pub run_served : {may_stop must_stop : ℕ → ℕ → Type 0} {size : ℕ} (k : Shape) (events : List Event) (s : SenderEnd) (j r b : ReceiverEnd) (ran : Ran)
+    → IsRun may_stop must_stop size events s j r b ran → s.knows ≡ fresh_sender k → k.size ≡ size → k.limit ≡ 2 ^ 62 → length events ≤ 2 ^ 62
+    → j.knows.completed ≡ 0 → r.knows.completed ≡ 0 → b.knows.completed ≡ 0 → FoundUnhalted ran.sender.knows → AreServed (endings_of ran)
+run_served {size = size} k events s j r b ran is fresh slots limit short first second third unhalted =
+    let IsServed : Ended → Type 0 = λ e. (refusal : Refusal) → e.fault ≡ Some (Refused refusal) → ⊥ in
     let sender : List Ended = record { who = 16; fault = ran.produced.fault } ∷ [] in
     let later : List Ended = record { who = 2; fault = error_of ran.business.part } ∷ sender in
     let others : List Ended = record { who = 1; fault = error_of ran.replica.part } ∷ later in
@@ -81,7 +86,8 @@ run_served events s j r b ran is first second third =
     (λ refusal same. absurd (is.replica.refused (omega (arith, second)) refusal (ended_with ran.replica.part (Refused refusal) same)))
     (All-cons IsServed (record { who = 2; fault = error_of ran.business.part }) sender
     (λ refusal same. absurd (is.business.refused (omega (arith, third)) refusal (ended_with ran.business.part (Refused refusal) same)))
-    (All-cons IsServed (record { who = 16; fault = ran.produced.fault }) [] (λ refusal same. refl) (All-nil IsServed))))
+    (All-cons IsServed (record { who = 16; fault = ran.produced.fault }) []
+    (sender_served k size events s ran.sender ran.produced is.sending fresh slots limit short unhalted) (All-nil IsServed))))
 
 -- so behind a lock
 pub joined_stopped : {L Z : Type 0} (begun : History Event) (may_stop must_stop : ℕ → ℕ → Type 0) (size : ℕ) (scripts : List (Vec Event Z)) (joined : Joined L)

@@ -1,10 +1,11 @@
 //! The replay over the ring, a thread a handler.
 
-ghost use Rattle.std.specs.Prelude.{◌≡◌, ◌++◌, ◌-◌, ◌/◌, ◌^◌, ◌∷◌, ◌<◌, [], IfErr, IfOk, IfSome, List, None, Some, length, max, string_bytes, take, true};
+ghost use Rattle.std.specs.Prelude.{◌≡◌, ◌++◌, ◌-◌, ◌/◌, ◌^◌, ◌∷◌, ◌<◌, [], IfErr, IfOk, IfSome, List, None, Some, false, length, max, string_bytes, take, true};
 ghost use Rattle.dr_seq.specs.declared.event.Event.{Event};
 ghost use Rattle.dr_ring.specs.Calls.Ends.{sender_place};
 ghost use Rattle.dr_ring.specs.Calls.Sending.{ClosesOnceDone};
 ghost use Rattle.dr_ring.specs.Calls.Settling.{AreAllEnds};
+ghost use Rattle.dr_ring.specs.Meaning.Settling.{FoundUnhalted};
 ghost use Rattle.dr_ring.specs.Calls.Telling.{sender_does};
 ghost use Rattle.dr_meaning.specs.Calls.Calling.{SomeCalls};
 ghost use Rattle.dr_files.specs.Counting.{faults_of, inner_of};
@@ -17,7 +18,7 @@ ghost use Rattle.dr_workers.specs.Meaning.Work.{LeavesNothingOpen};
 ghost use Rattle.dr_workers.specs.declared.fault.WorkFault.TheVariants.{Stopped};
 ghost use Rattle.dr_replay.specs.Meaning.EventFile.{events_of as events_in};
 ghost use Rattle.dr_replay.specs.Calls.RingRuns.{CameOf};
-ghost use Rattle.dr_replay.specs.Calls.Workers.{AreThrough, IsFirstOf, IsFirstOfSome, IsOfWorkers, IsRun, IsSending, NoneHadToStop, Says, endings_of, ends_of, ring_workers};
+ghost use Rattle.dr_replay.specs.Calls.Workers.{AreThrough, IsFirstOf, IsFirstOfSome, IsOfWorkers, IsRun, IsSending, NoneHadToStop, Says, UnlessMemory, endings_of, ends_of, ring_workers};
 
 use crate::event_file::read_events;
 use crate::fault::ReplayFault;
@@ -144,8 +145,8 @@ fn served<R: Threads + Wait, G: Gate, J: Promise<Worked>, K: Promise<Worked>, B:
     }
 }
 
-// Starts a thread a handler, sends the events, closes, and joins, of a ring that nobody has halted. An
-// error is that a thread could not be started: then nothing is sent.
+// Starts a thread a handler, sends the events, closes, and joins. An error is that a thread could not be
+// started: then nothing is sent.
 fn exchange<R: Threads + Wait + Sync, G: Gate + Sync>(
     rt: &R,
     alloc: Global,
@@ -157,9 +158,7 @@ fn exchange<R: Threads + Wait + Sync, G: Gate + Sync>(
     journal: Receiver,
     replica: Receiver,
     business: Receiver,
-    _halter: &Halter,
 ) -> Result<Ran, AllocError>
-    requires before { _halter.now.stored ≡ [] }
     ensures { IfOk result (λ ran. IsRun (G.may_stop gate.now) (G.must_stop gate.now) size events.now sender journal replica business ran) }
 {
     thread::scope(
@@ -236,12 +235,14 @@ fn listed(
 }
 
 // Brings the ends together, and then the parts of the report.
-fn finish(alloc: Global, ran: Ran) -> Result<String, ReplayFault>
-    requires ends { AreAllEnds ran.sender (ends_of ran) }
+fn finish(alloc: Global, ran: Ran, halter: Halter) -> Result<String, ReplayFault>
+    requires ends { AreAllEnds ran.sender (ends_of ran) halter }
+    requires unhalted { halter.knows.halted ≡ false }
     ensures text { (events : List Event) → Says events ran → IfOk result (λ text. string_bytes text ≡ report_of events) }
     ensures received { (events : List Event) → Says events ran → IfOk result (λ text. AreThrough events ran) }
     ensures fine { IfOk result (λ text. first_of (endings_of ran) ≡ None) }
     ensures first { IfErr result (IsFirstOf (endings_of ran)) }
+    ensures unhalted { IfErr result (UnlessMemory (FoundUnhalted ran.sender.knows)) }
 {
     let endings = endings(&ran);
     let Ran {
@@ -252,7 +253,7 @@ fn finish(alloc: Global, ran: Ran) -> Result<String, ReplayFault>
         business,
     } = ran;
     let receivers = listed(alloc, journal.receiver, replica.receiver, business.receiver)?;
-    let _settled = settle(sender, receivers);
+    let _settled = settle(sender, receivers, halter);
     if let Some(first) = first_fault(endings.as_slice()) {
         return Err(replay_fault(first));
     }
@@ -284,9 +285,9 @@ fn report<R: Threads + Wait + Sync, G: Gate + Sync>(
     let (journal, replica, business) = three(receivers);
     let bell = Bell::new();
     let ran = exchange(
-        rt, alloc, gate, events, size, sender, &bell, journal, replica, business, &halter,
+        rt, alloc, gate, events, size, sender, &bell, journal, replica, business,
     )?;
-    finish(alloc, ran)
+    finish(alloc, ran, halter)
 }
 
 /// Reads a file of operations to its end, sends their events in file order through a ring, with a
@@ -309,7 +310,7 @@ pub fn replay_ring<S: Threads + Wait + Sync, R: Read, W: Write, G: Gate + Sync>(
         ReplayWrites result (W.contents (inner_of writer.old)) (W.contents (inner_of writer.new)) (replay_text input)) }
     // Any fault but a failed write leaves nothing written, whether or not the input's bytes are known.
     ensures unwritten { IfErr result (λ e. ReplayFaultKeeps e (W.contents (inner_of writer.old)) (W.contents (inner_of writer.new))) }
-    // Where several workers have faults, the first is answered: a stop before a refusal, and then the least worker's. Only the gate stops a worker.
+    // Where several workers have faults, the first is answered: the least worker's, which its gate stopped: no worker is refused a call.
     ensures first { IfErr result (IsFirstOfSome (MayStop G.may_stop gate.now) ring_workers) }
     // A gate that has to stop a worker at its first turn, where there is an event, leaves no report.
     ensures stops { IfSome (R.remaining (inner_of reader.old)) (λ input. IfOk result (λ _. IfOk (events_in input) (NoneHadToStop (G.must_stop gate.now)))) }

@@ -13,6 +13,7 @@ use Rattle.dr_workers.specs.declared.fault.WorkFault.TheVariants as work
 use Rattle.dr_workers.specs.declared.ended.Ended.{Ended}
 use Rattle.dr_workers.specs.declared.ended.WorkerFault.{WorkerFault}
 use Rattle.dr_workers.specs.Meaning.FirstFault.{first_fault}
+use Rattle.dr_workers.specs.Meaning.Work.{LeavesNothingOpen}
 use Rattle.dr_lock.specs.declared.audit_fault.AuditFault.{AuditFault}
 use Rattle.dr_lock.specs.declared.audit_fault.AuditFault.TheVariants as audit
 use Rattle.dr_lock.specs.Meaning.Audit.{Faults}
@@ -30,7 +31,7 @@ use Rattle.dr_accounts.specs.Handlers.{Books, Copies, IsBusinessOf, IsJournalOf,
 use Rattle.dr_accounts.specs.declared.worker.Worked.{Worked}
 use Rattle.dr_accounts.specs.Report.{journal_part, replica_part, business_part}
 
--- a sender sent the first of some events in such claims, came to its gate with each, and answers what these calls came to; after them, and not before, it closed the ring
+-- a sender sent the first of some events in such claims, came to its gate with each, left none open, and answers what these calls came to; after them, and not before, it closed the ring
 pub record IsSending (cut : ℕ) (events : List Event) (may_stop must_stop : ℕ → Type 0) (given back : SenderEnd) (produced : Produced) : Type 0 where
   pub place : sender_place back ≡ sender_place given
   pub published : back.knows.sent.published ≡ given.knows.sent.published ++ take produced.sent events
@@ -38,6 +39,7 @@ pub record IsSending (cut : ℕ) (events : List Event) (may_stop must_stop : ℕ
   pub stopped : produced.fault ≡ Some work.Stopped → (turn : ℕ) × may_stop turn
   pub done : SenderEnd
   pub calls : SomeCalls sender_does given done (Sends cut events may_stop must_stop produced)
+  pub complete : LeavesNothingOpen given.knows.sent done.knows.sent
   pub closes : ClosesOnceDone done back
 
 -- the promises of the three handlers' workers
@@ -120,15 +122,20 @@ pub record Ends (may_stop : ℕ → Type 0) (endings : List Ended) (e : ReplayFa
   pub stopped : AreStopped may_stop endings
   pub first : IsFirstOf endings e
 
--- no handler was refused a call: only the sender may be
-abbrev pub HandlersAreServed : List Ended → Type 0
-HandlersAreServed endings = All (λ (e : Ended). (refusal : Refusal) → e.fault ≡ Some (work.Refused refusal) → e.who ≡ 16) endings
+-- this holds, or memory ran out
+abbrev pub UnlessMemory : Type 0 → ReplayFault → Type 0
+UnlessMemory Holds (fault.File f) = Unit {0}
+UnlessMemory Holds other = Holds
+
+-- no worker was refused a call
+abbrev pub AreServed : List Ended → Type 0
+AreServed endings = All (λ (e : Ended). (refusal : Refusal) → e.fault ≡ Some (work.Refused refusal) → ⊥) endings
 
 -- a lack of memory, or the first fault of those that workers of a ring with these numbers ended with
 abbrev pub IsOfWorkers : (ℕ → Type 0) → List ℕ → ReplayFault → Type 0
 IsOfWorkers may_stop whos (fault.File f) = IsMemory f
 IsOfWorkers may_stop whos (fault.Worker who f) =
-    (endings : List Ended) × (map (λ (e : Ended). e.who) endings ≡ whos) × HandlersAreServed endings × Ends may_stop endings (fault.Worker who f)
+    (endings : List Ended) × (map (λ (e : Ended). e.who) endings ≡ whos) × AreServed endings × Ends may_stop endings (fault.Worker who f)
 IsOfWorkers may_stop whos (fault.Audit f) = ⊥
 
 -- where a worker's fault is answered, it is the first of theirs; there is no audit

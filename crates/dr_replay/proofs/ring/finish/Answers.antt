@@ -32,4 +32,5 @@ returns c =
       received = through;
       fine = sym (c.in_default.ensures.first ∙ ap first_fault ended);
       first = tt;
+      unhalted = tt;
     }

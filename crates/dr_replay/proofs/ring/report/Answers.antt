@@ -1,4 +1,4 @@
-use Rattle.std.proofs.Common.{◌≡◌, [], ap}
+use Rattle.std.proofs.Common.{rules, ◌≡◌, ◌^◌, ◌<◌, [], length, ap, arith, refl}
 use Rattle.dr_ring.specs.declared.record.SenderRecord.{SenderRecord}
 use Rattle.dr_workers.specs.Calls.Stops.{MayStop}
 use Rattle.dr_replay.specs.Calls.Workers.{Says}
@@ -16,6 +16,7 @@ returns g c =
     let events = c.args.events.now in
     let made = c.in-Ok.ensures.made in
     let ends = c.three-journal.result in
+    let short : length events < 2 ^ 62 = search rules in
     let three : AreThree ends.0 ends.1 ends.2 = are_three _ _ _ _ ends.0 ends.1 ends.2 c.in_ok-graph.ensures.graph made c.three-journal.ensures in
     let none : c.in-Ok.sender.knows.sent.published ≡ [] = ap (λ (r : SenderRecord). r.sent.published) made.sender in
     let says : Says events ran = run_says events _ _ _ _ ran is none three.journal three.replica three.business in
@@ -23,7 +24,7 @@ returns g c =
       text = c.finish.ensures.text events says;
       stops = where_ok c.finish.result (run_heeds _ _ _ events _ _ _ _ ran is three.journal three.replica three.business) (c.finish.ensures.received events says);
       first = ends_of_workers (MayStop g.G.Gate.may_stop c.args.gate.now) ran _ (run_stopped (g.G.Gate.may_stop c.args.gate.now) _ _ _ _ _ ran is)
-          (run_served _ _ _ _ _ ran is three.journal_from three.replica_from three.business_from) c.finish.ensures.first;
+          (run_served _ events _ _ _ _ ran is made.sender refl refl (omega arith) three.journal_from three.replica_from three.business_from) c.finish.ensures.unhalted c.finish.ensures.first;
       ran = came_of events (run_over _ events _ _ _ ends.0 ends.1 ends.2 ran c.in_ok-graph.ensures.graph made c.three-journal.ensures is) c.finish.result
           (c.finish.ensures.received events says) c.finish.ensures.first;
     }

@@ -12,5 +12,6 @@ returns-clause-sending g c =
       stopped = sent.ensures.stopped;
       done = sent.new.sender;
       calls = sent.ensures.calls;
+      complete = sent.ensures.open;
       closes = close;
     })
