@@ -20,7 +20,7 @@ pub struct Ends {
 }
 
 pub fn open(rt: &impl Abort, alloc: Global, shape: Shape, size: u64, limit: u64) -> Ends
-    ensures { AreAllEnds result.sender result.receivers.items }
+    ensures { AreAllEnds result.sender result.receivers.items result.halter }
 {
     let size = Size::new(size).expect(rt, "a size");
     let graph = graph(rt, alloc, shape);

@@ -15,8 +15,8 @@ use std::process::Abort;
 
 /// A call's answer, as the machine would give it; a close that succeeds is `Halting`.
 fn answer(rt: &impl Abort, ends: &mut Ends, call: Call, out: &mut [Event; 8]) -> Reply
-    requires { AreAllEnds ends.old.sender ends.old.receivers.items }
-    ensures { AreAllEnds ends.new.sender ends.new.receivers.items }
+    requires { AreAllEnds ends.old.sender ends.old.receivers.items ends.old.halter }
+    ensures { AreAllEnds ends.new.sender ends.new.receivers.items ends.new.halter }
 {
     match call {
         Claim(n) => claimed(ends.sender.try_claim(n)),
@@ -41,8 +41,8 @@ fn answer(rt: &impl Abort, ends: &mut Ends, call: Call, out: &mut [Event; 8]) ->
 
 /// Makes the calls of a run.
 fn play(rt: &impl Abort, ends: &mut Ends, run: &Run)
-    requires { AreAllEnds ends.old.sender ends.old.receivers.items }
-    ensures { AreAllEnds ends.new.sender ends.new.receivers.items }
+    requires { AreAllEnds ends.old.sender ends.old.receivers.items ends.old.halter }
+    ensures { AreAllEnds ends.new.sender ends.new.receivers.items ends.new.halter }
 {
     let mut row = 0u64;
     for (call, reply, events) in run.rows {
@@ -71,7 +71,7 @@ fn check_settled(rt: &impl Abort, settled: &Settled, run: &Run) {
 fn check_run(rt: &impl Abort, alloc: Global, run: &Run) {
     let mut ends = open(rt, alloc, run.shape, run.size, run.limit);
     play(rt, &mut ends, run);
-    let settled = settle(ends.sender, ends.receivers);
+    let settled = settle(ends.sender, ends.receivers, ends.halter);
     check_settled(rt, &settled, run);
 }
 
