@@ -24,23 +24,27 @@ changes : Changes sender_does (λ (e : SenderEnd). e.knows.sent)
 changes = record { claims = ring.claims; writes = ring.writes; writes_all = ring.writes_all; publishes = ring.publishes }
 
 -- a sender that nobody halted, and whose script fits, ends without a fault
-pub sender_fine : (k : Shape) (script : List Event) (produced : Produced) (S : IsSending k script produced) → k.limit ≡ 2 ^ 62 → length script ≤ 2 ^ 62 → produced.sent ≤ length script
+pub sender_fine : (k : Shape) (script : List Event) (produced : Produced) (S : IsSending k script produced) → k.limit ≡ 2 ^ 62 → length script ≤ 2 ^ 62
+    → produced.sent ≤ length script
     → FoundUnhalted S.back.knows → produced.fault ≡ None
 sender_fine k script produced S limit short within unhalted =
     let calls = S.calls in let gate = calls.holds.gate in
     let before : S.given.knows.sent.pending ≡ [] = ap (λ (r : SenderRecord). r.sent.pending) S.fresh in
     ⊎_elim (λ all. all.1 ∙ unstopped gate.stopped (λ stopped. (gate.may stopped).2))
     (λ gives.
-    let claim = gives_up_at_claim sender_does (λ (e : SenderEnd). e.knows.sent) changes (max (k.size / 4) 1) (omega arith) script (drop produced.sent script) gives.0 S.given S.back calls.calls before S.complete calls.lead calls.holds.order gives.1 in
+    let claim = gives_up_at_claim sender_does (λ (e : SenderEnd). e.knows.sent) changes (max (k.size / 4) 1) (omega arith) script
+    (drop produced.sent script) gives.0 S.given S.back calls.calls before S.complete calls.lead calls.holds.order gives.1 in
     let left : 0 < length (drop produced.sent script) = gives.1.0 in
     let rest : length (drop produced.sent script) ≡ length script - produced.sent = length-drop produced.sent script in
     let published : length S.back.knows.sent.published ≡ produced.sent = ap length S.published ∙ length-take-le produced.sent script within in
-    absurd (ring.no_refusal k S.given claim.last S.back calls.calls (min (length (drop produced.sent script)) (max (k.size / 4) 1)) gives.0 S.fresh calls.lead S.complete unhalted
+    absurd (ring.no_refusal k S.given claim.last S.back calls.calls
+    (min (length (drop produced.sent script)) (max (k.size / 4) 1)) gives.0 S.fresh calls.lead S.complete unhalted
     (omega arith) (omega arith) (omega arith) claim.other claim.claims))
     gate.answers
 
 -- workers that had no fault, the handlers' as in every run, and the sender's
-pub all_fine : {A : Type 0} (goes : Relation Event A) (starts : List A) (sent : List Event) (ran : Ran A) → IsRan goes starts sent None ran → AreFine ran.endings.items
+pub all_fine : {A : Type 0} (goes : Relation Event A) (starts : List A) (sent : List Event) (ran : Ran A) → IsRan goes starts sent None ran
+    → AreFine ran.endings.items
 all_fine goes starts sent ran is =
     let n = length starts in let endings = ran.endings.items in let none : Ended = record { who = 0; fault = None } in
     let many : length endings - n ≡ 1 = sym (length-drop n endings) ∙ ap length is.last in
@@ -49,5 +53,6 @@ all_fine goes starts sent ran is =
       | inl before ↦ (let e = there endings i inside in let same = is.ended i e.0 before e.1 in
           ap (λ (x : Ended). x.fault) (value_at endings i e.0 none e.1 ∙ same))
       | inr behind ↦ (let at : i ≡ n + 0 = omega arith in
-          ap (λ (j : ℕ). (get_or endings j none).fault) at ∙ ap (λ (x : Ended). x.fault) (sym (get_or-drop n endings 0 none)) ∙ ap (λ (l : List Ended). (get_or l 0 none).fault) is.last)
+          ap (λ (j : ℕ). (get_or endings j none).fault) at ∙ ap (λ (x : Ended). x.fault) (sym (get_or-drop n endings 0 none))
+          ∙ ap (λ (l : List Ended). (get_or l 0 none).fault) is.last)
     ])

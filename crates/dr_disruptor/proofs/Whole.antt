@@ -22,7 +22,8 @@ module _ {A : Type 0} (goes : Relation Event A) (k : Shape) (starts : List A) wh
   went_whole script ran limit is short =
       let none = sender_fine k script is.produced is.sending limit short is.within is.unhalted in
       let all : take is.produced.sent script ≡ script = ap (λ (n : ℕ). take n script) (is.all none) ∙ take_all (length script) script (omega arith) in (
-        all_fine goes starts (take is.produced.sent script) ran (subst (λ (f : Option WorkFault). IsRan goes starts (take is.produced.sent script) f ran) none is.came),
+        all_fine goes starts (take is.produced.sent script) ran
+            (subst (λ (f : Option WorkFault). IsRan goes starts (take is.produced.sent script) f ran) none is.came),
         subst (λ (l : List Event). AllWentThrough goes l starts ran.handlers.items) all is.came.through,
       )
 

@@ -23,7 +23,8 @@ use Rattle.dr_replay.specs.Meaning.Scripts.{producers_in, script_in, scripts_in}
 use Rattle.dr_accounts.specs.Report.{report_of}
 use Rattle.dr_replay.specs.Calls.Replayed.{IsReportOfMerge}
 use Rattle.dr_replay.specs.Calls.RingRuns.{CameOf, RunOver}
-use Rattle.dr_replay.specs.Calls.Workers.{AreStopped, AreThrough, AreServed, AuditFinds, IsFirstOf, IsMemory, IsOfAudit, IsOfLock, IsOfMerge, IsOfWorkers, UnlessMemory, audit_fault}
+use Rattle.dr_replay.specs.Calls.Workers.{AreStopped, AreThrough, AreServed, AuditFinds, IsFirstOf, IsMemory}
+use Rattle.dr_replay.specs.Calls.Workers.{IsOfAudit, IsOfLock, IsOfMerge, IsOfWorkers, UnlessMemory, audit_fault}
 use Rattle.dr_replay.specs.Calls.Workers.{endings_of, lock_endings, replay_fault, ring_workers}
 
 -- whether a fault may be answered for workers
@@ -50,7 +51,8 @@ only_memory endings (file.Input k cause) is = no_other endings (fault.File (file
 only_memory endings file.Read is = no_other endings (fault.File file.Read) refl is
 only_memory endings file.Write is = no_other endings (fault.File file.Write) refl is
 
-of_workers : (may_stop : ℕ → Type 0) (ran : Ran) (e : ReplayFault) → AreStopped may_stop (endings_of ran) → UnlessMemory (AreServed (endings_of ran)) e → IsFirstOf (endings_of ran) e
+of_workers : (may_stop : ℕ → Type 0) (ran : Ran) (e : ReplayFault) → AreStopped may_stop (endings_of ran) → UnlessMemory (AreServed (endings_of ran)) e
+    → IsFirstOf (endings_of ran) e
     → IsOfWorkers may_stop ring_workers e
 of_workers may_stop ran (fault.File f) stopped served is = only_memory (endings_of ran) f is
 of_workers may_stop ran (fault.Worker who f) stopped served is = (endings_of ran, refl, served, record { stopped = stopped; first = is })
@@ -69,7 +71,8 @@ served_unless endings (fault.File f) served is = tt
 served_unless endings (fault.Worker who f) served is = served is
 served_unless endings (fault.Audit f) served is = served is
 
-pub ends_of_workers : {A P : Type 0} (may_stop : ℕ → Type 0) (ran : Ran) (r : Result A ReplayFault) → AreStopped may_stop (endings_of ran) → (P → AreServed (endings_of ran))
+pub ends_of_workers : {A P : Type 0} (may_stop : ℕ → Type 0) (ran : Ran) (r : Result A ReplayFault) → AreStopped may_stop (endings_of ran)
+    → (P → AreServed (endings_of ran))
     → IfErr r (UnlessMemory P) → IfErr r (IsFirstOf (endings_of ran)) → IfErr r (IsOfWorkers may_stop ring_workers)
 ends_of_workers may_stop ran (Ok x) stopped served holds is = tt
 ends_of_workers may_stop ran (Err e) stopped served holds is = of_workers may_stop ran e stopped (served_unless (endings_of ran) e served holds) is

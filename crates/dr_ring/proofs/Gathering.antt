@@ -48,7 +48,8 @@ pub record Together (k : Shape) (v after now : View EndRecord Step) (s : SenderE
   pub all : AreAllEnds s es t
 
 -- a sender's seat and a halter's, each of which stands for its end alone
-pub together : (k : Shape) (here there : TableId) (mine other : Sitting) (after now : View EndRecord Step) (s : SenderEnd) (es : List ReceiverEnd) (t : HalterEnd)
+pub together : (k : Shape) (here there : TableId) (mine other : Sitting) (after now : View EndRecord Step) (s : SenderEnd) (es : List ReceiverEnd)
+    (t : HalterEnd)
     → IsSender (end_of mine) → IsHalter (end_of other) → sender_end here mine ≡ s → halter_end there other ≡ t → after ≡ both_views mine.0 other.0
     → Gathers ring_ends after (map receiver_known es) now → AreAllEnds s es t → ViewRan (exchange k) now → Together k mine.0 after now s es t
 together k here there mine other after now s es t sends halts own theirs joined gathers all ran = record {

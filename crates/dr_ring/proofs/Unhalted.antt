@@ -29,7 +29,8 @@ Unhalted w = w.halter.halted ≡ false → FoundUnhalted w.sender
 no_halt : (k : Shape) (w : World) → KeepsRule k w → w.sender.halted ≡ false → w.halter.halted ≡ false → word_at w.words halt_word ≡ 0
 no_halt k w K mine theirs =
     let low = K.flags.halt in
-    let none : word_at w.words halt_word ≡ 1 → ⊥ = λ on. ⊎_elim (λ by. false≢true (sym mine ∙ by)) (λ by. false≢true (sym theirs ∙ by)) (K.flags.known_halt on) in
+    let none : word_at w.words halt_word ≡ 1 → ⊥ = λ on. ⊎_elim (λ by. false≢true (sym mine ∙ by)) (λ by. false≢true (sym theirs ∙ by))
+    (K.flags.known_halt on) in
     omega (arith, none)
 
 -- of looks, some before a halt of the sender's own, and some since
@@ -37,7 +38,8 @@ abbrev last_seen : Bool → List Look → List Look → ℕ
 last_seen halted before looks = last_look 0 (if halted then before else looks) halt_word
 
 -- one look more at another word
-looks_else : (halted : Bool) (before looks : List Look) (i v : ℕ) → i ≢ halt_word → last_seen halted before looks ≡ 0 → last_seen halted before (looks ++ look i v ∷ []) ≡ 0
+looks_else : (halted : Bool) (before looks : List Look) (i v : ℕ) → i ≢ halt_word → last_seen halted before looks ≡ 0
+    → last_seen halted before (looks ++ look i v ∷ []) ≡ 0
 looks_else true before looks i v ne was = was
 looks_else false before looks i v ne was = last_look_else 0 looks i halt_word v ne ∙ was
 
@@ -49,9 +51,11 @@ looks_at_halt false before looks v none was = last_look_more 0 looks halt_word v
 
 unhalted_step : (k : Shape) (s : Step) (w u : World) → Happens k s w u → KeepsRule k w → Unhalted w → Unhalted u
 unhalted_step k (SenderLooksAtCount f) w u H K is =
-    subst Unhalted (sym H.1) (λ off. looks_else w.sender.halted w.sender.before w.sender.looks (count_word f) (word_at w.words (count_word f)) (λ e. omega arith) (is off))
+    subst Unhalted (sym H.1) (λ off. looks_else w.sender.halted w.sender.before w.sender.looks (count_word f) (word_at w.words (count_word f))
+    (λ e. omega arith) (is off))
 unhalted_step k (SenderLooksAtHalt n) w u H K is =
-    subst Unhalted (sym H.1) (λ off. looks_at_halt w.sender.halted w.sender.before w.sender.looks (word_at w.words halt_word) (λ mine. no_halt k w K mine off) (is off))
+    subst Unhalted (sym H.1) (λ off. looks_at_halt w.sender.halted w.sender.before w.sender.looks (word_at w.words halt_word)
+    (λ mine. no_halt k w K mine off) (is off))
 unhalted_step k (SenderStoresFirst s v) w u H K is = subst Unhalted (sym H.2) is
 unhalted_step k (SenderStoresSecond v) w u H K is = subst Unhalted (sym H.2) is
 unhalted_step k (SenderPublishes n) w u H K is = subst Unhalted (sym H.4) is

@@ -1,5 +1,6 @@
--- What a sender's calls change of what it knows; and a claim of what the ring's size and limit allow is refused for good only where the sender finds the ring halted.
-use Rattle.std.proofs.Common.{◌≡◌, ◌≢◌, ℕ, ◌+◌, ◌/◌, ◌<◌, ◌≤◌, max, if◌then◌else◌, ◌==◌, ◌||◌, nat_lt, Bool, false, List, [], ◌∷◌, ◌++◌, length, take, Result, Ok, Err, ⊎_elim, refl, sym, ap, ◌∙◌, subst, arith, append_assoc}
+-- What a sender's calls change of what it knows; and a claim of what size and limit allow is refused for good only where the ring is found halted.
+use Rattle.std.proofs.Common.{◌≡◌, ◌≢◌, ℕ, ◌+◌, ◌/◌, ◌<◌, ◌≤◌, max, if◌then◌else◌, ◌==◌, ◌||◌, nat_lt, Bool, false, List}
+use Rattle.std.proofs.Common.{[], ◌∷◌, ◌++◌, length, take, Result, Ok, Err, ⊎_elim, refl, sym, ap, ◌∙◌, subst, arith, append_assoc}
 use Rattle.std.proofs.lemmas.Bool.{false≢true, le-ltb, ne_eqb}
 use Rattle.dr_seq.specs.Size.{IsSize}
 use Rattle.dr_seq.proofs.Sizes.{size_positive}
@@ -98,7 +99,8 @@ finds_halt : (r : SenderRecord) (n : ℕ) (seen : List Look) → LooksToClaim r 
 finds_halt r n seen looks =
     ⊎_elim (λ first. found r.looks seen [] first) (λ late. found r.looks seen (look halt_word 0 ∷ gate_looks r late.counts) late.saw) looks
 
-pub refused_by_halt : (a b : SenderEnd) (n : ℕ) (trouble : Trouble) → 0 < n → n ≤ a.knows.plan.size → claimed a.knows + n ≤ a.knows.plan.limit → trouble ≢ Refused NoRoom
+pub refused_by_halt : (a b : SenderEnd) (n : ℕ) (trouble : Trouble) → 0 < n → n ≤ a.knows.plan.size → claimed a.knows + n ≤ a.knows.plan.limit
+    → trouble ≢ Refused NoRoom
     → sender_does a (TriesClaim n (Err trouble)) b → last_look 0 b.knows.looks halt_word ≡ 1
 refused_by_halt a b n Memory some size limit other is = absurd is
 refused_by_halt a b n (Refused refusal) some size limit other is =
@@ -111,8 +113,9 @@ pub unhalted_before : (e e' : SenderEnd) → ClosesOnceDone e e' → FoundUnhalt
 unhalted_before e e' closes found = subst (λ (l : List Look). last_look 0 l halt_word ≡ 0) closes.saw found
 
 -- where nobody else halted the ring, none is: of a new ring's sender that leaves nothing open, and claims a quarter of its slots or less, as its limit allows
-pub no_refusal : (k : Shape) (given last back : SenderEnd) (calls : List (InletCall Event)) (n : ℕ) (trouble : Trouble) → given.knows ≡ fresh_sender k → CallsLead sender_does given calls back
-    → back.knows.sent.pending ≡ [] → FoundUnhalted back.knows → 0 < n → n ≤ max (k.size / 4) 1 → length back.knows.sent.published + n ≤ k.limit → trouble ≢ Refused NoRoom
+pub no_refusal : (k : Shape) (given last back : SenderEnd) (calls : List (InletCall Event)) (n : ℕ) (trouble : Trouble) → given.knows ≡ fresh_sender k
+    → CallsLead sender_does given calls back → back.knows.sent.pending ≡ [] → FoundUnhalted back.knows → 0 < n → n ≤ max (k.size / 4) 1
+    → length back.knows.sent.published + n ≤ k.limit → trouble ≢ Refused NoRoom
     → sender_does last (TriesClaim n (Err trouble)) back → ⊥
 no_refusal k given last back calls n trouble fresh lead complete unhalted some cut fits other is =
     let came = stays_all given back calls lead in

@@ -1,5 +1,6 @@
 -- A producer's worker over an end that shows what it sent: where it leaves nothing open, no write and no publication was refused, and it gives up at a claim.
-use Rattle.std.proofs.Common.{◌≡◌, ◌≢◌, ◌+◌, ◌-◌, ◌<◌, ℕ, min, List, [], ◌∷◌, length, take, drop, replicate, Option, None, Some, Result, Ok, Err, ⊎_elim, sym, ap, ◌∙◌, subst, arith, length-append}
+use Rattle.std.proofs.Common.{◌≡◌, ◌≢◌, ◌+◌, ◌-◌, ◌<◌, ℕ, min, List, [], ◌∷◌, length, take, drop}
+use Rattle.std.proofs.Common.{replicate, Option, None, Some, Result, Ok, Err, ⊎_elim, sym, ap, ◌∙◌, subst, arith, length-append}
 use Rattle.std.proofs.lemmas.List.{length-replicate, length-set}
 use Rattle.dr_meaning.specs.declared.command.Claimed.{Claimed}
 use Rattle.dr_meaning.specs.declared.ends.Trouble.{Trouble}
@@ -15,10 +16,14 @@ use Rattle.dr_workers.proofs.Closing.{drop_over, same_pending, same_published}
 
 -- how each call changes what an end shows
 pub record Changes {S E : Type 0} (does : S → InletCall E → S → Type 0) (shown : S → Sent E) : Type 0 where
-  pub claims : (a b : S) (n : ℕ) (answer : Result Claimed Trouble) → does a (TriesClaim n answer) b → Claims n answer (shown a) (shown b) × GivesStretch n answer
-  pub writes : (a b : S) (s : ℕ) (event : E) (answer : Result (Unit {0}) Trouble) → does a (WritesOne s event answer) b → Writes s event answer (shown a) (shown b)
-  pub writes_all : (a b : S) (lo : ℕ) (events : List E) (wrote : Wrote) → does a (WritesMany lo events wrote) b → WritesAll lo (take wrote.count events) (shown a) (shown b)
-  pub publishes : (a b : S) (lo hi : ℕ) (answer : Result (Unit {0}) Trouble) → does a (PublishesStretch lo hi answer) b → Publishes lo hi answer (shown a) (shown b)
+  pub claims : (a b : S) (n : ℕ) (answer : Result Claimed Trouble) → does a (TriesClaim n answer) b
+      → Claims n answer (shown a) (shown b) × GivesStretch n answer
+  pub writes : (a b : S) (s : ℕ) (event : E) (answer : Result (Unit {0}) Trouble) → does a (WritesOne s event answer) b
+      → Writes s event answer (shown a) (shown b)
+  pub writes_all : (a b : S) (lo : ℕ) (events : List E) (wrote : Wrote) → does a (WritesMany lo events wrote) b
+      → WritesAll lo (take wrote.count events) (shown a) (shown b)
+  pub publishes : (a b : S) (lo hi : ℕ) (answer : Result (Unit {0}) Trouble) → does a (PublishesStretch lo hi answer) b
+      → Publishes lo hi answer (shown a) (shown b)
 
 -- nothing is open before a claim, and then its stretch is, until it is published
 abbrev IsAt : {E : Type 0} → Task E → Sent E → Type 0
@@ -26,7 +31,8 @@ IsAt (ToClaim rest) e = e.pending ≡ []
 IsAt (ToSend stretch s events rest) e = (0 < length e.pending) × (stretch.lo ≡ length e.published) × (stretch.hi + 1 ≡ stretch.lo + length e.pending)
 IsAt Ended e = Unit {0}
 
-still_open : {E : Type 0} (stretch : Claimed) (s s' : ℕ) (events events' rest : List E) (x y : Sent E) → y.published ≡ x.published → length y.pending ≡ length x.pending
+still_open : {E : Type 0} (stretch : Claimed) (s s' : ℕ) (events events' rest : List E) (x y : Sent E) → y.published ≡ x.published
+    → length y.pending ≡ length x.pending
     → IsAt (ToSend stretch s events rest) x → IsAt (ToSend stretch s' events' rest) y
 still_open stretch s s' events events' rest x y published pending at =
     let same = ap length published in let some = at.0 in let lo = at.1 in let hi = at.2 in (omega arith, omega arith, omega arith)
@@ -37,16 +43,19 @@ open_on stretch s events rest None e at = at
 open_on stretch s events rest (Some Memory) e at = at
 open_on stretch s events rest (Some (Refused refusal)) e at = tt
 
-refused_on : {E : Type 0} (rest : List E) (n : ℕ) (refusal : Refusal) (e : Sent E) → IsAt (ToClaim rest) e → IsAt (task_after (ToClaim rest) (TriesClaim n (Err (Refused refusal)))) e
+refused_on : {E : Type 0} (rest : List E) (n : ℕ) (refusal : Refusal) (e : Sent E) → IsAt (ToClaim rest) e
+    → IsAt (task_after (ToClaim rest) (TriesClaim n (Err (Refused refusal)))) e
 refused_on rest n NoRoom e at = at
 refused_on rest n other e at = tt
 
-opened : {E : Type 0} (stretch : Claimed) (n : ℕ) (events rest : List E) (x y : Sent E) → 0 < n → x.pending ≡ [] → Claims n (Ok stretch) x y → GivesStretch n (Ok stretch)
+opened : {E : Type 0} (stretch : Claimed) (n : ℕ) (events rest : List E) (x y : Sent E) → 0 < n → x.pending ≡ [] → Claims n (Ok stretch) x y
+    → GivesStretch n (Ok stretch)
     → IsAt (ToSend stretch stretch.lo events rest) y
 opened stretch n events rest x y some none claims gives =
     let before : length x.pending ≡ 0 = ap length none in
     let published : length y.published ≡ length x.published = ap (λ e. length e.published) claims.1 in
-    let pending : length y.pending ≡ length x.pending + n = ap (λ e. length e.pending) claims.1 ∙ length-append x.pending (replicate n None) ∙ ap (λ k. length x.pending + k) (length-replicate n None) in
+    let pending : length y.pending ≡ length x.pending + n = ap (λ e. length e.pending) claims.1 ∙ length-append x.pending (replicate n None)
+    ∙ ap (λ k. length x.pending + k) (length-replicate n None) in
     let lo = claims.0 in let hi = gives.1 in (omega arith, omega arith, omega arith)
 
 closed : {E : Type 0} (lo hi : ℕ) (stretch : Claimed) (s : ℕ) (events rest : List E) (x y : Sent E) → lo ≡ stretch.lo → hi ≡ stretch.hi
@@ -65,7 +74,8 @@ no_step cut (PublishesStretch lo hi answer) next = next
 
 module _ {S E : Type 0} (does : S → InletCall E → S → Type 0) (shown : S → Sent E) (changes : Changes does shown) (cut : ℕ) (some : 0 < cut) where
   -- one write more, or many
-  wrote : (stretch : Claimed) (s s' at : ℕ) (events events' rest : List E) (event : E) (answer : Result (Unit {0}) Trouble) (a b : S) → does a (WritesOne at event answer) b
+  wrote : (stretch : Claimed) (s s' at : ℕ) (events events' rest : List E) (event : E) (answer : Result (Unit {0}) Trouble) (a b : S)
+      → does a (WritesOne at event answer) b
       → IsAt (ToSend stretch s events rest) (shown a) → IsAt (ToSend stretch s' events' rest) (shown b)
   wrote stretch s s' at events events' rest event (Ok done) a b is here =
       let changed = changes.writes a b at event (Ok done) is in
@@ -88,7 +98,8 @@ module _ {S E : Type 0} (does : S → InletCall E → S → Type 0) (shown : S �
   kept stretch s lo hi events rest trouble a b is here = subst (IsAt (ToSend stretch s events rest)) (sym (changes.publishes a b lo hi (Err trouble) is)) here
 
   -- one call more
-  goes_on : (task : Task E) (call : InletCall E) (a b : S) → IsNextStep cut task call → does a call b → IsAt task (shown a) → IsAt (task_after task call) (shown b)
+  goes_on : (task : Task E) (call : InletCall E) (a b : S) → IsNextStep cut task call → does a call b → IsAt task (shown a)
+      → IsAt (task_after task call) (shown b)
   goes_on (ToClaim rest) (TriesClaim n (Ok stretch)) a b next is at =
       let claims = changes.claims a b n (Ok stretch) is in let left = next.0 in let many = next.1 in
       opened stretch n (take n rest) (drop n rest) (shown a) (shown b) (omega arith) at claims.0 claims.1
@@ -99,7 +110,8 @@ module _ {S E : Type 0} (does : S → InletCall E → S → Type 0) (shown : S �
   goes_on (ToClaim rest) (WritesMany lo events answer) a b next is at = absurd next
   goes_on (ToClaim rest) (PublishesStretch lo hi answer) a b next is at = absurd next
   goes_on (ToSend stretch s events rest) (TriesClaim n answer) a b next is at = absurd next
-  goes_on (ToSend stretch s events rest) (WritesOne w event (Ok done)) a b next is at = wrote stretch s (s + 1) w events (drop 1 events) rest event (Ok done) a b is at
+  goes_on (ToSend stretch s events rest) (WritesOne w event (Ok done)) a b next is at = wrote stretch s (s + 1) w events (drop 1 events) rest event
+      (Ok done) a b is at
   goes_on (ToSend stretch s events rest) (WritesOne w event (Err Memory)) a b next is at = wrote stretch s s w events events rest event (Err Memory) a b is at
   goes_on (ToSend stretch s events rest) (WritesOne w event (Err (Refused refusal))) a b next is at = tt
   goes_on (ToSend stretch s events rest) (WritesMany lo xs answer) a b next is at =
@@ -115,7 +127,8 @@ module _ {S E : Type 0} (does : S → InletCall E → S → Type 0) (shown : S �
   some_open stretch s events rest e at none = let count : length e.pending ≡ 0 = ap length none in let more = at.0 in absurd (omega arith)
 
   -- the last call
-  leaves_open : (part : Part E) (trouble : Trouble) (task : Task E) (call : InletCall E) (a b : S) → IsNextStep cut task call → does a call b → IsAt task (shown a)
+  leaves_open : (part : Part E) (trouble : Trouble) (task : Task E) (call : InletCall E) (a b : S) → IsNextStep cut task call → does a call b
+      → IsAt task (shown a)
       → PartFails part trouble call → (shown b).pending ≡ [] → ⊥
   leaves_open part trouble (ToClaim rest) (TriesClaim n answer) a b next is at fails none = ⊎_elim (λ x. x) (λ x. x) fails
   leaves_open part trouble (ToClaim rest) (WritesOne s event answer) a b next is at fails none = next
@@ -131,7 +144,8 @@ module _ {S E : Type 0} (does : S → InletCall E → S → Type 0) (shown : S �
       some_open stretch s events rest (shown b) (kept stretch s lo hi events rest fault a b is at) none
   leaves_open part trouble Ended call a b next is at fails none = no_step cut call next
 
-  part_fails : (part : Part E) (trouble : Trouble) (task : Task E) (a b : S) (calls : List (InletCall E)) → IsAt task (shown a) → CallsLead does a calls b → InOrder cut task calls
+  part_fails : (part : Part E) (trouble : Trouble) (task : Task E) (a b : S) (calls : List (InletCall E)) → IsAt task (shown a) → CallsLead does a calls b
+      → InOrder cut task calls
       → EndsIn (PartFails part trouble) calls → (shown b).pending ≡ [] → ⊥
   part_fails part trouble task a b [] at lead order ends none = ends
   part_fails part trouble task a b (call ∷ []) at lead order ends none =
@@ -156,13 +170,15 @@ module _ {S E : Type 0} (does : S → InletCall E → S → Type 0) (shown : S �
   last_claim n trouble (WritesMany lo events answer) a b is fails = absurd fails
   last_claim n trouble (PublishesStretch lo hi answer) a b is fails = absurd fails
 
-  claim_fails : (n : ℕ) (trouble : Trouble) (a b : S) (calls : List (InletCall E)) → CallsLead does a calls b → EndsIn (ClaimFails n trouble) calls → LastClaim n trouble b
+  claim_fails : (n : ℕ) (trouble : Trouble) (a b : S) (calls : List (InletCall E)) → CallsLead does a calls b → EndsIn (ClaimFails n trouble) calls
+      → LastClaim n trouble b
   claim_fails n trouble a b [] lead ends = absurd ends
   claim_fails n trouble a b (call ∷ []) lead ends = subst (LastClaim n trouble) (sym lead.2) (last_claim n trouble call a lead.0 lead.1 ends)
   claim_fails n trouble a b (call ∷ next ∷ calls) lead ends = claim_fails n trouble lead.0 b (next ∷ calls) lead.2 ends
 
   -- so a worker that leaves nothing open gives up at the claim of the next part
-  pub gives_up_at_claim : (script rest : List E) (trouble : Trouble) (a b : S) (calls : List (InletCall E)) → (shown a).pending ≡ [] → (shown b).pending ≡ [] → CallsLead does a calls b
+  pub gives_up_at_claim : (script rest : List E) (trouble : Trouble) (a b : S) (calls : List (InletCall E)) → (shown a).pending ≡ []
+      → (shown b).pending ≡ [] → CallsLead does a calls b
       → InOrder cut (ToClaim script) calls → GivesUp cut rest trouble calls → LastClaim (min (length rest) cut) trouble b
   gives_up_at_claim script rest trouble a b calls before after lead order gives =
       ⊎_elim (λ claim. claim_fails (min (length rest) cut) trouble a b calls lead claim)

@@ -16,7 +16,8 @@ pub settle-settled-requires : goal.settle-settled-requires
 settle-settled-requires g c =
     let sender = c.joined.new.sender in
     let workers = c.args.workers.items in
-    let all : AreAllEnds sender (map given_end workers) c.args.halter = all_moved c.args.sender sender (map given_end workers) c.args.halter c.joined.ensures.closes.place c.requires.ends in
+    let all : AreAllEnds sender (map given_end workers) c.args.halter = all_moved c.args.sender sender
+    (map given_end workers) c.args.halter c.joined.ensures.closes.place c.requires.ends in
     subst (λ (e : SenderEnd). AreAllEnds e c.in_ok-back.back.receivers.items c.args.halter) (sym c.into_end.ensures)
     (subst (λ (l : List ReceiverEnd). AreAllEnds sender l c.args.halter) (sym c.in_ok-back.ensures.receivers)
     (all_back g.H.Handler.goes sender workers c.in_ok-served.served.items c.in_ok-served.ensures.kept c.args.halter all))
@@ -29,7 +30,8 @@ returns-clause-ran g c =
     let back = c.in_ok-back.back in
     let receivers = map (λ b. b.receiver) served in
     let plan : sender.knows.plan ≡ c.args.sender.knows.plan = ap (λ (p : SenderPlace). p.1) c.joined.ensures.closes.place in
-    let all : AreAllEnds sender (map given_end workers) c.args.halter = all_moved c.args.sender sender (map given_end workers) c.args.halter c.joined.ensures.closes.place c.requires.ends in
+    let all : AreAllEnds sender (map given_end workers) c.args.halter = all_moved c.args.sender sender
+    (map given_end workers) c.args.halter c.joined.ensures.closes.place c.requires.ends in
     let fresh : All (BeginsAt sender.knows.plan) (map given_end workers) = subst (λ (k : Shape). All (BeginsAt k) (map given_end workers)) (sym plan) c.requires.fresh in
     let settles : Settles sender.knows (map (λ (e : ReceiverEnd). e.knows) receivers) =
     subst (λ (l : List ReceiverEnd). Settles sender.knows (map (λ (e : ReceiverEnd). e.knows) l)) c.in_ok-back.ensures.receivers
@@ -39,7 +41,8 @@ returns-clause-ran g c =
     c.settle-settled.ensures.handlers ∙ ap (map (λ (e : ReceiverEnd). handler_counts e.knows)) c.in_ok-back.ensures.receivers
     in
     let ran : Ran g.row.H.Denot = record { handlers = back.handlers; settled = c.settle-settled.result; endings = back.endings } in
-    let is = is_ran g.H.Handler.goes sender workers served c.in_ok-served.ensures.kept ran c.args.halter all fresh settles counts c.args.fault (c.settle-settled.ensures.published ∙ ap (λ (e : SenderEnd). length e.knows.sent.published) c.into_end.ensures) c.in_ok-back.ensures.handlers c.in_ok-back.ensures.endings in
+    let is = is_ran g.H.Handler.goes sender workers served c.in_ok-served.ensures.kept ran c.args.halter all fresh settles counts c.args.fault
+    (c.settle-settled.ensures.published ∙ ap (λ (e : SenderEnd). length e.knows.sent.published) c.into_end.ensures) c.in_ok-back.ensures.handlers c.in_ok-back.ensures.endings in
     subst (λ (l : List Event). IsRan g.H.Handler.goes (map given_handler workers) l c.args.fault ran) c.joined.ensures.closes.published is
 
 pub returns-clause-claimed : goal.returns-clause-claimed

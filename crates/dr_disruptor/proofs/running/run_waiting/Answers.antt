@@ -34,9 +34,11 @@ returns-clause-run g c =
     let all : produced.result.fault ≡ None → produced.result.sent ≡ length script = λ fine. rw fine at produced.ensures.all in
     run_of g.H.Handler.goes (shape_of upstreams c.args.size) c.args.handlers.items script produced.result (map given_handler made.workers.items)
     c.finish.result ready.handlers sending produced.ensures.within all
-    (came g.H.Handler.goes (shape_of upstreams c.args.size) c.args.handlers.items produced.new.inlet (map given_handler made.workers.items) produced.result.fault c.finish.result c.finish.ensures.ran c.finish.ensures.claimed c.finish.ensures.unhalted)
+    (came g.H.Handler.goes (shape_of upstreams c.args.size) c.args.handlers.items produced.new.inlet
+    (map given_handler made.workers.items) produced.result.fault c.finish.result c.finish.ensures.ran c.finish.ensures.claimed c.finish.ensures.unhalted)
 
 pub returns-clause-whole : goal.returns-clause-whole
 returns-clause-whole g c =
     let short : length c.args.script.now < 2 ^ 62 = search rules in
-    whole_of g.H.Handler.goes (shape_of c.args.graph.now.upstreams c.args.size) c.args.handlers.items c.args.script.now c.finish.result refl (omega arith) (returns-clause-run g c)
+    whole_of g.H.Handler.goes (shape_of c.args.graph.now.upstreams c.args.size) c.args.handlers.items c.args.script.now c.finish.result refl (omega arith)
+    (returns-clause-run g c)

@@ -13,7 +13,8 @@ finish-requires-clause-ends g c =
     let made = c.in_ok-sender in
     let sent = c.send-fault in
     let gave : FnOnceReturnsAtMut g.F.FnOnce c.args.send made.sender sent.result sent.new.arg2 = record { shown = _; shows = refl; left = _; met = sent.ensures; leaves = refl } in
-    all_moved made.sender sent.new.arg2 (map given_end made.workers.items) made.halter (c.requires.place made.sender sent.result sent.new.arg2 gave) made.ensures.ready.ends
+    all_moved made.sender sent.new.arg2 (map given_end made.workers.items) made.halter
+    (c.requires.place made.sender sent.result sent.new.arg2 gave) made.ensures.ready.ends
 
 pub finish-requires-clause-fresh : goal.finish-requires-clause-fresh
 finish-requires-clause-fresh g c =
@@ -34,4 +35,5 @@ returns-clause-ran g c =
     let gave : FnOnceReturnsAtMut g.F.FnOnce c.args.send made.sender sent.result sent.new.arg2 = record { shown = _; shows = refl; left = _; met = sent.ensures; leaves = refl } in
     run_by g.H.Handler.goes (shape_of c.args.graph.now.upstreams c.args.size) c.args.handlers.items (FnOnceReturnsAtMut g.F.FnOnce c.args.send) made.sender sent.new.arg2 sent.result
     (map given_handler made.workers.items) c.finish.result ready.handlers ready.begins gave
-    (came g.H.Handler.goes (shape_of c.args.graph.now.upstreams c.args.size) c.args.handlers.items sent.new.arg2 (map given_handler made.workers.items) sent.result c.finish.result c.finish.ensures.ran c.finish.ensures.claimed c.finish.ensures.unhalted)
+    (came g.H.Handler.goes (shape_of c.args.graph.now.upstreams c.args.size) c.args.handlers.items sent.new.arg2
+    (map given_handler made.workers.items) sent.result c.finish.result c.finish.ensures.ran c.finish.ensures.claimed c.finish.ensures.unhalted)
