@@ -64,7 +64,10 @@ pub came_of : {A : Type 0} {may_stop must_stop : ℕ → ℕ → Type 0} {size :
 came_of events over (Ok x) through first = (over, through)
 came_of events over (Err (fault.Worker who f)) through first = (over, first)
 came_of events over (Err (fault.Audit f)) through first = no_other (endings_of over.ran) (fault.Audit f) refl first
-came_of events over (Err (fault.File f)) through first = tt
+came_of events over (Err (fault.File file.Memory)) through first = tt
+came_of events over (Err (fault.File (file.Input k cause))) through first = tt
+came_of events over (Err (fault.File file.Read)) through first = tt
+came_of events over (Err (fault.File file.Write)) through first = absurd (no_other (endings_of over.ran) (fault.File file.Write) refl first)
 
 served_unless : {P : Type 0} (endings : List Ended) (e : ReplayFault) → (P → AreServed endings) → UnlessMemory P e → UnlessMemory (AreServed endings) e
 served_unless endings (fault.File f) served is = tt

@@ -9,7 +9,6 @@ use Rattle.dr_replay.specs.Meaning.EventFile.{events_of}
 use Rattle.dr_files.specs.declared.fault.FileFault.TheVariants as file
 use Rattle.dr_replay.specs.declared.fault.ReplayFault.{ReplayFault}
 use Rattle.dr_replay.specs.declared.fault.ReplayFault.TheVariants as fault
-use Rattle.dr_replay.specs.Calls.RingRuns.{CameOf}
 use Rattle.dr_replay.specs.Calls.Workers.{IsOfMerge}
 use Rattle.dr_replay.specs.Meaning.Exchange.{IsOfReplay}
 use Rattle.dr_replay.specs.Calls.Replayed.{IsReportOfMerge, LockFaultWrites, replay_text, reported}
@@ -37,14 +36,13 @@ cut_report old new (Some bytes) events text is same (start, begins, wrote) =
     } in
     subst P (sym is) here
 
--- the report that came of a run is of the file's events
-pub came_of_file : {A : Type 0} (may_stop must_stop : ℕ → ℕ → Type 0) (size : ℕ) (input : Option (List ℕ)) (given events : List Event) (text : A) → given ≡ events
-    → IfSome input (λ bytes. events_of bytes ≡ Ok events) → CameOf may_stop must_stop size (Ok text) given
-    → IfSome input (λ bytes. IfOk (events_of bytes) (CameOf {A = Unit {0}} may_stop must_stop size (Ok tt)))
-came_of_file may_stop must_stop size None given events text same is came = tt
-came_of_file may_stop must_stop size (Some bytes) given events text same is came =
-    let P : Result (List Event) ℕ → Type 0 = λ r. IfOk r (CameOf {A = Unit {0}} may_stop must_stop size (Ok tt)) in
-    subst P (sym is) (subst (λ (l : List Event). CameOf may_stop must_stop size (Ok text) l) same came)
+-- what holds of the events that were read holds of the file's
+pub of_file : (Holds : List Event → Type 0) (input : Option (List ℕ)) (given events : List Event) → given ≡ events
+    → IfSome input (λ bytes. events_of bytes ≡ Ok events) → Holds given → IfSome input (λ bytes. IfOk (events_of bytes) Holds)
+of_file Holds None given events same is holds = tt
+of_file Holds (Some bytes) given events same is holds =
+    let P : Result (List Event) ℕ → Type 0 = λ r. IfOk r Holds in
+    subst P (sym is) (subst Holds same holds)
 
 -- a beginning of the report of a merge was written
 pub cut_merge : (size : ℕ) (old new input : Option (List ℕ)) (events : List Event) (text : List ℕ)

@@ -1,10 +1,12 @@
-use Rattle.std.proofs.Common.{IfSome, ap, ◌∙◌}
+use Rattle.std.proofs.Common.{Err, IfOk, IfSome, Ok, ap, ◌∙◌}
 use Rattle.dr_accounts.specs.Report.{report_of}
 use Rattle.dr_files.specs.Counting.{inner_of}
 use Rattle.dr_files.specs.declared.fault.FileFault.TheVariants as file
 use Rattle.dr_replay.specs.Calls.Replayed.{ReplayWrites, replay_text}
+use Rattle.dr_replay.specs.Calls.RingRuns.{CameOf}
+use Rattle.dr_replay.specs.Meaning.EventFile.{events_of}
 use Rattle.dr_replay.specs.declared.fault.ReplayFault.TheVariants as fault
-use Rattle.dr_replay.proofs.Reporting.{at_exit, came_of_file, cut_report}
+use Rattle.dr_replay.proofs.Reporting.{at_exit, cut_report, of_file}
 use Rattle.dr_replay.proofs.ring.replay_ring.Goals as goal
 
 pub returns-in_err-write_text-clause-bytes : goal.returns-in_err-write_text-clause-bytes
@@ -21,5 +23,17 @@ returns-in_err-write_text-clause-bytes g c =
 pub returns-clause-ran : goal.returns-clause-ran
 returns-clause-ran g c =
     let gate = c.args.gate.now in
-    came_of_file (g.G.Gate.may_stop gate) (g.G.Gate.must_stop gate) c.args.size (g.R.Read.remaining (inner_of c.args.reader.now)) c.as_slice.result.now c.in_ok-events.events.items
-    c.in_ok-text.text c.as_slice.ensures.value c.in_ok-events.ensures.file c.in_ok-text.ensures.ran
+    of_file (CameOf {A = Unit {0}} (g.G.Gate.may_stop gate) (g.G.Gate.must_stop gate) c.args.size (Ok tt)) (g.R.Read.remaining (inner_of c.args.reader.now)) c.as_slice.result.now
+    c.in_ok-events.events.items c.as_slice.ensures.value c.in_ok-events.ensures.file c.in_ok-text.ensures.ran
+
+pub returns-in_err-write_text-clause-ran : goal.returns-in_err-write_text-clause-ran
+returns-in_err-write_text-clause-ran g c =
+    let gate = c.args.gate.now in
+    let input = g.R.Read.remaining (inner_of c.args.reader.now) in
+    let may = g.G.Gate.may_stop gate in
+    let must = g.G.Gate.must_stop gate in
+    at_exit c.from_residual-in_err-write_text.result (fault.File file.Write)
+    (λ r. IfSome input (λ bytes. IfOk (events_of bytes) (CameOf may must c.args.size r)))
+    c.from_residual-in_err-write_text.ensures.1
+    (of_file (CameOf {A = Unit {0}} may must c.args.size (Err (fault.File file.Write))) input c.as_slice.result.now c.in_ok-events.events.items c.as_slice.ensures.value c.in_ok-events.ensures.file
+    c.in_ok-text.ensures.ran)
