@@ -7,14 +7,15 @@ use Rattle.dr_lock.specs.Meaning.History.{History}
 use Rattle.dr_workers.specs.declared.fault.WorkFault.{WorkFault}
 use Rattle.dr_replay.specs.declared.given_back.Delivered.{Delivered}
 use Rattle.dr_replay.specs.declared.lock_workers.Joined.{Joined}
-use Rattle.dr_replay.specs.Inside.LockWorkers.{HasHandled, HasSent, IsJoined, ends_of}
+use Rattle.dr_replay.specs.Calls.LockWorkers.{HasHandled, HasSent}
+use Rattle.dr_replay.specs.Inside.LockWorkers.{IsJoined, ends_of}
 use Rattle.dr_replay.specs.Meaning.Exchange.{CameTo, GoesOnBy, IsHandlers, IsOfReplay, IsProducers, halted_once, setup_for}
 use Rattle.dr_replay.specs.Meaning.Scripts.{producers_in, scripts_in}
 use Rattle.dr_replay.proofs.Endings.{many_scripts, opened_for}
 use Rattle.dr_replay.proofs.Stopping.{some_of}
 
-handled : {begun : History Event} {h : ℕ} {may_stop must_stop : ℕ → Type 0} {back : EndView Event} {answer : Option WorkFault}
-    → HasHandled begun h may_stop must_stop back answer → IsHandlers begun h back
+handled : {begun : History Event} {h : ℕ} {may_stop must_stop : ℕ → Type 0} {back : EndView Event} {answer : Option WorkFault} {list : Option (List Event)}
+    → HasHandled begun h may_stop must_stop back answer list → IsHandlers begun h back
 handled is = record { calls = is.calls.calls; lead = is.calls.lead; holds = tt }
 
 sent : {begun : History Event} {p cut : ℕ} {script : List Event} {may_stop must_stop : ℕ → Type 0} {back : EndView Event} {answer : Option WorkFault}

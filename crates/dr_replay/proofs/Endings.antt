@@ -23,9 +23,8 @@ use Rattle.dr_replay.specs.Meaning.Scripts.{producers_in, script_in, scripts_in}
 use Rattle.dr_accounts.specs.Report.{report_of}
 use Rattle.dr_replay.specs.Calls.Replayed.{IsReportOfMerge}
 use Rattle.dr_replay.specs.Calls.RingRuns.{CameOf, RunOver}
-use Rattle.dr_replay.specs.Calls.Workers.{AreStopped, AreThrough, AreServed, AuditFinds, IsFirstOf, IsMemory}
-use Rattle.dr_replay.specs.Calls.Workers.{IsOfAudit, IsOfLock, IsOfMerge, IsOfWorkers, UnlessMemory, audit_fault}
-use Rattle.dr_replay.specs.Calls.Workers.{endings_of, lock_endings, replay_fault, ring_workers}
+use Rattle.dr_replay.specs.Calls.Workers.{AreStopped, AreThrough, AreServed, AuditFinds, IsFirstOf, IsMemory, IsOfAudit, IsOfLock, IsOfMerge, IsOfWorkers, UnlessMemory, audit_fault}
+use Rattle.dr_replay.specs.Calls.Workers.{IsNoRefusal, endings_of, lock_endings, replay_fault, ring_workers}
 
 -- whether a fault may be answered for workers
 abbrev is_of_workers : ReplayFault → Bool
@@ -88,7 +87,7 @@ many_scripts events = length-map-range_with_len (script_in events) 0 (producers_
 
 -- what is said of histories is said of those of which more is known
 module _ {P Q : History Event → Type 0} (more : (h : History Event) → P h → Q h) where
-  report_more : (events : List Event) (text : List ℕ) → IsReportOfMerge P events text → IsReportOfMerge Q events text
+  pub report_more : (events : List Event) (text : List ℕ) → IsReportOfMerge P events text → IsReportOfMerge Q events text
   report_more events text is = record { history = is.history; such = more is.history is.such; list = is.list; audited = is.audited; says = is.says }
 
   pub reports_more : {A : Type 0} (events : List Event) (text_of : A → List ℕ) (r : Result A ReplayFault)
@@ -162,6 +161,13 @@ after_workers : (P : History Event → Type 0) (endings : List Ended) (scripts :
 after_workers P endings scripts (fault.File f) is = only_memory endings f is
 after_workers P endings scripts (fault.Worker who f) is = is
 after_workers P endings scripts (fault.Audit f) is = absurd (no_other endings (fault.Audit f) refl is)
+
+-- an audit refuses no worker
+pub audit_names_none : {A : Type 0} (P : History Event → Type 0) (scripts : List (List Event)) (r : Result A ReplayFault) → IfErr r (IsOfAudit P scripts) → IfErr r IsNoRefusal
+audit_names_none P scripts (Ok x) is = tt
+audit_names_none P scripts (Err (fault.File f)) is = tt
+audit_names_none P scripts (Err (fault.Worker who f)) is = absurd is
+audit_names_none P scripts (Err (fault.Audit f)) is = tt
 
 -- the endings that a check was given are those of the parts
 pub first_of_parts : (P : History Event → Type 0) {j j2 r r2 b b2 : Option WorkFault} {p p2 : List (Option WorkFault)} (scripts : List (List Event)) (e : ReplayFault)

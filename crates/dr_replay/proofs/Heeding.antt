@@ -23,7 +23,8 @@ use Rattle.dr_accounts.specs.Keeping.{AnswersFor, IsServed}
 use Rattle.dr_replay.specs.declared.given_back.Delivered.{Delivered}
 use Rattle.dr_replay.specs.declared.lock_workers.Joined.{Joined}
 use Rattle.dr_replay.specs.declared.ring.Ran.{Ran}
-use Rattle.dr_replay.specs.Inside.LockWorkers.{HasSent, IsJoined}
+use Rattle.dr_replay.specs.Calls.LockWorkers.{HasSent}
+use Rattle.dr_replay.specs.Inside.LockWorkers.{IsJoined}
 use Rattle.dr_replay.specs.Meaning.Scripts.{producers_in, script_in, scripts_in}
 use Rattle.dr_replay.specs.Calls.Workers.{AreThrough, IsRun, NoProducerHadToStop, NoneHadToStop}
 use Rattle.dr_replay.proofs.Stopping.{some_of}

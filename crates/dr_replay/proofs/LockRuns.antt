@@ -1,5 +1,6 @@
 -- What a replay behind a lock came of, by what its workers promised.
-use Rattle.std.proofs.Common.{◌≡◌, ◌<◌, ℕ, List, [], ◌∷◌, length, map, get_or, Vec, Option, None, Some, Result, Ok, Err, IfErr, IfOk, IfSome, OnOk, ap, subst, sym, ◌∙◌, arith}
+use Rattle.std.proofs.Common.{◌≡◌, ◌<◌, ℕ, List, [], ◌∷◌, length, map, get_or, Vec, Option, None, Result, Ok, Err, IfErr, IfOk, OnOk, ap, refl, subst, sym, ◌∙◌, arith}
+use Rattle.std.specs.Io.KnownBytes.{Appends}
 use Rattle.std.proofs.lemmas.List.{get_or-map, length-map}
 use Rattle.std.proofs.lemmas.List.FromFn.{get_or-map-range_with_len}
 use Rattle.dr_seq.specs.declared.event.Event.{Event}
@@ -11,13 +12,16 @@ use Rattle.dr_replay.specs.declared.fault.ReplayFault.{ReplayFault}
 use Rattle.dr_replay.specs.declared.fault.ReplayFault.TheVariants as fault
 use Rattle.dr_replay.specs.declared.given_back.Delivered.{Delivered}
 use Rattle.dr_replay.specs.declared.lock_workers.Joined.{Joined}
-use Rattle.dr_replay.specs.Inside.LockWorkers.{IsJoined, ends_of}
-use Rattle.dr_replay.specs.Meaning.EventFile.{events_of}
+use Rattle.dr_replay.specs.Calls.LockWorkers.{list_of}
+use Rattle.dr_replay.specs.Inside.LockWorkers.{IsJoined, SaidOfLock, ends_of}
 use Rattle.dr_replay.specs.Meaning.Exchange.{GoesOnBy, halted_once, lock_setup}
 use Rattle.dr_replay.specs.Meaning.Scripts.{producers_in, script_in, scripts_in}
-use Rattle.dr_replay.specs.Calls.LockRuns.{CameOfLock, IsHistoryOf, JoinedOver, endings_over}
+use Rattle.dr_replay.specs.Calls.LockRuns.{IsHistoryOf, JoinedOver, LockRan, endings_over}
+use Rattle.dr_replay.specs.Calls.Replayed.{IsReportOfMerge}
 use Rattle.dr_replay.specs.Calls.Workers.{IsOfLock}
-use Rattle.dr_replay.proofs.Endings.{finds_as, many_scripts}
+use Rattle.dr_files.specs.Outcome.{AppendsFront}
+use Rattle.dr_files.specs.declared.fault.FileFault.TheVariants as file
+use Rattle.dr_replay.proofs.Endings.{finds_as, many_scripts, report_more}
 use Rattle.dr_replay.proofs.Stopping.{some_of}
 
 module _ {L Z : Type 0} (begun : History Event) (may_stop must_stop : ℕ → ℕ → Type 0) (size : ℕ) (scripts : List (Vec Event Z)) (joined : Joined L) (events : List Event)
@@ -43,6 +47,9 @@ module _ {L Z : Type 0} (begun : History Event) (may_stop must_stop : ℕ → �
     of_replica = error_of joined.replica.part;
     of_business = error_of joined.business.part;
     of_senders = map (λ (s : Delivered L). s.fault) delivered;
+    list_of_journal = list_of joined.journal.part (λ part. part.list.items);
+    list_of_replica = list_of joined.replica.part (λ part. part.list.items);
+    list_of_business = list_of joined.business.part (λ part. part.list.items);
     journal_handled = is.journal;
     replica_handled = is.replica;
     business_handled = is.business;
@@ -68,19 +75,33 @@ module _ {L Z : Type 0} (begun : History Event) (may_stop must_stop : ℕ → �
       subst (λ n. GoesOnBy begun n (halted_once ∷ workers) h) same (subst (λ e. GoesOnBy begun had (e ∷ workers) h) is.halter went)
 
 -- what is answered
-pub came_of_lock : {A : Type 0} {may_stop must_stop : ℕ → ℕ → Type 0} {size : ℕ} {events : List Event} {P : History Event → Type 0} (over : JoinedOver may_stop must_stop size events) (r : Result A ReplayFault)
-    (scripts : List (List Event)) → scripts ≡ scripts_in events → ((h : History Event) → P h → IsHistoryOf over h)
-    → OnOk r (first_fault (endings_over over) ≡ None) → IfErr r (IsOfLock (endings_over over) P scripts) → CameOfLock may_stop must_stop size r events
-came_of_lock over (Ok x) scripts same more fine first = (over, fine)
-came_of_lock over (Err (fault.Worker who f)) scripts same more fine first = (over, first)
-came_of_lock over (Err (fault.Audit f)) scripts same more fine first = (over, first.0, finds_as more scripts _ f same first.1)
-came_of_lock over (Err (fault.File f)) scripts same more fine first = tt
+pub came_of_lock : {A : Type 0} {may_stop must_stop : ℕ → ℕ → Type 0} {size : ℕ} {events : List Event} {P : History Event → Type 0} (text_of : A → List ℕ)
+    (over : JoinedOver may_stop must_stop size events) (r : Result A ReplayFault) (scripts : List (List Event)) → scripts ≡ scripts_in events
+    → ((h : History Event) → P h → IsHistoryOf over h) → OnOk r (first_fault (endings_over over) ≡ None) → IfOk r (λ t. IsReportOfMerge P events (text_of t))
+    → IfErr r (IsOfLock (endings_over over) P scripts) → SaidOfLock text_of may_stop must_stop size r events
+came_of_lock {events = events} text_of over (Ok x) scripts same more fine says first = (over, (fine, text_of x, report_more more events (text_of x) says, refl))
+came_of_lock text_of over (Err (fault.Worker who f)) scripts same more fine says first = (over, first)
+came_of_lock text_of over (Err (fault.Audit f)) scripts same more fine says first = (over, first.0, finds_as more scripts _ f same first.1)
+came_of_lock text_of over (Err (fault.File file.Memory)) scripts same more fine says first = tt
+came_of_lock text_of over (Err (fault.File (file.Input k cause))) scripts same more fine says first = tt
+came_of_lock text_of over (Err (fault.File file.Read)) scripts same more fine says first = tt
+came_of_lock text_of over (Err (fault.File file.Write)) scripts same more fine says first = absurd first
 
--- of the file's events
-pub came_of_locked_file : {A : Type 0} (may_stop must_stop : ℕ → ℕ → Type 0) (size : ℕ) (input : Option (List ℕ)) (given events : List Event) (text : A) → given ≡ events
-    → IfSome input (λ bytes. events_of bytes ≡ Ok events) → CameOfLock may_stop must_stop size (Ok text) given
-    → IfSome input (λ bytes. IfOk (events_of bytes) (CameOfLock {A = Unit {0}} may_stop must_stop size (Ok tt)))
-came_of_locked_file may_stop must_stop size None given events text same is came = tt
-came_of_locked_file may_stop must_stop size (Some bytes) given events text same is came =
-    let P : Result (List Event) ℕ → Type 0 = λ r. IfOk r (CameOfLock {A = Unit {0}} may_stop must_stop size (Ok tt)) in
-    subst P (sym is) (subst (λ (l : List Event). CameOfLock may_stop must_stop size (Ok text) l) same came)
+-- and what is then written
+module _ {A : Type 0} (may_stop must_stop : ℕ → ℕ → Type 0) (size : ℕ) (text_of : A → List ℕ) (old new : Option (List ℕ)) (events : List Event) where
+  abbrev Said : Result A ReplayFault → Type 0
+  Said r = SaidOfLock text_of may_stop must_stop size r events
+
+  pub wrote_all : (said : A) → Appends old new (text_of said) → Said (Ok said) → LockRan may_stop must_stop size old new (Ok tt) events
+  wrote_all said wrote (over, (fine, text, report, same)) = (over, (fine, text, report, subst (Appends old new) (sym same) wrote))
+
+  pub wrote_some : (said : A) → AppendsFront old new (text_of said) → Said (Ok said) → LockRan may_stop must_stop size old new (Err (fault.File file.Write)) events
+  wrote_some said wrote (over, (fine, text, report, same)) = (over, (fine, text, report, subst (AppendsFront old new) (sym same) wrote))
+
+  pub wrote_none : (e : ReplayFault) → Said (Err e) → LockRan may_stop must_stop size old new (Err e) events
+  wrote_none (fault.Worker who f) is = is
+  wrote_none (fault.Audit f) is = is
+  wrote_none (fault.File file.Memory) is = tt
+  wrote_none (fault.File (file.Input k cause)) is = tt
+  wrote_none (fault.File file.Read) is = tt
+  wrote_none (fault.File file.Write) (over, (fine, text, report, never)) = absurd never

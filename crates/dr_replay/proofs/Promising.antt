@@ -6,7 +6,7 @@ use Rattle.dr_seq.specs.declared.event.Event.{Event}
 use Rattle.dr_lock.specs.Calls.Lock.{EndView, no_calls}
 use Rattle.dr_lock.specs.Meaning.History.{History}
 use Rattle.dr_workers.specs.declared.fault.WorkFault.{WorkFault}
-use Rattle.dr_replay.specs.Inside.LockWorkers.{HasSent}
+use Rattle.dr_replay.specs.Calls.LockWorkers.{HasSent}
 use Rattle.dr_replay.specs.declared.given_back.SentBy.{SentBy}
 
 -- one more is started, and one fewer is left

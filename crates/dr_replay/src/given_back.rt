@@ -2,7 +2,7 @@
 
 ghost use Rattle.std.specs.Prelude.{◌≡◌, ◌+◌};
 ghost use Rattle.dr_accounts.specs.Keeping.{error_of};
-ghost use Rattle.dr_replay.specs.Inside.LockWorkers.{HasHandled, HasSent};
+ghost use Rattle.dr_replay.specs.Calls.LockWorkers.{HasHandled, HasSent, list_of};
 
 use crate::part::Part;
 use dr_accounts::Reporter;
@@ -53,7 +53,7 @@ impl<G> Drop for HandledBy<G> {
 }
 
 impl<G: Gate, L: Exchange<Event>, P: Reporter> Promise<Handled<L, P>> for HandledBy<G> {
-    ghost kept_by = { λ p back. HasHandled L.begun p.who (G.may_stop p.gate.value p.who) (G.must_stop p.gate.value p.who) back.end (error_of back.part) };
+    ghost kept_by = { λ p back. HasHandled L.begun p.who (G.may_stop p.gate.value p.who) (G.must_stop p.gate.value p.who) back.end (error_of back.part) (list_of back.part (λ part. part.list.items)) };
 }
 
 /// The promise of the worker of the producer `p`, which passes a gate as number 16 + `p` and sends a script in

@@ -7,10 +7,10 @@ ghost use Rattle.dr_replay.specs.Meaning.EventFile.{events_of as events_in};
 ghost use Rattle.dr_accounts.specs.Keeping.{error_of};
 ghost use Rattle.dr_workers.specs.Meaning.FirstFault.{first_fault as first_of};
 ghost use Rattle.dr_workers.specs.Calls.Stops.{MayStop};
-ghost use Rattle.dr_replay.specs.Calls.LockRuns.{CameOfLock};
+ghost use Rattle.dr_replay.specs.Calls.LockRuns.{LockRan};
 ghost use Rattle.dr_replay.specs.Calls.Replayed.{IsReportOfMerge, LockWrites, ReplayCounts, ReplayFaultKeeps};
-ghost use Rattle.dr_replay.specs.Calls.Workers.{IsFirstOf, IsFirstOfLock, IsOfAudit, IsOfLock, IsOfMerge, NoProducerHadToStop, lock_endings};
-ghost use Rattle.dr_replay.specs.Inside.LockWorkers.{ends_of};
+ghost use Rattle.dr_replay.specs.Calls.Workers.{IsFirstOf, IsFirstOfLock, IsNoRefusal, IsOfAudit, IsOfLock, IsOfMerge, NoProducerHadToStop, lock_endings};
+ghost use Rattle.dr_replay.specs.Inside.LockWorkers.{SaidOfLock, ends_of};
 ghost use Rattle.dr_replay.specs.Meaning.Exchange.{CameTo, GoesOnBy, IsOfReplay, lock_setup, setup_for};
 ghost use Rattle.dr_replay.specs.Meaning.Scripts.{scripts_in};
 
@@ -19,7 +19,7 @@ use crate::fault::ReplayFault;
 use crate::given_back::Delivered;
 use crate::lock_workers::{Around, Joined, exchange, make_ends};
 use crate::outcome::{
-    BUSINESS, JOURNAL, PRODUCER, REPLICA, audit_fault, ended, joined, replay_fault,
+    BUSINESS, JOURNAL, PRODUCER, REPLICA, audit_fault, ended, joined, lock_fault,
 };
 use crate::part::Part;
 use crate::scripts::{scripts, views};
@@ -70,10 +70,11 @@ fn check(
     ensures handlers { OnOk result ((journal ≡ None) × (replica ≡ None) × (business ≡ None)) }
     ensures producers { OnOk result (All (λ fault. fault ≡ None) producers.now) }
     ensures first { IfErr result (IsFirstOf (lock_endings journal replica business producers.now)) }
+    ensures refused { IfErr result IsNoRefusal }
 {
     let endings = endings(alloc, journal, replica, business, producers)?;
     match first_fault(endings.as_slice()) {
-        Some(first) => Err(replay_fault(first)),
+        Some(first) => Err(lock_fault(first)),
         None => Ok(()),
     }
 }
@@ -151,6 +152,7 @@ fn settled<L: Exchange<Event>>(
     ensures fine { OnOk result (first_of (lock_endings (error_of ran.journal.part) (error_of ran.replica.part) (error_of ran.business.part)
         (map (λ s. s.fault) ran.producers.items)) ≡ None) }
     ensures producers { OnOk result (All (λ fault. fault ≡ None) (map (λ s. s.fault) ran.producers.items)) }
+    ensures refused { IfErr result IsNoRefusal }
     ensures first { IfErr result (IsOfLock (lock_endings (error_of ran.journal.part) (error_of ran.replica.part) (error_of ran.business.part)
         (map (λ s. s.fault) ran.producers.items)) (GoesOnBy L.begun shared.begun (ends_of ran)) (map (λ v. v.items) scripts.now)) }
 {
@@ -229,9 +231,10 @@ fn report<L: Exchange<Event> + Send + Sync, R: Threads + Wait + Sync, G: Gate + 
         → IfOk result (λ t. IsReportOfMerge (CameTo recorded.history (length scripts.now)) sent (string_bytes t)) }
     ensures first { (sent : List Event) → map (λ v. v.items) scripts.now ≡ scripts_in sent
         → IfErr result (IsOfMerge (MayStop G.may_stop gate.now) (CameTo recorded.history (length scripts.now)) sent) }
+    ensures refused { IfErr result IsNoRefusal }
     ensures stops { (sent : List Event) → map (λ v. v.items) scripts.now ≡ scripts_in sent → IfOk result (λ t. NoProducerHadToStop (G.must_stop gate.now) sent) }
     ensures ran { (sent : List Event) → map (λ v. v.items) scripts.now ≡ scripts_in sent → recorded.history.core.setup ≡ lock_setup size sent
-        → CameOfLock (G.may_stop gate.now) (G.must_stop gate.now) size result sent }
+        → SaidOfLock (λ said. string_bytes said) (G.may_stop gate.now) (G.must_stop gate.now) size result sent }
 {
     let mut shared = Shared::<Event, L>::new(recorded, blank);
     let ends = make_ends(alloc, &mut shared, scripts.len())?;
@@ -258,8 +261,9 @@ fn merged<R: Threads + Wait + Sync, G: Gate + Sync>(
 ) -> Result<String, ReplayFault>
     ensures text { IfOk result (λ text. IsReportOfMerge (IsOfReplay size events.now) events.now (string_bytes text)) }
     ensures first { IfErr result (IsOfMerge (MayStop G.may_stop gate.now) (IsOfReplay size events.now) events.now) }
+    ensures refused { IfErr result IsNoRefusal }
     ensures stops { IfOk result (λ text. NoProducerHadToStop (G.must_stop gate.now) events.now) }
-    ensures ran { CameOfLock (G.may_stop gate.now) (G.must_stop gate.now) size result events.now }
+    ensures ran { SaidOfLock (λ said. string_bytes said) (G.may_stop gate.now) (G.must_stop gate.now) size result events.now }
 {
     let scripts = scripts(alloc, events)?;
     let recorded = opened(alloc, size, scripts.len(), events.len())?;
@@ -290,10 +294,13 @@ pub fn replay_lock<S: Threads + Wait + Sync, R: Read, W: Write, G: Gate + Sync>(
     ensures unwritten { IfErr result (λ e. ReplayFaultKeeps e (W.contents (inner_of writer.old)) (W.contents (inner_of writer.new))) }
     // Where several workers have faults, the first is answered: a stop before a refusal, and then the least worker's. Only the gate stops a worker.
     ensures first { IfErr result (IsFirstOfLock (MayStop G.may_stop gate.now) size) }
+    // A worker is named only where it was stopped: none is refused a call.
+    ensures refused { IfErr result IsNoRefusal }
     // A gate that has to stop a producer at its first turn, where that has an event, leaves no report.
     ensures stops { IfSome (R.remaining (inner_of reader.old)) (λ input. IfOk result (λ _. IfOk (events_in input) (NoProducerHadToStop (G.must_stop gate.now)))) }
-    // The file's events went through a new exchange of this size by workers that passed this gate, and a worker's fault is the first of such workers'.
-    ensures ran { IfSome (R.remaining (inner_of reader.old)) (λ input. IfOk (events_in input) (CameOfLock (G.may_stop gate.now) (G.must_stop gate.now) size result)) }
+    // The file's events went through a new exchange of this size by workers that passed this gate; what is written, also before a failed write, is the report of that exchange's history, where none of them had a fault; and a worker's fault is the first of such workers'.
+    ensures ran { IfSome (R.remaining (inner_of reader.old)) (λ input. IfOk (events_in input)
+        (LockRan (G.may_stop gate.now) (G.must_stop gate.now) size (W.contents (inner_of writer.old)) (W.contents (inner_of writer.new)) result)) }
     // A failed read or write is answered where one failed, and nowhere else.
     ensures counted { ReplayCounts result (faults_of reader.old) (faults_of reader.new) (faults_of writer.old) (faults_of writer.new) }
 {

@@ -6,7 +6,8 @@ ghost use Rattle.dr_accounts.specs.Keeping.{error_of};
 ghost use Rattle.dr_lock.specs.Calls.Lock.{after_call, no_calls};
 ghost use Rattle.dr_meaning.specs.declared.command.Command.TheVariants.{Halt};
 ghost use Rattle.dr_meaning.specs.declared.command.Reply.TheVariants.{Halting};
-ghost use Rattle.dr_replay.specs.Inside.LockWorkers.{AreSent, AreUnused, HasHandled, HasSent, IsJoined};
+ghost use Rattle.dr_replay.specs.Calls.LockWorkers.{HasHandled, HasSent, list_of};
+ghost use Rattle.dr_replay.specs.Inside.LockWorkers.{AreSent, AreUnused, IsJoined};
 ghost use Rattle.dr_replay.specs.Meaning.Exchange.{halted_once};
 
 use crate::given_back::{Delivered, Handled, HandledBy, SentBy};
@@ -148,7 +149,7 @@ fn handle<L: Exchange<Event>, R: Wait, G: Gate, P: Reporter>(
     end: End<Event, L>,
 ) -> Handled<L, P>
     requires unused { end ≡ no_calls }
-    ensures { HasHandled L.begun who (G.may_stop around.now.gate.now who) (G.must_stop around.now.gate.now who) result.end (error_of result.part) }
+    ensures { HasHandled L.begun who (G.may_stop around.now.gate.now who) (G.must_stop around.now.gate.now who) result.end (error_of result.part) (list_of result.part (λ part. part.list.items)) }
 {
     let (rt, gate, bell) = (around.rt, around.gate, around.bell);
     let locked = LockedOutlet::new(rt, around.shared, end, who);

@@ -1,7 +1,7 @@
 //! How a replay's workers are numbered, and what comes of how they ended.
 
 ghost use Rattle.std.specs.Prelude.{◌≡◌, ◌++◌, IfOk, string_bytes};
-ghost use Rattle.dr_replay.specs.Calls.Workers.{audit_fault as audit_fault_of, replay_fault as fault_of};
+ghost use Rattle.dr_replay.specs.Calls.Workers.{audit_fault as audit_fault_of, lock_fault as lock_fault_of, replay_fault as fault_of};
 
 use crate::fault::ReplayFault;
 use dr_files::FileFault;
@@ -36,6 +36,18 @@ pub fn replay_fault(first: WorkerFault) -> ReplayFault
     match fault {
         WorkFault::Memory => ReplayFault::File(FileFault::Memory),
         _ => ReplayFault::Worker { who, fault },
+    }
+}
+
+/// The fault of a worker, as the replay behind a lock answers it. Nobody halts the exchange before all
+/// is sent, and nobody retires, so no worker is refused a call; where one was, the answer is `no-memory`.
+pub fn lock_fault(first: WorkerFault) -> ReplayFault
+    ensures { result ≡ lock_fault_of first.who first.fault }
+{
+    let WorkerFault { who, fault } = first;
+    match fault {
+        WorkFault::Stopped => ReplayFault::Worker { who, fault },
+        _ => ReplayFault::File(FileFault::Memory),
     }
 }
 

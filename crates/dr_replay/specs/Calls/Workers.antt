@@ -160,6 +160,16 @@ lock_endings journal replica business producers =
 abbrev pub NoProducerHadToStop : (ℕ → ℕ → Type 0) → List Event → Type 0
 NoProducerHadToStop must_stop events = (p : ℕ) → p < producers_in events → script_in events p ≢ [] → must_stop (16 + p) 0 → ⊥
 
+-- of the workers' faults behind a lock a stop alone names its worker: nobody is refused a call there, so where one was the replay answers that memory ran out
+abbrev pub lock_fault : ℕ → WorkFault → ReplayFault
+lock_fault who work.Stopped = fault.Worker who work.Stopped
+lock_fault who other = fault.File file.Memory
+
+-- a worker is named only where it was stopped
+abbrev pub IsNoRefusal : ReplayFault → Type 0
+IsNoRefusal (fault.Worker who f) = f ≡ work.Stopped
+IsNoRefusal other = Unit {0}
+
 -- what an audit answers of some such history, since no contract above the lock can name it: the least producer that did not send its script, and where each did, the least handler that lacks events
 abbrev pub AuditFinds : (History Event → Type 0) → List (List Event) → AuditFault → Type 0
 AuditFinds IsSuch scripts audit.NoMemory = ⊥

@@ -1,4 +1,6 @@
-use Rattle.std.proofs.Common.{◌≡◌, List, ℕ, IfSome, subst, sym}
+use Rattle.std.proofs.Common.{◌≡◌, Err, Global, List, Ok, String, ℕ, IfOk, IfSome, string_bytes, subst, sym}
+use Rattle.std.specs.Io.KnownBytes.{Appends}
+use Rattle.dr_files.specs.Outcome.{AppendsFront}
 use Rattle.std.proofs.lemmas.Result.{err_from_is_err_and}
 use Rattle.dr_seq.specs.declared.event.Event.{Event}
 use Rattle.dr_files.specs.Counting.{inner_of}
@@ -7,8 +9,9 @@ use Rattle.dr_replay.specs.Meaning.EventFile.{events_of}
 use Rattle.dr_replay.specs.Calls.Replayed.{IsReportOfMerge, LockWrites}
 use Rattle.dr_replay.specs.Meaning.Exchange.{IsOfReplay}
 use Rattle.dr_replay.specs.declared.fault.ReplayFault.TheVariants as fault
-use Rattle.dr_replay.proofs.LockRuns.{came_of_locked_file}
-use Rattle.dr_replay.proofs.Reporting.{at_exit, cut_merge, kept_merge}
+use Rattle.dr_replay.specs.Calls.LockRuns.{LockRan}
+use Rattle.dr_replay.proofs.LockRuns.{wrote_all, wrote_none, wrote_some}
+use Rattle.dr_replay.proofs.Reporting.{at_exit, cut_merge, kept_merge, of_file}
 use Rattle.dr_replay.proofs.lock.replay_lock.Goals as goal
 use Rattle.dr_workers.specs.Calls.Stops.{MayStop}
 
@@ -38,5 +41,34 @@ returns-in_err-text-clause-bytes g c =
 pub returns-clause-ran : goal.returns-clause-ran
 returns-clause-ran g c =
     let gate = c.args.gate.now in
-    came_of_locked_file (g.G.Gate.may_stop gate) (g.G.Gate.must_stop gate) c.args.size (g.R.Read.remaining (inner_of c.args.reader.now)) c.as_slice.result.now c.in_ok-events.events.items
-    c.in_ok-text.text c.as_slice.ensures.value c.in_ok-events.ensures.file c.in_ok-text.ensures.ran
+    let may = g.G.Gate.may_stop gate in
+    let must = g.G.Gate.must_stop gate in
+    let old = g.W.Write.contents (inner_of c.args.writer.now) in
+    let new = g.W.Write.contents (inner_of c.write_text.new.writer) in
+    of_file (LockRan may must c.args.size old new (Ok tt)) (g.R.Read.remaining (inner_of c.args.reader.now)) c.as_slice.result.now c.in_ok-events.events.items
+    c.as_slice.ensures.value c.in_ok-events.ensures.file
+    (wrote_all may must c.args.size (λ t. string_bytes t) old new c.as_slice.result.now c.in_ok-text.text (subst (Appends old new) c.as_bytes.ensures.value c.in_ok-write_text.ensures.0) c.in_ok-text.ensures.ran)
+
+pub returns-in_err-write_text-clause-ran : goal.returns-in_err-write_text-clause-ran
+returns-in_err-write_text-clause-ran g c =
+    let gate = c.args.gate.now in
+    let may = g.G.Gate.may_stop gate in
+    let must = g.G.Gate.must_stop gate in
+    let input = g.R.Read.remaining (inner_of c.args.reader.now) in
+    let old = g.W.Write.contents (inner_of c.args.writer.now) in
+    let new = g.W.Write.contents (inner_of c.write_text.new.writer) in
+    at_exit c.from_residual-in_err-write_text.result (fault.File file.Write)
+    (λ r. IfSome input (λ bytes. IfOk (events_of bytes) (LockRan may must c.args.size old new r)))
+    c.from_residual-in_err-write_text.ensures.1
+    (of_file (LockRan may must c.args.size old new (Err (fault.File file.Write))) input c.as_slice.result.now c.in_ok-events.events.items c.as_slice.ensures.value c.in_ok-events.ensures.file
+    (wrote_some may must c.args.size (λ t. string_bytes t) old new c.as_slice.result.now c.in_ok-text.text (subst (AppendsFront old new) c.as_bytes.ensures.value c.in_err-write_text.ensures.0) c.in_ok-text.ensures.ran))
+
+pub returns-in_err-text-clause-ran : goal.returns-in_err-text-clause-ran
+returns-in_err-text-clause-ran g c =
+    let p = err_from_is_err_and c.from_residual-in_err-text.result c.from_residual-in_err-text.ensures.1 in
+    let gate = c.args.gate.now in
+    let may = g.G.Gate.may_stop gate in
+    let must = g.G.Gate.must_stop gate in
+    let old = g.W.Write.contents (inner_of c.args.writer.now) in
+    rw (p.1, p.2) (of_file (LockRan may must c.args.size old old (Err c.in_err-text.field-0.0)) (g.R.Read.remaining (inner_of c.args.reader.now)) c.as_slice.result.now c.in_ok-events.events.items
+    c.as_slice.ensures.value c.in_ok-events.ensures.file (wrote_none may must c.args.size (λ (t : String Global). string_bytes t) old old c.as_slice.result.now c.in_err-text.field-0.0 c.in_err-text.ensures.ran))

@@ -4,7 +4,7 @@ use Rattle.dr_accounts.specs.Keeping.{error_of}
 use Rattle.dr_replay.specs.Calls.Workers.{lock_endings}
 use Rattle.dr_replay.specs.Inside.LockWorkers.{ends_of}
 use Rattle.dr_replay.specs.Meaning.Exchange.{GoesOnBy}
-use Rattle.dr_replay.proofs.Endings.{ends_of_audit, first_of_parts, none_of_parts, reports_more}
+use Rattle.dr_replay.proofs.Endings.{audit_names_none, ends_of_audit, first_of_parts, none_of_parts, reports_more}
 use Rattle.dr_replay.proofs.lock.settled.Goals as goal
 
 pub returns-in_err-check-clause-first : goal.returns-in_err-check-clause-first
@@ -25,3 +25,6 @@ returns-clause-first g c =
     (map (λ v. v.items) c.args.scripts.now) c.audited.result
     (none_of_parts c.fault_in.ensures c.fault_in-2.ensures c.fault_in-3.ensures (c.as_slice.ensures.value ∙ c.in_ok-recorded.ensures.faults) c.in_ok-check.ensures.fine)
     c.audited.ensures.fault
+
+pub returns-clause-refused : goal.returns-clause-refused
+returns-clause-refused g c = audit_names_none _ _ c.audited.result c.audited.ensures.fault

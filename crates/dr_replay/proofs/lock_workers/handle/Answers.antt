@@ -1,13 +1,28 @@
-use Rattle.std.proofs.Common.{◌≡◌, None, ap, inl, inr, subst, sym, ◌∙◌}
+use Rattle.std.proofs.Common.{◌≡◌, Err, List, None, Ok, Option, Result, ap, inl, inr, subst, sym, ◌∙◌}
+use Rattle.std.specs.Prelude.{IfOk, IfSome, OnOk, false}
 use Rattle.dr_lock.specs.Calls.Asking.{OutletAsks}
 use Rattle.dr_lock.specs.Calls.Lock.{no_calls}
 use Rattle.dr_workers.specs.Calls.Serving.{Serves}
 use Rattle.dr_accounts.specs.Keeping.{AnswersFor, error_of}
 use Rattle.dr_lock.specs.declared.locked.LockedOutlet.{LockedOutlet}
-use Rattle.dr_replay.specs.Inside.Parts.{Lists}
+use Rattle.dr_replay.specs.Calls.Listing.{Listed, Lists}
+use Rattle.dr_replay.specs.Calls.LockWorkers.{list_of}
+use Rattle.dr_seq.specs.declared.event.Event.{Event}
 use Rattle.dr_replay.proofs.Asking.{asked, stopped_by}
 use Rattle.dr_replay.proofs.lock_workers.handle.Goals.{in-Err-default, in-Ok-Some+in-Ok-this-2, in-Ok-Some+in-Err-1, in-Ok-None}
 use Rattle.dr_replay.proofs.lock_workers.handle.Goals as goal
+
+-- a list that is given back is of all that was shown
+abbrev Gives : Listed → Option (List Event) → Type 0
+Gives after list = IfSome list (λ all. (after.failed ≡ false) × (all ≡ after.list))
+
+gives_none : {X F : Type 0} (list_in : X → List Event) (after : Listed) (part : Result X F) (f : F) → part ≡ Err f → Gives after (list_of part list_in)
+gives_none list_in after part f is = subst (λ p. Gives after (list_of p list_in)) (sym is) tt
+
+gives_all : {X A F : Type 0} (list_in : X → List Event) (after : Listed) (got : Result X A) (part : Result X F) (p : X) → got ≡ Ok p → part ≡ Ok p
+    → IfOk got (λ x. list_in x ≡ after.list) → OnOk got (after.failed ≡ false) → Gives after (list_of part list_in)
+gives_all list_in after got part p found is list well =
+    subst (λ x. Gives after (list_of x list_in)) (sym is) (subst (λ x. OnOk x (after.failed ≡ false)) found well, subst (λ x. IfOk x (λ y. list_in y ≡ after.list)) found list)
 
 pub returns : goal.returns
 returns g c =
@@ -35,4 +50,10 @@ returns g c =
           c.new-outlet.result run.new.outlet no_calls c.into_end-end.result number begins ends run.ensures.serves;
       answers = answers;
       stopped = stopped_by run.result (error_of c.match-part.part) answers run.ensures.stopped;
+      lists = elim c.match-part.branch [
+        | in-Err-default w ↦ gives_none (λ part. part.list.items) run.new.handler c.match-part.part _ w.part-is
+        | in-Ok-Some+in-Ok-this-2 w ↦ gives_none (λ part. part.list.items) run.new.handler c.match-part.part _ w.part-is
+        | in-Ok-Some+in-Err-1 w ↦ gives_none (λ part. part.list.items) run.new.handler c.match-part.part _ w.part-is
+        | in-Ok-None w ↦ gives_all (λ part. part.list.items) run.new.handler c.part.result c.match-part.part _ w.in-Ok-None.is-0 w.part-is c.part.ensures.list c.part.ensures.well
+      ];
     }

@@ -1,0 +1,37 @@
+-- What the workers of a replay behind a lock do.
+use Rattle.std.specs.Prelude.{◌≡◌, ℕ, false, List, [], Option, None, Some, IfSome, Result, Ok, Err}
+use Rattle.dr_seq.specs.declared.event.Event.{Event}
+use Rattle.dr_meaning.specs.Calls.Calling.{SomeCalls}
+use Rattle.dr_workers.specs.declared.fault.WorkFault.{WorkFault}
+use Rattle.dr_workers.specs.declared.fault.WorkFault.TheVariants.{Stopped}
+use Rattle.dr_workers.specs.declared.producer.Produced.{Produced}
+use Rattle.dr_lock.specs.Calls.Asking.{InletAsks, OutletAsks}
+use Rattle.dr_lock.specs.Calls.Lock.{EndView, no_calls}
+use Rattle.dr_workers.specs.Calls.Serving.{Sends, Serves}
+use Rattle.dr_lock.specs.Meaning.History.{History}
+use Rattle.dr_accounts.specs.Keeping.{AnswersFor}
+use Rattle.dr_replay.specs.Calls.Listing.{Listed, Lists}
+
+-- the list of a part of the report, where a worker gives one back
+abbrev pub list_of : {A F : Type 0} → Result A F → (A → List Event) → Option (List Event)
+list_of (Ok part) list_in = Some (list_in part)
+list_of (Err fault) list_in = None
+
+-- the worker of the handler h began with an unused end, listed what that handed out to room for 256 events, came to its gate with each batch, and answers for what these calls came to, each a call of that handler;
+-- that it was stopped it answers only where its gate may stop it, and a list that it gives back is of all that it was shown
+pub record HasHandled (begun : History Event) (h : ℕ) (may_stop must_stop : ℕ → Type 0) (back : EndView Event) (answer : Option WorkFault) (list : Option (List Event)) : Type 0 where
+  pub start : Listed
+  pub after : Listed
+  pub fault : Option WorkFault
+  pub new : start.list ≡ []
+  pub calls : SomeCalls (OutletAsks begun h) no_calls back (Serves 256 Lists start after None None may_stop must_stop fault)
+  pub answers : AnswersFor fault answer
+  pub stopped : answer ≡ Some Stopped → (turn : ℕ) × may_stop turn
+  pub lists : IfSome list (λ all. (after.failed ≡ false) × (all ≡ after.list))
+
+-- the worker of the producer p began with an unused end, sent the first of a script in such claims, came to its gate with each, and answers what these calls came to, each a call of that producer
+pub record HasSent (begun : History Event) (p cut : ℕ) (script : List Event) (may_stop must_stop : ℕ → Type 0) (back : EndView Event) (answer : Option WorkFault) : Type 0 where
+  pub produced : Produced
+  pub calls : SomeCalls (InletAsks begun p) no_calls back (Sends cut script may_stop must_stop produced)
+  pub answers : answer ≡ produced.fault
+  pub stopped : answer ≡ Some Stopped → (turn : ℕ) × may_stop turn
