@@ -16,7 +16,7 @@ use Rattle.dr_lock.specs.contracts.shared.Shared.TheInside as Inside
 use denote.Param.{param}
 use denote.Struct.Declared.{shape}
 use Rattle.dr_lock.specs.contracts.shared.Whole as Whole
-use Rattle.dr_lock.specs.contracts.shared.Locked as Locked
+use Rattle.dr_lock.specs.contracts.end.Locked as Locked
 use Rattle.dr_lock.specs.contracts.recorded.Recorded as Recorded
 use Rattle.dr_core.specs.contracts.engine.Core as Core
 use Rattle.dr_meaning.specs.contracts.command.Command as Command
@@ -25,7 +25,7 @@ use Rattle.dr_seq.specs.contracts.event.Event as Event
 use Rattle.dr_lock.specs.contracts.entry.Entry as Entry
 use Rattle.std.specs.contracts.sync.Mutex as Mutex
 use Rattle.std.proofs.sync.Mutex.TheSendSync.{the_sync as the_mutex_sync}
-use Rattle.dr_lock.specs.contracts.shared.End as End
+use Rattle.dr_lock.specs.contracts.end.End as End
 
 -- what is required of a closure's type parameter is so of the type
 pub of_param : (i : ℕ) (R : RattleType) → IsSync (param i R) → IsSync R

@@ -3,8 +3,9 @@
 ghost use Rattle.std.specs.Prelude.{◌≡◌, Some};
 ghost use Rattle.dr_lock.specs.Calls.Lock.{after_call};
 
+use crate::end::End;
 use crate::exchange::Exchange;
-use crate::shared::{End, Shared};
+use crate::shared::Shared;
 use dr_meaning::{Command, Reply};
 use dr_workers::Waiting;
 use std::sync::Wait;

@@ -10,6 +10,7 @@
 
 pub mod audit_fault;
 pub mod auditing;
+pub mod end;
 pub mod entry;
 pub mod exchange;
 mod halting;
@@ -20,9 +21,10 @@ pub mod shared;
 
 pub use audit_fault::AuditFault;
 pub use auditing::audit;
+pub use end::End;
 pub use entry::Entry;
 pub use exchange::Exchange;
 pub use halting::halt;
 pub use locked::{LockedInlet, LockedOutlet};
 pub use recorded::Recorded;
-pub use shared::{End, MAX_ENDS, Shared, Unfinished, finish};
+pub use shared::{MAX_ENDS, Shared, Unfinished, finish};

@@ -7,8 +7,9 @@ ghost use Rattle.dr_meaning.specs.Calls.Replies.{claim_reply, unit_reply, poll_r
 ghost use Rattle.dr_lock.specs.Calls.Asking.{InletAsks, IsAsked, OutletAsks};
 ghost use Rattle.dr_lock.specs.Calls.Lock.{AfterWrites, AreWritten};
 
+use crate::end::End;
 use crate::exchange::Exchange;
-use crate::shared::{End, Shared};
+use crate::shared::Shared;
 use dr_meaning::{Claimed, Command, Inlet, Outlet, Polled, Reply, Trouble, Wrote};
 use std::sync::Wait;
 

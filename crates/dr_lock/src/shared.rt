@@ -1,40 +1,23 @@
 //! The exchange behind one lock.
 
 ghost use Rattle.std.specs.Result.{result_ok};
-ghost use Rattle.std.specs.Prelude.{◌≡◌, ◌↔◌, ◌+◌, ◌^◌, ◌<◌, ◌≤◌, [], IfOk, IfErr, OnErr, IsErr, MatchOption, if◌then◌else◌, ◌*◌, drop, is_ok, length, sum_by, take, vec_len};
+ghost use Rattle.std.specs.Prelude.{◌≡◌, ◌↔◌, ◌+◌, ◌^◌, ◌<◌, ◌≤◌, IfOk, IfErr, OnErr, IsErr, MatchOption, ◌*◌, drop, length, sum_by, take, vec_len};
 ghost use Rattle.dr_meaning.specs.Meaning.Runs.{count_in};
-ghost use Rattle.dr_lock.specs.Meaning.History.{GoesOn, asked, entries_since, halts_in, halts_of};
-ghost use Rattle.dr_meaning.specs.Calls.Replies.{unit_reply};
-ghost use Rattle.dr_lock.specs.Calls.Lock.{AfterWrites, AreWritten, IsAnswer, UnlessMemory, after_call, counted, no_calls, told_by};
-ghost use Rattle.dr_lock.specs.Inside.Locked.{AreWrites, IsCall, IsLacking, IsWrite};
-ghost use Rattle.dr_lock.specs.Inside.Weights.{most_calls, weight, weight_since};
+ghost use Rattle.dr_lock.specs.Meaning.History.{GoesOn, asked, entries_since, halts_in};
+ghost use Rattle.dr_lock.specs.Calls.Lock.{AfterWrites, AreWritten, IsAnswer, after_call, no_calls};
+ghost use Rattle.dr_lock.specs.Inside.Weights.{most_calls, weight};
 
-use crate::entry::is_kept;
+use crate::end::{End, Locked};
 use crate::exchange::Exchange;
 use crate::recorded::Recorded;
-use dr_meaning::{Command, Reply, Trouble, Wrote};
+use dr_meaning::{Command, Reply, Wrote};
 use std::alloc::AllocError;
 use std::marker::{Model, PhantomData};
-use std::snapshot::Snapshot;
-use std::sync::ledger::{Blank, Book, Ledger, Share};
+use std::sync::ledger::{Blank, Ledger, Share};
 use std::sync::{Mutex, Wait};
 
 /// How many ends a lock gives out at most.
 pub const MAX_ENDS: usize = 64;
-
-/// How many kept calls an end counts at most, so that all of them weigh less than one halt.
-const MOST_CALLS: u64 = 1 << 57;
-
-/// What lies under the lock: the history that the exchange began with, and since then as many calls,
-/// and as many halts among them, as the ledger says.
-#[derive(Drop)]
-struct Locked<E, L: Exchange<E>> {
-    recorded: Recorded<E>,
-    calls: Book<L>,
-    ghost goes_on: { GoesOn L.begun recorded.history },
-    ghost counted: { calls.total ≡ weight_since L.begun recorded.history },
-    ghost fits: { length recorded.history.entries < 2 ^ 64 },
-}
 
 /// The parts of the ledger that no end has.
 #[derive(Drop)]
@@ -75,165 +58,11 @@ impl<E, L: Exchange<E>> Model for Shared<E, L> {
     ghost invariant = { λ a. (a.rest.share.parts + a.given ≡ 65) × (a.rest.share.amount ≡ 0) × (a.begun ≡ length L.begun.entries) × (a.given ≤ 64) };
 }
 
-/// One thread's end of a shared history; the ledger ties it to that history alone. Contracts see how
-/// many of its calls were kept, and how many of these were halts. In the ledger a halt weighs more
-/// than all other calls could. They also see its last call, kept or not, with the answer: once the
-/// lock is open again no clause can speak of the shared history, but the end keeps what it asked.
-#[derive(Drop)]
-pub struct End<E, L: Ledger> {
-    share: Share<L>,
-    calls: u64,
-    halts: u64,
-    asked: Snapshot<Option<Command<E>>>,
-    answered: Snapshot<Option<Reply>>,
-}
-
-impl<E, L: Ledger> Model for End<E, L> {
-    ghost use Rattle.std.specs.Prelude.{◌≡◌, ◌≤◌};
-    ghost use Rattle.dr_lock.specs.Calls.Lock.{EndView};
-    ghost use Rattle.dr_lock.specs.Inside.Weights.{most_calls, weight};
-
-    ghost Value = { EndView E };
-
-    ghost view = { λ a. record { calls = a.calls; halts = a.halts; asked = a.asked.value; answered = a.answered.value } };
-
-    ghost invariant = { λ a. (a.share.parts ≡ 1) × (a.share.amount ≡ weight a.calls a.halts) × (a.halts ≤ a.calls) × (a.calls ≤ most_calls) };
-}
-
 /// What is handed back where an end is missing.
 #[derive(Drop)]
 pub struct Unfinished<E, L: Exchange<E>> {
     pub shared: Shared<E, L>,
     pub ends: Vec<End<E, L>>,
-}
-
-impl<E, L: Ledger> End<E, L> {
-    /// How many of its calls were kept.
-    pub fn calls(&self) -> u64
-        ensures { result ≡ self.now.calls }
-    {
-        self.calls
-    }
-
-    /// How many of its kept calls were halts.
-    pub fn halts(&self) -> u64
-        ensures { result ≡ self.now.halts }
-    {
-        self.halts
-    }
-}
-
-impl<E: Copy, L: Ledger> End<E, L> {
-    /// Counts a kept call, in the ledger too.
-    fn count(&mut self, ledger: &mut Book<L>, command: Command<E>)
-        requires { self.old.calls < most_calls }
-        ensures end { self.new ≡ counted command self.old }
-        ensures total { ledger.new.total ≡ ledger.old.total + weight 1 (halts_of command) }
-    {
-        let End {
-            share,
-            calls,
-            halts,
-            ..
-        } = self;
-        ledger.add(share, 1);
-        *calls += 1;
-        if let Command::Halt = command {
-            ledger.add(share, 1 << 63);
-            ledger.add(share, 1 << 63);
-            *halts += 1;
-        }
-    }
-
-    /// Remembers the last call, and what was answered to it.
-    fn remember(&mut self, command: Command<E>, reply: Option<Reply>)
-        ensures { self.new ≡ record self.old { asked = Some command; answered = reply } }
-    {
-        let End {
-            asked,
-            answered,
-            ..
-        } = self;
-        *asked = Snapshot::of(&Some(command));
-        *answered = Snapshot::of(&reply);
-    }
-}
-
-impl<E: Copy, L: Exchange<E>> Locked<E, L> {
-    /// The history's call, which the end counts where it is kept. Here the history is at hand, so its
-    /// clauses are exact of it.
-    fn call(
-        &mut self,
-        end: &mut End<E, L>,
-        command: Command<E>,
-        out: &mut [E],
-    ) -> Result<Reply, AllocError>
-        requires { asked command ≤ length out.old }
-        ensures answer { IfOk result (λ reply. IsAnswer L.begun command reply (take (count_in reply) out.new)) }
-        ensures call { IfOk result (λ reply. IsCall self.old.recorded command reply (take (count_in reply) out.new) self.new.recorded) }
-        ensures memory { OnErr result (IsLacking end.old.calls self.old.recorded command self.new.recorded) }
-        ensures rest { IfOk result (λ reply. drop (count_in reply) out.new ≡ drop (count_in reply) out.old) }
-        ensures unchanged { OnErr result (out.new ≡ out.old) }
-        ensures end { end.new ≡ after_call command (result_ok result) end.old }
-    {
-        if end.calls == MOST_CALLS {
-            end.remember(command, None);
-            return Err(AllocError);
-        }
-        let Locked { recorded, calls } = self;
-        match recorded.call(command, out) {
-            Ok(reply) => {
-                if is_kept(reply) {
-                    end.count(calls, command);
-                }
-                end.remember(command, Some(reply));
-                Ok(reply)
-            }
-            Err(fault) => {
-                end.remember(command, None);
-                Err(fault)
-            }
-        }
-    }
-
-    /// Writes the event of a claimed sequence.
-    fn write(&mut self, end: &mut End<E, L>, p: u64, s: u64, event: E) -> Result<(), Trouble>
-        ensures answer { UnlessMemory (λ answer. IsAnswer L.begun (Command.Write p s event) (unit_reply Reply.Written answer) []) result }
-        ensures call { IsWrite end.old.calls self.old.recorded p s event self.new.recorded result }
-        ensures end { end.new ≡ after_call (Command.Write p s event) (told_by (unit_reply Reply.Written) result) end.old }
-    {
-        match self.call(end, Command::Write { p, s, event }, &mut []) {
-            Ok(Reply::Written) => Ok(()),
-            Ok(Reply::Refused(refusal)) => Err(Trouble::Refused(refusal)),
-            Ok(_) => unreachable!(),
-            Err(_) => Err(Trouble::Memory),
-        }
-    }
-
-    /// Writes events to the sequences from `lo` on, until one is not written.
-    fn write_all(&mut self, end: &mut End<E, L>, p: u64, lo: u64, events: &[E]) -> Wrote
-        requires limit { lo + length events.now ≤ 2 ^ 62 }
-        ensures answer { AreWritten L.begun p lo events.now result }
-        ensures calls { AreWrites end.old.calls self.old.recorded p lo events.now self.new.recorded result }
-        ensures counts { (end.new.calls ≡ end.old.calls + result.count) × (end.new.halts ≡ end.old.halts) }
-        ensures end { AfterWrites end.old p lo events.now result end.new }
-    {
-        for (k, event) in events.iter().enumerate() {
-            match self.write(end, p, lo + k as u64, *event) {
-                Ok(()) => (),
-                Err(trouble) => {
-                    return Wrote {
-                        count: k,
-                        trouble: Some(trouble),
-                    };
-                }
-            }
-        }
-        Wrote {
-            count: events.len(),
-            trouble: None,
-        }
-    }
 }
 
 impl<E: Copy, L: Exchange<E>> Shared<E, L> {
@@ -281,13 +110,7 @@ impl<E: Copy, L: Exchange<E>> Shared<E, L> {
         }
         let share = self.rest.share.split_off(1, 0);
         self.given += 1;
-        Some(End {
-            share,
-            calls: 0,
-            halts: 0,
-            asked: Snapshot::of(&None),
-            answered: Snapshot::of(&None),
-        })
+        Some(End::new(share))
     }
 
     /// One call of the history, while the lock is held: it may wait for the lock. What it answers is
@@ -356,8 +179,7 @@ pub fn finish<E, L: Exchange<E>>(
     let Rest { share: mut all } = rest;
     let mut ends = ends;
     while let Some(end) = ends.pop() {
-        let End { share, .. } = end;
-        all.merge(share);
+        all.merge(end.into_share());
     }
     let Locked {
         recorded,

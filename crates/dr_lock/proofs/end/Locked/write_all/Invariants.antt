@@ -3,7 +3,7 @@ use Rattle.dr_meaning.specs.declared.command.Command.TheVariants.{Write}
 use Rattle.dr_meaning.specs.declared.command.Reply.TheVariants.{Written}
 use Rattle.dr_lock.specs.Calls.Lock.{IsAt, IsWritten, after_call, with_calls}
 use Rattle.dr_lock.specs.Inside.Locked.{AreCalls}
-use Rattle.dr_lock.proofs.shared.Locked.write_all.Given as goal
+use Rattle.dr_lock.proofs.end.Locked.write_all.Given as goal
 
 abbrev pub invariant-loop-k : goal.invariant-loop-k
 invariant-loop-k g l = record {

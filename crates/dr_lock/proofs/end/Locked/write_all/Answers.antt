@@ -2,7 +2,7 @@ use Rattle.std.proofs.Common.{◌+◌, ◌∙◌, ap, arith, length, refl, sym, 
 use Rattle.std.proofs.lemmas.Option.{slice_get_read}
 use Rattle.dr_lock.proofs.Asking.{write_tried}
 use Rattle.dr_lock.proofs.Locking.{all_done, calls_more, stopped, written_more}
-use Rattle.dr_lock.proofs.shared.Locked.write_all.Goals as goal
+use Rattle.dr_lock.proofs.end.Locked.write_all.Goals as goal
 
 pub loop-k-preserved : goal.loop-k-preserved
 loop-k-preserved g c =
