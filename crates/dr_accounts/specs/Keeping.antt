@@ -1,5 +1,5 @@
 -- What the worker of a handler gives back.
-use Rattle.std.specs.Prelude.{◌≡◌, ◌≢◌, ◌⊎◌, ◌<◌, ◌≤◌, ℕ, true, List, [], length, Option, None, Some, Result, Ok, Err, IfOk, string_bytes}
+use Rattle.std.specs.Prelude.{◌≡◌, ◌≢◌, ◌⊎◌, ◌≤◌, ℕ, true, List, [], length, Option, None, Some, Result, Ok, Err, IfOk, string_bytes}
 use Rattle.dr_seq.specs.declared.event.Event.{Event}
 use Rattle.dr_meaning.specs.declared.refusal.Refusal.{Refusal}
 use Rattle.dr_meaning.specs.Calls.Calling.{SomeCalls}
@@ -19,15 +19,13 @@ error_of (Err e) = Some e
 abbrev pub AnswersFor : Option WorkFault → Option WorkFault → Type 0
 AnswersFor fault answer = (answer ≡ fault) ⊎ (answer ≡ Some Memory)
 
--- a worker took a new handler through what its end handed out to a buffer with some room, came to its gate with each batch, and answers for what these calls came to: a refusal of the end, or a stop at the gate
+-- a worker took a new handler through what its end handed out to room for 256 events, came to its gate with each batch, and answers for what these calls came to: a refusal of the end, or a stop at the gate
 pub record IsServed {A : Type 0} (goes : Relation Event A) (IsNew : A → Type 0) (may_stop must_stop : ℕ → Type 0) (given back : ReceiverEnd) (answer : Option WorkFault) : Type 0 where
   pub start : A
   pub after : A
   pub fault : Option WorkFault
-  pub room : ℕ
-  pub some : 0 < room
   pub new : IsNew start
-  pub calls : SomeCalls receiver_does given back (Serves room goes start after (Some (received_of given.knows)) (Some (received_of back.knows)) may_stop must_stop fault)
+  pub calls : SomeCalls receiver_does given back (Serves 256 goes start after (Some (received_of given.knows)) (Some (received_of back.knows)) may_stop must_stop fault)
   pub answers : AnswersFor fault answer
 
 -- a worker gives back the end that it was given, and what it says is the part of the report of what that end received, which was told that the ring drained;

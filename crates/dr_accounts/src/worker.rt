@@ -73,9 +73,9 @@ impl<P: Reporter, G: Gate> Promise<Worked> for PartOf<P, G> {
     ghost kept_by = { λ p r. Keeps P.goes P.is_new P.part_of (G.may_stop p.gate.value p.who) (G.must_stop p.gate.value p.who) p.end.value r };
 }
 
-/// Takes a new handler through all events of an end, at most `room` of them and 256 at once, and at least one. A
-/// handler that finds no memory holds up no other worker: it goes on without taking any more. It parks
-/// where nothing comes, and rings the bell with each completion.
+/// Takes a new handler through all events of an end, up to 256 of them at once. A handler that finds
+/// no memory holds up no other worker: it goes on without taking any more. It parks where nothing
+/// comes, as one that has room for `room` of them, and rings the bell with each completion.
 pub fn work<R: Wait, G: Gate, P: Reporter>(
     rt: &R,
     gate: &G,
@@ -89,16 +89,15 @@ pub fn work<R: Wait, G: Gate, P: Reporter>(
 {
     let mut handler = P::begin(alloc);
     let mut buf = [Event::NONE; BATCH];
-    let room = room.min(BATCH).max(1);
     let mut outlet = Ringing::new(receiver, bell);
-    let mut parking = Parking::new(rt, bell, room as u64);
+    let mut parking = Parking::new(rt, bell, room.min(BATCH).max(1) as u64);
     let fault = consume_with(
         rt,
         &mut outlet,
         gate,
         who,
         &mut handler,
-        &mut buf[..room],
+        &mut buf,
         &mut parking,
     );
     let part = match (part(&handler, alloc), fault) {

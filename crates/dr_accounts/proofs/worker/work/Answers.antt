@@ -1,4 +1,4 @@
-use Rattle.std.proofs.Common.{◌≡◌, ◌<◌, ◌∙◌, ◌++◌, ℕ, zero, suc, List, [], ◌∷◌, Option, Some, Result, Err, IfOk, ap, arith, inl, inr, length, string_bytes, subst, sym, take, true}
+use Rattle.std.proofs.Common.{◌≡◌, ◌∙◌, ◌++◌, ℕ, List, [], Option, Some, Result, Err, IfOk, ap, arith, inl, inr, string_bytes, subst, sym, true}
 use Rattle.dr_seq.specs.declared.event.Event.{Event}
 use Rattle.dr_meaning.specs.Calls.Calling.{SomeCalls}
 use Rattle.dr_meaning.specs.Calls.Handling.{Relation}
@@ -20,20 +20,14 @@ stopped_by : {May : Type 0} (fault answer : Option WorkFault) → AnswersFor fau
 stopped_by fault answer (inl same) may is = may (sym same ∙ is)
 stopped_by fault answer (inr memory) may is = absurd (cc)
 
--- the front of a buffer has some room, where as much is asked for
-some_room : {X : Type 0} (room : ℕ) (buffer : List X) → 0 < room → 0 < length buffer → 0 < length (take room buffer)
-some_room room [] some there = absurd (omega arith)
-some_room zero (x ∷ buffer) some there = absurd (omega arith)
-some_room (suc room) (x ∷ buffer) some there = omega arith
-
 shown_all : (old new : List Event) (dealt : List Event) → old ≡ [] → new ≡ old ++ dealt → dealt ≡ new
 shown_all old new dealt none is = sym (is ∙ ap (λ l. l ++ dealt) none)
 
 served_by : {A : Type 0} {goes : Relation Event A} {IsNew : A → Type 0} {may_stop must_stop : ℕ → Type 0} {given back : ReceiverEnd} {answer : Option WorkFault}
-    (start after : A) (fault : Option WorkFault) (room : ℕ) → 0 < room → IsNew start → AnswersFor fault answer
-    → SomeCalls receiver_does given back (Serves room goes start after (Some (received_of given.knows)) (Some (received_of back.knows)) may_stop must_stop fault)
+    (start after : A) (fault : Option WorkFault) → IsNew start → AnswersFor fault answer
+    → SomeCalls receiver_does given back (Serves 256 goes start after (Some (received_of given.knows)) (Some (received_of back.knows)) may_stop must_stop fault)
     → IsServed goes IsNew may_stop must_stop given back answer
-served_by start after fault room some new answers calls = record { start = start; after = after; fault = fault; room = room; some = some; new = new; calls = calls; answers = answers }
+served_by start after fault new answers calls = record { start = start; after = after; fault = fault; new = new; calls = calls; answers = answers }
 
 pub returns : goal.returns
 returns g c =
@@ -49,7 +43,6 @@ returns g c =
       | in-Ok-None w ↦ inl (ap error_of w.part-is ∙ sym w.in-Ok-None.is-1)
     ]
     in
-    let room : 0 < c.max-room.result = omega (arith, c.max-room.ensures) in
     rw (c.into_end.ensures, ← c.new-outlet.ensures) (record {
       place = run.ensures.kept;
       told = λ none. elim c.match-part.branch [
@@ -71,6 +64,6 @@ returns g c =
             (subst (λ l. IfOk c.part.result (λ text. string_bytes text ≡ g.P.Reporter.part_of l)) all says))
       ];
       stopped = λ is. stopped_by run.result (error_of part) answers run.ensures.stopped (ap error_of is);
-      refused = never_refused _ _ _ _ _ _ _ _ run.result part (some_room _ _ room (omega arith)) answers serves;
-      served = served_by c.begin-handler.result run.new.handler run.result _ (some_room _ _ room (omega arith)) c.begin-handler.ensures.new answers serves;
+      refused = never_refused 256 _ _ _ _ _ _ _ run.result part (omega arith) answers serves;
+      served = served_by c.begin-handler.result run.new.handler run.result c.begin-handler.ensures.new answers serves;
     })
