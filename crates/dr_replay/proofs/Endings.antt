@@ -163,7 +163,8 @@ after_workers P endings scripts (fault.Worker who f) is = is
 after_workers P endings scripts (fault.Audit f) is = absurd (no_other endings (fault.Audit f) refl is)
 
 -- an audit refuses no worker
-pub audit_names_none : {A : Type 0} (P : History Event → Type 0) (scripts : List (List Event)) (r : Result A ReplayFault) → IfErr r (IsOfAudit P scripts) → IfErr r IsNoRefusal
+pub audit_names_none : {A : Type 0} (P : History Event → Type 0) (scripts : List (List Event)) (r : Result A ReplayFault)
+    → IfErr r (IsOfAudit P scripts) → IfErr r IsNoRefusal
 audit_names_none P scripts (Ok x) is = tt
 audit_names_none P scripts (Err (fault.File f)) is = tt
 audit_names_none P scripts (Err (fault.Worker who f)) is = absurd is

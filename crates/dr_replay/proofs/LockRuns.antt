@@ -1,5 +1,6 @@
 -- What a replay behind a lock came of, by what its workers promised.
-use Rattle.std.proofs.Common.{◌≡◌, ◌<◌, ℕ, List, [], ◌∷◌, length, map, get_or, Vec, Option, None, Result, Ok, Err, IfErr, IfOk, OnOk, ap, refl, subst, sym, ◌∙◌, arith}
+use Rattle.std.proofs.Common.{◌≡◌, ◌<◌, ℕ, List, [], ◌∷◌, length, map, get_or, Vec, Option, None, Result, Ok, Err, IfErr, IfOk, OnOk, ap}
+use Rattle.std.proofs.Common.{refl, subst, sym, ◌∙◌, arith}
 use Rattle.std.specs.Io.KnownBytes.{Appends}
 use Rattle.std.proofs.lemmas.List.{get_or-map, length-map}
 use Rattle.std.proofs.lemmas.List.FromFn.{get_or-map-range_with_len}
@@ -95,7 +96,8 @@ module _ {A : Type 0} (may_stop must_stop : ℕ → ℕ → Type 0) (size : ℕ)
   pub wrote_all : (said : A) → Appends old new (text_of said) → Said (Ok said) → LockRan may_stop must_stop size old new (Ok tt) events
   wrote_all said wrote (over, (fine, text, report, same)) = (over, (fine, text, report, subst (Appends old new) (sym same) wrote))
 
-  pub wrote_some : (said : A) → AppendsFront old new (text_of said) → Said (Ok said) → LockRan may_stop must_stop size old new (Err (fault.File file.Write)) events
+  pub wrote_some : (said : A) → AppendsFront old new (text_of said) → Said (Ok said)
+      → LockRan may_stop must_stop size old new (Err (fault.File file.Write)) events
   wrote_some said wrote (over, (fine, text, report, same)) = (over, (fine, text, report, subst (AppendsFront old new) (sym same) wrote))
 
   pub wrote_none : (e : ReplayFault) → Said (Err e) → LockRan may_stop must_stop size old new (Err e) events

@@ -298,7 +298,8 @@ pub fn replay_lock<S: Threads + Wait + Sync, R: Read, W: Write, G: Gate + Sync>(
     ensures refused { IfErr result IsNoRefusal }
     // A gate that has to stop a producer at its first turn, where that has an event, leaves no report.
     ensures stops { IfSome (R.remaining (inner_of reader.old)) (λ input. IfOk result (λ _. IfOk (events_in input) (NoProducerHadToStop (G.must_stop gate.now)))) }
-    // The file's events went through a new exchange of this size by workers that passed this gate; what is written, also before a failed write, is the report of that exchange's history, where none of them had a fault; and a worker's fault is the first of such workers'.
+    // The file's events went through a new exchange of this size by workers that passed this gate. What is written, also before a failed write,
+    // is the report of its history, where none of them had a fault; and a worker's fault is the first of theirs.
     ensures ran { IfSome (R.remaining (inner_of reader.old)) (λ input. IfOk (events_in input)
         (LockRan (G.may_stop gate.now) (G.must_stop gate.now) size (W.contents (inner_of writer.old)) (W.contents (inner_of writer.new)) result)) }
     // A failed read or write is answered where one failed, and nowhere else.

@@ -52,18 +52,25 @@ abbrev pub IsHistoryOf : {may_stop must_stop : ℕ → ℕ → Type 0} {size : �
 IsHistoryOf over h = GoesOnBy over.begun (length over.begun.entries) (halted_once ∷ over.journal ∷ over.replica ∷ over.business ∷ over.senders) h
 
 -- a report is written of what an audit finds of the history of a run, no worker of which had a fault
-abbrev pub Reports : {may_stop must_stop : ℕ → ℕ → Type 0} {size : ℕ} {events : List Event} → (List ℕ → Type 0) → JoinedOver may_stop must_stop size events → Type 0
-Reports {events = events} IsWritten over = (first_fault (endings_over over) ≡ None) × (text : List ℕ) × IsReportOfMerge (IsHistoryOf over) events text × IsWritten text
+abbrev pub Reports : {may_stop must_stop : ℕ → ℕ → Type 0} {size : ℕ} {events : List Event}
+    → (List ℕ → Type 0) → JoinedOver may_stop must_stop size events → Type 0
+Reports {events = events} IsWritten over =
+    (first_fault (endings_over over) ≡ None) × (text : List ℕ) × IsReportOfMerge (IsHistoryOf over) events text × IsWritten text
 
--- a report, also one whose write failed, is of the history of a run in which no worker had a fault; a worker's fault is the first of those of a run, and an audit's is found in the history of a run without such a fault; of a file's other faults and of memory nothing is said
-abbrev pub CameOfLock : {A : Type 0} → (ℕ → ℕ → Type 0) → (ℕ → ℕ → Type 0) → ℕ → (A → List ℕ → Type 0) → (List ℕ → Type 0) → Result A ReplayFault → List Event → Type 0
+-- a report, also one whose write failed, is of the history of a run in which no worker had a fault; a worker's fault is the first of those of a run,
+-- and an audit's is found in the history of a run without such a fault; of a file's other faults and of memory nothing is said
+abbrev pub CameOfLock : {A : Type 0} → (ℕ → ℕ → Type 0) → (ℕ → ℕ → Type 0) → ℕ → (A → List ℕ → Type 0) → (List ℕ → Type 0)
+    → Result A ReplayFault → List Event → Type 0
 CameOfLock may_stop must_stop size IsWritten IsBegun (Ok done) events = (over : JoinedOver may_stop must_stop size events) × Reports (IsWritten done) over
-CameOfLock may_stop must_stop size IsWritten IsBegun (Err (fault.Worker who f)) events = (over : JoinedOver may_stop must_stop size events) × IsFirstOf (endings_over over) (fault.Worker who f)
+CameOfLock may_stop must_stop size IsWritten IsBegun (Err (fault.Worker who f)) events =
+    (over : JoinedOver may_stop must_stop size events) × IsFirstOf (endings_over over) (fault.Worker who f)
 CameOfLock may_stop must_stop size IsWritten IsBegun (Err (fault.Audit f)) events =
     (over : JoinedOver may_stop must_stop size events) × (first_fault (endings_over over) ≡ None) × AuditFinds (IsHistoryOf over) (scripts_in events) f
-CameOfLock may_stop must_stop size IsWritten IsBegun (Err (fault.File file.Write)) events = (over : JoinedOver may_stop must_stop size events) × Reports IsBegun over
+CameOfLock may_stop must_stop size IsWritten IsBegun (Err (fault.File file.Write)) events =
+    (over : JoinedOver may_stop must_stop size events) × Reports IsBegun over
 CameOfLock may_stop must_stop size IsWritten IsBegun (Err (fault.File f)) events = Unit {0}
 
 -- what was written, or of it a beginning
 abbrev pub LockRan : (ℕ → ℕ → Type 0) → (ℕ → ℕ → Type 0) → ℕ → Option (List ℕ) → Option (List ℕ) → Result (Unit {0}) ReplayFault → List Event → Type 0
-LockRan may_stop must_stop size old new result events = CameOfLock may_stop must_stop size (λ done text. Appends old new text) (AppendsFront old new) result events
+LockRan may_stop must_stop size old new result events =
+    CameOfLock may_stop must_stop size (λ done text. Appends old new text) (AppendsFront old new) result events

@@ -21,7 +21,8 @@ pub record RunOver (may_stop must_stop : ℕ → ℕ → Type 0) (size : ℕ) (e
   pub ran : Ran
   pub run : IsRun may_stop must_stop size events sender journal replica business ran
 
--- a report, also one whose write failed, comes of a run in which each handler received these events and no worker had a fault, and a worker's fault is the first of those of a run; of a file's other faults and of memory nothing is said
+-- a report, also one whose write failed, comes of a run in which each handler received these events and no worker had a fault,
+-- and a worker's fault is the first of those of a run; of a file's other faults and of memory nothing is said
 abbrev pub CameOf : {A : Type 0} → (ℕ → ℕ → Type 0) → (ℕ → ℕ → Type 0) → ℕ → Result A ReplayFault → List Event → Type 0
 CameOf may_stop must_stop size (Ok done) events = (over : RunOver may_stop must_stop size events) × AreThrough events over.ran
 CameOf may_stop must_stop size (Err (fault.Worker who f)) events = (over : RunOver may_stop must_stop size events) × IsFirstOf (endings_of over.ran) (fault.Worker who f)

@@ -47,7 +47,8 @@ returns-clause-ran g c =
     let new = g.W.Write.contents (inner_of c.write_text.new.writer) in
     of_file (LockRan may must c.args.size old new (Ok tt)) (g.R.Read.remaining (inner_of c.args.reader.now)) c.as_slice.result.now c.in_ok-events.events.items
     c.as_slice.ensures.value c.in_ok-events.ensures.file
-    (wrote_all may must c.args.size (λ t. string_bytes t) old new c.as_slice.result.now c.in_ok-text.text (subst (Appends old new) c.as_bytes.ensures.value c.in_ok-write_text.ensures.0) c.in_ok-text.ensures.ran)
+    (wrote_all may must c.args.size (λ t. string_bytes t) old new c.as_slice.result.now c.in_ok-text.text
+    (subst (Appends old new) c.as_bytes.ensures.value c.in_ok-write_text.ensures.0) c.in_ok-text.ensures.ran)
 
 pub returns-in_err-write_text-clause-ran : goal.returns-in_err-write_text-clause-ran
 returns-in_err-write_text-clause-ran g c =
@@ -60,8 +61,10 @@ returns-in_err-write_text-clause-ran g c =
     at_exit c.from_residual-in_err-write_text.result (fault.File file.Write)
     (λ r. IfSome input (λ bytes. IfOk (events_of bytes) (LockRan may must c.args.size old new r)))
     c.from_residual-in_err-write_text.ensures.1
-    (of_file (LockRan may must c.args.size old new (Err (fault.File file.Write))) input c.as_slice.result.now c.in_ok-events.events.items c.as_slice.ensures.value c.in_ok-events.ensures.file
-    (wrote_some may must c.args.size (λ t. string_bytes t) old new c.as_slice.result.now c.in_ok-text.text (subst (AppendsFront old new) c.as_bytes.ensures.value c.in_err-write_text.ensures.0) c.in_ok-text.ensures.ran))
+    (of_file (LockRan may must c.args.size old new (Err (fault.File file.Write))) input c.as_slice.result.now c.in_ok-events.events.items
+    c.as_slice.ensures.value c.in_ok-events.ensures.file
+    (wrote_some may must c.args.size (λ t. string_bytes t) old new c.as_slice.result.now c.in_ok-text.text
+    (subst (AppendsFront old new) c.as_bytes.ensures.value c.in_err-write_text.ensures.0) c.in_ok-text.ensures.ran))
 
 pub returns-in_err-text-clause-ran : goal.returns-in_err-text-clause-ran
 returns-in_err-text-clause-ran g c =
@@ -70,5 +73,6 @@ returns-in_err-text-clause-ran g c =
     let may = g.G.Gate.may_stop gate in
     let must = g.G.Gate.must_stop gate in
     let old = g.W.Write.contents (inner_of c.args.writer.now) in
-    rw (p.1, p.2) (of_file (LockRan may must c.args.size old old (Err c.in_err-text.field-0.0)) (g.R.Read.remaining (inner_of c.args.reader.now)) c.as_slice.result.now c.in_ok-events.events.items
-    c.as_slice.ensures.value c.in_ok-events.ensures.file (wrote_none may must c.args.size (λ (t : String Global). string_bytes t) old old c.as_slice.result.now c.in_err-text.field-0.0 c.in_err-text.ensures.ran))
+    rw (p.1, p.2) (of_file (LockRan may must c.args.size old old (Err c.in_err-text.field-0.0)) (g.R.Read.remaining (inner_of c.args.reader.now))
+    c.as_slice.result.now c.in_ok-events.events.items c.as_slice.ensures.value c.in_ok-events.ensures.file
+    (wrote_none may must c.args.size (λ (t : String Global). string_bytes t) old old c.as_slice.result.now c.in_err-text.field-0.0 c.in_err-text.ensures.ran))

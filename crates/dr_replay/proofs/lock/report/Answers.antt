@@ -42,5 +42,7 @@ returns-clause-ran g c = λ sent are setup.
     let had = c.in_ok-ends.ensures.begun ∙ c.new-shared.ensures.begun ∙ ap (λ (h : History Event). length h.entries) c.requires.begun in
     let opened = sym (ap (λ (h : History Event). h.core.setup) c.requires.begun) ∙ setup in
     let fresh = sym (ap (λ (h : History Event). h.entries) c.requires.begun) ∙ c.requires.fresh in
-    came_of_lock (λ t. string_bytes t) (joined_over begun may must c.args.size c.args.scripts.now ran sent is are opened fresh) c.settled.result (map (λ v. v.items) c.args.scripts.now) are
-    (history_of begun may must c.args.size c.args.scripts.now ran sent is are opened fresh _ had) c.settled.ensures.fine (c.settled.ensures.text sent are) c.settled.ensures.first
+    came_of_lock (λ t. string_bytes t) (joined_over begun may must c.args.size c.args.scripts.now ran sent is are opened fresh) c.settled.result
+    (map (λ v. v.items) c.args.scripts.now) are
+    (history_of begun may must c.args.size c.args.scripts.now ran sent is are opened fresh _ had) c.settled.ensures.fine
+    (c.settled.ensures.text sent are) c.settled.ensures.first

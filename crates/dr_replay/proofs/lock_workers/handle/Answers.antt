@@ -22,7 +22,8 @@ gives_none list_in after part f is = subst (λ p. Gives after (list_of p list_in
 gives_all : {X A F : Type 0} (list_in : X → List Event) (after : Listed) (got : Result X A) (part : Result X F) (p : X) → got ≡ Ok p → part ≡ Ok p
     → IfOk got (λ x. list_in x ≡ after.list) → OnOk got (after.failed ≡ false) → Gives after (list_of part list_in)
 gives_all list_in after got part p found is list well =
-    subst (λ x. Gives after (list_of x list_in)) (sym is) (subst (λ x. OnOk x (after.failed ≡ false)) found well, subst (λ x. IfOk x (λ y. list_in y ≡ after.list)) found list)
+    subst (λ x. Gives after (list_of x list_in)) (sym is)
+    (subst (λ x. OnOk x (after.failed ≡ false)) found well, subst (λ x. IfOk x (λ y. list_in y ≡ after.list)) found list)
 
 pub returns : goal.returns
 returns g c =
@@ -54,6 +55,7 @@ returns g c =
         | in-Err-default w ↦ gives_none (λ part. part.list.items) run.new.handler c.match-part.part _ w.part-is
         | in-Ok-Some+in-Ok-this-2 w ↦ gives_none (λ part. part.list.items) run.new.handler c.match-part.part _ w.part-is
         | in-Ok-Some+in-Err-1 w ↦ gives_none (λ part. part.list.items) run.new.handler c.match-part.part _ w.part-is
-        | in-Ok-None w ↦ gives_all (λ part. part.list.items) run.new.handler c.part.result c.match-part.part _ w.in-Ok-None.is-0 w.part-is c.part.ensures.list c.part.ensures.well
+        | in-Ok-None w ↦ gives_all (λ part. part.list.items) run.new.handler c.part.result c.match-part.part _ w.in-Ok-None.is-0 w.part-is
+            c.part.ensures.list c.part.ensures.well
       ];
     }
