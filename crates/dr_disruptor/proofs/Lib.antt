@@ -3,6 +3,8 @@ pub mod Ready
 pub mod Fine
 pub mod Unrefused
 pub mod Whole
+pub mod Polled
+pub mod Shown
 pub mod Passing
 pub mod Sending
 pub mod Turning

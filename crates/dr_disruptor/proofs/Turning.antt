@@ -1,9 +1,9 @@
 -- A handler's turn, where events are there that it has not taken.
-use Rattle.std.proofs.Common.{◌≡◌, ◌≢◌, ◌≤◌, ◌<◌, ◌+◌, ◌-◌, ℕ, Bool, true, List, [], ◌∷◌, ◌++◌, length, take, drop, map, inl, inr, Some}
+use Rattle.std.proofs.Common.{◌≡◌, ◌≢◌, ◌≤◌, ◌<◌, ◌+◌, ◌-◌, ℕ, Bool, true, List, [], ◌∷◌, length, take, drop, map, inl, inr}
 use Rattle.std.proofs.Common.{slice_index, Result, Ok, Err, refl, sym, ap, ◌∙◌, subst, arith, get_or-set_same}
 use Rattle.std.specs.Prelude.{Contains, slice_set}
 use Rattle.std.proofs.lemmas.Bool.{cases_lt}
-use Rattle.std.proofs.lemmas.List.{append-nil, get_or-set_other, length-set}
+use Rattle.std.proofs.lemmas.List.{get_or-set_other, length-set}
 use Rattle.dr_seq.specs.declared.event.Event.{Event}
 use Rattle.dr_graph.specs.Meaning.Graph.{IsGraph, least_of, upstreams_of}
 use Rattle.dr_graph.proofs.Gating.{least_above_some}
@@ -14,16 +14,12 @@ use Rattle.dr_meaning.specs.declared.command.Polled.{Polled}
 use Rattle.dr_meaning.specs.declared.command.Polled.TheVariants as answer
 use Rattle.dr_meaning.specs.declared.refusal.Refusal.{Refusal}
 use Rattle.dr_core.specs.Calls.CoreView.{CoreView}
-use Rattle.dr_meaning.specs.Calls.Ends.{Received}
 use Rattle.dr_meaning.specs.Calls.Handling.{GoesThrough, Relation, showings}
 use Rattle.dr_core.specs.Calls.Turning.{TakesTurn}
 use Rattle.dr_core.specs.Calls.Shows.{IsStep}
 use Rattle.dr_meaning.specs.Meaning.Machine.{State, available, front, offered}
 use Rattle.dr_meaning.proofs.Leasts.{least_of-member}
-use Rattle.dr_workers.specs.Meaning.Work.{Dealt, Works}
-use Rattle.dr_workers.proofs.Working.{works_more}
 use Rattle.dr_disruptor.specs.OneThread.{Rests, far, passed, setup_here}
-use Rattle.dr_disruptor.specs.Running.{WentThrough}
 use Rattle.dr_disruptor.proofs.Passing.{Stepped, completes, front_below, next_is, polls, stepped}
 use Rattle.dr_disruptor.proofs.Sending.{far_not, far_turned}
 
@@ -46,22 +42,6 @@ offered_is m (u ∷ us) n here each =
     omega arith
 
 module _ {A : Type 0} (goes : Relation Event A) where
-  -- a handler that went through some events, and is shown more in one batch, went through all of them
-  pub went_more : (start before after : A) (events more : List Event) → WentThrough goes start before events → 0 < length more
-      → GoesThrough goes before (showings more (length events) true) after → WentThrough goes start after (events ++ more)
-  went_more start before after events more went any shown =
-      let batch : Dealt Event = record { first = length events; events = more; end = true } in
-      let nothing : Received Event = record { events = []; completed = 0 } in
-      let had : Received Event = record { events = events; completed = 0 } in
-      let has : Received Event = record { events = events ++ more; completed = 0 } in
-      let one : Works goes before after (Some had) (Some has) (batch ∷ []) = record {
-        through = rw (append-nil (showings more (length events) true)) shown;
-        handed = (rw (append-nil more) refl, (refl, any, tt));
-      } in
-      let so_far : Works goes start before (Some nothing) (Some had) went.batches = record { through = went.through; handed = (sym went.dealt, went.order) } in
-      let all = works_more goes start before after (Some nothing) (Some had) (Some has) went.batches (batch ∷ []) so_far one in
-      record { batches = went.batches ++ batch ∷ []; through = all.through; order = all.handed.1; dealt = sym all.handed.0 }
-
   -- what a handler goes through in its turn
   pub record TookTurn (graph : List (List ℕ)) (size : ℕ) (events : List Event) (h at sent : ℕ) (new : CoreView Event) (before after : A) : Type 0 where
     pub rests : Rests graph size events (h + 1) at sent new

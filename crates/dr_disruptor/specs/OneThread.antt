@@ -1,17 +1,17 @@
--- A run on one thread: how far the core and the handlers are.
-use Rattle.std.specs.Prelude.{◌≡◌, ℕ, ◌+◌, ◌^◌, ◌<◌, ◌≤◌, nat_lt, false, if◌then◌else◌, List, length, take, replicate, Option, None, Some, slice_index, slice_index_or, Result, Ok, Err}
+-- A run on one thread: what its handlers are shown, and how far they and the core are.
+use Rattle.std.specs.Prelude.{◌≡◌, ℕ, ◌+◌, ◌%◌, ◌^◌, ◌<◌, ◌==◌, ◌||◌, min, nat_lt, false, if◌then◌else◌, List, length, map, replicate, Option, None, Some, slice_index, slice_index_or, Result, Ok, Err}
+use Rattle.std.specs.List.{range_with_len}
 use mathlib.Core.Option.{some}
 use lib.ListN.{get_elem?}
 use Rattle.dr_seq.specs.declared.event.Event.{Event}
 use Rattle.dr_seq.specs.Event.{no_event}
 use Rattle.dr_graph.specs.Meaning.Graph.{nobody}
 use Rattle.dr_core.specs.Calls.CoreView.{CoreView}
-use Rattle.dr_meaning.specs.Calls.Handling.{Relation}
+use Rattle.dr_meaning.specs.Calls.Handling.{GoesThrough, Relation, Showing}
 use Rattle.dr_core.specs.Calls.Shows.{Shows}
 use Rattle.dr_meaning.specs.Meaning.Machine.{Setup, State}
 use Rattle.dr_meaning.specs.declared.mode.Mode.TheVariants.{Single}
 use Rattle.dr_meaning.specs.declared.refusal.Refusal.{Refusal}
-use Rattle.dr_disruptor.specs.Running.{AllWentThrough, WentThrough}
 
 -- one producer, and as many sequences as there may be
 abbrev pub setup_here : List (List ℕ) → ℕ → Setup
@@ -33,6 +33,23 @@ passed events claimed written published taken completed = record {
   retired = nobody;
 }
 
+-- what a handler is shown at a place of a script: the event there, with the place as its sequence; marked are the last event of each round of the ring, and the last of all
+abbrev pub shown_at : ℕ → List Event → ℕ → Showing Event
+shown_at size events s = record { event = slice_index_or events s no_event; sequence = s; end = ((s + 1) % size == 0) || (s + 1 == length events) }
+
+-- and at its first places, one after another
+abbrev pub shown_first : ℕ → List Event → ℕ → List (Showing Event)
+shown_first size events n = map (shown_at size events) (range_with_len 0 n)
+
+-- and at all of them
+abbrev pub shown_here : ℕ → List Event → List (Showing Event)
+shown_here size events = shown_first size events (length events)
+
+-- each handler went through exactly these calls, from the one that was given at its place
+pub record AllAreShown {A : Type 0} (goes : Relation Event A) (shown : List (Showing Event)) (starts afters : List A) : Type 0 where
+  pub many : length afters ≡ length starts
+  pub each : (h : ℕ) (start after : A) → get_elem? starts h ≡ some start → get_elem? afters h ≡ some after → GoesThrough goes start shown after
+
 -- how far a handler is, where the first so many had their turn, which took them from one count to another
 abbrev pub far : ℕ → ℕ → ℕ → ℕ → ℕ
 far turned at sent h = if nat_lt h turned then sent else at
@@ -46,18 +63,18 @@ pub record Rests (graph : List (List ℕ)) (size : ℕ) (events : List Event) (t
   pub shows : Shows core (passed events sent sent sent counts counts)
 
 -- each handler went through what it took
-pub record Along {A : Type 0} (goes : Relation Event A) (events : List Event) (starts : List A) (turned at sent : ℕ) (handlers : List A) : Type 0 where
+pub record Along {A : Type 0} (goes : Relation Event A) (size : ℕ) (events : List Event) (starts : List A) (turned at sent : ℕ) (handlers : List A) : Type 0 where
   pub many : length handlers ≡ length starts
   pub each : (h : ℕ) (start now : A) → get_elem? starts h ≡ some start → get_elem? handlers h ≡ some now
-      → WentThrough goes start now (take (far turned at sent h) events)
+      → GoesThrough goes start (shown_first size events (far turned at sent h)) now
 
--- some events are in a core that no handler took, and there was room for them
+-- a round of the ring begins, and as many events as fit are in a core that no handler took
 pub record AreOffered {A : Type 0} (goes : Relation Event A) (events : List Event) (starts : List A) (at sent : ℕ) (core : CoreView Event) (handlers : List A) : Type 0 where
   pub rests : Rests core.setup.upstreams core.setup.size events 0 at sent core
-  pub along : Along goes events starts 0 at sent handlers
+  pub along : Along goes core.setup.size events starts 0 at sent handlers
   pub some : at < sent
-  pub fits : sent ≤ at + core.setup.size
-  pub within : sent ≤ length events
+  pub round : at % core.setup.size ≡ 0
+  pub full : sent ≡ min (at + core.setup.size) (length events)
 
 -- no call is refused, and the next events are in the core
 abbrev pub SendsPart : {T : Type 0} → Result T Refusal → List (List ℕ) → ℕ → List Event → ℕ → ℕ → CoreView Event → Type 0
@@ -67,13 +84,13 @@ SendsPart (Err refusal) graph size events at sent core = ⊥
 -- no turn is refused, and each handler went through all that was sent
 pub record Turned {A : Type 0} (goes : Relation Event A) (graph : List (List ℕ)) (size : ℕ) (events : List Event) (starts : List A) (sent : ℕ) (core : CoreView Event) (handlers : List A) : Type 0 where
   pub rests : Rests graph size events 0 sent sent core
-  pub along : Along goes events starts 0 sent sent handlers
+  pub along : Along goes size events starts 0 sent sent handlers
 
 abbrev pub Turns : {A T : Type 0} → Result T Refusal → Relation Event A → List (List ℕ) → ℕ → List Event → List A → ℕ → CoreView Event → List A → Type 0
 Turns (Ok done) goes graph size events starts sent core handlers = Turned goes graph size events starts sent core handlers
 Turns (Err refusal) goes graph size events starts sent core handlers = ⊥
 
 -- no call is refused, and each handler went through all events
-abbrev pub PassesAll : {A T : Type 0} → Result T Refusal → Relation Event A → List Event → List A → List A → Type 0
-PassesAll (Ok done) goes events starts handlers = AllWentThrough goes events starts handlers
-PassesAll (Err refusal) goes events starts handlers = ⊥
+abbrev pub PassesAll : {A T : Type 0} → Result T Refusal → Relation Event A → ℕ → List Event → List A → List A → Type 0
+PassesAll (Ok done) goes size events starts handlers = AllAreShown goes (shown_here size events) starts handlers
+PassesAll (Err refusal) goes size events starts handlers = ⊥

@@ -3,8 +3,8 @@
 //! [`run`] makes the ring of a graph, starts a thread for each handler, sends a script from the calling thread,
 //! and hands back the handlers with how far each came ([`Ran`]). [`run_with`] leaves the sending to a closure,
 //! for events that come up while it runs. A [`WaitStrategy`] says how they wait for one another. [`run_here`] takes
-//! the handlers through a script on the calling thread alone. Begin with `specs/Running`: it says what each handler
-//! went through.
+//! the handlers through a script on the calling thread alone. Begin with `specs/Running`, and for `run_here` with
+//! `specs/OneThread`: they say what each handler went through.
 #![tactic(auto)]
 
 mod fault;

@@ -2,9 +2,8 @@
 
 ghost use Rattle.std.specs.Prelude.{◌≡◌, ◌<◌, ◌≤◌, ◌+◌, ◌^◌, ℕ, List, IfErr, IfOk, length};
 ghost use Rattle.dr_seq.specs.declared.event.Event.{Event};
-ghost use Rattle.dr_disruptor.specs.OneThread.{AreOffered, PassesAll, Rests, SendsPart, Turns};
+ghost use Rattle.dr_disruptor.specs.OneThread.{AllAreShown, AreOffered, PassesAll, Rests, SendsPart, Turns, shown_here};
 ghost use Rattle.dr_disruptor.specs.Refused.{refusal_of};
-ghost use Rattle.dr_disruptor.specs.Running.{AllWentThrough};
 
 use crate::fault::RunFault;
 use dr_core::Core;
@@ -55,7 +54,7 @@ fn pass<H: Handler<Event>>(
     requires many { length handlers.old ≡ length core.old.setup.upstreams }
     requires rests { Rests core.old.setup.upstreams core.old.setup.size script.now 0 0 0 core.old }
     requires limit { length script.now ≤ 2 ^ 62 }
-    ensures { PassesAll result H.goes script.now handlers.old handlers.new }
+    ensures { PassesAll result H.goes core.old.setup.size script.now handlers.old handlers.new }
 {
     let size = core.size().get() as usize;
     let mut at = 0;
@@ -81,8 +80,8 @@ pub fn run_here<H: Handler<Event> + Drop>(
     mut handlers: Vec<H>,
     script: &[Event],
 ) -> Result<Vec<H>, RunFault>
-    // Each handler went through exactly the script, and stands at its place.
-    ensures whole { IfOk result (λ after. AllWentThrough H.goes script.now handlers.items after.items) }
+    // Each handler went through exactly the script, a round of the ring at a time, and stands at its place.
+    ensures whole { IfOk result (λ after. AllAreShown H.goes (shown_here size script.now) handlers.items after.items) }
     ensures many { IfOk result (λ _. length handlers.items ≡ length graph.upstreams) }
     ensures refused { IfErr result (λ e. e ≡ refusal_of (length graph.upstreams) (length handlers.items)) }
 {

@@ -1,8 +1,7 @@
-use Rattle.std.proofs.Common.{◌≡◌, List, ap, arith, length, sym, subst}
+use Rattle.std.proofs.Common.{◌≡◌, ℕ, List, ap, arith, length, sym, subst}
 use Rattle.std.proofs.lemmas.List.{with_items_is}
 use Rattle.dr_meaning.specs.Meaning.Machine.{Setup}
-use Rattle.dr_disruptor.specs.OneThread.{Rests}
-use Rattle.dr_disruptor.specs.Running.{AllWentThrough}
+use Rattle.dr_disruptor.specs.OneThread.{AllAreShown, Rests, shown_here}
 use Rattle.dr_disruptor.proofs.Along.{rests_first}
 use Rattle.dr_disruptor.proofs.one_thread.run_here.Goals as goal
 
@@ -21,5 +20,7 @@ returns-clause-whole g c =
     let kept = c.args.handlers.ok.0 in
     let many = went.many in
     let len : length c.pass.new.handlers ≡ c.args.handlers.len = omega arith in
-    subst (λ (l : List g.row.H.Denot). AllWentThrough g.H.Handler.goes c.args.script.now c.args.handlers.items l) (sym (with_items_is c.args.handlers c.pass.new.handlers len))
-    (subst (λ (l : List g.row.H.Denot). AllWentThrough g.H.Handler.goes c.args.script.now l c.pass.new.handlers) same went)
+    let ring : c.in_ok-core.core.setup.size ≡ c.args.size = ap (λ (s : Setup). s.size) c.in_ok-core.ensures.setup in
+    subst (λ (l : List g.row.H.Denot). AllAreShown g.H.Handler.goes (shown_here c.args.size c.args.script.now) c.args.handlers.items l) (sym (with_items_is c.args.handlers c.pass.new.handlers len))
+    (subst (λ (n : ℕ). AllAreShown g.H.Handler.goes (shown_here n c.args.script.now) c.args.handlers.items c.pass.new.handlers) ring
+    (subst (λ (l : List g.row.H.Denot). AllAreShown g.H.Handler.goes (shown_here c.in_ok-core.core.setup.size c.args.script.now) l c.pass.new.handlers) same went))
