@@ -3,10 +3,8 @@ pub mod Graphs
 pub mod Hexadecimal
 pub mod Moving
 pub mod Parts
-pub mod Passing
 pub mod Reports
 pub mod Rounds
 pub mod Sending
 pub mod Shown
-pub mod Turning
 pub mod Refusing

@@ -16,7 +16,7 @@ use Rattle.dr_accounts.specs.Accounts.{balance_by, balance_of, balances_after, i
 use Rattle.dr_accounts.specs.Handlers.{Books, Copies, Goes, IsBusinessOf, IsJournalOf, IsReplicaOf, Journals, balance_in, kept}
 use Rattle.dr_accounts.specs.Operations.{movement_of}
 use Rattle.dr_accounts.specs.Report.{journal_from, journal_line, replica_line}
-use Rattle.dr_accounts.proofs.Passing.{funext}
+use Rattle.dr_core.proofs.Passing.{funext}
 
 -- what one call keeps, a batch keeps
 pub along : {A : Type 0} (goes : Relation Event A) (Has : A → List Event → Type 0)

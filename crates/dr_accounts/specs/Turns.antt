@@ -2,16 +2,15 @@
 use Rattle.std.specs.Prelude.{◌≡◌, ◌<◌, ◌≤◌, ◌+◌, ℕ, false, List, take, length, Result, Ok, Err}
 use Rattle.dr_seq.specs.declared.event.Event.{Event}
 use Rattle.dr_core.specs.Calls.CoreView.{CoreView}
-use Rattle.dr_core.specs.Calls.Shows.{Shows}
+use Rattle.dr_core.specs.Calls.Passing.{Holds}
 use Rattle.dr_meaning.specs.declared.refusal.Refusal.{Refusal}
 use Rattle.dr_accounts.specs.declared.handlers.Handlers.{Handlers}
 use Rattle.dr_accounts.specs.Handlers.{IsBusinessOf, IsJournalOf, IsReplicaOf}
-use Rattle.dr_accounts.specs.Passing.{each, passed, replay_setup}
+use Rattle.dr_accounts.specs.Passing.{each, replay_graph}
 
 -- the first events of a list went into an exchange, and each handler is done with as many of them as it took
-pub record Rests (size : ℕ) (events : List Event) (sent : ℕ) (counts : List ℕ) (v : CoreView Event) : Type 0 where
-  pub setup : v.setup ≡ replay_setup size
-  pub shows : Shows v (passed events sent sent sent counts counts)
+abbrev pub Rests : ℕ → List Event → ℕ → List ℕ → CoreView Event → Type 0
+Rests size events sent counts v = Holds replay_graph size events sent sent sent counts counts v
 
 -- no call is refused, and the next events are in the exchange
 abbrev pub SendsStretch : {A : Type 0} → Result A Refusal → ℕ → List Event → ℕ → ℕ → CoreView Event → Type 0

@@ -13,3 +13,5 @@ pub mod InOrder
 pub mod Retiring
 pub mod Going
 pub mod Turns
+pub mod Passing
+pub mod Rounds

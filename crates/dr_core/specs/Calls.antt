@@ -4,3 +4,4 @@ pub mod Shows
 pub mod Reached
 pub mod Going
 pub mod Turning
+pub mod Passing

@@ -9,10 +9,11 @@ use Rattle.dr_runs.proofs.Elements.{at_below, each_set}
 use Rattle.dr_seq.specs.declared.event.Event.{Event}
 use Rattle.dr_core.specs.Calls.CoreView.{CoreView}
 use Rattle.dr_meaning.specs.Calls.Handling.{GoesThrough, Relation, showings}
+use Rattle.dr_core.specs.Calls.Passing.{single_setup, written_below}
 use Rattle.dr_core.specs.Calls.Shows.{Shows}
+use Rattle.dr_core.proofs.Passing.{funext}
 use Rattle.dr_meaning.specs.Meaning.Machine.{Setup, State, opening}
-use Rattle.dr_disruptor.specs.OneThread.{AllAreShown, Along, AreOffered, Rests, far, setup_here, shown_first, shown_here, written_below}
-use Rattle.dr_disruptor.proofs.Passing.{funext}
+use Rattle.dr_disruptor.specs.OneThread.{AllAreShown, Along, AreOffered, Rests, far, shown_first, shown_here}
 use Rattle.dr_disruptor.proofs.Sending.{far_not, far_turned}
 use Rattle.dr_disruptor.proofs.Shown.{went_round}
 use Rattle.dr_disruptor.proofs.Turning.{far_other}
@@ -20,19 +21,21 @@ use Rattle.dr_disruptor.proofs.Turning.{far_other}
 -- Of the core.
 
 -- nothing was sent
-pub rests_first : (graph : List (List ℕ)) (size : ℕ) (events : List Event) (core : CoreView Event) → core.setup ≡ setup_here graph size → Shows core (opening (setup_here graph size))
+pub rests_first : (graph : List (List ℕ)) (size : ℕ) (events : List Event) (core : CoreView Event) → core.setup ≡ single_setup graph size → Shows core (opening (single_setup graph size))
     → Rests graph size events 0 0 0 core
 rests_first graph size events core setup shows =
-    let first : State Event = opening (setup_here graph size) in
+    let first : State Event = opening (single_setup graph size) in
     let written : first.written ≡ written_below events 0 = funext first.written (written_below events 0) (λ s. sym (cond-false _ _ _ (le-ltb s 0 (omega arith)))) in
     let published : first.published ≡ (λ s. nat_lt s 0) = funext first.published (λ s. nat_lt s 0) (λ s. sym (le-ltb s 0 (omega arith))) in
     record {
       counts = replicate (length graph) 0;
       many = length-replicate (length graph) 0;
       each = λ h inside. get_or-replicate (length graph) h 0 0 inside ∙ sym (far_not 0 0 0 h (omega arith));
-      setup = setup;
-      shows = subst (λ (p : ℕ → Bool). Shows core (record first { written = written_below events 0; published = p })) published
-          (subst (λ (w : ℕ → Option Event). Shows core (record first { written = w })) written shows);
+      holds = record {
+        setup = setup;
+        shows = subst (λ (p : ℕ → Bool). Shows core (record first { written = written_below events 0; published = p })) published
+            (subst (λ (w : ℕ → Option Event). Shows core (record first { written = w })) written shows);
+      };
     }
 
 -- each handler had its turn
@@ -42,8 +45,7 @@ rests_level graph size events turned at sent core all rests = record {
   counts = rests.counts;
   many = rests.many;
   each = λ h inside. rests.each h inside ∙ far_turned turned at sent h (omega arith) ∙ sym (far_not 0 sent sent h (omega arith));
-  setup = rests.setup;
-  shows = rests.shows;
+  holds = rests.holds;
 }
 
 -- Of the handlers.
@@ -96,14 +98,14 @@ module _ {A : Type 0} (goes : Relation Event A) (size : ℕ) (events : List Even
   pub offered : (graph : List (List ℕ)) (slots : ℕ) (starts handlers : List A) (at sent : ℕ) (core : CoreView Event) → Rests graph slots events 0 at sent core → slots ≡ size
       → Along goes size events starts 0 at at handlers → at < sent → at % size ≡ 0 → sent ≡ min (at + size) (length events) → AreOffered goes events starts at sent core handlers
   offered graph slots starts handlers at sent core rests is_size along fresh round full =
-      let same : size ≡ core.setup.size = sym is_size ∙ ap (λ (c : Setup). c.size) (sym rests.setup) in
+      let same : size ≡ core.setup.size = sym is_size ∙ ap (λ (c : Setup). c.size) (sym rests.holds.setup) in
       let still : Along goes size events starts 0 at sent handlers = record {
         many = along.many;
         each = λ h start now has is.
             subst (λ (n : ℕ). GoesThrough goes start (shown_first size events n) now) (far_not 0 at at h (omega arith) ∙ sym (far_not 0 at sent h (omega arith))) (along.each h start now has is);
       } in
       record {
-        rests = subst (λ (c : Setup). Rests c.upstreams c.size events 0 at sent core) (sym rests.setup) rests;
+        rests = subst (λ (c : Setup). Rests c.upstreams c.size events 0 at sent core) (sym rests.holds.setup) rests;
         along = subst (λ (n : ℕ). Along goes n events starts 0 at sent handlers) same still;
         some = fresh;
         round = subst (λ (n : ℕ). at % n ≡ 0) same round;

@@ -5,7 +5,6 @@ pub mod Unrefused
 pub mod Whole
 pub mod Polled
 pub mod Shown
-pub mod Passing
 pub mod Sending
 pub mod Turning
 pub mod Along

@@ -1,5 +1,5 @@
 -- The calls that put a part of a script into a core: none is refused.
-use Rattle.std.proofs.Common.{◌≡◌, ◌≤◌, ◌<◌, ◌+◌, ◌-◌, ◌^◌, ℕ, List, [], length, slice_index, Result, Ok, Err, refl, sym, subst, arith, ◌∙◌}
+use Rattle.std.proofs.Common.{◌≡◌, ◌≤◌, ◌<◌, ◌+◌, ◌-◌, ◌^◌, ℕ, List, [], length, slice_index, Result, Ok, Err, refl, sym, arith, ◌∙◌}
 use Rattle.std.specs.Prelude.{slice_index_or}
 use Rattle.std.proofs.lemmas.Bool.{cond-false, cond-true, le-ltb, lt-ltb}
 use Rattle.dr_seq.specs.declared.event.Event.{Event}
@@ -7,15 +7,15 @@ use Rattle.dr_seq.specs.Event.{no_event}
 use Rattle.dr_graph.specs.Meaning.Graph.{IsGraph, finals_without, nobody}
 use Rattle.dr_graph.proofs.Gating.{final_left, least_above_some}
 use Rattle.dr_meaning.specs.declared.command.Command.TheVariants.{Claim, Publish, Write}
-use Rattle.dr_meaning.specs.declared.command.Reply.{Reply}
 use Rattle.dr_meaning.specs.declared.command.Reply.TheVariants.{Claimed, Published, Refused, Written}
 use Rattle.dr_meaning.specs.declared.refusal.Refusal.{Refusal}
 use Rattle.dr_core.specs.Calls.CoreView.{CoreView}
-use Rattle.dr_core.specs.Calls.Shows.{IsStep, Shows}
+use Rattle.dr_core.specs.Calls.Shows.{IsStep}
 use Rattle.dr_meaning.specs.Calls.Replies.{unit_reply}
 use Rattle.dr_meaning.specs.Meaning.Machine.{least_completed}
-use Rattle.dr_disruptor.specs.OneThread.{Rests, SendsPart, far, passed, setup_here}
-use Rattle.dr_disruptor.proofs.Passing.{claims, publishes, stepped, writes}
+use Rattle.dr_core.specs.Calls.Passing.{Holds, passed}
+use Rattle.dr_core.proofs.Rounds as core
+use Rattle.dr_disruptor.specs.OneThread.{Rests, SendsPart, far}
 
 -- how far a handler is that had its turn, and one that had none
 
@@ -30,8 +30,7 @@ pub record InHand (graph : List (List ℕ)) (size : ℕ) (events : List Event) (
   pub counts : List ℕ
   pub many : length counts ≡ length graph
   pub each : (h : ℕ) → h < length graph → slice_index counts h ≡ at
-  pub setup : core.setup ≡ setup_here graph size
-  pub shows : Shows core (passed events claimed written at counts counts)
+  pub holds : Holds graph size events claimed written at counts counts core
 
 -- where every handler is that far, so is the least final one
 gated : (graph : List (List ℕ)) (events : List Event) (claimed written at : ℕ) (counts : List ℕ) → IsGraph graph → ((h : ℕ) → h < length graph → slice_index counts h ≡ at)
@@ -49,55 +48,26 @@ module _ (old new : CoreView Event) (graph : List (List ℕ)) (size : ℕ) (even
       → (lo ≡ at) × (hi ≡ at + n - 1) × InHand graph size events (at + n) at at new
   claim_ok lo hi is_graph rests some fits limit is =
       let each = level rests in
-      let s = stepped old new (Claim 0 n) (Claimed lo hi) [] (setup_here graph size) (passed events at at at rests.counts rests.counts) _ is rests.setup rests.shows
-      (claims graph events size at n rests.counts (gated graph events at at at rests.counts is_graph each) some fits limit) in
-      let same : ◌≡◌ {A = Reply} (Claimed at (at + n - 1)) (Claimed lo hi) = s.replies in
-      ((let low : lo ≡ at = cc in low), (let high : hi ≡ at + n - 1 = cc in high), record { counts = rests.counts; many = rests.many; each = each; setup = s.setup; shows = s.shows })
+      let (low, high, holds) = core.claim_ok old new graph size events at n rests.counts lo hi (gated graph events at at at rests.counts is_graph each) rests.holds some fits limit is in
+      (low, high, record { counts = rests.counts; many = rests.many; each = each; holds = holds })
 
   pub claim_err : (r : Refusal) → IsGraph graph → Rests graph size events 0 at at old → 0 < n → n ≤ size → at + n ≤ 2 ^ 62 → IsStep old (Claim 0 n) (Refused r) [] new → ⊥
   claim_err r is_graph rests some fits limit is =
-      let each = level rests in
-      let s = stepped old new (Claim 0 n) (Refused r) [] (setup_here graph size) (passed events at at at rests.counts rests.counts) _ is rests.setup rests.shows
-      (claims graph events size at n rests.counts (gated graph events at at at rests.counts is_graph each) some fits limit) in
-      let same : ◌≡◌ {A = Reply} (Claimed at (at + n - 1)) (Refused r) = s.replies in
-      (let clash : ⊥ = cc in clash)
+      core.claim_err old new graph size events at n rests.counts r (gated graph events at at at rests.counts is_graph (level rests)) rests.holds some fits limit is
 
   pub write_ok : (w : ℕ) (e : Event) → InHand graph size events (at + n) w at old → at ≤ w → w < at + n → e ≡ slice_index_or events w no_event → IsStep old (Write 0 w e) Written [] new
       → InHand graph size events (at + n) (w + 1) at new
-  write_ok w e hand low high here is =
-      let s = stepped old new (Write 0 w e) Written [] (setup_here graph size) (passed events (at + n) w at hand.counts hand.counts) _ is hand.setup hand.shows
-      (writes graph events size (at + n) w at hand.counts hand.counts e low high here) in
-      record { counts = hand.counts; many = hand.many; each = hand.each; setup = s.setup; shows = s.shows }
+  write_ok w e hand low high here is = record { counts = hand.counts; many = hand.many; each = hand.each; holds = core.write_ok old new graph size events at n hand.counts w e hand.holds low high here is }
 
   pub write_err : (w : ℕ) (e : Event) (r : Refusal) → InHand graph size events (at + n) w at old → at ≤ w → w < at + n → e ≡ slice_index_or events w no_event → IsStep old (Write 0 w e) (Refused r) [] new → ⊥
-  write_err w e r hand low high here is =
-      let s = stepped old new (Write 0 w e) (Refused r) [] (setup_here graph size) (passed events (at + n) w at hand.counts hand.counts) _ is hand.setup hand.shows
-      (writes graph events size (at + n) w at hand.counts hand.counts e low high here) in
-      let same : ◌≡◌ {A = Reply} Written (Refused r) = s.replies in
-      (let clash : ⊥ = cc in clash)
-
-  publish_ok : (hi : ℕ) → hi ≡ at + n - 1 → InHand graph size events (at + n) (at + n) at old → 0 < n → IsStep old (Publish 0 at hi) Published [] new → Rests graph size events 0 at (at + n) new
-  publish_ok hi high hand some is =
-      let is_at = subst (λ h. IsStep old (Publish 0 at h) Published [] new) high is in
-      let s = stepped old new (Publish 0 at (at + n - 1)) Published [] (setup_here graph size) (passed events (at + n) (at + n) at hand.counts hand.counts) _ is_at hand.setup hand.shows
-      (publishes graph events size at n hand.counts hand.counts some) in
-      record {
-        counts = hand.counts;
-        many = hand.many;
-        each = λ h inside. hand.each h inside ∙ sym (far_not 0 at (at + n) h (omega arith));
-        setup = s.setup;
-        shows = s.shows;
-      }
-
-  publish_err : (hi : ℕ) (r : Refusal) → hi ≡ at + n - 1 → InHand graph size events (at + n) (at + n) at old → 0 < n → IsStep old (Publish 0 at hi) (Refused r) [] new → ⊥
-  publish_err hi r high hand some is =
-      let is_at = subst (λ h. IsStep old (Publish 0 at h) (Refused r) [] new) high is in
-      let s = stepped old new (Publish 0 at (at + n - 1)) (Refused r) [] (setup_here graph size) (passed events (at + n) (at + n) at hand.counts hand.counts) _ is_at hand.setup hand.shows
-      (publishes graph events size at n hand.counts hand.counts some) in
-      let same : ◌≡◌ {A = Reply} Published (Refused r) = s.replies in
-      (let clash : ⊥ = cc in clash)
+  write_err w e r hand low high here is = core.write_err old new graph size events at n hand.counts w e r hand.holds low high here is
 
   pub publish_any : (result : Result (Unit {0}) Refusal) (hi : ℕ) → hi ≡ at + n - 1 → InHand graph size events (at + n) (at + n) at old → 0 < n
       → IsStep old (Publish 0 at hi) (unit_reply Published result) [] new → SendsPart result graph size events at (at + n) new
-  publish_any (Ok done) hi high hand some is = publish_ok hi high hand some is
-  publish_any (Err r) hi high hand some is = absurd (publish_err hi r high hand some is)
+  publish_any (Ok done) hi high hand some is = record {
+    counts = hand.counts;
+    many = hand.many;
+    each = λ h inside. hand.each h inside ∙ sym (far_not 0 at (at + n) h (omega arith));
+    holds = core.publish_ok old new graph size events at n hand.counts hi high hand.holds some is;
+  }
+  publish_any (Err r) hi high hand some is = absurd (core.publish_err old new graph size events at n hand.counts hi r high hand.holds some is)

@@ -1,26 +1,23 @@
 -- A handler's turn, where events are there that it has not taken.
-use Rattle.std.proofs.Common.{◌≡◌, ◌≢◌, ◌≤◌, ◌<◌, ◌+◌, ◌-◌, ℕ, Bool, true, List, [], ◌∷◌, length, take, drop, map, inl, inr}
-use Rattle.std.proofs.Common.{slice_index, Result, Ok, Err, refl, sym, ap, ◌∙◌, subst, arith, get_or-set_same}
+use Rattle.std.proofs.Common.{◌≡◌, ◌≢◌, ◌≤◌, ◌<◌, ◌+◌, ◌-◌, ℕ, true, List, [], ◌∷◌, length, take, drop, map, inl, inr, slice_index, Result, Err, refl, sym, ◌∙◌, arith, get_or-set_same}
 use Rattle.std.specs.Prelude.{Contains, slice_set}
 use Rattle.std.proofs.lemmas.Bool.{cases_lt}
 use Rattle.std.proofs.lemmas.List.{get_or-set_other, length-set}
 use Rattle.dr_seq.specs.declared.event.Event.{Event}
 use Rattle.dr_graph.specs.Meaning.Graph.{IsGraph, least_of, upstreams_of}
 use Rattle.dr_graph.proofs.Gating.{least_above_some}
-use Rattle.dr_meaning.specs.declared.command.Command.TheVariants.{Complete, Poll}
-use Rattle.dr_meaning.specs.declared.command.Reply.{Reply}
-use Rattle.dr_meaning.specs.declared.command.Reply.TheVariants.{Batch, Completed, Drained, Gating, Idle, Refused}
 use Rattle.dr_meaning.specs.declared.command.Polled.{Polled}
-use Rattle.dr_meaning.specs.declared.command.Polled.TheVariants as answer
 use Rattle.dr_meaning.specs.declared.refusal.Refusal.{Refusal}
-use Rattle.dr_core.specs.Calls.CoreView.{CoreView}
 use Rattle.dr_meaning.specs.Calls.Handling.{GoesThrough, Relation, showings}
-use Rattle.dr_core.specs.Calls.Turning.{TakesTurn}
-use Rattle.dr_core.specs.Calls.Shows.{IsStep}
 use Rattle.dr_meaning.specs.Meaning.Machine.{State, available, front, offered}
 use Rattle.dr_meaning.proofs.Leasts.{least_of-member}
-use Rattle.dr_disruptor.specs.OneThread.{Rests, far, passed, setup_here}
-use Rattle.dr_disruptor.proofs.Passing.{Stepped, completes, front_below, next_is, polls, stepped}
+use Rattle.dr_core.specs.Calls.CoreView.{CoreView}
+use Rattle.dr_core.specs.Calls.Passing.{passed, single_setup}
+use Rattle.dr_core.specs.Calls.Turning.{TakesTurn}
+use Rattle.dr_core.proofs.Passing.{front_below, next_is}
+use Rattle.dr_core.proofs.Rounds.{CanTurn}
+use Rattle.dr_core.proofs.Rounds as core
+use Rattle.dr_disruptor.specs.OneThread.{Rests, far}
 use Rattle.dr_disruptor.proofs.Sending.{far_not, far_turned}
 
 -- another handler is as far after a turn as before it
@@ -56,23 +53,13 @@ module _ {A : Type 0} (goes : Relation Event A) where
     counted = (let many = rests.many in omega arith)
 
     -- its upstreams had their turns
-    offers : available (setup_here graph size) (passed events sent sent sent rests.counts rests.counts) h ≡ sent
+    offers : available (single_setup graph size) (passed events sent sent sent rests.counts rests.counts) h ≡ sent
     offers = offered_is (passed events sent sent sent rests.counts rests.counts) (upstreams_of graph h) sent
         (rw (next_is events sent sent sent rests.counts rests.counts) (front_below sent sent (omega arith)))
         (λ u has. let before_it : u < h = is_graph.layered h u has in rests.each u (omega arith) ∙ far_turned h at sent u before_it)
 
-    ring : old.setup.size ≡ size
-    ring = ap (λ s. s.size) rests.setup
-
-    -- the machine's answer
-    answers : (reply : Reply) (values : List Event) (polled : CoreView Event) → IsStep old (Poll h old.setup.size) reply values polled
-        → Stepped (record { reply = Batch at (sent - at) true; values = take (sent - at) (drop at events); state = passed events sent sent sent (slice_set rests.counts h sent) rests.counts }) reply values (setup_here graph size) polled
-    answers reply values polled is =
-        let same = ring in
-        let open_room : 0 < old.setup.size = omega arith in
-        let enough : sent - at ≤ old.setup.size = omega arith in
-        stepped old polled (Poll h old.setup.size) reply values (setup_here graph size) (passed events sent sent sent rests.counts rests.counts) _ is rests.setup rests.shows
-        (polls graph events size sent at h old.setup.size rests.counts inside open_room here offers fresh enough within)
+    can : CanTurn graph size events at sent h rests.counts old
+    can = record { holds = rests.holds; handler = inside; counted = counted; taken = here; offered = offers; some = fresh; fits = fits; within = within }
 
     -- the counts after it
     each_after : (k : ℕ) → k < length graph → slice_index (slice_set rests.counts h sent) k ≡ far (h + 1) at sent k
@@ -84,33 +71,13 @@ module _ {A : Type 0} (goes : Relation Event A) where
       ]
     ]
 
-    batch_turn : (first count : ℕ) (end : Bool) (values : List Event) → TakesTurn goes old h old.setup.size (Ok (answer.Batch first count end)) values new before after
-        → TookTurn graph size events h at sent new before after
-    batch_turn first count end values turn =
-        let polled = answers (Batch first count end) values turn.0 turn.1 in
-        let same : ◌≡◌ {A = Reply} (Batch at (sent - at) true) (Batch first count end) = polled.replies in
-        let first_is : first ≡ at = cc in
-        let count_is : count ≡ sent - at = cc in
-        let end_is : end ≡ true = cc in
-        let upto : first + count ≡ sent = omega arith in
-        let complete = subst (λ c. IsStep turn.0 (Complete h c) Completed [] new) upto turn.2 in
-        let done = stepped turn.0 new (Complete h sent) Completed [] (setup_here graph size) (passed events sent sent sent (slice_set rests.counts h sent) rests.counts) _ complete polled.setup polled.shows
-        (completes graph events size sent at h rests.counts inside counted here fresh) in
-        let shown : showings values first end ≡ showings (take (sent - at) (drop at events)) at true =
-        ap (λ v. showings v first end) (sym polled.hands_out) ∙ ap (λ f. showings (take (sent - at) (drop at events)) f end) first_is ∙ ap (λ b. showings (take (sent - at) (drop at events)) at b) end_is in
+    pub took_turn : (result : Result Polled Refusal) (values : List Event) → TakesTurn goes old h old.setup.size result values new before after → TookTurn graph size events h at sent new before after
+    took_turn result values turn =
+        let took = core.took_turn goes graph size events at sent h rests.counts old new before after can result values turn in
         record {
-          rests = record { counts = slice_set rests.counts h sent; many = length-set rests.counts h sent ∙ rests.many; each = each_after; setup = done.setup; shows = done.shows };
-          went = subst (λ l. GoesThrough goes before l after) shown turn.3;
+          rests = record { counts = slice_set rests.counts h sent; many = length-set rests.counts h sent ∙ rests.many; each = each_after; holds = took.holds };
+          went = took.went;
         }
 
-    -- it is a batch
-    pub took_turn : (result : Result Polled Refusal) (values : List Event) → TakesTurn goes old h old.setup.size result values new before after → TookTurn graph size events h at sent new before after
-    took_turn (Ok (answer.Batch first count end)) values turn = batch_turn first count end values turn
-    took_turn (Ok answer.Drained) values turn = let clash : ◌≡◌ {A = Reply} (Batch at (sent - at) true) Drained = (answers Drained [] new turn.0).replies in cc
-    took_turn (Ok answer.Gating) values turn = let clash : ◌≡◌ {A = Reply} (Batch at (sent - at) true) Gating = (answers Gating [] new turn.0).replies in cc
-    took_turn (Ok answer.Idle) values turn = let clash : ◌≡◌ {A = Reply} (Batch at (sent - at) true) Idle = (answers Idle [] new turn.0).replies in cc
-    took_turn (Err r) values turn = let clash : ◌≡◌ {A = Reply} (Batch at (sent - at) true) (Refused r) = (answers (Refused r) [] new turn.0).replies in cc
-
-    -- and no refusal
     pub no_refusal : (r : Refusal) (values : List Event) → TakesTurn goes old h old.setup.size (Err r) values new before after → ⊥
-    no_refusal r values turn = let clash : ◌≡◌ {A = Reply} (Batch at (sent - at) true) (Refused r) = (answers (Refused r) [] new turn.0).replies in cc
+    no_refusal r values turn = core.no_refusal goes graph size events at sent h rests.counts old new before after can r values turn

@@ -1,37 +1,14 @@
 -- A run on one thread: what its handlers are shown, and how far they and the core are.
-use Rattle.std.specs.Prelude.{◌≡◌, ℕ, ◌+◌, ◌%◌, ◌^◌, ◌<◌, ◌==◌, ◌||◌, min, nat_lt, false, if◌then◌else◌, List, length, map, replicate, Option, None, Some, slice_index, slice_index_or, Result, Ok, Err}
+use Rattle.std.specs.Prelude.{◌≡◌, ℕ, ◌+◌, ◌%◌, ◌<◌, ◌==◌, ◌||◌, min, nat_lt, if◌then◌else◌, List, length, map, slice_index, slice_index_or, Result, Ok, Err}
 use Rattle.std.specs.List.{range_with_len}
 use mathlib.Core.Option.{some}
 use lib.ListN.{get_elem?}
 use Rattle.dr_seq.specs.declared.event.Event.{Event}
 use Rattle.dr_seq.specs.Event.{no_event}
-use Rattle.dr_graph.specs.Meaning.Graph.{nobody}
 use Rattle.dr_core.specs.Calls.CoreView.{CoreView}
 use Rattle.dr_meaning.specs.Calls.Handling.{GoesThrough, Relation, Showing}
-use Rattle.dr_core.specs.Calls.Shows.{Shows}
-use Rattle.dr_meaning.specs.Meaning.Machine.{Setup, State}
-use Rattle.dr_meaning.specs.declared.mode.Mode.TheVariants.{Single}
+use Rattle.dr_core.specs.Calls.Passing.{Holds}
 use Rattle.dr_meaning.specs.declared.refusal.Refusal.{Refusal}
-
--- one producer, and as many sequences as there may be
-abbrev pub setup_here : List (List ℕ) → ℕ → Setup
-setup_here graph size = record { upstreams = graph; size = size; mode = Single; limit = 2 ^ 62 }
-
--- the first events of a list, each written to the sequence that is its place
-abbrev pub written_below : List Event → ℕ → ℕ → Option Event
-written_below events n s = if nat_lt s n then Some (slice_index_or events s no_event) else None
-
--- the state after the first events of a list were claimed, written and published
-abbrev pub passed : List Event → ℕ → ℕ → ℕ → List ℕ → List ℕ → State Event
-passed events claimed written published taken completed = record {
-  owners = replicate claimed 0;
-  written = written_below events written;
-  published = λ s. nat_lt s published;
-  taken = taken;
-  completed = completed;
-  halted = false;
-  retired = nobody;
-}
 
 -- what a handler is shown at a place of a script: the event there, with the place as its sequence; marked are the last event of each round of the ring, and the last of all
 abbrev pub shown_at : ℕ → List Event → ℕ → Showing Event
@@ -59,8 +36,7 @@ pub record Rests (graph : List (List ℕ)) (size : ℕ) (events : List Event) (t
   pub counts : List ℕ
   pub many : length counts ≡ length graph
   pub each : (h : ℕ) → h < length graph → slice_index counts h ≡ far turned at sent h
-  pub setup : core.setup ≡ setup_here graph size
-  pub shows : Shows core (passed events sent sent sent counts counts)
+  pub holds : Holds graph size events sent sent sent counts counts core
 
 -- each handler went through what it took
 pub record Along {A : Type 0} (goes : Relation Event A) (size : ℕ) (events : List Event) (starts : List A) (turned at sent : ℕ) (handlers : List A) : Type 0 where

@@ -5,7 +5,9 @@ use Rattle.dr_meaning.specs.declared.command.Command.TheVariants.{Publish}
 use Rattle.dr_meaning.specs.declared.command.Reply.TheVariants.{Published}
 use Rattle.dr_core.specs.Calls.Shows.{IsStep}
 use Rattle.dr_meaning.specs.Calls.Replies.{unit_reply}
-use Rattle.dr_accounts.proofs.Sending.{InHand, claim_err, claim_ok, publish_any, write_err, write_ok}
+use Rattle.dr_core.proofs.Rounds.{claim_err, claim_ok, write_err, write_ok}
+use Rattle.dr_accounts.specs.Passing.{each, replay_graph}
+use Rattle.dr_accounts.proofs.Sending.{InHand, gated, publish_any}
 use Rattle.dr_accounts.proofs.through_core.send.Goals as goal
 use Rattle.dr_accounts.proofs.through_core.send.Goals.{After-write, In_ok-lo}
 
@@ -14,7 +16,7 @@ claimed : (c : In_ok-lo) → (c.in_ok-lo.field-0.lo ≡ c.args.at) × (c.in_ok-l
     × InHand c.args.core.now.setup.size c.args.events.now (c.args.at + c.args.n) c.args.at c.args.at c.claim.new.self
 claimed c =
     let r = c.requires in
-    claim_ok c.args.core.now c.claim.new.self c.args.core.now.setup.size c.args.events.now c.args.at c.args.n c.in_ok-lo.field-0.lo c.in_ok-lo.field-0.hi r.rests r.some r.fits r.limit c.in_ok-lo.ensures.step
+    claim_ok c.args.core.now c.claim.new.self replay_graph c.args.core.now.setup.size c.args.events.now c.args.at c.args.n (each c.args.at) c.in_ok-lo.field-0.lo c.in_ok-lo.field-0.hi (gated c.args.events.now c.args.at) r.rests r.some r.fits r.limit c.in_ok-lo.ensures.step
 
 -- the sequence that is written is claimed, and an event has its place
 in_reach : (c : After-write) → (c.args.at ≤ c.loop-s.s) × (c.loop-s.s < c.args.at + c.args.n) × (c.loop-s.s < length c.args.events.now)
@@ -25,7 +27,7 @@ in_reach c =
 pub returns-in_err-lo : goal.returns-in_err-lo
 returns-in_err-lo c =
     let r = c.requires in
-    absurd (claim_err c.args.core.now c.claim.new.self c.args.core.now.setup.size c.args.events.now c.args.at c.args.n c.in_err-lo.field-0.0 r.rests r.some r.fits r.limit c.in_err-lo.ensures.step)
+    absurd (claim_err c.args.core.now c.claim.new.self replay_graph c.args.core.now.setup.size c.args.events.now c.args.at c.args.n (each c.args.at) c.in_err-lo.field-0.0 (gated c.args.events.now c.args.at) r.rests r.some r.fits r.limit c.in_err-lo.ensures.step)
 
 pub loop-s-init : goal.loop-s-init
 loop-s-init c = (claimed (goal.at.loop-s-init c).In_ok-lo).2
@@ -33,12 +35,12 @@ loop-s-init c = (claimed (goal.at.loop-s-init c).In_ok-lo).2
 pub returns-in_err-write : goal.returns-in_err-write
 returns-in_err-write c =
     let (low, high, inside) = in_reach (goal.at.returns-in_err-write c).After-write in
-    absurd (write_err c.loop-s.core c.write.new.self c.args.core.now.setup.size c.args.events.now c.args.at c.args.n c.loop-s.s _ c.in_err-write.field-0.0 c.loop-s.invariant low high (get_or_default c.args.events.now c.loop-s.s _ no_event inside) c.in_err-write.ensures.step)
+    absurd (write_err c.loop-s.core c.write.new.self replay_graph c.args.core.now.setup.size c.args.events.now c.args.at c.args.n (each c.args.at) c.loop-s.s _ c.in_err-write.field-0.0 c.loop-s.invariant low high (get_or_default c.args.events.now c.loop-s.s _ no_event inside) c.in_err-write.ensures.step)
 
 pub loop-s-preserved : goal.loop-s-preserved
 loop-s-preserved c =
     let (low, high, inside) = in_reach (goal.at.loop-s-preserved c).After-write in
-    write_ok c.loop-s.core c.write.new.self c.args.core.now.setup.size c.args.events.now c.args.at c.args.n c.loop-s.s _ c.loop-s.invariant low high (get_or_default c.args.events.now c.loop-s.s _ no_event inside) c.in_ok-write.ensures.step
+    write_ok c.loop-s.core c.write.new.self replay_graph c.args.core.now.setup.size c.args.events.now c.args.at c.args.n (each c.args.at) c.loop-s.s _ c.loop-s.invariant low high (get_or_default c.args.events.now c.loop-s.s _ no_event inside) c.in_ok-write.ensures.step
 
 pub returns : goal.returns
 returns c =

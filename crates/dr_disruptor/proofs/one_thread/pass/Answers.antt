@@ -2,8 +2,9 @@ use Rattle.std.proofs.Common.{◌≡◌, ◌+◌, min, length, inl, ⊎_elim, ap
 use Rattle.std.specs.Prelude.{◌%◌}
 use Rattle.std.proofs.Math.Nat.{zero-mod}
 use Rattle.dr_meaning.specs.Meaning.Machine.{Setup}
+use Rattle.dr_core.specs.Calls.Passing.{single_setup}
 use Rattle.dr_seq.proofs.Sizes.{size_positive}
-use Rattle.dr_disruptor.specs.OneThread.{Along, Rests, setup_here}
+use Rattle.dr_disruptor.specs.OneThread.{Along, Rests}
 use Rattle.dr_disruptor.proofs.Along.{along_all, along_first, offered}
 use Rattle.dr_disruptor.proofs.Shown.{next_round}
 use Rattle.dr_disruptor.proofs.one_thread.pass.Goals as goal
@@ -20,7 +21,7 @@ pub returns-in_err-turns : goal.returns-in_err-turns
 returns-in_err-turns g c =
     let is = c.loop-at.invariant in
     let positive = size_positive c.get-size.result c.get-size.ensures.size in
-    let same : c.loop-at.core.setup.size ≡ c.args.core.now.setup.size = ap (λ (s : Setup). s.size) is.rests.setup in
+    let same : c.loop-at.core.setup.size ≡ c.args.core.now.setup.size = ap (λ (s : Setup). s.size) is.rests.holds.setup in
     let sent = c.loop-at.at + c.min-n.result in
     let round : c.loop-at.at % c.args.core.now.setup.size ≡ 0 = ⊎_elim (λ r. r) (λ all. absurd (omega arith)) is.round in
     let full : sent ≡ min (c.loop-at.at + c.args.core.now.setup.size) (length c.args.script.now) = omega arith in
@@ -32,9 +33,9 @@ loop-at-preserved g c =
     let is = c.loop-at.invariant in
     let sent = c.loop-at.at + c.min-n.result in
     let positive = size_positive c.get-size.result c.get-size.ensures.size in
-    let same : c.loop-at.core.setup.size ≡ c.args.core.now.setup.size = ap (λ (s : Setup). s.size) is.rests.setup in
-    let setup : c.send.new.core.setup ≡ setup_here c.args.core.now.setup.upstreams c.args.core.now.setup.size =
-    c.in_ok-send.ensures.setup ∙ ap (λ (s : Setup). setup_here s.upstreams s.size) is.rests.setup in
+    let same : c.loop-at.core.setup.size ≡ c.args.core.now.setup.size = ap (λ (s : Setup). s.size) is.rests.holds.setup in
+    let setup : c.send.new.core.setup ≡ single_setup c.args.core.now.setup.upstreams c.args.core.now.setup.size =
+    c.in_ok-send.ensures.holds.setup ∙ ap (λ (s : Setup). single_setup s.upstreams s.size) is.rests.holds.setup in
     let round : c.loop-at.at % c.args.core.now.setup.size ≡ 0 = ⊎_elim (λ r. r) (λ all. absurd (omega arith)) is.round in
     let full : sent ≡ min (c.loop-at.at + c.args.core.now.setup.size) (length c.args.script.now) = omega arith in
     let turned = c.in_ok-turns.ensures c.args.script.now c.args.handlers.now c.loop-at.at sent

@@ -1,4 +1,4 @@
--- A stretch of events goes through the exchange: each call is accepted.
+-- Events go through a core of one thread: what the machine answers each call.
 use Rattle.std.proofs.Common.{◌≡◌, ◌≤◌, ◌<◌, ◌+◌, ◌-◌, ◌^◌, ℕ, zero, suc, Bool, true, false, not, ◌&&◌, ◌||◌, List, [], ◌∷◌, ◌++◌, length, take, drop, replicate, slice_index, min, Option, Some, refl, sym, ap, ◌∙◌, subst, arith, inl, inr, if◌then◌else◌, nat_lt, drop-cons, get_or-set_same}
 use Rattle.std.specs.Prelude.{◌==◌, nat_le, flat_map, is_none, slice_set, slice_index_or}
 use Rattle.std.specs.List.{range_with_len, filter_map, cons_option}
@@ -10,12 +10,13 @@ use Rattle.dr_meaning.specs.declared.command.Command.TheVariants.{Claim, Write, 
 use Rattle.dr_meaning.specs.declared.command.Command.{Command}
 use Rattle.dr_meaning.specs.declared.command.Reply.{Reply}
 use Rattle.dr_meaning.specs.declared.command.Reply.TheVariants.{Claimed, Written, Published, Batch, Completed}
-use Rattle.dr_meaning.specs.Meaning.Machine.{Outcome, Setup, State, accepted, available, front, next, least_outside, publish_faults, refusals, step}
+use Rattle.dr_graph.specs.Meaning.Graph.{finals_without, nobody}
+use Rattle.dr_meaning.specs.Meaning.Machine.{Outcome, Setup, State, accepted, available, front, gate, least_completed, next, least_outside, publish_faults, refusals, step}
 use Rattle.dr_core.specs.Calls.CoreView.{CoreView}
 use Rattle.dr_core.specs.Calls.Shows.{IsStep, Shows}
 use Rattle.dr_meaning.proofs.Leasts.{least_is, least_one}
 use Rattle.dr_meaning.proofs.Steps.{NoneHold, NoneHold-join, NoneHold-stretch, unless-none}
-use Rattle.dr_accounts.specs.Passing.{each, passed, replay_setup, written_below}
+use Rattle.dr_core.specs.Calls.Passing.{passed, single_setup, written_below}
 
 pub funext : {A B : Type 0} (f g : A → B) → ((x : A) → f x ≡ g x) → f ≡ g
 funext f g h = λ i. λ x. h x i
@@ -29,20 +30,21 @@ pub next_is : (events : List Event) (claimed written published : ℕ) (taken com
     → next (passed events claimed written published taken completed) ≡ claimed
 next_is events claimed written published taken completed = length-replicate claimed 0
 
-pub claims : (events : List Event) (size at n : ℕ) → 0 < n → n ≤ size → at + n ≤ 2 ^ 62
-    → step (replay_setup size) (passed events at at at (each at) (each at)) (Claim 0 n)
-    ≡ record { reply = Claimed at (at + n - 1); values = []; state = passed events (at + n) at at (each at) (each at) }
-claims events size at n some fits limit =
-    let m = passed events at at at (each at) (each at) in
-    let next_at : next m ≡ at = next_is events at at at (each at) (each at) in
+pub claims : (graph : List (List ℕ)) (events : List Event) (size at n : ℕ) (counts : List ℕ) → at ≤ least_completed (passed events at at at counts counts) (finals_without graph nobody) → 0 < n → n ≤ size → at + n ≤ 2 ^ 62
+    → step (single_setup graph size) (passed events at at at counts counts) (Claim 0 n)
+    ≡ record { reply = Claimed at (at + n - 1); values = []; state = passed events (at + n) at at counts counts }
+claims graph events size at n counts gated some fits limit =
+    let c = single_setup graph size in
+    let m = passed events at at at counts counts in
+    let next_at : next m ≡ at = next_is events at at at counts counts in
     let nonzero : n ≡ 0 → ⊥ = λ e. absurd (omega arith) in
     let bad_count : ((n == 0) || nat_lt size n) ≡ false = rw (ne_eqb n 0 nonzero, le-ltb size n fits) refl in
     let exhausted : nat_lt (2 ^ 62) (next m + n) ≡ false = rw next_at (le-ltb (2 ^ 62) (at + n) limit) in
-    let room : at + n ≤ size + at = omega arith in
-    let no_room : nat_lt (size + at) (next m + n) ≡ false = rw next_at (le-ltb (size + at) (at + n) room) in
-    let none : NoneHold (refusals (replay_setup size) m (Claim 0 n)) = (refl, (bad_count, (refl, (exhausted, (no_room, tt))))) in
+    let room : at + n ≤ size + gate c m = omega arith in
+    let no_room : nat_lt (size + gate c m) (next m + n) ≡ false = rw next_at (le-ltb (size + gate c m) (at + n) room) in
+    let none : NoneHold (refusals c m (Claim 0 n)) = (refl, (bad_count, (refl, (exhausted, (no_room, tt))))) in
     let after : ℕ → List ℕ → Outcome Event = λ k owners. record { reply = Claimed k (k + n - 1); values = []; state = record m { owners = owners } } in
-    unless-none (refusals (replay_setup size) m (Claim 0 n)) m (accepted (replay_setup size) m (Claim 0 n)) none
+    unless-none (refusals c m (Claim 0 n)) m (accepted c m (Claim 0 n)) none
     ∙ ap (λ k. after k (replicate at 0 ++ replicate n 0)) next_at ∙ ap (after at) (replicate-append-replicate at n 0)
 
 written_more : (events : List Event) (w : ℕ) (e : Event) → e ≡ slice_index_or events w no_event → (k : ℕ)
@@ -56,18 +58,18 @@ written_more events w e is k = elim (cases_eq k w) [
   ]
 ]
 
-pub writes : (events : List Event) (size claimed w at : ℕ) (taken completed : List ℕ) (e : Event) → at ≤ w → w < claimed → e ≡ slice_index_or events w no_event
-    → step (replay_setup size) (passed events claimed w at taken completed) (Write 0 w e)
+pub writes : (graph : List (List ℕ)) (events : List Event) (size claimed w at : ℕ) (taken completed : List ℕ) (e : Event) → at ≤ w → w < claimed → e ≡ slice_index_or events w no_event
+    → step (single_setup graph size) (passed events claimed w at taken completed) (Write 0 w e)
     ≡ record { reply = Written; values = []; state = passed events claimed (w + 1) at taken completed }
-writes events size claimed w at taken completed e low high is =
+writes graph events size claimed w at taken completed e low high is =
     let m = passed events claimed w at taken completed in
     let unclaimed : nat_le (next m) w ≡ false = rw (next_is events claimed w at taken completed) (lt-leb claimed w high) in
     let shown : nat_lt w at ≡ false = le-ltb w at low in
     let mine : slice_index (replicate claimed 0) w ≡ 0 = get_or-replicate claimed w 0 0 high in
     let other : not (slice_index (replicate claimed 0) w == 0) ≡ false = ap not (eq-eqb _ 0 mine) in
-    let none : NoneHold (refusals (replay_setup size) m (Write 0 w e)) = (refl, (unclaimed, (shown, (other, tt)))) in
+    let none : NoneHold (refusals (single_setup graph size) m (Write 0 w e)) = (refl, (unclaimed, (shown, (other, tt)))) in
     let after : (ℕ → Option Event) → Outcome Event = λ written. record { reply = Written; values = []; state = record m { written = written } } in
-    unless-none (refusals (replay_setup size) m (Write 0 w e)) m (accepted (replay_setup size) m (Write 0 w e)) none
+    unless-none (refusals (single_setup graph size) m (Write 0 w e)) m (accepted (single_setup graph size) m (Write 0 w e)) none
     ∙ ap after (funext (λ k. if k == w then Some e else written_below events w k) (written_below events (w + 1)) (written_more events w e is))
 
 shown_more : (at n k : ℕ) → 0 < n → (nat_lt k at || (nat_le at k && nat_le k (at + n - 1))) ≡ nat_lt k (at + n)
@@ -80,10 +82,10 @@ shown_more at n k some = elim (cases_lt k at) [
   ]
 ]
 
-pub publishes : (events : List Event) (size at n : ℕ) (taken completed : List ℕ) → 0 < n
-    → step (replay_setup size) (passed events (at + n) (at + n) at taken completed) (Publish 0 at (at + n - 1))
+pub publishes : (graph : List (List ℕ)) (events : List Event) (size at n : ℕ) (taken completed : List ℕ) → 0 < n
+    → step (single_setup graph size) (passed events (at + n) (at + n) at taken completed) (Publish 0 at (at + n - 1))
     ≡ record { reply = Published; values = []; state = passed events (at + n) (at + n) (at + n) taken completed }
-publishes events size at n taken completed some =
+publishes graph events size at n taken completed some =
     let m = passed events (at + n) (at + n) at taken completed in
     let next_at : next m ≡ at + n = next_is events (at + n) (at + n) at taken completed in
     let order : at ≤ at + n - 1 = omega arith in
@@ -101,10 +103,10 @@ publishes events size at n taken completed some =
     let within : at ≤ at + n = omega arith in
     let here : front m ≡ at = rw next_at (front_below at (at + n) within) in
     let in_order : not (at == front m) ≡ false = rw here (ap not (eq-eqb at at refl)) in
-    let none : NoneHold (refusals (replay_setup size) m (Publish 0 at (at + n - 1))) =
+    let none : NoneHold (refusals (single_setup graph size) m (Publish 0 at (at + n - 1))) =
     (refl, (bad_count, (unclaimed, NoneHold-join (flat_map (publish_faults m 0) (range_with_len at (at + n - 1 + 1 - at))) _ (NoneHold-stretch (publish_faults m 0) at (at + n - 1 + 1 - at) each_fine) (in_order, tt)))) in
     let after : (ℕ → Bool) → Outcome Event = λ published. record { reply = Published; values = []; state = record m { published = published } } in
-    unless-none (refusals (replay_setup size) m (Publish 0 at (at + n - 1))) m (accepted (replay_setup size) m (Publish 0 at (at + n - 1))) none
+    unless-none (refusals (single_setup graph size) m (Publish 0 at (at + n - 1))) m (accepted (single_setup graph size) m (Publish 0 at (at + n - 1))) none
     ∙ ap after (funext (λ k. nat_lt k at || (nat_le at k && nat_le k (at + n - 1))) (λ k. nat_lt k (at + n)) (λ k. shown_more at n k some))
 
 -- the events of a stretch are those that were written to it
@@ -121,15 +123,15 @@ values_are events c at (suc n) within fits =
     ap (λ e. cons_option e (filter_map (written_below events c) (range_with_len (at + 1) n))) first
     ∙ ap (λ l. slice_index_or events at no_event ∷ l) others ∙ ap (take (suc n)) (sym (drop-cons events at no_event inside))
 
-pub polls : (events : List Event) (size c at h room : ℕ) (counts : List ℕ) → h < 3 → 0 < room → slice_index counts h ≡ at
-    → available (replay_setup size) (passed events c c c counts counts) h ≡ c → at < c → c - at ≤ room → c ≤ length events
-    → step (replay_setup size) (passed events c c c counts counts) (Poll h room)
+pub polls : (graph : List (List ℕ)) (events : List Event) (size c at h room : ℕ) (counts : List ℕ) → h < length graph → 0 < room → slice_index counts h ≡ at
+    → available (single_setup graph size) (passed events c c c counts counts) h ≡ c → at < c → c - at ≤ room → c ≤ length events
+    → step (single_setup graph size) (passed events c c c counts counts) (Poll h room)
     ≡ record { reply = Batch at (c - at) true; values = take (c - at) (drop at events); state = passed events c c c (slice_set counts h c) counts }
-polls events size c at h room counts handler some taken_is offered less fits within =
+polls graph events size c at h room counts handler some taken_is offered less fits within =
     let m = passed events c c c counts counts in
     let nonzero : room ≡ 0 → ⊥ = λ e. absurd (omega arith) in
-    let none : NoneHold (refusals (replay_setup size) m (Poll h room)) = (lt-leb 3 h handler, (refl, (ne_eqb room 0 nonzero, tt))) in
-    let there : nat_lt (slice_index counts h) (available (replay_setup size) m h) ≡ true = rw (taken_is, offered) (lt-ltb at c less) in
+    let none : NoneHold (refusals (single_setup graph size) m (Poll h room)) = (lt-leb (length graph) h handler, (refl, (ne_eqb room 0 nonzero, tt))) in
+    let there : nat_lt (slice_index counts h) (available (single_setup graph size) m h) ≡ true = rw (taken_is, offered) (lt-ltb at c less) in
     let value = written_below events c in
     let by_count : ℕ → ℕ → ℕ → Outcome Event =
     λ first av count. record { reply = Batch first count (first + count == av); values = filter_map value (range_with_len first count); state = record m { taken = slice_set counts h (first + count) } } in
@@ -138,26 +140,26 @@ polls events size c at h room counts handler some taken_is offered less fits wit
     let count_is : min (c - at) room ≡ c - at = omega arith in
     let whole : at + (c - at) ≡ c = omega arith in
     let inside : at + (c - at) ≤ c = omega arith in
-    unless-none (refusals (replay_setup size) m (Poll h room)) m (accepted (replay_setup size) m (Poll h room)) none
-    ∙ cond-true (nat_lt (slice_index counts h) (available (replay_setup size) m h)) _ _ there
-    ∙ ap (λ first. by_count first (available (replay_setup size) m h) (min (available (replay_setup size) m h - first) room)) taken_is
+    unless-none (refusals (single_setup graph size) m (Poll h room)) m (accepted (single_setup graph size) m (Poll h room)) none
+    ∙ cond-true (nat_lt (slice_index counts h) (available (single_setup graph size) m h)) _ _ there
+    ∙ ap (λ first. by_count first (available (single_setup graph size) m h) (min (available (single_setup graph size) m h - first) room)) taken_is
     ∙ ap (λ av. by_count at av (min (av - at) room)) offered
     ∙ ap (by_count at c) count_is
     ∙ ap (λ end. outcome end (filter_map value (range_with_len at (c - at))) (at + (c - at))) (eq-eqb (at + (c - at)) c whole)
     ∙ ap (λ values. outcome true values (at + (c - at))) (values_are events c at (c - at) inside within)
     ∙ ap (outcome true (take (c - at) (drop at events))) whole
 
-pub completes : (events : List Event) (size c at h : ℕ) (counts : List ℕ) → h < 3 → h < length counts → slice_index counts h ≡ at → at < c
-    → step (replay_setup size) (passed events c c c (slice_set counts h c) counts) (Complete h c)
+pub completes : (graph : List (List ℕ)) (events : List Event) (size c at h : ℕ) (counts : List ℕ) → h < length graph → h < length counts → slice_index counts h ≡ at → at < c
+    → step (single_setup graph size) (passed events c c c (slice_set counts h c) counts) (Complete h c)
     ≡ record { reply = Completed; values = []; state = passed events c c c (slice_set counts h c) (slice_set counts h c) }
-completes events size c at h counts handler inside taken_is less =
+completes graph events size c at h counts handler inside taken_is less =
     let m = passed events c c c (slice_set counts h c) counts in
     let low : at ≤ c = omega arith in
     let behind : nat_lt c (slice_index counts h) ≡ false = rw taken_is (le-ltb c at low) in
     let same : c ≤ c = omega arith in
     let taken_all : nat_lt (slice_index (slice_set counts h c) h) c ≡ false = rw (get_or-set_same counts h c 0 inside) (le-ltb c c same) in
-    let none : NoneHold (refusals (replay_setup size) m (Complete h c)) = (lt-leb 3 h handler, (refl, (behind, (taken_all, tt)))) in
-    unless-none (refusals (replay_setup size) m (Complete h c)) m (accepted (replay_setup size) m (Complete h c)) none
+    let none : NoneHold (refusals (single_setup graph size) m (Complete h c)) = (lt-leb (length graph) h handler, (refl, (behind, (taken_all, tt)))) in
+    unless-none (refusals (single_setup graph size) m (Complete h c)) m (accepted (single_setup graph size) m (Complete h c)) none
 
 -- what a core's call answers and leaves, where the machine's step is known
 pub record Stepped (o : Outcome Event) (reply : Reply) (values : List Event) (c : Setup) (new : CoreView Event) : Type 0 where
