@@ -1,20 +1,22 @@
 -- What the ends of a ring know of each other, once they come together.
-use Rattle.std.specs.Prelude.{◌≡◌, ℕ, ◌+◌, ◌≤◌, true, List, length, take, Contains}
+use Rattle.std.specs.Prelude.{◌≡◌, ◌⊎◌, ℕ, ◌+◌, ◌≤◌, true, List, length, take, Contains}
 use mathlib.Core.Option.{some}
 use lib.ListN.{get_elem?}
 use Rattle.dr_graph.specs.Meaning.Graph.{upstreams_of, finals}
 use Rattle.dr_runs.specs.Looks.{last_look}
-use Rattle.dr_runs.specs.Words.{halt_word}
+use Rattle.dr_runs.specs.declared.look.Look.{Look}
+use Rattle.dr_runs.specs.Words.{count_word, cursor_word, halt_word}
 use Rattle.dr_ring.specs.declared.record.SenderRecord.{SenderRecord}
 use Rattle.dr_ring.specs.declared.record.ReceiverRecord.{ReceiverRecord}
 use Rattle.dr_ring.specs.Meaning.Records.{claimed, seen_before}
 
--- a receiver has the beginning of what its sender published, all of it where it was told that the ring drained, and a final handler leaves room for all that is claimed
+-- a receiver has the beginning of what its sender published, all of it where it was told that the ring drained; it saw no more published, nor completed by a handler, than there is; and a final handler leaves room for all that is claimed
 pub record HasBeginning (s : SenderRecord) (r : ReceiverRecord) : Type 0 where
   pub beginning : r.received ≡ take (length r.received) s.sent.published
   pub taken : length r.received ≤ length s.sent.published
   pub drained : r.told ≡ true → r.received ≡ s.sent.published
   pub completed : r.completed ≤ length r.received
+  pub seen : (i u : ℕ) (x : Look) → get_elem? r.looks i ≡ some x → (x.word ≡ cursor_word) ⊎ (x.word ≡ count_word u) → x.value ≤ length s.sent.published
   pub room : Contains (finals s.plan.upstreams) r.number → claimed s ≤ s.plan.size + r.completed
 
 -- as far as the sender looked, nobody halted the ring before it did so itself
