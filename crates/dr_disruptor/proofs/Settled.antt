@@ -23,7 +23,7 @@ use Rattle.dr_disruptor.specs.declared.running.Ran.{Ran}
 use Rattle.dr_disruptor.specs.declared.served.Served.{Served}
 use Rattle.dr_disruptor.specs.Running.{IsRan, WentThrough, completed_in, taken_in}
 use Rattle.dr_disruptor.specs.Serving.{AreKept, BeginsAt, Serving, Worker, endings_from, given_end, given_handler}
-use Rattle.dr_disruptor.proofs.Polled.{polled}
+use Rattle.dr_disruptor.proofs.Polled.{polled, saw_published}
 
 -- a sender that stays at its place has the same ends beside it
 pub all_moved : (s s' : SenderEnd) (rs : List ReceiverEnd) (t : HalterEnd) → sender_place s' ≡ sender_place s → AreAllEnds s rs t → AreAllEnds s' rs t
@@ -70,7 +70,7 @@ went goes k s start given back serving begins has =
       batches = batches;
       through = works.through;
       order = subst (λ (l : List Event). FollowFrom (length l) batches) none handed.1;
-      polled = polled 256 ToPoll given back.receiver serving.calls.calls serving.calls.lead serving.calls.holds.order;
+      polled = polled 256 (length s.sent.published) ToPoll given back.receiver serving.calls.calls serving.calls.lead serving.calls.holds.order (saw_published s back.receiver.knows has);
       dealt = sym (handed.0 ∙ ap (λ (l : List Event). l ++ dealt_events batches) none) ∙ took_all goes k s start given back serving begins has;
     }
 

@@ -1,5 +1,5 @@
 -- What came of a run: what each handler went through, and how the workers ended.
-use Rattle.std.specs.Prelude.{◌≡◌, ℕ, ◌<◌, ◌≤◌, ◌/◌, max, true, List, [], ◌∷◌, length, take, drop, Option, None, Some, All}
+use Rattle.std.specs.Prelude.{◌≡◌, ◌⊎◌, ℕ, ◌+◌, ◌<◌, ◌≤◌, ◌/◌, max, true, List, [], ◌∷◌, length, take, drop, Option, None, Some, All}
 use mathlib.Core.Option.{some}
 use lib.ListN.{get_elem?}
 use Rattle.dr_seq.specs.declared.event.Event.{Event}
@@ -23,9 +23,9 @@ use Rattle.dr_disruptor.specs.declared.running.Ran.{Ran}
 use Rattle.dr_disruptor.specs.declared.fault.RunFault.{RunFault}
 use Rattle.dr_disruptor.specs.declared.fault.RunFault.TheVariants.{Worker}
 
--- a batch of a poll with so much room: it fits, and its last event is marked unless it fills the room, where more may be available
-abbrev pub IsPolled : ℕ → Dealt Event → Type 0
-IsPolled room batch = (length batch.events ≤ room) × (length batch.events < room → batch.end ≡ true)
+-- a batch of a poll with so much room, where so many events are sent in all: it fits, and its last event is marked, unless it fills the room and others come after it
+abbrev pub IsPolled : ℕ → ℕ → Dealt Event → Type 0
+IsPolled room sent batch = (length batch.events ≤ room) × ((batch.end ≡ true) ⊎ ((length batch.events ≡ room) × (batch.first + room < sent)))
 
 -- a handler went from one meaning to another through exactly these events: each once, in sequence order from 0 on, in batches of polls with room for 256
 pub record WentThrough {A : Type 0} (goes : Relation Event A) (start after : A) (events : List Event) : Type 0 where
@@ -33,7 +33,7 @@ pub record WentThrough {A : Type 0} (goes : Relation Event A) (start after : A) 
   pub through : GoesThrough goes start (shown_of batches) after
   pub order : FollowFrom 0 batches
   pub dealt : dealt_events batches ≡ events
-  pub polled : All (IsPolled 256) batches
+  pub polled : All (IsPolled 256 (length events)) batches
 
 -- so did each handler, from the one that was given at its place
 pub record AllWentThrough {A : Type 0} (goes : Relation Event A) (events : List Event) (starts afters : List A) : Type 0 where
