@@ -8,7 +8,7 @@
     tests/long_runs.py --seed 7                other exchanges
 
 First `disruptor_bench` passes events through each topology at three sizes; each handler adds up what it is shown, and a
-wrong sum fails. Then `disruptor_halts` runs exchanges over the ring, with one sender and with several, and behind the
+wrong sum fails. Then `disruptor_halts` runs exchanges over each ring and behind the
 lock, whose claims, polls, completions and halt fall at random times, and compares what each handler received with the
 beginning of what was published. At last `disruptor_waits` sends lone events through two handlers that park, and tells
 how many took so long that a wake-up may have been lost. The script prints a line for each run, and its status is 1 where

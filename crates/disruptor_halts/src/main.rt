@@ -1,4 +1,4 @@
-//! Exchanges over both rings and behind the lock, with a thread for each end, whose claims, polls,
+//! Exchanges over each ring and behind the lock, with a thread for each end, whose claims, polls,
 //! completions, retirements and halt fall at random times.
 //!
 //! `disruptor_halts SEED ROUNDS` runs so many of each, with graphs, sizes and turns of their ends that
@@ -40,6 +40,7 @@ const MOST_TURNS: u64 = u64::MAX;
 #[derive(Clone, Copy)]
 enum Way {
     Ring,
+    Plain,
     Senders,
     Lock,
 }
@@ -53,6 +54,7 @@ impl Way {
     ) -> Result<Told, Fault> {
         match self {
             Way::Ring => over_ring::one_sender(rt, alloc, random),
+            Way::Plain => over_ring::over_plain_memory(rt, alloc, random),
             Way::Senders => over_ring::several_senders(rt, alloc, random),
             Way::Lock => by_lock::round(rt, alloc, random),
         }
@@ -97,10 +99,11 @@ fn run<R: Runtime + Alloc<A = Global> + Threads + Wait + Sync>(rt: &R) -> Result
     };
     let (seed, count) = numbers?;
     let ring = Way::Ring.rounds(rt, alloc, seed, count)?;
+    let plain = Way::Plain.rounds(rt, alloc, seed, count)?;
     let senders = Way::Senders.rounds(rt, alloc, seed, count)?;
     let lock = Way::Lock.rounds(rt, alloc, seed, count)?;
     println!(rt; "{count} rounds")?;
-    eprintln!(rt; "by ring {ring}\nby senders {senders}\nby lock {lock}")?;
+    eprintln!(rt; "by ring {ring}\nby plain {plain}\nby senders {senders}\nby lock {lock}")?;
     Ok(())
 }
 

@@ -1,4 +1,4 @@
-//! Rounds over the rings, of one sender and of several.
+//! Rounds over the rings: of one sender, over words and over plain memory, and of several.
 
 use crate::ends::{Halting, Producing, Taking};
 use crate::fault::Fault;
@@ -25,6 +25,19 @@ const MOST_SENDERS: u64 = 4;
 const MOST_BEFORE_LEAVING: u64 = 100;
 
 impl Producing for Sender {
+    fn send(&mut self, sending: &mut Sending) -> Result<Stretch, Fault> {
+        sending.send(self)
+    }
+
+    fn end(&mut self) -> Result<(), Fault> {
+        match self.close() {
+            Ok(()) => Ok(()),
+            Err(_) => Err(Fault::WrongReply),
+        }
+    }
+}
+
+impl Producing for dr_plain::Sender<Event> {
     fn send(&mut self, sending: &mut Sending) -> Result<Stretch, Fault> {
         sending.send(self)
     }
@@ -72,6 +85,16 @@ impl Taking for Receiver {
     }
 }
 
+impl Taking for dr_plain::Receiver<Event> {
+    fn receive(&mut self, receiving: &mut Receiving, signs: &Signs) -> Result<Stretch, Fault> {
+        receiving.receive(self, signs)
+    }
+
+    fn may_leave(&mut self, random: &mut Random, signs: &Signs) -> Result<Stretch, Fault> {
+        Ok(leave(random, signs))
+    }
+}
+
 impl Taking for dr_senders::Receiver {
     fn receive(&mut self, receiving: &mut Receiving, signs: &Signs) -> Result<Stretch, Fault> {
         receiving.receive(self, signs)
@@ -88,6 +111,12 @@ impl Halting for Halter {
     }
 }
 
+impl Halting for dr_plain::Halter<Event> {
+    fn halt(&mut self) {
+        dr_plain::Halter::halt(self);
+    }
+}
+
 impl Halting for dr_senders::Halter {
     fn halt(&mut self) {
         dr_senders::Halter::halt(self);
@@ -101,6 +130,32 @@ fn open_with_one(
     let size = any_size(random)?;
     let graph = graph(alloc, random)?;
     let (sender, receivers, halter) = ring(alloc, &graph, size, MAX_LIMIT)?;
+    let mut senders = Vec::new(alloc);
+    senders.push(sender)?;
+    Ok(Opened {
+        inlets: senders,
+        outlets: receivers,
+        halter,
+        slots: size.get(),
+        in_order: true,
+    })
+}
+
+// The ends of a ring of events.
+type PlainSender = dr_plain::Sender<Event>;
+
+type PlainReceiver = dr_plain::Receiver<Event>;
+
+type PlainHalter = dr_plain::Halter<Event>;
+
+fn open_over_plain_memory(
+    alloc: Global,
+    random: &mut Random,
+) -> Result<Opened<PlainSender, PlainReceiver, PlainHalter>, Fault> {
+    let size = any_size(random)?;
+    let graph = graph(alloc, random)?;
+    let events = vec![in alloc; Event::NONE; size.get() as usize]?;
+    let (sender, receivers, halter) = dr_plain::ring(alloc, &graph, size, MAX_LIMIT, events)?;
     let mut senders = Vec::new(alloc);
     senders.push(sender)?;
     Ok(Opened {
@@ -136,6 +191,16 @@ pub fn one_sender<R: Threads + Wait + Sync>(
     random: &mut Random,
 ) -> Result<Told, Fault> {
     let opened = open_with_one(alloc, random)?;
+    told(rt, alloc, opened, random)
+}
+
+/// Runs a ring of one sender over plain memory.
+pub fn over_plain_memory<R: Threads + Wait + Sync>(
+    rt: &R,
+    alloc: Global,
+    random: &mut Random,
+) -> Result<Told, Fault> {
+    let opened = open_over_plain_memory(alloc, random)?;
     told(rt, alloc, opened, random)
 }
 

@@ -6,6 +6,7 @@ use crate::building::{tell_builder, tell_built};
 use crate::core_calls::{tell_opened, tell_run};
 use crate::fault::Fault;
 use crate::parts::tell_parts;
+use crate::plain_calls::{tell_plain, tell_plain_ends};
 use crate::recording::{tell_calls, tell_recorded};
 use crate::ring_calls::tell_ring;
 use crate::taking_none::{tell_core, tell_ends, tell_kept};
@@ -21,6 +22,8 @@ pub enum Case {
     Open,
     Record,
     Ring,
+    /// A ring over plain memory.
+    Plain,
     /// `run`, at a gap between two producers.
     Run,
     Call,
@@ -29,6 +32,8 @@ pub enum Case {
     Core,
     /// Every call of a ring's ends.
     Ends,
+    /// Every call of the ends of a ring over plain memory.
+    PlainEnds,
     /// `Recorded::call`, with room for what it keeps.
     Kept,
     /// Every call of slots, rounds, a remembered count and a graph.
@@ -36,17 +41,19 @@ pub enum Case {
 }
 
 impl Case {
-    pub const ALL: [Case; 12] = [
+    pub const ALL: [Case; 14] = [
         Case::Builder,
         Case::Build,
         Case::Open,
         Case::Record,
         Case::Ring,
+        Case::Plain,
         Case::Run,
         Case::Call,
         Case::Audit,
         Case::Core,
         Case::Ends,
+        Case::PlainEnds,
         Case::Kept,
         Case::Parts,
     ];
@@ -59,11 +66,13 @@ impl Case {
             Case::Open => "open",
             Case::Record => "record",
             Case::Ring => "ring",
+            Case::Plain => "plain",
             Case::Run => "run",
             Case::Call => "call",
             Case::Audit => "audit",
             Case::Core => "core",
             Case::Ends => "ends",
+            Case::PlainEnds => "plain-ends",
             Case::Kept => "kept",
             Case::Parts => "parts",
         }
@@ -87,11 +96,13 @@ fn tell_once<R: Print>(rt: &R, alloc: Global, case: Case) -> Result<(), Fault> {
         Case::Open => tell_opened(rt, alloc),
         Case::Record => tell_recorded(rt, alloc),
         Case::Ring => tell_ring(rt, alloc),
+        Case::Plain => tell_plain(rt, alloc),
         Case::Run => tell_run(rt, alloc),
         Case::Call => tell_calls(rt, alloc),
         Case::Audit => tell_audits(rt, alloc),
         Case::Core => tell_core(rt, alloc),
         Case::Ends => tell_ends(rt, alloc),
+        Case::PlainEnds => tell_plain_ends(rt, alloc),
         Case::Kept => tell_kept(rt, alloc),
         Case::Parts => tell_parts(rt, alloc),
     }

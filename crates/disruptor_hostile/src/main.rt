@@ -12,6 +12,7 @@ mod core_calls;
 mod fault;
 mod graphs;
 mod parts;
+mod plain_calls;
 mod recording;
 mod ring_calls;
 mod taking_none;
