@@ -1,7 +1,7 @@
 #!/usr/bin/env bash
 # Builds and runs a program of each language over libdisruptor, in a new folder, and compares what it prints: C by the static
 # library, and under the sanitizers of addresses and of undefined behaviour where the compiler has them; C++ and Rust by the
-# static library; Python by the shared one. A language whose compiler is not here is skipped, and named. It prints a line
+# static library; Python and Java by the shared one. A language whose compiler is not here is skipped, and named. It prints a line
 # for each failure, and then a count; its status is 0 where none failed.
 #
 #   tests/other_languages.sh FOLDER      that of `make lib`, with libdisruptor.a and libdisruptor.so
@@ -84,6 +84,22 @@ if command -v python3 > "$room/null" 2>&1 && python3 -c 'import ctypes' 2> "$roo
         -- env PYTHONDONTWRITEBYTECODE=1 python3 "$top/examples/python/ring.py" "$library/libdisruptor.so"
 else
     skip Python
+fi
+# The first java of this machine that calls foreign functions, from version 22 on.
+java_of_foreign() {
+    local java
+    for java in ${JAVA_HOME:+"$JAVA_HOME/bin/java"} "$(command -v java)" /usr/lib/jvm/*/bin/java; do
+        [ -x "$java" ] && "$java" --version 2> "$room/null" | grep -qE '^[a-z]+ (2[2-9]|[3-9][0-9])' || continue
+        printf '%s' "$java"
+        return
+    done
+    return 1
+}
+if java=$(java_of_foreign); then
+    try Java "$size"$'\n''a claim after the halt: halted'$'\n'"$all" \
+        -- "$java" --enable-native-access=ALL-UNNAMED "$top/examples/java/Ring.java" "$library/libdisruptor.so"
+else
+    skip Java
 fi
 [ -z "$skipped" ] || printf 'not here, and skipped:%s\n' "$skipped"
 printf 'other languages: %s programs, %s failed\n' $cases $failed
