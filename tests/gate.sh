@@ -44,6 +44,7 @@ for build in '' .by-rattle; do
         whole tests/rows.py "$built"
         whole tests/checks.py "$built"
         whole tests/words.py "$built"
+        whole tests/progress.py "$built"
         whole tests/hostile/run.py "$built"
         whole tests/hostile/refused.py "$built" "$calls"
     elif [ "$failed" = 0 ] && [ -z "$build" ]; then

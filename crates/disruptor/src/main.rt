@@ -6,8 +6,12 @@ ghost use Rattle.std.specs.Prelude.{◌≡◌, Some};
 ghost use Rattle.disruptor.specs.Faults.{program_line, program_status};
 
 mod output;
+mod progress;
+mod watched;
 
 use crate::output::{Printed, is_gone, part_of, put_in_place};
+use crate::progress::Progress;
+use crate::watched::{Input, Output};
 use dr_check::{CheckFault, check_drive, check_replay};
 use dr_command_line::{By, LineFault, Plan, Tool, plan};
 use dr_drive::drive;
@@ -16,7 +20,7 @@ use dr_seq::Size;
 use dr_workers::OpenGate;
 use std::alloc::Global;
 use std::fs::{self, File};
-use std::io::{BufWriter, Read, Write};
+use std::io::{BufWriter, IsTerminal, Read, Write};
 use std::process::ExitCode;
 use std::sync::Wait;
 use std::thread::Threads;
@@ -118,6 +122,23 @@ fn run_over<R: Read + Drop, W: Write + Drop, T: Threads + Wait + Sync>(
     Ok(())
 }
 
+// Runs a tool over an input, and shows on a terminal how far a replay is.
+fn run_watched<R: Read + Drop, W: Write + Drop, T: Threads + Wait + Sync>(
+    rt: &HostRuntime,
+    workers: &T,
+    input: R,
+    output: W,
+    is_terminal: bool,
+    task: Task,
+) -> Result<(), ReplayFault> {
+    let progress = Progress::new(rt, matches!(task, Task::Replay { .. }));
+    let input = Input::new(input, &progress);
+    let output = Output::new(output, &progress, is_terminal);
+    let ran = run_over(workers, rt.alloc(), input, output, task);
+    progress.clear();
+    ran
+}
+
 // Runs a tool over an input, and prints what it says.
 fn print_run<R: Read + Drop, T: Threads + Wait + Sync>(
     rt: &HostRuntime,
@@ -126,7 +147,8 @@ fn print_run<R: Read + Drop, T: Threads + Wait + Sync>(
     task: Task,
 ) -> Result<(), Fault> {
     let mut output = Printed::new(rt);
-    match run_over(workers, rt.alloc(), input, &mut output, task) {
+    let is_terminal = rt.stdout().is_terminal();
+    match run_watched(rt, workers, input, &mut output, is_terminal, task) {
         Ok(()) => Ok(()),
         Err(ReplayFault::File(FileFault::Write)) if output.is_gone() => Err(Fault::Gone),
         Err(fault) => Err(Fault::File(fault)),
@@ -148,7 +170,7 @@ fn write_run<R: Read + Drop, T: Threads + Wait + Sync>(
     let Ok(mut output) = File::create(rt, part.as_str()) else {
         return Err(ReplayFault::File(FileFault::Write));
     };
-    let mut ran = run_over(workers, rt.alloc(), input, &mut output, task);
+    let mut ran = run_watched(rt, workers, input, &mut output, false, task);
     if ran.is_ok() && put_in_place(rt, &output, part.as_str(), path).is_err() {
         ran = Err(ReplayFault::File(FileFault::Write));
     }
