@@ -14,14 +14,18 @@ use crate::receiver::Receiver;
 use crate::sender::Sender;
 use dr_runs::HandlerCounts;
 use std::alloc::Global;
+use std::snapshot::Snapshot;
 use std::sync::Arc;
 
-/// How far a ring came.
+/// How far a ring came, and, in contracts alone, which ends came together.
 #[derive(Drop)]
 pub struct Settled {
     claimed: u64,
     published: u64,
     handlers: Vec<HandlerCounts>,
+    sender: Snapshot<Sender>,
+    receivers: Snapshot<Vec<Receiver>>,
+    halter: Snapshot<Halter>,
 }
 
 impl Settled {
@@ -96,6 +100,7 @@ fn gather(
 /// where the halter never halted, the sender found no halt but its own.
 pub fn settle(sender: Sender, receivers: Vec<Receiver>, halter: Halter) -> Settled
     requires { AreAllEnds sender receivers.items halter }
+    ensures ends { (result.sender.value ≡ sender) × (result.receivers.value.items ≡ receivers.items) × (result.halter.value ≡ halter) }
     ensures claimed { result.claimed ≡ claimed_of sender.knows }
     ensures published { result.published ≡ length sender.knows.sent.published }
     ensures handlers { result.handlers.items ≡ map (λ e. handler_counts e.knows) receivers.items }
@@ -103,6 +108,11 @@ pub fn settle(sender: Sender, receivers: Vec<Receiver>, halter: Halter) -> Settl
     ensures unhalted { halter.knows.halted ≡ false → FoundUnhalted sender.knows }
     ensures run { HasRun sender receivers.items halter }
 {
+    let ends = (
+        Snapshot::of(&sender),
+        Snapshot::of(&receivers),
+        Snapshot::of(&halter),
+    );
     let station = sender.station;
     let mut seat = station.seat;
     let mut counts = sender.counts;
@@ -114,5 +124,8 @@ pub fn settle(sender: Sender, receivers: Vec<Receiver>, halter: Halter) -> Settl
         claimed: sender.claimed,
         published: sender.published,
         handlers: counts,
+        sender: ends.0,
+        receivers: ends.1,
+        halter: ends.2,
     }
 }
