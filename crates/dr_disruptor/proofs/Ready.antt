@@ -1,33 +1,42 @@
 -- The ends of a new ring, each given to a worker.
-use Rattle.std.proofs.Common.{◌≡◌, ℕ, zero, suc, List, map, All, false, Result, Ok, Err, refl, sym, subst, ap, ◌∙◌}
+use Rattle.std.proofs.Common.{◌≡◌, List, [], map, false, Result, Ok, Err, sym, subst, ap, ◌∙◌}
 use Rattle.std.specs.Prelude.{OnOk, is_err}
 use Rattle.std.proofs.lemmas.Bool.{false≢true}
-use Rattle.std.proofs.lemmas.List.Elements.{All-nil, All-cons}
 use Rattle.atomic_table.specs.Seated.{TableId}
 use Rattle.dr_ring.specs.declared.record.SenderRecord.{SenderRecord}
-use Rattle.dr_ring.specs.Meaning.Moments.{fresh_receiver, fresh_receivers}
+use Rattle.dr_ring.specs.declared.record.Step.{Step}
+use Rattle.dr_ring.specs.Meaning.Moments.{fresh_receivers, fresh_sender}
 use Rattle.dr_ring.specs.Meaning.Shape.{Shape, handlers_of}
-use Rattle.dr_ring.specs.Calls.Ends.{HalterEnd, ReceiverEnd, SenderEnd}
+use Rattle.dr_ring.specs.Calls.Ends.{HalterEnd, ReceiverEnd, SenderEnd, SenderPlace, sender_place}
 use Rattle.dr_ring.specs.Calls.Making.{AreFreshEnds, at_ring}
 use Rattle.dr_ring.specs.Calls.Settling.{AreAllEnds}
-use Rattle.dr_disruptor.specs.Serving.{AreReady, BeginsAt, Worker, given_end, given_handler}
+use Rattle.dr_disruptor.specs.Running.{new_sender}
+use Rattle.dr_disruptor.specs.Serving.{AreReady, Worker, given_end, given_handler}
 
-all_begin : (k : Shape) (t : TableId) (h n : ℕ) → All (BeginsAt k) (map (at_ring t) (fresh_receivers k h n))
-all_begin k t h zero = All-nil (BeginsAt k)
-all_begin k t h (suc n) = All-cons (BeginsAt k) (at_ring t (fresh_receiver k h)) (map (at_ring t) (fresh_receivers k (suc h) n)) (refl, refl, refl) (all_begin k t (suc h) n)
+abbrev the_end : TableId → SenderRecord → List Step → List Step → SenderEnd
+the_end ring knows past stored = record { ring = ring; knows = knows; past = past; stored = stored }
 
 pub are_ready : {A : Type 0} (k : Shape) (s : SenderEnd) (rs : List ReceiverEnd) (t : HalterEnd) (starts : List A) (ws : List (Worker A)) → AreFreshEnds k s rs t → AreAllEnds s rs t
     → map given_end ws ≡ rs → map given_handler ws ≡ starts → AreReady k starts s ws t
 are_ready k s rs t starts ws fresh all ends handlers =
-    let plan : s.knows.plan ≡ k = ap (λ (r : SenderRecord). r.plan) fresh.sender in
     record {
-      begins = fresh.sender;
+      fresh = subst (λ (l : List ReceiverEnd). AreFreshEnds k s l t) (sym ends) fresh;
       ends = subst (λ (l : List ReceiverEnd). AreAllEnds s l t) (sym ends) all;
-      unhalted = (ap (λ (e : HalterEnd). e.knows) fresh.halter, ap (λ (e : HalterEnd). e.stored) fresh.halter);
-      fresh = subst (λ (q : Shape). All (BeginsAt q) (map given_end ws)) (sym plan)
-          (subst (All (BeginsAt k)) (sym (ends ∙ fresh.receivers)) (all_begin k s.ring 0 (handlers_of k)));
       handlers = handlers;
     }
+
+-- what a sender that stayed at its place was when it was made, and the receivers beside it
+module _ (k : Shape) (s s' : SenderEnd) (rs : List ReceiverEnd) (t : HalterEnd) (fresh : AreFreshEnds k s rs t) (same : sender_place s' ≡ sender_place s) where
+  pub same_plan : s'.knows.plan ≡ k
+  same_plan = ap (λ (p : SenderPlace). p.1) same ∙ ap (λ (r : SenderRecord). r.plan) fresh.sender
+
+  pub same_ends : rs ≡ map (at_ring s'.ring) (fresh_receivers s'.knows.plan 0 (handlers_of s'.knows.plan))
+  same_ends = fresh.receivers ∙ ap (λ (t : TableId). map (at_ring t) (fresh_receivers k 0 (handlers_of k))) (ap (λ (p : SenderPlace). p.0) (sym same))
+      ∙ ap (λ (q : Shape). map (at_ring s'.ring) (fresh_receivers q 0 (handlers_of q))) (sym same_plan)
+
+  pub made_so : s ≡ new_sender s'.ring k
+  made_so = ap (λ (r : SenderRecord). the_end s.ring r s.past s.stored) fresh.sender ∙ ap (λ (p : List Step). the_end s.ring (fresh_sender k) p s.stored) fresh.past
+      ∙ ap (the_end s.ring (fresh_sender k) []) fresh.stored ∙ ap (λ (p : SenderPlace). new_sender p.0 k) (sym same)
 
 -- what holds of a result that is no error
 pub where_ok : {A E P : Type 0} (r : Result A E) → false ≡ is_err r → OnOk r P → P

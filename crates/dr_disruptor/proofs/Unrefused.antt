@@ -10,6 +10,7 @@ use Rattle.dr_workers.specs.declared.producer.Produced.{Produced}
 use Rattle.dr_workers.proofs.Unrefused.{Changes, gives_up_at_claim}
 use Rattle.dr_runs.proofs.Elements.{there, value_at}
 use Rattle.dr_ring.specs.declared.record.SenderRecord.{SenderRecord}
+use Rattle.dr_ring.specs.Meaning.Moments.{fresh_sender}
 use Rattle.dr_ring.specs.Meaning.Settling.{FoundUnhalted}
 use Rattle.dr_ring.specs.Meaning.Shape.{Shape}
 use Rattle.dr_ring.specs.Calls.Ends.{SenderEnd}
@@ -29,7 +30,8 @@ pub sender_fine : (k : Shape) (script : List Event) (produced : Produced) (S : I
     → FoundUnhalted S.back.knows → produced.fault ≡ None
 sender_fine k script produced S limit short within unhalted =
     let calls = S.calls in let gate = calls.holds.gate in
-    let before : S.given.knows.sent.pending ≡ [] = ap (λ (r : SenderRecord). r.sent.pending) S.fresh in
+    let fresh : S.given.knows ≡ fresh_sender k = ap (λ (e : SenderEnd). e.knows) S.fresh in
+    let before : S.given.knows.sent.pending ≡ [] = ap (λ (r : SenderRecord). r.sent.pending) fresh in
     ⊎_elim (λ all. all.1 ∙ unstopped gate.stopped (λ stopped. (gate.may stopped).2))
     (λ gives.
     let claim = gives_up_at_claim sender_does (λ (e : SenderEnd). e.knows.sent) changes (max (k.size / 4) 1) (omega arith) script
@@ -37,15 +39,13 @@ sender_fine k script produced S limit short within unhalted =
     let left : 0 < length (drop produced.sent script) = gives.1.0 in
     let rest : length (drop produced.sent script) ≡ length script - produced.sent = length-drop produced.sent script in
     let published : length S.back.knows.sent.published ≡ produced.sent = ap length S.published ∙ length-take-le produced.sent script within in
-    absurd (ring.no_refusal k S.given claim.last S.back calls.calls
-    (min (length (drop produced.sent script)) (max (k.size / 4) 1)) gives.0 S.fresh calls.lead S.complete unhalted
+    absurd (ring.no_refusal k S.given claim.last S.back calls.calls (min (length (drop produced.sent script)) (max (k.size / 4) 1)) gives.0 fresh calls.lead S.complete unhalted
     (omega arith) (omega arith) (omega arith) claim.other claim.claims))
     gate.answers
 
 -- workers that had no fault, the handlers' as in every run, and the sender's
-pub all_fine : {A : Type 0} (goes : Relation Event A) (starts : List A) (sent : List Event) (ran : Ran A) → IsRan goes starts sent None ran
-    → AreFine ran.endings.items
-all_fine goes starts sent ran is =
+pub all_fine : {A : Type 0} (goes : Relation Event A) (k : Shape) (starts : List A) (sent : List Event) (ran : Ran A) → IsRan goes k starts sent None ran → AreFine ran.endings.items
+all_fine goes k starts sent ran is =
     let n = length starts in let endings = ran.endings.items in let none : Ended = record { who = 0; fault = None } in
     let many : length endings - n ≡ 1 = sym (length-drop n endings) ∙ ap length is.last in
     All-from_get_or (λ (e : Ended). e.fault ≡ None) endings none

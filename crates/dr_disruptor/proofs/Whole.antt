@@ -5,14 +5,14 @@ use Rattle.dr_seq.specs.declared.event.Event.{Event}
 use Rattle.dr_meaning.specs.Calls.Handling.{Relation}
 use Rattle.dr_workers.specs.declared.fault.WorkFault.{WorkFault}
 use Rattle.dr_ring.specs.Calls.Ends.{SenderEnd}
-use Rattle.dr_ring.specs.Meaning.Moments.{fresh_sender}
+use Rattle.dr_ring.specs.Calls.Sending.{ClosesOnceDone}
 use Rattle.dr_ring.specs.Meaning.Records.{claimed as claimed_of}
 use Rattle.dr_ring.specs.Meaning.Settling.{FoundUnhalted}
 use Rattle.dr_ring.specs.Meaning.Shape.{Shape}
 use Rattle.dr_workers.specs.declared.producer.Produced.{Produced}
 use Rattle.dr_disruptor.specs.declared.running.Ran.{Ran}
 use Rattle.dr_disruptor.specs.declared.fault.RunFault.{RunFault}
-use Rattle.dr_disruptor.specs.Running.{AllWentThrough, AreFine, IsRan, IsRanBy, IsRun, IsSending}
+use Rattle.dr_disruptor.specs.Running.{AllWentThrough, AreFine, IsRan, IsRanBy, IsRun, IsSending, new_sender, sender_in}
 use Rattle.dr_disruptor.proofs.Unrefused.{all_fine, sender_fine}
 
 module _ {A : Type 0} (goes : Relation Event A) (k : Shape) (starts : List A) where
@@ -22,21 +22,26 @@ module _ {A : Type 0} (goes : Relation Event A) (k : Shape) (starts : List A) wh
   went_whole script ran limit is short =
       let none = sender_fine k script is.produced is.sending limit short is.within is.unhalted in
       let all : take is.produced.sent script ≡ script = ap (λ (n : ℕ). take n script) (is.all none) ∙ take_all (length script) script (omega arith) in (
-        all_fine goes starts (take is.produced.sent script) ran
-            (subst (λ (f : Option WorkFault). IsRan goes starts (take is.produced.sent script) f ran) none is.came),
+        all_fine goes k starts (take is.produced.sent script) ran (subst (λ (f : Option WorkFault). IsRan goes k starts (take is.produced.sent script) f ran) none is.came),
         subst (λ (l : List Event). AllWentThrough goes l starts ran.handlers.items) all is.came.through,
       )
 
   -- what came of what this sender did
   pub record Came (back : SenderEnd) (hs : List A) (fault : Option WorkFault) (ran : Ran A) : Type 0 where
-    pub is : IsRan goes hs back.knows.sent.published fault ran
+    pub is : IsRan goes k hs back.knows.sent.published fault ran
+    pub closes : ClosesOnceDone back (sender_in ran)
     pub claimed : ran.settled.claimed ≡ claimed_of back.knows
     pub unhalted : FoundUnhalted back.knows
 
-  pub came : (back : SenderEnd) (hs : List A) (fault : Option WorkFault) (r : Result (Ran A) RunFault) → IfOk r (IsRan goes hs back.knows.sent.published fault)
-      → IfOk r (λ x. x.settled.claimed ≡ claimed_of back.knows) → IfOk r (λ _. FoundUnhalted back.knows) → IfOk r (Came back hs fault)
-  came back hs fault (Ok x) is claimed unhalted = record { is = is; claimed = claimed; unhalted = unhalted }
-  came back hs fault (Err e) is claimed unhalted = tt
+  pub came : (back : SenderEnd) (hs : List A) (fault : Option WorkFault) (r : Result (Ran A) RunFault) → back.knows.plan ≡ k
+      → IfOk r (IsRan goes back.knows.plan hs back.knows.sent.published fault) → IfOk r (λ x. ClosesOnceDone back (sender_in x)) → IfOk r (λ x. x.settled.claimed ≡ claimed_of back.knows) → IfOk r (λ _. FoundUnhalted back.knows) → IfOk r (Came back hs fault)
+  came back hs fault (Ok x) plan is closes claimed unhalted = record {
+    is = subst (λ (q : Shape). IsRan goes q hs back.knows.sent.published fault x) plan is;
+    closes = closes;
+    claimed = claimed;
+    unhalted = unhalted;
+  }
+  came back hs fault (Err e) plan is closes claimed unhalted = tt
 
   -- the first of a script, as many as were published
   of_script : (script : List Event) (produced : Produced) (ran : Ran A) (sending : IsSending k script produced) → produced.sent ≤ length script
@@ -44,6 +49,7 @@ module _ {A : Type 0} (goes : Relation Event A) (k : Shape) (starts : List A) wh
   of_script script produced ran sending within all done = record {
     produced = produced;
     sending = sending;
+    closes = done.closes;
     sent = done.is.published ∙ ap length sending.published ∙ length-take-le produced.sent script within;
     within = within;
     all = all;
@@ -51,7 +57,7 @@ module _ {A : Type 0} (goes : Relation Event A) (k : Shape) (starts : List A) wh
         let published = ap length sending.published in let pending = ap length sending.complete in
         let sent = length-take-le produced.sent script within in let is = done.claimed in omega arith;
     unhalted = done.unhalted;
-    came = subst (λ (l : List Event). IsRan goes starts l produced.fault ran) sending.published done.is;
+    came = subst (λ (l : List Event). IsRan goes k starts l produced.fault ran) sending.published done.is;
   }
 
   pub run_of : (script : List Event) (produced : Produced) (hs : List A) (r : Result (Ran A) RunFault) → hs ≡ starts
@@ -67,7 +73,7 @@ module _ {A : Type 0} (goes : Relation Event A) (k : Shape) (starts : List A) wh
   whole_of script (Err e) limit short is = tt
 
   pub run_by : (sends : SenderEnd → Option WorkFault → SenderEnd → Type 0) (s s' : SenderEnd) (fault : Option WorkFault) (hs : List A) (r : Result (Ran A) RunFault)
-      → hs ≡ starts → s.knows ≡ fresh_sender k → sends s fault s' → IfOk r (Came s' hs fault)
+      → hs ≡ starts → s ≡ new_sender s'.ring k → sends s fault s' → IfOk r (Came s' hs fault)
       → IfOk r (IsRanBy sends goes k starts)
   run_by sends s s' fault hs (Ok ran) given fresh gave done = record {
     given = s;
@@ -75,8 +81,9 @@ module _ {A : Type 0} (goes : Relation Event A) (k : Shape) (starts : List A) wh
     fault = fault;
     fresh = fresh;
     sending = gave;
+    closes = done.closes;
     claimed = done.claimed;
     unhalted = done.unhalted;
-    came = subst (λ (l : List A). IsRan goes l s'.knows.sent.published fault ran) given done.is;
+    came = subst (λ (l : List A). IsRan goes k l s'.knows.sent.published fault ran) given done.is;
   }
   run_by sends s s' fault hs (Err e) given fresh gave done = tt

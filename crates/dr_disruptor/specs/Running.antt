@@ -12,14 +12,20 @@ use Rattle.dr_workers.specs.declared.fault.WorkFault.{WorkFault}
 use Rattle.dr_workers.specs.declared.ended.Ended.{Ended}
 use Rattle.dr_workers.specs.declared.ended.WorkerFault.{WorkerFault}
 use Rattle.dr_workers.specs.Meaning.FirstFault.{first_fault}
-use Rattle.dr_ring.specs.Calls.Ends.{SenderEnd}
+use Rattle.atomic_table.specs.Seated.{TableId}
+use Rattle.dr_ring.specs.Calls.Ends.{ReceiverEnd, SenderEnd}
+use Rattle.dr_ring.specs.Calls.Making.{at_ring}
+use Rattle.dr_ring.specs.Calls.Sending.{ClosesOnceDone}
+use Rattle.dr_ring.specs.Calls.Settling.{HasRun}
 use Rattle.dr_ring.specs.Calls.Telling.{sender_does}
-use Rattle.dr_ring.specs.Meaning.Moments.{fresh_sender}
+use Rattle.dr_ring.specs.Meaning.Moments.{fresh_receiver, fresh_sender}
 use Rattle.dr_ring.specs.Meaning.Records.{claimed as claimed_of}
 use Rattle.dr_ring.specs.Meaning.Settling.{FoundUnhalted}
 use Rattle.dr_ring.specs.Meaning.Shape.{Shape}
 use Rattle.dr_runs.specs.Gathering.{counts_at}
+use Rattle.dr_disruptor.specs.Serving.{Serving}
 use Rattle.dr_disruptor.specs.declared.running.Ran.{Ran}
+use Rattle.dr_disruptor.specs.declared.served.Served.{Served}
 use Rattle.dr_disruptor.specs.declared.fault.RunFault.{RunFault}
 use Rattle.dr_disruptor.specs.declared.fault.RunFault.TheVariants.{Worker}
 
@@ -40,6 +46,27 @@ pub record AllWentThrough {A : Type 0} (goes : Relation Event A) (events : List 
   pub many : length afters ≡ length starts
   pub each : (h : ℕ) (start after : A) → get_elem? starts h ≡ some start → get_elem? afters h ≡ some after → WentThrough goes start after events
 
+-- a sender of a ring of this shape, as it was made, and the receiver at a place
+abbrev pub new_sender : TableId → Shape → SenderEnd
+new_sender ring k = record { ring = ring; knows = fresh_sender k; past = []; stored = [] }
+
+abbrev pub new_receiver : TableId → Shape → ℕ → ReceiverEnd
+new_receiver ring k h = at_ring ring (fresh_receiver k h)
+
+-- the ends of the ring of a run, as they came together at last
+abbrev pub sender_in : {A : Type 0} → Ran A → SenderEnd
+sender_in ran = ran.settled.sender.value
+
+abbrev pub receivers_in : {A : Type 0} → Ran A → List ReceiverEnd
+receivers_in ran = ran.settled.receivers.value.items
+
+-- each handler had its events from the receiver at its place of that ring, and from no other
+abbrev pub AreServed : {A : Type 0} → Relation Event A → Shape → List A → Ran A → Type 0
+AreServed goes k starts ran =
+    (h : ℕ) (start : _) → get_elem? starts h ≡ some start
+    → (back : Served _) × (get_elem? (receivers_in ran) h ≡ some back.receiver) × (get_elem? ran.handlers.items h ≡ some back.handler)
+    × Serving goes start (new_receiver (sender_in ran).ring k h) back
+
 -- how many events a handler took, and how many it completed
 abbrev pub taken_in : {A : Type 0} → Ran A → ℕ → ℕ
 taken_in ran h = (counts_at ran.settled.handlers.items h).taken
@@ -51,8 +78,12 @@ completed_in ran h = (counts_at ran.settled.handlers.items h).completed
 abbrev pub AreFine : List Ended → Type 0
 AreFine endings = All (λ e. e.fault ≡ None) endings
 
--- what came of a new ring over which these events were sent, by a sender's worker that ended so: each handler went through all of them, and completed them
-pub record IsRan {A : Type 0} (goes : Relation Event A) (starts : List A) (sent : List Event) (sender : Option WorkFault) (ran : Ran A) : Type 0 where
+-- what came of a new ring of this shape over which these events were sent, by a sender's worker that ended so: each handler went through all of them, and completed them
+pub record IsRan {A : Type 0} (goes : Relation Event A) (k : Shape) (starts : List A) (sent : List Event) (sender : Option WorkFault) (ran : Ran A) : Type 0 where
+  -- the ring that came together at last is of this shape, and one run came to all of its ends
+  pub plan : (sender_in ran).knows.plan ≡ k
+  pub run : HasRun (sender_in ran) (receivers_in ran) ran.settled.halter.value
+  pub served : AreServed goes k starts ran
   pub published : ran.settled.published ≡ length sent
   pub through : AllWentThrough goes sent starts ran.handlers.items
   pub counted : length ran.settled.handlers.items ≡ length starts
@@ -67,34 +98,36 @@ pub record IsRan {A : Type 0} (goes : Relation Event A) (starts : List A) (sent 
 pub record IsSending (k : Shape) (script : List Event) (produced : Produced) : Type 0 where
   pub given : SenderEnd
   pub back : SenderEnd
-  pub fresh : given.knows ≡ fresh_sender k
+  pub fresh : given ≡ new_sender back.ring k
   pub calls : SomeCalls sender_does given back (worker.Sends (max (k.size / 4) 1) script (λ turn. ⊥) (λ turn. ⊥) produced)
   pub published : back.knows.sent.published ≡ take produced.sent script
   pub complete : back.knows.sent.pending ≡ []
 
--- what came of a script over a ring of this shape: the sender published the first of its events, all of them where it ended without a fault
+-- what came of a script over a new ring of this shape: its sender published the first of the events, all of them where it ended without a fault, and then closed the ring
 pub record IsRun {A : Type 0} (goes : Relation Event A) (k : Shape) (starts : List A) (script : List Event) (ran : Ran A) : Type 0 where
   pub produced : Produced
   pub sending : IsSending k script produced
+  pub closes : ClosesOnceDone sending.back (sender_in ran)
   pub sent : ran.settled.published ≡ produced.sent
   pub within : produced.sent ≤ length script
   pub all : produced.fault ≡ None → produced.sent ≡ length script
   pub claimed : ran.settled.claimed ≡ produced.sent
   -- nobody halted the ring, as far as the sender looked
   pub unhalted : FoundUnhalted sending.back.knows
-  pub came : IsRan goes starts (take produced.sent script) produced.fault ran
+  pub came : IsRan goes k starts (take produced.sent script) produced.fault ran
 
--- what came of a closure's sending: it went from the sender of a new ring of this shape to one that published what was sent
+-- what came of a closure's sending: it went from the sender of a new ring of this shape to one that published what was sent, and that then closed the ring, unless it left a claim open
 pub record IsRanBy {A : Type 0} (sends : SenderEnd → Option WorkFault → SenderEnd → Type 0) (goes : Relation Event A) (k : Shape) (starts : List A) (ran : Ran A) : Type 0 where
   pub given : SenderEnd
   pub back : SenderEnd
   pub fault : Option WorkFault
-  pub fresh : given.knows ≡ fresh_sender k
+  pub fresh : given ≡ new_sender back.ring k
   pub sending : sends given fault back
+  pub closes : ClosesOnceDone back (sender_in ran)
   pub claimed : ran.settled.claimed ≡ claimed_of back.knows
   -- nobody halted the ring before its sender did so itself, as far as it looked
   pub unhalted : FoundUnhalted back.knows
-  pub came : IsRan goes starts back.knows.sent.published fault ran
+  pub came : IsRan goes k starts back.knows.sent.published fault ran
 
 -- the fault that is the first of the workers'
 abbrev pub IsFirst : List Ended → RunFault → Type 0

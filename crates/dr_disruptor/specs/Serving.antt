@@ -1,5 +1,5 @@
 -- What a handler's worker promises, and what workers gave back.
-use Rattle.std.specs.Prelude.{◌≡◌, ◌≢◌, ℕ, ◌+◌, ◌^◌, ◌≤◌, true, List, [], ◌∷◌, length, map, All, None, Some, IfNone}
+use Rattle.std.specs.Prelude.{◌≡◌, ◌≢◌, ℕ, ◌+◌, ◌^◌, ◌≤◌, true, List, [], ◌∷◌, length, map, None, Some, IfNone}
 use mathlib.Core.Option.{some}
 use lib.ListN.{get_elem?}
 use Rattle.std.specs.declared.thread.PromisedHandle.{PromisedHandle}
@@ -9,9 +9,9 @@ use Rattle.dr_meaning.specs.Calls.Handling.{Relation}
 use Rattle.dr_workers.specs.Calls.Serving as worker
 use Rattle.dr_ring.specs.Meaning.Shape.{Shape}
 use Rattle.dr_ring.specs.Calls.Ends.{SenderEnd, ReceiverEnd, HalterEnd, receiver_place, received_of}
+use Rattle.dr_ring.specs.Calls.Making.{AreFreshEnds}
 use Rattle.dr_ring.specs.Calls.Settling.{AreAllEnds}
 use Rattle.dr_ring.specs.Calls.Telling.{receiver_does}
-use Rattle.dr_ring.specs.Meaning.Moments.{fresh_halter, fresh_sender}
 use Rattle.dr_workers.specs.Meaning.Work.{IsDone}
 use Rattle.dr_workers.specs.declared.ended.Ended.{Ended}
 use Rattle.dr_workers.specs.declared.fault.WorkFault.TheVariants.{Memory, Stopped}
@@ -41,10 +41,6 @@ given_end w = w.promise.end.value
 abbrev pub given_handler : {A : Type 0} → Worker A → A
 given_handler w = w.promise.start.value
 
--- an end of a ring of this shape that received nothing yet
-abbrev pub BeginsAt : Shape → ReceiverEnd → Type 0
-BeginsAt k e = (e.knows.received ≡ []) × (e.knows.completed ≡ 0) × (e.knows.plan ≡ k)
-
 -- each worker gave back what it promised, in their order
 pub record AreKept {A : Type 0} (goes : Relation Event A) (workers : List (Worker A)) (served : List (Served A)) : Type 0 where
   pub many : length served ≡ length workers
@@ -60,10 +56,8 @@ endings_from who (s ∷ served) = record { who = who; fault = s.fault } ∷ endi
 abbrev pub shape_of : List (List ℕ) → ℕ → Shape
 shape_of upstreams size = record { upstreams = upstreams; size = size; limit = 2 ^ 62 }
 
--- the sender of a new ring of this shape, a worker for each handler, each with the end at its place, and the halter, which has stored nothing
+-- the sender of a new ring of this shape, a worker for each handler, each with the ring's end at its place, and the halter; no end has done anything yet
 pub record AreReady {A : Type 0} (k : Shape) (starts : List A) (sender : SenderEnd) (workers : List (Worker A)) (halter : HalterEnd) : Type 0 where
-  pub begins : sender.knows ≡ fresh_sender k
+  pub fresh : AreFreshEnds k sender (map given_end workers) halter
   pub ends : AreAllEnds sender (map given_end workers) halter
-  pub unhalted : (halter.knows ≡ fresh_halter k) × (halter.stored ≡ [])
-  pub fresh : All (BeginsAt sender.knows.plan) (map given_end workers)
   pub handlers : map given_handler workers ≡ starts

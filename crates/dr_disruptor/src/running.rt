@@ -1,17 +1,21 @@
 //! A whole run over a ring.
 
-ghost use Rattle.std.specs.Prelude.{◌≡◌, false, List, Option, None, All, IfErr, IfOk, length, map, take};
+ghost use Rattle.std.specs.Prelude.{◌≡◌, false, List, Option, None, IfErr, IfOk, length, map, take};
 ghost use Rattle.std.specs.Fn.{FnOnceReturnsAtMut};
 ghost use Rattle.dr_seq.specs.declared.event.Event.{Event};
 ghost use Rattle.dr_workers.specs.Meaning.FirstFault.{first_fault as first_of};
 ghost use Rattle.dr_workers.specs.declared.fault.WorkFault.{WorkFault};
 ghost use Rattle.dr_ring.specs.Calls.Ends.{SenderEnd, sender_place};
+ghost use Rattle.dr_ring.specs.Calls.Making.{at_ring};
+ghost use Rattle.dr_ring.specs.Calls.Sending.{ClosesOnceDone};
 ghost use Rattle.dr_ring.specs.Calls.Settling.{AreAllEnds};
+ghost use Rattle.dr_ring.specs.Meaning.Moments.{fresh_receivers};
 ghost use Rattle.dr_ring.specs.Meaning.Records.{claimed as claimed_of};
 ghost use Rattle.dr_ring.specs.Meaning.Settling.{FoundUnhalted};
+ghost use Rattle.dr_ring.specs.Meaning.Shape.{handlers_of};
 ghost use Rattle.dr_disruptor.specs.Refused.{refusal_of};
 ghost use Rattle.dr_disruptor.specs.Running.{AllWentThrough, AreFine, IsFirst, IsRan, IsRanBy, IsRun};
-ghost use Rattle.dr_disruptor.specs.Serving.{BeginsAt, given_end, given_handler, shape_of};
+ghost use Rattle.dr_disruptor.specs.Serving.{given_end, given_handler, shape_of};
 ghost use Rattle.dr_disruptor.specs.declared.fault.RunFault.TheVariants.{Memory};
 
 use crate::fault::RunFault;
@@ -69,8 +73,9 @@ fn finish<R: Threads, H: Handler<Event> + Drop>(
 ) -> Result<Ran<H>, RunFault>
     requires ends { AreAllEnds sender (map given_end workers.items) halter }
     requires unhalted { halter.knows.halted ≡ false }
-    requires fresh { All (BeginsAt sender.knows.plan) (map given_end workers.items) }
-    ensures ran { IfOk result (IsRan H.goes (map given_handler workers.items) sender.knows.sent.published fault) }
+    requires fresh { map given_end workers.items ≡ map (at_ring sender.ring) (fresh_receivers sender.knows.plan 0 (handlers_of sender.knows.plan)) }
+    ensures ran { IfOk result (IsRan H.goes sender.knows.plan (map given_handler workers.items) sender.knows.sent.published fault) }
+    ensures closes { IfOk result (λ ran. ClosesOnceDone sender ran.settled.sender.value) }
     ensures claimed { IfOk result (λ ran. ran.settled.claimed ≡ claimed_of sender.knows) }
     ensures unhalted { IfOk result (λ _. FoundUnhalted sender.knows) }
     ensures memory { IfErr result (λ e. e ≡ Memory) }

@@ -74,6 +74,7 @@ fn abandon<R: Threads, H: Handler<Event> + Drop>(
     sender: &mut LiveSender,
     workers: Vec<Worker<H>>,
 )
+    requires { sender.old.knows.sent.published ≡ [] }
     ensures { ClosesOnceDone sender.old sender.new }
 {
     let _closed = sender.call(|end| end.close());

@@ -1,15 +1,19 @@
-use Rattle.std.proofs.Common.{◌≡◌, ◌+◌, List, Option, length, map, All, sym, subst, ap, ◌∙◌}
+use Rattle.std.proofs.Common.{◌≡◌, ◌+◌, List, Option, length, map, sym, subst, ap, ◌∙◌}
+use Rattle.atomic_table.specs.Seated.{TableId}
 use Rattle.dr_seq.specs.declared.event.Event.{Event}
-use Rattle.dr_ring.specs.Meaning.Shape.{Shape}
+use Rattle.dr_ring.specs.Meaning.Shape.{handlers_of}
 use Rattle.dr_ring.specs.Meaning.Records.{claimed as claimed_of}
 use Rattle.dr_ring.specs.Meaning.Settling.{FoundUnhalted, Settles}
 use Rattle.dr_ring.specs.Calls.Ends.{ReceiverEnd, SenderEnd, SenderPlace}
+use Rattle.dr_ring.specs.Calls.Making.{at_ring}
+use Rattle.dr_ring.specs.Calls.Sending.{ClosesOnceDone}
 use Rattle.dr_ring.specs.Calls.Settling.{AreAllEnds, handler_counts}
+use Rattle.dr_ring.specs.Meaning.Moments.{fresh_receivers}
 use Rattle.dr_ring.proofs.Unrefused.{unhalted_before}
 use Rattle.dr_disruptor.specs.declared.running.Ran.{Ran}
 use Rattle.dr_disruptor.specs.Running.{IsRan}
-use Rattle.dr_disruptor.specs.Serving.{BeginsAt, given_end, given_handler}
-use Rattle.dr_disruptor.proofs.Settled.{all_back, all_moved, is_ran}
+use Rattle.dr_disruptor.specs.Serving.{given_end, given_handler}
+use Rattle.dr_disruptor.proofs.Settled.{all_back, all_moved, is_ran, same_run}
 use Rattle.dr_disruptor.proofs.running.finish.Goals as goal
 
 pub settle-settled-requires : goal.settle-settled-requires
@@ -30,9 +34,12 @@ returns-clause-ran g c =
     let back = c.in_ok-back.back in
     let receivers = map (λ b. b.receiver) served in
     let plan : sender.knows.plan ≡ c.args.sender.knows.plan = ap (λ (p : SenderPlace). p.1) c.joined.ensures.closes.place in
-    let all : AreAllEnds sender (map given_end workers) c.args.halter = all_moved c.args.sender sender
-    (map given_end workers) c.args.halter c.joined.ensures.closes.place c.requires.ends in
-    let fresh : All (BeginsAt sender.knows.plan) (map given_end workers) = subst (λ (k : Shape). All (BeginsAt k) (map given_end workers)) (sym plan) c.requires.fresh in
+    let all : AreAllEnds sender (map given_end workers) c.args.halter = all_moved c.args.sender sender (map given_end workers) c.args.halter c.joined.ensures.closes.place c.requires.ends in
+    let k = c.args.sender.knows.plan in
+    let ring : c.args.sender.ring ≡ sender.ring = ap (λ (p : SenderPlace). p.0) (sym c.joined.ensures.closes.place) in
+    let fresh : map given_end workers ≡ map (at_ring sender.ring) (fresh_receivers k 0 (handlers_of k)) =
+    c.requires.fresh ∙ ap (λ (t : TableId). map (at_ring t) (fresh_receivers k 0 (handlers_of k))) ring
+    in
     let settles : Settles sender.knows (map (λ (e : ReceiverEnd). e.knows) receivers) =
     subst (λ (l : List ReceiverEnd). Settles sender.knows (map (λ (e : ReceiverEnd). e.knows) l)) c.in_ok-back.ensures.receivers
     (subst (λ (e : SenderEnd). Settles e.knows (map (λ (r : ReceiverEnd). r.knows) c.in_ok-back.back.receivers.items)) c.into_end.ensures c.settle-settled.ensures.lists)
@@ -41,9 +48,16 @@ returns-clause-ran g c =
     c.settle-settled.ensures.handlers ∙ ap (map (λ (e : ReceiverEnd). handler_counts e.knows)) c.in_ok-back.ensures.receivers
     in
     let ran : Ran g.row.H.Denot = record { handlers = back.handlers; settled = c.settle-settled.result; endings = back.endings } in
-    let is = is_ran g.H.Handler.goes sender workers served c.in_ok-served.ensures.kept ran c.args.halter all fresh settles counts c.args.fault
-    (c.settle-settled.ensures.published ∙ ap (λ (e : SenderEnd). length e.knows.sent.published) c.into_end.ensures) c.in_ok-back.ensures.handlers c.in_ok-back.ensures.endings in
-    subst (λ (l : List Event). IsRan g.H.Handler.goes (map given_handler workers) l c.args.fault ran) c.joined.ensures.closes.published is
+    let ends = c.settle-settled.ensures.ends in
+    let here : ran.settled.sender.value ≡ sender = ends.0 ∙ c.into_end.ensures in
+    let theirs : ran.settled.receivers.value.items ≡ receivers = ends.1 ∙ c.in_ok-back.ensures.receivers in
+    let run = same_run c.into_end.result ran.settled.sender.value back.receivers.items ran.settled.receivers.value.items c.args.halter ran.settled.halter.value ends.0 ends.1 ends.2 c.settle-settled.ensures.run in
+    let is = is_ran g.H.Handler.goes sender workers served c.in_ok-served.ensures.kept k ran c.args.halter all plan fresh settles counts c.args.fault here theirs run (c.settle-settled.ensures.published ∙ ap (λ (e : SenderEnd). length e.knows.sent.published) c.into_end.ensures) c.in_ok-back.ensures.handlers c.in_ok-back.ensures.endings in
+    subst (λ (l : List Event). IsRan g.H.Handler.goes k (map given_handler workers) l c.args.fault ran) c.joined.ensures.closes.published is
+
+pub returns-clause-closes : goal.returns-clause-closes
+returns-clause-closes g c =
+    subst (λ (e : SenderEnd). ClosesOnceDone c.args.sender e) (sym (c.settle-settled.ensures.ends.0 ∙ c.into_end.ensures)) c.joined.ensures.closes
 
 pub returns-clause-claimed : goal.returns-clause-claimed
 returns-clause-claimed g c =

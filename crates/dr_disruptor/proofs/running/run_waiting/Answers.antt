@@ -2,16 +2,22 @@ use Rattle.std.proofs.Common.{rules, ◌<◌, ◌^◌, ◌≡◌, ℕ, ◌/◌, 
 use Rattle.dr_seq.specs.declared.event.Event.{Event}
 use Rattle.dr_meaning.specs.Calls.Calling.{SomeCalls}
 use Rattle.dr_workers.specs.Calls.Serving as worker
-use Rattle.dr_ring.specs.declared.record.HalterRecord.{HalterRecord}
 use Rattle.dr_ring.specs.declared.record.SenderRecord.{SenderRecord}
+use Rattle.dr_ring.specs.Calls.Ends.{HalterEnd}
 use Rattle.dr_ring.specs.Calls.Telling.{sender_does}
 use Rattle.dr_disruptor.specs.Running.{IsSending}
-use Rattle.dr_disruptor.specs.Serving.{given_handler, shape_of}
+use Rattle.dr_disruptor.specs.Serving.{given_end, given_handler, shape_of}
+use Rattle.dr_disruptor.proofs.Ready.{made_so, same_ends, same_plan}
 use Rattle.dr_disruptor.proofs.Whole.{came, run_of, whole_of}
 use Rattle.dr_disruptor.proofs.running.run_waiting.Goals as goal
 
 pub finish-requires-clause-unhalted : goal.finish-requires-clause-unhalted
-finish-requires-clause-unhalted g c = ap (λ (t : HalterRecord). t.halted) c.in_ok-sender.ensures.ready.unhalted.0
+finish-requires-clause-unhalted g c = ap (λ (t : HalterEnd). t.knows.halted) c.in_ok-sender.ensures.ready.fresh.halter
+
+pub finish-requires-clause-fresh : goal.finish-requires-clause-fresh
+finish-requires-clause-fresh g c =
+    let made = c.in_ok-sender in let produced = c.produce_with-produced in
+    same_ends (shape_of c.args.graph.now.upstreams c.args.size) made.sender produced.new.inlet (map given_end made.workers.items) made.halter made.ensures.ready.fresh produced.ensures.kept
 
 pub returns-clause-run : goal.returns-clause-run
 returns-clause-run g c =
@@ -20,22 +26,24 @@ returns-clause-run g c =
     let produced = c.produce_with-produced in
     let upstreams = c.args.graph.now.upstreams in
     let script = c.args.script.now in
-    let none = ap (λ (r : SenderRecord). r.sent.published) ready.begins in
+    let k = shape_of upstreams c.args.size in
+    let ends = map given_end made.workers.items in
+    let none = ap (λ (r : SenderRecord). r.sent.published) ready.fresh.sender in
+    let plan = same_plan k made.sender produced.new.inlet ends made.halter ready.fresh produced.ensures.kept in
     let cut = c.max-cut.ensures ∙ ap (λ (n : ℕ). max (n / 4) 1) c.get.ensures.value in
-    let sending : IsSending (shape_of upstreams c.args.size) script produced.result = record {
+    let sending : IsSending k script produced.result = record {
       given = made.sender;
       back = produced.new.inlet;
-      fresh = ready.begins;
+      fresh = made_so k made.sender produced.new.inlet ends made.halter ready.fresh produced.ensures.kept;
       calls = subst (λ (n : ℕ). SomeCalls sender_does made.sender produced.new.inlet (worker.Sends {E = Event} n script (λ turn. ⊥) (λ turn. ⊥) produced.result)) cut produced.ensures.sends;
-      complete = produced.ensures.open (ap (λ (r : SenderRecord). r.sent.pending) ready.begins);
+      complete = produced.ensures.open (ap (λ (r : SenderRecord). r.sent.pending) ready.fresh.sender);
       published = produced.ensures.sent ∙ ap (λ (l : List Event). l ++ take produced.result.sent script) none;
     }
     in
     let all : produced.result.fault ≡ None → produced.result.sent ≡ length script = λ fine. rw fine at produced.ensures.all in
-    run_of g.H.Handler.goes (shape_of upstreams c.args.size) c.args.handlers.items script produced.result (map given_handler made.workers.items)
+    run_of g.H.Handler.goes k c.args.handlers.items script produced.result (map given_handler made.workers.items)
     c.finish.result ready.handlers sending produced.ensures.within all
-    (came g.H.Handler.goes (shape_of upstreams c.args.size) c.args.handlers.items produced.new.inlet
-    (map given_handler made.workers.items) produced.result.fault c.finish.result c.finish.ensures.ran c.finish.ensures.claimed c.finish.ensures.unhalted)
+    (came g.H.Handler.goes k c.args.handlers.items produced.new.inlet (map given_handler made.workers.items) produced.result.fault c.finish.result plan c.finish.ensures.ran c.finish.ensures.closes c.finish.ensures.claimed c.finish.ensures.unhalted)
 
 pub returns-clause-whole : goal.returns-clause-whole
 returns-clause-whole g c =
