@@ -50,9 +50,10 @@ abbrev pub ShowsAll : {A : Type 0} → Result A Refusal → ℕ → List Event �
 ShowsAll (Ok done) size events v h = Rests size events (length events) (each (length events)) v × AreShown h events
 ShowsAll (Err refusal) size events v h = ⊥
 
--- some events, and no others, went through an exchange of this size to three handlers
+-- some events, and no others, went through an exchange of this size to three handlers, none of which failed
 pub record WentThrough (size : ℕ) (events : List Event) : Type 0 where
   pub core : CoreView Event
   pub handlers : Handlers
   pub rests : Rests size events (length events) (each (length events)) core
   pub shown : AreShown handlers events
+  pub well : AreWell handlers

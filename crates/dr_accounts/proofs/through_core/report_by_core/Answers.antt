@@ -18,4 +18,5 @@ returns-clause-through c =
       handlers = c.pass.new.handlers;
       rests = subst (λ n. Rests n events (length events) (each (length events)) c.pass.new.core) same c.in-Ok.ensures.0;
       shown = c.in-Ok.ensures.1;
+      well = c.is_failed.ensures.well c.if-is_failed.false;
     })
