@@ -40,7 +40,8 @@ pub trait Reporter: Handler<Event> + Drop {
 
 /// The part of a handler alone. An error is that memory ran out, here or when an event was handled.
 pub fn part<H: Reporter>(handler: &H, alloc: Global) -> Result<String, AllocError>
-    ensures { (first : H) (batches : List (Dealt Event)) → H.is_new first → GoesThrough H.goes first (shown_of batches) handler.now → IfOk result (λ text. string_bytes text ≡ H.part_of (dealt_events batches)) }
+    ensures text { (first : H) (batches : List (Dealt Event)) → H.is_new first → GoesThrough H.goes first (shown_of batches) handler.now → IfOk result (λ text. string_bytes text ≡ H.part_of (dealt_events batches)) }
+    ensures well { IfOk result (λ text. H.failed handler.now ≡ false) }
 {
     if handler.has_failed() {
         return Err(AllocError);

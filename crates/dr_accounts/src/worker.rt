@@ -70,7 +70,7 @@ impl<P, G> Drop for PartOf<P, G> {
 }
 
 impl<P: Reporter, G: Gate> Promise<Worked> for PartOf<P, G> {
-    ghost kept_by = { λ p r. Keeps P.goes P.is_new P.part_of (G.may_stop p.gate.value p.who) (G.must_stop p.gate.value p.who) p.end.value r };
+    ghost kept_by = { λ p r. Keeps P.goes P.is_new P.failed P.part_of (G.may_stop p.gate.value p.who) (G.must_stop p.gate.value p.who) p.end.value r };
 }
 
 /// Takes a new handler through all events of an end, up to 256 of them at once. A handler that finds
@@ -85,7 +85,7 @@ pub fn work<R: Wait, G: Gate, P: Reporter>(
     alloc: Global,
     bell: &Bell,
 ) -> Worked
-    ensures { Keeps P.goes P.is_new P.part_of (G.may_stop gate.now who) (G.must_stop gate.now who) receiver result }
+    ensures { Keeps P.goes P.is_new P.failed P.part_of (G.may_stop gate.now who) (G.must_stop gate.now who) receiver result }
 {
     let mut handler = P::begin(alloc);
     let mut buf = [Event::NONE; BATCH];

@@ -45,10 +45,10 @@ fine_before : (fault answer : Option WorkFault) → AnswersFor fault answer → 
 fine_before fault answer answers fine = ⊎_elim (λ same. sym same ∙ fine) (λ memory. absurd (none-some Memory (sym fine ∙ memory))) answers
 
 -- a handler that received events
-heeds : {A : Type 0} (goes : Relation Event A) (IsNew : A → Type 0) (may_stop must_stop : ℕ → Type 0) (given back : ReceiverEnd) (answer : Option WorkFault)
-    (event : Event) (events : List Event) → IsServed goes IsNew may_stop must_stop given back answer → given.knows.received ≡ [] → back.knows.received ≡ event ∷ events
+heeds : {A : Type 0} (goes : Relation Event A) (IsNew : A → Type 0) (failed : A → Bool) (may_stop must_stop : ℕ → Type 0) (given back : ReceiverEnd) (answer : Option WorkFault)
+    (event : Event) (events : List Event) → IsServed goes IsNew failed may_stop must_stop given back answer → given.knows.received ≡ [] → back.knows.received ≡ event ∷ events
     → answer ≡ None → must_stop 0 → ⊥
-heeds goes IsNew may_stop must_stop given back answer event events is none received fine must =
+heeds goes IsNew failed may_stop must_stop given back answer event events is none received fine must =
     let gate = is.calls.holds.gate in
     let batches = batches_in is.calls.calls in
     let handed : HandsOut batches (received_of given.knows) (received_of back.knows) = is.calls.holds.works.handed in
@@ -101,9 +101,9 @@ module _ (may_stop must_stop : ℕ → ℕ → Type 0) (size : ℕ) where
   run_heeds (event ∷ events) s j r b ran is first second third through =
       let Passes : ℕ → Type 0 = λ who. must_stop who 0 → ⊥ in
       let calls = is.sending.calls in
-      All-cons Passes 0 (1 ∷ 2 ∷ 16 ∷ []) (heeds _ _ _ _ j ran.journal.receiver _ event events is.journal.served first through.journal.0 through.journal.1)
-      (All-cons Passes 1 (2 ∷ 16 ∷ []) (heeds _ _ _ _ r ran.replica.receiver _ event events is.replica.served second through.replica.0 through.replica.1)
-      (All-cons Passes 2 (16 ∷ []) (heeds _ _ _ _ b ran.business.receiver _ event events is.business.served third through.business.0 through.business.1)
+      All-cons Passes 0 (1 ∷ 2 ∷ 16 ∷ []) (heeds _ _ _ _ _ j ran.journal.receiver _ event events is.journal.served first through.journal.0 through.journal.1)
+      (All-cons Passes 1 (2 ∷ 16 ∷ []) (heeds _ _ _ _ _ r ran.replica.receiver _ event events is.replica.served second through.replica.0 through.replica.1)
+      (All-cons Passes 2 (16 ∷ []) (heeds _ _ _ _ _ b ran.business.receiver _ event events is.business.served third through.business.0 through.business.1)
       (All-cons Passes 16 [] (sends_heed _ event events _ _ ran.produced calls.calls calls.holds through.sender) (All-nil Passes))))
 
 -- where a report is said

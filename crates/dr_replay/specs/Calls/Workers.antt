@@ -45,13 +45,13 @@ pub record IsSending (cut : ℕ) (events : List Event) (may_stop must_stop : ℕ
 -- the promises of the three handlers' workers
 
 abbrev pub KeepsJournal : (ℕ → Type 0) → (ℕ → Type 0) → ReceiverEnd → Worked → Type 0
-KeepsJournal may_stop must_stop given back = Keeps (λ old event s end new. Journals old event new) (λ j. IsJournalOf j []) journal_part may_stop must_stop given back
+KeepsJournal may_stop must_stop given back = Keeps (λ old event s end new. Journals old event new) (λ j. IsJournalOf j []) (λ j. j.failed) journal_part may_stop must_stop given back
 
 abbrev pub KeepsReplica : (ℕ → Type 0) → (ℕ → Type 0) → ReceiverEnd → Worked → Type 0
-KeepsReplica may_stop must_stop given back = Keeps (λ old event s end new. Copies old event new) (λ r. IsReplicaOf r []) replica_part may_stop must_stop given back
+KeepsReplica may_stop must_stop given back = Keeps (λ old event s end new. Copies old event new) (λ r. IsReplicaOf r []) (λ r. r.failed) replica_part may_stop must_stop given back
 
 abbrev pub KeepsBusiness : (ℕ → Type 0) → (ℕ → Type 0) → ReceiverEnd → Worked → Type 0
-KeepsBusiness may_stop must_stop given back = Keeps (λ old event s end new. Books old event new) (λ b. IsBusinessOf b []) business_part may_stop must_stop given back
+KeepsBusiness may_stop must_stop given back = Keeps (λ old event s end new. Books old event new) (λ b. IsBusinessOf b []) (λ b. b.failed) business_part may_stop must_stop given back
 
 -- what came of an exchange: the sender published the first of the events, all of them where it has no fault, and closed, and each worker keeps its promise
 pub record IsRun (may_stop must_stop : ℕ → ℕ → Type 0) (size : ℕ) (events : List Event) (s : SenderEnd) (j r b : ReceiverEnd) (ran : Ran) : Type 0 where
