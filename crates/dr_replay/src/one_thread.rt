@@ -30,7 +30,7 @@ pub fn replay_plain<R: Read, W: Write>(
         RunWrites result (W.contents (inner_of writer.old)) (W.contents (inner_of writer.new)) (replay_text input)) }
     // Any fault but a failed write leaves nothing written, whether or not the input's bytes are known.
     ensures unwritten { IfErr result (λ e. FaultKeeps e (W.contents (inner_of writer.old)) (W.contents (inner_of writer.new))) }
-    // Where it succeeds, these events went through an exchange of this size.
+    // Where it succeeds, there are an exchange of this size that these events went through, and handlers that hold them.
     ensures through { IfSome (R.remaining (inner_of reader.old)) (λ input. IfOk result (λ _. IfOk (events_in input) (WentThrough size))) }
     // A failed read or write is answered where one failed, and nowhere else.
     ensures counted { CountsFaults result (faults_of reader.old) (faults_of reader.new) (faults_of writer.old) (faults_of writer.new) }
