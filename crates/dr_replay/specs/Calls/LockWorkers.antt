@@ -24,6 +24,7 @@ pub record HasHandled (begun : History Event) (h : ℕ) (may_stop must_stop : �
   pub after : Listed
   pub fault : Option WorkFault
   pub new : start.list ≡ []
+  pub well : start.failed ≡ false
   pub calls : SomeCalls (OutletAsks begun h) no_calls back (Serves 256 Lists start after None None may_stop must_stop fault)
   pub answers : AnswersFor fault answer
   pub stopped : answer ≡ Some Stopped → (turn : ℕ) × may_stop turn

@@ -45,6 +45,7 @@ returns g c =
       after = run.new.handler;
       fault = run.result;
       new = c.new-listing.ensures.empty;
+      well = c.new-listing.ensures.well;
       calls = asked (λ (old : LockedOutlet _ _ _) call (new : LockedOutlet _ _ _). (new.h ≡ old.h) × OutletAsks begun old.h old.end call new.end) (OutletAsks begun c.args.who) (λ outlet. outlet.end) (λ outlet. outlet.h ≡ c.args.who)
           (λ old new call here is. (is.0 ∙ here, subst (λ n. OutletAsks begun n old.end call new.end) here is.1))
           {Holds = Serves 256 Lists c.new-listing.result run.new.handler None None (g.G.Gate.may_stop gate c.args.who) (g.G.Gate.must_stop gate c.args.who) run.result}
