@@ -310,7 +310,7 @@ pub fn replay_ring<S: Threads + Wait + Sync, R: Read, W: Write, G: Gate + Sync>(
         ReplayWrites result (W.contents (inner_of writer.old)) (W.contents (inner_of writer.new)) (replay_text input)) }
     // Any fault but a failed write leaves nothing written, whether or not the input's bytes are known.
     ensures unwritten { IfErr result (λ e. ReplayFaultKeeps e (W.contents (inner_of writer.old)) (W.contents (inner_of writer.new))) }
-    // Where several workers have faults, the first is answered: the least worker's, which its gate stopped: no worker is refused a call.
+    // Where workers have faults, the least worker's is answered, which its gate stopped: none is refused a call.
     ensures first { IfErr result (IsFirstOfSome (MayStop G.may_stop gate.now) ring_workers) }
     // A gate that has to stop a worker at its first turn, where there is an event, leaves no report.
     ensures stops { IfSome (R.remaining (inner_of reader.old)) (λ input. IfOk result (λ _. IfOk (events_in input) (NoneHadToStop (G.must_stop gate.now)))) }
