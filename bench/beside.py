@@ -12,12 +12,13 @@
 
 The others are the rings of bench/plain/exchanges, which `rustc` builds, and LMAX's own, where `javac` and
 the library are there (Debian's package libdisruptor-java; `--lmax JAR` names another place): `lmax` claims
-by `next`, which parks where there is no room, and `lmax-try` by `tryNext`, again and again. `c` is our
-rings of words from C, where `--library FOLDER` names what `make lib` left. All run in
-turns, `--turns N` times (three without it), each for `--rounds N` rounds of `--seconds S`, of which the one
-in the middle counts; the best of a program's turns is taken. `--under WORDS` starts each run by these
-words, as 'chrt -r 10' (other work on the machine then counts for less) or 'taskset -c 0,1'.
-`--record FILE` also writes the rates to a file, as those of bench/measured, which bench/plots.py draws.
+by `next`, which parks where there is no room, and `lmax-try` by `tryNext`, again and again. On threads
+`ours` is the ring over words, `memory` the one over plain memory, and `c` the rings of words from C, where
+`--library FOLDER` names what `make lib` left. All run in turns, `--turns N` times (three without it), each
+for `--rounds N` rounds of `--seconds S`, of which the one in the middle counts; the best of a program's
+turns is taken. `--under WORDS` starts each run by these words, as 'chrt -r 10' (other work on the machine
+then counts for less) or 'taskset -c 0,1'. `--record FILE` also writes the rates to a file, as those of
+bench/measured, which bench/plots.py draws.
 """
 
 import argparse
@@ -36,7 +37,7 @@ RATES_OF_C = os.path.join(TOP, "bench", "c", "rates.c")
 SHAPES = ("unicast", "pipeline", "multicast", "diamond")
 SIZES = (64, 1024, 65536)
 ONE_THREAD = ("ours", "ring", "deque", "lmax")
-THREADS = ("ours", "c", "words", "mutex", "lmax", "lmax-try")
+THREADS = ("ours", "memory", "c", "words", "mutex", "lmax", "lmax-try")
 
 
 class Programs:
@@ -47,7 +48,7 @@ class Programs:
         rounds = f"{given.rounds} rounds of {given.seconds} seconds"
         manner = f"{given.under}, {rounds}, the best of {given.turns} turns".removeprefix(", ")
         self.records = Records(given.record, RATES, manner)
-        self.words = {"ours": [given.program]}
+        self.words = {"ours": [given.program], "memory": [given.program]}
         plain = os.path.join(folder, "exchanges")
         subprocess.run(["rustc", "--edition", "2021", "-O", "-o", plain, PLAIN], check=True)
         for kind in ("ring", "deque", "words", "mutex"):
@@ -69,7 +70,8 @@ class Programs:
     def rate(self, kind, topology, size):
         """Millions of events a second, or None where it takes too long."""
         words = self.given.under.split() + self.words[kind]
-        words += [topology, str(size), str(self.given.seconds), str(self.given.rounds)]
+        name = f"plain-{topology}" if kind == "memory" else topology
+        words += [name, str(size), str(self.given.seconds), str(self.given.rounds)]
         try:
             ran = subprocess.run(words, stdout=subprocess.PIPE, text=True, timeout=self.given.patience)
         except subprocess.TimeoutExpired:

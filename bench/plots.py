@@ -56,6 +56,7 @@ class Look(NamedTuple):
 # Each program looks the same in all pictures, and comes in this order.
 LOOKS = {
     "ours": Look("ours", "#0B5FA5", "o"),
+    "memory": Look("ours, plain memory", "#4FA3E0", "o"),
     "ring": Look("plain ring", "#B35C00", "s"),
     "words": Look("plain words", "#00795A", "s"),
     "plain": Look("plain Rust", "#5B4A9E", "s"),
