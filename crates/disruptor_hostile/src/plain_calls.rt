@@ -88,10 +88,10 @@ fn tell_calls<R: Print>(rt: &R, ends: &mut Ends) -> Result<(), Fault> {
 fn tell_finished<R: Print>(rt: &R, ends: Ends) -> Result<(), Fault>
     requires { AreAllEnds ends.sender ends.receivers.items × IsHalterOf ends.sender ends.halter }
 {
-    let (settled, events) = finish(ends.sender, ends.receivers, ends.halter);
+    let (settled, mut events) = finish(ends.sender, ends.receivers, ends.halter);
     tell_both(rt, settled.claimed(), settled.handlers())?;
-    for event in events {
-        tell_value(rt, event)?;
+    for _ in 0..5 {
+        tell_value(rt, events.next())?;
     }
     Ok(())
 }
