@@ -1,0 +1,23 @@
+//! The ring over plain memory with several senders: each hands events of any type to a graph of
+//! receivers, each end on a thread of its own. An event lies once in memory, and tokens of it travel.
+//!
+//! Begin with `specs/Meaning`: `Words` says where each word lies, `Records` what each kind of step
+//! makes of what its end knows, `Rule` is what holds between any two steps, `Lying` where each token
+//! is, and `Steps` lists the kinds.
+#![tactic(auto)]
+
+mod claiming;
+mod dealt;
+mod exchanges;
+pub mod laws;
+mod opening;
+mod plan;
+mod polling;
+mod receiver;
+pub mod record;
+mod taking;
+
+pub use claiming::ClaimFault;
+pub use laws::Halter;
+pub use plan::Plan;
+pub use receiver::Receiver;
