@@ -31,3 +31,5 @@ pub mod Claims
 pub mod Offers
 pub mod Polls
 pub mod Walking
+pub mod Answering
+pub mod Copying

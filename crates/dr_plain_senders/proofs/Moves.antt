@@ -35,7 +35,7 @@ taken_at_least [] (suc n) i a at = absurd (some-ne-none a (sym at))
 taken_at_least (x ∷ xs) (suc n) zero a at = (omega arith, at)
 taken_at_least (x ∷ xs) (suc n) (suc i) a at = let t = taken_at_least xs n i a at in let lt = t.0 in (omega arith, t.1)
 
-dropped_at : {A : Type 0} (xs : List A) (m i : ℕ) → get_elem? (drop m xs) i ≡ get_elem? xs (m + i)
+pub dropped_at : {A : Type 0} (xs : List A) (m i : ℕ) → get_elem? (drop m xs) i ≡ get_elem? xs (m + i)
 dropped_at xs zero i = let e : i ≡ 0 + i = omega arith in ap (λ (n : ℕ). get_elem? xs n) e
 dropped_at [] (suc m) i = refl
 dropped_at (x ∷ xs) (suc m) i = let e : suc (m + i) ≡ suc m + i = omega arith in dropped_at xs m i ∙ ap (λ (n : ℕ). get_elem? (x ∷ xs) n) e

@@ -17,7 +17,8 @@ use Rattle.dr_plain_senders.specs.Meaning.Records.{barrier_seen, taken_at_count,
 use Rattle.dr_runs.specs.Looks.{look, last_look, offered_by, looks_at, lesser_of}
 use Rattle.dr_plain_senders.specs.Calls.Ends.{count_looks}
 use Rattle.dr_plain_senders.specs.Calls.Finds.{FindsEvents}
-use Rattle.dr_plain_senders.specs.Inside.Polling.{ups_of, receiver_saw, IsNear, LooksAtFirst, LooksPast}
+use Rattle.dr_plain_senders.specs.Calls.Receiving.{ups_of}
+use Rattle.dr_plain_senders.specs.Inside.Polling.{receiver_saw, IsNear, LooksAtFirst, LooksPast}
 use Rattle.dr_plain_senders.specs.Inside.Seats.{Hand, taken_by_poll}
 use Rattle.dr_runs.proofs.Lists.{take_whole}
 use Rattle.dr_runs.proofs.Looks.{looks_more}

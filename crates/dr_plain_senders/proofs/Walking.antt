@@ -8,7 +8,8 @@ use Rattle.dr_plain_senders.specs.declared.record.Lent.{Lent}
 use Rattle.dr_plain_senders.specs.declared.record.ReceiverRecord.{ReceiverRecord}
 use Rattle.dr_plain_senders.specs.Meaning.Records.{mark_looked}
 use Rattle.dr_plain_senders.specs.Calls.Ends.{ReceiverEnd}
-use Rattle.dr_plain_senders.specs.Inside.Polling.{ups_of, WalksTo, AllCarry, walked, OnlyLoads, TakesNext, TakesEach, Walking, TakesMarked}
+use Rattle.dr_plain_senders.specs.Calls.Receiving.{ups_of, WalksTo}
+use Rattle.dr_plain_senders.specs.Inside.Polling.{AllCarry, walked, OnlyLoads, TakesNext, TakesEach, Walking, TakesMarked}
 use Rattle.dr_plain_senders.proofs.Stations.{begins_on}
 
 carry_more : (size end s : ℕ) (ms : List ℕ) (m : ℕ) → AllCarry size end s ms → s + length ms < end → m ≡ entry_of size (s + length ms)

@@ -4,5 +4,6 @@ pub mod Ends
 pub mod Finds
 pub mod Making
 pub mod Receiving
+pub mod Outlets
 pub mod ClaimFault
 pub mod Sending

@@ -6,11 +6,14 @@
 //! is, and `Steps` lists the kinds.
 #![tactic(auto)]
 
+mod answers;
 mod claiming;
 mod dealt;
+mod events;
 mod exchanges;
 pub mod laws;
 mod opening;
+mod outlets;
 mod plan;
 mod polling;
 mod receiver;
@@ -18,6 +21,7 @@ pub mod record;
 mod taking;
 
 pub use claiming::ClaimFault;
+pub use events::Events;
 pub use laws::Halter;
 pub use plan::Plan;
 pub use receiver::Receiver;

@@ -5,7 +5,8 @@ ghost use Rattle.dr_plain_senders.specs.Meaning.Words.{count_word as count_word_
 ghost use Rattle.dr_runs.specs.Looks.{look};
 ghost use Rattle.dr_plain_senders.specs.Calls.Ends.{HasLoaded};
 ghost use Rattle.dr_plain_senders.specs.Calls.Finds.{FindsEvents};
-ghost use Rattle.dr_plain_senders.specs.Inside.Polling.{ups_of, receiver_saw, LooksAtFirst, LooksPast};
+ghost use Rattle.dr_plain_senders.specs.Calls.Receiving.{ups_of};
+ghost use Rattle.dr_plain_senders.specs.Inside.Polling.{receiver_saw, LooksAtFirst, LooksPast};
 
 use crate::laws::ReceiverStation;
 use dr_runs::lesser;

@@ -2,11 +2,13 @@
 
 ghost use Rattle.std.specs.Prelude.{◌≡◌, ◌<◌, ◌^◌, length, IfSome, IfNone};
 ghost use Rattle.dr_runs.specs.Looks.{looks_counted};
-ghost use Rattle.dr_plain_senders.specs.Calls.Receiving.{CompleteCall, ReadsInHand, IsNotInHand};
+ghost use Rattle.dr_plain_senders.specs.Calls.Receiving.{PollCall, CompleteCall, ReadsInHand, IsNotInHand};
 
+use crate::answers::{claimed_in, nothing_offered};
 use crate::laws::ReceiverStation;
+use crate::plan::HALT_BIT;
 use dr_cells::Token;
-use dr_meaning::Refusal;
+use dr_meaning::{Polled, Refusal};
 use std::marker::{Brand, Model};
 
 /// The end of one handler, which receives every event after its upstreams. No call waits or takes
@@ -33,6 +35,35 @@ impl<T> Model for Receiver<T> {
 }
 
 impl<T> Receiver<T> {
+    /// Takes the next events, as many as the barrier offers and there is room for. It looks at the
+    /// claim word, and then, for a handler without upstreams, at the marks of the next events, of
+    /// one more than there is room for, as far as they are there; or else at the count of each
+    /// upstream. It may read what it took until it completes it.
+    ///
+    /// It is refused with `BadCount`, and changes nothing, where there is no room.
+    #[tactic(auto, using(crate::proofs::Stations::begins_same, crate::proofs::Stations::begins_on))]
+    pub fn poll(&mut self, room: u64) -> Result<Polled, Refusal>
+        ensures call { PollCall self.old room self.new result }
+        ensures fits { length self.new.knows.received < 2 ^ 64 }
+    {
+        let first = self.taken;
+        if room == 0 {
+            return Err(Refusal::BadCount);
+        }
+        let found = self.see_claims();
+        let claimed = claimed_in(found);
+        let available = self.take_offered(claimed, room);
+        if available <= first {
+            return Ok(nothing_offered(found >= HALT_BIT, claimed, first));
+        }
+        let count = (available - first).min(room);
+        Ok(Polled::Batch {
+            first,
+            count,
+            end: first + count == available,
+        })
+    }
+
     /// Completes all events below `upto`: the handlers that follow may take them, and the senders
     /// may use their cells again once all final handlers have completed them. Its parts of them
     /// are gone.

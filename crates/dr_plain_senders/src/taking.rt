@@ -1,7 +1,10 @@
 //! A receiver takes events: what its looks let through goes from the slots in hand to its parts.
 
 ghost use Rattle.std.specs.Prelude.{◌≡◌, ◌<◌, ◌≤◌, ◌^◌, if◌then◌else◌, [], length};
-ghost use Rattle.dr_plain_senders.specs.Inside.Polling.{ups_of, OnlyLoads, TakesNext, TakesPast, TakesEach, TakesMarked};
+ghost use Rattle.dr_plain_senders.specs.Meaning.Records.{claims_looked};
+ghost use Rattle.dr_plain_senders.specs.Calls.Finds.{FindsClaims};
+ghost use Rattle.dr_plain_senders.specs.Calls.Receiving.{ups_of};
+ghost use Rattle.dr_plain_senders.specs.Inside.Polling.{OnlyLoads, TakesNext, TakesPast, TakesEach, TakesMarked, TakesOffered};
 
 use crate::receiver::Receiver;
 use std::marker::Brand;
@@ -84,5 +87,27 @@ impl<T> Receiver<T> {
             return upto + 1;
         }
         upto
+    }
+    /// Looks at the claim word.
+    pub(crate) fn see_claims(&mut self) -> u64
+        ensures loads { OnlyLoads self.old self.new }
+        ensures saw { self.new.knows ≡ claims_looked self.old.knows result }
+        ensures finds { FindsClaims self.old.knows result }
+    {
+        self.station.look_at_claims()
+    }
+
+    /// Takes the next events, as many as the marks, for a handler without upstreams, or else the
+    /// upstreams let through and there is room for. Gives up to where they let events through, as
+    /// far as it looked.
+    pub(crate) fn take_offered(&mut self, claimed: u64, room: u64) -> u64
+        requires { (length self.old.knows.received ≤ claimed) × (claimed < 2 ^ 63) }
+        ensures loads { OnlyLoads self.old self.new }
+        ensures took { TakesOffered self.old.plan self.old.knows claimed room result self.new.knows }
+    {
+        if self.station.upstreams().is_empty() {
+            return self.take_marked(claimed, room);
+        }
+        self.take_past_upstreams(claimed, room)
     }
 }

@@ -1,7 +1,8 @@
 -- What the looks of a poll come to.
-use Rattle.std.specs.Prelude.{◌≡◌, ℕ, ◌+◌, ◌-◌, ◌<◌, ◌≤◌, ◌≢◌, ◌⊎◌, Bool, true, min, List, [], ◌∷◌, ◌++◌, length, take, Contains}
+use Rattle.std.specs.Prelude.{◌≡◌, ℕ, ◌+◌, ◌-◌, ◌<◌, ◌≤◌, ◌≢◌, Bool, true, nat_lt, if◌then◌else◌, min, List, [], ◌∷◌, ◌++◌, length, take, Contains}
 use Rattle.dr_seq.specs.Rounds.{entry_of}
-use Rattle.dr_graph.specs.Meaning.Graph.{upstreams_of}
+use Rattle.dr_meaning.specs.declared.command.Polled.{Polled}
+use Rattle.dr_meaning.specs.declared.command.Polled.TheVariants.{Drained, Gating, Idle}
 use Rattle.dr_runs.specs.declared.look.Look.{Look}
 use Rattle.dr_runs.specs.Looks.{offered_by}
 use Rattle.dr_plain_senders.specs.Meaning.Shape.{Shape}
@@ -11,13 +12,8 @@ use Rattle.dr_runs.specs.Runs.{IsBeginning}
 use Rattle.dr_plain_senders.specs.Meaning.Records.{taken_at_mark, is_marked_next, mark_looked}
 use Rattle.dr_plain_senders.specs.Calls.Ends.{ReceiverEnd, count_looks}
 use Rattle.dr_plain_senders.specs.Calls.Finds.{FindsNext}
+use Rattle.dr_plain_senders.specs.Calls.Receiving.{ups_of, WalksTo, walk_end}
 use Rattle.dr_plain_senders.specs.Inside.Seats.{Hand, taken_by_poll}
-
--- a walk over the marks from the sequence s on: each is of its sequence, up to an end or to the first that is not of its
-abbrev pub WalksTo : ℕ → ℕ → ℕ → List ℕ → ℕ → Type 0
-WalksTo size end s [] upto = (end ≤ s) × (upto ≡ s)
-WalksTo size end s (m ∷ ms) upto =
-    (s < end) × (((m ≡ entry_of size s) × WalksTo size end (s + 1) ms upto) ⊎ ((m ≢ entry_of size s) × (ms ≡ []) × (upto ≡ s)))
 
 -- each of these marks is of its sequence, and each of these sequences is below the end
 abbrev pub AllCarry : ℕ → ℕ → ℕ → List ℕ → Type 0
@@ -25,9 +21,6 @@ AllCarry size end s [] = Unit {0}
 AllCarry size end s (m ∷ ms) = (s < end) × (m ≡ entry_of size s) × AllCarry size end (s + 1) ms
 
 module _ {T : Type 0} where
-  abbrev pub ups_of : Shape → ReceiverRecord T → List ℕ
-  ups_of k r = upstreams_of k.upstreams r.number
-
   -- a receiver has made these looks more, and taken nothing
   abbrev pub receiver_saw : ReceiverRecord T → List Look → ReceiverRecord T
   receiver_saw r seen = record r { looks = r.looks ++ seen }
@@ -103,7 +96,26 @@ module _ {T : Type 0} where
   pub record TakesMarked (k : Shape) (r : ReceiverRecord T) (claimed room available : ℕ) (r' : ReceiverRecord T) : Type 0 where
     pub marks : List ℕ
     pub lents : List (Lent T)
-    pub walks : WalksTo k.size (min claimed (length r.received + room + 1)) (length r.received) marks available
+    pub walks : WalksTo k.size (walk_end r claimed room) (length r.received) marks available
     pub is : r' ≡ walked r marks lents
     pub many : length lents ≡ min room (available - length r.received)
     pub told : r.told ≡ true → available ≤ length r.received
+
+  -- it looked at marks, or at each upstream's count, and took what these let through, as much as there is room for
+  pub record TakesOffered (k : Shape) (r : ReceiverRecord T) (claimed room available : ℕ) (r' : ReceiverRecord T) : Type 0 where
+    pub marks : List ℕ
+    pub upto : ℕ
+    pub counts : List ℕ
+    pub lents : List (Lent T)
+    pub walks : ups_of k r ≡ [] → WalksTo k.size (walk_end r claimed room) (length r.received) marks upto
+    pub stands : ups_of k r ≢ [] → (marks ≡ []) × (upto ≡ length r.received)
+    pub each : length counts ≡ length (ups_of k r)
+    pub is : r' ≡ record r { received = r.received ++ lents; marks = r.marks ++ marks; looks = r.looks ++ count_looks (ups_of k r) counts }
+    pub offered : available ≡ offered_by upto counts
+    pub taken : length r.received ≤ available
+    pub many : length lents ≡ min room (available - length r.received)
+    pub told : r.told ≡ true → available ≤ length r.received
+
+-- what a poll answers where nothing is offered
+abbrev pub nothing_offered : Bool → ℕ → ℕ → Polled
+nothing_offered halted claimed taken = if nat_lt taken claimed then Gating else if halted then Drained else Idle

@@ -6,7 +6,7 @@ use Rattle.dr_plain_senders.specs.Meaning.Records.{taken_at_count}
 use Rattle.dr_plain_senders.specs.declared.record.ReceiverRecord.{ReceiverRecord}
 use Rattle.dr_plain_senders.specs.Calls.Ends.{ReceiverStand}
 use Rattle.dr_plain_senders.specs.Calls.Finds.{FindsEvents}
-use Rattle.dr_plain_senders.specs.Inside.Polling.{ups_of}
+use Rattle.dr_plain_senders.specs.Calls.Receiving.{ups_of}
 use Rattle.dr_plain_senders.specs.Inside.Seats.{taken_by_poll}
 use Rattle.dr_plain_senders.proofs.Offers.{round_last}
 use Rattle.dr_plain_senders.proofs.laws.receiver.ReceiverStation.look_past_upstreams.Goals as goal

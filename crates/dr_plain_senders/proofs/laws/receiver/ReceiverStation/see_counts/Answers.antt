@@ -2,7 +2,7 @@ use Rattle.std.proofs.Common.{ℕ, List, arith, refl, sym, ap, ◌∙◌, subst,
 use Rattle.dr_plain_senders.specs.Meaning.Shape.{Shape}
 use Rattle.dr_plain_senders.specs.Meaning.Words.{count_word}
 use Rattle.dr_plain_senders.specs.Calls.Finds.{FindsEvents}
-use Rattle.dr_plain_senders.specs.Inside.Polling.{ups_of}
+use Rattle.dr_plain_senders.specs.Calls.Receiving.{ups_of}
 use Rattle.dr_plain_senders.proofs.Stations.{begins_on}
 use Rattle.dr_plain_senders.proofs.Offers.{first_more}
 use Rattle.dr_plain_senders.proofs.laws.receiver.ReceiverStation.see_counts.Goals as goal
