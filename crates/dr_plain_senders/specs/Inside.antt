@@ -4,8 +4,10 @@ pub mod Seats
 pub mod Stations
 pub mod Making
 pub mod Hands
+pub mod Rows
 pub mod Trades
 pub mod Fits
 pub mod Views
+pub mod Refusing
 pub mod Scans
 pub mod Polling
