@@ -33,3 +33,11 @@ pub mod Polls
 pub mod Walking
 pub mod Answering
 pub mod Copying
+pub mod Tokens
+pub mod Rowing
+pub mod Collecting
+pub mod Owning
+pub mod Opened
+pub mod Fitting
+pub mod Granting
+pub mod Written

@@ -7,3 +7,4 @@ pub mod Receiving
 pub mod Outlets
 pub mod ClaimFault
 pub mod Sending
+pub mod Writing

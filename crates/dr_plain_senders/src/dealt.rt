@@ -1,11 +1,13 @@
 //! Rows of tokens, one a cell or a slot. None has any bytes.
 
+ghost use Rattle.std.specs.Fn.{FnOnceReturnsAtMut};
 ghost use Rattle.std.specs.Prelude.{◌≡◌, ◌<◌, replicate, length, slice_set, IfOk};
 ghost use mathlib.Core.Option.{some};
 ghost use lib.ListN.{get_elem?};
-ghost use Rattle.dr_cells.specs.Tokens.{no_token};
+ghost use Rattle.dr_cells.specs.Hold.{whole, IsWhole};
+ghost use Rattle.dr_cells.specs.Tokens.{no_token, token_at, IsOf};
 
-use dr_cells::Token;
+use dr_cells::{Cells, Token};
 use std::alloc::{AllocError, Global};
 use std::mem::replace;
 
@@ -35,4 +37,26 @@ pub(crate) fn at<S>(row: &Vec<S>, place: usize) -> &S
     ensures { get_elem? row.now.items place ≡ some result.now }
 {
     &row[place]
+}
+
+/// Writes an event in place of what lies in a whole cell.
+pub(crate) fn write_in<T: Drop>(token: &mut Token<T>, cells: Cells<T>, place: usize, event: T)
+    requires { IsOf cells.ptr place token.old × IsWhole token.old.hold }
+    ensures { token.new ≡ token_at cells.ptr place (whole event) }
+{
+    drop(replace(token.get_mut(cells, place), event));
+}
+
+/// Changes what lies in a whole cell, where it lies.
+pub(crate) fn change_in<T, F: FnOnce(&mut T)>(
+    token: &mut Token<T>,
+    cells: Cells<T>,
+    place: usize,
+    change: F,
+)
+    requires cell { IsOf cells.ptr place token.old × IsWhole token.old.hold }
+    requires callable { F.IsAlwaysCallable change }
+    ensures { (was : T) × (now : T) × (token.old.hold ≡ whole was) × (token.new ≡ token_at cells.ptr place (whole now)) × FnOnceReturnsAtMut F.FnOnce change was tt now }
+{
+    change(token.get_mut(cells, place));
 }

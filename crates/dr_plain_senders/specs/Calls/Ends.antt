@@ -1,5 +1,5 @@
 -- What an end of a ring is to its caller, and what one of its steps leaves of it.
-use Rattle.std.specs.Prelude.{◌≡◌, ℕ, List, [], ◌∷◌, ◌++◌}
+use Rattle.std.specs.Prelude.{◌≡◌, ℕ, Option, List, [], ◌∷◌, ◌++◌}
 use Rattle.atomic_table.specs.Seated.{TableId}
 use Rattle.dr_cells.specs.declared.token.Token.{Token}
 use Rattle.dr_meaning.specs.Calls.Ends.{Received}
@@ -37,6 +37,16 @@ HalterStand T = EndOf T HalterRecord
 abbrev pub count_looks : List ℕ → List ℕ → List Look
 count_looks hs counts = looks_at count_word hs counts
 
+-- a sender as its caller sees it: with what is written of each of its sequences, as it claimed them one after another, while it is not published, and what it has in the cells
+pub record SenderEnd (T : Type 0) : Type 0 where
+  pub ring : TableId
+  pub plan : Shape
+  pub knows : SenderRecord T
+  pub writes : List (Option T)
+  pub cells : List (Option T)
+  pub past : List (Step T)
+  pub stored : List (Step T)
+
 -- a receiver as its caller sees it
 pub record ReceiverEnd (T : Type 0) : Type 0 where
   pub ring : TableId
@@ -50,6 +60,13 @@ abbrev pub EndPlace : Type 0
 EndPlace = TableId × Shape × ℕ
 
 module _ {T : Type 0} where
+  abbrev pub sender_place : SenderEnd T → EndPlace
+  sender_place e = (e.ring, e.plan, e.knows.number)
+
+  -- a sender's station alone
+  abbrev pub at_station : SenderEnd T → SenderStand T
+  at_station e = record { ring = e.ring; plan = e.plan; knows = e.knows; hand = []; past = e.past; stored = e.stored }
+
   abbrev pub receiver_place : ReceiverEnd T → EndPlace
   receiver_place e = (e.ring, e.plan, e.knows.number)
 
@@ -69,3 +86,8 @@ module _ {T K : Type 0} where
   -- an end has stored a word, knows this and has this in hand
   abbrev pub HasStored : EndOf T K → Step T → K → List (ℕ × Token T) → EndOf T K → Type 0
   HasStored e step knows hand e' = Stays e e' × (e'.knows ≡ knows) × (e'.hand ≡ hand) × IsBeginning e.past e'.past × (e'.stored ≡ e.stored ++ step ∷ [])
+
+module _ {T : Type 0} where
+  -- a sender has stored a word and knows this, and what is written and lies in its cells is as before
+  abbrev pub HasStoredAt : SenderEnd T → Step T → SenderRecord T → SenderEnd T → Type 0
+  HasStoredAt e step knows e' = HasStored (at_station e) step knows [] (at_station e') × (e'.writes ≡ e.writes) × (e'.cells ≡ e.cells)

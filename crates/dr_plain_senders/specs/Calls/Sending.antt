@@ -1,5 +1,7 @@
 -- What a sender's claim answers, and what it leaves of what the sender knows.
-use Rattle.std.specs.Prelude.{◌≡◌, ◌≢◌, ℕ, ◌+◌, ◌-◌, ◌^◌, ◌<◌, ◌≤◌, ◌⊎◌, true, false, List, [], ◌∷◌, ◌++◌, length, slice_index, Result, Ok, Err}
+use Rattle.std.specs.Prelude.{◌≡◌, ◌≢◌, ℕ, ◌+◌, ◌-◌, ◌^◌, ◌<◌, ◌≤◌, ◌⊎◌, true, false, List, [], ◌∷◌, ◌++◌, length, slice_index, replicate, Some, None, Option, Result, Ok, Err}
+use mathlib.Core.Option.{some}
+use lib.ListN.{get_elem?}
 use Rattle.dr_seq.specs.Size.{IsSize}
 use Rattle.dr_meaning.specs.declared.refusal.Refusal.TheVariants.{NoRoom, Halted, BadCount, Exhausted}
 use Rattle.dr_meaning.specs.declared.command.Claimed.{Claimed}
@@ -7,7 +9,7 @@ use Rattle.dr_graph.specs.Meaning.Graph.{finals}
 use Rattle.dr_runs.specs.declared.look.Look.{Look}
 use Rattle.dr_runs.specs.Looks.{look}
 use Rattle.dr_plain_senders.specs.Meaning.Shape.{Shape}
-use Rattle.dr_plain_senders.specs.Meaning.Words.{claim_word, is_halted}
+use Rattle.dr_plain_senders.specs.Meaning.Words.{claim_word, is_halted, cell_of}
 use Rattle.dr_plain_senders.specs.Meaning.Records.{fresh_own}
 use Rattle.dr_plain_senders.specs.declared.record.SenderRecord.{SenderRecord}
 use Rattle.dr_plain_senders.specs.declared.record.Step.{Step}
@@ -17,7 +19,7 @@ use Rattle.dr_plain_senders.specs.declared.claiming.ClaimFault.TheVariants.{Refu
 use Rattle.dr_plain_senders.specs.Meaning.Lying.{Laid}
 use Rattle.dr_plain_senders.specs.Inside.Seats.{LayIn, taken_by_claim}
 use Rattle.dr_runs.specs.Runs.{IsBeginning}
-use Rattle.dr_plain_senders.specs.Calls.Ends.{SenderStand, Stays, count_looks}
+use Rattle.dr_plain_senders.specs.Calls.Ends.{SenderStand, SenderEnd, Stays, at_station, count_looks}
 
 -- a claim looks at the finals' counts in rising order
 abbrev pub gate_looks : Shape → List ℕ → List Look
@@ -95,3 +97,17 @@ module _ {T : Type 0} where
     -- so no sequence reaches 2^62, and no claim is of more than 65,536
     pub few : e.plan.limit ≤ 2 ^ 62
     pub size : IsSize e.plan.size
+
+  -- something lies in the cell of each sequence of a stretch, and what lies in all others is as before
+  pub record GainsCells (k : Shape) (lo n : ℕ) (cells cells' : List (Option T)) : Type 0 where
+    pub gained : (s : ℕ) → lo ≤ s → s < lo + n → (x : T) × (get_elem? cells' (cell_of k s) ≡ some (Some x))
+    pub others : (i : ℕ) → ((s : ℕ) → lo ≤ s → s < lo + n → cell_of k s ≢ i) → get_elem? cells' i ≡ get_elem? cells i
+
+  -- nothing is written of what a claim adds
+  abbrev pub ClaimGains : SenderEnd T → ℕ → SenderEnd T → Result Claimed ClaimFault → Type 0
+  ClaimGains e n e' (Ok c) = (e'.writes ≡ e.writes ++ replicate n None) × GainsCells e.plan c.lo n e.cells e'.cells
+  ClaimGains e n e' (Err fault) = (e'.writes ≡ e.writes) × (e'.cells ≡ e.cells)
+
+  -- the call of a sender's end
+  abbrev pub SenderClaimCall : SenderEnd T → ℕ → SenderEnd T → Result Claimed ClaimFault → Type 0
+  SenderClaimCall e n e' result = ClaimCall (at_station e) n (at_station e') result × ClaimGains e n e' result
