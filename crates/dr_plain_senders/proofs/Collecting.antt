@@ -8,12 +8,11 @@ use lib.ListN.{get_elem?}
 use Rattle.atomic_table.proofs.Lists.{set_here, set_else}
 use Rattle.dr_cells.specs.declared.token.Token.{Token}
 use Rattle.dr_seq.proofs.Apart.{slots_differ}
-use Rattle.dr_runs.specs.Stretches.{rows}
 use Rattle.dr_runs.proofs.Elements.{there}
 use Rattle.dr_runs.proofs.Lists.{past_end}
 use Rattle.dr_plain_senders.specs.Meaning.Shape.{Shape}
 use Rattle.dr_plain_senders.specs.Meaning.Words.{cell_of, lanes_of}
-use Rattle.dr_plain_senders.specs.Meaning.Lying.{Laid, placed}
+use Rattle.dr_plain_senders.specs.Meaning.Lying.{Laid}
 use Rattle.dr_plain_senders.specs.Calls.Ends.{EndOf}
 use Rattle.dr_plain_senders.specs.Inside.Hands.{with_hand}
 use Rattle.dr_plain_senders.specs.Inside.Rows.{row, blank_row, blank_rows, IsWholeOf, AreCollected}

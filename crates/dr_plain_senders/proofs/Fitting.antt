@@ -1,32 +1,26 @@
 -- A sender's marks, tokens and slots fit what it knows after each of its calls.
-use Rattle.std.proofs.Common.{◌≡◌, ◌≢◌, ℕ, suc, ◌+◌, ◌-◌, ◌*◌, ◌%◌, ◌^◌, ◌<◌, ◌≤◌, ◌⊎◌, inl, inr, Bool, true, false, not, ◌&&◌, if◌then◌else◌, List, [], ◌++◌, map, length, drop, sym, refl, ap, ◌∙◌, subst, arith}
+use Rattle.std.proofs.Common.{◌≡◌, ℕ, ◌+◌, ◌-◌, ◌<◌, ◌≤◌, ◌⊎◌, inl, inr, Bool, true, false, not, ◌&&◌, List, ◌++◌, length, sym, refl, ap, ◌∙◌, subst, arith}
 use Rattle.std.specs.Prelude.{None, Some, Option, is_some}
-use Rattle.std.proofs.lemmas.Bool.{cases_Bool, cases_eq, cases_lt}
+use Rattle.std.proofs.lemmas.Bool.{cases_Bool}
 use mathlib.Core.Option.{some}
 use lib.ListN.{get_elem?}
 use Rattle.dr_cells.specs.declared.token.Token.{Token}
 use Rattle.dr_seq.specs.Rounds.{entry_of, is_marked}
 use Rattle.dr_seq.specs.Stamped.{stamped}
-use Rattle.dr_seq.proofs.Apart.{slots_differ}
 use Rattle.dr_seq.proofs.Stamped.{marked-in, marked-out, length-stamped}
 use Rattle.dr_plain_senders.specs.Meaning.Shape.{Shape}
-use Rattle.dr_plain_senders.specs.Meaning.Words.{cell_of}
 use Rattle.dr_plain_senders.specs.Meaning.Records.{Owns, fresh_stage, fresh_own, is_published}
 use Rattle.dr_plain_senders.specs.declared.owned.Owned.{Owned}
-use Rattle.dr_plain_senders.specs.declared.record.Lent.{Lent}
 use Rattle.dr_plain_senders.specs.declared.record.Stage.{Stage}
 use Rattle.dr_plain_senders.specs.declared.record.Own.{Own}
 use Rattle.dr_plain_senders.specs.declared.record.SenderRecord.{SenderRecord}
 use Rattle.dr_plain_senders.specs.Calls.Ends.{SenderStand}
 use Rattle.dr_plain_senders.specs.Calls.Finds.{IsEarlier}
-use Rattle.dr_plain_senders.specs.Inside.Fits.{MarksFit, SenderFits, is_open, open_rows}
-use Rattle.dr_plain_senders.specs.Inside.Rows.{blank_rows, IsWholeOf, AreCollected}
-use Rattle.dr_plain_senders.specs.Inside.Seats.{Hand}
+use Rattle.dr_plain_senders.specs.Inside.Fits.{MarksFit, SenderFits, is_open}
 use Rattle.atomic_table.proofs.Lists.{at_longer}
 use Rattle.dr_plain_senders.proofs.Places.{more_right, more_cases}
 use Rattle.dr_plain_senders.proofs.KeepsClaims.{fresh_at, fresh_there}
 use Rattle.dr_plain_senders.proofs.Owning.{marked_was}
-use Rattle.dr_plain_senders.proofs.Opened.{open_later}
 
 pub no_lent : {X : Type 0} (o : Option X) → is_some o ≡ false → o ≡ None
 no_lent None e = refl

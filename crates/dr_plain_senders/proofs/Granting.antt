@@ -1,6 +1,6 @@
 -- What a claim leaves of a sender's fields, and what its caller sees.
-use Rattle.std.proofs.Common.{◌≡◌, ◌≢◌, ℕ, zero, suc, ◌+◌, ◌-◌, ◌*◌, ◌^◌, ◌<◌, ◌≤◌, ◌⊎◌, inl, inr, Bool, true, false, not, ◌&&◌, if◌then◌else◌, List, [], ◌∷◌, ◌++◌, map, length, drop, get_or, replicate, sym, refl, ap, ◌∙◌, subst, arith}
-use Rattle.std.specs.Prelude.{None, Some, Option, Result}
+use Rattle.std.proofs.Common.{◌≡◌, ℕ, zero, suc, ◌+◌, ◌-◌, ◌*◌, ◌^◌, ◌<◌, ◌≤◌, ◌⊎◌, inl, inr, Bool, true, false, not, ◌&&◌, if◌then◌else◌, List, [], ◌∷◌, ◌++◌, map, drop, get_or, replicate, sym, refl, ap, ◌∙◌, subst, arith}
+use Rattle.std.specs.Prelude.{None, Option, Result}
 use Rattle.std.proofs.lemmas.Bool.{cases_Bool, cases_lt}
 use Rattle.std.proofs.Math.Nat.{mod-lt}
 use Rattle.std.proofs.lemmas.List.{map-append}
@@ -11,15 +11,14 @@ use Rattle.dr_cells.specs.declared.token.Token.{Token}
 use Rattle.dr_cells.specs.Hold.{held}
 use Rattle.dr_meaning.specs.declared.command.Claimed.{Claimed}
 use Rattle.dr_plain_senders.specs.declared.claiming.ClaimFault.{ClaimFault}
-use Rattle.dr_seq.specs.Rounds.{entry_of, is_marked}
-use Rattle.dr_seq.specs.Stamped.{stamped}
+use Rattle.dr_seq.specs.Rounds.{is_marked}
 use Rattle.dr_seq.proofs.Apart.{slots_differ}
 use Rattle.dr_runs.proofs.Elements.{there, value_at}
 use Rattle.dr_runs.proofs.Lists.{map_there}
 use Rattle.dr_plain_senders.specs.Meaning.Shape.{Shape}
 use Rattle.dr_plain_senders.specs.Meaning.Words.{cell_of, lanes_of}
 use Rattle.dr_plain_senders.specs.Meaning.Lying.{Laid}
-use Rattle.dr_plain_senders.specs.Meaning.Records.{Owns, fresh_stage, fresh_own, is_published}
+use Rattle.dr_plain_senders.specs.Meaning.Records.{Owns, fresh_stage, fresh_own}
 use Rattle.dr_plain_senders.specs.declared.owned.Owned.{Owned}
 use Rattle.dr_plain_senders.specs.declared.record.Stage.{Stage}
 use Rattle.dr_plain_senders.specs.declared.record.Own.{Own}
@@ -27,9 +26,9 @@ use Rattle.dr_plain_senders.specs.declared.record.SenderRecord.{SenderRecord}
 use Rattle.dr_plain_senders.specs.Calls.Ends.{SenderStand}
 use Rattle.dr_plain_senders.specs.Calls.Finds.{IsEarlier}
 use Rattle.dr_plain_senders.specs.Calls.Sending.{GainsCells, ClaimCall}
-use Rattle.dr_plain_senders.specs.Inside.Fits.{MarksFit, SenderFits, is_open, open_rows, cells_of, written_in, writes_of}
+use Rattle.dr_plain_senders.specs.Inside.Fits.{SenderFits, is_open, cells_of, written_in, writes_of}
 use Rattle.dr_plain_senders.specs.Inside.Hands.{with_hand}
-use Rattle.dr_plain_senders.specs.Inside.Rows.{blank_rows, IsWholeOf, AreCollected}
+use Rattle.dr_plain_senders.specs.Inside.Rows.{blank_rows, AreCollected}
 use Rattle.dr_plain_senders.specs.Inside.Seats.{Hand, LayIn, taken_by_claim}
 use Rattle.dr_plain_senders.proofs.Taken.{drop_seam}
 use Rattle.dr_plain_senders.proofs.Collecting.{rows_count}
@@ -41,7 +40,7 @@ pub first_of : (a b : Bool) → (a && b) ≡ true → a ≡ true
 first_of true b e = refl
 first_of false b e = absurd (cc)
 
-second_of : (a b : Bool) → (a && b) ≡ true → b ≡ true
+pub second_of : (a b : Bool) → (a && b) ≡ true → b ≡ true
 second_of true b e = e
 second_of false b e = absurd (cc)
 
@@ -53,7 +52,7 @@ nor_so : (a b : Bool) → b ≡ false → (a && b) ≡ false
 nor_so true b e = e
 nor_so false b e = refl
 
-unhidden : (b : Bool) → not b ≡ true → b ≡ false
+pub unhidden : (b : Bool) → not b ≡ true → b ≡ false
 unhidden true e = absurd (cc)
 unhidden false e = refl
 

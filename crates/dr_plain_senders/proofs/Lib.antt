@@ -41,3 +41,5 @@ pub mod Opened
 pub mod Fitting
 pub mod Granting
 pub mod Written
+pub mod LentRows
+pub mod Showing

@@ -1,5 +1,5 @@
 -- What a sender's write leaves of its fields, and what its caller sees.
-use Rattle.std.proofs.Common.{◌≡◌, ◌≢◌, ℕ, zero, suc, ◌+◌, ◌%◌, ◌<◌, ◌≤◌, inl, inr, Bool, true, false, not, ◌==◌, ◌&&◌, if◌then◌else◌, List, [], ◌∷◌, ◌++◌, length, get_or, set, sym, refl, ap, ◌∙◌, subst, arith, length-set}
+use Rattle.std.proofs.Common.{◌≡◌, ◌≢◌, ℕ, zero, suc, ◌%◌, ◌<◌, ◌≤◌, inl, inr, Bool, true, false, not, ◌==◌, ◌&&◌, if◌then◌else◌, List, [], ◌∷◌, ◌++◌, length, get_or, set, sym, refl, ap, ◌∙◌, subst, arith, length-set}
 use Rattle.std.specs.Prelude.{None, Some, Option, is_some, nat_le, Ok, Err}
 use Rattle.std.proofs.lemmas.Bool.{cases_Bool, cases_eq, eq-eqb, ne_eqb}
 use Rattle.std.proofs.lemmas.List.{append-nil, length-map, map-set}
@@ -14,16 +14,14 @@ use Rattle.dr_seq.specs.Rounds.{entry_of, is_marked}
 use Rattle.dr_meaning.specs.declared.refusal.Refusal.{Refusal}
 use Rattle.dr_meaning.specs.declared.refusal.Refusal.TheVariants.{NotClaimed, AlreadyPublished}
 use Rattle.dr_meaning.specs.Meaning.Refusals.{write_causes, IsFirst}
-use Rattle.dr_meaning.specs.Calls.Ends.{Verdict, Exactly, unknown, MayHold, MayFail}
+use Rattle.dr_meaning.specs.Calls.Ends.{Exactly, unknown, MayHold, MayFail}
 use Rattle.dr_runs.specs.declared.look.Look.{Look}
 use Rattle.dr_runs.proofs.Elements.{there, value_at}
 use Rattle.dr_runs.proofs.Lists.{map_there}
-use Rattle.dr_plain_senders.specs.Meaning.Shape.{Shape}
 use Rattle.dr_plain_senders.specs.Meaning.Words.{cell_of}
-use Rattle.dr_plain_senders.specs.Meaning.Records.{Owns, is_published}
+use Rattle.dr_plain_senders.specs.Meaning.Records.{Owns}
 use Rattle.dr_plain_senders.specs.declared.owned.Owned.{Owned}
 use Rattle.dr_plain_senders.specs.declared.record.Own.{Own}
-use Rattle.dr_plain_senders.specs.declared.record.Stage.{Stage}
 use Rattle.dr_plain_senders.specs.declared.record.SenderRecord.{SenderRecord}
 use Rattle.dr_plain_senders.specs.Calls.Ends.{SenderStand, SenderEnd}
 use Rattle.dr_plain_senders.specs.Calls.Writing.{Has, Found, Never, WriteCall, written_at}

@@ -64,8 +64,8 @@ impl<T> SenderStation<T> {
         self.ring.plan.slot(lane, sequence)
     }
 
-    // How many handlers there are.
-    fn handlers(&self) -> usize
+    /// How many handlers there are.
+    pub(crate) fn handlers(&self) -> usize
         ensures count { result ≡ handlers_of self.now.plan }
         ensures few { result ≤ 16 }
     {

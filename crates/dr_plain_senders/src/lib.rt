@@ -18,6 +18,7 @@ mod outlets;
 mod owned;
 mod plan;
 mod polling;
+mod publishing;
 mod receiver;
 pub mod record;
 mod sender;

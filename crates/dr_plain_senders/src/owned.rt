@@ -1,9 +1,9 @@
 //! Which sequences are a sender's own, and how far it brought them.
 
-ghost use Rattle.std.specs.Prelude.{◌≡◌, ◌-◌, ◌%◌, ◌^◌, ◌<◌, ◌≤◌, IfOk, length, replicate, slice_set};
+ghost use Rattle.std.specs.Prelude.{◌≡◌, ◌-◌, ◌%◌, ◌^◌, ◌<◌, ◌≤◌, if◌then◌else◌, IfOk, length, replicate, slice_set};
 ghost use Rattle.dr_seq.specs.Rounds.{entry_of, is_marked, IsFront};
 ghost use Rattle.dr_seq.specs.Stamped.{stamped};
-ghost use Rattle.dr_plain_senders.specs.Inside.Fits.{is_open as is_open_by, is_ready as is_ready_by};
+ghost use Rattle.dr_plain_senders.specs.Inside.Fits.{is_open as is_open_by, is_ready as is_ready_by, open_count};
 
 use dr_seq::{Rounds, Size};
 use std::alloc::{AllocError, Global};
@@ -25,6 +25,14 @@ fn mark_all(rounds: &mut Rounds, from: u64, upto: u64)
     for sequence in from..upto {
         rounds.mark(sequence);
     }
+}
+
+// 1 where something is so, else 0.
+fn one_where(is_so: bool) -> u64
+    ensures is { result ≡ (if is_so then 1 else 0) }
+    ensures few { result ≤ 1 }
+{
+    if is_so { 1 } else { 0 }
 }
 
 impl Owned {
@@ -115,5 +123,17 @@ impl Owned {
             }
         }
         upto
+    }
+    /// How many of the sequences from `from` up to before `upto` are open.
+    pub(crate) fn count_open(&self, from: u64, upto: u64) -> u64
+        requires { (from ≤ upto) × (upto ≤ 2 ^ 62) }
+        ensures count { result ≡ open_count (is_open_by self.now) from (upto - from) }
+        ensures few { result ≤ upto - from }
+    {
+        let mut count = 0;
+        for sequence in from..upto {
+            count += one_where(self.is_open(sequence));
+        }
+        count
     }
 }

@@ -28,6 +28,11 @@ is_open o s = is_marked o.claimed s && not (is_marked o.published s)
 abbrev pub is_ready : Owned → ℕ → Bool
 is_ready o s = (is_marked o.claimed s && not (is_marked o.published s)) && is_marked o.written s
 
+-- how many of n sequences from s on are open
+abbrev pub open_count : (ℕ → Bool) → ℕ → ℕ → ℕ
+open_count opened s zero = 0
+open_count opened s (suc n) = (if opened s then 1 else 0) + open_count opened (s + 1) n
+
 module _ {T : Type 0} where
   -- a receiver has the parts of what it took and did not complete
   pub record PartsFit (k : Shape) (r : ReceiverRecord T) (parts : List (Token T)) : Type 0 where

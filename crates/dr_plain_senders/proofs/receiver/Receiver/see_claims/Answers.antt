@@ -1,4 +1,3 @@
-use Rattle.std.proofs.Common.{arith}
 use Rattle.dr_plain_senders.proofs.Answering.{fits_looked}
 use Rattle.dr_plain_senders.proofs.receiver.Receiver.see_claims.Goals as goal
 

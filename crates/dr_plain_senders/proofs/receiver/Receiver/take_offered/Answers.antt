@@ -1,4 +1,4 @@
-use Rattle.std.proofs.Common.{arith, length, sym, ap, ◌∙◌}
+use Rattle.std.proofs.Common.{length, sym, ap, ◌∙◌}
 use Rattle.std.proofs.lemmas.Bool.{eqb-true, eq-eqb}
 use Rattle.dr_runs.proofs.Lists.{no_elements}
 use Rattle.dr_plain_senders.specs.Calls.Ends.{ReceiverEnd}

@@ -1,5 +1,4 @@
 use Rattle.std.proofs.Common.{refl, ap, subst}
-use Rattle.dr_plain_senders.specs.Meaning.Shape.{Shape}
 use Rattle.dr_plain_senders.specs.Meaning.Words.{claim_word, halted_from}
 use Rattle.dr_plain_senders.specs.Meaning.Records.{sender_looked}
 use Rattle.dr_plain_senders.specs.declared.owned.Owned.{Owned}
