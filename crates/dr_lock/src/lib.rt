@@ -1,8 +1,9 @@
 //! The exchange of events behind a lock, with its history.
 //!
-//! [`Recorded`] is the core of one thread with its history: the calls that changed something, and
-//! the events of their batches. [`Shared`] puts it behind one lock, and each thread calls through an
-//! [`End`] of its own, which counts. An [`Exchange`] says with which history it began.
+//! [`Recorded`] is the core of one thread with its history: its calls, but for those that were refused
+//! or found nothing, and the events of their batches. [`Shared`] puts it behind one lock, and each
+//! thread calls through an [`End`] of its own, which counts. An [`Exchange`] says with which history it
+//! began.
 //! [`LockedInlet`] and [`LockedOutlet`] make an end a producer's or a handler's. [`halt`] halts the
 //! exchange. [`audit`] compares a history with what its producers were to send. Begin with
 //! `specs/Meaning/History`, then `Audit` beside it.

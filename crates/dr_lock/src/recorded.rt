@@ -102,9 +102,9 @@ impl<E: Copy> Recorded<E> {
         self.core.is_retired(h)
     }
 
-    /// The calls that were kept, in order: those that changed something, and those that told a
-    /// handler that the exchange drained. With the events of their batches they lead from the
-    /// opening to what the core shows, and so they have the five laws.
+    /// The calls that were kept, in order: all but those that were refused or answered `Gating` or
+    /// `Idle`, which change nothing. With the events of their batches they lead from the opening to
+    /// what the core shows, and so they have the five laws.
     pub fn history(&self) -> &[Entry<E>]
         ensures entries { result.now ≡ self.now.history.entries }
         ensures recorded { IsRecorded self.now.history }
@@ -129,10 +129,10 @@ impl<E: Copy> Recorded<E> {
         &self.values
     }
 
-    /// The core's call, kept in the history where it changed something or told a handler that the
-    /// exchange drained. For a poll `out` holds as many events as it asks for; a batch stands at
-    /// its front. Memory is taken first, and only where the history has no room left for one entry
-    /// and for the events of the reply. Where an allocation fails nothing has changed.
+    /// The core's call, kept in the history unless it is refused or answers `Gating` or `Idle`. For
+    /// a poll `out` holds as many events as it asks for; a batch stands at its front. Memory is taken
+    /// first, and only where the history has no room left for one entry and for the events of the
+    /// reply. Where an allocation fails nothing has changed.
     pub fn call(&mut self, command: Command<E>, out: &mut [E]) -> Result<Reply, AllocError>
         requires { asked command ≤ length out.old }
         ensures step { IfOk result (λ reply. IsStep self.old.history.core command reply (take (count_in reply) out.new) self.new.history.core) }
