@@ -1,4 +1,4 @@
-# `make` builds ./disruptor and runs the shipped example; `make test` is the whole gate; `make help` lists the rest.
+# `make` builds ./disruptor and runs the shipped example; `make test` proves and tests everything; `make help` lists the rest.
 program := crates/disruptor
 log := make.log
 sources = $(shell find crates \( -name '*.rt' -o -name '*.antt' \) -not -path '*/out/*')
@@ -27,7 +27,7 @@ try:
 
 test:
 	tests/steps_in_laws.sh
-	tests/gate.sh
+	tests/everything.sh
 
 check:
 	$(if $(wildcard crates/$(or $(CRATE),none)/src),,$(error name a crate, as in: make check CRATE=dr_core))
@@ -71,7 +71,7 @@ help:
 	@echo '                            up to twenty minutes from nothing, then seconds to minutes'
 	@echo '  make try                  runs the shipped example before any proof: a minute or two'
 	@echo '  make check CRATE=dr_core  proves one crate over what is kept: seconds, 1 to 5 minutes from nothing'
-	@echo '  make test                 the whole gate, from nothing: about an hour, two on two processors'
+	@echo '  make test                 proves and tests everything, from nothing: about an hour, two on two processors'
 	@echo '  make lib                  proves and builds out/libdisruptor.a and .so, for C, C++, Rust and Python: some minutes'
 	@echo '  make install PREFIX=/opt  installs program, libraries, headers and man page there, or else in /usr/local'
 	@echo '  make bench                events a second of core and ring: some minutes, and many where other work runs'

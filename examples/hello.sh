@@ -12,7 +12,7 @@ if [ -e "$own" ]; then
 fi
 mkdir -p "$own/crates/hello" && own=$(cd "$own" && pwd) || exit 2
 case $own/ in
-    "$top"/*) echo "$own lies within this repository, whose gate would then refuse it: name a folder elsewhere"; rm -r "$own"; exit 1 ;;
+    "$top"/*) echo "$own lies within this repository, whose checks would then refuse it: name a folder elsewhere"; rm -r "$own"; exit 1 ;;
 esac
 
 # The library's crates that a crate stands on, each after those that it stands on itself, some more than once.

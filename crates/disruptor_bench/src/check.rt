@@ -179,7 +179,7 @@ fn check_line(rt: &impl Runtime, alloc: Global) -> Result<(), Fault> {
     Ok(rt.println(Measured { order, median })?)
 }
 
-/// Prints what the gate compares.
+/// Prints what `make test` compares.
 pub fn check(rt: &(impl Runtime + Threads + Wait + Sync), alloc: Global) -> Result<(), Fault> {
     check_line(rt, alloc)?;
     check_unknown(rt, alloc)?;

@@ -1,12 +1,12 @@
 #!/usr/bin/env bash
-# The whole gate: every proof and every test's proof from nothing and each program's run (`rt ci`), then the program, as both
+# All that `make test` tries: every proof and every test's proof from nothing and each program's run (`rt ci`), then the program, as both
 # compilers built it, from outside; the library for other languages, and instructions an event; and, on what processors that
 # leaves, the wrong bodies, over the libraries that `rt ci` proves. The last line, `N passed, M failed`, counts what `rt ci`
 # counts, each wrong body, and one failure more for each script that fails. All that it starts ends with it, also where it is
 # killed or interrupted.
 set -u
 cd "$(dirname "$0")/.." || exit 2
-[ -n "${GATE_IS_HELD-}" ] || GATE_IS_HELD=yes exec tools/together.py tests/gate.sh
+[ -n "${TEST_IS_HELD-}" ] || TEST_IS_HELD=yes exec tools/together.py tests/everything.sh
 last=$(mktemp) || exit 2
 bodies=$(mktemp) || exit 2
 words=$(mktemp) || exit 2
