@@ -2,6 +2,7 @@
 
 ghost use Rattle.std.specs.Prelude.{◌≡◌, Some};
 ghost use Rattle.dr_command_line.specs.Plans.{line_status, line_text};
+ghost use Rattle.dr_command_line.specs.declared.plans.LineFault.TheVariants as fault;
 
 use dr_seq::Size;
 use std::alloc::AllocError;
@@ -95,6 +96,8 @@ impl fmt::Display for LineFault {
 impl Error for LineFault {}
 
 impl From<AllocError> for LineFault {
+    ghost from_gives = { λ _ given. given ≡ fault.Memory };
+
     fn from(_error: AllocError) -> LineFault {
         LineFault::Memory
     }

@@ -8,3 +8,4 @@ pub mod Shown
 pub mod Sending
 pub mod Turning
 pub mod Along
+pub mod OfTypes

@@ -3,3 +3,4 @@ pub mod Running
 pub mod Refused
 pub mod Waits
 pub mod OneThread
+pub mod OfTypes

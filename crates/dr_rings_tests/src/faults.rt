@@ -1,6 +1,8 @@
-//! The printed text of each fault of making a ring.
+//! The printed text of each fault of making a ring, and of a claim of one of several senders.
 
 use crate::checks::check;
+use dr_meaning::Refusal;
+use dr_senders::ClaimFault;
 use std::alloc::Global;
 use std::fmt::Display;
 use std::process::Abort;
@@ -20,4 +22,15 @@ fn faults_of_a_ring_over_words(rt: HostRuntime) {
 fn faults_of_a_ring_over_plain_memory(rt: HostRuntime) {
     check_text(&rt, rt.alloc(), dr_plain::RingFault::BadLimit, "bad-limit");
     check_text(&rt, rt.alloc(), dr_plain::RingFault::NoMemory, "no-memory");
+}
+
+#[test]
+fn a_claim_that_another_sender_came_before(rt: HostRuntime) {
+    check_text(&rt, rt.alloc(), ClaimFault::Contended, "contended");
+    check_text(
+        &rt,
+        rt.alloc(),
+        ClaimFault::Refused(Refusal::NoRoom),
+        "no-room",
+    );
 }

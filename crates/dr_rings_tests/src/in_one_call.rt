@@ -2,8 +2,8 @@
 
 use crate::checks::check;
 use crate::graphs::{Shape, graph};
-use crate::work::Work;
-use dr_disruptor::{RunFault, WaitStrategy, run, run_waiting, run_with};
+use crate::work::{Count, Work};
+use dr_disruptor::{RunFault, WaitStrategy, run, run_three, run_two, run_waiting, run_with};
 use dr_graph::Graph;
 use dr_seq::{Event, Size};
 use dr_workers::{OpenGate, produce};
@@ -122,4 +122,40 @@ fn a_script_by_yielding(rt: HostRuntime) {
     let handlers = yielded(rt, rt.alloc(), &graph, event);
     let wanted = [Work::Sum(300), Work::Keep(3), Work::Sum(300)];
     check(&rt, handlers.as_slice(), &wanted[..]);
+}
+
+#[test]
+fn handlers_of_two_and_of_three_types(rt: HostRuntime) {
+    let size = Size::new(8).expect(&rt, "a size");
+    let script = [Event {
+        first: 3,
+        second: 0,
+    }; 100];
+    let chain = graph(&rt, rt.alloc(), Shape::Chain);
+    let two = run_two(
+        rt,
+        rt.alloc(),
+        &chain,
+        size,
+        Work::Sum(0),
+        Count(0),
+        &script,
+    );
+    let (sum, count) = two.expect(&rt, "a run");
+    check(&rt, sum, Work::Sum(300));
+    check(&rt, count, Count(100));
+    let diamond = graph(&rt, rt.alloc(), Shape::Diamond);
+    let three = run_three(
+        rt,
+        rt.alloc(),
+        &diamond,
+        size,
+        Count(0),
+        Work::Keep(0),
+        Count(1),
+        &script,
+    );
+    let (first, second, third) = three.expect(&rt, "a run");
+    check(&rt, second, Work::Keep(3));
+    check(&rt, [first, third], [Count(100), Count(101)]);
 }

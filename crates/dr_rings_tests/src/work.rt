@@ -1,4 +1,4 @@
-//! Handlers of several kinds in one list.
+//! Handlers of several kinds.
 
 use dr_meaning::Handler;
 use dr_seq::Event;
@@ -20,5 +20,19 @@ impl Handler<Event> for Work {
             Work::Sum(total) => Work::Sum(total.wrapping_add(event.first)),
             Work::Keep(_) => Work::Keep(event.first),
         };
+    }
+}
+
+/// How many events came.
+#[derive(Clone, Copy, Debug, PartialEq, Eq)]
+pub struct Count(pub u64);
+
+impl Handler<Event> for Count {
+    ghost use Rattle.std.specs.Prelude.{◌≡◌, ◌+◌, ◌%◌, ◌^◌};
+
+    ghost goes = { λ old event s end new. new.0 ≡ (old.0 + 1) % 2 ^ 64 };
+
+    fn on_event(&mut self, _event: Event, _s: u64, _end: bool) {
+        self.0 = self.0.wrapping_add(1);
     }
 }
