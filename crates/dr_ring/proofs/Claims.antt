@@ -136,14 +136,19 @@ module _ {r s t e : SenderRecord} {xs : List Look} {n q needed : ℕ} (S : Scann
   plan : s.plan ≡ r.plan
   plan = ap (λ (x : SenderRecord). x.plan) S.first
 
-  room : (least : ℕ) (E : IsEnough s xs needed least) → FoundRoom r q E.counts
-  room least E = record {
-    all = subst (λ (k : Shape). (E.counts ≡ []) ⊎ (length E.counts ≡ length (finals k.upstreams))) plan E.all;
-    room = λ i lt. (let high = E.high i lt in let next = S.next in let need = S.need in omega arith);
-  }
-
   gated : (least : ℕ) (E : IsEnough s xs needed least) → xs ≡ gate_looks r E.counts
   gated least E = E.are ∙ ap (λ (k : Shape). count_looks (finals k.upstreams) E.counts) plan
+
+  room : (least : ℕ) (E : IsEnough s xs needed least) → FoundRoom r q E.counts
+  room least E =
+      let saw : sender_saw s xs ≡ sender_saw r (look halt_word 0 ∷ gate_looks r E.counts) =
+      sym S.scan.is ∙ scanned.is ∙ ap (λ (ys : List Look). sender_saw r (look halt_word 0 ∷ ys)) (gated least E) in
+      let low = subst (λ (x : SenderRecord). IsSeenLeast x least) saw E.seen in
+      let next = S.next in let need = S.need in let enough = E.enough in record {
+        all = subst (λ (k : Shape). (E.counts ≡ []) ⊎ (length E.counts ≡ length (finals k.upstreams))) plan E.all;
+        room = λ i lt. (let high = E.high i lt in omega arith);
+        sees = record { limit = (let limit = S.limit in omega arith); completed = λ f has. (let count = low f has in omega arith) };
+      }
 
   within : nat_lt r.plan.limit (claimed r + q) ≡ false
   within = le-ltb r.plan.limit (claimed r + q) (let next = S.next in let limit = S.limit in omega arith)
@@ -188,7 +193,7 @@ module _ {r s t e : SenderRecord} {xs : List Look} {n q needed : ℕ} (S : Scann
         stretch = tt;
         sent = sent;
         seen = seen;
-        looks = inr (record { limit = (let next = S.next in let limit = S.limit in omega arith); counts = E.counts; room = room least E; saw = refl });
+        looks = inr (record { counts = E.counts; room = room least E; saw = refl });
         only = only ∙ ap (λ (x : Sent Event). record r { sent = x; looks = r.looks ++ seen }) (sym sent);
         few = S.few;
         size = S.made;

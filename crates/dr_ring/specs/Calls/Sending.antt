@@ -17,7 +17,7 @@ use Rattle.dr_ring.specs.declared.record.Step.{Step}
 use Rattle.dr_ring.specs.declared.record.Step.TheVariants.{SenderStoresFirst, SenderStoresSecond, SenderPublishes, SenderHalts, SenderCloses}
 use Rattle.dr_runs.specs.Runs.{IsBeginning, StoresWhereOk}
 use Rattle.dr_ring.specs.Calls.Ends.{SenderEnd, sender_place, count_looks}
-use Rattle.dr_ring.specs.Meaning.Records.{claimed, seen_before, sender_halted, sender_closed}
+use Rattle.dr_ring.specs.Meaning.Records.{claimed, seen_before, sender_halted, sender_closed, SeesRoom}
 use Rattle.dr_runs.specs.Looks.{look}
 use Rattle.dr_runs.specs.Replies.{claim_tests_of}
 
@@ -29,10 +29,11 @@ gate_looks r counts = count_looks (finals r.plan.upstreams) counts
 abbrev pub LeavesRoom : SenderRecord → ℕ → ℕ → Type 0
 LeavesRoom r n count = claimed r + n ≤ r.plan.size + count
 
--- there is room for n more: the sender looked at no final, since what it remembered leaves room, or at each of them, and each leaves room
+-- there is room for n more: the sender looked at no final, or at each of them, and each leaves room; and what it has now seen of each final, by this claim or before, leaves room within the limit
 pub record FoundRoom (r : SenderRecord) (n : ℕ) (counts : List ℕ) : Type 0 where
   pub all : (counts ≡ []) ⊎ (length counts ≡ length (finals r.plan.upstreams))
   pub room : (i : ℕ) → i < length counts → LeavesRoom r n (slice_index counts i)
+  pub sees : SeesRoom r.plan (record r { looks = r.looks ++ look halt_word 0 ∷ gate_looks r counts }) n
 
 -- there is none: the last count at which the sender looked is the first that leaves no room
 pub record FoundNoRoom (r : SenderRecord) (n : ℕ) (counts : List ℕ) : Type 0 where
@@ -44,7 +45,6 @@ pub record FoundNoRoom (r : SenderRecord) (n : ℕ) (counts : List ℕ) : Type 0
 
 -- the last look found the ring halted, though the first did not, and though limit and room allow the claim
 pub record HaltedLate (r : SenderRecord) (n : ℕ) (seen : List Look) : Type 0 where
-  pub limit : claimed r + n ≤ r.plan.limit
   pub counts : List ℕ
   pub room : FoundRoom r n counts
   pub saw : seen ≡ look halt_word 0 ∷ gate_looks r counts ++ look halt_word 1 ∷ []
@@ -122,8 +122,9 @@ PublishCall e lo hi e' result = (sender_place e' ≡ sender_place e) × TriesToP
 abbrev pub CloseCall : SenderEnd → SenderEnd → Result (Unit {0}) Refusal → Type 0
 CloseCall e e' result = (sender_place e' ≡ sender_place e) × TriesToClose e.knows e'.knows result × StoresWhereOk e.stored (SenderHalts ∷ SenderCloses ∷ []) e'.stored result × IsBeginning e.past e'.past
 
--- Whoever closes need not look at the answer: a sender that left nothing claimed unpublished has closed its ring, and any sender stays at its place, sent what it did, and saw no more before a halt of its own.
+-- Whoever closes need not look at the answer: a sender that left nothing claimed unpublished has closed its ring, and any sender stays at its place, sent what it did, saw no more before a halt of its own, and stored what a close stores.
 pub record ClosesOnceDone (e e' : SenderEnd) : Type 0 where
+  pub call : (answer : Result (Unit {0}) Refusal) × CloseCall e e' answer
   pub place : sender_place e' ≡ sender_place e
   pub published : e'.knows.sent.published ≡ e.knows.sent.published
   pub pending : e'.knows.sent.pending ≡ e.knows.sent.pending
