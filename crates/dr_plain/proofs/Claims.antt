@@ -312,14 +312,19 @@ module _ {T : Type 0} (e : SenderStand T) (w : Written) (cells : List (Option T)
   plan : s.plan ≡ began.plan
   plan = ap (λ (x : SenderRecord T). x.plan) S.first
 
-  room : (least : ℕ) (E : IsEnough s xs needed least) → FoundRoom began q E.counts
-  room least E = record {
-    all = subst (λ (k : Shape). (E.counts ≡ []) ⊎ (length E.counts ≡ length (finals k.upstreams))) plan E.all;
-    room = λ i lt. (let high = E.high i lt in let next = S.next in let need = S.need in omega arith);
-  }
-
   gated : (least : ℕ) (E : IsEnough s xs needed least) → xs ≡ gate_looks began E.counts
   gated least E = E.are ∙ ap (λ (k : Shape). count_looks (finals k.upstreams) E.counts) plan
+
+  room : (least : ℕ) (E : IsEnough s xs needed least) → FoundRoom began q E.counts
+  room least E =
+      let saw : sender_saw s xs ≡ sender_saw began (look halt_word 0 ∷ gate_looks began E.counts) =
+      sym S.scan.is ∙ scanned.is ∙ ap (λ (ys : List Look). sender_saw began (look halt_word 0 ∷ ys)) (gated least E) in
+      let low = subst (λ (x : SenderRecord T). IsSeenLeast x least) saw E.seen in
+      let next = S.next in let need = S.need in let enough = E.enough in record {
+        all = subst (λ (k : Shape). (E.counts ≡ []) ⊎ (length E.counts ≡ length (finals k.upstreams))) plan E.all;
+        room = λ i lt. (let high = E.high i lt in omega arith);
+        sees = record { limit = (let limit = S.limit in omega arith); completed = λ f has. (let count = low f has in omega arith) };
+      }
 
   within : nat_lt began.plan.limit (claimed began + q) ≡ false
   within = le-ltb began.plan.limit (claimed began + q) (let next = S.next in let limit = S.limit in omega arith)
@@ -348,7 +353,7 @@ module _ {T : Type 0} (e : SenderStand T) (w : Written) (cells : List (Option T)
   claim_halted_late e' least E last =
       refused e w cells q made e' Halted (look halt_word 0 ∷ gate_looks began E.counts ++ look halt_word 1 ∷ [])
       (inr (refl, inr (bad_count_fails q began.plan.size S.size, inl (tt, refl))))
-      (inr (record { limit = (let next = S.next in let limit = S.limit in omega arith); counts = E.counts; room = room least E; saw = refl }))
+      (inr (record { counts = E.counts; room = room least E; saw = refl }))
       ((saw_then began t e'.knows (look halt_word 0 ∷ xs) (look halt_word 1 ∷ []) scanned (saw_halt t e'.knows q 1 last (λ z. absurd (omega arith)))).is
       ∙ ap (λ (ys : List Look). sender_saw began (look halt_word 0 ∷ ys ++ look halt_word 1 ∷ [])) (gated least E))
 

@@ -15,7 +15,7 @@ use Rattle.dr_plain.specs.declared.record.Step.TheVariants.{SenderPublishes, Sen
 use Rattle.dr_runs.specs.Runs.{IsBeginning, StoresWhereOk}
 use Rattle.dr_plain.specs.Meaning.Replies.{tests_of_claim}
 use Rattle.dr_plain.specs.Calls.Ends.{SenderEnd, sender_place, sent_of, count_looks}
-use Rattle.dr_plain.specs.Meaning.Records.{claimed, events_of, sender_halted, sender_closed}
+use Rattle.dr_plain.specs.Meaning.Records.{claimed, events_of, sender_halted, sender_closed, SeesRoom}
 use Rattle.dr_runs.specs.Looks.{look}
 
 module _ {T : Type 0} where
@@ -27,10 +27,11 @@ module _ {T : Type 0} where
   abbrev pub LeavesRoom : SenderRecord T → ℕ → ℕ → Type 0
   LeavesRoom r n count = claimed r + n ≤ r.plan.size + count
 
-  -- there is room for n more: the sender looked at no final, since what it remembered leaves room, or at each of them, and each leaves room
+  -- there is room for n more: the sender looked at no final, or at each of them, and each leaves room; and what it has now seen of each final, by this claim or before, leaves room within the limit
   pub record FoundRoom (r : SenderRecord T) (n : ℕ) (counts : List ℕ) : Type 0 where
     pub all : (counts ≡ []) ⊎ (length counts ≡ length (finals r.plan.upstreams))
     pub room : (i : ℕ) → i < length counts → LeavesRoom r n (slice_index counts i)
+    pub sees : SeesRoom r.plan (record r { looks = r.looks ++ look halt_word 0 ∷ gate_looks r counts }) n
 
   -- there is none: the last count at which the sender looked is the first that leaves no room
   pub record FoundNoRoom (r : SenderRecord T) (n : ℕ) (counts : List ℕ) : Type 0 where
@@ -42,7 +43,6 @@ module _ {T : Type 0} where
 
   -- the last look found the ring halted, though the first did not, and though limit and room allow the claim
   pub record HaltedLate (r : SenderRecord T) (n : ℕ) (seen : List Look) : Type 0 where
-    pub limit : claimed r + n ≤ r.plan.limit
     pub counts : List ℕ
     pub room : FoundRoom r n counts
     pub saw : seen ≡ look halt_word 0 ∷ gate_looks r counts ++ look halt_word 1 ∷ []
