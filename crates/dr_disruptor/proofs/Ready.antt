@@ -1,8 +1,10 @@
 -- The ends of a new ring, each given to a worker.
-use Rattle.std.proofs.Common.{◌≡◌, List, [], map, false, Result, Ok, Err, sym, subst, ap, ◌∙◌}
+use Rattle.std.proofs.Common.{◌≡◌, List, [], map, length, take, false, Result, Ok, Err, sym, subst, ap, ◌∙◌}
 use Rattle.std.specs.Prelude.{OnOk, is_err}
 use Rattle.std.proofs.lemmas.Bool.{false≢true}
+use Rattle.std.proofs.Math.Seq.{take-nil}
 use Rattle.atomic_table.specs.Seated.{TableId}
+use Rattle.dr_seq.specs.declared.event.Event.{Event}
 use Rattle.dr_ring.specs.declared.record.SenderRecord.{SenderRecord}
 use Rattle.dr_ring.specs.declared.record.Step.{Step}
 use Rattle.dr_ring.specs.Meaning.Moments.{fresh_receivers, fresh_sender}
@@ -16,14 +18,14 @@ use Rattle.dr_disruptor.specs.Serving.{AreReady, Worker, given_end, given_handle
 abbrev the_end : TableId → SenderRecord → List Step → List Step → SenderEnd
 the_end ring knows past stored = record { ring = ring; knows = knows; past = past; stored = stored }
 
-pub are_ready : {A : Type 0} (k : Shape) (s : SenderEnd) (rs : List ReceiverEnd) (t : HalterEnd) (starts : List A) (ws : List (Worker A)) → AreFreshEnds k s rs t → AreAllEnds s rs t
-    → map given_end ws ≡ rs → map given_handler ws ≡ starts → AreReady k starts s ws t
-are_ready k s rs t starts ws fresh all ends handlers =
-    record {
+pub are_ready : {A : Type 0} (k : Shape) (s s' : SenderEnd) (rs : List ReceiverEnd) (t : HalterEnd) (starts : List A) (ws : List (Worker A)) → AreFreshEnds k s rs t → AreAllEnds s rs t
+    → s' ≡ s → map given_end ws ≡ rs → map given_handler ws ≡ starts → AreReady k starts s' ws t
+are_ready k s s' rs t starts ws fresh all same ends handlers =
+    subst (λ (e : SenderEnd). AreReady k starts e ws t) (sym same) (record {
       fresh = subst (λ (l : List ReceiverEnd). AreFreshEnds k s l t) (sym ends) fresh;
       ends = subst (λ (l : List ReceiverEnd). AreAllEnds s l t) (sym ends) all;
       handlers = handlers;
-    }
+    })
 
 -- what a sender that stayed at its place was when it was made, and the receivers beside it
 module _ (k : Shape) (s s' : SenderEnd) (rs : List ReceiverEnd) (t : HalterEnd) (fresh : AreFreshEnds k s rs t) (same : sender_place s' ≡ sender_place s) where
@@ -42,3 +44,7 @@ module _ (k : Shape) (s s' : SenderEnd) (rs : List ReceiverEnd) (t : HalterEnd) 
 pub where_ok : {A E P : Type 0} (r : Result A E) → false ≡ is_err r → OnOk r P → P
 where_ok (Ok x) fine done = done
 where_ok (Err e) fine done = absurd (false≢true fine)
+
+-- where nothing is published, nothing is received
+pub none_taken : (received published : List Event) → received ≡ take (length received) published → published ≡ [] → received ≡ []
+none_taken received published begins none = begins ∙ ap (take (length received)) none ∙ take-nil (length received)

@@ -3,6 +3,7 @@
 ghost use Rattle.std.specs.Prelude.{◌≡◌};
 ghost use Rattle.dr_disruptor.specs.declared.fault.RunFault.TheVariants as fault;
 
+use crate::workers::Abandoned;
 use dr_graph::GraphFault;
 use dr_ring::RingFault;
 use dr_seq::SizeFault;
@@ -80,6 +81,14 @@ impl<T: Drop> From<AllocFailed<T>> for RunFault {
     ghost from_gives = { λ _ given. given ≡ fault.Memory };
 
     fn from(_: AllocFailed<T>) -> RunFault {
+        RunFault::Memory
+    }
+}
+
+impl From<Abandoned> for RunFault {
+    ghost from_gives = { λ _ given. given ≡ fault.Memory };
+
+    fn from(_: Abandoned) -> RunFault {
         RunFault::Memory
     }
 }

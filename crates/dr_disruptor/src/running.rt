@@ -20,7 +20,7 @@ ghost use Rattle.dr_disruptor.specs.declared.fault.RunFault.TheVariants.{Memory}
 
 use crate::fault::RunFault;
 use crate::strategy::WaitStrategy;
-use crate::workers::{Back, LiveSender, SENDER, Worker, apart, begin, joined};
+use crate::workers::{Back, LiveSender, SENDER, Worker, apart, begin, joined, open};
 use dr_graph::Graph;
 use dr_meaning::Handler;
 use dr_ring::{Halter, Settled, settle};
@@ -120,7 +120,8 @@ pub fn run_waiting<
     ensures many { IfOk result (λ _. length handlers.items ≡ length graph.now.upstreams) }
     ensures refused { IfErr result (λ e. e ≡ refusal_of (length graph.now.upstreams) (length handlers.items)) }
 {
-    let (mut sender, workers, bell, halter) = begin(rt, alloc, graph, size, handlers, strategy)?;
+    let (fresh, receivers, halter, bell) = open(alloc, graph, size, handlers.len())?;
+    let (mut sender, workers) = begin(rt, alloc, fresh, receivers, handlers, &bell, strategy)?;
     // With less than the ring in a claim the handlers have events while the sender writes.
     let cut = (size.get() / 4).max(1);
     let mut waits = strategy.begin(&rt, &bell, size.get());
@@ -176,7 +177,9 @@ pub fn run_with<
     ensures many { IfOk result (λ _. length handlers.items ≡ length graph.now.upstreams) }
     ensures refused { IfErr result (λ e. e ≡ refusal_of (length graph.now.upstreams) (length handlers.items)) }
 {
-    let (mut sender, workers, _bell, halter) = begin(rt, alloc, graph, size, handlers, strategy)?;
+    let given = handlers.len();
+    let (fresh, receivers, halter, bell) = open(alloc, graph, size, given)?;
+    let (mut sender, workers) = begin(rt, alloc, fresh, receivers, handlers, &bell, strategy)?;
     let fault = send(&mut sender);
     finish(&rt, alloc, sender, workers, halter, fault)
 }

@@ -1,10 +1,12 @@
 //! The threads of a ring's handlers: how they are started, and what they give back.
 
 ghost use Rattle.std.specs.Prelude.{◌≡◌, ◌++◌, ◌∷◌, [], All, IfErr, IfOk, OnOk, length, map};
+ghost use Rattle.dr_ring.specs.Calls.Making.{AreFreshEnds};
 ghost use Rattle.dr_ring.specs.Calls.Sending.{ClosesOnceDone};
 ghost use Rattle.dr_ring.specs.Calls.Settling.{AreAllEnds};
-ghost use Rattle.dr_disruptor.specs.Refused.{refusal_of};
-ghost use Rattle.dr_disruptor.specs.Serving.{AreKept, AreReady, endings_from, given_end, given_handler, shape_of};
+ghost use Rattle.dr_ring.specs.Meaning.Moments.{fresh_sender};
+ghost use Rattle.dr_disruptor.specs.Refused.{LeavesUnsent, refusal_of};
+ghost use Rattle.dr_disruptor.specs.Serving.{AreKept, endings_from, given_end, given_handler, shape_of};
 
 use crate::fault::RunFault;
 use crate::served::{Served, ServesPromise, serve};
@@ -15,6 +17,7 @@ use dr_ring::{Halter, Receiver, Sender, ring};
 use dr_seq::{Event, Size};
 use dr_workers::{Bell, Ended, Ringing, WorkFault};
 use std::alloc::{AllocError, Global};
+use std::snapshot::Snapshot;
 use std::sync::{Arc, Wait};
 use std::thread::{self, PromisedHandle, Threads, join_promised};
 
@@ -26,6 +29,13 @@ pub type LiveSender = Ringing<Sender, Arc<Bell, Global>>;
 
 /// A handler's thread.
 pub(crate) type Worker<H> = PromisedHandle<Served<H>, ServesPromise<H>>;
+
+/// That a ring's threads were not all started, with its sender as it was let go: it closed the ring and did
+/// nothing else.
+#[derive(Drop)]
+pub(crate) struct Abandoned {
+    sender: Snapshot<Sender>,
+}
 
 // Starts a thread for each handler with the end at its place. Where one cannot be started the earlier ones are in `started`.
 fn start<R: Threads + Wait + Copy + Send + 'static, H: Handler<Event> + Drop + Send + 'static>(
@@ -41,6 +51,8 @@ fn start<R: Threads + Wait + Copy + Send + 'static, H: Handler<Event> + Drop + S
     ensures ends { OnOk result (map given_end started.new.items ≡ receivers.items) }
     ensures starts { OnOk result (map given_handler started.new.items ≡ handlers.items) }
 {
+    // A thread that is started has its place.
+    started.reserve(handlers.len())?;
     let mut handlers = handlers.into_iter();
     for receiver in receivers {
         let Some(handler) = handlers.next() else {
@@ -71,52 +83,71 @@ fn wait_for<R: Threads, H: Handler<Event> + Drop>(rt: &R, workers: Vec<Worker<H>
 // Closes a ring before anything was sent, and waits for those of its threads that were started.
 fn abandon<R: Threads, H: Handler<Event> + Drop>(
     rt: &R,
-    sender: &mut LiveSender,
+    mut sender: LiveSender,
     workers: Vec<Worker<H>>,
-)
-    requires { sender.old.knows.sent.published ≡ [] }
-    ensures { ClosesOnceDone sender.old sender.new }
+) -> Abandoned
+    ensures { ClosesOnceDone sender result.sender.value }
 {
     let _closed = sender.call(|end| end.close());
     wait_for(rt, workers);
+    Abandoned {
+        sender: Snapshot::of(sender.end()),
+    }
 }
 
-/// A ring's sender, a thread for each handler with its end of the ring, the bell that wakes those who
-/// park, and the ring's halter, which nobody used. Where a thread cannot be started, nothing is sent, and those that were started are joined.
+/// The ends of a new ring for a graph and as many handlers as it has, and the bell that wakes those who park.
+pub(crate) fn open(
+    alloc: Global,
+    graph: &Graph,
+    size: Size,
+    handlers: usize,
+) -> Result<(LiveSender, Vec<Receiver>, Halter, Arc<Bell, Global>), RunFault>
+    ensures fresh { IfOk result (λ r. AreFreshEnds (shape_of graph.now.upstreams size) r.0 r.1.items r.2) }
+    ensures ends { IfOk result (λ r. AreAllEnds r.0 r.1.items r.2) }
+    ensures many { IfOk result (λ r. (handlers ≡ length graph.now.upstreams) × (length r.1.items ≡ handlers)) }
+    ensures refused { IfErr result (λ e. e ≡ refusal_of (length graph.now.upstreams) handlers) }
+{
+    let expected = graph.len();
+    if handlers != expected {
+        return Err(RunFault::Handlers {
+            graph: expected,
+            given: handlers,
+        });
+    }
+    let bell = Arc::new(alloc, Bell::new())?;
+    let theirs = Arc::try_clone(&bell)?;
+    let Ok((sender, receivers, halter)) = ring(alloc, graph, size, MAX_LIMIT) else {
+        return Err(RunFault::Memory);
+    };
+    Ok((Ringing::new(sender, theirs), receivers, halter, bell))
+}
+
+/// Starts a thread for each handler of a new ring, with its end. Where a thread cannot be started, nothing is
+/// sent, and those that were started are joined.
 pub(crate) fn begin<
     R: Threads + Wait + Copy + Send + 'static,
     H: Handler<Event> + Drop + Send + 'static,
 >(
     rt: R,
     alloc: Global,
-    graph: &Graph,
-    size: Size,
+    sender: LiveSender,
+    receivers: Vec<Receiver>,
     handlers: Vec<H>,
+    bell: &Arc<Bell, Global>,
     strategy: WaitStrategy,
-) -> Result<(LiveSender, Vec<Worker<H>>, Arc<Bell, Global>, Halter), RunFault>
-    ensures ready { IfOk result (λ r. AreReady (shape_of graph.now.upstreams size) handlers.items r.0 r.1.items r.3) }
-    ensures many { IfOk result (λ _. length handlers.items ≡ length graph.now.upstreams) }
-    ensures refused { IfErr result (λ e. e ≡ refusal_of (length graph.now.upstreams) (length handlers.items)) }
+) -> Result<(LiveSender, Vec<Worker<H>>), Abandoned>
+    requires many { length receivers.items ≡ length handlers.items }
+    requires fresh { sender.knows ≡ fresh_sender sender.knows.plan }
+    ensures sender { IfOk result (λ r. r.0 ≡ sender) }
+    ensures ends { IfOk result (λ r. map given_end r.1.items ≡ receivers.items) }
+    ensures starts { IfOk result (λ r. map given_handler r.1.items ≡ handlers.items) }
+    ensures unsent { IfErr result (λ e. LeavesUnsent sender e.sender.value) }
 {
-    let (expected, given) = (graph.len(), handlers.len());
-    if given != expected {
-        return Err(RunFault::Handlers {
-            graph: expected,
-            given,
-        });
+    let mut started = Vec::new(alloc);
+    if start(rt, &mut started, receivers, handlers, bell, strategy).is_err() {
+        return Err(abandon(&rt, sender, started));
     }
-    let mut started = Vec::with_capacity(alloc, given)?;
-    let bell = Arc::new(alloc, Bell::new())?;
-    let theirs = Arc::try_clone(&bell)?;
-    let Ok((sender, receivers, halter)) = ring(alloc, graph, size, MAX_LIMIT) else {
-        return Err(RunFault::Memory);
-    };
-    let mut sender = Ringing::new(sender, theirs);
-    if start(rt, &mut started, receivers, handlers, &bell, strategy).is_err() {
-        abandon(&rt, &mut sender, started);
-        return Err(RunFault::Memory);
-    }
-    Ok((sender, started, bell, halter))
+    Ok((sender, started))
 }
 
 // Closes the ring, unless the sender left a claim open, and has what each thread gives back. Where memory

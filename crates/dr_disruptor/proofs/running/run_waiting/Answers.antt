@@ -7,43 +7,57 @@ use Rattle.dr_ring.specs.Calls.Ends.{HalterEnd}
 use Rattle.dr_ring.specs.Calls.Telling.{sender_does}
 use Rattle.dr_disruptor.specs.Running.{IsSending}
 use Rattle.dr_disruptor.specs.Serving.{given_end, given_handler, shape_of}
-use Rattle.dr_disruptor.proofs.Ready.{made_so, same_ends, same_plan}
+use Rattle.dr_disruptor.proofs.Ready.{are_ready, made_so, same_ends, same_plan}
+use Rattle.dr_disruptor.proofs.Settled.{all_moved}
 use Rattle.dr_disruptor.proofs.Whole.{came, run_of, whole_of}
 use Rattle.dr_disruptor.proofs.running.run_waiting.Goals as goal
 
 pub finish-requires-clause-unhalted : goal.finish-requires-clause-unhalted
-finish-requires-clause-unhalted g c = ap (λ (t : HalterEnd). t.knows.halted) c.in_ok-sender.ensures.ready.fresh.halter
+finish-requires-clause-unhalted g c = ap (λ (t : HalterEnd). t.knows.halted) c.in_ok-fresh.ensures.fresh.halter
 
 pub finish-requires-clause-fresh : goal.finish-requires-clause-fresh
 finish-requires-clause-fresh g c =
-    let made = c.in_ok-sender in let produced = c.produce_with-produced in
-    same_ends (shape_of c.args.graph.now.upstreams c.args.size) made.sender produced.new.inlet (map given_end made.workers.items) made.halter made.ensures.ready.fresh produced.ensures.kept
+    let k = shape_of c.args.graph.now.upstreams c.args.size in
+    let made = c.in_ok-fresh in
+    let begun = c.in_ok-sender in
+    let ready = are_ready k made.fresh begun.sender made.receivers.items made.halter c.args.handlers.items begun.workers.items made.ensures.fresh made.ensures.ends begun.ensures.sender begun.ensures.ends begun.ensures.starts in
+    let produced = c.produce_with-produced in
+    same_ends k begun.sender produced.new.inlet (map given_end begun.workers.items) made.halter ready.fresh produced.ensures.kept
+
+pub finish-requires-clause-ends : goal.finish-requires-clause-ends
+finish-requires-clause-ends g c =
+    let k = shape_of c.args.graph.now.upstreams c.args.size in
+    let made = c.in_ok-fresh in
+    let begun = c.in_ok-sender in
+    let ready = are_ready k made.fresh begun.sender made.receivers.items made.halter c.args.handlers.items begun.workers.items made.ensures.fresh made.ensures.ends begun.ensures.sender begun.ensures.ends begun.ensures.starts in
+    let produced = c.produce_with-produced in
+    all_moved begun.sender produced.new.inlet (map given_end begun.workers.items) made.halter produced.ensures.kept ready.ends
 
 pub returns-clause-run : goal.returns-clause-run
 returns-clause-run g c =
-    let made = c.in_ok-sender in
-    let ready = made.ensures.ready in
+    let k = shape_of c.args.graph.now.upstreams c.args.size in
+    let made = c.in_ok-fresh in
+    let begun = c.in_ok-sender in
+    let ready = are_ready k made.fresh begun.sender made.receivers.items made.halter c.args.handlers.items begun.workers.items made.ensures.fresh made.ensures.ends begun.ensures.sender begun.ensures.ends begun.ensures.starts in
     let produced = c.produce_with-produced in
-    let upstreams = c.args.graph.now.upstreams in
     let script = c.args.script.now in
-    let k = shape_of upstreams c.args.size in
-    let ends = map given_end made.workers.items in
+    let ends = map given_end begun.workers.items in
     let none = ap (λ (r : SenderRecord). r.sent.published) ready.fresh.sender in
-    let plan = same_plan k made.sender produced.new.inlet ends made.halter ready.fresh produced.ensures.kept in
+    let plan = same_plan k begun.sender produced.new.inlet ends made.halter ready.fresh produced.ensures.kept in
     let cut = c.max-cut.ensures ∙ ap (λ (n : ℕ). max (n / 4) 1) c.get.ensures.value in
     let sending : IsSending k script produced.result = record {
-      given = made.sender;
+      given = begun.sender;
       back = produced.new.inlet;
-      fresh = made_so k made.sender produced.new.inlet ends made.halter ready.fresh produced.ensures.kept;
-      calls = subst (λ (n : ℕ). SomeCalls sender_does made.sender produced.new.inlet (worker.Sends {E = Event} n script (λ turn. ⊥) (λ turn. ⊥) produced.result)) cut produced.ensures.sends;
+      fresh = made_so k begun.sender produced.new.inlet ends made.halter ready.fresh produced.ensures.kept;
+      calls = subst (λ (n : ℕ). SomeCalls sender_does begun.sender produced.new.inlet (worker.Sends {E = Event} n script (λ turn. ⊥) (λ turn. ⊥) produced.result)) cut produced.ensures.sends;
       complete = produced.ensures.open (ap (λ (r : SenderRecord). r.sent.pending) ready.fresh.sender);
       published = produced.ensures.sent ∙ ap (λ (l : List Event). l ++ take produced.result.sent script) none;
     }
     in
     let all : produced.result.fault ≡ None → produced.result.sent ≡ length script = λ fine. rw fine at produced.ensures.all in
-    run_of g.H.Handler.goes k c.args.handlers.items script produced.result (map given_handler made.workers.items)
+    run_of g.H.Handler.goes k c.args.handlers.items script produced.result (map given_handler begun.workers.items)
     c.finish.result ready.handlers sending produced.ensures.within all
-    (came g.H.Handler.goes k c.args.handlers.items produced.new.inlet (map given_handler made.workers.items) produced.result.fault c.finish.result plan c.finish.ensures.ran c.finish.ensures.closes c.finish.ensures.claimed c.finish.ensures.unhalted)
+    (came g.H.Handler.goes k c.args.handlers.items produced.new.inlet (map given_handler begun.workers.items) produced.result.fault c.finish.result plan c.finish.ensures.ran c.finish.ensures.closes c.finish.ensures.claimed c.finish.ensures.unhalted)
 
 pub returns-clause-whole : goal.returns-clause-whole
 returns-clause-whole g c =
