@@ -4,6 +4,7 @@ ghost use Rattle.std.specs.Prelude.{◌≡◌, ◌+◌, ◌^◌, ◌≤◌, Some
 ghost use Rattle.dr_meaning.specs.Calls.Calling.{WritesBy};
 ghost use Rattle.dr_meaning.specs.Calls.Ends.{IsEndsAnswer, ClaimAnswers, WriteAnswers, PublishAnswers, Claims, Writes, Publishes, WriteAllAnswers, WritesAll};
 ghost use Rattle.dr_ring.specs.Calls.Ends.{sender_place};
+ghost use Rattle.dr_ring.specs.Meaning.Records.{claimed as claimed_by};
 ghost use Rattle.dr_runs.specs.Looks.{looks_counted};
 ghost use Rattle.dr_ring.specs.Calls.Sending.{ClaimCall, WriteCall, WriteAllCall, PublishCall, CloseCall, ClosesOnceDone};
 ghost use Rattle.dr_ring.specs.Calls.Telling.{sender_does};
@@ -142,6 +143,20 @@ impl Sender {
         self.station.halt();
         self.station.close();
         Ok(())
+    }
+
+    /// How many sequences it claimed.
+    pub fn claimed(&self) -> u64
+        ensures { result ≡ claimed_by self.now.knows }
+    {
+        self.claimed
+    }
+
+    /// How many events it published.
+    pub fn published(&self) -> u64
+        ensures { result ≡ length self.now.knows.sent.published }
+    {
+        self.published
     }
 
     /// How many words the sender has loaded that other ends store, up to the greatest `u64`.
