@@ -87,6 +87,20 @@ impl Receiver {
         Ok(())
     }
 
+    /// How many events it took.
+    pub fn taken(&self) -> u64
+        ensures { result ≡ length self.now.knows.received }
+    {
+        self.taken
+    }
+
+    /// How many events it completed.
+    pub fn completed(&self) -> u64
+        ensures { result ≡ self.now.knows.completed }
+    {
+        self.completed
+    }
+
     /// How many words the receiver has looked at that other ends store, marks and payload aside, up
     /// to the greatest `u64`.
     pub fn looks(&self) -> u64
