@@ -57,9 +57,13 @@ enum {
     DISRUPTOR_DRAINED = 3  /* none, for good: the ring is closed, and the handler took every event */
 };
 
+/* How far an end came, by its own calls: how many sequences a sender claimed and how many events it published, or how many events
+ * a handler took and how many it completed. */
+typedef struct disruptor_counts { uint64_t begun, done; } disruptor_counts;
+
 /* The library has these sizes too. */
 DISRUPTOR_HOLDS(sizeof(disruptor_sender) == 128 && sizeof(disruptor_receiver) == 128 && sizeof(disruptor_halter) == 128);
-DISRUPTOR_HOLDS(sizeof(disruptor_event) == 16 && sizeof(disruptor_offer) == 24 && sizeof(size_t) == 8);
+DISRUPTOR_HOLDS(sizeof(disruptor_event) == 16 && sizeof(disruptor_offer) == 24 && sizeof(disruptor_counts) == 16 && sizeof(size_t) == 8);
 
 /* Each refusal: its number, which stays the same in every release, its name, the text that disruptor_text gives, and what
  * to do. */
@@ -110,6 +114,7 @@ uint32_t disruptor_poll_at(disruptor_receiver *receiver, size_t receivers, disru
                            disruptor_offer *offer, size_t offers);
 uint32_t disruptor_complete_at(disruptor_receiver *receiver, size_t receivers, uint64_t upto);
 uint32_t disruptor_halt_at(disruptor_halter *halter, size_t halters);
+uint32_t disruptor_progress_at(void *handle, size_t handles, disruptor_counts *counts, size_t places);
 size_t disruptor_name_at(uint32_t number, char *text, size_t room);
 
 /* So many things, if they can lie there, or none. */
@@ -209,6 +214,15 @@ static inline uint32_t disruptor_complete(disruptor_receiver *receiver, uint64_t
  * once they took all that is claimed. Refusals: BAD_POINTER, NOT_OPEN, WRONG_END. */
 static inline uint32_t disruptor_halt(disruptor_halter *halter) {
     return disruptor_halt_at(DISRUPTOR_ONE(disruptor_halter, halter));
+}
+
+/* Says how far an end came, of a handle of any kind: what a sender claimed and published, what a handler took and completed.
+ * Asked once the threads are back, it is all that each did; a thread may also ask its own handle at any time. Each handler that was
+ * told DRAINED took all that was published. Refusals: BAD_POINTER (of either), NOT_OPEN, WRONG_END (a halter, or one of several
+ * senders); then *counts stays as it was. */
+static inline uint32_t disruptor_progress(void *handle, disruptor_counts *counts) {
+    size_t there = disruptor_there(handle, 8, sizeof(disruptor_sender), 1);
+    return disruptor_progress_at(disruptor_or_nothing(handle, there), there, DISRUPTOR_ONE(disruptor_counts, counts));
 }
 
 /* The name of a number, as in "no-room", to the front of `text`, `room` bytes at most and without a zero at its end.

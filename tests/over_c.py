@@ -120,6 +120,13 @@ class Exchange:
         else:
             self.complete(k, self.near(self.taken[k]))
 
+    def goes_as_far(self):
+        """Whether each end says that it came as far as its answers say."""
+        ends = list(zip(self.receivers, zip(self.taken, self.completed)))
+        if self.is_single:
+            ends.append((self.senders[0], (self.claimed, self.claimed - len(self.owner))))
+        return all(end.progress() == counts for end, counts in ends)
+
     def end(self):
         """Publishes what is claimed, halts, and polls each handler to the end, upstreams first."""
         for sequence, p in sorted(self.owner.items()):
@@ -161,11 +168,16 @@ def main():
             exchange = Exchange(library, random.Random(seed))
             for _ in range(CALLS):
                 exchange.step()
+            as_far = exchange.goes_as_far()
             exchange.end()
+            as_far = exchange.goes_as_far() and as_far
             wanted = said(program, exchange.records, folder)
             calls += len(exchange.replies)
             refused += sum(it.startswith("refused") for it in exchange.replies)
-            if wanted != exchange.replies:
+            if not as_far:
+                failed += 1
+                print(f"FAILED: seed {seed}: an end does not say how far it came")
+            elif wanted != exchange.replies:
                 failed += 1
                 at = next((k for k, (one, other) in enumerate(zip(wanted, exchange.replies)) if one != other), len(wanted))
                 made = exchange.records[len(exchange.records) - len(exchange.replies) + at]

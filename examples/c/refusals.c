@@ -48,8 +48,16 @@ static void try_pairs(void) {
     expect("no masks", disruptor_before(NULL, 3, 0, 1), DISRUPTOR_BAD_POINTER);
 }
 
+/* How far an end came. */
+static void expect_progress(const char *call, void *handle, uint64_t begun, uint64_t done) {
+    disruptor_counts counts = {9, 9};
+    expect(call, disruptor_progress(handle, &counts), DISRUPTOR_OK);
+    expect(call, counts.begun == begun && counts.done == done, 1);
+}
+
 static void try_closed_handles(void) {
     uint64_t lo = 7;
+    disruptor_counts counts = {9, 9};
     disruptor_event event = {1, 2};
     disruptor_offer offer = {9, 9, 9, 9};
     expect("a claim by nothing", disruptor_claim(&sender, 1, &lo), DISRUPTOR_NOT_OPEN);
@@ -59,7 +67,8 @@ static void try_closed_handles(void) {
     expect("a poll by nothing", disruptor_poll(&receivers[0], &event, 1, &offer), DISRUPTOR_NOT_OPEN);
     expect("a completion by nothing", disruptor_complete(&receivers[0], 0), DISRUPTOR_NOT_OPEN);
     expect("a halt by nothing", disruptor_halt(&halter), DISRUPTOR_NOT_OPEN);
-    expect("what a refused claim left", lo == 7 && event.first == 1 && offer.kind == 9, 1);
+    expect("the progress of nothing", disruptor_progress(&sender, &counts), DISRUPTOR_NOT_OPEN);
+    expect("what a refused claim left", lo == 7 && event.first == 1 && offer.kind == 9 && counts.begun == 9, 1);
 }
 
 /* Each pointer of each call, null and misaligned, on open handles. */
@@ -71,6 +80,7 @@ static void try_pointers(void) {
     uint64_t lo = 7;
     disruptor_event event = {1, 2};
     disruptor_offer offer = {9, 9, 9, 9};
+    disruptor_counts counts = {9, 9};
     void *crooked = (char *)&lo + 1;
     expect("an opening without masks", disruptor_open(4, 6, NULL, 2, &other, others, 2, &third), DISRUPTOR_BAD_POINTER);
     expect("without a sender", disruptor_open(4, 6, upstreams, 2, NULL, others, 2, &third), DISRUPTOR_BAD_POINTER);
@@ -92,9 +102,11 @@ static void try_pointers(void) {
     expect("a poll to null, of no room", disruptor_poll(&receivers[0], NULL, 0, &offer), DISRUPTOR_BAD_COUNT);
     expect("a completion by null", disruptor_complete(NULL, 0), DISRUPTOR_BAD_POINTER);
     expect("a halt by null", disruptor_halt(NULL), DISRUPTOR_BAD_POINTER);
+    expect("the progress of null", disruptor_progress(NULL, &counts), DISRUPTOR_BAD_POINTER);
+    expect("the progress to null", disruptor_progress(&sender, NULL), DISRUPTOR_BAD_POINTER);
     expect("a name to null", (uint32_t)disruptor_name(DISRUPTOR_NO_ROOM, NULL, 16), 7);
     disruptor_free(NULL);
-    expect("what all these left", lo == 7 && event.first == 1 && offer.kind == 9, 1);
+    expect("what all these left", lo == 7 && event.first == 1 && offer.kind == 9 && counts.begun == 9, 1);
     expect("and that nothing is open", disruptor_halt(&third), DISRUPTOR_NOT_OPEN);
 }
 
@@ -117,6 +129,7 @@ static void try_sending(void) {
     expect("a publication", disruptor_publish(&sender, 0, 2), DISRUPTOR_OK);
     expect("a second one", disruptor_publish(&sender, 0, 2), DISRUPTOR_ALREADY_PUBLISHED);
     expect("a write after it", disruptor_write(&sender, 2, &event), DISRUPTOR_ALREADY_PUBLISHED);
+    expect_progress("how far the sender came", &sender, 4, 3);
 }
 
 static void try_receiving(void) {
@@ -131,7 +144,10 @@ static void try_receiving(void) {
     expect("its end", offer.end, 0);
     expect("its events", events[1].first == 5 && events[1].second == 6 && events[2].first == 0, 1);
     expect("a completion of what is not taken", disruptor_complete(&receivers[0], 3), DISRUPTOR_NOT_TAKEN);
-    expect("a completion", disruptor_complete(&receivers[0], 2), DISRUPTOR_OK);
+    expect("a completion", disruptor_complete(&receivers[0], 1), DISRUPTOR_OK);
+    expect_progress("how far the first handler came", &receivers[0], 2, 1);
+    expect_progress("how far the second came", &receivers[1], 0, 0);
+    expect("a completion of more", disruptor_complete(&receivers[0], 2), DISRUPTOR_OK);
     expect("a completion backwards", disruptor_complete(&receivers[0], 1), DISRUPTOR_BEHIND);
 }
 
@@ -142,6 +158,9 @@ static void try_the_end(void) {
     expect("another opening", open_ring(4, 10, 2, 2, 1), DISRUPTOR_STILL_OPEN);
     expect("a receiver's claim", disruptor_claim((disruptor_sender *)(void *)&receivers[0], 1, &lo), DISRUPTOR_WRONG_END);
     expect("a sender's poll", disruptor_poll((disruptor_receiver *)(void *)&sender, events, 4, &offer), DISRUPTOR_WRONG_END);
+    disruptor_counts counts = {9, 9};
+    expect("a halter's progress", disruptor_progress(&halter, &counts), DISRUPTOR_WRONG_END);
+    expect("what that left", counts.begun == 9 && counts.done == 9, 1);
     expect("a halt", disruptor_halt(&halter), DISRUPTOR_OK);
     expect("a claim after it", disruptor_claim(&sender, 1, &lo), DISRUPTOR_HALTED);
     expect("a publication after it", disruptor_publish(&sender, 3, 3), DISRUPTOR_OK);
@@ -180,6 +199,10 @@ static void try_several(void) {
     expect("the first's publication", disruptor_publish(&senders[0], 0, 1), DISRUPTOR_OK);
     expect("a poll of all", disruptor_poll(&one[0], taken, 4, &offer), DISRUPTOR_OK);
     expect("its count", (uint32_t)offer.count, 4);
+    expect("a completion of some", disruptor_complete(&one[0], 3), DISRUPTOR_OK);
+    expect_progress("how far the handler of several came", &one[0], 4, 3);
+    disruptor_counts counts = {9, 9};
+    expect("the progress of one of several", disruptor_progress(&senders[0], &counts), DISRUPTOR_WRONG_END);
     expect("a completion of all", disruptor_complete(&one[0], 4), DISRUPTOR_OK);
     expect("a close of one of several", disruptor_close(&senders[0]), DISRUPTOR_WRONG_END);
     expect("a receiver's halt", disruptor_halt((disruptor_halter *)(void *)&one[0]), DISRUPTOR_WRONG_END);

@@ -31,8 +31,9 @@ final class Disruptor {
     private static final long HANDLE = 128;
     private static final long EVENT = 16;
     private static final long OFFER = 24;
+    private static final long COUNTS = 16;
 
-    private final MethodHandle open, openSeveral, claim, write, publish, close, poll, complete, halt, free, name;
+    private final MethodHandle open, openSeveral, claim, write, publish, close, poll, complete, halt, progress, free, name;
 
     /** Loads the library. */
     @SuppressWarnings("restricted")
@@ -50,6 +51,7 @@ final class Disruptor {
         poll = call(found, "poll", ADDRESS, JAVA_LONG, ADDRESS, JAVA_LONG, JAVA_LONG, ADDRESS, JAVA_LONG);
         complete = call(found, "complete", ADDRESS, JAVA_LONG, JAVA_LONG);
         halt = call(found, "halt", ADDRESS, JAVA_LONG);
+        progress = call(found, "progress", ADDRESS, JAVA_LONG, ADDRESS, JAVA_LONG);
         free = Linker.nativeLinker()
                 .downcallHandle(found.findOrThrow("disruptor_free_at"), FunctionDescriptor.ofVoid(ADDRESS, JAVA_LONG));
         name = Linker.nativeLinker().downcallHandle(
@@ -79,6 +81,9 @@ final class Disruptor {
             return senders.getFirst();
         }
     }
+
+    /** How far an end came: what the sender of one claimed and published, or what a receiver took and completed. */
+    record Counts(long begun, long done) {}
 
     /** What is done with an event; `end` is true where it is the last of its batch. */
     interface Handler {
@@ -152,6 +157,13 @@ final class Disruptor {
 
         End(MemorySegment handle) {
             this.handle = handle;
+        }
+
+        /** Says how far the end came. */
+        Counts progress() {
+            var counts = own.allocate(COUNTS, 8);
+            check(() -> (int) progress.invokeExact(handle, 1L, counts, 1L));
+            return new Counts(counts.get(JAVA_LONG, 0), counts.get(JAVA_LONG, 8));
         }
 
         /** Lets the end go; the last one lets the ring go. */

@@ -29,8 +29,11 @@ final class Ring {
         } catch (Disruptor.Refusal refusal) {
             System.out.println("a claim after the halt: " + refusal.getMessage());
         }
+        var all = new Disruptor.Counts(events, events);
+        boolean right = ends.sender().progress().equals(all)
+                && IntStream.range(0, sums.length).allMatch(k -> sums[k] == events * (events - 1) / 2
+                        && ends.receivers().get(k).progress().equals(all));
         closeAll(ends);
-        boolean right = IntStream.range(0, sums.length).allMatch(k -> sums[k] == events * (events - 1) / 2);
         System.out.println(right ? "each handler had every event" : "WRONG");
         System.exit(right ? 0 : 1);
     }

@@ -20,6 +20,10 @@ class Offer(ctypes.Structure):
     _fields_ = [("kind", ctypes.c_uint32), ("end", ctypes.c_uint32), ("first", ctypes.c_uint64), ("count", ctypes.c_uint64)]
 
 
+class Counts(ctypes.Structure):
+    _fields_ = [("begun", ctypes.c_uint64), ("done", ctypes.c_uint64)]
+
+
 class Handle(ctypes.Structure):
     _fields_ = [("at", ctypes.c_void_p), ("state", ctypes.c_uint64), ("rest", ctypes.c_uint64 * 14)]
 
@@ -49,6 +53,7 @@ def load(path):
         ("poll", handle, size, ctypes.POINTER(Event), size, size, ctypes.POINTER(Offer), size),
         ("complete", handle, size, number),
         ("halt", handle, size),
+        ("progress", handle, size, ctypes.POINTER(Counts), size),
     ):
         call = getattr(library, f"disruptor_{name}_at")
         call.argtypes, call.restype = types, ctypes.c_uint32
@@ -68,6 +73,12 @@ class End:
         number = getattr(self.library, f"disruptor_{name}_at")(self.handle, 1, *arguments)
         if number:
             raise Refusal(self.library, number)
+
+    def progress(self):
+        """Returns what the sender of one claimed and published, or what a receiver took and completed."""
+        counts = Counts()
+        self.call("progress", ctypes.byref(counts), 1)
+        return counts.begun, counts.done
 
     def free(self):
         self.library.disruptor_free_at(self.handle, 1)

@@ -34,6 +34,7 @@ def main():
     except disruptor.Refusal as refusal:
         print("a claim after the halt:", refusal)
     right = sums == [events * (events - 1) // 2] * len(receivers)
+    right = right and all(end.progress() == (events, events) for end in [sender, *receivers])
     print("each handler had every event" if right else f"WRONG: {sums}")
     return 0 if right else 1
 

@@ -24,6 +24,14 @@ struct Offer {
     count: u64,
 }
 
+/// How far an end came: what a sender claimed and published, or what a receiver took and completed.
+#[repr(C)]
+#[derive(Clone, Copy, Debug, Default, PartialEq, Eq)]
+pub struct Counts {
+    pub begun: u64,
+    pub done: u64,
+}
+
 #[repr(C, align(128))]
 struct Handle {
     at: *mut c_void,
@@ -33,6 +41,12 @@ struct Handle {
 
 impl Handle {
     const NEW: Handle = Handle { at: std::ptr::null_mut(), state: 0, rest: [0; 14] };
+
+    fn progress(&mut self) -> Result<Counts, Refusal> {
+        let mut counts = Counts::default();
+        answer(unsafe { disruptor_progress_at(self, 1, &mut counts, 1) })?;
+        Ok(counts)
+    }
 }
 
 impl Drop for Handle {
@@ -56,6 +70,7 @@ unsafe extern "C" {
     fn disruptor_poll_at(receiver: *mut Handle, receivers: usize, events: *mut Event, places: usize, room: usize, offer: *mut Offer, offers: usize) -> u32;
     fn disruptor_complete_at(receiver: *mut Handle, receivers: usize, upto: u64) -> u32;
     fn disruptor_halt_at(halter: *mut Handle, halters: usize) -> u32;
+    fn disruptor_progress_at(handle: *mut Handle, handles: usize, counts: *mut Counts, places: usize) -> u32;
     fn disruptor_name_at(number: u32, text: *mut u8, room: usize) -> usize;
 }
 
@@ -119,6 +134,11 @@ impl Sender {
     pub fn close(&mut self) -> Result<(), Refusal> {
         answer(unsafe { disruptor_close_at(&mut self.0, 1) })
     }
+
+    /// What the sender of a ring of one claimed and published.
+    pub fn progress(&mut self) -> Result<Counts, Refusal> {
+        self.0.progress()
+    }
 }
 
 /// The end of one handler.
@@ -140,6 +160,11 @@ impl Receiver {
     /// Completes all events below `upto`.
     pub fn complete(&mut self, upto: u64) -> Result<(), Refusal> {
         answer(unsafe { disruptor_complete_at(&mut self.0, 1, upto) })
+    }
+
+    /// What the handler took and completed.
+    pub fn progress(&mut self) -> Result<Counts, Refusal> {
+        self.0.progress()
     }
 }
 

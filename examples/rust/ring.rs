@@ -2,7 +2,7 @@
 
 mod disruptor;
 
-use disruptor::{Event, MAX_LIMIT, Polled, Receiver, Refusal, Sender, open};
+use disruptor::{Counts, Event, MAX_LIMIT, Polled, Receiver, Refusal, Sender, open};
 use std::thread;
 
 const EVENTS: u64 = 1_000_000;
@@ -17,7 +17,10 @@ fn handle(mut receiver: Receiver) -> Result<u64, Refusal> {
                 sum += events[..count as usize].iter().map(|event| event.first).sum::<u64>();
                 receiver.complete(first + count)?;
             }
-            Polled::Drained => return Ok(sum),
+            Polled::Drained => {
+                assert_eq!(receiver.progress()?, Counts { begun: EVENTS, done: EVENTS });
+                return Ok(sum);
+            }
             Polled::Gating | Polled::Idle => thread::yield_now(),
         }
     }
@@ -53,6 +56,7 @@ fn main() -> Result<(), Refusal> {
         let sum = thread.join().expect("a handler's thread ends")?;
         assert_eq!(sum, EVENTS * (EVENTS - 1) / 2);
     }
+    assert_eq!(sender.progress()?, Counts { begun: EVENTS, done: EVENTS });
     halter.halt()?;
     println!("a claim after the halt: {}", sender.claim(1).unwrap_err());
     println!("each handler had every event");

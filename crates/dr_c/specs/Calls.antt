@@ -1,12 +1,12 @@
 -- What each call from C does to an end, and what it tells.
-use Rattle.std.specs.Prelude.{◌≡◌, ℕ, if◌then◌else◌, List, Result, Ok, Err}
+use Rattle.std.specs.Prelude.{◌≡◌, ℕ, if◌then◌else◌, List, length, Option, None, Some, Result, Ok, Err}
 use Rattle.dr_seq.specs.declared.event.Event.{Event}
 use Rattle.dr_meaning.specs.declared.command.Claimed.{Claimed}
 use Rattle.dr_meaning.specs.declared.command.Polled.{Polled}
 use Rattle.dr_meaning.specs.declared.command.Polled.TheVariants.{Batch, Drained, Gating, Idle}
 use Rattle.dr_meaning.specs.declared.refusal.Refusal.{Refusal}
 use Rattle.dr_ring.specs.declared.record.Step.TheVariants.{HalterHalts}
-use Rattle.dr_ring.specs.Meaning.Records.{halter_halted}
+use Rattle.dr_ring.specs.Meaning.Records.{claimed, halter_halted}
 use Rattle.dr_ring.specs.Calls.Ends.{SenderEnd, ReceiverEnd, HalterEnd, HasStored}
 use Rattle.dr_ring.specs.Calls.Sending.{ClaimCall, WriteCall, PublishCall, CloseCall, ClosesOnceDone}
 use Rattle.dr_ring.specs.Calls.Receiving.{PollCall, CompleteCall}
@@ -20,6 +20,7 @@ use Rattle.dr_senders.specs.Calls.Receiving as polls_of_several
 use Rattle.dr_c.specs.declared.end.End.{End}
 use Rattle.dr_c.specs.declared.end.End.TheVariants.{Sender, Receiver, Halter, SenderOfSeveral, ReceiverOfSeveral, HalterOfSeveral}
 use Rattle.dr_c.specs.declared.batch.Offer.{Offer}
+use Rattle.dr_c.specs.declared.progress.Counts.{Counts}
 use Rattle.dr_c.specs.Numbers.{told, told_of_claim, wrong_end}
 
 -- A call of a sender, which answers C by the number of its own answer; another end is refused, and stays as it was.
@@ -88,3 +89,18 @@ PollsBy out out' offer offer' number end end' =
 abbrev pub CompletesBy : ℕ → ℕ → End → End → Type 0
 CompletesBy upto number end end' =
     OfReceiver end end' number (Unit {0}) (λ r r' answer. CompleteCall r upto r' answer) (λ r r' answer. polls_of_several.CompleteCall r upto r' answer)
+
+-- How far an end came: what a sender claimed and published, what a receiver took and completed. One of several senders does not count what it published, and a halter counts nothing.
+abbrev pub counts_of : End → Option Counts
+counts_of (Sender s) = Some record { begun = claimed s.knows; done = length s.knows.sent.published }
+counts_of (Receiver r) = Some record { begun = length r.knows.received; done = r.knows.completed }
+counts_of (ReceiverOfSeveral r) = Some record { begun = length r.knows.received; done = r.knows.completed }
+counts_of other = None
+
+-- it is told, or another end refused, which leaves the place as it was
+abbrev pub IsTold : Option Counts → Counts → Counts → ℕ → Type 0
+IsTold (Some it) counts counts' number = (counts' ≡ it) × (number ≡ 0)
+IsTold None counts counts' number = (counts' ≡ counts) × (number ≡ wrong_end)
+
+abbrev pub TellsBy : End → Counts → Counts → ℕ → Type 0
+TellsBy end counts counts' number = IsTold (counts_of end) counts counts' number

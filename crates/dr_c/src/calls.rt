@@ -1,7 +1,7 @@
 //! The calls, each on the handle that it is of.
 
 ghost use Rattle.std.specs.Prelude.{◌≡◌};
-ghost use Rattle.dr_c.specs.Calls.{ClaimsBy, WritesBy, PublishesBy, ClosesBy, PollsBy, CompletesBy, HaltsBy};
+ghost use Rattle.dr_c.specs.Calls.{ClaimsBy, WritesBy, PublishesBy, ClosesBy, PollsBy, CompletesBy, HaltsBy, TellsBy};
 ghost use Rattle.dr_c.specs.Handles.{OnHandle};
 ghost use Rattle.dr_c.specs.Numbers.{not_open};
 ghost use Rattle.dr_c.specs.Opening.{OpenedBy};
@@ -10,6 +10,7 @@ ghost use Rattle.dr_c.specs.OpeningSeveral.{OpenedBy as OpenedSeveralBy};
 use crate::batch::Offer;
 use crate::handle::Handle;
 use crate::numbers::NOT_OPEN;
+use crate::progress::{Counts, tell};
 use crate::{opening, opening_several, receiving, sending};
 use dr_seq::Event;
 use std::alloc::Global;
@@ -144,5 +145,18 @@ pub(crate) fn halt(alloc: Global, halter: &mut Handle) -> u32
     let mut end = halter.take(alloc);
     let number = receiving::halt(&mut end);
     halter.keep(end);
+    number
+}
+
+/// Tells how far an end came, which stays as it was.
+pub(crate) fn progress(alloc: Global, handle: &mut Handle, counts: &mut Counts) -> u32
+    ensures { OnHandle handle.old.held.value handle.new.held.value ((counts.new ≡ counts.old) × (result ≡ not_open)) (λ end end'. (end' ≡ end) × TellsBy end counts.old counts.new result) }
+{
+    if !handle.is_open() {
+        return NOT_OPEN;
+    }
+    let end = handle.take(alloc);
+    let number = tell(&end, counts);
+    handle.keep(end);
     number
 }

@@ -7,7 +7,7 @@
 #![tactic(auto)]
 
 ghost use Rattle.std.specs.Prelude.{◌≡◌, ◌==◌, ◌&&◌, ◌++◌, None, length, take, drop, replicate};
-ghost use Rattle.dr_c.specs.Calls.{ClaimsBy, WritesBy, PublishesBy, ClosesBy, PollsBy, CompletesBy, HaltsBy};
+ghost use Rattle.dr_c.specs.Calls.{ClaimsBy, WritesBy, PublishesBy, ClosesBy, PollsBy, CompletesBy, HaltsBy, TellsBy};
 ghost use Rattle.dr_c.specs.Handles.{OnHandle};
 ghost use Rattle.dr_c.specs.Names.{name_by};
 ghost use Rattle.dr_c.specs.Numbers.{bad_pointer, not_open};
@@ -26,6 +26,7 @@ mod open_fault;
 mod opening;
 mod opening_several;
 mod places;
+mod progress;
 mod receiving;
 mod sending;
 mod texts;
@@ -34,6 +35,7 @@ use batch::Offer;
 use dr_seq::Event;
 use handle::Handle;
 use numbers::BAD_POINTER;
+use progress::Counts;
 use std::alloc::Global;
 
 /// Opens a ring of `size` slots in which `limit` sequences may be claimed. Handler `k` of `handlers` follows those whose bits
@@ -177,6 +179,22 @@ pub extern "C" fn disruptor_halt_at(alloc: Global, halter: &mut [Handle]) -> u32
         return BAD_POINTER;
     }
     calls::halt(alloc, &mut halter[0])
+}
+
+/// Tells how far an end came, by its own calls: of one sender how many sequences it claimed, and how many events it published; of a
+/// handler how many it took, and how many it completed. The end stays as it was.
+#[unsafe(no_mangle)]
+pub extern "C" fn disruptor_progress_at(
+    alloc: Global,
+    handle: &mut [Handle],
+    counts: &mut [Counts],
+) -> u32
+    ensures { AtPlaces handle.old handle.new counts.old counts.new (result ≡ bad_pointer) (λ h h' counts counts'. OnHandle h.held.value h'.held.value ((counts' ≡ counts) × (result ≡ not_open)) (λ end end'. (end' ≡ end) × TellsBy end counts counts' result)) }
+{
+    if handle.len() != 1 || counts.len() != 1 {
+        return BAD_POINTER;
+    }
+    calls::progress(alloc, &mut handle[0], &mut counts[0])
 }
 
 /// Frees what handles have, of whatever kind, and leaves each as before it was opened.
