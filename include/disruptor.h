@@ -24,6 +24,16 @@
 #include <stddef.h>
 #include <stdint.h>
 #include <sched.h>
+#ifdef __linux__
+#include <sys/syscall.h>
+#include <time.h>
+#include <unistd.h>
+/* FUTEX_WAIT_PRIVATE and FUTEX_WAKE_PRIVATE of the kernel's header, which need not be here. */
+enum { DISRUPTOR_FUTEX_WAIT = 128, DISRUPTOR_FUTEX_WAKE = 129 };
+#ifndef __cplusplus
+long syscall(long number, ...); /* (strict C hides it in unistd.h) */
+#endif
+#endif
 
 #ifdef __cplusplus
 #define DISRUPTOR_ALIGNED alignas(128)
@@ -63,7 +73,8 @@ typedef struct disruptor_counts { uint64_t begun, done; } disruptor_counts;
 
 /* The library has these sizes too. */
 DISRUPTOR_HOLDS(sizeof(disruptor_sender) == 128 && sizeof(disruptor_receiver) == 128 && sizeof(disruptor_halter) == 128);
-DISRUPTOR_HOLDS(sizeof(disruptor_event) == 16 && sizeof(disruptor_offer) == 24 && sizeof(disruptor_counts) == 16 && sizeof(size_t) == 8);
+DISRUPTOR_HOLDS(sizeof(disruptor_event) == 16 && sizeof(disruptor_offer) == 24 && sizeof(disruptor_counts) == 16);
+DISRUPTOR_HOLDS(sizeof(size_t) == 8);
 
 /* Each refusal: its number, which stays the same in every release, its name, the text that disruptor_text gives, and what
  * to do. */
@@ -216,9 +227,9 @@ static inline uint32_t disruptor_halt(disruptor_halter *halter) {
     return disruptor_halt_at(DISRUPTOR_ONE(disruptor_halter, halter));
 }
 
-/* Says how far an end came, of a handle of any kind: what a sender claimed and published, what a handler took and completed.
- * Asked once the threads are back, it is all that each did; a thread may also ask its own handle at any time. Each handler that was
- * told DRAINED took all that was published. Refusals: BAD_POINTER (of either), NOT_OPEN, WRONG_END (a halter, or one of several
+/* Says how far an end came, by its own calls: what the sender of one claimed and published, what a handler took and completed. Once
+ * the threads are back that is all that they did; a thread may also ask its own handle at any time. A handler that was told
+ * DRAINED took all that was published. Refusals: BAD_POINTER (of either), NOT_OPEN, WRONG_END (a halter, or one of several
  * senders); then *counts stays as it was. */
 static inline uint32_t disruptor_progress(void *handle, disruptor_counts *counts) {
     size_t there = disruptor_there(handle, 8, sizeof(disruptor_sender), 1);
@@ -242,15 +253,38 @@ static inline const char *disruptor_text(uint32_t number) {
 #undef DISRUPTOR_TEXT
 }
 
+/* What wakes threads that sleep until something changes, one for all ends of a ring. It begins as DISRUPTOR_NEW_BELL, and lies
+ * where it is while threads use it. Who changed something rings it: after each publication, completion, close and halt. Where
+ * nobody sleeps, that is one load. */
+typedef struct disruptor_bell { DISRUPTOR_ALIGNED uint32_t word; } disruptor_bell;
+#define DISRUPTOR_NEW_BELL {0}
+
 /* How a thread waits that looks again and again for what others do: by pauses after the first of several looks in a row
  * that find nothing, and by yielding its processor after each further one. The pauses tune themselves by how many events
- * were there after the last wait. */
-typedef struct disruptor_waiting { uint64_t room; uint32_t pauses; bool paused; } disruptor_waiting;
+ * were there after the last wait. With a bell it sleeps after each look past the first DISRUPTOR_MOST_LOOKS, until a ring comes,
+ * ten milliseconds at most: an idle thread costs next to nothing, and what nobody rings for is seen so much later.
+ *
+ * That no change is missed is argued, and not proved. A thread that is about to sleep makes the bell's word odd, and then looks
+ * once more; who changed something looks at the word afterwards. All these steps are sequentially consistent. So either that
+ * look sees the change, or the ring finds the word odd, makes it even and wakes; and nobody falls asleep over a word that changed. */
+typedef struct disruptor_waiting {
+    uint64_t room;
+    uint32_t pauses;
+    bool paused;
+    disruptor_bell *bell;
+    uint32_t looks, heard;
+} disruptor_waiting;
+enum { DISRUPTOR_MOST_LOOKS = 200 };
 
-/* For a thread that has room for so many events at once. */
-static inline disruptor_waiting disruptor_waits(uint64_t room) {
-    disruptor_waiting waiting = {room, 1, false};
+/* For a thread that has room for so many events at once, and sleeps where `bell` is not null. */
+static inline disruptor_waiting disruptor_waits_by(uint64_t room, disruptor_bell *bell) {
+    disruptor_waiting waiting = {room, 1, false, bell, 0, 0};
     return waiting;
+}
+
+/* For one that never sleeps. */
+static inline disruptor_waiting disruptor_waits(uint64_t room) {
+    return disruptor_waits_by(room, NULL);
 }
 
 static inline void disruptor_pause(void) {
@@ -261,8 +295,46 @@ static inline void disruptor_pause(void) {
 #endif
 }
 
+/* Wakes those that sleep, if there are any. */
+static inline void disruptor_ring(disruptor_bell *bell) {
+    uint32_t seen = __atomic_load_n(&bell->word, __ATOMIC_SEQ_CST), even = seen + 1;
+    if (seen % 2 == 0) return;
+    /* Where another one rang meanwhile, that one wakes them. */
+    if (!__atomic_compare_exchange_n(&bell->word, &seen, even, false, __ATOMIC_SEQ_CST, __ATOMIC_SEQ_CST)) return;
+#ifdef __linux__
+    syscall(SYS_futex, &bell->word, DISRUPTOR_FUTEX_WAKE, INT32_MAX, NULL, NULL, 0);
+#endif
+}
+
+/* Makes the word odd until the next ring, and answers what it is: even if others changed it meanwhile. */
+static inline uint32_t disruptor_listen(disruptor_bell *bell) {
+    uint32_t seen = __atomic_load_n(&bell->word, __ATOMIC_SEQ_CST), odd = seen + 1;
+    if (seen % 2 == 1) return seen;
+    return __atomic_compare_exchange_n(&bell->word, &seen, odd, false, __ATOMIC_SEQ_CST, __ATOMIC_SEQ_CST) ? odd : seen;
+}
+
+/* Sleeps until a ring after the listening that answered `heard`, ten milliseconds at most. */
+static inline void disruptor_sleep(disruptor_bell *bell, uint32_t heard) {
+    if (heard % 2 == 0) return;
+#ifdef __linux__
+    struct timespec most = {0, 10000000};
+    syscall(SYS_futex, &bell->word, DISRUPTOR_FUTEX_WAIT, heard, &most, NULL, 0);
+#else
+    sched_yield();
+#endif
+}
+
 /* Waits after a look that found nothing. */
 static inline void disruptor_wait(disruptor_waiting *waiting) {
+    if (waiting->bell) {
+        if (waiting->looks == DISRUPTOR_MOST_LOOKS) {
+            disruptor_sleep(waiting->bell, waiting->heard);
+            /* The next look comes after this, so that a change which it does not see rings later. */
+            waiting->heard = disruptor_listen(waiting->bell);
+            return;
+        }
+        waiting->looks++;
+    }
     if (waiting->paused) {
         sched_yield();
         return;
@@ -282,6 +354,7 @@ static inline void disruptor_found(disruptor_waiting *waiting, uint64_t count) {
         }
     }
     waiting->paused = false;
+    waiting->looks = waiting->heard = 0;
 }
 
 #ifdef __cplusplus

@@ -16,6 +16,9 @@ namespace disruptor {
 
 using event = disruptor_event;
 using offer = disruptor_offer;
+using counts = disruptor_counts;
+// What wakes the threads of a ring that sleep; all of its ends have it.
+using bell = std::shared_ptr<disruptor_bell>;
 
 // A call was refused.
 class refusal : public std::runtime_error {
@@ -31,26 +34,31 @@ inline void check(std::uint32_t number) {
     if (number != DISRUPTOR_OK) throw refusal(number);
 }
 
-// How a thread waits that looks again and again for what others do.
+// How a thread waits that looks again and again for what others do: without a bell it never sleeps.
 class waiting {
 public:
-    explicit waiting(std::uint64_t room) noexcept : state_(disruptor_waits(room)) {}
+    explicit waiting(std::uint64_t room, disruptor::bell bell = nullptr) noexcept
+        : bell_(std::move(bell)), state_(disruptor_waits_by(room, bell_.get())) {}
     void wait() noexcept { disruptor_wait(&state_); }
     void found(std::uint64_t count) noexcept { disruptor_found(&state_, count); }
 
 private:
+    disruptor::bell bell_;
     disruptor_waiting state_;
 };
 
-// A handle that frees what it has. It may be moved, and one that was moved from answers not-open.
+// A handle that frees what it has, and rings the bell of its ring where it changed what others look at. It may be moved, and one
+// that was moved from answers not-open.
 template <typename Handle>
 class end {
 public:
     end() noexcept = default;
-    end(end &&other) noexcept : handle_(std::exchange(other.handle_, Handle DISRUPTOR_NEW)) {}
+    explicit end(disruptor::bell bell) noexcept : bell_(std::move(bell)) {}
+    end(end &&other) noexcept : bell_(std::move(other.bell_)), handle_(std::exchange(other.handle_, Handle DISRUPTOR_NEW)) {}
     end &operator=(end &&other) noexcept {
         if (this != &other) {
             disruptor_free(&handle_);
+            bell_ = std::move(other.bell_);
             handle_ = std::exchange(other.handle_, Handle DISRUPTOR_NEW);
         }
         return *this;
@@ -59,13 +67,29 @@ public:
     end &operator=(const end &) = delete;
     ~end() { disruptor_free(&handle_); }
     Handle *get() noexcept { return &handle_; }
+    // A way to wait that sleeps until an end of this ring rings.
+    waiting waits(std::uint64_t room) const noexcept { return waiting(room, bell_); }
+    // What a sender of one claimed and published, what a receiver took and completed.
+    disruptor::counts progress() {
+        disruptor::counts counts = {};
+        check(disruptor_progress(&handle_, &counts));
+        return counts;
+    }
+
+protected:
+    void check_and_ring(std::uint32_t number) const {
+        check(number);
+        if (bell_) disruptor_ring(bell_.get());
+    }
 
 private:
+    disruptor::bell bell_;
     Handle handle_ DISRUPTOR_NEW;
 };
 
 class sender : public end<disruptor_sender> {
 public:
+    using end::end;
     // The first of n sequences, or nothing where there is no room, or another sender came first.
     std::optional<std::uint64_t> try_claim(std::uint64_t n) {
         std::uint64_t lo = 0;
@@ -85,23 +109,24 @@ public:
         }
     }
     void write(std::uint64_t sequence, const event &what) { check(disruptor_write(get(), sequence, &what)); }
-    void publish(std::uint64_t lo, std::uint64_t hi) { check(disruptor_publish(get(), lo, hi)); }
-    void close() { check(disruptor_close(get())); }
+    void publish(std::uint64_t lo, std::uint64_t hi) { check_and_ring(disruptor_publish(get(), lo, hi)); }
+    void close() { check_and_ring(disruptor_close(get())); }
 };
 
 class receiver : public end<disruptor_receiver> {
 public:
+    using end::end;
     offer poll(event *events, std::size_t room) {
         offer found = {};
         check(disruptor_poll(get(), events, room, &found));
         return found;
     }
-    void complete(std::uint64_t upto) { check(disruptor_complete(get(), upto)); }
-    // Hands each event to `handle(event, sequence, is_last_of_batch)` until the ring is drained.
+    void complete(std::uint64_t upto) { check_and_ring(disruptor_complete(get(), upto)); }
+    // Hands each event to `handle(event, sequence, is_last_of_batch)` until the ring is drained, and sleeps while none comes.
     template <typename Handler>
     void run(std::size_t room, Handler &&handle) {
         std::vector<event> events(room);
-        waiting how(room);
+        waiting how = waits(room);
         for (;;) {
             const offer found = poll(events.data(), room);
             if (found.kind == DISRUPTOR_DRAINED) return;
@@ -118,7 +143,8 @@ public:
 
 class halter : public end<disruptor_halter> {
 public:
-    void halt() { check(disruptor_halt(get())); }
+    using end::end;
+    void halt() { check_and_ring(disruptor_halt(get())); }
 };
 
 struct ring {
@@ -133,35 +159,43 @@ struct ring_of_several {
     disruptor::halter halter;
 };
 
-// Has each handle of a list in an end of its own.
-template <typename End, typename Handle>
-std::vector<End> owned(const std::vector<Handle> &handles) {
-    std::vector<End> ends(handles.size());
-    for (std::size_t k = 0; k < handles.size(); k++) *ends[k].get() = handles[k];
+// Ends by a bell, before their ring is opened.
+template <typename End>
+std::vector<End> unopened(std::size_t count, const disruptor::bell &bell) {
+    std::vector<End> ends;
+    ends.reserve(count);
+    while (ends.size() < count) ends.emplace_back(bell);
     return ends;
+}
+
+// Moves the handles of a ring to its ends.
+template <typename End, typename Handle>
+void own(std::vector<End> &ends, const std::vector<Handle> &handles) noexcept {
+    for (std::size_t k = 0; k < handles.size(); k++) *ends[k].get() = handles[k];
 }
 
 // Opens a ring of several senders.
 inline ring_of_several open_several(std::uint64_t size, const std::vector<std::uint64_t> &upstreams, std::size_t senders,
                                     std::uint64_t limit = DISRUPTOR_MAX_LIMIT) {
-    ring_of_several made;
+    const disruptor::bell bell = std::make_shared<disruptor_bell>();
+    ring_of_several made = {unopened<sender>(senders, bell), unopened<receiver>(upstreams.size(), bell), halter(bell)};
     std::vector<disruptor_sender> sending(senders, disruptor_sender DISRUPTOR_NEW);
     std::vector<disruptor_receiver> receiving(upstreams.size(), disruptor_receiver DISRUPTOR_NEW);
     check(disruptor_open_several(size, limit, upstreams.data(), upstreams.size(), sending.data(), senders, receiving.data(),
                                  receiving.size(), made.halter.get()));
-    made.senders = owned<disruptor::sender>(sending);
-    made.receivers = owned<receiver>(receiving);
+    own(made.senders, sending);
+    own(made.receivers, receiving);
     return made;
 }
 
 // Opens a ring: handler k follows those whose bits are in the mask upstreams[k].
 inline ring open(std::uint64_t size, const std::vector<std::uint64_t> &upstreams, std::uint64_t limit = DISRUPTOR_MAX_LIMIT) {
-    ring made;
-    std::vector<disruptor_receiver> receivers(upstreams.size(), disruptor_receiver DISRUPTOR_NEW);
-    made.receivers = std::vector<receiver>(upstreams.size());
-    check(disruptor_open(size, limit, upstreams.data(), upstreams.size(), made.sender.get(), receivers.data(), receivers.size(),
+    const disruptor::bell bell = std::make_shared<disruptor_bell>();
+    ring made = {sender(bell), unopened<receiver>(upstreams.size(), bell), halter(bell)};
+    std::vector<disruptor_receiver> receiving(upstreams.size(), disruptor_receiver DISRUPTOR_NEW);
+    check(disruptor_open(size, limit, upstreams.data(), upstreams.size(), made.sender.get(), receiving.data(), receiving.size(),
                          made.halter.get()));
-    for (std::size_t k = 0; k < receivers.size(); k++) *made.receivers[k].get() = receivers[k];
+    own(made.receivers, receiving);
     return made;
 }
 

@@ -51,16 +51,24 @@ warns=(-Wall -Wextra -Werror -I"$top/include")
 c=(-std=c11 -O2 "${warns[@]}")
 guard=(-g -fsanitize=address,undefined -fno-sanitize-recover=all)
 
-if has cc c; then
-    for program in ring senders refusals; do
-        try "C $program" "$([ $program = refusals ] && echo 'every misuse is refused by its number' || echo "$all")" \
-            cc "${c[@]}" -o "$room/$program" "$top/examples/c/$program.c" "$library/libdisruptor.a" -lpthread -- "$room/$program"
+# What each program in C prints.
+declare -A prints=([ring]=$all [senders]=$all [bell]=$all$'\n''each came in time'$'\n''idleness costs next to nothing'
+    [refusals]='every misuse is refused by its number')
+
+# Builds and runs each program in C with these words more.
+try_c() { # WHAT WORD..
+    local what=$1 program
+    shift
+    for program in ring senders bell refusals; do
+        try "C $program$what" "${prints[$program]}" \
+            cc "${c[@]}" "$@" -o "$room/$program" "$top/examples/c/$program.c" "$library/libdisruptor.a" -lpthread -- "$room/$program"
     done
+}
+
+if has cc c; then
+    try_c ''
     if has cc c "${guard[@]}"; then
-        for program in ring senders refusals; do
-            try "C $program, with sanitizers" "$([ $program = refusals ] && echo 'every misuse is refused by its number' || echo "$all")" \
-                cc "${c[@]}" "${guard[@]}" -o "$room/$program" "$top/examples/c/$program.c" "$library/libdisruptor.a" -lpthread -- "$room/$program"
-        done
+        try_c ', with sanitizers' "${guard[@]}"
     else
         skip 'C with sanitizers'
     fi

@@ -23,7 +23,7 @@ int main() {
             receiver.run(1024, [&](const disruptor::event &event, std::uint64_t, bool) { own.value += event.first; });
         });
     }
-    disruptor::waiting waiting(1024);
+    disruptor::waiting waiting = ring.sender.waits(1024);
     for (std::uint64_t sent = 0; sent < events; sent += claim) {
         const std::uint64_t lo = ring.sender.claim(claim, waiting);
         for (std::uint64_t k = 0; k < claim; k++) ring.sender.write(lo + k, {sent + k, 0});
@@ -31,7 +31,8 @@ int main() {
     }
     ring.sender.close();
     for (std::thread &thread : threads) thread.join();
-    const bool right = std::all_of(sums.begin(), sums.end(), [](const sum &own) { return own.value == events * (events - 1) / 2; });
+    const bool sent = ring.sender.progress().done == events;
+    const bool right = sent && std::all_of(sums.begin(), sums.end(), [](const sum &own) { return own.value == events * (events - 1) / 2; });
     std::puts(right ? "each handler had every event" : "WRONG");
     return !right;
 }
