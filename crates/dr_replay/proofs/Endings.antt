@@ -1,9 +1,11 @@
 -- How the workers of an exchange ended, and what a replay answers of it.
-use Rattle.std.proofs.Common.{◌≡◌, List, Option, None, Result, Ok, Err, IfErr, IfOk, ⊎_elim, refl, sym, ap, ◌∙◌, length}
+use Rattle.std.proofs.Common.{◌≡◌, List, Option, None, Result, Ok, Err, IfErr, IfOk, ⊎_elim, refl, subst, sym, ap, ◌∙◌, length}
 use Rattle.std.proofs.lemmas.Bool.{false≢true}
 use Rattle.std.specs.Prelude.{Bool, ℕ, true, false}
 use Rattle.std.proofs.lemmas.List.FromFn.{length-map-range_with_len}
 use Rattle.dr_seq.specs.declared.event.Event.{Event}
+use Rattle.dr_ring.specs.Calls.Ends.{HalterEnd}
+use Rattle.dr_ring.specs.Calls.Settling.{HasRun}
 use Rattle.dr_meaning.specs.Meaning.Machine.{handlers}
 use Rattle.dr_lock.specs.Meaning.Audit.{Faults, IsAudited}
 use Rattle.dr_lock.specs.Meaning.History.{History, transcript}
@@ -23,8 +25,8 @@ use Rattle.dr_replay.specs.Meaning.Scripts.{producers_in, script_in, scripts_in}
 use Rattle.dr_accounts.specs.Report.{report_of}
 use Rattle.dr_replay.specs.Calls.Replayed.{IsReportOfMerge}
 use Rattle.dr_replay.specs.Calls.RingRuns.{CameOf, RunOver}
-use Rattle.dr_replay.specs.Calls.Workers.{AreStopped, AreThrough, AreServed, AuditFinds, IsFirstOf, IsMemory, IsOfAudit, IsOfLock, IsOfMerge, IsOfWorkers, UnlessMemory, audit_fault}
-use Rattle.dr_replay.specs.Calls.Workers.{IsNoRefusal, endings_of, lock_endings, replay_fault, ring_workers}
+use Rattle.dr_replay.specs.Calls.Workers.{AreStopped, AreThrough, AreServed, AuditFinds, CameTogether, IsFirstOf, IsMemory, IsOfAudit, IsOfLock, IsOfMerge, IsOfWorkers, UnlessMemory, audit_fault}
+use Rattle.dr_replay.specs.Calls.Workers.{IsNoRefusal, endings_of, ends_of, lock_endings, replay_fault, ring_workers}
 
 -- whether a fault may be answered for workers
 abbrev is_of_workers : ReplayFault → Bool
@@ -58,15 +60,26 @@ of_workers may_stop ran (fault.Worker who f) stopped served is = (endings_of ran
 of_workers may_stop ran (fault.Audit f) stopped served is = no_other (endings_of ran) (fault.Audit f) refl is
 
 -- what a run over a new ring came to is what is answered
-pub came_of : {A : Type 0} {may_stop must_stop : ℕ → ℕ → Type 0} {size : ℕ} (events : List Event) (over : RunOver may_stop must_stop size events) (r : Result A ReplayFault)
-    → IfOk r (λ x. AreThrough events over.ran) → IfErr r (IsFirstOf (endings_of over.ran)) → CameOf may_stop must_stop size r events
-came_of events over (Ok x) through first = (over, through)
-came_of events over (Err (fault.Worker who f)) through first = (over, first)
-came_of events over (Err (fault.Audit f)) through first = no_other (endings_of over.ran) (fault.Audit f) refl first
-came_of events over (Err (fault.File file.Memory)) through first = tt
-came_of events over (Err (fault.File (file.Input k cause))) through first = tt
-came_of events over (Err (fault.File file.Read)) through first = tt
-came_of events over (Err (fault.File file.Write)) through first = absurd (no_other (endings_of over.ran) (fault.File file.Write) refl first)
+module _ {A : Type 0} {may_stop must_stop : ℕ → ℕ → Type 0} {size : ℕ} (events : List Event) (ran : Ran) (t : HalterEnd)
+    (over : HasRun ran.sender (ends_of ran) t → RunOver may_stop must_stop size events) (same : (run : HasRun ran.sender (ends_of ran) t) → (over run).ran ≡ ran) where
+  pub came_of : (r : Result A ReplayFault) → CameTogether ran t r → IfOk r (λ x. AreThrough events ran) → IfErr r (IsFirstOf (endings_of ran)) → CameOf may_stop must_stop size r events
+  came_of (Ok x) came through first = (over came, subst (AreThrough events) (sym (same came)) through)
+  came_of (Err (fault.Worker who f)) came through first = (over came, subst (λ (x : Ran). IsFirstOf (endings_of x) (fault.Worker who f)) (sym (same came)) first)
+  came_of (Err (fault.Audit f)) came through first = no_other (endings_of ran) (fault.Audit f) refl first
+  came_of (Err (fault.File file.Memory)) came through first = tt
+  came_of (Err (fault.File (file.Input k cause))) came through first = tt
+  came_of (Err (fault.File file.Read)) came through first = tt
+  came_of (Err (fault.File file.Write)) came through first = absurd (no_other (endings_of ran) (fault.File file.Write) refl first)
+
+-- a fault is that of the same run, whatever would else be answered
+pub came_at_fault : (A B : Type 0) (may_stop must_stop : ℕ → ℕ → Type 0) (size : ℕ) (events : List Event) (e : ReplayFault)
+    → CameOf {A = A} may_stop must_stop size (Err e) events → CameOf {A = B} may_stop must_stop size (Err e) events
+came_at_fault A B may_stop must_stop size events (fault.Worker who f) is = is
+came_at_fault A B may_stop must_stop size events (fault.Audit f) is = is
+came_at_fault A B may_stop must_stop size events (fault.File file.Memory) is = tt
+came_at_fault A B may_stop must_stop size events (fault.File (file.Input k cause)) is = tt
+came_at_fault A B may_stop must_stop size events (fault.File file.Read) is = tt
+came_at_fault A B may_stop must_stop size events (fault.File file.Write) is = is
 
 served_unless : {P : Type 0} (endings : List Ended) (e : ReplayFault) → (P → AreServed endings) → UnlessMemory P e → UnlessMemory (AreServed endings) e
 served_unless endings (fault.File f) served is = tt
@@ -126,7 +139,7 @@ module _ {P Q : History Event → Type 0} (more : (h : History Event) → P h �
       → IsOfLock (lock_endings journal replica business producers) P (scripts_in events) e → IsOfMerge may_stop Q events e
   of_merge may_stop events journal replica business producers (fault.File f) many stopped is = is
   of_merge may_stop events journal replica business producers (fault.Worker who f) many stopped is =
-      (journal, replica, business, producers, many, record { stopped = stopped; first = is })
+      (journal, replica, business, producers, many, record { stopped = stopped; first = is.0 })
   of_merge may_stop events journal replica business producers (fault.Audit f) many stopped is = finds_more (scripts_in events) f is.1
 
   pub ends_of_merge : {A : Type 0} (may_stop : ℕ → Type 0) (events : List Event) (scripts : List (List Event))
@@ -157,10 +170,11 @@ pub reports : (h : History Event) (given : List (List Event)) (events list : Lis
     → IsAudited (transcript h) (handlers h.core.setup) given list → text ≡ report_of list → IsReportOfMerge (λ k. k ≡ h) events text
 reports h given events list text same is says = record { history = h; such = refl; list = list; audited = rw same at is; says = says }
 
-after_workers : (P : History Event → Type 0) (endings : List Ended) (scripts : List (List Event)) (e : ReplayFault) → IsFirstOf endings e → IsOfLock endings P scripts e
-after_workers P endings scripts (fault.File f) is = only_memory endings f is
-after_workers P endings scripts (fault.Worker who f) is = is
-after_workers P endings scripts (fault.Audit f) is = absurd (no_other endings (fault.Audit f) refl is)
+after_workers : (P : History Event → Type 0) (h : History Event) → P h → (endings : List Ended) (scripts : List (List Event)) (e : ReplayFault) → IsFirstOf endings e
+    → IsOfLock endings P scripts e
+after_workers P h such endings scripts (fault.File f) is = only_memory endings f is
+after_workers P h such endings scripts (fault.Worker who f) is = (is, h, such)
+after_workers P h such endings scripts (fault.Audit f) is = absurd (no_other endings (fault.Audit f) refl is)
 
 -- an audit refuses no worker
 pub audit_names_none : {A : Type 0} (P : History Event → Type 0) (scripts : List (List Event)) (r : Result A ReplayFault)
@@ -171,10 +185,10 @@ audit_names_none P scripts (Err (fault.Worker who f)) is = absurd is
 audit_names_none P scripts (Err (fault.Audit f)) is = tt
 
 -- the endings that a check was given are those of the parts
-pub first_of_parts : (P : History Event → Type 0) {j j2 r r2 b b2 : Option WorkFault} {p p2 : List (Option WorkFault)} (scripts : List (List Event)) (e : ReplayFault)
+pub first_of_parts : (P : History Event → Type 0) (h : History Event) → P h → {j j2 r r2 b b2 : Option WorkFault} {p p2 : List (Option WorkFault)} (scripts : List (List Event)) (e : ReplayFault)
     → j ≡ j2 → r ≡ r2 → b ≡ b2 → p ≡ p2 → IsFirstOf (lock_endings j r b p) e → IsOfLock (lock_endings j2 r2 b2 p2) P scripts e
-first_of_parts P {j2 = j2} {r2 = r2} {b2 = b2} {p2 = p2} scripts e journal replica business producers is =
-    after_workers P (lock_endings j2 r2 b2 p2) scripts e (rw (journal, replica, business, producers) at is)
+first_of_parts P h such {j2 = j2} {r2 = r2} {b2 = b2} {p2 = p2} scripts e journal replica business producers is =
+    after_workers P h such (lock_endings j2 r2 b2 p2) scripts e (rw (journal, replica, business, producers) at is)
 
 pub none_of_parts : {j j2 r r2 b b2 : Option WorkFault} {p p2 : List (Option WorkFault)} → j ≡ j2 → r ≡ r2 → b ≡ b2 → p ≡ p2
     → first_fault (lock_endings j r b p) ≡ None → first_fault (lock_endings j2 r2 b2 p2) ≡ None

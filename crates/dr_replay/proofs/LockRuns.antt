@@ -81,7 +81,7 @@ pub came_of_lock : {A : Type 0} {may_stop must_stop : ℕ → ℕ → Type 0} {s
     → ((h : History Event) → P h → IsHistoryOf over h) → OnOk r (first_fault (endings_over over) ≡ None) → IfOk r (λ t. IsReportOfMerge P events (text_of t))
     → IfErr r (IsOfLock (endings_over over) P scripts) → SaidOfLock text_of may_stop must_stop size r events
 came_of_lock {events = events} text_of over (Ok x) scripts same more fine says first = (over, (fine, text_of x, report_more more events (text_of x) says, refl))
-came_of_lock text_of over (Err (fault.Worker who f)) scripts same more fine says first = (over, first)
+came_of_lock text_of over (Err (fault.Worker who f)) scripts same more fine says first = (over, first.0, first.1, more first.1 first.2)
 came_of_lock text_of over (Err (fault.Audit f)) scripts same more fine says first = (over, first.0, finds_as more scripts _ f same first.1)
 came_of_lock text_of over (Err (fault.File file.Memory)) scripts same more fine says first = tt
 came_of_lock text_of over (Err (fault.File (file.Input k cause))) scripts same more fine says first = tt

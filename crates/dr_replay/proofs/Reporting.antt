@@ -11,7 +11,7 @@ use Rattle.dr_replay.specs.declared.fault.ReplayFault.{ReplayFault}
 use Rattle.dr_replay.specs.declared.fault.ReplayFault.TheVariants as fault
 use Rattle.dr_replay.specs.Calls.Workers.{IsOfMerge}
 use Rattle.dr_replay.specs.Meaning.Exchange.{IsOfReplay}
-use Rattle.dr_replay.specs.Calls.Replayed.{IsReportOfMerge, LockFaultWrites, replay_text, reported}
+use Rattle.dr_replay.specs.Calls.Replayed.{IsReportOfMerge, LockFaultWrites, ReplayFaultKeeps, replay_text, reported}
 
 -- what holds where a fault is answered that came from a call
 pub at_exit : {A E : Type 0} (r : Result A E) (e : E) (P : Result A E → Type 0) → IsErrAnd r (λ y. y ≡ e) → P (Err e) → P r
@@ -56,6 +56,15 @@ cut_merge size old new (Some bytes) events text is of_merge wrote = (events, tex
 keeps_all : (old : Option (List ℕ)) → Keeps old old
 keeps_all None = tt
 keeps_all (Some xs) = refl
+
+-- whatever is answered, if nothing is written
+pub all_kept : (old : Option (List ℕ)) (e : ReplayFault) → ReplayFaultKeeps e old old
+all_kept old (fault.Worker who f) = keeps_all old
+all_kept old (fault.Audit f) = keeps_all old
+all_kept old (fault.File file.Memory) = keeps_all old
+all_kept old (fault.File (file.Input k cause)) = keeps_all old
+all_kept old (fault.File file.Read) = keeps_all old
+all_kept old (fault.File file.Write) = tt
 
 adds_none : (old : Option (List ℕ)) → Appends old old []
 adds_none None = tt

@@ -18,7 +18,7 @@ ghost use Rattle.dr_workers.specs.Meaning.Work.{LeavesNothingOpen};
 ghost use Rattle.dr_workers.specs.declared.fault.WorkFault.TheVariants.{Stopped};
 ghost use Rattle.dr_replay.specs.Meaning.EventFile.{events_of as events_in};
 ghost use Rattle.dr_replay.specs.Calls.RingRuns.{CameOf};
-ghost use Rattle.dr_replay.specs.Calls.Workers.{AreThrough, IsFirstOf, IsFirstOfSome, IsOfWorkers, IsRun, IsSending, NoneHadToStop, Says, UnlessMemory, endings_of, ends_of, ring_workers};
+ghost use Rattle.dr_replay.specs.Calls.Workers.{AreThrough, CameTogether, IsFirstOf, IsFirstOfSome, IsOfWorkers, IsRun, IsSending, NoneHadToStop, Says, UnlessMemory, endings_of, ends_of, ring_workers};
 
 use crate::event_file::read_events;
 use crate::fault::ReplayFault;
@@ -73,19 +73,21 @@ fn close(sender: &mut Sender, bell: &Bell)
 // Closes a ring before anything was sent, and joins those of its handlers' threads that were started.
 fn abandoned<R: Threads, G: Gate>(
     rt: &R,
-    sender: &mut Sender,
+    mut sender: Sender,
     bell: &Bell,
-    journal: PromisedHandle<Worked, PartOf<Journal, G>>,
+    journal: Option<PromisedHandle<Worked, PartOf<Journal, G>>>,
     replica: Option<PromisedHandle<Worked, PartOf<Replica, G>>>,
-) -> AllocError
-    ensures { ClosesOnceDone sender.old sender.new }
+) -> Sender
+    ensures { ClosesOnceDone sender result }
 {
-    close(sender, bell);
-    let _journal = journal.join(rt);
+    close(&mut sender, bell);
+    if let Some(journal) = journal {
+        let _journal = journal.join(rt);
+    }
     if let Some(replica) = replica {
         let _replica = replica.join(rt);
     }
-    AllocError
+    sender
 }
 
 // Sends the events, in claims of a quarter of the ring.
@@ -145,46 +147,48 @@ fn served<R: Threads + Wait, G: Gate, J: Promise<Worked>, K: Promise<Worked>, B:
     }
 }
 
-// Starts a thread a handler, sends the events, closes, and joins. An error is that a thread could not be
-// started: then nothing is sent.
+// Starts a thread a handler, sends the events, closes, and joins. Where a thread could not be started the
+// ring's sender comes back, which sent nothing.
 fn exchange<R: Threads + Wait + Sync, G: Gate + Sync>(
     rt: &R,
     alloc: Global,
     gate: &G,
     events: &[Event],
     size: Size,
-    mut sender: Sender,
+    sender: Sender,
     bell: &Bell,
     journal: Receiver,
     replica: Receiver,
     business: Receiver,
-) -> Result<Ran, AllocError>
-    ensures { IfOk result (λ ran. IsRun (G.may_stop gate.now) (G.must_stop gate.now) size events.now sender journal replica business ran) }
+) -> Result<Ran, Sender>
+    ensures run { IfOk result (λ ran. IsRun (G.may_stop gate.now) (G.must_stop gate.now) size events.now sender journal replica business ran) }
+    ensures unsent { IfErr result (ClosesOnceDone sender) }
 {
     thread::scope(
         thread::scope_env(),
         rt,
-        move |scope| -> Result<Ran, AllocError>
-            ensures { IfOk result (λ ran. IsRun (G.may_stop gate.entry.now) (G.must_stop gate.entry.now) size events.entry.now sender journal replica business ran) }
+        move |scope| -> Result<Ran, Sender>
+            ensures run { IfOk result (λ ran. IsRun (G.may_stop gate.entry.now) (G.must_stop gate.entry.now) size events.entry.now sender journal replica business ran) }
+            ensures unsent { IfErr result (ClosesOnceDone sender) }
         {
             let room = size.get() as usize;
             let promise = PartOf::<Journal, G>::of(&journal, gate, JOURNAL);
             let Ok(journal) = scope.spawn_with(promise, move || {
                 work::<R, G, Journal>(rt, gate, JOURNAL, journal, room, alloc, bell)
             }) else {
-                return Err(AllocError);
+                return Err(abandoned::<R, G>(rt, sender, bell, None, None));
             };
             let promise = PartOf::<Replica, G>::of(&replica, gate, REPLICA);
             let Ok(replica) = scope.spawn_with(promise, move || {
                 work::<R, G, Replica>(rt, gate, REPLICA, replica, room, alloc, bell)
             }) else {
-                return Err(abandoned(rt, &mut sender, bell, journal, None));
+                return Err(abandoned(rt, sender, bell, Some(journal), None));
             };
             let promise = PartOf::<Business, G>::of(&business, gate, BUSINESS);
             let Ok(business) = scope.spawn_with(promise, move || {
                 work::<R, G, Business>(rt, gate, BUSINESS, business, room, alloc, bell)
             }) else {
-                return Err(abandoned(rt, &mut sender, bell, journal, Some(replica)));
+                return Err(abandoned(rt, sender, bell, Some(journal), Some(replica)));
             };
             let ran = served(
                 rt, gate, events, size, sender, bell, journal, replica, business,
@@ -243,6 +247,7 @@ fn finish(alloc: Global, ran: Ran, halter: Halter) -> Result<String, ReplayFault
     ensures fine { IfOk result (λ text. first_of (endings_of ran) ≡ None) }
     ensures first { IfErr result (IsFirstOf (endings_of ran)) }
     ensures unhalted { IfErr result (UnlessMemory (FoundUnhalted ran.sender.knows)) }
+    ensures came { CameTogether ran halter result }
 {
     let endings = endings(&ran);
     let Ran {
@@ -286,8 +291,11 @@ fn report<R: Threads + Wait + Sync, G: Gate + Sync>(
     let bell = Bell::new();
     let ran = exchange(
         rt, alloc, gate, events, size, sender, &bell, journal, replica, business,
-    )?;
-    finish(alloc, ran, halter)
+    );
+    match ran {
+        Ok(ran) => finish(alloc, ran, halter),
+        Err(_sender) => Err(ReplayFault::from(AllocError)),
+    }
 }
 
 /// Reads a file of operations to its end, sends their events in file order through a ring, with a

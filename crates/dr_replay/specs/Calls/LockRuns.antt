@@ -57,13 +57,13 @@ abbrev pub Reports : {may_stop must_stop : ℕ → ℕ → Type 0} {size : ℕ} 
 Reports {events = events} IsWritten over =
     (first_fault (endings_over over) ≡ None) × (text : List ℕ) × IsReportOfMerge (IsHistoryOf over) events text × IsWritten text
 
--- a report, also one whose write failed, is of the history of a run in which no worker had a fault; a worker's fault is the first of those of a run,
+-- a report, also one whose write failed, is of the history of a run in which no worker had a fault; a worker's fault is the first of those of a run, which has a history,
 -- and an audit's is found in the history of a run without such a fault; of a file's other faults and of memory nothing is said
 abbrev pub CameOfLock : {A : Type 0} → (ℕ → ℕ → Type 0) → (ℕ → ℕ → Type 0) → ℕ → (A → List ℕ → Type 0) → (List ℕ → Type 0)
     → Result A ReplayFault → List Event → Type 0
 CameOfLock may_stop must_stop size IsWritten IsBegun (Ok done) events = (over : JoinedOver may_stop must_stop size events) × Reports (IsWritten done) over
 CameOfLock may_stop must_stop size IsWritten IsBegun (Err (fault.Worker who f)) events =
-    (over : JoinedOver may_stop must_stop size events) × IsFirstOf (endings_over over) (fault.Worker who f)
+    (over : JoinedOver may_stop must_stop size events) × IsFirstOf (endings_over over) (fault.Worker who f) × (h : History Event) × IsHistoryOf over h
 CameOfLock may_stop must_stop size IsWritten IsBegun (Err (fault.Audit f)) events =
     (over : JoinedOver may_stop must_stop size events) × (first_fault (endings_over over) ≡ None) × AuditFinds (IsHistoryOf over) (scripts_in events) f
 CameOfLock may_stop must_stop size IsWritten IsBegun (Err (fault.File file.Write)) events =

@@ -1,5 +1,5 @@
 -- What the workers of a replay behind a lock do.
-use Rattle.std.specs.Prelude.{◌≡◌, ℕ, false, List, [], Option, None, Some, IfSome, Result, Ok, Err}
+use Rattle.std.specs.Prelude.{◌≡◌, ℕ, false, List, [], Option, None, Some, Result, Ok, Err}
 use Rattle.dr_seq.specs.declared.event.Event.{Event}
 use Rattle.dr_meaning.specs.Calls.Calling.{SomeCalls}
 use Rattle.dr_workers.specs.declared.fault.WorkFault.{WorkFault}
@@ -17,8 +17,13 @@ abbrev pub list_of : {A F : Type 0} → Result A F → (A → List Event) → Op
 list_of (Ok part) list_in = Some (list_in part)
 list_of (Err fault) list_in = None
 
+-- a worker that answers no fault gives back the list of all that it was shown, and any other none
+abbrev pub GivesList : Option WorkFault → Listed → Option (List Event) → Type 0
+GivesList None after list = (after.failed ≡ false) × (list ≡ Some after.list)
+GivesList (Some fault) after list = list ≡ None
+
 -- the worker of the handler h began with an unused end, listed what that handed out to room for 256 events, came to its gate with each batch, and answers for what these calls came to, each a call of that handler;
--- that it was stopped it answers only where its gate may stop it, and a list that it gives back is of all that it was shown
+-- that it was stopped it answers only where its gate may stop it
 pub record HasHandled (begun : History Event) (h : ℕ) (may_stop must_stop : ℕ → Type 0) (back : EndView Event) (answer : Option WorkFault) (list : Option (List Event)) : Type 0 where
   pub start : Listed
   pub after : Listed
@@ -28,7 +33,7 @@ pub record HasHandled (begun : History Event) (h : ℕ) (may_stop must_stop : �
   pub calls : SomeCalls (OutletAsks begun h) no_calls back (Serves 256 Lists start after None None may_stop must_stop fault)
   pub answers : AnswersFor fault answer
   pub stopped : answer ≡ Some Stopped → (turn : ℕ) × may_stop turn
-  pub lists : IfSome list (λ all. (after.failed ≡ false) × (all ≡ after.list))
+  pub lists : GivesList answer after list
 
 -- the worker of the producer p began with an unused end, sent the first of a script in such claims, came to its gate with each, and answers what these calls came to, each a call of that producer
 pub record HasSent (begun : History Event) (p cut : ℕ) (script : List Event) (may_stop must_stop : ℕ → Type 0) (back : EndView Event) (answer : Option WorkFault) : Type 0 where

@@ -3,8 +3,9 @@ use Rattle.std.specs.Prelude.{ℕ, ◌^◌, Result, Ok, Err, List, [], ◌∷◌
 use Rattle.dr_seq.specs.declared.event.Event.{Event}
 use Rattle.dr_ring.specs.Calls.Ends.{SenderEnd, ReceiverEnd, HalterEnd}
 use Rattle.dr_ring.specs.Calls.Making.{AreFreshEnds}
+use Rattle.dr_ring.specs.Calls.Settling.{HasRun}
 use Rattle.dr_accounts.specs.Passing.{replay_graph}
-use Rattle.dr_replay.specs.Calls.Workers.{AreThrough, IsFirstOf, IsRun, endings_of}
+use Rattle.dr_replay.specs.Calls.Workers.{AreThrough, IsFirstOf, IsRun, endings_of, ends_of}
 use Rattle.dr_files.specs.declared.fault.FileFault.TheVariants as file
 use Rattle.dr_replay.specs.declared.ring.Ran.{Ran}
 use Rattle.dr_replay.specs.declared.fault.ReplayFault.{ReplayFault}
@@ -20,6 +21,8 @@ pub record RunOver (may_stop must_stop : ℕ → ℕ → Type 0) (size : ℕ) (e
   pub fresh : AreFreshEnds (record { upstreams = replay_graph; size = size; limit = 2 ^ 62 }) sender (journal ∷ replica ∷ business ∷ []) halter
   pub ran : Ran
   pub run : IsRun may_stop must_stop size events sender journal replica business ran
+  -- the ends that came back are those of one run, which the halter never halted
+  pub came : HasRun ran.sender (ends_of ran) halter
 
 -- a report, also one whose write failed, comes of a run in which each handler received these events and no worker had a fault,
 -- and a worker's fault is the first of those of a run; of a file's other faults and of memory nothing is said

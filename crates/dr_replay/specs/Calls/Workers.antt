@@ -1,10 +1,11 @@
 -- What the workers of a replay give back, and what they promise.
-use Rattle.std.specs.Prelude.{◌≡◌, ◌≢◌, ◌⊎◌, ℕ, ◌+◌, ◌/◌, ◌<◌, max, ◌++◌, true, List, [], ◌∷◌, length, map, take, Option, None, Some, All, IfOk, string_bytes}
+use Rattle.std.specs.Prelude.{◌≡◌, ◌≢◌, ◌⊎◌, ℕ, ◌+◌, ◌/◌, ◌<◌, max, ◌++◌, true, List, [], ◌∷◌, length, map, take, Option, None, Some, Result, Ok, Err, All, IfOk, string_bytes}
 use Rattle.dr_seq.specs.declared.event.Event.{Event}
 use Rattle.dr_meaning.specs.declared.refusal.Refusal.{Refusal}
 use Rattle.dr_meaning.specs.Calls.Calling.{SomeCalls}
-use Rattle.dr_ring.specs.Calls.Ends.{SenderEnd, ReceiverEnd, sender_place}
+use Rattle.dr_ring.specs.Calls.Ends.{SenderEnd, ReceiverEnd, HalterEnd, sender_place}
 use Rattle.dr_ring.specs.Calls.Sending.{ClosesOnceDone}
+use Rattle.dr_ring.specs.Calls.Settling.{HasRun}
 use Rattle.dr_ring.specs.Calls.Telling.{sender_does}
 use Rattle.dr_workers.specs.Calls.Serving.{Sends}
 use Rattle.dr_workers.specs.declared.producer.Produced.{Produced}
@@ -127,6 +128,11 @@ abbrev pub UnlessMemory : Type 0 → ReplayFault → Type 0
 UnlessMemory Holds (fault.File f) = Unit {0}
 UnlessMemory Holds other = Holds
 
+-- one run came to all ends of an exchange, unless memory ran out before they came together
+abbrev pub CameTogether : {A : Type 0} → Ran → HalterEnd → Result A ReplayFault → Type 0
+CameTogether ran halter (Ok x) = HasRun ran.sender (ends_of ran) halter
+CameTogether ran halter (Err e) = UnlessMemory (HasRun ran.sender (ends_of ran) halter) e
+
 -- no worker was refused a call
 abbrev pub AreServed : List Ended → Type 0
 AreServed endings = All (λ (e : Ended). (refusal : Refusal) → e.fault ≡ Some (work.Refused refusal) → ⊥) endings
@@ -186,10 +192,10 @@ IsOfAudit IsSuch scripts (fault.File f) = IsMemory f
 IsOfAudit IsSuch scripts (fault.Worker who f) = ⊥
 IsOfAudit IsSuch scripts (fault.Audit f) = AuditFinds IsSuch scripts f
 
--- after the join: a lack of memory, or the workers' first fault, and where none has a fault, what an audit finds
+-- after the join, which some such history came of: a lack of memory, or the workers' first fault, and where none has a fault, what an audit finds
 abbrev pub IsOfLock : List Ended → (History Event → Type 0) → List (List Event) → ReplayFault → Type 0
 IsOfLock endings IsSuch scripts (fault.File f) = IsMemory f
-IsOfLock endings IsSuch scripts (fault.Worker who f) = IsFirstOf endings (fault.Worker who f)
+IsOfLock endings IsSuch scripts (fault.Worker who f) = IsFirstOf endings (fault.Worker who f) × (h : History Event) × IsSuch h
 IsOfLock endings IsSuch scripts (fault.Audit f) = (first_fault endings ≡ None) × AuditFinds IsSuch scripts f
 
 -- a lack of memory, or the first fault of such workers, one of each producer of these events, or what an audit finds of each producer's events

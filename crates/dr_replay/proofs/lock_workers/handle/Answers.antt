@@ -1,29 +1,30 @@
-use Rattle.std.proofs.Common.{◌≡◌, Err, List, None, Ok, Option, Result, ap, inl, inr, subst, sym, ◌∙◌}
-use Rattle.std.specs.Prelude.{IfOk, IfSome, OnOk, false}
+use Rattle.std.proofs.Common.{◌≡◌, Err, List, None, Ok, Result, Some, ap, inl, inr, refl, subst, sym, ◌∙◌}
+use Rattle.std.specs.Prelude.{IfOk, OnOk, false}
 use Rattle.dr_lock.specs.Calls.Asking.{OutletAsks}
 use Rattle.dr_lock.specs.Calls.Lock.{no_calls}
 use Rattle.dr_workers.specs.Calls.Serving.{Serves}
 use Rattle.dr_accounts.specs.Keeping.{AnswersFor, error_of}
 use Rattle.dr_lock.specs.declared.locked.LockedOutlet.{LockedOutlet}
 use Rattle.dr_replay.specs.Calls.Listing.{Listed, Lists}
-use Rattle.dr_replay.specs.Calls.LockWorkers.{list_of}
+use Rattle.dr_replay.specs.Calls.LockWorkers.{GivesList, list_of}
+use Rattle.dr_workers.specs.declared.fault.WorkFault.{WorkFault}
 use Rattle.dr_seq.specs.declared.event.Event.{Event}
 use Rattle.dr_replay.proofs.Asking.{asked, stopped_by}
 use Rattle.dr_replay.proofs.lock_workers.handle.Goals.{in-Err-default, in-Ok-Some+in-Ok-this-2, in-Ok-Some+in-Err-1, in-Ok-None}
 use Rattle.dr_replay.proofs.lock_workers.handle.Goals as goal
 
--- a list that is given back is of all that was shown
-abbrev Gives : Listed → Option (List Event) → Type 0
-Gives after list = IfSome list (λ all. (after.failed ≡ false) × (all ≡ after.list))
+-- the list of a part, where a worker gives one back
+abbrev Gives : {X : Type 0} → (X → List Event) → Listed → Result X WorkFault → Type 0
+Gives list_in after part = GivesList (error_of part) after (list_of part list_in)
 
-gives_none : {X F : Type 0} (list_in : X → List Event) (after : Listed) (part : Result X F) (f : F) → part ≡ Err f → Gives after (list_of part list_in)
-gives_none list_in after part f is = subst (λ p. Gives after (list_of p list_in)) (sym is) tt
+gives_none : {X : Type 0} (list_in : X → List Event) (after : Listed) (part : Result X WorkFault) (f : WorkFault) → part ≡ Err f → Gives list_in after part
+gives_none list_in after part f is = subst (Gives list_in after) (sym is) refl
 
-gives_all : {X A F : Type 0} (list_in : X → List Event) (after : Listed) (got : Result X A) (part : Result X F) (p : X) → got ≡ Ok p → part ≡ Ok p
-    → IfOk got (λ x. list_in x ≡ after.list) → OnOk got (after.failed ≡ false) → Gives after (list_of part list_in)
+gives_all : {X A : Type 0} (list_in : X → List Event) (after : Listed) (got : Result X A) (part : Result X WorkFault) (p : X) → got ≡ Ok p → part ≡ Ok p
+    → IfOk got (λ x. list_in x ≡ after.list) → OnOk got (after.failed ≡ false) → Gives list_in after part
 gives_all list_in after got part p found is list well =
-    subst (λ x. Gives after (list_of x list_in)) (sym is)
-    (subst (λ x. OnOk x (after.failed ≡ false)) found well, subst (λ x. IfOk x (λ y. list_in y ≡ after.list)) found list)
+    subst (Gives list_in after) (sym is)
+    (subst (λ x. OnOk x (after.failed ≡ false)) found well, ap (λ l. Some l) (subst (λ x. IfOk x (λ y. list_in y ≡ after.list)) found list))
 
 pub returns : goal.returns
 returns g c =

@@ -33,4 +33,5 @@ returns c =
       fine = sym (c.in_default.ensures.first ∙ ap first_fault ended);
       first = tt;
       unhalted = tt;
+      came = rw c.in_ok-receivers.ensures at c.settle-settled.ensures.run;
     }

@@ -1,4 +1,5 @@
-use Rattle.std.proofs.Common.{Err, IfOk, IfSome, Ok, ap, ◌∙◌}
+use Rattle.std.proofs.Common.{Err, Global, IfOk, IfSome, Ok, String, ap, ◌∙◌}
+use Rattle.std.proofs.lemmas.Result.{err_from_is_err_and}
 use Rattle.dr_accounts.specs.Report.{report_of}
 use Rattle.dr_files.specs.Counting.{inner_of}
 use Rattle.dr_files.specs.declared.fault.FileFault.TheVariants as file
@@ -6,7 +7,8 @@ use Rattle.dr_replay.specs.Calls.Replayed.{ReplayWrites, replay_text}
 use Rattle.dr_replay.specs.Calls.RingRuns.{CameOf}
 use Rattle.dr_replay.specs.Meaning.EventFile.{events_of}
 use Rattle.dr_replay.specs.declared.fault.ReplayFault.TheVariants as fault
-use Rattle.dr_replay.proofs.Reporting.{at_exit, cut_report, of_file}
+use Rattle.dr_replay.proofs.Endings.{came_at_fault}
+use Rattle.dr_replay.proofs.Reporting.{all_kept, at_exit, cut_report, of_file}
 use Rattle.dr_replay.proofs.ring.replay_ring.Goals as goal
 
 pub returns-in_err-write_text-clause-bytes : goal.returns-in_err-write_text-clause-bytes
@@ -38,3 +40,18 @@ returns-in_err-write_text-clause-ran g c =
     (of_file (CameOf {A = Unit {0}} may must c.args.size (Err (fault.File file.Write))) input c.as_slice.result.now c.in_ok-events.events.items
     c.as_slice.ensures.value c.in_ok-events.ensures.file
     c.in_ok-text.ensures.ran)
+
+pub returns-in_err-text-clause-unwritten : goal.returns-in_err-text-clause-unwritten
+returns-in_err-text-clause-unwritten g c =
+    let p = err_from_is_err_and c.from_residual-in_err-text.result c.from_residual-in_err-text.ensures.1 in
+    rw (p.1, p.2) (all_kept (g.W.Write.contents (inner_of c.args.writer.now)) c.in_err-text.field-0.0)
+
+pub returns-in_err-text-clause-ran : goal.returns-in_err-text-clause-ran
+returns-in_err-text-clause-ran g c =
+    let gate = c.args.gate.now in
+    let may = g.G.Gate.may_stop gate in
+    let must = g.G.Gate.must_stop gate in
+    let p = err_from_is_err_and c.from_residual-in_err-text.result c.from_residual-in_err-text.ensures.1 in
+    rw (p.1, p.2) (of_file (CameOf {A = Unit {0}} may must c.args.size (Err c.in_err-text.field-0.0)) (g.R.Read.remaining (inner_of c.args.reader.now))
+    c.as_slice.result.now c.in_ok-events.events.items c.as_slice.ensures.value c.in_ok-events.ensures.file
+    (came_at_fault (String Global) (Unit {0}) may must c.args.size c.as_slice.result.now c.in_err-text.field-0.0 c.in_err-text.ensures.ran))

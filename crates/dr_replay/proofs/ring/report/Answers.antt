@@ -8,11 +8,11 @@ use Rattle.dr_replay.proofs.Settled.{AreThree, are_three, run_over, run_says}
 use Rattle.dr_replay.proofs.Stopping.{run_served, run_stopped}
 use Rattle.dr_replay.proofs.ring.report.Goals as goal
 
-pub returns : goal.returns
+pub returns-in-Ok-ran : goal.returns-in-Ok-ran
 unfolding run_over
-returns g c =
-    let ran = c.in_ok-ran.ran in
-    let is = c.in_ok-ran.ensures in
+returns-in-Ok-ran g c =
+    let ran = c.in-Ok-ran.ran in
+    let is = c.in-Ok-ran.ensures.run in
     let events = c.args.events.now in
     let made = c.in-Ok.ensures.made in
     let ends = c.three-journal.result in
@@ -26,6 +26,6 @@ returns g c =
       first = ends_of_workers (MayStop g.G.Gate.may_stop c.args.gate.now) ran _ (run_stopped (g.G.Gate.may_stop c.args.gate.now) _ _ _ _ _ ran is)
           (run_served _ events _ _ _ _ ran is made.sender refl refl
           (omega arith) three.journal_from three.replica_from three.business_from) c.finish.ensures.unhalted c.finish.ensures.first;
-      ran = came_of events (run_over _ events _ _ _ ends.0 ends.1 ends.2 ran c.in_ok-graph.ensures.graph made c.three-journal.ensures is) c.finish.result
-          (c.finish.ensures.received events says) c.finish.ensures.first;
+      ran = came_of events ran _ (run_over _ events _ _ _ ends.0 ends.1 ends.2 ran c.in_ok-graph.ensures.graph made c.three-journal.ensures is) (λ run. refl) c.finish.result
+          c.finish.ensures.came (c.finish.ensures.received events says) c.finish.ensures.first;
     }
