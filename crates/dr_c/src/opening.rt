@@ -1,21 +1,40 @@
 //! A ring is opened, and its ends are put into handles.
 
-ghost use Rattle.std.specs.Prelude.{◌≡◌, false, None, length, map, replicate, is_some, IfErr, IfOk, OnOk};
+ghost use Rattle.std.specs.Prelude.{◌≡◌, ◌≢◌, ◌≤◌, ℕ, false, None, Ok, length, replicate, is_some, map, IfErr, IfOk, OnOk};
 ghost use Rattle.std.specs.List.{list_any};
-ghost use Rattle.dr_c.specs.OpenFault.{IsFine, IsWhy};
-ghost use Rattle.dr_c.specs.Opening.{AreOpened, Opens, are_open as are_open_of, ends_in, has};
-ghost use Rattle.dr_c.specs.declared.end.End.TheVariants.{Receiver as IsReceiver};
+ghost use Rattle.dr_seq.specs.Size.{IsSize};
+ghost use Rattle.dr_c.specs.OpenFault.{AreInOrder, IsFine, IsWhy};
+ghost use Rattle.dr_c.specs.Opening.{AreOpened, FollowsMasks, Opens, are_open as are_open_of, ends_in, has};
 
 use crate::end::End;
 use crate::graph::graph;
 use crate::handle::Handle;
 use crate::open_fault::OpenFault;
+use dr_graph::Graph;
 use dr_ring::{Halter, Receiver, RingFault, Sender, ring};
 use dr_seq::Size;
 use std::alloc::{AllocError, Global};
 
+/// The size and the graph that a ring is to have, or what refuses it before it is made.
+#[tactic(auto, using(crate::proofs::Opened::bad_size))]
+pub fn shape(alloc: Global, size: u64, masks: &[u64]) -> Result<(Size, Graph), OpenFault>
+    ensures size { IfOk result (λ made. (made.0 ≡ size) × IsSize size) }
+    ensures graph { IfOk result (λ made. (length made.1.upstreams ≡ length masks.now) × FollowsMasks made.1.upstreams masks.now) }
+    ensures fine { IfOk result (λ made. (length masks.now ≢ 0) × (length masks.now ≤ 16) × AreInOrder masks.now) }
+    ensures refused { (senders limit : ℕ) → IfErr result (λ fault. IsWhy false (length masks.now) senders size limit masks.now fault) }
+{
+    let size = match Size::new(size) {
+        Ok(size) => size,
+        Err(_) => return Err(OpenFault::BadSize),
+    };
+    match graph(alloc, masks) {
+        Ok(graph) => Ok((size, graph)),
+        Err(fault) => Err(fault),
+    }
+}
+
 // The ends of a ring, or what refuses it.
-#[tactic(auto, using(crate::proofs::Opened::bad_size, crate::proofs::Opened::no_memory, crate::proofs::Opened::bad_limit, crate::proofs::Opened::all_fine))]
+#[tactic(auto, using(crate::proofs::Opened::no_memory, crate::proofs::Opened::bad_limit, crate::proofs::Opened::all_fine))]
 fn ends(
     alloc: Global,
     size: u64,
@@ -26,12 +45,8 @@ fn ends(
     ensures fine { IfOk result (λ made. IsFine false (length masks.now) 1 size limit masks.now) }
     ensures refused { IfErr result (λ fault. IsWhy false (length masks.now) 1 size limit masks.now fault) }
 {
-    let size = match Size::new(size) {
-        Ok(size) => size,
-        Err(_) => return Err(OpenFault::BadSize),
-    };
-    let graph = match graph(alloc, masks) {
-        Ok(graph) => graph,
+    let (size, graph) = match shape(alloc, size, masks) {
+        Ok(made) => made,
         Err(fault) => return Err(fault),
     };
     match ring(alloc, &graph, size, limit) {
@@ -64,25 +79,14 @@ fn is_one_open(sender: &Handle, receivers: &[Handle], halter: &Handle) -> bool
     sender.is_open() || are_open(receivers) || halter.is_open()
 }
 
-// The ends of receivers, if there are so many.
-fn receivers_as_ends(
-    alloc: Global,
-    receivers: Vec<Receiver>,
-    count: usize,
-) -> Result<Vec<End>, OpenFault>
-    ensures { IfOk result (λ ends. (ends.items ≡ map IsReceiver receivers.items) × (length ends.items ≡ count)) }
+/// The ends that were collected, if there are so many.
+pub fn as_many(ends: Result<Vec<End>, AllocError>, count: usize) -> Result<Vec<End>, OpenFault>
+    ensures { IfOk result (λ made. (ends ≡ Ok made) × (length made.items ≡ count)) }
 {
-    let ends: Result<Vec<End>, AllocError> = receivers
-        .into_iter()
-        .map(End::Receiver)
-        .collect(alloc);
-    let Ok(ends) = ends else {
-        return Err(OpenFault::NoMemory);
-    };
-    if ends.len() != count {
-        return Err(OpenFault::NoMemory);
+    match ends {
+        Ok(ends) if ends.len() == count => Ok(ends),
+        _ => Err(OpenFault::NoMemory),
     }
-    Ok(ends)
 }
 
 /// Each end comes into the handle of its number.
@@ -134,7 +138,8 @@ pub fn open(
     let (Ok(s), Ok(h)) = (boxed(alloc, End::Sender(s)), boxed(alloc, End::Halter(h))) else {
         return Err(OpenFault::NoMemory);
     };
-    let Ok(rs) = receivers_as_ends(alloc, rs, receivers.len()) else {
+    let rs = rs.into_iter().map(End::Receiver).collect(alloc);
+    let Ok(rs) = as_many(rs, receivers.len()) else {
         return Err(OpenFault::NoMemory);
     };
     match fill(alloc, receivers, rs) {

@@ -7,16 +7,14 @@ ghost use Rattle.dr_c.specs.OpeningSeveral.{AreOpened, Opens, are_all_open};
 ghost use Rattle.dr_c.specs.declared.end.End.TheVariants.{SenderOfSeveral, ReceiverOfSeveral};
 
 use crate::end::End;
-use crate::graph::graph;
 use crate::handle::Handle;
 use crate::open_fault::OpenFault;
-use crate::opening::{are_open, boxed, fill, free_all};
+use crate::opening::{are_open, as_many, boxed, fill, free_all, shape};
 use dr_senders::{Halter, Receiver, Sender, senders_ring};
-use dr_seq::Size;
-use std::alloc::{AllocError, Global};
+use std::alloc::Global;
 
 // The ends of a ring, or what refuses it.
-#[tactic(auto, using(crate::proofs::Opened::bad_size, crate::proofs::Opened::no_memory, crate::proofs::Opened::bad_producers, crate::proofs::Opened::bad_limit, crate::proofs::Opened::all_fine))]
+#[tactic(auto, using(crate::proofs::Opened::no_memory, crate::proofs::Opened::bad_producers, crate::proofs::Opened::bad_limit, crate::proofs::Opened::all_fine))]
 fn ends(
     alloc: Global,
     size: u64,
@@ -28,12 +26,8 @@ fn ends(
     ensures fine { IfOk result (λ made. IsFine false (length masks.now) senders size limit masks.now) }
     ensures refused { IfErr result (λ fault. IsWhy false (length masks.now) senders size limit masks.now fault) }
 {
-    let size = match Size::new(size) {
-        Ok(size) => size,
-        Err(_) => return Err(OpenFault::BadSize),
-    };
-    let graph = match graph(alloc, masks) {
-        Ok(graph) => graph,
+    let (size, graph) = match shape(alloc, size, masks) {
+        Ok(made) => made,
         Err(fault) => return Err(fault),
     };
     match senders_ring(alloc, &graph, size, limit, senders) {
@@ -42,43 +36,6 @@ fn ends(
         Err(dr_meaning::OpenFault::BadLimit) => Err(OpenFault::BadLimit),
         Err(dr_meaning::OpenFault::NoMemory) => Err(OpenFault::NoMemory),
     }
-}
-
-// The ends of senders and receivers, if there are so many.
-fn senders_as_ends(alloc: Global, senders: Vec<Sender>, count: usize) -> Result<Vec<End>, OpenFault>
-    ensures { IfOk result (λ ends. (ends.items ≡ map SenderOfSeveral senders.items) × (length ends.items ≡ count)) }
-{
-    let ends: Result<Vec<End>, AllocError> = senders
-        .into_iter()
-        .map(End::SenderOfSeveral)
-        .collect(alloc);
-    let Ok(ends) = ends else {
-        return Err(OpenFault::NoMemory);
-    };
-    if ends.len() != count {
-        return Err(OpenFault::NoMemory);
-    }
-    Ok(ends)
-}
-
-fn receivers_as_ends(
-    alloc: Global,
-    receivers: Vec<Receiver>,
-    count: usize,
-) -> Result<Vec<End>, OpenFault>
-    ensures { IfOk result (λ ends. (ends.items ≡ map ReceiverOfSeveral receivers.items) × (length ends.items ≡ count)) }
-{
-    let ends: Result<Vec<End>, AllocError> = receivers
-        .into_iter()
-        .map(End::ReceiverOfSeveral)
-        .collect(alloc);
-    let Ok(ends) = ends else {
-        return Err(OpenFault::NoMemory);
-    };
-    if ends.len() != count {
-        return Err(OpenFault::NoMemory);
-    }
-    Ok(ends)
 }
 
 fn is_one_open(senders: &[Handle], receivers: &[Handle], halter: &Handle) -> bool
@@ -96,8 +53,10 @@ fn fill_both(
 ) -> Result<(), OpenFault>
     ensures { OnOk result ((ends_in senders.new ≡ map has (map SenderOfSeveral ss.items)) × (ends_in receivers.new ≡ map has (map ReceiverOfSeveral rs.items))) }
 {
-    let ss = senders_as_ends(alloc, ss, senders.len())?;
-    let rs = receivers_as_ends(alloc, rs, receivers.len())?;
+    let ss = ss.into_iter().map(End::SenderOfSeveral).collect(alloc);
+    let rs = rs.into_iter().map(End::ReceiverOfSeveral).collect(alloc);
+    let ss = as_many(ss, senders.len())?;
+    let rs = as_many(rs, receivers.len())?;
     fill(alloc, senders, ss)?;
     fill(alloc, receivers, rs)
 }

@@ -1,5 +1,4 @@
-use Rattle.std.proofs.Common.{refl}
 use Rattle.dr_c.proofs.opening.ends.Goals as goal
 
-pub returns-in-Err-graph-clause-refused : goal.returns-in-Err-graph-clause-refused
-returns-in-Err-graph-clause-refused c = c.in-Err-graph.ensures.refused 1 c.args.size c.args.limit (c.in-Ok.ensures.accepted refl)
+pub returns-in-Err-clause-refused : goal.returns-in-Err-clause-refused
+returns-in-Err-clause-refused c = c.in-Err.ensures.refused 1 c.args.limit
