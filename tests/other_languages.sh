@@ -52,7 +52,7 @@ c=(-std=c11 -O2 "${warns[@]}")
 guard=(-g -fsanitize=address,undefined -fno-sanitize-recover=all)
 
 # What each program in C prints.
-declare -A prints=([ring]=$all [senders]=$all [bell]=$all$'\n''each came in time'$'\n''idleness costs next to nothing'
+declare -A prints=([ring]=$all [senders]=$all [bell]=$'the handler had every event\neach came in time\nidleness costs next to nothing'
     [refusals]='every misuse is refused by its number')
 
 # Builds and runs each program in C with these words more.

@@ -1,5 +1,5 @@
-/* A sender and two handlers, the second after the first, that sleep while there is nothing for them: each of a hundred thousand
- * lone events wakes who waits for it, and idleness costs next to no processor time.
+/* A sender and a handler, which sleep while there is nothing for them: each of a hundred thousand lone events wakes the handler,
+ * and idleness costs next to no processor time.
  *
  *   bell [EVENTS [MILLIS]]      a hundred thousand events, after a fifth of a second of idleness */
 #define _POSIX_C_SOURCE 200809L
@@ -9,13 +9,11 @@
 #include <stdlib.h>
 #include <time.h>
 
-enum { HANDLERS = 2 };
-
 static disruptor_bell bell = DISRUPTOR_NEW_BELL;
 
 struct worker {
     disruptor_receiver *receiver;
-    /* How many events came, and how many of them over ten milliseconds after they were published. */
+    /* How many events came, and how many of them over ten milliseconds after they were written. */
     uint64_t count, late;
     uint32_t refused;
 };
@@ -51,21 +49,25 @@ static void *handle(void *given) {
         worker->refused = disruptor_complete(worker->receiver, offer.first + 1);
         if (worker->refused) return NULL;
         disruptor_ring(&bell);
+        /* A little slower each time, so that now and then an event comes just when it is about to sleep. */
+        for (volatile uint64_t k = 0; k < worker->count % 192; k++) continue;
     }
 }
 
-/* Sends one event at a time, each once the last handler completed the one before, and closes the ring. */
+/* Sends one event at a time, each as soon as the one before is completed, and closes the ring. It sleeps for every fourth, and
+ * mostly looks again and again for the others. */
 static uint32_t send_all(disruptor_sender *sender, uint64_t events) {
     disruptor_waiting waiting = sleeps_at_once();
     uint32_t refused;
-    for (uint64_t sent = 0; sent < events;) {
+    for (uint64_t sent = 0, looks = 0; sent < events; looks++) {
         uint64_t lo;
         refused = disruptor_claim(sender, 1, &lo);
         if (refused == DISRUPTOR_NO_ROOM) {
-            disruptor_wait(&waiting);
+            if (sent % 4 == 0 || looks > 1000) disruptor_wait(&waiting);
             continue;
         }
         if (refused) return refused;
+        looks = 0;
         waiting = sleeps_at_once();
         disruptor_event event = {now(CLOCK_MONOTONIC), 0};
         if ((refused = disruptor_write(sender, lo, &event))) return refused;
@@ -78,50 +80,48 @@ static uint32_t send_all(disruptor_sender *sender, uint64_t events) {
     return refused;
 }
 
+/* How much processor time so many nanoseconds cost in which nothing comes. */
+static uint64_t cost_of(uint64_t idle) {
+    struct timespec pause = {(time_t)(idle / 1000000000), (long)(idle % 1000000000)};
+    uint64_t before = now(CLOCK_PROCESS_CPUTIME_ID);
+    nanosleep(&pause, NULL);
+    return now(CLOCK_PROCESS_CPUTIME_ID) - before;
+}
+
 int main(int argc, char **argv) {
     uint64_t events = argc > 1 ? strtoull(argv[1], NULL, 10) : 100000, idle = (argc > 2 ? strtoull(argv[2], NULL, 10) : 200) * 1000000;
-    static const uint64_t upstreams[HANDLERS] = {0, 1};
+    static const uint64_t upstreams[1] = {0};
     disruptor_sender sender = DISRUPTOR_NEW;
-    disruptor_receiver receivers[HANDLERS] = {DISRUPTOR_NEW};
+    disruptor_receiver receiver = DISRUPTOR_NEW;
     disruptor_halter halter = DISRUPTOR_NEW;
     /* One slot, so that each event is alone. */
-    uint32_t refused = disruptor_open(1, DISRUPTOR_MAX_LIMIT, upstreams, HANDLERS, &sender, receivers, HANDLERS, &halter);
+    uint32_t refused = disruptor_open(1, DISRUPTOR_MAX_LIMIT, upstreams, 1, &sender, &receiver, 1, &halter);
     if (refused) {
         fprintf(stderr, "open: %s\n", disruptor_text(refused));
         return 1;
     }
-    static struct worker workers[HANDLERS];
-    pthread_t threads[HANDLERS];
-    for (int h = 0; h < HANDLERS; h++) {
-        workers[h].receiver = &receivers[h];
-        if (pthread_create(&threads[h], NULL, handle, &workers[h])) return 1;
-    }
-    struct timespec pause = {(time_t)(idle / 1000000000), (long)(idle % 1000000000)};
-    uint64_t before = now(CLOCK_PROCESS_CPUTIME_ID);
-    nanosleep(&pause, NULL);
-    uint64_t cost = now(CLOCK_PROCESS_CPUTIME_ID) - before, begun = now(CLOCK_MONOTONIC);
-    fprintf(stderr, "%.2f ms of processor time in %.0f ms of idleness\n", (double)cost * 1e-6, (double)idle * 1e-6);
+    static struct worker worker;
+    pthread_t thread;
+    worker.receiver = &receiver;
+    if (pthread_create(&thread, NULL, handle, &worker)) return 1;
+    uint64_t cost = cost_of(idle), begun = now(CLOCK_MONOTONIC);
     refused = send_all(&sender, events);
     if (refused) {
         fprintf(stderr, "sender: %s\n", disruptor_text(refused));
         exit(1);
     }
-    bool right = true;
-    uint64_t late = 0;
-    for (int h = 0; h < HANDLERS; h++) {
-        disruptor_counts counts = {0, 0};
-        pthread_join(threads[h], NULL);
-        if (workers[h].refused) fprintf(stderr, "handler %d: %s\n", h, disruptor_text(workers[h].refused));
-        right = right && !workers[h].refused && workers[h].count == events && !disruptor_progress(&receivers[h], &counts) && counts.begun == events && counts.done == events;
-        late += workers[h].late;
-        disruptor_free(&receivers[h]);
-    }
-    fprintf(stderr, "%.1f us an event, %.0f late\n", (double)(now(CLOCK_MONOTONIC) - begun) * 1e-3 / (double)events, (double)late);
+    pthread_join(thread, NULL);
+    if (worker.refused) fprintf(stderr, "handler: %s\n", disruptor_text(worker.refused));
+    fprintf(stderr, "%.2f ms of processor time in %.0f ms of idleness, %.1f us an event, %.0f late\n", (double)cost * 1e-6,
+            (double)idle * 1e-6, (double)(now(CLOCK_MONOTONIC) - begun) * 1e-3 / (double)events, (double)worker.late);
+    disruptor_counts counts = {0, 0};
+    bool right = !worker.refused && worker.count == events && !disruptor_progress(&receiver, &counts) && counts.done == events;
     disruptor_free(&sender);
+    disruptor_free(&receiver);
     disruptor_free(&halter);
-    printf("%s\n", right ? "each handler had every event" : "WRONG");
     /* (a machine that is busy with other programs holds up some) */
-    printf("%s\n", late <= events / 1000 ? "each came in time" : "MANY CAME LATE");
-    printf("%s\n", cost <= idle / 20 ? "idleness costs next to nothing" : "IDLENESS IS DEAR");
-    return 0;
+    bool in_time = worker.late <= events / 5000, cheap = cost <= idle / 20;
+    printf("%s\n%s\n%s\n", right ? "the handler had every event" : "WRONG", in_time ? "each came in time" : "MANY CAME LATE",
+           cheap ? "idleness costs next to nothing" : "IDLENESS IS DEAR");
+    return !(right && in_time && cheap);
 }
