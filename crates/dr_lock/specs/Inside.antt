@@ -3,3 +3,4 @@ pub mod Sequences
 pub mod Weights
 pub mod Auditing
 pub mod Locked
+pub mod Past

@@ -1,23 +1,25 @@
 //! One thread's end of a history behind a lock, and what a call through it does to what lies there.
 //!
-//! Nothing outside this file changes an end but by a call: so whatever calls through an end records
-//! just what the end remembers.
+//! Nothing outside this file changes an end, or what lies under the lock, but by a call: so what calls
+//! through an end recorded is just what the end remembers.
 
 ghost use Rattle.std.specs.Prelude.{◌≡◌, ◌+◌, ◌^◌, ◌<◌, ◌≤◌, [], IfOk, OnErr, ◌*◌, drop, length, take};
 ghost use Rattle.std.specs.Result.{result_ok};
 ghost use Rattle.dr_meaning.specs.Meaning.Runs.{count_in};
 ghost use Rattle.dr_lock.specs.Meaning.History.{GoesOn, asked, halts_of};
 ghost use Rattle.dr_meaning.specs.Calls.Replies.{unit_reply};
-ghost use Rattle.dr_lock.specs.Calls.Lock.{AfterWrites, AreWritten, IsAnswer, UnlessMemory, after_call, counted, no_calls, told_by};
+ghost use Rattle.dr_lock.specs.Calls.Lock.{AreWritten, IsAnswer, UnlessMemory, after_call, after_calls, counted, no_calls, remembered, told_by, writes_asked};
 ghost use Rattle.dr_lock.specs.Inside.Locked.{AreWrites, IsCall, IsLacking, IsWrite};
 ghost use Rattle.dr_lock.specs.Inside.Weights.{most_calls, weight, weight_since};
 
+use crate::call::{Call, Past};
 use crate::entry::is_kept;
 use crate::exchange::Exchange;
 use crate::recorded::Recorded;
 use dr_meaning::{Command, Reply, Trouble, Wrote};
 use std::alloc::AllocError;
 use std::marker::Model;
+use std::mem;
 use std::snapshot::Snapshot;
 use std::sync::ledger::{Book, Ledger, Share};
 
@@ -28,8 +30,8 @@ const MOST_CALLS: u64 = 1 << 57;
 /// and as many halts among them, as the ledger says.
 #[derive(Drop)]
 pub(crate) struct Locked<E, L: Exchange<E>> {
-    pub(crate) recorded: Recorded<E>,
-    pub(crate) calls: Book<L>,
+    recorded: Recorded<E>,
+    calls: Book<L>,
     ghost goes_on: { GoesOn L.begun recorded.history },
     ghost counted: { calls.total ≡ weight_since L.begun recorded.history },
     ghost fits: { length recorded.history.entries < 2 ^ 64 },
@@ -37,25 +39,25 @@ pub(crate) struct Locked<E, L: Exchange<E>> {
 
 /// One thread's end of a shared history; the ledger ties it to that history alone. Contracts see how
 /// many of its calls were kept, and how many of these were halts. In the ledger a halt weighs more
-/// than all other calls could. They also see its last call, kept or not, with the answer: once the
-/// lock is open again no clause can speak of the shared history, but the end keeps what it asked.
+/// than all other calls could. They also see all its calls, kept or not, with the answers: once the
+/// lock is open again no clause can speak of the shared history, but the end remembers what it asked.
 #[derive(Drop)]
 pub struct End<E, L: Ledger> {
     share: Share<L>,
     calls: u64,
     halts: u64,
-    asked: Snapshot<Option<Command<E>>>,
-    answered: Snapshot<Option<Reply>>,
+    past: Snapshot<Past<E>>,
 }
 
 impl<E, L: Ledger> Model for End<E, L> {
     ghost use Rattle.std.specs.Prelude.{◌≡◌, ◌≤◌};
     ghost use Rattle.dr_lock.specs.Calls.Lock.{EndView};
+    ghost use Rattle.dr_lock.specs.Inside.Past.{calls_of};
     ghost use Rattle.dr_lock.specs.Inside.Weights.{most_calls, weight};
 
     ghost Value = { EndView E };
 
-    ghost view = { λ a. record { calls = a.calls; halts = a.halts; asked = a.asked.value; answered = a.answered.value } };
+    ghost view = { λ a. record { calls = a.calls; halts = a.halts; asked = calls_of a.past.value } };
 
     ghost invariant = { λ a. (a.share.parts ≡ 1) × (a.share.amount ≡ weight a.calls a.halts) × (a.halts ≤ a.calls) × (a.calls ≤ most_calls) };
 }
@@ -71,8 +73,7 @@ impl<E, L: Ledger> End<E, L> {
             share,
             calls: 0,
             halts: 0,
-            asked: Snapshot::of(&None),
-            answered: Snapshot::of(&None),
+            past: Snapshot::of(&Past::Unused),
         }
     }
 
@@ -123,23 +124,43 @@ impl<E: Copy, L: Ledger> End<E, L> {
         }
     }
 
-    /// Remembers the last call, and what was answered to it.
+    /// Remembers a call, and what was answered to it.
     fn remember(&mut self, command: Command<E>, reply: Option<Reply>)
-        ensures { self.new ≡ record self.old { asked = Some command; answered = reply } }
+        ensures { self.new ≡ remembered command reply self.old }
     {
-        let End {
-            asked,
-            answered,
-            ..
-        } = self;
-        *asked = Snapshot::of(&Some(command));
-        *answered = Snapshot::of(&reply);
+        let End { past, .. } = self;
+        let before = mem::replace(past, Snapshot::of(&Past::Unused));
+        *past = Snapshot::of(&Past::After(before, Call { command, reply }));
+    }
+}
+
+impl<E, L: Exchange<E>> Locked<E, L> {
+    /// What a lock begins with: the history that its ledger names, and nothing counted.
+    pub(crate) fn new(recorded: Recorded<E>, calls: Book<L>) -> Locked<E, L>
+        requires begun { recorded.history ≡ L.begun }
+        requires fits { length recorded.history.entries < 2 ^ 64 }
+        requires uncounted { calls.total ≡ 0 }
+        ensures recorded { result.recorded ≡ recorded }
+        ensures calls { result.calls ≡ calls }
+    {
+        Locked { recorded, calls }
+    }
+
+    /// The history, and how much its calls weigh.
+    pub(crate) fn into_parts(self) -> (Recorded<E>, Book<L>)
+        ensures recorded { result.0 ≡ self.recorded }
+        ensures goes_on { GoesOn L.begun result.0.history }
+        ensures counted { result.1.total ≡ weight_since L.begun result.0.history }
+        ensures fits { length result.0.history.entries < 2 ^ 64 }
+    {
+        let Locked { recorded, calls } = self;
+        (recorded, calls)
     }
 }
 
 impl<E: Copy, L: Exchange<E>> Locked<E, L> {
-    /// The history's call, which the end counts where it is kept. Here the history is at hand, so its
-    /// clauses are exact of it.
+    /// The history's call, which the end remembers, and counts where it is kept. Here the history is at
+    /// hand, so its clauses are exact of it.
     pub(crate) fn call(
         &mut self,
         end: &mut End<E, L>,
@@ -194,7 +215,7 @@ impl<E: Copy, L: Exchange<E>> Locked<E, L> {
         ensures answer { AreWritten L.begun p lo events.now result }
         ensures calls { AreWrites end.old.calls self.old.recorded p lo events.now self.new.recorded result }
         ensures counts { (end.new.calls ≡ end.old.calls + result.count) × (end.new.halts ≡ end.old.halts) }
-        ensures end { AfterWrites end.old p lo events.now result end.new }
+        ensures end { end.new ≡ after_calls (writes_asked p lo events.now result) end.old }
     {
         for (k, event) in events.iter().enumerate() {
             match self.write(end, p, lo + k as u64, *event) {

@@ -11,6 +11,7 @@
 
 pub mod audit_fault;
 pub mod auditing;
+pub mod call;
 pub mod end;
 pub mod entry;
 pub mod exchange;
@@ -22,6 +23,7 @@ pub mod shared;
 
 pub use audit_fault::AuditFault;
 pub use auditing::audit;
+pub use call::Call;
 pub use end::End;
 pub use entry::Entry;
 pub use exchange::Exchange;

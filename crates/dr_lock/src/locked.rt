@@ -5,7 +5,7 @@ ghost use Rattle.dr_meaning.specs.Calls.Calling.{WritesBy};
 ghost use Rattle.dr_meaning.specs.Calls.Ends.{ClaimAnswers, WriteAnswers, WriteAllAnswers, PublishAnswers, PollAnswers, CompleteAnswers, is_drained};
 ghost use Rattle.dr_meaning.specs.Calls.Replies.{claim_reply, unit_reply, poll_reply, polled};
 ghost use Rattle.dr_lock.specs.Calls.Asking.{InletAsks, IsAsked, OutletAsks};
-ghost use Rattle.dr_lock.specs.Calls.Lock.{AfterWrites, AreWritten};
+ghost use Rattle.dr_lock.specs.Calls.Lock.{AreWritten, after_calls, writes_asked};
 
 use crate::end::End;
 use crate::exchange::Exchange;
@@ -14,8 +14,8 @@ use dr_meaning::{Claimed, Command, Inlet, Outlet, Polled, Reply, Trouble, Wrote}
 use std::sync::Wait;
 
 /// A producer's end of a history behind a lock. It shows nothing of what it sent, which stands in
-/// the history: only its end, which counts each accepted call, and remembers the last call with its
-/// answer. Each call may wait for the lock.
+/// the history: only its end, which counts each accepted call, and remembers all calls with their
+/// answers. Each call may wait for the lock.
 #[derive(Drop)]
 pub struct LockedInlet<'a, E, L: Exchange<E>, R> {
     rt: &'a R,
@@ -97,7 +97,7 @@ impl<E: Copy, L: Exchange<E>, R: Wait> Inlet<E> for LockedInlet<'_, E, L, R> {
         ensures answer { WriteAllAnswers {E = E} None lo (length events.now) result }
         ensures machine { AreWritten L.begun self.old.p lo events.now result }
         ensures counted { (self.new.end.calls ≡ self.old.end.calls + result.count) × (self.new.end.halts ≡ self.old.end.halts) }
-        ensures end { AfterWrites self.old.end self.old.p lo events.now result self.new.end }
+        ensures end { self.new.end ≡ after_calls (writes_asked self.old.p lo events.now result) self.old.end }
         ensures called { WritesBy self.old self.new (λ old call new. (new.p ≡ old.p) × InletAsks L.begun old.p old.end call new.end) lo events.now result }
     {
         self.shared
@@ -122,7 +122,7 @@ impl<E: Copy, L: Exchange<E>, R: Wait> Inlet<E> for LockedInlet<'_, E, L, R> {
 
 /// A handler's end of a history behind a lock. Of what it received, which stands in the history, it
 /// shows only whether it was told that the exchange drained, and its end, which counts each kept call
-/// and remembers the last call with its answer. Each call may wait for the lock.
+/// and remembers all calls with their answers. Each call may wait for the lock.
 #[derive(Drop)]
 pub struct LockedOutlet<'a, E, L: Exchange<E>, R> {
     rt: &'a R,

@@ -4,7 +4,7 @@ ghost use Rattle.std.specs.Result.{result_ok};
 ghost use Rattle.std.specs.Prelude.{◌≡◌, ◌↔◌, ◌+◌, ◌^◌, ◌<◌, ◌≤◌, IfOk, IfErr, OnErr, IsErr, MatchOption, ◌*◌, drop, length, sum_by, take, vec_len};
 ghost use Rattle.dr_meaning.specs.Meaning.Runs.{count_in};
 ghost use Rattle.dr_lock.specs.Meaning.History.{GoesOn, asked, entries_since, halts_in};
-ghost use Rattle.dr_lock.specs.Calls.Lock.{AfterWrites, AreWritten, IsAnswer, after_call, no_calls};
+ghost use Rattle.dr_lock.specs.Calls.Lock.{AreWritten, IsAnswer, after_call, after_calls, no_calls, writes_asked};
 ghost use Rattle.dr_lock.specs.Inside.Weights.{most_calls, weight};
 
 use crate::end::{End, Locked};
@@ -79,7 +79,7 @@ impl<E: Copy, L: Exchange<E>> Shared<E, L> {
         let begun = recorded.history().len();
         let (calls, share) = blank.open::<L>();
         Shared {
-            locked: Mutex::new(Locked { recorded, calls }),
+            locked: Mutex::new(Locked::new(recorded, calls)),
             rest: Rest { share },
             whole: Whole { of: PhantomData },
             begun,
@@ -115,9 +115,9 @@ impl<E: Copy, L: Exchange<E>> Shared<E, L> {
 
     /// One call of the history, while the lock is held: it may wait for the lock. What it answers is
     /// what the machine answers after some history that goes on from the one that the lock began with,
-    /// and the end counts it where it is kept, and remembers it. For a poll `out` holds as many events as it asks for; a
-    /// batch stands at its front. Where an allocation fails the call may be made again. An end that
-    /// counted 2^57 calls answers all others as if one failed.
+    /// and the end remembers it with its answer, and counts it where it is kept. For a poll `out` holds
+    /// as many events as it asks for; a batch stands at its front. Where an allocation fails the call may
+    /// be made again. An end that counted 2^57 calls answers all others as if one failed.
     pub fn call(
         &self,
         rt: &impl Wait,
@@ -135,7 +135,8 @@ impl<E: Copy, L: Exchange<E>> Shared<E, L> {
     }
 
     /// Writes of a producer, one after another while the lock is held once: events go to the
-    /// sequences from `lo` on, until one is not written. Each is answered and counted as by `call`.
+    /// sequences from `lo` on, until one is not written. Each is answered, remembered and counted as by
+    /// `call`: where memory runs out, the last one remembered is the write that lacked it.
     pub fn write_all(
         &self,
         rt: &impl Wait,
@@ -147,7 +148,7 @@ impl<E: Copy, L: Exchange<E>> Shared<E, L> {
         requires limit { lo + length events.now ≤ 2 ^ 62 }
         ensures answer { AreWritten L.begun p lo events.now result }
         ensures counts { (end.new.calls ≡ end.old.calls + result.count) × (end.new.halts ≡ end.old.halts) }
-        ensures end { AfterWrites end.old p lo events.now result end.new }
+        ensures end { end.new ≡ after_calls (writes_asked p lo events.now result) end.old }
     {
         self.locked.lock(rt).write_all(end, p, lo, events)
     }
@@ -181,10 +182,7 @@ pub fn finish<E, L: Exchange<E>>(
     while let Some(end) = ends.pop() {
         all.merge(end.into_share());
     }
-    let Locked {
-        recorded,
-        mut calls,
-    } = locked.into_inner();
+    let (recorded, mut calls) = locked.into_inner().into_parts();
     calls.audit(&mut all);
     Ok(recorded)
 }

@@ -8,7 +8,7 @@ use Rattle.dr_meaning.specs.declared.ends.Trouble.{Trouble}
 use Rattle.dr_meaning.specs.declared.refusal.Refusal.{Refusal}
 use Rattle.dr_meaning.specs.Calls.Calling.{InletCall, OutletCall, TriesClaim, WritesOne, WritesMany, PublishesStretch, PollsInto, CompletesBelow}
 use Rattle.dr_meaning.specs.Calls.Replies.{claim_reply, poll_reply, polled, unit_reply}
-use Rattle.dr_lock.specs.Calls.Lock.{AfterWrites, AreWritten, EndView, IsAnswer, UnlessMemory, after_call, told_by}
+use Rattle.dr_lock.specs.Calls.Lock.{AreWritten, EndView, IsAnswer, UnlessMemory, after_call, after_calls, told_by, writes_asked}
 use Rattle.dr_lock.specs.Meaning.History.{History}
 
 -- a command is asked through an end of an exchange that began so
@@ -20,7 +20,7 @@ IsAsked begun command reply_of values_of old result new =
 abbrev pub InletAsks : {E : Type 0} → History E → ℕ → EndView E → InletCall E → EndView E → Type 0
 InletAsks begun p old (TriesClaim n result) new = IsAsked begun (Claim p n) claim_reply (λ answer. []) old result new
 InletAsks begun p old (WritesOne s event result) new = IsAsked begun (Write p s event) (unit_reply Written) (λ answer. []) old result new
-InletAsks begun p old (WritesMany lo events wrote) new = AreWritten begun p lo events wrote × AfterWrites old p lo events wrote new
+InletAsks begun p old (WritesMany lo events wrote) new = AreWritten begun p lo events wrote × (new ≡ after_calls (writes_asked p lo events wrote) old)
 InletAsks begun p old (PublishesStretch lo hi result) new = IsAsked begun (Publish p lo hi) (unit_reply Published) (λ answer. []) old result new
 
 -- of the handler h

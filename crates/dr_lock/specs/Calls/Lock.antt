@@ -1,15 +1,16 @@
 -- A history behind a lock.
-use Rattle.std.specs.Prelude.{◌≡◌, ℕ, ◌+◌, ◌<◌, if◌then◌else◌, Option, None, Some, Result, Ok, Err, List, [], length, slice_get}
+use Rattle.std.specs.Prelude.{◌≡◌, ℕ, ◌+◌, ◌<◌, if◌then◌else◌, Option, None, Some, Result, Ok, Err, List, [], ◌∷◌, ◌++◌, drop, length, replicate, slice_get, take}
 use Rattle.dr_meaning.specs.declared.command.Command.{Command}
 use Rattle.dr_meaning.specs.declared.command.Command.TheVariants.{Halt, Write}
 use Rattle.dr_meaning.specs.declared.command.Reply.{Reply}
-use Rattle.dr_meaning.specs.declared.command.Reply.TheVariants.{Written}
+use Rattle.dr_meaning.specs.declared.command.Reply.TheVariants.{Halting, Written}
 use Rattle.dr_meaning.specs.declared.refusal.Refusal.{Refusal}
 use Rattle.dr_meaning.specs.declared.ends.Trouble.{Trouble}
 use Rattle.dr_meaning.specs.declared.ends.Trouble.TheVariants.{Refused, Memory}
 use Rattle.dr_meaning.specs.declared.ends.Wrote.{Wrote}
 use Rattle.dr_meaning.specs.Calls.Replies.{unit_reply}
 use Rattle.dr_meaning.specs.Meaning.Machine.{step}
+use Rattle.dr_lock.specs.declared.call.Call.{Call}
 use Rattle.dr_lock.specs.Meaning.History.{GoesOn, History, IsRecorded, is_kept}
 
 -- what contracts see of a history behind a lock
@@ -21,26 +22,38 @@ pub record SharedView : Type 0 where
 pub record EndView (E : Type 0) : Type 0 where
   pub calls : ℕ  -- how many of its calls were kept
   pub halts : ℕ  -- how many of these were halts
-  pub asked : Option (Command E)  -- the last of all its calls
-  pub answered : Option Reply  -- what was answered to it, unless memory ran out
+  pub asked : List (Call E)  -- all its calls, kept or not, in order
 
 -- an end that made no call
 abbrev pub no_calls : {E : Type 0} → EndView E
-no_calls = record { calls = 0; halts = 0; asked = None; answered = None }
-
--- an end with so many calls more, none of which is a halt
-abbrev pub with_calls : {E : Type 0} → ℕ → EndView E → EndView E
-with_calls n end = record end { calls = end.calls + n }
+no_calls = record { calls = 0; halts = 0; asked = [] }
 
 -- an end that counts one call more
 abbrev pub counted : {E : Type 0} → Command E → EndView E → EndView E
 counted Halt end = record end { calls = end.calls + 1; halts = end.halts + 1 }
-counted other end = with_calls 1 end
+counted other end = record end { calls = end.calls + 1 }
 
--- an end after one call more, which it counts where its reply is kept; no reply is there where memory ran out
+-- an end that remembers one call more
+abbrev pub remembered : {E : Type 0} → Command E → Option Reply → EndView E → EndView E
+remembered command reply end = record end { asked = end.asked ++ record { command = command; reply = reply } ∷ [] }
+
+-- an end after one call more: it remembers each, and counts it where its reply is kept; no reply is there where memory ran out
 abbrev pub after_call : {E : Type 0} → Command E → Option Reply → EndView E → EndView E
-after_call command None end = record end { asked = Some command; answered = None }
-after_call command (Some reply) end = record (if is_kept reply then counted command end else end) { asked = Some command; answered = Some reply }
+after_call command None end = remembered command None end
+after_call command (Some reply) end = remembered command (Some reply) (if is_kept reply then counted command end else end)
+
+-- an end after some calls more, one after another
+abbrev pub after_calls : {E : Type 0} → List (Call E) → EndView E → EndView E
+after_calls [] end = end
+after_calls (call ∷ calls) end = after_calls calls (after_call call.command call.reply end)
+
+-- a halt for which there is no memory
+abbrev pub lacking_halt : {E : Type 0} → Call E
+lacking_halt = record { command = Halt; reply = None }
+
+-- an end that halted an exchange, once there was memory for it
+abbrev pub HasHalted : {E : Type 0} → EndView E → EndView E → Type 0
+HasHalted old new = (lacked : ℕ) × (new ≡ after_call Halt (Some Halting) (after_calls (replicate lacked lacking_halt) old))
 
 -- the reply to a call, as an end's own answer tells it
 abbrev pub told_by : {A : Type 0} → (Result A Refusal → Reply) → Result A Trouble → Option Reply
@@ -80,18 +93,17 @@ pub record AreWritten {E : Type 0} (begun : History E) (p lo : ℕ) (events : Li
   pub written : (k : ℕ) (event : E) → k < wrote.count → IsAt events k event → IsWritten begun p (lo + k) event (Ok tt)
   pub hindered : IsHindered begun p lo events wrote.count wrote.trouble
 
--- the answer to the last of some writes
-abbrev pub last_answer : Option Trouble → Result (Unit {0}) Trouble
-last_answer None = Ok tt
-last_answer (Some trouble) = Err trouble
+-- a producer's writes of some events to the sequences from lo on, each answered `Written`
+abbrev pub writes_from : {E : Type 0} → ℕ → ℕ → List E → List (Call E)
+writes_from p lo [] = []
+writes_from p lo (event ∷ events) = record { command = Write p lo event; reply = Some Written } ∷ writes_from p (lo + 1) events
 
--- how many of some writes were tried
-abbrev pub tried : ℕ → Option Trouble → ℕ
-tried count None = count
-tried count (Some trouble) = count + 1
+-- the write of the first of some events, where it is in trouble
+abbrev pub write_in_trouble : {E : Type 0} → ℕ → ℕ → Option Trouble → List E → List (Call E)
+write_in_trouble p s None events = []
+write_in_trouble p s (Some trouble) [] = []
+write_in_trouble p s (Some trouble) (event ∷ events) = record { command = Write p s event; reply = told_by (unit_reply Written) (Err trouble) } ∷ []
 
--- an end after writes of the first of some events to the sequences from lo on, one after another up to the first in trouble
-pub record AfterWrites {E : Type 0} (old : EndView E) (p lo : ℕ) (events : List E) (wrote : Wrote) (new : EndView E) : Type 0 where
-  pub nothing : events ≡ [] → new ≡ old
-  pub last : (k : ℕ) (event : E) → IsAt events k event → k + 1 ≡ tried wrote.count wrote.trouble
-      → new ≡ after_call (Write p (lo + k) event) (told_by (unit_reply Written) (last_answer wrote.trouble)) (with_calls k old)
+-- a producer's writes of some events to the sequences from lo on, one after another up to the first in trouble
+abbrev pub writes_asked : {E : Type 0} → ℕ → ℕ → List E → Wrote → List (Call E)
+writes_asked p lo events wrote = writes_from p lo (take wrote.count events) ++ write_in_trouble p (lo + wrote.count) wrote.trouble (drop wrote.count events)

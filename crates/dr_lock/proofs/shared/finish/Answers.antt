@@ -16,8 +16,8 @@ returns-clause-halts g c =
     let calls = sum_by (λ end. end.calls) ends.items in
     let halts = sum_by (λ end. end.halts) ends.items in
     let now = c.loop-end.invariant in
-    let locked = c.into_inner-recorded.result in
-    let back = all_back c.loop-end.all.parts c.args.shared.given (vec_len ends) calls halts c.loop-end.all.amount locked.calls.total (record {
+    let locked = c.into_parts-recorded in
+    let back = all_back c.loop-end.all.parts c.args.shared.given (vec_len ends) calls halts c.loop-end.all.amount locked.result.1.total (record {
       all = (let parts = now.parts in omega arith);
       few = now.few;
       most = (let given = ap (λ v. v.given) seen in let most = shared.3 in omega arith);
@@ -26,7 +26,7 @@ returns-clause-halts g c =
       small = (let small = now.small in omega arith);
       whole = λ parts. c.audit.ensures.whole (parts ∙ sym c.shared.inside.whole.parts);
     }) in
-    let both = tells_both g.L.Exchange.begun locked.recorded.history calls halts locked.goes_on locked.fits back.0 (back.1 ∙ locked.counted) in
+    let both = tells_both g.L.Exchange.begun locked.result.0.history calls halts locked.ensures.goes_on locked.ensures.fits back.0 (back.1 ∙ locked.ensures.counted) in
     both.1
 
 pub returns-clause-entries : goal.returns-clause-entries
@@ -42,8 +42,8 @@ returns-clause-entries g c =
     let calls = sum_by (λ end. end.calls) ends.items in
     let halts = sum_by (λ end. end.halts) ends.items in
     let now = c.loop-end.invariant in
-    let locked = c.into_inner-recorded.result in
-    let back = all_back c.loop-end.all.parts c.args.shared.given (vec_len ends) calls halts c.loop-end.all.amount locked.calls.total (record {
+    let locked = c.into_parts-recorded in
+    let back = all_back c.loop-end.all.parts c.args.shared.given (vec_len ends) calls halts c.loop-end.all.amount locked.result.1.total (record {
       all = (let parts = now.parts in omega arith);
       few = now.few;
       most = (let given = ap (λ v. v.given) seen in let most = shared.3 in omega arith);
@@ -52,9 +52,9 @@ returns-clause-entries g c =
       small = (let small = now.small in omega arith);
       whole = λ parts. c.audit.ensures.whole (parts ∙ sym c.shared.inside.whole.parts);
     }) in
-    let both = tells_both g.L.Exchange.begun locked.recorded.history calls halts locked.goes_on locked.fits back.0 (back.1 ∙ locked.counted) in
+    let both = tells_both g.L.Exchange.begun locked.result.0.history calls halts locked.ensures.goes_on locked.ensures.fits back.0 (back.1 ∙ locked.ensures.counted) in
     let since = both.0 in
-    let long = length_since g.L.Exchange.begun locked.recorded.history locked.goes_on in
+    let long = length_since g.L.Exchange.begun locked.result.0.history locked.ensures.goes_on in
     let begun = ap (λ v. v.begun) seen in
     let at = shared.2 in
     omega arith

@@ -1,6 +1,6 @@
-use Rattle.std.proofs.Common.{◌+◌, ◌∙◌, ap, arith, length, refl, sym, Err, Ok}
+use Rattle.std.proofs.Common.{◌+◌, ◌∙◌, ap, arith, length, refl, sym}
 use Rattle.std.proofs.lemmas.Option.{slice_get_read}
-use Rattle.dr_lock.proofs.Asking.{write_tried}
+use Rattle.dr_lock.proofs.Asking.{write_more, write_stopped, writes_done}
 use Rattle.dr_lock.proofs.Locking.{all_done, calls_more, stopped, written_more}
 use Rattle.dr_lock.proofs.end.Locked.write_all.Goals as goal
 
@@ -15,8 +15,8 @@ loop-k-preserved g c =
     record {
       calls = (let calls = before.calls in omega arith);
       halts = halts ∙ before.halts;
-      first = λ none. absurd (omega arith);
-      last = write_tried c.args.end.now c.loop-k.end c.write.new.end c.args.p c.args.lo c.loop-k.k (c.args.lo + c.loop-k.k) c.args.events.now event (Ok tt) refl before.calls before.halts here c.in-Ok.ensures.end;
+      asked = write_more c.args.end.now c.loop-k.end c.write.new.end c.args.p c.args.lo c.loop-k.k (c.args.lo + c.loop-k.k) c.args.events.now event event less refl
+          (sym c.index-events-k.is) before.asked c.in-Ok.ensures.end;
       each = written_more g.L.Exchange.begun c.args.p c.args.lo c.loop-k.k c.args.events.now event here before.each c.in-Ok.ensures.answer;
       written = calls_more c.args.self.now.recorded c.loop-k.self.recorded c.write.new.self.recorded c.args.p c.args.lo c.loop-k.k (c.args.lo + c.loop-k.k) c.args.events.now event event less refl
           (sym c.index-events-k.is) before.written c.in-Ok.ensures.call;
@@ -32,15 +32,9 @@ returns-in-Err-clause-calls g c =
 
 pub returns-in-Err-clause-end : goal.returns-in-Err-clause-end
 returns-in-Err-clause-end g c =
-    let before = c.loop-k.invariant in
     let event = c.index-events-k.result in
-    let less = c.loop-k-test.true in
-    let here = slice_get_read c.args.events.now (length c.args.events.now) c.loop-k.k event refl less c.index-events-k.is in
-    record {
-      nothing = λ none. absurd (let long = ap length none in omega arith);
-      last = write_tried c.args.end.now c.loop-k.end c.write.new.end c.args.p c.args.lo c.loop-k.k (c.args.lo + c.loop-k.k) c.args.events.now event (Err c.in-Err.trouble) refl before.calls before.halts here
-          c.in-Err.ensures.end;
-    }
+    write_stopped c.args.end.now c.loop-k.end c.write.new.end c.args.p c.args.lo c.loop-k.k (c.args.lo + c.loop-k.k) c.args.events.now event event c.in-Err.trouble c.loop-k-test.true refl
+    (sym c.index-events-k.is) c.loop-k.invariant.asked c.in-Err.ensures.end
 
 pub returns-clause-calls : goal.returns-clause-calls
 returns-clause-calls g c =
@@ -48,10 +42,4 @@ returns-clause-calls g c =
 
 pub returns-clause-end : goal.returns-clause-end
 returns-clause-end g c =
-    let before = c.loop-k.invariant in
-    let over = c.loop-k-test.false in
-    let end = c.loop-k.auto.k-end in
-    record {
-      nothing = λ none. before.first (let long = ap length none in omega arith);
-      last = λ j event at next. before.last j event at (omega arith);
-    }
+    writes_done c.args.end.now c.loop-k.end c.args.p c.args.lo c.loop-k.k c.args.events.now c.loop-k-test.false c.loop-k.invariant.asked
