@@ -9,7 +9,7 @@ use Rattle.dr_replay.specs.declared.given_back.Delivered.{Delivered}
 use Rattle.dr_replay.specs.declared.lock_workers.Joined.{Joined}
 use Rattle.dr_replay.specs.Calls.LockWorkers.{HasHandled, HasSent}
 use Rattle.dr_replay.specs.Inside.LockWorkers.{IsJoined, ends_of}
-use Rattle.dr_replay.specs.Meaning.Exchange.{CameTo, GoesOnBy, IsHandlers, IsOfReplay, IsProducers, halted_once, setup_for}
+use Rattle.dr_replay.specs.Meaning.Exchange.{CameTo, GoesOnBy, IsHandlers, IsOfReplay, IsProducers, setup_for}
 use Rattle.dr_replay.specs.Meaning.Scripts.{producers_in, scripts_in}
 use Rattle.dr_replay.proofs.Endings.{many_scripts, opened_for}
 use Rattle.dr_replay.proofs.Stopping.{some_of}
@@ -38,18 +38,19 @@ module _ {L Z : Type 0} (begun : History Event) (may_stop must_stop : ℕ → �
 
   pub came : (had : ℕ) → had ≡ length begun.entries → (h : History Event) → GoesOnBy begun had (ends_of joined) h → CameTo begun (length scripts) h
   came had same h went =
-      let workers : List (EndView Event) = joined.journal.end ∷ joined.replica.end ∷ joined.business.end ∷ senders in
       record {
+        halter = joined.halter;
         journal = joined.journal.end;
         replica = joined.replica.end;
         business = joined.business.end;
         senders = senders;
+        halter_called = is.halter;
         journal_called = handled is.journal;
         replica_called = handled is.replica;
         business_called = handled is.business;
         many = length-map delivered (λ (s : Delivered L). s.end) ∙ is.producers.many;
         each_called = each_sent;
-        went = subst (λ n. GoesOnBy begun n (halted_once ∷ workers) h) same (subst (λ e. GoesOnBy begun had (e ∷ workers) h) is.halter went);
+        went = subst (λ n. GoesOnBy begun n (ends_of joined) h) same went;
       }
 
 -- and of a file's events, where the exchange was opened for them

@@ -15,7 +15,7 @@ use Rattle.dr_replay.specs.declared.given_back.Delivered.{Delivered}
 use Rattle.dr_replay.specs.declared.lock_workers.Joined.{Joined}
 use Rattle.dr_replay.specs.Calls.LockWorkers.{list_of}
 use Rattle.dr_replay.specs.Inside.LockWorkers.{IsJoined, SaidOfLock, ends_of}
-use Rattle.dr_replay.specs.Meaning.Exchange.{GoesOnBy, halted_once, lock_setup}
+use Rattle.dr_replay.specs.Meaning.Exchange.{GoesOnBy, lock_setup}
 use Rattle.dr_replay.specs.Meaning.Scripts.{producers_in, script_in, scripts_in}
 use Rattle.dr_replay.specs.Calls.LockRuns.{IsHistoryOf, JoinedOver, LockRan, endings_over}
 use Rattle.dr_replay.specs.Calls.Replayed.{IsReportOfMerge}
@@ -40,6 +40,7 @@ module _ {L Z : Type 0} (begun : History Event) (may_stop must_stop : ℕ → �
     begun = begun;
     setup = setup;
     fresh = fresh;
+    halter = joined.halter;
     journal = joined.journal.end;
     replica = joined.replica.end;
     business = joined.business.end;
@@ -51,6 +52,7 @@ module _ {L Z : Type 0} (begun : History Event) (may_stop must_stop : ℕ → �
     list_of_journal = list_of joined.journal.part (λ part. part.list.items);
     list_of_replica = list_of joined.replica.part (λ part. part.list.items);
     list_of_business = list_of joined.business.part (λ part. part.list.items);
+    halter_halted = is.halter;
     journal_handled = is.journal;
     replica_handled = is.replica;
     business_handled = is.business;
@@ -71,9 +73,7 @@ module _ {L Z : Type 0} (begun : History Event) (may_stop must_stop : ℕ → �
 
   -- and so is the history
   pub history_of : (had : ℕ) → had ≡ length begun.entries → (h : History Event) → GoesOnBy begun had (ends_of joined) h → IsHistoryOf joined_over h
-  history_of had same h went =
-      let workers : List (EndView Event) = joined.journal.end ∷ joined.replica.end ∷ joined.business.end ∷ map (λ (s : Delivered L). s.end) delivered in
-      subst (λ n. GoesOnBy begun n (halted_once ∷ workers) h) same (subst (λ e. GoesOnBy begun had (e ∷ workers) h) is.halter went)
+  history_of had same h went = subst (λ n. GoesOnBy begun n (ends_of joined) h) same went
 
 -- what is answered
 pub came_of_lock : {A : Type 0} {may_stop must_stop : ℕ → ℕ → Type 0} {size : ℕ} {events : List Event} {P : History Event → Type 0} (text_of : A → List ℕ)

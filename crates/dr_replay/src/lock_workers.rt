@@ -1,14 +1,12 @@
 //! The workers of a replay behind a lock: a thread for each producer, and one for each handler.
 
-ghost use Rattle.std.specs.Prelude.{◌≡◌, ◌+◌, ◌/◌, ◌^◌, ◌≤◌, All, IfOk, Some, length, max};
+ghost use Rattle.std.specs.Prelude.{◌≡◌, ◌+◌, ◌/◌, ◌^◌, ◌≤◌, All, IfOk, length, max};
 ghost use denote.Param.Send.{IsSync};
 ghost use Rattle.dr_accounts.specs.Keeping.{error_of};
-ghost use Rattle.dr_lock.specs.Calls.Lock.{after_call, no_calls};
-ghost use Rattle.dr_meaning.specs.declared.command.Command.TheVariants.{Halt};
-ghost use Rattle.dr_meaning.specs.declared.command.Reply.TheVariants.{Halting};
+ghost use Rattle.dr_lock.specs.Calls.Lock.{HasHalted, no_calls};
 ghost use Rattle.dr_replay.specs.Calls.LockWorkers.{HasHandled, HasSent, list_of};
 ghost use Rattle.dr_replay.specs.Inside.LockWorkers.{AreSent, AreUnused, IsJoined};
-ghost use Rattle.dr_replay.specs.Meaning.Exchange.{halted_once};
+ghost use Rattle.dr_replay.specs.Meaning.Exchange.{IsHalters};
 
 use crate::given_back::{Delivered, Handled, HandledBy, SentBy};
 use crate::outcome::{BUSINESS, JOURNAL, PRODUCER, REPLICA};
@@ -254,7 +252,7 @@ fn send_all<L: Exchange<Event> + Send + Sync, R: Threads + Wait + Sync, G: Gate 
 
 // Halts the core, and wakes the handlers' threads.
 fn halted<L: Exchange<Event>, R: Wait, G>(around: &Around<'_, L, R, G>, halter: &mut End<Event, L>)
-    ensures { halter.new ≡ after_call Halt (Some Halting) halter.old }
+    ensures { HasHalted halter.old halter.new }
 {
     halt(around.rt, around.shared, halter);
     around.bell.ring();
@@ -281,7 +279,7 @@ fn served<
     requires unused { All (λ end. end ≡ no_calls) producers.items }
     requires before { halter ≡ no_calls }
     ensures sent { IfOk result (λ joined. AreSent L.begun (G.may_stop around.now.gate.now) (G.must_stop around.now.gate.now) around.now.size scripts.now joined.producers.items) }
-    ensures halted { IfOk result (λ joined. joined.halter ≡ halted_once) }
+    ensures halted { IfOk result (λ joined. IsHalters joined.halter) }
     ensures journal { IfOk result (λ joined. J.kept_by journal.promise joined.journal) }
     ensures replica { IfOk result (λ joined. K.kept_by replica.promise joined.replica) }
     ensures business { IfOk result (λ joined. B.kept_by business.promise joined.business) }
@@ -306,7 +304,7 @@ fn abandoned<L: Exchange<Event>, R: Wait, G>(
     around: &Around<'_, L, R, G>,
     halter: &mut End<Event, L>,
 ) -> AllocError
-    ensures { halter.new ≡ after_call Halt (Some Halting) halter.old }
+    ensures { HasHalted halter.old halter.new }
 {
     halted(around, halter);
     AllocError

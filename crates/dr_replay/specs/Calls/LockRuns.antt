@@ -8,7 +8,7 @@ use Rattle.dr_lock.specs.Meaning.History.{History}
 use Rattle.dr_workers.specs.declared.ended.Ended.{Ended}
 use Rattle.dr_workers.specs.declared.fault.WorkFault.{WorkFault}
 use Rattle.dr_replay.specs.Calls.LockWorkers.{HasHandled, HasSent}
-use Rattle.dr_replay.specs.Meaning.Exchange.{GoesOnBy, halted_once, lock_setup}
+use Rattle.dr_replay.specs.Meaning.Exchange.{GoesOnBy, IsHalters, lock_setup}
 use Rattle.dr_replay.specs.Meaning.Scripts.{producers_in, script_in, scripts_in}
 use Rattle.dr_replay.specs.Calls.Replayed.{IsReportOfMerge}
 use Rattle.dr_replay.specs.Calls.Workers.{AuditFinds, IsFirstOf, lock_endings}
@@ -23,6 +23,7 @@ pub record JoinedOver (may_stop must_stop : ℕ → ℕ → Type 0) (size : ℕ)
   pub setup : begun.core.setup ≡ lock_setup size events
   pub fresh : begun.entries ≡ []
   -- the ends as they came back, and how their workers ended
+  pub halter : EndView Event
   pub journal : EndView Event
   pub replica : EndView Event
   pub business : EndView Event
@@ -35,6 +36,7 @@ pub record JoinedOver (may_stop must_stop : ℕ → ℕ → Type 0) (size : ℕ)
   pub list_of_journal : Option (List Event)
   pub list_of_replica : Option (List Event)
   pub list_of_business : Option (List Event)
+  pub halter_halted : IsHalters halter
   pub journal_handled : HasHandled begun 0 (may_stop 0) (must_stop 0) journal of_journal list_of_journal
   pub replica_handled : HasHandled begun 1 (may_stop 1) (must_stop 1) replica of_replica list_of_replica
   pub business_handled : HasHandled begun 2 (may_stop 2) (must_stop 2) business of_business list_of_business
@@ -49,7 +51,7 @@ endings_over over = lock_endings over.of_journal over.of_replica over.of_busines
 
 -- a history that goes on by one halt and by the calls of its workers
 abbrev pub IsHistoryOf : {may_stop must_stop : ℕ → ℕ → Type 0} {size : ℕ} {events : List Event} → JoinedOver may_stop must_stop size events → History Event → Type 0
-IsHistoryOf over h = GoesOnBy over.begun (length over.begun.entries) (halted_once ∷ over.journal ∷ over.replica ∷ over.business ∷ over.senders) h
+IsHistoryOf over h = GoesOnBy over.begun (length over.begun.entries) (over.halter ∷ over.journal ∷ over.replica ∷ over.business ∷ over.senders) h
 
 -- a report is written of what an audit finds of the history of a run, no worker of which had a fault
 abbrev pub Reports : {may_stop must_stop : ℕ → ℕ → Type 0} {size : ℕ} {events : List Event}

@@ -6,7 +6,7 @@ use Rattle.dr_lock.specs.Meaning.History.{History}
 use Rattle.dr_accounts.specs.Keeping.{error_of}
 use Rattle.dr_replay.specs.Calls.LockRuns.{CameOfLock}
 use Rattle.dr_replay.specs.Calls.LockWorkers.{HasHandled, HasSent, list_of}
-use Rattle.dr_replay.specs.Meaning.Exchange.{halted_once}
+use Rattle.dr_replay.specs.Meaning.Exchange.{IsHalters}
 use Rattle.dr_replay.specs.declared.given_back.Delivered.{Delivered}
 use Rattle.dr_replay.specs.declared.fault.ReplayFault.{ReplayFault}
 use Rattle.dr_replay.specs.declared.lock_workers.Joined.{Joined}
@@ -27,7 +27,7 @@ pub record AreUnused (halter journal replica business : EndView Event) (producer
 
 -- what came of an exchange that began so, all of whose workers began with unused ends
 pub record IsJoined {L Z : Type 0} (begun : History Event) (may_stop must_stop : ℕ → ℕ → Type 0) (size : ℕ) (scripts : List (Vec Event Z)) (joined : Joined L) : Type 0 where
-  pub halter : joined.halter ≡ halted_once
+  pub halter : IsHalters joined.halter
   pub journal : HasHandled begun 0 (may_stop 0) (must_stop 0) joined.journal.end (error_of joined.journal.part) (list_of joined.journal.part (λ part. part.list.items))
   pub replica : HasHandled begun 1 (may_stop 1) (must_stop 1) joined.replica.end (error_of joined.replica.part) (list_of joined.replica.part (λ part. part.list.items))
   pub business : HasHandled begun 2 (may_stop 2) (must_stop 2) joined.business.end (error_of joined.business.part) (list_of joined.business.part (λ part. part.list.items))

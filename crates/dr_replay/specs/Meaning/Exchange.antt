@@ -1,14 +1,12 @@
 -- The exchange that a replay behind a lock opens, and what it goes through.
-use Rattle.std.specs.Prelude.{◌≡◌, ◌<◌, ℕ, ◌+◌, ◌^◌, List, [], ◌∷◌, Some, length, slice_index_or, sum_by}
+use Rattle.std.specs.Prelude.{◌≡◌, ◌<◌, ℕ, ◌+◌, ◌^◌, List, [], ◌∷◌, length, slice_index_or, sum_by}
 use Rattle.dr_seq.specs.declared.event.Event.{Event}
-use Rattle.dr_meaning.specs.declared.command.Command.TheVariants.{Halt}
-use Rattle.dr_meaning.specs.declared.command.Reply.TheVariants.{Halting}
 use Rattle.dr_meaning.specs.Calls.Calling.{SomeCalls}
 use Rattle.dr_meaning.specs.Meaning.Machine.{Setup, setup_of}
 use Rattle.dr_meaning.specs.declared.mode.Mode.TheVariants.{Multi}
 use Rattle.dr_accounts.specs.Passing.{replay_graph}
 use Rattle.dr_lock.specs.Calls.Asking.{InletAsks, OutletAsks}
-use Rattle.dr_lock.specs.Calls.Lock.{EndView, after_call, no_calls}
+use Rattle.dr_lock.specs.Calls.Lock.{EndView, HasHalted, no_calls}
 use Rattle.dr_lock.specs.Meaning.History.{GoesOn, History, IsRecorded, entries_since, halts_in}
 use Rattle.dr_replay.specs.Meaning.Scripts.{producers_in}
 
@@ -36,21 +34,23 @@ abbrev pub IsProducers : History Event → ℕ → EndView Event → Type 0
 IsProducers begun p end = SomeCalls (InletAsks begun p) no_calls end (λ calls. Unit {0})
 
 -- an end that halted the exchange and did nothing else
-abbrev pub halted_once : EndView Event
-halted_once = after_call Halt (Some Halting) no_calls
+abbrev pub IsHalters : EndView Event → Type 0
+IsHalters end = HasHalted no_calls end
 
 -- what an exchange with so many producers came to that began so: its one halt, and the calls of the three handlers and of the producers, each through an end of its own
 pub record CameTo (begun : History Event) (producers : ℕ) (h : History Event) : Type 0 where
+  pub halter : EndView Event
   pub journal : EndView Event
   pub replica : EndView Event
   pub business : EndView Event
   pub senders : List (EndView Event)
+  pub halter_called : IsHalters halter
   pub journal_called : IsHandlers begun 0 journal
   pub replica_called : IsHandlers begun 1 replica
   pub business_called : IsHandlers begun 2 business
   pub many : length senders ≡ producers
   pub each_called : (p : ℕ) (end : EndView Event) → p < producers → IsProducers begun p (slice_index_or senders p end)
-  pub went : GoesOnBy begun (length begun.entries) (halted_once ∷ journal ∷ replica ∷ business ∷ senders) h
+  pub went : GoesOnBy begun (length begun.entries) (halter ∷ journal ∷ replica ∷ business ∷ senders) h
 
 -- so from its opening on, for a replay of these events
 pub record IsOfReplay (size : ℕ) (events : List Event) (h : History Event) : Type 0 where
