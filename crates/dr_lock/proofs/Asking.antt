@@ -1,5 +1,5 @@
 -- What an end remembers of its calls.
-use Rattle.std.proofs.Common.{◌≡◌, ◌≤◌, ◌<◌, ◌+◌, ℕ, suc, zero, List, [], ◌∷◌, ◌++◌, length, take, drop, get_or, replicate, Option, Some, None, Err, refl, sym, ap, ◌∙◌, arith}
+use Rattle.std.proofs.Common.{◌≡◌, ◌≤◌, ◌<◌, ◌+◌, ℕ, suc, zero, List, [], ◌∷◌, ◌++◌, length, take, drop, get_or, replicate, Some, None, Err, refl, sym, ap, ◌∙◌, arith}
 use Rattle.std.proofs.lemmas.List.{append-nil, drop_more, length-take-le, take_all, take_more}
 use Rattle.dr_meaning.specs.declared.command.Command.TheVariants.{Halt, Write}
 use Rattle.dr_meaning.specs.declared.command.Reply.TheVariants.{Written}
