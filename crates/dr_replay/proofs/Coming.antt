@@ -1,5 +1,5 @@
 -- To which history an exchange behind a lock came, by what its workers promised.
-use Rattle.std.proofs.Common.{◌≡◌, ◌<◌, ℕ, List, [], ◌∷◌, length, map, get_or, Vec, Option, ap, subst, sym, ◌∙◌}
+use Rattle.std.proofs.Common.{◌≡◌, ◌<◌, ℕ, List, [], length, map, get_or, Vec, Option, ap, subst, sym, ◌∙◌}
 use Rattle.std.proofs.lemmas.List.{get_or-map, length-map}
 use Rattle.dr_seq.specs.declared.event.Event.{Event}
 use Rattle.dr_lock.specs.Calls.Lock.{EndView}

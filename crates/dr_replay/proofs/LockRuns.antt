@@ -1,12 +1,12 @@
 -- What a replay behind a lock came of, by what its workers promised.
-use Rattle.std.proofs.Common.{◌≡◌, ◌<◌, ℕ, List, [], ◌∷◌, length, map, get_or, Vec, Option, None, Result, Ok, Err, IfErr, IfOk, OnOk, ap}
+use Rattle.std.proofs.Common.{◌≡◌, ◌<◌, ℕ, List, [], length, map, get_or, Vec, Option, None, Result, Ok, Err, IfErr, IfOk, OnOk, ap}
 use Rattle.std.proofs.Common.{refl, subst, sym, ◌∙◌, arith}
 use Rattle.std.specs.Io.KnownBytes.{Appends}
 use Rattle.std.proofs.lemmas.List.{get_or-map, length-map}
 use Rattle.std.proofs.lemmas.List.FromFn.{get_or-map-range_with_len}
 use Rattle.dr_seq.specs.declared.event.Event.{Event}
 use Rattle.dr_accounts.specs.Keeping.{error_of}
-use Rattle.dr_lock.specs.Calls.Lock.{EndView, no_calls}
+use Rattle.dr_lock.specs.Calls.Lock.{no_calls}
 use Rattle.dr_workers.specs.Meaning.FirstFault.{first_fault}
 use Rattle.dr_lock.specs.Meaning.History.{History}
 use Rattle.dr_replay.specs.declared.fault.ReplayFault.{ReplayFault}
