@@ -1,4 +1,4 @@
-//! The calls that were made through an end.
+//! The calls that were made through an end, and the events that they handed out.
 
 use dr_meaning::{Command, Reply};
 use std::snapshot::Snapshot;
@@ -9,6 +9,14 @@ use std::snapshot::Snapshot;
 pub struct Call<E> {
     pub command: Command<E>,
     pub reply: Option<Reply>,
+}
+
+/// All events that an end was handed, which only contracts see: none, or those before the last one, and
+/// that.
+#[derive(Drop)]
+pub(crate) enum Given<E> {
+    Nothing,
+    More(Snapshot<Given<E>>, E),
 }
 
 /// All calls so far, which only contracts see: none, or those before the last one, and that.

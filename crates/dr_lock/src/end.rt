@@ -3,16 +3,16 @@
 //! Nothing outside this file changes an end, or what lies under the lock, but by a call: so what calls
 //! through an end recorded is just what the end remembers.
 
-ghost use Rattle.std.specs.Prelude.{◌≡◌, ◌+◌, ◌^◌, ◌<◌, ◌≤◌, [], IfOk, OnErr, ◌*◌, drop, length, take};
+ghost use Rattle.std.specs.Prelude.{◌≡◌, ◌+◌, ◌++◌, ◌∷◌, ◌^◌, ◌<◌, ◌≤◌, [], IfOk, OnErr, ◌*◌, drop, length, take};
 ghost use Rattle.std.specs.Result.{result_ok};
 ghost use Rattle.dr_meaning.specs.Meaning.Runs.{count_in};
 ghost use Rattle.dr_lock.specs.Meaning.History.{GoesOn, asked, halts_of};
 ghost use Rattle.dr_meaning.specs.Calls.Replies.{unit_reply};
-ghost use Rattle.dr_lock.specs.Calls.Lock.{AreWritten, IsAnswer, UnlessMemory, after_call, after_calls, counted, no_calls, remembered, told_by, writes_asked};
+ghost use Rattle.dr_lock.specs.Calls.Lock.{AreWritten, IsAnswer, UnlessMemory, after_call, after_calls, counted, handed, handed_out, no_calls, remembered, told_by, writes_asked};
 ghost use Rattle.dr_lock.specs.Inside.Locked.{AreWrites, IsCall, IsLacking, IsWrite};
 ghost use Rattle.dr_lock.specs.Inside.Weights.{most_calls, weight, weight_since};
 
-use crate::call::{Call, Past};
+use crate::call::{Call, Given, Past};
 use crate::entry::is_kept;
 use crate::exchange::Exchange;
 use crate::recorded::Recorded;
@@ -39,25 +39,27 @@ pub(crate) struct Locked<E, L: Exchange<E>> {
 
 /// One thread's end of a shared history; the ledger ties it to that history alone. Contracts see how
 /// many of its calls were kept, and how many of these were halts. In the ledger a halt weighs more
-/// than all other calls could. They also see all its calls, kept or not, with the answers: once the
-/// lock is open again no clause can speak of the shared history, but the end remembers what it asked.
+/// than all other calls could. They also see all its calls, kept or not, with the answers, and all events
+/// that it was handed: once the lock is open again no clause can speak of the shared history, but the
+/// end remembers what it asked, and what it got.
 #[derive(Drop)]
 pub struct End<E, L: Ledger> {
     share: Share<L>,
     calls: u64,
     halts: u64,
     past: Snapshot<Past<E>>,
+    given: Snapshot<Given<E>>,
 }
 
 impl<E, L: Ledger> Model for End<E, L> {
     ghost use Rattle.std.specs.Prelude.{◌≡◌, ◌≤◌};
     ghost use Rattle.dr_lock.specs.Calls.Lock.{EndView};
-    ghost use Rattle.dr_lock.specs.Inside.Past.{calls_of};
+    ghost use Rattle.dr_lock.specs.Inside.Past.{calls_of, events_of};
     ghost use Rattle.dr_lock.specs.Inside.Weights.{most_calls, weight};
 
     ghost Value = { EndView E };
 
-    ghost view = { λ a. record { calls = a.calls; halts = a.halts; asked = calls_of a.past.value } };
+    ghost view = { λ a. record { calls = a.calls; halts = a.halts; asked = calls_of a.past.value; given = events_of a.given.value } };
 
     ghost invariant = { λ a. (a.share.parts ≡ 1) × (a.share.amount ≡ weight a.calls a.halts) × (a.halts ≤ a.calls) × (a.calls ≤ most_calls) };
 }
@@ -74,6 +76,7 @@ impl<E, L: Ledger> End<E, L> {
             calls: 0,
             halts: 0,
             past: Snapshot::of(&Past::Unused),
+            given: Snapshot::of(&Given::Nothing),
         }
     }
 
@@ -132,6 +135,24 @@ impl<E: Copy, L: Ledger> End<E, L> {
         let before = mem::replace(past, Snapshot::of(&Past::Unused));
         *past = Snapshot::of(&Past::After(before, Call { command, reply }));
     }
+
+    /// Remembers an event that it was handed.
+    fn receive(&mut self, event: E)
+        ensures { self.new ≡ record self.old { given = self.old.given ++ event ∷ [] } }
+    {
+        let End { given, .. } = self;
+        let before = mem::replace(given, Snapshot::of(&Given::Nothing));
+        *given = Snapshot::of(&Given::More(before, event));
+    }
+
+    /// Remembers the events of a batch.
+    fn receive_all(&mut self, events: &[E])
+        ensures { self.new ≡ handed events.now self.old }
+    {
+        for event in events.iter() {
+            self.receive(*event);
+        }
+    }
 }
 
 impl<E, L: Exchange<E>> Locked<E, L> {
@@ -173,7 +194,7 @@ impl<E: Copy, L: Exchange<E>> Locked<E, L> {
         ensures memory { OnErr result (IsLacking end.old.calls self.old.recorded command self.new.recorded) }
         ensures rest { IfOk result (λ reply. drop (count_in reply) out.new ≡ drop (count_in reply) out.old) }
         ensures unchanged { OnErr result (out.new ≡ out.old) }
-        ensures end { end.new ≡ after_call command (result_ok result) end.old }
+        ensures end { end.new ≡ handed (handed_out (result_ok result) out.new) (after_call command (result_ok result) end.old) }
     {
         if end.calls == MOST_CALLS {
             end.remember(command, None);
@@ -186,6 +207,7 @@ impl<E: Copy, L: Exchange<E>> Locked<E, L> {
                     end.count(calls, command);
                 }
                 end.remember(command, Some(reply));
+                end.receive_all(&out[..reply.count()]);
                 Ok(reply)
             }
             Err(fault) => {

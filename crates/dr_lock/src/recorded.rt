@@ -137,6 +137,7 @@ impl<E: Copy> Recorded<E> {
         requires { asked command ≤ length out.old }
         ensures step { IfOk result (λ reply. IsStep self.old.history.core command reply (take (count_in reply) out.new) self.new.history.core) }
         ensures answer { IfOk result (λ reply. IsAnswer self.old.history command reply (take (count_in reply) out.new)) }
+        ensures fits { IfOk result (λ reply. count_in reply ≤ length out.new) }
         ensures entries { IfOk result (λ reply. self.new.history.entries ≡ entries_after self.old.history.entries (record { command = command; reply = reply })) }
         ensures values { IfOk result (λ reply. self.new.history.values ≡ self.old.history.values ++ take (count_in reply) out.new) }
         ensures rest { IfOk result (λ reply. drop (count_in reply) out.new ≡ drop (count_in reply) out.old) }

@@ -4,7 +4,7 @@ ghost use Rattle.std.specs.Result.{result_ok};
 ghost use Rattle.std.specs.Prelude.{◌≡◌, ◌↔◌, ◌+◌, ◌^◌, ◌<◌, ◌≤◌, IfOk, IfErr, OnErr, IsErr, MatchOption, ◌*◌, drop, length, sum_by, take, vec_len};
 ghost use Rattle.dr_meaning.specs.Meaning.Runs.{count_in};
 ghost use Rattle.dr_lock.specs.Meaning.History.{GoesOn, asked, entries_since, halts_in};
-ghost use Rattle.dr_lock.specs.Calls.Lock.{AreWritten, IsAnswer, after_call, after_calls, no_calls, writes_asked};
+ghost use Rattle.dr_lock.specs.Calls.Lock.{AreWritten, IsAnswer, after_call, after_calls, handed, handed_out, no_calls, writes_asked};
 ghost use Rattle.dr_lock.specs.Inside.Weights.{most_calls, weight};
 
 use crate::end::{End, Locked};
@@ -115,7 +115,7 @@ impl<E: Copy, L: Exchange<E>> Shared<E, L> {
 
     /// One call of the history, while the lock is held: it may wait for the lock. What it answers is
     /// what the machine answers after some history that goes on from the one that the lock began with,
-    /// and the end remembers it with its answer, and counts it where it is kept. For a poll `out` holds
+    /// and the end remembers it with its answer and its events, and counts it where it is kept. For a poll `out` holds
     /// as many events as it asks for; a batch stands at its front. Where an allocation fails the call may
     /// be made again. An end that counted 2^57 calls answers all others as if one failed.
     pub fn call(
@@ -129,7 +129,7 @@ impl<E: Copy, L: Exchange<E>> Shared<E, L> {
         ensures answer { IfOk result (λ reply. IsAnswer L.begun command reply (take (count_in reply) out.new)) }
         ensures rest { IfOk result (λ reply. drop (count_in reply) out.new ≡ drop (count_in reply) out.old) }
         ensures unchanged { OnErr result (out.new ≡ out.old) }
-        ensures end { end.new ≡ after_call command (result_ok result) end.old }
+        ensures end { end.new ≡ handed (handed_out (result_ok result) out.new) (after_call command (result_ok result) end.old) }
     {
         self.locked.lock(rt).call(end, command, out)
     }

@@ -10,6 +10,7 @@ use Rattle.dr_meaning.specs.declared.ends.Trouble.TheVariants.{Refused, Memory}
 use Rattle.dr_meaning.specs.declared.ends.Wrote.{Wrote}
 use Rattle.dr_meaning.specs.Calls.Replies.{unit_reply}
 use Rattle.dr_meaning.specs.Meaning.Machine.{step}
+use Rattle.dr_meaning.specs.Meaning.Runs.{count_in}
 use Rattle.dr_lock.specs.declared.call.Call.{Call}
 use Rattle.dr_lock.specs.Meaning.History.{GoesOn, History, IsRecorded, is_kept}
 
@@ -23,10 +24,11 @@ pub record EndView (E : Type 0) : Type 0 where
   pub calls : ℕ  -- how many of its calls were kept
   pub halts : ℕ  -- how many of these were halts
   pub asked : List (Call E)  -- all its calls, kept or not, in order
+  pub given : List E  -- all events that polls handed it, in order
 
 -- an end that made no call
 abbrev pub no_calls : {E : Type 0} → EndView E
-no_calls = record { calls = 0; halts = 0; asked = [] }
+no_calls = record { calls = 0; halts = 0; asked = []; given = [] }
 
 -- an end that counts one call more
 abbrev pub counted : {E : Type 0} → Command E → EndView E → EndView E
@@ -41,6 +43,16 @@ remembered command reply end = record end { asked = end.asked ++ record { comman
 abbrev pub after_call : {E : Type 0} → Command E → Option Reply → EndView E → EndView E
 after_call command None end = remembered command None end
 after_call command (Some reply) end = remembered command (Some reply) (if is_kept reply then counted command end else end)
+
+-- an end that was handed these events
+abbrev pub handed : {E : Type 0} → List E → EndView E → EndView E
+handed [] end = end
+handed (event ∷ events) end = record end { given = end.given ++ event ∷ events }
+
+-- what a call hands out stands at the front of its room: nothing where memory ran out
+abbrev pub handed_out : {E : Type 0} → Option Reply → List E → List E
+handed_out None room = []
+handed_out (Some reply) room = take (count_in reply) room
 
 -- an end after some calls more, one after another
 abbrev pub after_calls : {E : Type 0} → List (Call E) → EndView E → EndView E
@@ -60,6 +72,12 @@ abbrev pub told_by : {A : Type 0} → (Result A Refusal → Reply) → Result A 
 told_by reply_of (Ok x) = Some (reply_of (Ok x))
 told_by reply_of (Err (Refused refusal)) = Some (reply_of (Err refusal))
 told_by reply_of (Err Memory) = None
+
+-- the events of an end's own answer: none where memory ran out
+abbrev pub handed_by : {A E : Type 0} → (Result A Refusal → List E) → Result A Trouble → List E
+handed_by values_of (Ok x) = values_of (Ok x)
+handed_by values_of (Err (Refused refusal)) = values_of (Err refusal)
+handed_by values_of (Err Memory) = []
 
 -- some history goes on from this one, and leads to a state in which the machine answers so
 pub record IsAnswer {E : Type 0} (begun : History E) (command : Command E) (reply : Reply) (values : List E) : Type 0 where

@@ -20,6 +20,14 @@ invariant_of-self-in-Continue-branch-3 g c =
     rw (c.in_ok-extend_from_slice.ensures.items, c.push_reserved.ensures.items, c.reserve.ensures.items, c.reserve-2.ensures.items, c.count.ensures)
     (recorded_more c.every_step_leads_on.ensures _ _ _ _ _ _ _ (sym c.is_kept.ensures ∙ c.if-is_kept.true) many c.execute-reply.ensures.step c.self.invariant)
 
+pub returns-else-is_kept-clause-fits : goal.returns-else-is_kept-clause-fits
+returns-else-is_kept-clause-fits g c =
+    fits_within _ _ _ c.args.out.now c.execute-reply.new.out 0 c.execute-reply.ensures.fits (offers_le_asked c.args.command c.self.inside.core.setup.size) c.requires c.execute-reply.auto.out
+
+pub returns-in_ok-extend_from_slice-clause-fits : goal.returns-in_ok-extend_from_slice-clause-fits
+returns-in_ok-extend_from_slice-clause-fits g c =
+    fits_within _ _ _ c.args.out.now c.execute-reply.new.out 0 c.execute-reply.ensures.fits (offers_le_asked c.args.command c.self.inside.core.setup.size) c.requires c.execute-reply.auto.out
+
 pub returns-else-is_kept-clause-answer : goal.returns-else-is_kept-clause-answer
 returns-else-is_kept-clause-answer g c = rw (← c.self.view_is) (answered _ _ _ _ _ _ _ c.execute-reply.ensures.step c.self.invariant)
 
