@@ -23,6 +23,7 @@ class Edit:
     functions: list = field(default_factory=list)
     is_of_a_body: bool = True
     judge: str = ""
+    goal: str = ""
 
     def __hash__(self):
         return hash((self.crate, self.name))
@@ -34,14 +35,14 @@ class Edit:
 
 def read_edit(crate, path):
     """Reads an edit: lines `file: PATH`, and pairs of lines `old: TEXT` and `new: TEXT`. A line `judge: PATH` names the function
-    that has to refuse an edit of no body."""
+    that has to refuse an edit of no body, and where that is of a clause of this function, a line `goal: NAME` the clause's goal."""
     edit, file, old = Edit(crate, os.path.basename(path).removesuffix(".edit")), None, None
     for line in open(path, encoding="utf-8").read().split("\n"):
         word, _, text = line.partition(": ")
         if word == "file":
             file = text.strip()
-        elif word == "judge":
-            edit.judge = text.strip()
+        elif word in ("judge", "goal"):
+            setattr(edit, word, text.strip())
         elif word == "old":
             old = text
         elif word in ("new", "new:"):
@@ -145,15 +146,22 @@ def place(edit, folder):
 
 
 def companies(edits):
-    """Parts the edits into lists that one check each can try, the longest first: in none are two of one function."""
+    """Parts the edits into lists that one check each can try, the longest first."""
     groups = []
     for edit in edits:
-        group = next((it for it in groups if edit.functions not in [one.functions for one in it]), None)
+        group = next((it for it in groups if all(go_together(edit, one) for one in it)), None)
         if group is None:
             groups.append([edit])
         else:
             group.append(edit)
     return groups
+
+
+def go_together(one, other):
+    """Whether neither edit changes what refuses the other: bodies of two functions do not, nor do two clauses of one function."""
+    if one.is_of_a_body and other.is_of_a_body:
+        return one.functions != other.functions
+    return one.judge == other.judge and "" not in (one.judge, one.goal, other.goal) and one.goal != other.goal
 
 
 def forget(edits, kept):

@@ -38,21 +38,26 @@ def path_in(said, edit):
     return paths[0] if len(paths) == 1 else None
 
 
-def goal_of(output, path, why):
-    """Returns the goal of its own for which a function is not proved, or None. That it calls one that is not proved is no such goal."""
+def goal_of(output, path, why, wanted):
+    """Returns the goal of its own for which a function is not proved, the wanted one if one is, or None. That it calls one that is
+    not proved is no such goal."""
+    goals = goals_of(output, path, why)
+    return (goals[-1] if goals else None) if not wanted else wanted if wanted in goals else None
+
+
+def goals_of(output, path, why):
     if match := SOUGHT.match(why):
-        return match[1]
+        return [match[1]]
     if not why.startswith("not proved"):
-        return None
+        return []
     # The lines before the function's own tell what of it is not proved; else an error in its proof files does.
     before = output[: output.index(f"\nfn {path}: ")].split("\n")
     lines = itertools.takewhile(lambda it: it.startswith(("note: ", "help: ", " ")), reversed(before))
     if goals := [it[1] for it in map(OPEN.match, lines) if it]:
-        return goals[-1]
+        return goals
     folder = "proofs/" + "/".join(path.split("::")[1:]) + "/"
     own = [text for file, text in ERROR.findall(output) if file.startswith(folder) and not is_of_a_name(text)]
-    match = re.match(r"`([^`]+)`", own[0]) if own else None
-    return match[1] if match else None
+    return [it[1] for it in (re.match(r"`([^`]+)`", one) for one in reversed(own)) if it]
 
 
 def verdict(output, edit):
@@ -60,7 +65,7 @@ def verdict(output, edit):
     function, or, where the edit is not of one body and so stands alone, of its judge or else of any."""
     said = dict(TELLS.findall(output))
     for path in [path_in(said, edit)] if edit.is_of_a_body else [it for it in said if it.endswith(edit.judge)]:
-        if path and (goal := goal_of(output, path, said[path])):
+        if path and (goal := goal_of(output, path, said[path], edit.goal)):
             return f"{path.partition('::')[2]}, goal {goal}"
     return None
 

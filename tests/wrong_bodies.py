@@ -13,12 +13,13 @@ once more, alone; and what that does not tell, nor that a proof file which cites
 a check of the whole crate. Each edit has a line that names the goal that refused it, and the last line is `N refused, M not`.
 
 First each crate is proved as it is, over what earlier runs kept. With `--over` that is `rt ci`'s part: a crate's edits are
-tried as soon as the libraries below it stand, and none of them counts unless `rt ci` proves the crate.
+tried once `rt ci` has proved it, over what the library that it left holds checked, and from nothing where it left none.
 """
 
 import argparse
 import functools
 import heapq
+import json
 import os
 import re
 import shutil
@@ -37,6 +38,8 @@ from edits import applied, companies, fault_of, forget, offers_nothing, only, pl
 
 # A list has fewer edits.
 MANY = 1000
+# A file's name is no longer, with what is added to a module's.
+LONGEST = 240
 # So much memory, in kB, is free before a further check begins: others go on beside it.
 ROOM = 6_000_000
 # What `rt ci` says once a library stands, or a program is proved, and at its end.
@@ -54,7 +57,26 @@ class Libraries:
 
     def take(self, name):
         """Gives the library that stands in the crate's folder `out` a second name, since an `rt` may replace it there."""
-        shutil.copytree(f"{self.top}/crates/{name}/out/rlib", f"{self.room}/{name}", copy_function=prove.link)
+        if os.path.isdir(f"{self.top}/crates/{name}/out/rlib"):
+            shutil.copytree(f"{self.top}/crates/{name}/out/rlib", f"{self.room}/{name}", copy_function=prove.link)
+
+    def lay_out(self, name, kept):
+        """Lays out the modules that a crate's library holds checked as checks keep them, and returns whether it holds any."""
+        library = f"{self.room}/{name}/{name}.rlib"
+        index = f"{library}/toolchain/checked.json"
+        if not os.path.isfile(index):
+            return False
+        build = re.search(r"^rattle-build (\S+)$", open(f"{library}/format", encoding="utf-8").read(), re.M)[1]
+        folder = f"{kept}/{build.replace('/', '_')}"
+        os.makedirs(folder)
+        with open(index, encoding="utf-8") as lines, open(f"{library}/toolchain/checked.a", "rb") as archive:
+            for module, start, length in map(json.loads, lines):
+                # (what has another name is checked anew)
+                if "/" not in module and len(os.fsencode(module)) < LONGEST:
+                    archive.seek(start)
+                    with open(f"{folder}/{module}.oantt", "wb") as file:
+                        file.write(archive.read(length))
+        return True
 
     def check(self, edits, kept, keeps=None, beside=(), is_short=False, is_of_all=False):
         """Checks the functions of these edits in a copy of their crate to which it applies them, over what is kept, and returns what is
@@ -162,7 +184,7 @@ class Crate:
 
 
 class Trial:
-    """The edits of some crates, each tried once the libraries below its crate stand."""
+    """The edits of some crates, each tried once its crate is proved."""
 
     def __init__(self, top, names, room, told):
         self.top, self.room, self.told, self.below = top, room, told, prove.crates_of(top)
@@ -197,16 +219,15 @@ class Trial:
             if is_alone:
                 crate.untold = [*crate.bodies, *crate.others]
             else:
-                self.add([*([it] for it in crate.others), *companies(crate.bodies)], crate.kept)
+                self.add(companies([*crate.others, *crate.bodies]), crate.kept)
 
     def note_proved(self, name):
-        """Notes that a crate is proved, and takes its library for the crates above."""
-        if any(name in self.below[it] for it in self.all):
-            self.libraries.take(name)
+        """Notes that a crate is proved, and takes its library for the crates above and for what it holds checked."""
+        self.libraries.take(name)
         self.proved.add(name)
 
     def follow(self, file):
-        """Takes each library that `rt ci` has proved, by its words in the file, and begins the edits of the crates above it."""
+        """Takes each library that `rt ci` has proved, by its words in the file, and begins the edits of its crate."""
         try:
             words = ""
             while not ENDED.search(words) and not self.proved.issuperset(self.all):
@@ -214,17 +235,25 @@ class Trial:
                 words = open(file, encoding="utf-8", errors="replace").read()
                 for name in [it for it in self.all if it in PROVED.findall(words) and it not in self.proved]:
                     self.note_proved(name)
-                for name in [it for it in self.ready() if it in self.crates]:
-                    self.crates[name].kept = f"{self.room}/{name}"
-                    self.begin(self.crates[name])
+                    if crate := self.crates.get(name):
+                        crate.kept = f"{self.room}/{name}"
+                        self.lanes.add(-MANY, functools.partial(self.begin, name))
         finally:
             self.lanes.release()
 
-    def begin(self, crate):
-        """Tries a crate's edits. Those of the second list come first, since it has the functions of all later ones; the others are then
-        tried over what that kept of the crate as it is. None finds there what another changed."""
+    def begin(self, name):
+        """Tries a crate's edits, over what its library holds checked where `rt ci` left one."""
+        crate = self.crates[name]
+        if self.libraries.lay_out(name, crate.kept):
+            self.add(companies([*crate.others, *crate.bodies]), crate.kept)
+        else:
+            self.begin_from_nothing(crate)
+
+    def begin_from_nothing(self, crate):
+        """Tries the edits of a crate that has no library. Those of the second list come first, since it has the functions of all later ones;
+        the others are then tried over what that kept of the crate as it is. None finds there what another changed."""
         groups = companies(crate.bodies)
-        others = [[it] for it in crate.others]
+        others = companies(crate.others)
         first, rest = groups[1:2], [*groups[:1], *groups[2:], *others]
         beside = [it for it in crate.others if only([it])]
 

@@ -1,9 +1,10 @@
 #!/usr/bin/env python3
 """Tests of `wrong_bodies.py` over a crate of five functions, made in a folder of its own: which edits it takes as refused, over
-what `rt lib` keeps, by `rt must-fail` alone, and from nothing, beside an `rt ci` whose words are written here. And of what it
-stands on: which errors are a name's, and that commands end with the process that started them."""
+what `rt lib` keeps, by `rt must-fail` alone, and beside an `rt ci` whose words are written here, over a library and from nothing.
+And of what it stands on: which errors are a name's, and that commands end with the process that started them."""
 
 import os
+import shutil
 import signal
 import subprocess
 import sys
@@ -12,7 +13,7 @@ import time
 sys.dont_write_bytecode = True
 sys.path.insert(0, os.path.dirname(os.path.abspath(__file__)))
 import wrong_bodies  # noqa: E402
-from edits import Edit  # noqa: E402
+from edits import Edit, companies  # noqa: E402
 from wrong_bodies import together, verdicts  # noqa: E402
 
 SOURCE = """#![tactic(auto)]
@@ -111,6 +112,11 @@ OTHERS = [
     "`thrice`: expected type `n ≡ n`, but this has type `m ≡ m`, which depends on `n`, and `x` has no field",
     "`returns`: `omega` found no proof: it has no `≡` that says so",
 ]
+# What a check says of a function whose clauses `least` and `most` are not proved.
+TWO_CLAUSES = """note: src/lib.rt:9:5: it is not proved that what the function ensures holds (`returns-clause-least`)
+note: src/lib.rt:9:5: it is not proved that what the function ensures holds (`returns-clause-most`)
+fn toy::middle: not proved
+"""
 # Functions of one name, where the name of a module begins that of another.
 ALIKE = {"toy::opening::open": "src/opening.rt", "toy::opening_several::open": "src/opening_several.rt"}
 
@@ -130,11 +136,15 @@ def made_in(top, names):
             it.write(text)
 
 
-def tried(names, words, is_alone):
-    """Tries these edits, over what `rt lib` proves or beside an `rt ci` that says these words, and returns the status and the lines."""
+def tried(names, words, is_alone, is_built):
+    """Tries these edits, over what `rt lib` proves or beside an `rt ci` that says these words, and has left the library if it is built,
+    and returns the status and the lines."""
     lines = []
     with together.folder("toy-") as top:
         made_in(top, names)
+        if is_built:
+            wrong_bodies.prove.prove(top, "toy", [], 1, 0, ["lib"])
+            shutil.rmtree(f"{top}/crates/toy/out/incremental")
         file = f"{top}/words" if words else None
         if file:
             with open(file, "w", encoding="utf-8") as it:
@@ -142,10 +152,10 @@ def tried(names, words, is_alone):
         return wrong_bodies.run(top, None, is_alone, lines.append, file), lines
 
 
-def failures(wanted, last, words=None, is_alone=False):
+def failures(wanted, last, words=None, is_alone=False, is_built=False):
     """Returns how much came otherwise: what is said of each edit, and the last line."""
     failed = 0
-    status, lines = tried(wanted, words, is_alone)
+    status, lines = tried(wanted, words, is_alone, is_built)
     for name, text in wanted.items():
         said = [it for it in lines if f"toy/{name}:" in it]
         if not said or text not in said[-1]:
@@ -192,6 +202,15 @@ def main():
         if verdicts.path_in(ALIKE, Edit("toy", "opens_nothing", functions=[(file, "", "open")])) != path:
             failed += 1
             print(f"FAILED: which of two functions of one name is in {file}")
+    clauses = {it: Edit("toy", it, is_of_a_body=False, judge="middle", goal=f"returns-clause-{it}") for it in ("least", "most", "sum")}
+    for name, edit in clauses.items():
+        if bool(verdicts.verdict(f"\n{TWO_CLAUSES}", edit)) != (name in TWO_CLAUSES):
+            failed += 1
+            print(f"FAILED: whether the clause {name} is refused by its goal")
+    apart = Edit("toy", "apart", is_of_a_body=False, judge="other", goal="returns-clause-least")
+    if [len(it) for it in companies([*clauses.values(), apart, clauses["sum"]])] != [3, 1, 1]:
+        failed += 1
+        print("FAILED: which edits of clauses one check tries")
     for number in (signal.SIGINT, signal.SIGTERM, signal.SIGHUP, signal.SIGKILL):
         if not ends_all(number):
             failed += 1
@@ -204,6 +223,10 @@ def main():
     beside |= {"means_the_same": "the crate is still proved", "says_less": "refused by four_times"}
     beside["changes_a_lemma"] = EDITS["changes_a_lemma"][3]
     failed += failures(beside, "4 refused, 1 not", "rt: toy proved\n")
+    # Over a library nothing is proved once more, also not by a check of the whole crate.
+    of_crate, wrong_bodies.Trial.begin_from_nothing = wrong_bodies.Trial.begin_from_nothing, None
+    failed += failures(beside, "4 refused, 1 not", "rt: toy proved\n", is_built=True)
+    wrong_bodies.Trial.begin_from_nothing = of_crate
     failed += failures({"adds_one": "toy is not proved"}, "0 refused, 1 not", "rt: toy NOT PROVED\n0 passed, 1 failed\n")
     print(f"wrong_bodies.py: {len(EDITS)} edits of a small crate, {failed} failed")
     return 1 if failed else 0
