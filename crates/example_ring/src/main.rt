@@ -2,9 +2,12 @@
 #![tactic(auto)]
 
 use dr_disruptor::{RunFault, run};
-use dr_graph::GraphBuilder;
+use dr_graph::{Graph, GraphBuilder, GraphFault};
 use dr_meaning::Handler;
 use dr_seq::{Event, Size};
+use std::alloc::Global;
+use std::sync::Wait;
+use std::thread::Threads;
 
 /// Adds up the first words of what it is shown.
 #[derive(Drop)]
@@ -22,20 +25,35 @@ impl Handler<Event> for Adder {
     }
 }
 
-/// Sends a hundred events through two handlers, of which the second follows the first.
-fn main(rt: HostRuntime) -> Result<(), RunFault> {
-    let alloc = rt.alloc();
-    let mut builder = GraphBuilder::new(alloc);
+/// Two handlers, of which the second follows the first.
+fn declare(builder: &mut GraphBuilder) -> Result<(), GraphFault> {
     let first = builder.handle_with(&["first"])?;
-    let _second = builder.then(&first, &["second"])?;
-    let graph = builder.build()?;
+    builder.then(&first, &["second"])?;
+    Ok(())
+}
+
+/// Sends a hundred events through two handlers, and gives them back.
+fn send(
+    rt: impl Threads + Wait + Copy + Send + 'static,
+    alloc: Global,
+    graph: &Graph,
+    size: Size,
+) -> Result<Vec<Adder>, RunFault> {
     let adders = vec![in alloc; Adder { total: 0 }, Adder { total: 0 }]?;
     let script = [Event {
         first: 1,
         second: 0,
     }; 100];
-    let ran = run(rt, alloc, &graph, Size::new(64)?, adders, &script)?;
-    for adder in ran.finished()?.iter() {
+    run(rt, alloc, graph, size, adders, &script)?.finished()
+}
+
+fn main(rt: HostRuntime) -> Result<(), RunFault> {
+    let alloc = rt.alloc();
+    let size = Size::new(64)?;
+    let mut builder = GraphBuilder::new(alloc);
+    declare(&mut builder)?;
+    let graph = builder.build()?;
+    for adder in send(rt, alloc, &graph, size)?.iter() {
         let _printed = rt.println(&adder.total);
     }
     Ok(())
