@@ -5,7 +5,7 @@ event takes until both had it.
     bench/idle.py                 four idle seconds and two thousand lone events by each strategy
     bench/idle.py --seconds 10    as many idle seconds
 
-Build the program first, by `rt run -- lone parking 3000` in `crates/disruptor_waits`. Its lone events are sent each after
+Build the program first, by `rt run -- --check` in `crates/disruptor_waits`. Its lone events are sent each after
 a pause of up to 255 microseconds.
 """
 

@@ -11,7 +11,7 @@ have sent twice as many before, to be warm. `--under WORDS` starts each run by t
 the figures to a file, as that of bench/measured. (Not by `chrt -r`: where threads spin on all processors, Linux stops such
 threads for a twentieth of each second.)
 
-Build ours first, by `rt run -- --check` in `crates/disruptor_latency`. LMAX's and the ArrayBlockingQueue's are there where
+Build ours first, by `rt run -- --check` in `crates/disruptor_waits`. LMAX's and the ArrayBlockingQueue's are there where
 `javac` and the library are, as for bench/beside.py.
 """
 
@@ -25,7 +25,7 @@ import tempfile
 from exchanges import TOP
 from records import LATENCIES, Records
 
-OURS = os.path.join(TOP, "crates", "disruptor_latency", "out", "disruptor_latency")
+OURS = [os.path.join(TOP, "crates", "disruptor_waits", "out", "disruptor_waits"), "latency"]
 LMAX = os.path.join(TOP, "bench", "lmax", "Latency.java")
 CHANNELS = os.path.join(TOP, "bench", "plain", "latency", "main.rs")
 # The parts of the events that take at most so long.
@@ -35,7 +35,7 @@ MOST_EVENTS = 1_000_000
 
 def programs(lmax, folder):
     """How each is started, before the number of events and the gap."""
-    found = {f"{exchange} {way}": [OURS, exchange, way] for exchange in ("plain", "ring", "senders") for way in ("spinning", "yielding", "parking")}
+    found = {f"{exchange} {way}": [*OURS, exchange, way] for exchange in ("plain", "ring", "senders") for way in ("spinning", "yielding", "parking")}
     channels = os.path.join(folder, "latency")
     subprocess.run(["rustc", "--edition", "2021", "-O", "-o", channels, CHANNELS], check=True)
     found["channels"] = [channels]

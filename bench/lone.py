@@ -6,8 +6,8 @@
     bench/lone.py --micros 1000000    each may take longer, where other work runs
 
 Ten milliseconds is what a thread that parks sleeps at most, so an event that takes as long may have met a thread that
-nobody woke, or one whose processor others had: tests/README.md says how to tell them apart. Build the program first, by `rt run -- 10000 1000000` in
-`crates/disruptor_lone`. The status is 1 where an event took longer.
+nobody woke, or one whose processor others had: tests/README.md says how to tell them apart. Build the program first, by
+`rt run -- --check` in `crates/disruptor_waits`. The status is 1 where an event took longer.
 """
 
 import argparse
@@ -16,7 +16,7 @@ import subprocess
 import sys
 
 TOP = os.path.dirname(os.path.dirname(os.path.abspath(__file__)))
-LONE = os.path.join(TOP, "crates", "disruptor_lone", "out", "disruptor_lone")
+WAITS = os.path.join(TOP, "crates", "disruptor_waits", "out", "disruptor_waits")
 LATE = 5
 
 
@@ -25,7 +25,7 @@ def main():
     parser.add_argument("--events", type=int, default=1_000_000)
     parser.add_argument("--micros", type=int, default=10_000)
     asked = parser.parse_args()
-    ran = subprocess.run([LONE, str(asked.events), str(asked.micros)], capture_output=True, text=True)
+    ran = subprocess.run([WAITS, "one-slot", str(asked.events), str(asked.micros)], capture_output=True, text=True)
     print(ran.stderr.strip(), flush=True)
     if ran.returncode == LATE:
         sys.exit(f"FAILED: an event took more than {asked.micros} microseconds")

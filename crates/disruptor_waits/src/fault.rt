@@ -1,24 +1,29 @@
 //! Why a run fails, or does not begin.
 
 use dr_disruptor::RunFault;
-use dr_graph::GraphFault;
-use dr_seq::SizeFault;
 use std::alloc::{AllocError, AllocFailed};
 use std::io;
 use thiserror::Error;
 
+const USAGE: &str =
+    "usage: disruptor_waits --check | lone STRATEGY EVENTS | idle STRATEGY SECONDS | one-slot EVENTS MICROS | latency EXCHANGE STRATEGY EVENTS NANOS";
+
 /// Why the program ends early. Its text is the line that it prints.
 #[derive(Debug, Drop, Error)]
 pub enum Fault {
-    #[error("usage: disruptor_waits lone STRATEGY EVENTS, or disruptor_waits idle STRATEGY SECONDS, by yielding, spinning or parking")]
+    #[error("{}", USAGE)]
     Usage,
     #[error("{0}")]
     Run(RunFault),
-    #[error("cannot write")]
+    /// There is no clock, or nothing can be written.
+    #[error("no clock, or cannot write")]
     Outside,
-    /// An event took more than a second.
+    /// An event took longer than it may.
     #[error("an event came late")]
     Late,
+    /// The last handler did not note some event.
+    #[error("an event was not noted")]
+    Lost,
 }
 
 impl Fault {
@@ -28,7 +33,7 @@ impl Fault {
             Fault::Usage => 1,
             Fault::Run(_) => 3,
             Fault::Outside => 4,
-            Fault::Late => 5,
+            Fault::Late | Fault::Lost => 5,
         }
     }
 }
@@ -36,18 +41,6 @@ impl Fault {
 impl From<RunFault> for Fault {
     fn from(fault: RunFault) -> Fault {
         Fault::Run(fault)
-    }
-}
-
-impl From<GraphFault> for Fault {
-    fn from(fault: GraphFault) -> Fault {
-        Fault::Run(RunFault::Graph(fault))
-    }
-}
-
-impl From<SizeFault> for Fault {
-    fn from(fault: SizeFault) -> Fault {
-        Fault::Run(RunFault::Size(fault))
     }
 }
 

@@ -1,8 +1,7 @@
 //! Handlers that have nothing to do.
 
-use crate::fault::Fault;
 use crate::pair::{graph, takers};
-use dr_disruptor::{WaitStrategy, run_with};
+use dr_disruptor::{RunFault, WaitStrategy, run_with};
 use dr_seq::Size;
 use std::alloc::Global;
 use std::sync::atomic::AtomicU64;
@@ -19,7 +18,7 @@ pub fn wait<R: Threads + Wait + Clock + Copy + Send + 'static>(
     alloc: Global,
     strategy: WaitStrategy,
     seconds: u64,
-) -> Result<(), Fault> {
+) -> Result<(), RunFault> {
     let taken = Arc::new(alloc, AtomicU64::new(0))?;
     let handlers = takers(alloc, &taken)?;
     let ran = run_with(

@@ -3,10 +3,11 @@
 ghost use Rattle.std.specs.Prelude.{◌≡◌};
 ghost use Rattle.dr_ring.specs.Calls.Ends.{sender_place};
 
-use crate::fault::Fault;
+use crate::SENDER;
+use crate::clock::{micros_since, pause};
 use crate::pair::{graph, takers};
 use crate::times::Times;
-use dr_disruptor::{LiveSender, WaitStrategy, run_with};
+use dr_disruptor::{LiveSender, RunFault, WaitStrategy, run_with};
 use dr_meaning::Inlet;
 use dr_seq::{Event, Size};
 use dr_workers::{OpenGate, Patience, WorkFault, produce_with};
@@ -15,9 +16,6 @@ use std::sync::atomic::{AtomicU64, Ordering};
 use std::sync::{Arc, Wait};
 use std::thread::Threads;
 use std::time::{Clock, Instant};
-
-/// The number of the sender's worker.
-const SENDER: usize = 16;
 
 /// The slots of the ring.
 const SLOTS: u64 = 64;
@@ -32,32 +30,6 @@ fn await_taken<R: Wait, P: Patience>(rt: &R, patience: &mut P, taken: &AtomicU64
         patience.wait();
     }
     unreachable!()
-}
-
-// How many microseconds have gone since then, and the most where no clock tells it.
-fn micros_since(clock: &impl Clock, begun: Option<Instant>) -> u64 {
-    let Some(begun) = begun else {
-        return u64::MAX;
-    };
-    match begun.elapsed(clock) {
-        Ok(time) => {
-            let seconds = time.as_secs().saturating_mul(1_000_000);
-            seconds.saturating_add(u64::from(time.subsec_micros()))
-        }
-        Err(_) => u64::MAX,
-    }
-}
-
-// Lets up to 255 microseconds go by, other ones for each number, in which the threads that look for the next event
-// go to sleep, or are about to, or not yet.
-fn pause(clock: &impl Clock, number: u64) {
-    let begun = Instant::now(clock).ok();
-    let micros = number.wrapping_mul(0x9e37_79b9_7f4a_7c15) >> 56;
-    for _ in 0..u64::MAX {
-        if micros_since(clock, begun) >= micros {
-            return;
-        }
-    }
 }
 
 // Sends an event, waits until it was taken, and notes how long that took.
@@ -79,7 +51,7 @@ fn send_one<R: Wait + Clock, I: Inlet<Event>, P: Patience>(
     let produced = produce_with(rt, inlet, &OpenGate, SENDER, &[event], 1, patience);
     if produced.fault.is_none() {
         await_taken(rt, patience, taken, number);
-        times.note(micros_since(rt, begun));
+        times.note(micros_since(rt, begun).unwrap_or(u64::MAX));
     }
     produced.fault
 }
@@ -129,7 +101,7 @@ pub fn send<R: Threads + Wait + Clock + Copy + Send + 'static>(
     alloc: Global,
     strategy: WaitStrategy,
     events: u64,
-) -> Result<Times, Fault> {
+) -> Result<Times, RunFault> {
     let taken = Arc::new(alloc, AtomicU64::new(0))?;
     let handlers = takers(alloc, &taken)?;
     let times = Times::new();

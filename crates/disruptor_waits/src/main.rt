@@ -1,17 +1,28 @@
-//! How a run waits, by each strategy: lone events, each to be taken in time, and handlers that have nothing to do.
+//! How the threads over a ring wait, and how long events take.
 //!
 //! `disruptor_waits lone STRATEGY EVENTS` sends events one by one through two handlers of which the second follows
 //! the first, each once the second took the one before and after a pause of changing length, so that it finds the
 //! threads awake, asleep or on their way. None may take more than a second, and how long they took stands on standard
-//! error. `disruptor_waits idle STRATEGY SECONDS` leaves the same handlers without an event for so long, for who
-//! measures what that costs.
+//! error. `one-slot EVENTS MICROS` sends them over a ring of one slot, whose workers park: each once the last handler
+//! completed the one before, and none may take longer until the sender sees that.
+//!
+//! `idle STRATEGY SECONDS` leaves the same handlers without an event for so long, for who measures what that costs.
+//!
+//! `latency EXCHANGE STRATEGY EVENTS NANOS` sends an event each so many nanoseconds through `ring`, `plain` or
+//! `senders`, and prints how many nanoseconds each took through three handlers. `--check` runs a little of each but `idle`,
+//! and prints nothing that a clock decides. A strategy is `yielding`, `spinning` or `parking`.
 #![tactic(auto)]
 
+mod clock;
 mod fault;
 mod idle;
+mod latency;
 mod lone;
+mod one_slot;
 mod pair;
+mod stopwatch;
 mod times;
+mod words;
 
 use dr_disruptor::WaitStrategy;
 use fault::Fault;
@@ -21,21 +32,22 @@ use std::process::ExitCode;
 use std::rt::Runtime;
 use std::sync::Wait;
 use std::thread::Threads;
+use times::Times;
+use words::{Exchange, Task, read};
 
-fn strategy(word: &str) -> Result<WaitStrategy, Fault> {
-    match word {
-        "yielding" => Ok(WaitStrategy::Yielding),
-        "spinning" => Ok(WaitStrategy::Spinning),
-        "parking" => Ok(WaitStrategy::Parking),
-        _ => Err(Fault::Usage),
-    }
-}
+/// The number of the sender's worker.
+const SENDER: usize = 16;
 
-fn number(word: &str) -> Result<u64, Fault> {
-    match word.parse() {
-        Ok(number) => Ok(number),
-        Err(_) => Err(Fault::Usage),
+/// How many microseconds a lone event may take.
+const MOST: u64 = 1_000_000;
+
+// Tells how long events took, and whether none took longer than this.
+fn judge<R: Runtime>(rt: &R, times: &Times, most: u64) -> Result<(), Fault> {
+    eprintln!(rt; "{times}")?;
+    if times.are_above(most) {
+        return Err(Fault::Late);
     }
+    Ok(())
 }
 
 fn send_lone<R: Runtime + Threads + Wait + Copy + Send + 'static>(
@@ -45,27 +57,53 @@ fn send_lone<R: Runtime + Threads + Wait + Copy + Send + 'static>(
     events: u64,
 ) -> Result<(), Fault> {
     let times = lone::send(rt, alloc, strategy, events)?;
-    eprintln!(rt; "{times}")?;
-    if times.are_late() {
-        return Err(Fault::Late);
-    }
+    judge(&rt, &times, MOST)?;
     println!(rt; "{events} events, each taken in time")?;
     Ok(())
+}
+
+fn send_one_slot<R: Runtime + Threads + Wait + Copy + Send + 'static>(
+    rt: R,
+    alloc: Global,
+    events: usize,
+    micros: u64,
+) -> Result<(), Fault> {
+    let stopwatch = one_slot::send(rt, alloc, events)?;
+    judge(&rt, stopwatch.times(), micros)?;
+    println!(rt; "each was completed in time")?;
+    Ok(())
+}
+
+fn check<R: Runtime + Threads + Wait + Copy + Send + 'static>(
+    rt: R,
+    alloc: Global,
+) -> Result<(), Fault> {
+    send_lone(rt, alloc, WaitStrategy::Parking, 3000)?;
+    send_one_slot(rt, alloc, 10_000, MOST)?;
+    for exchange in Exchange::ALL {
+        latency::check(rt, alloc, exchange)?;
+    }
+    Ok(())
+}
+
+fn asked<R: Runtime + Alloc<A = Global>>(rt: &R) -> Result<Task, Fault> {
+    let words: Vec<String> = env::args(rt)?.skip(1).collect(rt.alloc())?;
+    match read(words.as_slice()) {
+        Some(task) => Ok(task),
+        None => Err(Fault::Usage),
+    }
 }
 
 fn run<R: Runtime + Alloc<A = Global> + Threads + Wait + Copy + Send + 'static>(
     rt: R,
 ) -> Result<(), Fault> {
     let alloc = rt.alloc();
-    let words: Vec<String> = env::args(&rt)?.skip(1).collect(alloc)?;
-    let [mode, way, count] = words.as_slice() else {
-        return Err(Fault::Usage);
-    };
-    let (way, count) = (strategy(way.as_str())?, number(count.as_str())?);
-    match mode.as_str() {
-        "lone" => send_lone(rt, alloc, way, count),
-        "idle" => idle::wait(rt, alloc, way, count),
-        _ => Err(Fault::Usage),
+    match asked(&rt)? {
+        Task::Check => check(rt, alloc),
+        Task::Lone { strategy, events } => send_lone(rt, alloc, strategy, events),
+        Task::OneSlot { events, micros } => send_one_slot(rt, alloc, events, micros),
+        Task::Idle { strategy, seconds } => Ok(idle::wait(rt, alloc, strategy, seconds)?),
+        Task::Latency(order) => latency::measure(rt, alloc, order),
     }
 }
 

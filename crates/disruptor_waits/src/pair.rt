@@ -1,7 +1,7 @@
 //! Two handlers, of which the second follows the first.
 
-use crate::fault::Fault;
-use dr_graph::{Graph, GraphBuilder, GraphFault};
+use dr_disruptor::RunFault;
+use dr_graph::{Graph, GraphBuilder, GraphFault, Group};
 use dr_meaning::Handler;
 use dr_seq::Event;
 use std::alloc::Global;
@@ -24,16 +24,21 @@ impl Handler<Event> for Taker {
     }
 }
 
+/// Declares both, and gives the second.
+pub fn declare(builder: &mut GraphBuilder) -> Result<Group, GraphFault> {
+    let first = builder.handle_with(&["first"])?;
+    builder.then(&first, &["second"])
+}
+
 /// Their graph.
 pub fn graph(alloc: Global) -> Result<Graph, GraphFault> {
     let mut builder = GraphBuilder::new(alloc);
-    let first = builder.handle_with(&["first"])?;
-    let _second = builder.then(&first, &["second"])?;
+    let _second = declare(&mut builder)?;
     builder.build()
 }
 
 /// Both of them, of which the second shows there what it took.
-pub fn takers(alloc: Global, taken: &Arc<AtomicU64, Global>) -> Result<Vec<Taker>, Fault> {
+pub fn takers(alloc: Global, taken: &Arc<AtomicU64, Global>) -> Result<Vec<Taker>, RunFault> {
     let unseen = Arc::new(alloc, AtomicU64::new(0))?;
     let taken = Arc::try_clone(taken)?;
     Ok(vec![in alloc; Taker { taken: unseen }, Taker { taken }]?)

@@ -7,9 +7,6 @@ use std::sync::atomic::{AtomicU64, Ordering};
 /// come to a thread that was not woken.
 const NEARLY_A_SLEEP: u64 = 9_000;
 
-/// No event may take more microseconds.
-const MOST: u64 = 1_000_000;
-
 /// How long events took, in microseconds.
 #[derive(Drop)]
 pub struct Times {
@@ -41,9 +38,9 @@ impl Times {
         }
     }
 
-    /// Whether an event took too long.
-    pub fn are_late(&self) -> bool {
-        self.most.load(Ordering::SeqCst) > MOST
+    /// Whether an event took longer than this.
+    pub fn are_above(&self, micros: u64) -> bool {
+        self.most.load(Ordering::SeqCst) > micros
     }
 }
 

@@ -1,9 +1,9 @@
-//! What is measured.
+//! What the program is asked.
 
 use dr_disruptor::WaitStrategy;
 use std::fmt;
 
-/// What the events go through.
+/// What the events of a measurement go through.
 #[derive(Clone, Copy)]
 pub enum Exchange {
     Ring,
@@ -63,13 +63,66 @@ pub struct Order {
     pub gap: u64,
 }
 
-/// Reads the words of a measurement.
-pub fn read_order(words: [&str; 4]) -> Option<Order> {
-    let [exchange, way, events, gap] = words;
+/// What is asked: the program's modes.
+#[derive(Clone, Copy)]
+pub enum Task {
+    Check,
+    Lone {
+        strategy: WaitStrategy,
+        events: u64,
+    },
+    Idle {
+        strategy: WaitStrategy,
+        seconds: u64,
+    },
+    OneSlot {
+        events: usize,
+        micros: u64,
+    },
+    Latency(Order),
+}
+
+fn two_words(mode: &str, first: &str, second: u64) -> Option<Task> {
+    match mode {
+        "lone" => Some(Task::Lone {
+            strategy: strategy(first)?,
+            events: second,
+        }),
+        "idle" => Some(Task::Idle {
+            strategy: strategy(first)?,
+            seconds: second,
+        }),
+        "one-slot" => Some(Task::OneSlot {
+            events: first.parse().ok()?,
+            micros: second,
+        }),
+        _ => None,
+    }
+}
+
+fn read_order(exchange: &str, way: &str, events: &str, gap: &str) -> Option<Order> {
     Some(Order {
         exchange: Exchange::named(exchange)?,
         strategy: strategy(way)?,
         events: events.parse().ok()?,
         gap: gap.parse().ok()?,
     })
+}
+
+/// Reads the program's words.
+pub fn read(words: &[String]) -> Option<Task> {
+    match words {
+        [only] if only.as_str() == "--check" => Some(Task::Check),
+        [mode, first, second] => two_words(mode.as_str(), first.as_str(), second.parse().ok()?),
+        [mode, exchange, way, events, gap] if mode.as_str() == "latency" => {
+            let asked = read_order(
+                exchange.as_str(),
+                way.as_str(),
+                events.as_str(),
+                gap.as_str(),
+            )?;
+            Some(Task::Latency(asked))
+        }
+        _ => None,
+    }
 }

@@ -1,11 +1,11 @@
 //! The handlers' threads.
 
 use crate::clock::nanos_since;
-use crate::fault::Fault;
-use crate::request::Order;
+use crate::words::Order;
+use dr_disruptor::RunFault;
 use dr_meaning::{Handler, Outlet};
 use dr_seq::Event;
-use dr_workers::{Bell, OpenGate, Ringing, consume_with};
+use dr_workers::{Bell, OpenGate, Ringing, WorkFault, consume_with};
 use std::alloc::Global;
 use std::rt::Clock;
 use std::sync::{Arc, Wait};
@@ -16,7 +16,7 @@ use std::time::Instant;
 const BATCH: usize = 256;
 
 /// A handler's thread: how many nanoseconds each event took, if it notes that.
-pub type Handling = JoinHandle<Result<Vec<u64>, Fault>>;
+pub type Handling = JoinHandle<Result<Vec<u64>, WorkFault>>;
 
 /// A handler that notes of each event for which it has room how long it took.
 #[derive(Drop)]
@@ -33,9 +33,8 @@ impl<'a, R: Clock> Handler<Event> for Noting<'a, R> {
 
     fn on_event(&mut self, event: Event, s: u64, _end: bool) {
         if let Some(took) = self.took.get_mut(s as usize) {
-            *took = nanos_since(self.clock, self.begun)
-                .saturating_sub(event.first)
-                .max(1);
+            let now = nanos_since(self.clock, self.begun).unwrap_or(u64::MAX);
+            *took = now.saturating_sub(event.first).max(1);
         }
     }
 }
@@ -49,7 +48,7 @@ fn handle<R: Clock + Wait, O: Outlet<Event> + Drop>(
     order: Order,
     begun: Instant,
     took: Vec<u64>,
-) -> Result<Vec<u64>, Fault> {
+) -> Result<Vec<u64>, WorkFault> {
     let mut noting = Noting {
         clock: rt,
         begun,
@@ -68,7 +67,7 @@ fn handle<R: Clock + Wait, O: Outlet<Event> + Drop>(
         &mut waits,
     ) {
         None => Ok(noting.took),
-        Some(fault) => Err(Fault::from(fault)),
+        Some(fault) => Err(fault),
     }
 }
 
@@ -83,11 +82,11 @@ fn start_one<
     order: Order,
     begun: Instant,
     took: Vec<u64>,
-) -> Result<Handling, Fault> {
+) -> Result<Handling, RunFault> {
     let work = move || handle(&rt, who, outlet, &bell, order, begun, took);
     match thread::spawn(&rt, work) {
         Ok(handling) => Ok(handling),
-        Err(_) => Err(Fault::Thread),
+        Err(_) => Err(RunFault::Memory),
     }
 }
 
@@ -102,7 +101,7 @@ pub fn start<
     bell: &Arc<Bell, Global>,
     order: Order,
     begun: Instant,
-) -> Result<Vec<Handling>, Fault> {
+) -> Result<Vec<Handling>, RunFault> {
     let last = outlets.len().wrapping_sub(1);
     let mut started = Vec::new(alloc);
     for (who, outlet) in outlets.into_iter().enumerate() {
@@ -115,10 +114,17 @@ pub fn start<
 }
 
 /// Waits for all handlers, and gives what the last one noted.
-pub fn noted<R: Threads>(rt: &R, alloc: Global, started: Vec<Handling>) -> Result<Vec<u64>, Fault> {
+pub fn noted<R: Threads>(
+    rt: &R,
+    alloc: Global,
+    started: Vec<Handling>,
+) -> Result<Vec<u64>, RunFault> {
     let mut last = Vec::new(alloc);
-    for handling in started {
-        last = handling.join(rt)?;
+    for (who, handling) in started.into_iter().enumerate() {
+        match handling.join(rt) {
+            Ok(took) => last = took,
+            Err(fault) => return Err(RunFault::Worker { who, fault }),
+        }
     }
     Ok(last)
 }

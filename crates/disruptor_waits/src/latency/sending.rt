@@ -1,17 +1,14 @@
 //! Events that are sent now and then.
 
+use crate::SENDER;
 use crate::clock::{await_nanos, nanos_since};
-use crate::fault::Fault;
-use crate::request::Order;
+use crate::words::Order;
 use dr_meaning::{Inlet, Refusal};
 use dr_seq::Event;
-use dr_workers::{Bell, OpenGate, Patience, Ringing, produce_with};
+use dr_workers::{Bell, OpenGate, Patience, Ringing, WorkFault, produce_with};
 use std::rt::Clock;
 use std::sync::Wait;
 use std::time::Instant;
-
-/// The number of the sender's worker.
-const SENDER: usize = 16;
 
 /// A sender's end, which tells the handlers when there is no more to come.
 pub trait Ends: Inlet<Event> + Drop {
@@ -37,15 +34,15 @@ impl Ends for dr_senders::Sender {
     }
 }
 
-/// Sends the events, each as its time has come, and with the time at which its claim began.
+/// Sends the events, each as its time has come, and with the time at which its claim began, up to one that is refused.
 fn send<R: Wait + Clock, I: Inlet<Event>, P: Patience>(
     rt: &R,
     inlet: &mut I,
     patience: &mut P,
     order: Order,
     begun: Instant,
-) -> Result<(), Fault> {
-    let mut due = nanos_since(rt, begun);
+) -> Option<WorkFault> {
+    let mut due = nanos_since(rt, begun).unwrap_or(u64::MAX);
     for _ in 0..order.events {
         due = due.saturating_add(order.gap);
         let event = Event {
@@ -53,11 +50,11 @@ fn send<R: Wait + Clock, I: Inlet<Event>, P: Patience>(
             second: 0,
         };
         let produced = produce_with(rt, inlet, &OpenGate, SENDER, &[event], 1, patience);
-        if let Some(fault) = produced.fault {
-            return Err(Fault::from(fault));
+        if produced.fault.is_some() {
+            return produced.fault;
         }
     }
-    Ok(())
+    None
 }
 
 /// Sends them through an end that rings, and ends.
@@ -67,13 +64,15 @@ pub fn send_all<R: Wait + Clock, I: Ends>(
     bell: &Bell,
     order: Order,
     begun: Instant,
-) -> Result<(), Fault> {
+) -> Option<WorkFault> {
     let mut inlet = Ringing::new(sender, bell);
     let mut waits = order.strategy.begin(rt, bell, 1);
     let sent = send(rt, &mut inlet, &mut waits, order, begun);
     let mut sender = inlet.into_end();
     let ended = sender.end();
     bell.ring();
-    sent?;
-    Ok(ended?)
+    match (sent, ended) {
+        (None, Err(refusal)) => Some(WorkFault::Refused(refusal)),
+        (sent, _) => sent,
+    }
 }
