@@ -11,7 +11,7 @@ use dr_workers::Waiting;
 use std::alloc::Global;
 use std::process::ExitCode;
 use std::sync::Wait;
-use std::thread::{self, Threads};
+use std::thread::{self, JoinHandle, Threads};
 use thiserror::Error;
 
 /// The most orders that a handler reads at once.
@@ -27,7 +27,7 @@ struct Order {
     quantity: u64,
 }
 
-#[derive(Debug, Drop, Error)]
+#[derive(Clone, Copy, Debug, Error)]
 enum Fault {
     #[error("the graph: {0}")]
     Graph(GraphFault),
@@ -53,24 +53,29 @@ impl InPlaceHandler<Order> for Sum {
     }
 }
 
-/// Takes a handler through all orders, each where it lies, until the ring has drained.
+/// Takes a handler through the next orders, each where it lies.
+fn read(receiver: &mut Receiver<Order>, sum: &mut Sum) -> Result<Polled, Refusal> {
+    let polled = receiver.poll(BATCH)?;
+    if let Polled::Batch { first, count, end } = polled {
+        for (k, order) in receiver.events().enumerate() {
+            let s = first.wrapping_add(k as u64);
+            sum.on_event_in_place(order, s, end);
+        }
+        receiver.complete(first.wrapping_add(count))?;
+    }
+    Ok(polled)
+}
+
+/// Takes a handler through all orders, until the ring has drained.
 fn serve<R: Wait>(rt: &R, mut receiver: Receiver<Order>) -> Result<u64, Fault> {
     let mut sum = Sum { total: 0 };
     let mut waiting = Waiting::new(BATCH);
     for _ in rt.forever() {
-        match receiver.poll(BATCH).map_err(Fault::Refused)? {
-            Polled::Batch { first, count, end } => {
-                for (k, order) in receiver.events().enumerate() {
-                    let s = first.wrapping_add(k as u64);
-                    sum.on_event_in_place(order, s, end);
-                }
-                receiver
-                    .complete(first.wrapping_add(count))
-                    .map_err(Fault::Refused)?;
-                waiting.found(count);
-            }
-            Polled::Drained => return Ok(sum.total),
-            Polled::Gating | Polled::Idle => waiting.wait(),
+        match read(&mut receiver, &mut sum) {
+            Ok(Polled::Batch { count, .. }) => waiting.found(count),
+            Ok(Polled::Drained) => return Ok(sum.total),
+            Ok(Polled::Gating | Polled::Idle) => waiting.wait(),
+            Err(refusal) => return Err(Fault::Refused(refusal)),
         }
     }
     unreachable!()
@@ -105,17 +110,45 @@ fn feed<R: Wait>(rt: &R, sender: &mut Sender<Order>) -> Result<(), Fault> {
     Ok(())
 }
 
+fn declare(builder: &mut GraphBuilder) -> Result<(), GraphFault> {
+    let first = builder.handle_with(&["journal", "risk"])?;
+    builder.then(&first, &["matching"])?;
+    Ok(())
+}
+
 fn graph(alloc: Global) -> Result<Graph, GraphFault> {
     let mut builder = GraphBuilder::new(alloc);
-    let first = builder.handle_with(&["journal", "risk"])?;
-    let _last = builder.then(&first, &["matching"])?;
+    declare(&mut builder)?;
     builder.build()
+}
+
+/// Sends the feed if somebody reads all of it, and closes the ring: the handlers end once it has drained, which it does
+/// only when it is closed.
+fn feed_and_close<R: Wait>(rt: &R, mut sender: Sender<Order>, is_read: bool) -> Result<(), Fault> {
+    let sent = if is_read {
+        feed(rt, &mut sender)
+    } else {
+        Err(Fault::Memory)
+    };
+    let _closed = sender.close();
+    sent
+}
+
+/// What a handler added up, if its thread was started.
+fn total<R: Threads, E: Drop>(
+    rt: &R,
+    handler: Result<JoinHandle<Result<u64, Fault>>, E>,
+) -> Result<u64, Fault> {
+    match handler {
+        Ok(handler) => handler.join(rt),
+        Err(_) => Err(Fault::Memory),
+    }
 }
 
 /// Sends the feed through the three handlers, and gives what each added up.
 fn exchange<R: Threads + Wait + Sync>(
     rt: &R,
-    mut sender: Sender<Order>,
+    sender: Sender<Order>,
     mut receivers: Vec<Receiver<Order>>,
 ) -> Result<(u64, u64, u64), Fault> {
     let (Some(matching), Some(risk), Some(journal)) = (
@@ -132,26 +165,19 @@ fn exchange<R: Threads + Wait + Sync>(
             let journal = scope.spawn(move || serve(rt, journal));
             let risk = scope.spawn(move || serve(rt, risk));
             let matching = scope.spawn(move || serve(rt, matching));
-            let mut sent = Ok(());
-            if journal.is_ok() && risk.is_ok() && matching.is_ok() {
-                sent = feed(rt, &mut sender);
-            }
-            // The handlers end once the ring has drained, which it does only when it is closed.
-            let _closed = sender.close();
-            let (Ok(journal), Ok(risk), Ok(matching)) = (journal, risk, matching) else {
-                return Err(Fault::Memory);
-            };
-            let totals = (journal.join(rt)?, risk.join(rt)?, matching.join(rt)?);
+            let is_read = journal.is_ok() && risk.is_ok() && matching.is_ok();
+            let sent = feed_and_close(rt, sender, is_read);
+            let totals = (total(rt, journal), total(rt, risk), total(rt, matching));
             sent?;
-            Ok(totals)
+            Ok((totals.0?, totals.1?, totals.2?))
         },
     )
 }
 
-fn run<R: Threads + Wait + Sync>(rt: &R, alloc: Global) -> Result<(u64, u64, u64), Fault> {
-    let graph = graph(alloc).map_err(Fault::Graph)?;
+/// The ends of a ring of sixty-four slots.
+fn open(alloc: Global, graph: &Graph) -> Option<(Sender<Order>, Vec<Receiver<Order>>)> {
     let Ok(size) = Size::new(64) else {
-        return Err(Fault::Memory);
+        return None;
     };
     let blank = Order {
         account: 0,
@@ -159,12 +185,20 @@ fn run<R: Threads + Wait + Sync>(rt: &R, alloc: Global) -> Result<(u64, u64, u64
         quantity: 0,
     };
     let Ok(orders) = vec![in alloc; blank; size.get() as usize] else {
-        return Err(Fault::Memory);
+        return None;
     };
-    let Ok((sender, receivers, _halter)) = ring(alloc, &graph, size, MAX_LIMIT, orders) else {
-        return Err(Fault::Memory);
+    let Ok((sender, receivers, _halter)) = ring(alloc, graph, size, MAX_LIMIT, orders) else {
+        return None;
     };
-    exchange(rt, sender, receivers)
+    Some((sender, receivers))
+}
+
+fn run<R: Threads + Wait + Sync>(rt: &R, alloc: Global) -> Result<(u64, u64, u64), Fault> {
+    let graph = graph(alloc).map_err(Fault::Graph)?;
+    match open(alloc, &graph) {
+        Some((sender, receivers)) => exchange(rt, sender, receivers),
+        None => Err(Fault::Memory),
+    }
 }
 
 fn main(rt: HostRuntime) -> ExitCode {
