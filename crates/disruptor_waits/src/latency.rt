@@ -29,6 +29,17 @@ pub fn measure<R: Runtime + Threads + Wait + Copy + Send + 'static>(
     Ok(())
 }
 
+// Sends the events of a measurement, and tells whether the last handler noted each.
+fn are_noted<R: Runtime + Threads + Wait + Copy + Send + 'static>(
+    rt: R,
+    alloc: Global,
+    order: Order,
+) -> Result<bool, Fault> {
+    let begun = Instant::now(&rt)?;
+    let took = pass(rt, alloc, order, begun)?;
+    Ok(!took.contains(&0))
+}
+
 /// Sends some events through an exchange by each strategy, and prints nothing that a clock decides.
 pub fn check<R: Runtime + Threads + Wait + Copy + Send + 'static>(
     rt: R,
@@ -43,7 +54,7 @@ pub fn check<R: Runtime + Threads + Wait + Copy + Send + 'static>(
             events,
             gap,
         };
-        if pass(rt, alloc, order, Instant::now(&rt)?)?.contains(&0) {
+        if !are_noted(rt, alloc, order)? {
             return Err(Fault::Lost);
         }
     }

@@ -5,9 +5,10 @@ ghost use Rattle.dr_ring.specs.Calls.Ends.{sender_place};
 
 use crate::SENDER;
 use crate::clock::{micros_since, pause};
-use crate::pair::{graph, takers};
-use crate::times::Times;
+use crate::pair::takers;
+use crate::times::{Notes, Times};
 use dr_disruptor::{LiveSender, RunFault, WaitStrategy, run_with};
+use dr_graph::Graph;
 use dr_meaning::Inlet;
 use dr_seq::{Event, Size};
 use dr_workers::{OpenGate, Patience, WorkFault, produce_with};
@@ -39,7 +40,7 @@ fn send_one<R: Wait + Clock, I: Inlet<Event>, P: Patience>(
     patience: &mut P,
     taken: &AtomicU64,
     number: u64,
-    times: &Times,
+    notes: &Notes,
 ) -> Option<WorkFault>
     ensures kept { I.kept inlet.new ≡ I.kept inlet.old }
 {
@@ -51,7 +52,7 @@ fn send_one<R: Wait + Clock, I: Inlet<Event>, P: Patience>(
     let produced = produce_with(rt, inlet, &OpenGate, SENDER, &[event], 1, patience);
     if produced.fault.is_none() {
         await_taken(rt, patience, taken, number);
-        times.note(micros_since(rt, begun).unwrap_or(u64::MAX));
+        notes.note(micros_since(rt, begun).unwrap_or(u64::MAX));
     }
     produced.fault
 }
@@ -63,13 +64,13 @@ fn send_each<R: Wait + Clock, I: Inlet<Event>, P: Patience>(
     patience: &mut P,
     taken: &AtomicU64,
     events: u64,
-    times: &Times,
+    notes: &Notes,
 ) -> Option<WorkFault>
     ensures kept { I.kept inlet.new ≡ I.kept inlet.old }
 {
     for number in 1..=events {
         pause(rt, number);
-        let fault = send_one(rt, inlet, patience, taken, number, times);
+        let fault = send_one(rt, inlet, patience, taken, number, notes);
         if fault.is_some() {
             return fault;
         }
@@ -84,7 +85,7 @@ fn send_by<R: Wait + Clock>(
     strategy: WaitStrategy,
     taken: &AtomicU64,
     events: u64,
-    times: &Times,
+    notes: &Notes,
 ) -> Option<WorkFault>
     ensures place { sender_place sender.new ≡ sender_place sender.old }
 {
@@ -92,28 +93,41 @@ fn send_by<R: Wait + Clock>(
         return Some(WorkFault::Memory);
     };
     let mut waits = strategy.begin(rt, &bell, 1);
-    send_each(rt, sender, &mut waits, taken, events, times)
+    send_each(rt, sender, &mut waits, taken, events, notes)
+}
+
+fn send_over<R: Threads + Wait + Clock + Copy + Send + 'static>(
+    rt: R,
+    alloc: Global,
+    graph: &Graph,
+    strategy: WaitStrategy,
+    taken: &Arc<AtomicU64, Global>,
+    events: u64,
+) -> Result<Times, RunFault> {
+    let size = Size::new(SLOTS)?;
+    let handlers = takers(alloc, taken)?;
+    let notes = Notes::new();
+    let ran = run_with(
+        rt,
+        alloc,
+        graph,
+        size,
+        handlers,
+        strategy,
+        |sender| send_by(&rt, sender, strategy, taken, events, &notes),
+    )?;
+    let _handlers = ran.finished()?;
+    Ok(notes.times())
 }
 
 /// Sends so many events through two handlers, and tells how long each took until the second had it.
 pub fn send<R: Threads + Wait + Clock + Copy + Send + 'static>(
     rt: R,
     alloc: Global,
+    graph: &Graph,
     strategy: WaitStrategy,
     events: u64,
 ) -> Result<Times, RunFault> {
     let taken = Arc::new(alloc, AtomicU64::new(0))?;
-    let handlers = takers(alloc, &taken)?;
-    let times = Times::new();
-    let ran = run_with(
-        rt,
-        alloc,
-        &graph(alloc)?,
-        Size::new(SLOTS)?,
-        handlers,
-        strategy,
-        |sender| send_by(&rt, sender, strategy, &taken, events, &times),
-    )?;
-    let _handlers = ran.finished()?;
-    Ok(times)
+    send_over(rt, alloc, graph, strategy, &taken, events)
 }

@@ -25,7 +25,9 @@ mod times;
 mod words;
 
 use dr_disruptor::WaitStrategy;
+use dr_graph::Graph;
 use fault::Fault;
+use pair::graph;
 use std::alloc::Global;
 use std::env;
 use std::process::ExitCode;
@@ -42,7 +44,7 @@ const SENDER: usize = 16;
 const MOST: u64 = 1_000_000;
 
 // Tells how long events took, and whether none took longer than this.
-fn judge<R: Runtime>(rt: &R, times: &Times, most: u64) -> Result<(), Fault> {
+fn judge<R: Runtime>(rt: &R, times: Times, most: u64) -> Result<(), Fault> {
     eprintln!(rt; "{times}")?;
     if times.are_above(most) {
         return Err(Fault::Late);
@@ -53,11 +55,12 @@ fn judge<R: Runtime>(rt: &R, times: &Times, most: u64) -> Result<(), Fault> {
 fn send_lone<R: Runtime + Threads + Wait + Copy + Send + 'static>(
     rt: R,
     alloc: Global,
+    graph: &Graph,
     strategy: WaitStrategy,
     events: u64,
 ) -> Result<(), Fault> {
-    let times = lone::send(rt, alloc, strategy, events)?;
-    judge(&rt, &times, MOST)?;
+    let times = lone::send(rt, alloc, graph, strategy, events)?;
+    judge(&rt, times, MOST)?;
     println!(rt; "{events} events, each taken in time")?;
     Ok(())
 }
@@ -65,11 +68,12 @@ fn send_lone<R: Runtime + Threads + Wait + Copy + Send + 'static>(
 fn send_one_slot<R: Runtime + Threads + Wait + Copy + Send + 'static>(
     rt: R,
     alloc: Global,
+    graph: &Graph,
     events: usize,
     micros: u64,
 ) -> Result<(), Fault> {
-    let stopwatch = one_slot::send(rt, alloc, events)?;
-    judge(&rt, stopwatch.times(), micros)?;
+    let times = one_slot::send(rt, alloc, graph, events)?;
+    judge(&rt, times, micros)?;
     println!(rt; "each was completed in time")?;
     Ok(())
 }
@@ -77,9 +81,10 @@ fn send_one_slot<R: Runtime + Threads + Wait + Copy + Send + 'static>(
 fn check<R: Runtime + Threads + Wait + Copy + Send + 'static>(
     rt: R,
     alloc: Global,
+    graph: &Graph,
 ) -> Result<(), Fault> {
-    send_lone(rt, alloc, WaitStrategy::Parking, 3000)?;
-    send_one_slot(rt, alloc, 10_000, MOST)?;
+    send_lone(rt, alloc, graph, WaitStrategy::Parking, 3000)?;
+    send_one_slot(rt, alloc, graph, 10_000, MOST)?;
     for exchange in Exchange::ALL {
         latency::check(rt, alloc, exchange)?;
     }
@@ -94,17 +99,27 @@ fn asked<R: Runtime + Alloc<A = Global>>(rt: &R) -> Result<Task, Fault> {
     }
 }
 
+fn do_task<R: Runtime + Threads + Wait + Copy + Send + 'static>(
+    rt: R,
+    alloc: Global,
+    graph: &Graph,
+    task: Task,
+) -> Result<(), Fault> {
+    match task {
+        Task::Check => check(rt, alloc, graph),
+        Task::Lone { strategy, events } => send_lone(rt, alloc, graph, strategy, events),
+        Task::OneSlot { events, micros } => send_one_slot(rt, alloc, graph, events, micros),
+        Task::Idle { strategy, seconds } => Ok(idle::wait(rt, alloc, graph, strategy, seconds)?),
+        Task::Latency(order) => latency::measure(rt, alloc, order),
+    }
+}
+
 fn run<R: Runtime + Alloc<A = Global> + Threads + Wait + Copy + Send + 'static>(
     rt: R,
 ) -> Result<(), Fault> {
-    let alloc = rt.alloc();
-    match asked(&rt)? {
-        Task::Check => check(rt, alloc),
-        Task::Lone { strategy, events } => send_lone(rt, alloc, strategy, events),
-        Task::OneSlot { events, micros } => send_one_slot(rt, alloc, events, micros),
-        Task::Idle { strategy, seconds } => Ok(idle::wait(rt, alloc, strategy, seconds)?),
-        Task::Latency(order) => latency::measure(rt, alloc, order),
-    }
+    let task = asked(&rt)?;
+    let graph = graph(rt.alloc())?;
+    do_task(rt, rt.alloc(), &graph, task)
 }
 
 fn main(rt: HostRuntime) -> ExitCode {

@@ -4,28 +4,17 @@ ghost use Rattle.std.specs.Prelude.{◌≡◌};
 ghost use Rattle.dr_ring.specs.Calls.Ends.{sender_place};
 
 use crate::SENDER;
-use crate::pair::graph;
+use crate::pair::idlers;
 use crate::stopwatch::Stopwatch;
+use crate::times::Times;
 use dr_disruptor::{LiveSender, RunFault, WaitStrategy, run_with};
-use dr_meaning::Handler;
+use dr_graph::Graph;
 use dr_seq::{Event, Size};
 use dr_workers::{WorkFault, produce_with};
 use std::alloc::Global;
 use std::sync::{Arc, Wait};
 use std::thread::Threads;
 use std::time::Clock;
-
-/// A handler that does nothing.
-#[derive(Drop)]
-struct Idler;
-
-impl Handler<Event> for Idler {
-    ghost use Rattle.std.specs.Prelude.{⊤};
-
-    ghost goes = { λ old event s end new. ⊤ };
-
-    fn on_event(&mut self, _event: Event, _s: u64, _end: bool) {}
-}
 
 // Sends a script event by event, by one that parks where there is no room.
 fn send_each<R: Wait + Clock>(
@@ -43,24 +32,36 @@ fn send_each<R: Wait + Clock>(
     produce_with(rt, sender, stopwatch, SENDER, script, 1, &mut waits).fault
 }
 
-/// Sends so many events, and one more, whose room tells that the last of them is completed.
-pub fn send<R: Threads + Wait + Clock + Copy + Send + 'static>(
+fn send_over<R: Threads + Wait + Clock + Copy + Send + 'static>(
     rt: R,
     alloc: Global,
-    events: usize,
-) -> Result<Stopwatch<R>, RunFault> {
-    let handlers = vec![in alloc; Idler, Idler]?;
-    let script = vec![in alloc; Event::NONE; events.saturating_add(1)]?;
+    graph: &Graph,
+    size: Size,
+    script: &[Event],
+) -> Result<Times, RunFault> {
+    let handlers = idlers(alloc)?;
     let stopwatch = Stopwatch::new(rt);
     let ran = run_with(
         rt,
         alloc,
-        &graph(alloc)?,
-        Size::new(1)?,
+        graph,
+        size,
         handlers,
         WaitStrategy::Parking,
-        |sender| send_each(&rt, sender, &stopwatch, script.as_slice()),
+        |sender| send_each(&rt, sender, &stopwatch, script),
     )?;
     let _handlers = ran.finished()?;
-    Ok(stopwatch)
+    Ok(stopwatch.times())
+}
+
+/// Sends so many events, and one more, whose room tells that the last of them is completed. It tells how long they took.
+pub fn send<R: Threads + Wait + Clock + Copy + Send + 'static>(
+    rt: R,
+    alloc: Global,
+    graph: &Graph,
+    events: usize,
+) -> Result<Times, RunFault> {
+    let size = Size::new(1)?;
+    let script = vec![in alloc; Event::NONE; events.saturating_add(1)]?;
+    send_over(rt, alloc, graph, size, script.as_slice())
 }

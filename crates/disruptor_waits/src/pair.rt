@@ -24,6 +24,18 @@ impl Handler<Event> for Taker {
     }
 }
 
+/// A handler that does nothing.
+#[derive(Drop)]
+pub struct Idler;
+
+impl Handler<Event> for Idler {
+    ghost use Rattle.std.specs.Prelude.{⊤};
+
+    ghost goes = { λ old event s end new. ⊤ };
+
+    fn on_event(&mut self, _event: Event, _s: u64, _end: bool) {}
+}
+
 /// Declares both, and gives the second.
 pub fn declare(builder: &mut GraphBuilder) -> Result<Group, GraphFault> {
     let first = builder.handle_with(&["first"])?;
@@ -31,10 +43,15 @@ pub fn declare(builder: &mut GraphBuilder) -> Result<Group, GraphFault> {
 }
 
 /// Their graph.
-pub fn graph(alloc: Global) -> Result<Graph, GraphFault> {
+pub fn graph(alloc: Global) -> Result<Graph, RunFault> {
     let mut builder = GraphBuilder::new(alloc);
     let _second = declare(&mut builder)?;
-    builder.build()
+    Ok(builder.build()?)
+}
+
+/// Both of them, where they do nothing.
+pub fn idlers(alloc: Global) -> Result<Vec<Idler>, RunFault> {
+    Ok(vec![in alloc; Idler, Idler]?)
 }
 
 /// Both of them, of which the second shows there what it took.

@@ -1,7 +1,7 @@
 //! How long events take until the next one finds room.
 
 use crate::clock::{micros_since, pause};
-use crate::times::Times;
+use crate::times::{Notes, Times};
 use dr_workers::{Gate, GateAnswer};
 use std::sync::atomic::{AtomicU64, Ordering};
 use std::time::{Clock, Instant};
@@ -13,7 +13,7 @@ pub struct Stopwatch<R> {
     clock: R,
     begun: Option<Instant>,
     published: AtomicU64,
-    times: Times,
+    notes: Notes,
 }
 
 impl<R: Clock> Stopwatch<R> {
@@ -23,7 +23,7 @@ impl<R: Clock> Stopwatch<R> {
             clock,
             begun,
             published: AtomicU64::new(0),
-            times: Times::new(),
+            notes: Notes::new(),
         }
     }
 
@@ -32,8 +32,8 @@ impl<R: Clock> Stopwatch<R> {
     }
 
     /// How long the events took.
-    pub fn times(&self) -> &Times {
-        &self.times
+    pub fn times(&self) -> Times {
+        self.notes.times()
     }
 }
 
@@ -42,7 +42,7 @@ impl<R: Clock> Gate for Stopwatch<R> {
         if turn > 0 {
             let now = self.micros().unwrap_or(u64::MAX);
             let published = self.published.load(Ordering::SeqCst);
-            self.times.note(now.saturating_sub(published));
+            self.notes.note(now.saturating_sub(published));
         }
         pause(&self.clock, turn);
         self.published

@@ -71,18 +71,22 @@ fn handle<R: Clock + Wait, O: Outlet<Event> + Drop>(
     }
 }
 
+// Starts the thread of a handler that notes so many events.
 fn start_one<
     R: Threads + Clock + Wait + Copy + Send + 'static,
     O: Outlet<Event> + Drop + Send + 'static,
 >(
     rt: R,
+    alloc: Global,
     who: usize,
     outlet: O,
-    bell: Arc<Bell, Global>,
+    bell: &Arc<Bell, Global>,
     order: Order,
     begun: Instant,
-    took: Vec<u64>,
+    room: usize,
 ) -> Result<Handling, RunFault> {
+    let took = vec![in alloc; 0u64; room]?;
+    let bell = Arc::try_clone(bell)?;
     let work = move || handle(&rt, who, outlet, &bell, order, begun, took);
     match thread::spawn(&rt, work) {
         Ok(handling) => Ok(handling),
@@ -106,9 +110,7 @@ pub fn start<
     let mut started = Vec::new(alloc);
     for (who, outlet) in outlets.into_iter().enumerate() {
         let room = if who == last { order.events } else { 0 };
-        let took = vec![in alloc; 0u64; room]?;
-        let bell = Arc::try_clone(bell)?;
-        started.push(start_one(rt, who, outlet, bell, order, begun, took)?)?;
+        started.push(start_one(rt, alloc, who, outlet, bell, order, begun, room)?)?;
     }
     Ok(started)
 }
