@@ -2,7 +2,7 @@
 #![tactic(auto)]
 
 use dr_disruptor::{RunFault, run};
-use dr_graph::{Graph, GraphBuilder, GraphFault};
+use dr_graph::{Graph, GraphBuilder};
 use dr_meaning::Handler;
 use dr_seq::{Event, Size};
 use std::alloc::Global;
@@ -25,35 +25,25 @@ impl Handler<Event> for Adder {
     }
 }
 
-/// Two handlers, of which the second follows the first.
-fn declare(builder: &mut GraphBuilder) -> Result<(), GraphFault> {
-    let first = builder.handle_with(&["first"])?;
-    builder.then(&first, &["second"])?;
-    Ok(())
-}
-
-/// Sends a hundred events through two handlers, and gives them back.
-fn send(
-    rt: impl Threads + Wait + Copy + Send + 'static,
-    alloc: Global,
-    graph: &Graph,
-    size: Size,
-) -> Result<Vec<Adder>, RunFault> {
+/// Sends a hundred events through the handlers of a graph, and gives these back.
+fn send<R>(rt: R, alloc: Global, graph: &Graph) -> Result<Vec<Adder>, RunFault>
+where
+    R: Threads + Wait + Copy + Send + 'static,
+{
     let adders = vec![in alloc; Adder { total: 0 }, Adder { total: 0 }]?;
     let script = [Event {
         first: 1,
         second: 0,
     }; 100];
-    run(rt, alloc, graph, size, adders, &script)?.finished()
+    run(rt, alloc, graph, Size::new(64)?, adders, &script)?.finished()
 }
 
 fn main(rt: HostRuntime) -> Result<(), RunFault> {
-    let alloc = rt.alloc();
-    let size = Size::new(64)?;
-    let mut builder = GraphBuilder::new(alloc);
-    declare(&mut builder)?;
+    let mut builder = GraphBuilder::new(rt.alloc());
+    let first = builder.handle_with(&["first"])?;
+    builder.then(&first, &["second"])?;
     let graph = builder.build()?;
-    for adder in send(rt, alloc, &graph, size)?.iter() {
+    for adder in send(rt, rt.alloc(), &graph)?.iter() {
         let _printed = rt.println(&adder.total);
     }
     Ok(())
