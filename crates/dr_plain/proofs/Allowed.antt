@@ -1,5 +1,6 @@
 -- Each kind of step is allowed.
-use Rattle.std.proofs.Common.{◌≡◌, ℕ, ◌+◌, ◌<◌, ◌≤◌, ◌==◌, ◌⊎◌, inl, inr, if◌then◌else◌, true, List, [], ◌∷◌, ◌++◌, length, get_or, set, replicate, Option, None, Some, sym, refl, ap, ◌∙◌, subst, arith, append_assoc}
+use Rattle.std.proofs.Common.{◌≡◌, ℕ, ◌+◌, ◌<◌, ◌≤◌, ◌==◌, ◌⊎◌, inl, inr, if◌then◌else◌, true, List, [], ◌∷◌, ◌++◌, length, get_or, set, replicate}
+use Rattle.std.proofs.Common.{Option, None, Some, sym, refl, ap, ◌∙◌, subst, arith, append_assoc}
 use Rattle.std.specs.Prelude.{Contains}
 use Rattle.std.proofs.lemmas.List.{length-append, map-append}
 use Rattle.std.proofs.Math.Seq.{drop-append_seam}
@@ -29,8 +30,10 @@ use Rattle.dr_plain.specs.Meaning.Rule.{World, KeepsRule}
 use Rattle.dr_plain.specs.Meaning.Lying.{LiesBy, Lies}
 use Rattle.dr_plain.specs.Meaning.Steps.{Happens, next_of}
 use Rattle.dr_plain.specs.Calls.Finds.{FindsCompleted, FindsHalt, FindsEvents}
-use Rattle.dr_plain.specs.Inside.Seats.{End, Hand, Sitting, Tells, ring_ends, Loads, Stores, world_of, Ruled, as_sender, as_receiver, as_halter, sender_of, receiver_of, halter_of, IsSender, IsReceiver, IsHalter}
-use Rattle.dr_plain.specs.Inside.Seats.{lent_all, taken_by_claim, given_by_publication, taken_by_poll, given_by_completion, SenderLookedAtCount, SenderLookedAtHalt, SenderPublished, SenderHalted, SenderClosed}
+use Rattle.dr_plain.specs.Inside.Seats.{End, Hand, Sitting, Tells, ring_ends, Loads, Stores, world_of, Ruled, as_sender, as_receiver, as_halter}
+use Rattle.dr_plain.specs.Inside.Seats.{sender_of, receiver_of, halter_of, IsSender, IsReceiver, IsHalter}
+use Rattle.dr_plain.specs.Inside.Seats.{lent_all, taken_by_claim, given_by_publication, taken_by_poll, given_by_completion, SenderLookedAtCount}
+use Rattle.dr_plain.specs.Inside.Seats.{SenderLookedAtHalt, SenderPublished, SenderHalted, SenderClosed}
 use Rattle.dr_plain.specs.Inside.Seats.{ReceiverLookedAtClosed, ReceiverLookedAtCursor, ReceiverLookedAtCount, ReceiverCompleted, HalterHalted}
 use Rattle.dr_runs.proofs.Elements.{at_below}
 use Rattle.dr_runs.proofs.Offers.{final_inside}
@@ -78,7 +81,8 @@ module _ {T : Type 0} where
   stays k u hand homes lies = (record { act = keeps; valid = tt; lies = lies }, refl)
 
   -- what lies at home says nothing of what the sender's record has besides
-  lies_by : (k : Shape) (w : World T) (r : SenderRecord T) (homes : List (maybe.Option (Token T))) → w.sender ≡ r → Lies k w homes → LiesBy k w.receivers (laid r) (claimed r) homes
+  lies_by : (k : Shape) (w : World T) (r : SenderRecord T) (homes : List (maybe.Option (Token T))) → w.sender ≡ r → Lies k w homes
+      → LiesBy k w.receivers (laid r) (claimed r) homes
   lies_by k w r homes e lies = subst (λ (q : SenderRecord T). LiesBy k w.receivers (laid q) (claimed q) homes) e lies
 
   look_at_final : (k : Shape) (w : World T) (r : SenderRecord T) (f : ℕ) → w.sender ≡ r → Contains (finals k.upstreams) f → KeepsRule k w
@@ -184,7 +188,8 @@ module _ {T : Type 0} where
 
   -- a receiver that neither takes nor completes: what lies at home stays
   lies_for : (k : Shape) (w : World T) (h : ℕ) (r q : ReceiverRecord T) (homes : List (maybe.Option (Token T))) → get_elem? w.receivers h ≡ some r
-      → q.completed ≡ r.completed → length q.received ≡ length r.received → Lies k w homes → LiesBy k (set w.receivers h q) (laid w.sender) (claimed w.sender) homes
+      → q.completed ≡ r.completed → length q.received ≡ length r.received → Lies k w homes
+      → LiesBy k (set w.receivers h q) (laid w.sender) (claimed w.sender) homes
   lies_for k w h r q homes at completed received lies = record {
     deep = lies.deep;
     lies = λ j x there s l at_s past away. elim (at_set w.receivers h j q x there) [
@@ -230,7 +235,8 @@ module _ {T : Type 0} where
       }
 
   -- nothing is published more than a round beyond what a receiver completed
-  round_ahead : (k : Shape) (w : World T) (r : ReceiverRecord T) → get_elem? w.receivers r.number ≡ some r → KeepsRule k w → length w.sender.published ≤ r.plan.size + r.completed
+  round_ahead : (k : Shape) (w : World T) (r : ReceiverRecord T) → get_elem? w.receivers r.number ≡ some r → KeepsRule k w
+      → length w.sender.published ≤ r.plan.size + r.completed
   round_ahead k w r at K =
       let was = K.received r.number r at in let a = above k w K r.number (inside_of k w r.number r at K) in let count = was.count in
       let size = ap (λ (p : Shape). p.size) was.plan in omega arith

@@ -22,7 +22,8 @@ use Rattle.dr_plain.specs.Meaning.Moments.{fresh_receiver, fresh_receivers, new_
 use Rattle.dr_runs.proofs.Elements.{at_below, zeros, all_zero}
 use Rattle.dr_runs.proofs.Offers.{final_inside}
 use Rattle.dr_plain.proofs.Keeps.{upstream_inside, keeps_sender_looks, keeps_halt_look}
-use Rattle.dr_plain.proofs.Stores.{keeps_publishes, keeps_sender_halts, keeps_halter_halts, keeps_closes, keeps_closed_look, keeps_receiver_looks, keeps_cursor_look, keeps_completes}
+use Rattle.dr_plain.proofs.Stores.{keeps_publishes, keeps_sender_halts, keeps_halter_halts, keeps_closes, keeps_closed_look, keeps_receiver_looks}
+use Rattle.dr_plain.proofs.Stores.{keeps_cursor_look, keeps_completes}
 
 no_counts : (m a n : ℕ) → map (λ h. get_or (zeros m) (count_word h) 0) (range_with_len a n) ≡ replicate n 0
 no_counts m a zero = refl

@@ -85,7 +85,8 @@ module _ {T : Type 0} where
   tokens_saw r xs tokens F = record { count = F.count; opened = F.opened; others = F.others }
 
   -- a sender that has only looked
-  pub fits_saw : {e e' : SenderStand T} {f : SenderFields T} (xs : List Look) → SenderFits e f → LooksAtFinals e.knows xs e'.knows → e'.hand ≡ e.hand → SenderFits e' f
+  pub fits_saw : {e e' : SenderStand T} {f : SenderFields T} (xs : List Look) → SenderFits e f → LooksAtFinals e.knows xs e'.knows → e'.hand ≡ e.hand
+      → SenderFits e' f
   fits_saw {e = e} {e' = e'} {f = f} xs F S same = fits_as e' f (sender_saw e.knows xs) e.hand S.is same (record {
     made = F.made;
     next = F.next;
@@ -103,11 +104,13 @@ module _ {T : Type 0} where
   })
 
   -- a sender that has looked at halt, and claimed nothing
-  pub fits_halt : {e e' : SenderStand T} {f : SenderFields T} (q v : ℕ) → SenderFits e f → e'.knows ≡ halt_looked e.knows q v → (v ≡ 0 → q ≡ 0) → e'.hand ≡ e.hand → SenderFits e' f
+  pub fits_halt : {e e' : SenderStand T} {f : SenderFields T} (q v : ℕ) → SenderFits e f → e'.knows ≡ halt_looked e.knows q v → (v ≡ 0 → q ≡ 0)
+      → e'.hand ≡ e.hand → SenderFits e' f
   fits_halt {e = e} {e' = e'} q v F is none same = fits_saw (look halt_word v ∷ []) F (saw_halt e.knows e'.knows q v is none) same
 
   -- a sender that has found room, and remembers how many events every final completed
-  pub fits_room : {e e' : SenderStand T} {f : SenderFields T} {xs : List Look} {needed found : ℕ} (remembers : ℕ) → SenderFits e f → LooksAtFinals e.knows xs e'.knows
+  pub fits_room : {e e' : SenderStand T} {f : SenderFields T} {xs : List Look} {needed found : ℕ} (remembers : ℕ) → SenderFits e f
+      → LooksAtFinals e.knows xs e'.knows
       → e'.hand ≡ e.hand → IsEnough e.knows xs needed found → remembers ≡ found → SenderFits e' (record f { remembered = remembers })
   fits_room {e' = e'} {f = f} {xs = xs} {found = found} remembers F S same E raised = let saw : SenderFits e' f = fits_saw xs F S same in record {
     made = saw.made;
@@ -142,7 +145,8 @@ module _ {T : Type 0} where
   }
 
   -- what is to be collected is kept
-  pub kept_claimed : (r : SenderRecord T) (n : ℕ) (seen : List Look) (tokens : List (Token T)) → claimed r + n ≤ r.plan.size + length r.published → TokensFit r tokens
+  pub kept_claimed : (r : SenderRecord T) (n : ℕ) (seen : List Look) (tokens : List (Token T)) → claimed r + n ≤ r.plan.size + length r.published
+      → TokensFit r tokens
       → AreKept (more_claimed (sender_saw r seen) n) (claimed r) (claimed r + n) tokens
   kept_claimed r n seen tokens near F s t low lt at =
       let all = laid_count r in let l = there (laid r) s (omega arith) in (l.0, l.1, F.others s l.0 t low l.1 at)
@@ -211,7 +215,8 @@ module _ {T : Type 0} {e : SenderStand T} (e' : SenderStand T) {f : SenderFields
       subst (λ (x : SenderRecord T × ℕ × ℕ). AreKept x.0 x.1 x.2 f.tokens) (λ i. (sym is i, from_is i, to_is i))
       (kept_claimed before q (look halt_word 0 ∷ []) f.tokens near F.tokens)
 
-  pub collect_hand : e'.hand ≡ taken_by_claim before q 0 ++ e.hand → (others : Hand T) × (e'.hand ≡ lanes e'.knows.plan lo (laid_between e'.knows lo upto) ++ others)
+  pub collect_hand : e'.hand ≡ taken_by_claim before q 0 ++ e.hand
+      → (others : Hand T) × (e'.hand ≡ lanes e'.knows.plan lo (laid_between e'.knows lo upto) ++ others)
   collect_hand has =
       let same : q ≡ upto - lo = omega arith in (
         e.hand,
@@ -232,7 +237,8 @@ module _ {T : Type 0} {e : SenderStand T} (e' : SenderStand T) {f : SenderFields
   collected_whole tokens W = let knows : e'.knows.plan ≡ before.plan = ap (λ (x : SenderRecord T). x.plan) is in
       subst (λ (x : Shape × ℕ × ℕ). AreWhole x.0 x.1 x.2 tokens) (λ i. (knows i, sym from_is i, sym to_is i)) W
 
-  pub collected_same : (tokens : List (Token T)) → SameBut e'.knows.plan lo upto f.tokens tokens → SameBut before.plan (claimed before) (claimed before + q) f.tokens tokens
+  pub collected_same : (tokens : List (Token T)) → SameBut e'.knows.plan lo upto f.tokens tokens
+      → SameBut before.plan (claimed before) (claimed before + q) f.tokens tokens
   collected_same tokens S = let knows : e'.knows.plan ≡ before.plan = ap (λ (x : SenderRecord T). x.plan) is in
       subst (λ (x : Shape × ℕ × ℕ). SameBut x.0 x.1 x.2 f.tokens tokens) (λ i. (knows i, sym from_is i, sym to_is i)) S
 
@@ -282,7 +288,8 @@ module _ {T : Type 0} (e : SenderStand T) (w : Written) (cells : List (Option T)
   pub claim_bad : (q ≡ 0) ⊎ (r.plan.size < q) → TriesToClaim (sender_end e w cells) q (sender_end e w cells) (Err BadCount)
   claim_bad bad = refused e BadCount [] (inr (refl, inl (bad_count q r.plan.size bad, refl))) refl (ap (λ (xs : List Look). record r { looks = xs }) (sym (append-nil r.looks)))
 
-  pub claim_halted : (e' : SenderStand T) → (0 < q) × (q ≤ r.plan.size) → e'.knows ≡ halt_looked r 0 1 → TriesToClaim (sender_end e w cells) q (sender_end e' w cells) (Err Halted)
+  pub claim_halted : (e' : SenderStand T) → (0 < q) × (q ≤ r.plan.size) → e'.knows ≡ halt_looked r 0 1
+      → TriesToClaim (sender_end e w cells) q (sender_end e' w cells) (Err Halted)
   claim_halted e' size is =
       refused e' Halted (look halt_word 1 ∷ []) (inr (refl, inr (bad_count_fails q r.plan.size size, inl (tt, refl)))) (inl refl) (is ∙ halt_saw r 0 1 (λ z. refl))
 
@@ -330,7 +337,8 @@ module _ {T : Type 0} (e : SenderStand T) (w : Written) (cells : List (Option T)
   within = le-ltb began.plan.limit (claimed began + q) (let next = S.next in let limit = S.limit in omega arith)
 
   -- a final was too far behind
-  pub claim_no_room : (e' : SenderStand T) → e'.knows ≡ t → IsShort s.plan xs needed → TriesToClaim (sender_end e w cells) q (sender_end e' w cells) (Err NoRoom)
+  pub claim_no_room : (e' : SenderStand T) → e'.knows ≡ t → IsShort s.plan xs needed
+      → TriesToClaim (sender_end e w cells) q (sender_end e' w cells) (Err NoRoom)
   claim_no_room e' is short =
       let H = subst (λ (k : Shape). IsShort k xs needed) plan short in
       refused e w cells q made e' NoRoom (look halt_word 0 ∷ gate_looks began H.counts)
@@ -368,7 +376,8 @@ module _ {T : Type 0} (e : SenderStand T) (w : Written) (cells : List (Option T)
   claimed_shown : claimed began ≡ claimed_in (shown e w cells q made began)
   claimed_shown = let a = length-map began.published (λ (l : Lent T). l.event) in let b = writes_count w cells (length began.published) began.pending in omega arith
 
-  pub claim_accepted : (e' : SenderStand T) (cells' : List (Option T)) (least : ℕ) (c : Claimed) → Noted began.plan.size (claimed began) w → cells' ≡ cells → IsEnough s xs needed least
+  pub claim_accepted : (e' : SenderStand T) (cells' : List (Option T)) (least : ℕ) (c : Claimed) → Noted began.plan.size (claimed began) w
+      → cells' ≡ cells → IsEnough s xs needed least
       → e'.knows ≡ halt_looked t q 0 → c ≡ record { lo = n; hi = n + q - 1 } → TriesToClaim (sender_end e w cells) q (sender_end e' w cells') (Ok c)
   claim_accepted e' cells' least c N same E last gives =
       let seen = look halt_word 0 ∷ gate_looks began E.counts ++ look halt_word 0 ∷ [] in
@@ -394,7 +403,8 @@ module _ {T : Type 0} (e : SenderStand T) (w : Written) (cells : List (Option T)
       })
 
 -- the call whole
-pub claim_call : {T : Type 0} (e e' : SenderStand T) (w w' : Written) (cells cells' : List (Option T)) (q : ℕ) (result : Result Claimed Refusal) → e'.ring ≡ e.ring
+pub claim_call : {T : Type 0} (e e' : SenderStand T) (w w' : Written) (cells cells' : List (Option T)) (q : ℕ) (result : Result Claimed Refusal)
+    → e'.ring ≡ e.ring
     → IsBeginning e.past e'.past → e'.stored ≡ e.stored → TriesToClaim (sender_end e w cells) q (sender_end e' w' cells') result
     → ClaimCall (sender_end e w cells) q (sender_end e' w' cells') result
 claim_call e e' w w' cells cells' q result ring past stored tries = (((λ i. (ring i, (tries.only i).plan)), past), tries, stored)
@@ -402,13 +412,15 @@ claim_call e e' w w' cells cells' q result ring past stored tries = (((λ i. (ri
 -- What a claim answers is what every end's claim answers.
 
 module _ {T : Type 0} where
-  within_all : (e : SenderEnd T) (n : ℕ) → e.knows.plan.limit ≤ 2 ^ 62 → e.knows.pending ≡ length e.writes → nat_lt e.knows.plan.limit (claimed e.knows + n) ≡ false
+  within_all : (e : SenderEnd T) (n : ℕ) → e.knows.plan.limit ≤ 2 ^ 62 → e.knows.pending ≡ length e.writes
+      → nat_lt e.knows.plan.limit (claimed e.knows + n) ≡ false
       → nat_lt (2 ^ 62) (claimed_in (sent_of e) + n) ≡ false
   within_all e n few many d = let within = ltb-false e.knows.plan.limit (claimed e.knows + n) d in let a = length-map e.knows.published (λ (l : Lent T). l.event) in
       le-ltb (2 ^ 62) (claimed_in (sent_of e) + n) (omega arith)
 
   pub claim_of_end : (e : SenderEnd T) (n : ℕ) (refusal : Refusal) → e.knows.plan.limit ≤ 2 ^ 62 → IsSize e.knows.plan.size → e.knows.pending ≡ length e.writes
-      → IsFirst MayHold MayFail refusal (claim_causes (tests_of_claim e.knows n)) → IsFirst MayHold MayFail refusal (claim_causes (claim_tests (Some (sent_of e)) n))
+      → IsFirst MayHold MayFail refusal (claim_causes (tests_of_claim e.knows n))
+      → IsFirst MayHold MayFail refusal (claim_causes (claim_tests (Some (sent_of e)) n))
   claim_of_end e n refusal few is many (inl h) = inl h
   claim_of_end e n refusal few is many (inr (a, inl h)) = inr (a, inl (bad_is_not_one n e.knows.plan.size is h.0, h.1))
   claim_of_end e n refusal few is many (inr (a, inr (b, inl h))) = inr (a, inr (good_is_never_bad n e.knows.plan.size is b, inl h))

@@ -1,5 +1,6 @@
 -- The sender's tokens, as those of a stretch of sequences are collected or lent one after another.
-use Rattle.std.proofs.Common.{◌≡◌, ℕ, zero, suc, ◌+◌, ◌-◌, ◌<◌, ◌≤◌, inl, inr, List, [], ◌∷◌, ◌++◌, map, length, set, drop, replicate, Option, None, Some, sym, refl, ap, ◌∙◌, subst, arith}
+use Rattle.std.proofs.Common.{◌≡◌, ℕ, zero, suc, ◌+◌, ◌-◌, ◌<◌, ◌≤◌, inl, inr, List, [], ◌∷◌, ◌++◌, map, length, set, drop, replicate, Option, None}
+use Rattle.std.proofs.Common.{Some, sym, refl, ap, ◌∙◌, subst, arith}
 use Rattle.std.proofs.lemmas.Bool.{cases_eq}
 use Rattle.std.proofs.lemmas.List.{length-append, length-map, length-take, length-drop, length-replicate}
 use mathlib.Core.Option.{some, some-injective, some-ne-none}
@@ -114,7 +115,8 @@ module _ {T : Type 0} where
     pub whole_none : (tokens : List (Token T)) → AreWhole k first first tokens
     whole_none tokens = λ s t low lt at. absurd (omega arith)
 
-    pub whole_more : (s c : ℕ) (was now : List (Token T)) (between t' : Token T) → AreWhole k first s was → first ≤ s → s < first + k.size → c ≡ cell_of k s → c < length was
+    pub whole_more : (s c : ℕ) (was now : List (Token T)) (between t' : Token T) → AreWhole k first s was → first ≤ s → s < first + k.size
+        → c ≡ cell_of k s → c < length was
         → Keeps k s None t' → now ≡ set (set was c between) c t' → AreWhole k first (s + 1) now
     whole_more s c was now between t' W low near place inside is put q x from to at =
         let once : now ≡ set was c t' = put ∙ set_twice was c between t' in
@@ -128,13 +130,16 @@ module _ {T : Type 0} where
 
     -- and each is lent to all handlers, as these tell
     abbrev pub LentAs : List (Lent T) → List (Token T) → Type 0
-    LentAs lents tokens = (i : ℕ) (m : Lent T) → get_elem? lents i ≡ some m → get_elem? tokens (cell_of k (first + i)) ≡ some (out k (first + i) (handlers_of k) m)
+    LentAs lents tokens = (i : ℕ) (m : Lent T) → get_elem? lents i ≡ some m
+        → get_elem? tokens (cell_of k (first + i)) ≡ some (out k (first + i) (handlers_of k) m)
 
     pub lent_none : (tokens : List (Token T)) → LentAs [] tokens
     lent_none tokens = λ i m at. absurd (some-ne-none m (sym at))
 
-    pub lent_more : (s c : ℕ) (lents : List (Lent T)) (was now : List (Token T)) (between t' : Token T) (m : Lent T) → LentAs lents was → length lents ≡ s - first → first ≤ s
-        → s < first + k.size → c ≡ cell_of k s → c < length was → t' ≡ out k s (handlers_of k) m → now ≡ set (set was c between) c t' → LentAs (lents ++ m ∷ []) now
+    pub lent_more : (s c : ℕ) (lents : List (Lent T)) (was now : List (Token T)) (between t' : Token T) (m : Lent T) → LentAs lents was
+        → length lents ≡ s - first → first ≤ s
+        → s < first + k.size → c ≡ cell_of k s → c < length was → t' ≡ out k s (handlers_of k) m → now ≡ set (set was c between) c t'
+        → LentAs (lents ++ m ∷ []) now
     lent_more s c lents was now between t' m L count low near place inside is put i x at =
         let once : now ≡ set was c t' = put ∙ set_twice was c between t' in
         let longer = length-append lents (m ∷ []) in let lt = at_below (lents ++ m ∷ []) i x at in
@@ -151,7 +156,8 @@ module _ {T : Type 0} where
 
     -- so the tokens tell it
     pub lents_told : (s : ℕ) (lents : List (Lent T)) (tokens : List (Token T)) (n : ℕ) → length lents ≡ n
-        → ((i : ℕ) (m : Lent T) → get_elem? lents i ≡ some m → get_elem? tokens (cell_of k (s + i)) ≡ some (out k (s + i) (handlers_of k) m)) → lents_of k tokens s n ≡ lents
+        → ((i : ℕ) (m : Lent T) → get_elem? lents i ≡ some m → get_elem? tokens (cell_of k (s + i)) ≡ some (out k (s + i) (handlers_of k) m))
+        → lents_of k tokens s n ≡ lents
     lents_told s [] tokens zero count L = refl
     lents_told s [] tokens (suc n) count L = absurd (omega arith)
     lents_told s (m ∷ lents) tokens zero count L = absurd (omega arith)

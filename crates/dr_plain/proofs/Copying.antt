@@ -29,7 +29,8 @@ module _ {T : Type 0} where
     pub received : e'.knows.received ≡ e.knows.received ++ lents
     pub completed : e'.knows.completed ≡ e.knows.completed
 
-  pub takes_batch : (e e' : ReceiverEnd T) (room first count : ℕ) (last : _) (polled : Polled) → PollCall e room e' (Ok polled) → polled ≡ Batch first count last
+  pub takes_batch : (e e' : ReceiverEnd T) (room first count : ℕ) (last : _) (polled : Polled) → PollCall e room e' (Ok polled)
+      → polled ≡ Batch first count last
       → TakesBatch e e' first count
   takes_batch e e' room first count last polled call is =
       let sees = call.1.1 in let A = subst (λ (p : Polled). Answers e.knows room e'.knows sees.0 p) is sees.2 in record {

@@ -28,7 +28,8 @@ module _ {T : Type 0} where
     each = λ i x lt at. absurd (omega arith);
   }
 
-  pub dealt_more : (p : Ptr) (n place : ℕ) (events left left' : List T) (tokens tokens' : List (Token T)) (t : Token T) (x : T) → Dealt p n place events left tokens
+  pub dealt_more : (p : Ptr) (n place : ℕ) (events left left' : List T) (tokens tokens' : List (Token T)) (t : Token T) (x : T)
+      → Dealt p n place events left tokens
       → left ≡ x ∷ left' → t ≡ token_at p place (whole x) → tokens' ≡ set tokens place t → Dealt p n (place + 1) events left' tokens'
   dealt_more p n place events left left' tokens tokens' t x D is token put =
       let length_is = ap length is in let count = D.count in let many = D.many in record {

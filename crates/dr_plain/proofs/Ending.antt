@@ -1,5 +1,6 @@
 -- The seat that stands for all ends takes what lies in the slots, and the ring is over.
-use Rattle.std.proofs.Common.{◌≡◌, ◌⊎◌, ℕ, zero, suc, ◌+◌, ◌<◌, ◌≤◌, inl, inr, Bool, true, false, ◌&&◌, if◌then◌else◌, List, [], ◌∷◌, ◌++◌, map, length, set, drop, Some, sym, refl, ap, ◌∙◌, subst, arith}
+use Rattle.std.proofs.Common.{◌≡◌, ◌⊎◌, ℕ, zero, suc, ◌+◌, ◌<◌, ◌≤◌, inl, inr, Bool, true, false, ◌&&◌, if◌then◌else◌, List, [], ◌∷◌, ◌++◌, map}
+use Rattle.std.proofs.Common.{length, set, drop, Some, sym, refl, ap, ◌∙◌, subst, arith}
 use Rattle.std.proofs.lemmas.Bool.{cases_lt, lt-ltb, le-ltb, le-leb, lt-leb}
 use Rattle.std.proofs.lemmas.List.{length-drop}
 use mathlib.Core.Option.{some, none, some-injective, some-ne-none}
@@ -31,7 +32,8 @@ use Rattle.dr_plain.specs.declared.record.Step.{Step}
 use Rattle.dr_plain.specs.declared.settled.HandlerCounts.{HandlerCounts}
 use Rattle.dr_plain.specs.Calls.Ends.{SenderEnd, ReceiverEnd, HalterStand}
 use Rattle.dr_plain.specs.Calls.Settling.{AreAllEnds, handler_counts}
-use Rattle.dr_plain.specs.Inside.Seats.{End, Hand, Sitting, ring_ends, stored_of, Stands, exchange, Ruled, IsOver, as_sender, as_halter, sender_of, halter_of, IsSender, IsHalter}
+use Rattle.dr_plain.specs.Inside.Seats.{End, Hand, Sitting, ring_ends, stored_of, Stands, exchange, Ruled, IsOver, as_sender, as_halter, sender_of}
+use Rattle.dr_plain.specs.Inside.Seats.{halter_of, IsSender, IsHalter}
 use Rattle.dr_plain.specs.Inside.Gathering.{sender_known, receiver_known, halter_known}
 use Rattle.dr_plain.specs.Inside.Finishing.{is_in_hand, first_lent, parts_left, all_left, left_of, HasAllEnds, TookAll}
 use Rattle.dr_runs.proofs.Elements.{at_below}
@@ -96,7 +98,8 @@ module _ {T : Type 0} where
     free : is_in_hand c (s + at) ≡ false
     is : placed k h (s + at) (Some lent) ≡ x
 
-  later : (k : Shape) (h : ℕ) (c : HandlerCounts) (s : ℕ) (l : Lent T) (lents : List (Lent T)) (x : ℕ × Token T) → IsLeft k h c (s + 1) lents x → IsLeft k h c s (l ∷ lents) x
+  later : (k : Shape) (h : ℕ) (c : HandlerCounts) (s : ℕ) (l : Lent T) (lents : List (Lent T)) (x : ℕ × Token T) → IsLeft k h c (s + 1) lents x
+      → IsLeft k h c s (l ∷ lents) x
   later k h c s l lents x L = let e : s + 1 + L.at ≡ s + suc L.at = (let n = L.at in omega arith) in record {
     at = suc L.at;
     lent = L.lent;
@@ -124,7 +127,8 @@ module _ {T : Type 0} where
     counted : get_elem? counts by ≡ some count
     left : IsLeft k (h + by) count s lents x
 
-  at_all : (k : Shape) (h : ℕ) (counts : List HandlerCounts) (s : ℕ) (lents : List (Lent T)) (j : ℕ) (x : ℕ × Token T) → get_elem? (all_left k h counts s lents) j ≡ some x
+  at_all : (k : Shape) (h : ℕ) (counts : List HandlerCounts) (s : ℕ) (lents : List (Lent T)) (j : ℕ) (x : ℕ × Token T)
+      → get_elem? (all_left k h counts s lents) j ≡ some x
       → IsLeftBy k h counts s lents x
   at_all k h [] s lents j x at = absurd (some-ne-none x (sym at))
   at_all k h (c ∷ counts) s lents j x at =
@@ -162,7 +166,8 @@ module _ {T : Type 0} where
   abbrev left_in : SenderRecord T → List HandlerCounts → Hand T
   left_in r counts = all_left r.plan 0 counts (first_lent r) (drop (first_lent r) r.published)
 
-  counts_of : (es : List (ReceiverEnd T)) → map (λ (e : ReceiverEnd T). handler_counts e.knows) es ≡ map (λ (r : ReceiverRecord T). handler_counts r) (map knows_of es)
+  counts_of : (es : List (ReceiverEnd T))
+      → map (λ (e : ReceiverEnd T). handler_counts e.knows) es ≡ map (λ (r : ReceiverRecord T). handler_counts r) (map knows_of es)
   counts_of [] = refl
   counts_of (e ∷ es) = ap (λ (cs : List HandlerCounts). handler_counts e.knows ∷ cs) (counts_of es)
 
@@ -176,7 +181,8 @@ module _ {T : Type 0} where
     abbrev counts_in : List HandlerCounts
     counts_in = map (λ (r : ReceiverRecord T). handler_counts r) w.receivers
 
-    home_of : (x : ℕ × Token T) → IsLeftBy k 0 counts_in (first_lent w.sender) (drop (first_lent w.sender) w.sender.published) x → get_elem? homes x.0 ≡ some (some x.1)
+    home_of : (x : ℕ × Token T) → IsLeftBy k 0 counts_in (first_lent w.sender) (drop (first_lent w.sender) w.sender.published) x
+        → get_elem? homes x.0 ≡ some (some x.1)
     home_of x M =
         let L = M.left in let m = first_lent w.sender + L.at in let q = k.size + m in let l = Some L.lent in let h = M.by in
         let of = at_map (λ (r : ReceiverRecord T). handler_counts r) w.receivers M.by M.count M.counted in let r = of.0 in
@@ -230,12 +236,14 @@ module _ {T : Type 0} (k : Shape) where
     })
 
     -- no other seat stands for an end
-    seat_of : (x : Known (EndRecord T) (Step T)) → IsInView ring_ends v x → (seat : ℕ) (view : View (EndRecord T) (Step T)) → get_elem? st.views seat ≡ some view → (e : EndRecord T)
+    seat_of : (x : Known (EndRecord T) (Step T)) → IsInView ring_ends v x → (seat : ℕ) (view : View (EndRecord T) (Step T))
+        → get_elem? st.views seat ≡ some view → (e : EndRecord T)
         → get_elem? view.ends 0 ≡ some e → ring_ends.number_of e ≡ ring_ends.number_of x.knows → seat ≡ id
     seat_of x I seat view here e first same =
         ap (λ (p : ℕ × ℕ). p.0) (sym (R.each_end seat view here 0 e first).0 ∙ ap R.place same ∙ (R.each_end id v at I.0 x.knows (in_ends v x I)).0)
 
-    none_but : (s : SenderEnd T) (es : List (ReceiverEnd T)) (t : HalterStand T) → HasAllEnds v s es t → (seat : ℕ) (view : View (EndRecord T) (Step T)) → get_elem? st.views seat ≡ some view
+    none_but : (s : SenderEnd T) (es : List (ReceiverEnd T)) (t : HalterStand T) → HasAllEnds v s es t
+        → (seat : ℕ) (view : View (EndRecord T) (Step T)) → get_elem? st.views seat ≡ some view
         → (e : EndRecord T) → get_elem? view.ends 0 ≡ some e → seat ≡ id
     none_but s es t H seat view here (Sends r) first = seat_of (sender_known s) H.sender seat view here (Sends r) first refl
     none_but s es t H seat view here (Halts r) first = seat_of (halter_known t) H.halter seat view here (Halts r) first refl
@@ -276,7 +284,8 @@ module _ {T : Type 0} (k : Shape) where
 
 module _ {T : Type 0} where
   -- a view takes in one end more
-  pub takes_in : (v w next : View (EndRecord T) (Step T)) (x : Known (EndRecord T) (Step T)) → IsInView ring_ends w x → next ≡ both_views v w → Gathers ring_ends v (x ∷ []) next
+  pub takes_in : (v w next : View (EndRecord T) (Step T)) (x : Known (EndRecord T) (Step T)) → IsInView ring_ends w x → next ≡ both_views v w
+      → Gathers ring_ends v (x ∷ []) next
   takes_in v w next x came is = gathering_all {left = []}
       (gathering_more {known = λ (y : Known (EndRecord T) (Step T)). y} w (gathering_none ring_ends (λ (y : Known (EndRecord T) (Step T)). y) v (x ∷ []) refl) refl came is) refl
 
@@ -284,7 +293,8 @@ module _ {T : Type 0} where
       → IsInView ring_ends me.0 (sender_known s)
   own_sender me s is knows past stored = in_own ring_ends (me.0, []) (sender_known s) (ap (λ (m : End T). (m.0, [])) is ∙ ap (λ (r : SenderRecord T). as_sender r []) knows) past stored
 
-  pub own_halter : (me : Sitting T) (t : HalterStand T) → IsHalter (end_of me) → halter_of me.0.ends ≡ t.knows → past_of me.0 ≡ t.past → stored_of me.0 ≡ t.stored
+  pub own_halter : (me : Sitting T) (t : HalterStand T) → IsHalter (end_of me) → halter_of me.0.ends ≡ t.knows → past_of me.0 ≡ t.past
+      → stored_of me.0 ≡ t.stored
       → IsInView ring_ends me.0 (halter_known t)
   own_halter me t is knows past stored = in_own ring_ends (me.0, []) (halter_known t) (ap (λ (m : End T). (m.0, [])) is ∙ ap (λ (r : HalterRecord T). as_halter r) knows) past stored
 
@@ -295,7 +305,8 @@ module _ {T : Type 0} where
     pub receivers : Gathers ring_ends first (map receiver_known es) now
     pub all : AreAllEnds s es
 
-  pub has_all : (own first now : View (EndRecord T) (Step T)) (s : SenderEnd T) (es : List (ReceiverEnd T)) (t : HalterStand T) → AllTogether own first now s es t → HasAllEnds now s es t
+  pub has_all : (own first now : View (EndRecord T) (Step T)) (s : SenderEnd T) (es : List (ReceiverEnd T)) (t : HalterStand T)
+      → AllTogether own first now s es t → HasAllEnds now s es t
   has_all own first now s es t A = record {
     sender = A.receivers.stay (sender_known s) (A.halter.stay (sender_known s) A.mine);
     halter = A.receivers.stay (halter_known t) (A.halter.come 0 (halter_known t) refl);
@@ -303,6 +314,7 @@ module _ {T : Type 0} where
     all = A.all;
   }
 
-  pub together : (k : Shape) (own first now : View (EndRecord T) (Step T)) (s : SenderEnd T) (es : List (ReceiverEnd T)) (t : HalterStand T) → AllTogether own first now s es t
+  pub together : (k : Shape) (own first now : View (EndRecord T) (Step T)) (s : SenderEnd T) (es : List (ReceiverEnd T)) (t : HalterStand T)
+      → AllTogether own first now s es t
       → ViewRan (exchange k) now → Together k first now s es
   together k own first now s es t A ran = record { ran = ran; first = A.halter.stay (sender_known s) A.mine; gathers = A.receivers; all = A.all }

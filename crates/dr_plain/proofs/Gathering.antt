@@ -78,10 +78,12 @@ module _ {T : Type 0} where
       ap (λ (n : ℕ). get_elem? w.receivers n) (A.rule.received h r here).number ∙ here)) A.rule
 
   abbrev Moments : (Shape → List (Step T) → Transcript T → World T → Type 0) → Type 0
-  Moments P = (k : Shape) (steps : List (Step T)) (entries : Transcript T) (w : World T) → IsGraph k.upstreams → 0 < k.size → Runs k steps entries (new_world k) w → P k steps entries w
+  Moments P = (k : Shape) (steps : List (Step T)) (entries : Transcript T) (w : World T) → IsGraph k.upstreams → 0 < k.size
+      → Runs k steps entries (new_world k) w → P k steps entries w
 
   -- the run of the ends that came together
-  pub has_run : (k : Shape) (v now : View (EndRecord T) (Step T)) (s : SenderEnd T) (es : List (ReceiverEnd T)) (t : HalterStand T) → IsInView ring_ends now (halter_known t)
+  pub has_run : (k : Shape) (v now : View (EndRecord T) (Step T)) (s : SenderEnd T) (es : List (ReceiverEnd T)) (t : HalterStand T)
+      → IsInView ring_ends now (halter_known t)
       → Together k v now s es
       → Moments (λ k steps entries w. LeadsTo (ring_setup k) entries (picture_of k w)) → Moments (λ k steps entries w. Laws (ring_setup k) entries)
       → HasRun s es t
@@ -89,7 +91,8 @@ module _ {T : Type 0} where
       let H : InRun (exchange k) G.ran.world G.ran.reached.steps (halter_known t) = in_run (exchange k) now G.ran (halter_known t) I in
       let A = all_stand k v now s es G in let R = G.ran.reached in let w = G.ran.world in
       let plan : k ≡ s.knows.plan = sym A.rule.sender_plan ∙ ap (λ (q : SenderRecord T). q.plan) A.sender in
-      let P : Shape → Type 0 = λ p. Runs p R.steps R.entries (new_world p) w × LeadsTo (ring_setup p) R.entries (picture_of p w) × Laws (ring_setup p) R.entries in
+      let P : Shape
+      → Type 0 = λ p. Runs p R.steps R.entries (new_world p) w × LeadsTo (ring_setup p) R.entries (picture_of p w) × Laws (ring_setup p) R.entries in
       let all : P s.knows.plan = subst P plan (R.runs, leads k R.steps R.entries w R.made.0 R.made.1 R.runs, laws k R.steps R.entries w R.made.0 R.made.1 R.runs) in record {
         steps = R.steps;
         entries = R.entries;

@@ -67,5 +67,6 @@ module _ {T : Type 0} where
   pub leave_on : (k : Shape) (id : ℕ) (v : View (EndRecord T) (Step T)) → Splits (Ruled k) id v no_view v
   leave_on k id v = splits_on k id v no_view v (λ none. (refl, none)) (leaves (exchange k) id v)
 
-  pub join_on : (k : Shape) (id : ℕ) (v : View (EndRecord T) (Step T)) (other : ℕ) (w : View (EndRecord T) (Step T)) → Joins (Ruled k) id v other w (both_views v w) no_view
+  pub join_on : (k : Shape) (id : ℕ) (v : View (EndRecord T) (Step T)) (other : ℕ) (w : View (EndRecord T) (Step T))
+      → Joins (Ruled k) id v other w (both_views v w) no_view
   join_on k id v other w = joins_on k id v other w (joins (exchange k) id v other w)

@@ -1,5 +1,6 @@
 -- What is lent when all ends are together, and where its parts are.
-use Rattle.std.proofs.Common.{◌≡◌, ℕ, zero, suc, ◌+◌, ◌-◌, ◌%◌, ◌<◌, ◌≤◌, inl, inr, List, [], ◌∷◌, ◌++◌, map, length, set, take, drop, replicate, Option, None, Some, sym, refl, ap, ◌∙◌, subst, arith, length-set}
+use Rattle.std.proofs.Common.{◌≡◌, ℕ, zero, suc, ◌+◌, ◌-◌, ◌%◌, ◌<◌, ◌≤◌, inl, inr, List, [], ◌∷◌, ◌++◌, map, length, set, take, drop, replicate}
+use Rattle.std.proofs.Common.{Option, None, Some, sym, refl, ap, ◌∙◌, subst, arith, length-set}
 use Rattle.std.proofs.Math.Nat.{mod-lt, mod-eq_of_lt, add-mod_left}
 use Rattle.std.proofs.lemmas.Bool.{cases_eq, cases_lt}
 use Rattle.std.proofs.lemmas.List.{length-map, length-replicate, length-append, map-append}
@@ -44,7 +45,8 @@ window n (suc c) i lt = let w = window n c i lt in let low = w.1 in let high = w
     ]
 
 module _ {T : Type 0} where
-  lent_later : (r : SenderRecord T) (s : ℕ) (l : Lent T) → get_elem? r.published s ≡ some l → (let o : Option (Lent T) = Some l in get_elem? (laid r) (r.plan.size + s) ≡ some o)
+  lent_later : (r : SenderRecord T) (s : ℕ) (l : Lent T) → get_elem? r.published s ≡ some l
+      → (let o : Option (Lent T) = Some l in get_elem? (laid r) (r.plan.size + s) ≡ some o)
   lent_later r s l at =
       let nothing : Option (Lent T) = None in let count : length (replicate r.plan.size nothing) ≡ r.plan.size = length-replicate r.plan.size nothing in
       ap (λ (n : ℕ). get_elem? (laid r) (n + s)) (sym count)
@@ -132,7 +134,8 @@ module _ {T : Type 0} where
         count = ap length put ∙ length-set was place u ∙ R.count;
       }
 
-  pub rowed_all : (p : Ptr) (place : ℕ) (tokens now : List (Token T)) (items : List T) → Rowed p place tokens now items → length tokens ≤ place → map (λ (x : T). Some x) items ≡ cells_of tokens
+  pub rowed_all : (p : Ptr) (place : ℕ) (tokens now : List (Token T)) (items : List T) → Rowed p place tokens now items → length tokens ≤ place
+      → map (λ (x : T). Some x) items ≡ cells_of tokens
   rowed_all p place tokens now items R all = let len = length-map tokens (λ (t : Token T). held t.hold) in R.items_are ∙ take_whole (cells_of tokens) place (omega arith)
 
   -- the token of the next cell is whole
@@ -144,12 +147,14 @@ module _ {T : Type 0} where
   pub record Handed (left : ℕ) (seen : List (ReceiverEnd T)) (hands : List (List (Token T))) (n : ℕ) : Type 0 where
     pub count : length hands ≡ n
     pub whole : left + length seen ≡ n
-    pub each : (i : ℕ) (e : ReceiverEnd T) (parts : List (Token T)) → get_elem? seen i ≡ some e → get_elem? hands (left + i) ≡ some parts → PartsFit e.knows parts
+    pub each : (i : ℕ) (e : ReceiverEnd T) (parts : List (Token T)) → get_elem? seen i ≡ some e → get_elem? hands (left + i) ≡ some parts
+        → PartsFit e.knows parts
 
   pub handed_none : (n : ℕ) (hands : List (List (Token T))) → length hands ≡ n → Handed n [] hands n
   handed_none n hands count = record { count = count; whole = omega arith; each = λ i e parts at here. absurd (some-ne-none e (sym at)) }
 
-  pub handed_more : (left : ℕ) (seen : List (ReceiverEnd T)) (was now : List (List (Token T))) (n m : ℕ) (e : ReceiverEnd T) (parts : List (Token T)) → Handed m seen was n → m ≡ left + 1
+  pub handed_more : (left : ℕ) (seen : List (ReceiverEnd T)) (was now : List (List (Token T))) (n m : ℕ) (e : ReceiverEnd T) (parts : List (Token T))
+      → Handed m seen was n → m ≡ left + 1
       → PartsFit e.knows parts → now ≡ set was left parts → Handed left (e ∷ seen) now n
   handed_more left seen was now n m e parts H next fits put = let all = H.whole in let count = H.count in record {
     count = ap length put ∙ length-set was left parts ∙ H.count;
@@ -158,7 +163,8 @@ module _ {T : Type 0} where
         each_of i x ps at here_set);
   }
     where
-      each_of : (i : ℕ) (x : ReceiverEnd T) (ps : List (Token T)) → get_elem? (e ∷ seen) i ≡ some x → get_elem? (set was left parts) (left + i) ≡ some ps → PartsFit x.knows ps
+      each_of : (i : ℕ) (x : ReceiverEnd T) (ps : List (Token T)) → get_elem? (e ∷ seen) i ≡ some x
+          → get_elem? (set was left parts) (left + i) ≡ some ps → PartsFit x.knows ps
       each_of zero x ps at here =
           let all = H.whole in let count = H.count in let z : left + 0 ≡ left = omega arith in
           let same : parts ≡ ps = some-injective parts ps (sym (set_here was left parts (omega arith)) ∙ ap (λ (j : ℕ). get_elem? (set was left parts) j) (sym z) ∙ here) in
@@ -167,7 +173,8 @@ module _ {T : Type 0} where
           let z : m + i ≡ left + suc i = omega arith in
           H.each i x ps at (ap (λ (j : ℕ). get_elem? was j) z ∙ sym (set_else was left (left + suc i) parts (λ (q : left + suc i ≡ left). omega arith)) ∙ here)
 
-  pub handed_all : (left : ℕ) (seen es : List (ReceiverEnd T)) (hands : List (List (Token T))) (n : ℕ) → Handed left seen hands n → left ≡ 0 → seen ≡ es → AreHandsOf es hands
+  pub handed_all : (left : ℕ) (seen es : List (ReceiverEnd T)) (hands : List (List (Token T))) (n : ℕ) → Handed left seen hands n → left ≡ 0
+      → seen ≡ es → AreHandsOf es hands
   handed_all left seen es hands n H none same = let all = H.whole in let len = ap length same in record {
     count = H.count ∙ (omega arith);
     each = λ h e parts at here. H.each h e parts (ap (λ (xs : List (ReceiverEnd T)). get_elem? xs h) same ∙ at)

@@ -58,7 +58,8 @@ module _ {T : Type 0} where
       ]
 
   -- what leaves room for each final handler is not more than a round ahead of any handler
-  pub ahead_of_all : (k : Shape) (w : World T) (n : ℕ) → KeepsRule k w → Room k w.words n → (h : ℕ) → h < handlers_of k → n ≤ k.size + word_at w.words (count_word h)
+  pub ahead_of_all : (k : Shape) (w : World T) (n : ℕ) → KeepsRule k w → Room k w.words n → (h : ℕ) → h < handlers_of k
+      → n ≤ k.size + word_at w.words (count_word h)
   ahead_of_all k w n K room h lt =
       let g : IsGated k.upstreams nobody (λ h. word_at w.words (count_word h)) h = K.graph.gate nobody (λ h. word_at w.words (count_word h)) (orderly k w K) h lt refl in
       let r : n ≤ k.size + word_at w.words (count_word g.last) = room g.last g.final in
@@ -130,7 +131,8 @@ module _ {T : Type 0} where
   keeps_halt_look k w n room K =
       let found = word_at w.words halt_word in let F = K.flags in let old = w.sender.pending in
       let past = past_more (words_of k) w.words halt_word (word_at w.words halt_word) w.sender.looks (omega arith) (omega arith) K.looks in
-      let P : ℕ → Type 0 = λ pending. KeepsRule k (sender_knows w (record w.sender { pending = pending; looks = w.sender.looks ++ look halt_word found ∷ [] })) in
+      let P : ℕ
+      → Type 0 = λ pending. KeepsRule k (sender_knows w (record w.sender { pending = pending; looks = w.sender.looks ++ look halt_word found ∷ [] })) in
       let nothing : (found ≡ 0 → n ≡ 0) → P (old + (if found == 0 then n else 0)) = λ none.
       (let z = claims_none found n none in let e : old ≡ old + (if found == 0 then n else 0) = omega arith in
       subst P e (sender_learns k w old (w.sender.looks ++ look halt_word found ∷ []) K.counts.limit K.room F past K)) in

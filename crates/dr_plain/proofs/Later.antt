@@ -1,5 +1,6 @@
 -- A receiver is offered at least what was there at any moment since it last looked.
-use Rattle.std.proofs.Common.{◌≡◌, ◌≢◌, ◌⊎◌, ℕ, zero, suc, ◌-◌, ◌≤◌, min, length, inl, inr, ◌==◌, if◌then◌else◌, List, [], ◌∷◌, ◌++◌, get_or, set, map, sym, refl, ap, ◌∙◌, subst, arith, append_assoc}
+use Rattle.std.proofs.Common.{◌≡◌, ◌≢◌, ◌⊎◌, ℕ, zero, suc, ◌-◌, ◌≤◌, min, length, inl, inr, ◌==◌, if◌then◌else◌, List, [], ◌∷◌, ◌++◌, get_or, set}
+use Rattle.std.proofs.Common.{map, sym, refl, ap, ◌∙◌, subst, arith, append_assoc}
 use Rattle.std.specs.Prelude.{All, Contains}
 use Rattle.std.proofs.lemmas.Bool.{cases_eq, eq-eqb, ne_eqb}
 use Rattle.std.proofs.lemmas.List.{append-nil, append_cancel_left}
@@ -134,7 +135,8 @@ module _ {T : Type 0} where
   seen_step k HalterHalts w u h r H at = subst (Stood w h r) (sym H) (stays w h r at)
 
   -- what was found after a later moment was found after an earlier one
-  earlier : (k : Shape) (s : Step T) (w u : World T) (xs : List Look) → Happens k s w u → KeepsRule k w → All (FoundLater u.words) xs → All (FoundLater w.words) xs
+  earlier : (k : Shape) (s : Step T) (w u : World T) (xs : List Look) → Happens k s w u → KeepsRule k w → All (FoundLater u.words) xs
+      → All (FoundLater w.words) xs
   earlier k s w u xs H K all i d lt = let now = all i d lt in let rose = rises_step (get_or xs i d).word k s w u H K in omega arith
 
   seen_runs : (k : Shape) (steps : List (Step T)) (es : Transcript T) (w u : World T) (h : ℕ) (r : ReceiverRecord T) → Runs k steps es w u → KeepsRule k w
@@ -158,7 +160,8 @@ module _ {T : Type 0} where
   offered_later m [] cursor counts none each = none refl
   offered_later m (u ∷ us) cursor counts none each = least_rises (λ h. get_or m.completed h 0) counts u us each
 
-  pub offers_what_was_there : (k : Shape) (steps : List (Step T)) (es : Transcript T) (w u : World T) → Runs k steps es w u → KeepsRule k w → OffersWhatWasThere k w u
+  pub offers_what_was_there : (k : Shape) (steps : List (Step T)) (es : Transcript T) (w u : World T) → Runs k steps es w u → KeepsRule k w
+      → OffersWhatWasThere k w u
   offers_what_was_there k steps es w u R K h r r' seen at there looks saw =
       let ups = upstreams_of k.upstreams h in let m = picture_of k w in
       let stood = seen_runs k steps es w u h r R K at in let later = stood.2 in
@@ -212,7 +215,8 @@ module _ {T : Type 0} where
   looks_of r r' room seen Gating A = ap (λ (q : ReceiverRecord T). q.looks) A.3
   looks_of r r' room seen Idle A = ap (λ (q : ReceiverRecord T). q.looks) A.3
 
-  pub hands_what_was_there : (k : Shape) (steps : List (Step T)) (es : Transcript T) (w u : World T) → Runs k steps es w u → KeepsRule k w → HandsWhatWasThere k w u
+  pub hands_what_was_there : (k : Shape) (steps : List (Step T)) (es : Transcript T) (w u : World T) → Runs k steps es w u → KeepsRule k w
+      → HandsWhatWasThere k w u
   hands_what_was_there k steps es w u R K h room r r' polled at there P =
       let seen = P.0 in let answer = P.2 in let was = K.received h r at in let ups = upstreams_of r.plan.upstreams r.number in
       let same : ups ≡ upstreams_of k.upstreams h = λ i. upstreams_of (was.plan i).upstreams (was.number i) in

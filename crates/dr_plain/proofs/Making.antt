@@ -59,7 +59,8 @@ module _ {T : Type 0} where
   }
 
   -- a new ring keeps the rule
-  pub ruled_new : (k : Shape) (ws : List ℕ) (cs : List (Token T)) → ws ≡ replicate (words_of k) 0 → cs ≡ replicate (slots_of k) no_token → IsGraph k.upstreams → 0 < k.size
+  pub ruled_new : (k : Shape) (ws : List ℕ) (cs : List (Token T)) → ws ≡ replicate (words_of k) 0 → cs ≡ replicate (slots_of k) no_token
+      → IsGraph k.upstreams → 0 < k.size
       → Ruled {T = T} k (table_opening ws cs (all_ends k))
   ruled_new k ws cs is blank graph some_slot =
       inl (ruled_fresh (exchange k) (fresh_ends k) (λ n. n) ws cs (sym is) (lies_fresh k cs blank some_slot) (graph, some_slot) (stands_fresh k))
@@ -113,7 +114,8 @@ module _ {T : Type 0} where
       ∙ append_assoc items (at_ring t (fresh_receiver k h) ∷ []) rest
       ∙ ap (λ (rs : List (ReceiverRecord T)). items ++ map (λ r. at_ring t r) rs) (sym (fresh_next k h n lt)) ∙ was
 
-  pub view_fresh : (t own : TableId) (me : Sitting T) (k : Shape) (h : ℕ) → own ≡ t → me ≡ own_seat k h → receiver_end (receiver_stand own me) ≡ at_ring t (fresh_receiver k h)
+  pub view_fresh : (t own : TableId) (me : Sitting T) (k : Shape) (h : ℕ) → own ≡ t → me ≡ own_seat k h
+      → receiver_end (receiver_stand own me) ≡ at_ring t (fresh_receiver k h)
   view_fresh t own me k h same is = λ i. receiver_end (receiver_stand (same i) (is i))
 
   fresh_end : (k : Shape) (t : TableId) (h n i : ℕ) (e : ReceiverEnd T) → get_elem? (map (λ r. at_ring t r) (fresh_receivers k h n)) i ≡ some e
@@ -123,7 +125,8 @@ module _ {T : Type 0} where
   fresh_end k t h (suc n) (suc i) e at = let r = fresh_end k t (suc h) n i e at in let m = r.1 in (r.0, omega arith)
 
   -- the ends of a new ring are all of its ends
-  pub all_fresh : (k : Shape) (events : List T) (s : SenderEnd T) (rs : List (ReceiverEnd T)) (t : HalterStand T) → AreFreshEnds k events s rs t → AreAllEnds s rs
+  pub all_fresh : (k : Shape) (events : List T) (s : SenderEnd T) (rs : List (ReceiverEnd T)) (t : HalterStand T) → AreFreshEnds k events s rs t
+      → AreAllEnds s rs
   all_fresh k events s rs t F = record {
     all = ap length F.receivers ∙ length-map (fresh_receivers k 0 (handlers_of k)) (λ (r : ReceiverRecord T). at_ring s.ring r) ∙ fresh_count T k 0 (handlers_of k)
         ∙ sym (ap (λ (q : SenderRecord T). handlers_of q.plan) F.sender);

@@ -1,5 +1,6 @@
 -- Many events, written one after another.
-use Rattle.std.proofs.Common.{◌≡◌, ℕ, ◌+◌, ◌%◌, ◌<◌, List, [], ◌∷◌, ◌++◌, length, take, get_or, set, Option, None, Some, Ok, Err, sym, refl, ap, ◌∙◌, subst, arith}
+use Rattle.std.proofs.Common.{◌≡◌, ℕ, ◌+◌, ◌%◌, ◌<◌, List, [], ◌∷◌, ◌++◌, length, take, get_or, set, Option, None, Some, Ok, Err, sym, refl, ap, ◌∙◌}
+use Rattle.std.proofs.Common.{subst, arith}
 use Rattle.std.proofs.lemmas.List.{length-take-le, take_more}
 use Rattle.dr_meaning.specs.declared.refusal.Refusal.{Refusal}
 use Rattle.dr_meaning.specs.declared.ends.Trouble.TheVariants.{Refused}

@@ -1,5 +1,6 @@
 -- What lies at home, once an end has taken or given many parts.
-use Rattle.std.proofs.Common.{◌≡◌, ◌≢◌, ◌⊎◌, ℕ, zero, suc, ◌+◌, ◌-◌, ◌<◌, ◌≤◌, inl, inr, List, [], ◌∷◌, ◌++◌, length, set, Option, Some, None, sym, refl, ap, ◌∙◌, subst, arith}
+use Rattle.std.proofs.Common.{◌≡◌, ◌≢◌, ◌⊎◌, ℕ, zero, suc, ◌+◌, ◌-◌, ◌<◌, ◌≤◌, inl, inr, List, [], ◌∷◌, ◌++◌, length, set, Option, Some, None, sym}
+use Rattle.std.proofs.Common.{refl, ap, ◌∙◌, subst, arith}
 use Rattle.std.proofs.lemmas.Bool.{cases_lt}
 use mathlib.Core.Option.{some}
 use mathlib.Core.Option as maybe
@@ -143,7 +144,8 @@ module _ {T : Type 0} (k : Shape) (some_slot : 0 < k.size) where
       × LiesBy k (set receivers g r') lents claims (emptied homes (stretch (placed k g) (length r.received) more))
   receiver_takes receivers lents more claims g r r' homes L S at at_more same longer =
       let s = length r.received in let xs = stretch (placed k g) s more in let held = S.held in let near = S.near in let room = S.room in
-      let low : (i : ℕ) → i < length more → k.size + s + i < length lents = λ i lt. (let t = there more i lt in at_below lents (k.size + s + i) t.0 (at_more i t.0 t.1)) in (
+      let low : (i : ℕ) → i < length more
+      → k.size + s + i < length lents = λ i lt. (let t = there more i lt in at_below lents (k.size + s + i) t.0 (at_more i t.0 t.1)) in (
         λ j x at_x. (let t = at_stretch (placed k g) s more j x at_x in let i : k.size + (s + j) ≡ k.size + s + j = omega arith in let m = low j (at_below more j t.0 t.1) in
             subst (λ (y : ℕ × Token T). get_elem? homes y.0 ≡ some (some y.1)) t.2
             (ap (λ (z : ℕ). get_elem? homes z) (sym (slot_later k g (s + j)) ∙ ap (slot_of k g) i)

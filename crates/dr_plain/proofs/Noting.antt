@@ -1,5 +1,6 @@
 -- What is noted as written, what a write, a claim and a publication leave of that, and what the writes of open sequences then are.
-use Rattle.std.proofs.Common.{◌≡◌, ◌≢◌, ℕ, zero, suc, ◌+◌, ◌%◌, ◌<◌, ◌≤◌, inl, inr, true, false, if◌then◌else◌, List, ◌∷◌, ◌++◌, length, get_or, set, replicate, max}
+use Rattle.std.proofs.Common.{◌≡◌, ◌≢◌, ℕ, zero, suc, ◌+◌, ◌%◌, ◌<◌, ◌≤◌, inl, inr, true, false, if◌then◌else◌, List, ◌∷◌, ◌++◌, length, get_or, set}
+use Rattle.std.proofs.Common.{replicate, max}
 use Rattle.std.proofs.Common.{Option, None, sym, refl, ap, ◌∙◌, subst, arith}
 use Rattle.std.specs.Prelude.{◌||◌}
 use Rattle.std.proofs.lemmas.Bool.{cases_lt, lt-ltb, le-ltb, or_from}
@@ -45,19 +46,22 @@ module _ {T : Type 0} where
   writes_at w cells s (suc n) zero lt = let e : s ≡ s + 0 = omega arith in ap (write_at w cells) e
   writes_at w cells s (suc n) (suc i) lt = let e : s + 1 + i ≡ s + suc i = omega arith in writes_at w cells (s + 1) n i (omega arith) ∙ ap (write_at w cells) e
 
-  pub written_at : (w : Written) (cells : List (Option T)) (s : ℕ) (o : Option T) → is_noted w s ≡ true → get_or cells (s % length cells) None ≡ o → write_at w cells s ≡ o
+  pub written_at : (w : Written) (cells : List (Option T)) (s : ℕ) (o : Option T) → is_noted w s ≡ true → get_or cells (s % length cells) None ≡ o
+      → write_at w cells s ≡ o
   written_at w cells s o noted at = rw noted at
 
   pub unwritten_at : (w : Written) (cells : List (Option T)) (s : ℕ) → is_noted w s ≡ false → write_at w cells s ≡ None
   unwritten_at w cells s other = rw other refl
 
   -- of n sequences that are not noted
-  pub writes_none : (w : Written) (cells : List (Option T)) (s n : ℕ) → ((k : ℕ) → s ≤ k → is_noted w k ≡ false) → (let nothing : Option T = None in writes_from w cells s n ≡ replicate n nothing)
+  pub writes_none : (w : Written) (cells : List (Option T)) (s n : ℕ) → ((k : ℕ) → s ≤ k → is_noted w k ≡ false)
+      → (let nothing : Option T = None in writes_from w cells s n ≡ replicate n nothing)
   writes_none w cells s zero none = refl
   writes_none w cells s (suc n) none = let nothing : Option T = None in
       λ i. unwritten_at w cells s (none s (omega arith)) i ∷ writes_none w cells (s + 1) n (λ k le. none k (omega arith)) i
 
-  pub writes_both : (w : Written) (cells : List (Option T)) (s n m : ℕ) → writes_from w cells s (n + m) ≡ writes_from w cells s n ++ writes_from w cells (s + n) m
+  pub writes_both : (w : Written) (cells : List (Option T)) (s n m : ℕ)
+      → writes_from w cells s (n + m) ≡ writes_from w cells s n ++ writes_from w cells (s + n) m
   writes_both w cells s zero m = let e : zero + m ≡ m = omega arith in let f : s ≡ s + zero = omega arith in λ i. writes_from w cells (f i) (e i)
   writes_both w cells s (suc n) m = let e : suc n + m ≡ suc (n + m) = omega arith in let f : s + 1 + n ≡ s + suc n = omega arith in
       ap (λ (j : ℕ). writes_from w cells s j) e

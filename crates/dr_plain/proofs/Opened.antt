@@ -29,7 +29,8 @@ module _ {T : Type 0} where
   abbrev pub AreWhole : Ptr → List T → List (Token T) → Type 0
   AreWhole p events tokens = (i : ℕ) (x : T) → get_elem? events i ≡ some x → get_elem? tokens i ≡ some (token_at p i (whole x))
 
-  tokens_new : (k : Shape) (events : List T) (tokens : List (Token T)) → 0 < k.size → length tokens ≡ k.size → length events ≡ k.size → AreWhole k.strip events tokens
+  tokens_new : (k : Shape) (events : List T) (tokens : List (Token T)) → 0 < k.size → length tokens ≡ k.size → length events ≡ k.size
+      → AreWhole k.strip events tokens
       → TokensFit (fresh_sender {T = T} k) tokens
   tokens_new k events tokens some_slot count many whole_all = record {
     count = count;
@@ -53,7 +54,8 @@ module _ {T : Type 0} where
 
   -- the fields of a new ring's sender
   pub fits_new : (k : Shape) (e : SenderStand T) (events : List T) (w : Written) (tokens : List (Token T)) (rooms : List HandlerCounts) (hands : ℕ) (p : Ptr) (cells gate : ℕ) → IsPlan k → gate ≡ 0
-      → e ≡ fresh_stand e.ring k → w ≡ record { upto = 0; ahead = replicate k.size 0 } → length tokens ≡ k.size → length events ≡ k.size → AreWhole p events tokens
+      → e ≡ fresh_stand e.ring k → w ≡ record { upto = 0; ahead = replicate k.size 0 } → length tokens ≡ k.size → length events ≡ k.size
+      → AreWhole p events tokens
       → p ≡ k.strip → cells ≡ k.size → length rooms ≡ handlers_of k → hands ≡ handlers_of k
       → SenderFits e (record { claimed_to = 0; published_to = 0; remembered = gate; written = w; tokens = tokens; rooms = rooms; hands = hands; strip = p; cells = cells })
   fits_new k e events w tokens rooms hands p cells gate made none is written count many each here size places room =

@@ -1,5 +1,6 @@
 -- The parts that each kind of step takes or gives.
-use Rattle.std.proofs.Common.{◌≡◌, ℕ, zero, suc, ◌+◌, ◌-◌, ◌<◌, ◌≤◌, ◌==◌, if◌then◌else◌, inl, inr, List, [], ◌∷◌, ◌++◌, length, set, take, drop, replicate, Option, Some, None, sym, refl, ap, ◌∙◌, subst, arith}
+use Rattle.std.proofs.Common.{◌≡◌, ℕ, zero, suc, ◌+◌, ◌-◌, ◌<◌, ◌≤◌, ◌==◌, if◌then◌else◌, inl, inr, List, [], ◌∷◌, ◌++◌, length, set, take, drop}
+use Rattle.std.proofs.Common.{replicate, Option, Some, None, sym, refl, ap, ◌∙◌, subst, arith}
 use Rattle.std.proofs.lemmas.Bool.{cases_eq, cases_lt}
 use Rattle.std.proofs.lemmas.List.{length-append, length-replicate, length-map, length-take, length-drop}
 use mathlib.Core.Option.{some, some-injective, some-ne-none}
@@ -9,7 +10,8 @@ use Rattle.atomic_table.specs.Table.{carried_after}
 use Rattle.dr_cells.specs.declared.token.Token.{Token}
 use Rattle.dr_runs.specs.Stretches.{stretch, rows}
 use Rattle.dr_runs.proofs.Lists.{at_behind}
-use Rattle.dr_runs.proofs.Stretches.{Apart, AreHome, take_all, give_all, emptied, filled, take_carried, take_homes, take_valid, give_carried, give_homes, give_valid}
+use Rattle.dr_runs.proofs.Stretches.{Apart, AreHome, take_all, give_all, emptied, filled, take_carried, take_homes, take_valid, give_carried}
+use Rattle.dr_runs.proofs.Stretches.{give_homes, give_valid}
 use Rattle.dr_runs.proofs.Seats.{Moves}
 use Rattle.dr_plain.specs.Meaning.Shape.{Shape, handlers_of}
 use Rattle.dr_runs.specs.Words.{halt_word}
@@ -60,14 +62,16 @@ module _ {T : Type 0} where
   abbrev pub MovesTo : Shape → World T → Hand T → List (maybe.Option (Token T)) → Hand T → Type 0
   MovesTo k u hand homes after = (m : Moves (exchange k) u hand homes) × (carried_after hand m.act ≡ after)
 
-  pub takes_moves : (k : Shape) (u : World T) (hand xs : Hand T) (homes : List (maybe.Option (Token T))) → AreHome homes xs → Apart xs → Lies k u (emptied homes xs)
+  pub takes_moves : (k : Shape) (u : World T) (hand xs : Hand T) (homes : List (maybe.Option (Token T))) → AreHome homes xs → Apart xs
+      → Lies k u (emptied homes xs)
       → MovesTo k u hand homes (xs ++ hand)
   takes_moves k u hand xs homes home apart lies = (
     record { act = take_all xs; valid = take_valid homes hand xs apart home; lies = subst (Lies k u) (sym (take_homes homes hand xs)) lies },
     take_carried hand xs,
   )
 
-  pub gives_moves : (k : Shape) (u : World T) (rest xs : Hand T) (homes : List (maybe.Option (Token T))) → Lies k u (filled homes xs) → MovesTo k u (xs ++ rest) homes rest
+  pub gives_moves : (k : Shape) (u : World T) (rest xs : Hand T) (homes : List (maybe.Option (Token T))) → Lies k u (filled homes xs)
+      → MovesTo k u (xs ++ rest) homes rest
   gives_moves k u rest xs homes lies = (
     record { act = give_all xs; valid = give_valid homes (xs ++ rest) xs; lies = subst (Lies k u) (sym (give_homes homes rest xs)) lies },
     give_carried rest xs,
@@ -173,7 +177,8 @@ module _ {T : Type 0} where
       (λ i. (sym same_receivers i, sym same_sender i)) t.2))
 
   -- a completion gives them back
-  pub completion_moves : (k p : Shape) (w u : World T) (h g n : ℕ) (r r' : ReceiverRecord T) (rest : Hand T) (homes : List (maybe.Option (Token T))) → p ≡ k → g ≡ h
+  pub completion_moves : (k p : Shape) (w u : World T) (h g n : ℕ) (r r' : ReceiverRecord T) (rest : Hand T) (homes : List (maybe.Option (Token T)))
+      → p ≡ k → g ≡ h
       → get_elem? w.receivers h ≡ some r → r.completed ≤ n → n ≤ length r.received → KeepsRule k w → Lies k w homes
       → u.receivers ≡ set w.receivers h r' → u.sender ≡ w.sender → r'.completed ≡ n → length r'.received ≡ length r.received
       → MovesTo k u (stretch (placed p g) r.completed (lent_all (take (n - r.completed) (drop r.completed r.received))) ++ rest) homes rest

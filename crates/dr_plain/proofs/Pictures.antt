@@ -308,7 +308,8 @@ module _ {T : Type 0} where
       (complete_step k.upstreams k.size k.limit m h n inside refl (omega arith) (omega arith)) going_on
 
   -- halt or closed is stored: nothing else shows
-  lead_flag : (k : Shape) (w : World T) (i : ℕ) (rest : Transcript T) (end : State T) (b : Bool) → 0 < i → i < 32 → (word_at (set w.words i 1) halt_word == 1) ≡ b
+  lead_flag : (k : Shape) (w : World T) (i : ℕ) (rest : Transcript T) (end : State T) (b : Bool) → 0 < i → i < 32
+      → (word_at (set w.words i 1) halt_word == 1) ≡ b
       → Leads k rest (parts_in k w (map taken_of w.receivers) (set w.words i 1)) end
       → Leads k rest (record (parts k w) { halted = b }) end
   lead_flag k w i rest end b pos lt halt leads =
@@ -323,7 +324,8 @@ module _ {T : Type 0} where
   is_receiver : (k : Shape) (w : World T) (h : ℕ) (r : ReceiverRecord T) → get_elem? w.receivers h ≡ some r → receiver_at k w h ≡ r
   is_receiver k w h r at = value_at w.receivers h r (fresh_receiver k h) at
 
-  lead_step : (k : Shape) (s : Step T) (w u : World T) (rest : Transcript T) (end : State T) → Happens k s w u → KeepsRule k w → Leads k rest (picture_of k u) end
+  lead_step : (k : Shape) (s : Step T) (w u : World T) (rest : Transcript T) (end : State T) → Happens k s w u → KeepsRule k w
+      → Leads k rest (picture_of k u) end
       → Leads k (entries_of k s w ++ rest) (picture_of k w) end
   lead_step k (SenderLooksAtCount f) w u rest end H K L = subst (λ (x : World T). Leads k rest (picture_of k x) end) H.1 L
   lead_step k (SenderLooksAtHalt n) w u rest end H K L = lead_claim k w n rest end H.0 K (subst (λ (x : World T). Leads k rest (picture_of k x) end) H.1 L)

@@ -1,5 +1,6 @@
 -- What a publication leaves of the sender's fields, and what it answers.
-use Rattle.std.proofs.Common.{◌≡◌, ℕ, suc, ◌+◌, ◌-◌, ◌*◌, ◌%◌, ◌<◌, ◌≤◌, inl, inr, true, List, [], ◌∷◌, ◌++◌, length, get_or, take, drop, max, replicate, if◌then◌else◌, Option}
+use Rattle.std.proofs.Common.{◌≡◌, ℕ, suc, ◌+◌, ◌-◌, ◌*◌, ◌%◌, ◌<◌, ◌≤◌, inl, inr, true, List, [], ◌∷◌, ◌++◌, length, get_or, take, drop, max}
+use Rattle.std.proofs.Common.{replicate, if◌then◌else◌, Option}
 use Rattle.std.proofs.Common.{Some, None, sym, refl, ap, ◌∙◌, subst, arith, append_assoc}
 use Rattle.std.specs.Prelude.{Ok, Err}
 use Rattle.std.proofs.Math.Nat.{mod-lt}
@@ -162,7 +163,8 @@ module _ {T : Type 0} where
   pub tokens_published : (r : SenderRecord T) (lents : List (Lent T)) (tokens tokens' : List (Token T)) → 0 < r.plan.size → length lents ≤ r.pending
       → claimed r ≤ r.plan.size + length r.published → TokensFit r tokens
       → ((i : ℕ) (m : Lent T) → get_elem? lents i ≡ some m → get_elem? tokens' (cell_of r.plan (length r.published + i)) ≡ some (out r.plan (length r.published + i) (handlers_of r.plan) m))
-      → SameBut r.plan (length r.published) (length r.published + length lents) tokens tokens' → length tokens' ≡ length tokens → TokensFit (published_more r lents) tokens'
+      → SameBut r.plan (length r.published) (length r.published + length lents) tokens tokens' → length tokens' ≡ length tokens
+      → TokensFit (published_more r lents) tokens'
   tokens_published r lents tokens tokens' some_slot few near F L S many =
       let longer = length-append r.published lents in let k = r.plan in record {
         count = many ∙ F.count;
@@ -266,7 +268,8 @@ module _ {T : Type 0} {e : SenderStand T} {f : SenderFields T} (tokens : List (T
       pub published_knows : (e3 : SenderStand T) → e3.knows ≡ published_more e2.knows (told e2.knows) → e3.knows ≡ published_more before next_lents
       published_knows e3 knows = knows ∙ ap (λ (x : SenderRecord T). published_more x (told x)) turned_knows
 
-      pub fits_publish : (e3 : SenderStand T) (w : Written) → e3.knows ≡ published_more e2.knows (told e2.knows) → e3.hand ≡ drop (length (given_by_publication e2.knows (told e2.knows))) e2.hand
+      pub fits_publish : (e3 : SenderStand T) (w : Written) → e3.knows ≡ published_more e2.knows (told e2.knows)
+          → e3.hand ≡ drop (length (given_by_publication e2.knows (told e2.knows))) e2.hand
           → w ≡ record f.written { upto = max f.written.upto upto } → AreLent before.plan tokens lo (upto - lo) → SameBut before.plan lo upto f.tokens tokens
           → length tokens ≡ length f.tokens → SenderFits e3 (record f { published_to = upto; written = w; tokens = tokens })
       fits_publish e3 w knows has new L S many =
@@ -276,7 +279,8 @@ module _ {T : Type 0} {e : SenderStand T} {f : SenderFields T} (tokens : List (T
           let given : given_by_publication e2.knows (told e2.knows) ≡ lanes k lo (lent_all next_lents) =
           ap (λ (x : SenderRecord T). given_by_publication x (told x)) turned_knows ∙ ap (λ (m : ℕ). lanes k m (lent_all next_lents)) (sym from_is) in
           let hand : e3.hand ≡ open_slots (published_more before next_lents) =
-          has ∙ (λ i. drop (length (given i)) (turned_hand i)) ∙ dropped (lanes k lo (lent_all next_lents)) others (length (lanes k lo (lent_all next_lents))) refl
+          has ∙ (λ i. drop (length (given i)) (turned_hand i))
+          ∙ dropped (lanes k lo (lent_all next_lents)) others (length (lanes k lo (lent_all next_lents))) refl
           ∙ (λ i. lanes k ((let z : lo + (upto - lo) ≡ length (before.published ++ next_lents) = omega arith in z) i) (no_lents ((let z : f.claimed_to - upto ≡ before.pending - length next_lents = omega arith in z) i))) in
           fits_as e3 (record f { published_to = upto; written = w; tokens = tokens }) (published_more before next_lents) (open_slots (published_more before next_lents)) e3_knows hand (record {
             made = F.made;
@@ -302,7 +306,8 @@ module _ {T : Type 0} where
   abbrev shown : SenderRecord T → Written → List (Option T) → Sent T
   shown r w cells = record { published = events_of r.published; pending = writes_from w cells (length r.published) r.pending }
 
-  pub sent_published : (r : SenderRecord T) (lents : List (Lent T)) (w w' : Written) (cells : List (Option T)) (n m upto : ℕ) → n + m ≡ r.pending → length lents ≡ n
+  pub sent_published : (r : SenderRecord T) (lents : List (Lent T)) (w w' : Written) (cells : List (Option T)) (n m upto : ℕ) → n + m ≡ r.pending
+      → length lents ≡ n
       → upto ≡ length r.published + n → w' ≡ record w { upto = max w.upto upto } → written_of (writes_from w cells (length r.published) n) ≡ events_of lents
       → shown (published_more r lents) w' cells ≡ published_below (shown r w cells) upto
   sent_published r lents w w' cells n m upto all count to new events =
@@ -326,8 +331,10 @@ module _ {T : Type 0} {e : SenderStand T} (e3 : SenderStand T) {f : SenderFields
   abbrev sends : SenderRecord T
   sends = e.knows
 
-  pub publish_done : (w : Written) → AreNoted f.written lo hi → lo ≤ f.published_to → AreLent sends.plan tokens lo (hi + 1 - lo) → SameBut sends.plan lo (hi + 1) f.tokens tokens
-      → length tokens ≡ length f.tokens → e3.knows ≡ published_more sends (lents_of sends.plan tokens lo (hi + 1 - lo)) → w ≡ record f.written { upto = max f.written.upto (hi + 1) }
+  pub publish_done : (w : Written) → AreNoted f.written lo hi → lo ≤ f.published_to → AreLent sends.plan tokens lo (hi + 1 - lo)
+      → SameBut sends.plan lo (hi + 1) f.tokens tokens
+      → length tokens ≡ length f.tokens → e3.knows ≡ published_more sends (lents_of sends.plan tokens lo (hi + 1 - lo))
+      → w ≡ record f.written { upto = max f.written.upto (hi + 1) }
       → TriesToPublish E lo hi (sender_end e3 w (cells_of tokens)) (Ok tt)
   publish_done w all ge L S many knows new =
       let k = sends.plan in let lents = lents_of k tokens lo (hi + 1 - lo) in let front = F.front in let next = F.next in let count = L.count in

@@ -1,5 +1,6 @@
 -- The parts of what is lent come back one after another.
-use Rattle.std.proofs.Common.{◌≡◌, ◌≢◌, ℕ, ◌+◌, ◌-◌, ◌<◌, ◌≤◌, inl, inr, Bool, true, false, List, [], ◌∷◌, ◌++◌, length, set, drop, Some, sym, refl, ap, ◌∙◌, subst, arith, append_assoc, length-set}
+use Rattle.std.proofs.Common.{◌≡◌, ◌≢◌, ℕ, ◌+◌, ◌-◌, ◌<◌, ◌≤◌, inl, inr, Bool, true, false, List, [], ◌∷◌, ◌++◌, length, set, drop, Some, sym, refl}
+use Rattle.std.proofs.Common.{ap, ◌∙◌, subst, arith, append_assoc, length-set}
 use Rattle.std.specs.Prelude.{⊤}
 use Rattle.std.specs.Bool.{MatchBool}
 use Rattle.std.proofs.lemmas.Bool.{cases_eq}
@@ -48,7 +49,8 @@ module _ {T : Type 0} where
   pub untouched_none : (k : Shape) (first : ℕ) (tokens : List (Token T)) → Untouched k first first tokens tokens
   untouched_none k first tokens = record { count = refl; others = λ i none. refl }
 
-  pub untouched_set : (k : Shape) (first s place : ℕ) (tokens was now : List (Token T)) (t : Token T) → Untouched k first s tokens was → first ≤ s → place ≡ cell_of k s
+  pub untouched_set : (k : Shape) (first s place : ℕ) (tokens was now : List (Token T)) (t : Token T) → Untouched k first s tokens was → first ≤ s
+      → place ≡ cell_of k s
       → now ≡ set was place t → Untouched k first (s + 1) tokens now
   untouched_set k first s place tokens was now t U low at put = record {
     count = ap length put ∙ length-set was place t ∙ U.count;
@@ -56,7 +58,8 @@ module _ {T : Type 0} where
         ∙ U.others i (λ q from to. none q from (omega arith));
   }
 
-  pub untouched_same : (k : Shape) (first s : ℕ) (tokens was now : List (Token T)) → Untouched k first s tokens was → now ≡ was → Untouched k first (s + 1) tokens now
+  pub untouched_same : (k : Shape) (first s : ℕ) (tokens was now : List (Token T)) → Untouched k first s tokens was → now ≡ was
+      → Untouched k first (s + 1) tokens now
   untouched_same k first s tokens was now U same = record {
     count = ap length same ∙ U.count;
     others = λ i none. ap (λ (xs : List (Token T)). get_elem? xs i) same ∙ U.others i (λ q from to. none q from (omega arith));
@@ -74,7 +77,8 @@ module _ {T : Type 0} where
   pub untouched_of : (k : Shape) (first s : ℕ) (tokens now : List (Token T)) → OnePartBack k first s tokens now → Untouched k first s tokens now
   untouched_of k first s tokens now B = record { count = B.count; others = B.others }
 
-  pub back_more : (k : Shape) (first s place : ℕ) (tokens was now : List (Token T)) (t : Token T) → OnePartBack k first s tokens was → first ≤ s → s < first + k.size
+  pub back_more : (k : Shape) (first s place : ℕ) (tokens was now : List (Token T)) (t : Token T) → OnePartBack k first s tokens was → first ≤ s
+      → s < first + k.size
       → place ≡ cell_of k s → get_elem? was place ≡ some t → now ≡ set was place (with_hold t (joined t.hold)) → OnePartBack k first (s + 1) tokens now
   back_more k first s place tokens was now t B low near at here put =
       let t' = with_hold t (joined t.hold) in let U = untouched_set k first s place tokens was now t' (untouched_of k first s tokens was B) low at put in
@@ -104,7 +108,8 @@ module _ {T : Type 0} where
               (ap (λ (ls : List (Lent T)). parts_left k h c s ls) (drop_at lents s l.0 l.1) ∙ left_held k h c s l.0 (drop (s + 1) lents) in_hand),
         )
 
-    lane_first : (lents : List (Lent T)) (others : Hand T) (l : Lent T) → length lents ≡ upto → hand ≡ parts_left k h c first (drop first lents) ++ others → is_in_hand c s ≡ false
+    lane_first : (lents : List (Lent T)) (others : Hand T) (l : Lent T) → length lents ≡ upto
+        → hand ≡ parts_left k h c first (drop first lents) ++ others → is_in_hand c s ≡ false
         → get_elem? lents s ≡ some l → (behind : Hand T) × (now ≡ placed k h s (Some l) ∷ (parts_left k h c (s + 1) (drop (s + 1) lents) ++ (others ++ behind)))
     lane_first lents others l count is at_home at =
         let t = L lents others count is in (
@@ -122,13 +127,15 @@ module _ {T : Type 0} where
         )
 
     -- what lies in the first of them
-    pub lane_slot : (lents : List (Lent T)) (others : Hand T) (l : Lent T) → length lents ≡ upto → hand ≡ parts_left k h c first (drop first lents) ++ others → is_in_hand c s ≡ false
+    pub lane_slot : (lents : List (Lent T)) (others : Hand T) (l : Lent T) → length lents ≡ upto
+        → hand ≡ parts_left k h c first (drop first lents) ++ others → is_in_hand c s ≡ false
         → get_elem? lents s ≡ some l → now ≡ placed k h s (Some l) ∷ rest now
     lane_slot lents others l count is at_home at =
         let t = lane_first lents others l count is at_home at in t.1 ∙ ap (λ (ys : Hand T). placed k h s (Some l) ∷ ys) (sym (ap rest t.1))
 
   -- all parts of a handler are back
-  pub out_less : (k : Shape) (first upto m n : ℕ) (lents : List (Lent T)) (tokens tokens' : List (Token T)) → AreOut k first upto m lents tokens → OnePartBack k first upto tokens tokens'
+  pub out_less : (k : Shape) (first upto m n : ℕ) (lents : List (Lent T)) (tokens tokens' : List (Token T)) → AreOut k first upto m lents tokens
+      → OnePartBack k first upto tokens tokens'
       → m - 1 ≡ n → AreOut k first upto n lents tokens'
   out_less k first upto m n lents tokens tokens' A B less = record {
     count = A.count;
@@ -156,8 +163,10 @@ module _ {T : Type 0} where
   }
 
   -- the slots of the next handlers
-  pub next_left : (k : Shape) (h : ℕ) (counts : List HandlerCounts) (c : HandlerCounts) (first : ℕ) (lents : List (Lent T)) (hand o : Hand T) → get_elem? counts h ≡ some c
-      → hand ≡ all_left k h (drop h counts) first lents ++ o → hand ≡ parts_left k h c first lents ++ (all_left k (h + 1) (drop (h + 1) counts) first lents ++ o)
+  pub next_left : (k : Shape) (h : ℕ) (counts : List HandlerCounts) (c : HandlerCounts) (first : ℕ) (lents : List (Lent T)) (hand o : Hand T)
+      → get_elem? counts h ≡ some c
+      → hand ≡ all_left k h (drop h counts) first lents ++ o
+      → hand ≡ parts_left k h c first lents ++ (all_left k (h + 1) (drop (h + 1) counts) first lents ++ o)
   next_left k h counts c first lents hand o at is =
       is ∙ ap (λ (cs : List HandlerCounts). all_left k h cs first lents ++ o) (drop_at counts h c at)
       ∙ append_assoc (parts_left k h c first lents) (all_left k (h + 1) (drop (h + 1) counts) first lents) o
@@ -168,8 +177,10 @@ module _ {T : Type 0} where
       let t = L lents others count is in (t.0, t.1 ∙ ap (λ (ls : List (Lent T)). parts_left k h c upto ls ++ (others ++ t.0)) (past_end lents upto count))
 
   -- one more cell is whole
-  pub whole_next : (k : Shape) (s upto place : ℕ) (lents : List (Lent T)) (was now : List (Token T)) (t : Token T) (l : Lent T) → AreOut k s upto 0 lents was → s < upto
-      → place ≡ cell_of k s → get_elem? lents s ≡ some l → get_elem? was place ≡ some t → now ≡ set was place (with_hold t (regained t.hold)) → AreOut k (s + 1) upto 0 lents now
+  pub whole_next : (k : Shape) (s upto place : ℕ) (lents : List (Lent T)) (was now : List (Token T)) (t : Token T) (l : Lent T)
+      → AreOut k s upto 0 lents was → s < upto
+      → place ≡ cell_of k s → get_elem? lents s ≡ some l → get_elem? was place ≡ some t → now ≡ set was place (with_hold t (regained t.hold))
+      → AreOut k (s + 1) upto 0 lents now
   whole_next k s upto place lents was now t l A lt at lent here put =
       let t' = with_hold t (regained t.hold) in let near = A.near in let all = A.count in
       let is : t ≡ out k s 0 l = some-injective t (out k s 0 l) (sym here ∙ ap (λ (i : ℕ). get_elem? was i) at ∙ A.out s l (omega arith) lent) in
@@ -193,10 +204,12 @@ module _ {T : Type 0} where
             ]);
       }
 
-  pub whole_cells : (was now : List (Token T)) (place : ℕ) (t : Token T) → get_elem? was place ≡ some t → now ≡ set was place (with_hold t (regained t.hold)) → cells_of now ≡ cells_of was
+  pub whole_cells : (was now : List (Token T)) (place : ℕ) (t : Token T) → get_elem? was place ≡ some t
+      → now ≡ set was place (with_hold t (regained t.hold)) → cells_of now ≡ cells_of was
   whole_cells was now place t here put = ap cells_of put ∙ cells_set was place t (with_hold t (regained t.hold)) here (held_regained t.hold)
 
-  pub whole_all : (k : Shape) (s upto : ℕ) (lents : List (Lent T)) (tokens : List (Token T)) → AreOut k s upto 0 lents tokens → upto ≤ s → AreAllWhole k.strip tokens
+  pub whole_all : (k : Shape) (s upto : ℕ) (lents : List (Lent T)) (tokens : List (Token T)) → AreOut k s upto 0 lents tokens → upto ≤ s
+      → AreAllWhole k.strip tokens
   whole_all k s upto lents tokens A over i t at = A.others i t (λ q from to. absurd (omega arith)) at
 
   -- a part is drawn out of a hand, or out of the slot that is first in hand
@@ -234,7 +247,8 @@ module _ {T : Type 0} where
     parts_are = untouched_same k first s parts was parts' U given.0;
   }
 
-  pub out_all : (k : Shape) (first upto n : ℕ) (lents : List (Lent T)) (tokens : List (Token T)) → AreOut k first upto n lents tokens → AreOut k first upto (n - 0) lents tokens
+  pub out_all : (k : Shape) (first upto n : ℕ) (lents : List (Lent T)) (tokens : List (Token T)) → AreOut k first upto n lents tokens
+      → AreOut k first upto (n - 0) lents tokens
   out_all k first upto n lents tokens A = let z : n ≡ n - 0 = omega arith in subst (λ (m : ℕ). AreOut k first upto m lents tokens) z A
 
   -- the token of the next cell, of which m parts are out

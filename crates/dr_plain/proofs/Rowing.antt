@@ -1,5 +1,6 @@
 -- The sender's slots in hand, a row for each sequence.
-use Rattle.std.proofs.Common.{◌≡◌, ℕ, zero, suc, ◌+◌, ◌-◌, ◌*◌, ◌<◌, ◌≤◌, List, [], ◌∷◌, ◌++◌, length, take, drop, replicate, Option, sym, refl, ap, ◌∙◌, arith, append_assoc}
+use Rattle.std.proofs.Common.{◌≡◌, ℕ, zero, suc, ◌+◌, ◌-◌, ◌*◌, ◌<◌, ◌≤◌, List, [], ◌∷◌, ◌++◌, length, take, drop, replicate, Option, sym, refl, ap}
+use Rattle.std.proofs.Common.{◌∙◌, arith, append_assoc}
 use Rattle.std.proofs.lemmas.List.{append-nil, length-append, length-replicate}
 use Rattle.std.proofs.Math.Nat.{mul-suc}
 use mathlib.Core.Option.{some}
@@ -52,7 +53,8 @@ module _ {A X : Type 0} (place : ℕ → ℕ → A → X) where
       ∙ sym (append_assoc first (rows place n (s + 1) ls) (rows place n (s + suc (length ls)) bs))
 
   -- one sequence more
-  pub rows_more : (n s t : ℕ) (ls : List A) (a : A) → t ≡ s + length ls → rows place n s ls ++ stretch (λ h b. place h t b) 0 (replicate n a) ≡ rows place n s (ls ++ a ∷ [])
+  pub rows_more : (n s t : ℕ) (ls : List A) (a : A) → t ≡ s + length ls
+      → rows place n s ls ++ stretch (λ h b. place h t b) 0 (replicate n a) ≡ rows place n s (ls ++ a ∷ [])
   rows_more n s t ls a at =
       ap (λ (xs : List X). rows place n s ls ++ xs) (sym (append-nil (stretch (λ h b. place h t b) 0 (replicate n a))))
       ∙ ap (λ (m : ℕ). rows place n s ls ++ rows place n m (a ∷ [])) at ∙ sym (rows_both n s ls (a ∷ []))
@@ -86,7 +88,8 @@ module _ {T K : Type 0} (e : EndOf T K) (k : Shape) (first : ℕ) (xs : List (Op
       ap (λ (h : Hand T). with_hand e h)
       (is ∙ (λ i. lanes k first (drop (none i) xs) ++ sym (append-nil others) i))
 
-  hand_of : (s : ℕ) (ys : List (Option (Lent T))) (now : EndOf T K) → Rowed s ys now → now.hand ≡ lanes k s (drop (s - first) xs) ++ (others ++ lanes k first ys)
+  hand_of : (s : ℕ) (ys : List (Option (Lent T))) (now : EndOf T K) → Rowed s ys now
+      → now.hand ≡ lanes k s (drop (s - first) xs) ++ (others ++ lanes k first ys)
   hand_of s ys now is = ap (λ (x : EndOf T K). x.hand) is
 
   -- the next row stands in front
@@ -99,7 +102,8 @@ module _ {T K : Type 0} (e : EndOf T K) (k : Shape) (first : ℕ) (xs : List (Op
             ∙ append_assoc (row k s l) left (others ++ lanes k first ys),
       )
 
-  pub rowed_next : (s : ℕ) (ys : List (Option (Lent T))) (now next : EndOf T K) (l m : Option (Lent T)) → first ≤ s → Rowed s ys now → get_elem? xs (s - first) ≡ some l
+  pub rowed_next : (s : ℕ) (ys : List (Option (Lent T))) (now next : EndOf T K) (l m : Option (Lent T)) → first ≤ s → Rowed s ys now
+      → get_elem? xs (s - first) ≡ some l
       → length ys ≡ s - first → next ≡ with_hand now (drop (handlers_of k) now.hand ++ row k s m) → Rowed (s + 1) (ys ++ m ∷ []) next
   unfolding rowed_row
   rowed_next s ys now next l m low is at count new =
@@ -114,13 +118,15 @@ module _ {T K : Type 0} (e : EndOf T K) (k : Shape) (first : ℕ) (xs : List (Op
       ∙ ap (λ (n : ℕ). lanes k (s + 1) (drop n xs) ++ (others ++ lanes k first (ys ++ m ∷ []))) later in
       new ∙ ap (λ (q : EndOf T K). with_hand q (drop (handlers_of k) now.hand ++ row k s m)) is ∙ ap (λ (h : Hand T). with_hand e h) hand
 
-  pub rowed_all : (s : ℕ) (ys : List (Option (Lent T))) (now : EndOf T K) → Rowed s ys now → s - first ≡ length xs → now ≡ with_hand e (others ++ lanes k first ys)
+  pub rowed_all : (s : ℕ) (ys : List (Option (Lent T))) (now : EndOf T K) → Rowed s ys now → s - first ≡ length xs
+      → now ≡ with_hand e (others ++ lanes k first ys)
   rowed_all s ys now is all =
       is ∙ ap (λ (zs : List (Option (Lent T))). with_hand e (lanes k s zs ++ (others ++ lanes k first ys)))
       (ap (λ (n : ℕ). drop n xs) all ∙ ap (λ (zs : List (Option (Lent T))). drop (length xs) zs) (sym (append-nil xs)) ∙ dropped xs [] (length xs) refl)
 
 -- the others, once so many rows are in front of them
-pub others_of : {T K : Type 0} (e : EndOf T K) (k : Shape) (first n : ℕ) (xs : List (Option (Lent T))) (o : Hand T) → e.hand ≡ lanes k first xs ++ o → length xs ≡ n
+pub others_of : {T K : Type 0} (e : EndOf T K) (k : Shape) (first n : ℕ) (xs : List (Option (Lent T))) (o : Hand T) → e.hand ≡ lanes k first xs ++ o
+    → length xs ≡ n
     → o ≡ drop (handlers_of k * n) e.hand
 others_of e k first n xs o is count =
     sym (ap (λ (h : Hand _). drop (handlers_of k * n) h) is

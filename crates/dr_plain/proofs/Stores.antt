@@ -68,7 +68,8 @@ module _ {T : Type 0} where
       let rises : i < words_of k → word_at w.words i ≤ 1 = λ _. flag in
       let here : word_at us i ≡ 1 = get_or-set_same w.words i 1 0 inside in
       let stays : (j : ℕ) → j ≢ i → word_at us j ≡ word_at w.words j = λ j ne. get_or-set_other w.words i j 1 0 ne in
-      let up : (j : ℕ) → word_at w.words j ≡ 1 → word_at us j ≡ 1 = λ j e. elim (cases_eq j i) [ inl same ↦ ap (λ (m : ℕ). word_at us m) same ∙ here | inr ne ↦ stays j ne ∙ e ] in record {
+      let up : (j : ℕ) → word_at w.words j ≡ 1
+      → word_at us j ≡ 1 = λ j e. elim (cases_eq j i) [ inl same ↦ ap (λ (m : ℕ). word_at us m) same ∙ here | inr ne ↦ stays j ne ∙ e ] in record {
         graph = K.graph;
         some_slot = K.some_slot;
         wide = length-set w.words i 1 ∙ K.wide;
@@ -86,7 +87,8 @@ module _ {T : Type 0} where
   pub keeps_sender_halts : (k : Shape) (w : World T) → KeepsRule k w → KeepsRule k (sender_stores w halt_word 1 (sender_halted w.sender))
   keeps_sender_halts k w K = flagged k w halt_word (omega arith) (omega arith) K.flags.halt true w.sender.closed w.halter.halted (halts_flags w.words w.sender.pending w.sender.halted w.sender.closed w.halter.halted true w.halter.halted (let wide = K.wide in omega arith) (inl refl) K.flags) K
 
-  pub keeps_halter_halts : (k : Shape) (w : World T) → KeepsRule k w → KeepsRule k (record w { words = set w.words halt_word 1; halter = halter_halted w.halter })
+  pub keeps_halter_halts : (k : Shape) (w : World T) → KeepsRule k w
+      → KeepsRule k (record w { words = set w.words halt_word 1; halter = halter_halted w.halter })
   keeps_halter_halts k w K = flagged k w halt_word (omega arith) (omega arith) K.flags.halt w.sender.halted w.sender.closed true (halts_flags w.words w.sender.pending w.sender.halted w.sender.closed w.halter.halted w.sender.halted true (let wide = K.wide in omega arith) (inr refl) K.flags) K
 
   pub keeps_closes : (k : Shape) (w : World T) → w.sender.halted ≡ true → w.sender.pending ≡ 0 → KeepsRule k w

@@ -35,13 +35,15 @@ module _ {T : Type 0} where
     pub is_back : (t : Token T) (n : ℕ) (m : Lent T) → t ≡ out k s n m → n ≡ 0 → IsBack t.hold
     is_back t n m is none = subst (λ (q : Token T). IsBack q.hold) (sym is) none
 
-    pub regained_is : (t t' : Token T) (n : ℕ) (m : Lent T) → t ≡ out k s n m → t' ≡ with_hold t (regained t.hold) → t' ≡ token_at k.strip (cell_of k s) (whole m.event)
+    pub regained_is : (t t' : Token T) (n : ℕ) (m : Lent T) → t ≡ out k s n m → t' ≡ with_hold t (regained t.hold)
+        → t' ≡ token_at k.strip (cell_of k s) (whole m.event)
     regained_is t t' n m is new = new ∙ ap (λ (q : Token T). with_hold q (regained q.hold)) is
 
     pub is_whole : (t : Token T) → Keeps k s None t → IsWhole t.hold
     is_whole t is = subst (λ (q : Token T). IsWhole q.hold) (sym is.1) tt
 
-    pub lent_is : (t t' : Token T) (round : ℕ) (is : Keeps k s None t) → t' ≡ with_hold t (lent round t.hold) → t' ≡ out k s 0 record { round = round; event = is.0 }
+    pub lent_is : (t t' : Token T) (round : ℕ) (is : Keeps k s None t) → t' ≡ with_hold t (lent round t.hold)
+        → t' ≡ out k s 0 record { round = round; event = is.0 }
     lent_is t t' round is new = new ∙ ap (λ (q : Token T). with_hold q (lent round q.hold)) is.1
 
     pub can_split : (t : Token T) (n : ℕ) (m : Lent T) → t ≡ out k s n m → n + 1 < 2 ^ 63 → CanSplit t.hold

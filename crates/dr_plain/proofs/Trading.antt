@@ -1,5 +1,6 @@
 -- The slots that are first in hand, as a token goes in and out of each.
-use Rattle.std.proofs.Common.{◌≡◌, ℕ, zero, suc, ◌+◌, ◌-◌, ◌<◌, ◌≤◌, inl, inr, List, [], ◌∷◌, ◌++◌, length, set, take, drop, Option, Some, None, sym, refl, ap, ◌∙◌, arith, append_assoc, length-set}
+use Rattle.std.proofs.Common.{◌≡◌, ℕ, zero, suc, ◌+◌, ◌-◌, ◌<◌, ◌≤◌, inl, inr, List, [], ◌∷◌, ◌++◌, length, set, take, drop, Option, Some, None, sym}
+use Rattle.std.proofs.Common.{refl, ap, ◌∙◌, arith, append_assoc, length-set}
 use Rattle.std.proofs.lemmas.Bool.{cases_eq}
 use Rattle.std.proofs.lemmas.List.{append-nil, length-map, length-take, length-drop, length-replicate}
 use mathlib.Core.Option.{some, some-injective, some-ne-none}
@@ -134,7 +135,8 @@ module _ {T : Type 0} (r : ReceiverRecord T) (first upto : ℕ) (le : upto ≤ l
   blanks_count = let nothing : Option (Lent T) = None in
       length_stretch (placed r.plan r.number) first (no_lents (upto - first)) ∙ length-replicate (upto - first) nothing
 
-  pub part_at : (s : ℕ) (l : Lent T) → first ≤ s → s < upto → get_elem? r.received s ≡ some l → get_elem? (parts_between r first upto) (s - first) ≡ some (placed r.plan r.number s (Some l))
+  pub part_at : (s : ℕ) (l : Lent T) → first ≤ s → s < upto → get_elem? r.received s ≡ some l
+      → get_elem? (parts_between r first upto) (s - first) ≡ some (placed r.plan r.number s (Some l))
   part_at s l low lt at = let few = take (upto - first) (drop first r.received) in let e : first + (s - first) ≡ s = omega arith in
       stretch_at (placed r.plan r.number) first (lent_all few) (s - first) (Some l)
       (map_there (λ (m : Lent T). Some m) few (s - first) l (at_slice r.received first (upto - first) (s - first) l (omega arith) (ap (λ (m : ℕ). get_elem? r.received m) e ∙ at)))
@@ -149,8 +151,10 @@ module _ {T : Type 0} where
   pub parts_none : (r : ReceiverRecord T) (first : ℕ) (parts : List (Token T)) → PartsTaken r first first parts parts
   parts_none r first parts = record { count = refl; taken = λ s l low high at. absurd (omega arith); others = λ i none. refl }
 
-  pub parts_more : (r : ReceiverRecord T) (first s : ℕ) (parts was now : List (Token T)) (t : Token T) (l : Lent T) → PartsTaken r first s parts was → first ≤ s → s < first + r.plan.size
-      → length parts ≡ r.plan.size → cell_of r.plan s < r.plan.size → get_elem? r.received s ≡ some l → t ≡ part_of r.plan s (Some l) → now ≡ set was (cell_of r.plan s) t
+  pub parts_more : (r : ReceiverRecord T) (first s : ℕ) (parts was now : List (Token T)) (t : Token T) (l : Lent T) → PartsTaken r first s parts was
+      → first ≤ s → s < first + r.plan.size
+      → length parts ≡ r.plan.size → cell_of r.plan s < r.plan.size → get_elem? r.received s ≡ some l → t ≡ part_of r.plan s (Some l)
+      → now ≡ set was (cell_of r.plan s) t
       → PartsTaken r first (s + 1) parts now
   parts_more r first s parts was now t l P low near long inside here token put = let c = cell_of r.plan s in let count = P.count in record {
     count = ap length put ∙ length-set was c t ∙ P.count;
@@ -176,7 +180,9 @@ module _ {T : Type 0} where
   }
 
   -- the part of the next event still stands in its place
-  pub part_is : (r : ReceiverRecord T) (first s upto : ℕ) (parts was : List (Token T)) (t : Token T) (l : Lent T) → SamePlaces r first s parts was → first ≤ s → s < upto
-      → s < first + r.plan.size → ArePartsBetween r first upto parts → get_elem? r.received s ≡ some l → get_elem? was (cell_of r.plan s) ≡ some t → t ≡ part_of r.plan s (Some l)
+  pub part_is : (r : ReceiverRecord T) (first s upto : ℕ) (parts was : List (Token T)) (t : Token T) (l : Lent T) → SamePlaces r first s parts was
+      → first ≤ s → s < upto
+      → s < first + r.plan.size → ArePartsBetween r first upto parts → get_elem? r.received s ≡ some l → get_elem? was (cell_of r.plan s) ≡ some t
+      → t ≡ part_of r.plan s (Some l)
   part_is r first s upto parts was t l P low lt near all here at = some-injective t (part_of r.plan s (Some l))
       (sym at ∙ P.others (cell_of r.plan s) (λ q from to. slots_differ r.plan.size q s (λ (e : q ≡ s). omega arith) (omega arith) (omega arith)) ∙ all s l low lt here)

@@ -58,7 +58,8 @@ module _ {T : Type 0} where
         (write_one vs s e count le (omega arith))
         (subst (λ (xs : List (Option T)). Leads k (open_writes (s + 1) ws) (wrote (vs ++ Some e ∷ [])) (wrote xs)) (append_assoc vs (Some e ∷ []) ws) rest)
 
-    pub lead_open_writes : (ws : List (Option T)) → length ws ≡ w.sender.pending → Leads k (open_writes (length w.sender.published) ws) (picture_of k w) (picture_with k w ws)
+    pub lead_open_writes : (ws : List (Option T)) → length ws ≡ w.sender.pending
+        → Leads k (open_writes (length w.sender.published) ws) (picture_of k w) (picture_with k w ws)
     lead_open_writes ws all =
         let count = sent_count w.sender.published in
         lead_open ws (values_of (sent w)) (length w.sender.published) (sym (length-map (sent w) (λ (event : T). Some event) ∙ count)) (omega arith) (omega arith)

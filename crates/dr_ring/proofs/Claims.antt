@@ -224,7 +224,8 @@ module _ {r s t e : SenderRecord} {xs : List Look} {n q needed : ℕ} (S : Scann
 
 -- What a claim answers is what every end's claim answers.
 
-pub claim_of_end : (r : SenderRecord) (n : ℕ) (refusal : Refusal) → r.plan.limit ≤ 2 ^ 62 → IsSize r.plan.size → IsFirst MayHold MayFail refusal (claim_causes (tests_of_claim r n))
+pub claim_of_end : (r : SenderRecord) (n : ℕ) (refusal : Refusal) → r.plan.limit ≤ 2 ^ 62 → IsSize r.plan.size
+    → IsFirst MayHold MayFail refusal (claim_causes (tests_of_claim r n))
     → IsFirst MayHold MayFail refusal (claim_causes (claim_tests (Some r.sent) n))
 claim_of_end r n refusal few is (inl h) = inl h
 claim_of_end r n refusal few is (inr (a, inl h)) = inr (a, inl (bad_is_not_one n r.plan.size is h.0, h.1))

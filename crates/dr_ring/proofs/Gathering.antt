@@ -114,7 +114,8 @@ all_unhalted k v after now s es t T off =
     (unhalted_since k R.steps R.entries T.ran.world R.made.0 R.made.1 R.runs (ap (λ (q : HalterRecord). q.halted) A.halter ∙ off))
 
 abbrev Moments : (Shape → List Step → Transcript Event → World → Type 0) → Type 0
-Moments P = (k : Shape) (steps : List Step) (entries : Transcript Event) (w : World) → IsGraph k.upstreams → 0 < k.size → Runs k steps entries (new_world k) w → P k steps entries w
+Moments P = (k : Shape) (steps : List Step) (entries : Transcript Event) (w : World) → IsGraph k.upstreams → 0 < k.size
+    → Runs k steps entries (new_world k) w → P k steps entries w
 
 -- the run of the ends that came together
 pub has_run : (k : Shape) (v after now : View EndRecord Step) (s : SenderEnd) (es : List ReceiverEnd) (t : HalterEnd) → Together k v after now s es t
@@ -123,7 +124,8 @@ pub has_run : (k : Shape) (v after now : View EndRecord Step) (s : SenderEnd) (e
 has_run k v after now s es t T leads laws =
     let A = all_stand k v after now s es t T in let R = T.ran.reached in let w = T.ran.world in
     let plan : k ≡ s.knows.plan = sym A.rule.sender_plan ∙ ap (λ (q : SenderRecord). q.plan) A.sender in
-    let P : Shape → Type 0 = λ p. Runs p R.steps R.entries (new_world p) w × LeadsTo (ring_setup p) R.entries (picture_of p w) × Laws (ring_setup p) R.entries in
+    let P : Shape
+    → Type 0 = λ p. Runs p R.steps R.entries (new_world p) w × LeadsTo (ring_setup p) R.entries (picture_of p w) × Laws (ring_setup p) R.entries in
     let all : P s.knows.plan = subst P plan (R.runs, leads k R.steps R.entries w R.made.0 R.made.1 R.runs, laws k R.steps R.entries w R.made.0 R.made.1 R.runs) in record {
       steps = R.steps;
       entries = R.entries;

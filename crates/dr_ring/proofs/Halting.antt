@@ -67,6 +67,7 @@ halted_step k (ReceiverLoadsSecond h) w u n H K is = subst (HaltedAt n) (sym H.2
 halted_step k (ReceiverCompletes h m) w u n H K is = subst (HaltedAt n) (sym H.2.2) (other_word w n (count_word h) m (λ e. omega arith) is.0, is.1)
 halted_step k HalterHalts w u n H K is = let wide = K.wide in subst (HaltedAt n) (sym H) (get_or-set_same w.words halt_word 1 0 (omega arith), is.1)
 
-pub halted_runs : (k : Shape) (steps : List Step) (es : Transcript Event) (w u : World) (n : ℕ) → Runs k steps es w u → KeepsRule k w → HaltedAt n w → HaltedAt n u
+pub halted_runs : (k : Shape) (steps : List Step) (es : Transcript Event) (w u : World) (n : ℕ) → Runs k steps es w u → KeepsRule k w → HaltedAt n w
+    → HaltedAt n u
 halted_runs k [] es w u n R K is = subst (HaltedAt n) R.1 is
 halted_runs k (s ∷ steps) es w u n R K is = halted_runs k steps R.1 R.0 u n R.4 (keeps_step k s w R.0 R.2 K) (halted_step k s w R.0 n R.2 K is)

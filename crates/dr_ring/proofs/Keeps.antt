@@ -173,7 +173,8 @@ pub keeps_halt_look : (k : Shape) (w : World) (n : ℕ) → (0 < n → SeesRoom 
     → KeepsRule k (sender_knows w (halt_looked w.sender n (word_at w.words halt_word)))
 keeps_halt_look k w n room K =
     let found = word_at w.words halt_word in
-    let P : List (Option Event) → Type 0 = λ more. KeepsRule k (sender_knows w (record w.sender { sent = record w.sender.sent { pending = w.sender.sent.pending ++ more }; looks = w.sender.looks ++ look halt_word found ∷ [] })) in
+    let P : List (Option Event)
+    → Type 0 = λ more. KeepsRule k (sender_knows w (record w.sender { sent = record w.sender.sent { pending = w.sender.sent.pending ++ more }; looks = w.sender.looks ++ look halt_word found ∷ [] })) in
     let nothing : KeepsRule k (sender_knows w (sender_looked w.sender halt_word found)) = keeps_sender_looks k w halt_word (omega arith) K in
     let none : P [] = subst (λ (xs : List (Option Event)). KeepsRule k (sender_knows w (record w.sender { sent = record w.sender.sent { pending = xs }; looks = w.sender.looks ++ look halt_word found ∷ [] }))) (sym (append-nil w.sender.sent.pending)) nothing in
     elim (cases_eq found 0) [
@@ -186,7 +187,8 @@ keeps_halt_look k w n room K =
 
 -- a payload word is stored: nothing below the payload changes
 payload_kept : (k : Shape) (w : World) (i v : ℕ) (r : SenderRecord) → payload_start k ≤ i → i < words_of k → r.plan ≡ w.sender.plan
-    → r.sent.published ≡ w.sender.sent.published → length r.sent.pending ≡ length w.sender.sent.pending → r.halted ≡ w.sender.halted → r.closed ≡ w.sender.closed
+    → r.sent.published ≡ w.sender.sent.published → length r.sent.pending ≡ length w.sender.sent.pending → r.halted ≡ w.sender.halted
+    → r.closed ≡ w.sender.closed
     → r.looks ≡ w.sender.looks
     → Payload k (set w.words i v) w.sender.sent.published r.sent.pending r.half → KeepsRule k w
     → KeepsRule k (sender_stores w i v (record w.sender { sent = record w.sender.sent { pending = r.sent.pending }; half = r.half }))

@@ -102,7 +102,8 @@ all_fresh k s rs t F = record {
   halter = ap (λ (x : HalterEnd). x.ring) F.halter;
 }
 
-pub all_receiver : (s : SenderEnd) (rs : List ReceiverEnd) (t : HalterEnd) (h : ℕ) (e e' : ReceiverEnd) → AreAllEnds s rs t → get_elem? rs h ≡ some e → e'.ring ≡ e.ring
+pub all_receiver : (s : SenderEnd) (rs : List ReceiverEnd) (t : HalterEnd) (h : ℕ) (e e' : ReceiverEnd) → AreAllEnds s rs t → get_elem? rs h ≡ some e
+    → e'.ring ≡ e.ring
     → e'.knows.number ≡ e.knows.number → AreAllEnds s (set rs h e') t
 all_receiver s rs t h e e' A here ring number = record {
   all = length-set rs h e' ∙ A.all;
@@ -115,7 +116,8 @@ set_past [] h e le = refl
 set_past (r ∷ rs) zero e le = absurd (omega arith)
 set_past (r ∷ rs) (suc h) e le = ap (λ (xs : List ReceiverEnd). r ∷ xs) (set_past rs h e (omega arith))
 
-pub all_receiver_at : (s : SenderEnd) (rs : List ReceiverEnd) (t : HalterEnd) (h : ℕ) (e e' : ReceiverEnd) → AreAllEnds s rs t → e ≡ get_or rs h e → e'.ring ≡ e.ring
+pub all_receiver_at : (s : SenderEnd) (rs : List ReceiverEnd) (t : HalterEnd) (h : ℕ) (e e' : ReceiverEnd) → AreAllEnds s rs t → e ≡ get_or rs h e
+    → e'.ring ≡ e.ring
     → e'.knows.number ≡ e.knows.number → AreAllEnds s (set rs h e') t
 all_receiver_at s rs t h e e' A at ring number =
     elim (cases_lt h (length rs)) [

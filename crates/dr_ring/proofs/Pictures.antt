@@ -271,7 +271,8 @@ lead_drained k w h r rest end at tells K leads =
     subst (λ (b : Bool). Leads k (entry (Poll h 1) Drained [] ++ rest) (S b) end) on
     (leads_one (ring_setup k) (Poll h 1) Drained [] rest (S true) (S true) end step (subst (λ (b : Bool). Leads k rest (S b) end) (sym on) leads))
 
-lead_cursor_look : (k : Shape) (w : World) (h : ℕ) (r : ReceiverRecord) (rest : Transcript Event) (end : State Event) → get_elem? w.receivers h ≡ some r → KeepsRule k w
+lead_cursor_look : (k : Shape) (w : World) (h : ℕ) (r : ReceiverRecord) (rest : Transcript Event) (end : State Event)
+    → get_elem? w.receivers h ≡ some r → KeepsRule k w
     → Leads k rest (parts k w) end
     → Leads k ((if tells_drained r (word_at w.words cursor_word) then entry (Poll h 1) Drained [] else []) ++ rest) (parts k w) end
 lead_cursor_look k w h r rest end at K leads =
@@ -327,7 +328,8 @@ lead_complete k w h n r rest end at rise le K leads =
     leads_one (ring_setup k) (Complete h n) Completed [] rest m _ end (complete_step k.upstreams k.size k.limit m h n inside refl (omega arith) (omega arith)) going_on
 
 -- halt or closed is stored: nothing else shows
-lead_flag : (k : Shape) (w : World) (i : ℕ) (rest : Transcript Event) (end : State Event) (b : Bool) → 0 < i → i < 32 → (word_at (set w.words i 1) halt_word == 1) ≡ b
+lead_flag : (k : Shape) (w : World) (i : ℕ) (rest : Transcript Event) (end : State Event) (b : Bool) → 0 < i → i < 32
+    → (word_at (set w.words i 1) halt_word == 1) ≡ b
     → Leads k rest (shown k (claimed w.sender) (values_of w.sender.sent.published w.sender.sent.pending) (word_at (set w.words i 1) cursor_word) (map taken_of w.receivers) (counts_of k (set w.words i 1)) (word_at (set w.words i 1) halt_word == 1)) end
     → Leads k rest (record (parts k w) { halted = b }) end
 lead_flag k w i rest end b pos lt halt leads =
@@ -343,7 +345,8 @@ halt_on k w K = let wide = K.wide in eq-eqb _ _ (get_or-set_same w.words halt_wo
 is_receiver : (k : Shape) (w : World) (h : ℕ) (r : ReceiverRecord) → get_elem? w.receivers h ≡ some r → receiver_at k w h ≡ r
 is_receiver k w h r at = value_at w.receivers h r (fresh_receiver k h) at
 
-lead_step : (k : Shape) (s : Step) (w u : World) (rest : Transcript Event) (end : State Event) → Happens k s w u → KeepsRule k w → Leads k rest (picture_of k u) end
+lead_step : (k : Shape) (s : Step) (w u : World) (rest : Transcript Event) (end : State Event) → Happens k s w u → KeepsRule k w
+    → Leads k rest (picture_of k u) end
     → Leads k (entries_of k s w ++ rest) (picture_of k w) end
 lead_step k (SenderLooksAtCount f) w u rest end H K L = subst (λ (x : World). Leads k rest (picture_of k x) end) H.1 L
 lead_step k (SenderLooksAtHalt n) w u rest end H K L = lead_claim k w n rest end H.0 K (subst (λ (x : World). Leads k rest (picture_of k x) end) H.1 L)

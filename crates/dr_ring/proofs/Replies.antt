@@ -17,13 +17,16 @@ use Rattle.dr_meaning.specs.declared.command.Polled.{Polled}
 use Rattle.dr_meaning.specs.declared.command.Polled.TheVariants.{Batch, Drained, Gating, Idle}
 use Rattle.dr_meaning.specs.Meaning.Refusals.{IsFirst, claim_causes, sequence_causes, publish_causes, write_causes, poll_causes, complete_causes}
 use Rattle.dr_meaning.specs.Meaning.Machine as machine
-use Rattle.dr_meaning.specs.Meaning.Machine.{Setup, State, Outcome, next, front, cursor, offered, available, unchanged, least_completed, refusals, accepted, publish_faults, unless}
+use Rattle.dr_meaning.specs.Meaning.Machine.{Setup, State, Outcome, next, front, cursor, offered, available, unchanged, least_completed, refusals}
+use Rattle.dr_meaning.specs.Meaning.Machine.{accepted, publish_faults, unless}
 use Rattle.dr_meaning.specs.Calls.Replies.{claim_reply, unit_reply, poll_reply}
-use Rattle.dr_meaning.specs.Calls.Ends.{Exactly, MayHold, MayFail, IsAnswerOf, WriteAnswers, PublishAnswers, as_end, write_tests, end_sequence_tests, publish_tests}
+use Rattle.dr_meaning.specs.Calls.Ends.{Exactly, MayHold, MayFail, IsAnswerOf, WriteAnswers, PublishAnswers, as_end, write_tests, end_sequence_tests}
+use Rattle.dr_meaning.specs.Calls.Ends.{publish_tests}
 use Rattle.dr_meaning.proofs.Steps.{Refuses, unless-none, unless-refused}
 use Rattle.dr_meaning.proofs.Leasts.{least_of-member}
 use Rattle.dr_graph.specs.Meaning.Graph.{upstreams_of, finals}
-use Rattle.dr_runs.proofs.Exact.{AreExact, none_exact, first_exact, exact_join, exact_stretch, unit_replies, offered_low, drained_reply, gating_reply, idle_reply}
+use Rattle.dr_runs.proofs.Exact.{AreExact, none_exact, first_exact, exact_join, exact_stretch, unit_replies, offered_low, drained_reply, gating_reply}
+use Rattle.dr_runs.proofs.Exact.{idle_reply}
 use Rattle.dr_ring.specs.Meaning.Shape.{Shape, handlers_of, ring_setup}
 use Rattle.dr_runs.specs.Words.{cursor_word, halt_word, count_word}
 use Rattle.dr_ring.specs.declared.record.ReceiverRecord.{ReceiverRecord}

@@ -52,7 +52,8 @@ module _ (i : ℕ) where
       subst (Rises i w) (sym H.2.2) (raised_word w.words i (count_word h) n (omega arith) (omega arith))
   rises_step k HalterHalts w u lt H K = let wide = K.wide in subst (Rises i w) (sym H) (raised_word w.words i halt_word 1 (omega arith) K.flags.halt)
 
-  pub rises_runs : (k : Shape) (steps : List Step) (es : Transcript Event) (w u : World) → i < payload_start k → Runs k steps es w u → KeepsRule k w → Rises i w u
+  pub rises_runs : (k : Shape) (steps : List Step) (es : Transcript Event) (w u : World) → i < payload_start k → Runs k steps es w u → KeepsRule k w
+      → Rises i w u
   rises_runs k [] es w u lt R K = subst (Rises i w) R.1 (omega arith)
   rises_runs k (s ∷ steps) es w u lt R K =
       let one = rises_step k s w R.0 lt R.2 K in let rest = rises_runs k steps R.1 R.0 u lt R.4 (keeps_step k s w R.0 R.2 K) in omega arith

@@ -16,7 +16,8 @@ use Rattle.dr_ring.proofs.Keeps.{receiver_of_handler}
 use Rattle.dr_ring.specs.Meaning.Settling.{HasBeginning, FollowsUpstream, Settles}
 
 -- what a receiver saw of publications and completions is there now, and no more is completed than published
-saw_published : (k : Shape) (w : World) (h i u : ℕ) (r : ReceiverRecord) (x : Look) → get_elem? w.receivers h ≡ some r → KeepsRule k w → get_elem? r.looks i ≡ some x
+saw_published : (k : Shape) (w : World) (h i u : ℕ) (r : ReceiverRecord) (x : Look) → get_elem? w.receivers h ≡ some r → KeepsRule k w
+    → get_elem? r.looks i ≡ some x
     → (x.word ≡ cursor_word) ⊎ (x.word ≡ count_word u) → x.value ≤ length w.sender.sent.published
 saw_published k w h i u r x at K there which =
     let past = (K.received h r at).looks i x there in

@@ -101,7 +101,8 @@ flagged k w i pos lt flag a b c before flags K =
     let rises : i < payload_start k → word_at w.words i ≤ 1 = λ _. flag in
     let here : word_at us i ≡ 1 = get_or-set_same w.words i 1 0 inside in
     let stays : (j : ℕ) → j ≢ i → word_at us j ≡ word_at w.words j = λ j ne. get_or-set_other w.words i j 1 0 ne in
-    let up : (j : ℕ) → word_at w.words j ≡ 1 → word_at us j ≡ 1 = λ j e. elim (cases_eq j i) [ inl same ↦ ap (λ (m : ℕ). word_at us m) same ∙ here | inr ne ↦ stays j ne ∙ e ] in record {
+    let up : (j : ℕ) → word_at w.words j ≡ 1
+    → word_at us j ≡ 1 = λ j e. elim (cases_eq j i) [ inl same ↦ ap (λ (m : ℕ). word_at us m) same ∙ here | inr ne ↦ stays j ne ∙ e ] in record {
       graph = K.graph;
       some_slot = K.some_slot;
       wide = length-set w.words i 1 ∙ K.wide;

@@ -59,7 +59,8 @@ wrote_more e a b lo k s events d event less at is W C =
     }
 
 -- the next one is refused
-pub wrote_refused : (e a b : SenderEnd) (lo k : ℕ) (events : List Event) (refusal : Refusal) → k < length events → WroteFirst e lo events k a → sender_place b ≡ sender_place a
+pub wrote_refused : (e a b : SenderEnd) (lo k : ℕ) (events : List Event) (refusal : Refusal) → k < length events → WroteFirst e lo events k a
+    → sender_place b ≡ sender_place a
     → WriteAnswers (Some a.knows.sent) (lo + k) (Err (Refused refusal)) → b.knows.sent ≡ a.knows.sent → OnlySends a.knows b.knows → b.stored ≡ a.stored
     → IsBeginning a.past b.past → WriteAllCall e lo events b (record { count = k; trouble = Some (Refused refusal) })
 wrote_refused e a b lo k events refusal less W place answer sent only stored past = record {

@@ -2,7 +2,8 @@
 use Rattle.std.proofs.Common.{◌≡◌, ◌++◌, ◌∷◌, [], ℕ, zero, suc, List, replicate, Result, Err, refl, sym, subst, ap}
 use Rattle.dr_meaning.specs.declared.ends.Trouble.{Trouble}
 use Rattle.dr_meaning.specs.declared.ends.Trouble.TheVariants.{Memory}
-use Rattle.dr_meaning.specs.Calls.Calling.{CallsLead, InletCall, TriesClaim, WritesOne, WritesMany, PublishesStretch, OutletCall, PollsInto, CompletesBelow, SomeCalls}
+use Rattle.dr_meaning.specs.Calls.Calling.{CallsLead, InletCall, TriesClaim, WritesOne, WritesMany, PublishesStretch, OutletCall, PollsInto}
+use Rattle.dr_meaning.specs.Calls.Calling.{CompletesBelow, SomeCalls}
 use Rattle.dr_workers.specs.Calls.Waits.{Attended, Attends, Provided, Provides}
 use Rattle.dr_workers.specs.Inside.Retries.{Retries, tries_in}
 
@@ -16,7 +17,8 @@ module _ {S P E : Type 0} (does : S → OutletCall E → S → Type 0) (waits : 
   leads a b (call ∷ calls) h = (h.0.end, called a h.0 call h.1, leads h.0 b calls h.2)
 
   -- what the end alone was called
-  pub end_alone : (a b : Attended S P) (Holds : List (OutletCall E) → Type 0) → SomeCalls (Attends does waits finds) a b Holds → SomeCalls does a.end b.end Holds
+  pub end_alone : (a b : Attended S P) (Holds : List (OutletCall E) → Type 0) → SomeCalls (Attends does waits finds) a b Holds
+      → SomeCalls does a.end b.end Holds
   end_alone a b Holds h = record { calls = h.calls; lead = leads a b h.calls h.lead; holds = h.holds }
 
   -- a completion that is tried until memory suffices asks for no patience
@@ -26,7 +28,8 @@ module _ {S P E : Type 0} (does : S → OutletCall E → S → Type 0) (waits : 
   tries p upto zero r a b h = (record { end = h.0; patience = p }, (h.1, refl), ap (λ (x : S). record { end = x; patience = p }) h.2)
   tries p upto (suc times) r a b h = (record { end = h.0; patience = p }, (h.1, refl), tries p upto times r h.0 b h.2)
 
-  pub completing : (p : P) (upto : ℕ) (r : Result (Unit {0}) Trouble) (a b : S) → SomeCalls does a b (Retries (CompletesBelow upto (Err Memory)) (CompletesBelow upto r))
+  pub completing : (p : P) (upto : ℕ) (r : Result (Unit {0}) Trouble) (a b : S)
+      → SomeCalls does a b (Retries (CompletesBelow upto (Err Memory)) (CompletesBelow upto r))
       → SomeCalls (Attends does waits finds) (record { end = a; patience = p }) (record { end = b; patience = p }) (Retries (CompletesBelow upto (Err Memory)) (CompletesBelow upto r))
   completing p upto r a b h = record {
     calls = h.calls;
@@ -50,7 +53,8 @@ module _ {S P E : Type 0} (does : S → InletCall E → S → Type 0) (waits : P
   makes a b (call ∷ calls) h = (h.0.end, made a h.0 call h.1, makes h.0 b calls h.2)
 
   -- what the end alone was called
-  pub inlet_alone : (a b : Provided S P) (Holds : List (InletCall E) → Type 0) → SomeCalls (Provides does waits finds) a b Holds → SomeCalls does a.end b.end Holds
+  pub inlet_alone : (a b : Provided S P) (Holds : List (InletCall E) → Type 0) → SomeCalls (Provides does waits finds) a b Holds
+      → SomeCalls does a.end b.end Holds
   inlet_alone a b Holds h = record { calls = h.calls; lead = makes a b h.calls h.lead; holds = h.holds }
 
   untouched : (p : P) (room : ℕ) (calls : List (InletCall E)) → tries_in calls ≡ [] → (a b : S) → CallsLead does a calls b

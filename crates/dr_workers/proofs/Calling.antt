@@ -1,5 +1,6 @@
 -- What workers call of their ends.
-use Rattle.std.proofs.Common.{◌≡◌, ◌≢◌, ◌<◌, ◌≤◌, ◌+◌, ◌-◌, ℕ, zero, suc, List, [], ◌∷◌, ◌++◌, length, take, drop, replicate, Option, None, Some, Result, Ok, Err, inl, inr, refl, sym, ap, ◌∙◌, subst, arith, add-zero, zero-add, drop-cons, length-drop}
+use Rattle.std.proofs.Common.{◌≡◌, ◌≢◌, ◌<◌, ◌≤◌, ◌+◌, ◌-◌, ℕ, zero, suc, List, [], ◌∷◌, ◌++◌, length, take, drop, replicate, Option, None, Some}
+use Rattle.std.proofs.Common.{Result, Ok, Err, inl, inr, refl, sym, ap, ◌∙◌, subst, arith, add-zero, zero-add, drop-cons, length-drop}
 use Rattle.std.specs.List.{cons_option, filter_map, slice_get}
 use Rattle.std.proofs.Math.Seq.{drop-nil}
 use Rattle.std.proofs.lemmas.Grind.{flat_map-append}
@@ -11,7 +12,8 @@ use Rattle.dr_meaning.specs.declared.ends.Trouble.{Trouble}
 use Rattle.dr_meaning.specs.declared.ends.Trouble.TheVariants.{Memory, Refused}
 use Rattle.dr_meaning.specs.declared.ends.Wrote.{Wrote}
 use Rattle.dr_meaning.specs.declared.refusal.Refusal.{Refusal}
-use Rattle.dr_meaning.specs.Calls.Calling.{InletCall, PublishesStretch, TriesClaim, WritesMany, WritesOne, CallsLead, SomeCalls, WritesBy, each_written, first_in_trouble, writes_of}
+use Rattle.dr_meaning.specs.Calls.Calling.{InletCall, PublishesStretch, TriesClaim, WritesMany, WritesOne, CallsLead, SomeCalls, WritesBy}
+use Rattle.dr_meaning.specs.Calls.Calling.{each_written, first_in_trouble, writes_of}
 use Rattle.dr_meaning.proofs.Calling.{lead_more}
 use Rattle.dr_workers.specs.Calls.Serving.{EndsIn, InOrder, ToSend, WriteFails}
 use Rattle.dr_workers.specs.Inside.Retries.{Retries, WriteCalls, task_at_end, tried_of, tries_in}
@@ -33,7 +35,8 @@ ends_after IsSuch (x ∷ []) [] h = absurd h
 ends_after IsSuch (x ∷ []) (y ∷ calls) h = h
 ends_after IsSuch (x ∷ y ∷ before) calls h = ends_after IsSuch (y ∷ before) calls h
 
-pub ends_as : {C : Type 0} (IsSuch IsOther : C → Type 0) → ((call : C) → IsSuch call → IsOther call) → (calls : List C) → EndsIn IsSuch calls → EndsIn IsOther calls
+pub ends_as : {C : Type 0} (IsSuch IsOther : C → Type 0) → ((call : C) → IsSuch call → IsOther call) → (calls : List C) → EndsIn IsSuch calls
+    → EndsIn IsOther calls
 ends_as IsSuch IsOther implies [] h = h
 ends_as IsSuch IsOther implies (x ∷ []) h = implies x h
 ends_as IsSuch IsOther implies (x ∷ y ∷ calls) h = ends_as IsSuch IsOther implies (y ∷ calls) h
@@ -75,7 +78,8 @@ pub ends_retried : {C : Type 0} (IsSuch : C → Type 0) (waits answered : C) (ca
 ends_retried IsSuch waits answered calls h is = subst (λ l. EndsIn IsSuch l) (sym h.1) (ends_in_last IsSuch (replicate h.0 waits) answered is)
 
 -- what is accepted of calls that are made again is what is accepted of the last one
-accepts_last : {E : Type 0} (waits answered : InletCall E) → accepted_of waits ≡ [] → (times : ℕ) → accepted_in (replicate times waits ++ answered ∷ []) ≡ accepted_of answered
+accepts_last : {E : Type 0} (waits answered : InletCall E) → accepted_of waits ≡ [] → (times : ℕ)
+    → accepted_in (replicate times waits ++ answered ∷ []) ≡ accepted_of answered
 accepts_last waits answered none zero = append-nil (accepted_of answered)
 accepts_last waits answered none (suc times) =
     ap (λ l. l ++ accepted_in (replicate times waits ++ answered ∷ [])) none ∙ accepts_last waits answered none times
@@ -135,7 +139,8 @@ pub record AreTried {E : Type 0} (lo : ℕ) (events : List E) (wrote : Wrote) (c
   pub accepted : accepted_in calls ≡ each_written lo (take wrote.count events)
   pub refused : (r : Refusal) → wrote.trouble ≡ Some (Refused r) → EndsIn (WriteFails lo events (Refused r)) calls
   pub order : (cut : ℕ) (stretch : Claimed) (rest : List E) → 0 < length events → InOrder cut (ToSend stretch lo events rest) calls
-  pub end : (stretch : Claimed) (rest : List E) → WritesGoOn wrote.trouble → task_at_end (ToSend stretch lo events rest) calls ≡ ToSend stretch (lo + wrote.count) (drop wrote.count events) rest
+  pub end : (stretch : Claimed) (rest : List E) → WritesGoOn wrote.trouble
+      → task_at_end (ToSend stretch lo events rest) calls ≡ ToSend stretch (lo + wrote.count) (drop wrote.count events) rest
 
 one_refused : {E : Type 0} (lo k : ℕ) (events : List E) (trouble : Option Trouble) (r : Refusal) (event : E) (rest : List E) → slice_get events k ≡ Some event
     → trouble ≡ Some (Refused r) → EndsIn (WriteFails lo events (Refused r)) (first_in_trouble (lo + k) trouble (event ∷ rest))
@@ -163,8 +168,10 @@ many_writes {S} {E} does lo events wrote a b stops within (inr each) =
       calls = writes_of lo events wrote;
       lead = each;
       holds = record {
-        tries = filter_map-append tried_of first rest ∙ ap (λ l. l ++ tries_in rest) (no_tries lo (take wrote.count events)) ∙ no_try (lo + wrote.count) wrote.trouble (drop wrote.count events);
-        claims = filter_map-append claim_of first rest ∙ ap (λ l. l ++ claims_in rest) (no_claims lo (take wrote.count events)) ∙ no_claim (lo + wrote.count) wrote.trouble (drop wrote.count events);
+        tries = filter_map-append tried_of first rest ∙ ap (λ l. l ++ tries_in rest) (no_tries lo (take wrote.count events))
+            ∙ no_try (lo + wrote.count) wrote.trouble (drop wrote.count events);
+        claims = filter_map-append claim_of first rest ∙ ap (λ l. l ++ claims_in rest) (no_claims lo (take wrote.count events))
+            ∙ no_claim (lo + wrote.count) wrote.trouble (drop wrote.count events);
         accepted = accepted_in-append first rest ∙ ap (λ l. l ++ accepted_in rest) (all_written lo (take wrote.count events))
             ∙ ap (λ l. first ++ l) (none_accepted (lo + wrote.count) wrote.trouble (drop wrote.count events)) ∙ append-nil first;
         refused = λ r is.
@@ -199,7 +206,8 @@ first_none does a lo events = record {
 }
 
 -- the first of some events, and then the first of those that are left
-first_of_rest : {E : Type 0} (done n : ℕ) (events : List E) → take done events ++ take n (take (length events - done) (drop done events)) ≡ take (done + n) events
+first_of_rest : {E : Type 0} (done n : ℕ) (events : List E)
+    → take done events ++ take n (take (length events - done) (drop done events)) ≡ take (done + n) events
 first_of_rest done n events =
     ap (λ l. take done events ++ take n l) (rest_of events done) ∙ sym (first_and_next events done n)
 
@@ -218,8 +226,10 @@ add_later : (lo done k : ℕ) → lo + done + k ≡ lo + (done + k)
 add_later lo done k = omega arith
 
 -- what is accepted of the first, and then of those that are left
-accepted_more : {E : Type 0} (lo done : ℕ) (events : List E) (count : ℕ) (xs ys : List (InletCall E)) → done ≤ length events → accepted_in xs ≡ each_written lo (take done events)
-    → accepted_in ys ≡ each_written (lo + done) (take count (take (length events - done) (drop done events))) → accepted_in (xs ++ ys) ≡ each_written lo (take (done + count) events)
+accepted_more : {E : Type 0} (lo done : ℕ) (events : List E) (count : ℕ) (xs ys : List (InletCall E)) → done ≤ length events
+    → accepted_in xs ≡ each_written lo (take done events)
+    → accepted_in ys ≡ each_written (lo + done) (take count (take (length events - done) (drop done events)))
+    → accepted_in (xs ++ ys) ≡ each_written lo (take (done + count) events)
 accepted_more lo done events count xs ys within h k =
     let part = take count (take (length events - done) (drop done events)) in
     let many : length (take done events) ≡ done = length-take-le done events within in
@@ -228,7 +238,8 @@ accepted_more lo done events count xs ys within h k =
     ∙ each_written-append lo (take done events) part ∙ ap (each_written lo) (first_of_rest done count events)
 
 -- and their order
-orders_more : {E : Type 0} (lo done : ℕ) (events : List E) (wrote : Wrote) (xs ys : List (InletCall E)) → (0 < length events → done < length events) → AreFirst lo events done xs
+orders_more : {E : Type 0} (lo done : ℕ) (events : List E) (wrote : Wrote) (xs ys : List (InletCall E)) → (0 < length events → done < length events)
+    → AreFirst lo events done xs
     → AreTried (lo + done) (take (length events - done) (drop done events)) wrote ys
     → (cut : ℕ) (stretch : Claimed) (rest : List E) → 0 < length events → InOrder cut (ToSend stretch lo events rest) (xs ++ ys)
 orders_more lo done events wrote xs ys before h k cut stretch rest some =
@@ -240,12 +251,14 @@ orders_more lo done events wrote xs ys before h k cut stretch rest some =
 
 ends_more : {E : Type 0} (lo done : ℕ) (events : List E) (wrote : Wrote) (xs ys : List (InletCall E)) → WritesGoOn wrote.trouble → AreFirst lo events done xs
     → AreTried (lo + done) (take (length events - done) (drop done events)) wrote ys
-    → (stretch : Claimed) (rest : List E) → task_at_end (ToSend stretch lo events rest) (xs ++ ys) ≡ ToSend stretch (lo + (done + wrote.count)) (drop (done + wrote.count) events) rest
+    → (stretch : Claimed) (rest : List E)
+    → task_at_end (ToSend stretch lo events rest) (xs ++ ys) ≡ ToSend stretch (lo + (done + wrote.count)) (drop (done + wrote.count) events) rest
 ends_more lo done events wrote xs ys fine h k stretch rest =
     let later : task_at_end (ToSend stretch (lo + done) (drop done events) rest) ys ≡ ToSend stretch (lo + done + wrote.count) (drop wrote.count (drop done events)) rest
     = subst (λ l. task_at_end (ToSend stretch (lo + done) l rest) ys ≡ ToSend stretch (lo + done + wrote.count) (drop wrote.count l) rest) (rest_of events done) (k.end stretch rest fine) in
     task_more (ToSend stretch lo events rest) xs ys ∙ ap (λ t. task_at_end t ys) (h.end stretch rest) ∙ later
-    ∙ ap (λ n. ToSend stretch n (drop wrote.count (drop done events)) rest) (add_later lo done wrote.count) ∙ ap (λ l. ToSend stretch (lo + (done + wrote.count)) l rest) (rest_later done wrote.count events)
+    ∙ ap (λ n. ToSend stretch n (drop wrote.count (drop done events)) rest) (add_later lo done wrote.count)
+    ∙ ap (λ l. ToSend stretch (lo + (done + wrote.count)) l rest) (rest_later done wrote.count events)
 
 pub first_more : {S E : Type 0} (does : S → InletCall E → S → Type 0) (a b c : S) (lo done : ℕ) (events : List E) (wrote : Wrote) → done ≤ length events
     → (0 < length events → done < length events) → WritesGoOn wrote.trouble
@@ -275,11 +288,13 @@ all_accepted does a b lo done events all h = record {
     trouble = λ fault is. absurd (is_ok (Ok tt) fault refl is);
     accepted = h.holds.accepted ∙ ap (each_written lo) (take_all done events (omega arith));
     order = h.holds.order;
-    end = λ stretch rest is. h.holds.end stretch rest ∙ ap (λ l. ToSend stretch (lo + done) l rest) (drop_all done events (omega arith)) ∙ ap (λ n. ToSend stretch (lo + n) [] rest) all;
+    end = λ stretch rest is. h.holds.end stretch rest ∙ ap (λ l. ToSend stretch (lo + done) l rest) (drop_all done events (omega arith))
+        ∙ ap (λ n. ToSend stretch (lo + n) [] rest) all;
   };
 }
 
-fails_later : {E : Type 0} (lo done : ℕ) (events : List E) (trouble : Trouble) (call : InletCall E) → WriteFails (lo + done) (drop done events) trouble call → WriteFails lo events trouble call
+fails_later : {E : Type 0} (lo done : ℕ) (events : List E) (trouble : Trouble) (call : InletCall E)
+    → WriteFails (lo + done) (drop done events) trouble call → WriteFails lo events trouble call
 fails_later lo done events trouble (WritesOne s event (Err fault)) (k, at, is, same, refusal) = (done + k, sym (event_later done k events) ∙ at, is ∙ add_later lo done k, same, refusal)
 fails_later lo done events trouble (WritesMany s some wrote) (k, at, is, same, refusal) = (done + k, at ∙ rest_later done k events, is ∙ add_later lo done k, same, refusal)
 fails_later lo done events trouble (WritesOne s event (Ok fine)) h = h

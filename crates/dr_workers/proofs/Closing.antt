@@ -46,7 +46,8 @@ closed_there lo written a b s n low high wrote closed =
     let pending : length b.pending ≡ length a.pending = ap (λ x. length x.pending) wrote ∙ same_pending lo written a in
     record { sequence = s; first = low; last = high; closed = elim closed [ inl beyond ↦ inl (omega arith) | inr below ↦ inr (omega arith) ] }
 
-pub write_refused : {E : Type 0} (lo : ℕ) (written : List E) (n at m count : ℕ) (o p : Option (Sent E)) (r : Refusal) → WhereShown (WritesAll lo written) o p → lo ≤ at → at + m ≤ lo + n
+pub write_refused : {E : Type 0} (lo : ℕ) (written : List E) (n at m count : ℕ) (o p : Option (Sent E)) (r : Refusal)
+    → WhereShown (WritesAll lo written) o p → lo ≤ at → at + m ≤ lo + n
     → StopsAt p at m count (Some (Refused r)) → MayRefuse lo n o
 write_refused lo written n at m count None p r wrote low high stops = tt
 write_refused lo written n at m count (Some a) None r wrote low high stops = absurd wrote
@@ -97,7 +98,8 @@ record Filled {E : Type 0} (events : List E) (lo : ℕ) (d : Sent E) : Type 0 wh
   first : lo ≡ length d.published
   pending : d.pending ≡ map some events
 
-filled : {E : Type 0} (events : List E) (c : Claimed) (a b d : Sent E) → a.pending ≡ [] → Opens (length events) c a b → Writing c.lo events (length events) b d → Filled events c.lo d
+filled : {E : Type 0} (events : List E) (c : Claimed) (a b d : Sent E) → a.pending ≡ [] → Opens (length events) c a b
+    → Writing c.lo events (length events) b d → Filled events c.lo d
 filled events c a b d closed claim write =
     let before : b.published ≡ a.published = ap (λ x. x.published) claim.1 in
     let none : length a.pending ≡ 0 = ap length closed in
@@ -107,14 +109,16 @@ filled events c a b d closed claim write =
     let over : length events - length events ≡ 0 = omega arith in
     record {
       first = at ∙ ap length (sym write.published);
-      pending = write.pending at pending ∙ ap (λ n. map some (take (length events) events) ++ replicate n None) over ∙ append-nil (map some (take (length events) events)) ∙ ap (map some) all;
+      pending = write.pending at pending ∙ ap (λ n. map some (take (length events) events) ++ replicate n None) over
+          ∙ append-nil (map some (take (length events) events)) ∙ ap (map some) all;
     }
 
 written_there : {E : Type 0} (xs : List E) (k : ℕ) → k < length xs → is_none (get_or (map some xs) k None) ≡ false
 written_there [] k less = absurd (omega arith)
 written_there (x ∷ xs) k less = ap is_none (get_or-map some (x ∷ xs) k x None less)
 
-may_publish : {E : Type 0} (events : List E) (lo hi : ℕ) (d : Sent E) (r : Refusal) → lo ≤ hi → hi + 1 ≡ lo + length events → Filled events lo d → PublishAnswers (Some d) lo hi (Err (Refused r)) → ⊥
+may_publish : {E : Type 0} (events : List E) (lo hi : ℕ) (d : Sent E) (r : Refusal) → lo ≤ hi → hi + 1 ≡ lo + length events → Filled events lo d
+    → PublishAnswers (Some d) lo hi (Err (Refused r)) → ⊥
 may_publish {E} events lo hi d r ordered is f refused =
     let tests = publish_tests (Some d) lo hi in
     let first = f.first in
@@ -144,7 +148,8 @@ all_published events c is a b d e claim write shows closed =
     let many : c.hi + 1 - length d.published ≡ length d.pending = (let long = ap length f.pending ∙ length-map events in omega arith) in
     ap (λ x. x.pending) shows ∙ drop_over d.pending (c.hi + 1 - length d.published) many
 
-not_refused : {E : Type 0} (events : List E) (c : Claimed) → c.lo ≤ c.hi → c.hi + 1 ≡ c.lo + length events → (a b d : Sent E) (trouble : Trouble) → trouble ≢ Memory → Opens (length events) c a b
+not_refused : {E : Type 0} (events : List E) (c : Claimed) → c.lo ≤ c.hi → c.hi + 1 ≡ c.lo + length events → (a b d : Sent E) (trouble : Trouble)
+    → trouble ≢ Memory → Opens (length events) c a b
     → Writing c.lo events (length events) b d → PublishAnswers (Some d) c.lo c.hi (Err trouble) → LeavesNothingOpen a d
 not_refused events c ordered is a b d Memory other claim write answer closed = absurd (other refl)
 not_refused events c ordered is a b d (Refused r) other claim write answer closed = absurd (may_publish events c.lo c.hi d r ordered is (filled events c a b d closed claim write) answer)
@@ -153,12 +158,15 @@ abbrev pub Publishing : {E : Type 0} → Claimed → Result (Unit {0}) Trouble �
 Publishing c (Ok done) q s = WhereShown (Shows c.lo c.hi) q s
 Publishing c (Err trouble) q s = s ≡ q
 
-pub publishing : {E : Type 0} (c : Claimed) (r : Result (Unit {0}) Trouble) (q s : Option (Sent E)) → OnOk r (WhereShown (Publishes c.lo c.hi (Ok tt)) q s) → OnErr r (s ≡ q) → Publishing c r q s
+pub publishing : {E : Type 0} (c : Claimed) (r : Result (Unit {0}) Trouble) (q s : Option (Sent E))
+    → OnOk r (WhereShown (Publishes c.lo c.hi (Ok tt)) q s) → OnErr r (s ≡ q) → Publishing c r q s
 publishing c (Ok done) q s h k = h
 publishing c (Err trouble) q s h k = k
 
-pub leaves_nothing_open : {E : Type 0} (events : List E) (c : Claimed) → c.lo ≤ c.hi → c.hi + 1 ≡ c.lo + length events → (r : Result (Unit {0}) Trouble) → r ≢ Err Memory → (o p q s : Option (Sent E))
-    → WhereShown (Opens (length events) c) o p → WhereShown (Writing c.lo events (length events)) p q → PublishAnswers q c.lo c.hi r → Publishing c r q s → WhereShown LeavesNothingOpen o s
+pub leaves_nothing_open : {E : Type 0} (events : List E) (c : Claimed) → c.lo ≤ c.hi → c.hi + 1 ≡ c.lo + length events
+    → (r : Result (Unit {0}) Trouble) → r ≢ Err Memory → (o p q s : Option (Sent E))
+    → WhereShown (Opens (length events) c) o p → WhereShown (Writing c.lo events (length events)) p q → PublishAnswers q c.lo c.hi r
+    → Publishing c r q s → WhereShown LeavesNothingOpen o s
 leaves_nothing_open events c ordered is (Ok done) waits None None None None h k answer l = tt
 leaves_nothing_open events c ordered is (Ok done) waits None None None (Some e) h k answer l = absurd l
 leaves_nothing_open events c ordered is r waits None None (Some d) s h k answer l = absurd k

@@ -1,5 +1,6 @@
 -- A producer's worker, part after part of its script.
-use Rattle.std.proofs.Common.{◌≡◌, ◌≢◌, ◌+◌, ◌-◌, ◌<◌, ℕ, zero, suc, min, take, drop, List, [], ◌∷◌, ◌++◌, length, Some, Result, Ok, Err, inl, inr, refl, sym, ap, ◌∙◌, subst, arith, add-one, append_assoc, length-append, length-drop}
+use Rattle.std.proofs.Common.{◌≡◌, ◌≢◌, ◌+◌, ◌-◌, ◌<◌, ℕ, zero, suc, min, take, drop, List, [], ◌∷◌, ◌++◌, length, Some, Result, Ok, Err, inl, inr}
+use Rattle.std.proofs.Common.{refl, sym, ap, ◌∙◌, subst, arith, add-one, append_assoc, length-append, length-drop}
 use Rattle.std.specs.Prelude.{flat_map}
 use Rattle.std.proofs.lemmas.Grind.{flat_map-append}
 use Rattle.std.proofs.Math.Seq.{drop-append_seam, take-append_seam}
@@ -13,7 +14,8 @@ use Rattle.dr_meaning.specs.Calls.Calling.{InletCall, TriesClaim, PublishesStret
 use Rattle.dr_meaning.proofs.Calling.{lead_more}
 use Rattle.dr_workers.specs.declared.producer.Produced.{Produced}
 use Rattle.dr_workers.specs.declared.turns.Turns.{Turns}
-use Rattle.dr_workers.specs.Calls.Serving.{ClaimFails, EndsIn, GivesUp, InOrder, IsNextStep, IsOpen, IsRefusal, PartFails, ProducerEnds, PublicationFails, Sends, Task, ToClaim, ToSend, WriteFails, task_after}
+use Rattle.dr_workers.specs.Calls.Serving.{ClaimFails, EndsIn, GivesUp, InOrder, IsNextStep, IsOpen, IsRefusal, PartFails, ProducerEnds}
+use Rattle.dr_workers.specs.Calls.Serving.{PublicationFails, Sends, Task, ToClaim, ToSend, WriteFails, task_after}
 use Rattle.dr_workers.specs.Calls.Stops.{Passes, begins, fault_at_end, fault_in_trouble}
 use Rattle.dr_workers.specs.Inside.Retries.{AfterClaim, AreWrittenOut, IsInTroubleWith, IsPartSent, Retries, SendsPart, WriteCalls, task_at_end}
 use Rattle.dr_workers.specs.Meaning.Work.{AreCut, BeginsPart, IsSent, Part, accepted_in, accepted_of, claim_of, claims_in, sending_of, writing_of}
@@ -43,7 +45,8 @@ publishes_none : {E : Type 0} (lo hi : ℕ) (answer : Result (Unit {0}) Trouble)
     → claims_in calls ≡ []
 publishes_none lo hi answer calls h = picked claim_of (PublishesStretch lo hi (Err Memory)) (PublishesStretch lo hi answer) calls h refl
 
-accepts_claim : {E : Type 0} (n : ℕ) (answer : Result Claimed Trouble) (calls : List (InletCall E)) → IsClaimed n answer calls → accepted_in calls ≡ accepted_of (TriesClaim n answer)
+accepts_claim : {E : Type 0} (n : ℕ) (answer : Result Claimed Trouble) (calls : List (InletCall E)) → IsClaimed n answer calls
+    → accepted_in calls ≡ accepted_of (TriesClaim n answer)
 accepts_claim n answer calls h = accepted_last (TriesClaim n (Err (Refused NoRoom))) (TriesClaim n answer) calls h refl
 
 accepts_publication : {E : Type 0} (lo hi : ℕ) (answer : Result (Unit {0}) Trouble) (calls : List (InletCall E)) → IsPublished lo hi answer calls
@@ -51,7 +54,8 @@ accepts_publication : {E : Type 0} (lo hi : ℕ) (answer : Result (Unit {0}) Tro
 accepts_publication lo hi answer calls h = accepted_last (PublishesStretch lo hi (Err Memory)) (PublishesStretch lo hi answer) calls h refl
 
 -- the claim is the next call
-claim_next : {E : Type 0} (cut : ℕ) (events rest : List E) (answer : Result Claimed Trouble) → 0 < length events → length events ≡ min (length (events ++ rest)) cut
+claim_next : {E : Type 0} (cut : ℕ) (events rest : List E) (answer : Result Claimed Trouble) → 0 < length events
+    → length events ≡ min (length (events ++ rest)) cut
     → IsNextStep cut (ToClaim (events ++ rest)) (TriesClaim (length events) answer)
 claim_next cut events rest answer some size = (let long : length (events ++ rest) ≡ length events + length rest = length-append events rest in omega arith, size)
 
@@ -94,7 +98,8 @@ part_unclaimed does events a b may_stop must_stop t trouble other h =
 
 -- what is accepted of a claim and of what follows it
 accepts_part : {E : Type 0} (events : List E) (stretch : Claimed) (result : Result (Unit {0}) Trouble) (first rest : List (InletCall E)) → 0 < length events
-    → first ≡ TriesClaim (length events) (Ok stretch) ∷ [] → AreWrittenOut (record { stretch = stretch; events = events }) result rest → IsPartSent events result (first ++ rest)
+    → first ≡ TriesClaim (length events) (Ok stretch) ∷ [] → AreWrittenOut (record { stretch = stretch; events = events }) result rest
+    → IsPartSent events result (first ++ rest)
 accepts_part events stretch (Ok done) first rest some is written = (stretch, ap (λ l. l ++ rest) is ∙ ap (λ l. TriesClaim (length events) (Ok stretch) ∷ l) written)
 accepts_part events stretch (Err trouble) first rest some is written =
     inr (
@@ -106,8 +111,10 @@ accepts_part events stretch (Err trouble) first rest some is written =
     )
 
 -- what is accepted of a claim and of the first of its writes
-opened : {E : Type 0} (events : List E) (stretch : Claimed) (trouble : Trouble) (first rest : List (InletCall E)) → accepted_in first ≡ TriesClaim (length events) (Ok stretch) ∷ []
-    → AreWrittenOut (record { stretch = stretch; events = events }) (Err trouble) (accepted_in rest) → IsOpen (record { stretch = stretch; events = events }) (first ++ rest)
+opened : {E : Type 0} (events : List E) (stretch : Claimed) (trouble : Trouble) (first rest : List (InletCall E))
+    → accepted_in first ≡ TriesClaim (length events) (Ok stretch) ∷ []
+    → AreWrittenOut (record { stretch = stretch; events = events }) (Err trouble) (accepted_in rest)
+    → IsOpen (record { stretch = stretch; events = events }) (first ++ rest)
 opened events stretch trouble first rest is written = (
   [],
   written.0,
@@ -140,7 +147,8 @@ part_claimed {S} {E} does events claimed a b c may_stop must_stop t t' result so
             in_order_more cut (ToClaim (events ++ rest)) h.calls k.calls (claim_in_order cut events rest (Ok claimed) h.calls more size h.holds)
             (subst (λ t. InOrder cut t k.calls) (sym (claim_at_end events rest claimed h.calls h.holds)) (k.holds.order cut rest some));
         end = λ rest fine.
-            task_more (ToClaim (events ++ rest)) h.calls k.calls ∙ ap (λ t. task_at_end t k.calls) (claim_at_end events rest claimed h.calls h.holds) ∙ k.holds.end rest fine;
+            task_more (ToClaim (events ++ rest)) h.calls k.calls ∙ ap (λ t. task_at_end t k.calls) (claim_at_end events rest claimed h.calls h.holds)
+            ∙ k.holds.end rest fine;
       };
     }
 
@@ -224,7 +232,8 @@ pub record InParts {E : Type 0} (script : List E) (sent : ℕ) (accepted : List 
   pub events : flat_map (λ part. part.events) parts ≡ take sent script
 
 -- the next events are sent too
-parts_more : {E : Type 0} (script : List E) (sent n : ℕ) (xs ys : List (InletCall E)) → InParts script sent xs → IsPartSent (take n (drop sent script)) (Ok tt) ys
+parts_more : {E : Type 0} (script : List E) (sent n : ℕ) (xs ys : List (InletCall E)) → InParts script sent xs
+    → IsPartSent (take n (drop sent script)) (Ok tt) ys
     → InParts script (sent + n) (xs ++ ys)
 parts_more {E} script sent n xs ys h k =
     let part : Part E = record { stretch = k.0; events = take n (drop sent script) } in
@@ -244,7 +253,8 @@ part_of (x ∷ rest) zero = refl
 part_of (x ∷ rest) (suc n) = ap (λ l. x ∷ l) (part_of rest n)
 
 -- of the next events not all are
-begins_part : {E : Type 0} (rest : List E) (n : ℕ) (trouble : Trouble) (calls : List (InletCall E)) → IsPartSent (take n rest) (Err trouble) calls → BeginsPart rest calls
+begins_part : {E : Type 0} (rest : List E) (n : ℕ) (trouble : Trouble) (calls : List (InletCall E)) → IsPartSent (take n rest) (Err trouble) calls
+    → BeginsPart rest calls
 begins_part rest n trouble calls (inl none) = inl none
 begins_part rest n trouble calls (inr (stretch, k, some, is)) =
     inr (record { stretch = stretch; events = take n rest }, k, part_of rest n, some, is)
@@ -318,7 +328,8 @@ parts_at_end script sent n xs ys end k =
 -- one part more
 pub sending_more : {S E : Type 0} (does : S → InletCall E → S → Type 0) (a b c : S) (cut : ℕ) (script : List E) (may_stop must_stop : ℕ → ℕ → Type 0)
     (who sent n : ℕ) (t t' : Turns) (result : Result (Unit {0}) Trouble) → result ≡ Ok tt → n ≡ min (length script - sent) cut → 0 < n
-    → SomeCalls does a b (Sending cut script may_stop must_stop who sent t) → SomeCalls does b c (SendsPart (take n (drop sent script)) may_stop must_stop t t' result)
+    → SomeCalls does a b (Sending cut script may_stop must_stop who sent t)
+    → SomeCalls does b c (SendsPart (take n (drop sent script)) may_stop must_stop t t' result)
     → SomeCalls does a c (Sending cut script may_stop must_stop who (sent + n) t')
 sending_more does a b c cut script may_stop must_stop who sent n t t' result is size some h k =
     let all = length script in
@@ -359,7 +370,8 @@ sends_all does a b cut script may_stop must_stop who sent t produced whole same 
 }
 
 -- the next part is in trouble, after others
-gives_up : {E : Type 0} (cut : ℕ) (script : List E) (sent n : ℕ) (trouble : Trouble) (xs ys : List (InletCall E)) → sent < length script → n ≡ min (length script - sent) cut
+gives_up : {E : Type 0} (cut : ℕ) (script : List E) (sent n : ℕ) (trouble : Trouble) (xs ys : List (InletCall E)) → sent < length script
+    → n ≡ min (length script - sent) cut
     → IsInTroubleWith (take n (drop sent script)) trouble ys → GivesUp cut (drop sent script) trouble (xs ++ ys)
 gives_up {E} cut script sent n trouble xs ys more size h =
     let rest : List E = drop sent script in
@@ -381,8 +393,10 @@ gives_up {E} cut script sent n trouble xs ys more size h =
 -- a part is in trouble
 pub sends_in_trouble : {S E : Type 0} (does : S → InletCall E → S → Type 0) (a b c : S) (cut : ℕ) (script : List E) (may_stop must_stop : ℕ → ℕ → Type 0)
     (who sent n : ℕ) (t t' : Turns) (result : Result (Unit {0}) Trouble) (trouble : Trouble) (produced : Produced)
-    → sent < length script → n ≡ min (length script - sent) cut → 0 < n → result ≡ Err trouble → produced.sent ≡ sent → produced.fault ≡ Some (fault_in_trouble t'.stopped trouble)
-    → SomeCalls does a b (Sending cut script may_stop must_stop who sent t) → SomeCalls does b c (SendsPart (take n (drop sent script)) may_stop must_stop t t' result)
+    → sent < length script → n ≡ min (length script - sent) cut → 0 < n → result ≡ Err trouble → produced.sent ≡ sent
+    → produced.fault ≡ Some (fault_in_trouble t'.stopped trouble)
+    → SomeCalls does a b (Sending cut script may_stop must_stop who sent t)
+    → SomeCalls does b c (SendsPart (take n (drop sent script)) may_stop must_stop t t' result)
     → SomeCalls does a c (Sends cut script (may_stop who) (must_stop who) produced)
 sends_in_trouble does a b c cut script may_stop must_stop who sent n t t' result trouble produced more size some fails same is h k =
     let all = length script in

@@ -1,5 +1,6 @@
 -- A handler's worker, turn after turn.
-use Rattle.std.proofs.Common.{◌≡◌, ◌+◌, ℕ, zero, suc, Bool, List, [], ◌∷◌, ◌++◌, length, take, replicate, Option, None, Some, Result, Ok, Err, inl, inr, refl, sym, ap, ◌∙◌, subst, append_assoc, length-append}
+use Rattle.std.proofs.Common.{◌≡◌, ◌+◌, ℕ, zero, suc, Bool, List, [], ◌∷◌, ◌++◌, length, take, replicate, Option, None, Some, Result, Ok, Err, inl}
+use Rattle.std.proofs.Common.{inr, refl, sym, ap, ◌∙◌, subst, append_assoc, length-append}
 use Rattle.std.specs.List.{cons_option}
 use Rattle.std.proofs.lemmas.List.{append-nil}
 use Rattle.std.proofs.lemmas.List.Elements.{filter_map-append}
@@ -18,7 +19,8 @@ use Rattle.dr_workers.specs.declared.turns.Turns.{Turns}
 use Rattle.dr_workers.specs.Calls.Serving.{AreCompleted, ConsumerEnds, Due, InTurn, IsInTrouble, IsTold, LeavesOpen, Serves, ToComplete, ToPoll, due_after}
 use Rattle.dr_workers.specs.Calls.Stops.{Passes, begins, fault_at_end, fault_in_trouble}
 use Rattle.dr_workers.specs.Inside.Retries.{Retries, TakesBatch, due_at_end}
-use Rattle.dr_workers.specs.Meaning.Work.{Advance, CompletedBelow, Dealt, HandedOut, HandsOut, Works, advance_of, advances_in, batch_of, batches_in, each_completed}
+use Rattle.dr_workers.specs.Meaning.Work.{Advance, CompletedBelow, Dealt, HandedOut, HandsOut, Works, advance_of, advances_in, batch_of, batches_in}
+use Rattle.dr_workers.specs.Meaning.Work.{each_completed}
 use Rattle.dr_workers.proofs.Calling.{ends_after, ends_retried, picked}
 use Rattle.dr_workers.proofs.Showing.{shown_as}
 use Rattle.dr_workers.proofs.Stopping.{passes_more, passes_none, stops_after}
@@ -36,7 +38,8 @@ each_completed-append (b ∷ bs) cs = ap (λ l. HandedOut b ∷ CompletedBelow (
 
 -- Call after call.
 
-in_turn_more : {E : Type 0} (room : ℕ) (due : Due) (xs ys : List (OutletCall E)) → InTurn room due xs → InTurn room (due_at_end due xs) ys → InTurn room due (xs ++ ys)
+in_turn_more : {E : Type 0} (room : ℕ) (due : Due) (xs ys : List (OutletCall E)) → InTurn room due xs → InTurn room (due_at_end due xs) ys
+    → InTurn room due (xs ++ ys)
 in_turn_more room due [] ys h k = k
 in_turn_more room due (x ∷ xs) ys h k = (h.0, in_turn_more room (due_after due x) xs ys h.1 k)
 
@@ -66,7 +69,8 @@ took_none out out' (Ok polled.Drained) is a b h = rw h (hands_none a)
 took_none out out' (Err trouble) is a b h = rw h (hands_none a)
 
 -- and completes nothing
-advances_none : {E : Type 0} (out out' : List E) (answer : Result Polled Trouble) → batch_of (PollsInto out out' answer) ≡ None → advance_of (PollsInto out out' answer) ≡ None
+advances_none : {E : Type 0} (out out' : List E) (answer : Result Polled Trouble) → batch_of (PollsInto out out' answer) ≡ None
+    → advance_of (PollsInto out out' answer) ≡ None
 advances_none out out' (Ok (polled.Batch first count end)) is = absurd (cc)
 advances_none out out' (Ok polled.Gating) is = refl
 advances_none out out' (Ok polled.Idle) is = refl
@@ -75,7 +79,8 @@ advances_none out out' (Err trouble) is = refl
 
 pub turned_nothing : {S E A : Type 0} (does : S → OutletCall E → S → Type 0) (goes : Relation E A) (before : A) (a b : S) (o p : Option (Received E))
     (may_stop must_stop : ℕ → ℕ → Type 0) (t : Turns) (result : Result Progress Trouble)
-    (out out' : List E) (answer : Result Polled Trouble) → does a (PollsInto out out' answer) b → batch_of (PollsInto out out' answer) ≡ None → length out' ≡ length out
+    (out out' : List E) (answer : Result Polled Trouble) → does a (PollsInto out out' answer) b → batch_of (PollsInto out out' answer) ≡ None
+    → length out' ≡ length out
     → WhereShown (Takes out' answer) o p
     → (result ≡ Ok GoesOn → due_after ToPoll (PollsInto out out' answer) ≡ ToPoll) → (result ≡ Ok Drained → IsTold (PollsInto out out' answer)) →
     ((trouble : Trouble) → result ≡ Err trouble → IsInTrouble trouble (PollsInto out out' answer))
@@ -101,7 +106,8 @@ turned_nothing does goes before a b o p may_stop must_stop t result out out' ans
 -- A poll that hands a batch out, and its completion.
 
 -- the completion is made, or it is in trouble
-completed_or_not : {E : Type 0} (deal : Dealt E) (upto : ℕ) (completed : Result (Unit {0}) Trouble) (before calls : List (OutletCall E)) → upto ≡ deal.first + length deal.events
+completed_or_not : {E : Type 0} (deal : Dealt E) (upto : ℕ) (completed : Result (Unit {0}) Trouble) (before calls : List (OutletCall E))
+    → upto ≡ deal.first + length deal.events
     → Retries (CompletesBelow upto (Err Memory)) (CompletesBelow upto completed) calls → batches_in (before ++ calls) ≡ deal ∷ []
     → advances_in (before ++ calls) ≡ HandedOut deal ∷ cons_option (advance_of {E = E} (CompletesBelow upto completed)) [] → AreCompleted (before ++ calls)
 completed_or_not {E} deal upto (Ok done) before calls end rest batches advances =
@@ -118,8 +124,10 @@ pub turned_batch : {S E A : Type 0} (does : S → OutletCall E → S → Type 0)
     (out out' : List E) (first count upto : ℕ) (end : Bool) (completed : Result (Unit {0}) Trouble)
     → does a (PollsInto out out' (Ok (polled.Batch first count end))) b
     → SomeCalls does b c (Retries (CompletesBelow upto (Err Memory)) (CompletesBelow upto completed))
-    → Works goes before after o q (one out' first count end ∷ []) → Passes may_stop must_stop 1 t t' → upto ≡ first + length (take count out') → upto ≡ first + count → length out' ≡ length out
-    → (result ≡ Ok Drained → ⊥) → ((trouble : Trouble) → result ≡ Err trouble → completed ≡ Err trouble) → ((progress : Progress) → result ≡ Ok progress → completed ≡ Ok tt)
+    → Works goes before after o q (one out' first count end ∷ []) → Passes may_stop must_stop 1 t t' → upto ≡ first + length (take count out')
+    → upto ≡ first + count → length out' ≡ length out
+    → (result ≡ Ok Drained → ⊥) → ((trouble : Trouble) → result ≡ Err trouble → completed ≡ Err trouble)
+    → ((progress : Progress) → result ≡ Ok progress → completed ≡ Ok tt)
     → SomeCalls does a c (TakesBatch (length out) goes before after o q may_stop must_stop t t' result)
 turned_batch {S} {E} does goes before after a b c o q may_stop must_stop t t' result out out' first count upto end completed call rest works passes last whole same told trouble fine =
     let deal = one out' first count end in
@@ -143,7 +151,8 @@ turned_batch {S} {E} does goes before after a b c o q may_stop must_stop t t' re
             ∙ ap (λ n. HandedOut deal ∷ CompletedBelow n ∷ []) last ∙ ap each_completed (sym batches);
         order = ((refl, same), subst (λ n. InTurn (length out) (ToComplete n) rest.calls) whole (subst (InTurn (length out) (ToComplete upto)) (sym rest.holds.1) (tries_in_turn E (length out) upto rest.holds.0 completed)));
         closed = λ is.
-            ap (λ n. due_at_end (ToComplete n) rest.calls) (sym whole) ∙ ap (due_at_end (ToComplete upto)) rest.holds.1 ∙ tries_due E upto rest.holds.0 completed
+            ap (λ n. due_at_end (ToComplete n) rest.calls) (sym whole) ∙ ap (due_at_end (ToComplete upto)) rest.holds.1
+            ∙ tries_due E upto rest.holds.0 completed
             ∙ ap (λ r. due_after {E = E} (ToComplete upto) (CompletesBelow upto r)) (fine GoesOn is);
       };
     }
@@ -174,18 +183,21 @@ batches_more goes before between after o p q xs ys h k =
     subst (λ bs. Works goes before after o q bs) (sym (batches_in-append xs ys)) (works_more goes before between after o p q (batches_in xs) (batches_in ys) h k)
 
 -- and the passages
-passes_both : {E : Type 0} (may_stop must_stop : ℕ → ℕ → Type 0) (xs ys : List (OutletCall E)) (t t' t'' : Turns) → Passes may_stop must_stop (length (batches_in xs)) t t'
+passes_both : {E : Type 0} (may_stop must_stop : ℕ → ℕ → Type 0) (xs ys : List (OutletCall E)) (t t' t'' : Turns)
+    → Passes may_stop must_stop (length (batches_in xs)) t t'
     → Passes may_stop must_stop (length (batches_in ys)) t' t'' → Passes may_stop must_stop (length (batches_in (xs ++ ys))) t t''
 passes_both may_stop must_stop xs ys t t' t'' h k =
     let many : length (batches_in (xs ++ ys)) ≡ length (batches_in xs) + length (batches_in ys) = ap length (batches_in-append xs ys) ∙ length-append (batches_in xs) (batches_in ys) in
     subst (λ n. Passes may_stop must_stop n t t'') (sym many) (passes_more may_stop must_stop (length (batches_in xs)) (length (batches_in ys)) t t' t'' h k)
 
 -- and the completions
-completed_more : {E : Type 0} (xs ys : List (OutletCall E)) (last : List (Advance E)) → advances_in xs ≡ each_completed (batches_in xs) → advances_in ys ++ last ≡ each_completed (batches_in ys)
+completed_more : {E : Type 0} (xs ys : List (OutletCall E)) (last : List (Advance E)) → advances_in xs ≡ each_completed (batches_in xs)
+    → advances_in ys ++ last ≡ each_completed (batches_in ys)
     → advances_in (xs ++ ys) ++ last ≡ each_completed (batches_in (xs ++ ys))
 completed_more xs ys last h k =
     ap (λ l. l ++ last) (advances_in-append xs ys) ∙ append_assoc (advances_in xs) (advances_in ys) last ∙ ap (λ l. l ++ (advances_in ys ++ last)) h
-    ∙ ap (λ l. each_completed (batches_in xs) ++ l) k ∙ sym (each_completed-append (batches_in xs) (batches_in ys)) ∙ ap each_completed (sym (batches_in-append xs ys))
+    ∙ ap (λ l. each_completed (batches_in xs) ++ l) k ∙ sym (each_completed-append (batches_in xs) (batches_in ys))
+    ∙ ap each_completed (sym (batches_in-append xs ys))
 
 whole_more : {E : Type 0} (xs ys : List (OutletCall E)) → advances_in xs ≡ each_completed (batches_in xs) → advances_in ys ≡ each_completed (batches_in ys)
     → advances_in (xs ++ ys) ≡ each_completed (batches_in (xs ++ ys))
@@ -195,7 +207,8 @@ completes_more : {E : Type 0} (xs ys : List (OutletCall E)) → advances_in xs �
 completes_more xs ys h (inl all) = inl (whole_more xs ys h all)
 completes_more xs ys h (inr (upto, last, but)) = inr (upto, ends_after (LeavesOpen upto) xs ys last, completed_more xs ys (CompletedBelow upto ∷ []) h but)
 
-order_more : {E : Type 0} (room : ℕ) (xs ys : List (OutletCall E)) → InTurn room ToPoll xs → due_at_end ToPoll xs ≡ ToPoll → InTurn room ToPoll ys → InTurn room ToPoll (xs ++ ys)
+order_more : {E : Type 0} (room : ℕ) (xs ys : List (OutletCall E)) → InTurn room ToPoll xs → due_at_end ToPoll xs ≡ ToPoll → InTurn room ToPoll ys
+    → InTurn room ToPoll (xs ++ ys)
 order_more room xs ys h closed k = in_turn_more room ToPoll xs ys h (subst (λ o. InTurn room o ys) (sym closed) k)
 
 -- one turn more
@@ -257,6 +270,7 @@ serves_in_trouble does room goes before between after a b c o p q may_stop must_
 -- a room of the same length
 pub of_room : {S E A : Type 0} {does : S → OutletCall E → S → Type 0} {goes : Relation E A} {before after : A} {a b : S} {o p : Option (Received E)}
     {may_stop must_stop : ℕ → ℕ → Type 0} {t t' : Turns} {result : Result Progress Trouble} {room whole : ℕ} → room ≡ whole
-    → SomeCalls does a b (TakesBatch room goes before after o p may_stop must_stop t t' result) → SomeCalls does a b (TakesBatch whole goes before after o p may_stop must_stop t t' result)
+    → SomeCalls does a b (TakesBatch room goes before after o p may_stop must_stop t t' result)
+    → SomeCalls does a b (TakesBatch whole goes before after o p may_stop must_stop t t' result)
 of_room {does = does} {goes = goes} {before = before} {after = after} {a = a} {b = b} {o = o} {p = p} {may_stop = may_stop} {must_stop = must_stop} {t = t} {t' = t'} {result = result} same takes =
     subst (λ n. SomeCalls does a b (TakesBatch n goes before after o p may_stop must_stop t t' result)) same takes

@@ -12,8 +12,10 @@ use Rattle.dr_workers.specs.Calls.Serving.{Due, EndsIn, InTurn, IsInTrouble, IsN
 pub record Answers {S E : Type 0} (does : S → OutletCall E → S → Type 0) (shown : S → Received E) : Type 0 where
   pub polls : (a b : S) (before after : List E) (trouble : Trouble) → 0 < length before → does a (PollsInto before after (Err trouble)) b → ⊥
   pub takes : (a b : S) (before after : List E) (answer : Polled) → does a (PollsInto before after (Ok answer)) b → Takes after (Ok answer) (shown a) (shown b)
-  pub fits : (a b : S) (before after : List E) (first count : ℕ) (end : Bool) → does a (PollsInto before after (Ok (Batch first count end))) b → count ≤ length before
-  pub completes : (a b : S) (upto : ℕ) (trouble : Trouble) → (shown a).completed ≤ upto → upto ≤ length (shown a).events → does a (CompletesBelow upto (Err trouble)) b → ⊥
+  pub fits : (a b : S) (before after : List E) (first count : ℕ) (end : Bool) → does a (PollsInto before after (Ok (Batch first count end))) b
+      → count ≤ length before
+  pub completes : (a b : S) (upto : ℕ) (trouble : Trouble) → (shown a).completed ≤ upto → upto ≤ length (shown a).events
+      → does a (CompletesBelow upto (Err trouble)) b → ⊥
   pub completed : (a b : S) (upto : ℕ) → does a (CompletesBelow upto (Ok tt)) b → Completes upto (Ok tt) (shown a) (shown b)
 
 -- where nothing is to be completed, and where all that was handed out is
@@ -25,7 +27,8 @@ IsAt NoCall e = Unit {0}
 same_at : {E : Type 0} (due : Due) (x y : Received E) → y ≡ x → IsAt due x → IsAt due y
 same_at due x y same h = subst (IsAt due) (sym same) h
 
-taken_at : {E : Type 0} (out : List E) (first count : ℕ) (x y : Received E) → count ≤ length out → first ≡ length x.events → y ≡ record x { events = x.events ++ take count out } → x.completed ≤ length x.events
+taken_at : {E : Type 0} (out : List E) (first count : ℕ) (x y : Received E) → count ≤ length out → first ≡ length x.events
+    → y ≡ record x { events = x.events ++ take count out } → x.completed ≤ length x.events
     → IsAt (ToComplete (first + count)) y
 taken_at out first count x y fits at is before =
     let done : y.completed ≡ x.completed = ap (λ r. r.completed) is in
@@ -65,7 +68,8 @@ module _ {S E : Type 0} (does : S → OutletCall E → S → Type 0) (shown : S 
   goes_on NoCall call a b next is at = absurd (no_call room call next)
 
   -- the last call
-  answered : (due : Due) (call : OutletCall E) (a b : S) (trouble : Trouble) → IsNextCall room due call → does a call b → IsAt due (shown a) → IsInTrouble trouble call → ⊥
+  answered : (due : Due) (call : OutletCall E) (a b : S) (trouble : Trouble) → IsNextCall room due call → does a call b → IsAt due (shown a)
+      → IsInTrouble trouble call → ⊥
   answered ToPoll (PollsInto before after (Ok answer)) a b trouble next is at fails = fails
   answered ToPoll (PollsInto before after (Err fault)) a b trouble next is at fails = answers.polls a b before after fault (let long = next.0 in omega arith) is
   answered ToPoll (CompletesBelow upto answer) a b trouble next is at fails = next
@@ -76,7 +80,8 @@ module _ {S E : Type 0} (does : S → OutletCall E → S → Type 0) (shown : S 
   answered NoCall call a b trouble next is at fails = no_call room call next
 
   -- all calls of a worker's turns
-  untroubled_from : (due : Due) (a b : S) (calls : List (OutletCall E)) (trouble : Trouble) → IsAt due (shown a) → CallsLead does a calls b → InTurn room due calls
+  untroubled_from : (due : Due) (a b : S) (calls : List (OutletCall E)) (trouble : Trouble) → IsAt due (shown a) → CallsLead does a calls b
+      → InTurn room due calls
       → EndsIn (IsInTrouble trouble) calls → ⊥
   untroubled_from due a b [] trouble at lead order ends = ends
   untroubled_from due a b (call ∷ []) trouble at lead order ends = answered due call a lead.0 trouble order.0 lead.1 at ends
@@ -84,6 +89,7 @@ module _ {S E : Type 0} (does : S → OutletCall E → S → Type 0) (shown : S 
       untroubled_from (due_after due call) lead.0 b (next ∷ calls) trouble (goes_on due call a lead.0 order.0 lead.1 at) lead.2 order.1 ends
 
   -- so no call of a worker's is in trouble, where no more is completed than was handed out
-  pub untroubled : (a b : S) (calls : List (OutletCall E)) (trouble : Trouble) → (shown a).completed ≤ length (shown a).events → CallsLead does a calls b → InTurn room ToPoll calls
+  pub untroubled : (a b : S) (calls : List (OutletCall E)) (trouble : Trouble) → (shown a).completed ≤ length (shown a).events
+      → CallsLead does a calls b → InTurn room ToPoll calls
       → EndsIn (IsInTrouble trouble) calls → ⊥
   untroubled a b calls trouble at lead order ends = untroubled_from ToPoll a b calls trouble at lead order ends

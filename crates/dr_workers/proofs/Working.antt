@@ -11,19 +11,22 @@ use Rattle.dr_workers.proofs.Showing.{shown_as, shown_none, shown_through}
 
 shown_of-append : {E : Type 0} (bs cs : List (Dealt E)) → shown_of (bs ++ cs) ≡ shown_of bs ++ shown_of cs
 shown_of-append [] cs = refl
-shown_of-append (b ∷ bs) cs = ap (λ l. showings b.events b.first b.end ++ l) (shown_of-append bs cs) ∙ sym (append_assoc (showings b.events b.first b.end) (shown_of bs) (shown_of cs))
+shown_of-append (b ∷ bs) cs = ap (λ l. showings b.events b.first b.end ++ l) (shown_of-append bs cs)
+    ∙ sym (append_assoc (showings b.events b.first b.end) (shown_of bs) (shown_of cs))
 
 dealt_events-append : {E : Type 0} (bs cs : List (Dealt E)) → dealt_events (bs ++ cs) ≡ dealt_events bs ++ dealt_events cs
 dealt_events-append [] cs = refl
 dealt_events-append (b ∷ bs) cs = ap (λ l. b.events ++ l) (dealt_events-append bs cs) ∙ sym (append_assoc b.events (dealt_events bs) (dealt_events cs))
 
-FollowFrom-append : {E : Type 0} (s t : ℕ) (bs cs : List (Dealt E)) → t ≡ s + length (dealt_events bs) → FollowFrom s bs → FollowFrom t cs → FollowFrom s (bs ++ cs)
+FollowFrom-append : {E : Type 0} (s t : ℕ) (bs cs : List (Dealt E)) → t ≡ s + length (dealt_events bs) → FollowFrom s bs → FollowFrom t cs
+    → FollowFrom s (bs ++ cs)
 FollowFrom-append s t [] cs is h k = (let same : t ≡ s = omega arith in rw same at k)
 FollowFrom-append s t (b ∷ bs) cs is h k =
     let all : length (b.events ++ dealt_events bs) ≡ length b.events + length (dealt_events bs) = length-append b.events (dealt_events bs) in
     (h.0, h.1, FollowFrom-append (s + length b.events) t bs cs (omega arith) h.2 k)
 
-GoesThrough-append : {E : Type 0} {A : Type 0} (goes : Relation E A) (before : A) (xs ys : List (Showing E)) (between after : A) → GoesThrough goes before xs between
+GoesThrough-append : {E : Type 0} {A : Type 0} (goes : Relation E A) (before : A) (xs ys : List (Showing E)) (between after : A)
+    → GoesThrough goes before xs between
     → GoesThrough goes between ys after → GoesThrough goes before (xs ++ ys) after
 GoesThrough-append goes before [] ys between after h k = rw h k
 GoesThrough-append goes before (x ∷ xs) ys between after h k = (h.0, h.1, GoesThrough-append goes h.0 xs ys between after h.2 k)

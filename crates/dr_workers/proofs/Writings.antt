@@ -52,7 +52,8 @@ writing_more lo events k s e less at is a b c h put = record {
   published = ap (λ x. x.published) put ∙ h.published;
   pending = λ front nothing.
       let here : s - length b.published ≡ k = (let same = ap length h.published in omega arith) in
-      ap (λ x. x.pending) put ∙ ap (λ l. set l (s - length b.published) (Some e)) (h.pending front nothing) ∙ next_put events k (s - length b.published) e less here is;
+      ap (λ x. x.pending) put ∙ ap (λ l. set l (s - length b.published) (Some e)) (h.pending front nothing)
+      ∙ next_put events k (s - length b.published) e less here is;
 }
 
 writing_none : {E : Type 0} (lo : ℕ) (events : List E) (a : Sent E) → Writing lo events 0 a a
@@ -77,12 +78,14 @@ written_as lo events a b h =
     subst (λ x. Writing lo events (length events) a x) (ap (λ l. with_events lo l a) all ∙ sym h) (writing_first lo events (length events) (omega arith) a)
 
 -- all events are written
-pub writes_as : {E : Type 0} (lo : ℕ) (events : List E) (o p : Option (Sent E)) → WhereShown (WritesAll lo events) o p → WhereShown (Writing lo events (length events)) o p
+pub writes_as : {E : Type 0} (lo : ℕ) (events : List E) (o p : Option (Sent E)) → WhereShown (WritesAll lo events) o p
+    → WhereShown (Writing lo events (length events)) o p
 writes_as lo events o p h = shown_as (WritesAll lo events) (Writing lo events (length events)) (written_as lo events) o p h
 
 wrote_through : {E : Type 0} (lo : ℕ) (xs ys zs : List E) → zs ≡ xs ++ ys → (n : ℕ) → n ≡ lo + length xs → (a b c : Sent E) → WritesAll lo xs a b
     → WritesAll n ys b c → WritesAll lo zs a c
-wrote_through lo xs ys zs is n at a b c h k = k ∙ ap (λ m. with_events m ys b) at ∙ ap (λ x. with_events (lo + length xs) ys x) h ∙ sym (with_events-append lo xs ys a) ∙ ap (λ l. with_events lo l a) (sym is)
+wrote_through lo xs ys zs is n at a b c h k = k ∙ ap (λ m. with_events m ys b) at ∙ ap (λ x. with_events (lo + length xs) ys x) h
+    ∙ sym (with_events-append lo xs ys a) ∙ ap (λ l. with_events lo l a) (sym is)
 
 -- some events after others
 pub writes_through : {E : Type 0} (lo : ℕ) (xs ys zs : List E) → zs ≡ xs ++ ys → (n : ℕ) → n ≡ lo + length xs → (o p q : Option (Sent E))
@@ -172,14 +175,16 @@ sends events c is (Some a) (Some b) (Some d) (Some e) h k answer l = sent_all ev
 added_more : {E : Type 0} (xs ys zs : List E) → zs ≡ xs ++ ys → (a b c : Sent E) → Adds xs a b → Adds ys b c → Adds zs a c
 added_more xs ys zs is a b c h k = k ∙ ap (λ l. l ++ ys) h ∙ append_assoc a.published xs ys ∙ ap (λ l. a.published ++ l) (sym is)
 
-pub adds_more : {E : Type 0} (xs ys zs : List E) → zs ≡ xs ++ ys → (o p q : Option (Sent E)) → WhereShown (Adds xs) o p → WhereShown (Adds ys) p q → WhereShown (Adds zs) o q
+pub adds_more : {E : Type 0} (xs ys zs : List E) → zs ≡ xs ++ ys → (o p q : Option (Sent E)) → WhereShown (Adds xs) o p → WhereShown (Adds ys) p q
+    → WhereShown (Adds zs) o q
 adds_more xs ys zs is o p q h k = shown_through (Adds xs) (Adds ys) (Adds zs) (added_more xs ys zs is) o p q h k
 
 -- the first of a script, and then the next
 pub first_and_next : {E : Type 0} (xs : List E) (n m : ℕ) → take (n + m) xs ≡ take n xs ++ take m (drop n xs)
 first_and_next xs n m =
     let less : n ≤ n + m = omega arith in
-    sym (take-append-drop n (take (n + m) xs)) ∙ ap (λ l. l ++ drop n (take (n + m) xs)) (take-take n (n + m) xs less) ∙ ap (λ l. take n xs ++ l) (drop-take n m xs)
+    sym (take-append-drop n (take (n + m) xs)) ∙ ap (λ l. l ++ drop n (take (n + m) xs)) (take-take n (n + m) xs less)
+    ∙ ap (λ l. take n xs ++ l) (drop-take n m xs)
 
 -- how far a call came that writes many
 
@@ -187,10 +192,12 @@ pub stops_within : {E : Type 0} (shown : Option (Sent E)) (lo n count : ℕ) (tr
 stops_within shown lo n count None stops = omega arith
 stops_within shown lo n count (Some trouble) stops = (let less = stops.0 in omega arith)
 
-pub stops_before : {E : Type 0} (shown : Option (Sent E)) (lo n count : ℕ) (trouble : Option Trouble) (why : Trouble) → trouble ≡ Some why → StopsAt shown lo n count trouble → count < n
+pub stops_before : {E : Type 0} (shown : Option (Sent E)) (lo n count : ℕ) (trouble : Option Trouble) (why : Trouble) → trouble ≡ Some why
+    → StopsAt shown lo n count trouble → count < n
 stops_before shown lo n count trouble why is stops = (let at = subst (λ t. StopsAt shown lo n count t) is stops in at.0)
 
-pub stops_nowhere : {E : Type 0} (shown : Option (Sent E)) (lo n count : ℕ) (trouble : Option Trouble) → trouble ≡ None → StopsAt shown lo n count trouble → count ≡ n
+pub stops_nowhere : {E : Type 0} (shown : Option (Sent E)) (lo n count : ℕ) (trouble : Option Trouble) → trouble ≡ None
+    → StopsAt shown lo n count trouble → count ≡ n
 stops_nowhere shown lo n count trouble none stops = subst (λ t. StopsAt shown lo n count t) none stops
 
 -- the events after the first ones, as a slice has them
@@ -201,7 +208,9 @@ pub length-rest : {E : Type 0} (events : List E) (done : ℕ) → length (take (
 length-rest events done = ap length (rest_of events done) ∙ length-drop done events
 
 pub more_written : {E : Type 0} (lo done count : ℕ) (events : List E) → done ≤ length events → (o p q : Option (Sent E))
-    → WhereShown (WritesAll lo (take done events)) o p → WhereShown (WritesAll (lo + done) (take count (take (length events - done) (drop done events)))) p q → WhereShown (WritesAll lo (take (done + count) events)) o q
+    → WhereShown (WritesAll lo (take done events)) o p
+    → WhereShown (WritesAll (lo + done) (take count (take (length events - done) (drop done events)))) p q
+    → WhereShown (WritesAll lo (take (done + count) events)) o q
 more_written lo done count events within o p q h k =
     let many : length (take done events) ≡ done = length-take-le done events within in
     writes_through lo (take done events) (take count (drop done events)) (take (done + count) events) (first_and_next events done count) (lo + done) (omega arith) o p q h

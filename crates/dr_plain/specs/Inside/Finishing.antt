@@ -71,8 +71,10 @@ module _ {T : Type 0} where
     pub some_part : 0 < m
     pub places : length parts ≡ k.size
     pub cells : length tokens ≡ k.size
-    pub out : (s : ℕ) (l : Lent T) → first ≤ s → get_elem? lents s ≡ some l → get_elem? tokens (cell_of k s) ≡ some (token_at k.strip (cell_of k s) (kept l.round m l.event))
-    pub held : (s : ℕ) (l : Lent T) → first ≤ s → is_in_hand c s ≡ true → get_elem? lents s ≡ some l → get_elem? parts (cell_of k s) ≡ some (part_of k s (Some l))
+    pub out : (s : ℕ) (l : Lent T) → first ≤ s → get_elem? lents s ≡ some l
+        → get_elem? tokens (cell_of k s) ≡ some (token_at k.strip (cell_of k s) (kept l.round m l.event))
+    pub held : (s : ℕ) (l : Lent T) → first ≤ s → is_in_hand c s ≡ true → get_elem? lents s ≡ some l
+        → get_elem? parts (cell_of k s) ≡ some (part_of k s (Some l))
     pub others : Hand T
     pub in_front : hand ≡ parts_left k h c first (drop first lents) ++ others
 
@@ -86,7 +88,8 @@ module _ {T : Type 0} where
   pub record OnePartBack (k : Shape) (first upto : ℕ) (tokens tokens' : List (Token T)) : Type 0 where
     pub count : length tokens' ≡ length tokens
     pub cells : cells_of tokens' ≡ cells_of tokens
-    pub back : (s : ℕ) (t : Token T) → first ≤ s → s < upto → get_elem? tokens (cell_of k s) ≡ some t → get_elem? tokens' (cell_of k s) ≡ some (with_hold t (joined t.hold))
+    pub back : (s : ℕ) (t : Token T) → first ≤ s → s < upto → get_elem? tokens (cell_of k s) ≡ some t
+        → get_elem? tokens' (cell_of k s) ≡ some (with_hold t (joined t.hold))
     pub others : (i : ℕ) → ((s : ℕ) → first ≤ s → s < upto → cell_of k s ≢ i) → get_elem? tokens' i ≡ get_elem? tokens i
 
   -- m parts of each event from `first` on are out, and all other cells are whole
@@ -94,8 +97,10 @@ module _ {T : Type 0} where
     pub count : length lents ≡ upto
     pub near : upto ≤ first + k.size
     pub cells : length tokens ≡ k.size
-    pub out : (s : ℕ) (l : Lent T) → first ≤ s → get_elem? lents s ≡ some l → get_elem? tokens (cell_of k s) ≡ some (token_at k.strip (cell_of k s) (kept l.round m l.event))
-    pub others : (i : ℕ) (t : Token T) → ((s : ℕ) → first ≤ s → s < upto → cell_of k s ≢ i) → get_elem? tokens i ≡ some t → (x : T) × (t ≡ token_at k.strip i (whole x))
+    pub out : (s : ℕ) (l : Lent T) → first ≤ s → get_elem? lents s ≡ some l
+        → get_elem? tokens (cell_of k s) ≡ some (token_at k.strip (cell_of k s) (kept l.round m l.event))
+    pub others : (i : ℕ) (t : Token T) → ((s : ℕ) → first ≤ s → s < upto → cell_of k s ≢ i) → get_elem? tokens i ≡ some t
+        → (x : T) × (t ≡ token_at k.strip i (whole x))
 
   -- all handlers' parts of these events are in their slots, which are first in hand, or with them
   pub record AreLanes (k : Shape) (counts : List HandlerCounts) (first upto : ℕ) (lents : List (Lent T)) (hand : Hand T) (hands : List (List (Token T))) (tokens : List (Token T)) : Type 0 where
@@ -103,7 +108,8 @@ module _ {T : Type 0} where
     pub many : length hands ≡ handlers_of k
     pub out : AreOut k first upto (handlers_of k) lents tokens
     pub places : (h : ℕ) (parts : List (Token T)) → get_elem? hands h ≡ some parts → length parts ≡ k.size
-    pub held : (h : ℕ) (c : HandlerCounts) (parts : List (Token T)) → get_elem? counts h ≡ some c → get_elem? hands h ≡ some parts → (s : ℕ) (l : Lent T) → first ≤ s
+    pub held : (h : ℕ) (c : HandlerCounts) (parts : List (Token T)) → get_elem? counts h ≡ some c → get_elem? hands h ≡ some parts
+        → (s : ℕ) (l : Lent T) → first ≤ s
         → is_in_hand c s ≡ true → get_elem? lents s ≡ some l → get_elem? parts (cell_of k s) ≡ some (part_of k s (Some l))
     pub others : Hand T
     pub in_front : hand ≡ all_left k 0 counts first (drop first lents) ++ others

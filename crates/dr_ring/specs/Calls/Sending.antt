@@ -8,7 +8,8 @@ use Rattle.dr_meaning.specs.declared.command.Claimed.{Claimed}
 use Rattle.dr_meaning.specs.declared.ends.Trouble.TheVariants.{Memory}
 use Rattle.dr_meaning.specs.declared.ends.Wrote.{Wrote}
 use Rattle.dr_meaning.specs.Meaning.Refusals.{ClaimTests, claim_causes}
-use Rattle.dr_meaning.specs.Calls.Ends.{Verdict, IsAnswerOf, GivesStretch, WriteAnswers, WriteAllAnswers, PublishAnswers, Claims, Writes, WritesAll, Publishes, as_end}
+use Rattle.dr_meaning.specs.Calls.Ends.{Verdict, IsAnswerOf, GivesStretch, WriteAnswers, WriteAllAnswers, PublishAnswers, Claims, Writes, WritesAll}
+use Rattle.dr_meaning.specs.Calls.Ends.{Publishes, as_end}
 use Rattle.dr_graph.specs.Meaning.Graph.{finals}
 use Rattle.dr_runs.specs.Words.{halt_word}
 use Rattle.dr_runs.specs.declared.look.Look.{Look}

@@ -19,7 +19,8 @@ use Rattle.dr_ring.specs.declared.record.HalfWrite.{HalfWrite}
 use Rattle.dr_ring.specs.declared.record.SenderRecord.{SenderRecord}
 use Rattle.dr_ring.specs.declared.record.HalterRecord.{HalterRecord}
 use Rattle.dr_ring.specs.declared.record.EndRecord.{EndRecord}
-use Rattle.dr_ring.specs.Meaning.Records.{sender_looked, halt_looked, half_written, written, published_to, sender_halted, sender_closed, receiver_looked, cursor_looked, half_taken, took, completed_to, halter_halted}
+use Rattle.dr_ring.specs.Meaning.Records.{sender_looked, halt_looked, half_written, written, published_to, sender_halted, sender_closed}
+use Rattle.dr_ring.specs.Meaning.Records.{receiver_looked, cursor_looked, half_taken, took, completed_to, halter_halted}
 use Rattle.dr_ring.specs.Meaning.Rule.{World}
 use Rattle.dr_ring.specs.Calls.Finds.{FindsCompleted, FindsHalt, FindsClosed, FindsEvents}
 use Rattle.dr_ring.specs.Meaning.Steps.{Happens}

@@ -1,5 +1,6 @@
 -- What each list of steps comes to, from a ring's opening.
-use Rattle.std.specs.Prelude.{ℕ, zero, suc, ◌+◌, ◌-◌, ◌==◌, ◌&&◌, not, nat_lt, if◌then◌else◌, false, List, [], ◌∷◌, ◌++◌, map, length, replicate, slice_index, slice_index_or, Option, Some, None}
+use Rattle.std.specs.Prelude.{ℕ, zero, suc, ◌+◌, ◌-◌, ◌==◌, ◌&&◌, not, nat_lt, if◌then◌else◌, false, List, [], ◌∷◌, ◌++◌, map, length, replicate}
+use Rattle.std.specs.Prelude.{slice_index, slice_index_or, Option, Some, None}
 use Rattle.std.specs.List.{range_with_len}
 use Rattle.dr_seq.specs.declared.event.Event.{Event}
 use Rattle.dr_meaning.specs.declared.command.Command.TheVariants.{Claim, Write, Publish, Poll, Complete, Halt}
@@ -18,7 +19,10 @@ use Rattle.dr_ring.specs.declared.record.HalterRecord.{HalterRecord}
 use Rattle.dr_ring.specs.Meaning.Records.{claimed, tells_drained}
 use Rattle.dr_ring.specs.Meaning.Rule.{World}
 use Rattle.dr_ring.specs.declared.record.Step.{Step}
-use Rattle.dr_ring.specs.declared.record.Step.TheVariants.{SenderLooksAtCount, SenderLooksAtHalt, SenderStoresFirst, SenderStoresSecond, SenderPublishes, SenderHalts, SenderCloses, ReceiverLooksAtClosed, ReceiverLooksAtCursor, ReceiverLooksAtCount, ReceiverLoadsFirst, ReceiverLoadsSecond, ReceiverCompletes, HalterHalts}
+use Rattle.dr_ring.specs.declared.record.Step.TheVariants.{SenderLooksAtCount, SenderLooksAtHalt, SenderStoresFirst, SenderStoresSecond}
+use Rattle.dr_ring.specs.declared.record.Step.TheVariants.{SenderPublishes, SenderHalts, SenderCloses, ReceiverLooksAtClosed, ReceiverLooksAtCursor}
+use Rattle.dr_ring.specs.declared.record.Step.TheVariants.{ReceiverLooksAtCount, ReceiverLoadsFirst, ReceiverLoadsSecond, ReceiverCompletes}
+use Rattle.dr_ring.specs.declared.record.Step.TheVariants.{HalterHalts}
 use Rattle.dr_ring.specs.Meaning.Steps.{Happens}
 use Rattle.dr_runs.specs.Entries.{entry, poll_of}
 

@@ -1,5 +1,6 @@
 -- What each kind of step makes of the record of its end.
-use Rattle.std.specs.Prelude.{◌≡◌, ℕ, ◌+◌, ◌-◌, ◌<◌, ◌≤◌, ◌==◌, ◌&&◌, ◌||◌, if◌then◌else◌, Bool, true, List, [], ◌∷◌, ◌++◌, length, slice_index_or, replicate, Some, None, Contains}
+use Rattle.std.specs.Prelude.{◌≡◌, ℕ, ◌+◌, ◌-◌, ◌<◌, ◌≤◌, ◌==◌, ◌&&◌, ◌||◌, if◌then◌else◌, Bool, true, List, [], ◌∷◌, ◌++◌, length, slice_index_or}
+use Rattle.std.specs.Prelude.{replicate, Some, None, Contains}
 use Rattle.dr_seq.specs.declared.event.Event.{Event}
 use Rattle.dr_meaning.specs.Calls.Ends.{claimed_in, with_event, published_below}
 use Rattle.dr_graph.specs.Meaning.Graph.{upstreams_of, finals}
@@ -85,7 +86,8 @@ IsOpen r s = (length r.sent.published ≤ s) × (s < claimed r)
 
 -- every open sequence below n is written
 abbrev pub AreWritten : SenderRecord → ℕ → Type 0
-AreWritten r n = (s : ℕ) → length r.sent.published ≤ s → s < n → (event : Event) × (slice_index_or r.sent.pending (s - length r.sent.published) None ≡ Some event)
+AreWritten r n = (s : ℕ) → length r.sent.published ≤ s → s < n
+    → (event : Event) × (slice_index_or r.sent.pending (s - length r.sent.published) None ≡ Some event)
 
 -- the next event of a receiver is below its barrier, as far as it saw: each upstream completed it or, where there is none, it is published
 pub record IsBelowBarrier (k : Shape) (h : ℕ) (r : ReceiverRecord) : Type 0 where

@@ -43,7 +43,8 @@ pub record Payload (k : Shape) (words : List ℕ) (published : List Event) (pend
       → (slice_index words (payload_word k s 0) ≡ (slice_index_or published s no_event).first) × (slice_index words (payload_word k s 1) ≡ (slice_index_or published s no_event).second)
   pub writes : (i : ℕ) (event : Event) → slice_index_or pending i None ≡ Some event
       → (slice_index words (payload_word k (length published + i) 0) ≡ first_stored half (length published + i) event) × (slice_index words (payload_word k (length published + i) 1) ≡ event.second)
-  pub halves : (x : HalfWrite) → half ≡ Some x → (length published ≤ x.sequence) × (x.sequence < length published + length pending) × (slice_index words (payload_word k x.sequence 0) ≡ x.first)
+  pub halves : (x : HalfWrite) → half ≡ Some x
+      → (length published ≤ x.sequence) × (x.sequence < length published + length pending) × (slice_index words (payload_word k x.sequence 0) ≡ x.first)
 
 -- looks: each was at a word that only rises, and found at most what is there now
 abbrev pub ArePast : Shape → List ℕ → List Look → Type 0
@@ -59,7 +60,8 @@ pub record ReceiverKept (k : Shape) (words : List ℕ) (published : List Event) 
   pub after : (u : ℕ) → Contains (upstreams_of k.upstreams h) u → length r.received ≤ slice_index words (count_word u)
   pub beginning : r.received ≡ take (length r.received) published
   -- a first word that is loaded is that of the next event
-  pub half : (first : ℕ) → r.half ≡ Some first → (length r.received < length published) × (first ≡ (slice_index_or published (length r.received) no_event).first)
+  pub half : (first : ℕ) → r.half ≡ Some first
+      → (length r.received < length published) × (first ≡ (slice_index_or published (length r.received) no_event).first)
   -- who was told that the ring drained has all of it
   pub told : r.told ≡ true → (slice_index words closed_word ≡ 1) × (length published ≤ length r.received)
   pub looks : ArePast k words r.looks

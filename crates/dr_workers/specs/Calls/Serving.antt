@@ -11,7 +11,8 @@ use Rattle.dr_meaning.specs.Calls.Handling.{Relation}
 use Rattle.dr_workers.specs.declared.fault.WorkFault.{WorkFault}
 use Rattle.dr_workers.specs.declared.producer.Produced.{Produced}
 use Rattle.dr_workers.specs.Calls.Stops.{Stops, fault_at_end, fault_in_trouble}
-use Rattle.dr_workers.specs.Meaning.Work.{AreCut, CompletedBelow, IsSent, Part, Works, accepted_in, advances_in, batches_in, claims_in, each_completed, writing_of}
+use Rattle.dr_workers.specs.Meaning.Work.{AreCut, CompletedBelow, IsSent, Part, Works, accepted_in, advances_in, batches_in, claims_in}
+use Rattle.dr_workers.specs.Meaning.Work.{each_completed, writing_of}
 
 -- the last call is such a one
 abbrev pub EndsIn : {C : Type 0} → (C → Type 0) → List C → Type 0

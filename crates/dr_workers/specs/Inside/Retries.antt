@@ -9,7 +9,8 @@ use Rattle.dr_meaning.specs.Calls.Handling.{Relation}
 use Rattle.dr_workers.specs.declared.consumer.Progress.{Progress}
 use Rattle.dr_workers.specs.declared.consumer.Progress.TheVariants.{Drained, GoesOn}
 use Rattle.dr_workers.specs.declared.turns.Turns.{Turns}
-use Rattle.dr_workers.specs.Calls.Serving.{AreCompleted, ClaimFails, Due, EndsIn, InOrder, InTurn, IsInTrouble, IsOpen, IsTold, PartFails, Task, ToClaim, ToPoll, ToSend, WriteFails, due_after, task_after}
+use Rattle.dr_workers.specs.Calls.Serving.{AreCompleted, ClaimFails, Due, EndsIn, InOrder, InTurn, IsInTrouble, IsOpen, IsTold, PartFails, Task}
+use Rattle.dr_workers.specs.Calls.Serving.{ToClaim, ToPoll, ToSend, WriteFails, due_after, task_after}
 use Rattle.dr_workers.specs.Calls.Stops.{Passes}
 use Rattle.dr_workers.specs.Meaning.Work.{Part, Works, accepted_in, advances_in, batches_in, claims_in, each_completed, sending_of, writing_of}
 
@@ -42,7 +43,8 @@ pub record WriteCalls {E : Type 0} (lo : ℕ) (events : List E) (result : Result
   pub trouble : (trouble : Trouble) → result ≡ Err trouble → EndsIn (WriteFails lo events trouble) calls
   pub accepted : AreEachWritten lo events result (accepted_in calls)
   pub order : (cut : ℕ) (stretch : Claimed) (rest : List E) → 0 < length events → InOrder cut (ToSend stretch lo events rest) calls
-  pub end : (stretch : Claimed) (rest : List E) → result ≡ Ok tt → task_at_end (ToSend stretch lo events rest) calls ≡ ToSend stretch (lo + length events) [] rest
+  pub end : (stretch : Claimed) (rest : List E) → result ≡ Ok tt
+      → task_at_end (ToSend stretch lo events rest) calls ≡ ToSend stretch (lo + length events) [] rest
 
 -- the accepted calls after a part's claim: its writes and its publication or, in trouble, the first of its writes
 abbrev pub AreWrittenOut : {E : Type 0} → Part E → Result (Unit {0}) Trouble → List (InletCall E) → Type 0

@@ -135,4 +135,5 @@ LeavesNothingOpen old new = old.pending ≡ [] → new.pending ≡ []
 -- the first k of some events are written to the sequences from lo on, where these are all that is pending, and nothing is published
 pub record Writing {E : Type 0} (lo : ℕ) (events : List E) (k : ℕ) (old new : Sent E) : Type 0 where
   pub published : new.published ≡ old.published
-  pub pending : lo ≡ length old.published → old.pending ≡ replicate (length events) None → new.pending ≡ map (λ e. Some e) (take k events) ++ replicate (length events - k) None
+  pub pending : lo ≡ length old.published → old.pending ≡ replicate (length events) None
+      → new.pending ≡ map (λ e. Some e) (take k events) ++ replicate (length events - k) None

@@ -13,4 +13,5 @@ loop-worker-preserved c =
     ∙ sym (least_with_next c.args.number c.loop-worker.worker-index c.args.ended.now _ c.loop-worker-test.true)
 
 pub returns : goal.returns
-returns c = c.loop-worker.invariant ∙ ap (λ l. least (faults_with c.args.number l)) (take_all c.loop-worker.worker-index c.args.ended.now c.loop-worker-test.false)
+returns c = c.loop-worker.invariant
+    ∙ ap (λ l. least (faults_with c.args.number l)) (take_all c.loop-worker.worker-index c.args.ended.now c.loop-worker-test.false)

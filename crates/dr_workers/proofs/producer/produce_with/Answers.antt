@@ -15,11 +15,13 @@ use Rattle.dr_workers.proofs.Biding.{inlet_alone, with_room}
 use Rattle.dr_workers.proofs.producer.produce_with.Goals as goal
 
 -- a part of a script that is as long as it says
-part_sent : {E : Type 0} (o p : Option (Sent E)) (m n : ℕ) (events : List E) → m ≡ n → WhereShown (Adds (take m events)) o p → WhereShown (Adds (take n events)) o p
+part_sent : {E : Type 0} (o p : Option (Sent E)) (m n : ℕ) (events : List E) → m ≡ n → WhereShown (Adds (take m events)) o p
+    → WhereShown (Adds (take n events)) o p
 part_sent o p m n events same sent = subst (λ k. WhereShown (Adds (take k events)) o p) same sent
 
 as_long : {S E : Type 0} (does : S → InletCall E → S → Type 0) (a b : S) (may_stop must_stop : ℕ → ℕ → Type 0) (t t' : Turns) (n m : ℕ) (rest : List E) (result : Result (Unit {0}) Trouble)
-    → n ≡ m → SomeCalls does a b (SendsPart (take n rest) may_stop must_stop t t' result) → SomeCalls does a b (SendsPart (take m rest) may_stop must_stop t t' result)
+    → n ≡ m → SomeCalls does a b (SendsPart (take n rest) may_stop must_stop t t' result)
+    → SomeCalls does a b (SendsPart (take m rest) may_stop must_stop t t' result)
 as_long does a b may_stop must_stop t t' n m rest result same sends = subst (λ k. SomeCalls does a b (SendsPart (take k rest) may_stop must_stop t t' result)) same sends
 
 pub loop-sent-preserved : goal.loop-sent-preserved

@@ -22,7 +22,8 @@ sent : {E : Type 0} (r : Result (Unit {0}) Trouble) (events : List E) (c : Claim
 sent (Ok done) events c is o p q s h k answer l = sends events c is o p q s h k answer l
 sent (Err fault) events c is o p q s h k answer l = l
 
-where_ok : {E : Type 0} (shown : Option (Sent E)) (lo hi : ℕ) (r : Result (Unit {0}) Trouble) → PublishAnswers shown lo hi r → OnOk r (PublishAnswers shown lo hi (Ok tt))
+where_ok : {E : Type 0} (shown : Option (Sent E)) (lo hi : ℕ) (r : Result (Unit {0}) Trouble) → PublishAnswers shown lo hi r
+    → OnOk r (PublishAnswers shown lo hi (Ok tt))
 where_ok shown lo hi (Ok done) h = h
 where_ok shown lo hi (Err trouble) h = tt
 

@@ -12,9 +12,12 @@ use Rattle.dr_plain.specs.Inside.Views.{sender_end}
 use Rattle.dr_plain.specs.declared.record.Step.{Step}
 use Rattle.dr_runs.specs.Runs.{IsBeginning}
 use Rattle.dr_plain.proofs.Stations.{begins_same, begins_on}
-use Rattle.dr_plain.proofs.Claims.{Tried, fits_saw, fits_halt, fits_room, fits_claim, collect_kept, collect_hand, collected_hand, collected_whole, collected_same, collected_many, none_taken, claim_bad, claim_halted, claim_exhausted, claim_no_room, claim_halted_late, claim_accepted, claim_call}
+use Rattle.dr_plain.proofs.Claims.{Tried, fits_saw, fits_halt, fits_room, fits_claim, collect_kept, collect_hand, collected_hand, collected_whole}
+use Rattle.dr_plain.proofs.Claims.{collected_same, collected_many, none_taken, claim_bad, claim_halted, claim_exhausted, claim_no_room}
+use Rattle.dr_plain.proofs.Claims.{claim_halted_late, claim_accepted, claim_call}
 use Rattle.dr_plain.proofs.sender.Sender.try_claim.Goals as goal
-use Rattle.dr_plain.proofs.sender.Sender.try_claim.Goals.{After-limit-limit, After-saturating_sub-need, After-raise, then-n-eq0-via-then-n-eq0, then-n-eq0-via-else-n-eq0+then-n-size}
+use Rattle.dr_plain.proofs.sender.Sender.try_claim.Goals.{After-limit-limit, After-saturating_sub-need, After-raise, then-n-eq0-via-then-n-eq0}
+use Rattle.dr_plain.proofs.sender.Sender.try_claim.Goals.{then-n-eq0-via-else-n-eq0+then-n-size}
 
 -- the size of the ring
 size_is : (g : _) (c : After-limit-limit g) → c.get-size.result ≡ c.self.inside.station.knows.plan.size

@@ -4,7 +4,8 @@ use Rattle.dr_plain.specs.Calls.Ends.{ReceiverStand}
 use Rattle.dr_plain.specs.Meaning.Words.{cell_of, slot_of}
 use Rattle.dr_plain.specs.Meaning.Lying.{placed}
 use Rattle.dr_runs.proofs.Elements.{there}
-use Rattle.dr_plain.proofs.Trading.{trade_begins, trade_slot, trade_next, trade_ends, places_none, places_more, part_is, parts_count, blanks_count, part_at, blank_at}
+use Rattle.dr_plain.proofs.Trading.{trade_begins, trade_slot, trade_next, trade_ends, places_none, places_more, part_is, parts_count, blanks_count}
+use Rattle.dr_plain.proofs.Trading.{part_at, blank_at}
 use Rattle.dr_plain.proofs.laws.receiver.ReceiverStation.give_back.Goals as goal
 
 pub loop-sequence-init : goal.loop-sequence-init

@@ -3,7 +3,8 @@ use Rattle.dr_plain.specs.Calls.Ends.{ReceiverStand}
 use Rattle.dr_plain.specs.Meaning.Words.{cell_of, slot_of}
 use Rattle.dr_plain.specs.Meaning.Lying.{placed}
 use Rattle.dr_runs.proofs.Elements.{there}
-use Rattle.dr_plain.proofs.Trading.{trade_begins, trade_first, trade_slot, trade_next, trade_ends, was_there, parts_none, parts_more, parts_count, blanks_count, part_at, blank_at}
+use Rattle.dr_plain.proofs.Trading.{trade_begins, trade_first, trade_slot, trade_next, trade_ends, was_there, parts_none, parts_more, parts_count}
+use Rattle.dr_plain.proofs.Trading.{blanks_count, part_at, blank_at}
 use Rattle.dr_plain.proofs.laws.receiver.ReceiverStation.take_in.Goals as goal
 
 pub loop-sequence-init : goal.loop-sequence-init
