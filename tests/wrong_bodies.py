@@ -61,22 +61,26 @@ class Libraries:
             shutil.copytree(f"{self.top}/crates/{name}/out/rlib", f"{self.room}/{name}", copy_function=prove.link)
 
     def lay_out(self, name, kept):
-        """Lays out the modules that a crate's library holds checked as checks keep them, and returns whether it holds any."""
-        library = f"{self.room}/{name}/{name}.rlib"
-        index = f"{library}/toolchain/checked.json"
-        if not os.path.isfile(index):
-            return False
+        """Lays out the modules that a crate's library holds checked as checks keep them, and returns whether it could: there may be no
+        library, or one that lies otherwise."""
+        try:
+            self.lay_out_modules(f"{self.room}/{name}/{name}.rlib", kept)
+        except (OSError, TypeError, ValueError):
+            shutil.rmtree(kept, ignore_errors=True)
+        return os.path.isdir(kept)
+
+    def lay_out_modules(self, library, kept):
+        index, archive = f"{library}/toolchain/checked.json", f"{library}/toolchain/checked.a"
         build = re.search(r"^rattle-build (\S+)$", open(f"{library}/format", encoding="utf-8").read(), re.M)[1]
         folder = f"{kept}/{build.replace('/', '_')}"
         os.makedirs(folder)
-        with open(index, encoding="utf-8") as lines, open(f"{library}/toolchain/checked.a", "rb") as archive:
+        with open(index, encoding="utf-8") as lines, open(archive, "rb") as modules:
             for module, start, length in map(json.loads, lines):
                 # (what has another name is checked anew)
                 if "/" not in module and len(os.fsencode(module)) < LONGEST:
-                    archive.seek(start)
+                    modules.seek(start)
                     with open(f"{folder}/{module}.oantt", "wb") as file:
-                        file.write(archive.read(length))
-        return True
+                        file.write(modules.read(length))
 
     def check(self, edits, kept, keeps=None, beside=(), is_short=False, is_of_all=False):
         """Checks the functions of these edits in a copy of their crate to which it applies them, over what is kept, and returns what is
