@@ -1,5 +1,5 @@
 -- What workers gave back, once the ends of their ring came together.
-use Rattle.std.proofs.Common.{◌≡◌, ℕ, zero, suc, ◌+◌, ◌<◌, true, List, [], ◌∷◌, ◌++◌, length, map, drop, Option, None, ⊎_elim, refl, sym, subst, ap, ◌∙◌, arith}
+use Rattle.std.proofs.Common.{◌≡◌, ℕ, zero, suc, ◌+◌, ◌<◌, true, false, List, [], ◌∷◌, ◌++◌, length, map, drop, Option, None, ⊎_elim, refl, sym, subst, ap, ◌∙◌, arith}
 use mathlib.Core.Option.{some, some-injective, some-ne-none}
 use lib.ListN.{get_elem?, length-map}
 use Rattle.atomic_table.specs.Seated.{TableId}
@@ -191,14 +191,15 @@ module _ {A : Type 0} (goes : Relation Event A) (s : SenderEnd) (ws : List (Work
         )
 
     pub is_ran : (fault : Option WorkFault) → sender_in ran ≡ s → receivers_in ran ≡ receivers → HasRun (sender_in ran) (receivers_in ran) ran.settled.halter.value
-        → ran.settled.published ≡ length s.knows.sent.published → ran.handlers.items ≡ map (λ b. b.handler) ss
+        → ran.settled.halter.value.knows.halted ≡ false → ran.settled.published ≡ length s.knows.sent.published → ran.handlers.items ≡ map (λ b. b.handler) ss
         → ran.endings.items ≡ endings_from 0 ss ++ record { who = 16; fault = fault } ∷ []
         → IsRan goes k (map given_handler ws) s.knows.sent.published fault ran
-    is_ran fault here theirs run published handlers endings =
+    is_ran fault here theirs run unhalted published handlers endings =
         let many : length (map given_handler ws) ≡ length ss = length-map ws given_handler ∙ sym kept.many in
         record {
           plan = ap (λ (e : SenderEnd). e.knows.plan) here ∙ plan;
           run = run;
+          unhalted = unhalted;
           served = are_served here theirs handlers;
           published = published;
           through = record {

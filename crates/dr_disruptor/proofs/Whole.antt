@@ -1,5 +1,5 @@
 -- A run took each handler through the whole script.
-use Rattle.std.proofs.Common.{◌≡◌, ℕ, ◌^◌, ◌≤◌, List, length, take, Option, None, Result, Ok, Err, IfOk, subst, ap, ◌∙◌, arith}
+use Rattle.std.proofs.Common.{◌≡◌, ℕ, ◌^◌, ◌≤◌, List, length, take, Option, None, subst, ap, ◌∙◌, arith}
 use Rattle.std.proofs.lemmas.List.{length-take-le, take_all}
 use Rattle.dr_seq.specs.declared.event.Event.{Event}
 use Rattle.dr_meaning.specs.Calls.Handling.{Relation}
@@ -11,7 +11,6 @@ use Rattle.dr_ring.specs.Meaning.Settling.{FoundUnhalted}
 use Rattle.dr_ring.specs.Meaning.Shape.{Shape}
 use Rattle.dr_workers.specs.declared.producer.Produced.{Produced}
 use Rattle.dr_disruptor.specs.declared.running.Ran.{Ran}
-use Rattle.dr_disruptor.specs.declared.fault.RunFault.{RunFault}
 use Rattle.dr_disruptor.specs.Running.{AllWentThrough, AreFine, IsRan, IsRanBy, IsRun, IsSending, new_sender, sender_in}
 use Rattle.dr_disruptor.proofs.Unrefused.{all_fine, sender_fine}
 
@@ -33,15 +32,14 @@ module _ {A : Type 0} (goes : Relation Event A) (k : Shape) (starts : List A) wh
     pub claimed : ran.settled.claimed ≡ claimed_of back.knows
     pub unhalted : FoundUnhalted back.knows
 
-  pub came : (back : SenderEnd) (hs : List A) (fault : Option WorkFault) (r : Result (Ran A) RunFault) → back.knows.plan ≡ k
-      → IfOk r (IsRan goes back.knows.plan hs back.knows.sent.published fault) → IfOk r (λ x. ClosesOnceDone back (sender_in x)) → IfOk r (λ x. x.settled.claimed ≡ claimed_of back.knows) → IfOk r (λ _. FoundUnhalted back.knows) → IfOk r (Came back hs fault)
-  came back hs fault (Ok x) plan is closes claimed unhalted = record {
-    is = subst (λ (q : Shape). IsRan goes q hs back.knows.sent.published fault x) plan is;
+  pub came : (back : SenderEnd) (hs : List A) (fault : Option WorkFault) (ran : Ran A) → back.knows.plan ≡ k
+      → IsRan goes back.knows.plan hs back.knows.sent.published fault ran → ClosesOnceDone back (sender_in ran) → ran.settled.claimed ≡ claimed_of back.knows → FoundUnhalted back.knows → Came back hs fault ran
+  came back hs fault ran plan is closes claimed unhalted = record {
+    is = subst (λ (q : Shape). IsRan goes q hs back.knows.sent.published fault ran) plan is;
     closes = closes;
     claimed = claimed;
     unhalted = unhalted;
   }
-  came back hs fault (Err e) plan is closes claimed unhalted = tt
 
   -- the first of a script, as many as were published
   of_script : (script : List Event) (produced : Produced) (ran : Ran A) (sending : IsSending k script produced) → produced.sent ≤ length script
@@ -60,22 +58,16 @@ module _ {A : Type 0} (goes : Relation Event A) (k : Shape) (starts : List A) wh
     came = subst (λ (l : List Event). IsRan goes k starts l produced.fault ran) sending.published done.is;
   }
 
-  pub run_of : (script : List Event) (produced : Produced) (hs : List A) (r : Result (Ran A) RunFault) → hs ≡ starts
+  pub run_of : (script : List Event) (produced : Produced) (hs : List A) (ran : Ran A) → hs ≡ starts
       → (sending : IsSending k script produced) → produced.sent ≤ length script → (produced.fault ≡ None → produced.sent ≡ length script)
-      → IfOk r (Came sending.back hs produced.fault) → IfOk r (IsRun goes k starts script)
-  run_of script produced hs (Ok ran) given sending within all done =
+      → Came sending.back hs produced.fault ran → IsRun goes k starts script ran
+  run_of script produced hs ran given sending within all done =
       of_script script produced ran sending within all (subst (λ (l : List A). Came sending.back l produced.fault ran) given done)
-  run_of script produced hs (Err e) given sending within all done = tt
 
-  pub whole_of : (script : List Event) (r : Result (Ran A) RunFault) → k.limit ≡ 2 ^ 62 → length script ≤ 2 ^ 62 → IfOk r (IsRun goes k starts script)
-      → IfOk r (λ ran. AreFine ran.endings.items × AllWentThrough goes script starts ran.handlers.items)
-  whole_of script (Ok ran) limit short is = went_whole script ran limit is short
-  whole_of script (Err e) limit short is = tt
-
-  pub run_by : (sends : SenderEnd → Option WorkFault → SenderEnd → Type 0) (s s' : SenderEnd) (fault : Option WorkFault) (hs : List A) (r : Result (Ran A) RunFault)
-      → hs ≡ starts → s ≡ new_sender s'.ring k → sends s fault s' → IfOk r (Came s' hs fault)
-      → IfOk r (IsRanBy sends goes k starts)
-  run_by sends s s' fault hs (Ok ran) given fresh gave done = record {
+  pub run_by : (sends : SenderEnd → Option WorkFault → SenderEnd → Type 0) (s s' : SenderEnd) (fault : Option WorkFault) (hs : List A) (ran : Ran A)
+      → hs ≡ starts → s ≡ new_sender s'.ring k → sends s fault s' → Came s' hs fault ran
+      → IsRanBy sends goes k starts ran
+  run_by sends s s' fault hs ran given fresh gave done = record {
     given = s;
     back = s';
     fault = fault;
@@ -86,4 +78,3 @@ module _ {A : Type 0} (goes : Relation Event A) (k : Shape) (starts : List A) wh
     unhalted = done.unhalted;
     came = subst (λ (l : List A). IsRan goes k l s'.knows.sent.published fault ran) given done.is;
   }
-  run_by sends s s' fault hs (Err e) given fresh gave done = tt

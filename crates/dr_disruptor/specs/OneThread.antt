@@ -66,7 +66,8 @@ abbrev pub Turns : {A T : Type 0} → Result T Refusal → Relation Event A → 
 Turns (Ok done) goes graph size events starts sent core handlers = Turned goes graph size events starts sent core handlers
 Turns (Err refusal) goes graph size events starts sent core handlers = ⊥
 
--- no call is refused, and each handler went through all events
-abbrev pub PassesAll : {A T : Type 0} → Result T Refusal → Relation Event A → ℕ → List Event → List A → List A → Type 0
-PassesAll (Ok done) goes size events starts handlers = AllAreShown goes (shown_here size events) starts handlers
-PassesAll (Err refusal) goes size events starts handlers = ⊥
+-- no call is refused, each handler went through all events, and in the core all are sent and completed by each
+abbrev pub PassesAll : {A T : Type 0} → Result T Refusal → Relation Event A → List (List ℕ) → ℕ → List Event → List A → CoreView Event → List A → Type 0
+PassesAll (Ok done) goes graph size events starts core handlers =
+    Rests graph size events 0 (length events) (length events) core × AllAreShown goes (shown_here size events) starts handlers
+PassesAll (Err refusal) goes graph size events starts core handlers = ⊥

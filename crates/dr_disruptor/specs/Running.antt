@@ -1,5 +1,5 @@
 -- What came of a run: what each handler went through, and how the workers ended.
-use Rattle.std.specs.Prelude.{◌≡◌, ◌⊎◌, ℕ, ◌+◌, ◌<◌, ◌≤◌, ◌/◌, max, true, List, [], ◌∷◌, length, take, drop, Option, None, Some, All}
+use Rattle.std.specs.Prelude.{◌≡◌, ◌⊎◌, ℕ, ◌+◌, ◌<◌, ◌≤◌, ◌/◌, max, true, false, List, [], ◌∷◌, length, take, drop, Option, None, Some, All}
 use mathlib.Core.Option.{some}
 use lib.ListN.{get_elem?}
 use Rattle.dr_seq.specs.declared.event.Event.{Event}
@@ -83,6 +83,8 @@ pub record IsRan {A : Type 0} (goes : Relation Event A) (k : Shape) (starts : Li
   -- the ring that came together at last is of this shape, and one run came to all of its ends
   pub plan : (sender_in ran).knows.plan ≡ k
   pub run : HasRun (sender_in ran) (receivers_in ran) ran.settled.halter.value
+  -- whose halter never halted it
+  pub unhalted : ran.settled.halter.value.knows.halted ≡ false
   pub served : AreServed goes k starts ran
   pub published : ran.settled.published ≡ length sent
   pub through : AllWentThrough goes sent starts ran.handlers.items

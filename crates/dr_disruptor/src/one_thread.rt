@@ -54,7 +54,7 @@ fn pass<H: Handler<Event>>(
     requires many { length handlers.old ≡ length core.old.setup.upstreams }
     requires rests { Rests core.old.setup.upstreams core.old.setup.size script.now 0 0 0 core.old }
     requires limit { length script.now ≤ 2 ^ 62 }
-    ensures { PassesAll result H.goes core.old.setup.size script.now handlers.old handlers.new }
+    ensures { PassesAll result H.goes core.old.setup.upstreams core.old.setup.size script.now handlers.old core.new handlers.new }
 {
     let size = core.size().get() as usize;
     let mut at = 0;

@@ -16,11 +16,10 @@ ghost use Rattle.dr_ring.specs.Meaning.Shape.{handlers_of};
 ghost use Rattle.dr_disruptor.specs.Refused.{refusal_of};
 ghost use Rattle.dr_disruptor.specs.Running.{AllWentThrough, AreFine, IsFirst, IsRan, IsRanBy, IsRun};
 ghost use Rattle.dr_disruptor.specs.Serving.{given_end, given_handler, shape_of};
-ghost use Rattle.dr_disruptor.specs.declared.fault.RunFault.TheVariants.{Memory};
 
 use crate::fault::RunFault;
 use crate::strategy::WaitStrategy;
-use crate::workers::{Back, LiveSender, SENDER, Worker, apart, begin, joined, open};
+use crate::workers::{Abandoned, Back, LiveSender, SENDER, Worker, apart, begin, joined, open};
 use dr_graph::Graph;
 use dr_meaning::Handler;
 use dr_ring::{Halter, Settled, settle};
@@ -62,7 +61,7 @@ impl<H: Drop> Ran<H> {
     }
 }
 
-// Closes the ring, joins its threads, and brings the ends together.
+// Closes the ring, joins its threads, and brings the ends together. It closes it also where memory runs out.
 fn finish<R: Threads, H: Handler<Event> + Drop>(
     rt: &R,
     alloc: Global,
@@ -70,7 +69,7 @@ fn finish<R: Threads, H: Handler<Event> + Drop>(
     workers: Vec<Worker<H>>,
     halter: Halter,
     fault: Option<WorkFault>,
-) -> Result<Ran<H>, RunFault>
+) -> Result<Ran<H>, Abandoned>
     requires ends { AreAllEnds sender (map given_end workers.items) halter }
     requires unhalted { halter.knows.halted ≡ false }
     requires fresh { map given_end workers.items ≡ map (at_ring sender.ring) (fresh_receivers sender.knows.plan 0 (handlers_of sender.knows.plan)) }
@@ -78,10 +77,14 @@ fn finish<R: Threads, H: Handler<Event> + Drop>(
     ensures closes { IfOk result (λ ran. ClosesOnceDone sender ran.settled.sender.value) }
     ensures claimed { IfOk result (λ ran. ran.settled.claimed ≡ claimed_of sender.knows) }
     ensures unhalted { IfOk result (λ _. FoundUnhalted sender.knows) }
-    ensures memory { IfErr result (λ e. e ≡ Memory) }
+    ensures abandoned { IfErr result (λ e. ClosesOnceDone sender e.sender.value) }
 {
-    let served = joined(rt, &mut sender, workers)?;
-    let back = apart(alloc, served, fault)?;
+    let Ok(served) = joined(rt, &mut sender, workers) else {
+        return Err(Abandoned::of(&sender));
+    };
+    let Ok(back) = apart(alloc, served, fault) else {
+        return Err(Abandoned::of(&sender));
+    };
     let Back {
         receivers,
         handlers,
@@ -126,7 +129,8 @@ pub fn run_waiting<
     let cut = (size.get() / 4).max(1);
     let mut waits = strategy.begin(&rt, &bell, size.get());
     let produced = produce_with(&rt, &mut sender, &OpenGate, SENDER, script, cut, &mut waits);
-    finish(&rt, alloc, sender, workers, halter, produced.fault)
+    let ran = finish(&rt, alloc, sender, workers, halter, produced.fault)?;
+    Ok(ran)
 }
 
 /// As [`run_waiting`], by parking: an idle thread takes next to nothing of its processor.
@@ -181,5 +185,6 @@ pub fn run_with<
     let (fresh, receivers, halter, bell) = open(alloc, graph, size, given)?;
     let (mut sender, workers) = begin(rt, alloc, fresh, receivers, handlers, &bell, strategy)?;
     let fault = send(&mut sender);
-    finish(&rt, alloc, sender, workers, halter, fault)
+    let ran = finish(&rt, alloc, sender, workers, halter, fault)?;
+    Ok(ran)
 }

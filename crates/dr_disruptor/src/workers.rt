@@ -30,11 +30,21 @@ pub type LiveSender = Ringing<Sender, Arc<Bell, Global>>;
 /// A handler's thread.
 pub(crate) type Worker<H> = PromisedHandle<Served<H>, ServesPromise<H>>;
 
-/// That a ring's threads were not all started, with its sender as it was let go: it closed the ring and did
-/// nothing else.
+/// That a run was given up, for lack of memory or of a thread, with its sender as it was let go.
 #[derive(Drop)]
 pub(crate) struct Abandoned {
     sender: Snapshot<Sender>,
+}
+
+impl Abandoned {
+    // Of a run that is given up here.
+    pub(crate) fn of(sender: &LiveSender) -> Abandoned
+        ensures { result.sender.value ≡ sender.now }
+    {
+        Abandoned {
+            sender: Snapshot::of(sender.end()),
+        }
+    }
 }
 
 // Starts a thread for each handler with the end at its place. Where one cannot be started the earlier ones are in `started`.
@@ -90,9 +100,7 @@ fn abandon<R: Threads, H: Handler<Event> + Drop>(
 {
     let _closed = sender.call(|end| end.close());
     wait_for(rt, workers);
-    Abandoned {
-        sender: Snapshot::of(sender.end()),
-    }
+    Abandoned::of(&sender)
 }
 
 /// The ends of a new ring for a graph and as many handlers as it has, and the bell that wakes those who park.

@@ -1,4 +1,4 @@
-use Rattle.std.proofs.Common.{◌≡◌, ◌+◌, min, length, inl, ⊎_elim, ap, arith, subst, ◌∙◌}
+use Rattle.std.proofs.Common.{◌≡◌, ◌+◌, ℕ, min, length, inl, ⊎_elim, ap, arith, subst, ◌∙◌}
 use Rattle.std.specs.Prelude.{◌%◌}
 use Rattle.std.proofs.Math.Nat.{zero-mod}
 use Rattle.dr_meaning.specs.Meaning.Machine.{Setup}
@@ -48,4 +48,11 @@ loop-at-preserved g c =
     }
 
 pub returns : goal.returns
-returns g c = along_all g.H.Handler.goes c.args.core.now.setup.size c.args.script.now c.args.handlers.now c.loop-at.handlers c.loop-at.at (omega arith) c.loop-at.invariant.along
+returns g c =
+    let setup = c.args.core.now.setup in
+    let script = c.args.script.now in
+    let is = c.loop-at.invariant in
+    let all : c.loop-at.at ≡ length script = omega arith in (
+      subst (λ (n : ℕ). Rests setup.upstreams setup.size script 0 n n c.loop-at.core) all is.rests,
+      along_all g.H.Handler.goes setup.size script c.args.handlers.now c.loop-at.handlers c.loop-at.at all is.along,
+    )

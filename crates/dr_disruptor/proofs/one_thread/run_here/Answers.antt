@@ -14,7 +14,7 @@ pass-requires-clause-rests g c =
 
 pub returns-clause-whole : goal.returns-clause-whole
 returns-clause-whole g c =
-    let went = c.in-Ok.ensures in
+    let went = c.in-Ok.ensures.1 in
     let same = c.as_mut_slice.ensures.value in
     let long = ap length same in
     let kept = c.args.handlers.ok.0 in

@@ -9,7 +9,7 @@ use Rattle.dr_disruptor.specs.Running.{IsSending}
 use Rattle.dr_disruptor.specs.Serving.{given_end, given_handler, shape_of}
 use Rattle.dr_disruptor.proofs.Ready.{are_ready, made_so, same_ends, same_plan}
 use Rattle.dr_disruptor.proofs.Settled.{all_moved}
-use Rattle.dr_disruptor.proofs.Whole.{came, run_of, whole_of}
+use Rattle.dr_disruptor.proofs.Whole.{came, run_of, went_whole}
 use Rattle.dr_disruptor.proofs.running.run_waiting.Goals as goal
 
 pub finish-requires-clause-unhalted : goal.finish-requires-clause-unhalted
@@ -56,11 +56,10 @@ returns-clause-run g c =
     in
     let all : produced.result.fault ≡ None → produced.result.sent ≡ length script = λ fine. rw fine at produced.ensures.all in
     run_of g.H.Handler.goes k c.args.handlers.items script produced.result (map given_handler begun.workers.items)
-    c.finish.result ready.handlers sending produced.ensures.within all
-    (came g.H.Handler.goes k c.args.handlers.items produced.new.inlet (map given_handler begun.workers.items) produced.result.fault c.finish.result plan c.finish.ensures.ran c.finish.ensures.closes c.finish.ensures.claimed c.finish.ensures.unhalted)
+    c.in_ok-ran.ran ready.handlers sending produced.ensures.within all
+    (came g.H.Handler.goes k c.args.handlers.items produced.new.inlet (map given_handler begun.workers.items) produced.result.fault c.in_ok-ran.ran plan c.in_ok-ran.ensures.ran c.in_ok-ran.ensures.closes c.in_ok-ran.ensures.claimed c.in_ok-ran.ensures.unhalted)
 
 pub returns-clause-whole : goal.returns-clause-whole
 returns-clause-whole g c =
     let short : length c.args.script.now < 2 ^ 62 = search rules in
-    whole_of g.H.Handler.goes (shape_of c.args.graph.now.upstreams c.args.size) c.args.handlers.items c.args.script.now c.finish.result refl (omega arith)
-    (returns-clause-run g c)
+    went_whole g.H.Handler.goes (shape_of c.args.graph.now.upstreams c.args.size) c.args.handlers.items c.args.script.now c.in_ok-ran.ran refl (returns-clause-run g c) (omega arith)
