@@ -1,6 +1,6 @@
 //! The replay behind a lock, a thread a producer and a thread a handler.
 
-ghost use Rattle.std.specs.Prelude.{◌≡◌, ◌+◌, ◌-◌, ◌++◌, ◌^◌, ◌<◌, ◌≤◌, [], All, IfErr, IfOk, IfSome, List, None, OnOk, length, map, string_bytes};
+ghost use Rattle.std.specs.Prelude.{◌≡◌, ◌+◌, ◌-◌, ◌*◌, ◌++◌, ◌^◌, ◌<◌, ◌≤◌, [], All, IfErr, IfOk, IfSome, List, None, OnOk, length, map, string_bytes};
 ghost use Rattle.dr_seq.specs.declared.event.Event.{Event};
 ghost use Rattle.dr_files.specs.Counting.{faults_of, inner_of};
 ghost use Rattle.dr_replay.specs.Meaning.EventFile.{events_of as events_in};
@@ -189,6 +189,7 @@ fn opened(
 ) -> Result<Recorded<Event>, AllocError>
     ensures setup { IfOk result (λ recorded. recorded.history.core.setup ≡ setup_for size producers) }
     ensures fresh { IfOk result (λ recorded. recorded.history.entries ≡ []) }
+    ensures room { IfOk result (λ recorded. (recorded.entry_room ≡ 9 * events + 4) × (recorded.value_room ≡ 3 * events)) }
 {
     let graph = graph(alloc)?;
     let mode = Mode::Multi(producers as u64);
@@ -247,8 +248,10 @@ fn report<L: Exchange<Event> + Send + Sync, R: Threads + Wait + Sync, G: Gate + 
         bell: &bell,
         size,
     };
-    let ran = exchange(&around, scripts, ends)?;
-    settled(alloc, shared, ran, scripts)
+    match exchange(&around, scripts, ends) {
+        Ok(ran) => settled(alloc, shared, ran, scripts),
+        Err(_halter) => Err(ReplayFault::from(AllocError)),
+    }
 }
 
 // The report of a merge of the producers' events.

@@ -5,7 +5,7 @@ ghost use denote.Param.Send.{IsSync};
 ghost use Rattle.dr_accounts.specs.Keeping.{error_of};
 ghost use Rattle.dr_lock.specs.Calls.Lock.{HasHalted, no_calls};
 ghost use Rattle.dr_replay.specs.Calls.LockWorkers.{HasHandled, HasSent, list_of};
-ghost use Rattle.dr_replay.specs.Inside.LockWorkers.{AreSent, AreUnused, IsJoined};
+ghost use Rattle.dr_replay.specs.Inside.LockWorkers.{AreSent, AreUnused, ComesBack, halter_of};
 ghost use Rattle.dr_replay.specs.Meaning.Exchange.{IsHalters};
 
 use crate::given_back::{Delivered, Handled, HandledBy, SentBy};
@@ -258,7 +258,8 @@ fn halted<L: Exchange<Event>, R: Wait, G>(around: &Around<'_, L, R, G>, halter: 
     around.bell.ring();
 }
 
-// Sends all scripts, halts the core, and joins the handlers' threads.
+// Sends all scripts, halts the core, and joins the handlers' threads. An error is that memory ran out
+// or that a producer's thread could not be started: the end that halted comes back.
 fn served<
     L: Exchange<Event> + Send + Sync,
     R: Threads + Wait + Sync,
@@ -274,66 +275,67 @@ fn served<
     journal: PromisedHandle<Handled<L, Journal>, J>,
     replica: PromisedHandle<Handled<L, Replica>, K>,
     business: PromisedHandle<Handled<L, Business>, B>,
-) -> Result<Joined<L>, AllocError>
+) -> Result<Joined<L>, End<Event, L>>
     requires many { length producers.items ≡ length scripts.now }
     requires unused { All (λ end. end ≡ no_calls) producers.items }
     requires before { halter ≡ no_calls }
     ensures sent { IfOk result (λ joined. AreSent L.begun (G.may_stop around.now.gate.now) (G.must_stop around.now.gate.now) around.now.size scripts.now joined.producers.items) }
-    ensures halted { IfOk result (λ joined. IsHalters joined.halter) }
-    ensures journal { IfOk result (λ joined. J.kept_by journal.promise joined.journal) }
-    ensures replica { IfOk result (λ joined. K.kept_by replica.promise joined.replica) }
-    ensures business { IfOk result (λ joined. B.kept_by business.promise joined.business) }
+    ensures halted { IsHalters (halter_of result) }
+    ensures handled { IfOk result (λ joined. (J.kept_by journal.promise joined.journal) × (K.kept_by replica.promise joined.replica) × (B.kept_by business.promise joined.business)) }
 {
     let sent = send_all(around, scripts, producers, &halter);
     halted(around, &mut halter);
     let journal = journal.join(around.rt);
     let replica = replica.join(around.rt);
     let business = business.join(around.rt);
-    Ok(Joined {
-        halter,
-        journal,
-        replica,
-        business,
-        producers: sent?,
-    })
+    match sent {
+        Ok(producers) => Ok(Joined {
+            halter,
+            journal,
+            replica,
+            business,
+            producers,
+        }),
+        Err(_) => Err(halter),
+    }
 }
 
 // Halts the core before anything was sent, so that those of its handlers' threads that were started
 // end with their scope.
 fn abandoned<L: Exchange<Event>, R: Wait, G>(
     around: &Around<'_, L, R, G>,
-    halter: &mut End<Event, L>,
-) -> AllocError
-    ensures { HasHalted halter.old halter.new }
+    mut end: End<Event, L>,
+) -> End<Event, L>
+    ensures { HasHalted end result }
 {
-    halted(around, halter);
-    AllocError
+    halted(around, &mut end);
+    end
 }
 
 /// Starts a thread for each handler, then one for each producer; joins the producers, halts the core,
 /// and joins the handlers. An error is that memory ran out or that a thread could not be started:
-/// where it was a handler's, nothing is sent.
+/// where it was a handler's, nothing is sent. The core is halted then too, by the end that comes back.
 pub fn exchange<L: Exchange<Event> + Send + Sync, R: Threads + Wait + Sync, G: Gate + Sync>(
     around: &Around<'_, L, R, G>,
     scripts: &[Vec<Event>],
     ends: Ends<L>,
-) -> Result<Joined<L>, AllocError>
+) -> Result<Joined<L>, End<Event, L>>
     requires many { length ends.producers.items ≡ length scripts.now }
     requires unused { AreUnused ends.halter ends.journal ends.replica ends.business ends.producers.items }
-    ensures { IfOk result (IsJoined L.begun (G.may_stop around.now.gate.now) (G.must_stop around.now.gate.now) around.now.size scripts.now) }
+    ensures { ComesBack L.begun (G.may_stop around.now.gate.now) (G.must_stop around.now.gate.now) around.now.size scripts.now result }
 {
     thread::scope(
         thread::scope_env(),
         around.rt,
-        move |scope| -> Result<Joined<L>, AllocError>
+        move |scope| -> Result<Joined<L>, End<Event, L>>
             requires shared { IsSync L.row }
             requires workers { IsSync R.row }
             requires gates { IsSync G.row }
             requires many { length ends.producers.items ≡ length scripts.now }
             requires unused { AreUnused ends.halter ends.journal ends.replica ends.business ends.producers.items }
-            ensures { IfOk result (IsJoined L.begun (G.may_stop around.entry.now.gate.now) (G.must_stop around.entry.now.gate.now) around.entry.now.size scripts.entry.now) }
+            ensures { ComesBack L.begun (G.may_stop around.entry.now.gate.now) (G.must_stop around.entry.now.gate.now) around.entry.now.size scripts.entry.now result }
         {
-            let (mut halter, journal, replica, business, producers) = ends.apart();
+            let (halter, journal, replica, business, producers) = ends.apart();
             let journal = scope.spawn_with(HandledBy::of(around.gate, JOURNAL), move || {
                 handle::<L, R, G, Journal>(around, JOURNAL, journal)
             });
@@ -344,7 +346,7 @@ pub fn exchange<L: Exchange<Event> + Send + Sync, R: Threads + Wait + Sync, G: G
                 handle::<L, R, G, Business>(around, BUSINESS, business)
             });
             let (Ok(journal), Ok(replica), Ok(business)) = (journal, replica, business) else {
-                return Err(abandoned(around, &mut halter));
+                return Err(abandoned(around, halter));
             };
             served(
                 around, scripts, halter, producers, journal, replica, business,

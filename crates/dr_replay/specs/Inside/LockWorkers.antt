@@ -1,5 +1,5 @@
 -- What comes of the exchange of a replay behind a lock.
-use Rattle.std.specs.Prelude.{◌≡◌, ℕ, ◌+◌, ◌<◌, ◌/◌, max, List, ◌∷◌, length, map, Vec, Result, slice_index_or, All}
+use Rattle.std.specs.Prelude.{◌≡◌, ℕ, ◌+◌, ◌<◌, ◌/◌, max, List, ◌∷◌, length, map, Vec, Result, Ok, Err, slice_index_or, All}
 use Rattle.dr_seq.specs.declared.event.Event.{Event}
 use Rattle.dr_lock.specs.Calls.Lock.{EndView, no_calls}
 use Rattle.dr_lock.specs.Meaning.History.{History}
@@ -32,6 +32,16 @@ pub record IsJoined {L Z : Type 0} (begun : History Event) (may_stop must_stop :
   pub replica : HasHandled begun 1 (may_stop 1) (must_stop 1) joined.replica.end (error_of joined.replica.part) (list_of joined.replica.part (λ part. part.list.items))
   pub business : HasHandled begun 2 (may_stop 2) (must_stop 2) joined.business.end (error_of joined.business.part) (list_of joined.business.part (λ part. part.list.items))
   pub producers : AreSent begun may_stop must_stop size scripts joined.producers.items
+
+-- so it comes back; where memory or a thread was lacking only the end that halted it does
+abbrev pub ComesBack : {L Z : Type 0} → History Event → (ℕ → ℕ → Type 0) → (ℕ → ℕ → Type 0) → ℕ → List (Vec Event Z) → Result (Joined L) (EndView Event) → Type 0
+ComesBack begun may_stop must_stop size scripts (Ok joined) = IsJoined begun may_stop must_stop size scripts joined
+ComesBack begun may_stop must_stop size scripts (Err halter) = IsHalters halter
+
+-- the end that halted it, whichever way that comes back
+abbrev pub halter_of : {L : Type 0} → Result (Joined L) (EndView Event) → EndView Event
+halter_of (Ok joined) = joined.halter
+halter_of (Err halter) = halter
 
 -- the ends of an exchange, as they came back
 abbrev pub ends_of : {L : Type 0} → Joined L → List (EndView Event)
