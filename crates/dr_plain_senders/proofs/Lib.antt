@@ -43,3 +43,8 @@ pub mod Granting
 pub mod Written
 pub mod LentRows
 pub mod Showing
+pub mod Publications
+pub mod PublishReplies
+pub mod EndReplies
+pub mod Sequel
+pub mod Dealing

@@ -24,7 +24,8 @@ use Rattle.dr_plain_senders.specs.declared.owned.Owned.{Owned}
 use Rattle.dr_plain_senders.specs.declared.record.Own.{Own}
 use Rattle.dr_plain_senders.specs.declared.record.SenderRecord.{SenderRecord}
 use Rattle.dr_plain_senders.specs.Calls.Ends.{SenderStand, SenderEnd}
-use Rattle.dr_plain_senders.specs.Calls.Writing.{Has, Found, Never, WriteCall, written_at}
+use Rattle.dr_plain_senders.specs.Calls.Writing.{Has, Found, Never, Holds, WriteCall, written_where}
+use Rattle.dr_plain_senders.specs.declared.record.Stage.{Stage}
 use Rattle.dr_plain_senders.specs.Inside.Fits.{MarksFit, SenderFits, is_open, cells_of, written_in, writes_of}
 use Rattle.dr_plain_senders.specs.Inside.Refusing.{RefusesBy}
 use Rattle.dr_plain_senders.specs.Inside.Views.{sender_end}
@@ -48,6 +49,12 @@ lies_at {T} tokens n s t count at =
 some_of : {X : Type 0} (o : Option X) → is_some o ≡ true → (x : X) × (o ≡ Some x)
 some_of None e = absurd (cc)
 some_of (Some x) e = (x, refl)
+
+-- a sender's own sequence, with what is written of it
+pub holds : {T : Type 0} (e : SenderStand T) (o : Owned) (tokens : List (Token T)) (s : ℕ) (t : Stage T) → Owns e.knows s t
+    → Holds (sender_end e o tokens) s t (written_in e.plan o tokens s)
+holds {T} e o tokens s t own =
+    (own.0, own.1, map_there (λ (x : Own T). written_in e.plan o tokens x.sequence) e.knows.own own.0 (record { sequence = s; stage = t }) own.1)
 
 -- the sender writes v to its open sequence s, whose cell lies at c
 module _ {T : Type 0} (e : SenderStand T) (o : Owned) (end s c : ℕ) (tokens tokens' : List (Token T)) (between : Token T) (v : T) (F : SenderFits e o end tokens)
@@ -143,7 +150,7 @@ module _ {T : Type 0} (e : SenderStand T) (o : Owned) (end s c : ℕ) (tokens to
         ∙ sym (ap (λ (b : Bool). if b then some_v else written_in e.plan o tokens q) (ne_eqb q s ne))
   ]
 
-  all_writes : (own : List (Own T)) → writes_of e.plan noted tokens' own ≡ written_at own (writes_of e.plan o tokens own) s v
+  all_writes : (own : List (Own T)) → writes_of e.plan noted tokens' own ≡ written_where (λ q. q == s) (Some v) own (writes_of e.plan o tokens own)
   all_writes [] = refl
   all_writes (x ∷ own) = (λ i. each_write x.sequence i ∷ all_writes own i)
 
@@ -155,8 +162,9 @@ module _ {T : Type 0} (e : SenderStand T) (o : Owned) (end s c : ℕ) (tokens to
   pub write_done : (o' : Owned) → o' ≡ noted → WriteCall (sender_end e o tokens) s v (sender_end e o' tokens') (Ok tt)
   write_done o' is = let x = F.marks.own s mine in record {
     place = refl;
-    sight = Has x.0;
-    sees = x.1;
+    sight = Has x.0 (written_in e.plan o tokens s);
+    sees = holds e o tokens s x.0 x.1;
+    asked = tt;
     answer = (refl, (refl, (F.marks.shown s x.0 x.1 mine ∙ hidden, (refl, tt))));
     knows = refl;
     writes = ap (λ (w : Owned). writes_of e.plan w tokens' e.knows.own) is ∙ all_writes e.knows.own;
@@ -173,6 +181,7 @@ write_never e s event past = record {
   place = refl;
   sight = Never;
   sees = past;
+  asked = tt;
   answer = inr (refl, inl (refl, refl));
   knows = found_nothing e.knows;
   writes = refl;
@@ -194,6 +203,7 @@ module _ {T : Type 0} (e : SenderStand T) (o : Owned) (end s : ℕ) (tokens : Li
     place = (λ i. (R.1.0.0 i, R.1.0.1 i, (R.1.1 i).number));
     sight = Found R.0;
     sees = (below, λ t own. (let shown = F.marks.old s t own unmarked in let l = some_of t.lent shown in (shown, R.2 t l.0 own l.1)));
+    asked = tt;
     answer = by_mark (nat_le (entry_of e.plan.size s) R.0) refusal R.3;
     knows = R.1.1;
     writes = (λ i. writes_of (R.1.0.1 i) o tokens (R.1.1 i).own);
@@ -206,8 +216,9 @@ module _ {T : Type 0} (e : SenderStand T) (o : Owned) (end s : ℕ) (tokens : Li
       → WriteCall (sender_end e o tokens) s event (sender_end e o tokens) (Err AlreadyPublished)
   write_late mine shown = let x = F.marks.own s mine in record {
     place = refl;
-    sight = Has x.0;
-    sees = x.1;
+    sight = Has x.0 (written_in e.plan o tokens s);
+    sees = holds e o tokens s x.0 x.1;
+    asked = tt;
     answer = inr (refl, inr (refl, inl (F.marks.shown s x.0 x.1 mine ∙ shown, refl)));
     knows = found_nothing e.knows;
     writes = refl;

@@ -8,3 +8,5 @@ pub mod Outlets
 pub mod ClaimFault
 pub mod Sending
 pub mod Writing
+pub mod Publishing
+pub mod Inlets

@@ -11,3 +11,4 @@ pub mod Views
 pub mod Refusing
 pub mod Scans
 pub mod Polling
+pub mod Publishing

@@ -1,13 +1,14 @@
 //! Rows of tokens, one a cell or a slot. None has any bytes.
 
 ghost use Rattle.std.specs.Fn.{FnOnceReturnsAtMut};
-ghost use Rattle.std.specs.Prelude.{◌≡◌, ◌<◌, replicate, length, slice_set, IfOk};
+ghost use Rattle.std.specs.Prelude.{◌≡◌, ◌<◌, ◌≤◌, replicate, length, slice_set, IfOk};
 ghost use mathlib.Core.Option.{some};
 ghost use lib.ListN.{get_elem?};
 ghost use Rattle.dr_cells.specs.Hold.{whole, IsWhole};
-ghost use Rattle.dr_cells.specs.Tokens.{no_token, token_at, IsOf};
+ghost use Rattle.dr_cells.specs.Tokens.{no_token, token_at, IsOf, IsAll};
+ghost use Rattle.dr_plain_senders.specs.Inside.Making.{IsDealt};
 
-use dr_cells::{Cells, Token};
+use dr_cells::{Cells, Row, Token};
 use std::alloc::{AllocError, Global};
 use std::mem::replace;
 
@@ -29,6 +30,17 @@ pub(crate) fn put_at<S>(row: &mut Vec<S>, place: usize, new: S) -> S
     ensures was { get_elem? row.old.items place ≡ some result }
 {
     replace(&mut row[place], new)
+}
+
+/// Puts the token of each cell of a row in its place, before all others.
+pub(crate) fn deal<T>(mut row: Row<T>, cells: Cells<T>, count: usize, tokens: &mut Vec<Token<T>>)
+    requires { IsAll cells.ptr count row × (count ≤ length tokens.old.items) }
+    ensures { IsDealt cells.ptr count row.items tokens.old.items tokens.new.items }
+{
+    let _ = cells;
+    for place in 0..count {
+        put_at(tokens, place, row.take());
+    }
 }
 
 /// One of a row, where it lies.

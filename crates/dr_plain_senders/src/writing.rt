@@ -1,6 +1,7 @@
 //! An event is written where it lies, or why it is not.
 
-ghost use Rattle.std.specs.Prelude.{◌^◌, ◌<◌};
+ghost use Rattle.std.specs.Prelude.{◌≡◌, ◌^◌, ◌<◌, ◌≤◌, Err};
+ghost use Rattle.dr_meaning.specs.declared.refusal.Refusal.TheVariants.{NotClaimed};
 ghost use Rattle.dr_plain_senders.specs.Calls.Writing.{WriteCall};
 ghost use Rattle.dr_plain_senders.specs.Inside.Refusing.{RefusesBy};
 
@@ -35,7 +36,8 @@ impl<T: Drop> Sender<T> {
     /// Refusals in their order: `NotClaimed` (nobody's), `AlreadyPublished`, `NotClaimed` (another
     /// sender's). They change nothing.
     pub fn write(&mut self, sequence: u64, event: T) -> Result<(), Refusal>
-        ensures { WriteCall self.old sequence event self.new result }
+        ensures call { WriteCall self.old sequence event self.new result }
+        ensures beyond { 2 ^ 62 ≤ sequence → result ≡ Err NotClaimed }
     {
         if sequence >= self.station.plan().limit() {
             return Err(Refusal::NotClaimed);

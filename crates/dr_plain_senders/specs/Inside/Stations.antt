@@ -1,5 +1,6 @@
 -- The ends of a ring, each at its station, with the seat that stands for it.
 use Rattle.std.specs.Prelude.{◌≡◌, ℕ, ◌<◌}
+use denote.RawPtr.{Ptr}
 use Rattle.atomic_table.specs.Seated.{TableId}
 use Rattle.dr_runs.specs.Seats.{past_of}
 use Rattle.dr_runs.specs.Looks.{looks_counted}
@@ -41,7 +42,10 @@ module _ {T : Type 0} where
     pub handler : number < handlers_of k
     pub looks : looked ≡ looks_counted (receiver_of me.0).looks
 
-  pub record HalterSits (at seat : TableId) (key k : Shape) (me : End T) : Type 0 where
+  -- the halter has the strip's memory too
+  pub record HalterSits (at seat : TableId) (key k : Shape) (me : End T) (strip : Ptr) (cells : ℕ) : Type 0 where
     pub table : IsAtTable seat at k
     pub keyed : IsKeyed key k
     pub end : IsHalter me
+    pub strip : k.strip ≡ strip
+    pub cells : k.size ≡ cells

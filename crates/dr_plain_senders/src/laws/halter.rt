@@ -8,6 +8,7 @@ ghost use Rattle.dr_plain_senders.specs.Calls.Ends.{HasStored};
 use super::plays::Halt;
 use super::{RingBody, RingSeat};
 use crate::plan::{CLAIM_WORD, HALT_BIT};
+use dr_cells::Strip;
 use std::alloc::Global;
 use std::marker::Model;
 use std::sync::Arc;
@@ -17,6 +18,8 @@ use std::sync::Arc;
 pub struct Halter<T> {
     pub(crate) ring: Arc<RingBody<T>, Global>,
     pub(crate) seat: RingSeat<T>,
+    // The memory of the events, which comes back once all ends come together.
+    pub(crate) strip: Strip<T>,
 }
 
 impl<T> Model for Halter<T> {
@@ -29,7 +32,7 @@ impl<T> Model for Halter<T> {
 
     ghost view = { λ s. halter_stand s.seat.table_id (arc_value s.ring).plan s.seat.me };
 
-    ghost invariant = { λ s. HalterSits (arc_value s.ring).table.shared.table_id s.seat.table_id (arc_value s.ring).table.shared.key (arc_value s.ring).plan (end_of s.seat.me) };
+    ghost invariant = { λ s. HalterSits (arc_value s.ring).table.shared.table_id s.seat.table_id (arc_value s.ring).table.shared.key (arc_value s.ring).plan (end_of s.seat.me) s.strip.cells.ptr s.strip.len };
 }
 
 impl<T> Halter<T> {

@@ -3,7 +3,7 @@ use Rattle.dr_plain_senders.proofs.Going.{cut_on}
 use Rattle.dr_plain_senders.proofs.FreshSeats.{ruled_new}
 use Rattle.dr_plain_senders.proofs.Making.{some_words}
 use Rattle.dr_plain_senders.proofs.Plans.{is_shape}
-use Rattle.dr_plain_senders.proofs.opening.stations.Goals as goal
+use Rattle.dr_plain_senders.proofs.opening.ends.Goals as goal
 
 pub new-requires : goal.new-requires
 new-requires g c =
