@@ -39,7 +39,7 @@ weaker_stretch : (f g : ℕ → List (Verdict × Refusal)) → ((s : ℕ) → We
 weaker_stretch f g each [] = tt
 weaker_stretch f g each (s ∷ ss) = weaker_join (f s) (g s) (flat_map f ss) (flat_map g ss) (each s) (weaker_stretch f g each ss)
 
-module _ {E : Type 0} where
+module _ (E : Type 0) where
   -- A sequence from 2^62 on is refused as nobody's; of any other an end tells less than its sender knows.
 
   -- of a write to a smaller one an end tells nothing

@@ -29,6 +29,16 @@ use Rattle.dr_plain_senders.specs.Calls.Making.{sender_at, receiver_at}
 abbrev no_marks : ℕ → Owned
 no_marks n = record { claimed = replicate n 0; written = replicate n 0; published = replicate n 0 }
 
+none_open : (n s : ℕ) → is_open (no_marks n) s ≡ true → ⊥
+none_open n s is = none_fresh n s (first_of (is_marked (no_marks n).claimed s) (not (is_marked (no_marks n).published s)) is)
+
+-- one end more is listed
+listed_more : {K E : Type 0} (f : K → E) (items new : List E) (e : E) (r : K) (rs all : List K) (whole : List E) → items ++ map f all ≡ whole
+    → all ≡ r ∷ rs → new ≡ items ++ e ∷ [] → e ≡ f r → new ++ map f rs ≡ whole
+listed_more f items new e r rs all whole was next is own =
+    ap (λ (xs : List _). xs ++ map f rs) (is ∙ ap (λ (x : _). items ++ x ∷ []) own)
+    ∙ append_assoc items (f r ∷ []) (map f rs) ∙ ap (λ (xs : List _). items ++ map f xs) (sym next) ∙ was
+
 module _ {T : Type 0} where
   -- the next of the senders
   fresh_senders_next : (p n : ℕ) → p < n → fresh_senders {T = T} p (n - p) ≡ fresh_sender p ∷ fresh_senders (p + 1) (n - (p + 1))
@@ -93,9 +103,6 @@ module _ {T : Type 0} where
     shown = λ s t own m. absurd (no_own p s t own);
   }
 
-  none_open : (n s : ℕ) → is_open (no_marks n) s ≡ true → ⊥
-  none_open n s is = none_fresh n s (first_of (is_marked (no_marks n).claimed s) (not (is_marked (no_marks n).published s)) is)
-
   pub sender_fits : (own : TableId) (k : Shape) (p n : ℕ) (m : Sitting T) (o : Owned) (tokens : List (Token T)) → m ≡ own_seat (Sends (fresh_sender p)) → n ≡ k.size
       → o ≡ record { claimed = replicate n 0; written = replicate n 0; published = replicate n 0 } → length tokens ≡ k.size → SenderFits (sender_stand own k m) o 0 tokens
   sender_fits own k p n m o tokens is size marks count =
@@ -136,13 +143,6 @@ module _ {T : Type 0} where
   pub receiver_view : (t own : TableId) (k k' : Shape) (me : Sitting T) (h : ℕ) → own ≡ t → k' ≡ k → me ≡ own_seat (Receives (fresh_receiver h))
       → receiver_end (receiver_stand own k' me) ≡ receiver_at t k (fresh_receiver h)
   receiver_view t own k k' me h same plan is = λ i. receiver_end (receiver_stand (same i) (plan i) (is i))
-
-  -- one end more is listed
-  listed_more : {K E : Type 0} (f : K → E) (items new : List E) (e : E) (r : K) (rs all : List K) (whole : List E) → items ++ map f all ≡ whole
-      → all ≡ r ∷ rs → new ≡ items ++ e ∷ [] → e ≡ f r → new ++ map f rs ≡ whole
-  listed_more f items new e r rs all whole was next is own =
-      ap (λ (xs : List _). xs ++ map f rs) (is ∙ ap (λ (x : _). items ++ x ∷ []) own)
-      ∙ append_assoc items (f r ∷ []) (map f rs) ∙ ap (λ (xs : List _). items ++ map f xs) (sym next) ∙ was
 
   pub sender_listed : (t : TableId) (k : Shape) (p n : ℕ) (items new : List (SenderEnd T)) (e : SenderEnd T) (whole : List (SenderEnd T)) → p < n
       → items ++ map (sender_at t k) (fresh_senders p (n - p)) ≡ whole → new ≡ items ++ e ∷ [] → e ≡ sender_at t k (fresh_sender p)

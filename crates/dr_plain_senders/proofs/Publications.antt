@@ -113,7 +113,7 @@ module _ {T : Type 0} (k : Shape) (e : SenderStand T) (o o' : Owned) (end s : �
   noted = record o { published = set o.published (s % length o.published) (entry_of (length o.published) s) }
 
   closed_here : is_open noted s ≡ false
-  closed_here = let len = F.marks.shows in (λ i. mine i && not (mark_here o.published s (omega arith) i))
+  closed_here = let len = F.marks.shows in let pos = size in (λ i. mine i && not (mark_here o.published s (omega arith) i))
 
   beside_mark : (z : ℕ) → is_marked o.claimed z ≡ true → z ≢ s → is_marked noted.published z ≡ is_marked o.published z
   beside_mark z marked ne =

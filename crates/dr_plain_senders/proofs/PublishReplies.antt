@@ -195,8 +195,8 @@ module _ {T : Type 0} (e : SenderStand T) (o : Owned) (end : ℕ) (tokens : List
       let x = F.marks.own s mine in let count = F.count in let t = there tokens (cell_of e.plan s) (let lt = mod-lt s size in omega arith) in
       let w = F.whole s t.0 opened t.1 in
       let written : written_in e.plan o tokens s ≡ Some w.0 =
-          (λ i. if is i then value_at (cells_of tokens) (cell_of e.plan s) (held t.0.hold) None (map_there (λ (y : Token T). held y.hold) tokens (cell_of e.plan s) t.0 t.1) i else None)
-          ∙ some_held t.0 e.plan s w in
+      (λ i. if is i then value_at (cells_of tokens) (cell_of e.plan s) (held t.0.hold) None (map_there (λ (y : Token T). held y.hold) tokens (cell_of e.plan s) t.0 t.1) i else None)
+      ∙ some_held t.0 e.plan s w in
       (x.0, w.0, subst (Holds me s x.0) written (holds e o tokens s x.0 x.1), F.marks.shown s x.0 x.1 mine ∙ hidden)
 
   pub publish_unclaimed : (lo hi : ℕ) (e' : SenderStand T) → lo ≤ hi → Reached e hi e' false → PublishCall me lo hi (sender_end e' o tokens) (Err NotClaimed)
@@ -278,8 +278,11 @@ module _ {T : Type 0} (e : SenderStand T) (o : Owned) (end : ℕ) (tokens : List
         answer = accepts e.plan lo seen hi order (omega arith) refl;
         all = omega arith;
         lents = P.lents;
-        lent = (P.many, λ i l at. (let many = P.many in let inside = at_below P.lents i l at in let x = ready (lo + i) (omega arith) (omega arith) in
-            (x.0, subst (Holds me (lo + i) x.0) (P.events i l at) (holds e o tokens (lo + i) x.0 (x.2.0, x.2.1)))));
+        lent = (
+          P.many,
+          λ i l at. (let many = P.many in let inside = at_below P.lents i l at in let x = ready (lo + i) (omega arith) (omega arith) in
+              (x.0, subst (Holds me (lo + i) x.0) (P.events i l at) (holds e o tokens (lo + i) x.0 (x.2.0, x.2.1)))),
+        );
         knows = P.knows;
         writes = all_left e o tokens lo (hi + 1) e' o' ts' P;
         cells = P.cells;

@@ -46,7 +46,7 @@ lies_at {T} tokens n s t count at =
     ap (λ (m : ℕ). get_or (cells_of tokens) (s % m) None) (length-map tokens f ∙ count)
     ∙ value_at (cells_of tokens) (s % n) (held t.hold) None (map_there f tokens (s % n) t at)
 
-some_of : {X : Type 0} (o : Option X) → is_some o ≡ true → (x : X) × (o ≡ Some x)
+pub some_of : {X : Type 0} (o : Option X) → is_some o ≡ true → (x : X) × (o ≡ Some x)
 some_of None e = absurd (cc)
 some_of (Some x) e = (x, refl)
 

@@ -43,9 +43,9 @@ module _ {T : Type 0} where
     pub looks : looked ≡ looks_counted (receiver_of me.0).looks
 
   -- the halter has the strip's memory too
-  pub record HalterSits (at seat : TableId) (key k : Shape) (me : End T) (strip : Ptr) (cells : ℕ) : Type 0 where
+  pub record HalterSits (at seat : TableId) (key k : Shape) (me : End T) (start : Ptr) (len : ℕ) : Type 0 where
     pub table : IsAtTable seat at k
     pub keyed : IsKeyed key k
     pub end : IsHalter me
-    pub strip : k.strip ≡ strip
-    pub cells : k.size ≡ cells
+    pub strip : k.strip ≡ start
+    pub cells : k.size ≡ len

@@ -31,7 +31,7 @@ loop-number-preserved g c =
       sender_listed c.args.rest.table_id _ c.loop-number.number _ c.loop-number.senders.items _ _ _ (omega arith) inv.2 c.in_ok-push.ensures.items
           (sender_view c.args.rest.table_id _ _ _ _ c.loop-number.number _ _ _ (own.0 ∙ inv.0) (ap (λ r. r.plan) c.in_ok-own.ensures)
           (cut_own _ _ _ _ _ inv.1 (senders_next c.loop-number.number _ _ (omega arith)) own.2)
-          c.in_ok-tokens.ensures (c.get.ensures.value ∙ c.size-2.ensures ∙ ap (λ r. r.plan.size) c.deref-in-loop-number-2.ensures)),
+          c.in_ok-tokens.ensures (c.get.ensures.value ∙ c.size-in-loop-number.ensures ∙ ap (λ r. r.plan.size) c.deref-in-loop-number-2.ensures)),
     )
 
 pub invariant_of-push : goal.invariant_of-push
@@ -40,4 +40,4 @@ invariant_of-push g c =
     let me = cut_own _ _ _ _ _ c.loop-number.invariant.1 (senders_next c.loop-number.number _ _ (omega arith)) c.split_seat-next.ensures.2 in
     let ring = sym (ap (λ r. r.plan.size) c.in_ok-own.ensures) in
     sender_fits _ _ c.loop-number.number _ _ _ _ me (c.size.ensures ∙ ap (λ r. r.plan.size) c.deref-in-loop-number.ensures ∙ ring) c.in_ok-owned.ensures
-    (ap length c.in_ok-tokens.ensures ∙ length-replicate _ no_token ∙ c.get.ensures.value ∙ c.size-2.ensures ∙ ap (λ r. r.plan.size) c.deref-in-loop-number-2.ensures ∙ ring)
+    (ap length c.in_ok-tokens.ensures ∙ length-replicate _ no_token ∙ c.get.ensures.value ∙ c.size-in-loop-number.ensures ∙ ap (λ r. r.plan.size) c.deref-in-loop-number-2.ensures ∙ ring)

@@ -263,3 +263,9 @@ returns-clause-stored g c =
         ap (λ (x : SenderStand g.row.T.Denot). x.stored) step ∙ S.4 ∙ (λ i. stored i ++ SenderPublishes (knows i).number s (l.event ∷ []) ∷ []),
       ),
     )
+
+pub returns-clause-marks : goal.returns-clause-marks
+returns-clause-marks g c =
+    let o = c.args.owned.now in let s = c.args.sequence in let once : s + 1 - s ≡ 1 = omega arith in
+    c.publish.ensures ∙ ap (λ (n : ℕ). record o { published = stamped (entry_of (length o.published)) o.published s n }) once
+    ∙ ap (λ (xs : List ℕ). record o { published = xs }) (sym (mark_is o.published s))
