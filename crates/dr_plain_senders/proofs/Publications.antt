@@ -1,5 +1,5 @@
 -- What a loop that publishes comes to.
-use Rattle.std.proofs.Common.{◌≡◌, ◌≢◌, ℕ, zero, suc, ◌+◌, ◌%◌, ◌<◌, ◌≤◌, inl, inr, Bool, true, false, not, ◌==◌, ◌&&◌, if◌then◌else◌, List, [], ◌∷◌, ◌++◌, map, length, get_or, set, sym, refl, ap, ◌∙◌, subst, arith, append_assoc, length-set, get_or-set_other}
+use Rattle.std.proofs.Common.{◌≡◌, ◌≢◌, ℕ, zero, suc, ◌+◌, ◌%◌, ◌<◌, ◌≤◌, inl, inr, Bool, true, false, not, ◌==◌, ◌&&◌, if◌then◌else◌, List, [], ◌∷◌, ◌++◌, map, length, get_or, set, sym, refl, ap, ◌∙◌, subst, arith, append_assoc, get_or-set_other}
 use Rattle.std.specs.Prelude.{None, Some, Option, nat_le, nat_lt}
 use Rattle.std.proofs.lemmas.Bool.{cases_Bool, cases_eq, cases_lt, eq-eqb, ne_eqb, lt-ltb, le-ltb, lt-leb, le-leb}
 use Rattle.std.proofs.lemmas.List.{append-nil, length-append, length-map, map-set}
@@ -24,12 +24,12 @@ use Rattle.dr_plain_senders.specs.declared.record.Step.{Step}
 use Rattle.dr_plain_senders.specs.declared.record.Step.TheVariants.{SenderPublishes}
 use Rattle.dr_plain_senders.specs.Calls.Ends.{SenderStand, HasStored}
 use Rattle.dr_plain_senders.specs.Calls.Writing.{written_where}
-use Rattle.dr_plain_senders.specs.Calls.Publishing.{is_between, LosesCells, publications}
+use Rattle.dr_plain_senders.specs.Calls.Publishing.{is_between, publications}
 use Rattle.dr_plain_senders.specs.Inside.Fits.{SenderFits, is_open, is_ready, cells_of, written_in, writes_of}
 use Rattle.dr_plain_senders.specs.Inside.Publishing.{HasPublishedAll}
 use Rattle.dr_plain_senders.proofs.Stations.{begins_same, begins_on}
 use Rattle.dr_plain_senders.proofs.Places.{more_cases}
-use Rattle.dr_plain_senders.proofs.Granting.{first_of, second_of, unhidden, unready}
+use Rattle.dr_plain_senders.proofs.Granting.{first_of, second_of, unready}
 use Rattle.dr_plain_senders.proofs.Owning.{mark_here, mark_beside, marked_apart}
 
 -- What is between.

@@ -1,12 +1,10 @@
 -- What a sender's publication answers.
-use Rattle.std.proofs.Common.{◌≡◌, ◌≢◌, ℕ, ◌+◌, ◌-◌, ◌<◌, ◌≤◌, inl, inr, Bool, true, false, not, ◌==◌, if◌then◌else◌, List, [], ◌∷◌, ◌++◌, length, get_or, sym, refl, ap, ◌∙◌, subst, arith}
+use Rattle.std.proofs.Common.{◌≡◌, ◌≢◌, ℕ, ◌+◌, ◌-◌, ◌<◌, ◌≤◌, inl, inr, Bool, true, false, not, if◌then◌else◌, List, [], ◌++◌, get_or, sym, refl, ap, ◌∙◌, subst, arith}
 use Rattle.std.specs.Prelude.{◌&&◌, Some, None, Option, is_none, flat_map, nat_le, nat_lt, Ok, Err}
 use Rattle.std.specs.List.{range_with_len}
 use Rattle.std.proofs.lemmas.Bool.{cases_lt, eq-eqb, ne_eqb, lt-ltb, le-ltb, lt-leb, le-leb}
 use Rattle.std.proofs.lemmas.List.{append-nil}
 use Rattle.std.proofs.Math.Nat.{mod-lt}
-use mathlib.Core.Option.{some}
-use lib.ListN.{get_elem?}
 use Rattle.dr_cells.specs.declared.token.Token.{Token}
 use Rattle.dr_cells.specs.Hold.{whole, held}
 use Rattle.dr_cells.specs.Tokens.{token_at}
@@ -23,15 +21,12 @@ use Rattle.dr_runs.proofs.Elements.{there, at_below, value_at}
 use Rattle.dr_runs.proofs.Lists.{map_there}
 use Rattle.dr_plain_senders.specs.Meaning.Shape.{Shape}
 use Rattle.dr_plain_senders.specs.Meaning.Words.{claimed_in, mark_word, cell_of}
-use Rattle.dr_plain_senders.specs.Meaning.Records.{Owns, is_published, mark_found, has_published, events_of}
+use Rattle.dr_plain_senders.specs.Meaning.Records.{mark_found, has_published, events_of}
 use Rattle.dr_plain_senders.specs.declared.owned.Owned.{Owned}
-use Rattle.dr_plain_senders.specs.declared.record.Lent.{Lent}
-use Rattle.dr_plain_senders.specs.declared.record.Stage.{Stage}
 use Rattle.dr_plain_senders.specs.declared.record.SenderRecord.{SenderRecord}
-use Rattle.dr_plain_senders.specs.declared.record.Step.{Step}
 use Rattle.dr_plain_senders.specs.Calls.Ends.{SenderStand, SenderEnd, Stays, HasLoaded}
-use Rattle.dr_plain_senders.specs.Calls.Writing.{Sight, Has, Found, Never, Unasked, IsSight, Holds, marks_of, sight_tests}
-use Rattle.dr_plain_senders.specs.Calls.Publishing.{is_between, LosesCells, Reach, Inside, Outside, Looked, IsReach, reach_looks, reach_unclaimed, IsReady, IsWritten, PublishLooks, stretch_tests, tests_of_publication, publications, PublishCall}
+use Rattle.dr_plain_senders.specs.Calls.Writing.{Sight, Has, Found, Unasked, IsSight, Holds, marks_of, sight_tests}
+use Rattle.dr_plain_senders.specs.Calls.Publishing.{is_between, LosesCells, Reach, Inside, Outside, Looked, IsReach, reach_looks, reach_unclaimed, IsReady, PublishLooks, stretch_tests, tests_of_publication, publications, PublishCall}
 use Rattle.dr_plain_senders.specs.Inside.Fits.{SenderFits, is_open, is_ready, cells_of, written_in, writes_of}
 use Rattle.dr_plain_senders.specs.Inside.Publishing.{HasPublishedAll, Reaches}
 use Rattle.dr_plain_senders.specs.Inside.Refusing.{RefusesBy}
@@ -40,7 +35,7 @@ use Rattle.dr_plain_senders.proofs.Fitting.{owns_same}
 use Rattle.dr_plain_senders.proofs.Granting.{first_of, second_of, unhidden, unready}
 use Rattle.dr_plain_senders.proofs.Publications.{all_left}
 use Rattle.dr_plain_senders.proofs.Stations.{begins_same, begins_on}
-use Rattle.dr_plain_senders.proofs.Written.{holds, lies_at, some_of}
+use Rattle.dr_plain_senders.proofs.Written.{holds, some_of}
 
 -- a refused call that looked at nothing
 looked_nowhere : {T : Type 0} (r : SenderRecord T) → r ≡ record r { marks = r.marks ++ []; looks = r.looks ++ [] }

@@ -1,4 +1,4 @@
-use Rattle.std.proofs.Common.{◌≡◌, ◌≤◌, length}
+use Rattle.std.proofs.Common.{◌≡◌}
 use Rattle.dr_plain_senders.proofs.Dealing.{Dealt}
 use Rattle.dr_plain_senders.proofs.dealt.deal.Given as goal
 

@@ -1,5 +1,4 @@
-use Rattle.std.proofs.Common.{◌≡◌, ◌+◌, ◌<◌, Bool, ℕ, List, length, arith, sym, ap, ◌∙◌, subst, Ok, Err}
-use Rattle.dr_meaning.specs.declared.refusal.Refusal.{Refusal}
+use Rattle.std.proofs.Common.{◌+◌, ◌<◌, Bool, ℕ, List, arith, sym, ap, ◌∙◌, subst, Ok, Err}
 use Rattle.dr_meaning.specs.declared.refusal.Refusal.TheVariants.{NotClaimed, AlreadyPublished, NotWritten}
 use Rattle.dr_seq.proofs.Sizes.{size_positive}
 use Rattle.dr_plain_senders.specs.Meaning.Shape.{Shape}
@@ -8,7 +7,7 @@ use Rattle.dr_cells.specs.declared.token.Token.{Token}
 use Rattle.dr_plain_senders.specs.declared.owned.Owned.{Owned}
 use Rattle.dr_plain_senders.specs.Calls.Ends.{SenderStand, SenderEnd}
 use Rattle.dr_plain_senders.specs.Calls.Publishing.{PublishCall}
-use Rattle.dr_plain_senders.specs.Inside.Fits.{SenderFits, is_ready}
+use Rattle.dr_plain_senders.specs.Inside.Fits.{SenderFits}
 use Rattle.dr_plain_senders.specs.Inside.Views.{sender_end}
 use Rattle.dr_plain_senders.proofs.Fitting.{fits_same}
 use Rattle.dr_plain_senders.proofs.PublishReplies.{Reached, reached, publish_bad, publish_never, publish_unclaimed, publish_foreign, publish_late, publish_unwritten, publish_done, from_here, stood, mine_ready}
