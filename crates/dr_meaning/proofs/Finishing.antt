@@ -1,7 +1,7 @@
 -- From every state that a transcript leads to, a finish can be reached.
-use Rattle.std.proofs.Common.{◌≡◌, ℕ, zero, suc, ◌+◌, ◌-◌, ◌<◌, ◌≤◌, inl, inr, min, Bool, false, [], ◌∷◌, ◌++◌, arith}
+use Rattle.std.proofs.Common.{◌≡◌, ℕ, zero, suc, ◌+◌, ◌-◌, ◌==◌, ◌<◌, ◌≤◌, inl, inr, min, Bool, false, Option, Some, unwrap_or, [], ◌∷◌, ◌++◌, arith}
 use Rattle.std.proofs.Common.{refl, ap, sym, ◌∙◌, subst, length, slice_index}
-use Rattle.std.proofs.lemmas.Bool.{cond-true, cases_lt, cases_Bool, false≢true, lt-leb, lt-ltb, le-ltb, le-leb, ne_eqb, and_from, or_left, or_right}
+use Rattle.std.proofs.lemmas.Bool.{cond-true, cond-false, cases_lt, cases_eq, cases_Bool, false≢true, lt-leb, lt-ltb, le-ltb, le-leb, eq-eqb, ne_eqb, and_from, or_left, or_right}
 use Rattle.std.proofs.lemmas.List.{get_or-set_same}
 use Rattle.dr_meaning.specs.declared.command.Command.{Command}
 use Rattle.dr_meaning.specs.declared.command.Command.TheVariants.{Poll, Complete}
@@ -16,7 +16,7 @@ use Rattle.dr_meaning.proofs.Keeps.{step_sound}
 use Rattle.dr_meaning.proofs.FiveLaws.{reached, leads_append, accepted_rises}
 use Rattle.dr_meaning.proofs.Progress.{IsTended, tended_along, opening_tended, goes, offered_all, write_front, publish_front, with_front, writes, publishes}
 
--- commands that lead from one state to another, and claim, halt and retire nothing
+-- commands that lead from one state to another, claim, halt and retire nothing, and leave each event that is written
 record Advances {E : Type 0} (c : Setup) (m n : State E) : Type 0 where
   rest : Transcript E
   leads : LeadsFrom c m rest n
@@ -24,10 +24,11 @@ record Advances {E : Type 0} (c : Setup) (m n : State E) : Type 0 where
   owners : n.owners ≡ m.owners
   halted : n.halted ≡ m.halted
   retired : n.retired ≡ m.retired
+  written : (s : ℕ) (event : E) → m.written s ≡ Some event → n.written s ≡ Some event
   completed : (h : ℕ) → slice_index m.completed h ≤ slice_index n.completed h
 
 stays : {E : Type 0} (c : Setup) (m : State E) → Advances c m m
-stays c m = record { rest = []; leads = refl; front = omega arith; owners = refl; halted = refl; retired = refl; completed = λ h. omega arith }
+stays c m = record { rest = []; leads = refl; front = omega arith; owners = refl; halted = refl; retired = refl; written = λ s event is. is; completed = λ h. omega arith }
 
 joins : {E : Type 0} (c : Setup) (m n o : State E) → Advances c m n → Advances c n o → Advances c m o
 joins c m n o first then = record {
@@ -37,6 +38,7 @@ joins c m n o first then = record {
   owners = then.owners ∙ first.owners;
   halted = then.halted ∙ first.halted;
   retired = then.retired ∙ first.retired;
+  written = λ s event is. then.written s event (first.written s event is);
   completed = λ h. (let a : slice_index m.completed h ≤ slice_index n.completed h = first.completed h in
       let b : slice_index n.completed h ≤ slice_index o.completed h = then.completed h in
       omega arith);
@@ -60,8 +62,11 @@ sound_along c (e ∷ es) m n sound leads = sound_along c es (step c m e.command)
 fit_on : {E : Type 0} (c : Setup) (m n : State E) → Advances c m n → IsFit c m → IsFit c n
 fit_on c m n on fit = record { sound = sound_along c on.rest m n fit.sound on.leads; tended = tended_along c on.rest m n fit.tended on.leads }
 
--- the front is published by its producer
-module _ {E : Type 0} (c : Setup) (m : State E) (fit : IsFit c m) (more : front m < next m) (event : E) where
+-- the front is published by its producer, with its own event where one is written
+module _ {E : Type 0} (c : Setup) (m : State E) (fit : IsFit c m) (more : front m < next m) (other : E) where
+  abbrev event : E
+  event = unwrap_or (m.written (front m)) other
+
   abbrev told : State E
   told = (accepted c (with_front c m event) (publish_front m)).state
 
@@ -79,6 +84,13 @@ module _ {E : Type 0} (c : Setup) (m : State E) (fit : IsFit c m) (more : front 
             ])))
       ]
 
+  keeps_written : (s : ℕ) (x : E) → m.written s ≡ Some x → told.written s ≡ Some x
+  keeps_written s x is =
+      elim (cases_eq s (front m)) [
+        | inl here ↦ cond-true (s == front m) (Some event) (m.written s) (eq-eqb s (front m) here) ∙ ap (λ (o : Option E). Some (unwrap_or o other)) (sym (ap m.written here) ∙ is)
+        | inr unequal ↦ cond-false (s == front m) (Some event) (m.written s) (ne_eqb s (front m) unequal) ∙ is
+      ]
+
   front_on : Advances c m told
   front_on = record {
     rest = entry_of (write_front m event) (accepted c m (write_front m event)) ∷ entry_of (publish_front m) (accepted c (with_front c m event) (publish_front m)) ∷ [];
@@ -90,6 +102,7 @@ module _ {E : Type 0} (c : Setup) (m : State E) (fit : IsFit c m) (more : front 
     owners = refl;
     halted = refl;
     retired = refl;
+    written = keeps_written;
     completed = λ h. omega arith;
   }
 
@@ -138,6 +151,7 @@ module _ {E : Type 0} (c : Setup) (m : State E) (fit : IsFit c m) (h : ℕ) (ins
                 owners = refl;
                 halted = refl;
                 retired = refl;
+                written = λ s event is. is;
                 completed = λ k. omega arith;
               };
               all = get_or-set_same m.taken h _ 0 len ∙ whole;
@@ -163,6 +177,7 @@ module _ {E : Type 0} (c : Setup) (m : State E) (fit : IsFit c m) (h : ℕ) (ins
     owners = refl;
     halted = refl;
     retired = refl;
+    written = λ s event is. is;
     completed = λ k. accepted_rises c m (Complete h (slice_index m.taken h)) k fit.sound allowed;
   }
 
@@ -249,6 +264,7 @@ can_finish event c t m layered leads =
       owners = on.owners;
       halted = on.halted;
       retired = on.retired;
+      written = on.written;
       published = omega arith;
       completed = λ h inside left.
           let left_p : published.end.retired h ≡ false = ap (λ (r : ℕ → Bool). r h) (sym done.on.retired) ∙ left in

@@ -52,7 +52,7 @@ pub fn nobody_is_stuck<E>()
 {}
 
 /// From each state that a transcript leads to, some commands lead on to one in which all that was
-/// claimed is published and completed. What is not yet written needs an event to write.
+/// claimed is published and completed. What is written stays; the rest needs an event to write.
 pub fn every_state_can_finish<E>()
     ensures { (event : E) (c : Setup) (t : Transcript E) (m : State E) → IsLayered c.upstreams → LeadsTo c t m → CanFinish c m }
 {}

@@ -1,6 +1,6 @@
 -- Nobody is stuck: whoever waits, waits for a producer or a handler that can go on at once.
 -- That it does go on is not said.
-use Rattle.std.specs.Prelude.{◌≡◌, ◌⊎◌, ℕ, ◌+◌, ◌-◌, ◌<◌, ◌≤◌, Bool, true, false, List, [], ◌∷◌, sum_by, slice_index}
+use Rattle.std.specs.Prelude.{◌≡◌, ◌⊎◌, ℕ, ◌+◌, ◌-◌, ◌<◌, ◌≤◌, Bool, true, false, Some, List, [], ◌∷◌, sum_by, slice_index}
 use Rattle.std.specs.List.{range_with_len}
 use Rattle.dr_meaning.specs.declared.command.Command.{Command}
 use Rattle.dr_meaning.specs.declared.command.Command.TheVariants.{Claim, Write, Publish, Poll, Complete}
@@ -60,7 +60,8 @@ GoOn c m (command ∷ commands) = IsStepOn c m command × GoOn c (after c m comm
 abbrev pub to_do : {E : Type 0} → Setup → State E → ℕ
 to_do c m = sum_by (λ h. (front m - slice_index m.taken h) + (front m - slice_index m.completed h)) (range_with_len 0 (handlers c))
 
--- some commands lead to a state in which all that was claimed is published, and completed by each handler that is not retired; they claim, halt and retire nothing
+-- some commands lead to a state in which all that was claimed is published, and completed by each handler that is not retired;
+-- they claim, halt and retire nothing, and an event that is written stays
 pub record CanFinish {E : Type 0} (c : Setup) (m : State E) : Type 0 where
   pub rest : Transcript E
   pub end : State E
@@ -68,5 +69,6 @@ pub record CanFinish {E : Type 0} (c : Setup) (m : State E) : Type 0 where
   pub owners : end.owners ≡ m.owners
   pub halted : end.halted ≡ m.halted
   pub retired : end.retired ≡ m.retired
+  pub written : (s : ℕ) (event : E) → m.written s ≡ Some event → end.written s ≡ Some event
   pub published : front end ≡ next end
   pub completed : (h : ℕ) → h < handlers c → end.retired h ≡ false → slice_index end.completed h ≡ next end
