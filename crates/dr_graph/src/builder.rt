@@ -1,9 +1,9 @@
 //! Declaring handlers by name, in groups, with the edges between them.
 
-ghost use Rattle.std.specs.Prelude.{◌≡◌, ◌⊎◌, ◌↔◌, ◌++◌, None, Some, [], ◌∷◌, length, IfOk, IfErr, IfSome, OnErr, OnOk, IsOk, IsErrOf};
+ghost use Rattle.std.specs.Prelude.{◌≡◌, ◌⊎◌, ◌↔◌, ◌++◌, false, None, Some, [], ◌∷◌, length, IfOk, IfErr, IfSome, OnErr, OnOk, IsOk, IsErrOf};
 ghost use Rattle.std.specs.Option.{option_or};
-ghost use Rattle.dr_graph.specs.Meaning.Name.{given, new_names};
-ghost use Rattle.dr_graph.specs.Meaning.Order.{HasCycle};
+ghost use Rattle.dr_graph.specs.Meaning.Name.{given, index_of, new_names};
+ghost use Rattle.dr_graph.specs.Meaning.Order.{HasCycle, is_upstream as is_upstream_of};
 ghost use Rattle.dr_graph.specs.Meaning.Declaration.{declaring_fault, stranger_fault, following_fault, grouping_fault, followed_by, connected, IsDeclaration};
 ghost use Rattle.dr_graph.specs.Meaning.Graph.{IsGraph, IsGraphOf};
 
@@ -118,12 +118,14 @@ impl GraphBuilder {
         Ok(Group::joined(self.alloc, first, second)?)
     }
 
-    /// Puts one declared handler before another. An edge from a handler to itself is accepted, and is a cycle.
+    /// Puts one declared handler before another. An edge from a handler to itself is accepted, and is a cycle. An edge
+    /// that is there takes no memory.
     pub fn edge(&mut self, up: &str, down: &str) -> Result<(), GraphFault>
         ensures connected { OnOk result (self.new ≡ connected self.old up.now down.now) }
         ensures accepted { IsOk result → stranger_fault self.old.names (up.now ∷ down.now ∷ []) ≡ None }
         ensures refused { IfSome (stranger_fault self.old.names (up.now ∷ down.now ∷ [])) (λ fault. result ≡ Err fault) }
         ensures cause { IfErr result (λ fault. (fault ≡ GraphFault.NoMemory) ⊎ (stranger_fault self.old.names (up.now ∷ down.now ∷ []) ≡ Some fault)) }
+        ensures memory { IsErrOf result GraphFault.NoMemory → is_upstream_of self.old.edges (index_of self.old.names up.now) (index_of self.old.names down.now) ≡ false }
         ensures unchanged { OnErr result (self.new ≡ self.old) }
     {
         check_declared(&self.names, &[up, down])?;
