@@ -1,7 +1,7 @@
 //! A core with the history of the calls that it kept.
 
-ghost use Rattle.std.specs.Prelude.{◌≡◌, ◌+◌, ◌<◌, ◌≤◌, ◌↔◌, ◌^◌, ◌⊎◌, ◌++◌, [], Err, true, false, drop, length, take, IfOk, OnErr, slice_index, if◌then◌else◌};
-ghost use Rattle.dr_core.specs.Calls.CoreView.{retired_in};
+ghost use Rattle.std.specs.Prelude.{◌≡◌, ◌+◌, ◌<◌, ◌≤◌, ◌↔◌, ◌^◌, ◌⊎◌, ◌++◌, [], Err, Ok, true, false, drop, length, take, IfOk, OnErr, slice_index, if◌then◌else◌};
+ghost use Rattle.dr_core.specs.Calls.CoreView.{opened, retired_in};
 ghost use Rattle.dr_meaning.specs.Meaning.Machine.{State, handlers, opening, producers as producers_of, setup_of, step};
 ghost use Rattle.dr_meaning.specs.Calls.OpenFault.{has_bad_producers, is_bad_limit};
 ghost use Rattle.dr_meaning.specs.Meaning.Progress.{NobodyIsStuck};
@@ -13,7 +13,9 @@ ghost use Rattle.dr_lock.specs.Calls.Lock.{IsAnswer};
 use crate::entry::{Entry, is_kept};
 use dr_core::{Core, every_step_leads_on};
 use dr_graph::Graph;
-use dr_meaning::{Command, Mode, OpenFault, Reply, every_transcript_is_lawful, nobody_is_stuck};
+use dr_meaning::{
+    Command, Mode, OpenFault, Refusal, Reply, every_transcript_is_lawful, nobody_is_stuck,
+};
 use dr_seq::Size;
 use std::alloc::{AllocError, Global};
 use std::marker::Model;
@@ -55,6 +57,7 @@ impl<E: Copy> Recorded<E> {
         ensures setup { IfOk result (λ recorded. recorded.history.core.setup ≡ setup_of graph.upstreams size mode limit) }
         ensures names { IfOk result (λ recorded. recorded.history.core.names ≡ graph.names) }
         ensures opening { IfOk result (λ recorded. Shows recorded.history.core (opening (setup_of graph.upstreams size mode limit))) }
+        ensures seen { IfOk result (λ recorded. recorded.history.core ≡ opened (setup_of graph.upstreams size mode limit) graph.names) }
         ensures empty { IfOk result (λ recorded. (recorded.history.entries ≡ []) × (recorded.history.values ≡ [])) }
         ensures room { IfOk result (λ recorded. (recorded.entry_room ≡ entries) × (recorded.value_room ≡ events)) }
         ensures bad_producers { (result ≡ Err OpenFault.BadProducers) ↔ (has_bad_producers mode ≡ true) }
@@ -141,6 +144,7 @@ impl<E: Copy> Recorded<E> {
         ensures entries { IfOk result (λ reply. self.new.history.entries ≡ entries_after self.old.history.entries (record { command = command; reply = reply })) }
         ensures values { IfOk result (λ reply. self.new.history.values ≡ self.old.history.values ++ take (count_in reply) out.new) }
         ensures rest { IfOk result (λ reply. drop (count_in reply) out.new ≡ drop (count_in reply) out.old) }
+        ensures refused { (refusal : Refusal) → result ≡ Ok (Reply.Refused refusal) → self.new.history ≡ self.old.history }
         ensures unchanged { OnErr result ((self.new.history ≡ self.old.history) × (out.new ≡ out.old)) }
         ensures memory { OnErr result ((m : State E) → Shows self.old.history.core m → (self.old.entry_room < length self.old.history.entries + 1) ⊎ (self.old.value_room < length self.old.history.values + length (step self.old.history.core.setup m command).values)) }
         ensures counted { length self.new.history.entries < 2 ^ 64 }
