@@ -16,7 +16,7 @@ use Rattle.dr_graph.proofs.Gating.{any_here, final_left, least_above, least_abov
 use Rattle.dr_meaning.specs.Meaning.Machine.{Setup, State, Outcome, handlers, producers, is_single, next, front, available, offered, cursor, gate, gating, publish_faults}
 use Rattle.dr_meaning.specs.Meaning.Machine.{refusals, accepted, step, opening}
 use Rattle.dr_meaning.specs.Meaning.Transcript.{Transcript, LeadsFrom, LeadsTo}
-use Rattle.dr_meaning.specs.Meaning.Progress.{reply_to, MayTake, MayComplete, HandlersGoOn, MayPublish, NobodyIsStuck}
+use Rattle.dr_meaning.specs.Meaning.Progress.{reply_to, MayTake, MayComplete, AwaitedGoesOn, ClaimAwaits, MayPublish, NobodyIsStuck}
 use Rattle.dr_meaning.proofs.Leasts.{least_is}
 use Rattle.dr_meaning.proofs.Steps.{NoneHold, NoneHold-stretch, NoneHold-join, unless-none, unless-cases}
 use Rattle.dr_meaning.proofs.Sound.{IsSound, offered-le}
@@ -101,6 +101,19 @@ each_of : (P : ℕ → Type 0) (x : ℕ) (xs : List ℕ) → P x → ((h : ℕ) 
 each_of P x xs here rest h zero lt at = subst P at here
 each_of P x xs here rest h (suc i) lt at = rest h (i, omega arith, at)
 
+-- each of some handlers has a property, or something else is so
+all_or : (P : ℕ → Type 0) (Q : Type 0) (hs : List ℕ) → ((h : ℕ) → Contains hs h → P h ⊎ Q) → ((h : ℕ) → Contains hs h → P h) ⊎ Q
+all_or P Q [] each = inl (λ h has. absurd (let l : has.0 < 0 = has.1 in omega arith))
+all_or P Q (x ∷ xs) each =
+    elim (each x (0, omega arith, refl)) [
+      | inr other ↦ inr other
+      | inl here ↦
+          elim (all_or P Q xs (λ h has. each h (suc has.0, (let l : has.0 < length xs = has.1 in omega arith), has.2))) [
+            | inr other ↦ inr other
+            | inl rest ↦ inl (λ h has. each_of P x xs here rest h has.0 has.1 has.2)
+          ]
+    ]
+
 and-false : (b : Bool) → (b && false) ≡ false
 and-false true = refl
 and-false false = refl
@@ -125,18 +138,9 @@ module _ {E : Type 0} (c : Setup) (m : State E) (sound : IsSound c m) (tended : 
         (lt-leb _ _ inside, (left, (le-ltb _ _ (let l : slice_index m.completed h ≤ slice_index m.taken h = omega arith in l), (le-ltb _ _ (let l : slice_index m.taken h ≤ slice_index m.taken h = omega arith in l), tt)))));
   }
 
-  -- each of some handlers is done, or some handler can go on
-  all_done : (hs : List ℕ) → ((h : ℕ) → Contains hs h → IsDone m h ⊎ HandlersGoOn c m) → ((h : ℕ) → Contains hs h → IsDone m h) ⊎ HandlersGoOn c m
-  all_done [] each = inl (λ h has. absurd (let l : has.0 < 0 = has.1 in omega arith))
-  all_done (x ∷ xs) each =
-      elim (each x (0, omega arith, refl)) [
-        | inr goes ↦ inr goes
-        | inl here ↦
-            elim (all_done xs (λ h has. each h (suc has.0, (let l : has.0 < length xs = has.1 in omega arith), has.2))) [
-              | inr goes ↦ inr goes
-              | inl rest ↦ inl (λ h has. each_of (IsDone m) x xs here rest h has.0 has.1 has.2)
-            ]
-      ]
+  -- one that an upstream waits for, the handler below it waits for too
+  awaited_above : (h u : ℕ) → Contains (upstreams_of c.upstreams h) u → m.retired u ≡ false → AwaitedGoesOn c m u → AwaitedGoesOn c m h
+  awaited_above h u has left above = record { awaited = above.awaited; path = u ∷ above.path; leads = (has, left, above.leads); goes_on = above.goes_on }
 
   -- a handler is offered all before the front where its upstreams are done
   pub offered_all : (us : List ℕ) → ((u : ℕ) → Contains us u → IsDone m u) → front m ≤ offered m us
@@ -144,34 +148,38 @@ module _ {E : Type 0} (c : Setup) (m : State E) (sound : IsSound c m) (tended : 
   offered_all (u ∷ us) done = least_above (λ h. slice_index m.completed h) (front m) u us (λ f has. let d : slice_index m.completed f ≡ front m = done f has in omega arith)
 
   -- so it can go on, or is done too
-  offered_done : (h : ℕ) → h < handlers c → m.retired h ≡ false → front m ≤ available c m h → IsDone m h ⊎ HandlersGoOn c m
+  offered_done : (h : ℕ) → h < handlers c → m.retired h ≡ false → front m ≤ available c m h → IsDone m h ⊎ AwaitedGoesOn c m h
   offered_done h inside left all =
       elim (cases_lt (slice_index m.completed h) (slice_index m.taken h)) [
-        | inl more ↦ inr (h, inr (may_complete h inside left more))
+        | inl more ↦ inr (record { awaited = h; path = []; leads = refl; goes_on = inr (may_complete h inside left more) })
         | inr completed ↦
             elim (cases_lt (slice_index m.taken h) (available c m h)) [
-              | inl more ↦ inr (h, inl (may_take h inside left more))
+              | inl more ↦ inr (record { awaited = h; path = []; leads = refl; goes_on = inl (may_take h inside left more) })
               | inr taken ↦ inl (let t : slice_index m.taken h ≤ front m = sound.in_front h in let k : slice_index m.completed h ≤ slice_index m.taken h = sound.took h in omega arith)
             ]
       ]
 
   module _ (layered : IsLayered c.upstreams) where
     -- upstreams first
-    done_up : (bound h : ℕ) → h < bound → h < handlers c → m.retired h ≡ false → IsDone m h ⊎ HandlersGoOn c m
+    done_up : (bound h : ℕ) → h < bound → h < handlers c → m.retired h ≡ false → IsDone m h ⊎ AwaitedGoesOn c m h
     done_up zero h low inside left = absurd (omega arith)
     done_up (suc bound) h low inside left =
-        elim (all_done (upstreams_of c.upstreams h) (λ u has.
+        elim (all_or (IsDone m) (AwaitedGoesOn c m h) (upstreams_of c.upstreams h) (λ u has.
         let below : u < h = layered h u has in
-        done_up bound u (omega arith) (omega arith) (tended.left h u left has))) [
+        let here : m.retired u ≡ false = tended.left h u left has in
+        elim (done_up bound u (omega arith) (omega arith) here) [
+          | inl is ↦ inl is
+          | inr goes ↦ inr (awaited_above h u has here goes)
+        ])) [
           | inr goes ↦ inr goes
           | inl ups ↦ offered_done h inside left (offered_all (upstreams_of c.upstreams h) ups)
         ]
 
-    done : (h : ℕ) → h < handlers c → m.retired h ≡ false → IsDone m h ⊎ HandlersGoOn c m
+    done : (h : ℕ) → h < handlers c → m.retired h ≡ false → IsDone m h ⊎ AwaitedGoesOn c m h
     done h inside left = done_up (suc h) h (omega arith) inside left
 
     drained : (h max : ℕ) → h < handlers c → m.retired h ≡ false → 0 < max → m.halted ≡ true → front m ≡ next m
-        → (reply_to c m (Poll h max) ≡ Drained) ⊎ HandlersGoOn c m
+        → (reply_to c m (Poll h max) ≡ Drained) ⊎ AwaitedGoesOn c m h
     drained h max inside left some halted all =
         elim (done h inside left) [
           | inr goes ↦ inr goes
@@ -189,27 +197,40 @@ module _ {E : Type 0} (c : Setup) (m : State E) (sound : IsSound c m) (tended : 
         ]
 
     module _ (gates : FinalsGate c.upstreams) (bounds : IsBounded c m) where
-      -- all that is published is completed by those that gate
-      gate_open : (front m ≤ gate c m) ⊎ HandlersGoOn c m
-      gate_open =
-          let one : IsGated c.upstreams m.retired (λ h. 0) bounds.left.0 = gates m.retired (λ h. 0) (λ h u has. omega arith) bounds.left.0 bounds.left.1 bounds.left.2 in
-          elim (all_done (gating c m) (λ f has.
+      -- a handler that gates leaves room for a claim, or waits for one that can go on
+      leaves_room : (n : ℕ) → next m + n ≤ c.size + front m → (f : ℕ) → Contains (gating c m) f → (next m + n ≤ c.size + slice_index m.completed f) ⊎ ClaimAwaits c m n
+      leaves_room n room f has =
           let here : (f < handlers c) × (m.retired f ≡ false) = final_left c.upstreams m.retired f has in
-          done f here.0 here.1)) [
-            | inr goes ↦ inr goes
-            | inl each ↦ inl (least_above_some (λ h. slice_index m.completed h) (front m) one.last (gating c m) one.final (λ f has. let d : slice_index m.completed f ≡ front m = each f has in omega arith))
+          elim (cases_lt (c.size + slice_index m.completed f) (next m + n)) [
+            | inr fits ↦ inl fits
+            | inl behind ↦ elim (done f here.0 here.1) [
+              | inl is ↦ absurd (let d : slice_index m.completed f ≡ front m = is in omega arith)
+              | inr goes ↦ inr (record { last = f; gates = has; behind = behind; goes_on = goes })
+            ]
+          ]
+
+      -- those that gate leave room for a claim, or one of them that does not waits for one that can go on
+      gate_open : (n : ℕ) → next m + n ≤ c.size + front m → (next m + n ≤ c.size + gate c m) ⊎ ClaimAwaits c m n
+      gate_open n room =
+          let one : IsGated c.upstreams m.retired (λ h. 0) bounds.left.0 = gates m.retired (λ h. 0) (λ h u has. omega arith) bounds.left.0 bounds.left.1 bounds.left.2 in
+          elim (all_or (λ f. next m + n ≤ c.size + slice_index m.completed f) (ClaimAwaits c m n) (gating c m) (leaves_room n room)) [
+            | inr waits ↦ inr waits
+            | inl each ↦
+                let least : next m + n - c.size ≤ gate c m =
+                least_above_some (λ h. slice_index m.completed h) (next m + n - c.size) one.last (gating c m) one.final
+                (λ f has. let l : next m + n ≤ c.size + slice_index m.completed f = each f has in omega arith) in
+                inl (omega arith)
           ]
 
       claimed : (p n : ℕ) → p < producers c.mode → 0 < n → m.halted ≡ false → next m + n ≤ c.limit → next m + n ≤ c.size + front m
-          → (reply_to c m (Claim p n) ≡ Claimed (next m) (next m + n - 1)) ⊎ HandlersGoOn c m
+          → (reply_to c m (Claim p n) ≡ Claimed (next m) (next m + n - 1)) ⊎ ClaimAwaits c m n
       claimed p n producer some going limit room =
-          elim gate_open [
-            | inr goes ↦ inr goes
-            | inl open_gate ↦
+          elim (gate_open n room) [
+            | inr waits ↦ inr waits
+            | inl here ↦
                 let positive : n ≢ 0 = (λ e. omega arith) in
                 let low : front m ≤ next m = (least_is m.published (next m)).within in
                 let fits : n ≤ c.size = omega arith in
-                let here : next m + n ≤ c.size + gate c m = omega arith in
                 inl (ap (λ (o : Outcome E). o.reply) (goes (Claim p n) (lt-leb _ _ producer, (or_from _ _ (ne_eqb n 0 positive) (le-ltb _ _ fits), (going, (le-ltb _ _ limit, (le-ltb _ _ here, tt)))))))
           ]
 

@@ -1,12 +1,13 @@
 -- Nobody is stuck: whoever waits, waits for a producer or a handler that can go on at once.
 -- That it does go on is not said.
-use Rattle.std.specs.Prelude.{◌≡◌, ◌⊎◌, ℕ, ◌+◌, ◌-◌, ◌<◌, ◌≤◌, Bool, true, false, Some, List, [], ◌∷◌, sum_by, slice_index}
+use Rattle.std.specs.Prelude.{◌≡◌, ◌⊎◌, ℕ, ◌+◌, ◌-◌, ◌<◌, ◌≤◌, Bool, true, false, Some, List, [], ◌∷◌, sum_by, slice_index, Contains}
 use Rattle.std.specs.List.{range_with_len}
 use Rattle.dr_meaning.specs.declared.command.Command.{Command}
 use Rattle.dr_meaning.specs.declared.command.Command.TheVariants.{Claim, Write, Publish, Poll, Complete}
 use Rattle.dr_meaning.specs.declared.command.Reply.{Reply}
 use Rattle.dr_meaning.specs.declared.command.Reply.TheVariants.{Claimed, Written, Published, Batch, Drained, Completed}
-use Rattle.dr_meaning.specs.Meaning.Machine.{Setup, State, handlers, producers, next, front, step}
+use Rattle.dr_graph.specs.Meaning.Graph.{upstreams_of}
+use Rattle.dr_meaning.specs.Meaning.Machine.{Setup, State, handlers, producers, gating, next, front, step}
 use Rattle.dr_meaning.specs.Meaning.Transcript.{Transcript, LeadsFrom}
 
 abbrev pub reply_to : {E : Type 0} → Setup → State E → Command E → Reply
@@ -24,9 +25,24 @@ pub record MayComplete {E : Type 0} (c : Setup) (m : State E) (h : ℕ) : Type 0
   pub more : slice_index m.completed h < slice_index m.taken h
   pub completes : reply_to c m (Complete h (slice_index m.taken h)) ≡ Completed
 
--- some handler can go on
-abbrev pub HandlersGoOn : {E : Type 0} → Setup → State E → Type 0
-HandlersGoOn c m = (h : ℕ) × (MayTake c m h ⊎ MayComplete c m h)
+-- a path up from a handler to another: each entry is an upstream of the one before it, and is not retired, and the last one is the other
+abbrev pub IsPathUp : {E : Type 0} → Setup → State E → ℕ → List ℕ → ℕ → Type 0
+IsPathUp c m from [] to = from ≡ to
+IsPathUp c m from (up ∷ ups) to = Contains (upstreams_of c.upstreams from) up × (m.retired up ≡ false) × IsPathUp c m up ups to
+
+-- a handler can go on, or one that it waits for: one that a path leads up to
+pub record AwaitedGoesOn {E : Type 0} (c : Setup) (m : State E) (h : ℕ) : Type 0 where
+  pub awaited : ℕ
+  pub path : List ℕ
+  pub leads : IsPathUp c m h path awaited
+  pub goes_on : MayTake c m awaited ⊎ MayComplete c m awaited
+
+-- a claim of n sequences waits for a handler that gates it, and completed too few events to leave room for it; that one can go on, or one that it waits for
+pub record ClaimAwaits {E : Type 0} (c : Setup) (m : State E) (n : ℕ) : Type 0 where
+  pub last : ℕ
+  pub gates : Contains (gating c m) last
+  pub behind : c.size + slice_index m.completed last < next m + n
+  pub goes_on : AwaitedGoesOn c m last
 
 -- a producer can write a sequence, and publish it then
 pub record MayPublish {E : Type 0} (c : Setup) (m : State E) (p s : ℕ) : Type 0 where
@@ -36,14 +52,14 @@ pub record MayPublish {E : Type 0} (c : Setup) (m : State E) (p s : ℕ) : Type 
 pub record NobodyIsStuck {E : Type 0} (c : Setup) (m : State E) : Type 0 where
   -- the first sequence that is not published, where it is claimed, can be published by its producer
   pub publishes : front m < next m → MayPublish c m (slice_index m.owners (front m)) (front m)
-  -- each handler that is not retired completed all events before the front, or handlers can go on
-  pub completes : (h : ℕ) → h < handlers c → m.retired h ≡ false → (slice_index m.completed h ≡ front m) ⊎ HandlersGoOn c m
-  -- a claim of at most a round beyond the front is accepted, or handlers can go on
+  -- each handler that is not retired completed all events before the front, or can go on, or one that it waits for can
+  pub completes : (h : ℕ) → h < handlers c → m.retired h ≡ false → (slice_index m.completed h ≡ front m) ⊎ AwaitedGoesOn c m h
+  -- a claim of at most a round beyond the front is accepted, or one that it waits for can go on
   pub claims : (p n : ℕ) → p < producers c.mode → 0 < n → m.halted ≡ false → next m + n ≤ c.limit → next m + n ≤ c.size + front m
-      → (reply_to c m (Claim p n) ≡ Claimed (next m) (next m + n - 1)) ⊎ HandlersGoOn c m
-  -- after a halt, once all that is claimed is published, a handler that is not retired is told `Drained`, or handlers can go on
+      → (reply_to c m (Claim p n) ≡ Claimed (next m) (next m + n - 1)) ⊎ ClaimAwaits c m n
+  -- after a halt, once all that is claimed is published, a handler that is not retired is told `Drained`, or can go on, or one that it waits for can
   pub drains : (h max : ℕ) → h < handlers c → m.retired h ≡ false → 0 < max → m.halted ≡ true → front m ≡ next m
-      → (reply_to c m (Poll h max) ≡ Drained) ⊎ HandlersGoOn c m
+      → (reply_to c m (Poll h max) ≡ Drained) ⊎ AwaitedGoesOn c m h
 
 -- a handler goes on: it is handed a batch, or completes more than before
 abbrev pub IsStepOn : {E : Type 0} → Setup → State E → Command E → Type 0
