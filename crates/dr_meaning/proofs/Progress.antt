@@ -198,7 +198,8 @@ module _ {E : Type 0} (c : Setup) (m : State E) (sound : IsSound c m) (tended : 
 
     module _ (gates : FinalsGate c.upstreams) (bounds : IsBounded c m) where
       -- a handler that gates leaves room for a claim, or waits for one that can go on
-      leaves_room : (n : ℕ) → next m + n ≤ c.size + front m → (f : ℕ) → Contains (gating c m) f → (next m + n ≤ c.size + slice_index m.completed f) ⊎ ClaimAwaits c m n
+      leaves_room : (n : ℕ) → next m + n ≤ c.size + front m → (f : ℕ) → Contains (gating c m) f
+          → (next m + n ≤ c.size + slice_index m.completed f) ⊎ ClaimAwaits c m n
       leaves_room n room f has =
           let here : (f < handlers c) × (m.retired f ≡ false) = final_left c.upstreams m.retired f has in
           elim (cases_lt (c.size + slice_index m.completed f) (next m + n)) [
