@@ -10,7 +10,7 @@ ghost use Rattle.dr_meaning.specs.Meaning.Transcript.{Transcript, LeadsTo};
 ghost use Rattle.dr_meaning.specs.Meaning.Laws.{Laws};
 ghost use Rattle.dr_meaning.specs.Meaning.Tells.{Tells};
 ghost use Rattle.dr_meaning.specs.Meaning.Progress.{NobodyIsStuck, CanFinish, GoOn, to_do};
-ghost use Rattle.dr_meaning.specs.Meaning.TooFar.{IsTooFar, claim_of, receipt_of, completion_of, halt, drain, written, published, taken, completed, taken_by_both};
+ghost use Rattle.dr_meaning.specs.Meaning.TooFar.{IsTooFar, claim_of, receipt_of, completion_of, halt, drain, retirement, written, published, taken, completed, taken_by_both};
 
 /// Every transcript that leads from the opening to a state of the machine has the five laws, at
 /// each of its beginnings.
@@ -20,8 +20,9 @@ pub fn every_transcript_is_lawful<E>()
 
 /// The laws refuse one step too far: an event that is not the published one, or not published; a
 /// completion that is taken back, or of what was not taken; an event that the upstream took and did
-/// not complete; a claim of a slot whose event the last handler took and did not complete, or after
-/// a halt; and `Drained` before a halt, or before what is published was taken.
+/// not complete; a claim of a slot whose event the last handler took and did not complete, or, once
+/// that one is retired, the first did not take; a claim after a halt; and `Drained` before a halt,
+/// or before what is published was taken.
 pub fn laws_refuse_a_step_too_far()
     ensures other_event { IsTooFar published (receipt_of 0 6) }
     ensures unpublished { IsTooFar written (receipt_of 0 5) }
@@ -29,6 +30,7 @@ pub fn laws_refuse_a_step_too_far()
     ensures untaken { IsTooFar published (completion_of 0 1) }
     ensures before_upstream { IsTooFar taken (receipt_of 1 5) }
     ensures no_room { IsTooFar taken_by_both (claim_of 1) }
+    ensures no_room_after_retirement { IsTooFar (published ++ retirement ∷ []) (claim_of 1) }
     ensures claimed_late { IsTooFar (halt ∷ []) (claim_of 0) }
     ensures drained_before_halt { IsTooFar [] drain }
     ensures drained_early { IsTooFar (published ++ halt ∷ []) drain }

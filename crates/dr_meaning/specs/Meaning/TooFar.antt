@@ -1,8 +1,8 @@
 -- One step too far: an entry after which a transcript of the machine is lawful no more. The events are numbers here.
 use Rattle.std.specs.Prelude.{ℕ, true, [], ◌∷◌, ◌++◌}
 use Rattle.dr_meaning.specs.declared.mode.Mode.TheVariants.{Single}
-use Rattle.dr_meaning.specs.declared.command.Command.TheVariants.{Claim, Write, Publish, Poll, Complete, Halt}
-use Rattle.dr_meaning.specs.declared.command.Reply.TheVariants.{Claimed, Written, Published, Batch, Drained, Completed, Halting}
+use Rattle.dr_meaning.specs.declared.command.Command.TheVariants.{Claim, Write, Publish, Poll, Complete, Halt, Retire}
+use Rattle.dr_meaning.specs.declared.command.Reply.TheVariants.{Claimed, Written, Published, Batch, Drained, Completed, Halting, Retired}
 use Rattle.dr_meaning.specs.Meaning.Machine.{Setup, State, setup_of}
 use Rattle.dr_meaning.specs.Meaning.Transcript.{Entry, Transcript, entry_with, LeadsTo}
 use Rattle.dr_meaning.specs.Meaning.Laws.{Laws}
@@ -23,6 +23,10 @@ completion_of h upto = entry_with (Complete h upto) Completed []
 
 abbrev pub halt : Entry ℕ
 halt = entry_with Halt Halting []
+
+-- the second handler retires, so the first one is final
+abbrev pub retirement : Entry ℕ
+retirement = entry_with (Retire 1) Retired []
 
 -- the first handler is told that the ring drained
 abbrev pub drain : Entry ℕ

@@ -1,6 +1,6 @@
 use Rattle.std.proofs.Common.{arith, ◌≡◌, ◌≤◌, ◌∷◌, ◌++◌, [], refl, false, true, Some, ap, unwrap_or}
 use Rattle.dr_meaning.specs.Meaning.Laws.{IsComplete, ReceivedInOrder, AfterUpstreams}
-use Rattle.dr_meaning.specs.Meaning.TooFar.{pair, claim_of, receipt_of, completion_of, halt, drain, written, published, taken, completed, taken_by_both}
+use Rattle.dr_meaning.specs.Meaning.TooFar.{pair, claim_of, receipt_of, completion_of, halt, drain, retirement, written, published, taken, completed, taken_by_both}
 use Rattle.dr_meaning.proofs.lawful.laws_refuse_a_step_too_far.Goals as goal
 
 pub returns-clause-other_event : goal.returns-clause-other_event
@@ -60,6 +60,15 @@ returns-clause-no_room c = record {
   so_far = (_, (refl, refl, (refl, refl, (refl, refl, (refl, refl, (refl, refl, (refl, refl, refl)))))));
   unlawful = λ laws.
       (let room : 2 ≤ 1 = laws.has_room taken_by_both [] (claim_of 1) refl 1 1 1 refl (0, omega arith, refl) in
+      omega arith);
+}
+
+pub returns-clause-no_room_after_retirement : goal.returns-clause-no_room_after_retirement
+unfolding Rattle.dr_meaning.specs.Meaning.Machine.least_outside
+returns-clause-no_room_after_retirement c = record {
+  so_far = (_, (refl, refl, (refl, refl, (refl, refl, (refl, refl, refl)))));
+  unlawful = λ laws.
+      (let room : 2 ≤ 1 = laws.has_room (published ++ retirement ∷ []) [] (claim_of 1) refl 1 1 0 refl (0, omega arith, refl) in
       omega arith);
 }
 
