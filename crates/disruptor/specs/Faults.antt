@@ -1,7 +1,7 @@
 -- How the program ends early: its line, without its end, and the status.
 use Rattle.std.specs.Prelude.{ℕ, List, [], codes}
 use Rattle.dr_check.specs.Verdict.{check_line, check_status}
-use Rattle.dr_command_line.specs.Plans.{line_status, line_text}
+use Rattle.dr_command_line.specs.Requests.{line_status, line_text}
 use Rattle.dr_replay.specs.Calls.ReplayFaults.{replay_line, replay_status}
 use Rattle.disruptor.specs.declared.Fault.{Fault}
 use Rattle.disruptor.specs.declared.Fault.TheVariants as ended

@@ -13,7 +13,7 @@ use crate::output::{Printed, is_gone, part_of, put_in_place};
 use crate::progress::Progress;
 use crate::watched::{Input, Output};
 use dr_check::{CheckFault, check_drive, check_replay};
-use dr_command_line::{By, LineFault, Plan, Tool, plan};
+use dr_command_line::{By, LineFault, Request, Tool, request};
 use dr_drive::drive;
 use dr_replay::{Counted, FileFault, ReplayFault, replay_lock, replay_plain, replay_ring};
 use dr_seq::Size;
@@ -70,7 +70,7 @@ impl Fault {
     }
 }
 
-fn read_plan(rt: &HostRuntime) -> Result<Plan, LineFault> {
+fn read_request(rt: &HostRuntime) -> Result<Request, LineFault> {
     let words = match env::args(rt) {
         Ok(words) => words,
         Err(error) if error.kind() == io::ErrorKind::OutOfMemory => {
@@ -79,7 +79,7 @@ fn read_plan(rt: &HostRuntime) -> Result<Plan, LineFault> {
         Err(_) => return Err(LineFault::NotUtf8),
     };
     let words: Vec<String> = words.collect(rt.alloc())?;
-    plan(rt.alloc(), words.as_slice())
+    request(rt.alloc(), words.as_slice())
 }
 
 /// What is run over a file.
@@ -248,11 +248,11 @@ fn check_file(rt: &HostRuntime, tool: Tool, file: &str) -> Result<(), Fault> {
 }
 
 fn run<T: Threads + Wait + Sync>(rt: &HostRuntime, workers: &T) -> Result<(), Fault> {
-    let (file, output, task) = match read_plan(rt).map_err(Fault::Line)? {
-        Plan::Help(text) => return print(rt, text),
-        Plan::Check { tool, file } => return check_file(rt, tool, file.as_str()),
-        Plan::Drive { file, output } => (file, output, Task::Drive),
-        Plan::Replay {
+    let (file, output, task) = match read_request(rt).map_err(Fault::Line)? {
+        Request::Help(text) => return print(rt, text),
+        Request::Check { tool, file } => return check_file(rt, tool, file.as_str()),
+        Request::Drive { file, output } => (file, output, Task::Drive),
+        Request::Replay {
             file,
             size,
             by,

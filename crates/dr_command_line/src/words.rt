@@ -1,6 +1,6 @@
 //! The words of a command line, read.
 
-use crate::plans::{By, LineFault, Plan, Tool};
+use crate::requests::{By, LineFault, Request, Tool};
 use clap::error::ErrorKind;
 use clap::{Arg, ArgMatches, Command, Error, value_parser};
 use dr_seq::Size;
@@ -223,10 +223,10 @@ fn usage(alloc: Global, error: &Error) -> Result<String, AllocError> {
     String::from_str(alloc, text.as_str().trim_end())
 }
 
-fn refused(alloc: Global, error: &Error) -> Result<Plan, LineFault> {
+fn refused(alloc: Global, error: &Error) -> Result<Request, LineFault> {
     match error.kind() {
         ErrorKind::OutOfMemory => Err(LineFault::Memory),
-        ErrorKind::DisplayHelp | ErrorKind::DisplayVersion => Ok(Plan::Help(error.to_string(
+        ErrorKind::DisplayHelp | ErrorKind::DisplayVersion => Ok(Request::Help(error.to_string(
             alloc,
         )?)),
         _ => Err(LineFault::Usage(usage(alloc, error)?)),
@@ -249,7 +249,7 @@ fn output_of(alloc: Global, matches: &ArgMatches<'_>) -> Result<Option<String>, 
     }
 }
 
-fn replay_plan(alloc: Global, matches: &ArgMatches<'_>) -> Result<Plan, LineFault> {
+fn replay_request(alloc: Global, matches: &ArgMatches<'_>) -> Result<Request, LineFault> {
     let slots: Option<u64> = matches.get_one("size");
     let Ok(size) = Size::new(slots.unwrap_or(USUAL_SIZE)) else {
         return Err(LineFault::BadSize);
@@ -261,7 +261,7 @@ fn replay_plan(alloc: Global, matches: &ArgMatches<'_>) -> Result<Plan, LineFaul
         _ => By::Plain,
     };
     let output = output_of(alloc, matches)?;
-    Ok(Plan::Replay {
+    Ok(Request::Replay {
         file,
         size,
         by,
@@ -269,30 +269,30 @@ fn replay_plan(alloc: Global, matches: &ArgMatches<'_>) -> Result<Plan, LineFaul
     })
 }
 
-fn check_plan(alloc: Global, matches: &ArgMatches<'_>) -> Result<Plan, AllocError> {
+fn check_request(alloc: Global, matches: &ArgMatches<'_>) -> Result<Request, AllocError> {
     let tool = match matches.get_str("tool") {
         Some("replay") => Tool::Replay,
         _ => Tool::Drive,
     };
     let file = file_of(alloc, matches)?;
-    Ok(Plan::Check { tool, file })
+    Ok(Request::Check { tool, file })
 }
 
 /// Reads a command line, of which the first word is the program's own name.
-pub fn plan(alloc: Global, words: &[String]) -> Result<Plan, LineFault> {
+pub fn request(alloc: Global, words: &[String]) -> Result<Request, LineFault> {
     let matches = match command(alloc)?.try_get_matches_from(words) {
         Ok(matches) => matches,
         Err(error) => return refused(alloc, &error),
     };
     if let Some(matches) = matches.subcommand_matches("replay") {
-        return replay_plan(alloc, matches);
+        return replay_request(alloc, matches);
     }
     if let Some(matches) = matches.subcommand_matches("check") {
-        return Ok(check_plan(alloc, matches)?);
+        return Ok(check_request(alloc, matches)?);
     }
     let (file, output) = match matches.subcommand_matches("drive") {
         Some(matches) => (file_of(alloc, matches)?, output_of(alloc, matches)?),
         None => (String::new(alloc), None),
     };
-    Ok(Plan::Drive { file, output })
+    Ok(Request::Drive { file, output })
 }

@@ -1,8 +1,8 @@
 //! What a command line asks for, or why it is refused.
 
 ghost use Rattle.std.specs.Prelude.{◌≡◌, Some};
-ghost use Rattle.dr_command_line.specs.Plans.{line_status, line_text};
-ghost use Rattle.dr_command_line.specs.declared.plans.LineFault.TheVariants as fault;
+ghost use Rattle.dr_command_line.specs.Requests.{line_status, line_text};
+ghost use Rattle.dr_command_line.specs.declared.requests.LineFault.TheVariants as fault;
 
 use dr_seq::Size;
 use std::alloc::AllocError;
@@ -31,7 +31,7 @@ pub enum Tool {
 
 /// What a command line asks for.
 #[derive(Debug, Drop)]
-pub enum Plan {
+pub enum Request {
     /// Print this text, and nothing else.
     Help(String),
     /// Look whether a file for this tool is at fault.
