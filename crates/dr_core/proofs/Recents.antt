@@ -3,7 +3,7 @@ use Rattle.std.proofs.Common.{◌≡◌, ◌⊎◌, ℕ, ◌+◌, ◌-◌, ◌%�
 use Rattle.std.proofs.Common.{List, arith, refl, ap, sym, ◌∙◌, length, set, None, Some, replicate, max}
 use Rattle.std.specs.Prelude.{◌==◌, ◌||◌, nat_lt}
 use Rattle.std.proofs.Math.Nat.{mod-lt}
-use Rattle.std.proofs.lemmas.Bool.{ne_eqb, cases_Bool, cases_lt, or_left, or_right, or_from, lt-ltb, le-ltb, eq-eqb}
+use Rattle.std.proofs.lemmas.Bool.{cases_Bool, cases_lt, or_left, or_right, or_from, lt-ltb, le-ltb, eq-eqb}
 use Rattle.std.proofs.lemmas.List.{length-set, get_or-set_same, get_or-set_other}
 use Rattle.dr_seq.specs.Rounds.{entry_of, is_marked, IsFront}
 use Rattle.dr_seq.specs.Slots.{event_at}

@@ -1,9 +1,8 @@
 -- Which states of the machine a core shows. It has forgotten what lies further back than its slots.
-use Rattle.std.specs.Prelude.{◌≡◌, ℕ, ◌+◌, ◌^◌, ◌<◌, ◌≤◌, Bool, true, false, Option, None, Some, Result, Ok, List, [], ◌∷◌, map, take, slice_index}
+use Rattle.std.specs.Prelude.{◌≡◌, ℕ, ◌+◌, ◌^◌, ◌<◌, ◌≤◌, Bool, true, false, Option, None, Some, Result, Ok, List, [], ◌∷◌, map, slice_index}
 use Rattle.dr_meaning.specs.declared.command.Command.{Command}
 use Rattle.dr_meaning.specs.declared.refusal.Refusal.{Refusal}
 use Rattle.dr_meaning.specs.declared.command.Reply.{Reply}
-use Rattle.dr_meaning.specs.declared.command.Reply.TheVariants.{Claimed, Batch}
 use Rattle.dr_meaning.specs.declared.command.Polled.{Polled}
 use Rattle.dr_meaning.specs.declared.command.Polled.TheVariants as answer
 use Rattle.dr_graph.specs.Meaning.Graph.{least_of}

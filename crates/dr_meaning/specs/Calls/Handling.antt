@@ -1,6 +1,5 @@
 -- What a handler is shown.
 use Rattle.std.specs.Prelude.{◌≡◌, ℕ, ◌+◌, Bool, false, List, [], ◌∷◌}
-use Rattle.dr_meaning.specs.declared.command.Polled.TheVariants as answer
 
 -- one call of a handler: an event, its sequence, and whether it is the last of a batch that gave all that was available
 pub record Showing (E : Type 0) : Type 0 where

@@ -6,7 +6,6 @@ use Rattle.dr_meaning.specs.declared.command.Reply.TheVariants.{Claimed, Batch, 
 use Rattle.dr_meaning.specs.declared.command.Claimed.{Claimed as Stretch}
 use Rattle.dr_meaning.specs.declared.command.Polled.{Polled}
 use Rattle.dr_meaning.specs.declared.command.Polled.TheVariants as answer
-use Rattle.dr_meaning.specs.Meaning.Machine.{front}
 
 abbrev pub claim_reply : Result Stretch Refusal → Reply
 claim_reply (Ok c) = Claimed c.lo c.hi
