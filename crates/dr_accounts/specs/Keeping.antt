@@ -37,6 +37,6 @@ pub record Keeps {A : Type 0} (goes : Relation Event A) (IsNew : A → Type 0) (
   pub place : receiver_place back.receiver ≡ receiver_place given
   pub told : given.knows.received ≡ [] → IfOk back.part (λ text. back.receiver.knows.told ≡ true)
   pub says : given.knows.received ≡ [] → IfOk back.part (λ text. string_bytes text ≡ part_of back.receiver.knows.received)
-  pub stopped : back.part ≡ Err Stopped → (turn : ℕ) × may_stop turn
+  pub stopped : back.part ≡ Err Stopped → (passage : ℕ) × may_stop passage
   pub refused : given.knows.completed ≤ length given.knows.received → (refusal : Refusal) → back.part ≢ Err (Refused refusal)
   pub served : IsServed goes IsNew failed may_stop must_stop given back.receiver (error_of back.part)

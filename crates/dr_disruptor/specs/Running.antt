@@ -101,7 +101,7 @@ pub record IsSending (k : Shape) (script : List Event) (produced : Produced) : T
   pub given : SenderEnd
   pub back : SenderEnd
   pub fresh : given ≡ new_sender back.ring k
-  pub calls : SomeCalls sender_does given back (worker.Sends (max (k.size / 4) 1) script (λ turn. ⊥) (λ turn. ⊥) produced)
+  pub calls : SomeCalls sender_does given back (worker.Sends (max (k.size / 4) 1) script (λ passage. ⊥) (λ passage. ⊥) produced)
   pub published : back.knows.sent.published ≡ take produced.sent script
   pub complete : back.knows.sent.pending ≡ []
 

@@ -22,7 +22,7 @@ use Rattle.dr_disruptor.specs.declared.served.ServesPromise.{ServesPromise}
 pub record Serving {A : Type 0} (goes : Relation Event A) (start : A) (given : ReceiverEnd) (back : Served A) : Type 0 where
   pub place : receiver_place back.receiver ≡ receiver_place given
   pub calls : SomeCalls receiver_does given back.receiver
-      (worker.Serves 256 goes start back.handler (Some (received_of given.knows)) (Some (received_of back.receiver.knows)) (λ turn. ⊥) (λ turn. ⊥) back.fault)
+      (worker.Serves 256 goes start back.handler (Some (received_of given.knows)) (Some (received_of back.receiver.knows)) (λ passage. ⊥) (λ passage. ⊥) back.fault)
   pub drained : IfNone back.fault (back.receiver.knows.told ≡ true)
   pub done : IfNone back.fault (IsDone (received_of given.knows) (received_of back.receiver.knows))
   pub stopped : back.fault ≢ Some Stopped

@@ -1,4 +1,4 @@
--- No worker that its gate has to stop at its first turn leaves a report of events.
+-- No worker that its gate has to stop at its first passage leaves a report of events.
 use Rattle.std.proofs.Common.{◌≡◌, ◌≢◌, ◌<◌, ℕ, true, false, List, [], ◌∷◌, ◌++◌, length, take, map, flat_map, get_or, All, Vec, Option, None, Result, Ok, Err, IfOk, ⊎_elim, refl, subst, sym, ap, ◌∙◌, arith}
 use Rattle.std.specs.Prelude.{Bool}
 use Rattle.std.proofs.lemmas.Bool.{false≢true}

@@ -58,18 +58,18 @@ module _ (may_stop : ℕ → Type 0) where
       let others : List Ended = record { who = 1; fault = replica } ∷ later in
       more 0 journal others first (more 1 replica later second (more 2 business sent third rest))
 
--- over a ring, each at one of the turns at which its gate may stop it
+-- over a ring, each at one of the passages at which its gate may stop it
 pub run_stopped : (may_stop : ℕ → ℕ → Type 0) {must_stop : ℕ → ℕ → Type 0} {size : ℕ} (events : List Event) (s : SenderEnd) (j r b : ReceiverEnd) (ran : Ran)
-    → IsRun may_stop must_stop size events s j r b ran → AreStopped (λ who. (turn : ℕ) × may_stop who turn) (endings_of ran)
+    → IsRun may_stop must_stop size events s j r b ran → AreStopped (λ who. (passage : ℕ) × may_stop who passage) (endings_of ran)
 run_stopped may_stop events s j r b ran is =
-    let at_some_turn : ℕ → Type 0 = λ who. (turn : ℕ) × may_stop who turn in
+    let at_some_passage : ℕ → Type 0 = λ who. (passage : ℕ) × may_stop who passage in
     let sender : List Ended = record { who = 16; fault = ran.produced.fault } ∷ [] in
     let later : List Ended = record { who = 2; fault = error_of ran.business.part } ∷ sender in
     let others : List Ended = record { who = 1; fault = error_of ran.replica.part } ∷ later in
-    more at_some_turn 0 (error_of ran.journal.part) others (λ e. is.journal.stopped (ended_with ran.journal.part Stopped e))
-    (more at_some_turn 1 (error_of ran.replica.part) later (λ e. is.replica.stopped (ended_with ran.replica.part Stopped e))
-    (more at_some_turn 2 (error_of ran.business.part) sender (λ e. is.business.stopped (ended_with ran.business.part Stopped e))
-    (more at_some_turn 16 ran.produced.fault [] is.sending.stopped (All-nil (λ (e : Ended). e.fault ≡ Some Stopped → at_some_turn e.who)))))
+    more at_some_passage 0 (error_of ran.journal.part) others (λ e. is.journal.stopped (ended_with ran.journal.part Stopped e))
+    (more at_some_passage 1 (error_of ran.replica.part) later (λ e. is.replica.stopped (ended_with ran.replica.part Stopped e))
+    (more at_some_passage 2 (error_of ran.business.part) sender (λ e. is.business.stopped (ended_with ran.business.part Stopped e))
+    (more at_some_passage 16 ran.produced.fault [] is.sending.stopped (All-nil (λ (e : Ended). e.fault ≡ Some Stopped → at_some_passage e.who)))))
 
 -- and over a new ring that nobody else halted none was refused a call
 pub run_served : {may_stop must_stop : ℕ → ℕ → Type 0} {size : ℕ} (k : Shape) (events : List Event) (s : SenderEnd) (j r b : ReceiverEnd) (ran : Ran)
@@ -92,11 +92,11 @@ run_served {size = size} k events s j r b ran is fresh slots limit short first s
 -- so behind a lock
 pub joined_stopped : {L Z : Type 0} (begun : History Event) (may_stop must_stop : ℕ → ℕ → Type 0) (size : ℕ) (scripts : List (Vec Event Z)) (joined : Joined L)
     → IsJoined begun may_stop must_stop size scripts joined
-    → AreStopped (λ who. (turn : ℕ) × may_stop who turn)
+    → AreStopped (λ who. (passage : ℕ) × may_stop who passage)
     (lock_endings (error_of joined.journal.part) (error_of joined.replica.part) (error_of joined.business.part) (map (λ s. s.fault) joined.producers.items))
 joined_stopped begun may_stop must_stop size scripts joined is =
-    let at_some_turn : ℕ → Type 0 = λ who. (turn : ℕ) × may_stop who turn in
-    lock_stopped at_some_turn (error_of joined.journal.part) (error_of joined.replica.part) (error_of joined.business.part) (map (λ s. s.fault) joined.producers.items)
+    let at_some_passage : ℕ → Type 0 = λ who. (passage : ℕ) × may_stop who passage in
+    lock_stopped at_some_passage (error_of joined.journal.part) (error_of joined.replica.part) (error_of joined.business.part) (map (λ s. s.fault) joined.producers.items)
     is.journal.stopped is.replica.stopped is.business.stopped
-    (numbered_stopped at_some_turn (λ s. s.fault) 16 joined.producers.items
+    (numbered_stopped at_some_passage (λ s. s.fault) 16 joined.producers.items
     (λ k d below. (is.producers.each k d (some_of scripts k (subst (λ n. k < n) is.producers.many below)) below).stopped))

@@ -299,7 +299,7 @@ pub fn replay_lock<S: Threads + Wait + Sync, R: Read, W: Write, G: Gate + Sync>(
     ensures first { IfErr result (IsFirstOfLock (MayStop G.may_stop gate.now) size) }
     // A worker is named only where it was stopped: none is refused a call.
     ensures refused { IfErr result IsNoRefusal }
-    // A gate that has to stop a producer at its first turn, where that has an event, leaves no report.
+    // A gate that has to stop a producer at its first passage, where that has an event, leaves no report.
     ensures stops { IfSome (R.remaining (inner_of reader.old)) (λ input. IfOk result (λ _. IfOk (events_in input) (NoProducerHadToStop (G.must_stop gate.now)))) }
     // The file's events went through a new exchange of this size by workers that passed this gate. What is written, also before a failed write,
     // is the report of its history, where none of them had a fault; and a worker's fault is the first of theirs.

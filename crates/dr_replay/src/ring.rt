@@ -320,7 +320,7 @@ pub fn replay_ring<S: Threads + Wait + Sync, R: Read, W: Write, G: Gate + Sync>(
     ensures unwritten { IfErr result (λ e. ReplayFaultKeeps e (W.contents (inner_of writer.old)) (W.contents (inner_of writer.new))) }
     // Where workers have faults, the least worker's is answered, which its gate stopped: none is refused a call.
     ensures first { IfErr result (IsFirstOfSome (MayStop G.may_stop gate.now) ring_workers) }
-    // A gate that has to stop a worker at its first turn, where there is an event, leaves no report.
+    // A gate that has to stop a worker at its first passage, where there is an event, leaves no report.
     ensures stops { IfSome (R.remaining (inner_of reader.old)) (λ input. IfOk result (λ _. IfOk (events_in input) (NoneHadToStop (G.must_stop gate.now)))) }
     // The file's events went through a new ring of this size by workers that passed this gate, and a worker's fault is the first of such workers'.
     ensures ran { IfSome (R.remaining (inner_of reader.old)) (λ input. IfOk (events_in input) (CameOf (G.may_stop gate.now) (G.must_stop gate.now) size result)) }

@@ -13,7 +13,7 @@ use Rattle.dr_meaning.specs.declared.refusal.Refusal.TheVariants.{NoRoom}
 use Rattle.dr_meaning.specs.Calls.Calling.{InletCall, TriesClaim, PublishesStretch, SomeCalls, each_written}
 use Rattle.dr_meaning.proofs.Calling.{lead_more}
 use Rattle.dr_workers.specs.declared.producer.Produced.{Produced}
-use Rattle.dr_workers.specs.declared.turns.Turns.{Turns}
+use Rattle.dr_workers.specs.declared.passages.Passages.{Passages}
 use Rattle.dr_workers.specs.Calls.Serving.{ClaimFails, EndsIn, GivesUp, InOrder, IsNextStep, IsOpen, IsRefusal, PartFails, ProducerEnds}
 use Rattle.dr_workers.specs.Calls.Serving.{PublicationFails, Sends, Task, ToClaim, ToSend, WriteFails, task_after}
 use Rattle.dr_workers.specs.Calls.Stops.{Passes, begins, fault_at_end, fault_in_trouble}
@@ -78,7 +78,7 @@ failed result trouble is fine = cc
 
 -- the claim is refused
 pub part_unclaimed : {S E : Type 0} (does : S → InletCall E → S → Type 0) (events : List E) (a b : S) (may_stop must_stop : ℕ → ℕ → Type 0)
-    (t : Turns) (trouble : Trouble) → trouble ≢ Refused NoRoom → SomeCalls does a b (IsClaimed (length events) (Err trouble))
+    (t : Passages) (trouble : Trouble) → trouble ≢ Refused NoRoom → SomeCalls does a b (IsClaimed (length events) (Err trouble))
     → SomeCalls does a b (SendsPart events may_stop must_stop t t (Err trouble))
 part_unclaimed does events a b may_stop must_stop t trouble other h =
     let n = length events in
@@ -124,7 +124,7 @@ opened events stretch trouble first rest is written = (
 
 -- after the claim the writes and the publication
 pub part_claimed : {S E : Type 0} (does : S → InletCall E → S → Type 0) (events : List E) (claimed : Claimed) (a b c : S) (may_stop must_stop : ℕ → ℕ → Type 0)
-    (t t' : Turns) (result : Result (Unit {0}) Trouble) → 0 < length events → SomeCalls does a b (IsClaimed (length events) (Ok claimed))
+    (t t' : Passages) (result : Result (Unit {0}) Trouble) → 0 < length events → SomeCalls does a b (IsClaimed (length events) (Ok claimed))
     → SomeCalls does b c (AfterClaim (record { stretch = claimed; events = events }) result) → Passes may_stop must_stop 1 t t'
     → SomeCalls does a c (SendsPart events may_stop must_stop t t' result)
 part_claimed {S} {E} does events claimed a b c may_stop must_stop t t' result some h k passes =
@@ -260,18 +260,18 @@ begins_part rest n trouble calls (inr (stretch, k, some, is)) =
     inr (record { stretch = stretch; events = take n rest }, k, part_of rest n, some, is)
 
 -- so many events are sent so far
-pub record Sending {E : Type 0} (cut : ℕ) (script : List E) (may_stop must_stop : ℕ → ℕ → Type 0) (who sent : ℕ) (turns : Turns) (calls : List (InletCall E)) : Type 0 where
+pub record Sending {E : Type 0} (cut : ℕ) (script : List E) (may_stop must_stop : ℕ → ℕ → Type 0) (who sent : ℕ) (passages : Passages) (calls : List (InletCall E)) : Type 0 where
   pub cuts : AreCut cut (length script) (claims_in calls)
   pub left : left_after (length script) (claims_in calls) ≡ length script - sent
-  pub passes : Passes may_stop must_stop (length (claims_in calls)) (begins who) turns
+  pub passes : Passes may_stop must_stop (length (claims_in calls)) (begins who) passages
   pub sends : InParts script sent (accepted_in calls)
   pub order : InOrder cut (ToClaim script) calls
   pub end : task_at_end (ToClaim script) calls ≡ ToClaim (drop sent script)
 
 pub sending_none : {S E : Type 0} (does : S → InletCall E → S → Type 0) (a : S) (cut : ℕ) (script : List E) (may_stop must_stop : ℕ → ℕ → Type 0)
-    (who : ℕ) (turns : Turns) → turns ≡ begins who
-    → SomeCalls does a a (Sending cut script may_stop must_stop who 0 turns)
-sending_none does a cut script may_stop must_stop who turns is = record {
+    (who : ℕ) (passages : Passages) → passages ≡ begins who
+    → SomeCalls does a a (Sending cut script may_stop must_stop who 0 passages)
+sending_none does a cut script may_stop must_stop who passages is = record {
   calls = [];
   lead = refl;
   holds = record {
@@ -294,7 +294,7 @@ part_length script sent n cut is =
 claims_both : {E : Type 0} (n : ℕ) (xs ys : List (InletCall E)) → claims_in ys ≡ n ∷ [] → claims_in (xs ++ ys) ≡ claims_in xs ++ n ∷ []
 claims_both n xs ys is = claims_in-append xs ys ∙ ap (λ l. claims_in xs ++ l) is
 
-passes_both : {E : Type 0} (may_stop must_stop : ℕ → ℕ → Type 0) (xs ys : List (InletCall E)) (t t' t'' : Turns)
+passes_both : {E : Type 0} (may_stop must_stop : ℕ → ℕ → Type 0) (xs ys : List (InletCall E)) (t t' t'' : Passages)
     → Passes may_stop must_stop (length (claims_in xs)) t t'
     → Passes may_stop must_stop (length (claims_in ys)) t' t'' → Passes may_stop must_stop (length (claims_in (xs ++ ys))) t t''
 passes_both may_stop must_stop xs ys t t' t'' h k =
@@ -327,7 +327,7 @@ parts_at_end script sent n xs ys end k =
 
 -- one part more
 pub sending_more : {S E : Type 0} (does : S → InletCall E → S → Type 0) (a b c : S) (cut : ℕ) (script : List E) (may_stop must_stop : ℕ → ℕ → Type 0)
-    (who sent n : ℕ) (t t' : Turns) (result : Result (Unit {0}) Trouble) → result ≡ Ok tt → n ≡ min (length script - sent) cut → 0 < n
+    (who sent n : ℕ) (t t' : Passages) (result : Result (Unit {0}) Trouble) → result ≡ Ok tt → n ≡ min (length script - sent) cut → 0 < n
     → SomeCalls does a b (Sending cut script may_stop must_stop who sent t)
     → SomeCalls does b c (SendsPart (take n (drop sent script)) may_stop must_stop t t' result)
     → SomeCalls does a c (Sending cut script may_stop must_stop who (sent + n) t')
@@ -350,7 +350,7 @@ sending_more does a b c cut script may_stop must_stop who sent n t t' result is 
 
 -- all is sent
 pub sends_all : {S E : Type 0} (does : S → InletCall E → S → Type 0) (a b : S) (cut : ℕ) (script : List E) (may_stop must_stop : ℕ → ℕ → Type 0)
-    (who sent : ℕ) (t : Turns) (produced : Produced) → produced.sent ≡ length script → produced.sent ≡ sent → produced.fault ≡ fault_at_end t.stopped
+    (who sent : ℕ) (t : Passages) (produced : Produced) → produced.sent ≡ length script → produced.sent ≡ sent → produced.fault ≡ fault_at_end t.stopped
     → SomeCalls does a b (Sending cut script may_stop must_stop who sent t) → SomeCalls does a b (Sends cut script (may_stop who) (must_stop who) produced)
 sends_all does a b cut script may_stop must_stop who sent t produced whole same is h = record {
   calls = h.calls;
@@ -392,7 +392,7 @@ gives_up {E} cut script sent n trouble xs ys more size h =
 
 -- a part is in trouble
 pub sends_in_trouble : {S E : Type 0} (does : S → InletCall E → S → Type 0) (a b c : S) (cut : ℕ) (script : List E) (may_stop must_stop : ℕ → ℕ → Type 0)
-    (who sent n : ℕ) (t t' : Turns) (result : Result (Unit {0}) Trouble) (trouble : Trouble) (produced : Produced)
+    (who sent n : ℕ) (t t' : Passages) (result : Result (Unit {0}) Trouble) (trouble : Trouble) (produced : Produced)
     → sent < length script → n ≡ min (length script - sent) cut → 0 < n → result ≡ Err trouble → produced.sent ≡ sent
     → produced.fault ≡ Some (fault_in_trouble t'.stopped trouble)
     → SomeCalls does a b (Sending cut script may_stop must_stop who sent t)

@@ -15,7 +15,7 @@ use Rattle.dr_meaning.proofs.Calling.{lead_more}
 use Rattle.dr_workers.specs.declared.consumer.Progress.{Progress}
 use Rattle.dr_workers.specs.declared.consumer.Progress.TheVariants.{Drained, GoesOn}
 use Rattle.dr_workers.specs.declared.fault.WorkFault.{WorkFault}
-use Rattle.dr_workers.specs.declared.turns.Turns.{Turns}
+use Rattle.dr_workers.specs.declared.passages.Passages.{Passages}
 use Rattle.dr_workers.specs.Calls.Serving.{AreCompleted, ConsumerEnds, Due, InTurn, IsInTrouble, IsTold, LeavesOpen, Serves, ToComplete, ToPoll, due_after}
 use Rattle.dr_workers.specs.Calls.Stops.{Passes, begins, fault_at_end, fault_in_trouble}
 use Rattle.dr_workers.specs.Inside.Retries.{Retries, TakesBatch, due_at_end}
@@ -78,7 +78,7 @@ advances_none out out' (Ok polled.Drained) is = refl
 advances_none out out' (Err trouble) is = refl
 
 pub turned_nothing : {S E A : Type 0} (does : S → OutletCall E → S → Type 0) (goes : Relation E A) (before : A) (a b : S) (o p : Option (Received E))
-    (may_stop must_stop : ℕ → ℕ → Type 0) (t : Turns) (result : Result Progress Trouble)
+    (may_stop must_stop : ℕ → ℕ → Type 0) (t : Passages) (result : Result Progress Trouble)
     (out out' : List E) (answer : Result Polled Trouble) → does a (PollsInto out out' answer) b → batch_of (PollsInto out out' answer) ≡ None
     → length out' ≡ length out
     → WhereShown (Takes out' answer) o p
@@ -120,7 +120,7 @@ completed_or_not {E} deal upto (Err trouble) before calls end rest batches advan
     )
 
 pub turned_batch : {S E A : Type 0} (does : S → OutletCall E → S → Type 0) (goes : Relation E A) (before after : A) (a b c : S) (o q : Option (Received E))
-    (may_stop must_stop : ℕ → ℕ → Type 0) (t t' : Turns) (result : Result Progress Trouble)
+    (may_stop must_stop : ℕ → ℕ → Type 0) (t t' : Passages) (result : Result Progress Trouble)
     (out out' : List E) (first count upto : ℕ) (end : Bool) (completed : Result (Unit {0}) Trouble)
     → does a (PollsInto out out' (Ok (polled.Batch first count end))) b
     → SomeCalls does b c (Retries (CompletesBelow upto (Err Memory)) (CompletesBelow upto completed))
@@ -160,17 +160,17 @@ turned_batch {S} {E} does goes before after a b c o q may_stop must_stop t t' re
 -- Turn after turn.
 
 -- the work so far, and the worker's passages of its gate
-pub record Serving {E A : Type 0} (room : ℕ) (goes : Relation E A) (before after : A) (old new : Option (Received E)) (may_stop must_stop : ℕ → ℕ → Type 0) (who : ℕ) (turns : Turns) (calls : List (OutletCall E)) : Type 0 where
+pub record Serving {E A : Type 0} (room : ℕ) (goes : Relation E A) (before after : A) (old new : Option (Received E)) (may_stop must_stop : ℕ → ℕ → Type 0) (who : ℕ) (passages : Passages) (calls : List (OutletCall E)) : Type 0 where
   pub works : Works goes before after old new (batches_in calls)
-  pub passes : Passes may_stop must_stop (length (batches_in calls)) (begins who) turns
+  pub passes : Passes may_stop must_stop (length (batches_in calls)) (begins who) passages
   pub whole : advances_in calls ≡ each_completed (batches_in calls)
   pub order : InTurn room ToPoll calls
   pub closed : due_at_end ToPoll calls ≡ ToPoll
 
 pub serving_none : {S E A : Type 0} (does : S → OutletCall E → S → Type 0) (room : ℕ) (goes : Relation E A) (before : A) (a : S) (o : Option (Received E))
-    (may_stop must_stop : ℕ → ℕ → Type 0) (who : ℕ) (turns : Turns) → turns ≡ begins who
-    → SomeCalls does a a (Serving room goes before before o o may_stop must_stop who turns)
-serving_none does room goes before a o may_stop must_stop who turns is = record {
+    (may_stop must_stop : ℕ → ℕ → Type 0) (who : ℕ) (passages : Passages) → passages ≡ begins who
+    → SomeCalls does a a (Serving room goes before before o o may_stop must_stop who passages)
+serving_none does room goes before a o may_stop must_stop who passages is = record {
   calls = [];
   lead = refl;
   holds = record { works = works_none goes before o; passes = subst (λ t. Passes may_stop must_stop 0 (begins who) t) (sym is) (passes_none may_stop must_stop (begins who)); whole = refl; order = tt; closed = refl };
@@ -183,7 +183,7 @@ batches_more goes before between after o p q xs ys h k =
     subst (λ bs. Works goes before after o q bs) (sym (batches_in-append xs ys)) (works_more goes before between after o p q (batches_in xs) (batches_in ys) h k)
 
 -- and the passages
-passes_both : {E : Type 0} (may_stop must_stop : ℕ → ℕ → Type 0) (xs ys : List (OutletCall E)) (t t' t'' : Turns)
+passes_both : {E : Type 0} (may_stop must_stop : ℕ → ℕ → Type 0) (xs ys : List (OutletCall E)) (t t' t'' : Passages)
     → Passes may_stop must_stop (length (batches_in xs)) t t'
     → Passes may_stop must_stop (length (batches_in ys)) t' t'' → Passes may_stop must_stop (length (batches_in (xs ++ ys))) t t''
 passes_both may_stop must_stop xs ys t t' t'' h k =
@@ -213,7 +213,7 @@ order_more room xs ys h closed k = in_turn_more room ToPoll xs ys h (subst (λ o
 
 -- one turn more
 pub serving_more : {S E A : Type 0} (does : S → OutletCall E → S → Type 0) (room : ℕ) (goes : Relation E A) (before between after : A) (a b c : S)
-    (o p q : Option (Received E)) (may_stop must_stop : ℕ → ℕ → Type 0) (who : ℕ) (t t' : Turns) (result : Result Progress Trouble) → result ≡ Ok GoesOn
+    (o p q : Option (Received E)) (may_stop must_stop : ℕ → ℕ → Type 0) (who : ℕ) (t t' : Passages) (result : Result Progress Trouble) → result ≡ Ok GoesOn
     → SomeCalls does a b (Serving room goes before between o p may_stop must_stop who t)
     → SomeCalls does b c (TakesBatch room goes between after p q may_stop must_stop t t' result)
     → SomeCalls does a c (Serving room goes before after o q may_stop must_stop who t')
@@ -231,7 +231,7 @@ serving_more does room goes before between after a b c o p q may_stop must_stop 
 
 -- the last turn
 serving_ends : {S E A : Type 0} (does : S → OutletCall E → S → Type 0) (room : ℕ) (goes : Relation E A) (before between after : A) (a b c : S)
-    (o p q : Option (Received E)) (may_stop must_stop : ℕ → ℕ → Type 0) (who : ℕ) (t t' : Turns) (result : Result Progress Trouble)
+    (o p q : Option (Received E)) (may_stop must_stop : ℕ → ℕ → Type 0) (who : ℕ) (t t' : Passages) (result : Result Progress Trouble)
     (answer : Option WorkFault)
     → (h : SomeCalls does a b (Serving room goes before between o p may_stop must_stop who t))
     (k : SomeCalls does b c (TakesBatch room goes between after p q may_stop must_stop t t' result))
@@ -249,7 +249,7 @@ serving_ends does room goes before between after a b c o p q may_stop must_stop 
 }
 
 pub serves_told : {S E A : Type 0} (does : S → OutletCall E → S → Type 0) (room : ℕ) (goes : Relation E A) (before between after : A) (a b c : S)
-    (o p q : Option (Received E)) (may_stop must_stop : ℕ → ℕ → Type 0) (who : ℕ) (t t' : Turns) (result : Result Progress Trouble)
+    (o p q : Option (Received E)) (may_stop must_stop : ℕ → ℕ → Type 0) (who : ℕ) (t t' : Passages) (result : Result Progress Trouble)
     (answer : Option WorkFault)
     → SomeCalls does a b (Serving room goes before between o p may_stop must_stop who t)
     → SomeCalls does b c (TakesBatch room goes between after p q may_stop must_stop t t' result)
@@ -258,7 +258,7 @@ serves_told does room goes before between after a b c o p q may_stop must_stop w
     serving_ends does room goes before between after a b c o p q may_stop must_stop who t t' result answer h k (inl (ends_after IsTold h.calls k.calls (k.holds.told told), is))
 
 pub serves_in_trouble : {S E A : Type 0} (does : S → OutletCall E → S → Type 0) (room : ℕ) (goes : Relation E A) (before between after : A) (a b c : S)
-    (o p q : Option (Received E)) (may_stop must_stop : ℕ → ℕ → Type 0) (who : ℕ) (t t' : Turns) (result : Result Progress Trouble)
+    (o p q : Option (Received E)) (may_stop must_stop : ℕ → ℕ → Type 0) (who : ℕ) (t t' : Passages) (result : Result Progress Trouble)
     (answer : Option WorkFault) (trouble : Trouble)
     → SomeCalls does a b (Serving room goes before between o p may_stop must_stop who t)
     → SomeCalls does b c (TakesBatch room goes between after p q may_stop must_stop t t' result)
@@ -269,7 +269,7 @@ serves_in_trouble does room goes before between after a b c o p q may_stop must_
 
 -- a room of the same length
 pub of_room : {S E A : Type 0} {does : S → OutletCall E → S → Type 0} {goes : Relation E A} {before after : A} {a b : S} {o p : Option (Received E)}
-    {may_stop must_stop : ℕ → ℕ → Type 0} {t t' : Turns} {result : Result Progress Trouble} {room whole : ℕ} → room ≡ whole
+    {may_stop must_stop : ℕ → ℕ → Type 0} {t t' : Passages} {result : Result Progress Trouble} {room whole : ℕ} → room ≡ whole
     → SomeCalls does a b (TakesBatch room goes before after o p may_stop must_stop t t' result)
     → SomeCalls does a b (TakesBatch whole goes before after o p may_stop must_stop t t' result)
 of_room {does = does} {goes = goes} {before = before} {after = after} {a = a} {b = b} {o = o} {p = p} {may_stop = may_stop} {must_stop = must_stop} {t = t} {t' = t'} {result = result} same takes =

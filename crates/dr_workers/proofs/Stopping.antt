@@ -1,4 +1,4 @@
--- A worker that is stopped, turn by turn.
+-- A worker that is stopped, passage by passage.
 use Rattle.std.proofs.Common.{◌≡◌, ◌≢◌, ◌⊎◌, ◌+◌, ◌-◌, ◌^◌, ◌<◌, ◌≤◌, ℕ, Bool, true, false, Option, Some, inl, inr, refl, sym, ap, ◌∙◌, subst, arith}
 use Rattle.std.proofs.Common.{add-zero, zero-add}
 use Rattle.std.proofs.lemmas.Bool.{cases_lt, false≢true}
@@ -7,12 +7,12 @@ use Rattle.dr_meaning.specs.declared.ends.Trouble.{Trouble}
 use Rattle.dr_meaning.specs.declared.ends.Trouble.TheVariants as trouble
 use Rattle.dr_workers.specs.declared.fault.WorkFault.{WorkFault}
 use Rattle.dr_workers.specs.declared.fault.WorkFault.TheVariants.{Memory, Stopped}
-use Rattle.dr_workers.specs.declared.turns.Turns.{Turns}
+use Rattle.dr_workers.specs.declared.passages.Passages.{Passages}
 use Rattle.dr_workers.specs.Calls.Stops.{Passes, Stops, begins, fault_at_end, fault_in_trouble}
 
--- no turn
-pub passes_none : (may_stop must_stop : ℕ → ℕ → Type 0) (t : Turns) → Passes may_stop must_stop 0 t t
-passes_none may_stop must_stop t = record { who = refl; may = λ is. inl is; stays = λ is. is; turn = λ going fits. sym (add-zero t.turn); must = λ k less fits stop. absurd (omega arith); most = omega arith }
+-- no passage
+pub passes_none : (may_stop must_stop : ℕ → ℕ → Type 0) (t : Passages) → Passes may_stop must_stop 0 t t
+passes_none may_stop must_stop t = record { who = refl; may = λ is. inl is; stays = λ is. is; passage = λ going fits. sym (add-zero t.passage); must = λ k less fits stop. absurd (omega arith); most = omega arith }
 
 -- who is not stopped later is not before
 going_before : (b c : Bool) → (b ≡ true → c ≡ true) → c ≡ false → b ≡ false
@@ -23,21 +23,21 @@ stopped_or_not : (b : Bool) → (b ≡ true) ⊎ (b ≡ false)
 stopped_or_not true = inl refl
 stopped_or_not false = inr refl
 
--- at a later turn
-must_later : (may_stop must_stop : ℕ → ℕ → Type 0) (n m k : ℕ) (a b c : Turns) → Passes may_stop must_stop n a b
+-- at a later passage
+must_later : (may_stop must_stop : ℕ → ℕ → Type 0) (n m k : ℕ) (a b c : Passages) → Passes may_stop must_stop n a b
     → Passes may_stop must_stop m b c → n ≤ k → k < n + m
-    → a.turn + k < 2 ^ 64 → must_stop a.who (a.turn + k) → c.stopped ≡ true
+    → a.passage + k < 2 ^ 64 → must_stop a.who (a.passage + k) → c.stopped ≡ true
 must_later may_stop must_stop n m k a b c h l late less fits stop =
     elim (stopped_or_not b.stopped) [
       | inl stopped ↦ l.stays stopped
       | inr going ↦
-          let at : b.turn ≡ a.turn + n = h.turn going (omega arith) in
-          let there : a.turn + k ≡ b.turn + (k - n) = omega arith in
-          l.must (k - n) (omega arith) (omega arith) (subst (λ t. must_stop b.who t) there (subst (λ w. must_stop w (a.turn + k)) (sym h.who) stop))
+          let at : b.passage ≡ a.passage + n = h.passage going (omega arith) in
+          let there : a.passage + k ≡ b.passage + (k - n) = omega arith in
+          l.must (k - n) (omega arith) (omega arith) (subst (λ t. must_stop b.who t) there (subst (λ w. must_stop w (a.passage + k)) (sym h.who) stop))
     ]
 
--- some turns after others
-pub passes_more : (may_stop must_stop : ℕ → ℕ → Type 0) (n m : ℕ) (a b c : Turns) → Passes may_stop must_stop n a b
+-- some passages after others
+pub passes_more : (may_stop must_stop : ℕ → ℕ → Type 0) (n m : ℕ) (a b c : Passages) → Passes may_stop must_stop n a b
     → Passes may_stop must_stop m b c
     → Passes may_stop must_stop (n + m) a c
 passes_more may_stop must_stop n m a b c h l = record {
@@ -45,41 +45,41 @@ passes_more may_stop must_stop n m a b c h l = record {
   may = λ is. elim (l.may is) [
     | inl before ↦ elim (h.may before) [
       | inl first ↦ inl first
-      | inr then ↦ (let early : then.0 < a.turn + n = then.1 in inr (then.0, omega arith, then.2))
+      | inr then ↦ (let early : then.0 < a.passage + n = then.1 in inr (then.0, omega arith, then.2))
     ]
-    | inr now ↦ (let late : now.0 < b.turn + m = now.1 in let most : b.turn ≤ a.turn + n = h.most in inr (now.0, omega arith, subst (λ who. may_stop who now.0) h.who now.2))
+    | inr now ↦ (let late : now.0 < b.passage + m = now.1 in let most : b.passage ≤ a.passage + n = h.most in inr (now.0, omega arith, subst (λ who. may_stop who now.0) h.who now.2))
   ];
   stays = λ is. l.stays (h.stays is);
-  turn = λ going fits.
-      let first : b.turn ≡ a.turn + n = h.turn (going_before b.stopped c.stopped l.stays going) (omega arith) in
-      let second : c.turn ≡ b.turn + m = l.turn going (omega arith) in
+  passage = λ going fits.
+      let first : b.passage ≡ a.passage + n = h.passage (going_before b.stopped c.stopped l.stays going) (omega arith) in
+      let second : c.passage ≡ b.passage + m = l.passage going (omega arith) in
       omega arith;
   must = λ k less fits stop. elim (cases_lt k n) [
     | inl early ↦ l.stays (h.must k early fits stop)
     | inr not ↦ must_later may_stop must_stop n m k a b c h l (omega arith) less fits stop
   ];
-  most = (let first : b.turn ≤ a.turn + n = h.most in let second : c.turn ≤ b.turn + m = l.most in omega arith);
+  most = (let first : b.passage ≤ a.passage + n = h.most in let second : c.passage ≤ b.passage + m = l.most in omega arith);
 }
 
--- one turn
-pub passes_stopped : (may_stop must_stop : ℕ → ℕ → Type 0) (t : Turns) → t.stopped ≡ true → Passes may_stop must_stop 1 t t
+-- one passage
+pub passes_stopped : (may_stop must_stop : ℕ → ℕ → Type 0) (t : Passages) → t.stopped ≡ true → Passes may_stop must_stop 1 t t
 passes_stopped may_stop must_stop t is =
-    record { who = refl; may = λ now. inl now; stays = λ now. now; turn = λ going fits. absurd (false≢true (sym going ∙ is)); must = λ k less fits stop. is; most = omega arith }
+    record { who = refl; may = λ now. inl now; stays = λ now. now; passage = λ going fits. absurd (false≢true (sym going ∙ is)); must = λ k less fits stop. is; most = omega arith }
 
 -- a worker that passed its gate so often answers by whether it was stopped
-pub stops_after : (may_stop must_stop : ℕ → ℕ → Type 0) (times who : ℕ) (t : Turns) (Answers : Bool → Type 0)
+pub stops_after : (may_stop must_stop : ℕ → ℕ → Type 0) (times who : ℕ) (t : Passages) (Answers : Bool → Type 0)
     → Passes may_stop must_stop times (begins who) t → Answers t.stopped
     → Stops (may_stop who) (must_stop who) times Answers
 stops_after may_stop must_stop times who t Answers h answers = record {
   stopped = t.stopped;
   answers = answers;
-  may = λ is. elim (h.may is) [ inl before ↦ absurd (false≢true before) | inr now ↦ (now.0, (let less : now.0 < (begins who).turn + times = now.1 in omega arith), now.2) ];
-  must = λ turn less fits stop. h.must turn less (omega arith) (subst (λ n. must_stop who n) (sym (zero-add turn)) stop);
+  may = λ is. elim (h.may is) [ inl before ↦ absurd (false≢true before) | inr now ↦ (now.0, (let less : now.0 < (begins who).passage + times = now.1 in omega arith), now.2) ];
+  must = λ passage less fits stop. h.must passage less (omega arith) (subst (λ n. must_stop who n) (sym (zero-add passage)) stop);
 }
 
--- one turn more
-pub stopped_more : (may_stop must_stop : ℕ → ℕ → Type 0) (times who : ℕ) (old new : Turns) → old.who ≡ who
-    → (old.stopped ≡ true → (turn : ℕ) × may_stop who turn) → Passes may_stop must_stop times old new → new.stopped ≡ true → (turn : ℕ) × may_stop who turn
+-- one passage more
+pub stopped_more : (may_stop must_stop : ℕ → ℕ → Type 0) (times who : ℕ) (old new : Passages) → old.who ≡ who
+    → (old.stopped ≡ true → (passage : ℕ) × may_stop who passage) → Passes may_stop must_stop times old new → new.stopped ≡ true → (passage : ℕ) × may_stop who passage
 stopped_more may_stop must_stop times who old new same before passes is = elim (passes.may is) [ inl first ↦ before first | inr now ↦ (now.0, subst (λ w. may_stop w now.0) same now.2) ]
 
 -- who answers that it was stopped was stopped

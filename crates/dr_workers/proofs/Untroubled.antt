@@ -79,7 +79,7 @@ module _ {S E : Type 0} (does : S → OutletCall E → S → Type 0) (shown : S 
       answers.completes a b upto fault (let low = at.0 in omega arith) (let whole = at.1 in omega arith) is
   answered NoCall call a b trouble next is at fails = no_call room call next
 
-  -- all calls of a worker's turns
+  -- all calls of a worker's passages
   untroubled_from : (due : Due) (a b : S) (calls : List (OutletCall E)) (trouble : Trouble) → IsAt due (shown a) → CallsLead does a calls b
       → InTurn room due calls
       → EndsIn (IsInTrouble trouble) calls → ⊥

@@ -13,9 +13,9 @@ ghost use Rattle.dr_workers.specs.Meaning.Work.{IsDone};
 
 use crate::fault::WorkFault;
 use crate::gate::Gate;
+use crate::passages::Passages;
 use crate::patience::Patience;
 use crate::retries::complete;
-use crate::turns::Turns;
 use crate::waiting::Waiting;
 use dr_meaning::{Handler, Outlet, Polled, Trouble, show};
 use std::sync::Wait;
@@ -42,13 +42,13 @@ fn turn<E: Copy, R: Wait, O: Outlet<E>, G: Gate, H: Handler<E>, P: Patience>(
     rt: &R,
     outlet: &mut O,
     gate: &G,
-    turns: &mut Turns,
+    passages: &mut Passages,
     handler: &mut H,
     buf: &mut [E],
     patience: &mut P,
 ) -> Result<Progress, Trouble>
     ensures kept { O.kept outlet.new ≡ O.kept outlet.old }
-    ensures takes { SomeCalls (Attends O.does P.waits P.finds) (record { end = outlet.old; patience = patience.old }) (record { end = outlet.new; patience = patience.new }) (TakesBatch (length buf.old) H.goes handler.old handler.new (O.received outlet.old) (O.received outlet.new) (G.may_stop gate.now) (G.must_stop gate.now) turns.old turns.new result) }
+    ensures takes { SomeCalls (Attends O.does P.waits P.finds) (record { end = outlet.old; patience = patience.old }) (record { end = outlet.new; patience = patience.new }) (TakesBatch (length buf.old) H.goes handler.old handler.new (O.received outlet.old) (O.received outlet.new) (G.may_stop gate.now) (G.must_stop gate.now) passages.old passages.new result) }
     ensures done { OnOk result (WhereShown IsDone (O.received outlet.old) (O.received outlet.new)) }
     ensures waits { result ≢ Err Trouble.Memory }
     ensures drained { IfOk result (λ progress. progress ≡ Drained → O.told outlet.new ≡ true) }
@@ -57,7 +57,7 @@ fn turn<E: Copy, R: Wait, O: Outlet<E>, G: Gate, H: Handler<E>, P: Patience>(
         Ok(Polled::Batch { first, count, end }) => {
             patience.found(count);
             show(handler, &buf[..count as usize], first, end);
-            turns.pass(gate);
+            passages.pass(gate);
             complete(rt, outlet, first + count)?;
             Ok(Progress::GoesOn)
         }
@@ -94,12 +94,12 @@ pub fn consume_with<E: Copy, R: Wait, O: Outlet<E>, G: Gate, H: Handler<E>, P: P
     ensures waits { result ≢ Some Memory }
     ensures stopped { result ≡ Some Stopped → MayStop G.may_stop gate.now who }
 {
-    let mut turns = Turns::new(who);
+    let mut passages = Passages::new(who);
     for _ in rt.forever() {
-        match turn(rt, outlet, gate, &mut turns, handler, buf, patience) {
+        match turn(rt, outlet, gate, &mut passages, handler, buf, patience) {
             Ok(Progress::GoesOn) => (),
-            Ok(Progress::Drained) => return turns.at_end(),
-            Err(trouble) => return Some(turns.in_trouble(trouble)),
+            Ok(Progress::Drained) => return passages.at_end(),
+            Err(trouble) => return Some(passages.in_trouble(trouble)),
         }
     }
     unreachable!()

@@ -12,11 +12,11 @@ mod ended;
 pub mod fault;
 pub mod gate;
 mod parking;
+mod passages;
 mod patience;
 mod producer;
 mod retries;
 mod ringing;
-mod turns;
 mod waiting;
 
 pub use bell::{Bell, Rings};

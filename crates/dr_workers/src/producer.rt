@@ -12,9 +12,9 @@ ghost use Rattle.dr_workers.specs.Meaning.Work.{Adds, LeavesNothingOpen};
 
 use crate::fault::WorkFault;
 use crate::gate::Gate;
+use crate::passages::Passages;
 use crate::patience::Patience;
 use crate::retries::{claim, publish, write_all};
-use crate::turns::Turns;
 use crate::waiting::Waiting;
 use dr_meaning::{Claimed, Inlet, Trouble};
 use std::sync::Wait;
@@ -33,7 +33,7 @@ fn send<E: Copy, R: Wait, I: Inlet<E>, G: Gate, P: Patience>(
     rt: &R,
     inlet: &mut I,
     gate: &G,
-    turns: &mut Turns,
+    passages: &mut Passages,
     events: &[E],
     patience: &mut P,
     room: &mut u64,
@@ -42,11 +42,11 @@ fn send<E: Copy, R: Wait, I: Inlet<E>, G: Gate, P: Patience>(
     ensures sent { OnOk result (WhereShown (Adds events.now) (I.sent inlet.old) (I.sent inlet.new)) }
     ensures fault { OnErr result (WhereShown (Adds []) (I.sent inlet.old) (I.sent inlet.new)) }
     ensures open { WhereShown LeavesNothingOpen (I.sent inlet.old) (I.sent inlet.new) }
-    ensures sends { SomeCalls (Provides I.does P.waits P.finds) (record { end = inlet.old; patience = patience.old; room = room.old }) (record { end = inlet.new; patience = patience.new; room = room.new }) (SendsPart events.now (G.may_stop gate.now) (G.must_stop gate.now) turns.old turns.new result) }
+    ensures sends { SomeCalls (Provides I.does P.waits P.finds) (record { end = inlet.old; patience = patience.old; room = room.old }) (record { end = inlet.new; patience = patience.new; room = room.new }) (SendsPart events.now (G.may_stop gate.now) (G.must_stop gate.now) passages.old passages.new result) }
 {
     let n = events.len() as u64;
     let Claimed { lo, hi } = claim(rt, inlet, n, patience, room)?;
-    turns.pass(gate);
+    passages.pass(gate);
     write_all(rt, inlet, lo, events)?;
     publish(rt, inlet, lo, hi)
 }
@@ -77,17 +77,17 @@ pub fn produce_with<E: Copy, R: Wait, I: Inlet<E>, G: Gate, P: Patience>(
     ensures stopped { result.fault ≡ Some Stopped → MayStop G.may_stop gate.now who }
     ensures sends { SomeCalls I.does inlet.old inlet.new (Sends cut script.now (G.may_stop gate.now who) (G.must_stop gate.now who) result) }
 {
-    let mut turns = Turns::new(who);
+    let mut passages = Passages::new(who);
     let mut sent = 0;
     // How many events found room since it last waited.
     let mut room = 0;
     while sent < script.len() {
         let n = ((script.len() - sent) as u64).min(cut) as usize;
         let part = &script[sent..sent + n];
-        match send(rt, inlet, gate, &mut turns, part, patience, &mut room) {
+        match send(rt, inlet, gate, &mut passages, part, patience, &mut room) {
             Ok(()) => sent += n,
             Err(trouble) => {
-                let fault = Some(turns.in_trouble(trouble));
+                let fault = Some(passages.in_trouble(trouble));
                 return Produced {
                     sent: sent as u64,
                     fault,
@@ -97,7 +97,7 @@ pub fn produce_with<E: Copy, R: Wait, I: Inlet<E>, G: Gate, P: Patience>(
     }
     Produced {
         sent: sent as u64,
-        fault: turns.at_end(),
+        fault: passages.at_end(),
     }
 }
 

@@ -32,7 +32,7 @@ pub record HasHandled (begun : History Event) (h : ℕ) (may_stop must_stop : �
   pub well : start.failed ≡ false
   pub calls : SomeCalls (OutletAsks begun h) no_calls back (Serves 256 Lists start after None None may_stop must_stop fault)
   pub answers : AnswersFor fault answer
-  pub stopped : answer ≡ Some Stopped → (turn : ℕ) × may_stop turn
+  pub stopped : answer ≡ Some Stopped → (passage : ℕ) × may_stop passage
   pub lists : GivesList answer after list
 
 -- the worker of the producer p began with an unused end, sent the first of a script in such claims, came to its gate with each, and answers what these calls came to, each a call of that producer
@@ -40,4 +40,4 @@ pub record HasSent (begun : History Event) (p cut : ℕ) (script : List Event) (
   pub produced : Produced
   pub calls : SomeCalls (InletAsks begun p) no_calls back (Sends cut script may_stop must_stop produced)
   pub answers : answer ≡ produced.fault
-  pub stopped : answer ≡ Some Stopped → (turn : ℕ) × may_stop turn
+  pub stopped : answer ≡ Some Stopped → (passage : ℕ) × may_stop passage

@@ -37,7 +37,7 @@ pub record IsSending (cut : ℕ) (events : List Event) (may_stop must_stop : ℕ
   pub place : sender_place back ≡ sender_place given
   pub published : back.knows.sent.published ≡ given.knows.sent.published ++ take produced.sent events
   pub all : produced.fault ≡ None → produced.sent ≡ length events
-  pub stopped : produced.fault ≡ Some work.Stopped → (turn : ℕ) × may_stop turn
+  pub stopped : produced.fault ≡ Some work.Stopped → (passage : ℕ) × may_stop passage
   pub done : SenderEnd
   pub calls : SomeCalls sender_does given done (Sends cut events may_stop must_stop produced)
   pub complete : LeavesNothingOpen given.knows.sent done.knows.sent
@@ -86,7 +86,7 @@ pub record AreThrough (events : List Event) (ran : Ran) : Type 0 where
 abbrev pub ring_workers : List ℕ
 ring_workers = 0 ∷ 1 ∷ 2 ∷ 16 ∷ []
 
--- where there is an event, none of them was one that its gate has to stop at its first turn
+-- where there is an event, none of them was one that its gate has to stop at its first passage
 abbrev pub NoneHadToStop : (ℕ → ℕ → Type 0) → List Event → Type 0
 NoneHadToStop must_stop [] = Unit {0}
 NoneHadToStop must_stop (event ∷ events) = All (λ who. must_stop who 0 → ⊥) ring_workers
@@ -162,7 +162,7 @@ abbrev pub lock_endings : Option WorkFault → Option WorkFault → Option WorkF
 lock_endings journal replica business producers =
     record { who = 0; fault = journal } ∷ record { who = 1; fault = replica } ∷ record { who = 2; fault = business } ∷ numbered 16 producers
 
--- no producer that has an event was one that its gate has to stop at its first turn
+-- no producer that has an event was one that its gate has to stop at its first passage
 abbrev pub NoProducerHadToStop : (ℕ → ℕ → Type 0) → List Event → Type 0
 NoProducerHadToStop must_stop events = (p : ℕ) → p < producers_in events → script_in events p ≢ [] → must_stop (16 + p) 0 → ⊥
 

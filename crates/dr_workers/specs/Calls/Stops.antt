@@ -4,7 +4,7 @@ use Rattle.dr_meaning.specs.declared.ends.Trouble.{Trouble}
 use Rattle.dr_meaning.specs.declared.ends.Trouble.TheVariants as trouble
 use Rattle.dr_workers.specs.declared.fault.WorkFault.{WorkFault}
 use Rattle.dr_workers.specs.declared.fault.WorkFault.TheVariants.{Memory, Refused, Stopped}
-use Rattle.dr_workers.specs.declared.turns.Turns.{Turns}
+use Rattle.dr_workers.specs.declared.passages.Passages.{Passages}
 
 -- what a worker answers at its end
 abbrev pub fault_at_end : Bool → Option WorkFault
@@ -18,25 +18,25 @@ fault_in_trouble true (trouble.Refused refusal) = Stopped
 fault_in_trouble false (trouble.Refused refusal) = Refused refusal
 
 -- a worker that has come to no gate yet
-abbrev pub begins : ℕ → Turns
-begins who = record { who = who; turn = 0; stopped = false }
+abbrev pub begins : ℕ → Passages
+begins who = record { who = who; passage = 0; stopped = false }
 
--- a gate may stop this worker at some turn
+-- a gate may stop this worker at some passage
 abbrev pub MayStop : {G : Type 0} → (G → ℕ → ℕ → Type 0) → G → ℕ → Type 0
-MayStop may_stop gate who = (turn : ℕ) × may_stop gate who turn
+MayStop may_stop gate who = (passage : ℕ) × may_stop gate who passage
 
--- a worker comes to its gate so many times, and passes it at one turn after another unless it is stopped: where it was, at a turn to which it came where its gate may stop it, and at each of these turns where its gate must
-pub record Passes (may_stop must_stop : ℕ → ℕ → Type 0) (times : ℕ) (old new : Turns) : Type 0 where
+-- a worker comes to its gate so many times, and passes it at one passage after another unless it is stopped: where it was, at a passage to which it came where its gate may stop it, and at each of these passages where its gate must
+pub record Passes (may_stop must_stop : ℕ → ℕ → Type 0) (times : ℕ) (old new : Passages) : Type 0 where
   pub who : new.who ≡ old.who
-  pub may : new.stopped ≡ true → (old.stopped ≡ true) ⊎ ((turn : ℕ) × (turn < old.turn + times) × may_stop old.who turn)
+  pub may : new.stopped ≡ true → (old.stopped ≡ true) ⊎ ((passage : ℕ) × (passage < old.passage + times) × may_stop old.who passage)
   pub stays : old.stopped ≡ true → new.stopped ≡ true
-  pub turn : new.stopped ≡ false → old.turn + times < 2 ^ 64 → new.turn ≡ old.turn + times
-  pub must : (k : ℕ) → k < times → old.turn + k < 2 ^ 64 → must_stop old.who (old.turn + k) → new.stopped ≡ true
-  pub most : new.turn ≤ old.turn + times
+  pub passage : new.stopped ≡ false → old.passage + times < 2 ^ 64 → new.passage ≡ old.passage + times
+  pub must : (k : ℕ) → k < times → old.passage + k < 2 ^ 64 → must_stop old.who (old.passage + k) → new.stopped ≡ true
+  pub most : new.passage ≤ old.passage + times
 
--- a worker came to its gate at so many turns, from 0 on, and answers by whether it was stopped there: only where its gate may stop it at one of them, and wherever its gate must
-pub record Stops (may_stop must_stop : ℕ → Type 0) (turns : ℕ) (Answers : Bool → Type 0) : Type 0 where
+-- a worker came to its gate at so many passages, from 0 on, and answers by whether it was stopped there: only where its gate may stop it at one of them, and wherever its gate must
+pub record Stops (may_stop must_stop : ℕ → Type 0) (passages : ℕ) (Answers : Bool → Type 0) : Type 0 where
   pub stopped : Bool
   pub answers : Answers stopped
-  pub may : stopped ≡ true → (turn : ℕ) × (turn < turns) × may_stop turn
-  pub must : (turn : ℕ) → turn < turns → turn < 2 ^ 64 → must_stop turn → stopped ≡ true
+  pub may : stopped ≡ true → (passage : ℕ) × (passage < passages) × may_stop passage
+  pub must : (passage : ℕ) → passage < passages → passage < 2 ^ 64 → must_stop passage → stopped ≡ true

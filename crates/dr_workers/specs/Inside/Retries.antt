@@ -8,7 +8,7 @@ use Rattle.dr_meaning.specs.Calls.Ends.{Received}
 use Rattle.dr_meaning.specs.Calls.Handling.{Relation}
 use Rattle.dr_workers.specs.declared.consumer.Progress.{Progress}
 use Rattle.dr_workers.specs.declared.consumer.Progress.TheVariants.{Drained, GoesOn}
-use Rattle.dr_workers.specs.declared.turns.Turns.{Turns}
+use Rattle.dr_workers.specs.declared.passages.Passages.{Passages}
 use Rattle.dr_workers.specs.Calls.Serving.{AreCompleted, ClaimFails, Due, EndsIn, InOrder, InTurn, IsInTrouble, IsOpen, IsTold, PartFails, Task}
 use Rattle.dr_workers.specs.Calls.Serving.{ToClaim, ToPoll, ToSend, WriteFails, due_after, task_after}
 use Rattle.dr_workers.specs.Calls.Stops.{Passes}
@@ -72,9 +72,9 @@ IsPartSent events (Err trouble) accepted =
     (accepted ≡ []) ⊎ ((stretch : Claimed) × (k : ℕ) × (0 < length events) × (accepted ≡ take k (writing_of (record { stretch = stretch; events = events }))))
 
 -- a claim with its writes and its publication, and the worker's passage of its gate with it
-pub record SendsPart {E : Type 0} (events : List E) (may_stop must_stop : ℕ → ℕ → Type 0) (turns turns' : Turns) (result : Result (Unit {0}) Trouble) (calls : List (InletCall E)) : Type 0 where
+pub record SendsPart {E : Type 0} (events : List E) (may_stop must_stop : ℕ → ℕ → Type 0) (passages passages' : Passages) (result : Result (Unit {0}) Trouble) (calls : List (InletCall E)) : Type 0 where
   pub claims : (claims_in calls ≡ length events ∷ []) ⊎ ((claims_in calls ≡ []) × ((trouble : Trouble) × (result ≡ Err trouble)))
-  pub passes : Passes may_stop must_stop (length (claims_in calls)) turns turns'
+  pub passes : Passes may_stop must_stop (length (claims_in calls)) passages passages'
   pub trouble : (trouble : Trouble) → result ≡ Err trouble → IsInTroubleWith events trouble calls
   pub accepted : IsPartSent events result (accepted_in calls)
   pub order : (cut : ℕ) (rest : List E) → 0 < length events → length events ≡ min (length (events ++ rest)) cut → InOrder cut (ToClaim (events ++ rest)) calls
@@ -86,9 +86,9 @@ due_at_end due [] = due
 due_at_end due (call ∷ calls) = due_at_end (due_after due call) calls
 
 -- a poll and, for a batch, the worker's passage of its gate and the completion
-pub record TakesBatch {E A : Type 0} (room : ℕ) (goes : Relation E A) (before after : A) (old new : Option (Received E)) (may_stop must_stop : ℕ → ℕ → Type 0) (turns turns' : Turns) (result : Result Progress Trouble) (calls : List (OutletCall E)) : Type 0 where
+pub record TakesBatch {E A : Type 0} (room : ℕ) (goes : Relation E A) (before after : A) (old new : Option (Received E)) (may_stop must_stop : ℕ → ℕ → Type 0) (passages passages' : Passages) (result : Result Progress Trouble) (calls : List (OutletCall E)) : Type 0 where
   pub works : Works goes before after old new (batches_in calls)
-  pub passes : Passes may_stop must_stop (length (batches_in calls)) turns turns'
+  pub passes : Passes may_stop must_stop (length (batches_in calls)) passages passages'
   pub told : result ≡ Ok Drained → EndsIn IsTold calls
   pub trouble : (trouble : Trouble) → result ≡ Err trouble → EndsIn (IsInTrouble trouble) calls
   pub completes : AreCompleted calls

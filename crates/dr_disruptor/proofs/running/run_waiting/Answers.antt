@@ -49,7 +49,7 @@ returns-clause-run g c =
       given = begun.sender;
       back = produced.new.inlet;
       fresh = made_so k begun.sender produced.new.inlet ends made.halter ready.fresh produced.ensures.kept;
-      calls = subst (λ (n : ℕ). SomeCalls sender_does begun.sender produced.new.inlet (worker.Sends {E = Event} n script (λ turn. ⊥) (λ turn. ⊥) produced.result)) cut produced.ensures.sends;
+      calls = subst (λ (n : ℕ). SomeCalls sender_does begun.sender produced.new.inlet (worker.Sends {E = Event} n script (λ passage. ⊥) (λ passage. ⊥) produced.result)) cut produced.ensures.sends;
       complete = produced.ensures.open (ap (λ (r : SenderRecord). r.sent.pending) ready.fresh.sender);
       published = produced.ensures.sent ∙ ap (λ (l : List Event). l ++ take produced.result.sent script) none;
     }

@@ -3,7 +3,7 @@ use Rattle.std.proofs.lemmas.Bool.{false≢true}
 use Rattle.dr_workers.proofs.Serving.{of_room, serves_in_trouble, serves_told, serving_more, serving_none}
 use Rattle.dr_workers.proofs.Stopping.{stopped_more, waited, waited_in}
 use Rattle.dr_workers.specs.declared.fault.WorkFault.{WorkFault}
-use Rattle.dr_workers.specs.declared.turns.Turns.{Turns}
+use Rattle.dr_workers.specs.declared.passages.Passages.{Passages}
 use Rattle.dr_workers.proofs.Working.{done_first, done_more}
 use Rattle.dr_workers.specs.Calls.Waits.{Attended, Attends}
 use Rattle.dr_workers.proofs.Biding.{end_alone}
@@ -21,9 +21,9 @@ loop-init g c = (
   tt,
   tt,
   refl,
-  ap (λ (t : Turns). t.who) c.new-turns.ensures,
-  λ is. absurd (false≢true (sym (ap (λ (t : Turns). t.stopped) c.new-turns.ensures) ∙ is)),
-  serving_none (Attends g.O.Outlet.does g.P.Patience.waits g.P.Patience.finds) (length c.args.buf.now) g.H.Handler.goes c.args.handler.now (at c.args.outlet.now c.args.patience.now) (g.O.Outlet.received c.args.outlet.now) (g.G.Gate.may_stop c.args.gate.now) (g.G.Gate.must_stop c.args.gate.now) c.args.who c.new-turns.result c.new-turns.ensures,
+  ap (λ (t : Passages). t.who) c.new-passages.ensures,
+  λ is. absurd (false≢true (sym (ap (λ (t : Passages). t.stopped) c.new-passages.ensures) ∙ is)),
+  serving_none (Attends g.O.Outlet.does g.P.Patience.waits g.P.Patience.finds) (length c.args.buf.now) g.H.Handler.goes c.args.handler.now (at c.args.outlet.now c.args.patience.now) (g.O.Outlet.received c.args.outlet.now) (g.G.Gate.may_stop c.args.gate.now) (g.G.Gate.must_stop c.args.gate.now) c.args.who c.new-passages.result c.new-passages.ensures,
   refl,
   done_first _,
 )

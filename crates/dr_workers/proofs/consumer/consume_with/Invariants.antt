@@ -11,7 +11,7 @@ abbrev pub invariant-loop : goal.invariant-loop
 invariant-loop g l =
     (goal.iterator-loop g).can_next l.iterator' × (goal.iterator-loop g).is_finite l.iterator'
     × (g.O.Outlet.kept l.outlet ≡ g.O.Outlet.kept l.fn.outlet)
-    × (l.turns.who ≡ l.fn.who) × (l.turns.stopped ≡ true → MayStop g.G.Gate.may_stop l.gate l.fn.who)
-    × SomeCalls (Attends g.O.Outlet.does g.P.Patience.waits g.P.Patience.finds) (record { end = l.fn.outlet; patience = l.fn.patience }) (record { end = l.outlet; patience = l.patience }) (Serving (length l.fn.buf) g.H.Handler.goes l.fn.handler l.handler (g.O.Outlet.received l.fn.outlet) (g.O.Outlet.received l.outlet) (g.G.Gate.may_stop l.gate) (g.G.Gate.must_stop l.gate) l.fn.who l.turns)
+    × (l.passages.who ≡ l.fn.who) × (l.passages.stopped ≡ true → MayStop g.G.Gate.may_stop l.gate l.fn.who)
+    × SomeCalls (Attends g.O.Outlet.does g.P.Patience.waits g.P.Patience.finds) (record { end = l.fn.outlet; patience = l.fn.patience }) (record { end = l.outlet; patience = l.patience }) (Serving (length l.fn.buf) g.H.Handler.goes l.fn.handler l.handler (g.O.Outlet.received l.fn.outlet) (g.O.Outlet.received l.outlet) (g.G.Gate.may_stop l.gate) (g.G.Gate.must_stop l.gate) l.fn.who l.passages)
     × (length l.buf ≡ length l.fn.buf)
     × WhereShown IsDone (g.O.Outlet.received l.fn.outlet) (g.O.Outlet.received l.outlet)

@@ -3,7 +3,7 @@ use Rattle.std.proofs.lemmas.Bool.{false≢true}
 use Rattle.dr_meaning.specs.Calls.Ends.{Sent, WhereShown}
 use Rattle.dr_meaning.specs.declared.ends.Trouble.{Trouble}
 use Rattle.dr_meaning.specs.Calls.Calling.{InletCall, SomeCalls}
-use Rattle.dr_workers.specs.declared.turns.Turns.{Turns}
+use Rattle.dr_workers.specs.declared.passages.Passages.{Passages}
 use Rattle.dr_workers.specs.Inside.Retries.{SendsPart}
 use Rattle.dr_workers.specs.Meaning.Work.{Adds}
 use Rattle.dr_workers.proofs.Stopping.{stopped_more}
@@ -19,7 +19,7 @@ part_sent : {E : Type 0} (o p : Option (Sent E)) (m n : ℕ) (events : List E) �
     → WhereShown (Adds (take n events)) o p
 part_sent o p m n events same sent = subst (λ k. WhereShown (Adds (take k events)) o p) same sent
 
-as_long : {S E : Type 0} (does : S → InletCall E → S → Type 0) (a b : S) (may_stop must_stop : ℕ → ℕ → Type 0) (t t' : Turns) (n m : ℕ) (rest : List E) (result : Result (Unit {0}) Trouble)
+as_long : {S E : Type 0} (does : S → InletCall E → S → Type 0) (a b : S) (may_stop must_stop : ℕ → ℕ → Type 0) (t t' : Passages) (n m : ℕ) (rest : List E) (result : Result (Unit {0}) Trouble)
     → n ≡ m → SomeCalls does a b (SendsPart (take n rest) may_stop must_stop t t' result)
     → SomeCalls does a b (SendsPart (take m rest) may_stop must_stop t t' result)
 as_long does a b may_stop must_stop t t' n m rest result same sends = subst (λ k. SomeCalls does a b (SendsPart (take k rest) may_stop must_stop t t' result)) same sends
@@ -43,11 +43,11 @@ pub loop-sent-init : goal.loop-sent-init
 loop-sent-init g c = (
   omega arith,
   refl,
-  ap (λ (t : Turns). t.who) c.new-turns.ensures,
-  λ is. absurd (false≢true (sym (ap (λ (t : Turns). t.stopped) c.new-turns.ensures) ∙ is)),
+  ap (λ (t : Passages). t.who) c.new-passages.ensures,
+  λ is. absurd (false≢true (sym (ap (λ (t : Passages). t.stopped) c.new-passages.ensures) ∙ is)),
   added_none _ _ refl,
   open_none _,
-  sending_none (Provides g.I.Inlet.does g.P.Patience.waits g.P.Patience.finds) (with_room c.args.inlet.now c.args.patience.now 0) c.args.cut c.args.script.now (g.G.Gate.may_stop c.args.gate.now) (g.G.Gate.must_stop c.args.gate.now) c.args.who c.new-turns.result c.new-turns.ensures,
+  sending_none (Provides g.I.Inlet.does g.P.Patience.waits g.P.Patience.finds) (with_room c.args.inlet.now c.args.patience.now 0) c.args.cut c.args.script.now (g.G.Gate.may_stop c.args.gate.now) (g.G.Gate.must_stop c.args.gate.now) c.args.who c.new-passages.result c.new-passages.ensures,
 )
 
 pub returns-in-Err-clause-bides : goal.returns-in-Err-clause-bides

@@ -68,7 +68,7 @@ returns-in_err-lo-clause-sends g c =
     let failed : c.claim.result ≡ Err why = c.in_err-lo.was in
     let p = err_from_is_err_and c.from_residual.result c.from_residual.ensures.1 in
     let same : Err why ≡ c.from_residual.result = (let e = p.1 in let f = p.2 in cc) in
-    subst (λ r. SomeCalls does a b (SendsPart events may must c.args.turns.now c.args.turns.now r)) same
+    subst (λ r. SomeCalls does a b (SendsPart events may must c.args.passages.now c.args.passages.now r)) same
     (part_unclaimed does events a b may must _ why (λ full. c.claim.ensures.waits (failed ∙ ap (λ t. Err t) full)) (subst (λ r. SomeCalls does a b (IsClaimed (length events) r)) c.in_err-lo.was c.claim.ensures.called))
 
 pub returns-in_err-write_all-clause-sends : goal.returns-in_err-write_all-clause-sends

@@ -9,19 +9,19 @@ use dr_meaning::Trouble;
 
 /// A worker's number, how often it passed its gate, and whether it was stopped there.
 #[derive(Clone, Copy)]
-pub(crate) struct Turns {
+pub(crate) struct Passages {
     who: usize,
-    turn: u64,
+    passage: u64,
     stopped: bool,
 }
 
-impl Turns {
-    pub(crate) fn new(who: usize) -> Turns
+impl Passages {
+    pub(crate) fn new(who: usize) -> Passages
         ensures { result ≡ begins who }
     {
-        Turns {
+        Passages {
             who,
-            turn: 0,
+            passage: 0,
             stopped: false,
         }
     }
@@ -33,8 +33,8 @@ impl Turns {
         if self.stopped {
             return;
         }
-        match gate.pass(self.who, self.turn) {
-            GateAnswer::Go => self.turn = self.turn.saturating_add(1),
+        match gate.pass(self.who, self.passage) {
+            GateAnswer::Go => self.passage = self.passage.saturating_add(1),
             GateAnswer::Stop => self.stopped = true,
         }
     }
