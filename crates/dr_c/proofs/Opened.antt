@@ -1,5 +1,5 @@
 -- Handles that are not open.
-use Rattle.std.proofs.Common.{◌≡◌, ◌≢◌, ℕ, suc, ◌+◌, ◌-◌, ◌<◌, ◌≤◌, Bool, true, false, List, [], ◌∷◌, length, drop, set, ap, refl, sym, subst, ◌∙◌, arith}
+use Rattle.std.proofs.Common.{◌≡◌, ◌≢◌, ℕ, suc, ◌+◌, ◌-◌, ◌<◌, ◌≤◌, Bool, true, false, List, [], ◌∷◌, ◌++◌, length, drop, set, ap, refl, sym, subst, ◌∙◌, arith}
 use Rattle.std.specs.Prelude.{◌||◌, Option, None, Some, is_some, replicate}
 use Rattle.std.specs.List.{list_any}
 use Rattle.std.proofs.lemmas.Bool.{or_parts, false≢true}
@@ -11,7 +11,7 @@ use Rattle.dr_meaning.specs.declared.mode.Mode.TheVariants.{Multi}
 use Rattle.dr_meaning.specs.Calls.OpenFault.{has_bad_producers, is_bad_limit}
 use Rattle.dr_c.specs.declared.open_fault.OpenFault.{OpenFault}
 use Rattle.dr_c.specs.declared.open_fault.OpenFault.TheVariants.{StillOpen, BadCount, BadSize, NoHandlers, TooMany, BadOrder, BadProducers, BadLimit, NoMemory}
-use Rattle.dr_c.specs.OpenFault.{AreInOrder, IsFine, IsWhy, NoneIsAmiss, before_making}
+use Rattle.dr_c.specs.OpenFault.{AreInOrder, IsAmiss, IsFine, IsWhy, NoneIsAmiss, before}
 use Rattle.dr_c.specs.Opening.{are_open, ends_in}
 use Rattle.dr_c.specs.OpeningSeveral.{are_all_open}
 
@@ -46,7 +46,7 @@ fine_here b count senders size limit masks closed same fine =
 
 pub no_memory_here : (b : Bool) (count senders size limit : ℕ) (masks : List ℕ) → b ≡ false → count ≡ length masks
     → IsFine false (length masks) senders size limit masks → IsWhy b count senders size limit masks NoMemory
-no_memory_here b count senders size limit masks closed same fine = (tt, (fine_here b count senders size limit masks closed same fine).1.1)
+no_memory_here b count senders size limit masks closed same fine = (tt, fine_here b count senders size limit masks closed same fine)
 
 pub still_open : (b : Bool) (count senders size limit : ℕ) (masks : List ℕ) → b ≡ true → IsWhy b count senders size limit masks StillOpen
 still_open b count senders size limit masks is = (is, tt)
@@ -73,27 +73,37 @@ pub bad_order : (senders size limit : ℕ) (masks : List ℕ) → IsSize size �
 bad_order senders size limit masks fits some within bad = (bad, (false≢true, ((λ other. other refl), ((λ no. no fits), (some, (few (length masks) within, tt))))))
 
 masks_fine : (senders size limit : ℕ) (masks : List ℕ) → IsSize size → length masks ≢ 0 → length masks ≤ 16 → AreInOrder masks
-    → NoneIsAmiss false (length masks) senders size limit masks before_making
+    → NoneIsAmiss false (length masks) senders size limit masks (before BadProducers)
 masks_fine senders size limit masks fits some within order =
     (false≢true, ((λ other. other refl), ((λ no. no fits), (some, (few (length masks) within, ((λ bad. bad order), tt))))))
-
-pub no_memory : (senders size limit : ℕ) (masks : List ℕ) → IsSize size → length masks ≢ 0 → length masks ≤ 16 → AreInOrder masks
-    → IsWhy false (length masks) senders size limit masks NoMemory
-no_memory senders size limit masks fits some within order = (tt, masks_fine senders size limit masks fits some within order)
 
 pub bad_producers : (senders size limit : ℕ) (masks : List ℕ) → IsSize size → length masks ≢ 0 → length masks ≤ 16 → AreInOrder masks
     → has_bad_producers (Multi senders) ≡ true → IsWhy false (length masks) senders size limit masks BadProducers
 bad_producers senders size limit masks fits some within order bad = (bad, masks_fine senders size limit masks fits some within order)
 
+-- nor is one fault more
+nor : (b : Bool) (count senders size limit : ℕ) (masks : List ℕ) (faults : List OpenFault) (fault : OpenFault) → NoneIsAmiss b count senders size limit masks faults
+    → (IsAmiss b count senders size limit masks fault → ⊥) → NoneIsAmiss b count senders size limit masks (faults ++ fault ∷ [])
+nor b count senders size limit masks [] fault none not_it = (not_it, tt)
+nor b count senders size limit masks (first ∷ faults) fault none not_it = (none.0, nor b count senders size limit masks faults fault none.1 not_it)
+
+senders_fine : (senders size limit : ℕ) (masks : List ℕ) → IsSize size → length masks ≢ 0 → length masks ≤ 16 → AreInOrder masks
+    → has_bad_producers (Multi senders) ≡ false → NoneIsAmiss false (length masks) senders size limit masks (before BadLimit)
+senders_fine senders size limit masks fits some within order enough =
+    nor false (length masks) senders size limit masks (before BadProducers) BadProducers (masks_fine senders size limit masks fits some within order) (λ bad. false≢true (sym enough ∙ bad))
+
 pub bad_limit : (senders size limit : ℕ) (masks : List ℕ) → IsSize size → length masks ≢ 0 → length masks ≤ 16 → AreInOrder masks
     → has_bad_producers (Multi senders) ≡ false → is_bad_limit limit ≡ true → IsWhy false (length masks) senders size limit masks BadLimit
-bad_limit senders size limit masks fits some within order enough bad =
-    (bad, ((λ no. false≢true (sym enough ∙ no)), masks_fine senders size limit masks fits some within order))
+bad_limit senders size limit masks fits some within order enough bad = (bad, senders_fine senders size limit masks fits some within order enough)
 
 pub all_fine : (senders size limit : ℕ) (masks : List ℕ) → IsSize size → length masks ≢ 0 → length masks ≤ 16 → AreInOrder masks
     → has_bad_producers (Multi senders) ≡ false → is_bad_limit limit ≡ false → IsFine false (length masks) senders size limit masks
 all_fine senders size limit masks fits some within order enough good =
-    ((λ bad. false≢true (sym good ∙ bad)), ((λ no. false≢true (sym enough ∙ no)), masks_fine senders size limit masks fits some within order))
+    nor false (length masks) senders size limit masks (before BadLimit) BadLimit (senders_fine senders size limit masks fits some within order enough) (λ bad. false≢true (sym good ∙ bad))
+
+-- where nothing is amiss memory may be wanting
+pub no_memory : (b : Bool) (count senders size limit : ℕ) (masks : List ℕ) → IsFine b count senders size limit masks → IsWhy b count senders size limit masks NoMemory
+no_memory b count senders size limit masks fine = (tt, fine)
 
 -- none of the receivers' handles is open
 pub none_before : (s : Handle) (hs : List Handle) (h : Handle) → are_open s hs h ≡ false → ends_in hs ≡ replicate (length hs) None

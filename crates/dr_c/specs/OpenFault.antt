@@ -39,11 +39,7 @@ NoneIsAmiss are_open count senders size limit masks [] = Unit {0}
 NoneIsAmiss are_open count senders size limit masks (fault ∷ faults) =
     (IsAmiss are_open count senders size limit masks fault → ⊥) × NoneIsAmiss are_open count senders size limit masks faults
 
--- what is looked for before a ring is made
-abbrev pub before_making : List OpenFault
-before_making = StillOpen ∷ BadCount ∷ BadSize ∷ NoHandlers ∷ TooMany ∷ BadOrder ∷ []
-
--- and what before a fault; memory may run out before senders and the limit are looked at
+-- what is looked for before a fault, in this order: before a lack of memory everything else
 abbrev pub before : OpenFault → List OpenFault
 before StillOpen = []
 before BadCount = StillOpen ∷ []
@@ -51,15 +47,15 @@ before BadSize = StillOpen ∷ BadCount ∷ []
 before NoHandlers = StillOpen ∷ BadCount ∷ BadSize ∷ []
 before TooMany = StillOpen ∷ BadCount ∷ BadSize ∷ NoHandlers ∷ []
 before BadOrder = StillOpen ∷ BadCount ∷ BadSize ∷ NoHandlers ∷ TooMany ∷ []
-before BadProducers = before_making
-before BadLimit = BadProducers ∷ before_making
-before NoMemory = before_making
+before BadProducers = StillOpen ∷ BadCount ∷ BadSize ∷ NoHandlers ∷ TooMany ∷ BadOrder ∷ []
+before BadLimit = StillOpen ∷ BadCount ∷ BadSize ∷ NoHandlers ∷ TooMany ∷ BadOrder ∷ BadProducers ∷ []
+before NoMemory = StillOpen ∷ BadCount ∷ BadSize ∷ NoHandlers ∷ TooMany ∷ BadOrder ∷ BadProducers ∷ BadLimit ∷ []
 
 -- why handles do not come to have a ring: what is amiss first
 abbrev pub IsWhy : Bool → ℕ → ℕ → ℕ → ℕ → List ℕ → OpenFault → Type 0
 IsWhy are_open count senders size limit masks fault =
     IsAmiss are_open count senders size limit masks fault × NoneIsAmiss are_open count senders size limit masks (before fault)
 
--- nothing is amiss
+-- nothing is amiss, so that memory alone may be wanting
 abbrev pub IsFine : Bool → ℕ → ℕ → ℕ → ℕ → List ℕ → Type 0
-IsFine are_open count senders size limit masks = NoneIsAmiss are_open count senders size limit masks (BadLimit ∷ BadProducers ∷ before_making)
+IsFine are_open count senders size limit masks = NoneIsAmiss are_open count senders size limit masks (before NoMemory)

@@ -1,9 +1,8 @@
 //! The graph that C asks for, by masks.
 
-ghost use Rattle.std.specs.Prelude.{◌≡◌, ◌≢◌, ◌↔◌, ◌^◌, ◌<◌, ◌≤◌, ℕ, false, true, length, IfErr, IfOk, IsTrue};
-ghost use Rattle.dr_seq.specs.Size.{IsSize};
-ghost use Rattle.dr_c.specs.OpenFault.{AreInOrder, IsWhy};
+ghost use Rattle.std.specs.Prelude.{◌≡◌, true, length, IfErr, IfOk};
 ghost use Rattle.dr_c.specs.Opening.{handlers_in as handlers_in_mask, FollowsMasks};
+ghost use Rattle.dr_c.specs.declared.open_fault.OpenFault.TheVariants.{NoMemory};
 
 use crate::open_fault::OpenFault;
 use dr_graph::{Graph, GraphBuilder, GraphFault, MAX_HANDLERS};
@@ -76,27 +75,6 @@ fn built(alloc: Global, masks: &[u64]) -> Result<Graph, GraphFault> {
     builder.build()
 }
 
-// Whether a mask names handlers before its own alone.
-fn is_in_order(mask: u64, handler: usize) -> bool
-    requires { handler < 16 }
-    ensures { IsTrue result ↔ (mask < 2 ^ handler) }
-{
-    mask >> handler == 0
-}
-
-// Whether each mask does.
-fn are_in_order(masks: &[u64]) -> bool
-    requires { length masks.now ≤ 16 }
-    ensures { IsTrue result ↔ AreInOrder masks.now }
-{
-    for k in 0..masks.len() {
-        if !is_in_order(masks[k], k) {
-            return false;
-        }
-    }
-    true
-}
-
 fn are_equal(one: &[usize], other: &[usize]) -> bool
     ensures { result ≡ true → one.now ≡ other.now }
 {
@@ -117,24 +95,13 @@ fn follows_masks(alloc: Global, graph: &Graph, masks: &[u64]) -> Result<bool, Al
     Ok(true)
 }
 
-/// The graph of as many handlers as there are masks, in which handler `k` follows those whose bits are in mask `k`; or what
-/// refuses it.
-#[tactic(auto, using(crate::proofs::Opened::no_handlers, crate::proofs::Opened::too_many, crate::proofs::Opened::bad_order, crate::proofs::Opened::no_memory))]
+/// The graph of as many handlers as there are masks, in which handler `k` follows those whose bits are in mask `k`; or
+/// `NoMemory`.
 pub fn graph(alloc: Global, masks: &[u64]) -> Result<Graph, OpenFault>
     ensures all { IfOk result (λ graph. length graph.upstreams ≡ length masks.now) }
     ensures follows { IfOk result (λ graph. FollowsMasks graph.upstreams masks.now) }
-    ensures fine { IfOk result (λ graph. (length masks.now ≢ 0) × (length masks.now ≤ 16) × AreInOrder masks.now) }
-    ensures refused { (senders size limit : ℕ) → IsSize size → IfErr result (λ fault. IsWhy false (length masks.now) senders size limit masks.now fault) }
+    ensures refused { IfErr result (λ fault. fault ≡ NoMemory) }
 {
-    if masks.is_empty() {
-        return Err(OpenFault::NoHandlers);
-    }
-    if masks.len() > MAX_HANDLERS {
-        return Err(OpenFault::TooMany);
-    }
-    if !are_in_order(masks) {
-        return Err(OpenFault::BadOrder);
-    }
     let Ok(graph) = built(alloc, masks) else {
         return Err(OpenFault::NoMemory);
     };

@@ -15,6 +15,7 @@ ghost use Rattle.dr_c.specs.Opening.{OpenedBy, ends_in};
 ghost use Rattle.dr_c.specs.OpeningSeveral.{OpenedBy as OpenedSeveralBy};
 ghost use Rattle.dr_c.specs.Places.{AtPlace, AtPlaces, ReadsAt, Whether};
 
+mod amiss;
 mod batch;
 mod calls;
 mod end;

@@ -1,40 +1,20 @@
 //! A ring is opened, and its ends are put into handles.
 
-ghost use Rattle.std.specs.Prelude.{◌≡◌, ◌≢◌, ◌≤◌, ℕ, false, None, Ok, length, replicate, is_some, map, IfErr, IfOk, OnOk};
+ghost use Rattle.std.specs.Prelude.{◌≡◌, false, None, Ok, length, replicate, is_some, map, IfErr, IfOk, OnOk};
 ghost use Rattle.std.specs.List.{list_any};
-ghost use Rattle.dr_seq.specs.Size.{IsSize};
-ghost use Rattle.dr_c.specs.OpenFault.{AreInOrder, IsFine, IsWhy};
-ghost use Rattle.dr_c.specs.Opening.{AreOpened, FollowsMasks, Opens, are_open as are_open_of, ends_in, has};
+ghost use Rattle.dr_c.specs.OpenFault.{IsFine, IsWhy};
+ghost use Rattle.dr_c.specs.Opening.{AreOpened, Opens, are_open as are_open_of, ends_in, has};
 
+use crate::amiss::checked_size;
 use crate::end::End;
 use crate::graph::graph;
 use crate::handle::Handle;
 use crate::open_fault::OpenFault;
-use dr_graph::Graph;
-use dr_ring::{Halter, Receiver, RingFault, Sender, ring};
-use dr_seq::Size;
+use dr_ring::{Halter, Receiver, Sender, ring};
 use std::alloc::{AllocError, Global};
 
-/// The size and the graph that a ring is to have, or what refuses it before it is made.
-#[tactic(auto, using(crate::proofs::Opened::bad_size))]
-pub fn shape(alloc: Global, size: u64, masks: &[u64]) -> Result<(Size, Graph), OpenFault>
-    ensures size { IfOk result (λ made. (made.0 ≡ size) × IsSize size) }
-    ensures graph { IfOk result (λ made. (length made.1.upstreams ≡ length masks.now) × FollowsMasks made.1.upstreams masks.now) }
-    ensures fine { IfOk result (λ made. (length masks.now ≢ 0) × (length masks.now ≤ 16) × AreInOrder masks.now) }
-    ensures refused { (senders limit : ℕ) → IfErr result (λ fault. IsWhy false (length masks.now) senders size limit masks.now fault) }
-{
-    let size = match Size::new(size) {
-        Ok(size) => size,
-        Err(_) => return Err(OpenFault::BadSize),
-    };
-    match graph(alloc, masks) {
-        Ok(graph) => Ok((size, graph)),
-        Err(fault) => Err(fault),
-    }
-}
-
 // The ends of a ring, or what refuses it.
-#[tactic(auto, using(crate::proofs::Opened::no_memory, crate::proofs::Opened::bad_limit, crate::proofs::Opened::all_fine))]
+#[tactic(auto, using(crate::proofs::Opened::no_memory))]
 fn ends(
     alloc: Global,
     size: u64,
@@ -45,14 +25,17 @@ fn ends(
     ensures fine { IfOk result (λ made. IsFine false (length masks.now) 1 size limit masks.now) }
     ensures refused { IfErr result (λ fault. IsWhy false (length masks.now) 1 size limit masks.now fault) }
 {
-    let (size, graph) = match shape(alloc, size, masks) {
-        Ok(made) => made,
+    let size = match checked_size(size, limit, masks, 1) {
+        Ok(size) => size,
         Err(fault) => return Err(fault),
     };
+    let Ok(graph) = graph(alloc, masks) else {
+        return Err(OpenFault::NoMemory);
+    };
+    // (the limit is a good one by now)
     match ring(alloc, &graph, size, limit) {
         Ok(ends) => Ok(ends),
-        Err(RingFault::BadLimit) => Err(OpenFault::BadLimit),
-        Err(RingFault::NoMemory) => Err(OpenFault::NoMemory),
+        Err(_) => Err(OpenFault::NoMemory),
     }
 }
 

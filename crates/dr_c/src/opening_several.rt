@@ -6,15 +6,17 @@ ghost use Rattle.dr_c.specs.Opening.{ends_in, has};
 ghost use Rattle.dr_c.specs.OpeningSeveral.{AreOpened, Opens, are_all_open};
 ghost use Rattle.dr_c.specs.declared.end.End.TheVariants.{SenderOfSeveral, ReceiverOfSeveral};
 
+use crate::amiss::checked_size;
 use crate::end::End;
+use crate::graph::graph;
 use crate::handle::Handle;
 use crate::open_fault::OpenFault;
-use crate::opening::{are_open, as_many, boxed, fill, free_all, shape};
+use crate::opening::{are_open, as_many, boxed, fill, free_all};
 use dr_senders::{Halter, Receiver, Sender, senders_ring};
 use std::alloc::Global;
 
 // The ends of a ring, or what refuses it.
-#[tactic(auto, using(crate::proofs::Opened::no_memory, crate::proofs::Opened::bad_producers, crate::proofs::Opened::bad_limit, crate::proofs::Opened::all_fine))]
+#[tactic(auto, using(crate::proofs::Opened::no_memory))]
 fn ends(
     alloc: Global,
     size: u64,
@@ -26,15 +28,17 @@ fn ends(
     ensures fine { IfOk result (λ made. IsFine false (length masks.now) senders size limit masks.now) }
     ensures refused { IfErr result (λ fault. IsWhy false (length masks.now) senders size limit masks.now fault) }
 {
-    let (size, graph) = match shape(alloc, size, masks) {
-        Ok(made) => made,
+    let size = match checked_size(size, limit, masks, senders) {
+        Ok(size) => size,
         Err(fault) => return Err(fault),
     };
+    let Ok(graph) = graph(alloc, masks) else {
+        return Err(OpenFault::NoMemory);
+    };
+    // (the senders and the limit are good ones by now)
     match senders_ring(alloc, &graph, size, limit, senders) {
         Ok(ends) => Ok(ends),
-        Err(dr_meaning::OpenFault::BadProducers) => Err(OpenFault::BadProducers),
-        Err(dr_meaning::OpenFault::BadLimit) => Err(OpenFault::BadLimit),
-        Err(dr_meaning::OpenFault::NoMemory) => Err(OpenFault::NoMemory),
+        Err(_) => Err(OpenFault::NoMemory),
     }
 }
 

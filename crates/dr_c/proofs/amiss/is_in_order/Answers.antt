@@ -3,7 +3,7 @@ use Rattle.std.proofs.Math.Nat.{div-eq_of_lt}
 use Rattle.std.proofs.lemmas.Bool.{eq-eqb, eqb-true}
 use Rattle.std.proofs.lemmas.Nat.{pow_pos}
 use Rattle.dr_c.proofs.Upto.{below}
-use Rattle.dr_c.proofs.graph.is_in_order.Goals as goal
+use Rattle.dr_c.proofs.amiss.is_in_order.Goals as goal
 
 pub returns : goal.returns
 returns c = (
