@@ -2,8 +2,8 @@
  * handlers, each end on a thread of its own. No call waits, and none but the openings and disruptor_free takes memory or gives
  * it back.
  *
- * Each call answers DISRUPTOR_OK or the number of a refusal (DISRUPTOR_REFUSALS). A refused call changes nothing, except
- * that a claim or a poll may have looked at what other ends stored.
+ * Each call answers DISRUPTOR_OK or the number of a refusal (DISRUPTOR_REFUSALS): of those that it lists, the first for which
+ * there is cause. A refused call changes nothing; at most it has looked at what other ends stored.
  *
  * What you owe. Of these nothing can be checked, so a program that breaks one of them is undefined:
  *   - A handle is all zeros before it is first opened (DISRUPTOR_NEW), only calls change it, and it is never copied: its
@@ -81,9 +81,9 @@ DISRUPTOR_HOLDS(sizeof(size_t) == 8);
 #define DISRUPTOR_REFUSALS(of) \
     of(1, NO_ROOM, "no-room", "a final handler has not completed the events in the slots: wait, and claim again") \
     of(2, HALTED, "halted", "the ring is halted, for good: publish what is claimed, and end") \
-    of(3, BAD_COUNT, "bad-count", "none, or more than there can be") \
+    of(3, BAD_COUNT, "bad-count", "none, or more than there can be; or not a receiver for each handler") \
     of(4, EXHAUSTED, "exhausted", "the claim goes past the limit of sequences") \
-    of(5, NOT_CLAIMED, "not-claimed", "the sequence was never claimed") \
+    of(5, NOT_CLAIMED, "not-claimed", "nobody claimed the sequence, or another sender did") \
     of(6, ALREADY_PUBLISHED, "already-published", "the sequence is published, and its event may be read by then") \
     of(7, NOT_WRITTEN, "not-written", "a sequence of the stretch has no event yet") \
     of(8, OUT_OF_ORDER, "out-of-order", "an earlier sequence is not published") \
@@ -145,8 +145,8 @@ static inline void *disruptor_or_nothing(const void *at, size_t there) {
 
 /* Opens a ring of `size` slots in which `limit` sequences may be claimed. Handler k follows those handlers whose bits are
  * in the mask upstreams[k], all of them before k, and its receiver comes to receivers[k]. There are as many receivers as
- * masks, 1 to 16. Refusals, the first for which there is cause: BAD_POINTER, STILL_OPEN, BAD_COUNT, BAD_SIZE, NO_HANDLERS,
- * TOO_MANY, BAD_ORDER, BAD_LIMIT; after BAD_ORDER also NO_MEMORY. Then no handle is opened. */
+ * masks, 1 to 16. Refusals: BAD_POINTER, STILL_OPEN, BAD_COUNT, BAD_SIZE, NO_HANDLERS, TOO_MANY, BAD_ORDER, BAD_LIMIT, NO_MEMORY,
+ * which is answered only where there is no other cause. Then no handle is opened. */
 static inline uint32_t disruptor_open(uint64_t size, uint64_t limit, const uint64_t *upstreams, size_t handlers,
                                       disruptor_sender *sender, disruptor_receiver *receivers, size_t count,
                                       disruptor_halter *halter) {
@@ -190,13 +190,14 @@ static inline uint32_t disruptor_claim(disruptor_sender *sender, uint64_t n, uin
 }
 
 /* Writes the event of a sequence that is claimed and not published, in place of one that was written before. Refusals:
- * BAD_POINTER (of either), NOT_OPEN, WRONG_END, NOT_CLAIMED (or claimed by another sender), ALREADY_PUBLISHED. */
+ * BAD_POINTER (of either), NOT_OPEN, WRONG_END, NOT_CLAIMED (by anybody), ALREADY_PUBLISHED, NOT_CLAIMED (by this sender). */
 static inline uint32_t disruptor_write(disruptor_sender *sender, uint64_t sequence, const disruptor_event *event) {
     return disruptor_write_at(DISRUPTOR_ONE(disruptor_sender, sender), sequence, DISRUPTOR_ONE(const disruptor_event, event));
 }
 
 /* Publishes the sequences from lo to hi, both among them. Refusals: BAD_POINTER, NOT_OPEN, WRONG_END, BAD_COUNT (lo is above
- * hi), NOT_CLAIMED, ALREADY_PUBLISHED, NOT_WRITTEN, and of one sender OUT_OF_ORDER. */
+ * hi), NOT_CLAIMED (hi, by anybody); then of the first sequence at fault ALREADY_PUBLISHED, NOT_CLAIMED (by this sender) or
+ * NOT_WRITTEN; and of one sender OUT_OF_ORDER. */
 static inline uint32_t disruptor_publish(disruptor_sender *sender, uint64_t lo, uint64_t hi) {
     return disruptor_publish_at(DISRUPTOR_ONE(disruptor_sender, sender), lo, hi);
 }

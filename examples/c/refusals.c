@@ -35,6 +35,8 @@ static void try_opening(void) {
     expect("fewer receivers", open_ring(4, 10, 2, 1, 1), DISRUPTOR_BAD_COUNT);
     expect("a handler before itself", open_ring(4, 10, 2, 2, 2), DISRUPTOR_BAD_ORDER);
     expect("no such upstream", open_ring(4, 10, 2, 2, UINT64_C(1) << 63), DISRUPTOR_BAD_ORDER);
+    expect("a size of 3, no handler and a limit of 0", open_ring(3, 0, 0, 0, 0), DISRUPTOR_BAD_SIZE);
+    expect("a handler before itself, and a limit of 0", open_ring(4, 0, 2, 2, 2), DISRUPTOR_BAD_ORDER);
 }
 
 static void try_pairs(void) {
@@ -181,6 +183,7 @@ static void try_several(void) {
     uint64_t lo = 7, other = 7;
     expect("no senders", disruptor_open_several(4, 9, upstreams, 1, senders, 0, one, 1, &last), DISRUPTOR_BAD_PRODUCERS);
     expect("17 senders", disruptor_open_several(4, 9, upstreams, 1, senders, 17, one, 1, &last), DISRUPTOR_BAD_PRODUCERS);
+    expect("no senders, and a limit of 0", disruptor_open_several(4, 0, upstreams, 1, senders, 0, one, 1, &last), DISRUPTOR_BAD_PRODUCERS);
     expect("a limit of 0, of several", disruptor_open_several(4, 0, upstreams, 1, senders, 2, one, 1, &last), DISRUPTOR_BAD_LIMIT);
     expect("no receivers", disruptor_open_several(4, 9, upstreams, 1, senders, 2, one, 0, &last), DISRUPTOR_BAD_COUNT);
     expect("null senders", disruptor_open_several(4, 9, upstreams, 1, NULL, 2, one, 1, &last), DISRUPTOR_BAD_POINTER);
