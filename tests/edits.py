@@ -157,6 +157,36 @@ def companies(edits):
     return groups
 
 
+def shared_out(edits, seconds, most):
+    """Parts edits of bodies into as few lists as can be where no check takes more seconds than the most, so that each takes about as long."""
+    found, longest_first = [], sorted(edits, key=seconds, reverse=True)
+
+    def fits(edit, group):
+        return all(go_together(edit, one) for one in group)
+
+    def length(group):
+        return sum(map(seconds, group))
+
+    for edit in longest_first:
+        group = next((it for it in found if fits(edit, it) and length([edit, *it]) <= most), None)
+        if group is None:
+            found.append([edit])
+        else:
+            group.append(edit)
+    # There are as many lists as any function has edits.
+    shared = [[] for _ in found]
+    for edit in longest_first:
+        min((it for it in shared if fits(edit, it)), key=length).append(edit)
+    return shared
+
+
+def seconds_of(edit, sizes):
+    """Returns about how many seconds a check takes over an edit's functions, by the sizes of what the proofs of functions begin with, in MB."""
+    ends = [f"::{edit.judge}"] if edit.judge else [f"::{path_of(it)}" for it in edit.functions]
+    sized = [max((size for path, size in sizes.items() if f"::{path}".endswith(it)), default=1) for it in ends] or sizes.values()
+    return sum(4 + 3 * it + it * it / 4 for it in sized)
+
+
 def go_together(one, other):
     """Whether neither edit changes what refuses the other: bodies of two functions do not, nor do two clauses of one function."""
     if one.is_of_a_body and other.is_of_a_body:
@@ -204,11 +234,20 @@ def only(edits):
     return [word for it in sorted({it for one in paths for it in one}) for word in ("--only", it)] if all(paths) else []
 
 
+def proofs_of(edit, texts):
+    """Returns the folders of the proofs of the functions that a check of an edit looks at."""
+    if not edit.judge:
+        return [proof_of(it, texts) for it in edit.functions]
+    owners = edit.judge.split("::")
+    at = [module_of(it) for it, text in texts.items() if owners[0] in TYPE.findall(text)]
+    return ["/".join(it for it in ("proofs", *at[-1:], *owners) if it)]
+
+
 def offers_nothing(edits, folder):
     """Has a check of the copy not offer answers for these edits' functions, for which it would search once more: the files of their
     proofs get an error, as long as which stands there it does not. What each goal comes to it says all the same."""
     texts = texts_of(folder)
-    for it in {proof_of(one, texts) for edit in edits for one in edit.functions}:
+    for it in {one for edit in edits for one in proofs_of(edit, texts)}:
         if not os.path.isfile(f"{folder}/{it}/Proof.antt"):
             os.makedirs(f"{folder}/{it}", exist_ok=True)
             with open(f"{folder}/{it}/Answers.antt", "a", encoding="utf-8") as file:

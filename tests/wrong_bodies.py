@@ -34,10 +34,12 @@ sys.path[:0] = [f"{TOP}/tools", f"{TOP}/tests"]
 import prove  # noqa: E402
 import together  # noqa: E402
 import verdicts  # noqa: E402
-from edits import applied, companies, fault_of, forget, offers_nothing, only, place, read_edit  # noqa: E402
+from edits import applied, companies, fault_of, forget, offers_nothing, only, place, read_edit, seconds_of, shared_out  # noqa: E402
 
-# A list has fewer edits.
-MANY = 1000
+# In a processor's seconds, how long a check takes before it comes to an edit, how long it is to take in all, and more than any does.
+BEGINS = 12
+MOST = 200
+MANY = 1_000_000
 # A file's name is no longer, with what is added to a module's.
 LONGEST = 240
 # So much memory, in kB, is free before a further check begins: others go on beside it.
@@ -45,6 +47,8 @@ ROOM = 6_000_000
 # What `rt ci` says once a library stands, or a program is proved, and at its end.
 PROVED = re.compile(r"^rt: (\w+) (?:proved$|is kept: )", re.M)
 ENDED = re.compile(r"^\d+ passed, \d+ failed", re.M)
+# What a check says that took nothing of what is kept of its crate, and so proved its lemmas once more.
+TOOK_NOTHING = re.compile(r"^crate \w+: modules loaded=0 checked=[1-9]", re.M)
 BY_A_NAME = "only a file of proofs refuses it, which cites a name that the edit took away: change a value and keep the names"
 
 
@@ -61,13 +65,14 @@ class Libraries:
             shutil.copytree(f"{self.top}/crates/{name}/out/rlib", f"{self.room}/{name}", copy_function=prove.link)
 
     def lay_out(self, name, kept):
-        """Lays out the modules that a crate's library holds checked as checks keep them, and returns whether it could: there may be no
-        library, or one that lies otherwise."""
+        """Lays out the modules that a crate's library holds checked as checks keep them, and returns why it could not, or None: there may
+        be no library, or one that lies otherwise."""
         try:
             self.lay_out_modules(f"{self.room}/{name}/{name}.rlib", kept)
-        except (OSError, TypeError, ValueError):
+        except (OSError, TypeError, ValueError) as fault:
             shutil.rmtree(kept, ignore_errors=True)
-        return os.path.isdir(kept)
+            return str(fault)
+        return None
 
     def lay_out_modules(self, library, kept):
         index, archive = f"{library}/toolchain/checked.json", f"{library}/toolchain/checked.a"
@@ -81,6 +86,15 @@ class Libraries:
                     modules.seek(start)
                     with open(f"{folder}/{module}.oantt", "wb") as file:
                         file.write(modules.read(length))
+
+    def sizes(self, name):
+        """Returns the functions of a crate's library by their paths, with the size in MB of what the proof of each begins with."""
+        try:
+            with open(f"{self.room}/{name}/{name}.rlib/toolchain/checked.json", encoding="utf-8") as lines:
+                begun = [(module, length) for module, _, length in map(json.loads, lines) if module.endswith(".Lts")]
+        except (OSError, TypeError, ValueError):
+            return {}
+        return {it.partition("-proofs.")[2].removesuffix(".Lts").replace(".", "::"): length / 1e6 for it, length in begun}
 
     def check(self, edits, kept, keeps=None, beside=(), is_short=False, is_of_all=False):
         """Checks the functions of these edits in a copy of their crate to which it applies them, over what is kept, and returns what is
@@ -176,7 +190,8 @@ class Crate:
     """The edits of one crate, and what became of each."""
 
     def __init__(self, top, name):
-        self.refused, self.failed, self.bodies, self.others, self.untold, self.kept = {}, {}, [], [], [], ""
+        self.refused, self.failed, self.bodies, self.others, self.untold = {}, {}, [], [], []
+        self.kept, self.sizes = "", {}
         folder = f"{top}/crates/{name}"
         for it in sorted(os.listdir(f"{folder}/wrong")):
             edit = read_edit(name, f"{folder}/wrong/{it}")
@@ -185,6 +200,13 @@ class Crate:
                 continue
             place(edit, folder)
             (self.bodies if edit.is_of_a_body else self.others).append(edit)
+
+    def seconds(self, edit):
+        return seconds_of(edit, self.sizes)
+
+    def lists(self):
+        """Parts the edits into lists that one check each tries."""
+        return [*companies(self.others), *shared_out(self.bodies, self.seconds, MOST - BEGINS)]
 
 
 class Trial:
@@ -223,12 +245,14 @@ class Trial:
             if is_alone:
                 crate.untold = [*crate.bodies, *crate.others]
             else:
-                self.add(companies([*crate.others, *crate.bodies]), crate.kept)
+                self.add(crate.lists(), crate.kept)
 
     def note_proved(self, name):
         """Notes that a crate is proved, and takes its library for the crates above and for what it holds checked."""
         self.libraries.take(name)
         self.proved.add(name)
+        if crate := self.crates.get(name):
+            crate.sizes = self.libraries.sizes(name)
 
     def follow(self, file):
         """Takes each library that `rt ci` has proved, by its words in the file, and begins the edits of its crate."""
@@ -248,10 +272,11 @@ class Trial:
     def begin(self, name):
         """Tries a crate's edits, over what its library holds checked where `rt ci` left one."""
         crate = self.crates[name]
-        if self.libraries.lay_out(name, crate.kept):
-            self.add(companies([*crate.others, *crate.bodies]), crate.kept)
-        else:
+        if fault := self.libraries.lay_out(name, crate.kept):
+            self.told(f"{name}: its edits are tried over nothing that its library holds: {fault}")
             self.begin_from_nothing(crate)
+        else:
+            self.add(crate.lists(), crate.kept)
 
     def begin_from_nothing(self, crate):
         """Tries the edits of a crate that has no library. Those of the second list come first, since it has the functions of all later ones;
@@ -269,17 +294,23 @@ class Trial:
             self.add(rest, crate.kept)
 
         if first or len(beside) > 1:
-            self.lanes.add(-sum(map(len, groups)) - len(others), begins)
+            self.lanes.add(-sum(map(self.seconds, [*groups, *others])), begins)
         else:
             self.add(rest, None)
 
     def add(self, groups, kept, is_short=True):
         for it in groups:
-            self.lanes.add(-len(it), functools.partial(self.attempt, it, kept, is_short))
+            self.lanes.add(-self.seconds(it), functools.partial(self.attempt, it, kept, is_short))
+
+    def seconds(self, edits):
+        """Returns about how long a check of these edits takes."""
+        return BEGINS + sum(self.crates[it.crate].seconds(it) for it in edits)
 
     def attempt(self, edits, kept, is_short, keeps=None, beside=()):
         """Has one short check judge these edits, and then each of which it does not tell a whole one of its own."""
         said = self.libraries.check(edits, kept, keeps, beside, is_short)
+        if kept and TOOK_NOTHING.search(said):
+            self.told(f"{edits[0].crate}: a check of {len(edits)} edits took nothing of what is kept of the crate")
         kept = kept or keeps
         for edit in edits:
             if goal := verdicts.verdict(said, edit):
@@ -289,7 +320,7 @@ class Trial:
             elif verdicts.is_by_names(said) or not only(edits):
                 self.judge(edit, said)
             else:
-                self.lanes.add(-1, functools.partial(self.try_whole, edit, kept))
+                self.lanes.add(-self.seconds([edit]), functools.partial(self.try_whole, edit, kept))
 
     def try_whole(self, edit, kept):
         self.judge(edit, self.libraries.check([edit], kept, is_of_all=True))
