@@ -1,10 +1,10 @@
 #!/usr/bin/env python3
 """Tests of `wrong_bodies.py` over a crate of five functions, made in a folder of its own: which edits it takes as refused, over
-what `rt lib` keeps, by `rt must-fail` alone, and beside an `rt ci` whose words are written here, over a library and from nothing.
-And of what it stands on: which errors are a name's, and that commands end with the process that started them."""
+the library that `rt lib` built and beside an `rt ci` whose words are written here, and by `rt must-fail` alone. In which order it
+has which checks it shows without `rt`, by answers that stand here for those of checks. And of what it stands on: which errors are a
+name's, which edits one check tries, and that commands end with the process that started them."""
 
 import os
-import shutil
 import signal
 import subprocess
 import sys
@@ -13,7 +13,7 @@ import time
 sys.dont_write_bytecode = True
 sys.path.insert(0, os.path.dirname(os.path.abspath(__file__)))
 import wrong_bodies  # noqa: E402
-from edits import Edit, companies  # noqa: E402
+from edits import Edit, companies, seconds_of, shared_out  # noqa: E402
 from wrong_bodies import together, verdicts  # noqa: E402
 
 SOURCE = """#![tactic(auto)]
@@ -81,21 +81,32 @@ returns c = thrice c.twice-double.result c.args.n c.twice-double.ensures
 EDITS = {
     "adds_one": ("src/lib.rt", "    n + n", "    n + n + 1", "refused by twice, goal"),
     "leaves_all": ("src/lib.rt", "rest = n - m", "rest = n", "refused by rest_of, goal"),
-    "leaves_half": ("src/lib.rt", "rest = n - m", "rest = n - m / 2", "refused by rest_of, goal"),
     # Refused only in company, since its function calls another wrong body there.
     "means_the_same": ("src/lib.rt", "half + half", "2 * half", "NOT REFUSED: toy/means_the_same: the crate is still proved"),
     "begins_with_a_return": ("src/lib.rt", "result ≡ n } {", "result ≡ n } { if n > 100 { return 0; }", "refused by same, goal"),
     "says_less": ("src/lib.rt\njudge: four_times", "    ensures { result ≡ n + n }", "    ensures { n ≤ result }", "refused by four_times, goal"),
-    "changes_a_lemma": ("proofs/Sums.antt", "d ≡ n + n → d", "d ≡ n → d", "refused by a check of the crate: proofs/Sums.antt"),
     "takes_a_name_away": (
         "src/lib.rt",
         "let double = twice(n as u32);",
         "let pair = twice(n as u32); let double = pair;",
         "NOT REFUSED: toy/takes_a_name_away: only a file of proofs",
     ),
-    "is_of_a_test": ("src/tests.rt", "8);", "9);", "NOT REFUSED: toy/is_of_a_test: the crate is still proved"),
     "is_not_there": ("src/lib.rt", "n * n", "n", "BAD EDIT: its old text stands in src/lib.rt 0 times"),
     "stands_twice": ("src/lib.rt", "n as u32", "n as u32 + 1", "BAD EDIT: its old text stands in src/lib.rt 2 times"),
+}
+# Those that are tried over answers for checks alone.
+MORE = {
+    "leaves_half": ("src/lib.rt", "rest = n - m", "rest = n - m / 2", "refused by rest_of, goal"),
+    "changes_a_lemma": ("proofs/Sums.antt", "d ≡ n + n → d", "d ≡ n → d", "refused by a check of the crate: proofs/Sums.antt"),
+    "is_of_a_test": ("src/tests.rt", "8);", "9);", "NOT REFUSED: toy/is_of_a_test: the crate is still proved"),
+}
+# What checks say of edits by themselves: of those of whole crates, of one that a check of its function does not tell, and of others.
+ANSWERED = {
+    "changes_a_lemma": "proofs/Sums.antt:4:18: error: `thrice`: expected type `a`, but this has type `b`\nlogic=not-proved\n",
+    "is_of_a_test": "logic=proved\n",
+    "means_the_same": "logic=proved\n",
+    "leaves_all": "note: src/lib.rt:1:1: not proved (`returns`)\nfn toy::rest_of: not proved\n",
+    "leaves_half": "note: src/lib.rt:1:1: not proved (`returns`)\nfn toy::rest_of: not proved\n",
 }
 # Errors that only a name's being gone explains, and others.
 NAMES = [
@@ -128,7 +139,7 @@ def made_in(top, names):
     files |= {f"{crate}/src/lib.rt": SOURCE, f"{crate}/src/tests.rt": TESTS}
     files |= {f"{crate}/proofs/Lib.antt": "mod Sums\n", f"{crate}/proofs/Sums.antt": LEMMAS, f"{crate}/proofs/six_times/Answers.antt": ANSWERS}
     for name in names:
-        file, old, new, _ = EDITS[name]
+        file, old, new, _ = (EDITS | MORE)[name]
         files[f"{crate}/wrong/{name}.edit"] = f"file: {file}\nold: {old}\nnew: {new}\n"
     for path, text in files.items():
         os.makedirs(os.path.dirname(path), exist_ok=True)
@@ -136,26 +147,13 @@ def made_in(top, names):
             it.write(text)
 
 
-def tried(names, words, is_alone, is_built):
-    """Tries these edits, over what `rt lib` proves or beside an `rt ci` that says these words, and has left the library if it is built,
-    and returns the status and the lines."""
-    lines = []
-    with together.folder("toy-") as top:
-        made_in(top, names)
-        if is_built:
-            wrong_bodies.prove.prove(top, "toy", [], 1, 0, ["lib"])
-            shutil.rmtree(f"{top}/crates/toy/out/incremental")
-        file = f"{top}/words" if words else None
-        if file:
-            with open(file, "w", encoding="utf-8") as it:
-                it.write(words)
-        return wrong_bodies.run(top, None, is_alone, lines.append, file), lines
-
-
-def failures(wanted, last, words=None, is_alone=False, is_built=False):
-    """Returns how much came otherwise: what is said of each edit, and the last line."""
-    failed = 0
-    status, lines = tried(wanted, words, is_alone, is_built)
+def failures(top, wanted, last, words=None, is_alone=False):
+    """Tries the crate's edits, and returns how much came otherwise: what is said of each edit, and the last line."""
+    lines, failed, file = [], 0, f"{top}/words" if words else None
+    if file:
+        with open(file, "w", encoding="utf-8") as it:
+            it.write(words)
+    status = wrong_bodies.run(top, None, is_alone, lines.append, file)
     for name, text in wanted.items():
         said = [it for it in lines if f"toy/{name}:" in it]
         if not said or text not in said[-1]:
@@ -164,6 +162,58 @@ def failures(wanted, last, words=None, is_alone=False, is_built=False):
     if bool(status) == last.endswith(" 0 not") or lines[-1] != last:
         failed += 1
         print(f"FAILED: status {status}, last line {lines[-1]}")
+    return failed
+
+
+def over_a_library(top):
+    """Tries edits over a library, by checks and by `rt must-fail`. Nothing of the crate as it is is proved once more."""
+    made_in(top, EDITS)
+    wrong_bodies.prove.prove(top, "toy", [], 1, 0, ["lib"])
+    kept = f"{top}/crates/toy/out/incremental"
+    os.rename(kept, f"{top}/kept")
+    of_crate, wrong_bodies.Trial.begin_from_nothing = wrong_bodies.Trial.begin_from_nothing, None
+    failed = failures(top, {name: it[3] for name, it in EDITS.items()}, "4 refused, 4 not", "rt: toy proved\n")
+    wrong_bodies.Trial.begin_from_nothing = of_crate
+    os.rename(f"{top}/kept", kept)
+    for name in EDITS:
+        if name != "takes_a_name_away":
+            os.remove(f"{top}/crates/toy/wrong/{name}.edit")
+    alone = {"takes_a_name_away": "NOT REFUSED: toy/takes_a_name_away: refused, as it must be (only"}
+    return failed + failures(top, alone, "0 refused, 1 not", is_alone=True)
+
+
+def over_answers(top):
+    """Tries edits where no library is, with answers for those of checks, and looks at which checks come in which order."""
+    names, asked = list(ANSWERED), []
+    made_in(top, names)
+
+    def check(_, edits, kept, keeps=None, beside=(), is_short=False, is_of_all=False):
+        asked.append(([it.name for it in edits], bool(kept), bool(keeps), is_short, is_of_all))
+        return "\n" + "".join(ANSWERED[it.name] for it in edits if is_of_all or it.name != "means_the_same")
+
+    of_rt, wrong_bodies.Libraries.check = wrong_bodies.Libraries.check, check
+    failed = failures(top, {it: (EDITS | MORE)[it][3] for it in names}, "3 refused, 2 not", "rt: toy proved\n")
+    failed += failures(top, {"leaves_all": "toy is not proved"}, "0 refused, 5 not", "rt: toy NOT PROVED\n0 passed, 1 failed\n")
+    wrong_bodies.Libraries.check = of_rt
+    first = [(["leaves_half"], False, True, True, False)]
+    rest = [([it], True, False, True, False) for it in ("changes_a_lemma", "is_of_a_test")]
+    rest += [(["leaves_all", "means_the_same"], True, False, True, False)]
+    rest += [(["means_the_same"], True, False, False, is_of_all) for is_of_all in (False, True)]
+    if asked[:1] != first or sorted(asked[1:]) != sorted(rest):
+        failed += 1
+        print(f"FAILED: over no library these checks came: {asked}")
+    return failed
+
+
+def lists_apart():
+    """Returns how many lists of edits are otherwise than they were to be: those of one function are apart, and no list takes too long."""
+    edits = [Edit("toy", f"{name}_{k}", functions=[("src/lib.rt", "", name)]) for name, k in (("g", 1), ("f", 1), ("h", 1), ("f", 2))]
+    failed = 0
+    for most, wanted in ((1000, [["f_1", "g_1"], ["f_2", "h_1"]]), (10, [["f_1"], ["f_2"], ["g_1"], ["h_1"]])):
+        found = [[it.name for it in group] for group in shared_out(edits, lambda it: seconds_of(it, {"f": 2.0}), most)]
+        if found != wanted:
+            failed += 1
+            print(f"FAILED: which edits one check of {most} seconds tries: {found}")
     return failed
 
 
@@ -215,20 +265,11 @@ def main():
         if not ends_all(number):
             failed += 1
             print(f"FAILED: what was started goes on after signal {number}")
-    failed += failures({name: it[3] for name, it in EDITS.items()}, "6 refused, 5 not")
-    alone = {"adds_one": "refused by rt must-fail: ", "takes_a_name_away": "NOT REFUSED: toy/takes_a_name_away: refused, as it must be (only"}
-    failed += failures(alone, "1 refused, 1 not", is_alone=True)
-    # The second comes first, and the others over what it kept. What a short check adds to the third's files refuses nothing.
-    beside = {"leaves_all": "refused by rest_of", "leaves_half": "refused by rest_of"}
-    beside |= {"means_the_same": "the crate is still proved", "says_less": "refused by four_times"}
-    beside["changes_a_lemma"] = EDITS["changes_a_lemma"][3]
-    failed += failures(beside, "4 refused, 1 not", "rt: toy proved\n")
-    # Over a library nothing is proved once more, also not by a check of the whole crate.
-    of_crate, wrong_bodies.Trial.begin_from_nothing = wrong_bodies.Trial.begin_from_nothing, None
-    failed += failures(beside, "4 refused, 1 not", "rt: toy proved\n", is_built=True)
-    wrong_bodies.Trial.begin_from_nothing = of_crate
-    failed += failures({"adds_one": "toy is not proved"}, "0 refused, 1 not", "rt: toy NOT PROVED\n0 passed, 1 failed\n")
-    print(f"wrong_bodies.py: {len(EDITS)} edits of a small crate, {failed} failed")
+    failed += lists_apart()
+    for tries in (over_answers, over_a_library):
+        with together.folder("toy-") as top:
+            failed += tries(top)
+    print(f"wrong_bodies.py: {len(EDITS | MORE)} edits of a small crate, {failed} failed")
     return 1 if failed else 0
 
 
