@@ -119,7 +119,7 @@ impl GraphBuilder {
     }
 
     /// Puts one declared handler before another. An edge from a handler to itself is accepted, and is a cycle. An edge
-    /// that is there takes no memory.
+    /// that is there never lacks memory.
     pub fn edge(&mut self, up: &str, down: &str) -> Result<(), GraphFault>
         ensures connected { OnOk result (self.new ≡ connected self.old up.now down.now) }
         ensures accepted { IsOk result → stranger_fault self.old.names (up.now ∷ down.now ∷ []) ≡ None }

@@ -13,7 +13,7 @@ use Rattle.dr_meaning.specs.Meaning.Machine.{Setup, State, Outcome, handlers, ne
 use Rattle.dr_meaning.specs.Meaning.Machine.{least_completed, refusals, accepted, unchanged, step, batch, cursor, opening}
 use Rattle.dr_meaning.specs.Meaning.Transcript.{Entry, Transcript, LeadsFrom, LeadsTo, next_of, is_published, front_of, taken_by, completed_by, retired_by}
 use Rattle.dr_meaning.specs.Meaning.Tells.{Tells}
-use Rattle.dr_meaning.specs.Meaning.Laws.{ReceivedInOrder, AfterUpstreams, HasRoom, NoClaimAfterHalt, DrainedIsComplete, Laws}
+use Rattle.dr_meaning.specs.Meaning.Laws.{ReceivedInOrder, AfterUpstreams, HasRoom, GivesNext, NoClaimAfterHalt, DrainedIsComplete, Laws}
 use Rattle.dr_meaning.proofs.Leasts.{least_is, least_agree, least_of-member}
 use Rattle.dr_meaning.proofs.Steps.{NoneHold, unless-cases}
 use Rattle.dr_meaning.proofs.Tells.{tells_more}
@@ -154,6 +154,26 @@ accepted_room c m (Retire at) none lo hi e = cc
 step_room : {E : Type 0} (c : Setup) (m : State E) (command : Command E) → ClaimsInRoom c m (step c m command)
 step_room c m command = unless-cases (ClaimsInRoom c m) (refusals c m command) m (accepted c m command) (λ r lo hi e. cc) (accepted_room c m command)
 
+-- an accepted claim is given the next sequences
+abbrev ClaimsNext : {E : Type 0} → State E → Outcome E → Type 0
+ClaimsNext m o = (lo hi : ℕ) → o.reply ≡ Claimed lo hi → lo ≡ next m
+
+claimed_start : (lo hi a b : ℕ) → Claimed a b ≡ Claimed lo hi → lo ≡ a
+claimed_start lo hi a b e = cc
+
+accepted_next : {E : Type 0} (c : Setup) (m : State E) (command : Command E) → NoneHold (refusals c m command) → ClaimsNext m (accepted c m command)
+accepted_next c m (Claim p n) none lo hi e = claimed_start lo hi (next m) (next m + n - 1) e
+accepted_next c m (Write p s v) none lo hi e = cc
+accepted_next c m (Publish p a b) none lo hi e = cc
+accepted_next c m (Poll at limit) none lo hi e =
+    poll_cases c m at limit (λ o. o.reply ≡ Claimed lo hi → lo ≡ next m) (λ x. cc) (λ a b x. cc) (λ x. cc) (λ x. cc) e
+accepted_next c m (Complete at upto) none lo hi e = cc
+accepted_next c m Halt none lo hi e = cc
+accepted_next c m (Retire at) none lo hi e = cc
+
+step_next : {E : Type 0} (c : Setup) (m : State E) (command : Command E) → ClaimsNext m (step c m command)
+step_next c m command = unless-cases (ClaimsNext m) (refusals c m command) m (accepted c m command) (λ r lo hi e. cc) (accepted_next c m command)
+
 -- who is told that it drained the ring has taken all, after a halt
 abbrev Drains : {E : Type 0} → State E → ℕ → Outcome E → Type 0
 Drains m h o = o.reply ≡ Drained → (m.halted ≡ true) × (slice_index m.taken h ≡ next m)
@@ -207,6 +227,9 @@ module _ {E : Type 0} (c : Setup) (t : Transcript E) (m : State E) (e : Entry E)
       (step_room c m e.command lo hi (r ∙ claimed)).1 f (rw (finals_agree c.upstreams (retired_by t) m.retired at.tells.retired) at has) in
       omega arith
 
+  gives : GivesNext t e
+  gives lo hi claimed = step_next c m e.command lo hi (r ∙ claimed) ∙ sym at.tells.next
+
   unhalted : NoClaimAfterHalt t e
   unhalted lo hi claimed halted =
       let going : m.halted ≡ false = (step_room c m e.command lo hi (r ∙ claimed)).0 in
@@ -241,6 +264,8 @@ lawful c t m leads = record {
   after_upstreams = λ start rest is h inside. (let r : Through c start rest m = through c t m leads start rest is in follows c start r.0 r.1 h);
   has_room = λ start rest e is. (let r : Through c start (e ∷ rest) m = through c t m leads start (e ∷ rest) is in
       room c start r.0 e (reached c start r.0 r.1) r.2.0);
+  gives_next = λ start rest e is. (let r : Through c start (e ∷ rest) m = through c t m leads start (e ∷ rest) is in
+      gives c start r.0 e (reached c start r.0 r.1) r.2.0);
   no_claim_after_halt = λ start rest e is. (let r : Through c start (e ∷ rest) m = through c t m leads start (e ∷ rest) is in
       unhalted c start r.0 e (reached c start r.0 r.1) r.2.0);
   drained_is_complete = λ start rest e is. (let r : Through c start (e ∷ rest) m = through c t m leads start (e ∷ rest) is in

@@ -60,7 +60,8 @@ pub struct Wrote {
     pub trouble: Option<Trouble>,
 }
 
-/// A producer's end. Its calls answer as the machine does, and in trouble they change nothing.
+/// A producer's end. Its calls answer as the machine does, and in trouble they change nothing that
+/// it shows.
 pub trait Inlet<E: Copy> {
     /// What no call changes, as which end it is.
     ghost Kept: { Type 0 } = { Unit {0} };
@@ -123,7 +124,8 @@ pub trait Inlet<E: Copy> {
         ensures called { does self.old (PublishesStretch lo hi result) self.new };
 }
 
-/// A handler's end. Its calls answer as the machine does, and in trouble they change nothing.
+/// A handler's end. Its calls answer as the machine does, and in trouble they change nothing that it
+/// shows.
 pub trait Outlet<E> {
     /// What no call changes, as which end it is.
     ghost Kept: { Type 0 } = { Unit {0} };

@@ -10,7 +10,7 @@ ghost use Rattle.dr_meaning.specs.Meaning.Transcript.{Transcript, LeadsTo};
 ghost use Rattle.dr_meaning.specs.Meaning.Laws.{Laws};
 ghost use Rattle.dr_meaning.specs.Meaning.Tells.{Tells};
 ghost use Rattle.dr_meaning.specs.Meaning.Progress.{NobodyIsStuck, CanFinish, GoOn, to_do};
-ghost use Rattle.dr_meaning.specs.Meaning.TooFar.{IsTooFar, claim_of, receipt_of, completion_of, halt, drain, retirement, written, published, taken, completed, taken_by_both};
+ghost use Rattle.dr_meaning.specs.Meaning.TooFar.{IsTooFar, pair, claim_of, receipt_of, completion_of, retirement_of, halt, drain, written, published, taken, completed, taken_by_both, join, two_published, first_receipt, second_receipt, completed_beside};
 
 /// Every transcript that leads from the opening to a state of the machine has the five laws, at
 /// each of its beginnings.
@@ -18,22 +18,30 @@ pub fn every_transcript_is_lawful<E>()
     ensures { (c : Setup) (t : Transcript E) (m : State E) → LeadsTo c t m → Laws c t }
 {}
 
-/// The laws refuse one step too far: an event that is not the published one, or not published; a
-/// completion that is taken back, or of what was not taken; an event that the upstream took and did
-/// not complete; a claim of a slot whose event the last handler took and did not complete, or, once
-/// that one is retired, the first did not take; a claim after a halt; and `Drained` before a halt,
-/// or before what is published was taken.
+/// The laws refuse one step too far: an event that is not the published one, or not published, or
+/// that comes again, or before an earlier one; a completion that is taken back, or of what was not
+/// taken; an event that an upstream, whichever, did not complete; a claim of a slot whose event a
+/// final handler, whichever, did not complete, also of one that a retirement left final; a claim of
+/// what is claimed already, or after a halt; and `Drained` before a halt, or before what is published
+/// was taken.
 pub fn laws_refuse_a_step_too_far()
-    ensures other_event { IsTooFar published (receipt_of 0 6) }
-    ensures unpublished { IsTooFar written (receipt_of 0 5) }
-    ensures taken_back { IsTooFar completed (completion_of 0 0) }
-    ensures untaken { IsTooFar published (completion_of 0 1) }
-    ensures before_upstream { IsTooFar taken (receipt_of 1 5) }
-    ensures no_room { IsTooFar taken_by_both (claim_of 1) }
-    ensures no_room_after_retirement { IsTooFar (published ++ retirement ∷ []) (claim_of 1) }
-    ensures claimed_late { IsTooFar (halt ∷ []) (claim_of 0) }
-    ensures drained_before_halt { IsTooFar [] drain }
-    ensures drained_early { IsTooFar (published ++ halt ∷ []) drain }
+    ensures other_event { IsTooFar pair published (receipt_of 0 6) }
+    ensures unpublished { IsTooFar pair written (receipt_of 0 5) }
+    ensures received_again { IsTooFar join (two_published ++ first_receipt 0 5 ∷ []) (second_receipt 0 5) }
+    ensures out_of_order { IsTooFar join two_published (first_receipt 1 6) }
+    ensures taken_back { IsTooFar pair completed (completion_of 0 0) }
+    ensures untaken { IsTooFar pair published (completion_of 0 1) }
+    ensures before_upstream { IsTooFar pair taken (receipt_of 1 5) }
+    ensures before_first_upstream { IsTooFar join (completed_beside 1) (first_receipt 2 5) }
+    ensures before_second_upstream { IsTooFar join (completed_beside 0) (first_receipt 2 5) }
+    ensures no_room { IsTooFar pair taken_by_both (claim_of 1) }
+    ensures no_room_after_retirement { IsTooFar pair (published ++ retirement_of 1 ∷ []) (claim_of 1) }
+    ensures no_room_for_first_final { IsTooFar join (completed_beside 1 ++ retirement_of 2 ∷ []) (claim_of 2) }
+    ensures no_room_for_second_final { IsTooFar join (completed_beside 0 ++ retirement_of 2 ∷ []) (claim_of 2) }
+    ensures claimed_twice { IsTooFar pair (claim_of 0 ∷ []) (claim_of 0) }
+    ensures claimed_late { IsTooFar pair (halt ∷ []) (claim_of 0) }
+    ensures drained_before_halt { IsTooFar pair [] drain }
+    ensures drained_early { IsTooFar pair (published ++ halt ∷ []) drain }
 {}
 
 /// What a transcript says by its own entries is what the state that it leads to has.

@@ -21,6 +21,10 @@ pub record AfterUpstreams {E : Type 0} (c : Setup) (t : Transcript E) (h : ℕ) 
 abbrev pub HasRoom : {E : Type 0} → Setup → Transcript E → Entry E → Type 0
 HasRoom c t e = (lo hi f : ℕ) → e.reply ≡ Claimed lo hi → Contains (finals_without c.upstreams (retired_by t)) f → hi + 1 ≤ c.size + completed_by t f
 
+-- room, too: a claim is given the next sequences, so that none is claimed twice
+abbrev pub GivesNext : {E : Type 0} → Transcript E → Entry E → Type 0
+GivesNext t e = (lo hi : ℕ) → e.reply ≡ Claimed lo hi → lo ≡ next_of t
+
 -- no claim after a halt
 abbrev pub NoClaimAfterHalt : {E : Type 0} → Transcript E → Entry E → Type 0
 NoClaimAfterHalt t e = (lo hi : ℕ) → e.reply ≡ Claimed lo hi → IsTrue (is_halted t) → ⊥
@@ -39,5 +43,6 @@ pub record Laws {E : Type 0} (c : Setup) (t : Transcript E) : Type 0 where
   pub received_in_order : (start rest : Transcript E) → start ++ rest ≡ t → (h : ℕ) → h < handlers c → ReceivedInOrder start h
   pub after_upstreams : (start rest : Transcript E) → start ++ rest ≡ t → (h : ℕ) → h < handlers c → AfterUpstreams c start h
   pub has_room : (start rest : Transcript E) (e : Entry E) → start ++ e ∷ rest ≡ t → HasRoom c start e
+  pub gives_next : (start rest : Transcript E) (e : Entry E) → start ++ e ∷ rest ≡ t → GivesNext start e
   pub no_claim_after_halt : (start rest : Transcript E) (e : Entry E) → start ++ e ∷ rest ≡ t → NoClaimAfterHalt start e
   pub drained_is_complete : (start rest : Transcript E) (e : Entry E) → start ++ e ∷ rest ≡ t → DrainedIsComplete start e

@@ -1,5 +1,5 @@
 -- One step too far: an entry after which a transcript of the machine is lawful no more. The events are numbers here.
-use Rattle.std.specs.Prelude.{ℕ, true, [], ◌∷◌, ◌++◌}
+use Rattle.std.specs.Prelude.{ℕ, false, true, [], ◌∷◌, ◌++◌}
 use Rattle.dr_meaning.specs.declared.mode.Mode.TheVariants.{Single}
 use Rattle.dr_meaning.specs.declared.command.Command.TheVariants.{Claim, Write, Publish, Poll, Complete, Halt, Retire}
 use Rattle.dr_meaning.specs.declared.command.Reply.TheVariants.{Claimed, Written, Published, Batch, Drained, Completed, Halting, Retired}
@@ -24,9 +24,8 @@ completion_of h upto = entry_with (Complete h upto) Completed []
 abbrev pub halt : Entry ℕ
 halt = entry_with Halt Halting []
 
--- the second handler retires, so the first one is final
-abbrev pub retirement : Entry ℕ
-retirement = entry_with (Retire 1) Retired []
+abbrev pub retirement_of : ℕ → Entry ℕ
+retirement_of h = entry_with (Retire h) Retired []
 
 -- the first handler is told that the ring drained
 abbrev pub drain : Entry ℕ
@@ -48,7 +47,27 @@ completed = taken ++ completion_of 0 1 ∷ []
 abbrev pub taken_by_both : Transcript ℕ
 taken_by_both = completed ++ receipt_of 1 5 ∷ []
 
+-- a ring of two slots, and three handlers, of which the third follows the first two
+abbrev pub join : Setup
+join = setup_of ([] ∷ [] ∷ (0 ∷ 1 ∷ []) ∷ []) 2 Single 9
+
+-- the events 5 and 6 are published there
+abbrev pub two_published : Transcript ℕ
+two_published =
+    entry_with (Claim 0 2) (Claimed 0 1) [] ∷ entry_with (Write 0 0 5) Written [] ∷ entry_with (Write 0 1 6) Written [] ∷ entry_with (Publish 0 0 1) Published [] ∷ []
+
+-- a handler receives an event as the first of two, or as the second
+abbrev pub first_receipt : ℕ → ℕ → Entry ℕ
+first_receipt h event = entry_with (Poll h 1) (Batch 0 1 false) (event ∷ [])
+
+abbrev pub second_receipt : ℕ → ℕ → Entry ℕ
+second_receipt h event = entry_with (Poll h 1) (Batch 1 1 true) (event ∷ [])
+
+-- one of the first two handlers took and completed the first event
+abbrev pub completed_beside : ℕ → Transcript ℕ
+completed_beside h = two_published ++ first_receipt h 5 ∷ completion_of h 1 ∷ []
+
 -- a transcript leads to a state, and with one entry more it is lawful no more
-pub record IsTooFar (t : Transcript ℕ) (e : Entry ℕ) : Type 0 where
-  pub so_far : (m : State ℕ) × LeadsTo pair t m
-  pub unlawful : Laws pair (t ++ e ∷ []) → ⊥
+pub record IsTooFar (c : Setup) (t : Transcript ℕ) (e : Entry ℕ) : Type 0 where
+  pub so_far : (m : State ℕ) × LeadsTo c t m
+  pub unlawful : Laws c (t ++ e ∷ []) → ⊥

@@ -1,6 +1,8 @@
-use Rattle.std.proofs.Common.{arith, ◌≡◌, ◌≤◌, ◌∷◌, ◌++◌, [], refl, false, true, Some, ap, unwrap_or}
+use Rattle.std.proofs.Common.{arith, ℕ, ◌≡◌, ◌≤◌, ◌∷◌, ◌++◌, [], refl, false, true, Some, ap, unwrap_or}
+use Rattle.dr_meaning.specs.Meaning.Transcript.{Transcript}
 use Rattle.dr_meaning.specs.Meaning.Laws.{IsComplete, ReceivedInOrder, AfterUpstreams}
-use Rattle.dr_meaning.specs.Meaning.TooFar.{pair, claim_of, receipt_of, completion_of, halt, drain, retirement, written, published, taken, completed, taken_by_both}
+use Rattle.dr_meaning.specs.Meaning.TooFar.{pair, claim_of, receipt_of, completion_of, retirement_of, halt, drain, written, published, taken, completed, taken_by_both}
+use Rattle.dr_meaning.specs.Meaning.TooFar.{join, two_published, first_receipt, second_receipt, completed_beside}
 use Rattle.dr_meaning.proofs.lawful.laws_refuse_a_step_too_far.Goals as goal
 
 pub returns-clause-other_event : goal.returns-clause-other_event
@@ -68,7 +70,15 @@ unfolding Rattle.dr_meaning.specs.Meaning.Machine.least_outside
 returns-clause-no_room_after_retirement c = record {
   so_far = (_, (refl, refl, (refl, refl, (refl, refl, (refl, refl, refl)))));
   unlawful = λ laws.
-      (let room : 2 ≤ 1 = laws.has_room (published ++ retirement ∷ []) [] (claim_of 1) refl 1 1 0 refl (0, omega arith, refl) in
+      (let room : 2 ≤ 1 = laws.has_room (published ++ retirement_of 1 ∷ []) [] (claim_of 1) refl 1 1 0 refl (0, omega arith, refl) in
+      omega arith);
+}
+
+pub returns-clause-claimed_twice : goal.returns-clause-claimed_twice
+returns-clause-claimed_twice c = record {
+  so_far = (_, (refl, refl, refl));
+  unlawful = λ laws.
+      (let next : 0 ≡ 1 = laws.gives_next (claim_of 0 ∷ []) [] (claim_of 0) refl 0 0 refl in
       omega arith);
 }
 
@@ -91,5 +101,69 @@ returns-clause-drained_early c = record {
   unlawful = λ laws.
       (let complete : IsComplete (published ++ halt ∷ []) 0 = laws.drained_is_complete (published ++ halt ∷ []) [] drain refl 0 1 refl refl in
       let all : 0 ≡ 1 = complete.taken in
+      omega arith);
+}
+
+pub returns-clause-received_again : goal.returns-clause-received_again
+unfolding Rattle.dr_meaning.specs.Meaning.Machine.least_outside
+returns-clause-received_again c = record {
+  so_far = (_, (refl, refl, (refl, refl, (refl, refl, (refl, refl, (refl, refl, refl))))));
+  unlawful = λ laws.
+      (let all : Transcript ℕ = (two_published ++ first_receipt 0 5 ∷ []) ++ second_receipt 0 5 ∷ [] in
+      let order : ReceivedInOrder all 0 = laws.received_in_order all [] refl 0 (omega arith) in
+      let same : Some 5 ≡ Some 6 = order.events 1 (omega arith) in
+      let numbers : 5 ≡ 6 = ap (λ o. unwrap_or o 5) same in
+      omega arith);
+}
+
+pub returns-clause-out_of_order : goal.returns-clause-out_of_order
+unfolding Rattle.dr_meaning.specs.Meaning.Machine.least_outside
+returns-clause-out_of_order c = record {
+  so_far = (_, (refl, refl, (refl, refl, (refl, refl, (refl, refl, refl)))));
+  unlawful = λ laws.
+      (let all : Transcript ℕ = two_published ++ first_receipt 1 6 ∷ [] in
+      let order : ReceivedInOrder all 1 = laws.received_in_order all [] refl 1 (omega arith) in
+      let same : Some 6 ≡ Some 5 = order.events 0 (omega arith) in
+      let numbers : 6 ≡ 5 = ap (λ o. unwrap_or o 5) same in
+      omega arith);
+}
+
+pub returns-clause-before_first_upstream : goal.returns-clause-before_first_upstream
+unfolding Rattle.dr_meaning.specs.Meaning.Machine.least_outside
+returns-clause-before_first_upstream c = record {
+  so_far = (_, (refl, refl, (refl, refl, (refl, refl, (refl, refl, (refl, refl, (refl, refl, refl)))))));
+  unlawful = λ laws.
+      (let all : Transcript ℕ = completed_beside 1 ++ first_receipt 2 5 ∷ [] in
+      let order : AfterUpstreams join all 2 = laws.after_upstreams all [] refl 2 (omega arith) in
+      let after : 1 ≤ 0 = order.after 0 (0, omega arith, refl) in
+      omega arith);
+}
+
+pub returns-clause-before_second_upstream : goal.returns-clause-before_second_upstream
+unfolding Rattle.dr_meaning.specs.Meaning.Machine.least_outside
+returns-clause-before_second_upstream c = record {
+  so_far = (_, (refl, refl, (refl, refl, (refl, refl, (refl, refl, (refl, refl, (refl, refl, refl)))))));
+  unlawful = λ laws.
+      (let all : Transcript ℕ = completed_beside 0 ++ first_receipt 2 5 ∷ [] in
+      let order : AfterUpstreams join all 2 = laws.after_upstreams all [] refl 2 (omega arith) in
+      let after : 1 ≤ 0 = order.after 1 (1, omega arith, refl) in
+      omega arith);
+}
+
+pub returns-clause-no_room_for_first_final : goal.returns-clause-no_room_for_first_final
+unfolding Rattle.dr_meaning.specs.Meaning.Machine.least_outside
+returns-clause-no_room_for_first_final c = record {
+  so_far = (_, (refl, refl, (refl, refl, (refl, refl, (refl, refl, (refl, refl, (refl, refl, (refl, refl, refl))))))));
+  unlawful = λ laws.
+      (let room : 3 ≤ 2 = laws.has_room (completed_beside 1 ++ retirement_of 2 ∷ []) [] (claim_of 2) refl 2 2 0 refl (0, omega arith, refl) in
+      omega arith);
+}
+
+pub returns-clause-no_room_for_second_final : goal.returns-clause-no_room_for_second_final
+unfolding Rattle.dr_meaning.specs.Meaning.Machine.least_outside
+returns-clause-no_room_for_second_final c = record {
+  so_far = (_, (refl, refl, (refl, refl, (refl, refl, (refl, refl, (refl, refl, (refl, refl, (refl, refl, refl))))))));
+  unlawful = λ laws.
+      (let room : 3 ≤ 2 = laws.has_room (completed_beside 0 ++ retirement_of 2 ∷ []) [] (claim_of 2) refl 2 2 1 refl (1, omega arith, refl) in
       omega arith);
 }
