@@ -103,6 +103,18 @@ least_of-member counts hs h has =
     let d : get_or hs has.0 h ≡ h = has.2 in
     rw d at (rw b at a)
 
+-- and is one of theirs
+pub least_of-one : (counts : ℕ → ℕ) (x : ℕ) (xs : List ℕ) → (h : ℕ) × Contains (x ∷ xs) h × (least_of (map counts (x ∷ xs)) ≡ counts h)
+least_of-one counts x [] = (x, (0, omega arith, refl), refl)
+least_of-one counts x (y ∷ ys) =
+    let rest : (h : ℕ) × Contains (y ∷ ys) h × (least_of (map counts (y ∷ ys)) ≡ counts h) = least_of-one counts y ys in
+    let has : Contains (y ∷ ys) rest.0 = rest.1 in
+    let least : least_of (map counts (y ∷ ys)) ≡ counts rest.0 = rest.2 in
+    elim (cases_lt (counts x) (least_of (map counts (y ∷ ys)))) [
+      | inl l ↦ (x, (0, omega arith, refl), omega arith)
+      | inr g ↦ (rest.0, (suc has.0, (let l : has.0 < length (y ∷ ys) = has.1 in omega arith), has.2), omega arith)
+    ]
+
 -- the least count of those handlers below a bound that pass a test, and whether there is one
 pub record IsLeastOf (p : ℕ → Bool) (counts : ℕ → ℕ) (bound : ℕ) (found : Bool) (least : ℕ) : Type 0 where
   pub some : found ≡ not (length (filter p (range_with_len 0 bound)) == 0)

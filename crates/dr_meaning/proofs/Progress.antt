@@ -16,8 +16,8 @@ use Rattle.dr_graph.proofs.Gating.{any_here, final_left, least_above, least_abov
 use Rattle.dr_meaning.specs.Meaning.Machine.{Setup, State, Outcome, handlers, producers, is_single, next, front, available, offered, cursor, gate, gating, publish_faults}
 use Rattle.dr_meaning.specs.Meaning.Machine.{refusals, accepted, step, opening}
 use Rattle.dr_meaning.specs.Meaning.Transcript.{Transcript, LeadsFrom, LeadsTo}
-use Rattle.dr_meaning.specs.Meaning.Progress.{reply_to, MayTake, MayComplete, AwaitedGoesOn, ClaimAwaits, MayPublish, NobodyIsStuck}
-use Rattle.dr_meaning.proofs.Leasts.{least_is}
+use Rattle.dr_meaning.specs.Meaning.Progress.{reply_to, MayTake, MayComplete, WaitsFor, AwaitedGoesOn, ClaimAwaits, MayPublish, NobodyIsStuck}
+use Rattle.dr_meaning.proofs.Leasts.{least_is, least_of-one}
 use Rattle.dr_meaning.proofs.Steps.{NoneHold, NoneHold-stretch, NoneHold-join, unless-none, unless-cases}
 use Rattle.dr_meaning.proofs.Sound.{IsSound, offered-le}
 use Rattle.dr_meaning.proofs.Bounds.{IsBounded, bounded}
@@ -138,41 +138,51 @@ module _ {E : Type 0} (c : Setup) (m : State E) (sound : IsSound c m) (tended : 
         (lt-leb _ _ inside, (left, (le-ltb _ _ (let l : slice_index m.completed h ≤ slice_index m.taken h = omega arith in l), (le-ltb _ _ (let l : slice_index m.taken h ≤ slice_index m.taken h = omega arith in l), tt)))));
   }
 
-  -- one that an upstream waits for, the handler below it waits for too
-  awaited_above : (h u : ℕ) → Contains (upstreams_of c.upstreams h) u → m.retired u ≡ false → AwaitedGoesOn c m u → AwaitedGoesOn c m h
-  awaited_above h u has left above = record { awaited = above.awaited; path = u ∷ above.path; leads = (has, left, above.leads); goes_on = above.goes_on }
+  -- who waits for a handler waits for whom that one waits for
+  awaited_above : (h u : ℕ) → WaitsFor c m h u → AwaitedGoesOn c m u → AwaitedGoesOn c m h
+  awaited_above h u waits above = record { awaited = above.awaited; path = u ∷ above.path; leads = (waits, above.leads); goes_on = above.goes_on }
 
   -- a handler is offered all before the front where its upstreams are done
   pub offered_all : (us : List ℕ) → ((u : ℕ) → Contains us u → IsDone m u) → front m ≤ offered m us
   offered_all [] done = omega arith
   offered_all (u ∷ us) done = least_above (λ h. slice_index m.completed h) (front m) u us (λ f has. let d : slice_index m.completed f ≡ front m = done f has in omega arith)
 
-  -- so it can go on, or is done too
-  offered_done : (h : ℕ) → h < handlers c → m.retired h ≡ false → front m ≤ available c m h → IsDone m h ⊎ AwaitedGoesOn c m h
-  offered_done h inside left all =
+  -- a handler is offered what lies before the front, or what one of its upstreams completed
+  offerer : (us : List ℕ) → (offered m us ≡ front m) ⊎ ((u : ℕ) × Contains us u × (offered m us ≡ slice_index m.completed u))
+  offerer [] = inl refl
+  offerer (u ∷ us) = inr (least_of-one (λ h. slice_index m.completed h) u us)
+
+  -- a handler that is offered all before the front, and took what it is offered, is done, or can go on
+  offered_done : (h : ℕ) → h < handlers c → m.retired h ≡ false → available c m h ≤ slice_index m.taken h → available c m h ≡ front m
+      → IsDone m h ⊎ AwaitedGoesOn c m h
+  offered_done h inside left taken all =
       elim (cases_lt (slice_index m.completed h) (slice_index m.taken h)) [
         | inl more ↦ inr (record { awaited = h; path = []; leads = refl; goes_on = inr (may_complete h inside left more) })
         | inr completed ↦
-            elim (cases_lt (slice_index m.taken h) (available c m h)) [
-              | inl more ↦ inr (record { awaited = h; path = []; leads = refl; goes_on = inl (may_take h inside left more) })
-              | inr taken ↦ inl (let t : slice_index m.taken h ≤ front m = sound.in_front h in let k : slice_index m.completed h ≤ slice_index m.taken h = sound.took h in omega arith)
-            ]
+            let low : slice_index m.completed h ≤ slice_index m.taken h = sound.took h in
+            let high : slice_index m.taken h ≤ front m = sound.in_front h in
+            inl (omega arith)
       ]
 
   module _ (layered : IsLayered c.upstreams) where
-    -- upstreams first
+    -- a handler can take, or waits for the upstream that completed least, which is done, or can go on, or waits too
     done_up : (bound h : ℕ) → h < bound → h < handlers c → m.retired h ≡ false → IsDone m h ⊎ AwaitedGoesOn c m h
     done_up zero h low inside left = absurd (omega arith)
     done_up (suc bound) h low inside left =
-        elim (all_or (IsDone m) (AwaitedGoesOn c m h) (upstreams_of c.upstreams h) (λ u has.
-        let below : u < h = layered h u has in
-        let here : m.retired u ≡ false = tended.left h u left has in
-        elim (done_up bound u (omega arith) (omega arith) here) [
-          | inl is ↦ inl is
-          | inr goes ↦ inr (awaited_above h u has here goes)
-        ])) [
-          | inr goes ↦ inr goes
-          | inl ups ↦ offered_done h inside left (offered_all (upstreams_of c.upstreams h) ups)
+        elim (cases_lt (slice_index m.taken h) (available c m h)) [
+          | inl more ↦ inr (record { awaited = h; path = []; leads = refl; goes_on = inl (may_take h inside left more) })
+          | inr taken ↦ elim (offerer (upstreams_of c.upstreams h)) [
+            | inl all ↦ offered_done h inside left taken all
+            | inr least ↦
+                let u : ℕ = least.0 in
+                let below : u < h = layered h u least.1 in
+                let here : m.retired u ≡ false = tended.left h u left least.1 in
+                let offers : available c m h ≡ slice_index m.completed u = least.2 in
+                elim (done_up bound u (omega arith) (omega arith) here) [
+                  | inl is ↦ offered_done h inside left taken (offers ∙ is)
+                  | inr goes ↦ inr (awaited_above h u (record { upstream = least.1; left = here; taken = omega arith }) goes)
+                ]
+          ]
         ]
 
     done : (h : ℕ) → h < handlers c → m.retired h ≡ false → IsDone m h ⊎ AwaitedGoesOn c m h

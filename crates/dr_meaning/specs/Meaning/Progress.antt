@@ -25,12 +25,18 @@ pub record MayComplete {E : Type 0} (c : Setup) (m : State E) (h : ℕ) : Type 0
   pub more : slice_index m.completed h < slice_index m.taken h
   pub completes : reply_to c m (Complete h (slice_index m.taken h)) ≡ Completed
 
--- a path up from a handler to another: each entry is an upstream of the one before it, and is not retired, and the last one is the other
+-- a handler waits for an upstream that is not retired, and whose completed events it has all taken
+pub record WaitsFor {E : Type 0} (c : Setup) (m : State E) (h up : ℕ) : Type 0 where
+  pub upstream : Contains (upstreams_of c.upstreams h) up
+  pub left : m.retired up ≡ false
+  pub taken : slice_index m.completed up ≤ slice_index m.taken h
+
+-- a path up from a handler to another: each waits for the next one, and the last one is the other
 abbrev pub IsPathUp : {E : Type 0} → Setup → State E → ℕ → List ℕ → ℕ → Type 0
 IsPathUp c m from [] to = from ≡ to
-IsPathUp c m from (up ∷ ups) to = Contains (upstreams_of c.upstreams from) up × (m.retired up ≡ false) × IsPathUp c m up ups to
+IsPathUp c m from (up ∷ ups) to = WaitsFor c m from up × IsPathUp c m up ups to
 
--- a handler can go on, or one that it waits for: one that a path leads up to
+-- a handler can go on, or one that a path leads up to: one that it waits for, or that this one waits for, and so on
 pub record AwaitedGoesOn {E : Type 0} (c : Setup) (m : State E) (h : ℕ) : Type 0 where
   pub awaited : ℕ
   pub path : List ℕ
