@@ -152,35 +152,40 @@ module _ {E : Type 0} (c : Setup) (m : State E) (sound : IsSound c m) (tended : 
   offerer [] = inl refl
   offerer (u ∷ us) = inr (least_of-one (λ h. slice_index m.completed h) u us)
 
-  -- a handler that is offered all before the front, and took what it is offered, is done, or can go on
-  offered_done : (h : ℕ) → h < handlers c → m.retired h ≡ false → available c m h ≤ slice_index m.taken h → available c m h ≡ front m
-      → IsDone m h ⊎ AwaitedGoesOn c m h
-  offered_done h inside left taken all =
-      elim (cases_lt (slice_index m.completed h) (slice_index m.taken h)) [
-        | inl more ↦ inr (record { awaited = h; path = []; leads = refl; goes_on = inr (may_complete h inside left more) })
-        | inr completed ↦
-            let low : slice_index m.completed h ≤ slice_index m.taken h = sound.took h in
-            let high : slice_index m.taken h ≤ front m = sound.in_front h in
-            inl (omega arith)
+  -- a handler that is offered all before the front, and took and completed what it is offered, is done
+  offered_done : (h : ℕ) → available c m h ≤ slice_index m.taken h → slice_index m.completed h ≡ slice_index m.taken h → available c m h ≡ front m → IsDone m h
+  offered_done h taken completed all = (let high : slice_index m.taken h ≤ front m = sound.in_front h in omega arith)
+
+  -- a handler can go on, or it took what it is offered, and completed that
+  goes_or_rests : (h : ℕ) → h < handlers c → m.retired h ≡ false
+      → AwaitedGoesOn c m h ⊎ ((available c m h ≤ slice_index m.taken h) × (slice_index m.completed h ≡ slice_index m.taken h))
+  goes_or_rests h inside left =
+      elim (cases_lt (slice_index m.taken h) (available c m h)) [
+        | inl more ↦ inl (record { awaited = h; path = []; leads = refl; goes_on = inl (may_take h inside left more) })
+        | inr taken ↦ elim (cases_lt (slice_index m.completed h) (slice_index m.taken h)) [
+          | inl more ↦ inl (record { awaited = h; path = []; leads = refl; goes_on = inr (may_complete h inside left more) })
+          | inr completed ↦ inr (taken, (let low : slice_index m.completed h ≤ slice_index m.taken h = sound.took h in omega arith))
+        ]
       ]
 
   module _ (layered : IsLayered c.upstreams) where
-    -- a handler can take, or waits for the upstream that completed least, which is done, or can go on, or waits too
+    -- a handler can go on, or waits for the upstream that completed least, which is done, or can go on, or waits too
     done_up : (bound h : ℕ) → h < bound → h < handlers c → m.retired h ≡ false → IsDone m h ⊎ AwaitedGoesOn c m h
     done_up zero h low inside left = absurd (omega arith)
     done_up (suc bound) h low inside left =
-        elim (cases_lt (slice_index m.taken h) (available c m h)) [
-          | inl more ↦ inr (record { awaited = h; path = []; leads = refl; goes_on = inl (may_take h inside left more) })
-          | inr taken ↦ elim (offerer (upstreams_of c.upstreams h)) [
-            | inl all ↦ offered_done h inside left taken all
+        elim (goes_or_rests h inside left) [
+          | inl goes ↦ inr goes
+          | inr rests ↦ elim (offerer (upstreams_of c.upstreams h)) [
+            | inl all ↦ inl (offered_done h rests.0 rests.1 all)
             | inr least ↦
                 let u : ℕ = least.0 in
                 let below : u < h = layered h u least.1 in
                 let here : m.retired u ≡ false = tended.left h u left least.1 in
                 let offers : available c m h ≡ slice_index m.completed u = least.2 in
+                let taken : slice_index m.completed u ≤ slice_index m.taken h = rw offers at rests.0 in
                 elim (done_up bound u (omega arith) (omega arith) here) [
-                  | inl is ↦ offered_done h inside left taken (offers ∙ is)
-                  | inr goes ↦ inr (awaited_above h u (record { upstream = least.1; left = here; taken = omega arith }) goes)
+                  | inl is ↦ inl (offered_done h rests.0 rests.1 (offers ∙ is))
+                  | inr goes ↦ inr (awaited_above h u (record { upstream = least.1; left = here; taken = taken; completed = rests.1 }) goes)
                 ]
           ]
         ]

@@ -25,11 +25,12 @@ pub record MayComplete {E : Type 0} (c : Setup) (m : State E) (h : ℕ) : Type 0
   pub more : slice_index m.completed h < slice_index m.taken h
   pub completes : reply_to c m (Complete h (slice_index m.taken h)) ≡ Completed
 
--- a handler waits for an upstream that is not retired, and whose completed events it has all taken
+-- a handler waits for an upstream that is not retired, where it has taken all that this one completed, and completed all that it took
 pub record WaitsFor {E : Type 0} (c : Setup) (m : State E) (h up : ℕ) : Type 0 where
   pub upstream : Contains (upstreams_of c.upstreams h) up
   pub left : m.retired up ≡ false
   pub taken : slice_index m.completed up ≤ slice_index m.taken h
+  pub completed : slice_index m.completed h ≡ slice_index m.taken h
 
 -- a path up from a handler to another: each waits for the next one, and the last one is the other
 abbrev pub IsPathUp : {E : Type 0} → Setup → State E → ℕ → List ℕ → ℕ → Type 0
