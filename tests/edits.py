@@ -35,7 +35,7 @@ class Edit:
 
 def read_edit(crate, path):
     """Reads an edit: lines `file: PATH`, and pairs of lines `old: TEXT` and `new: TEXT`. A line `judge: PATH` names the function
-    that has to refuse an edit of no body, and where that is of a clause of this function, a line `goal: NAME` the clause's goal."""
+    that has to refuse an edit of no body or of a closure, and a line `goal: NAME` the one goal of it that this edit leaves open."""
     edit, file, old = Edit(crate, os.path.basename(path).removesuffix(".edit")), None, None
     for line in open(path, encoding="utf-8").read().split("\n"):
         word, _, text = line.partition(": ")
@@ -188,7 +188,7 @@ def seconds_of(edit, sizes):
 
 
 def go_together(one, other):
-    """Whether neither edit changes what refuses the other: bodies of two functions do not, nor do two clauses of one function."""
+    """Whether neither edit changes what refuses the other: bodies of two functions do not, nor do texts of one for two goals of it."""
     if one.is_of_a_body and other.is_of_a_body:
         return one.functions != other.functions
     return one.judge == other.judge and "" not in (one.judge, one.goal, other.goal) and one.goal != other.goal
