@@ -3,16 +3,19 @@
 
 use dr_graph::{Graph, GraphBuilder, GraphFault};
 use dr_meaning::{Handler, MAX_LIMIT};
-use dr_ring::{Receiver, ring};
+use dr_ring::{Receiver, Sender, ring};
 use dr_seq::{Event, Size};
 use dr_workers::{OpenGate, WorkFault, consume, produce};
 use std::alloc::Global;
 use std::process::ExitCode;
 use std::sync::Wait;
-use std::thread::{self, Threads};
+use std::thread::{self, JoinHandle, Threads};
 use thiserror::Error;
 
-#[derive(Debug, Drop, Error)]
+/// The most events of a claim: a quarter of the ring.
+const CUT: u64 = 16;
+
+#[derive(Clone, Copy, Debug, Error)]
 enum Fault {
     #[error("the graph: {0}")]
     Graph(GraphFault),
@@ -48,24 +51,56 @@ fn add_up<R: Wait>(rt: &R, mut receiver: Receiver, who: usize) -> Result<u64, Fa
     }
 }
 
+fn declare(builder: &mut GraphBuilder) -> Result<(), GraphFault> {
+    let first = builder.handle_with(&["first"])?;
+    builder.then(&first, &["second"])?;
+    Ok(())
+}
+
 fn graph(alloc: Global) -> Result<Graph, GraphFault> {
     let mut builder = GraphBuilder::new(alloc);
-    let first = builder.handle_with(&["first"])?;
-    let _second = builder.then(&first, &["second"])?;
+    declare(&mut builder)?;
     builder.build()
+}
+
+/// Sends a script if both handlers are there to receive it, and closes the ring: they end once it has drained, which it
+/// does only when it is closed. No claim is open by then, even where the sender was refused.
+fn send_and_close<R: Wait>(
+    rt: &R,
+    mut sender: Sender,
+    script: &[Event],
+    is_received: bool,
+) -> Result<(), Fault> {
+    let sent = if is_received {
+        produce(rt, &mut sender, &OpenGate, 16, script, CUT).fault
+    } else {
+        None
+    };
+    let _closed = sender.close();
+    match sent {
+        None => Ok(()),
+        Some(fault) => Err(Fault::Work(fault)),
+    }
+}
+
+/// What a handler added up, if its thread was started.
+fn total<R: Threads, E: Drop>(
+    rt: &R,
+    handler: Result<JoinHandle<Result<u64, Fault>>, E>,
+) -> Result<u64, Fault> {
+    match handler {
+        Ok(handler) => handler.join(rt),
+        Err(_) => Err(Fault::Memory),
+    }
 }
 
 /// Sends a script through two handlers, and gives what each added up.
 fn exchange<R: Threads + Wait + Sync>(
     rt: &R,
-    alloc: Global,
-    size: Size,
+    sender: Sender,
+    mut receivers: Vec<Receiver>,
     script: &[Event],
 ) -> Result<(u64, u64), Fault> {
-    let graph = graph(alloc).map_err(Fault::Graph)?;
-    let Ok((mut sender, mut receivers, _halter)) = ring(alloc, &graph, size, MAX_LIMIT) else {
-        return Err(Fault::Memory);
-    };
     let (Some(second), Some(first)) = (receivers.pop(), receivers.pop()) else {
         return Err(Fault::Memory);
     };
@@ -75,34 +110,31 @@ fn exchange<R: Threads + Wait + Sync>(
         move |scope| -> Result<(u64, u64), Fault> {
             let first = scope.spawn(move || add_up(rt, first, 0));
             let second = scope.spawn(move || add_up(rt, second, 1));
-            let mut sent = None;
-            if first.is_ok() && second.is_ok() {
-                sent = produce(rt, &mut sender, &OpenGate, 16, script, size.get()).fault;
-            }
-            // The handlers end once the ring has drained, which it does only when it is closed. No claim
-            // is open by then, even where the sender was refused.
-            let _closed = sender.close();
-            let (Ok(first), Ok(second)) = (first, second) else {
-                return Err(Fault::Memory);
-            };
-            let totals = (first.join(rt)?, second.join(rt)?);
-            match sent {
-                None => Ok(totals),
-                Some(fault) => Err(Fault::Work(fault)),
-            }
+            let sent = send_and_close(rt, sender, script, first.is_ok() && second.is_ok());
+            let totals = (total(rt, first), total(rt, second));
+            sent?;
+            Ok((totals.0?, totals.1?))
         },
     )
 }
 
+/// The ends of a ring of sixty-four slots.
+fn open(alloc: Global, graph: &Graph) -> Option<(Sender, Vec<Receiver>)> {
+    let size = Size::new(64).ok()?;
+    let (sender, receivers, _halter) = ring(alloc, graph, size, MAX_LIMIT).ok()?;
+    Some((sender, receivers))
+}
+
 fn run<R: Threads + Wait + Sync>(rt: &R, alloc: Global) -> Result<(u64, u64), Fault> {
+    let graph = graph(alloc).map_err(Fault::Graph)?;
     let script = [Event {
         first: 1,
         second: 0,
     }; 100];
-    let Ok(size) = Size::new(64) else {
-        return Err(Fault::Memory);
-    };
-    exchange(rt, alloc, size, script.as_slice())
+    match open(alloc, &graph) {
+        Some((sender, receivers)) => exchange(rt, sender, receivers, script.as_slice()),
+        None => Err(Fault::Memory),
+    }
 }
 
 fn main(rt: HostRuntime) -> ExitCode {
