@@ -3,16 +3,16 @@
 
 use dr_graph::{Graph, GraphBuilder, GraphFault};
 use dr_meaning::{Handler, MAX_LIMIT};
-use dr_senders::{Receiver, Sender, senders_ring};
+use dr_senders::{Halter, Receiver, Sender, senders_ring};
 use dr_seq::{Event, Size};
 use dr_workers::{OpenGate, WorkFault, consume, produce};
 use std::alloc::Global;
 use std::process::ExitCode;
 use std::sync::Wait;
-use std::thread::{self, Threads};
+use std::thread::{self, JoinHandle, Threads};
 use thiserror::Error;
 
-#[derive(Debug, Drop, Error)]
+#[derive(Clone, Copy, Debug, Error)]
 enum Fault {
     #[error("the graph: {0}")]
     Graph(GraphFault),
@@ -58,8 +58,19 @@ fn send<R: Wait>(rt: &R, mut sender: Sender, who: usize, script: &[Event]) -> Re
 
 fn graph(alloc: Global) -> Result<Graph, GraphFault> {
     let mut builder = GraphBuilder::new(alloc);
-    let _adder = builder.handle_with(&["adder"])?;
+    builder.handle_with(&["adder"])?;
     builder.build()
+}
+
+/// What came of a worker, if its thread was started.
+fn joined<T: Drop, R: Threads, E: Drop>(
+    rt: &R,
+    worker: Result<JoinHandle<Result<T, Fault>>, E>,
+) -> Result<T, Fault> {
+    match worker {
+        Ok(worker) => worker.join(rt),
+        Err(_) => Err(Fault::Memory),
+    }
 }
 
 /// Two senders send a script each, one on a thread of its own and one on this.
@@ -70,11 +81,9 @@ fn send_both<R: Threads + Wait + Sync>(
     script: &[Event],
 ) -> Result<(), Fault> {
     thread::scope(thread::scope_env(), rt, move |scope| -> Result<(), Fault> {
-        let Ok(one) = scope.spawn(move || send(rt, one, 16, script)) else {
-            return Err(Fault::Memory);
-        };
+        let one = scope.spawn(move || send(rt, one, 16, script));
         let sent = send(rt, other, 17, script);
-        one.join(rt)?;
+        joined(rt, one)?;
         sent
     })
 }
@@ -82,46 +91,51 @@ fn send_both<R: Threads + Wait + Sync>(
 /// Sends a script twice, by two senders, and gives what the handler added up.
 fn exchange<R: Threads + Wait + Sync>(
     rt: &R,
-    alloc: Global,
-    size: Size,
+    mut senders: Vec<Sender>,
+    receiver: Receiver,
+    halter: &mut Halter,
     script: &[Event],
 ) -> Result<u64, Fault> {
-    let graph = graph(alloc).map_err(Fault::Graph)?;
-    let Ok((mut senders, mut receivers, mut halter)) = senders_ring(
-        alloc, &graph, size, MAX_LIMIT, 2,
-    ) else {
-        return Err(Fault::Memory);
-    };
-    let (Some(one), Some(other), Some(receiver)) = (senders.pop(), senders.pop(), receivers.pop())
-    else {
+    let (Some(one), Some(other)) = (senders.pop(), senders.pop()) else {
         return Err(Fault::Memory);
     };
     thread::scope(
         thread::scope_env(),
         rt,
         move |scope| -> Result<u64, Fault> {
-            let Ok(handler) = scope.spawn(move || add_up(rt, receiver)) else {
-                return Err(Fault::Memory);
-            };
+            let handler = scope.spawn(move || add_up(rt, receiver));
+            if handler.is_err() {
+                // Nobody would make room for the senders.
+                halter.halt();
+            }
             let sent = send_both(rt, one, other, script);
             // The handler is told that the ring drained once it has all that was claimed before.
             halter.halt();
-            let total = handler.join(rt)?;
+            let total = joined(rt, handler)?;
             sent?;
             Ok(total)
         },
     )
 }
 
+/// The ends of a ring of sixty-four slots with two senders.
+fn open(alloc: Global, graph: &Graph) -> Option<(Vec<Sender>, Vec<Receiver>, Halter)> {
+    senders_ring(alloc, graph, Size::new(64).ok()?, MAX_LIMIT, 2).ok()
+}
+
 fn run<R: Threads + Wait + Sync>(rt: &R, alloc: Global) -> Result<u64, Fault> {
+    let graph = graph(alloc).map_err(Fault::Graph)?;
     let script = [Event {
         first: 1,
         second: 0,
     }; 100];
-    let Ok(size) = Size::new(64) else {
-        return Err(Fault::Memory);
-    };
-    exchange(rt, alloc, size, script.as_slice())
+    match open(alloc, &graph) {
+        Some((senders, mut receivers, mut halter)) => match receivers.pop() {
+            Some(receiver) => exchange(rt, senders, receiver, &mut halter, script.as_slice()),
+            None => Err(Fault::Memory),
+        },
+        None => Err(Fault::Memory),
+    }
 }
 
 fn main(rt: HostRuntime) -> ExitCode {
