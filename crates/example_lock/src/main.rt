@@ -15,7 +15,7 @@ use std::marker::Brand;
 use std::process::ExitCode;
 use std::sync::Wait;
 use std::sync::ledger::{Blank, Ledger};
-use std::thread::{self, Threads};
+use std::thread::{self, JoinHandle, Threads};
 
 /// What one producer is to send: ten events with its number.
 fn script(p: u64) -> [Event; 10] {
@@ -77,6 +77,17 @@ fn receive<L: Exchange<Event>, R: Wait>(
     outlet.into_end()
 }
 
+/// The end that a worker hands back, if its thread was started.
+fn joined<L: Exchange<Event>, R: Threads, E: Drop>(
+    rt: &R,
+    worker: Result<JoinHandle<End<Event, L>>, E>,
+) -> Option<End<Event, L>> {
+    match worker {
+        Ok(worker) => Some(worker.join(rt)),
+        Err(_) => None,
+    }
+}
+
 /// Starts a thread a worker, halts once the producers are joined, and gives back every end.
 fn exchange<L: Exchange<Event> + Send + Sync, R: Threads + Wait + Sync>(
     rt: &R,
@@ -102,14 +113,16 @@ fn exchange<L: Exchange<Event> + Send + Sync, R: Threads + Wait + Sync>(
             }
             let first = scope.spawn(move || send(rt, shared, first, 0));
             let second = scope.spawn(move || send(rt, shared, second, 1));
-            let first = first.ok().map(|worker| worker.join(rt));
-            let second = second.ok().map(|worker| worker.join(rt));
+            let (first, second) = (joined(rt, first), joined(rt, second));
             halt(rt, shared, &mut halter);
-            let handler = handler.ok().map(|worker| worker.join(rt));
+            let (Some(first), Some(second), Some(handler)) = (first, second, joined(rt, handler))
+            else {
+                return None;
+            };
             Some(Ends {
-                first: first?,
-                second: second?,
-                handler: handler?,
+                first,
+                second,
+                handler,
                 halter,
             })
         },
@@ -136,12 +149,36 @@ fn open(alloc: Global) -> Option<Recorded<Event>> {
 }
 
 fn make_ends<L: Exchange<Event>>(shared: &mut Shared<Event, L>) -> Option<Ends<L>> {
+    let (Some(first), Some(second), Some(handler), Some(halter)) = (
+        shared.end(),
+        shared.end(),
+        shared.end(),
+        shared.end(),
+    ) else {
+        return None;
+    };
     Some(Ends {
-        first: shared.end()?,
-        second: shared.end()?,
-        handler: shared.end()?,
-        halter: shared.end()?,
+        first,
+        second,
+        handler,
+        halter,
     })
+}
+
+/// Lets the workers have an exchange behind a lock, and gives back every end.
+fn played<L: Exchange<Event> + Send + Sync, R: Threads + Wait + Sync>(
+    rt: &R,
+    alloc: Global,
+    shared: &mut Shared<Event, L>,
+) -> Option<Vec<End<Event, L>>> {
+    let ends = make_ends(shared)?;
+    let Ends {
+        first,
+        second,
+        handler,
+        halter,
+    } = exchange(rt, shared, ends)?;
+    Vec::from_array(alloc, [first, second, handler, halter]).ok()
 }
 
 /// How many events the one list has that every handler received, by the audit of the history.
@@ -151,7 +188,7 @@ fn audited(alloc: Global, recorded: &Recorded<Event>) -> Option<usize> {
     Some(list.len())
 }
 
-/// Lets the workers have an exchange behind a lock, and audits its history once all ends are back.
+/// Has an exchange behind a lock, and audits its history once all ends are back.
 fn run<L: Exchange<Event> + Send + Sync, R: Threads + Wait + Sync>(
     rt: &R,
     alloc: Global,
@@ -164,16 +201,10 @@ fn run<L: Exchange<Event> + Send + Sync, R: Threads + Wait + Sync>(
     requires begun { recorded.history ≡ L.begun }
 {
     let mut shared = Shared::<Event, L>::new(recorded, blank);
-    let ends = make_ends(&mut shared)?;
-    let Ends {
-        first,
-        second,
-        handler,
-        halter,
-    } = exchange(rt, &shared, ends)?;
-    let back = Vec::from_array(alloc, [first, second, handler, halter]).ok()?;
-    let recorded = finish(shared, back).ok()?;
-    audited(alloc, &recorded)
+    match played(rt, alloc, &mut shared) {
+        Some(ends) => audited(alloc, &finish(shared, ends).ok()?),
+        None => None,
+    }
 }
 
 /// Opens an exchange and runs it.
