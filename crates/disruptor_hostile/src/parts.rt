@@ -60,6 +60,7 @@ fn tell_places<R: Print>(rt: &R, size: Size) -> Result<(), Fault> {
 
 fn tell_all<R: Print>(
     rt: &R,
+    alloc: Global,
     size: Size,
     slots: &mut Slots<Event>,
     rounds: &mut Rounds,
@@ -74,7 +75,22 @@ fn tell_all<R: Print>(
     tell_rounds(rt, rounds)?;
     tell_gate(rt)?;
     tell_graph(rt, graph)?;
-    tell_finals(rt, graph)
+    tell_finals(rt, graph)?;
+    tell_memory(rt, alloc)
+}
+
+fn tell_parts_of<R: Print>(
+    rt: &R,
+    alloc: Global,
+    size: Size,
+    slots: &mut Slots<Event>,
+    rounds: &mut Rounds,
+) -> Result<(), Fault>
+    requires slots { length slots.old ≡ 4 }
+    requires rounds { length rounds.old ≡ 4 }
+{
+    let graph = diamond(alloc)?;
+    tell_all(rt, alloc, size, slots, rounds, &graph)
 }
 
 /// Every call of slots, rounds, a remembered count and a graph.
@@ -82,7 +98,5 @@ pub fn tell_parts<R: Print>(rt: &R, alloc: Global) -> Result<(), Fault> {
     let size = Size::new(4)?;
     let mut slots = Slots::new(alloc, size, Event::NONE)?;
     let mut rounds = Rounds::new(alloc, size)?;
-    let graph = diamond(alloc)?;
-    tell_all(rt, size, &mut slots, &mut rounds, &graph)?;
-    tell_memory(rt, alloc)
+    tell_parts_of(rt, alloc, size, &mut slots, &mut rounds)
 }

@@ -11,7 +11,7 @@ use crate::taking_none::tell_memory;
 use crate::telling::{tell_about, tell_both, tell_value, tell_words};
 use dr_graph::Graph;
 use dr_meaning::MAX_LIMIT;
-use dr_plain::{Halter, Receiver, Sender, finish, ring};
+use dr_plain::{Halter, Receiver, Sender, Settled, Values, finish, ring};
 use dr_seq::{Event, Size};
 use std::alloc::Global;
 
@@ -84,16 +84,30 @@ fn tell_calls<R: Print>(rt: &R, ends: &mut Ends) -> Result<(), Fault> {
     tell_ending(rt, ends)
 }
 
-// Brings the ends of a ring together, and tells what came back.
-fn tell_finished<R: Print>(rt: &R, ends: Ends) -> Result<(), Fault>
-    requires { AreAllEnds ends.sender ends.receivers.items × IsHalterOf ends.sender ends.halter }
-{
-    let (settled, mut events) = finish(ends.sender, ends.receivers, ends.halter);
+fn tell_open<R: Print>(rt: &R, ends: &mut Ends) -> Result<(), Fault> {
+    tell_words(rt, "open")?;
+    tell_calls(rt, ends)
+}
+
+fn tell_settled<R: Print>(
+    rt: &R,
+    alloc: Global,
+    settled: &Settled,
+    events: &mut Values<Event>,
+) -> Result<(), Fault> {
     tell_both(rt, settled.claimed(), settled.handlers())?;
     for _ in 0..5 {
         tell_value(rt, events.next())?;
     }
-    Ok(())
+    tell_memory(rt, alloc)
+}
+
+// Brings the ends of a ring together, and tells what came back.
+fn tell_finished<R: Print>(rt: &R, alloc: Global, ends: Ends) -> Result<(), Fault>
+    requires { AreAllEnds ends.sender ends.receivers.items × IsHalterOf ends.sender ends.halter }
+{
+    let (settled, mut events) = finish(ends.sender, ends.receivers, ends.halter);
+    tell_settled(rt, alloc, &settled, &mut events)
 }
 
 fn tell_ring_over<R: Print>(rt: &R, alloc: Global, graph: &Graph) -> Result<(), Fault> {
@@ -112,13 +126,31 @@ pub fn tell_plain<R: Print>(rt: &R, alloc: Global) -> Result<(), Fault> {
     tell_ring_of(rt, alloc, &graph)
 }
 
+// Every call of a ring's ends, when those of another are there to be brought together.
+fn tell_both_rings<R: Print>(
+    rt: &R,
+    alloc: Global,
+    ends: &mut Ends,
+    other: Ends,
+) -> Result<(), Fault>
+    requires { AreAllEnds other.sender other.receivers.items × IsHalterOf other.sender other.halter }
+{
+    match tell_open(rt, ends) {
+        Ok(()) => tell_finished(rt, alloc, other),
+        Err(fault) => Err(fault),
+    }
+}
+
+fn tell_ends_of<R: Print>(rt: &R, alloc: Global, graph: &Graph) -> Result<(), Fault> {
+    let other = opened(alloc, graph)?;
+    match opened(alloc, graph) {
+        Ok(mut ends) => tell_both_rings(rt, alloc, &mut ends, other),
+        Err(fault) => Err(fault),
+    }
+}
+
 /// Every call of a ring's ends, and what brings those of another together.
 pub fn tell_plain_ends<R: Print>(rt: &R, alloc: Global) -> Result<(), Fault> {
     let graph = diamond(alloc)?;
-    let other = opened(alloc, &graph)?;
-    let mut ends = opened(alloc, &graph)?;
-    tell_words(rt, "open")?;
-    tell_calls(rt, &mut ends)?;
-    tell_finished(rt, other)?;
-    tell_memory(rt, alloc)
+    tell_ends_of(rt, alloc, &graph)
 }

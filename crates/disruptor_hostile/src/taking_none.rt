@@ -7,6 +7,7 @@ use crate::graphs::diamond;
 use crate::recording::{call, commands, recorded};
 use crate::telling::{tell_about, tell_both, tell_value, tell_words};
 use dr_core::{Core, processor_turn};
+use dr_graph::Graph;
 use dr_lock::Recorded;
 use dr_meaning::{Command, Handler, MAX_LIMIT, Mode};
 use dr_ring::{Halter, Receiver, Sender, ring};
@@ -107,20 +108,24 @@ fn tell_counts<R: Print>(rt: &R, core: &Core<Event>) -> Result<(), Fault> {
     tell_handlers(rt, core)
 }
 
-fn tell_calls_of_core<R: Print>(rt: &R, core: &mut Core<Event>) -> Result<(), Fault> {
+fn tell_calls_of_core<R: Print>(
+    rt: &R,
+    alloc: Global,
+    core: &mut Core<Event>,
+) -> Result<(), Fault> {
     tell_words(rt, "open")?;
     tell_sending(rt, core)?;
     tell_receiving(rt, core)?;
     tell_turn(rt, core)?;
     tell_ending(rt, core)?;
-    tell_counts(rt, core)
+    tell_counts(rt, core)?;
+    tell_memory(rt, alloc)
 }
 
 /// Every call of a core.
 pub fn tell_core<R: Print>(rt: &R, alloc: Global) -> Result<(), Fault> {
     let mut core = opened(alloc, Mode::Multi(2))?;
-    tell_calls_of_core(rt, &mut core)?;
-    tell_memory(rt, alloc)
+    tell_calls_of_core(rt, alloc, &mut core)
 }
 
 fn tell_sender<R: Print>(rt: &R, sender: &mut Sender) -> Result<(), Fault> {
@@ -164,6 +169,7 @@ fn tell_end<R: Print>(
 
 fn tell_calls_of_ends<R: Print>(
     rt: &R,
+    alloc: Global,
     sender: &mut Sender,
     receivers: &mut [Receiver],
     halter: &mut Halter,
@@ -173,19 +179,33 @@ fn tell_calls_of_ends<R: Print>(
     for receiver in receivers.iter_mut() {
         tell_receiver(rt, receiver)?;
     }
-    tell_end(rt, sender, receivers, halter)
+    tell_end(rt, sender, receivers, halter)?;
+    tell_memory(rt, alloc)
+}
+
+fn tell_ends_of<R: Print>(rt: &R, alloc: Global, graph: &Graph) -> Result<(), Fault> {
+    let size = Size::new(4)?;
+    let (mut sender, mut receivers, mut halter) = ring(alloc, graph, size, MAX_LIMIT)?;
+    tell_calls_of_ends(
+        rt,
+        alloc,
+        &mut sender,
+        receivers.as_mut_slice(),
+        &mut halter,
+    )
 }
 
 /// Every call of a ring's ends.
 pub fn tell_ends<R: Print>(rt: &R, alloc: Global) -> Result<(), Fault> {
-    let size = Size::new(4)?;
     let graph = diamond(alloc)?;
-    let (mut sender, mut receivers, mut halter) = ring(alloc, &graph, size, MAX_LIMIT)?;
-    tell_calls_of_ends(rt, &mut sender, receivers.as_mut_slice(), &mut halter)?;
-    tell_memory(rt, alloc)
+    tell_ends_of(rt, alloc, &graph)
 }
 
-fn tell_calls_kept<R: Print>(rt: &R, recorded: &mut Recorded<Event>) -> Result<(), Fault> {
+fn tell_calls_kept<R: Print>(
+    rt: &R,
+    alloc: Global,
+    recorded: &mut Recorded<Event>,
+) -> Result<(), Fault> {
     tell_words(rt, "open")?;
     for command in commands() {
         let mut out = [Event::NONE; 8];
@@ -194,12 +214,11 @@ fn tell_calls_kept<R: Print>(rt: &R, recorded: &mut Recorded<Event>) -> Result<(
     }
     let kept = recorded.history().len();
     tell_both(rt, kept, recorded.values())?;
-    Ok(())
+    tell_memory(rt, alloc)
 }
 
 /// The calls of a history that has room for all that it is to keep.
 pub fn tell_kept<R: Print>(rt: &R, alloc: Global) -> Result<(), Fault> {
     let mut recorded = recorded(alloc, 17, 8)?;
-    tell_calls_kept(rt, &mut recorded)?;
-    tell_memory(rt, alloc)
+    tell_calls_kept(rt, alloc, &mut recorded)
 }
