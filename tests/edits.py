@@ -158,33 +158,34 @@ def companies(edits):
 
 
 def shared_out(edits, seconds, most):
-    """Parts edits of bodies into as few lists as can be where no check takes more seconds than the most, so that each takes about as long."""
-    found, longest_first = [], sorted(edits, key=seconds, reverse=True)
-
-    def fits(edit, group):
-        return all(go_together(edit, one) for one in group)
+    """Parts edits into as few lists as can be where no check of two or more takes more seconds than the most, each about as long as others."""
 
     def length(group):
         return sum(map(seconds, group))
 
-    for edit in longest_first:
-        group = next((it for it in found if fits(edit, it) and length([edit, *it]) <= most), None)
-        if group is None:
-            found.append([edit])
-        else:
-            group.append(edit)
-    # There are as many lists as any function has edits.
-    shared = [[] for _ in found]
-    for edit in longest_first:
-        min((it for it in shared if fits(edit, it)), key=length).append(edit)
-    return shared
+    for count in range(len(edits) + 1):
+        lists = dealt_out(edits, seconds, count)
+        if lists is not None and all(len(it) == 1 or length(it) <= most for it in lists):
+            break
+    return lists
+
+
+def dealt_out(edits, seconds, count):
+    """Deals edits to so many lists that one check each can try, the longest first, and each to the shortest list, or returns None."""
+    lists = [[] for _ in range(count)]
+    for edit in sorted(edits, key=seconds, reverse=True):
+        fits = [it for it in lists if all(go_together(edit, one) for one in it)]
+        if not fits:
+            return None
+        min(fits, key=lambda it: sum(map(seconds, it))).append(edit)
+    return lists
 
 
 def seconds_of(edit, sizes):
     """Returns about how many seconds a check takes over an edit's functions, by the sizes of what the proofs of functions begin with, in MB."""
     ends = [f"::{edit.judge}"] if edit.judge else [f"::{path_of(it)}" for it in edit.functions]
     sized = [max((size for path, size in sizes.items() if f"::{path}".endswith(it)), default=1) for it in ends] or sizes.values()
-    return sum(4 + 3 * it + it * it / 4 for it in sized)
+    return sum(5 + 6 * it + it * it / 4 for it in sized)
 
 
 def go_together(one, other):

@@ -38,7 +38,7 @@ from edits import applied, companies, fault_of, forget, offers_nothing, only, pl
 
 # In a processor's seconds, how long a check takes before it comes to an edit, how long it is to take in all, and more than any does.
 BEGINS = 12
-MOST = 200
+MOST = 270
 MANY = 1_000_000
 # A file's name is no longer, with what is added to a module's.
 LONGEST = 240
