@@ -38,7 +38,8 @@ use Rattle.dr_plain.specs.Inside.Seats.{ReceiverLookedAtClosed, ReceiverLookedAt
 use Rattle.dr_runs.proofs.Elements.{at_below}
 use Rattle.dr_runs.proofs.Offers.{final_inside}
 use Rattle.dr_runs.proofs.Looks.{last_look_le}
-use Rattle.dr_plain.proofs.Keeps.{receiver_of_handler, upstream_inside, above}
+use Rattle.dr_runs.proofs.Completions.{upstream_inside}
+use Rattle.dr_plain.proofs.Keeps.{receiver_of_handler, above}
 use Rattle.dr_plain.proofs.Barriers.{next_count}
 use Rattle.dr_plain.proofs.Stores.{offers_taken}
 use Rattle.dr_plain.proofs.Parts.{MovesTo, claim_moves, publication_moves, poll_moves, completion_moves}
@@ -259,7 +260,7 @@ module _ {T : Type 0} where
       → Contains (upstreams_of k.upstreams r.number) u → KeepsRule k w
       → (u < handlers_of k) × FindsEvents r (count_word u) (get_or w.words (count_word u) 0)
   tells_count k w r u at has K =
-      let was = K.received r.number r at in let inside = upstream_inside k K.graph r.number u (inside_of k w r.number r at K) has in
+      let was = K.received r.number r at in let inside = upstream_inside k.upstreams K.graph r.number u (inside_of k w r.number r at K) has in
       let t = receiver_of_handler k w K u inside in let a = t.2.count in let b = t.2.completed in let c = t.2.taken in
       (inside, (last_look_le (words_of k) w.words 0 r.looks (count_word u) (omega arith) was.looks, was.after u has, λ told. (let d = (was.told told).1 in omega arith), (let near = round_ahead k w r at K in omega arith)))
 

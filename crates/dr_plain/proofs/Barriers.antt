@@ -15,7 +15,8 @@ use Rattle.dr_runs.specs.Looks.{look, last_look, offered_by}
 use Rattle.dr_plain.specs.Meaning.Rule.{World, ArePast, KeepsRule}
 use Rattle.dr_plain.specs.Meaning.Steps.{next_of}
 use Rattle.dr_runs.proofs.Looks.{last_look_le}
-use Rattle.dr_plain.proofs.Keeps.{word_at, receiver_of_handler, upstream_inside}
+use Rattle.dr_runs.proofs.Completions.{upstream_inside}
+use Rattle.dr_plain.proofs.Keeps.{word_at, receiver_of_handler}
 
 offered_at : (cursor : ℕ) (f : ℕ → ℕ) (us : List ℕ) (u i : ℕ) → i < length us → get_or us i u ≡ u → offered_by cursor (map f us) ≤ f u
 offered_at cursor f [] u i lt e = absurd (omega arith)
@@ -45,7 +46,7 @@ module _ {T : Type 0} where
       first_upstream (upstreams_of k.upstreams h)
       (λ none. (let b = last_look_le (words_of k) w.words 0 looks cursor_word (omega arith) past in
       let e : barrier_seen k h looks ≡ last_look 0 looks cursor_word = ap (λ (us : List ℕ). offered_by (last_look 0 looks cursor_word) (map (λ u. last_look 0 looks (count_word u)) us)) none in omega arith))
-      (λ u up. (let a = below_upstream k w h u looks past up in let t = receiver_of_handler k w K u (upstream_inside k K.graph h u inside up) in
+      (λ u up. (let a = below_upstream k w h u looks past up in let t = receiver_of_handler k w K u (upstream_inside k.upstreams K.graph h u inside up) in
       let d = t.2.count in let e = t.2.completed in let f = t.2.taken in omega arith))
 
   -- so many that are there are taken

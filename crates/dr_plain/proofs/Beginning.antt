@@ -21,7 +21,8 @@ use Rattle.dr_plain.specs.Meaning.Steps.{Happens}
 use Rattle.dr_plain.specs.Meaning.Moments.{fresh_receiver, fresh_receivers, new_world, taken_of, picture_of, Runs}
 use Rattle.dr_runs.proofs.Elements.{at_below, zeros, all_zero}
 use Rattle.dr_runs.proofs.Offers.{final_inside}
-use Rattle.dr_plain.proofs.Keeps.{upstream_inside, keeps_sender_looks, keeps_halt_look}
+use Rattle.dr_runs.proofs.Completions.{upstream_inside}
+use Rattle.dr_plain.proofs.Keeps.{keeps_sender_looks, keeps_halt_look}
 use Rattle.dr_plain.proofs.Stores.{keeps_publishes, keeps_sender_halts, keeps_halter_halts, keeps_closes, keeps_closed_look, keeps_receiver_looks}
 use Rattle.dr_plain.proofs.Stores.{keeps_cursor_look, keeps_completes}
 
@@ -89,7 +90,7 @@ module _ {T : Type 0} where
   keeps_step k (ReceiverLooksAtClosed h) w u H K = subst (KeepsRule k) (sym H.2) (keeps_closed_look k w h H.0 H.1 K)
   keeps_step k (ReceiverLooksAtCursor h room) w u H K = subst (KeepsRule k) (sym H.2) (keeps_cursor_look k w h room H.0 H.1 K)
   keeps_step k (ReceiverLooksAtCount h c room) w u H K =
-      let inside = upstream_inside k K.graph h c (let b = at_below w.receivers h H.0 H.1 in let e = K.ends in omega arith) H.2.0 in
+      let inside = upstream_inside k.upstreams K.graph h c (let b = at_below w.receivers h H.0 H.1 in let e = K.ends in omega arith) H.2.0 in
       subst (KeepsRule k) (sym H.2.1) (keeps_receiver_looks k w h (count_word c) room H.0 (omega arith) H.1 K)
   keeps_step k (ReceiverCompletes h n) w u H K = subst (KeepsRule k) (sym H.2.2) (keeps_completes k w h n H.0 H.1 H.2.0 H.2.1 K)
   keeps_step k HalterHalts w u H K = subst (KeepsRule k) (sym H) (keeps_halter_halts k w K)

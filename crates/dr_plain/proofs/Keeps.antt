@@ -1,12 +1,10 @@
 -- What the rule gives, and the sender's looks keep it.
 use Rattle.std.proofs.Common.{◌≡◌, ℕ, ◌+◌, ◌<◌, ◌≤◌, inl, inr, ◌==◌, if◌then◌else◌, List, [], ◌∷◌, ◌++◌, length, get_or}
 use Rattle.std.proofs.Common.{sym, refl, ◌∙◌, subst, arith}
-use Rattle.std.specs.Prelude.{Contains}
 use Rattle.std.proofs.lemmas.Bool.{cases_eq, cases_lt, eq-eqb, ne_eqb}
-use Rattle.std.proofs.lemmas.List.{get_or_past}
 use mathlib.Core.Option.{some}
 use lib.ListN.{get_elem?}
-use Rattle.dr_graph.specs.Meaning.Graph.{nobody, upstreams_of, IsOrderly, IsGated, IsGraph}
+use Rattle.dr_graph.specs.Meaning.Graph.{IsOrderly, IsGraph}
 use Rattle.dr_plain.specs.Meaning.Shape.{Shape, handlers_of}
 use Rattle.dr_plain.specs.Meaning.Words.{words_of}
 use Rattle.dr_runs.specs.Words.{closed_word, halt_word, count_word, HaltAndClose}
@@ -17,20 +15,13 @@ use Rattle.dr_plain.specs.Meaning.Records.{claimed, sender_looked, halt_looked, 
 use Rattle.dr_runs.specs.Looks.{look}
 use Rattle.dr_plain.specs.Meaning.Rule.{World, Room, ArePast, ReceiverKept, KeepsRule}
 use Rattle.dr_plain.specs.Meaning.Steps.{sender_knows}
-use Rattle.dr_runs.proofs.Elements.{there, contains_none}
-use Rattle.dr_runs.proofs.Offers.{final_inside}
-use Rattle.dr_runs.proofs.Looks.{past_more, last_look_le}
+use Rattle.dr_runs.proofs.Elements.{there}
+use Rattle.dr_runs.proofs.Completions as one
+use Rattle.dr_runs.proofs.Completions.{upstream_inside, falls}
+use Rattle.dr_runs.proofs.Looks.{past_more}
 
 abbrev pub word_at : List ℕ → ℕ → ℕ
 word_at words i = get_or words i 0
-
-pub upstream_inside : (k : Shape) → IsGraph k.upstreams → (h u : ℕ) → h < handlers_of k → Contains (upstreams_of k.upstreams h) u → u < handlers_of k
-upstream_inside k graph h u lt has = let l : u < h = graph.layered h u has in omega arith
-
--- where the words that a part speaks of stay, it stays
-pub room_stays : (k : Shape) (words us : List ℕ) (n : ℕ) → ((h : ℕ) → h < handlers_of k → word_at words (count_word h) ≤ word_at us (count_word h))
-    → Room k words n → Room k us n
-room_stays k words us n rises room f final = let a = rises f (final_inside k.upstreams f final) in let b = room f final in omega arith
 
 -- how many more are claimed at a look at halt
 pub claims_some : (found n : ℕ) → found ≡ 0 → (if found == 0 then n else 0) ≡ n
@@ -47,23 +38,14 @@ module _ {T : Type 0} where
 
   -- completed counts fall along the graph
   pub orderly : (k : Shape) (w : World T) → KeepsRule k w → IsOrderly k.upstreams (λ h. word_at w.words (count_word h))
-  orderly k w K h u has =
-      elim (cases_lt h (handlers_of k)) [
-        | inl lt ↦
-            let t : (r : ReceiverRecord T) × (get_elem? w.receivers h ≡ some r) × ReceiverKept k w.words w.sender.published h r = receiver_of_handler k w K h lt in
-            let c : word_at w.words (count_word h) ≡ t.0.completed = t.2.count in
-            let d : t.0.completed ≤ length t.0.received = t.2.completed in
-            let a : length t.0.received ≤ word_at w.words (count_word u) = t.2.after u has in omega arith
-        | inr past ↦ absurd (contains_none u (let e : upstreams_of k.upstreams h ≡ [] = get_or_past k.upstreams h [] past in subst (λ (ups : List ℕ). Contains ups u) e has))
-      ]
+  orderly k w K =
+      falls k.upstreams w.words
+      (λ h u lt has. (let t = receiver_of_handler k w K h lt in let c = t.2.count in let d = t.2.completed in let a = t.2.after u has in omega arith))
 
   -- what leaves room for each final handler is not more than a round ahead of any handler
   pub ahead_of_all : (k : Shape) (w : World T) (n : ℕ) → KeepsRule k w → Room k w.words n → (h : ℕ) → h < handlers_of k
       → n ≤ k.size + word_at w.words (count_word h)
-  ahead_of_all k w n K room h lt =
-      let g : IsGated k.upstreams nobody (λ h. word_at w.words (count_word h)) h = K.graph.gate nobody (λ h. word_at w.words (count_word h)) (orderly k w K) h lt refl in
-      let r : n ≤ k.size + word_at w.words (count_word g.last) = room g.last g.final in
-      let b : word_at w.words (count_word g.last) ≤ word_at w.words (count_word h) = g.behind in omega arith
+  ahead_of_all k w n K room h lt = one.ahead_of_all k.upstreams w.words k.size n K.graph (orderly k w K) room h lt
 
   pub above : (k : Shape) (w : World T) → KeepsRule k w → (h : ℕ) → h < handlers_of k → claimed w.sender ≤ k.size + word_at w.words (count_word h)
   above k w K h lt = ahead_of_all k w (claimed w.sender) K K.room h lt
@@ -79,9 +61,7 @@ module _ {T : Type 0} where
 
   -- what the sender saw room for has room
   pub room_seen : (k : Shape) (w : World T) (n : ℕ) → SeesRoom k w.sender n → KeepsRule k w → Room k w.words (claimed w.sender + n)
-  room_seen k w n room K f final =
-      let a = room.completed f final in let i = final_inside k.upstreams f final in
-      let b = last_look_le (words_of k) w.words 0 w.sender.looks (count_word f) (omega arith) K.looks in omega arith
+  room_seen k w n room K = one.room_seen k.upstreams w.words k.size (claimed w.sender + n) (words_of k) w.sender.looks room.completed K.looks
 
   pub receiver_stays : (k : Shape) (words us : List ℕ) (published : List (Lent T)) (h : ℕ) (r : ReceiverRecord T) → IsGraph k.upstreams → h < handlers_of k
       → word_at us (count_word h) ≡ word_at words (count_word h)
@@ -94,7 +74,7 @@ module _ {T : Type 0} where
     count = same ∙ was.count;
     completed = was.completed;
     taken = was.taken;
-    after = λ u up. (let a = was.after u up in let b = rises u (upstream_inside k graph h u inside up) in omega arith);
+    after = λ u up. (let a = was.after u up in let b = rises u (upstream_inside k.upstreams graph h u inside up) in omega arith);
     beginning = was.beginning;
     told = λ y. (closes (was.told y).0, (was.told y).1);
     looks = past;

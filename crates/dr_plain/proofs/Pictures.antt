@@ -1,21 +1,19 @@
 -- The entries of each list of steps lead the machine to the ring's picture.
 use Rattle.std.proofs.Common.{◌≡◌, ◌≢◌, ℕ, ◌+◌, ◌-◌, ◌<◌, ◌≤◌, inl, inr, Bool, true, false, ◌==◌, ◌&&◌, if◌then◌else◌, List, [], ◌∷◌}
 use Rattle.std.proofs.Common.{◌++◌, length, get_or, set, map, take, drop, sym, refl, ap, ◌∙◌, subst, arith, get_or-set_same, get_or-set_other, append_assoc}
-use Rattle.std.specs.Prelude.{Contains, not}
+use Rattle.std.specs.Prelude.{not}
 use Rattle.std.specs.List.{range_with_len, filter_map}
 use Rattle.std.proofs.lemmas.Bool.{cases_eq, cases_lt, cases_Bool, eq-eqb, ne_eqb}
 use Rattle.std.proofs.lemmas.List.{length-append, length-take, length-drop, length-map, map-append, take-map, drop-map, get_or-map, append-nil, nil_from_length}
-use Rattle.std.proofs.lemmas.List.FromFn.{get_or-map-range_with_len}
 use lib.Seq.{map-set, map-set_same}
 use mathlib.Core.Option.{some}
 use lib.ListN.{get_elem?}
 use Rattle.dr_meaning.specs.declared.command.Command.TheVariants.{Claim, Publish, Poll, Complete, Halt}
 use Rattle.dr_meaning.specs.declared.command.Reply.TheVariants.{Claimed, Published, Batch, Drained, Completed, Halting}
-use Rattle.dr_graph.specs.Meaning.Graph.{nobody, upstreams_of, finals, IsGated, IsGraph}
+use Rattle.dr_graph.specs.Meaning.Graph.{upstreams_of, finals}
 use Rattle.dr_meaning.specs.Meaning.Machine as machine
 use Rattle.dr_meaning.specs.Meaning.Machine.{State, Outcome, front, available, least_completed}
 use Rattle.dr_meaning.specs.Meaning.Transcript.{Transcript}
-use Rattle.dr_runs.proofs.Lists.{map_same, map_but}
 use Rattle.dr_plain.specs.Meaning.Shape.{Shape, handlers_of, ring_setup}
 use Rattle.dr_plain.specs.Meaning.Words.{words_of}
 use Rattle.dr_runs.specs.Words.{cursor_word, closed_word, halt_word, count_word}
@@ -33,9 +31,11 @@ use Rattle.dr_plain.specs.Meaning.Steps.{Happens, sender_knows, sender_stores, r
 use Rattle.dr_plain.specs.Meaning.Moments.{fresh_receiver, taken_of, picture_of, writes_of, poll_of, receiver_at, entries_of, Runs}
 use Rattle.dr_runs.specs.Entries.{entry}
 use Rattle.dr_runs.proofs.Elements.{at_below, value_at}
-use Rattle.dr_runs.proofs.Offers.{final_inside, counts_below, offered_at_most, offered_at_least}
-use Rattle.dr_runs.proofs.Looks.{past_more, last_look_le}
-use Rattle.dr_plain.proofs.Keeps.{word_at, receiver_of_handler, orderly, upstream_inside, claims_some, claims_none}
+use Rattle.dr_runs.proofs.Completions as completions
+use Rattle.dr_runs.proofs.Completions.{machine_room, count_at, counts_stay, count_set, upstream_inside}
+use Rattle.dr_runs.proofs.Offers.{offered_at_most, offered_at_least}
+use Rattle.dr_runs.proofs.Looks.{past_more}
+use Rattle.dr_plain.proofs.Keeps.{word_at, receiver_of_handler, room_seen, ahead_of_all, claims_some, claims_none}
 use Rattle.dr_plain.proofs.Barriers.{below_upstream, below_front, next_count, takes_below}
 use Rattle.dr_plain.proofs.Stores.{tells_truth}
 use Rattle.dr_plain.proofs.Beginning.{keeps_step}
@@ -44,28 +44,7 @@ use Rattle.dr_runs.proofs.OneSender.{shown_front, claim_step, publish_step, take
 
 -- counts by their words
 abbrev pub counts_of : Shape → List ℕ → List ℕ
-counts_of k words = map (λ h. word_at words (count_word h)) (range_with_len 0 (handlers_of k))
-
-pub count_at : (k : Shape) (words : List ℕ) (h : ℕ) → h < handlers_of k → get_or (counts_of k words) h 0 ≡ word_at words (count_word h)
-count_at k words h lt = get_or-map-range_with_len (λ h. word_at words (count_word h)) 0 (handlers_of k) h h 0 lt (omega arith)
-
-counts_stay : (k : Shape) (words : List ℕ) (i v : ℕ) → ((h : ℕ) → h < handlers_of k → count_word h ≢ i) → counts_of k (set words i v) ≡ counts_of k words
-counts_stay k words i v ne =
-    map_same (λ h. word_at (set words i v) (count_word h)) (λ h. word_at words (count_word h)) 0 (handlers_of k)
-    (λ j low high. get_or-set_other words i (count_word j) v 0 (ne j (omega arith)))
-
-count_set : (k : Shape) (words : List ℕ) (h v : ℕ) → h < handlers_of k → count_word h < length words
-    → counts_of k (set words (count_word h) v) ≡ set (counts_of k words) h v
-count_set k words h v lt inside =
-    map_but (λ h. word_at words (count_word h)) (λ j. word_at (set words (count_word h) v) (count_word j)) 0 (handlers_of k) h v lt
-    (let z : 0 + h ≡ h = omega arith in ap (λ (j : ℕ). word_at (set words (count_word h) v) (count_word j)) z ∙ get_or-set_same words (count_word h) v 0 inside)
-    (λ j ne. get_or-set_other words (count_word h) (count_word j) v 0 (λ (e : count_word j ≡ count_word h). ne (omega arith)))
-
--- there is a final handler
-pub some_final : (k : Shape) → IsGraph k.upstreams → 0 < length (finals k.upstreams)
-some_final k graph =
-    let g : IsGated k.upstreams nobody (λ h. 0) 0 = graph.gate nobody (λ h. 0) (λ h u has. omega arith) 0 graph.some refl in
-    let has : Contains (finals k.upstreams) g.last = g.final in let lt = has.1 in omega arith
+counts_of k = completions.counts_of k.upstreams
 
 module _ {T : Type 0} where
   -- the events that are published
@@ -100,21 +79,12 @@ module _ {T : Type 0} where
   -- what a claim of the sender has room for, the machine has
   pub claim_room : (k : Shape) (w : World T) (n : ℕ) (m : State T) → m.completed ≡ counts_of k w.words → SeesRoom k w.sender n → KeepsRule k w
       → claimed w.sender + n ≤ k.size + least_completed m (finals k.upstreams)
-  claim_room k w n m same room K =
-      counts_below m (finals k.upstreams) k.size (claimed w.sender + n) (some_final k K.graph)
-      (λ f has. (let i = final_inside k.upstreams f has in let a = room.completed f has in
-      let b = last_look_le (words_of k) w.words 0 w.sender.looks (count_word f) (omega arith) K.looks in
-      let c : get_or m.completed f 0 ≡ word_at w.words (count_word f) = ap (λ (d : List ℕ). get_or d f 0) same ∙ count_at k w.words f i in omega arith))
+  claim_room k w n m same room K = machine_room k.upstreams w.words k.size (claimed w.sender + n) m same K.graph (room_seen k w n room K)
 
   -- a claim is of the size at most
   pub claim_fits : (k : Shape) (w : World T) (n : ℕ) → SeesRoom k w.sender n → KeepsRule k w → n ≤ k.size
   claim_fits k w n room K =
-      let some_one = K.graph.some in
-      let g : IsGated k.upstreams nobody (λ h. word_at w.words (count_word h)) 0 =
-      K.graph.gate nobody (λ h. word_at w.words (count_word h)) (orderly k w K) 0 some_one refl in
-      let i = final_inside k.upstreams g.last g.final in let a = room.completed g.last g.final in
-      let b = last_look_le (words_of k) w.words 0 w.sender.looks (count_word g.last) (omega arith) K.looks in
-      let d : word_at w.words (count_word g.last) ≤ word_at w.words (count_word 0) = g.behind in
+      let some_one = K.graph.some in let a = ahead_of_all k w (claimed w.sender + n) K (room_seen k w n room K) 0 some_one in
       let t = receiver_of_handler k w K 0 some_one in let e = t.2.count in let f = t.2.completed in let h = t.2.taken in omega arith
 
   abbrev claim_of : World T → ℕ → Bool → Transcript T
@@ -165,7 +135,7 @@ module _ {T : Type 0} where
       let same : events_of (old ++ lents) ≡ sent w ++ es = map-append (λ (l : Lent T). l.event) old lents in
       let one : word_at us cursor_word ≡ f + c = get_or-set_same w.words cursor_word n 0 (omega arith) ∙ (let e : n ≡ f + c = omega arith in e) in
       let two : word_at us halt_word ≡ word_at w.words halt_word = get_or-set_other w.words cursor_word halt_word n 0 (λ (e : halt_word ≡ cursor_word). omega arith) in
-      let counts : counts_of k us ≡ d = counts_stay k w.words cursor_word n (λ h inside. (λ (e : count_word h ≡ cursor_word). omega arith)) in
+      let counts : counts_of k us ≡ d = counts_stay k.upstreams w.words cursor_word n (λ h inside. (λ (e : count_word h ≡ cursor_word). omega arith)) in
       let all : length (sent w ++ es) ≡ f + c = (let l = length-append (sent w) es in omega arith) in
       let going_on : Leads k rest (shown k (claimed s) (sent w ++ es) (f + c) t d b) end =
       subst (λ (y : State T). Leads k rest y end) (λ i. shown k (whole i) (same i) (one i) t (counts i) (two i == 1)) leads in
@@ -186,7 +156,7 @@ module _ {T : Type 0} where
       let S : Bool → State T = λ b. shown k (claimed s) (sent w) (word_at w.words cursor_word) ts d b in
       let seen : front (S true) ≡ word_at w.words cursor_word = shown_front k.upstreams k.size k.limit (claimed s) (values_of (sent w)) (word_at w.words cursor_word) ts d true (omega arith) in
       let offer : available (ring_setup k) (S true) h ≤ claimed s = offered_at_most (S true) (upstreams_of k.upstreams h) (claimed s) (omega arith)
-      (λ u has. (let i = upstream_inside k K.graph h u inside has in let c = count_at k w.words u i in let o = receiver_of_handler k w K u i in
+      (λ u has. (let i = upstream_inside k.upstreams K.graph h u inside has in let c = count_at k.upstreams w.words u i in let o = receiver_of_handler k w K u i in
       let a = o.2.count in let b = o.2.completed in let e = o.2.taken in omega arith)) in
       let step = drained_step k.upstreams k.size k.limit (claimed s) (values_of (sent w)) (word_at w.words cursor_word) ts d h inside offer (took_at w h r at ∙ omega arith) in
       subst (λ (b : Bool). Leads k (entry (Poll h 1) Drained [] ++ rest) (S b) end) on
@@ -235,7 +205,7 @@ module _ {T : Type 0} where
       shown_front k.upstreams k.size k.limit (claimed w.sender) (values_of (sent w)) (word_at w.words cursor_word) (map taken_of w.receivers) (counts_of k w.words) (word_at w.words halt_word == 1) (omega arith) in
       let low = below_front k w h looks inside past K in
       offered_at_least m (upstreams_of k.upstreams h) n (λ none. omega arith)
-      (λ u has. (let i = upstream_inside k K.graph h u inside has in let c = count_at k w.words u i in let a = below_upstream k w h u looks past has in omega arith))
+      (λ u has. (let i = upstream_inside k.upstreams K.graph h u inside has in let c = count_at k.upstreams w.words u i in let a = below_upstream k w h u looks past has in omega arith))
 
   lead_batch : (k : Shape) (w : World T) (h i room : ℕ) (r q : ReceiverRecord T) (rest : Transcript T) (end : State T) → get_elem? w.receivers h ≡ some r
       → i < words_of k → q.received ≡ r.received ++ next_of w r (taken_at r i (word_at w.words i) room) → KeepsRule k w
@@ -297,10 +267,10 @@ module _ {T : Type 0} where
   lead_complete k w h n r rest end at rise le K leads =
       let m = parts k w in let inside = inside_of k w h r K at in let was = K.received h r at in let wide = K.wide in
       let i = count_word h in let us = set w.words i n in
-      let c = count_at k w.words h inside in let e = was.count in let t = took_at w h r at in
+      let c = count_at k.upstreams w.words h inside in let e = was.count in let t = took_at w h r at in
       let stays : (j : ℕ) → j ≢ i → word_at us j ≡ word_at w.words j = λ j ne. get_or-set_other w.words i j n 0 ne in
       let one = stays cursor_word (λ e. omega arith) in let two = stays halt_word (λ e. omega arith) in
-      let counts : counts_of k us ≡ set (counts_of k w.words) h n = count_set k w.words h n inside (omega arith) in
+      let counts : counts_of k us ≡ set (counts_of k w.words) h n = count_set k.upstreams w.words h n inside (omega arith) in
       let going_on : Leads k rest (record m { completed = set (counts_of k w.words) h n }) end =
       subst (λ (y : State T). Leads k rest y end)
       (λ i. shown k (claimed w.sender) (sent w) (one i) (same_taken w h r (completed_to r n) at refl i) (counts i) (two i == 1)) leads in
@@ -315,7 +285,7 @@ module _ {T : Type 0} where
   lead_flag k w i rest end b pos lt halt leads =
       let us = set w.words i 1 in
       let one : word_at us cursor_word ≡ word_at w.words cursor_word = get_or-set_other w.words i cursor_word 1 0 (λ (e : cursor_word ≡ i). omega arith) in
-      let counts : counts_of k us ≡ counts_of k w.words = counts_stay k w.words i 1 (λ h inside. (λ (e : count_word h ≡ i). omega arith)) in
+      let counts : counts_of k us ≡ counts_of k w.words = counts_stay k.upstreams w.words i 1 (λ h inside. (λ (e : count_word h ≡ i). omega arith)) in
       subst (λ (y : State T). Leads k rest y end) (λ j. shown k (claimed w.sender) (sent w) (one j) (map taken_of w.receivers) (counts j) (halt j)) leads
 
   halt_on : (k : Shape) (w : World T) → KeepsRule k w → (word_at (set w.words halt_word 1) halt_word == 1) ≡ true
@@ -347,7 +317,7 @@ module _ {T : Type 0} where
       (sym (is_receiver k w h H.0 H.1))
       (lead_cursor_look k w h room H.0 rest end H.1 K (subst (λ (x : World T). Leads k rest (picture_of k x) end) H.2 L))
   lead_step k (ReceiverLooksAtCount h c room) w u rest end H K L =
-      let inside = upstream_inside k K.graph h c (inside_of k w h H.0 K H.1) H.2.0 in let i = count_word c in
+      let inside = upstream_inside k.upstreams K.graph h c (inside_of k w h H.0 K H.1) H.2.0 in let i = count_word c in
       let q = receiver_looked H.0 i (word_at w.words i) (next_of w H.0 (taken_at H.0 i (word_at w.words i) room)) in
       subst (λ (r : ReceiverRecord T). Leads k (batch_of k w h i room r ++ rest) (parts k w) end)
       (sym (is_receiver k w h H.0 H.1))

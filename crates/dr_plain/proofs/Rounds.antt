@@ -14,9 +14,9 @@ use Rattle.dr_runs.specs.Looks.{look, last_look}
 use Rattle.dr_plain.specs.Calls.Ends.{count_looks}
 use Rattle.dr_plain.specs.Inside.Fits.{IsSeenLeast}
 use Rattle.dr_plain.specs.Inside.Scans.{sender_saw, LooksAtFinals, IsEnough, IsShort}
+use Rattle.dr_runs.proofs.Offers.{some_final}
 use Rattle.dr_runs.proofs.Looks.{last_look_more, last_rises, last_least, looks_more, looks_few, no_looks_at}
 use Rattle.dr_runs.proofs.Elements.{get_any, number_at}
-use Rattle.dr_plain.proofs.Pictures.{some_final}
 
 -- one look more, in the finals' order
 scan_more : (k : Shape) (xs : List Look) (counts : List ℕ) (i f v : ℕ) → length counts ≡ i → i < length (finals k.upstreams)
@@ -109,7 +109,7 @@ module _ {T : Type 0} where
   pub scanned_all : (r s : SenderRecord T) (needed least i : ℕ) → IsPlan r.plan → Scanned r needed least i s → i ≡ length (finals r.plan.upstreams)
       → (xs : List Look) × LooksAtFinals r xs s × IsEnough r xs needed least
   scanned_all r s needed least i plan S all =
-      let some_one = some_final r.plan plan.graph in let low = S.some_one (omega arith) in (
+      let some_one = some_final r.plan.upstreams plan.graph in let low = S.some_one (omega arith) in (
         S.xs,
         S.saw,
         record {

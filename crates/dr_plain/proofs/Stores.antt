@@ -19,7 +19,8 @@ use Rattle.dr_plain.specs.Meaning.Rule.{World, Room, ReceiverKept, KeepsRule}
 use Rattle.dr_plain.specs.Meaning.Steps.{sender_stores, receiver_knows, receiver_stores, next_of}
 use Rattle.dr_runs.proofs.Elements.{at_below, each_set}
 use Rattle.dr_runs.proofs.Looks.{past_set, past_more, last_look_le}
-use Rattle.dr_plain.proofs.Keeps.{word_at, upstream_inside, room_stays, receiver_stays}
+use Rattle.dr_runs.proofs.Completions.{upstream_inside, room_stays}
+use Rattle.dr_plain.proofs.Keeps.{word_at, receiver_stays}
 use Rattle.dr_plain.proofs.Barriers.{below_upstream, below_front, next_count, next_are, takes_below}
 use Rattle.dr_runs.proofs.Flags.{flags_stay, flags_open, halts_flags, closes_flags}
 
@@ -54,7 +55,7 @@ module _ {T : Type 0} where
           told = λ yes. absurd (not_closed (was.told yes).0);
           looks = past_set (words_of k) w.words cursor_word n r.looks inside rises was.looks;
         });
-        room = subst (Room k us) (sym whole) (room_stays k w.words us (claimed w.sender) (λ h lt'. (let e = stays (count_word h) (omega arith) in omega arith)) K.room);
+        room = subst (Room k us) (sym whole) (room_stays k.upstreams w.words k.size (claimed w.sender) us (λ h lt'. (let e = stays (count_word h) (omega arith) in omega arith)) K.room);
         flags = flags_open us w.sender.pending (w.sender.pending - length lents) w.sender.halted w.sender.closed w.halter.halted (λ y. not_closed (sym two ∙ y)) (flags_stay w.words us w.sender.pending w.sender.halted w.sender.closed w.halter.halted one two K.flags);
         looks = past_set (words_of k) w.words cursor_word n w.sender.looks inside rises K.looks;
       }
@@ -79,7 +80,7 @@ module _ {T : Type 0} where
         counts = record { cursor = stays cursor_word (λ e. omega arith) ∙ K.counts.cursor; limit = K.counts.limit };
         received = λ h r there. (let inside_h : h < handlers_of k = (let b = at_below w.receivers h r there in let c = K.ends in omega arith) in let was = K.received h r there in
             receiver_stays k w.words us w.sender.published h r K.graph inside_h (stays (count_word h) (λ e. omega arith)) (λ u lt'. (let e = stays (count_word u) (λ e. omega arith) in omega arith)) (up closed_word) (past_set (words_of k) w.words i 1 r.looks inside rises was.looks) was);
-        room = room_stays k w.words us (claimed w.sender) (λ h lt'. (let e = stays (count_word h) (λ e. omega arith) in omega arith)) K.room;
+        room = room_stays k.upstreams w.words k.size (claimed w.sender) us (λ h lt'. (let e = stays (count_word h) (λ e. omega arith) in omega arith)) K.room;
         flags = flags;
         looks = past_set (words_of k) w.words i 1 w.sender.looks inside rises K.looks;
       }
@@ -220,14 +221,14 @@ module _ {T : Type 0} where
               count = here;
               completed = le;
               taken = was.taken;
-              after = λ u isup. (let a = was.after u isup in let b = up u (upstream_inside k K.graph h u lt isup) in omega arith);
+              after = λ u isup. (let a = was.after u isup in let b = up u (upstream_inside k.upstreams K.graph h u lt isup) in omega arith);
               beginning = was.beginning;
               told = λ yes. (two ∙ (was.told yes).0, (was.told yes).1);
               looks = past_set (words_of k) w.words i n r.looks inside rises was.looks;
             })
             (λ j q ne there. (let old = K.received j q there in let inside_j : j < handlers_of k = inside_of k w j q K there in
             receiver_stays k w.words us w.sender.published j q K.graph inside_j (stays (count_word j) (λ e. ne (omega arith))) up (λ c. two ∙ c) (past_set (words_of k) w.words i n q.looks inside rises old.looks) old));
-        room = room_stays k w.words us (claimed w.sender) up K.room;
+        room = room_stays k.upstreams w.words k.size (claimed w.sender) us up K.room;
         flags = flags_stay w.words us w.sender.pending w.sender.halted w.sender.closed w.halter.halted one two K.flags;
         looks = past_set (words_of k) w.words i n w.sender.looks inside rises K.looks;
       }

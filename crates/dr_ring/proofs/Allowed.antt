@@ -35,7 +35,8 @@ use Rattle.dr_ring.specs.Inside.Seats.{HalterHalted}
 use Rattle.dr_runs.proofs.Elements.{at_below}
 use Rattle.dr_runs.proofs.Offers.{final_inside}
 use Rattle.dr_runs.proofs.Looks.{last_look_le}
-use Rattle.dr_ring.proofs.Keeps.{receiver_of_handler, upstream_inside}
+use Rattle.dr_runs.proofs.Completions.{upstream_inside}
+use Rattle.dr_ring.proofs.Keeps.{receiver_of_handler}
 use Rattle.dr_ring.proofs.Seats.{by_sender, by_receiver, by_halter}
 
 -- a load of a word is allowed, and tells this
@@ -193,7 +194,7 @@ tells_count : (k : Shape) (w : World) (r : ReceiverRecord) (u : ℕ) → get_ele
     → Contains (upstreams_of k.upstreams r.number) u → KeepsRule k w
     → (u < handlers_of k) × (length r.received ≤ get_or w.words (count_word u) 0) × (r.told ≡ true → get_or w.words (count_word u) 0 ≤ length r.received)
 tells_count k w r u at has K =
-    let was = K.received r.number r at in let inside = upstream_inside k K.graph r.number u (inside_of k w r.number r at K) has in
+    let was = K.received r.number r at in let inside = upstream_inside k.upstreams K.graph r.number u (inside_of k w r.number r at K) has in
     let t = receiver_of_handler k w K u inside in let a = t.2.count in let b = t.2.completed in let c = t.2.taken in
     (inside, was.after u has, λ told. (let d = (was.told told).1 in omega arith))
 

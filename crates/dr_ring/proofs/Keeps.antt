@@ -1,13 +1,12 @@
 -- Each step keeps the rule.
 use Rattle.std.proofs.Common.{◌≡◌, ◌≢◌, ℕ, ◌+◌, ◌-◌, ◌%◌, ◌<◌, ◌≤◌, inl, inr, ◌==◌, if◌then◌else◌, List, [], ◌∷◌, ◌++◌, length, get_or, set}
 use Rattle.std.proofs.Common.{replicate, Option, Some, None, sym, refl, ap, ◌∙◌, subst, arith, length-set, get_or-set_same, get_or-set_other}
-use Rattle.std.specs.Prelude.{Contains}
 use Rattle.std.proofs.lemmas.Bool.{cases_eq, cases_lt, eq-eqb, ne_eqb}
 use Rattle.std.proofs.lemmas.List.{length-append, length-replicate, get_or_append_left, get_or-append_right, get_or-replicate, get_or_past, append-nil}
 use mathlib.Core.Option.{some}
 use lib.ListN.{get_elem?}
 use Rattle.dr_seq.specs.declared.event.Event.{Event}
-use Rattle.dr_graph.specs.Meaning.Graph.{nobody, upstreams_of, IsOrderly, IsGated, IsGraph}
+use Rattle.dr_graph.specs.Meaning.Graph.{IsOrderly, IsGraph}
 use Rattle.dr_meaning.specs.Calls.Ends.{with_claimed}
 use Rattle.dr_ring.specs.Meaning.Shape.{Shape, handlers_of}
 use Rattle.dr_ring.specs.Meaning.Words.{payload_start, payload_word, words_of}
@@ -21,9 +20,9 @@ use Rattle.dr_runs.specs.Looks.{look}
 use Rattle.dr_ring.specs.Meaning.Rule.{World, Room, first_stored, Payload, ArePast, ReceiverKept, KeepsRule}
 use Rattle.dr_ring.specs.Meaning.Steps.{sender_knows, sender_stores}
 use Rattle.dr_seq.proofs.Apart.{slots_differ}
-use Rattle.dr_runs.proofs.Elements.{there, at_below, contains_none}
-use Rattle.dr_runs.proofs.Offers.{final_inside}
-use Rattle.dr_runs.proofs.Looks.{past_set, past_more, last_look_le}
+use Rattle.dr_runs.proofs.Elements.{there, at_below}
+use Rattle.dr_runs.proofs.Completions.{upstream_inside, falls, room_stays, room_seen, ahead_of_all}
+use Rattle.dr_runs.proofs.Looks.{past_set, past_more}
 use Rattle.dr_runs.proofs.Flags.{flags_stay}
 
 -- two sequences less than a round apart have payload words of their own
@@ -40,30 +39,22 @@ receiver_of_handler k w K h lt = let count = K.ends in let t = there w.receivers
 
 -- completed counts fall along the graph
 pub orderly : (k : Shape) (w : World) → KeepsRule k w → IsOrderly k.upstreams (λ h. word_at w.words (count_word h))
-orderly k w K h u has =
-    elim (cases_lt h (handlers_of k)) [
-      | inl lt ↦
-          let t : (r : ReceiverRecord) × (get_elem? w.receivers h ≡ some r) × ReceiverKept k w.words w.sender.sent.published h r = receiver_of_handler k w K h lt in
-          let c : word_at w.words (count_word h) ≡ t.0.completed = t.2.count in
-          let d : t.0.completed ≤ length t.0.received = t.2.completed in
-          let a : length t.0.received ≤ word_at w.words (count_word u) = t.2.after u has in omega arith
-      | inr past ↦ absurd (contains_none u (let e : upstreams_of k.upstreams h ≡ [] = get_or_past k.upstreams h [] past in subst (λ (ups : List ℕ). Contains ups u) e has))
-    ]
+orderly k w K =
+    falls k.upstreams w.words
+    (λ h u lt has. (let t = receiver_of_handler k w K h lt in let c = t.2.count in let d = t.2.completed in let a = t.2.after u has in omega arith))
 
 -- no claim is more than a round ahead of any handler
 pub above : (k : Shape) (w : World) → KeepsRule k w → (h : ℕ) → h < handlers_of k → claimed w.sender ≤ k.size + word_at w.words (count_word h)
-above k w K h lt =
-    let g : IsGated k.upstreams nobody (λ h. word_at w.words (count_word h)) h = K.graph.gate nobody (λ h. word_at w.words (count_word h)) (orderly k w K) h lt refl in
-    let r : claimed w.sender ≤ k.size + word_at w.words (count_word g.last) = K.room g.last g.final in
-    let b : word_at w.words (count_word g.last) ≤ word_at w.words (count_word h) = g.behind in omega arith
+above k w K h lt = ahead_of_all k.upstreams w.words k.size (claimed w.sender) K.graph (orderly k w K) K.room h lt
 
 pub near : (k : Shape) (w : World) → KeepsRule k w → claimed w.sender ≤ k.size + length w.sender.sent.published
 near k w K =
     let some_one = K.graph.some in let a = above k w K 0 some_one in let t = receiver_of_handler k w K 0 some_one in
     let d = t.2.count in let c = t.2.completed in let b = t.2.taken in omega arith
 
-pub upstream_inside : (k : Shape) → IsGraph k.upstreams → (h u : ℕ) → h < handlers_of k → Contains (upstreams_of k.upstreams h) u → u < handlers_of k
-upstream_inside k graph h u lt has = let l : u < h = graph.layered h u has in omega arith
+-- what the sender saw room for has room
+pub seen_room : (k : Shape) (w : World) (n : ℕ) → SeesRoom k w.sender n → KeepsRule k w → Room k w.words (claimed w.sender + n)
+seen_room k w n room K = room_seen k.upstreams w.words k.size (claimed w.sender + n) (payload_start k) w.sender.looks room.completed K.looks
 
 -- what is written is open
 pub is_open : (l : List (Option Event)) (i : ℕ) (v : Event) → get_or l i None ≡ Some v → i < length l
@@ -74,10 +65,6 @@ is_open l i v e =
     ]
 
 -- where the words that a part speaks of stay, it stays
-pub room_stays : (k : Shape) (words us : List ℕ) (n : ℕ) → ((h : ℕ) → h < handlers_of k → word_at words (count_word h) ≤ word_at us (count_word h))
-    → Room k words n → Room k us n
-room_stays k words us n rises room f final = let a = rises f (final_inside k.upstreams f final) in let b = room f final in omega arith
-
 pub payload_stays : (k : Shape) (words us : List ℕ) (published : List Event) (pending : List (Option Event)) (half : Option HalfWrite)
     → ((i : ℕ) → payload_start k ≤ i → word_at us i ≡ word_at words i) → Payload k words published pending half → Payload k us published pending half
 payload_stays k words us published pending half same P = record {
@@ -97,7 +84,7 @@ receiver_stays k words us published h r graph inside same rises closes past was 
   count = same ∙ was.count;
   completed = was.completed;
   taken = was.taken;
-  after = λ u up. (let a = was.after u up in let b = rises u (upstream_inside k graph h u inside up) in omega arith);
+  after = λ u up. (let a = was.after u up in let b = rises u (upstream_inside k.upstreams graph h u inside up) in omega arith);
   beginning = was.beginning;
   half = was.half;
   told = λ y. (closes (was.told y).0, (was.told y).1);
@@ -151,7 +138,7 @@ claims_more k w n room going K =
     let pending = w.sender.sent.pending in let nothing : Option Event = None in let more = pending ++ replicate n nothing in let F = K.flags in
     let longer : length more ≡ length pending + n = omega (arith, length-append pending (replicate n nothing), length-replicate n nothing) in
     sender_learns k w more (w.sender.looks ++ look halt_word (word_at w.words halt_word) ∷ []) (let l = room.limit in omega arith)
-    (λ f final. (let a = room.completed f final in let i = final_inside k.upstreams f final in let b = last_look_le (payload_start k) w.words 0 w.sender.looks (count_word f) (omega arith) K.looks in omega arith))
+    (λ f final. (let a = seen_room k w n room K f final in omega arith))
     (payload_claims k w.words w.sender.sent.published pending w.sender.half n K.payload)
     (record {
       halt = F.halt;
@@ -207,7 +194,7 @@ payload_kept k w i v r low high p1 p2 p3 p4 p5 p6 payload K =
           let was = K.received h q at in
           receiver_stays k w.words us w.sender.sent.published h q K.graph inside_h (stays (count_word h) (omega arith)) (λ u lt. (let e = stays (count_word u) (omega arith) in omega arith)) (λ c. close ∙ c)
           (past_set (payload_start k) w.words i v q.looks inside (λ h. absurd (omega arith)) was.looks) was);
-      room = (let same : length w.sender.sent.published + length r.sent.pending ≡ claimed w.sender = omega arith in subst (Room k us) (sym same) (room_stays k w.words us (claimed w.sender) (λ h lt. (let e = stays (count_word h) (omega arith) in omega arith)) K.room));
+      room = (let same : length w.sender.sent.published + length r.sent.pending ≡ claimed w.sender = omega arith in subst (Room k us) (sym same) (room_stays k.upstreams w.words k.size (claimed w.sender) us (λ h lt. (let e = stays (count_word h) (omega arith) in omega arith)) K.room));
       payload = payload;
       flags = subst (λ (n : ℕ). HaltAndClose us n w.sender.halted w.sender.closed w.halter.halted) (sym p3) (flags_stay w.words us (length w.sender.sent.pending) w.sender.halted w.sender.closed w.halter.halted halt close K.flags);
       looks = past_set (payload_start k) w.words i v w.sender.looks inside (λ h. absurd (omega arith)) K.looks;

@@ -33,8 +33,9 @@ use Rattle.dr_ring.specs.Calls.Receiving.{Answers}
 use Rattle.dr_runs.specs.Polls.{PollLooks, offer, handed}
 use Rattle.dr_ring.specs.Calls.Replies.{HandsWhatWasThere}
 use Rattle.dr_runs.proofs.Elements.{at_below}
-use Rattle.dr_ring.proofs.Keeps.{word_at, upstream_inside}
-use Rattle.dr_ring.proofs.Pictures.{keeps_step, count_at, inside_of}
+use Rattle.dr_ring.proofs.Keeps.{word_at}
+use Rattle.dr_runs.proofs.Completions.{count_at, upstream_inside}
+use Rattle.dr_ring.proofs.Pictures.{keeps_step, inside_of}
 use Rattle.dr_ring.proofs.Replies.{at_front}
 use Rattle.dr_ring.proofs.Rising.{rises_step}
 
@@ -127,12 +128,12 @@ least_later k w [] [] len inside all = omega arith
 least_later k w [] (n ∷ ns) len inside all = absurd (omega arith)
 least_later k w (u ∷ ups) [] len inside all = absurd (omega arith)
 least_later k w (u ∷ []) (n ∷ []) len inside all =
-    let lt : u < handlers_of k = inside u (0, omega arith, refl) in let c = count_at k w.words u lt in
+    let lt : u < handlers_of k = inside u (0, omega arith, refl) in let c = count_at k.upstreams w.words u lt in
     let x : word_at w.words (count_word u) ≤ n = all 0 (look 0 0) (omega arith) (omega arith) in omega arith
 least_later k w (u ∷ []) (n ∷ m ∷ ns) len inside all = absurd (omega arith)
 least_later k w (u ∷ v ∷ ups) (n ∷ []) len inside all = absurd (omega arith)
 least_later k w (u ∷ v ∷ ups) (n ∷ m ∷ ns) len inside all =
-    let lt : u < handlers_of k = inside u (0, omega arith, refl) in let c = count_at k w.words u lt in
+    let lt : u < handlers_of k = inside u (0, omega arith, refl) in let c = count_at k.upstreams w.words u lt in
     let x : word_at w.words (count_word u) ≤ n = all 0 (look 0 0) (omega arith) (omega arith) in
     let rest = least_later k w (v ∷ ups) (m ∷ ns) (omega arith) (λ y has. inside y (suc has.0, (let l = has.1 in omega arith), has.2)) (λ i d l. all (suc i) d (omega arith)) in omega arith
 
@@ -171,6 +172,6 @@ hands_what_was_there k steps es w u R K h r r' out out' polled at there P =
     let cursor : word_at w.words cursor_word ≤ seen.cursor = all 1 (look 0 0) (omega arith) (omega arith) in
     let published = at_front k w K in let kept = K.counts.cursor in
     let inside : (v : ℕ) → Contains ups v → v < handlers_of k = λ v has.
-    upstream_inside k K.graph h v (inside_of k w h r K at) (subst (λ (vs : List ℕ). Contains vs v) same has) in
+    upstream_inside k.upstreams K.graph h v (inside_of k w h r K at) (subst (λ (vs : List ℕ). Contains vs v) same has) in
     let more = offered_later k w ups seen.counts seen.cursor P.1.1 inside (λ i d lt. all (suc (suc i)) d (omega arith)) (omega arith) in
     hands r r' out out' seen polled (available (ring_setup k) (picture_of k w) h) answer (subst (λ (vs : List ℕ). offered (picture_of k w) vs ≤ offer seen) same more)

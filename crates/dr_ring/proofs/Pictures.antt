@@ -2,12 +2,11 @@
 use Rattle.std.proofs.Common.{◌≡◌, ◌≢◌, ℕ, ◌+◌, ◌-◌, ◌<◌, ◌≤◌, inl, inr, Bool, true, false, ◌==◌, ◌&&◌, if◌then◌else◌, List}
 use Rattle.std.proofs.Common.{[], ◌∷◌, ◌++◌, length, get_or, set, map, take, drop, replicate, Option, Some, None, is_none}
 use Rattle.std.proofs.Common.{sym, refl, ap, ◌∙◌, subst, arith, length-set, get_or-set_same, get_or-set_other, append_assoc}
-use Rattle.std.specs.Prelude.{Contains, not}
-use Rattle.std.specs.List.{range_with_len, cons_option}
+use Rattle.std.specs.Prelude.{not}
+use Rattle.std.specs.List.{cons_option}
 use Rattle.std.proofs.lemmas.Bool.{cases_eq, cases_lt, cases_Bool, eq-eqb, ne_eqb}
 use Rattle.std.proofs.lemmas.List.{length-append, length-replicate, length-map, length-drop, length_push, map-append}
 use Rattle.std.proofs.lemmas.List.{get_or_append_left, get_or-append_right, get_or-map, set-append_right, append-nil}
-use Rattle.std.proofs.lemmas.List.FromFn.{get_or-map-range_with_len}
 use lib.Seq.{map-set, map-set_same}
 use mathlib.Core.Option.{some}
 use lib.ListN.{get_elem?}
@@ -15,12 +14,11 @@ use Rattle.dr_seq.specs.declared.event.Event.{Event}
 use Rattle.dr_seq.specs.Event.{no_event}
 use Rattle.dr_meaning.specs.declared.command.Command.TheVariants.{Claim, Write, Publish, Poll, Complete, Halt}
 use Rattle.dr_meaning.specs.declared.command.Reply.TheVariants.{Claimed, Written, Published, Batch, Drained, Completed, Halting}
-use Rattle.dr_graph.specs.Meaning.Graph.{nobody, upstreams_of, finals, IsGated, IsGraph}
+use Rattle.dr_graph.specs.Meaning.Graph.{upstreams_of, finals}
 use Rattle.dr_meaning.specs.Meaning.Machine as machine
 use Rattle.dr_meaning.specs.Meaning.Machine.{State, Outcome, front, available, least_completed}
 use Rattle.dr_meaning.specs.Meaning.Transcript.{Transcript, LeadsFrom}
 use Rattle.dr_meaning.specs.Calls.Ends.{written_of}
-use Rattle.dr_runs.proofs.Lists.{map_same, map_but}
 use Rattle.dr_ring.specs.Meaning.Shape.{Shape, handlers_of, ring_setup}
 use Rattle.dr_ring.specs.Meaning.Words.{payload_start, payload_word}
 use Rattle.dr_runs.specs.Words.{cursor_word, closed_word, halt_word, count_word}
@@ -38,10 +36,12 @@ use Rattle.dr_ring.specs.Meaning.Steps.{Happens, sender_knows, sender_stores, re
 use Rattle.dr_ring.specs.Meaning.Moments.{fresh_receiver, taken_of, picture_of, write_of, receiver_at, entries_of, Runs}
 use Rattle.dr_runs.specs.Entries.{entry, poll_of}
 use Rattle.dr_runs.proofs.Elements.{at_below, value_at}
-use Rattle.dr_runs.proofs.Offers.{final_inside, counts_below, offered_at_most, offered_more}
+use Rattle.dr_runs.proofs.Completions as completions
+use Rattle.dr_runs.proofs.Completions.{machine_room, ahead_of_all, count_at, counts_stay, count_set, upstream_inside}
+use Rattle.dr_runs.proofs.Offers.{final_inside, offered_at_most, offered_more}
 use Rattle.dr_runs.proofs.Looks.{last_look_le}
 use Rattle.dr_ring.proofs.Events.{open_events, written_count, published_same}
-use Rattle.dr_ring.proofs.Keeps.{word_at, receiver_of_handler, orderly, upstream_inside, keeps_sender_looks, keeps_halt_look, keeps_first, keeps_second}
+use Rattle.dr_ring.proofs.Keeps.{word_at, receiver_of_handler, orderly, seen_room, keeps_sender_looks, keeps_halt_look, keeps_first, keeps_second}
 use Rattle.dr_ring.proofs.Stores.{keeps_publishes, keeps_sender_halts, keeps_halter_halts, keeps_closes, keeps_receiver_looks, tells_truth}
 use Rattle.dr_ring.proofs.Stores.{keeps_cursor_look, early, keeps_half_taken, taken_event, keeps_takes, keeps_completes}
 use Rattle.dr_ring.proofs.Machine.{shown, write_step, same_written}
@@ -59,7 +59,7 @@ keeps_step k SenderCloses w u H K = subst (KeepsRule k) (sym H.2) (keeps_closes 
 keeps_step k (ReceiverLooksAtClosed h) w u H K = subst (KeepsRule k) (sym H.2) (keeps_receiver_looks k w h closed_word H.0 (omega arith) H.1 K)
 keeps_step k (ReceiverLooksAtCursor h) w u H K = subst (KeepsRule k) (sym H.2) (keeps_cursor_look k w h H.0 H.1 K)
 keeps_step k (ReceiverLooksAtCount h c) w u H K =
-    let inside = upstream_inside k K.graph h c (let b = at_below w.receivers h H.0 H.1 in let e = K.ends in omega arith) H.2.0 in
+    let inside = upstream_inside k.upstreams K.graph h c (let b = at_below w.receivers h H.0 H.1 in let e = K.ends in omega arith) H.2.0 in
     subst (KeepsRule k) (sym H.2.1) (keeps_receiver_looks k w h (count_word c) H.0 (omega arith) H.1 K)
 keeps_step k (ReceiverLoadsFirst h) w u H K = subst (KeepsRule k) (sym H.2.1) (keeps_half_taken k w h H.0 H.1 H.2.0 K)
 keeps_step k (ReceiverLoadsSecond h) w u H K = subst (KeepsRule k) (sym H.2.3) (keeps_takes k w h H.2.0 H.0 H.1 H.2.1 H.2.2 K)
@@ -72,22 +72,7 @@ keeps_runs k (s ∷ steps) es w u R K = keeps_runs k steps R.1 R.0 u R.4 (keeps_
 
 -- counts by their words
 abbrev pub counts_of : Shape → List ℕ → List ℕ
-counts_of k words = map (λ h. word_at words (count_word h)) (range_with_len 0 (handlers_of k))
-
-pub count_at : (k : Shape) (words : List ℕ) (h : ℕ) → h < handlers_of k → get_or (counts_of k words) h 0 ≡ word_at words (count_word h)
-count_at k words h lt = get_or-map-range_with_len (λ h. word_at words (count_word h)) 0 (handlers_of k) h h 0 lt (omega arith)
-
-counts_stay : (k : Shape) (words : List ℕ) (i v : ℕ) → ((h : ℕ) → h < handlers_of k → count_word h ≢ i) → counts_of k (set words i v) ≡ counts_of k words
-counts_stay k words i v ne =
-    map_same (λ h. word_at (set words i v) (count_word h)) (λ h. word_at words (count_word h)) 0 (handlers_of k)
-    (λ j low high. get_or-set_other words i (count_word j) v 0 (ne j (omega arith)))
-
-count_set : (k : Shape) (words : List ℕ) (h v : ℕ) → h < handlers_of k → count_word h < length words
-    → counts_of k (set words (count_word h) v) ≡ set (counts_of k words) h v
-count_set k words h v lt inside =
-    map_but (λ h. word_at words (count_word h)) (λ j. word_at (set words (count_word h) v) (count_word j)) 0 (handlers_of k) h v lt
-    (let z : 0 + h ≡ h = omega arith in ap (λ (j : ℕ). word_at (set words (count_word h) v) (count_word j)) z ∙ get_or-set_same words (count_word h) v 0 inside)
-    (λ j ne. get_or-set_other words (count_word h) (count_word j) v 0 (λ (e : count_word j ≡ count_word h). ne (omega arith)))
+counts_of k = completions.counts_of k.upstreams
 
 -- what is written to each sequence
 abbrev pub values_of : List Event → List (Option Event) → List (Option Event)
@@ -118,30 +103,16 @@ same_picture : (k : Shape) (w : World) (h : ℕ) (r q : ReceiverRecord) → get_
 same_picture k w h r q at same =
     ap (λ (t : List ℕ). shown k (claimed w.sender) (values_of w.sender.sent.published w.sender.sent.pending) (word_at w.words cursor_word) t (counts_of k w.words) (word_at w.words halt_word == 1)) (same_taken w h r q at same)
 
--- there is a final handler
-pub some_final : (k : Shape) → IsGraph k.upstreams → 0 < length (finals k.upstreams)
-some_final k graph =
-    let g : IsGated k.upstreams nobody (λ h. 0) 0 = graph.gate nobody (λ h. 0) (λ h u has. omega arith) 0 graph.some refl in
-    let has : Contains (finals k.upstreams) g.last = g.final in let lt = has.1 in omega arith
-
 -- what a claim of the sender has room for, the machine has
 pub claim_room : (k : Shape) (w : World) (n : ℕ) (t : List ℕ) (m : State Event) → m.completed ≡ counts_of k w.words → SeesRoom k w.sender n → KeepsRule k w
     → claimed w.sender + n ≤ k.size + least_completed m (finals k.upstreams)
-claim_room k w n t m same room K =
-    counts_below m (finals k.upstreams) k.size (claimed w.sender + n) (some_final k K.graph)
-    (λ f has. (let i = final_inside k.upstreams f has in let a = room.completed f has in
-    let b = last_look_le (payload_start k) w.words 0 w.sender.looks (count_word f) (omega arith) K.looks in
-    let c : get_or m.completed f 0 ≡ word_at w.words (count_word f) = ap (λ (d : List ℕ). get_or d f 0) same ∙ count_at k w.words f i in omega arith))
+claim_room k w n t m same room K = machine_room k.upstreams w.words k.size (claimed w.sender + n) m same K.graph (seen_room k w n room K)
 
 -- a claim is of the size at most
 pub claim_fits : (k : Shape) (w : World) (n : ℕ) → SeesRoom k w.sender n → KeepsRule k w → n ≤ k.size
 claim_fits k w n room K =
     let some_one = K.graph.some in
-    let g : IsGated k.upstreams nobody (λ h. word_at w.words (count_word h)) 0 =
-    K.graph.gate nobody (λ h. word_at w.words (count_word h)) (orderly k w K) 0 some_one refl in
-    let i = final_inside k.upstreams g.last g.final in let a = room.completed g.last g.final in
-    let b = last_look_le (payload_start k) w.words 0 w.sender.looks (count_word g.last) (omega arith) K.looks in
-    let d : word_at w.words (count_word g.last) ≤ word_at w.words (count_word 0) = g.behind in
+    let a = ahead_of_all k.upstreams w.words k.size (claimed w.sender + n) K.graph (orderly k w K) (seen_room k w n room K) 0 some_one in
     let t = receiver_of_handler k w K 0 some_one in let e = t.2.count in let f = t.2.completed in let h = t.2.taken in omega arith
 
 abbrev Leads : Shape → Transcript Event → State Event → State Event → Type 0
@@ -218,7 +189,7 @@ lead_write k w x v rest end has K leads =
     length-set s.sent.pending (x.sequence - length s.sent.published) (Some event) in
     let place : values_of s.sent.published (set s.sent.pending (x.sequence - length s.sent.published) (Some event)) ≡ set vs x.sequence (Some event) =
     sym (set-append_right (map (λ event. Some event) s.sent.published) s.sent.pending (length s.sent.published) x.sequence (Some event) (length-map s.sent.published (λ event. Some event)) le) in
-    let counts : counts_of k us ≡ counts_of k w.words = counts_stay k w.words i v (λ h inside. (λ (e : count_word h ≡ i). omega arith)) in
+    let counts : counts_of k us ≡ counts_of k w.words = counts_stay k.upstreams w.words i v (λ h inside. (λ (e : count_word h ≡ i). omega arith)) in
     let one = stays cursor_word (omega arith) in let two = stays halt_word (omega arith) in
     let going_on : Leads k rest (shown k (claimed s) (set vs x.sequence (Some event)) (word_at w.words cursor_word) (map taken_of w.receivers) (counts_of k w.words) (word_at w.words halt_word == 1)) end =
     subst (λ (y : State Event). Leads k rest y end)
@@ -244,7 +215,7 @@ lead_publish k w n rest end lt le all K leads =
     ∙ append_assoc (map (λ event. Some event) old) (map (λ event. Some event) new) (drop m pending)
     ∙ ap (λ (xs : List (Option Event)). map (λ event. Some event) old ++ xs) (published_same pending m ready (omega arith)) in
     let stays : (j : ℕ) → 0 < j → word_at us j ≡ word_at w.words j = λ j pos. get_or-set_other w.words cursor_word j n 0 (λ (e : j ≡ 0). omega arith) in
-    let counts : counts_of k us ≡ counts_of k w.words = counts_stay k w.words cursor_word n (λ h inside. (λ (e : count_word h ≡ cursor_word). omega arith)) in
+    let counts : counts_of k us ≡ counts_of k w.words = counts_stay k.upstreams w.words cursor_word n (λ h inside. (λ (e : count_word h ≡ cursor_word). omega arith)) in
     let one : word_at us cursor_word ≡ n = get_or-set_same w.words cursor_word n 0 (omega arith) in let two = stays halt_word (omega arith) in
     let going_on : Leads k rest (shown k (claimed s) vs n (map taken_of w.receivers) (counts_of k w.words) (word_at w.words halt_word == 1)) end =
     subst (λ (y : State Event). Leads k rest y end) (λ i. shown k (whole i) (same i) (one i) (map taken_of w.receivers) (counts i) (two i == 1)) leads in
@@ -266,7 +237,7 @@ lead_drained k w h r rest end at tells K leads =
     let S : Bool → State Event = λ b. shown k (claimed s) vs (word_at w.words cursor_word) ts d b in
     let seen : front (S true) ≡ word_at w.words cursor_word = shown_front k.upstreams k.size k.limit (claimed s) vs (word_at w.words cursor_word) ts d true (omega arith) in
     let offer : available (ring_setup k) (S true) h ≤ claimed s = offered_at_most (S true) (upstreams_of k.upstreams h) (claimed s) (omega arith)
-    (λ u has. (let i = upstream_inside k K.graph h u inside has in let c = count_at k w.words u i in let o = receiver_of_handler k w K u i in let a = o.2.count in let b = o.2.completed in let e = o.2.taken in omega arith)) in
+    (λ u has. (let i = upstream_inside k.upstreams K.graph h u inside has in let c = count_at k.upstreams w.words u i in let o = receiver_of_handler k w K u i in let a = o.2.count in let b = o.2.completed in let e = o.2.taken in omega arith)) in
     let step = drained_step k.upstreams k.size k.limit (claimed s) vs (word_at w.words cursor_word) ts d h inside offer (taken_at w h r at ∙ omega arith) in
     subst (λ (b : Bool). Leads k (entry (Poll h 1) Drained [] ++ rest) (S b) end) on
     (leads_one (ring_setup k) (Poll h 1) Drained [] rest (S true) (S true) end step (subst (λ (b : Bool). Leads k rest (S b) end) (sym on) leads))
@@ -296,7 +267,7 @@ lead_take k w h first r rest end at half low K leads =
     shown_front k.upstreams k.size k.limit (claimed s) (values_of s.sent.published s.sent.pending) (word_at w.words cursor_word) ts (counts_of k w.words)
     (word_at w.words halt_word == 1) (omega arith) in
     let more : n < available (ring_setup k) m h = offered_more m (upstreams_of k.upstreams h) n (λ none. omega arith)
-    (λ u has. (let i = upstream_inside k K.graph h u inside has in let c = count_at k w.words u i in let a = low.completed u has in let b = last_look_le (payload_start k) w.words 0 r.looks (count_word u) (omega arith) was.looks in omega arith)) in
+    (λ u has. (let i = upstream_inside k.upstreams K.graph h u inside has in let c = count_at k.upstreams w.words u i in let a = low.completed u has in let b = last_look_le (payload_start k) w.words 0 r.looks (count_word u) (omega arith) was.looks in omega arith)) in
     let value : m.written n ≡ Some found =
     get_or_append_left (map (λ event. Some event) s.sent.published) s.sent.pending None n (omega (arith, length-map s.sent.published (λ (event : Event). Some event)))
     ∙ get_or-map (λ event. Some event) s.sent.published n no_event None below ∙ ap (λ (e : Event). Some e) (sym event) in
@@ -318,10 +289,10 @@ lead_complete : (k : Shape) (w : World) (h n : ℕ) (r : ReceiverRecord) (rest :
 lead_complete k w h n r rest end at rise le K leads =
     let s = w.sender in let m = parts k w in let inside = inside_of k w h r K at in let was = K.received h r at in let wide = K.wide in
     let i = count_word h in let us = set w.words i n in
-    let c = count_at k w.words h inside in let e = was.count in let t = taken_at w h r at in
+    let c = count_at k.upstreams w.words h inside in let e = was.count in let t = taken_at w h r at in
     let stays : (j : ℕ) → j ≢ i → word_at us j ≡ word_at w.words j = λ j ne. get_or-set_other w.words i j n 0 ne in
     let one = stays cursor_word (λ e. omega arith) in let two = stays halt_word (λ e. omega arith) in
-    let counts : counts_of k us ≡ set (counts_of k w.words) h n = count_set k w.words h n inside (omega arith) in
+    let counts : counts_of k us ≡ set (counts_of k w.words) h n = count_set k.upstreams w.words h n inside (omega arith) in
     let going_on : Leads k rest (record m { completed = set (counts_of k w.words) h n }) end =
     subst (λ (y : State Event). Leads k rest y end)
     (λ i. shown k (claimed s) (values_of s.sent.published s.sent.pending) (one i) (same_taken w h r (completed_to r n) at refl i) (counts i) (two i == 1)) leads in
@@ -335,7 +306,7 @@ lead_flag : (k : Shape) (w : World) (i : ℕ) (rest : Transcript Event) (end : S
 lead_flag k w i rest end b pos lt halt leads =
     let s = w.sender in let us = set w.words i 1 in
     let one : word_at us cursor_word ≡ word_at w.words cursor_word = get_or-set_other w.words i cursor_word 1 0 (λ (e : cursor_word ≡ i). omega arith) in
-    let counts : counts_of k us ≡ counts_of k w.words = counts_stay k w.words i 1 (λ h inside. (λ (e : count_word h ≡ i). omega arith)) in
+    let counts : counts_of k us ≡ counts_of k w.words = counts_stay k.upstreams w.words i 1 (λ h inside. (λ (e : count_word h ≡ i). omega arith)) in
     subst (λ (y : State Event). Leads k rest y end)
     (λ j. shown k (claimed s) (values_of s.sent.published s.sent.pending) (one j) (map taken_of w.receivers) (counts j) (halt j)) leads
 
@@ -356,7 +327,7 @@ lead_step k (SenderStoresFirst s v) w u rest end H K L =
     subst (λ (x : World). Leads k rest (picture_of k x) end) H.2 L in
     let one : word_at us cursor_word ≡ word_at w.words cursor_word = get_or-set_other w.words i cursor_word v 0 (λ (e : cursor_word ≡ i). omega arith) in
     let two : word_at us halt_word ≡ word_at w.words halt_word = get_or-set_other w.words i halt_word v 0 (λ (e : halt_word ≡ i). omega arith) in
-    let counts : counts_of k us ≡ counts_of k w.words = counts_stay k w.words i v (λ h inside. (λ (e : count_word h ≡ i). omega arith)) in
+    let counts : counts_of k us ≡ counts_of k w.words = counts_stay k.upstreams w.words i v (λ h inside. (λ (e : count_word h ≡ i). omega arith)) in
     subst (λ (y : State Event). Leads k rest y end)
     (λ j. shown k (claimed w.sender) (values_of w.sender.sent.published w.sender.sent.pending) (one j) (map taken_of w.receivers) (counts j) (two j == 1)) now
 lead_step k (SenderStoresSecond v) w u rest end H K L = lead_write k w H.0 v rest end H.1 K (subst (λ (x : World). Leads k rest (picture_of k x) end) H.2 L)

@@ -19,8 +19,7 @@ use Rattle.dr_ring.specs.Inside.Parts.{sender_saw, LooksAtFinals, IsEnough, IsSh
 use Rattle.dr_runs.proofs.Lists.{no_elements, take_whole}
 use Rattle.dr_runs.proofs.Looks.{last_look_more, last_rises, last_least, looks_more, looks_few, no_looks_at}
 use Rattle.dr_runs.proofs.Elements.{get_any, number_at, contains_more, contains_last}
-use Rattle.dr_runs.proofs.Offers.{offers_more}
-use Rattle.dr_ring.proofs.Pictures.{some_final}
+use Rattle.dr_runs.proofs.Offers.{offers_more, some_final}
 
 -- one look more
 saw_one : (r : SenderRecord) (xs : List Look) (i v : ℕ) → sender_looked (sender_saw r xs) i v ≡ sender_saw r (xs ++ look i v ∷ [])
@@ -112,7 +111,7 @@ scanned_low r s s' needed least i f v S inside at is rise low =
 pub scanned_all : (r s : SenderRecord) (needed least i : ℕ) → IsPlan r.plan → Scanned r needed least i s → i ≡ length (finals r.plan.upstreams)
     → (xs : List Look) × LooksAtFinals r xs s × IsEnough r xs needed least
 scanned_all r s needed least i plan S all =
-    let some_one = some_final r.plan plan.graph in let low = S.some_one (omega arith) in (
+    let some_one = some_final r.plan.upstreams plan.graph in let low = S.some_one (omega arith) in (
       S.xs,
       S.saw,
       record {

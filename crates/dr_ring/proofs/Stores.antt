@@ -25,7 +25,8 @@ use Rattle.dr_ring.specs.Meaning.Steps.{sender_stores, receiver_knows, receiver_
 use Rattle.dr_runs.proofs.Elements.{at_below, each_set}
 use Rattle.dr_runs.proofs.Looks.{past_set, past_more, last_look_le}
 use Rattle.dr_ring.proofs.Events.{open_events, written_count, written_at}
-use Rattle.dr_ring.proofs.Keeps.{word_at, receiver_of_handler, above, upstream_inside, room_stays, payload_stays, receiver_stays}
+use Rattle.dr_runs.proofs.Completions.{upstream_inside, room_stays}
+use Rattle.dr_ring.proofs.Keeps.{word_at, receiver_of_handler, above, payload_stays, receiver_stays}
 use Rattle.dr_runs.proofs.Flags.{flags_stay, flags_open, halts_flags, closes_flags}
 
 payload_publishes : (k : Shape) (words : List ℕ) (r : SenderRecord) (n : ℕ) → length r.sent.published < n → n ≤ claimed r → AreWritten r n
@@ -86,7 +87,7 @@ keeps_publishes k w n lt le all free K =
         told = λ yes. absurd (not_closed (was.told yes).0);
         looks = past_set (payload_start k) w.words cursor_word n r.looks inside rises was.looks;
       });
-      room = subst (Room k us) (sym whole) (room_stays k w.words us (claimed w.sender) (λ h lt'. (let e = stays (count_word h) (omega arith) in omega arith)) K.room);
+      room = subst (Room k us) (sym whole) (room_stays k.upstreams w.words k.size (claimed w.sender) us (λ h lt'. (let e = stays (count_word h) (omega arith) in omega arith)) K.room);
       payload = subst (Payload k us (old ++ new) (drop m pending)) (sym free) (payload_publishes k us w.sender n lt le all (payload_stays k w.words us old pending None (λ i big. stays i (omega arith)) (subst (Payload k w.words old pending) free K.payload)));
       flags = flags_open us (length w.sender.sent.pending) (length (drop m pending)) w.sender.halted w.sender.closed w.halter.halted (λ y. not_closed (sym two ∙ y)) (flags_stay w.words us (length w.sender.sent.pending) w.sender.halted w.sender.closed w.halter.halted one two K.flags);
       looks = past_set (payload_start k) w.words cursor_word n w.sender.looks inside rises K.looks;
@@ -112,7 +113,7 @@ flagged k w i pos lt flag a b c before flags K =
       counts = record { cursor = stays cursor_word (λ e. omega arith) ∙ K.counts.cursor; limit = K.counts.limit };
       received = λ h r there. (let inside_h : h < handlers_of k = (let b = at_below w.receivers h r there in let c = K.ends in omega arith) in let was = K.received h r there in
           receiver_stays k w.words us w.sender.sent.published h r K.graph inside_h (stays (count_word h) (λ e. omega arith)) (λ u lt'. (let e = stays (count_word u) (λ e. omega arith) in omega arith)) (up closed_word) (past_set (payload_start k) w.words i 1 r.looks inside rises was.looks) was);
-      room = room_stays k w.words us (claimed w.sender) (λ h lt'. (let e = stays (count_word h) (λ e. omega arith) in omega arith)) K.room;
+      room = room_stays k.upstreams w.words k.size (claimed w.sender) us (λ h lt'. (let e = stays (count_word h) (λ e. omega arith) in omega arith)) K.room;
       payload = payload_stays k w.words us w.sender.sent.published w.sender.sent.pending w.sender.half (λ j big. stays j (λ e. omega arith)) K.payload;
       flags = flags;
       looks = past_set (payload_start k) w.words i 1 w.sender.looks inside rises K.looks;
@@ -201,7 +202,7 @@ early_by k w h r (u ∷ ups) at completed published same K =
     let was = K.received h r at in let has : Contains (u ∷ ups) u = (0, omega arith, refl) in let a = completed u has in
     let inside : h < handlers_of k = (let b = at_below w.receivers h r at in let c = K.ends in omega arith) in
     let b = last_look_le (payload_start k) w.words 0 r.looks (count_word u) (omega arith) was.looks in
-    let t = receiver_of_handler k w K u (upstream_inside k K.graph h u inside (subst (λ (xs : List ℕ). Contains xs u) same has)) in
+    let t = receiver_of_handler k w K u (upstream_inside k.upstreams K.graph h u inside (subst (λ (xs : List ℕ). Contains xs u) same has)) in
     let d = t.2.count in let e = t.2.completed in let f = t.2.taken in omega arith
 
 -- the next event is published
@@ -280,7 +281,7 @@ keeps_completes k w h n r at rise le K =
             count = here;
             completed = le;
             taken = was.taken;
-            after = λ u isup. (let a = was.after u isup in let b = up u (upstream_inside k K.graph h u lt isup) in omega arith);
+            after = λ u isup. (let a = was.after u isup in let b = up u (upstream_inside k.upstreams K.graph h u lt isup) in omega arith);
             beginning = was.beginning;
             half = was.half;
             told = λ yes. (two ∙ (was.told yes).0, (was.told yes).1);
@@ -288,7 +289,7 @@ keeps_completes k w h n r at rise le K =
           })
           (λ j q ne there. (let old = K.received j q there in let inside_j : j < handlers_of k = (let b = at_below w.receivers j q there in let c = K.ends in omega arith) in
           receiver_stays k w.words us w.sender.sent.published j q K.graph inside_j (stays (count_word j) (λ e. ne (omega arith))) up (λ c. two ∙ c) (past_set (payload_start k) w.words i n q.looks inside rises old.looks) old));
-      room = room_stays k w.words us (claimed w.sender) up K.room;
+      room = room_stays k.upstreams w.words k.size (claimed w.sender) us up K.room;
       payload = payload_stays k w.words us w.sender.sent.published w.sender.sent.pending w.sender.half (λ j big. stays j (λ e. omega arith)) K.payload;
       flags = flags_stay w.words us (length w.sender.sent.pending) w.sender.halted w.sender.closed w.halter.halted one two K.flags;
       looks = past_set (payload_start k) w.words i n w.sender.looks inside rises K.looks;

@@ -11,3 +11,5 @@ pub mod Offers
 pub mod Noting
 pub mod Flags
 pub mod OneSender
+pub mod Completions
+pub mod Replies

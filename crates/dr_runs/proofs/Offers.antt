@@ -5,7 +5,7 @@ use Rattle.std.specs.Prelude.{Contains, IsTrue, ◌↔◌}
 use Rattle.std.proofs.Math.Bool.{and-false}
 use Rattle.std.proofs.lemmas.Bool.{cases_lt, eq-eqb, ne_eqb, lt-ltb, le-ltb, eqb-true}
 use Rattle.std.proofs.lemmas.List.{length-map, get_or-map}
-use Rattle.dr_graph.specs.Meaning.Graph.{finals, nobody, least_of}
+use Rattle.dr_graph.specs.Meaning.Graph.{finals, nobody, least_of, IsGated, IsGraph}
 use Rattle.dr_graph.proofs.Gating.{final_left}
 use Rattle.dr_meaning.specs.declared.command.Polled.TheVariants.{Drained, Gating, Idle}
 use Rattle.dr_meaning.specs.Meaning.Machine.{State, front, offered, least_completed}
@@ -15,6 +15,12 @@ use Rattle.dr_runs.specs.Polls.{nothing_offered}
 -- a final handler is a handler
 pub final_inside : (graph : List (List ℕ)) (f : ℕ) → Contains (finals graph) f → f < length graph
 final_inside graph f has = (final_left graph nobody f has).0
+
+-- there is a final handler
+pub some_final : (graph : List (List ℕ)) → IsGraph graph → 0 < length (finals graph)
+some_final graph is =
+    let g : IsGated graph nobody (λ h. 0) 0 = is.gate nobody (λ h. 0) (λ h u has. omega arith) 0 is.some refl in
+    let has : Contains (finals graph) g.last = g.final in let lt = has.1 in omega arith
 
 -- the least of one count more
 pub least_more : (counts : List ℕ) (v : ℕ) → 0 < length counts → least_of (counts ++ v ∷ []) ≡ min (least_of counts) v
