@@ -13,3 +13,4 @@ pub mod Flags
 pub mod OneSender
 pub mod Completions
 pub mod Replies
+pub mod Scans
