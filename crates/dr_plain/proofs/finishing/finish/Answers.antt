@@ -15,12 +15,16 @@ use Rattle.dr_plain.proofs.Gathering.{all_stand, all_settle, has_run}
 use Rattle.dr_plain.proofs.Ending.{AllTogether, takes_in, own_sender, own_halter, has_all, together}
 use Rattle.dr_plain.proofs.Handed.{lanes_of}
 use Rattle.dr_plain.proofs.finishing.finish.Goals as goal
+use Rattle.dr_plain.proofs.finishing.finish.Given.{Over}
+use Rattle.dr_plain.proofs.finishing.finish.Goals.{After-gather}
 
-pub take_all-requires-clause-ends : goal.take_all-requires-clause-ends
-take_all-requires-clause-ends g c =
-    let s = c.args.sender in let es = c.args.receivers.items in let t = c.args.halter in let me = c.station.inside.seat.me in
+-- all ends come together in the sender's seat
+come : (g : Over) (c : After-gather g)
+    → AllTogether c.station.inside.seat.me.0 c.take_in.new.seat.me.0 c.gather.new.seat.me.0 c.args.sender c.args.receivers.items c.args.halter
+come g c =
+    let s = c.args.sender in let t = c.args.halter in let me = c.station.inside.seat.me in
     let is = ap (λ (e : SenderStand g.row.T.Denot). sender_end e c.sender.inside.written (cells_of c.sender.inside.tokens.items)) c.station.view_is ∙ c.sender.view_is in
-    let A : AllTogether me.0 c.take_in.new.seat.me.0 c.gather.new.seat.me.0 s es t = record {
+    record {
       mine = own_sender me s c.station.invariant.end (ap (λ (e : SenderEnd g.row.T.Denot). e.knows) is) (ap (λ (e : SenderEnd g.row.T.Denot). e.past) is)
           (ap (λ (e : SenderEnd g.row.T.Denot). e.stored) is);
       halter = takes_in _ _ _ (halter_known t) (own_halter c.halter.inside.seat.me t c.halter.invariant.end (ap (λ (e : HalterStand g.row.T.Denot). e.knows) c.halter.view_is)
@@ -28,22 +32,19 @@ take_all-requires-clause-ends g c =
           (ap (λ (m : Sitting g.row.T.Denot). m.0) c.take_in.ensures.view);
       receivers = c.gather.ensures.view;
       all = c.requires.ends;
-    } in
+    }
+
+pub take_all-requires-clause-ends : goal.take_all-requires-clause-ends
+take_all-requires-clause-ends g c =
+    let s = c.args.sender in let es = c.args.receivers.items in let t = c.args.halter in
+    let A = come g (goal.at.take_all-requires-clause-ends g c).After-gather in
     (s, es, t, has_all _ _ _ s es t A)
 
 pub reclaim-tokens-requires-clause-lanes : goal.reclaim-tokens-requires-clause-lanes
 reclaim-tokens-requires-clause-lanes g c =
     let s = c.args.sender in let es = c.args.receivers.items in let t = c.args.halter in let me = c.station.inside.seat.me in
     let is = ap (λ (e : SenderStand g.row.T.Denot). sender_end e c.sender.inside.written (cells_of c.sender.inside.tokens.items)) c.station.view_is ∙ c.sender.view_is in
-    let A : AllTogether me.0 c.take_in.new.seat.me.0 c.gather.new.seat.me.0 s es t = record {
-      mine = own_sender me s c.station.invariant.end (ap (λ (e : SenderEnd g.row.T.Denot). e.knows) is) (ap (λ (e : SenderEnd g.row.T.Denot). e.past) is)
-          (ap (λ (e : SenderEnd g.row.T.Denot). e.stored) is);
-      halter = takes_in _ _ _ (halter_known t) (own_halter c.halter.inside.seat.me t c.halter.invariant.end (ap (λ (e : HalterStand g.row.T.Denot). e.knows) c.halter.view_is)
-          (ap (λ (e : HalterStand g.row.T.Denot). e.past) c.halter.view_is) (ap (λ (e : HalterStand g.row.T.Denot). e.stored) c.halter.view_is))
-          (ap (λ (m : Sitting g.row.T.Denot). m.0) c.take_in.ensures.view);
-      receivers = c.gather.ensures.view;
-      all = c.requires.ends;
-    } in
+    let A = come g (goal.at.reclaim-tokens-requires-clause-lanes g c).After-gather in
     let e = c.sender.inside.station in let knows : e.knows ≡ s.knows = ap (λ (x : SenderEnd g.row.T.Denot). x.knows) c.sender.view_is in
     let next = c.sender.invariant.next in let front = c.sender.invariant.front in let near = c.sender.invariant.near in
     let close : claimed e.knows ≤ e.knows.plan.size + length e.knows.published = omega arith in
@@ -74,29 +75,11 @@ close-requires g c =
 pub returns-clause-lists : goal.returns-clause-lists
 returns-clause-lists g c =
     let s = c.args.sender in let es = c.args.receivers.items in let t = c.args.halter in let me = c.station.inside.seat.me in
-    let is = ap (λ (e : SenderStand g.row.T.Denot). sender_end e c.sender.inside.written (cells_of c.sender.inside.tokens.items)) c.station.view_is ∙ c.sender.view_is in
-    let A : AllTogether me.0 c.take_in.new.seat.me.0 c.gather.new.seat.me.0 s es t = record {
-      mine = own_sender me s c.station.invariant.end (ap (λ (e : SenderEnd g.row.T.Denot). e.knows) is) (ap (λ (e : SenderEnd g.row.T.Denot). e.past) is)
-          (ap (λ (e : SenderEnd g.row.T.Denot). e.stored) is);
-      halter = takes_in _ _ _ (halter_known t) (own_halter c.halter.inside.seat.me t c.halter.invariant.end (ap (λ (e : HalterStand g.row.T.Denot). e.knows) c.halter.view_is)
-          (ap (λ (e : HalterStand g.row.T.Denot). e.past) c.halter.view_is) (ap (λ (e : HalterStand g.row.T.Denot). e.stored) c.halter.view_is))
-          (ap (λ (m : Sitting g.row.T.Denot). m.0) c.take_in.ensures.view);
-      receivers = c.gather.ensures.view;
-      all = c.requires.ends;
-    } in
+    let A = come g (goal.at.returns-clause-lists g c).After-gather in
     all_settle _ _ _ s es (together _ me.0 _ _ s es t A c.take_all.ensures.ran)
 
 pub returns-clause-run : goal.returns-clause-run
 returns-clause-run g c =
     let s = c.args.sender in let es = c.args.receivers.items in let t = c.args.halter in let me = c.station.inside.seat.me in
-    let is = ap (λ (e : SenderStand g.row.T.Denot). sender_end e c.sender.inside.written (cells_of c.sender.inside.tokens.items)) c.station.view_is ∙ c.sender.view_is in
-    let A : AllTogether me.0 c.take_in.new.seat.me.0 c.gather.new.seat.me.0 s es t = record {
-      mine = own_sender me s c.station.invariant.end (ap (λ (e : SenderEnd g.row.T.Denot). e.knows) is) (ap (λ (e : SenderEnd g.row.T.Denot). e.past) is)
-          (ap (λ (e : SenderEnd g.row.T.Denot). e.stored) is);
-      halter = takes_in _ _ _ (halter_known t) (own_halter c.halter.inside.seat.me t c.halter.invariant.end (ap (λ (e : HalterStand g.row.T.Denot). e.knows) c.halter.view_is)
-          (ap (λ (e : HalterStand g.row.T.Denot). e.past) c.halter.view_is) (ap (λ (e : HalterStand g.row.T.Denot). e.stored) c.halter.view_is))
-          (ap (λ (m : Sitting g.row.T.Denot). m.0) c.take_in.ensures.view);
-      receivers = c.gather.ensures.view;
-      all = c.requires.ends;
-    } in
+    let A = come g (goal.at.returns-clause-run g c).After-gather in
     has_run _ _ _ s es t (has_all _ _ _ s es t A).halter (together _ me.0 _ _ s es t A c.take_all.ensures.ran) c.moments.ensures.leads c.moments.ensures.laws
