@@ -16,6 +16,7 @@ use Rattle.dr_runs.specs.Looks.{look}
 use Rattle.dr_plain.specs.Meaning.Rule.{World, Room, ArePast, ReceiverKept, KeepsRule}
 use Rattle.dr_plain.specs.Meaning.Steps.{sender_knows}
 use Rattle.dr_runs.proofs.Elements.{there}
+use Rattle.dr_runs.proofs.Flags.{flags_open}
 use Rattle.dr_runs.proofs.Completions as one
 use Rattle.dr_runs.proofs.Completions.{upstream_inside, falls}
 use Rattle.dr_runs.proofs.Looks.{past_more}
@@ -124,16 +125,7 @@ module _ {T : Type 0} where
               let all : length w.sender.published + (old + n) ≡ claimed w.sender + n = omega arith in
               subst P e (sender_learns k w (old + n) (w.sender.looks ++ look halt_word found ∷ []) (let l = r.limit in omega arith)
               (subst (Room k w.words) (sym all) (room_seen k w n r K))
-              (record {
-                halt = F.halt;
-                close = F.close;
-                by_sender = F.by_sender;
-                by_halter = F.by_halter;
-                closed = F.closed;
-                known_halt = F.known_halt;
-                known_close = F.known_close;
-                complete = λ c. absurd (let h = (F.complete c).0 in omega arith);
-              })
+              (flags_open w.words old (old + n) w.sender.halted w.sender.closed w.halter.halted (λ (c : word_at w.words closed_word ≡ 1). (let h = (F.complete c).0 in omega arith)) F)
               past K))
         ]
       ]

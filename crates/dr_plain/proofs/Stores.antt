@@ -1,8 +1,8 @@
 -- The stores of the sender and the halter, and the receivers' steps, keep the rule.
-use Rattle.std.proofs.Common.{◌≡◌, ◌≢◌, ℕ, ◌+◌, ◌-◌, ◌<◌, ◌≤◌, inl, inr, Bool, true, ◌==◌, List, [], ◌∷◌, ◌++◌, length, set}
+use Rattle.std.proofs.Common.{◌≡◌, ◌≢◌, ℕ, ◌+◌, ◌-◌, ◌<◌, ◌≤◌, inl, inr, Bool, true, List, [], ◌∷◌, ◌++◌, length, set}
 use Rattle.std.proofs.Common.{take, sym, refl, ap, ◌∙◌, subst, arith, length-set, get_or-set_same, get_or-set_other}
 use Rattle.std.specs.Prelude.{Contains}
-use Rattle.std.proofs.lemmas.Bool.{cases_eq, cases_lt, or_cases, and_parts, eqb-true}
+use Rattle.std.proofs.lemmas.Bool.{cases_eq, cases_lt, or_cases}
 use Rattle.std.proofs.lemmas.List.{length-append, take-append-le}
 use mathlib.Core.Option.{some}
 use lib.ListN.{get_elem?}
@@ -13,16 +13,16 @@ use Rattle.dr_runs.specs.Words.{cursor_word, closed_word, halt_word, count_word,
 use Rattle.dr_plain.specs.declared.record.Lent.{Lent}
 use Rattle.dr_plain.specs.declared.record.ReceiverRecord.{ReceiverRecord}
 use Rattle.dr_plain.specs.Meaning.Records.{claimed, taken_at, published_more, sender_halted, sender_closed, closed_looked}
-use Rattle.dr_runs.specs.Looks.{look, last_look}
+use Rattle.dr_runs.specs.Looks.{look}
 use Rattle.dr_plain.specs.Meaning.Records.{receiver_looked, tells_drained, cursor_looked, completed_to, halter_halted}
 use Rattle.dr_plain.specs.Meaning.Rule.{World, Room, ReceiverKept, KeepsRule}
 use Rattle.dr_plain.specs.Meaning.Steps.{sender_stores, receiver_knows, receiver_stores, next_of}
 use Rattle.dr_runs.proofs.Elements.{at_below, each_set}
-use Rattle.dr_runs.proofs.Looks.{past_set, past_more, last_look_le}
-use Rattle.dr_runs.proofs.Completions.{upstream_inside, room_stays}
+use Rattle.dr_runs.proofs.Looks.{past_set, past_more}
+use Rattle.dr_runs.proofs.Completions.{counts_rise, upstream_inside, room_stays}
 use Rattle.dr_plain.proofs.Keeps.{word_at, receiver_stays}
 use Rattle.dr_plain.proofs.Barriers.{below_upstream, below_front, next_count, next_are, takes_below}
-use Rattle.dr_runs.proofs.Flags.{flags_stay, flags_open, halts_flags, closes_flags}
+use Rattle.dr_runs.proofs.Flags.{flags_stay, flags_open, drained_truth, halts_flags, closes_flags}
 
 module _ {T : Type 0} where
   pub keeps_publishes : (k : Shape) (w : World T) (lents : List (Lent T)) → 0 < length lents → length lents ≤ w.sender.pending → KeepsRule k w
@@ -179,10 +179,8 @@ module _ {T : Type 0} where
       → tells_drained r (word_at w.words cursor_word) ≡ true → KeepsRule k w
       → (word_at w.words closed_word ≡ 1) × (length w.sender.published ≡ length r.received)
   tells_truth k w h r at tells K =
-      let both : ((last_look 0 r.looks closed_word == 1) ≡ true) × ((word_at w.words cursor_word == length r.received) ≡ true) = and_parts _ _ tells in
-      let a : last_look 0 r.looks closed_word ≡ 1 = eqb-true _ _ both.0 in let b : word_at w.words cursor_word ≡ length r.received = eqb-true _ _ both.1 in
-      let seen = last_look_le (words_of k) w.words 0 r.looks closed_word (omega arith) (K.received h r at).looks in let flag = K.flags.close in
-      let cursor = K.counts.cursor in (omega arith, omega arith)
+      let truth = drained_truth (words_of k) w.words r.looks (length r.received) tells K.flags.close (K.received h r at).looks in
+      let all = truth.1 in let cursor = K.counts.cursor in (truth.0, omega arith)
 
   pub keeps_cursor_look : (k : Shape) (w : World T) (h room : ℕ) (r : ReceiverRecord T) → get_elem? w.receivers h ≡ some r → KeepsRule k w
       → KeepsRule k (receiver_knows w h (cursor_looked r (word_at w.words cursor_word) (next_of w r (taken_at r cursor_word (word_at w.words cursor_word) room))))
@@ -202,10 +200,7 @@ module _ {T : Type 0} where
       let rises : i < words_of k → word_at w.words i ≤ n = λ _. omega arith in
       let here : word_at us i ≡ n = get_or-set_same w.words i n 0 inside in
       let stays : (j : ℕ) → j ≢ i → word_at us j ≡ word_at w.words j = λ j ne. get_or-set_other w.words i j n 0 ne in
-      let up : (j : ℕ) → j < handlers_of k → word_at w.words (count_word j) ≤ word_at us (count_word j) = λ j _. elim (cases_eq j h) [
-        | inl e ↦ (let a : word_at us (count_word j) ≡ n = ap (λ (m : ℕ). word_at us (count_word m)) e ∙ here in let b : word_at w.words (count_word j) ≡ r.completed = ap (λ (m : ℕ). word_at w.words (count_word m)) e ∙ done in omega arith)
-        | inr ne ↦ (let a = stays (count_word j) (λ e. ne (omega arith)) in omega arith)
-      ] in
+      let up : (j : ℕ) → j < handlers_of k → word_at w.words (count_word j) ≤ word_at us (count_word j) = λ j _. counts_rise k.upstreams w.words h n inside (omega arith) j in
       let one = stays halt_word (λ e. omega arith) in let two = stays closed_word (λ e. omega arith) in record {
         graph = K.graph;
         some_slot = K.some_slot;

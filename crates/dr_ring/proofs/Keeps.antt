@@ -23,7 +23,7 @@ use Rattle.dr_seq.proofs.Apart.{slots_differ}
 use Rattle.dr_runs.proofs.Elements.{there, at_below}
 use Rattle.dr_runs.proofs.Completions.{upstream_inside, falls, room_stays, room_seen, ahead_of_all}
 use Rattle.dr_runs.proofs.Looks.{past_set, past_more}
-use Rattle.dr_runs.proofs.Flags.{flags_stay}
+use Rattle.dr_runs.proofs.Flags.{flags_stay, flags_open}
 
 -- two sequences less than a round apart have payload words of their own
 pub apart : (k : Shape) (a b i j : ℕ) → a ≢ b → b < a + k.size → a < b + k.size → i < 2 → j < 2 → payload_word k a i ≢ payload_word k b j
@@ -140,17 +140,7 @@ claims_more k w n room going K =
     sender_learns k w more (w.sender.looks ++ look halt_word (word_at w.words halt_word) ∷ []) (let l = room.limit in omega arith)
     (λ f final. (let a = seen_room k w n room K f final in omega arith))
     (payload_claims k w.words w.sender.sent.published pending w.sender.half n K.payload)
-    (record {
-      halt = F.halt;
-      close = F.close;
-      by_sender = F.by_sender;
-      by_halter = F.by_halter;
-      closed = F.closed;
-      known_halt = F.known_halt;
-      known_close = F.known_close;
-      complete = λ c. absurd (let h = (F.complete c).0 in
-          omega arith);
-    })
+    (flags_open w.words (length pending) (length more) w.sender.halted w.sender.closed w.halter.halted (λ (c : word_at w.words closed_word ≡ 1). (let h = (F.complete c).0 in omega arith)) F)
     (past_more (payload_start k) w.words halt_word (word_at w.words halt_word) w.sender.looks (omega arith) (omega arith) K.looks) K
 
 abbrev opens : ℕ → ℕ → List (Option Event)

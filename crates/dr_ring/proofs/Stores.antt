@@ -1,8 +1,8 @@
 -- Stores of words that are no payload, and the receivers' steps, keep the rule.
-use Rattle.std.proofs.Common.{◌≡◌, ◌≢◌, ℕ, ◌+◌, ◌-◌, ◌<◌, ◌≤◌, inl, inr, Bool, true, ◌==◌, List, [], ◌∷◌, ◌++◌, length, get_or, set}
+use Rattle.std.proofs.Common.{◌≡◌, ◌≢◌, ℕ, ◌+◌, ◌-◌, ◌<◌, ◌≤◌, inl, inr, Bool, true, List, [], ◌∷◌, ◌++◌, length, get_or, set}
 use Rattle.std.proofs.Common.{take, drop, Option, Some, None, sym, refl, ap, ◌∙◌, subst, arith, length-set, get_or-set_same, get_or-set_other}
 use Rattle.std.specs.Prelude.{Contains}
-use Rattle.std.proofs.lemmas.Bool.{cases_eq, cases_lt, or_cases, and_parts, eqb-true}
+use Rattle.std.proofs.lemmas.Bool.{cases_eq, cases_lt, or_cases}
 use Rattle.std.proofs.lemmas.List.{length-append, length-drop, length_push, take-append-le, take_more}
 use Rattle.std.proofs.lemmas.List.{get_or_append_left, get_or-append_right, get_or-drop}
 use mathlib.Core.Option.{some}
@@ -25,9 +25,9 @@ use Rattle.dr_ring.specs.Meaning.Steps.{sender_stores, receiver_knows, receiver_
 use Rattle.dr_runs.proofs.Elements.{at_below, each_set}
 use Rattle.dr_runs.proofs.Looks.{past_set, past_more, last_look_le}
 use Rattle.dr_ring.proofs.Events.{open_events, written_count, written_at}
-use Rattle.dr_runs.proofs.Completions.{upstream_inside, room_stays}
+use Rattle.dr_runs.proofs.Completions.{counts_rise, upstream_inside, room_stays}
 use Rattle.dr_ring.proofs.Keeps.{word_at, receiver_of_handler, above, payload_stays, receiver_stays}
-use Rattle.dr_runs.proofs.Flags.{flags_stay, flags_open, halts_flags, closes_flags}
+use Rattle.dr_runs.proofs.Flags.{flags_stay, flags_open, drained_truth, halts_flags, closes_flags}
 
 payload_publishes : (k : Shape) (words : List ℕ) (r : SenderRecord) (n : ℕ) → length r.sent.published < n → n ≤ claimed r → AreWritten r n
     → Payload k words r.sent.published r.sent.pending None → Payload k words (published_to r n).sent.published (published_to r n).sent.pending None
@@ -177,10 +177,8 @@ pub tells_truth : (k : Shape) (w : World) (h : ℕ) (r : ReceiverRecord) → get
     → tells_drained r (word_at w.words cursor_word) ≡ true → KeepsRule k w
     → (word_at w.words closed_word ≡ 1) × (length w.sender.sent.published ≡ length r.received)
 tells_truth k w h r at tells K =
-    let both : ((last_look 0 r.looks closed_word == 1) ≡ true) × ((word_at w.words cursor_word == length r.received) ≡ true) = and_parts _ _ tells in
-    let a : last_look 0 r.looks closed_word ≡ 1 = eqb-true _ _ both.0 in let b : word_at w.words cursor_word ≡ length r.received = eqb-true _ _ both.1 in
-    let seen = last_look_le (payload_start k) w.words 0 r.looks closed_word (omega arith) (K.received h r at).looks in let flag = K.flags.close in
-    let cursor = K.counts.cursor in (omega arith, omega arith)
+    let truth = drained_truth (payload_start k) w.words r.looks (length r.received) tells K.flags.close (K.received h r at).looks in
+    let all = truth.1 in let cursor = K.counts.cursor in (truth.0, omega arith)
 
 pub keeps_cursor_look : (k : Shape) (w : World) (h : ℕ) (r : ReceiverRecord) → get_elem? w.receivers h ≡ some r → KeepsRule k w
     → KeepsRule k (receiver_knows w h (cursor_looked r (word_at w.words cursor_word)))
@@ -262,10 +260,7 @@ keeps_completes k w h n r at rise le K =
     let rises : i < payload_start k → word_at w.words i ≤ n = λ _. omega arith in
     let here : word_at us i ≡ n = get_or-set_same w.words i n 0 inside in
     let stays : (j : ℕ) → j ≢ i → word_at us j ≡ word_at w.words j = λ j ne. get_or-set_other w.words i j n 0 ne in
-    let up : (j : ℕ) → j < handlers_of k → word_at w.words (count_word j) ≤ word_at us (count_word j) = λ j _. elim (cases_eq j h) [
-      | inl e ↦ (let a : word_at us (count_word j) ≡ n = ap (λ (m : ℕ). word_at us (count_word m)) e ∙ here in let b : word_at w.words (count_word j) ≡ r.completed = ap (λ (m : ℕ). word_at w.words (count_word m)) e ∙ done in omega arith)
-      | inr ne ↦ (let a = stays (count_word j) (λ e. ne (omega arith)) in omega arith)
-    ] in
+    let up : (j : ℕ) → j < handlers_of k → word_at w.words (count_word j) ≤ word_at us (count_word j) = λ j _. counts_rise k.upstreams w.words h n inside (omega arith) j in
     let one = stays halt_word (λ e. omega arith) in let two = stays closed_word (λ e. omega arith) in record {
       graph = K.graph;
       some_slot = K.some_slot;

@@ -3,7 +3,7 @@ use Rattle.std.proofs.Common.{◌≡◌, ◌≢◌, ℕ, ◌+◌, ◌<◌, ◌�
 use Rattle.std.proofs.Common.{get_or-set_same, get_or-set_other}
 use Rattle.std.specs.Prelude.{Contains}
 use Rattle.std.specs.List.{range_with_len}
-use Rattle.std.proofs.lemmas.Bool.{cases_lt}
+use Rattle.std.proofs.lemmas.Bool.{cases_eq, cases_lt}
 use Rattle.std.proofs.lemmas.List.{get_or_past}
 use Rattle.std.proofs.lemmas.List.FromFn.{get_or-map-range_with_len}
 use Rattle.dr_graph.specs.Meaning.Graph.{nobody, upstreams_of, finals, IsOrderly, IsGated, IsGraph}
@@ -41,13 +41,24 @@ module _ (graph : List (List ℕ)) (words : List ℕ) where
       (let z : 0 + h ≡ h = omega arith in ap (λ (j : ℕ). word_at (set words (count_word h) v) (count_word j)) z ∙ get_or-set_same words (count_word h) v 0 inside)
       (λ j ne. get_or-set_other words (count_word h) (count_word j) v 0 (λ (e : count_word j ≡ count_word h). ne (omega arith)))
 
+  -- where one rises, none falls
+  pub counts_rise : (h v : ℕ) → count_word h < length words → word_at words (count_word h) ≤ v → (j : ℕ)
+      → word_at words (count_word j) ≤ word_at (set words (count_word h) v) (count_word j)
+  counts_rise h v inside rise j =
+      elim (cases_eq j h) [
+        | inl e ↦ (let new = get_or-set_same words (count_word h) v 0 inside in
+            let a = ap (λ (m : ℕ). word_at (set words (count_word h) v) (count_word m)) e in let b = ap (λ (m : ℕ). word_at words (count_word m)) e in omega arith)
+        | inr ne ↦ (let a = get_or-set_other words (count_word h) (count_word j) v 0 (λ (e : count_word j ≡ count_word h). ne (omega arith)) in omega arith)
+      ]
+
   -- they fall along the graph, where each is at most that of each upstream
   pub falls : ((h u : ℕ) → h < length graph → Contains (upstreams_of graph h) u → word_at words (count_word h) ≤ word_at words (count_word u))
       → IsOrderly graph (λ h. word_at words (count_word h))
   falls below h u has =
       elim (cases_lt h (length graph)) [
         | inl lt ↦ below h u lt has
-        | inr past ↦ absurd (contains_none u (let e : upstreams_of graph h ≡ [] = get_or_past graph h [] past in subst (λ (ups : List ℕ). Contains ups u) e has))
+        | inr past ↦ (let e : upstreams_of graph h ≡ [] = get_or_past graph h [] past in
+            absurd (contains_none u (subst (λ (ups : List ℕ). Contains ups u) e has)))
       ]
 
 pub upstream_inside : (graph : List (List ℕ)) → IsGraph graph → (h u : ℕ) → h < length graph → Contains (upstreams_of graph h) u → u < length graph

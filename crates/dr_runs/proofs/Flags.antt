@@ -1,6 +1,11 @@
 -- What stores leave of a ring's words of halt and close.
-use Rattle.std.proofs.Common.{◌≡◌, ◌≢◌, ℕ, ◌+◌, ◌<◌, ◌≤◌, ◌⊎◌, inl, inr, Bool, true, List, length, get_or, set, sym, refl, ap, ◌∙◌, arith, get_or-set_same, get_or-set_other}
-use Rattle.dr_runs.specs.Words.{closed_word, halt_word, HaltAndClose}
+use Rattle.std.proofs.Common.{◌≡◌, ◌≢◌, ℕ, ◌<◌, ◌≤◌, ◌⊎◌, inl, Bool, true, ◌==◌, ◌&&◌, List, length, get_or, set}
+use Rattle.std.proofs.Common.{sym, refl, ◌∙◌, arith, get_or-set_same, get_or-set_other}
+use Rattle.std.proofs.lemmas.Bool.{and_parts, eqb-true}
+use Rattle.dr_runs.specs.Words.{cursor_word, closed_word, halt_word, HaltAndClose}
+use Rattle.dr_runs.specs.declared.look.Look.{Look}
+use Rattle.dr_runs.specs.Looks.{last_look, ArePast}
+use Rattle.dr_runs.proofs.Looks.{last_look_le}
 
 abbrev word_at : List ℕ → ℕ → ℕ
 word_at words i = get_or words i 0
@@ -65,3 +70,12 @@ closes_flags words n a b c inside halted all F =
       known_close = λ y. refl;
       complete = λ y. (halt, all);
     }
+
+-- who saw the ring closed, and finds no more published than it took, saw the truth: it is closed, and all is taken
+pub drained_truth : (rising : ℕ) (words : List ℕ) (looks : List Look) (taken : ℕ)
+    → ((last_look 0 looks closed_word == 1) && (word_at words cursor_word == taken)) ≡ true → word_at words closed_word ≤ 1 → ArePast rising words looks
+    → (word_at words closed_word ≡ 1) × (word_at words cursor_word ≡ taken)
+drained_truth rising words looks taken tells flag past =
+    let both : ((last_look 0 looks closed_word == 1) ≡ true) × ((word_at words cursor_word == taken) ≡ true) = and_parts _ _ tells in
+    let a : last_look 0 looks closed_word ≡ 1 = eqb-true _ _ both.0 in
+    let seen = last_look_le rising words 0 looks closed_word (omega arith) past in (omega arith, eqb-true _ _ both.1)
