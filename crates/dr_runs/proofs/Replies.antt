@@ -15,7 +15,8 @@ use Rattle.dr_meaning.specs.declared.command.Reply.{Reply}
 use Rattle.dr_meaning.specs.declared.command.Reply.TheVariants.{Claimed, Written, Published, Completed}
 use Rattle.dr_meaning.specs.declared.command.Polled.{Polled}
 use Rattle.dr_meaning.specs.declared.command.Polled.TheVariants.{Batch, Drained, Gating, Idle}
-use Rattle.dr_meaning.specs.Meaning.Refusals.{PollTests, CompleteTests, IsFirst, claim_causes, sequence_causes, publish_causes, write_causes, poll_causes, complete_causes}
+use Rattle.dr_meaning.specs.Meaning.Refusals.{PollTests, CompleteTests, IsFirst, claim_causes, write_causes}
+use Rattle.dr_meaning.specs.Meaning.Refusals.{sequence_causes, publish_causes, poll_causes, complete_causes}
 use Rattle.dr_meaning.specs.Meaning.Machine.{Setup, State, Outcome, front, available, least_completed, refusals, accepted, publish_faults, step}
 use Rattle.dr_meaning.specs.Calls.Replies.{claim_reply, unit_reply, poll_reply}
 use Rattle.dr_meaning.specs.Calls.Ends.{Verdict, Exactly, MayHold, MayFail, Sent, Received, IsAnswerOf, WriteAnswers, PublishAnswers, as_end}
@@ -27,7 +28,8 @@ use Rattle.dr_runs.specs.Words.{cursor_word, closed_word, halt_word, count_word}
 use Rattle.dr_runs.specs.Replies.{claim_tests_of, DecidesClaimOf, DecidesPollOf}
 use Rattle.dr_runs.proofs.Completions.{word_at, counts_of, count_at, upstream_inside}
 use Rattle.dr_runs.proofs.Elements.{all_zero}
-use Rattle.dr_runs.proofs.Exact.{AreExact, none_exact, first_exact, exact_join, exact_stretch, unit_replies, offered_low, drained_reply, gating_reply, idle_reply}
+use Rattle.dr_runs.proofs.Exact.{AreExact, none_exact, first_exact, exact_join, exact_stretch, unit_replies, offered_low}
+use Rattle.dr_runs.proofs.Exact.{drained_reply, gating_reply, idle_reply}
 use Rattle.dr_runs.proofs.Offers.{final_inside, offered_at_most}
 use Rattle.dr_runs.proofs.OneSender.{setup_of, shown, count_owners, shown_front, claim_step}
 
@@ -102,7 +104,8 @@ module _ {T : Type 0} (p : Picture T) (K : IsKept p) where
   pub at_front : front m ≡ p.published
   at_front =
       let cursor = K.cursor in
-      shown_front p.graph p.size p.limit (claimed p) p.writes (word_at p.words cursor_word) p.taken (counts_of p.graph p.words) (word_at p.words halt_word == 1) (omega arith)
+      shown_front p.graph p.size p.limit (claimed p) p.writes (word_at p.words cursor_word) p.taken (counts_of p.graph p.words)
+      (word_at p.words halt_word == 1) (omega arith)
       ∙ cursor
 
   -- The sender's writes and publications.
@@ -135,7 +138,8 @@ module _ {T : Type 0} (p : Picture T) (K : IsKept p) where
     pub write_replies : (s : ℕ) (event : T) (result : Result (Unit {0}) Refusal) → WriteAnswers (Some sent) s (as_end result)
         → Replies p (Write 0 s event) (unit_reply Written result)
     write_replies s event result answer =
-        unit_replies (write_causes (write_tests (Some sent) s)) (refusals c m (Write 0 s event)) m (accepted c m (Write 0 s event)) result (write_exact s event) answer
+        let causes = write_causes (write_tests (Some sent) s) in let command = Write 0 s event in
+        unit_replies causes (refusals c m command) m (accepted c m command) result (write_exact s event) answer
 
     -- what is written to a sequence that is not published
     written_later : (s : ℕ) → word_at p.words cursor_word ≤ s → get_or sent.pending (s - length sent.published) None ≡ m.written s
@@ -177,7 +181,8 @@ module _ {T : Type 0} (p : Picture T) (K : IsKept p) where
     pub publish_replies : (lo hi : ℕ) (result : Result (Unit {0}) Refusal) → PublishAnswers (Some sent) lo hi (as_end result)
         → Replies p (Publish 0 lo hi) (unit_reply Published result)
     publish_replies lo hi result answer =
-        unit_replies (publish_causes lo hi (publish_tests (Some sent) lo hi)) (refusals c m (Publish 0 lo hi)) m (accepted c m (Publish 0 lo hi)) result (publish_exact lo hi) answer
+        let causes = publish_causes lo hi (publish_tests (Some sent) lo hi) in
+        unit_replies causes (refusals c m (Publish 0 lo hi)) m (accepted c m (Publish 0 lo hi)) result (publish_exact lo hi) answer
 
   -- A claim, for which the sender saw room.
   module _ (Room : Type 0) (n : ℕ) (fits : Room → HasRoom p n) where
@@ -227,7 +232,8 @@ module _ {T : Type 0} (p : Picture T) (K : IsKept p) where
         ap (λ (x : Outcome T). x.reply) (unless-refused r (refusals c m (Claim 0 n)) m (accepted c m (Claim 0 n)) (claim_refused r answer D))
     claim_replies (Ok stretch) answer D =
         let room = fits D.1 in
-        let claims = claim_step p.graph p.size p.limit (claimed p) n p.writes p.writes (word_at p.words cursor_word) p.taken (counts_of p.graph p.words) (λ _. refl) (some_claimed n answer.1.0) room.size room.limit room.completed in
+        let claims = claim_step p.graph p.size p.limit (claimed p) n p.writes p.writes (word_at p.words cursor_word) p.taken
+        (counts_of p.graph p.words) (λ _. refl) (some_claimed n answer.1.0) room.size room.limit room.completed in
         subst (λ (b : Bool). (step c (state_where p b) (Claim 0 n)).reply ≡ claim_reply (Ok stretch)) (sym (going D.0))
         (ap (λ (x : Outcome T). x.reply) claims ∙ ap (λ (x : Stretch). Claimed x.lo x.hi) (sym D.2))
 
@@ -266,7 +272,8 @@ module _ {T : Type 0} (p : Picture T) (K : IsKept p) where
     pub complete_replies : (upto : ℕ) (result : Result (Unit {0}) Refusal) → IsAnswerOf (complete_causes (complete_known upto)) (as_end result)
         → Replies p (Complete h upto) (unit_reply Completed result)
     complete_replies upto result answer =
-        unit_replies (complete_causes (complete_known upto)) (refusals c m (Complete h upto)) m (accepted c m (Complete h upto)) result (complete_exact upto) answer
+        let causes = complete_causes (complete_known upto) in
+        unit_replies causes (refusals c m (Complete h upto)) m (accepted c m (Complete h upto)) result (complete_exact upto) answer
 
     poll_exact : (room : ℕ) → AreExact (poll_causes (poll_known room)) (refusals c m (Poll h room))
     poll_exact room = (ap Exactly (sym handler), refl, λ a. (refl, refl, λ b. (refl, refl, λ d. tt)))
@@ -302,8 +309,8 @@ module _ {T : Type 0} (p : Picture T) (K : IsKept p) where
     pub poll_replies : (room : ℕ) (result : Result Polled Refusal) → IsAnswerOf (poll_causes (poll_known room)) (as_end result) → Finds result
         → Replies p (Poll h room) (poll_reply result)
     poll_replies room (Ok polled) answer D =
-        ap (λ (x : Outcome T). x.reply) (unless-none (refusals c m (Poll h room)) m (accepted c m (Poll h room)) (none_exact (poll_causes (poll_known room)) (refusals c m (Poll h room)) (poll_exact room) answer))
-        ∙ nothing_taken room polled D
+        let none = none_exact (poll_causes (poll_known room)) (refusals c m (Poll h room)) (poll_exact room) answer in
+        ap (λ (x : Outcome T). x.reply) (unless-none (refusals c m (Poll h room)) m (accepted c m (Poll h room)) none) ∙ nothing_taken room polled D
     poll_replies room (Err refusal) answer D =
-        ap (λ (x : Outcome T). x.reply)
-        (unless-refused refusal (refusals c m (Poll h room)) m (accepted c m (Poll h room)) (first_exact refusal (poll_causes (poll_known room)) (refusals c m (Poll h room)) (poll_exact room) answer))
+        let first = first_exact refusal (poll_causes (poll_known room)) (refusals c m (Poll h room)) (poll_exact room) answer in
+        ap (λ (x : Outcome T). x.reply) (unless-refused refusal (refusals c m (Poll h room)) m (accepted c m (Poll h room)) first)
