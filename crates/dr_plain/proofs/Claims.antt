@@ -1,17 +1,15 @@
 -- What a claim comes to.
-use Rattle.std.proofs.Common.{◌≡◌, ℕ, zero, suc, ◌+◌, ◌-◌, ◌*◌, ◌^◌, ◌<◌, ◌≤◌, ◌==◌, ◌||◌, true, false, inl, inr, ◌⊎◌, if◌then◌else◌, List, []}
-use Rattle.std.proofs.Common.{◌∷◌, ◌++◌, length, take, drop, Option, Some, None, sym, refl, ap, ◌∙◌, subst, arith, append_assoc}
+use Rattle.std.proofs.Common.{◌≡◌, ℕ, zero, suc, ◌+◌, ◌-◌, ◌*◌, ◌<◌, ◌≤◌, ◌==◌, ◌||◌, true, false, inl, inr, ◌⊎◌, if◌then◌else◌, List, []}
+use Rattle.std.proofs.Common.{◌∷◌, ◌++◌, length, take, drop, Option, None, sym, refl, ap, ◌∙◌, subst, arith, append_assoc}
 use Rattle.std.specs.Prelude.{nat_lt, Result, Ok, Err}
-use Rattle.std.proofs.lemmas.Bool.{cases_lt, eq-eqb, ne_eqb, lt-ltb, le-ltb, ltb-false, or_left, or_right}
+use Rattle.std.proofs.lemmas.Bool.{cases_lt, eq-eqb, ne_eqb, lt-ltb, le-ltb, or_left, or_right}
 use Rattle.std.proofs.lemmas.List.{append-nil, length-map}
-use Rattle.dr_seq.specs.Size.{IsSize}
 use Rattle.dr_seq.proofs.Apart.{slots_differ}
 use Rattle.dr_meaning.specs.declared.refusal.Refusal.TheVariants.{BadCount, NoRoom, Halted, Exhausted}
 use Rattle.dr_meaning.specs.declared.command.Claimed.{Claimed}
 use Rattle.dr_meaning.specs.declared.refusal.Refusal.{Refusal}
-use Rattle.dr_meaning.specs.Meaning.Refusals.{claim_causes, IsFirst, NoneHolds}
-use Rattle.dr_meaning.specs.Calls.Ends.{Sent, MayHold, MayFail, IsAnswerOf, as_end, claim_tests, claimed_in, with_claimed}
-use Rattle.dr_meaning.proofs.BadCounts.{bad_is_not_one, good_is_never_bad}
+use Rattle.dr_meaning.specs.Meaning.Refusals.{claim_causes}
+use Rattle.dr_meaning.specs.Calls.Ends.{Sent, IsAnswerOf, as_end, claimed_in, with_claimed}
 use Rattle.dr_cells.specs.declared.token.Token.{Token}
 use Rattle.dr_cells.specs.Hold.{held}
 use Rattle.dr_graph.specs.Meaning.Graph.{finals}
@@ -37,6 +35,8 @@ use Rattle.dr_plain.specs.Inside.Noted.{Noted, writes_from}
 use Rattle.dr_plain.specs.Inside.Seats.{Hand, taken_by_claim}
 use Rattle.dr_plain.specs.Inside.Views.{sender_end}
 use Rattle.dr_plain.proofs.Collecting.{between_count, blanks_count, laid_count}
+use Rattle.dr_runs.proofs.Answering.{bad_count_fails}
+use Rattle.dr_runs.proofs.Scans.{Rises, rises_then, rises_at_halt}
 use Rattle.dr_runs.proofs.Looks.{last_look_else}
 use Rattle.dr_runs.proofs.Elements.{at_below, there}
 use Rattle.dr_plain.proofs.Noting.{noted_more, unclaimed, writes_both, writes_none, writes_count}
@@ -63,17 +63,12 @@ module _ {T : Type 0} where
   pub saw_then : (r s s' : SenderRecord T) (xs ys : List Look) → LooksAtFinals r xs s → LooksAtFinals s ys s' → LooksAtFinals r (xs ++ ys) s'
   saw_then r s s' xs ys A B = record {
     is = B.is ∙ ap (λ (q : SenderRecord T). sender_saw q ys) A.is ∙ saw_both r xs ys;
-    rises = λ g. (let a = A.rises g in
-        let b : last_look 0 (r.looks ++ xs) (count_word g) ≤ last_look 0 ((r.looks ++ xs) ++ ys) (count_word g) = subst (λ (q : SenderRecord T). last_look 0 q.looks (count_word g) ≤ last_look 0 (q.looks ++ ys) (count_word g)) A.is (B.rises g) in
-        let e : last_look 0 ((r.looks ++ xs) ++ ys) (count_word g) ≡ last_look 0 (r.looks ++ (xs ++ ys)) (count_word g) = ap (λ (zs : List Look). last_look 0 zs (count_word g)) (append_assoc r.looks xs ys) in omega arith);
+    rises = rises_then r.looks xs ys A.rises (subst (λ (q : SenderRecord T). Rises q.looks ys) A.is B.rises);
   }
 
   -- a look at halt, as a list of looks
   pub saw_halt : (r s : SenderRecord T) (n v : ℕ) → s ≡ halt_looked r n v → (v ≡ 0 → n ≡ 0) → LooksAtFinals r (look halt_word v ∷ []) s
-  saw_halt r s n v is none = record {
-    is = is ∙ halt_saw r n v none;
-    rises = λ g. (let e : last_look 0 (r.looks ++ look halt_word v ∷ []) (count_word g) ≡ last_look 0 r.looks (count_word g) = last_look_else 0 r.looks halt_word (count_word g) v (λ (z : halt_word ≡ count_word g). omega arith) in omega arith);
-  }
+  saw_halt r s n v is none = record { is = is ∙ halt_saw r n v none; rises = rises_at_halt r.looks v }
 
   -- what an end knows and has in hand is all that its fields have to do with
   pub fits_as : (e : SenderStand T) (f : SenderFields T) (r : SenderRecord T) (hand : Hand T) → e.knows ≡ r → e.hand ≡ hand
@@ -251,10 +246,6 @@ module _ {T : Type 0} where
   pub none_taken : (r : SenderRecord T) (n : ℕ) (hand : Hand T) → taken_by_claim r n 1 ++ hand ≡ hand
   none_taken r n hand = ap (λ (ls : List (Option (Lent T))). lanes r.plan (claimed r) ls ++ hand) (take_none (drop (claimed r) (laid r)))
 
--- a count is a size
-bad_count_fails : (n size : ℕ) → (0 < n) × (n ≤ size) → ((n == 0) || nat_lt size n) ≡ false
-bad_count_fails n size is = rw (ne_eqb n 0 (λ z. let some_one = is.0 in absurd (omega arith)), le-ltb size n is.1) refl
-
 bad_count : (n size : ℕ) → (n ≡ 0) ⊎ (size < n) → ((n == 0) || nat_lt size n) ≡ true
 bad_count n size (inl none) = or_left (n == 0) (nat_lt size n) (eq-eqb n 0 none)
 bad_count n size (inr lt) = or_right (n == 0) (nat_lt size n) (lt-ltb size n lt)
@@ -409,26 +400,6 @@ pub claim_call : {T : Type 0} (e e' : SenderStand T) (w w' : Written) (cells cel
     → ClaimCall (sender_end e w cells) q (sender_end e' w' cells') result
 claim_call e e' w w' cells cells' q result ring past stored tries = (((λ i. (ring i, (tries.only i).plan)), past), tries, stored)
 
--- What a claim answers is what every end's claim answers.
-
-module _ {T : Type 0} where
-  within_all : (e : SenderEnd T) (n : ℕ) → e.knows.plan.limit ≤ 2 ^ 62 → e.knows.pending ≡ length e.writes
-      → nat_lt e.knows.plan.limit (claimed e.knows + n) ≡ false
-      → nat_lt (2 ^ 62) (claimed_in (sent_of e) + n) ≡ false
-  within_all e n few many d = let within = ltb-false e.knows.plan.limit (claimed e.knows + n) d in let a = length-map e.knows.published (λ (l : Lent T). l.event) in
-      le-ltb (2 ^ 62) (claimed_in (sent_of e) + n) (omega arith)
-
-  pub claim_of_end : (e : SenderEnd T) (n : ℕ) (refusal : Refusal) → e.knows.plan.limit ≤ 2 ^ 62 → IsSize e.knows.plan.size → e.knows.pending ≡ length e.writes
-      → IsFirst MayHold MayFail refusal (claim_causes (tests_of_claim e.knows n))
-      → IsFirst MayHold MayFail refusal (claim_causes (claim_tests (Some (sent_of e)) n))
-  claim_of_end e n refusal few is many (inl h) = inl h
-  claim_of_end e n refusal few is many (inr (a, inl h)) = inr (a, inl (bad_is_not_one n e.knows.plan.size is h.0, h.1))
-  claim_of_end e n refusal few is many (inr (a, inr (b, inl h))) = inr (a, inr (good_is_never_bad n e.knows.plan.size is b, inl h))
-  claim_of_end e n refusal few is many (inr (a, inr (b, inr (c, inl h)))) = inr (a, inr (good_is_never_bad n e.knows.plan.size is b, inr (c, inl (tt, h.1))))
-  claim_of_end e n refusal few is many (inr (a, inr (b, inr (c, inr (d, inl h))))) =
-      inr (a, inr (good_is_never_bad n e.knows.plan.size is b, inr (c, inr (within_all e n few many d, inl h))))
-  claim_of_end e n refusal few is many (inr (a, inr (b, inr (c, inr (d, inr h))))) = absurd h.1
-
-  pub claim_given : (e : SenderEnd T) (n : ℕ) → e.knows.plan.limit ≤ 2 ^ 62 → IsSize e.knows.plan.size → e.knows.pending ≡ length e.writes
-      → NoneHolds MayFail (claim_causes (tests_of_claim e.knows n)) → NoneHolds MayFail (claim_causes (claim_tests (Some (sent_of e)) n))
-  claim_given e n few is many (a, (b, (c, (d, x)))) = (a, (good_is_never_bad n e.knows.plan.size is b, (c, (within_all e n few many d, x))))
+-- what an end shows is what it claimed
+pub shows_claimed : {T : Type 0} (e : SenderEnd T) → e.knows.pending ≡ length e.writes → claimed e.knows ≡ claimed_in (sent_of e)
+shows_claimed {T} e many = let a = length-map e.knows.published (λ (l : Lent T). l.event) in omega arith

@@ -37,7 +37,6 @@ pub mod Tokens
 pub mod Collecting
 pub mod Claims
 pub mod Noting
-pub mod Answering
 pub mod Publishing
 pub mod Writing
 pub mod ManyWrites

@@ -32,7 +32,7 @@ use Rattle.dr_plain.specs.Inside.Noted.{Noted, writes_from}
 use Rattle.dr_runs.specs.Noted.{AreNoted, HasUnnoted, is_noted}
 use Rattle.dr_plain.specs.Inside.Seats.{Hand, lent_all, given_by_publication}
 use Rattle.dr_plain.specs.Inside.Views.{sender_end}
-use Rattle.dr_plain.proofs.Answering.{open_at, AllWritten, accepted, unwritten, out_of_order, published_before}
+use Rattle.dr_runs.proofs.Answering.{open_at, AllWritten, accepted, unwritten, out_of_order, published_before}
 use Rattle.dr_plain.proofs.Claims.{fits_as}
 use Rattle.dr_plain.proofs.Collecting.{at_after, first_at, laid_count, laid_later, blanks_count}
 use Rattle.dr_plain.proofs.Lanes.{cell_later}

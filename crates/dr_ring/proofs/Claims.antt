@@ -1,17 +1,14 @@
 -- What a claim comes to.
-use Rattle.std.proofs.Common.{◌≡◌, ℕ, zero, suc, ◌+◌, ◌-◌, ◌^◌, ◌<◌, ◌≤◌, ◌==◌, ◌||◌, false, inl, inr, ◌⊎◌, if◌then◌else◌, List, []}
-use Rattle.std.proofs.Common.{◌∷◌, ◌++◌, length, replicate, Option, Some, None, sym, refl, ap, ◌∙◌, subst, arith, append_assoc}
+use Rattle.std.proofs.Common.{◌≡◌, ℕ, zero, suc, ◌+◌, ◌-◌, ◌^◌, ◌<◌, ◌≤◌, ◌==◌, false, inl, inr, ◌⊎◌, if◌then◌else◌, List, []}
+use Rattle.std.proofs.Common.{◌∷◌, ◌++◌, length, replicate, Option, None, sym, refl, ap, ◌∙◌, subst, arith, append_assoc}
 use Rattle.std.specs.Prelude.{nat_lt, Ok, Err}
-use Rattle.std.proofs.lemmas.Bool.{ne_eqb, le-ltb, ltb-false}
+use Rattle.std.proofs.lemmas.Bool.{ne_eqb, le-ltb}
 use Rattle.std.proofs.lemmas.List.{length-append, length-replicate, append-nil}
 use Rattle.dr_seq.specs.Size.{IsSize}
 use Rattle.dr_seq.specs.declared.event.Event.{Event}
 use Rattle.dr_meaning.specs.declared.refusal.Refusal.TheVariants.{NoRoom, Halted}
 use Rattle.dr_meaning.specs.declared.command.Claimed.{Claimed}
-use Rattle.dr_meaning.specs.declared.refusal.Refusal.{Refusal}
-use Rattle.dr_meaning.specs.Meaning.Refusals.{claim_causes, IsFirst, NoneHolds}
-use Rattle.dr_meaning.specs.Calls.Ends.{Sent, MayHold, MayFail, claim_tests, with_claimed}
-use Rattle.dr_meaning.proofs.BadCounts.{bad_is_not_one, good_is_never_bad}
+use Rattle.dr_meaning.specs.Calls.Ends.{Sent, with_claimed}
 use Rattle.dr_graph.specs.Meaning.Graph.{finals}
 use Rattle.dr_ring.specs.Meaning.Shape.{Shape}
 use Rattle.dr_runs.specs.Words.{halt_word, count_word}
@@ -20,9 +17,11 @@ use Rattle.dr_ring.specs.declared.record.SenderRecord.{SenderRecord}
 use Rattle.dr_ring.specs.Meaning.Records.{claimed, halt_looked}
 use Rattle.dr_runs.specs.Looks.{look, last_look}
 use Rattle.dr_ring.specs.Calls.Ends.{count_looks}
-use Rattle.dr_ring.specs.Calls.Sending.{gate_looks, tests_of_claim, FoundRoom, TriesToClaim}
+use Rattle.dr_ring.specs.Calls.Sending.{gate_looks, FoundRoom, TriesToClaim}
 use Rattle.dr_ring.specs.Inside.Parts.{sender_saw, more_claimed, LooksAtFinals, IsEnough, IsShort}
 use Rattle.dr_ring.specs.Inside.Fits.{IsSeenLeast, SenderFields, SenderFits}
+use Rattle.dr_runs.proofs.Answering.{bad_count_fails}
+use Rattle.dr_runs.proofs.Scans.{Rises, rises_then, rises_at_halt}
 use Rattle.dr_runs.proofs.Looks.{last_look_else}
 use Rattle.dr_ring.proofs.Noting.{noted_claim}
 
@@ -42,17 +41,12 @@ halt_saw r n v none = ap (λ (xs : List (Option Event)). record r { sent = recor
 pub saw_then : (r s s' : SenderRecord) (xs ys : List Look) → LooksAtFinals r xs s → LooksAtFinals s ys s' → LooksAtFinals r (xs ++ ys) s'
 saw_then r s s' xs ys A B = record {
   is = B.is ∙ ap (λ (q : SenderRecord). sender_saw q ys) A.is ∙ saw_both r xs ys;
-  rises = λ g. (let a = A.rises g in
-      let b : last_look 0 (r.looks ++ xs) (count_word g) ≤ last_look 0 ((r.looks ++ xs) ++ ys) (count_word g) = subst (λ (q : SenderRecord). last_look 0 q.looks (count_word g) ≤ last_look 0 (q.looks ++ ys) (count_word g)) A.is (B.rises g) in
-      let e : last_look 0 ((r.looks ++ xs) ++ ys) (count_word g) ≡ last_look 0 (r.looks ++ (xs ++ ys)) (count_word g) = ap (λ (zs : List Look). last_look 0 zs (count_word g)) (append_assoc r.looks xs ys) in omega arith);
+  rises = rises_then r.looks xs ys A.rises (subst (λ (q : SenderRecord). Rises q.looks ys) A.is B.rises);
 }
 
 -- a look at halt, as a list of looks
 pub saw_halt : (r s : SenderRecord) (n v : ℕ) → s ≡ halt_looked r n v → (v ≡ 0 → n ≡ 0) → LooksAtFinals r (look halt_word v ∷ []) s
-saw_halt r s n v is none = record {
-  is = is ∙ halt_saw r n v none;
-  rises = λ g. (let e : last_look 0 (r.looks ++ look halt_word v ∷ []) (count_word g) ≡ last_look 0 r.looks (count_word g) = last_look_else 0 r.looks halt_word (count_word g) v (λ (z : halt_word ≡ count_word g). omega arith) in omega arith);
-}
+saw_halt r s n v is none = record { is = is ∙ halt_saw r n v none; rises = rises_at_halt r.looks v }
 
 -- a sender that has only looked
 pub fits_saw : {r s : SenderRecord} {f : SenderFields} (xs : List Look) → SenderFits r f → LooksAtFinals r xs s → SenderFits s f
@@ -112,10 +106,6 @@ fits_claim {r = r} {f = f} q needed F is limit need enough =
       written = noted_claim r f.written (look halt_word 0 ∷ []) q F.written;
       places = F.places;
     })
-
--- a count is a size
-bad_count_fails : (n size : ℕ) → (0 < n) × (n ≤ size) → ((n == 0) || nat_lt size n) ≡ false
-bad_count_fails n size is = rw (ne_eqb n 0 (λ z. let some = is.0 in absurd (omega arith)), le-ltb size n is.1) refl
 
 -- What a claim answers, once it has found no halt: the scan's looks follow the first one, and what is said of the sender before is said of its end.
 pub record Scanned (r s t e : SenderRecord) (xs : List Look) (n q needed : ℕ) : Type 0 where
@@ -221,21 +211,3 @@ module _ {r s t e : SenderRecord} {xs : List Look} {n q needed : ℕ} (S : Scann
         few = S.few;
         size = S.made;
       })
-
--- What a claim answers is what every end's claim answers.
-
-pub claim_of_end : (r : SenderRecord) (n : ℕ) (refusal : Refusal) → r.plan.limit ≤ 2 ^ 62 → IsSize r.plan.size
-    → IsFirst MayHold MayFail refusal (claim_causes (tests_of_claim r n))
-    → IsFirst MayHold MayFail refusal (claim_causes (claim_tests (Some r.sent) n))
-claim_of_end r n refusal few is (inl h) = inl h
-claim_of_end r n refusal few is (inr (a, inl h)) = inr (a, inl (bad_is_not_one n r.plan.size is h.0, h.1))
-claim_of_end r n refusal few is (inr (a, inr (b, inl h))) = inr (a, inr (good_is_never_bad n r.plan.size is b, inl h))
-claim_of_end r n refusal few is (inr (a, inr (b, inr (c, inl h)))) = inr (a, inr (good_is_never_bad n r.plan.size is b, inr (c, inl (tt, h.1))))
-claim_of_end r n refusal few is (inr (a, inr (b, inr (c, inr (d, inl h))))) =
-    inr (a, inr (good_is_never_bad n r.plan.size is b, inr (c, inr (le-ltb (2 ^ 62) (claimed r + n) (let within = ltb-false r.plan.limit (claimed r + n) d in omega arith), inl h))))
-claim_of_end r n refusal few is (inr (a, inr (b, inr (c, inr (d, inr h))))) = absurd h.1
-
-pub claim_given : (r : SenderRecord) (n : ℕ) → r.plan.limit ≤ 2 ^ 62 → IsSize r.plan.size → NoneHolds MayFail (claim_causes (tests_of_claim r n))
-    → NoneHolds MayFail (claim_causes (claim_tests (Some r.sent) n))
-claim_given r n few is (a, (b, (c, (d, e)))) =
-    (a, (good_is_never_bad n r.plan.size is b, (c, (le-ltb (2 ^ 62) (claimed r + n) (let within = ltb-false r.plan.limit (claimed r + n) d in omega arith), e))))

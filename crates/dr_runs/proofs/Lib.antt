@@ -14,3 +14,4 @@ pub mod OneSender
 pub mod Completions
 pub mod Replies
 pub mod Scans
+pub mod Answering

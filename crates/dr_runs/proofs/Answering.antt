@@ -1,15 +1,18 @@
--- What a publication answers, by the tests of its stretch, and when its sequences are ready.
-use Rattle.std.proofs.Common.{◌≡◌, ℕ, zero, suc, ◌+◌, ◌-◌, ◌<◌, ◌≤◌, inl, inr, not, List, [], ◌∷◌, ◌++◌, Option}
+-- What a publication and a claim answer, by their tests.
+use Rattle.std.proofs.Common.{◌≡◌, ℕ, zero, suc, ◌+◌, ◌-◌, ◌^◌, ◌<◌, ◌≤◌, false, inl, inr, not, List, [], ◌∷◌, ◌++◌, Option}
 use Rattle.std.proofs.Common.{Some, None, length, arith, refl, ap, add-zero}
-use Rattle.std.specs.Prelude.{◌==◌, is_none, flat_map, slice_index_or, Ok, Err}
+use Rattle.std.specs.Prelude.{◌==◌, ◌||◌, nat_lt, is_none, flat_map, slice_index_or, Ok, Err}
 use Rattle.std.specs.List.{range_with_len}
-use Rattle.std.proofs.lemmas.Bool.{cases_Bool, lt-ltb, le-ltb, lt-leb, eq-eqb, ne_eqb}
+use Rattle.std.proofs.lemmas.Bool.{cases_Bool, lt-ltb, le-ltb, lt-leb, ltb-false, eq-eqb, ne_eqb}
+use Rattle.dr_seq.specs.Size.{IsSize}
 use Rattle.dr_meaning.specs.declared.refusal.Refusal.{Refusal}
 use Rattle.dr_meaning.specs.declared.refusal.Refusal.TheVariants.{AlreadyPublished, NotWritten, OutOfOrder}
-use Rattle.dr_meaning.specs.Meaning.Refusals.{sequence_causes, NoneHolds, IsFirst}
+use Rattle.dr_meaning.specs.Meaning.Refusals.{claim_causes, sequence_causes, NoneHolds, IsFirst}
 use Rattle.dr_meaning.specs.declared.ends.Trouble.TheVariants.{Refused}
-use Rattle.dr_meaning.specs.Calls.Ends.{Verdict, Exactly, MayHold, MayFail, end_sequence_tests, PublishAnswers, Sent, claimed_in}
+use Rattle.dr_meaning.specs.Calls.Ends.{Verdict, Exactly, MayHold, MayFail, claim_tests, end_sequence_tests, PublishAnswers, Sent, claimed_in}
+use Rattle.dr_meaning.proofs.BadCounts.{bad_is_not_one, good_is_never_bad}
 use Rattle.dr_meaning.proofs.Causes.{none_join, first_left, first_right, none_of_stretch, first_of_stretch}
+use Rattle.dr_runs.specs.Replies.{claim_tests_of}
 
 -- the event of an open sequence, once it is written
 abbrev pub open_at : {T : Type 0} → Sent T → ℕ → Option T
@@ -82,3 +85,24 @@ module _ {T : Type 0} (x : Sent T) where
       past lo hi OutOfOrder order within (first_right MayHold MayFail OutOfOrder (flat_map causes_of (range_with_len lo (hi + 1 - lo))) _
       (stretch_written lo (hi + 1 - lo) (omega arith) (λ s low high. all s low (omega arith)))
       (inl (ap not (ne_eqb lo (length x.published) (λ e. absurd (omega arith))), refl)))
+
+-- a count is a size
+pub bad_count_fails : (n size : ℕ) → (0 < n) × (n ≤ size) → ((n == 0) || nat_lt size n) ≡ false
+bad_count_fails n size is = rw (ne_eqb n 0 (λ z. let some = is.0 in absurd (omega arith)), le-ltb size n is.1) refl
+
+-- What a claim of a ring answers is what every end's claim answers.
+module _ {T : Type 0} (x : Sent T) (size limit claimed n : ℕ) (few : limit ≤ 2 ^ 62) (is : IsSize size) (all : claimed ≡ claimed_in x) where
+  within : nat_lt limit (claimed + n) ≡ false → nat_lt (2 ^ 62) (claimed_in x + n) ≡ false
+  within d = let below = ltb-false limit (claimed + n) d in le-ltb (2 ^ 62) (claimed_in x + n) (omega arith)
+
+  pub claim_of_end : (refusal : Refusal) → IsFirst MayHold MayFail refusal (claim_causes (claim_tests_of size limit claimed n))
+      → IsFirst MayHold MayFail refusal (claim_causes (claim_tests (Some x) n))
+  claim_of_end refusal (inl h) = inl h
+  claim_of_end refusal (inr (a, inl h)) = inr (a, inl (bad_is_not_one n size is h.0, h.1))
+  claim_of_end refusal (inr (a, inr (b, inl h))) = inr (a, inr (good_is_never_bad n size is b, inl h))
+  claim_of_end refusal (inr (a, inr (b, inr (c, inl h)))) = inr (a, inr (good_is_never_bad n size is b, inr (c, inl (tt, h.1))))
+  claim_of_end refusal (inr (a, inr (b, inr (c, inr (d, inl h))))) = inr (a, inr (good_is_never_bad n size is b, inr (c, inr (within d, inl h))))
+  claim_of_end refusal (inr (a, inr (b, inr (c, inr (d, inr h))))) = absurd h.1
+
+  pub claim_given : NoneHolds MayFail (claim_causes (claim_tests_of size limit claimed n)) → NoneHolds MayFail (claim_causes (claim_tests (Some x) n))
+  claim_given (a, (b, (c, (d, e)))) = (a, (good_is_never_bad n size is b, (c, (within d, e))))
