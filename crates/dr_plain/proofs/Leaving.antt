@@ -1,14 +1,15 @@
 -- A view leaves its seat for a new one. The slots in hand stay with the old seat, which stands for no end any more.
-use Rattle.std.proofs.Common.{◌≡◌, ◌≢◌, ◌⊎◌, ℕ, suc, inl, inr, ◌==◌, if◌then◌else◌, List, [], ◌∷◌, ◌++◌, length, set, zero, sym, refl, ap, ◌∙◌, subst}
+use Rattle.std.proofs.Common.{◌≡◌, ◌≢◌, ℕ, inl, inr, ◌==◌, if◌then◌else◌, length, set, sym, refl, ap, ◌∙◌, subst}
 use Rattle.std.proofs.Common.{length-set}
 use Rattle.std.proofs.lemmas.Bool.{eq-eqb, ne_eqb}
-use mathlib.Core.Option.{some, some-injective, some-ne-none}
+use mathlib.Core.Option.{some, some-ne-none}
 use lib.ListN.{get_elem?}
 use Rattle.atomic_table.specs.Table.{Splits}
 use Rattle.atomic_table.proofs.Lists.{at_set}
 use Rattle.dr_runs.specs.declared.view.View.{View}
 use Rattle.dr_runs.specs.Runs.{Exchange}
 use Rattle.dr_runs.specs.Seats.{EachPast, Saw, Ruled, no_view}
+use Rattle.dr_runs.proofs.Cuts.{last_or}
 use Rattle.dr_runs.proofs.Seats.{StandsAt}
 
 -- where an end stands, once the view `id` has gone to the seat `new`
@@ -22,12 +23,6 @@ left_own id new j p e = ap (left id new) e ∙ rw (eq-eqb id id refl) refl
 left_other : (id new id' j : ℕ) (p : ℕ × ℕ) → id' ≢ id → p ≡ (id', j) → left id new p ≡ (id', j)
 unfolding left
 left_other id new id' j p ne e = ap (left id new) e ∙ rw (ne_eqb id' id ne) refl
-
-last_or : {A : Type 0} (l : List A) (a b : A) (j : ℕ) → get_elem? (l ++ a ∷ []) j ≡ some b → (get_elem? l j ≡ some b) ⊎ ((j ≡ length l) × (a ≡ b))
-last_or [] a b zero e = inr (refl, some-injective a b e)
-last_or [] a b (suc j) e = absurd (some-ne-none b (sym e))
-last_or (x ∷ xs) a b zero e = inl e
-last_or (x ∷ xs) a b (suc j) e = elim (last_or xs a b j e) [ inl y ↦ inl y | inr t ↦ inr (ap suc t.0, t.1) ]
 
 pub leaves : {T C E S W : Type 0} (X : Exchange T C E S W) (id : ℕ) (v : View E S) → Splits (Ruled X) id v no_view v
 leaves {E = E} {S = S} X id v s R mine = let new = length s.views in let place' : ℕ → ℕ × ℕ = λ e. left id new (R.place e) in let w = R.world in

@@ -6,7 +6,7 @@ use Rattle.dr_seq.specs.declared.event.Event.{Event}
 use Rattle.dr_meaning.specs.declared.refusal.Refusal.TheVariants.{NotWritten, OutOfOrder}
 use Rattle.dr_meaning.specs.Calls.Ends.{Sent, published_below}
 use Rattle.dr_ring.specs.declared.record.SenderRecord.{SenderRecord}
-use Rattle.dr_ring.specs.Meaning.Records.{claimed, published_to, AreWritten}
+use Rattle.dr_ring.specs.Meaning.Records.{published_to, AreWritten}
 use Rattle.dr_ring.specs.Calls.Sending.{TriesToPublish}
 use Rattle.dr_runs.specs.Noted.{AreNoted, HasUnnoted}
 use Rattle.dr_ring.specs.Inside.Fits.{SenderFields, SenderFits}

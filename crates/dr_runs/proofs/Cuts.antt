@@ -47,7 +47,7 @@ ruled_fresh {E = E} {S = S} X es index ws cs words lies made stand = let view : 
 }
 
 -- a list with one more
-last_or : {A : Type 0} (l : List A) (a b : A) (j : ℕ) → get_elem? (l ++ a ∷ []) j ≡ some b → (get_elem? l j ≡ some b) ⊎ ((j ≡ length l) × (a ≡ b))
+pub last_or : {A : Type 0} (l : List A) (a b : A) (j : ℕ) → get_elem? (l ++ a ∷ []) j ≡ some b → (get_elem? l j ≡ some b) ⊎ ((j ≡ length l) × (a ≡ b))
 last_or [] a b zero e = inr (refl, some-injective a b e)
 last_or [] a b (suc j) e = absurd (some-ne-none b (sym e))
 last_or (x ∷ xs) a b zero e = inl e
