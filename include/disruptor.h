@@ -1,9 +1,9 @@
 /* The proved ring for C, and for every language that calls C: one sender or several hand events of two words to a graph of
- * handlers, each end on a thread of its own. No call waits, and none but the openings and disruptor_free takes memory or gives
- * it back.
+ * handlers, each end on a thread of its own. No call but disruptor_wait waits, and none but the openings and disruptor_free
+ * takes memory or gives it back.
  *
- * Each call answers DISRUPTOR_OK or the number of a refusal (DISRUPTOR_REFUSALS): of those that it lists, the first for which
- * there is cause. A refused call changes nothing; at most it has looked at what other ends stored.
+ * Each call that lists refusals answers DISRUPTOR_OK or the number of one (DISRUPTOR_REFUSALS): the first for which there is
+ * cause. A refused call changes nothing; at most it has looked at what other ends stored.
  *
  * What you owe. Of these nothing can be checked, so a program that breaks one of them is undefined:
  *   - A handle is all zeros before it is first opened (DISRUPTOR_NEW), only calls change it, and it is never copied: its
@@ -15,8 +15,8 @@
  *   - No call is made in a signal handler, or in a process that was forked from one with several threads.
  *   - malloc and free are of one allocator, and malloc aligns as C says.
  * All else is checked: every number, a handle that is zero or was freed, and one of another kind. A pointer that is null or
- * not aligned for what it leads to is refused with BAD_POINTER by each call, and so is an array longer than memory; an array
- * of no elements may be null. */
+ * not aligned to eight bytes is refused with BAD_POINTER by each call that lists it, and so is an array longer than memory; an
+ * array of no elements may be null. */
 #ifndef DISRUPTOR_H
 #define DISRUPTOR_H
 
@@ -62,9 +62,9 @@ typedef struct disruptor_event { uint64_t first, second; } disruptor_event;
 typedef struct disruptor_offer { uint32_t kind, end; uint64_t first, count; } disruptor_offer;
 enum {
     DISRUPTOR_BATCH = 0,   /* events */
-    DISRUPTOR_GATING = 1,  /* none: an upstream has not completed what is published */
+    DISRUPTOR_GATING = 1,  /* none yet: an upstream has not completed it, or one of several senders not published its claim */
     DISRUPTOR_IDLE = 2,    /* none: nothing more is published */
-    DISRUPTOR_DRAINED = 3  /* none, for good: the ring is closed, and the handler took every event */
+    DISRUPTOR_DRAINED = 3  /* none, for good: the ring is closed, or of several senders halted, and the handler took every event */
 };
 
 /* How far an end came, by its own calls: how many sequences a sender claimed and how many events it published, or how many events
@@ -168,9 +168,9 @@ static inline uint32_t disruptor_open_several(uint64_t size, uint64_t limit, con
 }
 
 /* In masks for so many handlers, puts handler `upstream` before `handler`: the upstreams of a graph, pair by pair. The masks
- * begin as zeros. Refusals: BAD_POINTER, BAD_ORDER (it does not come before, or there is no such handler). */
+ * begin as zeros. Refusals: BAD_POINTER, BAD_ORDER (it does not come before, there is no such handler, or it is above 63). */
 static inline uint32_t disruptor_before(uint64_t *upstreams, size_t handlers, size_t upstream, size_t handler) {
-    if (!DISRUPTOR_THERE(upstreams, handlers)) return DISRUPTOR_BAD_POINTER;
+    if (DISRUPTOR_THERE(upstreams, handlers) != handlers) return DISRUPTOR_BAD_POINTER;
     if (upstream >= handler || handler >= handlers || upstream >= 64) return DISRUPTOR_BAD_ORDER;
     upstreams[handler] |= UINT64_C(1) << upstream;
     return DISRUPTOR_OK;
@@ -263,7 +263,8 @@ typedef struct disruptor_bell { DISRUPTOR_ALIGNED uint32_t word; } disruptor_bel
 /* How a thread waits that looks again and again for what others do: by pauses after the first of several looks in a row
  * that find nothing, and by yielding its processor after each further one. The pauses tune themselves by how many events
  * were there after the last wait. With a bell it sleeps after each look past the first DISRUPTOR_MOST_LOOKS, until a ring comes,
- * ten milliseconds at most: an idle thread costs next to nothing, and what nobody rings for is seen so much later.
+ * ten milliseconds at most: an idle thread costs next to nothing, and what nobody rings for is seen so much later. That is on
+ * Linux; elsewhere it goes on yielding.
  *
  * That no change is missed is argued, and not proved. A thread that is about to sleep makes the bell's word odd, and then looks
  * once more; who changed something looks at the word afterwards. All these steps are sequentially consistent. So either that

@@ -1,4 +1,4 @@
-/* Each number that a call may answer, had by a misuse of the library; a misuse changes nothing. */
+/* The numbers that a call may answer, all but no-memory and contended, had by misuses of the library; a misuse changes nothing. */
 #include "disruptor.h"
 #include <stdio.h>
 #include <stdlib.h>
@@ -48,6 +48,7 @@ static void try_pairs(void) {
     expect("a pair backwards", disruptor_before(upstreams, 3, 2, 1), DISRUPTOR_BAD_ORDER);
     expect("no such handler", disruptor_before(upstreams, 3, 0, 3), DISRUPTOR_BAD_ORDER);
     expect("no masks", disruptor_before(NULL, 3, 0, 1), DISRUPTOR_BAD_POINTER);
+    expect("no handlers", disruptor_before(NULL, 0, 0, 1), DISRUPTOR_BAD_ORDER);
 }
 
 /* How far an end came. */
@@ -218,6 +219,29 @@ static void try_several(void) {
     disruptor_free(&last);
 }
 
+/* An end that is let go calls nothing: the ring is not halted, nothing is completed, and the ring is not closed. */
+static void try_letting_go(void) {
+    disruptor_event event = {1, 2}, taken[4];
+    disruptor_offer offer;
+    uint64_t lo;
+    expect("an opening of two slots", open_ring(2, 6, 2, 2, 1), DISRUPTOR_OK);
+    disruptor_free(&halter);
+    expect("a claim without a halter", disruptor_claim(&sender, 2, &lo), DISRUPTOR_OK);
+    for (uint64_t k = 0; k < 2; k++) expect("a write", disruptor_write(&sender, k, &event), DISRUPTOR_OK);
+    expect("a publication", disruptor_publish(&sender, 0, 1), DISRUPTOR_OK);
+    expect("a poll", disruptor_poll(&receivers[0], taken, 4, &offer), DISRUPTOR_OK);
+    disruptor_free(&receivers[0]);
+    expect("a poll behind one that is gone", disruptor_poll(&receivers[1], taken, 4, &offer), DISRUPTOR_OK);
+    expect("its kind", offer.kind, DISRUPTOR_GATING);
+    expect("a claim behind it", disruptor_claim(&sender, 1, &lo), DISRUPTOR_NO_ROOM);
+    free_all();
+    expect("an opening once more", open_ring(2, 6, 2, 2, 1), DISRUPTOR_OK);
+    disruptor_free(&sender);
+    expect("a poll without a sender", disruptor_poll(&receivers[0], taken, 4, &offer), DISRUPTOR_OK);
+    expect("its kind", offer.kind, DISRUPTOR_IDLE);
+    free_all();
+}
+
 int main(void) {
     char name[16] = "";
     expect("the length of a name", (uint32_t)disruptor_name(DISRUPTOR_NO_ROOM, name, sizeof name), 7);
@@ -234,6 +258,7 @@ int main(void) {
     try_closed_handles();
     expect("an opening anew", open_ring(4, 6, 2, 2, 1), DISRUPTOR_OK);
     free_all();
+    try_letting_go();
     try_several();
     puts("every misuse is refused by its number");
     return 0;

@@ -83,7 +83,7 @@ impl Handle {
         self.state = 1;
     }
 
-    /// Frees what it has, and leaves it as before it was opened.
+    /// Frees what it has, and leaves it without an end.
     pub(crate) fn free(&mut self, alloc: Global)
         ensures { self.new.held.value ≡ None }
     {

@@ -198,7 +198,7 @@ pub extern "C" fn disruptor_progress_at(
     calls::progress(alloc, &mut handle[0], &mut counts[0])
 }
 
-/// Frees what handles have, of whatever kind, and leaves each as before it was opened.
+/// Frees what handles have, of whatever kind, and leaves each without an end.
 #[unsafe(no_mangle)]
 pub extern "C" fn disruptor_free_at(alloc: Global, handles: &mut [Handle])
     ensures { ends_in handles.new ≡ replicate (length handles.old) None }

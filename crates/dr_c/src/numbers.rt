@@ -9,7 +9,7 @@ use dr_meaning::Refusal;
 pub const NOT_OPEN: u32 = 61;
 /// The handle has another end than the call is of.
 pub const WRONG_END: u32 = 62;
-/// A pointer is null.
+/// A pointer is null, or an array is not as long as it was said to be.
 pub const BAD_POINTER: u32 = 65;
 
 /// 0, or the number of a refusal.
