@@ -1,110 +1,135 @@
 //! Audits of a history of two producers.
 
-ghost use Rattle.std.specs.Prelude.{◌≤◌};
-
-use crate::histories::{Shape, between_two, check, word};
+use crate::checks::check;
+use crate::graphs::Shape;
+use crate::histories::{between_two, room};
 use dr_lock::{AuditFault, Recorded, audit};
-use dr_meaning::Command;
+use dr_meaning::Command::{self, Claim, Poll, Publish, Retire, Write};
 use dr_seq::Event;
-use std::alloc::{AllocError, Global};
+use std::alloc::Global;
 use std::process::Abort;
-use std::test::Fail;
 
-fn send(recorded: &mut Recorded<Event>, p: u64, s: u64, event: Event) -> Result<(), AllocError> {
-    recorded.call(Command::Claim { p, n: 1 }, &mut [])?;
-    recorded.call(Command::Write { p, s, event }, &mut [])?;
-    recorded.call(Command::Publish { p, lo: s, hi: s }, &mut [])?;
-    Ok(())
+const FIVE: Event = Event {
+    first: 5,
+    second: 0,
+};
+
+const SIX: Event = Event {
+    first: 6,
+    second: 0,
+};
+
+/// A call, or an audit of scripts, which finds both events or this fault.
+enum Step {
+    Call(Command<Event>),
+    Audit(&'static [&'static [Event]], Option<AuditFault>),
+}
+
+use Step::{Audit, Call};
+
+/// What is done with a history of two producers, and what it holds at last.
+struct Case {
+    shape: Shape,
+    steps: &'static [Step],
+    entries: usize,
+    values: &'static [Event],
 }
 
 /// Producer 0 sends 5, and producer 1 then 6.
-fn send_by_two(recorded: &mut Recorded<Event>) -> Result<(), AllocError> {
-    send(recorded, 0, 0, word(5))?;
-    send(recorded, 1, 1, word(6))
-}
+const SENT: [Step; 6] = [
+    Call(Claim { p: 0, n: 1 }),
+    Call(Write {
+        p: 0,
+        s: 0,
+        event: FIVE,
+    }),
+    Call(Publish { p: 0, lo: 0, hi: 0 }),
+    Call(Claim { p: 1, n: 1 }),
+    Call(Write {
+        p: 1,
+        s: 1,
+        event: SIX,
+    }),
+    Call(Publish { p: 1, lo: 1, hi: 1 }),
+];
 
-fn sent_by_two(alloc: Global, shape: Shape) -> Result<Recorded<Event>, Fail> {
-    let mut recorded = between_two(alloc, shape)?;
-    send_by_two(&mut recorded)?;
-    Ok(recorded)
-}
+const CASES: [Case; 2] = [
+    // A script without a producer is to be empty.
+    Case {
+        shape: Shape::Alone,
+        steps: &[
+            Call(Poll { h: 0, max: 8 }),
+            Audit(&[&[FIVE], &[SIX], &[]], None),
+            Audit(
+                &[&[FIVE], &[SIX], &[], &[SIX]],
+                Some(AuditFault::ScriptDiffers(3)),
+            ),
+        ],
+        entries: 7,
+        values: &[FIVE, SIX],
+    },
+    // A handler that is retired may lack events.
+    Case {
+        shape: Shape::SideBySide,
+        steps: &[
+            Call(Poll { h: 0, max: 1 }),
+            Call(Poll { h: 1, max: 8 }),
+            Audit(&[&[FIVE], &[SIX]], Some(AuditFault::NotDrained(0))),
+            Call(Retire { h: 0 }),
+            Audit(&[&[FIVE], &[SIX]], None),
+        ],
+        entries: 9,
+        values: &[FIVE, FIVE, SIX],
+    },
+];
 
-fn check_fault(
-    rt: &impl Abort,
-    alloc: Global,
-    recorded: &Recorded<Event>,
-    scripts: &[&[Event]],
-    fault: AuditFault,
-) {
-    assert!(rt; audit(alloc, recorded, scripts).err() == Some(fault));
-}
-
-fn poll(recorded: &mut Recorded<Event>, h: usize, max: usize) -> Result<(), AllocError>
-    requires { max ≤ 8 }
-{
+fn call(rt: &impl Abort, recorded: &mut Recorded<Event>, command: Command<Event>) {
     let mut out = [Event::NONE; 8];
-    recorded.call(Command::Poll { h, max }, &mut out)?;
-    Ok(())
+    assert!(rt; room(command) <= 8);
+    recorded.call(command, &mut out).expect(rt, "memory");
 }
 
-fn check_scripts(
-    rt: &impl Abort,
-    alloc: Global,
-    recorded: &mut Recorded<Event>,
-) -> Result<(), Fail> {
-    poll(recorded, 0, 8)?;
-    let five = [word(5)];
-    let six = [word(6)];
-    let list = audit(alloc, recorded, &[&five[..], &six[..], &[]])?;
-    check(rt, list.len(), 2);
-    let scripts = [&five[..], &six[..], &[], &six[..]];
-    check_fault(rt, alloc, recorded, &scripts, AuditFault::ScriptDiffers(3));
-    Ok(())
-}
-
-#[test]
-fn a_script_without_a_producer_is_to_be_empty(rt: HostRuntime) -> Result<(), Fail> {
-    let mut recorded = sent_by_two(rt.alloc(), Shape::Alone)?;
-    check_scripts(&rt, rt.alloc(), &mut recorded)
-}
-
-fn check_list(
+fn check_audit(
     rt: &impl Abort,
     alloc: Global,
     recorded: &Recorded<Event>,
     scripts: &[&[Event]],
-) -> Result<(), Fail> {
-    let list = audit(alloc, recorded, scripts)?;
-    check(rt, list.as_slice(), &[word(5), word(6)][..]);
-    Ok(())
+    fault: Option<AuditFault>,
+) {
+    match audit(alloc, recorded, scripts) {
+        Ok(list) => {
+            check(rt, fault, None);
+            check(rt, list.as_slice(), &[FIVE, SIX][..]);
+        }
+        Err(found) => check(rt, Some(found), fault),
+    }
 }
 
-fn check_history(rt: &impl Abort, recorded: &Recorded<Event>) {
-    check(rt, recorded.values(), &[word(5), word(5), word(6)][..]);
-    check(rt, recorded.history().len(), 9);
+fn take(rt: &impl Abort, alloc: Global, recorded: &mut Recorded<Event>, steps: &[Step]) {
+    for step in steps {
+        match step {
+            Call(command) => call(rt, recorded, *command),
+            Audit(scripts, fault) => check_audit(rt, alloc, recorded, *scripts, *fault),
+        }
+    }
+}
+
+fn check_history(rt: &impl Abort, recorded: &Recorded<Event>, case: &Case) {
+    check(rt, recorded.values(), case.values);
+    check(rt, recorded.history().len(), case.entries);
     check(rt, recorded.producers(), 2);
-    check(rt, recorded.graph().len(), 2);
 }
 
-/// Handler 0 lacks an event, and is retired.
-fn check_retirement(
-    rt: &impl Abort,
-    alloc: Global,
-    recorded: &mut Recorded<Event>,
-) -> Result<(), Fail> {
-    let five = [word(5)];
-    let six = [word(6)];
-    let scripts = [&five[..], &six[..]];
-    poll(recorded, 0, 1)?;
-    poll(recorded, 1, 8)?;
-    check_fault(rt, alloc, recorded, &scripts, AuditFault::NotDrained(0));
-    recorded.call(Command::Retire { h: 0 }, &mut [])?;
-    check_history(rt, recorded);
-    check_list(rt, alloc, recorded, &scripts)
+fn check_case(rt: &impl Abort, alloc: Global, case: &Case) {
+    let mut recorded = between_two(rt, alloc, case.shape);
+    take(rt, alloc, &mut recorded, &SENT);
+    take(rt, alloc, &mut recorded, case.steps);
+    check_history(rt, &recorded, case);
 }
 
 #[test]
-fn a_retired_handler_may_lack_events(rt: HostRuntime) -> Result<(), Fail> {
-    let mut recorded = sent_by_two(rt.alloc(), Shape::SideBySide)?;
-    check_retirement(&rt, rt.alloc(), &mut recorded)
+fn histories_of_two_producers(rt: HostRuntime) {
+    for case in &CASES {
+        check_case(&rt, rt.alloc(), case);
+    }
 }

@@ -1,22 +1,19 @@
-//! Ends of a history behind a lock.
+//! Ends of a history behind a lock, which ring or do not.
 
 ghost use Rattle.std.specs.Prelude.{◌≡◌};
 
-use crate::histories::{Shape, between_two, check, word};
+use crate::checks::check;
+use crate::graphs::Shape;
+use crate::histories::{between_two, word};
+use crate::ringing::ring_all;
 use dr_lock::{End, Exchange, LockedInlet, LockedOutlet, Recorded, Shared};
 use dr_meaning::{Claimed, Command, Inlet, Outlet, Polled, Refusal, Trouble};
 use dr_seq::Event;
+use std::alloc::Global;
 use std::marker::Brand;
 use std::process::Abort;
 use std::sync::Wait;
 use std::sync::ledger::Blank;
-use std::test::Fail;
-
-#[test]
-fn an_inlet_and_an_outlet(rt: HostRuntime) -> Result<(), Fail> {
-    let recorded = between_two(rt.alloc(), Shape::Alone)?;
-    by_inlet_and_outlet::<Brand, _>(&rt, recorded, Blank::new(65))
-}
 
 /// An event goes in and out.
 fn pass_between<I: Inlet<Event>, O: Outlet<Event>>(rt: &impl Abort, inlet: &mut I, outlet: &mut O) {
@@ -61,15 +58,16 @@ fn check_ends<L: Exchange<Event>, R: Wait + Abort>(
     shared: &Shared<Event, L>,
     one: End<Event, L>,
     two: End<Event, L>,
-    halter: &mut End<Event, L>,
+    halter: End<Event, L>,
 ) {
+    let mut halter = halter;
     let mut inlet = LockedInlet::new(rt, shared, one, 1);
     let mut outlet = LockedOutlet::new(rt, shared, two, 0);
     pass_between(rt, &mut inlet, &mut outlet);
     complete_one(rt, &mut outlet);
     check(
         rt,
-        shared.call(rt, halter, Command::Halt, &mut []).is_ok(),
+        shared.call(rt, &mut halter, Command::Halt, &mut []).is_ok(),
         true,
     );
     check_halted(rt, &mut inlet, &mut outlet);
@@ -79,23 +77,40 @@ fn check_ends<L: Exchange<Event>, R: Wait + Abort>(
     check(rt, halter.halts(), 1);
 }
 
-/// The ends of a new lock.
-fn by_inlet_and_outlet<L: Exchange<Event>, R: Wait + Abort>(
+/// The three ends of a new lock, which ring or do not.
+fn by_ends<L: Exchange<Event>, R: Wait + Abort>(
     rt: &R,
     recorded: Recorded<Event>,
     blank: Blank,
-) -> Result<(), Fail>
+    ring: bool,
+)
     requires name { blank.name ≡ L.name }
     requires parts { blank.parts ≡ L.parts }
     requires ends { blank.parts ≡ 65 }
     requires begun { recorded.history ≡ L.begun }
 {
     let mut shared = Shared::<Event, L>::new(recorded, blank);
-    match (shared.end(), shared.end(), shared.end()) {
-        (Some(one), Some(two), Some(mut halter)) => {
-            check_ends(rt, &shared, one, two, &mut halter);
-            Ok(())
-        }
-        _ => Err("three ends".into()),
+    let one = shared.end().expect(rt, "an end");
+    let two = shared.end().expect(rt, "an end");
+    let halter = shared.end().expect(rt, "an end");
+    if ring {
+        ring_all(rt, &shared, one, two, halter);
+    } else {
+        check_ends(rt, &shared, one, two, halter);
     }
+}
+
+fn by_ends_of_a_lock(rt: &(impl Wait + Abort), alloc: Global, ring: bool) {
+    let recorded = between_two(rt, alloc, Shape::Alone);
+    by_ends::<Brand, _>(rt, recorded, Blank::new(65), ring);
+}
+
+#[test]
+fn an_inlet_and_an_outlet(rt: HostRuntime) {
+    by_ends_of_a_lock(&rt, rt.alloc(), false);
+}
+
+#[test]
+fn each_publication_completion_and_halt_rings(rt: HostRuntime) {
+    by_ends_of_a_lock(&rt, rt.alloc(), true);
 }

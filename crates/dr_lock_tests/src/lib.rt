@@ -5,9 +5,13 @@
 #[cfg(test)]
 mod audits;
 #[cfg(test)]
+mod checks;
+#[cfg(test)]
 mod ends;
 #[cfg(test)]
 mod faults;
+#[cfg(test)]
+mod graphs;
 #[cfg(test)]
 mod histories;
 #[cfg(test)]
@@ -20,8 +24,6 @@ mod playing;
 mod ringing;
 #[cfg(test)]
 mod rows;
-#[cfg(test)]
-mod telling;
 #[cfg(test)]
 mod words;
 #[cfg(test)]

@@ -2,77 +2,83 @@
 
 ghost use Rattle.std.specs.Prelude.{◌≡◌};
 
-use crate::histories::{Shape, check, graph};
+use crate::checks::check;
+use crate::graphs::{Shape, graph};
 use dr_lock::{
     AuditFault, End, Exchange, LockedInlet, LockedOutlet, Recorded, Shared, audit, finish,
 };
-use dr_meaning::{Inlet, MAX_LIMIT, Mode, Outlet, Polled, Wrote};
+use dr_meaning::{Claimed, Inlet, MAX_LIMIT, Mode, Outlet, Polled, Wrote};
 use dr_seq::{Same, Size};
 use std::alloc::Global;
 use std::marker::Brand;
 use std::process::Abort;
 use std::sync::Wait;
 use std::sync::ledger::Blank;
-use std::test::Fail;
 
 #[derive(Clone, Copy, Debug, PartialEq, Eq)]
 struct Order {
     account: u64,
-    instrument: u64,
-    price: u64,
     quantity: u64,
-    sent_at: u64,
     is_buy: bool,
 }
 
 impl Same for Order {
     fn is_same(&self, other: &Order) -> bool {
         self.account == other.account
-            && self.instrument == other.instrument
-            && self.price == other.price
             && self.quantity == other.quantity
-            && self.sent_at == other.sent_at
             && self.is_buy == other.is_buy
     }
 }
 
-fn order_of(quantity: u64, is_buy: bool) -> Order {
-    Order {
-        account: 7,
-        instrument: 42,
-        price: 1250,
-        quantity,
-        sent_at: 3,
-        is_buy,
-    }
-}
+const NONE: Order = Order {
+    account: 0,
+    quantity: 0,
+    is_buy: false,
+};
 
-/// One order is bought, and one sold.
-fn pass<I: Inlet<Order>, O: Outlet<Order>>(
-    rt: &impl Abort,
-    inlet: &mut I,
-    outlet: &mut O,
-    orders: &[Order; 2],
-) -> Result<(), Fail> {
-    let claimed = inlet.try_claim(2)?;
+const BOUGHT: Order = Order {
+    account: 7,
+    quantity: 5,
+    is_buy: true,
+};
+
+const SOLD: Order = Order {
+    account: 7,
+    quantity: 6,
+    is_buy: false,
+};
+
+/// It differs from the other in its flag alone.
+const NOT_SOLD: Order = Order {
+    account: 7,
+    quantity: 6,
+    is_buy: true,
+};
+
+const ORDERS: [Order; 2] = [BOUGHT, SOLD];
+
+const OTHERS: [Order; 2] = [BOUGHT, NOT_SOLD];
+
+fn send<I: Inlet<Order>>(rt: &impl Abort, inlet: &mut I) {
     let wrote = Wrote {
         count: 2,
         trouble: None,
     };
-    check(rt, claimed.lo, 0);
-    check(rt, inlet.write_all(0, &orders[..]), wrote);
-    inlet.publish(claimed.lo, claimed.hi)?;
-    let mut out = [order_of(0, false); 4];
+    check(rt, inlet.try_claim(2), Ok(Claimed { lo: 0, hi: 1 }));
+    check(rt, inlet.write_all(0, &ORDERS), wrote);
+    check(rt, inlet.publish(0, 1), Ok(()));
+}
+
+fn receive<O: Outlet<Order>>(rt: &impl Abort, outlet: &mut O) {
+    let mut out = [NONE; 2];
     let batch = Polled::Batch {
         first: 0,
         count: 2,
         end: true,
     };
-    check(rt, outlet.poll_into(&mut out)?, batch);
-    check(rt, out[0], orders[0]);
-    check(rt, out[1], orders[1]);
-    outlet.complete(2)?;
-    Ok(())
+    check(rt, outlet.poll_into(&mut out), Ok(batch));
+    check(rt, out, ORDERS);
+    check(rt, outlet.complete(2), Ok(()));
 }
 
 /// Two ends, once orders went in and out by them.
@@ -82,15 +88,13 @@ fn passed_through<L: Exchange<Order>, R: Wait + Abort>(
     shared: &Shared<Order, L>,
     one: End<Order, L>,
     two: End<Order, L>,
-    orders: &[Order; 2],
-) -> Result<Vec<End<Order, L>>, Fail> {
+) -> Vec<End<Order, L>> {
     let mut inlet = LockedInlet::new(rt, shared, one, 0);
     let mut outlet = LockedOutlet::new(rt, shared, two, 0);
-    pass(rt, &mut inlet, &mut outlet, orders)?;
-    let mut ends = Vec::new(alloc);
-    ends.push(inlet.into_end())?;
-    ends.push(outlet.into_end())?;
-    Ok(ends)
+    send(rt, &mut inlet);
+    receive(rt, &mut outlet);
+    let ends = vec![in alloc; inlet.into_end(), outlet.into_end()];
+    ends.expect(rt, "memory")
 }
 
 fn by_lock<L: Exchange<Order>, R: Wait + Abort>(
@@ -98,44 +102,40 @@ fn by_lock<L: Exchange<Order>, R: Wait + Abort>(
     alloc: Global,
     blank: Blank,
     recorded: Recorded<Order>,
-) -> Result<(), Fail>
+) -> Recorded<Order>
     requires name { blank.name ≡ L.name }
     requires parts { blank.parts ≡ L.parts }
     requires ends { blank.parts ≡ 65 }
     requires begun { recorded.history ≡ L.begun }
 {
-    let orders = [order_of(5, true), order_of(6, false)];
     let mut shared = Shared::<Order, L>::new(recorded, blank);
-    let one = shared.end().ok_or("an end")?;
-    let two = shared.end().ok_or("an end")?;
-    let ends = passed_through(rt, alloc, &shared, one, two, &orders)?;
-    match finish(shared, ends) {
-        Ok(recorded) => check_audits(rt, alloc, &recorded, &orders),
-        Err(_) => Err("the ends are back".into()),
-    }
+    let one = shared.end().expect(rt, "an end");
+    let two = shared.end().expect(rt, "an end");
+    let ends = passed_through(rt, alloc, &shared, one, two);
+    let Ok(recorded) = finish(shared, ends) else {
+        panic!(rt; "the ends are back");
+    };
+    recorded
 }
 
 /// The audit gives the orders, and finds one that differs in its flag alone.
-fn check_audits(
-    rt: &impl Abort,
-    alloc: Global,
-    recorded: &Recorded<Order>,
-    orders: &[Order; 2],
-) -> Result<(), Fail> {
-    let list = audit(alloc, recorded, &[&orders[..]])?;
-    check(rt, list.as_slice(), &orders[..]);
-    let other = [order_of(5, true), order_of(6, true)];
-    let fault = audit(alloc, recorded, &[&other[..]]).err();
-    assert!(rt; fault == Some(AuditFault::ScriptDiffers(0)));
-    Ok(())
+fn check_audits(rt: &impl Abort, alloc: Global, recorded: &Recorded<Order>) {
+    let list = audit(alloc, recorded, &[&ORDERS]).expect(rt, "a list");
+    check(rt, list.as_slice(), &ORDERS[..]);
+    let fault = audit(alloc, recorded, &[&OTHERS]).err();
+    check(rt, fault, Some(AuditFault::ScriptDiffers(0)));
+}
+
+fn opened(rt: &impl Abort, alloc: Global) -> Recorded<Order> {
+    let graph = graph(rt, alloc, Shape::Alone);
+    let size = Size::new(2).expect(rt, "a size");
+    let opened = Recorded::open(alloc, graph, size, Mode::Single, MAX_LIMIT, NONE, 8, 2);
+    opened.expect(rt, "a history")
 }
 
 #[test]
-fn orders_go_through_a_lock(rt: HostRuntime) -> Result<(), Fail> {
-    let alloc = rt.alloc();
-    let graph = graph(alloc, Shape::Alone)?;
-    let size = Size::new(2)?;
-    let none = order_of(0, false);
-    let recorded = Recorded::open(alloc, graph, size, Mode::Single, MAX_LIMIT, none, 8, 2)?;
-    by_lock::<Brand, _>(&rt, alloc, Blank::new(65), recorded)
+fn orders_go_through_a_lock(rt: HostRuntime) {
+    let recorded = opened(&rt, rt.alloc());
+    let recorded = by_lock::<Brand, _>(&rt, rt.alloc(), Blank::new(65), recorded);
+    check_audits(&rt, rt.alloc(), &recorded);
 }

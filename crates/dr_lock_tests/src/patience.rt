@@ -1,64 +1,17 @@
 //! Workers that wait in each way, and a bell between two threads.
 
-use crate::histories::check;
-use dr_meaning::{Claimed, Inlet, Refusal, Trouble};
+use crate::checks::check;
+use crate::ringing::{check_strokes, no_strokes};
+use crate::workers::{Lacks, scarce_end};
 use dr_seq::Event;
 use dr_workers::{
     Bell, OpenGate, Parking, Patience, Produced, Ringing, Rings, Spinning, Waiting, produce_with,
 };
-use std::alloc::{AllocError, Global};
+use std::alloc::Global;
 use std::process::Abort;
 use std::sync::atomic::{AtomicU64, Ordering};
 use std::sync::{Arc, Wait};
-use std::test::Fail;
 use std::thread::{Threads, join};
-
-// An end that has room for two claims, and then for none until it was asked two hundred times and some.
-#[derive(Drop)]
-struct Crowded {
-    claims: u64,
-    refusals: u64,
-    published: u64,
-}
-
-impl Inlet<Event> for Crowded {
-    ghost kept = { λ _. tt };
-
-    fn try_claim(&mut self, n: u64) -> Result<Claimed, Trouble> {
-        if n != 1 {
-            return Err(Trouble::Refused(Refusal::BadCount));
-        }
-        if self.claims >= 1000 {
-            return Err(Trouble::Refused(Refusal::Exhausted));
-        }
-        if self.claims % 2 == 0 && self.refusals % 205 != 204 {
-            self.refusals = self.refusals.wrapping_add(1);
-            return Err(Trouble::Refused(Refusal::NoRoom));
-        }
-        self.refusals = 0;
-        let lo = self.claims;
-        self.claims += 1;
-        Ok(Claimed { lo, hi: lo })
-    }
-
-    fn write(&mut self, s: u64, _event: Event) -> Result<(), Trouble> {
-        if s >= 1 << 62 {
-            return Err(Trouble::Refused(Refusal::NotClaimed));
-        }
-        Ok(())
-    }
-
-    fn publish(&mut self, lo: u64, hi: u64) -> Result<(), Trouble> {
-        if lo > hi {
-            return Err(Trouble::Refused(Refusal::BadCount));
-        }
-        if hi >= 1 << 62 {
-            return Err(Trouble::Refused(Refusal::NotClaimed));
-        }
-        self.published = self.published.wrapping_add(1);
-        Ok(())
-    }
-}
 
 // What a worker told its patience.
 #[derive(Drop)]
@@ -79,33 +32,10 @@ impl Patience for Told {
     }
 }
 
-// How often the bell was rung.
-#[derive(Drop)]
-struct Strokes {
-    count: AtomicU64,
-}
-
-impl Rings for &Strokes {
-    fn ring(&self) {
-        self.count.fetch_add(1, Ordering::SeqCst);
-    }
-}
-
-fn strokes_of(strokes: &Strokes) -> u64 {
-    strokes.count.load(Ordering::SeqCst)
-}
-
 // Sends six events through a crowded end that rings, and waits so.
 fn send_six<R: Wait + Abort, P: Patience>(rt: &R, patience: &mut P) {
-    let strokes = Strokes {
-        count: AtomicU64::new(0),
-    };
-    let crowded = Crowded {
-        claims: 0,
-        refusals: 0,
-        published: 0,
-    };
-    let mut inlet = Ringing::new(crowded, &strokes);
+    let strokes = no_strokes();
+    let mut inlet = Ringing::new(scarce_end(Lacks::Room, 6), &strokes);
     let all = Produced {
         sent: 6,
         fault: None,
@@ -117,14 +47,14 @@ fn send_six<R: Wait + Abort, P: Patience>(rt: &R, patience: &mut P) {
         all,
     );
     check(rt, inlet.end().published, 6);
-    check(rt, strokes_of(&strokes), 6);
+    check_strokes(rt, &strokes, 6);
     inlet.call(|end| end.published = 0);
-    check(rt, strokes_of(&strokes), 7);
+    check_strokes(rt, &strokes, 7);
     check(rt, inlet.into_end().published, 0);
 }
 
 #[test]
-fn a_sender_by_each_way_of_waiting(rt: HostRuntime) -> Result<(), Fail> {
+fn a_sender_by_each_way_of_waiting(rt: HostRuntime) {
     let bell = Bell::new();
     send_six(&rt, &mut Waiting::new(1));
     send_six(&rt, &mut Spinning);
@@ -141,7 +71,6 @@ fn a_sender_by_each_way_of_waiting(rt: HostRuntime) -> Result<(), Fail> {
     };
     send_six(&rt, &mut told);
     assert!(rt; told.waits == 612 && told.finds == 2 && told.found == 4);
-    Ok(())
 }
 
 // Tells that it goes to sleep, and parks until another thread has raised the flag.
@@ -173,19 +102,17 @@ fn raise(rt: &impl Wait, bell: &Arc<Bell, Global>, asleep: &AtomicU64, flag: &At
     unreachable!()
 }
 
-fn by_two_threads<R: Wait + Threads + Sync>(rt: &R, alloc: Global) -> Result<(), AllocError> {
-    let bell = Arc::new(alloc, Bell::new())?;
+fn by_two_threads<R: Wait + Threads + Sync>(rt: &R, bell: &Arc<Bell, Global>) {
     let (asleep, flag) = (AtomicU64::new(0), AtomicU64::new(0));
     let ((), ()) = join(
         rt,
-        || wait_for(rt, &bell, &asleep, &flag),
-        || raise(rt, &bell, &asleep, &flag),
+        || wait_for(rt, bell, &asleep, &flag),
+        || raise(rt, bell, &asleep, &flag),
     );
-    Ok(())
 }
 
 #[test]
-fn a_thread_sleeps_until_a_bell_rings(rt: HostRuntime) -> Result<(), Fail> {
-    by_two_threads(&rt, rt.alloc())?;
-    Ok(())
+fn a_thread_sleeps_until_a_bell_rings(rt: HostRuntime) {
+    let bell = Arc::new(rt.alloc(), Bell::new()).expect(&rt, "memory");
+    by_two_threads(&rt, &bell);
 }

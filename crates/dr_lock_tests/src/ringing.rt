@@ -1,22 +1,18 @@
 //! When an end rings its bell.
 
-ghost use Rattle.std.specs.Prelude.{◌≡◌};
-
-use crate::histories::{Shape, between_two, check, word};
-use dr_lock::{End, Exchange, LockedInlet, LockedOutlet, Recorded, Shared, halt};
+use crate::checks::check;
+use crate::histories::word;
+use dr_lock::{End, Exchange, LockedInlet, LockedOutlet, Shared, halt};
 use dr_meaning::{Inlet, Outlet};
 use dr_seq::Event;
 use dr_workers::{Ringing, Rings};
-use std::marker::Brand;
 use std::process::Abort;
 use std::sync::Wait;
 use std::sync::atomic::{AtomicU64, Ordering};
-use std::sync::ledger::Blank;
-use std::test::Fail;
 
-// How often it was rung.
+/// How often it was rung.
 #[derive(Drop)]
-struct Strokes {
+pub struct Strokes {
     count: AtomicU64,
 }
 
@@ -26,7 +22,13 @@ impl Rings for &Strokes {
     }
 }
 
-fn check_strokes(rt: &impl Abort, strokes: &Strokes, wanted: u64) {
+pub fn no_strokes() -> Strokes {
+    Strokes {
+        count: AtomicU64::new(0),
+    }
+}
+
+pub fn check_strokes(rt: &impl Abort, strokes: &Strokes, wanted: u64) {
     check(rt, strokes.count.load(Ordering::SeqCst), wanted);
 }
 
@@ -55,16 +57,14 @@ fn take_both<O: Outlet<Event>>(rt: &impl Abort, outlet: O, strokes: &Strokes) ->
 }
 
 /// Two events go in and out, and then the exchange is halted by an end that rings.
-fn ring_all<L: Exchange<Event>, R: Wait + Abort>(
+pub fn ring_all<L: Exchange<Event>, R: Wait + Abort>(
     rt: &R,
     shared: &Shared<Event, L>,
     one: End<Event, L>,
     two: End<Event, L>,
     halter: End<Event, L>,
 ) {
-    let strokes = Strokes {
-        count: AtomicU64::new(0),
-    };
+    let strokes = no_strokes();
     let inlet = send_one(rt, LockedInlet::new(rt, shared, one, 1), &strokes);
     let outlet = take_both(rt, LockedOutlet::new(rt, shared, two, 0), &strokes);
     let mut halter = Ringing::new(halter, &strokes);
@@ -73,31 +73,4 @@ fn ring_all<L: Exchange<Event>, R: Wait + Abort>(
     check(rt, halter.into_end().halts(), 1);
     check(rt, inlet.into_end().calls(), 4);
     check(rt, outlet.into_end().calls(), 3);
-}
-
-/// The ends of a new lock.
-fn by_ends<L: Exchange<Event>, R: Wait + Abort>(
-    rt: &R,
-    recorded: Recorded<Event>,
-    blank: Blank,
-) -> Result<(), Fail>
-    requires name { blank.name ≡ L.name }
-    requires parts { blank.parts ≡ L.parts }
-    requires ends { blank.parts ≡ 65 }
-    requires begun { recorded.history ≡ L.begun }
-{
-    let mut shared = Shared::<Event, L>::new(recorded, blank);
-    match (shared.end(), shared.end(), shared.end()) {
-        (Some(one), Some(two), Some(halter)) => {
-            ring_all(rt, &shared, one, two, halter);
-            Ok(())
-        }
-        _ => Err("three ends".into()),
-    }
-}
-
-#[test]
-fn each_publication_completion_and_halt_rings(rt: HostRuntime) -> Result<(), Fail> {
-    let recorded = between_two(rt.alloc(), Shape::Alone)?;
-    by_ends::<Brand, _>(&rt, recorded, Blank::new(65))
 }

@@ -1,6 +1,6 @@
 //! Worked runs: what is asked of an exchange, and what it answers.
 
-use crate::histories::Shape;
+use crate::graphs::Shape;
 use crate::words::Answer::{
     Batch, Claimed, Completed, Drained, Gating, Halting, Idle, Published, Refused, Retired, Written,
 };

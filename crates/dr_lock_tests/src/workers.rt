@@ -2,7 +2,7 @@
 
 ghost use Rattle.std.specs.Prelude.{◌<◌};
 
-use crate::histories::check;
+use crate::checks::check;
 use dr_meaning::{Claimed, Handler, Inlet, Outlet, Polled, Refusal, Trouble};
 use dr_seq::{Event, Size};
 use dr_workers::{
@@ -13,19 +13,41 @@ use std::process::Abort;
 use std::sync::Wait;
 use std::sync::atomic::{AtomicU64, Ordering};
 
-// An end with room for so many events, of which each second call finds no memory.
+/// What an end is short of.
+#[derive(Clone, Copy, PartialEq, Eq)]
+pub enum Lacks {
+    /// Each second write or publication finds no memory.
+    Memory,
+    /// No claim finds memory.
+    MemoryForClaims,
+    /// Room: two claims find it, and then none until it was asked two hundred times and some.
+    Room,
+}
+
+/// An end with room for so many events.
 #[derive(Drop)]
-struct Scarce {
+pub struct Scarce {
+    lacks: Lacks,
     calls: u64,
+    refusals: u64,
     claimed: u64,
+    pub published: u64,
     room: u64,
-    hoards: bool,
 }
 
 impl Scarce {
     fn finds_memory(&mut self) -> bool {
         self.calls = self.calls.wrapping_add(1);
-        self.calls % 2 == 0
+        self.lacks != Lacks::Memory || self.calls % 2 == 0
+    }
+
+    fn finds_room(&mut self) -> bool {
+        if self.lacks != Lacks::Room || self.claimed % 2 == 1 || self.refusals == 204 {
+            self.refusals = 0;
+            return true;
+        }
+        self.refusals = self.refusals.wrapping_add(1);
+        false
     }
 }
 
@@ -36,8 +58,11 @@ impl Inlet<Event> for Scarce {
         if n == 0 || n > Size::MAX {
             return Err(Trouble::Refused(Refusal::BadCount));
         }
-        if self.hoards {
+        if self.lacks == Lacks::MemoryForClaims {
             return Err(Trouble::Memory);
+        }
+        if !self.finds_room() {
+            return Err(Trouble::Refused(Refusal::NoRoom));
         }
         if self.room > 1000 || self.claimed > self.room || n > self.room - self.claimed {
             return Err(Trouble::Refused(Refusal::Exhausted));
@@ -69,6 +94,7 @@ impl Inlet<Event> for Scarce {
             return Err(Trouble::Refused(Refusal::NotClaimed));
         }
         if self.finds_memory() {
+            self.published = self.published.wrapping_add(1);
             Ok(())
         } else {
             Err(Trouble::Memory)
@@ -76,12 +102,14 @@ impl Inlet<Event> for Scarce {
     }
 }
 
-fn scarce_end(room: u64) -> Scarce {
+pub fn scarce_end(lacks: Lacks, room: u64) -> Scarce {
     Scarce {
+        lacks,
         calls: 0,
+        refusals: 0,
         claimed: 0,
+        published: 0,
         room,
-        hoards: false,
     }
 }
 
@@ -131,14 +159,14 @@ fn check_sent<R: Wait + Abort, G: Gate>(
 
 #[test]
 fn producers(rt: HostRuntime) {
-    let mut inlet = scarce_end(5);
+    let mut inlet = scarce_end(Lacks::Memory, 5);
     check_sent(&rt, &mut inlet, &OpenGate, 2, 5, None);
     // Five writes and three publications, each made twice.
     check(&rt, inlet.calls, 16);
     let refused = Some(WorkFault::Refused(Refusal::Exhausted));
-    check_sent(&rt, &mut scarce_end(4), &OpenGate, 2, 4, refused);
-    let mut hoarding = scarce_end(5);
-    hoarding.hoards = true;
+    let mut small = scarce_end(Lacks::Memory, 4);
+    check_sent(&rt, &mut small, &OpenGate, 2, 4, refused);
+    let mut hoarding = scarce_end(Lacks::MemoryForClaims, 5);
     check_sent(&rt, &mut hoarding, &OpenGate, 2, 0, Some(WorkFault::Memory));
 }
 
@@ -146,24 +174,26 @@ fn producers(rt: HostRuntime) {
 fn stopped_producers(rt: HostRuntime) {
     let gate = stops_at_one();
     let stopped = Some(WorkFault::Stopped);
-    check_sent(&rt, &mut scarce_end(5), &gate, 1, 5, stopped);
+    let mut large = scarce_end(Lacks::Memory, 5);
+    check_sent(&rt, &mut large, &gate, 1, 5, stopped);
     check(&rt, gate.passed.load(Ordering::SeqCst), 2);
     // A refusal does not hide that it was stopped.
-    check_sent(&rt, &mut scarce_end(4), &gate, 1, 4, stopped);
+    let mut small = scarce_end(Lacks::Memory, 4);
+    check_sent(&rt, &mut small, &gate, 1, 4, stopped);
     check(&rt, gate.passed.load(Ordering::SeqCst), 4);
 }
 
-// An end that hands out so many batches of one event, of which it marks the last alone, and finds no
-// memory at each second call.
+// An end that hands out five batches of one event, of which it marks the last alone, and finds no memory at each third
+// call. It refuses to complete an event that the handler was not shown.
 #[derive(Drop)]
-struct Dealer {
+struct Dealer<'a> {
+    shown: &'a AtomicU64,
     calls: u64,
     dealt: u64,
-    batches: u64,
     told: bool,
 }
 
-impl Outlet<Event> for Dealer {
+impl Outlet<Event> for Dealer<'_> {
     ghost kept = { λ _. tt };
 
     ghost told = { λ d. d.told };
@@ -179,7 +209,7 @@ impl Outlet<Event> for Dealer {
         if self.calls % 3 == 2 {
             return Ok(Polled::Gating);
         }
-        if self.batches > 1000 || self.dealt >= self.batches {
+        if self.dealt >= 5 {
             self.told = true;
             return Ok(Polled::Drained);
         }
@@ -192,83 +222,75 @@ impl Outlet<Event> for Dealer {
         Ok(Polled::Batch {
             first,
             count: 1,
-            end: self.dealt == self.batches,
+            end: self.dealt == 5,
         })
     }
 
     fn complete(&mut self, upto: u64) -> Result<(), Trouble> {
         self.calls = self.calls.wrapping_add(1);
-        if upto > self.dealt {
+        if upto > self.dealt || upto > self.shown.load(Ordering::SeqCst) {
             return Err(Trouble::Refused(Refusal::NotTaken));
         }
         Ok(())
     }
 }
 
-fn dealing_end(batches: u64) -> Dealer {
-    Dealer {
-        calls: 0,
-        dealt: 0,
-        batches,
-        told: false,
-    }
-}
-
-// A handler that counts events and marks, and adds the first words.
+// A handler that counts marks, adds the first words, and tells how many events it was shown.
 #[derive(Drop)]
-struct Adder {
-    count: u64,
+struct Adder<'a> {
+    shown: &'a AtomicU64,
     marks: u64,
     sum: u64,
 }
 
-impl Handler<Event> for Adder {
+impl Handler<Event> for Adder<'_> {
     ghost use Rattle.std.specs.Prelude.{⊤};
 
     ghost goes = { λ old event s end new. ⊤ };
 
     fn on_event(&mut self, event: Event, _s: u64, end: bool) {
-        self.count = self.count.wrapping_add(1);
+        self.shown.fetch_add(1, Ordering::SeqCst);
         self.marks = self.marks.wrapping_add(u64::from(end));
         self.sum = self.sum.wrapping_add(event.first);
     }
 }
 
-// What the worker of a handler answers over an end with five events.
+// What the worker of a handler answers over an end with five events, and how many of them, marks and what sum it was shown.
 fn check_taken<R: Wait + Abort, G: Gate>(
     rt: &R,
     gate: &G,
-    adder: &mut Adder,
     buf: &mut [Event],
     wanted: Option<WorkFault>,
+    events: [u64; 3],
 ) {
-    let answer = consume(rt, &mut dealing_end(5), gate, 0, adder, buf);
+    let shown = AtomicU64::new(0);
+    let mut dealer = Dealer {
+        shown: &shown,
+        calls: 0,
+        dealt: 0,
+        told: false,
+    };
+    let mut adder = Adder {
+        shown: &shown,
+        marks: 0,
+        sum: 0,
+    };
+    let answer = consume(rt, &mut dealer, gate, 0, &mut adder, buf);
     check(rt, answer, wanted);
-}
-
-fn check_shown(rt: &impl Abort, adder: &Adder, count: u64, marks: u64, sum: u64) {
-    check(rt, adder.count, count);
-    check(rt, adder.marks, marks);
-    check(rt, adder.sum, sum);
+    let seen = [shown.load(Ordering::SeqCst), adder.marks, adder.sum];
+    check(rt, seen, events);
 }
 
 #[test]
 fn consumers(rt: HostRuntime) {
     let mut buf = [Event::NONE; 4];
-    let mut adder = Adder {
-        count: 0,
-        marks: 0,
-        sum: 0,
-    };
-    check_taken(&rt, &OpenGate, &mut adder, &mut buf, None);
-    check_shown(&rt, &adder, 5, 1, 10);
+    check_taken(&rt, &OpenGate, &mut buf, None, [5, 1, 10]);
     let gate = stops_at_one();
     let stopped = Some(WorkFault::Stopped);
-    check_taken(&rt, &gate, &mut adder, &mut buf, stopped);
-    check_shown(&rt, &adder, 10, 2, 20);
+    check_taken(&rt, &gate, &mut buf, stopped, [5, 1, 10]);
     check(&rt, gate.passed.load(Ordering::SeqCst), 2);
     let refused = Some(WorkFault::Refused(Refusal::BadCount));
-    check_taken(&rt, &gate, &mut adder, &mut [], refused);
+    check_taken(&rt, &OpenGate, &mut [], refused, [0, 0, 0]);
 }
 
 const REFUSED: Option<WorkFault> = Some(WorkFault::Refused(Refusal::Exhausted));

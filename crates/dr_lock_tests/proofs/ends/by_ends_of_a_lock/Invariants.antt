@@ -1,4 +1,4 @@
-use Rattle.dr_lock_tests.proofs.ringing.each_publication_completion_and_halt_rings.Given as goal
+use Rattle.dr_lock_tests.proofs.ends.by_ends_of_a_lock.Given as goal
 
 -- the ledger of the blank
 abbrev pub ghosts-by_ends-L-Ledger : goal.ghosts-by_ends-L-Ledger
