@@ -1,0 +1,8 @@
+pub mod Owned
+pub mod Rising
+pub mod Publishing
+pub mod Merged
+pub mod Untroubled
+pub mod Polled
+pub mod Settled
+pub mod Ready

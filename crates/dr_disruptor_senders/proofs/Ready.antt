@@ -1,0 +1,112 @@
+-- The ends of a ring, as they come back from their workers.
+use Rattle.std.proofs.Common.{◌≡◌, ◌≢◌, ℕ, ◌/◌, ◌<◌, ◌≤◌, max, Bool, false, Some, List, length, map, Result, Ok, Err, refl, sym, subst, ap, ◌∙◌, arith}
+use Rattle.std.specs.Prelude.{IfNone, IfOk, OnOk}
+use Rattle.std.specs.declared.alloc.AllocError.{AllocError}
+use Rattle.std.proofs.lemmas.Bool.{eq-eqb}
+use mathlib.Core.Option.{some-injective}
+use lib.ListN.{length-map}
+use Rattle.atomic_table.proofs.Lists.{at_map}
+use Rattle.dr_runs.proofs.Elements.{at_below, there}
+use Rattle.dr_meaning.specs.declared.mode.Mode.TheVariants.{Multi}
+use Rattle.dr_meaning.specs.Calls.Calling.{SomeCalls}
+use Rattle.dr_meaning.specs.Calls.Handling.{Relation}
+use Rattle.dr_meaning.specs.Calls.OpenFault.{has_bad_producers}
+use Rattle.dr_workers.specs.Calls.Serving as worker
+use Rattle.dr_workers.specs.declared.fault.WorkFault.TheVariants.{Stopped}
+use Rattle.dr_workers.specs.declared.producer.Produced.{Produced}
+use Rattle.dr_seq.specs.declared.event.Event.{Event}
+use Rattle.dr_senders.specs.Meaning.Shape.{Shape, handlers_of}
+use Rattle.dr_senders.specs.Calls.Ends.{EndPlace, HalterEnd, ReceiverEnd, SenderEnd, sender_place}
+use Rattle.dr_senders.specs.Calls.Settling.{AreAllEnds, HasRun}
+use Rattle.dr_senders.specs.Calls.Telling.{sender_does}
+use Rattle.dr_disruptor.specs.declared.fault.RunFault.TheVariants as fault
+use Rattle.dr_disruptor_senders.specs.declared.running.Ran.{Ran}
+use Rattle.dr_disruptor_senders.specs.declared.sending.Sent.{Sent}
+use Rattle.dr_disruptor_senders.specs.declared.serving.Served.{Served}
+use Rattle.dr_disruptor_senders.specs.Running.{IsJoined, JoinsAll}
+use Rattle.dr_disruptor_senders.specs.Serving.{AreKept, AreSent, HaltsOnly, Sending, Worker, given_end, refusal_of}
+
+-- what senders' workers gave back are all senders of the ring again
+pub senders_back : (size : ℕ) (scripts : List (List Event)) (ss : List SenderEnd) (rs : List ReceiverEnd) (t : HalterEnd) (sent : List Sent) → length ss ≡ length scripts
+    → AreSent size scripts ss sent → AreAllEnds ss rs t → AreAllEnds (map (λ b. b.sender) sent) rs t
+senders_back size scripts ss rs t sent given are all = record {
+  senders = length-map sent (λ b. b.sender) ∙ are.many ∙ sym given ∙ all.senders;
+  receivers = all.receivers;
+  each_sender = λ p e at.
+      let many : length (map (λ b. b.sender) sent) ≡ length sent = length-map sent (λ b. b.sender) in
+      let inside : p < length (map (λ b. b.sender) sent) = at_below (map (λ b. b.sender) sent) p e at in
+      let b = there sent p (omega arith) in
+      let same : b.0.sender ≡ e = some-injective b.0.sender e (sym (at_map (λ b. b.sender) sent p b.0 b.1) ∙ at) in
+      let (script, one, at_script, at_one, sending) = are.each p b.0 b.1 in
+      let was = all.each_sender p one at_one in
+      let ring = ap (λ (q : EndPlace). q.0) sending.place in
+      let number = ap (λ (q : EndPlace). q.2) sending.place in
+      subst (λ (x : SenderEnd). (x.ring ≡ t.ring) × (x.knows.number ≡ p)) same (ring ∙ was.0, number ∙ was.1);
+  each_receiver = all.each_receiver;
+}
+
+-- so are what handlers' workers gave back
+pub receivers_back : {A : Type 0} (goes : Relation Event A) (ss : List SenderEnd) (t : HalterEnd) (ws : List (Worker A)) (served : List (Served A)) → AreKept goes ws served
+    → AreAllEnds ss (map given_end ws) t → AreAllEnds ss (map (λ b. b.receiver) served) t
+receivers_back goes ss t ws served kept all = record {
+  senders = all.senders;
+  receivers = length-map served (λ b. b.receiver) ∙ kept.many ∙ sym (length-map ws given_end) ∙ all.receivers;
+  each_sender = all.each_sender;
+  each_receiver = λ h e at.
+      let many : length (map (λ b. b.receiver) served) ≡ length served = length-map served (λ b. b.receiver) in
+      let inside : h < length (map (λ b. b.receiver) served) = at_below (map (λ b. b.receiver) served) h e at in
+      let b = there served h (omega arith) in
+      let same : b.0.receiver ≡ e = some-injective b.0.receiver e (sym (at_map (λ b. b.receiver) served h b.0 b.1) ∙ at) in
+      let (w, at_w, serving) = kept.each h b.0 b.1 in
+      let was = all.each_receiver h (given_end w) (at_map given_end ws h w at_w) in
+      let ring = ap (λ (q : EndPlace). q.0) serving.place in
+      let number = ap (λ (q : EndPlace). q.2) serving.place in
+      subst (λ (x : ReceiverEnd). (x.ring ≡ t.ring) × (x.knows.number ≡ h)) same (ring ∙ was.0, number ∙ was.1);
+}
+
+-- a halted ring's ends are those that they were
+pub halted_back : (ss : List SenderEnd) (rs : List ReceiverEnd) (t t' : HalterEnd) → HaltsOnly t t' → AreAllEnds ss rs t → AreAllEnds ss rs t'
+halted_back ss rs t t' halts all =
+    let ring = sym halts.1.0.0 in
+    let plan = sym halts.1.0.1 in
+    record {
+      senders = all.senders ∙ ap (λ (k : Shape). k.senders) plan;
+      receivers = all.receivers ∙ ap handlers_of plan;
+      each_sender = λ p e at. let was = all.each_sender p e at in (was.0 ∙ ring, was.1);
+      each_receiver = λ h e at. let was = all.each_receiver h e at in (was.0 ∙ ring, was.1);
+    }
+
+-- the run of ends is that of the same ends
+pub same_run : (ss ss' : List SenderEnd) (rs rs' : List ReceiverEnd) (t t' : HalterEnd) (n : ℕ) (on : Bool) → ss ≡ ss' → rs ≡ rs' → t ≡ t' → HasRun ss rs t n on → HasRun ss' rs' t' n on
+same_run ss ss' rs rs' t t' n on one each other run =
+    subst (λ (e : HalterEnd). HasRun ss' rs' e n on) other
+    (subst (λ (l : List ReceiverEnd). HasRun ss' l t n on) each (subst (λ (l : List SenderEnd). HasRun l rs t n on) one run))
+
+-- a run that was not refused for its handlers or its scripts lacked memory or a thread
+pub memory_is : (graph given scripts : ℕ) → given ≡ graph → has_bad_producers (Multi scripts) ≡ false → refusal_of graph given scripts ≡ fault.Memory
+memory_is graph given scripts same fits = rw (eq-eqb graph given (sym same), fits) refl
+
+-- what holds of a value that is there
+pub both_ok : {V E H : Type 0} (P Q : V → Type 0) (r : Result V E) → IfOk r P → OnOk r H → ((v : V) → P v → H → Q v) → IfOk r Q
+both_ok P Q (Ok v) is has then_is = then_is v is has
+both_ok P Q (Err e) is has then_is = tt
+
+pub joins_ok : {A V H Q : Type 0} (goes : Relation Event A) (ws : List (Worker A)) (items : V → List Sent) (P : V → Type 0) (r : Result V AllocError) (t : HalterEnd) (ran : Ran A)
+    → JoinsAll goes ws items r t ran → IfOk r P → OnOk r H → ((v : V) → P v → H → IsJoined goes ws (items v) t ran → Q) → Q
+joins_ok goes ws items P (Ok v) t ran joined is has then_is = then_is v is has joined
+joins_ok goes ws items P (Err e) t ran joined is has then_is = absurd joined
+
+-- what a sender's worker did, of the end that it was given
+pub sends : (size cut : ℕ) (script events : List Event) (given from back to : SenderEnd) (produced : Produced) → from ≡ given → to ≡ back → events ≡ script → cut ≡ max (size / 4) 1
+    → sender_place back ≡ sender_place from → SomeCalls sender_does from back (worker.Sends cut events (λ turn. ⊥) (λ turn. ⊥) produced) → produced.sent ≤ length events
+    → IfNone produced.fault (produced.sent ≡ length events) → produced.fault ≢ Some Stopped → Sending size script given (record { sender = to; produced = produced })
+sends size cut script events given from back to produced one other same is place calls within all stopped = record {
+  place = ap sender_place other ∙ place ∙ ap sender_place one;
+  calls = subst (λ (e : SenderEnd). SomeCalls sender_does given e (worker.Sends (max (size / 4) 1) script (λ turn. ⊥) (λ turn. ⊥) produced)) (sym other)
+      (subst (λ (e : SenderEnd). SomeCalls sender_does e back (worker.Sends (max (size / 4) 1) script (λ turn. ⊥) (λ turn. ⊥) produced)) one
+      (subst (λ (n : ℕ). SomeCalls sender_does from back (worker.Sends n script (λ turn. ⊥) (λ turn. ⊥) produced)) is
+      (subst (λ (l : List Event). SomeCalls sender_does from back (worker.Sends cut l (λ turn. ⊥) (λ turn. ⊥) produced)) same calls)));
+  within = subst (λ (l : List Event). produced.sent ≤ length l) same within;
+  all = subst (λ (l : List Event). IfNone produced.fault (produced.sent ≡ length l)) same all;
+  stopped = stopped;
+}

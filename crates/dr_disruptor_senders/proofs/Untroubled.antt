@@ -1,0 +1,63 @@
+-- A handler's worker over a receiver has no fault: it answers polls with room, and completions of what it took.
+use Rattle.std.proofs.Common.{◌≡◌, ◌<◌, ◌≤◌, ℕ, Bool, List, length, Option, None, Some, Ok, Err, ap, ⊎_elim, arith, ◌∙◌}
+use Rattle.std.proofs.lemmas.Bool.{eqb-true, false≢true, ltb-true}
+use Rattle.dr_seq.specs.declared.event.Event.{Event}
+use Rattle.dr_meaning.specs.declared.command.Polled.{Polled}
+use Rattle.dr_meaning.specs.declared.command.Polled.TheVariants.{Batch, Drained, Gating, Idle}
+use Rattle.dr_meaning.specs.declared.ends.Trouble.{Trouble}
+use Rattle.dr_meaning.specs.declared.ends.Trouble.TheVariants.{Memory, Refused}
+use Rattle.dr_meaning.specs.Calls.Calling.{PollsInto, CompletesBelow, SomeCalls}
+use Rattle.dr_meaning.specs.Calls.Ends.{Completes, Takes}
+use Rattle.dr_meaning.specs.Calls.Handling.{Relation}
+use Rattle.dr_workers.specs.Calls.Serving as worker
+use Rattle.dr_workers.specs.declared.fault.WorkFault.{WorkFault}
+use Rattle.dr_workers.proofs.Untroubled.{Answers, untroubled}
+use Rattle.dr_senders.specs.Calls.Ends.{ReceiverEnd}
+use Rattle.dr_senders.specs.Calls.Receiving.{received_of}
+use Rattle.dr_senders.specs.Calls.Telling.{receiver_does}
+use Rattle.dr_disruptor.proofs.Fine.{unstopped}
+
+polls : (a b : ReceiverEnd) (before after : List Event) (trouble : Trouble) → 0 < length before
+    → receiver_does a (PollsInto before after (Err trouble)) b → ⊥
+polls a b before after Memory some is = is
+polls a b before after (Refused r) some is =
+    ⊎_elim (λ no. false≢true no.0)
+    (λ there. ⊎_elim (λ no. false≢true no.0) (λ left. ⊎_elim (λ room. let none : length before ≡ 0 = eqb-true (length before) 0 room.0 in absurd (omega arith)) (λ more. more.1) left.1) there.1)
+    is.1.0
+
+takes : (a b : ReceiverEnd) (before after : List Event) (answer : Polled) → receiver_does a (PollsInto before after (Ok answer)) b
+    → Takes after (Ok answer) (received_of a.knows) (received_of b.knows)
+takes a b before after (Batch first count end) is = (let answers = is.1.1.2 in (answers.0, ap received_of answers.4))
+takes a b before after Drained is = (let answers = is.1.1.2 in ap received_of answers.2)
+takes a b before after Gating is = (let answers = is.1.1.2 in ap received_of answers.2)
+takes a b before after Idle is = (let answers = is.1.1.2 in ap received_of answers.2)
+
+fits : (a b : ReceiverEnd) (before after : List Event) (first count : ℕ) (end : Bool)
+    → receiver_does a (PollsInto before after (Ok (Batch first count end))) b → count ≤ length before
+fits a b before after first count end is = (let many = is.1.1.2.2 in omega arith)
+
+completes : (a b : ReceiverEnd) (upto : ℕ) (trouble : Trouble) → a.knows.completed ≤ upto → upto ≤ length a.knows.received
+    → receiver_does a (CompletesBelow upto (Err trouble)) b → ⊥
+completes a b upto Memory low high is = is
+completes a b upto (Refused r) low high is =
+    ⊎_elim (λ no. false≢true no.0)
+    (λ there. ⊎_elim (λ no. false≢true no.0)
+    (λ left. ⊎_elim (λ behind. let less = ltb-true upto a.knows.completed behind.0 in absurd (omega arith))
+    (λ last. ⊎_elim (λ beyond. let more = ltb-true (length a.knows.received) upto beyond.0 in absurd (omega arith)) (λ more. more.1) last.1) left.1) there.1)
+    is.1.0
+
+completed : (a b : ReceiverEnd) (upto : ℕ) → receiver_does a (CompletesBelow upto (Ok tt)) b
+    → Completes upto (Ok tt) (received_of a.knows) (received_of b.knows)
+completed a b upto is = is.1.1
+
+answers : Answers receiver_does (λ (e : ReceiverEnd). received_of e.knows)
+answers = record { polls = polls; takes = takes; fits = fits; completes = completes; completed = completed }
+
+pub no_trouble : {A : Type 0} (goes : Relation Event A) (start after : A) (given back : ReceiverEnd) (fault : Option WorkFault)
+    → SomeCalls receiver_does given back (worker.Serves 256 goes start after (Some (received_of given.knows)) (Some (received_of back.knows)) (λ turn. ⊥) (λ turn. ⊥) fault)
+    → given.knows.completed ≤ length given.knows.received → fault ≡ None
+no_trouble goes start after given back fault is begins =
+    let gate = is.holds.gate in
+    ⊎_elim (λ told. told.1 ∙ unstopped gate.stopped (λ stopped. (gate.may stopped).2))
+    (λ trouble. absurd (untroubled receiver_does (λ (e : ReceiverEnd). received_of e.knows) answers 256 (omega arith) given back is.calls trouble.0 begins is.lead is.holds.order trouble.1))
+    gate.answers

@@ -1,0 +1,108 @@
+-- What the workers of handlers and of senders promise, and what they gave back.
+use Rattle.std.specs.Prelude.{◌≡◌, ◌≢◌, ℕ, ◌+◌, ◌^◌, ◌≤◌, ◌/◌, ◌==◌, max, true, if◌then◌else◌, List, [], ◌∷◌, length, None, Some, IfNone}
+use Rattle.std.specs.Global.{Vec}
+use mathlib.Core.Option.{some}
+use lib.ListN.{get_elem?}
+use Rattle.std.specs.declared.thread.PromisedHandle.{PromisedHandle}
+use Rattle.dr_seq.specs.declared.event.Event.{Event}
+use Rattle.dr_meaning.specs.declared.mode.Mode.TheVariants.{Multi}
+use Rattle.dr_meaning.specs.Calls.Calling.{SomeCalls}
+use Rattle.dr_meaning.specs.Calls.Handling.{Relation}
+use Rattle.dr_meaning.specs.Calls.OpenFault.{has_bad_producers}
+use Rattle.dr_workers.specs.Calls.Serving as worker
+use Rattle.dr_workers.specs.Meaning.Work.{IsDone}
+use Rattle.dr_workers.specs.declared.ended.Ended.{Ended}
+use Rattle.dr_workers.specs.declared.fault.WorkFault.TheVariants.{Memory, Stopped}
+use Rattle.dr_senders.specs.Meaning.Shape.{Shape}
+use Rattle.dr_senders.specs.Meaning.Records.{halter_halted}
+use Rattle.dr_senders.specs.declared.record.Step.TheVariants.{HalterHalts}
+use Rattle.dr_senders.specs.Calls.Ends.{HalterEnd, HasStored, ReceiverEnd, SenderEnd, receiver_place, sender_place}
+use Rattle.dr_senders.specs.Calls.Receiving.{received_of}
+use Rattle.dr_senders.specs.Calls.Telling.{receiver_does, sender_does}
+use Rattle.dr_disruptor.specs.declared.fault.RunFault.{RunFault}
+use Rattle.dr_disruptor.specs.declared.fault.RunFault.TheVariants as fault
+use Rattle.dr_disruptor_senders.specs.declared.sending.SendsPromise.{SendsPromise}
+use Rattle.dr_disruptor_senders.specs.declared.sending.Sent.{Sent}
+use Rattle.dr_disruptor_senders.specs.declared.serving.Served.{Served}
+use Rattle.dr_disruptor_senders.specs.declared.serving.ServesPromise.{ServesPromise}
+
+-- a ring of a graph, so many slots and so many senders, for as many sequences as there may be
+abbrev pub shape_of : List (List ℕ) → ℕ → ℕ → Shape
+shape_of upstreams size senders = record { upstreams = upstreams; size = size; limit = 2 ^ 62; senders = senders }
+
+-- of a graph of so many handlers, where so many handlers and scripts were given: that the handlers differ, then that no ring has so many senders, and else a lack of memory or of a thread
+abbrev pub refusal_of : ℕ → ℕ → ℕ → RunFault
+refusal_of graph given scripts =
+    if graph == given then (if has_bad_producers (Multi scripts) then fault.Senders scripts else fault.Memory) else fault.Handlers graph given
+
+-- The handlers.
+
+-- a worker's calls, each poll with room for 256 events, took a handler through exactly what its end handed out, and it gave both back with the fault that these calls came to; without one the end was told that the ring drained, and all that it took is completed. With an open gate nobody stops it, and a ring's end takes no memory
+pub record Serving {A : Type 0} (goes : Relation Event A) (start : A) (given : ReceiverEnd) (back : Served A) : Type 0 where
+  pub place : receiver_place back.receiver ≡ receiver_place given
+  pub calls : SomeCalls receiver_does given back.receiver
+      (worker.Serves 256 goes start back.handler (Some (received_of given.knows)) (Some (received_of back.receiver.knows)) (λ turn. ⊥) (λ turn. ⊥) back.fault)
+  pub drained : IfNone back.fault (back.receiver.knows.told ≡ true)
+  pub done : IfNone back.fault (IsDone (received_of given.knows) (received_of back.receiver.knows))
+  pub stopped : back.fault ≢ Some Stopped
+  pub memory : back.fault ≢ Some Memory
+  -- an end that completed no more than it took refuses no call of such a worker
+  pub fine : given.knows.completed ≤ length given.knows.received → back.fault ≡ None
+
+abbrev pub Worker : Type 0 → Type 0
+Worker A = PromisedHandle (Served A) (ServesPromise A)
+
+-- the end that a handler's thread was given, and the handler
+abbrev pub given_end : {A : Type 0} → Worker A → ReceiverEnd
+given_end w = w.promise.end.value
+
+abbrev pub given_handler : {A : Type 0} → Worker A → A
+given_handler w = w.promise.start.value
+
+-- each worker gave back what it promised, in their order
+pub record AreKept {A : Type 0} (goes : Relation Event A) (workers : List (Worker A)) (served : List (Served A)) : Type 0 where
+  pub many : length served ≡ length workers
+  pub each : (h : ℕ) (back : Served A) → get_elem? served h ≡ some back
+      → (w : Worker A) × (get_elem? workers h ≡ some w) × Serving goes (given_handler w) (given_end w) back
+
+-- how workers ended whose numbers rise from a first one
+abbrev pub endings_from : {A : Type 0} → ℕ → List (Served A) → List Ended
+endings_from who [] = []
+endings_from who (s ∷ served) = record { who = who; fault = s.fault } ∷ endings_from (who + 1) served
+
+-- The senders.
+
+-- a worker's calls sent a script in claims of a quarter of the ring, as much of it as it says and all of it where it has no fault, and it gave its end back. With an open gate nobody stops it
+pub record Sending (size : ℕ) (script : List Event) (given : SenderEnd) (back : Sent) : Type 0 where
+  pub place : sender_place back.sender ≡ sender_place given
+  pub calls : SomeCalls sender_does given back.sender (worker.Sends (max (size / 4) 1) script (λ turn. ⊥) (λ turn. ⊥) back.produced)
+  pub within : back.produced.sent ≤ length script
+  pub all : IfNone back.produced.fault (back.produced.sent ≡ length script)
+  pub stopped : back.produced.fault ≢ Some Stopped
+
+abbrev pub Producer : Type 0
+Producer = PromisedHandle Sent SendsPromise
+
+-- the end that a sender's thread was given, the script, and the ring's size
+abbrev pub given_sender : Producer → SenderEnd
+given_sender w = w.promise.end.value
+
+abbrev pub given_script : Producer → Vec Event
+given_script w = w.promise.script.value
+
+abbrev pub given_size : Producer → ℕ
+given_size w = w.promise.size
+
+-- each script was sent by the sender at its place
+pub record AreSent (size : ℕ) (scripts : List (List Event)) (given : List SenderEnd) (sent : List Sent) : Type 0 where
+  pub many : length sent ≡ length scripts
+  pub each : (p : ℕ) (back : Sent) → get_elem? sent p ≡ some back
+      → (script : List Event) × (e : SenderEnd) × (get_elem? scripts p ≡ some script) × (get_elem? given p ≡ some e) × Sending size script e back
+
+abbrev pub sender_endings : ℕ → List Sent → List Ended
+sender_endings who [] = []
+sender_endings who (s ∷ sent) = record { who = who; fault = s.produced.fault } ∷ sender_endings (who + 1) sent
+
+-- a halter halted its ring, and did nothing else
+abbrev pub HaltsOnly : HalterEnd → HalterEnd → Type 0
+HaltsOnly t t' = (found : ℕ) × HasStored t HalterHalts (halter_halted t.knows found) t'

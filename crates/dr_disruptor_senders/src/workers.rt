@@ -1,0 +1,299 @@
+//! The threads of a ring's handlers and senders: how they are started, and what they give back.
+
+ghost use Rattle.std.specs.Prelude.{◌≡◌, ◌≤◌, ◌++◌, [], All, false, IfErr, IfOk, OnOk, length, map};
+ghost use Rattle.dr_meaning.specs.declared.mode.Mode.TheVariants.{Multi};
+ghost use Rattle.dr_meaning.specs.Calls.OpenFault.{has_bad_producers};
+ghost use Rattle.dr_senders.specs.Calls.Making.{AreFreshEnds};
+ghost use Rattle.dr_senders.specs.Calls.Settling.{AreAllEnds};
+ghost use Rattle.dr_senders.specs.Meaning.Shape.{IsShape};
+ghost use Rattle.dr_disruptor_senders.specs.Serving.{AreKept, AreSent, HaltsOnly, endings_from, given_end, given_handler, given_script, given_sender, given_size, refusal_of, sender_endings, shape_of};
+
+use crate::sending::{SendsPromise, Sent, send};
+use crate::serving::{Served, ServesPromise, serve};
+use dr_disruptor::{RunFault, WaitStrategy};
+use dr_graph::Graph;
+use dr_meaning::{Handler, MAX_LIMIT, Mode};
+use dr_senders::{Halter, Receiver, Sender, senders_ring};
+use dr_seq::{Event, Size};
+use dr_workers::{Bell, Ended, Ringing};
+use std::alloc::{AllocError, Global};
+use std::sync::{Arc, Wait};
+use std::thread::{self, PromisedHandle, Threads, join_promised};
+
+/// The number of the first sender's worker. Those of the handlers are below it.
+const FIRST_SENDER: usize = 16;
+
+/// A run's halter, which wakes its threads.
+pub(crate) type LiveHalter = Ringing<Halter, Arc<Bell, Global>>;
+
+/// A handler's thread.
+pub(crate) type Worker<H> = PromisedHandle<Served<H>, ServesPromise<H>>;
+
+/// A sender's thread.
+pub(crate) type Producer = PromisedHandle<Sent, SendsPromise>;
+
+/// The ends of a new ring for a graph, with as many handlers as it has and so many senders, and the bell that wakes
+/// those who park.
+pub(crate) fn open(
+    alloc: Global,
+    graph: &Graph,
+    size: Size,
+    handlers: usize,
+    scripts: usize,
+) -> Result<(Vec<Sender>, Vec<Receiver>, LiveHalter, Arc<Bell, Global>), RunFault>
+    ensures fresh { IfOk result (λ r. AreFreshEnds (shape_of graph.now.upstreams size scripts) r.0.items r.1.items r.2) }
+    ensures ends { IfOk result (λ r. AreAllEnds r.0.items r.1.items r.2) }
+    ensures shape { IfOk result (λ _. IsShape (shape_of graph.now.upstreams size scripts)) }
+    ensures many { IfOk result (λ r. (handlers ≡ length graph.now.upstreams) × (length r.1.items ≡ handlers) × (length r.0.items ≡ scripts)) }
+    ensures few { IfOk result (λ _. scripts ≤ 16) }
+    ensures fits { IfOk result (λ _. has_bad_producers (Multi scripts) ≡ false) }
+    ensures refused { IfErr result (λ e. e ≡ refusal_of (length graph.now.upstreams) handlers scripts) }
+{
+    let expected = graph.len();
+    if handlers != expected {
+        return Err(RunFault::Handlers {
+            graph: expected,
+            given: handlers,
+        });
+    }
+    if !Mode::Multi(scripts as u64).is_valid() {
+        return Err(RunFault::Senders { given: scripts });
+    }
+    let bell = Arc::new(alloc, Bell::new())?;
+    let theirs = Arc::try_clone(&bell)?;
+    let Ok((senders, receivers, halter)) = senders_ring(alloc, graph, size, MAX_LIMIT, scripts)
+    else {
+        return Err(RunFault::Memory);
+    };
+    Ok((senders, receivers, Ringing::new(halter, theirs), bell))
+}
+
+// Starts a thread for each handler with the end at its place. Where one cannot be started the earlier ones are in `started`.
+fn start_handlers<
+    R: Threads + Wait + Copy + Send + 'static,
+    H: Handler<Event> + Drop + Send + 'static,
+>(
+    rt: R,
+    started: &mut Vec<Worker<H>>,
+    receivers: Vec<Receiver>,
+    handlers: Vec<H>,
+    bell: &Arc<Bell, Global>,
+    strategy: WaitStrategy,
+) -> Result<(), AllocError>
+    requires none { started.old.items ≡ [] }
+    requires many { length receivers.items ≡ length handlers.items }
+    ensures ends { OnOk result (map given_end started.new.items ≡ receivers.items) }
+    ensures starts { OnOk result (map given_handler started.new.items ≡ handlers.items) }
+{
+    // A thread that is started has its place.
+    started.reserve(handlers.len())?;
+    let mut handlers = handlers.into_iter();
+    for receiver in receivers {
+        let Some(handler) = handlers.next() else {
+            unreachable!();
+        };
+        let bell = Arc::try_clone(bell)?;
+        let promise = ServesPromise::of(&receiver, &handler);
+        let who = started.len();
+        let Ok(worker) = thread::spawn_with(
+            &rt,
+            promise,
+            move || serve(&rt, who, receiver, handler, &bell, strategy),
+        ) else {
+            return Err(AllocError);
+        };
+        started.push(worker)?;
+    }
+    Ok(())
+}
+
+// Starts a thread for each script with the end at its place. Where one cannot be started the earlier ones are in `started`.
+fn start_senders<R: Threads + Wait + Copy + Send + 'static>(
+    rt: R,
+    started: &mut Vec<Producer>,
+    senders: Vec<Sender>,
+    scripts: Vec<Vec<Event>>,
+    bell: &Arc<Bell, Global>,
+    size: Size,
+    strategy: WaitStrategy,
+) -> Result<(), AllocError>
+    requires none { started.old.items ≡ [] }
+    requires many { length senders.items ≡ length scripts.items }
+    requires few { length scripts.items ≤ 16 }
+    ensures ends { OnOk result (map given_sender started.new.items ≡ senders.items) }
+    ensures scripts { OnOk result (map given_script started.new.items ≡ scripts.items) }
+    ensures sizes { OnOk result (All (λ w. given_size w ≡ size) started.new.items) }
+{
+    started.reserve(scripts.len())?;
+    let mut scripts = scripts.into_iter();
+    for sender in senders {
+        let Some(script) = scripts.next() else {
+            unreachable!();
+        };
+        let bell = Arc::try_clone(bell)?;
+        let promise = SendsPromise::of(&sender, &script, size);
+        let who = FIRST_SENDER + started.len();
+        let Ok(worker) = thread::spawn_with(
+            &rt,
+            promise,
+            move || send(&rt, who, sender, script, &bell, size, strategy),
+        ) else {
+            return Err(AllocError);
+        };
+        started.push(worker)?;
+    }
+    Ok(())
+}
+
+// Waits for handlers' threads whose results nobody wants.
+fn wait_for<R: Threads, H: Handler<Event> + Drop>(rt: &R, workers: Vec<Worker<H>>) {
+    for worker in workers {
+        let _served = worker.join(rt);
+    }
+}
+
+// The same of senders' threads.
+fn wait_for_senders<R: Threads>(rt: &R, workers: Vec<Producer>) {
+    for worker in workers {
+        let _sent = worker.join(rt);
+    }
+}
+
+/// Starts a thread for each handler of a new ring, with its end. Where a thread cannot be started, nothing is
+/// sent, and those that were started are joined.
+pub(crate) fn begin<
+    R: Threads + Wait + Copy + Send + 'static,
+    H: Handler<Event> + Drop + Send + 'static,
+>(
+    rt: R,
+    alloc: Global,
+    halter: &mut LiveHalter,
+    receivers: Vec<Receiver>,
+    handlers: Vec<H>,
+    bell: &Arc<Bell, Global>,
+    strategy: WaitStrategy,
+) -> Result<Vec<Worker<H>>, AllocError>
+    requires many { length receivers.items ≡ length handlers.items }
+    ensures halter { OnOk result (halter.new ≡ halter.old) }
+    ensures ends { IfOk result (λ workers. map given_end workers.items ≡ receivers.items) }
+    ensures starts { IfOk result (λ workers. map given_handler workers.items ≡ handlers.items) }
+{
+    let mut started = Vec::new(alloc);
+    if start_handlers(rt, &mut started, receivers, handlers, bell, strategy).is_err() {
+        halter.call(|end| end.halt());
+        wait_for(&rt, started);
+        return Err(AllocError);
+    }
+    Ok(started)
+}
+
+/// Sends each script by the sender at its place, on a thread of its own, and waits until all are sent. Where a
+/// thread cannot be started the ring is halted, and those that were started are joined.
+pub(crate) fn send_all<R: Threads + Wait + Copy + Send + 'static>(
+    rt: R,
+    alloc: Global,
+    halter: &mut LiveHalter,
+    senders: Vec<Sender>,
+    scripts: Vec<Vec<Event>>,
+    bell: &Arc<Bell, Global>,
+    size: Size,
+    strategy: WaitStrategy,
+) -> Result<Vec<Sent>, AllocError>
+    requires many { length senders.items ≡ length scripts.items }
+    requires few { length scripts.items ≤ 16 }
+    ensures halter { OnOk result (halter.new ≡ halter.old) }
+    ensures sent { IfOk result (λ sent. AreSent size (map (λ s. s.items) scripts.items) senders.items sent.items) }
+{
+    let mut started = Vec::new(alloc);
+    if start_senders(rt, &mut started, senders, scripts, bell, size, strategy).is_err() {
+        halter.call(|end| end.halt());
+        wait_for_senders(&rt, started);
+        return Err(AllocError);
+    }
+    match join_promised(&rt, started) {
+        Ok(sent) => Ok(sent),
+        Err(failed) => {
+            wait_for_senders(&rt, failed.value);
+            Err(AllocError)
+        }
+    }
+}
+
+/// Halts the ring, and has what each handler's thread gives back. Where memory runs out all threads end too, and
+/// what they give back is lost.
+pub(crate) fn joined<R: Threads, H: Handler<Event> + Drop>(
+    rt: &R,
+    halter: &mut LiveHalter,
+    workers: Vec<Worker<H>>,
+) -> Result<Vec<Served<H>>, AllocError>
+    ensures halts { HaltsOnly halter.old halter.new }
+    ensures kept { IfOk result (λ served. AreKept H.goes workers.items served.items) }
+{
+    halter.call(|end| end.halt());
+    match join_promised(rt, workers) {
+        Ok(served) => Ok(served),
+        Err(failed) => {
+            wait_for(rt, failed.value);
+            Err(AllocError)
+        }
+    }
+}
+
+/// What came back of the handlers' workers: the ends, the handlers, and how the workers ended.
+pub(crate) struct Back<H> {
+    pub(crate) receivers: Vec<Receiver>,
+    pub(crate) handlers: Vec<H>,
+    pub(crate) endings: Vec<Ended>,
+}
+
+// What handlers' workers gave back, each kind in a list of its own.
+pub(crate) fn apart<H: Drop>(alloc: Global, served: Vec<Served<H>>) -> Result<Back<H>, AllocError>
+    ensures receivers { IfOk result (λ back. back.receivers.items ≡ map (λ s. s.receiver) served.items) }
+    ensures handlers { IfOk result (λ back. back.handlers.items ≡ map (λ s. s.handler) served.items) }
+    ensures endings { IfOk result (λ back. back.endings.items ≡ endings_from 0 served.items) }
+{
+    let many = served.len();
+    let mut receivers = Vec::with_capacity(alloc, many)?;
+    let mut handlers = Vec::with_capacity(alloc, many)?;
+    let mut endings = Vec::with_capacity(alloc, many)?;
+    for one in served {
+        let Served {
+            receiver,
+            handler,
+            fault,
+        } = one;
+        endings.push(Ended {
+            who: handlers.len(),
+            fault,
+        })?;
+        receivers.push(receiver)?;
+        handlers.push(handler)?;
+    }
+    Ok(Back {
+        receivers,
+        handlers,
+        endings,
+    })
+}
+
+// The ends that senders' workers gave back. How they ended comes behind how the handlers' did.
+pub(crate) fn senders_apart(
+    alloc: Global,
+    sent: Vec<Sent>,
+    endings: &mut Vec<Ended>,
+) -> Result<Vec<Sender>, AllocError>
+    requires few { length sent.items ≤ 16 }
+    ensures senders { IfOk result (λ senders. senders.items ≡ map (λ s. s.sender) sent.items) }
+    ensures endings { OnOk result (endings.new.items ≡ endings.old.items ++ sender_endings 16 sent.items) }
+{
+    let mut senders = Vec::with_capacity(alloc, sent.len())?;
+    for one in sent {
+        let Sent { sender, produced } = one;
+        endings.push(Ended {
+            who: FIRST_SENDER + senders.len(),
+            fault: produced.fault,
+        })?;
+        senders.push(sender)?;
+    }
+    Ok(senders)
+}
