@@ -141,8 +141,8 @@ pub trait Outlet<E> {
     /// What a call with its answer tells of the end before and after it, as [`Inlet`] has it.
     ghost does: { Self → OutletCall E → Self → Type 0 } = { λ _ _ _. Unit {0} };
 
-    /// Takes the next events, as many as the barrier offers and `out` has room for, to the front
-    /// of `out`.
+    /// Takes some of the next events, at most as many as `out` has room for, to the front of `out`.
+    /// How many, each exchange's own contract says.
     fn poll_into(&mut self, out: &mut [E]) -> Result<Polled, Trouble>
         ensures kept { kept self.new ≡ kept self.old }
         ensures answer { PollAnswers (received self.old) out.old out.new result }

@@ -10,7 +10,7 @@ ghost use Rattle.dr_meaning.specs.Meaning.Transcript.{Transcript, LeadsTo};
 ghost use Rattle.dr_meaning.specs.Meaning.Laws.{Laws};
 ghost use Rattle.dr_meaning.specs.Meaning.Tells.{Tells};
 ghost use Rattle.dr_meaning.specs.Meaning.Progress.{NobodyIsStuck, CanFinish, GoOn, to_do};
-ghost use Rattle.dr_meaning.specs.Meaning.TooFar.{IsTooFar, pair, claim_of, receipt_of, completion_of, retirement_of, halt, drain, written, published, taken, completed, taken_by_both, join, two_published, first_receipt, second_receipt, completed_beside};
+ghost use Rattle.dr_meaning.specs.Meaning.TooFar.{IsTooFar, pair, claim_of, claim_up_to, receipt_of, completion_of, retirement_of, halt, drain, written, published, taken, completed, taken_by_both, join, two_published, first_receipt, second_receipt, completed_beside, taken_beside, completed_by_both};
 
 /// Every transcript that leads from the opening to a state of the machine has the five laws, at
 /// each of its beginnings.
@@ -22,26 +22,33 @@ pub fn every_transcript_is_lawful<E>()
 /// that comes again, or before an earlier one; a completion that is taken back, or of what was not
 /// taken; an event that an upstream, whichever, did not complete; a claim of a slot whose event a
 /// final handler, whichever, did not complete, also of one that a retirement left final; a claim of
-/// what is claimed already, or after a halt; and `Drained` before a halt, or before what is published
-/// was taken.
+/// what is claimed already, or that passes a sequence over, or after a halt; and `Drained` before a
+/// halt, before what is published was taken, or over a claim that is not published.
 pub fn laws_refuse_a_step_too_far()
     ensures other_event { IsTooFar pair published (receipt_of 0 6) }
     ensures unpublished { IsTooFar pair written (receipt_of 0 5) }
     ensures received_again { IsTooFar join (two_published ++ first_receipt 0 5 ∷ []) (second_receipt 0 5) }
     ensures out_of_order { IsTooFar join two_published (first_receipt 1 6) }
     ensures taken_back { IsTooFar pair completed (completion_of 0 0) }
+    ensures taken_back_later { IsTooFar join completed_by_both (completion_of 0 1) }
     ensures untaken { IsTooFar pair published (completion_of 0 1) }
+    ensures untaken_later { IsTooFar join (completed_beside 0) (completion_of 0 2) }
     ensures before_upstream { IsTooFar pair taken (receipt_of 1 5) }
     ensures before_first_upstream { IsTooFar join (completed_beside 1) (first_receipt 2 5) }
     ensures before_second_upstream { IsTooFar join (completed_beside 0) (first_receipt 2 5) }
+    ensures before_upstream_later { IsTooFar join (taken_beside ++ receipt_of 2 5 ∷ []) (second_receipt 2 6) }
     ensures no_room { IsTooFar pair taken_by_both (claim_of 1) }
+    ensures no_room_a_round_later { IsTooFar pair (taken_by_both ++ completion_of 1 1 ∷ claim_of 1 ∷ []) (claim_of 2) }
+    ensures no_room_for_the_last { IsTooFar pair [] (claim_up_to 0 1) }
     ensures no_room_after_retirement { IsTooFar pair (published ++ retirement_of 1 ∷ []) (claim_of 1) }
     ensures no_room_for_first_final { IsTooFar join (completed_beside 1 ++ retirement_of 2 ∷ []) (claim_of 2) }
     ensures no_room_for_second_final { IsTooFar join (completed_beside 0 ++ retirement_of 2 ∷ []) (claim_of 2) }
     ensures claimed_twice { IsTooFar pair (claim_of 0 ∷ []) (claim_of 0) }
+    ensures passed_over { IsTooFar join [] (claim_of 1) }
     ensures claimed_late { IsTooFar pair (halt ∷ []) (claim_of 0) }
     ensures drained_before_halt { IsTooFar pair [] drain }
     ensures drained_early { IsTooFar pair (published ++ halt ∷ []) drain }
+    ensures drained_over_a_claim { IsTooFar pair (written ++ halt ∷ []) drain }
 {}
 
 /// What a transcript says by its own entries is what the state that it leads to has.

@@ -1,5 +1,5 @@
 -- One step too far: an entry after which a transcript of the machine is lawful no more. The events are numbers here.
-use Rattle.std.specs.Prelude.{ℕ, false, true, [], ◌∷◌, ◌++◌}
+use Rattle.std.specs.Prelude.{ℕ, ◌+◌, ◌-◌, false, true, [], ◌∷◌, ◌++◌}
 use Rattle.dr_meaning.specs.declared.mode.Mode.TheVariants.{Single}
 use Rattle.dr_meaning.specs.declared.command.Command.TheVariants.{Claim, Write, Publish, Poll, Complete, Halt, Retire}
 use Rattle.dr_meaning.specs.declared.command.Reply.TheVariants.{Claimed, Written, Published, Batch, Drained, Completed, Halting, Retired}
@@ -11,8 +11,12 @@ use Rattle.dr_meaning.specs.Meaning.Laws.{Laws}
 abbrev pub pair : Setup
 pair = setup_of ([] ∷ (0 ∷ []) ∷ []) 1 Single 9
 
+-- a claim is given the sequences from one up to another, or one alone
+abbrev pub claim_up_to : ℕ → ℕ → Entry ℕ
+claim_up_to lo hi = entry_with (Claim 0 (hi + 1 - lo)) (Claimed lo hi) []
+
 abbrev pub claim_of : ℕ → Entry ℕ
-claim_of s = entry_with (Claim 0 1) (Claimed s s) []
+claim_of s = claim_up_to s s
 
 -- a handler receives an event as the first one
 abbrev pub receipt_of : ℕ → ℕ → Entry ℕ
@@ -54,7 +58,7 @@ join = setup_of ([] ∷ [] ∷ (0 ∷ 1 ∷ []) ∷ []) 2 Single 9
 -- the events 5 and 6 are published there
 abbrev pub two_published : Transcript ℕ
 two_published =
-    entry_with (Claim 0 2) (Claimed 0 1) [] ∷ entry_with (Write 0 0 5) Written [] ∷ entry_with (Write 0 1 6) Written [] ∷ entry_with (Publish 0 0 1) Published [] ∷ []
+    claim_up_to 0 1 ∷ entry_with (Write 0 0 5) Written [] ∷ entry_with (Write 0 1 6) Written [] ∷ entry_with (Publish 0 0 1) Published [] ∷ []
 
 -- a handler receives an event as the first of two, or as the second
 abbrev pub first_receipt : ℕ → ℕ → Entry ℕ
@@ -66,6 +70,13 @@ second_receipt h event = entry_with (Poll h 1) (Batch 1 1 true) (event ∷ [])
 -- one of the first two handlers took and completed the first event
 abbrev pub completed_beside : ℕ → Transcript ℕ
 completed_beside h = two_published ++ first_receipt h 5 ∷ completion_of h 1 ∷ []
+
+-- both first handlers took both events, and completed one or both of them
+abbrev pub taken_beside : Transcript ℕ
+taken_beside = two_published ++ first_receipt 0 5 ∷ second_receipt 0 6 ∷ completion_of 0 1 ∷ first_receipt 1 5 ∷ second_receipt 1 6 ∷ completion_of 1 1 ∷ []
+
+abbrev pub completed_by_both : Transcript ℕ
+completed_by_both = taken_beside ++ completion_of 0 2 ∷ completion_of 1 2 ∷ []
 
 -- a transcript leads to a state, and with one entry more it is lawful no more
 pub record IsTooFar (c : Setup) (t : Transcript ℕ) (e : Entry ℕ) : Type 0 where

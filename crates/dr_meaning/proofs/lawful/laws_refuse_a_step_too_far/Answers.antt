@@ -2,7 +2,7 @@ use Rattle.std.proofs.Common.{arith, ℕ, ◌≡◌, ◌≤◌, ◌∷◌, ◌++
 use Rattle.dr_meaning.specs.Meaning.Transcript.{Transcript}
 use Rattle.dr_meaning.specs.Meaning.Laws.{IsComplete, ReceivedInOrder, AfterUpstreams}
 use Rattle.dr_meaning.specs.Meaning.TooFar.{pair, claim_of, receipt_of, completion_of, retirement_of, halt, drain, written, published, taken, completed, taken_by_both}
-use Rattle.dr_meaning.specs.Meaning.TooFar.{join, two_published, first_receipt, second_receipt, completed_beside}
+use Rattle.dr_meaning.specs.Meaning.TooFar.{claim_up_to, join, two_published, first_receipt, second_receipt, completed_beside, taken_beside, completed_by_both}
 use Rattle.dr_meaning.proofs.lawful.laws_refuse_a_step_too_far.Goals as goal
 
 pub returns-clause-other_event : goal.returns-clause-other_event
@@ -165,5 +165,75 @@ returns-clause-no_room_for_second_final c = record {
   so_far = (_, (refl, refl, (refl, refl, (refl, refl, (refl, refl, (refl, refl, (refl, refl, (refl, refl, refl))))))));
   unlawful = λ laws.
       (let room : 3 ≤ 2 = laws.has_room (completed_beside 0 ++ retirement_of 2 ∷ []) [] (claim_of 2) refl 2 2 1 refl (1, omega arith, refl) in
+      omega arith);
+}
+
+pub returns-clause-taken_back_later : goal.returns-clause-taken_back_later
+unfolding Rattle.dr_meaning.specs.Meaning.Machine.least_outside
+returns-clause-taken_back_later c = record {
+  so_far = (_, (refl, refl, (refl, refl, (refl, refl, (refl, refl, (refl, refl, (refl, refl, (refl, refl, (refl, refl, (refl, refl, (refl, refl, (refl, refl, (refl, refl, refl)))))))))))));
+  unlawful = λ laws.
+      (let all : Transcript ℕ = completed_by_both ++ completion_of 0 1 ∷ [] in
+      let order : AfterUpstreams join all 0 = laws.after_upstreams all [] refl 0 (omega arith) in
+      let rises : 2 ≤ 1 = order.rises completed_by_both (completion_of 0 1 ∷ []) refl in
+      omega arith);
+}
+
+pub returns-clause-untaken_later : goal.returns-clause-untaken_later
+unfolding Rattle.dr_meaning.specs.Meaning.Machine.least_outside
+returns-clause-untaken_later c = record {
+  so_far = (_, (refl, refl, (refl, refl, (refl, refl, (refl, refl, (refl, refl, (refl, refl, refl)))))));
+  unlawful = λ laws.
+      (let all : Transcript ℕ = completed_beside 0 ++ completion_of 0 2 ∷ [] in
+      let order : AfterUpstreams join all 0 = laws.after_upstreams all [] refl 0 (omega arith) in
+      let took : 2 ≤ 1 = order.took in
+      omega arith);
+}
+
+pub returns-clause-before_upstream_later : goal.returns-clause-before_upstream_later
+unfolding Rattle.dr_meaning.specs.Meaning.Machine.least_outside
+returns-clause-before_upstream_later c = record {
+  so_far = (_, (refl, refl, (refl, refl, (refl, refl, (refl, refl, (refl, refl, (refl, refl, (refl, refl, (refl, refl, (refl, refl, (refl, refl, (refl, refl, refl))))))))))));
+  unlawful = λ laws.
+      (let all : Transcript ℕ = (taken_beside ++ receipt_of 2 5 ∷ []) ++ second_receipt 2 6 ∷ [] in
+      let order : AfterUpstreams join all 2 = laws.after_upstreams all [] refl 2 (omega arith) in
+      let after : 2 ≤ 1 = order.after 0 (0, omega arith, refl) in
+      omega arith);
+}
+
+pub returns-clause-no_room_for_the_last : goal.returns-clause-no_room_for_the_last
+unfolding Rattle.dr_meaning.specs.Meaning.Machine.least_outside
+returns-clause-no_room_for_the_last c = record {
+  so_far = (_, refl);
+  unlawful = λ laws.
+      (let room : 2 ≤ 1 = laws.has_room [] [] (claim_up_to 0 1) refl 0 1 1 refl (0, omega arith, refl) in
+      omega arith);
+}
+
+pub returns-clause-passed_over : goal.returns-clause-passed_over
+unfolding Rattle.dr_meaning.specs.Meaning.Machine.least_outside
+returns-clause-passed_over c = record {
+  so_far = (_, refl);
+  unlawful = λ laws.
+      (let next : 1 ≡ 0 = laws.gives_next [] [] (claim_of 1) refl 1 1 refl in
+      omega arith);
+}
+
+pub returns-clause-drained_over_a_claim : goal.returns-clause-drained_over_a_claim
+unfolding Rattle.dr_meaning.specs.Meaning.Machine.least_outside
+returns-clause-drained_over_a_claim c = record {
+  so_far = (_, (refl, refl, (refl, refl, (refl, refl, refl))));
+  unlawful = λ laws.
+      (let complete : IsComplete (written ++ halt ∷ []) 0 = laws.drained_is_complete (written ++ halt ∷ []) [] drain refl 0 1 refl refl in
+      let all : 0 ≡ 1 = complete.taken in
+      omega arith);
+}
+
+pub returns-clause-no_room_a_round_later : goal.returns-clause-no_room_a_round_later
+unfolding Rattle.dr_meaning.specs.Meaning.Machine.least_outside
+returns-clause-no_room_a_round_later c = record {
+  so_far = (_, (refl, refl, (refl, refl, (refl, refl, (refl, refl, (refl, refl, (refl, refl, (refl, refl, (refl, refl, refl)))))))));
+  unlawful = λ laws.
+      (let room : 3 ≤ 2 = laws.has_room (taken_by_both ++ completion_of 1 1 ∷ claim_of 1 ∷ []) [] (claim_of 2) refl 2 2 1 refl (0, omega arith, refl) in
       omega arith);
 }
