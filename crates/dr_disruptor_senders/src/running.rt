@@ -1,6 +1,8 @@
 //! A whole run over a ring with several senders.
 
-ghost use Rattle.std.specs.Prelude.{◌≡◌, ◌≤◌, None, IfErr, IfOk, length, map};
+ghost use Rattle.std.specs.Prelude.{◌≡◌, ◌≤◌, None, false, IfErr, IfOk, length, map};
+ghost use Rattle.dr_meaning.specs.declared.mode.Mode.TheVariants.{Multi};
+ghost use Rattle.dr_meaning.specs.Calls.OpenFault.{has_bad_producers};
 ghost use Rattle.dr_workers.specs.Meaning.FirstFault.{first_fault as first_of};
 ghost use Rattle.dr_senders.specs.Calls.Settling.{AreAllEnds};
 ghost use Rattle.dr_disruptor.specs.Running.{AreFine, IsFirst};
@@ -105,9 +107,10 @@ pub fn run_scripts<
 ) -> Result<Ran<H>, RunFault>
     // Where no worker has a fault, all handlers went through one list of events, a merge of the scripts.
     ensures whole { IfOk result (λ ran. AreFine ran.endings.items → AllWentThroughMerge H.goes (map (λ s. s.items) scripts.items) handlers.items ran.handlers.items) }
-    // It went over a new ring of this graph and size, and so it is of what was sent of the scripts, whatever the faults.
+    // Some run of a new ring of this graph and size comes to this, and to what was sent of the scripts, whatever the faults.
     ensures run { IfOk result (IsRan H.goes (shape_of graph.now.upstreams size (length scripts.items)) (map (λ s. s.items) scripts.items) handlers.items) }
     ensures many { IfOk result (λ _. length handlers.items ≡ length graph.now.upstreams) }
+    ensures few { IfOk result (λ _. has_bad_producers (Multi (length scripts.items)) ≡ false) }
     ensures refused { IfErr result (λ e. e ≡ refusal_of (length graph.now.upstreams) (length handlers.items) (length scripts.items)) }
 {
     let (given, many) = (handlers.len(), scripts.len());
