@@ -32,7 +32,7 @@ pub enum RunFault {
     /// An allocation failed, or a thread could not be started.
     #[error("no memory, or no thread")]
     Memory,
-    /// A worker did not do all of its work: a handler's by the handler's number, or the sender's, 16.
+    /// A worker did not do all of its work: a handler's by the handler's number, or a sender's, from 16 on.
     #[error("worker {who}: {fault}")]
     Worker { who: usize, fault: WorkFault },
 }

@@ -83,9 +83,9 @@ fn commands<W: Write>(
     Ok(())
 }
 
-/// Reads a file of commands to its end, and writes the line of each command as it goes. Records
-/// before `start` write no line. Where the run ends early, the lines of all earlier commands are
-/// written; at a failed write the last of them may be cut.
+/// Reads a file of commands to its end, and writes the line of each command. Records before
+/// `start` write no line. At a fault of the file the lines of all earlier commands are written; out
+/// of memory those of the first ones; at a failed write a beginning, whose last line may be cut.
 pub fn drive<R: Read, W: Write>(
     alloc: Global,
     reader: &mut Counted<R>,

@@ -15,7 +15,7 @@ use std::fmt;
 pub enum ReplayFault {
     /// The file is at fault, or what reads and writes it.
     File(FileFault),
-    /// A worker was refused a call, or was stopped at its gate. Workers are numbered as for gates.
+    /// A worker was stopped at its gate; none is refused a call. Workers are numbered as for gates.
     Worker { who: usize, fault: WorkFault },
     /// A history is not what the producers were to send, or a handler did not take all of it.
     Audit(AuditFault),

@@ -63,7 +63,7 @@ impl Sender {
     /// one that was written before.
     ///
     /// Refusals in their order: `NotClaimed` (nobody's), `AlreadyPublished`, `NotClaimed` (another
-    /// sender's). They change nothing.
+    /// sender's). They may have looked, and change nothing else.
     #[tactic(auto, using(crate::proofs::Stations::begins_same, crate::proofs::Stations::begins_on))]
     pub fn write(&mut self, sequence: u64, event: Event) -> Result<(), Refusal>
         ensures call { WriteCall self.old sequence event self.new result }
@@ -89,7 +89,7 @@ impl Sender {
     ///
     /// Refusals in their order: `BadCount` (`lo` above `hi`), `NotClaimed` (`hi` is nobody's), and
     /// of the first sequence that is refused `AlreadyPublished`, `NotClaimed` (another sender's) or
-    /// `NotWritten`. They change nothing.
+    /// `NotWritten`. They may have looked, and change nothing else.
     pub fn publish(&mut self, lo: u64, hi: u64) -> Result<(), Refusal>
         ensures call { PublishCall self.old lo hi self.new result }
         ensures beyond { lo ≤ hi → 2 ^ 62 ≤ hi → result ≡ Err NotClaimed }
@@ -127,7 +127,8 @@ impl Sender {
         self.station.halt();
     }
 
-    /// How many words the sender has looked at that other ends change, up to the greatest `u64`.
+    /// How often the sender looked at the claim word and at counts, its exchanges and halts among
+    /// them, marks aside, up to the greatest `u64`.
     pub fn looks(&self) -> u64
         ensures { result ≡ looks_counted self.now.knows.looks }
     {
