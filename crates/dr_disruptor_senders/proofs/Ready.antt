@@ -98,14 +98,14 @@ joins_ok goes ws items P (Err e) t ran joined is has then_is = absurd joined
 
 -- what a sender's worker did, of the end that it was given
 pub sends : (size cut : ℕ) (script events : List Event) (given from back to : SenderEnd) (produced : Produced) → from ≡ given → to ≡ back → events ≡ script → cut ≡ max (size / 4) 1
-    → sender_place back ≡ sender_place from → SomeCalls sender_does from back (worker.Sends cut events (λ turn. ⊥) (λ turn. ⊥) produced) → produced.sent ≤ length events
+    → sender_place back ≡ sender_place from → SomeCalls sender_does from back (worker.Sends cut events (λ passage. ⊥) (λ passage. ⊥) produced) → produced.sent ≤ length events
     → IfNone produced.fault (produced.sent ≡ length events) → produced.fault ≢ Some Stopped → Sending size script given (record { sender = to; produced = produced })
 sends size cut script events given from back to produced one other same is place calls within all stopped = record {
   place = ap sender_place other ∙ place ∙ ap sender_place one;
-  calls = subst (λ (e : SenderEnd). SomeCalls sender_does given e (worker.Sends (max (size / 4) 1) script (λ turn. ⊥) (λ turn. ⊥) produced)) (sym other)
-      (subst (λ (e : SenderEnd). SomeCalls sender_does e back (worker.Sends (max (size / 4) 1) script (λ turn. ⊥) (λ turn. ⊥) produced)) one
-      (subst (λ (n : ℕ). SomeCalls sender_does from back (worker.Sends n script (λ turn. ⊥) (λ turn. ⊥) produced)) is
-      (subst (λ (l : List Event). SomeCalls sender_does from back (worker.Sends cut l (λ turn. ⊥) (λ turn. ⊥) produced)) same calls)));
+  calls = subst (λ (e : SenderEnd). SomeCalls sender_does given e (worker.Sends (max (size / 4) 1) script (λ passage. ⊥) (λ passage. ⊥) produced)) (sym other)
+      (subst (λ (e : SenderEnd). SomeCalls sender_does e back (worker.Sends (max (size / 4) 1) script (λ passage. ⊥) (λ passage. ⊥) produced)) one
+      (subst (λ (n : ℕ). SomeCalls sender_does from back (worker.Sends n script (λ passage. ⊥) (λ passage. ⊥) produced)) is
+      (subst (λ (l : List Event). SomeCalls sender_does from back (worker.Sends cut l (λ passage. ⊥) (λ passage. ⊥) produced)) same calls)));
   within = subst (λ (l : List Event). produced.sent ≤ length l) same within;
   all = subst (λ (l : List Event). IfNone produced.fault (produced.sent ≡ length l)) same all;
   stopped = stopped;

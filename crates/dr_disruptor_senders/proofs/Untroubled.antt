@@ -54,7 +54,7 @@ answers : Answers receiver_does (λ (e : ReceiverEnd). received_of e.knows)
 answers = record { polls = polls; takes = takes; fits = fits; completes = completes; completed = completed }
 
 pub no_trouble : {A : Type 0} (goes : Relation Event A) (start after : A) (given back : ReceiverEnd) (fault : Option WorkFault)
-    → SomeCalls receiver_does given back (worker.Serves 256 goes start after (Some (received_of given.knows)) (Some (received_of back.knows)) (λ turn. ⊥) (λ turn. ⊥) fault)
+    → SomeCalls receiver_does given back (worker.Serves 256 goes start after (Some (received_of given.knows)) (Some (received_of back.knows)) (λ passage. ⊥) (λ passage. ⊥) fault)
     → given.knows.completed ≤ length given.knows.received → fault ≡ None
 no_trouble goes start after given back fault is begins =
     let gate = is.holds.gate in

@@ -41,7 +41,7 @@ refusal_of graph given scripts =
 pub record Serving {A : Type 0} (goes : Relation Event A) (start : A) (given : ReceiverEnd) (back : Served A) : Type 0 where
   pub place : receiver_place back.receiver ≡ receiver_place given
   pub calls : SomeCalls receiver_does given back.receiver
-      (worker.Serves 256 goes start back.handler (Some (received_of given.knows)) (Some (received_of back.receiver.knows)) (λ turn. ⊥) (λ turn. ⊥) back.fault)
+      (worker.Serves 256 goes start back.handler (Some (received_of given.knows)) (Some (received_of back.receiver.knows)) (λ passage. ⊥) (λ passage. ⊥) back.fault)
   pub drained : IfNone back.fault (back.receiver.knows.told ≡ true)
   pub done : IfNone back.fault (IsDone (received_of given.knows) (received_of back.receiver.knows))
   pub stopped : back.fault ≢ Some Stopped
@@ -75,7 +75,7 @@ endings_from who (s ∷ served) = record { who = who; fault = s.fault } ∷ endi
 -- a worker's calls sent a script in claims of a quarter of the ring, as much of it as it says and all of it where it has no fault, and it gave its end back. With an open gate nobody stops it
 pub record Sending (size : ℕ) (script : List Event) (given : SenderEnd) (back : Sent) : Type 0 where
   pub place : sender_place back.sender ≡ sender_place given
-  pub calls : SomeCalls sender_does given back.sender (worker.Sends (max (size / 4) 1) script (λ turn. ⊥) (λ turn. ⊥) back.produced)
+  pub calls : SomeCalls sender_does given back.sender (worker.Sends (max (size / 4) 1) script (λ passage. ⊥) (λ passage. ⊥) back.produced)
   pub within : back.produced.sent ≤ length script
   pub all : IfNone back.produced.fault (back.produced.sent ≡ length script)
   pub stopped : back.produced.fault ≢ Some Stopped
