@@ -321,6 +321,7 @@ module _ {A : Type 0} (goes : Relation Event A) (k : Shape) (scripts : List (Lis
     served = served;
     halter = joined.after;
     halts = subst (λ (e : HalterEnd). HaltsOnly e joined.after) (fresh.halter ∙ ap (λ (r : TableId). at_ring r k record { looks = [] }) same_ring) joined.halts;
+    ends = joined.ends;
     run = joined.run;
     sending = λ p script at. let x = sender_place p script at in (x.back, x.at_back, x.sending);
     serving = λ h start at.

@@ -46,6 +46,12 @@ taken_in ran h = (counts_at ran.settled.handlers.items h).taken
 abbrev pub completed_in : {A : Type 0} → Ran A → ℕ → ℕ
 completed_in ran h = (counts_at ran.settled.handlers.items h).completed
 
+-- the ends that came together are these
+pub record AreSettled {A : Type 0} (ran : Ran A) (ss : List SenderEnd) (rs : List ReceiverEnd) (t : HalterEnd) : Type 0 where
+  pub senders : ran.settled.senders.value.items ≡ ss
+  pub receivers : ran.settled.receivers.value.items ≡ rs
+  pub halter : ran.settled.halter.value ≡ t
+
 -- what came of scripts over a new ring of this shape, each sent by a worker of its own
 pub record IsRan {A : Type 0} (goes : Relation Event A) (k : Shape) (scripts : List (List Event)) (starts : List A) (ran : Ran A) : Type 0 where
   -- what the workers gave back, and the halter, which halted the ring once
@@ -53,7 +59,8 @@ pub record IsRan {A : Type 0} (goes : Relation Event A) (k : Shape) (scripts : L
   pub served : List (Served A)
   pub halter : HalterEnd
   pub halts : HaltsOnly (at_ring halter.ring k record { looks = [] }) halter
-  -- one run came to all ends of the ring
+  -- they are the ends that came together at last, and one run came to all of them
+  pub ends : AreSettled ran (map (λ s. s.sender) senders) (map (λ s. s.receiver) served) halter
   pub run : HasRun (map (λ s. s.sender) senders) (map (λ s. s.receiver) served) halter ran.settled.claimed ran.settled.is_halted
   -- each script was sent by the sender at its place, and each handler had its events from the receiver at its place
   pub sending : (p : ℕ) (script : List Event) → get_elem? scripts p ≡ some script
@@ -76,6 +83,7 @@ pub record IsJoined {A : Type 0} (goes : Relation Event A) (workers : List (Work
   pub kept : AreKept goes workers served
   pub after : HalterEnd
   pub halts : HaltsOnly halter after
+  pub ends : AreSettled ran (map (λ s. s.sender) sent) (map (λ s. s.receiver) served) after
   pub run : HasRun (map (λ s. s.sender) sent) (map (λ s. s.receiver) served) after ran.settled.claimed ran.settled.is_halted
   pub counts : ran.settled.handlers.items ≡ map (λ e. handler_counts e.knows) (map (λ s. s.receiver) served)
   pub handlers : ran.handlers.items ≡ map (λ s. s.handler) served

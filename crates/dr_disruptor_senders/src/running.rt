@@ -107,7 +107,7 @@ pub fn run_scripts<
 ) -> Result<Ran<H>, RunFault>
     // Where no worker has a fault, all handlers went through one list of events, a merge of the scripts.
     ensures whole { IfOk result (λ ran. AreFine ran.endings.items → AllWentThroughMerge H.goes (map (λ s. s.items) scripts.items) handlers.items ran.handlers.items) }
-    // Some run of a new ring of this graph and size comes to this, and to what was sent of the scripts, whatever the faults.
+    // It went over a new ring of this graph and size, and so it is of what was sent of the scripts, whatever the faults.
     ensures run { IfOk result (IsRan H.goes (shape_of graph.now.upstreams size (length scripts.items)) (map (λ s. s.items) scripts.items) handlers.items) }
     ensures many { IfOk result (λ _. length handlers.items ≡ length graph.now.upstreams) }
     ensures few { IfOk result (λ _. has_bad_producers (Multi (length scripts.items)) ≡ false) }

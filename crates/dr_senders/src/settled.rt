@@ -14,14 +14,18 @@ use crate::receiver::Receiver;
 use crate::sender::Sender;
 use dr_runs::HandlerCounts;
 use std::alloc::Global;
+use std::snapshot::Snapshot;
 use std::sync::Arc;
 
-/// How far a ring came.
+/// How far a ring came, and, in contracts alone, which ends came together.
 #[derive(Drop)]
 pub struct Settled {
     claimed: u64,
     is_halted: bool,
     handlers: Vec<HandlerCounts>,
+    senders: Snapshot<Vec<Sender>>,
+    receivers: Snapshot<Vec<Receiver>>,
+    halter: Snapshot<Halter>,
 }
 
 impl Settled {
@@ -110,9 +114,15 @@ fn gather_receivers(
 /// each final handler completed.
 pub fn settle(senders: Vec<Sender>, receivers: Vec<Receiver>, halter: Halter) -> Settled
     requires { AreAllEnds senders.items receivers.items halter }
+    ensures ends { (result.senders.value.items ≡ senders.items) × (result.receivers.value.items ≡ receivers.items) × (result.halter.value ≡ halter) }
     ensures handlers { result.handlers.items ≡ map (λ e. handler_counts e.knows) receivers.items }
     ensures run { HasRun senders.items receivers.items halter result.claimed result.is_halted }
 {
+    let ends = (
+        Snapshot::of(&senders),
+        Snapshot::of(&receivers),
+        Snapshot::of(&halter),
+    );
     let ring = halter.ring;
     let mut seat = halter.seat;
     let mut counts = halter.counts;
@@ -124,5 +134,8 @@ pub fn settle(senders: Vec<Sender>, receivers: Vec<Receiver>, halter: Halter) ->
         claimed: claimed_in(found),
         is_halted: found >= HALT_BIT,
         handlers: counts,
+        senders: ends.0,
+        receivers: ends.1,
+        halter: ends.2,
     }
 }

@@ -38,6 +38,11 @@ returns g c =
       kept = c.in_ok-served.ensures.kept;
       after = c.joined.new.halter;
       halts = c.joined.ensures.halts;
+      ends = record {
+        senders = settled.ensures.ends.0 ∙ c.in_ok-senders.ensures.senders;
+        receivers = settled.ensures.ends.1 ∙ back.ensures.receivers;
+        halter = settled.ensures.ends.2 ∙ c.into_end.ensures;
+      };
       run = same_run c.in_ok-senders.senders.items (map (λ b. b.sender) sent.items) back.field-0.receivers.items (map (λ b. b.receiver) served) c.into_end.result c.joined.new.halter settled.result.claimed settled.result.is_halted c.in_ok-senders.ensures.senders back.ensures.receivers c.into_end.ensures settled.ensures.run;
       counts = settled.ensures.handlers ∙ ap (map (λ (e : ReceiverEnd). handler_counts e.knows)) back.ensures.receivers;
       handlers = back.ensures.handlers;

@@ -76,6 +76,11 @@ returns-clause-whole g c =
     went_whole g.H.Handler.goes k scripts c.args.handlers.items ran made.senders.items made.receivers.items made.halter begun.workers.items v.items shape fresh begun.ensures.ends begun.ensures.starts are
     (subst (λ (t : HalterEnd). IsJoined g.H.Handler.goes begun.workers.items v.items t ran) (same ∙ begun.ensures.halter) joined))
 
+pub returns-clause-few : goal.returns-clause-few
+returns-clause-few g c =
+    let long : c.len-many.result ≡ length c.args.scripts.items = search rules in
+    subst (λ (n : ℕ). has_bad_producers (Multi n) ≡ false) long c.in_ok-senders.ensures.fits
+
 pub returns-in_err-ran-clause-refused : goal.returns-in_err-ran-clause-refused
 returns-in_err-ran-clause-refused g c =
     let made = c.in_ok-senders in
