@@ -1,0 +1,36 @@
+//! The ring over plain memory with several senders: each hands events of any type to a graph of
+//! receivers, each end on a thread of its own. An event lies once in memory, and tokens of it travel.
+//!
+//! Begin with `specs/Meaning`: `Words` says where each word lies, `Records` what each kind of step
+//! makes of what its end knows, `Rule` is what holds between any two steps, `Lying` where each token
+//! is, and `Steps` lists the kinds.
+#![tactic(auto)]
+
+mod answers;
+mod claiming;
+mod dealt;
+mod events;
+mod exchanges;
+mod inlet;
+pub mod laws;
+mod lending;
+mod opening;
+mod outlets;
+mod owned;
+mod plan;
+mod polling;
+mod publishing;
+mod receiver;
+pub mod record;
+mod sender;
+mod taking;
+mod updating;
+mod writing;
+
+pub use claiming::ClaimFault;
+pub use events::Events;
+pub use laws::Halter;
+pub use opening::senders_ring;
+pub use plan::Plan;
+pub use receiver::Receiver;
+pub use sender::Sender;
