@@ -48,3 +48,12 @@ pub mod PublishReplies
 pub mod EndReplies
 pub mod Sequel
 pub mod Dealing
+pub mod Owners
+pub mod Settling
+pub mod Together
+pub mod Gathering
+pub mod Ending
+pub mod Bringing
+pub mod Returning
+pub mod Rowed
+pub mod Finished

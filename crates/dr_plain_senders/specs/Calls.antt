@@ -10,3 +10,4 @@ pub mod Sending
 pub mod Writing
 pub mod Publishing
 pub mod Inlets
+pub mod Settling

@@ -12,3 +12,7 @@ pub mod Refusing
 pub mod Scans
 pub mod Polling
 pub mod Publishing
+pub mod Gathering
+pub mod Gathered
+pub mod Bringing
+pub mod Finishing

@@ -1,12 +1,14 @@
 //! Rows of tokens, one a cell or a slot. None has any bytes.
 
 ghost use Rattle.std.specs.Fn.{FnOnceReturnsAtMut};
-ghost use Rattle.std.specs.Prelude.{◌≡◌, ◌<◌, ◌≤◌, replicate, length, slice_set, IfOk};
+ghost use Rattle.std.specs.Prelude.{◌≡◌, ◌<◌, ◌≤◌, replicate, length, map, slice_set, Some, IfOk};
 ghost use mathlib.Core.Option.{some};
 ghost use lib.ListN.{get_elem?};
 ghost use Rattle.dr_cells.specs.Hold.{whole, IsWhole};
 ghost use Rattle.dr_cells.specs.Tokens.{no_token, token_at, IsOf, IsAll};
+ghost use Rattle.dr_plain_senders.specs.Inside.Fits.{cells_of};
 ghost use Rattle.dr_plain_senders.specs.Inside.Making.{IsDealt};
+ghost use Rattle.dr_plain_senders.specs.Inside.Finishing.{AreAllWhole};
 
 use dr_cells::{Cells, Row, Token};
 use std::alloc::{AllocError, Global};
@@ -71,4 +73,18 @@ pub(crate) fn change_in<T, F: FnOnce(&mut T)>(
     ensures { (was : T) × (now : T) × (token.old.hold ≡ whole was) × (token.new ≡ token_at cells.ptr place (whole now)) × FnOnceReturnsAtMut F.FnOnce change was tt now }
 {
     change(token.get_mut(cells, place));
+}
+
+/// The row of all cells of a strip, from their tokens.
+pub(crate) fn whole_row<T>(cells: Cells<T>, mut tokens: Vec<Token<T>>) -> Row<T>
+    requires { AreAllWhole cells.ptr tokens.items }
+    ensures all { IsAll cells.ptr (length tokens.items) result }
+    ensures items { map (λ x. Some x) result.items ≡ cells_of tokens.items }
+{
+    let mut row = Row::none(cells);
+    for place in 0..tokens.len() {
+        let token = put_at(&mut tokens, place, Token::blank());
+        row.give(token);
+    }
+    row
 }

@@ -9,6 +9,7 @@ mod halter;
 mod plays;
 mod receiver;
 mod sender;
+pub(crate) mod settling;
 
 ghost use Rattle.std.specs.Prelude.{List, ℕ, ◌≡◌, ◌↔◌, ◌<◌, ◌≤◌, true, length, slice_index};
 ghost use Rattle.dr_seq.specs.Rounds.{entry_of};

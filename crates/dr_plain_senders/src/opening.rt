@@ -15,8 +15,10 @@ ghost use Rattle.dr_plain_senders.specs.Inside.Seats.{IsAtTable, known_senders, 
 ghost use Rattle.dr_plain_senders.specs.Inside.Stations.{IsKeyed};
 ghost use Rattle.dr_plain_senders.specs.Inside.Making.{AreFirst};
 ghost use Rattle.dr_plain_senders.specs.Calls.Making.{sender_at, receiver_at, AreFreshEnds, fault_of};
+ghost use Rattle.dr_plain_senders.specs.Calls.Settling.{AreAllEnds};
 
 use crate::dealt::{blanks, deal};
+use crate::gathered::Gathered;
 use crate::laws::{Halter, ReceiverStation, RingBody, RingSeat, RingTable, SenderStation};
 use crate::owned::Owned;
 use crate::plan::Plan;
@@ -126,6 +128,7 @@ fn ends<T>(
     ensures { IfOk result (λ made. AreFreshEnds plan made.0.items made.1.items made.2) }
 {
     let words = vec![in alloc; 0; plan.words()]?;
+    let gathered = Gathered::of(alloc, plan.handlers(), plan.size().get() as usize)?;
     let Ok((table, mut seat)) = RingTable::new(alloc, words.as_slice(), tokens, &plan) else {
         return Err(AllocError);
     };
@@ -133,7 +136,13 @@ fn ends<T>(
     let rest = ring.table.shared.split_seat::<Cut>(&mut seat);
     let (senders, rest) = senders(alloc, &ring, rest)?;
     let receivers = receivers(alloc, &ring, rest)?;
-    Ok((senders, receivers, Halter { ring, seat, strip }))
+    let halter = Halter {
+        ring,
+        seat,
+        strip,
+        gathered,
+    };
+    Ok((senders, receivers, halter))
 }
 
 // What a ring is made for, and tokens for its slots, all of no cell.
@@ -175,6 +184,7 @@ pub fn senders_ring<T: Drop>(
 ) -> Result<(Vec<Sender<T>>, Vec<Receiver<T>>, Halter<T>), OpenFault>
     requires events { length events.items ≡ size }
     ensures made { IfOk result (λ made. (strip : Ptr) × AreFreshEnds (record { upstreams = graph.now.upstreams; size = size; limit = limit; senders = senders; strip = strip }) made.0.items made.1.items made.2) }
+    ensures all { IfOk result (λ made. AreAllEnds made.0.items made.1.items made.2) }
     ensures fits { IsOk result → (has_bad_producers (Multi senders) ≡ false) × (is_bad_limit limit ≡ false) }
     ensures refused { IfErr result (λ fault. fault ≡ fault_of senders limit) }
 {

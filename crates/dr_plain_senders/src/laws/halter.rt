@@ -7,6 +7,7 @@ ghost use Rattle.dr_plain_senders.specs.Calls.Ends.{HasStored};
 
 use super::plays::Halt;
 use super::{RingBody, RingSeat};
+use crate::gathered::Gathered;
 use crate::plan::{CLAIM_WORD, HALT_BIT};
 use dr_cells::Strip;
 use std::alloc::Global;
@@ -20,6 +21,7 @@ pub struct Halter<T> {
     pub(crate) seat: RingSeat<T>,
     // The memory of the events, which comes back once all ends come together.
     pub(crate) strip: Strip<T>,
+    pub(crate) gathered: Gathered<T>,
 }
 
 impl<T> Model for Halter<T> {
@@ -32,7 +34,7 @@ impl<T> Model for Halter<T> {
 
     ghost view = { λ s. halter_stand s.seat.table_id (arc_value s.ring).plan s.seat.me };
 
-    ghost invariant = { λ s. HalterSits (arc_value s.ring).table.shared.table_id s.seat.table_id (arc_value s.ring).table.shared.key (arc_value s.ring).plan (end_of s.seat.me) s.strip.cells.ptr s.strip.len };
+    ghost invariant = { λ s. HalterSits (arc_value s.ring).table.shared.table_id s.seat.table_id (arc_value s.ring).table.shared.key (arc_value s.ring).plan (end_of s.seat.me) s.strip.cells.ptr s.strip.len s.gathered };
 }
 
 impl<T> Halter<T> {
