@@ -32,8 +32,7 @@ use Rattle.dr_plain_senders.specs.declared.record.EndRecord.TheVariants.{Sends, 
 use Rattle.dr_plain_senders.specs.declared.record.Step.{Step}
 use Rattle.dr_plain_senders.specs.declared.record.Step.TheVariants.{SenderLooksAtClaims, SenderLooksAtCount, SenderClaims, SenderPublishes, SenderLooksAtMark, SenderHalts}
 use Rattle.dr_plain_senders.specs.declared.record.Step.TheVariants.{ReceiverLooksAtClaims, ReceiverLooksAtMark, ReceiverLooksAtCount, ReceiverCompletes, HalterHalts}
-use Rattle.dr_plain_senders.specs.Meaning.Records.{events_of, Owns, published, brought, sender_looked, mark_found, claimed_from, claims_looked, taken_at_mark, mark_looked}
-use Rattle.dr_plain_senders.specs.Meaning.Records.{taken_at_count, receiver_looked, completed_to, halter_halted, SeesRoom, fresh_stage}
+use Rattle.dr_plain_senders.specs.Meaning.Records.{events_of, Owns, published, brought, sender_looked, mark_found, claimed_from, claims_looked, taken_at_mark, mark_looked, taken_at_count, receiver_looked, completed_to, halter_halted, SeesRoom, fresh_stage}
 use Rattle.dr_plain_senders.specs.Meaning.Rule.{World, KeepsRule}
 use Rattle.dr_plain_senders.specs.Meaning.Lying.{Laid, Lies}
 use Rattle.dr_plain_senders.specs.Meaning.Steps.{Happens, sender_knows, sender_claims, sender_publishes, receiver_knows, halted_words}
