@@ -57,3 +57,5 @@ pub mod Bringing
 pub mod Returning
 pub mod Rowed
 pub mod Finished
+pub mod ClaimReplies
+pub mod PollReplies

@@ -209,7 +209,7 @@ module _ {T : Type 0} where
       (leads_one k Halt Halting [] (picture_of k w) (shown k w.stages (takens w) (counts_of k w.words) true) refl)
 
   -- what is offered to a handler is claimed
-  offer_claimed : (k : Shape) (w : World T) (h : ℕ) → h < handlers_of k → KeepsRule k w → available (ring_setup k) (picture_of k w) h ≤ length w.stages
+  pub offer_claimed : (k : Shape) (w : World T) (h : ℕ) → h < handlers_of k → KeepsRule k w → available (ring_setup k) (picture_of k w) h ≤ length w.stages
   offer_claimed k w h inside K =
       offered_at_most (picture_of k w) (upstreams_of k.upstreams h) (length w.stages)
       (front_within k w.stages (takens w) (counts_of k w.words) (halted w.words))
@@ -252,7 +252,7 @@ module _ {T : Type 0} where
       ]
 
   -- what is not marked is not published
-  unmarked_offers : (k : Shape) (w : World T) (h : ℕ) (r : ReceiverRecord T) → get_elem? w.receivers h ≡ some r → upstreams_of k.upstreams h ≡ [] → KeepsRule k w
+  pub unmarked_offers : (k : Shape) (w : World T) (h : ℕ) (r : ReceiverRecord T) → get_elem? w.receivers h ≡ some r → upstreams_of k.upstreams h ≡ [] → KeepsRule k w
       → not (is_marked_next k r (word_at w.words (mark_word k (length r.received)))) ≡ true → available (ring_setup k) (picture_of k w) h ≤ length r.received
   unmarked_offers k w h r at none K told =
       let n = length r.received in let found = word_at w.words (mark_word k n) in let m = picture_of k w in
@@ -273,7 +273,7 @@ module _ {T : Type 0} where
   offered_below m [] u has = absurd (let lt = has.1 in omega arith)
   offered_below m (x ∷ xs) u has = least_low (λ h. get_or m.completed h 0) (x ∷ xs) has.0 u has.1 has.2
 
-  behind_offers : (k : Shape) (w : World T) (h u : ℕ) (r : ReceiverRecord T) → get_elem? w.receivers h ≡ some r → Contains (upstreams_of k.upstreams h) u
+  pub behind_offers : (k : Shape) (w : World T) (h u : ℕ) (r : ReceiverRecord T) → get_elem? w.receivers h ≡ some r → Contains (upstreams_of k.upstreams h) u
       → KeepsRule k w → nat_le (word_at w.words (count_word u)) (length r.received) ≡ true → available (ring_setup k) (picture_of k w) h ≤ length r.received
   behind_offers k w h u r at has K told =
       let i = upstream_inside k K.shape.graph h u (handler_inside k w h r at K) has in let c = count_at k w.words u i in

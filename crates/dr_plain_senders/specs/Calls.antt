@@ -11,3 +11,4 @@ pub mod Writing
 pub mod Publishing
 pub mod Inlets
 pub mod Settling
+pub mod Replies

@@ -21,6 +21,7 @@ ghost use Rattle.dr_plain_senders.specs.Meaning.Words.{claim_word, mark_word, is
 ghost use Rattle.dr_plain_senders.specs.Meaning.Rule.{World, KeepsRule};
 ghost use Rattle.dr_plain_senders.specs.declared.record.Step.{Step};
 ghost use Rattle.dr_plain_senders.specs.Meaning.Moments.{Runs, new_world, picture_of, IsShut, RefusesByMark, NothingFalls};
+ghost use Rattle.dr_plain_senders.specs.Calls.Replies.{RepliesAsAnswered};
 
 use crate::plan::Plan;
 use crate::record::View;
@@ -97,9 +98,10 @@ impl<T> Lends<T> for Brand {
 /// their events lead the machine to the ring's picture, in which nobody is stuck, and the
 /// transcript has the five laws. A sequence is published exactly where the mark in its cell is of
 /// its round or a later one, so one look at the mark tells it, and with it why the machine refuses
-/// a write of a sequence that is not the sender's own, or is published. No handler's count falls,
-/// and no claim is taken back. Once a ring is halted, nothing more is claimed. It does nothing when
-/// it runs: the contract is the theorem.
+/// a write of a sequence that is not the sender's own, or is published. A claim and a poll that
+/// takes nothing by what the deciding look finds, and a completion, are answered as the machine then
+/// replies on the picture. No handler's count falls, and no claim is taken back. Once a ring is
+/// halted, nothing more is claimed. It does nothing when it runs: the contract is the theorem.
 pub fn moments<T>()
     ensures rule { (k : Shape) (steps : List (Step T)) (entries : Transcript T) (w : World T) → IsShape k → Runs k steps entries (new_world k) w → KeepsRule k w }
     ensures leads { (k : Shape) (steps : List (Step T)) (entries : Transcript T) (w : World T) → IsShape k → Runs k steps entries (new_world k) w → LeadsTo (ring_setup k) entries (picture_of k w) }
@@ -107,6 +109,7 @@ pub fn moments<T>()
     ensures progress { (k : Shape) (steps : List (Step T)) (entries : Transcript T) (w : World T) → IsShape k → Runs k steps entries (new_world k) w → NobodyIsStuck (ring_setup k) (picture_of k w) }
     ensures marks { (k : Shape) (steps : List (Step T)) (entries : Transcript T) (w : World T) → IsShape k → Runs k steps entries (new_world k) w → (s : ℕ) → ((picture_of k w).published s ≡ true) ↔ (entry_of k.size s ≤ slice_index w.words (mark_word k s)) }
     ensures refused { (k : Shape) (steps : List (Step T)) (entries : Transcript T) (w : World T) → IsShape k → Runs k steps entries (new_world k) w → (p s : ℕ) (event : T) → p < k.senders → IsShut w p s → RefusesByMark k w p s event }
+    ensures replies { (k : Shape) (steps : List (Step T)) (entries : Transcript T) (w : World T) → IsShape k → Runs k steps entries (new_world k) w → RepliesAsAnswered k w }
     ensures rises { (k : Shape) (steps more : List (Step T)) (entries rest : Transcript T) (w u : World T) → IsShape k → Runs k steps entries (new_world k) w → Runs k more rest w u → NothingFalls k w u }
     ensures halted { (k : Shape) (steps more : List (Step T)) (entries rest : Transcript T) (w u : World T) → IsShape k → Runs k steps entries (new_world k) w → Runs k more rest w u → is_halted (slice_index w.words claim_word) ≡ true → length u.stages ≡ length w.stages }
 {

@@ -15,6 +15,8 @@ use Rattle.dr_plain_senders.proofs.Facts.{cases_option}
 use Rattle.dr_plain_senders.proofs.Keeps.{keeps_runs}
 use Rattle.dr_plain_senders.proofs.Pictures.{lead_runs}
 use Rattle.dr_plain_senders.proofs.Beginning.{kept_new_world, opens}
+use Rattle.dr_plain_senders.proofs.ClaimReplies.{refused_replies, claimed_replies}
+use Rattle.dr_plain_senders.proofs.PollReplies.{poll_replies, complete_replies}
 use Rattle.dr_plain_senders.proofs.Halting.{halted_runs}
 use Rattle.dr_plain_senders.proofs.Rising.{rose_runs}
 use Rattle.dr_plain_senders.proofs.Shutting.{refused_by_mark}
@@ -63,6 +65,15 @@ returns-clause-marks g c k steps entries w shape runs s =
 pub returns-clause-refused : goal.returns-clause-refused
 returns-clause-refused g c k steps entries w shape runs p s event who shut =
     refused_by_mark k w p s event (keeps_runs k steps entries (new_world k) w runs (kept_new_world _ k shape)) who shut
+
+pub returns-clause-replies : goal.returns-clause-replies
+returns-clause-replies g c k steps entries w shape runs =
+    let K = keeps_runs k steps entries (new_world k) w runs (kept_new_world _ k shape) in record {
+      refused = refused_replies k w K;
+      claimed = claimed_replies k w K;
+      poll = poll_replies k w K;
+      complete = complete_replies k w K;
+    }
 
 pub returns-clause-rises : goal.returns-clause-rises
 returns-clause-rises g c k steps more entries rest w u shape runs on =
