@@ -57,5 +57,7 @@ pub mod Bringing
 pub mod Returning
 pub mod Rowed
 pub mod Finished
+pub mod OpenWrites
+pub mod StretchReplies
 pub mod ClaimReplies
 pub mod PollReplies

@@ -81,14 +81,14 @@ least_low f (x ∷ y ∷ ys) zero u lt e = let s = ap f e in omega arith
 least_low f (x ∷ y ∷ ys) (suc i) u lt e = let rest = least_low f (y ∷ ys) i u (omega arith) e in omega arith
 
 module _ {T : Type 0} where
-  abbrev Leads : Shape → Transcript T → State T → State T → Type 0
+  abbrev pub Leads : Shape → Transcript T → State T → State T → Type 0
   Leads k es m n = LeadsFrom (ring_setup k) m es n
 
-  leads_on : (c : Setup) (m n end : State T) (es more : Transcript T) → LeadsFrom c m es n → LeadsFrom c n more end → LeadsFrom c m (es ++ more) end
+  pub leads_on : (c : Setup) (m n end : State T) (es more : Transcript T) → LeadsFrom c m es n → LeadsFrom c n more end → LeadsFrom c m (es ++ more) end
   leads_on c m n end [] more a b = subst (λ (x : State T). LeadsFrom c x more end) (sym a) b
   leads_on c m n end (e ∷ es) more a b = (a.0, a.1, leads_on c (machine.step c m e.command).state n end es more a.2 b)
 
-  leads_one : (k : Shape) (command : Command T) (reply : Reply) (values : List T) (m n : State T)
+  pub leads_one : (k : Shape) (command : Command T) (reply : Reply) (values : List T) (m n : State T)
       → machine.step (ring_setup k) m command ≡ record { reply = reply; values = values; state = n } → Leads k (entry command reply values) m n
   leads_one k command reply values m n is = (ap (λ (o : Outcome T). o.reply) is, ap (λ (o : Outcome T). o.values) is, ap (λ (o : Outcome T). o.state) is)
 

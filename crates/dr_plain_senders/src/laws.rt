@@ -11,7 +11,7 @@ mod receiver;
 mod sender;
 pub(crate) mod settling;
 
-ghost use Rattle.std.specs.Prelude.{List, ℕ, ◌≡◌, ◌↔◌, ◌<◌, ◌≤◌, true, length, slice_index};
+ghost use Rattle.std.specs.Prelude.{List, ℕ, ◌≡◌, ◌↔◌, ◌<◌, ◌≤◌, ◌++◌, true, length, slice_index};
 ghost use Rattle.dr_seq.specs.Rounds.{entry_of};
 ghost use Rattle.dr_meaning.specs.Meaning.Transcript.{Transcript, LeadsTo};
 ghost use Rattle.dr_meaning.specs.Meaning.Laws.{Laws};
@@ -21,7 +21,7 @@ ghost use Rattle.dr_plain_senders.specs.Meaning.Words.{claim_word, mark_word, is
 ghost use Rattle.dr_plain_senders.specs.Meaning.Rule.{World, KeepsRule};
 ghost use Rattle.dr_plain_senders.specs.declared.record.Step.{Step};
 ghost use Rattle.dr_plain_senders.specs.Meaning.Moments.{Runs, new_world, picture_of, IsShut, RefusesByMark, NothingFalls};
-ghost use Rattle.dr_plain_senders.specs.Calls.Replies.{RepliesAsAnswered};
+ghost use Rattle.dr_plain_senders.specs.Calls.Replies.{AreOpen, picture_with, open_writes, RepliesAsAnswered};
 
 use crate::plan::Plan;
 use crate::record::View;
@@ -96,15 +96,18 @@ impl<T> Lends<T> for Brand {
 
 /// Whatever steps fall in whatever order: between any two of them the rule holds, the entries of
 /// their events lead the machine to the ring's picture, in which nobody is stuck, and the
-/// transcript has the five laws. A sequence is published exactly where the mark in its cell is of
-/// its round or a later one, so one look at the mark tells it, and with it why the machine refuses
-/// a write of a sequence that is not the sender's own, or is published. A claim and a poll that
-/// takes nothing by what the deciding look finds, and a completion, are answered as the machine then
-/// replies on the picture. No handler's count falls, and no claim is taken back. Once a ring is
-/// halted, nothing more is claimed. It does nothing when it runs: the contract is the theorem.
+/// transcript has the five laws. Whatever senders wrote besides and did not publish, those writes
+/// lead the machine on to the picture with them. A sequence is published exactly where the mark in
+/// its cell is of its round or a later one, so one look at the mark tells it, and with it why the
+/// machine refuses a write of a sequence that is not the sender's own, or is published. A claim, a
+/// publication of a whole stretch and a poll that takes nothing by what the deciding look finds, a
+/// write of one's own sequence and a completion are answered as the machine then replies. No
+/// handler's count falls, and no claim is taken back. Once a ring is halted, nothing more is
+/// claimed. It does nothing when it runs: the contract is the theorem.
 pub fn moments<T>()
     ensures rule { (k : Shape) (steps : List (Step T)) (entries : Transcript T) (w : World T) → IsShape k → Runs k steps entries (new_world k) w → KeepsRule k w }
     ensures leads { (k : Shape) (steps : List (Step T)) (entries : Transcript T) (w : World T) → IsShape k → Runs k steps entries (new_world k) w → LeadsTo (ring_setup k) entries (picture_of k w) }
+    ensures writes { (k : Shape) (steps : List (Step T)) (entries : Transcript T) (w : World T) → IsShape k → Runs k steps entries (new_world k) w → (wrote : List (ℕ × T)) → AreOpen w wrote → LeadsTo (ring_setup k) (entries ++ open_writes w wrote) (picture_with k w wrote) }
     ensures laws { (k : Shape) (steps : List (Step T)) (entries : Transcript T) (w : World T) → IsShape k → Runs k steps entries (new_world k) w → Laws (ring_setup k) entries }
     ensures progress { (k : Shape) (steps : List (Step T)) (entries : Transcript T) (w : World T) → IsShape k → Runs k steps entries (new_world k) w → NobodyIsStuck (ring_setup k) (picture_of k w) }
     ensures marks { (k : Shape) (steps : List (Step T)) (entries : Transcript T) (w : World T) → IsShape k → Runs k steps entries (new_world k) w → (s : ℕ) → ((picture_of k w).published s ≡ true) ↔ (entry_of k.size s ≤ slice_index w.words (mark_word k s)) }

@@ -15,6 +15,9 @@ use Rattle.dr_plain_senders.proofs.Facts.{cases_option}
 use Rattle.dr_plain_senders.proofs.Keeps.{keeps_runs}
 use Rattle.dr_plain_senders.proofs.Pictures.{lead_runs}
 use Rattle.dr_plain_senders.proofs.Beginning.{kept_new_world, opens}
+use Rattle.dr_plain_senders.proofs.Owners.{owned_since}
+use Rattle.dr_plain_senders.proofs.OpenWrites.{write_replies, leads_writes}
+use Rattle.dr_plain_senders.proofs.StretchReplies.{publish_replies_of}
 use Rattle.dr_plain_senders.proofs.ClaimReplies.{refused_replies, claimed_replies}
 use Rattle.dr_plain_senders.proofs.PollReplies.{poll_replies, complete_replies}
 use Rattle.dr_plain_senders.proofs.Halting.{halted_runs}
@@ -34,6 +37,11 @@ returns-clause-rule g c k steps entries w shape runs = keeps_runs k steps entrie
 
 pub returns-clause-leads : goal.returns-clause-leads
 returns-clause-leads g c = leads
+
+pub returns-clause-writes : goal.returns-clause-writes
+returns-clause-writes g c k steps entries w shape runs wrote opened =
+    leads_writes k w (keeps_runs k steps entries (new_world k) w runs (kept_new_world _ k shape)) (owned_since k steps entries w shape runs) entries wrote opened
+    (leads k steps entries w shape runs)
 
 pub returns-clause-laws : goal.returns-clause-laws
 returns-clause-laws g c k steps entries w shape runs =
@@ -71,6 +79,8 @@ returns-clause-replies g c k steps entries w shape runs =
     let K = keeps_runs k steps entries (new_world k) w runs (kept_new_world _ k shape) in record {
       refused = refused_replies k w K;
       claimed = claimed_replies k w K;
+      write = write_replies k w K;
+      publish = publish_replies_of k w K;
       poll = poll_replies k w K;
       complete = complete_replies k w K;
     }
