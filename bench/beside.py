@@ -8,6 +8,7 @@
     bench/beside.py widths             events of 1, 2, 8 and 16 words, on one thread
     bench/beside.py producers          1 to 16 producers behind a lock
     bench/beside.py senders            1 to 16 senders of one ring; three of them are LMAX's `sequencer`
+    bench/beside.py languages          the rings of words from C beside ours, channels and LMAX, with `--library`
     bench/beside.py few                two topologies on threads, for fewer processors than ends (`taskset`)
 
 The others are the rings of bench/plain/exchanges, which `rustc` builds, and LMAX's own, where `javac` and
@@ -37,7 +38,7 @@ RATES_OF_C = os.path.join(TOP, "bench", "c", "rates.c")
 SHAPES = ("unicast", "pipeline", "multicast", "diamond")
 SIZES = (64, 1024, 65536)
 ONE_THREAD = ("ours", "ring", "deque", "lmax")
-THREADS = ("ours", "memory", "c", "words", "mutex", "lmax", "lmax-try")
+THREADS = ("ours", "memory", "c", "words", "channel", "mutex", "lmax", "lmax-try")
 
 
 class Programs:
@@ -51,7 +52,7 @@ class Programs:
         self.words = {"ours": [given.program], "memory": [given.program]}
         plain = os.path.join(folder, "exchanges")
         subprocess.run(["rustc", "--edition", "2021", "-O", "-o", plain, PLAIN], check=True)
-        for kind in ("ring", "deque", "words", "mutex"):
+        for kind in ("ring", "deque", "words", "channel", "mutex"):
             self.words[kind] = [plain, kind]
         if given.library:
             over_c = os.path.join(folder, "rates")
@@ -144,11 +145,23 @@ def producers(programs):
 
 def senders(programs):
     """The ring with several senders beside plain words, and LMAX's with several producers."""
-    kinds = programs.of(("ours", "c", "words", "lmax", "lmax-try"))
+    kinds = programs.of(("ours", "c", "words", "channel", "lmax", "lmax-try"))
     print_head(["senders", "events a claim"] + kinds)
     for count in (1, 2, 3, 4, 8, 16):
         for claim in (1, 10, 100):
             print_row(f"{count} | {claim}", programs, kinds, f"senders{count}-unicast-b{claim}", 1024)
+
+
+def languages(programs):
+    """What a call from C costs, beside what other programs have."""
+    kinds = programs.of(("ours", "memory", "c", "channel", "lmax", "lmax-try"))
+    print_head(["topology"] + kinds)
+    for topology in ("unicast", "unicast-b10", "diamond", "diamond-b10"):
+        print_row(topology, programs, kinds, topology, 1024)
+    kinds = [kind for kind in kinds if kind != "memory"]
+    print_head(["topology"] + kinds)
+    for topology in ("senders3-unicast", "senders3-unicast-b10"):
+        print_row(topology, programs, kinds, topology, 1024)
 
 
 def few(programs):
@@ -170,7 +183,7 @@ def steps(what):
 
 def main():
     parser = argparse.ArgumentParser(description=__doc__, formatter_class=argparse.RawDescriptionHelpFormatter)
-    parser.add_argument("what", choices=["table", "sizes", "handlers", "claims", "widths", "producers", "senders", "few"])
+    parser.add_argument("what", choices=["table", "sizes", "handlers", "claims", "widths", "producers", "senders", "languages", "few"])
     parser.add_argument("--program", default=PROGRAM)
     parser.add_argument("--lmax", default="/usr/share/java/disruptor.jar")
     parser.add_argument("--library", metavar="FOLDER")
@@ -191,6 +204,8 @@ def main():
             producers(programs)
         elif given.what == "senders":
             senders(programs)
+        elif given.what == "languages":
+            languages(programs)
         elif given.what == "few":
             few(programs)
         else:

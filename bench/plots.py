@@ -63,6 +63,7 @@ LOOKS = {
     "lmax": Look("LMAX", "#A3326F", "D"),
     "lmax-try": Look("LMAX tryNext", "#C77BA4", "d"),
     "deque": Look("deques", "#707070", "^"),
+    "channel": Look("channels", "#9A3B2E", "p"),
     "mutex": Look("mutex", "#8A6D00", "v"),
     "plain spinning": Look("plain spinning", "#0B5FA5", "o"),
     "plain parking": Look("plain parking", "#5B9BD0", "o"),

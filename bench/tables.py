@@ -26,6 +26,7 @@ FILES = {
     "widths": ("By the words of an event, one handler", RATES),
     "producers": ("By the number of producers, behind a lock, 1024 slots", RATES),
     "senders": ("By the number of senders of one ring, 1024 slots", RATES),
+    "languages": ("From C, 1024 slots", RATES),
     "few": ("With two processors for all threads", RATES),
     "latency": ("How long an event takes through a pipeline of three threads", "Nanoseconds."),
     "lengths": ("The tools, by the records of a file", "Processor seconds."),

@@ -4,9 +4,10 @@
 //! On one thread (topologies that begin with `core-`, or with `core1-`, `core8-` or `core16-` for events of
 //! so many words): `ring`, counts and slots that handlers read in place, and `deque`, a `VecDeque` for each
 //! edge of the graph, of events of two words alone. With a thread for each end: `words`, a ring of
-//! sequentially consistent words, with one sender or several (`sendersP-`), and `mutex`, a ring behind a
-//! `Mutex`.
+//! sequentially consistent words, with one sender or several (`sendersP-`), `channel`, a bounded channel of
+//! std for each edge of the graph, and `mutex`, a ring behind a `Mutex`.
 
+mod channel;
 mod deque;
 mod mutex;
 mod ring;
@@ -60,7 +61,11 @@ impl Round {
 
 /// Ends the program where a handler did not add up the first sequences.
 pub fn check_sum(sum: u64, events: u64) {
-    let wanted = (0..events).fold(0u64, u64::wrapping_add);
+    check_total(sum, (0..events).fold(0u64, u64::wrapping_add));
+}
+
+/// Ends the program where a handler added up something else.
+pub fn check_total(sum: u64, wanted: u64) {
     if sum != wanted {
         eprintln!("wrong sum");
         exit(5);
@@ -128,6 +133,7 @@ fn rounds_of(kind: &str, order: &Order, rounds: usize) -> Option<Vec<Round>> {
         ("deque", Exchange::OneThread(2)) => Some(one_thread(deque::Deques::new(shape), order, rounds)),
         ("words", Exchange::OneSender) => Some((0..rounds).map(|_| words::round(order)).collect()),
         ("words", Exchange::Senders) => Some((0..rounds).map(|_| senders::round(order)).collect()),
+        ("channel", Exchange::OneSender | Exchange::Senders) => Some((0..rounds).map(|_| channel::round(order)).collect()),
         ("mutex", Exchange::OneSender | Exchange::Lock) => Some((0..rounds).map(|_| mutex::round(order)).collect()),
         _ => None,
     }
