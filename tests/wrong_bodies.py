@@ -13,10 +13,12 @@ once more, alone; and what that does not tell, nor that a proof file which cites
 a check of the whole crate. Each edit has a line that names the goal that refused it, and the last line is `N refused, M not`.
 
 First each crate is proved as it is, over what earlier runs kept. With `--over` that is `rt ci`'s part: a crate's edits are
-tried once `rt ci` has proved it, over what the library that it left holds checked, and from nothing where it left none.
+tried once `rt ci` has proved it. The libraries that it leaves hold statements alone, so the first check of a crate's edits begins
+from nothing, and each one after it takes what those before it kept of the crate as it is.
 """
 
 import argparse
+import contextlib
 import functools
 import heapq
 import json
@@ -40,8 +42,6 @@ from edits import applied, companies, fault_of, forget, offers_nothing, only, pl
 BEGINS = 12
 MOST = 270
 MANY = 1_000_000
-# A file's name is no longer, with what is added to a module's.
-LONGEST = 240
 # So much memory, in kB, is free before a further check begins: others go on beside it.
 ROOM = 6_000_000
 # What `rt ci` says once a library stands, or a program is proved, and at its end.
@@ -50,6 +50,16 @@ ENDED = re.compile(r"^\d+ passed, \d+ failed", re.M)
 # What a check says that took nothing of what is kept of its crate, and so proved its lemmas once more.
 TOOK_NOTHING = re.compile(r"^crate \w+: modules loaded=0 checked=[1-9]", re.M)
 BY_A_NAME = "only a file of proofs refuses it, which cites a name that the edit took away: change a value and keep the names"
+
+
+def share(kept, keeps):
+    """Gives each module of a folder a second name in another one, unless that has it."""
+    for at, _, names in os.walk(kept):
+        to = os.path.join(keeps, os.path.relpath(at, kept))
+        os.makedirs(to, exist_ok=True)
+        for it in (it for it in names if it.endswith(".oantt")):
+            with contextlib.suppress(FileExistsError):
+                os.link(f"{at}/{it}", f"{to}/{it}")
 
 
 class Libraries:
@@ -64,29 +74,6 @@ class Libraries:
         if os.path.isdir(f"{self.top}/crates/{name}/out/rlib"):
             shutil.copytree(f"{self.top}/crates/{name}/out/rlib", f"{self.room}/{name}", copy_function=prove.link)
 
-    def lay_out(self, name, kept):
-        """Lays out the modules that a crate's library holds checked as checks keep them, and returns why it could not, or None: there may
-        be no library, or one that lies otherwise."""
-        try:
-            self.lay_out_modules(f"{self.room}/{name}/{name}.rlib", kept)
-        except (OSError, TypeError, ValueError) as fault:
-            shutil.rmtree(kept, ignore_errors=True)
-            return str(fault)
-        return None
-
-    def lay_out_modules(self, library, kept):
-        index, archive = f"{library}/toolchain/checked.json", f"{library}/toolchain/checked.a"
-        build = re.search(r"^rattle-build (\S+)$", open(f"{library}/format", encoding="utf-8").read(), re.M)[1]
-        folder = f"{kept}/{build.replace('/', '_')}"
-        os.makedirs(folder)
-        with open(index, encoding="utf-8") as lines, open(archive, "rb") as modules:
-            for module, start, length in map(json.loads, lines):
-                # (what has another name is checked anew)
-                if "/" not in module and len(os.fsencode(module)) < LONGEST:
-                    modules.seek(start)
-                    with open(f"{folder}/{module}.oantt", "wb") as file:
-                        file.write(modules.read(length))
-
     def sizes(self, name):
         """Returns the functions of a crate's library by their paths, with the size in MB of what the proof of each begins with."""
         try:
@@ -96,11 +83,11 @@ class Libraries:
             return {}
         return {it.partition("-proofs.")[2].removesuffix(".Lts").replace(".", "::"): length / 1e6 for it, length in begun}
 
-    def check(self, edits, kept, keeps=None, beside=(), is_short=False, is_of_all=False):
+    def check(self, edits, kept, keeps=None, is_short=False, is_of_all=False):
         """Checks the functions of these edits in a copy of their crate to which it applies them, over what is kept, and returns what is
-        said. It looks at those of the edits beside too, which it does not apply. What it kept goes to keeps, but nothing of a function
-        that it changed. A short check offers no answers; one of all looks at every function of the crate."""
-        name = [*edits, *beside][0].crate
+        said. What it kept goes to keeps besides what that has, but nothing of a function that it changed. A short check offers no
+        answers; one of all looks at every function of the crate."""
+        name = edits[0].crate
         with together.folder("wrong-") as room:
             for it in prove.SOURCES:
                 if os.path.isdir(f"{self.top}/crates/{name}/{it}"):
@@ -111,13 +98,13 @@ class Libraries:
                 applied(it, room)
             if is_short:
                 offers_nothing(edits, room)
-            said = together.said_by([*self.words(name), *([] if is_of_all else only([*edits, *beside]))], room)[1]
+            said = together.said_by([*self.words(name), *([] if is_of_all else only(edits))], room)[1]
             # (where a file of these is of no function that it knows)
             if is_short and "error: rattle does not read this file" in said:
-                return self.check(edits, kept, keeps, beside)
+                return self.check(edits, kept, keeps)
             if keeps and os.path.isdir(f"{room}/kept"):
                 forget(edits, f"{room}/kept")
-                shutil.move(f"{room}/kept", keeps)
+                share(f"{room}/kept", keeps)
         return said
 
     def words(self, name, verb="check"):
@@ -205,8 +192,8 @@ class Crate:
         return seconds_of(edit, self.sizes)
 
     def lists(self):
-        """Parts the edits into lists that one check each tries."""
-        return [*companies(self.others), *shared_out(self.bodies, self.seconds, MOST - BEGINS)]
+        """Parts the edits of bodies, and the others, into lists that one check each tries."""
+        return shared_out(self.bodies, self.seconds, MOST - BEGINS), companies(self.others)
 
 
 class Trial:
@@ -245,10 +232,11 @@ class Trial:
             if is_alone:
                 crate.untold = [*crate.bodies, *crate.others]
             else:
-                self.add(crate.lists(), crate.kept)
+                bodies, others = crate.lists()
+                self.add([*bodies, *others], crate.kept)
 
     def note_proved(self, name):
-        """Notes that a crate is proved, and takes its library for the crates above and for what it holds checked."""
+        """Notes that a crate is proved, and takes its library for the crates above and for the sizes of its functions."""
         self.libraries.take(name)
         self.proved.add(name)
         if crate := self.crates.get(name):
@@ -270,45 +258,25 @@ class Trial:
             self.lanes.release()
 
     def begin(self, name):
-        """Tries a crate's edits, over what its library holds checked where `rt ci` left one."""
+        """Has the longest check of bodies begin from nothing, and then the others, each over what those before it kept."""
         crate = self.crates[name]
-        if fault := self.libraries.lay_out(name, crate.kept):
-            self.told(f"{name}: its edits are tried over nothing that its library holds: {fault}")
-            self.begin_from_nothing(crate)
-        else:
-            self.add(crate.lists(), crate.kept)
+        bodies, others = crate.lists()
+        first, *rest = sorted(bodies, key=self.seconds, reverse=True)
+        self.attempt(first, None, True, crate.kept)
+        self.add(rest, crate.kept, keeps=crate.kept)
+        self.add(others, crate.kept)
 
-    def begin_from_nothing(self, crate):
-        """Tries the edits of a crate that has no library. Those of the second list come first, since it has the functions of all later ones;
-        the others are then tried over what that kept of the crate as it is. None finds there what another changed."""
-        groups = companies(crate.bodies)
-        others = companies(crate.others)
-        first, rest = groups[1:2], [*groups[:1], *groups[2:], *others]
-        beside = [it for it in crate.others if only([it])]
-
-        def begins():
-            if first:
-                self.attempt(first[0], None, True, crate.kept, beside)
-            else:
-                self.libraries.check([], None, crate.kept, beside)
-            self.add(rest, crate.kept)
-
-        if first or len(beside) > 1:
-            self.lanes.add(-sum(map(self.seconds, [*groups, *others])), begins)
-        else:
-            self.add(rest, None)
-
-    def add(self, groups, kept, is_short=True):
+    def add(self, groups, kept, is_short=True, keeps=None):
         for it in groups:
-            self.lanes.add(-self.seconds(it), functools.partial(self.attempt, it, kept, is_short))
+            self.lanes.add(-self.seconds(it), functools.partial(self.attempt, it, kept, is_short, keeps))
 
     def seconds(self, edits):
         """Returns about how long a check of these edits takes."""
         return BEGINS + sum(self.crates[it.crate].seconds(it) for it in edits)
 
-    def attempt(self, edits, kept, is_short, keeps=None, beside=()):
+    def attempt(self, edits, kept, is_short, keeps=None):
         """Has one short check judge these edits, and then each of which it does not tell a whole one of its own."""
-        said = self.libraries.check(edits, kept, keeps, beside, is_short)
+        said = self.libraries.check(edits, kept, keeps, is_short=is_short)
         if kept and TOOK_NOTHING.search(said):
             self.told(f"{edits[0].crate}: a check of {len(edits)} edits took nothing of what is kept of the crate")
         kept = kept or keeps
