@@ -72,6 +72,14 @@ if has cc c; then
     else
         skip 'C with sanitizers'
     fi
+    # Each request of the library for memory comes to the program.
+    wraps=(-Wl,--wrap=malloc,--wrap=realloc)
+    if has cc c "${wraps[@]}"; then
+        try 'C takes_no_memory' 'no call but an opening takes memory' \
+            cc "${c[@]}" "${wraps[@]}" -o "$room/memory" "$top/tests/takes_no_memory.c" "$library/libdisruptor.a" -lpthread -- "$room/memory"
+    else
+        skip 'C whose requests for memory are counted'
+    fi
 else
     skip C
 fi

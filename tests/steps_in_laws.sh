@@ -1,16 +1,20 @@
 #!/usr/bin/env bash
 # Every load and store of a ring's words is a step of its module `laws`, one a function, and a
 # function that stores says so in its contract. A load that nobody remembers, and a store of what
-# a word has already, change nothing that a contract sees, so they are looked for here.
+# a word has already, change nothing that a contract sees, so they are looked for here. What parts a ring's
+# seats as it opens, and what brings them together, loads too: no other file calls that.
 set -u
 cd "$(dirname "$0")/.." || exit 1
 calls='[.:](load|store|peek|swap|exchange|compare_exchange|fetch_[a-z]+|load_new_seat|swap_new_seat)(_with)?[(:]'
 
+ends='\b(split_seat|join_seat|settling)\b'
 stores='[.:](store|swap|exchange|compare_exchange|fetch_[a-z]+|swap_new_seat)(_with)?[(:]'
 
 others_in() {
     local src=$1
     grep -rnE "$calls" "$src" --include='*.rt' | grep -vE "^$src/(laws/|laws\.rt:|tests/|tests\.rt:)"
+    grep -rnE "$ends" "$src" --include='*.rt' |
+        grep -vE "^$src/((opening|settled|finishing|laws/settling)\.rt:|laws\.rt:[0-9]+:pub(\(crate\))? mod settling;)"
     find "$src/laws" "$src/laws.rt" -name '*.rt' -exec awk -v calls="$calls" '
         FNR == 1 || /(^| )fn / { steps = 0 }
         { steps += gsub(calls, "&") }

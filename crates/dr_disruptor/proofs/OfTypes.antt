@@ -6,8 +6,10 @@ use Rattle.dr_meaning.specs.Calls.Handling.{GoesThrough, Relation, Showing}
 use Rattle.dr_workers.specs.Meaning.Work.{shown_of}
 use Rattle.dr_disruptor.specs.declared.of_types.OneOf.{OneOf}
 use Rattle.dr_disruptor.specs.declared.of_types.OneOf.TheVariants.{First, Second}
-use Rattle.dr_disruptor.specs.OfTypes.{AreThree, AreTwo, goes_as_one_of}
-use Rattle.dr_disruptor.specs.Running.{AllWentThrough, WentThrough}
+use Rattle.dr_ring.specs.Meaning.Shape.{Shape}
+use Rattle.dr_disruptor.specs.OfTypes.{AreThree, AreTwo, HasRunAs, goes_as_one_of}
+use Rattle.dr_disruptor.specs.Running.{AllWentThrough, IsRun, WentThrough}
+use Rattle.dr_disruptor.specs.declared.running.Ran.{Ran}
 
 -- what was of the first type is so after any calls, and went as that type does
 first_goes : {A B : Type 0} (goes : Relation Event A) (other : Relation Event B) (a : A) (shown : List (Showing Event)) (after : OneOf A B)
@@ -109,3 +111,9 @@ as_three goes other third a x b y c z events starts afters given w is =
     let second = as_second goes last (First b) (First y) events two in
     let third_one = as_second goes last (Second c) (Second z) events three in
     (as_first goes last a x events one, as_first other third b y events second, as_second other third c z events third_one)
+
+-- a run of a list of handlers is one of the same list, said otherwise
+pub run_as : {A : Type 0} (goes : Relation Event A) (k : Shape) (script : List Event) (given starts afters : List A) (ran : Ran A)
+    → given ≡ starts → IsRun goes k given script ran → ran.handlers.items ≡ afters → HasRunAs goes k starts script afters
+run_as goes k script given starts afters ran same run handlers =
+    record { ran = ran; run = subst (λ s. IsRun goes k s script ran) same run; handlers = handlers }

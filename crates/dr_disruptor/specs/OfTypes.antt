@@ -2,6 +2,9 @@
 use Rattle.std.specs.Prelude.{◌≡◌, List, [], ◌∷◌}
 use Rattle.dr_seq.specs.declared.event.Event.{Event}
 use Rattle.dr_meaning.specs.Calls.Handling.{Relation}
+use Rattle.dr_ring.specs.Meaning.Shape.{Shape}
+use Rattle.dr_disruptor.specs.Running.{IsRun}
+use Rattle.dr_disruptor.specs.declared.running.Ran.{Ran}
 use Rattle.dr_disruptor.specs.declared.of_types.OneOf.{OneOf}
 use Rattle.dr_disruptor.specs.declared.of_types.OneOf.TheVariants.{First, Second}
 
@@ -18,3 +21,9 @@ AreTwo {A} {B} handlers = (a : A) × (b : B) × (handlers ≡ First a ∷ Second
 
 abbrev pub AreThree : {A B C : Type 0} → List (OneOf A (OneOf B C)) → Type 0
 AreThree {A} {B} {C} handlers = (a : A) × (b : B) × (c : C) × (handlers ≡ First a ∷ Second (First b) ∷ Second (Second c) ∷ [])
+
+-- a run over a new ring of this shape, with these handlers in the graph's order, gave these back at their places
+pub record HasRunAs {A : Type 0} (goes : Relation Event A) (k : Shape) (starts : List A) (script : List Event) (afters : List A) : Type 0 where
+  pub ran : Ran A
+  pub run : IsRun goes k starts script ran
+  pub handlers : ran.handlers.items ≡ afters

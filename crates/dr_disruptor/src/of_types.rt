@@ -1,9 +1,10 @@
 //! Runs whose handlers are of two or three types.
 
 ghost use Rattle.std.specs.Prelude.{◌≡◌, ◌∷◌, [], IfErr, IfOk, length};
-ghost use Rattle.dr_disruptor.specs.OfTypes.{AreThree, AreTwo, goes_as_one_of};
+ghost use Rattle.dr_disruptor.specs.OfTypes.{AreThree, AreTwo, HasRunAs, goes_as_one_of};
 ghost use Rattle.dr_disruptor.specs.Refused.{refusal_of};
 ghost use Rattle.dr_disruptor.specs.Running.{WentThrough};
+ghost use Rattle.dr_disruptor.specs.Serving.{shape_of};
 ghost use Rattle.dr_disruptor.specs.declared.of_types.OneOf.TheVariants.{First, Second};
 
 use crate::fault::RunFault;
@@ -79,6 +80,9 @@ pub fn run_two<
 ) -> Result<(A, B), RunFault>
     // Each handler went through exactly the script.
     ensures whole { IfOk result (λ after. WentThrough A.goes first after.0 script.now × WentThrough B.goes second after.1 script.now) }
+    // The first is the graph's first handler.
+    ensures run { IfOk result (λ after. HasRunAs (goes_as_one_of A.goes B.goes) (shape_of graph.now.upstreams size)
+        (First first ∷ Second second ∷ []) script.now (First after.0 ∷ Second after.1 ∷ [])) }
     ensures many { IfOk result (λ _. length graph.now.upstreams ≡ 2) }
     ensures refused { IfErr result (λ e. e ≡ refusal_of (length graph.now.upstreams) 2) }
 {
@@ -116,6 +120,10 @@ pub fn run_three<
 ) -> Result<(A, B, C), RunFault>
     ensures whole { IfOk result (λ after. WentThrough A.goes first after.0 script.now × WentThrough B.goes second after.1 script.now
         × WentThrough C.goes third after.2 script.now) }
+    // The first is the graph's first handler, and the second its second.
+    ensures run { IfOk result (λ after. HasRunAs (goes_as_one_of A.goes (goes_as_one_of B.goes C.goes)) (shape_of graph.now.upstreams size)
+        (First first ∷ Second (First second) ∷ Second (Second third) ∷ []) script.now
+        (First after.0 ∷ Second (First after.1) ∷ Second (Second after.2) ∷ [])) }
     ensures many { IfOk result (λ _. length graph.now.upstreams ≡ 3) }
     ensures refused { IfErr result (λ e. e ≡ refusal_of (length graph.now.upstreams) 3) }
 {

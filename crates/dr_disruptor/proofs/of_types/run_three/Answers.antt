@@ -1,6 +1,6 @@
 use Rattle.std.proofs.Common.{rules, ◌≡◌, [], ◌∷◌}
 use Rattle.dr_disruptor.specs.declared.of_types.OneOf.TheVariants.{First, Second}
-use Rattle.dr_disruptor.proofs.OfTypes.{as_three, stay_three}
+use Rattle.dr_disruptor.proofs.OfTypes.{as_three, run_as, stay_three}
 use Rattle.dr_disruptor.proofs.of_types.run_three.Goals as goal
 
 pub three-requires : goal.three-requires
@@ -15,3 +15,8 @@ returns-clause-whole g c =
     let back = c.three.result in
     as_three g.A.Handler.goes g.B.Handler.goes g.C.Handler.goes c.args.first back.0 c.args.second back.1 c.args.third back.2 c.args.script.now
     c.push-3.new.self.items c.in_ok-ran.ran.handlers.items given c.in_ok-ran.ensures.whole.1 c.three.ensures
+
+pub returns-clause-run : goal.returns-clause-run
+returns-clause-run g c =
+    let given : c.push-3.new.self.items ≡ First c.args.first ∷ Second (First c.args.second) ∷ Second (Second c.args.third) ∷ [] = search rules in
+    run_as _ _ _ _ _ _ _ given c.in_ok-ran.ensures.run c.three.ensures

@@ -1,0 +1,98 @@
+/* No call but an opening takes memory. The library is linked with -Wl,--wrap=malloc,--wrap=realloc, so each of its requests is counted
+ * here. The calls are those of both kinds of rings, done and refused. */
+#include "disruptor.h"
+#include <stdio.h>
+#include <stdlib.h>
+
+enum { SIZE = 8, ROUNDS = 100, SENDERS = 2, HANDLERS = 2 };
+
+void *__real_malloc(size_t size);
+void *__real_realloc(void *old, size_t size);
+void *__wrap_malloc(size_t size);
+void *__wrap_realloc(void *old, size_t size);
+
+static unsigned long requests;
+
+void *__wrap_malloc(size_t size) {
+    requests++;
+    return __real_malloc(size);
+}
+
+void *__wrap_realloc(void *old, size_t size) {
+    requests++;
+    return __real_realloc(old, size);
+}
+
+static const uint64_t upstreams[HANDLERS] = {0, 1};
+static disruptor_sender senders[SENDERS];
+static disruptor_receiver receivers[HANDLERS];
+static disruptor_halter halter;
+
+static void expect(const char *call, uint32_t is, uint32_t wanted) {
+    if (is == wanted) return;
+    printf("%s: %s, and not %s\n", call, disruptor_text(is), disruptor_text(wanted));
+    exit(1);
+}
+
+/* Sends as many events as there are slots, by all these senders in turns, and then one too many. */
+static void send_all(size_t count) {
+    disruptor_event event = {1, 2};
+    uint64_t lo;
+    for (size_t k = 0; k < SIZE; k += 2) {
+        void *sender = &senders[k / 2 % count];
+        expect("a claim", disruptor_claim(sender, 2, &lo), DISRUPTOR_OK);
+        expect("a publication unwritten", disruptor_publish(sender, lo, lo + 1), DISRUPTOR_NOT_WRITTEN);
+        expect("a write", disruptor_write(sender, lo, &event), DISRUPTOR_OK);
+        expect("a write", disruptor_write(sender, lo + 1, &event), DISRUPTOR_OK);
+        expect("a publication", disruptor_publish(sender, lo, lo + 1), DISRUPTOR_OK);
+    }
+    expect("a claim of full slots", disruptor_claim(&senders[0], 1, &lo), DISRUPTOR_NO_ROOM);
+    expect("a claim of none", disruptor_claim(&senders[0], 0, &lo), DISRUPTOR_BAD_COUNT);
+}
+
+/* Has each handler take and complete all events, and look once more. */
+static void receive_all(uint32_t last) {
+    disruptor_event events[SIZE];
+    disruptor_counts counts;
+    disruptor_offer offer;
+    for (size_t h = 0; h < HANDLERS; h++) {
+        expect("a poll", disruptor_poll(&receivers[h], events, SIZE, &offer), DISRUPTOR_OK);
+        if (offer.kind == DISRUPTOR_BATCH) expect("a completion", disruptor_complete(&receivers[h], offer.first + offer.count), DISRUPTOR_OK);
+        expect("a completion too far", disruptor_complete(&receivers[h], UINT64_MAX), DISRUPTOR_NOT_TAKEN);
+        expect("a poll", disruptor_poll(&receivers[h], events, SIZE, &offer), DISRUPTOR_OK);
+        expect("what it finds", offer.kind, last);
+        expect("a progress", disruptor_progress(&receivers[h], &counts), DISRUPTOR_OK);
+    }
+}
+
+/* Has a ring with so many senders do all its work. */
+static void work(size_t count) {
+    unsigned long before = requests;
+    uint64_t lo;
+    for (int k = 0; k < ROUNDS; k++) {
+        send_all(count);
+        receive_all(DISRUPTOR_IDLE);
+    }
+    if (count == 1) expect("a close", disruptor_close(&senders[0]), DISRUPTOR_OK);
+    expect("a halt", disruptor_halt(&halter), DISRUPTOR_OK);
+    expect("a claim after it", disruptor_claim(&senders[0], 1, &lo), DISRUPTOR_HALTED);
+    receive_all(DISRUPTOR_DRAINED);
+    for (size_t k = 0; k < count; k++) disruptor_free(&senders[k]);
+    for (size_t h = 0; h < HANDLERS; h++) disruptor_free(&receivers[h]);
+    disruptor_free(&halter);
+    if (before == 0 || requests != before) {
+        printf("%lu requests of an opening, and %lu after it\n", before, requests - before);
+        exit(1);
+    }
+    requests = 0;
+}
+
+int main(void) {
+    expect("an opening", disruptor_open(SIZE, DISRUPTOR_MAX_LIMIT, upstreams, HANDLERS, senders, receivers, HANDLERS, &halter), DISRUPTOR_OK);
+    work(1);
+    expect("an opening for several",
+        disruptor_open_several(SIZE, DISRUPTOR_MAX_LIMIT, upstreams, HANDLERS, senders, SENDERS, receivers, HANDLERS, &halter), DISRUPTOR_OK);
+    work(SENDERS);
+    printf("no call but an opening takes memory\n");
+    return 0;
+}
