@@ -1,6 +1,6 @@
 /* The proved ring for C, and for every language that calls C: one sender or several hand events of two words to a graph of
- * handlers, each end on a thread of its own. No call but disruptor_wait waits, and none but the openings and disruptor_free
- * takes memory or gives it back.
+ * handlers, each end on a thread of its own. No call waits but disruptor_wait and disruptor_sleep, and none but the openings
+ * and disruptor_free takes memory or gives it back.
  *
  * Each call that lists refusals answers DISRUPTOR_OK or the number of one (DISRUPTOR_REFUSALS): the first for which there is
  * cause. A refused call changes nothing; at most it has looked at what other ends stored.
@@ -262,7 +262,7 @@ typedef struct disruptor_bell { DISRUPTOR_ALIGNED uint32_t word; } disruptor_bel
 
 /* How a thread waits that looks again and again for what others do: by pauses after the first of several looks in a row
  * that find nothing, and by yielding its processor after each further one. The pauses tune themselves by how many events
- * were there after the last wait. With a bell it sleeps after each look past the first DISRUPTOR_MOST_LOOKS, until a ring comes,
+ * were there after the last wait. With a bell it listens after DISRUPTOR_MOST_LOOKS such looks, and sleeps after each further one until a ring comes,
  * ten milliseconds at most: an idle thread costs next to nothing, and what nobody rings for is seen so much later. That is on
  * Linux; elsewhere it goes on yielding.
  *
