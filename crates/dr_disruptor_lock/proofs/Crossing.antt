@@ -1,0 +1,48 @@
+-- What the workers of a run share may be shared by threads, and what they are given and give back may be sent.
+use denote.RattleType.{RattleType}
+use denote.Ref.{NamedLft}
+use denote.Param.Send.{IsSend, IsSync, sendable}
+use Rattle.std.proofs.Crossing as std
+use Rattle.std.proofs.sync.atomic.AtomicU64.TheSendSync.{the_sync as atomic_sync}
+use Rattle.std.specs.declared.sync.ledger.Ledger.{Ghosts}
+use Rattle.dr_lock.specs.declared.exchange.Exchange.{Ghosts as Begun}
+use Rattle.dr_seq.specs.contracts.event.Event as Event
+use Rattle.dr_seq.specs.contracts.size.Size as Size
+use Rattle.dr_workers.specs.contracts.bell.Bell as Bell
+use Rattle.dr_disruptor.specs.contracts.strategy.WaitStrategy as WaitStrategy
+use Rattle.dr_lock.proofs.Sent.{end_send, shared_sync}
+use Rattle.dr_disruptor_lock.specs.contracts.around.Around as Around
+use Rattle.dr_disruptor_lock.specs.contracts.jobs.Task as Task
+
+pub size_sync : IsSync Size.the_row
+size_sync = search sendable depth 30
+
+pub strategy_sync : IsSync WaitStrategy.the_row
+strategy_sync = search sendable depth 30
+
+pub event_sync : IsSync Event.the_row
+event_sync = search sendable depth 30
+
+pub event_send : IsSend Event.the_row
+event_send = search sendable depth 30
+
+pub bell_sync : IsSync Bell.the_row
+bell_sync = search (sendable, atomic_sync) depth 30
+
+pub ruleset shares = (sendable, std.sync, size_sync, strategy_sync, event_send, bell_sync, shared_sync)
+
+pub around_sync : (a : NamedLft) (L R : RattleType) (b : Begun L.Denot Event.the_row.Denot) (g : Ghosts L.Denot) → IsSync L → IsSync R → IsSync (Around.the_row a L R b g)
+around_sync a L R b g ledger workers = search shares depth 60 fits 20000
+
+pub ruleset sends = (sendable, std.crosses, event_send, end_send)
+
+pub task_send : (L : RattleType) (g : Ghosts L.Denot) → IsSend (Task.the_row L g)
+task_send L g = search sends depth 60 fits 20000
+
+pub ruleset crosses = (sendable, end_send, task_send, around_sync)
+
+-- what they give back
+pub ruleset gives = (sendable, std.crosses, event_send, end_send)
+
+-- a handler too, whose type may be sent
+pub ruleset hands = (sendable, std.crosses, event_send, end_send, around_sync)

@@ -1,0 +1,10 @@
+pub mod Watched
+pub mod Filled
+pub mod Asking
+pub mod Crossing
+pub mod Listing
+pub mod Sending
+pub mod Kept
+pub mod Fronts
+pub mod Returned
+pub mod Merged

@@ -1,0 +1,20 @@
+-- Lists that are made one element after another.
+use Rattle.std.proofs.Common.{◌≡◌, ℕ, ◌+◌, ◌<◌, List, [], ◌∷◌, ◌++◌, sym, ap, subst, refl, ◌∙◌, append_assoc, arith, map, length, get_or, below_more}
+use Rattle.std.proofs.lemmas.List.{get_or_append_left, get_or_push, length_push, map_push}
+
+-- what was taken of one list stands at the end of the other
+pub moved : {X Y : Type 0} (f : X → Y) (old new : List X) (x : X) (y : Y) (rest left all : List Y) → map f old ++ rest ≡ all → new ≡ old ++ x ∷ []
+    → f x ≡ y → rest ≡ y ∷ left → map f new ++ left ≡ all
+moved f old new x y rest left all before pushed is taken =
+    ap (λ l. map f l ++ left) pushed ∙ ap (λ l. l ++ left) (map_push f old x) ∙ append_assoc (map f old) (f x ∷ []) left
+    ∙ ap (λ z. map f old ++ z ∷ left) is ∙ ap (λ l. map f old ++ l) (sym taken) ∙ before
+
+-- all that were made so far are right, and one more is
+pub each_more : {X : Type 0} (P : ℕ → X → Type 0) (old new : List X) (x : X) → new ≡ old ++ x ∷ []
+    → ((k : ℕ) (d : X) → k < length old → P k (get_or old k d)) → P (length old) x → (k : ℕ) (d : X) → k < length new → P k (get_or new k d)
+each_more P old new x pushed before last k d below =
+    let long : length new ≡ length old + 1 = ap length pushed ∙ length_push old x in
+    below_more (λ i. P i (get_or new i d)) (length old)
+    (λ i low. subst (P i) (sym (ap (λ l. get_or l i d) pushed ∙ get_or_append_left old (x ∷ []) d i low)) (before i d low))
+    (subst (P (length old)) (sym (ap (λ l. get_or l (length old) d) pushed ∙ get_or_push old x d (length old) refl)) last)
+    k (omega arith)

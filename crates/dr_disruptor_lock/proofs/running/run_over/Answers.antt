@@ -1,0 +1,34 @@
+use Rattle.std.proofs.Common.{rules, ◌≡◌, ◌∙◌, ◌+◌, ◌≤◌, ℕ, List, length, map, ap, subst, sym, arith}
+use Rattle.std.specs.Global.{Vec}
+use Rattle.std.proofs.lemmas.List.{length-map}
+use Rattle.dr_seq.specs.declared.event.Event.{Event}
+use Rattle.dr_lock.specs.Meaning.History.{History}
+use Rattle.dr_disruptor_lock.specs.Joining.{IsSettled}
+use Rattle.dr_disruptor_lock.specs.Running.{IsRan}
+use Rattle.dr_disruptor_lock.proofs.Fronts.{where_ok}
+use Rattle.dr_disruptor_lock.proofs.Returned.{is_ran}
+use Rattle.dr_disruptor_lock.proofs.running.run_over.Goals as goal
+
+pub settled-requires-clause-given : goal.settled-requires-clause-given
+settled-requires-clause-given g c =
+    let joined = c.in-Ok.ensures in
+    let served = joined.served.many in
+    let sent = joined.sent.many in
+    let one = c.in_ok-halter.ensures.given in
+    let jobs = c.in_ok-jobs.ensures.given in
+    let tasks = c.in_ok-tasks.ensures.given in
+    let none = c.new-shared.ensures.given in
+    grind (arith, one, jobs, tasks, none, served, sent)
+
+pub returns-in-Ok : goal.returns-in-Ok
+returns-in-Ok g c =
+    let begun = g.L.Exchange.begun in
+    let is = c.in-Ok.ensures in
+    let scripts = map (λ (s : Vec Event). s.items) c.args.scripts.items in
+    let listed : map (λ t. t.script.items) c.in_ok-tasks.tasks.items ≡ scripts = search rules in
+    let had : c.in_ok-tasks.tasks.begun ≡ length begun.entries = search rules in
+    let of_begun : _ = where_ok (IsSettled begun _ c.in-Ok.joined) (IsRan g.H.Handler.goes begun c.args.size scripts c.args.handlers.items) c.settled.result
+    (λ ran came. is_ran begun c.args.size g.H.Handler.goes scripts c.args.handlers.items c.in_ok-halter.halter c.in_ok-jobs.jobs.items c.in_ok-tasks.tasks.items c.in-Ok.joined _ ran
+    c.in_ok-jobs.ensures.handlers c.in_ok-jobs.ensures.fresh listed c.in_ok-tasks.ensures.fresh is came c.in_ok-halter.ensures.unused had) c.settled.ensures
+    in
+    subst (λ (b : History Event). _) (sym c.requires.begun) of_begun

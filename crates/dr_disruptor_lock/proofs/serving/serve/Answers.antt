@@ -1,0 +1,24 @@
+use Rattle.std.proofs.Common.{◌≡◌, None, ap, subst, ◌∙◌}
+use Rattle.dr_lock.specs.Calls.Asking.{OutletAsks}
+use Rattle.dr_lock.specs.declared.locked.LockedOutlet.{LockedOutlet}
+use Rattle.dr_workers.specs.Calls.Serving.{Serves}
+use Rattle.dr_disruptor_lock.specs.Watching.{Watches}
+use Rattle.dr_disruptor_lock.proofs.Asking.{asked}
+use Rattle.dr_disruptor_lock.proofs.serving.serve.Goals as goal
+
+pub returns : goal.returns
+returns g c =
+    let run = c.consume_with-fault in
+    let begun = g.L.Exchange.begun in
+    let job = c.args.job in
+    let number : c.new-outlet.result.h ≡ job.who = ap (λ (outlet : LockedOutlet _ _ _). outlet.h) c.new-outlet.ensures ∙ c.new-locked.ensures.number in
+    let begins : c.new-outlet.result.end ≡ job.end = ap (λ (outlet : LockedOutlet _ _ _). outlet.end) c.new-outlet.ensures ∙ c.new-locked.ensures.end in
+    let ends : c.into_end-end.result ≡ run.new.outlet.end = c.into_end-end.ensures ∙ ap (λ (outlet : LockedOutlet _ _ _). outlet.end) c.into_end-back.ensures in
+    record {
+      calls = asked (λ (old : LockedOutlet _ _ _) call (new : LockedOutlet _ _ _). (new.h ≡ old.h) × OutletAsks begun old.h old.end call new.end) (OutletAsks begun job.who) (λ outlet. outlet.end) (λ outlet. outlet.h ≡ job.who)
+          (λ old new call here is. (is.0 ∙ here, subst (λ n. OutletAsks begun n old.end call new.end) here is.1))
+          {Holds = Serves 256 (Watches g.H.Handler.goes) job.watching run.new.handler None None (λ passage. ⊥) (λ passage. ⊥) run.result}
+          c.new-outlet.result run.new.outlet job.end c.into_end-end.result number begins ends run.ensures.serves;
+      stopped = λ e. (run.ensures.stopped e).1;
+      memory = run.ensures.waits;
+    }

@@ -1,0 +1,35 @@
+use Rattle.std.proofs.Common.{rules, ◌≡◌, ◌∙◌, map, ap}
+use denote.Param.Send.{IsSync}
+use Rattle.dr_lock.proofs.Sent.{of_param}
+use Rattle.dr_disruptor_lock.specs.Serving.{given_job}
+use Rattle.dr_disruptor_lock.proofs.Crossing.{hands}
+use Rattle.dr_disruptor_lock.proofs.Kept.{are_joined}
+use Rattle.dr_disruptor_lock.proofs.Listing.{moved}
+use Rattle.dr_disruptor_lock.proofs.workers.fn.exchange.scope.Goals as goal
+
+-- a worker's closure may go to another thread: it has a reference to what all share, and its job
+pub spawn_with-requires-send-F : goal.spawn_with-requires-send-F
+spawn_with-requires-send-F g c κs within =
+    let ledger : IsSync g.row.L = of_param _ g.row.L c.requires.shared in
+    let workers : IsSync g.row.R = of_param _ g.row.R c.requires.workers in
+    let handlers = c.requires.handlers in
+    search hands depth 60 fits 20000
+
+-- what it gives back may be sent: its end, the handler, and what came of its work
+pub spawn_with-requires-send-T : goal.spawn_with-requires-send-T
+spawn_with-requires-send-T g c κs within =
+    let handlers = c.requires.handlers in
+    search hands depth 60 fits 20000
+
+pub loop-job-preserved : goal.loop-job-preserved
+loop-job-preserved g c =
+    let worker = c.in-Ok.worker in
+    let job : given_job worker ≡ c.in-Some.job = ap (λ p. p.job.value) c.in-Ok.ensures.ok ∙ c.of-promise.ensures in
+    moved given_job _ _ worker c.in-Some.job _ _ _ c.loop-job.invariant (search rules) job c.in-Some.ensures.steps.0
+
+pub returns-in-None : goal.returns-in-None
+returns-in-None g c =
+    let workers = c.loop-job.started.items in
+    let given : map given_job workers ≡ c.captures.jobs.items = search rules in
+    are_joined g.L.Exchange.begun c.captures.around.now.size g.H.Handler.goes c.captures.halter workers c.captures.jobs.items c.captures.tasks.items c.served.result given
+    c.served.ensures.halted c.served.ensures.sent c.served.ensures.kept

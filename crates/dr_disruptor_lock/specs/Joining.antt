@@ -1,0 +1,58 @@
+-- What the functions of a run promise one another of what its workers gave back.
+use Rattle.std.specs.Prelude.{◌≡◌, ℕ, ◌+◌, ◌/◌, List, [], ◌∷◌, ◌++◌, All, length, map, Option, IfOk}
+use mathlib.Core.Option.{some}
+use lib.ListN.{get_elem?}
+use Rattle.dr_seq.specs.declared.event.Event.{Event}
+use Rattle.dr_meaning.specs.Calls.Handling.{Relation}
+use Rattle.dr_meaning.specs.Meaning.Machine.{handlers}
+use Rattle.dr_workers.specs.declared.ended.Ended.{Ended}
+use Rattle.dr_workers.specs.declared.fault.WorkFault.{WorkFault}
+use Rattle.dr_lock.specs.Calls.Lock.{EndView, HasHalted}
+use Rattle.dr_lock.specs.Meaning.Audit.{IsAudited}
+use Rattle.dr_lock.specs.Meaning.History.{History, transcript}
+use Rattle.dr_disruptor_lock.specs.declared.jobs.Job.{Job}
+use Rattle.dr_disruptor_lock.specs.declared.jobs.Task.{Task}
+use Rattle.dr_disruptor_lock.specs.declared.running.Ran.{Ran}
+use Rattle.dr_disruptor_lock.specs.declared.sending.Sent.{Sent}
+use Rattle.dr_disruptor_lock.specs.declared.serving.Served.{Served}
+use Rattle.dr_disruptor_lock.specs.declared.workers.Joined.{Joined}
+use Rattle.dr_disruptor_lock.specs.Running.{IsHistoryOf}
+use Rattle.dr_disruptor_lock.specs.Serving.{Sending, Serving, Worker, given_job}
+use Rattle.dr_disruptor_lock.specs.Watching.{HasListed}
+
+-- each handler's worker gave back what it promised, in their order
+pub record AreKept {L A : Type 0} (begun : History Event) (goes : Relation Event A) (workers : List (Worker L A)) (served : List (Served L A)) : Type 0 where
+  pub many : length served ≡ length workers
+  pub each : (h : ℕ) (back : Served L A) → get_elem? served h ≡ some back
+      → (w : Worker L A) × (get_elem? workers h ≡ some w) × Serving begun goes (given_job w) back
+
+-- each job was done
+pub record AreServed {L A : Type 0} (begun : History Event) (goes : Relation Event A) (jobs : List (Job L A)) (served : List (Served L A)) : Type 0 where
+  pub many : length served ≡ length jobs
+  pub each : (h : ℕ) (back : Served L A) → get_elem? served h ≡ some back
+      → (job : Job L A) × (get_elem? jobs h ≡ some job) × Serving begun goes job back
+
+-- and each task
+pub record AreSent {L : Type 0} (begun : History Event) (size : ℕ) (tasks : List (Task L)) (sent : List (Sent L)) : Type 0 where
+  pub many : length sent ≡ length tasks
+  pub each : (p : ℕ) (back : Sent L) → get_elem? sent p ≡ some back
+      → (task : Task L) × (get_elem? tasks p ≡ some task) × Sending begun size task back
+
+-- the exchange was halted, and all ends came back
+pub record IsJoined {L A : Type 0} (begun : History Event) (size : ℕ) (goes : Relation Event A) (halter : EndView Event) (jobs : List (Job L A)) (tasks : List (Task L)) (joined : Joined L A) : Type 0 where
+  pub halted : HasHalted halter joined.halter
+  pub served : AreServed begun goes jobs joined.served.items
+  pub sent : AreSent begun size tasks joined.sent.items
+
+-- how workers ended whose numbers rise from a first one
+abbrev pub endings_from : ℕ → List (Option WorkFault) → List Ended
+endings_from who [] = []
+endings_from who (f ∷ faults) = record { who = who; fault = f } ∷ endings_from (who + 1) faults
+
+-- what came of what all workers gave back
+pub record IsSettled {L A : Type 0} (begun : History Event) (had : ℕ) (joined : Joined L A) (ran : Ran A) : Type 0 where
+  pub history : IsHistoryOf begun had (joined.halter ∷ map (λ s. s.end) joined.served.items ++ map (λ s. s.end) joined.sent.items) ran.recorded.history
+  pub afters : ran.handlers.items ≡ map (λ s. s.watching.handler) joined.served.items
+  pub endings : ran.endings.items ≡ endings_from 0 (map (λ s. s.fault) joined.served.items) ++ endings_from 16 (map (λ s. s.produced.fault) joined.sent.items)
+  pub audited : IfOk ran.list (λ list. IsAudited (transcript ran.recorded.history) (handlers ran.recorded.history.core.setup) (map (λ s. s.script.items) joined.sent.items) list.items)
+  pub shown : IfOk ran.list (λ list. All (HasListed list.items) (map (λ s. s.watching) joined.served.items))

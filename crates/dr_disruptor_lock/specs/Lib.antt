@@ -1,0 +1,5 @@
+pub mod Watching
+pub mod Jobs
+pub mod Serving
+pub mod Running
+pub mod Joining

@@ -1,0 +1,90 @@
+-- What came of a run behind a lock: what each handler went through, what each sender sent, how the workers ended, and what the history has of it.
+use Rattle.std.specs.Prelude.{◌≡◌, ◌≢◌, ℕ, ◌+◌, ◌^◌, ◌/◌, ◌≤◌, ◌==◌, max, if◌then◌else◌, sum_by, List, [], ◌∷◌, ◌++◌, length, map, take, Option, None, Some, IfNone, IfOk, IfErr}
+use mathlib.Core.Option.{some}
+use lib.ListN.{get_elem?}
+use Rattle.dr_seq.specs.declared.event.Event.{Event}
+use Rattle.dr_meaning.specs.declared.mode.Mode.TheVariants.{Multi}
+use Rattle.dr_meaning.specs.Calls.Calling.{SomeCalls}
+use Rattle.dr_meaning.specs.Calls.Handling.{Relation}
+use Rattle.dr_meaning.specs.Calls.OpenFault.{has_bad_producers}
+use Rattle.dr_meaning.specs.Meaning.Machine.{handlers, setup_of}
+use Rattle.dr_workers.specs.Calls.Serving as worker
+use Rattle.dr_workers.specs.declared.ended.Ended.{Ended}
+use Rattle.dr_workers.specs.declared.fault.WorkFault.{WorkFault}
+use Rattle.dr_workers.specs.declared.fault.WorkFault.TheVariants.{Memory, Stopped}
+use Rattle.dr_workers.specs.declared.producer.Produced.{Produced}
+use Rattle.dr_lock.specs.Calls.Asking.{InletAsks, OutletAsks}
+use Rattle.dr_lock.specs.Calls.Lock.{EndView, HasHalted, no_calls}
+use Rattle.dr_lock.specs.Meaning.Audit.{IsAudited}
+use Rattle.dr_lock.specs.Meaning.History.{GoesOn, History, IsRecorded, entries_since, halts_in, transcript}
+use Rattle.dr_lock.specs.Meaning.Merge.{IsMerge}
+use Rattle.dr_disruptor.specs.Running.{AllWentThrough}
+use Rattle.dr_disruptor.specs.declared.fault.RunFault.{RunFault}
+use Rattle.dr_disruptor.specs.declared.fault.RunFault.TheVariants as fault
+use Rattle.dr_disruptor_lock.specs.declared.running.Ran.{Ran}
+
+-- of a graph of so many handlers, where so many handlers and scripts were given: that the handlers differ, then that no exchange has so many producers, and else a lack of memory or of a thread
+abbrev pub refusal_of : ℕ → ℕ → ℕ → RunFault
+refusal_of graph given scripts =
+    if graph == given then (if has_bad_producers (Multi scripts) then fault.Senders scripts else fault.Memory) else fault.Handlers graph given
+
+-- all handlers went through one list of events, which is a merge of these lists
+pub record AllWentThroughMerge {A : Type 0} (goes : Relation Event A) (lists : List (List Event)) (starts afters : List A) (events : List Event) : Type 0 where
+  pub merge : IsMerge lists events
+  pub through : AllWentThrough goes events starts afters
+
+-- the first events of each script, as many as were sent of it
+abbrev pub fronts : List (List Event) → List Produced → List (List Event)
+fronts [] backs = []
+fronts (script ∷ scripts) [] = []
+fronts (script ∷ scripts) (back ∷ backs) = take back.sent script ∷ fronts scripts backs
+
+-- a worker's calls, each poll with room for 256 events and each as a call of the handler h, took a handler through exactly what its end handed out, and answered the fault that they came to. Nobody stops it, and it waits where memory runs out
+pub record HasServed {A : Type 0} (begun : History Event) (h : ℕ) (goes : Relation Event A) (start after : A) (end : EndView Event) (fault : Option WorkFault) : Type 0 where
+  pub calls : SomeCalls (OutletAsks begun h) no_calls end (worker.Serves 256 goes start after None None (λ passage. ⊥) (λ passage. ⊥) fault)
+  pub stopped : fault ≢ Some Stopped
+  pub memory : fault ≢ Some Memory
+
+-- a worker's calls, each as a call of the producer p, sent a script in claims of a quarter of the slots, as much of it as it says and all of it where it has no fault. Nobody stops it
+pub record HasSent (begun : History Event) (p size : ℕ) (script : List Event) (end : EndView Event) (produced : Produced) : Type 0 where
+  pub calls : SomeCalls (InletAsks begun p) no_calls end (worker.Sends (max (size / 4) 1) script (λ passage. ⊥) (λ passage. ⊥) produced)
+  pub within : produced.sent ≤ length script
+  pub all : IfNone produced.fault (produced.sent ≡ length script)
+  pub stopped : produced.fault ≢ Some Stopped
+
+-- a history that goes on from one which had so many entries, by as many calls as these ends had kept, and as many halts among them
+pub record IsHistoryOf (begun : History Event) (had : ℕ) (ends : List (EndView Event)) (h : History Event) : Type 0 where
+  pub recorded : IsRecorded h
+  pub goes_on : GoesOn begun h
+  pub calls : length h.entries ≡ had + sum_by (λ (end : EndView Event). end.calls) ends
+  pub halts : halts_in (entries_since begun h) ≡ sum_by (λ (end : EndView Event). end.halts) ends
+
+-- what came of scripts over an exchange that began so, each sent by a worker of its own
+pub record IsRan {A : Type 0} (goes : Relation Event A) (begun : History Event) (size : ℕ) (scripts : List (List Event)) (starts : List A) (ran : Ran A) : Type 0 where
+  -- the ends through which the exchange was halted, the handlers were served and the scripts sent, and what was sent
+  pub halter : EndView Event
+  pub outlets : List (EndView Event)
+  pub inlets : List (EndView Event)
+  pub produced : List Produced
+  pub halted : HasHalted no_calls halter
+  pub many : (length outlets ≡ length starts) × (length inlets ≡ length scripts) × (length produced ≡ length scripts)
+  -- the history has the calls of these ends that were kept, and no other since
+  pub history : IsHistoryOf begun (length begun.entries) (halter ∷ outlets ++ inlets) ran.recorded.history
+  -- each handler had its events through the end at its place, and each script was sent through the end at its place
+  pub serving : (h : ℕ) (start : A) → get_elem? starts h ≡ some start
+      → (after : A) × (end : EndView Event) × (f : Option WorkFault) × (get_elem? ran.handlers.items h ≡ some after) × (get_elem? outlets h ≡ some end)
+      × (get_elem? ran.endings.items h ≡ some (record { who = h; fault = f })) × HasServed begun h goes start after end f
+  pub sending : (p : ℕ) (script : List Event) → get_elem? scripts p ≡ some script
+      → (back : Produced) × (end : EndView Event) × (get_elem? produced p ≡ some back) × (get_elem? inlets p ≡ some end)
+      × (get_elem? ran.endings.items (length starts + p) ≡ some (record { who = 16 + p; fault = back.fault })) × HasSent begun p size script end back
+  pub ended : length ran.endings.items ≡ length starts + length scripts
+  -- the list is what an audit finds in the history of what was sent of the scripts, merged; and all handlers went through it
+  pub audited : IfOk ran.list (λ list. IsAudited (transcript ran.recorded.history) (handlers begun.core.setup) (fronts scripts produced) list.items)
+  pub went : IfOk ran.list (λ list. AllWentThrough goes list.items starts ran.handlers.items)
+
+-- so it is over a new exchange of a graph and so many slots, with a producer for each script
+pub record IsRun {A : Type 0} (goes : Relation Event A) (upstreams : List (List ℕ)) (size : ℕ) (scripts : List (List Event)) (starts : List A) (ran : Ran A) : Type 0 where
+  pub begun : History Event
+  pub setup : begun.core.setup ≡ setup_of upstreams size (Multi (length scripts)) (2 ^ 62)
+  pub fresh : begun.entries ≡ []
+  pub came : IsRan goes begun size scripts starts ran

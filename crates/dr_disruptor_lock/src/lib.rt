@@ -1,0 +1,20 @@
+//! The exchange behind a lock with its threads, in one call.
+//!
+//! [`run_locked`] opens the exchange of a graph behind a lock, starts a thread for each handler and one for each
+//! script, which sends it, and hands back the handlers, the history of the exchange, and the one list of events that
+//! all handlers went through ([`Ran`]). Begin with `specs/Running`: it says what each handler went through, and what
+//! the history has of it. The faults and the ways of waiting are those of `dr_disruptor`.
+#![tactic(auto)]
+
+mod around;
+mod comparing;
+mod jobs;
+mod running;
+mod sending;
+mod serving;
+mod settling;
+mod watching;
+mod workers;
+
+pub use comparing::HistoryFault;
+pub use running::{Ran, run_locked};

@@ -1,0 +1,189 @@
+//! A whole run over an exchange behind a lock.
+
+ghost use Rattle.std.specs.Prelude.{◌≡◌, ◌^◌, ◌≤◌, [], None, false, IfErr, IfOk, length, map};
+ghost use Rattle.dr_meaning.specs.declared.mode.Mode.TheVariants.{Multi};
+ghost use Rattle.dr_meaning.specs.Meaning.Machine.{setup_of};
+ghost use Rattle.dr_meaning.specs.Calls.OpenFault.{has_bad_producers};
+ghost use Rattle.dr_workers.specs.Meaning.FirstFault.{first_fault as first_of};
+ghost use Rattle.dr_disruptor.specs.Running.{AreFine};
+ghost use Rattle.dr_disruptor_lock.specs.Running.{AllWentThroughMerge, IsRan, IsRun, refusal_of};
+
+use crate::around::Around;
+use crate::comparing::HistoryFault;
+use crate::jobs::{jobs_of, new_end, tasks_of};
+use crate::settling::settled;
+use crate::workers::exchange;
+use dr_disruptor::{RunFault, WaitStrategy};
+use dr_graph::Graph;
+use dr_lock::{Exchange, Recorded, Shared};
+use dr_meaning::{Handler, MAX_LIMIT, Mode};
+use dr_seq::{Event, Size};
+use dr_workers::{Bell, Ended, WorkerFault, first_fault};
+use std::alloc::{AllocError, Global};
+use std::marker::Brand;
+use std::sync::Wait;
+use std::sync::ledger::Blank;
+use std::thread::Threads;
+
+/// What came of a run.
+#[derive(Drop)]
+pub struct Ran<H> {
+    /// The handlers, in the graph's order.
+    pub handlers: Vec<H>,
+    /// The exchange with its history: each call that it kept, and the events of its batches.
+    pub recorded: Recorded<Event>,
+    /// The one list of events that all handlers went through, by the history and by what each was shown.
+    pub list: Result<Vec<Event>, HistoryFault>,
+    /// How each worker ended: the handlers' in the graph's order, then the senders' in the order of their scripts,
+    /// whose numbers begin at 16.
+    pub endings: Vec<Ended>,
+}
+
+impl<H: Drop> Ran<H> {
+    /// The fault that is answered for the workers, if one of them has any.
+    pub fn fault(&self) -> Option<WorkerFault>
+        ensures first { result ≡ first_of self.now.endings.items }
+        ensures none { result ≡ None → AreFine self.now.endings.items }
+    {
+        first_fault(self.endings.as_slice())
+    }
+}
+
+// How many events all scripts have, or as many as there may be.
+fn events_in(scripts: &[Vec<Event>]) -> usize {
+    scripts
+        .iter()
+        .fold(0, |n: usize, script: &Vec<Event>| n.saturating_add(script.len()))
+}
+
+// How many entries a history has at most of so many events that so many handlers are shown: the claim, the write and
+// the publication of each, and for each handler its batch and its completion; the halt, and each handler's `Drained`.
+fn entries_for(handlers: usize, events: usize) -> Option<usize> {
+    let each = handlers.checked_mul(2)?.checked_add(3)?;
+    let all = each.checked_mul(events)?;
+    all.checked_add(handlers)?.checked_add(1)
+}
+
+// The exchange of a graph, with as many handlers as it has and so many producers, and room for its history.
+fn open(
+    alloc: Global,
+    graph: Graph,
+    size: Size,
+    handlers: usize,
+    scripts: usize,
+    events: usize,
+) -> Result<Recorded<Event>, RunFault>
+    ensures setup { IfOk result (λ recorded. recorded.history.core.setup ≡ setup_of graph.upstreams size (Multi scripts) (2 ^ 62)) }
+    ensures fresh { IfOk result (λ recorded. recorded.history.entries ≡ []) }
+    ensures many { IfOk result (λ _. handlers ≡ length graph.upstreams) }
+    ensures few { IfOk result (λ _. scripts ≤ 16) }
+    ensures fits { IfOk result (λ _. has_bad_producers (Multi scripts) ≡ false) }
+    ensures refused { IfErr result (λ e. e ≡ refusal_of (length graph.upstreams) handlers scripts) }
+{
+    let expected = graph.len();
+    if handlers != expected {
+        return Err(RunFault::Handlers {
+            graph: expected,
+            given: handlers,
+        });
+    }
+    let mode = Mode::Multi(scripts as u64);
+    if !mode.is_valid() {
+        return Err(RunFault::Senders { given: scripts });
+    }
+    let entries = entries_for(handlers, events).ok_or(AllocError)?;
+    let words = handlers.checked_mul(events).ok_or(AllocError)?;
+    match Recorded::open(
+        alloc,
+        graph,
+        size,
+        mode,
+        MAX_LIMIT,
+        Event::NONE,
+        entries,
+        words,
+    ) {
+        Ok(recorded) => Ok(recorded),
+        Err(_) => Err(RunFault::Memory),
+    }
+}
+
+// Runs an exchange behind a lock whose ledger begins with it, with a thread for each handler and each script.
+fn run_over<
+    L: Exchange<Event> + Send + Sync,
+    R: Threads + Wait + Sync,
+    H: Handler<Event> + Drop + Send,
+>(
+    rt: &R,
+    alloc: Global,
+    blank: Blank,
+    recorded: Recorded<Event>,
+    size: Size,
+    handlers: Vec<H>,
+    scripts: Vec<Vec<Event>>,
+    events: usize,
+    strategy: WaitStrategy,
+) -> Result<Ran<H>, AllocError>
+    requires name { blank.name ≡ L.name }
+    requires parts { blank.parts ≡ L.parts }
+    requires ends { blank.parts ≡ 65 }
+    requires begun { recorded.history ≡ L.begun }
+    requires few { length scripts.items ≤ 16 }
+    ensures { IfOk result (IsRan H.goes recorded.history size (map (λ s. s.items) scripts.items) handlers.items) }
+{
+    let mut shared = Shared::<Event, L>::new(recorded, blank);
+    let halter = new_end(&mut shared)?;
+    let jobs = jobs_of(alloc, &mut shared, handlers, events)?;
+    let tasks = tasks_of(alloc, &mut shared, scripts)?;
+    let bell = Bell::new();
+    let around = Around {
+        rt,
+        shared: &shared,
+        bell: &bell,
+        size,
+        strategy,
+    };
+    match exchange(alloc, &around, halter, jobs, tasks) {
+        Ok(joined) => settled(alloc, shared, joined),
+        Err(lacking) => Err(lacking),
+    }
+}
+
+/// Opens the exchange of a graph behind a lock, with a producer for each script, starts a thread for each handler,
+/// which stand in the graph's order, and one for each script, which sends it in claims of a quarter of the slots.
+/// Once all scripts are sent it halts the exchange, waits until each handler has had all events, and takes the
+/// exchange with its history from behind the lock. It then compares that history with what was sent and what each
+/// handler was shown: its answer is the one list that all handlers went through, in which each script has its own
+/// order. Which merge of the scripts it is may differ from run to run.
+///
+/// It is refused with `Handlers` where there are not as many handlers as the graph has, with `Senders` where there
+/// are no scripts or more than 16, and with `Memory` where a thread could not be started. Where memory runs out, or
+/// a thread cannot be started, what was done is lost. The graph is spent, at a fault too.
+pub fn run_locked<R: Threads + Wait + Sync, H: Handler<Event> + Drop + Send>(
+    rt: &R,
+    alloc: Global,
+    graph: Graph,
+    size: Size,
+    handlers: Vec<H>,
+    scripts: Vec<Vec<Event>>,
+    strategy: WaitStrategy,
+) -> Result<Ran<H>, RunFault>
+    // Where no worker has a fault and the history agrees, all handlers went through the list, a merge of the scripts.
+    ensures whole { IfOk result (λ ran. IfOk ran.list (λ list. AreFine ran.endings.items → AllWentThroughMerge H.goes (map (λ s. s.items) scripts.items) handlers.items ran.handlers.items list.items)) }
+    // It went over a new exchange of this graph and size, and the list is of what was sent of the scripts, whatever the faults.
+    ensures run { IfOk result (IsRun H.goes graph.upstreams size (map (λ s. s.items) scripts.items) handlers.items) }
+    ensures many { IfOk result (λ _. length handlers.items ≡ length graph.upstreams) }
+    ensures few { IfOk result (λ _. has_bad_producers (Multi (length scripts.items)) ≡ false) }
+    ensures refused { IfErr result (λ e. e ≡ refusal_of (length graph.upstreams) (length handlers.items) (length scripts.items)) }
+{
+    let (given, many) = (handlers.len(), scripts.len());
+    let events = events_in(scripts.as_slice());
+    let recorded = open(alloc, graph, size, given, many, events)?;
+    let blank = Blank::new(65);
+    match run_over::<Brand, R, H>(
+        rt, alloc, blank, recorded, size, handlers, scripts, events, strategy,
+    ) {
+        Ok(ran) => Ok(ran),
+        Err(_) => Err(RunFault::Memory),
+    }
+}

@@ -1,0 +1,136 @@
+//! How what the workers gave back comes together.
+
+ghost use Rattle.std.specs.Prelude.{◌≡◌, ◌+◌, ◌≤◌, ◌++◌, [], IfOk, OnOk, length, map};
+ghost use Rattle.dr_disruptor_lock.specs.Joining.{IsSettled, endings_from};
+ghost use Rattle.dr_disruptor_lock.specs.Running.{IsHistoryOf};
+
+use crate::comparing::compared;
+use crate::jobs::FIRST_SENDER;
+use crate::running::Ran;
+use crate::sending::Sent;
+use crate::serving::Served;
+use crate::watching::Watching;
+use crate::workers::Joined;
+use dr_lock::{End, Exchange, Recorded, Shared, finish};
+use dr_seq::Event;
+use dr_workers::Ended;
+use std::alloc::{AllocError, Global};
+use std::sync::ledger::Ledger;
+
+// What handlers' workers gave back: the ends and how they ended come behind others.
+fn handlers_apart<L: Ledger, H: Drop>(
+    alloc: Global,
+    served: Vec<Served<L, H>>,
+    ends: &mut Vec<End<Event, L>>,
+    endings: &mut Vec<Ended>,
+) -> Result<Vec<Watching<H>>, AllocError>
+    requires none { endings.old.items ≡ [] }
+    ensures watchings { IfOk result (λ watchings. watchings.items ≡ map (λ s. s.watching) served.items) }
+    ensures ends { OnOk result (ends.new.items ≡ ends.old.items ++ map (λ s. s.end) served.items) }
+    ensures endings { OnOk result (endings.new.items ≡ endings_from 0 (map (λ s. s.fault) served.items)) }
+{
+    let mut watchings = Vec::with_capacity(alloc, served.len())?;
+    for one in served {
+        let Served {
+            end,
+            watching,
+            fault,
+        } = one;
+        endings.push(Ended {
+            who: watchings.len(),
+            fault,
+        })?;
+        ends.push(end)?;
+        watchings.push(watching)?;
+    }
+    Ok(watchings)
+}
+
+// What senders' workers gave back: what was sent of each script, and the ends and how they ended behind the handlers'.
+fn senders_apart<L: Ledger>(
+    alloc: Global,
+    sent: Vec<Sent<L>>,
+    ends: &mut Vec<End<Event, L>>,
+    endings: &mut Vec<Ended>,
+) -> Result<Vec<Vec<Event>>, AllocError>
+    requires few { length sent.items ≤ 16 }
+    ensures scripts { IfOk result (λ scripts. scripts.items ≡ map (λ s. s.script) sent.items) }
+    ensures ends { OnOk result (ends.new.items ≡ ends.old.items ++ map (λ s. s.end) sent.items) }
+    ensures endings { OnOk result (endings.new.items ≡ endings.old.items ++ endings_from 16 (map (λ s. s.produced.fault) sent.items)) }
+{
+    let mut scripts = Vec::with_capacity(alloc, sent.len())?;
+    for one in sent {
+        let Sent {
+            end,
+            script,
+            produced,
+        } = one;
+        endings.push(Ended {
+            who: FIRST_SENDER + scripts.len(),
+            fault: produced.fault,
+        })?;
+        ends.push(end)?;
+        scripts.push(script)?;
+    }
+    Ok(scripts)
+}
+
+// The exchange from behind its lock, once all ends are back.
+fn taken_out<L: Exchange<Event>>(
+    shared: Shared<Event, L>,
+    ends: Vec<End<Event, L>>,
+) -> Recorded<Event>
+    requires all { shared.given ≤ length ends.items }
+    ensures { IsHistoryOf L.begun shared.begun ends.items result.history }
+{
+    match finish(shared, ends) {
+        Ok(recorded) => {
+            let _history = recorded.history();
+            recorded
+        }
+        Err(_) => unreachable!(),
+    }
+}
+
+// The handlers without their lists.
+fn handlers_of<H: Drop>(alloc: Global, watchings: Vec<Watching<H>>) -> Result<Vec<H>, AllocError>
+    ensures { IfOk result (λ handlers. handlers.items ≡ map (λ w. w.handler) watchings.items) }
+{
+    let mut handlers = Vec::with_capacity(alloc, watchings.len())?;
+    for watching in watchings {
+        let Watching { handler, .. } = watching;
+        handlers.push(handler)?;
+    }
+    Ok(handlers)
+}
+
+/// Brings all ends together, takes the exchange from behind its lock, and compares its history with what was sent
+/// and what the handlers were shown.
+pub(crate) fn settled<L: Exchange<Event>, H: Drop>(
+    alloc: Global,
+    shared: Shared<Event, L>,
+    joined: Joined<L, H>,
+) -> Result<Ran<H>, AllocError>
+    requires given { shared.given ≡ 1 + length joined.served.items + length joined.sent.items }
+    requires few { length joined.sent.items ≤ 16 }
+    ensures { IfOk result (IsSettled L.begun shared.begun joined) }
+{
+    let Joined {
+        halter,
+        served,
+        sent,
+    } = joined;
+    let (mut ends, mut endings) = (Vec::new(alloc), Vec::new(alloc));
+    ends.push(halter)?;
+    let watchings = handlers_apart(alloc, served, &mut ends, &mut endings)?;
+    let scripts = senders_apart(alloc, sent, &mut ends, &mut endings)?;
+    let recorded = taken_out(shared, ends);
+    let list = compared(alloc, &recorded, scripts.as_slice(), watchings.as_slice());
+    let handlers = handlers_of(alloc, watchings)?;
+    Ok(Ran {
+        handlers,
+        recorded,
+        list,
+        endings,
+    })
+}
