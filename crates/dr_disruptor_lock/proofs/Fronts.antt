@@ -1,6 +1,6 @@
 -- What was sent of each script, and how workers ended, by their places.
 use Rattle.std.proofs.Common.{◌≡◌, ℕ, zero, suc, ◌+◌, List, [], ◌∷◌, ◌++◌, length, map, take, Option, Result, Ok, Err, refl, sym, ap, ◌∙◌, arith}
-use Rattle.std.specs.Prelude.{None, IfOk}
+use Rattle.std.specs.Prelude.{None, IfErr, IfOk}
 use Rattle.std.proofs.lemmas.List.{length-append, take_all}
 use mathlib.Core.Option.{some, some-injective, some-ne-none}
 use lib.ListN.{get_elem?}
@@ -55,6 +55,10 @@ endings_many who (f ∷ faults) = let rest = endings_many (who + 1) faults in om
 
 pub fine_at : (endings : List Ended) (j : ℕ) (e : Ended) → AreFine endings → get_elem? endings j ≡ some e → e.fault ≡ None
 fine_at endings j e fine at = ap (λ (x : Ended). x.fault) (sym (value_at endings j e e at)) ∙ fine j e (at_below endings j e at)
+
+pub where_err : {V E : Type 0} (P Q : E → Type 0) (r : Result V E) → ((e : E) → P e → Q e) → IfErr r P → IfErr r Q
+where_err P Q (Ok v) then_is is = tt
+where_err P Q (Err e) then_is is = then_is e is
 
 -- what holds of a value that is there, from what does already
 pub where_ok : {V E : Type 0} (P Q : V → Type 0) (r : Result V E) → ((v : V) → P v → Q v) → IfOk r P → IfOk r Q

@@ -9,6 +9,7 @@ use Rattle.dr_seq.specs.declared.event.Event.{Event}
 use Rattle.dr_meaning.specs.Calls.Calling.{CallsLead}
 use Rattle.dr_meaning.specs.Calls.Handling.{GoesThrough, Relation}
 use Rattle.dr_meaning.specs.Meaning.Machine.{Setup, handlers}
+use Rattle.dr_meaning.specs.Meaning.Transcript.{Transcript}
 use Rattle.dr_workers.specs.Calls.Serving.{ToPoll}
 use Rattle.dr_workers.specs.Meaning.Work.{batches_in, shown_of}
 use Rattle.dr_workers.specs.declared.ended.Ended.{Ended}
@@ -18,9 +19,11 @@ use Rattle.dr_runs.proofs.Elements.{at_below, there, value_at}
 use Rattle.dr_runs.proofs.Lists.{at_behind}
 use Rattle.dr_lock.specs.Calls.Asking.{InletAsks, OutletAsks}
 use Rattle.dr_lock.specs.Calls.Lock.{EndView, HasHalted, no_calls}
-use Rattle.dr_lock.specs.Meaning.Audit.{IsAudited}
+use Rattle.dr_lock.specs.Meaning.Audit.{Faults, IsAudited}
 use Rattle.dr_lock.specs.Meaning.History.{History, transcript}
 use Rattle.dr_disruptor.specs.Running.{AllWentThrough, WentThrough}
+use Rattle.dr_disruptor_lock.specs.declared.comparing.HistoryFault.{HistoryFault}
+use Rattle.dr_disruptor_lock.specs.declared.comparing.HistoryFault.TheVariants.{Audit, Shown}
 use Rattle.dr_disruptor_lock.specs.declared.jobs.Job.{Job}
 use Rattle.dr_disruptor_lock.specs.declared.jobs.Task.{Task}
 use Rattle.dr_disruptor_lock.specs.declared.running.Ran.{Ran}
@@ -30,12 +33,25 @@ use Rattle.dr_disruptor_lock.specs.declared.watching.Watching.{Watching}
 use Rattle.dr_disruptor_lock.specs.declared.workers.Joined.{Joined}
 use Rattle.dr_disruptor_lock.specs.Jobs.{AreJobs, AreTasks, IsJobOf, IsTaskOf}
 use Rattle.dr_disruptor_lock.specs.Joining.{IsJoined, IsSettled, endings_from}
-use Rattle.dr_disruptor_lock.specs.Running.{HasSent, HasServed, IsHistoryOf, IsRan, fronts}
+use Rattle.dr_disruptor_lock.specs.Running.{HasSent, HasServed, IsAmiss, IsHistoryOf, IsRan, fronts}
 use Rattle.dr_disruptor_lock.specs.Serving.{Sending, Serving}
-use Rattle.dr_disruptor_lock.specs.Watching.{HasListed, IsNew}
+use Rattle.dr_disruptor_lock.specs.Watching.{HasListed, IsNew, IsUnlike}
 use Rattle.dr_disruptor_lock.proofs.Filled.{all_full}
-use Rattle.dr_disruptor_lock.proofs.Fronts.{ending_at, endings_many, fronts_sent, where_ok}
+use Rattle.dr_disruptor_lock.proofs.Fronts.{ending_at, endings_many, fronts_sent, where_err, where_ok}
 use Rattle.dr_disruptor_lock.proofs.Watched.{inside, went}
+
+-- Of a history.
+
+-- what is amiss with it, said of the same in other words
+amiss_as : (t : Transcript Event) (c d : Setup) (sent other : List (List Event)) (U V : List Event → ℕ → Type 0) (f : HistoryFault) → c ≡ d → sent ≡ other
+    → ((list : List Event) (h : ℕ) → U list h → V list h) → IsAmiss t (handlers c) sent U f → IsAmiss t (handlers d) other V f
+amiss_as t c d sent other U V (Audit f) same are then_is is =
+    subst (λ (s : Setup). Faults t (handlers s) other f) same (subst (λ (l : List (List Event)). Faults t (handlers c) l f) are is)
+amiss_as t c d sent other U V (Shown h) same are then_is is = (
+  is.0,
+  subst (λ (s : Setup). IsAudited t (handlers s) other is.0) same (subst (λ (l : List (List Event)). IsAudited t (handlers c) l is.0) are is.1),
+  then_is is.0 h is.2,
+)
 
 -- Of one worker.
 
@@ -257,5 +273,11 @@ module _ {L A : Type 0} (begun : History Event) (size : ℕ) (goes : Relation Ev
         subst (λ (c : Setup). IsAudited (transcript ran.recorded.history) (handlers c) (fronts scripts (map (λ (s : Sent L). s.produced) sent)) list.items) came.history.goes_on.setup
         (subst (λ (l : List (List Event)). IsAudited (transcript ran.recorded.history) (handlers ran.recorded.history.core.setup) l list.items) were_sent found))
         came.audited;
+    amiss = where_err _ (IsAmiss (transcript ran.recorded.history) (handlers begun.core.setup) (fronts scripts (map (λ (s : Sent L). s.produced) sent)) (λ list h. h < length starts)) ran.list
+        (λ f found.
+        amiss_as (transcript ran.recorded.history) ran.recorded.history.core.setup begun.core.setup (map (λ (s : Sent L). s.script.items) sent) (fronts scripts (map (λ (s : Sent L). s.produced) sent))
+        (IsUnlike (map (λ (s : Served L A). s.watching) served)) (λ list h. h < length starts) f came.history.goes_on.setup were_sent
+        (λ list h unlike. let below = unlike.0 in let many = length-map served (λ (s : Served L A). s.watching) ∙ many_served in omega arith) found)
+        came.amiss;
     went = where_ok _ (λ list. AllWentThrough goes list.items starts ran.handlers.items) ran.list (λ list listed. all_went list.items listed) came.shown;
   }

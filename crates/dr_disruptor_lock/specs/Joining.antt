@@ -1,5 +1,5 @@
 -- What the functions of a run promise one another of what its workers gave back.
-use Rattle.std.specs.Prelude.{◌≡◌, ℕ, ◌+◌, ◌/◌, List, [], ◌∷◌, ◌++◌, All, length, map, Option, IfOk}
+use Rattle.std.specs.Prelude.{◌≡◌, ℕ, ◌+◌, ◌/◌, List, [], ◌∷◌, ◌++◌, All, length, map, Option, IfErr, IfOk}
 use mathlib.Core.Option.{some}
 use lib.ListN.{get_elem?}
 use Rattle.dr_seq.specs.declared.event.Event.{Event}
@@ -16,9 +16,9 @@ use Rattle.dr_disruptor_lock.specs.declared.running.Ran.{Ran}
 use Rattle.dr_disruptor_lock.specs.declared.sending.Sent.{Sent}
 use Rattle.dr_disruptor_lock.specs.declared.serving.Served.{Served}
 use Rattle.dr_disruptor_lock.specs.declared.workers.Joined.{Joined}
-use Rattle.dr_disruptor_lock.specs.Running.{IsHistoryOf}
+use Rattle.dr_disruptor_lock.specs.Running.{IsAmiss, IsHistoryOf}
 use Rattle.dr_disruptor_lock.specs.Serving.{Sending, Serving, Worker, given_job}
-use Rattle.dr_disruptor_lock.specs.Watching.{HasListed}
+use Rattle.dr_disruptor_lock.specs.Watching.{HasListed, IsUnlike}
 
 -- each handler's worker gave back what it promised, in their order
 pub record AreKept {L A : Type 0} (begun : History Event) (goes : Relation Event A) (workers : List (Worker L A)) (served : List (Served L A)) : Type 0 where
@@ -55,4 +55,5 @@ pub record IsSettled {L A : Type 0} (begun : History Event) (had : ℕ) (joined 
   pub afters : ran.handlers.items ≡ map (λ s. s.watching.handler) joined.served.items
   pub endings : ran.endings.items ≡ endings_from 0 (map (λ s. s.fault) joined.served.items) ++ endings_from 16 (map (λ s. s.produced.fault) joined.sent.items)
   pub audited : IfOk ran.list (λ list. IsAudited (transcript ran.recorded.history) (handlers ran.recorded.history.core.setup) (map (λ s. s.script.items) joined.sent.items) list.items)
+  pub amiss : IfErr ran.list (IsAmiss (transcript ran.recorded.history) (handlers ran.recorded.history.core.setup) (map (λ s. s.script.items) joined.sent.items) (IsUnlike (map (λ s. s.watching) joined.served.items)))
   pub shown : IfOk ran.list (λ list. All (HasListed list.items) (map (λ s. s.watching) joined.served.items))

@@ -1,5 +1,5 @@
 -- What came of a run behind a lock: what each handler went through, what each sender sent, how the workers ended, and what the history has of it.
-use Rattle.std.specs.Prelude.{◌≡◌, ◌≢◌, ℕ, ◌+◌, ◌^◌, ◌/◌, ◌≤◌, ◌==◌, max, if◌then◌else◌, sum_by, List, [], ◌∷◌, ◌++◌, length, map, take, Option, None, Some, IfNone, IfOk, IfErr}
+use Rattle.std.specs.Prelude.{◌≡◌, ◌≢◌, ℕ, ◌+◌, ◌^◌, ◌/◌, ◌<◌, ◌≤◌, ◌==◌, max, if◌then◌else◌, sum_by, List, [], ◌∷◌, ◌++◌, length, map, take, Option, None, Some, IfNone, IfOk, IfErr}
 use mathlib.Core.Option.{some}
 use lib.ListN.{get_elem?}
 use Rattle.dr_seq.specs.declared.event.Event.{Event}
@@ -8,6 +8,7 @@ use Rattle.dr_meaning.specs.Calls.Calling.{SomeCalls}
 use Rattle.dr_meaning.specs.Calls.Handling.{Relation}
 use Rattle.dr_meaning.specs.Calls.OpenFault.{has_bad_producers}
 use Rattle.dr_meaning.specs.Meaning.Machine.{handlers, setup_of}
+use Rattle.dr_meaning.specs.Meaning.Transcript.{Transcript}
 use Rattle.dr_workers.specs.Calls.Serving as worker
 use Rattle.dr_workers.specs.declared.ended.Ended.{Ended}
 use Rattle.dr_workers.specs.declared.fault.WorkFault.{WorkFault}
@@ -15,12 +16,14 @@ use Rattle.dr_workers.specs.declared.fault.WorkFault.TheVariants.{Memory, Stoppe
 use Rattle.dr_workers.specs.declared.producer.Produced.{Produced}
 use Rattle.dr_lock.specs.Calls.Asking.{InletAsks, OutletAsks}
 use Rattle.dr_lock.specs.Calls.Lock.{EndView, HasHalted, no_calls}
-use Rattle.dr_lock.specs.Meaning.Audit.{IsAudited}
+use Rattle.dr_lock.specs.Meaning.Audit.{Faults, IsAudited}
 use Rattle.dr_lock.specs.Meaning.History.{GoesOn, History, IsRecorded, entries_since, halts_in, transcript}
 use Rattle.dr_lock.specs.Meaning.Merge.{IsMerge}
 use Rattle.dr_disruptor.specs.Running.{AllWentThrough}
 use Rattle.dr_disruptor.specs.declared.fault.RunFault.{RunFault}
 use Rattle.dr_disruptor.specs.declared.fault.RunFault.TheVariants as fault
+use Rattle.dr_disruptor_lock.specs.declared.comparing.HistoryFault.{HistoryFault}
+use Rattle.dr_disruptor_lock.specs.declared.comparing.HistoryFault.TheVariants.{Audit, Shown}
 use Rattle.dr_disruptor_lock.specs.declared.running.Ran.{Ran}
 
 -- of a graph of so many handlers, where so many handlers and scripts were given: that the handlers differ, then that no exchange has so many producers, and else a lack of memory or of a thread
@@ -59,6 +62,11 @@ pub record IsHistoryOf (begun : History Event) (had : ℕ) (ends : List (EndView
   pub calls : length h.entries ≡ had + sum_by (λ (end : EndView Event). end.calls) ends
   pub halts : halts_in (entries_since begun h) ≡ sum_by (λ (end : EndView Event). end.halts) ends
 
+-- what is amiss with a history: an audit finds a fault in it, or a handler is unlike the list that the audit finds
+abbrev pub IsAmiss : Transcript Event → ℕ → List (List Event) → (List Event → ℕ → Type 0) → HistoryFault → Type 0
+IsAmiss t handlers sent IsUnlike (Audit f) = Faults t handlers sent f
+IsAmiss t handlers sent IsUnlike (Shown h) = (list : List Event) × IsAudited t handlers sent list × IsUnlike list h
+
 -- what came of scripts over an exchange that began so, each sent by a worker of its own
 pub record IsRan {A : Type 0} (goes : Relation Event A) (begun : History Event) (size : ℕ) (scripts : List (List Event)) (starts : List A) (ran : Ran A) : Type 0 where
   -- the ends through which the exchange was halted, the handlers were served and the scripts sent, and what was sent
@@ -81,6 +89,7 @@ pub record IsRan {A : Type 0} (goes : Relation Event A) (begun : History Event) 
   -- the list is what an audit finds in the history of what was sent of the scripts, merged; and all handlers went through it
   pub audited : IfOk ran.list (λ list. IsAudited (transcript ran.recorded.history) (handlers begun.core.setup) (fronts scripts produced) list.items)
   pub went : IfOk ran.list (λ list. AllWentThrough goes list.items starts ran.handlers.items)
+  pub amiss : IfErr ran.list (IsAmiss (transcript ran.recorded.history) (handlers begun.core.setup) (fronts scripts produced) (λ list h. h < length starts))
 
 -- so it is over a new exchange of a graph and so many slots, with a producer for each script
 pub record IsRun {A : Type 0} (goes : Relation Event A) (upstreams : List (List ℕ)) (size : ℕ) (scripts : List (List Event)) (starts : List A) (ran : Ran A) : Type 0 where

@@ -1,5 +1,5 @@
 -- What a handler that lists its events keeps of them.
-use Rattle.std.specs.Prelude.{◌≡◌, ℕ, Bool, true, List, [], ◌∷◌, ◌++◌, length}
+use Rattle.std.specs.Prelude.{◌≡◌, ℕ, ◌<◌, Bool, true, List, [], ◌∷◌, ◌++◌, length, slice_index_or}
 use Rattle.dr_seq.specs.declared.event.Event.{Event}
 use Rattle.dr_meaning.specs.Calls.Handling.{Relation}
 use Rattle.dr_disruptor_lock.specs.declared.watching.Watching.{Watching}
@@ -13,6 +13,10 @@ pub record Watches {A : Type 0} (goes : Relation Event A) (old : Watching A) (ev
 -- it was shown just these events, in sequence order from 0 on, and the last of them ended what was available
 abbrev pub HasListed : {A : Type 0} → List Event → Watching A → Type 0
 HasListed events w = (w.is_whole ≡ true) × (w.is_ended ≡ true) × (w.list.items ≡ events)
+
+-- the one at a place was not shown just these events
+abbrev pub IsUnlike : {A : Type 0} → List (Watching A) → List Event → ℕ → Type 0
+IsUnlike {A} ws events h = (h < length ws) × ((w : Watching A) → HasListed events (slice_index_or ws h w) → ⊥)
 
 -- a handler that was shown nothing yet
 abbrev pub IsNew : {A : Type 0} → A → Watching A → Type 0

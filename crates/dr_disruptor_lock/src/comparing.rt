@@ -1,10 +1,11 @@
 //! Whether the history of a run is that of what its workers sent and were shown.
 
-ghost use Rattle.std.specs.Prelude.{◌≡◌, All, IfNone, IfOk, map};
+ghost use Rattle.std.specs.Prelude.{◌≡◌, All, IfErr, IfNone, IfOk, IfSome, map};
 ghost use Rattle.dr_meaning.specs.Meaning.Machine.{handlers};
-ghost use Rattle.dr_lock.specs.Meaning.Audit.{IsAudited, scripts_of};
+ghost use Rattle.dr_lock.specs.Meaning.Audit.{Faults, IsAudited, scripts_of};
 ghost use Rattle.dr_lock.specs.Meaning.History.{transcript};
-ghost use Rattle.dr_disruptor_lock.specs.Watching.{HasListed};
+ghost use Rattle.dr_disruptor_lock.specs.Running.{IsAmiss};
+ghost use Rattle.dr_disruptor_lock.specs.Watching.{HasListed, IsUnlike};
 
 use crate::watching::Watching;
 use dr_lock::{AuditFault, Recorded, audit};
@@ -37,7 +38,8 @@ fn views<'a>(alloc: Global, scripts: &'a [Vec<Event>]) -> Result<Vec<&'a [Event]
 
 // The least handler that was not shown just these events.
 fn first_unlike<H: Drop>(watchings: &[Watching<H>], events: &[Event]) -> Option<usize>
-    ensures { IfNone result (All (HasListed events.now) watchings.now) }
+    ensures none { IfNone result (All (HasListed events.now) watchings.now) }
+    ensures unlike { IfSome result (IsUnlike watchings.now events.now) }
 {
     for h in 0..watchings.len() {
         if !watchings[h].has_listed(events) {
@@ -53,7 +55,8 @@ fn audited(
     recorded: &Recorded<Event>,
     scripts: &[Vec<Event>],
 ) -> Result<Vec<Event>, AuditFault>
-    ensures { IfOk result (λ list. IsAudited (transcript recorded.now.history) (handlers recorded.now.history.core.setup) (map (λ v. v.items) scripts.now) list.items) }
+    ensures list { IfOk result (λ list. IsAudited (transcript recorded.now.history) (handlers recorded.now.history.core.setup) (map (λ v. v.items) scripts.now) list.items) }
+    ensures fault { IfErr result (Faults (transcript recorded.now.history) (handlers recorded.now.history.core.setup) (map (λ v. v.items) scripts.now)) }
 {
     let views = views(alloc, scripts)?;
     audit(alloc, recorded, views.as_slice())
@@ -69,6 +72,7 @@ pub(crate) fn compared<H: Drop>(
 ) -> Result<Vec<Event>, HistoryFault>
     ensures audited { IfOk result (λ list. IsAudited (transcript recorded.now.history) (handlers recorded.now.history.core.setup) (map (λ v. v.items) scripts.now) list.items) }
     ensures shown { IfOk result (λ list. All (HasListed list.items) watchings.now) }
+    ensures amiss { IfErr result (IsAmiss (transcript recorded.now.history) (handlers recorded.now.history.core.setup) (map (λ v. v.items) scripts.now) (IsUnlike watchings.now)) }
 {
     match audited(alloc, recorded, scripts) {
         Ok(list) => match first_unlike(watchings, list.as_slice()) {
