@@ -3,7 +3,7 @@ pub mod Filled
 pub mod Asking
 pub mod Crossing
 pub mod Listing
-pub mod Sending
+pub mod Sends
 pub mod Kept
 pub mod Fronts
 pub mod Returned

@@ -5,7 +5,7 @@ use Rattle.dr_lock.specs.declared.locked.LockedInlet.{LockedInlet}
 use Rattle.dr_workers.specs.Calls.Serving.{Sends}
 use Rattle.dr_disruptor_lock.specs.declared.sending.Sent.{Sent}
 use Rattle.dr_disruptor_lock.proofs.Asking.{asked}
-use Rattle.dr_disruptor_lock.proofs.Sending.{sends}
+use Rattle.dr_disruptor_lock.proofs.Sends.{sends}
 use Rattle.dr_disruptor_lock.proofs.sending.send.Goals as goal
 
 pub returns : goal.returns

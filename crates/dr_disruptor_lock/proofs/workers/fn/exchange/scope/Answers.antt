@@ -1,10 +1,10 @@
-use Rattle.std.proofs.Common.{rules, ◌≡◌, ◌∙◌, map, ap}
+use Rattle.std.proofs.Common.{rules, ◌≡◌, ◌∙◌, ◌++◌, ◌∷◌, [], length, map, ap, arith}
 use denote.Param.Send.{IsSync}
 use Rattle.dr_lock.proofs.Sent.{of_param}
 use Rattle.dr_disruptor_lock.specs.Serving.{given_job}
 use Rattle.dr_disruptor_lock.proofs.Crossing.{hands}
 use Rattle.dr_disruptor_lock.proofs.Kept.{are_joined}
-use Rattle.dr_disruptor_lock.proofs.Listing.{moved}
+use Rattle.dr_disruptor_lock.proofs.Listing.{all_moved, moved}
 use Rattle.dr_disruptor_lock.proofs.workers.fn.exchange.scope.Goals as goal
 
 -- a worker's closure may go to another thread: it has a reference to what all share, and its job
@@ -25,11 +25,16 @@ pub loop-job-preserved : goal.loop-job-preserved
 loop-job-preserved g c =
     let worker = c.in-Ok.worker in
     let job : given_job worker ≡ c.in-Some.job = ap (λ p. p.job.value) c.in-Ok.ensures.ok ∙ c.of-promise.ensures in
-    moved given_job _ _ worker c.in-Some.job _ _ _ c.loop-job.invariant (search rules) job c.in-Some.ensures.steps.0
+    let pushed : c.push.new.self.items ≡ c.loop-job.started.items ++ worker ∷ [] = search rules in
+    moved given_job _ _ worker c.in-Some.job _ _ _ c.loop-job.invariant pushed job c.in-Some.ensures.steps.0
 
-pub returns-in-None : goal.returns-in-None
-returns-in-None g c =
+pub returns : goal.returns
+returns g c =
     let workers = c.loop-job.started.items in
-    let given : map given_job workers ≡ c.captures.jobs.items = search rules in
+    let over = c.in-None.ensures.steps.0 in
+    let rest = c.loop-job.job-iterator.rest in
+    let left = rest.ok in
+    let none : length rest.items ≡ 0 = omega arith in
+    let given : map given_job workers ≡ c.captures.jobs.items = all_moved given_job workers rest.items c.captures.jobs.items (c.loop-job.invariant ∙ c.into_iter-job-iterator.ensures.into_iter_gives.0) none in
     are_joined g.L.Exchange.begun c.captures.around.now.size g.H.Handler.goes c.captures.halter workers c.captures.jobs.items c.captures.tasks.items c.served.result given
     c.served.ensures.halted c.served.ensures.sent c.served.ensures.kept

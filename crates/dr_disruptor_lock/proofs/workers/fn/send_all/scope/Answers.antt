@@ -1,16 +1,12 @@
-use Rattle.std.proofs.Common.{rules, ◌≡◌, ◌∙◌, ◌++◌, [], ℕ, List, length, map, ap, subst, sym, arith}
-use Rattle.std.proofs.lemmas.List.{append-nil}
+use Rattle.std.proofs.Common.{rules, ◌≡◌, ◌∙◌, All, length, map, ap, subst, sym, arith}
 use Rattle.std.proofs.lemmas.List.Elements.{All-push}
-use mathlib.Core.Option.{some}
-use lib.ListN.{get_elem?}
 use denote.Param.Send.{IsSync}
 use Rattle.dr_lock.proofs.Sent.{of_param}
 use Rattle.dr_runs.proofs.Elements.{at_below, value_at}
-use Rattle.dr_disruptor_lock.specs.declared.jobs.Task.{Task}
 use Rattle.dr_disruptor_lock.specs.Serving.{Producer, given_size, given_task}
 use Rattle.dr_disruptor_lock.proofs.Crossing.{crosses, gives}
 use Rattle.dr_disruptor_lock.proofs.Kept.{are_sent}
-use Rattle.dr_disruptor_lock.proofs.Listing.{moved}
+use Rattle.dr_disruptor_lock.proofs.Listing.{all_moved, moved}
 use Rattle.dr_disruptor_lock.proofs.workers.fn.send_all.scope.Goals as goal
 
 -- a worker's closure may go to another thread: it has a reference to what all share, and its task
@@ -43,7 +39,11 @@ returns g c =
     let workers = c.loop-task.started.items in
     let sent = c.in_ok-join_promised.field-0.items in
     let many : length sent ≡ length workers = search rules in
-    let given : map given_task workers ≡ c.captures.tasks.items = search rules in
+    let over = c.in-None.ensures.steps.0 in
+    let rest = c.loop-task.task-iterator.rest in
+    let left = rest.ok in
+    let none : length rest.items ≡ 0 = omega arith in
+    let given : map given_task workers ≡ c.captures.tasks.items = all_moved given_task workers rest.items c.captures.tasks.items (was.0 ∙ c.into_iter-task-iterator.ensures.into_iter_gives.0) none in
     are_sent g.L.Exchange.begun c.captures.around.now.size workers c.captures.tasks.items sent given
     (λ p w at. ap given_size (sym (value_at workers p w w at)) ∙ was.1 p w (at_below workers p w at)) many
     (λ p back below. let k = (c.in_ok-join_promised.ensures.each p back (omega arith)).1 in (k.handle, k.handle_is, k.kept))
