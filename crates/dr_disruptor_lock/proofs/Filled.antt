@@ -89,4 +89,4 @@ module _ (begun : History Event) (h : ℕ) where
   all_full room due a b (PollsInto before after (Err trouble) ∷ calls) lead order =
       all_full room (due_after due (PollsInto before after (Err trouble))) lead.0 b calls lead.2 order.1
   all_full room due a b (CompletesBelow upto answer ∷ calls) lead order =
-      all_full room (due_after due (CompletesBelow upto answer)) lead.0 b calls lead.2 order.1
+      all_full room (due_after {E = Event} due (CompletesBelow upto answer)) lead.0 b calls lead.2 order.1

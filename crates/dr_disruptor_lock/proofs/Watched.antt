@@ -1,5 +1,5 @@
 -- What a handler went through that listed what it was shown.
-use Rattle.std.proofs.Common.{◌≡◌, ◌<◌, ◌≤◌, ◌+◌, ℕ, Bool, true, List, [], ◌∷◌, ◌++◌, length, map, All, inl, inr, refl, sym, ap, subst, ◌∙◌, arith, append_assoc, length-append}
+use Rattle.std.proofs.Common.{◌≡◌, ◌<◌, ◌≤◌, ◌+◌, ℕ, Bool, true, false, List, [], ◌∷◌, ◌++◌, length, map, All, inl, inr, refl, sym, ap, subst, ◌∙◌, arith, append_assoc, length-append}
 use Rattle.std.specs.Prelude.{◌⊎◌}
 use Rattle.std.proofs.lemmas.List.{append-nil, length_push, map-append}
 use Rattle.std.proofs.lemmas.List.Elements.{All-cons, All-nil}
@@ -60,7 +60,7 @@ showings_end last [] first end some is = absurd (omega arith)
 showings_end last (e ∷ []) first end some is = is
 showings_end last (e ∷ f ∷ events) first end some is =
     showings_end last (f ∷ events) (first + 1) end (omega arith)
-    (ends_behind last (showings (e ∷ []) first end) (showings (f ∷ events) (first + 1) end ++ []) is)
+    (ends_behind last (showings (e ∷ []) first false) (showings (f ∷ events) (first + 1) end ++ []) is)
 
 -- Of several.
 

@@ -1,11 +1,14 @@
 use Rattle.std.proofs.Common.{rules, ◌≡◌, ◌∙◌, ◌+◌, ◌≤◌, ℕ, List, length, map, ap, subst, sym, arith}
+use Rattle.std.specs.Prelude.{IfOk}
 use Rattle.std.specs.Global.{Vec}
-use Rattle.std.proofs.lemmas.List.{length-map}
 use Rattle.dr_seq.specs.declared.event.Event.{Event}
+use Rattle.dr_lock.specs.Calls.Lock.{SharedView}
 use Rattle.dr_lock.specs.Meaning.History.{History}
+use Rattle.dr_disruptor_lock.specs.declared.jobs.Task.{Task}
 use Rattle.dr_disruptor_lock.specs.Joining.{IsSettled}
 use Rattle.dr_disruptor_lock.specs.Running.{IsRan}
 use Rattle.dr_disruptor_lock.proofs.Fronts.{where_ok}
+use Rattle.dr_disruptor_lock.proofs.Listing.{map_map}
 use Rattle.dr_disruptor_lock.proofs.Returned.{is_ran}
 use Rattle.dr_disruptor_lock.proofs.running.run_over.Goals as goal
 
@@ -25,10 +28,17 @@ returns-in-Ok g c =
     let begun = g.L.Exchange.begun in
     let is = c.in-Ok.ensures in
     let scripts = map (λ (s : Vec Event). s.items) c.args.scripts.items in
-    let listed : map (λ t. t.script.items) c.in_ok-tasks.tasks.items ≡ scripts = search rules in
-    let had : c.in_ok-tasks.tasks.begun ≡ length begun.entries = search rules in
-    let of_begun : _ = where_ok (IsSettled begun _ c.in-Ok.joined) (IsRan g.H.Handler.goes begun c.args.size scripts c.args.handlers.items) c.settled.result
-    (λ ran came. is_ran begun c.args.size g.H.Handler.goes scripts c.args.handlers.items c.in_ok-halter.halter c.in_ok-jobs.jobs.items c.in_ok-tasks.tasks.items c.in-Ok.joined _ ran
+    let tasks = c.in_ok-tasks.tasks.items in
+    let listed : map (λ (t : Task g.row.L.Denot). t.script.items) tasks ≡ scripts =
+    sym (map_map (λ (s : Vec Event). s.items) (λ (t : Task g.row.L.Denot). t.script) tasks) ∙ ap (map (λ (s : Vec Event). s.items)) c.in_ok-tasks.ensures.scripts
+    in
+    let had : c.tasks_of.new.shared.begun ≡ length begun.entries =
+    c.in_ok-tasks.ensures.begun ∙ c.in_ok-jobs.ensures.begun ∙ ap (λ (s : SharedView). s.begun) c.in_ok-halter.ensures.given ∙ c.new-shared.ensures.begun
+    ∙ ap (λ (h : History Event). length h.entries) c.requires.begun
+    in
+    let of_begun : IfOk c.settled.result (IsRan g.H.Handler.goes begun c.args.size scripts c.args.handlers.items) =
+    where_ok (IsSettled begun c.tasks_of.new.shared.begun c.in-Ok.joined) (IsRan g.H.Handler.goes begun c.args.size scripts c.args.handlers.items) c.settled.result
+    (λ ran came. is_ran begun c.args.size g.H.Handler.goes scripts c.args.handlers.items c.in_ok-halter.halter c.in_ok-jobs.jobs.items tasks c.in-Ok.joined c.tasks_of.new.shared.begun ran
     c.in_ok-jobs.ensures.handlers c.in_ok-jobs.ensures.fresh listed c.in_ok-tasks.ensures.fresh is came c.in_ok-halter.ensures.unused had) c.settled.ensures
     in
-    subst (λ (b : History Event). _) (sym c.requires.begun) of_begun
+    subst (λ (b : History Event). IfOk c.settled.result (IsRan g.H.Handler.goes b c.args.size scripts c.args.handlers.items)) (sym c.requires.begun) of_begun
