@@ -1,7 +1,7 @@
 -- What was sent of each script, and how workers ended, by their places.
 use Rattle.std.proofs.Common.{◌≡◌, ℕ, zero, suc, ◌+◌, List, [], ◌∷◌, ◌++◌, length, map, take, Option, Result, Ok, Err, refl, sym, ap, ◌∙◌, arith}
 use Rattle.std.specs.Prelude.{None, IfErr, IfOk}
-use Rattle.std.proofs.lemmas.List.{length-append, take_all}
+use Rattle.std.proofs.lemmas.List.{take_all}
 use mathlib.Core.Option.{some, some-injective, some-ne-none}
 use lib.ListN.{get_elem?}
 use Rattle.dr_seq.specs.declared.event.Event.{Event}

@@ -1,8 +1,7 @@
 -- Where no worker has a fault, the list of a run is a merge of its scripts.
 use Rattle.std.proofs.Common.{◌≡◌, ℕ, ◌+◌, List, length, Option, sym, ap, subst, ◌∙◌}
 use Rattle.std.specs.Prelude.{None, IfNone, IfOk}
-use mathlib.Core.Option.{some, some-injective}
-use lib.ListN.{get_elem?}
+use mathlib.Core.Option.{some-injective}
 use Rattle.dr_seq.specs.declared.event.Event.{Event}
 use Rattle.dr_meaning.specs.Calls.Handling.{Relation}
 use Rattle.dr_meaning.specs.Meaning.Machine.{handlers}

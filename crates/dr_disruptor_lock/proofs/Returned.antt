@@ -1,6 +1,5 @@
 -- What came of a run, by what its workers gave back.
-use Rattle.std.proofs.Common.{◌≡◌, ℕ, ◌+◌, ◌<◌, List, [], ◌∷◌, ◌++◌, length, map, take, get_or, All, Option, refl, sym, ap, subst, ◌∙◌, arith, length-append}
-use Rattle.std.specs.Prelude.{None, IfOk}
+use Rattle.std.proofs.Common.{◌≡◌, ℕ, ◌+◌, ◌<◌, List, [], ◌∷◌, ◌++◌, length, map, take, get_or, All, Option, sym, ap, subst, ◌∙◌, arith, length-append}
 use Rattle.std.proofs.lemmas.List.{append-nil}
 use mathlib.Core.Option.{some, some-injective}
 use lib.ListN.{get_elem?, length-map}
@@ -14,7 +13,6 @@ use Rattle.dr_workers.specs.Calls.Serving.{ToPoll}
 use Rattle.dr_workers.specs.Meaning.Work.{batches_in, shown_of}
 use Rattle.dr_workers.specs.declared.ended.Ended.{Ended}
 use Rattle.dr_workers.specs.declared.fault.WorkFault.{WorkFault}
-use Rattle.dr_workers.specs.declared.producer.Produced.{Produced}
 use Rattle.dr_runs.proofs.Elements.{at_below, there, value_at}
 use Rattle.dr_runs.proofs.Lists.{at_behind}
 use Rattle.dr_lock.specs.Calls.Asking.{InletAsks, OutletAsks}
@@ -29,7 +27,6 @@ use Rattle.dr_disruptor_lock.specs.declared.jobs.Task.{Task}
 use Rattle.dr_disruptor_lock.specs.declared.running.Ran.{Ran}
 use Rattle.dr_disruptor_lock.specs.declared.sending.Sent.{Sent}
 use Rattle.dr_disruptor_lock.specs.declared.serving.Served.{Served}
-use Rattle.dr_disruptor_lock.specs.declared.watching.Watching.{Watching}
 use Rattle.dr_disruptor_lock.specs.declared.workers.Joined.{Joined}
 use Rattle.dr_disruptor_lock.specs.Jobs.{AreJobs, AreTasks, IsJobOf, IsTaskOf}
 use Rattle.dr_disruptor_lock.specs.Joining.{IsJoined, IsSettled, endings_from}

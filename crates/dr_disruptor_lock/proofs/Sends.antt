@@ -1,13 +1,11 @@
 -- What a sender's worker did, of the task that it was given.
-use Rattle.std.proofs.Common.{◌≡◌, ◌≢◌, ℕ, ◌/◌, ◌≤◌, max, List, length, take, Some, subst, ap, sym, ◌∙◌}
+use Rattle.std.proofs.Common.{◌≡◌, ◌≢◌, ℕ, ◌/◌, ◌≤◌, max, List, length, take, Some, subst}
 use Rattle.std.specs.Prelude.{IfNone}
 use Rattle.dr_seq.specs.declared.event.Event.{Event}
 use Rattle.dr_meaning.specs.Calls.Calling.{SomeCalls}
 use Rattle.dr_workers.specs.Calls.Serving as worker
 use Rattle.dr_workers.specs.declared.fault.WorkFault.TheVariants.{Stopped}
-use Rattle.dr_workers.specs.declared.producer.Produced.{Produced}
 use Rattle.dr_lock.specs.Calls.Asking.{InletAsks}
-use Rattle.dr_lock.specs.Calls.Lock.{EndView}
 use Rattle.dr_lock.specs.Meaning.History.{History}
 use Rattle.dr_disruptor_lock.specs.declared.jobs.Task.{Task}
 use Rattle.dr_disruptor_lock.specs.declared.sending.Sent.{Sent}

@@ -1,5 +1,5 @@
 -- What came of a run behind a lock: what each handler went through, what each sender sent, how the workers ended, and what the history has of it.
-use Rattle.std.specs.Prelude.{◌≡◌, ◌≢◌, ℕ, ◌+◌, ◌^◌, ◌/◌, ◌<◌, ◌≤◌, ◌==◌, max, if◌then◌else◌, sum_by, List, [], ◌∷◌, ◌++◌, length, map, take, Option, None, Some, IfNone, IfOk, IfErr}
+use Rattle.std.specs.Prelude.{◌≡◌, ◌≢◌, ℕ, ◌+◌, ◌^◌, ◌/◌, ◌<◌, ◌≤◌, ◌==◌, max, if◌then◌else◌, sum_by, List, [], ◌∷◌, ◌++◌, length, take, Option, None, Some, IfNone, IfOk, IfErr}
 use mathlib.Core.Option.{some}
 use lib.ListN.{get_elem?}
 use Rattle.dr_seq.specs.declared.event.Event.{Event}
@@ -10,7 +10,6 @@ use Rattle.dr_meaning.specs.Calls.OpenFault.{has_bad_producers}
 use Rattle.dr_meaning.specs.Meaning.Machine.{handlers, setup_of}
 use Rattle.dr_meaning.specs.Meaning.Transcript.{Transcript}
 use Rattle.dr_workers.specs.Calls.Serving as worker
-use Rattle.dr_workers.specs.declared.ended.Ended.{Ended}
 use Rattle.dr_workers.specs.declared.fault.WorkFault.{WorkFault}
 use Rattle.dr_workers.specs.declared.fault.WorkFault.TheVariants.{Memory, Stopped}
 use Rattle.dr_workers.specs.declared.producer.Produced.{Produced}

@@ -51,9 +51,10 @@ impl<H: Drop> Ran<H> {
 
 // How many events all scripts have, or as many as there may be.
 fn events_in(scripts: &[Vec<Event>]) -> usize {
-    scripts
-        .iter()
-        .fold(0, |n: usize, script: &Vec<Event>| n.saturating_add(script.len()))
+    scripts.iter().fold(
+        0,
+        |n: usize, script: &Vec<Event>| n.saturating_add(script.len()),
+    )
 }
 
 // How many entries a history has at most of so many events that so many handlers are shown: the claim, the write and

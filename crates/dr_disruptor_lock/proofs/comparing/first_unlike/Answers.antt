@@ -1,4 +1,4 @@
-use Rattle.std.proofs.Common.{rules, ◌≡◌, ◌<◌, All, length, subst}
+use Rattle.std.proofs.Common.{rules, ◌<◌, All, length, subst}
 use Rattle.std.proofs.lemmas.List.{take_all}
 use Rattle.std.proofs.lemmas.List.Elements.{All-more}
 use Rattle.dr_disruptor_lock.specs.Watching.{HasListed}

@@ -1,4 +1,4 @@
-use Rattle.std.proofs.Common.{rules, ◌≡◌, ◌+◌, ◌∙◌, length, ap, arith}
+use Rattle.std.proofs.Common.{rules, ◌≡◌, ◌+◌, ◌∙◌, length, ap}
 use Rattle.std.proofs.lemmas.List.{length_push}
 use Rattle.dr_disruptor_lock.specs.declared.jobs.Job.{Job}
 use Rattle.dr_disruptor_lock.specs.Jobs.{IsJobOf}

@@ -1,7 +1,5 @@
-use Rattle.std.proofs.Common.{rules, ◌≡◌, ◌∙◌, ◌^◌, ℕ, false, length, map, subst, sym, ap}
-use Rattle.std.specs.Prelude.{IfErr}
+use Rattle.std.proofs.Common.{map}
 use Rattle.std.specs.Global.{Vec}
-use Rattle.std.proofs.lemmas.List.{length-map}
 use Rattle.dr_seq.specs.declared.event.Event.{Event}
 use Rattle.dr_disruptor_lock.proofs.Merged.{went_whole}
 use Rattle.dr_disruptor_lock.proofs.running.run_locked.Goals as goal
