@@ -60,19 +60,25 @@ fn send<R: Threads + Wait + Sync>(rt: &R, alloc: Global) -> Result<Ran<Adder>, R
     )
 }
 
-fn main(rt: HostRuntime) -> ExitCode {
-    match send(&rt, rt.alloc()) {
-        Ok(Ran {
-            handlers,
-            list: Ok(list),
-            ..
-        }) => {
-            let _printed = rt.println(&list.len());
-            for adder in handlers.iter() {
-                let _printed = rt.println(&adder.total);
-            }
-            ExitCode::SUCCESS
-        }
-        _ => ExitCode::FAILURE,
+/// How many events all handlers went through, and the handlers, where the history agrees.
+fn whole(ran: Ran<Adder>) -> Option<(usize, Vec<Adder>)> {
+    let Ran { handlers, list, .. } = ran;
+    match list {
+        Ok(list) => Some((list.len(), handlers)),
+        Err(_) => None,
     }
+}
+
+fn main(rt: HostRuntime) -> ExitCode {
+    let Ok(ran) = send(&rt, rt.alloc()) else {
+        return ExitCode::FAILURE;
+    };
+    let Some((count, adders)) = whole(ran) else {
+        return ExitCode::FAILURE;
+    };
+    let _printed = rt.println(&count);
+    for adder in adders.iter() {
+        let _printed = rt.println(&adder.total);
+    }
+    ExitCode::SUCCESS
 }
