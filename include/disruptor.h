@@ -1,6 +1,6 @@
-/* The proved ring for C, and for every language that calls C: one sender or several hand events of two words to a graph of
- * handlers, each end on a thread of its own. No call waits but disruptor_wait and disruptor_sleep, and none but the openings
- * and disruptor_free takes memory or gives it back.
+/* The proved rings for C, and for every language that calls C: one sender or several hand events of two words, or one events of
+ * as many bytes as you say, to a graph of handlers, each end on a thread of its own. No call waits but disruptor_wait and
+ * disruptor_sleep, and none but the openings and disruptor_free takes memory or gives it back.
  *
  * Each call that lists refusals answers DISRUPTOR_OK or the number of one (DISRUPTOR_REFUSALS): the first for which there is
  * cause. A refused call changes nothing; at most it has looked at what other ends stored.
@@ -101,7 +101,9 @@ DISRUPTOR_HOLDS(sizeof(size_t) == 8);
     of(62, WRONG_END, "wrong-end", "the handle has an end of another kind") \
     of(63, STILL_OPEN, "still-open", "a handle that would be opened is open: free it first") \
     of(64, BAD_ORDER, "bad-order", "a handler's mask names itself, or one after it") \
-    of(65, BAD_POINTER, "bad-pointer", "a pointer is null or not aligned, or an array is longer than memory")
+    of(65, BAD_POINTER, "bad-pointer", "a pointer is null or not aligned, or an array is longer than memory") \
+    of(66, BAD_LENGTH, "bad-length", "there are not as many bytes as an event of the ring has") \
+    of(67, NOT_IN_HAND, "not-in-hand", "the handler has not taken the event, or has completed it")
 #define DISRUPTOR_NUMBER(number, name, text, why) DISRUPTOR_##name = number,
 enum { DISRUPTOR_OK = 0, DISRUPTOR_REFUSALS(DISRUPTOR_NUMBER) };
 /* The greatest limit of sequences. */
@@ -116,13 +118,22 @@ uint32_t disruptor_open_at(uint64_t size, uint64_t limit, const uint64_t *upstre
 uint32_t disruptor_open_several_at(uint64_t size, uint64_t limit, const uint64_t *upstreams, size_t masks, size_t handlers,
                                    disruptor_sender *senders, size_t ends, size_t count, disruptor_receiver *receivers,
                                    size_t places, size_t rooms, disruptor_halter *halter, size_t halters);
+uint32_t disruptor_open_bytes_at(uint64_t size, uint64_t limit, size_t bytes, const uint64_t *upstreams, size_t masks,
+                                 size_t handlers, disruptor_sender *sender, size_t senders, disruptor_receiver *receivers,
+                                 size_t places, size_t count, disruptor_halter *halter, size_t halters);
 void disruptor_free_at(void *handles, size_t count);
 uint32_t disruptor_claim_at(disruptor_sender *sender, size_t senders, uint64_t n, uint64_t *lo, size_t numbers);
 uint32_t disruptor_write_at(disruptor_sender *sender, size_t senders, uint64_t sequence, const disruptor_event *event, size_t events);
+uint32_t disruptor_write_bytes_at(disruptor_sender *sender, size_t senders, uint64_t sequence, const uint8_t *bytes, size_t there,
+                                  size_t count);
 uint32_t disruptor_publish_at(disruptor_sender *sender, size_t senders, uint64_t lo, uint64_t hi);
 uint32_t disruptor_close_at(disruptor_sender *sender, size_t senders);
 uint32_t disruptor_poll_at(disruptor_receiver *receiver, size_t receivers, disruptor_event *events, size_t places, size_t room,
                            disruptor_offer *offer, size_t offers);
+uint32_t disruptor_poll_bytes_at(disruptor_receiver *receiver, size_t receivers, uint64_t room, disruptor_offer *offer,
+                                 size_t offers);
+uint32_t disruptor_read_bytes_at(disruptor_receiver *receiver, size_t receivers, uint64_t sequence, uint8_t *into, size_t there,
+                                 size_t count);
 uint32_t disruptor_complete_at(disruptor_receiver *receiver, size_t receivers, uint64_t upto);
 uint32_t disruptor_halt_at(disruptor_halter *halter, size_t halters);
 uint32_t disruptor_progress_at(void *handle, size_t handles, disruptor_counts *counts, size_t places);
@@ -167,6 +178,21 @@ static inline uint32_t disruptor_open_several(uint64_t size, uint64_t limit, con
                                      DISRUPTOR_ONE(disruptor_halter, halter));
 }
 
+/* Opens a ring of bytes: one of one sender, as disruptor_open does, whose events have `bytes` bytes each, zeros at first. Its
+ * sender writes by disruptor_write_bytes, and a handler takes by disruptor_poll_bytes and reads by disruptor_read_bytes; all
+ * other calls are the same. An event is copied into the ring once, and out of it by each handler that reads it. Refusals: those
+ * of disruptor_open.
+ *
+ * Its events' memory, `size` times `bytes` and a little more, is not given back when its ends are freed. So open such a ring once
+ * for a program, and not again and again. */
+static inline uint32_t disruptor_open_bytes(uint64_t size, uint64_t limit, size_t bytes, const uint64_t *upstreams, size_t handlers,
+                                            disruptor_sender *sender, disruptor_receiver *receivers, size_t count,
+                                            disruptor_halter *halter) {
+    return disruptor_open_bytes_at(size, limit, bytes, DISRUPTOR_ARRAY(const uint64_t, upstreams, handlers), handlers,
+                                   DISRUPTOR_ONE(disruptor_sender, sender), DISRUPTOR_ARRAY(disruptor_receiver, receivers, count),
+                                   count, DISRUPTOR_ONE(disruptor_halter, halter));
+}
+
 /* In masks for so many handlers, puts handler `upstream` before `handler`: the upstreams of a graph, pair by pair. The masks
  * begin as zeros. Refusals: BAD_POINTER, BAD_ORDER (it does not come before, there is no such handler, or it is above 63). */
 static inline uint32_t disruptor_before(uint64_t *upstreams, size_t handlers, size_t upstream, size_t handler) {
@@ -195,6 +221,14 @@ static inline uint32_t disruptor_write(disruptor_sender *sender, uint64_t sequen
     return disruptor_write_at(DISRUPTOR_ONE(disruptor_sender, sender), sequence, DISRUPTOR_ONE(const disruptor_event, event));
 }
 
+/* The same in a ring of bytes: copies `length` bytes, just as many as an event of the ring has, to where the event lies.
+ * Refusals: BAD_POINTER (of either), NOT_OPEN, WRONG_END, BAD_LENGTH, NOT_CLAIMED, ALREADY_PUBLISHED. */
+static inline uint32_t disruptor_write_bytes(disruptor_sender *sender, uint64_t sequence, const void *bytes, size_t length) {
+    const uint8_t *from = (const uint8_t *)bytes;
+    return disruptor_write_bytes_at(DISRUPTOR_ONE(disruptor_sender, sender), sequence,
+                                    DISRUPTOR_ARRAY(const uint8_t, from, length), length);
+}
+
 /* Publishes the sequences from lo to hi, both among them. Refusals: BAD_POINTER, NOT_OPEN, WRONG_END, BAD_COUNT (lo is above
  * hi), NOT_CLAIMED (hi, by anybody); then of the first sequence at fault ALREADY_PUBLISHED, NOT_CLAIMED (by this sender) or
  * NOT_WRITTEN; and of one sender OUT_OF_ORDER. */
@@ -216,6 +250,21 @@ static inline uint32_t disruptor_poll(disruptor_receiver *receiver, disruptor_ev
                              DISRUPTOR_ONE(disruptor_offer, offer));
 }
 
+/* Takes the next events of a ring of bytes, `room` at most, and says in *offer which they are. The handler may read each of
+ * them until it completes it. Refusals: BAD_POINTER (of either), NOT_OPEN, WRONG_END, BAD_COUNT (no room); then *offer stays
+ * as it was. */
+static inline uint32_t disruptor_poll_bytes(disruptor_receiver *receiver, uint64_t room, disruptor_offer *offer) {
+    return disruptor_poll_bytes_at(DISRUPTOR_ONE(disruptor_receiver, receiver), room, DISRUPTOR_ONE(disruptor_offer, offer));
+}
+
+/* Copies the bytes of an event that the handler took and did not complete to `into`: `length`, just as many as an event of the
+ * ring has. Refusals: BAD_POINTER (of either), NOT_OPEN, WRONG_END, NOT_IN_HAND, BAD_LENGTH; then `into` stays as it was. */
+static inline uint32_t disruptor_read_bytes(disruptor_receiver *receiver, uint64_t sequence, void *into, size_t length) {
+    uint8_t *to = (uint8_t *)into;
+    return disruptor_read_bytes_at(DISRUPTOR_ONE(disruptor_receiver, receiver), sequence,
+                                   DISRUPTOR_ARRAY(uint8_t, to, length), length);
+}
+
 /* Completes all events below the sequence `upto`: those who follow may take them, and after a final handler their slots may
  * be claimed again. Refusals: BAD_POINTER, NOT_OPEN, WRONG_END, BEHIND, NOT_TAKEN. */
 static inline uint32_t disruptor_complete(disruptor_receiver *receiver, uint64_t upto) {
@@ -230,8 +279,8 @@ static inline uint32_t disruptor_halt(disruptor_halter *halter) {
 
 /* Says how far an end came, by its own calls: what the sender of one claimed and published, what a handler took and completed. Once
  * the threads are back that is all that they did; a thread may also ask its own handle at any time. A handler that was told
- * DRAINED took all that was published. Refusals: BAD_POINTER (of either), NOT_OPEN, WRONG_END (a halter, or one of several
- * senders); then *counts stays as it was. */
+ * DRAINED took all that was published. Refusals: BAD_POINTER (of either), NOT_OPEN, WRONG_END (a halter, one of several senders,
+ * or an end of a ring of bytes); then *counts stays as it was. */
 static inline uint32_t disruptor_progress(void *handle, disruptor_counts *counts) {
     size_t there = disruptor_there(handle, 8, sizeof(disruptor_sender), 1);
     return disruptor_progress_at(disruptor_or_nothing(handle, there), there, DISRUPTOR_ONE(disruptor_counts, counts));

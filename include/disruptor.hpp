@@ -9,6 +9,7 @@
 #include <memory>
 #include <optional>
 #include <stdexcept>
+#include <type_traits>
 #include <utility>
 #include <vector>
 
@@ -69,7 +70,7 @@ public:
     Handle *get() noexcept { return &handle_; }
     // A way to wait that sleeps until an end of this ring rings.
     waiting waits(std::uint64_t room) const noexcept { return waiting(room, bell_); }
-    // What a sender of one claimed and published, what a receiver took and completed.
+    // What a sender of one claimed and published, what a receiver took and completed; not of a ring of bytes.
     disruptor::counts progress() {
         disruptor::counts counts = {};
         check(disruptor_progress(&handle_, &counts));
@@ -141,6 +142,50 @@ public:
     }
 };
 
+// The ends of a ring of bytes, whose events are values that may be copied as their bytes.
+template <typename T>
+class sender_of : public sender {
+    static_assert(std::is_trivially_copyable<T>::value, "an event is copied as its bytes");
+
+public:
+    using sender::sender;
+    void write(std::uint64_t sequence, const T &what) { check(disruptor_write_bytes(get(), sequence, &what, sizeof what)); }
+};
+
+template <typename T>
+class receiver_of : public end<disruptor_receiver> {
+public:
+    using end<disruptor_receiver>::end;
+    offer poll(std::uint64_t room) {
+        offer found = {};
+        check(disruptor_poll_bytes(get(), room, &found));
+        return found;
+    }
+    // An event that was taken and not completed.
+    T read(std::uint64_t sequence) {
+        T what;
+        check(disruptor_read_bytes(get(), sequence, &what, sizeof what));
+        return what;
+    }
+    void complete(std::uint64_t upto) { check_and_ring(disruptor_complete(get(), upto)); }
+    // Hands each event to `handle(event, sequence, is_last_of_batch)` until the ring is drained, and sleeps while none comes.
+    template <typename Handler>
+    void run(std::uint64_t room, Handler &&handle) {
+        waiting how = waits(room);
+        for (;;) {
+            const offer found = poll(room);
+            if (found.kind == DISRUPTOR_DRAINED) return;
+            if (found.kind != DISRUPTOR_BATCH) {
+                how.wait();
+                continue;
+            }
+            how.found(found.count);
+            for (std::uint64_t k = 0; k < found.count; k++) handle(read(found.first + k), found.first + k, k + 1 == found.count);
+            complete(found.first + found.count);
+        }
+    }
+};
+
 class halter : public end<disruptor_halter> {
 public:
     using end::end;
@@ -156,6 +201,13 @@ struct ring {
 struct ring_of_several {
     std::vector<disruptor::sender> senders;
     std::vector<receiver> receivers;
+    disruptor::halter halter;
+};
+
+template <typename T>
+struct ring_of {
+    sender_of<T> sender;
+    std::vector<receiver_of<T>> receivers;
     disruptor::halter halter;
 };
 
@@ -195,6 +247,18 @@ inline ring open(std::uint64_t size, const std::vector<std::uint64_t> &upstreams
     std::vector<disruptor_receiver> receiving(upstreams.size(), disruptor_receiver DISRUPTOR_NEW);
     check(disruptor_open(size, limit, upstreams.data(), upstreams.size(), made.sender.get(), receiving.data(), receiving.size(),
                          made.halter.get()));
+    own(made.receivers, receiving);
+    return made;
+}
+
+// Opens a ring of bytes, whose memory for events stays: once for a program, and not again and again.
+template <typename T>
+ring_of<T> open_of(std::uint64_t size, const std::vector<std::uint64_t> &upstreams, std::uint64_t limit = DISRUPTOR_MAX_LIMIT) {
+    const disruptor::bell bell = std::make_shared<disruptor_bell>();
+    ring_of<T> made = {sender_of<T>(bell), unopened<receiver_of<T>>(upstreams.size(), bell), halter(bell)};
+    std::vector<disruptor_receiver> receiving(upstreams.size(), disruptor_receiver DISRUPTOR_NEW);
+    check(disruptor_open_bytes(size, limit, sizeof(T), upstreams.data(), upstreams.size(), made.sender.get(), receiving.data(),
+                               receiving.size(), made.halter.get()));
     own(made.receivers, receiving);
     return made;
 }

@@ -51,17 +51,24 @@ warns=(-Wall -Wextra -Werror -I"$top/include")
 c=(-std=c11 -O2 "${warns[@]}")
 guard=(-g -fsanitize=address,undefined -fno-sanitize-recover=all)
 
+# A ring of bytes keeps its events' memory, and one of too many asks for more than there is.
+keeps=(env ASAN_OPTIONS=detect_leaks=0:allocator_may_return_null=1)
+
 # What each program in C prints.
+orders='each handler had every order, whole'
 declare -A prints=([ring]=$all [senders]=$all [bell]=$'the handler had every event\neach came in time\nidleness costs next to nothing'
-    [refusals]='every misuse is refused by its number')
+    [refusals]='every misuse is refused by its number' [bytes]=$orders
+    [refusals_of_bytes]='every misuse of bytes is refused by its number')
 
 # Builds and runs each program in C with these words more.
 try_c() { # WHAT WORD..
-    local what=$1 program
+    local what=$1 program run
     shift
-    for program in ring senders bell refusals; do
+    for program in ring senders bell refusals bytes refusals_of_bytes; do
+        run=("$room/$program")
+        [[ $program != *bytes ]] || run=("${keeps[@]}" "${run[@]}")
         try "C $program$what" "${prints[$program]}" \
-            cc "${c[@]}" "$@" -o "$room/$program" "$top/examples/c/$program.c" "$library/libdisruptor.a" -lpthread -- "$room/$program"
+            cc "${c[@]}" "$@" -o "$room/$program" "$top/examples/c/$program.c" "$library/libdisruptor.a" -lpthread -- "${run[@]}"
     done
 }
 
@@ -86,6 +93,8 @@ fi
 if has c++ cpp; then
     try C++ "$size: the size is no power of two from 1 to 65536"$'\n'"$all" \
         c++ -std=c++17 -O2 "${warns[@]}" -o "$room/cpp" "$top/examples/cpp/ring.cpp" "$library/libdisruptor.a" -lpthread -- "$room/cpp"
+    try 'C++, bytes' "$orders" \
+        c++ -std=c++17 -O2 "${warns[@]}" -o "$room/bytes_cpp" "$top/examples/cpp/bytes.cpp" "$library/libdisruptor.a" -lpthread -- "$room/bytes_cpp"
 else
     skip C++
 fi
@@ -98,6 +107,8 @@ fi
 if command -v python3 > "$room/null" 2>&1 && python3 -c 'import ctypes' 2> "$room/null"; then
     try Python "$size"$'\n''a claim after the halt: halted'$'\n'"$all" \
         -- env PYTHONDONTWRITEBYTECODE=1 python3 "$top/examples/python/ring.py" "$library/libdisruptor.so"
+    try 'Python, bytes' 'an event of five bytes: bad-length'$'\n'"$orders" \
+        -- env PYTHONDONTWRITEBYTECODE=1 python3 "$top/examples/python/bytes.py" "$library/libdisruptor.so"
 else
     skip Python
 fi

@@ -3,7 +3,7 @@
 
     tests/over_c.py PROGRAM LIBRARY [RUNS [FIRST]]
 
-Every run is of one sender or of several, of a graph, a size, a limit and calls of its own, by the seeds FIRST, FIRST + 1 and so
+Every run is of one sender, of several or of a ring of bytes, of a graph, a size, a limit and calls of its own, by the seeds FIRST, FIRST + 1 and so
 on. Many calls are refused. A ring of one sender says that it drained only once it is closed, so a run halts at its end, where all
 that is claimed is published.
 """
@@ -11,6 +11,7 @@ that is claimed is published.
 import ctypes
 import os
 import random
+import struct
 import subprocess
 import sys
 import tempfile
@@ -21,6 +22,7 @@ sys.path.insert(0, f"{TOP}/examples/python")
 import disruptor  # noqa: E402
 
 CALLS = 200
+WORDS = struct.Struct("<QQ")
 
 
 class Exchange:
@@ -32,8 +34,13 @@ class Exchange:
         self.limit = chance.choice([1, 40, disruptor.MAX_LIMIT])
         handlers = chance.randrange(1, 6)
         masks = [sum(1 << up for up in range(k) if chance.random() < 0.4) for k in range(handlers)]
-        self.is_single = chance.random() < 0.5
-        if self.is_single:
+        kind = chance.choice(["words", "bytes", "several"])
+        self.is_single, self.is_of_bytes = kind != "several", kind == "bytes"
+        if self.is_of_bytes:
+            opened = disruptor.open_bytes(library, self.size, WORDS.size, masks, self.limit)
+            sender, self.receivers, self.halter = opened
+            self.senders, mode = [sender], "single"
+        elif self.is_single:
             sender, self.receivers, self.halter = disruptor.open(library, self.size, masks, self.limit)
             self.senders, mode = [sender], "single"
         else:
@@ -74,7 +81,8 @@ class Exchange:
 
     def write(self, p, sequence):
         first, second = self.chance.randrange(1 << 64), self.chance.choice([0, 1, (1 << 64) - 1])
-        self.call(f"write,{p},{sequence},{first},{second}", lambda _: "written", self.senders[p].write, sequence, first, second)
+        event = (WORDS.pack(first, second),) if self.is_of_bytes else (first, second)
+        self.call(f"write,{p},{sequence},{first},{second}", lambda _: "written", self.senders[p].write, sequence, *event)
 
     def publish(self, p, lo, hi):
         self.call(f"publish,{p},{lo},{hi}", lambda _: "published", self.senders[p].publish, lo, hi)
@@ -87,15 +95,20 @@ class Exchange:
         return min((it for it, owner in self.owner.items() if owner == p), default=self.claimed)
 
     def poll(self, k, room):
-        events = (disruptor.Event * room)()
+        events = (disruptor.Event * (0 if self.is_of_bytes else room))()
+
+        def pairs(offer):
+            if self.is_of_bytes:
+                return [WORDS.unpack(self.receivers[k].read(offer.first + at)) for at in range(offer.count)]
+            return [(it.first, it.second) for it in events[: offer.count]]
 
         def line(offer):
             if offer.kind != disruptor.BATCH:
                 return {disruptor.GATING: "gating", disruptor.IDLE: "idle", disruptor.DRAINED: "drained"}[offer.kind]
-            shown = [f"{it.first}:{it.second}" if it.second else f"{it.first}" for it in events[: offer.count]]
+            shown = [f"{first}:{second}" if second else f"{first}" for first, second in pairs(offer)]
             return " ".join([f"batch {offer.first}", "end" if offer.end else "more", *shown])
 
-        offer = self.call(f"poll,h{k},{room}", line, self.receivers[k].poll, events)
+        offer = self.call(f"poll,h{k},{room}", line, self.receivers[k].poll, room if self.is_of_bytes else events)
         if offer is not None and offer.kind == disruptor.BATCH:
             self.taken[k] = offer.first + offer.count
 
@@ -121,7 +134,9 @@ class Exchange:
             self.complete(k, self.near(self.taken[k]))
 
     def goes_as_far(self):
-        """Whether each end says that it came as far as its answers say."""
+        """Whether each end says that it came as far as its answers say. Those of a ring of bytes do not say it."""
+        if self.is_of_bytes:
+            return True
         ends = list(zip(self.receivers, zip(self.taken, self.completed)))
         if self.is_single:
             ends.append((self.senders[0], (self.claimed, self.claimed - len(self.owner))))

@@ -1,6 +1,7 @@
 """The proved ring for Python, by ctypes over libdisruptor.so.
 
     sender, receivers, halter = disruptor.open("libdisruptor.so", size=1024, upstreams=[0, 0b1, 0b1])
+    sender, receivers, halter = disruptor.open_bytes("libdisruptor.so", size=1024, length=32, upstreams=[0, 0b1])
 """
 
 import ctypes
@@ -46,11 +47,15 @@ def load(path):
     for name, *types in (
         ("open", number, number, ctypes.POINTER(number), size, size, handle, size, handle, size, size, handle, size),
         ("open_several", number, number, ctypes.POINTER(number), size, size, handle, size, size, handle, size, size, handle, size),
+        ("open_bytes", number, number, size, ctypes.POINTER(number), size, size, handle, size, handle, size, size, handle, size),
         ("claim", handle, size, number, ctypes.POINTER(number), size),
         ("write", handle, size, number, ctypes.POINTER(Event), size),
+        ("write_bytes", handle, size, number, ctypes.c_char_p, size, size),
         ("publish", handle, size, number, number),
         ("close", handle, size),
         ("poll", handle, size, ctypes.POINTER(Event), size, size, ctypes.POINTER(Offer), size),
+        ("poll_bytes", handle, size, number, ctypes.POINTER(Offer), size),
+        ("read_bytes", handle, size, number, ctypes.c_char_p, size, size),
         ("complete", handle, size, number),
         ("halt", handle, size),
         ("progress", handle, size, ctypes.POINTER(Counts), size),
@@ -113,9 +118,19 @@ class Sender(End):
                 if refusal.number not in (NO_ROOM, CONTENDED):
                     raise
                 time.sleep(0)
-        for k, (first, second) in enumerate(events):
-            self.write(lo + k, first, second)
+        for k, event in enumerate(events):
+            self.write(lo + k, *event)
         self.publish(lo, lo + len(events) - 1)
+
+
+class SenderOfBytes(Sender):
+    """Its events are `bytes` of the ring's length."""
+
+    def write(self, sequence, event):
+        self.call("write_bytes", sequence, event, len(event), len(event))
+
+    def send(self, events):
+        super().send([(event,) for event in events])
 
 
 class Receiver(End):
@@ -139,6 +154,40 @@ class Receiver(End):
                 time.sleep(0)
                 continue
             yield [(event.first, event.second) for event in events[: offer.count]]
+            self.complete(offer.first + offer.count)
+
+
+class ReceiverOfBytes(End):
+    """The events that it took and did not complete can be read."""
+
+    def __init__(self, library, handle, owner, length):
+        super().__init__(library, handle, owner)
+        self.length = length
+
+    def poll(self, room):
+        """Takes the next events, and returns the offer."""
+        offer = Offer()
+        self.call("poll_bytes", room, ctypes.byref(offer), 1)
+        return offer
+
+    def read(self, sequence):
+        event = ctypes.create_string_buffer(self.length)
+        self.call("read_bytes", sequence, event, self.length, self.length)
+        return event.raw
+
+    def complete(self, upto):
+        self.call("complete", upto)
+
+    def batches(self, room):
+        """Yields lists of `bytes` until the ring is drained; each is completed when the next is asked for."""
+        while True:
+            offer = self.poll(room)
+            if offer.kind == DRAINED:
+                return
+            if offer.kind != BATCH:
+                time.sleep(0)
+                continue
+            yield [self.read(offer.first + k) for k in range(offer.count)]
             self.complete(offer.first + offer.count)
 
 
@@ -174,3 +223,17 @@ def open_several(path, size, upstreams, senders, limit=MAX_LIMIT):
         raise Refusal(library, number)
     own = [Receiver(library, ctypes.pointer(receiving[k]), receiving) for k in range(count)]
     return [Sender(library, ctypes.pointer(sending[k]), sending) for k in range(senders)], own, Halter(library, ctypes.pointer(halter))
+
+
+def open_bytes(path, size, length, upstreams, limit=MAX_LIMIT):
+    """Opens a ring whose events have `length` bytes each, and returns its sender, its receivers and its halter."""
+    library, count = load(path), len(upstreams)
+    sender, receiving, halter = Handle(), (Handle * count)(), Handle()
+    masks = (ctypes.c_uint64 * count)(*upstreams)
+    number = library.disruptor_open_bytes_at(
+        size, limit, length, masks, count, count, ctypes.byref(sender), 1, receiving, count, count, ctypes.byref(halter), 1
+    )
+    if number:
+        raise Refusal(library, number)
+    own = [ReceiverOfBytes(library, ctypes.pointer(receiving[k]), receiving, length) for k in range(count)]
+    return SenderOfBytes(library, ctypes.pointer(sender)), own, Halter(library, ctypes.pointer(halter))

@@ -1,6 +1,8 @@
 -- What lies at a place that was found to hold one thing.
-use Rattle.std.proofs.Common.{◌≡◌, List, [], ◌∷◌, length, get_or, set, refl, arith}
-use Rattle.dr_c.specs.Places.{AtPlace, AtPlaces, ReadsAt}
+use Rattle.std.proofs.Common.{◌≡◌, ℕ, Bool, List, [], ◌∷◌, length, get_or, set, refl, arith, sym, subst}
+use Rattle.std.specs.Prelude.{◌==◌}
+use Rattle.std.proofs.lemmas.Bool.{eq-eqb}
+use Rattle.dr_c.specs.Places.{AtPlace, AtPlaces, ReadsAt, Whether}
 
 pub at_place : {A : Type 0} (Refused : Type 0) (Call : A → A → Type 0) (xs : List A) (x' other : A) → length xs ≡ 1 → Call (get_or xs 0 other) x'
     → AtPlace xs (set xs 0 x') Refused Call
@@ -20,3 +22,6 @@ pub reads_at : {A : Type 0} (Refused : Type 0) (Call : A → Type 0) (xs : List 
 reads_at Refused Call [] other one call = let e : ⊥ = omega arith in absurd e
 reads_at Refused Call (x ∷ []) other one call = call
 reads_at Refused Call (x ∷ y ∷ xs) other one call = let e : ⊥ = omega arith in absurd e
+
+pub whether_same : (Call Refused : Type 0) (m n : ℕ) → m ≡ n → Call → Whether (m == n) Call Refused
+whether_same Call Refused m n same call = subst (λ (b : Bool). Whether b Call Refused) (sym (eq-eqb m n same)) call

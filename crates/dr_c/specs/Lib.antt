@@ -1,8 +1,10 @@
 pub mod Calls
 pub mod Handles
+pub mod Lengths
 pub mod Names
 pub mod Numbers
 pub mod OpenFault
 pub mod Opening
+pub mod OpeningBytes
 pub mod OpeningSeveral
 pub mod Places

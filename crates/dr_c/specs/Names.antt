@@ -15,6 +15,8 @@ opening_name n =
     if n == 63 then codes "still-open" else
     if n == 64 then codes "bad-order" else
     if n == 65 then codes "bad-pointer" else
+    if n == 66 then codes "bad-length" else
+    if n == 67 then codes "not-in-hand" else
     []
 
 -- those of an end's calls, and the others

@@ -17,6 +17,14 @@ wrong_end = 62
 abbrev pub bad_pointer : ℕ
 bad_pointer = 65
 
+-- there are not as many bytes as an event has
+abbrev pub bad_length : ℕ
+bad_length = 66
+
+-- the receiver did not take the event, or completed it
+abbrev pub not_in_hand : ℕ
+not_in_hand = 67
+
 -- of a claim of one of several senders
 abbrev pub told_of_claim : {A : Type 0} → Result A ClaimFault → ℕ
 told_of_claim (Ok a) = 0

@@ -1,17 +1,18 @@
 //! The calls, each on the handle that it is of.
 
 ghost use Rattle.std.specs.Prelude.{◌≡◌};
-ghost use Rattle.dr_c.specs.Calls.{ClaimsBy, WritesBy, PublishesBy, ClosesBy, PollsBy, CompletesBy, HaltsBy, TellsBy};
+ghost use Rattle.dr_c.specs.Calls.{ClaimsBy, WritesBy, WritesBytesBy, PublishesBy, ClosesBy, PollsBy, PollsBytesBy, ReadsBytesBy, CompletesBy, HaltsBy, TellsBy};
 ghost use Rattle.dr_c.specs.Handles.{OnHandle};
 ghost use Rattle.dr_c.specs.Numbers.{not_open};
 ghost use Rattle.dr_c.specs.Opening.{OpenedBy};
+ghost use Rattle.dr_c.specs.OpeningBytes.{OpenedBy as OpenedBytesBy};
 ghost use Rattle.dr_c.specs.OpeningSeveral.{OpenedBy as OpenedSeveralBy};
 
 use crate::batch::Offer;
 use crate::handle::Handle;
 use crate::numbers::NOT_OPEN;
 use crate::progress::{Counts, tell};
-use crate::{opening, opening_several, receiving, sending};
+use crate::{opening, opening_bytes, opening_several, receiving, sending};
 use dr_seq::Event;
 use std::alloc::Global;
 
@@ -52,6 +53,27 @@ pub(crate) fn open_several(
     }
 }
 
+/// Opens a ring whose events have `bytes` bytes each.
+pub(crate) fn open_bytes(
+    alloc: Global,
+    size: u64,
+    limit: u64,
+    bytes: usize,
+    upstreams: &[u64],
+    sender: &mut Handle,
+    receivers: &mut [Handle],
+    halter: &mut Handle,
+) -> u32
+    ensures { OpenedBytesBy size limit bytes upstreams.now sender.old receivers.old halter.old sender.new receivers.new halter.new result }
+{
+    match opening_bytes::open(
+        alloc, size, limit, bytes, upstreams, sender, receivers, halter,
+    ) {
+        Ok(()) => 0,
+        Err(fault) => fault.number(),
+    }
+}
+
 /// Claims the next `n` sequences, and gives the first of them.
 pub(crate) fn claim(alloc: Global, sender: &mut Handle, n: u64, lo: &mut u64) -> u32
     ensures { OnHandle sender.old.held.value sender.new.held.value ((lo.new ≡ lo.old) × (result ≡ not_open)) (ClaimsBy n lo.old lo.new result) }
@@ -74,6 +96,19 @@ pub(crate) fn write(alloc: Global, sender: &mut Handle, sequence: u64, event: &E
     }
     let mut end = sender.take(alloc);
     let number = sending::write(&mut end, sequence, *event);
+    sender.keep(end);
+    number
+}
+
+/// Writes the bytes of a claimed sequence.
+pub(crate) fn write_bytes(alloc: Global, sender: &mut Handle, sequence: u64, bytes: &[u8]) -> u32
+    ensures { OnHandle sender.old.held.value sender.new.held.value (result ≡ not_open) (WritesBytesBy sequence bytes.now result) }
+{
+    if !sender.is_open() {
+        return NOT_OPEN;
+    }
+    let mut end = sender.take(alloc);
+    let number = sending::write_bytes(&mut end, sequence, bytes);
     sender.keep(end);
     number
 }
@@ -118,6 +153,37 @@ pub(crate) fn poll(
     }
     let mut end = receiver.take(alloc);
     let number = receiving::poll(&mut end, out, offer);
+    receiver.keep(end);
+    number
+}
+
+/// Takes the next events of bytes, `room` at most.
+pub(crate) fn poll_bytes(alloc: Global, receiver: &mut Handle, room: u64, offer: &mut Offer) -> u32
+    ensures { OnHandle receiver.old.held.value receiver.new.held.value ((offer.new ≡ offer.old) × (result ≡ not_open)) (PollsBytesBy room offer.old offer.new result) }
+{
+    if !receiver.is_open() {
+        return NOT_OPEN;
+    }
+    let mut end = receiver.take(alloc);
+    let number = receiving::poll_bytes(&mut end, room, offer);
+    receiver.keep(end);
+    number
+}
+
+/// Copies the bytes of an event that it took and did not complete. The end stays as it was.
+pub(crate) fn read_bytes(
+    alloc: Global,
+    receiver: &mut Handle,
+    sequence: u64,
+    into: &mut [u8],
+) -> u32
+    ensures { OnHandle receiver.old.held.value receiver.new.held.value ((into.new ≡ into.old) × (result ≡ not_open)) (λ end end'. (end' ≡ end) × ReadsBytesBy sequence into.old into.new result end) }
+{
+    if !receiver.is_open() {
+        return NOT_OPEN;
+    }
+    let end = receiver.take(alloc);
+    let number = receiving::read_bytes(&end, sequence, into);
     receiver.keep(end);
     number
 }

@@ -7,16 +7,18 @@
 #![tactic(auto)]
 
 ghost use Rattle.std.specs.Prelude.{◌≡◌, ◌==◌, ◌&&◌, ◌++◌, None, length, take, drop, replicate};
-ghost use Rattle.dr_c.specs.Calls.{ClaimsBy, WritesBy, PublishesBy, ClosesBy, PollsBy, CompletesBy, HaltsBy, TellsBy};
+ghost use Rattle.dr_c.specs.Calls.{ClaimsBy, WritesBy, WritesBytesBy, PublishesBy, ClosesBy, PollsBy, PollsBytesBy, ReadsBytesBy, CompletesBy, HaltsBy, TellsBy};
 ghost use Rattle.dr_c.specs.Handles.{OnHandle};
 ghost use Rattle.dr_c.specs.Names.{name_by};
 ghost use Rattle.dr_c.specs.Numbers.{bad_pointer, not_open};
 ghost use Rattle.dr_c.specs.Opening.{OpenedBy, ends_in};
+ghost use Rattle.dr_c.specs.OpeningBytes.{OpenedBy as OpenedBytesBy};
 ghost use Rattle.dr_c.specs.OpeningSeveral.{OpenedBy as OpenedSeveralBy};
 ghost use Rattle.dr_c.specs.Places.{AtPlace, AtPlaces, ReadsAt, Whether};
 
 mod amiss;
 mod batch;
+mod bytes;
 mod calls;
 mod end;
 mod graph;
@@ -25,12 +27,14 @@ mod loose;
 mod numbers;
 mod open_fault;
 mod opening;
+mod opening_bytes;
 mod opening_several;
 mod places;
 mod progress;
 mod receiving;
 mod sending;
 mod texts;
+mod writer;
 
 use batch::Offer;
 use dr_seq::Event;
@@ -84,6 +88,30 @@ pub extern "C" fn disruptor_open_several_at(
     places::open_several(alloc, size, limit, upstreams, senders, receivers, halter)
 }
 
+/// Opens a ring of one sender as [`disruptor_open_at`] does, whose events have `bytes` bytes each. They begin as zeros.
+#[unsafe(no_mangle)]
+pub extern "C" fn disruptor_open_bytes_at(
+    alloc: Global,
+    size: u64,
+    limit: u64,
+    bytes: usize,
+    upstreams: &[u64],
+    handlers: usize,
+    sender: &mut [Handle],
+    receivers: &mut [Handle],
+    count: usize,
+    halter: &mut [Handle],
+) -> u32
+    ensures { Whether ((length upstreams.now == handlers) && (length receivers.old == count)) (AtPlaces sender.old sender.new halter.old halter.new ((receivers.new ≡ receivers.old) × (result ≡ bad_pointer)) (λ s s' h h'. OpenedBytesBy size limit bytes upstreams.now s receivers.old h s' receivers.new h' result)) ((sender.new ≡ sender.old) × (receivers.new ≡ receivers.old) × (halter.new ≡ halter.old) × (result ≡ bad_pointer)) }
+{
+    if upstreams.len() != handlers || receivers.len() != count {
+        return BAD_POINTER;
+    }
+    places::open_bytes(
+        alloc, size, limit, bytes, upstreams, sender, receivers, halter,
+    )
+}
+
 /// Claims the next `n` sequences, and gives the first of them.
 #[unsafe(no_mangle)]
 pub extern "C" fn disruptor_claim_at(
@@ -114,6 +142,23 @@ pub extern "C" fn disruptor_write_at(
         return BAD_POINTER;
     }
     places::write(alloc, sender, sequence, &event[0])
+}
+
+/// Writes the event of a claimed sequence of a ring of bytes: `bytes`, of which there are asked to be `count`.
+#[unsafe(no_mangle)]
+pub extern "C" fn disruptor_write_bytes_at(
+    alloc: Global,
+    sender: &mut [Handle],
+    sequence: u64,
+    bytes: &[u8],
+    count: usize,
+) -> u32
+    ensures { Whether (length bytes.now == count) (AtPlace sender.old sender.new (result ≡ bad_pointer) (λ s s'. OnHandle s.held.value s'.held.value (result ≡ not_open) (WritesBytesBy sequence bytes.now result))) ((sender.new ≡ sender.old) × (result ≡ bad_pointer)) }
+{
+    if bytes.len() != count {
+        return BAD_POINTER;
+    }
+    places::write_bytes(alloc, sender, sequence, bytes)
 }
 
 /// Publishes the sequences from `lo` to `hi`.
@@ -158,6 +203,40 @@ pub extern "C" fn disruptor_poll_at(
         return BAD_POINTER;
     }
     places::poll(alloc, receiver, out, offer)
+}
+
+/// Takes the next events of a ring of bytes, `room` at most, each of which [`disruptor_read_bytes_at`] reads until it is completed.
+#[unsafe(no_mangle)]
+pub extern "C" fn disruptor_poll_bytes_at(
+    alloc: Global,
+    receiver: &mut [Handle],
+    room: u64,
+    offer: &mut [Offer],
+) -> u32
+    ensures { AtPlaces receiver.old receiver.new offer.old offer.new (result ≡ bad_pointer) (λ r r' offer offer'. OnHandle r.held.value r'.held.value ((offer' ≡ offer) × (result ≡ not_open)) (PollsBytesBy room offer offer' result)) }
+{
+    if receiver.len() != 1 || offer.len() != 1 {
+        return BAD_POINTER;
+    }
+    calls::poll_bytes(alloc, &mut receiver[0], room, &mut offer[0])
+}
+
+/// Copies the bytes of an event that the receiver took and did not complete to `into`, which is asked to have room for `count`, just
+/// as many as an event has. The end stays as it was.
+#[unsafe(no_mangle)]
+pub extern "C" fn disruptor_read_bytes_at(
+    alloc: Global,
+    receiver: &mut [Handle],
+    sequence: u64,
+    into: &mut [u8],
+    count: usize,
+) -> u32
+    ensures { Whether (length into.old == count) (AtPlace receiver.old receiver.new ((into.new ≡ into.old) × (result ≡ bad_pointer)) (λ r r'. OnHandle r.held.value r'.held.value ((into.new ≡ into.old) × (result ≡ not_open)) (λ end end'. (end' ≡ end) × ReadsBytesBy sequence into.old into.new result end))) ((receiver.new ≡ receiver.old) × (into.new ≡ into.old) × (result ≡ bad_pointer)) }
+{
+    if into.len() != count {
+        return BAD_POINTER;
+    }
+    places::read_bytes(alloc, receiver, sequence, into)
 }
 
 /// Completes all events below `upto`.

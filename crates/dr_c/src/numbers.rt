@@ -11,6 +11,10 @@ pub const NOT_OPEN: u32 = 61;
 pub const WRONG_END: u32 = 62;
 /// A pointer is null, or an array is not as long as it was said to be.
 pub const BAD_POINTER: u32 = 65;
+/// There are not as many bytes as an event has.
+pub const BAD_LENGTH: u32 = 66;
+/// The receiver did not take the event, or completed it.
+pub const NOT_IN_HAND: u32 = 67;
 
 /// 0, or the number of a refusal.
 pub fn number(answer: Result<(), Refusal>) -> u32

@@ -56,7 +56,8 @@ pub fn are_open(handles: &[Handle]) -> bool
     handles.iter().any(|handle| handle.is_open())
 }
 
-fn is_one_open(sender: &Handle, receivers: &[Handle], halter: &Handle) -> bool
+/// Whether one of the handles for a ring of one sender is open.
+pub fn is_one_open(sender: &Handle, receivers: &[Handle], halter: &Handle) -> bool
     ensures { result ≡ are_open_of sender.now receivers.now halter.now }
 {
     sender.is_open() || are_open(receivers) || halter.is_open()

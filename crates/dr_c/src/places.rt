@@ -1,10 +1,11 @@
 //! The calls that take an array, or read a thing, at the places of the others.
 
 ghost use Rattle.std.specs.Prelude.{◌≡◌};
-ghost use Rattle.dr_c.specs.Calls.{WritesBy, PollsBy};
+ghost use Rattle.dr_c.specs.Calls.{WritesBy, WritesBytesBy, PollsBy, ReadsBytesBy};
 ghost use Rattle.dr_c.specs.Handles.{OnHandle};
 ghost use Rattle.dr_c.specs.Numbers.{bad_pointer, not_open};
 ghost use Rattle.dr_c.specs.Opening.{OpenedBy};
+ghost use Rattle.dr_c.specs.OpeningBytes.{OpenedBy as OpenedBytesBy};
 ghost use Rattle.dr_c.specs.OpeningSeveral.{OpenedBy as OpenedSeveralBy};
 ghost use Rattle.dr_c.specs.Places.{AtPlace, AtPlaces};
 
@@ -53,6 +54,28 @@ pub(crate) fn open_several(
     calls::open_several(alloc, size, limit, upstreams, senders, receivers, halter)
 }
 
+/// Opens a ring of bytes into the handles at these places.
+pub(crate) fn open_bytes(
+    alloc: Global,
+    size: u64,
+    limit: u64,
+    bytes: usize,
+    upstreams: &[u64],
+    sender: &mut [Handle],
+    receivers: &mut [Handle],
+    halter: &mut [Handle],
+) -> u32
+    ensures { AtPlaces sender.old sender.new halter.old halter.new ((receivers.new ≡ receivers.old) × (result ≡ bad_pointer)) (λ s s' h h'. OpenedBytesBy size limit bytes upstreams.now s receivers.old h s' receivers.new h' result) }
+{
+    if sender.len() != 1 || halter.len() != 1 {
+        return BAD_POINTER;
+    }
+    let (sender, halter) = (&mut sender[0], &mut halter[0]);
+    calls::open_bytes(
+        alloc, size, limit, bytes, upstreams, sender, receivers, halter,
+    )
+}
+
 /// Writes an event by the sender at this place.
 pub(crate) fn write(alloc: Global, sender: &mut [Handle], sequence: u64, event: &Event) -> u32
     ensures { AtPlace sender.old sender.new (result ≡ bad_pointer) (λ s s'. OnHandle s.held.value s'.held.value (result ≡ not_open) (WritesBy sequence event.now result)) }
@@ -76,4 +99,29 @@ pub(crate) fn poll(
         return BAD_POINTER;
     }
     calls::poll(alloc, &mut receiver[0], out, &mut offer[0])
+}
+
+/// Writes bytes by the sender at this place.
+pub(crate) fn write_bytes(alloc: Global, sender: &mut [Handle], sequence: u64, bytes: &[u8]) -> u32
+    ensures { AtPlace sender.old sender.new (result ≡ bad_pointer) (λ s s'. OnHandle s.held.value s'.held.value (result ≡ not_open) (WritesBytesBy sequence bytes.now result)) }
+{
+    if sender.len() != 1 {
+        return BAD_POINTER;
+    }
+    calls::write_bytes(alloc, &mut sender[0], sequence, bytes)
+}
+
+/// Reads bytes by the receiver at this place.
+pub(crate) fn read_bytes(
+    alloc: Global,
+    receiver: &mut [Handle],
+    sequence: u64,
+    into: &mut [u8],
+) -> u32
+    ensures { AtPlace receiver.old receiver.new ((into.new ≡ into.old) × (result ≡ bad_pointer)) (λ r r'. OnHandle r.held.value r'.held.value ((into.new ≡ into.old) × (result ≡ not_open)) (λ end end'. (end' ≡ end) × ReadsBytesBy sequence into.old into.new result end)) }
+{
+    if receiver.len() != 1 {
+        return BAD_POINTER;
+    }
+    calls::read_bytes(alloc, &mut receiver[0], sequence, into)
 }

@@ -1,12 +1,14 @@
 //! The calls of a receiver and of a halter.
 
 ghost use Rattle.std.specs.Prelude.{◌≡◌};
-ghost use Rattle.dr_c.specs.Calls.{PollsBy, CompletesBy, HaltsBy, offer_of as offer_of_polled};
+ghost use Rattle.dr_c.specs.Calls.{PollsBy, PollsBytesBy, ReadsBytesBy, Reads, CompletesBy, HaltsBy, offer_of as offer_of_polled};
 
 use crate::batch::Offer;
+use crate::bytes::Bytes;
 use crate::end::End;
-use crate::numbers::{WRONG_END, number};
+use crate::numbers::{BAD_LENGTH, NOT_IN_HAND, WRONG_END, number};
 use dr_meaning::Polled;
+use dr_plain::Receiver;
 use dr_seq::Event;
 
 fn offer_of(polled: Polled) -> Offer
@@ -49,6 +51,46 @@ pub fn poll(end: &mut End, out: &mut [Event], offer: &mut Offer) -> u32
     }
 }
 
+/// Takes the next events of bytes, as many as it is asked for.
+pub fn poll_bytes(end: &mut End, room: u64, offer: &mut Offer) -> u32
+    ensures { PollsBytesBy room offer.old offer.new result end.old end.new }
+{
+    match end {
+        End::ReceiverOfBytes(receiver) => match receiver.poll(room) {
+            Ok(polled) => {
+                *offer = offer_of(polled);
+                0
+            }
+            Err(refusal) => refusal.number(),
+        },
+        _ => WRONG_END,
+    }
+}
+
+// Copies the event of a sequence that a receiver has in hand.
+fn read(receiver: &Receiver<Bytes>, sequence: u64, into: &mut [u8]) -> u32
+    ensures { Reads receiver.now.knows sequence into.old into.new result }
+{
+    let Some(event) = receiver.event(sequence) else {
+        return NOT_IN_HAND;
+    };
+    if event.len() != into.len() {
+        return BAD_LENGTH;
+    }
+    into.copy_from_slice(event.as_slice());
+    0
+}
+
+/// Reads an event of bytes.
+pub fn read_bytes(end: &End, sequence: u64, into: &mut [u8]) -> u32
+    ensures { ReadsBytesBy sequence into.old into.new result end.now }
+{
+    match end {
+        End::ReceiverOfBytes(receiver) => read(receiver, sequence, into),
+        _ => WRONG_END,
+    }
+}
+
 /// Completes events.
 pub fn complete(end: &mut End, upto: u64) -> u32
     ensures { CompletesBy upto result end.old end.new }
@@ -56,6 +98,7 @@ pub fn complete(end: &mut End, upto: u64) -> u32
     match end {
         End::Receiver(receiver) => number(receiver.complete(upto)),
         End::ReceiverOfSeveral(receiver) => number(receiver.complete(upto)),
+        End::ReceiverOfBytes(receiver) => number(receiver.complete(upto)),
         _ => WRONG_END,
     }
 }
@@ -71,6 +114,10 @@ pub fn halt(end: &mut End) -> u32
         }
         End::HalterOfSeveral(halter_of_several) => {
             halter_of_several.halt();
+            0
+        }
+        End::HalterOfBytes(halter_of_bytes) => {
+            halter_of_bytes.halt();
             0
         }
         _ => WRONG_END,

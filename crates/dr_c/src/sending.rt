@@ -1,11 +1,11 @@
 //! The calls of a sender.
 
 ghost use Rattle.std.specs.Prelude.{◌≡◌};
-ghost use Rattle.dr_c.specs.Calls.{ClaimsBy, WritesBy, PublishesBy, ClosesBy};
+ghost use Rattle.dr_c.specs.Calls.{ClaimsBy, WritesBy, WritesBytesBy, PublishesBy, ClosesBy};
 ghost use Rattle.dr_c.specs.Numbers.{told};
 
 use crate::end::End;
-use crate::numbers::{WRONG_END, number};
+use crate::numbers::{BAD_LENGTH, WRONG_END, number};
 use dr_seq::Event;
 
 /// Claims, and gives the first sequence.
@@ -27,6 +27,13 @@ pub fn claim(end: &mut End, n: u64, lo: &mut u64) -> u32
             }
             Err(fault) => fault.number(),
         },
+        End::SenderOfBytes(writer) => match writer.try_claim(n) {
+            Ok(taken) => {
+                *lo = taken.lo;
+                0
+            }
+            Err(cause) => cause.number(),
+        },
         _ => WRONG_END,
     }
 }
@@ -42,6 +49,21 @@ pub fn write(end: &mut End, sequence: u64, event: Event) -> u32
     }
 }
 
+/// Writes an event of bytes.
+pub fn write_bytes(end: &mut End, sequence: u64, bytes: &[u8]) -> u32
+    ensures { WritesBytesBy sequence bytes.now result end.old end.new }
+{
+    match end {
+        End::SenderOfBytes(writer) => {
+            if bytes.len() != writer.bytes {
+                return BAD_LENGTH;
+            }
+            number(writer.write(sequence, bytes))
+        }
+        _ => WRONG_END,
+    }
+}
+
 /// Publishes a stretch.
 pub fn publish(end: &mut End, lo: u64, hi: u64) -> u32
     ensures { PublishesBy lo hi result end.old end.new }
@@ -49,6 +71,7 @@ pub fn publish(end: &mut End, lo: u64, hi: u64) -> u32
     match end {
         End::Sender(sender) => number(sender.publish(lo, hi)),
         End::SenderOfSeveral(sender) => number(sender.publish(lo, hi)),
+        End::SenderOfBytes(writer) => number(writer.publish(lo, hi)),
         _ => WRONG_END,
     }
 }
@@ -59,6 +82,7 @@ pub fn close(end: &mut End) -> u32
 {
     match end {
         End::Sender(sender) => number(sender.close()),
+        End::SenderOfBytes(writer) => number(writer.close()),
         _ => WRONG_END,
     }
 }

@@ -30,6 +30,10 @@ fn opening_name(number: u32) -> &'static str
         "bad-order"
     } else if number == 65 {
         "bad-pointer"
+    } else if number == 66 {
+        "bad-length"
+    } else if number == 67 {
+        "not-in-hand"
     } else {
         ""
     }
