@@ -1,4 +1,5 @@
-/* The numbers that a call may answer, all but no-memory and contended, had by misuses of the library; a misuse changes nothing. */
+/* The numbers that a call may answer, had by misuses of the library: all but no-memory, contended and those of a ring of bytes.
+ * A misuse changes nothing. */
 #include "disruptor.h"
 #include <stdio.h>
 #include <stdlib.h>
