@@ -1,6 +1,5 @@
 pub mod Settled
 pub mod Ready
-pub mod Fine
 pub mod Unrefused
 pub mod Whole
 pub mod Polled

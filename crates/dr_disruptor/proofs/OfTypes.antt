@@ -4,12 +4,12 @@ use lib.ListN.{get_elem?}
 use Rattle.dr_seq.specs.declared.event.Event.{Event}
 use Rattle.dr_meaning.specs.Calls.Handling.{GoesThrough, Relation, Showing}
 use Rattle.dr_workers.specs.Meaning.Work.{shown_of}
+use Rattle.dr_threads.specs.Handlers.{AllWentThrough, WentThrough}
 use Rattle.dr_disruptor.specs.declared.of_types.OneOf.{OneOf}
 use Rattle.dr_disruptor.specs.declared.of_types.OneOf.TheVariants.{First, Second}
 use Rattle.dr_ring.specs.Meaning.Shape.{Shape}
 use Rattle.dr_disruptor.specs.OfTypes.{AreThree, AreTwo, HasRunAs, goes_as_one_of}
-use Rattle.dr_disruptor.specs.Running.{AllWentThrough, IsRun, WentThrough}
-use Rattle.dr_disruptor.specs.declared.running.Ran.{Ran}
+use Rattle.dr_disruptor.specs.Running.{IsRun, Ran}
 
 -- what was of the first type is so after any calls, and went as that type does
 first_goes : {A B : Type 0} (goes : Relation Event A) (other : Relation Event B) (a : A) (shown : List (Showing Event)) (after : OneOf A B)

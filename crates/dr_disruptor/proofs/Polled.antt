@@ -1,21 +1,17 @@
 -- What a worker's polls handed out, by the answers of a ring's receiver.
-use Rattle.std.proofs.Common.{◌≡◌, ◌≤◌, ◌+◌, ℕ, Bool, List, [], ◌∷◌, ◌++◌, length, take, All, Result, Ok, Err, inl, inr, refl, sym, ap, ◌∙◌, subst, arith, append_assoc, length-append}
+use Rattle.std.proofs.Common.{◌≡◌, ◌≤◌, ◌+◌, ℕ, Bool, List, [], ◌∷◌, ◌++◌, length, take, All, Ok, Err, inl, inr, refl, sym, ap, ◌∙◌, arith, append_assoc, length-append}
 use Rattle.std.specs.Prelude.{◌⊎◌}
 use Rattle.std.proofs.Math.Seq.{get_or-append_seam}
-use Rattle.std.proofs.lemmas.Bool.{cases_eq}
-use Rattle.std.proofs.lemmas.List.{append-nil, length-take-le}
-use Rattle.std.proofs.lemmas.List.Elements.{All-cons, All-nil}
+use Rattle.std.proofs.lemmas.List.{append-nil}
 use mathlib.Core.Option.{some}
 use lib.ListN.{get_elem?}
 use Rattle.dr_seq.specs.declared.event.Event.{Event}
 use Rattle.dr_graph.specs.Meaning.Graph.{upstreams_of}
 use Rattle.dr_meaning.proofs.Leasts.{least_of-le}
-use Rattle.dr_meaning.specs.declared.command.Polled.{Polled}
 use Rattle.dr_meaning.specs.declared.command.Polled.TheVariants.{Batch, Drained, Gating, Idle}
-use Rattle.dr_meaning.specs.declared.ends.Trouble.{Trouble}
 use Rattle.dr_meaning.specs.declared.ends.Trouble.TheVariants.{Memory, Refused}
 use Rattle.dr_meaning.specs.Calls.Calling.{CallsLead, OutletCall, PollsInto, CompletesBelow}
-use Rattle.dr_workers.specs.Calls.Serving.{Due, InTurn, IsNextCall, NoCall, ToComplete, ToPoll, due_after}
+use Rattle.dr_workers.specs.Calls.Serving.{InTurn, ToPoll}
 use Rattle.dr_workers.specs.Meaning.Work.{batches_in}
 use Rattle.dr_runs.specs.declared.look.Look.{Look}
 use Rattle.dr_runs.specs.Looks.{look, offered_by}
@@ -27,7 +23,9 @@ use Rattle.dr_ring.specs.Calls.Ends.{ReceiverEnd, count_looks}
 use Rattle.dr_ring.specs.Calls.Telling.{receiver_does}
 use Rattle.dr_ring.specs.Meaning.Settling.{HasBeginning}
 use Rattle.dr_ring.specs.declared.record.SenderRecord.{SenderRecord}
-use Rattle.dr_disruptor.specs.Running.{IsPolled}
+use Rattle.dr_threads.specs.Handlers.{IsPolled}
+use Rattle.dr_threads.proofs.Polled.{batch_polled}
+use Rattle.dr_threads.proofs.Polled as threads
 
 -- What a receiver saw.
 
@@ -60,12 +58,6 @@ looked_on a b (CompletesBelow upto (Ok done)) is = ([], ap (λ (r : ReceiverReco
 looked_on a b (CompletesBelow upto (Err Memory)) is = absurd is
 looked_on a b (CompletesBelow upto (Err (Refused r))) is = ([], ap (λ (r : ReceiverRecord). r.looks) is.1.2 ∙ sym (append-nil a.knows.looks))
 
-saw_before : (n : ℕ) (a b : ReceiverEnd) (calls : List (OutletCall Event)) → CallsLead receiver_does a calls b → SawAtMost n b.knows → SawAtMost n a.knows
-saw_before n a b [] lead saw = subst (λ (e : ReceiverEnd). SawAtMost n e.knows) lead saw
-saw_before n a b (call ∷ calls) lead saw =
-    let on = looked_on a lead.0 call lead.1 in
-    before_it n a.knows lead.0.knows on.0 on.1 (saw_before n lead.0 b calls lead.2 saw)
-
 -- what its barrier offered was published
 offered : (n closed cursor : ℕ) (r : ReceiverRecord) (old : List Look) (ups counts : List ℕ) → length counts ≡ length ups
     → r.looks ≡ old ++ look closed_word closed ∷ look cursor_word cursor ∷ count_looks ups counts → SawAtMost n r → offered_by cursor counts ≤ n
@@ -81,49 +73,24 @@ offered n closed cursor r old (u ∷ ups) (c ∷ counts) many is saw =
 
 -- What it was handed.
 
--- a poll comes where one is due
-room_of : (room : ℕ) (due : Due) (before after : List Event) (answer : Result Polled Trouble) → IsNextCall room due (PollsInto before after answer)
-    → (length before ≡ room) × (length after ≡ room)
-room_of room ToPoll before after answer next = next
-room_of room (ToComplete upto) before after answer next = absurd next
-room_of room NoCall before after answer next = absurd next
+module _ (room n : ℕ) where
+  abbrev Saw : ReceiverEnd → Type 0
+  Saw e = SawAtMost n e.knows
 
--- a batch is as long as the room allows, and ends what was offered unless more was published
-batch_polled : (room n first count : ℕ) (end : Bool) (a b : ReceiverEnd) (before after : List Event) → length before ≡ room → length after ≡ room
-    → receiver_does a (PollsInto before after (Ok (Batch first count end))) b → SawAtMost n b.knows
-    → IsPolled room n (record { first = first; events = take count after; end = end })
-batch_polled room n first count end a b before after long longer is saw =
-    let seen : PollLooks = is.1.1.0 in
-    let answers = is.1.1.2 in
-    let some = answers.1 in
-    let many = answers.2 in
-    let fits : count ≤ length after = omega arith in
-    let taken : length (take count after) ≡ count = length-take-le count after fits in
-    let within : offer seen ≤ n =
-    offered n seen.closed seen.cursor b.knows a.knows.looks (upstreams_of a.knows.plan.upstreams a.knows.number) seen.counts is.1.1.1 (ap (λ (r : ReceiverRecord). r.looks) answers.4) saw
-    in (
-      omega arith,
-      elim (cases_eq (first + count) (offer seen)) [
-        | inl whole ↦ inl (answers.3.1 whole)
-        | inr more ↦ inr (omega arith, omega arith)
-      ],
-    )
+  before_call : (a b : ReceiverEnd) (call : OutletCall Event) → receiver_does a call b → Saw b → Saw a
+  before_call a b call is saw = let on = looked_on a b call is in before_it n a.knows b.knows on.0 on.1 saw
 
-pub polled : (room n : ℕ) (due : Due) (a b : ReceiverEnd) (calls : List (OutletCall Event)) → CallsLead receiver_does a calls b → InTurn room due calls
-    → SawAtMost n b.knows → All (IsPolled room n) (batches_in calls)
-polled room n due a b [] lead order saw = All-nil (IsPolled room n)
-polled room n due a b (PollsInto before after (Ok (Batch first count end)) ∷ calls) lead order saw =
-    let rooms = room_of room due before after (Ok (Batch first count end)) order.0 in
-    All-cons (IsPolled room n) (record { first = first; events = take count after; end = end }) (batches_in calls)
-    (batch_polled room n first count end a lead.0 before after rooms.0 rooms.1 lead.1 (saw_before n lead.0 b calls lead.2 saw))
-    (polled room n (due_after due (PollsInto before after (Ok (Batch first count end)))) lead.0 b calls lead.2 order.1 saw)
-polled room n due a b (PollsInto before after (Ok Drained) ∷ calls) lead order saw =
-    polled room n (due_after due (PollsInto before after (Ok Drained))) lead.0 b calls lead.2 order.1 saw
-polled room n due a b (PollsInto before after (Ok Gating) ∷ calls) lead order saw =
-    polled room n (due_after due (PollsInto before after (Ok Gating))) lead.0 b calls lead.2 order.1 saw
-polled room n due a b (PollsInto before after (Ok Idle) ∷ calls) lead order saw =
-    polled room n (due_after due (PollsInto before after (Ok Idle))) lead.0 b calls lead.2 order.1 saw
-polled room n due a b (PollsInto before after (Err trouble) ∷ calls) lead order saw =
-    polled room n (due_after due (PollsInto before after (Err trouble))) lead.0 b calls lead.2 order.1 saw
-polled room n due a b (CompletesBelow upto answer ∷ calls) lead order saw =
-    polled room n (due_after {E = Event} due (CompletesBelow upto answer)) lead.0 b calls lead.2 order.1 saw
+  fits : (a b : ReceiverEnd) (before after : List Event) (first count : ℕ) (end : Bool) → length before ≡ room → length after ≡ room
+      → receiver_does a (PollsInto before after (Ok (Batch first count end))) b → Saw b
+      → IsPolled room n (record { first = first; events = take count after; end = end })
+  fits a b before after first count end long longer is saw =
+      let seen : PollLooks = is.1.1.0 in
+      let answers = is.1.1.2 in
+      let within : offer seen ≤ n =
+      offered n seen.closed seen.cursor b.knows a.knows.looks (upstreams_of a.knows.plan.upstreams a.knows.number) seen.counts is.1.1.1 (ap (λ (r : ReceiverRecord). r.looks) answers.4) saw
+      in
+      batch_polled room n first count (offer seen) end before after long longer answers.1 answers.2 answers.3.1 within
+
+  pub polled : (a b : ReceiverEnd) (calls : List (OutletCall Event)) → CallsLead receiver_does a calls b → InTurn room ToPoll calls → Saw b
+      → All (IsPolled room n) (batches_in calls)
+  polled a b calls lead order saw = threads.polled receiver_does room n Saw before_call fits ToPoll a b calls lead order saw

@@ -1,7 +1,5 @@
 -- The ends of a new ring, each given to a worker.
-use Rattle.std.proofs.Common.{◌≡◌, List, [], map, length, take, false, Result, Ok, Err, sym, subst, ap, ◌∙◌}
-use Rattle.std.specs.Prelude.{OnOk, is_err}
-use Rattle.std.proofs.lemmas.Bool.{false≢true}
+use Rattle.std.proofs.Common.{◌≡◌, List, [], map, length, take, sym, subst, ap, ◌∙◌}
 use Rattle.std.proofs.Math.Seq.{take-nil}
 use Rattle.atomic_table.specs.Seated.{TableId}
 use Rattle.dr_seq.specs.declared.event.Event.{Event}
@@ -12,8 +10,9 @@ use Rattle.dr_ring.specs.Meaning.Shape.{Shape, handlers_of}
 use Rattle.dr_ring.specs.Calls.Ends.{HalterEnd, ReceiverEnd, SenderEnd, SenderPlace, sender_place}
 use Rattle.dr_ring.specs.Calls.Making.{AreFreshEnds, at_ring}
 use Rattle.dr_ring.specs.Calls.Settling.{AreAllEnds}
+use Rattle.dr_threads.specs.Serving.{given_end, given_handler}
 use Rattle.dr_disruptor.specs.Running.{new_sender}
-use Rattle.dr_disruptor.specs.Serving.{AreReady, Worker, given_end, given_handler}
+use Rattle.dr_disruptor.specs.Serving.{AreReady, Worker}
 
 abbrev the_end : TableId → SenderRecord → List Step → List Step → SenderEnd
 the_end ring knows past stored = record { ring = ring; knows = knows; past = past; stored = stored }
@@ -39,11 +38,6 @@ module _ (k : Shape) (s s' : SenderEnd) (rs : List ReceiverEnd) (t : HalterEnd) 
   pub made_so : s ≡ new_sender s'.ring k
   made_so = ap (λ (r : SenderRecord). the_end s.ring r s.past s.stored) fresh.sender ∙ ap (λ (p : List Step). the_end s.ring (fresh_sender k) p s.stored) fresh.past
       ∙ ap (the_end s.ring (fresh_sender k) []) fresh.stored ∙ ap (λ (p : SenderPlace). new_sender p.0 k) (sym same)
-
--- what holds of a result that is no error
-pub where_ok : {A E P : Type 0} (r : Result A E) → false ≡ is_err r → OnOk r P → P
-where_ok (Ok x) fine done = done
-where_ok (Err e) fine done = absurd (false≢true fine)
 
 -- where nothing is published, nothing is received
 pub none_taken : (received published : List Event) → received ≡ take (length received) published → published ≡ [] → received ≡ []

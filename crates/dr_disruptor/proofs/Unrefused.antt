@@ -16,9 +16,9 @@ use Rattle.dr_ring.specs.Meaning.Shape.{Shape}
 use Rattle.dr_ring.specs.Calls.Ends.{SenderEnd}
 use Rattle.dr_ring.specs.Calls.Telling.{sender_does}
 use Rattle.dr_ring.proofs.Unrefused as ring
-use Rattle.dr_disruptor.specs.Running.{AreFine, IsRan, IsSending}
-use Rattle.dr_disruptor.specs.declared.running.Ran.{Ran}
-use Rattle.dr_disruptor.proofs.Fine.{unstopped}
+use Rattle.dr_threads.specs.Endings.{AreFine}
+use Rattle.dr_threads.proofs.Untroubled.{unstopped}
+use Rattle.dr_disruptor.specs.Running.{IsRan, IsSending, Ran}
 
 -- a sender shows what it sent
 changes : Changes sender_does (λ (e : SenderEnd). e.knows.sent)
@@ -50,7 +50,7 @@ all_fine goes k starts sent ran is =
     let many : length endings - n ≡ 1 = sym (length-drop n endings) ∙ ap length is.last in
     All-from_get_or (λ (e : Ended). e.fault ≡ None) endings none
     (λ i inside. elim (cases_lt i n) [
-      | inl before ↦ (let e = there endings i inside in let same = is.ended i e.0 before e.1 in
+      | inl before ↦ (let e = there endings i inside in let same = is.handlers.ended i e.0 before e.1 in
           ap (λ (x : Ended). x.fault) (value_at endings i e.0 none e.1 ∙ same))
       | inr behind ↦ (let at : i ≡ n + 0 = omega arith in
           ap (λ (j : ℕ). (get_or endings j none).fault) at ∙ ap (λ (x : Ended). x.fault) (sym (get_or-drop n endings 0 none))

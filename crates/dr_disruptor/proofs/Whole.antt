@@ -10,8 +10,9 @@ use Rattle.dr_ring.specs.Meaning.Records.{claimed as claimed_of}
 use Rattle.dr_ring.specs.Meaning.Settling.{FoundUnhalted}
 use Rattle.dr_ring.specs.Meaning.Shape.{Shape}
 use Rattle.dr_workers.specs.declared.producer.Produced.{Produced}
-use Rattle.dr_disruptor.specs.declared.running.Ran.{Ran}
-use Rattle.dr_disruptor.specs.Running.{AllWentThrough, AreFine, IsRan, IsRanBy, IsRun, IsSending, new_sender, sender_in}
+use Rattle.dr_threads.specs.Endings.{AreFine}
+use Rattle.dr_threads.specs.Handlers.{AllWentThrough}
+use Rattle.dr_disruptor.specs.Running.{IsRan, IsRanBy, IsRun, IsSending, Ran, new_sender, sender_in}
 use Rattle.dr_disruptor.proofs.Unrefused.{all_fine, sender_fine}
 
 module _ {A : Type 0} (goes : Relation Event A) (k : Shape) (starts : List A) where
@@ -22,7 +23,7 @@ module _ {A : Type 0} (goes : Relation Event A) (k : Shape) (starts : List A) wh
       let none = sender_fine k script is.produced is.sending limit short is.within is.unhalted in
       let all : take is.produced.sent script ≡ script = ap (λ (n : ℕ). take n script) (is.all none) ∙ take_all (length script) script (omega arith) in (
         all_fine goes k starts (take is.produced.sent script) ran (subst (λ (f : Option WorkFault). IsRan goes k starts (take is.produced.sent script) f ran) none is.came),
-        subst (λ (l : List Event). AllWentThrough goes l starts ran.handlers.items) all is.came.through,
+        subst (λ (l : List Event). AllWentThrough goes l starts ran.handlers.items) all is.came.handlers.through,
       )
 
   -- what came of what this sender did

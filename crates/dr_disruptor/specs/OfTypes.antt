@@ -3,8 +3,7 @@ use Rattle.std.specs.Prelude.{◌≡◌, List, [], ◌∷◌}
 use Rattle.dr_seq.specs.declared.event.Event.{Event}
 use Rattle.dr_meaning.specs.Calls.Handling.{Relation}
 use Rattle.dr_ring.specs.Meaning.Shape.{Shape}
-use Rattle.dr_disruptor.specs.Running.{IsRun}
-use Rattle.dr_disruptor.specs.declared.running.Ran.{Ran}
+use Rattle.dr_disruptor.specs.Running.{IsRun, Ran}
 use Rattle.dr_disruptor.specs.declared.of_types.OneOf.{OneOf}
 use Rattle.dr_disruptor.specs.declared.of_types.OneOf.TheVariants.{First, Second}
 

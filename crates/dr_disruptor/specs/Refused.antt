@@ -4,8 +4,8 @@ use Rattle.dr_ring.specs.declared.record.ReceiverRecord.{ReceiverRecord}
 use Rattle.dr_ring.specs.Calls.Ends.{SenderEnd}
 use Rattle.dr_ring.specs.Calls.Sending.{ClosesOnceDone}
 use Rattle.dr_ring.specs.Meaning.Settling.{HasBeginning}
-use Rattle.dr_disruptor.specs.declared.fault.RunFault.{RunFault}
-use Rattle.dr_disruptor.specs.declared.fault.RunFault.TheVariants.{Handlers, Memory}
+use Rattle.dr_threads.specs.declared.fault.RunFault.{RunFault}
+use Rattle.dr_threads.specs.declared.fault.RunFault.TheVariants.{Handlers, Memory}
 
 -- of a graph of so many handlers, where so many were given: that these differ, and else a lack of memory or of a thread
 abbrev pub refusal_of : ℕ → ℕ → RunFault

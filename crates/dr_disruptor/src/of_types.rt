@@ -1,17 +1,17 @@
 //! Runs whose handlers are of two or three types.
 
 ghost use Rattle.std.specs.Prelude.{◌≡◌, ◌∷◌, [], IfErr, IfOk, length};
+ghost use Rattle.dr_threads.specs.Handlers.{WentThrough};
 ghost use Rattle.dr_disruptor.specs.OfTypes.{AreThree, AreTwo, HasRunAs, goes_as_one_of};
 ghost use Rattle.dr_disruptor.specs.Refused.{refusal_of};
-ghost use Rattle.dr_disruptor.specs.Running.{WentThrough};
 ghost use Rattle.dr_disruptor.specs.Serving.{shape_of};
 ghost use Rattle.dr_disruptor.specs.declared.of_types.OneOf.TheVariants.{First, Second};
 
-use crate::fault::RunFault;
 use crate::running::run;
 use dr_graph::Graph;
 use dr_meaning::Handler;
 use dr_seq::{Event, Size};
+use dr_threads::RunFault;
 use std::alloc::Global;
 use std::sync::Wait;
 use std::thread::Threads;

@@ -5,11 +5,11 @@ ghost use Rattle.dr_seq.specs.declared.event.Event.{Event};
 ghost use Rattle.dr_disruptor.specs.OneThread.{AllAreShown, AreOffered, PassesAll, Rests, SendsPart, Turns, shown_here};
 ghost use Rattle.dr_disruptor.specs.Refused.{refusal_of};
 
-use crate::fault::RunFault;
 use dr_core::Core;
 use dr_graph::Graph;
 use dr_meaning::{Claimed, Handler, MAX_LIMIT, Mode, Refusal};
 use dr_seq::{Event, Size};
+use dr_threads::RunFault;
 use std::alloc::Global;
 
 // Puts the next `n` events into the core, from the place `at` on: the event at a place goes to the sequence

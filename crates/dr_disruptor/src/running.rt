@@ -1,9 +1,8 @@
 //! A whole run over a ring.
 
-ghost use Rattle.std.specs.Prelude.{◌≡◌, false, List, Option, None, IfErr, IfOk, length, map, take};
+ghost use Rattle.std.specs.Prelude.{◌≡◌, false, Option, IfErr, IfOk, length, map};
 ghost use Rattle.std.specs.Fn.{FnOnceReturnsAtMut};
 ghost use Rattle.dr_seq.specs.declared.event.Event.{Event};
-ghost use Rattle.dr_workers.specs.Meaning.FirstFault.{first_fault as first_of};
 ghost use Rattle.dr_workers.specs.declared.fault.WorkFault.{WorkFault};
 ghost use Rattle.dr_ring.specs.Calls.Ends.{SenderEnd, sender_place};
 ghost use Rattle.dr_ring.specs.Calls.Making.{at_ring};
@@ -13,53 +12,27 @@ ghost use Rattle.dr_ring.specs.Meaning.Moments.{fresh_receivers};
 ghost use Rattle.dr_ring.specs.Meaning.Records.{claimed as claimed_of};
 ghost use Rattle.dr_ring.specs.Meaning.Settling.{FoundUnhalted};
 ghost use Rattle.dr_ring.specs.Meaning.Shape.{handlers_of};
+ghost use Rattle.dr_threads.specs.Endings.{AreFine};
+ghost use Rattle.dr_threads.specs.Handlers.{AllWentThrough};
+ghost use Rattle.dr_threads.specs.Serving.{given_end, given_handler};
 ghost use Rattle.dr_disruptor.specs.Refused.{refusal_of};
-ghost use Rattle.dr_disruptor.specs.Running.{AllWentThrough, AreFine, IsFirst, IsRan, IsRanBy, IsRun};
-ghost use Rattle.dr_disruptor.specs.Serving.{given_end, given_handler, shape_of};
+ghost use Rattle.dr_disruptor.specs.Running.{IsRan, IsRanBy, IsRun};
+ghost use Rattle.dr_disruptor.specs.Serving.{shape_of};
 
-use crate::fault::RunFault;
-use crate::strategy::WaitStrategy;
-use crate::workers::{Abandoned, Back, LiveSender, SENDER, Worker, apart, begin, joined, open};
+use crate::workers::{Abandoned, LiveSender, SENDER, Worker, begin, gathered, joined, open};
 use dr_graph::Graph;
 use dr_meaning::Handler;
 use dr_ring::{Halter, Settled, settle};
 use dr_seq::{Event, Size};
-use dr_workers::{Ended, OpenGate, WorkFault, WorkerFault, first_fault, produce_with};
+use dr_threads::{Back, RunFault, WaitStrategy};
+use dr_workers::{OpenGate, WorkFault, produce_with};
 use std::alloc::Global;
 use std::sync::Wait;
 use std::thread::Threads;
 
-/// What came of a run.
-#[derive(Drop)]
-pub struct Ran<H> {
-    /// The handlers, in the graph's order.
-    pub handlers: Vec<H>,
-    /// How many events were published, and how far each handler came.
-    pub settled: Settled,
-    /// How each worker ended: the handlers' in the graph's order, then the sender's, which is number 16.
-    pub endings: Vec<Ended>,
-}
-
-impl<H: Drop> Ran<H> {
-    /// The fault that is answered for the workers, if one of them has any.
-    pub fn fault(&self) -> Option<WorkerFault>
-        ensures first { result ≡ first_of self.now.endings.items }
-        ensures none { result ≡ None → AreFine self.now.endings.items }
-    {
-        first_fault(self.endings.as_slice())
-    }
-
-    /// The handlers, where no worker has a fault.
-    pub fn finished(self) -> Result<Vec<H>, RunFault>
-        ensures handlers { IfOk result (λ handlers. (handlers ≡ self.handlers) × AreFine self.endings.items) }
-        ensures fault { IfErr result (λ e. IsFirst self.endings.items e) }
-    {
-        match self.fault() {
-            Some(first) => Err(RunFault::from(first)),
-            None => Ok(self.handlers),
-        }
-    }
-}
+/// What came of a run: with the handlers how many events were published, how far each handler came, and how each
+/// worker ended, the sender's last, which is number 16.
+pub type Ran<H> = dr_threads::Ran<H, Settled>;
 
 // Closes the ring, joins its threads, and brings the ends together. It closes it also where memory runs out.
 fn finish<R: Threads, H: Handler<Event> + Drop>(
@@ -82,16 +55,16 @@ fn finish<R: Threads, H: Handler<Event> + Drop>(
     let Ok(served) = joined(rt, &mut sender, workers) else {
         return Err(Abandoned::of(&sender));
     };
-    let Ok(back) = apart(alloc, served, fault) else {
+    let Ok(back) = gathered(alloc, served, fault) else {
         return Err(Abandoned::of(&sender));
     };
     let Back {
-        receivers,
+        outlets,
         handlers,
         endings,
     } = back;
-    let settled = settle(sender.into_end(), receivers, halter);
-    Ok(Ran {
+    let settled = settle(sender.into_end(), outlets, halter);
+    Ok(dr_threads::Ran {
         handlers,
         settled,
         endings,

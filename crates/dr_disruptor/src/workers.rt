@@ -1,25 +1,25 @@
-//! The threads of a ring's handlers: how they are started, and what they give back.
+//! A ring with the threads of its handlers: how it is opened, and how it is closed.
 
-ghost use Rattle.std.specs.Prelude.{◌≡◌, ◌++◌, ◌∷◌, [], All, IfErr, IfOk, OnOk, length, map};
+ghost use Rattle.std.specs.Prelude.{◌≡◌, ◌++◌, ◌∷◌, [], IfErr, IfOk, length, map};
 ghost use Rattle.dr_ring.specs.Calls.Making.{AreFreshEnds};
 ghost use Rattle.dr_ring.specs.Calls.Sending.{ClosesOnceDone};
 ghost use Rattle.dr_ring.specs.Calls.Settling.{AreAllEnds};
 ghost use Rattle.dr_ring.specs.Meaning.Moments.{fresh_sender};
+ghost use Rattle.dr_threads.specs.Serving.{endings_from, given_end, given_handler};
+ghost use Rattle.dr_threads.specs.declared.fault.RunFault.TheVariants as fault;
 ghost use Rattle.dr_disruptor.specs.Refused.{LeavesUnsent, refusal_of};
-ghost use Rattle.dr_disruptor.specs.Serving.{AreKept, endings_from, given_end, given_handler, shape_of};
+ghost use Rattle.dr_disruptor.specs.Serving.{AreKept, shape_of};
 
-use crate::fault::RunFault;
-use crate::served::{Served, ServesPromise, serve};
-use crate::strategy::WaitStrategy;
 use dr_graph::Graph;
 use dr_meaning::{Handler, MAX_LIMIT};
 use dr_ring::{Halter, Receiver, Sender, ring};
 use dr_seq::{Event, Size};
+use dr_threads::{Back, RunFault, Served, WaitStrategy, apart, join, start, wait_for};
 use dr_workers::{Bell, Ended, Ringing, WorkFault};
 use std::alloc::{AllocError, Global};
 use std::snapshot::Snapshot;
 use std::sync::{Arc, Wait};
-use std::thread::{self, PromisedHandle, Threads, join_promised};
+use std::thread::Threads;
 
 /// The number of the sender's worker. Those of the handlers are below it.
 pub(crate) const SENDER: usize = 16;
@@ -28,7 +28,7 @@ pub(crate) const SENDER: usize = 16;
 pub type LiveSender = Ringing<Sender, Arc<Bell, Global>>;
 
 /// A handler's thread.
-pub(crate) type Worker<H> = PromisedHandle<Served<H>, ServesPromise<H>>;
+pub(crate) type Worker<H> = dr_threads::Worker<Receiver, H>;
 
 /// That a run was given up, for lack of memory or of a thread, with its sender as it was let go.
 #[derive(Drop)]
@@ -47,46 +47,11 @@ impl Abandoned {
     }
 }
 
-// Starts a thread for each handler with the end at its place. Where one cannot be started the earlier ones are in `started`.
-fn start<R: Threads + Wait + Copy + Send + 'static, H: Handler<Event> + Drop + Send + 'static>(
-    rt: R,
-    started: &mut Vec<Worker<H>>,
-    receivers: Vec<Receiver>,
-    handlers: Vec<H>,
-    bell: &Arc<Bell, Global>,
-    strategy: WaitStrategy,
-) -> Result<(), AllocError>
-    requires none { started.old.items ≡ [] }
-    requires many { length receivers.items ≡ length handlers.items }
-    ensures ends { OnOk result (map given_end started.new.items ≡ receivers.items) }
-    ensures starts { OnOk result (map given_handler started.new.items ≡ handlers.items) }
-{
-    // A thread that is started has its place.
-    started.reserve(handlers.len())?;
-    let mut handlers = handlers.into_iter();
-    for receiver in receivers {
-        let Some(handler) = handlers.next() else {
-            unreachable!();
-        };
-        let bell = Arc::try_clone(bell)?;
-        let promise = ServesPromise::of(&receiver, &handler);
-        let who = started.len();
-        let Ok(worker) = thread::spawn_with(
-            &rt,
-            promise,
-            move || serve(&rt, who, receiver, handler, &bell, strategy),
-        ) else {
-            return Err(AllocError);
-        };
-        started.push(worker)?;
-    }
-    Ok(())
-}
+impl From<Abandoned> for RunFault {
+    ghost from_gives = { λ _ given. given ≡ fault.Memory };
 
-// Waits for threads whose results nobody wants.
-fn wait_for<R: Threads, H: Handler<Event> + Drop>(rt: &R, workers: Vec<Worker<H>>) {
-    for worker in workers {
-        let _served = worker.join(rt);
+    fn from(_: Abandoned) -> RunFault {
+        RunFault::Memory
     }
 }
 
@@ -151,11 +116,10 @@ pub(crate) fn begin<
     ensures starts { IfOk result (λ r. map given_handler r.1.items ≡ handlers.items) }
     ensures unsent { IfErr result (λ e. LeavesUnsent sender e.sender.value) }
 {
-    let mut started = Vec::new(alloc);
-    if start(rt, &mut started, receivers, handlers, bell, strategy).is_err() {
-        return Err(abandon(&rt, sender, started));
+    match start(rt, alloc, receivers, handlers, bell, strategy) {
+        Ok(workers) => Ok((sender, workers)),
+        Err(started) => Err(abandon(&rt, sender, started)),
     }
-    Ok((sender, started))
 }
 
 // Closes the ring, unless the sender left a claim open, and has what each thread gives back. Where memory
@@ -164,61 +128,28 @@ pub(crate) fn joined<R: Threads, H: Handler<Event> + Drop>(
     rt: &R,
     sender: &mut LiveSender,
     workers: Vec<Worker<H>>,
-) -> Result<Vec<Served<H>>, AllocError>
+) -> Result<Vec<Served<Receiver, H>>, AllocError>
     ensures closes { ClosesOnceDone sender.old sender.new }
     ensures kept { IfOk result (λ served. AreKept H.goes workers.items served.items) }
 {
     let _done = sender.call(|end| end.close());
-    match join_promised(rt, workers) {
-        Ok(served) => Ok(served),
-        Err(failed) => {
-            wait_for(rt, failed.value);
-            Err(AllocError)
-        }
-    }
+    join(rt, workers)
 }
 
-/// What came back of a run: the ends, the handlers, and how the workers ended, the sender's last.
-pub(crate) struct Back<H> {
-    pub(crate) receivers: Vec<Receiver>,
-    pub(crate) handlers: Vec<H>,
-    pub(crate) endings: Vec<Ended>,
-}
-
-// What workers gave back, each kind in a list of its own.
-pub(crate) fn apart<H: Drop>(
+// What workers gave back, each kind in a list of its own, with how the sender's ended.
+pub(crate) fn gathered<H: Drop>(
     alloc: Global,
-    served: Vec<Served<H>>,
+    served: Vec<Served<Receiver, H>>,
     sender: Option<WorkFault>,
-) -> Result<Back<H>, AllocError>
-    ensures receivers { IfOk result (λ back. back.receivers.items ≡ map (λ s. s.receiver) served.items) }
+) -> Result<Back<Receiver, H>, AllocError>
+    ensures outlets { IfOk result (λ back. back.outlets.items ≡ map (λ s. s.outlet) served.items) }
     ensures handlers { IfOk result (λ back. back.handlers.items ≡ map (λ s. s.handler) served.items) }
     ensures endings { IfOk result (λ back. back.endings.items ≡ endings_from 0 served.items ++ record { who = 16; fault = sender } ∷ []) }
 {
-    let many = served.len();
-    let mut receivers = Vec::with_capacity(alloc, many)?;
-    let mut handlers = Vec::with_capacity(alloc, many)?;
-    let mut endings = Vec::with_capacity(alloc, many)?;
-    for one in served {
-        let Served {
-            receiver,
-            handler,
-            fault,
-        } = one;
-        endings.push(Ended {
-            who: handlers.len(),
-            fault,
-        })?;
-        receivers.push(receiver)?;
-        handlers.push(handler)?;
-    }
-    endings.push(Ended {
+    let mut back = apart(alloc, served)?;
+    back.endings.push(Ended {
         who: SENDER,
         fault: sender,
     })?;
-    Ok(Back {
-        receivers,
-        handlers,
-        endings,
-    })
+    Ok(back)
 }

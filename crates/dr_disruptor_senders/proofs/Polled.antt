@@ -1,21 +1,18 @@
 -- What a worker's polls handed out, by the answers of a receiver.
-use Rattle.std.proofs.Common.{◌≡◌, ◌≢◌, ◌≤◌, ◌<◌, ◌+◌, ℕ, Bool, List, [], ◌∷◌, ◌++◌, length, take, All, Result, Ok, Err, inl, inr, refl, sym, ap, ◌∙◌, subst, arith, append_assoc, length-append}
+use Rattle.std.proofs.Common.{◌≡◌, ◌≢◌, ◌≤◌, ◌<◌, ◌+◌, ℕ, Bool, List, [], ◌∷◌, ◌++◌, length, take, All, Ok, Err, inl, inr, refl, sym, ap, ◌∙◌, subst, arith, append_assoc, length-append}
 use Rattle.std.specs.Prelude.{Contains, slice_index}
 use Rattle.std.proofs.Math.Seq.{get_or-append_seam}
-use Rattle.std.proofs.lemmas.Bool.{cases_eq, cases_lt}
-use Rattle.std.proofs.lemmas.List.{append-nil, length-take-le}
-use Rattle.std.proofs.lemmas.List.Elements.{All-cons, All-nil}
+use Rattle.std.proofs.lemmas.Bool.{cases_lt}
+use Rattle.std.proofs.lemmas.List.{append-nil}
 use mathlib.Core.Option.{some}
 use lib.ListN.{get_elem?}
 use Rattle.dr_seq.specs.declared.event.Event.{Event}
 use Rattle.dr_graph.specs.Meaning.Graph.{upstreams_of}
 use Rattle.dr_meaning.proofs.Leasts.{least_of-le}
-use Rattle.dr_meaning.specs.declared.command.Polled.{Polled}
 use Rattle.dr_meaning.specs.declared.command.Polled.TheVariants.{Batch, Drained, Gating, Idle}
-use Rattle.dr_meaning.specs.declared.ends.Trouble.{Trouble}
 use Rattle.dr_meaning.specs.declared.ends.Trouble.TheVariants.{Memory, Refused}
 use Rattle.dr_meaning.specs.Calls.Calling.{CallsLead, OutletCall, PollsInto, CompletesBelow}
-use Rattle.dr_workers.specs.Calls.Serving.{Due, InTurn, IsNextCall, NoCall, ToComplete, ToPoll, due_after}
+use Rattle.dr_workers.specs.Calls.Serving.{InTurn, ToPoll}
 use Rattle.dr_workers.specs.Meaning.Work.{batches_in}
 use Rattle.dr_runs.specs.declared.look.Look.{Look}
 use Rattle.dr_runs.specs.Looks.{look, offered_by}
@@ -28,7 +25,9 @@ use Rattle.dr_senders.specs.Calls.Ends.{ReceiverEnd, count_looks}
 use Rattle.dr_senders.specs.Calls.Receiving.{LooksInOrder, PollLooks, WalksTo, looked_round, offer, ups_of}
 use Rattle.dr_senders.specs.Calls.Telling.{receiver_does}
 use Rattle.dr_senders.proofs.Facts.{handler_inside, receiver_of_handler, upstream_inside}
-use Rattle.dr_disruptor.specs.Running.{IsPolled}
+use Rattle.dr_threads.specs.Handlers.{IsPolled}
+use Rattle.dr_threads.proofs.Polled.{batch_polled}
+use Rattle.dr_threads.proofs.Polled as threads
 
 -- What a receiver saw.
 
@@ -130,12 +129,6 @@ looked_on a b (CompletesBelow upto (Err Memory)) is = absurd is
 looked_on a b (CompletesBelow upto (Err (Refused r))) is = let same = is.1.2 in
     same_on a b is.0.1 (ap (λ (r : ReceiverRecord). r.number) same) (ap (λ (r : ReceiverRecord). r.looks) same) (ap (λ (r : ReceiverRecord). r.seen) same)
 
-saw_before : (n : ℕ) (ups : List ℕ) (a b : ReceiverEnd) (calls : List (OutletCall Event)) → CallsLead receiver_does a calls b → SawAtMost n ups b.knows → SawAtMost n ups a.knows
-saw_before n ups a b [] lead saw = subst (λ (e : ReceiverEnd). SawAtMost n ups e.knows) lead saw
-saw_before n ups a b (call ∷ calls) lead saw =
-    let on = looked_on a lead.0 call lead.1 in
-    before_it n ups a.knows lead.0.knows on.more on.looks on.seen (saw_before n ups lead.0 b calls lead.2 saw)
-
 -- what its barrier offered was published
 offered : (n claims upto : ℕ) (r : ReceiverRecord) (old : List Look) (ups counts : List ℕ) → length counts ≡ length ups
     → r.looks ≡ old ++ look claim_word claims ∷ count_looks ups counts → upto ≤ r.seen → SawAtMost n ups r → offered_by upto counts ≤ n
@@ -149,67 +142,37 @@ offered n claims upto r old (u ∷ ups) (c ∷ counts) many is within saw =
 
 -- What it was handed.
 
--- a poll comes where one is due
-room_of : (room : ℕ) (due : Due) (before after : List Event) (answer : Result Polled Trouble) → IsNextCall room due (PollsInto before after answer)
-    → (length before ≡ room) × (length after ≡ room)
-room_of room ToPoll before after answer next = next
-room_of room (ToComplete upto) before after answer next = absurd next
-room_of room NoCall before after answer next = absurd next
-
--- a batch is as long as the room allows, and ends what was offered unless more was published
-batch_polled : (room n first count : ℕ) (end : Bool) (a b : ReceiverEnd) (before after : List Event) → length before ≡ room → length after ≡ room
-    → receiver_does a (PollsInto before after (Ok (Batch first count end))) b → SawAtMost n (ups_of a.plan a.knows) b.knows
-    → IsPolled room n (record { first = first; events = take count after; end = end })
-batch_polled room n first count end a b before after long longer is saw =
-    let seen : PollLooks = is.1.1.0 in
-    let order = is.1.1.1 in
-    let answers = is.1.1.2 in
-    let some = answers.1 in
-    let many = answers.2 in
-    let fits : count ≤ length after = omega arith in
-    let taken : length (take count after) ≡ count = length-take-le count after fits in
-    let same : b.knows.seen ≡ seen.upto = ap (λ (r : ReceiverRecord). r.seen) answers.4 in
-    let within : offer seen ≤ n =
-    offered n seen.claims seen.upto b.knows a.knows.looks (ups_of a.plan a.knows) seen.counts order.each (ap (λ (r : ReceiverRecord). r.looks) answers.4) (omega arith) saw
-    in (
-      omega arith,
-      elim (cases_eq (first + count) (offer seen)) [
-        | inl whole ↦ inl (answers.3.1 whole)
-        | inr more ↦ inr (omega arith, omega arith)
-      ],
-    )
-
 -- the upstreams of a receiver that stays at its place
 stays_among : (a b : ReceiverEnd) → LookedOn a b → ups_of b.plan b.knows ≡ ups_of a.plan a.knows
 stays_among a b on = ap (λ (k : Shape). ups_of k b.knows) on.plan ∙ ap (λ (m : ℕ). upstreams_of a.plan.upstreams m) on.number
 
-pub polled : (room n : ℕ) (due : Due) (a b : ReceiverEnd) (calls : List (OutletCall Event)) → CallsLead receiver_does a calls b → InTurn room due calls
-    → SawAtMost n (ups_of a.plan a.knows) b.knows → All (IsPolled room n) (batches_in calls)
-polled room n due a b [] lead order saw = All-nil (IsPolled room n)
-polled room n due a b (PollsInto before after (Ok (Batch first count end)) ∷ calls) lead order saw =
-    let call : OutletCall Event = PollsInto before after (Ok (Batch first count end)) in
-    let rooms = room_of room due before after (Ok (Batch first count end)) order.0 in
-    let ups = sym (stays_among a lead.0 (looked_on a lead.0 call lead.1)) in
-    All-cons (IsPolled room n) (record { first = first; events = take count after; end = end }) (batches_in calls)
-    (batch_polled room n first count end a lead.0 before after rooms.0 rooms.1 lead.1 (saw_before n (ups_of a.plan a.knows) lead.0 b calls lead.2 saw))
-    (polled room n (due_after due call) lead.0 b calls lead.2 order.1 (subst (λ (us : List ℕ). SawAtMost n us b.knows) ups saw))
-polled room n due a b (PollsInto before after (Ok Drained) ∷ calls) lead order saw =
-    let call : OutletCall Event = PollsInto before after (Ok Drained) in
-    let ups = sym (stays_among a lead.0 (looked_on a lead.0 call lead.1)) in
-    polled room n (due_after due call) lead.0 b calls lead.2 order.1 (subst (λ (us : List ℕ). SawAtMost n us b.knows) ups saw)
-polled room n due a b (PollsInto before after (Ok Gating) ∷ calls) lead order saw =
-    let call : OutletCall Event = PollsInto before after (Ok Gating) in
-    let ups = sym (stays_among a lead.0 (looked_on a lead.0 call lead.1)) in
-    polled room n (due_after due call) lead.0 b calls lead.2 order.1 (subst (λ (us : List ℕ). SawAtMost n us b.knows) ups saw)
-polled room n due a b (PollsInto before after (Ok Idle) ∷ calls) lead order saw =
-    let call : OutletCall Event = PollsInto before after (Ok Idle) in
-    let ups = sym (stays_among a lead.0 (looked_on a lead.0 call lead.1)) in
-    polled room n (due_after due call) lead.0 b calls lead.2 order.1 (subst (λ (us : List ℕ). SawAtMost n us b.knows) ups saw)
-polled room n due a b (PollsInto before after (Err trouble) ∷ calls) lead order saw =
-    let call : OutletCall Event = PollsInto before after (Err trouble) in
-    let ups = sym (stays_among a lead.0 (looked_on a lead.0 call lead.1)) in
-    polled room n (due_after due call) lead.0 b calls lead.2 order.1 (subst (λ (us : List ℕ). SawAtMost n us b.knows) ups saw)
-polled room n due a b (CompletesBelow upto answer ∷ calls) lead order saw =
-    let call : OutletCall Event = CompletesBelow upto answer in
-    let ups = sym (stays_among a lead.0 (looked_on a lead.0 call lead.1)) in
-    polled room n (due_after due call) lead.0 b calls lead.2 order.1 (subst (λ (us : List ℕ). SawAtMost n us b.knows) ups saw)
+module _ (room n : ℕ) where
+  abbrev Saw : ReceiverEnd → Type 0
+  Saw e = SawAtMost n (ups_of e.plan e.knows) e.knows
+
+  -- what a receiver saw after a call, by its upstreams before it
+  saw_after : (a b : ReceiverEnd) (call : OutletCall Event) → receiver_does a call b → Saw b → SawAtMost n (ups_of a.plan a.knows) b.knows
+  saw_after a b call is saw = subst (λ (us : List ℕ). SawAtMost n us b.knows) (stays_among a b (looked_on a b call is)) saw
+
+  before_call : (a b : ReceiverEnd) (call : OutletCall Event) → receiver_does a call b → Saw b → Saw a
+  before_call a b call is saw =
+      let on = looked_on a b call is in
+      before_it n (ups_of a.plan a.knows) a.knows b.knows on.more on.looks on.seen (saw_after a b call is saw)
+
+  fits : (a b : ReceiverEnd) (before after : List Event) (first count : ℕ) (end : Bool) → length before ≡ room → length after ≡ room
+      → receiver_does a (PollsInto before after (Ok (Batch first count end))) b → Saw b
+      → IsPolled room n (record { first = first; events = take count after; end = end })
+  fits a b before after first count end long longer is saw =
+      let seen : PollLooks = is.1.1.0 in
+      let order = is.1.1.1 in
+      let answers = is.1.1.2 in
+      let same : b.knows.seen ≡ seen.upto = ap (λ (r : ReceiverRecord). r.seen) answers.4 in
+      let within : offer seen ≤ n =
+      offered n seen.claims seen.upto b.knows a.knows.looks (ups_of a.plan a.knows) seen.counts order.each (ap (λ (r : ReceiverRecord). r.looks) answers.4) (omega arith)
+      (saw_after a b (PollsInto before after (Ok (Batch first count end))) is saw)
+      in
+      batch_polled room n first count (offer seen) end before after long longer answers.1 answers.2 answers.3.1 within
+
+  pub polled : (a b : ReceiverEnd) (calls : List (OutletCall Event)) → CallsLead receiver_does a calls b → InTurn room ToPoll calls → Saw b
+      → All (IsPolled room n) (batches_in calls)
+  polled a b calls lead order saw = threads.polled receiver_does room n Saw before_call fits ToPoll a b calls lead order saw

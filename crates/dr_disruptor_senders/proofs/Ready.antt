@@ -16,15 +16,15 @@ use Rattle.dr_workers.specs.declared.fault.WorkFault.TheVariants.{Stopped}
 use Rattle.dr_workers.specs.declared.producer.Produced.{Produced}
 use Rattle.dr_seq.specs.declared.event.Event.{Event}
 use Rattle.dr_senders.specs.Meaning.Shape.{Shape, handlers_of}
-use Rattle.dr_senders.specs.Calls.Ends.{EndPlace, HalterEnd, ReceiverEnd, SenderEnd, sender_place}
+use Rattle.dr_senders.specs.Calls.Ends.{EndPlace, HalterEnd, ReceiverEnd, SenderEnd, receiver_place, sender_place}
 use Rattle.dr_senders.specs.Calls.Settling.{AreAllEnds, HasRun}
-use Rattle.dr_senders.specs.Calls.Telling.{sender_does}
-use Rattle.dr_disruptor.specs.declared.fault.RunFault.TheVariants as fault
-use Rattle.dr_disruptor_senders.specs.declared.running.Ran.{Ran}
+use Rattle.dr_senders.specs.Calls.Telling.{receiver_does, sender_does}
+use Rattle.dr_threads.specs.declared.fault.RunFault.TheVariants as fault
+use Rattle.dr_threads.specs.Serving.{given_end}
+use Rattle.dr_threads.proofs.Settled.{end_back, many_back}
 use Rattle.dr_disruptor_senders.specs.declared.sending.Sent.{Sent}
-use Rattle.dr_disruptor_senders.specs.declared.serving.Served.{Served}
-use Rattle.dr_disruptor_senders.specs.Running.{IsJoined, JoinsAll}
-use Rattle.dr_disruptor_senders.specs.Serving.{AreKept, AreSent, HaltsOnly, Sending, Worker, given_end, refusal_of}
+use Rattle.dr_disruptor_senders.specs.Running.{IsJoined, JoinsAll, Ran}
+use Rattle.dr_disruptor_senders.specs.Serving.{AreKept, AreSent, HaltsOnly, Sending, Served, Worker, is_told, received_by, refusal_of}
 
 -- what senders' workers gave back are all senders of the ring again
 pub senders_back : (size : ℕ) (scripts : List (List Event)) (ss : List SenderEnd) (rs : List ReceiverEnd) (t : HalterEnd) (sent : List Sent) → length ss ≡ length scripts
@@ -47,21 +47,15 @@ senders_back size scripts ss rs t sent given are all = record {
 
 -- so are what handlers' workers gave back
 pub receivers_back : {A : Type 0} (goes : Relation Event A) (ss : List SenderEnd) (t : HalterEnd) (ws : List (Worker A)) (served : List (Served A)) → AreKept goes ws served
-    → AreAllEnds ss (map given_end ws) t → AreAllEnds ss (map (λ b. b.receiver) served) t
+    → AreAllEnds ss (map given_end ws) t → AreAllEnds ss (map (λ (b : Served A). b.outlet) served) t
 receivers_back goes ss t ws served kept all = record {
   senders = all.senders;
-  receivers = length-map served (λ b. b.receiver) ∙ kept.many ∙ sym (length-map ws given_end) ∙ all.receivers;
+  receivers = many_back receiver_place receiver_does (λ e. Some (received_by e)) is_told goes ws served kept ∙ all.receivers;
   each_sender = all.each_sender;
   each_receiver = λ h e at.
-      let many : length (map (λ b. b.receiver) served) ≡ length served = length-map served (λ b. b.receiver) in
-      let inside : h < length (map (λ b. b.receiver) served) = at_below (map (λ b. b.receiver) served) h e at in
-      let b = there served h (omega arith) in
-      let same : b.0.receiver ≡ e = some-injective b.0.receiver e (sym (at_map (λ b. b.receiver) served h b.0 b.1) ∙ at) in
-      let (w, at_w, serving) = kept.each h b.0 b.1 in
-      let was = all.each_receiver h (given_end w) (at_map given_end ws h w at_w) in
-      let ring = ap (λ (q : EndPlace). q.0) serving.place in
-      let number = ap (λ (q : EndPlace). q.2) serving.place in
-      subst (λ (x : ReceiverEnd). (x.ring ≡ t.ring) × (x.knows.number ≡ h)) same (ring ∙ was.0, number ∙ was.1);
+      let (given, there, same) = end_back receiver_place receiver_does (λ e. Some (received_by e)) is_told goes ws served kept h e at in
+      let was = all.each_receiver h given there in
+      (ap (λ (q : EndPlace). q.0) same ∙ was.0, ap (λ (q : EndPlace). q.2) same ∙ was.1);
 }
 
 -- a halted ring's ends are those that they were

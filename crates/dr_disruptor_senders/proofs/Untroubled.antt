@@ -1,21 +1,18 @@
--- A handler's worker over a receiver has no fault: it answers polls with room, and completions of what it took.
-use Rattle.std.proofs.Common.{◌≡◌, ◌<◌, ◌≤◌, ℕ, Bool, List, length, Option, None, Some, Ok, Err, ap, ⊎_elim, arith, ◌∙◌}
+-- What a receiver answers to polls with room, and to completions of what it took: no trouble.
+use Rattle.std.proofs.Common.{◌≡◌, ◌<◌, ◌≤◌, ℕ, Bool, List, length, Ok, Err, ap, ⊎_elim, arith}
 use Rattle.std.proofs.lemmas.Bool.{eqb-true, false≢true, ltb-true}
 use Rattle.dr_seq.specs.declared.event.Event.{Event}
 use Rattle.dr_meaning.specs.declared.command.Polled.{Polled}
 use Rattle.dr_meaning.specs.declared.command.Polled.TheVariants.{Batch, Drained, Gating, Idle}
 use Rattle.dr_meaning.specs.declared.ends.Trouble.{Trouble}
 use Rattle.dr_meaning.specs.declared.ends.Trouble.TheVariants.{Memory, Refused}
-use Rattle.dr_meaning.specs.Calls.Calling.{PollsInto, CompletesBelow, SomeCalls}
+use Rattle.dr_meaning.specs.Calls.Calling.{PollsInto, CompletesBelow}
 use Rattle.dr_meaning.specs.Calls.Ends.{Completes, Takes}
-use Rattle.dr_meaning.specs.Calls.Handling.{Relation}
-use Rattle.dr_workers.specs.Calls.Serving as worker
-use Rattle.dr_workers.specs.declared.fault.WorkFault.{WorkFault}
-use Rattle.dr_workers.proofs.Untroubled.{Answers, untroubled}
+use Rattle.dr_workers.proofs.Untroubled.{Answers}
 use Rattle.dr_senders.specs.Calls.Ends.{ReceiverEnd}
 use Rattle.dr_senders.specs.Calls.Receiving.{received_of}
 use Rattle.dr_senders.specs.Calls.Telling.{receiver_does}
-use Rattle.dr_disruptor.proofs.Fine.{unstopped}
+use Rattle.dr_disruptor_senders.specs.Serving.{received_by}
 
 polls : (a b : ReceiverEnd) (before after : List Event) (trouble : Trouble) → 0 < length before
     → receiver_does a (PollsInto before after (Err trouble)) b → ⊥
@@ -50,14 +47,5 @@ completed : (a b : ReceiverEnd) (upto : ℕ) → receiver_does a (CompletesBelow
     → Completes upto (Ok tt) (received_of a.knows) (received_of b.knows)
 completed a b upto is = is.1.1
 
-answers : Answers receiver_does (λ (e : ReceiverEnd). received_of e.knows)
+pub answers : Answers receiver_does received_by
 answers = record { polls = polls; takes = takes; fits = fits; completes = completes; completed = completed }
-
-pub no_trouble : {A : Type 0} (goes : Relation Event A) (start after : A) (given back : ReceiverEnd) (fault : Option WorkFault)
-    → SomeCalls receiver_does given back (worker.Serves 256 goes start after (Some (received_of given.knows)) (Some (received_of back.knows)) (λ passage. ⊥) (λ passage. ⊥) fault)
-    → given.knows.completed ≤ length given.knows.received → fault ≡ None
-no_trouble goes start after given back fault is begins =
-    let gate = is.holds.gate in
-    ⊎_elim (λ told. told.1 ∙ unstopped gate.stopped (λ stopped. (gate.may stopped).2))
-    (λ trouble. absurd (untroubled receiver_does (λ (e : ReceiverEnd). received_of e.knows) answers 256 (omega arith) given back is.calls trouble.0 begins is.lead is.holds.order trouble.1))
-    gate.answers

@@ -1,24 +1,28 @@
 -- What came of a run with several senders: what each handler went through, and how the workers ended.
-use Rattle.std.specs.Prelude.{◌≡◌, ℕ, ◌<◌, List, [], ◌∷◌, ◌++◌, length, map, take, None, Result, Ok, Err}
+use Rattle.std.specs.Prelude.{◌≡◌, ℕ, List, [], ◌∷◌, ◌++◌, length, map, take, Some, Result, Ok, Err}
 use Rattle.std.specs.declared.alloc.AllocError.{AllocError}
 use mathlib.Core.Option.{some}
 use lib.ListN.{get_elem?}
 use Rattle.atomic_table.specs.Seated.{TableId}
 use Rattle.dr_seq.specs.declared.event.Event.{Event}
 use Rattle.dr_meaning.specs.Calls.Handling.{Relation}
-use Rattle.dr_workers.specs.declared.ended.Ended.{Ended}
 use Rattle.dr_lock.specs.Meaning.Merge.{IsMerge}
-use Rattle.dr_runs.specs.Gathering.{counts_at}
 use Rattle.dr_senders.specs.Meaning.Moments.{fresh_receiver, fresh_sender}
 use Rattle.dr_senders.specs.Meaning.Shape.{Shape}
-use Rattle.dr_senders.specs.Calls.Ends.{HalterEnd, ReceiverEnd, SenderEnd}
+use Rattle.dr_senders.specs.Calls.Ends.{HalterEnd, ReceiverEnd, SenderEnd, receiver_place}
 use Rattle.dr_senders.specs.Calls.Making.{at_ring}
 use Rattle.dr_senders.specs.Calls.Settling.{HasRun, handler_counts}
-use Rattle.dr_disruptor.specs.Running.{AllWentThrough}
-use Rattle.dr_disruptor_senders.specs.declared.running.Ran.{Ran}
+use Rattle.dr_senders.specs.Calls.Telling.{receiver_does}
+use Rattle.dr_senders.specs.declared.settled.Settled.{Settled}
+use Rattle.dr_threads.specs.declared.ran.Ran as threads
+use Rattle.dr_threads.specs.Handlers.{AllWentThrough, AreServed}
+use Rattle.dr_threads.specs.Serving.{endings_from}
 use Rattle.dr_disruptor_senders.specs.declared.sending.Sent.{Sent}
-use Rattle.dr_disruptor_senders.specs.declared.serving.Served.{Served}
-use Rattle.dr_disruptor_senders.specs.Serving.{AreKept, HaltsOnly, Sending, Serving, Worker, endings_from, sender_endings}
+use Rattle.dr_disruptor_senders.specs.Serving.{AreKept, HaltsOnly, Sending, Served, Worker, is_told, received_by, sender_endings}
+
+-- what came of a run over a ring
+abbrev pub Ran : Type 0 → Type 0
+Ran A = threads.Ran A Settled
 
 -- all handlers went through one list of events, which is a merge of these lists
 pub record AllWentThroughMerge {A : Type 0} (goes : Relation Event A) (lists : List (List Event)) (starts afters : List A) : Type 0 where
@@ -39,13 +43,6 @@ new_sender ring k p = at_ring ring k (fresh_sender p)
 abbrev pub new_receiver : TableId → Shape → ℕ → ReceiverEnd
 new_receiver ring k h = at_ring ring k (fresh_receiver h)
 
--- how many events a handler took, and how many it completed
-abbrev pub taken_in : {A : Type 0} → Ran A → ℕ → ℕ
-taken_in ran h = (counts_at ran.settled.handlers.items h).taken
-
-abbrev pub completed_in : {A : Type 0} → Ran A → ℕ → ℕ
-completed_in ran h = (counts_at ran.settled.handlers.items h).completed
-
 -- the ends that came together are these
 pub record AreSettled {A : Type 0} (ran : Ran A) (ss : List SenderEnd) (rs : List ReceiverEnd) (t : HalterEnd) : Type 0 where
   pub senders : ran.settled.senders.value.items ≡ ss
@@ -60,22 +57,19 @@ pub record IsRan {A : Type 0} (goes : Relation Event A) (k : Shape) (scripts : L
   pub halter : HalterEnd
   pub halts : HaltsOnly (at_ring halter.ring k record { looks = [] }) halter
   -- they are the ends that came together at last, and one run came to all of them
-  pub ends : AreSettled ran (map (λ s. s.sender) senders) (map (λ s. s.receiver) served) halter
-  pub run : HasRun (map (λ s. s.sender) senders) (map (λ s. s.receiver) served) halter ran.settled.claimed ran.settled.is_halted
-  -- each script was sent by the sender at its place, and each handler had its events from the receiver at its place
+  pub ends : AreSettled ran (map (λ s. s.sender) senders) (map (λ s. s.outlet) served) halter
+  pub run : HasRun (map (λ s. s.sender) senders) (map (λ s. s.outlet) served) halter ran.settled.claimed ran.settled.is_halted
+  -- each script was sent by the sender at its place
   pub sending : (p : ℕ) (script : List Event) → get_elem? scripts p ≡ some script
       → (back : Sent) × (get_elem? senders p ≡ some back) × Sending k.size script (new_sender halter.ring k p) back
-  pub serving : (h : ℕ) (start : A) → get_elem? starts h ≡ some start
-      → (back : Served A) × (get_elem? served h ≡ some back) × (get_elem? ran.handlers.items h ≡ some back.handler) × Serving goes start (new_receiver halter.ring k h) back
-  -- all handlers went through what was sent of the scripts, merged, and completed it; and nothing else was claimed
-  pub went : AllWentThroughMerge goes (sent_of scripts senders) starts ran.handlers.items
-  pub claimed : ran.settled.claimed ≡ length went.events
-  pub counted : length ran.settled.handlers.items ≡ length starts
-  pub taken : (h : ℕ) → h < length starts → taken_in ran h ≡ length went.events
-  pub completed : (h : ℕ) → h < length starts → completed_in ran h ≡ length went.events
-  -- the handlers' workers ended without a fault, and the senders' behind them
+  -- all handlers went through what was sent of the scripts, merged, each from the receiver at its place, and completed it; and nothing else was claimed
+  pub events : List Event
+  pub merge : IsMerge (sent_of scripts senders) events
+  pub handlers : AreServed receiver_place receiver_does (λ e. Some (received_by e)) is_told goes (new_receiver halter.ring k) starts events
+      served ran.handlers.items ran.settled.handlers.items ran.endings.items
+  pub claimed : ran.settled.claimed ≡ length events
+  -- the senders' endings stand behind the handlers'
   pub endings : ran.endings.items ≡ endings_from 0 served ++ sender_endings 16 senders
-  pub ended : (h : ℕ) (e : Ended) → h < length starts → get_elem? ran.endings.items h ≡ some e → e ≡ record { who = h; fault = None }
 
 -- what a run's handlers' workers gave back, once the ring was halted, and how all ends came together
 pub record IsJoined {A : Type 0} (goes : Relation Event A) (workers : List (Worker A)) (sent : List Sent) (halter : HalterEnd) (ran : Ran A) : Type 0 where
@@ -83,9 +77,9 @@ pub record IsJoined {A : Type 0} (goes : Relation Event A) (workers : List (Work
   pub kept : AreKept goes workers served
   pub after : HalterEnd
   pub halts : HaltsOnly halter after
-  pub ends : AreSettled ran (map (λ s. s.sender) sent) (map (λ s. s.receiver) served) after
-  pub run : HasRun (map (λ s. s.sender) sent) (map (λ s. s.receiver) served) after ran.settled.claimed ran.settled.is_halted
-  pub counts : ran.settled.handlers.items ≡ map (λ e. handler_counts e.knows) (map (λ s. s.receiver) served)
+  pub ends : AreSettled ran (map (λ s. s.sender) sent) (map (λ s. s.outlet) served) after
+  pub run : HasRun (map (λ s. s.sender) sent) (map (λ s. s.outlet) served) after ran.settled.claimed ran.settled.is_halted
+  pub counts : ran.settled.handlers.items ≡ map (λ e. handler_counts e.knows) (map (λ s. s.outlet) served)
   pub handlers : ran.handlers.items ≡ map (λ s. s.handler) served
   pub endings : ran.endings.items ≡ endings_from 0 served ++ sender_endings 16 sent
 

@@ -1,5 +1,5 @@
 -- What the workers of handlers and of senders promise, and what they gave back.
-use Rattle.std.specs.Prelude.{◌≡◌, ◌≢◌, ℕ, ◌+◌, ◌^◌, ◌≤◌, ◌/◌, ◌==◌, max, true, if◌then◌else◌, List, [], ◌∷◌, length, None, Some, IfNone}
+use Rattle.std.specs.Prelude.{◌≡◌, ◌≢◌, ℕ, ◌+◌, ◌^◌, ◌≤◌, ◌/◌, ◌==◌, max, Bool, if◌then◌else◌, List, [], ◌∷◌, length, Some, IfNone}
 use Rattle.std.specs.Global.{Vec}
 use mathlib.Core.Option.{some}
 use lib.ListN.{get_elem?}
@@ -7,24 +7,24 @@ use Rattle.std.specs.declared.thread.PromisedHandle.{PromisedHandle}
 use Rattle.dr_seq.specs.declared.event.Event.{Event}
 use Rattle.dr_meaning.specs.declared.mode.Mode.TheVariants.{Multi}
 use Rattle.dr_meaning.specs.Calls.Calling.{SomeCalls}
+use Rattle.dr_meaning.specs.Calls.Ends.{Received}
 use Rattle.dr_meaning.specs.Calls.Handling.{Relation}
 use Rattle.dr_meaning.specs.Calls.OpenFault.{has_bad_producers}
 use Rattle.dr_workers.specs.Calls.Serving as worker
-use Rattle.dr_workers.specs.Meaning.Work.{IsDone}
 use Rattle.dr_workers.specs.declared.ended.Ended.{Ended}
-use Rattle.dr_workers.specs.declared.fault.WorkFault.TheVariants.{Memory, Stopped}
+use Rattle.dr_workers.specs.declared.fault.WorkFault.TheVariants.{Stopped}
 use Rattle.dr_senders.specs.Meaning.Shape.{Shape}
 use Rattle.dr_senders.specs.Meaning.Records.{halter_halted}
 use Rattle.dr_senders.specs.declared.record.Step.TheVariants.{HalterHalts}
 use Rattle.dr_senders.specs.Calls.Ends.{HalterEnd, HasStored, ReceiverEnd, SenderEnd, receiver_place, sender_place}
 use Rattle.dr_senders.specs.Calls.Receiving.{received_of}
 use Rattle.dr_senders.specs.Calls.Telling.{receiver_does, sender_does}
-use Rattle.dr_disruptor.specs.declared.fault.RunFault.{RunFault}
-use Rattle.dr_disruptor.specs.declared.fault.RunFault.TheVariants as fault
+use Rattle.dr_threads.specs.declared.fault.RunFault.{RunFault}
+use Rattle.dr_threads.specs.declared.fault.RunFault.TheVariants as fault
+use Rattle.dr_threads.specs.declared.served.Served as threads
+use Rattle.dr_threads.specs.Serving as serving
 use Rattle.dr_disruptor_senders.specs.declared.sending.SendsPromise.{SendsPromise}
 use Rattle.dr_disruptor_senders.specs.declared.sending.Sent.{Sent}
-use Rattle.dr_disruptor_senders.specs.declared.serving.Served.{Served}
-use Rattle.dr_disruptor_senders.specs.declared.serving.ServesPromise.{ServesPromise}
 
 -- a ring of a graph, so many slots and so many senders, for as many sequences as there may be
 abbrev pub shape_of : List (List ℕ) → ℕ → ℕ → Shape
@@ -37,38 +37,23 @@ refusal_of graph given scripts =
 
 -- The handlers.
 
--- a worker's calls, each poll with room for 256 events, took a handler through exactly what its end handed out, and it gave both back with the fault that these calls came to; without one the end was told that the ring drained, and all that it took is completed. With an open gate nobody stops it, and a ring's end takes no memory
-pub record Serving {A : Type 0} (goes : Relation Event A) (start : A) (given : ReceiverEnd) (back : Served A) : Type 0 where
-  pub place : receiver_place back.receiver ≡ receiver_place given
-  pub calls : SomeCalls receiver_does given back.receiver
-      (worker.Serves 256 goes start back.handler (Some (received_of given.knows)) (Some (received_of back.receiver.knows)) (λ passage. ⊥) (λ passage. ⊥) back.fault)
-  pub drained : IfNone back.fault (back.receiver.knows.told ≡ true)
-  pub done : IfNone back.fault (IsDone (received_of given.knows) (received_of back.receiver.knows))
-  pub stopped : back.fault ≢ Some Stopped
-  pub memory : back.fault ≢ Some Memory
-  -- an end that completed no more than it took refuses no call of such a worker
-  pub fine : given.knows.completed ≤ length given.knows.received → back.fault ≡ None
+-- what a receiver shows, and whether it was told that the ring drained
+abbrev pub received_by : ReceiverEnd → Received Event
+received_by e = received_of e.knows
+
+abbrev pub is_told : ReceiverEnd → Bool
+is_told e = e.knows.told
+
+-- what a handler's thread gives back, and the thread
+abbrev pub Served : Type 0 → Type 0
+Served A = threads.Served ReceiverEnd A
 
 abbrev pub Worker : Type 0 → Type 0
-Worker A = PromisedHandle (Served A) (ServesPromise A)
-
--- the end that a handler's thread was given, and the handler
-abbrev pub given_end : {A : Type 0} → Worker A → ReceiverEnd
-given_end w = w.promise.end.value
-
-abbrev pub given_handler : {A : Type 0} → Worker A → A
-given_handler w = w.promise.start.value
+Worker A = serving.Worker ReceiverEnd A
 
 -- each worker gave back what it promised, in their order
-pub record AreKept {A : Type 0} (goes : Relation Event A) (workers : List (Worker A)) (served : List (Served A)) : Type 0 where
-  pub many : length served ≡ length workers
-  pub each : (h : ℕ) (back : Served A) → get_elem? served h ≡ some back
-      → (w : Worker A) × (get_elem? workers h ≡ some w) × Serving goes (given_handler w) (given_end w) back
-
--- how workers ended whose numbers rise from a first one
-abbrev pub endings_from : {A : Type 0} → ℕ → List (Served A) → List Ended
-endings_from who [] = []
-endings_from who (s ∷ served) = record { who = who; fault = s.fault } ∷ endings_from (who + 1) served
+abbrev pub AreKept : {A : Type 0} → Relation Event A → List (Worker A) → List (Served A) → Type 0
+AreKept goes workers served = serving.AreKept receiver_place receiver_does (λ e. Some (received_by e)) is_told goes workers served
 
 -- The senders.
 

@@ -2,14 +2,13 @@
 //!
 //! [`run_scripts`] makes the ring of a graph, starts a thread for each handler and one for each script, which sends
 //! it, and hands back the handlers with how far each came ([`Ran`]). Begin with `specs/Running`: it says what each
-//! handler went through. The faults and the ways of waiting are those of `dr_disruptor`.
+//! handler went through. The handlers' threads, the faults and the ways of waiting are those of `dr_threads`.
 #![tactic(auto)]
 
 mod running;
 mod sending;
-mod serving;
 mod workers;
 
+pub use dr_threads::{RunFault, Served, ServesPromise, WaitStrategy, serve};
 pub use running::{Ran, run_scripts};
 pub use sending::{SendsPromise, Sent, send};
-pub use serving::{Served, ServesPromise, serve};

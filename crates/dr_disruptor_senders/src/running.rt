@@ -1,60 +1,28 @@
 //! A whole run over a ring with several senders.
 
-ghost use Rattle.std.specs.Prelude.{◌≡◌, ◌≤◌, None, false, IfErr, IfOk, length, map};
+ghost use Rattle.std.specs.Prelude.{◌≡◌, ◌≤◌, false, IfErr, IfOk, length, map};
 ghost use Rattle.dr_meaning.specs.declared.mode.Mode.TheVariants.{Multi};
 ghost use Rattle.dr_meaning.specs.Calls.OpenFault.{has_bad_producers};
-ghost use Rattle.dr_workers.specs.Meaning.FirstFault.{first_fault as first_of};
 ghost use Rattle.dr_senders.specs.Calls.Settling.{AreAllEnds};
-ghost use Rattle.dr_disruptor.specs.Running.{AreFine, IsFirst};
+ghost use Rattle.dr_threads.specs.Endings.{AreFine};
+ghost use Rattle.dr_threads.specs.Serving.{given_end};
 ghost use Rattle.dr_disruptor_senders.specs.Running.{AllWentThroughMerge, IsRan, JoinsAll};
-ghost use Rattle.dr_disruptor_senders.specs.Serving.{given_end, refusal_of, shape_of};
+ghost use Rattle.dr_disruptor_senders.specs.Serving.{refusal_of, shape_of};
 
 use crate::sending::Sent;
-use crate::workers::{
-    Back, LiveHalter, Worker, apart, begin, joined, open, send_all, senders_apart,
-};
-use dr_disruptor::{RunFault, WaitStrategy};
+use crate::workers::{LiveHalter, Worker, begin, joined, open, send_all, senders_apart};
 use dr_graph::Graph;
 use dr_meaning::Handler;
 use dr_senders::{Settled, settle};
 use dr_seq::{Event, Size};
-use dr_workers::{Ended, WorkerFault, first_fault};
+use dr_threads::{Back, RunFault, WaitStrategy, apart};
 use std::alloc::{AllocError, Global};
 use std::sync::Wait;
 use std::thread::Threads;
 
-/// What came of a run.
-#[derive(Drop)]
-pub struct Ran<H> {
-    /// The handlers, in the graph's order.
-    pub handlers: Vec<H>,
-    /// How many events were claimed, all of which were published, and how far each handler came.
-    pub settled: Settled,
-    /// How each worker ended: the handlers' in the graph's order, then the senders' in the order of their scripts,
-    /// whose numbers begin at 16.
-    pub endings: Vec<Ended>,
-}
-
-impl<H: Drop> Ran<H> {
-    /// The fault that is answered for the workers, if one of them has any.
-    pub fn fault(&self) -> Option<WorkerFault>
-        ensures first { result ≡ first_of self.now.endings.items }
-        ensures none { result ≡ None → AreFine self.now.endings.items }
-    {
-        first_fault(self.endings.as_slice())
-    }
-
-    /// The handlers, where no worker has a fault.
-    pub fn finished(self) -> Result<Vec<H>, RunFault>
-        ensures handlers { IfOk result (λ handlers. (handlers ≡ self.handlers) × AreFine self.endings.items) }
-        ensures fault { IfErr result (λ e. IsFirst self.endings.items e) }
-    {
-        match self.fault() {
-            Some(first) => Err(RunFault::from(first)),
-            None => Ok(self.handlers),
-        }
-    }
-}
+/// What came of a run: with the handlers how many events were claimed, all of which were published, how far each
+/// handler came, and how each worker ended, the senders' last, in the order of their scripts.
+pub type Ran<H> = dr_threads::Ran<H, Settled>;
 
 // Halts the ring, joins the handlers' threads, and brings all ends together. It halts and joins also where memory
 // ran out.
@@ -72,13 +40,13 @@ fn finish<R: Threads, H: Handler<Event> + Drop>(
     let served = joined(rt, &mut halter, workers)?;
     let sent = sent?;
     let Back {
-        receivers,
+        outlets,
         handlers,
         mut endings,
     } = apart(alloc, served)?;
     let senders = senders_apart(alloc, sent, &mut endings)?;
-    let settled = settle(senders, receivers, halter.into_end());
-    Ok(Ran {
+    let settled = settle(senders, outlets, halter.into_end());
+    Ok(dr_threads::Ran {
         handlers,
         settled,
         endings,

@@ -3,9 +3,9 @@
 ghost use Rattle.std.specs.Prelude.{◌≡◌};
 ghost use Rattle.dr_disruptor_senders.specs.Serving.{Sending};
 
-use dr_disruptor::WaitStrategy;
 use dr_senders::Sender;
 use dr_seq::{Event, Size};
+use dr_threads::WaitStrategy;
 use dr_workers::{Bell, OpenGate, Produced, Ringing, produce_with};
 use std::snapshot::Snapshot;
 use std::sync::Wait;

@@ -6,15 +6,15 @@ ghost use Rattle.dr_meaning.specs.Calls.OpenFault.{has_bad_producers};
 ghost use Rattle.dr_senders.specs.Calls.Making.{AreFreshEnds};
 ghost use Rattle.dr_senders.specs.Calls.Settling.{AreAllEnds};
 ghost use Rattle.dr_senders.specs.Meaning.Shape.{IsShape};
-ghost use Rattle.dr_disruptor_senders.specs.Serving.{AreKept, AreSent, HaltsOnly, endings_from, given_end, given_handler, given_script, given_sender, given_size, refusal_of, sender_endings, shape_of};
+ghost use Rattle.dr_threads.specs.Serving.{given_end, given_handler};
+ghost use Rattle.dr_disruptor_senders.specs.Serving.{AreKept, AreSent, HaltsOnly, given_script, given_sender, given_size, refusal_of, sender_endings, shape_of};
 
 use crate::sending::{SendsPromise, Sent, send};
-use crate::serving::{Served, ServesPromise, serve};
-use dr_disruptor::{RunFault, WaitStrategy};
 use dr_graph::Graph;
 use dr_meaning::{Handler, MAX_LIMIT, Mode};
 use dr_senders::{Halter, Receiver, Sender, senders_ring};
 use dr_seq::{Event, Size};
+use dr_threads::{RunFault, Served, WaitStrategy, join, start, wait_for};
 use dr_workers::{Bell, Ended, Ringing};
 use std::alloc::{AllocError, Global};
 use std::sync::{Arc, Wait};
@@ -27,7 +27,7 @@ const FIRST_SENDER: usize = 16;
 pub(crate) type LiveHalter = Ringing<Halter, Arc<Bell, Global>>;
 
 /// A handler's thread.
-pub(crate) type Worker<H> = PromisedHandle<Served<H>, ServesPromise<H>>;
+pub(crate) type Worker<H> = dr_threads::Worker<Receiver, H>;
 
 /// A sender's thread.
 pub(crate) type Producer = PromisedHandle<Sent, SendsPromise>;
@@ -68,45 +68,6 @@ pub(crate) fn open(
     Ok((senders, receivers, Ringing::new(halter, theirs), bell))
 }
 
-// Starts a thread for each handler with the end at its place. Where one cannot be started the earlier ones are in `started`.
-fn start_handlers<
-    R: Threads + Wait + Copy + Send + 'static,
-    H: Handler<Event> + Drop + Send + 'static,
->(
-    rt: R,
-    started: &mut Vec<Worker<H>>,
-    receivers: Vec<Receiver>,
-    handlers: Vec<H>,
-    bell: &Arc<Bell, Global>,
-    strategy: WaitStrategy,
-) -> Result<(), AllocError>
-    requires none { started.old.items ≡ [] }
-    requires many { length receivers.items ≡ length handlers.items }
-    ensures ends { OnOk result (map given_end started.new.items ≡ receivers.items) }
-    ensures starts { OnOk result (map given_handler started.new.items ≡ handlers.items) }
-{
-    // A thread that is started has its place.
-    started.reserve(handlers.len())?;
-    let mut handlers = handlers.into_iter();
-    for receiver in receivers {
-        let Some(handler) = handlers.next() else {
-            unreachable!();
-        };
-        let bell = Arc::try_clone(bell)?;
-        let promise = ServesPromise::of(&receiver, &handler);
-        let who = started.len();
-        let Ok(worker) = thread::spawn_with(
-            &rt,
-            promise,
-            move || serve(&rt, who, receiver, handler, &bell, strategy),
-        ) else {
-            return Err(AllocError);
-        };
-        started.push(worker)?;
-    }
-    Ok(())
-}
-
 // Starts a thread for each script with the end at its place. Where one cannot be started the earlier ones are in `started`.
 fn start_senders<R: Threads + Wait + Copy + Send + 'static>(
     rt: R,
@@ -145,20 +106,6 @@ fn start_senders<R: Threads + Wait + Copy + Send + 'static>(
     Ok(())
 }
 
-// Waits for handlers' threads whose results nobody wants.
-fn wait_for<R: Threads, H: Handler<Event> + Drop>(rt: &R, workers: Vec<Worker<H>>) {
-    for worker in workers {
-        let _served = worker.join(rt);
-    }
-}
-
-// The same of senders' threads.
-fn wait_for_senders<R: Threads>(rt: &R, workers: Vec<Producer>) {
-    for worker in workers {
-        let _sent = worker.join(rt);
-    }
-}
-
 /// Starts a thread for each handler of a new ring, with its end. Where a thread cannot be started, nothing is
 /// sent, and those that were started are joined.
 pub(crate) fn begin<
@@ -178,13 +125,14 @@ pub(crate) fn begin<
     ensures ends { IfOk result (λ workers. map given_end workers.items ≡ receivers.items) }
     ensures starts { IfOk result (λ workers. map given_handler workers.items ≡ handlers.items) }
 {
-    let mut started = Vec::new(alloc);
-    if start_handlers(rt, &mut started, receivers, handlers, bell, strategy).is_err() {
-        halter.call(|end| end.halt());
-        wait_for(&rt, started);
-        return Err(AllocError);
+    match start(rt, alloc, receivers, handlers, bell, strategy) {
+        Ok(workers) => Ok(workers),
+        Err(started) => {
+            halter.call(|end| end.halt());
+            wait_for(&rt, started);
+            Err(AllocError)
+        }
     }
-    Ok(started)
 }
 
 /// Sends each script by the sender at its place, on a thread of its own, and waits until all are sent. Where a
@@ -205,15 +153,15 @@ pub(crate) fn send_all<R: Threads + Wait + Copy + Send + 'static>(
     ensures sent { IfOk result (λ sent. AreSent size (map (λ s. s.items) scripts.items) senders.items sent.items) }
 {
     let mut started = Vec::new(alloc);
-    if start_senders(rt, &mut started, senders, scripts, bell, size, strategy).is_err() {
+    let Ok(()) = start_senders(rt, &mut started, senders, scripts, bell, size, strategy) else {
         halter.call(|end| end.halt());
-        wait_for_senders(&rt, started);
+        wait_for(&rt, started);
         return Err(AllocError);
-    }
+    };
     match join_promised(&rt, started) {
         Ok(sent) => Ok(sent),
         Err(failed) => {
-            wait_for_senders(&rt, failed.value);
+            wait_for(&rt, failed.value);
             Err(AllocError)
         }
     }
@@ -225,55 +173,12 @@ pub(crate) fn joined<R: Threads, H: Handler<Event> + Drop>(
     rt: &R,
     halter: &mut LiveHalter,
     workers: Vec<Worker<H>>,
-) -> Result<Vec<Served<H>>, AllocError>
+) -> Result<Vec<Served<Receiver, H>>, AllocError>
     ensures halts { HaltsOnly halter.old halter.new }
     ensures kept { IfOk result (λ served. AreKept H.goes workers.items served.items) }
 {
     halter.call(|end| end.halt());
-    match join_promised(rt, workers) {
-        Ok(served) => Ok(served),
-        Err(failed) => {
-            wait_for(rt, failed.value);
-            Err(AllocError)
-        }
-    }
-}
-
-/// What came back of the handlers' workers: the ends, the handlers, and how the workers ended.
-pub(crate) struct Back<H> {
-    pub(crate) receivers: Vec<Receiver>,
-    pub(crate) handlers: Vec<H>,
-    pub(crate) endings: Vec<Ended>,
-}
-
-// What handlers' workers gave back, each kind in a list of its own.
-pub(crate) fn apart<H: Drop>(alloc: Global, served: Vec<Served<H>>) -> Result<Back<H>, AllocError>
-    ensures receivers { IfOk result (λ back. back.receivers.items ≡ map (λ s. s.receiver) served.items) }
-    ensures handlers { IfOk result (λ back. back.handlers.items ≡ map (λ s. s.handler) served.items) }
-    ensures endings { IfOk result (λ back. back.endings.items ≡ endings_from 0 served.items) }
-{
-    let many = served.len();
-    let mut receivers = Vec::with_capacity(alloc, many)?;
-    let mut handlers = Vec::with_capacity(alloc, many)?;
-    let mut endings = Vec::with_capacity(alloc, many)?;
-    for one in served {
-        let Served {
-            receiver,
-            handler,
-            fault,
-        } = one;
-        endings.push(Ended {
-            who: handlers.len(),
-            fault,
-        })?;
-        receivers.push(receiver)?;
-        handlers.push(handler)?;
-    }
-    Ok(Back {
-        receivers,
-        handlers,
-        endings,
-    })
+    join(rt, workers)
 }
 
 // The ends that senders' workers gave back. How they ended comes behind how the handlers' did.

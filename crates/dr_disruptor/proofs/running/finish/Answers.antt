@@ -10,9 +10,8 @@ use Rattle.dr_ring.specs.Calls.Sending.{ClosesOnceDone}
 use Rattle.dr_ring.specs.Calls.Settling.{AreAllEnds, handler_counts}
 use Rattle.dr_ring.specs.Meaning.Moments.{fresh_receivers}
 use Rattle.dr_ring.proofs.Unrefused.{unhalted_before}
-use Rattle.dr_disruptor.specs.declared.running.Ran.{Ran}
-use Rattle.dr_disruptor.specs.Running.{IsRan}
-use Rattle.dr_disruptor.specs.Serving.{given_end, given_handler}
+use Rattle.dr_threads.specs.Serving.{given_end, given_handler}
+use Rattle.dr_disruptor.specs.Running.{IsRan, Ran}
 use Rattle.dr_disruptor.proofs.Settled.{all_back, all_moved, is_ran, same_run}
 use Rattle.dr_disruptor.proofs.running.finish.Goals as goal
 
@@ -22,8 +21,8 @@ settle-settled-requires g c =
     let workers = c.args.workers.items in
     let all : AreAllEnds sender (map given_end workers) c.args.halter = all_moved c.args.sender sender
     (map given_end workers) c.args.halter c.joined.ensures.closes.place c.requires.ends in
-    subst (λ (e : SenderEnd). AreAllEnds e c.in-Ok-apart.back.receivers.items c.args.halter) (sym c.into_end.ensures)
-    (subst (λ (l : List ReceiverEnd). AreAllEnds sender l c.args.halter) (sym c.in-Ok-apart.ensures.receivers)
+    subst (λ (e : SenderEnd). AreAllEnds e c.in-Ok-gathered.back.outlets.items c.args.halter) (sym c.into_end.ensures)
+    (subst (λ (l : List ReceiverEnd). AreAllEnds sender l c.args.halter) (sym c.in-Ok-gathered.ensures.outlets)
     (all_back g.H.Handler.goes sender workers c.in-Ok.served.items c.in-Ok.ensures.kept c.args.halter all))
 
 pub returns-clause-ran : goal.returns-clause-ran
@@ -31,8 +30,8 @@ returns-clause-ran g c =
     let sender = c.joined.new.sender in
     let workers = c.args.workers.items in
     let served = c.in-Ok.served.items in
-    let back = c.in-Ok-apart.back in
-    let receivers = map (λ b. b.receiver) served in
+    let back = c.in-Ok-gathered.back in
+    let receivers = map (λ b. b.outlet) served in
     let plan : sender.knows.plan ≡ c.args.sender.knows.plan = ap (λ (p : SenderPlace). p.1) c.joined.ensures.closes.place in
     let all : AreAllEnds sender (map given_end workers) c.args.halter = all_moved c.args.sender sender (map given_end workers) c.args.halter c.joined.ensures.closes.place c.requires.ends in
     let k = c.args.sender.knows.plan in
@@ -41,19 +40,19 @@ returns-clause-ran g c =
     c.requires.fresh ∙ ap (λ (t : TableId). map (at_ring t) (fresh_receivers k 0 (handlers_of k))) ring
     in
     let settles : Settles sender.knows (map (λ (e : ReceiverEnd). e.knows) receivers) =
-    subst (λ (l : List ReceiverEnd). Settles sender.knows (map (λ (e : ReceiverEnd). e.knows) l)) c.in-Ok-apart.ensures.receivers
-    (subst (λ (e : SenderEnd). Settles e.knows (map (λ (r : ReceiverEnd). r.knows) c.in-Ok-apart.back.receivers.items)) c.into_end.ensures c.settle-settled.ensures.lists)
+    subst (λ (l : List ReceiverEnd). Settles sender.knows (map (λ (e : ReceiverEnd). e.knows) l)) c.in-Ok-gathered.ensures.outlets
+    (subst (λ (e : SenderEnd). Settles e.knows (map (λ (r : ReceiverEnd). r.knows) c.in-Ok-gathered.back.outlets.items)) c.into_end.ensures c.settle-settled.ensures.lists)
     in
     let counts : c.settle-settled.result.handlers.items ≡ map (λ (e : ReceiverEnd). handler_counts e.knows) receivers =
-    c.settle-settled.ensures.handlers ∙ ap (map (λ (e : ReceiverEnd). handler_counts e.knows)) c.in-Ok-apart.ensures.receivers
+    c.settle-settled.ensures.handlers ∙ ap (map (λ (e : ReceiverEnd). handler_counts e.knows)) c.in-Ok-gathered.ensures.outlets
     in
     let ran : Ran g.row.H.Denot = record { handlers = back.handlers; settled = c.settle-settled.result; endings = back.endings } in
     let ends = c.settle-settled.ensures.ends in
     let here : ran.settled.sender.value ≡ sender = ends.0 ∙ c.into_end.ensures in
-    let theirs : ran.settled.receivers.value.items ≡ receivers = ends.1 ∙ c.in-Ok-apart.ensures.receivers in
-    let run = same_run c.into_end.result ran.settled.sender.value back.receivers.items ran.settled.receivers.value.items c.args.halter ran.settled.halter.value ends.0 ends.1 ends.2 c.settle-settled.ensures.run in
+    let theirs : ran.settled.receivers.value.items ≡ receivers = ends.1 ∙ c.in-Ok-gathered.ensures.outlets in
+    let run = same_run c.into_end.result ran.settled.sender.value back.outlets.items ran.settled.receivers.value.items c.args.halter ran.settled.halter.value ends.0 ends.1 ends.2 c.settle-settled.ensures.run in
     let unhalted = ap (λ (e : HalterEnd). e.knows.halted) ends.2 ∙ c.requires.unhalted in
-    let is = is_ran g.H.Handler.goes sender workers served c.in-Ok.ensures.kept k ran c.args.halter all plan fresh settles counts c.args.fault here theirs run unhalted (c.settle-settled.ensures.published ∙ ap (λ (e : SenderEnd). length e.knows.sent.published) c.into_end.ensures) c.in-Ok-apart.ensures.handlers c.in-Ok-apart.ensures.endings in
+    let is = is_ran g.H.Handler.goes sender workers served c.in-Ok.ensures.kept k ran c.args.halter all plan fresh settles counts c.args.fault here theirs run unhalted (c.settle-settled.ensures.published ∙ ap (λ (e : SenderEnd). length e.knows.sent.published) c.into_end.ensures) c.in-Ok-gathered.ensures.handlers c.in-Ok-gathered.ensures.endings in
     subst (λ (l : List Event). IsRan g.H.Handler.goes k (map given_handler workers) l c.args.fault ran) c.joined.ensures.closes.published is
 
 pub returns-clause-closes : goal.returns-clause-closes

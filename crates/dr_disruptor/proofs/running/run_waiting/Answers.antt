@@ -6,7 +6,8 @@ use Rattle.dr_ring.specs.declared.record.SenderRecord.{SenderRecord}
 use Rattle.dr_ring.specs.Calls.Ends.{HalterEnd}
 use Rattle.dr_ring.specs.Calls.Telling.{sender_does}
 use Rattle.dr_disruptor.specs.Running.{IsSending}
-use Rattle.dr_disruptor.specs.Serving.{given_end, given_handler, shape_of}
+use Rattle.dr_threads.specs.Serving.{given_end, given_handler}
+use Rattle.dr_disruptor.specs.Serving.{shape_of}
 use Rattle.dr_disruptor.proofs.Ready.{are_ready, made_so, same_ends, same_plan}
 use Rattle.dr_disruptor.proofs.Settled.{all_moved}
 use Rattle.dr_disruptor.proofs.Whole.{came, run_of, went_whole}

@@ -1,7 +1,8 @@
 use Rattle.std.proofs.Common.{map, refl, ap}
 use Rattle.std.specs.Fn.{FnOnceReturnsAtMut}
 use Rattle.dr_ring.specs.Calls.Ends.{HalterEnd}
-use Rattle.dr_disruptor.specs.Serving.{given_end, given_handler, shape_of}
+use Rattle.dr_threads.specs.Serving.{given_end, given_handler}
+use Rattle.dr_disruptor.specs.Serving.{shape_of}
 use Rattle.dr_disruptor.proofs.Ready.{are_ready, made_so, same_ends, same_plan}
 use Rattle.dr_disruptor.proofs.Settled.{all_moved}
 use Rattle.dr_disruptor.proofs.Whole.{came, run_by}

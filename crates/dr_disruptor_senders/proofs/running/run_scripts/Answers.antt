@@ -9,10 +9,11 @@ use Rattle.dr_senders.specs.Calls.Ends.{HalterEnd}
 use Rattle.dr_senders.specs.Calls.Making.{AreFreshEnds}
 use Rattle.dr_senders.specs.Calls.Settling.{AreAllEnds}
 use Rattle.dr_senders.specs.Meaning.Shape.{IsShape}
-use Rattle.dr_disruptor.specs.declared.fault.RunFault.{RunFault}
+use Rattle.dr_threads.specs.declared.fault.RunFault.{RunFault}
+use Rattle.dr_threads.specs.Serving.{given_end}
 use Rattle.dr_disruptor_senders.specs.declared.sending.Sent.{Sent}
 use Rattle.dr_disruptor_senders.specs.Running.{IsJoined}
-use Rattle.dr_disruptor_senders.specs.Serving.{AreSent, given_end, shape_of}
+use Rattle.dr_disruptor_senders.specs.Serving.{AreSent, shape_of}
 use Rattle.dr_disruptor_senders.proofs.Ready.{both_ok, joins_ok, memory_is, senders_back}
 use Rattle.dr_disruptor_senders.proofs.Settled.{is_ran, went_whole}
 use Rattle.dr_disruptor_senders.proofs.running.run_scripts.Goals as goal
@@ -61,20 +62,9 @@ returns-clause-run g c =
 
 pub returns-clause-whole : goal.returns-clause-whole
 returns-clause-whole g c =
-    let made = c.in_ok-senders in
-    let begun = c.in_ok-workers in
-    let sent = c.send_all-sent in
-    let ran = c.in_ok-ran.ran in
     let scripts = map (λ (s : Vec Event). s.items) c.args.scripts.items in
-    let long : c.len-many.result ≡ length c.args.scripts.items = search rules in
     let k = shape_of c.args.graph.now.upstreams c.args.size (length c.args.scripts.items) in
-    let shape : IsShape k = subst (λ (n : ℕ). IsShape (shape_of c.args.graph.now.upstreams c.args.size n)) long made.ensures.shape in
-    let fresh : AreFreshEnds k made.senders.items made.receivers.items made.halter =
-    subst (λ (n : ℕ). AreFreshEnds (shape_of c.args.graph.now.upstreams c.args.size n) made.senders.items made.receivers.items made.halter) long made.ensures.fresh in
-    joins_ok g.H.Handler.goes begun.workers.items (λ (v : Vec Sent). v.items) (λ (v : Vec Sent). AreSent c.args.size scripts made.senders.items v.items) sent.result sent.new.halter ran
-    c.in_ok-ran.ensures sent.ensures.sent sent.ensures.halter (λ v are same joined.
-    went_whole g.H.Handler.goes k scripts c.args.handlers.items ran made.senders.items made.receivers.items made.halter begun.workers.items v.items shape fresh begun.ensures.ends begun.ensures.starts are
-    (subst (λ (t : HalterEnd). IsJoined g.H.Handler.goes begun.workers.items v.items t ran) (same ∙ begun.ensures.halter) joined))
+    went_whole g.H.Handler.goes k scripts c.args.handlers.items c.in_ok-ran.ran (returns-clause-run g c)
 
 pub returns-clause-few : goal.returns-clause-few
 returns-clause-few g c =

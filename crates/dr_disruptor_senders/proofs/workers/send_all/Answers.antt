@@ -1,23 +1,21 @@
-use Rattle.std.proofs.Common.{rules, ◌≡◌, ◌<◌, ℕ, false, List, length, sym, ap, ◌∙◌, subst, arith}
-use Rattle.std.specs.Prelude.{is_err, vec_len}
+use Rattle.std.proofs.Common.{rules, ◌≡◌, ◌<◌, ℕ, List, length, sym, ap, ◌∙◌, subst, arith}
+use Rattle.std.specs.Prelude.{vec_len}
 use Rattle.std.specs.Global.{Vec}
 use lib.ListN.{get_elem?, length-map}
 use Rattle.atomic_table.proofs.Lists.{at_index, at_map}
 use Rattle.dr_seq.specs.declared.event.Event.{Event}
 use Rattle.dr_runs.proofs.Elements.{at_below, value_at}
 use Rattle.dr_senders.specs.Calls.Ends.{SenderEnd}
-use Rattle.dr_disruptor.proofs.Ready.{where_ok}
 use Rattle.dr_disruptor_senders.specs.Serving.{Sending, given_script, given_sender, given_size}
 use Rattle.dr_disruptor_senders.proofs.workers.send_all.Goals as goal
 
-pub returns-in-Ok-clause-sent : goal.returns-in-Ok-clause-sent
-returns-in-Ok-clause-sent g c =
-    let fine : false ≡ is_err c.start_senders.result = c.if-is_err.ensures.value in
-    let ends = where_ok c.start_senders.result fine c.start_senders.ensures.ends in
-    let scripts = where_ok c.start_senders.result fine c.start_senders.ensures.scripts in
-    let sizes = where_ok c.start_senders.result fine c.start_senders.ensures.sizes in
+pub returns-in-Ok-join_promised-clause-sent : goal.returns-in-Ok-join_promised-clause-sent
+returns-in-Ok-join_promised-clause-sent g c =
+    let ends = c.in-Ok.ensures.ends in
+    let scripts = c.in-Ok.ensures.scripts in
+    let sizes = c.in-Ok.ensures.sizes in
     let workers = c.start_senders.new.started.items in
-    let sent = c.in-Ok.sent.items in
+    let sent = c.in-Ok-join_promised.sent.items in
     let many : length sent ≡ length workers = search rules in
     let all : length workers ≡ vec_len c.start_senders.new.started = search rules in
     let given : length workers ≡ length c.args.scripts.items = sym (length-map workers given_script) ∙ ap length scripts in
@@ -26,7 +24,7 @@ returns-in-Ok-clause-sent g c =
       each = λ p back at.
           let inside : p < length sent = at_below sent p back at in
           let below : p < length workers = omega arith in
-          let k = (c.in-Ok.ensures.each p back (omega arith)).1 in
+          let k = (c.in-Ok-join_promised.ensures.each p back (omega arith)).1 in
           let w = k.handle in
           let here = at_index workers p w below k.handle_is in
           let size : given_size w ≡ c.args.size = ap given_size (sym (value_at workers p w w here)) ∙ sizes p w below in

@@ -1,0 +1,3 @@
+pub mod Untroubled
+pub mod Polled
+pub mod Settled

@@ -1,0 +1,4 @@
+pub mod Serving
+pub mod Handlers
+pub mod Endings
+pub mod Waits

@@ -1,0 +1,88 @@
+//! Why a run did not come to its end.
+
+ghost use Rattle.std.specs.Prelude.{◌≡◌};
+ghost use Rattle.dr_threads.specs.declared.fault.RunFault.TheVariants as fault;
+
+use dr_graph::GraphFault;
+use dr_runs::RingFault;
+use dr_seq::SizeFault;
+use dr_workers::{WorkFault, WorkerFault};
+use std::alloc::{AllocError, AllocFailed};
+use thiserror::Error;
+
+/// Why there was no run, or why a run did not do all of its work.
+#[derive(Debug, Drop, Error)]
+pub enum RunFault {
+    /// The graph was refused.
+    #[error("the graph: {0}")]
+    Graph(GraphFault),
+    /// No ring has this size.
+    #[error("the size: {0}")]
+    Size(SizeFault),
+    /// The ring was not made.
+    #[error("the ring: {0}")]
+    Ring(RingFault),
+    /// There are more or fewer handlers than the graph has.
+    #[error("the graph has {graph} handlers, and {given} were given")]
+    Handlers { graph: usize, given: usize },
+    /// Of a run with several senders: there are no scripts, or more than a ring has senders.
+    #[error("a ring has 1 to 16 senders, and {given} scripts were given")]
+    Senders { given: usize },
+    /// An allocation failed, or a thread could not be started.
+    #[error("no memory, or no thread")]
+    Memory,
+    /// A worker did not do all of its work: a handler's by the handler's number, or a sender's, from 16 on.
+    #[error("worker {who}: {fault}")]
+    Worker { who: usize, fault: WorkFault },
+}
+
+impl From<GraphFault> for RunFault {
+    ghost from_gives = { λ refused given. given ≡ fault.Graph refused };
+
+    fn from(refused: GraphFault) -> RunFault {
+        RunFault::Graph(refused)
+    }
+}
+
+impl From<SizeFault> for RunFault {
+    ghost from_gives = { λ refused given. given ≡ fault.Size refused };
+
+    fn from(refused: SizeFault) -> RunFault {
+        RunFault::Size(refused)
+    }
+}
+
+impl From<RingFault> for RunFault {
+    ghost from_gives = { λ refused given. given ≡ fault.Ring refused };
+
+    fn from(refused: RingFault) -> RunFault {
+        RunFault::Ring(refused)
+    }
+}
+
+impl From<WorkerFault> for RunFault {
+    ghost from_gives = { λ first given. given ≡ fault.Worker first.who first.fault };
+
+    fn from(first: WorkerFault) -> RunFault {
+        RunFault::Worker {
+            who: first.who,
+            fault: first.fault,
+        }
+    }
+}
+
+impl From<AllocError> for RunFault {
+    ghost from_gives = { λ _ given. given ≡ fault.Memory };
+
+    fn from(_: AllocError) -> RunFault {
+        RunFault::Memory
+    }
+}
+
+impl<T: Drop> From<AllocFailed<T>> for RunFault {
+    ghost from_gives = { λ _ given. given ≡ fault.Memory };
+
+    fn from(_: AllocFailed<T>) -> RunFault {
+        RunFault::Memory
+    }
+}
