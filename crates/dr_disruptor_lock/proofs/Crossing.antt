@@ -9,7 +9,7 @@ use Rattle.dr_lock.specs.declared.exchange.Exchange.{Ghosts as Begun}
 use Rattle.dr_seq.specs.contracts.event.Event as Event
 use Rattle.dr_seq.specs.contracts.size.Size as Size
 use Rattle.dr_workers.specs.contracts.bell.Bell as Bell
-use Rattle.dr_disruptor.specs.contracts.strategy.WaitStrategy as WaitStrategy
+use Rattle.dr_threads.specs.contracts.strategy.WaitStrategy as WaitStrategy
 use Rattle.dr_lock.proofs.Sent.{end_send, shared_sync}
 use Rattle.dr_disruptor_lock.specs.contracts.around.Around as Around
 use Rattle.dr_disruptor_lock.specs.contracts.jobs.Task as Task

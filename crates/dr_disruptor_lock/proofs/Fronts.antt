@@ -9,7 +9,7 @@ use Rattle.dr_workers.specs.declared.ended.Ended.{Ended}
 use Rattle.dr_workers.specs.declared.fault.WorkFault.{WorkFault}
 use Rattle.dr_workers.specs.declared.producer.Produced.{Produced}
 use Rattle.dr_runs.proofs.Elements.{at_below, value_at}
-use Rattle.dr_disruptor.specs.Running.{AreFine}
+use Rattle.dr_threads.specs.Endings.{AreFine}
 use Rattle.dr_disruptor_lock.specs.declared.sending.Sent.{Sent}
 use Rattle.dr_disruptor_lock.specs.Joining.{endings_from}
 use Rattle.dr_disruptor_lock.specs.Running.{fronts}

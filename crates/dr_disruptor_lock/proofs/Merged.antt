@@ -10,7 +10,8 @@ use Rattle.dr_workers.specs.declared.producer.Produced.{Produced}
 use Rattle.dr_lock.specs.Meaning.History.{History, transcript}
 use Rattle.dr_lock.specs.Meaning.Audit.{IsAudited}
 use Rattle.dr_lock.specs.Meaning.Merge.{IsMerge}
-use Rattle.dr_disruptor.specs.Running.{AllWentThrough, AreFine}
+use Rattle.dr_threads.specs.Endings.{AreFine}
+use Rattle.dr_threads.specs.Handlers.{AllWentThrough}
 use Rattle.dr_disruptor_lock.specs.declared.running.Ran.{Ran}
 use Rattle.dr_disruptor_lock.specs.Running.{AllWentThroughMerge, IsRan, fronts}
 use Rattle.dr_disruptor_lock.proofs.Fronts.{both_ok, fine_at, fronts_whole}

@@ -19,7 +19,7 @@ use Rattle.dr_lock.specs.Calls.Asking.{InletAsks, OutletAsks}
 use Rattle.dr_lock.specs.Calls.Lock.{EndView, HasHalted, no_calls}
 use Rattle.dr_lock.specs.Meaning.Audit.{Faults, IsAudited}
 use Rattle.dr_lock.specs.Meaning.History.{History, transcript}
-use Rattle.dr_disruptor.specs.Running.{AllWentThrough, WentThrough}
+use Rattle.dr_threads.specs.Handlers.{AllWentThrough, WentThrough}
 use Rattle.dr_disruptor_lock.specs.declared.comparing.HistoryFault.{HistoryFault}
 use Rattle.dr_disruptor_lock.specs.declared.comparing.HistoryFault.TheVariants.{Audit, Shown}
 use Rattle.dr_disruptor_lock.specs.declared.jobs.Job.{Job}

@@ -6,7 +6,7 @@ use Rattle.std.proofs.lemmas.List.Elements.{All-cons, All-nil}
 use Rattle.dr_seq.specs.declared.event.Event.{Event}
 use Rattle.dr_meaning.specs.Calls.Handling.{GoesThrough, Relation, Showing, showings}
 use Rattle.dr_workers.specs.Meaning.Work.{Dealt, FollowFrom, dealt_events, shown_of}
-use Rattle.dr_disruptor.specs.Running.{IsPolled, WentThrough}
+use Rattle.dr_threads.specs.Handlers.{IsPolled, WentThrough}
 use Rattle.dr_disruptor_lock.specs.declared.watching.Watching.{Watching}
 use Rattle.dr_disruptor_lock.specs.Watching.{HasListed, IsNew, Watches}
 

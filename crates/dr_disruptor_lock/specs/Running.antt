@@ -18,9 +18,9 @@ use Rattle.dr_lock.specs.Calls.Lock.{EndView, HasHalted, no_calls}
 use Rattle.dr_lock.specs.Meaning.Audit.{Faults, IsAudited}
 use Rattle.dr_lock.specs.Meaning.History.{GoesOn, History, IsRecorded, entries_since, halts_in, transcript}
 use Rattle.dr_lock.specs.Meaning.Merge.{IsMerge}
-use Rattle.dr_disruptor.specs.Running.{AllWentThrough}
-use Rattle.dr_disruptor.specs.declared.fault.RunFault.{RunFault}
-use Rattle.dr_disruptor.specs.declared.fault.RunFault.TheVariants as fault
+use Rattle.dr_threads.specs.Handlers.{AllWentThrough}
+use Rattle.dr_threads.specs.declared.fault.RunFault.{RunFault}
+use Rattle.dr_threads.specs.declared.fault.RunFault.TheVariants as fault
 use Rattle.dr_disruptor_lock.specs.declared.comparing.HistoryFault.{HistoryFault}
 use Rattle.dr_disruptor_lock.specs.declared.comparing.HistoryFault.TheVariants.{Audit, Shown}
 use Rattle.dr_disruptor_lock.specs.declared.running.Ran.{Ran}

@@ -1,6 +1,6 @@
 //! What all workers of a run share.
 
-use dr_disruptor::WaitStrategy;
+use dr_threads::WaitStrategy;
 use dr_lock::{Exchange, Shared};
 use dr_seq::{Event, Size};
 use dr_workers::Bell;

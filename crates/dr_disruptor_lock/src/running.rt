@@ -5,7 +5,7 @@ ghost use Rattle.dr_meaning.specs.declared.mode.Mode.TheVariants.{Multi};
 ghost use Rattle.dr_meaning.specs.Meaning.Machine.{setup_of};
 ghost use Rattle.dr_meaning.specs.Calls.OpenFault.{has_bad_producers};
 ghost use Rattle.dr_workers.specs.Meaning.FirstFault.{first_fault as first_of};
-ghost use Rattle.dr_disruptor.specs.Running.{AreFine};
+ghost use Rattle.dr_threads.specs.Endings.{AreFine};
 ghost use Rattle.dr_disruptor_lock.specs.Running.{AllWentThroughMerge, IsRan, IsRun, refusal_of};
 
 use crate::around::Around;
@@ -13,7 +13,7 @@ use crate::comparing::HistoryFault;
 use crate::jobs::{jobs_of, new_end, tasks_of};
 use crate::settling::settled;
 use crate::workers::exchange;
-use dr_disruptor::{RunFault, WaitStrategy};
+use dr_threads::{RunFault, WaitStrategy};
 use dr_graph::Graph;
 use dr_lock::{Exchange, Recorded, Shared};
 use dr_meaning::{Handler, MAX_LIMIT, Mode};
