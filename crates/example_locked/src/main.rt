@@ -2,8 +2,7 @@
 //! list of events that the history has at the end.
 #![tactic(auto)]
 
-use dr_disruptor::{RunFault, WaitStrategy};
-use dr_disruptor_lock::{Ran, run_locked};
+use dr_disruptor_lock::{Ran, RunFault, WaitStrategy, run_locked};
 use dr_graph::{Graph, GraphBuilder};
 use dr_meaning::Handler;
 use dr_seq::{Event, Size};

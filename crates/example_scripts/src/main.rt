@@ -2,8 +2,7 @@
 //! without a lock.
 #![tactic(auto)]
 
-use dr_disruptor::{RunFault, WaitStrategy};
-use dr_disruptor_senders::run_scripts;
+use dr_disruptor_senders::{RunFault, WaitStrategy, run_scripts};
 use dr_graph::{Graph, GraphBuilder};
 use dr_meaning::Handler;
 use dr_seq::{Event, Size};
