@@ -3,6 +3,7 @@
 ghost use Rattle.std.specs.Prelude.{◌<◌};
 
 use crate::checks::check;
+use crate::histories::word;
 use dr_meaning::{Claimed, Handler, Inlet, Outlet, Polled, Refusal, Trouble};
 use dr_seq::{Event, Size};
 use dr_workers::{
@@ -183,8 +184,8 @@ fn stopped_producers(rt: HostRuntime) {
     check(&rt, gate.passed.load(Ordering::SeqCst), 4);
 }
 
-// An end that hands out five batches of one event, of which it marks the last alone, and finds no memory at each third
-// call. It refuses to complete an event that the handler was not shown.
+// An end that hands out six events, in batches of one, two and three, of which it marks the last batch alone, and finds no
+// memory at each third call. It refuses to complete less than it dealt, and more than the handler was shown.
 #[derive(Drop)]
 struct Dealer<'a> {
     shown: &'a AtomicU64,
@@ -209,26 +210,26 @@ impl Outlet<Event> for Dealer<'_> {
         if self.calls % 3 == 2 {
             return Ok(Polled::Gating);
         }
-        if self.dealt >= 5 {
+        if self.dealt >= 6 {
             self.told = true;
             return Ok(Polled::Drained);
         }
-        out[0] = Event {
-            first: self.dealt,
-            second: 0,
-        };
         let first = self.dealt;
-        self.dealt += 1;
+        let events = [word(0), word(1), word(2), word(3), word(4), word(5)];
+        let left = &events[first as usize..];
+        let count = left.len().min(out.len()).min((first as usize + 3) / 2);
+        out[..count].copy_from_slice(&left[..count]);
+        self.dealt += count as u64;
         Ok(Polled::Batch {
             first,
-            count: 1,
-            end: self.dealt == 5,
+            count: count as u64,
+            end: self.dealt == 6,
         })
     }
 
     fn complete(&mut self, upto: u64) -> Result<(), Trouble> {
         self.calls = self.calls.wrapping_add(1);
-        if upto > self.dealt || upto > self.shown.load(Ordering::SeqCst) {
+        if upto != self.dealt || upto != self.shown.load(Ordering::SeqCst) {
             return Err(Trouble::Refused(Refusal::NotTaken));
         }
         Ok(())
@@ -255,7 +256,7 @@ impl Handler<Event> for Adder<'_> {
     }
 }
 
-// What the worker of a handler answers over an end with five events, and how many of them, marks and what sum it was shown.
+// What the worker of a handler answers over an end with six events, and how many of them, marks and what sum it was shown.
 fn check_taken<R: Wait + Abort, G: Gate>(
     rt: &R,
     gate: &G,
@@ -284,10 +285,10 @@ fn check_taken<R: Wait + Abort, G: Gate>(
 #[test]
 fn consumers(rt: HostRuntime) {
     let mut buf = [Event::NONE; 4];
-    check_taken(&rt, &OpenGate, &mut buf, None, [5, 1, 10]);
+    check_taken(&rt, &OpenGate, &mut buf, None, [6, 1, 15]);
     let gate = stops_at_one();
     let stopped = Some(WorkFault::Stopped);
-    check_taken(&rt, &gate, &mut buf, stopped, [5, 1, 10]);
+    check_taken(&rt, &gate, &mut buf, stopped, [6, 1, 15]);
     check(&rt, gate.passed.load(Ordering::SeqCst), 2);
     let refused = Some(WorkFault::Refused(Refusal::BadCount));
     check_taken(&rt, &OpenGate, &mut [], refused, [0, 0, 0]);
