@@ -1,6 +1,6 @@
 //! A whole run over an exchange behind a lock.
 
-ghost use Rattle.std.specs.Prelude.{◌≡◌, ◌^◌, ◌≤◌, [], None, false, IfErr, IfOk, length, map};
+ghost use Rattle.std.specs.Prelude.{◌≡◌, ◌^◌, ◌≤◌, [], None, false, IfErr, IfOk, OnOk, length, map};
 ghost use Rattle.dr_meaning.specs.declared.mode.Mode.TheVariants.{Multi};
 ghost use Rattle.dr_meaning.specs.Meaning.Machine.{setup_of};
 ghost use Rattle.dr_meaning.specs.Calls.OpenFault.{has_bad_producers};
@@ -65,6 +65,22 @@ fn entries_for(handlers: usize, events: usize) -> Option<usize> {
     all.checked_add(handlers)?.checked_add(1)
 }
 
+// Whether so many handlers and scripts may be given with a graph of so many handlers.
+fn check(graph: usize, given: usize, scripts: usize) -> Result<(), RunFault>
+    ensures many { OnOk result (given ≡ graph) }
+    ensures few { OnOk result (scripts ≤ 16) }
+    ensures fits { OnOk result (has_bad_producers (Multi scripts) ≡ false) }
+    ensures refused { IfErr result (λ e. e ≡ refusal_of graph given scripts) }
+{
+    if given != graph {
+        return Err(RunFault::Handlers { graph, given });
+    }
+    if !Mode::Multi(scripts as u64).is_valid() {
+        return Err(RunFault::Senders { given: scripts });
+    }
+    Ok(())
+}
+
 // The exchange of a graph, with as many handlers as it has and so many producers, and room for its history.
 fn open(
     alloc: Global,
@@ -81,17 +97,8 @@ fn open(
     ensures fits { IfOk result (λ _. has_bad_producers (Multi scripts) ≡ false) }
     ensures refused { IfErr result (λ e. e ≡ refusal_of (length graph.upstreams) handlers scripts) }
 {
-    let expected = graph.len();
-    if handlers != expected {
-        return Err(RunFault::Handlers {
-            graph: expected,
-            given: handlers,
-        });
-    }
+    check(graph.len(), handlers, scripts)?;
     let mode = Mode::Multi(scripts as u64);
-    if !mode.is_valid() {
-        return Err(RunFault::Senders { given: scripts });
-    }
     let entries = entries_for(handlers, events).ok_or(AllocError)?;
     let words = handlers.checked_mul(events).ok_or(AllocError)?;
     match Recorded::open(
