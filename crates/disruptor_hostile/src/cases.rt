@@ -28,7 +28,7 @@ pub enum Case {
     Run,
     Call,
     Audit,
-    /// Every call of a core that is open.
+    /// Every call of cores that are open.
     Core,
     /// Every call of a ring's ends.
     Ends,

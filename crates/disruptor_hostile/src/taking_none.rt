@@ -30,6 +30,22 @@ impl Handler<Event> for Count {
     }
 }
 
+/// Adds the first words of the events that it is shown.
+#[derive(Clone, Copy, Debug)]
+struct Sum {
+    total: u64,
+}
+
+impl Handler<Event> for Sum {
+    ghost use Rattle.std.specs.Prelude.{◌≡◌, ◌+◌, ◌%◌, ◌^◌};
+
+    ghost goes = { λ old event s end new. new.total ≡ (old.total + event.first) % 2 ^ 64 };
+
+    fn on_event(&mut self, event: Event, _s: u64, _end: bool) {
+        self.total = self.total.wrapping_add(event.first);
+    }
+}
+
 /// Asks for memory, and tells whether there was any.
 pub fn tell_memory<R: Print>(rt: &R, alloc: Global) -> Result<(), Fault> {
     match Vec::<u64>::with_capacity(alloc, 1) {
@@ -68,18 +84,41 @@ fn tell_turn<R: Print>(rt: &R, core: &mut Core<Event>) -> Result<(), Fault> {
     tell_value(rt, out)
 }
 
+fn tell_sending_more<R: Print>(rt: &R, core: &mut Core<Event>) -> Result<(), Fault> {
+    tell_value(rt, core.complete(2, 2))?;
+    tell_value(rt, core.claim(0, 3))?;
+    for s in 2..5 {
+        tell_value(rt, core.write(0, s, word(s)))?;
+    }
+    tell_value(rt, core.publish(0, 2, 4))
+}
+
+/// Turns of all handlers over three events that lie in two pieces, of one that took them all, and of one that the graph lacks.
+fn tell_turns_in_place<R: Print>(rt: &R, core: &mut Core<Event>) -> Result<(), Fault> {
+    let mut sum = Sum { total: 0 };
+    for h in 0..3 {
+        tell_value(rt, core.turn_in_place(h, &mut sum))?;
+        tell_value(rt, sum)?;
+    }
+    tell_value(rt, core.turn_in_place(0, &mut sum))?;
+    tell_value(rt, core.turn_in_place(3, &mut sum))
+}
+
 fn tell_ending<R: Print>(rt: &R, core: &mut Core<Event>) -> Result<(), Fault> {
     let mut out = [Event::NONE; 4];
     tell_value(rt, core.retire(0))?;
     tell_value(rt, core.retire(2))?;
     core.halt();
     tell_value(rt, core.claim(0, 1))?;
-    tell_value(rt, core.poll_into(1, &mut out))
+    tell_value(rt, core.poll_into(1, &mut out))?;
+    let mut count = Count { shown: 0 };
+    tell_value(rt, core.turn_in_place(1, &mut count))?;
+    tell_value(rt, core.turn_in_place(2, &mut count))
 }
 
 fn tell_claims<R: Print>(rt: &R, core: &Core<Event>) -> Result<(), Fault> {
     let (next, size) = (core.next(), core.size().get());
-    println!(rt; "{next} of {size} claimed")?;
+    println!(rt; "{next} claimed in {size} slots")?;
     Ok(())
 }
 
@@ -108,24 +147,35 @@ fn tell_counts<R: Print>(rt: &R, core: &Core<Event>) -> Result<(), Fault> {
     tell_handlers(rt, core)
 }
 
-fn tell_calls_of_core<R: Print>(
-    rt: &R,
-    alloc: Global,
-    core: &mut Core<Event>,
-) -> Result<(), Fault> {
-    tell_words(rt, "open")?;
+fn tell_calls_of_core<R: Print>(rt: &R, core: &mut Core<Event>) -> Result<(), Fault> {
     tell_sending(rt, core)?;
     tell_receiving(rt, core)?;
     tell_turn(rt, core)?;
+    tell_sending_more(rt, core)?;
+    tell_turns_in_place(rt, core)?;
     tell_ending(rt, core)?;
-    tell_counts(rt, core)?;
+    tell_counts(rt, core)
+}
+
+fn tell_calls_of_cores<R: Print>(
+    rt: &R,
+    alloc: Global,
+    of_two: &mut Core<Event>,
+    of_one: &mut Core<Event>,
+) -> Result<(), Fault> {
+    tell_words(rt, "open")?;
+    tell_calls_of_core(rt, of_two)?;
+    tell_calls_of_core(rt, of_one)?;
     tell_memory(rt, alloc)
 }
 
-/// Every call of a core.
+/// Every call of a core of two producers, and of one of a single producer.
 pub fn tell_core<R: Print>(rt: &R, alloc: Global) -> Result<(), Fault> {
-    let mut core = opened(alloc, Mode::Multi(2))?;
-    tell_calls_of_core(rt, alloc, &mut core)
+    let mut of_two = opened(alloc, Mode::Multi(2))?;
+    match opened(alloc, Mode::Single) {
+        Ok(mut of_one) => tell_calls_of_cores(rt, alloc, &mut of_two, &mut of_one),
+        Err(fault) => Err(fault),
+    }
 }
 
 fn tell_sender<R: Print>(rt: &R, sender: &mut Sender) -> Result<(), Fault> {
