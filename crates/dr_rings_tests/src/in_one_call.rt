@@ -2,14 +2,17 @@
 
 use crate::checks::check;
 use crate::graphs::{Shape, graph};
-use crate::work::{Count, Work};
-use dr_disruptor::{RunFault, WaitStrategy, run, run_three, run_two, run_waiting, run_with};
+use crate::work::{Count, Tally, Work};
+use dr_disruptor::{
+    RunFault, WaitStrategy, run, run_here, run_three, run_two, run_waiting, run_with,
+};
 use dr_graph::Graph;
 use dr_seq::{Event, Size};
 use dr_workers::{OpenGate, produce};
 use std::alloc::Global;
 use std::process::Abort;
-use std::sync::Wait;
+use std::sync::atomic::{AtomicU64, Ordering};
+use std::sync::{Arc, Wait};
 use std::thread::Threads;
 
 fn script(rt: &impl Abort, alloc: Global) -> Vec<Event> {
@@ -66,6 +69,55 @@ fn a_handler_too_few(rt: HostRuntime) {
     let ran = run(rt, rt.alloc(), &graph, size, handlers, &[]);
     let fault = ran.err().expect(&rt, "a fault");
     check_handlers(&rt, rt.alloc(), &fault);
+}
+
+fn no_calls(rt: &impl Abort, alloc: Global) -> Arc<AtomicU64, Global> {
+    Arc::new(alloc, AtomicU64::new(0)).expect(rt, "memory")
+}
+
+fn tally(rt: &impl Abort, calls: &Arc<AtomicU64, Global>) -> Tally {
+    let calls = Arc::try_clone(calls).expect(rt, "memory");
+    Tally { calls }
+}
+
+/// Two handlers that count their calls there.
+fn tallies(rt: &impl Abort, alloc: Global, calls: &Arc<AtomicU64, Global>) -> Vec<Tally> {
+    vec![in alloc; tally(rt, calls), tally(rt, calls)].expect(rt, "memory")
+}
+
+/// How often two handlers were called on this thread, for two events over a graph that may have more handlers.
+fn called_here(rt: &impl Abort, alloc: Global, shape: Shape, are_too_few: bool) -> u64 {
+    let size = Size::new(8).expect(rt, "a size");
+    let calls = no_calls(rt, alloc);
+    let handlers = tallies(rt, alloc, &calls);
+    let graph = graph(rt, alloc, shape);
+    let ran = run_here(alloc, graph, size, handlers, &[Event::NONE; 2]);
+    check(rt, ran.is_err(), are_too_few);
+    calls.load(Ordering::SeqCst)
+}
+
+/// The same on threads.
+fn called<R: Threads + Wait + Abort + Copy + Send + 'static>(
+    rt: R,
+    alloc: Global,
+    shape: Shape,
+    are_too_few: bool,
+) -> u64 {
+    let size = Size::new(8).expect(&rt, "a size");
+    let calls = no_calls(&rt, alloc);
+    let handlers = tallies(&rt, alloc, &calls);
+    let graph = graph(&rt, alloc, shape);
+    let ran = run(rt, alloc, &graph, size, handlers, &[Event::NONE; 2]);
+    check(&rt, ran.is_err(), are_too_few);
+    calls.load(Ordering::SeqCst)
+}
+
+#[test]
+fn handlers_that_are_too_few_are_not_called(rt: HostRuntime) {
+    check(&rt, called_here(&rt, rt.alloc(), Shape::Diamond, true), 0);
+    check(&rt, called_here(&rt, rt.alloc(), Shape::Chain, false), 4);
+    check(&rt, called(rt, rt.alloc(), Shape::Diamond, true), 0);
+    check(&rt, called(rt, rt.alloc(), Shape::Chain, false), 4);
 }
 
 /// What the handlers of a diamond come to, where a closure sends an event five times.

@@ -2,6 +2,9 @@
 
 use dr_meaning::Handler;
 use dr_seq::Event;
+use std::alloc::Global;
+use std::sync::Arc;
+use std::sync::atomic::{AtomicU64, Ordering};
 
 /// Handlers of two kinds in one list: the sum of the first words, and the last one.
 #[derive(Clone, Copy, Debug, PartialEq, Eq)]
@@ -34,5 +37,21 @@ impl Handler<Event> for Count {
 
     fn on_event(&mut self, _event: Event, _s: u64, _end: bool) {
         self.0 = self.0.wrapping_add(1);
+    }
+}
+
+/// Counts its calls where others count theirs too, and where the count stays when its handlers are gone.
+#[derive(Drop)]
+pub struct Tally {
+    pub calls: Arc<AtomicU64, Global>,
+}
+
+impl Handler<Event> for Tally {
+    ghost use Rattle.std.specs.Prelude.{⊤};
+
+    ghost goes = { λ old event s end new. ⊤ };
+
+    fn on_event(&mut self, _event: Event, _s: u64, _end: bool) {
+        self.calls.fetch_add(1, Ordering::SeqCst);
     }
 }
