@@ -16,7 +16,7 @@
  *   - malloc and free are of one allocator, and malloc aligns as C says.
  * All else is checked: every number, a handle that is zero or was freed, and one of another kind. A pointer that is null or
  * not aligned to eight bytes is refused with BAD_POINTER by each call that lists it, and so is an array longer than memory; an
- * array of no elements may be null. */
+ * array of no elements may be null, and bytes may lie anywhere. */
 #ifndef DISRUPTOR_H
 #define DISRUPTOR_H
 
@@ -203,7 +203,7 @@ static inline uint32_t disruptor_before(uint64_t *upstreams, size_t handlers, si
 }
 
 /* Frees what a handle of any kind has. It is closed then, and may be opened again, though its bytes are not all zeros. A ring
- * is let go with its last end. A null pointer is let be. */
+ * is let go with its last end, all but the events of a ring of bytes. A null pointer is let be. */
 static inline void disruptor_free(void *handle) {
     size_t there = disruptor_there(handle, 8, sizeof(disruptor_sender), 1);
     disruptor_free_at(disruptor_or_nothing(handle, there), there);
