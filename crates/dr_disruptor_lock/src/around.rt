@@ -1,8 +1,8 @@
 //! What all workers of a run share.
 
-use dr_threads::WaitStrategy;
 use dr_lock::{Exchange, Shared};
 use dr_seq::{Event, Size};
+use dr_threads::WaitStrategy;
 use dr_workers::Bell;
 
 /// What all workers of a run share.
