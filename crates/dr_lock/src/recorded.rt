@@ -115,8 +115,8 @@ impl<E: Copy> Recorded<E> {
         &self.entries
     }
 
-    /// That somebody can always go on from where the history leads. It does nothing when it runs: its
-    /// contract is the theorem.
+    /// That where the history leads, whoever waits, waits for one that can go on. It does nothing when
+    /// it runs: its contract is the theorem.
     pub fn is_never_stuck(&self)
         ensures { (recorded : IsRecorded self.now.history) × NobodyIsStuck self.now.history.core.setup recorded.runs.state }
     {
