@@ -63,8 +63,9 @@ pub fn retirement_keeps_the_gate<E>()
 {}
 
 /// In no state that a transcript leads to is anybody stuck: a claimed sequence at the front can be
-/// published, a handler that waits for others waits for one that can go on, and a claim for a
-/// handler that gates it and can go on, or waits for one that can.
+/// published, a handler that waits for others waits for one that can go on, and a claim up to a round
+/// beyond the front for a handler that gates it and can go on, or waits for one that can. A claim
+/// further on may also wait for the producers of what is not published.
 pub fn nobody_is_stuck<E>()
     ensures { (c : Setup) (t : Transcript E) (m : State E) → IsGraph c.upstreams → LeadsTo c t m → NobodyIsStuck c m }
 {}
