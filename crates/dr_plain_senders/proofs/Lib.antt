@@ -61,4 +61,6 @@ pub mod OpenWrites
 pub mod StretchReplies
 pub mod ClaimReplies
 pub mod PollReplies
+pub mod Untouched
+pub mod Marked
 pub mod Later

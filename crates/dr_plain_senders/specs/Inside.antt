@@ -14,5 +14,6 @@ pub mod Polling
 pub mod Publishing
 pub mod Gathering
 pub mod Gathered
+pub mod Rooms
 pub mod Bringing
 pub mod Finishing
