@@ -1,6 +1,6 @@
 //! The values of a strip that was closed.
-ghost use Rattle.std.specs.Prelude.{◌≡◌, ℕ, ◌<◌, ◌≤◌, [], ◌∷◌, List, MatchOption, false, slice_index_or};
-ghost use Rattle.core.specs.Mem.Slots.{slots_items, slots_filled, slots_ptr, slots_len, lease_ptr, lease_len, lease_heap, IsFull};
+ghost use Rattle.std.specs.Prelude.{◌≡◌, ◌<◌, [], ◌∷◌, List, MatchOption};
+ghost use Rattle.core.specs.Mem.Slots.{slots_items, slots_ptr, slots_len, lease_ptr, lease_len, lease_heap, IsFull};
 
 use core::slots::{Lease, Slots, release};
 use std::alloc::{Allocator, Global};

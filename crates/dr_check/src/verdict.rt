@@ -4,7 +4,6 @@ ghost use Rattle.std.specs.Prelude.{◌≡◌, ◌<◌, ◌-◌, ◌^◌, ℕ, I
 ghost use Rattle.dr_files.specs.Counting.{faults_of, inner_of};
 ghost use Rattle.dr_files.specs.Outcome.{RunWrites};
 ghost use Rattle.dr_records.specs.Records.{records_of};
-ghost use Rattle.dr_records.specs.Rows.{rows_left};
 ghost use Rattle.dr_drive.specs.Meaning.DriveText.{drive_text};
 ghost use Rattle.dr_replay.specs.Calls.Replayed.{FileIs, replay_text};
 ghost use Rattle.dr_replay.specs.Meaning.EventFile.{events_of as events_in};

@@ -204,7 +204,7 @@ impl<E: Copy> Core<E> {
         self.halted
     }
 
-    /// That somebody can always go on, whatever this core did. It does nothing when it runs: its
+    /// That whoever waits in this core, waits for one that can go on. It does nothing when it runs: its
     /// contract is the theorem.
     pub fn is_never_stuck(&self)
         ensures { IsNeverStuck self.now }

@@ -2,7 +2,7 @@
 
 ghost use Rattle.dr_graph.specs.Meaning.Graph.{flagged, least_of};
 ghost use Rattle.std.specs.List.{range_with_len};
-ghost use Rattle.std.specs.Prelude.{◌≡◌, ◌<◌, ℕ, min, if◌then◌else◌, length, map, filter, slice_index, All};
+ghost use Rattle.std.specs.Prelude.{◌≡◌, ◌<◌, min, if◌then◌else◌, length, map, filter, slice_index, All};
 
 /// The least count of some handlers, or 0 of none.
 pub(crate) fn least_count(counts: &[u64], handlers: &[usize]) -> u64

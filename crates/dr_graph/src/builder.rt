@@ -1,7 +1,6 @@
 //! Declaring handlers by name, in groups, with the edges between them.
 
-ghost use Rattle.std.specs.Prelude.{◌≡◌, ◌⊎◌, ◌↔◌, ◌++◌, false, None, Some, [], ◌∷◌, length, IfOk, IfErr, IfSome, OnErr, OnOk, IsOk, IsErrOf};
-ghost use Rattle.std.specs.Option.{option_or};
+ghost use Rattle.std.specs.Prelude.{◌≡◌, ◌⊎◌, ◌↔◌, ◌++◌, false, None, Some, [], ◌∷◌, IfOk, IfErr, IfSome, OnErr, OnOk, IsOk, IsErrOf};
 ghost use Rattle.dr_graph.specs.Meaning.Name.{given, index_of, new_names};
 ghost use Rattle.dr_graph.specs.Meaning.Order.{HasCycle, is_upstream as is_upstream_of};
 ghost use Rattle.dr_graph.specs.Meaning.Declaration.{declaring_fault, stranger_fault, following_fault, grouping_fault, followed_by, connected, IsDeclaration};

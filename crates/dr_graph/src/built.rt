@@ -1,10 +1,10 @@
 //! The built graph: handlers by number, each after its upstreams.
 
-ghost use Rattle.std.specs.Prelude.{◌≡◌, ◌==◌, ◌⊎◌, ◌&&◌, not, ℕ, ◌<◌, List, length, map, filter, IfOk, IfErr, IsOk, slice_get, slice_index, slice_index_or, Some, position};
+ghost use Rattle.std.specs.Prelude.{◌≡◌, ◌==◌, ◌⊎◌, ◌&&◌, not, ℕ, ◌<◌, length, map, IfOk, IfErr, IsOk, slice_get, slice_index, Some, position};
 ghost use Rattle.std.specs.List.{list_any};
 ghost use Rattle.std.specs.Str.{bytes_eq};
 ghost use Rattle.std.specs.String.{string_bytes};
-ghost use Rattle.dr_graph.specs.Meaning.Name.{AreDistinct, texts, is_named, index_of};
+ghost use Rattle.dr_graph.specs.Meaning.Name.{AreDistinct, texts};
 ghost use Rattle.dr_graph.specs.Meaning.Order.{is_in, HasCycle};
 ghost use Rattle.dr_graph.specs.Meaning.Declaration.{IsDeclaration};
 ghost use Rattle.dr_graph.specs.Meaning.Graph.{IsGraph, IsGraphOf, upstreams_of, names_in, flagged, is_followed, is_final_without as is_final_without_of, is_final as is_final_of, finals as finals_of};

@@ -1,7 +1,6 @@
 //! Names of handlers, and sets of names in the order of their declaration.
 
-ghost use Rattle.indexmap.specs.IndexSet.{spare};
-ghost use Rattle.std.specs.Prelude.{List, ◌≡◌, ◌+◌, ◌<◌, ◌≤◌, ◌++◌, true, None, Some, map, take, length, IfOk, IfErr, IfSome, OnErr, OnOk, IsOk, IsTrue, IsOkUnless};
+ghost use Rattle.std.specs.Prelude.{List, ◌≡◌, ◌+◌, ◌<◌, ◌≤◌, ◌++◌, true, None, Some, map, take, length, IfOk, IfErr, IfSome, OnErr, OnOk, IsOk};
 ghost use Rattle.std.specs.List.{list_all, list_any};
 ghost use Rattle.std.specs.Str.{bytes_eq};
 ghost use Rattle.std.specs.String.{string_bytes};

@@ -1,6 +1,6 @@
 //! The order in which declared handlers are built, and each handler's upstreams in it.
 
-ghost use Rattle.std.specs.Prelude.{◌≡◌, ◌==◌, ◌||◌, not, ℕ, ◌<◌, true, false, List, length, map, MatchOption, IfOk, IfErr, IsOk, ◌⊎◌};
+ghost use Rattle.std.specs.Prelude.{◌≡◌, ◌==◌, ◌||◌, not, ℕ, ◌<◌, false, length, map, MatchOption, IfOk, IfErr, IsOk, ◌⊎◌};
 ghost use Rattle.std.specs.List.{list_all};
 ghost use Rattle.dr_graph.specs.Meaning.Order.{is_in, is_ready as is_ready_of, IsNext, AreWithin, IsBuiltOrder, HasCycle};
 ghost use Rattle.dr_graph.specs.Meaning.Graph.{AreLists, AreChosen, leads_to};

@@ -1,7 +1,6 @@
 //! Whether every handler received what the producers were to send.
 
-ghost use Rattle.std.specs.Prelude.{◌≡◌, ◌↔◌, ℕ, ◌<◌, false, IfErr, IfOk, IsTrue, OnOk};
-ghost use Rattle.dr_core.specs.Calls.CoreView.{retired_in};
+ghost use Rattle.std.specs.Prelude.{◌↔◌, ℕ, ◌<◌, IfErr, IfOk, IsTrue, OnOk};
 ghost use Rattle.dr_meaning.specs.Meaning.Machine.{handlers};
 ghost use Rattle.dr_lock.specs.Meaning.Audit.{Faults, IsAudited, scripts_of};
 ghost use Rattle.dr_lock.specs.Inside.Auditing.{Differs, SentIn, TookIn, Undrained};

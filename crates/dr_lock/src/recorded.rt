@@ -1,6 +1,6 @@
 //! A core with the history of the calls that it kept.
 
-ghost use Rattle.std.specs.Prelude.{◌≡◌, ◌+◌, ◌<◌, ◌≤◌, ◌↔◌, ◌^◌, ◌⊎◌, ◌++◌, [], Err, Ok, true, false, drop, length, take, IfOk, OnErr, slice_index, if◌then◌else◌};
+ghost use Rattle.std.specs.Prelude.{◌≡◌, ◌+◌, ◌<◌, ◌≤◌, ◌↔◌, ◌^◌, ◌⊎◌, ◌++◌, [], Err, Ok, true, false, drop, length, take, IfOk, OnErr, slice_index};
 ghost use Rattle.dr_core.specs.Calls.CoreView.{opened, retired_in};
 ghost use Rattle.dr_meaning.specs.Meaning.Machine.{State, handlers, opening, producers as producers_of, setup_of, step};
 ghost use Rattle.dr_meaning.specs.Calls.OpenFault.{has_bad_producers, is_bad_limit};
@@ -115,8 +115,8 @@ impl<E: Copy> Recorded<E> {
         &self.entries
     }
 
-    /// That somebody can always go on from where the history leads. It does nothing when it runs: its
-    /// contract is the theorem.
+    /// That where the history leads, whoever waits, waits for one that can go on. It does nothing when
+    /// it runs: its contract is the theorem.
     pub fn is_never_stuck(&self)
         ensures { (recorded : IsRecorded self.now.history) × NobodyIsStuck self.now.history.core.setup recorded.runs.state }
     {

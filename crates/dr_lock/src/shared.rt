@@ -1,11 +1,10 @@
 //! The exchange behind one lock.
 
 ghost use Rattle.std.specs.Result.{result_ok};
-ghost use Rattle.std.specs.Prelude.{◌≡◌, ◌↔◌, ◌+◌, ◌^◌, ◌<◌, ◌≤◌, IfOk, IfErr, OnErr, IsErr, MatchOption, ◌*◌, drop, length, sum_by, take, vec_len};
+ghost use Rattle.std.specs.Prelude.{◌≡◌, ◌↔◌, ◌+◌, ◌^◌, ◌<◌, ◌≤◌, IfOk, IfErr, OnErr, IsErr, MatchOption, drop, length, sum_by, take, vec_len};
 ghost use Rattle.dr_meaning.specs.Meaning.Runs.{count_in};
 ghost use Rattle.dr_lock.specs.Meaning.History.{GoesOn, asked, entries_since, halts_in};
 ghost use Rattle.dr_lock.specs.Calls.Lock.{AreWritten, IsAnswer, after_call, after_calls, handed, handed_out, no_calls, writes_asked};
-ghost use Rattle.dr_lock.specs.Inside.Weights.{most_calls, weight};
 
 use crate::end::{End, Locked};
 use crate::exchange::Exchange;

@@ -1,6 +1,6 @@
 //! The ends of an exchange, as those use them who need not know which exchange it is.
 
-ghost use Rattle.std.specs.Prelude.{◌≡◌, ◌||◌, ◌+◌, ◌^◌, ◌≤◌, ℕ, Bool, Option, None, length, take};
+ghost use Rattle.std.specs.Prelude.{◌≡◌, ◌||◌, ◌+◌, ◌^◌, ◌≤◌, Bool, Option, None, length, take};
 ghost use Rattle.dr_meaning.specs.Calls.Trouble.{number_of, name_of};
 ghost use Rattle.dr_meaning.specs.Calls.Calling.{InletCall, OutletCall, TriesClaim, WritesOne, PublishesStretch, PollsInto, CompletesBelow, WritesBy};
 ghost use Rattle.dr_meaning.specs.Calls.Ends.{Sent, Received, ClaimAnswers, WriteAnswers, PublishAnswers, PollAnswers, CompleteAnswers, is_drained, WhereShown, Claims, Writes, Publishes, Takes, Completes, WriteAllAnswers, WritesAll};

@@ -10,7 +10,8 @@ ghost use Rattle.dr_meaning.specs.Meaning.Transcript.{Transcript, LeadsTo};
 ghost use Rattle.dr_meaning.specs.Meaning.Laws.{Laws};
 ghost use Rattle.dr_meaning.specs.Meaning.Tells.{Tells};
 ghost use Rattle.dr_meaning.specs.Meaning.Progress.{NobodyIsStuck, CanFinish, GoOn, to_do};
-ghost use Rattle.dr_meaning.specs.Meaning.TooFar.{IsTooFar, pair, claim_of, claim_up_to, receipt_of, completion_of, retirement_of, halt, drain, written, published, taken, completed, taken_by_both, join, two_published, first_receipt, second_receipt, completed_beside, taken_beside, completed_by_both};
+ghost use Rattle.dr_meaning.specs.Meaning.TooFar.{IsTooFar, pair, claim_of, claim_up_to, receipt_of, completion_of, retirement_of, halt, drain, written, written_again, published, taken, completed, taken_by_both, join, two_published, first_receipt, second_receipt, completed_beside, taken_beside, completed_by_both, first_taken};
+ghost use Rattle.dr_meaning.specs.Meaning.TooFar.{shared, claim_by, drain_of, receipt_of_both, each_claimed, first_published, second_published, each_published, each_completed, third_completed};
 
 /// Every transcript that leads from the opening to a state of the machine has the five laws, at
 /// each of its beginnings.
@@ -26,7 +27,9 @@ pub fn every_transcript_is_lawful<E>()
 /// halt, before what is published was taken, or over a claim that is not published.
 pub fn laws_refuse_a_step_too_far()
     ensures other_event { IsTooFar pair published (receipt_of 0 6) }
+    ensures event_written_over { IsTooFar pair written_again (receipt_of 0 6) }
     ensures unpublished { IsTooFar pair written (receipt_of 0 5) }
+    ensures unpublished_later { IsTooFar join first_taken (second_receipt 0 6) }
     ensures received_again { IsTooFar join (two_published ++ first_receipt 0 5 ∷ []) (second_receipt 0 5) }
     ensures out_of_order { IsTooFar join two_published (first_receipt 1 6) }
     ensures taken_back { IsTooFar pair completed (completion_of 0 0) }
@@ -44,11 +47,34 @@ pub fn laws_refuse_a_step_too_far()
     ensures no_room_for_first_final { IsTooFar join (completed_beside 1 ++ retirement_of 2 ∷ []) (claim_of 2) }
     ensures no_room_for_second_final { IsTooFar join (completed_beside 0 ++ retirement_of 2 ∷ []) (claim_of 2) }
     ensures claimed_twice { IsTooFar pair (claim_of 0 ∷ []) (claim_of 0) }
+    ensures claimed_twice_later { IsTooFar join (claim_up_to 0 1 ∷ []) (claim_of 1) }
+    ensures claimed_twice_in_part { IsTooFar join (claim_of 0 ∷ []) (claim_up_to 0 1) }
     ensures passed_over { IsTooFar join [] (claim_of 1) }
     ensures claimed_late { IsTooFar pair (halt ∷ []) (claim_of 0) }
+    ensures claimed_late_after_a_claim { IsTooFar join (claim_of 0 ∷ halt ∷ []) (claim_of 1) }
     ensures drained_before_halt { IsTooFar pair [] drain }
+    ensures drained_before_halt_later { IsTooFar pair taken drain }
     ensures drained_early { IsTooFar pair (published ++ halt ∷ []) drain }
+    ensures drained_early_later { IsTooFar join (two_published ++ first_receipt 0 5 ∷ halt ∷ []) drain }
     ensures drained_over_a_claim { IsTooFar pair (written ++ halt ∷ []) drain }
+{}
+
+/// The laws refuse such steps with two producers too, of whom the second one publishes first: at a
+/// second event, and of a handler that follows others, wherever that can be.
+pub fn laws_refuse_a_step_too_far_of_two_producers()
+    ensures received_again { IsTooFar shared (each_published ++ first_receipt 1 5 ∷ []) (second_receipt 1 5) }
+    ensures unpublished { IsTooFar shared second_published (receipt_of 1 5) }
+    ensures taken_back { IsTooFar shared (third_completed 2) (completion_of 2 1) }
+    ensures untaken { IsTooFar shared (each_completed 2 ++ first_receipt 2 5 ∷ []) (completion_of 2 2) }
+    ensures before_upstream { IsTooFar shared (each_completed 1 ++ receipt_of 2 5 ∷ []) (second_receipt 2 6) }
+    ensures no_room { IsTooFar shared each_claimed (claim_by 1 2 2) }
+    ensures no_room_for_the_last { IsTooFar shared (third_completed 1) (claim_by 1 2 3) }
+    ensures claimed_twice { IsTooFar shared each_claimed (claim_by 0 1 1) }
+    ensures passed_over { IsTooFar shared (third_completed 2) (claim_by 1 3 3) }
+    ensures claimed_late { IsTooFar shared (third_completed 2 ++ halt ∷ drain_of 2 ∷ []) (claim_by 1 2 3) }
+    ensures drained_before_halt { IsTooFar shared (each_completed 2 ++ receipt_of_both 2 ∷ []) (drain_of 2) }
+    ensures drained_early { IsTooFar shared (each_completed 2 ++ first_receipt 2 5 ∷ halt ∷ []) (drain_of 2) }
+    ensures drained_over_a_claim { IsTooFar shared (first_published ++ halt ∷ []) (drain_of 1) }
 {}
 
 /// What a transcript says by its own entries is what the state that it leads to has.
@@ -63,8 +89,9 @@ pub fn retirement_keeps_the_gate<E>()
 {}
 
 /// In no state that a transcript leads to is anybody stuck: a claimed sequence at the front can be
-/// published, a handler that waits for others waits for one that can go on, and a claim for a
-/// handler that gates it and can go on, or waits for one that can.
+/// published, a handler that waits for others waits for one that can go on, and a claim up to a round
+/// beyond the front for a handler that gates it and can go on, or waits for one that can. A claim
+/// further on may also wait for the producers of what is not published.
 pub fn nobody_is_stuck<E>()
     ensures { (c : Setup) (t : Transcript E) (m : State E) → IsGraph c.upstreams → LeadsTo c t m → NobodyIsStuck c m }
 {}

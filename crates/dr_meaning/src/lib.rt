@@ -21,7 +21,8 @@ pub use ends::{Inlet, Outlet, Trouble, Wrote};
 pub use handler::{Handler, InPlaceHandler, show, show_in_place};
 pub use lawful::{
     every_state_can_finish, every_transcript_is_lawful, every_transcript_tells_its_state,
-    handlers_come_to_rest, laws_refuse_a_step_too_far, nobody_is_stuck, retirement_keeps_the_gate,
+    handlers_come_to_rest, laws_refuse_a_step_too_far, laws_refuse_a_step_too_far_of_two_producers,
+    nobody_is_stuck, retirement_keeps_the_gate,
 };
 pub use limit::{MAX_LIMIT, is_valid_limit};
 pub use mode::{MAX_PRODUCERS, Mode};

@@ -4,7 +4,6 @@ ghost use Rattle.std.specs.Prelude.{◌≡◌, ◌^◌, ◌<◌, ◌≤◌, map,
 ghost use Rattle.dr_graph.specs.Meaning.Graph.{upstreams_of, finals as finals_of};
 ghost use Rattle.dr_plain.specs.Meaning.Shape.{handlers_of};
 ghost use Rattle.dr_plain.specs.Meaning.Words.{slot_of, slots_of, words_of};
-ghost use Rattle.dr_runs.specs.Words.{cursor_word, closed_word, halt_word, count_word as count_word_of};
 ghost use Rattle.dr_plain.specs.Calls.Plans.{IsPlan};
 
 use dr_cells::Cells;

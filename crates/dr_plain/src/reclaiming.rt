@@ -1,6 +1,6 @@
 //! The parts of all lent events come back to the sender's tokens.
 
-ghost use Rattle.std.specs.Prelude.{◌≡◌, ◌+◌, ◌-◌, ◌<◌, ◌≤◌, ◌++◌, ⊤, [], ◌∷◌, ℕ, List, length, slice_set, slice_index_or, map};
+ghost use Rattle.std.specs.Prelude.{◌≡◌, ◌+◌, ◌-◌, ◌<◌, ◌≤◌, ◌++◌, ⊤, [], ◌∷◌, ℕ, List, length, slice_set, map};
 ghost use Rattle.std.specs.Bool.{MatchBool};
 ghost use mathlib.Core.Option.{some};
 ghost use lib.ListN.{get_elem?};
@@ -10,7 +10,6 @@ ghost use Rattle.dr_cells.specs.Tokens.{no_token};
 ghost use Rattle.dr_plain.specs.Meaning.Shape.{handlers_of};
 ghost use Rattle.dr_plain.specs.declared.record.Lent.{Lent};
 ghost use Rattle.dr_plain.specs.Inside.Fits.{cells_of};
-ghost use Rattle.dr_plain.specs.Inside.Seats.{IsAtTable};
 ghost use Rattle.dr_plain.specs.Inside.Finishing.{is_in_hand as is_in_hand_of, IsLane, TakesLane, OnePartBack, AreOut, AreLanes, AreAllWhole};
 
 use crate::dealt::{join_at, put_at, regain_at};

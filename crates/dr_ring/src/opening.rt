@@ -1,6 +1,6 @@
 //! A ring is made with all its ends.
 
-ghost use Rattle.std.specs.Prelude.{◌≡◌, [], map, IfOk, IfErr, IsOk, false};
+ghost use Rattle.std.specs.Prelude.{◌≡◌, map, IfOk, IfErr, IsOk, false};
 ghost use Rattle.std.specs.Arc.{arc_value};
 ghost use Rattle.dr_meaning.specs.Calls.OpenFault.{is_bad_limit};
 ghost use Rattle.dr_ring.specs.Meaning.Shape.{handlers_of};

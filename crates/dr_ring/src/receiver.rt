@@ -1,6 +1,6 @@
 //! An end that receives every event.
 
-ghost use Rattle.std.specs.Prelude.{◌≡◌, ◌<◌, ◌^◌, ◌||◌, [], ◌∷◌, length, Some};
+ghost use Rattle.std.specs.Prelude.{◌≡◌, ◌<◌, ◌^◌, ◌||◌, length, Some};
 ghost use Rattle.dr_meaning.specs.Calls.Ends.{IsEndsAnswer, PollAnswers, CompleteAnswers, is_drained, Takes, Completes};
 ghost use Rattle.dr_ring.specs.Calls.Ends.{receiver_place, received_of};
 ghost use Rattle.dr_runs.specs.Looks.{looks_counted};

@@ -1,5 +1,5 @@
 -- How a sender keeps which of its open sequences are written: all below one, and those past it that are marked in their round.
-use Rattle.std.specs.Prelude.{◌≡◌, ℕ, ◌+◌, ◌%◌, ◌<◌, ◌≤◌, ◌⊎◌, ◌||◌, nat_lt, Bool, true, false, is_some, length, slice_index_or, slice_set, None}
+use Rattle.std.specs.Prelude.{◌≡◌, ℕ, ◌+◌, ◌%◌, ◌<◌, ◌≤◌, ◌⊎◌, ◌||◌, nat_lt, Bool, true, false, length, slice_set}
 use Rattle.dr_seq.specs.Rounds.{entry_of, is_marked}
 use Rattle.dr_runs.specs.declared.written.Written.{Written}
 

@@ -4,7 +4,6 @@ use Rattle.std.specs.List.{range_with_len}
 use Rattle.std.proofs.lemmas.List.{length-replicate}
 use mathlib.Core.Option.{some, some-injective, some-ne-none}
 use lib.ListN.{get_elem?}
-use Rattle.dr_meaning.specs.Meaning.Machine.{State}
 use Rattle.dr_senders.specs.Meaning.Shape.{Shape, IsShape, handlers_of, ring_setup}
 use Rattle.dr_senders.specs.Meaning.Words.{claim_word, claimed_in, is_halted, count_word, mark_word, words_of}
 use Rattle.dr_senders.specs.declared.record.SenderRecord.{SenderRecord}

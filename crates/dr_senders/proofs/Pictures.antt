@@ -16,7 +16,7 @@ use Rattle.dr_meaning.specs.declared.command.Command.TheVariants.{Claim, Write, 
 use Rattle.dr_meaning.specs.declared.command.Reply.{Reply}
 use Rattle.dr_meaning.specs.declared.command.Reply.TheVariants.{Claimed, Written, Published, Batch, Drained, Completed, Halting, Idle, Gating}
 use Rattle.dr_graph.specs.Meaning.Graph.{nobody, upstreams_of, finals, IsGated, least_of}
-use Rattle.dr_meaning.specs.Meaning.Machine.{Setup, State, Outcome, front, available, least_completed}
+use Rattle.dr_meaning.specs.Meaning.Machine.{Setup, State, Outcome, available, least_completed}
 use Rattle.dr_meaning.specs.Meaning.Transcript.{Transcript, LeadsFrom}
 use Rattle.dr_runs.specs.Entries.{entry, poll_of}
 use Rattle.dr_runs.proofs.Elements.{at_below, value_at, there}

@@ -7,7 +7,7 @@ use Rattle.std.proofs.Math.Nat.{mod-lt, mul-le-mul_right}
 use mathlib.Core.Option.{some, some-injective, some-ne-none}
 use lib.ListN.{get_elem?}
 use Rattle.atomic_table.proofs.Lists as lists
-use Rattle.atomic_table.proofs.Lists.{at_longer, at_snoc, one_turn}
+use Rattle.atomic_table.proofs.Lists.{one_turn}
 use Rattle.dr_seq.specs.Rounds.{entry_of}
 use Rattle.dr_runs.specs.declared.look.Look.{Look}
 use Rattle.dr_senders.specs.Meaning.Shape.{Shape}

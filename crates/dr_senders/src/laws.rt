@@ -81,12 +81,13 @@ impl Names for Brand {
 /// their events lead the machine to the ring's picture, in which nobody is stuck, and the
 /// transcript has the five laws. A sequence is published exactly where the mark in its slot is of
 /// its round or a later one, so one look at the mark tells it, and with it why the machine refuses
-/// a write of a sequence that is not the sender's own, or is published. A claim, a publication of
-/// a whole stretch and a poll that takes nothing by what the deciding look finds, a write of one's
-/// own sequence and a completion are answered as the machine then replies on the picture. A poll
-/// hands over at least what the picture had at any moment since its receiver last stepped. No
-/// handler's count falls, and no claim is taken back. Once a ring is halted, nothing more is
-/// claimed. It does nothing when it runs: the contract is the theorem.
+/// a write of a sequence that is not the sender's own, or is published. Each call is answered as
+/// the machine then replies on the picture: a claim, a publication of a whole stretch and a poll
+/// that takes nothing by what the deciding look finds, a write of one's own sequence by what the
+/// sender knows and of another's by the mark in its slot, and a completion. A poll hands over at
+/// least what the picture had at any moment since its receiver last stepped. No handler's count
+/// falls, and no claim is taken back. Once a ring is halted, nothing more is claimed. It does
+/// nothing when it runs: the contract is the theorem.
 pub fn moments()
     ensures rule { (k : Shape) (steps : List Step) (entries : Transcript Event) (w : World) → IsShape k → Runs k steps entries (new_world k) w → KeepsRule k w }
     ensures leads { (k : Shape) (steps : List Step) (entries : Transcript Event) (w : World) → IsShape k → Runs k steps entries (new_world k) w → LeadsTo (ring_setup k) entries (picture_of k w) }

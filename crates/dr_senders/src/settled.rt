@@ -104,7 +104,8 @@ fn gather_receivers(
     }
 }
 
-/// Brings all ends of a ring together. It takes no memory, and looks once at the claim word.
+/// Brings all ends of a ring together. It takes no memory. It loads the claim word once for each end, and
+/// then looks at it.
 ///
 /// There is one run of all ends that came to what they know, in which each end stored exactly what
 /// it did, and its transcript is lawful. Each claimed sequence is in its sender's record. Each

@@ -1,6 +1,6 @@
 //! How many slots a ring has.
 
-ghost use Rattle.std.specs.Prelude.{◌≡◌, ◌%◌, ◌/◌, IfOk, IsOk, IsErr, ◌↔◌, codes};
+ghost use Rattle.std.specs.Prelude.{◌≡◌, ◌%◌, ◌/◌, IfOk, IsOk, IsErr, codes};
 ghost use Rattle.dr_seq.specs.Size.{IsSize};
 
 use std::error::Error;

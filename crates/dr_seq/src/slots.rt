@@ -1,6 +1,6 @@
 //! The slots of a ring.
 
-ghost use Rattle.std.specs.Prelude.{◌≡◌, ◌+◌, ◌++◌, ◌%◌, ◌≤◌, IfOk, length, map, replicate, slice_get, slice_set, Some};
+ghost use Rattle.std.specs.Prelude.{◌≡◌, ◌+◌, ◌++◌, ◌%◌, ◌≤◌, IfOk, length, map, replicate, slice_set};
 ghost use Rattle.std.specs.List.{range_with_len};
 ghost use Rattle.dr_seq.specs.Size.{IsSize};
 ghost use Rattle.dr_seq.specs.Slots.{event_at};

@@ -8,7 +8,8 @@ ghost use Rattle.dr_workers.specs.declared.gate.GateAnswer.TheVariants.{Stop};
 pub enum GateAnswer {
     /// The worker goes on.
     Go,
-    /// The worker passes no gate any more, goes on to its end, and then answers that it was stopped.
+    /// The worker passes no gate any more, goes on to its end, and then answers that it was stopped, or else
+    /// what trouble it met on the way.
     Stop,
 }
 

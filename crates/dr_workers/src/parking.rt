@@ -11,8 +11,8 @@ use std::sync::Wait;
 /// After so many empty looks in a row a thread sleeps.
 const MOST_LOOKS: u32 = 200;
 
-/// Waits as [`Waiting`] does for the first two hundred of its looks in a row that find nothing, and then sleeps
-/// after each further one until a bell rings, ten milliseconds at most: LMAX's `BlockingWaitStrategy` with a
+/// Waits as [`Waiting`] does for the first two hundred of its looks in a row that find nothing, listens after the
+/// next one, and sleeps after each further one until a bell rings, ten milliseconds at most: LMAX's `BlockingWaitStrategy` with a
 /// timeout. An idle thread takes next to nothing of its processor.
 ///
 /// Whoever changes what it looks at has to ring the bell, or is seen up to ten milliseconds later.

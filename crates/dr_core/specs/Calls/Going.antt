@@ -1,4 +1,4 @@
--- That somebody can always go on, of each core.
+-- That whoever waits, waits for one that can go on, of each core.
 use Rattle.dr_meaning.specs.Meaning.Machine.{State}
 use Rattle.dr_meaning.specs.Meaning.Transcript.{Transcript, LeadsTo}
 use Rattle.dr_meaning.specs.Meaning.Progress.{NobodyIsStuck, CanFinish}

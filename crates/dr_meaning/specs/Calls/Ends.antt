@@ -51,7 +51,7 @@ MayFail (Exactly b) = b ≡ false
 MayFail (AtLeast b) = b ≡ false
 MayFail (Between least most) = least ≡ false
 
--- A call is accepted where no test is known to hold, and a refusal is the first test's that may hold. An end that shows what it did has a producer or a handler; of its size, its room, its limit, a halt and a retirement it shows nothing.
+-- A call is accepted where no test is known to hold, and a refusal is one test's that may hold, where none before it is known to. An end that shows what it did has a producer or a handler; of its size, its room, its limit, a halt and a retirement it shows nothing.
 abbrev pub IsAnswerOf : {A : Type 0} → List (Verdict × Refusal) → Result A Trouble → Type 0
 IsAnswerOf causes (Ok done) = NoneHolds MayFail causes
 IsAnswerOf causes (Err (Refused refusal)) = IsFirst MayHold MayFail refusal causes

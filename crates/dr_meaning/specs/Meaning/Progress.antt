@@ -1,5 +1,5 @@
--- Nobody is stuck: whoever waits, waits for a producer or a handler that can go on at once.
--- That it does go on is not said.
+-- Nobody is stuck: whoever waits for others, waits for a producer or a handler that can go on at once.
+-- That it does go on is not said; nor is anything of a handler that took all there will be.
 use Rattle.std.specs.Prelude.{◌≡◌, ◌⊎◌, ℕ, ◌+◌, ◌-◌, ◌<◌, ◌≤◌, Bool, true, false, Some, List, [], ◌∷◌, sum_by, slice_index, Contains}
 use Rattle.std.specs.List.{range_with_len}
 use Rattle.dr_meaning.specs.declared.command.Command.{Command}

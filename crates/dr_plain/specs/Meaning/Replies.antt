@@ -1,32 +1,25 @@
--- What an end of a ring answers is what the machine replies on the ring's picture.
-use Rattle.std.specs.Prelude.{◌≡◌, ℕ, ◌+◌, ◌≤◌, false, List, [], ◌∷◌, ◌++◌, map, length}
-use Rattle.std.specs.Prelude.{slice_index_or, Option, Some, None, Result, Contains}
+-- The tests by which an end of a ring answers, and what the ring's picture is to a call.
+use Rattle.std.specs.Prelude.{◌≡◌, ℕ, ◌+◌, ◌≤◌, false, List, [], ◌∷◌, ◌++◌, map}
+use Rattle.std.specs.Prelude.{slice_index_or, Option, Some, None, Contains}
 use mathlib.Core.Option.{some}
 use lib.ListN.{get_elem?}
-use Rattle.dr_meaning.specs.declared.refusal.Refusal.{Refusal}
-use Rattle.dr_meaning.specs.declared.command.Claimed.{Claimed}
-use Rattle.dr_meaning.specs.declared.command.Command.{Command}
-use Rattle.dr_meaning.specs.declared.command.Command.TheVariants.{Claim, Write, Publish, Poll, Complete}
-use Rattle.dr_meaning.specs.declared.command.Reply.{Reply}
-use Rattle.dr_meaning.specs.declared.command.Reply.TheVariants.{Written, Published, Completed}
-use Rattle.dr_meaning.specs.declared.command.Polled.{Polled}
-use Rattle.dr_meaning.specs.Meaning.Refusals.{ClaimTests, PollTests, CompleteTests, claim_causes, poll_causes, complete_causes}
-use Rattle.dr_meaning.specs.Meaning.Machine as machine
+use Rattle.dr_meaning.specs.declared.command.Command.TheVariants.{Write}
+use Rattle.dr_meaning.specs.declared.command.Reply.TheVariants.{Written}
+use Rattle.dr_meaning.specs.Meaning.Refusals.{ClaimTests, PollTests, CompleteTests}
 use Rattle.dr_meaning.specs.Meaning.Machine.{State, available}
 use Rattle.dr_meaning.specs.Meaning.Transcript.{Transcript}
-use Rattle.dr_meaning.specs.Calls.Replies.{claim_reply, unit_reply, poll_reply}
-use Rattle.dr_meaning.specs.Calls.Ends.{Verdict, Exactly, Sent, Received, IsAnswerOf, WriteAnswers, PublishAnswers, poll_tests, complete_tests, as_end}
+use Rattle.dr_meaning.specs.Calls.Ends.{Verdict, Exactly, Sent, Received, poll_tests, complete_tests}
 use Rattle.dr_graph.specs.Meaning.Graph.{upstreams_of}
 use Rattle.dr_plain.specs.Meaning.Shape.{Shape, ring_setup}
 use Rattle.dr_runs.specs.Words.{cursor_word, count_word}
 use Rattle.dr_runs.specs.declared.look.Look.{Look}
 use Rattle.dr_plain.specs.declared.record.SenderRecord.{SenderRecord}
 use Rattle.dr_plain.specs.declared.record.ReceiverRecord.{ReceiverRecord}
-use Rattle.dr_plain.specs.Meaning.Records.{events_of, claimed, barrier_seen, SeesRoom}
+use Rattle.dr_plain.specs.Meaning.Records.{events_of, claimed, barrier_seen}
 use Rattle.dr_plain.specs.Meaning.Rule.{World}
 use Rattle.dr_plain.specs.Meaning.Moments.{picture_of}
 use Rattle.dr_runs.specs.Entries.{entry}
-use Rattle.dr_runs.specs.Replies.{claim_tests_of, DecidesClaimOf, DecidesPollOf}
+use Rattle.dr_runs.specs.Replies.{claim_tests_of}
 
 -- among some looks is one at a word
 abbrev pub LooksAt : List Look → ℕ → Type 0
@@ -68,36 +61,9 @@ module _ {T : Type 0} where
   abbrev pub tests_of_completion : ReceiverRecord T → ℕ → CompleteTests Verdict
   tests_of_completion r upto = record (complete_tests (Some (received_of r)) upto) { retired = Exactly false }
 
-  -- in this state of it the machine replies so
-  abbrev pub Replies : Shape → State T → Command T → Reply → Type 0
-  Replies k m command reply = (machine.step (ring_setup k) m command).reply ≡ reply
-
-  -- what the look finds by which a claim is decided
-  abbrev pub DecidesClaim : Shape → World T → ℕ → Result Claimed Refusal → Type 0
-  DecidesClaim k w n = DecidesClaimOf k.upstreams w.words k.size (claimed w.sender) (SeesRoom k w.sender n) n
-
-  -- and that by which a poll takes nothing; a batch is an entry of the run, at its last look
-  abbrev pub DecidesPoll : Shape → World T → ReceiverRecord T → Result Polled Refusal → Type 0
-  DecidesPoll k w r = DecidesPollOf k.upstreams w.words r.number (length r.received) w.sender.pending
-
   -- Once a receiver looked at all that its barrier goes by, it is offered at least what the picture had for its handler before those looks.
   -- Of that it takes at its last look as much as there is room for.
   abbrev pub OffersWhatWasThere : Shape → World T → World T → Type 0
   OffersWhatWasThere k w u =
       (h : ℕ) (r r' : ReceiverRecord T) (seen : List Look) → get_elem? w.receivers h ≡ some r → get_elem? u.receivers h ≡ some r'
       → r'.looks ≡ r.looks ++ seen → SawBarrier k h seen → available (ring_setup k) (picture_of k w) h ≤ barrier_seen k h r'.looks
-
-  -- each call of an end, by what the end knows and, where it looks, by what the deciding look finds
-  pub record RepliesAsAnswered (k : Shape) (w : World T) : Type 0 where
-    pub claim : (n : ℕ) (result : Result Claimed Refusal) → IsAnswerOf (claim_causes (tests_of_claim w.sender n)) (as_end result)
-        → DecidesClaim k w n result → Replies k (picture_of k w) (Claim 0 n) (claim_reply result)
-    pub write : (writes : List (Option T)) (s : ℕ) (event : T) (result : Result (Unit {0}) Refusal) → length writes ≡ w.sender.pending
-        → WriteAnswers (Some (sent_with w.sender writes)) s (as_end result) → Replies k (picture_with k w writes) (Write 0 s event) (unit_reply Written result)
-    pub publish : (writes : List (Option T)) (lo hi : ℕ) (result : Result (Unit {0}) Refusal) → length writes ≡ w.sender.pending
-        → PublishAnswers (Some (sent_with w.sender writes)) lo hi (as_end result)
-        → Replies k (picture_with k w writes) (Publish 0 lo hi) (unit_reply Published result)
-    pub poll : (h room : ℕ) (r : ReceiverRecord T) (result : Result Polled Refusal) → get_elem? w.receivers h ≡ some r
-        → IsAnswerOf (poll_causes (tests_of_poll r room)) (as_end result) → DecidesPoll k w r result
-        → Replies k (picture_of k w) (Poll h room) (poll_reply result)
-    pub complete : (h upto : ℕ) (r : ReceiverRecord T) (result : Result (Unit {0}) Refusal) → get_elem? w.receivers h ≡ some r
-        → IsAnswerOf (complete_causes (tests_of_completion r upto)) (as_end result) → Replies k (picture_of k w) (Complete h upto) (unit_reply Completed result)

@@ -1,6 +1,6 @@
 //! A receiver's steps.
 
-ghost use Rattle.std.specs.Prelude.{◌≡◌, ◌<◌, ◌≤◌, true, None, Some, length, Contains};
+ghost use Rattle.std.specs.Prelude.{◌≡◌, ◌<◌, ◌≤◌, None, Some, length, Contains};
 ghost use Rattle.dr_graph.specs.Meaning.Graph.{upstreams_of};
 ghost use Rattle.dr_ring.specs.Meaning.Words.{payload_word};
 ghost use Rattle.dr_runs.specs.Words.{cursor_word, closed_word, count_word as count_word_of};

@@ -1,18 +1,18 @@
 -- What an end of a ring answers is what the machine replies on the ring's picture.
-use Rattle.std.specs.Prelude.{◌≡◌, ◌≢◌, ℕ, ◌+◌, ◌<◌, ◌≤◌, ◌-◌, ◌⊎◌, nat_le, min, if◌then◌else◌, List, [], length, slice_index, Result, Ok, Err, Contains}
+use Rattle.std.specs.Prelude.{◌≡◌, ◌≢◌, ℕ, ◌+◌, ◌<◌, ◌≤◌, ◌-◌, ◌⊎◌, nat_le, min, List, [], length, slice_index, Result, Ok, Err, Contains}
 use mathlib.Core.Option.{some}
 use lib.ListN.{get_elem?}
 use Rattle.dr_seq.specs.declared.event.Event.{Event}
 use Rattle.dr_meaning.specs.declared.refusal.Refusal.{Refusal}
-use Rattle.dr_meaning.specs.declared.refusal.Refusal.TheVariants.{BadCount, NoRoom, AlreadyPublished}
+use Rattle.dr_meaning.specs.declared.refusal.Refusal.TheVariants.{BadCount, NoRoom}
 use Rattle.dr_meaning.specs.declared.command.Claimed.{Claimed}
 use Rattle.dr_meaning.specs.declared.command.Polled.{Polled}
 use Rattle.dr_meaning.specs.declared.command.Polled.TheVariants.{Gating}
 use Rattle.dr_meaning.specs.declared.command.Command.{Command}
 use Rattle.dr_meaning.specs.declared.command.Command.TheVariants.{Claim, Write, Publish, Poll, Complete}
 use Rattle.dr_meaning.specs.declared.command.Reply.{Reply}
-use Rattle.dr_meaning.specs.declared.command.Reply.TheVariants.{Written, Published, Completed, Refused}
-use Rattle.dr_meaning.specs.Meaning.Refusals.{publish_causes, poll_causes, complete_causes}
+use Rattle.dr_meaning.specs.declared.command.Reply.TheVariants.{Written, Published, Completed}
+use Rattle.dr_meaning.specs.Meaning.Refusals.{write_causes, publish_causes, poll_causes, complete_causes}
 use Rattle.dr_meaning.specs.Meaning.Machine as machine
 use Rattle.dr_meaning.specs.Meaning.Machine.{available}
 use Rattle.dr_meaning.specs.Calls.Replies.{claim_reply, unit_reply, poll_reply}
@@ -22,15 +22,13 @@ use Rattle.dr_graph.specs.Meaning.Graph.{finals}
 use Rattle.dr_runs.specs.Polls.{handed}
 use Rattle.dr_senders.specs.Meaning.Shape.{Shape, handlers_of, ring_setup}
 use Rattle.dr_senders.specs.Meaning.Words.{claim_word, count_word, mark_word, claimed_in}
-use Rattle.dr_senders.specs.declared.record.Stage.{Stage}
 use Rattle.dr_senders.specs.declared.record.SenderRecord.{SenderRecord}
 use Rattle.dr_senders.specs.declared.record.ReceiverRecord.{ReceiverRecord}
-use Rattle.dr_senders.specs.Meaning.Records.{Owns}
 use Rattle.dr_senders.specs.Meaning.Rule.{World}
 use Rattle.dr_senders.specs.Meaning.Moments.{picture_of}
 use Rattle.dr_senders.specs.Calls.Sending.{AnswersByTests, stretch_from}
 use Rattle.dr_senders.specs.Calls.Receiving.{ups_of, TellsNothing, tests_of_poll, tests_of_completion, Polls}
-use Rattle.dr_senders.specs.Calls.Writing.{Sight, Found, Reach, Looked, PublishLooks, PublishSees, tests_of_publication}
+use Rattle.dr_senders.specs.Calls.Writing.{Sight, Found, IsSight, IsAsked, Reach, Looked, PublishLooks, PublishSees, tests_of_write, tests_of_publication}
 
 -- on the ring's picture the machine replies so
 abbrev pub Replies : Shape → World → Command Event → Reply → Type 0
@@ -97,9 +95,10 @@ DecidesPublication k w lo hi seen (Err refusal) = ReachesNow w hi seen.reach × 
 pub record RepliesAsAnswered (k : Shape) (w : World) : Type 0 where
   pub claim : (p n claims : ℕ) (counts : List ℕ) (result : Result Claimed Refusal) → p < k.senders → AnswersByTests k n claims counts result
       → DecidesClaim k w n claims counts result → Replies k w (Claim p n) (claim_reply result)
-  -- of a sequence of one's own; of another's the mark in its slot tells
-  pub write : (p s : ℕ) (event : Event) (r : SenderRecord) (t : Stage) → get_elem? w.senders p ≡ some r → Owns r s t
-      → Replies k w (Write p s event) (if t.published then Refused AlreadyPublished else Written)
+  -- of a sequence of one's own by what the sender knows, and of another's, or a published one, by what it finds at the mark in its slot
+  pub write : (p s : ℕ) (event : Event) (r : SenderRecord) (sight : Sight) (result : Result (Unit {0}) Refusal) → get_elem? w.senders p ≡ some r
+      → IsSight k r s sight → IsAsked sight → IsAnswerOf (write_causes (tests_of_write k s sight)) (as_end result) → FoundNow k w s sight
+      → Replies k w (Write p s event) (unit_reply Written result)
   -- of a whole stretch, by what it saw
   pub publish : (p lo hi : ℕ) (r : SenderRecord) (seen : PublishLooks) (result : Result (Unit {0}) Refusal) → get_elem? w.senders p ≡ some r → PublishSees k r lo hi seen
       → IsAnswerOf (publish_causes lo hi (tests_of_publication k lo hi seen)) (as_end result) → DecidesPublication k w lo hi seen result

@@ -1,6 +1,6 @@
 //! A receiver's steps.
 
-ghost use Rattle.std.specs.Prelude.{◌≡◌, ◌<◌, ◌≤◌, ◌^◌, None, Some, length, Contains};
+ghost use Rattle.std.specs.Prelude.{◌≡◌, ◌<◌, ◌≤◌, None, Some, length, Contains};
 ghost use Rattle.dr_graph.specs.Meaning.Graph.{upstreams_of};
 ghost use Rattle.dr_senders.specs.Meaning.Words.{count_word as count_word_of, payload_word};
 ghost use Rattle.dr_senders.specs.Meaning.Records.{receiver_looked, claims_looked, mark_looked, half_taken, took, completed_to, IsBelowBarrier};

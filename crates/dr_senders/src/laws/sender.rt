@@ -1,6 +1,6 @@
 //! A sender's steps.
 
-ghost use Rattle.std.specs.Prelude.{◌≡◌, ◌+◌, ◌^◌, ◌<◌, ◌≤◌, false, None, Some, Contains, ℕ};
+ghost use Rattle.std.specs.Prelude.{◌≡◌, ◌+◌, ◌^◌, ◌<◌, false, None, Some, Contains, ℕ};
 ghost use Rattle.dr_seq.specs.declared.event.Event.{Event as EventValue};
 ghost use Rattle.dr_graph.specs.Meaning.Graph.{finals};
 ghost use Rattle.dr_senders.specs.Calls.Plans.{IsPlan};

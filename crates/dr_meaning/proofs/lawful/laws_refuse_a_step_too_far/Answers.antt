@@ -1,8 +1,8 @@
 use Rattle.std.proofs.Common.{arith, ℕ, ◌≡◌, ◌≤◌, ◌∷◌, ◌++◌, [], refl, false, true, Some, ap, unwrap_or}
 use Rattle.dr_meaning.specs.Meaning.Transcript.{Transcript}
 use Rattle.dr_meaning.specs.Meaning.Laws.{IsComplete, ReceivedInOrder, AfterUpstreams}
-use Rattle.dr_meaning.specs.Meaning.TooFar.{pair, claim_of, receipt_of, completion_of, retirement_of, halt, drain, written, published, taken, completed, taken_by_both}
-use Rattle.dr_meaning.specs.Meaning.TooFar.{claim_up_to, join, two_published, first_receipt, second_receipt, completed_beside, taken_beside, completed_by_both}
+use Rattle.dr_meaning.specs.Meaning.TooFar.{pair, claim_of, receipt_of, completion_of, retirement_of, halt, drain, written, written_again, published, taken, completed, taken_by_both}
+use Rattle.dr_meaning.specs.Meaning.TooFar.{claim_up_to, join, two_published, first_receipt, second_receipt, completed_beside, taken_beside, completed_by_both, first_taken}
 use Rattle.dr_meaning.proofs.lawful.laws_refuse_a_step_too_far.Goals as goal
 
 pub returns-clause-other_event : goal.returns-clause-other_event
@@ -235,5 +235,70 @@ returns-clause-no_room_a_round_later c = record {
   so_far = (_, (refl, refl, (refl, refl, (refl, refl, (refl, refl, (refl, refl, (refl, refl, (refl, refl, (refl, refl, refl)))))))));
   unlawful = λ laws.
       (let room : 3 ≤ 2 = laws.has_room (taken_by_both ++ completion_of 1 1 ∷ claim_of 1 ∷ []) [] (claim_of 2) refl 2 2 1 refl (0, omega arith, refl) in
+      omega arith);
+}
+
+pub returns-clause-unpublished_later : goal.returns-clause-unpublished_later
+unfolding Rattle.dr_meaning.specs.Meaning.Machine.least_outside
+returns-clause-unpublished_later c = record {
+  so_far = (_, (refl, refl, (refl, refl, (refl, refl, (refl, refl, (refl, refl, refl))))));
+  unlawful = λ laws.
+      (let all : Transcript ℕ = first_taken ++ second_receipt 0 6 ∷ [] in
+      let order : ReceivedInOrder all 0 = laws.received_in_order all [] refl 0 (omega arith) in
+      let front : 2 ≤ 1 = order.published in
+      omega arith);
+}
+
+pub returns-clause-claimed_twice_later : goal.returns-clause-claimed_twice_later
+returns-clause-claimed_twice_later c = record {
+  so_far = (_, (refl, refl, refl));
+  unlawful = λ laws.
+      (let next : 1 ≡ 2 = laws.gives_next (claim_up_to 0 1 ∷ []) [] (claim_of 1) refl 1 1 refl in
+      omega arith);
+}
+
+pub returns-clause-claimed_twice_in_part : goal.returns-clause-claimed_twice_in_part
+returns-clause-claimed_twice_in_part c = record {
+  so_far = (_, (refl, refl, refl));
+  unlawful = λ laws.
+      (let next : 0 ≡ 1 = laws.gives_next (claim_of 0 ∷ []) [] (claim_up_to 0 1) refl 0 1 refl in
+      omega arith);
+}
+
+pub returns-clause-claimed_late_after_a_claim : goal.returns-clause-claimed_late_after_a_claim
+returns-clause-claimed_late_after_a_claim c = record {
+  so_far = (_, (refl, refl, (refl, refl, refl)));
+  unlawful = λ laws.
+      laws.no_claim_after_halt (claim_of 0 ∷ halt ∷ []) [] (claim_of 1) refl 1 1 refl refl;
+}
+
+pub returns-clause-drained_before_halt_later : goal.returns-clause-drained_before_halt_later
+unfolding Rattle.dr_meaning.specs.Meaning.Machine.least_outside
+returns-clause-drained_before_halt_later c = record {
+  so_far = (_, (refl, refl, (refl, refl, (refl, refl, (refl, refl, refl)))));
+  unlawful = λ laws.
+      (let complete : IsComplete taken 0 = laws.drained_is_complete taken [] drain refl 0 1 refl refl in
+      let halted : false ≡ true = complete.halted in
+      cc);
+}
+
+pub returns-clause-drained_early_later : goal.returns-clause-drained_early_later
+unfolding Rattle.dr_meaning.specs.Meaning.Machine.least_outside
+returns-clause-drained_early_later c = record {
+  so_far = (_, (refl, refl, (refl, refl, (refl, refl, (refl, refl, (refl, refl, (refl, refl, refl)))))));
+  unlawful = λ laws.
+      (let complete : IsComplete (two_published ++ first_receipt 0 5 ∷ halt ∷ []) 0 = laws.drained_is_complete (two_published ++ first_receipt 0 5 ∷ halt ∷ []) [] drain refl 0 1 refl refl in
+      let all : 1 ≡ 2 = complete.taken in
+      omega arith);
+}
+
+pub returns-clause-event_written_over : goal.returns-clause-event_written_over
+unfolding Rattle.dr_meaning.specs.Meaning.Machine.least_outside
+returns-clause-event_written_over c = record {
+  so_far = (_, (refl, refl, (refl, refl, (refl, refl, (refl, refl, refl)))));
+  unlawful = λ laws.
+      (let order : ReceivedInOrder (written_again ++ receipt_of 0 6 ∷ []) 0 = laws.received_in_order (written_again ++ receipt_of 0 6 ∷ []) [] refl 0 (omega arith) in
+      let same : Some 6 ≡ Some 5 = order.events 0 (omega arith) in
+      let numbers : 6 ≡ 5 = ap (λ o. unwrap_or o 5) same in
       omega arith);
 }

@@ -1,5 +1,15 @@
-use Rattle.std.proofs.Common.{subst, refl, ◌≡◌, ◌<◌, ◌++◌, List, Option, length}
+use Rattle.std.proofs.Common.{◌≡◌, ℕ, ◌<◌, ◌≤◌, inl, inr, List, [], ◌∷◌, ◌++◌, Option, length, Result, Ok, Err, subst, refl, ap, ◌∙◌}
+use Rattle.std.specs.Prelude.{slice_index}
+use mathlib.Core.Option.{some}
+use lib.ListN.{get_elem?}
+use Rattle.dr_meaning.specs.declared.refusal.Refusal.{Refusal}
+use Rattle.dr_meaning.specs.declared.refusal.Refusal.TheVariants.{NoRoom, Halted, BadCount, Exhausted}
+use Rattle.dr_meaning.specs.declared.command.Claimed.{Claimed}
 use Rattle.dr_meaning.specs.Meaning.Machine.{State}
+use Rattle.dr_runs.specs.Words.{halt_word}
+use Rattle.dr_runs.specs.declared.look.Look.{Look}
+use Rattle.dr_runs.specs.Looks.{look, last_look}
+use Rattle.dr_runs.proofs.Looks.{last_look_more}
 use Rattle.dr_meaning.specs.Meaning.Machine as machine
 use Rattle.dr_meaning.specs.Meaning.Transcript.{Transcript, LeadsFrom, LeadsTo}
 use Rattle.dr_meaning.proofs.FiveLaws.{leads_append}
@@ -7,13 +17,16 @@ use Rattle.dr_graph.specs.Meaning.Graph.{IsGraph}
 use Rattle.dr_plain.specs.Meaning.Shape.{Shape, ring_setup}
 use Rattle.dr_plain.specs.Meaning.Records.{claimed}
 use Rattle.dr_plain.specs.Meaning.Rule.{World, KeepsRule}
+use Rattle.dr_plain.specs.declared.record.SenderRecord.{SenderRecord}
 use Rattle.dr_plain.specs.declared.record.Step.{Step}
+use Rattle.dr_plain.specs.Calls.Sending.{gate_looks, LooksToClaim}
+use Rattle.dr_plain.specs.Calls.Replies.{FoundHalt, DecidesClaim}
 use Rattle.dr_plain.specs.Meaning.Moments.{Runs, new_world, picture_of}
 use Rattle.dr_plain.specs.Meaning.Replies.{picture_with, open_writes}
 use Rattle.dr_plain.proofs.Beginning.{kept_opening, keeps_runs, opens}
 use Rattle.dr_plain.proofs.Pictures.{lead_runs}
 use Rattle.dr_plain.proofs.Writings.{lead_open_writes}
-use Rattle.dr_plain.proofs.Replies.{replies}
+use Rattle.dr_plain.proofs.Replies.{Decided, no_room_at, replies}
 use Rattle.dr_plain.proofs.Rising.{rises_runs}
 use Rattle.dr_plain.proofs.Later.{offers_what_was_there, hands_what_was_there}
 use Rattle.dr_plain.proofs.Halting.{halted_runs}
@@ -52,8 +65,26 @@ pub returns-clause-progress : goal.returns-clause-progress
 returns-clause-progress g c k steps entries w graph some_slot runs =
     c.nobody_is_stuck.ensures (ring_setup k) entries (picture_of k w) graph (leads k steps entries w graph some_slot runs)
 
+-- A claim, by where it looked.
+
+at_last : {T : Type 0} (w : World T) (seen xs : List Look) (v : ℕ) → FoundHalt w seen → seen ≡ xs ++ look halt_word v ∷ [] → slice_index w.words halt_word ≡ v
+at_last w seen xs v found are = found ∙ ap (λ (ys : List Look). last_look 0 ys halt_word) are ∙ last_look_more 0 xs halt_word v
+
+decided : {T : Type 0} (k : Shape) (w : World T) (K : KeepsRule k w) (n : ℕ) (r : SenderRecord T) (seen : List Look) (result : Result Claimed Refusal)
+    → w.sender ≡ record r { looks = w.sender.looks } → LooksToClaim r n seen result → DecidesClaim k w n seen result → Decided k w K n result
+decided k w K n r seen (Err BadCount) same looks D = tt
+decided k w K n r seen (Err Halted) same (inl one) D = at_last w seen [] 1 D one
+decided k w K n r seen (Err Halted) same (inr late) D = at_last w seen (look halt_word 0 ∷ gate_looks r late.counts) 1 D late.saw
+decided k w K n r seen (Err Exhausted) same one D = at_last w seen [] 0 D one
+decided k w K n r seen (Err NoRoom) same looks D = let found = looks.1 in
+    no_room_at k w K n found.before r looks.0 same found.last found.among found.behind
+    (subst (λ (xs : List Look). (i : ℕ) (x : Look) → get_elem? xs i ≡ some x → slice_index w.words x.word ≤ x.value) looks.2 D)
+decided k w K n r seen (Err other) same looks D = absurd looks
+decided k w K n r seen (Ok c) same looks D = (at_last w seen (look halt_word 0 ∷ gate_looks r looks.0) 0 D.0 looks.2, D.1, D.2)
+
 pub returns-clause-replies : goal.returns-clause-replies
-returns-clause-replies g c k steps entries w graph some_slot runs = replies k w (keeps k steps entries w graph some_slot runs)
+returns-clause-replies g c k steps entries w graph some_slot runs =
+    let K = keeps k steps entries w graph some_slot runs in replies k w K (decided k w K)
 
 pub returns-clause-offers : goal.returns-clause-offers
 returns-clause-offers g c k steps more entries rest w u graph some_slot runs on =

@@ -1,4 +1,4 @@
-use Rattle.std.proofs.Common.{◌≡◌, ◌≤◌, length, subst, sym}
+use Rattle.std.proofs.Common.{◌≤◌, length, subst, sym}
 use Rattle.std.proofs.lemmas.List.{length-take-le}
 use Rattle.dr_lock.proofs.Going.{answered_since}
 use Rattle.dr_lock.proofs.end.Locked.call.Goals as goal
