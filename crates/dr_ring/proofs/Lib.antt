@@ -24,5 +24,6 @@ pub mod Writings
 pub mod Replies
 pub mod Rising
 pub mod Later
+pub mod Told
 pub mod Untroubled
 pub mod Unrefused

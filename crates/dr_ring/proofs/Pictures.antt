@@ -313,7 +313,7 @@ lead_flag k w i rest end b pos lt halt leads =
 halt_on : (k : Shape) (w : World) → KeepsRule k w → (word_at (set w.words halt_word 1) halt_word == 1) ≡ true
 halt_on k w K = let wide = K.wide in eq-eqb _ _ (get_or-set_same w.words halt_word 1 0 (omega arith))
 
-is_receiver : (k : Shape) (w : World) (h : ℕ) (r : ReceiverRecord) → get_elem? w.receivers h ≡ some r → receiver_at k w h ≡ r
+pub is_receiver : (k : Shape) (w : World) (h : ℕ) (r : ReceiverRecord) → get_elem? w.receivers h ≡ some r → receiver_at k w h ≡ r
 is_receiver k w h r at = value_at w.receivers h r (fresh_receiver k h) at
 
 lead_step : (k : Shape) (s : Step) (w u : World) (rest : Transcript Event) (end : State Event) → Happens k s w u → KeepsRule k w

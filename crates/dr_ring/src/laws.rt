@@ -22,7 +22,7 @@ ghost use Rattle.dr_runs.specs.Words.{halt_word, count_word};
 ghost use Rattle.dr_ring.specs.Meaning.Records.{claimed};
 ghost use Rattle.dr_ring.specs.Meaning.Rule.{World, KeepsRule};
 ghost use Rattle.dr_ring.specs.declared.record.Step.{Step};
-ghost use Rattle.dr_ring.specs.Meaning.Moments.{Runs, new_world, picture_of};
+ghost use Rattle.dr_ring.specs.Meaning.Moments.{Runs, new_world, picture_of, WereTold};
 ghost use Rattle.dr_ring.specs.Calls.Replies.{RepliesAsAnswered, HandsWhatWasThere};
 
 use crate::plan::Plan;
@@ -76,7 +76,8 @@ impl Names for Brand {
 
 /// Whatever steps fall in whatever order: between any two of them the rule holds, the entries of
 /// their events lead the machine to the ring's picture, in which nobody is stuck, and the
-/// transcript has the five laws. What an end answers by what it knows, and by what the deciding
+/// transcript has the five laws. Who was told that the ring drained, was told so by a poll of the
+/// transcript. What an end answers by what it knows, and by what the deciding
 /// look finds, is what the machine then replies on the picture. A poll hands over at least what the
 /// picture had at any moment since its receiver last stepped. No handler's count falls, so what the
 /// last look of a claim without room finds was so already at its first. Once a ring is halted,
@@ -86,6 +87,7 @@ pub fn moments()
     ensures leads { (k : Shape) (steps : List Step) (entries : Transcript Event) (w : World) → IsGraph k.upstreams → 0 < k.size → Runs k steps entries (new_world k) w → LeadsTo (ring_setup k) entries (picture_of k w) }
     ensures laws { (k : Shape) (steps : List Step) (entries : Transcript Event) (w : World) → IsGraph k.upstreams → 0 < k.size → Runs k steps entries (new_world k) w → Laws (ring_setup k) entries }
     ensures progress { (k : Shape) (steps : List Step) (entries : Transcript Event) (w : World) → IsGraph k.upstreams → 0 < k.size → Runs k steps entries (new_world k) w → NobodyIsStuck (ring_setup k) (picture_of k w) }
+    ensures told { (k : Shape) (steps : List Step) (entries : Transcript Event) (w : World) → IsGraph k.upstreams → 0 < k.size → Runs k steps entries (new_world k) w → WereTold w entries }
     ensures replies { (k : Shape) (steps : List Step) (entries : Transcript Event) (w : World) → IsGraph k.upstreams → 0 < k.size → Runs k steps entries (new_world k) w → RepliesAsAnswered k w }
     ensures hands { (k : Shape) (steps more : List Step) (entries rest : Transcript Event) (w u : World) → IsGraph k.upstreams → 0 < k.size → Runs k steps entries (new_world k) w → Runs k more rest w u → HandsWhatWasThere k w u }
     ensures rises { (k : Shape) (steps more : List Step) (entries rest : Transcript Event) (w u : World) → IsGraph k.upstreams → 0 < k.size → Runs k steps entries (new_world k) w → Runs k more rest w u → (f : ℕ) → f < handlers_of k → slice_index w.words (count_word f) ≤ slice_index u.words (count_word f) }

@@ -1,10 +1,12 @@
 -- What each list of steps comes to, from a ring's opening.
-use Rattle.std.specs.Prelude.{ℕ, zero, suc, ◌+◌, ◌-◌, ◌==◌, ◌&&◌, not, nat_lt, if◌then◌else◌, false, List, [], ◌∷◌, ◌++◌, map, length, replicate}
-use Rattle.std.specs.Prelude.{slice_index, slice_index_or, Option, Some, None}
+use Rattle.std.specs.Prelude.{◌≡◌, ℕ, zero, suc, ◌+◌, ◌-◌, ◌==◌, ◌&&◌, not, nat_lt, if◌then◌else◌, false, List, [], ◌∷◌, ◌++◌, map, length, replicate}
+use Rattle.std.specs.Prelude.{slice_index, slice_index_or, Option, Some, None, true, Contains}
+use mathlib.Core.Option.{some}
+use lib.ListN.{get_elem?}
 use Rattle.std.specs.List.{range_with_len}
 use Rattle.dr_seq.specs.declared.event.Event.{Event}
-use Rattle.dr_meaning.specs.declared.command.Command.TheVariants.{Claim, Write, Publish, Poll, Complete, Halt}
-use Rattle.dr_meaning.specs.declared.command.Reply.TheVariants.{Claimed, Written, Published, Drained, Completed, Halting}
+use Rattle.dr_meaning.specs.declared.command.Command.TheVariants.{Claim, Write, Publish, Complete, Halt}
+use Rattle.dr_meaning.specs.declared.command.Reply.TheVariants.{Claimed, Written, Published, Completed, Halting}
 use Rattle.dr_meaning.specs.Meaning.Machine as machine
 use Rattle.dr_meaning.specs.Meaning.Machine.{State, available}
 use Rattle.dr_meaning.specs.Meaning.Transcript.{Transcript}
@@ -24,7 +26,7 @@ use Rattle.dr_ring.specs.declared.record.Step.TheVariants.{SenderPublishes, Send
 use Rattle.dr_ring.specs.declared.record.Step.TheVariants.{ReceiverLooksAtCount, ReceiverLoadsFirst, ReceiverLoadsSecond, ReceiverCompletes}
 use Rattle.dr_ring.specs.declared.record.Step.TheVariants.{HalterHalts}
 use Rattle.dr_ring.specs.Meaning.Steps.{Happens}
-use Rattle.dr_runs.specs.Entries.{entry, poll_of}
+use Rattle.dr_runs.specs.Entries.{entry, told_drained, poll_of}
 
 -- the ends of a new ring
 abbrev pub fresh_sender : Shape → SenderRecord
@@ -79,7 +81,7 @@ entries_of k SenderHalts w = entry Halt Halting []
 entries_of k SenderCloses w = []
 entries_of k (ReceiverLooksAtClosed h) w = []
 entries_of k (ReceiverLooksAtCursor h) w =
-    if tells_drained (receiver_at k w h) (slice_index w.words cursor_word) then entry (Poll h 1) Drained [] else []
+    if tells_drained (receiver_at k w h) (slice_index w.words cursor_word) then told_drained h ∷ [] else []
 entries_of k (ReceiverLooksAtCount h u) w = []
 entries_of k (ReceiverLoadsFirst h) w = []
 entries_of k (ReceiverLoadsSecond h) w =
@@ -91,3 +93,7 @@ entries_of k HalterHalts w = entry Halt Halting []
 -- a list of steps, with the entries of their events
 abbrev pub Runs : Shape → List Step → Transcript Event → World → World → Type 0
 Runs k steps entries w w' = runs.Runs (Happens k) (entries_of k) steps entries w w'
+
+-- who was told that the ring drained, was told so by a poll of the run
+abbrev pub WereTold : World → Transcript Event → Type 0
+WereTold w entries = (h : ℕ) (r : ReceiverRecord) → get_elem? w.receivers h ≡ some r → r.told ≡ true → Contains entries (told_drained h)
