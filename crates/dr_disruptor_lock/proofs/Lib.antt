@@ -1,6 +1,5 @@
 pub mod Watched
 pub mod Filled
-pub mod Asking
 pub mod Crossing
 pub mod Listing
 pub mod Sends

@@ -9,11 +9,11 @@ use Rattle.dr_workers.specs.declared.fault.WorkFault.{WorkFault}
 use Rattle.dr_workers.specs.declared.producer.Produced.{Produced}
 use Rattle.dr_lock.specs.Meaning.History.{History, transcript}
 use Rattle.dr_lock.specs.Meaning.Audit.{IsAudited}
-use Rattle.dr_lock.specs.Meaning.Merge.{IsMerge}
+use Rattle.dr_workers.specs.Meaning.Merge.{IsMerge}
 use Rattle.dr_threads.specs.Endings.{AreFine}
-use Rattle.dr_threads.specs.Handlers.{AllWentThrough}
+use Rattle.dr_threads.specs.Handlers.{AllWentThrough, AllWentThroughMerge}
 use Rattle.dr_disruptor_lock.specs.declared.running.Ran.{Ran}
-use Rattle.dr_disruptor_lock.specs.Running.{AllWentThroughMerge, IsRan, fronts}
+use Rattle.dr_disruptor_lock.specs.Running.{IsRan, fronts}
 use Rattle.dr_disruptor_lock.proofs.Fronts.{both_ok, fine_at, fronts_whole}
 
 module _ {A : Type 0} (goes : Relation Event A) (begun : History Event) (size : ℕ) (scripts : List (List Event)) (starts : List A) (ran : Ran A)

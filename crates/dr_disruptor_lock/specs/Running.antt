@@ -17,7 +17,6 @@ use Rattle.dr_lock.specs.Calls.Asking.{InletAsks, OutletAsks}
 use Rattle.dr_lock.specs.Calls.Lock.{EndView, HasHalted, no_calls}
 use Rattle.dr_lock.specs.Meaning.Audit.{Faults, IsAudited}
 use Rattle.dr_lock.specs.Meaning.History.{GoesOn, History, IsRecorded, entries_since, halts_in, transcript}
-use Rattle.dr_lock.specs.Meaning.Merge.{IsMerge}
 use Rattle.dr_threads.specs.Handlers.{AllWentThrough}
 use Rattle.dr_threads.specs.declared.fault.RunFault.{RunFault}
 use Rattle.dr_threads.specs.declared.fault.RunFault.TheVariants as fault
@@ -29,11 +28,6 @@ use Rattle.dr_disruptor_lock.specs.declared.running.Ran.{Ran}
 abbrev pub refusal_of : ℕ → ℕ → ℕ → RunFault
 refusal_of graph given scripts =
     if graph == given then (if has_bad_producers (Multi scripts) then fault.Senders scripts else fault.Memory) else fault.Handlers graph given
-
--- all handlers went through one list of events, which is a merge of these lists
-pub record AllWentThroughMerge {A : Type 0} (goes : Relation Event A) (lists : List (List Event)) (starts afters : List A) (events : List Event) : Type 0 where
-  pub merge : IsMerge lists events
-  pub through : AllWentThrough goes events starts afters
 
 -- the first events of each script, as many as were sent of it
 abbrev pub fronts : List (List Event) → List Produced → List (List Event)

@@ -7,7 +7,7 @@ use Rattle.std.proofs.lemmas.List.{length-map}
 use mathlib.Core.Option.{some, some-injective, some-ne-none}
 use lib.ListN.{get_elem?}
 use Rattle.dr_seq.specs.declared.event.Event.{Event}
-use Rattle.dr_lock.specs.Meaning.Merge.{IsMerge, at_part}
+use Rattle.dr_workers.specs.Meaning.Merge.{IsMerge, at_part}
 use Rattle.dr_runs.proofs.Elements.{there, value_at}
 use Rattle.dr_senders.specs.declared.record.Stage.{Stage}
 use Rattle.dr_senders.specs.Meaning.Moments.{stage_at}

@@ -10,7 +10,7 @@ use Rattle.dr_seq.specs.declared.event.Event.{Event}
 use Rattle.dr_meaning.specs.Calls.Handling.{Relation}
 use Rattle.dr_workers.specs.Meaning.Work.{batches_in}
 use Rattle.dr_workers.specs.declared.ended.Ended.{Ended}
-use Rattle.dr_lock.specs.Meaning.Merge.{IsMerge}
+use Rattle.dr_workers.specs.Meaning.Merge.{IsMerge}
 use Rattle.dr_runs.proofs.Elements.{there, at_below, value_at}
 use Rattle.dr_runs.proofs.Lists.{at_behind, map_there}
 use Rattle.dr_runs.proofs.Lists as lists
@@ -30,11 +30,11 @@ use Rattle.dr_senders.proofs.Beginning.{kept_new_world, receiver_fresh, receiver
 use Rattle.dr_senders.proofs.Pictures.{keeps_runs}
 use Rattle.dr_senders.proofs.Places.{one_value}
 use Rattle.dr_threads.specs.Endings.{AreFine}
-use Rattle.dr_threads.specs.Handlers.{IsPolled}
+use Rattle.dr_threads.specs.Handlers.{AllWentThroughMerge, IsPolled}
 use Rattle.dr_threads.specs.Serving.{endings_from, given_end, given_handler}
 use Rattle.dr_threads.proofs.Settled as threads
 use Rattle.dr_disruptor_senders.specs.declared.sending.Sent.{Sent}
-use Rattle.dr_disruptor_senders.specs.Running.{AllWentThroughMerge, IsJoined, IsRan, Ran, new_receiver, new_sender, sent_of}
+use Rattle.dr_disruptor_senders.specs.Running.{IsJoined, IsRan, Ran, new_receiver, new_sender, sent_of}
 use Rattle.dr_disruptor_senders.specs.Serving.{AreSent, HaltsOnly, Sending, Served, Worker, is_told, received_by, sender_endings}
 use Rattle.dr_disruptor_senders.proofs.Merged.{merged}
 use Rattle.dr_disruptor_senders.proofs.Owned.{AreOwn, are_own, own_from}
@@ -253,7 +253,7 @@ module _ {A : Type 0} (goes : Relation Event A) (k : Shape) (scripts : List (Lis
 
 -- without a fault all scripts are sent
 pub went_whole : {A : Type 0} (goes : Relation Event A) (k : Shape) (scripts : List (List Event)) (starts : List A) (ran : Ran A) → IsRan goes k scripts starts ran
-    → AreFine ran.endings.items → AllWentThroughMerge goes scripts starts ran.handlers.items
+    → AreFine ran.endings.items → (events : List Event) × AllWentThroughMerge goes scripts starts ran.handlers.items events
 went_whole goes k scripts starts ran is fine =
     let handlers = endings_from 0 is.served in
     let whole : sent_of scripts is.senders ≡ scripts = sent_whole scripts is.senders (λ p script at.
@@ -263,4 +263,4 @@ went_whole goes k scripts starts ran is fine =
     let none : back.produced.fault ≡ None =
     sym e.2 ∙ fine_at ran.endings.items (length handlers + p) e.0 fine (ap (λ (l : List Ended). get_elem? l (length handlers + p)) is.endings ∙ place_of) in
     (back, at_back, rw none at sending.all)) in
-    record { events = is.events; merge = subst (λ (l : List (List Event)). IsMerge l is.events) whole is.merge; through = is.handlers.through }
+    (is.events, record { merge = subst (λ (l : List (List Event)). IsMerge l is.events) whole is.merge; through = is.handlers.through })

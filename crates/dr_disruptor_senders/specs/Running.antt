@@ -6,7 +6,7 @@ use lib.ListN.{get_elem?}
 use Rattle.atomic_table.specs.Seated.{TableId}
 use Rattle.dr_seq.specs.declared.event.Event.{Event}
 use Rattle.dr_meaning.specs.Calls.Handling.{Relation}
-use Rattle.dr_lock.specs.Meaning.Merge.{IsMerge}
+use Rattle.dr_workers.specs.Meaning.Merge.{IsMerge}
 use Rattle.dr_senders.specs.Meaning.Moments.{fresh_receiver, fresh_sender}
 use Rattle.dr_senders.specs.Meaning.Shape.{Shape}
 use Rattle.dr_senders.specs.Calls.Ends.{HalterEnd, ReceiverEnd, SenderEnd, receiver_place}
@@ -15,7 +15,7 @@ use Rattle.dr_senders.specs.Calls.Settling.{HasRun, handler_counts}
 use Rattle.dr_senders.specs.Calls.Telling.{receiver_does}
 use Rattle.dr_senders.specs.declared.settled.Settled.{Settled}
 use Rattle.dr_threads.specs.declared.ran.Ran as threads
-use Rattle.dr_threads.specs.Handlers.{AllWentThrough, AreServed}
+use Rattle.dr_threads.specs.Handlers.{AreServed}
 use Rattle.dr_threads.specs.Serving.{endings_from}
 use Rattle.dr_disruptor_senders.specs.declared.sending.Sent.{Sent}
 use Rattle.dr_disruptor_senders.specs.Serving.{AreKept, HaltsOnly, Sending, Served, Worker, is_told, received_by, sender_endings}
@@ -23,12 +23,6 @@ use Rattle.dr_disruptor_senders.specs.Serving.{AreKept, HaltsOnly, Sending, Serv
 -- what came of a run over a ring
 abbrev pub Ran : Type 0 → Type 0
 Ran A = threads.Ran A Settled
-
--- all handlers went through one list of events, which is a merge of these lists
-pub record AllWentThroughMerge {A : Type 0} (goes : Relation Event A) (lists : List (List Event)) (starts afters : List A) : Type 0 where
-  pub events : List Event
-  pub merge : IsMerge lists events
-  pub through : AllWentThrough goes events starts afters
 
 -- the first events of each script, as many as its worker sent
 abbrev pub sent_of : List (List Event) → List Sent → List (List Event)

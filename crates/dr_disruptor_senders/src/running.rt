@@ -1,12 +1,14 @@
 //! A whole run over a ring with several senders.
 
-ghost use Rattle.std.specs.Prelude.{◌≡◌, ◌≤◌, false, IfErr, IfOk, length, map};
+ghost use Rattle.std.specs.Prelude.{◌≡◌, ◌≤◌, false, IfErr, IfOk, List, length, map};
+ghost use Rattle.dr_seq.specs.declared.event.Event.{Event};
 ghost use Rattle.dr_meaning.specs.declared.mode.Mode.TheVariants.{Multi};
 ghost use Rattle.dr_meaning.specs.Calls.OpenFault.{has_bad_producers};
 ghost use Rattle.dr_senders.specs.Calls.Settling.{AreAllEnds};
 ghost use Rattle.dr_threads.specs.Endings.{AreFine};
+ghost use Rattle.dr_threads.specs.Handlers.{AllWentThroughMerge};
 ghost use Rattle.dr_threads.specs.Serving.{given_end};
-ghost use Rattle.dr_disruptor_senders.specs.Running.{AllWentThroughMerge, IsRan, JoinsAll};
+ghost use Rattle.dr_disruptor_senders.specs.Running.{IsRan, JoinsAll};
 ghost use Rattle.dr_disruptor_senders.specs.Serving.{refusal_of, shape_of};
 
 use crate::sending::Sent;
@@ -74,7 +76,7 @@ pub fn run_scripts<
     strategy: WaitStrategy,
 ) -> Result<Ran<H>, RunFault>
     // Where no worker has a fault, all handlers went through one list of events, a merge of the scripts.
-    ensures whole { IfOk result (λ ran. AreFine ran.endings.items → AllWentThroughMerge H.goes (map (λ s. s.items) scripts.items) handlers.items ran.handlers.items) }
+    ensures whole { IfOk result (λ ran. AreFine ran.endings.items → (events : List Event) × AllWentThroughMerge H.goes (map (λ s. s.items) scripts.items) handlers.items ran.handlers.items events) }
     // It went over a new ring of this graph and size, and so it is of what was sent of the scripts, whatever the faults.
     ensures run { IfOk result (IsRan H.goes (shape_of graph.now.upstreams size (length scripts.items)) (map (λ s. s.items) scripts.items) handlers.items) }
     ensures many { IfOk result (λ _. length handlers.items ≡ length graph.now.upstreams) }

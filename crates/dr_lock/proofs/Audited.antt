@@ -15,7 +15,7 @@ use Rattle.dr_meaning.proofs.Leasts.{least_is, IsLeast}
 use Rattle.dr_meaning.specs.Meaning.Tells.{Tells}
 use Rattle.dr_lock.specs.declared.sequences.Sequence.{Sequence}
 use Rattle.dr_lock.specs.Inside.Sequences.{Lists, nothing, known, known_in, published_of, sent_of}
-use Rattle.dr_lock.specs.Meaning.Merge.{IsMerge}
+use Rattle.dr_workers.specs.Meaning.Merge.{IsMerge}
 use Rattle.dr_lock.specs.Meaning.Audit.{is_owner, published_by_all, published_by, script_of}
 use Rattle.dr_lock.proofs.Reached.{IsHeld}
 use Rattle.dr_workers.proofs.Picks.{picks, picks_none, picks_first, picks_map, picks_both, picked_passes, none_passes, list_is, length-picked, picked_at, listed}

@@ -9,3 +9,4 @@ pub mod Replies
 pub mod Sent
 pub mod Locking
 pub mod Asking
+pub mod Asked

@@ -1,4 +1,3 @@
 -- What a history and an audit are: read this first.
 pub mod History
-pub mod Merge
 pub mod Audit

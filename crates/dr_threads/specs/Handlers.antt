@@ -6,6 +6,7 @@ use Rattle.dr_seq.specs.declared.event.Event.{Event}
 use Rattle.dr_meaning.specs.Calls.Calling.{OutletCall}
 use Rattle.dr_meaning.specs.Calls.Ends.{Received}
 use Rattle.dr_meaning.specs.Calls.Handling.{GoesThrough, Relation}
+use Rattle.dr_workers.specs.Meaning.Merge.{IsMerge}
 use Rattle.dr_workers.specs.Meaning.Work.{Dealt, FollowFrom, dealt_events, shown_of}
 use Rattle.dr_workers.specs.declared.ended.Ended.{Ended}
 use Rattle.dr_runs.specs.Gathering.{counts_at}
@@ -29,6 +30,11 @@ pub record WentThrough {A : Type 0} (goes : Relation Event A) (start after : A) 
 pub record AllWentThrough {A : Type 0} (goes : Relation Event A) (events : List Event) (starts afters : List A) : Type 0 where
   pub many : length afters ≡ length starts
   pub each : (h : ℕ) (start after : A) → get_elem? starts h ≡ some start → get_elem? afters h ≡ some after → WentThrough goes start after events
+
+-- they all went through one list of events, which is a merge of these lists
+pub record AllWentThroughMerge {A : Type 0} (goes : Relation Event A) (lists : List (List Event)) (starts afters : List A) (events : List Event) : Type 0 where
+  pub merge : IsMerge lists events
+  pub through : AllWentThrough goes events starts afters
 
 -- what came of handlers: each was served over the new end at its place, without a fault, and went through all of these events, and completed them
 pub record AreServed {O A K : Type 0} (kept : O → K) (does : O → OutletCall Event → O → Type 0) (received : O → Option (Received Event)) (told : O → Bool)

@@ -5,7 +5,7 @@ use Rattle.std.specs.Borrow.{Bor}
 use Rattle.dr_meaning.specs.Meaning.Transcript.{Transcript, next_of, owner_of, is_published, event_of, received_by, taken_by, retired_by}
 use Rattle.dr_lock.specs.declared.audit_fault.AuditFault.{AuditFault}
 use Rattle.dr_lock.specs.declared.audit_fault.AuditFault.TheVariants.{ScriptDiffers, NotDrained, NoMemory}
-use Rattle.dr_lock.specs.Meaning.Merge.{IsMerge}
+use Rattle.dr_workers.specs.Meaning.Merge.{IsMerge}
 
 -- What producers sent.
 

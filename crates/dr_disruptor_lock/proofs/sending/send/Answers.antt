@@ -4,7 +4,7 @@ use Rattle.dr_lock.specs.Calls.Asking.{InletAsks}
 use Rattle.dr_lock.specs.declared.locked.LockedInlet.{LockedInlet}
 use Rattle.dr_workers.specs.Calls.Serving.{Sends}
 use Rattle.dr_disruptor_lock.specs.declared.sending.Sent.{Sent}
-use Rattle.dr_disruptor_lock.proofs.Asking.{asked}
+use Rattle.dr_lock.proofs.Asked.{asked}
 use Rattle.dr_disruptor_lock.proofs.Sends.{sends}
 use Rattle.dr_disruptor_lock.proofs.sending.send.Goals as goal
 

@@ -3,7 +3,7 @@ use Rattle.dr_lock.specs.Calls.Asking.{OutletAsks}
 use Rattle.dr_lock.specs.declared.locked.LockedOutlet.{LockedOutlet}
 use Rattle.dr_workers.specs.Calls.Serving.{Serves}
 use Rattle.dr_disruptor_lock.specs.Watching.{Watches}
-use Rattle.dr_disruptor_lock.proofs.Asking.{asked}
+use Rattle.dr_lock.proofs.Asked.{asked}
 use Rattle.dr_disruptor_lock.proofs.serving.serve.Goals as goal
 
 pub returns : goal.returns

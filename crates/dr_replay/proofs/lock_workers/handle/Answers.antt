@@ -9,7 +9,8 @@ use Rattle.dr_replay.specs.Calls.Listing.{Listed, Lists}
 use Rattle.dr_replay.specs.Calls.LockWorkers.{GivesList, list_of}
 use Rattle.dr_workers.specs.declared.fault.WorkFault.{WorkFault}
 use Rattle.dr_seq.specs.declared.event.Event.{Event}
-use Rattle.dr_replay.proofs.Asking.{asked, stopped_by}
+use Rattle.dr_lock.proofs.Asked.{asked}
+use Rattle.dr_replay.proofs.Asking.{stopped_by}
 use Rattle.dr_replay.proofs.lock_workers.handle.Goals.{in-Err-default, in-Ok-Some+in-Ok-this-2, in-Ok-Some+in-Err-1, in-Ok-None}
 use Rattle.dr_replay.proofs.lock_workers.handle.Goals as goal
 

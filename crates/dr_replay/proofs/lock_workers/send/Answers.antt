@@ -5,7 +5,7 @@ use Rattle.dr_lock.specs.Calls.Lock.{no_calls}
 use Rattle.dr_workers.specs.Calls.Serving.{Sends}
 use Rattle.dr_lock.specs.declared.locked.LockedInlet.{LockedInlet}
 use Rattle.dr_replay.specs.Calls.LockWorkers.{HasSent}
-use Rattle.dr_replay.proofs.Asking.{asked}
+use Rattle.dr_lock.proofs.Asked.{asked}
 use Rattle.dr_replay.proofs.lock_workers.send.Goals as goal
 
 pub returns : goal.returns

@@ -1,4 +1,4 @@
--- What calls of the ends of a lock tell of the ends through which they went.
+-- What calls of an end that goes through another end tell of that one.
 use Rattle.std.proofs.Common.{◌≡◌, List, [], ◌∷◌, ap, sym, subst}
 use Rattle.dr_meaning.specs.Calls.Calling.{CallsLead, SomeCalls}
 
