@@ -36,6 +36,7 @@ pub mod Rowing
 pub mod Tokens
 pub mod Collecting
 pub mod Claims
+pub mod Told
 pub mod Noting
 pub mod Publishing
 pub mod Writing

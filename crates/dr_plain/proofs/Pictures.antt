@@ -291,7 +291,7 @@ module _ {T : Type 0} where
   halt_on : (k : Shape) (w : World T) → KeepsRule k w → (word_at (set w.words halt_word 1) halt_word == 1) ≡ true
   halt_on k w K = let wide = K.wide in eq-eqb _ _ (get_or-set_same w.words halt_word 1 0 (omega arith))
 
-  is_receiver : (k : Shape) (w : World T) (h : ℕ) (r : ReceiverRecord T) → get_elem? w.receivers h ≡ some r → receiver_at k w h ≡ r
+  pub is_receiver : (k : Shape) (w : World T) (h : ℕ) (r : ReceiverRecord T) → get_elem? w.receivers h ≡ some r → receiver_at k w h ≡ r
   is_receiver k w h r at = value_at w.receivers h r (fresh_receiver k h) at
 
   lead_step : (k : Shape) (s : Step T) (w u : World T) (rest : Transcript T) (end : State T) → Happens k s w u → KeepsRule k w

@@ -21,7 +21,7 @@ ghost use Rattle.dr_runs.specs.Words.{halt_word};
 ghost use Rattle.dr_plain.specs.Meaning.Records.{claimed};
 ghost use Rattle.dr_plain.specs.Meaning.Rule.{World, KeepsRule};
 ghost use Rattle.dr_plain.specs.declared.record.Step.{Step};
-ghost use Rattle.dr_plain.specs.Meaning.Moments.{Runs, new_world, picture_of};
+ghost use Rattle.dr_plain.specs.Meaning.Moments.{Runs, new_world, picture_of, WereTold};
 ghost use Rattle.dr_plain.specs.Meaning.Replies.{picture_with, open_writes, OffersWhatWasThere};
 ghost use Rattle.dr_plain.specs.Calls.Replies.{RepliesAsAnswered};
 ghost use Rattle.dr_plain.specs.Calls.Handing.{HandsWhatWasThere};
@@ -92,7 +92,8 @@ impl<T> Lends<T> for Brand {
 
 /// Whatever steps fall in whatever order: between any two of them the rule holds, the entries of
 /// their events lead the machine to the ring's picture, in which nobody is stuck, and the
-/// transcript has the five laws. Whatever the sender wrote besides and did not publish, those writes
+/// transcript has the five laws. Who was told that the ring drained, was told so by a poll of the
+/// transcript. Whatever the sender wrote besides and did not publish, those writes
 /// lead the machine on to the picture with them. What an end answers by what it knows, and by what
 /// the deciding look finds, is what the machine then replies. A receiver that looked at all that its
 /// barrier goes by is offered at least what was there before, and a poll hands over at least what was
@@ -105,6 +106,7 @@ pub fn moments<T>()
     ensures writes { (k : Shape) (steps : List (Step T)) (entries : Transcript T) (w : World T) → IsGraph k.upstreams → 0 < k.size → Runs k steps entries (new_world k) w → (wrote : List (Option T)) → length wrote ≡ w.sender.pending → LeadsTo (ring_setup k) (entries ++ open_writes (length w.sender.published) wrote) (picture_with k w wrote) }
     ensures laws { (k : Shape) (steps : List (Step T)) (entries : Transcript T) (w : World T) → IsGraph k.upstreams → 0 < k.size → Runs k steps entries (new_world k) w → Laws (ring_setup k) entries }
     ensures progress { (k : Shape) (steps : List (Step T)) (entries : Transcript T) (w : World T) → IsGraph k.upstreams → 0 < k.size → Runs k steps entries (new_world k) w → NobodyIsStuck (ring_setup k) (picture_of k w) }
+    ensures told { (k : Shape) (steps : List (Step T)) (entries : Transcript T) (w : World T) → IsGraph k.upstreams → 0 < k.size → Runs k steps entries (new_world k) w → WereTold w entries }
     ensures replies { (k : Shape) (steps : List (Step T)) (entries : Transcript T) (w : World T) → IsGraph k.upstreams → 0 < k.size → Runs k steps entries (new_world k) w → RepliesAsAnswered k w }
     ensures offers { (k : Shape) (steps more : List (Step T)) (entries rest : Transcript T) (w u : World T) → IsGraph k.upstreams → 0 < k.size → Runs k steps entries (new_world k) w → Runs k more rest w u → OffersWhatWasThere k w u }
     ensures hands { (k : Shape) (steps more : List (Step T)) (entries rest : Transcript T) (w u : World T) → IsGraph k.upstreams → 0 < k.size → Runs k steps entries (new_world k) w → Runs k more rest w u → HandsWhatWasThere k w u }

@@ -15,3 +15,4 @@ pub mod Completions
 pub mod Replies
 pub mod Scans
 pub mod Answering
+pub mod Told

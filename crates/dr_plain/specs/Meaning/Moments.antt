@@ -1,9 +1,11 @@
 -- What each list of steps comes to, from a ring's opening.
-use Rattle.std.specs.Prelude.{ℕ, zero, suc, ◌+◌, ◌-◌, ◌==◌, ◌&&◌, not, nat_lt, if◌then◌else◌, false, List, [], ◌∷◌, ◌++◌, map, length, replicate}
-use Rattle.std.specs.Prelude.{slice_index, slice_index_or, Some, None}
+use Rattle.std.specs.Prelude.{◌≡◌, ℕ, zero, suc, ◌+◌, ◌-◌, ◌==◌, ◌&&◌, not, nat_lt, if◌then◌else◌, false, List, [], ◌∷◌, ◌++◌, map, length, replicate}
+use Rattle.std.specs.Prelude.{slice_index, slice_index_or, Some, None, true, Contains}
+use mathlib.Core.Option.{some}
+use lib.ListN.{get_elem?}
 use Rattle.std.specs.List.{range_with_len}
 use Rattle.dr_meaning.specs.declared.command.Command.TheVariants.{Claim, Write, Publish, Poll, Complete, Halt}
-use Rattle.dr_meaning.specs.declared.command.Reply.TheVariants.{Claimed, Written, Published, Batch, Drained, Completed, Halting}
+use Rattle.dr_meaning.specs.declared.command.Reply.TheVariants.{Claimed, Written, Published, Batch, Completed, Halting}
 use Rattle.dr_meaning.specs.Meaning.Machine as machine
 use Rattle.dr_meaning.specs.Meaning.Machine.{State, available}
 use Rattle.dr_meaning.specs.Meaning.Transcript.{Transcript}
@@ -21,7 +23,7 @@ use Rattle.dr_plain.specs.declared.record.Step.TheVariants.{SenderLooksAtCount, 
 use Rattle.dr_plain.specs.declared.record.Step.TheVariants.{ReceiverLooksAtClosed, ReceiverLooksAtCursor, ReceiverLooksAtCount, ReceiverCompletes}
 use Rattle.dr_plain.specs.declared.record.Step.TheVariants.{HalterHalts}
 use Rattle.dr_plain.specs.Meaning.Steps.{Happens, next_of}
-use Rattle.dr_runs.specs.Entries.{entry}
+use Rattle.dr_runs.specs.Entries.{entry, told_drained}
 
 module _ {T : Type 0} where
   -- the ends of a new ring
@@ -90,7 +92,7 @@ module _ {T : Type 0} where
   entries_of k SenderCloses w = []
   entries_of k (ReceiverLooksAtClosed h) w = []
   entries_of k (ReceiverLooksAtCursor h room) w =
-      if tells_drained (receiver_at k w h) (slice_index w.words cursor_word) then entry (Poll h 1) Drained [] else batch_at k w h cursor_word room
+      if tells_drained (receiver_at k w h) (slice_index w.words cursor_word) then told_drained h ∷ [] else batch_at k w h cursor_word room
   entries_of k (ReceiverLooksAtCount h u room) w = batch_at k w h (count_word u) room
   entries_of k (ReceiverCompletes h n) w = entry (Complete h n) Completed []
   entries_of k HalterHalts w = entry Halt Halting []
@@ -98,3 +100,7 @@ module _ {T : Type 0} where
   -- a list of steps, with the entries of their events
   abbrev pub Runs : Shape → List (Step T) → Transcript T → World T → World T → Type 0
   Runs k steps entries w w' = runs.Runs (Happens k) (entries_of k) steps entries w w'
+
+  -- who was told that the ring drained, was told so by a poll of the run
+  abbrev pub WereTold : World T → Transcript T → Type 0
+  WereTold w entries = (h : ℕ) (r : ReceiverRecord T) → get_elem? w.receivers h ≡ some r → r.told ≡ true → Contains entries (told_drained h)
