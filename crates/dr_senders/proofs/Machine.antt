@@ -9,9 +9,9 @@ use mathlib.Core.Option.{some}
 use lib.ListN.{get_elem?}
 use Rattle.dr_seq.specs.declared.event.Event.{Event}
 use Rattle.dr_meaning.specs.declared.command.Command.TheVariants.{Claim, Write, Publish, Poll, Complete}
-use Rattle.dr_meaning.specs.declared.command.Reply.TheVariants.{Claimed, Written, Published, Batch, Drained, Gating, Idle, Completed}
+use Rattle.dr_meaning.specs.declared.command.Reply.TheVariants.{Claimed, Written, Published, Batch, Drained, Completed}
 use Rattle.dr_graph.specs.Meaning.Graph.{finals}
-use Rattle.dr_meaning.specs.Meaning.Machine.{Setup, State, opening, handlers, front, next, is_single, available, least_completed, publish_faults, refusals, accepted, step}
+use Rattle.dr_meaning.specs.Meaning.Machine.{Setup, State, opening, handlers, front, next, available, least_completed, publish_faults, refusals, accepted, step}
 use Rattle.dr_meaning.proofs.Leasts.{IsLeast, least_is}
 use Rattle.dr_meaning.proofs.Steps.{NoneHold, NoneHold-join, unless-none}
 use Rattle.dr_runs.proofs.Elements.{at_below, value_at}
@@ -20,10 +20,6 @@ use Rattle.dr_senders.specs.declared.record.Stage.{Stage}
 use Rattle.dr_senders.specs.Meaning.Records.{fresh_stage, written, published}
 use Rattle.dr_senders.specs.Meaning.Rule.{IsOut}
 use Rattle.dr_senders.specs.Meaning.Moments.{stage_at}
-
-and_false : (b : Bool) → (b && false) ≡ false
-and_false true = refl
-and_false false = refl
 
 -- a state by its stages
 abbrev pub shown : Shape → List Stage → List ℕ → List ℕ → Bool → State Event
@@ -279,26 +275,6 @@ front_beyond k stages t d b n lt all =
           let x = all (front m) less in let off : m.published (front m) ≡ false = l.here (omega arith) in
           let on : m.published (front m) ≡ true = ap (λ (y : Stage). y.published) (at_stage stages (front m) x.0 x.1) ∙ x.2 in cc)
     ]
-
-pub idle_step : (c : Setup) (m : State Event) (h : ℕ) → h < handlers c → m.retired h ≡ false → is_single c.mode ≡ false → m.halted ≡ false
-    → available c m h ≤ next m → get_or m.taken h 0 ≡ next m
-    → step c m (Poll h 1) ≡ record { reply = Idle; values = []; state = m }
-idle_step c m h inside here several going none all =
-    unless-none (refusals c m (Poll h 1)) m (accepted c m (Poll h 1)) (lt-leb (handlers c) h inside, (here, (refl, tt)))
-    ∙ rw (le-ltb (get_or m.taken h 0) (available c m h) (omega arith), going, several, le-ltb (get_or m.taken h 0) (next m) (omega arith)) refl
-
-pub gating_step : (c : Setup) (m : State Event) (h : ℕ) → h < handlers c → m.retired h ≡ false → is_single c.mode ≡ false → available c m h ≤ get_or m.taken h 0
-    → get_or m.taken h 0 < next m
-    → step c m (Poll h 1) ≡ record { reply = Gating; values = []; state = m }
-gating_step c m h inside here several none more =
-    unless-none (refusals c m (Poll h 1)) m (accepted c m (Poll h 1)) (lt-leb (handlers c) h inside, (here, (refl, tt)))
-    ∙ rw (
-      le-ltb (get_or m.taken h 0) (available c m h) none,
-      ne_eqb (get_or m.taken h 0) (next m) (λ (e : get_or m.taken h 0 ≡ next m). omega arith),
-      and_false m.halted,
-      several,
-      lt-ltb (get_or m.taken h 0) (next m) more,
-    ) refl
 
 -- the front is no further than what is not published
 pub front_at_most : (k : Shape) (stages : List Stage) (t d : List ℕ) (b : Bool) (n : ℕ) → (stage_at stages n).published ≡ false

@@ -1,9 +1,8 @@
 -- Each list of steps keeps the rule, and the entries of its events lead the machine to the ring's picture.
-use Rattle.dr_runs.specs.Looks.{last_look}
-use Rattle.std.proofs.Common.{◌≡◌, ◌≢◌, ℕ, zero, suc, ◌+◌, ◌-◌, ◌<◌, ◌≤◌, inl, inr, Bool, true, false, ◌==◌, if◌then◌else◌, List, [], ◌∷◌, ◌++◌, length, get_or, set, map, replicate, Option, Some, sym, refl, ap, ◌∙◌, subst, arith, get_or-set_same, get_or-set_other, ◌&&◌}
-use Rattle.std.specs.Prelude.{Contains, not, nat_le, nat_lt}
+use Rattle.std.proofs.Common.{◌≡◌, ◌≢◌, ℕ, zero, suc, ◌+◌, ◌-◌, ◌<◌, ◌≤◌, inl, inr, Bool, true, false, ◌==◌, if◌then◌else◌, List, [], ◌∷◌, ◌++◌, length, get_or, set, map, replicate, Option, Some, sym, refl, ap, ◌∙◌, subst, arith, get_or-set_same, get_or-set_other}
+use Rattle.std.specs.Prelude.{Contains, nat_le}
 use Rattle.std.specs.List.{range_with_len}
-use Rattle.std.proofs.lemmas.Bool.{cases_eq, cases_Bool, eq-eqb, ne_eqb, and_parts, ltb-true, leb-true, eqb-true, eqb-false, cases_lt}
+use Rattle.std.proofs.lemmas.Bool.{cases_eq, cases_Bool, eq-eqb, ne_eqb, leb-true, cases_lt}
 use Rattle.std.proofs.lemmas.List.{length-map, length_push, get_or-map, get_or_past}
 use Rattle.std.proofs.lemmas.List.FromFn.{get_or-map-range_with_len}
 use lib.Seq.{map-set, map-set_same}
@@ -14,11 +13,11 @@ use Rattle.dr_seq.specs.Rounds.{entry_of}
 use Rattle.dr_meaning.specs.declared.command.Command.{Command}
 use Rattle.dr_meaning.specs.declared.command.Command.TheVariants.{Claim, Write, Publish, Poll, Complete, Halt}
 use Rattle.dr_meaning.specs.declared.command.Reply.{Reply}
-use Rattle.dr_meaning.specs.declared.command.Reply.TheVariants.{Claimed, Written, Published, Batch, Drained, Completed, Halting, Idle, Gating}
+use Rattle.dr_meaning.specs.declared.command.Reply.TheVariants.{Claimed, Written, Published, Batch, Drained, Completed, Halting}
 use Rattle.dr_graph.specs.Meaning.Graph.{nobody, upstreams_of, finals, IsGated, least_of}
 use Rattle.dr_meaning.specs.Meaning.Machine.{Setup, State, Outcome, available, least_completed}
 use Rattle.dr_meaning.specs.Meaning.Transcript.{Transcript, LeadsFrom}
-use Rattle.dr_runs.specs.Entries.{entry, poll_of}
+use Rattle.dr_runs.specs.Entries.{entry, told_drained, poll_of}
 use Rattle.dr_runs.proofs.Elements.{at_below, value_at, there}
 use Rattle.dr_runs.proofs.Offers.{final_inside, counts_below, offered_at_most, offered_more}
 use Rattle.dr_runs.proofs.Lists.{map_same, map_but}
@@ -29,17 +28,17 @@ use Rattle.dr_senders.specs.declared.record.SenderRecord.{SenderRecord}
 use Rattle.dr_senders.specs.declared.record.ReceiverRecord.{ReceiverRecord}
 use Rattle.dr_senders.specs.declared.record.Step.{Step}
 use Rattle.dr_senders.specs.declared.record.Step.TheVariants.{SenderLooksAtClaims, SenderLooksAtCount, SenderClaims, SenderStoresFirst, SenderStoresSecond, SenderPublishes, SenderHalts, ReceiverLooksAtClaims, ReceiverLooksAtMark, ReceiverLooksAtCount, ReceiverLoadsFirst, ReceiverLoadsSecond, ReceiverCompletes, HalterHalts, SenderLooksAtMark}
-use Rattle.dr_senders.specs.Meaning.Records.{fresh_stage, half_written, written, published, sender_looked, receiver_looked, claims_looked, mark_looked, half_taken, took, completed_to, SeesRoom, IsBelowBarrier}
+use Rattle.dr_senders.specs.Meaning.Records.{fresh_stage, half_written, written, published, sender_looked, receiver_looked, tells_drained, claims_looked, mark_looked, half_taken, took, completed_to, SeesRoom, IsBelowBarrier}
 use Rattle.dr_senders.specs.Meaning.Rule.{World, IsOutWith, KeepsRule}
 use Rattle.dr_senders.specs.Meaning.Steps.{Happens, sender_knows, sender_claims, sender_brings, receiver_knows, halted_words}
-use Rattle.dr_senders.specs.Meaning.Moments.{fresh_receiver, taken_of, stage_at, picture_of, write_of, receiver_at, entries_of, Runs, told_by_claims, told_gated, is_unmarked}
+use Rattle.dr_senders.specs.Meaning.Moments.{fresh_receiver, taken_of, stage_at, picture_of, write_of, receiver_at, entries_of, Runs}
 use Rattle.dr_senders.proofs.Places.{word_at, claimed_low, halted_low, is_halted_from}
 use Rattle.dr_runs.proofs.Looks.{last_look_le}
 use Rattle.dr_senders.proofs.Facts.{receiver_of_handler, handler_inside, orderly, upstream_inside, early, taken_claimed, owned, above}
 use Rattle.dr_senders.proofs.KeepsClaims.{keeps_sender_looks, keeps_mark_found, keeps_claims, keeps_sender_halts, keeps_halter_halts}
 use Rattle.dr_senders.proofs.KeepsWrites.{keeps_first, keeps_second, keeps_publishes}
-use Rattle.dr_senders.proofs.KeepsReceiving.{keeps_receiver_looks, keeps_claims_look, keeps_mark_look, keeps_half_taken, taken_event, keeps_takes, keeps_completes}
-use Rattle.dr_senders.proofs.Machine.{shown, at_stage, same_owners, same_part, claim_step, write_step, publish_step, take_step, drained_step, complete_step, front_within, front_beyond, idle_step, gating_step, front_at_most}
+use Rattle.dr_senders.proofs.KeepsReceiving.{keeps_receiver_looks, tells_truth, keeps_claims_look, keeps_mark_look, keeps_half_taken, taken_event, keeps_takes, keeps_completes}
+use Rattle.dr_senders.proofs.Machine.{shown, at_stage, same_owners, same_part, claim_step, write_step, publish_step, take_step, drained_step, complete_step, front_within, front_beyond, front_at_most}
 use Rattle.dr_meaning.specs.Meaning.Machine as machine
 
 keeps_exchange : (k : Shape) (w : World) (p c n : ℕ) (r : SenderRecord) → get_elem? w.senders p ≡ some r → 0 < n → SeesRoom k r c n → KeepsRule k w
@@ -260,48 +259,23 @@ offer_claimed k w h inside K =
     (λ u has. (let i = upstream_inside k K.shape.graph h u inside has in let c = count_at k w.words u i in let o = receiver_of_handler k w K u i in
     let a = o.2.count in let b = o.2.completed in let e = taken_claimed k w u o.0 o.1 K in omega arith))
 
--- a look at the claim word that decides a poll
+abbrev drained_of : ℕ → Bool → Transcript Event
+drained_of h b = if b then told_drained h ∷ [] else []
+
+-- a look at the claim word that may tell a poll that the ring drained
 lead_claims_look : (k : Shape) (w : World) (h : ℕ) (r : ReceiverRecord) → get_elem? w.receivers h ≡ some r → KeepsRule k w
-    → Leads k (told_by_claims h r (word_at w.words claim_word)) (picture_of k w) (picture_of k w)
+    → Leads k (drained_of h (tells_drained r (word_at w.words claim_word))) (picture_of k w) (picture_of k w)
 lead_claims_look k w h r at K =
     let n = word_at w.words claim_word in let m = picture_of k w in let inside = handler_inside k w h r at K in
-    let P : Bool → Type 0 = λ b. Leads k (if b then entry (Poll h 1) (if is_halted n then Drained else Idle) [] else []) m m in
-    let Q : Bool → Type 0 = λ b. Leads k (entry (Poll h 1) (if b then Drained else Idle) []) m m in
+    let P : Bool → Type 0 = λ b. Leads k (drained_of h b) m m in
     let count : machine.next m ≡ length w.stages = length-map w.stages (λ t. t.owner) in let offer = offer_claimed k w h inside K in
-    let is = taken_at w h r at in
-    elim (cases_eq (claimed_in n) (length r.received)) [
-      | inl e ↦ subst P (sym (eq-eqb (claimed_in n) (length r.received) e)) (
-          let all : get_or m.taken h 0 ≡ machine.next m = is ∙ sym e ∙ K.claim ∙ sym count in
-          elim (cases_Bool (is_halted n)) [
-            | inl on ↦ subst Q (sym on) (leads_one k (Poll h 1) Drained [] m m (drained_step (ring_setup k) m h inside refl on (omega arith) all))
-            | inr off ↦ subst Q (sym off) (leads_one k (Poll h 1) Idle [] m m (idle_step (ring_setup k) m h inside refl refl off (omega arith) all))
-          ])
-      | inr ne ↦ subst P (sym (ne_eqb (claimed_in n) (length r.received) ne)) refl
-    ]
-
--- a look that finds that the barrier offers nothing
-lead_gated : (k : Shape) (w : World) (h : ℕ) (r : ReceiverRecord) (nothing : Bool) → get_elem? w.receivers h ≡ some r
-    → (nothing ≡ true → available (ring_setup k) (picture_of k w) h ≤ length r.received) → KeepsRule k w
-    → Leads k (told_gated h r nothing) (picture_of k w) (picture_of k w)
-lead_gated k w h r nothing at none K =
-    let m = picture_of k w in let more = nat_lt (length r.received) (claimed_in (last_look 0 r.looks claim_word)) in
-    let P : Bool → Type 0 = λ b. Leads k (if b then entry (Poll h 1) Gating [] else []) m m in
-    elim (cases_Bool (nothing && more)) [
-      | inl both ↦ subst P (sym both) (
-          let parts : (nothing ≡ true) × (more ≡ true) = and_parts _ _ both in
-          let less = ltb-true (length r.received) (claimed_in (last_look 0 r.looks claim_word)) parts.1 in let seen = (K.received h r at).claims in
-          let count : machine.next m ≡ length w.stages = length-map w.stages (λ t. t.owner) in let is = taken_at w h r at in let low = none parts.0 in
-          leads_one k (Poll h 1) Gating [] m m (gating_step (ring_setup k) m h (handler_inside k w h r at K) refl refl (omega arith) (omega arith)))
+    elim (cases_Bool (tells_drained r n)) [
+      | inl told ↦ subst P (sym told) (
+          let truth = tells_truth k w r told K in
+          let all : get_or m.taken h 0 ≡ machine.next m = taken_at w h r at ∙ sym truth.1 ∙ sym count in
+          leads_one k (Poll h 1) Drained [] m m (drained_step (ring_setup k) m h inside refl truth.0 (omega arith) all))
       | inr quiet ↦ subst P (sym quiet) refl
     ]
-
-no_length : (xs : List ℕ) → length xs ≡ 0 → xs ≡ []
-no_length [] e = refl
-no_length (x ∷ xs) e = absurd (omega arith)
-
-not_true : (b : Bool) → not b ≡ true → b ≡ false
-not_true true e = absurd (cc)
-not_true false e = refl
 
 -- what is not marked is not published
 pub unpublished_offers : (k : Shape) (w : World) (h : ℕ) (r : ReceiverRecord) → get_elem? w.receivers h ≡ some r → KeepsRule k w → upstreams_of k.upstreams h ≡ []
@@ -319,16 +293,6 @@ unpublished_offers k w h r at K none miss =
       | inr still ↦ still
     ] in
     subst (λ (ups : List ℕ). machine.offered m ups ≤ n) (sym none) (front_at_most k w.stages (takens w) (counts_of k w.words) (halted w.words) n off)
-
-unmarked_offers : (k : Shape) (w : World) (h : ℕ) (r : ReceiverRecord) → get_elem? w.receivers h ≡ some r → KeepsRule k w
-    → is_unmarked k h r (word_at w.words (mark_word k r.seen)) ≡ true → available (ring_setup k) (picture_of k w) h ≤ length r.received
-unmarked_offers k w h r at K told =
-    let n = length r.received in let found = word_at w.words (mark_word k r.seen) in
-    let a : ((length (upstreams_of k.upstreams h) == 0) ≡ true) × (((r.seen == n) && not (found == entry_of k.size r.seen)) ≡ true) = and_parts _ _ told in
-    let b : ((r.seen == n) ≡ true) × (not (found == entry_of k.size r.seen) ≡ true) = and_parts _ _ a.1 in
-    let none : upstreams_of k.upstreams h ≡ [] = no_length (upstreams_of k.upstreams h) (eqb-true _ _ a.0) in
-    let next : r.seen ≡ n = eqb-true _ _ b.0 in let miss = eqb-false found (entry_of k.size r.seen) (not_true _ b.1) in
-    unpublished_offers k w h r at K none (subst (λ (s : ℕ). word_at w.words (mark_word k s) ≢ entry_of k.size s) next miss)
 
 -- the least of some counts is at most each
 least_low : (f : ℕ → ℕ) (us : List ℕ) (i u : ℕ) → i < length us → get_or us i u ≡ u → least_of (map f us) ≤ f u
@@ -425,22 +389,11 @@ lead_step k (SenderLooksAtMark p s) w u H K = ap (picture_of k) (sym H.2)
 lead_step k (SenderHalts p) w u H K = subst (λ (x : World). Leads k (entry Halt Halting []) (picture_of k w) (picture_of k x)) (sym H.2) (lead_halt k w K)
 lead_step k (ReceiverLooksAtClaims h) w u H K =
     let n = word_at w.words claim_word in
-    subst (λ (r : ReceiverRecord). Leads k (told_by_claims h r n) (picture_of k w) (picture_of k u)) (sym (is_receiver w h H.0 H.1))
-    (subst (λ (x : State Event). Leads k (told_by_claims h H.0 n) (picture_of k w) x) (same_picture k w h H.0 (claims_looked H.0 n) H.1 refl
+    subst (λ (r : ReceiverRecord). Leads k (drained_of h (tells_drained r n)) (picture_of k w) (picture_of k u)) (sym (is_receiver w h H.0 H.1))
+    (subst (λ (x : State Event). Leads k (drained_of h (tells_drained H.0 n)) (picture_of k w) x) (same_picture k w h H.0 (claims_looked H.0 n) H.1 refl
     ∙ ap (picture_of k) (sym H.2)) (lead_claims_look k w h H.0 H.1 K))
-lead_step k (ReceiverLooksAtMark h) w u H K =
-    let n = word_at w.words (mark_word k H.0.seen) in
-    subst (λ (r : ReceiverRecord). Leads k (told_gated h r (is_unmarked k h r (word_at w.words (mark_word k r.seen)))) (picture_of k w) (picture_of k u))
-    (sym (is_receiver w h H.0 H.1))
-    (subst (λ (x : State Event). Leads k (told_gated h H.0 (is_unmarked k h H.0 n)) (picture_of k w) x) (same_picture k w h H.0 (mark_looked k H.0 n) H.1 refl
-    ∙ ap (picture_of k) (sym H.2))
-    (lead_gated k w h H.0 (is_unmarked k h H.0 n) H.1 (unmarked_offers k w h H.0 H.1 K) K))
-lead_step k (ReceiverLooksAtCount h c) w u H K =
-    let n = word_at w.words (count_word c) in
-    subst (λ (r : ReceiverRecord). Leads k (told_gated h r (nat_le n (length r.received))) (picture_of k w) (picture_of k u)) (sym (is_receiver w h H.0 H.1))
-    (subst (λ (x : State Event). Leads k (told_gated h H.0 (nat_le n (length H.0.received))) (picture_of k w) x)
-    (same_picture k w h H.0 (receiver_looked H.0 (count_word c) n) H.1 refl ∙ ap (picture_of k) (sym H.2.1))
-    (lead_gated k w h H.0 (nat_le n (length H.0.received)) H.1 (behind_offers k w h c H.0 H.1 H.2.0 K) K))
+lead_step k (ReceiverLooksAtMark h) w u H K = same_picture k w h H.0 (mark_looked k H.0 (word_at w.words (mark_word k H.0.seen))) H.1 refl ∙ ap (picture_of k) (sym H.2)
+lead_step k (ReceiverLooksAtCount h c) w u H K = same_picture k w h H.0 (receiver_looked H.0 (count_word c) (word_at w.words (count_word c))) H.1 refl ∙ ap (picture_of k) (sym H.2.1)
 lead_step k (ReceiverLoadsFirst h) w u H K = same_picture k w h H.0 (half_taken H.0 (word_at w.words (payload_word k (length H.0.received) 0))) H.1 refl
     ∙ ap (picture_of k) (sym H.2.1)
 lead_step k (ReceiverLoadsSecond h) w u H K =

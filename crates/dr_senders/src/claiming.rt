@@ -17,7 +17,7 @@ pub enum ClaimFault {
     /// For a cause that every exchange has.
     #[error("{0}")]
     Refused(Refusal),
-    /// Another sender claimed meanwhile, and nothing is changed: the claim may be tried again.
+    /// Another sender claimed meanwhile, and no word is changed: the claim may be tried again.
     #[error("contended")]
     Contended,
 }

@@ -21,7 +21,7 @@ ghost use Rattle.dr_senders.specs.Meaning.Shape.{Shape, IsShape, ring_setup};
 ghost use Rattle.dr_senders.specs.Meaning.Words.{claim_word, mark_word, is_halted};
 ghost use Rattle.dr_senders.specs.Meaning.Rule.{World, KeepsRule};
 ghost use Rattle.dr_senders.specs.declared.record.Step.{Step};
-ghost use Rattle.dr_senders.specs.Meaning.Moments.{Runs, new_world, picture_of, IsShut, RefusesByMark};
+ghost use Rattle.dr_senders.specs.Meaning.Moments.{Runs, new_world, picture_of, IsShut, RefusesByMark, WereTold};
 ghost use Rattle.dr_senders.specs.Calls.Replies.{RepliesAsAnswered, HandsWhatWasThere, NothingFalls};
 
 use crate::plan::Plan;
@@ -85,9 +85,10 @@ impl Names for Brand {
 /// the machine then replies on the picture: a claim, a publication of a whole stretch and a poll
 /// that takes nothing by what the deciding look finds, a write of one's own sequence by what the
 /// sender knows and of another's by the mark in its slot, and a completion. A poll hands over at
-/// least what the picture had at any moment since its receiver last stepped. No handler's count
-/// falls, and no claim is taken back. Once a ring is halted, nothing more is claimed. It does
-/// nothing when it runs: the contract is the theorem.
+/// least what the picture had at any moment since its receiver last stepped. Whoever was told that
+/// the ring drained, was told so by a poll of the transcript. No handler's count falls, and no
+/// claim is taken back. Once a ring is halted, nothing more is claimed. It does nothing when it
+/// runs: the contract is the theorem.
 pub fn moments()
     ensures rule { (k : Shape) (steps : List Step) (entries : Transcript Event) (w : World) → IsShape k → Runs k steps entries (new_world k) w → KeepsRule k w }
     ensures leads { (k : Shape) (steps : List Step) (entries : Transcript Event) (w : World) → IsShape k → Runs k steps entries (new_world k) w → LeadsTo (ring_setup k) entries (picture_of k w) }
@@ -98,6 +99,7 @@ pub fn moments()
     ensures replies { (k : Shape) (steps : List Step) (entries : Transcript Event) (w : World) → IsShape k → Runs k steps entries (new_world k) w → RepliesAsAnswered k w }
     ensures hands { (k : Shape) (steps more : List Step) (entries rest : Transcript Event) (w u : World) → IsShape k → Runs k steps entries (new_world k) w → Runs k more rest w u → HandsWhatWasThere k w u }
     ensures rises { (k : Shape) (steps more : List Step) (entries rest : Transcript Event) (w u : World) → IsShape k → Runs k steps entries (new_world k) w → Runs k more rest w u → NothingFalls k w u }
+    ensures told { (k : Shape) (steps : List Step) (entries : Transcript Event) (w : World) → IsShape k → Runs k steps entries (new_world k) w → WereTold w entries }
     ensures halted { (k : Shape) (steps more : List Step) (entries rest : Transcript Event) (w u : World) → IsShape k → Runs k steps entries (new_world k) w → Runs k more rest w u → is_halted (slice_index w.words claim_word) ≡ true → length u.stages ≡ length w.stages }
 {
     every_transcript_is_lawful::<Event>();

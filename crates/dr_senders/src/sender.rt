@@ -46,7 +46,8 @@ impl Sender {
     ///
     /// The causes of a refusal in their order: `BadCount` (none, or more than the size), `Halted`,
     /// `Exhausted`, `NoRoom`, and at the exchange `Halted` once more, or `Contended`: another
-    /// sender claimed meanwhile. A refused claim may have looked, and changes nothing else.
+    /// sender claimed meanwhile. A refused claim may have looked, and changes nothing else. One that
+    /// is refused at the exchange counts that among the sender's stores, though it stored nothing.
     pub fn try_claim(&mut self, n: u64) -> Result<Claimed, ClaimFault>
         ensures { ClaimCall self.old n self.new result }
     {

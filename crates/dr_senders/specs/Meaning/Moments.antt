@@ -1,28 +1,26 @@
 -- What each list of steps comes to, from a ring's opening.
-use Rattle.std.specs.Prelude.{◌≡◌, ℕ, zero, suc, ◌+◌, ◌-◌, ◌==◌, if◌then◌else◌, true, false, List, [], ◌∷◌, map, length, replicate, slice_index, slice_index_or, Option, Some, None, Bool, nat_le, nat_lt, not, ◌&&◌}
+use Rattle.std.specs.Prelude.{◌≡◌, ℕ, zero, suc, ◌+◌, ◌-◌, ◌==◌, if◌then◌else◌, true, false, List, [], ◌∷◌, map, length, replicate, slice_index, slice_index_or, Option, Some, None, nat_le, Contains}
 use Rattle.std.specs.List.{range_with_len}
 use mathlib.Core.Option.{some}
 use lib.ListN.{get_elem?}
 use Rattle.dr_seq.specs.declared.event.Event.{Event}
-use Rattle.dr_meaning.specs.declared.command.Command.TheVariants.{Claim, Write, Publish, Poll, Complete, Halt}
+use Rattle.dr_meaning.specs.declared.command.Command.TheVariants.{Claim, Write, Publish, Complete, Halt}
 use Rattle.dr_meaning.specs.declared.refusal.Refusal.TheVariants.{NotClaimed, AlreadyPublished}
-use Rattle.dr_meaning.specs.declared.command.Reply.TheVariants.{Refused, Claimed, Written, Published, Drained, Completed, Halting, Idle, Gating}
+use Rattle.dr_meaning.specs.declared.command.Reply.TheVariants.{Refused, Claimed, Written, Published, Completed, Halting}
 use Rattle.dr_meaning.specs.Meaning.Machine as machine
 use Rattle.dr_meaning.specs.Meaning.Machine.{State, available}
 use Rattle.dr_meaning.specs.Meaning.Transcript.{Transcript}
 use Rattle.dr_runs.specs.Runs as runs
-use Rattle.dr_runs.specs.Entries.{entry, poll_of}
-use Rattle.dr_runs.specs.Looks.{last_look}
-use Rattle.dr_graph.specs.Meaning.Graph.{upstreams_of}
+use Rattle.dr_runs.specs.Entries.{entry, told_drained, poll_of}
 use Rattle.dr_seq.specs.Rounds.{entry_of}
 use Rattle.dr_senders.specs.Meaning.Shape.{Shape, handlers_of, ring_setup}
-use Rattle.dr_senders.specs.Meaning.Words.{claim_word, claimed_in, is_halted, count_word, mark_word, payload_word, words_of}
+use Rattle.dr_senders.specs.Meaning.Words.{claim_word, is_halted, count_word, mark_word, payload_word, words_of}
 use Rattle.dr_senders.specs.declared.record.Stage.{Stage}
 use Rattle.dr_senders.specs.declared.record.SenderRecord.{SenderRecord}
 use Rattle.dr_senders.specs.declared.record.ReceiverRecord.{ReceiverRecord}
 use Rattle.dr_senders.specs.declared.record.Step.{Step}
 use Rattle.dr_senders.specs.declared.record.Step.TheVariants.{SenderLooksAtClaims, SenderLooksAtCount, SenderClaims, SenderStoresFirst, SenderStoresSecond, SenderPublishes, SenderLooksAtMark, SenderHalts, ReceiverLooksAtClaims, ReceiverLooksAtMark, ReceiverLooksAtCount, ReceiverLoadsFirst, ReceiverLoadsSecond, ReceiverCompletes, HalterHalts}
-use Rattle.dr_senders.specs.Meaning.Records.{fresh_stage}
+use Rattle.dr_senders.specs.Meaning.Records.{fresh_stage, tells_drained}
 use Rattle.dr_senders.specs.Meaning.Rule.{World}
 use Rattle.dr_senders.specs.Meaning.Steps.{Happens}
 
@@ -78,19 +76,7 @@ write_of p s (Some first) second = entry (Write p s record { first = first; seco
 abbrev pub receiver_at : World → ℕ → ReceiverRecord
 receiver_at w h = slice_index_or w.receivers h (fresh_receiver 0)
 
--- a look at the claim word that finds no more claimed than was taken tells a poll that the ring drained, where it is halted, and else that the handler is idle
-abbrev pub told_by_claims : ℕ → ReceiverRecord → ℕ → Transcript Event
-told_by_claims h r found = if claimed_in found == length r.received then entry (Poll h 1) (if is_halted found then Drained else Idle) [] else []
-
--- a look that finds that the barrier offers nothing tells a poll that the handler is gated, where more is claimed than it took
-abbrev pub told_gated : ℕ → ReceiverRecord → Bool → Transcript Event
-told_gated h r nothing = if nothing && nat_lt (length r.received) (claimed_in (last_look 0 r.looks claim_word)) then entry (Poll h 1) Gating [] else []
-
--- the mark of the next event of a handler without upstreams is not there
-abbrev pub is_unmarked : Shape → ℕ → ReceiverRecord → ℕ → Bool
-is_unmarked k h r found = (length (upstreams_of k.upstreams h) == 0) && ((r.seen == length r.received) && not (found == entry_of k.size r.seen))
-
--- the events of a step: a claim is decided by the exchange, a write by the store of its second word, a publication by that of its mark, and an event is taken by the load of its second word; a poll that takes nothing is decided by the look that found nothing
+-- the events of a step: a claim is decided by the exchange, a write by the store of its second word, a publication by that of its mark, an event is taken by the load of its second word, `Drained` is told by a look at the claim word
 abbrev pub entries_of : Shape → Step → World → Transcript Event
 entries_of k (SenderLooksAtClaims p) w = []
 entries_of k (SenderLooksAtCount p f) w = []
@@ -100,13 +86,9 @@ entries_of k (SenderStoresSecond p s second) w = write_of p s (stage_at w.stages
 entries_of k (SenderPublishes p s) w = entry (Publish p s s) Published []
 entries_of k (SenderLooksAtMark p s) w = []
 entries_of k (SenderHalts p) w = entry Halt Halting []
-entries_of k (ReceiverLooksAtClaims h) w = told_by_claims h (receiver_at w h) (slice_index w.words claim_word)
-entries_of k (ReceiverLooksAtMark h) w =
-    let r : ReceiverRecord = receiver_at w h in
-    told_gated h r (is_unmarked k h r (slice_index w.words (mark_word k r.seen)))
-entries_of k (ReceiverLooksAtCount h u) w =
-    let r : ReceiverRecord = receiver_at w h in
-    told_gated h r (nat_le (slice_index w.words (count_word u)) (length r.received))
+entries_of k (ReceiverLooksAtClaims h) w = if tells_drained (receiver_at w h) (slice_index w.words claim_word) then told_drained h ∷ [] else []
+entries_of k (ReceiverLooksAtMark h) w = []
+entries_of k (ReceiverLooksAtCount h u) w = []
 entries_of k (ReceiverLoadsFirst h) w = []
 entries_of k (ReceiverLoadsSecond h) w =
     let r : ReceiverRecord = receiver_at w h in
@@ -117,6 +99,10 @@ entries_of k HalterHalts w = entry Halt Halting []
 -- a list of steps, with the entries of their events
 abbrev pub Runs : Shape → List Step → Transcript Event → World → World → Type 0
 Runs k steps entries w w' = runs.Runs (Happens k) (entries_of k) steps entries w w'
+
+-- who was told that the ring drained, was told so by a poll of the run
+abbrev pub WereTold : World → Transcript Event → Type 0
+WereTold w entries = (h : ℕ) (r : ReceiverRecord) → get_elem? w.receivers h ≡ some r → r.told ≡ true → Contains entries (told_drained h)
 
 -- a sequence that a sender may not write any more, or never might: it is not its own, or it is published
 abbrev pub IsShut : World → ℕ → ℕ → Type 0

@@ -32,6 +32,7 @@ use Rattle.dr_senders.proofs.Publications.{publish_replies}
 use Rattle.dr_senders.proofs.PollReplies.{poll_replies, complete_replies}
 use Rattle.dr_senders.proofs.Rising.{rose_runs}
 use Rattle.dr_senders.proofs.Later.{hands_what_was_there}
+use Rattle.dr_senders.proofs.Told.{look_tells, were_told}
 use Rattle.dr_senders.proofs.laws.moments.Goals as goal
 
 leads : (k : Shape) (steps : List Step) (entries : Transcript Event) (w : World) → IsShape k → Runs k steps entries (new_world k) w
@@ -82,6 +83,9 @@ pub returns-clause-rises : goal.returns-clause-rises
 returns-clause-rises c k steps more entries rest w u shape runs on =
     let rose = rose_runs k more rest w u on (keeps_runs k steps entries (new_world k) w runs (kept_new_world k shape)) in
     ((λ f inside. rose.words (count_word f) (omega arith)), rose.claimed)
+
+pub returns-clause-told : goal.returns-clause-told
+returns-clause-told c k steps entries w shape runs = were_told k look_tells steps entries w runs
 
 pub returns-clause-halted : goal.returns-clause-halted
 returns-clause-halted c k steps more entries rest w u shape runs on halted =
