@@ -1,15 +1,14 @@
 -- Who was told that the ring drained, was told so by a poll of the run.
 use Rattle.std.proofs.Common.{◌≡◌, ℕ, ◌⊎◌, inl, inr, Bool, true, false, ◌==◌, if◌then◌else◌, List, [], ◌∷◌, length, set, sym, refl, ap, ◌∙◌, subst, arith}
 use Rattle.std.specs.Prelude.{Contains}
-use Rattle.std.proofs.lemmas.Bool.{cases_eq, or_cases}
-use Rattle.std.proofs.lemmas.List.Elements.{Contains-append_left, Contains-append_right}
-use mathlib.Core.Option.{some, some-injective}
+use Rattle.std.proofs.lemmas.Bool.{or_cases}
+use mathlib.Core.Option.{some}
 use lib.ListN.{get_elem?}
-use Rattle.atomic_table.proofs.Lists.{set_here, set_else}
 use Rattle.dr_seq.specs.declared.event.Event.{Event}
 use Rattle.dr_meaning.specs.Meaning.Transcript.{Transcript}
 use Rattle.dr_runs.specs.Entries.{told_drained}
-use Rattle.dr_runs.proofs.Elements.{at_below, value_at}
+use Rattle.dr_runs.proofs.Elements.{value_at}
+use Rattle.dr_runs.proofs.Told.{WasTold, one_hears, told_runs}
 use Rattle.dr_senders.specs.Meaning.Shape.{Shape, handlers_of}
 use Rattle.dr_senders.specs.Meaning.Words.{claim_word, count_word, mark_word, payload_word}
 use Rattle.dr_senders.specs.declared.record.SenderRecord.{SenderRecord}
@@ -24,30 +23,20 @@ use Rattle.dr_senders.specs.Meaning.Moments.{fresh_receiver, new_world, receiver
 use Rattle.dr_senders.proofs.Places.{word_at}
 use Rattle.dr_senders.proofs.Beginning.{receiver_fresh}
 
--- a receiver was told before
-abbrev WasTold : World → ℕ → Type 0
-WasTold w h = (q : ReceiverRecord) × (get_elem? w.receivers h ≡ some q) × (q.told ≡ true)
-
 -- whoever is told in the end was told in the beginning, or is told so by these entries
 abbrev TellsBy : World → Transcript Event → World → Type 0
-TellsBy w es u = (h : ℕ) (r : ReceiverRecord) → get_elem? u.receivers h ≡ some r → r.told ≡ true → WasTold w h ⊎ Contains es (told_drained h)
+TellsBy w es u = (h : ℕ) → WasTold (λ (r : ReceiverRecord). r.told) u.receivers h → WasTold (λ (r : ReceiverRecord). r.told) w.receivers h ⊎ Contains es (told_drained h)
 
 stays : (w : World) (es : Transcript Event) → TellsBy w es w
-stays w es h r at told = inl (r, at, told)
+stays w es h now = inl now
 
 -- one receiver's record changes
 changes : (w u : World) (es : Transcript Event) (g : ℕ) (q q' : ReceiverRecord) → get_elem? w.receivers g ≡ some q → u.receivers ≡ set w.receivers g q'
     → (q'.told ≡ true → (q.told ≡ true) ⊎ Contains es (told_drained g)) → TellsBy w es u
-changes w u es g q q' at is tells h r there told =
-    let now : get_elem? (set w.receivers g q') h ≡ some r = subst (λ (rs : List ReceiverRecord). get_elem? rs h ≡ some r) is there in
-    elim (cases_eq h g) [
-      | inl same ↦ (let P : ℕ → Type 0 = λ j. get_elem? (set w.receivers g q') j ≡ some r in
-          let one : q' ≡ r = some-injective q' r (sym (set_here w.receivers g q' (at_below w.receivers g q at)) ∙ subst P same now) in
-          subst (λ (j : ℕ). WasTold w j ⊎ Contains es (told_drained j)) (sym same) (elim (tells (ap (λ (x : ReceiverRecord). x.told) one ∙ told)) [
-            | inl before ↦ inl (q, at, before)
-            | inr here ↦ inr here
-          ]))
-      | inr ne ↦ inl (r, sym (set_else w.receivers g h q' ne) ∙ now, told)
+changes w u es g q q' at is tells h now =
+    elim (one_hears (λ (r : ReceiverRecord). r.told) w.receivers u.receivers g h q q' (Contains es (told_drained g)) at is tells now) [
+      | inl before ↦ inl before
+      | inr told ↦ inr (subst (λ (j : ℕ). Contains es (told_drained j)) (sym told.0) told.1)
     ]
 
 claims : (w : World) (es : Transcript Event) (p c n : ℕ) (r : SenderRecord) (b : Bool)
@@ -97,20 +86,9 @@ told_step k tell (ReceiverCompletes g n) w u H =
     changes w u (entries_of k (ReceiverCompletes g n) w) g H.0 (completed_to H.0 n) H.1 (ap (λ (x : World). x.receivers) H.2.2) (λ told. inl told)
 told_step k tell HalterHalts w u H = let es = entries_of k HalterHalts w in subst (TellsBy w es) (sym H) (stays w es)
 
-told_runs : (k : Shape) → LooksTell k → (steps : List Step) (es : Transcript Event) (w u : World) → Runs k steps es w u → TellsBy w es u
-told_runs k tell [] es w u R h r at told = subst (TellsBy w es) R.1 (stays w es) h r at told
-told_runs k tell (s ∷ steps) es w u R h r at told =
-    let now = entries_of k s w in
-    subst (λ (xs : Transcript Event). WasTold w h ⊎ Contains xs (told_drained h)) (sym R.3) (elim (told_runs k tell steps R.1 R.0 u R.4 h r at told) [
-      | inl before ↦ elim (told_step k tell s w R.0 R.2 h before.0 before.1 before.2) [
-        | inl first ↦ inl first
-        | inr here ↦ inr (Contains-append_left now R.1 (told_drained h) here)
-      ]
-      | inr later ↦ inr (Contains-append_right now R.1 (told_drained h) later)
-    ])
-
 pub were_told : (k : Shape) → LooksTell k → (steps : List Step) (es : Transcript Event) (w : World) → Runs k steps es (new_world k) w → WereTold w es
-were_told k tell steps es w R h r at told = elim (told_runs k tell steps es (new_world k) w R h r at told) [
-  | inl first ↦ absurd (let fresh = ap (λ (q : ReceiverRecord). q.told) (receiver_fresh 0 (handlers_of k) h first.0 first.1) in let yes = first.2 in cc)
-  | inr here ↦ here
-]
+were_told k tell steps es w R h r at told =
+    elim (told_runs (Happens k) (entries_of k) (λ (x : World). x.receivers) (λ (q : ReceiverRecord). q.told) (λ s v u j H. told_step k tell s v u H j) steps es (new_world k) w h R (r, at, told)) [
+      | inl first ↦ absurd (let fresh = ap (λ (q : ReceiverRecord). q.told) (receiver_fresh 0 (handlers_of k) h first.0 first.1) in let yes = first.2 in cc)
+      | inr here ↦ here
+    ]
