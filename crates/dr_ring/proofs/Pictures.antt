@@ -34,7 +34,7 @@ use Rattle.dr_ring.specs.declared.record.Step.TheVariants.{SenderHalts, SenderCl
 use Rattle.dr_ring.specs.declared.record.Step.TheVariants.{ReceiverLoadsFirst, ReceiverLoadsSecond, ReceiverCompletes, HalterHalts}
 use Rattle.dr_ring.specs.Meaning.Steps.{Happens, sender_knows, sender_stores, receiver_knows, receiver_stores}
 use Rattle.dr_ring.specs.Meaning.Moments.{fresh_receiver, taken_of, picture_of, write_of, receiver_at, entries_of, Runs}
-use Rattle.dr_runs.specs.Entries.{entry, poll_of}
+use Rattle.dr_runs.specs.Entries.{entry, told_drained, poll_of}
 use Rattle.dr_runs.proofs.Elements.{at_below, value_at}
 use Rattle.dr_runs.proofs.Completions as completions
 use Rattle.dr_runs.proofs.Completions.{machine_room, ahead_of_all, count_at, counts_stay, count_set, upstream_inside}
@@ -242,14 +242,18 @@ lead_drained k w h r rest end at tells K leads =
     subst (λ (b : Bool). Leads k (entry (Poll h 1) Drained [] ++ rest) (S b) end) on
     (leads_one (ring_setup k) (Poll h 1) Drained [] rest (S true) (S true) end step (subst (λ (b : Bool). Leads k rest (S b) end) (sym on) leads))
 
+-- what a look at the cursor tells the handler h
+abbrev drained_of : ℕ → Bool → Transcript Event
+drained_of h b = if b then told_drained h ∷ [] else []
+
 lead_cursor_look : (k : Shape) (w : World) (h : ℕ) (r : ReceiverRecord) (rest : Transcript Event) (end : State Event)
     → get_elem? w.receivers h ≡ some r → KeepsRule k w
     → Leads k rest (parts k w) end
-    → Leads k ((if tells_drained r (word_at w.words cursor_word) then entry (Poll h 1) Drained [] else []) ++ rest) (parts k w) end
+    → Leads k (drained_of h (tells_drained r (word_at w.words cursor_word)) ++ rest) (parts k w) end
 lead_cursor_look k w h r rest end at K leads =
     elim (cases_Bool (tells_drained r (word_at w.words cursor_word))) [
-      | inl told ↦ subst (λ (b : Bool). Leads k ((if b then entry (Poll h 1) Drained [] else []) ++ rest) (parts k w) end) (sym told) (lead_drained k w h r rest end at told K leads)
-      | inr quiet ↦ subst (λ (b : Bool). Leads k ((if b then entry (Poll h 1) Drained [] else []) ++ rest) (parts k w) end) (sym quiet) leads
+      | inl told ↦ subst (λ (b : Bool). Leads k (drained_of h b ++ rest) (parts k w) end) (sym told) (lead_drained k w h r rest end at told K leads)
+      | inr quiet ↦ subst (λ (b : Bool). Leads k (drained_of h b ++ rest) (parts k w) end) (sym quiet) leads
     ]
 
 lead_take : (k : Shape) (w : World) (h first : ℕ) (r : ReceiverRecord) (rest : Transcript Event) (end : State Event) → get_elem? w.receivers h ≡ some r
@@ -343,8 +347,7 @@ lead_step k (ReceiverLooksAtClosed h) w u rest end H K L =
     subst (λ (x : State Event). Leads k rest x end) (same_picture k w h H.0 (receiver_looked H.0 closed_word (word_at w.words closed_word)) H.1 refl)
     (subst (λ (x : World). Leads k rest (picture_of k x) end) H.2 L)
 lead_step k (ReceiverLooksAtCursor h) w u rest end H K L =
-    subst
-    (λ (r : ReceiverRecord). Leads k ((if tells_drained r (word_at w.words cursor_word) then entry (Poll h 1) Drained [] else []) ++ rest) (parts k w) end)
+    subst (λ (r : ReceiverRecord). Leads k (drained_of h (tells_drained r (word_at w.words cursor_word)) ++ rest) (parts k w) end)
     (sym (is_receiver k w h H.0 H.1))
     (lead_cursor_look k w h H.0 rest end H.1 K
     (subst (λ (x : State Event). Leads k rest x end) (same_picture k w h H.0 (cursor_looked H.0 (word_at w.words cursor_word)) H.1 refl) (subst (λ (x : World). Leads k rest (picture_of k x) end) H.2 L)))

@@ -30,7 +30,7 @@ use Rattle.dr_plain.proofs.Replies.{Decided, no_room_at, replies}
 use Rattle.dr_plain.proofs.Rising.{rises_runs}
 use Rattle.dr_plain.proofs.Later.{offers_what_was_there, hands_what_was_there}
 use Rattle.dr_plain.proofs.Halting.{halted_runs}
-use Rattle.dr_plain.proofs.Told.{were_told}
+use Rattle.dr_plain.proofs.Told.{look_tells, were_told}
 use Rattle.dr_plain.proofs.laws.moments.Goals as goal
 
 module _ {T : Type 0} (k : Shape) (steps : List (Step T)) (entries : Transcript T) (w : World T) (graph : IsGraph k.upstreams) (some_slot : 0 < k.size)
@@ -59,7 +59,7 @@ pub returns-clause-writes : goal.returns-clause-writes
 returns-clause-writes g c = leads_with
 
 pub returns-clause-told : goal.returns-clause-told
-returns-clause-told g c k steps entries w graph some_slot runs = were_told k steps entries w runs
+returns-clause-told g c k steps entries w graph some_slot runs = were_told k (look_tells k) steps entries w runs
 
 pub returns-clause-laws : goal.returns-clause-laws
 returns-clause-laws g c k steps entries w graph some_slot runs =

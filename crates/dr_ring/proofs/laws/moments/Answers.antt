@@ -27,7 +27,7 @@ use Rattle.dr_ring.proofs.Beginning.{kept_opening, opens}
 use Rattle.dr_ring.proofs.Replies.{Decided, no_room_at, replies}
 use Rattle.dr_ring.proofs.Rising.{rises_runs}
 use Rattle.dr_ring.proofs.Later.{hands_what_was_there}
-use Rattle.dr_ring.proofs.Told.{were_told}
+use Rattle.dr_ring.proofs.Told.{look_tells, were_told}
 use Rattle.dr_ring.proofs.laws.moments.Goals as goal
 
 leads : (k : Shape) (steps : List Step) (entries : Transcript Event) (w : World) → IsGraph k.upstreams → 0 < k.size → Runs k steps entries (new_world k) w
@@ -42,7 +42,7 @@ pub returns-clause-leads : goal.returns-clause-leads
 returns-clause-leads c = leads
 
 pub returns-clause-told : goal.returns-clause-told
-returns-clause-told c k steps entries w graph some_slot runs = were_told k steps entries w runs
+returns-clause-told c k steps entries w graph some_slot runs = were_told k (look_tells k) steps entries w runs
 
 pub returns-clause-laws : goal.returns-clause-laws
 returns-clause-laws c k steps entries w graph some_slot runs =
