@@ -1,5 +1,5 @@
 -- What came of a run behind a lock: what each handler went through, what each sender sent, how the workers ended, and what the history has of it.
-use Rattle.std.specs.Prelude.{◌≡◌, ◌≢◌, ℕ, ◌+◌, ◌^◌, ◌/◌, ◌<◌, ◌≤◌, ◌==◌, max, if◌then◌else◌, sum_by, List, [], ◌∷◌, ◌++◌, length, take, Option, None, Some, IfNone, IfOk, IfErr}
+use Rattle.std.specs.Prelude.{◌≡◌, ◌≢◌, ℕ, ◌+◌, ◌^◌, ◌/◌, ◌<◌, ◌≤◌, ◌==◌, max, if◌then◌else◌, sum_by, List, [], ◌∷◌, ◌++◌, length, take, Option, None, Some, IfNone, IfOk, IfErr, Err}
 use mathlib.Core.Option.{some}
 use lib.ListN.{get_elem?}
 use Rattle.dr_seq.specs.declared.event.Event.{Event}
@@ -17,12 +17,20 @@ use Rattle.dr_lock.specs.Calls.Asking.{InletAsks, OutletAsks}
 use Rattle.dr_lock.specs.Calls.Lock.{EndView, HasHalted, no_calls}
 use Rattle.dr_lock.specs.Meaning.Audit.{Faults, IsAudited}
 use Rattle.dr_lock.specs.Meaning.History.{GoesOn, History, IsRecorded, entries_since, halts_in, transcript}
+use Rattle.dr_threads.specs.Endings.{AreFine, IsFirst}
 use Rattle.dr_threads.specs.Handlers.{AllWentThrough}
 use Rattle.dr_threads.specs.declared.fault.RunFault.{RunFault}
 use Rattle.dr_threads.specs.declared.fault.RunFault.TheVariants as fault
 use Rattle.dr_disruptor_lock.specs.declared.comparing.HistoryFault.{HistoryFault}
 use Rattle.dr_disruptor_lock.specs.declared.comparing.HistoryFault.TheVariants.{Audit, Shown}
+use Rattle.dr_disruptor_lock.specs.declared.fault.LockedFault.{LockedFault}
+use Rattle.dr_disruptor_lock.specs.declared.fault.LockedFault.TheVariants as locked
 use Rattle.dr_disruptor_lock.specs.declared.running.Ran.{Ran}
+
+-- why a run has not both: the first fault of its workers or, where they have none, that of its history
+abbrev pub IsWhyNot : {A : Type 0} → Ran A → LockedFault → Type 0
+IsWhyNot ran (locked.Run why) = IsFirst ran.endings.items why
+IsWhyNot ran (locked.History why) = AreFine ran.endings.items × (ran.list ≡ Err why)
 
 -- of a graph of so many handlers, where so many handlers and scripts were given: that the handlers differ, then that no exchange has so many producers, and else a lack of memory or of a thread
 abbrev pub refusal_of : ℕ → ℕ → ℕ → RunFault

@@ -8,6 +8,7 @@
 
 mod around;
 mod comparing;
+mod fault;
 mod jobs;
 mod running;
 mod sending;
@@ -18,4 +19,5 @@ mod workers;
 
 pub use comparing::HistoryFault;
 pub use dr_threads::{RunFault, WaitStrategy};
+pub use fault::LockedFault;
 pub use running::{Ran, run_locked};

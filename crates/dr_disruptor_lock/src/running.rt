@@ -1,16 +1,17 @@
 //! A whole run over an exchange behind a lock.
 
-ghost use Rattle.std.specs.Prelude.{◌≡◌, ◌^◌, ◌≤◌, [], None, false, IfErr, IfOk, OnOk, length, map};
+ghost use Rattle.std.specs.Prelude.{◌≡◌, ◌^◌, ◌≤◌, [], None, false, IfErr, IfOk, Ok, OnOk, length, map};
 ghost use Rattle.dr_meaning.specs.declared.mode.Mode.TheVariants.{Multi};
 ghost use Rattle.dr_meaning.specs.Meaning.Machine.{setup_of};
 ghost use Rattle.dr_meaning.specs.Calls.OpenFault.{has_bad_producers};
 ghost use Rattle.dr_workers.specs.Meaning.FirstFault.{first_fault as first_of};
 ghost use Rattle.dr_threads.specs.Endings.{AreFine};
 ghost use Rattle.dr_threads.specs.Handlers.{AllWentThroughMerge};
-ghost use Rattle.dr_disruptor_lock.specs.Running.{IsRan, IsRun, refusal_of};
+ghost use Rattle.dr_disruptor_lock.specs.Running.{IsRan, IsRun, IsWhyNot, refusal_of};
 
 use crate::around::Around;
 use crate::comparing::HistoryFault;
+use crate::fault::LockedFault;
 use crate::jobs::{jobs_of, new_end, tasks_of};
 use crate::settling::settled;
 use crate::workers::exchange;
@@ -47,6 +48,22 @@ impl<H: Drop> Ran<H> {
         ensures none { result ≡ None → AreFine self.now.endings.items }
     {
         first_fault(self.endings.as_slice())
+    }
+
+    /// The handlers, and the list of events that all of them went through, where no worker has a fault and the
+    /// history has that list. A worker's fault comes before one of the history.
+    pub fn finished(self) -> Result<(Vec<H>, Vec<Event>), LockedFault>
+        ensures all { IfOk result (λ all. (all.0 ≡ self.handlers) × (self.list ≡ Ok all.1) × AreFine self.endings.items) }
+        ensures fault { IfErr result (IsWhyNot self) }
+    {
+        if let Some(first) = self.fault() {
+            return Err(LockedFault::Run(RunFault::from(first)));
+        }
+        let Ran { handlers, list, .. } = self;
+        match list {
+            Ok(list) => Ok((handlers, list)),
+            Err(amiss) => Err(LockedFault::History(amiss)),
+        }
     }
 }
 

@@ -59,23 +59,14 @@ fn send<R: Threads + Wait + Sync>(rt: &R, alloc: Global) -> Result<Ran<Adder>, R
     )
 }
 
-/// How many events all handlers went through, and the handlers, where the history agrees.
-fn whole(ran: Ran<Adder>) -> Option<(usize, Vec<Adder>)> {
-    let Ran { handlers, list, .. } = ran;
-    match list {
-        Ok(list) => Some((list.len(), handlers)),
-        Err(_) => None,
-    }
-}
-
 fn main(rt: HostRuntime) -> ExitCode {
     let Ok(ran) = send(&rt, rt.alloc()) else {
         return ExitCode::FAILURE;
     };
-    let Some((count, adders)) = whole(ran) else {
+    let Ok((adders, list)) = ran.finished() else {
         return ExitCode::FAILURE;
     };
-    let _printed = rt.println(&count);
+    let _printed = rt.println(&list.len());
     for adder in adders.iter() {
         let _printed = rt.println(&adder.total);
     }
