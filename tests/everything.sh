@@ -47,12 +47,14 @@ for build in '' .by-rattle; do
         whole tests/progress.py "$built"
         whole tests/hostile/run.py "$built"
         whole tests/hostile/refused.py "$built" "$calls"
+        whole tests/waits.py "crates/disruptor_waits/out/disruptor_waits$build" "$built"
     elif [ "$failed" = 0 ] && [ -z "$build" ]; then
         echo "FAILED: rt ci left no $built or no $calls"
         failed=1
     fi
 done
 if [ "$failed" = 0 ]; then
+    whole tests/hostile/leaks.py crates/disruptor_hostile/out/disruptor_hostile
     whole tests/library.py crates/disruptor/out/disruptor
     whole tests/instructions.py crates/disruptor_bench/out/disruptor_bench crates/disruptor/out/disruptor
 fi

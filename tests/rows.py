@@ -21,7 +21,7 @@ from run import WAYS, Bench, Case, Ran, cases_of, wanted_by_lock  # noqa: E402
 # Tables in which each record has the line that it prints beside it.
 RUNS = ("runs.txt", "graphs.txt")
 # The sizes of the rings that a file of operations goes through, and the one that a file at fault does.
-SIZES, SIZE_AT_FAULT = (1, 2, 4, 1024), 2
+SIZES, SIZE_AT_FAULT = (1, 2, 4, 1024, 65536), 2
 SIXTEEN = [f"h{k}" for k in range(1, 17)]
 
 
@@ -91,6 +91,14 @@ def rounds_of_sixteen(follows):
             yield f"complete,{name},{first + 4}", "completed"
 
 
+def drive_greatest(bench):
+    """The greatest ring serves one producer, and as many as there may be."""
+    for mode in ("single", "multi,16"):
+        text = f"ring,65536,{mode}\nwith,a\nstart\nclaim,0,65536\nwrite,0,65535,1\nclaim,0,1\n"
+        ran = bench.run("drive", bench.file("greatest.csv", text.encode()))
+        bench.judge(f"a ring of the greatest size, {mode}", ran, Ran(0, b"claimed 0 65535\nwritten\nrefused 1 no-room\n", b""))
+
+
 def drive_sixteen(bench):
     chain = "with,h1\n" + "".join(f"then,{name}\n" for name in SIXTEEN[1:])
     beside, before = f"with,{','.join(SIXTEEN)}\n", f"with,{','.join(SIXTEEN[:15])}\nthen,h16\n"
@@ -110,6 +118,7 @@ def main():
         bench = Bench(sys.argv[1], folder)
         drive_rows(bench)
         drive_sixteen(bench)
+        drive_greatest(bench)
         replay_rows(bench, "files.txt", SIZES)
         replay_rows(bench, "faults.txt", [SIZE_AT_FAULT])
         replay_rows(bench, "usual.txt", [SIZE_AT_FAULT])

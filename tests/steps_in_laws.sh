@@ -31,4 +31,10 @@ if [ -n "$others" ]; then
     printf 'a load or store that is no step of the laws, or a store that its contract does not tell:\n%s\n' "$others"
     exit 1
 fi
+# That a look after a store sees what came before another's look after its own is so of these alone.
+others=$(grep -rn 'Ordering::' crates/*/src --include='*.rt' | grep -vE 'Ordering::SeqCst|[{]Atomic[A-Za-z0-9, ]*Ordering[}]')
+if [ -n "$others" ]; then
+    printf 'an ordering that is not sequentially consistent:\n%s\n' "$others"
+    exit 1
+fi
 echo 'each load and store of a ring is a step of its laws'

@@ -1,10 +1,10 @@
 /* No call but an opening takes memory. The library is linked with -Wl,--wrap=malloc,--wrap=realloc, so each of its requests is counted
- * here. The calls are those of both kinds of rings, done and refused. */
+ * here. The calls are those of each kind of ring, done and refused. */
 #include "disruptor.h"
 #include <stdio.h>
 #include <stdlib.h>
 
-enum { SIZE = 8, ROUNDS = 100, SENDERS = 2, HANDLERS = 2 };
+enum { SIZE = 8, ROUNDS = 100, SENDERS = 2, HANDLERS = 2, BYTES = 12 };
 
 void *__real_malloc(size_t size);
 void *__real_realloc(void *old, size_t size);
@@ -65,18 +65,47 @@ static void receive_all(uint32_t last) {
     }
 }
 
-/* Has a ring with so many senders do all its work. */
-static void work(size_t count) {
+/* The same in a ring of bytes. */
+static void send_bytes(void) {
+    const char bytes[BYTES] = "an event";
+    uint64_t lo;
+    expect("a claim", disruptor_claim(&senders[0], SIZE, &lo), DISRUPTOR_OK);
+    expect("a publication unwritten", disruptor_publish(&senders[0], lo, lo), DISRUPTOR_NOT_WRITTEN);
+    for (uint64_t k = 0; k < SIZE; k++) {
+        expect("a write of too few bytes", disruptor_write_bytes(&senders[0], lo + k, bytes, BYTES - 1), DISRUPTOR_BAD_LENGTH);
+        expect("a write of bytes", disruptor_write_bytes(&senders[0], lo + k, bytes, BYTES), DISRUPTOR_OK);
+    }
+    expect("a publication", disruptor_publish(&senders[0], lo, lo + SIZE - 1), DISRUPTOR_OK);
+    expect("a claim of full slots", disruptor_claim(&senders[0], 1, &lo), DISRUPTOR_NO_ROOM);
+}
+
+static void receive_bytes(uint32_t last) {
+    char bytes[BYTES];
+    disruptor_offer offer;
+    for (size_t h = 0; h < HANDLERS; h++) {
+        expect("a poll of bytes", disruptor_poll_bytes(&receivers[h], SIZE, &offer), DISRUPTOR_OK);
+        if (offer.kind == DISRUPTOR_BATCH) {
+            expect("a read of bytes", disruptor_read_bytes(&receivers[h], offer.first, bytes, BYTES), DISRUPTOR_OK);
+            expect("a completion", disruptor_complete(&receivers[h], offer.first + offer.count), DISRUPTOR_OK);
+            expect("a read too late", disruptor_read_bytes(&receivers[h], offer.first, bytes, BYTES), DISRUPTOR_NOT_IN_HAND);
+        }
+        expect("a poll of bytes", disruptor_poll_bytes(&receivers[h], SIZE, &offer), DISRUPTOR_OK);
+        expect("what it finds", offer.kind, last);
+    }
+}
+
+/* Has a ring with so many senders, of two words or of bytes, do all its work. */
+static void work(size_t count, int has_bytes) {
     unsigned long before = requests;
     uint64_t lo;
     for (int k = 0; k < ROUNDS; k++) {
-        send_all(count);
-        receive_all(DISRUPTOR_IDLE);
+        has_bytes ? send_bytes() : send_all(count);
+        has_bytes ? receive_bytes(DISRUPTOR_IDLE) : receive_all(DISRUPTOR_IDLE);
     }
     if (count == 1) expect("a close", disruptor_close(&senders[0]), DISRUPTOR_OK);
     expect("a halt", disruptor_halt(&halter), DISRUPTOR_OK);
     expect("a claim after it", disruptor_claim(&senders[0], 1, &lo), DISRUPTOR_HALTED);
-    receive_all(DISRUPTOR_DRAINED);
+    has_bytes ? receive_bytes(DISRUPTOR_DRAINED) : receive_all(DISRUPTOR_DRAINED);
     for (size_t k = 0; k < count; k++) disruptor_free(&senders[k]);
     for (size_t h = 0; h < HANDLERS; h++) disruptor_free(&receivers[h]);
     disruptor_free(&halter);
@@ -89,10 +118,13 @@ static void work(size_t count) {
 
 int main(void) {
     expect("an opening", disruptor_open(SIZE, DISRUPTOR_MAX_LIMIT, upstreams, HANDLERS, senders, receivers, HANDLERS, &halter), DISRUPTOR_OK);
-    work(1);
+    work(1, 0);
     expect("an opening for several",
         disruptor_open_several(SIZE, DISRUPTOR_MAX_LIMIT, upstreams, HANDLERS, senders, SENDERS, receivers, HANDLERS, &halter), DISRUPTOR_OK);
-    work(SENDERS);
+    work(SENDERS, 0);
+    expect("an opening of bytes",
+        disruptor_open_bytes(SIZE, DISRUPTOR_MAX_LIMIT, BYTES, upstreams, HANDLERS, senders, receivers, HANDLERS, &halter), DISRUPTOR_OK);
+    work(1, 1);
     printf("no call but an opening takes memory\n");
     return 0;
 }

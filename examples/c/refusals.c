@@ -243,6 +243,34 @@ static void try_letting_go(void) {
     free_all();
 }
 
+/* So it is of several: one end let go changes nothing for the others. */
+static void try_letting_go_of_several(void) {
+    static const uint64_t upstreams[2] = {0, 1};
+    static disruptor_sender senders[2];
+    static disruptor_receiver two[2];
+    static disruptor_halter last;
+    disruptor_event event = {1, 2}, taken[4];
+    disruptor_offer offer;
+    uint64_t lo;
+    expect("an opening for two senders", disruptor_open_several(2, 6, upstreams, 2, senders, 2, two, 2, &last), DISRUPTOR_OK);
+    disruptor_free(&last);
+    expect("a claim without a halter", disruptor_claim(&senders[0], 1, &lo), DISRUPTOR_OK);
+    expect("a write", disruptor_write(&senders[0], 0, &event), DISRUPTOR_OK);
+    expect("a publication", disruptor_publish(&senders[0], 0, 0), DISRUPTOR_OK);
+    expect("the other's claim", disruptor_claim(&senders[1], 1, &lo), DISRUPTOR_OK);
+    disruptor_free(&senders[1]);
+    expect("a poll", disruptor_poll(&two[0], taken, 4, &offer), DISRUPTOR_OK);
+    expect("its count", (uint32_t)offer.count, 1);
+    expect("its end, where a sender is gone", disruptor_poll(&two[0], taken, 4, &offer), DISRUPTOR_OK);
+    expect("its kind", offer.kind, DISRUPTOR_GATING);
+    disruptor_free(&two[0]);
+    expect("a poll behind one that is gone", disruptor_poll(&two[1], taken, 4, &offer), DISRUPTOR_OK);
+    expect("its kind", offer.kind, DISRUPTOR_GATING);
+    expect("a claim behind it", disruptor_claim(&senders[0], 1, &lo), DISRUPTOR_NO_ROOM);
+    disruptor_free(&senders[0]);
+    disruptor_free(&two[1]);
+}
+
 int main(void) {
     char name[16] = "";
     expect("the length of a name", (uint32_t)disruptor_name(DISRUPTOR_NO_ROOM, name, sizeof name), 7);
@@ -260,6 +288,7 @@ int main(void) {
     expect("an opening anew", open_ring(4, 6, 2, 2, 1), DISRUPTOR_OK);
     free_all();
     try_letting_go();
+    try_letting_go_of_several();
     try_several();
     puts("every misuse is refused by its number");
     return 0;

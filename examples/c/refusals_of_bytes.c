@@ -192,6 +192,29 @@ static void try_no_bytes(void) {
     free_all();
 }
 
+/* An end that is let go is not used by that: it neither halts, nor closes, nor completes. */
+static void try_letting_go(void) {
+    uint64_t lo;
+    char bytes[BYTES] = "event 0";
+    disruptor_offer offer;
+    expect("an opening of one slot", open_ring(1, 6, BYTES), DISRUPTOR_OK);
+    disruptor_free(&halter);
+    expect("a claim without a halter", disruptor_claim(&sender, 1, &lo), DISRUPTOR_OK);
+    expect("a write", disruptor_write_bytes(&sender, 0, bytes, BYTES), DISRUPTOR_OK);
+    expect("a publication", disruptor_publish(&sender, 0, 0), DISRUPTOR_OK);
+    expect("a poll", disruptor_poll_bytes(&receivers[0], 1, &offer), DISRUPTOR_OK);
+    disruptor_free(&receivers[0]);
+    expect("a poll behind one that is gone", disruptor_poll_bytes(&receivers[1], 1, &offer), DISRUPTOR_OK);
+    expect("its kind", offer.kind, DISRUPTOR_GATING);
+    expect("a claim behind it", disruptor_claim(&sender, 1, &lo), DISRUPTOR_NO_ROOM);
+    free_all();
+    expect("an opening once more", open_ring(1, 6, BYTES), DISRUPTOR_OK);
+    disruptor_free(&sender);
+    expect("a poll without a sender", disruptor_poll_bytes(&receivers[0], 1, &offer), DISRUPTOR_OK);
+    expect("its kind", offer.kind, DISRUPTOR_IDLE);
+    free_all();
+}
+
 int main(void) {
     try_opening();
     try_closed_handles();
@@ -204,6 +227,7 @@ int main(void) {
     free_all();
     try_closed_handles();
     try_no_bytes();
+    try_letting_go();
     puts("every misuse of bytes is refused by its number");
     return 0;
 }

@@ -85,14 +85,14 @@ fn tallies(rt: &impl Abort, alloc: Global, calls: &Arc<AtomicU64, Global>) -> Ve
     vec![in alloc; tally(rt, calls), tally(rt, calls)].expect(rt, "memory")
 }
 
-/// How often two handlers were called on this thread, for two events over a graph that may have more handlers.
-fn called_here(rt: &impl Abort, alloc: Global, shape: Shape, are_too_few: bool) -> u64 {
+/// How often two handlers were called on this thread, for two events over a graph that may have more or fewer.
+fn called_here(rt: &impl Abort, alloc: Global, shape: Shape, is_refused: bool) -> u64 {
     let size = Size::new(8).expect(rt, "a size");
     let calls = no_calls(rt, alloc);
     let handlers = tallies(rt, alloc, &calls);
     let graph = graph(rt, alloc, shape);
     let ran = run_here(alloc, graph, size, handlers, &[Event::NONE; 2]);
-    check(rt, ran.is_err(), are_too_few);
+    check(rt, ran.is_err(), is_refused);
     calls.load(Ordering::SeqCst)
 }
 
@@ -101,22 +101,24 @@ fn called<R: Threads + Wait + Abort + Copy + Send + 'static>(
     rt: R,
     alloc: Global,
     shape: Shape,
-    are_too_few: bool,
+    is_refused: bool,
 ) -> u64 {
     let size = Size::new(8).expect(&rt, "a size");
     let calls = no_calls(&rt, alloc);
     let handlers = tallies(&rt, alloc, &calls);
     let graph = graph(&rt, alloc, shape);
     let ran = run(rt, alloc, &graph, size, handlers, &[Event::NONE; 2]);
-    check(&rt, ran.is_err(), are_too_few);
+    check(&rt, ran.is_err(), is_refused);
     calls.load(Ordering::SeqCst)
 }
 
 #[test]
-fn handlers_that_are_too_few_are_not_called(rt: HostRuntime) {
+fn handlers_of_another_number_are_not_called(rt: HostRuntime) {
     check(&rt, called_here(&rt, rt.alloc(), Shape::Diamond, true), 0);
+    check(&rt, called_here(&rt, rt.alloc(), Shape::Alone, true), 0);
     check(&rt, called_here(&rt, rt.alloc(), Shape::Chain, false), 4);
     check(&rt, called(rt, rt.alloc(), Shape::Diamond, true), 0);
+    check(&rt, called(rt, rt.alloc(), Shape::Alone, true), 0);
     check(&rt, called(rt, rt.alloc(), Shape::Chain, false), 4);
 }
 
