@@ -14,9 +14,6 @@ returns-clause-published g c = c.produce_with.ensures.sent
 pub returns-clause-open : goal.returns-clause-open
 returns-clause-open g c = c.produce_with.ensures.open
 
-pub returns-clause-all : goal.returns-clause-all
-returns-clause-all g c = λ none. rw none at c.produce_with.ensures.all
-
 pub returns-clause-stopped : goal.returns-clause-stopped
 returns-clause-stopped g c = c.produce_with.ensures.stopped
 
@@ -25,3 +22,6 @@ returns-clause-calls g c =
     let cut = c.max-cut.ensures ∙ ap (λ (n : ℕ). max (n / 4) 1) c.get.ensures.value in
     let gate = c.args.gate.now in
     subst (λ (n : ℕ). SomeCalls sender_does c.args.sender.now c.produce_with.new.inlet (Sends {E = Event} n c.args.events.now (g.G.Gate.may_stop gate 16) (g.G.Gate.must_stop gate 16) c.produce_with.result)) cut c.produce_with.ensures.sends
+
+pub returns-clause-all : goal.returns-clause-all
+returns-clause-all g c = λ none. rw none at c.produce_with.ensures.all
