@@ -77,7 +77,7 @@ OF_ONE = OPERATIONS.replace("2,transfer", "0,transfer")
 # producers 0, 1 and 2.
 THREADS = {"ring": 3, "lock": 6}
 
-Met = namedtuple("Met", "ran requests refused")
+Met = namedtuple("Met", "ran requests refused synced")
 
 
 def compiler():
@@ -107,9 +107,9 @@ class Refusing:
         return self.path(name)
 
     def run(self, words, **refusing):
-        """Runs a program, and tells how many requests it made, and how many of them were refused."""
+        """Runs a program, and tells how many requests it made, how many were refused, and how many files it brought to the disk."""
         with open(self.counts, "wb") as file:
-            file.write(bytes(16))
+            file.write(bytes(24))
         settings = {f"REFUSING_{name.upper()}": str(value) for name, value in refusing.items()}
         settings |= {"LD_PRELOAD": self.library, "REFUSING_COUNTS": self.counts}
         how = {"stdin": subprocess.DEVNULL, "capture_output": True, "timeout": 60}
@@ -119,7 +119,7 @@ class Refusing:
         except subprocess.TimeoutExpired:
             ran = Ran("no end", b"", b"")
         with open(self.counts, "rb") as file:
-            return Met(ran, *struct.unpack("<QQ", file.read()))
+            return Met(ran, *struct.unpack("<QQQ", file.read()))
 
     def judge(self, name, holds, found=None):
         self.cases += 1
@@ -229,6 +229,14 @@ def refuse_all_once_open(refusing, calls):
         refusing.judge(f"calls of case {case}, all memory refused once it is open", holds, (met, whole))
 
 
+def write_to_the_disk(refusing, program):
+    """A file is on the disk before it takes the place of another."""
+    for tool, text in (("drive", DIAMOND), ("replay", OPERATIONS)):
+        words = [program, tool, "--output", refusing.path("output.txt"), refusing.file("input.csv", text)]
+        met = refusing.run(words)
+        refusing.judge(f"what {tool} writes comes to the disk", met.ran.status == 0 and met.synced == 1, met)
+
+
 def main():
     program, calls = map(os.path.abspath, sys.argv[1:3])
     with tempfile.TemporaryDirectory(prefix="refused-") as folder:
@@ -239,6 +247,7 @@ def main():
         refuse_threads(refusing, program)
         refuse_in_calls(refusing, calls)
         refuse_all_once_open(refusing, calls)
+        write_to_the_disk(refusing, program)
     print(f"{program}: {refusing.cases} cases with memory or threads refused, {refusing.failed} failed")
     return 1 if refusing.failed else 0
 

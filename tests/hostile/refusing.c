@@ -1,6 +1,7 @@
 /* Stands before the C library, and refuses requests for memory, or for threads. It is loaded by LD_PRELOAD.
 
-     REFUSING_COUNTS=FILE    a file of two words of 64 bits: how many requests were met, and how many refused
+     REFUSING_COUNTS=FILE    a file of three words of 64 bits: how many requests were met, how many refused, and how many files
+                             were brought to the disk
      REFUSING_AT=K           refuses the K-th request
      REFUSING_ONCE_TOLD=1    refuses every request from the first write to standard output on, and counts no other
      REFUSING_THREADS=1      requests are starts of threads; else they are those for memory
@@ -23,7 +24,7 @@ extern unsigned long strtoul(const char *text, char **end, int base);
 extern void abort(void);
 extern long syscall(long number, ...);
 
-enum { TRY_AGAIN = 11, OUT_OF_MEMORY = 12, SYSTEM_WRITE = 1, READ_WRITE = 2, READABLE_WRITABLE = 3, SHARED = 1 };
+enum { TRY_AGAIN = 11, OUT_OF_MEMORY = 12, SYSTEM_WRITE = 1, SYSTEM_FSYNC = 74, READ_WRITE = 2, READABLE_WRITABLE = 3, SHARED = 1 };
 
 /* What a request is for. */
 enum resource { MEMORY, THREAD };
@@ -31,7 +32,7 @@ enum resource { MEMORY, THREAD };
 typedef int starting(void *thread, const void *attributes, void *(*run)(void *), void *given);
 
 static struct counts {
-    unsigned long met, refused;
+    unsigned long met, refused, synced;
 } *counts;
 static unsigned long refused_at;
 static int refuses_once_told, was_told;
@@ -88,6 +89,12 @@ int posix_memalign(void **place, size_t alignment, size_t size) {
 
 int pthread_create(void *thread, const void *attributes, void *(*run)(void *), void *given) {
     return is_refused(THREAD) ? TRY_AGAIN : start(thread, attributes, run, given);
+}
+
+int fsync(int file) {
+    if (counts)
+        __atomic_add_fetch(&counts->synced, 1, __ATOMIC_SEQ_CST);
+    return (int)syscall(SYSTEM_FSYNC, file);
 }
 
 long write(int file, const void *bytes, size_t length) {
