@@ -9,6 +9,7 @@ use crate::parts::tell_parts;
 use crate::plain_calls::{tell_plain, tell_plain_ends};
 use crate::recording::{tell_calls, tell_recorded};
 use crate::ring_calls::tell_ring;
+use crate::settling::tell_settled;
 use crate::taking_none::{tell_core, tell_ends, tell_kept};
 use std::alloc::Global;
 
@@ -34,6 +35,8 @@ pub enum Case {
     Ends,
     /// Every call of the ends of a ring over plain memory.
     PlainEnds,
+    /// What brings the ends of a ring together.
+    Settled,
     /// `Recorded::call`, with room for what it keeps.
     Kept,
     /// Every call of slots, rounds, a remembered count and a graph.
@@ -41,7 +44,7 @@ pub enum Case {
 }
 
 impl Case {
-    pub const ALL: [Case; 14] = [
+    pub const ALL: [Case; 15] = [
         Case::Builder,
         Case::Build,
         Case::Open,
@@ -54,6 +57,7 @@ impl Case {
         Case::Core,
         Case::Ends,
         Case::PlainEnds,
+        Case::Settled,
         Case::Kept,
         Case::Parts,
     ];
@@ -73,6 +77,7 @@ impl Case {
             Case::Core => "core",
             Case::Ends => "ends",
             Case::PlainEnds => "plain-ends",
+            Case::Settled => "settled",
             Case::Kept => "kept",
             Case::Parts => "parts",
         }
@@ -103,6 +108,7 @@ fn tell_once<R: Print>(rt: &R, alloc: Global, case: Case) -> Result<(), Fault> {
         Case::Core => tell_core(rt, alloc),
         Case::Ends => tell_ends(rt, alloc),
         Case::PlainEnds => tell_plain_ends(rt, alloc),
+        Case::Settled => tell_settled(rt, alloc),
         Case::Kept => tell_kept(rt, alloc),
         Case::Parts => tell_parts(rt, alloc),
     }

@@ -15,6 +15,7 @@ mod parts;
 mod plain_calls;
 mod recording;
 mod ring_calls;
+mod settling;
 mod taking_none;
 mod telling;
 
