@@ -9,7 +9,7 @@ use crate::parts::tell_parts;
 use crate::plain_calls::{tell_plain, tell_plain_ends};
 use crate::recording::{tell_calls, tell_recorded};
 use crate::ring_calls::tell_ring;
-use crate::taking_none::{tell_core, tell_ends, tell_kept};
+use crate::taking_none::{tell_core, tell_ends, tell_kept, tell_many};
 use std::alloc::Global;
 
 /// What is called.
@@ -30,6 +30,8 @@ pub enum Case {
     Audit,
     /// Every call of cores that are open.
     Core,
+    /// A poll of many events.
+    Many,
     /// Every call of a ring's ends.
     Ends,
     /// Every call of the ends of a ring over plain memory.
@@ -41,7 +43,7 @@ pub enum Case {
 }
 
 impl Case {
-    pub const ALL: [Case; 14] = [
+    pub const ALL: [Case; 15] = [
         Case::Builder,
         Case::Build,
         Case::Open,
@@ -52,6 +54,7 @@ impl Case {
         Case::Call,
         Case::Audit,
         Case::Core,
+        Case::Many,
         Case::Ends,
         Case::PlainEnds,
         Case::Kept,
@@ -71,6 +74,7 @@ impl Case {
             Case::Call => "call",
             Case::Audit => "audit",
             Case::Core => "core",
+            Case::Many => "many",
             Case::Ends => "ends",
             Case::PlainEnds => "plain-ends",
             Case::Kept => "kept",
@@ -101,6 +105,7 @@ fn tell_once<R: Print>(rt: &R, alloc: Global, case: Case) -> Result<(), Fault> {
         Case::Call => tell_calls(rt, alloc),
         Case::Audit => tell_audits(rt, alloc),
         Case::Core => tell_core(rt, alloc),
+        Case::Many => tell_many(rt, alloc),
         Case::Ends => tell_ends(rt, alloc),
         Case::PlainEnds => tell_plain_ends(rt, alloc),
         Case::Kept => tell_kept(rt, alloc),
