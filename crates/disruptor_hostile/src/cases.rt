@@ -10,7 +10,7 @@ use crate::plain_calls::{tell_plain, tell_plain_ends};
 use crate::recording::{tell_calls, tell_recorded};
 use crate::ring_calls::tell_ring;
 use crate::settling::tell_settled;
-use crate::taking_none::{tell_core, tell_ends, tell_kept};
+use crate::taking_none::{tell_core, tell_ends, tell_kept, tell_many};
 use std::alloc::Global;
 
 /// What is called.
@@ -31,6 +31,8 @@ pub enum Case {
     Audit,
     /// Every call of cores that are open.
     Core,
+    /// A poll of many events.
+    Many,
     /// Every call of a ring's ends.
     Ends,
     /// Every call of the ends of a ring over plain memory.
@@ -44,7 +46,7 @@ pub enum Case {
 }
 
 impl Case {
-    pub const ALL: [Case; 15] = [
+    pub const ALL: [Case; 16] = [
         Case::Builder,
         Case::Build,
         Case::Open,
@@ -55,6 +57,7 @@ impl Case {
         Case::Call,
         Case::Audit,
         Case::Core,
+        Case::Many,
         Case::Ends,
         Case::PlainEnds,
         Case::Settled,
@@ -75,6 +78,7 @@ impl Case {
             Case::Call => "call",
             Case::Audit => "audit",
             Case::Core => "core",
+            Case::Many => "many",
             Case::Ends => "ends",
             Case::PlainEnds => "plain-ends",
             Case::Settled => "settled",
@@ -106,6 +110,7 @@ fn tell_once<R: Print>(rt: &R, alloc: Global, case: Case) -> Result<(), Fault> {
         Case::Call => tell_calls(rt, alloc),
         Case::Audit => tell_audits(rt, alloc),
         Case::Core => tell_core(rt, alloc),
+        Case::Many => tell_many(rt, alloc),
         Case::Ends => tell_ends(rt, alloc),
         Case::PlainEnds => tell_plain_ends(rt, alloc),
         Case::Settled => tell_settled(rt, alloc),

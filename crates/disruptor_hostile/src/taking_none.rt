@@ -3,7 +3,7 @@
 
 use crate::core_calls::{opened, word};
 use crate::fault::Fault;
-use crate::graphs::diamond;
+use crate::graphs::{ONE, diamond, graph};
 use crate::recording::{call, commands, recorded};
 use crate::telling::{tell_about, tell_both, tell_value, tell_words};
 use dr_core::{Core, processor_turn};
@@ -176,6 +176,43 @@ pub fn tell_core<R: Print>(rt: &R, alloc: Global) -> Result<(), Fault> {
         Ok(mut of_one) => tell_calls_of_cores(rt, alloc, &mut of_two, &mut of_one),
         Err(fault) => Err(fault),
     }
+}
+
+/// More events than a poll copies one by one.
+const MANY: usize = 32;
+
+/// A core with a slot for each of so many events, and a single handler.
+fn large(alloc: Global) -> Result<Core<Event>, Fault> {
+    let size = Size::new(MANY as u64)?;
+    let graph = graph(alloc, &ONE, &[])?;
+    Ok(Core::open(alloc, graph, size, Mode::Single, MAX_LIMIT, Event::NONE)?)
+}
+
+fn tell_many_sent<R: Print>(rt: &R, core: &mut Core<Event>) -> Result<(), Fault> {
+    tell_value(rt, core.claim(0, MANY as u64))?;
+    for s in 0..MANY as u64 {
+        core.write(0, s, word(s))?;
+    }
+    tell_value(rt, core.publish(0, 0, MANY as u64 - 1))
+}
+
+fn tell_many_taken<R: Print>(rt: &R, core: &mut Core<Event>) -> Result<(), Fault> {
+    let mut out = [Event::NONE; MANY];
+    tell_value(rt, core.poll_into(0, &mut out))?;
+    tell_both(rt, out[0], out[MANY - 1])
+}
+
+fn tell_many_of<R: Print>(rt: &R, alloc: Global, core: &mut Core<Event>) -> Result<(), Fault> {
+    tell_words(rt, "open")?;
+    tell_many_sent(rt, core)?;
+    tell_many_taken(rt, core)?;
+    tell_memory(rt, alloc)
+}
+
+/// A poll of so many events that they are not copied one by one.
+pub fn tell_many<R: Print>(rt: &R, alloc: Global) -> Result<(), Fault> {
+    let mut core = large(alloc)?;
+    tell_many_of(rt, alloc, &mut core)
 }
 
 fn tell_sender<R: Print>(rt: &R, sender: &mut Sender) -> Result<(), Fault> {

@@ -25,10 +25,19 @@ pub enum Lacks {
     Room,
 }
 
+/// Which call of the sequence 3 is refused, however often it is made.
+#[derive(Clone, Copy, PartialEq, Eq)]
+enum Refuses {
+    Nothing,
+    ItsWrite,
+    ItsPublication,
+}
+
 /// An end with room for so many events.
 #[derive(Drop)]
 pub struct Scarce {
     lacks: Lacks,
+    refuses: Refuses,
     calls: u64,
     refusals: u64,
     claimed: u64,
@@ -80,6 +89,9 @@ impl Inlet<Event> for Scarce {
         if s >= 1 << 62 {
             return Err(Trouble::Refused(Refusal::NotClaimed));
         }
+        if self.refuses == Refuses::ItsWrite && s == 3 {
+            return Err(Trouble::Refused(Refusal::AlreadyPublished));
+        }
         if self.finds_memory() {
             Ok(())
         } else {
@@ -94,6 +106,9 @@ impl Inlet<Event> for Scarce {
         if hi >= 1 << 62 {
             return Err(Trouble::Refused(Refusal::NotClaimed));
         }
+        if self.refuses == Refuses::ItsPublication && hi == 3 {
+            return Err(Trouble::Refused(Refusal::NotClaimed));
+        }
         if self.finds_memory() {
             self.published = self.published.wrapping_add(1);
             Ok(())
@@ -106,6 +121,7 @@ impl Inlet<Event> for Scarce {
 pub fn scarce_end(lacks: Lacks, room: u64) -> Scarce {
     Scarce {
         lacks,
+        refuses: Refuses::Nothing,
         calls: 0,
         refusals: 0,
         claimed: 0,
@@ -171,6 +187,22 @@ fn producers(rt: HostRuntime) {
     check_sent(&rt, &mut hoarding, &OpenGate, 2, 0, Some(WorkFault::Memory));
 }
 
+// An end that refuses a call in its second claim ends the work there: it was asked so often for memory, and published once.
+fn check_refused<R: Wait + Abort>(rt: &R, refuses: Refuses, refusal: Refusal, calls: u64) {
+    let mut inlet = scarce_end(Lacks::Memory, 5);
+    inlet.refuses = refuses;
+    let refused = Some(WorkFault::Refused(refusal));
+    check_sent(rt, &mut inlet, &OpenGate, 2, 2, refused);
+    let seen = [inlet.claimed, inlet.calls, inlet.published];
+    check(rt, seen, [4, calls, 1]);
+}
+
+#[test]
+fn refused_producers(rt: HostRuntime) {
+    check_refused(&rt, Refuses::ItsWrite, Refusal::AlreadyPublished, 8);
+    check_refused(&rt, Refuses::ItsPublication, Refusal::NotClaimed, 10);
+}
+
 #[test]
 fn stopped_producers(rt: HostRuntime) {
     let gate = stops_at_one();
@@ -185,12 +217,14 @@ fn stopped_producers(rt: HostRuntime) {
 }
 
 // An end that hands out six events, in batches of one, two and three, of which it marks the last batch alone, and finds no
-// memory at each third call. It refuses to complete less than it dealt, and more than the handler was shown.
+// memory at each third call. It refuses to complete less than it dealt, and more than the handler was shown. Others
+// retired its handler once it has taken so many events.
 #[derive(Drop)]
 struct Dealer<'a> {
     shown: &'a AtomicU64,
     calls: u64,
     dealt: u64,
+    retired_at: u64,
     told: bool,
 }
 
@@ -229,6 +263,9 @@ impl Outlet<Event> for Dealer<'_> {
 
     fn complete(&mut self, upto: u64) -> Result<(), Trouble> {
         self.calls = self.calls.wrapping_add(1);
+        if self.dealt == self.retired_at {
+            return Err(Trouble::Refused(Refusal::Retired));
+        }
         if upto != self.dealt || upto != self.shown.load(Ordering::SeqCst) {
             return Err(Trouble::Refused(Refusal::NotTaken));
         }
@@ -256,11 +293,15 @@ impl Handler<Event> for Adder<'_> {
     }
 }
 
+// More events than there are.
+const NEVER: u64 = 7;
+
 // What the worker of a handler answers over an end with six events, and how many of them, marks and what sum it was shown.
 fn check_taken<R: Wait + Abort, G: Gate>(
     rt: &R,
     gate: &G,
     buf: &mut [Event],
+    retired_at: u64,
     wanted: Option<WorkFault>,
     events: [u64; 3],
 ) {
@@ -269,6 +310,7 @@ fn check_taken<R: Wait + Abort, G: Gate>(
         shown: &shown,
         calls: 0,
         dealt: 0,
+        retired_at,
         told: false,
     };
     let mut adder = Adder {
@@ -285,13 +327,24 @@ fn check_taken<R: Wait + Abort, G: Gate>(
 #[test]
 fn consumers(rt: HostRuntime) {
     let mut buf = [Event::NONE; 4];
-    check_taken(&rt, &OpenGate, &mut buf, None, [6, 1, 15]);
+    check_taken(&rt, &OpenGate, &mut buf, NEVER, None, [6, 1, 15]);
     let gate = stops_at_one();
     let stopped = Some(WorkFault::Stopped);
-    check_taken(&rt, &gate, &mut buf, stopped, [6, 1, 15]);
+    check_taken(&rt, &gate, &mut buf, NEVER, stopped, [6, 1, 15]);
     check(&rt, gate.passed.load(Ordering::SeqCst), 2);
     let refused = Some(WorkFault::Refused(Refusal::BadCount));
-    check_taken(&rt, &OpenGate, &mut [], refused, [0, 0, 0]);
+    check_taken(&rt, &OpenGate, &mut [], NEVER, refused, [0, 0, 0]);
+}
+
+#[test]
+fn a_handler_retired_with_a_batch(rt: HostRuntime) {
+    let mut buf = [Event::NONE; 4];
+    let refused = Some(WorkFault::Refused(Refusal::Retired));
+    check_taken(&rt, &OpenGate, &mut buf, 3, refused, [3, 0, 3]);
+    // A refusal does not hide that it was stopped.
+    let gate = stops_at_one();
+    let stopped = Some(WorkFault::Stopped);
+    check_taken(&rt, &gate, &mut buf, 3, stopped, [3, 0, 3]);
 }
 
 const REFUSED: Option<WorkFault> = Some(WorkFault::Refused(Refusal::Exhausted));
