@@ -101,6 +101,8 @@ fi
 if command -v rustc > "$room/null" 2>&1; then
     try Rust "$size"$'\n''a claim after the halt: halted'$'\n'"$all" \
         rustc --edition 2024 -O -L "$library" -l static=disruptor -o "$room/rust" "$top/examples/rust/ring.rs" -- "$room/rust"
+    try 'Rust, bytes' 'a write after the end: not-claimed'$'\n'"$orders" \
+        rustc --edition 2024 -O -L "$library" -l static=disruptor -o "$room/bytes_rust" "$top/examples/rust/bytes.rs" -- "$room/bytes_rust"
 else
     skip Rust
 fi
