@@ -7,7 +7,6 @@
 //! how many events, which depends on how the threads ran.
 #![tactic(auto)]
 
-
 mod by_lock;
 mod ends;
 mod fault;
