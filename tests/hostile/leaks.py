@@ -4,9 +4,8 @@
     tests/hostile/leaks.py CALLS
 
 CALLS is `disruptor_hostile` as LLVM built it. Each of its cases, but for those of a ring that keeps its events, ends with all
-memory given back, or still to be reached. Where
-there is no valgrind the script says so, and looks for nothing. It prints a line for each failure, and then a count; its
-status is 0 where none failed.
+memory given back, or still to be reached. Where there is no valgrind the script says so, and looks for nothing. It prints a
+line for each failure, and then a count; its status is 0 where none failed.
 """
 
 import os

@@ -230,7 +230,7 @@ def refuse_all_once_open(refusing, calls):
 
 
 def write_to_the_disk(refusing, program):
-    """A file is on the disk before it takes the place of another."""
+    """What goes to a file is brought to the disk."""
     for tool, text in (("drive", DIAMOND), ("replay", OPERATIONS)):
         words = [program, tool, "--output", refusing.path("output.txt"), refusing.file("input.csv", text)]
         met = refusing.run(words)
