@@ -279,8 +279,8 @@ static inline uint32_t disruptor_halt(disruptor_halter *halter) {
 
 /* Says how far an end came, by its own calls: what the sender of one claimed and published, what a handler took and completed. Once
  * the threads are back that is all that they did; a thread may also ask its own handle at any time. A handler that was told
- * DRAINED took all that was published. Refusals: BAD_POINTER (of either), NOT_OPEN, WRONG_END (a halter, one of several senders,
- * or an end of a ring of bytes); then *counts stays as it was. */
+ * DRAINED took all that was published. Refusals: BAD_POINTER (of either), NOT_OPEN, WRONG_END (a halter, or one of several
+ * senders); then *counts stays as it was. */
 static inline uint32_t disruptor_progress(void *handle, disruptor_counts *counts) {
     size_t there = disruptor_there(handle, 8, sizeof(disruptor_sender), 1);
     return disruptor_progress_at(disruptor_or_nothing(handle, there), there, DISRUPTOR_ONE(disruptor_counts, counts));

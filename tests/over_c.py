@@ -134,9 +134,7 @@ class Exchange:
             self.complete(k, self.near(self.taken[k]))
 
     def goes_as_far(self):
-        """Whether each end says that it came as far as its answers say. Those of a ring of bytes do not say it."""
-        if self.is_of_bytes:
-            return True
+        """Whether each end says that it came as far as its answers say."""
         ends = list(zip(self.receivers, zip(self.taken, self.completed)))
         if self.is_single:
             ends.append((self.senders[0], (self.claimed, self.claimed - len(self.owner))))

@@ -82,6 +82,7 @@ static void send_bytes(void) {
 static void receive_bytes(uint32_t last) {
     char bytes[BYTES];
     disruptor_offer offer;
+    disruptor_counts counts;
     for (size_t h = 0; h < HANDLERS; h++) {
         expect("a poll of bytes", disruptor_poll_bytes(&receivers[h], SIZE, &offer), DISRUPTOR_OK);
         if (offer.kind == DISRUPTOR_BATCH) {
@@ -91,6 +92,7 @@ static void receive_bytes(uint32_t last) {
         }
         expect("a poll of bytes", disruptor_poll_bytes(&receivers[h], SIZE, &offer), DISRUPTOR_OK);
         expect("what it finds", offer.kind, last);
+        expect("a progress", disruptor_progress(&receivers[h], &counts), DISRUPTOR_OK);
     }
 }
 

@@ -10,6 +10,13 @@ static void expect(const char *call, uint32_t is, uint32_t wanted) {
     exit(1);
 }
 
+/* How far an end came. */
+static void expect_progress(const char *call, void *handle, uint64_t begun, uint64_t done) {
+    disruptor_counts counts = {9, 9};
+    expect(call, disruptor_progress(handle, &counts), DISRUPTOR_OK);
+    expect(call, counts.begun == begun && counts.done == done, 1);
+}
+
 enum { BYTES = 12 };
 
 static disruptor_sender sender;
@@ -78,8 +85,7 @@ static void try_other_ends(void) {
     disruptor_counts counts = {9, 9};
     expect("two words by a sender of bytes", disruptor_write(&sender, 0, &event), DISRUPTOR_WRONG_END);
     expect("a poll of words from bytes", disruptor_poll(&receivers[0], &event, 1, &offer), DISRUPTOR_WRONG_END);
-    expect("the progress of a sender of bytes", disruptor_progress(&sender, &counts), DISRUPTOR_WRONG_END);
-    expect("the progress of a receiver of bytes", disruptor_progress(&receivers[0], &counts), DISRUPTOR_WRONG_END);
+    expect("the progress of a halter", disruptor_progress(&halter, &counts), DISRUPTOR_WRONG_END);
     expect("a receiver's write", disruptor_write_bytes((disruptor_sender *)(void *)&receivers[0], 0, bytes, BYTES),
            DISRUPTOR_WRONG_END);
     expect("a sender's poll", disruptor_poll_bytes((disruptor_receiver *)(void *)&sender, 4, &offer), DISRUPTOR_WRONG_END);
@@ -119,6 +125,7 @@ static void try_sending(void) {
     expect("a publication", disruptor_publish(&sender, 0, 2), DISRUPTOR_OK);
     expect("a second one", disruptor_publish(&sender, 0, 2), DISRUPTOR_ALREADY_PUBLISHED);
     expect("a write after it", disruptor_write_bytes(&sender, 2, bytes, BYTES), DISRUPTOR_ALREADY_PUBLISHED);
+    expect_progress("how far the sender came", &sender, 4, 3);
 }
 
 static void expect_text(disruptor_receiver *receiver, uint64_t sequence, const char *text) {
@@ -150,6 +157,8 @@ static void try_receiving(void) {
     expect("a completion of what is not taken", disruptor_complete(&receivers[0], 3), DISRUPTOR_NOT_TAKEN);
     expect("a completion", disruptor_complete(&receivers[0], 1), DISRUPTOR_OK);
     expect("a read of what is completed", disruptor_read_bytes(&receivers[0], 0, bytes, BYTES), DISRUPTOR_NOT_IN_HAND);
+    expect_progress("how far the first handler came", &receivers[0], 2, 1);
+    expect_progress("how far the second came", &receivers[1], 0, 0);
     expect("a completion of more", disruptor_complete(&receivers[0], 2), DISRUPTOR_OK);
     expect("a completion backwards", disruptor_complete(&receivers[0], 1), DISRUPTOR_BEHIND);
     expect("a poll of the second", disruptor_poll_bytes(&receivers[1], 4, &offer), DISRUPTOR_OK);

@@ -148,11 +148,13 @@ CompletesBy upto number end end' =
     OfEachReceiver end end' number (Unit {0}) (λ r r' answer. CompleteCall r upto r' answer) (λ r r' answer. polls_of_several.CompleteCall r upto r' answer)
     (λ r r' answer. polls_of_bytes.CompleteCall r upto r' answer)
 
--- How far an end came: what a sender claimed and published, what a receiver took and completed. One of several senders does not count what it published, and neither a halter nor an end of a ring of bytes counts anything.
+-- How far an end came: what a sender claimed and published, what a receiver took and completed. One of several senders does not count what it published, and a halter counts nothing.
 abbrev pub counts_of : End → Option Counts
 counts_of (Sender s) = Some record { begun = claimed s.knows; done = length s.knows.sent.published }
 counts_of (Receiver r) = Some record { begun = length r.knows.received; done = r.knows.completed }
 counts_of (ReceiverOfSeveral r) = Some record { begun = length r.knows.received; done = r.knows.completed }
+counts_of (SenderOfBytes w) = Some record { begun = records_of_bytes.claimed w.sender.knows; done = length w.sender.knows.published }
+counts_of (ReceiverOfBytes r) = Some record { begun = length r.knows.received; done = r.knows.completed }
 counts_of other = None
 
 -- it is told, or another end refused, which leaves the place as it was

@@ -23,6 +23,8 @@ pub fn tell(end: &End, counts: &mut Counts) -> u32
         End::Sender(sender) => (sender.claimed(), sender.published()),
         End::Receiver(receiver) => (receiver.taken(), receiver.completed()),
         End::ReceiverOfSeveral(receiver) => (receiver.taken(), receiver.completed()),
+        End::SenderOfBytes(writer) => (writer.sender.claimed(), writer.sender.published()),
+        End::ReceiverOfBytes(receiver) => (receiver.taken(), receiver.completed()),
         _ => return WRONG_END,
     };
     *counts = Counts { begun, done };

@@ -1,31 +1,33 @@
--- The ends of a ring stay all of its ends when one receiver is called.
-use Rattle.std.proofs.Common.{◌≡◌, ℕ, zero, suc, ◌≤◌, inl, inr, List, [], ◌∷◌, length, get_or, set, sym, refl, ap, ◌∙◌, subst, arith, length-set}
-use Rattle.std.proofs.lemmas.Bool.{cases_lt}
+-- The ends of a ring stay all of its ends while each keeps its place.
+use Rattle.std.proofs.Common.{◌≡◌, ℕ, ◌<◌, List, length, get_or, set, map, sym, refl, ap, ◌∙◌, subst, arith}
+use Rattle.std.proofs.lemmas.List.{length-map, get_or-map}
+use lib.Seq.{map-set_same}
 use mathlib.Core.Option.{some}
 use lib.ListN.{get_elem?}
-use Rattle.dr_plain.specs.Calls.Ends.{SenderEnd, ReceiverEnd}
+use Rattle.dr_plain.specs.Meaning.Shape.{handlers_of}
+use Rattle.dr_plain.specs.Calls.Ends.{SenderEnd, ReceiverEnd, SenderPlace, ReceiverPlace, sender_place, receiver_place}
 use Rattle.dr_plain.specs.Calls.Settling.{AreAllEnds}
-use Rattle.dr_runs.proofs.Elements.{there, value_at, each_set}
+use Rattle.dr_runs.proofs.Elements.{there, at_below, value_at}
 
 module _ {T : Type 0} where
-  pub all_receiver : (s : SenderEnd T) (rs : List (ReceiverEnd T)) (h : ℕ) (e e' : ReceiverEnd T) → AreAllEnds s rs → get_elem? rs h ≡ some e → e'.ring ≡ e.ring
-      → e'.knows.number ≡ e.knows.number → AreAllEnds s (set rs h e')
-  all_receiver s rs h e e' A here ring number = record {
-    all = length-set rs h e' ∙ A.all;
-    each = each_set (λ j x. (x.ring ≡ s.ring) × (x.knows.number ≡ j)) rs h e'
-        (let t = A.each h e here in (ring ∙ t.0, number ∙ t.1)) (λ j x ne at. A.each j x at);
-  }
+  -- the place of the receiver h
+  place_at : (rs : List (ReceiverEnd T)) (h : ℕ) (e : ReceiverEnd T) (d : ReceiverPlace) → get_elem? rs h ≡ some e → get_or (map receiver_place rs) h d ≡ receiver_place e
+  place_at rs h e d at = get_or-map receiver_place rs h e d (at_below rs h e at) ∙ ap receiver_place (value_at rs h e e at)
 
-  set_past : (rs : List (ReceiverEnd T)) (h : ℕ) (e : ReceiverEnd T) → length rs ≤ h → set rs h e ≡ rs
-  set_past [] h e le = refl
-  set_past (r ∷ rs) zero e le = absurd (omega arith)
-  set_past (r ∷ rs) (suc h) e le = ap (λ (xs : List (ReceiverEnd T)). r ∷ xs) (set_past rs h e (omega arith))
+  -- the sender and each receiver keep their places
+  pub still_all : (s s' : SenderEnd T) (rs rs' : List (ReceiverEnd T)) → sender_place s' ≡ sender_place s → map receiver_place rs' ≡ map receiver_place rs
+      → AreAllEnds s rs → AreAllEnds s' rs'
+  still_all s s' rs rs' sends places A =
+      let count : length rs' ≡ length rs = sym (length-map rs' receiver_place) ∙ ap length places ∙ length-map rs receiver_place in record {
+        all = count ∙ A.all ∙ ap (λ (p : SenderPlace). handlers_of p.1) (sym sends);
+        each = λ h e' at. (
+            let inside : h < length rs = (let b = at_below rs' h e' at in omega arith) in let old = there rs h inside in let was = A.each h old.0 old.1 in
+            let p = receiver_place e' in
+            let same : p ≡ receiver_place old.0 = sym (place_at rs' h e' p at) ∙ ap (λ (ps : List ReceiverPlace). get_or ps h p) places ∙ place_at rs h old.0 p old.1 in
+            (ap (λ (x : ReceiverPlace). x.0) same ∙ was.0 ∙ ap (λ (x : SenderPlace). x.0) (sym sends), ap (λ (x : ReceiverPlace). x.2) same ∙ was.1));
+      }
 
-  pub all_receiver_at : (s : SenderEnd T) (rs : List (ReceiverEnd T)) (h : ℕ) (e e' : ReceiverEnd T) → AreAllEnds s rs → e ≡ get_or rs h e → e'.ring ≡ e.ring
-      → e'.knows.number ≡ e.knows.number → AreAllEnds s (set rs h e')
-  all_receiver_at s rs h e e' A at ring number =
-      elim (cases_lt h (length rs)) [
-        | inl lt ↦ (let t = there rs h lt in let same : t.0 ≡ e = sym (at ∙ value_at rs h t.0 e t.1) in
-            all_receiver s rs h e e' A (t.1 ∙ ap (λ (x : ReceiverEnd T). some x) same) ring number)
-        | inr past ↦ subst (AreAllEnds s) (sym (set_past rs h e' past)) A
-      ]
+  -- one receiver is called, and keeps its place
+  pub all_receiver_at : (s : SenderEnd T) (rs : List (ReceiverEnd T)) (h : ℕ) (e e' : ReceiverEnd T) → AreAllEnds s rs → e ≡ get_or rs h e
+      → receiver_place e' ≡ receiver_place e → AreAllEnds s (set rs h e')
+  all_receiver_at s rs h e e' A at same = still_all s s rs (set rs h e') refl (map-set_same receiver_place rs h e' e (same ∙ ap receiver_place at)) A

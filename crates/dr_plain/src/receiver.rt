@@ -100,6 +100,20 @@ impl<T> Receiver<T> {
         Some(self.station.read(sequence, &self.parts))
     }
 
+    /// How many events it took.
+    pub fn taken(&self) -> u64
+        ensures { result ≡ length self.now.knows.received }
+    {
+        self.taken
+    }
+
+    /// How many events it completed.
+    pub fn completed(&self) -> u64
+        ensures { result ≡ self.now.knows.completed }
+    {
+        self.completed
+    }
+
     /// How many words the receiver has loaded that other ends store, up to the greatest `u64`.
     pub fn looks(&self) -> u64
         ensures { result ≡ looks_counted self.now.knows.looks }

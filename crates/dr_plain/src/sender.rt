@@ -1,7 +1,8 @@
 //! The one end that claims, writes and publishes.
 
-ghost use Rattle.std.specs.Prelude.{◌≡◌};
+ghost use Rattle.std.specs.Prelude.{◌≡◌, length};
 ghost use Rattle.dr_runs.specs.Looks.{looks_counted};
+ghost use Rattle.dr_plain.specs.Meaning.Records.{claimed as claimed_by};
 ghost use Rattle.dr_plain.specs.Calls.Sending.{ClaimCall, WriteCall, PublishCall, CloseCall};
 
 use crate::dealt::{put_at, write_in};
@@ -129,6 +130,20 @@ impl<T> Sender<T> {
         self.station.halt();
         self.station.close();
         Ok(())
+    }
+
+    /// How many sequences it claimed.
+    pub fn claimed(&self) -> u64
+        ensures { result ≡ claimed_by self.now.knows }
+    {
+        self.claimed
+    }
+
+    /// How many events it published.
+    pub fn published(&self) -> u64
+        ensures { result ≡ length self.now.knows.published }
+    {
+        self.published
     }
 
     /// How many words the sender has loaded that other ends store, up to the greatest `u64`.

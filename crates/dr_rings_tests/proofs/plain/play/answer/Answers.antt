@@ -1,9 +1,8 @@
-use Rattle.std.proofs.Common.{ap}
 use Rattle.dr_plain.proofs.Keeping.{all_receiver_at}
 use Rattle.dr_rings_tests.proofs.plain.play.answer.Goals as goal
 
 pub returns-after-h-len : goal.returns-after-h-len
-returns-after-h-len g c = (all_receiver_at _ _ c.in-Poll.h _ _ c.requires.0 c.index_mut.ensures.value (ap (λ p. p.0) c.poll_into.ensures.kept) (ap (λ p. p.2) c.poll_into.ensures.kept), c.requires.1)
+returns-after-h-len g c = (all_receiver_at _ _ c.in-Poll.h _ _ c.requires.0 c.index_mut.ensures.value c.poll_into.ensures.kept, c.requires.1)
 
 pub returns-in-Complete : goal.returns-in-Complete
-returns-in-Complete g c = (all_receiver_at _ _ c.in-Complete.h _ _ c.requires.0 c.index_mut-in-Complete.ensures.value (ap (λ p. p.0) c.complete.ensures.0) (ap (λ p. p.2) c.complete.ensures.0), c.requires.1)
+returns-in-Complete g c = (all_receiver_at _ _ c.in-Complete.h _ _ c.requires.0 c.index_mut-in-Complete.ensures.value c.complete.ensures.0, c.requires.1)
