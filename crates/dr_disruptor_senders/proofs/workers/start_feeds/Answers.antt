@@ -1,0 +1,27 @@
+use Rattle.std.proofs.Common.{rules, ◌≡◌, ◌++◌, ◌∷◌, [], ap, arith, length, length-append, map}
+use Rattle.std.specs.Vec.Iter.{into_iter_items}
+use Rattle.std.proofs.lemmas.List.Elements.{All-rest}
+use Rattle.std.proofs.lemmas.Grind.{common_steps}
+use lib.ListN.{length-map}
+use Rattle.dr_disruptor_senders.specs.Serving.{fed_sender, given_feed}
+use Rattle.dr_disruptor_senders.proofs.workers.start_feeds.Goals as goal
+
+pub loop-sender-preserved : goal.loop-sender-preserved
+loop-sender-preserved g c =
+    let inv = c.loop-sender.invariant in
+    let started = c.push.new.self.items in
+    let left = into_iter_items c.next-in-loop-sender.new.self in
+    let is_started : started ≡ c.loop-sender.started.items ++ c.in-Ok.feeder ∷ [] = search rules in
+    let ends : map fed_sender started ++ c.next.new.self.rest.items ≡ c.args.senders.items = grind (arith, common_steps) in
+    let feeds : map given_feed started ++ left ≡ c.args.feeds.items = grind (arith, common_steps) in
+    let same : length c.next.new.self.rest.items ≡ length left = search rules in
+    let all = ap length feeds in
+    let both = length-append (map given_feed started) left in
+    let many = length-map started given_feed in
+    let next : into_iter_items c.loop-sender.feeds ≡ c.in-Some.feed ∷ left = search rules in (
+      ends,
+      feeds,
+      same,
+      omega arith,
+      All-rest (λ f. goal.F-IsAlwaysCallable g f) c.in-Some.feed left (into_iter_items c.loop-sender.feeds) next inv.4,
+    )
