@@ -1,7 +1,9 @@
 //! A sender's worker, which sends a script or what a closure sends, with what it promises.
 
-ghost use Rattle.std.specs.Prelude.{◌≡◌};
+ghost use Rattle.std.specs.Prelude.{◌≡◌, Option};
 ghost use Rattle.std.specs.Fn.{FnOnceReturnsAtMut};
+ghost use Rattle.dr_workers.specs.declared.fault.WorkFault.{WorkFault};
+ghost use Rattle.dr_senders.specs.Calls.Ends.{SenderEnd};
 ghost use Rattle.dr_disruptor_senders.specs.Serving.{Sending};
 
 use dr_senders::Sender;
@@ -83,6 +85,27 @@ pub fn send<R: Wait>(
     }
 }
 
+/// What is called with a sender of its own, on a thread of its own: any closure that takes one.
+pub(crate) trait Feed {
+    ghost callable: { Self → Type 0 };
+
+    ghost gives: { Self → SenderEnd → Option WorkFault → SenderEnd → Type 0 };
+
+    fn feed(self, sender: &mut LiveSender) -> Option<WorkFault>
+        requires { callable self }
+        ensures { gives self sender.old result sender.new };
+}
+
+impl<F: FnOnce(&mut LiveSender) -> Option<WorkFault>> Feed for F {
+    ghost callable = { λ f. F.IsAlwaysCallable f };
+
+    ghost gives = { FnOnceReturnsAtMut F.FnOnce };
+
+    fn feed(self, sender: &mut LiveSender) -> Option<WorkFault> {
+        self(sender)
+    }
+}
+
 /// The promise of the worker that is given an end, and a closure to send by it.
 pub(crate) struct FeedsPromise<F> {
     end: Snapshot<Sender>,
@@ -107,21 +130,17 @@ impl<F> Drop for FeedsPromise<F> {
     }
 }
 
-impl<F: FnOnce(&mut LiveSender) -> Option<WorkFault>> Promise<Sent> for FeedsPromise<F> {
-    ghost kept_by = { λ p r. FnOnceReturnsAtMut F.FnOnce p.feed.value p.end.value r.fault r.sender };
+impl<F: Feed> Promise<Sent> for FeedsPromise<F> {
+    ghost kept_by = { λ p r. F.gives p.feed.value p.end.value r.fault r.sender };
 }
 
 /// Calls a closure with a sender that rings the bell with each publication.
-pub(crate) fn send_by<F: FnOnce(&mut LiveSender) -> Option<WorkFault>>(
-    sender: Sender,
-    feed: F,
-    bell: Arc<Bell, Global>,
-) -> Sent
-    requires { F.IsAlwaysCallable feed }
-    ensures { FnOnceReturnsAtMut F.FnOnce feed sender result.fault result.sender }
+pub(crate) fn send_by<F: Feed>(sender: Sender, feed: F, bell: Arc<Bell, Global>) -> Sent
+    requires { F.callable feed }
+    ensures { F.gives feed sender result.fault result.sender }
 {
     let mut live = Ringing::new(sender, bell);
-    let fault = feed(&mut live);
+    let fault = feed.feed(&mut live);
     Sent {
         sender: live.into_end(),
         fault,

@@ -1,7 +1,6 @@
 //! The threads of a ring's handlers and senders: how they are started, and what they give back.
 
 ghost use Rattle.std.specs.Prelude.{◌≡◌, ◌≤◌, ◌++◌, [], All, false, IfErr, IfOk, OnOk, length, map};
-ghost use Rattle.std.specs.Fn.{FnOnceReturnsAtMut};
 ghost use Rattle.dr_meaning.specs.declared.mode.Mode.TheVariants.{Multi};
 ghost use Rattle.dr_meaning.specs.Calls.OpenFault.{has_bad_producers};
 ghost use Rattle.dr_senders.specs.Calls.Making.{AreFreshEnds};
@@ -10,13 +9,13 @@ ghost use Rattle.dr_senders.specs.Meaning.Shape.{IsShape};
 ghost use Rattle.dr_threads.specs.Serving.{given_end, given_handler};
 ghost use Rattle.dr_disruptor_senders.specs.Serving.{AreGiven, AreKept, AreSent, HaltsOnly, SendsFeed, SendsScript, fed_sender, given_feed, given_script, given_sender, given_size, refusal_of, sender_endings, shape_of};
 
-use crate::sending::{FeedsPromise, LiveSender, SendsPromise, Sent, send, send_by};
+use crate::sending::{Feed, FeedsPromise, SendsPromise, Sent, send, send_by};
 use dr_graph::Graph;
 use dr_meaning::{Handler, MAX_LIMIT, Mode};
 use dr_senders::{Halter, Receiver, Sender, senders_ring};
 use dr_seq::{Event, Size};
 use dr_threads::{RunFault, Served, WaitStrategy, join, start, wait_for};
-use dr_workers::{Bell, Ended, Ringing, WorkFault};
+use dr_workers::{Bell, Ended, Ringing};
 use std::alloc::{AllocError, Global};
 use std::sync::{Arc, Wait};
 use std::thread::{self, Promise, PromisedHandle, Threads, join_promised};
@@ -109,7 +108,7 @@ fn start_senders<R: Threads + Wait + Copy + Send + 'static>(
 }
 
 // As `start_senders`, with a closure for each sender.
-fn start_feeds<R: Threads, F: FnOnce(&mut LiveSender) -> Option<WorkFault> + Drop + Send + 'static>(
+fn start_feeds<R: Threads, F: Feed + Drop + Send + 'static>(
     rt: &R,
     started: &mut Vec<Feeder<F>>,
     senders: Vec<Sender>,
@@ -118,7 +117,7 @@ fn start_feeds<R: Threads, F: FnOnce(&mut LiveSender) -> Option<WorkFault> + Dro
 ) -> Result<(), AllocError>
     requires none { started.old.items ≡ [] }
     requires many { length senders.items ≡ length feeds.items }
-    requires callable { All (λ f. F.IsAlwaysCallable f) feeds.items }
+    requires callable { All (λ f. F.callable f) feeds.items }
     ensures ends { OnOk result (map fed_sender started.new.items ≡ senders.items) }
     ensures feeds { OnOk result (map given_feed started.new.items ≡ feeds.items) }
 {
@@ -216,10 +215,7 @@ pub(crate) fn send_all<R: Threads + Wait + Copy + Send + 'static>(
 
 /// Gives each closure the sender at its place, on a thread of its own, and waits until all are back. Where a thread
 /// cannot be started it is as with [`send_all`].
-pub(crate) fn feed_all<
-    R: Threads,
-    F: FnOnce(&mut LiveSender) -> Option<WorkFault> + Drop + Send + 'static,
->(
+pub(crate) fn feed_all<R: Threads, F: Feed + Drop + Send + 'static>(
     rt: &R,
     alloc: Global,
     halter: &mut LiveHalter,
@@ -228,9 +224,9 @@ pub(crate) fn feed_all<
     bell: &Arc<Bell, Global>,
 ) -> Result<Vec<Sent>, AllocError>
     requires many { length senders.items ≡ length feeds.items }
-    requires callable { All (λ f. F.IsAlwaysCallable f) feeds.items }
+    requires callable { All (λ f. F.callable f) feeds.items }
     ensures halter { OnOk result (halter.new ≡ halter.old) }
-    ensures sent { IfOk result (λ sent. AreSent (SendsFeed (FnOnceReturnsAtMut F.FnOnce) feeds.items) senders.items sent.items) }
+    ensures sent { IfOk result (λ sent. AreSent (SendsFeed F.gives feeds.items) senders.items sent.items) }
 {
     let mut started = Vec::new(alloc);
     let Ok(()) = start_feeds(rt, &mut started, senders, feeds, bell) else {

@@ -1,4 +1,3 @@
-use Rattle.std.specs.Fn.{FnOnceReturnsAtMut}
 use Rattle.std.specs.Global.{Vec}
 use Rattle.dr_disruptor_senders.specs.declared.sending.FeedsPromise.{FeedsPromise}
 use Rattle.dr_disruptor_senders.specs.declared.sending.Sent.{Sent}
@@ -9,7 +8,7 @@ use Rattle.dr_disruptor_senders.proofs.workers.feed_all.Goals as goal
 pub returns-in-Ok-clause-sent : goal.returns-in-Ok-clause-sent
 returns-in-Ok-clause-sent g c =
     let started = c.start_feeds.new.started.items in
-    let gives = FnOnceReturnsAtMut g.F.FnOnce in
+    let gives = g.F.Feed.gives in
     then_ok (λ (v : Vec Sent). AreGiven (λ (p : FeedsPromise g.row.F.Denot) (r : Sent). gives p.feed.value p.end.value r.fault r.sender) started v.items)
     (λ (v : Vec Sent). AreSent (SendsFeed gives c.args.feeds.items) c.args.senders.items v.items) c.ended.result c.ended.ensures (λ v are.
     feeds_sent gives c.args.feeds.items started c.args.senders.items v.items c.in-Ok.ensures.ends c.in-Ok.ensures.feeds are)

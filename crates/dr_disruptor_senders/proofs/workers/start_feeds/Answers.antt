@@ -1,6 +1,6 @@
-use Rattle.std.proofs.Common.{rules, ◌≡◌, ◌++◌, ◌∷◌, [], ap, arith, length, length-append, map}
+use Rattle.std.proofs.Common.{rules, ◌≡◌, ◌++◌, ◌∷◌, [], ap, arith, length, length-append, map, subst, All}
 use Rattle.std.specs.Vec.Iter.{into_iter_items}
-use Rattle.std.proofs.lemmas.List.Elements.{All-rest}
+use Rattle.std.proofs.lemmas.List.Elements.{All-head, All-rest}
 use Rattle.std.proofs.lemmas.Grind.{common_steps}
 use lib.ListN.{length-map}
 use Rattle.dr_disruptor_senders.specs.Serving.{fed_sender, given_feed}
@@ -18,10 +18,18 @@ loop-sender-preserved g c =
     let all = ap length feeds in
     let both = length-append (map given_feed started) left in
     let many = length-map started given_feed in
-    let next : into_iter_items c.loop-sender.feeds ≡ c.in-Some.feed ∷ left = search rules in (
+    let next : into_iter_items c.loop-sender.feeds ≡ c.in-Some-next.feed ∷ left = search rules in (
       ends,
       feeds,
       same,
       omega arith,
-      All-rest (λ f. goal.F-IsAlwaysCallable g f) c.in-Some.feed left (into_iter_items c.loop-sender.feeds) next inv.4,
+      All-rest (λ f. g.F.Feed.callable f) c.in-Some-next.feed left (into_iter_items c.loop-sender.feeds) next inv.4,
     )
+
+pub spawn_with-requires-clause-runs : goal.spawn_with-requires-clause-runs
+spawn_with-requires-clause-runs g c =
+    let left = into_iter_items c.next-in-loop-sender.new.self in
+    let next : into_iter_items c.loop-sender.feeds ≡ c.in-Some-next.feed ∷ left = search rules in
+    let Callable : g.row.F.Denot → Type 0 = λ f. g.F.Feed.callable f in
+    let callable : g.F.Feed.callable c.in-Some-next.feed = All-head Callable c.in-Some-next.feed left (subst (All Callable) next c.loop-sender.invariant.4) in
+    search rules

@@ -10,4 +10,4 @@ invariant-loop-sender g l =
     × (map given_feed l.started.items ++ into_iter_items l.feeds ≡ l.fn.feeds.items)
     × (length l.sender-iterator.rest.items ≡ length (into_iter_items l.feeds))
     × (length l.started.items + length (into_iter_items l.feeds) ≡ length l.fn.feeds.items)
-    × All (λ f. goal.F-IsAlwaysCallable g f) (into_iter_items l.feeds)
+    × All (λ f. g.F.Feed.callable f) (into_iter_items l.feeds)
