@@ -104,10 +104,10 @@ joins_ok goes ws items P (Ok v) t ran joined is has then_is = then_is v is has j
 joins_ok goes ws items P (Err e) t ran joined is has then_is = absurd joined
 
 -- what a sender's worker did, of the end that it was given
-pub sends : (size cut : ℕ) (script events : List Event) (given from back to : SenderEnd) (produced : Produced) → from ≡ given → to ≡ back → events ≡ script → cut ≡ max (size / 4) 1
+pub worker_sends : (size cut : ℕ) (script events : List Event) (given from back to : SenderEnd) (produced : Produced) → from ≡ given → to ≡ back → events ≡ script → cut ≡ max (size / 4) 1
     → sender_place back ≡ sender_place from → SomeCalls sender_does from back (worker.Sends cut events (λ passage. ⊥) (λ passage. ⊥) produced) → produced.sent ≤ length events
     → IfNone produced.fault (produced.sent ≡ length events) → produced.fault ≢ Some Stopped → Sending size script given (record { sender = to; fault = produced.fault })
-sends size cut script events given from back to produced one other same is place calls within all stopped = record {
+worker_sends size cut script events given from back to produced one other same is place calls within all stopped = record {
   sent = produced.sent;
   place = ap sender_place other ∙ place ∙ ap sender_place one;
   calls = subst (λ (e : SenderEnd). SomeCalls sender_does given e (worker.Sends (max (size / 4) 1) script (λ passage. ⊥) (λ passage. ⊥) produced)) (sym other)
@@ -133,9 +133,11 @@ scripts_sent size ws scripts ss sent ends given sizes are = record {
       let same : given_size w ≡ size = ap given_size (sym (value_at ws p w w at_w)) ∙ sizes p w inside in (
         given_sender w,
         ap (λ (l : List SenderEnd). get_elem? l p) (sym ends) ∙ at_map given_sender ws p w at_w,
-        (given_script w).items,
-        at_map (λ (s : Vec Event). s.items) scripts p (given_script w) (ap (λ (l : List (Vec Event)). get_elem? l p) (sym given) ∙ at_map given_script ws p w at_w),
-        subst (λ (n : ℕ). Sending n (given_script w).items (given_sender w) back) same kept,
+        (
+          (given_script w).items,
+          at_map (λ (s : Vec Event). s.items) scripts p (given_script w) (ap (λ (l : List (Vec Event)). get_elem? l p) (sym given) ∙ at_map given_script ws p w at_w),
+          subst (λ (n : ℕ). Sending n (given_script w).items (given_sender w) back) same kept,
+        ),
       );
 }
 
@@ -153,9 +155,7 @@ module _ {F : Type 0} (gives : F → SenderEnd → Option WorkFault → SenderEn
         let (w, at_w, kept) = are.each p back at in (
           fed_sender w,
           ap (λ (l : List SenderEnd). get_elem? l p) (sym ends) ∙ at_map fed_sender ws p w at_w,
-          given_feed w,
-          ap (λ (l : List F). get_elem? l p) (sym given) ∙ at_map given_feed ws p w at_w,
-          kept,
+          (given_feed w, ap (λ (l : List F). get_elem? l p) (sym given) ∙ at_map given_feed ws p w at_w, kept),
         );
   }
 
@@ -177,7 +177,7 @@ ready sends r ss rs ws made begun after stay are still was ends all =
     (senders_back sends ss (map given_end ws) made v.items stay sent (subst (λ (l : List ReceiverEnd). AreAllEnds ss l made) (sym ends) all)))
 
 -- there are no more of them than there were senders
-pub few_back : {H : Type 0} (sends : ℕ → SenderEnd → Sent → Type 0) (r : Result (Vec Sent) AllocError) (ss : List SenderEnd)
-    → IfOk r (λ v. AreSent sends ss v.items) → OnOk r H → length ss ≤ 16 → IfOk r (λ v. length v.items ≤ 16)
-few_back sends r ss are still few =
-    both_ok (λ (v : Vec Sent). AreSent sends ss v.items) (λ (v : Vec Sent). length v.items ≤ 16) r are still (λ v sent same. let many = sent.many in omega arith)
+pub few_back : (sends : ℕ → SenderEnd → Sent → Type 0) (r : Result (Vec Sent) AllocError) (ss : List SenderEnd)
+    → IfOk r (λ v. AreSent sends ss v.items) → length ss ≤ 16 → IfOk r (λ v. length v.items ≤ 16)
+few_back sends r ss are few =
+    then_ok (λ (v : Vec Sent). AreSent sends ss v.items) (λ (v : Vec Sent). length v.items ≤ 16) r are (λ v sent. let many = sent.many in omega arith)

@@ -27,7 +27,7 @@ finish-requires-clause-few g c =
     let sent = c.feed_all-sent in
     let few = made.ensures.few in
     let many = made.ensures.many.2 in
-    few_back (SendsFeed (FnOnceReturnsAtMut g.F.FnOnce) c.args.feeds.items) sent.result made.senders.items sent.ensures.sent sent.ensures.halter (omega arith)
+    few_back (SendsFeed (FnOnceReturnsAtMut g.F.FnOnce) c.args.feeds.items) sent.result made.senders.items sent.ensures.sent (omega arith)
 
 pub returns-clause-run : goal.returns-clause-run
 returns-clause-run g c =

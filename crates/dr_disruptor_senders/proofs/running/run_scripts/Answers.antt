@@ -30,7 +30,7 @@ finish-requires-clause-few g c =
     let scripts = map (λ (s : Vec Event). s.items) c.args.scripts.items in
     let few = made.ensures.few in
     let many = made.ensures.many.2 in
-    few_back (SendsScript c.args.size scripts) sent.result made.senders.items sent.ensures.sent sent.ensures.halter (omega arith)
+    few_back (SendsScript c.args.size scripts) sent.result made.senders.items sent.ensures.sent (omega arith)
 
 pub returns-clause-run : goal.returns-clause-run
 returns-clause-run g c =

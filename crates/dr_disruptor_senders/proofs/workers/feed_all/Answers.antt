@@ -5,8 +5,8 @@ use Rattle.dr_disruptor_senders.specs.Serving.{AreGiven, AreSent, SendsFeed}
 use Rattle.dr_disruptor_senders.proofs.Ready.{feeds_sent, then_ok}
 use Rattle.dr_disruptor_senders.proofs.workers.feed_all.Goals as goal
 
-pub returns-in-Ok-clause-sent : goal.returns-in-Ok-clause-sent
-returns-in-Ok-clause-sent g c =
+pub returns-clause-sent : goal.returns-clause-sent
+returns-clause-sent g c =
     let started = c.start_feeds.new.started.items in
     let gives = g.F.Feed.gives in
     then_ok (λ (v : Vec Sent). AreGiven (λ (p : FeedsPromise g.row.F.Denot) (r : Sent). gives p.feed.value p.end.value r.fault r.sender) started v.items)

@@ -7,8 +7,8 @@ use Rattle.dr_disruptor_senders.specs.Serving.{AreGiven, AreSent, Sending, Sends
 use Rattle.dr_disruptor_senders.proofs.Ready.{scripts_sent, then_ok}
 use Rattle.dr_disruptor_senders.proofs.workers.send_all.Goals as goal
 
-pub returns-in-Ok-clause-sent : goal.returns-in-Ok-clause-sent
-returns-in-Ok-clause-sent g c =
+pub returns-clause-sent : goal.returns-clause-sent
+returns-clause-sent g c =
     let started = c.start_senders.new.started.items in
     let scripts = map (λ (s : Vec Event). s.items) c.args.scripts.items in
     then_ok (λ (v : Vec Sent). AreGiven (λ (p : SendsPromise) (r : Sent). Sending p.size p.script.value.items p.end.value r) started v.items)
