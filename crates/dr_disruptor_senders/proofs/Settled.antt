@@ -39,7 +39,7 @@ use Rattle.dr_threads.specs.Serving.{endings_from, given_end, given_handler}
 use Rattle.dr_threads.proofs.Settled as threads
 use Rattle.dr_disruptor_senders.specs.declared.sending.Sent.{Sent}
 use Rattle.dr_disruptor_senders.specs.Running.{IsJoined, IsRan, IsRanBy, JoinsAll, PublishesScript, Ran, events_of, new_receiver, new_sender}
-use Rattle.dr_disruptor_senders.specs.Serving.{AreSent, HaltsOnly, Sending, SendsFeed, SendsScript, Served, Worker, is_told, received_by, sender_endings}
+use Rattle.dr_disruptor_senders.specs.Serving.{AreSent, HaltsOnly, SendsFeed, SendsScript, Served, Worker, is_told, received_by, sender_endings}
 use Rattle.dr_disruptor_senders.proofs.Merged.{merged}
 use Rattle.dr_disruptor_senders.proofs.Owned.{AreOwn, are_own, own_from}
 use Rattle.dr_disruptor_senders.proofs.Polled.{SawAtMost, polled, saw_claimed}
