@@ -85,7 +85,8 @@ pub fn send<R: Wait>(
     }
 }
 
-/// What is called with a sender of its own, on a thread of its own: any closure that takes one.
+/// What is called with a sender of its own, on a thread of its own: any closure that takes one. A promise names this
+/// bound, since it has no function, and a closure's own bound cannot be stated of a block that has none.
 pub(crate) trait Feed {
     ghost callable: { Self → Type 0 };
 

@@ -29,8 +29,10 @@ pub(crate) type LiveHalter = Ringing<Halter, Arc<Bell, Global>>;
 /// A handler's thread.
 pub(crate) type Worker<H> = dr_threads::Worker<Receiver, H>;
 
-/// The thread of a sender that sends a script, and of one that a closure sends by.
+/// The thread of a sender that sends a script.
 pub(crate) type Producer = PromisedHandle<Sent, SendsPromise>;
+
+/// The thread of a sender that a closure sends by.
 pub(crate) type Feeder<F> = PromisedHandle<Sent, FeedsPromise<F>>;
 
 /// The ends of a new ring for a graph, with as many handlers as it has and so many senders, and the bell that wakes
