@@ -4,5 +4,5 @@ pub mod Publishing
 pub mod Merged
 pub mod Untroubled
 pub mod Polled
-pub mod Settled
 pub mod Ready
+pub mod Settled

@@ -1,5 +1,8 @@
 -- What workers gave back, once the ends of their ring came together.
-use Rattle.std.proofs.Common.{◌≡◌, ℕ, zero, suc, ◌+◌, ◌<◌, true, Bool, List, [], ◌∷◌, All, cond, length, map, take, None, refl, sym, subst, ap, ◌∙◌, arith}
+use Rattle.std.proofs.Common.{◌≡◌, ℕ, zero, suc, ◌+◌, ◌<◌, true, Bool, List, [], ◌∷◌, All, cond, length, map, take, Option, None, Result, refl, sym, subst, ap, ◌∙◌, arith}
+use Rattle.std.specs.Prelude.{IfOk, OnOk}
+use Rattle.std.specs.Global.{Vec}
+use Rattle.std.specs.declared.alloc.AllocError.{AllocError}
 use Rattle.std.specs.List.{take_while}
 use Rattle.std.proofs.lemmas.List.{take_all}
 use Rattle.std.proofs.lemmas.List.Sums.{take_while-cons}
@@ -10,6 +13,7 @@ use Rattle.dr_seq.specs.declared.event.Event.{Event}
 use Rattle.dr_meaning.specs.Calls.Handling.{Relation}
 use Rattle.dr_workers.specs.Meaning.Work.{batches_in}
 use Rattle.dr_workers.specs.declared.ended.Ended.{Ended}
+use Rattle.dr_workers.specs.declared.fault.WorkFault.{WorkFault}
 use Rattle.dr_workers.specs.Meaning.Merge.{IsMerge}
 use Rattle.dr_runs.proofs.Elements.{there, at_below, value_at}
 use Rattle.dr_runs.proofs.Lists.{at_behind, map_there}
@@ -26,7 +30,7 @@ use Rattle.dr_senders.specs.Calls.Ends.{EndPlace, HalterEnd, ReceiverEnd, Sender
 use Rattle.dr_senders.specs.Calls.Making.{AreFreshEnds, at_ring}
 use Rattle.dr_senders.specs.Calls.Receiving.{ups_of}
 use Rattle.dr_senders.specs.Calls.Telling.{receiver_does}
-use Rattle.dr_senders.proofs.Beginning.{kept_new_world, receiver_fresh, receivers_count, sender_fresh}
+use Rattle.dr_senders.proofs.Beginning.{kept_new_world, receiver_fresh, receivers_count, sender_fresh, senders_count}
 use Rattle.dr_senders.proofs.Pictures.{keeps_runs}
 use Rattle.dr_senders.proofs.Places.{one_value}
 use Rattle.dr_threads.specs.Endings.{AreFine}
@@ -34,13 +38,14 @@ use Rattle.dr_threads.specs.Handlers.{AllWentThroughMerge, IsPolled}
 use Rattle.dr_threads.specs.Serving.{endings_from, given_end, given_handler}
 use Rattle.dr_threads.proofs.Settled as threads
 use Rattle.dr_disruptor_senders.specs.declared.sending.Sent.{Sent}
-use Rattle.dr_disruptor_senders.specs.Running.{IsJoined, IsRan, Ran, new_receiver, new_sender, sent_of}
-use Rattle.dr_disruptor_senders.specs.Serving.{AreSent, HaltsOnly, Sending, Served, Worker, is_told, received_by, sender_endings}
+use Rattle.dr_disruptor_senders.specs.Running.{IsJoined, IsRan, IsRanBy, JoinsAll, PublishesScript, Ran, events_of, new_receiver, new_sender}
+use Rattle.dr_disruptor_senders.specs.Serving.{AreSent, HaltsOnly, SendsFeed, SendsScript, Served, Worker, is_told, received_by, sender_endings}
 use Rattle.dr_disruptor_senders.proofs.Merged.{merged}
 use Rattle.dr_disruptor_senders.proofs.Owned.{AreOwn, are_own, own_from}
 use Rattle.dr_disruptor_senders.proofs.Polled.{SawAtMost, polled, saw_claimed}
 use Rattle.dr_disruptor_senders.proofs.Rising.{Rise, own_rises, sequences}
 use Rattle.dr_disruptor_senders.proofs.Publishing.{AreOut, events_in, sent_in_order}
+use Rattle.dr_disruptor_senders.proofs.Ready.{joins_ok}
 use Rattle.dr_disruptor_senders.proofs.Untroubled.{answers}
 
 -- Of lists.
@@ -55,37 +60,24 @@ taken_whole (t ∷ ts) out =
     take_while-cons is_published t ts ∙ ap (λ (b : Bool). cond b (t ∷ take_while is_published ts) []) (out 0 t refl)
     ∙ ap (λ (l : List Stage). t ∷ l) (taken_whole ts (λ s u at. out (suc s) u at))
 
-sent_at : (scripts : List (List Event)) (sent : List Sent) (p : ℕ) (script : List Event) (back : Sent) → get_elem? scripts p ≡ some script → get_elem? sent p ≡ some back
-    → get_elem? (sent_of scripts sent) p ≡ some (take back.produced.sent script)
-sent_at [] sent p script back at there = absurd (some-ne-none script (sym at))
-sent_at (x ∷ scripts) [] p script back at there = absurd (some-ne-none back (sym there))
-sent_at (x ∷ scripts) (b ∷ sent) zero script back at there =
-    ap (λ (l : List Event). some (take b.produced.sent l)) (some-injective x script at) ∙ ap (λ (c : Sent). some (take c.produced.sent script)) (some-injective b back there)
-sent_at (x ∷ scripts) (b ∷ sent) (suc p) script back at there = sent_at scripts sent p script back at there
-
-sent_many : (scripts : List (List Event)) (sent : List Sent) → length sent ≡ length scripts → length (sent_of scripts sent) ≡ length scripts
-sent_many [] sent many = refl
-sent_many (x ∷ scripts) [] many = absurd (omega arith)
-sent_many (x ∷ scripts) (b ∷ sent) many = ap suc (sent_many scripts sent (omega arith))
-
--- where each script is sent whole
-sent_whole : (scripts : List (List Event)) (sent : List Sent)
-    → ((p : ℕ) (script : List Event) → get_elem? scripts p ≡ some script → (back : Sent) × (get_elem? sent p ≡ some back) × (back.produced.sent ≡ length script))
-    → sent_of scripts sent ≡ scripts
-sent_whole [] sent all = refl
-sent_whole (x ∷ scripts) [] all = let first = all 0 x refl in absurd (some-ne-none first.0 (sym first.1))
-sent_whole (x ∷ scripts) (b ∷ sent) all =
-    let first = all 0 x refl in
+-- where each sender published its script
+published_whole : (scripts : List (List Event)) (sent : List Sent) → length sent ≡ length scripts
+    → ((p : ℕ) → p < length scripts → (back : Sent) × (get_elem? sent p ≡ some back) × (get_elem? scripts p ≡ some (events_of back.sender)))
+    → map (λ s. events_of s.sender) sent ≡ scripts
+published_whole [] [] many all = refl
+published_whole [] (b ∷ sent) many all = absurd (omega arith)
+published_whole (x ∷ scripts) [] many all = absurd (omega arith)
+published_whole (x ∷ scripts) (b ∷ sent) many all =
+    let first = all 0 (omega arith) in
     let same : b ≡ first.0 = some-injective b first.0 first.1 in
-    let many : b.produced.sent ≡ length x = ap (λ (c : Sent). c.produced.sent) same ∙ first.2 in
-    let here : take b.produced.sent x ≡ x = take_all b.produced.sent x (omega arith) in
-    let rest = sent_whole scripts sent (λ p script at. all (suc p) script at) in
+    let here : events_of b.sender ≡ x = ap (λ (c : Sent). events_of c.sender) same ∙ sym (some-injective x (events_of first.0.sender) first.2) in
+    let rest = published_whole scripts sent (omega arith) (λ p inside. all (suc p) (omega arith)) in
     λ i. here i ∷ rest i
 
 sender_ending_at : (who : ℕ) (sent : List Sent) (p : ℕ) (back : Sent) → get_elem? sent p ≡ some back
-    → (e : Ended) × (get_elem? (sender_endings who sent) p ≡ some e) × (e.fault ≡ back.produced.fault)
+    → (e : Ended) × (get_elem? (sender_endings who sent) p ≡ some e) × (e.fault ≡ back.fault)
 sender_ending_at who [] p back at = absurd (some-ne-none back (sym at))
-sender_ending_at who (s ∷ sent) zero back at = (record { who = who; fault = s.produced.fault }, refl, ap (λ (b : Sent). b.produced.fault) (some-injective s back at))
+sender_ending_at who (s ∷ sent) zero back at = (record { who = who; fault = s.fault }, refl, ap (λ (b : Sent). b.fault) (some-injective s back at))
 sender_ending_at who (s ∷ sent) (suc p) back at = sender_ending_at (who + 1) sent p back at
 
 fine_at : (endings : List Ended) (j : ℕ) (e : Ended) → AreFine endings → get_elem? endings j ≡ some e → e.fault ≡ None
@@ -93,10 +85,15 @@ fine_at endings j e fine at = ap (λ (x : Ended). x.fault) (sym (value_at ending
 
 -- Of all of them.
 
-module _ {A : Type 0} (goes : Relation Event A) (k : Shape) (scripts : List (List Event)) (starts : List A) (ran : Ran A)
+-- what is so of a sender, and what is so of it too where its sequences rise and are published
+abbrev pub Tells : Shape → (ℕ → SenderEnd → Sent → Type 0) → (ℕ → SenderEnd → Sent → Type 0) → Type 0
+Tells k sends more = (ring : TableId) (p : ℕ) (back : Sent) → sends p (new_sender ring k p) back
+    → Rise (sequences back.sender.knows.own) → AreOut back.sender.knows.own → more p (new_sender ring k p) back
+
+module _ {A : Type 0} (goes : Relation Event A) (k : Shape) (sends more : ℕ → SenderEnd → Sent → Type 0) (tells : Tells k sends more) (starts : List A) (ran : Ran A)
     (ss : List SenderEnd) (rs : List ReceiverEnd) (t : HalterEnd) (ws : List (Worker A)) (sent : List Sent)
     (shape : IsShape k) (fresh : AreFreshEnds k ss rs t) (ends : map given_end ws ≡ rs) (begun : map given_handler ws ≡ starts)
-    (are : AreSent k.size scripts ss sent) (joined : IsJoined goes ws sent t ran) where
+    (are : AreSent sends ss sent) (joined : IsJoined goes ws sent t ran) where
   abbrev served : List (Served A)
   served = joined.served
 
@@ -126,26 +123,27 @@ module _ {A : Type 0} (goes : Relation Event A) (k : Shape) (scripts : List (Lis
 
   -- the senders
 
-  record SenderPlace (p : ℕ) (script : List Event) : Type 0 where
+  many_senders : length sent ≡ k.senders
+  many_senders = are.many ∙ ap length fresh.senders ∙ length-map (fresh_senders 0 k.senders) (at_ring t.ring k) ∙ senders_count 0 k.senders
+
+  record SenderPlace (p : ℕ) : Type 0 where
     back : Sent
     at_back : get_elem? sent p ≡ some back
-    sending : Sending k.size script (new_sender ring k p) back
+    sending : sends p (new_sender ring k p) back
     at_world : get_elem? w.senders p ≡ some back.sender.knows
 
-  sender_place : (p : ℕ) (script : List Event) → get_elem? scripts p ≡ some script → SenderPlace p script
-  sender_place p script at =
-      let inside : p < length scripts = at_below scripts p script at in
-      let many = are.many in
+  sender_place : (p : ℕ) → p < k.senders → SenderPlace p
+  sender_place p inside =
+      let many = many_senders in
       let b = there sent p (omega arith) in
-      let (script2, e, at_script, at_given, sending) = are.each p b.0 b.1 in
+      let (e, at_given, sending) = are.each p b.0 b.1 in
       let from = lists.at_map (at_ring t.ring k) (fresh_senders 0 k.senders) p e (ap (λ (l : List SenderEnd). get_elem? l p) (sym fresh.senders) ∙ at_given) in
       let z : 0 + p ≡ p = omega arith in
       let new : e ≡ new_sender ring k p = sym from.2 ∙ ap (at_ring t.ring k) (sender_fresh 0 k.senders p from.0 from.1 ∙ ap fresh_sender z) ∙ ap (λ (r : TableId). new_sender r k p) same_ring in
       record {
         back = b.0;
         at_back = b.1;
-        sending = subst (λ (l : List Event). Sending k.size l (new_sender ring k p) b.0) (one_value scripts p script2 script at_script at)
-            (subst (λ (x : SenderEnd). Sending k.size script2 x b.0) new sending);
+        sending = subst (λ (x : SenderEnd). sends p x b.0) new sending;
         at_world = ap (λ (l : List SenderRecord). get_elem? l p) joined.run.senders
             ∙ map_there (λ (x : SenderEnd). x.knows) (map (λ (s : Sent). s.sender) sent) p b.0.sender (map_there (λ (s : Sent). s.sender) sent p b.0 b.1);
       }
@@ -211,30 +209,30 @@ module _ {A : Type 0} (goes : Relation Event A) (k : Shape) (scripts : List (Lis
   own_is : AreOwn w
   own_is = are_own k joined.run.steps joined.run.entries w shape runs
 
-  sent_by : (p : ℕ) (script : List Event) (x : SenderPlace p script) → events_in (own_from 0 p w.stages) ≡ take x.back.produced.sent script
-  sent_by p script x =
-      let r = x.back.sender.knows in
-      let own : r.own ≡ own_from 0 p w.stages = own_is p r x.at_world in
-      let rises : Rise (sequences r.own) = subst (λ (l : List Own). Rise (sequences l)) (sym own) (own_rises 0 p w.stages) in
-      let out : AreOut r.own = λ i o at. all_out o.sequence o.stage ((K.sent p r x.at_world).own i o at).1 in
-      ap events_in (sym own)
-      ∙ sent_in_order script x.back.produced.sent (new_sender ring k p) x.back.sender x.sending.calls.calls x.sending.calls.lead x.sending.calls.holds.sends refl rises out
+  own_by : (p : ℕ) (x : SenderPlace p) → x.back.sender.knows.own ≡ own_from 0 p w.stages
+  own_by p x = own_is p x.back.sender.knows x.at_world
 
-  merge : IsMerge (sent_of scripts sent) events
+  rises : (p : ℕ) (x : SenderPlace p) → Rise (sequences x.back.sender.knows.own)
+  rises p x = subst (λ (l : List Own). Rise (sequences l)) (sym (own_by p x)) (own_rises 0 p w.stages)
+
+  out : (p : ℕ) (x : SenderPlace p) → AreOut x.back.sender.knows.own
+  out p x = λ i o at. all_out o.sequence o.stage ((K.sent p x.back.sender.knows x.at_world).own i o at).1
+
+  merge : IsMerge (map (λ s. events_of s.sender) sent) events
   merge =
-      let lists = sent_of scripts sent in
-      let all : length lists ≡ length scripts = sent_many scripts sent are.many in
+      let lists = map (λ (s : Sent). events_of s.sender) sent in
+      let all : length lists ≡ length sent = length-map sent (λ (s : Sent). events_of s.sender) in
+      let placed = many_senders in
       merged lists w.stages
       (λ s u at.
       let owner = settles.claimed s u at in
       let low = at_below w.senders u.owner owner.0 owner.1 in
-      let many = ap length joined.run.senders ∙ length-map (map (λ s. s.sender) sent) (λ (e : SenderEnd). e.knows) ∙ length-map sent (λ s. s.sender) ∙ are.many in omega arith)
+      let many = ap length joined.run.senders ∙ length-map (map (λ s. s.sender) sent) (λ (e : SenderEnd). e.knows) ∙ length-map sent (λ s. s.sender) in omega arith)
       (λ p inside.
-      let script = there scripts p (omega arith) in
-      let x = sender_place p script.0 script.1 in
-      value_at lists p (take x.back.produced.sent script.0) [] (sent_at scripts sent p script.0 x.back script.1 x.at_back) ∙ sym (sent_by p script.0 x))
+      let x = sender_place p (omega arith) in
+      value_at lists p (events_of x.back.sender) [] (map_there (λ (s : Sent). events_of s.sender) sent p x.back x.at_back) ∙ ap events_in (own_by p x))
 
-  pub is_ran : IsRan goes k scripts starts ran
+  pub is_ran : IsRanBy more goes k starts ran
   is_ran = record {
     senders = sent;
     served = served;
@@ -242,8 +240,10 @@ module _ {A : Type 0} (goes : Relation Event A) (k : Shape) (scripts : List (Lis
     halts = subst (λ (e : HalterEnd). HaltsOnly e joined.after) (fresh.halter ∙ ap (λ (r : TableId). at_ring r k record { looks = [] }) same_ring) joined.halts;
     ends = joined.ends;
     run = joined.run;
-    sending = λ p script at. let x = sender_place p script at in (x.back, x.at_back, x.sending);
+    many = many_senders;
+    sending = λ p inside. let x = sender_place p inside in (x.back, x.at_back, tells ring p x.back x.sending (rises p x) (out p x), out p x);
     events = events;
+    order = ap (map event_of) (sym (taken_whole w.stages all_out));
     merge = merge;
     handlers = threads.are_served receiver_place receiver_does received_by is_told goes (new_receiver ring k) starts events
         served ran.handlers.items ran.settled.handlers.items ran.endings.items (sender_endings 16 sent) many_served place took all_polled joined.handlers joined.counts joined.endings;
@@ -251,16 +251,43 @@ module _ {A : Type 0} (goes : Relation Event A) (k : Shape) (scripts : List (Lis
     endings = joined.endings;
   }
 
+-- so it is of what is joined, where all senders' workers gave something back
+pub came : {A : Type 0} (goes : Relation Event A) (k : Shape) (sends more : ℕ → SenderEnd → Sent → Type 0) (starts : List A) (ran : Ran A) (r : Result (Vec Sent) AllocError)
+    (ss : List SenderEnd) (rs : List ReceiverEnd) (made begun after : HalterEnd) (ws : List (Worker A)) → Tells k sends more → IsShape k → AreFreshEnds k ss rs made → begun ≡ made
+    → map given_end ws ≡ rs → map given_handler ws ≡ starts → IfOk r (λ v. AreSent sends ss v.items) → OnOk r (after ≡ begun) → JoinsAll goes ws (λ v. v.items) r after ran
+    → IsRanBy more goes k starts ran
+came goes k sends more starts ran r ss rs made begun after ws tells shape fresh was ends given are still joins =
+    joins_ok goes ws (λ (v : Vec Sent). v.items) (λ (v : Vec Sent). AreSent sends ss v.items) r after ran joins are still (λ v sent same joined.
+    is_ran goes k sends more tells starts ran ss rs made ws v.items shape fresh ends given sent
+    (subst (λ (t : HalterEnd). IsJoined goes ws v.items t ran) (same ∙ was) joined))
+
+-- a script's worker published the first of it, as many as it sent
+pub tells_scripts : (k : Shape) (scripts : List (List Event)) → Tells k (SendsScript k.size scripts) (PublishesScript k.size scripts)
+tells_scripts k scripts = λ ring p back is rises out.
+    let (script, at, sending) = is in (
+      script,
+      at,
+      sending,
+      sent_in_order script sending.sent (new_sender ring k p) back.sender sending.calls.calls sending.calls.lead sending.calls.holds.sends refl rises out,
+    )
+
+-- a closure's sender did what its contract says
+pub tells_feeds : {F : Type 0} (k : Shape) (gives : F → SenderEnd → Option WorkFault → SenderEnd → Type 0) (feeds : List F) → Tells k (SendsFeed gives feeds) (SendsFeed gives feeds)
+tells_feeds k gives feeds = λ ring p back is rises out. is
+
 -- without a fault all scripts are sent
-pub went_whole : {A : Type 0} (goes : Relation Event A) (k : Shape) (scripts : List (List Event)) (starts : List A) (ran : Ran A) → IsRan goes k scripts starts ran
+pub went_whole : {A : Type 0} (goes : Relation Event A) (k : Shape) (scripts : List (List Event)) (starts : List A) (ran : Ran A) → k.senders ≡ length scripts → IsRan goes k scripts starts ran
     → AreFine ran.endings.items → (events : List Event) × AllWentThroughMerge goes scripts starts ran.handlers.items events
-went_whole goes k scripts starts ran is fine =
+went_whole goes k scripts starts ran many is fine =
     let handlers = endings_from 0 is.served in
-    let whole : sent_of scripts is.senders ≡ scripts = sent_whole scripts is.senders (λ p script at.
-    let (back, at_back, sending) = is.sending p script at in
+    let whole : map (λ s. events_of s.sender) is.senders ≡ scripts = published_whole scripts is.senders (is.many ∙ many) (λ p inside.
+    let (back, at_back, publishes, complete) = is.sending p (omega arith) in
+    let (script, at, sending, published) = publishes in
     let e = sender_ending_at 16 is.senders p back at_back in
     let place_of = at_behind handlers (sender_endings 16 is.senders) p e.0 e.1 in
-    let none : back.produced.fault ≡ None =
+    let none : back.fault ≡ None =
     sym e.2 ∙ fine_at ran.endings.items (length handlers + p) e.0 fine (ap (λ (l : List Ended). get_elem? l (length handlers + p)) is.endings ∙ place_of) in
-    (back, at_back, rw none at sending.all)) in
+    let sent : sending.sent ≡ length script = rw none at sending.all in
+    let all : take sending.sent script ≡ script = take_all sending.sent script (omega arith) in
+    (back, at_back, at ∙ ap (λ (l : List Event). some l) (sym (published ∙ all)))) in
     (is.events, record { merge = subst (λ (l : List (List Event)). IsMerge l is.events) whole is.merge; through = is.handlers.through })

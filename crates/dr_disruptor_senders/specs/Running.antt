@@ -1,5 +1,5 @@
 -- What came of a run with several senders: what each handler went through, and how the workers ended.
-use Rattle.std.specs.Prelude.{◌≡◌, ℕ, List, [], ◌∷◌, ◌++◌, length, map, take, Some, Result, Ok, Err}
+use Rattle.std.specs.Prelude.{◌≡◌, ℕ, ◌<◌, true, List, [], ◌++◌, length, map, take, Some, Result, Ok, Err}
 use Rattle.std.specs.declared.alloc.AllocError.{AllocError}
 use mathlib.Core.Option.{some}
 use lib.ListN.{get_elem?}
@@ -8,11 +8,13 @@ use Rattle.dr_seq.specs.declared.event.Event.{Event}
 use Rattle.dr_meaning.specs.Calls.Handling.{Relation}
 use Rattle.dr_workers.specs.Meaning.Merge.{IsMerge}
 use Rattle.dr_senders.specs.Meaning.Moments.{fresh_receiver, fresh_sender}
+use Rattle.dr_senders.specs.Meaning.Settling.{event_of, published_events}
 use Rattle.dr_senders.specs.Meaning.Shape.{Shape}
 use Rattle.dr_senders.specs.Calls.Ends.{HalterEnd, ReceiverEnd, SenderEnd, receiver_place}
 use Rattle.dr_senders.specs.Calls.Making.{at_ring}
 use Rattle.dr_senders.specs.Calls.Settling.{HasRun, handler_counts}
 use Rattle.dr_senders.specs.Calls.Telling.{receiver_does}
+use Rattle.dr_senders.specs.declared.record.Own.{Own}
 use Rattle.dr_senders.specs.declared.settled.Settled.{Settled}
 use Rattle.dr_threads.specs.declared.ran.Ran as threads
 use Rattle.dr_threads.specs.Handlers.{AreServed}
@@ -24,11 +26,13 @@ use Rattle.dr_disruptor_senders.specs.Serving.{AreKept, HaltsOnly, Sending, Serv
 abbrev pub Ran : Type 0 → Type 0
 Ran A = threads.Ran A Settled
 
--- the first events of each script, as many as its worker sent
-abbrev pub sent_of : List (List Event) → List Sent → List (List Event)
-sent_of [] backs = []
-sent_of (script ∷ scripts) [] = []
-sent_of (script ∷ scripts) (back ∷ backs) = take back.produced.sent script ∷ sent_of scripts backs
+-- the events of a sender's own sequences, in their order
+abbrev pub events_of : SenderEnd → List Event
+events_of e = map (λ o. event_of o.stage) e.knows.own
+
+-- each of these sequences is published
+abbrev pub LeavesNoneOpen : SenderEnd → Type 0
+LeavesNoneOpen e = (i : ℕ) (o : Own) → get_elem? e.knows.own i ≡ some o → o.stage.published ≡ true
 
 -- a sender of a ring of this shape, as it was made, and a receiver
 abbrev pub new_sender : TableId → Shape → ℕ → SenderEnd
@@ -43,9 +47,9 @@ pub record AreSettled {A : Type 0} (ran : Ran A) (ss : List SenderEnd) (rs : Lis
   pub receivers : ran.settled.receivers.value.items ≡ rs
   pub halter : ran.settled.halter.value ≡ t
 
--- what came of scripts over a new ring of this shape, each sent by a worker of its own
-pub record IsRan {A : Type 0} (goes : Relation Event A) (k : Shape) (scripts : List (List Event)) (starts : List A) (ran : Ran A) : Type 0 where
-  -- what the workers gave back, and the halter, which halted the ring once
+-- what came of a new ring of this shape, where this is so of the place of each sender, of the sender, and of what the thread that sent by it gave back
+pub record IsRanBy {A : Type 0} (sends : ℕ → SenderEnd → Sent → Type 0) (goes : Relation Event A) (k : Shape) (starts : List A) (ran : Ran A) : Type 0 where
+  -- what the threads gave back, and the halter, which halted the ring once
   pub senders : List Sent
   pub served : List (Served A)
   pub halter : HalterEnd
@@ -53,17 +57,28 @@ pub record IsRan {A : Type 0} (goes : Relation Event A) (k : Shape) (scripts : L
   -- they are the ends that came together at last, and one run came to all of them
   pub ends : AreSettled ran (map (λ s. s.sender) senders) (map (λ s. s.outlet) served) halter
   pub run : HasRun (map (λ s. s.sender) senders) (map (λ s. s.outlet) served) halter ran.settled.claimed ran.settled.is_halted
-  -- each script was sent by the sender at its place
-  pub sending : (p : ℕ) (script : List Event) → get_elem? scripts p ≡ some script
-      → (back : Sent) × (get_elem? senders p ≡ some back) × Sending k.size script (new_sender halter.ring k p) back
-  -- all handlers went through what was sent of the scripts, merged, each from the receiver at its place, and completed it; and nothing else was claimed
+  -- it is so of each new sender, and all that it claimed is published
+  pub many : length senders ≡ k.senders
+  pub sending : (p : ℕ) → p < k.senders
+      → (back : Sent) × (get_elem? senders p ≡ some back) × sends p (new_sender halter.ring k p) back × LeavesNoneOpen back.sender
+  -- all handlers went through what was published, in the order of its sequences, each from the receiver at its place, and completed it; it is a merge of what each sender published, and nothing else was claimed
   pub events : List Event
-  pub merge : IsMerge (sent_of scripts senders) events
+  pub order : events ≡ published_events run.world
+  pub merge : IsMerge (map (λ s. events_of s.sender) senders) events
   pub handlers : AreServed receiver_place receiver_does (λ e. Some (received_by e)) is_told goes (new_receiver halter.ring k) starts events
       served ran.handlers.items ran.settled.handlers.items ran.endings.items
   pub claimed : ran.settled.claimed ≡ length events
   -- the senders' endings stand behind the handlers'
   pub endings : ran.endings.items ≡ endings_from 0 served ++ sender_endings 16 senders
+
+-- at a place a sender sent the first events of the script that stands there, and published these and no others
+abbrev pub PublishesScript : ℕ → List (List Event) → ℕ → SenderEnd → Sent → Type 0
+PublishesScript size scripts p given back =
+    (script : List Event) × (get_elem? scripts p ≡ some script) × (sending : Sending size script given back) × (events_of back.sender ≡ take sending.sent script)
+
+-- what came of scripts over a new ring of this shape, each sent by a worker of its own
+abbrev pub IsRan : {A : Type 0} → Relation Event A → Shape → List (List Event) → List A → Ran A → Type 0
+IsRan goes k scripts starts ran = IsRanBy (PublishesScript k.size scripts) goes k starts ran
 
 -- what a run's handlers' workers gave back, once the ring was halted, and how all ends came together
 pub record IsJoined {A : Type 0} (goes : Relation Event A) (workers : List (Worker A)) (sent : List Sent) (halter : HalterEnd) (ran : Ran A) : Type 0 where

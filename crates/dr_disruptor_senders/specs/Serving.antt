@@ -1,5 +1,5 @@
 -- What the workers of handlers and of senders promise, and what they gave back.
-use Rattle.std.specs.Prelude.{◌≡◌, ◌≢◌, ℕ, ◌+◌, ◌^◌, ◌≤◌, ◌/◌, ◌==◌, max, Bool, if◌then◌else◌, List, [], ◌∷◌, length, Some, IfNone}
+use Rattle.std.specs.Prelude.{◌≡◌, ◌≢◌, ℕ, ◌+◌, ◌^◌, ◌≤◌, ◌/◌, ◌==◌, max, Bool, if◌then◌else◌, List, [], ◌∷◌, length, Option, Some, IfNone}
 use Rattle.std.specs.Global.{Vec}
 use mathlib.Core.Option.{some}
 use lib.ListN.{get_elem?}
@@ -12,6 +12,7 @@ use Rattle.dr_meaning.specs.Calls.Handling.{Relation}
 use Rattle.dr_meaning.specs.Calls.OpenFault.{has_bad_producers}
 use Rattle.dr_workers.specs.Calls.Serving as worker
 use Rattle.dr_workers.specs.declared.ended.Ended.{Ended}
+use Rattle.dr_workers.specs.declared.fault.WorkFault.{WorkFault}
 use Rattle.dr_workers.specs.declared.fault.WorkFault.TheVariants.{Stopped}
 use Rattle.dr_senders.specs.Meaning.Shape.{Shape}
 use Rattle.dr_senders.specs.Meaning.Records.{halter_halted}
@@ -23,6 +24,7 @@ use Rattle.dr_threads.specs.declared.fault.RunFault.{RunFault}
 use Rattle.dr_threads.specs.declared.fault.RunFault.TheVariants as fault
 use Rattle.dr_threads.specs.declared.served.Served as threads
 use Rattle.dr_threads.specs.Serving as serving
+use Rattle.dr_disruptor_senders.specs.declared.sending.FeedsPromise.{FeedsPromise}
 use Rattle.dr_disruptor_senders.specs.declared.sending.SendsPromise.{SendsPromise}
 use Rattle.dr_disruptor_senders.specs.declared.sending.Sent.{Sent}
 
@@ -57,18 +59,25 @@ AreKept goes workers served = serving.AreKept receiver_place receiver_does (λ e
 
 -- The senders.
 
--- a worker's calls sent a script in claims of a quarter of the ring, as much of it as it says and all of it where it has no fault, and it gave its end back. With an open gate nobody stops it
+-- a worker's calls sent a script in claims of a quarter of the ring, so much of it and all of it where it has no fault, and it gave its end back. With an open gate nobody stops it
 pub record Sending (size : ℕ) (script : List Event) (given : SenderEnd) (back : Sent) : Type 0 where
+  pub sent : ℕ
   pub place : sender_place back.sender ≡ sender_place given
-  pub calls : SomeCalls sender_does given back.sender (worker.Sends (max (size / 4) 1) script (λ passage. ⊥) (λ passage. ⊥) back.produced)
-  pub within : back.produced.sent ≤ length script
-  pub all : IfNone back.produced.fault (back.produced.sent ≡ length script)
-  pub stopped : back.produced.fault ≢ Some Stopped
+  pub calls : SomeCalls sender_does given back.sender (worker.Sends (max (size / 4) 1) script (λ passage. ⊥) (λ passage. ⊥) (record { sent = sent; fault = back.fault }))
+  pub within : sent ≤ length script
+  pub all : IfNone back.fault (sent ≡ length script)
+  pub stopped : back.fault ≢ Some Stopped
 
+-- what a closure sends leaves the sender at its ring, with its number
+abbrev pub LeavesSender : (SenderEnd → Option WorkFault → SenderEnd → Type 0) → Type 0
+LeavesSender gives = (given : SenderEnd) (fault : Option WorkFault) (back : SenderEnd) → gives given fault back → sender_place back ≡ sender_place given
+
+-- The thread of a sender.
+
+-- the end that it was given, the script, and the ring's size
 abbrev pub Producer : Type 0
 Producer = PromisedHandle Sent SendsPromise
 
--- the end that a sender's thread was given, the script, and the ring's size
 abbrev pub given_sender : Producer → SenderEnd
 given_sender w = w.promise.end.value
 
@@ -78,15 +87,37 @@ given_script w = w.promise.script.value
 abbrev pub given_size : Producer → ℕ
 given_size w = w.promise.size
 
--- each script was sent by the sender at its place
-pub record AreSent (size : ℕ) (scripts : List (List Event)) (given : List SenderEnd) (sent : List Sent) : Type 0 where
-  pub many : length sent ≡ length scripts
-  pub each : (p : ℕ) (back : Sent) → get_elem? sent p ≡ some back
-      → (script : List Event) × (e : SenderEnd) × (get_elem? scripts p ≡ some script) × (get_elem? given p ≡ some e) × Sending size script e back
+-- the end that one was given which a closure sends by, and the closure
+abbrev pub Feeder : Type 0 → Type 0
+Feeder F = PromisedHandle Sent (FeedsPromise F)
+
+abbrev pub fed_sender : {F : Type 0} → Feeder F → SenderEnd
+fed_sender w = w.promise.end.value
+
+abbrev pub given_feed : {F : Type 0} → Feeder F → F
+given_feed w = w.promise.feed.value
+
+-- each thread gave back what it promised, in their order
+pub record AreGiven {P : Type 0} (kept_by : P → Sent → Type 0) (threads : List (PromisedHandle Sent P)) (sent : List Sent) : Type 0 where
+  pub many : length sent ≡ length threads
+  pub each : (p : ℕ) (back : Sent) → get_elem? sent p ≡ some back → (w : PromisedHandle Sent P) × (get_elem? threads p ≡ some w) × kept_by w.promise back
+
+-- at a place a sender sent the script that stands there
+abbrev pub SendsScript : ℕ → List (List Event) → ℕ → SenderEnd → Sent → Type 0
+SendsScript size scripts p given back = (script : List Event) × (get_elem? scripts p ≡ some script) × Sending size script given back
+
+-- at a place the closure that stands there was given the sender, gave this fault, and left the sender so
+abbrev pub SendsFeed : {F : Type 0} → (F → SenderEnd → Option WorkFault → SenderEnd → Type 0) → List F → ℕ → SenderEnd → Sent → Type 0
+SendsFeed {F} gives feeds p given back = (feed : F) × (get_elem? feeds p ≡ some feed) × gives feed given back.fault back.sender
+
+-- so it was at the place of each sender
+pub record AreSent (sends : ℕ → SenderEnd → Sent → Type 0) (given : List SenderEnd) (sent : List Sent) : Type 0 where
+  pub many : length sent ≡ length given
+  pub each : (p : ℕ) (back : Sent) → get_elem? sent p ≡ some back → (e : SenderEnd) × (get_elem? given p ≡ some e) × sends p e back
 
 abbrev pub sender_endings : ℕ → List Sent → List Ended
 sender_endings who [] = []
-sender_endings who (s ∷ sent) = record { who = who; fault = s.produced.fault } ∷ sender_endings (who + 1) sent
+sender_endings who (s ∷ sent) = record { who = who; fault = s.fault } ∷ sender_endings (who + 1) sent
 
 -- a halter halted its ring, and did nothing else
 abbrev pub HaltsOnly : HalterEnd → HalterEnd → Type 0

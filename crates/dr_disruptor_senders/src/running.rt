@@ -1,6 +1,7 @@
 //! A whole run over a ring with several senders.
 
-ghost use Rattle.std.specs.Prelude.{◌≡◌, ◌≤◌, false, IfErr, IfOk, List, length, map};
+ghost use Rattle.std.specs.Prelude.{◌≡◌, ◌≤◌, All, false, IfErr, IfOk, List, length, map};
+ghost use Rattle.std.specs.Fn.{FnOnceReturnsAtMut};
 ghost use Rattle.dr_seq.specs.declared.event.Event.{Event};
 ghost use Rattle.dr_meaning.specs.declared.mode.Mode.TheVariants.{Multi};
 ghost use Rattle.dr_meaning.specs.Calls.OpenFault.{has_bad_producers};
@@ -8,22 +9,23 @@ ghost use Rattle.dr_senders.specs.Calls.Settling.{AreAllEnds};
 ghost use Rattle.dr_threads.specs.Endings.{AreFine};
 ghost use Rattle.dr_threads.specs.Handlers.{AllWentThroughMerge};
 ghost use Rattle.dr_threads.specs.Serving.{given_end};
-ghost use Rattle.dr_disruptor_senders.specs.Running.{IsRan, JoinsAll};
-ghost use Rattle.dr_disruptor_senders.specs.Serving.{refusal_of, shape_of};
+ghost use Rattle.dr_disruptor_senders.specs.Running.{IsRan, IsRanBy, JoinsAll};
+ghost use Rattle.dr_disruptor_senders.specs.Serving.{LeavesSender, SendsFeed, refusal_of, shape_of};
 
-use crate::sending::Sent;
-use crate::workers::{LiveHalter, Worker, begin, joined, open, send_all, senders_apart};
+use crate::sending::{LiveSender, Sent};
+use crate::workers::{LiveHalter, Worker, begin, feed_all, joined, open, send_all, senders_apart};
 use dr_graph::Graph;
 use dr_meaning::Handler;
 use dr_senders::{Settled, settle};
 use dr_seq::{Event, Size};
 use dr_threads::{Back, RunFault, WaitStrategy, apart};
+use dr_workers::WorkFault;
 use std::alloc::{AllocError, Global};
 use std::sync::Wait;
 use std::thread::Threads;
 
 /// What came of a run: with the handlers how many events were claimed, all of which were published, how far each
-/// handler came, and how each worker ended, the senders' last, in the order of their scripts.
+/// handler came, and how each worker ended, the senders' last, in the order of their scripts or closures.
 pub type Ran<H> = dr_threads::Ran<H, Settled>;
 
 // Halts the ring, joins the handlers' threads, and brings all ends together. It halts and joins also where memory
@@ -96,6 +98,41 @@ pub fn run_scripts<
         size,
         strategy,
     );
+    let ran = finish(&rt, alloc, halter, sent, workers)?;
+    Ok(ran)
+}
+
+/// As [`run_scripts`], with a closure in place of each script, which is given a sender of its own on a thread of its
+/// own, and claims, writes and publishes what it likes, and answers its fault, if it has one. It leaves no claim open,
+/// or the handlers wait for ever. Once all closures are back the ring is halted.
+///
+/// It is refused with `Senders` where there are no closures or more than 16.
+pub fn run_feeds<
+    R: Threads + Wait + Copy + Send + 'static,
+    H: Handler<Event> + Drop + Send + 'static,
+    F: FnOnce(&mut LiveSender) -> Option<WorkFault> + Drop + Send + 'static,
+>(
+    rt: R,
+    alloc: Global,
+    graph: &Graph,
+    size: Size,
+    handlers: Vec<H>,
+    feeds: Vec<F>,
+    strategy: WaitStrategy,
+) -> Result<Ran<H>, RunFault>
+    requires callable { All (λ f. F.IsAlwaysCallable f) feeds.items }
+    // No closure puts another ring's sender, or another sender, in the place of the one that it is given.
+    requires place { All (λ f. LeavesSender (FnOnceReturnsAtMut F.FnOnce f)) feeds.items }
+    // It went over a new ring of this graph and size, and so it is of what each closure sent by the sender at its place.
+    ensures run { IfOk result (IsRanBy (SendsFeed (FnOnceReturnsAtMut F.FnOnce) feeds.items) H.goes (shape_of graph.now.upstreams size (length feeds.items)) handlers.items) }
+    ensures many { IfOk result (λ _. length handlers.items ≡ length graph.now.upstreams) }
+    ensures few { IfOk result (λ _. has_bad_producers (Multi (length feeds.items)) ≡ false) }
+    ensures refused { IfErr result (λ e. e ≡ refusal_of (length graph.now.upstreams) (length handlers.items) (length feeds.items)) }
+{
+    let many = feeds.len();
+    let (senders, receivers, mut halter, bell) = open(alloc, graph, size, handlers.len(), many)?;
+    let workers = begin(rt, alloc, &mut halter, receivers, handlers, &bell, strategy)?;
+    let sent = feed_all(&rt, alloc, &mut halter, senders, feeds, &bell);
     let ran = finish(&rt, alloc, halter, sent, workers)?;
     Ok(ran)
 }

@@ -1,21 +1,28 @@
-//! A sender's worker, with what it promises.
+//! A sender's worker, which sends a script or what a closure sends, with what it promises.
 
-ghost use Rattle.std.specs.Prelude.{◌≡◌};
+ghost use Rattle.std.specs.Prelude.{◌≡◌, Option};
+ghost use Rattle.std.specs.Fn.{FnOnceReturnsAtMut};
+ghost use Rattle.dr_workers.specs.declared.fault.WorkFault.{WorkFault};
+ghost use Rattle.dr_senders.specs.Calls.Ends.{SenderEnd};
 ghost use Rattle.dr_disruptor_senders.specs.Serving.{Sending};
 
 use dr_senders::Sender;
 use dr_seq::{Event, Size};
 use dr_threads::WaitStrategy;
-use dr_workers::{Bell, OpenGate, Produced, Ringing, produce_with};
+use dr_workers::{Bell, OpenGate, Ringing, WorkFault, produce_with};
+use std::alloc::Global;
 use std::snapshot::Snapshot;
-use std::sync::Wait;
+use std::sync::{Arc, Wait};
 use std::thread::Promise;
 
-/// What a worker gives back: its end, and how much of its script it sent.
+/// A run's sender, which wakes its threads.
+pub type LiveSender = Ringing<Sender, Arc<Bell, Global>>;
+
+/// What a worker gives back: its end, and its fault if it has one.
 #[derive(Drop)]
 pub struct Sent {
     pub sender: Sender,
-    pub produced: Produced,
+    pub fault: Option<WorkFault>,
 }
 
 /// The promise of the worker that is given an end of a ring of this size, and a script.
@@ -74,6 +81,69 @@ pub fn send<R: Wait>(
     let produced = produce_with(rt, &mut inlet, &OpenGate, who, events, cut, &mut waits);
     Sent {
         sender: inlet.into_end(),
-        produced,
+        fault: produced.fault,
+    }
+}
+
+/// What is called with a sender of its own, on a thread of its own: any closure that takes one. A promise names this
+/// bound, since it has no function, and a closure's own bound cannot be stated of a block that has none.
+pub(crate) trait Feed {
+    ghost callable: { Self → Type 0 };
+
+    ghost gives: { Self → SenderEnd → Option WorkFault → SenderEnd → Type 0 };
+
+    fn feed(self, sender: &mut LiveSender) -> Option<WorkFault>
+        requires { callable self }
+        ensures { gives self sender.old result sender.new };
+}
+
+impl<F: FnOnce(&mut LiveSender) -> Option<WorkFault>> Feed for F {
+    ghost callable = { λ f. F.IsAlwaysCallable f };
+
+    ghost gives = { FnOnceReturnsAtMut F.FnOnce };
+
+    fn feed(self, sender: &mut LiveSender) -> Option<WorkFault> {
+        self(sender)
+    }
+}
+
+/// The promise of the worker that is given an end, and a closure to send by it.
+pub(crate) struct FeedsPromise<F> {
+    end: Snapshot<Sender>,
+    feed: Snapshot<F>,
+}
+
+impl<F> FeedsPromise<F> {
+    pub(crate) fn of(end: &Sender, feed: &F) -> FeedsPromise<F>
+        ensures end { result.end.value ≡ end.now }
+        ensures feed { result.feed.value ≡ feed.now }
+    {
+        FeedsPromise {
+            end: Snapshot::of(end),
+            feed: Snapshot::of(feed),
+        }
+    }
+}
+
+impl<F> Drop for FeedsPromise<F> {
+    fn drop(self) {
+        let FeedsPromise { end: _, feed: _ } = self;
+    }
+}
+
+impl<F: Feed> Promise<Sent> for FeedsPromise<F> {
+    ghost kept_by = { λ p r. F.gives p.feed.value p.end.value r.fault r.sender };
+}
+
+/// Calls a closure with a sender that rings the bell with each publication.
+pub(crate) fn send_by<F: Feed>(sender: Sender, feed: F, bell: Arc<Bell, Global>) -> Sent
+    requires { F.callable feed }
+    ensures { F.gives feed sender result.fault result.sender }
+{
+    let mut live = Ringing::new(sender, bell);
+    let fault = feed.feed(&mut live);
+    Sent {
+        sender: live.into_end(),
+        fault,
     }
 }

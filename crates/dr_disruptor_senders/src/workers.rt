@@ -7,9 +7,9 @@ ghost use Rattle.dr_senders.specs.Calls.Making.{AreFreshEnds};
 ghost use Rattle.dr_senders.specs.Calls.Settling.{AreAllEnds};
 ghost use Rattle.dr_senders.specs.Meaning.Shape.{IsShape};
 ghost use Rattle.dr_threads.specs.Serving.{given_end, given_handler};
-ghost use Rattle.dr_disruptor_senders.specs.Serving.{AreKept, AreSent, HaltsOnly, given_script, given_sender, given_size, refusal_of, sender_endings, shape_of};
+ghost use Rattle.dr_disruptor_senders.specs.Serving.{AreGiven, AreKept, AreSent, HaltsOnly, SendsFeed, SendsScript, fed_sender, given_feed, given_script, given_sender, given_size, refusal_of, sender_endings, shape_of};
 
-use crate::sending::{SendsPromise, Sent, send};
+use crate::sending::{Feed, FeedsPromise, SendsPromise, Sent, send, send_by};
 use dr_graph::Graph;
 use dr_meaning::{Handler, MAX_LIMIT, Mode};
 use dr_senders::{Halter, Receiver, Sender, senders_ring};
@@ -18,7 +18,7 @@ use dr_threads::{RunFault, Served, WaitStrategy, join, start, wait_for};
 use dr_workers::{Bell, Ended, Ringing};
 use std::alloc::{AllocError, Global};
 use std::sync::{Arc, Wait};
-use std::thread::{self, PromisedHandle, Threads, join_promised};
+use std::thread::{self, Promise, PromisedHandle, Threads, join_promised};
 
 /// The number of the first sender's worker. Those of the handlers are below it.
 const FIRST_SENDER: usize = 16;
@@ -29,8 +29,11 @@ pub(crate) type LiveHalter = Ringing<Halter, Arc<Bell, Global>>;
 /// A handler's thread.
 pub(crate) type Worker<H> = dr_threads::Worker<Receiver, H>;
 
-/// A sender's thread.
+/// The thread of a sender that sends a script.
 pub(crate) type Producer = PromisedHandle<Sent, SendsPromise>;
+
+/// The thread of a sender that a closure sends by.
+pub(crate) type Feeder<F> = PromisedHandle<Sent, FeedsPromise<F>>;
 
 /// The ends of a new ring for a graph, with as many handlers as it has and so many senders, and the bell that wakes
 /// those who park.
@@ -106,6 +109,63 @@ fn start_senders<R: Threads + Wait + Copy + Send + 'static>(
     Ok(())
 }
 
+// As `start_senders`, with a closure for each sender.
+fn start_feeds<R: Threads, F: Feed + Drop + Send + 'static>(
+    rt: &R,
+    started: &mut Vec<Feeder<F>>,
+    senders: Vec<Sender>,
+    feeds: Vec<F>,
+    bell: &Arc<Bell, Global>,
+) -> Result<(), AllocError>
+    requires none { started.old.items ≡ [] }
+    requires many { length senders.items ≡ length feeds.items }
+    requires callable { All (λ f. F.callable f) feeds.items }
+    ensures ends { OnOk result (map fed_sender started.new.items ≡ senders.items) }
+    ensures feeds { OnOk result (map given_feed started.new.items ≡ feeds.items) }
+{
+    started.reserve(feeds.len())?;
+    let mut feeds = feeds.into_iter();
+    for sender in senders {
+        let Some(feed) = feeds.next() else {
+            unreachable!();
+        };
+        let bell = Arc::try_clone(bell)?;
+        let promise = FeedsPromise::of(&sender, &feed);
+        let Ok(feeder) = thread::spawn_with(rt, promise, move || send_by(sender, feed, bell)) else {
+            return Err(AllocError);
+        };
+        started.push(feeder)?;
+    }
+    Ok(())
+}
+
+// Halts a ring for which a thread could not be started, and waits for those that were.
+fn given_up<R: Threads, T: Drop, P: Promise<T>>(
+    rt: &R,
+    halter: &mut LiveHalter,
+    started: Vec<PromisedHandle<T, P>>,
+) -> AllocError {
+    halter.call(|end| end.halt());
+    wait_for(rt, started);
+    AllocError
+}
+
+// What each sender's thread gives back. Where memory runs out all of them end too, and what they give back is lost.
+fn ended<R: Threads, P: Promise<Sent>>(
+    rt: &R,
+    threads: Vec<PromisedHandle<Sent, P>>,
+) -> Result<Vec<Sent>, AllocError>
+    ensures { IfOk result (λ sent. AreGiven P.kept_by threads.items sent.items) }
+{
+    match join_promised(rt, threads) {
+        Ok(sent) => Ok(sent),
+        Err(failed) => {
+            wait_for(rt, failed.value);
+            Err(AllocError)
+        }
+    }
+}
+
 /// Starts a thread for each handler of a new ring, with its end. Where a thread cannot be started, nothing is
 /// sent, and those that were started are joined.
 pub(crate) fn begin<
@@ -127,11 +187,7 @@ pub(crate) fn begin<
 {
     match start(rt, alloc, receivers, handlers, bell, strategy) {
         Ok(workers) => Ok(workers),
-        Err(started) => {
-            halter.call(|end| end.halt());
-            wait_for(&rt, started);
-            Err(AllocError)
-        }
+        Err(started) => Err(given_up(&rt, halter, started)),
     }
 }
 
@@ -150,21 +206,35 @@ pub(crate) fn send_all<R: Threads + Wait + Copy + Send + 'static>(
     requires many { length senders.items ≡ length scripts.items }
     requires few { length scripts.items ≤ 16 }
     ensures halter { OnOk result (halter.new ≡ halter.old) }
-    ensures sent { IfOk result (λ sent. AreSent size (map (λ s. s.items) scripts.items) senders.items sent.items) }
+    ensures sent { IfOk result (λ sent. AreSent (SendsScript size (map (λ s. s.items) scripts.items)) senders.items sent.items) }
 {
     let mut started = Vec::new(alloc);
     let Ok(()) = start_senders(rt, &mut started, senders, scripts, bell, size, strategy) else {
-        halter.call(|end| end.halt());
-        wait_for(&rt, started);
-        return Err(AllocError);
+        return Err(given_up(&rt, halter, started));
     };
-    match join_promised(&rt, started) {
-        Ok(sent) => Ok(sent),
-        Err(failed) => {
-            wait_for(&rt, failed.value);
-            Err(AllocError)
-        }
-    }
+    ended(&rt, started)
+}
+
+/// Gives each closure the sender at its place, on a thread of its own, and waits until all are back. Where a thread
+/// cannot be started it is as with [`send_all`].
+pub(crate) fn feed_all<R: Threads, F: Feed + Drop + Send + 'static>(
+    rt: &R,
+    alloc: Global,
+    halter: &mut LiveHalter,
+    senders: Vec<Sender>,
+    feeds: Vec<F>,
+    bell: &Arc<Bell, Global>,
+) -> Result<Vec<Sent>, AllocError>
+    requires many { length senders.items ≡ length feeds.items }
+    requires callable { All (λ f. F.callable f) feeds.items }
+    ensures halter { OnOk result (halter.new ≡ halter.old) }
+    ensures sent { IfOk result (λ sent. AreSent (SendsFeed F.gives feeds.items) senders.items sent.items) }
+{
+    let mut started = Vec::new(alloc);
+    let Ok(()) = start_feeds(rt, &mut started, senders, feeds, bell) else {
+        return Err(given_up(rt, halter, started));
+    };
+    ended(rt, started)
 }
 
 /// Halts the ring, and has what each handler's thread gives back. Where memory runs out all threads end too, and
@@ -193,10 +263,10 @@ pub(crate) fn senders_apart(
 {
     let mut senders = Vec::with_capacity(alloc, sent.len())?;
     for one in sent {
-        let Sent { sender, produced } = one;
+        let Sent { sender, fault } = one;
         endings.push(Ended {
             who: FIRST_SENDER + senders.len(),
-            fault: produced.fault,
+            fault,
         })?;
         senders.push(sender)?;
     }

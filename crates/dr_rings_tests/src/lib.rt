@@ -1,8 +1,10 @@
-//! Tests of `dr_ring`, `dr_plain`, `dr_senders` and `dr_disruptor` by their public calls, of what no clause says: that the
-//! calls succeed with ample memory and threads, worked runs by their answers, printed texts, and that threads hand all
-//! events over.
+//! Tests of `dr_ring`, `dr_plain`, `dr_senders`, `dr_disruptor` and `dr_disruptor_senders` by their public calls, of what
+//! no clause says: that the calls succeed with ample memory and threads, worked runs by their answers, printed texts, and
+//! that threads hand all events over.
 #![tactic(auto)]
 
+#[cfg(test)]
+mod by_closures;
 #[cfg(test)]
 mod calls;
 #[cfg(test)]

@@ -40,6 +40,33 @@ impl Handler<Event> for Count {
     }
 }
 
+/// The first words of the events that came, of the first six.
+#[derive(Clone, Copy, Debug, PartialEq, Eq)]
+pub struct Seen {
+    pub firsts: [u64; 6],
+    many: usize,
+}
+
+impl Seen {
+    pub const NONE: Seen = Seen {
+        firsts: [0; 6],
+        many: 0,
+    };
+}
+
+impl Handler<Event> for Seen {
+    ghost use Rattle.std.specs.Prelude.{⊤};
+
+    ghost goes = { λ old event s end new. ⊤ };
+
+    fn on_event(&mut self, event: Event, _s: u64, _end: bool) {
+        if self.many < 6 {
+            self.firsts[self.many] = event.first;
+            self.many += 1;
+        }
+    }
+}
+
 /// Counts its calls where others count theirs too, and where the count stays when its handlers are gone.
 #[derive(Drop)]
 pub struct Tally {

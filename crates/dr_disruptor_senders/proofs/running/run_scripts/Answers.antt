@@ -1,21 +1,17 @@
-use Rattle.std.proofs.Common.{rules, ◌≡◌, ◌≤◌, ℕ, false, length, map, sym, subst, ◌∙◌, arith}
+use Rattle.std.proofs.Common.{rules, ◌≡◌, ℕ, false, length, map, sym, subst, ◌∙◌, arith}
 use Rattle.std.specs.Prelude.{IfErr}
 use Rattle.std.specs.Global.{Vec}
 use lib.ListN.{length-map}
 use Rattle.dr_seq.specs.declared.event.Event.{Event}
 use Rattle.dr_meaning.specs.declared.mode.Mode.TheVariants.{Multi}
 use Rattle.dr_meaning.specs.Calls.OpenFault.{has_bad_producers}
-use Rattle.dr_senders.specs.Calls.Ends.{HalterEnd}
 use Rattle.dr_senders.specs.Calls.Making.{AreFreshEnds}
-use Rattle.dr_senders.specs.Calls.Settling.{AreAllEnds}
 use Rattle.dr_senders.specs.Meaning.Shape.{IsShape}
 use Rattle.dr_threads.specs.declared.fault.RunFault.{RunFault}
-use Rattle.dr_threads.specs.Serving.{given_end}
-use Rattle.dr_disruptor_senders.specs.declared.sending.Sent.{Sent}
-use Rattle.dr_disruptor_senders.specs.Running.{IsJoined}
-use Rattle.dr_disruptor_senders.specs.Serving.{AreSent, shape_of}
-use Rattle.dr_disruptor_senders.proofs.Ready.{both_ok, joins_ok, memory_is, senders_back}
-use Rattle.dr_disruptor_senders.proofs.Settled.{is_ran, went_whole}
+use Rattle.dr_disruptor_senders.specs.Running.{PublishesScript}
+use Rattle.dr_disruptor_senders.specs.Serving.{SendsScript, shape_of}
+use Rattle.dr_disruptor_senders.proofs.Ready.{few_back, memory_is, ready, scripts_stay}
+use Rattle.dr_disruptor_senders.proofs.Settled.{came, tells_scripts, went_whole}
 use Rattle.dr_disruptor_senders.proofs.running.run_scripts.Goals as goal
 
 pub finish-requires-clause-ends : goal.finish-requires-clause-ends
@@ -24,47 +20,38 @@ finish-requires-clause-ends g c =
     let begun = c.in_ok-workers in
     let sent = c.send_all-sent in
     let scripts = map (λ (s : Vec Event). s.items) c.args.scripts.items in
-    let long : c.len-many.result ≡ length c.args.scripts.items = search rules in
-    let many : length made.senders.items ≡ length scripts = made.ensures.many.2 ∙ long ∙ sym (length-map c.args.scripts.items (λ (s : Vec Event). s.items)) in
-    both_ok (λ (v : Vec Sent). AreSent c.args.size scripts made.senders.items v.items) (λ (v : Vec Sent). AreAllEnds (map (λ b. b.sender) v.items) (map given_end begun.workers.items) sent.new.halter)
-    sent.result sent.ensures.sent sent.ensures.halter (λ v are same.
-    subst (λ (t : HalterEnd). AreAllEnds (map (λ b. b.sender) v.items) (map given_end begun.workers.items) t) (sym (same ∙ begun.ensures.halter))
-    (senders_back c.args.size scripts made.senders.items (map given_end begun.workers.items) made.halter v.items many are
-    (subst (λ rs. AreAllEnds made.senders.items rs made.halter) (sym begun.ensures.ends) made.ensures.ends)))
+    ready (SendsScript c.args.size scripts) sent.result made.senders.items made.receivers.items begun.workers.items made.halter _ sent.new.halter
+    (scripts_stay c.args.size scripts) sent.ensures.sent sent.ensures.halter begun.ensures.halter begun.ensures.ends made.ensures.ends
 
 pub finish-requires-clause-few : goal.finish-requires-clause-few
 finish-requires-clause-few g c =
     let made = c.in_ok-senders in
     let sent = c.send_all-sent in
     let scripts = map (λ (s : Vec Event). s.items) c.args.scripts.items in
-    let long : length scripts ≡ length c.args.scripts.items = length-map c.args.scripts.items (λ (s : Vec Event). s.items) in
     let few = made.ensures.few in
-    let given : c.len-many.result ≡ length c.args.scripts.items = search rules in
-    both_ok (λ (v : Vec Sent). AreSent c.args.size scripts made.senders.items v.items) (λ (v : Vec Sent). length v.items ≤ 16)
-    sent.result sent.ensures.sent sent.ensures.halter (λ v are same. let many = are.many in omega arith)
+    let many = made.ensures.many.2 in
+    few_back (SendsScript c.args.size scripts) sent.result made.senders.items sent.ensures.sent (omega arith)
 
 pub returns-clause-run : goal.returns-clause-run
 returns-clause-run g c =
     let made = c.in_ok-senders in
     let begun = c.in_ok-workers in
     let sent = c.send_all-sent in
-    let ran = c.in_ok-ran.ran in
     let scripts = map (λ (s : Vec Event). s.items) c.args.scripts.items in
     let long : c.len-many.result ≡ length c.args.scripts.items = search rules in
     let k = shape_of c.args.graph.now.upstreams c.args.size (length c.args.scripts.items) in
     let shape : IsShape k = subst (λ (n : ℕ). IsShape (shape_of c.args.graph.now.upstreams c.args.size n)) long made.ensures.shape in
     let fresh : AreFreshEnds k made.senders.items made.receivers.items made.halter =
     subst (λ (n : ℕ). AreFreshEnds (shape_of c.args.graph.now.upstreams c.args.size n) made.senders.items made.receivers.items made.halter) long made.ensures.fresh in
-    joins_ok g.H.Handler.goes begun.workers.items (λ (v : Vec Sent). v.items) (λ (v : Vec Sent). AreSent c.args.size scripts made.senders.items v.items) sent.result sent.new.halter ran
-    c.in_ok-ran.ensures sent.ensures.sent sent.ensures.halter (λ v are same joined.
-    is_ran g.H.Handler.goes k scripts c.args.handlers.items ran made.senders.items made.receivers.items made.halter begun.workers.items v.items shape fresh begun.ensures.ends begun.ensures.starts are
-    (subst (λ (t : HalterEnd). IsJoined g.H.Handler.goes begun.workers.items v.items t ran) (same ∙ begun.ensures.halter) joined))
+    came g.H.Handler.goes k (SendsScript c.args.size scripts) (PublishesScript c.args.size scripts) c.args.handlers.items c.in_ok-ran.ran sent.result
+    made.senders.items made.receivers.items made.halter _ sent.new.halter begun.workers.items (tells_scripts k scripts) shape fresh begun.ensures.halter
+    begun.ensures.ends begun.ensures.starts sent.ensures.sent sent.ensures.halter c.in_ok-ran.ensures
 
 pub returns-clause-whole : goal.returns-clause-whole
 returns-clause-whole g c =
     let scripts = map (λ (s : Vec Event). s.items) c.args.scripts.items in
     let k = shape_of c.args.graph.now.upstreams c.args.size (length c.args.scripts.items) in
-    went_whole g.H.Handler.goes k scripts c.args.handlers.items c.in_ok-ran.ran (returns-clause-run g c)
+    went_whole g.H.Handler.goes k scripts c.args.handlers.items c.in_ok-ran.ran (sym (length-map c.args.scripts.items (λ (s : Vec Event). s.items))) (returns-clause-run g c)
 
 pub returns-clause-few : goal.returns-clause-few
 returns-clause-few g c =
