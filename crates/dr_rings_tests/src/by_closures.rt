@@ -41,7 +41,15 @@ fn seen<R: Threads + Wait + Abort + Copy + Send + 'static>(
         });
         pushed.expect(&rt, "memory");
     }
-    let ran = run_feeds(rt, alloc, graph, size, handlers, feeds, WaitStrategy::Parking);
+    let ran = run_feeds(
+        rt,
+        alloc,
+        graph,
+        size,
+        handlers,
+        feeds,
+        WaitStrategy::Parking,
+    );
     let ran = ran.expect(&rt, "a run");
     check(&rt, ran.settled.claimed(), 6);
     ran.finished().expect(&rt, "handlers")
